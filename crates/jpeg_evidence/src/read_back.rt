@@ -1,7 +1,6 @@
 //! What is read of entropy-coded data was written: the writer's relation is no narrower than what
 //! is read of data that end where their blocks do.
-ghost use Rattle.std.specs.Prelude.{◌≡◌, ℕ, suc, Ok};
-ghost use Rattle.std.specs.Prelude.{◌≤◌, List, ℤ, Bool, length};
+ghost use Rattle.std.specs.Prelude.{◌≡◌, ◌≤◌, ◌%◌, ◌∷◌, [], ℕ, ℤ, suc, Bool, List, Ok, length};
 ghost use Rattle.jpeg_bits.specs.Bands.{Band, difference, first_ac, first_dc, token_from};
 ghost use Rattle.jpeg_bits.specs.Codes.{IsTable, Table, symbol_from};
 ghost use Rattle.jpeg_bits.specs.Entropy.{Found, Text, bits_from, text_at};
@@ -11,13 +10,12 @@ ghost use Rattle.jpeg_bits.specs.Readers.{signed_from};
 ghost use Rattle.jpeg_bits.specs.Written.{IsCoded};
 ghost use Rattle.jpeg_bits.specs.declared.marker.Marker.{Marker};
 ghost use Rattle.jpeg_bits.specs.declared.marker.Marker.TheVariants.{RST};
-ghost use Rattle.std.specs.Prelude.{◌%◌, ◌∷◌, []};
-ghost use Rattle.jpeg_evidence.specs.Strict.{IsIntervals};
 ghost use Rattle.jpeg_bits.specs.declared.tokens.Token.{Token};
 ghost use Rattle.jpeg_streams.specs.WrittenData.{WritesBlocks, WritesDifference, no_numbers};
-ghost use Rattle.jpeg_evidence.specs.Strict.{HasBytes, IsBand, IsCut, IsData, IsDc, IsInterval};
+ghost use Rattle.jpeg_evidence.specs.Strict.{BlockFits, BlocksFit, HasBytes, HasTables, IsBand};
+ghost use Rattle.jpeg_evidence.specs.Strict.{IsBlock, IsCut, IsData, IsDc, IsInterval, IsIntervals};
 ghost use Rattle.jpeg_evidence.specs.Strict.{IsNumber, IsToken, IsValue, TokensFit, alone};
-ghost use Rattle.jpeg_evidence.specs.Strict.{BlockFits, BlocksFit, HasTables, IsBlock, numbers_read};
+ghost use Rattle.jpeg_evidence.specs.Strict.{numbers_read};
 
 /// What is read of bits that nothing follows was written (T.81, C.2 and F.1.2): the bits that were
 /// taken are those of the number, of a code for the symbol, of the value, and of the DC difference.
@@ -41,17 +39,17 @@ pub fn data_up_to_a_marker_are_stuffed()
         → IsData bytes (text_at bytes).bits m rest }
 {}
 
-/// A DC coefficient that is read in its first scan was written, by its difference from the predictor
-/// (T.81, F.1.2.1): what is read is the coefficient modulo 2 ^ 16.
+/// A DC coefficient that is read in its first scan was written, by its difference from the
+/// predictor (T.81, F.1.2.1): what is read is the coefficient modulo 2 ^ 16.
 pub fn dc_taken_is_written()
     ensures { (table : Table) (al : ℕ) (predictor : ℤ) (bits : List Bool) (y : ℤ × ℤ) (left : Text)
         → IsTable table → first_dc table al predictor (alone bits) ≡ Ok (y, left)
         → IsCut (IsDc table al predictor y) bits left }
 {}
 
-/// A token of a band that is read of bits that nothing follows is a code RRRRSSSS and the bits after
-/// it (T.81, F.1.2.2 and G.1.2.2): those of its value, none for sixteen zeros, or those of the number
-/// of an end of bands.
+/// A token of a band that is read of bits that nothing follows is a code RRRRSSSS and the bits
+/// after it (T.81, F.1.2.2 and G.1.2.2): those of its value, none for sixteen zeros, or those of
+/// the number of an end of bands.
 pub fn tokens_taken_are_written()
     ensures { (table : Table) (room : ℕ) (bits : List Bool) (x : Token) (left : Text)
         → IsTable table → token_from table room (alone bits) ≡ Ok (x, left)
@@ -70,8 +68,8 @@ pub fn bands_taken_are_written()
 
 /// A block that is read in a first pass or a refinement was written: the bits that were taken are
 /// those that a writer may emit for the block's numbers at the level of the pass (T.81, F.1.2 and
-/// G.1.2). It fits where no DC goes round at 16 bits, where each token stands for places that the band
-/// has, and where a refinement is of what was sent at the level above.
+/// G.1.2). It fits where no DC goes round at 16 bits, where each token stands for places that the
+/// band has, and where a refinement is of what was sent at the level above.
 pub fn block_taken_is_written()
     ensures { (p : Pass) (via : Via) (predictor : ℤ) (run : ℕ) (old : Block) (bits : List Bool)
         (r : Block × ℤ × ℕ) (left : Text) → HasTables p via
@@ -100,8 +98,8 @@ pub fn intervals_of_written_bits_are_written()
         → length left.bits ≤ 7 → IsInterval p turns bytes m rest }
 {}
 
-/// An interval up to a marker whose blocks are read of its bits was written where they fit and leave
-/// at most 7 bits (T.81, F.1.2.3 and B.1.1.5).
+/// An interval up to a marker whose blocks are read of its bits was written where they fit and
+/// leave at most 7 bits (T.81, F.1.2.3 and B.1.1.5).
 pub fn interval_taken_is_written()
     ensures { (p : Pass) (turns : List (Via × Block)) (bytes rest : List ℕ) (m : Marker)
         (blocks : List Block) (left : Text) → (text_at bytes).ending ≡ Found m rest
