@@ -2,8 +2,8 @@
 use Rattle.std.proofs.lemmas.Grind.{common_steps}
 use Rattle.std.proofs.lemmas.Bool.Decides.{nat_tests}
 use Rattle.std.proofs.Common.{◌≡◌, ℕ, zero, suc, ◌+◌, ◌-◌, ◌^◌, ◌<◌, ◌≤◌, true, List, [], ◌∷◌, ◌++◌, length, take, drop}
-use Rattle.std.proofs.Common.{set, ℤ, pos, ◌*ℤ◌, Result, Ok, Err, refl, sym, ap, ◌∙◌, subst, arith, append_assoc}
-use Rattle.std.proofs.Common.{append-nil, length-drop, length-set}
+use Rattle.std.proofs.Common.{set, ℤ, pos, ◌*ℤ◌, Result, Ok, Err, refl, sym, ap, ◌∙◌, arith, append_assoc}
+use Rattle.std.proofs.Common.{append-nil, length-drop, length-set, rules}
 use Rattle.std.proofs.lemmas.List.{take-append-drop, drop_all, take_all, drop-drop, take_more_set, drop-set-lt}
 use Rattle.std.proofs.Math.Seq.{take-add}
 use Rattle.jpeg_bits.specs.Stream.{Stream}
@@ -158,12 +158,7 @@ module _ (table : Table) (al : ℕ) (whole : Reads Band) (a b d : Ahead) (old cu
   IsAt-sixteen = IsAt-after (at + 16) (omega arith) (sym (take-add at 16 band)) (drop-drop 16 at band)
 
   pub IsAt-all : length band - at ≤ 16 → Gives-here (Ok Sixteen) → IsAt table al whole a old band (length band) d new
-  IsAt-all few =
-      let l : length (drop at band) ≤ 16 = omega (arith, length-drop at band) in
-      IsAt-after (length band) lt
-      (ap (λ (l : List ℤ). take at band ++ l) (take_all 16 (drop at band) l) ∙ take-append-drop at band
-      ∙ sym (take_all (length band) band (omega arith)))
-      (drop_all 16 (drop at band) l ∙ sym (drop_all (length band) band (omega arith)))
+  IsAt-all few = search (rules, length-drop, IsAt-after, take_all, take-append-drop, drop_all)
 
   pub IsAt-last : (k : Token) (run : ℕ) → IsLast k run → Gives-here (Ok k)
       → Takes (λ (run : ℕ). (band, run)) whole a old (Ok run) d new

@@ -199,8 +199,10 @@ impl Held {
         is_full
     }
 
-    /// As `fill`, on a local that stays in registers.
+    /// Reads ahead until at least 57 bits are buffered, or the end is reached, which is read once.
+    /// A refusal is stored in `refusal`, and false is returned.
     #[inline(never)]
+    #[tactic(auto, unfolding(crate::specs::Entropy::upcoming))]
     fn refill<R: Read + Drop>(
         &mut self,
         source: &mut Source<R>,
@@ -211,29 +213,19 @@ impl Held {
         ensures full { result ≡ true → IsFilled 57 self.new.bits self.new.met }
         ensures held { result ≡ false → is_some refusal.new ≡ true }
     {
+        // The loop works on a local, which stays in registers.
         let mut held = self.copied();
-        let is_full = held.fill(source, refusal);
-        *self = held;
-        is_full
-    }
-
-    /// Reads ahead until at least 57 bits are buffered, or the end is reached, which is read once.
-    /// A refusal is stored in `refusal`, and false is returned.
-    #[inline(always)]
-    #[tactic(auto, unfolding(crate::specs::Entropy::upcoming))]
-    fn fill<R: Read + Drop>(&mut self, source: &mut Source<R>, refusal: &mut Option<Error>) -> bool
-        ensures fills { Takes (λ _. 0) same_text self.old source.old (outcome_of result refusal.new)
-            self.new source.new }
-        ensures full { result ≡ true → IsFilled 57 self.new.bits self.new.met }
-        ensures held { result ≡ false → is_some refusal.new ≡ true }
-    {
-        while self.bits.len() <= 56 && self.end.is_none() {
-            match next_piece(self.alloc, source, refusal) {
-                Some(Piece::Byte(byte)) => self.bits.push(byte),
-                Some(Piece::Data(end)) => self.end = Some(end),
-                None => return false,
+        while held.bits.len() <= 56 && held.end.is_none() {
+            match next_piece(held.alloc, source, refusal) {
+                Some(Piece::Byte(byte)) => held.bits.push(byte),
+                Some(Piece::Data(end)) => held.end = Some(end),
+                None => {
+                    *self = held;
+                    return false;
+                }
             }
         }
+        *self = held;
         true
     }
 

@@ -1,8 +1,8 @@
 -- The steps of a scan that is read, and what they are to a segment of the stream.
-use Rattle.std.proofs.Common.{◌≡◌, ℕ, suc, Bool, true, false, List, length, Option, Some, Result, Ok, Err, refl}
-use Rattle.std.proofs.Common.{◌∙◌, arith}
+use Rattle.std.proofs.Common.{◌≡◌, ℕ, suc, Bool, true, false, List, length, Option, Some, None, Result, Ok, Err, refl}
+use Rattle.std.proofs.Common.{◌∙◌, ap, arith, is_some, subst, sym}
 use Rattle.jpeg_bits.specs.Stream.{Stream}
-use Rattle.jpeg_bits.specs.Reading.{Answers, Fault, MayFail, Names, Outcome, ◌>>=◌}
+use Rattle.jpeg_bits.specs.Reading.{Answers, Fault, MayFail, Names, NamesFormat, Outcome, ◌>>=◌}
 use Rattle.jpeg_bits.specs.Passes.{Pass}
 use Rattle.jpeg_bits.specs.declared.error.Error.{Error}
 use Rattle.jpeg_bits.specs.declared.error.Error.TheVariants as errors
@@ -10,17 +10,25 @@ use Rattle.jpeg_bits.specs.declared.marker.Marker.{Marker}
 use Rattle.jpeg_bits.proofs.Loops.{Continues, Continues-err, bind_at, bind_err, still_known}
 use Rattle.jpeg_segments.specs.Frame.{Frame}
 use Rattle.jpeg_segments.specs.declared.parser.CodingProcess.{CodingProcess}
-use Rattle.jpeg_segments.specs.declared.parser.CodingProcess.TheVariants.{Lossless}
+use Rattle.jpeg_segments.specs.declared.parser.CodingProcess.TheVariants.{DctProgressive, DctSequential, Lossless}
 use Rattle.jpeg_segments.specs.ScanHeader.{Scan, sos_at}
-use Rattle.jpeg_streams.specs.declared.before.Before.{Before}
 use Rattle.jpeg_streams.specs.Scans.{Arrays}
-use Rattle.jpeg_streams.specs.ScanSegments.{blocks_scan, after_restarts, after_scan, codings_of, Coding, scan_by}
+use Rattle.jpeg_streams.specs.ScanSegments.{arrays_before, blocks_scan, after_restarts, after_scan, codings_of, Coding, scan_by}
 use Rattle.jpeg_streams.specs.ScanSegments.{lossless_scan, scan_before, scan_arrays, pass_of}
 use Rattle.jpeg_streams.specs.ScanSegments.{scan_segment}
 use Rattle.jpeg_streams.specs.Segments.{Turn}
 use Rattle.jpeg_streams.specs.Found.{Found}
-use Rattle.jpeg_decoder.specs.Steps.{IsDct, IsRefusal, after_all, blocks_read, codings_in_force, read_by, samples_read}
-use Rattle.jpeg_decoder.specs.Steps.{scan_data, scan_read}
+use Rattle.jpeg_decoder.specs.Seen.{found_in}
+use Rattle.jpeg_decoder.specs.Steps.{IsDct, IsRefusal, IsStep, after_all, codings_in_force, samples_read, scan_data}
+use Rattle.jpeg_decoder.specs.Steps.{with_decoded}
+use Rattle.jpeg_decoder.specs.declared.decoded.Decoded.{Decoded}
+use Rattle.jpeg_decoder.specs.declared.state.State.{State}
+use Rattle.jpeg_decoder.specs.declared.state.Step.{Step}
+use Rattle.jpeg_decoder.proofs.ReadableScans.{codings-kept}
+use Rattle.jpeg_decoder.proofs.SlotCodings.{format-refuses}
+use Rattle.jpeg_streams.specs.InTurn.{AreArrays}
+use Rattle.jpeg_streams.specs.Needed.{needed}
+use Rattle.jpeg_streams.specs.Sound.{AreSampled, ArePlanes, IsSound}
 use Rattle.std.proofs.lemmas.Grind.{common_steps}
 
 -- ---- calls on a source
@@ -48,6 +56,30 @@ last-step view v whole rest read old cur new (Ok x) ok err p q =
     (q.0 ∙ p.0, λ k. let at = p.1 k in let by = q.1 at.0 in (by.0, at.1 ∙ ok x by.1))
 last-step view v whole rest read old cur new (Err e) ok err p q =
     Continues-err view v whole rest read old cur new e err p q
+
+-- ---- a scan
+
+-- a scan of blocks: what is found after it, and the marker after it and its restart markers
+unfoldable pub blocks_read : Found → Frame → Scan → List ℕ → Outcome (Found × Option Marker)
+blocks_read found frame scan bytes = do
+  codings ← codings_in_force found frame scan
+  r ← scan_data found frame (pass_of scan) codings bytes
+  met ← after_all r.0.1 r.1
+  Ok ((r.0.0, met.0), met.1)
+
+-- a scan of either
+abbrev pub read_by : CodingProcess → Found → Frame → Scan → List ℕ
+    → Outcome (Found × Option Marker)
+read_by DctSequential found frame scan bytes = blocks_read found frame scan bytes
+read_by DctProgressive found frame scan bytes = blocks_read found frame scan bytes
+read_by Lossless found frame scan bytes = samples_read found frame scan bytes
+
+-- a scan by what was found before it
+unfoldable pub scan_read : Found → List ℕ → Outcome (Found × Option Marker)
+scan_read found bytes = do
+  frame ← needed found.frame
+  scan ← sos_at frame bytes
+  read_by frame.process found frame scan.0 scan.1
 
 -- ---- the steps of a scan
 
@@ -85,6 +117,10 @@ by-blocks : (p : CodingProcess) (found : Found) (frame : Frame) (scan : Scan) (b
 by-blocks Lossless found frame scan bytes h = absurd (h refl)
 by-blocks _ found frame scan bytes h = refl
 
+by-samples : (p : CodingProcess) (found : Found) (frame : Frame) (scan : Scan) (bytes : List ℕ)
+    → p ≡ Lossless → read_by p found frame scan bytes ≡ samples_read found frame scan bytes
+by-samples p found frame scan bytes e = ap (λ (q : CodingProcess). read_by q found frame scan bytes) e
+
 pub is-dct : (p : CodingProcess) → (p ≡ Lossless → ⊥) → IsDct p
 is-dct Lossless h = absurd (h refl)
 is-dct _ h = tt
@@ -96,7 +132,28 @@ pub header-read : (found : Found) (frame : Frame) (scan : Scan) (old new : Strea
 unfolding scan_read blocks_read
 header-read found frame scan old new e process has = grind (arith, common_steps, bind_at, by-blocks)
 
-pub data-begun : (whole : List ℕ → Outcome (Found × Option Marker)) (found : Found) (frame : Frame) (scan : Scan)
+-- A lossless scan has its samples after its header.
+pub samples-begun : (found : Found) (frame : Frame) (scan : Scan) (old new : Stream)
+    → found.frame ≡ Some frame → frame.process ≡ Lossless → HasRead (sos_at frame) old scan new
+    → Continues (scan_read found) old (samples_read found frame scan) new
+unfolding scan_read
+samples-begun found frame scan old new e process has = grind (arith, common_steps, bind_at, by-samples)
+
+-- A scan without a frame is refused.
+pub frame-refused : {X : Type 0} (view : X → Found × Option Marker) (found : Found) (s : Stream) (e : Error)
+    → found.frame ≡ None → NamesFormat e → Answers view (scan_read found) s (Err e) s
+unfolding scan_read
+frame-refused view found s e lacking names =
+    let r = format-refuses e (needed found.frame) names (ap (λ (o : Option Frame). needed o) lacking) in
+    refused view (scan_read found) (scan_read found) s s e (needed found.frame) (refl, λ k. (k, refl)) r.0 r.1
+    (λ f h. bind_err _ (needed found.frame) f h)
+
+pub header-refused : (found : Found) (frame : Frame) (bytes : List ℕ) (f : Fault) → found.frame ≡ Some frame
+    → sos_at frame bytes ≡ Err f → scan_read found bytes ≡ Err f
+unfolding scan_read
+header-refused found frame bytes f e h = grind (arith, common_steps, bind_at, bind_err)
+
+data-begun : (whole : List ℕ → Outcome (Found × Option Marker)) (found : Found) (frame : Frame) (scan : Scan)
     (p : Pass)
     (codings : List Coding) (old new : Stream)
     → codings_in_force found frame scan ≡ Ok codings → p ≡ pass_of scan
@@ -104,6 +161,16 @@ pub data-begun : (whole : List ℕ → Outcome (Found × Option Marker)) (found 
     → Continues whole old (after_codings found frame p codings) new
 data-begun whole found frame scan p codings old new e is begun =
     (begun.0, λ k. let at = begun.1 k in (at.0, at.1 ∙ codings-read found frame scan p codings new.bytes e is))
+
+-- A scan of blocks has its data after its header, where tables are in force.
+pub blocks-begun : (base : Found) (d : Decoded) (frame : Frame) (scan : Scan) (p : Pass) (codings : List Coding)
+    (old new : Stream) → base.frame ≡ Some frame → (frame.process ≡ Lossless → ⊥)
+    → HasRead (sos_at frame) old scan new → codings_in_force base frame scan ≡ Ok codings → p ≡ pass_of scan
+    → Continues (scan_read (with_decoded base d)) old (after_codings (with_decoded base d) frame p codings) new
+blocks-begun base d frame scan p codings old new e process has in_force is =
+    let found = with_decoded base d in
+    data-begun (scan_read found) found frame scan p codings old new (codings-kept base d frame scan ∙ in_force) is
+    (header-read found frame scan old new e process has)
 
 -- The restart markers after the data are passed over, and the scan is read.
 pub scan-ends : (whole rest : List ℕ → Outcome (Found × Option Marker)) (next : Found) (met : Option Marker)
@@ -173,12 +240,67 @@ scan-parts : (found : Found) (bytes : List ℕ) → scan_segment found bytes ≡
 unfolding scan_segment scan_read
 scan-parts found bytes = grind (arith, common_steps, through, process-parts)
 
-pub scan-turned : (found next : Found) (met : Option Marker) (b : Before) (bytes rest : List ℕ)
-    → scan_read found bytes ≡ Ok ((next, met), rest) → b ≡ scan_before found
-    → scan_segment found bytes ≡ Ok (record { found = next; before = b; met = met; ended = false }, rest)
-scan-turned found next met b bytes rest e is =
-    scan-parts found bytes ∙ bind_at (scan_turn found) (scan_read found bytes) ((next, met), rest) e ∙ rw is refl
+-- what is found where its planes were taken out of the state
+pub taken-out : (s : State) (old : Found) (d : Decoded) → d ≡ s.decoded → found_in s ≡ old
+    → with_decoded (found_in s) d ≡ old
+taken-out s old d e is = ap (λ (d : Decoded). with_decoded (found_in s) d) e ∙ is
 
-pub turn-refused : (found : Found) (bytes : List ℕ) (f : Fault) → scan_read found bytes ≡ Err f
-    → scan_segment found bytes ≡ Err f
-turn-refused found bytes f e = scan-parts found bytes ∙ bind_err (scan_turn found) (scan_read found bytes) f e
+pub segment-ends : (found at next : Found) (met : Option Marker) (old new : Stream) (turn : Turn) → found ≡ at
+    → turn ≡ record { found = next; before = scan_before found; met = met; ended = false }
+    → Answers (λ (m : Option Marker). (next, m)) (scan_read found) old (Ok met) new
+    → HasRead (scan_segment at) old turn new
+segment-ends found at next met old new turn same is p = (
+  p.0,
+  λ k.
+      let read = p.1 k in (
+        read.0,
+        ap (λ (f : Found). scan_segment f old.bytes) (sym same)
+            ∙ (scan-parts found old.bytes
+            ∙ (bind_at (scan_turn found) (scan_read found old.bytes) ((next, met), new.bytes) read.1
+            ∙ ap (λ (t : Turn). Ok (t, new.bytes)) (sym is))),
+      ),
+)
+
+-- A scan that is refused is a segment that is refused.
+pub segment-refused : (v : Step → Turn) (found at : Found) (old new : Stream) (e : Error) → found ≡ at
+    → Answers (λ (m : Option Marker). (found, m)) (scan_read found) old (Err e) new
+    → Answers v (scan_segment at) old (Err e) new
+segment-refused v found at old new e same p =
+    Continues-err v (λ (m : Option Marker). (found, m)) (scan_segment at) (scan_segment found) (scan_read found) old
+    old new e
+    (λ f h. scan-parts found old.bytes ∙ bind_err (scan_turn found) (scan_read found old.bytes) f h)
+    (refl, λ k. (k, ap (λ (f : Found). scan_segment f old.bytes) (sym same))) p
+
+-- ---- what holds after a scan
+
+some-same : (f g : Frame) → Some f ≡ Some g → f ≡ g
+some-same f g h = cc
+
+none-some : (f : Frame) → None ≡ Some f → ⊥
+none-some f h = cc
+
+-- A scan of blocks leaves a sound state.
+pub blocks-sound : (found next : Found) (frame : Frame) → IsSound found → found.frame ≡ Some frame
+    → next.frame ≡ found.frame → AreArrays frame.components (arrays_before next frame)
+    → (ArePlanes frame.components found.planes → ArePlanes frame.components next.planes)
+    → next.samples ≡ found.samples → IsSound next
+blocks-sound found next frame sound e stays held planes samples = record {
+  frames = λ f k. sound.frames f (sym stays ∙ k);
+  held = λ f k. subst (λ (g : Frame). AreArrays g.components (arrays_before next g))
+      (some-same frame f (sym e ∙ (sym stays ∙ k))) held;
+  planes = λ f k. subst (λ (g : Frame). ArePlanes g.components next.planes)
+      (some-same frame f (sym e ∙ (sym stays ∙ k))) (planes (sound.planes frame e));
+  samples = λ f k. subst (AreSampled f.components) (sym samples) (sound.samples f (sym stays ∙ k));
+  unread = λ k. absurd (none-some frame (sym k ∙ (stays ∙ e)));
+}
+
+-- A scan is a step, which keeps the frame.
+pub scan-steps : (old next : Found) (frame : Frame) (step : Step) → old.frame ≡ Some frame → next.frame ≡ old.frame
+    → IsSound next → IsStep old (Ok step) next
+scan-steps old next frame step e stays sound = record {
+  kept = tt;
+  framed = λ _. ap (λ (o : Option Frame). is_some o) (stays ∙ e);
+  stays = λ _. stays;
+  sound = λ _. sound;
+  unread = λ k _. absurd (none-some frame (sym k ∙ e));
+}

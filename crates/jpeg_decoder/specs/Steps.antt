@@ -23,7 +23,6 @@ use Rattle.jpeg_bits.specs.Passes.{Pass}
 use Rattle.std.specs.List.{list_all, AllByRecursion}
 use Rattle.jpeg_segments.specs.FrameView.{component_in}
 use Rattle.jpeg_segments.specs.ScanHeader as headers
-use Rattle.jpeg_segments.specs.ScanHeader.{sos_at}
 use Rattle.jpeg_decoder.specs.declared.scan.Scan.{Scan}
 use Rattle.jpeg_streams.specs.InTurn.{Fits}
 use Rattle.jpeg_decoder.specs.declared.state.State.{State}
@@ -241,14 +240,6 @@ IsDct DctSequential = Unit {0}
 IsDct DctProgressive = Unit {0}
 IsDct Lossless = ⊥
 
--- a scan of blocks: what is found after it, and the marker after it and its restart markers
-unfoldable pub blocks_read : Found → Frame → headers.Scan → List ℕ → Outcome (Found × Option Marker)
-blocks_read found frame scan bytes = do
-  codings ← codings_in_force found frame scan
-  r ← scan_data found frame (pass_of scan) codings bytes
-  met ← after_all r.0.1 r.1
-  Ok ((r.0.0, met.0), met.1)
-
 -- a lossless scan
 unfoldable pub samples_read : Found → Frame → headers.Scan → List ℕ
     → Outcome (Found × Option Marker)
@@ -257,19 +248,6 @@ samples_read found frame scan bytes = do
   r ← scan_samples found frame scan codings bytes
   met ← after_all r.0.1 r.1
   Ok ((after_samples found codings r.0.0, met.0), met.1)
-
-abbrev pub read_by : CodingProcess → Found → Frame → headers.Scan → List ℕ
-    → Outcome (Found × Option Marker)
-read_by DctSequential found frame scan bytes = blocks_read found frame scan bytes
-read_by DctProgressive found frame scan bytes = blocks_read found frame scan bytes
-read_by Lossless found frame scan bytes = samples_read found frame scan bytes
-
--- a scan by what was found before it
-unfoldable pub scan_read : Found → List ℕ → Outcome (Found × Option Marker)
-scan_read found bytes = do
-  frame ← needed found.frame
-  scan ← sos_at frame bytes
-  read_by frame.process found frame scan.0 scan.1
 
 -- ---- refusals
 

@@ -1,10 +1,10 @@
 //! A scan in a stream: its header, the tables in force, its data (T.81, B.2.3), and what may stand
 //! after it.
-ghost use Rattle.std.specs.Prelude.{OnOk, true};
 ghost use Rattle.jpeg_bits.specs.Reading.{Answers, Names};
 ghost use Rattle.jpeg_decoder.specs.Seen.{found_in};
 ghost use Rattle.jpeg_streams.specs.Sound.{IsSound};
-ghost use Rattle.jpeg_decoder.specs.Steps.{IsRefusal, scan_read, with_decoded};
+ghost use Rattle.jpeg_decoder.specs.Steps.{IsRefusal, IsStep, turn_of};
+ghost use Rattle.jpeg_streams.specs.ScanSegments.{scan_segment};
 ghost use Rattle.jpeg_streams.specs.Stream.{line_count};
 
 use crate::codings::{codings_of, pass_of, spare_tables};
@@ -13,7 +13,7 @@ use crate::lossless_scans::read_lossless_scan;
 use crate::places::{Missing, needed};
 use crate::restarts::pass_restarts;
 use crate::scan::Scan;
-use crate::state::State;
+use crate::state::{State, Step};
 use jpeg_bits::error::{Error, Result, UnsupportedFeature, format_error};
 use jpeg_bits::marker::Marker;
 use jpeg_bits::source::Source;
@@ -34,26 +34,25 @@ pub fn refused_line_count(alloc: Global, before: Before) -> Error
     }
 }
 
-/// Reads a scan by what was said before it, with what the scans before it gave, and returns the
-/// marker after it and after the restart markers at its end, if one was reached.
-#[tactic(auto, unfolding(crate::specs::Steps::scan_read))]
+/// Reads a scan, and returns what stands after it: the marker after it and after the restart
+/// markers at its end, if one was reached. An error may drop what scans gave.
 pub fn read_scan<R: Read + Drop>(
     alloc: Global,
     source: &mut Source<R>,
-    state: &State,
-    decoded: &mut Decoded,
-) -> Result<Option<Marker>>
-    requires sound { IsSound (with_decoded (found_in state.now) decoded.old) }
-    ensures reads { Answers (λ m.
-        (record (with_decoded (found_in state.now) decoded.new) { scanned = true }, m))
-        (scan_read (with_decoded (found_in state.now) decoded.old)) source.old result source.new }
-    ensures sound { OnOk result (IsSound (record (with_decoded (found_in state.now) decoded.new)
-        { scanned = true })) }
+    state: &mut State,
+) -> Result<Step>
+    requires sound { IsSound (found_in state.old) }
+    ensures reads { Answers (turn_of state.new) (scan_segment (found_in state.old)) source.old
+        result source.new }
+    ensures steps { IsStep (found_in state.old) result (found_in state.new) }
 {
+    state.widen_tables(alloc)?;
+    let mut decoded = std::mem::replace(&mut state.decoded, Decoded::new(alloc));
     let frame = needed(alloc, state.frame.as_ref(), Missing::Frame(Marker::SOS))?;
     let header = parse_sos(alloc, source, frame)?;
     if frame.coding_process == CodingProcess::Lossless {
-        return read_lossless_scan(alloc, source, state, frame, &header, decoded);
+        let met = read_lossless_scan(alloc, source, state, frame, &header, &mut decoded)?;
+        return Ok(state.end_scan(decoded, met));
     }
     let spare = spare_tables(alloc, &header, frame, state.metadata.avi1)?;
     let scan = Scan {
@@ -61,6 +60,9 @@ pub fn read_scan<R: Read + Drop>(
         restart_interval: state.restart_interval,
         components: codings_of(alloc, state, &spare, frame, &header)?,
     };
-    let met = decoded.read(alloc, source, state, frame, &scan)?;
-    pass_restarts(alloc, source, met)
+    let reached = decoded.read(alloc, source, state, frame, &scan)?;
+    // It borrows from `state`, which changes now.
+    drop(scan);
+    let met = pass_restarts(alloc, source, reached)?;
+    Ok(state.end_scan(decoded, met))
 }

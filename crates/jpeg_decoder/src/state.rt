@@ -71,13 +71,13 @@ impl State {
     ghost use Rattle.jpeg_streams.specs.Segments.{restart_segment, huffman_segment};
     ghost use Rattle.jpeg_streams.specs.Segments.{skipped_segment, application_segment};
     ghost use Rattle.jpeg_streams.specs.Found.{nothing_found};
-    ghost use Rattle.jpeg_streams.specs.ScanSegments.{scan_before, scan_segment};
+    ghost use Rattle.jpeg_streams.specs.ScanSegments.{scan_before};
     ghost use Rattle.jpeg_streams.specs.Stream.{end_segment, stray_restart, segment_at, turn_at};
     ghost use Rattle.jpeg_streams.specs.Stream.{segments_at, told_of};
     ghost use Rattle.jpeg_streams.specs.Reported.{IsOfTurns, told_in_turns, told_rest};
     ghost use Rattle.jpeg_streams.specs.States.{OnTold};
     ghost use Rattle.jpeg_decoder.specs.Seen.{found_in};
-    ghost use Rattle.jpeg_decoder.specs.Steps.{IsStep, turn_of};
+    ghost use Rattle.jpeg_decoder.specs.Steps.{IsStep, turn_of, with_decoded};
     ghost use Rattle.jpeg_streams.specs.Sound.{IsSound, IsUnread};
     ghost use Rattle.jpeg_streams.specs.declared.before.Before.TheVariants.{Elsewhere};
 
@@ -214,19 +214,8 @@ impl State {
         })
     }
 
-    /// Returns what a scan is to the marker after it.
-    fn scan_before(&self) -> Before
-        ensures { result ≡ scan_before (found_in self.now) }
-    {
-        if self.scanned {
-            Before::LaterScan
-        } else {
-            Before::FirstScan
-        }
-    }
-
     /// Fills the look-up tables of AC values where the frame has so many samples that it pays.
-    fn widen_tables(&mut self, alloc: Global) -> std::result::Result<(), AllocError>
+    pub fn widen_tables(&mut self, alloc: Global) -> std::result::Result<(), AllocError>
         ensures { found_in self.new ≡ found_in self.old }
     {
         let Some(frame) = &self.frame else {
@@ -238,25 +227,28 @@ impl State {
         widen_all(alloc, &mut self.ac_tables)
     }
 
-    /// Reads a scan (T.81, B.2.3).
-    fn read_scan<R: Read + Drop>(&mut self, alloc: Global, source: &mut Source<R>) -> Result<Step>
-        requires sound { IsSound (found_in self.old) }
-        ensures reads { Answers (turn_of self.new) (scan_segment (found_in self.old)) source.old
-            result source.new }
-        ensures steps { IsStep (found_in self.old) result (found_in self.new) }
+    /// Ends a scan with what the scans have decoded, and returns what stands after it: this marker,
+    /// if one was reached.
+    pub fn end_scan(&mut self, decoded: Decoded, met: Option<Marker>) -> Step
+        ensures { turn_of self.new result ≡ record {
+          found = record (with_decoded (found_in self.old) decoded) { scanned = true };
+          before = scan_before (found_in self.old);
+          met = met;
+          ended = false;
+        } }
     {
-        self.widen_tables(alloc)?;
-        let mut decoded = std::mem::replace(&mut self.decoded, Decoded::new(alloc));
-        let result = read_scan(alloc, source, self, &mut decoded);
+        let before = if self.scanned {
+            Before::LaterScan
+        } else {
+            Before::FirstScan
+        };
         self.decoded = decoded;
-        let met = result?;
-        let before = self.scan_before();
         self.scanned = true;
-        Ok(Step {
+        Step {
             before,
             met,
             ended: false,
-        })
+        }
     }
 
     /// Ignores a restart marker after a scan, once.
@@ -299,7 +291,7 @@ impl State {
             Marker::SOF(number) => self.read_frame(alloc, source, number),
             Marker::DQT => self.read_quantization(alloc, source),
             Marker::DHT => self.read_huffman(alloc, source),
-            Marker::SOS => self.read_scan(alloc, source),
+            Marker::SOS => read_scan(alloc, source, self),
             Marker::EOI => self.end(alloc, source),
             Marker::DRI => self.read_restart(alloc, source),
             Marker::APP(number) => self.read_application(alloc, source, number),

@@ -1,8 +1,7 @@
 -- Pieces of one length that are written one after the other into a list that has exactly their room.
 use Rattle.std.proofs.lemmas.Grind.{common_steps}
 use Rattle.std.proofs.Common.{◌≡◌, ℕ, zero, suc, ◌+◌, ◌*◌, ◌<◌, ◌≤◌, List, [], ◌∷◌, ◌++◌, length}
-use Rattle.std.proofs.Common.{take, set, ap, sym}
-use Rattle.std.proofs.Common.{◌∙◌, arith, length-take, slice_index_or}
+use Rattle.std.proofs.Common.{take, set, ap, arith, length-take, slice_index_or}
 use Rattle.std.proofs.Math.Nat.{add-mul, mul-le-mul_right, one-mul}
 use Rattle.std.proofs.Math.Seq.{take-append-add, take-append_seam}
 use Rattle.std.proofs.lemmas.List.{take_all}
@@ -28,17 +27,12 @@ pub pieces-more : (i size k : ℕ) (now new front more : List ℕ) {made : List 
     → length new ≡ size → take (i * size) now ≡ front → new ≡ made → more ≡ front ++ made
     → take ((i + 1) * size) (put_mid (i * size) k now new) ≡ more
 pieces-more i size k now new front more room long before is joined =
-    let next : (i + 1) * size ≡ i * size + size = omega (arith, add-mul i 1 size, one-mul size) in
-    ap (λ (n : ℕ). take n (put_mid (i * size) k now new)) next
-    ∙ take-put (i * size) size k now new room long
-    ∙ (λ j. before j ++ is j) ∙ sym joined
+    grind (arith, common_steps, take-put)
 
 -- all pieces
 pub all-pieces : (count i size : ℕ) (now made : List ℕ) → i ≡ count → length now ≡ count * size
     → take (i * size) now ≡ made → now ≡ made
-all-pieces count i size now made end long is =
-    let same : i * size ≡ count * size = ap (λ (n : ℕ). n * size) end in
-    sym (take_all (i * size) now (omega (arith, long, same))) ∙ is
+all-pieces count i size now made end long is = grind (arith, common_steps, take_all)
 
 -- ---- lines of one width
 

@@ -13,6 +13,7 @@ use Rattle.jpeg_lossless.specs.Pictures.{AreLong, Layer, bytes_at, layer_of, lin
 use Rattle.jpeg_lossless.specs.Pictures.{factors_of, most_across, most_down, pixel_bytes, sample_at}
 use Rattle.jpeg_lossless.proofs.ImageLoops.{IsPixelOf, at-most, greatest-some, inside, line-begun, line-grown}
 use Rattle.jpeg_lossless.proofs.ImageLoops.{line-more, line-none, through, within}
+use Rattle.std.proofs.lemmas.Grind.{common_steps}
 
 -- ---- a line of a component
 
@@ -37,11 +38,7 @@ copied own most (suc n) m h =
 
 pub copied_whole : (own : List ℕ) (most factor width : ℕ) → 1 ≤ factor → factor ≡ most
     → width * factor ≤ length own * most → take width own ≡ stretched own factor most width
-copied_whole own most factor width some e h =
-    let m : 0 < most = omega (arith, some, e) in
-    let k : width * most ≤ length own * most = omega (arith, h, ap (λ (f : ℕ). width * f) e) in
-    copied own most width m (at-most width (length own) most m k)
-    ∙ ap (λ (f : ℕ). stretched own f most width) (sym e)
+copied_whole own most factor width some e h = grind (arith, common_steps, copied, at-most)
 
 -- the column of a pixel, and what is left of its product
 pub record IsColumn (factor most x column rest : ℕ) : Type 0 where

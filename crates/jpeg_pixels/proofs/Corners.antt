@@ -19,16 +19,12 @@ use Rattle.jpeg_pixels.proofs.LaneSums.{lanes_same}
 use Rattle.jpeg_pixels.proofs.ZeroCases.{none_of, both_true}
 use Rattle.jpeg_pixels.proofs.LaneRows.{eight_cases}
 use Rattle.jpeg_pixels.proofs.LaneChoice.{IsBits, bits_at, or_both, or_zero, half_zero}
+use Rattle.std.proofs.lemmas.Grind.{common_steps}
 
 -- rows whose last four have only zeros
 pub zero_rows : (rows : Rows) (f : ℕ → ℕ → ℤ) → HasNumbers rows f
     → ((k j : ℕ) → 4 ≤ k → k < 8 → j < 8 → f k j ≡ pos 0) → HasZeros rows
-zero_rows rows f e none = record {
-  r4 = e.r4 ∙ lanes_same (f 4) (λ _. pos 0) (λ j h. none 4 j (omega arith) (omega arith) h);
-  r5 = e.r5 ∙ lanes_same (f 5) (λ _. pos 0) (λ j h. none 5 j (omega arith) (omega arith) h);
-  r6 = e.r6 ∙ lanes_same (f 6) (λ _. pos 0) (λ j h. none 6 j (omega arith) (omega arith) h);
-  r7 = e.r7 ∙ lanes_same (f 7) (λ _. pos 0) (λ j h. none 7 j (omega arith) (omega arith) h);
-}
+zero_rows rows f e none = grind (arith, common_steps, lanes_same, none)
 
 nothing_times : (z : ℤ) (n : ℕ) → z ≡ pos 0 → z *ℤ pos n ≡ pos 0
 nothing_times z n e = ap (λ y. y *ℤ pos n) e ∙ omega (arith, ints)
@@ -96,11 +92,7 @@ record AreZero (a b c d : ℕ) : Type 0 where
   pub fourth : eqb d 0 ≡ true
 
 four : (a b c d : ℕ) → eqb (bit_or (bit_or (bit_or a b) c) d) 0 ≡ true → AreZero a b c d
-four a b c d e =
-    let abc = parts (bit_or (bit_or a b) c) d e in
-    let ab = parts (bit_or a b) c abc.0 in
-    let two = parts a b ab.0 in
-    record { first = two.0; second = two.1; third = ab.1; fourth = abc.1 }
+four a b c d e = grind (arith, common_steps, parts)
 
 pub corner_is : (coefficients : List ℤ) → ((j : ℕ) → FitsSigned w16 (get_or coefficients j (pos 0)))
     → ((j : ℕ) → j < 8 → eqb (bit_or (lower_bits coefficients j) (upper_bits coefficients (4 + j % 4))) 0 ≡ true)

@@ -1,5 +1,5 @@
 -- Blocks of one coefficient, the first, at less than full size.
-use Rattle.std.proofs.Common.{◌≡◌, ℕ, zero, suc, ◌+◌, ◌*◌, ◌<◌, ◌≤◌, List, get_or, ℤ, pos, negsuc, ◌+ℤ◌}
+use Rattle.std.proofs.Common.{◌≡◌, ℕ, ◌+◌, ◌*◌, ◌<◌, ◌≤◌, List, get_or, ℤ, pos, negsuc, ◌+ℤ◌}
 use Rattle.std.proofs.Common.{◌*ℤ◌, unsigned_abs, rules}
 use Rattle.std.proofs.Common.{refl, sym, ap, ◌∙◌, arith, FitsSigned, lit<}
 use Rattle.std.proofs.lemmas.Bool.{cases_lt}
@@ -11,6 +11,7 @@ use Rattle.jpeg_pixels.specs.Scaled.{sample_of_1}
 use Rattle.jpeg_pixels.specs.SmallBlocks.{four}
 use Rattle.jpeg_pixels.proofs.Fours.{column_by_same, row_sum, row_by_same}
 use Rattle.jpeg_pixels.proofs.FlatBlocks.{scaled}
+use Rattle.std.proofs.lemmas.Bool.Decides.{nat_tests}
 
 -- each other product is 0
 no_product : (coefficients : List ℤ) (quantization : List ℕ) (row column : ℕ) → HasFirstOnly coefficients
@@ -21,21 +22,13 @@ no_product coefficients quantization row column first some h = search (rules, ge
 -- a column of one number
 column_one : (v : ℤ) (row : ℕ) → row < 4 → column_by (four v (pos 0) (pos 0) (pos 0)) row ≡ int_wrap w32 (pos 4 *ℤ v)
 unfolding even_part odd_part int_wrap
-column_one v zero h = ap (int_wrap w32) (omega (arith, ints))
-column_one v (suc zero) h = ap (int_wrap w32) (omega (arith, ints))
-column_one v (suc (suc zero)) h = ap (int_wrap w32) (omega (arith, ints))
-column_one v (suc (suc (suc zero))) h = ap (int_wrap w32) (omega (arith, ints))
-column_one v (suc (suc (suc (suc n)))) h = absurd (omega arith)
+column_one v row h1 = grind (arith, nat_tests)
 
 -- a row of one number
 row_one : (v : ℤ) (x : ℕ) → x < 4 → row_sum (four v (pos 0) (pos 0) (pos 0)) x
     ≡ int_wrap w32 (pos 4096 *ℤ v +ℤ pos 16842752)
 unfolding even_part odd_part
-row_one v zero h = ap (int_wrap w32) (omega (arith, ints))
-row_one v (suc zero) h = ap (int_wrap w32) (omega (arith, ints))
-row_one v (suc (suc zero)) h = ap (int_wrap w32) (omega (arith, ints))
-row_one v (suc (suc (suc zero))) h = ap (int_wrap w32) (omega (arith, ints))
-row_one v (suc (suc (suc (suc n)))) h = absurd (omega arith)
+row_one v x h1 = grind (arith, nat_tests)
 
 -- the columns of such a block
 column_first : (coefficients : List ℤ) (quantization : List ℕ) (row column : ℕ) → HasFirstOnly coefficients → row < 4
@@ -88,13 +81,7 @@ abbrev alone : ℤ → ℤ → ℤ → ℤ → ℕ → ℕ → ℤ
 alone a b d e x y = a +ℤ signed x b +ℤ signed y (d +ℤ signed x e) +ℤ pos 1028
 
 quarter_sum : (p : ℤ) (x y : ℕ) → x < 2 → y < 2 → alone p (pos 0) (pos 0) (pos 0) x y ≡ p +ℤ pos 4 +ℤ pos 1024
-quarter_sum p zero zero hx hy = omega (arith, ints)
-quarter_sum p (suc zero) zero hx hy = omega (arith, ints)
-quarter_sum p zero (suc zero) hx hy = omega (arith, ints)
-quarter_sum p (suc zero) (suc zero) hx hy = omega (arith, ints)
-quarter_sum p (suc (suc x)) y hx hy = absurd (omega arith)
-quarter_sum p zero (suc (suc y)) hx hy = absurd (omega arith)
-quarter_sum p (suc zero) (suc (suc y)) hx hy = absurd (omega arith)
+quarter_sum p x y h1 h2 = grind (arith, nat_tests)
 
 pub quarter_first_only : (coefficients : List ℤ) (quantization : List ℕ) (x y : ℕ) → HasFirstOnly coefficients
     → x < 2 → y < 2 → unsigned_abs (dequantized coefficients quantization 0 0) ≤ 65536

@@ -1,11 +1,12 @@
 -- The transform of four numbers.
-use Rattle.std.proofs.Common.{◌≡◌, ℕ, zero, suc, ◌<◌, List, [], ◌∷◌, ℤ, pos, neg_ℤ, ◌+ℤ◌, ◌-ℤ◌, ◌*ℤ◌, slice_index_or}
+use Rattle.std.proofs.Common.{◌≡◌, ℕ, ◌<◌, List, [], ◌∷◌, ℤ, pos, neg_ℤ, ◌+ℤ◌, ◌-ℤ◌, ◌*ℤ◌, slice_index_or}
 use Rattle.std.proofs.Common.{ap, ◌∙◌, arith, rules}
 use Rattle.std.proofs.lemmas.Int.{int_wrap-add_left}
 use Rattle.std.specs.Int.{w32, int_wrap, int_shr}
 use Rattle.jpeg_pixels.specs.Scaled.{joined, even_part, odd_part, column_by}
 use Rattle.jpeg_pixels.specs.SmallBlocks.{four}
 use Rattle.jpeg_pixels.proofs.Residues.{wrapped_parts, wrapped_apart, wrapped_inside}
+use Rattle.std.proofs.lemmas.Bool.Decides.{nat_tests}
 
 -- by the first four numbers of a column
 pub column_by_same : (s : ℕ → ℤ) (s0 s1 s2 s3 : ℤ) (row : ℕ) → s0 ≡ s 0 → s1 ≡ s 1 → s2 ≡ s 2 → s3 ≡ s 3
@@ -16,11 +17,7 @@ column_by_same s s0 s1 s2 s3 row e0 e1 e2 e3 = λ i. column_by (four (e0 i) (e1 
 -- an entry of four
 entry_is : (xs : List ℤ) (f : ℕ → ℤ) (a b d e : ℤ) → xs ≡ a ∷ b ∷ d ∷ e ∷ [] → a ≡ f 0 → b ≡ f 1 → d ≡ f 2 → e ≡ f 3
     → (k : ℕ) → k < 4 → slice_index_or xs k (pos 0) ≡ f k
-entry_is xs f a b d e is e0 e1 e2 e3 zero h = ap (λ (l : List ℤ). slice_index_or l 0 (pos 0)) is ∙ e0
-entry_is xs f a b d e is e0 e1 e2 e3 (suc zero) h = ap (λ (l : List ℤ). slice_index_or l 1 (pos 0)) is ∙ e1
-entry_is xs f a b d e is e0 e1 e2 e3 (suc (suc zero)) h = ap (λ (l : List ℤ). slice_index_or l 2 (pos 0)) is ∙ e2
-entry_is xs f a b d e is e0 e1 e2 e3 (suc (suc (suc zero))) h = ap (λ (l : List ℤ). slice_index_or l 3 (pos 0)) is ∙ e3
-entry_is xs f a b d e is e0 e1 e2 e3 (suc (suc (suc (suc n)))) h = absurd (omega arith)
+entry_is xs f a b d e h1 h2 h3 h4 h5 k h6 = grind (arith, nat_tests, slice_index_or)
 
 -- a sum and a difference, of which the first was wrapped
 sum_left : (x y a b : ℤ) → x ≡ int_wrap w32 a → y ≡ b → int_wrap w32 (x +ℤ y) ≡ int_wrap w32 (a +ℤ b)

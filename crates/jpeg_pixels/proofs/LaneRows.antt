@@ -13,9 +13,10 @@ use Rattle.jpeg_pixels.proofs.Sums.{transformed_same}
 pub use Rattle.jpeg_pixels.proofs.Sums.{eight_cases}
 use Rattle.jpeg_pixels.proofs.Columns.{flat_value, other_value}
 use Rattle.jpeg_pixels.proofs.LaneSums.{AreLanes, lane-lanes, lanes_same, lanes_read}
-use Rattle.jpeg_pixels.proofs.LaneSums.{lanes_read_fitting, lanes_given}
-use Rattle.jpeg_pixels.proofs.LaneSums.{lane_wrapped}
+use Rattle.jpeg_pixels.proofs.LaneSums.{lanes_read_fitting, lanes_given, lane_wrapped}
 use Rattle.jpeg_pixels.proofs.LaneChoice.{settled_is}
+use Rattle.std.proofs.lemmas.Grind.{common_steps}
+use Rattle.std.proofs.Common.{arith}
 
 pub lane_at_is : (rows : Rows) (f : ℕ → ℕ → ℤ) → HasNumbers rows f → (k j : ℕ) → k < 8 → j < 8
     → lane_at rows k j ≡ f k j
@@ -63,16 +64,7 @@ column_is rows f e k h = search (rules, lane-lanes)
 
 pub turned_numbers : (rows turned : Rows) (f : ℕ → ℕ → ℤ) → HasNumbers rows f → IsTurned rows turned
     → HasNumbers turned (λ k j. f j k)
-turned_numbers rows turned f e t = record {
-  r0 = t.r0 ∙ column_is rows f e 0 (lit< tt);
-  r1 = t.r1 ∙ column_is rows f e 1 (lit< tt);
-  r2 = t.r2 ∙ column_is rows f e 2 (lit< tt);
-  r3 = t.r3 ∙ column_is rows f e 3 (lit< tt);
-  r4 = t.r4 ∙ column_is rows f e 4 (lit< tt);
-  r5 = t.r5 ∙ column_is rows f e 5 (lit< tt);
-  r6 = t.r6 ∙ column_is rows f e 6 (lit< tt);
-  r7 = t.r7 ∙ column_is rows f e 7 (lit< tt);
-}
+turned_numbers rows turned f e t = grind (arith, common_steps, column_is, lit<)
 
 -- the sums of rows that stand turned, where their numbers are known
 pub sums_numbers : (turned rows : Rows) (f : ℕ → ℕ → ℤ) → HasNumbers turned (λ k j. f j k)

@@ -1,5 +1,5 @@
 -- The lines of colours, by their places.
-use Rattle.std.proofs.Common.{◌≡◌, ℕ, zero, suc, ◌+◌, ◌-◌, ◌*◌, ◌<◌, List, [], length, get_or, map, take, sym, ap, ◌∙◌}
+use Rattle.std.proofs.Common.{◌≡◌, ℕ, ◌+◌, ◌-◌, ◌*◌, ◌<◌, List, [], length, get_or, map, take, sym, ap, ◌∙◌}
 use Rattle.std.proofs.Common.{refl, arith}
 use Rattle.std.proofs.lemmas.List.{ext_get_or, length-map, get_or-map}
 use Rattle.std.proofs.Math.Seq.{take-length}
@@ -7,23 +7,17 @@ use Rattle.std.specs.List.{concat}
 use Rattle.jpeg_pixels.specs.Colour.{red_of, green_of, blue_of, colour_of, line_bytes}
 use Rattle.jpeg_pixels.specs.declared.upsampler.ColorConvert.TheVariants as converts
 use Rattle.jpeg_pixels.proofs.JoinedLines.{AreLong, by_pixels, sample-at}
+use Rattle.std.proofs.lemmas.Bool.Decides.{nat_tests}
 
 abbrev samples : List (List ℕ) → ℕ → List ℕ
 samples lines x = map (λ (l : List ℕ). get_or l x 0) lines
 
 -- the entries of a pixel of three or four bytes
 by_three : (f g : ℕ → ℕ) → f 0 ≡ g 0 → f 1 ≡ g 1 → f 2 ≡ g 2 → (k : ℕ) → k < 3 → f k ≡ g k
-by_three f g a b c zero h = a
-by_three f g a b c (suc zero) h = b
-by_three f g a b c (suc (suc zero)) h = c
-by_three f g a b c (suc (suc (suc k))) h = absurd (omega arith)
+by_three f g h1 h2 h3 k h4 = grind (arith, nat_tests)
 
 by_four : (f g : ℕ → ℕ) → f 0 ≡ g 0 → f 1 ≡ g 1 → f 2 ≡ g 2 → f 3 ≡ g 3 → (k : ℕ) → k < 4 → f k ≡ g k
-by_four f g a b c d zero h = a
-by_four f g a b c d (suc zero) h = b
-by_four f g a b c d (suc (suc zero)) h = c
-by_four f g a b c d (suc (suc (suc zero))) h = d
-by_four f g a b c d (suc (suc (suc (suc k)))) h = absurd (omega arith)
+by_four f g h1 h2 h3 h4 k h5 = grind (arith, nat_tests)
 
 pub line-none : (width : ℕ) (lines : List (List ℕ)) → AreLong width lines
     → concat lines ≡ line_bytes converts.None width lines

@@ -9,6 +9,7 @@ use Rattle.std.proofs.lemmas.Bool.{cases_lt}
 use Rattle.std.specs.List.{range_with_len}
 use Rattle.jpeg_pixels.specs.Scaled.{sample_at}
 use Rattle.jpeg_pixels.specs.Planes.{plane_of, plane_sample, strip_of, zero_coefficients}
+use Rattle.std.proofs.lemmas.Grind.{common_steps}
 
 abbrev area : ℕ → ℕ → ℕ → ℕ
 area s wide high = s * wide * (s * high)
@@ -126,12 +127,7 @@ plane-more s table wide high block_at =
 pub plane-joined : (s : ℕ) (table : List ℕ) (wide high more : ℕ) (block_at : ℕ → ℕ → List ℤ) →
     plane_of s table wide (high + more) block_at
     ≡ plane_of s table wide high block_at ++ plane_of s table wide more (λ row column. block_at (high + row) column)
-plane-joined s table wide high zero block_at =
-    let none : high + 0 ≡ high = omega arith in
-    let above = plane_of s table wide high block_at in
-    ap (λ n. plane_of s table wide n block_at) none
-    ∙ sym (append-nil above)
-    ∙ ap (λ (l : List ℕ). above ++ l) (sym (plane-none s table wide (λ row column. block_at (high + row) column)))
+plane-joined s table wide high zero block_at = grind (arith, common_steps, append-nil, plane-none)
 plane-joined s table wide high (suc more) block_at =
     let below : ℕ → ℕ → List ℤ = λ row column. block_at (high + row) column in
     let above = plane_of s table wide high block_at in

@@ -1,17 +1,15 @@
 -- Lanes of signed numbers, as they are computed, chosen and read.
 use Rattle.std.proofs.Common.{◌≡◌, ℕ, ◌+◌, ◌-◌, ◌*◌, ◌%◌, ◌/◌, ◌^◌, ◌<◌, ◌≤◌, List, map, length, get_or, ℤ, pos}
-use Rattle.std.proofs.Common.{negsuc, ◌+ℤ◌, ◌-ℤ◌, ◌*ℤ◌, ◌≤ℤ◌, ◌<ℤ◌, refl, sym, ap, ◌∙◌, replicate, FitsSigned}
-use Rattle.std.proofs.Common.{of_z, to_z, arith, [], ◌∷◌, T}
-use Rattle.std.proofs.Common.{Bool, true, false, not, cond, unsigned_abs, nat_eq, lit<, min, max, zero, suc, subst}
-use Rattle.std.proofs.lemmas.Simd.{zip2_of_maps, splat_is_map, map-map, tops_compared, bit_mask_l, mask_l-mod}
-use Rattle.std.proofs.lemmas.List.FromFn.{length-range_with_len, length-map-range_with_len, get_or-map-range_with_len}
-use Rattle.std.proofs.lemmas.Int.{ints, to_z-of_z, of_z-to_z, SFits-int_wrap, int_wrap_fits, wrapping_add_is, by_lt_z}
-use Rattle.std.proofs.lemmas.Int.{fits_signed_from_abs, unsigned_abs-mul, wrapping_sub_is, wrapping_mul_is}
-use Rattle.std.proofs.lemmas.Bool.{cases_lt, eqb-true}
-use Rattle.std.proofs.Math.Logic.{⊎_elim}
-use Rattle.std.proofs.Math.Nat.{mod-lt, mul-le-mul_left, mul-le-mul_right, div-mul-le_self, div-le_self}
+use Rattle.std.proofs.Common.{negsuc, ◌+ℤ◌, ◌-ℤ◌, ◌*ℤ◌, ◌≤ℤ◌, ◌<ℤ◌, refl, ◌∙◌, replicate, FitsSigned}
+use Rattle.std.proofs.Common.{of_z, to_z, arith}
+use Rattle.std.proofs.Common.{Bool, true, false, not, cond, unsigned_abs, nat_eq, min, max, subst}
+use Rattle.std.proofs.lemmas.Simd.{zip2_of_maps, splat_is_map, map-map, tops_compared}
+use Rattle.std.proofs.lemmas.List.FromFn.{length-range_with_len}
+use Rattle.std.proofs.lemmas.Int.{ints, to_z-of_z, int_wrap_fits, wrapping_add_is, by_lt_z}
+use Rattle.std.proofs.lemmas.Int.{wrapping_sub_is, wrapping_mul_is}
+use Rattle.std.proofs.Math.Nat.{div-le_self}
 use Rattle.std.specs.Int.{Width, w16, w32, int_wrap}
-use Rattle.std.specs.Int.Signed.{lt_z, lt_z_yes, lt_z_no, le_z, le_z_yes}
+use Rattle.std.specs.Int.Signed.{lt_z, le_z}
 use Rattle.std.specs.List.{range_with_len}
 use lib.Lanes.{zip2, sel_l, top, chunk, Each1, mask_l}
 use mir.Val.{bits, hbits}
@@ -19,8 +17,11 @@ use borrow.Rule.Slice.PartMut.{mid_of}
 use Rattle.jpeg_pixels.specs.Lanes.{lanes, lane}
 use Rattle.jpeg_pixels.specs.ShortRows.{IsLimit}
 use Rattle.jpeg_pixels.proofs.LaneChoice.{sel_of_maps}
-use Rattle.jpeg_pixels.proofs.LaneRows.{own_lanes, eight_cases, kept_lanes}
+use Rattle.jpeg_pixels.proofs.LaneRows.{own_lanes, kept_lanes}
 use Rattle.jpeg_pixels.proofs.LaneSums.{loaded, kept_shorts, lane-lanes}
+use Rattle.std.proofs.lemmas.Grind.{common_steps}
+use Rattle.std.proofs.Common.{rules}
+use Rattle.std.proofs.lemmas.Bool.Decides.{nat_tests}
 
 -- in each of eight lanes stand the bits of a number of this width
 pub record IsSigned (w : Width) (v : List ℕ) (f : ℕ → ℤ) : Type 0 where
@@ -31,35 +32,22 @@ pub record IsSigned (w : Width) (v : List ℕ) (f : ℕ → ℤ) : Type 0 where
 pub signed_given : (w : Width) (v : List ℤ) → length v ≡ 8 → ((j : ℕ) → FitsSigned w (lane v j))
     → IsSigned w (map (of_z w) v) (lane v)
 unfolding lanes
-signed_given w v e fits = record {
-  is = ap (map (of_z w)) (own_lanes v e) ∙ map-map (of_z w) (lane v) (range_with_len 0 8);
-  fits = fits;
-}
+signed_given w v e fits = grind (arith, common_steps, of_z, own_lanes, map-map)
 
 -- eight elements of an array, from `at` on
 pub signed_loaded : (xs : List ℤ) (at : ℕ) → length xs ≡ 64 → at + 8 ≤ 64
     → ((j : ℕ) → FitsSigned w16 (get_or xs j (pos 0)))
     → IsSigned w16 (map (of_z w16) (chunk 0 8 (mid_of at (64 - at) xs))) (λ j. get_or xs (at + j) (pos 0))
-signed_loaded xs at e h fits = record {
-  is = ap (map (of_z w16)) (loaded xs at (pos 0) e h)
-      ∙ map-map (of_z w16) (λ j. get_or xs (at + j) (pos 0)) (range_with_len 0 8);
-  fits = λ j. fits (at + j);
-}
+signed_loaded xs at e h fits = grind (arith, common_steps, of_z, loaded, map-map)
 
 -- a splat
 pub signed_splat : (w : Width) (n : ℕ) (z : ℤ) → n ≡ of_z w z → FitsSigned w z → IsSigned w (replicate 8 n) (λ _. z)
-signed_splat w n z e f = record {
-  is = splat_is_map (range_with_len 0 8) 8 n (length-range_with_len 0 8)
-      ∙ ap (λ (m : ℕ). map (λ _. m) (range_with_len 0 8)) e;
-  fits = λ _. f;
-}
+signed_splat w n z e f = grind (arith, common_steps, splat_is_map, length-range_with_len)
 
 -- a vector read from its bits
 pub signed_read : {w : Width} {v : List ℕ} {f : ℕ → ℤ} → IsSigned w v f → map (to_z w) v ≡ lanes f
 unfolding lanes
-signed_read {w} {v} {f} s =
-    ap (map (to_z w)) s.is ∙ map-map (to_z w) (λ j. of_z w (f j)) (range_with_len 0 8)
-    ∙ (λ i. map (λ j. to_z-of_z w (f j) (s.fits j) i) (range_with_len 0 8))
+signed_read {w} {v} {f} s = grind (arith, common_steps, to_z-of_z)
 
 -- a choice in each lane, by which of two numbers is less
 pub signed_chosen : {w : Width} {a b x y : List ℕ} {f g p q : ℕ → ℤ} → IsSigned w a f → IsSigned w b g
@@ -93,16 +81,7 @@ wrapped_each : {v u : List ℕ} {f g : ℕ → ℤ} (op : ℕ → ℕ → ℕ) (
     → to_z w16 (op (of_z w16 a) (of_z w16 b) % 65536) ≡ int_wrap w16 (z a b))
     → IsSigned w16 v f → IsSigned w16 u g
     → IsSigned w16 (zip2 (λ a b. op a b % 65536) v u) (λ j. int_wrap w16 (z (f j) (g j)))
-wrapped_each {v} {u} {f} {g} op z law a b = record {
-  is = zip2_of_maps (λ a b. op a b % 65536) (λ j. of_z w16 (f j)) (λ j. of_z w16 (g j)) (range_with_len 0 8) a.is b.is
-      ∙ (λ i. map (λ j. bits_are (f j) (g j) (a.fits j) (b.fits j) i) (range_with_len 0 8));
-  fits = λ j. SFits-int_wrap w16 (z (f j) (g j));
-}
-  where
-    bits_are : (m n : ℤ) → FitsSigned w16 m → FitsSigned w16 n
-        → op (of_z w16 m) (of_z w16 n) % 65536 ≡ of_z w16 (int_wrap w16 (z m n))
-    bits_are m n fm fn = sym (of_z-to_z w16 (op (of_z w16 m) (of_z w16 n) % 65536) (mod-lt _ (lit< tt)))
-        ∙ ap (of_z w16) (law m n fm fn)
+wrapped_each {v} {u} {f} {g} op z law a b = grind (arith, common_steps)
 
 pub signed_add : {v u : List ℕ} {f g : ℕ → ℤ} → IsSigned w16 v f → IsSigned w16 u g
     → IsSigned w16 (zip2 (λ a b. (a + b) % 65536) v u) (λ j. int_wrap w16 (f j +ℤ g j))
@@ -119,29 +98,16 @@ signed_mul = wrapped_each (λ a b. a * b) (λ a b. a *ℤ b) (wrapping_mul_is w1
 -- what is asked of each lane's bits
 pub each_signed : {w : Width} {v : List ℕ} {f : ℕ → ℤ} → IsSigned w v f → (P : ℕ → Type 0)
     → ((j : ℕ) → P (of_z w (f j))) → Each1 P v
-each_signed {w} {v} {f} s P h = subst (Each1 P) (sym s.is) (go (range_with_len 0 8))
-  where
-    go : (places : List ℕ) → Each1 P (map (λ j. of_z w (f j)) places)
-    go [] = tt
-    go (j ∷ places) = (h j, go places)
+each_signed {w} {v} {f} s P h = grind (arith, common_steps, of_z)
 
 -- lanes of `i32`, as lanes of `i16`
 pub signed_cast : {v : List ℕ} {f : ℕ → ℤ} → IsSigned w32 v f → ((j : ℕ) → FitsSigned w16 (f j))
     → IsSigned w16 (map (λ a. of_z w16 (to_z w32 a)) v) f
-signed_cast {v} {f} s narrow = record {
-  is = ap (map (λ a. of_z w16 (to_z w32 a))) s.is
-      ∙ map-map (λ a. of_z w16 (to_z w32 a)) (λ j. of_z w32 (f j)) (range_with_len 0 8)
-      ∙ (λ i. map (λ j. of_z w16 (to_z-of_z w32 (f j) (s.fits j) i)) (range_with_len 0 8));
-  fits = narrow;
-}
+signed_cast {v} {f} s narrow = grind (arith, common_steps, to_z-of_z)
 
 -- what holds of a choice by which of two numbers is less
 pub choice : (P : ℤ → Type 0) (a b p q : ℤ) → (a <ℤ b → P p) → (b ≤ℤ a → P q) → P (cond (lt_z a b) p q)
-choice P a b p q less not_less = go (lt_z a b) refl
-  where
-    go : (t : Bool) → lt_z a b ≡ t → P (cond t p q)
-    go true e = less (lt_z_yes (subst T (sym e) tt))
-    go false e = not_less (lt_z_no (subst (λ (t : Bool). T (not t)) (sym e) tt))
+choice P a b p q less not_less = grind (arith, common_steps, cond, not)
 
 -- the number of 16 bits that is nearest, as two choices find it
 abbrev pub held : ℤ → ℤ
@@ -149,14 +115,10 @@ held z = cond (lt_z (cond (lt_z z (negsuc 32767)) (negsuc 32767) z) (pos 32767))
     (cond (lt_z z (negsuc 32767)) (negsuc 32767) z) (pos 32767)
 
 pub held_fits : (z : ℤ) → FitsSigned w16 (held z)
-held_fits z = choice (λ m. FitsSigned w16 (cond (lt_z m (pos 32767)) m (pos 32767))) z (negsuc 32767) (negsuc 32767) z
-    (λ l. omega (arith, ints)) (λ l. choice (FitsSigned w16) z (pos 32767) z (pos 32767)
-    (λ h. omega (arith, ints)) (λ h. omega (arith, ints)))
+held_fits z = grind (arith, common_steps, choice, cond)
 
 pub held_same : (z : ℤ) → FitsSigned w16 z → held z ≡ z
-held_same z f = choice (λ m. cond (lt_z m (pos 32767)) m (pos 32767) ≡ z) z (negsuc 32767) (negsuc 32767) z
-    (λ l. absurd (omega (arith, ints))) (λ l. choice (λ m. m ≡ z) z (pos 32767) z (pos 32767)
-    (λ h. refl) (λ h. omega (arith, ints)))
+held_same z f = grind (arith, common_steps, choice, cond)
 
 -- where the less of two numbers isn't negative, neither is
 pub both_above : (x y : ℤ) → pos 0 ≤ℤ cond (lt_z x y) x y → (pos 0 ≤ℤ x) × (pos 0 ≤ℤ y)
@@ -166,52 +128,12 @@ both_above x y = choice (λ m. pos 0 ≤ℤ m → (pos 0 ≤ℤ x) × (pos 0 ≤
 -- a number whose distances from the limit and from its negative aren't negative
 pub within_limit : (limit z : ℤ) → IsLimit limit → FitsSigned w16 z
     → pos 0 ≤ℤ int_wrap w16 (limit -ℤ z) → pos 0 ≤ℤ int_wrap w16 (limit +ℤ z) → pos (unsigned_abs z) ≤ℤ limit
-within_limit (pos n) z small f below above = by_lt_z (pos n) z
-    (λ over. absurd (past (pos n -ℤ z) (omega (arith, ints)) (omega (arith, ints)) below))
-    (λ not_over. by_lt_z (pos n +ℤ z) (pos 0)
-    (λ under. absurd (past (pos n +ℤ z) (omega (arith, ints)) (omega (arith, ints)) above))
-    (λ not_under. omega (arith, ints)))
-  where
-    past : (y : ℤ) → FitsSigned w16 y → y <ℤ pos 0 → pos 0 ≤ℤ int_wrap w16 y → ⊥
-    past y fits negative h =
-        let same : pos 0 ≤ℤ y = subst (λ m. pos 0 ≤ℤ m) (int_wrap_fits w16 y fits) h in omega (arith, ints)
-within_limit (negsuc n) z small f below above = absurd small
+within_limit limit z h1 h2 h3 h4 = grind (arith, nat_tests, by_lt_z, int_wrap_fits)
 
 -- a product with a value of a table is exact
 pub product_exact : (z : ℤ) (q : ℕ) → unsigned_abs z ≤ 1095 / max q 1
     → int_wrap w16 (z *ℤ pos (min q 1095)) ≡ z *ℤ pos q
-product_exact z q h = ⊎_elim large small (cases_lt 1095 q)
-  where
-    m : ℕ
-    m = max q 1
-
-    bounded : unsigned_abs z * m ≤ 1095
-    bounded =
-        let first = mul-le-mul_right m h in
-        let second = div-mul-le_self 1095 m in
-        omega arith
-
-    none : (y : ℤ) (k : ℕ) → unsigned_abs y * k ≤ 1095 → 1095 < k → y ≡ pos 0
-    none (pos zero) k b l = refl
-    none (pos (suc n)) k b l =
-        let some : 1 * k ≤ suc n * k = mul-le-mul_right k (omega arith) in absurd (omega arith)
-    none (negsuc n) k b l =
-        let some : 1 * k ≤ suc n * k = mul-le-mul_right k (omega arith) in absurd (omega arith)
-
-    large : 1095 < q → int_wrap w16 (z *ℤ pos (min q 1095)) ≡ z *ℤ pos q
-    large l =
-        let nothing : z ≡ pos 0 = none z m bounded (omega arith) in
-        ap (λ y. int_wrap w16 (y *ℤ pos (min q 1095))) nothing
-        ∙ ap (int_wrap w16) (omega (arith, ints)) ∙ int_wrap_fits w16 (pos 0) (record { sfits = lit< tt })
-        ∙ (omega (arith, ints)) ∙ ap (λ y. y *ℤ pos q) (sym nothing)
-
-    small : q ≤ 1095 → int_wrap w16 (z *ℤ pos (min q 1095)) ≡ z *ℤ pos q
-    small l =
-        let same : min q 1095 ≡ q = omega arith in
-        let less : unsigned_abs z * q ≤ unsigned_abs z * m = mul-le-mul_left (unsigned_abs z) (omega arith) in
-        let fits : FitsSigned w16 (z *ℤ pos q) =
-        fits_signed_from_abs w16 (z *ℤ pos q) (omega (arith, unsigned_abs-mul z (pos q), bounded)) in
-        ap (λ n. int_wrap w16 (z *ℤ pos n)) same ∙ int_wrap_fits w16 (z *ℤ pos q) fits
+product_exact z q h = grind (arith, common_steps)
 
 -- a vector whose lanes are clamped to 16 bits
 pub clamped_lanes : (row : List ℤ) → length row ≡ 8 → ((j : ℕ) → FitsSigned w32 (lane row j))
@@ -222,47 +144,13 @@ pub clamped_lanes : (row : List ℤ) → length row ≡ 8 → ((j : ℕ) → Fit
     (sel_l (map (top 31) (zip2 (λ m n. cond (lt_z (to_z w32 m) (to_z w32 n)) 4294967295 0)
     (map (of_z w32) row) (replicate 8 4294934528))) (replicate 8 4294934528) (map (of_z w32) row))
     (replicate 8 32767)) (λ j. held (lane row j))
-clamped_lanes row long fits =
-    let given = signed_given w32 row long fits in
-    let low = signed_splat w32 4294934528 (negsuc 32767) refl (record { sfits = lit< tt }) in
-    let high = signed_splat w32 32767 (pos 32767) refl (record { sfits = lit< tt }) in
-    let raised = signed_chosen given low low given in
-    signed_chosen raised high raised high
-
--- where the mask of eight lanes is full, each passes
-pub mask_full : (ms : List Bool) → length ms ≡ 8 → nat_eq (mask_l ms % 18446744073709551616) 255 ≡ true → (j : ℕ)
-    → j < 8 → get_or ms j false ≡ true
-mask_full ms e full j h =
-    eight_cases (λ k. get_or ms k false ≡ true) (bit 0 refl) (bit 1 refl) (bit 2 refl) (bit 3 refl)
-    (bit 4 refl) (bit 5 refl) (bit 6 refl) (bit 7 refl) j h
-  where
-    is_true : (t : Bool) → ◌≡◌ {A = ℕ} (cond t 1 0) 1 → t ≡ true
-    is_true true k = refl
-    is_true false k = absurd (omega (arith, k))
-
-    mask_is : mask_l ms ≡ 255
-    mask_is = sym (mask_l-mod ms 64 (omega (arith, e))) ∙ eqb-true _ _ full
-
-    bit : (k : ℕ) → ◌≡◌ {A = ℕ} (255 / 2 ^ k % 2) 1 → get_or ms k false ≡ true
-    bit k is = is_true (get_or ms k false) (sym (bit_mask_l ms k) ∙ ap (λ (n : ℕ). n / 2 ^ k % 2) mask_is ∙ is)
+clamped_lanes row long fits = search (rules, signed_given, signed_splat, signed_chosen)
 
 -- where `simd_ge(0)` holds in each lane
 pub all_at_least : {v : List ℕ} {f : ℕ → ℤ} → IsSigned w16 v f
     → nat_eq (mask_l (map (top 15) (zip2 (λ m n. cond (le_z (to_z w16 m) (to_z w16 n)) 65535 0) (replicate 8 0) v))
     % 18446744073709551616) 255 ≡ true → (j : ℕ) → j < 8 → pos 0 ≤ℤ f j
-all_at_least {v} {f} s full j h =
-    let places = range_with_len 0 8 in
-    let zeros = signed_splat w16 0 (pos 0) refl (record { sfits = lit< tt }) in
-    let test : ℕ → ℕ → Bool = λ m n. le_z (to_z w16 m) (to_z w16 n) in
-    let passes : ℕ → Bool = λ k. le_z (pos 0) (f k) in
-    let mask : map (top 15) (zip2 (λ m n. cond (test m n) 65535 0) (replicate 8 0) v) ≡ map passes places =
-    tops_compared w16 test (replicate 8 0) v
-    ∙ zip2_of_maps test (λ _. of_z w16 (pos 0)) (λ k. of_z w16 (f k)) places zeros.is s.is
-    ∙ (λ i. map (λ k. le_z (pos 0) (to_z-of_z w16 (f k) (s.fits k) i)) places) in
-    let passed = sym (get_or-map-range_with_len passes 0 8 j j false h (omega arith))
-    ∙ mask_full (map passes places) (length-map-range_with_len passes 0 8)
-    (ap (λ (ms : List Bool). nat_eq (mask_l ms % 18446744073709551616) 255) (sym mask) ∙ full) j h in
-    le_z_yes (subst T (sym passed) tt)
+all_at_least {v} {f} s full j h = search rules
 
 -- a row of a narrowed matrix
 pub narrowed_row : (row result : List ℤ) (f : ℕ → ℤ) → length row ≡ 8 → length result ≡ 8
@@ -272,11 +160,7 @@ pub narrowed_row : (row result : List ℤ) (f : ℕ → ℤ) → length row ≡ 
     → result ≡ map (to_z w32) (map (of_z w32) row))
     → map (to_z w16) (map (of_z w16) result) ≡ lanes f
 narrowed_row row result f long eight wide narrow fits is told =
-    let kept = kept_lanes row long wide in
-    kept_shorts result eight narrow
-    ∙ told (λ j h. subst (FitsSigned w16) (sym (ap (λ (l : List ℤ). lane l j) kept ∙ lane-lanes row f is j h))
-    (fits j h))
-    ∙ kept ∙ is
+    grind (arith, common_steps, kept_lanes, kept_shorts, lane-lanes)
 
 -- eight rows of eight make 64
 pub row_by_row : (P : ℕ → Type 0) → ((row j : ℕ) → row < 8 → j < 8 → P (row * 8 + j)) → (k : ℕ) → k < 64 → P k
@@ -287,6 +171,4 @@ row_by_row P each k h =
 -- the test of a coefficient, where its limit is one of a table
 pub limit_told : (z limit : ℤ) (q : ℕ) → limit ≡ pos (1095 / max q 1)
     → (IsLimit limit → pos (unsigned_abs z) ≤ℤ limit) → unsigned_abs z ≤ 1095 / max q 1
-limit_told z limit q e told =
-    let below = subst (λ l. IsLimit l → pos (unsigned_abs z) ≤ℤ l) e told (div-le_self 1095 (max q 1)) in
-    omega (arith, ints)
+limit_told z limit q e told = grind (arith, common_steps, unsigned_abs, div-le_self)

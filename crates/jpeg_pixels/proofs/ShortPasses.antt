@@ -6,7 +6,7 @@ use Rattle.std.proofs.lemmas.Simd.{zip2_of_maps, splat_is_map, map-map}
 use Rattle.std.proofs.lemmas.List.FromFn.{length-range_with_len}
 use Rattle.std.proofs.lemmas.Int.{ints, to_z-of_z, SFits-int_wrap, int_wrap_fits, unsigned_abs-mul}
 use Rattle.std.proofs.lemmas.Int.{fits_signed_from_abs}
-use Rattle.std.proofs.Math.Nat.{mul-le-mul_left, mul-le-mul_right, div-mul-le_self}
+use Rattle.std.proofs.Math.Nat.{mul-le-mul_left}
 use Rattle.std.specs.Int.{w16, w32, int_shr, int_wrap}
 use Rattle.std.specs.List.{range_with_len}
 use lib.Lanes.{zip2}
@@ -21,6 +21,7 @@ use Rattle.jpeg_pixels.proofs.LaneSums.{lane-lanes, lanes_same}
 use Rattle.jpeg_pixels.proofs.Residues.{shifted_back}
 use Rattle.jpeg_pixels.proofs.Sums.{transformed_same}
 use Rattle.jpeg_pixels.proofs.ZeroCases.{zero_column}
+use Rattle.std.proofs.lemmas.Grind.{common_steps}
 
 -- ---- rows and columns exchanged
 
@@ -41,16 +42,7 @@ column_is rows f e k h = search (rules, lane-lanes)
 
 pub turned_shorts : (rows turned : Shorts) (f : ℕ → ℕ → ℤ) → AreTurned rows turned → HasShorts rows f
     → HasShorts turned (λ k j. f j k)
-turned_shorts rows turned f t e = record {
-  r0 = t.r0 ∙ column_is rows f e 0 (lit< tt);
-  r1 = t.r1 ∙ column_is rows f e 1 (lit< tt);
-  r2 = t.r2 ∙ column_is rows f e 2 (lit< tt);
-  r3 = t.r3 ∙ column_is rows f e 3 (lit< tt);
-  r4 = t.r4 ∙ column_is rows f e 4 (lit< tt);
-  r5 = t.r5 ∙ column_is rows f e 5 (lit< tt);
-  r6 = t.r6 ∙ column_is rows f e 6 (lit< tt);
-  r7 = t.r7 ∙ column_is rows f e 7 (lit< tt);
-}
+turned_shorts rows turned f t e = grind (arith, common_steps, column_is, lit<)
 
 short_lane_is : (rows : Shorts) (f : ℕ → ℕ → ℤ) → HasShorts rows f → (k j : ℕ) → k < 8 → j < 8
     → short_lane_at rows k j ≡ f k j
@@ -59,12 +51,7 @@ short_lane_is rows f e k j hk hj = search (rules, eight_cases, lane-lanes)
 -- rows whose last four have only zeros
 pub zero_shorts : (rows : Shorts) (f : ℕ → ℕ → ℤ) → HasShorts rows f
     → ((k j : ℕ) → 4 ≤ k → k < 8 → j < 8 → f k j ≡ pos 0) → HasShortZeros rows
-zero_shorts rows f e none = record {
-  r4 = e.r4 ∙ lanes_same (f 4) (λ _. pos 0) (λ j h. none 4 j (omega arith) (omega arith) h);
-  r5 = e.r5 ∙ lanes_same (f 5) (λ _. pos 0) (λ j h. none 5 j (omega arith) (omega arith) h);
-  r6 = e.r6 ∙ lanes_same (f 6) (λ _. pos 0) (λ j h. none 6 j (omega arith) (omega arith) h);
-  r7 = e.r7 ∙ lanes_same (f 7) (λ _. pos 0) (λ j h. none 7 j (omega arith) (omega arith) h);
-}
+zero_shorts rows f e none = grind (arith, common_steps, lanes_same)
 
 -- ---- sums that are shifted
 
@@ -85,11 +72,7 @@ shifted_lanes v s g e =
 -- ---- the columns
 
 small_product : (z : ℤ) (q : ℕ) → unsigned_abs z ≤ 1095 / max q 1 → unsigned_abs (z *ℤ pos q) ≤ 1095
-small_product z q h =
-    let first = mul-le-mul_right (max q 1) h in
-    let second = div-mul-le_self 1095 (max q 1) in
-    let less : unsigned_abs z * q ≤ unsigned_abs z * max q 1 = mul-le-mul_left (unsigned_abs z) (omega arith) in
-    omega (arith, unsigned_abs-mul z (pos q))
+small_product z q h = grind (arith, common_steps)
 
 pub small_input : (coefficients : List ℤ) (quantization : List ℕ) → IsWithin coefficients quantization
     → (row column : ℕ) → row < 8 → column < 8 → unsigned_abs (dequantized coefficients quantization row column) ≤ 1095

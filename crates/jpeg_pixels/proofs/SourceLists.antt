@@ -4,9 +4,9 @@ use Rattle.std.proofs.Common.{arith, append_assoc, Result, Ok, Err, rules}
 use Rattle.std.proofs.lemmas.List.{append-nil}
 use Rattle.jpeg_bits.specs.Reading.{Fault, Names, ◌>>=◌}
 use Rattle.jpeg_bits.specs.declared.error.Error.{Error}
-use Rattle.jpeg_segments.specs.Frame.{Component, Factors, greatest}
+use Rattle.jpeg_segments.specs.Frame.{Component, Factors, greatest, HasSampling, AllHaveSampling}
 use Rattle.jpeg_pixels.specs.Pictures.{Source, source_of, sources_by}
-use Rattle.jpeg_segments.specs.Frame.{HasSampling, AllHaveSampling}
+use Rattle.std.proofs.lemmas.Grind.{common_steps}
 
 -- the greatest factor is at least 1
 greatest-some : (f : Factors → ℕ) (cs : List Factors) → 1 ≤ greatest f cs
@@ -46,17 +46,8 @@ pub sources-more : (most_h most_v width height : ℕ) (before : List Source) (c 
     → Continues before (sources_by most_h most_v width height (c ∷ more)) all
     → Continues (before ++ (s ∷ [])) (sources_by most_h most_v width height more) all
 unfolding after sources_by
-sources-more most_h most_v width height before c more s all is so_far = record {
-  same = so_far.same
-      ∙ ap (λ (o : Result Source Fault). after before (o >>= (λ t. sources_by most_h most_v width height more
-      >>= (λ others. Ok (t ∷ others))))) is
-      ∙ moved (sources_by most_h most_v width height more);
-}
-  where
-    moved : (rest : Result (List Source) Fault) → after before (rest >>= (λ others. Ok (s ∷ others)))
-        ≡ after (before ++ (s ∷ [])) rest
-    moved (Ok others) = ap as_all (sym (append_assoc before (s ∷ []) others))
-    moved (Err e) = refl
+sources-more most_h most_v width height before c more s all is so_far =
+    grind (arith, common_steps, after, append_assoc)
 
 pub sources-end : (most_h most_v width height : ℕ) (before : List Source) (all : Result (List Source) Fault)
     → Continues before (sources_by most_h most_v width height []) all → all ≡ Ok before

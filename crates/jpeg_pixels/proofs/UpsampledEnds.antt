@@ -1,7 +1,6 @@
 -- Samples at the ends of a component.
 use Rattle.std.proofs.lemmas.Grind.{common_steps}
-use Rattle.std.proofs.Common.{rules}
-use Rattle.std.proofs.Common.{◌≡◌, ℕ, ◌+◌, ◌-◌, ◌*◌, ◌/◌, ◌%◌, ◌<◌, ◌≤◌, arith, ap, ◌∙◌, inl, inr}
+use Rattle.std.proofs.Common.{rules, ◌≡◌, ℕ, ◌+◌, ◌-◌, ◌*◌, ◌/◌, ◌<◌, ◌≤◌, arith, ap, ◌∙◌}
 use Rattle.std.proofs.lemmas.Bool.{cases_eq}
 use Rattle.std.proofs.lemmas.Nat.{div-mul-add}
 use Rattle.jpeg_pixels.specs.Upsampling.{across, down, blended, far_place, line_sum, upsampled}
@@ -28,10 +27,7 @@ far_last count some = far_odd count (2 * count - 1) (omega arith) ∙ omega arit
 
 -- of one place
 far_alone : (x : ℕ) → x < 2 → far_place 1 x ≡ 0
-far_alone x h = elim (cases_eq (x % 2) 0) [
-  | inl e ↦ far_even 1 x e ∙ omega arith
-  | inr ne ↦ far_odd 1 x (omega arith) ∙ omega arith
-]
+far_alone x h = grind (arith, common_steps, cases_eq, far_even, far_odd)
 
 pub first_across : (plane : ℕ → ℕ → ℕ) (width height row : ℕ) → upsampled H2V1 plane width height 0 row ≡ plane 0 row
 unfolding upsampled
@@ -97,16 +93,8 @@ pub alone : (rule : UpsampleRule) (plane : ℕ → ℕ → ℕ) (x row : ℕ) �
     → upsampled rule plane 1 1 x row ≡ plane 0 0
 unfolding upsampled
 alone H1V1 plane x row hx hr = let a : x ≡ 0 = omega arith in let b : row ≡ 0 = omega arith in λ i. plane (a i) (b i)
-alone H2V1 plane x row hx hr =
-    let a : x / 2 ≡ 0 = omega arith in
-    let b : row ≡ 0 = omega arith in
-    let f = far_alone x hx in
-    (λ i. blended (plane (a i) (b i)) (plane (f i) (b i))) ∙ alike (plane 0 0)
-alone H1V2 plane x row hx hr =
-    let a : x ≡ 0 = omega arith in
-    let b : row / 2 ≡ 0 = omega arith in
-    let f = far_alone row hr in
-    (λ i. blended (plane (a i) (b i)) (plane (a i) (f i))) ∙ alike (plane 0 0)
+alone H2V1 plane x row hx hr = grind (arith, common_steps, far_alone, alike)
+alone H1V2 plane x row hx hr = grind (arith, common_steps, far_alone, alike)
 alone H2V2 plane x row hx hr = at_places plane 1 1 x row 0 0 0 0 (omega arith) (far_alone x hx) (omega arith)
     (far_alone row hr) ∙ alike_twice (plane 0 0)
 alone (Generic h v) plane x row hx hr =

@@ -1,11 +1,11 @@
 -- Rows of samples made wider, place by place.
 use Rattle.std.proofs.Common.{◌≡◌, ℕ, ◌+◌, ◌-◌, ◌*◌, ◌/◌, ◌%◌, ◌<◌, ◌≤◌, List, length, get_or, set, get_or-set_other}
-use Rattle.std.proofs.Common.{get_or-set_same, length-set, ◌≢◌, arith, ap, subst, ◌∙◌, cond, min, inl, inr, take}
+use Rattle.std.proofs.Common.{get_or-set_same, length-set, ◌≢◌, arith, ap, subst, cond, min, take}
 use Rattle.std.proofs.Common.{drop, ◌++◌, length-take, rules}
 use Rattle.std.specs.Prelude.{◌==◌}
 use Rattle.std.specs.Int.{div_ceil}
 use Rattle.std.proofs.lemmas.Bool.{cases_eq}
-use Rattle.std.proofs.Math.Nat.{mul_comm, mul-add, mul-le-mul_right, div-lt_iff_lt-mul, lt_of_mul-lt-mul_left}
+use Rattle.std.proofs.Math.Nat.{mul_comm, mul-le-mul_right, div-lt_iff_lt-mul}
 use Rattle.std.proofs.lemmas.List.{get_or_append_left}
 use Rattle.std.proofs.lemmas.Nat.{mod-mul-add}
 use Rattle.std.proofs.lemmas.Grind.{div_ceil_times, common_steps}
@@ -21,10 +21,7 @@ far_odd count x e = ap (λ r. cond (r == 0) (x / 2 - 1) (min (x / 2 + 1) (count 
 
 -- the farther place is a place
 pub far_below : (count x : ℕ) → x / 2 < count → far_place count x < count
-far_below count x h = elim (cases_eq (x % 2) 0) [
-  | inl e ↦ omega (arith, far_even count x e)
-  | inr ne ↦ omega (arith, far_odd count x (omega arith))
-]
+far_below count x h = grind (arith, common_steps, cases_eq, far_even, far_odd)
 
 -- the front of a row, once it is written
 pub in_front : (n : ℕ) (new old : List ℕ) (x : ℕ) → length new ≡ length (take n old) → n ≤ length old → x < n
@@ -80,12 +77,7 @@ used_enough output h used some is = search (rules, div_ceil_times, mul_comm)
 
 -- and a line has these samples
 used_within : (output h used width : ℕ) → 0 < h → used ≡ div_ceil output h → output ≤ h * width → used ≤ width
-used_within output h used width some is wide =
-    let high : div_ceil output h * h < output + h = (div_ceil_times output h some).1 in
-    let turned : h * used ≡ div_ceil output h * h = ap (λ n. h * n) is ∙ mul_comm h (div_ceil output h) in
-    let more : h * (width + 1) ≡ h * width + h * 1 = mul-add h width 1 in
-    let below : used < width + 1 = lt_of_mul-lt-mul_left h (omega (arith, high, turned, more, wide)) in
-    omega arith
+used_within output h used width some is wide = grind (arith, common_steps)
 
 -- the samples that are repeated lie in the plane
 pub repeated_within : (rule : UpsampleRule) (h v output used width height stride row room : ℕ) → rule ≡ Generic h v

@@ -1,6 +1,6 @@
 -- A picture is its lines from above.
 use Rattle.std.proofs.lemmas.Grind.{common_steps}
-use Rattle.std.proofs.Common.{◌≡◌, ℕ, ◌+◌, ◌==◌, List, [], ◌∷◌, ◌++◌, length, map, sym, ap, subst}
+use Rattle.std.proofs.Common.{◌≡◌, ℕ, ◌+◌, ◌==◌, List, [], ◌∷◌, ◌++◌, length, map, ap}
 use Rattle.std.proofs.Common.{◌∙◌, refl, arith, take, length-drop, ◌-◌, Vec, Global, MatchResult, Result, Ok, Err}
 use Rattle.std.proofs.Common.{if◌then◌else◌, rules}
 use Rattle.std.specs.Prelude.{IfErr, OnOk}
@@ -10,7 +10,7 @@ use Rattle.std.proofs.Math.Seq.{take-append_seam}
 use borrow.Rule.Slice.PartMut.{put_mid}
 use Rattle.std.proofs.lemmas.List.Folds.{concat-append}
 use Rattle.std.proofs.lemmas.List.FromFn.{map-range_with_len_more}
-use Rattle.std.proofs.lemmas.Bool.Decides.{eqb_tells}
+use Rattle.std.proofs.lemmas.Bool.Decides.{eqb_tells, nat_tests}
 use Rattle.std.specs.List.{range_with_len, concat}
 use Rattle.jpeg_bits.specs.Reading.{Fault, Malformed, Names}
 use Rattle.jpeg_bits.specs.declared.error.Error.{Error}
@@ -59,15 +59,7 @@ by_count count n own convert fits is = search (rules, eqb_tells)
 pub conversion-fits : (count : ℕ) (transform : ColorTransform) (convert : ColorConvert)
     → conversion_of count transform ≡ Ok convert → IsFor count convert
 unfolding conversion_of
-conversion-fits count transforms.None convert is = let e : converts.None ≡ convert = cc in subst (IsFor count) e tt
-conversion-fits count transforms.RGB convert is = by_count count 3 converts.Rgb convert (λ e. e) is
-conversion-fits count transforms.YCbCr convert is = by_count count 3 converts.YCbCr convert (λ e. e) is
-conversion-fits count transforms.CMYK convert is = by_count count 4 converts.Cmyk convert (λ e. e) is
-conversion-fits count transforms.YCCK convert is = by_count count 4 converts.Ycck convert (λ e. e) is
-conversion-fits count transforms.Grayscale convert is = absurd (cc)
-conversion-fits count transforms.Unknown convert is = absurd (cc)
-conversion-fits count transforms.JcsBgYcc convert is = absurd (cc)
-conversion-fits count transforms.JcsBgRgb convert is = absurd (cc)
+conversion-fits count transform convert h1 = grind (arith, nat_tests, by_count)
 
 abbrev as_bytes : List ℕ → Result (List ℕ) Fault
 as_bytes l = Ok l
@@ -103,11 +95,8 @@ pub image-answer : (components : List Component) (planes : List (List ℕ)) (wid
     → MatchResult result (λ v. v.items ≡ picture_bytes convert sources planes w h) (λ e. e ≡ OutOfMemory)
     → MatchResult result (λ v. image_of components planes width height transform ≡ Ok v.items)
     (λ e. Names e (image_of components planes width height transform))
-image-answer components planes width height transform convert sources w h (Ok v) conversion is wide high same =
-    image-is components planes width height transform convert sources v.items conversion is (same
-    ∙ (λ i. picture_bytes convert sources planes (wide i) (high i)))
-image-answer components planes width height transform convert sources w h (Err e) conversion is wide high same =
-    subst (λ (d : Error). Names d (image_of components planes width height transform)) (sym same) tt
+image-answer components planes width height transform convert sources w h result h1 h2 h3 h4 h5 =
+    grind (arith, nat_tests, image-is)
 
 -- the same where it is written into memory
 pub image-written : (components : List Component) (planes : List (List ℕ)) (width height : ℕ)
@@ -118,10 +107,8 @@ pub image-written : (components : List Component) (planes : List (List ℕ)) (wi
     → IfErr result (λ e. e ≡ OutOfMemory)
     → MatchResult result (λ u. image_of components planes width height transform ≡ Ok pixels)
     (λ e. Names e (image_of components planes width height transform))
-image-written components planes width height transform convert sources pixels (Ok u) conversion is same memory =
-    image-is components planes width height transform convert sources pixels conversion is same
-image-written components planes width height transform convert sources pixels (Err e) conversion is same memory =
-    subst (λ (d : Error). Names d (image_of components planes width height transform)) (sym memory) tt
+image-written components planes width height transform convert sources pixels result h1 h2 h3 h4 =
+    grind (arith, nat_tests, image-is)
 
 pub sources-count : (components : List Component) (width height : ℕ) (sources : List Source)
     → sources_of components width height ≡ Ok sources → length sources ≡ length components

@@ -1,7 +1,7 @@
 -- Rows and columns of which all but the first number is 0.
 use Rattle.std.proofs.Common.{◌≡◌, ℕ, zero, suc, ◌<◌, List, ℤ, pos, neg_ℤ, ◌+ℤ◌, ◌*ℤ◌, ◌≤ℤ◌, ◌<ℤ◌}
-use Rattle.std.proofs.Common.{Bool, true, false, ◌&&◌, ◌==◌, unsigned_abs, rules}
-use Rattle.std.proofs.Common.{refl, sym, ap, ◌∙◌, arith, get_or}
+use Rattle.std.proofs.Common.{Bool, true, ◌&&◌, ◌==◌, unsigned_abs, rules}
+use Rattle.std.proofs.Common.{sym, ap, ◌∙◌, arith, get_or}
 use Rattle.std.proofs.Math.Logic.{⊎_elim}
 use Rattle.std.proofs.lemmas.Bool.{cases_lt, eqb-true}
 use Rattle.std.proofs.lemmas.Int.{ints, int_wrap_fits}
@@ -11,6 +11,7 @@ use Rattle.jpeg_bits.specs.Codes.{all_below}
 use Rattle.jpeg_pixels.specs.Samples.{sample, clamped}
 use Rattle.jpeg_pixels.proofs.Columns.{flat_value}
 use Rattle.jpeg_pixels.proofs.Sums.{transformed_one}
+use Rattle.std.proofs.lemmas.Bool.Decides.{nat_tests}
 
 pub zero_row : (coefficients : List ℤ) (quantization : List ℕ) (x y : ℕ) → x < 8
     → ((k : ℕ) → 0 < k → k < 8 → column_value coefficients quantization y k ≡ pos 0)
@@ -20,9 +21,7 @@ unfolding sample
 zero_row coefficients quantization x y h none = simp (transformed_one)
 
 pub both_true : (a b : Bool) → (a && b) ≡ true → (a ≡ true) × (b ≡ true)
-both_true true true e = (refl, refl)
-both_true true false e = (refl, e)
-both_true false b e = (e, cc)
+both_true a b h1 = grind (arith, nat_tests)
 
 below_true : (p : ℕ → Bool) (n k : ℕ) → all_below p n ≡ true → k < n → p k ≡ true
 below_true p zero k e h = absurd (omega arith)

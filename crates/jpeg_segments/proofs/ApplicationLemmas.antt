@@ -1,18 +1,9 @@
 -- A payload that says nothing is passed over.
-use Rattle.std.proofs.Common.{◌≡◌, ◌≢◌, ℕ, zero, suc, ◌<◌, false, List, [], ◌∷◌, refl, ap, ◌∙◌, Option, None, Result}
-use Rattle.std.proofs.Common.{Ok, Err, arith, eqb}
-use Rattle.std.proofs.lemmas.Bool.Decides.{nat_tests}
-use Rattle.jpeg_bits.specs.Stream.{Stream}
-use Rattle.jpeg_bits.specs.Reading.{Outcome, Answers, ◌>>=◌, times, skip_at, next_byte}
-use Rattle.jpeg_bits.specs.declared.error.Error.{Error}
+use Rattle.std.proofs.Common.{◌≡◌, ◌≢◌, ℕ, zero, suc, ◌<◌, List, [], ◌∷◌, refl, ap, ◌∙◌, Option, None}
+use Rattle.std.proofs.Common.{Ok, Err, arith}
+use Rattle.jpeg_bits.specs.Reading.{Outcome, ◌>>=◌, times, skip_at, next_byte}
 use Rattle.jpeg_segments.specs.Application.{Application, application_by, payload_at, passed_over}
-
--- what is read in one way is read in another, which gives the same
-pub Answers-along : {X Y : Type 0} (view : X → Y) (read other : List ℕ → Outcome Y) (old new : Stream)
-    (r : Result X Error)
-    → other old.bytes ≡ read old.bytes → Answers view read old r new → Answers view other old r new
-Answers-along view read other old new (Ok x) e p = (p.0, λ k. let at = p.1 k in (at.0, e ∙ at.1))
-Answers-along view read other old new (Err f) e p = (p.0, (λ k known. rw e (p.1 k known)), p.2)
+use Rattle.std.proofs.lemmas.Grind.{common_steps}
 
 abbrev saying : Option Application → List ℕ × List ℕ → Outcome (Option Application)
 saying said x = Ok (said, x.1)
@@ -37,12 +28,7 @@ read-skipped (suc n) said (b ∷ bytes) = after b said (times n next_byte bytes)
 
 says-none : (number : ℕ) (payload : List ℕ) → 2 < number → number ≢ 13 → application_by number payload ≡ None
 unfolding application_by
-says-none number payload h g =
-    let a : eqb number 0 ≡ false = grind (arith, nat_tests) in
-    let b : eqb number 1 ≡ false = grind (arith, nat_tests) in
-    let c : eqb number 2 ≡ false = grind (arith, nat_tests) in
-    let d : eqb number 13 ≡ false = grind (arith, nat_tests) in
-    rw (a, b, c, d) refl
+says-none number payload h g = grind (arith, common_steps)
 
 each : (number : ℕ) (o : Outcome (List ℕ)) → 2 < number → number ≢ 13
     → (o >>= by_payload number) ≡ (o >>= saying None)

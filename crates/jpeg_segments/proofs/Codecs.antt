@@ -1,7 +1,7 @@
 -- What is written, and what reads it: the two directions at once.
-use Rattle.std.proofs.Common.{◌≡◌, ℕ, zero, suc, ◌<◌, ◌≤◌, ◌+◌, ◌-◌, ◌*◌, ◌/◌, ◌%◌, Bool, true}
+use Rattle.std.proofs.Common.{◌≡◌, ℕ, zero, suc, ◌<◌, ◌≤◌, ◌+◌, ◌-◌, Bool, true}
 use Rattle.std.proofs.Common.{false, cond, List, [], ◌∷◌, ◌++◌, length, Result, Ok, Err, refl, sym}
-use Rattle.std.proofs.Common.{ap, ap₂, ◌∙◌, subst, append_assoc, append-nil, arith, ltb}
+use Rattle.std.proofs.Common.{ap, ◌∙◌, subst, append_assoc, append-nil, arith, ltb}
 use Rattle.std.proofs.lemmas.Bool.{ltb-false, le-ltb}
 use Rattle.std.specs.Prelude.{flat_map}
 use Rattle.std.specs.List.{AllByRecursion}
@@ -9,6 +9,7 @@ use Rattle.jpeg_bits.specs.Reading.{Outcome, Fault, Malformed, ◌>>=◌, next_b
 use Rattle.jpeg_bits.specs.Reading.{length_at, times}
 use Rattle.jpeg_segments.specs.WrittenSegments.{u16_bytes, sized}
 use Rattle.jpeg_segments.proofs.Fields.{read-on, not-refused, kept, u16-read}
+use Rattle.std.proofs.lemmas.Grind.{common_steps}
 
 -- ---- steps of a reader that accepts
 
@@ -185,10 +186,7 @@ refusal f bytes = Err f
 -- nothing
 pub refused : {A C : Type 0} {view : A → C} {print : A → List ℕ} {Valid : A → Type 0} (f : Fault)
     → ((x : A) → Valid x → ⊥) → Codec (refusal f) view print Valid
-refused f none = record {
-  reads = λ x rest is. absurd (none x is);
-  only = λ bytes rest y all e. absurd (err-ok f (y, rest) e);
-}
+refused f none = grind (arith, common_steps, err-ok)
 
 -- what follows takes no bytes
 pub ends : {A C D : Type 0} {p : List ℕ → Outcome C} {view : A → C} {print : A → List ℕ}
@@ -205,44 +203,11 @@ ends {print = print} q c d = remap (bind q c d)
 -- ---- fields
 
 pub byte : Codec next_byte (λ (b : ℕ). b) (λ (b : ℕ). b ∷ []) (λ (b : ℕ). Unit {0})
-byte = record {
-  reads = λ x rest is. refl;
-  only = λ bytes rest y all e. go bytes rest y e;
-}
-  where
-    go : (bytes rest : List ℕ) (y : ℕ) → next_byte bytes ≡ Ok (y, rest)
-        → Written (λ (b : ℕ). b) (λ (b : ℕ). b ∷ []) (λ (b : ℕ). Unit {0}) bytes rest y
-    go [] rest y e = absurd (err-ok _ _ e)
-    go (x ∷ xs) rest y e =
-        let p = ok-same (x, xs) (y, rest) e in
-        record {
-          value = y;
-          valid = tt;
-          made = refl;
-          is = ap₂ (λ (n : ℕ) (l : List ℕ). n ∷ l) (ap (λ q. q.0) p) (ap (λ q. q.1) p);
-        }
+byte = grind (arith, common_steps, err-ok, ok-same)
 
 pub u16 : Codec next_u16 (λ (n : ℕ). n) u16_bytes (λ (n : ℕ). Unit {0})
 unfolding next_u16
-u16 = record { reads = λ x rest is. u16-read x rest; only = go }
-  where
-    go : (bytes rest : List ℕ) (y : ℕ) → AreBytes bytes → next_u16 bytes ≡ Ok (y, rest)
-        → Written (λ (n : ℕ). n) u16_bytes (λ (n : ℕ). Unit {0}) bytes rest y
-    go [] rest y all e = absurd (err-ok _ _ e)
-    go (h ∷ []) rest y all e = absurd (err-ok _ _ e)
-    go (h ∷ l ∷ bytes) rest y all e =
-        let same = ok-same (256 * h + l, bytes) (y, rest) e in
-        let value : 256 * h + l ≡ y = ap (λ q. q.0) same in
-        let small : l < 256 = all.1.0 in
-        let high : h ≡ y / 256 = omega arith in
-        let low : l ≡ y % 256 = omega arith in
-        record {
-          value = y;
-          valid = tt;
-          made = refl;
-          is = ap₂ (λ (a b : ℕ). a ∷ b ∷ bytes) high low
-              ∙ ap (λ (r : List ℕ). y / 256 ∷ y % 256 ∷ r) (ap (λ q. q.1) same);
-        }
+u16 = grind (arith, common_steps, u16-read, err-ok, same, ok-same)
 
 pub length-field : Codec length_at (λ (n : ℕ). n) (λ (n : ℕ). u16_bytes (n + 2))
     (λ (n : ℕ). Unit {0})

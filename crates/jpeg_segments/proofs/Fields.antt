@@ -1,9 +1,10 @@
 -- Fields that were written are read again.
-use Rattle.std.proofs.Common.{◌≡◌, ℕ, ◌<◌, ◌+◌, ◌-◌, ◌*◌, ◌/◌, ◌%◌, Bool, true, false, cond, List, [], ◌∷◌, ◌++◌}
-use Rattle.std.proofs.Common.{length, Ok, Err, refl, ap, ◌∙◌, arith, ltb}
+use Rattle.std.proofs.Common.{◌≡◌, ℕ, ◌<◌, ◌+◌, ◌*◌, ◌/◌, ◌%◌, Bool, true, false, cond, List, [], ◌∷◌, ◌++◌}
+use Rattle.std.proofs.Common.{length, Ok, refl, ap, ◌∙◌, arith}
 use Rattle.std.proofs.lemmas.Bool.{le-ltb}
-use Rattle.jpeg_bits.specs.Reading.{Outcome, Malformed, ◌>>=◌, next_u16, length_at, skip_at}
+use Rattle.jpeg_bits.specs.Reading.{Outcome, ◌>>=◌, next_u16, length_at, skip_at}
 use Rattle.jpeg_segments.specs.WrittenSegments.{u16_bytes, sized, nibbles}
+use Rattle.std.proofs.lemmas.Grind.{common_steps}
 
 -- ---- steps
 
@@ -30,17 +31,12 @@ u16-read n rest = ap (λ (x : ℕ). Ok (x, rest)) (u16-joined n)
 
 pub length-read : (n : ℕ) (rest : List ℕ) → length_at (u16_bytes (n + 2) ++ rest) ≡ Ok (n, rest)
 unfolding length_at
-length-read n rest =
-    let e : n + 2 - 2 ≡ n = omega arith in
-    read-on (next_u16 (u16_bytes (n + 2) ++ rest)) _ (n + 2) rest _ (u16-read (n + 2) rest)
-    (not-refused (ltb (n + 2) 2) (Err Malformed) _ (le-ltb (n + 2) 2 (omega arith)) ∙ ap (λ (x : ℕ). Ok (x, rest)) e)
+length-read n rest = grind (arith, common_steps, read-on, u16-read, not-refused, le-ltb)
 
 -- a payload after its length field
 pub sized-read : {B : Type 0} (payload rest : List ℕ) (f : ℕ × List ℕ → Outcome B)
     → (length_at (sized payload ++ rest) >>= f) ≡ f (length payload, payload ++ rest)
-sized-read payload rest f =
-    read-on (length_at (sized payload ++ rest)) f (length payload) (payload ++ rest) _
-    (length-read (length payload) (payload ++ rest)) refl
+sized-read payload rest f = grind (arith, common_steps, read-on, length-read)
 
 pub nibbles-high : (high low : ℕ) → low < 16 → nibbles high low / 16 ≡ high
 nibbles-high high low h = omega arith

@@ -8,6 +8,7 @@ use Rattle.std.proofs.lemmas.List.{take_more, map-append}
 use Rattle.jpeg_bits.specs.Reading.{◌>>=◌}
 use Rattle.jpeg_segments.specs.Frame.{Factors, HasSampling, AllHaveSampling, IsInRange, component_of, components_from}
 use Rattle.jpeg_segments.specs.Frame.{factors_at, greatest}
+use Rattle.std.proofs.lemmas.Grind.{common_steps}
 
 pub components_from-more : (lossless : Bool) (n : ℕ) (front : List Factors) (bytes : List ℕ) → 0 < n
     → components_from lossless n front bytes ≡ (factors_at lossless front bytes
@@ -45,9 +46,7 @@ greatest-most f (y ∷ ys) small all =
 -- the greatest of one component more
 pub greatest-next : {A : Type 0} (of : A → Factors) (f : Factors → ℕ) (xs : List A) (i : ℕ) (d : A) → i < length xs
     → greatest f (map of (take (i + 1) xs)) ≡ max (greatest f (map of (take i xs))) (f (of (get_or xs i d)))
-greatest-next of f xs i d h =
-    rw (take_more xs i d h, map-append of (take i xs) (get_or xs i d ∷ [])) (greatest-append f (map of (take i xs))
-    (of (get_or xs i d)))
+greatest-next of f xs i d h = grind (arith, common_steps, take_more, map-append, greatest-append)
 
 pub greatest-covers : {A : Type 0} (of : A → Factors) (f : Factors → ℕ) (m : ℕ) (xs : List A)
     → greatest f (map of xs) ≤ m → All (λ c. f (of c) ≤ m) xs
@@ -61,13 +60,7 @@ greatest-covers of f m (y ∷ ys) h =
 
 in-range : (width height h v : ℕ) (c : Factors) → IsInRange c → HasSampling (component_of width height h v c)
 unfolding component_of
-in-range width height h v c p = record {
-  horizontal_some = p.horizontal_some;
-  horizontal_most = p.horizontal_most;
-  vertical_some = p.vertical_some;
-  vertical_most = p.vertical_most;
-  scale_most = omega arith;
-}
+in-range width height h v c p = grind (arith, common_steps)
 
 pub all-in-range : (width height h v : ℕ) (xs : List Factors) → All IsInRange xs
     → AllHaveSampling (map (component_of width height h v) xs)

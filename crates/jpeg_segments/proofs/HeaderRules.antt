@@ -1,53 +1,34 @@
 -- A scan header that is written keeps the rules of scans.
-use Rattle.std.proofs.Common.{◌≡◌, ℕ, suc, ◌≤◌, ◌<◌, ◌+◌, ◌-◌, ◌/◌, ◌%◌, Bool, true, false, List, [], ◌∷◌, map, length}
-use Rattle.std.proofs.Common.{All, Some, refl, sym, ap, ◌∙◌, subst, arith, eqb}
+use Rattle.std.proofs.Common.{◌≡◌, ℕ, suc, ◌<◌, ◌+◌, ◌-◌, ◌/◌, ◌%◌, true, List, [], ◌∷◌, map, length}
+use Rattle.std.proofs.Common.{All, refl, sym, ap, ◌∙◌, subst, arith}
 use Rattle.std.proofs.lemmas.Bool.{ltb-true}
 use Rattle.std.proofs.lemmas.Bool.Decides.{nat_tests}
-use Rattle.std.proofs.lemmas.List.Elements.{All-cons, All-nil}
+use Rattle.std.proofs.lemmas.List.Elements.{All-nil}
 use Rattle.std.proofs.lemmas.List.Quantifiers.{position-Some}
 use Rattle.jpeg_segments.specs.declared.parser.CodingProcess.{CodingProcess}
-use Rattle.jpeg_segments.specs.declared.parser.CodingProcess.TheVariants.{DctSequential, DctProgressive, Lossless}
-use Rattle.jpeg_segments.specs.Frame.{Frame, Component}
-use Rattle.jpeg_segments.specs.HuffmanTables.{greatest_place}
-use Rattle.jpeg_segments.specs.ScanHeader.{place_of, is_band, after_of, scan_of, IsCoded, IsRising, IsSelectorOf}
+use Rattle.jpeg_segments.specs.Frame.{Frame}
+use Rattle.jpeg_segments.specs.ScanHeader.{is_band, after_of, scan_of, IsCoded, IsRising, IsSelectorOf}
 use Rattle.jpeg_segments.specs.ScanHeader.{IsScanOf}
 use Rattle.jpeg_segments.proofs.ScanLemmas.{is-scan, legal-again}
 use Rattle.jpeg_segments.specs.WrittenSegments.{nibbles}
 use Rattle.jpeg_segments.specs.ScanHeaders.{Choice, ScanHeader, selector_of, IsChoice, AreChoices, IsScan, scan_written}
 use Rattle.jpeg_segments.proofs.Fields.{nibbles-high, nibbles-low}
+use Rattle.std.proofs.lemmas.Grind.{common_steps}
 
 coded-by : (p : CodingProcess) (count first last high low : ℕ) → is_band p count first last high low ≡ true
     → IsCoded p first (after_of p last) high low
-coded-by DctSequential count first last high low e = grind (arith, nat_tests)
-coded-by DctProgressive count first last high low e = grind (arith, nat_tests)
-coded-by Lossless count first last high low e = grind (arith, nat_tests)
+coded-by p count first last high low h1 = grind (arith, nat_tests)
 
 choice-selects : (frame : Frame) (least : ℕ) (c : Choice) → IsChoice frame least c
     → IsSelectorOf frame (selector_of frame c)
-choice-selects frame least c is =
-    let p = position-Some {X =
-    Component} (λ d. eqb d.factors.identifier c.identifier) frame.components c.component
-    (default frame.components is.identified) is.identified in
-    let d = is.dc_placed in
-    let a = is.ac_placed in
-    let small : greatest_place (Some frame.is_baseline) ≤ 3 = most frame.is_baseline in
-    record { component = p.0; dc = omega arith; ac = omega arith; blocks = refl }
-  where
-    most : (b : Bool) → greatest_place (Some b) ≤ 3
-    most true = omega arith
-    most false = omega arith
-
-    default : (l : List Component) → place_of l c.identifier ≡ Some c.component → Component
-    default [] e = absurd (let n : ⊥ = cc in n)
-    default (x ∷ l) e = x
+choice-selects frame least c is = grind (arith, common_steps, position-Some)
 
 all-select : (frame : Frame) (least : ℕ) (cs : List Choice) → AreChoices frame least cs
     → All (IsSelectorOf frame) (map (selector_of frame) cs)
 unfolding AreChoices
 all-select frame least [] all = All-nil (IsSelectorOf frame)
 all-select frame least (c ∷ cs) all =
-    All-cons (IsSelectorOf frame) (selector_of frame c) (map (selector_of frame) cs)
-    (choice-selects frame least c all.0) (all-select frame (c.component + 1) cs all.1)
+    grind (arith, common_steps, choice-selects, all-select frame (c.component + 1) cs all.1)
 
 all-rise : (frame : Frame) (least : ℕ) (cs : List Choice) → AreChoices frame least cs
     → IsRising least (map (λ s. s.component) (map (selector_of frame) cs))

@@ -1,10 +1,10 @@
 -- Frame headers and scan headers: exactly what is written is read.
 use Rattle.std.proofs.Common.{◌≡◌, ℕ, zero, suc, ◌≤◌, ◌<◌, ◌+◌, ◌*◌, ◌/◌, ◌%◌, Bool, true, false, cond}
 use Rattle.std.proofs.Common.{List, [], ◌∷◌, ◌++◌, map, length, length-append, append-nil, append_assoc}
-use Rattle.std.proofs.Common.{Option, Some, None, Ok, Err, refl, sym, ap, ap₂, ◌∙◌, arith, eqb, ltb, leb}
+use Rattle.std.proofs.Common.{Option, Some, None, Ok, Err, refl, sym, ap, ap₂, ◌∙◌, arith, eqb, ltb}
 use Rattle.std.proofs.lemmas.Bool.{le-ltb, le-leb, eq-eqb, ne_eqb, eqb-true, eqb-false, ltb-false, leb-true}
 use Rattle.std.proofs.lemmas.Bool.{not-true, and_parts}
-use Rattle.std.specs.Prelude.{flat_map, not}
+use Rattle.std.specs.Prelude.{flat_map}
 use Rattle.jpeg_bits.specs.Reading.{Malformed, Lacks, ◌>>=◌}
 use Rattle.jpeg_bits.specs.declared.error.UnsupportedFeature.TheVariants.{DNL}
 use Rattle.jpeg_segments.specs.Frame.{Factors, IsInRange, Frame, Head, frame_of, is_factor, is_place}
@@ -21,6 +21,7 @@ use Rattle.jpeg_segments.specs.ScanHeaders.{IsChoice, AreChoices, IsScan, scan_w
 use Rattle.jpeg_segments.proofs.Fields.{nibbles-high, nibbles-low}
 use Rattle.jpeg_segments.proofs.Codecs.{Codec, bind, ends, check-if, check-unless, done, remap, refused}
 use Rattle.jpeg_segments.proofs.Codecs.{namely, nil, cons, byte, u16, length-field}
+use Rattle.std.proofs.lemmas.Grind.{common_steps}
 
 -- ---- frame headers
 
@@ -28,10 +29,7 @@ factor-kept : (n : ℕ) → 1 ≤ n → n ≤ 4 → is_factor n ≡ true
 factor-kept n h k = rw (ne_eqb n 0 (λ e. omega arith), le-leb n 4 k) refl
 
 factor-only : (n : ℕ) → is_factor n ≡ true → (1 ≤ n) × (n ≤ 4)
-factor-only n e =
-    let p = and_parts (not (eqb n 0)) (leb n 4) e in
-    let some = eqb-false n 0 (not-true (eqb n 0) p.0) in
-    (grind (arith, some), leb-true n 4 p.1)
+factor-only n e = grind (arith, common_steps, and_parts, eqb-false, not-true, leb-true)
 
 abbrev factors : ℕ → ℕ → ℕ → ℕ → Factors
 factors identifier horizontal vertical quantization = record {

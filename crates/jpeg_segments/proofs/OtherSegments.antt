@@ -14,6 +14,7 @@ use Rattle.jpeg_segments.specs.WrittenSegments.{u16_bytes, sized, is_adobe, said
 use Rattle.jpeg_segments.proofs.ApplicationLemmas.{read-skipped}
 use Rattle.jpeg_segments.proofs.Codecs.{Codec, bind, ends, check-if, choose, done, remap, namely, same}
 use Rattle.jpeg_segments.proofs.Codecs.{refused, u16, many, segment, length-field}
+use Rattle.std.proofs.lemmas.Grind.{common_steps}
 
 pub dri : Codec dri_at (λ (n : ℕ). n) (λ (n : ℕ). sized (u16_bytes n)) (λ (n : ℕ). Unit {0})
 unfolding dri_at
@@ -79,13 +80,8 @@ record Begun (head tail : List ℕ) : Type 0 where
   twelfth : get_or (head ++ tail) 11 0 ≡ get_or head 11 0
 
 begun : (head tail : List ℕ) → length head ≡ 12 → Begun head tail
-begun head tail h = record {
-  test = ap (λ (b : Bool). cond b false (begins_with (take 12 (head ++ tail)) adobe_name))
-      (le-ltb (length (head ++ tail)) 12 (omega (arith, h, length-append head tail)))
-      ∙ ap (λ (l : List ℕ). begins_with l adobe_name)
-      (take-append-le 12 head tail (omega (arith, h)) ∙ take_all 12 head (omega (arith, h)));
-  twelfth = get_or_append_left head tail 0 11 (omega (arith, h));
-}
+begun head tail h =
+    grind (arith, common_steps, le-ltb, length-append, take-append-le, take_all, get_or_append_left)
 
 -- a payload of this many bytes, of which Adobe's names a transform
 abbrev Is14 : ℕ → List ℕ → Type 0
@@ -122,9 +118,7 @@ long left enough = remap (halves left)
 
 -- fewer than twelve bytes are not Adobe's
 short : (payload : List ℕ) → length payload < 12 → is_adobe payload ≡ false
-short payload few =
-    ap (λ (b : Bool). cond b false (begins_with (take 12 payload) adobe_name))
-    (lt-ltb (length payload) 12 few)
+short payload few = grind (arith, common_steps, cond, lt-ltb)
 
 fourteen : (left : ℕ)
     → Codec (application_14 left) said_14 (λ (payload : List ℕ). payload) (Is14 left)

@@ -1,5 +1,5 @@
 -- Steps of the loop over quantization tables.
-use Rattle.std.proofs.Common.{◌≡◌, ℕ, zero, suc, ◌-◌, ◌<◌, ◌≤◌, false, List, refl, Ok, Some, arith, set, eqb}
+use Rattle.std.proofs.Common.{◌≡◌, ℕ, zero, suc, ◌-◌, ◌<◌, ◌≤◌, List, refl, Ok, Some, arith, set}
 use Rattle.std.proofs.lemmas.Bool.Decides.{nat_tests}
 use Rattle.jpeg_bits.specs.Reading.{◌>>=◌}
 use Rattle.jpeg_segments.specs.Quantization.{Tables, tables_from, placed_table_at}
@@ -8,11 +8,7 @@ pub tables_from-more : (most left : ℕ) (tables : Tables) (bytes : List ℕ) �
     → tables_from most left tables bytes ≡ (placed_table_at left bytes
     >>= λ (t : (ℕ × ℕ × List ℕ) × List ℕ). tables_from (most - 1) (left - t.0.0) (set tables t.0.1 (Some t.0.2)) t.1)
 unfolding tables_from
-tables_from-more zero left tables bytes p h = absurd (omega arith)
-tables_from-more (suc most) left tables bytes p h =
-    let e : suc most - 1 ≡ most = omega arith in
-    let z : eqb left 0 ≡ false = grind (arith, nat_tests) in
-    rw (e, z) refl
+tables_from-more most left tables bytes h1 h2 = grind (arith, nat_tests)
 
 pub tables_from-none : (most : ℕ) (tables : Tables) (bytes : List ℕ) → tables_from most 0 tables bytes ≡ Ok (
   tables,

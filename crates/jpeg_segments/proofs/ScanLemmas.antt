@@ -1,5 +1,5 @@
 -- Steps of the parser of scan headers.
-use Rattle.std.proofs.Common.{All, sym, true, false, ◌∙◌, ◌≡◌, ◌≤◌, ℕ, zero, suc, ◌+◌, ◌-◌, ◌*◌, ◌<◌, Bool, not, cond}
+use Rattle.std.proofs.Common.{All, sym, true, ◌∙◌, ◌≡◌, ◌≤◌, ℕ, zero, suc, ◌+◌, ◌-◌, ◌*◌, ◌<◌, Bool, not, cond}
 use Rattle.std.proofs.Common.{List, [], ◌∷◌, ◌++◌, map, length, refl, ap, ap₂, subst, Ok, arith, get_or, nat_le, sum_by}
 use Rattle.std.proofs.Common.{append-nil, append_assoc}
 use Rattle.std.specs.List.{position, position_or_len}
@@ -8,15 +8,15 @@ use Rattle.std.proofs.lemmas.List.Elements.{All-head, All-map, All-tail, All-wea
 use Rattle.std.proofs.lemmas.List.Sums.{sum_by-cons}
 use Rattle.std.proofs.lemmas.Bool.{leb-true}
 use Rattle.jpeg_bits.specs.Reading.{◌>>=◌}
-use Rattle.std.specs.Prelude.{◌==◌, ◌&&◌, ◌||◌}
+use Rattle.std.specs.Prelude.{◌||◌}
 use Rattle.jpeg_segments.specs.declared.parser.CodingProcess.{CodingProcess}
-use Rattle.jpeg_segments.specs.declared.parser.CodingProcess.TheVariants.{DctSequential, DctProgressive, Lossless}
 use Rattle.jpeg_segments.specs.declared.parser.Component.{Component as Seen}
-use Rattle.jpeg_segments.specs.Frame.{Component}
 use Rattle.jpeg_segments.specs.Frame as frames
 use Rattle.jpeg_segments.specs.FrameView.{component_in}
 use Rattle.jpeg_segments.specs.ScanHeader.{IsCoded, after_of, is_band, is_mcu, IsRising, IsScanOf, IsSelectorOf, Scan}
 use Rattle.jpeg_segments.specs.ScanHeader.{Selector, blocks_by, selector_at, selectors_from}
+use Rattle.std.proofs.lemmas.Grind.{common_steps}
+use Rattle.std.proofs.lemmas.Bool.Decides.{nat_tests}
 
 pub selectors_from-more : (frame : frames.Frame) (n : ℕ) (front : List Selector) (least : ℕ) (bytes : List ℕ) → 0 < n
     → selectors_from frame n front least bytes
@@ -59,15 +59,7 @@ all-of P Q field f xs h = All-map Q field xs (All-weaker P (λ s. Q (field s)) f
 -- a band that a header may name passes the rules by the places that it stands for
 pub legal-again : (p : CodingProcess) (count first last high low : ℕ) → is_band p count first last high low ≡ true
     → is_band p count first (after_of p last - 1) high low ≡ true
-legal-again DctSequential count first last high low e =
-    go (first == 0) (last == 0 || last == 63) (high == 0 && low == 0) e
-  where
-    go : (a b c : Bool) → (a && (b && c)) ≡ true → (a && (true && c)) ≡ true
-    go true true c e = e
-    go true false c e = absurd (cc)
-    go false b c e = e
-legal-again DctProgressive count first last high low e = let same : last + 1 - 1 ≡ last = omega arith in rw same e
-legal-again Lossless count first last high low e = let same : last + 1 - 1 ≡ last = omega arith in rw same e
+legal-again p count first last high low h1 = grind (arith, nat_tests)
 
 -- the blocks of an MCU, by the places of the components
 same-blocks : (frame : frames.Frame) (xs : List Selector) → All (IsSelectorOf frame) xs
@@ -80,12 +72,7 @@ same-blocks frame (x ∷ xs) places =
     ∙ sym (sum_by-cons (λ y. y.blocks) x xs))
 
 few : (count blocks : ℕ) → (nat_le count 1 || nat_le blocks 10) ≡ true → 2 ≤ count → blocks ≤ 10
-few count blocks e h = go (nat_le count 1) (nat_le blocks 10) (leb-true count 1) (leb-true blocks 10) e
-  where
-    go : (a b : Bool) → (a ≡ true → count ≤ 1) → (b ≡ true → blocks ≤ 10) → (a || b) ≡ true → blocks ≤ 10
-    go true b f g e = let l = f refl in absurd (omega arith)
-    go false true f g e = g refl
-    go false false f g e = absurd (cc)
+few count blocks e h = grind (arith, common_steps, nat_le, leb-true)
 
 -- ---- places that rise
 

@@ -1,7 +1,7 @@
 -- Segments of tables: exactly what is written is read.
 use Rattle.std.proofs.Common.{◌≡◌, ℕ, zero, suc, ◌≤◌, ◌<◌, ◌+◌, ◌-◌, ◌*◌, ◌/◌, ◌%◌, Bool, true}
 use Rattle.std.proofs.Common.{false, cond, List, [], ◌∷◌, ◌++◌, length, set, length-append, Option}
-use Rattle.std.proofs.Common.{Some, None, Ok, Err, refl, sym, ap, ap₂, ◌∙◌, arith, eqb, ltb, fold}
+use Rattle.std.proofs.Common.{Some, Ok, Err, refl, sym, ap, ap₂, ◌∙◌, arith, eqb, ltb, fold}
 use Rattle.std.proofs.lemmas.Bool.{le-ltb, ltb-false, ltb-true, ne_eqb, eq-eqb, eqb-true}
 use Rattle.std.proofs.lemmas.Bool.{eqb-false, or_parts}
 use Rattle.std.specs.Prelude.{flat_map, sum}
@@ -24,6 +24,8 @@ use Rattle.jpeg_segments.proofs.Fields.{nibbles-high, nibbles-low}
 use Rattle.jpeg_segments.proofs.Codecs.{Codec, bind, ends, check-if, check-unless, choose, done, refused}
 use Rattle.jpeg_segments.proofs.Codecs.{remap, namely, nil, cons, byte, u16, several, many}
 use Rattle.jpeg_segments.proofs.Codecs.{units, segment, outcome}
+use Rattle.std.proofs.lemmas.Grind.{common_steps}
+use Rattle.std.proofs.lemmas.Bool.Decides.{nat_tests}
 
 -- ---- quantization tables
 
@@ -38,9 +40,7 @@ value false = byte
 
 wide-is : (p : ℕ) → p ≤ 1 → (vs : List ℕ)
     → flat_map (wide_bytes (eqb p 1)) vs ≡ flat_map (value_bytes p) vs
-wide-is zero h vs = refl
-wide-is (suc zero) h vs = refl
-wide-is (suc (suc n)) h vs = absurd (omega arith)
+wide-is p h1 vs = grind (arith, nat_tests)
 
 none-zero : (vs : List ℕ) → AllByRecursion (λ v. 0 < v) vs → list_any (λ v. eqb v 0) vs ≡ false
 none-zero [] all = refl
@@ -109,11 +109,7 @@ values-length (suc (suc n)) h (v ∷ vs) = absurd (omega arith)
 table-length : (t : QuantizationTable) → IsQuantizationTable t
     → length (quantization_bytes t) ≡ table_size t.precision
 unfolding quantization_bytes
-table-length t is =
-    let n : length (flat_map (value_bytes t.precision) t.values) ≡ (t.precision + 1) * 64 =
-    values-length t.precision is.precise t.values
-    ∙ ap (λ (x : ℕ). (t.precision + 1) * x) is.counted in
-    omega arith
+table-length t is = grind (arith, common_steps, values-length)
 
 abbrev with_values : quantization.Tables → QuantizationTable → quantization.Tables
 with_values tables t = set tables t.place (Some t.values)
@@ -179,9 +175,7 @@ class-small classes.DC = omega arith
 class-small classes.AC = omega arith
 
 class-number : (n : ℕ) → n ≤ 1 → class_number (class_of n) ≡ n
-class-number zero h = refl
-class-number (suc zero) h = refl
-class-number (suc (suc n)) h = absurd (omega arith)
+class-number n h1 = grind (arith, nat_tests)
 
 abbrev table : HuffmanTableClass → List ℕ → List ℕ → Table
 table class counts symbols = record { class = class; counts = counts; symbols = symbols }
@@ -246,10 +240,7 @@ placed_codes most left few = remap (bind _ byte (λ (b : ℕ).
 codes-length : (most : ℕ) (t : PlacedTable) → IsHuffmanTable most t
     → length (huffman_bytes t) ≡ size_of t
 unfolding huffman_bytes
-codes-length most t is =
-    let c = is.counted in
-    let s = is.has_symbols in
-    omega (arith, length-append t.table.counts t.table.symbols)
+codes-length most t is = grind (arith, common_steps, length-append)
 
 codes-joined : (t : PlacedTable) (ts : List PlacedTable)
     → length (flat_map huffman_bytes (t ∷ ts))
@@ -301,9 +292,7 @@ all-codes (suc turns) most left old few le = choose (ltb 17 left)
     (λ z. no-codes most left old (ltb-false 17 left z))
 
 greatest-small : (b : Option Bool) → greatest_place b ≤ 3
-greatest-small None = omega arith
-greatest-small (Some true) = omega arith
-greatest-small (Some false) = omega arith
+greatest-small b = grind (arith, nat_tests)
 
 pub dht : (b : Option Bool)
     → Codec (dht_at b) huffman_tables (λ (ts : List PlacedTable). sized (flat_map huffman_bytes ts))

@@ -321,16 +321,7 @@ all-inside : (frame : Frame) (components : List Component) (arrays : Arrays) (q 
     → IsIn q (all_spots frame.mcus_wide frame.mcus_high components) → IsInside arrays q
 unfolding all_spots
 all-inside frame components arrays q fits h k =
-    let wide = frame.mcus_wide in
-    let mcu : ℕ → ℕ → List Spot = λ row column. mcu_spots row column 0 components in
-    let x = in-flat-back (λ row. flat_map (mcu row) (range_with_len 0 wide)) q 0 frame.mcus_high k in
-    let y = in-flat-back (mcu x.at) q 0 wide x.gives in
-    let xh = x.between.high in
-    let yh = y.between.high in
-    let of = mcu-tells frame x.at y.at (omega arith) components 0 q fits y.gives in
-    let z = sized components arrays q.slot of.component h (placed frame components x.at y.at q of) in
-    let i = of.tells.inside (omega arith) in
-    record { slot = z.0; index = let l = z.1 in omega arith }
+    grind (arith, in-flat-back, mcu-tells, sized, placed)
 
 -- The spots of a scan are inside the arrays of its components.
 pub spots-inside : (frame : Frame) (components : List Component) (arrays : Arrays) (q : Spot)

@@ -1,8 +1,8 @@
 -- A legal scan takes the blocks at its levels to the blocks at the levels after it.
 use Rattle.std.proofs.lemmas.Grind.{common_steps}
-use Rattle.std.proofs.Common.{rules, ◌≡◌, ℕ, zero, suc, ◌+◌, ◌/◌, ◌^◌, ◌≤◌, Bool, true, false, List, [], ◌∷◌, ◌++◌, map}
+use Rattle.std.proofs.Common.{rules, ◌≡◌, ℕ, zero, suc, ◌+◌, ◌/◌, ◌^◌, ◌≤◌, List, [], ◌∷◌, ◌++◌, map}
 use Rattle.std.proofs.Common.{take, drop, replicate, length, ℤ, pos, negsuc, neg_ℤ, ◌≤ℤ◌, unsigned_abs, Option, Some}
-use Rattle.std.proofs.Common.{None, refl, sym, ap, ap₂, ◌∙◌, arith, eqb, pow_mono, length-take, length-drop, drop-drop}
+use Rattle.std.proofs.Common.{None, refl, sym, ap, ap₂, ◌∙◌, arith, pow_mono, length-take, length-drop, drop-drop}
 use Rattle.std.proofs.Common.{take-append-drop}
 use Rattle.std.proofs.lemmas.List.{length-replicate, take-map, drop-map}
 use Rattle.std.proofs.Math.Nat.{div-le_self, div-mul-le_self, add-mul, one-mul}
@@ -162,14 +162,7 @@ acs-after p l c same =
 
 pub dc-then : (p : Pass) (l : Levels) (c : Block) → IsLegal p l
     → (after_pass p (cut l c) (numbers_at p.al c)).dc ≡ (cut (sent_after p l) c).dc
-dc-then p l c legal = go (eqb p.ss 0) refl p.is_first refl
-  where
-    go : (t : Bool) → eqb p.ss 0 ≡ t → (f : Bool) → p.is_first ≡ f
-        → (after_pass p (cut l c) (numbers_at p.al c)).dc ≡ (cut (sent_after p l) c).dc
-    go true e true f = rw (e, f, after_pass) (rw (e, sent_after) refl)
-    go true e false f =
-        grind (arith, eqb-true p.ss 0 e, scaled (suc p.al), half-floor p.al c.dc, dc-refined p.al (floor_at p.al c.dc))
-    go false e f g = rw (e, after_pass) (rw (e, sent_after) refl)
+dc-then p l c legal = grind (arith, eqb-true, half-floor, dc-refined)
 
 -- A legal scan takes the block at its levels to the block at the levels after it.
 pub cut-after : (p : Pass) (l : Levels) (c : Block) → length c.acs ≡ length l.acs → IsLegal p l

@@ -1,15 +1,13 @@
 -- The marks of finished places are the levels that are 0.
-use Rattle.std.proofs.Common.{rules, ◌≡◌, ◌≤◌, Bool, List, ◌∷◌, map, length, refl, ap, ◌∙◌}
-use Rattle.std.proofs.Common.{length-take, length-drop}
-use Rattle.std.proofs.lemmas.Bool.{eqb-true, eq-eqb}
+use Rattle.std.proofs.Common.{◌≡◌, ◌≤◌, Bool, List, ◌∷◌, map, length, refl, ap, ◌∙◌}
+use Rattle.std.proofs.Common.{length-take, length-drop, arith}
 use lib.ListN.{length-map}
 use Rattle.jpeg_bits.specs.Passes.{Pass}
 use Rattle.jpeg_streams.specs.Levels.{Levels, IsLegal, sent_after, nothing_sent}
-use Rattle.jpeg_streams.proofs.FinishedPlaces.{Finished, finish, is_level_0, at_level_0, finish-yes, finish-no}
+use Rattle.jpeg_streams.proofs.FinishedPlaces.{Finished, finish, is_level_0, at_level_0}
 use Rattle.jpeg_streams.proofs.FinishedPlaces.{finish-legal}
 use Rattle.jpeg_streams.specs.ScanSegments.{finished_by}
 use Rattle.jpeg_streams.specs.Found.{none_finished}
-use Rattle.jpeg_lossless.proofs.ReadBack.{not-equal}
 
 -- the marks of a block at these levels
 abbrev pub marks_of : Levels → List Bool
@@ -26,18 +24,7 @@ marks_listed f = f.dc ∷ f.acs
 pub finished-listed : (p : Pass) (f : Finished) → IsBand p → length f.acs ≡ 63
     → finished_by p (marks_listed f) ≡ marks_listed (finish p f)
 unfolding finished_by
-finished-listed p f band h =
-    search (
-      rules,
-      finish,
-      finish-yes,
-      finish-no,
-      eq-eqb,
-      eqb-true,
-      not-equal,
-      length-take,
-      length-drop,
-    )
+finished-listed p f band h = grind (arith, length-take, length-drop)
 
 pub marks-after : (p : Pass) (l : Levels) → IsLegal p l → IsBand p → length l.acs ≡ 63
     → finished_by p (marks_of l) ≡ marks_of (sent_after p l)

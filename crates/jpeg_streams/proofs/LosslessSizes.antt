@@ -2,7 +2,7 @@
 use Rattle.std.proofs.Common.{rules, ◌≡◌, ℕ, suc, ◌*◌, ◌<◌, ◌≤◌, List, [], ◌∷◌, map, drop, Some, ap, arith}
 use Rattle.std.specs.List.{AllByRecursion}
 use Rattle.std.proofs.lemmas.List.Elements.{recursion_from_All}
-use Rattle.std.proofs.Math.Nat.{mul-le-mul_right, mul_comm, mul_assoc}
+use Rattle.std.proofs.Math.Nat.{mul-le-mul_right, mul_comm}
 use Rattle.jpeg_segments.specs.declared.parser.CodingProcess.TheVariants.{Lossless}
 use Rattle.jpeg_segments.specs.Frame.{Component, Factors, Frame, IsInRange, ceiling, component_of, frame_of, greatest}
 use Rattle.jpeg_segments.specs.Scales.{frame_at}
@@ -78,11 +78,7 @@ all-reach frame (c ∷ cs) h = (made-reaches frame c h.0, all-reach frame cs h.1
 -- ---- MCUs cover components
 
 covered : (size factor most : ℕ) → 0 < most → ceiling (size * factor) most ≤ ceiling size most * factor
-covered size factor most h =
-    let c = ceiling size most in
-    let le : size * factor ≤ (c * most) * factor = mul-le-mul_right factor (ceiling-covers size most h) in
-    let turned : (c * most) * factor ≡ (c * factor) * most = search (rules, mul_assoc, mul_comm) in
-    ceiling-least (size * factor) most (c * factor) h (omega arith)
+covered size factor most h = grind (arith, mul-le-mul_right, mul_comm, ceiling-least)
 
 pub made-covered : (frame : Frame) (c : Component) → IsMade frame c
     → (c.width ≤ ceiling frame.width (most_across frame) * c.factors.horizontal)

@@ -3,7 +3,7 @@ use Rattle.std.proofs.Common.{rules, ◌≡◌, ◌⊎◌, inl, inr, ℕ, zero, 
 use Rattle.std.proofs.Common.{[], ◌∷◌, ◌++◌, map, length, get_or, refl, sym, ap, ap₂, subst, arith, leb}
 use Rattle.std.proofs.Math.Nat.{div-lt_iff_lt-mul, mod-lt}
 use Rattle.std.proofs.lemmas.Nat.{div-add-mod', div-mul-add, mod-mul-add}
-use Rattle.std.proofs.lemmas.Bool.Decides.{leb_tells}
+use Rattle.std.proofs.lemmas.Bool.Decides.{leb_tells, nat_tests}
 use Rattle.std.specs.List.{AllByRecursion, range_with_len, flat_map}
 use Rattle.jpeg_segments.specs.Frame.{Frame, Component}
 use Rattle.jpeg_streams.specs.declared.grids.Grid.{Grid}
@@ -143,6 +143,4 @@ all-covered frame components c s here fits own =
 pub covered : (frame : Frame) (components : List Component) (c : Component) (s : Spot) → At s.slot components c
     → Fits frame c → IsOwn (grid_of c) s.index → IsIn s (spots_of frame components)
 unfolding spots_of
-covered frame [] c s here fits own = absurd here
-covered frame (d ∷ []) c s here fits own = search (rules, own-covered)
-covered frame (d ∷ e ∷ more) c s here fits own = all-covered frame (d ∷ e ∷ more) c s here fits own
+covered frame components c s h1 h2 h3 = grind (arith, nat_tests, own-covered, all-covered)

@@ -37,10 +37,6 @@ abbrev pub AllOf : Frame → Result (List Coding) Fault → Type 0
 AllOf frame (Ok codings) = AllByRecursion (IsOf frame) codings
 AllOf frame (Err e) = Unit {0}
 
-abbrev pub OneOf : Frame → Result Coding Fault → Type 0
-OneOf frame (Ok c) = IsOf frame c
-OneOf frame (Err e) = Unit {0}
-
 codings-from : (found : Found) (frame : Frame) (p : Pass) (tables : Tables) (places dcs acs : List ℕ)
     → AllOf frame (codings_from found frame p tables places dcs acs)
 unfolding codings_from component_coding

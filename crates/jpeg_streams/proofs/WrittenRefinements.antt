@@ -236,9 +236,7 @@ map-scaled al (v ∷ front) more = ap (λ (l : List ℤ). scaled al v ∷ l) (ma
 
 pub new-scaled : (al : ℕ) (u : ℤ) → unsigned_abs u ≡ 1
     → new_number al (sign_bit u) ≡ scaled al u
-new-scaled al (pos n) h = ap pos (sym (one-mul (2 ^ al)) ∙ ap (λ (x : ℕ). x * 2 ^ al) (sym h))
-new-scaled al (negsuc n) h =
-    ap (λ (x : ℕ). neg_ℤ (pos x)) (sym (one-mul (2 ^ al)) ∙ ap (λ (x : ℕ). x * 2 ^ al) (sym h))
+new-scaled al u h1 = grind (arith, nat_tests, one-mul)
 
 sign-small : (u : ℤ) → sign_bit u < 2
 sign-small (pos n) = omega arith
@@ -280,22 +278,7 @@ pub piece-passed : (al : ℕ) (others : List ℤ → Reads Band) (front more : L
     (map (scaled al) (front ++ pos 0 ∷ more), run)
 unfolding refined_piece
 piece-passed al others front more bits run none count range w =
-    let z = held-zero al in
-    let rest = map (held al) (front ++ pos 0 ∷ more) in
-    let n : through_zero 15 rest ≡ suc (length front) = search (rules, through) in
-    let result : map (scaled al) (front ++ pos 0 ∷ []) ++ map (scaled al) more ≡ map (scaled al) (front ++ pos 0 ∷ more)
-    = search (rules, map-scaled, scaled, append_assoc) in
-    let back = subst (λ (l : List ℤ). ReadsJust (others l) bits (map (scaled al) more, run))
-    (sym (back-of al front (pos 0) more)) w in
-    let step = λ (k : ℕ). corrected al (take k rest) >>=
-    (λ f. others (drop k rest) >>= (λ m. gives (before_more f m))) in
-    subst (λ (k : ℕ). ReadsJust (step k) (corrections front ++ bits) (map (scaled al) (front ++ pos 0 ∷ more), run))
-    (sym n)
-    (takes-as _ _ _ _ _ refl (ap (λ (l : List ℤ). (l, run)) result)
-    (takes-bind (corrected al (take (suc (length front)) rest)) _ (corrections front) bits
-    (map (scaled al) (front ++ pos 0 ∷ [])) _
-    (takes-front al front (pos 0) more z none range)
-    (search (rules, takes-map, scaled))))
+    grind (arith, through, map-scaled, append_assoc, back-of, takes-bind, takes-front)
 
 pub not-fifteen : (r : ℕ) → r ≤ 14 → eqb r 15 ≡ false
 not-fifteen r h = grind (arith, nat_tests)

@@ -1,34 +1,15 @@
 use Rattle.std.proofs.Common.{◌≡◌, ◌<◌, List, ℤ, pos, length, get_or, set, slice_index_or, rules, refl, sym, subst}
 use Rattle.std.proofs.lemmas.List.{get_or-set_same, set-get_or}
 use Rattle.jpeg_bits.specs.Entropy.{Takes, upcoming}
-use Rattle.jpeg_bits.specs.Passes.{dc_part, band_part, block_from}
+use Rattle.jpeg_bits.specs.Passes.{band_part, block_from}
 use Rattle.jpeg_bits.specs.BlockView.{to_block, dc_in, pass_in}
 use Rattle.jpeg_bits.specs.ZigzagParts.{band_in, KeepsOthers}
 use Rattle.jpeg_bits.specs.Refusals.{outcome_of}
-use Rattle.jpeg_bits.proofs.BandSteps.{Leaves-whole, Leaves-err}
 use Rattle.jpeg_bits.proofs.BlockParts.{dc_step, dc_refused, dc_kept, block_read}
 use Rattle.jpeg_bits.proofs.blocks.take_block.Goals as goal
 
 pub returns-then-not-read_dc-clause-block : goal.returns-then-not-read_dc-clause-block
-returns-then-not-read_dc-clause-block g c =
-    let block = c.args.block.now in
-    let k = c.args.coding.now in
-    let a = c.args in
-    let p = pass_in k.pass in
-    let viewed : c.decoder.inside.held ≡ a.decoder.now = c.decoder.view_is in
-    let run = c.args.carried.now.run in
-    let predictor = get_or c.args.carried.now.predictors k.slot (pos 0) in
-    let first = dc_in block in
-    let whole = block_from p k.dc_table.now k.ac_table.now predictor run
-    (to_block block) in
-    (Leaves-err (λ (u : Unit {0}). (to_block block, c.read_dc.new.predictor, run)) (λ (u : Unit {0}). (
-      dc_in c.read_dc.new.block,
-      c.read_dc.new.predictor,
-    ))
-    whole whole (dc_part p k.dc_table.now first predictor)
-    a.decoder.now a.decoder.now c.read_dc.new.held a.source.now a.source.now c.read_dc.new.source _
-    (λ t f h. dc_refused p k.dc_table.now k.ac_table.now predictor first run block t f refl h)
-    (Leaves-whole whole a.decoder.now a.source.now) (rw viewed at c.if-not-read_dc.ensures.part))
+returns-then-not-read_dc-clause-block g c = search (rules, dc_refused)
 
 pub returns-clause-block : goal.returns-clause-block
 returns-clause-block g c =

@@ -1,11 +1,12 @@
-use Rattle.std.proofs.Common.{◌≡◌, ◌≤◌, ◌∙◌, ◌*◌, ◌%◌, ◌++◌, ℕ, List, Bool, ap, subst, arith, replicate, false, None}
+use Rattle.std.proofs.Common.{◌≡◌, ◌∙◌, ◌*◌, ◌%◌, ◌++◌, ℕ, List, Bool, ap, arith, replicate, false, None}
 use Rattle.jpeg_bits.specs.Codes.{code_in, code_lengths}
 use Rattle.jpeg_bits.specs.Written.{low_bits}
-use Rattle.jpeg_bits.specs.ShortCodes.{ArePassed, named, short_code, short_only}
+use Rattle.jpeg_bits.specs.ShortCodes.{named, short_code, short_only}
 use Rattle.jpeg_bits.proofs.RowLemmas.{still-passed}
 use Rattle.jpeg_bits.proofs.ShortLemmas.{byte_padded, length_set, set_next, short-of-named}
 use Rattle.jpeg_bits.proofs.ShortRuns.{run-entry}
 use Rattle.jpeg_bits.proofs.codes.short_codes.Goals as goal
+use Rattle.std.proofs.lemmas.Grind.{common_steps}
 
 pub loop-at-preserved : goal.loop-at-preserved
 loop-at-preserved c =
@@ -31,18 +32,4 @@ loop-at-preserved c =
     }
 
 pub loop-byte-preserved : goal.loop-byte-preserved
-loop-byte-preserved c =
-    let byte = c.loop-byte.byte in
-    let end = c.end_of_run-end.result in
-    let rows = c.args.codes.now.rows.now in
-    let i = c.loop-at.invariant in
-    let whole : byte * 256 % 65536 ≡ byte * 256 = omega (arith, c.loop-byte-test.true) in
-    let later : byte * 256 ≤ end * 256 = omega (arith, c.end_of_run-end.ensures.more) in
-    record {
-      whole = i.whole;
-      filled = λ b lt. i.filled b (omega (arith, lt, c.loop-at-test.false));
-      within = c.code_of.ensures.within;
-      passed = still-passed rows c.code_of.new.row (byte * 256) (end * 256) later
-          (subst (λ (n : ℕ). ArePassed rows c.code_of.new.row n) whole c.code_of.ensures.passed);
-      few = c.end_of_run-end.ensures.most;
-    }
+loop-byte-preserved c = grind (arith, common_steps, still-passed)

@@ -1,5 +1,5 @@
 use Rattle.std.proofs.Common.{◌≡◌, ◌-◌, ◌+◌, ◌<◌, ◌≤◌, ℤ, ℕ, pos, get_or, length-set, ◌∙◌, ap, sym, w16, SFits, arith}
-use Rattle.std.proofs.Common.{rules, refl}
+use Rattle.std.proofs.Common.{rules}
 use Rattle.std.proofs.lemmas.Int.{to_z-of_z}
 use Rattle.std.specs.Int.{cast_signed, cast_unsigned}
 use Rattle.jpeg_bits.specs.Entropy.{Text, upcoming}
@@ -11,30 +11,13 @@ use Rattle.jpeg_bits.proofs.BlockWalks.{walk_at, at-start, at-end, at-value, at-
 use Rattle.jpeg_bits.proofs.Masks.{gap-zeros, at-skips, at-gap, at-last-gap, marks-set, marks-later}
 use Rattle.jpeg_bits.proofs.ZigzagParts.{kept-same, kept-set}
 use Rattle.jpeg_bits.proofs.refinement.correct_piece.Goals as goal
+use Rattle.std.proofs.lemmas.Grind.{common_steps}
 
 pub loop-index-init : goal.loop-index-init
-loop-index-init g c =
-    let a = c.args.piece in
-    let p = pass_in a.pass in
-    record {
-      len = search rules;
-      after = omega arith;
-      within = c.requires.from;
-      walk = (refl, λ k. (k, sym (at-start p.al a.zeros a.from (band_end p) c.args.block.now _)));
-      others = kept-same a.from (band_end p) c.args.block.now;
-      marks = c.requires.mask;
-    }
+loop-index-init g c = grind (arith, common_steps, at-start, kept-same)
 
 pub returns-then-left-gap-clause-within : goal.returns-then-left-gap-clause-within
-returns-then-left-gap-clause-within g c =
-    let end = c.band_end-end.ensures in
-    let i = c.loop-index.invariant in
-    let gap = c.zeros_from-gap.ensures.within in
-    let few = c.if-left-gap.true in (
-      omega (arith, i.after),
-      omega (arith, end, gap, few),
-      λ h. omega (arith, i.after),
-    )
+returns-then-left-gap-clause-within g c = grind (arith, common_steps)
 
 pub returns-then-left-gap-clause-piece : goal.returns-then-left-gap-clause-piece
 returns-then-left-gap-clause-piece g c =
@@ -56,17 +39,10 @@ returns-then-left-gap-clause-piece g c =
     )
 
 pub returns-then-left-gap-clause-mask : goal.returns-then-left-gap-clause-mask
-returns-then-left-gap-clause-mask g c =
-    let l = c.loop-index in
-    marks-later c.args.mask l.index (l.index + l.left + 1) l.block (omega arith) l.invariant.marks
+returns-then-left-gap-clause-mask g c = grind (arith, common_steps, marks-later)
 
 pub returns-then-index-end-clause-within : goal.returns-then-index-end-clause-within
-returns-then-index-end-clause-within g c =
-    let end = c.band_end-end.ensures in (
-      omega (arith, end, c.requires.from),
-      omega (arith, end),
-      λ h. omega (arith, end, h),
-    )
+returns-then-index-end-clause-within g c = grind (arith, common_steps)
 
 pub returns-then-index-end-clause-piece : goal.returns-then-index-end-clause-piece
 returns-then-index-end-clause-piece g c =
@@ -90,10 +66,7 @@ returns-then-index-end-clause-piece g c =
     )
 
 pub returns-then-index-end-clause-mask : goal.returns-then-index-end-clause-mask
-returns-then-index-end-clause-mask g c =
-    let l = c.loop-index in
-    marks-later c.args.mask l.index c.band_end-end.result l.block (omega (arith, c.loop-index-test.true))
-    l.invariant.marks
+returns-then-index-end-clause-mask g c = grind (arith, common_steps, marks-later)
 
 -- at the coefficient after the gap
 pub returns-in_default-clause-piece : goal.returns-in_default-clause-piece
@@ -171,17 +144,4 @@ loop-index-preserved g c =
     }
 
 pub returns-clause-piece : goal.returns-clause-piece
-returns-clause-piece g c =
-    let a = c.args.piece in
-    let p = pass_in a.pass in
-    let l = c.loop-index in
-    let end = c.band_end-end.ensures in
-    let last = c.requires.pass.end in
-    rw end (
-      l.invariant.walk.0,
-      λ k. let at = l.invariant.walk.1 k in (
-        at.0,
-        at.1 ∙ at-end p.al l.left a.from (band_end p) l.index l.block (upcoming l.held l.source.bytes)
-            (omega (arith, last)) (omega (arith, end, c.loop-index-test.false, l.invariant.within)),
-      ),
-    )
+returns-clause-piece g c = grind (arith, common_steps, at-end)

@@ -1,19 +1,13 @@
-use Rattle.std.proofs.Common.{◌+◌, ◌<◌, sym, ◌∙◌, arith}
+use Rattle.std.proofs.Common.{◌+◌, ◌∙◌, arith}
 use Rattle.jpeg_bits.specs.BlockView.{pass_in}
 use Rattle.jpeg_bits.specs.ZigzagParts.{band_end}
 use Rattle.jpeg_bits.proofs.BlockWalks.{at-start, at-end}
 use Rattle.jpeg_bits.proofs.Masks.{gap-zeros, gap-values, gap-some, at-skips, at-keeps, at-gap, marks-later}
 use Rattle.jpeg_bits.proofs.refinement.pass_piece.Goals as goal
+use Rattle.std.proofs.lemmas.Grind.{common_steps}
 
 pub loop-index-init : goal.loop-index-init
-loop-index-init c =
-    let a = c.args.piece in
-    let p = pass_in a.pass in
-    record {
-      after = omega arith;
-      within = c.requires.from;
-      walk = λ block t long marks zeros. sym (at-start p.al a.zeros a.from (band_end p) block t);
-    }
+loop-index-init c = grind (arith, common_steps, at-start)
 
 pub returns-then-index-end-clause-piece : goal.returns-then-index-end-clause-piece
 returns-then-index-end-clause-piece c block t long marks zeros =
@@ -59,17 +53,7 @@ returns-then-left-gap-clause-piece c block t long marks zeros =
     c.zeros_from-gap.ensures.zeros)
 
 pub loop-index-smaller : goal.loop-index-smaller
-loop-index-smaller c =
-    let l = c.loop-index in
-    let end = c.band_end-end.ensures in
-    let last = c.requires.pass.end in
-    let kept = c.zeros_from-index.result in
-    let gap = c.zeros_from-gap.result in
-    let before : l.index + kept < c.band_end-end.result =
-    omega (arith, c.zeros_from-index.ensures.within, c.if-index-end.false) in
-    let some : 0 < gap = gap-some c.args.mask (l.index + kept) gap c.band_end-end.result c.ranges.mask.fits
-    (omega (arith, end, last)) before (c.zeros_from-index.ensures.stop before) c.zeros_from-gap.ensures.stop in
-    omega (arith, some, before)
+loop-index-smaller c = grind (arith, common_steps, gap-some)
 
 pub loop-index-preserved : goal.loop-index-preserved
 loop-index-preserved c =
@@ -99,12 +83,4 @@ loop-index-preserved c =
     }
 
 pub returns-clause-piece : goal.returns-clause-piece
-returns-clause-piece c block t long marks zeros =
-    let a = c.args.piece in
-    let p = pass_in a.pass in
-    let l = c.loop-index in
-    let end = c.band_end-end.ensures in
-    let last = c.requires.pass.end in
-    rw end (l.invariant.walk block t long marks zeros
-    ∙ at-end p.al l.left a.from (band_end p) l.index block t (omega (arith, last))
-    (omega (arith, end, c.loop-index-test.false, l.invariant.within)))
+returns-clause-piece c block t long marks zeros = grind (arith, common_steps, at-end)

@@ -47,9 +47,7 @@ returns-in_default-correct_piece-clause-reads g c =
     c.in_default-correct_piece.ensures.piece
 
 pub returns-in_default-correct_piece-clause-others : goal.returns-in_default-correct_piece-clause-others
-returns-in_default-correct_piece-clause-others g c =
-    let l = c.loop-index in
-    search (rules, kept-rest, l.invariant.from, l.invariant.others, c.in_default-correct_piece.ensures.others)
+returns-in_default-correct_piece-clause-others g c = search (rules, kept-rest)
 
 pub loop-index-preserved-in-Zeros : goal.loop-index-preserved-in-Zeros
 loop-index-preserved-in-Zeros g c =
@@ -85,9 +83,7 @@ returns-in_default-correct_piece-2-clause-reads g c =
     (rw c.from-zeros.ensures at c.in_default-correct_piece-2.ensures.piece)
 
 pub returns-in_default-correct_piece-2-clause-others : goal.returns-in_default-correct_piece-2-clause-others
-returns-in_default-correct_piece-2-clause-others g c =
-    let l = c.loop-index in
-    search (rules, kept-rest, l.invariant.from, l.invariant.others, c.in_default-correct_piece-2.ensures.others)
+returns-in_default-correct_piece-2-clause-others g c = search (rules, kept-rest)
 
 pub loop-index-preserved : goal.loop-index-preserved
 loop-index-preserved g c =
@@ -137,9 +133,7 @@ returns-in-Some-correct_piece-3-clause-reads g c =
     c.in-Some-correct_piece-3.ensures.piece
 
 pub returns-in-Some-correct_piece-3-clause-others : goal.returns-in-Some-correct_piece-3-clause-others
-returns-in-Some-correct_piece-3-clause-others g c =
-    let l = c.loop-index in
-    search (rules, kept-rest, l.invariant.from, l.invariant.others, c.in-Some-correct_piece-3.ensures.others)
+returns-in-Some-correct_piece-3-clause-others g c = search (rules, kept-rest)
 
 pub returns-in-None-clause-reads : goal.returns-in-None-clause-reads
 returns-in-None-clause-reads g c =
@@ -153,9 +147,7 @@ returns-in-None-clause-reads g c =
     (λ (run : ℕ). (band_in p l.block, run)) (c.band_end-end.result - l.index) _ (omega arith) c.in-None.ensures.piece
 
 pub returns-in-None-clause-others : goal.returns-in-None-clause-others
-returns-in-None-clause-others g c =
-    let l = c.loop-index in
-    search (rules, kept-rest, l.invariant.from, l.invariant.others, c.in-None.ensures.others)
+returns-in-None-clause-others g c = search (rules, kept-rest)
 
 pub returns-clause-reads : goal.returns-clause-reads
 returns-clause-reads g c =

@@ -1,11 +1,10 @@
-use Rattle.std.proofs.Common.{[], ◌∷◌, refl, ◌≡◌, ◌∙◌, ap, map, List, ℕ, rules}
+use Rattle.std.proofs.Common.{[], ◌∷◌, refl, ◌≡◌, ◌∙◌, ap, map, List, ℕ, rules, arith}
 use Rattle.jpeg_segments.specs.Frame.{Factors, greatest}
-use Rattle.std.specs.List.{AllByRecursion}
-use Rattle.jpeg_segments.specs.FrameView.{component_in, factors_in, frame_in}
-use Rattle.jpeg_lossless.specs.Pictures.{IsPlain}
+use Rattle.jpeg_segments.specs.FrameView.{component_in, factors_in}
 use Rattle.jpeg_segments.specs.declared.parser.Component.{Component as Given}
 use Rattle.jpeg_lossless.proofs.ImageLoops.{picture-plain, plain-long}
 use Rattle.jpeg_lossless.proofs.picture.compute_image_lossless_into.Goals as goal
+use Rattle.std.proofs.lemmas.Grind.{common_steps}
 
 seen : (cs : List Given) → map factors_in cs ≡ map (λ c. c.factors) (map component_in cs)
 seen [] = refl
@@ -35,10 +34,7 @@ is_plain-requires-clause-vertical c =
     most (λ f. f.vertical) _ _ _ c.greatest_of-horizontal.ensures.vertical c.deref.ensures.value
 
 pub write_plain-requires-clause-long : goal.write_plain-requires-clause-long
-write_plain-requires-clause-long c =
-    let frame = frame_in c.args.frame.now in
-    let plain : AllByRecursion (IsPlain frame) frame.components = search rules in
-    plain-long frame frame.components (map (λ v. v.items) c.args.planes.now) c.requires.whole plain c.requires.reaches
+write_plain-requires-clause-long c = grind (arith, common_steps, plain-long)
 
 pub returns-then-is_plain-clause-pixels : goal.returns-then-is_plain-clause-pixels
 returns-then-is_plain-clause-pixels c = search (rules, picture-plain)

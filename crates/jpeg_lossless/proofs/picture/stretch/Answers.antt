@@ -1,8 +1,9 @@
-use Rattle.std.proofs.Common.{◌≡◌, ◌+◌, ◌∙◌, ap, arith, length, sym, take}
+use Rattle.std.proofs.Common.{◌+◌, ◌∙◌, arith, length, take}
 use Rattle.std.proofs.lemmas.List.{take_all, take_more_set}
-use Rattle.jpeg_lossless.proofs.StretchedLines.{IsColumn, copied_whole, next_column, same_column, stretched, stretched_step}
+use Rattle.jpeg_lossless.proofs.StretchedLines.{IsColumn, copied_whole, next_column, same_column, stretched_step}
 use Rattle.jpeg_lossless.proofs.picture.stretch.Goals.{then-rest-from, else-rest-from}
 use Rattle.jpeg_lossless.proofs.picture.stretch.Goals as goal
+use Rattle.std.proofs.lemmas.Grind.{common_steps}
 
 pub returns-then-factor-most : goal.returns-then-factor-most
 returns-then-factor-most c =
@@ -37,9 +38,4 @@ loop-x-preserved c =
     }
 
 pub returns : goal.returns
-returns c =
-    let a = c.args in
-    let l = c.loop-x in
-    let end : l.x ≡ length a.line.now = omega (arith, l.auto.x-end, c.loop-x-test.false) in
-    sym (take_all l.x l.line (omega (arith, l.auto.line, end))) ∙ l.invariant.line
-    ∙ ap (stretched a.own.now a.factor a.most) end
+returns c = grind (arith, common_steps, take_all)

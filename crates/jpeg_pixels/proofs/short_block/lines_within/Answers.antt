@@ -1,9 +1,10 @@
-use Rattle.std.proofs.Common.{subst, sym}
+use Rattle.std.proofs.Common.{subst, sym, arith}
 use Rattle.jpeg_pixels.specs.Samples.{column_value, dequantized}
 use Rattle.jpeg_pixels.specs.ShortRows.{HasShorts}
 use Rattle.jpeg_pixels.proofs.Corners.{no_product_below, no_value_right}
 use Rattle.jpeg_pixels.proofs.ShortPasses.{zero_shorts}
 use Rattle.jpeg_pixels.proofs.short_block.lines_within.Goals as goal
+use Rattle.std.proofs.lemmas.Grind.{common_steps}
 
 pub returns-then-is_in_corner : goal.returns-then-is_in_corner
 returns-then-is_in_corner c quantization table within =
@@ -22,7 +23,4 @@ returns-then-is_in_corner c quantization table within =
     (sym kept_columns) columns)
 
 pub returns-else-is_in_corner : goal.returns-else-is_in_corner
-returns-else-is_in_corner c quantization table within =
-    c.short_lines-else-is_in_corner.ensures (column_value c.args.coefficients quantization)
-    (c.short_columns.ensures c.args.coefficients quantization within
-    (c.short_inputs-inputs.ensures quantization table within))
+returns-else-is_in_corner c quantization table within = grind (arith, common_steps)

@@ -2,12 +2,13 @@ use Rattle.std.proofs.Common.{◌≡◌, ℕ, ◌-◌, ◌++◌, ◌∷◌, [], 
 use Rattle.std.proofs.lemmas.List.{map-append}
 use Rattle.std.proofs.lemmas.List.Elements.{All-push}
 use Rattle.std.proofs.lemmas.Result.{err_from_is_err_and}
-use Rattle.jpeg_bits.proofs.Loops.{Continues-ok, Continues-err, Continues-end, bind_at, bind_err}
+use Rattle.jpeg_bits.proofs.Loops.{Continues-ok, Continues-end, bind_at, bind_err}
 use Rattle.jpeg_segments.specs.declared.frame_header.Factors.{Factors as Read}
 use Rattle.jpeg_segments.specs.Frame.{Factors, IsInRange, components_from, factors_at}
 use Rattle.jpeg_segments.specs.FrameView.{factors_of}
 use Rattle.jpeg_segments.proofs.FrameLemmas.{components_from-more, components_from-none}
 use Rattle.jpeg_segments.proofs.frame_header.read_components.Goals as goal
+use Rattle.std.proofs.lemmas.Grind.{common_steps}
 
 abbrev all_of : Vec Read Global → List Factors
 all_of v = map factors_of v.items
@@ -40,16 +41,7 @@ loop-left-preserved g c =
 
 pub returns-in_err-factors-clause-answers : goal.returns-in_err-factors-clause-answers
 returns-in_err-factors-clause-answers g c =
-    let lossless = c.args.lossless in
-    let left = c.loop-left.left in
-    let front = all_of c.loop-left.components in
-    let shown : c.deref.result.now ≡ c.loop-left.components.items = c.deref.ensures.value in
-    let p = err_from_is_err_and c.from_residual-in_err-factors.result c.from_residual-in_err-factors.ensures.1 in
-    rw (p.1, p.2) (Continues-err all_of factors_of (components_from lossless c.args.count [])
-    (λ (bs : List ℕ). components_from lossless left front bs)
-    (factors_at lossless front) c.args.source.now c.loop-left.source c.read_factors.new.source _
-    (λ f e. components_from-more lossless left front c.loop-left.source.bytes c.loop-left-test.true ∙ bind_err _ _ _ e)
-    c.loop-left.invariant.rest (rw shown at c.in_err-factors.ensures.answers))
+    grind (arith, common_steps, err_from_is_err_and, components_from-more, bind_err)
 
 pub returns-clause-answers : goal.returns-clause-answers
 returns-clause-answers g c =

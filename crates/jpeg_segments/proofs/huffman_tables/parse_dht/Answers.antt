@@ -1,13 +1,13 @@
-use Rattle.std.proofs.Common.{◌≡◌, ◌-◌, true, false, arith, ◌∙◌, List, ℕ, Vec, Global, Option, refl, eqb}
-use Rattle.std.proofs.lemmas.Bool.Decides.{nat_tests}
+use Rattle.std.proofs.Common.{◌≡◌, ◌-◌, true, arith, ◌∙◌, List, ℕ, Vec, Global, Option}
 use Rattle.std.proofs.lemmas.Result.{err_from_is_err_and}
 use Rattle.jpeg_segments.specs.HuffmanTables.{Tables, PlacedTable, size_of, with_table, dht_at, tables_from}
 use Rattle.jpeg_segments.specs.HuffmanTables.{placed_codes_at}
 use Rattle.jpeg_segments.specs.declared.huffman_tables.PlacedTable.{PlacedTable as Read}
 use Rattle.jpeg_bits.specs.Codes.{Table}
-use Rattle.jpeg_bits.proofs.Loops.{Continues-ok, Continues-err, Continues-end, bind_at, bind_err}
-use Rattle.jpeg_segments.proofs.HuffmanLemmas.{tables_from-more, tables_from-rest, Continues-refused}
+use Rattle.jpeg_bits.proofs.Loops.{Continues-ok, bind_at, bind_err}
+use Rattle.jpeg_segments.proofs.HuffmanLemmas.{tables_from-more, tables_from-rest}
 use Rattle.jpeg_segments.proofs.huffman_tables.parse_dht.Goals as goal
+use Rattle.std.proofs.lemmas.Grind.{common_steps}
 
 abbrev view_of : Vec (Option Table) Global × Vec (Option Table) Global → Tables
 view_of t = record { dc = t.0.items; ac = t.1.items }
@@ -44,36 +44,10 @@ loop-left-preserved g c =
 
 pub returns-in_err-placed-clause-tables : goal.returns-in_err-placed-clause-tables
 returns-in_err-placed-clause-tables g c =
-    let p = err_from_is_err_and c.from_residual-in_err-placed.result c.from_residual-in_err-placed.ensures.1 in
-    let i = c.loop-left.invariant.rest in
-    let left = c.loop-left.left in
-    let greatest = c.greatest_place-greatest.result in
-    let tables = view_of c.loop-left.tables in
-    rw (p.1, p.2) (Continues-err view_of placed_of (dht_at c.args.is_baseline) (λ (bs : List ℕ). tables_from i.0
-    greatest left tables bs)
-    (placed_codes_at greatest left) c.args.reader.now c.loop-left.reader c.read_placed_table.new.source _
-    (λ f e. tables_from-more i.0 greatest left tables c.loop-left.reader.bytes c.loop-left-test.true i.1
-    ∙ bind_err _ _ _ e)
-    i.2 c.in_err-placed.ensures.answers)
+    grind (arith, common_steps, err_from_is_err_and, tables_from-more, bind_err)
 
 pub returns-then-left-gt0-clause-tables : goal.returns-then-left-gt0-clause-tables
-returns-then-left-gt0-clause-tables g c =
-    let i = c.loop-left.invariant.rest in
-    let left = c.loop-left.left in
-    let greatest = c.greatest_place-greatest.result in
-    let tables = view_of c.loop-left.tables in
-    let z : eqb left 0 ≡ false = grind (arith, nat_tests) in
-    Continues-refused view_of (dht_at c.args.is_baseline) (λ (bs : List ℕ). tables_from i.0 greatest left tables bs)
-    c.args.reader.now c.loop-left.reader c.format_error_of.result c.format_error_of.ensures
-    (tables_from-rest i.0 greatest left tables c.loop-left.reader.bytes c.loop-left-test.false ∙ rw z refl) i.2
+returns-then-left-gt0-clause-tables g c = grind (arith, common_steps, tables_from-rest)
 
 pub returns-clause-tables : goal.returns-clause-tables
-returns-clause-tables g c =
-    let i = c.loop-left.invariant.rest in
-    let left = c.loop-left.left in
-    let greatest = c.greatest_place-greatest.result in
-    let tables = view_of c.loop-left.tables in
-    let z : eqb left 0 ≡ true = grind (arith, nat_tests) in
-    Continues-end view_of (dht_at c.args.is_baseline) (λ (bs : List ℕ). tables_from i.0 greatest left tables bs)
-    c.args.reader.now c.loop-left.reader c.loop-left.tables
-    (tables_from-rest i.0 greatest left tables c.loop-left.reader.bytes c.loop-left-test.false ∙ rw z refl) i.2
+returns-clause-tables g c = grind (arith, common_steps, tables_from-rest)

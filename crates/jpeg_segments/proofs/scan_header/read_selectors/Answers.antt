@@ -3,12 +3,13 @@ use Rattle.std.proofs.Common.{arith}
 use Rattle.std.proofs.lemmas.List.{map-append}
 use Rattle.std.proofs.lemmas.List.Elements.{All-push}
 use Rattle.std.proofs.lemmas.Result.{err_from_is_err_and}
-use Rattle.jpeg_bits.proofs.Loops.{Continues-ok, Continues-err, Continues-end, bind_at, bind_err}
+use Rattle.jpeg_bits.proofs.Loops.{Continues-ok, Continues-end, bind_at, bind_err}
 use Rattle.jpeg_segments.specs.declared.scan_header.Selector.{Selector as Read}
 use Rattle.jpeg_segments.specs.ScanHeader.{IsSelectorOf, Selector, selectors_from, selector_at}
 use Rattle.jpeg_segments.specs.FrameView.{frame_in, selector_of}
 use Rattle.jpeg_segments.proofs.ScanLemmas.{rises-all, rises-more, selectors_from-more, selectors_from-none}
 use Rattle.jpeg_segments.proofs.scan_header.read_selectors.Goals as goal
+use Rattle.std.proofs.lemmas.Grind.{common_steps}
 
 abbrev all_of : Vec Read Global → List Selector
 all_of v = map selector_of v.items
@@ -43,17 +44,7 @@ loop-left-preserved g c =
 
 pub returns-in_err-selector-clause-answers : goal.returns-in_err-selector-clause-answers
 returns-in_err-selector-clause-answers g c =
-    let frame = frame_in c.args.frame.now in
-    let left = c.loop-left.left in
-    let least = c.loop-left.least in
-    let front = all_of c.loop-left.selectors in
-    let p = err_from_is_err_and c.from_residual-in_err-selector.result c.from_residual-in_err-selector.ensures.1 in
-    rw (p.1, p.2) (Continues-err all_of selector_of (selectors_from frame c.args.count [] 0)
-    (λ (bs : List ℕ). selectors_from frame left front least bs)
-    (selector_at frame least) c.args.source.now c.loop-left.source c.read_selector.new.source _
-    (λ f e. selectors_from-more frame left front least c.loop-left.source.bytes c.loop-left-test.true
-    ∙ bind_err _ _ _ e)
-    c.loop-left.invariant.rest c.in_err-selector.ensures.answers)
+    grind (arith, common_steps, err_from_is_err_and, selectors_from-more, bind_err)
 
 pub returns-clause-answers : goal.returns-clause-answers
 returns-clause-answers g c =

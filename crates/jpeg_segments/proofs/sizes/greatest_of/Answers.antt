@@ -6,6 +6,7 @@ use Rattle.jpeg_segments.specs.declared.parser.Component.{Component as Read}
 use Rattle.jpeg_segments.proofs.FrameLemmas.{greatest-next, greatest-some, greatest-most, greatest-covers}
 use Rattle.jpeg_segments.proofs.ScaleLemmas.{seen-in-range}
 use Rattle.jpeg_segments.proofs.sizes.greatest_of.Goals as goal
+use Rattle.std.proofs.lemmas.Grind.{common_steps}
 
 abbrev across : Factors → ℕ
 across c = c.horizontal
@@ -36,38 +37,17 @@ loop-component-preserved c =
     }
 
 pub returns-clause-some_horizontal : goal.returns-clause-some_horizontal
-returns-clause-some_horizontal c =
-    let h : c.loop-component.horizontal ≡ greatest across (map factors_in c.args.components.now) =
-    c.loop-component.invariant.horizontal
-    ∙ ap (λ (xs : List Read). greatest across (map factors_in xs))
-    (take_all c.loop-component.component-index c.args.components.now c.loop-component-test.false) in rw h
-    (greatest-some across (map factors_in c.args.components.now))
+returns-clause-some_horizontal c = grind (arith, common_steps, take_all, greatest-some)
 
 pub returns-clause-some_vertical : goal.returns-clause-some_vertical
-returns-clause-some_vertical c =
-    let h : c.loop-component.vertical ≡ greatest down (map factors_in c.args.components.now) =
-    c.loop-component.invariant.vertical
-    ∙ ap (λ (xs : List Read). greatest down (map factors_in xs))
-    (take_all c.loop-component.component-index c.args.components.now c.loop-component-test.false) in rw h
-    (greatest-some down (map factors_in c.args.components.now))
+returns-clause-some_vertical c = grind (arith, common_steps, take_all, greatest-some)
 
 pub returns-clause-most_horizontal : goal.returns-clause-most_horizontal
 returns-clause-most_horizontal c =
-    let h : c.loop-component.horizontal ≡ greatest across (map factors_in c.args.components.now) =
-    c.loop-component.invariant.horizontal
-    ∙ ap (λ (xs : List Read). greatest across (map factors_in xs))
-    (take_all c.loop-component.component-index c.args.components.now c.loop-component-test.false) in rw h
-    (greatest-most across (map factors_in c.args.components.now) (λ x p. p.horizontal_most)
-    (seen-in-range c.args.components.now c.requires))
+    grind (arith, common_steps, take_all, greatest-most, seen-in-range)
 
 pub returns-clause-most_vertical : goal.returns-clause-most_vertical
-returns-clause-most_vertical c =
-    let h : c.loop-component.vertical ≡ greatest down (map factors_in c.args.components.now) =
-    c.loop-component.invariant.vertical
-    ∙ ap (λ (xs : List Read). greatest down (map factors_in xs))
-    (take_all c.loop-component.component-index c.args.components.now c.loop-component-test.false) in rw h
-    (greatest-most down (map factors_in c.args.components.now) (λ x p. p.vertical_most)
-    (seen-in-range c.args.components.now c.requires))
+returns-clause-most_vertical c = grind (arith, common_steps, take_all, greatest-most, seen-in-range)
 
 pub returns-clause-covers_horizontal : goal.returns-clause-covers_horizontal
 returns-clause-covers_horizontal c =

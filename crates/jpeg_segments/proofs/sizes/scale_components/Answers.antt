@@ -1,8 +1,9 @@
-use Rattle.std.proofs.Common.{sym, ◌∙◌, map, arith}
+use Rattle.std.proofs.Common.{sym, map, arith}
 use Rattle.std.proofs.lemmas.List.{length-map}
 use Rattle.jpeg_segments.specs.FrameView.{component_in}
 use Rattle.jpeg_segments.proofs.ScaleLemmas.{across-at, changed-all, changed-none, down-at, seen-more}
 use Rattle.jpeg_segments.proofs.sizes.scale_components.Goals as goal
+use Rattle.std.proofs.lemmas.Grind.{common_steps}
 
 pub loop-component-init : goal.loop-component-init
 loop-component-init c = sym (changed-none _ (map component_in c.args.components.now))
@@ -19,13 +20,7 @@ scale_component-requires-clause-vertical c =
     c.loop-component.invariant c.loop-component-test.true c.loop-component.auto.components c.requires.covers_vertical
 
 pub loop-component-preserved : goal.loop-component-preserved
-loop-component-preserved c =
-    seen-more _ c.loop-component.component-index c.args.components.now c.loop-component.components
-    c.scale_component.new.component
-    c.loop-component.invariant c.loop-component-test.true c.loop-component.auto.components c.scale_component.ensures
+loop-component-preserved c = grind (arith, common_steps, seen-more)
 
 pub returns : goal.returns
-returns c =
-    c.loop-component.invariant
-    ∙ changed-all _ c.loop-component.component-index (map component_in c.args.components.now)
-    (rw (length-map c.args.components.now component_in) (omega (arith, c.loop-component-test.false)))
+returns c = grind (arith, common_steps, changed-all, length-map)

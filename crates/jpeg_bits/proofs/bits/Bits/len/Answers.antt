@@ -1,8 +1,7 @@
-use Rattle.std.proofs.Common.{◌∙◌, sym, ap, length, ◌/◌, ◌^◌, ◌-◌}
 use Rattle.jpeg_bits.proofs.WrittenBits.{length-low_bits}
 use Rattle.jpeg_bits.proofs.bits.Bits.len.Goals as goal
+use Rattle.std.proofs.lemmas.Grind.{common_steps}
+use Rattle.std.proofs.Common.{arith}
 
 pub returns-clause-count : goal.returns-clause-count
-returns-clause-count c =
-    let s = c.self.inside in
-    sym (length-low_bits s.count (s.word / 2 ^ (64 - s.count))) ∙ ap length c.self.view_is
+returns-clause-count c = grind (arith, common_steps, length-low_bits)

@@ -1,15 +1,14 @@
-use Rattle.std.proofs.Common.{◌∙◌, ◌≤◌, ◌<◌, ◌+◌, ◌++◌, ◌/◌, ◌^◌, ◌-◌, ap, ℕ, List, Bool, length, arith, sym, subst}
+use Rattle.std.proofs.Common.{◌∙◌, ◌≤◌, ◌<◌, ◌+◌, ◌++◌, ap, ℕ, List, Bool, arith, sym, subst}
 use Rattle.jpeg_bits.specs.Entropy.{bits_of}
 use Rattle.jpeg_bits.specs.Reservoir.{bits_held, IsReservoir}
 use Rattle.jpeg_bits.proofs.WrittenBits.{length-low_bits}
 use Rattle.jpeg_bits.proofs.Reservoirs.{byte_zeros, byte_held, byte_fits, byte_shifted}
 use Rattle.jpeg_bits.proofs.bits.Bits.push.Goals as goal
 use Rattle.jpeg_bits.proofs.bits.Bits.push.Goals.{After-self}
+use Rattle.std.proofs.lemmas.Grind.{common_steps}
 
 few : (c : After-self) → c.self.inside.count ≤ 56
-few c =
-    let s = c.self.inside in
-    omega (arith, sym (length-low_bits s.count (s.word / 2 ^ (64 - s.count))) ∙ ap length c.self.view_is, c.requires)
+few c = grind (arith, common_steps, length-low_bits)
 
 pub overflow_sub-self : goal.overflow_sub-self
 overflow_sub-self c = few c

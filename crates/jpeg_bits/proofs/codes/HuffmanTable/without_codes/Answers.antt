@@ -1,8 +1,9 @@
-use Rattle.std.proofs.Common.{◌≡◌, ◌∙◌, refl, sym, ap, arith, length, replicate, ℕ, List, slice_index_or, None, Option}
+use Rattle.std.proofs.Common.{◌≡◌, refl, arith, length, replicate, ℕ, List, slice_index_or, None, Option}
 use Rattle.jpeg_bits.specs.Codes.{code_in, code_lengths, lengths_from, first_from}
 use Rattle.jpeg_bits.specs.Written.{low_bits}
 use Rattle.jpeg_bits.specs.ShortCodes.{short_code}
 use Rattle.jpeg_bits.proofs.codes.HuffmanTable.without_codes.Goals as goal
+use Rattle.std.proofs.lemmas.Grind.{common_steps}
 
 no-lengths : length (code_lengths (replicate 16 0)) ≡ 0
 unfolding lengths_from
@@ -17,13 +18,4 @@ unfolding code_in lengths_from first_from
 no-code symbols b = refl
 
 pub invariant_of-result : goal.invariant_of-result
-invariant_of-result c = (
-  refl,
-  no-lengths ∙ ap length (sym c.new.ensures.items),
-  c.rows_of.ensures,
-  λ b lt. ap (λ (xs : List (Option (ℕ × ℕ))). slice_index_or xs b (none_of (ℕ × ℕ))) c.new-2.ensures.items
-      ∙ no-code c.new.result.items b,
-  λ b lt. absurd (omega (arith, lt, ap length c.new-3.ensures.items)),
-  λ b lt. absurd (omega (arith, lt, ap length c.new-4.ensures.items)),
-  omega (arith, ap length c.new.ensures.items),
-)
+invariant_of-result c = grind (arith, common_steps, no-lengths, slice_index_or, no-code)
