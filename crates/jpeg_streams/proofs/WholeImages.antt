@@ -17,10 +17,11 @@ use Rattle.jpeg_streams.specs.Stream.{sized_to}
 use Rattle.jpeg_streams.specs.ScanSegments.{is_progressive}
 use Rattle.jpeg_streams.specs.Found.{Found}
 use Rattle.jpeg_streams.specs.WrittenScans.{Coefficients, IsComplete}
-use Rattle.jpeg_streams.specs.ArrayPictures.{plane_of_array, planes_of_array, picture_of_array, meaning_of_array}
+use Rattle.jpeg_streams.specs.ArrayPictures.{as_sent, plane_of_blocks, planes_of_blocks, picture_of_blocks}
+use Rattle.jpeg_streams.specs.ArrayPictures.{picture_of_array, meaning_of_array}
 use Rattle.jpeg_streams.proofs.BroughtLevels.{after-length}
 use Rattle.jpeg_streams.specs.WrittenImages.{Writes, closed, segment, scan, WritesImage}
-use Rattle.jpeg_streams.specs.WholeImages.{plane_whole, planes_whole, picture_whole, whole_meaning, AllComplete}
+use Rattle.jpeg_streams.specs.WholeImages.{whole_meaning, AllComplete}
 use Rattle.jpeg_streams.proofs.ReadTurns.{same-frame}
 use Rattle.jpeg_bits.proofs.BandSteps.{bind_same}
 use Rattle.jpeg_streams.proofs.Apart.{map-same}
@@ -58,26 +59,26 @@ plane-same : (scale : ℕ) (table : List ℕ) (wide high : ℕ) (f g : ℕ → �
 unfolding plane_of
 plane-same scale table wide high f g h = grind (arith, common_steps, map-same)
 
-plane-whole : (c : Component) (table : List ℕ) (l : Levels) (array : ℕ → ℕ → Block) → IsComplete l
-    → ((row column : ℕ) → length (array row column).acs ≡ length l.acs)
-    → plane_of_array c table l array ≡ plane_whole c table array
-unfolding plane_of_array plane_whole
-plane-whole c table l array done h = search (rules, plane-same, cut-whole)
+-- planes are alike where their blocks are
+plane-alike : (c : Component) (table : List ℕ) (f g : ℕ → ℕ → Block) → ((row column : ℕ) → f row column ≡ g row column)
+    → plane_of_blocks c table f ≡ plane_of_blocks c table g
+unfolding plane_of_blocks
+plane-alike c table f g h = search (rules, plane-same)
 
 planes-whole : (said : Found) (array : Coefficients) (levels : ℕ → Levels) (place : ℕ) (cs : List Component)
     → AllByRecursion (λ k. IsComplete (levels k)) (range_with_len place (length cs))
     → ((k row column : ℕ) → length (array k row column).acs ≡ length (levels k).acs)
-    → planes_of_array said array levels place cs ≡ planes_whole said array place cs
-unfolding planes_of_array planes_whole
+    → planes_of_blocks said (as_sent array levels) place cs ≡ planes_of_blocks said array place cs
+unfolding planes_of_blocks
 planes-whole said array levels place [] done h = refl
 planes-whole said array levels place (c ∷ cs) done h =
-    search (rules, bind_same, plane-whole, planes-whole said array levels (place + 1) cs done.1 h)
+    search (rules, bind_same, plane-alike, cut-whole, planes-whole said array levels (place + 1) cs done.1 h)
 
 picture-whole : (settings : Settings) (said : Found) (array : Coefficients) (levels : ℕ → Levels) (frame : Frame)
     → said.frame ≡ Some frame → AllComplete frame levels
     → ((k row column : ℕ) → length (array k row column).acs ≡ length (levels k).acs)
-    → picture_of_array settings said array levels ≡ picture_whole settings said array
-unfolding picture_of_array picture_whole
+    → picture_of_array settings said array levels ≡ picture_of_blocks settings said array
+unfolding picture_of_blocks
 picture-whole settings said array levels frame e done h = search (rules, planes-whole)
 
 -- ---- the levels of a stream

@@ -10,7 +10,7 @@ use Rattle.jpeg_segments.specs.Frame.{Component, Frame}
 use Rattle.jpeg_segments.specs.HuffmanTables.{Tables}
 use Rattle.jpeg_segments.specs.ScanHeaders.{scan_payload, scan_written}
 use Rattle.jpeg_segments.specs.WrittenSegments.{code_of, payload_of, sized}
-use Rattle.jpeg_streams.specs.ArrayPictures.{picture_of_array}
+use Rattle.jpeg_streams.specs.ArrayPictures.{picture_of_array, picture_of_blocks, planes_of_blocks}
 use Rattle.jpeg_streams.specs.declared.settings.Settings.{Settings}
 use Rattle.jpeg_streams.specs.Levels.{Is8Bit, Levels, nothing_sent}
 use Rattle.jpeg_streams.specs.Order.{grid_of, Spot}
@@ -20,7 +20,7 @@ use Rattle.jpeg_streams.specs.ScanSegments.{Coding, is_progressive, pass_of, com
 use Rattle.jpeg_streams.specs.Found.{nothing_found, Found}
 use Rattle.jpeg_streams.specs.Stream.{Told, told_of}
 use Rattle.jpeg_streams.specs.FoundPictures.{picture_by}
-use Rattle.jpeg_streams.specs.WholeImages.{AllComplete, picture_whole, planes_whole}
+use Rattle.jpeg_streams.specs.WholeImages.{AllComplete}
 use Rattle.jpeg_streams.specs.WrittenImages.{closed, scan as then_scan, segment as then_segment, Writes, WritesImage}
 use Rattle.jpeg_streams.specs.WrittenParts.{AgreeOnOwn, HaveSamePicture, nothing, picture_meant_by, scan, segment}
 use Rattle.jpeg_streams.specs.WrittenParts.{WritesFront}
@@ -81,8 +81,8 @@ picture-alone (Err e) told rest = refl
 same-planes : (a b : Found) (array : Coefficients) (place : ℕ) (cs : List Component)
     → AllByRecursion (λ c. slice_index_or a.quantization c.factors.quantization None
     ≡ slice_index_or b.quantization c.factors.quantization None) cs
-    → planes_whole a array place cs ≡ planes_whole b array place cs
-unfolding planes_whole
+    → planes_of_blocks a array place cs ≡ planes_of_blocks b array place cs
+unfolding planes_of_blocks
 same-planes a b array place [] h = refl
 same-planes a b array place (c ∷ cs) h = search (rules, bind_same, same-planes a b array (place + 1) cs h.1)
 
@@ -90,12 +90,12 @@ same-planes a b array place (c ∷ cs) h = search (rules, bind_same, same-planes
 picture_in_frame : Settings → Coefficients → Found → Frame → Result (List ℕ) Fault
 picture_in_frame settings array said f =
     cond (nat_lt settings.limit (length f.components * (f.output_width * f.output_height))) (Err Malformed)
-    (planes_whole said array 0 f.components >>=
+    (planes_of_blocks said array 0 f.components >>=
     (λ (planes : List (List ℕ)). picture_by settings said.metadata f f.components planes))
 
 framed-picture : (settings : Settings) (array : Coefficients) (said : Found) (f : Frame) → said.frame ≡ Some f
-    → picture_whole settings said array ≡ picture_in_frame settings array said f
-unfolding picture_whole picture_in_frame
+    → picture_of_blocks settings said array ≡ picture_in_frame settings array said f
+unfolding picture_of_blocks picture_in_frame
 framed-picture settings array said f e = then-ok (needed said.frame) _ f _ (ap needed e) refl
 
 same-framed : (settings : Settings) (array : Coefficients) (a b : Found) (h : HaveSamePicture a b)
@@ -104,7 +104,7 @@ unfolding picture_in_frame picture_by
 same-framed settings array a b h = search (rules, bind_same, same-planes)
 
 pub same-picture : (settings : Settings) (array : Coefficients) (a b : Found) → HaveSamePicture a b
-    → picture_whole settings a array ≡ picture_whole settings b array
+    → picture_of_blocks settings a array ≡ picture_of_blocks settings b array
 same-picture settings array a b h =
     framed-picture settings array a h.frame_a h.is_a ∙ same-framed settings array a b h
     ∙ sym (framed-picture settings array b h.frame_b h.is_b)
@@ -113,12 +113,12 @@ whole-picture : (settings : Settings) (array : Coefficients) (bytes rest : List 
     (frame : Frame)
     → ((place row column : ℕ) → Is8Bit (array place row column)) → WritesImage array bytes final last
     → final.frame ≡ Some frame → AllComplete frame last
-    → picture_meant_by settings (bytes ++ rest) ≡ picture_whole settings final array
+    → picture_meant_by settings (bytes ++ rest) ≡ picture_of_blocks settings final array
 whole-picture settings array bytes rest final last frame range w e done =
     ap (λ o. o >>= (λ m. Ok m.0.1))
     (stream-means settings array bytes rest final last range w
     ∙ whole-is settings array bytes rest final last frame range w e done)
-    ∙ picture-alone (picture_whole settings final array) (told_of final) rest
+    ∙ picture-alone (picture_of_blocks settings final array) (told_of final) rest
 
 pub one-picture : (settings : Settings) (array : Coefficients) (first second rest others : List ℕ) (a b : Found)
     (last_a last_b : ℕ → Levels)

@@ -35,7 +35,8 @@ use Rattle.jpeg_streams.specs.declared.before.Before.TheVariants.{Elsewhere}
 use Rattle.jpeg_streams.specs.Levels.{Levels, Is8Bit, cut}
 use Rattle.jpeg_streams.proofs.FinishedPlaces.{is_level_0}
 use Rattle.jpeg_streams.specs.WrittenScans.{Coefficients, HasTable, IsComplete}
-use Rattle.jpeg_streams.specs.ArrayPictures.{HasTransform, IsTransformOf, Takes, plane_of_array, planes_of_array}
+use Rattle.jpeg_streams.specs.ArrayPictures.{HasTransform, IsTransformOf, Takes, plane_of_blocks, planes_of_blocks}
+use Rattle.jpeg_streams.specs.ArrayPictures.{as_sent, picture_of_blocks}
 use Rattle.jpeg_streams.specs.ArrayPictures.{picture_of_array}
 use Rattle.jpeg_streams.specs.WrittenImages.{WritesImage}
 use Rattle.jpeg_streams.proofs.OwnSpots.{At, at-within, Fits, in-below}
@@ -74,8 +75,9 @@ inside-own x s w some h = let d = div-mul-le_self x s in (below-ceiling (x / s) 
 
 pub plane-same : (frame : Frame) (c : Component) (table : List ℕ) (l : Levels) (array : ℕ → ℕ → Block)
     (blocks : List Block) → 0 < c.scale → Fits frame c → HoldsOwn (grid_of c) array l blocks
-    → SamePlane (c.blocks_wide * c.scale) c.width c.height (plane_by c table blocks) (plane_of_array c table l array)
-unfolding plane_by plane_of_array
+    → SamePlane (c.blocks_wide * c.scale) c.width c.height (plane_by c table blocks)
+    (plane_of_blocks c table (λ row column. cut l (array row column)))
+unfolding plane_by plane_of_blocks
 plane-same frame c table l array blocks some fits holds =
     let s = c.scale in
     let wide = c.blocks_wide in
@@ -178,13 +180,13 @@ module _ (f : Frame) (array : Coefficients) (final : Found) (last : ℕ → Leve
     ours : List (List ℕ)
     theirs : List (List ℕ)
     ours_are : planes_from found f place components ≡ Ok ours
-    theirs_are : planes_of_array final array last place components ≡ Ok theirs
+    theirs_are : planes_of_blocks final (as_sent array last) place components ≡ Ok theirs
     alike : AllAlike components ours theirs
 
   planes-end : (scaled : (k : ℕ) (c : Component) → At k f.components c → 0 < c.scale) (place : ℕ)
       (components : List Component)
       → ((j : ℕ) (c : Component) → At j components c → At (place + j) f.components c) → BothPlanes place components
-  unfolding planes_from planes_of_array
+  unfolding planes_from planes_of_blocks
   planes-end scaled place [] within = record { ours = []; theirs = []; ours_are = refl; theirs_are = refl; alike = tt }
   planes-end scaled place (c ∷ more) within =
       let start : place + 0 ≡ place = omega arith in
@@ -195,12 +197,12 @@ module _ (f : Frame) (array : Coefficients) (final : Found) (last : ℕ → Leve
       subst (λ (n : ℕ). At n f.components d) next (within (suc j) d u)) in
       record {
         ours = plane_by c e.table e.blocks ∷ others.ours;
-        theirs = plane_of_array c e.table (last place) (array place) ∷ others.theirs;
+        theirs = plane_of_blocks c e.table (as_sent array last place) ∷ others.theirs;
         ours_are = then-ok (plane_at_end found f place c) _ (plane_by c e.table e.blocks) _ e.is
             (then-ok (planes_from found f (place + 1) more) _ others.ours _ others.ours_are refl);
         theirs_are = then-ok (needed (slice_index_or final.quantization c.factors.quantization None)) _ e.table _
             (ap needed e.is_table)
-            (then-ok (planes_of_array final array last (place + 1) more) _ others.theirs _ others.theirs_are refl);
+            (then-ok (planes_of_blocks final (as_sent array last) (place + 1) more) _ others.theirs _ others.theirs_are refl);
         alike = (
           plane-same f c e.table (last place) (array place) e.blocks (scaled place c t)
               (shape.fits place c t) e.holds,
@@ -234,14 +236,14 @@ found-picture : (settings : Settings) (found : Found) (f : Frame) (planes : List
 unfolding picture_of blocks_picture
 found-picture settings found f planes n e p = search (rules, then-ok)
 
-array-picture : (settings : Settings) (w : Found) (array : Coefficients) (levels : ℕ → Levels) (f : Frame)
-    (planes : List (List ℕ)) → w.frame ≡ Some f → planes_of_array w array levels 0 f.components ≡ Ok planes
-    → picture_of_array settings w array levels
+blocks-picture : (settings : Settings) (w : Found) (blocks : Coefficients) (f : Frame) (planes : List (List ℕ))
+    → w.frame ≡ Some f → planes_of_blocks w blocks 0 f.components ≡ Ok planes
+    → picture_of_blocks settings w blocks
     ≡ (if nat_lt settings.limit
     (length f.components * (f.output_width * f.output_height)) then Err Malformed else picture_by settings w.metadata
     f f.components planes)
-unfolding picture_of_array
-array-picture settings w array levels f planes e p = search (rules, then-ok)
+unfolding picture_of_blocks
+blocks-picture settings w blocks f planes e p = search (rules, then-ok)
 
 pub pictures-same : (settings : Settings) (f : Frame) (array : Coefficients) (final : Found) (last : ℕ → Levels)
     → Shaped f → (end : Ended f array final last)
@@ -253,7 +255,7 @@ pictures-same settings f array final last shape end =
     found-picture settings (reading final true end.held end.finished end.planes) f b.ours shape.lossy end.frame_is
     b.ours_are
     ∙ (search (rules, picture-by-same))
-    ∙ sym (array-picture settings final array last f b.theirs end.frame_is b.theirs_are)
+    ∙ sym (blocks-picture settings final (as_sent array last) f b.theirs end.frame_is b.theirs_are)
 
 pub rest-by : (settings : Settings) (found all : Found) (bytes rest : List ℕ)
     → segments_at false Elsewhere found None bytes ≡ Ok (all, rest)
@@ -324,7 +326,7 @@ pictures-taken settings array final last f sources shape end is takes =
     let picture = picture-there settings final f f.components b.ours b.theirs sources
     (subst (λ (g : Frame). HasTransform settings final g.components) same takes.transform) is b.alike in (
       picture.0,
-      array-picture settings final array last f b.theirs end.frame_is b.theirs_are
+      blocks-picture settings final (as_sent array last) f b.theirs end.frame_is b.theirs_are
           ∙ within-limit settings.limit (length f.components * (f.output_width * f.output_height))
           (picture_by settings final.metadata f f.components b.theirs) limit
           ∙ picture.1,

@@ -19,32 +19,39 @@ use Rattle.jpeg_streams.specs.WrittenScans.{Coefficients}
 
 -- ---- the picture
 
--- The plane of a component: each block, cut at the bits that were sent, is dequantized and
--- transformed.
-unfoldable pub plane_of_array : Component → List ℕ → Levels → (ℕ → ℕ → Block) → List ℕ
-plane_of_array c table l array =
+-- The plane of a component: each block is dequantized and transformed.
+unfoldable pub plane_of_blocks : Component → List ℕ → (ℕ → ℕ → Block) → List ℕ
+plane_of_blocks c table blocks =
     plane_of c.scale (values_in_block_order table) c.blocks_wide c.blocks_high
-    (λ row column. coefficients_in_block_order (listed (cut l (array row column))))
+    (λ row column. coefficients_in_block_order (listed (blocks row column)))
 
--- the planes of some components, from a place in the frame on, by the tables that were said
-unfoldable pub planes_of_array :
-    Found → Coefficients → (ℕ → Levels) → ℕ → List Component → Result (List (List ℕ)) Fault
-planes_of_array w array levels place [] = Ok []
-planes_of_array w array levels place (c ∷ more) =
-    needed (slice_index_or w.quantization c.factors.quantization None) >>= (λ table.
-    planes_of_array w array levels (place + 1) more >>= (λ others.
-    Ok (plane_of_array c table (levels place) (array place) ∷ others)))
+-- the planes of some components, from an index in the frame on, by the tables that were said
+unfoldable pub planes_of_blocks :
+    Found → Coefficients → ℕ → List Component → Result (List (List ℕ)) Fault
+planes_of_blocks said blocks index [] = Ok []
+planes_of_blocks said blocks index (c ∷ more) =
+    needed (slice_index_or said.quantization c.factors.quantization None) >>= (λ table.
+    planes_of_blocks said blocks (index + 1) more >>= (λ others.
+    Ok (plane_of_blocks c table (blocks index) ∷ others)))
 
--- The picture that the planes give, by upsampling and the conversion of colours, where it is within
--- the limit.
-unfoldable pub picture_of_array :
-    Settings → Found → Coefficients → (ℕ → Levels) → Result (List ℕ) Fault
-picture_of_array settings w array levels = do
-  f ← needed w.frame
+-- The picture of an image's blocks, where it is within the limit: that of their planes, by
+-- upsampling and the conversion of colours.
+unfoldable pub picture_of_blocks : Settings → Found → Coefficients → Result (List ℕ) Fault
+picture_of_blocks settings said blocks = do
+  f ← needed said.frame
   if nat_lt settings.limit (length f.components * (f.output_width * f.output_height))
       then Err Malformed else (do
-        planes ← planes_of_array w array levels 0 f.components
-        picture_by settings w.metadata f f.components planes)
+        planes ← planes_of_blocks said blocks 0 f.components
+        picture_by settings said.metadata f f.components planes)
+
+-- the blocks of an image, cut at the bits that were sent
+abbrev pub as_sent : Coefficients → (ℕ → Levels) → Coefficients
+as_sent array levels = λ index row column. cut (levels index) (array index row column)
+
+-- the picture of the coefficients of an image, as far as their bits were sent
+abbrev pub picture_of_array :
+    Settings → Found → Coefficients → (ℕ → Levels) → Result (List ℕ) Fault
+picture_of_array settings said array levels = picture_of_blocks settings said (as_sent array levels)
 
 -- The meaning of a stream that says this and sends these levels: what a caller is given, the
 -- picture, and the bytes after the image.
