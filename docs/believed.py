@@ -125,10 +125,15 @@ class Specs:
         return seen
 
     def seeds(self, path, functions):
-        """What the contracts of the public functions of a Rust file, and its models, name."""
+        """What the contracts of the public functions of a Rust file, and the views of its types, name.
+
+        The invariant of a model isn't counted: that it holds of each value is proved, and no clause
+        says it.
+        """
         text = (ROOT / "crates" / (path + ".rt")).read_text("utf8")
         parts = re.findall(r"(?m)^ *pub fn (?:" + functions + r")\b[\s\S]*?\n *\{", text)
-        parts += re.findall(r"(?m)^impl[^\n]* Model for [\s\S]*?^\}", text)
+        models = "\n".join(re.findall(r"(?m)^impl[^\n]* Model for [\s\S]*?^\}", text))
+        parts.append(re.sub(r"ghost invariant = \{[\s\S]*?\};", "", models))
         clauses = re.sub(r"(?m)//.*|^ *ghost use .*", "", "\n".join(parts))
         return self.named(clauses, imports(text, "ghost use"))
 

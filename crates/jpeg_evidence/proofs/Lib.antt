@@ -14,3 +14,4 @@ pub mod TakenBlocks
 pub mod TakenTurns
 pub mod TakenRefinements
 pub mod TakenScans
+pub mod ReadScans

@@ -16,7 +16,8 @@ use Rattle.jpeg_evidence.specs.Strict.{alone, IsCut, IsNumber, IsValue, Follows,
 use Rattle.jpeg_evidence.specs.Strict.{HasBytes, IsBand}
 use Rattle.jpeg_evidence.specs.Strict.Follows.{value, sixteen, ended}
 use Rattle.jpeg_evidence.specs.Strict.TokensFit.{filled, token}
-use Rattle.jpeg_evidence.proofs.TakenBits.{map-parts, bind-parts, ok-parts, cut-map, cut-none, cut-both, Both}
+use Rattle.jpeg_evidence.proofs.TakenBits.{map-parts, cut-map, cut-none, cut-both, Both}
+use Rattle.jpeg_streams.proofs.TakenTexts.{bind-parts, ok-parts}
 use Rattle.jpeg_evidence.proofs.TakenTokens.{token-taken}
 
 of-value : (r s k : ℕ) (u : ℤ) (own : List Bool) → Follows r s (Value k u) own → (r ≡ k) × (0 < s) × IsValue s u own

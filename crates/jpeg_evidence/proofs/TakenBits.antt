@@ -22,6 +22,7 @@ use Rattle.std.specs.Option.{option_map}
 use Rattle.std.proofs.lemmas.List.{take-take}
 use Rattle.jpeg_bits.proofs.WrittenBits.{number_onto}
 use Rattle.jpeg_bits.proofs.Reservoirs.{low_bits-high}
+use Rattle.jpeg_streams.proofs.TakenTexts.{bind-parts, no-error, ok-parts}
 use Rattle.jpeg_evidence.specs.Strict.{alone, IsCut, IsNumber}
 
 number-split : (a : ℕ) (bs : List Bool) → number_onto a bs ≡ a * 2 ^ length bs + number_of bs
@@ -85,28 +86,6 @@ bits-of-length n bs h = (
 )
 
 -- ---- what was read
-
-result-of : {A : Type 0} → A × Text → Result (A × Text) Fault → A × Text
-result-of d (Ok x) = x
-result-of d (Err e) = d
-
-pub ok-parts : {A : Type 0} (a b : A) (t u : Text) → ◌≡◌ {A = Result (A × Text) Fault} (Ok (a, t)) (Ok (b, u))
-    → (a ≡ b) × (t ≡ u)
-unfolding result-of
-ok-parts {A} a b t u e = (ap (λ o. (result-of (a, t) o).0) e, ap (λ o. (result-of (a, t) o).1) e)
-
-pub no-error : {A : Type 0} (f : Fault) (x : A × Text) → ◌≡◌ {A = Result (A × Text) Fault} (Err f) (Ok x) → ⊥
-no-error f x e = cc
-
-pub bind-parts : {A B : Type 0} (p : Reads A) (f : A → Reads B) (s t : Text) (y : B)
-    → (p >>= f) s ≡ Ok (y, t)
-    → (a : A) × (u : Text) × (p s ≡ Ok (a, u)) × (f a u ≡ Ok (y, t))
-bind-parts {A} {B} p f s t y e = go (p s) refl e
-  where
-    go : (o : Result (A × Text) Fault) → p s ≡ o → read_on f o ≡ Ok (y, t)
-        → (a : A) × (u : Text) × (p s ≡ Ok (a, u)) × (f a u ≡ Ok (y, t))
-    go (Ok r) h k = (r.0, r.1, h, k)
-    go (Err x) h k = absurd (no-error x (y, t) k)
 
 pub map-parts : {A B : Type 0} (p : Reads A) (f : A → B) (s t : Text) (y : B)
     → (p >>= (λ a. gives (f a))) s ≡ Ok (y, t) → (a : A) × (p s ≡ Ok (a, t)) × (f a ≡ y)

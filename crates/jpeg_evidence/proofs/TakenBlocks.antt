@@ -23,7 +23,8 @@ use Rattle.jpeg_streams.proofs.CutLevels.{band-map}
 use Rattle.jpeg_evidence.specs.Strict.{alone, IsCut, HasBytes, TokensFit, Fits, room_after, IsBand, IsBlock}
 use Rattle.jpeg_evidence.specs.Strict.{BlockFits, HasTables}
 use Rattle.jpeg_evidence.specs.Strict.TokensFit.{filled, token}
-use Rattle.jpeg_evidence.proofs.TakenBits.{bind-cut, bind-parts, map-parts, ok-parts, cut-map, cut-none, Both}
+use Rattle.jpeg_evidence.proofs.TakenBits.{bind-cut, map-parts, cut-map, cut-none, Both}
+use Rattle.jpeg_streams.proofs.TakenTexts.{bind-parts, ok-parts}
 use Rattle.jpeg_evidence.proofs.TakenBits.{number-taken}
 use Rattle.jpeg_evidence.proofs.TakenRefinements.{IsHeld, IsCorrected, IsRefined, alike-long, alike-none, one-bit}
 use Rattle.jpeg_evidence.proofs.TakenRefinements.{corrected-taken, refined-taken}

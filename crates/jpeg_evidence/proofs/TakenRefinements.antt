@@ -25,7 +25,8 @@ use Rattle.jpeg_streams.proofs.WrittenRefinements.{corrections-zero, corrections
 use Rattle.jpeg_streams.proofs.WrittenRefinements.{with_last-end, new-scaled, map-scaled, through-zero, through-other}
 use Rattle.jpeg_evidence.specs.Strict.{alone, IsCut, IsNumber, HasBytes, count_zeros, PiecesFit}
 use Rattle.jpeg_evidence.specs.Strict.PiecesFit.{covered, new, zeros, last}
-use Rattle.jpeg_evidence.proofs.TakenBits.{number-taken, symbol-taken, bind-cut, bind-parts, map-parts, ok-parts, no-error}
+use Rattle.jpeg_evidence.proofs.TakenBits.{number-taken, symbol-taken, bind-cut, map-parts}
+use Rattle.jpeg_streams.proofs.TakenTexts.{bind-parts, ok-parts, no-error}
 use Rattle.jpeg_evidence.proofs.TakenBits.{cut-map, cut-none, cut-both, Both}
 use Rattle.jpeg_evidence.proofs.TakenBands.{run-small}
 

@@ -11,7 +11,8 @@ use Rattle.jpeg_bits.specs.declared.tokens.Token.{Token}
 use Rattle.jpeg_bits.specs.declared.tokens.Token.TheVariants.{Value, Sixteen, Rest, Overlong}
 use Rattle.jpeg_evidence.specs.Strict.{alone, IsCut, IsNumber, IsValue, Follows, IsToken}
 use Rattle.jpeg_evidence.specs.Strict.Follows.{value, sixteen, ended, overlong}
-use Rattle.jpeg_evidence.proofs.TakenBits.{number-taken, code-taken, map-parts, ok-parts, cut-map, cut-none}
+use Rattle.jpeg_evidence.proofs.TakenBits.{number-taken, code-taken, map-parts, cut-map, cut-none}
+use Rattle.jpeg_streams.proofs.TakenTexts.{ok-parts}
 use Rattle.jpeg_evidence.proofs.TakenBits.{bind-cut, Both}
 use Rattle.jpeg_evidence.proofs.TakenValues.{value-taken}
 

@@ -9,7 +9,8 @@ use Rattle.jpeg_streams.specs.WrittenData.{WritesBlocks}
 use Rattle.jpeg_streams.specs.WrittenData.WritesBlocks.{done, block}
 use Rattle.jpeg_evidence.specs.Strict.{alone, IsCut, IsBlock, BlocksFit, numbers_read}
 use Rattle.jpeg_evidence.specs.Strict.BlocksFit.{finished, next}
-use Rattle.jpeg_evidence.proofs.TakenBits.{bind-parts, map-parts, ok-parts, cut-map, cut-none, cut-both, Both}
+use Rattle.jpeg_evidence.proofs.TakenBits.{map-parts, cut-map, cut-none, cut-both, Both}
+use Rattle.jpeg_streams.proofs.TakenTexts.{bind-parts, ok-parts}
 use Rattle.jpeg_evidence.proofs.TakenBlocks.{block-taken}
 
 -- a block and those after it

@@ -13,7 +13,8 @@ use Rattle.jpeg_bits.specs.Bands.{difference, category_number}
 use Rattle.jpeg_bits.specs.Written.{low_bits, IsCoded, IsCategory, number_for}
 use Rattle.jpeg_streams.specs.WrittenData.{WritesDifference}
 use Rattle.jpeg_evidence.specs.Strict.{alone, IsCut, IsNumber, IsValue}
-use Rattle.jpeg_evidence.proofs.TakenBits.{number-taken, symbol-taken, map-parts, ok-parts, no-error, cut-map}
+use Rattle.jpeg_evidence.proofs.TakenBits.{number-taken, symbol-taken, map-parts, cut-map}
+use Rattle.jpeg_streams.proofs.TakenTexts.{ok-parts, no-error}
 use Rattle.jpeg_evidence.proofs.TakenBits.{cut-none, bind-cut, Both}
 
 -- ---- signed numbers

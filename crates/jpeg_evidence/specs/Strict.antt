@@ -9,8 +9,9 @@ use Rattle.jpeg_bits.specs.Bands.{difference, token_from, wrapped}
 use Rattle.jpeg_streams.specs.Levels.{cut_ac, cut_dc, numbers_at}
 use Rattle.jpeg_streams.specs.WrittenData.{WritesBand, WritesInterval, WritesDifference}
 use Rattle.jpeg_streams.specs.WrittenData.{WritesAc, WritesDc, WritesIntervals, no_numbers}
-use Rattle.jpeg_bits.specs.Passes.{Block, Pass, Via, band_of, block_from, dc_part}
-use Rattle.jpeg_bits.specs.Entropy.{Broken, Text, bits_from}
+use Rattle.jpeg_bits.specs.Passes.{Block, Pass, Via, band_of, block_from, blocks_of, dc_part}
+use Rattle.jpeg_bits.specs.Entropy.{Broken, Found, Text, bits_from, text_at}
+use Rattle.jpeg_bits.specs.Intervals.{predictors_at_start}
 use Rattle.jpeg_bits.specs.Marker.{marker_of}
 use Rattle.jpeg_bits.specs.Reading.{End}
 use Rattle.jpeg_bits.specs.Readers.{text}
@@ -219,3 +220,31 @@ pub record IsIntervals (p : Pass) (k : ℕ) (turns : List (Via × Block)) (more 
   pub parts : bytes ≡ front ++ marker fill code rest
   pub names : marker_of code ≡ Some m
   pub written : WritesIntervals p k turns more front
+
+-- ---- what is read of a scan
+
+-- An interval whose blocks fit its bits, up to a marker, and leave at most 7 of them.
+pub record IntervalFits (p : Pass) (turns : List (Via × Block)) (bytes : List ℕ) (m : Marker) (rest : List ℕ)
+    : Type 0 where
+  pub blocks : List Block
+  pub left : List Bool
+  pub ends : (text_at bytes).ending ≡ Found m rest
+  pub fit : BlocksFit p predictors_at_start 0 turns (text_at bytes).bits
+  pub are_read : blocks_of p predictors_at_start 0 turns (alone (text_at bytes).bits) ≡ Ok (blocks, alone left)
+  pub is_short : length left ≤ 7
+
+-- The intervals of a scan fit, one after the other.
+pub data IntervalsFit (p : Pass) : List (Via × Block) → List (List (Via × Block)) → List ℕ → Type 0 where
+  last : (turns : List (Via × Block)) (bytes rest : List ℕ) (m : Marker)
+      → IntervalFits p turns bytes m rest → IntervalsFit p turns [] bytes
+  another : (turns next : List (Via × Block)) (more : List (List (Via × Block))) (bytes rest : List ℕ) (m : Marker)
+      → IntervalFits p turns bytes m rest → IntervalsFit p next more rest
+      → IntervalsFit p turns (next ∷ more) bytes
+
+-- What a writer codes of the intervals after the first, where these blocks were read of all.
+unfoldable pub others_read : Pass → List (Via × Block) → List (List (Via × Block)) → List Block
+    → List (List (Via × Block))
+others_read p turns [] blocks = []
+others_read p turns (next ∷ more) blocks =
+    numbers_read p next (drop (length turns) blocks)
+    ∷ others_read p next more (drop (length turns) blocks)

@@ -1,10 +1,10 @@
 //! What is read of entropy-coded data was written: the writer's relation is no narrower than what
 //! is read of data that end where their blocks do.
-ghost use Rattle.std.specs.Prelude.{◌≡◌, ◌≤◌, ◌%◌, ◌∷◌, [], ℕ, ℤ, suc, Bool, List, Ok, length};
+ghost use Rattle.std.specs.Prelude.{◌≡◌, ◌≤◌, ◌%◌, ◌∷◌, [], ℕ, ℤ, suc, Bool, List, Ok, Some, length};
 ghost use Rattle.jpeg_bits.specs.Bands.{Band, difference, first_ac, first_dc, token_from};
 ghost use Rattle.jpeg_bits.specs.Codes.{IsTable, Table, symbol_from};
 ghost use Rattle.jpeg_bits.specs.Entropy.{Found, Text, bits_from, text_at};
-ghost use Rattle.jpeg_bits.specs.Intervals.{predictors_at_start};
+ghost use Rattle.jpeg_bits.specs.Intervals.{interval, intervals, predictors_at_start};
 ghost use Rattle.jpeg_bits.specs.Passes.{Block, Pass, Via, block_from, blocks_of};
 ghost use Rattle.jpeg_bits.specs.Readers.{signed_from};
 ghost use Rattle.jpeg_bits.specs.Written.{IsCoded};
@@ -14,8 +14,8 @@ ghost use Rattle.jpeg_bits.specs.declared.tokens.Token.{Token};
 ghost use Rattle.jpeg_streams.specs.WrittenData.{WritesBlocks, WritesDifference, no_numbers};
 ghost use Rattle.jpeg_evidence.specs.Strict.{BlockFits, BlocksFit, HasBytes, HasTables, IsBand};
 ghost use Rattle.jpeg_evidence.specs.Strict.{IsBlock, IsCut, IsData, IsDc, IsInterval, IsIntervals};
-ghost use Rattle.jpeg_evidence.specs.Strict.{IsNumber, IsToken, IsValue, TokensFit, alone};
-ghost use Rattle.jpeg_evidence.specs.Strict.{numbers_read};
+ghost use Rattle.jpeg_evidence.specs.Strict.{IntervalFits, IntervalsFit, IsNumber, IsToken, IsValue};
+ghost use Rattle.jpeg_evidence.specs.Strict.{TokensFit, alone, numbers_read, others_read};
 
 /// What is read of bits that nothing follows was written (T.81, C.2 and F.1.2): the bits that were
 /// taken are those of the number, of a code for the symbol, of the value, and of the DC difference.
@@ -118,4 +118,20 @@ pub fn intervals_of_a_scan_are_written()
         → IsInterval p turns bytes (RST (k % 8)) others
         → IsIntervals p (suc k) next more others m rest
         → IsIntervals p k turns (next ∷ more) bytes m rest }
+{}
+
+/// A scan of blocks that a decoder reads was written for the blocks that are read, where its
+/// intervals fit: each up to a marker, its blocks fit its bits, and they leave at most 7 of them
+/// (T.81, B.1.1.5, E.1.4 and F.1.2.3). An interval that fits is read. Here the zeros stand after
+/// its bits that a decoder reads up to the marker, and none is taken.
+pub fn scan_taken_is_written()
+    ensures interval { (p : Pass) (turns : List (Via × Block)) (bytes rest : List ℕ) (m : Marker)
+        → (fits : IntervalFits p turns bytes m rest)
+        → interval p turns bytes ≡ Ok ((fits.blocks, Some m), rest) }
+    ensures written { (p : Pass) (k : ℕ) (turns : List (Via × Block))
+        (more : List (List (Via × Block))) (bytes rest : List ℕ) (blocks : List Block) (m : Marker)
+        → IntervalsFit p turns more bytes
+        → intervals p k turns more bytes ≡ Ok ((blocks, Some m), rest)
+        → IsIntervals p k (numbers_read p turns blocks) (others_read p turns more blocks)
+        bytes m rest }
 {}

@@ -70,3 +70,4 @@ pub mod EncodedSamples
 pub mod PaddingUnseen
 pub mod SamplesAlike
 pub mod PlainScans
+pub mod TakenTexts

@@ -10,29 +10,30 @@ use Rattle.jpeg_lossless.specs.Differences.{difference, difference_of, differenc
 use Rattle.jpeg_lossless.specs.Scans.{Way, interval, intervals, is_of_rows, lines_above, rows_of_interval, scan_at}
 use Rattle.jpeg_bits.specs.Intervals.{is_restart}
 use Rattle.jpeg_streams.proofs.Shorter.{LeavesBelow, below-ok, below-err, below-bind}
-use Rattle.jpeg_streams.proofs.ShorterTexts.{StaysBelow, bind-stays, gives-stays, refused-stays, elim-stays}
-use Rattle.jpeg_streams.proofs.ShorterTexts.{signed-stays, symbol-stays, texts-below, upcoming-below, marker_from-below}
+use Rattle.jpeg_streams.proofs.ShorterTexts.{marker_from-below, takes-below, texts-below, upcoming-below}
+use Rattle.jpeg_streams.proofs.TakenTexts.{TakesBits, bind-takes, elim-takes, gives-takes, refused-takes}
+use Rattle.jpeg_streams.proofs.TakenTexts.{signed-takes, symbol-takes}
 
 -- ---- differences
 
-difference-stays : (limit : ℕ) (table : Table) → StaysBelow limit (difference table)
+difference-takes : (table : Table) → TakesBits (difference table)
 unfolding difference
-difference-stays limit table =
-    bind-stays limit (symbol_from table) _ (symbol-stays limit table) (λ s.
-    elim-stays limit (nat_le s 16) (difference_of s) refused
-    (search (rules, elim-stays, gives-stays, bind-stays, signed-stays))
-    (refused-stays ℕ limit))
+difference-takes table =
+    bind-takes (symbol_from table) _ (symbol-takes table) (λ s.
+    elim-takes (nat_le s 16) (difference_of s) refused
+    (search (rules, elim-takes, gives-takes, bind-takes, signed-takes))
+    (refused-takes ℕ))
 
-differences-stay : (limit : ℕ) (tables : List Table) → StaysBelow limit (differences tables)
+differences-take : (tables : List Table) → TakesBits (differences tables)
 unfolding differences
-differences-stay limit [] = gives-stays limit []
-differences-stay limit (table ∷ tables) =
-    search (rules, bind-stays, difference-stays, gives-stays, differences-stay limit tables)
+differences-take [] = gives-takes []
+differences-take (table ∷ tables) =
+    search (rules, bind-takes, difference-takes, gives-takes, differences-take tables)
 
-rows-stay : (limit : ℕ) (tables : List Table) (n : ℕ) → StaysBelow limit (rows_from tables n)
+rows-take : (tables : List Table) (n : ℕ) → TakesBits (rows_from tables n)
 unfolding rows_from
-rows-stay limit tables zero = gives-stays limit []
-rows-stay limit tables (suc n) = search (rules, bind-stays, differences-stay, gives-stays, rows-stay limit tables n)
+rows-take tables zero = gives-takes []
+rows-take tables (suc n) = search (rules, bind-takes, differences-take, gives-takes, rows-take tables n)
 
 -- ---- intervals
 
@@ -45,7 +46,8 @@ unfolding interval
 interval-below limit w n bytes h =
     let tables = row_tables w.wide (mcu_tables w.parts) in
     texts-below limit (rows_from tables n (upcoming fresh bytes)) _
-    ((rows-stay limit tables n).stays (upcoming fresh bytes) (upcoming-below limit bytes h)) (λ r a.
+    (takes-below limit (rows_from tables n) (upcoming fresh bytes) (rows-take tables n)
+    (upcoming-below limit bytes h)) (λ r a.
     below-bind limit limit (marker_from r.1) _ (marker_from-below limit r.1 a) (λ m q. below-ok limit _ m.1 q))
 
 restart-below : (limit : ℕ) (front : List (List (List ℕ))) (others : Outcome Lines) (b : Bool)

@@ -1,16 +1,15 @@
 -- What entropy-coded bits leave.
 use Rattle.std.proofs.Common.{rules, ◌≤◌, ◌<◌, ℕ, zero, suc, List, [], ◌∷◌, ◌++◌, drop, replicate, Result, Ok, Err}
-use Rattle.std.proofs.Common.{Bool, true, false, Option, Some, None, length, arith}
+use Rattle.std.proofs.Common.{Bool, true, false, length, arith, ◌≡◌, refl, sym, subst}
 use Rattle.std.specs.Prelude.{◌==◌, if◌then◌else◌}
 use Rattle.jpeg_bits.specs.Reading as reading
 use Rattle.jpeg_bits.specs.Reading.{Outcome, Fault}
-use Rattle.jpeg_bits.specs.Entropy.{Text, add_byte, ending_by, filled_end, bits_from, marker_from, Ending, Found}
-use Rattle.jpeg_bits.specs.Entropy.{Broken, no_bits, text_at, upcoming, fresh, advance, has_bits}
-use Rattle.jpeg_bits.specs.Readers.{Reads, ◌>>=◌, gives, refused, signed_from}
-use Rattle.jpeg_bits.specs.Codes.{Table, symbol_by, symbol_from, if_held, code_by, code_from, code_in, code_lengths}
-use Rattle.jpeg_bits.specs.Codes.{next_16}
+use Rattle.jpeg_bits.specs.Entropy.{Text, add_byte, ending_by, filled_end, marker_from, Ending, Found}
+use Rattle.jpeg_bits.specs.Entropy.{Broken, no_bits, text_at, upcoming, fresh, advance}
+use Rattle.jpeg_bits.specs.Readers.{Reads}
 use Rattle.jpeg_bits.specs.declared.ahead.DataEnd.{DataEnd}
 use Rattle.jpeg_streams.proofs.Shorter.{LeavesBelow, below-ok, below-err}
+use Rattle.jpeg_streams.proofs.TakenTexts.{TakesBits}
 
 -- each place of a text, and its end, has fewer bytes than the limit
 abbrev pub AllBelow : ℕ → List (List ℕ) → Type 0
@@ -85,62 +84,16 @@ unfoldable pub AfterIsBelow : {A : Type 0} → ℕ → Result (A × Text) Fault 
 AfterIsBelow limit (Ok x) = IsBelow limit x.1
 AfterIsBelow limit (Err fault) = Unit {0}
 
-pub record StaysBelow {A : Type 0} (limit : ℕ) (p : Reads A) : Type 0 where
-  pub stays : (t : Text) → IsBelow limit t → AfterIsBelow limit (p t)
-
-pub bind-stays : {A B : Type 0} (limit : ℕ) (p : Reads A) (f : A → Reads B) → StaysBelow limit p
-    → ((x : A) → StaysBelow limit (f x)) → StaysBelow limit (p >>= f)
+pub takes-below : {A : Type 0} (limit : ℕ) (p : Reads A) (t : Text) → TakesBits p → IsBelow limit t
+    → AfterIsBelow limit (p t)
 unfolding AfterIsBelow
-bind-stays {A} {B} limit p f h each = search rules
-
-pub gives-stays : {A : Type 0} (limit : ℕ) (x : A) → StaysBelow limit (gives x)
-unfolding AfterIsBelow
-gives-stays limit x = record { stays = λ t a. a }
-
-pub refused-stays : (A : Type 0) (limit : ℕ) → StaysBelow {A = A} limit refused
-unfolding AfterIsBelow
-refused-stays A limit = record { stays = λ t a. tt }
-
-pub elim-stays : {A : Type 0} (limit : ℕ) (b : Bool) (p q : Reads A) → StaysBelow limit p → StaysBelow limit q
-    → StaysBelow limit (elim b as (λ _. Reads A) [ true ↦ p | false ↦ q ])
-elim-stays limit true p q x y = x
-elim-stays limit false p q x y = y
-
-held-below : {A : Type 0} (limit : ℕ) (x : A) (t : Text) (r : Result (Unit {0}) Fault) → IsBelow limit t
-    → AfterIsBelow limit (reading.◌>>=◌ r (λ _. Ok (x, t)))
-unfolding AfterIsBelow
-held-below limit x t (Ok u) h = h
-held-below limit x t (Err f) h = tt
-
-if_held-below : {A : Type 0} (limit : ℕ) (x : A) (t : Text) (r : Result (Unit {0}) Fault) → IsBelow limit t
-    → AfterIsBelow limit (if_held x t r)
-unfolding AfterIsBelow
-if_held-below limit x t (Ok u) h = h
-if_held-below limit x t (Err f) h = tt
-
-pub bits-stays : (limit n : ℕ) → StaysBelow limit (bits_from n)
-unfolding bits_from
-bits-stays limit n = search (rules, held-below, advance-below)
-
-pub signed-stays : (limit n : ℕ) → StaysBelow limit (signed_from n)
-unfolding signed_from
-signed-stays limit n = bind-stays limit (bits_from n) _ (bits-stays limit n) (λ v. gives-stays limit _)
-
-pub code-stays : (limit : ℕ) (table : Table) → StaysBelow limit (code_from table)
-unfolding code_from AfterIsBelow
-code-stays limit table = record { stays = λ t a. go t a (code_in (code_lengths table.counts) (next_16 t.bits)) }
+takes-below {A} limit p t h a = go (p t) refl
   where
-    go : (t : Text) → IsBelow limit t → (o : Option (ℕ × ℕ)) → AfterIsBelow limit (code_by table t o)
-    go t a None = tt
-    go t a (Some c) = if_held-below limit _ (advance c.1 t) (has_bits c.1 t.bits t.ending) (advance-below limit c.1 t a)
-
-pub symbol-stays : (limit : ℕ) (table : Table) → StaysBelow limit (symbol_from table)
-unfolding symbol_from AfterIsBelow
-symbol-stays limit table = record { stays = λ t a. go t a (code_in (code_lengths table.counts) (next_16 t.bits)) }
-  where
-    go : (t : Text) → IsBelow limit t → (o : Option (ℕ × ℕ)) → AfterIsBelow limit (symbol_by table t o)
-    go t a None = tt
-    go t a (Some c) = held-below limit _ (advance c.1 t) (has_bits c.1 t.bits t.ending) (advance-below limit c.1 t a)
+    go : (o : Result (A × Text) Fault) → p t ≡ o → AfterIsBelow limit o
+    go (Ok x) e =
+        let r = h.taken t.bits t.places t.ending x.0 x.1 e in
+        subst (λ (u : Text). IsBelow limit u) (sym r.left_is) (advance-below limit r.n t a)
+    go (Err fault) e = tt
 
 -- bits and then bytes
 pub texts-below : {A B : Type 0} (limit : ℕ) (r : Result (A × Text) Fault) (f : A × Text → Outcome B)

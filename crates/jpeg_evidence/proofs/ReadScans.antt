@@ -1,0 +1,146 @@
+-- What a decoder reads of a scan, where it fits, is what the scan was written for.
+use Rattle.std.proofs.Common.{rules, ◌≡◌, ℕ, zero, suc, ◌+◌, ◌%◌, ◌≤◌, Bool, true, false, List, [], ◌∷◌, ◌++◌, length}
+use Rattle.std.proofs.Common.{drop, refl, sym, ap, ap₂, ◌∙◌, subst, arith, Ok, Err, Option, Some, None, eqb}
+use Rattle.std.proofs.lemmas.Bool.{le-leb, eqb-true, false≢true}
+use Rattle.jpeg_bits.specs.Reading.{End, Fault, Malformed, Outcome, ◌>>=◌}
+use Rattle.jpeg_bits.specs.Entropy.{Broken, Found, Text, advance, fresh, marker_from, text_at, upcoming}
+use Rattle.jpeg_bits.specs.Ends.{end_after}
+use Rattle.jpeg_bits.specs.Intervals.{after_restart, blocks_before, interval, intervals, is_restart, predictors_at_start}
+use Rattle.jpeg_bits.specs.Passes.{Block, Pass, Via, blocks_of}
+use Rattle.jpeg_bits.specs.declared.marker.Marker.{Marker}
+use Rattle.jpeg_bits.specs.declared.marker.Marker.TheVariants.{RST}
+use Rattle.jpeg_bits.proofs.EndLemmas.{ends-so}
+use Rattle.jpeg_streams.proofs.InTurn.{IsLongAfter, interval-long}
+use Rattle.jpeg_evidence.specs.Strict.{alone, IntervalFits, IntervalsFit, IsInterval, IsIntervals, numbers_read, others_read}
+use Rattle.jpeg_evidence.specs.Strict.IntervalsFit.{last, another}
+use Rattle.jpeg_streams.proofs.TakenTexts.{blocks-takes}
+use Rattle.jpeg_evidence.proofs.TakenIntervals.{interval-of-taken}
+use Rattle.jpeg_evidence.proofs.TakenScans.{another-interval, last-interval}
+
+-- An interval that fits is read, up to its marker.
+pub interval-read : (p : Pass) (turns : List (Via × Block)) (bytes rest : List ℕ) (m : Marker)
+    → (w : IntervalFits p turns bytes m rest) → interval p turns bytes ≡ Ok ((w.blocks, Some m), rest)
+unfolding interval upcoming end_after
+interval-read p turns bytes rest m w =
+    let t = text_at bytes in
+    let r = (blocks-takes p predictors_at_start 0 turns).taken t.bits [] (Broken End) w.blocks (alone w.left)
+    w.are_read in
+    let left : w.left ≡ drop r.n t.bits = ap (λ (u : Text). u.bits) r.left_is in
+    let few : length (drop r.n t.bits) ≤ 56
+    = let s : length (drop r.n t.bits) ≤ 7 = subst (λ (l : List Bool). length l ≤ 7) left w.is_short in omega arith in
+    let met : marker_from (advance r.n (upcoming fresh bytes)) ≡ Ok (Some m, rest)
+    = ends-so r.n bytes ∙ rw (le-leb (length (drop r.n t.bits)) 56 few, w.ends, end_after) refl in
+    ap (λ o. o >>= (λ x. marker_from x.1 >>= (λ m. Ok ((x.0, m.0), m.1)))) (r.anywhere refl (drop 56 t.places) t.ending)
+    ∙ ap (λ o. o >>= (λ m. Ok ((w.blocks, m.0), m.1))) met
+
+pub interval-written : (p : Pass) (turns : List (Via × Block)) (bytes rest : List ℕ) (m : Marker)
+    → (w : IntervalFits p turns bytes m rest) → IsInterval p (numbers_read p turns w.blocks) bytes m rest
+interval-written p turns bytes rest m w =
+    interval-of-taken p turns bytes rest m w.blocks (alone w.left) w.ends w.fit w.are_read w.is_short
+
+-- ---- blocks of several intervals
+
+numbers-front : (p : Pass) (turns : List (Via × Block)) (blocks others : List Block) → length blocks ≡ length turns
+    → numbers_read p turns (blocks ++ others) ≡ numbers_read p turns blocks
+unfolding numbers_read
+numbers-front p [] blocks others h = refl
+numbers-front p (t ∷ turns) [] others h = absurd (omega arith)
+numbers-front p (t ∷ turns) (b ∷ blocks) others h = grind (arith, numbers-front p turns blocks others)
+
+-- ---- the intervals of a scan
+
+restart-named : (k : ℕ) (m : Marker) → is_restart k (Some m) ≡ true → m ≡ RST (k % 8)
+restart-named k (RST n) h = ap RST (eqb-true n (k % 8) h)
+restart-named k m h = absurd (false≢true h)
+
+no-scan : (f : Fault) (r : (List Block × Option Marker) × List ℕ)
+    → ◌≡◌ {A = Outcome (List Block × Option Marker)} (Err f) (Ok r) → ⊥
+no-scan f r h = cc
+
+-- what is after the first interval, where it ended with this marker
+record AfterFirst (k : ℕ) (first blocks : List Block) (m n : Marker) (rest : List ℕ)
+    (others : Outcome (List Block × Option Marker)) : Type 0 where
+  more : List Block
+  are_read : others ≡ Ok ((more, Some n), rest)
+  together : first ++ more ≡ blocks
+  restart : m ≡ RST (k % 8)
+
+result-of : List Block × Option Marker → Outcome (List Block × Option Marker) → List Block × Option Marker
+result-of d (Ok r) = r.0
+result-of d (Err f) = d
+
+rest-of : Outcome (List Block × Option Marker) → List ℕ
+rest-of (Ok r) = r.1
+rest-of (Err f) = []
+
+scan-parts : (a b : List Block) (m n : Option Marker) (r s : List ℕ)
+    → ◌≡◌ {A = Outcome (List Block × Option Marker)} (Ok ((a, m), r)) (Ok ((b, n), s))
+    → (a ≡ b) × (m ≡ n) × (r ≡ s)
+unfolding result-of rest-of
+scan-parts a b m n r s h = (
+  ap (λ o. (result-of (a, m) o).0) h,
+  ap (λ o. (result-of (a, m) o).1) h,
+  ap rest-of h,
+)
+
+after-first : (k : ℕ) (first blocks : List Block) (m n : Marker) (rest : List ℕ)
+    (others : Outcome (List Block × Option Marker))
+    → (elim (is_restart k (Some m)) [ true ↦ blocks_before first others | false ↦ Err Malformed ])
+    ≡ Ok ((blocks, Some n), rest)
+    → AfterFirst k first blocks m n rest others
+after-first k first blocks m n rest others h = go (is_restart k (Some m)) refl others h
+  where
+    go : (b : Bool) → is_restart k (Some m) ≡ b → (o : Outcome (List Block × Option Marker))
+        → (elim b as (λ _. Outcome (List Block × Option Marker)) [
+          | true ↦ blocks_before first o
+          | false ↦ Err Malformed
+        ]) ≡ Ok ((blocks, Some n), rest)
+        → AfterFirst k first blocks m n rest o
+    go true e (Ok r) h =
+        let q = scan-parts (first ++ r.0.0) blocks r.0.1 (Some n) r.1 rest h in
+        record {
+          more = r.0.0;
+          are_read = ap₂ (λ (x : Option Marker) (y : List ℕ). Ok ((r.0.0, x), y)) q.1 q.2;
+          together = q.0;
+          restart = restart-named k m e;
+        }
+    go true e (Err f) h = absurd (no-scan f ((blocks, Some n), rest) h)
+    go false e o h = absurd (no-scan Malformed ((blocks, Some n), rest) h)
+
+some-is : (m n : Marker) → Some m ≡ Some n → m ≡ n
+some-is m n h = cc
+
+drop-front : {A : Type 0} (xs ys : List A) (n : ℕ) → length xs ≡ n → drop n (xs ++ ys) ≡ ys
+drop-front [] ys n h = search (rules, h)
+drop-front (x ∷ xs) ys n h = grind (arith, drop-front xs ys)
+
+-- The intervals of a scan that are read, and fit, are written for the blocks read.
+pub scan-written : (p : Pass) (k : ℕ) (turns : List (Via × Block)) (more : List (List (Via × Block)))
+    (bytes rest : List ℕ) (blocks : List Block) (m : Marker) → IntervalsFit p turns more bytes
+    → intervals p k turns more bytes ≡ Ok ((blocks, Some m), rest)
+    → IsIntervals p k (numbers_read p turns blocks) (others_read p turns more blocks) bytes m rest
+unfolding intervals others_read
+scan-written p k turns more bytes rest blocks m (last turns' bytes' rest' m' w) h =
+    let q = scan-parts w.blocks blocks (Some m') (Some m) rest' rest
+    (sym (interval-read p turns bytes rest' m' w) ∙ h) in
+    last-interval p k (numbers_read p turns blocks) bytes rest m
+    (subst (λ (l : List Block). IsInterval p (numbers_read p turns l) bytes m rest) q.0
+    (subst (λ (n : Marker). IsInterval p (numbers_read p turns w.blocks) bytes n rest) (some-is m' m q.1)
+    (subst (λ (r : List ℕ). IsInterval p (numbers_read p turns w.blocks) bytes m' r) q.2
+    (interval-written p turns bytes rest' m' w))))
+scan-written p k turns more bytes rest blocks m (another turns' next others bytes' after m' w fits) h =
+    let is = interval-read p turns bytes after m' w in
+    let a = after-first k w.blocks blocks m' m rest (intervals p (suc k) next others after)
+    (sym (ap (λ o. o >>= after_restart k (intervals p (suc k) next others)) is) ∙ h) in
+    let long : length w.blocks ≡ length turns
+    = subst (λ o. IsLongAfter (length turns) o) is (interval-long p turns bytes) in
+    let first : IsInterval p (numbers_read p turns blocks) bytes (RST (k % 8)) after
+    = subst (λ (n : Marker). IsInterval p (numbers_read p turns blocks) bytes n after) a.restart
+    (subst (λ (l : List (Via × Block)). IsInterval p l bytes m' after)
+    (sym (numbers-front p turns w.blocks a.more long) ∙ ap (numbers_read p turns) a.together)
+    (interval-written p turns bytes after m' w)) in
+    let rest-blocks : a.more ≡ drop (length turns) blocks
+    = sym (drop-front w.blocks a.more (length turns) long) ∙ ap (drop (length turns)) a.together in
+    another-interval p k (numbers_read p turns blocks) _ _ bytes after rest m first
+    (subst (λ (l : List Block). IsIntervals p (suc k) (numbers_read p next l) (others_read p next others l) after m rest)
+    rest-blocks (scan-written p (suc k) next others after rest a.more m fits a.are_read))
