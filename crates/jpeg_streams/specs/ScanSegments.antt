@@ -34,7 +34,7 @@ use Rattle.jpeg_streams.specs.Needed.{first_of, needed}
 use Rattle.jpeg_streams.specs.declared.before.Before.{Before}
 use Rattle.jpeg_streams.specs.declared.before.Before.TheVariants.{FirstScan, LaterScan}
 use Rattle.jpeg_streams.specs.Found.{Found, none_finished}
-use Rattle.jpeg_streams.specs.Segments.{Turn}
+use Rattle.jpeg_streams.specs.Segments.{Turn, onward}
 
 -- ---- scans
 
@@ -201,21 +201,17 @@ after_restarts (suc turns) met bytes = Ok (met, bytes)
 abbrev pub scan_before : Found → Before
 scan_before found = if found.scanned then LaterScan else FirstScan
 
+-- what a scan leads to: what is found after it, and the marker after it, if it is met
+abbrev pub scan_turn : Found → Found → Option Marker → Turn
+scan_turn found after met = record (onward after) { before = scan_before found; met = met }
+
 -- A scan of blocks.
 unfoldable pub blocks_scan : Found → Frame → Scan → List ℕ → Outcome Turn
 blocks_scan found frame scan bytes = do
   codings ← codings_of found frame scan
   read ← scan_arrays found frame scan codings bytes
   met ← after_restarts (suc (length read.1)) read.0.1 read.1
-  Ok (
-    record {
-      found = after_scan found frame scan codings read.0.0;
-      before = scan_before found;
-      met = met.0;
-      ended = false;
-    },
-    met.1,
-  )
+  Ok (scan_turn found (after_scan found frame scan codings read.0.0) met.0, met.1)
 
 -- The samples of a lossless scan, and the marker after it, if it is met.
 abbrev pub scan_samples : Found → Frame → Scan → List LosslessCoding → List ℕ
@@ -239,15 +235,7 @@ lossless_scan found frame scan bytes = do
   codings ← lossless_codings found.huffman.dc frame scan.components scan.dc_places
   read ← scan_samples found frame scan codings bytes
   met ← after_restarts (suc (length read.1)) read.0.1 read.1
-  Ok (
-    record {
-      found = after_samples found codings read.0.0;
-      before = scan_before found;
-      met = met.0;
-      ended = false;
-    },
-    met.1,
-  )
+  Ok (scan_turn found (after_samples found codings read.0.0) met.0, met.1)
 
 abbrev pub scan_by : CodingProcess → Found → Frame → Scan → List ℕ → Outcome Turn
 scan_by DctSequential found frame scan bytes = blocks_scan found frame scan bytes

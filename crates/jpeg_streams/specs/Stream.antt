@@ -24,16 +24,8 @@ use Rattle.jpeg_streams.specs.FoundPictures.{picture_of}
 
 -- the end of the image, which needs a frame
 unfoldable pub end_segment : Found → List ℕ → Outcome Turn
-end_segment found bytes =
-    if is_some found.frame then Ok (
-      record {
-        found = found;
-        before = Elsewhere;
-        met = None;
-        ended = true;
-      },
-      bytes,
-    ) else Err Malformed
+end_segment found bytes = if is_some found.frame
+    then Ok (record (onward found) { ended = true }, bytes) else Err Malformed
 
 -- A restart marker after a scan is ignored, once.
 abbrev pub stray_restart : Before → Found → List ℕ → Outcome Turn
