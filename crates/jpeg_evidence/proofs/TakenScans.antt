@@ -38,11 +38,7 @@ another-interval p k turns next more bytes others rest m w o =
       front = w.front ++ marker w.fill (0xD0 + k % 8) o.front;
       fill = o.fill;
       code = o.code;
-      parts = w.parts
-          ∙ ap (λ (l : List ℕ). w.front ++ marker w.fill w.code l) o.parts
-          ∙ ap (λ (c : ℕ). w.front ++ marker w.fill c (o.front ++ marker o.fill o.code rest)) code
-          ∙ ap (λ (l : List ℕ). w.front ++ l) (after-marker w.fill (0xD0 + k % 8) o.front (marker o.fill o.code rest))
-          ∙ sym (append_assoc w.front (marker w.fill (0xD0 + k % 8) o.front) (marker o.fill o.code rest));
+      parts = grind (arith, after-marker, append_assoc);
       names = o.names;
       written = another k w.fill turns next more w.front o.front w.written o.written;
     }
