@@ -1,4 +1,5 @@
 -- The transform is near the exact one.
+use Rattle.std.proofs.Common.{rules}
 use Rattle.std.proofs.Common.{◌≡◌, ℕ, ◌+◌, ◌*◌, ◌<◌, ◌≤◌, List, ℤ, pos, negsuc, neg_ℤ, ◌+ℤ◌, ◌-ℤ◌, ◌*ℤ◌}
 use Rattle.std.proofs.Common.{◌≤ℤ◌, ◌<ℤ◌, Bool, true, false, refl, arith, unsigned_abs, FitsSigned, le_trans}
 use Rattle.std.proofs.Common.{mul-le-mul_left}
@@ -54,10 +55,7 @@ module _ (coefficients : List ℤ) (quantization : List ℕ) where
       → unsigned_abs (dequantized coefficients quantization 0 column) ≤ 2048
       → column_value coefficients quantization row column ≡ general_value row column
   unfolding column_value
-  column_of row column true h flat small =
-      let l = not_large (dequantized coefficients quantization 0 column) small in
-      zero_column coefficients quantization row column h flat l.0 l.1
-  column_of row column false h flat small = rw flat refl
+  column_of row column x h flat small = grind (arith, not_large, zero_column)
 
   -- the sums of a column
   abbrev column_sum : ℕ → ℕ → ℤ
@@ -111,13 +109,7 @@ errors_are : (d : ℕ → ℕ → ℤ) (x y : ℕ) →
     pos 59604644775390625 *ℤ transformed (λ u. transformed (λ v. d v u) y) x -ℤ pos 2 *ℤ exact_sum d x y
     ≡ error_sum d x y
 unfolding transformed exact_sum error
-errors_are d x y =
-    difference (pos 59604644775390625) (pos 2)
-    (λ u. basis x u *ℤ sum_below (λ v. basis y v *ℤ d v u) 8)
-    (λ u. sum_below (λ v. weight x u *ℤ weight y v *ℤ d v u) 8)
-    (λ u. sum_below (λ v. (pos 59604644775390625 *ℤ (basis x u *ℤ basis y v)
-    -ℤ pos 2 *ℤ (weight x u *ℤ weight y v)) *ℤ d v u) 8) 8
-    (λ u. one_sum (pos 59604644775390625) (pos 2) (basis x u) (weight x u) (basis y) (weight y) (λ v. d v u) 8)
+errors_are d x y = search (rules, difference, one_sum)
 
 errors_small : (d : ℕ → ℕ → ℤ) (n x y : ℕ) → x < 8 → y < 8 → squares d ≤ℤ pos (n * n)
     → unsigned_abs (error_sum d x y) ≤ greatest * n

@@ -1,4 +1,5 @@
 -- Sums of products: how large they are at most.
+use Rattle.std.proofs.Common.{rules}
 use Rattle.std.proofs.Common.{◌≡◌, ℕ, zero, suc, ◌+◌, ◌*◌, ◌<◌, ◌≤◌, ℤ, pos, negsuc, neg_ℤ, ◌+ℤ◌, ◌-ℤ◌, ◌*ℤ◌, ◌≤ℤ◌}
 use Rattle.std.proofs.Common.{refl, subst, one-mul, mul-add, mul_comm, zero-lt-suc, arith, mul-le-mul, mul-le-mul_left}
 use Rattle.std.proofs.Common.{unsigned_abs, ap, ◌∙◌}
@@ -24,10 +25,7 @@ twice_more s t x y v w s' x' y' h g es ex ey = omega (arith, ints)
 more_products : (a b s x y t v w : ℤ) → (pos 2 *ℤ (a *ℤ b *ℤ s)) ≤ℤ (a *ℤ a *ℤ x +ℤ b *ℤ b *ℤ y)
     → (pos 2 *ℤ (a *ℤ b *ℤ t)) ≤ℤ (a *ℤ a *ℤ v +ℤ b *ℤ b *ℤ w)
     → (pos 2 *ℤ (a *ℤ b *ℤ (s +ℤ t))) ≤ℤ (a *ℤ a *ℤ (x +ℤ v) +ℤ b *ℤ b *ℤ (y +ℤ w))
-more_products a b s x y t v w h g =
-    twice_more (a *ℤ b *ℤ s) (a *ℤ b *ℤ t) (a *ℤ a *ℤ x) (b *ℤ b *ℤ y) (a *ℤ a *ℤ v) (b *ℤ b *ℤ w)
-    (a *ℤ b *ℤ (s +ℤ t)) (a *ℤ a *ℤ (x +ℤ v)) (b *ℤ b *ℤ (y +ℤ w)) h g (spread (a *ℤ b) s t)
-    (spread (a *ℤ a) x v) (spread (b *ℤ b) y w)
+more_products a b s x y t v w h g = search (rules, twice_more, spread)
 
 twice_at_most : (s t z : ℤ) → pos 0 ≤ℤ s → s +ℤ (t +ℤ t) ≡ z → (pos 2 *ℤ t) ≤ℤ z
 twice_at_most s t z h e = omega (arith, ints)

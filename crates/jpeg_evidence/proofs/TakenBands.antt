@@ -1,4 +1,5 @@
 -- The bits that were taken of a band in its first scan are those that are written for it.
+use Rattle.std.proofs.Common.{rules}
 use Rattle.std.proofs.Common.{◌≡◌, ◌≢◌, ℕ, zero, suc, ◌+◌, ◌-◌, ◌*◌, ◌^◌, ◌<◌, ◌≤◌, Bool, List, [], ◌∷◌, ◌++◌, map}
 use Rattle.std.proofs.Common.{length, take, drop, refl, sym, ap, ◌∙◌, subst, arith, Ok, ℤ, pos, append_assoc, append-nil, length-append}
 use Rattle.std.proofs.lemmas.List.{take-replicate, drop-replicate, length-replicate}
@@ -43,14 +44,7 @@ value-written table al r u band run own back bytes range w b =
     let coded = subst (λ (k : ℕ). IsCoded table (16 * k + w.s) w.code) f.0 w.coded in
     let cat = f.2.category in
     let front = map-no_numbers al r (u ∷ b.numbers) in
-    record {
-      numbers = no_numbers r ++ u ∷ b.numbers;
-      are = grind (arith, scaled-fits, append_assoc);
-      written = subst (λ (l : List Bool). WritesBand table (no_numbers r ++ u ∷ b.numbers) (l ++ back) run)
-          (ap (λ (l : List Bool). w.code ++ l) f.2.are ∙ w.whole)
-          (a_value r w.s u w.code b.numbers back run (run-small table r w.s w.code bytes coded)
-          (not-nothing w.s u f.1 cat) cat coded b.written);
-    }
+    grind (arith, scaled-fits, append_assoc, a_value, run-small, not-nothing)
 
 sixteen-written : (table : Table) (al : ℕ) (band : List ℤ) (run : ℕ) (own back : List Bool)
     → IsToken table Sixteen own → IsBand table al band run back
@@ -81,10 +75,7 @@ rest-written table al room run own bytes w =
       numbers = no_numbers (suc room);
       are = ap (map (scaled al)) (sym (append-nil (no_numbers (suc room)))) ∙ map-no_numbers al (suc room) []
           ∙ append-nil (no_numbers (suc room));
-      written = subst (λ (l : List Bool). WritesBand table (no_numbers (suc room)) l run)
-          (ap (λ (l : List Bool). w.code ++ l) is.are ∙ w.whole)
-          (subst (λ (k : ℕ). WritesBand table (no_numbers (suc room)) (w.code ++ low_bits w.r e) k) (sym f.3)
-          (an_end room w.r e w.code low is.below coded));
+      written = grind (arith, an_end);
     }
 
 -- a band of so many places
@@ -111,11 +102,7 @@ step table al n room (Value r u) more y t bytes fits others e =
     (λ (m : Band). before_more (take r places ++ wrapped (scaled al u) ∷ []) m) (IsLong table al (suc room - (r + 1)))
     (IsAfter table al (suc room) (Value r u)) more t y
     (λ z j. others z (ap (λ (l : List ℤ). first_ac table al n l (alone more)) (sym back) ∙ j))
-    (λ z own b first w. subst (λ (l : List ℤ). IsLong table al (suc room)
-    (before_more (l ++ wrapped (scaled al u) ∷ []) z) (first ++ own)) (sym front) (record {
-      band = value-written table al r u z.0 z.1 first own bytes (record { within = fits.1 }) w b.band;
-      long = omega (arith, small, b.long, length-append {A = ℤ}, length-replicate {A = ℤ});
-    })) e
+    (grind (arith, value-written, length-append, length-replicate)) e
 step table al n room Sixteen more y t bytes fits others e =
     let places = no_numbers (suc room) in
     let front : take 16 places ≡ no_numbers 16 = take-replicate 16 (suc room) (pos 0) fits in
@@ -124,15 +111,8 @@ step table al n room Sixteen more y t bytes fits others e =
     (IsLong table al (suc room - 16)) (IsAfter table al (suc room) Sixteen) more t y
     (λ z j. others z (ap (λ (l : List ℤ). first_ac table al n l (alone more)) (sym back) ∙ j))
     (λ z own b first w. subst (λ (l : List ℤ). IsLong table al (suc room) (before_more l z) (first ++ own)) (sym front)
-    (record {
-      band = sixteen-written table al z.0 z.1 first own w b.band;
-      long = omega (arith, fits, b.long, length-append {A = ℤ}, length-replicate {A = ℤ});
-    })) e
-step table al n room (Rest run) more y t bytes fits others e =
-    gives-taken (IsAfter table al (suc room) (Rest run)) (no_numbers (suc room), run) y more t
-    (λ own w. subst (λ (l : List Bool). IsLong table al (suc room) (no_numbers (suc room), run) l)
-    (sym (append-nil own))
-    (record { band = rest-written table al room run own bytes w; long = length-replicate (suc room) (pos 0) })) e
+    (search (rules, sixteen-written, length-append, length-replicate))) e
+step table al n room (Rest run) more y t bytes fits others e = grind (arith, gives-taken, append-nil, rest-written, length-replicate)
 step table al n room Overlong more y t bytes fits others e = absurd fits
 
 pub after-small : (k n : ℕ) (x : Token) → suc k ≤ suc n → room_after (suc k) x ≤ n

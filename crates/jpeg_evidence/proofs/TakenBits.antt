@@ -1,4 +1,5 @@
 -- The bits that were taken are those of what was read of them.
+use Rattle.std.proofs.Common.{rules}
 use Rattle.std.proofs.Common.{◌≡◌, ℕ, zero, suc, ◌+◌, ◌*◌, ◌/◌, ◌%◌, ◌^◌, ◌<◌, ◌≤◌, Bool, true, false, cond}
 use Rattle.std.proofs.Common.{List, [], ◌∷◌, ◌++◌, length, take, drop, replicate, refl, sym, ap, ap₂, ◌∙◌, subst, arith}
 use Rattle.std.proofs.Common.{take-append-drop, length-take, pow-suc, mul_assoc, Ok, Err, Result, slice_index}
@@ -39,10 +40,7 @@ number-more b bs =
 
 pub number-below : (bs : List Bool) → number_of bs < 2 ^ length bs
 number-below [] = omega arith
-number-below (true ∷ bs) =
-    let h = number-below bs in
-    let e = number-more true bs in
-    omega (arith, h, e, pow-suc 2 (length bs), one-mul (2 ^ length bs))
+number-below (true ∷ bs) = search (rules, number-more, pow-suc, one-mul, number-below bs)
 number-below (false ∷ bs) = grind (arith, number-more, pow-suc, zero-mul, number-below bs)
 
 bit-back : (b : Bool) → bit (cond b 1 0 % 2) ≡ b

@@ -73,11 +73,7 @@ dc-first p table predictor bits y t s f is fits e =
     ∙ ap (λ (v : ℤ × ℤ). v.0) r.2 in
     let number : u ≡ floor_at al y.0 = sym (floor-scaled al u) ∙ ap (floor_at al) held in
     let same : d ≡ u -ℤ predictor = omega (arith, ints) in
-    cut-map (WritesDifference table d) (WritesRead p table predictor y) bits t
-    (λ own w. subst (λ (x : ℤ). WritesDc p table x predictor own y.1) number
-    (subst (λ (x : ℤ). WritesDc p table u predictor own x) next
-    (a_whole u predictor own s f (subst (λ (x : ℤ). WritesDifference table x own) same w))))
-    c
+    grind (arith, cut-map, a_whole)
 
 -- a number of the level above, with its bit
 pushed : ℤ → ℕ → ℤ
@@ -122,21 +118,7 @@ pub dc-taken-part : (p : Pass) (table : Table) (z predictor : ℤ) (bits : List 
     → (p.ss ≡ 0 → p.is_first ≡ false → scaled (suc p.al) (floor_at (suc p.al) z) ≡ z)
     → dc_part p table z predictor (alone bits) ≡ Ok (y, t) → IsCut (WritesRead p table predictor y) bits t
 unfolding dc_part
-dc-taken-part p table z predictor bits y t is fits sent e = go (eqb p.ss 0) refl p.is_first refl e
-  where
-    go : (s : Bool) → eqb p.ss 0 ≡ s → (b : Bool) → p.is_first ≡ b
-        → (elim s as (λ _. Reads (ℤ × ℤ)) [
-          | true ↦ elim b as (λ _. Reads (ℤ × ℤ)) [
-            | true ↦ first_dc table p.al predictor
-            | false ↦ bits_from 1 >>= (λ b. gives (or_bit p.al z b, predictor))
-          ]
-          | false ↦ gives (z, predictor)
-        ]) (alone bits) ≡ Ok (y, t) → IsCut (WritesRead p table predictor y) bits t
-    go true s true f k = grind (arith, eqb-true, dc-first)
-    go true s false f k = grind (arith, eqb-true, dc-again)
-    go false s b f k =
-        gives-taken (WritesRead p table predictor) (z, predictor) y bits t
-        (other_band (floor_at p.al z) predictor (eqb-false p.ss 0 s)) k
+dc-taken-part p table z predictor bits y t is fits sent e = grind (arith, eqb-true, dc-first, dc-again, gives-taken, other_band, eqb-false)
 
 -- ---- bands
 
@@ -167,17 +149,7 @@ new-band : (p : Pass) (table : Table) (k : ℕ) (bits : List Bool) (y : Band) (t
 new-band p table k bits y t f some is bytes fits e =
     let al = p.al in
     cut-map (IsLong table al k y) (IsRead p table (no_numbers k) 0 y) bits t
-    (λ own b.
-    let w = b.band in
-    let long = b.long in
-    let numbers : map (toward_zero al) y.0 ≡ w.numbers = ap (map (toward_zero al)) (sym w.are) ∙ all-toward al w.numbers in
-    let size : length (map (toward_zero al) y.0) ≡ length y.0 = length-map y.0 (toward_zero al) in
-    let sizes : length (map (toward_zero al) y.0) ≡ length w.numbers = ap (λ (l : List ℤ). length l) numbers in
-    record {
-      long = long ∙ sym (length-replicate k (pos 0));
-      written = subst (λ (l : List ℤ). WritesAc p table l 0 own y.1) (sym numbers)
-          (written-first p table w.numbers own y.1 f (omega (arith, some, long, size, sizes)) w.written);
-    })
+    (grind (arith, all-toward, length-map, length-replicate, written-first))
     (long-taken table al k k bits y t is bytes fits (le_refl k) e)
 
 -- numbers of a level are those of what was read

@@ -415,12 +415,7 @@ after-symbol : (table : Table) (al n r s : ℕ) (z : ℤ) (zs : List ℤ) (bits 
     → refined_ac table al (suc n) (z ∷ zs) (alone bits) ≡ Ok (y, t)
     → refined_piece al (refined_ac table al n) (z ∷ zs) r s (alone one) ≡ Ok (y, t)
 unfolding refined_ac
-after-symbol table al n r s z zs bits one y t small h e =
-    let high : (16 * r + s) / 16 ≡ r = omega arith in
-    let low : (16 * r + s) % 16 ≡ s = omega arith in
-    rw (high, low) at (after-read (symbol_from table)
-    (λ (c : ℕ). refined_piece al (refined_ac table al n) (z ∷ zs) (c / 16) (c % 16)) (16 * r + s) (alone bits)
-    (alone one) t y h e)
+after-symbol table al n r s z zs bits one y t small h e = grind (arith, after-read)
 
 through-some : (r : ℕ) (z : ℤ) (zs : List ℤ) → 0 < through_zero r (z ∷ zs)
 through-some zero z zs = grind (arith, through-here, zero-is, through-other)

@@ -16,14 +16,7 @@ rst-code n k e = grind (arith, nat_tests)
 
 pub last-interval : (p : Pass) (k : ℕ) (turns : List (Via × Block)) (bytes rest : List ℕ) (m : Marker)
     → IsInterval p turns bytes m rest → IsIntervals p k turns [] bytes m rest
-last-interval p k turns bytes rest m w = record {
-  front = w.front;
-  fill = w.fill;
-  code = w.code;
-  parts = w.parts;
-  names = w.names;
-  written = last k turns w.front w.written;
-}
+last-interval p k turns bytes rest m w = grind (arith, last)
 
 after-marker : (fill code : ℕ) (front more : List ℕ) → marker fill code (front ++ more) ≡ marker fill code front ++ more
 after-marker fill code front more =
