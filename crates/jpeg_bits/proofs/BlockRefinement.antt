@@ -140,9 +140,7 @@ module _ (table : Table) (p : Pass) (whole : Reads Band) (a b d : Ahead) (old cu
           → Leaves whole a old (refined_at table p blk next) f new
       zeros-read others after z r =
           Leaves-ok (to_piece p k blk) whole (step_at table p block k x) (refined_at table p blk next)
-          (piece_at p block k 15) a d f old mid new next (λ t u h. ap (λ
-          (x : Refinement). step_at table p block k x t) z
-          ∙ zeros-at table p block k t u is from before next blk others after h) after-token r
+          (piece_at p block k 15) a d f old mid new next (grind (arith, zeros-at, before)) after-token r
 
       pub new-read : (r : ℕ) (v : ℤ) → IsKeptAround k (band_end p) block blk → length blk ≡ 64 → k < next
           → next ≤ band_end p → x ≡ New r v
@@ -161,10 +159,7 @@ module _ (table : Table) (p : Pass) (whole : Reads Band) (a b d : Ahead) (old cu
           (Ok y) f new
       end-read view y run all w others few z m =
           Leaves-ok (to_piece p k blk) whole (step_at table p block k x) (λ (t : Text). Ok (view y, t))
-          (piece_at p block k all) a d f old mid new next (λ t u h. ap (λ
-          (x : Refinement). step_at table p block k x t) z
-          ∙ end-at table p block k t u is from before next blk run all others (omega arith) h
-          ∙ ap (λ (band : Band). Ok (band, u)) (sym w)) after-token m
+          (piece_at p block k all) a d f old mid new next (grind (arith, end-at, before)) after-token m
 
 -- a piece that is the whole band
 whole-in : (p : Pass) (block : List ℤ) (start zeros : ℕ) (t : Text) → IsPass p → start ≡ band_start p

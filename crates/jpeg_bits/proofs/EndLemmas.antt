@@ -116,7 +116,4 @@ ends-so k bytes = go (cases_lt 56 (length (drop k t.bits)))
         let head : drop k (drop 56 t.places) ≡ get_or t.places (k + 56) [] ∷ drop (k + 56 + 1) t.places
         = drop-drop k 56 t.places ∙ ap (λ (n : ℕ). drop n t.places) order
         ∙ drop_more t.places (k + 56) [] (omega (arith, is.sized)) in
-        let count : suc ((k + 56) / 8) ≡ (k + 57 + 7) / 8 = omega arith in
-        rw (lt-leb (length (drop k t.bits)) 56 many, end_after)
-        (ap (λ (p : List (List ℕ)). marker_by p t.ending) head
-        ∙ ap (λ (r : List ℕ). Ok (None, r)) (is.each (k + 56) within ∙ ap (λ (n : ℕ). after_bytes n bytes) count))
+        grind (arith, lt-leb)

@@ -154,12 +154,7 @@ walk_value al r cur i t h e =
     ∙ ap (λ o. o >>= λ w. after i (take i cur) w) (walk_nonzero al r z (drop (i + 1) cur) t (not_zero z e))
     ∙ bind_bind (place_from al z t) (λ (f : ℤ × Text). one_more f.0 (walk_from al r (drop (i + 1) cur) f.1)) i
     (take i cur)
-    ∙ bind_same (place_from al z t) _ _ (λ f.
-    more_left i (take i cur) f.0 (walk_from al r (drop (i + 1) cur) f.1)
-    ∙ ap (λ (ys : List ℤ). walk_from al r (drop (i + 1) cur) f.1 >>= λ w. after (i + 1) ys w)
-    (sym (take_more_set cur i f.0 h))
-    ∙ ap (λ (ys : List ℤ). walk_from al r ys f.1 >>= λ w. after (i + 1) (take (i + 1) (set cur i f.0)) w)
-    (sym (drop-set-lt (i + 1) cur i f.0 (omega arith))))
+    ∙ bind_same (place_from al z t) _ _ (grind (arith, more_left, take_more_set, drop-set-lt))
 
 -- a step at a place that isn't zero, which is read as y
 pub value_step : (al r : ℕ) (cur : List ℤ) (i : ℕ) (x y z : ℤ) (t u : Text) → i < length cur

@@ -202,18 +202,7 @@ module _ (table : Table) (al i n : ℕ) (band nb rest ys : List ℤ) (t u : Text
     where
       by : IsPiece al 15 (drop i band) t n ys u → refined_step table al band i Zeros t ≡ refined_left table al nb
           (i + n) u
-      by (piece front c l m e) =
-          let more = drop (through_zero 15 (drop i band)) (drop i band) in
-          let k : length (take i band ++ front) ≡ i + n = front_length front ∙ omega arith in
-          let b : nb ≡ (take i band ++ front) ++ more = new ∙ ap (λ (xs : List ℤ). take i band ++ xs) e
-          ∙ sym (append_assoc (take i band) front more) in
-          ap (λ (o : Result (List ℤ × Text) Fault). before (take i band) (o >>= λ front.
-          before front.0 (refined_band_from table al more front.1))) c
-          ∙ before-before (take i band) front (refined_band_from table al more u)
-          ∙ ap (λ (xs : List ℤ). before xs (refined_band_from table al more u)) (sym (ap (take (i + n)) b
-          ∙ take_front (i + n) (take i band ++ front) more k))
-          ∙ ap (λ (xs : List ℤ). before (take (i + n) nb) (refined_band_from table al xs u)) (sym (ap (drop (i + n)) b
-          ∙ drop_front (i + n) (take i band ++ front) more k))
+      by (piece front c l m e) = grind (arith, front_length, append_assoc, before-before, take_front, drop_front)
 
   pub new_step : (r : ℕ) (v : ℤ) → 0 < n → piece_from al r rest t ≡ Ok ((n, ys), u)
       → refined_step table al band i (New r v) t ≡ refined_left table al (set nb (i + n - 1) v) (i + n) u
@@ -227,21 +216,7 @@ module _ (table : Table) (al i n : ℕ) (band nb rest ys : List ℤ) (t u : Text
           let more = drop (through_zero r (drop i band)) (drop i band) in
           let j = length_short i band le in
           let k : length (take i band ++ front) ≡ i + n = front_length front ∙ omega arith in
-          let b : nb ≡ (take i band ++ front) ++ more = new ∙ ap (λ (xs : List ℤ). take i band ++ xs) e
-          ∙ sym (append_assoc (take i band) front more) in
-          let s : set nb (i + n - 1) v ≡ (take i band ++ with_last v front) ++ more
-          = ap (λ (xs : List ℤ). set xs (i + n - 1) v) b ∙ set-append_left (take i band ++ front) more (i + n - 1) v
-          (omega arith)
-          ∙ ap (λ (xs : List ℤ). xs ++ more) (set_last (take i band) front v (i + n - 1) (omega arith) (omega arith)) in
-          let k' : length (take i band ++ with_last v front) ≡ i + n = front_length (with_last v front)
-          ∙ ap (λ (z : ℕ). i + z) (with_last-length v front ∙ l ∙ sym m) in
-          ap (λ (o : Result (List ℤ × Text) Fault). before (take i band) (o >>= λ front.
-          before (with_last v front.0) (refined_band_from table al more front.1))) c
-          ∙ before-before (take i band) (with_last v front) (refined_band_from table al more u)
-          ∙ ap (λ (xs : List ℤ). before xs (refined_band_from table al more u)) (sym (ap (take (i + n)) s
-          ∙ take_front (i + n) (take i band ++ with_last v front) more k'))
-          ∙ ap (λ (xs : List ℤ). before (take (i + n) (set nb (i + n - 1) v)) (refined_band_from table al xs u))
-          (sym (ap (drop (i + n)) s ∙ drop_front (i + n) (take i band ++ with_last v front) more k'))
+          grind (arith, append_assoc, set-append_left, set_last, front_length, with_last-length, before-before, take_front, drop_front)
 
   pub end_step : (run all : ℕ) → length rest ≤ all → piece_from al all rest t ≡ Ok ((n, ys), u)
       → refined_step table al band i (End run) t ≡ Ok ((nb, run), u)

@@ -91,12 +91,7 @@ module _ (word count byte : ℕ) (few : count ≤ 56) (z : HasZerosAfter word co
   with_byte =
       let k = 56 - count in
       let e : 64 - count ≡ 8 + k = omega arith in
-      let q = word / 2 ^ (64 - count) in
-      let p : 2 ^ (64 - count) ≡ 256 * 2 ^ k = ap (λ (n : ℕ). 2 ^ n) e ∙ pow-add 2 8 k in
-      let w : word ≡ q * (256 * 2 ^ k) = by_bits word count z ∙ ap (λ (n : ℕ). q * n) p in
-      let a = mul_assoc q 256 (2 ^ k) in
-      let d = add-mul (q * 256) byte (2 ^ k) in
-      omega (arith, w, a, d)
+      grind (arith, pow-add, by_bits, mul_assoc, add-mul)
 
   pub byte_zeros : HasZerosAfter (word + byte * 2 ^ (56 - count)) (count + 8)
   byte_zeros = grind (arith, with_byte, mul-mod_left)
@@ -116,11 +111,7 @@ module _ (word count byte : ℕ) (few : count ≤ 56) (z : HasZerosAfter word co
       let c : 2 ^ (count + 8) ≡ 2 ^ count * 256 = pow-add 2 count 8 in
       let le : q * 256 + byte + 1 ≤ 2 ^ (count + 8) = omega (arith, c, below) in
       let m : (q * 256 + byte + 1) * 2 ^ k ≤ 2 ^ (count + 8) * 2 ^ k = mul-le-mul_right (2 ^ k) le in
-      let d = add-mul (q * 256 + byte) 1 (2 ^ k) in
-      let o = one-mul (2 ^ k) in
-      let pos = pow_pos k in
-      let t : 2 ^ 64 ≡ 2 ^ (count + 8) * 2 ^ k = ap (λ (n : ℕ). 2 ^ n) f ∙ pow-add 2 (count + 8) k in
-      omega (arith, m, d, o, t, pos, with_byte)
+      grind (arith, add-mul, one-mul, pow_pos, pow-add, with_byte)
 
 -- the first n bits taken away
 module _ (word count n : ℕ) (few : count ≤ 64) (z : HasZerosAfter word count) where
@@ -166,12 +157,7 @@ module _ (word count n : ℕ) (few : count ≤ 64) (z : HasZerosAfter word count
             ap (λ (v : ℕ). low_bits m (v / 2 ^ (64 - m))) (shifted le) ∙ ap (low_bits m) (shl-shr (q % 2 ^ m) (64 - m))
             ∙ sym (ap (λ (i : ℕ). drop n (low_bits i q)) e ∙ low_bits-drop n m q)
         | inl lt ↦
-            let d : count - n ≡ 0 = omega arith in
-            let v = word * 2 ^ n % 2 ^ 64 in
-            ap (λ (i : ℕ). bits_held v i) d ∙ sym (drop_all n (bits_held word count) (omega (
-              arith,
-              length-low_bits count (word / 2 ^ (64 - count)),
-            )))
+            grind (arith, drop_all, length-low_bits)
       ]
 
 pub none_held : (word : ℕ) → bits_held word 0 ≡ []

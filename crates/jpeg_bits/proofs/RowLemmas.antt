@@ -30,9 +30,7 @@ tried-at counts (suc i) h =
     let t = Tried-more lens counts i (sum (take i counts)) (value_after counts i) lt
     (tried-at counts i (omega arith)) in
     subst (λ (k : ℕ). Tried lens counts k (sum (take k counts)) (value_after counts k)) (add-one i)
-    (subst (λ (n : ℕ). Tried lens counts (i + 1) n (value_after counts (i + 1))) (sym (place-more counts i lt))
-    (subst (λ (n : ℕ). Tried lens counts (i + 1) (sum (take i counts) + get_or counts i 0) n)
-    (sym (value-more counts i lt)) t))
+    (grind (arith, place-more, value-more))
 
 -- one bit less
 pub halved : (bits i : ℕ) → i < 16 → bits / 2 ^ (15 - i) / 2 ≡ bits / 2 ^ (16 - i)
@@ -119,10 +117,7 @@ rows_passed counts rows bits n counted holds fits most none (suc i) h =
     × NoneYet counts bits (i + 1)) [
       | inl short ↦ absurd (none _ (omega arith) (row_found counts rows bits i counted holds lt fits before.0 short
           before.1))
-      | inr long ↦ (
-        above_more counts rows bits i counted holds lt fits before.0 long,
-        row_missed counts rows bits i counted holds lt fits before.0 long before.1,
-      )
+      | inr long ↦ grind (arith, above_more, row_missed)
     ])
 
 pub none_found : (counts : List ℕ) (bits i : ℕ) → length counts ≡ 16 → 16 ≤ i → i ≤ 16 → NoneYet counts bits i

@@ -25,12 +25,7 @@ pub same-run : (counts symbols : List ℕ) (first b v l : ℕ) → length counts
 same-run counts symbols first b v l counted few e h =
     let z = replicate 8 false in
     let whole : l + (8 - l) ≡ 8 = omega arith in
-    let front = λ (n : ℕ). take-append-le l (low_bits 8 n) z (omega (arith, length-low_bits 8 n, few))
-    ∙ ap (λ (k : ℕ). take l (low_bits k n)) (sym whole) ∙ low_bits-take l (8 - l) n in
-    same-code symbols l v (code_in (code_lengths counts) (low_bits 8 first ++ z))
-    (code_in (code_lengths counts) (low_bits 8 b ++ z))
-    (short_agree l (code_lengths counts) (all-rising counts counted) (low_bits 8 first ++ z) (low_bits 8 b ++ z)
-    (front first ∙ ap (low_bits l) (sym e) ∙ sym (front b))) h
+    grind (arith, take-append-le, length-low_bits, low_bits-take, same-code, short_agree, all-rising)
 
 -- a run of bytes
 pub run-entry : (counts symbols : List ℕ) (first end b : ℕ) (code : Option (ℕ × ℕ)) → length counts ≡ 16
@@ -46,15 +41,8 @@ module _ (byte l : ℕ) (small : byte < 256) (few : l ≤ 8) where
       let side = 2 ^ (8 - l) in
       let whole : l + (8 - l) ≡ 8 = omega arith in
       let p = sym (pow-add 2 l (8 - l)) ∙ ap (λ (k : ℕ). 2 ^ k) whole in
-      let f = front_small byte l (8 - l) (subst (λ (k : ℕ). byte < 2 ^ k) (sym whole) small) in
-      let next : byte / side + 1 ≤ 2 ^ l = omega (arith, f) in
-      let m = mul-le-mul_right side next in
-      omega (arith, m, p)
+      grind (arith, front_small, mul-le-mul_right)
 
   pub run-same : (code : Option (ℕ × ℕ)) (v : ℕ) → code ≡ Some (v, l)
       → IsRun byte ((byte / 2 ^ (8 - l) + 1) * 2 ^ (8 - l) % 18446744073709551616) code
-  run-same code v is = rw is (λ b from to.
-      let side = 2 ^ (8 - l) in
-      let low : byte / side * side ≤ b = omega (arith, div-mul-le_self byte side, from) in
-      let high : b < (byte / side + 1) * side = omega (arith, to) in
-      div-eq_of_lt-le side low high)
+  run-same code v is = rw is (grind (arith, div-mul-le_self, div-eq_of_lt-le))

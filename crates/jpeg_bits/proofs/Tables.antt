@@ -61,10 +61,7 @@ scaled-sum n m (l ∷ ls) h all =
     let one : 2 ^ (m - l) ≡ 2 ^ (n - l) * 2 ^ (m - n) = ap (λ (x : ℕ). 2 ^ x) e ∙ pow-add 2 (n - l) (m - n) in
     let a = sum_by-append (λ x. 2 ^ (m - x)) (l ∷ []) ls in
     let b = sum_by-append (λ x. 2 ^ (n - x)) (l ∷ []) ls in
-    let r = scaled-sum n m ls h (λ k lt. all (suc k) (omega arith)) in
-    let p = add-mul (2 ^ (n - l)) (sum_by (λ x. 2 ^ (n - x)) ls) (2 ^ (m - n)) in
-    let c : sum_by (λ x. 2 ^ (n - x)) (l ∷ ls) ≡ 2 ^ (n - l) + sum_by (λ x. 2 ^ (n - x)) ls = omega (arith, b) in
-    omega (arith, a, one, r, p) ∙ ap (λ (x : ℕ). x * 2 ^ (m - n)) (sym c)
+    grind (arith, add-mul, scaled-sum n m ls h (λ k lt. all (suc k) (omega arith)))
 
 pub ordered : (n most : ℕ) (ls : List ℕ) (k i : ℕ) → IsRising n most ls → k ≤ i → i < length ls
     → get_or ls k 0 ≤ get_or ls i 0
@@ -94,10 +91,7 @@ module _ (n most : ℕ) (lens : List ℕ) (rising : IsRising n most lens) where
       let part : sum_by f (take (i + 1) lens) ≤ sum_by f (take j lens)
       = subst (λ (l : List ℕ). sum_by f l ≤ sum_by f (take j lens)) (take-take (i + 1) j lens (omega arith))
       (sum_by-take-le f (take j lens) (i + 1)) in
-      let v = sum_by (λ x. 2 ^ (si - x)) (take i lens) in
-      let product = add-mul v 1 (2 ^ (sj - si)) in
-      let one = one-mul (2 ^ (sj - si)) in
-      omega (arith, s, more, part, product, one)
+      grind (arith, add-mul, one-mul)
 
 number_onto-lt : (a : ℕ) (ys : List Bool) → number_onto a ys < (a + 1) * 2 ^ length ys
 number_onto-lt a [] = omega arith
@@ -142,10 +136,7 @@ module _ (n most : ℕ) (lens : List ℕ) (rising : IsRising n most lens) (bits 
       let le : si ≤ sj = ordered n most lens i j rising (omega arith) within in
       let top = (rising-at n most lens j rising within).1 in
       let f = front-below si sj bits le (omega arith) in
-      let a = value-after n most lens rising i j lt within in
-      let same : (number_of (take si bits) + 1) * 2 ^ (sj - si) ≡ (code_value lens i + 1) * 2 ^ (sj - si) =
-      ap (λ (x : ℕ). (x + 1) * 2 ^ (sj - si)) (is-value i p) in
-      omega (arith, f, a, same, is-value j q)
+      grind (arith, value-after, is-value)
 
   -- no two codes begin the same bits
   pub only-code : (i j : ℕ) → i < length lens → j < length lens → begins lens bits i ≡ true → begins lens bits j ≡ true

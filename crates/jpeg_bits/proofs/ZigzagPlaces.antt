@@ -75,18 +75,11 @@ in_zigzag-set l k v n h =
     let lt : p < 64 = zigzag_lt k h in
     ext_get_or (pos 0) (coefficients_in_zigzag (set l p v)) (set (coefficients_in_zigzag l) k v)
     (length-in_zigzag (set l p v) ∙ sym (length-set (coefficients_in_zigzag l) k v ∙ length-in_zigzag l))
-    (λ i within.
-    let i_lt : i < 64 = omega (arith, length-in_zigzag (set l p v)) in
-    get_or-in_zigzag (set l p v) i (pos 0) i_lt
-    ∙ ⊎_elim (λ e. at_same i e) (λ ne. at_other i i_lt ne) (cases_eq i k))
+    (grind (arith, length-in_zigzag, get_or-in_zigzag, at_same, at_other, cases_eq))
   where
     at_same : (i : ℕ) → i ≡ k → get_or (set l (get_or zigzag k 0) v) (get_or zigzag i 0) (pos 0)
         ≡ get_or (set (coefficients_in_zigzag l) k v) i (pos 0)
-    at_same i e =
-        let within : k < length (coefficients_in_zigzag l) = omega (arith, length-in_zigzag l) in
-        let inside : get_or zigzag k 0 < length l = omega (arith, zigzag_lt k h) in
-        rw e (get_or-set_same l (get_or zigzag k 0) v (pos 0) inside
-        ∙ sym (get_or-set_same (coefficients_in_zigzag l) k v (pos 0) within))
+    at_same i e = grind (arith, length-in_zigzag, zigzag_lt, get_or-set_same)
 
     at_other : (i : ℕ) → i < 64 → (i ≡ k → ⊥) → get_or (set l (get_or zigzag k 0) v) (get_or zigzag i 0) (pos 0)
         ≡ get_or (set (coefficients_in_zigzag l) k v) i (pos 0)
@@ -102,11 +95,7 @@ pub block_order-of-zigzag : (l : List ℤ) → length l ≡ 64
 block_order-of-zigzag l n =
     ext_get_or (pos 0) (coefficients_in_block_order (coefficients_in_zigzag l)) l
     (length-in_block_order (coefficients_in_zigzag l) ∙ sym n)
-    (λ i within.
-    let lt : i < 64 = omega (arith, length-in_block_order (coefficients_in_zigzag l)) in
-    get_or-in_block_order (coefficients_in_zigzag l) i (pos 0) lt
-    ∙ get_or-in_zigzag l (get_or zigzag_places i 0) (pos 0) (places_lt i lt)
-    ∙ ap (λ (place : ℕ). get_or l place (pos 0)) (zigzag-places i lt))
+    (grind (arith, length-in_block_order, get_or-in_block_order, get_or-in_zigzag, places_lt, zigzag-places))
 
 -- DC is first in both orders
 pub with_dc-in_zigzag : (l : List ℤ) → get_or l 0 (pos 0) ∷ drop 1 (coefficients_in_zigzag l)

@@ -39,62 +39,32 @@ mul_apart p q r s =
     let c = parts_of (p * r + q * s) (p * s + q * r) in
     omega (arith, ints, a0, a1, b0, b1, c)
 
-spread_apart : (p q r s t v : ℕ) → apart p q *ℤ (apart r s +ℤ apart t v)
-    ≡ apart p q *ℤ apart r s +ℤ apart p q *ℤ apart t v
-spread_apart p q r s t v = simp (add_apart, mul_apart) (same_apart _ _ _ _ (omega arith))
-
 -- a (b + c) = a b + a c
 pub spread : (a b c : ℤ) → a *ℤ (b +ℤ c) ≡ a *ℤ b +ℤ a *ℤ c
-spread a b c = rw (as_apart a, as_apart b, as_apart c) (spread_apart (up a) (down a) (up b) (down b) (up c) (down c))
+spread a b c = rw (as_apart a, as_apart b, as_apart c) (simp (add_apart, mul_apart) (same_apart _ _ _ _ (omega arith)))
 
 neg_apart : (p q : ℕ) → neg_ℤ (apart p q) ≡ apart q p
 unfolding apart
 neg_apart p q = omega (arith, ints)
 
-inside_apart : (p q r s t v x y : ℕ) → apart p q *ℤ (apart r s *ℤ apart t v -ℤ apart x y)
-    ≡ apart r s *ℤ (apart p q *ℤ apart t v) -ℤ apart p q *ℤ apart x y
-inside_apart p q r s t v x y = simp (sub_apart, mul_apart) (same_apart _ _ _ _ (omega arith))
-
 -- a (b c - d) = b (a c) - a d
 pub inside : (a b c d : ℤ) → a *ℤ (b *ℤ c -ℤ d) ≡ b *ℤ (a *ℤ c) -ℤ a *ℤ d
 inside a b c d =
-    rw (as_apart a, as_apart b, as_apart c, as_apart d)
-    (inside_apart (up a) (down a) (up b) (down b) (up c) (down c) (up d) (down d))
-
-turned_apart : (p q r s t v : ℕ) → neg_ℤ (apart p q) *ℤ apart r s *ℤ apart t v
-    ≡ apart p q *ℤ apart r s *ℤ neg_ℤ (apart t v)
-turned_apart p q r s t v = simp (neg_apart, mul_apart) (same_apart _ _ _ _ (omega arith))
+    rw (as_apart a, as_apart b, as_apart c, as_apart d) (simp (sub_apart, mul_apart) (same_apart _ _ _ _ (omega arith)))
 
 -- (-a) b c = a b (-c)
 pub turned : (a b c : ℤ) → neg_ℤ a *ℤ b *ℤ c ≡ a *ℤ b *ℤ neg_ℤ c
-turned a b c = rw (as_apart a, as_apart b, as_apart c) (turned_apart (up a) (down a) (up b) (down b) (up c) (down c))
+turned a b c = rw (as_apart a, as_apart b, as_apart c) (simp (neg_apart, mul_apart) (same_apart _ _ _ _ (omega arith)))
 
 pub square_turned : (a : ℤ) → neg_ℤ a *ℤ neg_ℤ a ≡ a *ℤ a
-square_turned (pos zero) = refl
-square_turned (pos (suc n)) = refl
-square_turned (negsuc n) = refl
-
-pair_apart : (p q r s t v x y : ℕ) →
-    (apart p q *ℤ apart t v -ℤ apart r s *ℤ apart x y) *ℤ (apart p q *ℤ apart t v -ℤ apart r s *ℤ apart x y)
-    +ℤ (apart p q *ℤ apart r s *ℤ (apart t v *ℤ apart x y) +ℤ apart p q *ℤ apart r s *ℤ (apart t v *ℤ apart x y))
-    ≡ apart p q *ℤ apart p q *ℤ (apart t v *ℤ apart t v) +ℤ apart r s *ℤ apart r s *ℤ (apart x y *ℤ apart x y)
-pair_apart p q r s t v x y = simp (sub_apart, add_apart, mul_apart) (same_apart _ _ _ _ (omega arith))
+square_turned x = grind arith
 
 -- (a e - b d)² + 2 a b e d = a² e² + b² d²
 pub square_of_difference : (a b e d : ℤ) →
     (a *ℤ e -ℤ b *ℤ d) *ℤ (a *ℤ e -ℤ b *ℤ d) +ℤ (a *ℤ b *ℤ (e *ℤ d) +ℤ a *ℤ b *ℤ (e *ℤ d))
     ≡ a *ℤ a *ℤ (e *ℤ e) +ℤ b *ℤ b *ℤ (d *ℤ d)
 square_of_difference a b e d =
-    rw (as_apart a, as_apart b, as_apart e, as_apart d)
-    (pair_apart (up a) (down a) (up b) (down b) (up e) (down e) (up d) (down d))
-
-one_more_apart : (a0 a1 b0 b1 p0 p1 q0 q1 s0 s1 t0 t1 m0 m1 v0 v1 d0 d1 : ℕ) →
-    apart a0 a1 *ℤ (apart p0 p1 *ℤ (apart s0 s1 +ℤ apart m0 m1 *ℤ apart d0 d1))
-    -ℤ apart b0 b1 *ℤ (apart t0 t1 +ℤ apart q0 q1 *ℤ apart v0 v1 *ℤ apart d0 d1)
-    ≡ apart a0 a1 *ℤ (apart p0 p1 *ℤ apart s0 s1) -ℤ apart b0 b1 *ℤ apart t0 t1
-    +ℤ (apart a0 a1 *ℤ (apart p0 p1 *ℤ apart m0 m1) -ℤ apart b0 b1 *ℤ (apart q0 q1 *ℤ apart v0 v1)) *ℤ apart d0 d1
-one_more_apart a0 a1 b0 b1 p0 p1 q0 q1 s0 s1 t0 t1 m0 m1 v0 v1 d0 d1 =
-    simp (sub_apart, add_apart, mul_apart) (same_apart _ _ _ _ (omega arith))
+    rw (as_apart a, as_apart b, as_apart e, as_apart d) (simp (sub_apart, add_apart, mul_apart) (same_apart _ _ _ _ (omega arith)))
 
 -- a p (s + m d) - b (t + q v d) = (a p s - b t) + (a p m - b q v) d
 pub one_more : (a b p q s t m v d : ℤ) →
@@ -102,16 +72,11 @@ pub one_more : (a b p q s t m v d : ℤ) →
     ≡ a *ℤ (p *ℤ s) -ℤ b *ℤ t +ℤ (a *ℤ (p *ℤ m) -ℤ b *ℤ (q *ℤ v)) *ℤ d
 one_more a b p q s t m v d =
     rw (as_apart a, as_apart b, as_apart p, as_apart q, as_apart s, as_apart t, as_apart m, as_apart v, as_apart d)
-    (one_more_apart (up a) (down a) (up b) (down b) (up p) (down p) (up q) (down q) (up s) (down s) (up t) (down t)
-    (up m) (down m) (up v) (down v) (up d) (down d))
+    (simp (sub_apart, add_apart, mul_apart) (same_apart _ _ _ _ (omega arith)))
 
 -- a product with a natural keeps the order
 pub scaled : (k : ℕ) (x y : ℤ) → x ≤ℤ y → (pos k *ℤ x) ≤ℤ (pos k *ℤ y)
-scaled k x y h =
-    let l : up x + down y ≤ up y + down x = omega (arith, ints, h) in
-    let p = mul-le-mul_left k l in
-    omega (arith, ints, p)
+scaled k x y h = grind (arith, mul-le-mul_left)
 
 pub square_is : (z : ℤ) → pos 0 ≤ℤ (z *ℤ z)
-square_is (pos n) = omega (arith, ints)
-square_is (negsuc n) = omega (arith, ints)
+square_is x = grind arith

@@ -1,4 +1,5 @@
 -- The transform is near the exact one.
+use Rattle.std.proofs.Common.{rules}
 use Rattle.std.proofs.Common.{◌≡◌, ℕ, ◌+◌, ◌*◌, ◌<◌, ◌≤◌, List, ℤ, pos, negsuc, neg_ℤ, ◌+ℤ◌, ◌-ℤ◌, ◌*ℤ◌}
 use Rattle.std.proofs.Common.{◌≤ℤ◌, ◌<ℤ◌, Bool, true, false, refl, arith, unsigned_abs, FitsSigned, le_trans}
 use Rattle.std.proofs.Common.{mul-le-mul_left}
@@ -14,25 +15,19 @@ use Rattle.jpeg_evidence.proofs.Errors.{size_of_row, error, squared_errors, grea
 -- ---- the shifts round
 
 shifted_column : (z t : ℤ) → z ≡ t +ℤ pos 512 → unsigned_abs (pos 1024 *ℤ int_shr z 10 -ℤ t) ≤ 512
-shifted_column (pos n) t e = omega (arith, ints)
-shifted_column (negsuc n) t e = omega (arith, ints)
+shifted_column x t e = grind arith
 
 shifted_row : (z r : ℤ) → z ≡ r +ℤ pos 16842752
     → unsigned_abs (pos 131072 *ℤ (int_shr z 17 -ℤ pos 128) -ℤ r) ≤ 65536
-shifted_row (pos n) r e = omega (arith, ints)
-shifted_row (negsuc n) r e = omega (arith, ints)
+shifted_row x r e = grind arith
 
 rounded_column : (t : ℤ) → unsigned_abs t ≤ 62689280
     → unsigned_abs (pos 1024 *ℤ int_shr (int_wrap w32 (t +ℤ pos 512)) 10 -ℤ t) ≤ 512
-rounded_column t h =
-    let f : FitsSigned w32 (t +ℤ pos 512) = omega (arith, ints) in
-    rw (int_wrap_fits w32 (t +ℤ pos 512) f) (shifted_column (t +ℤ pos 512) t refl)
+rounded_column t h = grind (arith, int_wrap_fits, shifted_column)
 
 rounded_row : (r : ℤ) → unsigned_abs r ≤ 1873974810
     → unsigned_abs (pos 131072 *ℤ (int_shr (int_wrap w32 (r +ℤ pos 16842752)) 17 -ℤ pos 128) -ℤ r) ≤ 65536
-rounded_row r h =
-    let f : FitsSigned w32 (r +ℤ pos 16842752) = omega (arith, ints) in
-    rw (int_wrap_fits w32 (r +ℤ pos 16842752) f) (shifted_row (r +ℤ pos 16842752) r refl)
+rounded_row r h = grind (arith, int_wrap_fits, shifted_row)
 
 -- ---- no sum is too large
 
@@ -46,83 +41,65 @@ transform_at_most m s place h small =
 not_large : (z : ℤ) → unsigned_abs z ≤ 2048 → (neg_ℤ (pos 524288) ≤ℤ z) × (z <ℤ pos 524288)
 not_large z h = omega (arith, ints)
 
--- a column's value, by the general case
-abbrev general_value : List ℤ → List ℕ → ℕ → ℕ → ℤ
-general_value coefficients quantization row column =
-    int_shr (int_wrap w32 (transformed (λ k. dequantized coefficients quantization k column) row +ℤ pos 512)) 10
-
-not_flat : (coefficients : List ℤ) (quantization : List ℕ) (row column : ℕ)
-    → is_flat_column coefficients column ≡ false
-    → column_value coefficients quantization row column ≡ general_value coefficients quantization row column
-unfolding column_value
-not_flat coefficients quantization row column flat = rw flat refl
-
-column_of : (coefficients : List ℤ) (quantization : List ℕ) (row column : ℕ) (b : Bool) → row < 8
-    → is_flat_column coefficients column ≡ b → unsigned_abs (dequantized coefficients quantization 0 column) ≤ 2048
-    → column_value coefficients quantization row column ≡ general_value coefficients quantization row column
-column_of coefficients quantization row column true h flat small =
-    let l = not_large (dequantized coefficients quantization 0 column) small in
-    zero_column coefficients quantization row column h flat l.0 l.1
-column_of coefficients quantization row column false h flat small = not_flat coefficients quantization row column flat
-
--- the sums of a column
-abbrev column_sum : List ℤ → List ℕ → ℕ → ℕ → ℤ
-column_sum coefficients quantization row column =
-    transformed (λ k. dequantized coefficients quantization k column) row
-
--- a block of numbers of at most 2048
-abbrev AreSmall : List ℤ → List ℕ → Type 0
-AreSmall coefficients quantization =
-    (u v : ℕ) → u < 8 → v < 8 → unsigned_abs (dequantized coefficients quantization v u) ≤ 2048
-
-column_sum_at_most : (coefficients : List ℤ) (quantization : List ℕ) (row column : ℕ) → row < 8 → column < 8
-    → AreSmall coefficients quantization → unsigned_abs (column_sum coefficients quantization row column) ≤ 62689280
-column_sum_at_most coefficients quantization row column h l small =
-    transform_at_most 2048 (λ k. dequantized coefficients quantization k column) row h (λ k lk. small column k l lk)
-
-column_near : (coefficients : List ℤ) (quantization : List ℕ) (row column : ℕ) → row < 8 → column < 8
-    → AreSmall coefficients quantization →
-    unsigned_abs (pos 1024 *ℤ column_value coefficients quantization row column
-    -ℤ column_sum coefficients quantization row column) ≤ 512
-column_near coefficients quantization row column h l small =
-    rw (column_of coefficients quantization row column (is_flat_column coefficients column) h refl
-    (small column 0 l (omega arith)))
-    (rounded_column (column_sum coefficients quantization row column)
-    (column_sum_at_most coefficients quantization row column h l small))
-
 value_at_most : (w t : ℤ) → unsigned_abs (pos 1024 *ℤ w -ℤ t) ≤ 512 → unsigned_abs t ≤ 62689280
     → unsigned_abs w ≤ 61221
 value_at_most w t h g = omega (arith, ints)
 
-row_at_most : (coefficients : List ℤ) (quantization : List ℕ) (x y : ℕ) → x < 8 → y < 8
-    → AreSmall coefficients quantization
-    → unsigned_abs (transformed (column_value coefficients quantization y) x) ≤ 1873974810
-row_at_most coefficients quantization x y hx hy small =
-    transform_at_most 61221 (column_value coefficients quantization y) x hx (λ u l. value_at_most
-    (column_value coefficients quantization y u) (column_sum coefficients quantization y u)
-    (column_near coefficients quantization y u hy l small)
-    (column_sum_at_most coefficients quantization y u hy l small))
+module _ (coefficients : List ℤ) (quantization : List ℕ) where
+  -- a column's value, by the general case
+  abbrev general_value : ℕ → ℕ → ℤ
+  general_value row column =
+      int_shr (int_wrap w32 (transformed (λ k. dequantized coefficients quantization k column) row +ℤ pos 512)) 10
 
--- ---- the two roundings, and the errors of the matrix
+  column_of : (row column : ℕ) (b : Bool) → row < 8 → is_flat_column coefficients column ≡ b
+      → unsigned_abs (dequantized coefficients quantization 0 column) ≤ 2048
+      → column_value coefficients quantization row column ≡ general_value row column
+  unfolding column_value
+  column_of row column x h flat small = grind (arith, not_large, zero_column)
 
-row_near : (coefficients : List ℤ) (quantization : List ℕ) (x y : ℕ) → x < 8 → y < 8
-    → AreSmall coefficients quantization →
-    unsigned_abs (pos 131072 *ℤ (unclamped coefficients quantization x y -ℤ pos 128)
-    -ℤ transformed (column_value coefficients quantization y) x) ≤ 65536
-unfolding unclamped
-row_near coefficients quantization x y hx hy small =
-    rounded_row (transformed (column_value coefficients quantization y) x)
-    (row_at_most coefficients quantization x y hx hy small)
+  -- the sums of a column
+  abbrev column_sum : ℕ → ℕ → ℤ
+  column_sum row column = transformed (λ k. dequantized coefficients quantization k column) row
 
-columns_near : (coefficients : List ℤ) (quantization : List ℕ) (x y : ℕ) → x < 8 → y < 8
-    → AreSmall coefficients quantization →
-    unsigned_abs (pos 1024 *ℤ transformed (column_value coefficients quantization y) x
-    -ℤ transformed (column_sum coefficients quantization y) x) ≤ 512 * 30610
-unfolding transformed
-columns_near coefficients quantization x y hx hy small =
-    le_trans (drifted (pos 1024) 512 (basis x) (column_value coefficients quantization y)
-    (column_sum coefficients quantization y) 8 (λ u l. column_near coefficients quantization y u hy l small))
-    (mul-le-mul_left 512 (size_of_row x hx))
+  -- a block of numbers of at most 2048
+  abbrev AreSmall : Type 0
+  AreSmall = (u v : ℕ) → u < 8 → v < 8 → unsigned_abs (dequantized coefficients quantization v u) ≤ 2048
+
+  column_sum_at_most : (row column : ℕ) → row < 8 → column < 8 → AreSmall
+      → unsigned_abs (column_sum row column) ≤ 62689280
+  column_sum_at_most row column h l small =
+      transform_at_most 2048 (λ k. dequantized coefficients quantization k column) row h (λ k lk. small column k l lk)
+
+  column_near : (row column : ℕ) → row < 8 → column < 8 → AreSmall →
+      unsigned_abs (pos 1024 *ℤ column_value coefficients quantization row column -ℤ column_sum row column) ≤ 512
+  column_near row column h l small =
+      rw (column_of row column (is_flat_column coefficients column) h refl (small column 0 l (omega arith)))
+      (rounded_column (column_sum row column) (column_sum_at_most row column h l small))
+
+  row_at_most : (x y : ℕ) → x < 8 → y < 8 → AreSmall
+      → unsigned_abs (transformed (column_value coefficients quantization y) x) ≤ 1873974810
+  row_at_most x y hx hy small =
+      transform_at_most 61221 (column_value coefficients quantization y) x hx (λ u l. value_at_most
+      (column_value coefficients quantization y u) (column_sum y u) (column_near y u hy l small)
+      (column_sum_at_most y u hy l small))
+
+  -- the two roundings
+  row_near : (x y : ℕ) → x < 8 → y < 8 → AreSmall →
+      unsigned_abs (pos 131072 *ℤ (unclamped coefficients quantization x y -ℤ pos 128)
+      -ℤ transformed (column_value coefficients quantization y) x) ≤ 65536
+  unfolding unclamped
+  row_near x y hx hy small =
+      rounded_row (transformed (column_value coefficients quantization y) x) (row_at_most x y hx hy small)
+
+  columns_near : (x y : ℕ) → x < 8 → y < 8 → AreSmall →
+      unsigned_abs (pos 1024 *ℤ transformed (column_value coefficients quantization y) x
+      -ℤ transformed (column_sum y) x) ≤ 512 * 30610
+  unfolding transformed
+  columns_near x y hx hy small =
+      le_trans (drifted (pos 1024) 512 (basis x) (column_value coefficients quantization y) (column_sum y) 8
+      (λ u l. column_near y u hy l small)) (mul-le-mul_left 512 (size_of_row x hx))
+
+-- ---- the errors of the matrix
 
 -- the sum of the products with the errors
 abbrev error_sum : (ℕ → ℕ → ℤ) → ℕ → ℕ → ℤ
@@ -132,13 +109,7 @@ errors_are : (d : ℕ → ℕ → ℤ) (x y : ℕ) →
     pos 59604644775390625 *ℤ transformed (λ u. transformed (λ v. d v u) y) x -ℤ pos 2 *ℤ exact_sum d x y
     ≡ error_sum d x y
 unfolding transformed exact_sum error
-errors_are d x y =
-    difference (pos 59604644775390625) (pos 2)
-    (λ u. basis x u *ℤ sum_below (λ v. basis y v *ℤ d v u) 8)
-    (λ u. sum_below (λ v. weight x u *ℤ weight y v *ℤ d v u) 8)
-    (λ u. sum_below (λ v. (pos 59604644775390625 *ℤ (basis x u *ℤ basis y v)
-    -ℤ pos 2 *ℤ (weight x u *ℤ weight y v)) *ℤ d v u) 8) 8
-    (λ u. one_sum (pos 59604644775390625) (pos 2) (basis x u) (weight x u) (basis y) (weight y) (λ v. d v u) 8)
+errors_are d x y = search (rules, difference, one_sum)
 
 errors_small : (d : ℕ → ℕ → ℤ) (n x y : ℕ) → x < 8 → y < 8 → squares d ≤ℤ pos (n * n)
     → unsigned_abs (error_sum d x y) ≤ greatest * n
@@ -156,19 +127,13 @@ together : (s r t e f : ℤ) (n : ℕ) → unsigned_abs (pos 131072 *ℤ s -ℤ 
     → 1000000 * unsigned_abs (pos whole *ℤ s -ℤ e) ≤ (617000 + 342 * n) * whole
 together s r t e f n hs hr ht hf = omega (arith, ints)
 
-small_of : (coefficients : List ℤ) (quantization : List ℕ) (n : ℕ) → n ≤ 2048
-    → squares (dequantized coefficients quantization) ≤ℤ pos (n * n) → AreSmall coefficients quantization
-unfolding squares
-small_of coefficients quantization n l h u v lu lv =
-    le_trans (each_at_most (dequantized coefficients quantization) n h u v lu lv) l
-
 pub near : (coefficients : List ℤ) (quantization : List ℕ) (n x y : ℕ) → n ≤ 2048 → x < 8 → y < 8
     → squares (dequantized coefficients quantization) ≤ℤ pos (n * n)
     → 1000000 * distance coefficients quantization x y ≤ (617000 + 342 * n) * whole
-unfolding distance
+unfolding distance squares
 near coefficients quantization n x y l hx hy h =
-    let small = small_of coefficients quantization n l h in
     let d = dequantized coefficients quantization in
+    let small : AreSmall coefficients quantization = λ u v lu lv. le_trans (each_at_most d n h u v lu lv) l in
     together (unclamped coefficients quantization x y -ℤ pos 128)
     (transformed (column_value coefficients quantization y) x)
     (transformed (column_sum coefficients quantization y) x) (exact_sum d x y) (error_sum d x y) n

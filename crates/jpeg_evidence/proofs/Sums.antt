@@ -1,4 +1,5 @@
 -- Sums of products: how large they are at most.
+use Rattle.std.proofs.Common.{rules}
 use Rattle.std.proofs.Common.{◌≡◌, ℕ, zero, suc, ◌+◌, ◌*◌, ◌<◌, ◌≤◌, ℤ, pos, negsuc, neg_ℤ, ◌+ℤ◌, ◌-ℤ◌, ◌*ℤ◌, ◌≤ℤ◌}
 use Rattle.std.proofs.Common.{refl, subst, one-mul, mul-add, mul_comm, zero-lt-suc, arith, mul-le-mul, mul-le-mul_left}
 use Rattle.std.proofs.Common.{unsigned_abs, ap, ◌∙◌}
@@ -24,10 +25,7 @@ twice_more s t x y v w s' x' y' h g es ex ey = omega (arith, ints)
 more_products : (a b s x y t v w : ℤ) → (pos 2 *ℤ (a *ℤ b *ℤ s)) ≤ℤ (a *ℤ a *ℤ x +ℤ b *ℤ b *ℤ y)
     → (pos 2 *ℤ (a *ℤ b *ℤ t)) ≤ℤ (a *ℤ a *ℤ v +ℤ b *ℤ b *ℤ w)
     → (pos 2 *ℤ (a *ℤ b *ℤ (s +ℤ t))) ≤ℤ (a *ℤ a *ℤ (x +ℤ v) +ℤ b *ℤ b *ℤ (y +ℤ w))
-more_products a b s x y t v w h g =
-    twice_more (a *ℤ b *ℤ s) (a *ℤ b *ℤ t) (a *ℤ a *ℤ x) (b *ℤ b *ℤ y) (a *ℤ a *ℤ v) (b *ℤ b *ℤ w)
-    (a *ℤ b *ℤ (s +ℤ t)) (a *ℤ a *ℤ (x +ℤ v)) (b *ℤ b *ℤ (y +ℤ w)) h g (spread (a *ℤ b) s t)
-    (spread (a *ℤ a) x v) (spread (b *ℤ b) y w)
+more_products a b s x y t v w h g = search (rules, twice_more, spread)
 
 twice_at_most : (s t z : ℤ) → pos 0 ≤ℤ s → s +ℤ (t +ℤ t) ≡ z → (pos 2 *ℤ t) ≤ℤ z
 twice_at_most s t z h e = omega (arith, ints)
@@ -42,10 +40,7 @@ products : (a b : ℤ) (e d : ℕ → ℤ) (n : ℕ)
     → (pos 2 *ℤ (a *ℤ b *ℤ sum_below (λ k. e k *ℤ d k) n))
     ≤ℤ (a *ℤ a *ℤ sum_below (λ k. e k *ℤ e k) n +ℤ b *ℤ b *ℤ sum_below (λ k. d k *ℤ d k) n)
 products a b e d zero = simp *ℤ-zero (omega (arith, ints))
-products a b e d (suc n) =
-    more_products a b (sum_below (λ k. e k *ℤ d k) n) (sum_below (λ k. e k *ℤ e k) n)
-    (sum_below (λ k. d k *ℤ d k) n) (e n *ℤ d n) (e n *ℤ e n) (d n *ℤ d n) (products a b e d n)
-    (pair a b (e n) (d n))
+products a b e d (suc n) = grind (arith, more_products, pair, products a b e d n)
 
 -- the same of sums of sums
 pub products_of_rows : (a b : ℤ) (e d : ℕ → ℕ → ℤ) (m n : ℕ)
@@ -112,10 +107,7 @@ no_root : (s : ℤ) (n p : ℕ) → s ≤ℤ pos (n * n) → pos 0 ≤ℤ s → 
 no_root s n p h g e l = omega (arith, ints)
 
 root_at_most : (z : ℤ) (n : ℕ) → (z *ℤ z) ≤ℤ pos (n * n) → unsigned_abs z ≤ n
-root_at_most z n h =
-    ⊎_elim (λ (l : n < unsigned_abs z). absurd (no_root (z *ℤ z) n (unsigned_abs z * unsigned_abs z) h (square_is z)
-    (unsigned_abs-mul z z) (mul-le-mul l l)))
-    (λ (l : unsigned_abs z ≤ n). l) (cases_lt n (unsigned_abs z))
+root_at_most z n h = grind (arith, no_root, square_is, unsigned_abs-mul, mul-le-mul, cases_lt)
 
 chained : (x y z w : ℤ) → x ≤ℤ y → y ≤ℤ z → z ≤ℤ w → x ≤ℤ w
 chained x y z w p q r = omega (arith, ints)
@@ -136,11 +128,7 @@ at_most_0 k (pos (suc m)) h = absurd (omega (arith, ints, h))
 at_most_0 k (negsuc m) h = omega (arith, ints)
 
 cancelled : (k : ℕ) (s : ℤ) → 0 < k → (pos k *ℤ s) ≤ℤ pos (k * k) → s ≤ℤ pos k
-cancelled k (pos t) some h =
-    let l : k * t ≤ k * k = omega (arith, ints, h) in
-    let m = le_of_mul-le-mul_left l some in
-    omega (arith, ints, m)
-cancelled k (negsuc t) some h = omega (arith, ints)
+cancelled k x some h = grind (arith, le_of_mul-le-mul_left)
 
 scaled_to_0 : (k : ℕ) (d : ℤ) → d ≤ℤ pos 0 → (pos k *ℤ d) ≤ℤ pos 0
 scaled_to_0 k d h = rw (← *ℤ-zero (pos k)) (scaled k d (pos 0) h)
@@ -187,9 +175,7 @@ pub one_sum : (a b p q : ℤ) (m v d : ℕ → ℤ) (n : ℕ)
     → a *ℤ (p *ℤ sum_below (λ k. m k *ℤ d k) n) -ℤ b *ℤ sum_below (λ k. q *ℤ v k *ℤ d k) n
     ≡ sum_below (λ k. (a *ℤ (p *ℤ m k) -ℤ b *ℤ (q *ℤ v k)) *ℤ d k) n
 one_sum a b p q m v d zero = simp *ℤ-zero refl
-one_sum a b p q m v d (suc n) =
-    one_more a b p q (sum_below (λ k. m k *ℤ d k) n) (sum_below (λ k. q *ℤ v k *ℤ d k) n) (m n) (v n) (d n)
-    ∙ ap (λ (z : ℤ). z +ℤ (a *ℤ (p *ℤ m n) -ℤ b *ℤ (q *ℤ v n)) *ℤ d n) (one_sum a b p q m v d n)
+one_sum a b p q m v d (suc n) = grind (arith, one_more, one_sum a b p q m v d n)
 
 difference_more : (s t v w x y z z' : ℤ) → s -ℤ t ≡ z → v -ℤ w ≡ z' → x ≡ s +ℤ v → y ≡ t +ℤ w → x -ℤ y ≡ z +ℤ z'
 difference_more s t v w x y z z' p q ex ey = omega (arith, ints)

@@ -1,6 +1,7 @@
 -- The bits that were taken of a band in its first scan are those that are written for it.
+use Rattle.std.proofs.Common.{rules}
 use Rattle.std.proofs.Common.{◌≡◌, ◌≢◌, ℕ, zero, suc, ◌+◌, ◌-◌, ◌*◌, ◌^◌, ◌<◌, ◌≤◌, Bool, List, [], ◌∷◌, ◌++◌, map}
-use Rattle.std.proofs.Common.{length, take, drop, refl, sym, ap, ◌∙◌, subst, arith, Ok, ℤ, pos, append_assoc, append-nil}
+use Rattle.std.proofs.Common.{length, take, drop, refl, sym, ap, ◌∙◌, subst, arith, Ok, ℤ, pos, append_assoc, append-nil, length-append}
 use Rattle.std.proofs.lemmas.List.{take-replicate, drop-replicate, length-replicate}
 use Rattle.jpeg_bits.specs.Entropy.{Text}
 use Rattle.jpeg_bits.specs.Codes.{Table, IsTable}
@@ -16,8 +17,7 @@ use Rattle.jpeg_evidence.specs.Strict.{alone, IsCut, IsNumber, IsValue, Follows,
 use Rattle.jpeg_evidence.specs.Strict.{HasBytes, IsBand}
 use Rattle.jpeg_evidence.specs.Strict.Follows.{value, sixteen, ended}
 use Rattle.jpeg_evidence.specs.Strict.TokensFit.{filled, token}
-use Rattle.jpeg_evidence.proofs.TakenBits.{map-parts, cut-map, cut-none, cut-both, Both}
-use Rattle.jpeg_streams.proofs.TakenTexts.{bind-parts, ok-parts}
+use Rattle.jpeg_evidence.proofs.TakenBits.{after-read, gives-taken, map-taken, cut-map, cut-both, Both}
 use Rattle.jpeg_evidence.proofs.TakenTokens.{token-taken}
 
 of-value : (r s k : ℕ) (u : ℤ) (own : List Bool) → Follows r s (Value k u) own → (r ≡ k) × (0 < s) × IsValue s u own
@@ -31,9 +31,7 @@ of-rest : (r s run : ℕ) (own : List Bool) → Follows r s (Rest run) own
 of-rest r s run own (ended r' e own' n is) = (n, refl, e, refl, is)
 
 not-nothing : (s : ℕ) (u : ℤ) → 0 < s → IsCategory u s → u ≢ pos 0
-not-nothing s u h cat e =
-    let least = (subst (λ (x : ℤ). IsCategory x s) e cat).is_least 0 (omega arith) in
-    omega (arith, least, h)
+not-nothing s u h cat e = grind arith
 
 pub run-small : (table : Table) (r s : ℕ) (code : List Bool) → HasBytes table → IsCoded table (16 * r + s) code → r ≤ 15
 run-small table r s code bytes coded = let h = bytes.each coded.place in let e = coded.is_for in omega (arith, h, e)
@@ -46,17 +44,7 @@ value-written table al r u band run own back bytes range w b =
     let coded = subst (λ (k : ℕ). IsCoded table (16 * k + w.s) w.code) f.0 w.coded in
     let cat = f.2.category in
     let front = map-no_numbers al r (u ∷ b.numbers) in
-    record {
-      numbers = no_numbers r ++ u ∷ b.numbers;
-      are = front
-          ∙ ap (λ (l : List ℤ). no_numbers r ++ scaled al u ∷ l) b.are
-          ∙ ap (λ (x : ℤ). no_numbers r ++ x ∷ band) (sym (scaled-fits al u range))
-          ∙ sym (append_assoc (no_numbers r) (wrapped (scaled al u) ∷ []) band);
-      written = subst (λ (l : List Bool). WritesBand table (no_numbers r ++ u ∷ b.numbers) (l ++ back) run)
-          (ap (λ (l : List Bool). w.code ++ l) f.2.are ∙ w.whole)
-          (a_value r w.s u w.code b.numbers back run (run-small table r w.s w.code bytes coded)
-          (not-nothing w.s u f.1 cat) cat coded b.written);
-    }
+    grind (arith, scaled-fits, append_assoc, a_value, run-small, not-nothing)
 
 sixteen-written : (table : Table) (al : ℕ) (band : List ℤ) (run : ℕ) (own back : List Bool)
     → IsToken table Sixteen own → IsBand table al band run back
@@ -87,82 +75,75 @@ rest-written table al room run own bytes w =
       numbers = no_numbers (suc room);
       are = ap (map (scaled al)) (sym (append-nil (no_numbers (suc room)))) ∙ map-no_numbers al (suc room) []
           ∙ append-nil (no_numbers (suc room));
-      written = subst (λ (l : List Bool). WritesBand table (no_numbers (suc room)) l run)
-          (ap (λ (l : List Bool). w.code ++ l) is.are ∙ w.whole)
-          (subst (λ (k : ℕ). WritesBand table (no_numbers (suc room)) (w.code ++ low_bits w.r e) k) (sym f.3)
-          (an_end room w.r e w.code low is.below coded));
+      written = grind (arith, an_end);
     }
 
+-- a band of so many places
+pub record IsLong (table : Table) (al room : ℕ) (y : Band) (own : List Bool) : Type 0 where
+  pub band : IsBand table al y.0 y.1 own
+  pub long : length y.0 ≡ room
+
 -- what is written for a token and for what was read after it
-abbrev IsAfter : Table → ℕ → Token → Band → List Bool → Type 0
-IsAfter table al x y back = (own : List Bool) → IsToken table x own → IsBand table al y.0 y.1 (own ++ back)
+abbrev IsAfter : Table → ℕ → ℕ → Token → Band → List Bool → Type 0
+IsAfter table al room x y back = (own : List Bool) → IsToken table x own → IsLong table al room y (own ++ back)
 
 step : (table : Table) (al n room : ℕ) (x : Token) (more : List Bool) (y : Band) (t : Text) → HasBytes table
     → Fits al (suc room) x
     → ((z : Band) → first_ac table al n (no_numbers (room_after (suc room) x)) (alone more) ≡ Ok (z, t)
-    → IsCut (IsBand table al z.0 z.1) more t)
+    → IsCut (IsLong table al (room_after (suc room) x) z) more t)
     → after_token al (first_ac table al n) (no_numbers (suc room)) x (alone more) ≡ Ok (y, t)
-    → IsCut (IsAfter table al x y) more t
+    → IsCut (IsAfter table al (suc room) x y) more t
 step table al n room (Value r u) more y t bytes fits others e =
     let places = no_numbers (suc room) in
     let small = fits.0 in
     let front : take r places ≡ no_numbers r = take-replicate r (suc room) (pos 0) (omega (arith, small)) in
-    let m = map-parts (first_ac table al n (drop (r + 1) places))
-    (λ (m : Band). before_more (take r places ++ wrapped (scaled al u) ∷ []) m) (alone more) t y e in
-    let z = m.0 in
     let back : drop (r + 1) places ≡ no_numbers (suc room - (r + 1)) = drop-replicate (r + 1) (suc room) (pos 0) in
-    let c = others z (ap (λ (l : List ℤ). first_ac table al n l (alone more)) (sym back) ∙ m.1) in
-    let same : before_more (no_numbers r ++ wrapped (scaled al u) ∷ []) z ≡ y
-    = ap (λ (l : List ℤ). before_more (l ++ wrapped (scaled al u) ∷ []) z) (sym front) ∙ m.2 in
-    cut-map (IsBand table al z.0 z.1) (IsAfter table al (Value r u) y) more t
-    (λ own b first w. subst (λ (v : Band). IsBand table al v.0 v.1 (first ++ own)) same
-    (value-written table al r u z.0 z.1 first own bytes (record { within = fits.1 }) w b)) c
+    map-taken (first_ac table al n (drop (r + 1) places))
+    (λ (m : Band). before_more (take r places ++ wrapped (scaled al u) ∷ []) m) (IsLong table al (suc room - (r + 1)))
+    (IsAfter table al (suc room) (Value r u)) more t y
+    (λ z j. others z (ap (λ (l : List ℤ). first_ac table al n l (alone more)) (sym back) ∙ j))
+    (grind (arith, value-written, length-append, length-replicate)) e
 step table al n room Sixteen more y t bytes fits others e =
     let places = no_numbers (suc room) in
     let front : take 16 places ≡ no_numbers 16 = take-replicate 16 (suc room) (pos 0) fits in
-    let m = map-parts (first_ac table al n (drop 16 places)) (λ (m : Band). before_more (take 16 places) m)
-    (alone more) t y e in
-    let z = m.0 in
     let back : drop 16 places ≡ no_numbers (suc room - 16) = drop-replicate 16 (suc room) (pos 0) in
-    let c = others z (ap (λ (l : List ℤ). first_ac table al n l (alone more)) (sym back) ∙ m.1) in
-    let same : before_more (no_numbers 16) z ≡ y = ap (λ (l : List ℤ). before_more l z) (sym front) ∙ m.2 in
-    cut-map (IsBand table al z.0 z.1) (IsAfter table al Sixteen y) more t
-    (λ own b first w. subst (λ (v : Band). IsBand table al v.0 v.1 (first ++ own)) same
-    (sixteen-written table al z.0 z.1 first own w b)) c
-step table al n room (Rest run) more y t bytes fits others e =
-    let q = ok-parts (no_numbers (suc room), run) y (alone more) t e in
-    cut-none (IsAfter table al (Rest run) y) more t q.1
-    (λ own w. subst (λ (l : List Bool). IsBand table al y.0 y.1 l) (sym (append-nil own))
-    (subst (λ (v : Band). IsBand table al v.0 v.1 own) q.0 (rest-written table al room run own bytes w)))
+    map-taken (first_ac table al n (drop 16 places)) (λ (m : Band). before_more (take 16 places) m)
+    (IsLong table al (suc room - 16)) (IsAfter table al (suc room) Sixteen) more t y
+    (λ z j. others z (ap (λ (l : List ℤ). first_ac table al n l (alone more)) (sym back) ∙ j))
+    (λ z own b first w. subst (λ (l : List ℤ). IsLong table al (suc room) (before_more l z) (first ++ own)) (sym front)
+    (search (rules, sixteen-written, length-append, length-replicate))) e
+step table al n room (Rest run) more y t bytes fits others e = grind (arith, gives-taken, append-nil, rest-written, length-replicate)
 step table al n room Overlong more y t bytes fits others e = absurd fits
 
 pub after-small : (k n : ℕ) (x : Token) → suc k ≤ suc n → room_after (suc k) x ≤ n
-after-small k n (Value r u) h = omega arith
-after-small k n Sixteen h = omega arith
-after-small k n (Rest run) h = omega arith
-after-small k n Overlong h = omega arith
+after-small k n x h = grind arith
+
+-- The bits that were taken of a band whose tokens fit are written for it, and it has all its places.
+pub long-taken : (table : Table) (al n room : ℕ) (bits : List Bool) (y : Band) (t : Text) → IsTable table
+    → HasBytes table → TokensFit table al room bits → room ≤ n
+    → first_ac table al n (no_numbers room) (alone bits) ≡ Ok (y, t) → IsCut (IsLong table al room y) bits t
+unfolding first_ac
+long-taken table al n room bits y t is bytes (filled bits') le e =
+    gives-taken (IsLong table al 0) ([], 0) y bits t
+    (record { band = record { numbers = []; are = refl; written = full }; long = refl }) e
+long-taken table al zero room bits y t is bytes (token k x bits' more h f w) le e = absurd (omega arith)
+long-taken table al (suc n) room bits y t is bytes (token k x bits' more h f w) le e =
+    let places = no_numbers (suc k) in
+    let long : length places ≡ suc k = length-replicate (suc k) (pos 0) in
+    let after = after_token al (first_ac table al n) places in
+    let rest = after-read (token_from table (length places)) after x (alone bits) (alone more) t y
+    (ap (λ (j : ℕ). token_from table j (alone bits)) long ∙ h) e in
+    let small : room_after (suc k) x ≤ n = after-small k n x le in
+    let d = step table al n k x more y t bytes f
+    (λ z j. long-taken table al n (room_after (suc k) x) more z t is bytes w small j) rest in
+    cut-map (Both (IsToken table x) (IsAfter table al (suc k) x y)) (IsLong table al (suc k) y) bits t
+    (λ own b. subst (λ (l : List Bool). IsLong table al (suc k) y l) b.whole (b.second b.front b.first))
+    (cut-both (IsToken table x) (IsAfter table al (suc k) x y) bits more t (token-taken table (suc k) bits x (alone more) is h) d)
 
 -- The bits that were taken of a band whose tokens fit are written for it.
 pub band-taken : (table : Table) (al n room : ℕ) (bits : List Bool) (y : Band) (t : Text) → IsTable table
     → HasBytes table → TokensFit table al room bits → room ≤ n
     → first_ac table al n (no_numbers room) (alone bits) ≡ Ok (y, t) → IsCut (IsBand table al y.0 y.1) bits t
-unfolding first_ac
-band-taken table al n room bits y t is bytes (filled bits') le e =
-    let q = ok-parts ([], 0) y (alone bits) t e in
-    cut-none (IsBand table al y.0 y.1) bits t q.1 (subst (λ (v : Band). IsBand table al v.0 v.1 []) q.0
-    (record { numbers = []; are = refl; written = full }))
-band-taken table al zero room bits y t is bytes (token k x bits' more h f w) le e = absurd (omega arith)
-band-taken table al (suc n) room bits y t is bytes (token k x bits' more h f w) le e =
-    let places = no_numbers (suc k) in
-    let long : length places ≡ suc k = length-replicate (suc k) (pos 0) in
-    let after = after_token al (first_ac table al n) places in
-    let r = bind-parts (token_from table (length places)) after (alone bits) t y e in
-    let q = ok-parts x r.0 (alone more) r.1 (sym h ∙ ap (λ (j : ℕ). token_from table j (alone bits)) (sym long) ∙ r.2) in
-    let rest : after x (alone more) ≡ Ok (y, t)
-    = ap (λ (a : Token). after a (alone more)) q.0 ∙ ap (after r.0) q.1 ∙ r.3 in
-    let small : room_after (suc k) x ≤ n = after-small k n x le in
-    let d = step table al n k x more y t bytes f
-    (λ z j. band-taken table al n (room_after (suc k) x) more z t is bytes w small j) rest in
-    cut-map (Both (IsToken table x) (IsAfter table al x y)) (IsBand table al y.0 y.1) bits t
-    (λ own b. subst (λ (l : List Bool). IsBand table al y.0 y.1 l) b.whole (b.second b.front b.first))
-    (cut-both (IsToken table x) (IsAfter table al x y) bits more t (token-taken table (suc k) bits x (alone more) is h) d)
+band-taken table al n room bits y t is bytes fits le e =
+    cut-map (IsLong table al room y) (IsBand table al y.0 y.1) bits t (λ own b. b.band)
+    (long-taken table al n room bits y t is bytes fits le e)

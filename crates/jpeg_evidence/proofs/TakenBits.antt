@@ -1,4 +1,5 @@
 -- The bits that were taken are those of what was read of them.
+use Rattle.std.proofs.Common.{rules}
 use Rattle.std.proofs.Common.{◌≡◌, ℕ, zero, suc, ◌+◌, ◌*◌, ◌/◌, ◌%◌, ◌^◌, ◌<◌, ◌≤◌, Bool, true, false, cond}
 use Rattle.std.proofs.Common.{List, [], ◌∷◌, ◌++◌, length, take, drop, replicate, refl, sym, ap, ap₂, ◌∙◌, subst, arith}
 use Rattle.std.proofs.Common.{take-append-drop, length-take, pow-suc, mul_assoc, Ok, Err, Result, slice_index}
@@ -31,19 +32,7 @@ number-split a (b ∷ bs) =
     let c : ℕ = cond b 1 0 in
     let l = length bs in
     let w : 2 * a ≡ a * 2 = omega arith in
-    let e : (2 * a + c) * 2 ^ l ≡ a * 2 ^ suc l + c * 2 ^ l
-    = omega (
-      arith,
-      add-mul (2 * a) c (2 ^ l),
-      mul_assoc a 2 (2 ^ l),
-      pow-suc 2 l,
-      ap (λ (x : ℕ). x * 2 ^ l) w,
-      ap (λ (x : ℕ). a * x) (pow-suc 2 l),
-    ) in
-    let z : 2 * 0 + c ≡ c = omega arith in
-    let here : number_of (b ∷ bs) ≡ c * 2 ^ l + number_of bs
-    = ap (λ (x : ℕ). number_onto x bs) z ∙ number-split c bs in
-    number-split (2 * a + c) bs ∙ omega (arith, e, here)
+    grind (arith, add-mul, mul_assoc, pow-suc, number_onto, number-split c bs, number-split (2 * a + c) bs)
 
 number-more : (b : Bool) (bs : List Bool) → number_of (b ∷ bs) ≡ cond b 1 0 * 2 ^ length bs + number_of bs
 number-more b bs =
@@ -52,18 +41,11 @@ number-more b bs =
 
 pub number-below : (bs : List Bool) → number_of bs < 2 ^ length bs
 number-below [] = omega arith
-number-below (true ∷ bs) =
-    let h = number-below bs in
-    let e = number-more true bs in
-    omega (arith, h, e, pow-suc 2 (length bs), one-mul (2 ^ length bs))
-number-below (false ∷ bs) =
-    let h = number-below bs in
-    let e = number-more false bs in
-    omega (arith, h, e, pow-suc 2 (length bs), zero-mul (2 ^ length bs))
+number-below (true ∷ bs) = search (rules, number-more, pow-suc, one-mul, number-below bs)
+number-below (false ∷ bs) = grind (arith, number-more, pow-suc, zero-mul, number-below bs)
 
 bit-back : (b : Bool) → bit (cond b 1 0 % 2) ≡ b
-bit-back true = refl
-bit-back false = refl
+bit-back x = grind arith
 
 -- bits are the low bits of their number
 pub bits-back : (bs : List Bool) → low_bits (length bs) (number_of bs) ≡ bs
@@ -74,25 +56,16 @@ bits-back (b ∷ bs) =
     let l = length bs in
     let e = number-more b bs in
     let high : number_of (b ∷ bs) / 2 ^ l ≡ c = ap (λ (x : ℕ). x / 2 ^ l) e ∙ digits_div c (number-below bs) in
-    ap₂ (λ (x : Bool) (xs : List Bool). x ∷ xs)
-    (ap (λ (x : ℕ). bit (x % 2)) high ∙ bit-back b)
-    (ap (low_bits l) e ∙ low_bits-high l c (number_of bs) ∙ bits-back bs)
+    grind (arith, bit-back, low_bits-high, bits-back bs)
 
 pub bits-of-length : (n : ℕ) (bs : List Bool) → length bs ≡ n → (low_bits n (number_of bs) ≡ bs) × (number_of bs < 2 ^ n)
-bits-of-length n bs h = (
-  ap (λ (k : ℕ). low_bits k (number_of bs)) (sym h) ∙ bits-back bs,
-  subst (λ (k : ℕ). number_of bs
-      < 2 ^ k) h (number-below bs),
-)
+bits-of-length n bs h = grind (arith, bits-back, number-below)
 
 -- ---- what was read
 
 pub map-parts : {A B : Type 0} (p : Reads A) (f : A → B) (s t : Text) (y : B)
     → (p >>= (λ a. gives (f a))) s ≡ Ok (y, t) → (a : A) × (p s ≡ Ok (a, t)) × (f a ≡ y)
-map-parts {A} {B} p f s t y e =
-    let r = bind-parts p (λ a. gives (f a)) s t y e in
-    let q = ok-parts (f r.0) y r.1 t r.3 in
-    (r.0, r.2 ∙ ap (λ (u : Text). Ok (r.0, u)) q.1, q.0)
+map-parts {A} {B} p f s t y e = grind (arith, bind-parts, ok-parts)
 
 -- Bits in two parts, of which P and Q hold.
 pub record Both (P Q : List Bool → Type 0) (own : List Bool) : Type 0 where
@@ -107,12 +80,7 @@ pub cut-map : (P Q : List Bool → Type 0) (bits : List Bool) (t : Text) → ((o
 cut-map P Q bits t f c = record { own = c.own; parts = c.parts; rest = c.rest; holds = f c.own c.holds }
 
 pub cut-none : (P : List Bool → Type 0) (bits : List Bool) (t : Text) → alone bits ≡ t → P [] → IsCut P bits t
-cut-none P bits t e h = record {
-  own = [];
-  parts = ap (λ (u : Text). u.bits) e;
-  rest = sym e ∙ ap (λ (u : Text). alone u.bits) e;
-  holds = h;
-}
+cut-none P bits t e h = grind arith
 
 pub cut-both : (P Q : List Bool → Type 0) (bits more : List Bool) (t : Text) → IsCut P bits (alone more)
     → IsCut Q more t → IsCut (Both P Q) bits t
@@ -135,24 +103,28 @@ bind-cut {A} {B} p f bits t y P Q e first second =
     let a = r.0 in
     let u = r.1 in
     let c = first a u r.2 in
-    let more = u.bits in
-    let is : u ≡ alone more = c.rest in
-    let one : p (alone bits) ≡ Ok (a, alone more) = r.2 ∙ ap (λ (x : Text). Ok (a, x)) is in
-    let two : f a (alone more) ≡ Ok (y, t) = ap (f a) (sym is) ∙ r.3 in
-    (a, cut-both (P a) (Q a) bits more t (first a (alone more) one) (second a more one two))
+    grind (arith, cut-both)
+
+-- what is told with no bits
+pub gives-taken : {A : Type 0} (P : A → List Bool → Type 0) (x y : A) (bits : List Bool) (t : Text) → P x []
+    → gives x (alone bits) ≡ Ok (y, t) → IsCut (P y) bits t
+gives-taken {A} P x y bits t h e =
+    let q = ok-parts x y (alone bits) t e in
+    cut-none (P y) bits t q.1 (subst (λ (v : A). P v []) q.0 h)
+
+-- what is told of what was read
+pub map-taken : {A B : Type 0} (p : Reads A) (f : A → B) (P : A → List Bool → Type 0) (Q : B → List Bool → Type 0)
+    (bits : List Bool) (t : Text) (y : B) → ((a : A) → p (alone bits) ≡ Ok (a, t) → IsCut (P a) bits t)
+    → ((a : A) (own : List Bool) → P a own → Q (f a) own)
+    → (p >>= (λ a. gives (f a))) (alone bits) ≡ Ok (y, t) → IsCut (Q y) bits t
+map-taken {A} {B} p f P Q bits t y taken told e =
+    let m = map-parts p f (alone bits) t y e in
+    cut-map (P m.0) (Q y) bits t (λ own w. subst (λ (v : B). Q v own) m.2 (told m.0 own w)) (taken m.0 m.1)
 
 -- the first n bits, of at least so many
 pub cut-front : (P : List Bool → Type 0) (n : ℕ) (bits : List Bool) (t : Text) → advance n (alone bits) ≡ t
     → P (take n bits) → IsCut P bits t
-cut-front P n bits t e h =
-    let left : alone (drop n bits) ≡ t = ap (λ (l : List (List ℕ)). text (drop n bits) l (Broken End))
-    (sym (drop-nil n)) ∙ e in
-    record {
-      own = take n bits;
-      parts = sym (take-append-drop n bits) ∙ ap (λ (u : Text). take n bits ++ u.bits) left;
-      rest = sym left ∙ ap (λ (u : Text). alone u.bits) left;
-      holds = h;
-    }
+cut-front P n bits t e h = grind (arith, drop-nil, take-append-drop)
 
 front-number : (n : ℕ) (bits : List Bool) → n ≤ length bits
     → (low_bits n (number_of (take n bits)) ≡ take n bits) × (number_of (take n bits) < 2 ^ n)
@@ -177,10 +149,7 @@ number-taken n bits v t e = go (leb n (length bits)) refl e
         let front : take n (bits ++ replicate n false) ≡ take n bits = take-append-le n bits (replicate n false) le in
         let is = front-number n bits le in
         let value : number_of (take n bits) ≡ v = ap number_of (sym front) ∙ q.0 in
-        cut-front (IsNumber n v) n bits t q.1 (record {
-          below = subst (λ (x : ℕ). x < 2 ^ n) value is.1;
-          are = ap (low_bits n) (sym value) ∙ is.0;
-        })
+        cut-front (IsNumber n v) n bits t q.1 (grind arith)
 
 -- ---- codes
 
@@ -203,32 +172,14 @@ test-found test a (suc n) i e = go (test a) refl (test-found test (a + 1) n i) e
     go : (b : Bool) → test a ≡ b → (first_from test (a + 1) n ≡ Some i → (test i ≡ true) × (i < a + 1 + n))
         → cond b (Some a) (first_from test (a + 1) n) ≡ Some i → (test i ≡ true)
         × (i < a + suc n)
-    go true h more k =
-        let s : a ≡ i = some-is a i k in
-        (subst (λ (x : ℕ). test x ≡ true) s h, omega (arith, s))
+    go true h more k = grind (arith, some-is)
     go false h more k = let r = more k in (r.0, omega (arith, r.1))
 
 code-place : (lens : List ℕ) (bits : List Bool) (c : ℕ × ℕ) → code_in lens bits ≡ Some c
     → (c.0 < length lens) × (c.1 ≡ slice_index lens c.0)
     × (number_of (take c.1 bits) ≡ code_value lens c.0)
 unfolding code_in begins
-code-place lens bits c e = go (first_from (begins lens bits) 0 (length lens)) refl e
-  where
-    go : (o : Option ℕ) → first_from (begins lens bits) 0 (length lens) ≡ o
-        → option_map (λ (i : ℕ). (i, slice_index lens i)) o ≡ Some c
-        → (c.0 < length lens) × (c.1 ≡ slice_index lens c.0)
-        × (number_of (take c.1 bits) ≡ code_value lens c.0)
-    go None h k = absurd (none-is c k)
-    go (Some i) h k =
-        let is = some-is (i, slice_index lens i) c k in
-        let place : i ≡ c.0 = ap (λ (x : ℕ × ℕ). x.0) is in
-        let size : slice_index lens i ≡ c.1 = ap (λ (x : ℕ × ℕ). x.1) is in
-        let r = test-found (begins lens bits) 0 (length lens) i h in
-        let v : number_of (take (slice_index lens i) bits) ≡ code_value lens i = eqb-true _ _ r.0 in (
-          omega (arith, r.1, place),
-          sym size ∙ ap (slice_index lens) place,
-          ap (λ (n : ℕ). number_of (take n bits)) (sym size) ∙ v ∙ ap (code_value lens) place,
-        )
+code-place lens bits c e = grind (arith, none-is, some-is, test-found, eqb-true)
 
 -- The bits that were taken of a code are those of a code for its symbol.
 pub code-taken : (table : Table) (bits : List Bool) (c : ℕ × ℕ) (t : Text) → IsTable table
@@ -250,14 +201,7 @@ code-taken table bits c t is e = go (code_in (code_lengths table.counts) (next_1
         let small : x.1 ≤ 16 = omega (arith, top, place.1) in
         let front : take x.1 (next_16 bits) ≡ take x.1 bits
         = take-take x.1 16 (bits ++ replicate 16 false) small ∙ take-append-le x.1 bits (replicate 16 false) le in
-        let own = front-number x.1 bits le in
-        cut-front (IsCoded table c.1) x.1 bits t q.1 (record {
-          place = x.0;
-          listed = place.0;
-          is_for = ap (λ (y : ℕ × ℕ). y.1) q.0;
-          has_bits = ap (λ (n : ℕ). low_bits n (code_value lens x.0)) (sym place.1)
-              ∙ ap (low_bits x.1) (sym place.2 ∙ ap number_of front) ∙ own.0;
-        })
+        grind (arith, front-number, cut-front)
 
     go : (o : Option (ℕ × ℕ)) → code_in (code_lengths table.counts) (next_16 bits) ≡ o
         → code_by table (alone bits) o ≡ Ok (c, t) → IsCut (IsCoded table c.1) bits t
@@ -267,7 +211,4 @@ code-taken table bits c t is e = go (code_in (code_lengths table.counts) (next_1
 -- The same of a symbol.
 pub symbol-taken : (table : Table) (bits : List Bool) (symbol : ℕ) (t : Text) → IsTable table
     → symbol_from table (alone bits) ≡ Ok (symbol, t) → IsCut (IsCoded table symbol) bits t
-symbol-taken table bits symbol t is e =
-    let r = map-parts (code_from table) (λ (c : ℕ × ℕ). c.1) (alone bits) t symbol
-    (sym (symbol-code table (alone bits)) ∙ e) in
-    subst (λ (x : ℕ). IsCut (IsCoded table x) bits t) r.2 (code-taken table bits r.0 t is r.1)
+symbol-taken table bits symbol t is e = grind (arith, map-parts, symbol-code, code-taken)

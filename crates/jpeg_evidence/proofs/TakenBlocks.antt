@@ -23,8 +23,7 @@ use Rattle.jpeg_streams.proofs.CutLevels.{band-map}
 use Rattle.jpeg_evidence.specs.Strict.{alone, IsCut, HasBytes, TokensFit, Fits, room_after, IsBand, IsBlock}
 use Rattle.jpeg_evidence.specs.Strict.{BlockFits, HasTables}
 use Rattle.jpeg_evidence.specs.Strict.TokensFit.{filled, token}
-use Rattle.jpeg_evidence.proofs.TakenBits.{bind-cut, map-parts, cut-map, cut-none, Both}
-use Rattle.jpeg_streams.proofs.TakenTexts.{bind-parts, ok-parts}
+use Rattle.jpeg_evidence.proofs.TakenBits.{bind-cut, gives-taken, map-parts, map-taken, cut-map, Both}
 use Rattle.jpeg_evidence.proofs.TakenBits.{number-taken}
 use Rattle.jpeg_evidence.proofs.TakenRefinements.{IsHeld, IsCorrected, IsRefined, alike-long, alike-none, one-bit}
 use Rattle.jpeg_evidence.proofs.TakenRefinements.{corrected-taken, refined-taken}
@@ -38,7 +37,7 @@ use Rattle.jpeg_streams.specs.WrittenData.WritesAc.{again as a_refinement, again
 use Rattle.jpeg_streams.proofs.SentBlocks.{dc_held, floor_half}
 use Rattle.jpeg_streams.proofs.WrittenBlocks.{dc-refined}
 use Rattle.jpeg_evidence.specs.Strict.{IsNumber, PiecesFit}
-use Rattle.jpeg_evidence.proofs.TakenBands.{band-taken, after-small}
+use Rattle.jpeg_evidence.proofs.TakenBands.{IsLong, long-taken}
 use Rattle.jpeg_evidence.proofs.TakenLevels.{floor-scaled, all-toward, band-put, some-band}
 
 -- ---- DC
@@ -74,11 +73,7 @@ dc-first p table predictor bits y t s f is fits e =
     ∙ ap (λ (v : ℤ × ℤ). v.0) r.2 in
     let number : u ≡ floor_at al y.0 = sym (floor-scaled al u) ∙ ap (floor_at al) held in
     let same : d ≡ u -ℤ predictor = omega (arith, ints) in
-    cut-map (WritesDifference table d) (WritesRead p table predictor y) bits t
-    (λ own w. subst (λ (x : ℤ). WritesDc p table x predictor own y.1) number
-    (subst (λ (x : ℤ). WritesDc p table u predictor own x) next
-    (a_whole u predictor own s f (subst (λ (x : ℤ). WritesDifference table x own) same w))))
-    c
+    grind (arith, cut-map, a_whole)
 
 -- a number of the level above, with its bit
 pushed : ℤ → ℕ → ℤ
@@ -87,13 +82,11 @@ pushed (negsuc n) b = negsuc (2 * n + (1 - b))
 
 pushed-half : (v : ℤ) (b : ℕ) → b < 2 → floor_half (pushed v b) ≡ v
 unfolding pushed
-pushed-half (pos n) b h = let e : (2 * n + b) / 2 ≡ n = omega arith in ap pos e
-pushed-half (negsuc n) b h = let e : (2 * n + (1 - b)) / 2 ≡ n = omega arith in ap negsuc e
+pushed-half x b h = grind arith
 
 pushed-low : (v : ℤ) (b : ℕ) → b < 2 → low_bit (pushed v b) ≡ b
 unfolding pushed
-pushed-low (pos n) b h = let e : (2 * n + b) % 2 ≡ b = omega arith in e
-pushed-low (negsuc n) b h = let e : 1 - (2 * n + (1 - b)) % 2 ≡ b = omega arith in e
+pushed-low x b h = grind arith
 
 pushed-or : (al b : ℕ) (z : ℤ) → b < 2 → scaled (suc al) (floor_at (suc al) z) ≡ z
     → or_bit al z b ≡ scaled al (pushed (floor_at (suc al) z) b)
@@ -108,19 +101,16 @@ dc-again : (p : Pass) (table : Table) (z predictor : ℤ) (bits : List Bool) (y 
     → IsCut (WritesRead p table predictor y) bits t
 dc-again p table z predictor bits y t s f held e =
     let al = p.al in
-    let m = map-parts (bits_from 1) (λ (b : ℕ). (or_bit al z b, predictor)) (alone bits) t y e in
-    cut-map (IsNumber 1 m.0) (WritesRead p table predictor y) bits t
-    (λ own w.
-    let small : m.0 < 2 = w.below in
-    let u = pushed (floor_at (suc al) z) m.0 in
-    let number : u ≡ floor_at al (or_bit al z m.0)
-    = sym (floor-scaled al u) ∙ ap (floor_at al) (sym (pushed-or al m.0 z small held)) in
+    map-taken (bits_from 1) (λ (b : ℕ). (or_bit al z b, predictor)) (IsNumber 1) (WritesRead p table predictor) bits t y
+    (λ b. number-taken 1 bits b t)
+    (λ b own w.
+    let u = pushed (floor_at (suc al) z) b in
+    let number : u ≡ floor_at al (or_bit al z b)
+    = sym (floor-scaled al u) ∙ ap (floor_at al) (sym (pushed-or al b z w.below held)) in
     let own_is : bit (low_bit u) ∷ [] ≡ own
-    = ap (λ (x : ℕ). bit x ∷ []) (pushed-low (floor_at (suc al) z) m.0 small) ∙ one-bit m.0 own w in
-    subst (λ (v : ℤ × ℤ). WritesRead p table predictor v own) m.2
-    (subst (λ (x : ℤ). WritesDc p table x predictor own predictor) number
-    (subst (λ (l : List Bool). WritesDc p table u predictor l predictor) own_is (one_bit u predictor s f))))
-    (number-taken 1 bits m.0 t m.1)
+    = ap (λ (x : ℕ). bit x ∷ []) (pushed-low (floor_at (suc al) z) b w.below) ∙ one-bit b own w in
+    subst (λ (x : ℤ). WritesDc p table x predictor own predictor) number
+    (subst (λ (l : List Bool). WritesDc p table u predictor l predictor) own_is (one_bit u predictor s f))) e
 
 pub dc-taken-part : (p : Pass) (table : Table) (z predictor : ℤ) (bits : List Bool) (y : ℤ × ℤ) (t : Text)
     → (p.ss ≡ 0 → p.is_first ≡ true → IsTable table)
@@ -128,93 +118,7 @@ pub dc-taken-part : (p : Pass) (table : Table) (z predictor : ℤ) (bits : List 
     → (p.ss ≡ 0 → p.is_first ≡ false → scaled (suc p.al) (floor_at (suc p.al) z) ≡ z)
     → dc_part p table z predictor (alone bits) ≡ Ok (y, t) → IsCut (WritesRead p table predictor y) bits t
 unfolding dc_part
-dc-taken-part p table z predictor bits y t is fits sent e = go (eqb p.ss 0) refl p.is_first refl e
-  where
-    go : (s : Bool) → eqb p.ss 0 ≡ s → (b : Bool) → p.is_first ≡ b
-        → (elim s as (λ _. Reads (ℤ × ℤ)) [
-          | true ↦ elim b as (λ _. Reads (ℤ × ℤ)) [
-            | true ↦ first_dc table p.al predictor
-            | false ↦ bits_from 1 >>= (λ b. gives (or_bit p.al z b, predictor))
-          ]
-          | false ↦ gives (z, predictor)
-        ]) (alone bits) ≡ Ok (y, t) → IsCut (WritesRead p table predictor y) bits t
-    go true s true f k =
-        let ss = eqb-true p.ss 0 s in
-        dc-first p table predictor bits y t ss f (is ss f) (fits ss f) k
-    go true s false f k =
-        let ss = eqb-true p.ss 0 s in
-        dc-again p table z predictor bits y t ss f (sent ss f) k
-    go false s b f k =
-        let q = ok-parts (z, predictor) y (alone bits) t k in
-        cut-none (WritesRead p table predictor y) bits t q.1
-        (subst (λ (v : ℤ × ℤ). WritesRead p table predictor v []) q.0
-        (other_band (floor_at p.al z) predictor (eqb-false p.ss 0 s)))
-
--- ---- how many places a band has that was read
-
-step-long : (table : Table) (al n room : ℕ) (x : Token) (more : List Bool) (y : Band) (t : Text)
-    → Fits al (suc room) x
-    → ((z : Band) → first_ac table al n (no_numbers (room_after (suc room) x)) (alone more) ≡ Ok (z, t)
-    → length z.0 ≡ room_after (suc room) x)
-    → after_token al (first_ac table al n) (no_numbers (suc room)) x (alone more) ≡ Ok (y, t)
-    → length y.0 ≡ suc room
-step-long table al n room (Value r u) more y t fits others e =
-    let places = no_numbers (suc room) in
-    let small = fits.0 in
-    let own = take r places ++ wrapped (scaled al u) ∷ [] in
-    let m = map-parts (first_ac table al n (drop (r + 1) places)) (λ (m : Band). before_more own m) (alone more) t y e in
-    let z = m.0 in
-    let back : drop (r + 1) places ≡ no_numbers (suc room - (r + 1)) = drop-replicate (r + 1) (suc room) (pos 0) in
-    let c = others z (ap (λ (l : List ℤ). first_ac table al n l (alone more)) (sym back) ∙ m.1) in
-    let all : length (own ++ z.0) ≡ length y.0 = ap (λ (b : Band). length b.0) m.2 in
-    omega (
-      arith,
-      all,
-      c,
-      small,
-      length-append own z.0,
-      length-append (take r places) (wrapped (scaled al u) ∷ []),
-      length-take r places,
-      length-replicate (suc room) (pos 0),
-    )
-step-long table al n room Sixteen more y t fits others e =
-    let places = no_numbers (suc room) in
-    let m = map-parts (first_ac table al n (drop 16 places)) (λ (m : Band). before_more (take 16 places) m)
-    (alone more) t y e in
-    let z = m.0 in
-    let back : drop 16 places ≡ no_numbers (suc room - 16) = drop-replicate 16 (suc room) (pos 0) in
-    let c = others z (ap (λ (l : List ℤ). first_ac table al n l (alone more)) (sym back) ∙ m.1) in
-    let all : length (take 16 places ++ z.0) ≡ length y.0 = ap (λ (b : Band). length b.0) m.2 in
-    omega (
-      arith,
-      all,
-      c,
-      fits,
-      length-append (take 16 places) z.0,
-      length-take 16 places,
-      length-replicate (suc room) (pos 0),
-    )
-step-long table al n room (Rest run) more y t fits others e =
-    let q = ok-parts (no_numbers (suc room), run) y (alone more) t e in
-    ap (λ (b : Band). length b.0) (sym q.0) ∙ length-replicate (suc room) (pos 0)
-step-long table al n room Overlong more y t fits others e = absurd fits
-
-band-long : (table : Table) (al n room : ℕ) (bits : List Bool) (y : Band) (t : Text) → TokensFit table al room bits
-    → room ≤ n → first_ac table al n (no_numbers room) (alone bits) ≡ Ok (y, t) → length y.0 ≡ room
-unfolding first_ac
-band-long table al n room bits y t (filled bits') le e =
-    let q = ok-parts ([], 0) y (alone bits) t e in ap (λ (b : Band). length b.0) (sym q.0)
-band-long table al zero room bits y t (token k x bits' more h f w) le e = absurd (omega arith)
-band-long table al (suc n) room bits y t (token k x bits' more h f w) le e =
-    let places = no_numbers (suc k) in
-    let long : length places ≡ suc k = length-replicate (suc k) (pos 0) in
-    let after = after_token al (first_ac table al n) places in
-    let r = bind-parts (token_from table (length places)) after (alone bits) t y e in
-    let q = ok-parts x r.0 (alone more) r.1 (sym h ∙ ap (λ (j : ℕ). token_from table j (alone bits)) (sym long) ∙ r.2) in
-    let rest : after x (alone more) ≡ Ok (y, t)
-    = ap (λ (a : Token). after a (alone more)) q.0 ∙ ap (after r.0) q.1 ∙ r.3 in
-    step-long table al n k x more y t f
-    (λ z j. band-long table al n (room_after (suc k) x) more z t w (after-small k n x le) j) rest
+dc-taken-part p table z predictor bits y t is fits sent e = grind (arith, eqb-true, dc-first, dc-again, gives-taken, other_band, eqb-false)
 
 -- ---- bands
 
@@ -244,18 +148,9 @@ new-band : (p : Pass) (table : Table) (k : ℕ) (bits : List Bool) (y : Band) (t
     → IsCut (IsRead p table (no_numbers k) 0 y) bits t
 new-band p table k bits y t f some is bytes fits e =
     let al = p.al in
-    let long = band-long table al k k bits y t fits (le_refl k) e in
-    cut-map (IsBand table al y.0 y.1) (IsRead p table (no_numbers k) 0 y) bits t
-    (λ own w.
-    let numbers : map (toward_zero al) y.0 ≡ w.numbers = ap (map (toward_zero al)) (sym w.are) ∙ all-toward al w.numbers in
-    let size : length (map (toward_zero al) y.0) ≡ length y.0 = length-map y.0 (toward_zero al) in
-    let sizes : length (map (toward_zero al) y.0) ≡ length w.numbers = ap (λ (l : List ℤ). length l) numbers in
-    record {
-      long = long ∙ sym (length-replicate k (pos 0));
-      written = subst (λ (l : List ℤ). WritesAc p table l 0 own y.1) (sym numbers)
-          (written-first p table w.numbers own y.1 f (omega (arith, some, long, size, sizes)) w.written);
-    })
-    (band-taken table al k k bits y t is bytes fits (le_refl k) e)
+    cut-map (IsLong table al k y) (IsRead p table (no_numbers k) 0 y) bits t
+    (grind (arith, all-toward, length-map, length-replicate, written-first))
+    (long-taken table al k k bits y t is bytes fits (le_refl k) e)
 
 -- numbers of a level are those of what was read
 level-numbers : (al : ℕ) (numbers ws : List ℤ) → map (scaled al) numbers ≡ ws → numbers ≡ map (toward_zero al) ws
@@ -294,20 +189,18 @@ run-band : (p : Pass) (table : Table) (zs : List ℤ) (run : ℕ) (bits : List B
     → IsCut (IsRead p table zs (suc run) y) bits t
 run-band p table zs run bits y t f some held e =
     let al = p.al in
-    let m = map-parts (corrected al zs) (λ (all : List ℤ). (all, run)) (alone bits) t y e in
-    cut-map (IsCorrected al zs m.0) (IsRead p table zs (suc run) y) bits t
-    (λ own w.
+    map-taken (corrected al zs) (λ (all : List ℤ). (all, run)) (IsCorrected al zs) (IsRead p table zs (suc run)) bits t y
+    (λ ws. corrected-taken al zs bits ws t held)
+    (λ ws own w.
     let size : length (map (scaled al) w.us) ≡ length w.us = length-map w.us (scaled al) in
-    let sizes : length (map (scaled al) w.us) ≡ length m.0 = ap (λ (l : List ℤ). length l) w.are in
+    let sizes : length (map (scaled al) w.us) ≡ length ws = ap (λ (l : List ℤ). length l) w.are in
     let long = alike-long w.us zs w.alike in
-    subst (λ (v : Band). IsRead p table zs (suc run) v own) m.2
-    (record {
+    record {
       long = omega (arith, size, sizes, long);
-      written = subst (λ (l : List ℤ). WritesAc p table l (suc run) own run) (level-numbers al w.us m.0 w.are)
+      written = subst (λ (l : List ℤ). WritesAc p table l (suc run) own run) (level-numbers al w.us ws w.are)
           (subst (λ (l : List Bool). WritesAc p table w.us (suc run) l run) w.bits
           (written-run p table w.us run f (omega (arith, some, long)) (alike-none w.us zs w.alike)));
-    }))
-    (corrected-taken al zs bits m.0 t held m.1)
+    }) e
 
 pub band-taken-part : (p : Pass) (table : Table) (band : List ℤ) (run : ℕ) (bits : List Bool) (y : Band) (t : Text)
     → Tabled table band → (p.is_first ≡ true → band ≡ no_numbers (length band))
@@ -317,9 +210,7 @@ pub band-taken-part : (p : Pass) (table : Table) (band : List ℤ) (run : ℕ) (
     → band_part p table band run (alone bits) ≡ Ok (y, t) → IsCut (IsRead p table band run y) bits t
 unfolding band_part
 band-taken-part p table [] run bits y t tables unsent fits sent pieces e =
-    let q = ok-parts ([], run) y (alone bits) t e in
-    cut-none (IsRead p table [] run y) bits t q.1
-    (subst (λ (v : Band). IsRead p table [] run v []) q.0 (record { long = refl; written = no_band run }))
+    gives-taken (IsRead p table [] run) ([], run) y bits t (record { long = refl; written = no_band run }) e
 band-taken-part p table (x ∷ band) zero bits y t tables unsent fits sent pieces e = go p.is_first refl e
   where
     go : (b : Bool) → p.is_first ≡ b
@@ -333,9 +224,7 @@ band-taken-part p table (x ∷ band) zero bits y t tables unsent fits sent piece
         subst (λ (l : List ℤ). IsCut (IsRead p table l 0 y) bits t) (sym (unsent f))
         (new-band p table n bits y t f (omega arith) is.0 is.1 (fits f refl)
         (ap (λ (l : List ℤ). first_ac table p.al n l (alone bits)) (sym (unsent f)) ∙ k))
-    go false f k =
-        let is = tables (omega arith) in
-        old-band p table (x ∷ band) bits y t f (omega arith) is.0 is.1 (sent f) (pieces f refl) k
+    go false f k = grind (arith, old-band)
 band-taken-part p table (x ∷ band) (suc run) bits y t tables unsent fits sent pieces e = go p.is_first refl e
   where
     here : p.is_first ≡ true → IsRead p table (x ∷ band) (suc run) (x ∷ band, run) []
@@ -351,10 +240,7 @@ band-taken-part p table (x ∷ band) (suc run) bits y t tables unsent fits sent 
           | true ↦ gives (x ∷ band, run)
           | false ↦ corrected p.al (x ∷ band) >>= (λ all. gives (all, run))
         ]) (alone bits) ≡ Ok (y, t) → IsCut (IsRead p table (x ∷ band) (suc run) y) bits t
-    go true f k =
-        let q = ok-parts (x ∷ band, run) y (alone bits) t k in
-        cut-none (IsRead p table (x ∷ band) (suc run) y) bits t q.1
-        (subst (λ (v : Band). IsRead p table (x ∷ band) (suc run) v []) q.0 (here f))
+    go true f k = gives-taken (IsRead p table (x ∷ band) (suc run)) (x ∷ band, run) y bits t (here f) k
     go false f k = run-band p table (x ∷ band) run bits y t f (omega arith) (sent f) k
 
 -- ---- blocks
@@ -372,19 +258,7 @@ record IsRest (p : Pass) (table : Table) (run : ℕ) (old : Block) (r : Block ×
 joined : (p : Pass) (via : Via) (predictor : ℤ) (run : ℕ) (old : Block) (r : Block × ℤ × ℕ) (d : ℤ × ℤ)
     (own : List Bool)
     → Both (WritesRead p via.dc predictor d) (IsRest p via.ac run old r d) own → IsBlock p via predictor run r own
-joined p via predictor run old r d own w =
-    let y = w.second.y in
-    let band : band_of p (map (toward_zero p.al) (with_band p old.acs y.0)) ≡ map (toward_zero p.al) y.0
-    = band-map p (toward_zero p.al) (with_band p old.acs y.0)
-    ∙ ap (map (toward_zero p.al)) (band-put p old.acs y.0 w.second.band.long) in
-    subst (λ (x : Block × ℤ × ℕ). IsBlock p via predictor run x own) w.second.same
-    (record {
-      dc = w.front;
-      ac = w.back;
-      writes_dc = w.first;
-      writes_ac = subst (λ (l : List ℤ). WritesAc p via.ac l run w.back y.1) (sym band) w.second.band.written;
-      whole = w.whole;
-    })
+joined p via predictor run old r d own w = grind (arith, band-map, band-put)
 
 -- a block is taken where its two parts are
 pub parts-taken : (p : Pass) (via : Via) (predictor : ℤ) (run : ℕ) (old : Block) (bits : List Bool)
@@ -417,11 +291,5 @@ pub block-taken : (p : Pass) (via : Via) (predictor : ℤ) (run : ℕ) (old : Bl
 block-taken p via predictor run old bits r t tables fits e =
     parts-taken p via predictor run old bits r t
     (λ d u k. dc-taken-part p via.dc old.dc predictor bits d u tables.dc_is fits.dc_fits fits.dc_sent k)
-    (λ d more h y k. band-taken-part p via.ac (band_of p old.acs) run more y t
-    (λ some. let s = some-band p old.acs some in (tables.ac_is s, tables.ac_bytes s))
-    fits.unsent
-    (λ f z. fits.tokens_fit f z d more h)
-    fits.acs_sent
-    (λ f z. fits.pieces_fit f z d more h)
-    k)
+    (grind (arith, band-taken-part, some-band))
     e

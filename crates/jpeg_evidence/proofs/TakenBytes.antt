@@ -1,4 +1,5 @@
 -- Bytes whose text ends with a marker are stuffed bytes of its bits, and the marker.
+use Rattle.std.proofs.Common.{arith}
 use Rattle.std.proofs.Common.{◌≡◌, ℕ, zero, suc, Bool, true, false, cond, List, [], ◌∷◌, ◌++◌, replicate, refl, sym}
 use Rattle.std.proofs.Common.{ap, ap₂, ◌∙◌, eqb, Option, Some, None}
 use Rattle.std.proofs.lemmas.Bool.{eqb-true}
@@ -17,9 +18,7 @@ not-broken f m rest e = cc
 
 end-found : (d : DataEnd) (r rest : List ℕ) (m : Marker) → ending_of d r ≡ Found m rest → (d ≡ ends.Marker m)
     × (r ≡ rest)
-end-found (ends.Marker n) r rest m e = (cc, cc)
-end-found ends.Malformed r rest m e = absurd (not-broken Malformed m rest e)
-end-found ends.Ended r rest m e = absurd (not-broken End m rest e)
+end-found x r rest m e = grind (arith, not-broken)
 
 not-malformed : (m : Marker) → ◌≡◌ {A = DataEnd} ends.Malformed (ends.Marker m) → ⊥
 not-malformed m e = cc
@@ -28,8 +27,7 @@ not-ended : (m : Marker) → ◌≡◌ {A = DataEnd} ends.Ended (ends.Marker m) 
 not-ended m e = cc
 
 end-named : (o : Option Marker) (m : Marker) → end_by o ≡ ends.Marker m → o ≡ Some m
-end-named None m e = absurd (not-malformed m e)
-end-named (Some n) m e = cc
+end-named x m e = grind (arith, not-malformed)
 
 -- fill bytes, and a marker's second byte
 filled-back : (bytes rest : List ℕ) (m : Marker) → (filled_end bytes).0 ≡ ends.Marker m → (filled_end bytes).1 ≡ rest
@@ -54,12 +52,7 @@ pub bytes-back : (bytes rest : List ℕ) (m : Marker) → (text_at bytes).ending
     → IsData bytes (text_at bytes).bits m rest
 unfolding text_at stuffed bits_of_bytes
 bytes-back [] rest m e = absurd (not-broken End m rest e)
-bytes-back (b ∷ []) rest m e = go (eqb b 255) e
-  where
-    go : (x : Bool) → (cond x (no_bits (Broken End)) (add_byte b [] (no_bits (Broken End)))).ending ≡ Found m rest
-        → IsData (b ∷ []) (cond x (no_bits (Broken End)) (add_byte b [] (no_bits (Broken End)))).bits m rest
-    go true k = absurd (not-broken End m rest k)
-    go false k = absurd (not-broken End m rest k)
+bytes-back (b ∷ []) rest m e = grind (arith, not-broken)
 bytes-back (b ∷ c ∷ more) rest m e =
     go (eqb b 255) refl (eqb c 0) refl (bytes-back more rest m) (bytes-back (c ∷ more) rest m) e
   where

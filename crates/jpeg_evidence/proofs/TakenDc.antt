@@ -17,10 +17,4 @@ dc-taken table al predictor bits y t is e =
     (λ (d : ℤ). (wrapped (wrapped (predictor +ℤ d) *ℤ pos (2 ^ al)), wrapped (predictor +ℤ d))) (alone bits) t y e in
     let d = r.0 in
     cut-map (WritesDifference table d) (IsDc table al predictor y) bits t
-    (λ own w. record {
-      u = predictor +ℤ d;
-      written = subst (λ (x : ℤ). WritesDifference table x own)
-          (let same : d ≡ predictor +ℤ d -ℤ predictor = omega (arith, ints) in same) w;
-      next = ap (λ (v : ℤ × ℤ). v.1) (sym r.2);
-      are = ap (λ (v : ℤ × ℤ). v.0) (sym r.2);
-    }) (difference-taken table bits d t is r.1)
+    (grind arith) (difference-taken table bits d t is r.1)

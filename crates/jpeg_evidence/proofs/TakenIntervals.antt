@@ -1,4 +1,5 @@
 -- An interval whose bits are written for its blocks, with at most 7 bits after them, is written.
+use Rattle.std.proofs.Common.{arith}
 use Rattle.std.proofs.Common.{◌≡◌, ℕ, List, ◌∙◌, ◌≤◌, length, refl, Ok}
 use Rattle.jpeg_bits.specs.Entropy.{Text, Found, text_at}
 use Rattle.jpeg_bits.specs.Intervals.{predictors_at_start}
@@ -16,22 +17,7 @@ pub interval-taken : (p : Pass) (turns : List (Via × Block)) (bytes rest : List
     → IsInterval p turns bytes m rest
 interval-taken p turns bytes rest m left e c short =
     let d = bytes-back bytes rest m e in
-    record {
-      front = stuffed d.data_bytes;
-      fill = d.fill;
-      code = d.code;
-      parts = d.parts;
-      names = d.names;
-      written = record {
-        bits = c.own;
-        filling = left.bits;
-        data_bytes = d.data_bytes;
-        coded = c.holds;
-        is_short = short;
-        whole = d.has_bits ∙ c.parts;
-        has_bytes = refl;
-      };
-    }
+    grind arith
 
 -- An interval whose blocks were taken of its bits is written for them.
 pub interval-of-taken : (p : Pass) (turns : List (Via × Block)) (bytes rest : List ℕ) (m : Marker)

@@ -25,9 +25,9 @@ use Rattle.jpeg_streams.proofs.WrittenRefinements.{corrections-zero, corrections
 use Rattle.jpeg_streams.proofs.WrittenRefinements.{with_last-end, new-scaled, map-scaled, through-zero, through-other}
 use Rattle.jpeg_evidence.specs.Strict.{alone, IsCut, IsNumber, HasBytes, count_zeros, PiecesFit}
 use Rattle.jpeg_evidence.specs.Strict.PiecesFit.{covered, new, zeros, last}
-use Rattle.jpeg_evidence.proofs.TakenBits.{number-taken, symbol-taken, bind-cut, map-parts}
+use Rattle.jpeg_evidence.proofs.TakenBits.{number-taken, symbol-taken, after-read, bind-cut, map-parts}
 use Rattle.jpeg_streams.proofs.TakenTexts.{bind-parts, ok-parts, no-error}
-use Rattle.jpeg_evidence.proofs.TakenBits.{cut-map, cut-none, cut-both, Both}
+use Rattle.jpeg_evidence.proofs.TakenBits.{cut-map, cut-none, cut-both, gives-taken, map-taken, Both}
 use Rattle.jpeg_evidence.proofs.TakenBands.{run-small}
 
 -- ---- a place
@@ -37,8 +37,7 @@ abbrev pub IsHeld : ℕ → ℤ → Type 0
 IsHeld al z = scaled (suc al) (toward_zero (suc al) z) ≡ z
 
 abs-neg : (k : ℕ) → unsigned_abs (neg_ℤ (pos k)) ≡ k
-abs-neg zero = refl
-abs-neg (suc k) = refl
+abs-neg x = grind arith
 
 moved-sum : (al m : ℕ) → m * 2 ^ suc al + 2 ^ al ≡ (2 * m + 1) * 2 ^ al
 moved-sum al m = omega (arith, times-two_power m al, spread m 1 (2 ^ al), one-mul (2 ^ al))
@@ -74,27 +73,11 @@ old-neg al m b w some small e =
 -- a place that isn't zero is moved where its bit is set
 moves : (al : ℕ) (z w : ℤ) (s t : Text) → bit_of al z ≡ 0 → corrected_by al z 1 s ≡ Ok (w, t)
     → (moved (2 ^ al) z ≡ w) × (s ≡ t)
-moves al z w s t even e = go (eqb (bit_of al z) 0) (eq-eqb (bit_of al z) 0 even) (fits_i16 (moved (2 ^ al) z)) e
-  where
-    go : (a : Bool) → a ≡ true → (b : Bool)
-        → (elim a as (λ _. Reads ℤ) [
-          | true ↦ elim b as (λ _. Reads ℤ) [ true ↦ gives (moved (2 ^ al) z) | false ↦ refused ]
-          | false ↦ gives z
-        ]) s ≡ Ok (w, t) → (moved (2 ^ al) z ≡ w) × (s ≡ t)
-    go true h true k = ok-parts (moved (2 ^ al) z) w s t k
-    go true h false k = absurd (no-error Malformed (w, t) k)
-    go false h b k = cc
+moves al z w s t even e = grind (arith, eq-eqb, ok-parts, no-error)
 
 corrected-pos : (al m k b : ℕ) (w : ℤ) (s t : Text) → 0 < m → m * 2 ^ suc al ≡ k → b < 2
     → corrected_by al (pos k) b s ≡ Ok (w, t) → IsOld al w b × (s ≡ t)
-corrected-pos al m k zero w s t some h small e =
-    let q = ok-parts (pos k) w s t e in
-    (old-pos al m 0 w some small (ap pos (sym (kept-sum al m) ∙ h) ∙ q.0), q.1)
-corrected-pos al m k (suc zero) w s t some h small e =
-    let even : bit_of al (pos k) ≡ 0 = ap (λ (x : ℕ). bit_of al (pos x)) (sym h) ∙ even-bit al m in
-    let q = moves al (pos k) w s t even e in
-    (old-pos al m 1 w some small (ap pos (sym (moved-sum al m) ∙ ap (λ (x : ℕ). x + 2 ^ al) h) ∙ q.0), q.1)
-corrected-pos al m k b w s t some h small e = absurd (omega arith)
+corrected-pos al m k b w s t some h small e = grind (arith, ok-parts, old-pos, kept-sum, even-bit, moves, moved-sum)
 
 corrected-neg : (al m k b : ℕ) (w : ℤ) (s t : Text) → 0 < m → m * 2 ^ suc al ≡ suc k → b < 2
     → corrected_by al (negsuc k) b s ≡ Ok (w, t) → IsOld al w b × (s ≡ t)
@@ -108,8 +91,7 @@ corrected-neg al m k (suc zero) w s t some h small e =
 corrected-neg al m k b w s t some h small e = absurd (omega arith)
 
 not-none : (al m k : ℕ) → m * 2 ^ suc al ≡ suc k → 0 < m
-not-none al zero k h = absurd (let z = zero-mul (2 ^ suc al) in omega (arith, h, z))
-not-none al (suc m) k h = omega arith
+not-none al x k h = grind (arith, zero-mul)
 
 old-place : (al : ℕ) (z : ℤ) (b : ℕ) (w : ℤ) (s t : Text) → IsHeld al z → is_zero z ≡ false → b < 2
     → corrected_by al z b s ≡ Ok (w, t) → IsOld al w b × (s ≡ t)
@@ -147,8 +129,7 @@ not-one : (u : ℤ) → is_old u ≡ true → unsigned_abs u ≢ 1
 not-one u o e = let f : leb 2 1 ≡ true = ap (λ (x : ℕ). leb 2 x) (sym e) ∙ o in cc
 
 one-none : (u z : ℤ) → AlikeOne u z → unsigned_abs u ≢ 1
-one-none u z (nothing h e) f = let g : unsigned_abs u ≡ 0 = ap unsigned_abs e in omega (arith, g, f)
-one-none u z (an_old h o) f = not-one u o f
+one-none u z x f = grind (arith, not-one)
 
 pub alike-none : (us zs : List ℤ) → Alike us zs → NoneNew us
 unfolding NoneNew
@@ -170,16 +151,11 @@ record IsOne (al : ℕ) (z w : ℤ) (own : List Bool) : Type 0 where
   bits : (us : List ℤ) → corrections (u ∷ us) ≡ own ++ corrections us
 
 zero-is : (z : ℤ) → is_zero z ≡ true → z ≡ pos 0
-zero-is (pos zero) h = refl
-zero-is (pos (suc n)) h = cc
-zero-is (negsuc n) h = cc
+zero-is x h = grind arith
 
 pub one-bit : (b : ℕ) (own : List Bool) → IsNumber 1 b own → bit b ∷ [] ≡ own
 unfolding low_bits
-one-bit b own is =
-    let h : b < 2 = is.below in
-    let same : b / 2 ^ 0 % 2 ≡ b = omega arith in
-    ap (λ (x : ℕ). bit x ∷ []) (sym same) ∙ is.are
+one-bit b own is = grind arith
 
 one-taken : (al : ℕ) (z : ℤ) (bits : List Bool) (w : ℤ) (t : Text) → IsHeld al z
     → (elim (is_zero z) as (λ _. Reads ℤ) [
@@ -191,14 +167,12 @@ one-taken al z bits w t held e = go (is_zero z) refl e
     go : (a : Bool) → is_zero z ≡ a
         → (elim a as (λ _. Reads ℤ) [ true ↦ gives z | false ↦ bits_from 1 >>= (λ b. corrected_by al z b) ])
         (alone bits) ≡ Ok (w, t) → IsCut (IsOne al z w) bits t
-    go true h k =
-        let q = ok-parts z w (alone bits) t k in
-        cut-none (IsOne al z w) bits t q.1 (record {
-          u = pos 0;
-          are = scaled-zero al ∙ sym (zero-is z h) ∙ q.0;
-          alike = nothing h refl;
-          bits = λ us. corrections-zero us;
-        })
+    go true h k = gives-taken (IsOne al z) z w bits t (record {
+      u = pos 0;
+      are = scaled-zero al ∙ sym (zero-is z h);
+      alike = nothing h refl;
+      bits = λ us. corrections-zero us;
+    }) k
     go false h k =
         let c = bind-cut (bits_from 1) (λ (b : ℕ). corrected_by al z b) bits t w (IsNumber 1)
         (λ (b : ℕ) (own : List Bool). IsOld al w b × (own ≡ [])) k
@@ -213,23 +187,12 @@ one-taken al z bits w t held e = go (is_zero z) refl e
         let whole : bit c.0 ∷ [] ≡ own
         = one-bit c.0 both.front both.first ∙ sym (append-nil both.front)
         ∙ ap (λ (l : List Bool). both.front ++ l) (sym both.second.1) ∙ both.whole in
-        record {
-          u = o.u;
-          are = o.are;
-          alike = an_old h o.old;
-          bits = λ us. corrections-old o.u us o.old
-              ∙ ap (λ (l : List Bool). l ++ corrections us) (ap (λ (x : ℕ). bit x ∷ []) o.low ∙ whole);
-        })
+        grind (arith, corrections-old))
         c.1
 
 cons-corrected : (al : ℕ) (z w : ℤ) (zs ws : List ℤ) (own : List Bool)
     → Both (IsOne al z w) (IsCorrected al zs ws) own → IsCorrected al (z ∷ zs) (w ∷ ws) own
-cons-corrected al z w zs ws own b = record {
-  us = b.first.u ∷ b.second.us;
-  are = ap₂ (λ (x : ℤ) (xs : List ℤ). x ∷ xs) b.first.are b.second.are;
-  alike = (b.first.alike, b.second.alike);
-  bits = b.first.bits b.second.us ∙ ap (λ (l : List Bool). b.front ++ l) b.second.bits ∙ b.whole;
-}
+cons-corrected al z w zs ws own b = grind arith
 
 nil-corrected : (al : ℕ) → IsCorrected al [] [] []
 unfolding corrections
@@ -241,9 +204,7 @@ pub corrected-taken : (al : ℕ) (zs : List ℤ) (bits : List Bool) (ws : List �
     → IsCut (IsCorrected al zs ws) bits t
 unfolding corrected
 corrected-taken al [] bits ws t held e =
-    let q = ok-parts [] ws (alone bits) t e in
-    cut-none (IsCorrected al [] ws) bits t q.1
-    (subst (λ (l : List ℤ). IsCorrected al [] l []) q.0 (nil-corrected al))
+    gives-taken (IsCorrected al []) [] ws bits t (nil-corrected al) e
 corrected-taken al (z ∷ zs) bits ws t held e =
     let one : Reads ℤ = elim (is_zero z) as (λ _. Reads ℤ) [
       | true ↦ gives z
@@ -334,15 +295,9 @@ ends-old z zs (u ∷ us) r h more small (an_old k o, b) =
 
 ends-step : (z : ℤ) (zs us : List ℤ) (r : ℕ) (b : Bool) → is_zero z ≡ b → Ends zs → r < count_zeros (z ∷ zs)
     → Alike us (take (through_zero r (z ∷ zs)) (z ∷ zs)) → EndsWithZero r us
-ends-step z zs us zero true h more small a =
-    zero-front us (of-one us z h
-    (subst (λ (n : ℕ). Alike us (take n (z ∷ zs))) (through-here z zs (zero-is z h)) a))
-ends-step z zs us (suc r) true h more small a =
-    ends-zeros z zs us r h more small
-    (subst (λ (n : ℕ). Alike us (take n (z ∷ zs))) (through-zero r z zs (zero-is z h)) a)
-ends-step z zs us r false h more small a =
-    ends-old z zs us r h more small
-    (subst (λ (n : ℕ). Alike us (take n (z ∷ zs))) (through-other r z zs h) a)
+ends-step z zs us zero true h more small a = grind (arith, zero-front, of-one, through-here, zero-is)
+ends-step z zs us (suc r) true h more small a = grind (arith, ends-zeros, through-zero, zero-is)
+ends-step z zs us r false h more small a = grind (arith, ends-old, through-other)
 
 ends-zero : (zs : List ℤ) → Ends zs
 ends-zero [] r us h a = absurd (no-zeros r h)
@@ -373,19 +328,7 @@ front-bits front us own e f = sym (corrections-end front) ∙ ap corrections (sy
 
 front-long : (n : ℕ) (zs front us more : List ℤ) (u : ℤ) → us ≡ front ++ pos 0 ∷ [] → Alike us (take n zs)
     → length more ≡ length (drop n zs) → length (front ++ u ∷ more) ≡ length zs
-front-long n zs front us more u e a h =
-    let one : length us ≡ length (take n zs) = alike-long us (take n zs) a in
-    let two : length us ≡ length (front ++ pos 0 ∷ []) = ap (λ (l : List ℤ). length l) e in
-    omega (
-      arith,
-      one,
-      two,
-      h,
-      length-append front (pos 0 ∷ []),
-      length-append front (u ∷ more),
-      length-take n zs,
-      length-drop n zs,
-    )
+front-long n zs front us more u e a h = grind (arith, alike-long, length-append, length-take, length-drop)
 
 found-both : (table : Table) (al r sign : ℕ) (zs ws : List ℤ) (x : Band) (own : List Bool) → HasBytes table
     → r < count_zeros zs
@@ -400,22 +343,14 @@ found-both table al r sign zs ws x own bytes small b =
     let u = n.0 in
     let held = front-are al z.front c.us ws z.parts c.are in
     let last_new : with_last (new_number al sign) ws ≡ map (scaled al) z.front ++ scaled al u ∷ []
-    = ap (with_last (new_number al sign)) (sym held)
-    ∙ with_last-end (new_number al sign) (scaled al (pos 0)) (map (scaled al) z.front)
-    ∙ ap (λ (v : ℤ). map (scaled al) z.front ++ v ∷ []) n.3 in
+    = grind (arith, with_last-end) in
     let sign_is : bit (sign_bit u) ∷ [] ≡ b.second.front
     = ap (λ (v : ℕ). bit v ∷ []) n.1 ∙ one-bit sign b.second.front b.second.first in
     let whole : b.front ++ (bit (sign_bit u) ∷ (corrections z.front ++ b.second.second.back)) ≡ own
-    = ap₂ (λ (p q : List Bool). b.front ++ (p ++ (q ++ b.second.second.back))) sign_is
-    (front-bits z.front c.us b.second.second.front z.parts c.bits)
-    ∙ ap (λ (l : List Bool). b.front ++ (b.second.front ++ l)) b.second.second.whole
-    ∙ ap (λ (l : List Bool). b.front ++ l) b.second.whole ∙ b.whole in
+    = grind (arith, front-bits) in
     record {
       numbers = z.front ++ u ∷ m.numbers;
-      are = map-scaled al z.front (u ∷ m.numbers)
-          ∙ ap (λ (l : List ℤ). map (scaled al) z.front ++ scaled al u ∷ l) m.are
-          ∙ sym (append_assoc (map (scaled al) z.front) (scaled al u ∷ []) x.0)
-          ∙ ap (λ (l : List ℤ). l ++ x.0) (sym last_new);
+      are = grind (arith, map-scaled, append_assoc);
       long = front-long (through_zero r zs) zs z.front c.us m.numbers u z.parts c.alike m.long;
       written = subst (λ (l : List Bool). WritesRefinement table (z.front ++ u ∷ m.numbers) l x.1) whole
           (found r z.front u b.front m.numbers b.second.second.back x.1
@@ -436,10 +371,7 @@ passed-both table al zs ws x own small b =
     ∙ ap (λ (l : List Bool). b.front ++ l) b.second.whole ∙ b.whole in
     record {
       numbers = z.front ++ pos 0 ∷ m.numbers;
-      are = map-scaled al z.front (pos 0 ∷ m.numbers)
-          ∙ ap (λ (l : List ℤ). map (scaled al) z.front ++ scaled al (pos 0) ∷ l) m.are
-          ∙ sym (append_assoc (map (scaled al) z.front) (scaled al (pos 0) ∷ []) x.0)
-          ∙ ap (λ (l : List ℤ). l ++ x.0) held;
+      are = grind (arith, map-scaled, append_assoc);
       long = front-long (through_zero 15 zs) zs z.front c.us m.numbers (pos 0) z.parts c.alike m.long;
       written = subst (λ (l : List Bool). WritesRefinement table (z.front ++ pos 0 ∷ m.numbers) l x.1) whole
           (passed z.front b.front m.numbers b.second.back x.1 z.none z.count b.first m.written);
@@ -454,22 +386,7 @@ rest-refined table r e (u ∷ us) code some h f none coded = none_left r e u us 
 last-both : (table : Table) (al r e : ℕ) (zs ws : List ℤ) (own : List Bool) → HasBytes table → r ≢ 15
     → 0 < length zs → Both (IsCoded table (16 * r + 0)) (Both (IsNumber r e) (IsCorrected al zs ws)) own
     → IsRefined table al zs (ws, 2 ^ r - 1 + e) own
-last-both table al r e zs ws own bytes ne some b =
-    let c = b.second.second in
-    let size = alike-long c.us zs c.alike in
-    let top = run-small table r 0 b.front bytes b.first in
-    let low : r ≤ 14 = omega (arith, top, ne) in
-    let whole : b.front ++ (low_bits r e ++ corrections c.us) ≡ own
-    = ap₂ (λ (p q : List Bool). b.front ++ (p ++ q)) b.second.first.are c.bits
-    ∙ ap (λ (l : List Bool). b.front ++ l) b.second.whole ∙ b.whole in
-    record {
-      numbers = c.us;
-      are = c.are;
-      long = size;
-      written = subst (λ (l : List Bool). WritesRefinement table c.us l (2 ^ r - 1 + e)) whole
-          (rest-refined table r e c.us b.front (omega (arith, size, some)) low b.second.first.below
-          (alike-none c.us zs c.alike) b.first);
-    }
+last-both table al r e zs ws own bytes ne some b = grind (arith, alike-long, run-small, rest-refined, alike-none)
 
 -- the piece that ends a band
 last-taken : (al r : ℕ) (others : List ℤ → Reads Band) (zs : List ℤ) (bits : List Bool) (y : Band) (t : Text) → r ≢ 15
@@ -491,16 +408,7 @@ last-taken al r others zs bits y t ne held e = go (eqb r 15) refl e
         let f : ℕ → Reads Band = λ e. corrected al zs >>= (λ all. gives (all, 2 ^ r - 1 + e)) in
         let p = bind-parts (bits_from r) f (alone bits) t y k in
         let c = number-taken r bits p.0 p.1 p.2 in
-        let more = p.1.bits in
-        let m = map-parts (corrected al zs) (λ (all : List ℤ). (all, 2 ^ r - 1 + p.0)) (alone more) t y
-        (ap (f p.0) (sym c.rest) ∙ p.3) in (
-          p.0,
-          m.0,
-          m.2,
-          cut-both (IsNumber r p.0) (IsCorrected al zs m.0) bits more t
-              (subst (λ (u : Text). IsCut (IsNumber r p.0) bits u) c.rest c)
-              (corrected-taken al zs more m.0 t held m.1),
-        )
+        grind (arith, map-parts, cut-both, corrected-taken)
 
 -- what follows a symbol that was read
 after-symbol : (table : Table) (al n r s : ℕ) (z : ℤ) (zs : List ℤ) (bits one : List Bool) (y : Band) (t : Text) → s ≤ 15
@@ -508,49 +416,15 @@ after-symbol : (table : Table) (al n r s : ℕ) (z : ℤ) (zs : List ℤ) (bits 
     → refined_ac table al (suc n) (z ∷ zs) (alone bits) ≡ Ok (y, t)
     → refined_piece al (refined_ac table al n) (z ∷ zs) r s (alone one) ≡ Ok (y, t)
 unfolding refined_ac
-after-symbol table al n r s z zs bits one y t small h e =
-    let f : ℕ → Reads Band = λ c. refined_piece al (refined_ac table al n) (z ∷ zs) (c / 16) (c % 16) in
-    let k = bind-parts (symbol_from table) f (alone bits) t y e in
-    let q = ok-parts (16 * r + s) k.0 (alone one) k.1 (sym h ∙ k.2) in
-    let high : (16 * r + s) / 16 ≡ r = omega arith in
-    let low : (16 * r + s) % 16 ≡ s = omega arith in
-    ap₂ (λ (a b : ℕ). refined_piece al (refined_ac table al n) (z ∷ zs) a b (alone one)) (sym high) (sym low)
-    ∙ ap (λ (c : ℕ). f c (alone one)) q.0 ∙ ap (f k.0) q.1 ∙ k.3
-
--- what follows corrections that were read
-after-front : (al : ℕ) (f : List ℤ → Reads Band) (zs front : List ℤ) (bits more : List Bool) (y : Band) (t : Text)
-    → corrected al zs (alone bits) ≡ Ok (front, alone more)
-    → (corrected al zs >>= f) (alone bits) ≡ Ok (y, t) → f front (alone more) ≡ Ok (y, t)
-after-front al f zs front bits more y t h e =
-    let k = bind-parts (corrected al zs) f (alone bits) t y e in
-    let q = ok-parts front k.0 (alone more) k.1 (sym h ∙ k.2) in
-    ap (λ (l : List ℤ). f l (alone more)) q.0 ∙ ap (f k.0) q.1 ∙ k.3
-
-after-sign : (al sign : ℕ) (f : ℕ → Reads Band) (bits more : List Bool) (y : Band) (t : Text)
-    → bits_from 1 (alone bits) ≡ Ok (sign, alone more)
-    → (bits_from 1 >>= f) (alone bits) ≡ Ok (y, t) → f sign (alone more) ≡ Ok (y, t)
-after-sign al sign f bits more y t h e =
-    let k = bind-parts (bits_from 1) f (alone bits) t y e in
-    let q = ok-parts sign k.0 (alone more) k.1 (sym h ∙ k.2) in
-    ap (λ (l : ℕ). f l (alone more)) q.0 ∙ ap (f k.0) q.1 ∙ k.3
+after-symbol table al n r s z zs bits one y t small h e = grind (arith, after-read)
 
 through-some : (r : ℕ) (z : ℤ) (zs : List ℤ) → 0 < through_zero r (z ∷ zs)
-through-some zero z zs = go (is_zero z) refl
-  where
-    go : (b : Bool) → is_zero z ≡ b → 0 < through_zero 0 (z ∷ zs)
-    go true h = let e = through-here z zs (zero-is z h) in omega (arith, e)
-    go false h = let e = through-other 0 z zs h in omega (arith, e)
-through-some (suc r) z zs = go (is_zero z) refl
-  where
-    go : (b : Bool) → is_zero z ≡ b → 0 < through_zero (suc r) (z ∷ zs)
-    go true h = let e = through-zero r z zs (zero-is z h) in omega (arith, e)
-    go false h = let e = through-other (suc r) z zs h in omega (arith, e)
+through-some zero z zs = grind (arith, through-here, zero-is, through-other)
+through-some (suc r) z zs = grind (arith, through-zero, zero-is, through-other)
 
 drop-small : (n r : ℕ) (z : ℤ) (zs : List ℤ) → length (z ∷ zs) ≤ suc n
     → length (drop (through_zero r (z ∷ zs)) (z ∷ zs)) ≤ n
-drop-small n r z zs h =
-    let some = through-some r z zs in
-    omega (arith, some, h, length-drop (through_zero r (z ∷ zs)) (z ∷ zs))
+drop-small n r z zs h = grind (arith, through-some, length-drop)
 
 -- The bits that were taken of a band in a refinement are written for it.
 pub refined-taken : (table : Table) (al n : ℕ) (zs : List ℤ) (bits : List Bool) (y : Band) (t : Text) → IsTable table
@@ -558,19 +432,18 @@ pub refined-taken : (table : Table) (al n : ℕ) (zs : List ℤ) (bits : List Bo
     → refined_ac table al n zs (alone bits) ≡ Ok (y, t) → IsCut (IsRefined table al zs y) bits t
 unfolding refined_ac refined_piece
 refined-taken table al n zs bits y t is bytes held (covered bits') le e =
-    let q = ok-parts ([], 0) y (alone bits) t e in
-    cut-none (IsRefined table al [] y) bits t q.1 (subst (λ (v : Band). IsRefined table al [] v []) q.0
-    (record { numbers = []; are = refl; long = refl; written = refined }))
+    gives-taken (IsRefined table al []) ([], 0) y bits t
+    (record { numbers = []; are = refl; long = refl; written = refined }) e
 refined-taken table al zero zs bits y t is bytes held (new r sign z rest front bits' one two more h small h1 h2 w) le e =
     absurd (omega arith)
 refined-taken table al (suc n) zs bits y t is bytes held (new r sign z rest front bits' one two more h small h1 h2 w) le e =
     let k = through_zero r (z ∷ rest) in
     let others = refined_ac table al n (drop k (z ∷ rest)) in
     let last_is : List ℤ → Reads Band = λ f. others >>= (λ m. gives (before_more (with_last (new_number al sign) f) m)) in
-    let a = after-sign al sign
+    let a = after-read (bits_from 1)
     (λ (s : ℕ). corrected al (take k (z ∷ rest)) >>= (λ f. others >>= (λ m. gives (before_more (with_last (new_number al s) f) m))))
-    one two y t h1 (after-symbol table al n r 1 z rest bits one y t (omega arith) h e) in
-    let b = after-front al last_is (take k (z ∷ rest)) front two more y t h2 a in
+    sign (alone one) (alone two) t y h1 (after-symbol table al n r 1 z rest bits one y t (omega arith) h e) in
+    let b = after-read (corrected al (take k (z ∷ rest))) last_is front (alone two) (alone more) t y h2 a in
     let m = map-parts others (λ (m : Band). before_more (with_last (new_number al sign) front) m) (alone more) t y b in
     let A = IsCoded table (16 * r + 1) in
     let B = IsNumber 1 sign in
@@ -591,7 +464,7 @@ refined-taken table al (suc n) zs bits y t is bytes held (zeros z rest front bit
     let k = through_zero 15 (z ∷ rest) in
     let others = refined_ac table al n (drop k (z ∷ rest)) in
     let last_is : List ℤ → Reads Band = λ f. others >>= (λ m. gives (before_more f m)) in
-    let b = after-front al last_is (take k (z ∷ rest)) front one more y t h2
+    let b = after-read (corrected al (take k (z ∷ rest))) last_is front (alone one) (alone more) t y h2
     (after-symbol table al n 15 0 z rest bits one y t (omega arith) h e) in
     let m = map-parts others (λ (m : Band). before_more front m) (alone more) t y b in
     let A = IsCoded table (16 * 15 + 0) in

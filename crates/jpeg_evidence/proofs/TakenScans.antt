@@ -16,14 +16,7 @@ rst-code n k e = grind (arith, nat_tests)
 
 pub last-interval : (p : Pass) (k : ℕ) (turns : List (Via × Block)) (bytes rest : List ℕ) (m : Marker)
     → IsInterval p turns bytes m rest → IsIntervals p k turns [] bytes m rest
-last-interval p k turns bytes rest m w = record {
-  front = w.front;
-  fill = w.fill;
-  code = w.code;
-  parts = w.parts;
-  names = w.names;
-  written = last k turns w.front w.written;
-}
+last-interval p k turns bytes rest m w = grind (arith, last)
 
 after-marker : (fill code : ℕ) (front more : List ℕ) → marker fill code (front ++ more) ≡ marker fill code front ++ more
 after-marker fill code front more =
@@ -38,11 +31,7 @@ another-interval p k turns next more bytes others rest m w o =
       front = w.front ++ marker w.fill (0xD0 + k % 8) o.front;
       fill = o.fill;
       code = o.code;
-      parts = w.parts
-          ∙ ap (λ (l : List ℕ). w.front ++ marker w.fill w.code l) o.parts
-          ∙ ap (λ (c : ℕ). w.front ++ marker w.fill c (o.front ++ marker o.fill o.code rest)) code
-          ∙ ap (λ (l : List ℕ). w.front ++ l) (after-marker w.fill (0xD0 + k % 8) o.front (marker o.fill o.code rest))
-          ∙ sym (append_assoc w.front (marker w.fill (0xD0 + k % 8) o.front) (marker o.fill o.code rest));
+      parts = grind (arith, after-marker, append_assoc);
       names = o.names;
       written = another k w.fill turns next more w.front o.front w.written o.written;
     }

@@ -11,8 +11,7 @@ use Rattle.jpeg_bits.specs.declared.tokens.Token.{Token}
 use Rattle.jpeg_bits.specs.declared.tokens.Token.TheVariants.{Value, Sixteen, Rest, Overlong}
 use Rattle.jpeg_evidence.specs.Strict.{alone, IsCut, IsNumber, IsValue, Follows, IsToken}
 use Rattle.jpeg_evidence.specs.Strict.Follows.{value, sixteen, ended, overlong}
-use Rattle.jpeg_evidence.proofs.TakenBits.{number-taken, code-taken, map-parts, cut-map, cut-none}
-use Rattle.jpeg_streams.proofs.TakenTexts.{ok-parts}
+use Rattle.jpeg_evidence.proofs.TakenBits.{number-taken, code-taken, cut-map, gives-taken, map-taken}
 use Rattle.jpeg_evidence.proofs.TakenBits.{bind-cut, Both}
 use Rattle.jpeg_evidence.proofs.TakenValues.{value-taken}
 
@@ -27,15 +26,10 @@ plain-taken room size r bits x t e = go (eqb r 15) refl e
           | true ↦ gives Sixteen
           | false ↦ bits_from r >>= (λ e. gives (Rest (2 ^ r - 1 + e)))
         ]) (alone bits) ≡ Ok (x, t) → IsCut (Follows r 0 x) bits t
-    go true h k =
-        let q = ok-parts Sixteen x (alone bits) t k in
-        cut-none (Follows r 0 x) bits t q.1 (subst (λ (y : Token). Follows r 0 y []) q.0
-        (sixteen r (eqb-true r 15 h)))
+    go true h k = gives-taken (Follows r 0) Sixteen x bits t (sixteen r (eqb-true r 15 h)) k
     go false h k =
-        let q = map-parts (bits_from r) (λ (n : ℕ). Rest (2 ^ r - 1 + n)) (alone bits) t x k in
-        cut-map (IsNumber r q.0) (Follows r 0 x) bits t
-        (λ own is. subst (λ (y : Token). Follows r 0 y own) q.2 (ended r q.0 own (eqb-false r 15 h) is))
-        (number-taken r bits q.0 t q.1)
+        map-taken (bits_from r) (λ (n : ℕ). Rest (2 ^ r - 1 + n)) (IsNumber r) (Follows r 0) bits t x
+        (λ n. number-taken r bits n t) (λ n own is. ended r n own (eqb-false r 15 h) is) k
 
 -- a token with a value
 valued-taken : (room size r s : ℕ) (bits : List Bool) (x : Token) (t : Text) → token_at room size r (suc s) (alone bits)
@@ -58,19 +52,12 @@ valued-taken room size r s bits x t e = go (ltb 0 (suc s)) refl (ltb r room) (le
           ]
         ]) (alone bits) ≡ Ok (x, t) → IsCut (Follows r (suc s) x) bits t
     go true h true c k =
-        let q = map-parts (signed_from (suc s)) (λ (v : ℤ). Value r v) (alone bits) t x k in
-        cut-map (IsValue (suc s) q.0) (Follows r (suc s) x) bits t
-        (λ own is. subst (λ (y : Token). Follows r (suc s) y own) q.2 (value r s q.0 own is))
-        (value-taken s bits q.0 t q.1)
+        map-taken (signed_from (suc s)) (λ (v : ℤ). Value r v) (IsValue (suc s)) (Follows r (suc s)) bits t x
+        (λ v. value-taken s bits v t) (λ v own is. value r s v own is) k
     go true h false true k =
-        let q = map-parts (signed_from (suc s)) (λ (v : ℤ). Overlong) (alone bits) t x k in
-        cut-map (IsValue (suc s) q.0) (Follows r (suc s) x) bits t
-        (λ own is. subst (λ (y : Token). Follows r (suc s) y own) q.2 (overlong r s own))
-        (value-taken s bits q.0 t q.1)
-    go true h false false k =
-        let q = ok-parts Overlong x (alone bits) t k in
-        cut-none (Follows r (suc s) x) bits t q.1
-        (subst (λ (y : Token). Follows r (suc s) y []) q.0 (overlong r s []))
+        map-taken (signed_from (suc s)) (λ (v : ℤ). Overlong) (IsValue (suc s)) (Follows r (suc s)) bits t x
+        (λ v. value-taken s bits v t) (λ v own is. overlong r s own) k
+    go true h false false k = gives-taken (Follows r (suc s)) Overlong x bits t (overlong r s []) k
     go false h b c k = let z = ltb-false 0 (suc s) h in absurd (omega (arith, z))
 
 pub piece-taken : (room size r s : ℕ) (bits : List Bool) (x : Token) (t : Text) → token_at room size r s (alone bits)
@@ -88,16 +75,4 @@ token-taken table room bits x t is e =
     (λ (c : ℕ × ℕ). Follows (c.1 / 16) (c.1 % 16) x) e
     (λ c left k. code-taken table bits c left is k)
     (λ c more h k. piece-taken room c.0 (c.1 / 16) (c.1 % 16) more x t k) in
-    let symbol = (r.0).1 in
-    let parts : symbol ≡ 16 * (symbol / 16) + symbol % 16 = omega arith in
-    cut-map (Both (IsCoded table symbol) (Follows (symbol / 16) (symbol % 16) x)) (IsToken table x) bits t
-    (λ own w. record {
-      r = symbol / 16;
-      s = symbol % 16;
-      code = w.front;
-      after = w.back;
-      coded = subst (λ (n : ℕ). IsCoded table n w.front) parts w.first;
-      follows = w.second;
-      whole = w.whole;
-    })
-    r.1
+    grind (arith, cut-map)

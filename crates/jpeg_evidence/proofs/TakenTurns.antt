@@ -9,8 +9,7 @@ use Rattle.jpeg_streams.specs.WrittenData.{WritesBlocks}
 use Rattle.jpeg_streams.specs.WrittenData.WritesBlocks.{done, block}
 use Rattle.jpeg_evidence.specs.Strict.{alone, IsCut, IsBlock, BlocksFit, numbers_read}
 use Rattle.jpeg_evidence.specs.Strict.BlocksFit.{finished, next}
-use Rattle.jpeg_evidence.proofs.TakenBits.{map-parts, cut-map, cut-none, cut-both, Both}
-use Rattle.jpeg_streams.proofs.TakenTexts.{bind-parts, ok-parts}
+use Rattle.jpeg_evidence.proofs.TakenBits.{after-read, map-parts, gives-taken, cut-map, cut-both, Both}
 use Rattle.jpeg_evidence.proofs.TakenBlocks.{block-taken}
 
 -- a block and those after it
@@ -53,17 +52,13 @@ pub blocks-taken : (p : Pass) (predictors : List ℤ) (run : ℕ) (turns : List 
     → IsCut (WritesBlocks p predictors run (numbers_read p turns blocks)) bits t
 unfolding blocks_of
 blocks-taken p predictors run turns bits blocks left (finished predictors' bits') e =
-    let q = ok-parts [] blocks (alone bits) left e in
-    cut-none (WritesBlocks p predictors 0 (numbers_read p [] blocks)) bits left q.1
-    (subst (λ (l : List Block). WritesBlocks p predictors 0 (numbers_read p [] l) []) q.0 (none-written p predictors))
+    gives-taken (λ (l : List Block). WritesBlocks p predictors 0 (numbers_read p [] l)) [] blocks bits left
+    (none-written p predictors) e
 blocks-taken p predictors run turns bits blocks left (next predictors' run' t turns' bits' more r h tables fits w) e =
     let before = get_or predictors t.0.component (pos 0) in
     let after : Block × ℤ × ℕ → Reads (List Block) = λ r.
     blocks_of p (set predictors t.0.component r.1) r.2 turns' >>= (λ l. gives (r.0 ∷ l)) in
-    let k = bind-parts (block_from p t.0.dc t.0.ac before run t.1) after (alone bits) left blocks e in
-    let q = ok-parts r k.0 (alone more) k.1 (sym h ∙ k.2) in
-    let rest : after r (alone more) ≡ Ok (blocks, left)
-    = ap (λ (x : Block × ℤ × ℕ). after x (alone more)) q.0 ∙ ap (after k.0) q.1 ∙ k.3 in
+    let rest = after-read (block_from p t.0.dc t.0.ac before run t.1) after r (alone bits) (alone more) left blocks h e in
     let m = map-parts (blocks_of p (set predictors t.0.component r.1) r.2 turns') (λ (l : List Block). r.0 ∷ l)
     (alone more) left blocks rest in
     step p predictors run t turns' r m.0 blocks bits more left m.2

@@ -13,38 +13,22 @@ use Rattle.jpeg_bits.specs.Bands.{difference, category_number}
 use Rattle.jpeg_bits.specs.Written.{low_bits, IsCoded, IsCategory, number_for}
 use Rattle.jpeg_streams.specs.WrittenData.{WritesDifference}
 use Rattle.jpeg_evidence.specs.Strict.{alone, IsCut, IsNumber, IsValue}
-use Rattle.jpeg_evidence.proofs.TakenBits.{number-taken, symbol-taken, map-parts, cut-map}
-use Rattle.jpeg_streams.proofs.TakenTexts.{ok-parts, no-error}
-use Rattle.jpeg_evidence.proofs.TakenBits.{cut-none, bind-cut, Both}
+use Rattle.jpeg_evidence.proofs.TakenBits.{number-taken, symbol-taken, cut-map, gives-taken, map-taken}
+use Rattle.jpeg_streams.proofs.TakenTexts.{no-error}
+use Rattle.jpeg_evidence.proofs.TakenBits.{bind-cut, Both}
 
 -- ---- signed numbers
 
 -- a number in s bits, the highest of which says that it is positive, has the category s
 high-number : (v s : ℕ) → 2 ^ s ≤ v → v < 2 ^ suc s → IsCategory (pos v) (suc s)
-high-number v s low top = record {
-  holds = top;
-  is_least = λ t h. elim (cases_lt s t) [
-    | inl a ↦ omega arith
-    | inr b ↦ let p : 2 ^ t ≤ 2 ^ s = pow_mono {i = t} {j = s} b in absurd (omega (arith, p, h, low))
-  ];
-}
+high-number v s low top = grind (arith, cases_lt, pow_mono)
 
 number-high : (v s : ℕ) → 0 < v → number_for (pos v) s ≡ v
 unfolding number_for
-number-high zero s h = absurd (omega arith)
-number-high (suc v) s h = refl
+number-high x s h = grind arith
 
 low-number : (n s : ℕ) → 2 ^ s ≤ suc n → suc n < 2 ^ suc s → IsCategory (negsuc n) (suc s)
-low-number n s low top = record {
-  holds = top;
-  is_least = λ t h. elim (cases_lt s t) [
-    | inl a ↦ omega arith
-    | inr b ↦
-        let p : 2 ^ t ≤ 2 ^ s = pow_mono {i = t} {j = s} b in
-        let g : suc n < 2 ^ t = h in
-        absurd (omega (arith, p, g, low))
-  ];
-}
+low-number n s low top = grind (arith, cases_lt, pow_mono)
 
 low-extended : (v s : ℕ) → v < 2 ^ s → pos v -ℤ pos (2 ^ suc s - 1) ≡ negsuc (2 ^ suc s - 2 - v)
 low-extended v s h = let p = pow-suc 2 s in omega (arith, ints, p, h)
@@ -54,35 +38,19 @@ IsBack u s v = IsCategory u s × (number_for u s ≡ v)
 
 extended-back : (v s : ℕ) → v < 2 ^ suc s → IsBack (extended v (suc s)) (suc s) v
 unfolding extended number_for
-extended-back v s top = go (ltb v (2 ^ (suc s - 1))) refl
-  where
-    go : (b : Bool) → ltb v (2 ^ (suc s - 1)) ≡ b
-        → IsBack (cond b (pos v -ℤ pos (2 ^ suc s - 1)) (pos v)) (suc s) v
-    go true h =
-        let one : suc s - 1 ≡ s = omega arith in
-        let small : v < 2 ^ s = subst (λ (k : ℕ). v < 2 ^ k) one (ltb-true v (2 ^ (suc s - 1)) h) in
-        let p = pow-suc 2 s in
-        let n = 2 ^ suc s - 2 - v in
-        subst (λ (u : ℤ). IsBack u (suc s) v) (sym (low-extended v s small))
-        (low-number n s (omega (arith, p, small)) (omega (arith, p, small)), omega (arith, p, small))
-    go false h =
-        let one : suc s - 1 ≡ s = omega arith in
-        let large : 2 ^ s ≤ v = subst (λ (k : ℕ). 2 ^ k ≤ v) one (ltb-false v (2 ^ (suc s - 1)) h) in
-        let some = pow_pos s in
-        (high-number v s large top, number-high v (suc s) (omega (arith, some, large)))
+extended-back v s top =
+    grind (arith, ltb-true, pow-suc, low-extended, low-number, ltb-false, pow_pos, high-number, number-high)
 
 -- The bits that were taken of a value are its bits, and their number is its category.
 pub value-taken : (s : ℕ) (bits : List Bool) (u : ℤ) (t : Text) → signed_from (suc s) (alone bits) ≡ Ok (u, t)
     → IsCut (IsValue (suc s) u) bits t
 unfolding signed_from
 value-taken s bits u t e =
-    let r = map-parts (bits_from (suc s)) (λ (v : ℕ). extended v (suc s)) (alone bits) t u e in
-    cut-map (IsNumber (suc s) r.0) (IsValue (suc s) u) bits t
-    (λ own is.
-    let back = extended-back r.0 s is.below in
-    let same = subst (λ (x : ℤ). IsBack x (suc s) r.0) r.2 back in
-    record { category = same.0; are = ap (low_bits (suc s)) same.1 ∙ is.are })
-    (number-taken (suc s) bits r.0 t r.1)
+    map-taken (bits_from (suc s)) (λ (v : ℕ). extended v (suc s)) (IsNumber (suc s)) (IsValue (suc s)) bits t u
+    (λ v. number-taken (suc s) bits v t)
+    (λ v own is.
+    let back = extended-back v s is.below in
+    record { category = back.0; are = ap (low_bits (suc s)) back.1 ∙ is.are }) e
 
 -- ---- differences
 
@@ -92,9 +60,7 @@ none-of-zero = record { category = record { holds = omega arith; is_least = λ t
 
 category-taken : (s : ℕ) (bits : List Bool) (u : ℤ) (t : Text) → category_number s (alone bits) ≡ Ok (u, t)
     → IsCut (IsValue s u) bits t
-category-taken zero bits u t e =
-    let q = ok-parts (pos 0) u (alone bits) t e in
-    cut-none (IsValue 0 u) bits t q.1 (subst (λ (x : ℤ). IsValue 0 x []) q.0 none-of-zero)
+category-taken zero bits u t e = gives-taken (IsValue 0) (pos 0) u bits t none-of-zero e
 category-taken (suc s) bits u t e = go (eqb (suc s) 0) refl e
   where
     go : (b : Bool) → eqb (suc s) 0 ≡ b
@@ -122,12 +88,4 @@ difference-taken table bits u t is e =
     let r = bind-cut (symbol_from table) f bits t u (IsCoded table) (λ s. IsValue s u) e
     (λ s left k. symbol-taken table bits s left is k)
     (λ s more h k. listed-taken s more u t k) in
-    cut-map (Both (IsCoded table r.0) (IsValue r.0 u)) (WritesDifference table u) bits t
-    (λ own w. record {
-      s = r.0;
-      code = w.front;
-      category = w.second.category;
-      coded = w.first;
-      has_bits = ap (λ (l : List Bool). w.front ++ l) w.second.are ∙ w.whole;
-    })
-    r.1
+    grind (arith, cut-map)

@@ -89,14 +89,6 @@ green-of row a = let inside : 1 < 3 = omega arith in sample-of row 3 a 1 inside
 pub blue-of : (row : List ℕ) (a : ℕ) → slice_index row (a + 2) ≡ slice_index (take 3 (drop a row)) 2
 blue-of row a = let inside : 2 < 3 = omega arith in sample-of row 3 a 2 inside
 
--- all pixels of a line
-pub pixels-all : (pixel : List ℕ → List ℕ) (stored bytes width x : ℕ) (row old now : List ℕ) → x ≡ width
-    → length old ≡ width * bytes → now ≡ pixels_of pixel stored x row ++ drop (x * bytes) old
-    → now ≡ pixels_of pixel stored width row
-pixels-all pixel stored bytes width x row old now e room is =
-    let all : length old ≤ x * bytes = omega (arith, e, room, ap (λ n. n * bytes) e) in
-    is ∙ (λ i. pixels_of pixel stored (e i) row ++ drop_of_length-le old all i) ∙ append-nil (pixels_of pixel stored width row)
-
 -- ---- lines
 
 -- bytes of a stride and after it

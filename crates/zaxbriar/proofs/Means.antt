@@ -1,4 +1,5 @@
 -- A header that was read, and then the rest of its stream, are what the stream means by some options.
+use Rattle.std.proofs.Common.{arith}
 use Rattle.std.proofs.Common.{◌≡◌, ℕ, List, Ok}
 use Rattle.jpeg_streams.specs.DecodedImages.{Size, FullSize, AtLeast, at_size, HasLeft}
 use Rattle.jpeg_streams.specs.Found.{Found}
@@ -17,5 +18,4 @@ joined o bytes rest left header told pixels h r = then-ok (header_at bytes) _ (h
 
 pub has-left : (size : Size) (bytes left : List ℕ) (found header : Found)
     → header_at bytes ≡ Ok (header, left) → found ≡ at_size size header → HasLeft size bytes HeaderRead found left
-has-left FullSize bytes left found header h s = (header, h, s)
-has-left (AtLeast width height) bytes left found header h s = (header, h, s)
+has-left x bytes left found header h s = grind arith

@@ -1,3 +1,4 @@
+use Rattle.std.proofs.Common.{arith}
 use Rattle.std.proofs.Common.{◌≡◌, ℕ, w16, ap, ◌∙◌, sym}
 use Rattle.std.proofs.lemmas.Int.{to_z-of_z}
 use Rattle.std.specs.Int.{cast_signed, cast_unsigned}
@@ -16,7 +17,5 @@ returns-clause-place g c =
     Takes-given (place_from c.args.al value) (bits_from 1) c.args.held.now c.take_number.new.self
     c.args.source.now c.take_number.new.source c.in-Some.bit (moved_within c.distance.result value)
     c.move_away.result c.move_away.new.refusal
-    (λ t u e. place-moved c.args.al value c.in-Some.bit t u
-    (not_zero value (λ h. c.if-value-eq0.false (ap (cast_unsigned w16) h))) c.ranges.value c.in-Some.ensures.small e
-    ∙ ap (λ (n : ℕ). given u (moved_within n value)) (sym by))
+    (grind (arith, place-moved, not_zero, w16, given))
     c.in-Some.ensures.bits (rw same at c.move_away.ensures.moved)

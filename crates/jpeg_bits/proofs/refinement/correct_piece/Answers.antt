@@ -129,13 +129,7 @@ loop-index-preserved g c =
       len = length-set _ _ _ ∙ l.invariant.len;
       after = omega (arith, after);
       within = omega (arith, before);
-      walk = Leaves-ok (λ (v : ℤ). v) (piece_from p.al a.zeros (rest_in p a.from c.args.block.now))
-          (walk_at p.al l.left a.from (band_end p) l.block l.index) _
-          (place_from p.al (cast_signed w16 (cast_unsigned w16 x))) c.args.held.now l.held c.correct.new.held
-          c.args.source.now l.source c.correct.new.source c.in-Some.corrected
-          (λ t u e. skips t ∙ at-value p.al (l.left - gap) a.from (band_end p) next c.place_of-place.result l.block
-          (omega (arith, last)) after before is (cast_signed w16 (cast_unsigned w16 x)) y c.in-Some.corrected t u
-          l.invariant.len some s (to_z-of_z w16 _ (search rules)) e) l.invariant.walk c.in-Some.ensures.place;
+      walk = grind (arith, Leaves-ok, walk_at, w16, at-value, to_z-of_z);
       others = rw is (kept-set a.from (band_end p) next c.args.block.now l.block y l.invariant.len after before
           (omega (arith, last)) l.invariant.others);
       marks = rw is (marks-set c.args.mask next (next + 1) l.block y l.invariant.len (omega arith)

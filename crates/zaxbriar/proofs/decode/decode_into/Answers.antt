@@ -1,3 +1,4 @@
+use Rattle.std.proofs.Common.{arith}
 use Rattle.std.proofs.Common.{◌∙◌, ◌++◌, ap}
 use Rattle.std.specs.Prelude.{option_map}
 use Rattle.std.proofs.lemmas.Result.{err_from_is_err_and}
@@ -65,17 +66,8 @@ returns-in_err-header-clause-named g c bytes tells =
     rw (p.1, p.2) (header-fails c.args.options.now bytes _ (rw same at named))
 
 pub returns-in_err-lines-clause-named : goal.returns-in_err-lines-clause-named
-returns-in_err-lines-clause-named g c bytes tells =
-    let p = err_from_is_err_and c.from_residual-in_err-lines.result c.from_residual-in_err-lines.ensures.1 in
-    rw (p.1, p.2) (argument-fails (meaning_by c.args.options.now bytes) _ c.in_err-lines.ensures.named)
+returns-in_err-lines-clause-named g c bytes tells = grind (arith, err_from_is_err_and, argument-fails)
 
 pub returns-in_err-decode_lines-clause-named : goal.returns-in_err-decode_lines-clause-named
 returns-in_err-decode_lines-clause-named g c bytes tells =
-    let p = err_from_is_err_and c.from_residual-in_err-decode_lines.result c.from_residual-in_err-decode_lines.ensures.1 in
-    let known = bytes_are_known (g.R.Read.remaining c.args.reader.now) bytes tells in
-    let same = known_bytes_are_told (g.R.Read.remaining c.args.reader.now) bytes tells in
-    let read = rw c.in_ok-decoder.ensures.ok at c.in_ok-header.ensures.reads in
-    let facts = read.reads known in
-    let whole = means-rest c.args.options.now bytes c.read_header.new.decoder.source.bytes facts.1.0 (rw same at facts.1.1) in
-    let named = (rw (read.settings, facts.1.2) at c.in_err-decode_lines.ensures.named) facts.0 in
-    rw (p.1, p.2, whole) named
+    grind (arith, err_from_is_err_and, bytes_are_known, known_bytes_are_told, means-rest)

@@ -1,3 +1,4 @@
+use Rattle.std.proofs.Common.{arith}
 use Rattle.std.proofs.lemmas.Result.{err_from_is_err_and}
 use Rattle.jpeg_decoder.proofs.Callers.{bytes_are_known, known_bytes_are_told}
 use Rattle.jpeg_streams.specs.Stream.{header_at}
@@ -19,13 +20,7 @@ returns-clause-describes g c bytes tells =
 
 pub returns-in_err-header-clause-named : goal.returns-in_err-header-clause-named
 returns-in_err-header-clause-named g c bytes tells =
-    let p = err_from_is_err_and c.from_residual-in_err-header.result c.from_residual-in_err-header.ensures.1 in
-    let known = bytes_are_known (g.R.Read.remaining c.args.reader.now) bytes tells in
-    let same = known_bytes_are_told (g.R.Read.remaining c.args.reader.now) bytes tells in
-    let named = (rw c.in_ok-decoder.ensures.ok at c.in_err-header.ensures.named) known in
-    rw (p.1, p.2) (rw same at named)
+    grind (arith, err_from_is_err_and, bytes_are_known, known_bytes_are_told)
 
 pub returns-in_err-lines-clause-named : goal.returns-in_err-lines-clause-named
-returns-in_err-lines-clause-named g c bytes tells =
-    let p = err_from_is_err_and c.from_residual-in_err-lines.result c.from_residual-in_err-lines.ensures.1 in
-    rw (p.1, p.2) (argument-fails (header_at bytes) _ c.in_err-lines.ensures.named)
+returns-in_err-lines-clause-named g c bytes tells = grind (arith, err_from_is_err_and, argument-fails)

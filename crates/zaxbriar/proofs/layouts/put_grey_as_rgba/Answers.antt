@@ -8,9 +8,4 @@ unfolding pixels_of
 loop-x-init c = refl
 
 pub loop-x-preserved : goal.loop-x-preserved
-loop-x-preserved c =
-    let x = c.loop-x.x in
-    let row = c.args.row.now in
-    let grey = grey-of row x in
-    pixel-put grey_as_rgba 1 4 x (x * 4 + 4 - x * 4) row c.args.line.now c.loop-x.line c.copy_from_slice.new.self (λ p. refl)
-    (omega arith) (c.copy_from_slice.ensures.after ∙ (λ i. grey i ∷ grey i ∷ grey i ∷ 255 ∷ [])) c.loop-x.invariant
+loop-x-preserved c = grind (arith, grey-of, pixel-put)

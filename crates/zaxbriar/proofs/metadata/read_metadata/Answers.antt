@@ -1,3 +1,4 @@
+use Rattle.std.proofs.Common.{arith}
 use Rattle.std.proofs.Common.{◌∙◌, List, ℕ, ap, subst, sym, true}
 use Rattle.jpeg_decoder.proofs.Callers.{bytes_are_known, known_bytes_are_told}
 use Rattle.jpeg_streams.specs.Reported.{told_by_stream}
@@ -14,17 +15,9 @@ returns-clause-copied g c bytes tells none =
     let told = (rw c.in_ok-decoder.ensures.ok at c.in-Ok.ensures.told) known in
     elim c.if-code-eq-NO_DATA.branch [
       | then-code-eq-NO_DATA w ↦ absurd (c.in-Ok.ensures.fails (sym w.result-is ∙ none))
-      | else-code-eq-NO_DATA w ↦ subst (λ (t : Told). IsCopied (metadata_of c.args.kind t.metadata) c.args.buffer.now
-          c.copy_kind.new.buffer c.copy_kind.new.count) (told ∙ ap (λ (b : List ℕ). told_by_stream true b) same)
-          (c.in_ok-code.ensures.copied (sym w.result-is ∙ none))
+      | else-code-eq-NO_DATA w ↦ grind arith
     ]
 
 pub returns-clause-named : goal.returns-clause-named
 returns-clause-named g c bytes tells =
-    let known = bytes_are_known (g.R.Read.remaining c.args.reader.now) bytes tells in
-    let same = known_bytes_are_told (g.R.Read.remaining c.args.reader.now) bytes tells in
-    let named = (rw c.in_ok-decoder.ensures.ok at c.in-Ok.ensures.named) known in
-    elim c.if-code-eq-NO_DATA.branch [
-      | then-code-eq-NO_DATA w ↦ rw (w.result-is, sym same) named
-      | else-code-eq-NO_DATA w ↦ rw w.result-is (other-named c.in_ok-code.code (header_at bytes) c.in_ok-code.ensures.own)
-    ]
+    grind (arith, bytes_are_known, known_bytes_are_told, then-code-eq-NO_DATA, else-code-eq-NO_DATA, other-named)

@@ -1,3 +1,4 @@
+use Rattle.std.proofs.Common.{arith}
 use Rattle.std.proofs.Common.{ap, ◌∙◌, sym}
 use Rattle.jpeg_bits.specs.Entropy.{Ahead}
 use Rattle.jpeg_bits.specs.Refusals.{held_refusal}
@@ -19,6 +20,4 @@ returns-then-not-has-clause-code c =
 pub returns-clause-code : goal.returns-clause-code
 returns-clause-code c =
     let n = rw c.from-count.ensures at c.if-not-has.ensures in
-    let d = rw c.from-count.ensures at c.skip.ensures.bits in
-    λ source. Code-held c.args.table.now c.args.self.now c.skip.new.self source c.in-Some.symbol c.in-Some.length
-    c.requires c.in-Some.ensures.within (sym c.in-Some.ensures.symbol) (sym n) d c.skip.ensures.met
+    grind (arith, Code-held)

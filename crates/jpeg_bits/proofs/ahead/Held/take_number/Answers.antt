@@ -1,3 +1,4 @@
+use Rattle.std.proofs.Common.{arith}
 use Rattle.std.proofs.Common.{refl, ap, ◌∙◌, sym}
 use Rattle.jpeg_bits.specs.Entropy.{Ahead, has_held}
 use Rattle.jpeg_bits.proofs.Held.{Takes-held, Takes-refused, MayFail-same}
@@ -19,6 +20,4 @@ returns-then-not-has-clause-bits g c =
     c.args.source.now c.hold.new.source (held_refusal c.hold_fault.new.refusal)
     (c.if-not-hold.ensures.full refl) (rw (ap (λ (a : Ahead). a.met) c.self.view_is) at
     (c.hold_fault.ensures.names c.from-count.result c.hold.new.self.bits) (sym c.has.ensures ∙ c.if-not-has.true))
-    (MayFail-same _ (has_held c.from-count.result c.hold.new.self.bits c.hold.new.self.met) _
-    (rw (ap (λ (a : Ahead). a.met) c.self.view_is) at (c.hold_fault.ensures.names c.from-count.result
-    c.hold.new.self.bits) (sym c.has.ensures ∙ c.if-not-has.true))) p)
+    (grind (arith, MayFail-same)) p)

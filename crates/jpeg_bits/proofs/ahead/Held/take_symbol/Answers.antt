@@ -1,3 +1,4 @@
+use Rattle.std.proofs.Common.{arith}
 use Rattle.std.proofs.Common.{Ok, Err}
 use Rattle.jpeg_bits.specs.Codes.{symbol_from}
 use Rattle.jpeg_bits.specs.Refusals.{held_refusal}
@@ -16,7 +17,4 @@ returns-in-Some-clause-symbol g c =
 pub returns-in-None-clause-symbol : goal.returns-in-None-clause-symbol
 returns-in-None-clause-symbol g c =
     let mid = c.hold.new.source in
-    let e = held_refusal c.take_held_code.new.refusal in
-    Takes-ahead (symbol_from c.args.table.now) tt c.args.self.now c.hold.new.self c.take_held_code.new.self
-    c.args.source.now mid mid (Err e) c.if-not-hold.ensures.holds
-    (Symbol-no-code c.args.table.now c.hold.new.self c.take_held_code.new.self mid e (c.in-None.ensures.code mid))
+    grind (arith, Takes-ahead, Symbol-no-code)

@@ -38,7 +38,4 @@ returns c =
     let i = c.self.invariant in
     let small : b < 256 = omega (arith, c.from.ensures, c.ranges.byte.fits) in
     let few = few (goal.at.returns c).After-self in
-    ap (λ (k : ℕ). bits_held (s.word + k) (s.count + 8)) (byte_shifted s.count b few small)
-    ∙ byte_held s.word s.count b few i.2 small
-    ∙ ap (λ (bs : List Bool). bs ++ bits_of b) c.self.view_is
-    ∙ ap (λ (k : ℕ). c.args.self.now ++ bits_of k) c.from.ensures
+    grind (arith, byte_shifted, few, byte_held)

@@ -8,9 +8,7 @@ returns-then-i-eq16-clause-code c =
     let t = c.args.self.now in
     let p = passed-none t.counts.now t.rows.now c.args.bits c.requires.counted c.requires.rows c.ranges.bits.fits
     c.first_row.result c.first_row.ensures.within (c.first_row.ensures.passed c.requires.passed) in
-    let full : 16 ≤ c.first_row.result = omega (arith, c.if-i-eq16.true) in
-    sym (ap (named t.values.now) (none_found t.counts.now c.args.bits c.first_row.result c.requires.counted full
-    c.first_row.ensures.within p.1))
+    grind (arith, none_found)
 
 pub overflow_sub-index : goal.overflow_sub-index
 overflow_sub-index c =
@@ -18,9 +16,7 @@ overflow_sub-index c =
     let lt : c.first_row.result < 16 = omega (arith, c.if-i-eq16.false, c.first_row.ensures.within) in
     let p = passed-none t.counts.now t.rows.now c.args.bits c.requires.counted c.requires.rows c.ranges.bits.fits
     c.first_row.result c.first_row.ensures.within (c.first_row.ensures.passed c.requires.passed) in
-    let f = first_le t.counts.now t.rows.now c.args.bits c.first_row.result c.requires.counted c.requires.rows lt
-    c.ranges.bits.fits p.0 in
-    omega (arith, f, c.from.ensures)
+    grind (arith, first_le)
 
 pub overflow_add-index : goal.overflow_add-index
 overflow_add-index c =
@@ -28,9 +24,7 @@ overflow_add-index c =
     let lt : c.first_row.result < 16 = omega (arith, c.if-i-eq16.false, c.first_row.ensures.within) in
     let p = passed-none t.counts.now t.rows.now c.args.bits c.requires.counted c.requires.rows c.ranges.bits.fits
     c.first_row.result c.first_row.ensures.within (c.first_row.ensures.passed c.requires.passed) in
-    let w = index_within t.counts.now t.rows.now c.args.bits c.first_row.result c.requires.counted c.requires.rows lt
-    c.ranges.bits.fits p.0 (c.first_row.ensures.found lt) in
-    omega (arith, w, c.requires.count, c.requires.most, c.from.ensures)
+    grind (arith, index_within)
 
 pub bounds-self-index : goal.bounds-self-index
 bounds-self-index c =
@@ -38,9 +32,7 @@ bounds-self-index c =
     let lt : c.first_row.result < 16 = omega (arith, c.if-i-eq16.false, c.first_row.ensures.within) in
     let p = passed-none t.counts.now t.rows.now c.args.bits c.requires.counted c.requires.rows c.ranges.bits.fits
     c.first_row.result c.first_row.ensures.within (c.first_row.ensures.passed c.requires.passed) in
-    let w = index_within t.counts.now t.rows.now c.args.bits c.first_row.result c.requires.counted c.requires.rows lt
-    c.ranges.bits.fits p.0 (c.first_row.ensures.found lt) in
-    omega (arith, w, c.requires.count, c.from.ensures)
+    grind (arith, index_within)
 
 pub returns-clause-code : goal.returns-clause-code
 returns-clause-code c =
@@ -48,8 +40,4 @@ returns-clause-code c =
     let lt : c.first_row.result < 16 = omega (arith, c.if-i-eq16.false, c.first_row.ensures.within) in
     let p = passed-none t.counts.now t.rows.now c.args.bits c.requires.counted c.requires.rows c.ranges.bits.fits
     c.first_row.result c.first_row.ensures.within (c.first_row.ensures.passed c.requires.passed) in
-    let row = get_or t.rows.now c.first_row.result no_row in
-    let found = row_found t.counts.now t.rows.now c.args.bits c.first_row.result c.requires.counted c.requires.rows lt
-    c.ranges.bits.fits p.0 (c.first_row.ensures.found lt) p.1 in
-    ap (λ (n : ℕ). Some (get_or t.values.now (row.place + (n - row.first)) 0, c.first_row.result + 1)) c.from.ensures
-    ∙ sym (ap (named t.values.now) found)
+    grind (arith, row_found)
