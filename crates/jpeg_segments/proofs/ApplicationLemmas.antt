@@ -30,12 +30,11 @@ says-none : (number : ℕ) (payload : List ℕ) → 2 < number → number ≢ 13
 unfolding application_by
 says-none number payload h g = grind (arith, common_steps)
 
-each : (number : ℕ) (o : Outcome (List ℕ)) → 2 < number → number ≢ 13
-    → (o >>= by_payload number) ≡ (o >>= saying None)
+each : (number : ℕ) (o : Outcome (List ℕ)) → 2 < number → number ≢ 13 → (o >>= by_payload number) ≡ (o >>= saying None)
 each number (Ok x) h g = ap (λ (a : Option Application). saying a x) (says-none number x.0 h g)
 each number (Err e) h g = refl
 
-pub payload-passed : (number left : ℕ) (bytes : List ℕ) → 2 < number → number ≢ 13
+pub payload_passed : (number left : ℕ) (bytes : List ℕ) → 2 < number → number ≢ 13
     → payload_at number left bytes ≡ passed_over left None bytes
 unfolding payload_at
-payload-passed number left bytes h g = each number (times left next_byte bytes) h g ∙ read-skipped left None bytes
+payload_passed number left bytes h g = each number (times left next_byte bytes) h g ∙ read-skipped left None bytes

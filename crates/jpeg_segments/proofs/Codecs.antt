@@ -1,7 +1,7 @@
 -- What is written, and what reads it: the two directions at once.
 use Rattle.std.proofs.Common.{◌≡◌, ℕ, zero, suc, ◌<◌, ◌≤◌, ◌+◌, ◌-◌, Bool, true}
 use Rattle.std.proofs.Common.{false, cond, List, [], ◌∷◌, ◌++◌, length, Result, Ok, Err, refl, sym}
-use Rattle.std.proofs.Common.{ap, ◌∙◌, subst, append_assoc, append-nil, arith, ltb}
+use Rattle.std.proofs.Common.{ap, ◌∙◌, subst, append_assoc, append-nil, arith, ltb, rules}
 use Rattle.std.proofs.lemmas.Bool.{ltb-false, le-ltb}
 use Rattle.std.specs.Prelude.{flat_map}
 use Rattle.std.specs.List.{AllByRecursion}
@@ -147,8 +147,7 @@ pub record As {A A' C : Type 0} (view : A → C) (print : A → List ℕ) (view'
 pub namely : {A A' C : Type 0} {view : A → C} {print : A → List ℕ} {view' : A' → C}
     {print' : A' → List ℕ} {Valid' : A' → Type 0} {x : A} (value : A') → Valid' value
     → view x ≡ view' value → print x ≡ print' value → As view print view' print' Valid' x
-namely value valid made printed =
-    record { value = value; valid = valid; made = made; printed = printed }
+namely value valid made printed = search (rules, value, valid, made, printed)
 
 -- the same for other parameters
 pub remap : {A A' C : Type 0} {p : List ℕ → Outcome C} {view : A → C} {print : A → List ℕ}
@@ -209,8 +208,7 @@ pub u16 : Codec next_u16 (λ (n : ℕ). n) u16_bytes (λ (n : ℕ). Unit {0})
 unfolding next_u16
 u16 = grind (arith, common_steps, u16-read, err-ok, same, ok-same)
 
-pub length-field : Codec length_at (λ (n : ℕ). n) (λ (n : ℕ). u16_bytes (n + 2))
-    (λ (n : ℕ). Unit {0})
+pub length-field : Codec length_at (λ (n : ℕ). n) (λ (n : ℕ). u16_bytes (n + 2)) (λ (n : ℕ). Unit {0})
 unfolding length_at
 length-field = remap (ends _ u16 (λ (n : ℕ). check-unless (ltb n 2) Malformed (done (n - 2))))
     (λ n is.
@@ -239,8 +237,7 @@ pub nil : {T C : Type 0} (print : T → List ℕ) (y : C) (view : List T → C) 
     → Codec (outcome y) view (flat_map print) Valid
 nil {T} print y view Valid e none more = remap (done y) (λ x is. namely [] none e refl) go
   where
-    go : (xs : List T) → Valid xs
-        → As view (flat_map print) (λ (u : Unit {0}). y) (λ (u : Unit {0}). [])
+    go : (xs : List T) → Valid xs → As view (flat_map print) (λ (u : Unit {0}). y) (λ (u : Unit {0}). [])
         (λ (u : Unit {0}). Unit {0}) xs
     go [] is = namely tt tt (sym e) refl
     go (x ∷ xs) is = absurd (more x xs is)
@@ -256,8 +253,7 @@ cons {T} {said = said} {Both = Both} print view Valid c equal to none from =
     remap c (λ x is. namely (x.0 ∷ x.1) (to x.0 x.1 is) (equal x.0 x.1) refl) go
   where
     go : (xs : List T) → Valid xs
-        → As view (flat_map print) said (λ (x : T × List T). print x.0 ++ flat_map print x.1) Both
-        xs
+        → As view (flat_map print) said (λ (x : T × List T). print x.0 ++ flat_map print x.1) Both xs
     go [] is = absurd (none is)
     go (x ∷ xs) is = namely (x, xs) (from x xs is) (sym (equal x xs)) refl
 

@@ -1,7 +1,7 @@
 -- Steps of the parser of scan headers.
 use Rattle.std.proofs.Common.{All, sym, true, ◌∙◌, ◌≡◌, ◌≤◌, ℕ, zero, suc, ◌+◌, ◌-◌, ◌*◌, ◌<◌, Bool, not, cond}
 use Rattle.std.proofs.Common.{List, [], ◌∷◌, ◌++◌, map, length, refl, ap, ap₂, subst, Ok, arith, get_or, nat_le, sum_by}
-use Rattle.std.proofs.Common.{append-nil, append_assoc}
+use Rattle.std.proofs.Common.{append-nil, append_assoc, rules}
 use Rattle.std.specs.List.{position, position_or_len}
 use Rattle.std.proofs.lemmas.List.{length-map}
 use Rattle.std.proofs.lemmas.List.Elements.{All-head, All-map, All-tail, All-weaker}
@@ -25,11 +25,6 @@ pub selectors_from-more : (frame : frames.Frame) (n : ℕ) (front : List Selecto
 unfolding selectors_from
 selectors_from-more frame zero front least bytes h = absurd (omega arith)
 selectors_from-more frame (suc n) front least bytes h = let e : suc n - 1 ≡ n = omega arith in rw e refl
-
-pub selectors_from-none : (frame : frames.Frame) (front : List Selector) (least : ℕ) (bytes : List ℕ)
-    → selectors_from frame 0 front least bytes ≡ Ok (front, bytes)
-unfolding selectors_from
-selectors_from-none frame front least bytes = refl
 
 -- the first place at which a test passes
 position_or_len-map : {A B : Type 0} (f : A → B) (test : B → Bool) (xs : List A)
@@ -83,8 +78,7 @@ RisesTo front least = (more : List ℕ) → IsRising least more → IsRising 0 (
 pub rises-more : (front : List ℕ) (least place : ℕ) → RisesTo front least → least ≤ place
     → RisesTo (front ++ place ∷ []) (place + 1)
 unfolding IsRising
-rises-more front least place rises h more after =
-    subst (IsRising 0) (sym (append_assoc front (place ∷ []) more)) (rises (place ∷ more) (h, after))
+rises-more front least place rises h more after = search (rules, append_assoc)
 
 pub rises-all : (front : List ℕ) (least : ℕ) → RisesTo front least → IsRising 0 front
 unfolding IsRising

@@ -20,10 +20,7 @@ loop-i-preserved c =
     let was = (slice_index_or c.loop-i.planes i plane).items in
     let new = c.finish.new.plane.items in
     let inside : i < length parts = mapped-within part_in c.args.parts.now i (omega (arith, c.requires.count)) in
-    let within : i < length old = mapped-within (λ v. v.items) c.loop-i.planes i (omega (
-      arith,
-      c.loop-i.invariant.count,
-    )) in
+    let within : i < length old = search (rules, mapped-within) in
     let there : slice_index_or parts i part ≡ part = mapped-at part_in c.args.parts.now i r c.index-parts-i.is in
     let same : plane.items ≡ was = ap (λ v. v.items) c.index-planes-i.is in
     let here : slice_index_or old i was ≡ was = ap (λ (p : List ℕ). slice_index_or old i p) (sym same)

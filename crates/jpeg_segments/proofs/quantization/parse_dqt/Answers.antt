@@ -1,4 +1,4 @@
-use Rattle.std.proofs.Common.{◌≡◌, arith, ap, ◌∙◌, List, ℕ, length-set}
+use Rattle.std.proofs.Common.{◌≡◌, arith, ap, ◌∙◌, List, ℕ, length-set, rules}
 use Rattle.std.proofs.lemmas.Result.{err_from_is_err_and}
 use Rattle.jpeg_segments.specs.Quantization.{Tables, dqt_at, tables_from}
 use Rattle.jpeg_bits.proofs.Loops.{Continues-end, bind_at, bind_err}
@@ -10,8 +10,7 @@ pub loop-left-preserved : goal.loop-left-preserved
 loop-left-preserved g c = grind (arith, common_steps, length-set, tables_from-more, bind_at)
 
 pub returns-in_err-size : goal.returns-in_err-size
-returns-in_err-size g c =
-    grind (arith, common_steps, err_from_is_err_and, tables_from-more, bind_err)
+returns-in_err-size g c = search (rules, err_from_is_err_and, tables_from-more, bind_err)
 
 pub returns : goal.returns
 returns g c =
