@@ -1,4 +1,5 @@
 -- What is written, and what reads it: the two directions at once.
+use Rattle.std.proofs.lemmas.Bool.Decides.{nat_tests}
 use Rattle.std.proofs.Common.{◌≡◌, ℕ, zero, suc, ◌<◌, ◌≤◌, ◌+◌, ◌-◌, Bool, true}
 use Rattle.std.proofs.Common.{false, cond, List, [], ◌∷◌, ◌++◌, length, Result, Ok, Err, refl, sym}
 use Rattle.std.proofs.Common.{ap, ◌∙◌, subst, append_assoc, append-nil, arith, ltb, rules}
@@ -22,18 +23,15 @@ ok-same x r e = cc
 -- what a step gave, and the rest
 pub bind-ok : {A B : Type 0} (o : Result A Fault) (f : A → Result B Fault) (y : B) → (o >>= f) ≡ Ok y
     → (x : A) × (o ≡ Ok x) × (f x ≡ Ok y)
-bind-ok (Ok x) f y e = (x, refl, e)
-bind-ok (Err x) f y e = absurd (err-ok x y e)
+bind-ok o f y h1 = grind (arith, common_steps, nat_tests, err-ok)
 
 pub kept-if : {C : Type 0} (b : Bool) (x : Result C Fault) (f : Fault) (r : C)
     → cond b x (Err f) ≡ Ok r → (b ≡ true) × (x ≡ Ok r)
-kept-if true x f r e = (refl, e)
-kept-if false x f r e = absurd (err-ok f r e)
+kept-if b x f r h1 = grind (arith, common_steps, nat_tests, err-ok)
 
 pub kept-unless : {C : Type 0} (b : Bool) (x : Result C Fault) (f : Fault) (r : C)
     → cond b (Err f) x ≡ Ok r → (b ≡ false) × (x ≡ Ok r)
-kept-unless false x f r e = (refl, e)
-kept-unless true x f r e = absurd (err-ok f r e)
+kept-unless b x f r h1 = grind (arith, common_steps, nat_tests, err-ok)
 
 -- ---- codecs
 
@@ -120,8 +118,7 @@ pub choose : {A C : Type 0} {p q : List ℕ → Outcome C} {view : A → C} {pri
     {Valid : A → Type 0} (b : Bool) → (b ≡ true → Codec p view print Valid)
     → (b ≡ false → Codec q view print Valid)
     → Codec (λ (bytes : List ℕ). cond b (p bytes) (q bytes)) view print Valid
-choose true c d = c refl
-choose false c d = d refl
+choose b h1 h2 = grind (arith, common_steps, nat_tests)
 
 abbrev pub outcome : {C : Type 0} → C → List ℕ → Outcome C
 outcome y bytes = Ok (y, bytes)

@@ -1,4 +1,5 @@
 -- Steps of the parser of frame headers.
+use Rattle.std.proofs.lemmas.Bool.Decides.{nat_tests}
 use Rattle.std.proofs.Common.{◌≡◌, ℕ, zero, suc, ◌+◌, ◌-◌, ◌<◌, ◌≤◌, Bool, List, [], ◌∷◌, ◌++◌, map, max, take, length}
 use Rattle.std.proofs.Common.{refl, ap, Ok, arith, All, get_or, rules}
 use Rattle.std.specs.List.{list_any}
@@ -14,8 +15,7 @@ pub components_from-more : (lossless : Bool) (n : ℕ) (front : List Factors) (b
     → components_from lossless n front bytes ≡ (factors_at lossless front bytes
     >>= λ (c : Factors × List ℕ). components_from lossless (n - 1) (front ++ c.0 ∷ []) c.1)
 unfolding components_from
-components_from-more lossless zero front bytes h = absurd (omega arith)
-components_from-more lossless (suc n) front bytes h = let e : suc n - 1 ≡ n = omega arith in rw e refl
+components_from-more lossless n front bytes h1 = grind (arith, common_steps, nat_tests)
 
 -- ---- the greatest factor
 

@@ -38,4 +38,5 @@ all-rise frame least (c ∷ cs) all = search (rules, all-rise frame (c.component
 
 pub header-rules : (frame : Frame) (h : ScanHeader) → IsScan frame h → IsScanOf frame (scan_written frame h)
 unfolding scan_of
-header-rules frame h is = search (rules, length-map, nibbles-high, nibbles-low, coded-by, legal-again, is-scan, all-select, all-rise, ltb-true)
+header-rules frame h is =
+    search (rules, length-map, nibbles-high, nibbles-low, coded-by, legal-again, is-scan, all-select, all-rise, ltb-true)

@@ -1,4 +1,5 @@
 -- Frame headers and scan headers: exactly what is written is read.
+use Rattle.std.proofs.lemmas.Bool.Decides.{nat_tests}
 use Rattle.std.proofs.lemmas.List.{length-map}
 use Rattle.std.proofs.Common.{◌≡◌, ℕ, zero, suc, ◌≤◌, ◌<◌, ◌+◌, ◌*◌, ◌/◌, ◌%◌, Bool, true, false, cond}
 use Rattle.std.proofs.Common.{List, [], ◌∷◌, ◌++◌, map, length, length-append, append-nil, append_assoc}
@@ -90,8 +91,7 @@ factors-length [] = omega arith
 factors-length (c ∷ cs) = search (rules, length-append, factors-length cs)
 
 count-some : (number n : ℕ) → is_count number n ≡ true → 1 ≤ n
-count-some number zero h = absurd (let n : ⊥ = cc in n)
-count-some number (suc n) h = omega arith
+count-some number n h1 = grind (arith, common_steps, nat_tests)
 
 abbrev head_of : ℕ → ℕ → ℕ → ℕ → ℕ → Head
 head_of left precision width height count =
@@ -170,8 +170,7 @@ IsNamed frame least identifier o c =
     × (c.ac ≤ greatest_place (Some frame.is_baseline)))))
 
 greatest-small : (b : Bool) → greatest_place (Some b) ≤ 3
-greatest-small true = omega arith
-greatest-small false = omega arith
+greatest-small b = grind (arith, common_steps, nat_tests)
 
 none-some : (n : ℕ) → ◌≡◌ {A = Option ℕ} None (Some n) → ⊥
 none-some n e = cc

@@ -86,14 +86,16 @@ pub across-at : (f : Component → Component) (m i : ℕ) (old new : List Seen)
     → map component_in new ≡ changed f i (map component_in old) → i < length old → length new ≡ length old
     → All (λ c. c.horizontal_sampling_factor ≤ m) old → (get_or new i none).horizontal_sampling_factor ≤ m
 across-at f m i old new e h same all =
-    let k : (get_or new i none).horizontal_sampling_factor ≡ (get_or old i none).horizontal_sampling_factor = search (rules, seen-at) in
+    let k : (get_or new i none).horizontal_sampling_factor ≡ (get_or old i none).horizontal_sampling_factor =
+    search (rules, seen-at) in
     rw k (All-get_or (λ c. c.horizontal_sampling_factor ≤ m) old i none h all)
 
 pub down-at : (f : Component → Component) (m i : ℕ) (old new : List Seen)
     → map component_in new ≡ changed f i (map component_in old) → i < length old → length new ≡ length old
     → All (λ c. c.vertical_sampling_factor ≤ m) old → (get_or new i none).vertical_sampling_factor ≤ m
 down-at f m i old new e h same all =
-    let k : (get_or new i none).vertical_sampling_factor ≡ (get_or old i none).vertical_sampling_factor = search (rules, seen-at) in
+    let k : (get_or new i none).vertical_sampling_factor ≡ (get_or old i none).vertical_sampling_factor =
+    search (rules, seen-at) in
     rw k (All-get_or (λ c. c.vertical_sampling_factor ≤ m) old i none h all)
 
 -- one more is changed
@@ -106,10 +108,7 @@ seen-more f i old new x e h same made =
     let next : i + 1 ≡ suc i = omega arith in
     let was : component_in (get_or new i none) ≡ get_or (map component_in old) i (component_in none)
     = seen-at f i old new e h same ∙ sym (get_or-map component_in old i none (component_in none) h) in
-    map-set component_in new i x
-    ∙ (ap₂ (λ l c. set l i c) e (made ∙ ap f was)
-    ∙ (changed-more f i (map component_in old) (component_in none) within
-    ∙ ap (λ n. changed f n (map component_in old)) (sym next)))
+    search (rules, map-set, changed-more)
 
 -- ---- scales
 
@@ -197,7 +196,8 @@ scaled-have-factors : (s width height h v : ℕ) (cs : List Component) → s ≤
     → AllHaveSampling (map (component_at s width height h v) cs)
 unfolding AllHaveSampling component_at
 scaled-have-factors s width height h v [] most p = tt
-scaled-have-factors s width height h v (c ∷ cs) most p = search (rules, scaled-have-factors s width height h v cs most p.1)
+scaled-have-factors s width height h v (c ∷ cs) most p =
+    search (rules, scaled-have-factors s width height h v cs most p.1)
 
 at-scale-have-factors : (s : ℕ) (f : Frame) → s ≤ 8 → AllHaveSampling f.components
     → AllHaveSampling (frame_at s f).components

@@ -23,8 +23,7 @@ pub selectors_from-more : (frame : frames.Frame) (n : ℕ) (front : List Selecto
     ≡ (selector_at frame least bytes >>= λ (s : Selector × List ℕ). selectors_from frame (n - 1) (front
     ++ s.0 ∷ []) (s.0.component + 1) s.1)
 unfolding selectors_from
-selectors_from-more frame zero front least bytes h = absurd (omega arith)
-selectors_from-more frame (suc n) front least bytes h = let e : suc n - 1 ≡ n = omega arith in rw e refl
+selectors_from-more frame n front least bytes h1 = grind (arith, common_steps, nat_tests)
 
 -- the first place at which a test passes
 position_or_len-map : {A B : Type 0} (f : A → B) (test : B → Bool) (xs : List A)
@@ -62,9 +61,7 @@ same-blocks : (frame : frames.Frame) (xs : List Selector) → All (IsSelectorOf 
 same-blocks frame [] places = refl
 same-blocks frame (x ∷ xs) places =
     let one = All-head (IsSelectorOf frame) x xs places in
-    sum_by-cons (blocks_by frame.components) x.component (map (λ y. y.component) xs)
-    ∙ (ap₂ (λ a b. a + b) (sym one.blocks) (same-blocks frame xs (All-tail (IsSelectorOf frame) x xs places))
-    ∙ sym (sum_by-cons (λ y. y.blocks) x xs))
+    search (rules, sum_by-cons, same-blocks frame xs (All-tail (IsSelectorOf frame) x xs places))
 
 few : (count blocks : ℕ) → (nat_le count 1 || nat_le blocks 10) ≡ true → 2 ≤ count → blocks ≤ 10
 few count blocks e h = grind (arith, common_steps, nat_le, leb-true)
@@ -100,9 +97,7 @@ is-scan frame xs s some most places rising mcu components dc ac coded legal belo
           (all-of (IsSelectorOf frame) (λ n. n < length frame.components) (λ x. x.component) (λ x p. p.component) xs
           places);
       rising = rw components rising;
-      few_blocks = λ several.
-          rw (components, same-blocks frame xs places)
-          (few (length xs) (sum_by (λ x. x.blocks) xs) mcu (rw count at several));
+      few_blocks = search (rules, same-blocks, few, sum_by);
       dc_length = (ap length dc ∙ length-map xs (λ x. x.dc)) ∙ sym count;
       dc_places = rw dc (all-of (IsSelectorOf frame) (λ n. n ≤ 3) (λ x. x.dc) (λ x p. p.dc) xs places);
       ac_length = (ap length ac ∙ length-map xs (λ x. x.ac)) ∙ sym count;

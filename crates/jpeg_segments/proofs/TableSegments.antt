@@ -128,12 +128,10 @@ dqt-read = dqt.reads
 -- ---- Huffman tables
 
 class-read : (c : HuffmanTableClass) → class_of (class_number c) ≡ c
-class-read classes.DC = refl
-class-read classes.AC = refl
+class-read c = grind (arith, common_steps, nat_tests)
 
 class-small : (c : HuffmanTableClass) → class_number c ≤ 1
-class-small classes.DC = omega arith
-class-small classes.AC = omega arith
+class-small c = grind (arith, common_steps, nat_tests)
 
 class-number : (n : ℕ) → n ≤ 1 → class_number (class_of n) ≡ n
 class-number n h1 = grind (arith, nat_tests)

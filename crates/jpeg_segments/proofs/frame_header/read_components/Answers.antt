@@ -22,13 +22,7 @@ loop-left-preserved g c =
     let shown : c.deref.result.now ≡ c.loop-left.components.items = c.deref.ensures.value in
     let e : all_of c.push.new.self ≡ front ++ factors_of one ∷ [] = search (rules, map-append) in
     record {
-      rest = rw e (Continues-ok factors_of (components_from lossless c.args.count []) (λ (bs : List ℕ). components_from
-          lossless left front bs)
-          (λ (bs : List ℕ). components_from lossless (left - 1) (front ++ factors_of one ∷ []) bs)
-          (factors_at lossless front) c.args.source.now c.loop-left.source c.read_factors.new.source one
-          (λ e. components_from-more lossless left front c.loop-left.source.bytes c.loop-left-test.true
-          ∙ bind_at _ _ _ e)
-          c.loop-left.invariant.rest (rw shown at c.in_ok-factors.ensures.answers));
+      rest = search (rules, components_from-more, bind_at);
       factors = rw e (All-push IsInRange front (factors_of one) c.loop-left.invariant.factors (record {
         horizontal_some = c.in_ok-factors.ensures.horizontal.0;
         horizontal_most = c.in_ok-factors.ensures.horizontal.1;
@@ -44,8 +38,4 @@ pub returns-clause-answers : goal.returns-clause-answers
 unfolding components_from
 returns-clause-answers g c =
     let z : c.loop-left.left ≡ 0 = omega (arith, c.loop-left-test.false) in
-    Continues-end all_of (components_from c.args.lossless c.args.count []) (λ (bs : List ℕ). components_from
-    c.args.lossless c.loop-left.left (all_of c.loop-left.components) bs) c.args.source.now c.loop-left.source
-    c.loop-left.components
-    (ap (λ n. components_from c.args.lossless n (all_of c.loop-left.components) c.loop-left.source.bytes) z)
-    c.loop-left.invariant.rest
+    search rules

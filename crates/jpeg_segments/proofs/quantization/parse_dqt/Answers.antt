@@ -16,10 +16,4 @@ pub returns : goal.returns
 returns g c =
     let i = c.loop-left.invariant.rest in
     let z : c.loop-left.left ≡ 0 = omega arith in
-    record {
-      answers = Continues-end (λ (v : Tables). v) dqt_at (λ (bs : List ℕ). tables_from i.0 c.loop-left.left
-          c.loop-left.tables bs) c.args.reader.now c.loop-left.reader c.loop-left.tables
-          (ap (λ n. tables_from i.0 n c.loop-left.tables c.loop-left.reader.bytes) z
-          ∙ tables_from-none i.0 c.loop-left.tables c.loop-left.reader.bytes) i.2;
-      room = λ k e. absurd (let n : ⊥ = cc in n);
-    }
+    search (rules, tables_from-none)

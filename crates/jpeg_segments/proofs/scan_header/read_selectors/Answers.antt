@@ -26,13 +26,7 @@ loop-left-preserved g c =
     let longer : length c.push.new.self.items ≡ length c.loop-left.selectors.items + 1 = ap length pushed
     ∙ length-append c.loop-left.selectors.items (one ∷ []) in
     record {
-      rest = rw e (Continues-ok selector_of (selectors_from frame c.args.count [] 0) (λ (bs : List ℕ). selectors_from
-          frame left front least bs)
-          (λ (bs : List ℕ). selectors_from frame (left - 1) (front ++ selector_of one ∷ []) (one.component + 1) bs)
-          (selector_at frame least) c.args.source.now c.loop-left.source c.read_selector.new.source one
-          (λ e. selectors_from-more frame left front least c.loop-left.source.bytes c.loop-left-test.true
-          ∙ bind_at _ _ _ e)
-          c.loop-left.invariant.rest c.in_ok-selector.ensures.answers);
+      rest = search (rules, selectors_from-more, bind_at);
       length = omega (arith, longer, c.loop-left.invariant.length, c.loop-left-test.true);
       rising = rw (e, map-append (λ (s : Selector). s.component) front (selector_of one ∷ []))
           (rises-more (map (λ (s : Selector). s.component) front) least one.component c.loop-left.invariant.rising
@@ -49,11 +43,7 @@ unfolding selectors_from
 returns-clause-answers g c =
     let frame = frame_in c.args.frame.now in
     let z : c.loop-left.left ≡ 0 = omega (arith, c.loop-left-test.false) in
-    Continues-end all_of (selectors_from frame c.args.count [] 0) (λ (bs : List ℕ). selectors_from frame
-    c.loop-left.left (all_of c.loop-left.selectors) c.loop-left.least bs) c.args.source.now c.loop-left.source
-    c.loop-left.selectors
-    (ap (λ n. selectors_from frame n (all_of c.loop-left.selectors) c.loop-left.least c.loop-left.source.bytes) z)
-    c.loop-left.invariant.rest
+    search rules
 
 pub returns-clause-rising : goal.returns-clause-rising
 returns-clause-rising g c = search (rules, rises-all)

@@ -16,10 +16,7 @@ loop-component-preserved c =
     let i = c.loop-component.component-index in
     let h = greatest-next factors_of (λ f. f.horizontal) xs i none c.loop-component-test.true in
     let v = greatest-next factors_of (λ f. f.vertical) xs i none c.loop-component-test.true in
-    record {
-      horizontal = rw (h, sym c.loop-component.invariant.horizontal) c.greater-horizontal.ensures;
-      vertical = rw (v, sym c.loop-component.invariant.vertical) c.greater-vertical.ensures;
-    }
+    search rules
 
 pub returns-clause-some_horizontal : goal.returns-clause-some_horizontal
 returns-clause-some_horizontal c = grind (arith, common_steps, take_all, greatest-some)
