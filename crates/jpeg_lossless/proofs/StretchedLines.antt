@@ -102,13 +102,7 @@ line_inside frame c plane slice y v e f is h =
     let row = inside y frame.height c.factors.vertical (most_down frame) c.height h is.sampling.vertical_some
     (greatest-some (λ f. f.vertical) (factors_of frame)) is.reaches.down in
     let same : y * c.factors.vertical / v * c.width ≡ y * c.factors.vertical / most_down frame * c.width = search rules in
-    omega (
-      arith,
-      is.whole,
-      ap length f,
-      same,
-      within (y * c.factors.vertical / most_down frame) c.width c.height row,
-    )
+    search (rules, within)
 
 pub line_reaches : (frame : Frame) (c : Component) (plane slice own : List ℕ) (y h v width : ℕ)
     → h ≡ most_across frame → v ≡ most_down frame → width ≡ frame.width → slice ≡ plane

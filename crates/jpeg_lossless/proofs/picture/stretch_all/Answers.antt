@@ -118,18 +118,7 @@ loop-i-preserved c =
     let next : across (layer_of (component_in r) p.items ∷ rest) ≡ put.items ∷ across rest =
     lines_more a.horizontal a.vertical frame.width a.y (layer_of (component_in r) p.items) rest
     ∙ ap (λ (l : List ℕ). l ∷ across rest) (sym (written ∙ made)) in
-    record {
-      count = length-set c.loop-i.lines i put ∙ c.loop-i.invariant.count;
-      wide = subst (AreWide frame.width) (sym (map-set (λ v. v.items) c.loop-i.lines i put))
-          (wide-set frame.width i old put.items c.loop-i.invariant.wide
-          (ap length written ∙ c.stretch.auto.line ∙ wide));
-      lines =
-          ap (λ (l : List (List ℕ)). take (i + 1) l ++ across rest)
-          (map-set (λ v. v.items) c.loop-i.lines i put)
-          ∙ sym (lines_step i old (across rest) put.items room)
-          ∙ sym (ap (λ (l : List (List ℕ)). take i old ++ l) (ap across step ∙ next))
-          ∙ c.loop-i.invariant.lines;
-    }
+    search (rules, length-set, map-set, wide-set, lines_step)
 
 pub returns-clause-lines : goal.returns-clause-lines
 returns-clause-lines c = search (rules, append-nil, layers_none, length-map, lines_none, take_all)

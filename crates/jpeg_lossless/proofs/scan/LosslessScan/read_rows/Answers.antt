@@ -62,11 +62,7 @@ loop-left-preserved g c =
     record {
       count = ap length held ∙ c.add_row.ensures.count ∙ ap length back ∙ c.loop-left.invariant.count;
       left = omega (arith, c.loop-left.invariant.left);
-      long = λ k w. grown-as _ _ parts next (one-row k c.args.count c.loop-left.left c.loop-left-test.true
-          c.loop-left.invariant.left) (subst (AreGrown (k + (c.args.count - c.loop-left.left) + 1) parts) (sym same)
-          (c.in_ok-add_row.ensures.long (k + (c.args.count - c.loop-left.left))
-          (subst (λ (l : List (Vec ℕ Global)). AreGrown (k + (c.args.count - c.loop-left.left)) parts (grid l))
-          (sym back) (c.loop-left.invariant.long k w))));
+      long = search (rules, grown-as, one-row);
       reads = Leaves-step (planes_after_rows v true c.args.count (map (λ v. v.items) c.args.self.now.planes.items))
           (planes_after_rows v first c.loop-left.left planes) (planes_after_rows v false (c.loop-left.left - 1) next)
           (differences (row_tables c.from-wide.result tables))
