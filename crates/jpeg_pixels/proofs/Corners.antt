@@ -129,7 +129,8 @@ pub corner_zero : (coefficients : List ℤ) → IsInCorner coefficients → (j :
     → eqb (bit_or (lower_bits coefficients j) (upper_bits coefficients (4 + j % 4))) 0 ≡ true
 corner_zero coefficients corner j h =
     let k : ℕ = 4 + j % 4 in
-    let right : (row : ℕ) → row < 8 → eqb (of_z w16 (get_or coefficients (row * 8 + k) (pos 0))) 0 ≡ true = search (rules, none) in
+    let right : (row : ℕ) → row < 8 → eqb (of_z w16 (get_or coefficients (row * 8 + k) (pos 0))) 0 ≡ true =
+    search (rules, none) in
     let below : (row : ℕ) → 4 ≤ row → row < 8 → eqb (of_z w16 (get_or coefficients (row * 8 + j) (pos 0))) 0 ≡ true =
     λ row low r. none _ (corner.below row j low r h) in
     or_both (lower_bits coefficients j) (upper_bits coefficients k)

@@ -54,7 +54,8 @@ half_first_only coefficients quantization x y first hx hy small =
     let sum_fits : FitsSigned w32 (pos 4096 *ℤ (pos 4 *ℤ p) +ℤ pos 16842752) = omega (arith, ints) in
     let value : pos 4 *ℤ p ≡ column_of_4 coefficients quantization y 0 =
     sym (column_first coefficients quantization y 0 first hy (lit< tt) ∙ int_wrap_fits w32 (pos 4 *ℤ p) four_fits) in
-    let nothing : (k : ℕ) → 0 < k → k < 8 → pos 0 ≡ column_of_4 coefficients quantization y k = search (rules, column_first, no_product, int_wrap_fits) in
+    let nothing : (k : ℕ) → 0 < k → k < 8 → pos 0 ≡ column_of_4 coefficients quantization y k =
+    search (rules, column_first, no_product, int_wrap_fits) in
     ap (λ z. clamped (int_shr z 17)) (sym (row_by_same (column_of_4 coefficients quantization y) (pos 4 *ℤ p) (pos 0)
     (pos 0) (pos 0) x value (nothing 1 (lit< tt) (lit< tt)) (nothing 2 (lit< tt) (lit< tt))
     (nothing 3 (lit< tt) (lit< tt)))

@@ -106,7 +106,8 @@ unfolding frame_of
 frames-are-covered number precision width height factors planes sources range some_width some_height room is =
     let h = greatest (λ f. f.horizontal) factors in
     let v = greatest (λ f. f.vertical) factors in
-    let back : map (λ c. c.factors) (map (component_of width height h v) factors) ≡ factors = search (rules, factors-back) in
+    let back : map (λ c. c.factors) (map (component_of width height h v) factors) ≡ factors =
+    search (rules, factors-back) in
     all-cover width height h v factors planes sources some_width some_height range
     (greatest-all (λ f. f.horizontal) h factors (omega arith)) (greatest-all (λ f. f.vertical) v factors (omega arith))
     room

@@ -31,7 +31,8 @@ joined-at n (l ∷ lines) zero x long h lt =
     ap (λ i. get_or (l ++ concat lines) i 0) at ∙ get_or_append_left l (concat lines) 0 x inside
 joined-at n (l ∷ lines) (suc k) x long h lt =
     let first : length l ≡ n = long.each 0 (omega arith) in
-    let others : get_or (concat lines) (k * n + x) 0 ≡ get_or (get_or lines k []) x 0 = search (rules, joined-at n lines k x (AreLong-more n l lines long) (omega arith) lt) in
+    let others : get_or (concat lines) (k * n + x) 0 ≡ get_or (get_or lines k []) x 0 =
+    search (rules, joined-at n lines k x (AreLong-more n l lines long) (omega arith) lt) in
     let at : suc k * n + x - n ≡ k * n + x = omega arith in
     get_or-append_right l (concat lines) n (suc k * n + x) 0 first (omega arith)
     ∙ ap (λ i. get_or (concat lines) i 0) at ∙ others
