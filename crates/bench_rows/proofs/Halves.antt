@@ -1,24 +1,21 @@
 -- What is asked of the planes of a 4:2:0 picture of 4000 columns and 512 lines.
-use Rattle.std.proofs.Common.{◌≡◌, ℕ, List, [], ◌∷◌, length, map, All, Vec, Global, arith}
+use Rattle.std.proofs.Common.{◌≡◌, ℕ, List, [], ◌∷◌, length, map, All, Vec, Global, arith, rules}
 use Rattle.std.proofs.lemmas.List.Elements.{All-cons, All-nil}
-use Rattle.jpeg_segments.specs.Frame.{component_of, frame_of}
+use Rattle.jpeg_segments.specs.Frame.{Factors, IsInRange, component_of, frame_of}
 use Rattle.jpeg_pixels.specs.Pictures.{HaveRoom}
-use Rattle.jpeg_pixels.proofs.SquareFrames.{IsFactor, squares}
+use Rattle.jpeg_pixels.proofs.FramesOfFactors.{by_factors, components}
 
-abbrev pub factors : List ℕ
-factors = 2 ∷ 1 ∷ 1 ∷ []
+abbrev pub factors : List Factors
+factors = by_factors 2 2 ∷ by_factors 1 1 ∷ by_factors 1 1 ∷ []
 
-pub are-factors : All IsFactor factors
-are-factors = All-cons IsFactor 2 (1 ∷ 1 ∷ []) (omega arith, omega arith) (All-cons IsFactor 1 (1 ∷ []) (
-  omega arith,
-  omega arith,
-) (All-cons IsFactor 1 [] (omega arith, omega arith) (All-nil IsFactor)))
+pub are-factors : All IsInRange factors
+are-factors = search (rules, All-cons, All-nil)
 
 same : (a b c x y z : ℕ) → a ∷ b ∷ c ∷ [] ≡ x ∷ y ∷ z ∷ [] → (a ≡ x) × (b ≡ y) × (c ≡ z)
 same a b c x y z e = (cc, cc, cc)
 
 pub have-room : (planes : List (Vec ℕ Global)) → map (λ v. length v.items) planes ≡ 2048000 ∷ 512000 ∷ 512000 ∷ []
-    → HaveRoom (squares 4000 512 factors) (map (λ v. v.items) planes)
+    → HaveRoom (components 4000 512 factors) (map (λ v. v.items) planes)
 unfolding frame_of component_of HaveRoom
 have-room [] e = absurd (cc)
 have-room (a ∷ []) e = absurd (cc)

@@ -1,7 +1,7 @@
 -- Pieces of one length that are written one after the other into a list that has exactly their room.
 use Rattle.std.proofs.lemmas.Grind.{common_steps}
 use Rattle.std.proofs.Common.{◌≡◌, ℕ, zero, suc, ◌+◌, ◌*◌, ◌<◌, ◌≤◌, List, [], ◌∷◌, ◌++◌, length}
-use Rattle.std.proofs.Common.{take, set, ap, arith, length-take, slice_index_or}
+use Rattle.std.proofs.Common.{take, set, ap, arith, length-take, slice_index_or, rules}
 use Rattle.std.proofs.Math.Nat.{add-mul, mul-le-mul_right, one-mul}
 use Rattle.std.proofs.Math.Seq.{take-append-add, take-append_seam}
 use Rattle.std.proofs.lemmas.List.{take_all}
@@ -19,15 +19,13 @@ no-pieces size out = let e : 0 * size ≡ 0 = omega arith in ap (λ (n : ℕ). t
 
 -- a piece is within the room
 pub piece-fits : (count i size long : ℕ) → i < count → long ≡ count * size → i * size + size ≤ long
-piece-fits count i size long lt is =
-    omega (arith, is, mul-le-mul_right size lt, add-mul 1 i size, one-mul size)
+piece-fits count i size long lt is = search (rules, mul-le-mul_right, add-mul, one-mul)
 
 -- one piece more
 pub pieces-more : (i size k : ℕ) (now new front more : List ℕ) {made : List ℕ} → i * size ≤ length now
     → length new ≡ size → take (i * size) now ≡ front → new ≡ made → more ≡ front ++ made
     → take ((i + 1) * size) (put_mid (i * size) k now new) ≡ more
-pieces-more i size k now new front more room long before is joined =
-    grind (arith, common_steps, take-put)
+pieces-more i size k now new front more room long before is joined = search (rules, take-put)
 
 -- all pieces
 pub all-pieces : (count i size : ℕ) (now made : List ℕ) → i ≡ count → length now ≡ count * size

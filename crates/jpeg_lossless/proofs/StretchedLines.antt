@@ -101,22 +101,14 @@ pub line_inside : (frame : Frame) (c : Component) (plane slice : List ℕ) (y v 
 line_inside frame c plane slice y v e f is h =
     let row = inside y frame.height c.factors.vertical (most_down frame) c.height h is.sampling.vertical_some
     (greatest-some (λ f. f.vertical) (factors_of frame)) is.reaches.down in
-    let same : y * c.factors.vertical / v * c.width ≡ y * c.factors.vertical / most_down frame * c.width =
-    ap (λ (n : ℕ). y * c.factors.vertical / n * c.width) e in
-    omega (
-      arith,
-      is.whole,
-      ap length f,
-      same,
-      within (y * c.factors.vertical / most_down frame) c.width c.height row,
-    )
+    let same : y * c.factors.vertical / v * c.width ≡ y * c.factors.vertical / most_down frame * c.width = search rules in
+    search (rules, within)
 
 pub line_reaches : (frame : Frame) (c : Component) (plane slice own : List ℕ) (y h v width : ℕ)
     → h ≡ most_across frame → v ≡ most_down frame → width ≡ frame.width → slice ≡ plane
     → own ≡ take c.width (drop (y * c.factors.vertical / v * c.width) slice) → IsPixelOf frame c plane
     → y < frame.height → width * c.factors.horizontal ≤ length own * h
-line_reaches frame c plane slice own y h v width e f g s o is k =
-    search (rules, length-drop, length-take, line_inside)
+line_reaches frame c plane slice own y h v width e f g s o is k = search (rules, length-drop, length-take, line_inside)
 
 -- the samples of a line that is put out
 pub own_samples : (frame : Frame) (c : Component) (plane slice own line : List ℕ) (y h v width : ℕ)
@@ -173,8 +165,7 @@ from-none n = omega arith
 
 pub line_of_lines : (precision h v width y n : ℕ) (layers : List Layer) → n ≤ width
     → line_from precision (lines_across h v width layers y) 0 n ≡ line_bytes precision h v n layers y
-line_of_lines precision h v width y zero layers k =
-    line-none precision 0 (lines_across h v width layers y) ∙ sym (line-begun precision h v layers y)
+line_of_lines precision h v width y zero layers k = search (rules, line-none, line-begun)
 line_of_lines precision h v width y (suc n) layers k =
     let s : suc n ≡ n + 1 = omega arith in
     let lines = lines_across h v width layers y in

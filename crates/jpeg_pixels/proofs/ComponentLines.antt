@@ -1,8 +1,7 @@
 -- The lines of the components of a picture.
 use Rattle.std.proofs.lemmas.Grind.{common_steps}
-use Rattle.std.proofs.Common.{rules}
 use Rattle.std.proofs.Common.{◌≡◌, ℕ, zero, suc, ◌+◌, ◌*◌, ◌<◌, ◌≤◌, List, [], ◌∷◌, ◌++◌, length, get_or, slice_index}
-use Rattle.std.proofs.Common.{take, ap, refl, arith, length-take, add-one, subst}
+use Rattle.std.proofs.Common.{take, ap, refl, arith, length-take, add-one, subst, rules}
 use Rattle.std.proofs.lemmas.List.{append-nil}
 use Rattle.std.proofs.lemmas.List.FromFn.{length-map-range_with_len, fill_by_all}
 use Rattle.std.proofs.lemmas.List.Folds.{concat-append}
@@ -87,10 +86,10 @@ lines-more all index width k now new h room long is before =
     grind (arith, common_steps, add-one, append-nil, concat-append, get_or, take-put, take-suc)
 
 -- a line by its samples
-pub line-by-samples : (s : Source) (plane : List ℕ) (width row : ℕ) (new : List ℕ) → length new ≡ width
+pub line_by_samples : (s : Source) (plane : List ℕ) (width row : ℕ) (new : List ℕ) → length new ≡ width
     → ((x : ℕ) → x < width → get_or new x 0 ≡ upsampled s.rule (λ i j. slice_index plane (j * s.stride + i)) s.width
     s.height x row)
     → new ≡ line_of s plane width row
-line-by-samples s plane width row new long each =
+line_by_samples s plane width row new long each =
     fill_by_all (λ x. upsampled s.rule (λ i j. slice_index plane (j * s.stride + i)) s.width s.height x row) new width 0
     long each

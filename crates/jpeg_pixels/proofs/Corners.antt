@@ -1,8 +1,7 @@
 -- Blocks whose coefficients outside the top left 4x4 corner are 0.
-use Rattle.std.proofs.Common.{rules}
 use Rattle.std.proofs.Common.{◌≡◌, ℕ, ◌+◌, ◌*◌, ◌<◌, ◌≤◌, suc, List, length, get_or, ℤ, pos, ◌*ℤ◌, sym}
 use Rattle.std.proofs.Common.{ap, ◌∙◌, map, FitsSigned, of_z, arith, true, ◌==◌, unsigned_abs, eqb}
-use Rattle.std.proofs.Common.{cond, replicate, ◌%◌, ◌-◌, ◌++◌, ◌∷◌, [], nat_eq, lit≤, lit<}
+use Rattle.std.proofs.Common.{cond, replicate, ◌%◌, ◌-◌, ◌++◌, ◌∷◌, [], nat_eq, lit≤, lit<, rules}
 use Rattle.std.proofs.lemmas.Int.{ints, int_wrap_fits}
 use Rattle.std.proofs.lemmas.Simd.{bitmask_splat, bit_mask_l, map-map, get_or-chunk, length-chunk}
 use Rattle.std.proofs.lemmas.Bool.{eqb-true}
@@ -131,7 +130,7 @@ pub corner_zero : (coefficients : List ℤ) → IsInCorner coefficients → (j :
 corner_zero coefficients corner j h =
     let k : ℕ = 4 + j % 4 in
     let right : (row : ℕ) → row < 8 → eqb (of_z w16 (get_or coefficients (row * 8 + k) (pos 0))) 0 ≡ true =
-    λ row r. none _ (corner.right row k r (omega arith) (omega arith)) in
+    search (rules, none) in
     let below : (row : ℕ) → 4 ≤ row → row < 8 → eqb (of_z w16 (get_or coefficients (row * 8 + j) (pos 0))) 0 ≡ true =
     λ row low r. none _ (corner.below row j low r h) in
     or_both (lower_bits coefficients j) (upper_bits coefficients k)

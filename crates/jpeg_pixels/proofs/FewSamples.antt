@@ -1,7 +1,6 @@
 -- A few samples are written one by one.
-use Rattle.std.proofs.Common.{rules}
 use Rattle.std.proofs.Common.{◌≡◌, ◌≢◌, ℕ, zero, suc, ◌+◌, ◌*◌, ◌<◌, ◌≤◌, ℤ, pos, neg_ℤ, ◌+ℤ◌, ◌-ℤ◌, List, length}
-use Rattle.std.proofs.Common.{set, get_or, slice_index, ap, ◌∙◌, arith, get_or-set_other, length-set}
+use Rattle.std.proofs.Common.{set, get_or, slice_index, ap, ◌∙◌, arith, get_or-set_other, length-set, rules}
 use Rattle.std.proofs.lemmas.Grind.{get_or-set_at}
 use Rattle.std.proofs.lemmas.Int.{int_wrap-add_left}
 use Rattle.std.specs.Int.{w32, int_wrap, int_shr}
@@ -26,14 +25,10 @@ pub four_samples : (stride : ℕ) (f : ℕ → ℕ → ℕ) (old : List ℕ) (a 
 four_samples stride f old a b d e wide room is0 is1 is2 is3 = record { inside = inside; right = right; below = below }
   where
     inside : (x y : ℕ) → x < 2 → y < 2 → slice_index (two_lines stride old a b d e) (y * stride + x) ≡ f x y
-    inside zero zero hx hy =
-        search (rules, get_or-set_at, get_or-set_other, length-set, slice_index)
-    inside (suc zero) zero hx hy =
-        search (rules, get_or-set_at, get_or-set_other, length-set, slice_index)
-    inside zero (suc zero) hx hy =
-        search (rules, get_or-set_at, get_or-set_other, length-set, slice_index)
-    inside (suc zero) (suc zero) hx hy =
-        search (rules, get_or-set_at, get_or-set_other, length-set, slice_index)
+    inside zero zero hx hy = search (rules, get_or-set_at, get_or-set_other, length-set, slice_index)
+    inside (suc zero) zero hx hy = search (rules, get_or-set_at, get_or-set_other, length-set, slice_index)
+    inside zero (suc zero) hx hy = search (rules, get_or-set_at, get_or-set_other, length-set, slice_index)
+    inside (suc zero) (suc zero) hx hy = search (rules, get_or-set_at, get_or-set_other, length-set, slice_index)
     inside (suc (suc x)) y hx hy = absurd (omega arith)
     inside zero (suc (suc y)) hx hy = absurd (omega arith)
     inside (suc zero) (suc (suc y)) hx hy = absurd (omega arith)

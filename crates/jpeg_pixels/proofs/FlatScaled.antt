@@ -32,8 +32,7 @@ row_one v x h1 = grind (arith, nat_tests)
 
 -- the columns of such a block
 column_first : (coefficients : List ℤ) (quantization : List ℕ) (row column : ℕ) → HasFirstOnly coefficients → row < 4
-    → column < 8
-    → column_of_4 coefficients quantization row column
+    → column < 8 → column_of_4 coefficients quantization row column
     ≡ int_wrap w32 (pos 4 *ℤ dequantized coefficients quantization 0 column)
 unfolding column_of_4
 column_first coefficients quantization row column first hr hc =
@@ -56,9 +55,7 @@ half_first_only coefficients quantization x y first hx hy small =
     let value : pos 4 *ℤ p ≡ column_of_4 coefficients quantization y 0 =
     sym (column_first coefficients quantization y 0 first hy (lit< tt) ∙ int_wrap_fits w32 (pos 4 *ℤ p) four_fits) in
     let nothing : (k : ℕ) → 0 < k → k < 8 → pos 0 ≡ column_of_4 coefficients quantization y k =
-    λ k some h. sym (column_first coefficients quantization y k first hy h
-    ∙ ap (λ z. int_wrap w32 (pos 4 *ℤ z)) (no_product coefficients quantization 0 k first (omega arith)
-    (omega arith)) ∙ int_wrap_fits w32 (pos 0) (record { sfits = lit< tt })) in
+    search (rules, column_first, no_product, int_wrap_fits) in
     ap (λ z. clamped (int_shr z 17)) (sym (row_by_same (column_of_4 coefficients quantization y) (pos 4 *ℤ p) (pos 0)
     (pos 0) (pos 0) x value (nothing 1 (lit< tt) (lit< tt)) (nothing 2 (lit< tt) (lit< tt))
     (nothing 3 (lit< tt) (lit< tt)))

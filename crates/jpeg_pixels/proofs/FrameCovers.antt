@@ -6,6 +6,7 @@ use Rattle.std.proofs.lemmas.List.Elements.{All-cons, All-head, All-nil, All-tai
 use Rattle.jpeg_bits.specs.Reading.{Fault, ◌>>=◌}
 use Rattle.jpeg_segments.specs.Frame.{Component, Factors, IsInRange, ceiling, component_of, frame_of, greatest}
 use Rattle.jpeg_segments.proofs.Ceilings.{ceiling-eights}
+use Rattle.jpeg_segments.proofs.ScaleLemmas.{factors-back}
 use Rattle.jpeg_pixels.specs.declared.upsampler.UpsampleRule.{UpsampleRule}
 use Rattle.jpeg_pixels.specs.Upsampling.{across, down, rule_of}
 use Rattle.jpeg_pixels.specs.Pictures.{AllCover, AreWhole, Covers, HaveRoom, Source, source_by, sources_by, sources_of}
@@ -53,20 +54,13 @@ as_all l = Ok l
 ok-injective : (l m : List Source) → as_all l ≡ as_all m → l ≡ m
 ok-injective l m e = cc
 
-factors-back : (width height h v : ℕ) (xs : List Factors)
-    → map (λ c. c.factors) (map (component_of width height h v) xs) ≡ xs
-unfolding component_of
-factors-back width height h v [] = refl
-factors-back width height h v (x ∷ xs) = ap (λ l. x ∷ l) (factors-back width height h v xs)
-
 -- the greatest number is at least each
 greatest-all : (f : Factors → ℕ) (m : ℕ) (xs : List Factors) → greatest f xs ≤ m → All (λ c. f c ≤ m) xs
 greatest-all f m [] h = All-nil (λ c. f c ≤ m)
 greatest-all f m (x ∷ xs) h = All-cons (λ c. f c ≤ m) x xs (omega arith) (greatest-all f m xs (omega arith))
 
 all-cover : (width height h v : ℕ) (xs : List Factors) (planes : List (List ℕ)) (sources : List Source) → 0 < width
-    → 0 < height
-    → All IsInRange xs → All (λ f. f.horizontal ≤ h) xs → All (λ f. f.vertical ≤ v) xs
+    → 0 < height → All IsInRange xs → All (λ f. f.horizontal ≤ h) xs → All (λ f. f.vertical ≤ v) xs
     → HaveRoom (map (component_of width height h v) xs) planes
     → sources_by h v width height (map (component_of width height h v) xs) ≡ Ok sources
     → AllCover sources planes width height
@@ -113,7 +107,7 @@ frames-are-covered number precision width height factors planes sources range so
     let h = greatest (λ f. f.horizontal) factors in
     let v = greatest (λ f. f.vertical) factors in
     let back : map (λ c. c.factors) (map (component_of width height h v) factors) ≡ factors =
-    factors-back width height h v factors in
+    search (rules, factors-back) in
     all-cover width height h v factors planes sources some_width some_height range
     (greatest-all (λ f. f.horizontal) h factors (omega arith)) (greatest-all (λ f. f.vertical) v factors (omega arith))
     room

@@ -41,8 +41,7 @@ grown_fits p size k xs strips is e room count fits = search (rules, put_length, 
 chunk_at : (count i : ℕ) (coefficients d : List ℤ) → i < count → get_or (first_chunks 64 count coefficients) i d
     ≡ take 64 (drop (64 * i) coefficients)
 chunk_at zero i coefficients d h = absurd (omega arith)
-chunk_at (suc count) zero coefficients d h = let none : 64 * 0
-    ≡ 0 = omega arith in ap (λ (n : ℕ). take 64 (drop n coefficients)) (sym none)
+chunk_at (suc count) zero coefficients d h = search rules
 chunk_at (suc count) (suc i) coefficients d h =
     let more : 64 + 64 * i ≡ 64 * suc i = omega arith in
     chunk_at count i (drop 64 coefficients) d (omega arith)

@@ -32,7 +32,7 @@ joined-at n (l ∷ lines) zero x long h lt =
 joined-at n (l ∷ lines) (suc k) x long h lt =
     let first : length l ≡ n = long.each 0 (omega arith) in
     let others : get_or (concat lines) (k * n + x) 0 ≡ get_or (get_or lines k []) x 0 =
-    joined-at n lines k x (AreLong-more n l lines long) (omega arith) lt in
+    search (rules, joined-at n lines k x (AreLong-more n l lines long) (omega arith) lt) in
     let at : suc k * n + x - n ≡ k * n + x = omega arith in
     get_or-append_right l (concat lines) n (suc k * n + x) 0 first (omega arith)
     ∙ ap (λ i. get_or (concat lines) i 0) at ∙ others
@@ -47,10 +47,7 @@ by_pixels n width pixel out some sizes long each =
     let count : length lines ≡ width = length-map-range_with_len pixel 0 width in
     let line_is : (k : ℕ) → k < width → get_or lines k [] ≡ pixel k = λ k h. get_or-map-range_with_len pixel 0 width k k
     [] h (omega arith) in
-    let are_long : AreLong n lines = record {
-      each = λ k h. ap (λ (l : List ℕ). length l)
-          (line_is k (omega (arith, count))) ∙ sizes k;
-    } in
+    let are_long : AreLong n lines = search (rules, each) in
     let all : length (concat lines) ≡ length lines * n = joined-length n lines are_long in
     let turned : n * width ≡ width * n = mul_comm n width in
     ext_get_or 0 out (concat lines) (long ∙ turned ∙ ap (λ m. m * n) (sym count) ∙ sym all)

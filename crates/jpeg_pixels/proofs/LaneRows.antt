@@ -1,5 +1,4 @@
 -- Rows of lanes, by their numbers.
-use Rattle.std.proofs.Common.{rules}
 use Rattle.std.proofs.Common.{◌≡◌, ℕ, ◌<◌, List, map, length, get_or, ℤ, pos, ◌+ℤ◌, ◌*ℤ◌, refl, sym}
 use Rattle.std.proofs.Common.{ap, ◌∙◌, replicate, FitsSigned, of_z, to_z, cond, eqb, true, false, Bool, lit<}
 use Rattle.std.specs.Int.{w32, int_shr, int_wrap}
@@ -16,7 +15,7 @@ use Rattle.jpeg_pixels.proofs.LaneSums.{AreLanes, lane-lanes, lanes_same, lanes_
 use Rattle.jpeg_pixels.proofs.LaneSums.{lanes_read_fitting, lanes_given, lane_wrapped}
 use Rattle.jpeg_pixels.proofs.LaneChoice.{settled_is}
 use Rattle.std.proofs.lemmas.Grind.{common_steps}
-use Rattle.std.proofs.Common.{arith}
+use Rattle.std.proofs.Common.{arith, rules}
 
 pub lane_at_is : (rows : Rows) (f : ℕ → ℕ → ℤ) → HasNumbers rows f → (k j : ℕ) → k < 8 → j < 8
     → lane_at rows k j ≡ f k j
@@ -42,9 +41,8 @@ module _ (coefficients : List ℤ) (quantization : List ℕ) (rows : Rows) (flat
       ap (λ (t : Bool). cond t (lane flat j) (int_shr (lane sums j) 10)) (zero_where j h)
       ∙ by_flat j h (is_flat_column coefficients j) refl)
     where
-      by_flat : (j : ℕ) → j < 8 → (t : Bool) → is_flat_column coefficients j ≡ t
-          → cond t (lane flat j) (int_shr (lane sums j) 10)
-          ≡ column_value coefficients quantization row j
+      by_flat : (j : ℕ) → j < 8 → (t : Bool) → is_flat_column coefficients j ≡ t → cond t (lane flat j)
+          (int_shr (lane sums j) 10) ≡ column_value coefficients quantization row j
       by_flat j h true e =
           lane-lanes flat (λ i. int_wrap w32 (pos 4 *ℤ dequantized coefficients quantization 0 i))
           flat_is j h

@@ -1,4 +1,3 @@
-pub mod AtScales
 pub mod BlockRows
 pub mod LaneChoice
 pub mod LaneRows
@@ -27,10 +26,8 @@ pub mod JoinedLines
 pub mod LinesOfColour
 pub mod Pieces
 pub mod PlaneRows
-pub mod Rows
 pub mod RowsOfBlocks
 pub mod SourceLists
-pub mod SquareFrames
 pub mod Strips
 pub mod UpsampledEnds
 pub mod UpsampledRows

@@ -43,8 +43,7 @@ module _ (width : ℕ) (lines : List (List ℕ)) (out : List ℕ) (long : AreLon
   first n x = ap (λ m. get_or out m 0) (omega arith)
 
   -- a sample of a pixel, by its place in the lines, and what it lacks to 255
-  sample : (k x i : ℕ) → k < length lines → i ≡ k * width + x → x < width
-      → in_lines i ≡ get_or (samples lines x) k 0
+  sample : (k x i : ℕ) → k < length lines → i ≡ k * width + x → x < width → in_lines i ≡ get_or (samples lines x) k 0
   sample k x i h e lt = ap in_lines e ∙ sym (sample-at width lines k x long h lt)
 
   inverse : (k x i : ℕ) → k < length lines → i ≡ k * width + x → x < width

@@ -102,8 +102,7 @@ plane-more s table wide high block_at =
     let all_length = length_plane_of s table wide (high + 1) block_at in
     let one : area s wide 1 ≡ s * wide * s = ap (λ n. s * wide * n) (let e : s * 1 ≡ s = omega arith in e) in
     let more = area-more s wide high in
-    let lengths : length all ≡ length (above ++ row) = all_length ∙ (more ∙ ap (λ n. area s wide high + n) (sym one))
-    ∙ sym (length-append above row ∙ (λ i. above_length i + row_length i)) in
+    let lengths : length all ≡ length (above ++ row) = search (rules, length-append) in
     ext_get_or 0 all (above ++ row) lengths
     (λ i h.
     let lt : i < area s wide (high + 1) = omega (arith, all_length) in

@@ -25,8 +25,7 @@ in-blocks s size factor most some =
     let low : size ≤ (8 * most) * b = ceiling-low size (8 * most) (omega arith) in
     let wide : size * factor * s ≤ ((8 * most) * b) * factor * s = mul-le-mul_right s (mul-le-mul_right factor low) in
     let e : ((8 * most) * b) * factor * s ≡ (most * 8) * ((b * factor) * s)
-    = ap (λ n. n * s) (mul_assoc (8 * most) b factor) ∙ (mul_assoc (8 * most) (b * factor) s
-    ∙ ap (λ n. n * ((b * factor) * s)) (mul_comm 8 most)) in
+    = search (rules, mul_assoc, mul_comm) in
     ceiling-le (size * factor * s) (most * 8) ((b * factor) * s) (omega arith) (omega (arith, wide, e))
 
 pub room-of : (columns lines stride most : ℕ) → 0 < lines → columns ≤ stride → lines ≤ most

@@ -2,7 +2,7 @@
 use Rattle.std.proofs.Common.{◌≡◌, ℕ, ◌+◌, ◌-◌, ◌*◌, ◌%◌, ◌/◌, ◌^◌, ◌<◌, ◌≤◌, List, map, length, get_or, ℤ, pos}
 use Rattle.std.proofs.Common.{negsuc, ◌+ℤ◌, ◌-ℤ◌, ◌*ℤ◌, ◌≤ℤ◌, ◌<ℤ◌, refl, ◌∙◌, replicate, FitsSigned}
 use Rattle.std.proofs.Common.{of_z, to_z, arith}
-use Rattle.std.proofs.Common.{Bool, true, false, not, cond, unsigned_abs, nat_eq, min, max, subst}
+use Rattle.std.proofs.Common.{Bool, true, false, not, cond, unsigned_abs, nat_eq, min, max, subst, rules}
 use Rattle.std.proofs.lemmas.Simd.{zip2_of_maps, splat_is_map, map-map, tops_compared}
 use Rattle.std.proofs.lemmas.List.FromFn.{length-range_with_len}
 use Rattle.std.proofs.lemmas.Int.{ints, to_z-of_z, int_wrap_fits, wrapping_add_is, by_lt_z}
@@ -20,7 +20,6 @@ use Rattle.jpeg_pixels.proofs.LaneChoice.{sel_of_maps}
 use Rattle.jpeg_pixels.proofs.LaneRows.{own_lanes, kept_lanes}
 use Rattle.jpeg_pixels.proofs.LaneSums.{loaded, kept_shorts, lane-lanes}
 use Rattle.std.proofs.lemmas.Grind.{common_steps}
-use Rattle.std.proofs.Common.{rules}
 use Rattle.std.proofs.lemmas.Bool.Decides.{nat_tests}
 
 -- in each of eight lanes stand the bits of a number of this width
@@ -122,8 +121,7 @@ held_same z f = grind (arith, common_steps, choice, cond)
 
 -- where the less of two numbers isn't negative, neither is
 pub both_above : (x y : ℤ) → pos 0 ≤ℤ cond (lt_z x y) x y → (pos 0 ≤ℤ x) × (pos 0 ≤ℤ y)
-both_above x y = choice (λ m. pos 0 ≤ℤ m → (pos 0 ≤ℤ x) × (pos 0 ≤ℤ y)) x y x y
-    (λ l h. (h, omega (arith, ints))) (λ l h. (omega (arith, ints), h))
+both_above x y = search (rules, choice, ints)
 
 -- a number whose distances from the limit and from its negative aren't negative
 pub within_limit : (limit z : ℤ) → IsLimit limit → FitsSigned w16 z
@@ -159,8 +157,7 @@ pub narrowed_row : (row result : List ℤ) (f : ℕ → ℤ) → length row ≡ 
     → (((j : ℕ) → j < 8 → FitsSigned w16 (lane (map (to_z w32) (map (of_z w32) row)) j))
     → result ≡ map (to_z w32) (map (of_z w32) row))
     → map (to_z w16) (map (of_z w16) result) ≡ lanes f
-narrowed_row row result f long eight wide narrow fits is told =
-    grind (arith, common_steps, kept_lanes, kept_shorts, lane-lanes)
+narrowed_row row result f long eight wide narrow fits is told = search (rules, kept_lanes, kept_shorts, lane-lanes)
 
 -- eight rows of eight make 64
 pub row_by_row : (P : ℕ → Type 0) → ((row j : ℕ) → row < 8 → j < 8 → P (row * 8 + j)) → (k : ℕ) → k < 64 → P k

@@ -77,8 +77,7 @@ small_product z q h = grind (arith, common_steps)
 pub small_input : (coefficients : List ℤ) (quantization : List ℕ) → IsWithin coefficients quantization
     → (row column : ℕ) → row < 8 → column < 8 → unsigned_abs (dequantized coefficients quantization row column) ≤ 1095
 unfolding dequantized
-small_input coefficients quantization within row column h h' =
-    small_product _ _ (within.are (row * 8 + column) (omega arith))
+small_input coefficients quantization within row column h h' = search (rules, small_product)
 
 abbrev sizes_below : (ℕ → ℕ) → ℕ → ℕ
 sizes_below e zero = 0
@@ -95,8 +94,7 @@ sum_size f e (suc n) h =
 -- the magnitudes of a row of the matrix add up to at most 30610
 row_size : (row : ℕ) → row < 8 → sizes_below (λ k. unsigned_abs (basis row k) * 1095) 8 ≤ 33517950
 unfolding basis
-row_size = eight_cases (λ row. sizes_below (λ k. unsigned_abs (basis row k) * 1095) 8 ≤ 33517950)
-    (lit≤ tt) (lit≤ tt) (lit≤ tt) (lit≤ tt) (lit≤ tt) (lit≤ tt) (lit≤ tt) (lit≤ tt)
+row_size = search (rules, eight_cases, unsigned_abs, lit≤)
 
 small_sum : (s : ℕ → ℤ) → ((k : ℕ) → k < 8 → unsigned_abs (s k) ≤ 1095) → (row : ℕ) → row < 8
     → unsigned_abs (transformed s row) ≤ 33517950

@@ -1,20 +1,19 @@
 -- The components of a frame, one after the other.
 use Rattle.std.proofs.Common.{◌≡◌, ℕ, zero, suc, ◌<◌, ◌≤◌, List, [], ◌∷◌, ◌++◌, length, get_or, max, sym, ap, ◌∙◌, refl}
-use Rattle.std.proofs.Common.{arith, append_assoc, Result, Ok, Err, rules}
+use Rattle.std.proofs.Common.{arith, append_assoc, Result, Ok, Err, rules, ◌+◌, map, drop, subst, add-one, drop-cons}
 use Rattle.std.proofs.lemmas.List.{append-nil}
 use Rattle.jpeg_bits.specs.Reading.{Fault, Names, ◌>>=◌}
 use Rattle.jpeg_bits.specs.declared.error.Error.{Error}
 use Rattle.jpeg_segments.specs.Frame.{Component, Factors, greatest, HasSampling, AllHaveSampling}
+use Rattle.jpeg_segments.specs.FrameView.{component_in}
+use Rattle.jpeg_segments.specs.declared.parser.Component.{Component as Seen}
+use Rattle.jpeg_segments.proofs.FrameLemmas.{greatest-some}
+use Rattle.jpeg_segments.proofs.ScaleLemmas.{none}
 use Rattle.jpeg_pixels.specs.Pictures.{Source, source_of, sources_by}
 use Rattle.std.proofs.lemmas.Grind.{common_steps}
 
--- the greatest factor is at least 1
-greatest-some : (f : Factors → ℕ) (cs : List Factors) → 1 ≤ greatest f cs
-greatest-some f [] = omega arith
-greatest-some f (c ∷ more) = let h = greatest-some f more in omega arith
-
-pub greatest-start : (f : Factors → ℕ) (cs : List Factors) → max 1 (greatest f cs) ≡ greatest f cs
-greatest-start f cs = let h = greatest-some f cs in omega arith
+pub greatest_start : (f : Factors → ℕ) (cs : List Factors) → max 1 (greatest f cs) ≡ greatest f cs
+greatest_start f cs = let h = greatest-some f cs in omega arith
 
 pub factors-at : (cs : List Component) (k : ℕ) (c : Component) → AllHaveSampling cs → k < length cs
     → HasSampling (get_or cs k c)
@@ -46,8 +45,18 @@ pub sources-more : (most_h most_v width height : ℕ) (before : List Source) (c 
     → Continues before (sources_by most_h most_v width height (c ∷ more)) all
     → Continues (before ++ (s ∷ [])) (sources_by most_h most_v width height more) all
 unfolding after sources_by
-sources-more most_h most_v width height before c more s all is so_far =
-    grind (arith, common_steps, after, append_assoc)
+sources-more most_h most_v width height before c more s all is so_far = search (rules, after, append_assoc)
+
+-- the component at a place, in front of those after it
+pub next-component : (most_h most_v width height : ℕ) (seen : List Seen) (k : ℕ) (before : List Source)
+    (all : Result (List Source) Fault) → k < length seen
+    → Continues before (sources_by most_h most_v width height (map component_in (drop k seen))) all
+    → Continues before (sources_by most_h most_v width height (component_in (get_or seen k none)
+    ∷ map component_in (drop (k + 1) seen))) all
+next-component most_h most_v width height seen k before all lt so_far =
+    let next : drop k seen ≡ get_or seen k none ∷ drop (k + 1) seen = rw add-one (drop-cons seen k none lt) in
+    subst (λ (l : List Seen). Continues before (sources_by most_h most_v width height (map component_in l)) all) next
+    so_far
 
 pub sources-end : (most_h most_v width height : ℕ) (before : List Source) (all : Result (List Source) Fault)
     → Continues before (sources_by most_h most_v width height []) all → all ≡ Ok before

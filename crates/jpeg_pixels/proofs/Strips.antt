@@ -69,13 +69,14 @@ block_in_row s table blocks column block is x y hx hy =
     search (rules, line_lt, mod-eq_of_lt, mul-add-div, mul-add-mod_self_left, slice_index_or)
 
 -- all columns
-pub HoldsSamples-all : (s : ℕ) (table : List ℕ) (blocks : List (List ℤ)) (strip : List ℕ) → length strip
-    ≡ s * s * length blocks
-    → HoldsSamples s (s * length blocks) (s * length blocks)
+pub HoldsSamples-all : (s : ℕ) (table : List ℕ) (blocks : List (List ℤ)) (strip : List ℕ)
+    (column : ℕ) → column ≡ length blocks → length strip ≡ s * s * length blocks
+    → HoldsSamples s (s * length blocks) (s * column)
     (plane_sample s table (λ row place. slice_index_or blocks place zero_coefficients)) strip
     → strip ≡ strip_of s table blocks
 unfolding plane_of
-HoldsSamples-all s table blocks strip n holds =
+HoldsSamples-all s table blocks strip column whole n before =
+    let holds = rw whole at before in
     let stride = s * length blocks in
     let one : s * 1 ≡ s = omega arith in
     fill_by_all (λ i. plane_sample s table (λ row place. slice_index_or blocks place zero_coefficients) (i % stride)

@@ -49,9 +49,8 @@ last_down plane width height x some = search (rules, far_last, near_last)
 
 -- a sample of H2V2 by the four places that it is blended from
 at_places : (plane : ℕ → ℕ → ℕ) (width height x row near far upper lower : ℕ) → x / 2 ≡ near → far_place width x ≡ far
-    → row / 2 ≡ upper → far_place height row ≡ lower →
-    upsampled H2V2 plane width height x row ≡ (3 * (3 * plane near upper + plane near lower)
-    + (3 * plane far upper + plane far lower) + 8) / 16
+    → row / 2 ≡ upper → far_place height row ≡ lower → upsampled H2V2 plane width height x row
+    ≡ (3 * (3 * plane near upper + plane near lower) + (3 * plane far upper + plane far lower) + 8) / 16
 unfolding upsampled
 at_places plane width height x row near far upper lower a b c d = cc
 
@@ -95,8 +94,7 @@ unfolding upsampled
 alone H1V1 plane x row hx hr = let a : x ≡ 0 = omega arith in let b : row ≡ 0 = omega arith in λ i. plane (a i) (b i)
 alone H2V1 plane x row hx hr = grind (arith, common_steps, far_alone, alike)
 alone H1V2 plane x row hx hr = grind (arith, common_steps, far_alone, alike)
-alone H2V2 plane x row hx hr = at_places plane 1 1 x row 0 0 0 0 (omega arith) (far_alone x hx) (omega arith)
-    (far_alone row hr) ∙ alike_twice (plane 0 0)
+alone H2V2 plane x row hx hr = search (rules, at_places, far_alone, alike_twice)
 alone (Generic h v) plane x row hx hr =
     let a : x / h ≡ 0 = ap (λ n. n / h) (let e : x ≡ 0 * h + x = omega arith in e) ∙ div-mul-add 0 h x hx in
     let b : row / v ≡ 0 = ap (λ n. n / v) (let e : row ≡ 0 * v + row = omega arith in e) ∙ div-mul-add 0 v row hr in

@@ -87,8 +87,7 @@ pub repeated_within : (rule : UpsampleRule) (h v output used width height stride
 repeated_within rule h v output used width height stride row room e some_across some_down is wide high inside =
     let some_h : 0 < h = subst (λ n. 0 < n) (ap across e) some_across in
     let some_v : 0 < v = subst (λ n. 0 < n) (ap down e) some_down in
-    let short : used ≤ width = used_within output h used width some_h is (subst (λ n. output ≤ n * width) (ap across e)
-    wide) in
+    let short : used ≤ width = grind (arith, common_steps, used_within) in
     let rows : row < v * height = subst (λ n. row < n * height) (ap down e) high in
     let turned : row < height * v = rw (mul_comm height v) rows in
     let line : row / v < height = (div-lt_iff_lt-mul {k = v} {x = row} {y = height} some_v).1 turned in

@@ -351,6 +351,7 @@ pub(crate) fn copy_lines(samples: &[u8; 64], output_linestride: usize, output: &
 
 /// Dequantizes a block of 8x8 coefficients and transforms it to 8x8 samples, as
 /// `idct::dequantize_and_idct_block_8x8` does: eight columns side by side, and then eight rows.
+#[tactic(auto, unfolding(crate::specs::Samples::sample))]
 pub fn dequantize_and_idct_block_8x8(
     coefficients: &[i16; 64],
     quantization_table: &[u16; 64],

@@ -24,6 +24,7 @@ fn scaled_down(sum: i32) -> u8
     clamp_to_byte(sum >> 20)
 }
 
+#[tactic(auto, unfolding(crate::specs::Colour::red_of))]
 fn red(y: u8, cr: u8) -> u8
     ensures { result ≡ red_of y cr }
 {
@@ -41,6 +42,7 @@ fn green(y: u8, cb: u8, cr: u8) -> u8
     scaled_down(y - 360857 * cb - 748830 * cr)
 }
 
+#[tactic(auto, unfolding(crate::specs::Colour::blue_of))]
 fn blue(y: u8, cb: u8) -> u8
     ensures { result ≡ blue_of y cb }
 {

@@ -45,6 +45,7 @@ pub fn flat_blocks_are_flat()
 
 /// A row needs no case of its own: where all but its first value are 0, its samples are those of
 /// that value alone.
+#[tactic(auto, using(crate::proofs::ZeroCases::zero_row))]
 pub fn zero_rows_need_no_case()
     ensures { (coefficients : List ℤ) (quantization : List ℕ) (x y : ℕ) → x < 8 →
         ((k : ℕ) → 0 < k → k < 8 → column_value coefficients quantization y k ≡ pos 0) →
@@ -56,6 +57,7 @@ pub fn zero_rows_need_no_case()
 /// The case of a column that has nothing below its first row gives what the transform gives, where
 /// the product of that row is at least -2^19 and less than 2^19. (It does not beyond that, as the
 /// block of one large product in `known_blocks` shows.)
+#[tactic(auto, using(crate::proofs::ZeroCases::zero_column))]
 pub fn zero_columns_change_nothing()
     ensures { (coefficients : List ℤ) (quantization : List ℕ) (row column : ℕ) → row < 8 →
         is_flat_column coefficients column ≡ true →
@@ -68,6 +70,7 @@ pub fn zero_columns_change_nothing()
 
 /// The table of indices in zigzag order and the table of indices in the block are inverse to one
 /// another (T.81, A.3.6).
+#[tactic(auto, unfolding(jpeg_bits::specs::Zigzag::zigzag_places))]
 pub fn zigzag_places_are_inverse()
     ensures forth { map (λ place. slice_index zigzag place) zigzag_places ≡ range_with_len 0 64 }
     ensures back { map (λ place. slice_index zigzag_places place) zigzag ≡ range_with_len 0 64 }
@@ -145,6 +148,7 @@ pub fn known_blocks()
 {}
 
 /// Brightness without colour is grey: its red, green and blue are the brightness.
+#[tactic(auto, using(crate::proofs::Greys::grey))]
 pub fn grey_stays_grey()
     ensures { (y : ℕ) → y < 256 → colour_of YCbCr (y ∷ 128 ∷ 128 ∷ []) ≡ y ∷ y ∷ y ∷ [] }
 {}
@@ -192,6 +196,7 @@ pub fn ends_are_kept()
 {}
 
 /// Rows of each rule, computed.
+#[tactic(auto, unfolding(crate::specs::Upsampling::upsampled))]
 pub fn known_rows()
     ensures twice_across { map (λ x. upsampled H2V1 (λ i j. slice_index (10 ∷ 20 ∷ 30 ∷ []) i) 3 1 x
         0) (range_with_len 0 6) ≡

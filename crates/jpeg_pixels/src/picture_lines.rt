@@ -22,6 +22,7 @@ pub(crate) struct Line<'a> {
 }
 
 // Writes line `row` of a component, as wide as the picture.
+#[tactic(auto, using(crate::proofs::ComponentLines::line_by_samples))]
 fn upsample_line(source: ComponentSource, plane: &[u8], row: usize, width: usize, line: &mut [u8])
     requires cover { Covers (source_in source) plane.now width (row + 1) }
     requires room { length line.old ≡ width }

@@ -141,6 +141,7 @@ fn short_products(coefficients: [i16; 64], values: [i16; 64], at: usize) -> i16x
 
 // The dequantized coefficients of a block that is within its limits.
 #[inline(always)]
+#[tactic(auto, using(crate::proofs::LaneSums::kept_halves), unfolding(crate::specs::Samples::dequantized))]
 fn short_inputs(coefficients: [i16; 64], table: &ShortTable) -> Shorts
     ensures { (quantization : List ℕ) → IsShortTable table.now quantization
         → IsWithin coefficients quantization

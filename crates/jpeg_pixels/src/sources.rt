@@ -77,6 +77,7 @@ fn component_source(
 }
 
 // The greatest horizontal factor of the components.
+#[tactic(auto, using(crate::proofs::SourceLists::greatest_start))]
 fn greatest_horizontal(components: &[Component]) -> u8
     ensures { result ≡ greatest (λ f. f.horizontal)
         (all_factors (map component_in components.now)) }
@@ -89,6 +90,7 @@ fn greatest_horizontal(components: &[Component]) -> u8
 }
 
 // The greatest vertical factor of the components.
+#[tactic(auto, using(crate::proofs::SourceLists::greatest_start))]
 fn greatest_vertical(components: &[Component]) -> u8
     ensures { result ≡ greatest (λ f. f.vertical) (all_factors (map component_in components.now)) }
 {

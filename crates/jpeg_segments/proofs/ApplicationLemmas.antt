@@ -1,4 +1,5 @@
 -- A payload that says nothing is passed over.
+use Rattle.std.proofs.lemmas.Bool.Decides.{nat_tests}
 use Rattle.std.proofs.Common.{◌≡◌, ◌≢◌, ℕ, zero, suc, ◌<◌, List, [], ◌∷◌, refl, ap, ◌∙◌, Option, None}
 use Rattle.std.proofs.Common.{Ok, Err, arith}
 use Rattle.jpeg_bits.specs.Reading.{Outcome, ◌>>=◌, times, skip_at, next_byte}
@@ -16,8 +17,7 @@ by_payload number x = Ok (application_by number x.0, x.1)
 
 after : (b : ℕ) (said : Option Application) (o : Outcome (List ℕ))
     → ((o >>= with_byte b) >>= saying said) ≡ (o >>= saying said)
-after b said (Ok x) = refl
-after b said (Err e) = refl
+after b said o = grind (arith, common_steps, nat_tests)
 
 pub read-skipped : (n : ℕ) (said : Option Application) (bytes : List ℕ) → (times n next_byte bytes >>= saying said)
     ≡ passed_over n said bytes
@@ -30,12 +30,10 @@ says-none : (number : ℕ) (payload : List ℕ) → 2 < number → number ≢ 13
 unfolding application_by
 says-none number payload h g = grind (arith, common_steps)
 
-each : (number : ℕ) (o : Outcome (List ℕ)) → 2 < number → number ≢ 13
-    → (o >>= by_payload number) ≡ (o >>= saying None)
-each number (Ok x) h g = ap (λ (a : Option Application). saying a x) (says-none number x.0 h g)
-each number (Err e) h g = refl
+each : (number : ℕ) (o : Outcome (List ℕ)) → 2 < number → number ≢ 13 → (o >>= by_payload number) ≡ (o >>= saying None)
+each number o h1 h2 = grind (arith, common_steps, nat_tests, says-none)
 
-pub payload-passed : (number left : ℕ) (bytes : List ℕ) → 2 < number → number ≢ 13
+pub payload_passed : (number left : ℕ) (bytes : List ℕ) → 2 < number → number ≢ 13
     → payload_at number left bytes ≡ passed_over left None bytes
 unfolding payload_at
-payload-passed number left bytes h g = each number (times left next_byte bytes) h g ∙ read-skipped left None bytes
+payload_passed number left bytes h g = each number (times left next_byte bytes) h g ∙ read-skipped left None bytes

@@ -1,7 +1,8 @@
 -- What is written, and what reads it: the two directions at once.
+use Rattle.std.proofs.lemmas.Bool.Decides.{nat_tests}
 use Rattle.std.proofs.Common.{◌≡◌, ℕ, zero, suc, ◌<◌, ◌≤◌, ◌+◌, ◌-◌, Bool, true}
 use Rattle.std.proofs.Common.{false, cond, List, [], ◌∷◌, ◌++◌, length, Result, Ok, Err, refl, sym}
-use Rattle.std.proofs.Common.{ap, ◌∙◌, subst, append_assoc, append-nil, arith, ltb}
+use Rattle.std.proofs.Common.{ap, ◌∙◌, subst, append_assoc, append-nil, arith, ltb, rules}
 use Rattle.std.proofs.lemmas.Bool.{ltb-false, le-ltb}
 use Rattle.std.specs.Prelude.{flat_map}
 use Rattle.std.specs.List.{AllByRecursion}
@@ -22,18 +23,15 @@ ok-same x r e = cc
 -- what a step gave, and the rest
 pub bind-ok : {A B : Type 0} (o : Result A Fault) (f : A → Result B Fault) (y : B) → (o >>= f) ≡ Ok y
     → (x : A) × (o ≡ Ok x) × (f x ≡ Ok y)
-bind-ok (Ok x) f y e = (x, refl, e)
-bind-ok (Err x) f y e = absurd (err-ok x y e)
+bind-ok o f y h1 = grind (arith, common_steps, nat_tests, err-ok)
 
 pub kept-if : {C : Type 0} (b : Bool) (x : Result C Fault) (f : Fault) (r : C)
     → cond b x (Err f) ≡ Ok r → (b ≡ true) × (x ≡ Ok r)
-kept-if true x f r e = (refl, e)
-kept-if false x f r e = absurd (err-ok f r e)
+kept-if b x f r h1 = grind (arith, common_steps, nat_tests, err-ok)
 
 pub kept-unless : {C : Type 0} (b : Bool) (x : Result C Fault) (f : Fault) (r : C)
     → cond b (Err f) x ≡ Ok r → (b ≡ false) × (x ≡ Ok r)
-kept-unless false x f r e = (refl, e)
-kept-unless true x f r e = absurd (err-ok f r e)
+kept-unless b x f r h1 = grind (arith, common_steps, nat_tests, err-ok)
 
 -- ---- codecs
 
@@ -120,8 +118,7 @@ pub choose : {A C : Type 0} {p q : List ℕ → Outcome C} {view : A → C} {pri
     {Valid : A → Type 0} (b : Bool) → (b ≡ true → Codec p view print Valid)
     → (b ≡ false → Codec q view print Valid)
     → Codec (λ (bytes : List ℕ). cond b (p bytes) (q bytes)) view print Valid
-choose true c d = c refl
-choose false c d = d refl
+choose b h1 h2 = grind (arith, common_steps, nat_tests)
 
 abbrev pub outcome : {C : Type 0} → C → List ℕ → Outcome C
 outcome y bytes = Ok (y, bytes)
@@ -147,8 +144,7 @@ pub record As {A A' C : Type 0} (view : A → C) (print : A → List ℕ) (view'
 pub namely : {A A' C : Type 0} {view : A → C} {print : A → List ℕ} {view' : A' → C}
     {print' : A' → List ℕ} {Valid' : A' → Type 0} {x : A} (value : A') → Valid' value
     → view x ≡ view' value → print x ≡ print' value → As view print view' print' Valid' x
-namely value valid made printed =
-    record { value = value; valid = valid; made = made; printed = printed }
+namely value valid made printed = search (rules, value, valid, made, printed)
 
 -- the same for other parameters
 pub remap : {A A' C : Type 0} {p : List ℕ → Outcome C} {view : A → C} {print : A → List ℕ}
@@ -209,8 +205,7 @@ pub u16 : Codec next_u16 (λ (n : ℕ). n) u16_bytes (λ (n : ℕ). Unit {0})
 unfolding next_u16
 u16 = grind (arith, common_steps, u16-read, err-ok, same, ok-same)
 
-pub length-field : Codec length_at (λ (n : ℕ). n) (λ (n : ℕ). u16_bytes (n + 2))
-    (λ (n : ℕ). Unit {0})
+pub length-field : Codec length_at (λ (n : ℕ). n) (λ (n : ℕ). u16_bytes (n + 2)) (λ (n : ℕ). Unit {0})
 unfolding length_at
 length-field = remap (ends _ u16 (λ (n : ℕ). check-unless (ltb n 2) Malformed (done (n - 2))))
     (λ n is.
@@ -239,8 +234,7 @@ pub nil : {T C : Type 0} (print : T → List ℕ) (y : C) (view : List T → C) 
     → Codec (outcome y) view (flat_map print) Valid
 nil {T} print y view Valid e none more = remap (done y) (λ x is. namely [] none e refl) go
   where
-    go : (xs : List T) → Valid xs
-        → As view (flat_map print) (λ (u : Unit {0}). y) (λ (u : Unit {0}). [])
+    go : (xs : List T) → Valid xs → As view (flat_map print) (λ (u : Unit {0}). y) (λ (u : Unit {0}). [])
         (λ (u : Unit {0}). Unit {0}) xs
     go [] is = namely tt tt (sym e) refl
     go (x ∷ xs) is = absurd (more x xs is)
@@ -256,8 +250,7 @@ cons {T} {said = said} {Both = Both} print view Valid c equal to none from =
     remap c (λ x is. namely (x.0 ∷ x.1) (to x.0 x.1 is) (equal x.0 x.1) refl) go
   where
     go : (xs : List T) → Valid xs
-        → As view (flat_map print) said (λ (x : T × List T). print x.0 ++ flat_map print x.1) Both
-        xs
+        → As view (flat_map print) said (λ (x : T × List T). print x.0 ++ flat_map print x.1) Both xs
     go [] is = absurd (none is)
     go (x ∷ xs) is = namely (x, xs) (from x xs is) (sym (equal x xs)) refl
 

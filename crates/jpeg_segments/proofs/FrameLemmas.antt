@@ -1,10 +1,11 @@
 -- Steps of the parser of frame headers.
+use Rattle.std.proofs.lemmas.Bool.Decides.{nat_tests}
 use Rattle.std.proofs.Common.{◌≡◌, ℕ, zero, suc, ◌+◌, ◌-◌, ◌<◌, ◌≤◌, Bool, List, [], ◌∷◌, ◌++◌, map, max, take, length}
-use Rattle.std.proofs.Common.{refl, ap, Ok, arith, All, get_or}
+use Rattle.std.proofs.Common.{refl, ap, Ok, arith, All, get_or, rules}
 use Rattle.std.specs.List.{list_any}
 use Rattle.std.specs.Prelude.{◌||◌}
 use Rattle.std.proofs.lemmas.List.Elements.{All-head, All-tail, All-cons, All-nil}
-use Rattle.std.proofs.lemmas.List.{take_more, map-append}
+use Rattle.std.proofs.lemmas.List.{take_all, take_more, map-append}
 use Rattle.jpeg_bits.specs.Reading.{◌>>=◌}
 use Rattle.jpeg_segments.specs.Frame.{Factors, HasSampling, AllHaveSampling, IsInRange, component_of, components_from}
 use Rattle.jpeg_segments.specs.Frame.{factors_at, greatest}
@@ -14,22 +15,14 @@ pub components_from-more : (lossless : Bool) (n : ℕ) (front : List Factors) (b
     → components_from lossless n front bytes ≡ (factors_at lossless front bytes
     >>= λ (c : Factors × List ℕ). components_from lossless (n - 1) (front ++ c.0 ∷ []) c.1)
 unfolding components_from
-components_from-more lossless zero front bytes h = absurd (omega arith)
-components_from-more lossless (suc n) front bytes h = let e : suc n - 1 ≡ n = omega arith in rw e refl
-
-pub components_from-none : (lossless : Bool) (front : List Factors) (bytes : List ℕ)
-    → components_from lossless 0 front bytes ≡ Ok (front, bytes)
-unfolding components_from
-components_from-none lossless front bytes = refl
+components_from-more lossless n front bytes h1 = grind (arith, common_steps, nat_tests)
 
 -- ---- the greatest factor
 
 pub greatest-append : (f : Factors → ℕ) (xs : List Factors) (x : Factors)
     → greatest f (xs ++ x ∷ []) ≡ max (greatest f xs) (f x)
 greatest-append f [] x = omega arith
-greatest-append f (y ∷ ys) x =
-    let h : greatest f (ys ++ x ∷ []) ≡ max (greatest f ys) (f x) = greatest-append f ys x in
-    rw h (omega arith)
+greatest-append f (y ∷ ys) x = search (rules, greatest-append f ys x)
 
 pub greatest-some : (f : Factors → ℕ) (xs : List Factors) → 1 ≤ greatest f xs
 greatest-some f [] = omega arith
@@ -56,6 +49,11 @@ greatest-covers of f m (y ∷ ys) h =
     let p : f (of y) ≤ m = omega arith in
     All-cons (λ c. f (of c) ≤ m) y ys p (greatest-covers of f m ys g)
 
+-- the same after a loop over all components
+pub greatest-after : {A : Type 0} (of : A → Factors) (f : Factors → ℕ) (m i : ℕ) (xs : List A)
+    → m ≡ greatest f (map of (take i xs)) → length xs ≤ i → All (λ c. f (of c) ≤ m) xs
+greatest-after of f m i xs is all = greatest-covers of f m xs (omega (arith, rw (take_all i xs all) at is))
+
 -- ---- the components
 
 in-range : (width height h v : ℕ) (c : Factors) → IsInRange c → HasSampling (component_of width height h v c)
@@ -73,7 +71,7 @@ all-in-range width height h v (x ∷ xs) p = (
 
 -- ---- lists
 
-pub list_any-map : {A B : Type 0} (f : A → B) (test : B → Bool) (xs : List A)
+pub list_any_map : {A B : Type 0} (f : A → B) (test : B → Bool) (xs : List A)
     → list_any test (map f xs) ≡ list_any (λ x. test (f x)) xs
-list_any-map f test [] = refl
-list_any-map f test (x ∷ xs) = ap (λ b. test (f x) || b) (list_any-map f test xs)
+list_any_map f test [] = refl
+list_any_map f test (x ∷ xs) = ap (λ b. test (f x) || b) (list_any_map f test xs)

@@ -1,6 +1,7 @@
 -- A scan header that is written keeps the rules of scans.
+use Rattle.std.proofs.lemmas.List.{length-map}
 use Rattle.std.proofs.Common.{◌≡◌, ℕ, suc, ◌<◌, ◌+◌, ◌-◌, ◌/◌, ◌%◌, true, List, [], ◌∷◌, map, length}
-use Rattle.std.proofs.Common.{All, refl, sym, ap, ◌∙◌, subst, arith}
+use Rattle.std.proofs.Common.{All, refl, sym, ap, ◌∙◌, subst, arith, rules}
 use Rattle.std.proofs.lemmas.Bool.{ltb-true}
 use Rattle.std.proofs.lemmas.Bool.Decides.{nat_tests}
 use Rattle.std.proofs.lemmas.List.Elements.{All-nil}
@@ -27,39 +28,15 @@ all-select : (frame : Frame) (least : ℕ) (cs : List Choice) → AreChoices fra
     → All (IsSelectorOf frame) (map (selector_of frame) cs)
 unfolding AreChoices
 all-select frame least [] all = All-nil (IsSelectorOf frame)
-all-select frame least (c ∷ cs) all =
-    grind (arith, common_steps, choice-selects, all-select frame (c.component + 1) cs all.1)
+all-select frame least (c ∷ cs) all = search (rules, choice-selects, all-select frame (c.component + 1) cs all.1)
 
 all-rise : (frame : Frame) (least : ℕ) (cs : List Choice) → AreChoices frame least cs
     → IsRising least (map (λ s. s.component) (map (selector_of frame) cs))
 unfolding AreChoices IsRising
 all-rise frame least [] all = tt
-all-rise frame least (c ∷ cs) all = let is : IsChoice frame least c =
-    all.0 in (is.ordered, all-rise frame (c.component + 1) cs all.1)
-
-length-selected : (frame : Frame) (cs : List Choice) → length (map (selector_of frame) cs) ≡ length cs
-length-selected frame [] = refl
-length-selected frame (c ∷ cs) = ap suc (length-selected frame cs)
+all-rise frame least (c ∷ cs) all = search (rules, all-rise frame (c.component + 1) cs all.1)
 
 pub header-rules : (frame : Frame) (h : ScanHeader) → IsScan frame h → IsScanOf frame (scan_written frame h)
 unfolding scan_of
 header-rules frame h is =
-    let count = length-selected frame h.choices in
-    let some = is.some in
-    let most = is.most in
-    let high : nibbles h.high h.low / 16 ≡ h.high = nibbles-high h.high h.low is.narrow in
-    let low : nibbles h.high h.low % 16 ≡ h.low = nibbles-low h.high h.low is.narrow in
-    let coded = subst (λ (x : ℕ). IsCoded frame.process h.first (after_of frame.process h.last)
-    (nibbles h.high h.low / 16) x) (sym low)
-    (subst (λ (x : ℕ). IsCoded frame.process h.first (after_of frame.process h.last) x h.low) (sym high)
-    (coded-by frame.process (length h.choices) h.first h.last h.high h.low is.band)) in
-    let band = ap (λ (x : ℕ). is_band frame.process x h.first (after_of frame.process h.last - 1)
-    (nibbles h.high h.low / 16) (nibbles h.high h.low % 16)) count
-    ∙ ap (λ (x : ℕ). is_band frame.process (length h.choices) h.first (after_of frame.process h.last - 1) x
-    (nibbles h.high h.low % 16)) high
-    ∙ ap (λ (x : ℕ). is_band frame.process (length h.choices) h.first (after_of frame.process h.last - 1) h.high x) low
-    ∙ legal-again frame.process (length h.choices) h.first h.last h.high h.low is.band in
-    is-scan frame (map (selector_of frame) h.choices) (scan_written frame h) (omega arith) (omega arith)
-    (all-select frame 0 h.choices is.choices)
-    (all-rise frame 0 h.choices is.choices) is.fits refl refl refl coded band
-    (subst (λ (x : ℕ). x < frame.precision) (sym low) (ltb-true h.low frame.precision is.precise)) refl
+    search (rules, length-map, nibbles-high, nibbles-low, coded-by, legal-again, is-scan, all-select, all-rise, ltb-true)

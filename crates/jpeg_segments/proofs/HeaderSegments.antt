@@ -1,7 +1,9 @@
 -- Frame headers and scan headers: exactly what is written is read.
+use Rattle.std.proofs.lemmas.Bool.Decides.{nat_tests}
+use Rattle.std.proofs.lemmas.List.{length-map}
 use Rattle.std.proofs.Common.{◌≡◌, ℕ, zero, suc, ◌≤◌, ◌<◌, ◌+◌, ◌*◌, ◌/◌, ◌%◌, Bool, true, false, cond}
 use Rattle.std.proofs.Common.{List, [], ◌∷◌, ◌++◌, map, length, length-append, append-nil, append_assoc}
-use Rattle.std.proofs.Common.{Option, Some, None, Ok, Err, refl, sym, ap, ap₂, ◌∙◌, arith, eqb, ltb}
+use Rattle.std.proofs.Common.{Option, Some, None, Ok, Err, refl, sym, ap, ap₂, ◌∙◌, arith, eqb, ltb, rules}
 use Rattle.std.proofs.lemmas.Bool.{le-ltb, le-leb, eq-eqb, ne_eqb, eqb-true, eqb-false, ltb-false, leb-true}
 use Rattle.std.proofs.lemmas.Bool.{not-true, and_parts}
 use Rattle.std.specs.Prelude.{flat_map}
@@ -39,51 +41,30 @@ factors identifier horizontal vertical quantization = record {
   quantization = quantization;
 }
 
-component : (number : ℕ) (front : List Factors)
-    → Codec (factors_at (is_lossless_number number) front) (λ (c : Factors). c) factors_bytes
-    (IsComponent number front)
+component : (number : ℕ) (front : List Factors) → Codec (factors_at (is_lossless_number number) front)
+    (λ (c : Factors). c) factors_bytes (IsComponent number front)
 unfolding factors_at parameters_at
 component number front = remap (bind _ byte (λ (i : ℕ). check-unless (is_taken front i) Malformed
     (bind _ byte (λ (n : ℕ). check-if (is_factor (n / 16)) Malformed
     (check-if (is_factor (n % 16)) Malformed
     (ends _ byte (λ (p : ℕ). check-if (is_place (is_lossless_number number) p) Malformed
     (done (factors i (n / 16) (n % 16) p)))))))))
-    (λ x is.
-    let n : ℕ = x.1.0 in
-    let h = factor-only (n / 16) is.1.1.1.0 in
-    let v = factor-only (n % 16) is.1.1.1.1.0 in
-    let code : n ≡ nibbles (n / 16) (n % 16) = omega arith in
-    let ranged : IsInRange (factors x.0 (n / 16) (n % 16) x.1.1) = record {
-      horizontal_some = h.0;
-      horizontal_most = h.1;
-      vertical_some = v.0;
-      vertical_most = v.1;
-    } in
-    namely (factors x.0 (n / 16) (n % 16) x.1.1)
-    (record { is_new = is.1.0; ranged = ranged; placed = is.1.1.1.1.1.1.0 }) refl
-    (ap (λ (k : ℕ). x.0 ∷ k ∷ x.1.1 ∷ []) code))
+    (λ x is. namely (factors x.0 (x.1.0 / 16) (x.1.0 % 16) x.1.1) (search (rules, factor-only)) refl
+    (ap (λ (k : ℕ). x.0 ∷ k ∷ x.1.1 ∷ []) (omega arith)))
     (λ c is.
-    let r = is.ranged in
-    let h4 = r.horizontal_most in
-    let v4 = r.vertical_most in
-    let n : ℕ = nibbles c.horizontal c.vertical in
-    let high : n / 16 ≡ c.horizontal = nibbles-high c.horizontal c.vertical (omega arith) in
-    let low : n % 16 ≡ c.vertical = nibbles-low c.horizontal c.vertical (omega arith) in
-    let f = ap is_factor high ∙ factor-kept c.horizontal r.horizontal_some h4 in
-    let g = ap is_factor low ∙ factor-kept c.vertical r.vertical_some v4 in
-    namely (c.identifier, (n, c.quantization)) (tt, (is.is_new, (tt, (f, (g, (tt, (is.placed, tt)))))))
-    (ap₂ (λ (h v : ℕ). factors c.identifier h v c.quantization) (sym high) (sym low)) refl)
+    let high : nibbles c.horizontal c.vertical / 16 ≡ c.horizontal = search (rules, nibbles-high) in
+    let low : nibbles c.horizontal c.vertical % 16 ≡ c.vertical = search (rules, nibbles-low) in
+    namely (c.identifier, (nibbles c.horizontal c.vertical, c.quantization))
+    (rw (high, low) (search (rules, factor-kept))) (rw (high, low)) refl)
 
 -- n components after those in `front`
 abbrev Follow : ℕ → ℕ → List Factors → List Factors → Type 0
 Follow number n front cs = (length cs ≡ n) × AreComponents number front cs
 
-components : (number n : ℕ) (front : List Factors)
-    → Codec (components_from (is_lossless_number number) n front) (λ (cs : List Factors). front ++ cs)
-    (flat_map factors_bytes) (Follow number n front)
+components : (number n : ℕ) (front : List Factors) → Codec (components_from (is_lossless_number number) n front)
+    (λ (cs : List Factors). front ++ cs) (flat_map factors_bytes) (Follow number n front)
 unfolding components_from AreComponents
-components number zero front =
-    nil factors_bytes front _ _ (sym (append-nil front)) (refl, tt) (λ c cs is. omega (arith, is.0))
+components number zero front = grind (arith, common_steps, nil, append-nil)
 components number (suc n) front = cons factors_bytes _ _
     (bind _ (component number front) (λ (c : Factors). components number n (front ++ c ∷ [])))
     (λ c cs. append_assoc front (c ∷ []) cs) (λ c cs is. (ap suc is.1.0, (is.0, is.1.1)))
@@ -107,12 +88,10 @@ size = remap (bind _ u16 (λ (height : ℕ). ends _ u16 (λ (width : ℕ).
 
 factors-length : (cs : List Factors) → length (flat_map factors_bytes cs) ≡ 3 * length cs
 factors-length [] = omega arith
-factors-length (c ∷ cs) =
-    omega (arith, factors-length cs, length-append (factors_bytes c) (flat_map factors_bytes cs))
+factors-length (c ∷ cs) = search (rules, length-append, factors-length cs)
 
 count-some : (number n : ℕ) → is_count number n ≡ true → 1 ≤ n
-count-some number zero h = absurd (let n : ⊥ = cc in n)
-count-some number (suc n) h = omega arith
+count-some number n h1 = grind (arith, common_steps, nat_tests)
 
 abbrev head_of : ℕ → ℕ → ℕ → ℕ → ℕ → Head
 head_of left precision width height count =
@@ -134,19 +113,10 @@ head number = remap (bind _ length-field (λ (left : ℕ). check-unless (ltb lef
     (bind _ size (λ (s : ℕ × ℕ). ends _ byte (λ (count : ℕ).
     check-if (is_count number count) Malformed (check-if (eqb left (6 + 3 * count)) Malformed
     (done (head_of left precision s.0 s.1 count))))))))))
-    (λ x is.
-    let left : ℕ = x.0 in
-    let count : ℕ = x.1.1.1 in
-    let r = is.1.1.1.1 in
-    let length_is = eqb-true left (6 + 3 * count) r.1.1.1.0 in
-    namely (head_of left x.1.0 x.1.1.0.0 x.1.1.0.1 count) (is.1.1.1.0, (r.0, (r.1.1.0, length_is)))
-    refl refl)
+    (λ x is. namely (head_of x.0 x.1.0 x.1.1.0.0 x.1.1.0.1 x.1.1.1) (search (rules, eqb-true)) refl refl)
     (λ h is.
     let some : 1 ≤ h.count = count-some number h.count is.1.1.0 in
-    let enough = le-ltb h.length 7 (omega (arith, some, is.1.1.1)) in
-    let same = eq-eqb h.length (6 + 3 * h.count) is.1.1.1 in
-    namely (h.length, (h.precision, ((h.width, h.height), h.count)))
-    (tt, (enough, (tt, (is.0, (is.1.0, (tt, (is.1.1.0, (same, tt)))))))) refl refl)
+    namely (h.length, (h.precision, ((h.width, h.height), h.count))) (search (rules, le-ltb, eq-eqb)) refl refl)
 
 payload-length : (precision n : ℕ) (s : ℕ × ℕ) (cs : List Factors) → length cs ≡ n
     → length (fields precision s n ++ flat_map factors_bytes cs) ≡ 6 + 3 * n
@@ -168,14 +138,7 @@ sof number few = remap (bind (λ (h : Head) (bytes : List ℕ).
     let long = payload-length h.precision h.count (h.width, h.height) cs n in
     namely
     (record { precision = h.precision; width = h.width; height = h.height; components = cs })
-    (record {
-      numbered = few;
-      precise = is.0.0;
-      wide = is.0.1.0.0;
-      high = is.0.1.0.1;
-      counted = ap (is_count number) n ∙ is.0.1.1.0;
-      components = is.1.0.1;
-    }) refl
+    (grind (arith, common_steps)) refl
     (ap (λ (m : ℕ). u16_bytes (m + 2)
     ++ (fields h.precision (h.width, h.height) h.count ++ flat_map factors_bytes cs))
     (is.0.1.1.1 ∙ sym long)
@@ -197,8 +160,7 @@ sof-read number h rest is = (sof number is.numbered).reads h rest is
 -- ---- scan headers
 
 abbrev selector : Frame → ℕ → ℕ → ℕ → Selector
-selector frame place dc ac =
-    record { component = place; dc = dc; ac = ac; blocks = blocks_by frame.components place }
+selector frame place dc ac = record { component = place; dc = dc; ac = ac; blocks = blocks_by frame.components place }
 
 -- the rules of a component, whose identifier names the place `o`
 abbrev IsNamed : Frame → ℕ → ℕ → Option ℕ → Choice → Type 0
@@ -208,8 +170,7 @@ IsNamed frame least identifier o c =
     × (c.ac ≤ greatest_place (Some frame.is_baseline)))))
 
 greatest-small : (b : Bool) → greatest_place (Some b) ≤ 3
-greatest-small true = omega arith
-greatest-small false = omega arith
+greatest-small b = grind (arith, common_steps, nat_tests)
 
 none-some : (n : ℕ) → ◌≡◌ {A = Option ℕ} None (Some n) → ⊥
 none-some n e = cc
@@ -217,9 +178,8 @@ none-some n e = cc
 some-same : (a b : ℕ) → ◌≡◌ {A = Option ℕ} (Some a) (Some b) → a ≡ b
 some-same a b e = cc
 
-destinations : (frame : Frame) (least identifier : ℕ) (o : Option ℕ)
-    → Codec (tables_by frame least o) (selector_of frame) (λ (c : Choice). nibbles c.dc c.ac ∷ [])
-    (IsNamed frame least identifier o)
+destinations : (frame : Frame) (least identifier : ℕ) (o : Option ℕ) → Codec (tables_by frame least o)
+    (selector_of frame) (λ (c : Choice). nibbles c.dc c.ac ∷ []) (IsNamed frame least identifier o)
 unfolding tables_at
 destinations frame least identifier None = refused Malformed (λ c is. none-some c.component is.1.0)
 destinations frame least identifier (Some place) =
@@ -227,50 +187,22 @@ destinations frame least identifier (Some place) =
     check-unless (ltb (greatest_place (Some frame.is_baseline)) (n / 16)) Malformed
     (check-unless (ltb (greatest_place (Some frame.is_baseline)) (n % 16)) Malformed
     (done (selector frame place (n / 16) (n % 16)))))))
-    (λ n is.
-    let code : n ≡ nibbles (n / 16) (n % 16) = omega arith in
-    let most : ℕ = greatest_place (Some frame.is_baseline) in
-    namely (record { identifier = identifier; component = place; dc = n / 16; ac = n % 16 }) (
-      refl,
-      (
-        refl,
-        (
-          ltb-false place least is.0,
-          (ltb-false most (n / 16) is.1.1.0, ltb-false most (n % 16) is.1.1.1.0),
-        ),
-      ),
-    ) refl
-    (ap (λ (k : ℕ). k ∷ []) code))
+    (λ n is. namely (record { identifier = identifier; component = place; dc = n / 16; ac = n % 16 })
+    (search (rules, ltb-false)) refl (ap (λ (k : ℕ). k ∷ []) (omega arith)))
     (λ c is.
-    let most : ℕ = greatest_place (Some frame.is_baseline) in
-    let small : most ≤ 3 = greatest-small frame.is_baseline in
+    let small = greatest-small frame.is_baseline in
     let at : place ≡ c.component = some-same place c.component is.1.0 in
-    let n : ℕ = nibbles c.dc c.ac in
-    let d : c.dc ≤ most = is.1.1.1.0 in
-    let a : c.ac ≤ most = is.1.1.1.1 in
-    let high : n / 16 ≡ c.dc = nibbles-high c.dc c.ac (omega arith) in
-    let low : n % 16 ≡ c.ac = nibbles-low c.dc c.ac (omega arith) in
-    let after = ap (λ (p : ℕ). ltb p least) at ∙ le-ltb c.component least is.1.1.0 in
-    let dc = ap (ltb most) high ∙ le-ltb most c.dc d in
-    let ac = ap (ltb most) low ∙ le-ltb most c.ac a in
-    namely n (after, (tt, (dc, (ac, tt))))
-    (ap₂ (λ (d a : ℕ). selector frame c.component d a) (sym high) (sym low)
-    ∙ ap (λ (p : ℕ). selector frame p (n / 16) (n % 16)) (sym at)) refl)
+    let high : nibbles c.dc c.ac / 16 ≡ c.dc = search (rules, nibbles-high) in
+    let low : nibbles c.dc c.ac % 16 ≡ c.ac = search (rules, nibbles-low) in
+    namely (nibbles c.dc c.ac) (rw (at, high, low) (search (rules, le-ltb))) (rw (at, high, low)) refl)
 
 choice : (frame : Frame) (least : ℕ)
     → Codec (selector_at frame least) (selector_of frame) choice_bytes (IsChoice frame least)
 unfolding selector_at
 choice frame least = remap (bind _ byte (λ (i : ℕ).
     destinations frame least i (place_of frame.components i)))
-    (λ x is.
-    let c : Choice = x.1 in
-    namely c
-    (record {
-      identified = ap (place_of frame.components) is.1.0 ∙ is.1.1.0;
-      ordered = is.1.1.1.0;
-      dc_placed = is.1.1.1.1.0;
-      ac_placed = is.1.1.1.1.1;
-    }) refl (ap (λ (i : ℕ). i ∷ nibbles c.dc c.ac ∷ []) (sym is.1.0)))
+    (λ x is. namely x.1 (grind (arith, common_steps)) refl
+    (ap (λ (i : ℕ). i ∷ nibbles x.1.dc x.1.ac ∷ []) (sym is.1.0)))
     (λ c is. namely (c.identifier, c)
     (tt, (refl, (is.identified, (is.ordered, (is.dc_placed, is.ac_placed))))) refl refl)
 
@@ -278,13 +210,10 @@ choice frame least = remap (bind _ byte (λ (i : ℕ).
 abbrev Choose : Frame → ℕ → ℕ → List Choice → Type 0
 Choose frame n least cs = (length cs ≡ n) × AreChoices frame least cs
 
-choices : (frame : Frame) (n : ℕ) (front : List Selector) (least : ℕ)
-    → Codec (selectors_from frame n front least)
-    (λ (cs : List Choice). front ++ map (selector_of frame) cs) (flat_map choice_bytes)
-    (Choose frame n least)
+choices : (frame : Frame) (n : ℕ) (front : List Selector) (least : ℕ) → Codec (selectors_from frame n front least)
+    (λ (cs : List Choice). front ++ map (selector_of frame) cs) (flat_map choice_bytes) (Choose frame n least)
 unfolding selectors_from AreChoices
-choices frame zero front least =
-    nil choice_bytes front _ _ (sym (append-nil front)) (refl, tt) (λ c cs is. omega (arith, is.0))
+choices frame zero front least = grind (arith, common_steps, nil, append-nil)
 choices frame (suc n) front least = cons choice_bytes _ _ (bind (λ (s : Selector).
     selectors_from frame n (front ++ s ∷ []) (s.component + 1)) (choice frame least) (λ (c : Choice).
     choices frame n (front ++ selector_of frame c ∷ []) (c.component + 1)))
@@ -293,8 +222,7 @@ choices frame (suc n) front least = cons choice_bytes _ _ (bind (λ (s : Selecto
     (λ c cs is. (is.1.0, (omega (arith, is.0), is.1.1)))
 
 -- the length and the number of components
-count : Codec count_at (λ (n : ℕ). n) (λ (n : ℕ). u16_bytes (4 + 2 * n + 2) ++ (n ∷ []))
-    (λ (n : ℕ). (1 ≤ n) × (n ≤ 4))
+count : Codec count_at (λ (n : ℕ). n) (λ (n : ℕ). u16_bytes (4 + 2 * n + 2) ++ (n ∷ [])) (λ (n : ℕ). (1 ≤ n) × (n ≤ 4))
 unfolding count_at
 count = remap (bind _ length-field (λ (left : ℕ). check-unless (eqb left 0) Malformed
     (ends _ byte (λ (n : ℕ). check-unless (eqb n 0) Malformed (check-unless (ltb 4 n) Malformed
@@ -311,23 +239,15 @@ count = remap (bind _ length-field (λ (left : ℕ). check-unless (eqb left 0) M
 
 choices-length : (cs : List Choice) → length (flat_map choice_bytes cs) ≡ 2 * length cs
 choices-length [] = omega arith
-choices-length (c ∷ cs) =
-    omega (arith, choices-length cs, length-append (choice_bytes c) (flat_map choice_bytes cs))
-
-length-selectors : (frame : Frame) (cs : List Choice)
-    → length (map (selector_of frame) cs) ≡ length cs
-length-selectors frame [] = refl
-length-selectors frame (c ∷ cs) = ap suc (length-selectors frame cs)
+choices-length (c ∷ cs) = search (rules, length-append, choices-length cs)
 
 -- the coefficients and the levels
 abbrev levels_bytes : ScanHeader → List ℕ
 levels_bytes h = h.first ∷ h.last ∷ nibbles h.high h.low ∷ []
 
-scan-length : (h : ScanHeader)
-    → length (length h.choices ∷ (flat_map choice_bytes h.choices ++ levels_bytes h))
+scan-length : (h : ScanHeader) → length (length h.choices ∷ (flat_map choice_bytes h.choices ++ levels_bytes h))
     ≡ 4 + 2 * length h.choices
-scan-length h =
-    omega (arith, choices-length h.choices, length-append (flat_map choice_bytes h.choices) (levels_bytes h))
+scan-length h = search (rules, choices-length, length-append)
 
 pub sos : (frame : Frame)
     → Codec (sos_at frame) (scan_written frame) (λ (h : ScanHeader). sized (scan_payload h))
@@ -350,18 +270,7 @@ sos frame = remap (bind _ count (λ (n : ℕ). bind (λ (ss : List Selector) (by
     let h : ScanHeader =
     record { choices = cs; first = first; last = last; high = l / 16; low = l % 16 } in
     let n : length cs ≡ x.0 = is.1.0.0 in
-    let r = is.1.1.1.1.1.1 in
-    namely h
-    (record {
-      some = omega (arith, n, is.0.0);
-      most = omega (arith, n, is.0.1);
-      choices = is.1.0.1;
-      fits = is.1.1.0;
-      narrow = omega arith;
-      precise = r.0;
-      band = ap (λ (k : ℕ). is_band frame.process k first last (l / 16) (l % 16))
-          (sym (length-selectors frame cs)) ∙ r.1.0;
-    })
+    namely h (grind (arith, common_steps, length-map))
     (ap (scan_of frame (map (selector_of frame) cs) first last) code)
     (ap₂ (λ (k m : ℕ). (u16_bytes (4 + 2 * k + 2) ++ (k ∷ []))
     ++ (flat_map choice_bytes cs ++ (first ∷ last ∷ m ∷ []))) (sym n) code
@@ -369,16 +278,16 @@ sos frame = remap (bind _ count (λ (n : ℕ). bind (λ (ss : List Selector) (by
     (sym (scan-length h))))
     (λ h is.
     let cs : List Choice = h.choices in
-    let l : ℕ = nibbles h.high h.low in
-    let high : l / 16 ≡ h.high = nibbles-high h.high h.low is.narrow in
-    let low : l % 16 ≡ h.low = nibbles-low h.high h.low is.narrow in
-    let precise = ap (λ (k : ℕ). ltb k frame.precision) low ∙ is.precise in
-    let selectors : ℕ = length (map (selector_of frame) cs) in
-    let band = ap₂ (λ (a b : ℕ). is_band frame.process selectors h.first h.last a b) high low
-    ∙ ap (λ (k : ℕ). is_band frame.process k h.first h.last h.high h.low) (length-selectors frame cs)
-    ∙ is.band in
-    namely (length cs, (cs, (h.first, (h.last, l))))
-    ((is.some, is.most), ((refl, is.choices), (is.fits, (tt, (tt, (tt, (precise, (band, tt)))))))) refl
+    let high : nibbles h.high h.low / 16 ≡ h.high = nibbles-high h.high h.low is.narrow in
+    let low : nibbles h.high h.low % 16 ≡ h.low = nibbles-low h.high h.low is.narrow in
+    let band = ap (λ (k : ℕ). is_band frame.process k h.first h.last h.high h.low)
+    (length-map cs (selector_of frame)) ∙ is.band in
+    namely (length cs, (cs, (h.first, (h.last, nibbles h.high h.low))))
+    (rw (high, low) (
+      (is.some, is.most),
+      ((refl, is.choices), (is.fits, (tt, (tt, (tt, (is.precise, (band, tt))))))),
+    ))
+    refl
     (ap (λ (k : ℕ). u16_bytes (k + 2) ++ (length cs ∷ (flat_map choice_bytes cs ++ levels_bytes h)))
     (scan-length h)))
 

@@ -1,7 +1,7 @@
 -- Restart intervals and application data: exactly what is written is read.
 use Rattle.std.proofs.Common.{◌≡◌, ℕ, ◌≤◌, ◌<◌, ◌+◌, ◌-◌, Bool, true, false, cond, List, ◌++◌, length, take}
 use Rattle.std.proofs.Common.{drop, get_or, length-take, length-drop, length-append, take-append-drop}
-use Rattle.std.proofs.Common.{Option, Some, None, Ok, refl, sym, ap, ap₂, ◌∙◌, arith, eqb, ltb}
+use Rattle.std.proofs.Common.{Option, Some, None, Ok, refl, sym, ap, ap₂, ◌∙◌, arith, eqb, ltb, rules}
 use Rattle.std.proofs.lemmas.Bool.{lt-ltb, le-ltb, eqb-true, eqb-false, ltb-true, ltb-false, false≢true}
 use Rattle.std.proofs.lemmas.List.{take-append-le, take_all, get_or_append_left}
 use Rattle.std.specs.Prelude.{is_some, option_map}
@@ -29,9 +29,8 @@ dri-read n rest = dri.reads n rest tt
 -- ---- application data
 
 -- bytes that are passed over
-passed : (left : ℕ) (said : Option Application)
-    → Codec (passed_over left said) (λ (xs : List ℕ). said) (λ (xs : List ℕ). xs)
-    (λ (xs : List ℕ). length xs ≡ left)
+passed : (left : ℕ) (said : Option Application) → Codec (passed_over left said) (λ (xs : List ℕ). said)
+    (λ (xs : List ℕ). xs) (λ (xs : List ℕ). length xs ≡ left)
 passed left said = remap (same (passed_over left said) (λ bytes. sym (read-skipped left said bytes))
     (ends _ (many left) (λ (xs : List ℕ). done said)))
     (λ xs is. namely xs is.0 refl refl)
@@ -58,12 +57,9 @@ abbrev said_14 : List ℕ → Option Application
 said_14 payload = head_says (is_adobe payload) payload
 
 -- the first twelve bytes, and the others
-halves : (left : ℕ)
-    → Codec (adobe_at left)
-    (λ (x : List ℕ × List ℕ). head_says (begins_with x.0 adobe_name) x.0)
+halves : (left : ℕ) → Codec (adobe_at left) (λ (x : List ℕ × List ℕ). head_says (begins_with x.0 adobe_name) x.0)
     (λ (x : List ℕ × List ℕ). x.0 ++ x.1)
-    (λ (x : List ℕ × List ℕ). (length x.0 ≡ 12)
-    × (names (begins_with x.0 adobe_name) x.0 × (length x.1 ≡ left - 12)))
+    (λ (x : List ℕ × List ℕ). (length x.0 ≡ 12) × (names (begins_with x.0 adobe_name) x.0 × (length x.1 ≡ left - 12)))
 unfolding adobe_at
 halves left = bind _ (many 12) (λ (head : List ℕ). choose (begins_with head adobe_name)
     (λ t. remap (transformed (left - 12) (transform_by (get_or head 11 0)))
@@ -80,15 +76,13 @@ record Begun (head tail : List ℕ) : Type 0 where
   twelfth : get_or (head ++ tail) 11 0 ≡ get_or head 11 0
 
 begun : (head tail : List ℕ) → length head ≡ 12 → Begun head tail
-begun head tail h =
-    grind (arith, common_steps, le-ltb, length-append, take-append-le, take_all, get_or_append_left)
+begun head tail h = search (rules, le-ltb, length-append, take-append-le, take_all, get_or_append_left)
 
 -- a payload of this many bytes, of which Adobe's names a transform
 abbrev Is14 : ℕ → List ℕ → Type 0
 Is14 left payload = names (is_adobe payload) payload × (length payload ≡ left)
 
-long : (left : ℕ) → 12 ≤ left
-    → Codec (adobe_at left) said_14 (λ (payload : List ℕ). payload) (Is14 left)
+long : (left : ℕ) → 12 ≤ left → Codec (adobe_at left) said_14 (λ (payload : List ℕ). payload) (Is14 left)
 long left enough = remap (halves left)
     (λ x is.
     let b = begun x.0 x.1 is.0 in
@@ -120,8 +114,7 @@ long left enough = remap (halves left)
 short : (payload : List ℕ) → length payload < 12 → is_adobe payload ≡ false
 short payload few = grind (arith, common_steps, cond, lt-ltb)
 
-fourteen : (left : ℕ)
-    → Codec (application_14 left) said_14 (λ (payload : List ℕ). payload) (Is14 left)
+fourteen : (left : ℕ) → Codec (application_14 left) said_14 (λ (payload : List ℕ). payload) (Is14 left)
 unfolding application_14
 fourteen left = choose (ltb left 12)
     (λ t.

@@ -1,4 +1,5 @@
 -- Steps of the loop over quantization tables.
+use Rattle.std.proofs.lemmas.Grind.{common_steps}
 use Rattle.std.proofs.Common.{◌≡◌, ℕ, zero, suc, ◌-◌, ◌<◌, ◌≤◌, List, refl, Ok, Some, arith, set}
 use Rattle.std.proofs.lemmas.Bool.Decides.{nat_tests}
 use Rattle.jpeg_bits.specs.Reading.{◌>>=◌}
@@ -15,5 +16,4 @@ pub tables_from-none : (most : ℕ) (tables : Tables) (bytes : List ℕ) → tab
   bytes,
 )
 unfolding tables_from
-tables_from-none zero tables bytes = refl
-tables_from-none (suc most) tables bytes = refl
+tables_from-none most tables bytes = grind (arith, common_steps, nat_tests)

@@ -1,6 +1,7 @@
 -- Frames at scales.
+use Rattle.std.proofs.lemmas.Simd.{map-map}
 use Rattle.std.proofs.Common.{◌≡◌, ◌≤◌, ◌<◌, ℕ, zero, suc, ◌+◌, ◌*◌, List, [], ◌∷◌, map, length, get_or, set}
-use Rattle.std.proofs.Common.{true, All, refl, ap, ap₂, sym, ◌∙◌, arith}
+use Rattle.std.proofs.Common.{true, All, refl, ap, ap₂, sym, ◌∙◌, arith, rules}
 use Rattle.std.proofs.lemmas.Bool.{eqb-true}
 use Rattle.std.proofs.lemmas.List.{length-map, map-set, get_or-map}
 use Rattle.std.proofs.lemmas.List.Elements.{All-cons, All-get_or, All-nil}
@@ -22,16 +23,7 @@ factors-seen (x ∷ xs) = ap (λ l. factors_in x ∷ l) (factors-seen xs)
 pub seen-in-range : (xs : List Seen) → AllHaveSampling (map component_in xs) → All IsInRange (map factors_in xs)
 unfolding AllHaveSampling
 seen-in-range [] h = All-nil IsInRange
-seen-in-range (x ∷ xs) h =
-    let p : HasSampling (component_in x) = h.0 in
-    All-cons IsInRange (factors_in x) (map factors_in xs)
-    (record {
-      horizontal_some = p.horizontal_some;
-      horizontal_most = p.horizontal_most;
-      vertical_some = p.vertical_some;
-      vertical_most = p.vertical_most;
-    })
-    (seen-in-range xs h.1)
+seen-in-range (x ∷ xs) h = search (rules, seen-in-range xs h.1)
 
 -- ---- the first ones of a list changed
 
@@ -67,7 +59,8 @@ changed-all f (suc n) (x ∷ xs) h = ap (λ l. f x ∷ l) (changed-all f n xs (o
 
 -- ---- the same of components as code has them
 
-abbrev none : Seen
+-- what stands after all components
+abbrev pub none : Seen
 none = record {
   identifier = 0;
   horizontal_sampling_factor = 0;
@@ -94,7 +87,7 @@ pub across-at : (f : Component → Component) (m i : ℕ) (old new : List Seen)
     → All (λ c. c.horizontal_sampling_factor ≤ m) old → (get_or new i none).horizontal_sampling_factor ≤ m
 across-at f m i old new e h same all =
     let k : (get_or new i none).horizontal_sampling_factor ≡ (get_or old i none).horizontal_sampling_factor =
-    ap (λ (c : Component). c.factors.horizontal) (seen-at f i old new e h same) in
+    search (rules, seen-at) in
     rw k (All-get_or (λ c. c.horizontal_sampling_factor ≤ m) old i none h all)
 
 pub down-at : (f : Component → Component) (m i : ℕ) (old new : List Seen)
@@ -102,7 +95,7 @@ pub down-at : (f : Component → Component) (m i : ℕ) (old new : List Seen)
     → All (λ c. c.vertical_sampling_factor ≤ m) old → (get_or new i none).vertical_sampling_factor ≤ m
 down-at f m i old new e h same all =
     let k : (get_or new i none).vertical_sampling_factor ≡ (get_or old i none).vertical_sampling_factor =
-    ap (λ (c : Component). c.factors.vertical) (seen-at f i old new e h same) in
+    search (rules, seen-at) in
     rw k (All-get_or (λ c. c.vertical_sampling_factor ≤ m) old i none h all)
 
 -- one more is changed
@@ -115,10 +108,7 @@ seen-more f i old new x e h same made =
     let next : i + 1 ≡ suc i = omega arith in
     let was : component_in (get_or new i none) ≡ get_or (map component_in old) i (component_in none)
     = seen-at f i old new e h same ∙ sym (get_or-map component_in old i none (component_in none) h) in
-    map-set component_in new i x
-    ∙ (ap₂ (λ l c. set l i c) e (made ∙ ap f was)
-    ∙ (changed-more f i (map component_in old) (component_in none) within
-    ∙ ap (λ n. changed f n (map component_in old)) (sym next)))
+    search (rules, map-set, changed-more)
 
 -- ---- scales
 
@@ -131,18 +121,15 @@ scale-most s e = each-scale (λ n. n ≤ 8) s e (omega arith) (omega arith) (ome
 
 -- ---- frames at scales
 
-again : (s t width height h v : ℕ) (cs : List Component)
-    → map (component_at s width height h v) (map (component_at t width height h v) cs)
-    ≡ map (component_at s width height h v) cs
+again : (s t width height h v : ℕ) (cs : List Component) → map (component_at s width height h v)
+    (map (component_at t width height h v) cs) ≡ map (component_at s width height h v) cs
 unfolding component_at
-again s t width height h v [] = refl
-again s t width height h v (c ∷ cs) = ap (λ l. component_at s width height h v c ∷ l) (again s t width height h v cs)
+again s t width height h v cs = map-map _ _ cs
 
 factors-stay : (t width height h v : ℕ) (cs : List Component)
     → map (λ c. c.factors) (map (component_at t width height h v) cs) ≡ map (λ c. c.factors) cs
 unfolding component_at
-factors-stay t width height h v [] = refl
-factors-stay t width height h v (c ∷ cs) = ap (λ l. c.factors ∷ l) (factors-stay t width height h v cs)
+factors-stay t width height h v cs = map-map _ _ cs
 
 -- A frame at a scale depends on the full frame alone, not on the scale that it had.
 pub scaled_again : (s t : ℕ) (f : Frame) → frame_at s (frame_at t f) ≡ frame_at s f
@@ -164,15 +151,14 @@ at-scale scale w g h v f cs wide high across down made = grind (arith, common_st
 
 -- ---- full size
 
-factors-back : (width height h v : ℕ) (xs : List Factors)
+pub factors-back : (width height h v : ℕ) (xs : List Factors)
     → map (λ c. c.factors) (map (component_of width height h v) xs) ≡ xs
 unfolding component_of
 factors-back width height h v [] = refl
 factors-back width height h v (x ∷ xs) = ap (λ l. x ∷ l) (factors-back width height h v xs)
 
-same-components : (width height h v : ℕ) (xs : List Factors) → 0 < h → 0 < v
-    → map (component_at 8 width height h v) (map (component_of width height h v) xs)
-    ≡ map (component_of width height h v) xs
+same-components : (width height h v : ℕ) (xs : List Factors) → 0 < h → 0 < v → map (component_at 8 width height h v)
+    (map (component_of width height h v) xs) ≡ map (component_of width height h v) xs
 unfolding component_of component_at
 same-components width height h v [] hs vs = refl
 same-components width height h v (x ∷ xs) hs vs =
@@ -182,8 +168,7 @@ same-components width height h v (x ∷ xs) hs vs =
 pub full_size : (number precision width height : ℕ) (xs : List Factors)
     → frame_at 8 (frame_of number precision width height xs) ≡ frame_of number precision width height xs
 unfolding frame_of frame_at
-full_size number precision width height xs =
-    grind (arith, common_steps, factors-back, same-components, greatest-some)
+full_size number precision width height xs = search (rules, factors-back, same-components, greatest-some)
 
 pub full_frames : (f : Frame) → IsFrame f → frame_at 8 f ≡ f
 full_frames f p = ap (frame_at 8) p.made ∙ (full_size p.number p.precision p.width p.height p.factors ∙ sym p.made)
@@ -202,8 +187,7 @@ frames_are_sized f p = record {
 read-have-factors : (number precision width height : ℕ) (xs : List Factors) → All IsInRange xs
     → AllHaveSampling (frame_of number precision width height xs).components
 unfolding frame_of
-read-have-factors number precision width height xs range =
-    all-in-range width height (greatest (λ c. c.horizontal) xs) (greatest (λ c. c.vertical) xs) xs range
+read-have-factors number precision width height xs range = search (rules, all-in-range)
 
 frames-have-factors : (f : Frame) → IsFrame f → AllHaveSampling f.components
 frames-have-factors f p = grind (arith, common_steps, read-have-factors)
@@ -213,16 +197,7 @@ scaled-have-factors : (s width height h v : ℕ) (cs : List Component) → s ≤
 unfolding AllHaveSampling component_at
 scaled-have-factors s width height h v [] most p = tt
 scaled-have-factors s width height h v (c ∷ cs) most p =
-    let q : HasSampling c = p.0 in (
-      record {
-        horizontal_some = q.horizontal_some;
-        horizontal_most = q.horizontal_most;
-        vertical_some = q.vertical_some;
-        vertical_most = q.vertical_most;
-        scale_most = most;
-      },
-      scaled-have-factors s width height h v cs most p.1,
-    )
+    search (rules, scaled-have-factors s width height h v cs most p.1)
 
 at-scale-have-factors : (s : ℕ) (f : Frame) → s ≤ 8 → AllHaveSampling f.components
     → AllHaveSampling (frame_at s f).components
@@ -230,8 +205,7 @@ unfolding frame_at
 at-scale-have-factors s f most p = grind (arith, common_steps, scaled-have-factors)
 
 pub sized_frames_have_factors : (f : Frame) → IsSizedFrame f → AllHaveSampling f.components
-sized_frames_have_factors f p =
-    grind (arith, common_steps, at-scale-have-factors, scale-most, frames-have-factors)
+sized_frames_have_factors f p = search (rules, at-scale-have-factors, scale-most, frames-have-factors)
 
 -- ---- the scale that is asked for
 

@@ -1,7 +1,7 @@
 -- Steps of the parser of scan headers.
 use Rattle.std.proofs.Common.{All, sym, true, ◌∙◌, ◌≡◌, ◌≤◌, ℕ, zero, suc, ◌+◌, ◌-◌, ◌*◌, ◌<◌, Bool, not, cond}
 use Rattle.std.proofs.Common.{List, [], ◌∷◌, ◌++◌, map, length, refl, ap, ap₂, subst, Ok, arith, get_or, nat_le, sum_by}
-use Rattle.std.proofs.Common.{append-nil, append_assoc}
+use Rattle.std.proofs.Common.{append-nil, append_assoc, rules}
 use Rattle.std.specs.List.{position, position_or_len}
 use Rattle.std.proofs.lemmas.List.{length-map}
 use Rattle.std.proofs.lemmas.List.Elements.{All-head, All-map, All-tail, All-weaker}
@@ -23,13 +23,7 @@ pub selectors_from-more : (frame : frames.Frame) (n : ℕ) (front : List Selecto
     ≡ (selector_at frame least bytes >>= λ (s : Selector × List ℕ). selectors_from frame (n - 1) (front
     ++ s.0 ∷ []) (s.0.component + 1) s.1)
 unfolding selectors_from
-selectors_from-more frame zero front least bytes h = absurd (omega arith)
-selectors_from-more frame (suc n) front least bytes h = let e : suc n - 1 ≡ n = omega arith in rw e refl
-
-pub selectors_from-none : (frame : frames.Frame) (front : List Selector) (least : ℕ) (bytes : List ℕ)
-    → selectors_from frame 0 front least bytes ≡ Ok (front, bytes)
-unfolding selectors_from
-selectors_from-none frame front least bytes = refl
+selectors_from-more frame n front least bytes h1 = grind (arith, common_steps, nat_tests)
 
 -- the first place at which a test passes
 position_or_len-map : {A B : Type 0} (f : A → B) (test : B → Bool) (xs : List A)
@@ -67,9 +61,7 @@ same-blocks : (frame : frames.Frame) (xs : List Selector) → All (IsSelectorOf 
 same-blocks frame [] places = refl
 same-blocks frame (x ∷ xs) places =
     let one = All-head (IsSelectorOf frame) x xs places in
-    sum_by-cons (blocks_by frame.components) x.component (map (λ y. y.component) xs)
-    ∙ (ap₂ (λ a b. a + b) (sym one.blocks) (same-blocks frame xs (All-tail (IsSelectorOf frame) x xs places))
-    ∙ sym (sum_by-cons (λ y. y.blocks) x xs))
+    search (rules, sum_by-cons, same-blocks frame xs (All-tail (IsSelectorOf frame) x xs places))
 
 few : (count blocks : ℕ) → (nat_le count 1 || nat_le blocks 10) ≡ true → 2 ≤ count → blocks ≤ 10
 few count blocks e h = grind (arith, common_steps, nat_le, leb-true)
@@ -83,8 +75,7 @@ RisesTo front least = (more : List ℕ) → IsRising least more → IsRising 0 (
 pub rises-more : (front : List ℕ) (least place : ℕ) → RisesTo front least → least ≤ place
     → RisesTo (front ++ place ∷ []) (place + 1)
 unfolding IsRising
-rises-more front least place rises h more after =
-    subst (IsRising 0) (sym (append_assoc front (place ∷ []) more)) (rises (place ∷ more) (h, after))
+rises-more front least place rises h more after = search (rules, append_assoc)
 
 pub rises-all : (front : List ℕ) (least : ℕ) → RisesTo front least → IsRising 0 front
 unfolding IsRising
@@ -106,9 +97,7 @@ is-scan frame xs s some most places rising mcu components dc ac coded legal belo
           (all-of (IsSelectorOf frame) (λ n. n < length frame.components) (λ x. x.component) (λ x p. p.component) xs
           places);
       rising = rw components rising;
-      few_blocks = λ several.
-          rw (components, same-blocks frame xs places)
-          (few (length xs) (sum_by (λ x. x.blocks) xs) mcu (rw count at several));
+      few_blocks = search (rules, same-blocks, few, sum_by);
       dc_length = (ap length dc ∙ length-map xs (λ x. x.dc)) ∙ sym count;
       dc_places = rw dc (all-of (IsSelectorOf frame) (λ n. n ≤ 3) (λ x. x.dc) (λ x p. p.dc) xs places);
       ac_length = (ap length ac ∙ length-map xs (λ x. x.ac)) ∙ sym count;

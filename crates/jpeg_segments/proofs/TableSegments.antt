@@ -1,7 +1,7 @@
 -- Segments of tables: exactly what is written is read.
 use Rattle.std.proofs.Common.{◌≡◌, ℕ, zero, suc, ◌≤◌, ◌<◌, ◌+◌, ◌-◌, ◌*◌, ◌/◌, ◌%◌, Bool, true}
 use Rattle.std.proofs.Common.{false, cond, List, [], ◌∷◌, ◌++◌, length, set, length-append, Option}
-use Rattle.std.proofs.Common.{Some, Ok, Err, refl, sym, ap, ap₂, ◌∙◌, arith, eqb, ltb, fold}
+use Rattle.std.proofs.Common.{Some, Ok, Err, refl, sym, ap, ap₂, ◌∙◌, arith, eqb, ltb, fold, rules}
 use Rattle.std.proofs.lemmas.Bool.{le-ltb, ltb-false, ltb-true, ne_eqb, eq-eqb, eqb-true}
 use Rattle.std.proofs.lemmas.Bool.{eqb-false, or_parts}
 use Rattle.std.specs.Prelude.{flat_map, sum}
@@ -32,21 +32,17 @@ use Rattle.std.proofs.lemmas.Bool.Decides.{nat_tests}
 abbrev wide_bytes : Bool → ℕ → List ℕ
 wide_bytes is_wide v = cond is_wide (u16_bytes v) (v ∷ [])
 
-value : (is_wide : Bool)
-    → Codec (value_at is_wide) (λ (v : ℕ). v) (wide_bytes is_wide) (λ (v : ℕ). Unit {0})
+value : (is_wide : Bool) → Codec (value_at is_wide) (λ (v : ℕ). v) (wide_bytes is_wide) (λ (v : ℕ). Unit {0})
 unfolding value_at
 value true = u16
 value false = byte
 
-wide-is : (p : ℕ) → p ≤ 1 → (vs : List ℕ)
-    → flat_map (wide_bytes (eqb p 1)) vs ≡ flat_map (value_bytes p) vs
+wide-is : (p : ℕ) → p ≤ 1 → (vs : List ℕ) → flat_map (wide_bytes (eqb p 1)) vs ≡ flat_map (value_bytes p) vs
 wide-is p h1 vs = grind (arith, nat_tests)
 
 none-zero : (vs : List ℕ) → AllByRecursion (λ v. 0 < v) vs → list_any (λ v. eqb v 0) vs ≡ false
 none-zero [] all = refl
-none-zero (v ∷ vs) all =
-    let h : 0 < v = all.0 in
-    rw (ne_eqb v 0 (λ e. omega arith)) (none-zero vs all.1)
+none-zero (v ∷ vs) all = search (rules, ne_eqb, none-zero vs all.1)
 
 some-values : (vs : List ℕ) → list_any (λ v. eqb v 0) vs ≡ false → AllByRecursion (λ v. 0 < v) vs
 some-values [] e = tt
@@ -65,73 +61,42 @@ placed left = remap (bind _ byte (λ (b : ℕ).
     (ends _ (ends _ (several (value (eqb (b / 16) 1)) 64) (λ (vs : List ℕ).
     check-unless (list_any (λ v. eqb v 0) vs) Malformed (done vs)))
     (λ (vs : List ℕ). done (table_size (b / 16), b % 16, vs)))))))
-    (λ x is.
-    let b : ℕ = x.0 in
-    let precise : b / 16 ≤ 1 = ltb-false 1 (b / 16) is.1.0 in
-    let code : b ≡ nibbles (b / 16) (b % 16) = omega arith in
-    let is_table : IsQuantizationTable (record { precision = b / 16; place = b % 16; values = x.1 }) =
-    record {
-      precise = precise;
-      placed = ltb-false 3 (b % 16) is.1.1.0;
-      counted = is.1.1.1.1.0.0.0;
-      some = some-values x.1 is.1.1.1.1.0.1.0;
-    } in
-    namely (record { precision = b / 16; place = b % 16; values = x.1 })
-    (is_table, ltb-false left (table_size (b / 16)) is.1.1.1.0) refl
-    (ap₂ (λ (n : ℕ) (l : List ℕ). n ∷ l) code (wide-is (b / 16) precise x.1)))
+    (λ x is. namely (record { precision = x.0 / 16; place = x.0 % 16; values = x.1 })
+    (search (rules, ltb-false, some-values)) refl (search (rules, ltb-false, wide-is)))
     (λ t is.
-    let p = is.0.precise in
-    let q = is.0.placed in
-    let n : ℕ = nibbles t.precision t.place in
-    let high : n / 16 ≡ t.precision = nibbles-high t.precision t.place (omega arith) in
-    let low : n % 16 ≡ t.place = nibbles-low t.precision t.place (omega arith) in
-    let a = ap (ltb 1) high ∙ le-ltb 1 t.precision p in
-    let b = ap (ltb 3) low ∙ le-ltb 3 t.place q in
-    let room = le-ltb left (table_size t.precision) is.1 in
-    let c = ap (λ (k : ℕ). ltb left (table_size k)) high ∙ room in
-    let some = none-zero t.values is.0.some in
-    namely (n, t.values) (tt, (a, (b, (c, (((is.0.counted, units t.values), (some, tt)), tt)))))
-    (ap₂ (λ (a b : ℕ). (table_size a, b, t.values)) (sym high) (sym low))
-    (ap (λ (l : List ℕ). n ∷ l) (sym (wide-is t.precision p t.values)
-    ∙ ap (λ (k : ℕ). flat_map (wide_bytes (eqb k 1)) t.values) (sym high))))
+    let high : nibbles t.precision t.place / 16 ≡ t.precision = search (rules, nibbles-high) in
+    let low : nibbles t.precision t.place % 16 ≡ t.place = search (rules, nibbles-low) in
+    namely (nibbles t.precision t.place, t.values)
+    (rw (high, low) (search (rules, le-ltb, none-zero, units))) (rw (high, low)) (rw high (search (rules, wide-is))))
 
-values-length : (p : ℕ) → p ≤ 1 → (vs : List ℕ)
-    → length (flat_map (value_bytes p) vs) ≡ (p + 1) * length vs
+values-length : (p : ℕ) → p ≤ 1 → (vs : List ℕ) → length (flat_map (value_bytes p) vs) ≡ (p + 1) * length vs
 values-length p h [] = omega arith
-values-length zero h (v ∷ vs) =
-    let size = length-append (value_bytes 0 v) (flat_map (value_bytes 0) vs) in
-    omega (arith, values-length zero h vs, size)
-values-length (suc zero) h (v ∷ vs) =
-    let size = length-append (value_bytes 1 v) (flat_map (value_bytes 1) vs) in
-    omega (arith, values-length (suc zero) h vs, size)
+values-length zero h (v ∷ vs) = search (rules, length-append, values-length zero h vs)
+values-length (suc zero) h (v ∷ vs) = search (rules, length-append, values-length (suc zero) h vs)
 values-length (suc (suc n)) h (v ∷ vs) = absurd (omega arith)
 
-table-length : (t : QuantizationTable) → IsQuantizationTable t
-    → length (quantization_bytes t) ≡ table_size t.precision
+table-length : (t : QuantizationTable) → IsQuantizationTable t → length (quantization_bytes t) ≡ table_size t.precision
 unfolding quantization_bytes
 table-length t is = grind (arith, common_steps, values-length)
 
 abbrev with_values : quantization.Tables → QuantizationTable → quantization.Tables
 with_values tables t = set tables t.place (Some t.values)
 
-joined : (t : QuantizationTable) (ts : List QuantizationTable)
-    → length (flat_map quantization_bytes (t ∷ ts))
+joined : (t : QuantizationTable) (ts : List QuantizationTable) → length (flat_map quantization_bytes (t ∷ ts))
     ≡ length (quantization_bytes t) + length (flat_map quantization_bytes ts)
 joined t ts = length-append (quantization_bytes t) (flat_map quantization_bytes ts)
 
 -- these tables take `left` bytes
 abbrev FillTables : ℕ → List QuantizationTable → Type 0
-FillTables left ts =
-    AllByRecursion IsQuantizationTable ts × (length (flat_map quantization_bytes ts) ≡ left)
+FillTables left ts = AllByRecursion IsQuantizationTable ts × (length (flat_map quantization_bytes ts) ≡ left)
 
 no-tables : (left : ℕ) (old : quantization.Tables) → left ≡ 0
     → Codec (outcome old) (fold with_values old) (flat_map quantization_bytes) (FillTables left)
 no-tables left old z = nil _ old _ _ refl (tt, sym z)
     (λ t ts is. omega (arith, z, is.1, table-length t is.0.0, joined t ts))
 
-tables : (most left : ℕ) (old : quantization.Tables) → left ≤ most
-    → Codec (quantization.tables_from most left old) (fold with_values old)
-    (flat_map quantization_bytes) (FillTables left)
+tables : (most left : ℕ) (old : quantization.Tables) → left ≤ most → Codec (quantization.tables_from most left old)
+    (fold with_values old) (flat_map quantization_bytes) (FillTables left)
 unfolding quantization.tables_from
 tables zero left old le =
     remap (check-if (eqb left 0) Malformed (no-tables left old (omega (arith, le))))
@@ -143,16 +108,12 @@ tables (suc most) left old le = choose (eqb left 0) (λ z. no-tables left old (e
     (placed left) (λ (t : QuantizationTable).
     tables most (left - table_size t.precision) (with_values old t) (omega (arith, le))))
     (λ t ts. refl)
-    (λ t ts is. (
-      (is.0.0, is.1.0),
-      joined t ts ∙ omega (arith, table-length t is.0.0, is.0.1, is.1.1),
-    ))
+    (λ t ts is. ((is.0.0, is.1.0), joined t ts ∙ omega (arith, table-length t is.0.0, is.0.1, is.1.1)))
     (λ is. eqb-false left 0 z (sym is.1))
     (λ t ts is.
-    let size = table-length t is.0.0 in (
-      (is.0.0, omega (arith, size, joined t ts, is.1)),
-      (is.0.1, omega (arith, size, joined t ts, is.1)),
-    )))
+    let size = table-length t is.0.0 in
+    let both = joined t ts in
+    search rules))
 
 pub dqt : Codec dqt_at quantization_tables
     (λ (ts : List QuantizationTable). sized (flat_map quantization_bytes ts))
@@ -167,12 +128,10 @@ dqt-read = dqt.reads
 -- ---- Huffman tables
 
 class-read : (c : HuffmanTableClass) → class_of (class_number c) ≡ c
-class-read classes.DC = refl
-class-read classes.AC = refl
+class-read c = grind (arith, common_steps, nat_tests)
 
 class-small : (c : HuffmanTableClass) → class_number c ≤ 1
-class-small classes.DC = omega arith
-class-small classes.AC = omega arith
+class-small c = grind (arith, common_steps, nat_tests)
 
 class-number : (n : ℕ) → n ≤ 1 → class_number (class_of n) ≡ n
 class-number n h1 = grind (arith, nat_tests)
@@ -181,12 +140,10 @@ abbrev table : HuffmanTableClass → List ℕ → List ℕ → Table
 table class counts symbols = record { class = class; counts = counts; symbols = symbols }
 
 abbrev placed_table : ℕ → HuffmanTableClass → List ℕ → List ℕ → PlacedTable
-placed_table place class counts symbols =
-    record { place = place; table = table class counts symbols }
+placed_table place class counts symbols = record { place = place; table = table class counts symbols }
 
-placed_codes : (most left : ℕ) → most ≤ 3
-    → Codec (placed_codes_at most left) (λ (t : PlacedTable). t) huffman_bytes
-    (λ (t : PlacedTable). IsHuffmanTable most t × (size_of t ≤ left))
+placed_codes : (most left : ℕ) → most ≤ 3 → Codec (placed_codes_at most left)
+    (λ (t : PlacedTable). t) huffman_bytes (λ (t : PlacedTable). IsHuffmanTable most t × (size_of t ≤ left))
 unfolding placed_codes_at codes_at symbols_at huffman_bytes
 placed_codes most left few = remap (bind _ byte (λ (b : ℕ).
     check-unless (ltb 1 (b / 16)) Malformed (check-unless (ltb most (b % 16)) Malformed
@@ -199,58 +156,30 @@ placed_codes most left few = remap (bind _ byte (λ (b : ℕ).
     (λ (x : List ℕ × List ℕ).
     done (placed_table (b % 16) (class_of (b / 16)) x.0 x.1))))))
     (λ x is.
-    let b : ℕ = x.0 in
-    let counts : List ℕ = x.1.0 in
-    let class : class_number (class_of (b / 16)) ≡ b / 16 =
-    class-number (b / 16) (ltb-false 1 (b / 16) is.1.0) in
-    let code : b ≡ nibbles (class_number (class_of (b / 16))) (b % 16) = omega arith in
-    let rules = is.1.1.1.0 in
-    let none = eqb-false (sum counts) 0 rules.1.0 in
-    let is_table : IsHuffmanTable most (placed_table (b % 16) (class_of (b / 16)) counts x.1.1) =
-    record {
-      placed = ltb-false most (b % 16) is.1.1.0;
-      counted = rules.0;
-      has_symbols = rules.1.1.1.1.0;
-      some = grind (arith, none);
-      at_most = ltb-false 256 (sum counts) rules.1.1.0;
-      exists = tested-exist (code_lengths counts) rules.1.1.1.1.1.0;
-    } in
-    namely (placed_table (b % 16) (class_of (b / 16)) counts x.1.1)
-    (is_table, ltb-false left (17 + sum counts) rules.1.1.1.0) refl
-    (ap (λ (k : ℕ). k ∷ (counts ++ x.1.1)) code))
+    let class : class_number (class_of (x.0 / 16)) ≡ x.0 / 16 = search (rules, class-number, ltb-false) in
+    let none = eqb-false (sum x.1.0) 0 is.1.1.1.0.1.0 in
+    namely (placed_table (x.0 % 16) (class_of (x.0 / 16)) x.1.0 x.1.1)
+    (search (rules, ltb-false, tested-exist)) refl (ap (λ (k : ℕ). k ∷ (x.1.0 ++ x.1.1)) (omega arith)))
     (λ t is.
     let class : ℕ = class_number t.table.class in
-    let counts : List ℕ = t.table.counts in
-    let n : ℕ = nibbles class t.place in
-    let q = is.0.placed in
-    let some = is.0.some in
-    let high : n / 16 ≡ class = nibbles-high class t.place (omega arith) in
-    let low : n % 16 ≡ t.place = nibbles-low class t.place (omega arith) in
-    let a = ap (ltb 1) high ∙ le-ltb 1 class (class-small t.table.class) in
-    let b = ap (ltb most) low ∙ le-ltb most t.place q in
-    let c = ne_eqb (sum counts) 0 (λ e. omega arith) in
-    let d = le-ltb 256 (sum counts) is.0.at_most in
-    let room = le-ltb left (17 + sum counts) is.1 in
-    let exist = exist-tested (code_lengths counts) is.0.exists in
-    namely (n, (counts, t.table.symbols))
-    (tt, (a, (b, ((is.0.counted, (c, (d, (room, (is.0.has_symbols, (exist, tt)))))), tt))))
-    (ap₂ (λ (c : HuffmanTableClass) (p : ℕ). placed_table p c counts t.table.symbols)
-    (sym (ap class_of high ∙ class-read t.table.class)) (sym low)) refl)
+    let small = class-small t.table.class in
+    let high : nibbles class t.place / 16 ≡ class = search (rules, nibbles-high) in
+    let low : nibbles class t.place % 16 ≡ t.place = search (rules, nibbles-low) in
+    let some = ne_eqb (sum t.table.counts) 0 (λ e. omega arith) in
+    namely (nibbles class t.place, (t.table.counts, t.table.symbols))
+    (rw (high, low) (search (rules, le-ltb, exist-tested))) (rw (high, low, class-read)) refl)
 
-codes-length : (most : ℕ) (t : PlacedTable) → IsHuffmanTable most t
-    → length (huffman_bytes t) ≡ size_of t
+codes-length : (most : ℕ) (t : PlacedTable) → IsHuffmanTable most t → length (huffman_bytes t) ≡ size_of t
 unfolding huffman_bytes
 codes-length most t is = grind (arith, common_steps, length-append)
 
-codes-joined : (t : PlacedTable) (ts : List PlacedTable)
-    → length (flat_map huffman_bytes (t ∷ ts))
+codes-joined : (t : PlacedTable) (ts : List PlacedTable) → length (flat_map huffman_bytes (t ∷ ts))
     ≡ length (huffman_bytes t) + length (flat_map huffman_bytes ts)
 codes-joined t ts = length-append (huffman_bytes t) (flat_map huffman_bytes ts)
 
 -- these tables take `left` bytes
 abbrev FillCodes : ℕ → ℕ → List PlacedTable → Type 0
-FillCodes most left ts =
-    AllByRecursion (IsHuffmanTable most) ts × (length (flat_map huffman_bytes ts) ≡ left)
+FillCodes most left ts = AllByRecursion (IsHuffmanTable most) ts × (length (flat_map huffman_bytes ts) ≡ left)
 
 no-codes : (most left : ℕ) (old : Tables) → left ≤ 17
     → Codec (λ (bytes : List ℕ). cond (eqb left 0) (outcome old bytes) (Err Malformed))
@@ -268,9 +197,8 @@ no-codes most left old few = choose (eqb left 0)
     go n [] is = n (sym is.1)
     go n (t ∷ ts) is = too-long t ts is
 
-all-codes : (turns most left : ℕ) (old : Tables) → most ≤ 3 → left ≤ turns
-    → Codec (tables_from turns most left old) (fold with_table old) (flat_map huffman_bytes)
-    (FillCodes most left)
+all-codes : (turns most left : ℕ) (old : Tables) → most ≤ 3 → left ≤ turns → Codec (tables_from turns most left old)
+    (fold with_table old) (flat_map huffman_bytes) (FillCodes most left)
 unfolding tables_from
 all-codes zero most left old few le = no-codes most left old (omega (arith, le))
 all-codes (suc turns) most left old few le = choose (ltb 17 left)
@@ -279,16 +207,12 @@ all-codes (suc turns) most left old few le = choose (ltb 17 left)
     (placed_codes most left few) (λ (t : PlacedTable).
     all-codes turns most (left - size_of t) (with_table old t) few (omega (arith, le))))
     (λ t ts. refl)
-    (λ t ts is. (
-      (is.0.0, is.1.0),
-      codes-joined t ts ∙ omega (arith, codes-length most t is.0.0, is.0.1, is.1.1),
-    ))
+    (λ t ts is. ((is.0.0, is.1.0), codes-joined t ts ∙ omega (arith, codes-length most t is.0.0, is.0.1, is.1.1)))
     (λ is. let some : 17 < left = ltb-true 17 left z in omega (arith, some, is.1))
     (λ t ts is.
-    let size = codes-length most t is.0.0 in (
-      (is.0.0, omega (arith, size, codes-joined t ts, is.1)),
-      (is.0.1, omega (arith, size, codes-joined t ts, is.1)),
-    )))
+    let size = codes-length most t is.0.0 in
+    let both = codes-joined t ts in
+    search rules))
     (λ z. no-codes most left old (ltb-false 17 left z))
 
 greatest-small : (b : Option Bool) → greatest_place b ≤ 3

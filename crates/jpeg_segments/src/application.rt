@@ -186,6 +186,7 @@ fn read_application_14<R: Read + Drop>(
 
 /// Reads the payload after the marker `APP(number)`, of `left` bytes. It is kept only where it
 /// may say something.
+#[tactic(auto, using(crate::proofs::ApplicationLemmas::payload_passed))]
 fn read_payload<R: Read + Drop>(
     alloc: Global,
     source: &mut Source<R>,

@@ -237,6 +237,7 @@ fn has_identifier(front: &[Factors], identifier: u8) -> bool
 }
 
 /// Returns whether a component in `front` has this identifier.
+#[tactic(auto, using(crate::proofs::FrameLemmas::list_any_map))]
 fn is_taken(front: &[Factors], identifier: u8) -> bool
     ensures { result ≡ is_taken (map factors_of front.now) identifier }
 {

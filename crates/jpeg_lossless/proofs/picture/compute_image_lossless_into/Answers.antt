@@ -11,27 +11,21 @@ seen [] = refl
 seen (c ∷ cs) = ap (λ (l : List Factors). factors_in c ∷ l) (seen cs)
 
 -- the greatest factor, as it is found in the components that are given
-most : (f : Factors → ℕ) (n : ℕ) (seen_in cs : List Given) → n ≡ greatest f (map factors_in seen_in)
-    → seen_in ≡ cs
-    → n ≡ greatest f (map (λ c. c.factors) (map component_in cs))
-most f n seen_in cs is same =
-    is ∙ ap (λ (l : List Given). greatest f (map factors_in l)) same ∙ ap (greatest f) (seen cs)
+most : (f : Factors → ℕ) (n : ℕ) (seen_in cs : List Given) → n ≡ greatest f (map factors_in seen_in) → seen_in ≡ cs → n
+    ≡ greatest f (map (λ c. c.factors) (map component_in cs))
+most f n seen_in cs is same = search (rules, seen)
 
 pub write_sampled-requires-clause-horizontal : goal.write_sampled-requires-clause-horizontal
-write_sampled-requires-clause-horizontal c =
-    most (λ f. f.horizontal) _ _ _ c.greatest_of-horizontal.ensures.horizontal c.deref.ensures.value
+write_sampled-requires-clause-horizontal c = search (rules, most)
 
 pub is_plain-requires-clause-horizontal : goal.is_plain-requires-clause-horizontal
-is_plain-requires-clause-horizontal c =
-    most (λ f. f.horizontal) _ _ _ c.greatest_of-horizontal.ensures.horizontal c.deref.ensures.value
+is_plain-requires-clause-horizontal c = search (rules, most)
 
 pub write_sampled-requires-clause-vertical : goal.write_sampled-requires-clause-vertical
-write_sampled-requires-clause-vertical c =
-    most (λ f. f.vertical) _ _ _ c.greatest_of-horizontal.ensures.vertical c.deref.ensures.value
+write_sampled-requires-clause-vertical c = search (rules, most)
 
 pub is_plain-requires-clause-vertical : goal.is_plain-requires-clause-vertical
-is_plain-requires-clause-vertical c =
-    most (λ f. f.vertical) _ _ _ c.greatest_of-horizontal.ensures.vertical c.deref.ensures.value
+is_plain-requires-clause-vertical c = search (rules, most)
 
 pub write_plain-requires-clause-long : goal.write_plain-requires-clause-long
 write_plain-requires-clause-long c = grind (arith, common_steps, plain-long)

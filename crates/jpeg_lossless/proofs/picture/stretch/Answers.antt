@@ -1,3 +1,4 @@
+use Rattle.std.proofs.Common.{rules}
 use Rattle.std.proofs.Common.{◌+◌, ◌∙◌, arith, length, take}
 use Rattle.std.proofs.lemmas.List.{take_all, take_more_set}
 use Rattle.jpeg_lossless.proofs.StretchedLines.{IsColumn, copied_whole, next_column, same_column, stretched_step}
@@ -17,22 +18,7 @@ loop-x-preserved c =
     let a = c.args in
     let l = c.loop-x in
     record {
-      column = elim c.if-rest-from.branch as (λ _. IsColumn a.factor a.most (l.x + 1) c.if-rest-from.column
-          c.if-rest-from.rest) [
-            | then-rest-from w ↦ next_column a.factor a.most l.x l.column l.rest c.if-rest-from.column
-                c.if-rest-from.rest c.requires.most l.invariant.column w.column-is
-                (omega (
-                  arith,
-                  w.rest-is,
-                  w.if-rest-from.true,
-                  w.from-rest-then-rest-from.ensures,
-                  c.from.ensures,
-                  c.from-rest.ensures,
-                ))
-            | else-rest-from w ↦ same_column a.factor a.most l.x l.column l.rest c.if-rest-from.column
-                c.if-rest-from.rest l.invariant.column w.column-is (omega (arith, w.rest-is, c.from-rest.ensures))
-                (omega (arith, w.rest-is, w.if-rest-from.false, c.from.ensures))
-          ];
+      column = search (rules, then-rest-from, next_column, else-rest-from, same_column);
       line = stretched_step a.own.now (take l.x l.line) _ a.factor a.most l.x l.column l.rest l.invariant.column
           l.invariant.line (take_more_set l.line l.x _ (omega (arith, l.auto.line, c.loop-x-test.true)));
     }

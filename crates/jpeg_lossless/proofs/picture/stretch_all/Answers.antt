@@ -22,10 +22,9 @@ within-components : (cs : List Component) (planes : List (Vec ℕ Global)) (i : 
 within-components cs planes i w h = search (rules, length-map, planes-count)
 
 component-at : (frame : Frame) (cs : List Component) (planes : List (Vec ℕ Global)) (i : ℕ) (r : Component)
-    (p : Vec ℕ Global) → ArePlanesOf (map component_in cs) (map (λ v. v.items) planes)
-    → AllByRecursion (Reaches frame) (map component_in cs) → AllHaveSampling (map component_in cs)
-    → i < length planes → r ≡ slice_index_or cs i r → p ≡ slice_index_or planes i p
-    → IsPixelOf frame (component_in r) p.items
+    (p : Vec ℕ Global) → ArePlanesOf (map component_in cs) (map (λ v. v.items) planes) → AllByRecursion (Reaches frame)
+    (map component_in cs) → AllHaveSampling (map component_in cs) → i < length planes → r ≡ slice_index_or cs i r → p
+    ≡ slice_index_or planes i p → IsPixelOf frame (component_in r) p.items
 component-at frame cs planes i r p w reaches sampling h e f =
     pixels-at frame (map component_in cs) (map (λ v. v.items) planes) i (component_in r) p.items w reaches sampling
     (mapped-within component_in cs i (within-components cs planes i w h))
@@ -49,29 +48,6 @@ line_of-own-requires-clause-long c =
     line_inside frame (component_in r) p.items c.deref.result.now c.args.y c.args.vertical c.requires.vertical
     c.deref.ensures.value is c.requires.y
 
-pub stretch-requires-clause-some : goal.stretch-requires-clause-some
-stretch-requires-clause-some c =
-    let frame = frame_in c.args.frame.now in
-    let cs = c.args.frame.now.components.items in
-    let r = c.index-component.result.now in
-    let at : r ≡ slice_index_or cs c.loop-i.i r = search rules in
-    let is = component-at frame cs c.args.planes.now c.loop-i.i r c.index-planes-i.result c.requires.whole
-    c.requires.reaches c.requires.sampling c.loop-i-test.true at c.index-planes-i.is in
-    is.sampling.horizontal_some
-
-pub stretch-requires-clause-most : goal.stretch-requires-clause-most
-stretch-requires-clause-most c =
-    let cs = c.args.frame.now.components.items in
-    let r = c.index-component.result.now in
-    let at : r ≡ slice_index_or cs c.loop-i.i r = search rules in
-    let inside = within-components cs c.args.planes.now c.loop-i.i c.requires.whole c.loop-i-test.true in
-    omega (
-      arith,
-      c.requires.horizontal,
-      factor_most (map component_in cs) c.loop-i.i (component_in r)
-          (mapped-within component_in cs c.loop-i.i inside) (mapped-at component_in cs c.loop-i.i r at),
-    )
-
 -- the line is as wide as the picture
 wide-line : (n i : ℕ) (lines : List (Vec ℕ Global)) (r : Vec ℕ Global) (slice : List ℕ)
     → AreWide n (map (λ v. v.items) lines) → i < length lines → r ≡ slice_index_or lines i r → slice ≡ r.items
@@ -80,23 +56,30 @@ wide-line n i lines r slice wide h e is =
     ap length is ∙ sym (ap length (mapped-at (λ v. v.items) lines i r e))
     ∙ wide-at n i (map (λ v. v.items) lines) r.items wide (mapped-within (λ v. v.items) lines i h)
 
-pub stretch-requires-clause-reaches : goal.stretch-requires-clause-reaches
-stretch-requires-clause-reaches c =
+pub stretch-requires : goal.stretch-requires
+stretch-requires c =
     let frame = frame_in c.args.frame.now in
     let cs = c.args.frame.now.components.items in
     let i = c.loop-i.i in
     let r = c.index-component.result.now in
     let p = c.index-planes-i.result in
     let at : r ≡ slice_index_or cs i r = search rules in
+    let inside = within-components cs c.args.planes.now i c.requires.whole c.loop-i-test.true in
     let is = component-at frame cs c.args.planes.now i r p c.requires.whole c.requires.reaches
     c.requires.sampling c.loop-i-test.true at c.index-planes-i.is in
+    let most = factor_most (map component_in cs) i (component_in r) (mapped-within component_in cs i inside)
+    (mapped-at component_in cs i r at) in
     let within : i < length c.loop-i.lines = omega (arith, c.loop-i.invariant.count, c.loop-i-test.true) in
     let wide = wide-line frame.width i c.loop-i.lines c.index-lines-i.result c.as_mut_slice.result.now
     c.loop-i.invariant.wide within c.index-lines-i.is
     (c.as_mut_slice.ensures.value ∙ ap (λ (v : Vec ℕ Global). v.items) (sym c.index-lines-i.is)) in
-    line_reaches frame (component_in r) p.items c.deref.result.now c.line_of-own.result.now c.args.y c.args.horizontal
-    c.args.vertical (length c.as_mut_slice.result.now) c.requires.horizontal c.requires.vertical wide
-    c.deref.ensures.value c.line_of-own.ensures is c.requires.y
+    record {
+      some = is.sampling.horizontal_some;
+      most = omega (arith, c.requires.horizontal, most);
+      reaches = line_reaches frame (component_in r) p.items c.deref.result.now c.line_of-own.result.now c.args.y
+          c.args.horizontal c.args.vertical (length c.as_mut_slice.result.now) c.requires.horizontal
+          c.requires.vertical wide c.deref.ensures.value c.line_of-own.ensures is c.requires.y;
+    }
 
 items-is : (v : Vec ℕ Global) (new : List ℕ) → length new ≡ length v.items → (with_items v new).items ≡ new
 items-is v new h = search (rules, written-back)
@@ -121,12 +104,7 @@ loop-i-preserved c =
     c.loop-i-test.true at c.index-planes-i.is in
     let inside = mapped-within component_in cs i (within-components cs planes i c.requires.whole c.loop-i-test.true) in
     let within : i < length grids = mapped-within (λ v. v.items) planes i c.loop-i-test.true in
-    let room : i < length old = omega (
-      arith,
-      c.loop-i.invariant.count,
-      c.loop-i-test.true,
-      length-map c.loop-i.lines (λ v. v.items),
-    ) in
+    let room : i < length old = search (rules, length-map) in
     let wide = wide-line frame.width i c.loop-i.lines c.index-lines-i.result c.as_mut_slice.result.now
     c.loop-i.invariant.wide (omega (arith, c.loop-i.invariant.count, c.loop-i-test.true)) c.index-lines-i.is
     (c.as_mut_slice.ensures.value ∙ ap (λ (v : Vec ℕ Global). v.items) (sym c.index-lines-i.is)) in
@@ -140,18 +118,7 @@ loop-i-preserved c =
     let next : across (layer_of (component_in r) p.items ∷ rest) ≡ put.items ∷ across rest =
     lines_more a.horizontal a.vertical frame.width a.y (layer_of (component_in r) p.items) rest
     ∙ ap (λ (l : List ℕ). l ∷ across rest) (sym (written ∙ made)) in
-    record {
-      count = length-set c.loop-i.lines i put ∙ c.loop-i.invariant.count;
-      wide = subst (AreWide frame.width) (sym (map-set (λ v. v.items) c.loop-i.lines i put))
-          (wide-set frame.width i old put.items c.loop-i.invariant.wide
-          (ap length written ∙ c.stretch.auto.line ∙ wide));
-      lines =
-          ap (λ (l : List (List ℕ)). take (i + 1) l ++ across rest)
-          (map-set (λ v. v.items) c.loop-i.lines i put)
-          ∙ sym (lines_step i old (across rest) put.items room)
-          ∙ sym (ap (λ (l : List (List ℕ)). take i old ++ l) (ap across step ∙ next))
-          ∙ c.loop-i.invariant.lines;
-    }
+    search (rules, length-set, map-set, wide-set, lines_step)
 
 pub returns-clause-lines : goal.returns-clause-lines
 returns-clause-lines c = search (rules, append-nil, layers_none, length-map, lines_none, take_all)

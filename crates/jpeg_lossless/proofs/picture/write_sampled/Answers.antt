@@ -27,9 +27,8 @@ write_line-requires-clause-long c = grind (arith, common_steps, from-none, lines
 pub loop-y-preserved : goal.loop-y-preserved
 loop-y-preserved c = grind (arith, common_steps, across-wide, line_of_lines, picture-grown)
 
-whole : (frame : Frame) (planes : List (List ℕ)) (h v high : ℕ) → h ≡ most_across frame → v ≡ most_down frame
-    → high ≡ frame.height
-    → picture_bytes frame.precision h v frame.width high (layers_of frame.components planes)
+whole : (frame : Frame) (planes : List (List ℕ)) (h v high : ℕ) → h ≡ most_across frame → v ≡ most_down frame → high
+    ≡ frame.height → picture_bytes frame.precision h v frame.width high (layers_of frame.components planes)
     ≡ lossless_picture frame planes
 unfolding lossless_picture
 whole frame planes h v high e f g = search rules

@@ -20,10 +20,7 @@ loop-i-preserved c =
     let was = (slice_index_or c.loop-i.planes i plane).items in
     let new = c.finish.new.plane.items in
     let inside : i < length parts = mapped-within part_in c.args.parts.now i (omega (arith, c.requires.count)) in
-    let within : i < length old = mapped-within (λ v. v.items) c.loop-i.planes i (omega (
-      arith,
-      c.loop-i.invariant.count,
-    )) in
+    let within : i < length old = search (rules, mapped-within) in
     let there : slice_index_or parts i part ≡ part = mapped-at part_in c.args.parts.now i r c.index-parts-i.is in
     let same : plane.items ≡ was = ap (λ v. v.items) c.index-planes-i.is in
     let here : slice_index_or old i was ≡ was = ap (λ (p : List ℕ). slice_index_or old i p) (sym same)
@@ -34,13 +31,7 @@ loop-i-preserved c =
     = c.finish.ensures ∙ ap (λ (n : ℕ). map (shifted point) (take n was)) product in
     let whole : map (λ v. v.items) (lists.set c.loop-i.planes i c.finish.new.plane) ≡ lists.set old i new
     = map-set (λ v. v.items) c.loop-i.planes i c.finish.new.plane in
-    record {
-      count = length-set c.loop-i.planes i c.finish.new.plane ∙ c.loop-i.invariant.count;
-      planes =
-          ap (λ (l : List (List ℕ)). take (i + 1) l ++ cut_planes point (drop (i + 1) parts) (drop (i + 1) l)) whole
-          ∙ sym (cut_step point parts old i part was new inside within there here cut)
-          ∙ c.loop-i.invariant.planes;
-    }
+    search (rules, length-set, cut_step)
 
 pub returns-clause-planes : goal.returns-clause-planes
 returns-clause-planes c = search (rules, cut_none, length-map)

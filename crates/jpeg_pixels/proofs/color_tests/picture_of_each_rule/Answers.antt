@@ -6,9 +6,6 @@ use Rattle.jpeg_pixels.specs.Pictures.{HaveRoom}
 use Rattle.jpeg_pixels.proofs.FramesOfFactors.{by_factors, are-covered, have-factors}
 use Rattle.jpeg_pixels.proofs.color_tests.picture_of_each_rule.Goals as goal
 
-in-range : (h v : ℕ) → 1 ≤ h → h ≤ 4 → 1 ≤ v → v ≤ 4 → IsInRange (by_factors h v)
-in-range h v a b c d = record { horizontal_some = a; horizontal_most = b; vertical_some = c; vertical_most = d }
-
 abbrev factors : List Factors
 factors = by_factors 2 4 ∷ by_factors 1 4 ∷ by_factors 2 2 ∷ by_factors 1 1 ∷ []
 
@@ -17,17 +14,8 @@ are-factors = search (rules, All-cons, All-nil)
 
 pub compute_image_rows-requires-clause-factors : goal.compute_image_rows-requires-clause-factors
 unfolding frame_of component_of
-compute_image_rows-requires-clause-factors c =
-    have-factors 6 4 factors _ (λ i. c.component-one.ensures i
-    ∷ c.component-two.ensures i ∷ c.component-three.ensures i ∷ c.component-four.ensures i ∷ []) are-factors
+compute_image_rows-requires-clause-factors c = search (rules, have-factors, are-factors)
 
 pub compute_image_rows-requires-clause-cover : goal.compute_image_rows-requires-clause-cover
 unfolding frame_of component_of HaveRoom
-compute_image_rows-requires-clause-cover c =
-    are-covered 6 4 factors _
-    (c.args.copied.items ∷ c.args.widened.items ∷ c.args.heightened.items ∷ c.args.repeated.items ∷ [])
-    (λ i. c.component-one.ensures i ∷ c.component-two.ensures i ∷ c.component-three.ensures i
-    ∷ c.component-four.ensures i ∷ []) are-factors (omega arith) (omega arith) (
-      omega arith,
-      (omega arith, (omega arith, (omega arith, tt))),
-    )
+compute_image_rows-requires-clause-cover c = search (rules, are-covered, are-factors)

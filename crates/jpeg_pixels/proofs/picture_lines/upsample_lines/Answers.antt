@@ -1,5 +1,5 @@
 use Rattle.std.proofs.lemmas.Grind.{common_steps}
-use Rattle.std.proofs.Common.{◌≡◌, ◌+◌, ◌*◌, ◌<◌, ◌≤◌, [], length, map, get_or, ap, sym, ◌∙◌, arith}
+use Rattle.std.proofs.Common.{◌≡◌, ◌+◌, ◌*◌, ◌<◌, ◌≤◌, [], length, map, get_or, ap, sym, ◌∙◌, arith, rules}
 use Rattle.std.proofs.Math.Nat.{mul-le-mul_right}
 use Rattle.std.proofs.Math.ListN as lists
 use Rattle.std.proofs.Math.Seq.{take-length}
@@ -21,8 +21,7 @@ upsample_line-requires-clause-cover c =
     let components = c.args.components.now in
     let planes = c.args.line.now.planes.now in
     let inside : index < length planes = omega arith in
-    let counts : length (map (λ v. v.items) planes) ≡ length (map source_in components) =
-    length-map planes (λ v. v.items) ∙ c.requires.planes ∙ sym (length-map components source_in) in
+    let counts : length (map (λ v. v.items) planes) ≡ length (map source_in components) = search (rules, length-map) in
     cover-of (map source_in components) (map (λ v. v.items) planes) c.args.line.now.width (c.args.line.now.row + 1) index (source_in none)
     (source_in (get_or components index none)) c.deref.result.now
     counts c.requires.cover (omega (arith, length-map components source_in)) (lists.get_or-map source_in components
@@ -39,8 +38,7 @@ loop-index-preserved c =
     let row = c.args.line.now.row in
     let inside : index < length planes = omega arith in
     let sources = map source_in components in
-    let counts : length (map (λ v. v.items) planes) ≡ length sources = length-map planes (λ v. v.items)
-    ∙ c.requires.planes ∙ sym (length-map components source_in) in
+    let counts : length (map (λ v. v.items) planes) ≡ length sources = search (rules, length-map) in
     let all = lines_of sources (map (λ v. v.items) planes) width row in
     let below : index < length sources = omega (arith, length-map components source_in) in
     let room : index * width ≤ length c.loop-index.lines =

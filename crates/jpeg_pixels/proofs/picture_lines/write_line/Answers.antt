@@ -1,5 +1,4 @@
-use Rattle.std.proofs.Common.{rules}
-use Rattle.std.proofs.Common.{get_or}
+use Rattle.std.proofs.Common.{get_or, rules}
 use Rattle.std.proofs.lemmas.List.{length-map}
 use Rattle.jpeg_pixels.specs.Pictures.{picture_line}
 use Rattle.jpeg_pixels.proofs.ComponentLines.{lines_of-length, lines_of-long}

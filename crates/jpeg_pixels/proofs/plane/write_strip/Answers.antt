@@ -24,11 +24,5 @@ loop-column-preserved c =
 
 pub returns : goal.returns
 returns c =
-    let s = c.args.scale in
-    let blocks = c.args.blocks.now in
-    let all : c.loop-column.column ≡ length blocks = omega arith in
-    HoldsSamples-all s c.args.quantization_table.now blocks c.loop-column.strip (omega arith)
-    (subst (λ n. HoldsSamples s (s * length blocks) (s * n)
-    (plane_sample s c.args.quantization_table.now (λ row place. slice_index_or blocks place zero_coefficients))
-    c.loop-column.strip)
-    all c.loop-column.invariant)
+    HoldsSamples-all c.args.scale c.args.quantization_table.now c.args.blocks.now c.loop-column.strip c.loop-column.column
+    (omega arith) (omega arith) c.loop-column.invariant

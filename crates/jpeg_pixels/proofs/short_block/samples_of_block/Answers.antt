@@ -14,5 +14,4 @@ returns-then-is_within c =
 
 pub returns-else-is_within : goal.returns-else-is_within
 unfolding sample
-returns-else-is_within c = λ x y hx hy. c.samples_of.ensures x y hx hy
-    ∙ ap (λ z. clamped (int_shr z 17)) (c.sums_of.ensures y x hy hx)
+returns-else-is_within c = search rules

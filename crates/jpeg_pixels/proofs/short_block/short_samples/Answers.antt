@@ -10,8 +10,7 @@ use Rattle.jpeg_pixels.proofs.short_block.short_samples.Goals as goal
 -- a line, as it is read from its bits
 kept_line : (v : List ℤ) (g : ℕ → ℤ) → length v ≡ 8 → ((j : ℕ) → FitsSigned w16 (get_or v j (pos 0)))
     → v ≡ lanes g → (x : ℕ) → x < 8 → get_or (map (to_z w16) (map (of_z w16) v)) x (pos 0) ≡ g x
-kept_line v g long fits is x hx = ap (λ (l : List ℤ). get_or l x (pos 0)) (kept_shorts v long fits)
-    ∙ lane-lanes v g is x hx
+kept_line v g long fits is x hx = search (rules, kept_shorts, lane-lanes)
 
 pub returns : goal.returns
 returns c =

@@ -1,4 +1,4 @@
-use Rattle.std.proofs.Common.{◌≡◌, ℕ, ◌-◌, ◌++◌, ◌∷◌, [], List, Vec, Global, map, ap, ◌∙◌, arith}
+use Rattle.std.proofs.Common.{◌≡◌, ℕ, ◌-◌, ◌++◌, ◌∷◌, [], List, Vec, Global, map, ap, ◌∙◌, arith, rules}
 use Rattle.std.proofs.lemmas.List.{map-append}
 use Rattle.std.proofs.lemmas.List.Elements.{All-push}
 use Rattle.std.proofs.lemmas.Result.{err_from_is_err_and}
@@ -6,7 +6,7 @@ use Rattle.jpeg_bits.proofs.Loops.{Continues-ok, Continues-end, bind_at, bind_er
 use Rattle.jpeg_segments.specs.declared.frame_header.Factors.{Factors as Read}
 use Rattle.jpeg_segments.specs.Frame.{Factors, IsInRange, components_from, factors_at}
 use Rattle.jpeg_segments.specs.FrameView.{factors_of}
-use Rattle.jpeg_segments.proofs.FrameLemmas.{components_from-more, components_from-none}
+use Rattle.jpeg_segments.proofs.FrameLemmas.{components_from-more}
 use Rattle.jpeg_segments.proofs.frame_header.read_components.Goals as goal
 use Rattle.std.proofs.lemmas.Grind.{common_steps}
 
@@ -20,17 +20,9 @@ loop-left-preserved g c =
     let front = all_of c.loop-left.components in
     let one = c.in_ok-factors.factors in
     let shown : c.deref.result.now ≡ c.loop-left.components.items = c.deref.ensures.value in
-    let e : all_of c.push.new.self ≡ front ++ factors_of one ∷ [] =
-    ap (λ (v : List Read). map factors_of v) c.in_ok-push.ensures.items
-    ∙ map-append factors_of c.loop-left.components.items (one ∷ []) in
+    let e : all_of c.push.new.self ≡ front ++ factors_of one ∷ [] = search (rules, map-append) in
     record {
-      rest = rw e (Continues-ok factors_of (components_from lossless c.args.count []) (λ (bs : List ℕ). components_from
-          lossless left front bs)
-          (λ (bs : List ℕ). components_from lossless (left - 1) (front ++ factors_of one ∷ []) bs)
-          (factors_at lossless front) c.args.source.now c.loop-left.source c.read_factors.new.source one
-          (λ e. components_from-more lossless left front c.loop-left.source.bytes c.loop-left-test.true
-          ∙ bind_at _ _ _ e)
-          c.loop-left.invariant.rest (rw shown at c.in_ok-factors.ensures.answers));
+      rest = search (rules, components_from-more, bind_at);
       factors = rw e (All-push IsInRange front (factors_of one) c.loop-left.invariant.factors (record {
         horizontal_some = c.in_ok-factors.ensures.horizontal.0;
         horizontal_most = c.in_ok-factors.ensures.horizontal.1;
@@ -40,15 +32,10 @@ loop-left-preserved g c =
     }
 
 pub returns-in_err-factors-clause-answers : goal.returns-in_err-factors-clause-answers
-returns-in_err-factors-clause-answers g c =
-    grind (arith, common_steps, err_from_is_err_and, components_from-more, bind_err)
+returns-in_err-factors-clause-answers g c = search (rules, err_from_is_err_and, components_from-more, bind_err)
 
 pub returns-clause-answers : goal.returns-clause-answers
+unfolding components_from
 returns-clause-answers g c =
     let z : c.loop-left.left ≡ 0 = omega (arith, c.loop-left-test.false) in
-    Continues-end all_of (components_from c.args.lossless c.args.count []) (λ (bs : List ℕ). components_from
-    c.args.lossless c.loop-left.left (all_of c.loop-left.components) bs) c.args.source.now c.loop-left.source
-    c.loop-left.components
-    (ap (λ n. components_from c.args.lossless n (all_of c.loop-left.components) c.loop-left.source.bytes) z
-    ∙ components_from-none c.args.lossless (all_of c.loop-left.components) c.loop-left.source.bytes)
-    c.loop-left.invariant.rest
+    search rules

@@ -1,4 +1,4 @@
-use Rattle.std.proofs.Common.{◌≡◌, arith, ap, ◌∙◌, List, ℕ, length-set}
+use Rattle.std.proofs.Common.{◌≡◌, arith, ap, ◌∙◌, List, ℕ, length-set, rules}
 use Rattle.std.proofs.lemmas.Result.{err_from_is_err_and}
 use Rattle.jpeg_segments.specs.Quantization.{Tables, dqt_at, tables_from}
 use Rattle.jpeg_bits.proofs.Loops.{Continues-end, bind_at, bind_err}
@@ -10,17 +10,10 @@ pub loop-left-preserved : goal.loop-left-preserved
 loop-left-preserved g c = grind (arith, common_steps, length-set, tables_from-more, bind_at)
 
 pub returns-in_err-size : goal.returns-in_err-size
-returns-in_err-size g c =
-    grind (arith, common_steps, err_from_is_err_and, tables_from-more, bind_err)
+returns-in_err-size g c = search (rules, err_from_is_err_and, tables_from-more, bind_err)
 
 pub returns : goal.returns
 returns g c =
     let i = c.loop-left.invariant.rest in
     let z : c.loop-left.left ≡ 0 = omega arith in
-    record {
-      answers = Continues-end (λ (v : Tables). v) dqt_at (λ (bs : List ℕ). tables_from i.0 c.loop-left.left
-          c.loop-left.tables bs) c.args.reader.now c.loop-left.reader c.loop-left.tables
-          (ap (λ n. tables_from i.0 n c.loop-left.tables c.loop-left.reader.bytes) z
-          ∙ tables_from-none i.0 c.loop-left.tables c.loop-left.reader.bytes) i.2;
-      room = λ k e. absurd (let n : ⊥ = cc in n);
-    }
+    search (rules, tables_from-none)

@@ -1,8 +1,7 @@
-use Rattle.std.proofs.Common.{sym, ◌∙◌, eqb}
+use Rattle.std.proofs.Common.{sym, ◌∙◌, eqb, rules}
 use Rattle.jpeg_segments.specs.FrameView.{component_in}
 use Rattle.jpeg_segments.proofs.ScanLemmas.{position-map}
 use Rattle.jpeg_segments.proofs.scan_header.place_of.Goals as goal
 
 pub returns-clause-place : goal.returns-clause-place
-returns-clause-place c = c.position_of.ensures
-    ∙ sym (position-map component_in (λ x. eqb x.factors.identifier c.args.identifier) c.args.components.now)
+returns-clause-place c = search (rules, position-map)

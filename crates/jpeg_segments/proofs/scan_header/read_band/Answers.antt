@@ -10,25 +10,16 @@ returns-clause-scan g c =
     let e = c.in_ok-scan_of.ensures in
     let xs = map selector_of c.args.selectors.now in
     let count = length-map c.args.selectors.now selector_of in
+    let first = ap (λ (s : Scan). s.first) e in
+    let after = ap (λ (s : Scan). s.after) e in
+    let high = ap (λ (s : Scan). s.high) e in
+    let low = ap (λ (s : Scan). s.low) e in
     is-scan (frame_in c.args.frame.now) xs (scan_in c.in_ok-scan_of.field-0) (rw count c.requires.some)
     (rw count c.requires.most) c.requires.places c.requires.rising c.requires.mcu
     (ap (λ (s : Scan). s.components) e) (ap (λ (s : Scan). s.dc_places) e) (ap (λ (s : Scan). s.ac_places) e)
-    (rw (
-      ap (λ (s : Scan). s.first) e,
-      ap (λ (s : Scan). s.after) e,
-      ap (λ (s : Scan). s.high) e,
-      ap
-          (λ (s : Scan). s.low) e,
-    ) (c.is_band.ensures.coded c.if-not-is_band.false))
-    (rw (
-      ap (λ (s : Scan). s.first) e,
-      ap (λ (s : Scan). s.after) e,
-      ap (λ (s : Scan). s.high) e,
-      ap
-          (λ (s : Scan). s.low) e,
-      count,
-    )
+    (rw (first, after, high, low) (c.is_band.ensures.coded c.if-not-is_band.false))
+    (rw (first, after, high, low, count)
     (legal-again c.args.frame.now.coding_process (length c.args.selectors.now) _ _ _ _ (sym c.is_band.ensures.value
     ∙ c.if-not-is_band.false)))
-    (rw (ap (λ (s : Scan). s.low) e) (omega (arith, c.if-band-frame.false)))
-    (ap (λ (s : Scan). s.point_transform) e ∙ sym (ap (λ (s : Scan). s.low) e))
+    (rw low (omega (arith, c.if-band-frame.false)))
+    (ap (λ (s : Scan). s.point_transform) e ∙ sym low)

@@ -1,5 +1,5 @@
 use Rattle.std.proofs.Common.{◌≡◌, ℕ, ◌+◌, ◌-◌, ◌++◌, ◌∷◌, [], List, Vec, Global, length, length-append, map, ap, ◌∙◌}
-use Rattle.std.proofs.Common.{arith}
+use Rattle.std.proofs.Common.{arith, rules}
 use Rattle.std.proofs.lemmas.List.{map-append}
 use Rattle.std.proofs.lemmas.List.Elements.{All-push}
 use Rattle.std.proofs.lemmas.Result.{err_from_is_err_and}
@@ -7,7 +7,7 @@ use Rattle.jpeg_bits.proofs.Loops.{Continues-ok, Continues-end, bind_at, bind_er
 use Rattle.jpeg_segments.specs.declared.scan_header.Selector.{Selector as Read}
 use Rattle.jpeg_segments.specs.ScanHeader.{IsSelectorOf, Selector, selectors_from, selector_at}
 use Rattle.jpeg_segments.specs.FrameView.{frame_in, selector_of}
-use Rattle.jpeg_segments.proofs.ScanLemmas.{rises-all, rises-more, selectors_from-more, selectors_from-none}
+use Rattle.jpeg_segments.proofs.ScanLemmas.{rises-all, rises-more, selectors_from-more}
 use Rattle.jpeg_segments.proofs.scan_header.read_selectors.Goals as goal
 use Rattle.std.proofs.lemmas.Grind.{common_steps}
 
@@ -22,18 +22,11 @@ loop-left-preserved g c =
     let front = all_of c.loop-left.selectors in
     let one = c.in_ok-selector.selector in
     let pushed : c.push.new.self.items ≡ c.loop-left.selectors.items ++ one ∷ [] = c.in_ok-push.ensures.items in
-    let e : all_of c.push.new.self ≡ front ++ selector_of one ∷ [] = ap (λ (v : List Read). map selector_of v) pushed
-    ∙ map-append selector_of c.loop-left.selectors.items (one ∷ []) in
+    let e : all_of c.push.new.self ≡ front ++ selector_of one ∷ [] = search (rules, map-append) in
     let longer : length c.push.new.self.items ≡ length c.loop-left.selectors.items + 1 = ap length pushed
     ∙ length-append c.loop-left.selectors.items (one ∷ []) in
     record {
-      rest = rw e (Continues-ok selector_of (selectors_from frame c.args.count [] 0) (λ (bs : List ℕ). selectors_from
-          frame left front least bs)
-          (λ (bs : List ℕ). selectors_from frame (left - 1) (front ++ selector_of one ∷ []) (one.component + 1) bs)
-          (selector_at frame least) c.args.source.now c.loop-left.source c.read_selector.new.source one
-          (λ e. selectors_from-more frame left front least c.loop-left.source.bytes c.loop-left-test.true
-          ∙ bind_at _ _ _ e)
-          c.loop-left.invariant.rest c.in_ok-selector.ensures.answers);
+      rest = search (rules, selectors_from-more, bind_at);
       length = omega (arith, longer, c.loop-left.invariant.length, c.loop-left-test.true);
       rising = rw (e, map-append (λ (s : Selector). s.component) front (selector_of one ∷ []))
           (rises-more (map (λ (s : Selector). s.component) front) least one.component c.loop-left.invariant.rising
@@ -43,20 +36,14 @@ loop-left-preserved g c =
     }
 
 pub returns-in_err-selector-clause-answers : goal.returns-in_err-selector-clause-answers
-returns-in_err-selector-clause-answers g c =
-    grind (arith, common_steps, err_from_is_err_and, selectors_from-more, bind_err)
+returns-in_err-selector-clause-answers g c = search (rules, err_from_is_err_and, selectors_from-more, bind_err)
 
 pub returns-clause-answers : goal.returns-clause-answers
+unfolding selectors_from
 returns-clause-answers g c =
     let frame = frame_in c.args.frame.now in
     let z : c.loop-left.left ≡ 0 = omega (arith, c.loop-left-test.false) in
-    Continues-end all_of (selectors_from frame c.args.count [] 0) (λ (bs : List ℕ). selectors_from frame
-    c.loop-left.left (all_of c.loop-left.selectors) c.loop-left.least bs) c.args.source.now c.loop-left.source
-    c.loop-left.selectors
-    (ap (λ n. selectors_from frame n (all_of c.loop-left.selectors) c.loop-left.least c.loop-left.source.bytes) z
-    ∙ selectors_from-none frame (all_of c.loop-left.selectors) c.loop-left.least c.loop-left.source.bytes)
-    c.loop-left.invariant.rest
+    search rules
 
 pub returns-clause-rising : goal.returns-clause-rising
-returns-clause-rising g c = rises-all (map (λ (s : Selector). s.component) (all_of c.loop-left.selectors))
-    c.loop-left.least c.loop-left.invariant.rising
+returns-clause-rising g c = search (rules, rises-all)

@@ -1,17 +1,11 @@
-use Rattle.std.proofs.Common.{◌≡◌, ◌≤◌, ℕ, List, map, ap, arith, sym, ◌∙◌}
+use Rattle.std.proofs.Common.{◌≡◌, ◌≤◌, ℕ, List, map, ap, arith, sym, ◌∙◌, rules}
 use Rattle.std.proofs.lemmas.List.{take_all}
 use Rattle.jpeg_segments.specs.Frame.{Factors, greatest}
 use Rattle.jpeg_segments.specs.FrameView.{factors_of}
 use Rattle.jpeg_segments.specs.declared.frame_header.Factors.{Factors as Read}
-use Rattle.jpeg_segments.proofs.FrameLemmas.{greatest-next, greatest-some, greatest-most, greatest-covers}
+use Rattle.jpeg_segments.proofs.FrameLemmas.{greatest-next, greatest-some, greatest-most, greatest-after}
 use Rattle.jpeg_segments.proofs.sizes.greatest_factors.Goals as goal
 use Rattle.std.proofs.lemmas.Grind.{common_steps}
-
-abbrev across : Factors → ℕ
-across c = c.horizontal
-
-abbrev down : Factors → ℕ
-down c = c.vertical
 
 abbrev none : Read
 none = record { identifier = 0; horizontal = 0; vertical = 0; quantization = 0 }
@@ -20,12 +14,9 @@ pub loop-component-preserved : goal.loop-component-preserved
 loop-component-preserved c =
     let xs = c.args.components.now in
     let i = c.loop-component.component-index in
-    let h = greatest-next factors_of across xs i none c.loop-component-test.true in
-    let v = greatest-next factors_of down xs i none c.loop-component-test.true in
-    record {
-      horizontal = rw (h, sym c.loop-component.invariant.horizontal) c.greater-horizontal.ensures;
-      vertical = rw (v, sym c.loop-component.invariant.vertical) c.greater-vertical.ensures;
-    }
+    let h = greatest-next factors_of (λ f. f.horizontal) xs i none c.loop-component-test.true in
+    let v = greatest-next factors_of (λ f. f.vertical) xs i none c.loop-component-test.true in
+    search rules
 
 pub returns-clause-some_horizontal : goal.returns-clause-some_horizontal
 returns-clause-some_horizontal c = grind (arith, common_steps, take_all, greatest-some)
@@ -41,18 +32,10 @@ returns-clause-most_vertical c = grind (arith, common_steps, take_all, greatest-
 
 pub returns-clause-covers_horizontal : goal.returns-clause-covers_horizontal
 returns-clause-covers_horizontal c =
-    let h : c.loop-component.horizontal ≡ greatest across (map factors_of c.args.components.now) =
-    c.loop-component.invariant.horizontal
-    ∙ ap (λ (xs : List Read). greatest across (map factors_of xs))
-    (take_all c.loop-component.component-index c.args.components.now c.loop-component-test.false) in
-    let e : greatest across (map factors_of c.args.components.now) ≤ c.loop-component.horizontal = omega (arith, h) in
-    greatest-covers factors_of across c.loop-component.horizontal c.args.components.now e
+    greatest-after factors_of (λ f. f.horizontal) _ _ c.args.components.now c.loop-component.invariant.horizontal
+    c.loop-component-test.false
 
 pub returns-clause-covers_vertical : goal.returns-clause-covers_vertical
 returns-clause-covers_vertical c =
-    let h : c.loop-component.vertical ≡ greatest down (map factors_of c.args.components.now) =
-    c.loop-component.invariant.vertical
-    ∙ ap (λ (xs : List Read). greatest down (map factors_of xs))
-    (take_all c.loop-component.component-index c.args.components.now c.loop-component-test.false) in
-    let e : greatest down (map factors_of c.args.components.now) ≤ c.loop-component.vertical = omega (arith, h) in
-    greatest-covers factors_of down c.loop-component.vertical c.args.components.now e
+    greatest-after factors_of (λ f. f.vertical) _ _ c.args.components.now c.loop-component.invariant.vertical
+    c.loop-component-test.false

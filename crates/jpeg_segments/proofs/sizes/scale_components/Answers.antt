@@ -1,4 +1,4 @@
-use Rattle.std.proofs.Common.{sym, map, arith}
+use Rattle.std.proofs.Common.{sym, map, arith, rules}
 use Rattle.std.proofs.lemmas.List.{length-map}
 use Rattle.jpeg_segments.specs.FrameView.{component_in}
 use Rattle.jpeg_segments.proofs.ScaleLemmas.{across-at, changed-all, changed-none, down-at, seen-more}
@@ -9,15 +9,10 @@ pub loop-component-init : goal.loop-component-init
 loop-component-init c = sym (changed-none _ (map component_in c.args.components.now))
 
 pub scale_component-requires-clause-horizontal : goal.scale_component-requires-clause-horizontal
-scale_component-requires-clause-horizontal c =
-    across-at _ c.args.most_horizontal c.loop-component.component-index c.args.components.now
-    c.loop-component.components
-    c.loop-component.invariant c.loop-component-test.true c.loop-component.auto.components c.requires.covers_horizontal
+scale_component-requires-clause-horizontal c = search (rules, across-at)
 
 pub scale_component-requires-clause-vertical : goal.scale_component-requires-clause-vertical
-scale_component-requires-clause-vertical c =
-    down-at _ c.args.most_vertical c.loop-component.component-index c.args.components.now c.loop-component.components
-    c.loop-component.invariant c.loop-component-test.true c.loop-component.auto.components c.requires.covers_vertical
+scale_component-requires-clause-vertical c = search (rules, down-at)
 
 pub loop-component-preserved : goal.loop-component-preserved
 loop-component-preserved c = grind (arith, common_steps, seen-more)

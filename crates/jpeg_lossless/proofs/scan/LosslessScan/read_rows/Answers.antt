@@ -16,8 +16,7 @@ use Rattle.jpeg_lossless.proofs.scan.LosslessScan.read_rows.Goals as goal
 
 pub returns-in_err-read_row-clause-reads : goal.returns-in_err-read_row-clause-reads
 returns-in_err-read_row-clause-reads g c =
-    let listed : map (λ t. t.now) c.as_slice-tables.result.now ≡ mcu_tables (map part_in c.args.coding.now.parts.now) =
-    ap (map (λ t. t.now)) c.as_slice-tables.ensures.value ∙ c.args.coding.now.listed in
+    let listed : map (λ t. t.now) c.as_slice-tables.result.now ≡ mcu_tables (map part_in c.args.coding.now.parts.now) = search rules in
     let e = err_from_is_err_and c.from_residual.result c.from_residual.ensures.1 in
     let tables = map (λ t. t.now) c.as_slice-tables.result.now in
     let v = way_by c.args.coding.now.scan (map part_in c.args.coding.now.parts.now) in
@@ -59,20 +58,11 @@ loop-left-preserved g c =
     let made : Predictor → ℕ → Bool → ℕ → ℕ → List ℕ → List (Vec ℕ Global) → List (List ℕ) =
     λ p s f n k r l. with_row p s f n k r 0 parts (grid l) in
     let grown : next ≡ with_row v.selection v.start first v.wide (mcu_size v) row 0 parts planes
-    = same ∙ c.in_ok-add_row.ensures.planes
-    ∙ ap₂ (λ (s n : ℕ). made coding.predictor s first n (length c.as_slice-tables.result.now) c.deref.result.now
-    c.as_mut_slice-planes.result.now) c.start_of.ensures c.from-wide.ensures
-    ∙ ap₂ (λ (k : ℕ) (r : List ℕ). made coding.predictor v.start first v.wide k r c.as_mut_slice-planes.result.now) size
-    c.deref.ensures.value
-    ∙ ap (λ (l : List (Vec ℕ Global)). made coding.predictor v.start first v.wide (mcu_size v) row l) back in
+    = search rules in
     record {
       count = ap length held ∙ c.add_row.ensures.count ∙ ap length back ∙ c.loop-left.invariant.count;
       left = omega (arith, c.loop-left.invariant.left);
-      long = λ k w. grown-as _ _ parts next (one-row k c.args.count c.loop-left.left c.loop-left-test.true
-          c.loop-left.invariant.left) (subst (AreGrown (k + (c.args.count - c.loop-left.left) + 1) parts) (sym same)
-          (c.in_ok-add_row.ensures.long (k + (c.args.count - c.loop-left.left))
-          (subst (λ (l : List (Vec ℕ Global)). AreGrown (k + (c.args.count - c.loop-left.left)) parts (grid l))
-          (sym back) (c.loop-left.invariant.long k w))));
+      long = search (rules, grown-as, one-row);
       reads = Leaves-step (planes_after_rows v true c.args.count (map (λ v. v.items) c.args.self.now.planes.items))
           (planes_after_rows v first c.loop-left.left planes) (planes_after_rows v false (c.loop-left.left - 1) next)
           (differences (row_tables c.from-wide.result tables))
