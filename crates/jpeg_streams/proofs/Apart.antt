@@ -252,10 +252,6 @@ placed frame components row column s x = search rules
 one-row : (components : List Component) (s : Spot) (k l : ℕ) → TellsRow components k s → TellsRow components l s → k ≡ l
 one-row components s k l a b = search (rules, at-one)
 
-one-column : (components : List Component) (s : Spot) (k l : ℕ) → TellsColumn components k s
-    → TellsColumn components l s → k ≡ l
-one-column components s k l a b = search (rules, at-one)
-
 pub all-apart : (frame : Frame) (components : List Component) → AllByRecursion (Fits frame) components
     → AreApart (all_spots frame.mcus_wide frame.mcus_high components)
 unfolding all_spots
@@ -271,7 +267,7 @@ all-apart frame components fits =
     (search (rules, mcu-apart))
     (λ column s k h. let x = of row column s k h in
     record { component = x.component; here = placed frame components row column s x; column_of = x.tells.column_of })
-    (λ s k l a b. one-column components s k l a b))
+    (λ s k l a b. (search (rules, at-one))))
     (λ row s b h. let g = in-flat-back (mcu row) s 0 wide h in let x = of row g.at s g.between g.gives in
     record { component = x.component; here = placed frame components row g.at s x; row_of = x.tells.row_of })
     (λ s k l a b. one-row components s k l a b)
@@ -293,28 +289,27 @@ sized (d ∷ more) [] j c h k = absurd h
 sized (d ∷ more) (a ∷ arrays) zero c h k = (omega arith, h.0 ∙ ap (λ (x : Component). x.blocks_high * x.blocks_wide) k)
 sized (d ∷ more) (a ∷ arrays) (suc j) c h k = let r = sized more arrays j c h.1 k in (let l = r.0 in omega arith, r.1)
 
-own-inside : (c : Component) (frame : Frame) (arrays : Arrays) (q : Spot) → Fits frame c → AreArrays (c ∷ []) arrays
-    → IsIn q (own_spots (grid_of c)) → IsInside arrays q
+-- the own spots of a grid are inside an array of lines that are at least as many
+pub own-within : (g : Grid) (high : ℕ) (arrays : Arrays) (q : Spot) → g.own_wide ≤ g.wide → g.own_high ≤ high
+    → 0 < length arrays → length (get_or arrays 0 []) ≡ high * g.wide → IsIn q (own_spots g) → IsInside arrays q
 unfolding own_spots
-own-inside c frame arrays q fits h k =
-    let g = grid_of c in
+own-within g high arrays q narrow low some size k =
     let line : ℕ → ℕ → Spot = λ row column. record { slot = 0; index = row * g.wide + column } in
     let x = in-flat-back (λ row. map (line row) (range_with_len 0 g.own_wide)) q 0 g.own_high k in
     let y = in-line-back (line x.at) q 0 g.own_wide x.gives in
     let xh = x.between.high in
     let yh = y.between.high in
-    let ow = fits.own_wide in
-    let oh = fits.own_high in
-    let lt : y.at < g.wide = omega arith in
-    let t = own-tells g x.at y.at q lt y.equal in
-    let wp : 0 < c.blocks_wide = omega arith in
-    let b : q.index / c.blocks_wide < c.blocks_high = let r = t.row_of in omega arith in
-    let i : q.index < c.blocks_high * c.blocks_wide = (div-lt_iff_lt-mul wp).0 b in
-    let z = sized (c ∷ []) arrays 0 c h refl in
+    let t = own-tells g x.at y.at q (omega arith) y.equal in
+    let wp : 0 < g.wide = omega arith in
+    let i : q.index < high * g.wide = (div-lt_iff_lt-mul wp).0 (let r = t.row_of in omega arith) in
     let e : 0 ≡ q.slot = sym t.slot in
-    let r : (q.slot < length arrays) × (q.index < length (get_or arrays q.slot []))
-    = search rules in
-    record { slot = r.0; index = r.1 }
+    search rules
+
+own-inside : (c : Component) (frame : Frame) (arrays : Arrays) (q : Spot) → Fits frame c → AreArrays (c ∷ []) arrays
+    → IsIn q (own_spots (grid_of c)) → IsInside arrays q
+own-inside c frame arrays q fits h k =
+    let z = sized (c ∷ []) arrays 0 c h refl in
+    own-within (grid_of c) c.blocks_high arrays q fits.own_wide fits.own_high z.0 z.1 k
 
 all-inside : (frame : Frame) (components : List Component) (arrays : Arrays) (q : Spot)
     → AllByRecursion (Fits frame) components → AreArrays components arrays

@@ -106,19 +106,15 @@ pub zero-holds : (array : ℕ → ℕ → Block) (c : Component) → ((row colum
     → HoldsOwn (grid_of c) array nothing_sent (replicate (c.blocks_high * c.blocks_wide) zero_block)
 zero-holds array c range = search (rules, length-replicate, get-replicate, cut-nothing)
 
-arrays-fresh : (w : Found) (h : Arrays) (fi : List (List Bool)) (pl : List (Option (List ℕ))) (f : Frame)
-    → arrays_before (reading w false h fi pl) f ≡ zero_arrays f.components
-unfolding arrays_before
-arrays-fresh w h fi pl f = search rules
-
 -- before the first scan
 pub framed-start : (w : Found) (f : Frame) (array : Coefficients) (h : Arrays) (fi : List (List Bool))
     (pl : List (Option (List ℕ))) → ((place row column : ℕ) → Is8Bit (array place row column))
     → fi ≡ replicate 4 none_finished → pl ≡ replicate 4 None → Framed w f array (λ k. nothing_sent) false h fi pl
+unfolding arrays_before
 framed-start w f array h fi pl range e g = record {
   marked = grind (arith, marks-start);
   sized = λ k. refl;
-  held = λ d. subst (AllHeld f array (λ k. nothing_sent)) (sym (arrays-fresh w h fi pl f))
+  held = λ d. subst (AllHeld f array (λ k. nothing_sent)) (sym (search rules))
       (record {
         count = zero-count f.components;
         each = λ k c t. subst (HoldsOwn (grid_of c) (array k) nothing_sent) (sym (zero-at f.components k c t))
@@ -129,17 +125,12 @@ framed-start w f array h fi pl range e g = record {
 
 -- ---- levels
 
-one-length : (p : Pass) (place k : ℕ) (levels : ℕ → Levels) → ((j : ℕ) → length (levels j).acs ≡ 63)
-    → length (levels_of_one p place levels k).acs ≡ 63
-one-length p place k levels h =
-    search (rules, length-take, length-drop, length-replicate, length-append)
-
 pub after-length : (p : Pass) (places : List ℕ) (levels : ℕ → Levels) → ((j : ℕ) → length (levels j).acs ≡ 63)
     → (k : ℕ) → length (levels_after p places levels k).acs ≡ 63
 unfolding levels_after
 after-length p [] levels h k = h k
 after-length p (q ∷ places) levels h k =
-    after-length p places (levels_of_one p q levels) (λ j. one-length p q j levels h) k
+    after-length p places (levels_of_one p q levels) (λ j. (search (rules, length-take, length-drop, length-replicate, length-append))) k
 
 some-none : (a : ℕ) → ◌≡◌ {A = Option ℕ} (Some a) None → ⊥
 some-none a e = cc

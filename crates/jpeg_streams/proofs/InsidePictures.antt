@@ -11,7 +11,7 @@ use Rattle.jpeg_pixels.specs.declared.upsampler.UpsampleRule.TheVariants.{Generi
 use Rattle.jpeg_pixels.specs.declared.upsampler.ColorConvert.{ColorConvert}
 use Rattle.jpeg_pixels.specs.Upsampling.{upsampled, across, down}
 use Rattle.jpeg_pixels.specs.Colour.{line_bytes}
-use Rattle.jpeg_pixels.specs.Pictures.{Source, sources_by, sources_of, line_of, lines_of}
+use Rattle.jpeg_pixels.specs.Pictures.{Source, sources_by, sources_of, lines_of}
 use Rattle.jpeg_pixels.specs.Pictures.{picture_line, picture_bytes, image_of}
 use Rattle.jpeg_pixels.specs.Planes.{cropped}
 use Rattle.jpeg_streams.proofs.ReadTurns.{err-ok, ok-same, bind-ok}
@@ -58,10 +58,6 @@ abbrev pub AllReach : List Source → ℕ → ℕ → Type 0
 AllReach [] width height = Unit {0}
 AllReach (s ∷ sources) width height = Reaches s width height × AllReach sources width height
 
-line-same : (s : Source) (p q : List ℕ) (width height row : ℕ) → Reaches s width height → row < height
-    → SamePlane s.stride s.width s.height p q → line_of s p width row ≡ line_of s q width row
-line-same s p q width height row c low same = search (rules, map-same, slice_index, upsampled-inside)
-
 abbrev pub AllSame : List Source → List (List ℕ) → List (List ℕ) → Type 0
 AllSame [] ps qs = Unit {0}
 AllSame (s ∷ sources) [] qs = ⊥
@@ -73,7 +69,7 @@ lines-same : (sources : List Source) (ps qs : List (List ℕ)) (width height row
     → lines_of sources ps width row ≡ lines_of sources qs width row
 unfolding lines_of
 lines-same (s ∷ sources) (p ∷ ps) (q ∷ qs) width height row c low same =
-    search (rules, line-same, lines-same sources ps qs width height row c.1 low same.1)
+    search (rules, map-same, upsampled-inside, lines-same sources ps qs width height row c.1 low same.1)
 lines-same sources ps qs width height row c low same = search rules
 
 picture-line : (convert : ColorConvert) (sources : List Source) (ps : List (List ℕ)) (width row : ℕ)

@@ -103,9 +103,6 @@ in-mcu row column base zero (d ∷ more) c s h k = search (rules, in-front)
 in-mcu row column base (suc j) (d ∷ more) c s h k =
     search (rules, in-back, in-mcu row column (base + 1) j more c s h)
 
-place-parts : (i w hz vt : ℕ) → (i / w / vt * vt + i / w % vt) * w + (i % w / hz * hz + i % w % hz) ≡ i
-place-parts i w hz vt = rw (div-add-mod' (i / w) vt, div-add-mod' (i % w) hz, div-add-mod' i w) refl
-
 pub all-covered : (frame : Frame) (components : List Component) (c : Component) (s : Spot) → At s.slot components c
     → Fits frame c
     → IsOwn (grid_of c) s.index → IsIn s (all_spots frame.mcus_wide frame.mcus_high components)
@@ -137,7 +134,7 @@ all-covered frame components c s here fits own =
     let found : IsIn (at v h) (flat_map across (range_with_len 0 frame.mcus_high))
     = search (rules, in-flat, in-below) in
     subst (λ (k : ℕ). IsIn (record { slot = s.slot; index = k }) (flat_map across (range_with_len 0 frame.mcus_high)))
-    (place-parts s.index w hz vt) found
+    (rw (div-add-mod' (s.index / w) vt, div-add-mod' (s.index % w) hz, div-add-mod' s.index w) refl) found
 
 -- each own block of a scan's component stands in its order
 pub covered : (frame : Frame) (components : List Component) (c : Component) (s : Spot) → At s.slot components c

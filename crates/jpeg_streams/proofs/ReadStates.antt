@@ -212,10 +212,6 @@ pub record Brought (w : Found) (frame : Frame) (p : Pass) (array : Coefficients)
   pub is : with_arrays p codings arrays (reading w s h fi pl) ≡ reading w s h finished planes
   pub marked : Marked w frame array (levels_after p (places_of codings) levels) finished planes
 
-with-none : (p : Pass) (f : Found) → with_arrays p [] [] f ≡ f
-unfolding with_arrays
-with-none p f = refl
-
 blocks-are : (p : Pass) (k : Coding) (b : List Block) (w : Found) (s : Bool) (h : Arrays) (fi : List (List Bool))
     (pl : List (Option (List ℕ))) → with_blocks p k b (reading w s h fi pl)
     ≡ reading w s h (set fi k.place (finished_by p (slice_index_or fi k.place none_finished)))
@@ -230,7 +226,7 @@ pub brings : (w : Found) (frame : Frame) (p : Pass) (array : Coefficients) (leve
     → AllDone w frame p array levels codings arrays → Marked w frame array levels fi pl
     → Brought w frame p array levels codings arrays s h fi pl
 unfolding levels_after with_arrays
-brings w frame p array levels [] [] s h fi pl few band apart done before = search (rules, with-none)
+brings w frame p array levels [] [] s h fi pl few band apart done before = search (rules)
 brings w frame p array levels [] (b ∷ arrays) s h fi pl few band apart done before = absurd done
 brings w frame p array levels (k ∷ codings) [] s h fi pl few band apart done before = absurd done
 brings w frame p array levels (k ∷ codings) (b ∷ arrays) s h fi pl few band apart done before =
@@ -247,13 +243,6 @@ pub record AllHeld (frame : Frame) (array : Coefficients) (levels : ℕ → Leve
   pub count : length arrays ≡ length frame.components
   pub each : (k : ℕ) (c : Component) → At k frame.components c
       → HoldsOwn (grid_of c) (array k) (levels k) (get_or arrays k [])
-
-held-one : (w : Found) (frame : Frame) (p : Pass) (array : Coefficients) (levels : ℕ → Levels) (k : Coding)
-    (blocks : List Block) (held : Arrays)
-    → CodingDone w frame p array levels k blocks → AllHeld frame array levels held
-    → AllHeld frame array (levels_of_one p k.place levels) (set held k.place blocks)
-held-one w frame p array levels k blocks held done before =
-    search (rules, length-set, eqb_cases, at-one, at-within, one-same, get_or-set_same, one-other, get_or-set_other)
 
 put-one : (k : Coding) (codings : List Coding) (b : List Block) (arrays held : Arrays)
     → put_arrays (k ∷ codings) (b ∷ arrays) held ≡ put_arrays codings arrays (set held k.place b)
@@ -274,5 +263,5 @@ held-after w frame p array levels (k ∷ codings) (b ∷ arrays) held apart done
     (sym (put-one k codings b arrays held))
     (held-after w frame p array (levels_of_one p k.place levels) codings arrays (set held k.place b) apart.1
     (done-others w frame p array levels k.place codings arrays apart.0 done.1)
-    (held-one w frame p array levels k b held done.0 before))
+    (search (rules, length-set, eqb_cases, at-one, at-within, one-same, get_or-set_same, one-other, get_or-set_other)))
 held-after w frame p array levels codings arrays held apart n before = search (rules, put-none)

@@ -79,11 +79,6 @@ flat-same : {B : Type 0} (f g : ℕ → List B) → ((k : ℕ) → f k ≡ g k) 
 flat-same f g h [] = refl
 flat-same {B} f g h (x ∷ xs) = ap₂ (λ (l m : List B). l ++ m) (h x) (flat-same f g h xs)
 
-all-same_spots : (wide high : ℕ) (cs ds : List Component) → Alikes cs ds
-    → all_spots wide high ds ≡ all_spots wide high cs
-unfolding all_spots
-all-same_spots wide high cs ds h = search (rules, flat-same, mcu-same)
-
 -- a frame whose components have the same blocks, and which is read alike
 pub record SameFrame (f g : Frame) : Type 0 where
   pub components : Alikes f.components g.components
@@ -232,7 +227,7 @@ grids-alike cs ds (one_more c d cs' ds' h more) = rw (grid-same c d h, grids-ali
 
 scan-alike : (f g : Frame) (n : ℕ) (p : Pass) (ks ls : List Coding) (array : Coefficients) (bytes : List ℕ)
     → SameFrame f g → CodingsAlike ks ls → WritesScan f n p ks array bytes → WritesScan g n p ls array bytes
-unfolding spots_of
+unfolding spots_of all_spots
 scan-alike f g n p ks ls array bytes same h w =
     let cs = components-alike ks ls h in
     let grids = grids-alike (components_of ks) (components_of ls) cs in
@@ -240,7 +235,7 @@ scan-alike f g n p ks ls array bytes same h w =
     let u = λ (s : Spot). numbers_at p.al (w.sent s) in
     let turns : written_turns (vias_from 0 ls) (spots_of g (components_of ls)) u
     ≡ written_turns (vias_from 0 ks) (spots_of f (components_of ks)) u
-    = grind (arith, common_steps, vias-alike, grid-same, all-same_spots) in
+    = grind (arith, common_steps, vias-alike, grid-same, flat-same, mcu-same) in
     let size : n * mcu_size (components_of ls) ≡ n * mcu_size (components_of ks) =
     ap (λ (x : ℕ). n * x) (mcu-size_same (components_of ks) (components_of ls) cs) in
     grind arith

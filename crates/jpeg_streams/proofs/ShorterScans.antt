@@ -19,7 +19,7 @@ use Rattle.jpeg_bits.specs.Refinement.{corrected_by, corrected, refined_piece, r
 use Rattle.jpeg_streams.specs.Order.{Spot}
 use Rattle.jpeg_streams.specs.Scans.{Arrays, turns_of, arrays_at}
 use Rattle.jpeg_streams.proofs.Shorter.{LeavesBelow, below-ok, below-err, below-bind}
-use Rattle.jpeg_streams.proofs.ShorterTexts.{StaysBelow, bind-stays, gives-stays, refused-stays, elim-stays, bits-stays}
+use Rattle.jpeg_streams.proofs.ShorterTexts.{reader_steps, StaysBelow, bind-stays, gives-stays, refused-stays, elim-stays, bits-stays}
 use Rattle.jpeg_streams.proofs.ShorterTexts.{signed-stays, code-stays, symbol-stays, texts-below, upcoming-below}
 use Rattle.jpeg_streams.proofs.ShorterTexts.{marker_from-below}
 
@@ -47,8 +47,8 @@ token_at-stays limit room size r s = elim-stays limit (nat_lt 0 s) _ _
 after-stays : (limit al : ℕ) (others : List ℤ → Reads Band) (rest : List ℤ)
     → ((rest : List ℤ) → StaysBelow limit (others rest)) → (token : Token)
     → StaysBelow limit (after_token al others rest token)
-after-stays limit al others rest h (Value r v) = search (rules, bind-stays, gives-stays)
-after-stays limit al others rest h n = search (rules, bind-stays, gives-stays)
+after-stays limit al others rest h (Value r v) = search (reader_steps) depth 9
+after-stays limit al others rest h n = search (reader_steps) depth 9
 
 first_ac-stays : (limit : ℕ) (table : Table) (al n : ℕ) (rest : List ℤ) → StaysBelow limit (first_ac table al n rest)
 unfolding first_ac token_from
@@ -72,8 +72,7 @@ moved-stays limit al z (suc b) = grind (arith, common_steps, elim-stays, gives-s
 corrected-stays : (limit al : ℕ) (places : List ℤ) → StaysBelow limit (corrected al places)
 unfolding corrected
 corrected-stays limit al [] = gives-stays limit _
-corrected-stays limit al (z ∷ places) =
-    search (rules, bind-stays, elim-stays, gives-stays, bits-stays, moved-stays, corrected-stays limit al places)
+corrected-stays limit al (z ∷ places) = search (reader_steps, moved-stays, corrected-stays limit al places) depth 9
 
 piece-stays : (limit al : ℕ) (others : List ℤ → Reads Band) (rest : List ℤ)
     → ((rest : List ℤ) → StaysBelow limit (others rest)) → (r s : ℕ)

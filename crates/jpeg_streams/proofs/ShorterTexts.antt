@@ -142,6 +142,9 @@ symbol-stays limit table = record { stays = λ t a. go t a (code_in (code_length
     go t a None = tt
     go t a (Some c) = held-below limit _ (advance c.1 t) (has_bits c.1 t.bits t.ending) (advance-below limit c.1 t a)
 
+-- the steps of which the readers of texts are made
+pub ruleset reader_steps = (rules, bind-stays, gives-stays, refused-stays, elim-stays, bits-stays, signed-stays)
+
 -- bits and then bytes
 pub texts-below : {A B : Type 0} (limit : ℕ) (r : Result (A × Text) Fault) (f : A × Text → Outcome B)
     → AfterIsBelow limit r → ((x : A × Text) → IsBelow limit x.1 → LeavesBelow limit (f x))

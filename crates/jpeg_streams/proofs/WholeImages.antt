@@ -58,20 +58,14 @@ plane-same : (scale : ℕ) (table : List ℕ) (wide high : ℕ) (f g : ℕ → �
 unfolding plane_of
 plane-same scale table wide high f g h = grind (arith, common_steps, map-same)
 
-plane-whole : (c : Component) (table : List ℕ) (l : Levels) (array : ℕ → ℕ → Block) → IsComplete l
-    → ((row column : ℕ) → length (array row column).acs ≡ length l.acs)
-    → plane_of_array c table l array ≡ plane_whole c table array
-unfolding plane_of_array plane_whole
-plane-whole c table l array done h = search (rules, plane-same, cut-whole)
-
 planes-whole : (said : Found) (array : Coefficients) (levels : ℕ → Levels) (place : ℕ) (cs : List Component)
     → AllByRecursion (λ k. IsComplete (levels k)) (range_with_len place (length cs))
     → ((k row column : ℕ) → length (array k row column).acs ≡ length (levels k).acs)
     → planes_of_array said array levels place cs ≡ planes_whole said array place cs
-unfolding planes_of_array planes_whole
+unfolding planes_of_array planes_whole plane_of_array plane_whole
 planes-whole said array levels place [] done h = refl
 planes-whole said array levels place (c ∷ cs) done h =
-    search (rules, bind_same, plane-whole, planes-whole said array levels (place + 1) cs done.1 h)
+    search (rules, bind_same, plane-same, cut-whole, planes-whole said array levels (place + 1) cs done.1 h)
 
 picture-whole : (settings : Settings) (said : Found) (array : Coefficients) (levels : ℕ → Levels) (frame : Frame)
     → said.frame ≡ Some frame → AllComplete frame levels

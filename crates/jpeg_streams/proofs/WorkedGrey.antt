@@ -92,21 +92,15 @@ ac_codings = codings (no_table classes.DC) ac_table
 
 -- ---- codes
 
-dc-coded : IsCoded dc_table 3 (false ∷ [])
+codes : IsCoded dc_table 3 (false ∷ []) × IsCoded ac_table (16 * 0 + 1) (false ∷ [])
+    × IsCoded ac_table (16 * 0 + 0) (true ∷ false ∷ []) × IsCoded ac_table (16 * 1 + 0) (true ∷ true ∷ false ∷ [])
 unfolding lengths_from code_value low_bits
-dc-coded = record { place = 0; listed = omega arith; is_for = refl; has_bits = refl }
-
-one-coded : IsCoded ac_table (16 * 0 + 1) (false ∷ [])
-unfolding lengths_from code_value low_bits
-one-coded = record { place = 0; listed = omega arith; is_for = refl; has_bits = refl }
-
-end-coded : IsCoded ac_table (16 * 0 + 0) (true ∷ false ∷ [])
-unfolding lengths_from code_value low_bits
-end-coded = record { place = 1; listed = omega arith; is_for = refl; has_bits = refl }
-
-ends-coded : IsCoded ac_table (16 * 1 + 0) (true ∷ true ∷ false ∷ [])
-unfolding lengths_from code_value low_bits
-ends-coded = record { place = 2; listed = omega arith; is_for = refl; has_bits = refl }
+codes = (
+  record { place = 0; listed = omega arith; is_for = refl; has_bits = refl },
+  record { place = 0; listed = omega arith; is_for = refl; has_bits = refl },
+  record { place = 1; listed = omega arith; is_for = refl; has_bits = refl },
+  record { place = 2; listed = omega arith; is_for = refl; has_bits = refl },
+)
 
 -- ---- data
 
@@ -124,15 +118,15 @@ dc-first = record {
   coded = last 0 _ _ (interval-by _ _ _ (66 ∷ 79 ∷ [])
       (block _ 0 0 _ _ _ (false ∷ true ∷ false ∷ false ∷ []) [] _ (pos 4)
       (whole (pos 4) (pos 0) _ refl refl
-      (search (rules, category-by, dc-coded)))
+      (search (rules, category-by, codes.0)))
       (no_band 0)
       (block _ 0 0 _ _ _ (false ∷ false ∷ true ∷ false ∷ []) [] _ (negsuc 0)
       (whole (negsuc 0) (pos 4) _ refl refl
-      (search (rules, category-by, dc-coded)))
+      (search (rules, category-by, codes.0)))
       (no_band 0)
       (block _ 0 0 _ _ _ (false ∷ true ∷ false ∷ false ∷ []) [] _ (pos 3)
       (whole (pos 3) (negsuc 0) _ refl refl
-      (search (rules, category-by, dc-coded)))
+      (search (rules, category-by, codes.0)))
       (no_band 0)
       (done _)))) refl refl);
 }
@@ -163,14 +157,14 @@ ac-first = record {
       (other_band (pos 4) (pos 0) (λ e. absurd (omega arith)))
       (first (pos 1) (replicate 62 (pos 0)) _ 0 refl (
       value 0 1 (pos 1) (false ∷ []) (replicate 62 (pos 0)) (true ∷ false ∷ []) 0
-      (omega arith) (λ e. cc) (category-by _ 1 refl) one-coded (
-      ended 61 0 0 (true ∷ false ∷ []) (omega arith) (omega arith) end-coded)))
+      (omega arith) (λ e. cc) (category-by _ 1 refl) codes.1 (
+      ended 61 0 0 (true ∷ false ∷ []) (omega arith) (omega arith) codes.2)))
       (block _ 0 1 _ _ _ [] (false ∷ false ∷ true ∷ true ∷ false ∷ false ∷ []) _ (pos 0)
       (other_band (negsuc 0) (pos 0) (λ e. absurd (omega arith)))
       (first (negsuc 0) (replicate 62 (pos 0)) _ 1 refl (
       value 0 1 (negsuc 0) (false ∷ []) (replicate 62 (pos 0)) (true ∷ true ∷ false ∷ false ∷ []) 1
-      (omega arith) (λ e. cc) (category-by _ 1 refl) one-coded (
-      ended 61 1 0 (true ∷ true ∷ false ∷ []) (omega arith) (omega arith) ends-coded)))
+      (omega arith) (λ e. cc) (category-by _ 1 refl) codes.1 (
+      ended 61 1 0 (true ∷ true ∷ false ∷ []) (omega arith) (omega arith) codes.3)))
       (block _ 1 0 _ _ _ [] [] _ (pos 0) (other_band (pos 3) (pos 0) (λ e. absurd (omega arith)))
       (first_run 62 0 refl)
       (done _)))) refl refl);
@@ -194,9 +188,9 @@ ac-again = record {
       (again (pos 3) (negsuc 0 ∷ replicate 61 (pos 0)) _ 2 refl (
       found 0 (pos 3 ∷ []) (negsuc 0) (false ∷ []) (replicate 61 (pos 0)) (true ∷ true ∷ false ∷ true ∷ []) 2
       (omega arith)
-      ((λ e. absurd (omega arith)), tt) refl refl one-coded (
+      ((λ e. absurd (omega arith)), tt) refl refl codes.1 (
       none_left 1 1 (pos 0) (replicate 60 (pos 0)) (true ∷ true ∷ false ∷ []) (omega arith) (omega arith)
-      (none-new 61) ends-coded)))
+      (none-new 61) codes.3)))
       (block _ 2 1 _ _ _ [] (false ∷ []) _ (pos 0) (other_band (negsuc 1) (pos 0) (λ e. absurd (omega arith)))
       (again_run (negsuc 1) (replicate 62 (pos 0)) 1 refl ((λ e. absurd (omega arith)), none-new 62))
       (block _ 1 0 _ _ _ [] [] _ (pos 0) (other_band (pos 7) (pos 0) (λ e. absurd (omega arith)))

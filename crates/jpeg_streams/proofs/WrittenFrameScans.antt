@@ -134,16 +134,11 @@ unfolding put_blocks
 put-count f [] arrays = refl
 put-count f (s ∷ spots) arrays = search (rules, length-set, put-count f spots (put_block s (f s) arrays))
 
--- the blocks of a component stay as many
-pub put-one : (s : Spot) (b : Block) (j : ℕ) (arrays : Arrays)
-    → length (get_or (put_block s b arrays) j []) ≡ length (get_or arrays j [])
-put-one s b j arrays = grind (arith, common_steps, length-set)
-
 pub put-size : (f : Spot → Block) (j : ℕ) (spots : List Spot) (arrays : Arrays)
     → length (get_or (put_blocks spots (map f spots) arrays) j []) ≡ length (get_or arrays j [])
 unfolding put_blocks
 put-size f j [] arrays = refl
-put-size f j (s ∷ spots) arrays = put-size f j spots (put_block s (f s) arrays) ∙ put-one s (f s) j arrays
+put-size f j (s ∷ spots) arrays = put-size f j spots (put_block s (f s) arrays) ∙ (grind (arith, common_steps, length-set))
 
 module _ (frame : Frame) (restart : ℕ) (p : Pass) (codings : List Coding) (array : Coefficients) (levels : ℕ → Levels)
     (before : Arrays) (bytes : List ℕ)
