@@ -1,4 +1,5 @@
 -- The spots of a scan are apart, and inside the arrays of its components.
+use Rattle.std.proofs.Math.Logic.{⊎_elim}
 use Rattle.std.proofs.lemmas.Grind.{common_steps}
 use Rattle.std.proofs.Common.{rules, ◌≡◌, ◌⊎◌, inl, inr, ℕ, zero, suc, ◌+◌, ◌*◌, ◌/◌, ◌%◌, ◌<◌, ◌≤◌, List, [], ◌∷◌}
 use Rattle.std.proofs.Common.{◌++◌, map, length, get_or, refl, sym, ap, ap₂, ◌∙◌, subst, arith}
@@ -44,13 +45,9 @@ pub record GivesAt {A : Type 0} (f : ℕ → List A) (a n : ℕ) (x : A) : Type 
 pub in-flat-back : {A : Type 0} (f : ℕ → List A) (x : A) (a n : ℕ) → IsIn x (flat_map f (range_with_len a n))
     → GivesAt f a n x
 in-flat-back f x a zero h = absurd h
-in-flat-back {A} f x a (suc n) h =
-    go (λ t. in-flat-back f x (a + 1) n t) (in-either x (f a) (flat_map f (range_with_len (a + 1) n)) h)
-  where
-    go : (IsIn x (flat_map f (range_with_len (a + 1) n)) → GivesAt f (a + 1) n x)
-        → IsIn x (f a) ⊎ IsIn x (flat_map f (range_with_len (a + 1) n)) → GivesAt f a (suc n) x
-    go rec (inl g) = search rules
-    go rec (inr t) = search rules
+in-flat-back f x a (suc n) h = ⊎_elim (λ g. search rules)
+    (λ t. let r = in-flat-back f x (a + 1) n t in search rules)
+    (in-either x (f a) (flat_map f (range_with_len (a + 1) n)) h)
 
 pub record EqualAt {A : Type 0} (f : ℕ → A) (a n : ℕ) (x : A) : Type 0 where
   pub at : ℕ

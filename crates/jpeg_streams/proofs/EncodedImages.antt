@@ -1,4 +1,5 @@
 -- Every image has a stream: for each component a scan, or in a progressive frame a scan of DC and one of AC.
+use Rattle.std.proofs.Math.Logic.{⊎_elim}
 use Rattle.std.proofs.Common.{rules, ◌≡◌, ◌≢◌, ◌⊎◌, inl, inr, ℕ, zero, suc, ◌+◌, ◌/◌, ◌%◌, ◌<◌, ◌≤◌, ◌==◌, nat_lt}
 use Rattle.std.proofs.Common.{not, Bool, true, false, List, [], ◌∷◌, ◌++◌, map, length, drop, replicate, flat_map, ℤ}
 use Rattle.std.proofs.Common.{Some, None, refl, sym, ap, ap₂, ◌∙◌, subst, append_assoc, length-append, arith}
@@ -446,11 +447,9 @@ scans-written number h array (c ∷ more) front levels scanned le steps all e ar
 
 each-steps : (number : ℕ) (h : FrameHeader) (array : Coefficients) → number ≤ 2 → HasPicture h
     → ((k row column : ℕ) → Is8Bit (array k row column)) → Steps number h array
-each-steps number h array le p range = go (cases_lt number 2)
-  where
-    go : (number < 2) ⊎ (2 ≤ number) → Steps number h array
-    go (inl less) = sequential-steps number h array (omega arith) p range
-    go (inr more) = progressive-steps number h array (omega arith) p range
+each-steps number h array le p range = ⊎_elim
+    (λ less. sequential-steps number h array (omega arith) p range)
+    (λ more. progressive-steps number h array (omega arith) p range) (cases_lt number 2)
 
 -- ---- the segments
 

@@ -1,4 +1,5 @@
 -- Every picture of samples has a stream: a scan for each component.
+use Rattle.std.proofs.Math.Logic.{⊎_elim}
 use Rattle.std.proofs.Common.{rules, length, replicate, negsuc, unsigned_abs, subst, append_assoc, length-append}
 use Rattle.std.proofs.Common.{◌≡◌, ◌⊎◌, inl, ℕ, zero, Bool, true, List, ◌++◌, drop, take, ◌≤ℤ◌, Some, None, refl, arith}
 use Rattle.std.proofs.Common.{inr, suc, ◌+◌, ◌-◌, ◌*◌, ◌^◌, ◌<◌, ◌≤◌, [], ◌∷◌, map, ℤ, pos, sym, ap, ap₂, ◌∙◌}
@@ -79,16 +80,12 @@ number-written d r e low high h =
     )
 
 difference-written : (r : ℕ) → r < 65536 → (bits : List Bool) × WritesDifference even_table r bits
-difference-written r h = go (cases_lt r 32769)
-  where
-    go : (r < 32769) ⊎ (32769 ≤ r) → (bits : List Bool) × WritesDifference even_table r bits
-    go (inl less) =
-        number-written (pos r) r (sym (residue_small r h)) (omega (arith, ints)) (omega (arith, ints))
-        (omega (arith, ints))
-    go (inr more) =
-        let e = residue_neg (65535 - r) in
-        number-written (negsuc (65535 - r)) r (omega (arith, e)) (omega (arith, ints)) (omega (arith, ints))
-        (omega (arith, ints))
+difference-written r h = ⊎_elim
+    (λ less. number-written (pos r) r (sym (residue_small r h)) (omega (arith, ints)) (omega (arith, ints))
+    (omega (arith, ints)))
+    (λ more. number-written (negsuc (65535 - r)) r (omega (arith, residue_neg (65535 - r))) (omega (arith, ints))
+    (omega (arith, ints)) (omega (arith, ints)))
+    (cases_lt r 32769)
 
 -- numbers modulo 2 ^ 16
 abbrev AreResidues : List ℕ → Type 0

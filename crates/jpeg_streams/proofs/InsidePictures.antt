@@ -72,20 +72,13 @@ lines-same (s ∷ sources) (p ∷ ps) (q ∷ qs) width height row c low same =
     search (rules, map-same, upsampled-inside, lines-same sources ps qs width height row c.1 low same.1)
 lines-same sources ps qs width height row c low same = search rules
 
-picture-line : (convert : ColorConvert) (sources : List Source) (ps : List (List ℕ)) (width row : ℕ)
-    → picture_line convert sources ps width row ≡ line_bytes convert width (lines_of sources ps width row)
-unfolding picture_line
-picture-line convert sources ps width row = refl
-
 picture-same : (convert : ColorConvert) (sources : List Source) (ps qs : List (List ℕ)) (width height : ℕ)
     → AllReach sources width height → AllSame sources ps qs
     → picture_bytes convert sources ps width height ≡ picture_bytes convert sources qs width height
-unfolding picture_bytes
+unfolding picture_bytes picture_line
 picture-same convert sources ps qs width height c same =
     ap concat (map-same (picture_line convert sources ps width) (picture_line convert sources qs width) 0 height
-    (λ row a b. picture-line convert sources ps width row
-    ∙ ap (line_bytes convert width) (lines-same sources ps qs width height row c (omega arith) same)
-    ∙ sym (picture-line convert sources qs width row)))
+    (λ row a b. ap (line_bytes convert width) (lines-same sources ps qs width height row c (omega arith) same)))
 
 -- ---- by components
 

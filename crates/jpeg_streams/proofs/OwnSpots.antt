@@ -1,4 +1,5 @@
 -- The order of a scan reaches each block of its components.
+use Rattle.std.proofs.Math.Logic.{⊎_elim}
 use Rattle.std.proofs.Common.{rules, ◌≡◌, ◌⊎◌, inl, inr, ℕ, zero, suc, ◌+◌, ◌*◌, ◌/◌, ◌%◌, ◌<◌, ◌≤◌, true, false, List}
 use Rattle.std.proofs.Common.{[], ◌∷◌, ◌++◌, map, length, get_or, refl, sym, ap, ap₂, subst, arith, leb}
 use Rattle.std.proofs.Math.Nat.{div-lt_iff_lt-mul, mod-lt}
@@ -29,12 +30,8 @@ in-flat f x y (z ∷ ys) (inr t) k = in-back x (f z) (flat_map f ys) (in-flat f 
 
 pub in-range : (k a n : ℕ) → a ≤ k → k < a + n → IsIn k (range_with_len a n)
 in-range k a zero h lt = absurd (omega arith)
-in-range k a (suc n) h lt = go (leb_tells k a) (λ g. in-range k (a + 1) n (omega arith) (omega arith))
-  where
-    go : ((leb k a ≡ true) × (k ≤ a)) ⊎ ((leb k a ≡ false) × (a < k)) → (a < k → IsIn k (range_with_len (a + 1) n))
-        → IsIn k (range_with_len a (suc n))
-    go (inl x) ih = inl (omega arith)
-    go (inr x) ih = inr (ih x.1)
+in-range k a (suc n) h lt = ⊎_elim (λ x. inl (omega arith))
+    (λ x. inr (in-range k (a + 1) n (omega arith) (omega arith))) (leb_tells k a)
 
 pub in-below : (k n : ℕ) → k < n → IsIn k (range_with_len 0 n)
 in-below k n h = in-range k 0 n (omega arith) (omega arith)

@@ -276,19 +276,14 @@ pub codings-facts_from : (w : Found) (frame : Frame) (p : Pass) (tables : Tables
 codings-facts_from w frame p tables places ds ks codings h g e =
     codings-so w frame p tables places ds ks codings (codings-back w frame p tables places ds ks codings h g e)
 
-pub codings-by : (w : Found) (frame : Frame) (s : Scan)
-    → codings_of w frame s ≡ codings_from w frame (pass_of s) (tables_of w s) s.components s.dc_places s.ac_places
-unfolding codings_of
-codings-by w frame s = refl
-
 pub codings-facts : (w : Found) (frame : Frame) (s : Scan) (codings : List Coding)
     → length s.dc_places ≡ length s.components → length s.ac_places ≡ length s.components
     → codings_of w frame s ≡ Ok codings
     → (length codings ≡ length s.components) × AllByRecursion (CodingFacts w frame) codings
     × (map (λ c. c.place) codings ≡ s.components)
+unfolding codings_of
 codings-facts w frame s codings h g e =
-    codings-facts_from w frame (pass_of s) (tables_of w s) s.components s.dc_places s.ac_places codings h g
-    (sym (codings-by w frame s) ∙ e)
+    codings-facts_from w frame (pass_of s) (tables_of w s) s.components s.dc_places s.ac_places codings h g e
 
 -- ---- the tables in force
 
@@ -308,7 +303,8 @@ codings-read_from w frame p tables places ds ks codings (and_more place d a plac
 pub codings-read : (w : Found) (frame : Frame) (s : Scan) (codings : List Coding)
     → AreCodings w frame (pass_of s) (tables_of w s) s.components s.dc_places s.ac_places codings
     → codings_of w frame s ≡ Ok codings
-codings-read w frame s codings h = search (rules, codings-by, codings-read_from)
+unfolding codings_of
+codings-read w frame s codings h = search (rules, codings-read_from)
 
 pub codings-same_from : (w : Found) (sc : Bool) (h : Arrays) (fi : List (List Bool)) (pl : List (Option (List ℕ)))
     (frame : Frame) (p : Pass) (tables : Tables) (places ds ks : List ℕ)
@@ -325,7 +321,8 @@ tables-same w sc h fi pl s = refl
 
 pub codings-same : (w : Found) (sc : Bool) (h : Arrays) (fi : List (List Bool)) (pl : List (Option (List ℕ)))
     (frame : Frame) (s : Scan) → codings_of (reading w sc h fi pl) frame s ≡ codings_of w frame s
-codings-same w sc h fi pl frame s = search (rules, codings-by, tables-same, codings-same_from)
+unfolding codings_of
+codings-same w sc h fi pl frame s = search (rules, tables-same, codings-same_from)
 
 -- ---- a scan
 

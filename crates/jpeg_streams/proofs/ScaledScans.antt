@@ -199,10 +199,6 @@ codings-alike w f g same p tables places ds ks codings (and_more place d a place
       one_more k l.0 more others.0 l.2 others.2,
     )
 
-tables-kept : (w : Found) (g : Frame) (s : Scan) → tables_of (at_frame w g) s ≡ tables_of w s
-unfolding tables_of
-tables-kept w g s = refl
-
 components-alike : (ks ls : List Coding) → CodingsAlike ks ls → Alikes (components_of ks) (components_of ls)
 components-alike ks ls none = none
 components-alike ks ls (one_more k l ks' ls' h more) =
@@ -263,23 +259,18 @@ scan-other : (array : Coefficients) (f g : Frame) (w final : Found) (levels last
     more (at_frame final g) last
     → Writes array (at_frame w g) levels sc (marker fill 218 (sized (scan_payload h) ++ (bytes ++ more)))
     (at_frame final g) last
+unfolding tables_of
 scan-other array f g w final levels last sc fill h codings bytes more same is l x r =
     let s = scan_written f h in
-    let t = scan_written g h in
-    let alike : t ≡ s = written-same f g h same in
+    let alike : scan_written g h ≡ s = written-same f g h same in
     let o = codings-alike w f g same (pass_of s)
     (tables_of w s) s.components s.dc_places s.ac_places codings l.are_in_force in
     let places = places-alike codings o.0 o.2 in
     let legal : IsLegalScan (at_frame w g) g levels s o.0 =
-    grind (arith, tables-kept w g s, legal-alike (pass_of s) levels codings o.0 o.2 l.legal) in
+    grind (arith, legal-alike (pass_of s) levels codings o.0 o.2 l.legal) in
     scan (at_frame w g) (at_frame final g) levels last sc g fill h o.0 bytes more refl (scan-same f g h same is)
-    (subst (λ (y : Scan). IsLegalScan (at_frame w g) g levels y o.0) (sym alike) legal)
-    (subst (λ (y : Scan). WritesScan g w.restart (pass_of y) o.0 array bytes) (sym alike)
-    (scan-alike f g w.restart (pass_of s) codings o.0 array bytes same o.2 x))
-    (subst (λ (y : Scan). Writes array (at_frame w g)
-    (levels_after (pass_of y) (map (λ (c : Coding). c.place) o.0) levels) true more (at_frame final g) last) (sym alike)
-    (subst (λ (p : List ℕ). Writes array (at_frame w g) (levels_after (pass_of s) p levels) true more
-    (at_frame final g) last) (sym places) r))
+    (rw alike legal) (rw alike (scan-alike f g w.restart (pass_of s) codings o.0 array bytes same o.2 x))
+    (rw (alike, places) r)
 
 -- A stream that was written for a frame is written for one with the same blocks.
 pub scans-alike : (array : Coefficients) (f g : Frame) (w final : Found) (levels last : ℕ → Levels)

@@ -48,16 +48,6 @@ pub frame-components : (s number precision width height : ℕ) (xs : List Factor
 unfolding frame_at frame_of
 frame-components s number precision width height xs = search (rules, factors-back, components-scaled)
 
-pub frame-width : (s number precision width height : ℕ) (xs : List Factors)
-    → (frame_at s (frame_of number precision width height xs)).output_width ≡ ceiling (width * s) 8
-unfolding frame_at frame_of
-frame-width s number precision width height xs = refl
-
-pub frame-height : (s number precision width height : ℕ) (xs : List Factors)
-    → (frame_at s (frame_of number precision width height xs)).output_height ≡ ceiling (height * s) 8
-unfolding frame_at frame_of
-frame-height s number precision width height xs = refl
-
 -- ---- all components
 
 reaches-one : (s width height mh mv : ℕ) (x : Factors) (rule : Option UpsampleRule) (source : Source) → 0 < s
@@ -113,7 +103,13 @@ pub record IsSized (f : Frame) (m : Made f) : Type 0 where
   pub height : f.output_height ≡ ceiling (m.height * m.scale) 8
 
 pub is-sized : (f : Frame) (m : Made f) → IsSized f m
-is-sized f m = search (rules, frame-components, frame-width, frame-height)
+unfolding frame_at frame_of
+is-sized f m = record {
+  components = ap (λ (x : Frame). x.components) m.is
+      ∙ frame-components m.scale m.number m.precision m.width m.height m.factors;
+  width = ap (λ (x : Frame). x.output_width) m.is;
+  height = ap (λ (x : Frame). x.output_height) m.is;
+}
 
 pub reaches-made : (f : Frame) (sources : List Source) → Made f
     → sources_of f.components f.output_width f.output_height ≡ Ok sources

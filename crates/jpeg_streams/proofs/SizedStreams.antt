@@ -85,11 +85,6 @@ sized-is width height f n = go f.process refl
 
 -- ---- the meaning
 
-rest-within : (found : Found) (bytes : List ℕ) → segments_at false Elsewhere found None bytes
-    ≡ segments_within (suc (length bytes)) false Elsewhere found None bytes
-unfolding segments_at
-rest-within found bytes = refl
-
 -- What a written stream is read as at a scale.
 record ReadAt (width height : ℕ) (array : Coefficients) (tail bytes : List ℕ) (final : Found)
     (last : ℕ → Levels) : Type 0 where
@@ -107,7 +102,7 @@ record ReadAt (width height : ℕ) (array : Coefficients) (tail bytes : List ℕ
 read-at : (width height : ℕ) (array : Coefficients) (tail bytes : List ℕ) (final : Found) (last : ℕ → Levels)
     → ((place row column : ℕ) → Is8Bit (array place row column)) → WritesImage array bytes final last
     → ReadAt width height array tail (bytes ++ tail) final last
-unfolding header_at
+unfolding header_at segments_at
 read-at width height array tail bytes final last range w =
     let r = stream-read array tail bytes final last w in
     let h = r.header in
@@ -134,8 +129,7 @@ read-at width height array tail bytes final last range w =
       sources_are = subst (λ (x : Frame). sources_of x.components x.output_width x.output_height ≡ Ok there.0)
           (sym size.2) there.1;
       read = read-to array tail (at_frame final g) last g _ _
-          (ap (λ (x : Found). segments_at false Elsewhere x None left) now
-          ∙ rest-within (unread (at_frame h.said g)) left)
+          (ap (λ (x : Found). segments_at false Elsewhere x None left) now)
           (reads-scans array tail (at_frame final g) last g (at_frame h.said g) (λ k. nothing_sent) false h.more []
           nothing_finished no_planes (suc (length left)) Elsewhere None left range shape h.good refl (λ e k. refl)
           (framed-start (at_frame h.said g) g array [] nothing_finished no_planes range refl refl)

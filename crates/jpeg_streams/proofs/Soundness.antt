@@ -1,4 +1,5 @@
 -- The state between segments: frames that are decoded, at a scale, and what is kept from turn to turn.
+use Rattle.std.proofs.Common.{zero, suc}
 use Rattle.std.proofs.Common.{rules, ◌≡◌, ◌≤◌, ◌<◌, ℕ, List, [], ◌∷◌, length, replicate, refl, ap, sym, ◌∙◌, subst}
 use Rattle.std.proofs.Common.{arith, true, false, Some, None, Ok}
 use Rattle.std.specs.Prelude.{is_some}
@@ -91,23 +92,17 @@ sound_kept old new p a b c d s = record {
   unread = λ e. let q = p.unread (sym a ∙ e) in (b ∙ q.0, d ∙ q.1, s ∙ q.2);
 }
 
-no-planes : (cs : List Component) → length cs ≤ 4 → ArePlanes cs (replicate 4 None)
+no-planes : (n : ℕ) (cs : List Component) → length cs ≤ n → ArePlanes cs (replicate n None)
 unfolding ArePlanes
-no-planes [] h = tt
-no-planes (a ∷ []) h = (tt, tt)
-no-planes (a ∷ b ∷ []) h = (tt, (tt, tt))
-no-planes (a ∷ b ∷ c ∷ []) h = (tt, (tt, (tt, tt)))
-no-planes (a ∷ b ∷ c ∷ d ∷ []) h = (tt, (tt, (tt, (tt, tt))))
-no-planes (a ∷ b ∷ c ∷ d ∷ e ∷ more) h = absurd (omega arith)
+no-planes n [] h = tt
+no-planes zero (c ∷ cs) h = absurd (omega arith)
+no-planes (suc n) (c ∷ cs) h = (tt, no-planes n cs (omega arith))
 
-no-samples : (cs : List Component) → length cs ≤ 4 → AreSampled cs (replicate 4 None)
+no-samples : (n : ℕ) (cs : List Component) → length cs ≤ n → AreSampled cs (replicate n None)
 unfolding AreSampled
-no-samples [] h = tt
-no-samples (a ∷ []) h = (tt, tt)
-no-samples (a ∷ b ∷ []) h = (tt, (tt, tt))
-no-samples (a ∷ b ∷ c ∷ []) h = (tt, (tt, (tt, tt)))
-no-samples (a ∷ b ∷ c ∷ d ∷ []) h = (tt, (tt, (tt, (tt, tt))))
-no-samples (a ∷ b ∷ c ∷ d ∷ e ∷ more) h = absurd (omega arith)
+no-samples n [] h = tt
+no-samples zero (c ∷ cs) h = absurd (omega arith)
+no-samples (suc n) (c ∷ cs) h = (tt, no-samples n cs (omega arith))
 
 -- a frame after which nothing was read yet
 pub sound-frame : (found : Found) (f : Frame) → IsDecodedFrame f → found.scanned ≡ false
@@ -117,8 +112,8 @@ unfolding arrays_before
 sound-frame found f p e n s = grind (
   arith,
   zeros-sized,
-  no-planes f.components (count-few (length f.components) (decoded-count f p)).1,
-  no-samples f.components (count-few (length f.components) (decoded-count f p)).1,
+  no-planes 4 f.components (count-few (length f.components) (decoded-count f p)).1,
+  no-samples 4 f.components (count-few (length f.components) (decoded-count f p)).1,
 )
 
 pub sound-framed : (found : Found) (f : Frame) → IsSound found → is_some found.frame ≡ false → IsFrame f

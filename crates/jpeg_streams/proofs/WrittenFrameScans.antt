@@ -140,11 +140,23 @@ unfolding put_blocks
 put-size f j [] arrays = refl
 put-size f j (s ∷ spots) arrays = put-size f j spots (put_block s (f s) arrays) ∙ (grind (arith, common_steps, length-set))
 
+-- What a written scan is read as.
+pub record ReadsScan (frame : Frame) (restart : ℕ) (p : Pass) (codings : List Coding) (array : Coefficients)
+    (levels : ℕ → Levels) (before : Arrays) (bytes : List ℕ) : Type 0 where
+  pub arrays : Arrays
+  pub count : length arrays ≡ length codings
+  pub holds : (k : Coding) (j : ℕ) → At j codings k
+      → HoldsOwn (grid_of k.component) (array k.place) (sent_after p (levels k.place)) (get_or arrays j [])
+  pub read : (fill code : ℕ) (m : Marker) (rest : List ℕ) → IsMarker code m
+      → arrays_at p (restart * mcu_size (components_of codings)) (vias_from 0 codings)
+      (spots_of frame (components_of codings)) (arrays_of before codings) (bytes ++ marker fill code rest)
+      ≡ Ok ((arrays, Some m), rest)
+
 module _ (frame : Frame) (restart : ℕ) (p : Pass) (codings : List Coding) (array : Coefficients) (levels : ℕ → Levels)
     (before : Arrays) (bytes : List ℕ)
     (range : (place row column : ℕ) → Is8Bit (array place row column))
-    (ready : AllByRecursion (SlotReady frame p array levels before) codings)
-    (w : WritesScan frame restart p codings array bytes) where
+    (ready : AllByRecursion (SlotReady frame p array levels before) codings) (suit : SpotsSuit p before codings)
+    (good : AllByRecursion HasGood codings) (w : WritesScan frame restart p codings array bytes) where
   abbrev spots : List Spot
   spots = spots_of frame (components_of codings)
 
@@ -235,11 +247,10 @@ module _ (frame : Frame) (restart : ℕ) (p : Pass) (codings : List Coding) (arr
       }
 
   -- The scan is read as the blocks after it.
-  pub reads-scan : (fill code : ℕ) (m : Marker) (rest : List ℕ) → SpotsSuit p before codings
-      → AllByRecursion HasGood codings → IsMarker code m
+  reads-scan : (fill code : ℕ) (m : Marker) (rest : List ℕ) → IsMarker code m
       → arrays_at p (restart * mcu_size (components_of codings)) (vias_from 0 codings) spots scanned
       (bytes ++ marker fill code rest) ≡ Ok ((after, Some m), rest)
-  reads-scan fill code m rest suit good h =
+  reads-scan fill code m rest h =
       reads-arrays p (restart * mcu_size (components_of codings))
       (vias_from 0 codings) spots scanned u bytes fill code m rest
       (all-in (IsReadyAt p (vias_from 0 codings) scanned u) spots (λ s t.
@@ -247,30 +258,7 @@ module _ (frame : Frame) (restart : ℕ) (p : Pass) (codings : List Coding) (arr
       record { at = record { dc_good = v.dc; ac_good = v.ac; suits = suits-at suit s t } }))
       h w.coded
 
--- What a written scan is read as.
-pub record ReadsScan (frame : Frame) (restart : ℕ) (p : Pass) (codings : List Coding) (array : Coefficients)
-    (levels : ℕ → Levels) (before : Arrays) (bytes : List ℕ) : Type 0 where
-  pub arrays : Arrays
-  pub count : length arrays ≡ length codings
-  pub holds : (k : Coding) (j : ℕ) → At j codings k
-      → HoldsOwn (grid_of k.component) (array k.place) (sent_after p (levels k.place)) (get_or arrays j [])
-  pub read : (fill code : ℕ) (m : Marker) (rest : List ℕ) → IsMarker code m
-      → arrays_at p (restart * mcu_size (components_of codings)) (vias_from 0 codings)
-      (spots_of frame (components_of codings)) (arrays_of before codings) (bytes ++ marker fill code rest)
-      ≡ Ok ((arrays, Some m), rest)
-
--- A written scan of a frame takes the blocks of its components to the levels after it.
-pub scan-is_read : (frame : Frame) (restart : ℕ) (p : Pass) (codings : List Coding) (array : Coefficients)
-    (levels : ℕ → Levels) (before : Arrays) (bytes : List ℕ)
-    → ((place row column : ℕ) → Is8Bit (array place row column))
-    → AllByRecursion (SlotReady frame p array levels before) codings → SpotsSuit p before codings
-    → AllByRecursion HasGood codings → WritesScan frame restart p codings array bytes
-    → ReadsScan frame restart p codings array levels before bytes
-scan-is_read frame restart p codings array levels before bytes range ready suit good w =
-    record {
-      arrays = after frame restart p codings array levels before bytes range ready w;
-      count = grind (arith, common_steps, put-count);
-      holds = λ k j h. after-held frame restart p codings array levels before bytes range ready w k j h;
-      read = λ fill code m rest h. reads-scan frame restart p codings array levels before bytes range ready w fill
-          code m rest suit good h;
-    }
+  -- A written scan of a frame takes the blocks of its components to the levels after it.
+  pub scan-is_read : ReadsScan frame restart p codings array levels before bytes
+  scan-is_read =
+      record { arrays = after; count = grind (arith, common_steps, put-count); holds = after-held; read = reads-scan }
