@@ -16,7 +16,7 @@ use Rattle.jpeg_streams.specs.ScanSegments.{Coding, is_progressive, scan_before,
 use Rattle.jpeg_streams.specs.Segments.{accepted, onward}
 use Rattle.jpeg_streams.specs.SaidSegments.{Stands, found_after}
 use Rattle.jpeg_streams.specs.Found.{nothing_found, none_finished, Found}
-use Rattle.jpeg_streams.specs.Stream.{segment_at, segments_within, segments_at, start_at, turn_at}
+use Rattle.jpeg_streams.specs.Stream.{segments_within, segments_at, start_at, turn_at}
 use Rattle.jpeg_streams.specs.Levels.{Levels, Is8Bit, nothing_sent}
 use Rattle.jpeg_bits.specs.Written.{marker}
 use Rattle.jpeg_streams.specs.WrittenScans.{Coefficients, levels_after, IsLegalScan, HasTable, WritesScan}
@@ -29,7 +29,7 @@ use Rattle.jpeg_streams.proofs.ReadTurns.{scan-turn, marker-turn, segment-tail, 
 use Rattle.jpeg_streams.proofs.ReadTurns.{writes-starts, frame-or, frame-stays, is-other, same-frame, some-none}
 use Rattle.jpeg_segments.specs.ScanHeaders.{IsScan, ScanHeader, scan_payload, scan_written}
 use Rattle.jpeg_segments.specs.WrittenSegments.{sized, Segment, Quantization, Huffman, Interval, Application, Comment}
-use Rattle.jpeg_segments.specs.WrittenSegments.{Header, FrameHeader, IsFrame, code_of, payload_of, frame_written}
+use Rattle.jpeg_segments.specs.WrittenSegments.{Header, FrameHeader, code_of, payload_of, frame_written}
 use Rattle.jpeg_segments.proofs.HeaderSegments.{sos-read}
 use Rattle.jpeg_streams.proofs.ScanFacts.{header-facts}
 use Rattle.jpeg_streams.proofs.TablesInForce.{tables-start, codings-good}

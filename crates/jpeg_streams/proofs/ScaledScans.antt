@@ -7,7 +7,7 @@ use Rattle.std.proofs.Math.Nat.{mul_comm, lt_of_mul-lt-mul_right, mul-lt-mul_of_
 use Rattle.std.specs.List.{AllByRecursion, flat_map, position}
 use Rattle.std.proofs.lemmas.List.Sums.{sum-map}
 use Rattle.jpeg_segments.specs.Frame.{Frame, Component, Factors, ceiling}
-use Rattle.jpeg_segments.specs.ScanHeader.{Scan, place_of, blocks_by, scan_of}
+use Rattle.jpeg_segments.specs.ScanHeader.{place_of, blocks_by, scan_of}
 use Rattle.jpeg_segments.specs.ScanHeaders.{AreChoices, Choice, IsScan, ScanHeader, scan_payload, scan_written, selector_of}
 use Rattle.jpeg_segments.proofs.ScanLemmas.{position-map}
 use Rattle.jpeg_bits.specs.Passes.{Pass}

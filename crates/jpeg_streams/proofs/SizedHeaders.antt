@@ -1,6 +1,6 @@
 -- The header of a stream, at a scale.
-use Rattle.std.proofs.Common.{arith, rules, ◌≡◌, ◌∙◌, ℕ, List, Ok, Err, ap, refl}
-use Rattle.jpeg_bits.specs.Reading.{Outcome, Fault, Answers, ◌>>=◌}
+use Rattle.std.proofs.Common.{arith, rules, ◌≡◌, ◌∙◌, ℕ, List, Ok, Err, ap}
+use Rattle.jpeg_bits.specs.Reading.{Outcome, Fault, Answers}
 use Rattle.jpeg_bits.specs.Stream.{Stream}
 use Rattle.jpeg_streams.specs.Stream.{header_at, sized_header_at, sized_to}
 use Rattle.jpeg_streams.specs.Found.{Found}

@@ -10,7 +10,7 @@ use Rattle.jpeg_segments.specs.Frame.{Frame, Component, Factors}
 use Rattle.jpeg_streams.specs.declared.before.Before.TheVariants.{Elsewhere}
 use Rattle.jpeg_streams.specs.declared.settings.Settings.{Settings}
 use Rattle.jpeg_segments.specs.Scales.{frame_at, scale_for, sized}
-use Rattle.jpeg_streams.specs.Stream.{segments_within, segments_at, start_at, header_at, sized_to}
+use Rattle.jpeg_streams.specs.Stream.{segments_at, start_at, header_at, sized_to}
 use Rattle.jpeg_streams.specs.Stream.{sized_meaning, told_of}
 use Rattle.jpeg_streams.specs.Found.{Found}
 use Rattle.jpeg_streams.specs.Levels.{Levels, Is8Bit, nothing_sent}
