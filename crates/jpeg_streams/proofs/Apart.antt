@@ -24,12 +24,10 @@ in-either x (y ∷ xs) ys (inr t) = search (rules, in-either x xs ys t)
 pub apart-append : {A : Type 0} (xs ys : List A) → AreApart xs → AreApart ys → ((x : A) → IsIn x xs → IsIn x ys → ⊥)
     → AreApart (xs ++ ys)
 apart-append [] ys a b n = b
-apart-append (x ∷ xs) ys a b n =
-    ((λ h. go (in-either x xs ys h)), apart-append xs ys a.1 b (λ z h k. n z (inr h) k))
-  where
-    go : IsIn x xs ⊎ IsIn x ys → ⊥
-    go (inl h) = a.0 h
-    go (inr k) = n x (inl refl) k
+apart-append (x ∷ xs) ys a b n = (
+  (λ h. ⊎_elim a.0 (λ k. n x (inl refl) k) (in-either x xs ys h)),
+  apart-append xs ys a.1 b (λ z h k. n z (inr h) k),
+)
 
 -- a number from a on, and below a + n
 pub record Between (a n k : ℕ) : Type 0 where
@@ -80,14 +78,10 @@ apart-flat {A} f Tells a (suc n) each tells one =
 pub apart-line : {A : Type 0} (f : ℕ → A) (key : A → ℕ) (a n : ℕ) → ((k : ℕ) → Between a n k → key (f k) ≡ k)
     → AreApart (map f (range_with_len a n))
 apart-line f key a zero tells = tt
-apart-line {A} f key a (suc n) tells =
-    ((λ h. other (in-line-back f (f a) (a + 1) n h)), apart-line f key (a + 1) n (λ k b. tells k (wider k b)))
-  where
-    wider : (k : ℕ) → Between (a + 1) n k → Between a (suc n) k
-    wider k b = search rules
-
-    other : EqualAt f (a + 1) n (f a) → ⊥
-    other g = search rules
+apart-line f key a (suc n) tells = (
+  (λ h. let g = in-line-back f (f a) (a + 1) n h in search rules),
+  apart-line f key (a + 1) n (λ k b. tells k (search rules)),
+)
 
 -- x stands at place j
 abbrev pub At : {A : Type 0} → ℕ → List A → A → Type 0
@@ -124,13 +118,8 @@ own-apart g fits =
     apart-flat (λ row. map (line row) (range_with_len 0 g.own_wide)) (λ s row. s.index / g.wide ≡ row) 0 g.own_high
     (λ row b. apart-line (line row) (λ s. s.index % g.wide) 0 g.own_wide
     (λ column c. mod-mul-add row g.wide column (let h = c.high in omega arith)))
-    (λ row s b h. told (line row) row s (λ column lt. refl) (in-line-back (line row) s 0 g.own_wide h))
+    (λ row s b h. let x = in-line-back (line row) s 0 g.own_wide h in search (rules, own-tells))
     (λ s k l e f. sym e ∙ f)
-  where
-    told : (f : ℕ → Spot) (row : ℕ) (s : Spot)
-        → ((column : ℕ) → column < g.own_wide → f column ≡ record { slot = 0; index = row * g.wide + column })
-        → EqualAt f 0 g.own_wide s → s.index / g.wide ≡ row
-    told f row s is x = search (rules, own-tells)
 
 -- ---- several components
 

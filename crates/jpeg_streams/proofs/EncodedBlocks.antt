@@ -186,7 +186,7 @@ dc-bits : (p : Pass) (table : Table) (u : Block) (prediction : ℤ) → p.ss ≡
     → Ranged prediction → (b : List Bool) × WritesDc p table u.dc prediction b u.dc
 dc-bits p table u prediction s f e range ranged =
     let d = difference-written classes.DC (u.dc -ℤ prediction)
-    (first_of (search (rules, ints), grind (arith, common_steps, nat_tests, ints))) in
+    (omega (arith, ints, block-range u range)) in
     (d.0, subst (λ (x : Table). WritesDc p x u.dc prediction d.0 u.dc) (sym e) (whole u.dc prediction d.0 s f d.1))
 
 ac-bits : (p : Pass) (table : Table) (us : List ℤ) → p.is_first ≡ true → table ≡ flat_table classes.AC

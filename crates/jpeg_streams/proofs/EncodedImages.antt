@@ -464,7 +464,7 @@ unfolding nothing_found frame_of codes_exist lengths_from code_value
 image-written number h array le is p range =
     let r = scans-written number h array h.components []
     (λ k. nothing_sent) false le (each-steps number h array le p range) is.components refl is.components
-    (record { sent = λ j lt. absurd (omega arith); unsent = λ j low. refl }) (search (rules)) in
+    (record { sent = λ j lt. absurd (omega arith); unsent = λ j low. refl }) (search rules) in
     let size : length (frame_written number h).components ≡ length h.components = length-map h.components _ in (
       255 ∷ 216 ∷ front_bytes number h r.0,
       record {

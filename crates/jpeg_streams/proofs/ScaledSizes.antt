@@ -137,15 +137,12 @@ one-of s width height (x ∷ []) c ss w h range e =
     (record { some = omega arith; is = inl mh }) in
     let b = reach-end height x.vertical (most_v (x ∷ [])) s 1 h vs (omega arith) ss
     (record { some = omega arith; is = inl mv }) in
-    let first : scaled_component s width height (most_h (x ∷ [])) (most_v (x ∷ [])) x ≡ c = head-same _ c [] [] e in
+    let first : scaled_component s width height (most_h (x ∷ [])) (most_v (x ∷ [])) x ≡ c = cc in
     let p : ceiling (width * x.horizontal * s) (most_h (x ∷ []) * 8) ≡ c.width =
     ap (λ (d : Component). d.width) first in
     let q : ceiling (height * x.vertical * s) (most_v (x ∷ []) * 8) ≡ c.height =
     ap (λ (d : Component). d.height) first in
     (omega arith, omega arith)
-  where
-    head-same : (p q : Component) (ps qs : List Component) → ◌≡◌ {A = List Component} (p ∷ ps) (q ∷ qs) → p ≡ q
-    head-same p q ps qs g = cc
 one-of s width height n c ss w h range e = absurd (let n = ap length e in omega arith)
 
 -- one component has all samples of the picture

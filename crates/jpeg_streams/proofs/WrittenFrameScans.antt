@@ -119,10 +119,6 @@ in-all Q [] x h t = absurd t
 in-all Q (y ∷ xs) x h (inl e) = subst Q e h.0
 in-all Q (y ∷ xs) x h (inr t) = in-all Q xs x h.1 t
 
-one-order : (frame : Frame) (c : Component) → spots_of frame (c ∷ []) ≡ own_spots (grid_of c)
-unfolding spots_of
-one-order frame c = refl
-
 pub at-map : {A B : Type 0} (f : A → B) (j : ℕ) (xs : List A) (x : A) → At j xs x → At j (map f xs) (f x)
 at-map f j [] x h = absurd h
 at-map f zero (y ∷ xs) x h = ap f h
@@ -193,6 +189,7 @@ module _ (frame : Frame) (restart : ℕ) (p : Pass) (codings : List Coding) (arr
   zeros-at l slot index z = search rules
 
   suits-at : SpotsSuit p before codings → (s : Spot) → IsIn s spots → Suits p (block_at scanned s) (u s)
+  unfolding spots_of
   suits-at (none_read e z) s t =
       subst (λ (q : Pass). Suits q (block_at scanned s) (numbers_at q.al (w.sent s))) (sym e)
       (subst (λ (b : Block). Suits whole_pass b (numbers_at 0 (w.sent s))) (sym (zeros-at codings s.slot s.index z))
@@ -204,8 +201,7 @@ module _ (frame : Frame) (restart : ℕ) (p : Pass) (codings : List Coding) (arr
       let own : IsOwnSpot (grid_of k.component) s =
       in-all (IsOwnSpot (grid_of k.component)) (own_spots (grid_of k.component)) s
       (own-only (grid_of k.component) fits.own_wide)
-      (subst (IsIn s) (one-order frame k.component)
-      (subst (λ (l : List Coding). IsIn s (spots_of frame (components_of l))) e t)) in
+      (subst (λ (l : List Coding). IsIn s (spots_of frame (components_of l))) e t) in
       suits-own k s (subst (λ (n : ℕ). At n codings k) (sym own.slot) first) own.own
 
   abbrev f : Spot → Block

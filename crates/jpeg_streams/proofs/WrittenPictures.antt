@@ -303,7 +303,7 @@ pub pictures-taken : (settings : Settings) (array : Coefficients) (final : Found
     → sources_of f.components f.output_width f.output_height ≡ Ok sources → Takes settings final
     → (picture : List ℕ) × (picture_of_array settings final array last ≡ Ok picture)
 pictures-taken settings array final last f sources shape end is takes =
-    let same : takes.frame ≡ f = some-same takes.frame f (sym takes.is_said ∙ end.frame_is) in
+    let same : takes.frame ≡ f = cc in
     let b = planes-end f array final last shape end (scale-made f shape.made) 0 f.components
     (λ j c t. let start : 0 + j ≡ j = omega arith in subst (λ (n : ℕ). At n f.components c) (sym start) t) in
     let limit = subst (λ (g : Frame). length g.components * (g.output_width * g.output_height) ≤ settings.limit) same
@@ -315,9 +315,6 @@ pictures-taken settings array final last f sources shape end is takes =
           ∙ (rw (le-ltb settings.limit (length f.components * (f.output_width * f.output_height)) limit) refl)
           ∙ picture.1,
     )
-  where
-    some-same : (a b : Frame) → ◌≡◌ {A = Option Frame} (Some a) (Some b) → a ≡ b
-    some-same a b e = cc
 
 -- A written stream whose picture is taken means that picture.
 pub taken-means : (settings : Settings) (array : Coefficients) (bytes rest : List ℕ) (final : Found) (last : ℕ → Levels)
