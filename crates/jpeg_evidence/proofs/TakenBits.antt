@@ -63,6 +63,11 @@ bits-of-length n bs h = grind (arith, bits-back, number-below)
 
 -- ---- what was read
 
+-- what follows what was read
+pub after-read : {A B : Type 0} (p : Reads A) (f : A → Reads B) (a : A) (s u t : Text) (y : B) → p s ≡ Ok (a, u)
+    → (p >>= f) s ≡ Ok (y, t) → f a u ≡ Ok (y, t)
+after-read {A} {B} p f a s u t y h e = rw h at e
+
 pub map-parts : {A B : Type 0} (p : Reads A) (f : A → B) (s t : Text) (y : B)
     → (p >>= (λ a. gives (f a))) s ≡ Ok (y, t) → (a : A) × (p s ≡ Ok (a, t)) × (f a ≡ y)
 map-parts {A} {B} p f s t y e = grind (arith, bind-parts, ok-parts)

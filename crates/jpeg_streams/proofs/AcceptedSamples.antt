@@ -1,5 +1,5 @@
 -- A lossless frame that is accepted has samples that a writer may emit.
-use Rattle.std.proofs.Common.{rules, arith, ◌≡◌, ◌⊎◌, ℕ, true, List, [], ◌∷◌, map, length, Ok, sym, ap, ◌∙◌}
+use Rattle.std.proofs.Common.{rules, arith, ◌≡◌, ◌⊎◌, ℕ, List, [], ◌∷◌, map, length, Ok}
 use Rattle.std.specs.Prelude.{nat_le}
 use Rattle.std.proofs.lemmas.Bool.{and_parts, eqb-true, leb-true}
 use Rattle.std.specs.List.{AllByRecursion}
@@ -7,7 +7,7 @@ use lib.ListN.{length-map}
 use Rattle.jpeg_segments.specs.Frame.{component_of, Factors, frame_of, greatest}
 use Rattle.jpeg_segments.specs.WrittenSegments.{FrameHeader, frame_written}
 use Rattle.jpeg_streams.specs.SaidSegments.{HasPicture, IsUpsampled}
-use Rattle.jpeg_streams.specs.Segments.{accepted, is_decoded_count}
+use Rattle.jpeg_streams.specs.Segments.{accepted}
 use Rattle.jpeg_streams.specs.WrittenLossless.{HasSamples}
 use Rattle.jpeg_streams.proofs.FrameFits.{factors-back}
 use Rattle.jpeg_streams.proofs.UpsampledFactors.{Upsampled, either, sources-back}
@@ -23,9 +23,6 @@ all-back P width height h v (x ∷ xs) u = (u.0, all-back P width height h v xs 
 
 -- ---- frames
 
-count-back : (n : ℕ) → is_decoded_count n ≡ true → (n ≡ 1) ⊎ ((n ≡ 3) ⊎ (n ≡ 4))
-count-back n e = search (rules, either, eqb-true)
-
 abbrev HasCount : ℕ → Type 0
 HasCount n = (n ≡ 1) ⊎ ((n ≡ 3) ⊎ (n ≡ 4))
 
@@ -40,7 +37,7 @@ accepted-parts number h ok =
     let cs = map (component_of h.width h.height most_h most_v) h.components in
     let back = factors-back h.width h.height most_h most_v h.components in
     let size : length frame.components ≡ length h.components = length-map h.components _ in (
-      count-back (length h.components) (sym (ap is_decoded_count size) ∙ facts.0),
+      (search (rules, either, eqb-true)),
       all-back (Upsampled most_h most_v h.width h.height) h.width h.height most_h most_v h.components
           (sources-back most_h most_v h.width h.height cs facts.1.0
           (search rules)),

@@ -1,4 +1,5 @@
 -- The spots of a scan are apart, and inside the arrays of its components.
+use Rattle.std.proofs.Math.Logic.{⊎_elim}
 use Rattle.std.proofs.lemmas.Grind.{common_steps}
 use Rattle.std.proofs.Common.{rules, ◌≡◌, ◌⊎◌, inl, inr, ℕ, zero, suc, ◌+◌, ◌*◌, ◌/◌, ◌%◌, ◌<◌, ◌≤◌, List, [], ◌∷◌}
 use Rattle.std.proofs.Common.{◌++◌, map, length, get_or, refl, sym, ap, ap₂, ◌∙◌, subst, arith}
@@ -23,12 +24,10 @@ in-either x (y ∷ xs) ys (inr t) = search (rules, in-either x xs ys t)
 pub apart-append : {A : Type 0} (xs ys : List A) → AreApart xs → AreApart ys → ((x : A) → IsIn x xs → IsIn x ys → ⊥)
     → AreApart (xs ++ ys)
 apart-append [] ys a b n = b
-apart-append (x ∷ xs) ys a b n =
-    ((λ h. go (in-either x xs ys h)), apart-append xs ys a.1 b (λ z h k. n z (inr h) k))
-  where
-    go : IsIn x xs ⊎ IsIn x ys → ⊥
-    go (inl h) = a.0 h
-    go (inr k) = n x (inl refl) k
+apart-append (x ∷ xs) ys a b n = (
+  (λ h. ⊎_elim a.0 (λ k. n x (inl refl) k) (in-either x xs ys h)),
+  apart-append xs ys a.1 b (λ z h k. n z (inr h) k),
+)
 
 -- a number from a on, and below a + n
 pub record Between (a n k : ℕ) : Type 0 where
@@ -44,13 +43,9 @@ pub record GivesAt {A : Type 0} (f : ℕ → List A) (a n : ℕ) (x : A) : Type 
 pub in-flat-back : {A : Type 0} (f : ℕ → List A) (x : A) (a n : ℕ) → IsIn x (flat_map f (range_with_len a n))
     → GivesAt f a n x
 in-flat-back f x a zero h = absurd h
-in-flat-back {A} f x a (suc n) h =
-    go (λ t. in-flat-back f x (a + 1) n t) (in-either x (f a) (flat_map f (range_with_len (a + 1) n)) h)
-  where
-    go : (IsIn x (flat_map f (range_with_len (a + 1) n)) → GivesAt f (a + 1) n x)
-        → IsIn x (f a) ⊎ IsIn x (flat_map f (range_with_len (a + 1) n)) → GivesAt f a (suc n) x
-    go rec (inl g) = search rules
-    go rec (inr t) = search rules
+in-flat-back f x a (suc n) h = ⊎_elim (λ g. search rules)
+    (λ t. let r = in-flat-back f x (a + 1) n t in search rules)
+    (in-either x (f a) (flat_map f (range_with_len (a + 1) n)) h)
 
 pub record EqualAt {A : Type 0} (f : ℕ → A) (a n : ℕ) (x : A) : Type 0 where
   pub at : ℕ
@@ -83,14 +78,10 @@ apart-flat {A} f Tells a (suc n) each tells one =
 pub apart-line : {A : Type 0} (f : ℕ → A) (key : A → ℕ) (a n : ℕ) → ((k : ℕ) → Between a n k → key (f k) ≡ k)
     → AreApart (map f (range_with_len a n))
 apart-line f key a zero tells = tt
-apart-line {A} f key a (suc n) tells =
-    ((λ h. other (in-line-back f (f a) (a + 1) n h)), apart-line f key (a + 1) n (λ k b. tells k (wider k b)))
-  where
-    wider : (k : ℕ) → Between (a + 1) n k → Between a (suc n) k
-    wider k b = search rules
-
-    other : EqualAt f (a + 1) n (f a) → ⊥
-    other g = search rules
+apart-line f key a (suc n) tells = (
+  (λ h. let g = in-line-back f (f a) (a + 1) n h in search rules),
+  apart-line f key (a + 1) n (λ k b. tells k (search rules)),
+)
 
 -- x stands at place j
 abbrev pub At : {A : Type 0} → ℕ → List A → A → Type 0
@@ -127,13 +118,8 @@ own-apart g fits =
     apart-flat (λ row. map (line row) (range_with_len 0 g.own_wide)) (λ s row. s.index / g.wide ≡ row) 0 g.own_high
     (λ row b. apart-line (line row) (λ s. s.index % g.wide) 0 g.own_wide
     (λ column c. mod-mul-add row g.wide column (let h = c.high in omega arith)))
-    (λ row s b h. told (line row) row s (λ column lt. refl) (in-line-back (line row) s 0 g.own_wide h))
+    (λ row s b h. let x = in-line-back (line row) s 0 g.own_wide h in search (rules, own-tells))
     (λ s k l e f. sym e ∙ f)
-  where
-    told : (f : ℕ → Spot) (row : ℕ) (s : Spot)
-        → ((column : ℕ) → column < g.own_wide → f column ≡ record { slot = 0; index = row * g.wide + column })
-        → EqualAt f 0 g.own_wide s → s.index / g.wide ≡ row
-    told f row s is x = search (rules, own-tells)
 
 -- ---- several components
 
@@ -252,10 +238,6 @@ placed frame components row column s x = search rules
 one-row : (components : List Component) (s : Spot) (k l : ℕ) → TellsRow components k s → TellsRow components l s → k ≡ l
 one-row components s k l a b = search (rules, at-one)
 
-one-column : (components : List Component) (s : Spot) (k l : ℕ) → TellsColumn components k s
-    → TellsColumn components l s → k ≡ l
-one-column components s k l a b = search (rules, at-one)
-
 pub all-apart : (frame : Frame) (components : List Component) → AllByRecursion (Fits frame) components
     → AreApart (all_spots frame.mcus_wide frame.mcus_high components)
 unfolding all_spots
@@ -271,7 +253,7 @@ all-apart frame components fits =
     (search (rules, mcu-apart))
     (λ column s k h. let x = of row column s k h in
     record { component = x.component; here = placed frame components row column s x; column_of = x.tells.column_of })
-    (λ s k l a b. one-column components s k l a b))
+    (λ s k l a b. (search (rules, at-one))))
     (λ row s b h. let g = in-flat-back (mcu row) s 0 wide h in let x = of row g.at s g.between g.gives in
     record { component = x.component; here = placed frame components row g.at s x; row_of = x.tells.row_of })
     (λ s k l a b. one-row components s k l a b)
@@ -293,28 +275,27 @@ sized (d ∷ more) [] j c h k = absurd h
 sized (d ∷ more) (a ∷ arrays) zero c h k = (omega arith, h.0 ∙ ap (λ (x : Component). x.blocks_high * x.blocks_wide) k)
 sized (d ∷ more) (a ∷ arrays) (suc j) c h k = let r = sized more arrays j c h.1 k in (let l = r.0 in omega arith, r.1)
 
-own-inside : (c : Component) (frame : Frame) (arrays : Arrays) (q : Spot) → Fits frame c → AreArrays (c ∷ []) arrays
-    → IsIn q (own_spots (grid_of c)) → IsInside arrays q
+-- the own spots of a grid are inside an array of lines that are at least as many
+pub own-within : (g : Grid) (high : ℕ) (arrays : Arrays) (q : Spot) → g.own_wide ≤ g.wide → g.own_high ≤ high
+    → 0 < length arrays → length (get_or arrays 0 []) ≡ high * g.wide → IsIn q (own_spots g) → IsInside arrays q
 unfolding own_spots
-own-inside c frame arrays q fits h k =
-    let g = grid_of c in
+own-within g high arrays q narrow low some size k =
     let line : ℕ → ℕ → Spot = λ row column. record { slot = 0; index = row * g.wide + column } in
     let x = in-flat-back (λ row. map (line row) (range_with_len 0 g.own_wide)) q 0 g.own_high k in
     let y = in-line-back (line x.at) q 0 g.own_wide x.gives in
     let xh = x.between.high in
     let yh = y.between.high in
-    let ow = fits.own_wide in
-    let oh = fits.own_high in
-    let lt : y.at < g.wide = omega arith in
-    let t = own-tells g x.at y.at q lt y.equal in
-    let wp : 0 < c.blocks_wide = omega arith in
-    let b : q.index / c.blocks_wide < c.blocks_high = let r = t.row_of in omega arith in
-    let i : q.index < c.blocks_high * c.blocks_wide = (div-lt_iff_lt-mul wp).0 b in
-    let z = sized (c ∷ []) arrays 0 c h refl in
+    let t = own-tells g x.at y.at q (omega arith) y.equal in
+    let wp : 0 < g.wide = omega arith in
+    let i : q.index < high * g.wide = (div-lt_iff_lt-mul wp).0 (let r = t.row_of in omega arith) in
     let e : 0 ≡ q.slot = sym t.slot in
-    let r : (q.slot < length arrays) × (q.index < length (get_or arrays q.slot []))
-    = search rules in
-    record { slot = r.0; index = r.1 }
+    search rules
+
+own-inside : (c : Component) (frame : Frame) (arrays : Arrays) (q : Spot) → Fits frame c → AreArrays (c ∷ []) arrays
+    → IsIn q (own_spots (grid_of c)) → IsInside arrays q
+own-inside c frame arrays q fits h k =
+    let z = sized (c ∷ []) arrays 0 c h refl in
+    own-within (grid_of c) c.blocks_high arrays q fits.own_wide fits.own_high z.0 z.1 k
 
 all-inside : (frame : Frame) (components : List Component) (arrays : Arrays) (q : Spot)
     → AllByRecursion (Fits frame) components → AreArrays components arrays

@@ -2,7 +2,7 @@
 use Rattle.std.proofs.lemmas.Grind.{common_steps}
 use Rattle.std.proofs.Common.{rules, ◌≡◌, ◌≢◌, ◌⊎◌, inl, inr, ℕ, suc, ◌-◌, ◌*◌, ◌<◌, ◌≤◌, Bool, true, false, List}
 use Rattle.std.proofs.Common.{[], ◌∷◌, ◌++◌, length, replicate, get_or, Option, Some, None, Ok, refl, sym, ap, ◌∙◌}
-use Rattle.std.proofs.Common.{subst, arith, eqb, true≢false, length-append, length-take, length-drop}
+use Rattle.std.proofs.Common.{subst, arith, true≢false, length-append, length-take, length-drop}
 use Rattle.std.proofs.lemmas.Bool.{eqb-true, eq-eqb, not-true}
 use Rattle.std.proofs.lemmas.List.{length-replicate}
 use lib.ListN.{length-map}
@@ -18,7 +18,7 @@ use Rattle.jpeg_streams.specs.Order.{grid_of}
 use Rattle.jpeg_segments.specs.Scales.{frame_at}
 use Rattle.jpeg_streams.specs.Scans.{Arrays, zero_arrays}
 use Rattle.jpeg_streams.specs.ScanSegments.{arrays_before, Coding, pass_of, is_progressive, after_scan, held_after}
-use Rattle.jpeg_streams.specs.ScanSegments.{put_arrays, with_arrays, scan_arrays}
+use Rattle.jpeg_streams.specs.ScanSegments.{put_arrays, scan_arrays}
 use Rattle.jpeg_streams.specs.Found.{none_finished, Found}
 use Rattle.jpeg_streams.specs.Levels.{Levels, Is8Bit, IsLegal, sent_after, nothing_sent}
 use Rattle.jpeg_streams.specs.WrittenScans.{Coefficients, levels_of_one, levels_after, IsLegalScan, WritesScan}
@@ -98,29 +98,21 @@ pub zero-at : (components : List Component) (k : ℕ) (c : Component) → At k c
 unfolding zero_arrays
 zero-at components k c h = search (rules, at-get)
 
-zero-count : (components : List Component) → length (zero_arrays components) ≡ length components
-unfolding zero_arrays
-zero-count components = length-map components (λ (c : Component). replicate (c.blocks_high * c.blocks_wide) zero_block)
-
 pub zero-holds : (array : ℕ → ℕ → Block) (c : Component) → ((row column : ℕ) → Is8Bit (array row column))
     → HoldsOwn (grid_of c) array nothing_sent (replicate (c.blocks_high * c.blocks_wide) zero_block)
 zero-holds array c range = search (rules, length-replicate, get-replicate, cut-nothing)
-
-arrays-fresh : (w : Found) (h : Arrays) (fi : List (List Bool)) (pl : List (Option (List ℕ))) (f : Frame)
-    → arrays_before (reading w false h fi pl) f ≡ zero_arrays f.components
-unfolding arrays_before
-arrays-fresh w h fi pl f = search rules
 
 -- before the first scan
 pub framed-start : (w : Found) (f : Frame) (array : Coefficients) (h : Arrays) (fi : List (List Bool))
     (pl : List (Option (List ℕ))) → ((place row column : ℕ) → Is8Bit (array place row column))
     → fi ≡ replicate 4 none_finished → pl ≡ replicate 4 None → Framed w f array (λ k. nothing_sent) false h fi pl
+unfolding arrays_before zero_arrays
 framed-start w f array h fi pl range e g = record {
   marked = grind (arith, marks-start);
   sized = λ k. refl;
-  held = λ d. subst (AllHeld f array (λ k. nothing_sent)) (sym (arrays-fresh w h fi pl f))
+  held = λ d. subst (AllHeld f array (λ k. nothing_sent)) (sym (search rules))
       (record {
-        count = zero-count f.components;
+        count = length-map f.components _;
         each = λ k c t. subst (HoldsOwn (grid_of c) (array k) nothing_sent) (sym (zero-at f.components k c t))
             (zero-holds (array k) c (range k));
       });
@@ -129,17 +121,12 @@ framed-start w f array h fi pl range e g = record {
 
 -- ---- levels
 
-one-length : (p : Pass) (place k : ℕ) (levels : ℕ → Levels) → ((j : ℕ) → length (levels j).acs ≡ 63)
-    → length (levels_of_one p place levels k).acs ≡ 63
-one-length p place k levels h =
-    search (rules, length-take, length-drop, length-replicate, length-append)
-
 pub after-length : (p : Pass) (places : List ℕ) (levels : ℕ → Levels) → ((j : ℕ) → length (levels j).acs ≡ 63)
     → (k : ℕ) → length (levels_after p places levels k).acs ≡ 63
 unfolding levels_after
 after-length p [] levels h k = h k
 after-length p (q ∷ places) levels h k =
-    after-length p places (levels_of_one p q levels) (λ j. one-length p q j levels h) k
+    after-length p places (levels_of_one p q levels) (λ j. (search (rules, length-take, length-drop, length-replicate, length-append))) k
 
 some-none : (a : ℕ) → ◌≡◌ {A = Option ℕ} (Some a) None → ⊥
 some-none a e = cc
@@ -153,10 +140,6 @@ after-fresh p (q ∷ places) levels e h k n =
     search (rules, some-none, after-fresh p places (levels_of_one p q levels) e)
 
 -- ---- passes
-
-pub pass-by : (s : Scan) → pass_of s ≡ record { is_first = eqb s.high 0; ss = s.first; se = s.after - 1; al = s.low }
-unfolding pass_of
-pass-by s = refl
 
 pub progressive-pass : (count first last high low : ℕ) → is_progressive_band count first last high low ≡ true
     → (first ≡ 0 → last ≡ 0) × ((first ≡ 0) ⊎ (count ≡ 1))
@@ -197,26 +180,17 @@ held-after_is : (found : Found) (f : Frame) (codings : List Coding) (arrays : Ar
     → held_after found f codings arrays ≡ put_arrays codings arrays (arrays_before found f)
 held-after_is found f codings arrays e = rw (e, held_after) refl
 
-after-is : (w : Found) (sc : Bool) (h : Arrays) (fi : List (List Bool)) (pl : List (Option (List ℕ))) (f : Frame)
-    (s : Scan) (codings : List Coding) (arrays : Arrays)
-    → after_scan (reading w sc h fi pl) f s codings arrays
-    ≡ with_arrays (pass_of s) codings arrays
-    (reading w true (held_after (reading w sc h fi pl) f codings arrays) fi pl)
-unfolding after_scan
-after-is w sc h fi pl f s codings arrays = refl
-
 all-done : (w : Found) (f : Frame) (p : Pass) (array : Coefficients) (levels : ℕ → Levels) (codings : List Coding)
     (arrays : Arrays) → length arrays ≡ length codings → ((k : Coding) (j : ℕ) → At j codings k
     → HoldsOwn (grid_of k.component) (array k.place) (sent_after p (levels k.place)) (get_or arrays j []))
     → AllByRecursion (CodingFacts w f) codings → AllByRecursion (λ c. IsLegal p (levels c.place)) codings
     → ((k : ℕ) → length (levels k).acs ≡ 63) → AllDone w f p array levels codings arrays
 all-done w f p array levels [] [] n holds facts legal sized = tt
-all-done w f p array levels [] (b ∷ arrays) n holds facts legal sized = absurd (omega arith)
-all-done w f p array levels (k ∷ codings) [] n holds facts legal sized = absurd (omega arith)
 all-done w f p array levels (k ∷ codings) (b ∷ arrays) n holds facts legal sized = (
   record { at = facts.0.at; table = facts.0.table; legal = legal.0; sized = sized k.place; holds = holds k 0 refl },
   all-done w f p array levels codings arrays (omega arith) (λ c j t. holds c (suc j) t) facts.1 legal.1 sized,
 )
+all-done w f p array levels codings arrays n holds facts legal sized = absurd (omega arith)
 
 -- the components of the scan are ready, where their blocks are held
 all-ready : (w : Found) (f : Frame) (p : Pass) (array : Coefficients) (levels : ℕ → Levels) (before : Arrays)
@@ -268,12 +242,6 @@ module _ (w : Found) (f : Frame) (array : Coefficients) (levels : ℕ → Levels
   low = let k = some-first codings (let n = facts.0 in let r = rules.some in omega arith) in
       (at-all (λ (c : Coding). IsLegal (pass_of s) (levels c.place)) 0 codings k.0 legal.legal k.1).low
 
-  ss-is : (pass_of s).ss ≡ s.first
-  ss-is = ap (λ (p : Pass). p.ss) (pass-by s)
-
-  se-is : (pass_of s).se ≡ s.after - 1
-  se-is = ap (λ (p : Pass). p.se) (pass-by s)
-
   holds-now : PassSo f s → (k : Coding) → CodingFacts w f k → IsLegal (pass_of s) (levels k.place)
       → HoldsOwn (grid_of k.component) (array k.place) (levels k.place) (get_or (arrays_before now f) k.place [])
   holds-now (sequential e q) k fact l =
@@ -289,8 +257,9 @@ module _ (w : Found) (f : Frame) (array : Coefficients) (levels : ℕ → Levels
   holds-now (progressive e d a lt le) k fact l = (framed.held e).each k.place k.component fact.at
 
   suit-now : PassSo f s → SpotsSuit (pass_of s) (arrays_before now f) codings
+  unfolding pass_of
   suit-now (sequential e q) = grind (arith, common_steps, sequential-arrays, zeros-everywhere)
-  suit-now (progressive e d (inl z) lt le) = dc_alone (ss-is ∙ z) (se-is ∙ d z) low
+  suit-now (progressive e d (inl z) lt le) = dc_alone z (d z) low
   suit-now (progressive e d (inr one) lt le) = let k = single codings (facts.0 ∙ one) in one_component k.0 k.1
 
   reads-now : ReadsScan f w.restart (pass_of s) codings array levels (arrays_before now f) bytes
@@ -310,11 +279,6 @@ module _ (w : Found) (f : Frame) (array : Coefficients) (levels : ℕ → Levels
   brought = brings w f (pass_of s) array levels codings reads-now.arrays true after_held fi pl shape.few
       (band-so f s so) apart done framed.marked
 
-  scan-read : (fill code : ℕ) (m : Marker) (rest : List ℕ) → IsMarker code m
-      → scan_arrays now f s codings (bytes ++ marker fill code rest) ≡ Ok ((reads-now.arrays, Some m), rest)
-  unfolding scan_arrays
-  scan-read fill code m rest i = reads-now.read fill code m rest i
-
   fresh-after : PassSo f s → is_progressive f.process ≡ false → (k : ℕ)
       → (levels_after (pass_of s) (places_of codings) levels k).dc ≡ None
       → levels_after (pass_of s) (places_of codings) levels k ≡ nothing_sent
@@ -332,17 +296,18 @@ module _ (w : Found) (f : Frame) (array : Coefficients) (levels : ℕ → Levels
 
   -- A written scan brings what the levels after it say.
   pub scan-brings : Scanned w f array levels sc h fi pl s codings bytes
+  unfolding scan_arrays after_scan
   scan-brings = record {
     arrays = reads-now.arrays;
     held = after_held;
     finished = brought.finished;
     planes = brought.planes;
-    read = scan-read;
-    after = after-is w sc h fi pl f s codings reads-now.arrays ∙ brought.is;
+    read = reads-now.read;
+    after = brought.is;
     framed = record {
       marked = brought.marked;
       sized = after-length (pass_of s) (places_of codings) levels framed.sized;
       held = held-now;
-      fresh = λ g. fresh-after so g;
+      fresh = fresh-after so;
     };
   }

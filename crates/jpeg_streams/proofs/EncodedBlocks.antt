@@ -1,14 +1,17 @@
 -- Every block of 8-bit samples can be written, by tables in which each symbol has a code of 8 bits.
+use Rattle.std.proofs.lemmas.Grind.{common_steps}
+use Rattle.std.proofs.lemmas.Bool.Decides.{nat_tests}
 use Rattle.std.proofs.Common.{rules, false, replicate, length, get_or, negsuc, unsigned_abs, subst, append_assoc, arith}
 use Rattle.std.proofs.Common.{◌≡◌, ◌≢◌, ◌⊎◌, inl, inr, zero, suc, ◌==◌, Bool, true, cond, List, ◌++◌, ◌-ℤ◌, ◌≤ℤ◌, refl}
 use Rattle.std.proofs.Common.{ℕ, ◌+◌, ◌-◌, ◌*◌, ◌/◌, ◌%◌, ◌^◌, ◌<◌, ◌≤◌, [], ◌∷◌, set, ℤ, pos, sym, ap, ap₂, ◌∙◌}
 use Rattle.std.proofs.Math.Nat.{pow-le-pow_right}
 use Rattle.std.proofs.lemmas.Bool.{cases_lt, eq-eqb, ne_eqb}
 use Rattle.std.proofs.lemmas.Int.{ints}
-use Rattle.std.proofs.lemmas.List.{append-nil, replicate-append-replicate, take_all}
+use Rattle.std.proofs.Common.{length-append}
+use Rattle.std.proofs.lemmas.List.{append-nil, length-replicate, replicate-append-replicate, take_all}
 use Rattle.std.proofs.lemmas.List.FromFn.{get_or-range_with_len}
 use Rattle.std.specs.List.{AllByRecursion, range_with_len}
-use Rattle.jpeg_bits.specs.Codes.{code_lengths, lengths_from, Table}
+use Rattle.jpeg_bits.specs.Codes.{lengths_from, Table}
 use Rattle.jpeg_bits.specs.Entropy.{bits_of}
 use Rattle.jpeg_bits.specs.Passes.{band_of, Block, Pass, Via, whole_pass}
 use Rattle.jpeg_bits.specs.Written.{code_bits, low_bits, bits_of_bytes, stuffed, IsCategory, IsCoded}
@@ -32,13 +35,10 @@ flat_counts = replicate 7 0 ++ 255 ∷ replicate 8 0
 abbrev pub flat_table : HuffmanTableClass → Table
 flat_table class = record { class = class; counts = flat_counts; symbols = range_with_len 0 255 }
 
-lengths-are : length (code_lengths flat_counts) ≡ 255
-unfolding lengths_from
-lengths-are = refl
-
 flat-coded : (class : HuffmanTableClass) (symbol : ℕ) → symbol < 255
     → IsCoded (flat_table class) symbol (code_bits (flat_table class) symbol)
-flat-coded class symbol h = grind (arith, lengths-are, get_or-range_with_len 0 255 symbol 0 h)
+unfolding lengths_from
+flat-coded class symbol h = grind (arith, get_or-range_with_len 0 255 symbol 0 h)
 
 -- ---- categories
 
@@ -61,13 +61,6 @@ ac = flat_table classes.AC
 abbrev Small : ℤ → Type 0
 Small u = unsigned_abs u ≤ 1023
 
--- zeros, fewer than sixteen, and a value
-value-written : (z : ℕ) (u : ℤ) (more : List ℤ) (bits : List Bool) → z ≤ 15 → u ≢ pos 0 → Small u
-    → WritesBand ac more bits 0 → (b : List Bool) × WritesBand ac (no_numbers z ++ u ∷ more) b 0
-value-written z u more bits le ne small w =
-    let c = category-at_most u 10 (omega arith) in
-    (_, value z c.0 u _ more bits 0 le ne c.2 (flat-coded classes.AC (16 * z + c.0) (omega arith)) w)
-
 Written : List ℤ → Type 0
 Written us = (b : List Bool) × WritesBand ac us b 0
 
@@ -88,7 +81,8 @@ sixteen-first z us far w =
 zeros-step : (z : ℕ) (u : ℤ) (more : List ℤ) → u ≢ pos 0 → Small u → Written more → (z < 16) ⊎ (16 ≤ z)
     → (16 ≤ z → Written (no_numbers (z - 16) ++ u ∷ more)) → Written (no_numbers z ++ u ∷ more)
 unfolding Written
-zeros-step z u more ne small w (inl less) next = value-written z u more w.0 (omega arith) ne small w.1
+zeros-step z u more ne small w (inl less) next = let c = category-at_most u 10 (omega arith) in
+    (_, value z c.0 u _ more w.0 0 (omega arith) ne c.2 (flat-coded classes.AC (16 * z + c.0) (omega arith)) w.1)
 zeros-step z u more ne small w (inr far) next = sixteen-first z (u ∷ more) far (next far)
 
 -- zeros and a value
@@ -138,9 +132,6 @@ set-ranged (p ∷ ps) zero d r all zero = r
 set-ranged (p ∷ ps) zero d r all (suc j) = all (suc j)
 set-ranged (p ∷ ps) (suc i) d r all zero = all zero
 set-ranged (p ∷ ps) (suc i) d r all (suc j) = set-ranged ps i d r (λ k. all (suc k)) j
-
-far-below : (a b : ℤ) → Ranged a → Ranged b → unsigned_abs (a -ℤ b) < 2 ^ 11
-far-below a b ra rb = let la = ra.0 in let ha = ra.1 in let lb = rb.0 in let hb = rb.1 in omega (arith, ints)
 
 -- the bits of a block after a prediction, and the next prediction
 pub record BlockBits (p : Pass) (t : Via × Block) (prediction : ℤ) : Type 0 where
@@ -195,7 +186,7 @@ dc-bits : (p : Pass) (table : Table) (u : Block) (prediction : ℤ) → p.ss ≡
     → Ranged prediction → (b : List Bool) × WritesDc p table u.dc prediction b u.dc
 dc-bits p table u prediction s f e range ranged =
     let d = difference-written classes.DC (u.dc -ℤ prediction)
-    (far-below u.dc prediction (block-range u range) ranged) in
+    (omega (arith, ints, block-range u range)) in
     (d.0, subst (λ (x : Table). WritesDc p x u.dc prediction d.0 u.dc) (sym e) (whole u.dc prediction d.0 s f d.1))
 
 ac-bits : (p : Pass) (table : Table) (us : List ℤ) → p.is_first ≡ true → table ≡ flat_table classes.AC
@@ -243,34 +234,24 @@ digit false n e = ne_eqb n 1 (λ h. absurd (omega arith))
 byte-for : (a b c d e f g h : Bool)
     → (byte : ℕ) × (bits_of byte ≡ a ∷ b ∷ c ∷ d ∷ e ∷ f ∷ g ∷ h ∷ []) × (byte < 256)
 byte-for a b c d e f g h =
-    let va = cond a 1 0 in
-    let vb = cond b 1 0 in
-    let vc = cond c 1 0 in
-    let vd = cond d 1 0 in
-    let ve = cond e 1 0 in
-    let vf = cond f 1 0 in
-    let vg = cond g 1 0 in
-    let vh = cond h 1 0 in
-    let la = at-most-one a in
-    let lb = at-most-one b in
-    let lc = at-most-one c in
-    let ld = at-most-one d in
-    let le = at-most-one e in
-    let lf = at-most-one f in
-    let lg = at-most-one g in
-    let lh = at-most-one h in
-    let n = 128 * va + 64 * vb + 32 * vc + 16 * vd + 8 * ve + 4 * vf + 2 * vg + vh in
+    let v : Bool → ℕ = λ x. cond x 1 0 in
+    let n = 128 * v a + 64 * v b + 32 * v c + 16 * v d + 8 * v e + 4 * v f + 2 * v g + v h in
     grind (
       arith,
-      digit a (n / 128 % 2) (omega arith),
-      digit b (n / 64 % 2) (omega arith),
-      digit c (n / 32 % 2) (omega arith),
-      digit d (n / 16 % 2) (omega arith),
-      digit e (n / 8 % 2) (omega arith),
-      digit f (n / 4 % 2) (omega arith),
-      digit g (n / 2 % 2) (omega arith),
-      digit h (n % 2) (omega arith),
+      at-most-one,
+      digit a (n / 128 % 2) (omega (arith, at-most-one)),
+      digit b (n / 64 % 2) (omega (arith, at-most-one)),
+      digit c (n / 32 % 2) (omega (arith, at-most-one)),
+      digit d (n / 16 % 2) (omega (arith, at-most-one)),
+      digit e (n / 8 % 2) (omega (arith, at-most-one)),
+      digit f (n / 4 % 2) (omega (arith, at-most-one)),
+      digit g (n / 2 % 2) (omega (arith, at-most-one)),
+      digit h (n % 2) (omega (arith, at-most-one)),
     )
+
+byte-of : (bits : List Bool) → length bits ≡ 8 → (byte : ℕ) × (bits_of byte ≡ bits) × (byte < 256)
+byte-of (a ∷ b ∷ c ∷ d ∷ e ∷ f ∷ g ∷ h ∷ []) eight = byte-for a b c d e f g h
+byte-of bits eight = absurd (omega arith)
 
 -- bits are filled up to whole bytes
 pub record IsPacked (bits : List Bool) : Type 0 where
@@ -280,37 +261,23 @@ pub record IsPacked (bits : List Bool) : Type 0 where
   pub whole : bits_of_bytes bytes ≡ bits ++ filling
   pub are_bytes : AllByRecursion (λ b. b < 256) bytes
 
-last-byte : (bits filling : List Bool) (byte : ℕ) → length filling ≤ 7 → bits_of byte ≡ bits ++ filling → byte < 256
-    → IsPacked bits
+last-byte : (bits : List Bool) → 0 < length bits → length bits ≤ 7 → IsPacked bits
 unfolding bits_of_bytes
-last-byte bits filling byte h e low = record {
-  bytes = byte ∷ [];
-  filling = filling;
-  is_short = h;
-  whole = append-nil (bits_of byte) ∙ e;
-  are_bytes = (low, tt);
-}
+last-byte bits some few =
+    let filling = replicate (8 - length bits) false in
+    let n = length-replicate (8 - length bits) false in
+    let x = byte-of (bits ++ filling) (omega (arith, length-append bits filling)) in
+    record {
+      bytes = x.0 ∷ [];
+      filling = filling;
+      is_short = omega arith;
+      whole = append-nil (bits_of x.0) ∙ x.1;
+      are_bytes = (x.2, tt);
+    }
 
 pub packed : (bits : List Bool) → IsPacked bits
 unfolding bits_of_bytes
 packed [] = record { bytes = []; filling = []; is_short = omega arith; whole = refl; are_bytes = tt }
-packed (a ∷ []) = let b = byte-for a false false false false false false false in
-    last-byte (a ∷ []) (replicate 7 false) b.0 (omega arith) b.1 b.2
-packed (a ∷ b ∷ []) = let x = byte-for a b false false false false false false in
-    last-byte (a ∷ b ∷ []) (replicate 6 false) x.0 (omega arith) x.1 x.2
-packed (a ∷ b ∷ c ∷ []) = let x = byte-for a b c false false false false false in
-    last-byte (a ∷ b ∷ c ∷ []) (replicate 5 false) x.0 (omega arith) x.1 x.2
-packed (a ∷ b ∷ c ∷ d ∷ []) = let x = byte-for a b c d false false false false in
-    last-byte (a ∷ b ∷ c ∷ d ∷ []) (replicate 4 false) x.0 (omega arith) x.1 x.2
-packed (a ∷ b ∷ c ∷ d ∷ e ∷ []) =
-    let x = byte-for a b c d e false false false in
-    last-byte (a ∷ b ∷ c ∷ d ∷ e ∷ []) (replicate 3 false) x.0 (omega arith) x.1 x.2
-packed (a ∷ b ∷ c ∷ d ∷ e ∷ f ∷ []) =
-    let x = byte-for a b c d e f false false in
-    last-byte (a ∷ b ∷ c ∷ d ∷ e ∷ f ∷ []) (replicate 2 false) x.0 (omega arith) x.1 x.2
-packed (a ∷ b ∷ c ∷ d ∷ e ∷ f ∷ g ∷ []) =
-    let x = byte-for a b c d e f g false in
-    search (rules, last-byte)
 packed (a ∷ b ∷ c ∷ d ∷ e ∷ f ∷ g ∷ h ∷ more) =
     let x = byte-for a b c d e f g h in
     let r = packed more in
@@ -321,6 +288,7 @@ packed (a ∷ b ∷ c ∷ d ∷ e ∷ f ∷ g ∷ h ∷ more) =
       whole = ap₂ (λ (p q : List Bool). p ++ q) x.1 r.whole;
       are_bytes = (x.2, r.are_bytes);
     }
+packed bits = last-byte bits (omega arith) (omega arith)
 
 pub interval-written : (p : Pass) (Good : Via × Block → Type 0) → Each p Good → (turns : List (Via × Block))
     → AllByRecursion Good turns → (bytes : List ℕ) × WritesInterval p turns bytes

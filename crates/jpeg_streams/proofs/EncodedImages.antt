@@ -1,5 +1,6 @@
 -- Every image has a stream: for each component a scan, or in a progressive frame a scan of DC and one of AC.
-use Rattle.std.proofs.Common.{rules, ◌≡◌, ◌≢◌, ◌⊎◌, inl, inr, ℕ, zero, suc, ◌+◌, ◌/◌, ◌%◌, ◌<◌, ◌≤◌, ◌==◌, nat_lt}
+use Rattle.std.proofs.Math.Logic.{⊎_elim}
+use Rattle.std.proofs.Common.{rules, ◌≡◌, ◌≢◌, ℕ, zero, suc, ◌+◌, ◌/◌, ◌%◌, ◌<◌, ◌≤◌, ◌==◌, nat_lt}
 use Rattle.std.proofs.Common.{not, Bool, true, false, List, [], ◌∷◌, ◌++◌, map, length, drop, replicate, flat_map, ℤ}
 use Rattle.std.proofs.Common.{Some, None, refl, sym, ap, ap₂, ◌∙◌, subst, append_assoc, length-append, arith}
 use Rattle.std.proofs.Common.{true≢false, leb-true}
@@ -193,10 +194,6 @@ unfolding component_of
 before-it h [] more c e = rw (eq-eqb c.identifier c.identifier refl) refl
 before-it h (x ∷ front) more c e = search (rules, or-false, before-it h front more c)
 
-place-is : (h : FrameHeader) (front more : List Factors) (c : Factors) → is_taken front c.identifier ≡ false
-    → place_of (map (component_in h) (front ++ c ∷ more)) c.identifier ≡ Some (length front)
-place-is h front more c e = grind (arith, common_steps, before-it, length-append, lt-ltb)
-
 pub first-is : (h : FrameHeader) (front more : List Factors) (c : Factors)
     → first_of (drop (length front) (map (component_in h) (front ++ c ∷ more))) ≡ Some (component_in h c)
 first-is h [] more c = refl
@@ -226,7 +223,7 @@ lone-written from to number h front more c band some e new = record {
   choices = (
     record {
       identified = ap (λ (cs : List Factors). place_of (map (component_in h) cs) c.identifier) e
-          ∙ place-is h front more c new;
+          ∙ (grind (arith, common_steps, before-it, length-append, lt-ltb));
       ordered = omega arith;
       dc_placed = omega arith;
       ac_placed = omega arith;
@@ -450,16 +447,11 @@ scans-written number h array (c ∷ more) front levels scanned le steps all e ar
 
 each-steps : (number : ℕ) (h : FrameHeader) (array : Coefficients) → number ≤ 2 → HasPicture h
     → ((k row column : ℕ) → Is8Bit (array k row column)) → Steps number h array
-each-steps number h array le p range = go (cases_lt number 2)
-  where
-    go : (number < 2) ⊎ (2 ≤ number) → Steps number h array
-    go (inl less) = sequential-steps number h array (omega arith) p range
-    go (inr more) = progressive-steps number h array (omega arith) p range
+each-steps number h array le p range = ⊎_elim
+    (λ less. sequential-steps number h array (omega arith) p range)
+    (λ more. progressive-steps number h array (omega arith) p range) (cases_lt number 2)
 
 -- ---- the segments
-
-some-components : (h : FrameHeader) → HasPicture h → h.components ≡ [] → false ≡ true
-some-components h p e = search rules
 
 abbrev front_bytes : ℕ → FrameHeader → List ℕ → List ℕ
 front_bytes number h more = marker 0 219 (sized (payload_of (Quantization all_ones))
@@ -472,7 +464,7 @@ unfolding nothing_found frame_of codes_exist lengths_from code_value
 image-written number h array le is p range =
     let r = scans-written number h array h.components []
     (λ k. nothing_sent) false le (each-steps number h array le p range) is.components refl is.components
-    (record { sent = λ j lt. absurd (omega arith); unsent = λ j low. refl }) (some-components h p) in
+    (record { sent = λ j lt. absurd (omega arith); unsent = λ j low. refl }) (search rules) in
     let size : length (frame_written number h).components ≡ length h.components = length-map h.components _ in (
       255 ∷ 216 ∷ front_bytes number h r.0,
       record {

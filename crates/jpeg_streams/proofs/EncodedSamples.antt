@@ -1,4 +1,5 @@
 -- Every picture of samples has a stream: a scan for each component.
+use Rattle.std.proofs.Math.Logic.{⊎_elim}
 use Rattle.std.proofs.Common.{rules, length, replicate, negsuc, unsigned_abs, subst, append_assoc, length-append}
 use Rattle.std.proofs.Common.{◌≡◌, ◌⊎◌, inl, ℕ, zero, Bool, true, List, ◌++◌, drop, take, ◌≤ℤ◌, Some, None, refl, arith}
 use Rattle.std.proofs.Common.{inr, suc, ◌+◌, ◌-◌, ◌*◌, ◌^◌, ◌<◌, ◌≤◌, [], ◌∷◌, map, ℤ, pos, sym, ap, ap₂, ◌∙◌}
@@ -10,7 +11,7 @@ use Rattle.std.proofs.lemmas.List.FromFn.{get_or-range_with_len}
 use lib.ListN.{length-map}
 use Rattle.std.specs.List.{AllByRecursion, list_all, range_with_len}
 use Rattle.std.specs.Prelude.{flat_map, nat_lt, slice_index_or}
-use Rattle.jpeg_bits.specs.Codes.{code_lengths, code_value, codes_exist, lengths_from, Table}
+use Rattle.jpeg_bits.specs.Codes.{code_value, codes_exist, lengths_from, Table}
 use Rattle.jpeg_bits.specs.Written.{code_bits, IsCoded, marker, stuffed}
 use Rattle.jpeg_bits.specs.declared.codes.HuffmanTableClass.TheVariants as classes
 use Rattle.jpeg_bits.specs.declared.scan.Predictor.{Predictor}
@@ -42,6 +43,7 @@ use Rattle.jpeg_streams.specs.WrittenLossless.{said_after_scan, Samples, Writes,
 use Rattle.jpeg_streams.specs.WrittenLossless.Writes.{closed, scan, segment}
 use Rattle.jpeg_streams.proofs.EncodedBlocks.{category-at_most, packed}
 use Rattle.jpeg_streams.proofs.EncodedImages.{component_in, first-is, in-range, lone_header, lone-written}
+use Rattle.jpeg_streams.proofs.OwnSpots.{all-append}
 use Rattle.jpeg_streams.proofs.TestedParts.{table-by}
 
 -- ---- the table
@@ -53,12 +55,9 @@ even_counts = replicate 4 0 ++ 17 ∷ replicate 11 0
 abbrev even_table : Table
 even_table = record { class = classes.DC; counts = even_counts; symbols = range_with_len 0 17 }
 
-lengths-are : length (code_lengths even_counts) ≡ 17
-unfolding lengths_from
-lengths-are = refl
-
 even-coded : (s : ℕ) → s < 17 → IsCoded even_table s (code_bits even_table s)
-even-coded s h = grind (arith, lengths-are, get_or-range_with_len 0 17 s 0 h)
+unfolding lengths_from
+even-coded s h = grind (arith, get_or-range_with_len 0 17 s 0 h)
 
 -- ---- differences
 
@@ -81,16 +80,12 @@ number-written d r e low high h =
     )
 
 difference-written : (r : ℕ) → r < 65536 → (bits : List Bool) × WritesDifference even_table r bits
-difference-written r h = go (cases_lt r 32769)
-  where
-    go : (r < 32769) ⊎ (32769 ≤ r) → (bits : List Bool) × WritesDifference even_table r bits
-    go (inl less) =
-        number-written (pos r) r (sym (residue_small r h)) (omega (arith, ints)) (omega (arith, ints))
-        (omega (arith, ints))
-    go (inr more) =
-        let e = residue_neg (65535 - r) in
-        number-written (negsuc (65535 - r)) r (omega (arith, e)) (omega (arith, ints)) (omega (arith, ints))
-        (omega (arith, ints))
+difference-written r h = ⊎_elim
+    (λ less. number-written (pos r) r (sym (residue_small r h)) (omega (arith, ints)) (omega (arith, ints))
+    (omega (arith, ints)))
+    (λ more. number-written (negsuc (65535 - r)) r (omega (arith, residue_neg (65535 - r))) (omega (arith, ints))
+    (omega (arith, ints)) (omega (arith, ints)))
+    (cases_lt r 32769)
 
 -- numbers modulo 2 ^ 16
 abbrev AreResidues : List ℕ → Type 0
@@ -127,57 +122,47 @@ residue-low : (z : ℤ) → residue z < 65536
 residue-low (pos n) = let e = residue_nat n in omega (arith, e)
 residue-low (negsuc n) = let e = residue_neg n in omega (arith, e)
 
-first-count : (a : ℕ) (xs : List ℕ) → length (first_differences a xs) ≡ length xs
+first-row : (a : ℕ) (xs : List ℕ)
+    → (length (first_differences a xs) ≡ length xs) × AreResidues (first_differences a xs)
 unfolding first_differences
-first-count a [] = refl
-first-count a (x ∷ xs) = ap suc (first-count x xs)
+first-row a [] = (refl, tt)
+first-row a (x ∷ xs) = search (rules, residue-low, first-row x xs)
 
-first-low : (a : ℕ) (xs : List ℕ) → AreResidues (first_differences a xs)
-unfolding first_differences
-first-low a [] = tt
-first-low a (x ∷ xs) = (residue-low _, first-low x xs)
-
-rest-count : (selection : Predictor) (a c : ℕ) (above xs : List ℕ) → length above ≡ length xs
-    → length (rest_differences selection a c above xs) ≡ length xs
+rest-row : (selection : Predictor) (a c : ℕ) (above xs : List ℕ) → length above ≡ length xs
+    → (length (rest_differences selection a c above xs) ≡ length xs)
+    × AreResidues (rest_differences selection a c above xs)
 unfolding rest_differences
-rest-count selection a c (b ∷ above) (x ∷ xs) h = ap suc (rest-count selection x b above xs (omega arith))
-rest-count selection a c above xs h = search rules
+rest-row selection a c (b ∷ above) (x ∷ xs) h =
+    search (rules, residue-low, rest-row selection x b above xs (omega arith))
+rest-row selection a c above xs h = search rules
 
-rest-low : (selection : Predictor) (a c : ℕ) (above xs : List ℕ) → AreResidues (rest_differences selection a c above xs)
-unfolding rest_differences
-rest-low selection a c (b ∷ above) (x ∷ xs) = (residue-low _, rest-low selection x b above xs)
-rest-low selection a c above xs = tt
+-- the line above, or none
+abbrev IsAbove : ℕ → List ℕ → Type 0
+IsAbove n above = (above ≡ []) ⊎ (length above ≡ n)
 
-top-row : (selection : Predictor) (start : ℕ) (xs : List ℕ)
-    → (length (differences_below selection start [] xs) ≡ length xs) × AreResidues (differences_below selection start
-    [] xs)
-unfolding differences_below
-top-row selection start xs = (first-count start xs, first-low start xs)
-
-below-row : (selection : Predictor) (start : ℕ) (above xs : List ℕ) → length above ≡ length xs
+below-row : (selection : Predictor) (start : ℕ) (above xs : List ℕ) → IsAbove (length xs) above
     → (length (differences_below selection start above xs) ≡ length xs)
     × AreResidues (differences_below selection start above xs)
 unfolding differences_below
-below-row selection start [] xs h = top-row selection start xs
-below-row selection start above xs h = search (rules, rest-count, residue-low, rest-low)
+below-row selection start [] xs h = first-row start xs
+below-row selection start above xs (inl e) = rw e (first-row start xs)
+below-row selection start (b ∷ above) (x ∷ xs) (inr e) =
+    let r = rest-row selection x b above xs (omega arith) in search (rules, residue-low)
+below-row selection start above xs (inr e) = search rules
 
 -- lines of n samples
 abbrev AreWide : ℕ → List (List ℕ) → Type 0
 AreWide n lines = AllByRecursion (λ l. length l ≡ n) lines
 
-below-rows : (selection : Predictor) (start n : ℕ) (above : List ℕ) (lines : List (List ℕ)) → length above ≡ n
+below-rows : (selection : Predictor) (start n : ℕ) (above : List ℕ) (lines : List (List ℕ)) → IsAbove n above
     → AreWide n lines → AreRows n (differences_of selection start above lines)
 unfolding differences_of
 below-rows selection start n above [] e h = tt
-below-rows selection start n above (line ∷ lines) e h =
-    grind (arith, below-row selection start above line (e ∙ sym h.0), below-rows selection start n line lines h.0 h.1)
-
-all-rows : (selection : Predictor) (start n : ℕ) (lines : List (List ℕ)) → AreWide n lines
-    → AreRows n (differences_of selection start [] lines)
-unfolding differences_of
-all-rows selection start n [] h = tt
-all-rows selection start n (line ∷ lines) h =
-    grind (arith, top-row selection start line, below-rows selection start n line lines h.0 h.1)
+below-rows selection start n above (line ∷ lines) e h = grind (
+  arith,
+  below-row selection start above line (subst (λ (k : ℕ). IsAbove k above) (sym h.0) e),
+  below-rows selection start n line lines (inr h.0) h.1,
+)
 
 pub rows-count : (selection : Predictor) (start : ℕ) (above : List ℕ) (lines : List (List ℕ))
     → length (differences_of selection start above lines) ≡ length lines
@@ -228,10 +213,6 @@ are-wide bound n (l ∷ lines) h = (h.0.0, are-wide bound n lines h.1)
 
 -- ---- bytes
 
-bytes-append : (xs ys : List ℕ) → AreBytes xs → AreBytes ys → AreBytes (xs ++ ys)
-bytes-append [] ys h k = k
-bytes-append (x ∷ xs) ys h k = (h.0, bytes-append xs ys h.1 k)
-
 stuffed-bytes : (bytes : List ℕ) → AreBytes bytes → AreBytes (stuffed bytes)
 unfolding stuffed
 stuffed-bytes [] h = tt
@@ -242,7 +223,7 @@ u16-bytes n h = (omega arith, (omega arith, tt))
 
 -- a segment of bytes
 sized-bytes : (payload : List ℕ) → length payload + 2 < 65536 → AreBytes payload → AreBytes (sized payload)
-sized-bytes payload h k = bytes-append (u16_bytes (length payload + 2)) payload (u16-bytes (length payload + 2) h) k
+sized-bytes payload h k = all-append (λ b. b < 256) (u16_bytes (length payload + 2)) payload (u16-bytes (length payload + 2) h) k
 
 marked-bytes : (code : ℕ) (bytes : List ℕ) → code < 256 → AreBytes bytes → AreBytes (marker 0 code bytes)
 marked-bytes code bytes h k = (omega arith, (h, k))
@@ -256,12 +237,7 @@ components-bytes : (front cs : List Factors) → AreComponents 3 front cs → Al
 unfolding AreComponents
 components-bytes front [] are low = tt
 components-bytes front (c ∷ cs) are low =
-    search (rules, eqb-true, bytes-append, components-bytes (front ++ c ∷ []) cs are.1 low.1)
-
-header-bytes : (h : FrameHeader) → IsFrame 3 h → HasSamples 3 h → FitsFields h
-    → AreBytes (sized (payload_of (Header 3 h)))
-unfolding frame_payload
-header-bytes h is p fits = search (rules, factors-length, sized-bytes, bytes-append, u16-bytes, components-bytes)
+    search (rules, eqb-true, all-append, components-bytes (front ++ c ∷ []) cs are.1 low.1)
 
 tested-bytes : (bytes : List ℕ) → list_all (λ b. nat_lt b 256) bytes ≡ true → AreBytes bytes
 tested-bytes [] h = tt
@@ -280,7 +256,7 @@ interval-written : (start bound width height : ℕ) (lines : List (List ℕ)) �
 unfolding mcu_tables HaveDifferences
 interval-written start bound width height lines le e h =
     let rows = differences_of Ra start [] lines in
-    let are = all-rows Ra start width lines (are-wide bound width lines h) in
+    let are = below-rows Ra start width [] lines (inl refl) (are-wide bound width lines h) in
     let w = rows-written width rows are in
     let b = packed w.0 in
     grind (
@@ -388,9 +364,9 @@ scans-written h samples (c ∷ more) front now sent p all ready e are sends =
           (lone-written 1 0 3 h front more c refl (let q = p.least in omega arith) e are.0.is_new) d.1 rest.2,
       rest.3,
       λ fits. marked-bytes 218 (sized (scan_payload (header_of place c)) ++ (d.0 ++ rest.0)) (omega arith)
-          (bytes-append (sized (scan_payload (header_of place c))) (d.0 ++ rest.0)
+          (all-append (λ b. b < 256) (sized (scan_payload (header_of place c))) (d.0 ++ rest.0)
           (scan-bytes place c (one-identified h.components front more c e fits.identified))
-          (bytes-append d.0 rest.0 d.2 (rest.4 fits))),
+          (all-append (λ b. b < 256) d.0 rest.0 d.2 (rest.4 fits))),
     )
 
 abbrev even_tables : List PlacedTable
@@ -412,7 +388,7 @@ front_bytes h more =
 
 pub samples-written : (h : FrameHeader) (samples : Samples) → IsFrame 3 h → HasSamples 3 h
     → AreSamplesOf (frame_written 3 h) samples → (bytes : List ℕ) × AreWrittenIn h samples bytes
-unfolding nothing_found frame_of codes_exist lengths_from code_value huffman_bytes
+unfolding nothing_found frame_of codes_exist lengths_from code_value huffman_bytes frame_payload
 samples-written h samples is p all =
     let r = scans-written h samples h.components [] (said h) [] p all (said-ready h) refl is.components
     (λ j lt. absurd (omega arith)) in (
@@ -432,10 +408,10 @@ samples-written h samples is p all =
             omega arith,
             marked-bytes 195 (sized (payload_of (Header 3 h))
                 ++ marker 0 196 (sized (payload_of (Huffman even_tables)) ++ r.0)) (omega arith)
-                (bytes-append (sized (payload_of (Header 3 h))) (marker 0 196 (sized (payload_of (Huffman even_tables))
+                (all-append (λ b. b < 256) (sized (payload_of (Header 3 h))) (marker 0 196 (sized (payload_of (Huffman even_tables))
                 ++ r.0))
-                (header-bytes h is p fits)
-                (search (rules, marked-bytes, bytes-append, tested-bytes))),
+                (search (rules, factors-length, sized-bytes, all-append, u16-bytes, components-bytes))
+                (search (rules, marked-bytes, all-append, tested-bytes))),
           ),
         );
       },

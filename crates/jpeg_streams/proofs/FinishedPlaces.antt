@@ -56,12 +56,6 @@ not-done : (a : Option ℕ) → is_level_0 a ≡ false → (ls : List (Option �
 not-done a h [] all = refl
 not-done a h (l ∷ ls) all = search (rules, not-done a h ls all.1)
 
-pub finish-yes : (p : Pass) (f : Finished) → p.al ≡ 0 → finish p f ≡ record {
-  dc = elim (p.ss == 0) as (λ _. Bool) [ true ↦ true | false ↦ f.dc ];
-  acs = with_band p f.acs (replicate (length (band_of p f.acs)) true);
-}
-finish-yes p f e = rw (eq-eqb p.al 0 e, finish) refl
-
 pub finish-no : (p : Pass) (f : Finished) (a : ℕ) → p.al ≡ suc a → finish p f ≡ f
 finish-no p f a e = rw (not-equal p.al 0 (λ g. absurd (omega arith)), finish) refl
 
@@ -90,4 +84,4 @@ dc-open p l legal e true k = ap is_level_0 (legal.dc_unsent e k)
 dc-open p l legal e false k = ap is_level_0 (legal.dc_sent e k)
 
 pub finish-legal : (p : Pass) (l : Levels) → IsLegal p l → finish p (at_level_0 l) ≡ at_level_0 (sent_after p l)
-finish-legal p l legal = search (rules, finish-yes, levels-acs, finish-no, band-open, around, dc-open, eqb-true)
+finish-legal p l legal = search (rules, eq-eqb, levels-acs, finish-no, band-open, around, dc-open, eqb-true)

@@ -1,6 +1,6 @@
 -- A picture is made of the samples inside its components.
 use Rattle.std.proofs.Common.{rules, ◌≡◌, ℕ, zero, suc, ◌+◌, ◌*◌, ◌/◌, ◌%◌, ◌<◌, ◌≤◌, List, [], ◌∷◌, map, length}
-use Rattle.std.proofs.Common.{slice_index, Ok, refl, sym, ap, ap₂, ◌∙◌, arith}
+use Rattle.std.proofs.Common.{slice_index, Ok, refl, ap, ap₂, arith}
 use Rattle.std.proofs.lemmas.Grind.{common_steps}
 use Rattle.std.proofs.Math.Nat.{div-lt_iff_lt-mul, mod-lt, mul_comm}
 use Rattle.std.specs.List.{range_with_len, concat}
@@ -11,7 +11,7 @@ use Rattle.jpeg_pixels.specs.declared.upsampler.UpsampleRule.TheVariants.{Generi
 use Rattle.jpeg_pixels.specs.declared.upsampler.ColorConvert.{ColorConvert}
 use Rattle.jpeg_pixels.specs.Upsampling.{upsampled, across, down}
 use Rattle.jpeg_pixels.specs.Colour.{line_bytes}
-use Rattle.jpeg_pixels.specs.Pictures.{Source, sources_by, sources_of, line_of, lines_of}
+use Rattle.jpeg_pixels.specs.Pictures.{Source, sources_by, sources_of, lines_of}
 use Rattle.jpeg_pixels.specs.Pictures.{picture_line, picture_bytes, image_of}
 use Rattle.jpeg_pixels.specs.Planes.{cropped}
 use Rattle.jpeg_streams.proofs.ReadTurns.{err-ok, ok-same, bind-ok}
@@ -58,10 +58,6 @@ abbrev pub AllReach : List Source → ℕ → ℕ → Type 0
 AllReach [] width height = Unit {0}
 AllReach (s ∷ sources) width height = Reaches s width height × AllReach sources width height
 
-line-same : (s : Source) (p q : List ℕ) (width height row : ℕ) → Reaches s width height → row < height
-    → SamePlane s.stride s.width s.height p q → line_of s p width row ≡ line_of s q width row
-line-same s p q width height row c low same = search (rules, map-same, slice_index, upsampled-inside)
-
 abbrev pub AllSame : List Source → List (List ℕ) → List (List ℕ) → Type 0
 AllSame [] ps qs = Unit {0}
 AllSame (s ∷ sources) [] qs = ⊥
@@ -73,23 +69,16 @@ lines-same : (sources : List Source) (ps qs : List (List ℕ)) (width height row
     → lines_of sources ps width row ≡ lines_of sources qs width row
 unfolding lines_of
 lines-same (s ∷ sources) (p ∷ ps) (q ∷ qs) width height row c low same =
-    search (rules, line-same, lines-same sources ps qs width height row c.1 low same.1)
+    search (rules, map-same, upsampled-inside, lines-same sources ps qs width height row c.1 low same.1)
 lines-same sources ps qs width height row c low same = search rules
-
-picture-line : (convert : ColorConvert) (sources : List Source) (ps : List (List ℕ)) (width row : ℕ)
-    → picture_line convert sources ps width row ≡ line_bytes convert width (lines_of sources ps width row)
-unfolding picture_line
-picture-line convert sources ps width row = refl
 
 picture-same : (convert : ColorConvert) (sources : List Source) (ps qs : List (List ℕ)) (width height : ℕ)
     → AllReach sources width height → AllSame sources ps qs
     → picture_bytes convert sources ps width height ≡ picture_bytes convert sources qs width height
-unfolding picture_bytes
+unfolding picture_bytes picture_line
 picture-same convert sources ps qs width height c same =
     ap concat (map-same (picture_line convert sources ps width) (picture_line convert sources qs width) 0 height
-    (λ row a b. picture-line convert sources ps width row
-    ∙ ap (line_bytes convert width) (lines-same sources ps qs width height row c (omega arith) same)
-    ∙ sym (picture-line convert sources qs width row)))
+    (λ row a b. ap (line_bytes convert width) (lines-same sources ps qs width height row c (omega arith) same)))
 
 -- ---- by components
 

@@ -18,8 +18,7 @@ use Rattle.jpeg_streams.specs.McuRows.{zero_rows, row_size, own_row, row_at, row
 use Rattle.jpeg_streams.specs.McuRows.{scan_by_rows}
 use Rattle.jpeg_streams.proofs.Put.{put-inside}
 use Rattle.std.proofs.Math.Nat.{add-mul, mul_assoc, div-lt_iff_lt-mul}
-use Rattle.std.proofs.lemmas.Nat.{div-mul-add}
-use Rattle.jpeg_streams.proofs.Apart.{At, at-all, in-flat-back, in-line-back, mcu-tells, placed, map-same}
+use Rattle.jpeg_streams.proofs.Apart.{At, at-all, in-flat-back, mcu-tells, own-within, placed, map-same}
 use Rattle.jpeg_streams.proofs.CountedScans.{finished, on-on, blocks-append, some-product}
 use Rattle.std.proofs.lemmas.List.{map-append, set-append_left, set-append_right, length-replicate}
 use Rattle.std.proofs.lemmas.List.FromFn.{length-map-range_with_len}
@@ -319,10 +318,6 @@ pub placed_rows : List Component → ℕ → List (List Spot) → List Spot
 placed_rows cs row [] = []
 placed_rows cs row (spots ∷ rows) = placed_row cs row spots ++ placed_rows cs (row + 1) rows
 
-row-shifted : (row : ℕ) (cs : List Component) (front : Arrays) (spots : List Spot) → AreRows row cs front
-    → placed_row cs row spots ≡ map (shifted front) spots
-row-shifted row cs front spots h = search (rules, map-same, front-size)
-
 -- the spots of a row are inside its blocks
 pub record IsRow (cs : List Component) (spots : List Spot) : Type 0 where
   pub inside : (arrays : Arrays) (s : Spot) → AreRows 1 cs arrays → IsIn s spots → IsInside arrays s
@@ -353,7 +348,7 @@ rows-in-turn p vias n cs (spots ∷ rows) row front old t fits h =
     (search (rules, first-row))
     ∙ blocks-append p vias n (placed_row cs row spots) others (wrapped_count front rest start) t
     ∙ ap (λ (m : List Spot). read_on next (blocks_from p vias n m (wrapped_count front rest start) t))
-    (row-shifted row cs front spots h)
+    (search (rules, map-same, front-size))
     ∙ ap (read_on next) (blocks-shifted p vias n front rest spots start t holds)
     ∙ on-on wrap next o
     ∙ counted-where (AreRows 1 cs) (λ r. λ u. next (wrapped_count front rest r) u) (λ r. λ u. rows_from p vias n cs rows
@@ -400,21 +395,15 @@ unfolding all_spots
 several-inside frame cs arrays s fits sized h =
     let r = in-flat-back (λ row. flat_map (λ column. mcu_spots row column 0 cs) (range_with_len 0 frame.mcus_wide)) s
     0 1 h in
-    let rh = r.between.high in
     let g = in-flat-back (λ column. mcu_spots r.at column 0 cs) s 0 frame.mcus_wide r.gives in
-    let gh = g.between.high in
-    let of = mcu-tells frame r.at g.at (omega arith) cs 0 s fits g.gives in
+    let of = mcu-tells frame r.at g.at (search rules) cs 0 s fits g.gives in
     let c = of.component in
     let here = placed frame cs r.at g.at s of in
     let z = rows-at 1 cs arrays s.slot c sized here in
     let f = at-all (Fits frame) s.slot cs c fits here in
     let up : s.index / c.blocks_wide < 1 * c.factors.vertical =
-    (div-lt_iff_lt-mul f.vertical).0 (let e = of.tells.row_of in omega arith) in
-    let wp : 0 < c.blocks_wide = search (rules, some-product) in
-    let i : s.index < 1 * c.factors.vertical * c.blocks_wide = (div-lt_iff_lt-mul wp).0 up in
-    let e : 1 * c.factors.vertical * c.blocks_wide ≡ 1 * (c.factors.vertical * c.blocks_wide) =
-    mul_assoc 1 c.factors.vertical c.blocks_wide in
-    record { slot = z.1; index = let l = z.0 in omega arith }
+    (div-lt_iff_lt-mul f.vertical).0 (let e = of.tells.row_of in let rh = r.between.high in omega arith) in
+    search (rules, div-lt_iff_lt-mul, mul_assoc, some-product)
 
 all-rows : (cs : List Component) (f : ℕ → List Spot) (a n : ℕ) → ((row : ℕ) → IsRow cs (f row))
     → AllByRecursion (IsRow cs) (map f (range_with_len a n))
@@ -468,24 +457,11 @@ own-rows c row (suc rows) h =
 -- an own spot of a row of MCUs stands in the row's blocks
 own-inside : (frame : Frame) (c : Component) (row : ℕ) (arrays : Arrays) (s : Spot) → Fits frame c
     → AreRows 1 (c ∷ []) arrays → IsIn s (own_row c row) → IsInside arrays s
-unfolding own_spots
 own-inside frame c row arrays s fits sized h =
     let vt = c.factors.vertical in
-    let w = c.blocks_wide in
-    let lines = min vt ((grid_of c).own_high - row * vt) in
-    let g = in-flat-back (line_at c) s 0 lines h in
-    let e = in-line-back (λ column. record { slot = 0; index = g.at * w + column }) s 0 (grid_of c).own_wide g.gives in
-    let gh = g.between.high in
-    let eh = e.between.high in
-    let ow = fits.own_wide in
-    let column : e.at < w = omega arith in
-    let v : g.at < 1 * vt = omega arith in
-    let wp : 0 < w = omega arith in
-    let d : (g.at * w + e.at) / w ≡ g.at = div-mul-add g.at w e.at column in
-    let i : g.at * w + e.at < 1 * vt * w = (div-lt_iff_lt-mul wp).0 (omega arith) in
-    let a : 1 * vt * w ≡ 1 * (vt * w) = mul_assoc 1 vt w in
+    let g = record (grid_of c) { own_high = min vt ((grid_of c).own_high - row * vt) } in
     let z = rows-at 1 (c ∷ []) arrays 0 c sized refl in
-    search rules
+    own-within g (1 * vt) arrays s fits.own_wide (omega arith) z.1 (z.0 ∙ sym (mul_assoc 1 vt c.blocks_wide)) h
 
 -- the spots of each row are inside its blocks
 pub row-inside : (frame : Frame) (cs : List Component) (row : ℕ) → AllByRecursion (Fits frame) cs

@@ -1,6 +1,7 @@
 -- The order of a scan reaches each block of its components.
-use Rattle.std.proofs.Common.{rules, ◌≡◌, ◌⊎◌, inl, inr, ℕ, zero, suc, ◌+◌, ◌*◌, ◌/◌, ◌%◌, ◌<◌, ◌≤◌, true, false, List}
-use Rattle.std.proofs.Common.{[], ◌∷◌, ◌++◌, map, length, get_or, refl, sym, ap, ap₂, subst, arith, leb}
+use Rattle.std.proofs.Math.Logic.{⊎_elim}
+use Rattle.std.proofs.Common.{rules, ◌≡◌, inl, inr, ℕ, zero, suc, ◌+◌, ◌*◌, ◌/◌, ◌%◌, ◌<◌, ◌≤◌, List}
+use Rattle.std.proofs.Common.{[], ◌∷◌, ◌++◌, map, length, get_or, refl, sym, ap, ap₂, subst, arith}
 use Rattle.std.proofs.Math.Nat.{div-lt_iff_lt-mul, mod-lt}
 use Rattle.std.proofs.lemmas.Nat.{div-add-mod', div-mul-add, mod-mul-add}
 use Rattle.std.proofs.lemmas.Bool.Decides.{leb_tells, nat_tests}
@@ -29,12 +30,8 @@ in-flat f x y (z ∷ ys) (inr t) k = in-back x (f z) (flat_map f ys) (in-flat f 
 
 pub in-range : (k a n : ℕ) → a ≤ k → k < a + n → IsIn k (range_with_len a n)
 in-range k a zero h lt = absurd (omega arith)
-in-range k a (suc n) h lt = go (leb_tells k a) (λ g. in-range k (a + 1) n (omega arith) (omega arith))
-  where
-    go : ((leb k a ≡ true) × (k ≤ a)) ⊎ ((leb k a ≡ false) × (a < k)) → (a < k → IsIn k (range_with_len (a + 1) n))
-        → IsIn k (range_with_len a (suc n))
-    go (inl x) ih = inl (omega arith)
-    go (inr x) ih = inr (ih x.1)
+in-range k a (suc n) h lt = ⊎_elim (λ x. inl (omega arith))
+    (λ x. inr (in-range k (a + 1) n (omega arith) (omega arith))) (leb_tells k a)
 
 pub in-below : (k n : ℕ) → k < n → IsIn k (range_with_len 0 n)
 in-below k n h = in-range k 0 n (omega arith) (omega arith)
@@ -103,9 +100,6 @@ in-mcu row column base zero (d ∷ more) c s h k = search (rules, in-front)
 in-mcu row column base (suc j) (d ∷ more) c s h k =
     search (rules, in-back, in-mcu row column (base + 1) j more c s h)
 
-place-parts : (i w hz vt : ℕ) → (i / w / vt * vt + i / w % vt) * w + (i % w / hz * hz + i % w % hz) ≡ i
-place-parts i w hz vt = rw (div-add-mod' (i / w) vt, div-add-mod' (i % w) hz, div-add-mod' i w) refl
-
 pub all-covered : (frame : Frame) (components : List Component) (c : Component) (s : Spot) → At s.slot components c
     → Fits frame c
     → IsOwn (grid_of c) s.index → IsIn s (all_spots frame.mcus_wide frame.mcus_high components)
@@ -137,7 +131,7 @@ all-covered frame components c s here fits own =
     let found : IsIn (at v h) (flat_map across (range_with_len 0 frame.mcus_high))
     = search (rules, in-flat, in-below) in
     subst (λ (k : ℕ). IsIn (record { slot = s.slot; index = k }) (flat_map across (range_with_len 0 frame.mcus_high)))
-    (place-parts s.index w hz vt) found
+    (rw (div-add-mod' (s.index / w) vt, div-add-mod' (s.index % w) hz, div-add-mod' s.index w) refl) found
 
 -- each own block of a scan's component stands in its order
 pub covered : (frame : Frame) (components : List Component) (c : Component) (s : Spot) → At s.slot components c

@@ -1,4 +1,5 @@
 -- Blocks that are put at their spots.
+use Rattle.std.proofs.Math.Logic.{⊎_elim}
 use Rattle.std.proofs.Common.{rules, ◌≡◌, ◌≢◌, ◌⊎◌, inl, inr, List, [], ◌∷◌, map, ◌∙◌, get_or-set_same}
 use Rattle.std.proofs.Common.{get_or-set_other, length-set}
 use Rattle.std.proofs.lemmas.Bool.Decides.{leb_tells}
@@ -29,12 +30,8 @@ pub stays : (f : Spot → Block) (q : Spot) (spots : List Spot) (arrays : Arrays
 unfolding put_blocks
 stays f q [] arrays h e = e
 stays f q (r ∷ spots) arrays h e =
-    stays f q spots (put_block r (f r) arrays) (put-inside r q (f r) arrays h) (go (same-spot r q))
-  where
-    go : (r ≡ q) ⊎ ((r.slot ≢ q.slot) ⊎ ((r.slot ≡ q.slot) × (r.index ≢ q.index)))
-        → block_at (put_block r (f r) arrays) q ≡ f q
-    go (inl g) = search (rules, put-same)
-    go (inr n) = put-other r q (f r) arrays h n ∙ e
+    stays f q spots (put_block r (f r) arrays) (put-inside r q (f r) arrays h)
+    (⊎_elim (λ g. search (rules, put-same)) (λ n. put-other r q (f r) arrays h n ∙ e) (same-spot r q))
 
 -- a place of the list has f of it
 pub reaches : (f : Spot → Block) (q : Spot) (spots : List Spot) (arrays : Arrays) → IsInside arrays q → IsIn q spots

@@ -212,34 +212,22 @@ pub record Brought (w : Found) (frame : Frame) (p : Pass) (array : Coefficients)
   pub is : with_arrays p codings arrays (reading w s h fi pl) ≡ reading w s h finished planes
   pub marked : Marked w frame array (levels_after p (places_of codings) levels) finished planes
 
-with-none : (p : Pass) (f : Found) → with_arrays p [] [] f ≡ f
-unfolding with_arrays
-with-none p f = refl
-
-blocks-are : (p : Pass) (k : Coding) (b : List Block) (w : Found) (s : Bool) (h : Arrays) (fi : List (List Bool))
-    (pl : List (Option (List ℕ))) → with_blocks p k b (reading w s h fi pl)
-    ≡ reading w s h (set fi k.place (finished_by p (slice_index_or fi k.place none_finished)))
-    (with_plane k b (finished_by p (slice_index_or fi k.place none_finished)) pl)
-unfolding with_blocks
-blocks-are p k b w s h fi pl = refl
-
 pub brings : (w : Found) (frame : Frame) (p : Pass) (array : Coefficients) (levels : ℕ → Levels)
     (codings : List Coding) (arrays : Arrays) (s : Bool) (h : Arrays)
     (fi : List (List Bool)) (pl : List (Option (List ℕ))) → length frame.components ≤ 4 → IsBand p
     → AreApart (places_of codings)
     → AllDone w frame p array levels codings arrays → Marked w frame array levels fi pl
     → Brought w frame p array levels codings arrays s h fi pl
-unfolding levels_after with_arrays
-brings w frame p array levels [] [] s h fi pl few band apart done before = search (rules, with-none)
-brings w frame p array levels [] (b ∷ arrays) s h fi pl few band apart done before = absurd done
-brings w frame p array levels (k ∷ codings) [] s h fi pl few band apart done before = absurd done
+unfolding levels_after with_arrays with_blocks
+brings w frame p array levels [] [] s h fi pl few band apart done before = search rules
 brings w frame p array levels (k ∷ codings) (b ∷ arrays) s h fi pl few band apart done before =
     let marks = finished_by p (slice_index_or fi k.place none_finished) in
     let more = brings w frame p array (levels_of_one p k.place levels) codings arrays s h (set fi k.place marks)
     (with_plane k b marks pl) few band apart.1
     (done-others w frame p array levels k.place codings arrays apart.0 done.1)
     (marked-one w frame p array levels k b fi pl few band done.0 before) in
-    search (rules, blocks-are)
+    search rules
+brings w frame p array levels codings arrays s h fi pl few band apart done before = absurd done
 
 -- ---- held between scans
 
@@ -248,31 +236,13 @@ pub record AllHeld (frame : Frame) (array : Coefficients) (levels : ℕ → Leve
   pub each : (k : ℕ) (c : Component) → At k frame.components c
       → HoldsOwn (grid_of c) (array k) (levels k) (get_or arrays k [])
 
-held-one : (w : Found) (frame : Frame) (p : Pass) (array : Coefficients) (levels : ℕ → Levels) (k : Coding)
-    (blocks : List Block) (held : Arrays)
-    → CodingDone w frame p array levels k blocks → AllHeld frame array levels held
-    → AllHeld frame array (levels_of_one p k.place levels) (set held k.place blocks)
-held-one w frame p array levels k blocks held done before =
-    search (rules, length-set, eqb_cases, at-one, at-within, one-same, get_or-set_same, one-other, get_or-set_other)
-
-put-one : (k : Coding) (codings : List Coding) (b : List Block) (arrays held : Arrays)
-    → put_arrays (k ∷ codings) (b ∷ arrays) held ≡ put_arrays codings arrays (set held k.place b)
-unfolding put_arrays
-put-one k codings b arrays held = refl
-
-put-none : (held : Arrays) → put_arrays [] [] held ≡ held
-unfolding put_arrays
-put-none held = refl
-
 pub held-after : (w : Found) (frame : Frame) (p : Pass) (array : Coefficients) (levels : ℕ → Levels)
     (codings : List Coding) (arrays held : Arrays) → AreApart (places_of codings)
     → AllDone w frame p array levels codings arrays → AllHeld frame array levels held
     → AllHeld frame array (levels_after p (places_of codings) levels) (put_arrays codings arrays held)
-unfolding levels_after
+unfolding levels_after put_arrays
 held-after w frame p array levels (k ∷ codings) (b ∷ arrays) held apart done before =
-    subst (AllHeld frame array (levels_after p (places_of codings) (levels_of_one p k.place levels)))
-    (sym (put-one k codings b arrays held))
-    (held-after w frame p array (levels_of_one p k.place levels) codings arrays (set held k.place b) apart.1
+    held-after w frame p array (levels_of_one p k.place levels) codings arrays (set held k.place b) apart.1
     (done-others w frame p array levels k.place codings arrays apart.0 done.1)
-    (held-one w frame p array levels k b held done.0 before))
-held-after w frame p array levels codings arrays held apart n before = search (rules, put-none)
+    (search (rules, length-set, eqb_cases, at-one, at-within, one-same, get_or-set_same, one-other, get_or-set_other))
+held-after w frame p array levels codings arrays held apart n before = search rules

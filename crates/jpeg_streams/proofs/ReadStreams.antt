@@ -16,7 +16,7 @@ use Rattle.jpeg_streams.specs.ScanSegments.{Coding, is_progressive, scan_before,
 use Rattle.jpeg_streams.specs.Segments.{accepted, onward}
 use Rattle.jpeg_streams.specs.SaidSegments.{Stands, found_after}
 use Rattle.jpeg_streams.specs.Found.{nothing_found, none_finished, Found}
-use Rattle.jpeg_streams.specs.Stream.{segment_at, segments_within, segments_at, start_at, turn_at}
+use Rattle.jpeg_streams.specs.Stream.{segments_within, segments_at, start_at, turn_at}
 use Rattle.jpeg_streams.specs.Levels.{Levels, Is8Bit, nothing_sent}
 use Rattle.jpeg_bits.specs.Written.{marker}
 use Rattle.jpeg_streams.specs.WrittenScans.{Coefficients, levels_after, IsLegalScan, HasTable, WritesScan}
@@ -29,7 +29,7 @@ use Rattle.jpeg_streams.proofs.ReadTurns.{scan-turn, marker-turn, segment-tail, 
 use Rattle.jpeg_streams.proofs.ReadTurns.{writes-starts, frame-or, frame-stays, is-other, same-frame, some-none}
 use Rattle.jpeg_segments.specs.ScanHeaders.{IsScan, ScanHeader, scan_payload, scan_written}
 use Rattle.jpeg_segments.specs.WrittenSegments.{sized, Segment, Quantization, Huffman, Interval, Application, Comment}
-use Rattle.jpeg_segments.specs.WrittenSegments.{Header, FrameHeader, IsFrame, code_of, payload_of, frame_written}
+use Rattle.jpeg_segments.specs.WrittenSegments.{Header, FrameHeader, code_of, payload_of, frame_written}
 use Rattle.jpeg_segments.proofs.HeaderSegments.{sos-read}
 use Rattle.jpeg_streams.proofs.ScanFacts.{header-facts}
 use Rattle.jpeg_streams.proofs.TablesInForce.{tables-start, codings-good}
@@ -137,13 +137,6 @@ module _ (array : Coefficients) (tail : List ℕ) (final : Found) (last : ℕ �
       → ReadTo f array tail final last other → ReadTo f array tail final last one
   read-to f one other e r = record { end = r.end; is = e ∙ r.is }
 
-  segment-held : (bf : Before) (w : Found) (s : Segment) (sc : Bool) (h : Arrays) (fi : List (List Bool))
-      (pl : List (Option (List ℕ))) (rest : List ℕ) → Stands w s → IsDctSegment s
-      → segment_at (marker_for s) bf (reading w sc h fi pl) (sized (payload_of s) ++ rest)
-      ≡ Ok (onward (reading (found_after w s) sc h fi pl), rest)
-  segment-held bf w s sc h fi pl rest may dct =
-      search (rules, segment-read, frame-turn, header-accepted)
-
   segment-turn : (bf : Before) (w : Found) (s : Segment) (sc : Bool) (h : Arrays) (fi : List (List Bool))
       (pl : List (Option (List ℕ))) (met : Option Marker) (all : List ℕ) (fill : ℕ) (more : List ℕ)
       → Stands w s → IsDctSegment s
@@ -155,7 +148,7 @@ module _ (array : Coefficients) (tail : List ℕ) (final : Found) (last : ℕ �
       ∙ ap (turn_at bf now None) (segment-tail fill (code_of s) (sized (payload_of s)) more tail)
       ∙ marker-turn bf now fill (code_of s) (marker_for s) (sized (payload_of s) ++ (more ++ tail))
       (segment-marker w.frame s may.0)
-      ∙ segment-held bf w s sc h fi pl (more ++ tail) may dct
+      ∙ (search (rules, segment-read, frame-turn, header-accepted))
 
   pub reads-scans : (f : Frame) (w : Found) (levels : ℕ → Levels)
       (sc : Bool) (bytes : List ℕ) (h : Arrays) (fi : List (List Bool)) (pl : List (Option (List ℕ)))
@@ -229,9 +222,6 @@ module _ (array : Coefficients) (tail : List ℕ) (final : Found) (last : ℕ �
 
   -- ---- up to the frame
 
-  frame-plain : (number : ℕ) (h : FrameHeader) → IsFrame number h → Plain (frame_written number h)
-  frame-plain number h is = search (rules, all-ranged)
-
   header-by : (one two header whole : Outcome Found) → one ≡ header → two ≡ whole
       → ReadHeader array tail final last header whole → ReadHeader array tail final last one two
   header-by one two header whole e g r = grind (arith, common_steps)
@@ -247,7 +237,7 @@ module _ (array : Coefficients) (tail : List ℕ) (final : Found) (last : ℕ �
       let may_be = subst (Stands w) e may in
       let few : number ≤ 2 = subst IsDctSegment e dct in
       let ok = header-accepted number h few may_be.1 in
-      let plain = frame-plain number h may_be.0.1 in
+      let plain : Plain (frame_written number h) = search (rules, all-ranged) in
       let framed : (found_after w s).frame ≡ Some (frame_written number h) =
       ap (λ (x : Segment). (found_after w x).frame) e in
       record {

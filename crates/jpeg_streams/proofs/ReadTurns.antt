@@ -33,7 +33,7 @@ use Rattle.jpeg_streams.specs.SaidSegments.{Stands, found_after}
 use Rattle.jpeg_streams.specs.Stream.{segment_at, end_segment, turn_at, segments_within}
 use Rattle.jpeg_bits.specs.declared.codes.HuffmanTableClass.{HuffmanTableClass}
 use Rattle.jpeg_segments.specs.declared.parser.CodingProcess.TheVariants.{Lossless}
-use Rattle.jpeg_streams.specs.WrittenScans.{Coefficients, InForce, IsCoding, AreCodings}
+use Rattle.jpeg_streams.specs.WrittenScans.{Coefficients, InForce, AreCodings}
 use Rattle.jpeg_streams.specs.WrittenScans.AreCodings.{no_more, and_more}
 use Rattle.jpeg_streams.specs.WrittenImages.{Writes, closed, segment, scan}
 use Rattle.jpeg_streams.specs.Levels.{Levels}
@@ -244,22 +244,17 @@ pub record CodingFacts (w : Found) (frame : Frame) (k : Coding) : Type 0 where
   pub at : At k.place frame.components k.component
   pub table : slice_index_or w.quantization k.component.factors.quantization None ≡ Some k.quantization
 
-coding-back : (w : Found) (frame : Frame) (p : Pass) (tables : Tables) (place d a : ℕ) (k : Coding)
-    → component_coding w frame p tables place d a ≡ Ok k → IsCoding w frame p tables place d a k
-unfolding component_coding
-coding-back w frame p tables place d a k e = search (rules, bind-ok, ok-same, needed-some)
-
 pub codings-back : (w : Found) (frame : Frame) (p : Pass) (tables : Tables) (places ds ks : List ℕ)
     (codings : List Coding) → length ds ≡ length places → length ks ≡ length places
     → codings_from w frame p tables places ds ks ≡ Ok codings → AreCodings w frame p tables places ds ks codings
-unfolding codings_from
+unfolding codings_from component_coding
 codings-back w frame p tables [] [] [] codings h g e =
     subst (AreCodings w frame p tables [] [] []) (ok-same [] codings e) no_more
 codings-back w frame p tables (x ∷ places) (d ∷ ds) (a ∷ ks) codings h g e =
     let one = bind-ok (component_coding w frame p tables x d a) _ codings e in
     let more = bind-ok (codings_from w frame p tables places ds ks) _ codings one.2 in
     subst (AreCodings w frame p tables (x ∷ places) (d ∷ ds) (a ∷ ks)) (ok-same (one.0 ∷ more.0) codings more.2)
-    (and_more x d a places ds ks one.0 more.0 (coding-back w frame p tables x d a one.0 one.1)
+    (and_more x d a places ds ks one.0 more.0 (search (rules, bind-ok, ok-same, needed-some))
     (codings-back w frame p tables places ds ks more.0 (omega arith) (omega arith) more.1))
 codings-back w frame p tables places ds ks codings h g e = absurd (omega arith)
 
@@ -281,19 +276,14 @@ pub codings-facts_from : (w : Found) (frame : Frame) (p : Pass) (tables : Tables
 codings-facts_from w frame p tables places ds ks codings h g e =
     codings-so w frame p tables places ds ks codings (codings-back w frame p tables places ds ks codings h g e)
 
-pub codings-by : (w : Found) (frame : Frame) (s : Scan)
-    → codings_of w frame s ≡ codings_from w frame (pass_of s) (tables_of w s) s.components s.dc_places s.ac_places
-unfolding codings_of
-codings-by w frame s = refl
-
 pub codings-facts : (w : Found) (frame : Frame) (s : Scan) (codings : List Coding)
     → length s.dc_places ≡ length s.components → length s.ac_places ≡ length s.components
     → codings_of w frame s ≡ Ok codings
     → (length codings ≡ length s.components) × AllByRecursion (CodingFacts w frame) codings
     × (map (λ c. c.place) codings ≡ s.components)
+unfolding codings_of
 codings-facts w frame s codings h g e =
-    codings-facts_from w frame (pass_of s) (tables_of w s) s.components s.dc_places s.ac_places codings h g
-    (sym (codings-by w frame s) ∙ e)
+    codings-facts_from w frame (pass_of s) (tables_of w s) s.components s.dc_places s.ac_places codings h g e
 
 -- ---- the tables in force
 
@@ -302,23 +292,19 @@ in-force : (b : Bool) (class : HuffmanTableClass) (tables : List (Option Table))
 in-force true class tables place table e = ap needed e
 in-force false class tables place table e = ap (λ (t : Table). Ok t) (sym e)
 
-coding-read : (w : Found) (frame : Frame) (p : Pass) (tables : Tables) (place d a : ℕ) (k : Coding)
-    → IsCoding w frame p tables place d a k → component_coding w frame p tables place d a ≡ Ok k
-unfolding component_coding
-coding-read w frame p tables place d a k h = search (rules, then-ok, in-force)
-
 codings-read_from : (w : Found) (frame : Frame) (p : Pass) (tables : Tables) (places ds ks : List ℕ)
     (codings : List Coding) → AreCodings w frame p tables places ds ks codings
     → codings_from w frame p tables places ds ks ≡ Ok codings
-unfolding codings_from
+unfolding codings_from component_coding
 codings-read_from w frame p tables places ds ks codings no_more = refl
 codings-read_from w frame p tables places ds ks codings (and_more place d a places' ds' ks' k more h r) =
-    search (rules, then-ok, coding-read, codings-read_from w frame p tables places' ds' ks' more r)
+    search (rules, then-ok, in-force, codings-read_from w frame p tables places' ds' ks' more r)
 
 pub codings-read : (w : Found) (frame : Frame) (s : Scan) (codings : List Coding)
     → AreCodings w frame (pass_of s) (tables_of w s) s.components s.dc_places s.ac_places codings
     → codings_of w frame s ≡ Ok codings
-codings-read w frame s codings h = search (rules, codings-by, codings-read_from)
+unfolding codings_of
+codings-read w frame s codings h = search (rules, codings-read_from)
 
 pub codings-same_from : (w : Found) (sc : Bool) (h : Arrays) (fi : List (List Bool)) (pl : List (Option (List ℕ)))
     (frame : Frame) (p : Pass) (tables : Tables) (places ds ks : List ℕ)
@@ -335,7 +321,8 @@ tables-same w sc h fi pl s = refl
 
 pub codings-same : (w : Found) (sc : Bool) (h : Arrays) (fi : List (List Bool)) (pl : List (Option (List ℕ)))
     (frame : Frame) (s : Scan) → codings_of (reading w sc h fi pl) frame s ≡ codings_of w frame s
-codings-same w sc h fi pl frame s = search (rules, codings-by, tables-same, codings-same_from)
+unfolding codings_of
+codings-same w sc h fi pl frame s = search (rules, tables-same, codings-same_from)
 
 -- ---- a scan
 

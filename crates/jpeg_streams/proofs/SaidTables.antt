@@ -33,14 +33,10 @@ updated-all (o ∷ old) (None ∷ new) p q = (p.0, updated-all old new p.1 q.1)
 updated-all (o ∷ old) (Some t ∷ new) p q = (q.0, updated-all old new p.1 q.1)
 updated-all old new p q = search rules
 
-table-all : (most : ℕ) (tables : Tables) (t : PlacedTable) → HasTables tables → IsHuffmanTable most t
-    → HasTables (with_table tables t)
-table-all most tables t h is = search (rules, set-all)
-
 tables-all : (most : ℕ) (tables : Tables) (ts : List PlacedTable) → HasTables tables
     → AllByRecursion (IsHuffmanTable most) ts → HasTables (fold with_table tables ts)
 tables-all most tables [] h all = h
-tables-all most tables (t ∷ ts) h all = tables-all most (with_table tables t) ts (table-all most tables t h all.0) all.1
+tables-all most tables (t ∷ ts) h all = tables-all most (with_table tables t) ts (search (rules, set-all)) all.1
 
 pub no-tables : HasTables no_tables
 no-tables = record { dc = (tt, (tt, (tt, (tt, tt)))); ac = (tt, (tt, (tt, (tt, tt)))) }

@@ -12,18 +12,11 @@ first-same x y xs ys e = cc
 others-same : {A : Type 0} (x y : A) (xs ys : List A) → ◌≡◌ {A = List A} (x ∷ xs) (y ∷ ys) → xs ≡ ys
 others-same x y xs ys e = cc
 
--- two components with the same factors
-horizontal-same : (x y : Component) → sampling_of x ≡ sampling_of y → x.factors.horizontal ≡ y.factors.horizontal
-horizontal-same x y e = ap (λ (p : ℕ × ℕ). p.0) e
-
-vertical-same : (x y : Component) → sampling_of x ≡ sampling_of y → x.factors.vertical ≡ y.factors.vertical
-vertical-same x y e = ap (λ (p : ℕ × ℕ). p.1) e
-
 across-alike : (xs ys : List Component) → map sampling_of xs ≡ map sampling_of ys
     → greatest (λ f. f.horizontal) (map (λ c. c.factors) xs) ≡ greatest (λ f. f.horizontal) (map (λ c. c.factors) ys)
 across-alike [] [] e = refl
 across-alike (x ∷ xs) (y ∷ ys) e =
-    ap₂ (λ (a b : ℕ). max a b) (horizontal-same x y (first-same (sampling_of x) (sampling_of y) _ _ e))
+    ap₂ (λ (a b : ℕ). max a b) (ap (λ (p : ℕ × ℕ). p.0) (first-same (sampling_of x) (sampling_of y) _ _ e))
     (across-alike xs ys (others-same (sampling_of x) (sampling_of y) _ _ e))
 across-alike xs ys e = absurd (let n : ⊥ = cc in n)
 
@@ -31,7 +24,7 @@ down-alike : (xs ys : List Component) → map sampling_of xs ≡ map sampling_of
     → greatest (λ f. f.vertical) (map (λ c. c.factors) xs) ≡ greatest (λ f. f.vertical) (map (λ c. c.factors) ys)
 down-alike [] [] e = refl
 down-alike (x ∷ xs) (y ∷ ys) e =
-    ap₂ (λ (a b : ℕ). max a b) (vertical-same x y (first-same (sampling_of x) (sampling_of y) _ _ e))
+    ap₂ (λ (a b : ℕ). max a b) (ap (λ (p : ℕ × ℕ). p.1) (first-same (sampling_of x) (sampling_of y) _ _ e))
     (down-alike xs ys (others-same (sampling_of x) (sampling_of y) _ _ e))
 down-alike xs ys e = absurd (let n : ⊥ = cc in n)
 

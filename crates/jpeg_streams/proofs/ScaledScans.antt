@@ -7,7 +7,7 @@ use Rattle.std.proofs.Math.Nat.{mul_comm, lt_of_mul-lt-mul_right, mul-lt-mul_of_
 use Rattle.std.specs.List.{AllByRecursion, flat_map, position}
 use Rattle.std.proofs.lemmas.List.Sums.{sum-map}
 use Rattle.jpeg_segments.specs.Frame.{Frame, Component, Factors, ceiling}
-use Rattle.jpeg_segments.specs.ScanHeader.{Scan, place_of, blocks_by, scan_of}
+use Rattle.jpeg_segments.specs.ScanHeader.{place_of, blocks_by, scan_of}
 use Rattle.jpeg_segments.specs.ScanHeaders.{AreChoices, Choice, IsScan, ScanHeader, scan_payload, scan_written, selector_of}
 use Rattle.jpeg_segments.proofs.ScanLemmas.{position-map}
 use Rattle.jpeg_bits.specs.Passes.{Pass}
@@ -78,11 +78,6 @@ mcu-same row column slot cs ds (one_more c d cs' ds' h more) =
 flat-same : {B : Type 0} (f g : ℕ → List B) → ((k : ℕ) → f k ≡ g k) → (xs : List ℕ) → flat_map f xs ≡ flat_map g xs
 flat-same f g h [] = refl
 flat-same {B} f g h (x ∷ xs) = ap₂ (λ (l m : List B). l ++ m) (h x) (flat-same f g h xs)
-
-all-same_spots : (wide high : ℕ) (cs ds : List Component) → Alikes cs ds
-    → all_spots wide high ds ≡ all_spots wide high cs
-unfolding all_spots
-all-same_spots wide high cs ds h = search (rules, flat-same, mcu-same)
 
 -- a frame whose components have the same blocks, and which is read alike
 pub record SameFrame (f g : Frame) : Type 0 where
@@ -204,10 +199,6 @@ codings-alike w f g same p tables places ds ks codings (and_more place d a place
       one_more k l.0 more others.0 l.2 others.2,
     )
 
-tables-kept : (w : Found) (g : Frame) (s : Scan) → tables_of (at_frame w g) s ≡ tables_of w s
-unfolding tables_of
-tables-kept w g s = refl
-
 components-alike : (ks ls : List Coding) → CodingsAlike ks ls → Alikes (components_of ks) (components_of ls)
 components-alike ks ls none = none
 components-alike ks ls (one_more k l ks' ls' h more) =
@@ -232,7 +223,7 @@ grids-alike cs ds (one_more c d cs' ds' h more) = rw (grid-same c d h, grids-ali
 
 scan-alike : (f g : Frame) (n : ℕ) (p : Pass) (ks ls : List Coding) (array : Coefficients) (bytes : List ℕ)
     → SameFrame f g → CodingsAlike ks ls → WritesScan f n p ks array bytes → WritesScan g n p ls array bytes
-unfolding spots_of
+unfolding spots_of all_spots
 scan-alike f g n p ks ls array bytes same h w =
     let cs = components-alike ks ls h in
     let grids = grids-alike (components_of ks) (components_of ls) cs in
@@ -240,7 +231,7 @@ scan-alike f g n p ks ls array bytes same h w =
     let u = λ (s : Spot). numbers_at p.al (w.sent s) in
     let turns : written_turns (vias_from 0 ls) (spots_of g (components_of ls)) u
     ≡ written_turns (vias_from 0 ks) (spots_of f (components_of ks)) u
-    = grind (arith, common_steps, vias-alike, grid-same, all-same_spots) in
+    = grind (arith, common_steps, vias-alike, grid-same, flat-same, mcu-same) in
     let size : n * mcu_size (components_of ls) ≡ n * mcu_size (components_of ks) =
     ap (λ (x : ℕ). n * x) (mcu-size_same (components_of ks) (components_of ls) cs) in
     grind arith
@@ -268,23 +259,18 @@ scan-other : (array : Coefficients) (f g : Frame) (w final : Found) (levels last
     more (at_frame final g) last
     → Writes array (at_frame w g) levels sc (marker fill 218 (sized (scan_payload h) ++ (bytes ++ more)))
     (at_frame final g) last
+unfolding tables_of
 scan-other array f g w final levels last sc fill h codings bytes more same is l x r =
     let s = scan_written f h in
-    let t = scan_written g h in
-    let alike : t ≡ s = written-same f g h same in
+    let alike : scan_written g h ≡ s = written-same f g h same in
     let o = codings-alike w f g same (pass_of s)
     (tables_of w s) s.components s.dc_places s.ac_places codings l.are_in_force in
     let places = places-alike codings o.0 o.2 in
     let legal : IsLegalScan (at_frame w g) g levels s o.0 =
-    grind (arith, tables-kept w g s, legal-alike (pass_of s) levels codings o.0 o.2 l.legal) in
+    grind (arith, legal-alike (pass_of s) levels codings o.0 o.2 l.legal) in
     scan (at_frame w g) (at_frame final g) levels last sc g fill h o.0 bytes more refl (scan-same f g h same is)
-    (subst (λ (y : Scan). IsLegalScan (at_frame w g) g levels y o.0) (sym alike) legal)
-    (subst (λ (y : Scan). WritesScan g w.restart (pass_of y) o.0 array bytes) (sym alike)
-    (scan-alike f g w.restart (pass_of s) codings o.0 array bytes same o.2 x))
-    (subst (λ (y : Scan). Writes array (at_frame w g)
-    (levels_after (pass_of y) (map (λ (c : Coding). c.place) o.0) levels) true more (at_frame final g) last) (sym alike)
-    (subst (λ (p : List ℕ). Writes array (at_frame w g) (levels_after (pass_of s) p levels) true more
-    (at_frame final g) last) (sym places) r))
+    (rw alike legal) (rw alike (scan-alike f g w.restart (pass_of s) codings o.0 array bytes same o.2 x))
+    (rw (alike, places) r)
 
 -- A stream that was written for a frame is written for one with the same blocks.
 pub scans-alike : (array : Coefficients) (f g : Frame) (w final : Found) (levels last : ℕ → Levels)

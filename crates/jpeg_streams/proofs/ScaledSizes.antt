@@ -48,16 +48,6 @@ pub frame-components : (s number precision width height : ℕ) (xs : List Factor
 unfolding frame_at frame_of
 frame-components s number precision width height xs = search (rules, factors-back, components-scaled)
 
-pub frame-width : (s number precision width height : ℕ) (xs : List Factors)
-    → (frame_at s (frame_of number precision width height xs)).output_width ≡ ceiling (width * s) 8
-unfolding frame_at frame_of
-frame-width s number precision width height xs = refl
-
-pub frame-height : (s number precision width height : ℕ) (xs : List Factors)
-    → (frame_at s (frame_of number precision width height xs)).output_height ≡ ceiling (height * s) 8
-unfolding frame_at frame_of
-frame-height s number precision width height xs = refl
-
 -- ---- all components
 
 reaches-one : (s width height mh mv : ℕ) (x : Factors) (rule : Option UpsampleRule) (source : Source) → 0 < s
@@ -113,7 +103,13 @@ pub record IsSized (f : Frame) (m : Made f) : Type 0 where
   pub height : f.output_height ≡ ceiling (m.height * m.scale) 8
 
 pub is-sized : (f : Frame) (m : Made f) → IsSized f m
-is-sized f m = search (rules, frame-components, frame-width, frame-height)
+unfolding frame_at frame_of
+is-sized f m = record {
+  components = ap (λ (x : Frame). x.components) m.is
+      ∙ frame-components m.scale m.number m.precision m.width m.height m.factors;
+  width = ap (λ (x : Frame). x.output_width) m.is;
+  height = ap (λ (x : Frame). x.output_height) m.is;
+}
 
 pub reaches-made : (f : Frame) (sources : List Source) → Made f
     → sources_of f.components f.output_width f.output_height ≡ Ok sources
@@ -141,15 +137,12 @@ one-of s width height (x ∷ []) c ss w h range e =
     (record { some = omega arith; is = inl mh }) in
     let b = reach-end height x.vertical (most_v (x ∷ [])) s 1 h vs (omega arith) ss
     (record { some = omega arith; is = inl mv }) in
-    let first : scaled_component s width height (most_h (x ∷ [])) (most_v (x ∷ [])) x ≡ c = head-same _ c [] [] e in
+    let first : scaled_component s width height (most_h (x ∷ [])) (most_v (x ∷ [])) x ≡ c = cc in
     let p : ceiling (width * x.horizontal * s) (most_h (x ∷ []) * 8) ≡ c.width =
     ap (λ (d : Component). d.width) first in
     let q : ceiling (height * x.vertical * s) (most_v (x ∷ []) * 8) ≡ c.height =
     ap (λ (d : Component). d.height) first in
     (omega arith, omega arith)
-  where
-    head-same : (p q : Component) (ps qs : List Component) → ◌≡◌ {A = List Component} (p ∷ ps) (q ∷ qs) → p ≡ q
-    head-same p q ps qs g = cc
 one-of s width height n c ss w h range e = absurd (let n = ap length e in omega arith)
 
 -- one component has all samples of the picture

@@ -18,16 +18,6 @@ all-kept s width height mh mv a b a' b' [] f g h = tt
 all-kept s width height mh mv a b a' b' (x ∷ xs) f g h =
     search (rules, all-kept s width height mh mv a b a' b' xs f g h.1)
 
--- sources for one size are there for another that is 1 where the first is
-sources-there : (s width height mh mv a b a' b' : ℕ) (xs : List Factors) (sources : List Source)
-    → (a ≡ 1 → a' ≡ 1) → (b ≡ 1 → b' ≡ 1)
-    → sources_by mh mv a b (map (scaled_component 8 width height mh mv) xs) ≡ Ok sources
-    → (others : List Source) × (sources_by mh mv a' b' (map (scaled_component s width height mh mv) xs) ≡ Ok others)
-sources-there s width height mh mv a b a' b' xs sources f g e =
-    sources-some mh mv a' b' (map (scaled_component s width height mh mv) xs)
-    (all-kept s width height mh mv a b a' b' xs f g
-    (sources-back mh mv a b (map (scaled_component 8 width height mh mv) xs) sources e))
-
 -- ---- frames
 
 one-wide : (n s : ℕ) → 0 < s → s ≤ 8 → ceiling (n * 8) 8 ≡ 1 → 0 < n → ceiling (n * s) 8 ≡ 1
@@ -50,9 +40,9 @@ frame-sources f s sources o a b e =
     (ceiling (o.height * 8) 8)
     (map (scaled_component 8 o.width o.height (most_h o.factors) (most_v o.factors)) o.factors) ≡ Ok sources)
     (factors-scaled 8 o.width o.height (most_h o.factors) (most_v o.factors) o.factors) at8 in
-    let others = sources-there s o.width o.height (most_h o.factors) (most_v o.factors) (ceiling (o.width * 8) 8)
-    (ceiling (o.height * 8) 8) (ceiling (o.width * s) 8) (ceiling (o.height * s) 8) o.factors sources
-    (λ k. one-wide o.width s a b k o.some_width) (λ k. one-wide o.height s a b k o.some_height) by8 in
+    let others = sources-some (most_h o.factors) (most_v o.factors) (ceiling (o.width * s) 8) (ceiling (o.height * s) 8) (map (scaled_component s o.width o.height (most_h o.factors) (most_v o.factors)) o.factors)
+    (all-kept s o.width o.height (most_h o.factors) (most_v o.factors) (ceiling (o.width * 8) 8) (ceiling (o.height * 8) 8) (ceiling (o.width * s) 8) (ceiling (o.height * s) 8) o.factors (λ k. one-wide o.width s a b k o.some_width) (λ k. one-wide o.height s a b k o.some_height)
+    (sources-back (most_h o.factors) (most_v o.factors) (ceiling (o.width * 8) 8) (ceiling (o.height * 8) 8) (map (scaled_component 8 o.width o.height (most_h o.factors) (most_v o.factors)) o.factors) sources by8)) in
     let back = subst (λ (l : List Factors). sources_by (most_h l) (most_v l) (ceiling (o.width * s) 8)
     (ceiling (o.height * s) 8)
     (map (scaled_component s o.width o.height (most_h o.factors) (most_v o.factors)) o.factors) ≡ Ok others.0)

@@ -49,6 +49,11 @@ unfolding LeavesBelow
 below-bind limit first (Ok x) f p q = q x p
 below-bind limit first (Err fault) f p q = tt
 
+-- where the first reading leaves fewer bytes than the same limit
+pub below-on : {A B : Type 0} (limit : ℕ) (r : Outcome A) (f : A × List ℕ → Outcome B) → LeavesBelow limit r
+    → ((x : A × List ℕ) → length x.1 < limit → LeavesBelow limit (f x)) → LeavesBelow limit (r >>= f)
+below-on limit r f p q = below-bind limit limit r f p q
+
 pub byte-below : (limit : ℕ) (bytes : List ℕ) → length bytes ≤ limit → LeavesBelow limit (next_byte bytes)
 unfolding LeavesBelow
 byte-below limit [] h = tt
@@ -77,6 +82,22 @@ times-below limit (suc n) read bytes each h =
     below-bind limit limit (read bytes) _ (each bytes h) (λ x p.
     below-bind limit limit (times n read x.1) _ (times-below limit n read x.1 each p) (λ more q. below-ok limit _ more.1
     q))
+
+-- the steps of which the readers of segments are made
+pub ruleset below_steps = (
+  rules,
+  below-on,
+  below-else,
+  below-then,
+  below-cond,
+  below-ok,
+  below-err,
+  byte-below,
+  u16-below,
+  length-below,
+  skip-below,
+  times-below,
+)
 
 found-below : (limit : ℕ) (found : Option Marker) (rest : List ℕ) (others : Outcome Marker) → length rest < limit
     → LeavesBelow limit others → LeavesBelow limit (found_or found rest others)

@@ -9,7 +9,7 @@ use Rattle.jpeg_bits.specs.Intervals.{interval, intervals, is_restart, blocks_be
 use Rattle.jpeg_bits.specs.Intervals.{other_groups}
 use Rattle.jpeg_streams.specs.Order.{Spot}
 use Rattle.jpeg_streams.specs.Scans.{Arrays, turns_of, arrays_at}
-use Rattle.jpeg_streams.proofs.Shorter.{LeavesBelow, below-ok, below-err, below-bind}
+use Rattle.jpeg_streams.proofs.Shorter.{below_steps, LeavesBelow, below-ok, below-err, below-bind}
 use Rattle.jpeg_streams.proofs.ShorterTexts.{marker_from-below, takes-below, texts-below, upcoming-below}
 use Rattle.jpeg_streams.proofs.TakenTexts.{blocks-takes}
 
@@ -25,30 +25,16 @@ interval-below limit p turns bytes h =
     (λ r a.
     below-bind limit limit (marker_from r.1) _ (marker_from-below limit r.1 a) (λ m q. below-ok limit _ m.1 q))
 
-restart-below : (limit : ℕ) (blocks : List Block) (others : Outcome (List Block × Option Marker)) (b : Bool)
-    → LeavesBelow limit others
-    → LeavesBelow limit (elim b as (λ _. Outcome (List Block × Option Marker)) [
-      | true ↦ blocks_before blocks others
-      | false ↦ Err Malformed
-    ])
-restart-below limit blocks others true h = below-bind limit limit others _ h (λ s u. below-ok limit _ s.1 u)
-restart-below limit blocks others false h = below-err (List Block × Option Marker) limit Malformed
-
 intervals-below : (limit : ℕ) (p : Pass) (k : ℕ) (turns : List (Via × Block)) (more : List (List (Via × Block)))
     (bytes : List ℕ) → length bytes < limit → LeavesBelow limit (intervals p k turns more bytes)
 unfolding intervals
 intervals-below limit p k turns [] bytes h = interval-below limit p turns bytes h
 intervals-below limit p k turns (next ∷ more) bytes h =
-    below-bind limit limit (interval p turns bytes) _ (interval-below limit p turns bytes h) (λ r q.
-    restart-below limit r.0.0 (intervals p (suc k) next more r.1) (is_restart k r.0.1) (intervals-below limit p (suc k)
-    next more r.1 q))
+    search (below_steps, interval-below, intervals-below limit p (suc k) next more) depth 12
 
 -- ---- scans
 
 pub arrays-below : (limit : ℕ) (p : Pass) (n : ℕ) (vias : List Via) (spots : List Spot) (arrays : Arrays)
     (bytes : List ℕ) → length bytes < limit → LeavesBelow limit (arrays_at p n vias spots arrays bytes)
 unfolding arrays_at
-arrays-below limit p n vias spots arrays bytes h =
-    let turns : List (Via × Block) = turns_of vias spots arrays in
-    below-bind limit limit (intervals p 0 (first_group n turns) (other_groups n turns) bytes) _
-    (intervals-below limit p 0 (first_group n turns) (other_groups n turns) bytes h) (λ r q. below-ok limit _ r.1 q)
+arrays-below limit p n vias spots arrays bytes h = search (below_steps, intervals-below) depth 12

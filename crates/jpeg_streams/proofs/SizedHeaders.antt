@@ -1,6 +1,6 @@
 -- The header of a stream, at a scale.
-use Rattle.std.proofs.Common.{arith, rules, ◌≡◌, ◌∙◌, ℕ, List, Ok, Err, ap, refl}
-use Rattle.jpeg_bits.specs.Reading.{Outcome, Fault, Answers, ◌>>=◌}
+use Rattle.std.proofs.Common.{arith, rules, ◌≡◌, ◌∙◌, ℕ, List, Ok, Err, ap}
+use Rattle.jpeg_bits.specs.Reading.{Outcome, Fault, Answers}
 use Rattle.jpeg_bits.specs.Stream.{Stream}
 use Rattle.jpeg_streams.specs.Stream.{header_at, sized_header_at, sized_to}
 use Rattle.jpeg_streams.specs.Found.{Found}
@@ -8,18 +8,15 @@ use Rattle.jpeg_streams.specs.Found.{Found}
 abbrev sized_after : ℕ → ℕ → Found × List ℕ → Outcome Found
 sized_after width height header = Ok (sized_to width height header.0, header.1)
 
-header-is : (width height : ℕ) (bytes : List ℕ) → sized_header_at width height bytes ≡ (header_at bytes
-    >>= sized_after width height)
-unfolding sized_header_at
-header-is width height bytes = refl
-
 pub sized-read : (width height : ℕ) (bytes rest : List ℕ) (found new : Found) → header_at bytes ≡ Ok (found, rest)
     → new ≡ sized_to width height found → sized_header_at width height bytes ≡ Ok (new, rest)
-sized-read width height bytes rest found new e n = search (rules, header-is)
+unfolding sized_header_at
+sized-read width height bytes rest found new e n = search rules
 
 pub sized-refused : (width height : ℕ) (bytes : List ℕ) (fault : Fault) → header_at bytes ≡ Err fault
     → sized_header_at width height bytes ≡ Err fault
-sized-refused width height bytes fault e = search (rules, header-is)
+unfolding sized_header_at
+sized-refused width height bytes fault e = search rules
 
 -- a header that is read, and then sized
 pub sized-answers : {U : Type 0} (width height : ℕ) (old cur new : Stream) (found sized : Found) (u : U) (size : ℕ × ℕ)

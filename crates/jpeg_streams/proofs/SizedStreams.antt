@@ -10,9 +10,9 @@ use Rattle.jpeg_segments.specs.Frame.{Frame, Component, Factors}
 use Rattle.jpeg_streams.specs.declared.before.Before.TheVariants.{Elsewhere}
 use Rattle.jpeg_streams.specs.declared.settings.Settings.{Settings}
 use Rattle.jpeg_segments.specs.Scales.{frame_at, scale_for, sized}
-use Rattle.jpeg_streams.specs.Stream.{segments_within, segments_at, start_at, header_at, rest_at, sized_to}
+use Rattle.jpeg_streams.specs.Stream.{segments_at, start_at, header_at, sized_to}
 use Rattle.jpeg_streams.specs.Stream.{sized_meaning, told_of}
-use Rattle.jpeg_streams.specs.Found.{nothing_found, Found}
+use Rattle.jpeg_streams.specs.Found.{Found}
 use Rattle.jpeg_streams.specs.Levels.{Levels, Is8Bit, nothing_sent}
 use Rattle.jpeg_streams.specs.WrittenScans.{Coefficients}
 use Rattle.jpeg_streams.specs.WrittenImages.{WritesImage}
@@ -85,22 +85,6 @@ sized-is width height f n = go f.process refl
 
 -- ---- the meaning
 
-header-so : (bytes rest : List ℕ) → start_at bytes ≡ Ok (tt, rest)
-    → header_at bytes ≡ segments_at true Elsewhere nothing_found None rest
-unfolding header_at
-header-so bytes rest e = then-ok (start_at bytes) _ (tt, rest) _ e refl
-
-rest-within : (found : Found) (bytes : List ℕ) → segments_at false Elsewhere found None bytes
-    ≡ segments_within (suc (length bytes)) false Elsewhere found None bytes
-unfolding segments_at
-rest-within found bytes = refl
-
-sized-by : (width height : ℕ) (settings : Settings) (bytes rest : List ℕ) (found : Found)
-    → header_at bytes ≡ Ok (found, rest)
-    → sized_meaning width height settings bytes ≡ rest_at settings (sized_to width height found) rest
-unfolding sized_meaning
-sized-by width height settings bytes rest found e = then-ok (header_at bytes) _ (found, rest) _ e refl
-
 -- What a written stream is read as at a scale.
 record ReadAt (width height : ℕ) (array : Coefficients) (tail bytes : List ℕ) (final : Found)
     (last : ℕ → Levels) : Type 0 where
@@ -118,6 +102,7 @@ record ReadAt (width height : ℕ) (array : Coefficients) (tail bytes : List ℕ
 read-at : (width height : ℕ) (array : Coefficients) (tail bytes : List ℕ) (final : Found) (last : ℕ → Levels)
     → ((place row column : ℕ) → Is8Bit (array place row column)) → WritesImage array bytes final last
     → ReadAt width height array tail (bytes ++ tail) final last
+unfolding header_at segments_at
 read-at width height array tail bytes final last range w =
     let r = stream-read array tail bytes final last w in
     let h = r.header in
@@ -138,14 +123,13 @@ read-at width height array tail bytes final last range w =
       left = left;
       frame = g;
       sources = there.0;
-      is = header-so (bytes ++ tail) r.rest r.starts ∙ h.is;
+      is = (then-ok (start_at (bytes ++ tail)) _ (tt, r.rest) _ r.starts refl) ∙ h.is;
       shape = shape;
       sized_is = ap (λ (o : Option Frame). record final { frame = option_map (sized width height) o }) kept;
       sources_are = subst (λ (x : Frame). sources_of x.components x.output_width x.output_height ≡ Ok there.0)
           (sym size.2) there.1;
       read = read-to array tail (at_frame final g) last g _ _
-          (ap (λ (x : Found). segments_at false Elsewhere x None left) now
-          ∙ rest-within (unread (at_frame h.said g)) left)
+          (ap (λ (x : Found). segments_at false Elsewhere x None left) now)
           (reads-scans array tail (at_frame final g) last g (at_frame h.said g) (λ k. nothing_sent) false h.more []
           nothing_finished no_planes (suc (length left)) Elsewhere None left range shape h.good refl (λ e k. refl)
           (framed-start (at_frame h.said g) g array [] nothing_finished no_planes range refl refl)
@@ -159,11 +143,12 @@ pub stream-means_sized : (width height : ℕ) (settings : Settings) (array : Coe
     → ((place row column : ℕ) → Is8Bit (array place row column)) → WritesImage array bytes final last
     → sized_meaning width height settings (bytes ++ rest)
     ≡ meaning_of_array settings (sized_to width height final) array last rest
+unfolding sized_meaning
 stream-means_sized width height settings array bytes rest final last range w =
     let r = read-at width height array rest bytes final last range w in
     let end = r.read.end in
     let known = at_frame final r.frame in
-    sized-by width height settings (bytes ++ rest) r.left r.header r.is
+    (then-ok (header_at (bytes ++ rest)) _ (r.header, r.left) _ r.is refl)
     ∙ rest-by settings (sized_to width height r.header) (reading known true end.held end.finished end.planes) r.left rest
     r.read.is
     ∙ ap (λ (o : Result (List ℕ) Fault). o >>= (λ (picture : List ℕ). Ok ((told_of known, picture), rest)))

@@ -1,9 +1,9 @@
 -- The state between segments: frames that are decoded, at a scale, and what is kept from turn to turn.
+use Rattle.std.proofs.Common.{zero, suc}
 use Rattle.std.proofs.Common.{rules, ◌≡◌, ◌≤◌, ◌<◌, ℕ, List, [], ◌∷◌, length, replicate, refl, ap, sym, ◌∙◌, subst}
 use Rattle.std.proofs.Common.{arith, true, false, Some, None, Ok}
 use Rattle.std.specs.Prelude.{is_some}
 use Rattle.std.specs.List.{AllByRecursion}
-use Rattle.std.proofs.Math.Bool.{cond}
 use Rattle.std.proofs.lemmas.Bool.{and_parts, eqb-true, leb-true}
 use Rattle.std.proofs.lemmas.List.{length-map}
 use Rattle.std.proofs.lemmas.List.Elements.{recursion_from_All}
@@ -81,52 +81,39 @@ decoded-scaled s f e full p = search (rules, scaled_again)
 
 -- ---- states
 
-before-same : (old new : Found) (f : Frame) → new.scanned ≡ old.scanned → new.held ≡ old.held
-    → arrays_before new f ≡ arrays_before old f
-unfolding arrays_before
-before-same old new f b c = rw (b, c) refl
-
 pub sound_kept : (old new : Found) → IsSound old → new.frame ≡ old.frame → new.scanned ≡ old.scanned
     → new.held ≡ old.held → new.planes ≡ old.planes → new.samples ≡ old.samples → IsSound new
+unfolding arrays_before
 sound_kept old new p a b c d s = record {
   frames = λ f e. p.frames f (sym a ∙ e);
-  held = λ f e. subst (AreArrays f.components) (sym (before-same old new f b c)) (p.held f (sym a ∙ e));
+  held = λ f e. subst (AreArrays f.components) (sym (rw (b, c) refl)) (p.held f (sym a ∙ e));
   planes = λ f e. subst (ArePlanes f.components) (sym d) (p.planes f (sym a ∙ e));
   samples = search rules;
   unread = λ e. let q = p.unread (sym a ∙ e) in (b ∙ q.0, d ∙ q.1, s ∙ q.2);
 }
 
-no-planes : (cs : List Component) → length cs ≤ 4 → ArePlanes cs (replicate 4 None)
+no-planes : (n : ℕ) (cs : List Component) → length cs ≤ n → ArePlanes cs (replicate n None)
 unfolding ArePlanes
-no-planes [] h = tt
-no-planes (a ∷ []) h = (tt, tt)
-no-planes (a ∷ b ∷ []) h = (tt, (tt, tt))
-no-planes (a ∷ b ∷ c ∷ []) h = (tt, (tt, (tt, tt)))
-no-planes (a ∷ b ∷ c ∷ d ∷ []) h = (tt, (tt, (tt, (tt, tt))))
-no-planes (a ∷ b ∷ c ∷ d ∷ e ∷ more) h = absurd (omega arith)
+no-planes n [] h = tt
+no-planes zero (c ∷ cs) h = absurd (omega arith)
+no-planes (suc n) (c ∷ cs) h = (tt, no-planes n cs (omega arith))
 
-no-samples : (cs : List Component) → length cs ≤ 4 → AreSampled cs (replicate 4 None)
+no-samples : (n : ℕ) (cs : List Component) → length cs ≤ n → AreSampled cs (replicate n None)
 unfolding AreSampled
-no-samples [] h = tt
-no-samples (a ∷ []) h = (tt, tt)
-no-samples (a ∷ b ∷ []) h = (tt, (tt, tt))
-no-samples (a ∷ b ∷ c ∷ []) h = (tt, (tt, (tt, tt)))
-no-samples (a ∷ b ∷ c ∷ d ∷ []) h = (tt, (tt, (tt, (tt, tt))))
-no-samples (a ∷ b ∷ c ∷ d ∷ e ∷ more) h = absurd (omega arith)
-
-zeros-before : (found : Found) (x : Frame) → found.scanned ≡ false → AreArrays x.components (arrays_before found x)
-unfolding arrays_before
-zeros-before found x e = search (rules, cond, zeros-sized)
+no-samples n [] h = tt
+no-samples zero (c ∷ cs) h = absurd (omega arith)
+no-samples (suc n) (c ∷ cs) h = (tt, no-samples n cs (omega arith))
 
 -- a frame after which nothing was read yet
 pub sound-frame : (found : Found) (f : Frame) → IsDecodedFrame f → found.scanned ≡ false
     → found.planes ≡ replicate 4 None
     → found.samples ≡ replicate 4 None → IsSound (record found { frame = Some f })
+unfolding arrays_before
 sound-frame found f p e n s = grind (
   arith,
-  zeros-before (record found { frame = Some f }) f e,
-  no-planes f.components (count-few (length f.components) (decoded-count f p)).1,
-  no-samples f.components (count-few (length f.components) (decoded-count f p)).1,
+  zeros-sized,
+  no-planes 4 f.components (count-few (length f.components) (decoded-count f p)).1,
+  no-samples 4 f.components (count-few (length f.components) (decoded-count f p)).1,
 )
 
 pub sound-framed : (found : Found) (f : Frame) → IsSound found → is_some found.frame ≡ false → IsFrame f

@@ -10,7 +10,6 @@ use Rattle.jpeg_segments.specs.Frame.{Frame}
 use Rattle.jpeg_segments.specs.ScanHeader.{Scan}
 use Rattle.jpeg_segments.specs.HuffmanTables.{Tables}
 use Rattle.jpeg_bits.specs.Passes.{Pass}
-use Rattle.jpeg_streams.specs.Scans.{no_table}
 use Rattle.jpeg_streams.specs.ScanSegments.{Coding, tables_of, pass_of}
 use Rattle.jpeg_streams.specs.Found.{Found, nothing_found}
 use Rattle.jpeg_streams.specs.WrittenScans.{AreCodings, InForce}
@@ -27,18 +26,10 @@ good-defaults : (one two : Table) (places : List ℕ) (l : List (Option Table)) 
 good-defaults one two places [] a b h = tt
 good-defaults one two places l a b h = search rules
 
-in-force : (w : Found) (s : Scan) → HasTables w.huffman → HasTables (tables_of w s)
-unfolding tables_of
-in-force w s good =
-    search (rules, good-defaults, luminance-dc-codes, chrominance-dc-codes, luminance-ac-codes, chrominance-ac-codes)
-
-none-good : (class : HuffmanTableClass) → IsTable (no_table class)
-none-good class = record { counted = refl; exists = λ i h. absurd (let n = no-codes class in omega arith) }
-
 needed-good : (b : Bool) (class : HuffmanTableClass) (l : List (Option Table)) (i : ℕ) (t : Table)
     → AllByRecursion IsTableOrNone l → InForce b class l i t → IsTable t
 needed-good true class l i t h e = table-there l i t h e
-needed-good false class l i t h e = subst IsTable (sym e) (none-good class)
+needed-good false class l i t h e = subst IsTable (sym e) (record { counted = refl; exists = λ i h. absurd (let n = no-codes class in omega arith) })
 
 codings-good_from : (w : Found) (f : Frame) (p : Pass) (tables : Tables) (places ds ks : List ℕ)
     (codings : List Coding) → HasTables tables → AreCodings w f p tables places ds ks codings
@@ -51,4 +42,5 @@ codings-good_from w f p tables places ds ks codings h (and_more place d a places
 pub codings-good : (w : Found) (f : Frame) (s : Scan) (codings : List Coding) → HasTables w.huffman
     → AreCodings w f (pass_of s) (tables_of w s) s.components s.dc_places s.ac_places codings
     → AllByRecursion (λ c. IsTable c.dc × IsTable c.ac) codings
-codings-good w f s codings h are = search (rules, codings-good_from, in-force)
+unfolding tables_of
+codings-good w f s codings h are = search (rules, codings-good_from, good-defaults, luminance-dc-codes, chrominance-dc-codes, luminance-ac-codes, chrominance-ac-codes)

@@ -34,12 +34,7 @@ no-error f x e = cc
 pub bind-parts : {A B : Type 0} (p : Reads A) (f : A → Reads B) (s t : Text) (y : B)
     → (p >>= f) s ≡ Ok (y, t)
     → (a : A) × (u : Text) × (p s ≡ Ok (a, u)) × (f a u ≡ Ok (y, t))
-bind-parts {A} {B} p f s t y e = go (p s) refl e
-  where
-    go : (o : Result (A × Text) Fault) → p s ≡ o → read_on f o ≡ Ok (y, t)
-        → (a : A) × (u : Text) × (p s ≡ Ok (a, u)) × (f a u ≡ Ok (y, t))
-    go (Ok r) h k = (r.0, r.1, h, k)
-    go (Err x) h k = absurd (no-error x (y, t) k)
+bind-parts {A} {B} p f s t y e = grind (arith, no-error)
 
 -- ---- readers
 

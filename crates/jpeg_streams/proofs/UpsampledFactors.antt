@@ -1,7 +1,7 @@
 -- Components whose factors can be upsampled have a way to upsample them, and no others.
 use Rattle.std.proofs.Common.{rules, ◌≡◌, ◌⊎◌, inl, inr, ℕ, ◌%◌, ◌||◌, Bool, true, false, List, []}
 use Rattle.std.proofs.Common.{◌∷◌, Option, Some, None, Ok, refl, sym, ap, if◌then◌else◌, true≢false}
-use Rattle.std.proofs.lemmas.Bool.{and_parts, eqb-true, eq-eqb, and_from as and-true, or_left}
+use Rattle.std.proofs.lemmas.Bool.{eqb-true, eq-eqb, and_from as and-true, or_left}
 use Rattle.std.specs.List.{AllByRecursion}
 use Rattle.jpeg_segments.specs.Frame.{Component, Factors}
 use Rattle.jpeg_pixels.specs.declared.upsampler.UpsampleRule.{UpsampleRule}
@@ -59,15 +59,10 @@ pub either : (a b : Bool) → (a || b) ≡ true → (a ≡ true) ⊎ (b ≡ true
 either true b e = inl refl
 either false b e = inr e
 
-rule-back : (most_h most_v width height : ℕ) (c : Factors) (r : UpsampleRule)
-    → rule_of c.horizontal c.vertical most_h most_v width height ≡ Some r → Upsampled most_h most_v width height c
-unfolding rule_of
-rule-back most_h most_v width height c r e = search (rules, and_parts, eqb-true, either)
-
 pub sources-back : (most_h most_v width height : ℕ) (cs : List Component) (sources : List Source)
     → sources_by most_h most_v width height cs ≡ Ok sources
     → AllByRecursion (λ c. Upsampled most_h most_v width height c.factors) cs
-unfolding sources_by
+unfolding sources_by rule_of
 sources-back most_h most_v width height [] sources e = tt
 sources-back most_h most_v width height (c ∷ cs) sources e =
-    search (rules, bind-ok, rule-back, err-ok, sources-back most_h most_v width height cs)
+    search (rules, bind-ok, eqb-true, err-ok, sources-back most_h most_v width height cs)

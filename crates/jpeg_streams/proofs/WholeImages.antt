@@ -59,20 +59,14 @@ plane-same : (scale : ℕ) (table : List ℕ) (wide high : ℕ) (f g : ℕ → �
 unfolding plane_of
 plane-same scale table wide high f g h = grind (arith, common_steps, map-same)
 
--- planes are alike where their blocks are
-plane-alike : (c : Component) (table : List ℕ) (f g : ℕ → ℕ → Block) → ((row column : ℕ) → f row column ≡ g row column)
-    → plane_of_blocks c table f ≡ plane_of_blocks c table g
-unfolding plane_of_blocks
-plane-alike c table f g h = search (rules, plane-same)
-
 planes-whole : (said : Found) (array : Coefficients) (levels : ℕ → Levels) (place : ℕ) (cs : List Component)
     → AllByRecursion (λ k. IsComplete (levels k)) (range_with_len place (length cs))
     → ((k row column : ℕ) → length (array k row column).acs ≡ length (levels k).acs)
     → planes_of_blocks said (as_sent array levels) place cs ≡ planes_of_blocks said array place cs
-unfolding planes_of_blocks
+unfolding planes_of_blocks plane_of_blocks
 planes-whole said array levels place [] done h = refl
 planes-whole said array levels place (c ∷ cs) done h =
-    search (rules, bind_same, plane-alike, cut-whole, planes-whole said array levels (place + 1) cs done.1 h)
+    search (rules, bind_same, plane-same, cut-whole, planes-whole said array levels (place + 1) cs done.1 h)
 
 picture-whole : (settings : Settings) (said : Found) (array : Coefficients) (levels : ℕ → Levels) (frame : Frame)
     → said.frame ≡ Some frame → AllComplete frame levels

@@ -134,19 +134,17 @@ flat-block predictors slot dc turns bits is more =
     (search (rules, category-by, dc-coded)))
     no-ac more
 
-interval_1 : WritesInterval (pass_of (scan_written the_frame the_header)) (mcu (pos 8) (negsuc 0) (negsuc 7) (pos 15))
+intervals : WritesInterval (pass_of (scan_written the_frame the_header)) (mcu (pos 8) (negsuc 0) (negsuc 7) (pos 15))
     (64 ∷ 195 ∷ 158 ∷ [])
-unfolding stuffed bits_of_bytes number_for low_bits
-interval_1 = interval-by _ _ _ (64 ∷ 195 ∷ 158 ∷ [])
-    (flat-block _ 0 (pos 8) _ _ refl (flat-block _ 0 (negsuc 0) _ _ refl
-    (flat-block _ 1 (negsuc 7) _ _ refl (flat-block _ 2 (pos 15) _ _ refl (done _))))) refl refl
-
-interval_2 : WritesInterval (pass_of (scan_written the_frame the_header)) (mcu (pos 9) (negsuc 0) (negsuc 8) (pos 12))
+    × WritesInterval (pass_of (scan_written the_frame the_header)) (mcu (pos 9) (negsuc 0) (negsuc 8) (pos 12))
     (72 ∷ 163 ∷ 24 ∷ [])
 unfolding stuffed bits_of_bytes number_for low_bits
-interval_2 = interval-by _ _ _ (72 ∷ 163 ∷ 24 ∷ [])
-    (flat-block _ 0 (pos 9) _ _ refl (flat-block _ 0 (negsuc 0) _ _ refl
-    (flat-block _ 1 (negsuc 8) _ _ refl (flat-block _ 2 (pos 12) _ _ refl (done _))))) refl refl
+intervals = (
+  interval-by _ _ _ (64 ∷ 195 ∷ 158 ∷ []) (flat-block _ 0 (pos 8) _ _ refl (flat-block _ 0 (negsuc 0) _ _ refl
+      (flat-block _ 1 (negsuc 7) _ _ refl (flat-block _ 2 (pos 15) _ _ refl (done _))))) refl refl,
+  interval-by _ _ _ (72 ∷ 163 ∷ 24 ∷ []) (flat-block _ 0 (pos 9) _ _ refl (flat-block _ 0 (negsuc 0) _ _ refl
+      (flat-block _ 1 (negsuc 8) _ _ refl (flat-block _ 2 (pos 12) _ _ refl (done _))))) refl refl,
+)
 
 abbrev scan_bytes : List ℕ
 scan_bytes = (64 ∷ 195 ∷ 158 ∷ []) ++ marker 0 208 (72 ∷ 163 ∷ 24 ∷ [])
@@ -159,7 +157,7 @@ data-written = record {
   in_range = λ s. sent-range s.slot s.index;
   is_own = λ s own. own-sent s.slot s.index own;
   coded = another 0 0 (mcu (pos 8) (negsuc 0) (negsuc 7) (pos 15)) (mcu (pos 9) (negsuc 0) (negsuc 8) (pos 12)) [] _ _
-      interval_1 (last 1 _ _ interval_2);
+      intervals.0 (last 1 _ _ intervals.1);
 }
 
 -- ---- segments and the script

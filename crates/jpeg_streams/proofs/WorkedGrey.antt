@@ -92,21 +92,15 @@ ac_codings = codings (no_table classes.DC) ac_table
 
 -- ---- codes
 
-dc-coded : IsCoded dc_table 3 (false ∷ [])
+codes : IsCoded dc_table 3 (false ∷ []) × IsCoded ac_table (16 * 0 + 1) (false ∷ [])
+    × IsCoded ac_table (16 * 0 + 0) (true ∷ false ∷ []) × IsCoded ac_table (16 * 1 + 0) (true ∷ true ∷ false ∷ [])
 unfolding lengths_from code_value low_bits
-dc-coded = record { place = 0; listed = omega arith; is_for = refl; has_bits = refl }
-
-one-coded : IsCoded ac_table (16 * 0 + 1) (false ∷ [])
-unfolding lengths_from code_value low_bits
-one-coded = record { place = 0; listed = omega arith; is_for = refl; has_bits = refl }
-
-end-coded : IsCoded ac_table (16 * 0 + 0) (true ∷ false ∷ [])
-unfolding lengths_from code_value low_bits
-end-coded = record { place = 1; listed = omega arith; is_for = refl; has_bits = refl }
-
-ends-coded : IsCoded ac_table (16 * 1 + 0) (true ∷ true ∷ false ∷ [])
-unfolding lengths_from code_value low_bits
-ends-coded = record { place = 2; listed = omega arith; is_for = refl; has_bits = refl }
+codes = (
+  record { place = 0; listed = omega arith; is_for = refl; has_bits = refl },
+  record { place = 0; listed = omega arith; is_for = refl; has_bits = refl },
+  record { place = 1; listed = omega arith; is_for = refl; has_bits = refl },
+  record { place = 2; listed = omega arith; is_for = refl; has_bits = refl },
+)
 
 -- ---- data
 
@@ -114,95 +108,88 @@ ends-coded = record { place = 2; listed = omega arith; is_for = refl; has_bits =
 abbrev Sends : ScanHeader → List Coding → List ℕ → Type 0
 Sends h ks bytes = WritesScan the_frame 0 (pass_of (scan_written the_frame h)) ks grey_array bytes
 
-dc-first : Sends header_1 dc_codings (66 ∷ 79 ∷ [])
-unfolding low_bits number_for bits_of_bytes stuffed pass_of scan_of frame_of component_of own_spots spots_of mcu_size
-    vias_from
-dc-first = record {
-  sent = block_for dc_codings grey_array;
-  in_range = search (rules, range-in);
-  is_own = λ s own. refl;
-  coded = last 0 _ _ (interval-by _ _ _ (66 ∷ 79 ∷ [])
-      (block _ 0 0 _ _ _ (false ∷ true ∷ false ∷ false ∷ []) [] _ (pos 4)
-      (whole (pos 4) (pos 0) _ refl refl
-      (search (rules, category-by, dc-coded)))
-      (no_band 0)
-      (block _ 0 0 _ _ _ (false ∷ false ∷ true ∷ false ∷ []) [] _ (negsuc 0)
-      (whole (negsuc 0) (pos 4) _ refl refl
-      (search (rules, category-by, dc-coded)))
-      (no_band 0)
-      (block _ 0 0 _ _ _ (false ∷ true ∷ false ∷ false ∷ []) [] _ (pos 3)
-      (whole (pos 3) (negsuc 0) _ refl refl
-      (search (rules, category-by, dc-coded)))
-      (no_band 0)
-      (done _)))) refl refl);
-}
-
-dc-again : Sends header_3 dc_codings (191 ∷ [])
-unfolding low_bits number_for bits_of_bytes stuffed pass_of scan_of frame_of component_of own_spots spots_of mcu_size
-    vias_from
-dc-again = record {
-  sent = block_for dc_codings grey_array;
-  in_range = search (rules, range-in);
-  is_own = λ s own. refl;
-  coded = last 0 _ _ (interval-by _ _ _ (191 ∷ [])
-      (block _ 0 0 _ _ _ (true ∷ []) [] _ (pos 0) (one_bit (pos 9) (pos 0) refl refl) (no_band 0)
-      (block _ 0 0 _ _ _ (false ∷ []) [] _ (pos 0) (one_bit (negsuc 1) (pos 0) refl refl) (no_band 0)
-      (block _ 0 0 _ _ _ (true ∷ []) [] _ (pos 0) (one_bit (pos 7) (pos 0) refl refl) (no_band 0)
-      (done _)))) refl refl);
-}
-
-ac-first : Sends header_2 ac_codings (99 ∷ 63 ∷ [])
-unfolding low_bits number_for bits_of_bytes stuffed pass_of scan_of frame_of component_of own_spots spots_of mcu_size
-    vias_from
-ac-first = record {
-  sent = block_for ac_codings grey_array;
-  in_range = search (rules, range-in);
-  is_own = λ s own. refl;
-  coded = last 0 _ _ (interval-by _ _ _ (99 ∷ 63 ∷ [])
-      (block _ 0 0 _ _ _ [] (false ∷ true ∷ true ∷ false ∷ []) _ (pos 0)
-      (other_band (pos 4) (pos 0) (λ e. absurd (omega arith)))
-      (first (pos 1) (replicate 62 (pos 0)) _ 0 refl (
-      value 0 1 (pos 1) (false ∷ []) (replicate 62 (pos 0)) (true ∷ false ∷ []) 0
-      (omega arith) (λ e. cc) (category-by _ 1 refl) one-coded (
-      ended 61 0 0 (true ∷ false ∷ []) (omega arith) (omega arith) end-coded)))
-      (block _ 0 1 _ _ _ [] (false ∷ false ∷ true ∷ true ∷ false ∷ false ∷ []) _ (pos 0)
-      (other_band (negsuc 0) (pos 0) (λ e. absurd (omega arith)))
-      (first (negsuc 0) (replicate 62 (pos 0)) _ 1 refl (
-      value 0 1 (negsuc 0) (false ∷ []) (replicate 62 (pos 0)) (true ∷ true ∷ false ∷ false ∷ []) 1
-      (omega arith) (λ e. cc) (category-by _ 1 refl) one-coded (
-      ended 61 1 0 (true ∷ true ∷ false ∷ []) (omega arith) (omega arith) ends-coded)))
-      (block _ 1 0 _ _ _ [] [] _ (pos 0) (other_band (pos 3) (pos 0) (λ e. absurd (omega arith)))
-      (first_run 62 0 refl)
-      (done _)))) refl refl);
-}
-
 none-new : (n : ℕ) → NoneNew (replicate n (pos 0))
 unfolding NoneNew
 none-new zero = tt
 none-new (suc n) = ((λ e. absurd (omega arith)), none-new n)
 
-ac-again : Sends header_4 ac_codings (58 ∷ [])
+sent : Sends header_1 dc_codings (66 ∷ 79 ∷ [])
+    × Sends header_2 ac_codings (99 ∷ 63 ∷ [])
+    × Sends header_3 dc_codings (191 ∷ [])
+    × Sends header_4 ac_codings (58 ∷ [])
 unfolding low_bits number_for bits_of_bytes stuffed pass_of scan_of frame_of component_of own_spots spots_of mcu_size
     vias_from corrections count_unknown NoneNew
-ac-again = record {
-  sent = block_for ac_codings grey_array;
-  in_range = search (rules, range-in);
-  is_own = λ s own. refl;
-  coded = last 0 _ _ (interval-by _ _ _ (58 ∷ [])
-      (block _ 0 2 _ _ _ [] (false ∷ false ∷ true ∷ true ∷ true ∷ false ∷ true ∷ []) _ (pos 0)
-      (other_band (pos 9) (pos 0) (λ e. absurd (omega arith)))
-      (again (pos 3) (negsuc 0 ∷ replicate 61 (pos 0)) _ 2 refl (
-      found 0 (pos 3 ∷ []) (negsuc 0) (false ∷ []) (replicate 61 (pos 0)) (true ∷ true ∷ false ∷ true ∷ []) 2
-      (omega arith)
-      ((λ e. absurd (omega arith)), tt) refl refl one-coded (
-      none_left 1 1 (pos 0) (replicate 60 (pos 0)) (true ∷ true ∷ false ∷ []) (omega arith) (omega arith)
-      (none-new 61) ends-coded)))
-      (block _ 2 1 _ _ _ [] (false ∷ []) _ (pos 0) (other_band (negsuc 1) (pos 0) (λ e. absurd (omega arith)))
-      (again_run (negsuc 1) (replicate 62 (pos 0)) 1 refl ((λ e. absurd (omega arith)), none-new 62))
-      (block _ 1 0 _ _ _ [] [] _ (pos 0) (other_band (pos 7) (pos 0) (λ e. absurd (omega arith)))
-      (again_run (pos 0) (replicate 62 (pos 0)) 0 refl (none-new 63))
-      (done _)))) refl refl);
-}
+sent = (
+  record {
+    sent = block_for dc_codings grey_array;
+    in_range = search (rules, range-in);
+    is_own = λ s own. refl;
+    coded = last 0 _ _ (interval-by _ _ _ (66 ∷ 79 ∷ [])
+        (block _ 0 0 _ _ _ (false ∷ true ∷ false ∷ false ∷ []) [] _ (pos 4)
+        (whole (pos 4) (pos 0) _ refl refl
+        (search (rules, category-by, codes.0)))
+        (no_band 0)
+        (block _ 0 0 _ _ _ (false ∷ false ∷ true ∷ false ∷ []) [] _ (negsuc 0)
+        (whole (negsuc 0) (pos 4) _ refl refl
+        (search (rules, category-by, codes.0)))
+        (no_band 0)
+        (block _ 0 0 _ _ _ (false ∷ true ∷ false ∷ false ∷ []) [] _ (pos 3)
+        (whole (pos 3) (negsuc 0) _ refl refl
+        (search (rules, category-by, codes.0)))
+        (no_band 0)
+        (done _)))) refl refl);
+  },
+  record {
+    sent = block_for ac_codings grey_array;
+    in_range = search (rules, range-in);
+    is_own = λ s own. refl;
+    coded = last 0 _ _ (interval-by _ _ _ (99 ∷ 63 ∷ [])
+        (block _ 0 0 _ _ _ [] (false ∷ true ∷ true ∷ false ∷ []) _ (pos 0)
+        (other_band (pos 4) (pos 0) (λ e. absurd (omega arith)))
+        (first (pos 1) (replicate 62 (pos 0)) _ 0 refl (
+        value 0 1 (pos 1) (false ∷ []) (replicate 62 (pos 0)) (true ∷ false ∷ []) 0
+        (omega arith) (λ e. cc) (category-by _ 1 refl) codes.1 (
+        ended 61 0 0 (true ∷ false ∷ []) (omega arith) (omega arith) codes.2)))
+        (block _ 0 1 _ _ _ [] (false ∷ false ∷ true ∷ true ∷ false ∷ false ∷ []) _ (pos 0)
+        (other_band (negsuc 0) (pos 0) (λ e. absurd (omega arith)))
+        (first (negsuc 0) (replicate 62 (pos 0)) _ 1 refl (
+        value 0 1 (negsuc 0) (false ∷ []) (replicate 62 (pos 0)) (true ∷ true ∷ false ∷ false ∷ []) 1
+        (omega arith) (λ e. cc) (category-by _ 1 refl) codes.1 (
+        ended 61 1 0 (true ∷ true ∷ false ∷ []) (omega arith) (omega arith) codes.3)))
+        (block _ 1 0 _ _ _ [] [] _ (pos 0) (other_band (pos 3) (pos 0) (λ e. absurd (omega arith)))
+        (first_run 62 0 refl)
+        (done _)))) refl refl);
+  },
+  record {
+    sent = block_for dc_codings grey_array;
+    in_range = search (rules, range-in);
+    is_own = λ s own. refl;
+    coded = last 0 _ _ (interval-by _ _ _ (191 ∷ [])
+        (block _ 0 0 _ _ _ (true ∷ []) [] _ (pos 0) (one_bit (pos 9) (pos 0) refl refl) (no_band 0)
+        (block _ 0 0 _ _ _ (false ∷ []) [] _ (pos 0) (one_bit (negsuc 1) (pos 0) refl refl) (no_band 0)
+        (block _ 0 0 _ _ _ (true ∷ []) [] _ (pos 0) (one_bit (pos 7) (pos 0) refl refl) (no_band 0)
+        (done _)))) refl refl);
+  },
+  record {
+    sent = block_for ac_codings grey_array;
+    in_range = search (rules, range-in);
+    is_own = λ s own. refl;
+    coded = last 0 _ _ (interval-by _ _ _ (58 ∷ [])
+        (block _ 0 2 _ _ _ [] (false ∷ false ∷ true ∷ true ∷ true ∷ false ∷ true ∷ []) _ (pos 0)
+        (other_band (pos 9) (pos 0) (λ e. absurd (omega arith)))
+        (again (pos 3) (negsuc 0 ∷ replicate 61 (pos 0)) _ 2 refl (
+        found 0 (pos 3 ∷ []) (negsuc 0) (false ∷ []) (replicate 61 (pos 0)) (true ∷ true ∷ false ∷ true ∷ []) 2
+        (omega arith)
+        ((λ e. absurd (omega arith)), tt) refl refl codes.1 (
+        none_left 1 1 (pos 0) (replicate 60 (pos 0)) (true ∷ true ∷ false ∷ []) (omega arith) (omega arith)
+        (none-new 61) codes.3)))
+        (block _ 2 1 _ _ _ [] (false ∷ []) _ (pos 0) (other_band (negsuc 1) (pos 0) (λ e. absurd (omega arith)))
+        (again_run (negsuc 1) (replicate 62 (pos 0)) 1 refl ((λ e. absurd (omega arith)), none-new 62))
+        (block _ 1 0 _ _ _ [] [] _ (pos 0) (other_band (pos 7) (pos 0) (λ e. absurd (omega arith)))
+        (again_run (pos 0) (replicate 62 (pos 0)) 0 refl (none-new 63))
+        (done _)))) refl refl);
+  },
+)
 
 -- ---- segments and scripts
 
@@ -265,10 +252,10 @@ grey-written = record {
         (λ e. tt) (
         segment _ said _ sent_4 false 0 (segment_of ac_table) _ ((table-by _ _ (omega arith) refl, tt), tt) tt
         (λ e. tt) (
-        scan said said _ sent_4 false the_frame 0 header_1 dc_codings _ _ refl scans-are.0 legal.0 dc-first (
-        scan said said sent_1 sent_4 true the_frame 0 header_2 ac_codings _ _ refl scans-are.1 legal.1 ac-first (
-        scan said said sent_2 sent_4 true the_frame 0 header_3 dc_codings _ _ refl scans-are.2 legal.2 dc-again (
-        scan said said sent_3 sent_4 true the_frame 0 header_4 ac_codings _ _ refl scans-are.3 legal.3 ac-again (
+        scan said said _ sent_4 false the_frame 0 header_1 dc_codings _ _ refl scans-are.0 legal.0 sent.0 (
+        scan said said sent_1 sent_4 true the_frame 0 header_2 ac_codings _ _ refl scans-are.1 legal.1 sent.1 (
+        scan said said sent_2 sent_4 true the_frame 0 header_3 dc_codings _ _ refl scans-are.2 legal.2 sent.2 (
+        scan said said sent_3 sent_4 true the_frame 0 header_4 ac_codings _ _ refl scans-are.3 legal.3 sent.3 (
         closed said sent_4 the_frame 0 refl (record { table = replicate 64 16; is = refl }, tt)
         (λ e. absurd (true≢false e))))))))));
   };

@@ -1,18 +1,18 @@
 -- The lossless streams that are worked by hand are written.
 use Rattle.std.proofs.Common.{rules, ◌≡◌, ℕ, zero, suc, ◌==◌, Bool, true, false, List, [], ◌∷◌, ◌++◌, length, drop}
-use Rattle.std.proofs.Common.{replicate, flat_map, pos, negsuc, refl, sym, subst, arith, inl, inr}
+use Rattle.std.proofs.Common.{ℤ, ◌≤ℤ◌, replicate, flat_map, pos, negsuc, refl, sym, subst, arith, inl, inr}
 use Rattle.std.proofs.lemmas.Bool.{and_parts, eqb-true, leb-true}
 use Rattle.std.specs.List.{list_all}
 use Rattle.std.specs.Prelude.{nat_le}
 use Rattle.jpeg_bits.specs.Codes.{lengths_from, code_value, codes_exist, Table}
-use Rattle.jpeg_bits.specs.Written.{low_bits, number_for, stuffed, bits_of_bytes}
+use Rattle.jpeg_bits.specs.Written.{IsCoded, low_bits, number_for, stuffed, bits_of_bytes}
 use Rattle.jpeg_segments.specs.Frame.{Factors, Frame, frame_of, component_of}
 use Rattle.jpeg_segments.specs.ScanHeaders.{IsScan}
 use Rattle.jpeg_segments.specs.WrittenSegments.{FrameHeader, Header, Interval, frame_written}
 use Rattle.jpeg_lossless.specs.Prediction.{residue}
 use Rattle.jpeg_lossless.specs.Differences.{mcu_tables, row_tables, strand, strands, lines_in}
 use Rattle.jpeg_lossless.specs.Scans.{all_above, Way}
-use Rattle.jpeg_lossless.specs.Written.{AreGrids, WritesDifference, WritesInterval, WritesRow, WritesRows, none, one}
+use Rattle.jpeg_lossless.specs.Written.{AreGrids, bits_for, WritesDifference, WritesInterval, WritesRow, WritesRows, none, one}
 use Rattle.jpeg_lossless.specs.Written.{no_row, row, first_differences, rest_differences, differences_below}
 use Rattle.jpeg_lossless.specs.Written.{differences_of, HaveDifferences}
 use Rattle.jpeg_lossless.specs.Written.WritesIntervals.{another, last}
@@ -30,7 +30,7 @@ use Rattle.jpeg_streams.specs.WrittenLossless.{AreCodings, HasSamples, HoldSampl
 use Rattle.jpeg_streams.specs.WrittenLossless.{scan, segment, whole_rows}
 use Rattle.jpeg_streams.specs.LosslessScans.{LosslessCoding, mcus_across, mcus_down, parts_of}
 use Rattle.jpeg_streams.proofs.AcceptedSamples.{accepted-samples}
-use Rattle.jpeg_streams.proofs.TestedParts.{category-by, frame-by, scan-by, table-by}
+use Rattle.jpeg_streams.proofs.TestedParts.{category-by, frame-by, is_category, scan-by, table-by}
 
 -- ---- what is said
 
@@ -70,44 +70,32 @@ small_bits zero = false ∷ []
 small_bits (suc zero) = true ∷ false ∷ true ∷ []
 small_bits (suc (suc n)) = true ∷ false ∷ false ∷ []
 
-less : WritesDifference small_table 65535 (true ∷ false ∷ false ∷ [])
-unfolding low_bits number_for lengths_from code_value residue
-less = record {
-  d = negsuc 0;
-  s = 1;
-  code = true ∷ false ∷ [];
+-- a difference of this category, by the code of the category
+of-category : (d : ℤ) (s : ℕ) (code : List Bool) → negsuc 32766 ≤ℤ d → d ≤ℤ pos 32768 → is_category d s ≡ true
+    → IsCoded small_table s code → WritesDifference small_table (residue d) (code ++ bits_for d s)
+of-category d s code low high is coded = record {
+  d = d;
+  s = s;
+  code = code;
   is = refl;
-  low = record { le = tt };
-  high = record { le = tt };
-  category = category-by (negsuc 0) 1 refl;
-  coded = search rules;
+  low = low;
+  high = high;
+  category = category-by d s is;
+  coded = coded;
   has_bits = refl;
 }
 
+less : WritesDifference small_table 65535 (true ∷ false ∷ false ∷ [])
+unfolding low_bits number_for lengths_from code_value residue
+less = of-category (negsuc 0) 1 (true ∷ false ∷ []) (record { le = tt }) (record { le = tt }) refl (search rules)
+
 small-written : (r : ℕ) → is_small r ≡ true → WritesDifference small_table r (small_bits r)
 unfolding low_bits number_for lengths_from code_value residue
-small-written zero e = record {
-  d = pos 0;
-  s = 0;
-  code = false ∷ [];
-  is = refl;
-  low = record { le = tt };
-  high = record { le = tt };
-  category = category-by (pos 0) 0 refl;
-  coded = search rules;
-  has_bits = refl;
-}
-small-written (suc zero) e = record {
-  d = pos 1;
-  s = 1;
-  code = true ∷ false ∷ [];
-  is = refl;
-  low = record { le = tt };
-  high = record { le = tt };
-  category = category-by (pos 1) 1 refl;
-  coded = record { place = 1; listed = omega arith; is_for = refl; has_bits = refl };
-  has_bits = refl;
-}
+small-written zero e =
+    of-category (pos 0) 0 (false ∷ []) (record { le = tt }) (record { le = tt }) refl (search rules)
+small-written (suc zero) e =
+    of-category (pos 1) 1 (true ∷ false ∷ []) (record { le = tt }) (record { le = tt }) refl
+    (record { place = 1; listed = omega arith; is_for = refl; has_bits = refl })
 small-written (suc (suc n)) e = search (rules, eqb-true, less)
 
 row-written : (rs : List ℕ) → list_all is_small rs ≡ true
@@ -153,47 +141,40 @@ coding identifier place = record {
   table = small_table;
 }
 
-third-written : WritesScan (said three_header) (frame_by three_header) third_scan three_samples third_data
+three-scans : WritesScan (said three_header) (frame_by three_header) third_scan three_samples third_data
+    × WritesScan (scanned three_header) (frame_by three_header) other_scan three_samples other_data
 unfolding frame_of component_of nothing_found updated three_samples AreCodings HoldSamples mcus_across mcus_down
     parts_of mcu_tables row_tables strand strands
     lines_in first_differences rest_differences differences_below differences_of HaveDifferences residue stuffed
     bits_of_bytes all_above
-third-written = record {
-  codings = coding 3 2 ∷ [];
-  coded = (record { stands = refl; component = refl; table = refl }, tt);
-  point = refl;
-  interval = whole_rows 0;
-  lines = _;
-  held = (refl, tt);
-  written = another 0 0 2 (((128 ∷ 129 ∷ []) ∷ []) ∷ []) (((128 ∷ 128 ∷ []) ∷ []) ∷ []) (0x5F ∷ []) (0x3F ∷ [])
-      (omega arith)
-      (row-interval _ _ (0 ∷ 1 ∷ []) (0x5F ∷ []) refl refl refl refl (refl, tt)
-      (((refl, (omega arith, (omega arith, tt))), tt), tt))
-      (last 1 1 _ _ (omega arith)
-      (row-interval _ _ (0 ∷ 0 ∷ []) (0x3F ∷ []) refl refl refl refl (refl, tt)
-      (((refl, (omega arith, (omega arith, tt))), tt), tt)));
-}
-
-other-written : WritesScan (scanned three_header) (frame_by three_header) other_scan three_samples other_data
-unfolding frame_of component_of nothing_found updated three_samples AreCodings HoldSamples mcus_across mcus_down
-    parts_of mcu_tables row_tables strand strands
-    lines_in first_differences rest_differences differences_below differences_of HaveDifferences residue stuffed
-    bits_of_bytes all_above
-other-written = record {
-  codings = coding 1 0 ∷ coding 2 1 ∷ [];
-  coded = (search rules);
-  point = refl;
-  interval = whole_rows 0;
-  lines = _;
-  held = (refl, (refl, tt));
-  written = another 0 0 2 (((129 ∷ 129 ∷ []) ∷ []) ∷ ((128 ∷ 128 ∷ []) ∷ []) ∷ []) (((128 ∷ 128 ∷ []) ∷ [])
-      ∷ ((129 ∷ 128 ∷ []) ∷ []) ∷ []) (0xA3 ∷ []) (0x54 ∷ []) (omega arith)
-      (row-interval _ _ (1 ∷ 0 ∷ 0 ∷ 0 ∷ []) (0xA3 ∷ []) refl refl refl refl (refl, (refl, tt))
-      (search rules))
-      (last 1 1 _ _ (omega arith)
-      (row-interval _ _ (0 ∷ 1 ∷ 0 ∷ 65535 ∷ []) (0x54 ∷ []) refl refl refl refl (refl, (refl, tt))
-      (search rules)));
-}
+three-scans = (
+  record {
+    codings = coding 3 2 ∷ [];
+    coded = search rules;
+    point = refl;
+    interval = whole_rows 0;
+    lines = _;
+    held = (refl, tt);
+    written = another 0 0 2 (((128 ∷ 129 ∷ []) ∷ []) ∷ []) (((128 ∷ 128 ∷ []) ∷ []) ∷ []) (0x5F ∷ []) (0x3F ∷ [])
+        (omega arith)
+        (row-interval _ _ (0 ∷ 1 ∷ []) (0x5F ∷ []) refl refl refl refl (refl, tt) (search rules))
+        (last 1 1 _ _ (omega arith)
+        (row-interval _ _ (0 ∷ 0 ∷ []) (0x3F ∷ []) refl refl refl refl (refl, tt) (search rules)));
+  },
+  record {
+    codings = coding 1 0 ∷ coding 2 1 ∷ [];
+    coded = search rules;
+    point = refl;
+    interval = whole_rows 0;
+    lines = _;
+    held = (refl, (refl, tt));
+    written = another 0 0 2 (((129 ∷ 129 ∷ []) ∷ []) ∷ ((128 ∷ 128 ∷ []) ∷ []) ∷ []) (((128 ∷ 128 ∷ []) ∷ [])
+        ∷ ((129 ∷ 128 ∷ []) ∷ []) ∷ []) (0xA3 ∷ []) (0x54 ∷ []) (omega arith)
+        (row-interval _ _ (1 ∷ 0 ∷ 0 ∷ 0 ∷ []) (0xA3 ∷ []) refl refl refl refl (refl, (refl, tt)) (search rules))
+        (last 1 1 _ _ (omega arith)
+        (row-interval _ _ (0 ∷ 1 ∷ 0 ∷ 65535 ∷ []) (0x54 ∷ []) refl refl refl refl (refl, (refl, tt)) (search rules)));
+  },
+)
 
 pub three-written : AreWritten three_samples three_bytes
 unfolding nothing_found frame_of codes_exist lengths_from code_value
@@ -206,8 +187,8 @@ three-written = record {
         segment nothing_found _ [] 0 (Header 3 three_header) _ ((refl, frame-by 3 three_header refl), have-samples.0) (
         segment (framed three_header) _ [] 0 table_segment _ ((table-by _ _ (omega arith) refl, tt), tt) (
         segment (tabled three_header) _ [] 1 (Interval 2) _ (tt, tt) (
-        scan (said three_header) _ [] _ 0 third_scan third_data _ refl refl are-scans.0 third-written (
-        scan (scanned three_header) _ (2 ∷ []) _ 0 other_scan other_data _ refl refl are-scans.1 other-written (
+        scan (said three_header) _ [] _ 0 third_scan third_data _ refl refl are-scans.0 three-scans.0 (
+        scan (scanned three_header) _ (2 ∷ []) _ 0 other_scan other_data _ refl refl are-scans.1 three-scans.1 (
         closed (scanned three_header) (0 ∷ 1 ∷ 2 ∷ []) (frame_by three_header) 0 refl refl (
           inl refl,
           (inr (inl refl), (inr (inr (inl refl)), tt)),
@@ -230,46 +211,41 @@ abbrev lower : List (List (List ℕ))
 lower =
     ((128 ∷ 127 ∷ 127 ∷ 127 ∷ []) ∷ (127 ∷ 128 ∷ 127 ∷ 126 ∷ []) ∷ []) ∷ ((127 ∷ 127 ∷ []) ∷ []) ∷ []
 
-padded-written : WritesScan (said padded_header) (frame_by padded_header) padded_scan padded_samples padded_data
+padded-scans : WritesScan (said padded_header) (frame_by padded_header) padded_scan padded_samples padded_data
+    × WritesScan (scanned padded_header) (frame_by padded_header) lone_scan padded_samples lone_data
 unfolding frame_of component_of nothing_found updated padded_samples AreCodings HoldSamples mcus_across mcus_down
     parts_of mcu_tables row_tables strand strands
     lines_in first_differences rest_differences differences_below differences_of HaveDifferences residue stuffed
     bits_of_bytes all_above
-padded-written = record {
-  codings = coding_by (twice_factors 1) 0 ∷ coding_by (plain_factors 2) 1 ∷ [];
-  coded = (search rules);
-  point = refl;
-  interval = whole_rows 0;
-  lines = _;
-  held = (refl, (refl, tt));
-  written = another 0 0 2 upper lower (0xA8 ∷ 0x49 ∷ 0x6D ∷ []) (0x49 ∷ 0x60 ∷ 0x8F ∷ []) (omega arith)
-      (row-interval _ _ (1 ∷ 0 ∷ 65535 ∷ 0 ∷ 0 ∷ 65535 ∷ 65535 ∷ 1 ∷ 1 ∷ 1 ∷ []) (0xA8 ∷ 0x49 ∷ 0x6D ∷ [])
-      refl refl refl refl (refl, (refl, tt)) (search rules))
-      (last 1 1 _ _ (omega arith)
-      (row-interval _ _ (0 ∷ 65535 ∷ 65535 ∷ 1 ∷ 65535 ∷ 0 ∷ 0 ∷ 0 ∷ 65535 ∷ 0 ∷ []) (0x49 ∷ 0x60 ∷ 0x8F ∷ [])
-      refl refl refl refl (refl, (refl, tt)) (search rules)));
-}
-
-lone-written : WritesScan (scanned padded_header) (frame_by padded_header) lone_scan padded_samples lone_data
-unfolding frame_of component_of nothing_found updated padded_samples AreCodings HoldSamples mcus_across mcus_down
-    parts_of mcu_tables row_tables strand strands
-    lines_in first_differences rest_differences differences_below differences_of HaveDifferences residue stuffed
-    bits_of_bytes all_above
-lone-written = record {
-  codings = coding_by (plain_factors 3) 2 ∷ [];
-  coded = (record { stands = refl; component = refl; table = refl }, tt);
-  point = refl;
-  interval = whole_rows 0;
-  lines = _;
-  held = (refl, tt);
-  written = another 0 0 2 (((127 ∷ 127 ∷ []) ∷ []) ∷ []) (((129 ∷ 128 ∷ []) ∷ []) ∷ []) (0x8F ∷ []) (0xB3 ∷ [])
-      (omega arith)
-      (row-interval _ _ (65535 ∷ 0 ∷ []) (0x8F ∷ []) refl refl refl refl (refl, tt)
-      (((refl, (omega arith, (omega arith, tt))), tt), tt))
-      (last 1 1 _ _ (omega arith)
-      (row-interval _ _ (1 ∷ 65535 ∷ []) (0xB3 ∷ []) refl refl refl refl (refl, tt)
-      (((refl, (omega arith, (omega arith, tt))), tt), tt)));
-}
+padded-scans = (
+  record {
+    codings = coding_by (twice_factors 1) 0 ∷ coding_by (plain_factors 2) 1 ∷ [];
+    coded = search rules;
+    point = refl;
+    interval = whole_rows 0;
+    lines = _;
+    held = (refl, (refl, tt));
+    written = another 0 0 2 upper lower (0xA8 ∷ 0x49 ∷ 0x6D ∷ []) (0x49 ∷ 0x60 ∷ 0x8F ∷ []) (omega arith)
+        (row-interval _ _ (1 ∷ 0 ∷ 65535 ∷ 0 ∷ 0 ∷ 65535 ∷ 65535 ∷ 1 ∷ 1 ∷ 1 ∷ []) (0xA8 ∷ 0x49 ∷ 0x6D ∷ [])
+        refl refl refl refl (refl, (refl, tt)) (search rules))
+        (last 1 1 _ _ (omega arith)
+        (row-interval _ _ (0 ∷ 65535 ∷ 65535 ∷ 1 ∷ 65535 ∷ 0 ∷ 0 ∷ 0 ∷ 65535 ∷ 0 ∷ []) (0x49 ∷ 0x60 ∷ 0x8F ∷ [])
+        refl refl refl refl (refl, (refl, tt)) (search rules)));
+  },
+  record {
+    codings = coding_by (plain_factors 3) 2 ∷ [];
+    coded = search rules;
+    point = refl;
+    interval = whole_rows 0;
+    lines = _;
+    held = (refl, tt);
+    written = another 0 0 2 (((127 ∷ 127 ∷ []) ∷ []) ∷ []) (((129 ∷ 128 ∷ []) ∷ []) ∷ []) (0x8F ∷ []) (0xB3 ∷ [])
+        (omega arith)
+        (row-interval _ _ (65535 ∷ 0 ∷ []) (0x8F ∷ []) refl refl refl refl (refl, tt) (search rules))
+        (last 1 1 _ _ (omega arith)
+        (row-interval _ _ (1 ∷ 65535 ∷ []) (0xB3 ∷ []) refl refl refl refl (refl, tt) (search rules)));
+  },
+)
 
 pub padding-written : AreWritten padded_samples padded_bytes
 unfolding nothing_found frame_of codes_exist lengths_from code_value
@@ -283,8 +259,8 @@ padding-written = record {
         (
         segment (framed padded_header) _ [] 0 table_segment _ ((table-by _ _ (omega arith) refl, tt), tt) (
         segment (tabled padded_header) _ [] 0 (Interval 2) _ (tt, tt) (
-        scan (said padded_header) _ [] _ 0 padded_scan padded_data _ refl refl are-scans.2 padded-written (
-        scan (scanned padded_header) _ (0 ∷ 1 ∷ []) _ 0 lone_scan lone_data _ refl refl are-scans.3 lone-written (
+        scan (said padded_header) _ [] _ 0 padded_scan padded_data _ refl refl are-scans.2 padded-scans.0 (
+        scan (scanned padded_header) _ (0 ∷ 1 ∷ []) _ 0 lone_scan lone_data _ refl refl are-scans.3 padded-scans.1 (
         closed (scanned padded_header) (2 ∷ 0 ∷ 1 ∷ []) (frame_by padded_header) 0 refl refl (
           inr (inl refl),
           (inr (inr (inl refl)), (inl refl, tt)),

@@ -36,13 +36,6 @@ ready-turns p vias arrays u (s ∷ spots) h = (h.0.at, ready-turns p vias arrays
 abbrev pub put_back : List Spot → Arrays → (List Block × Option Marker) × List ℕ → Outcome (Arrays × Option Marker)
 put_back spots arrays r = Ok ((put_blocks spots r.0.0 arrays, r.0.1), r.1)
 
-arrays-by : (p : Pass) (n : ℕ) (vias : List Via) (spots : List Spot) (arrays : Arrays) (bytes : List ℕ)
-    → arrays_at p n vias spots arrays bytes
-    ≡ (intervals p 0 (first_group n (turns_of vias spots arrays))
-    (other_groups n (turns_of vias spots arrays)) bytes >>= put_back spots arrays)
-unfolding arrays_at
-arrays-by p n vias spots arrays bytes = refl
-
 turns-are : (vias : List Via) (spots : List Spot) (arrays : Arrays) (u : Spot → Block)
     → reads_of (map (turn_with vias arrays u) spots) ≡ turns_of vias spots arrays
 unfolding turns_of
@@ -56,6 +49,7 @@ pub reads-arrays : (p : Pass) (n : ℕ) (vias : List Via) (spots : List Spot) (a
     (other_groups n (written_turns vias spots u)) bytes
     → arrays_at p n vias spots arrays (bytes ++ marker fill code rest)
     ≡ Ok ((put_blocks spots (map (λ s. after_pass p (block_at arrays s) (u s)) spots) arrays, Some m), rest)
+unfolding arrays_at
 reads-arrays p n vias spots arrays u bytes fill code m rest ready h w =
     let all = bytes ++ marker fill code rest in
     let turns = map (turn_with vias arrays u) spots in
@@ -63,7 +57,7 @@ reads-arrays p n vias spots arrays u bytes fill code m rest ready h w =
     map-map_any (turn_with vias arrays u) (λ (t : Via × Block × Block). (t.0, t.2)) spots in
     let written = subst (λ (x : List (Via × Block)). WritesIntervals p 0 (first_group n x) (other_groups n x) bytes)
     (sym news) w in
-    arrays-by p n vias spots arrays all
+    (refl)
     ∙ ap (λ (x : List (Via × Block)). intervals p 0 (first_group n x)
     (other_groups n x) all >>= put_back spots arrays) (sym (turns-are vias spots arrays u))
     ∙ ap (λ (o : Outcome (List Block × Option Marker)). o >>= put_back spots arrays)

@@ -1,7 +1,7 @@
 -- A band that was written is read again.
 use Rattle.std.proofs.Common.{rules, ◌≢◌, zero, Bool, List, ◌++◌, length, take, drop, negsuc, refl, subst, arith, neg_ℤ}
-use Rattle.std.proofs.Common.{◌≡◌, unsigned_abs, append_assoc, append-nil, pow_pos, le_refl, length-append, slice_index}
-use Rattle.std.proofs.Common.{ℕ, suc, ◌+◌, ◌-◌, ◌*◌, ◌/◌, ◌%◌, ◌^◌, ◌<◌, ◌≤◌, [], ◌∷◌, map, ℤ, pos, sym, ap, ◌∙◌, ap₂}
+use Rattle.std.proofs.Common.{◌≡◌, unsigned_abs, append_assoc, append-nil, pow_pos, le_refl, length-append}
+use Rattle.std.proofs.Common.{ℕ, suc, ◌+◌, ◌-◌, ◌*◌, ◌^◌, ◌<◌, ◌≤◌, [], ◌∷◌, map, ℤ, pos, sym, ap, ◌∙◌, ap₂}
 use Rattle.std.proofs.lemmas.List.{take-replicate, drop-replicate, length-replicate}
 use Rattle.std.proofs.Math.Nat.{zero-mul, mul-le-mul_left}
 use lib.Signed.{mag}
@@ -10,7 +10,7 @@ use Rattle.std.proofs.lemmas.Bool.{lt-ltb}
 use Rattle.std.proofs.lemmas.Bool.Decides.{nat_tests}
 use Rattle.std.specs.List.{AllByRecursion}
 use Rattle.jpeg_bits.specs.Codes.{Table}
-use Rattle.jpeg_bits.specs.Written.{low_bits, code_size, IsCategory, IsCoded}
+use Rattle.jpeg_bits.specs.Written.{low_bits, IsCategory, IsCoded}
 use Rattle.jpeg_bits.specs.Readers.{Reads, ReadsJust}
 use Rattle.jpeg_bits.specs.Bands.{wrapped, Band, before_more, token_at, token_from, after_token, first_ac}
 use Rattle.jpeg_bits.specs.declared.tokens.Token.{Token}
@@ -24,45 +24,17 @@ use Rattle.jpeg_lossless.proofs.ReadBack.{takes-signed}
 
 -- ---- tokens
 
--- a token is read of its code and the bits after it
-pub token-read : (table : Table) (room r s : ℕ) (code bits : List Bool) (x : Token) → IsGood table
-    → IsCoded table (16 * r + s) code → s ≤ 15
-    → ((size : ℕ) → ReadsJust (token_at room size r s) bits x) → ReadsJust (token_from table room) (code ++ bits) x
-unfolding token_from
-token-read table room r s code bits x good coded small piece =
-    let symbol = slice_index table.symbols coded.place in
-    let high : symbol / 16 ≡ r = omega (arith, coded.is_for) in
-    let low : symbol % 16 ≡ s = omega (arith, coded.is_for) in
-    let token = λ (c : ℕ × ℕ). token_at room c.0 (c.1 / 16) (c.1 % 16) in
-    let size = code_size table coded.place in
-    let body : ReadsJust (token (size, symbol)) bits x = rw (high, low) (piece size) in
-    search (rules, takes-as, takes-bind)
-
 pub takes-token : (table : Table) (al m j r s : ℕ) (code own bits : List Bool) (x : Token) (y : Band) → IsGood table
     → IsCoded table (16 * r + s) code → s ≤ 15
     → ((room size : ℕ) → room ≡ suc j → ReadsJust (token_at room size r s) own x)
     → ReadsJust (after_token al (first_ac table al m) (no_numbers (suc j)) x) bits y
     → ReadsJust (first_ac table al (suc m) (no_numbers (suc j))) ((code ++ own) ++ bits) y
-unfolding first_ac
+unfolding first_ac token_from
 takes-token table al m j r s code own bits x y good coded small token after =
     takes-bind (token_from table (length (no_numbers (suc j))))
     (after_token al (first_ac table al m) (no_numbers (suc j))) (code ++ own) bits x y
-    (search (rules, token-read, length-replicate))
+    (search (rules, takes-as, takes-bind, length-replicate))
     after
-
-pub token-value : (room size r t : ℕ) (u : ℤ) → r < room → IsCategory u (suc t)
-    → ReadsJust (token_at room size r (suc t)) (bits_for u (suc t)) (Value r u)
-unfolding token_at
-token-value room size r t u h cat = grind (arith, lt-ltb 0 (suc t) (omega arith), lt-ltb r room h, takes-signed u t cat)
-
-pub token-sixteen : (room size : ℕ) → ReadsJust (token_at room size 15 0) [] Sixteen
-unfolding token_at
-token-sixteen room size = takes-gives Sixteen
-
-pub token-rest : (room size r e : ℕ) → r ≤ 14 → e < 2 ^ r
-    → ReadsJust (token_at room size r 0) (low_bits r e) (Rest (2 ^ r - 1 + e))
-unfolding token_at
-token-rest room size r e h f = grind (arith, nat_tests, takes-number r e f)
 
 pub after-value : (al : ℕ) (others : List ℤ → Reads Band) (places : List ℤ) (r : ℕ) (u : ℤ) (bits : List Bool)
     (more : Band)
@@ -115,6 +87,7 @@ pub band-value : (table : Table) (al r s n : ℕ) (u : ℤ) (code : List Bool) (
     → ReadsJust (first_ac table al m (no_numbers (length more))) bits (map (scaled al) more, run))
     → ReadsJust (first_ac table al n (no_numbers (length (no_numbers r ++ u ∷ more)))) (code ++ bits_for u s ++ bits)
     (map (scaled al) (no_numbers r ++ u ∷ more), run)
+unfolding token_at
 band-value table al r s zero u code more bits run good range nz cat coded room others = absurd (omega arith)
 band-value table al r zero (suc m) u code more bits run good range nz cat coded room others = search (rules, abs-zero)
 band-value table al r (suc t) (suc m) u code more bits run good range nz cat coded room others =
@@ -132,7 +105,7 @@ band-value table al r (suc t) (suc m) u code more bits run good range nz cat cod
     = search (rules, scaled, append_assoc, map-no_numbers) in
     let token = takes-token table al m (r + k) r (suc t) code (bits_for u (suc t)) bits (Value r u) _ good coded
     (category-small al u (suc t) range cat)
-    (λ room size e. token-value room size r t u (omega arith) cat)
+    (λ room size e. (grind (arith, lt-ltb 0 (suc t) (omega arith), lt-ltb r room (omega arith), takes-signed u t cat)))
     (after-value al (first_ac table al m) places r u bits (map (scaled al) more, run) (scaled-fits al u range) w) in
     grind (arith, scaled al, takes-as)
 
@@ -142,6 +115,7 @@ pub band-sixteen : (table : Table) (al n : ℕ) (code : List Bool) (more : List 
     → ReadsJust (first_ac table al m (no_numbers (length more))) bits (map (scaled al) more, run))
     → ReadsJust (first_ac table al n (no_numbers (length (no_numbers 16 ++ more)))) (code ++ bits)
     (map (scaled al) (no_numbers 16 ++ more), run)
+unfolding token_at
 band-sixteen table al zero code more bits run good coded room others = absurd (omega arith)
 band-sixteen table al (suc m) code more bits run good coded room others =
     let k = length more in
@@ -154,7 +128,7 @@ band-sixteen table al (suc m) code more bits run good coded room others =
     let numbers : take 16 places ++ map (scaled al) more ≡ map (scaled al) (no_numbers 16 ++ more)
     = ap (λ (l : List ℤ). l ++ map (scaled al) more) front ∙ sym (map-no_numbers al 16 more) in
     let token = takes-token table al m (15 + k) 15 0 code [] bits Sixteen _ good coded (omega arith)
-    (λ room size e. token-sixteen room size)
+    (λ room size e. (takes-gives Sixteen))
     (after-sixteen al (first_ac table al m) places bits (map (scaled al) more, run) w) in
     subst (λ (l : ℕ). ReadsJust (first_ac table al (suc m) (no_numbers l)) (code ++ bits)
     (map (scaled al) (no_numbers 16 ++ more), run))
@@ -164,13 +138,14 @@ pub band-rest : (table : Table) (al k n r e : ℕ) (code : List Bool) → IsGood
     → IsCoded table (16 * r + 0) code → suc k ≤ n
     → ReadsJust (first_ac table al n (no_numbers (length (no_numbers (suc k))))) (code ++ low_bits r e)
     (map (scaled al) (no_numbers (suc k)), 2 ^ r - 1 + e)
+unfolding token_at
 band-rest table al k zero r e code good h f coded room = absurd (omega arith)
 band-rest table al k (suc m) r e code good h f coded room =
     let numbers : no_numbers (suc k) ≡ map (scaled al) (no_numbers (suc k))
     = sym (append-nil (no_numbers (suc k))) ∙ sym (map-no_numbers al (suc k) [])
     ∙ ap (map (scaled al)) (append-nil (no_numbers (suc k))) in
     let token = takes-token table al m k r 0 code (low_bits r e) [] (Rest (2 ^ r - 1 + e)) _ good coded (omega arith)
-    (λ room size q. token-rest room size r e h f)
+    (λ room size q. (grind (arith, nat_tests, takes-number r e f)))
     (takes-gives (no_numbers (suc k), 2 ^ r - 1 + e)) in
     grind (arith, scaled al, length-replicate (suc k) (pos 0), takes-as, append-nil (code ++ low_bits r e))
 

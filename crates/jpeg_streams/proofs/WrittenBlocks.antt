@@ -33,9 +33,6 @@ use Rattle.jpeg_streams.proofs.WrittenRefinements.{takes-refinement}
 
 -- ---- DC
 
-difference-small : (d : ℤ) (s : ℕ) → IsCategory d s → unsigned_abs d < 2 ^ 11 → s ≤ 11
-difference-small d s cat h = cat.is_least 11 h
-
 takes-category : (d : ℤ) (s : ℕ) → IsCategory d s → ReadsJust (category_number s) (bits_for d s) d
 unfolding low_bits
 takes-category d zero cat = search (rules, takes-as, abs-zero, takes-gives)
@@ -51,14 +48,11 @@ unfolding difference
 takes-difference table d bits good small w =
     let i = w.coded.place in
     let symbol = slice_index table.symbols i in
-    let body = takes-listed symbol w.s (bits_for d w.s) d w.coded.is_for (difference-small d w.s w.category small)
+    let body = takes-listed symbol w.s (bits_for d w.s) d w.coded.is_for (w.category.is_least 11 small)
     (takes-category d w.s w.category) in
     takes-as _ (code_bits table i ++ bits_for d w.s) bits d d
     (ap (λ (b : List Bool). b ++ bits_for d w.s) w.coded.has_bits ∙ w.has_bits) refl
     (search (rules, takes-bind, nat_le, takes-symbol))
-
-dc-wrapped : (u : ℤ) → InDcRange u → wrapped u ≡ u
-dc-wrapped u h = search (rules, int_wrap_fits, ints)
 
 difference-range : (u v : ℤ) → InDcRange u → InDcRange v → unsigned_abs (u -ℤ v) < 2 ^ 11
 difference-range u v h k = let a = h.low in let b = h.high in let c = k.low in let d = k.high in omega (arith, ints)
@@ -69,7 +63,7 @@ pub takes-first_dc : (table : Table) (al : ℕ) (u predictor : ℤ) (bits : List
 unfolding first_dc
 takes-first_dc table al u predictor bits good range before fits w =
     let sum : predictor +ℤ (u -ℤ predictor) ≡ u = omega (arith, ints) in
-    let dc : wrapped (predictor +ℤ (u -ℤ predictor)) ≡ u = ap wrapped sum ∙ dc-wrapped u range in
+    let dc : wrapped (predictor +ℤ (u -ℤ predictor)) ≡ u = ap wrapped sum ∙ (search (rules, int_wrap_fits, ints)) in
     grind (arith, takes-difference table (u -ℤ predictor) bits good (difference-range u predictor range before) w)
 
 neg-sum : (x y z : ℕ) → x ≡ y + z → neg_ℤ (pos x) +ℤ pos y ≡ neg_ℤ (pos z)

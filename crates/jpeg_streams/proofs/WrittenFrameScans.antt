@@ -119,10 +119,6 @@ in-all Q [] x h t = absurd t
 in-all Q (y ∷ xs) x h (inl e) = subst Q e h.0
 in-all Q (y ∷ xs) x h (inr t) = in-all Q xs x h.1 t
 
-one-order : (frame : Frame) (c : Component) → spots_of frame (c ∷ []) ≡ own_spots (grid_of c)
-unfolding spots_of
-one-order frame c = refl
-
 pub at-map : {A B : Type 0} (f : A → B) (j : ℕ) (xs : List A) (x : A) → At j xs x → At j (map f xs) (f x)
 at-map f j [] x h = absurd h
 at-map f zero (y ∷ xs) x h = ap f h
@@ -134,22 +130,29 @@ unfolding put_blocks
 put-count f [] arrays = refl
 put-count f (s ∷ spots) arrays = search (rules, length-set, put-count f spots (put_block s (f s) arrays))
 
--- the blocks of a component stay as many
-pub put-one : (s : Spot) (b : Block) (j : ℕ) (arrays : Arrays)
-    → length (get_or (put_block s b arrays) j []) ≡ length (get_or arrays j [])
-put-one s b j arrays = grind (arith, common_steps, length-set)
-
 pub put-size : (f : Spot → Block) (j : ℕ) (spots : List Spot) (arrays : Arrays)
     → length (get_or (put_blocks spots (map f spots) arrays) j []) ≡ length (get_or arrays j [])
 unfolding put_blocks
 put-size f j [] arrays = refl
-put-size f j (s ∷ spots) arrays = put-size f j spots (put_block s (f s) arrays) ∙ put-one s (f s) j arrays
+put-size f j (s ∷ spots) arrays = put-size f j spots (put_block s (f s) arrays) ∙ (grind (arith, common_steps, length-set))
+
+-- What a written scan is read as.
+pub record ReadsScan (frame : Frame) (restart : ℕ) (p : Pass) (codings : List Coding) (array : Coefficients)
+    (levels : ℕ → Levels) (before : Arrays) (bytes : List ℕ) : Type 0 where
+  pub arrays : Arrays
+  pub count : length arrays ≡ length codings
+  pub holds : (k : Coding) (j : ℕ) → At j codings k
+      → HoldsOwn (grid_of k.component) (array k.place) (sent_after p (levels k.place)) (get_or arrays j [])
+  pub read : (fill code : ℕ) (m : Marker) (rest : List ℕ) → IsMarker code m
+      → arrays_at p (restart * mcu_size (components_of codings)) (vias_from 0 codings)
+      (spots_of frame (components_of codings)) (arrays_of before codings) (bytes ++ marker fill code rest)
+      ≡ Ok ((arrays, Some m), rest)
 
 module _ (frame : Frame) (restart : ℕ) (p : Pass) (codings : List Coding) (array : Coefficients) (levels : ℕ → Levels)
     (before : Arrays) (bytes : List ℕ)
     (range : (place row column : ℕ) → Is8Bit (array place row column))
-    (ready : AllByRecursion (SlotReady frame p array levels before) codings)
-    (w : WritesScan frame restart p codings array bytes) where
+    (ready : AllByRecursion (SlotReady frame p array levels before) codings) (suit : SpotsSuit p before codings)
+    (good : AllByRecursion HasGood codings) (w : WritesScan frame restart p codings array bytes) where
   abbrev spots : List Spot
   spots = spots_of frame (components_of codings)
 
@@ -186,6 +189,7 @@ module _ (frame : Frame) (restart : ℕ) (p : Pass) (codings : List Coding) (arr
   zeros-at l slot index z = search rules
 
   suits-at : SpotsSuit p before codings → (s : Spot) → IsIn s spots → Suits p (block_at scanned s) (u s)
+  unfolding spots_of
   suits-at (none_read e z) s t =
       subst (λ (q : Pass). Suits q (block_at scanned s) (numbers_at q.al (w.sent s))) (sym e)
       (subst (λ (b : Block). Suits whole_pass b (numbers_at 0 (w.sent s))) (sym (zeros-at codings s.slot s.index z))
@@ -197,8 +201,7 @@ module _ (frame : Frame) (restart : ℕ) (p : Pass) (codings : List Coding) (arr
       let own : IsOwnSpot (grid_of k.component) s =
       in-all (IsOwnSpot (grid_of k.component)) (own_spots (grid_of k.component)) s
       (own-only (grid_of k.component) fits.own_wide)
-      (subst (IsIn s) (one-order frame k.component)
-      (subst (λ (l : List Coding). IsIn s (spots_of frame (components_of l))) e t)) in
+      (subst (λ (l : List Coding). IsIn s (spots_of frame (components_of l))) e t) in
       suits-own k s (subst (λ (n : ℕ). At n codings k) (sym own.slot) first) own.own
 
   abbrev f : Spot → Block
@@ -240,11 +243,10 @@ module _ (frame : Frame) (restart : ℕ) (p : Pass) (codings : List Coding) (arr
       }
 
   -- The scan is read as the blocks after it.
-  pub reads-scan : (fill code : ℕ) (m : Marker) (rest : List ℕ) → SpotsSuit p before codings
-      → AllByRecursion HasGood codings → IsMarker code m
+  reads-scan : (fill code : ℕ) (m : Marker) (rest : List ℕ) → IsMarker code m
       → arrays_at p (restart * mcu_size (components_of codings)) (vias_from 0 codings) spots scanned
       (bytes ++ marker fill code rest) ≡ Ok ((after, Some m), rest)
-  reads-scan fill code m rest suit good h =
+  reads-scan fill code m rest h =
       reads-arrays p (restart * mcu_size (components_of codings))
       (vias_from 0 codings) spots scanned u bytes fill code m rest
       (all-in (IsReadyAt p (vias_from 0 codings) scanned u) spots (λ s t.
@@ -252,30 +254,7 @@ module _ (frame : Frame) (restart : ℕ) (p : Pass) (codings : List Coding) (arr
       record { at = record { dc_good = v.dc; ac_good = v.ac; suits = suits-at suit s t } }))
       h w.coded
 
--- What a written scan is read as.
-pub record ReadsScan (frame : Frame) (restart : ℕ) (p : Pass) (codings : List Coding) (array : Coefficients)
-    (levels : ℕ → Levels) (before : Arrays) (bytes : List ℕ) : Type 0 where
-  pub arrays : Arrays
-  pub count : length arrays ≡ length codings
-  pub holds : (k : Coding) (j : ℕ) → At j codings k
-      → HoldsOwn (grid_of k.component) (array k.place) (sent_after p (levels k.place)) (get_or arrays j [])
-  pub read : (fill code : ℕ) (m : Marker) (rest : List ℕ) → IsMarker code m
-      → arrays_at p (restart * mcu_size (components_of codings)) (vias_from 0 codings)
-      (spots_of frame (components_of codings)) (arrays_of before codings) (bytes ++ marker fill code rest)
-      ≡ Ok ((arrays, Some m), rest)
-
--- A written scan of a frame takes the blocks of its components to the levels after it.
-pub scan-is_read : (frame : Frame) (restart : ℕ) (p : Pass) (codings : List Coding) (array : Coefficients)
-    (levels : ℕ → Levels) (before : Arrays) (bytes : List ℕ)
-    → ((place row column : ℕ) → Is8Bit (array place row column))
-    → AllByRecursion (SlotReady frame p array levels before) codings → SpotsSuit p before codings
-    → AllByRecursion HasGood codings → WritesScan frame restart p codings array bytes
-    → ReadsScan frame restart p codings array levels before bytes
-scan-is_read frame restart p codings array levels before bytes range ready suit good w =
-    record {
-      arrays = after frame restart p codings array levels before bytes range ready w;
-      count = grind (arith, common_steps, put-count);
-      holds = λ k j h. after-held frame restart p codings array levels before bytes range ready w k j h;
-      read = λ fill code m rest h. reads-scan frame restart p codings array levels before bytes range ready w fill
-          code m rest suit good h;
-    }
+  -- A written scan of a frame takes the blocks of its components to the levels after it.
+  pub scan-is_read : ReadsScan frame restart p codings array levels before bytes
+  scan-is_read =
+      record { arrays = after; count = grind (arith, common_steps, put-count); holds = after-held; read = reads-scan }

@@ -36,15 +36,11 @@ whole_text bytes = text (text_at bytes).bits (drop 56 (text_at bytes).places) (t
 abbrev pub and_marker : Result (List Block × Text) Fault → Outcome (List Block × Option Marker)
 and_marker o = o >>= λ r. (marker_from r.1 >>= λ m. Ok ((r.0, m.0), m.1))
 
-interval-text : (p : Pass) (turns : List (Via × Block)) (bytes : List ℕ)
-    → interval p turns bytes ≡ and_marker (blocks_of p predictors_at_start 0 turns (whole_text bytes))
-unfolding interval
-interval-text p turns bytes = ap (λ t. and_marker (blocks_of p predictors_at_start 0 turns t)) (upcoming-fresh bytes)
-
 in-text : (p : Pass) (turns : List (Via × Block)) (bytes rest : List ℕ) (m : Marker) (bits filling : List Bool)
     (blocks : List Block) → ReadsJust (blocks_of p predictors_at_start 0 turns) bits blocks
     → IsText (text_at bytes) (bits ++ filling) (Found m rest) → length filling ≤ 56
     → interval p turns bytes ≡ Ok ((blocks, Some m), rest)
+unfolding interval
 in-text p turns bytes rest m bits filling blocks read is h =
     let places = drop 56 (text_at bytes).places in
     let read_all = read.read filling places (Found m rest) in
@@ -57,7 +53,7 @@ in-text p turns bytes rest m bits filling blocks read is h =
       length-append bits filling,
       ap length is.bits_are,
     ) in
-    cc (interval-text p turns bytes, end-met (drop (length bits) places) m rest left)
+    cc ((ap (λ t. and_marker (blocks_of p predictors_at_start 0 turns t)) (upcoming-fresh bytes)), end-met (drop (length bits) places) m rest left)
 
 -- An interval that was written is read as the blocks after the pass, up to the marker.
 pub reads-interval : (p : Pass) (turns : List (Via × Block × Block)) (bytes : List ℕ) (fill code : ℕ) (m : Marker)

@@ -13,7 +13,7 @@ use Rattle.jpeg_segments.specs.WrittenSegments.{code_of, payload_of, sized}
 use Rattle.jpeg_streams.specs.ArrayPictures.{picture_of_array, picture_of_blocks, planes_of_blocks}
 use Rattle.jpeg_streams.specs.declared.settings.Settings.{Settings}
 use Rattle.jpeg_streams.specs.Levels.{Is8Bit, Levels, nothing_sent}
-use Rattle.jpeg_streams.specs.Order.{grid_of, Spot}
+use Rattle.jpeg_streams.specs.Order.{grid_of}
 use Rattle.jpeg_streams.specs.SaidSegments.{found_after}
 use Rattle.jpeg_streams.specs.Needed.{first_of, needed}
 use Rattle.jpeg_streams.specs.ScanSegments.{Coding, is_progressive, pass_of, components_of}
@@ -24,7 +24,7 @@ use Rattle.jpeg_streams.specs.WholeImages.{AllComplete}
 use Rattle.jpeg_streams.specs.WrittenImages.{closed, scan as then_scan, segment as then_segment, Writes, WritesImage}
 use Rattle.jpeg_streams.specs.WrittenParts.{AgreeOnOwn, HaveSamePicture, nothing, picture_meant_by, scan, segment}
 use Rattle.jpeg_streams.specs.WrittenParts.{WritesFront}
-use Rattle.jpeg_streams.specs.WrittenScans.{AreCodings, block_for, Coefficients, grid_at, HasTable, IsOwn, levels_after}
+use Rattle.jpeg_streams.specs.WrittenScans.{AreCodings, Coefficients, grid_at, HasTable, levels_after}
 use Rattle.jpeg_streams.specs.WrittenScans.{no_grid, place_at}
 use Rattle.jpeg_streams.specs.WrittenScans.AreCodings.{and_more, no_more}
 use Rattle.jpeg_streams.proofs.ReadTurns.{frame-kept, same-frame, scan-tail, segment-tail, then-ok}
@@ -98,15 +98,11 @@ framed-picture : (settings : Settings) (array : Coefficients) (said : Found) (f 
 unfolding picture_of_blocks picture_in_frame
 framed-picture settings array said f e = then-ok (needed said.frame) _ f _ (ap needed e) refl
 
-same-framed : (settings : Settings) (array : Coefficients) (a b : Found) (h : HaveSamePicture a b)
-    → picture_in_frame settings array a h.frame_a ≡ picture_in_frame settings array b h.frame_b
-unfolding picture_in_frame picture_by
-same-framed settings array a b h = search (rules, bind_same, same-planes)
-
 pub same-picture : (settings : Settings) (array : Coefficients) (a b : Found) → HaveSamePicture a b
     → picture_of_blocks settings a array ≡ picture_of_blocks settings b array
+unfolding picture_in_frame picture_by
 same-picture settings array a b h =
-    framed-picture settings array a h.frame_a h.is_a ∙ same-framed settings array a b h
+    framed-picture settings array a h.frame_a h.is_a ∙ (search (rules, bind_same, same-planes))
     ∙ sym (framed-picture settings array b h.frame_b h.is_b)
 
 whole-picture : (settings : Settings) (array : Coefficients) (bytes rest : List ℕ) (final : Found) (last : ℕ → Levels)
@@ -145,12 +141,6 @@ slot-coded w frame p tables places ds ks codings (and_more place d a places' ds'
 slot-coded w frame p tables places ds ks codings (and_more place d a places' ds' ks' k codings' is more) (suc slot) =
     slot-coded w frame p tables places' ds' ks' codings' more slot
 
-blocks-agree : (w : Found) (frame : Frame) (p : Pass) (tables : Tables) (places ds ks : List ℕ)
-    (codings : List Coding) (a b : Coefficients) → AreCodings w frame p tables places ds ks codings
-    → AgreeOnOwn frame a b → (s : Spot) → IsOwn (grid_at (components_of codings) s.slot) s.index
-    → block_for codings a s ≡ block_for codings b s
-blocks-agree w frame p tables places ds ks codings a b are agree s own = search (rules, slot-coded)
-
 also-writes : (a b : Coefficients) (said final : Found) (levels last : ℕ → Levels) (scanned : Bool) (bytes : List ℕ)
     (frame : Frame)
     → Writes a said levels scanned bytes final last → final.frame ≡ Some frame → AgreeOnOwn frame a b
@@ -173,7 +163,7 @@ also-writes a b said final levels last scanned bytes frame
     (record {
       sent = written.sent;
       in_range = written.in_range;
-      is_own = λ s own. written.is_own s own ∙ blocks-agree said f p _ _ _ _ codings a b legal.are_in_force alike s own;
+      is_own = λ s own. written.is_own s own ∙ (search (rules, slot-coded));
       coded = written.coded;
     })
     (also-writes a b said final levels_1 last true more frame w e agree)

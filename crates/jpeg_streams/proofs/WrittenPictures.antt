@@ -1,5 +1,5 @@
 -- The picture of a written stream is that of its array, cut at the levels that were sent.
-use Rattle.std.proofs.Common.{rules, ◌≡◌, ◌&&◌, Bool, true, false, cond, List, Some, None, Result, refl, subst, arith}
+use Rattle.std.proofs.Common.{rules, ◌≡◌, ◌&&◌, Bool, true, false, List, Some, None, Result, refl, subst, arith}
 use Rattle.std.proofs.Common.{ℕ, nat_lt, length, get_or, slice_index, slice_index_or, Option, true≢false, if◌then◌else◌}
 use Rattle.std.proofs.Common.{suc, ◌+◌, ◌*◌, ◌/◌, ◌%◌, ◌<◌, ◌≤◌, [], ◌∷◌, map, ℤ, ◌≢◌, Ok, Err, sym, ap, ap₂, ◌∙◌, ◌++◌}
 use Rattle.std.proofs.lemmas.Grind.{common_steps}
@@ -210,17 +210,13 @@ module _ (f : Frame) (array : Coefficients) (final : Found) (last : ℕ → Leve
 
 -- ---- the picture
 
-picture-one : (f : Frame) (c : Component) (p q : List ℕ) → f.output_width ≤ c.width → f.output_height ≤ c.height
-    → SamePlane (c.blocks_wide * c.scale) c.width c.height p q → picture_in f c p ≡ picture_in f c q
-picture-one f c p q w h same = grind (arith, common_steps, mul_comm, cropped-same)
-
 pub picture-by-same : (settings : Settings) (m : Metadata) (f : Frame) (components : List Component)
     (ps qs : List (List ℕ)) → f.components ≡ components → Made f
     → AllAlike components ps qs → picture_by settings m f components ps ≡ picture_by settings m f components qs
 unfolding picture_by
 picture-by-same settings m f (c ∷ []) (p ∷ ps) (q ∷ qs) e made alike =
     let size = one-made f c made e in
-    ap (λ (x : List ℕ). Ok x) (picture-one f c p q size.0 size.1 alike.0)
+    ap (λ (x : List ℕ). Ok x) (grind (arith, common_steps, mul_comm, cropped-same))
 picture-by-same settings m f components ps qs e made alike = search (rules, image-same, reaches-made)
 
 -- ---- the meaning
@@ -261,22 +257,18 @@ pub rest-by : (settings : Settings) (found all : Found) (bytes rest : List ℕ)
 unfolding rest_at
 rest-by settings found all bytes rest e = then-ok (segments_at false Elsewhere found None bytes) _ (all, rest) _ e refl
 
-meaning-by : (settings : Settings) (bytes rest : List ℕ) → start_at bytes ≡ Ok (tt, rest)
-    → meaning settings bytes ≡ rest_at settings nothing_found rest
-unfolding meaning
-meaning-by settings bytes rest e = then-ok (start_at bytes) _ (tt, rest) _ e refl
-
 -- The meaning of a written stream is the picture of its array, cut at the levels that were sent.
 pub stream-means : (settings : Settings) (array : Coefficients) (bytes rest : List ℕ) (final : Found)
     (last : ℕ → Levels)
     → ((place row column : ℕ) → Is8Bit (array place row column)) → WritesImage array bytes final last
     → meaning settings (bytes ++ rest)
     ≡ (picture_of_array settings final array last >>= (λ picture. Ok ((told_of final, picture), rest)))
+unfolding meaning
 stream-means settings array bytes rest final last range w =
     let r = stream-read array rest bytes final last w in
     let s = scans-read array rest final last _ _ range r.header in
     let all = reading final true s.end.held s.end.finished s.end.planes in
-    meaning-by settings (bytes ++ rest) r.rest r.starts
+    (then-ok (start_at (bytes ++ rest)) _ (tt, r.rest) _ r.starts refl)
     ∙ rest-by settings nothing_found all r.rest rest s.is
     ∙ ap (λ (o : Result (List ℕ) Fault). o >>= (λ (picture : List ℕ). Ok ((told_of final, picture), rest)))
     (pictures-same settings r.header.frame array final last r.header.shape s.end)
@@ -307,16 +299,13 @@ picture-there settings w f (c ∷ d ∷ more) ours planes sources t e h =
     ))
 picture-there settings w f components ours planes sources t e h = absurd h
 
-within-limit : (a b : ℕ) (x : Result (List ℕ) Fault) → b ≤ a → cond (nat_lt a b) (Err Malformed) x ≡ x
-within-limit a b x h = rw (le-ltb a b h) refl
-
 -- The picture of an array that is taken.
 pub pictures-taken : (settings : Settings) (array : Coefficients) (final : Found) (last : ℕ → Levels) (f : Frame)
     (sources : List Source) → Shaped f → Ended f array final last
     → sources_of f.components f.output_width f.output_height ≡ Ok sources → Takes settings final
     → (picture : List ℕ) × (picture_of_array settings final array last ≡ Ok picture)
 pictures-taken settings array final last f sources shape end is takes =
-    let same : takes.frame ≡ f = some-same takes.frame f (sym takes.is_said ∙ end.frame_is) in
+    let same : takes.frame ≡ f = cc in
     let b = planes-end f array final last shape end (scale-made f shape.made) 0 f.components
     (λ j c t. let start : 0 + j ≡ j = omega arith in subst (λ (n : ℕ). At n f.components c) (sym start) t) in
     let limit = subst (λ (g : Frame). length g.components * (g.output_width * g.output_height) ≤ settings.limit) same
@@ -325,13 +314,9 @@ pictures-taken settings array final last f sources shape end is takes =
     (subst (λ (g : Frame). HasTransform settings final g.components) same takes.transform) is b.alike in (
       picture.0,
       blocks-picture settings final (as_sent array last) f b.theirs end.frame_is b.theirs_are
-          ∙ within-limit settings.limit (length f.components * (f.output_width * f.output_height))
-          (picture_by settings final.metadata f f.components b.theirs) limit
+          ∙ (rw (le-ltb settings.limit (length f.components * (f.output_width * f.output_height)) limit) refl)
           ∙ picture.1,
     )
-  where
-    some-same : (a b : Frame) → ◌≡◌ {A = Option Frame} (Some a) (Some b) → a ≡ b
-    some-same a b e = cc
 
 -- A written stream whose picture is taken means that picture.
 pub taken-means : (settings : Settings) (array : Coefficients) (bytes rest : List ℕ) (final : Found) (last : ℕ → Levels)

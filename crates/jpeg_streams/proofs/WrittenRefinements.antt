@@ -12,7 +12,7 @@ use Rattle.jpeg_bits.specs.Entropy.{bits_from}
 use Rattle.jpeg_bits.specs.Codes.{Table}
 use Rattle.jpeg_bits.specs.Readers.{Reads, ◌>>=◌, gives, text, ReadsJust}
 use Rattle.jpeg_bits.specs.Bands.{Band, before_more}
-use Rattle.jpeg_bits.specs.Refinement.{is_zero, bit_of, moved, fits_i16, corrected_by, corrected, through_zero}
+use Rattle.jpeg_bits.specs.Refinement.{is_zero, bit_of, corrected_by, corrected, through_zero}
 use Rattle.jpeg_bits.specs.Refinement.{new_number, with_last, refined_piece, refined_ac}
 use Rattle.jpeg_bits.specs.Written.{bit, low_bits, code_bits, IsCoded}
 use Rattle.jpeg_streams.specs.WrittenData.{is_old, count_unknown, NoneNew, corrections, sign_bit, WritesRefinement}
@@ -64,10 +64,6 @@ nothing_or_old u h = search (rules, le-leb)
 pub corrected-stays : (al : ℕ) (z w : ℤ) → z ≡ w → ReadsJust (corrected_by al z 0) [] w
 corrected-stays al z w e = record { read = λ rest places n. ap (λ (x : ℤ). Ok (x, text rest places n)) e }
 
-pub corrected-moves : (al : ℕ) (z w : ℤ) → bit_of al z ≡ 0 → moved (2 ^ al) z ≡ w → fits_i16 w ≡ true
-    → ReadsJust (corrected_by al z 1) [] w
-corrected-moves al z w even e fits = search (rules, eq-eqb, even)
-
 pub even : (m : ℕ) → (2 * m) % 2 ≡ 0
 even m = omega arith
 
@@ -109,7 +105,7 @@ even-bit_neg al m k some e =
 pub corrects-neg : (al m b k : ℕ) → m * 2 ^ suc al ≡ suc k → b < 2 → (2 * m + b) * 2 ^ al < 2 ^ 15
     → ReadsJust (corrected_by al (negsuc k) b) [] (neg_ℤ (pos ((2 * m + b) * 2 ^ al)))
 corrects-neg al m (suc zero) k e h fits =
-    search (rules, pow_pos, times-two_power, even-bit_neg, spread, one-mul, corrected-moves, neg_ℤ, lt-ltb, zero-mul)
+    search (rules, pow_pos, times-two_power, even-bit_neg, spread, one-mul, eq-eqb, neg_ℤ, lt-ltb, zero-mul)
 corrects-neg al m b k e h fits = search (rules, corrected-stays, times-two_power, zero-mul)
 
 -- the correction bit of an old number gives the number
@@ -280,16 +276,13 @@ unfolding refined_piece
 piece-passed al others front more bits run none count range w =
     grind (arith, through, map-scaled, append_assoc, back-of, takes-bind, takes-front)
 
-pub not-fifteen : (r : ℕ) → r ≤ 14 → eqb r 15 ≡ false
-not-fifteen r h = grind (arith, nat_tests)
-
 pub piece-none_left : (al r e : ℕ) (others : List ℤ → Reads Band) (us : List ℤ) → r ≤ 14 → e < 2 ^ r → NoneNew us
     → AllByRecursion (InRange al) us
     → ReadsJust (refined_piece al others (map (held al) us) r 0) (low_bits r e ++ corrections us)
     (map (scaled al) us, 2 ^ r - 1 + e)
 unfolding refined_piece
 piece-none_left al r e others us h f none range =
-    let no : eqb r 15 ≡ false = not-fifteen r h in
+    let no : eqb r 15 ≡ false = grind (arith, nat_tests) in
     rw (no, refined_piece)
     (takes-bind (bits_from r) (λ k. corrected al (map (held al) us) >>= (λ all. gives (all, 2 ^ r - 1 + k)))
     (low_bits r e) (corrections us) e _ (takes-number r e f)
