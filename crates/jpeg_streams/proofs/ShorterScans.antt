@@ -1,24 +1,21 @@
 -- What a scan leaves.
-use Rattle.std.proofs.Common.{rules, arith, ◌<◌, ℕ, zero, suc, List, [], ◌∷◌, set, get_or, Bool, true, false, Option}
-use Rattle.std.proofs.Common.{Err, ℤ, pos, length}
+use Rattle.std.proofs.Common.{rules, arith, ◌<◌, ℕ, zero, suc, List, [], ◌∷◌, set, get_or}
+use Rattle.std.proofs.Common.{ℤ, pos, length}
 use Rattle.std.proofs.lemmas.Grind.{common_steps}
 use Rattle.std.specs.Prelude.{◌==◌, nat_le, nat_lt}
-use Rattle.jpeg_bits.specs.Reading.{Outcome, Malformed}
 use Rattle.jpeg_bits.specs.Entropy.{upcoming, fresh, marker_from, bits_from}
 use Rattle.jpeg_bits.specs.Readers.{Reads, refused}
 use Rattle.jpeg_bits.specs.Codes.{Table, symbol_from}
-use Rattle.jpeg_bits.specs.declared.marker.Marker.{Marker}
 use Rattle.jpeg_bits.specs.declared.tokens.Token.{Token}
 use Rattle.jpeg_bits.specs.declared.tokens.Token.TheVariants.{Value}
 use Rattle.jpeg_bits.specs.Bands.{Band, category_number, difference, first_dc, token_at, token_from, after_token}
 use Rattle.jpeg_bits.specs.Bands.{first_ac}
 use Rattle.jpeg_bits.specs.Passes.{Pass, Via, Block, dc_part, band_part, block_from, blocks_of}
-use Rattle.jpeg_bits.specs.Intervals.{interval, intervals, is_restart, blocks_before, predictors_at_start, first_group}
-use Rattle.jpeg_bits.specs.Intervals.{other_groups}
+use Rattle.jpeg_bits.specs.Intervals.{interval, intervals, predictors_at_start}
 use Rattle.jpeg_bits.specs.Refinement.{corrected_by, corrected, refined_piece, refined_ac}
 use Rattle.jpeg_streams.specs.Order.{Spot}
-use Rattle.jpeg_streams.specs.Scans.{Arrays, turns_of, arrays_at}
-use Rattle.jpeg_streams.proofs.Shorter.{below_steps, LeavesBelow, below-ok, below-err, below-bind}
+use Rattle.jpeg_streams.specs.Scans.{Arrays, arrays_at}
+use Rattle.jpeg_streams.proofs.Shorter.{below_steps, LeavesBelow, below-ok, below-bind}
 use Rattle.jpeg_streams.proofs.ShorterTexts.{reader_steps, StaysBelow, bind-stays, gives-stays, refused-stays, elim-stays, bits-stays}
 use Rattle.jpeg_streams.proofs.ShorterTexts.{signed-stays, code-stays, symbol-stays, texts-below, upcoming-below}
 use Rattle.jpeg_streams.proofs.ShorterTexts.{marker_from-below}
