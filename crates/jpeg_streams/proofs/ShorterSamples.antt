@@ -1,5 +1,5 @@
 -- What a lossless scan leaves.
-use Rattle.std.proofs.Common.{rules, ◌-◌, ◌<◌, ℕ, zero, suc, List, [], ◌∷◌, Bool, true, false, Option, Err, length}
+use Rattle.std.proofs.Common.{rules, ◌<◌, ℕ, zero, suc, List, [], ◌∷◌, Bool, true, false, Option, Err, length}
 use Rattle.std.specs.Prelude.{nat_le}
 use Rattle.jpeg_bits.specs.Reading.{Outcome, Malformed}
 use Rattle.jpeg_bits.specs.Codes.{Table, symbol_from}
@@ -7,8 +7,7 @@ use Rattle.jpeg_bits.specs.Entropy.{upcoming, fresh, marker_from}
 use Rattle.jpeg_bits.specs.Readers.{refused}
 use Rattle.jpeg_bits.specs.declared.marker.Marker.{Marker}
 use Rattle.jpeg_lossless.specs.Differences.{difference, difference_of, differences, mcu_tables, rows_from, row_tables}
-use Rattle.jpeg_lossless.specs.Scans.{Way, interval, intervals, is_of_rows, lines_above, rows_of_interval, scan_at}
-use Rattle.jpeg_bits.specs.Intervals.{is_restart}
+use Rattle.jpeg_lossless.specs.Scans.{Way, interval, intervals, is_of_rows, rows_of_interval, scan_at}
 use Rattle.jpeg_streams.proofs.Shorter.{below_steps, LeavesBelow, below-ok, below-err, below-bind}
 use Rattle.jpeg_streams.proofs.ShorterTexts.{StaysBelow, bind-stays, gives-stays, refused-stays, elim-stays}
 use Rattle.jpeg_streams.proofs.ShorterTexts.{signed-stays, symbol-stays, texts-below, upcoming-below, marker_from-below}
