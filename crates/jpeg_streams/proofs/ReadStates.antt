@@ -1,14 +1,15 @@
 -- What a decoder holds after the scans of a written stream.
 use Rattle.std.proofs.lemmas.Grind.{common_steps}
 use Rattle.std.proofs.Common.{rules, ◌≡◌, ◌≢◌, ◌⊎◌, inl, inr, ℕ, zero, suc, ◌-◌, ◌<◌, ◌≤◌, Bool, true, false, List, []}
-use Rattle.std.proofs.Common.{◌∷◌, map, length, take, drop, get_or, set, slice_index_or, Option, Some, None, refl, sym}
-use Rattle.std.proofs.Common.{ap, ◌∙◌, subst, arith, length-set, get_or-set_same, get_or-set_other}
+use Rattle.std.proofs.Common.{◌∷◌, map, length, take, drop, get_or, set, slice_index_or, Option, Some, None, refl}
+use Rattle.std.proofs.Common.{ap, ◌∙◌, arith, length-set, get_or-set_same, get_or-set_other}
 use Rattle.std.proofs.lemmas.Bool.{eq-eqb}
 use Rattle.std.proofs.lemmas.Bool.Decides.{leb_tells}
 use Rattle.std.proofs.lemmas.List.Folds.{list_all_at}
 use Rattle.std.specs.List.{AllByRecursion, list_all}
 use lib.ListN.{length-map}
 use Rattle.jpeg_segments.specs.Frame.{Frame, Component}
+use Rattle.jpeg_bits.specs.Passes.{band_of}
 use Rattle.jpeg_bits.specs.Passes.{Pass, Block, before_band, band_size}
 use Rattle.jpeg_streams.specs.Order.{grid_of}
 use Rattle.jpeg_streams.specs.Scans.{Arrays}
@@ -83,22 +84,18 @@ get-map f xs i h = search rules
 pub legal-open : (p : Pass) (l : Levels) → IsLegal p l → IsBand p → length l.acs ≡ 63 → is_whole l ≡ false
 legal-open p l legal band h = go p.ss refl
   where
+    first_at : (b : ℕ) → p.ss ≡ suc b → (v : Option ℕ) → is_level_0 v ≡ false
+        → AllByRecursion (λ x. x ≡ v) (band_of p l.acs) → is_level_0 (get_or l.acs b None) ≡ false
+    first_at b e v unfinished all =
+        let n : band_size p ≡ suc (p.se - p.ss) = let r = band.rising in omega arith in
+        let s : before_band p ≡ b = omega arith in
+        let here : AllByRecursion (λ x. x ≡ v) (take (suc (p.se - p.ss)) (drop b l.acs)) = search rules in
+        ap is_level_0 (first-of_band (λ x. x ≡ v) None b (p.se - p.ss) l.acs here
+        (let r = band.rising in let t = band.within in omega arith)) ∙ unfinished
+
     first_open : (b : ℕ) → p.ss ≡ suc b → (f : Bool) → p.is_first ≡ f → is_level_0 (get_or l.acs b None) ≡ false
-    first_open b e true f =
-        let n : band_size p ≡ suc (p.se - p.ss) = let r = band.rising in omega arith in
-        let s : before_band p ≡ b = omega arith in
-        let all : AllByRecursion (λ x. x ≡ None) (take (suc (p.se - p.ss)) (drop b l.acs))
-        = search rules
-        in
-        ap is_level_0 (first-of_band (λ x. x ≡ None) None b (p.se - p.ss) l.acs all
-        (let r = band.rising in let t = band.within in omega arith))
-    first_open b e false f =
-        let n : band_size p ≡ suc (p.se - p.ss) = let r = band.rising in omega arith in
-        let s : before_band p ≡ b = omega arith in
-        let all : AllByRecursion (λ x. x ≡ Some (suc p.al)) (take (suc (p.se - p.ss)) (drop b l.acs))
-        = search rules in
-        ap is_level_0 (first-of_band (λ x. x ≡ Some (suc p.al)) None b (p.se - p.ss) l.acs all
-        (let r = band.rising in let t = band.within in omega arith))
+    first_open b e true f = first_at b e None refl (legal.acs_unsent f)
+    first_open b e false f = first_at b e (Some (suc p.al)) refl (legal.acs_sent f)
 
     go : (n : ℕ) → p.ss ≡ n → is_whole l ≡ false
     go zero e = search (rules, list_all_at, dc-open)

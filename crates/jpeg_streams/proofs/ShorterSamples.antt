@@ -1,5 +1,5 @@
 -- What a lossless scan leaves.
-use Rattle.std.proofs.Common.{rules, ◌-◌, ◌<◌, ℕ, zero, suc, List, [], ◌∷◌, Bool, true, false, Option, Err, length}
+use Rattle.std.proofs.Common.{rules, ◌<◌, ℕ, zero, suc, List, [], ◌∷◌, Bool, true, false, Option, Err, length}
 use Rattle.std.specs.Prelude.{nat_le}
 use Rattle.jpeg_bits.specs.Reading.{Outcome, Malformed}
 use Rattle.jpeg_bits.specs.Codes.{Table, symbol_from}
@@ -9,7 +9,7 @@ use Rattle.jpeg_bits.specs.declared.marker.Marker.{Marker}
 use Rattle.jpeg_lossless.specs.Differences.{difference, difference_of, differences, mcu_tables, rows_from, row_tables}
 use Rattle.jpeg_lossless.specs.Scans.{Way, interval, intervals, is_of_rows, lines_above, rows_of_interval, scan_at}
 use Rattle.jpeg_bits.specs.Intervals.{is_restart}
-use Rattle.jpeg_streams.proofs.Shorter.{LeavesBelow, below-ok, below-err, below-bind}
+use Rattle.jpeg_streams.proofs.Shorter.{below_steps, LeavesBelow, below-ok, below-err, below-bind}
 use Rattle.jpeg_streams.proofs.ShorterTexts.{marker_from-below, takes-below, texts-below, upcoming-below}
 use Rattle.jpeg_streams.proofs.TakenTexts.{TakesBits, bind-takes, elim-takes, gives-takes, refused-takes}
 use Rattle.jpeg_streams.proofs.TakenTexts.{signed-takes, symbol-takes}
@@ -50,26 +50,12 @@ interval-below limit w n bytes h =
     (upcoming-below limit bytes h)) (λ r a.
     below-bind limit limit (marker_from r.1) _ (marker_from-below limit r.1 a) (λ m q. below-ok limit _ m.1 q))
 
-restart-below : (limit : ℕ) (front : List (List (List ℕ))) (others : Outcome Lines) (b : Bool)
-    → LeavesBelow limit others
-    → LeavesBelow limit (elim b as (λ _. Outcome Lines) [ true ↦ lines_above front others | false ↦ Err Malformed ])
-restart-below limit front others true h = below-bind limit limit others _ h (λ s u. below-ok limit _ s.1 u)
-restart-below limit front others false h = below-err Lines limit Malformed
-
-either-below : (limit : ℕ) (x y : Outcome Lines) (b : Bool) → LeavesBelow limit x → LeavesBelow limit y
-    → LeavesBelow limit (elim b as (λ _. Outcome Lines) [ true ↦ x | false ↦ y ])
-either-below limit x y true h g = h
-either-below limit x y false h g = g
-
 intervals-below : (limit turns : ℕ) (w : Way) (per k left : ℕ) (bytes : List ℕ) → length bytes < limit
     → LeavesBelow limit (intervals turns w per k left bytes)
 unfolding intervals
 intervals-below limit zero w per k left bytes h = below-err Lines limit Malformed
 intervals-below limit (suc turns) w per k left bytes h =
-    either-below limit (interval w left bytes) _ (nat_le left per) (interval-below limit w left bytes h)
-    (below-bind limit limit (interval w per bytes) _ (interval-below limit w per bytes h) (λ r q.
-    restart-below limit r.0.0 (intervals turns w per (suc k) (left - per) r.1) (is_restart k r.0.1)
-    (intervals-below limit turns w per (suc k) (left - per) r.1 q)))
+    search (below_steps, interval-below, intervals-below limit turns w per) depth 12
 
 -- ---- scans
 
