@@ -95,9 +95,6 @@ takes-below {A} limit p t h a = go (p t) refl
         subst (λ (u : Text). IsBelow limit u) (sym r.left_is) (advance-below limit r.n t a)
     go (Err fault) e = tt
 
--- the steps of which the readers of texts are made
-pub ruleset reader_steps = (rules, bind-stays, gives-stays, refused-stays, elim-stays, bits-stays, signed-stays)
-
 -- bits and then bytes
 pub texts-below : {A B : Type 0} (limit : ℕ) (r : Result (A × Text) Fault) (f : A × Text → Outcome B)
     → AfterIsBelow limit r → ((x : A × Text) → IsBelow limit x.1 → LeavesBelow limit (f x))
