@@ -40,9 +40,13 @@ frame-sources f s sources o a b e =
     (ceiling (o.height * 8) 8)
     (map (scaled_component 8 o.width o.height (most_h o.factors) (most_v o.factors)) o.factors) ≡ Ok sources)
     (factors-scaled 8 o.width o.height (most_h o.factors) (most_v o.factors) o.factors) at8 in
-    let others = sources-some (most_h o.factors) (most_v o.factors) (ceiling (o.width * s) 8) (ceiling (o.height * s) 8) (map (scaled_component s o.width o.height (most_h o.factors) (most_v o.factors)) o.factors)
-    (all-kept s o.width o.height (most_h o.factors) (most_v o.factors) (ceiling (o.width * 8) 8) (ceiling (o.height * 8) 8) (ceiling (o.width * s) 8) (ceiling (o.height * s) 8) o.factors (λ k. one-wide o.width s a b k o.some_width) (λ k. one-wide o.height s a b k o.some_height)
-    (sources-back (most_h o.factors) (most_v o.factors) (ceiling (o.width * 8) 8) (ceiling (o.height * 8) 8) (map (scaled_component 8 o.width o.height (most_h o.factors) (most_v o.factors)) o.factors) sources by8)) in
+    let others = sources-some (most_h o.factors) (most_v o.factors) (ceiling (o.width * s) 8) (ceiling
+    (o.height * s) 8) (map (scaled_component s o.width o.height (most_h o.factors) (most_v o.factors)) o.factors)
+    (all-kept s o.width o.height (most_h o.factors) (most_v o.factors) (ceiling (o.width * 8) 8) (ceiling
+    (o.height * 8) 8) (ceiling (o.width * s) 8) (ceiling (o.height * s) 8) o.factors
+    (λ k. one-wide o.width s a b k o.some_width) (λ k. one-wide o.height s a b k o.some_height)
+    (sources-back (most_h o.factors) (most_v o.factors) (ceiling (o.width * 8) 8) (ceiling (o.height * 8) 8) (map
+    (scaled_component 8 o.width o.height (most_h o.factors) (most_v o.factors)) o.factors) sources by8)) in
     let back = subst (λ (l : List Factors). sources_by (most_h l) (most_v l) (ceiling (o.width * s) 8)
     (ceiling (o.height * s) 8)
     (map (scaled_component s o.width o.height (most_h o.factors) (most_v o.factors)) o.factors) ≡ Ok others.0)
