@@ -7,8 +7,7 @@ use Rattle.jpeg_bits.specs.Entropy.{upcoming, fresh, marker_from}
 use Rattle.jpeg_bits.specs.Readers.{refused}
 use Rattle.jpeg_bits.specs.declared.marker.Marker.{Marker}
 use Rattle.jpeg_lossless.specs.Differences.{difference, difference_of, differences, mcu_tables, rows_from, row_tables}
-use Rattle.jpeg_lossless.specs.Scans.{Way, interval, intervals, is_of_rows, lines_above, rows_of_interval, scan_at}
-use Rattle.jpeg_bits.specs.Intervals.{is_restart}
+use Rattle.jpeg_lossless.specs.Scans.{Way, interval, intervals, is_of_rows, rows_of_interval, scan_at}
 use Rattle.jpeg_streams.proofs.Shorter.{below_steps, LeavesBelow, below-ok, below-err, below-bind}
 use Rattle.jpeg_streams.proofs.ShorterTexts.{marker_from-below, takes-below, texts-below, upcoming-below}
 use Rattle.jpeg_streams.proofs.TakenTexts.{TakesBits, bind-takes, elim-takes, gives-takes, refused-takes}

@@ -1,15 +1,12 @@
 -- What a scan leaves.
-use Rattle.std.proofs.Common.{◌<◌, ℕ, suc, List, [], ◌∷◌, Bool, true, false, Option}
-use Rattle.std.proofs.Common.{Err, length}
-use Rattle.jpeg_bits.specs.Reading.{Outcome, Malformed}
+use Rattle.std.proofs.Common.{◌<◌, ℕ, suc, List, [], ◌∷◌}
+use Rattle.std.proofs.Common.{length}
 use Rattle.jpeg_bits.specs.Entropy.{upcoming, fresh, marker_from}
-use Rattle.jpeg_bits.specs.declared.marker.Marker.{Marker}
 use Rattle.jpeg_bits.specs.Passes.{Pass, Via, Block, blocks_of}
-use Rattle.jpeg_bits.specs.Intervals.{interval, intervals, is_restart, blocks_before, predictors_at_start, first_group}
-use Rattle.jpeg_bits.specs.Intervals.{other_groups}
+use Rattle.jpeg_bits.specs.Intervals.{interval, intervals, predictors_at_start}
 use Rattle.jpeg_streams.specs.Order.{Spot}
-use Rattle.jpeg_streams.specs.Scans.{Arrays, turns_of, arrays_at}
-use Rattle.jpeg_streams.proofs.Shorter.{below_steps, LeavesBelow, below-ok, below-err, below-bind}
+use Rattle.jpeg_streams.specs.Scans.{Arrays, arrays_at}
+use Rattle.jpeg_streams.proofs.Shorter.{below_steps, LeavesBelow, below-ok, below-bind}
 use Rattle.jpeg_streams.proofs.ShorterTexts.{marker_from-below, takes-below, texts-below, upcoming-below}
 use Rattle.jpeg_streams.proofs.TakenTexts.{blocks-takes}
 
