@@ -31,12 +31,8 @@ begun-is : (n : ℕ) (old : Counted) (t : Text) → begun_from n old t ≡ begun
 unfolding begun_from
 begun-is n old t = refl
 
-and-false : (a : Bool) → (a && false) ≡ false
-and-false true = refl
-and-false false = refl
-
 pub begun_within : (n : ℕ) (old : Counted) (t : Text) → 0 < old.left → begun_from n old t ≡ Ok (old, t)
-begun_within n old t h = grind (arith, common_steps, begun-is, nat_lt, ne_eqb, and-false)
+begun_within n old t h = grind (arith, common_steps, begun-is, nat_lt, ne_eqb)
 
 begun-restart : (n : ℕ) (old : Counted) (t : Text) → 0 < n → old.left ≡ 0 → begun_from n old t ≡ begun_by n old true t
 begun-restart n old t h e = grind (arith, common_steps, begun-is, lt-ltb)
@@ -109,8 +105,7 @@ pub blocks_begun : (p : Pass) (vias : List Via) (n : ℕ) (s : Spot) (spots : Li
     → begun_from n old t ≡ Ok (now, u)
     → blocks_from p vias n (s ∷ spots) old t ≡ read_on (blocks_from p vias n spots) (begun_turn p vias s now u)
 unfolding blocks_from
-blocks_begun p vias n s spots old now t u e = ap (read_on (blocks_from p vias n spots))
-    (next_begun p vias n s old now t u e)
+blocks_begun p vias n s spots old now t u e = grind (arith, common_steps, next_begun)
 
 pub blocks_none : (p : Pass) (vias : List Via) (n : ℕ) (old : Counted) (t : Text)
     → blocks_from p vias n [] old t ≡ Ok (old, t)

@@ -1,4 +1,5 @@
 -- What a scan begins with, what it finishes, and the length of a plane.
+use Rattle.std.proofs.Common.{rules}
 use Rattle.std.proofs.Common.{◌≡◌, ◌≢◌, ◌≤◌, ℕ, zero, suc, ◌+◌, ◌-◌, ◌*◌, ℤ, pos, Bool, true, List, ◌∷◌, ◌++◌, refl}
 use Rattle.std.proofs.Common.{ap, ◌∙◌, length, map, take, drop, replicate, arith, ne_eqb, Result, Ok, Err}
 use Rattle.std.specs.Prelude.{IfOk}
@@ -57,7 +58,7 @@ unfolding plane_by plane_of
 plane_by-length c quantization blocks = grind (arith, common_steps, length-map-range_with_len)
 
 -- after the last component
-pub zeros-all : {A : Type 0} (f : A → Component) (xs items : List A) (i : ℕ) → length xs ≤ i → xs ≡ items
+pub zeros_all : {A : Type 0} (f : A → Component) (xs items : List A) (i : ℕ) → length xs ≤ i → xs ≡ items
     → map zero_of (map f (take i xs)) ≡ zero_arrays (map f items)
 unfolding zero_arrays
-zeros-all f xs items i h e = ap (λ (l : List _). map zero_of (map f l)) (take_all i xs h ∙ e)
+zeros_all f xs items i h e = ap (λ (l : List _). map zero_of (map f l)) (take_all i xs h ∙ e)

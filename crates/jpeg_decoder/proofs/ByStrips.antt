@@ -1,4 +1,5 @@
 -- The planes of a sequential scan are the strips of its rows of MCUs, one after the other.
+use Rattle.std.proofs.Common.{rules}
 use Rattle.std.proofs.Common.{◌≡◌, ℕ, zero, suc, ◌+◌, ◌*◌, List, [], ◌∷◌, ◌++◌, map, take, drop, length, Option, Result}
 use Rattle.std.proofs.Common.{Ok, Err, refl, sym, ap, ap₂, ◌∙◌, append_assoc, append-nil, arith, add-mul, suc-mul}
 use Rattle.std.proofs.Common.{mul_assoc, length-append, length-take, length-drop, take-append-drop}
@@ -50,20 +51,13 @@ plane-joined s table wide n (suc k) xs ys e f =
     let whole : front ++ row ≡ ys = take-append-drop (k * wide) ys in
     let fl = front-long wide k ys f in
     let rl = back-long wide k ys f in
-    let long : length (xs ++ front) ≡
-    (n + k) * wide = let l = length-append xs front in let m = add-mul n k wide in omega arith in
+    let long : length (xs ++ front) ≡ (n + k) * wide = grind (arith, common_steps, length-append, add-mul) in
     let above = plane_of s table wide n (in_raster wide xs) in
     let middle = plane_of s table wide k (in_raster wide front) in
     let last = strip_of s table (map ordered row) in
     let up : n + suc k ≡ n + k + 1 = omega arith in
     let one : suc k ≡ k + 1 = omega arith in
-    ap₂ (λ (m : ℕ) (l : List Block). plane_of s table wide m (in_raster wide l)) up (ap (λ (l : List Block). xs ++ l)
-    (sym whole) ∙ sym (append_assoc xs front row))
-    ∙ plane-strips s table wide (n + k) (xs ++ front) row long rl
-    ∙ ap (λ (l : List ℕ). l ++ last) (plane-joined s table wide n k xs front e fl)
-    ∙ append_assoc above middle last
-    ∙ ap (λ (l : List ℕ). above ++ l) (sym (plane-strips s table wide k front row fl rl)
-    ∙ ap₂ (λ (m : ℕ) (l : List Block). plane_of s table wide m (in_raster wide l)) (sym one) whole)
+    grind (arith, common_steps, append_assoc, plane-strips, plane-joined s table wide n k xs front e fl)
 
 -- ---- the planes of some rows of MCUs
 
@@ -73,22 +67,13 @@ grown rows (c ∷ codings) (blocks ∷ arrays) = samples_of
 grown rows [] arrays = []
 grown rows (c ∷ codings) [] = []
 
-one-more : (r : ℕ) (c : Coding) (a b : List Block)
-    → length a ≡ r * (c.component.factors.vertical * c.component.blocks_wide) → length b
-    ≡ 1 * (c.component.factors.vertical * c.component.blocks_wide)
-    → samples_of (r * c.component.factors.vertical) c a ++ samples_of c.component.factors.vertical c b
-    ≡ samples_of ((r + 1) * c.component.factors.vertical) c (a ++ b)
-unfolding samples_of
-one-more r c a b e f = grind (arith, common_steps, mul_assoc, add-mul, plane-joined)
-
 strips-grow : (r : ℕ) (codings : List Coding) (front arrays : Arrays) → AreRows r (components_of codings) front
     → AreRows 1 (components_of codings) arrays
     → with_strips codings arrays (grown r codings front) ≡ grown (r + 1) codings (joined front arrays)
-unfolding AreRows with_strips joined grown
+unfolding AreRows with_strips joined grown samples_of
 strips-grow r [] [] [] h k = refl
 strips-grow r (c ∷ codings) (a ∷ front) (b ∷ arrays) h k =
-    ap₂ (λ (x : List ℕ) (l : List (List ℕ)). x ∷ l) (one-more r c a b h.0 k.0)
-    (strips-grow r codings front arrays h.1 k.1)
+    grind (arith, common_steps, mul_assoc, add-mul, plane-joined, strips-grow r codings front arrays h.1 k.1)
 strips-grow r [] (a ∷ front) arrays h k = absurd h
 strips-grow r (c ∷ codings) [] arrays h k = absurd h
 strips-grow r _ _ _ h k = absurd k
@@ -100,8 +85,7 @@ strips-in-turn : (p : Pass) (vias : List Via) (n : ℕ) (codings : List Coding) 
     ≡ read_on (λ s. gives (grown (r + length rows) codings s.reached.arrays)) (rows_from p vias n
     (components_of codings) rows front old t)
 unfolding strips_from rows_from
-strips-in-turn p vias n codings [] r front old t h = ap (λ (k : ℕ). gives (grown k codings front) t) (let z : r
-    ≡ r + 0 = omega arith in z)
+strips-in-turn p vias n codings [] r front old t h = grind (arith, common_steps, grown)
 strips-in-turn p vias n codings (spots ∷ rows) r front old t h =
     let cs = components_of codings in
     let start = on_arrays (zero_rows 1 cs) old in
@@ -139,14 +123,7 @@ made f o = reading.◌>>=◌ o (λ (r : (Arrays × Option Marker) × List ℕ). 
 ends : (f : Arrays → List (List ℕ)) (o : Result (Counted × Text) Fault)
     → ended (read_on (λ s. gives (f s.reached.arrays)) o) ≡ made f (finished o)
 unfolding ended
-ends f (Ok r) = go (marker_from r.1)
-  where
-    go : (m : Outcome (Option Marker)) → ◌≡◌ {A = Outcome Grown} (reading.◌>>=◌ m (λ (x : Option Marker
-        × List ℕ). Ok ((f r.0.reached.arrays, x.0), x.1)))
-        (made f (reading.◌>>=◌ m (λ (x : Option Marker × List ℕ). Ok ((r.0.reached.arrays, x.0), x.1))))
-    go (Ok x) = refl
-    go (Err e) = refl
-ends f (Err e) = refl
+ends f o = grind (arith, common_steps)
 
 none-grown : (codings : List Coding) → map (λ (c : Coding). []) codings
     ≡ grown 0 codings (map (λ (c : Component). []) (components_of codings))
@@ -166,10 +143,7 @@ all-grown : (frame : Frame) (codings : List Coding) (arrays : Arrays)
     → AllByRecursion (Fits frame) (components_of codings) → grown frame.mcus_high codings arrays
     ≡ planes_by codings arrays
 unfolding planes_by samples_of plane_by grown
-all-grown frame (c ∷ codings) (blocks ∷ arrays) fits =
-    ap₂ (λ (n : ℕ) (l : List (List ℕ)). plane_of c.component.scale
-    (values_in_block_order c.quantization) c.component.blocks_wide n (in_raster c.component.blocks_wide blocks) ∷ l)
-    (sym fits.0.high) (all-grown frame codings arrays fits.1)
+all-grown frame (c ∷ codings) (blocks ∷ arrays) fits = search (rules, arith, all-grown frame codings arrays fits.1)
 all-grown frame _ _ fits = refl
 
 -- A sequential scan is its rows of MCUs, each of which gives a strip of each plane.

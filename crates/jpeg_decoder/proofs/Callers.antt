@@ -28,5 +28,4 @@ pub picture_size : (frame : Option Frame) (info : ImageInfo) (precision : ℕ) (
     → option_map (λ f. f.precision) frame ≡ Some precision
     → length pixels ≡ info.width * info.height * (samples_a_pixel info.pixel_format * bytes_a_sample precision)
 unfolding picture_bytes
-picture_size None info precision pixels whole counted i p = absurd (cc)
-picture_size (Some f) info precision pixels whole counted i p = grind (arith, common_steps)
+picture_size frame info precision pixels whole counted i p = grind (arith, common_steps)

@@ -13,33 +13,7 @@ use Rattle.std.proofs.lemmas.Grind.{common_steps}
 pub planes_kept : (marks : List Bool) (place : ℕ) (plane : List ℕ) (planes : List (Option (List ℕ)))
     → is_wanted marks (slice_index_or planes place None) ≡ false → decided_planes marks place plane planes ≡ planes
 unfolding decided_planes
-planes_kept marks place plane planes h = go (list_all (λ mark. mark) marks) (slice_index_or planes place None) refl h
-  where
-    go : (b : Bool) (o : Option (List ℕ)) → slice_index_or planes place None ≡ o → (b && not (is_some o)) ≡ false
-        → elim b as (λ _. List (Option (List ℕ))) [
-          | true ↦ slice_set planes place
-              (decided (slice_index_or planes place None) plane)
-          | false ↦ planes
-        ] ≡ planes
-    go false o e h = refl
-    go true None e h = absurd cc
-    go true (Some first) e h = ap (λ (q : Option (List ℕ)). slice_set planes place (decided q plane)) e
-        ∙ (ap (slice_set planes place) (sym e) ∙ set-get_or planes place None)
-
-planes_set : (marks : List Bool) (place : ℕ) (plane : List ℕ) (planes : List (Option (List ℕ)))
-    → is_wanted marks (slice_index_or planes place None) ≡ true → decided_planes marks place plane planes
-    ≡ slice_set planes place (Some plane)
-unfolding decided_planes
-planes_set marks place plane planes h = go (list_all (λ mark. mark) marks) (slice_index_or planes place None) refl h
-  where
-    go : (b : Bool) (o : Option (List ℕ)) → slice_index_or planes place None ≡ o → (b && not (is_some o)) ≡ true
-        → elim b as (λ _. List (Option (List ℕ))) [
-          | true ↦ slice_set planes place
-              (decided (slice_index_or planes place None) plane)
-          | false ↦ planes
-        ] ≡ slice_set planes place (Some plane)
-    go true None e h = ap (λ (q : Option (List ℕ)). slice_set planes place (decided q plane)) e
-    go _ _ e h = absurd cc
+planes_kept marks place plane planes h = grind (arith, common_steps, set-get_or)
 
 -- a component whose plane isn't wanted
 pub its_plane_kept : (p : Pass) (place : ℕ) (plane : List ℕ) (found : Found) (finished : List (List Bool))
@@ -57,7 +31,7 @@ pub its_plane_set : (p : Pass) (place : ℕ) (plane : List ℕ) (found : Found) 
     → planes ≡ slice_set found.planes place (Some plane)
     → is_wanted (marks_after p found.finished place) (slice_index_or found.planes place None) ≡ true
     → record found { finished = finished; planes = planes } ≡ with_its_plane p place plane found
-unfolding with_its_plane
-its_plane_set p place plane found finished planes e k h = grind (arith, common_steps, planes_set)
+unfolding with_its_plane decided_planes
+its_plane_set p place plane found finished planes e k h = grind (arith, common_steps)
 
 pub ruleset plane_rules = (its_plane_kept, its_plane_set)

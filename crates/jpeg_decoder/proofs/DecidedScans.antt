@@ -1,5 +1,6 @@
 -- Scans of a sequential frame whose components have planes already: what is made of their blocks
 -- decides nothing.
+use Rattle.std.proofs.Common.{rules}
 use Rattle.std.proofs.Common.{◌≡◌, ℕ, Bool, true, false, List, [], ◌∷◌, ◌+◌, ◌*◌, ◌<◌, ◌≤◌, length, get_or, Option, Some, None, Result, Ok, Err}
 use Rattle.std.proofs.Common.{refl, sym, ap, ap₂, ◌∙◌, subst, arith}
 use Rattle.std.proofs.Math.Logic.{◌⊎◌, inl, inr}
@@ -77,15 +78,7 @@ AlikeEnds n _ _ = ⊥
 
 alike-ended : (n : ℕ) (o q : Result (Planes × Text) Fault) → Alike n o q → AlikeEnds n (ended o) (ended q)
 unfolding Alike AlikeEnds ended
-alike-ended n (Ok r) (Ok q) h =
-    subst (λ (t : Text). AlikeEnds n (marked r.0 (marker_from r.1)) (marked q.0 (marker_from t))) h.0
-    (go (marker_from r.1))
-  where
-    go : (m : Outcome (Option Marker)) → AlikeEnds n (marked r.0 m) (marked q.0 m)
-    go (Ok m) = (refl, (refl, h.1))
-    go (Err f) = refl
-alike-ended n (Err f) (Err g) h = h
-alike-ended n _ _ h = absurd h
+alike-ended n o q h = grind (arith, common_steps, marked)
 
 module _ (p : Pass) (vias : List Via) (n : ℕ) (frame : Frame) (codings : List Coding) (bytes : List ℕ) where
   abbrev by_rows : Planes → Outcome (Planes × Option Marker)
@@ -147,20 +140,12 @@ finished_after p [] marks = marks
 finished_after p (c ∷ codings) marks =
     finished_after p codings (slice_set marks c.place (marks_after p marks c.place))
 
-not-wanted : (marks : List Bool) (plane : Option (List ℕ)) → is_some plane ≡ true → is_wanted marks plane ≡ false
-not-wanted marks None h = absurd cc
-not-wanted marks (Some plane) h = go (list_all (λ mark. mark) marks)
-  where
-    go : (b : Bool) → (b && false) ≡ false
-    go true = refl
-    go false = refl
-
 its-plane-decided : (p : Pass) (place : ℕ) (plane : List ℕ) (found : Found)
     → is_some (slice_index_or found.planes place None) ≡ true
     → with_its_plane p place plane found
     ≡ record found { finished = slice_set found.finished place (marks_after p found.finished place) }
 unfolding with_its_plane
-its-plane-decided p place plane found h = grind (arith, common_steps, planes_kept, not-wanted)
+its-plane-decided p place plane found h = grind (arith, common_steps, planes_kept)
 
 pub planes-decided : (p : Pass) (codings : List Coding) (planes : Planes) (found : Found)
     → AllByRecursion (IsDecided found.planes) codings → length planes ≡ length codings
@@ -177,10 +162,4 @@ planes-decided p _ _ found h e = absurd (omega arith)
 
 pub so-far-next : {X : Type 0} (P : X → Type 0) (xs : List X) (i : ℕ) (x : X) → x ≡ get_or xs i x → i < length xs → P x
     → ((k : ℕ) (d : X) → k < i → P (get_or xs k d)) → (k : ℕ) (d : X) → k < i + 1 → P (get_or xs k d)
-so-far-next P xs i x is h px before k d lt = go (cases_lt k i)
-  where
-    go : (k < i) ⊎ (i ≤ k) → P (get_or xs k d)
-    go (inl less) = before k d less
-    go (inr more) =
-        let e : i ≡ k = omega arith in
-        subst P (is ∙ get_or_default xs i x d h ∙ ap (λ (n : ℕ). get_or xs n d) e) px
+so-far-next P xs i x is h px before k d lt = grind (arith, common_steps, cases_lt, get_or_default)

@@ -1,4 +1,5 @@
 -- A call that answers the meaning of what its source has left decodes images.
+use Rattle.std.proofs.Common.{rules}
 use Rattle.std.proofs.Common.{◌≡◌, ℕ, List, ◌++◌, true, Result, Ok, Err, is_ok, refl, sym, ap, ◌∙◌}
 use Rattle.std.proofs.lemmas.Bool.{false≢true}
 use Rattle.std.specs.Prelude.{MatchResult}
@@ -27,9 +28,7 @@ use Rattle.std.proofs.Common.{arith}
 
 pub left-reading : (size : Size) (bytes : List ℕ) (stage : Stage) (found : Found) (left : List ℕ)
     → HasLeft size bytes stage found left → IsReading stage
-left-reading FullSize bytes Fresh found left h = tt
-left-reading size bytes HeaderRead found left h = tt
-left-reading _ bytes _ found left h = absurd h
+left-reading size bytes stage found left h = grind (arith, common_steps)
 
 -- the meaning of a stream whose picture is to have a size
 abbrev pub means_at : Size → Settings → List ℕ → Outcome (Told × List ℕ)
@@ -42,31 +41,15 @@ sized-begins : (width height : ℕ) (settings : Settings) (found : Found) (bytes
 unfolding sized_meaning
 sized-begins width height settings found bytes rest e = then-ok (header_at bytes) _ (found, rest) _ e refl
 
-rest-begins : (size : Size) (settings : Settings) (found : Found) (bytes rest : List ℕ)
-    → header_at bytes ≡ Ok (found, rest)
-    → means_at size settings bytes ≡ rest_at settings (at_size size found) rest
-rest-begins FullSize settings found bytes rest e = header-means settings found bytes rest e
-rest-begins (AtLeast width height) settings found bytes rest e = sized-begins width height settings found bytes rest e
-
 pub left-means : (size : Size) (settings : Settings) (bytes : List ℕ) (stage : Stage) (found : Found) (left : List ℕ)
     (o : Outcome (Told × List ℕ))
     → HasLeft size bytes stage found left → means_at size settings bytes ≡ o → ahead stage settings found left ≡ o
-left-means FullSize settings bytes Fresh found left o h e = ap (meaning settings) h ∙ e
-left-means size settings bytes HeaderRead found left o h e =
-    ap (λ (x : Found). rest_at settings x left) h.2 ∙ sym (rest-begins size settings h.0 bytes left h.1) ∙ e
-left-means _ settings bytes _ found left o h e = absurd h
+left-means size settings bytes stage found left o h e = grind (arith, common_steps, header-means, sized-begins)
 
 -- ---- what is given
 
 no-refusal : {P Y : Type 0} (o : Result Y Fault) (y : Y) (f : Fault) → o ≡ Ok y → o ≡ Err f → P
 no-refusal o y f e h = absurd (false≢true (ap is_ok (sym h ∙ e)))
-
--- Where bytes have a meaning, an error that their source allows is that memory is out.
-only-memory : {Y : Type 0} (e : Error) (o : Result Y Fault) (y : Y) → o ≡ Ok y → Names e o → e ≡ errors.OutOfMemory
-only-memory (errors.Io x) o y h n = no-refusal o y _ h n.0
-only-memory (errors.Internal text) o y h n = absurd n
-only-memory errors.OutOfMemory o y h n = refl
-only-memory _ o y h n = no-refusal o y _ h n
 
 pub gives : {X : Type 0} (bytes_of : X → List ℕ) (o : Result (List ℕ) Fault) (picture rest : List ℕ) (final : Found)
     (new : Decoding)
@@ -74,10 +57,8 @@ pub gives : {X : Type 0} (bytes_of : X → List ℕ) (o : Result (List ℕ) Faul
     → Answers (λ x. (told_of new.found, bytes_of x)) read old result new.source → o ≡ Ok picture
     → read old.bytes ≡ Ok ((told_of final, picture), rest) → old.known ≡ true
     → MatchResult result (λ x. Gives o rest final (bytes_of x) new) (λ e. FailsOutside e new.source)
-gives bytes_of o picture rest final new read old (Ok x) answers is means known =
-    grind (arith, common_steps, ok-same)
-gives bytes_of o picture rest final new read old (Err e) answers is means known =
-    grind (arith, common_steps, only-memory)
+gives bytes_of o picture rest final new read old result answers is means known =
+    grind (arith, common_steps, ok-same, no-refusal)
 
 means-picture : (size : Size) (settings : Settings) (array : Coefficients) (image rest : List ℕ) (final : Found)
     (last : ℕ → Levels)

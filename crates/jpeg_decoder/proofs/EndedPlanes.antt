@@ -59,28 +59,6 @@ none-left f xs i h = drop_of_length-le (map f xs) (omega (arith, length-map xs f
 
 -- ---- what is there of a component
 
-pub at-end : (found : Found) (frame : Frame) (place : ℕ) (c : Component)
-    → plane_at_end found frame place c
-    ≡ plane_or c (slice_index_or found.quantization c.factors.quantization None) (slice_index_or found.planes place
-    None)
-    (blocks_if (is_held found frame) found.held place)
-unfolding plane_at_end
-at-end found frame place c = go (slice_index_or found.planes place None) (is_held found frame)
-  where
-    go : (o : Option (List ℕ)) (b : Bool)
-        → elim o as (λ _. Result (List ℕ) Fault) [
-          | Some plane ↦ Ok plane
-          | None ↦ elim b as (λ _. Result (List ℕ) Fault) [
-            | true ↦ needed (slice_index_or found.quantization c.factors.quantization None)
-                >>= (λ quantization. Ok (plane_by c quantization (get_or found.held place [])))
-            | false ↦ Err Malformed
-          ]
-        ]
-        ≡ plane_or c (slice_index_or found.quantization c.factors.quantization None) o (blocks_if b found.held place)
-    go (Some plane) b = refl
-    go None true = refl
-    go None false = refl
-
 -- ---- in turn
 
 left-at : (cs : List Component) (place : ℕ) (c : Component) → place < length cs → c ≡ get_or cs place c
@@ -106,13 +84,6 @@ no-planes found frame place e = ap (planes_from found frame place) e
 -- what this many planes make whole, with those after them
 abbrev pub AreWholeWith : List Component → ℕ → List (List ℕ) → Type 0
 AreWholeWith cs place front = (others : List (List ℕ)) → AreWhole (drop place cs) others → AreWhole cs (front ++ others)
-
-pub whole-more : (cs : List Component) (place : ℕ) (c : Component) (front : List (List ℕ)) (plane : List ℕ)
-    → AreWholeWith cs place front → drop place cs ≡ c ∷ drop (place + 1) cs
-    → length plane ≡ (c.blocks_high * c.scale) * (c.blocks_wide * c.scale)
-    → AreWholeWith cs (place + 1) (front ++ plane ∷ [])
-unfolding AreWhole
-whole-more cs place c front plane old e l others h = grind (arith, common_steps, append_assoc)
 
 pub whole-all : (cs : List Component) (place : ℕ) (front : List (List ℕ)) → AreWholeWith cs place front
     → drop place cs ≡ [] → AreWhole cs front
@@ -141,12 +112,7 @@ blocks-at (c ∷ cs) (blocks ∷ arrays) (suc i) d p h = blocks-at cs arrays i d
 pub held-arrays : (found : Found) (frame : Frame) → AreArrays frame.components (arrays_before found frame)
     → is_held found frame ≡ true → AreArrays frame.components found.held
 unfolding arrays_before
-held-arrays found frame p h = go (is_held found frame) h p
-  where
-    go : (b : Bool) → b ≡ true → AreArrays frame.components (cond b found.held (zero_arrays frame.components))
-        → AreArrays frame.components found.held
-    go true e p = p
-    go false e p = absurd (let n : ⊥ = cc in n)
+held-arrays found frame p h = grind (arith, common_steps)
 
 arrays-count : (cs : List Component) (arrays : Arrays) → AreArrays cs arrays → length cs ≤ length arrays
 unfolding AreArrays
@@ -157,24 +123,9 @@ arrays-count (c ∷ cs) (blocks ∷ arrays) p = omega (arith, arrays-count cs ar
 pub held-blocks : (found : Found) (frame : Frame) (i : ℕ) (d : Component)
     → AreArrays frame.components (arrays_before found frame) → i < length frame.components
     → AreBlocksOf (get_or frame.components i d) (blocks_if (is_held found frame) found.held i)
-held-blocks found frame i d p h = go (is_held found frame) refl
-  where
-    go : (b : Bool) → is_held found frame ≡ b → AreBlocksOf (get_or frame.components i d) (blocks_if b found.held i)
-    go true e = blocks-at frame.components found.held i d (held-arrays found frame p e) h
-    go false e = tt
+held-blocks found frame i d p h = grind (arith, common_steps, blocks-at, held-arrays)
 
 -- ---- the components of a frame are at a scale
-
-scale-is : (s : ℕ) → is_scale s ≡ true → IsScale s
-scale-is s h = go (s == 1) refl (s == 2) refl (s == 4) refl (s == 8) refl h
-  where
-    go : (a : Bool) → (s == 1) ≡ a → (b : Bool) → (s == 2) ≡ b → (c : Bool) → (s == 4) ≡ c
-        → (d : Bool) → (s == 8) ≡ d → (a || (b || (c || d))) ≡ true → IsScale s
-    go true e b f c g d i h = inl (eqb-true s 1 e)
-    go false e true f c g d i h = inr (inl (eqb-true s 2 f))
-    go false e false f true g d i h = inr (inr (inl (eqb-true s 4 g)))
-    go false e false f false g true i h = inr (inr (inr (eqb-true s 8 i)))
-    go false e false f false g false i h = absurd (let n : ⊥ = cc in n)
 
 scaled-components : (s width height h v : ℕ) (cs : List Component) → IsScale s
     → AllByRecursion (λ c. IsScale c.scale) (map (component_at s width height h v) cs)
@@ -187,7 +138,7 @@ unfolding frame_at
 scaled-frame s f p = scaled-components s f.width f.height _ _ f.components p
 
 pub decoded-scales : (f : Frame) → IsDecodedFrame f → AllByRecursion (λ c. IsScale c.scale) f.components
-decoded-scales f p = grind (arith, common_steps, scaled-frame, scale-is)
+decoded-scales f p = grind (arith, common_steps, scaled-frame, eqb-true)
 
 pub element : (P : Component → Type 0) (cs : List Component) (i : ℕ) (d : Component) → AllByRecursion P cs
     → i < length cs
@@ -206,8 +157,7 @@ reached-four found frame place s f h =
 pub reached-held : (found : Found) (frame : Frame) (place : ℕ) (held : Arrays) → IsSound found
     → found.frame ≡ Some frame → place < length frame.components → drop place held ≡ drop place found.held
     → is_held found frame ≡ true → place < length held
-reached-held found frame place held s f h e b =
-    search (rules, arrays-count, held-arrays, same-within)
+reached-held found frame place held s f h e b = search (rules, arith, arrays-count, held-arrays, same-within)
 
 pub reached-plane : (found : Found) (frame : Frame) (place : ℕ) (c : Component) (planes : List (Option (List ℕ)))
     (o : Option (List ℕ)) → IsSound found
@@ -216,13 +166,11 @@ pub reached-plane : (found : Found) (frame : Frame) (place : ℕ) (c : Component
 reached-plane found frame place c planes o s f h e left is =
     let at = plane-at frame.components found.planes place c (s.planes frame f) h in
     let same : o ≡ get_or found.planes place None = is ∙ same-at planes found.planes place None left in
-    subst (λ (x : Option (List ℕ)). IsPlaneOf c x) (sym same)
-    (subst (λ (x : Component). IsPlaneOf x (get_or found.planes place None)) (sym e) at)
+    grind (arith, common_steps)
 
 blocks-same : (b : Bool) (held old : Arrays) (place : ℕ) → drop place held ≡ drop place old
     → blocks_if b held place ≡ blocks_if b old place
-blocks-same true held old place e = ap (λ (l : List Block). Some l) (same-at held old place [] e)
-blocks-same false held old place e = refl
+blocks-same b held old place e = grind (arith, common_steps, same-at)
 
 pub reached-blocks : (found : Found) (frame : Frame) (place : ℕ) (c : Component) (held : Arrays) (b : Bool)
     (o : Option (List Block)) → IsSound found
@@ -231,11 +179,8 @@ pub reached-blocks : (found : Found) (frame : Frame) (place : ℕ) (c : Componen
     → AreBlocksOf c o
 reached-blocks found frame place c held b o s f h e left is given =
     let at = held-blocks found frame place c (s.held frame f) h in
-    let same : o ≡ blocks_if (is_held found frame) found.held place =
-    given ∙ (ap (λ (x : Bool). blocks_if x held place) is ∙ blocks-same (is_held found frame) held found.held place
-    left) in
-    subst (λ (x : Option (List Block)). AreBlocksOf c x) (sym same)
-    (subst (λ (x : Component). AreBlocksOf x (blocks_if (is_held found frame) found.held place)) (sym e) at)
+    let same : o ≡ blocks_if (is_held found frame) found.held place = grind (arith, common_steps, blocks-same) in
+    grind (arith, common_steps)
 
 -- the plane there, by what is left
 pub reached-end : (found : Found) (frame : Frame) (place : ℕ) (c : Component) (planes : List (Option (List ℕ)))
@@ -244,8 +189,9 @@ pub reached-end : (found : Found) (frame : Frame) (place : ℕ) (c : Component) 
     → drop place planes ≡ drop place found.planes → plane ≡ get_or planes place None
     → drop place held ≡ drop place found.held → b ≡ is_held found frame → blocks ≡ blocks_if b held place
     → plane_at_end found frame place c ≡ plane_or c table plane blocks
+unfolding plane_at_end
 reached-end found frame place c planes held table plane b blocks t left is held_left held_is given =
-    grind (arith, common_steps, same-at, blocks-same, at-end)
+    grind (arith, common_steps, same-at, blocks-same)
 
 pub reached-scale : (found : Found) (frame : Frame) (place : ℕ) (c : Component) → IsSound found
     → found.frame ≡ Some frame → place < length frame.components → c ≡ get_or frame.components place c
@@ -257,5 +203,5 @@ reached-scale found frame place c s f h e =
 pub whole-there : (cs : List Component) (place : ℕ) (c : Component) (front new : List (List ℕ)) (plane : List ℕ)
     → place < length cs → c ≡ get_or cs place c → AreWholeWith cs place front → IsPlaneOf c (Some plane)
     → new ≡ front ++ plane ∷ [] → AreWholeWith cs (place + 1) new
-whole-there cs place c front new plane h e old l joined =
-    subst (AreWholeWith cs (place + 1)) (sym joined) (whole-more cs place c front plane old (left-at cs place c h e) l)
+unfolding AreWhole
+whole-there cs place c front new plane h e old l joined = grind (arith, common_steps, append_assoc, left-at)

@@ -1,4 +1,5 @@
 -- A stream whose header is read, and then the rest of it.
+use Rattle.std.proofs.Common.{rules}
 use Rattle.std.proofs.Common.{◌≡◌, ◌+◌, ◌<◌, ℕ, zero, suc, List, Ok, Err, Bool, true, false, Option, None}
 use Rattle.std.proofs.Common.{refl, sym, ap, ◌∙◌, length, arith}
 use Rattle.std.specs.Prelude.{◌&&◌, is_some}
@@ -38,8 +39,7 @@ header-lacks settings bytes fault e = grind (arith, common_steps, bind-err, head
 told-begun : (found : Found) (bytes rest : List ℕ) (t : Turn) → t.ended ≡ false → t.before ≡ Elsewhere
     → t.met ≡ None → turn_at Elsewhere found None bytes ≡ Ok (t, rest)
     → told_at false Elsewhere found None bytes ≡ told_at false Elsewhere t.found None rest
-told-begun found bytes rest t e b m was =
-    told-next false Elsewhere found None bytes rest t refl refl e was ∙ rw (b, m) refl
+told-begun found bytes rest t e b m was = grind (arith, common_steps, told-next)
 
 told-past : (n : ℕ) (found next : Found) (bytes rest : List ℕ)
     → segments_within n true Elsewhere found None bytes ≡ Ok (next, rest)
@@ -87,16 +87,14 @@ told-lacking (suc n) found bytes fault few e =
 pub header-told_lacking : (bytes : List ℕ) (fault : Fault) → header_at bytes ≡ Err fault
     → told_by_stream true bytes ≡ told_by_stream false bytes
 unfolding header_at segments_at
-header-told_lacking bytes fault e =
-    grind (arith, common_steps, bind-err, told-no_start, told-start, told-lacking)
+header-told_lacking bytes fault e = grind (arith, common_steps, bind-err, told-no_start, told-start, told-lacking)
 
 -- ---- what some turns have told
 
 within-begun : (n : ℕ) (found : Found) (bytes rest : List ℕ) (t : Turn) → t.ended ≡ false → t.before ≡ Elsewhere
     → t.met ≡ None → turn_at Elsewhere found None bytes ≡ Ok (t, rest)
     → told_within (suc n) false Elsewhere found None bytes ≡ told_within n false Elsewhere t.found None rest
-within-begun n found bytes rest t e b m was =
-    within-next n false Elsewhere found None bytes rest t refl e was ∙ rw (b, m) refl
+within-begun n found bytes rest t e b m was = grind (arith, common_steps, within-next)
 
 -- the turns of a header, and those after it
 turns-past : (n : ℕ) (found next : Found) (bytes rest : List ℕ)

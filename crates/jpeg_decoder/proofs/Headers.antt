@@ -1,4 +1,6 @@
 -- The header of a stream, and what stands in front of a frame.
+use Rattle.std.proofs.Common.{rules}
+use Rattle.std.proofs.lemmas.Grind.{common_steps}
 use Rattle.std.proofs.Common.{◌≡◌, ◌<◌, ℕ, zero, suc, List, Result, Ok, Err, Bool, true, false, Option, Some, None}
 use Rattle.std.proofs.Common.{refl, sym, ap, ◌∙◌, length, arith}
 use Rattle.std.specs.Prelude.{if◌then◌else◌, is_some}
@@ -22,12 +24,10 @@ use Rattle.jpeg_decoder.proofs.Turns.{skipped-goes, turn-takes, segments-refused
 -- ---- turns in front of a frame
 
 begins-needed : (o : Option Frame) (f : Frame → Outcome Turn) → is_some o ≡ false → On IsElsewhere (needed o >>= f)
-begins-needed None f e = on-err IsElsewhere _
-begins-needed (Some x) f e = absurd (let n : ⊥ = cc in n)
+begins-needed o f e = grind (arith, common_steps, on-err)
 
 begins-then : (b : Bool) (fault : Fault) (x : Outcome Turn) → b ≡ false → On IsElsewhere (if b then x else Err fault)
-begins-then true fault x p = absurd (let n : ⊥ = cc in n)
-begins-then false fault x p = on-err IsElsewhere fault
+begins-then b fault x p = grind (arith, common_steps, on-err)
 
 onward-begins : (bytes : List ℕ) (r : Outcome Turn) → On (IsOnward (length bytes)) r → On IsElsewhere r
 onward-begins bytes r h = on-weaker (IsOnward (length bytes)) IsElsewhere r (λ x k. k.0) h
@@ -70,8 +70,7 @@ begins-at r x h e = on-at IsElsewhere r x h e
 -- ---- the turns up to the frame
 
 pub chosen : {A P : Type 0} (b : Bool) (x y z : A) → cond b x y ≡ z → (b ≡ true → x ≡ z → P) → (b ≡ false → y ≡ z → P) → P
-chosen true x y z e p q = p refl e
-chosen false x y z e p q = q refl e
+chosen b x y z e p q = grind (arith, common_steps)
 
 pub not-ok : {A P : Type 0} (fault : Fault) (x : A) → let X : Type 0 = Result A Fault in Path X (Err fault) (Ok x) → P
 not-ok fault x e = absurd (let n : ⊥ = cc in n)
@@ -81,18 +80,15 @@ not-err fault x e = absurd (let n : ⊥ = cc in n)
 
 pub same-parts : {A : Type 0} (x y : A) (rest rest' : List ℕ) → let X : Type 0 =
     Outcome A in Path X (Ok (x, rest)) (Ok (y, rest')) → (x ≡ y) × (rest ≡ rest')
-same-parts {A} x y rest rest' e = let pair : Path (A × List ℕ) (x, rest) (y, rest') =
-    cc in (ap (λ p. p.0) pair, ap (λ p. p.1) pair)
+same-parts {A} x y rest rest' e = grind (arith, common_steps)
 
 pub bind-ok : {A B P : Type 0} (r : Result A Fault) (f : A → Result B Fault) (y : B) → r >>= f ≡ Ok y
     → ((x : A) → r ≡ Ok x → f x ≡ Ok y → P) → P
-bind-ok (Ok x) f y e next = next x refl e
-bind-ok (Err fault) f y e next = not-ok fault y e
+bind-ok r f y e next = grind (arith, common_steps, not-ok)
 
 pub bind-err : {A B P : Type 0} (r : Result A Fault) (f : A → Result B Fault) (fault : Fault) → r >>= f ≡ Err fault
     → (r ≡ Err fault → P) → ((x : A) → r ≡ Ok x → f x ≡ Err fault → P) → P
-bind-err (Ok x) f fault e p q = q x refl e
-bind-err (Err other) f fault e p q = let same : other ≡ fault = cc in p (rw same refl)
+bind-err r f fault e p q = grind (arith, common_steps)
 
 -- the turns after one in front of the frame
 abbrev pub after : ℕ → Turn × List ℕ → Outcome Found
@@ -105,8 +101,7 @@ after-begun n t rest e b m = rw (e, b, m) refl
 next-begun : (found : Found) (bytes rest : List ℕ) (t : Turn) → t.ended ≡ false → t.before ≡ Elsewhere → t.met ≡ None
     → turn_at Elsewhere found None bytes ≡ Ok (t, rest)
     → segments_at false Elsewhere found None bytes ≡ segments_at false Elsewhere t.found None rest
-next-begun found bytes rest t e b m was =
-    segments-next false Elsewhere found None bytes rest t refl refl e was ∙ rw (b, m) refl
+next-begun found bytes rest t e b m was = grind (arith, common_steps, segments-next)
 
 pub header-rest : (n : ℕ) (found next : Found) (bytes rest : List ℕ) → segments_within n true Elsewhere found None bytes
     ≡ Ok (next, rest)

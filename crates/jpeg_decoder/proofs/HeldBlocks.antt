@@ -1,4 +1,5 @@
 -- Blocks that are held, as they are read and put back.
+use Rattle.std.proofs.Common.{rules}
 use Rattle.std.proofs.Common.{◌≡◌, ℕ, zero, suc, ◌+◌, ◌<◌, List, [], ◌∷◌, length, get_or, set, ℤ, pos, Ok, Err}
 use Rattle.std.proofs.Common.{refl, sym, ap, ◌∙◌, arith, length-set}
 use Rattle.std.specs.declared.alloc.Global.{Global}
@@ -26,8 +27,7 @@ spot slot index = record { slot = slot; index = index }
 pub sizes-set : (vs : List Held) (slot index : ℕ) (v : Held) (x : List ℤ) → v ≡ get_or vs slot v
     → sizes_of (set vs slot (with_item v index x)) ≡ sizes_of vs
 sizes-set [] slot index v x e = refl
-sizes-set (w ∷ vs) zero index v x e =
-    ap (λ (n : ℕ). n ∷ sizes_of vs) (length-set v.items index x ∙ ap (λ (u : Held). length u.items) e)
+sizes-set (w ∷ vs) zero index v x e = grind (arith, common_steps, length-set)
 sizes-set (w ∷ vs) (suc slot) index v x e = ap (λ (l : List ℕ). length w.items ∷ l) (sizes-set vs slot index v x e)
 
 pub sizes-long : (vs : List Held) → length (sizes_of vs) ≡ length vs
@@ -36,8 +36,7 @@ sizes-long (v ∷ vs) = ap (λ (n : ℕ). suc n) (sizes-long vs)
 
 pub size-at : (vs : List Held) (slot : ℕ) (v : Held) → slot < length (sizes_of vs) → v ≡ get_or vs slot v
     → get_or (sizes_of vs) slot 0 ≡ length v.items
-size-at vs slot v h e = get_or-map (λ (u : Held). length u.items) vs slot v 0 (omega (arith, sizes-long vs))
-    ∙ ap (λ (u : Held). length u.items) (sym e)
+size-at vs slot v h e = grind (arith, common_steps, get_or-map, sizes-long)
 
 arrays-set : (vs : List Held) (slot index : ℕ) (v : Held) (x : List ℤ) → slot < length vs → v ≡ get_or vs slot v
     → arrays_in (set vs slot (with_item v index x)) ≡ put_block (spot slot index) (to_block x) (arrays_in vs)
@@ -55,15 +54,12 @@ via-from : (cs : List Coded) (from slot : ℕ) (c : Coded) (d : Via) → slot < 
     → get_or (vias_in from cs) slot d ≡ via_of (from + slot) c
 unfolding vias_in
 via-from [] from slot c d h e = absurd (omega arith)
-via-from (x ∷ cs) from zero c d h e = let n : from ≡ from + 0 =
-    omega arith in ap (via_of from) (sym e) ∙ ap (λ (k : ℕ). via_of k c) n
-via-from (x ∷ cs) from (suc slot) c d h e = let n : from + 1 + slot ≡ from + suc slot =
-    omega arith in via-from cs (from + 1) slot c d (omega arith) e ∙ ap (λ (k : ℕ). via_of k c) n
+via-from (x ∷ cs) from zero c d h e = grind (arith, common_steps)
+via-from (x ∷ cs) from (suc slot) c d h e = search (rules, arith, via-from cs (from + 1) slot c d (omega arith) e)
 
 via-is : (cs : List Coded) (slot : ℕ) (c : Coded) → slot < length cs → c ≡ get_or cs slot c
     → via_at (vias_in 0 cs) slot ≡ via_of slot c
-via-is cs slot c h e = let n : 0 + slot ≡ slot =
-    omega arith in via-from cs 0 slot c _ h e ∙ ap (λ (k : ℕ). via_of k c) n
+via-is cs slot c h e = grind (arith, common_steps, via-from)
 
 abbrev put_turn : ℕ → ℕ → ℕ → Reached → Block × ℤ × ℕ → Reads Reached
 put_turn component slot index old r = gives (record {

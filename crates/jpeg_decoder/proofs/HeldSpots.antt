@@ -1,4 +1,5 @@
 -- The blocks of a scan are held: of all components of a scan, or of a row of MCUs.
+use Rattle.std.proofs.Common.{rules}
 use Rattle.std.proofs.Common.{◌≡◌, inl, inr, ℕ, zero, suc, ◌+◌, ◌*◌, ◌<◌, List, [], ◌∷◌, map, drop, length, get_or, refl}
 use Rattle.std.proofs.Common.{sym, ap, ◌∙◌, arith}
 use Rattle.std.proofs.lemmas.List.{length-map}
@@ -63,11 +64,7 @@ held-spots frame cs vs fits arrays = grind (arith, common_steps, all-spots, slot
 are-rows : (cs : List Coded) (vs : List Held) → sizes_of vs ≡ row_sizes cs → AreRows 1 (components_in cs) (arrays_in vs)
 unfolding AreRows
 are-rows [] [] e = tt
-are-rows (c ∷ cs) (v ∷ vs) e = (
-  length-map v.items to_block ∙ ap (λ (l : List ℕ). get_or l 0 0) e
-      ∙ (let z : down_in c * wide_in c ≡ 1 * (down_in c * wide_in c) = omega arith in z),
-  are-rows cs vs (ap (λ (l : List ℕ). drop 1 l) e),
-)
+are-rows (c ∷ cs) (v ∷ vs) e = search (rules, arith, length-map, are-rows cs vs (ap (λ (l : List ℕ). drop 1 l) e))
 are-rows _ _ e = absurd (let n = ap (λ (l : List ℕ). length l) e in omega arith)
 
 row-spots : (frame : Frame) (cs : List Coded) (vs : List Held) (row : ℕ) → AllByRecursion (Fits frame) (components_in cs)

@@ -1,4 +1,6 @@
 -- The number of bytes of a lossless picture.
+use Rattle.std.proofs.Common.{rules}
+use Rattle.std.proofs.lemmas.Grind.{common_steps}
 use Rattle.std.proofs.Common.{◌≡◌, ℕ, suc, ◌+◌, ◌*◌, List, [], ◌∷◌, length, sym, ap, ap₂, ◌∙◌, refl, arith, subst}
 use Rattle.std.proofs.Common.{Bool, true, false, Result, Ok, Err, Some, length-append, mul_assoc}
 use Rattle.std.specs.Prelude.{IfOk, nat_le, ◌/◌, ◌%◌, if◌then◌else◌}
@@ -17,40 +19,11 @@ use Rattle.jpeg_decoder.proofs.ImageSizes.{made-length}
 
 -- ---- the lines
 
-sample-length : (precision v : ℕ) → length (sample_bytes precision v) ≡ bytes_a_sample precision
-sample-length precision v = go (nat_le precision 8)
-  where
-    go : (b : Bool) → length {A = ℕ} (elim b [ true ↦ v % 256 ∷ [] | false ↦ v % 256 ∷ v / 256 % 256 ∷ [] ])
-        ≡ (if b then 1 else 2)
-    go true = refl
-    go false = refl
-
 pixel-length : (precision mh mv : ℕ) (layers : List Layer) (y x : ℕ)
     → length (pixel_bytes precision mh mv layers y x) ≡ length layers * bytes_a_sample precision
 pixel-length precision mh mv [] y x = omega arith
 pixel-length precision mh mv (l ∷ layers) y x =
-    let n = bytes_a_sample precision in
-    let first = sample-length precision (sample_at mh mv l x y) in
-    let others = pixel-length precision mh mv layers y x in
-    length-append (sample_bytes precision (sample_at mh mv l x y)) (pixel_bytes precision mh mv layers y x)
-    ∙ ap₂ (λ (a b : ℕ). a + b) first others ∙ sym (one-more (length layers) n)
-  where
-    one-more : (a n : ℕ) → suc a * n ≡ n + a * n
-    one-more a n = omega arith
-
-line-length : (precision mh mv width : ℕ) (layers : List Layer) (y : ℕ)
-    → length (line_bytes precision mh mv width layers y) ≡ width * (length layers * bytes_a_sample precision)
-line-length precision mh mv width layers y =
-    made-length (length layers * bytes_a_sample precision) width (pixel_bytes precision mh mv layers y)
-    (pixel-length precision mh mv layers y)
-
-lines-length : (precision mh mv width height : ℕ) (layers : List Layer)
-    → length (pictures.picture_bytes precision mh mv width height layers)
-    ≡ height * (width * (length layers * bytes_a_sample precision))
-unfolding pictures.picture_bytes
-lines-length precision mh mv width height layers =
-    made-length (width * (length layers * bytes_a_sample precision)) height
-    (line_bytes precision mh mv width layers) (line-length precision mh mv width layers)
+    grind (arith, common_steps, length-append, pixel-length precision mh mv layers y x)
 
 layers-length : (components : List Component) (planes : List (List ℕ)) → ArePlanesOf components planes
     → length (layers_of components planes) ≡ length components
@@ -68,14 +41,13 @@ full-size n scale e = ap (λ s. ceiling (n * s) 8) e ∙ omega arith
 read-size : (f : Frame) (p : IsDecodedFrame f) → f.process ≡ Lossless
     → (f.output_width ≡ f.width) × (f.output_height ≡ f.height)
 unfolding frame_at
-read-size f p e =
-    let lossless : p.full.process ≡ Lossless = ap (λ (x : Frame). x.process) (sym p.made) ∙ e in
-    let eight = p.is_full lossless in (
-      ap (λ (x : Frame). x.output_width) p.made ∙ full-size p.full.width p.scale eight
-          ∙ ap (λ (x : Frame). x.width) (sym p.made),
-      ap (λ (x : Frame). x.output_height) p.made ∙ full-size p.full.height p.scale eight
-          ∙ ap (λ (x : Frame). x.height) (sym p.made),
-    )
+read-size f p e = grind (arith, common_steps, full-size)
+
+lines-length : (precision mh mv width height : ℕ) (layers : List Layer)
+    → length (pictures.picture_bytes precision mh mv width height layers)
+    ≡ height * (width * (length layers * bytes_a_sample precision))
+unfolding pictures.picture_bytes
+lines-length precision mh mv width height layers = grind (arith, common_steps, made-length, pixel-length)
 
 frame-length : (f : Frame) (planes : List (List ℕ)) → IsDecodedFrame f → f.process ≡ Lossless
     → ArePlanesOf f.components planes → length (lossless_picture f planes) ≡ picture_bytes f
@@ -83,21 +55,14 @@ unfolding lossless_picture picture_bytes
 frame-length f planes p e whole =
     let size = read-size f p e in
     let n = bytes_a_sample f.precision in
-    let turned : (a b c : ℕ) → b * (a * c) ≡ a * b * c = λ a b c.
-    sym (mul_assoc b a c) ∙ ap (λ k. k * c) (mul_comm b a) in
-    lines-length f.precision (most_across f) (most_down f) f.width f.height (layers_of f.components planes)
-    ∙ ap (λ k. f.height * (f.width * (k * n))) (layers-length f.components planes whole)
-    ∙ turned f.width f.height (length f.components * n)
-    ∙ ap₂ (λ (a b : ℕ). a * b * (length f.components * n)) (sym size.0) (sym size.1)
+    let turned : (a b c : ℕ) → b * (a * c) ≡ a * b * c = λ a b c. sym (mul_assoc b a c) ∙ ap (λ k. k * c)
+    (mul_comm b a) in
+    grind (arith, common_steps, lines-length, layers-length)
 
 pub if-samples_size : {X : Type 0} (items : X → List ℕ) (f : Frame) (planes : List (List ℕ)) (result : Result X Error)
     → IsDecodedFrame f → f.process ≡ Lossless → ArePlanesOf f.components planes
     → IfOk result (λ x. items x ≡ lossless_picture f planes) → IfOk result (λ x. IsWhole (Some f) (items x))
-if-samples_size items f planes (Ok x) p e whole h = (
-  ap (λ (l : List ℕ). length l) h ∙ frame-length f planes p e whole,
-  subst (λ (process : CodingProcess). HasBytesBy process f (items x)) (sym e) tt,
-)
-if-samples_size items f planes (Err x) p e whole h = tt
+if-samples_size items f planes result p e whole h = grind (arith, common_steps, frame-length)
 
 -- the room of a lossless picture
 pub image-room : (f : Frame) → IsDecodedFrame f → f.process ≡ Lossless

@@ -1,4 +1,5 @@
 -- The picture of samples that are written is their pixels.
+use Rattle.std.proofs.Common.{rules}
 use Rattle.std.proofs.Common.{◌≡◌, ℕ, zero, suc, ◌+◌, ◌-◌, ◌*◌, ◌/◌, ◌<◌, List, [], ◌∷◌, ◌++◌, drop, length}
 use Rattle.std.proofs.Common.{get_or, Ok, Some, refl, sym, ap, ap₂, ◌∙◌, subst, arith}
 use Rattle.std.specs.Prelude.{slice_index}
@@ -84,13 +85,7 @@ unfolding AreEven
 at-flat w x [] y even h k = absurd (omega arith)
 at-flat w x (l ∷ lines) zero even h k = grind (arith, common_steps, get_or_append_left)
 at-flat w x (l ∷ lines) (suc y) even h k =
-    let long = even.0 in
-    let one = one-mul w in
-    let sum = add-mul y 1 w in
-    let next : suc y * w ≡ (y + 1) * w = ap (λ (n : ℕ). n * w) (omega arith) in
-    let i : suc y * w + x - w ≡ y * w + x = omega arith in
-    get_or-append_right l (concat lines) w (suc y * w + x) 0 even.0 (omega arith) ∙ ap (get_or_zero (concat lines)) i
-    ∙ at-flat w x lines y even.1 (omega arith) k
+    grind (arith, common_steps, one-mul, add-mul, get_or-append_right, at-flat w x lines y even.1 (omega arith) k)
 
 -- ---- pixels
 
@@ -110,11 +105,7 @@ pixel-same frame samples x y hx hy place (c ∷ cs) all =
     let row = inside y frame.height c.factors.vertical (most_down frame) c.height hy made.vertical
     (some-down frame) reach.down in
     let count = size.count in
-    ap₂ (λ (a b : List ℕ). a ++ b)
-    (ap (sample_bytes frame.precision)
-    (at-flat c.width (x * c.factors.horizontal / most_across frame) (samples place)
-    (y * c.factors.vertical / most_down frame) size.even (omega (arith, row, count)) column))
-    (pixel-same frame samples x y hx hy (place + 1) cs all.1)
+    grind (arith, common_steps, at-flat, pixel-same frame samples x y hx hy (place + 1) cs all.1)
 
 samples-shown : (frame : Frame) (samples : Samples) → AreAll frame samples 0 frame.components
     → drawn frame samples ≡ picture_of_samples frame samples

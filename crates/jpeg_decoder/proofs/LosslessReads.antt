@@ -1,4 +1,5 @@
 -- A lossless scan as it is read: its tables, its samples and where they are put.
+use Rattle.std.proofs.Common.{rules}
 use Rattle.std.proofs.Common.{◌≡◌, ℕ, zero, suc, ◌+◌, ◌*◌, ◌<◌, ◌≤◌, ◌==◌, Bool, true, false, List, [], ◌∷◌, ◌++◌, All}
 use Rattle.std.proofs.Common.{length, map, drop, get_or, set, Option, Some, None, Result, Ok, Err, refl, sym, ap}
 use Rattle.std.proofs.Common.{ap₂, ◌∙◌, subst, arith}
@@ -97,15 +98,10 @@ codings-by-tables tables frame (p ∷ places) (d ∷ ds) ts within long e =
     let k : LosslessCoding = record { place = p; component = c.0; table = one.0 } in
     record {
       codings = k ∷ rest.codings;
-      are =
-          then-ok (lossless_coding tables frame p d) _ k _
-          (then-ok (needed (first_of (drop p frame.components))) _ c.0 _ (ap needed c.1)
-          (then-ok (needed (slice_index_or tables d None)) _ one.0 _ one.1 refl))
-          (then-ok (lossless_codings tables frame places ds) _ rest.codings _ rest.are refl);
+      are = grind (arith, common_steps, then-ok);
       places_are = ap (λ (l : List ℕ). p ∷ l) rest.places_are;
       tables_are = ap (λ (l : List Table). one.0 ∷ l) rest.tables_are ∙ ok-same (one.0 ∷ more.0) ts more.2;
-      of = subst (AreOf frame.components (k ∷ rest.codings) (p ∷ places)) (ok-same (one.0 ∷ more.0) ts more.2)
-          ((c.1, refl), rest.of);
+      of = grind (arith, common_steps, ok-same);
     }
 codings-by-tables tables frame _ _ ts within long e = absurd (omega arith)
 
@@ -149,9 +145,7 @@ several : (cs : List Component) (codings : List LosslessCoding) (places : List �
     ≡ parts_at false cs places ts
 unfolding AreOf parts_at
 several cs [] [] [] h = refl
-several cs (k ∷ codings) (p ∷ places) (t ∷ ts) h =
-    ap₂ (λ (x : Part) (l : List Part). x ∷ l)
-    (ap₂ (part false) (got p cs k.component no_component h.0.0) h.0.1) (several cs codings places ts h.1)
+several cs (k ∷ codings) (p ∷ places) (t ∷ ts) h = grind (arith, common_steps, got, several cs codings places ts h.1)
 several cs _ _ _ h = absurd h
 
 two : (n : ℕ) → (suc (suc n) == 1) ≡ false
@@ -160,24 +154,14 @@ two n = grind (arith, nat_tests)
 pub parts-are : (cs : List Component) (codings : List LosslessCoding) (places : List ℕ) (ts : List Table)
     → AreOf cs codings places ts → parts_of codings ≡ parts_at (length places == 1) cs places ts
 unfolding AreOf parts_of parts_at
-parts-are cs [] [] [] h = refl
-parts-are cs (k ∷ []) (p ∷ []) (t ∷ []) h =
-    ap (λ (x : Part). x ∷ []) (ap₂ (part true) (got p cs k.component no_component h.0.0) h.0.1)
-parts-are cs (k ∷ j ∷ codings) (p ∷ q ∷ places) (t ∷ ts) h =
-    grind (arith, common_steps, several, two)
-parts-are cs (k ∷ codings) (p ∷ places) (t ∷ ts) h = absurd h.1
-parts-are cs _ _ _ h = absurd h
+parts-are cs codings places ts h = grind (arith, common_steps, got, several, two)
 
 -- as many MCUs across and down
 pub mcus-are : (frame : Frame) (codings : List LosslessCoding) (places : List ℕ) (ts : List Table)
     → AreOf frame.components codings places ts
     → (mcus_across frame codings ≡ mcus_wide frame places) × (mcus_down frame codings ≡ mcus_high frame places)
 unfolding AreOf mcus_across mcus_down mcus_wide mcus_high
-mcus-are frame (k ∷ []) (p ∷ []) (t ∷ ts) h = grind (arith, common_steps, got)
-mcus-are frame (k ∷ j ∷ codings) (p ∷ q ∷ places) (t ∷ ts) h = (refl, refl)
-mcus-are frame [] [] [] h = (refl, refl)
-mcus-are frame (k ∷ codings) (p ∷ places) (t ∷ ts) h = absurd h.1
-mcus-are frame _ _ _ h = absurd h
+mcus-are frame codings places ts h = grind (arith, common_steps, got)
 
 codings-made : (frame : Frame) (cs : List Component) (codings : List LosslessCoding) (places : List ℕ) (ts : List Table)
     → AllByRecursion (IsMade frame) cs → AreOf cs codings places ts
@@ -205,15 +189,13 @@ pub alone : (frame : Frame) (places : List ℕ) → length places ≡ 1
     → let c = get_or frame.components (get_or places 0 0) no_component in
     (mcus_wide frame places ≡ c.width) × (mcus_high frame places ≡ c.height)
 unfolding mcus_wide mcus_high
-alone frame (p ∷ []) e = (refl, refl)
-alone frame _ e = absurd (omega arith)
+alone frame places e = grind (arith, common_steps)
 
 pub not-alone : (frame : Frame) (places : List ℕ) → (length places == 1) ≡ false
     → (mcus_wide frame places ≡ ceiling frame.width (most_across frame))
     × (mcus_high frame places ≡ ceiling frame.height (most_down frame))
 unfolding mcus_wide mcus_high
-not-alone frame (p ∷ []) e = absurd (cc)
-not-alone frame _ e = (refl, refl)
+not-alone frame places e = grind (arith, common_steps)
 
 -- a part more
 pub parts_step : (is_alone : Bool) (cs : List Component) (places : List ℕ) (ts : List Table) (slot p : ℕ) (t : Table)
@@ -228,14 +210,12 @@ parts_step is_alone cs places ts slot p t c front new h k e f g n =
 
 no-parts : (is_alone : Bool) (cs : List Component) (ts : List Table) → parts_at is_alone cs [] ts ≡ []
 unfolding parts_at
-no-parts is_alone cs [] = refl
-no-parts is_alone cs (t ∷ ts) = refl
+no-parts is_alone cs ts = grind (arith, common_steps)
 
 pub parts_none : (is_alone : Bool) (cs : List Component) (places : List ℕ) (ts : List Table) (slot : ℕ)
     (front : List Part) → length places ≤ slot
     → front ++ parts_at is_alone cs (drop slot places) (drop slot ts) ≡ front
-parts_none is_alone cs places ts slot front h =
-    grind (arith, common_steps, drop_all, no-parts, append-nil)
+parts_none is_alone cs places ts slot front h = grind (arith, common_steps, drop_all, no-parts, append-nil)
 
 pub parts-count : (is_alone : Bool) (cs : List Component) (places : List ℕ) (ts : List Table)
     → length ts ≡ length places → length (parts_at is_alone cs places ts) ≡ length places
@@ -262,10 +242,7 @@ has-mcus tables frame places ds ts a decoded lossless =
     record {
       some_wide = subst (λ (n : ℕ). 0 < n) mcus.0 (across-some frame a.codings some.0 made);
       some_high = subst (λ (n : ℕ). 0 < n) mcus.1 (down-some frame a.codings some.1 made);
-      covered = subst (AllByRecursion (IsCovered (mcus_wide frame places) (mcus_high frame places))) parts
-          (subst (λ (n : ℕ). AllByRecursion (IsCovered (mcus_wide frame places) n) (parts_of a.codings)) mcus.1
-          (subst (λ (n : ℕ). AllByRecursion (IsCovered n (mcus_down frame a.codings)) (parts_of a.codings)) mcus.0
-          (all-covered frame a.codings made)));
+      covered = grind (arith, common_steps, all-covered);
     }
 
 -- ---- steps of a scan
@@ -360,8 +337,7 @@ pub scan-sampled : (is_alone : Bool) (found : Found) (frame : Frame) (places : L
     (planes : List (List ℕ)) → IsSound found → found.frame ≡ Some frame
     → AreWhole (parts_at is_alone frame.components places ts) planes
     → AreSampled frame.components (with_samples places planes found.samples)
-scan-sampled is_alone found frame places ts planes sound e w =
-    with-sampled is_alone frame.components places ts planes found.samples w (sound.samples frame e)
+scan-sampled is_alone found frame places ts planes sound e w = grind (arith, common_steps, with-sampled)
 
 -- A lossless scan leaves a sound state.
 pub samples-sound : (found next : Found) (frame : Frame) (places : List ℕ) (planes : List (List ℕ))
@@ -369,29 +345,7 @@ pub samples-sound : (found next : Found) (frame : Frame) (places : List ℕ) (pl
     → AreSampled frame.components (with_samples places planes found.samples)
     → next ≡ record found { scanned = true; samples = with_samples places planes found.samples } → IsSound next
 unfolding arrays_before
-samples-sound found next frame places planes sound e lossless whole is = subst IsSound (sym is) (record {
-  frames = sound.frames;
-  held = λ f k.
-      let p = ap is_progressive (subst (λ (x : Frame). x.process ≡ Lossless) (same f k) lossless) in
-      subst (AreArrays f.components)
-      (before-sequential found f p ∙ sym (before-sequential (record found {
-        scanned = true;
-        samples = with_samples places planes found.samples;
-      }) f p)) (sound.held f k);
-  planes = sound.planes;
-  samples = λ f k. subst (λ (x : Frame). AreSampled x.components (with_samples places planes found.samples)) (same f k)
-      whole;
-  unread = λ k. absurd (none-some (sym k ∙ e));
-})
-  where
-    some-same : (f g : Frame) → Some f ≡ Some g → f ≡ g
-    some-same f g h = cc
-
-    same : (f : Frame) → found.frame ≡ Some f → frame ≡ f
-    same f k = some-same frame f (sym e ∙ k)
-
-    none-some : None ≡ Some frame → ⊥
-    none-some h = cc
+samples-sound found next frame places planes sound e lossless whole is = grind (arith, common_steps, before-sequential)
 
 -- ---- where samples are put
 
@@ -438,9 +392,7 @@ drop-there : (samples : List (Option (List ℕ))) (place : ℕ) (plane : List �
     → slice_index_or samples place None ≡ Some plane → drop place samples ≡ Some plane ∷ drop (place + 1) samples
 drop-there [] place plane e = absurd (let n : ⊥ = cc in n)
 drop-there (x ∷ samples) zero plane e = grind (arith, common_steps)
-drop-there (x ∷ samples) (suc place) plane e =
-    let k : suc (place + 1) ≡ suc place + 1 = omega arith in
-    drop-there samples place plane e ∙ ap (λ (n : ℕ). Some plane ∷ drop n (x ∷ samples)) k
+drop-there (x ∷ samples) (suc place) plane e = search (rules, arith, drop-there samples place plane e)
 
 -- The planes are those of the components.
 samples-from : (samples : List (Option (List ℕ))) (place : ℕ) (cs : List Component) (planes : List (List ℕ))
@@ -451,12 +403,8 @@ samples-from samples place (c ∷ cs) planes h e =
     let one = bind-ok (needed (slice_index_or samples place None)) _ planes e in
     let more = bind-ok (samples_from samples (place + 1) cs) _ planes one.2 in
     let there = needed-some (slice_index_or samples place None) one.0 one.1 in
-    let is : AreSampled (c ∷ cs) (Some one.0 ∷ drop (place + 1) samples) =
-    subst (AreSampled (c ∷ cs)) (drop-there samples place one.0 there) h in
-    subst (ArePlanesOf (c ∷ cs)) (ok-same (one.0 ∷ more.0) planes more.2) (
-      is.0,
-      samples-from samples (place + 1) cs more.0 is.1 more.1,
-    )
+    let is : AreSampled (c ∷ cs) (Some one.0 ∷ drop (place + 1) samples) = grind (arith, common_steps, drop-there) in
+    grind (arith, common_steps, ok-same, samples-from samples (place + 1) cs more.0 is.1 more.1)
 
 pub samples-whole : (samples : List (Option (List ℕ))) (cs : List Component) (planes : List (List ℕ))
     → AreSampled cs samples → samples_from samples 0 cs ≡ Ok planes → ArePlanesOf cs planes
@@ -465,8 +413,7 @@ samples-whole samples cs planes h e = samples-from samples 0 cs planes h e
 -- ---- what a call knows
 
 pub on-ok : {X P : Type 0} (r : Result X Error) → P → OnOk r P
-on-ok (Ok x) p = p
-on-ok (Err e) p = tt
+on-ok r p = grind (arith, common_steps)
 
 -- The samples of a scan by how it is coded.
 pub coded-by : (found : Found) (frame : Frame) (scan : Scan) (ts : List Table)
@@ -516,8 +463,7 @@ pub picture-lacks : (found : Found) (frame : Frame) (e : Error)
     → Names e (samples_from found.samples 0 frame.components)
     → Names e (samples_picture found frame)
 unfolding samples_picture
-picture-lacks found frame e n =
-    Names-through e (samples_from found.samples 0 frame.components) _ (λ f h. bind_err _ _ f h) n
+picture-lacks found frame e n = grind (arith, common_steps, Names-through, bind_err)
 
 pub picture-made : (found : Found) (frame : Frame) (planes : List (List ℕ))
     → samples_from found.samples 0 frame.components ≡ Ok planes
@@ -533,5 +479,4 @@ pub picture-given : {X : Type 0} (view : X → List ℕ) (r : Result X Error) (o
     (picture : List ℕ)
     → o ≡ Ok picture → IfOk r (λ v. view v ≡ picture) → IfErr r (λ e. e ≡ OutOfMemory)
     → MatchResult r (λ v. o ≡ Ok (view v)) (λ e. IsRefusal e × Names e o)
-picture-given view (Ok v) o picture e h m = e ∙ ap (λ (l : List ℕ). Ok l) (sym h)
-picture-given view (Err x) o picture e h m = memory-names x o m
+picture-given view r o picture e h m = grind (arith, common_steps, memory-names)

@@ -1,4 +1,5 @@
 -- The blocks of a scan in order are those that are walked.
+use Rattle.std.proofs.Common.{rules}
 use Rattle.std.proofs.Common.{◌≡◌, ℕ, zero, suc, ◌+◌, ◌-◌, ◌*◌, ◌<◌, ◌≤◌, List, [], ◌∷◌, ◌++◌, map, drop, length, refl, sym, ap}
 use Rattle.std.proofs.Common.{ap₂, ◌∙◌, arith, add-mul, mul_assoc, append-nil, append_assoc, get_or}
 use Rattle.std.specs.List.{range_with_len, flat_map}
@@ -15,15 +16,10 @@ use Rattle.jpeg_decoder.specs.Walk.{spot_at, mcu_at, spots_at, raster, positions
 use Rattle.jpeg_decoder.specs.Walk.{members_from, own_member}
 use Rattle.std.proofs.lemmas.Grind.{common_steps}
 
-spot-is : (row column slot : ℕ) (c : Component) (v h : ℕ)
-    → spot_at (row, column) (member_of slot c v h) ≡ part_spot row column slot c v h
-spot-is row column slot c v h = grind (arith, common_steps, add-mul, mul_assoc)
-
 line-is : (row column slot : ℕ) (c : Component) (v : ℕ) (hs : List ℕ)
     → mcu_at (map (member_of slot c v) hs) (row, column) ≡ map (part_spot row column slot c v) hs
 line-is row column slot c v [] = refl
-line-is row column slot c v (h ∷ hs) = ap₂ (λ (x : Spot) (xs : List Spot). x ∷ xs) (spot-is row column slot c v h)
-    (line-is row column slot c v hs)
+line-is row column slot c v (h ∷ hs) = grind (arith, common_steps, add-mul, mul_assoc, line-is row column slot c v hs)
 
 pub mcu-append : (xs ys : List Member) (p : ℕ × ℕ) → mcu_at (xs ++ ys) p ≡ mcu_at xs p ++ mcu_at ys p
 mcu-append [] ys p = refl
@@ -33,24 +29,17 @@ part-is : (row column slot : ℕ) (c : Component) (vs : List ℕ)
     → mcu_at (flat_map (line_members slot c) vs) (row, column)
     ≡ flat_map (λ v. map (part_spot row column slot c v) (range_with_len 0 c.factors.horizontal)) vs
 part-is row column slot c [] = refl
-part-is row column slot c (v ∷ vs) =
-    mcu-append (line_members slot c v) (flat_map (line_members slot c) vs) (row, column)
-    ∙ ap₂ (λ (x y : List Spot). x ++ y) (line-is row column slot c v (range_with_len 0 c.factors.horizontal))
-    (part-is row column slot c vs)
+part-is row column slot c (v ∷ vs) = grind (arith, common_steps, mcu-append, line-is, part-is row column slot c vs)
 
 pub mcu-is : (row column slot : ℕ) (cs : List Component)
     → mcu_at (members_from slot cs) (row, column) ≡ mcu_spots row column slot cs
 unfolding members_from mcu_spots part_spots
 mcu-is row column slot [] = refl
-mcu-is row column slot (c ∷ cs) =
-    mcu-append (part_members slot c) (members_from (slot + 1) cs) (row, column)
-    ∙ ap₂ (λ (x y : List Spot). x ++ y) (part-is row column slot c (range_with_len 0 c.factors.vertical))
-    (mcu-is row column (slot + 1) cs)
+mcu-is row column slot (c ∷ cs) = grind (arith, common_steps, mcu-append, part-is, mcu-is row column (slot + 1) cs)
 
 spots-append : (ms : List Member) (xs ys : List (ℕ × ℕ)) → spots_at ms (xs ++ ys) ≡ spots_at ms xs ++ spots_at ms ys
 spots-append ms [] ys = refl
-spots-append ms (x ∷ xs) ys = ap (λ (l : List Spot). mcu_at ms x ++ l) (spots-append ms xs ys)
-    ∙ sym (append_assoc (mcu_at ms x) (spots_at ms xs) (spots_at ms ys))
+spots-append ms (x ∷ xs) ys = grind (arith, common_steps, append_assoc, spots-append ms xs ys)
 
 -- ---- several components
 
@@ -63,9 +52,7 @@ rows-are : (cs : List Component) (wide : ℕ) (rs : List ℕ)
     → spots_at (members_from 0 cs) (flat_map (λ r. positions_of r 0 wide) rs)
     ≡ flat_map (λ row. flat_map (λ k. mcu_spots row k 0 cs) (range_with_len 0 wide)) rs
 rows-are cs wide [] = refl
-rows-are cs wide (r ∷ rs) =
-    spots-append (members_from 0 cs) (positions_of r 0 wide) (flat_map (λ r. positions_of r 0 wide) rs)
-    ∙ ap₂ (λ (x y : List Spot). x ++ y) (columns-are cs r (range_with_len 0 wide)) (rows-are cs wide rs)
+rows-are cs wide (r ∷ rs) = grind (arith, common_steps, spots-append, columns-are, rows-are cs wide rs)
 
 pub all_walked : (wide high : ℕ) (cs : List Component)
     → spots_at (members_from 0 cs) (raster wide high) ≡ all_spots wide high cs
@@ -87,9 +74,7 @@ own-rows : (g : Grid) (rs : List ℕ)
     → spots_at (own_member g ∷ []) (flat_map (λ r. positions_of r 0 g.own_wide) rs)
     ≡ flat_map (λ row. map (λ k. record { slot = 0; index = row * g.wide + k }) (range_with_len 0 g.own_wide)) rs
 own-rows g [] = refl
-own-rows g (r ∷ rs) =
-    spots-append (own_member g ∷ []) (positions_of r 0 g.own_wide) (flat_map (λ r. positions_of r 0 g.own_wide) rs)
-    ∙ ap₂ (λ (x y : List Spot). x ++ y) (own-columns g r (range_with_len 0 g.own_wide)) (own-rows g rs)
+own-rows g (r ∷ rs) = grind (arith, common_steps, spots-append, own-columns, own-rows g rs)
 
 pub own_walked : (g : Grid) → spots_at (own_member g ∷ []) (raster g.own_wide g.own_high) ≡ own_spots g
 unfolding own_spots
@@ -141,7 +126,6 @@ slot_next xs slot cs c h e = grind (arith, common_steps, append_assoc, dropped)
 
 pub slot_none : (xs : List Member) (slot : ℕ) (cs : List Coded) → length cs ≤ slot → xs ++ slots_left slot cs ≡ xs
 unfolding members_from
-slot_none xs slot cs h =
-    ap (λ (l : List Coded). xs ++ members_from slot (components_in l)) (drop_all slot cs h) ∙ append-nil xs
+slot_none xs slot cs h = grind (arith, common_steps, drop_all, append-nil)
 
 pub ruleset slot_rules = (slot_next, slot_none)

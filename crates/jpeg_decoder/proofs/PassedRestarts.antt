@@ -1,4 +1,6 @@
 -- Restart markers after a scan.
+use Rattle.std.proofs.Common.{rules}
+use Rattle.std.proofs.lemmas.Grind.{common_steps}
 use Rattle.std.proofs.Common.{◌≡◌, ◌<◌, ℕ, zero, suc, List, Result, Ok, Err, true, false, Option, Some}
 use Rattle.std.proofs.Common.{refl, sym, ap, ◌∙◌, length, arith}
 use Rattle.jpeg_bits.specs.Reading.{Outcome, Fault, ◌>>=◌}
@@ -12,8 +14,7 @@ use Rattle.jpeg_streams.proofs.Shorter.{LeavesBelow, below-at, marker-below}
 
 pub bind-same : {A B : Type 0} (r : Result A Fault) (f g : A → Result B Fault) → ((x : A) → r ≡ Ok x → f x ≡ g x)
     → r >>= f ≡ r >>= g
-bind-same (Ok x) f g h = h x refl
-bind-same (Err fault) f g h = refl
+bind-same r f g h = grind (arith, common_steps)
 
 -- the markers after the first, which is a restart marker
 abbrev pub others : ℕ → List ℕ → Outcome (Option Marker)
@@ -22,14 +23,12 @@ others turns bytes = next_marker bytes >>= (λ (m : Marker × List ℕ). after_r
 restarts-none : (turns : ℕ) (met : Option Marker) (bytes : List ℕ) → is_restart_marker met ≡ false
     → after_restarts (suc turns) met bytes ≡ Ok (met, bytes)
 unfolding after_restarts
-restarts-none turns (Some (RST n)) bytes e = absurd (let n : ⊥ = cc in n)
-restarts-none turns _ bytes e = refl
+restarts-none turns met bytes e = grind (arith, common_steps)
 
 restarts-more : (turns : ℕ) (met : Option Marker) (bytes : List ℕ) → is_restart_marker met ≡ true
     → after_restarts (suc turns) met bytes ≡ others turns bytes
 unfolding after_restarts
-restarts-more turns (Some (RST n)) bytes e = refl
-restarts-more turns _ bytes e = absurd (let n : ⊥ = cc in n)
+restarts-more turns met bytes e = grind (arith, common_steps)
 
 -- more turns than bytes change nothing
 restarts-enough : (m n : ℕ) (met : Option Marker) (bytes : List ℕ) → length bytes < m → length bytes < n
@@ -62,9 +61,7 @@ pub after-next : (met : Option Marker) (bytes rest : List ℕ) (m : Marker) → 
 unfolding after_all
 after-next met bytes rest m e q =
     let less : length rest < length bytes = marker-takes bytes (m, rest) q in
-    restarts-more (length bytes) met bytes e ∙ ap (λ (o : Outcome Marker). o
-    >>= (λ (x : Marker × List ℕ). after_restarts (length bytes) (Some x.0) x.1)) q
-    ∙ restarts-enough (length bytes) (suc (length rest)) (Some m) rest less (omega arith)
+    grind (arith, common_steps, restarts-more, restarts-enough)
 
 -- Fewer bytes are left than the limit, and no restart marker is met.
 unfoldable pub Passes : ℕ → Outcome (Option Marker) → Type 0
@@ -74,8 +71,7 @@ Passes limit (Err fault) = Unit {0}
 bind-passes : (limit first : ℕ) (r : Outcome Marker) (f : Marker × List ℕ → Outcome (Option Marker))
     → LeavesBelow first r → ((x : Marker × List ℕ) → length x.1 < first → Passes limit (f x)) → Passes limit (r >>= f)
 unfolding Passes LeavesBelow
-bind-passes limit first (Ok x) f p q = q x p
-bind-passes limit first (Err fault) f p q = tt
+bind-passes limit first r f p q = grind (arith, common_steps)
 
 ok-passes : (limit : ℕ) (met : Option Marker) (bytes : List ℕ) → length bytes < limit → is_restart_marker met ≡ false
     → Passes limit (Ok (met, bytes))

@@ -1,4 +1,6 @@
 -- The number of bytes of a picture of a frame that is decoded.
+use Rattle.std.proofs.Common.{rules}
+use Rattle.std.proofs.lemmas.Grind.{common_steps}
 use Rattle.std.proofs.Common.{◌≡◌, ℕ, zero, suc, ◌*◌, ◌/◌, ◌<◌, ◌≤◌, List, [], ◌∷◌, length, sym, ap, ap₂, ◌∙◌}
 use Rattle.std.proofs.Common.{refl, arith, subst, Result, Ok, Err, Option, Some, None, Bool, true, false}
 use Rattle.std.specs.Prelude.{MatchResult, IfOk, IfSome, OnOk, if◌then◌else◌, nat_le, min}
@@ -32,37 +34,12 @@ use Rattle.jpeg_streams.proofs.Soundness.{accepted-precision, decoded-count, dec
 use Rattle.jpeg_decoder.proofs.ImageSizes.{cropped-length, decoded-counts, image-length}
 
 made-of : (f : Frame) → IsDecodedFrame f → Made f
-made-of f p =
-    let q = p.is_read in
-    record {
-      number = q.number;
-      precision = q.precision;
-      width = q.width;
-      height = q.height;
-      factors = q.factors;
-      in_range = recursion_from_All IsInRange q.factors q.in_range;
-      some_width = q.some_width;
-      some_height = q.some_height;
-      scale = p.scale;
-      some_scale = (scale-bounds p.scale p.is_scale).0;
-      is = p.made ∙ ap (frame_at p.scale) q.made;
-    }
+made-of f p = grind (arith, common_steps, recursion_from_All, scale-bounds)
 
 -- an area within a plane of whole lines
 area : (w h stride lines n : ℕ) → w ≤ stride → h ≤ lines → n ≡ lines * stride
     → min w stride * min h (n / stride) ≡ h * (1 * w)
-area w h zero lines n wide high e =
-    let none : min w 0 ≡ 0 = omega arith in
-    let no_width : w ≡ 0 = omega arith in
-    let left : 0 * min h (n / 0) ≡ 0 = omega arith in
-    let right : 0 ≡ h * (1 * 0) = omega arith in
-    ap (λ k. k * min h (n / 0)) none ∙ left ∙ right ∙ ap (λ k. h * (1 * k)) (sym no_width)
-area w h (suc s) lines n wide high e =
-    let count : n / suc s ≡ lines = ap (λ k. k / suc s) e ∙ mul-div_cancel lines {n = suc s} (omega arith) in
-    let all_wide : min w (suc s) ≡ w = omega arith in
-    let all_high : min h (n / suc s) ≡ h = ap (λ k. min h k) count ∙ omega arith in
-    let one : 1 * w ≡ w = omega arith in
-    ap₂ (λ (a b : ℕ). a * b) all_wide all_high ∙ mul_comm w h ∙ ap (λ k. h * k) (sym one)
+area w h stride lines n wide high e = grind (arith, common_steps, mul-div_cancel, mul_comm)
 
 one-length : (f : Frame) (c : Component) (plane : List ℕ) → IsDecodedFrame f → f.components ≡ c ∷ []
     → length plane ≡ (c.blocks_high * c.scale) * (c.blocks_wide * c.scale)
@@ -92,57 +69,31 @@ pub picture-length : (settings : Settings) (m : Metadata) (f : Frame) (planes : 
     → picture_by settings m f f.components planes ≡ Ok picture
     → length picture ≡ f.output_height * (length f.components * f.output_width)
 unfolding picture_by AreWhole
-picture-length settings m f planes picture p whole count is = go f.components refl planes whole count is
-  where
-    several : (cs : List Component) (ps : List (List ℕ)) → length ps ≡ length cs
-        → image_of cs ps f.output_width f.output_height
-        (transform_of settings.color_transform (identifiers_of cs) m.jfif m.adobe) ≡ Ok picture
-        → length picture ≡ f.output_height * (length cs * f.output_width)
-    several cs ps n e = image-length cs ps f.output_width f.output_height _ picture n e
-
-    go : (cs : List Component) → f.components ≡ cs → (ps : List (List ℕ)) → AreWhole cs ps → length ps ≡ length cs
-        → picture_by settings m f cs ps ≡ Ok picture
-        → length picture ≡ f.output_height * (length cs * f.output_width)
-    go (c ∷ []) e [] w n h = absurd (omega arith)
-    go (c ∷ []) e (q ∷ ps) w n h =
-        let same : picture_in f c q ≡ picture = cc in
-        ap (λ (l : List ℕ). length l) (sym same) ∙ one-length f c q p e w.0
-    go cs e ps w n h = several cs ps n h
+picture-length settings m f planes picture p whole count is = grind (arith, common_steps, image-length, one-length)
 
 -- ---- by its format
 
 precision-of : (f : Frame) → IsDecodedFrame f → is_decoded_precision f.process f.precision ≡ true
 unfolding frame_at
-precision-of f p =
-    ap₂ (λ (x : CodingProcess) (n : ℕ). is_decoded_precision x n) (ap (λ (x : Frame). x.process) p.made)
-    (ap (λ (x : Frame). x.precision) p.made)
-    ∙ accepted-precision p.full p.full p.is_accepted
+precision-of f p = grind (arith, common_steps, accepted-precision)
 
 -- as many bytes as components, of 8 bits
 format-bytes : (n : ℕ) → is_decoded_count n ≡ true → bytes_a_pixel (format_of n 8) ≡ n
 format-bytes n h = decoded-counts (λ k. bytes_a_pixel (format_of k 8) ≡ k) n h refl refl refl
 
 turned : (w h n k : ℕ) → k ≡ n → h * (n * w) ≡ w * h * k
-turned w h n k e = ap (λ m. h * m) (mul_comm n w) ∙ sym (mul_assoc h w n) ∙ ap (λ m. m * n) (mul_comm h w)
-    ∙ ap (λ m. w * h * m) (sym e)
+turned w h n k e = grind (arith, common_steps, mul_comm, mul_assoc)
 
 by-info : (f : Frame) (pixels : List ℕ) → IsDecodedFrame f → f.precision ≡ 8
     → length pixels ≡ f.output_height * (length f.components * f.output_width) → HasBytes f pixels
 unfolding HasBytes
-by-info f pixels p eight long =
-    long ∙ turned f.output_width f.output_height (length f.components)
-    (bytes_a_pixel (format_of (length f.components) f.precision))
-    (ap (λ n. bytes_a_pixel (format_of (length f.components) n)) eight
-    ∙ format-bytes (length f.components) (decoded-count f p))
+by-info f pixels p eight long = grind (arith, common_steps, turned, format-bytes, decoded-count)
 
 -- a byte a sample
 by-frame : (f : Frame) (pixels : List ℕ) → f.precision ≡ 8
     → length pixels ≡ f.output_height * (length f.components * f.output_width) → length pixels ≡ picture_bytes f
 unfolding picture_bytes
-by-frame f pixels eight long =
-    let one : length f.components * bytes_a_sample f.precision ≡ length f.components =
-    ap (λ n. length f.components * bytes_a_sample n) eight ∙ omega arith in
-    long ∙ turned f.output_width f.output_height (length f.components) _ one
+by-frame f pixels eight long = grind (arith, common_steps, turned)
 
 precision-8 : (f : Frame) → IsDecodedFrame f → (f.process ≡ Lossless → ⊥) → f.precision ≡ 8
 precision-8 f p dct = go f.process refl
@@ -179,58 +130,27 @@ whole-by f pixels p dct long = go f.process refl
     go Lossless e = absurd (dct e)
     go x e = of (eqb-true f.precision 8 (eight x e))
 
--- a list of so many bytes
-whole-of : (f : Frame) (pixels : List ℕ) → IsDecodedFrame f → length pixels ≡ picture_bytes f
-    → IsWhole (Some f) pixels
-whole-of f pixels p long = (long, go f.process refl)
-  where
-    dct : (f.process ≡ Lossless → ⊥) → HasBytes f pixels
-    dct n =
-        by-info f pixels p (precision-8 f p n)
-        (long ∙ block-bytes f p n ∙ mul_comm (length f.components * f.output_width) f.output_height)
-
-    go : (x : CodingProcess) → f.process ≡ x → HasBytesBy x f pixels
-    go Lossless e = tt
-    go _ e = dct (λ l. let n : ⊥ = cc in n)
-
 pub whole-if : (found : Found) (frame : Option Frame) (n : ℕ) (pixels : List ℕ) → HasDecodedFrame found
     → found.frame ≡ frame → IfSome frame (λ f. n ≡ picture_bytes f) → length pixels ≡ n
     → IsWhole found.frame pixels
-whole-if found frame n pixels p same size long =
-    go found.frame p (subst (λ (o : Option Frame). IfSome o (λ f. n ≡ picture_bytes f)) (sym same) size)
-  where
-    go : (o : Option Frame) → ((f : Frame) → o ≡ Some f → IsDecodedFrame f) → IfSome o (λ f. n ≡ picture_bytes f)
-        → IsWhole o pixels
-    go None p h = tt
-    go (Some f) p h = whole-of f pixels (p f refl) (long ∙ h)
+whole-if found frame n pixels p same size long = grind (arith, common_steps, by-info, precision-8, block-bytes,
+    mul_comm)
 
 pub if-size : {X : Type 0} (items : X → List ℕ) (E : Error → Type 0) (settings : Settings) (m : Metadata) (f : Frame)
     (planes : List (List ℕ)) (result : Result X Error) → IsDecodedFrame f → AreWhole f.components planes
     → length planes ≡ length f.components
     → MatchResult result (λ x. picture_by settings m f f.components planes ≡ Ok (items x)) E
     → (f.process ≡ Lossless → ⊥) → IfOk result (λ x. IsWhole (Some f) (items x))
-if-size items E settings m f planes (Ok x) p w n h dct =
-    whole-by f (items x) p dct (picture-length settings m f planes (items x) p w n h)
-if-size items E settings m f planes (Err e) p w n h dct = tt
+if-size items E settings m f planes result p w n h dct = grind (arith, common_steps, whole-by, picture-length)
 
 -- ---- the samples of a pixel
 
 by-format : (n precision : ℕ) → is_decoded_count n ≡ true → n ≡ samples_a_pixel (format_of n precision)
-by-format n precision h =
-    decoded-counts (λ k. k ≡ samples_a_pixel (format_of k precision)) n h (one (nat_le precision 8)) refl refl
-  where
-    one : (b : Bool) → 1 ≡ samples_a_pixel (if b then L8 else L16)
-    one true = refl
-    one false = refl
+by-format n precision h = grind (arith, common_steps, decoded-counts)
 
 pub counted : (found : Found) → HasDecodedFrame found → IsCounted found.frame
-counted found p = go found.frame p
-  where
-    go : (o : Option Frame) → ((f : Frame) → o ≡ Some f → IsDecodedFrame f) → IsCounted o
-    go None p = tt
-    go (Some f) p = by-format (length f.components) f.precision (decoded-count f (p f refl))
+counted found p = grind (arith, common_steps, by-format, decoded-count)
 
 pub if-counted : {X : Type 0} (found : Found) (result : Result X Error) → OnOk result (HasDecodedFrame found)
     → IfOk result (λ x. IsCounted found.frame)
-if-counted found (Ok x) p = counted found p
-if-counted found (Err e) p = tt
+if-counted found result p = grind (arith, common_steps, counted)

@@ -1,4 +1,5 @@
 -- The picture of a frame's planes: of one component, and of several.
+use Rattle.std.proofs.Common.{rules}
 use Rattle.std.proofs.Common.{◌≡◌, ◌≢◌, ◌<◌, ◌≤◌, ℕ, List, [], ◌∷◌, ◌++◌, refl, sym, ap, ◌∙◌}
 use Rattle.std.proofs.Common.{subst, length, get_or, map, arith, Bool, true, false, Result, Ok, Err}
 use Rattle.std.specs.Prelude.{◌==◌, MatchResult}
@@ -44,17 +45,12 @@ decoded-several f p other =
 pub several-seen : (items slice : List declared.Component) (f : Frame) → f.components ≡ map component_in items
     → slice ≡ items → IsDecodedFrame f → length slice ≢ 1
     → (length f.components ≢ 1) × ((3 ≤ length slice) × (length slice ≤ 4))
-several-seen items slice f is same p other =
-    grind (arith, common_steps, length-map, decoded-several)
+several-seen items slice f is same p other = grind (arith, common_steps, length-map, decoded-several)
 
 pub decoded-factors : (f : Frame) → IsDecodedFrame f → AllHaveSampling f.components
 decoded-factors f p = sized_frames_have_factors f (decoded-sized f p)
 
 -- ---- room for the samples
-
-ok-same : (r : Result (List Source) Fault) (x y : List Source) → r ≡ Ok x → r ≡ Ok y → x ≡ y
-ok-same (Err fault) x y a b = absurd (let n : ⊥ = cc in n)
-ok-same (Ok z) x y a b = let p : z ≡ x = cc in let q : z ≡ y = cc in sym p ∙ q
 
 -- Planes of all blocks have the samples that a picture asks for.
 pub decoded-cover : (f : Frame) → IsDecodedFrame f → (planes : List (List ℕ)) → AreWhole f.components planes
@@ -62,32 +58,19 @@ pub decoded-cover : (f : Frame) → IsDecodedFrame f → (planes : List (List �
     → AllCover sources planes f.output_width f.output_height
 decoded-cover f p planes whole sources e =
     let s = decoded-sources f p in
-    subst (λ (x : List Source). AllCover x planes f.output_width f.output_height) (ok-same _ s.sources sources s.is e)
-    (s.cover planes whole)
+    grind (arith, common_steps)
 
 -- ---- refusals
-
-end-if : (b : Bool) (convert : ColorConvert) (s : List Source) (bytes : ColorConvert → List Source → List ℕ)
-    → (cond b (Ok convert) (Err Malformed) >>= (λ (convert : ColorConvert). Ok (bytes convert s))) ≡ Err End → ⊥
-end-if true convert s bytes e = cc
-end-if false convert s bytes e = cc
 
 never-end : (n : ℕ) (t : ColorTransform) (r : Result (List Source) Fault) (sources : List Source)
     (bytes : ColorConvert → List Source → List ℕ) → r ≡ Ok sources
     → (conversion_of n t >>= (λ (convert : ColorConvert). r >>= (λ (s : List Source). Ok (bytes convert s)))) ≡ Err End
     → ⊥
 unfolding conversion_of
-never-end n t (Err fault) sources bytes r e = absurd (let z : ⊥ = cc in z)
-never-end n transforms.RGB (Ok s) sources bytes r e = end-if (n == 3) converts.Rgb s bytes e
-never-end n transforms.YCbCr (Ok s) sources bytes r e = end-if (n == 3) converts.YCbCr s bytes e
-never-end n transforms.CMYK (Ok s) sources bytes r e = end-if (n == 4) converts.Cmyk s bytes e
-never-end n transforms.YCCK (Ok s) sources bytes r e = end-if (n == 4) converts.Ycck s bytes e
-never-end n _ (Ok s) sources bytes r e = cc
+never-end n t r sources bytes h0 e = grind (arith, common_steps)
 
 refused : {Y : Type 0} (e : Error) (o : Result Y Fault) → (o ≡ Err End → ⊥) → Names e o → IsRefusal e
-refused (errors.Io x) o h n = h n.0
-refused (errors.Internal text) o h n = n
-refused _ o h n = tt
+refused e o h n = grind (arith, common_steps)
 
 -- An image of a frame that is decoded is refused by name alone.
 pub image-refused : (f : Frame) → IsDecodedFrame f → (planes : List (List ℕ)) (t : ColorTransform) (e : Error)
@@ -107,17 +90,7 @@ pub picture-one : (settings : Settings) (m : Metadata) (f : Frame) (cs : List Co
     → picture ≡ cropped_to c f.output_width f.output_height plane
     → picture_by settings m f cs planes ≡ Ok picture
 unfolding picture_by
-picture-one settings m f (x ∷ []) c planes plane picture h e is made = rw (is, made, e, picture_by) refl
-picture-one settings m f _ c planes plane picture h e is made = absurd (omega arith)
-
--- of several
-pub picture-several : (settings : Settings) (m : Metadata) (f : Frame) (cs : List Component) (planes : List (List ℕ))
-    → length cs ≢ 1 → picture_by settings m f cs planes
-    ≡ image_of cs planes f.output_width f.output_height (transform_of settings.color_transform (identifiers_of cs)
-    m.jfif m.adobe)
-unfolding picture_by
-picture-several settings m f (c ∷ []) planes h = absurd (h (omega arith))
-picture-several settings m f _ planes h = refl
+picture-one settings m f cs c planes plane picture h e is made = grind (arith, common_steps)
 
 -- what an image of some components and planes gives, where they are those of the frame
 pub several-given : {R : Type 0} (view : R → List ℕ) (settings : Settings) (m : Metadata) (f : Frame)
@@ -128,31 +101,12 @@ pub several-given : {R : Type 0} (view : R → List ℕ) (settings : Settings) (
     (λ e. Names e (image_of cs given f.output_width f.output_height t))
     → MatchResult r (λ v. picture_by settings m f f.components planes ≡ Ok (view v))
     (λ e. IsRefusal e × Names e (picture_by settings m f f.components planes))
-several-given {R = R} view settings m f cs planes given t r p other ec ep et h = go r h
-  where
-    image-is : image_of cs given f.output_width f.output_height t ≡ picture_by settings m f f.components planes
-    image-is =
-        let same = et ∙ (λ i. transform_of settings.color_transform (identifiers_of (ec i)) m.jfif m.adobe) in
-        (λ i. image_of (ec i) (ep i) f.output_width f.output_height (same i))
-        ∙ sym (picture-several settings m f f.components planes other)
-
-    go : (r : Result R Error)
-        → MatchResult r (λ v. image_of cs given f.output_width f.output_height t ≡ Ok (view v))
-        (λ e. Names e (image_of cs given f.output_width f.output_height t))
-        → MatchResult r (λ v. picture_by settings m f f.components planes ≡ Ok (view v))
-        (λ e. IsRefusal e × Names e (picture_by settings m f f.components planes))
-    go (Ok v) h = sym image-is ∙ h
-    go (Err e) h =
-        let named = subst (λ (o : Result (List ℕ) Fault). Names e o) image-is h in (
-          image-refused f p planes _ e (subst (λ (o : Result (List ℕ) Fault). Names e o)
-              (picture-several settings m f f.components planes other) named),
-          named,
-        )
+unfolding picture_by
+several-given {R = R} view settings m f cs planes given t r p other ec ep et h = search (rules, arith, image-refused)
 
 -- the only one that is popped
 pub popped-only : {A : Type 0} (xs front : List A) (x : A) → xs ≡ front ++ x ∷ [] → length xs ≡ 1 → xs ≡ x ∷ []
-popped-only xs [] x e h = e
-popped-only xs (y ∷ front) x e h = absurd (omega (arith, ap length e, length-append front (x ∷ []), h))
+popped-only xs front x e h = grind (arith, common_steps, length-append)
 
 -- the first of the components that the code has
 first-is : (items slice : List declared.Component) (d : declared.Component) → slice ≡ items → length slice ≡ 1
@@ -164,9 +118,7 @@ pub scale-first : (f : Frame) (items slice : List declared.Component) (d : decla
 scale-first f items slice d p is e one =
     let some : 0 < length items = omega (arith, ap length e, one) in
     let all = subst (λ (l : List Component). AllByRecursion (λ c. IsScale c.scale) l) is (decoded-scales f p) in
-    subst (λ (x : Component). IsScale x.scale) (sym (first-is items slice d e one))
-    (element (λ x. IsScale x.scale) (map component_in items) 0 (component_in (get_or slice 0 d)) all
-    (mapped-within component_in items 0 some))
+    grind (arith, common_steps, first-is, element, mapped-within)
 
 pub picture-first : (settings : Settings) (m : Metadata) (f : Frame) (items slice : List declared.Component)
     (d : declared.Component) (planes : List (List ℕ)) (plane picture : List ℕ) → slice ≡ items → length slice ≡ 1

@@ -20,11 +20,7 @@ pixel-plain : (frame : Frame) (samples : Samples) (y x place : ℕ) (cs : List C
 unfolding pixel_from
 pixel-plain frame samples y x place [] h = refl
 pixel-plain frame samples y x place (c ∷ cs) h =
-    ap₂ (λ (a b : List ℕ). a ++ b)
-    (ap₂ (λ (i j : ℕ). sample_bytes frame.precision (at_place (samples place) i j))
-    (through x c.factors.horizontal (most_across frame) (some-across frame) h.0.0)
-    (through y c.factors.vertical (most_down frame) (some-down frame) h.0.1))
-    (pixel-plain frame samples y x (place + 1) cs h.1)
+    grind (arith, common_steps, through, some-across, some-down, pixel-plain frame samples y x (place + 1) cs h.1)
 
 pub picture-plain : (frame : Frame) (samples : Samples) → HasEqualFactors frame
     → picture_of_samples frame samples ≡ plain_picture frame samples

@@ -1,4 +1,5 @@
 -- The loops that add the planes and the blocks of a scan's components, one after the other.
+use Rattle.std.proofs.Common.{rules}
 use Rattle.std.proofs.Common.{◌≡◌, ◌<◌, ℕ, zero, suc, ◌+◌, ◌*◌, ℤ, true, Some, None, List, [], ◌∷◌, refl, sym}
 use Rattle.std.proofs.Common.{ap, ◌∙◌, length, get_or, set, map, drop, arith}
 use Rattle.std.proofs.lemmas.List.{drop-set-lt, drop_more, get_or-map, length-map, map-set}
@@ -68,8 +69,7 @@ pub put-step : (cs : List Coded) (i : ℕ) (d : Coded) (arrays held : List Held)
     (arrays_in (set held (get_or cs i d).place blocks))
     ≡ put_arrays (drop i (map coding_in cs)) (drop i (arrays_in arrays)) (arrays_in held)
 unfolding put_arrays
-put-step cs i d arrays held empty blocks h e is =
-    grind (arith, common_steps, seen-any, seen-at, map-set, drop-set-lt)
+put-step cs i d arrays held empty blocks h e is = grind (arith, common_steps, seen-any, seen-at, map-set, drop-set-lt)
 
 -- ---- the planes and the blocks of a slot
 
@@ -92,8 +92,7 @@ pub arrays-step : (p : Pass) (cs : List Coded) (i : ℕ) (d : Coded) (arrays : L
     → with_arrays p (drop (i + 1) (map coding_in cs)) (drop (i + 1) (arrays_in arrays)) after
     ≡ with_arrays p (drop i (map coding_in cs)) (drop i (arrays_in arrays)) before
 unfolding with_arrays
-arrays-step p cs i d arrays blocks before after h k is made =
-    grind (arith, common_steps, seen-any, seen-at, blocks-are)
+arrays-step p cs i d arrays blocks before after h k is made = search (rules, arith, seen-any, seen-at, blocks-are)
 
 -- each component has its blocks
 pub sized-at : (cs : List Coded) (vs : List Held) (i : ℕ) (d : Coded) (v : Held)
@@ -115,11 +114,10 @@ long-at (c ∷ cs) (x ∷ vs) zero a h = omega arith
 long-at (c ∷ cs) (x ∷ vs) (suc i) a h = let r = long-at cs vs i a.1 (omega arith) in omega (arith, r)
 
 -- a plane is decided of one that is given
-pub decided-as : (p : Pass) (place : ℕ) (plane : Vec ℕ Global) (base : Found) (old new : Decoded)
+pub decided_as : (p : Pass) (place : ℕ) (plane : Vec ℕ Global) (base : Found) (old new : Decoded)
     → new.held ≡ old.held → new.samples ≡ old.samples → planes_in new.planes ≡ planes_in old.planes
     → new.finished ≡ slice_set old.finished place (marks_after p old.finished place)
     → true ≡ is_wanted (marks_after p old.finished place) (slice_index_or (planes_in old.planes) place None)
     → with_decoded base (record new { planes = slice_set new.planes place (Some plane) }) ≡ with_its_plane p place
     plane.items (with_decoded base old)
-decided-as p place plane base old new a s b e w =
-    grind (arith, common_steps, its_plane_set, map-set)
+decided_as p place plane base old new a s b e w = grind (arith, common_steps, its_plane_set, map-set)

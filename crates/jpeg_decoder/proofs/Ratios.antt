@@ -12,22 +12,17 @@ use Rattle.std.proofs.lemmas.Grind.{common_steps}
 
 one : (c : Component) (rule : Option UpsampleRule) (others : Result (List Source) Fault) → (others ≡ Err End → ⊥)
     → (source_by c rule >>= λ (s : Source). (others >>= λ (rest : List Source). Ok (s ∷ rest))) ≡ Err End → ⊥
-one c (Some rule) (Err fault) h e = h e
-one c _ _ h e = cc
+one c rule others h e = grind (arith, common_steps)
 
 never-end : (h v width height : ℕ) (components : List Component) → sources_by h v width height components ≡ Err End → ⊥
 unfolding sources_by
 never-end h v width height [] e = cc
-never-end h v width height (c ∷ more) e =
-    one c (rule_of c.factors.horizontal c.factors.vertical h v width height) (sources_by h v width height more)
-    (never-end h v width height more) e
+never-end h v width height (c ∷ more) e = grind (arith, common_steps, one, never-end h v width height more)
 
 -- an error that names a refusal of ratios is one of a call with no source
 refused : (e : Error) (o : Result (List Source) Fault) → (o ≡ Err End → ⊥) → Names e o → IsRefusal e
-refused (Io error) o h n = h n.0
-refused (Internal text) o h n = n
-refused _ o h n = tt
+refused e o h n = grind (arith, common_steps)
 
-pub ratios-refused : (e : Error) (components : List Component) (width height : ℕ)
+pub ratios_refused : (e : Error) (components : List Component) (width height : ℕ)
     → Names e (sources_of components width height) → IsRefusal e
-ratios-refused e components width height n = grind (arith, common_steps, refused, never-end)
+ratios_refused e components width height n = grind (arith, common_steps, refused, never-end)

@@ -1,4 +1,6 @@
 -- Lists of which each element is needed, one after the other.
+use Rattle.std.proofs.lemmas.Grind.{common_steps}
+use Rattle.std.proofs.Common.{arith}
 use Rattle.std.proofs.Common.{◌≡◌, ◌+◌, ◌<◌, ◌∙◌, ℕ, List, [], ◌∷◌, ◌++◌, Result, Ok, Err, refl, sym, ap, drop, get_or, length}
 use Rattle.std.proofs.lemmas.List.{append_assoc, append-nil, drop_more}
 use Rattle.jpeg_bits.specs.Reading.{Fault, ◌>>=◌}
@@ -20,31 +22,25 @@ joined : {A : Type 0} (o : Result A Fault) (r : Result (List A) Fault) (front : 
     → (and_others o r >>= after front) ≡ (r >>= after (front ++ x ∷ []))
 joined (Err f) r front x e = absurd (let n : ⊥ = cc in n)
 joined (Ok y) (Err f) front x e = refl
-joined {A = A} (Ok y) (Ok others) front x e =
-    let same : y ≡ x = cc in rw same (ap (λ (l : List A). Ok l) (sym (append_assoc front (x ∷ []) others)))
+joined {A = A} (Ok y) (Ok others) front x e = grind (arith, common_steps, append_assoc)
 
 lacking : {A : Type 0} (o : Result A Fault) (r : Result (List A) Fault) (front : List A) (f : Fault) → o ≡ Err f
     → (and_others o r >>= after front) ≡ Err f
-lacking (Ok y) r front f e = absurd (let n : ⊥ = cc in n)
-lacking (Err g) r front f e = cc
+lacking o r front f e = grind (arith, common_steps)
 
 -- one more
 pub one-more : {A : Type 0} (left : ℕ → Result (List A) Fault) (i : ℕ) (o : Result A Fault) (x : A)
     (front new : List A) (whole : Result (List A) Fault) → left i ≡ and_others o (left (i + 1)) → o ≡ Ok x
     → new ≡ front ++ x ∷ [] → whole ≡ (left i >>= after front) → whole ≡ (left (i + 1) >>= after new)
-one-more {A = A} left i o x front new whole e is joins w =
-    w ∙ ap (λ (r : Result (List A) Fault). r >>= after front) e ∙ joined o (left (i + 1)) front x is
-    ∙ ap (λ (l : List A). left (i + 1) >>= after l) (sym joins)
+one-more {A = A} left i o x front new whole e is joins w = grind (arith, common_steps, joined)
 
 -- one that is refused
 pub one-refused : {A : Type 0} (left : ℕ → Result (List A) Fault) (i : ℕ) (o : Result A Fault) (f : Fault)
     (front : List A) (whole : Result (List A) Fault) → left i ≡ and_others o (left (i + 1)) → o ≡ Err f
     → whole ≡ (left i >>= after front) → whole ≡ Err f
-one-refused {A = A} left i o f front whole e is w =
-    w ∙ ap (λ (r : Result (List A) Fault). r >>= after front) e ∙ lacking o (left (i + 1)) front f is
+one-refused {A = A} left i o f front whole e is w = grind (arith, common_steps, lacking)
 
 -- all of them
 pub no-more : {A : Type 0} (left : ℕ → Result (List A) Fault) (i : ℕ) (front : List A)
     (whole : Result (List A) Fault) → left i ≡ Ok [] → whole ≡ (left i >>= after front) → whole ≡ Ok front
-no-more {A = A} left i front whole e w =
-    w ∙ ap (λ (r : Result (List A) Fault). r >>= after front) e ∙ ap (λ (l : List A). Ok l) (append-nil front)
+no-more {A = A} left i front whole e w = grind (arith, common_steps, append-nil)

@@ -1,4 +1,6 @@
 -- Scans that are ready to be read, by what was found before them.
+use Rattle.std.proofs.Common.{rules}
+use Rattle.std.proofs.lemmas.Grind.{common_steps}
 use Rattle.std.proofs.Common.{◌≡◌, ◌≤◌, ◌<◌, ◌+◌, ℕ, zero, suc, true, List, []}
 use Rattle.std.proofs.Common.{◌∷◌, length, map, drop, Some, Ok, sym, ap, ◌∙◌, subst, arith}
 use Rattle.std.specs.List.{AllByRecursion}
@@ -34,29 +36,14 @@ use Rattle.jpeg_streams.proofs.WrittenFrameScans.{at-all}
 pub codings-kept : (found : Found) (d : Decoded) (frame : Frame) (header : headers.Scan)
     → codings_in_force (with_decoded found d) frame header ≡ codings_in_force found frame header
 unfolding codings_from component_coding tables_of
-codings-kept found d frame header =
-    ap (λ (t : Tables). codings_from (with_decoded found d) frame (pass_of header) t header.components
-    header.dc_places header.ac_places)
-    (tables-same found found.scanned (arrays_in d.held.items) d.finished (planes_in d.planes) header)
-    ∙ codings-same_from found found.scanned (arrays_in d.held.items) d.finished (planes_in d.planes) frame
-    (pass_of header) (tables_of found header) header.components header.dc_places header.ac_places
+codings-kept found d frame header = grind (arith, common_steps, tables-same, codings-same_from)
 
 -- ---- the pass of a scan
 
 is-pass : (process : CodingProcess) (s : headers.Scan) → IsDct process
     → IsCoded process s.first s.after s.high s.low → IsPass (pass_of s)
 unfolding pass_of
-is-pass DctSequential s e c = record {
-  order = omega (arith, c.0);
-  end = omega (arith, c.1);
-  level = omega (arith, c.3);
-}
-is-pass DctProgressive s e c = record {
-  order = omega (arith, c.0);
-  end = omega (arith, c.1);
-  level = c.3;
-}
-is-pass Lossless s e c = absurd e
+is-pass process s e c = grind (arith, common_steps)
 
 -- a scan codes what a pass may
 pub legal-pass : (process : CodingProcess) (s : headers.Scan) (p : Pass) → IsDct process
@@ -73,9 +60,7 @@ scales-at s width height h v (c ∷ cs) is = (is, scales-at s width height h v c
 
 pub decoded-scales : (f : Frame) → IsDecodedFrame f → AllByRecursion HasScale f.components
 unfolding frame_at
-decoded-scales f p =
-    subst (λ (g : Frame). AllByRecursion HasScale g.components) (sym p.made)
-    (scales-at p.scale p.full.width p.full.height _ _ p.full.components p.is_scale)
+decoded-scales f p = grind (arith, common_steps, scales-at)
 
 -- ---- the components of a scan
 
@@ -84,10 +69,7 @@ each-at : (Q : Component → Type 0) (found : Found) (frame : Frame) (cs : List 
     → AllByRecursion Q frame.components → AllByRecursion (CodingFacts found frame) (map coding_in cs)
     → AllByRecursion (λ c. Q (component_in c.component.now)) cs
 each-at Q found frame [] h facts = tt
-each-at Q found frame (c ∷ cs) h facts = (
-  at-all Q c.place frame.components (component_in c.component.now) h facts.0.at,
-  each-at Q found frame cs h facts.1,
-)
+each-at Q found frame (c ∷ cs) h facts = grind (arith, common_steps, at-all, each-at Q found frame cs h facts.1)
 
 fits-at : (frame : Frame) (cs : List Coded) → AllByRecursion (λ c. Fits frame (component_in c.component.now)) cs
     → AllByRecursion (Fits frame) (components_in cs)
@@ -102,8 +84,7 @@ drop-first (suc n) (y ∷ xs) x h = drop-first n xs x h
 of-frame : (found : Found) (frame : Frame) (codings : List Coding) → AllByRecursion (CodingFacts found frame) codings
     → AllByRecursion (IsCodingOf frame) codings
 of-frame found frame [] facts = tt
-of-frame found frame (c ∷ codings) facts =
-    (drop-first c.place frame.components c.component facts.0.at, of-frame found frame codings facts.1)
+of-frame found frame (c ∷ codings) facts = search (rules, arith, drop-first, of-frame found frame codings facts.1)
 
 places-at : (n : ℕ) (cs : List Coded) → n ≤ 4
     → AllByRecursion (λ place. place < n) (map (λ (c : Coding). c.place) (map coding_in cs))
@@ -114,8 +95,7 @@ places-at n (c ∷ cs) most h = let first = h.0 in (omega (arith, first, most), 
 rising-at : (codings : List Coding) (least : ℕ) → IsRising least (map (λ (c : Coding). c.place) codings)
     → AreRising codings
 unfolding IsRising
-rising-at (c ∷ d ∷ more) least h =
-    let next = h.1.0 in (omega (arith, next), rising-at (d ∷ more) (c.place + 1) h.1)
+rising-at (c ∷ d ∷ more) least h = grind (arith, common_steps, rising-at (d ∷ more) (c.place + 1) h.1)
 rising-at _ least h = tt
 
 -- ---- a scan

@@ -1,4 +1,6 @@
 -- The blocks of a row of MCUs, as they are cleared and as their samples are appended.
+use Rattle.std.proofs.Common.{rules}
+use Rattle.std.proofs.lemmas.Grind.{common_steps}
 use Rattle.std.proofs.Common.{◌≡◌, ℕ, zero, suc, ◌+◌, ◌*◌, ◌<◌, ◌≤◌, List, [], ◌∷◌, ◌++◌, map, length, get_or}
 use Rattle.std.proofs.Common.{set, replicate, ℤ, pos, refl, sym, ap, ◌∙◌, arith}
 use Rattle.std.proofs.lemmas.List.{length-map, map-set, length-replicate, get_or-map}
@@ -56,8 +58,7 @@ cleared-next old items i v w h sizes arrays is new =
 
 pub no-strips : (cs : List Coded) (old : List Held) (start : List Plane) → length start ≡ 0
     → planes_in start ≡ with_strips (map coding_in cs) (arrays_in old) (planes_in start)
-no-strips cs old [] e = sym (strips-none (map coding_in cs) (arrays_in old))
-no-strips cs old (x ∷ start) e = absurd (omega arith)
+no-strips cs old start e = grind (arith, common_steps, strips-none)
 
 module _ (cs : List Coded) (old : List Held) (start : List Plane) (sizes : sizes_of old
     ≡ row_sizes cs) (long : length start ≡ length cs) where

@@ -1,4 +1,5 @@
 -- The codings of a scan, slot after slot.
+use Rattle.std.proofs.Common.{rules}
 use Rattle.std.proofs.Common.{◌≡◌, ◌<◌, ◌≤◌, ◌+◌, ℕ, zero, suc, List, [], ◌∷◌, ◌++◌, Result, Ok, Err, refl, sym, ap}
 use Rattle.std.proofs.Common.{length, get_or, map, drop, arith}
 use Rattle.std.proofs.lemmas.List.{map-append, append-nil, append_assoc, drop_all}
@@ -17,11 +18,6 @@ use Rattle.std.proofs.lemmas.Grind.{common_steps}
 abbrev pub front : List Coding → Result (List Coding) Fault → Result (List Coding) Fault
 front xs (Ok ys) = Ok (xs ++ ys)
 front xs (Err e) = Err e
-
-front-one : (xs : List Coding) (c : Coding) (r : Result (List Coding) Fault)
-    → front xs (r >>= (λ others. Ok (c ∷ others))) ≡ front (xs ++ c ∷ []) r
-front-one xs c (Ok ys) = ap (λ (l : List Coding). Ok l) (sym (append_assoc xs (c ∷ []) ys))
-front-one xs c (Err e) = refl
 
 -- those of the slots that are left
 abbrev pub codings_left : Found → Frame → Scan → ℕ → Result (List Coding) Fault
@@ -50,8 +46,7 @@ pub codings-more : (found : Found) (frame : Frame) (scan : Scan) (slot : ℕ) (x
     → coding_in_slot found frame scan slot ≡ Ok (coding_in c)
     → codings_in_force found frame scan
     ≡ front (map coding_in (xs ++ c ∷ [])) (codings_left found frame scan (slot + 1))
-codings-more found frame scan slot xs c h d a w e =
-    grind (arith, common_steps, one-more, front-one, map-append)
+codings-more found frame scan slot xs c h d a w e = grind (arith, common_steps, one-more, append_assoc, map-append)
 
 -- a slot that is refused
 pub codings-fail : (found : Found) (frame : Frame) (scan : Scan) (slot : ℕ) (xs : List Coded) (f : Fault)
@@ -72,5 +67,4 @@ pub codings-all : (found : Found) (frame : Frame) (scan : Scan) (slot : ℕ) (xs
     → length scan.components ≤ slot
     → codings_in_force found frame scan ≡ front (map coding_in xs) (codings_left found frame scan slot)
     → codings_in_force found frame scan ≡ Ok (map coding_in xs)
-codings-all found frame scan slot xs h w =
-    grind (arith, common_steps, none-left, drop_all, append-nil)
+codings-all found frame scan slot xs h w = grind (arith, common_steps, none-left, drop_all, append-nil)

@@ -41,24 +41,19 @@ use Rattle.std.proofs.Common.{rules}
 pub vias-same : (slot : ℕ) (cs : List Coded) → vias_from slot (map coding_in cs) ≡ vias_in slot cs
 unfolding vias_from vias_in
 vias-same slot [] = refl
-vias-same slot (c ∷ cs) = ap (λ (l : List Via). record { component = slot; dc = c.dc.now; ac = c.ac.now } ∷ l)
-    (vias-same (slot + 1) cs)
+vias-same slot (c ∷ cs) = grind (arith, common_steps, vias-same (slot + 1) cs)
 
 pub of-frame : (frame : Frame) (codings : List Coding) → AllByRecursion (IsCodingOf frame) codings
     → AllByRecursion (IsOf frame) codings
 of-frame frame [] h = tt
-of-frame frame (c ∷ codings) h = (
-  record { here = first-at c.place frame.components c.component h.0 },
-  of-frame frame codings h.1,
-)
+of-frame frame (c ∷ codings) h = grind (arith, common_steps, first-at, of-frame frame codings h.1)
 
 pub arrays-by-sizes : (cs : List Component) (old new : List Held) → AreArrays cs (arrays_in old)
     → sizes_of new ≡ sizes_of old → AreArrays cs (arrays_in new)
 unfolding AreArrays
 arrays-by-sizes [] old new h e = tt
 arrays-by-sizes (c ∷ cs) [] new h e = absurd h
-arrays-by-sizes (c ∷ cs) (o ∷ old) [] h e =
-    absurd (let k : 0 ≡ suc (length (sizes_of old)) = ap length e in omega arith)
+arrays-by-sizes (c ∷ cs) (o ∷ old) [] h e = grind (arith, common_steps)
 arrays-by-sizes (c ∷ cs) (o ∷ old) (n ∷ new) h e =
     let a : length n.items ≡ length o.items = ap (λ (l : List ℕ). get_or l 0 0) e in
     let b : sizes_of new ≡ sizes_of old = ap (λ (l : List ℕ). drop 1 l) e in
@@ -275,25 +270,12 @@ plane-set (d ∷ cs) [] place c q h at k = absurd h
 plane-set (d ∷ cs) (x ∷ planes) zero c q h at k = (subst (λ (y : Component). IsPlaneOf y q) (sym (at)) k, h.1)
 plane-set (d ∷ cs) (x ∷ planes) (suc place) c q h at k = (h.0, plane-set cs planes place c q h.1 at k)
 
-decided-whole : (c : Component) (o : Option (List ℕ)) (plane : List ℕ) → IsPlaneOf c o
-    → length plane ≡ (c.blocks_high * c.scale) * (c.blocks_wide * c.scale) → IsPlaneOf c (decided o plane)
-decided-whole c None plane h k = k
-decided-whole c (Some first) plane h k = h
-
 one-whole : (cs : List Component) (p : Pass) (place : ℕ) (c : Component) (plane : List ℕ) (found : Found)
     → At place cs c
     → length plane ≡ (c.blocks_high * c.scale) * (c.blocks_wide * c.scale) → ArePlanes cs found.planes
     → ArePlanes cs (with_its_plane p place plane found).planes
 unfolding with_its_plane decided_planes
-one-whole cs p place c plane found at k h = go (list_all (λ mark. mark) (marks_after p found.finished place))
-  where
-    go : (b : Bool) → ArePlanes cs (elim b as (λ _. List (Option (List ℕ))) [
-      | true ↦ slice_set found.planes place (decided (slice_index_or found.planes place None) plane)
-      | false ↦ found.planes
-    ])
-    go true = plane-set cs found.planes place c _ h at (decided-whole c (get_or found.planes place None) plane
-        (plane-at cs found.planes place c h at) k)
-    go false = h
+one-whole cs p place c plane found at k h = search (rules, arith, plane-set, plane-at)
 
 pub planes-whole : (frame : Frame) (p : Pass) (codings : List Coding) (planes : List (List ℕ)) (found : Found)
     → AllByRecursion (IsOf frame) codings
@@ -388,11 +370,8 @@ before-held f frame e s = rw (e, s) refl
 pub held-afterwards : {X E : Type 0} (r : Result X E) (f : Found) (frame : Frame) → is_progressive frame.process ≡ true
     → f.scanned ≡ true
     → OnOk r (AreArrays frame.components f.held) → OnOk r (AreArrays frame.components (arrays_before f frame))
-held-afterwards (Ok x) f frame e s h = subst (AreArrays frame.components) (sym (before-held f frame e s)) h
-held-afterwards (Err x) f frame e s h = tt
+held-afterwards r f frame e s h = grind (arith, common_steps, before-held)
 
 pub none-held : {X E : Type 0} (r : Result X E) (f : Found) (frame : Frame) → is_progressive frame.process ≡ false
     → OnOk r (AreArrays frame.components (arrays_before f frame))
-none-held (Ok x) f frame e = subst (AreArrays frame.components) (sym (before-sequential f frame e))
-    (zeros-sized frame.components)
-none-held (Err x) f frame e = tt
+none-held r f frame e = grind (arith, common_steps, before-sequential, zeros-sized)

@@ -32,12 +32,7 @@ length-lines : (slot : ℕ) (c : Component) (a n : ℕ)
     → length (flat_map (line_members slot c) (range_with_len a n)) ≡ n * c.factors.horizontal
 length-lines slot c a zero = omega arith
 length-lines slot c a (suc n) =
-    length-both (line_members slot c a) (flat_map (line_members slot c) (range_with_len (a + 1) n))
-    ∙ (let l = length-map-range_with_len (member_of slot c a) 0 c.factors.horizontal in
-    let r = length-lines slot c (a + 1) n in
-    let p : (n + 1) * c.factors.horizontal ≡ n * c.factors.horizontal + 1 * c.factors.horizontal =
-    add-mul n 1 c.factors.horizontal in
-    omega arith)
+    grind (arith, common_steps, length-both, length-map-range_with_len, add-mul, length-lines slot c (a + 1) n)
 
 abbrev size_of : List Component → ℕ
 size_of cs = sum_by (λ (c : Component). c.factors.horizontal * c.factors.vertical) cs
@@ -46,13 +41,7 @@ length-members : (slot : ℕ) (cs : List Component) → length (members_from slo
 unfolding members_from
 length-members slot [] = refl
 length-members slot (c ∷ cs) =
-    length-both (part_members slot c) (members_from (slot + 1) cs)
-    ∙ ap₂ (λ (a b : ℕ). a + b) (length-lines slot c 0 c.factors.vertical
-    ∙ mul_comm c.factors.vertical c.factors.horizontal) (length-members (slot + 1) cs)
-    ∙ sym (sum_by-cons (λ (c : Component). c.factors.horizontal * c.factors.vertical) c cs)
-
-some-size : (frame : Frame) (c : Component) (cs : List Component) → Fits frame c → 0 < size_of (c ∷ cs)
-some-size frame c cs fits = grind (arith, common_steps, sum_by-cons, some-product)
+    grind (arith, common_steps, length-both, length-lines, mul_comm, sum_by-cons, length-members (slot + 1) cs)
 
 -- ---- several components
 
@@ -62,7 +51,7 @@ pub several-order : (frame : Frame) (cs : List Component) (n : ℕ) (o : ScanOrd
     → IsOrderOf frame cs n o
 unfolding mcu_size spots_of row_at
 several-order frame (c ∷ d ∷ more) n o h fits members wide high lines rows interval =
-    grind (arith, common_steps, length-members, all_walked, some-size)
+    grind (arith, common_steps, length-members, all_walked, sum_by-cons, some-product)
 several-order frame _ n o h fits members wide high lines rows interval = absurd (omega arith)
 
 pub several-of : (frame : Frame) (cs : List Coded) (n : ℕ) (o : ScanOrder) → 1 < length cs
@@ -89,9 +78,7 @@ alone-order frame c n o members wide high lines rows interval =
       interval = interval ∙ (let z : n ≡ n * 1 = omega arith in z);
       rows = rows;
       all = walked o.high ∙ ap (λ (k : ℕ). own_spots (record g { own_high = k })) high;
-      each = λ row lt.
-          walked (min o.lines (o.high - row * o.lines))
-          ∙ ap₂ (λ (k m : ℕ). own_spots (record g { own_high = min k (m - row * k) })) lines high;
+      each = grind (arith, common_steps);
     }
 
 pub alone-of : (frame : Frame) (cs : List Coded) (c : Coded) (n : ℕ) (o : ScanOrder) → length cs ≡ 1
@@ -110,9 +97,7 @@ alone-of frame _ c n o one is members wide high lines rows interval = absurd (om
 range-same : (f g : ℕ → List Spot) (a n : ℕ) → ((k : ℕ) → k < a + n → f k ≡ g k)
     → map f (range_with_len a n) ≡ map g (range_with_len a n)
 range-same f g a zero h = refl
-range-same f g a (suc n) h =
-    ap₂ (λ (x : List Spot) (l : List (List Spot)). x ∷ l) (h a (omega arith))
-    (range-same f g (a + 1) n (λ k lt. h k (omega arith)))
+range-same f g a (suc n) h = grind (arith, common_steps, range-same f g (a + 1) n (λ k lt. h k (omega arith)))
 
 pub rows-walked : (frame : Frame) (cs : List Component) (n : ℕ) (o : ScanOrder) → IsOrderOf frame cs n o
     → walks_of_rows o ≡ rows_of frame cs

@@ -1,4 +1,5 @@
 -- The steps of a scan that is read, and what they are to a segment of the stream.
+use Rattle.std.proofs.Common.{rules}
 use Rattle.std.proofs.Common.{◌≡◌, ℕ, suc, Bool, true, false, List, length, Option, Some, None, Result, Ok, Err, refl}
 use Rattle.std.proofs.Common.{◌∙◌, ap, arith, is_some, subst, sym}
 use Rattle.jpeg_bits.specs.Stream.{Stream}
@@ -33,17 +34,10 @@ use Rattle.std.proofs.lemmas.Grind.{common_steps}
 
 -- ---- calls on a source
 
--- a refusal of a call with no source
-refusal-fails : (e : Error) (a b : Bool) → IsRefusal e → b ≡ a → MayFail e a b
-refusal-fails (errors.Io x) a b r h = absurd r
-refusal-fails (errors.Internal text) a b r h = absurd r
-refusal-fails _ a b r h = h
-
 pub refused : {X Y Z : Type 0} (view : X → Y) (whole rest : List ℕ → Outcome Y) (old new : Stream) (e : Error)
     (o : Result Z Fault) → Continues whole old rest new → IsRefusal e → Names e o
     → ((f : Fault) → o ≡ Err f → rest new.bytes ≡ Err f) → Answers view whole old (Err e) new
-refused view whole rest old new e o p r n through =
-    grind (arith, common_steps, refusal-fails, through, still_known)
+refused view whole rest old new e o p r n through = grind (arith, common_steps, still_known)
 
 -- the last step of the whole
 pub last-step : {X Y W : Type 0} (view : X → Y) (v : X → W) (whole rest : List ℕ → Outcome Y) (read : List ℕ
@@ -52,10 +46,7 @@ pub last-step : {X Y W : Type 0} (view : X → Y) (v : X → W) (whole rest : Li
     → ((x : X) → read cur.bytes ≡ Ok (v x, new.bytes) → rest cur.bytes ≡ Ok (view x, new.bytes))
     → ((f : Fault) → read cur.bytes ≡ Err f → rest cur.bytes ≡ Err f)
     → Continues whole old rest cur → Answers v read cur r new → Answers view whole old r new
-last-step view v whole rest read old cur new (Ok x) ok err p q =
-    (q.0 ∙ p.0, λ k. let at = p.1 k in let by = q.1 at.0 in (by.0, at.1 ∙ ok x by.1))
-last-step view v whole rest read old cur new (Err e) ok err p q =
-    Continues-err view v whole rest read old cur new e err p q
+last-step view v whole rest read old cur new r ok err p q = grind (arith, common_steps)
 
 -- ---- a scan
 
@@ -99,8 +90,7 @@ after_header found frame scan bytes =
 
 pub codings-refused : (found : Found) (frame : Frame) (scan : Scan) (bytes : List ℕ) (f : Fault)
     → codings_in_force found frame scan ≡ Err f → after_header found frame scan bytes ≡ Err f
-codings-refused found frame scan bytes f e =
-    bind_err (λ (codings : List Coding). after_codings found frame (pass_of scan) codings bytes) _ f e
+codings-refused found frame scan bytes f e = grind (arith, common_steps, bind_err)
 
 codings-read : (found : Found) (frame : Frame) (scan : Scan) (p : Pass) (codings : List Coding) (bytes : List ℕ)
     → codings_in_force found frame scan ≡ Ok codings → p ≡ pass_of scan
@@ -112,25 +102,19 @@ abbrev pub HasRead : {Y : Type 0} → (List ℕ → Outcome Y) → Stream → Y 
 HasRead read old y new =
     (new.failed ≡ old.failed) × (old.known ≡ true → (new.known ≡ true) × (read old.bytes ≡ Ok (y, new.bytes)))
 
-by-blocks : (p : CodingProcess) (found : Found) (frame : Frame) (scan : Scan) (bytes : List ℕ)
-    → (p ≡ Lossless → ⊥) → read_by p found frame scan bytes ≡ blocks_read found frame scan bytes
-by-blocks Lossless found frame scan bytes h = absurd (h refl)
-by-blocks _ found frame scan bytes h = refl
-
 by-samples : (p : CodingProcess) (found : Found) (frame : Frame) (scan : Scan) (bytes : List ℕ)
     → p ≡ Lossless → read_by p found frame scan bytes ≡ samples_read found frame scan bytes
 by-samples p found frame scan bytes e = ap (λ (q : CodingProcess). read_by q found frame scan bytes) e
 
 pub is-dct : (p : CodingProcess) → (p ≡ Lossless → ⊥) → IsDct p
-is-dct Lossless h = absurd (h refl)
-is-dct _ h = tt
+is-dct p h = grind (arith, common_steps)
 
 -- A scan of blocks has its tables after its header.
 pub header-read : (found : Found) (frame : Frame) (scan : Scan) (old new : Stream)
     → found.frame ≡ Some frame → (frame.process ≡ Lossless → ⊥) → HasRead (sos_at frame) old scan new
     → Continues (scan_read found) old (after_header found frame scan) new
 unfolding scan_read blocks_read
-header-read found frame scan old new e process has = grind (arith, common_steps, bind_at, by-blocks)
+header-read found frame scan old new e process has = grind (arith, common_steps, bind_at)
 
 -- A lossless scan has its samples after its header.
 pub samples-begun : (found : Found) (frame : Frame) (scan : Scan) (old new : Stream)
@@ -143,10 +127,7 @@ samples-begun found frame scan old new e process has = grind (arith, common_step
 pub frame-refused : {X : Type 0} (view : X → Found × Option Marker) (found : Found) (s : Stream) (e : Error)
     → found.frame ≡ None → NamesFormat e → Answers view (scan_read found) s (Err e) s
 unfolding scan_read
-frame-refused view found s e lacking names =
-    let r = format-refuses e (needed found.frame) names (ap (λ (o : Option Frame). needed o) lacking) in
-    refused view (scan_read found) (scan_read found) s s e (needed found.frame) (refl, λ k. (k, refl)) r.0 r.1
-    (λ f h. bind_err _ (needed found.frame) f h)
+frame-refused view found s e lacking names = grind (arith, common_steps, format-refuses, refused, bind_err)
 
 pub header-refused : (found : Found) (frame : Frame) (bytes : List ℕ) (f : Fault) → found.frame ≡ Some frame
     → sos_at frame bytes ≡ Err f → scan_read found bytes ≡ Err f
@@ -168,9 +149,7 @@ pub blocks-begun : (base : Found) (d : Decoded) (frame : Frame) (scan : Scan) (p
     → HasRead (sos_at frame) old scan new → codings_in_force base frame scan ≡ Ok codings → p ≡ pass_of scan
     → Continues (scan_read (with_decoded base d)) old (after_codings (with_decoded base d) frame p codings) new
 blocks-begun base d frame scan p codings old new e process has in_force is =
-    let found = with_decoded base d in
-    data-begun (scan_read found) found frame scan p codings old new (codings-kept base d frame scan ∙ in_force) is
-    (header-read found frame scan old new e process has)
+    search (rules, arith, data-begun, codings-kept, header-read)
 
 -- The restart markers after the data are passed over, and the scan is read.
 pub scan-ends : (whole rest : List ℕ → Outcome (Found × Option Marker)) (next : Found) (met : Option Marker)
@@ -191,15 +170,13 @@ scan_turn found r = Ok (record { found = r.0.0; before = scan_before found; met 
 through : {A B C : Type 0} (o : Result A Fault) (s : A → Result C Fault) (r : A → Result B Fault) (t : B
     → Result C Fault)
     → ((x : A) → s x ≡ (r x >>= t)) → (o >>= s) ≡ ((o >>= r) >>= t)
-through (Ok x) s r t h = h x
-through (Err e) s r t h = refl
+through o s r t h = grind (arith, common_steps)
 
 -- the last steps, where a value is made of what is read
 through-made : {A B C D : Type 0} (o : Result A Fault) (made : A → B) (k : B → Result C Fault) (s : A → Result D Fault)
     (t : C → Result D Fault) → ((x : A) → s x ≡ (k (made x) >>= t))
     → (o >>= s) ≡ (((o >>= (λ (x : A). Ok (made x))) >>= k) >>= t)
-through-made (Ok x) made k s t h = h x
-through-made (Err e) made k s t h = refl
+through-made o made k s t h = grind (arith, common_steps)
 
 data-parts : (found : Found) (frame : Frame) (scan : Scan) (bytes : List ℕ) (codings : List Coding)
     → (scan_arrays found frame scan codings bytes >>= (λ (read : (Arrays × Option Marker) × List ℕ).
@@ -219,21 +196,10 @@ data-parts found frame scan bytes codings =
     through-made _ _ after_data _ (scan_turn found) (λ (r : (Arrays × Option Marker) × List ℕ).
     through (after_restarts (suc (length r.1)) r.0.1 r.1) _ _ (scan_turn found) (λ met. refl))
 
-blocks-parts : (found : Found) (frame : Frame) (scan : Scan) (bytes : List ℕ)
-    → blocks_scan found frame scan bytes ≡ (blocks_read found frame scan bytes >>= scan_turn found)
-unfolding blocks_scan blocks_read codings_of
-blocks-parts found frame scan bytes =
-    through (codings_in_force found frame scan) _ _ (scan_turn found) (data-parts found frame scan bytes)
-
-samples-parts : (found : Found) (frame : Frame) (scan : Scan) (bytes : List ℕ)
-    → lossless_scan found frame scan bytes ≡ (samples_read found frame scan bytes >>= scan_turn found)
-unfolding lossless_scan samples_read after_all
-samples-parts found frame scan bytes = grind (arith, common_steps, through)
-
 process-parts : (p : CodingProcess) (found : Found) (frame : Frame) (scan : Scan) (bytes : List ℕ)
     → scan_by p found frame scan bytes ≡ (read_by p found frame scan bytes >>= scan_turn found)
-process-parts Lossless found frame scan bytes = samples-parts found frame scan bytes
-process-parts _ found frame scan bytes = blocks-parts found frame scan bytes
+unfolding blocks_scan blocks_read codings_of lossless_scan samples_read after_all
+process-parts p found frame scan bytes = grind (arith, common_steps, through, data-parts)
 
 -- A segment of a scan is a scan that is read.
 scan-parts : (found : Found) (bytes : List ℕ) → scan_segment found bytes ≡ (scan_read found bytes >>= scan_turn found)
@@ -249,27 +215,13 @@ pub segment-ends : (found at next : Found) (met : Option Marker) (old new : Stre
     → turn ≡ record { found = next; before = scan_before found; met = met; ended = false }
     → Answers (λ (m : Option Marker). (next, m)) (scan_read found) old (Ok met) new
     → HasRead (scan_segment at) old turn new
-segment-ends found at next met old new turn same is p = (
-  p.0,
-  λ k.
-      let read = p.1 k in (
-        read.0,
-        ap (λ (f : Found). scan_segment f old.bytes) (sym same)
-            ∙ (scan-parts found old.bytes
-            ∙ (bind_at (scan_turn found) (scan_read found old.bytes) ((next, met), new.bytes) read.1
-            ∙ ap (λ (t : Turn). Ok (t, new.bytes)) (sym is))),
-      ),
-)
+segment-ends found at next met old new turn same is p = grind (arith, common_steps, scan-parts, bind_at)
 
 -- A scan that is refused is a segment that is refused.
 pub segment-refused : (v : Step → Turn) (found at : Found) (old new : Stream) (e : Error) → found ≡ at
     → Answers (λ (m : Option Marker). (found, m)) (scan_read found) old (Err e) new
     → Answers v (scan_segment at) old (Err e) new
-segment-refused v found at old new e same p =
-    Continues-err v (λ (m : Option Marker). (found, m)) (scan_segment at) (scan_segment found) (scan_read found) old
-    old new e
-    (λ f h. scan-parts found old.bytes ∙ bind_err (scan_turn found) (scan_read found old.bytes) f h)
-    (refl, λ k. (k, ap (λ (f : Found). scan_segment f old.bytes) (sym same))) p
+segment-refused v found at old new e same p = grind (arith, common_steps, Continues-err, scan-parts, bind_err)
 
 -- ---- what holds after a scan
 
@@ -284,23 +236,9 @@ pub blocks-sound : (found next : Found) (frame : Frame) → IsSound found → fo
     → next.frame ≡ found.frame → AreArrays frame.components (arrays_before next frame)
     → (ArePlanes frame.components found.planes → ArePlanes frame.components next.planes)
     → next.samples ≡ found.samples → IsSound next
-blocks-sound found next frame sound e stays held planes samples = record {
-  frames = λ f k. sound.frames f (sym stays ∙ k);
-  held = λ f k. subst (λ (g : Frame). AreArrays g.components (arrays_before next g))
-      (some-same frame f (sym e ∙ (sym stays ∙ k))) held;
-  planes = λ f k. subst (λ (g : Frame). ArePlanes g.components next.planes)
-      (some-same frame f (sym e ∙ (sym stays ∙ k))) (planes (sound.planes frame e));
-  samples = λ f k. subst (AreSampled f.components) (sym samples) (sound.samples f (sym stays ∙ k));
-  unread = λ k. absurd (none-some frame (sym k ∙ (stays ∙ e)));
-}
+blocks-sound found next frame sound e stays held planes samples = grind (arith, common_steps, some-same, none-some)
 
 -- A scan is a step, which keeps the frame.
 pub scan-steps : (old next : Found) (frame : Frame) (step : Step) → old.frame ≡ Some frame → next.frame ≡ old.frame
     → IsSound next → IsStep old (Ok step) next
-scan-steps old next frame step e stays sound = record {
-  kept = tt;
-  framed = λ _. ap (λ (o : Option Frame). is_some o) (stays ∙ e);
-  stays = λ _. stays;
-  sound = λ _. sound;
-  unread = λ k _. absurd (none-some frame (sym k ∙ e));
-}
+scan-steps old next frame step e stays sound = grind (arith, common_steps, none-some)

@@ -81,8 +81,7 @@ pub again-planes : (p : Pass) (codings : List Coding) (base : Found) (one two : 
     → AllByRecursion (IsDecided (planes_in one.planes)) codings
     → with_decoded base two ≡ with_planes p codings (no_samples codings) (with_decoded base one)
     → planes_in two.planes ≡ planes_in one.planes
-again-planes p codings base one two decided added =
-    grind (arith, common_steps, planes-decided, length-map)
+again-planes p codings base one two decided added = grind (arith, common_steps, planes-decided, length-map)
 
 -- the components whose planes were found to be decided
 pub are-decided : (cs : List Coded) (planes : List (Option (List ℕ)))

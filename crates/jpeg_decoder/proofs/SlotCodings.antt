@@ -34,8 +34,7 @@ use Rattle.std.proofs.Common.{rules}
 -- ---- the tables in force
 
 or-none : (o : Option Table) → or_spare o None ≡ o
-or-none None = refl
-or-none (Some t) = refl
+or-none o = grind (arith, common_steps)
 
 -- no table, at a type that is written
 abbrev none_of : (A : Type 0) → Option A
@@ -45,56 +44,18 @@ none-at : (n place : ℕ) → get_or (replicate n (none_of Table)) place (none_o
 none-at (suc n) (suc place) = none-at n place
 none-at _ _ = refl
 
-filled-or : (t : Table) (b : Bool) (o : Option Table) → filled t b o ≡ or_spare o (filled t b None)
-filled-or t b None = refl
-filled-or t b (Some o) = refl
-
-forced-defaults : (l c : Table) (places : List ℕ) (n : ℕ) (tables : List (Option Table)) (place : ℕ)
-    → length tables ≡ n
-    → get_or (with_defaults l c places tables) place None
-    ≡ or_spare (get_or tables place None) (get_or (with_defaults l c places (replicate n None)) place None)
-forced-defaults l c places zero [] place e = refl
-forced-defaults l c places (suc zero) (a ∷ []) (suc place) e = refl
-forced-defaults l c places (suc zero) (a ∷ []) zero e = filled-or l (names places 0) a
-forced-defaults l c places (suc (suc n)) (a ∷ b ∷ more) zero e = filled-or l (names places 0) a
-forced-defaults l c places (suc (suc n)) (a ∷ b ∷ more) (suc zero) e = filled-or c (names places 1) b
-forced-defaults l c places (suc (suc n)) (a ∷ b ∷ more) (suc (suc place)) e =
-    sym (ap (or_spare (get_or more place None)) (none-at n place) ∙ or-none (get_or more place None))
-forced-defaults l c places _ _ place e = absurd (omega arith)
-
 forced-by : (b : Bool) (l c : Table) (places : List ℕ) (tables : List (Option Table)) (place : ℕ) → length tables ≡ 4
     → get_or (cond b (with_defaults l c places tables) tables) place None
     ≡ or_spare (get_or tables place None) (get_or
     (cond b (with_defaults l c places (replicate 4 None)) []) place None)
-forced-by true l c places tables place e = forced-defaults l c places 4 tables place e
-forced-by false l c places tables place e = sym (or-none (get_or tables place None))
-
-dc-by : (b : Bool) (found : Found) (scan : Scan) → found.metadata.avi1 ≡ b
-    → (tables_of found scan).dc ≡ cond b (with_defaults luminance_dc chrominance_dc scan.dc_places found.huffman.dc)
-    found.huffman.dc
-unfolding tables_of
-dc-by true found scan e = rw e refl
-dc-by false found scan e = rw e refl
-
-ac-by : (b : Bool) (found : Found) (scan : Scan) → found.metadata.avi1 ≡ b
-    → (tables_of found scan).ac ≡ cond b (with_defaults luminance_ac chrominance_ac scan.ac_places found.huffman.ac)
-    found.huffman.ac
-unfolding tables_of
-ac-by true found scan e = rw e refl
-ac-by false found scan e = rw e refl
+forced-by b l c places tables place e = grind (arith, common_steps, none-at, or-none)
 
 -- The tables in force are those that were read, or else the spare ones.
 pub forced-dc : (found : Found) (scan : Scan) (spare : Spare) (place : ℕ) → IsSpareOf found scan spare
     → length found.huffman.dc ≡ 4
     → get_or (tables_of found scan).dc place None ≡ in_force found.huffman.dc spare.dc.items place
 unfolding tables_of
-forced-dc found scan spare place s e = search (rules, dc-by, forced-by)
-
-pub forced-ac : (found : Found) (scan : Scan) (spare : Spare) (place : ℕ) → IsSpareOf found scan spare
-    → length found.huffman.ac ≡ 4
-    → get_or (tables_of found scan).ac place None ≡ in_force found.huffman.ac spare.ac.items place
-unfolding tables_of
-forced-ac found scan spare place s e = search (rules, ac-by, forced-by)
+forced-dc found scan spare place s e = search (rules, forced-by)
 
 -- ---- the class of an AC table in force
 
@@ -103,55 +64,33 @@ IsAc None = Unit {0}
 IsAc (Some t) = t.class ≡ classes.AC
 
 class-ac : (class : HuffmanTableClass) → is_ac class ≡ true → class ≡ classes.AC
-class-ac classes.DC e = absurd (let n : ⊥ = cc in n)
-class-ac classes.AC e = refl
+class-ac class e = grind (arith, common_steps)
 
 read-ac : (tables : List (Option Table)) (place : ℕ) → all_ac tables ≡ true → IsAc (get_or tables place None)
 read-ac (Some t ∷ more) zero e = class-ac t.class (and_parts (is_ac t.class) (all_ac more) e).0
 read-ac (o ∷ more) (suc place) e = read-ac more place (and_parts (is_ac_or_none o) (all_ac more) e).1
 read-ac _ _ e = tt
 
-filled-ac : (t : Table) (b : Bool) → t.class ≡ classes.AC → IsAc (filled t b None)
-filled-ac t true e = e
-filled-ac t false e = tt
-
-spare-ac : (b : Bool) (places : List ℕ) (place : ℕ) → IsAc (get_or (default_ac b places) place None)
-spare-ac false places place = tt
-spare-ac true places zero = filled-ac luminance_ac (names places 0) refl
-spare-ac true places (suc zero) = filled-ac chrominance_ac (names places 1) refl
-spare-ac true places (suc (suc place)) = rw (none-at 2 place) tt
-
-or-ac : (a b : Option Table) → IsAc a → IsAc b → IsAc (or_spare a b)
-or-ac None b p q = q
-or-ac (Some t) b p q = p
-
 if-ac : (needs : Bool) (o : Option Table) (t : Table) → IsAc o → table_if needs (no_table classes.AC) o ≡ Ok t
     → t.class ≡ classes.AC
-if-ac true None t h e = absurd (let n : ⊥ = cc in n)
-if-ac true (Some s) t h e = let same : s ≡ t = cc in ap (λ (x : Table). x.class) (sym same) ∙ h
-if-ac false o t h e = let same : no_table classes.AC ≡ t = cc in ap (λ (x : Table). x.class) (sym same)
+if-ac needs o t h e = grind (arith, common_steps)
 
 pub class-in-force : (found : Found) (scan : Scan) (spare : Spare) (needs : Bool) (place : ℕ) (t : Table)
     → IsSpareOf found scan spare → all_ac found.huffman.ac ≡ true
     → table_if needs spare.no_ac (in_force found.huffman.ac spare.ac.items place) ≡ Ok t → t.class ≡ classes.AC
-class-in-force found scan spare needs place t s a e =
-    grind (arith, common_steps, if-ac, or-ac, read-ac, spare-ac)
+class-in-force found scan spare needs place t s a e = grind (arith, common_steps, if-ac, read-ac, none-at)
 
 -- ---- what a slot gives
 
 needed-either : (needs : Bool) (class : HuffmanTableClass) (o : Option Table)
     → needed_if needs class o ≡ table_if needs (no_table class) o
-needed-either true class o = refl
-needed-either false class o = refl
-
-some-after : (n : ℕ) → nat_lt 0 (n - 1) ≡ nat_lt 1 n
-some-after n = grind (arith, nat_tests)
+needed-either needs class o = grind (arith, common_steps)
 
 -- the table that is needed of the component in a slot
-abbrev dc_of : Found → Scan → Spare → ℕ → Result Table Fault
+abbrev pub dc_of : Found → Scan → Spare → ℕ → Result Table Fault
 dc_of found scan spare place = table_if (scan.first == 0) spare.no_dc (in_force found.huffman.dc spare.dc.items place)
 
-abbrev ac_of : Found → Scan → Spare → ℕ → Result Table Fault
+abbrev pub ac_of : Found → Scan → Spare → ℕ → Result Table Fault
 ac_of found scan spare place = table_if (nat_lt 1 scan.after) spare.no_ac (in_force found.huffman.ac spare.ac.items place)
 
 dc-needed : (found : Found) (scan : Scan) (spare : Spare) (place : ℕ) → IsSpareOf found scan spare
@@ -165,9 +104,8 @@ ac-needed : (found : Found) (scan : Scan) (spare : Spare) (place : ℕ) → IsSp
     → length found.huffman.ac ≡ 4
     → needed_if (nat_lt 0 (pass_of scan).se) classes.AC (get_or (tables_of found scan).ac place None)
     ≡ ac_of found scan spare place
-unfolding pass_of
-ac-needed found scan spare place s e =
-    grind (arith, common_steps, forced-ac, needed-either, some-after)
+unfolding pass_of tables_of
+ac-needed found scan spare place s e = grind (arith, common_steps, forced-by, needed-either, nat_tests)
 
 -- what is there of the component in a slot, by the places of the header
 pub record HasComponent (found : Found) (frame : Frame) (scan : Scan) (spare : Spare) (slot index : ℕ)
@@ -249,8 +187,7 @@ pub is-there : (state : State) (frame : FrameInfo) (header : ScanInfo) (spare : 
     → place ≡ get_or header.component_indices.items slot place → place < length frame.components.items
     → c ≡ get_or frame.components.items place c
     → HasComponent (found_in state) (frame_in frame) (scan_in header) spare slot place (component_in c)
-is-there state frame header spare slot place c s h p l e =
-    grind (arith, common_steps, get_or_default_zero, component-at)
+is-there state frame header spare slot place c s h p l e = search (rules, arith, get_or_default_zero, component-at)
 
 -- the table that is needed, of the one that the code looks up
 pub is-dc : (state : State) (header : ScanInfo) (spare : Spare) (slot place : ℕ) (o : Option Table)
@@ -272,6 +209,4 @@ is-ac state header spare slot place o r h p e t = grind (arith, common_steps, ge
 -- a broken rule is a refusal
 pub format-refuses : {Y : Type 0} (e : Error) (o : Result Y Fault) → NamesFormat e → o ≡ Err Malformed
     → IsRefusal e × Names e o
-format-refuses (errors.Format text) o n h = (tt, h)
-format-refuses errors.OutOfMemory o n h = (tt, tt)
-format-refuses _ o n h = absurd n
+format-refuses e o n h = grind (arith, common_steps)

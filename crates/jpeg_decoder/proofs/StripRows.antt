@@ -50,8 +50,7 @@ strip-next s table wide v blocks h = grind (arith, common_steps, row-of, plane-m
 in-raster : (wide high : ℕ) (blocks : List (List ℤ)) (r k : ℕ) → length blocks ≡ high * wide
     → ((i : ℕ) → i < length blocks → length (get_or blocks i []) ≡ 64) → r < high → k < wide
     → block_in wide blocks r k ≡ in_raster wide (map to_block blocks) r k
-in-raster wide high blocks r k e sized h i =
-    search (rules, rows-fit, get_or-map, ordered-block, get_or_default)
+in-raster wide high blocks r k e sized h i = search (rules, arith, rows-fit, get_or-map, ordered-block, get_or_default)
 
 pub raster-rows : (s : ℕ) (table : List ℕ) (wide width high counter : ℕ) (blocks : List (List ℤ)) (old new : List ℕ)
     → wide ≡ width → counter ≡ high → length blocks ≡ high * width
@@ -84,8 +83,7 @@ pub strips-at : (codings : List Coding) (arrays : Arrays) (planes : List (List �
     → get_or (with_strips codings arrays planes) slot []
     ≡ get_or planes slot [] ++ samples_of c.component.factors.vertical c (get_or arrays slot [])
 unfolding with_strips
-strips-at (d ∷ codings) (a ∷ arrays) (x ∷ planes) zero c e f h is = ap (λ
-    (y : Coding). x ++ samples_of y.component.factors.vertical y a) (sym is)
+strips-at (d ∷ codings) (a ∷ arrays) (x ∷ planes) zero c e f h is = grind (arith, common_steps)
 strips-at (d ∷ codings) (a ∷ arrays) (x ∷ planes) (suc slot) c e f h is = strips-at codings arrays planes slot c
     (omega arith) (omega arith) (omega arith) is
 strips-at _ _ _ slot c e f h is = absurd (omega arith)
@@ -94,8 +92,7 @@ strips-at _ _ _ slot c e f h is = absurd (omega arith)
 
 pub none-yet : (s : ℕ) (table : List ℕ) (wide : ℕ) (block_at : ℕ → ℕ → List ℤ) (plane : List ℕ) → plane
     ≡ plane ++ plane_of s table wide 0 block_at
-none-yet s table wide block_at plane = sym (ap (λ (l : List ℕ). plane ++ l) (plane-none s table wide block_at)
-    ∙ append-nil plane)
+none-yet s table wide block_at plane = grind (arith, common_steps, plane-none, append-nil)
 
 pub drop-none : (wide : ℕ) (blocks : List (List ℤ)) → blocks ≡ drop (0 * wide) blocks
 drop-none wide blocks = let e : 0 ≡ 0 * wide = omega arith in ap (λ (k : ℕ). drop k blocks) e

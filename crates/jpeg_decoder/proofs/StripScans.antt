@@ -93,5 +93,4 @@ pub scan-by-rows : (frame : Frame) (cs : List Coded) (p : Pass) (n : ℕ) (vias 
     → planes_at p n vias frame (map coding_in cs) bytes
     ≡ planes_by_rows p vias n frame (map coding_in cs) (no_samples (map coding_in cs)) bytes
 scan-by-rows frame [] p n vias bytes h fits = absurd (omega arith)
-scan-by-rows frame (c ∷ cs) p n vias bytes h fits =
-    grind (arith, common_steps, planes-by-rows, coded-components)
+scan-by-rows frame (c ∷ cs) p n vias bytes h fits = grind (arith, common_steps, planes-by-rows, coded-components)

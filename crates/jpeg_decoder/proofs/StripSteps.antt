@@ -38,14 +38,12 @@ whole-rows f high = let e : high ≡ high - 0 = omega arith in ap (λ (n : ℕ).
 -- what holds of the rows that are left
 pub first-row : (P : List Spot → Type 0) (f : ℕ → List Spot) (k high : ℕ) → k < high
     → AllByRecursion P (map f (range_with_len k (high - k))) → P (f k)
-first-row P f k high h all =
-    (subst (λ (l : List ℕ). AllByRecursion P (map f l)) (one-less k high h) all).0
+first-row P f k high h all = grind (arith, common_steps, one-less)
 
 pub later-rows : (P : List Spot → Type 0) (f : ℕ → List Spot) (k high : ℕ) → k < high
     → AllByRecursion P (map f (range_with_len k (high - k)))
     → AllByRecursion P (map f (range_with_len (k + 1) (high - (k + 1))))
-later-rows P f k high h all =
-    (subst (λ (l : List ℕ). AllByRecursion P (map f l)) (one-less k high h) all).1
+later-rows P f k high h all = grind (arith, common_steps, one-less)
 
 after : Pass → List Via → ℕ → List Coding → List (List Spot) → List (List ℕ) → Counted → Reads (List (List ℕ))
 after p vias n codings rows planes r = strips_from p vias n codings rows
@@ -58,8 +56,7 @@ strips-more : (p : Pass) (vias : List Via) (n : ℕ) (codings : List Coding) (f 
     ≡ read_on (after p vias n codings (map f (range_with_len (k + 1) (high - (k + 1)))) planes) (blocks_from p vias n
     spots (on_arrays zeros old) t)
 unfolding strips_from after
-strips-more p vias n codings f spots k high planes zeros old t h e is =
-    grind (arith, common_steps, one-less, after)
+strips-more p vias n codings f spots k high planes zeros old t h e is = grind (arith, common_steps, one-less, after)
 
 pub strips_step : (p : Pass) (vias : List Via) (n : ℕ) (codings : List Coding) (f : ℕ → List Spot) (spots : List Spot)
     (k high : ℕ) (planes : List (List ℕ)) (zeros : Arrays) (old new : Counted) (t u : Text)
@@ -91,17 +88,14 @@ strips_none p vias n codings f k high planes old t h = grind (arith, common_step
 pub zeros-are : (cs : List Coded) → zeros_of (row_sizes cs) ≡ zero_rows 1 (components_of (map coding_in cs))
 unfolding zero_rows
 zeros-are [] = refl
-zeros-are (c ∷ cs) =
-    let e : down_in c * wide_in c ≡ 1 * (down_in c * wide_in c) = omega arith in
-    ap₂ (λ (n : ℕ) (l : Arrays). replicate n zero_block ∷ l) e (zeros-are cs)
+zeros-are (c ∷ cs) = grind (arith, common_steps, zeros-are cs)
 
 -- ---- the planes
 
 length-samples : (high : ℕ) (c : Coding) (blocks : List Block) → length (samples_of high c blocks)
     ≡ c.component.scale * c.component.blocks_wide * (c.component.scale * high)
 unfolding samples_of plane_of
-length-samples high c blocks = length-map-range_with_len _ 0 (c.component.scale * c.component.blocks_wide *
-    (c.component.scale * high))
+length-samples high c blocks = grind (arith, common_steps, length-map-range_with_len)
 
 one-row-more : (a s r d : ℕ) → a * (s * (r * d)) + a * (s * d) ≡ a * (s * ((r + 1) * d))
 one-row-more a s r d = grind (arith, common_steps, add-mul, mul-add)
@@ -134,11 +128,8 @@ lengths-next (c ∷ cs) (a ∷ arrays) (p ∷ planes) row e h =
     let s = c.component.now.dct_scale in
     let head : length p ≡ samples_in (row * down_in c) c = ap (λ (l : List ℕ). get_or l 0 0) h in
     let tail = ap (λ (l : List ℕ). drop 1 l) h in
-    ap₂ (λ (n : ℕ) (l : List ℕ). n ∷ l)
-    (length-append p (samples_of (down_in c) (coding_in c) a)
-    ∙ ap₂ (λ (m n : ℕ). m + n) head (length-samples (down_in c) (coding_in c) a)
-    ∙ one-row-more (s * wide_in c) s row (down_in c))
-    (lengths-next cs arrays planes row (omega arith) tail)
+    grind (arith, common_steps, length-append, length-samples, one-row-more, lengths-next cs arrays planes row
+    (omega arith) tail)
 lengths-next [] (a ∷ arrays) planes row e h = absurd (omega arith)
 lengths-next (c ∷ cs) [] planes row e h = absurd (omega arith)
 lengths-next _ _ _ row e h = absurd (let n = ap (λ (l : List ℕ). length l) h in omega arith)
@@ -150,20 +141,11 @@ row-count cs vs sizes = grind (arith, common_steps, length-map, sizes-long)
 pub kept-count : (cs : List Coded) (arrays : Arrays) (old new : List Plane) → length arrays ≡ length cs
     → planes_in new ≡ with_strips (map coding_in cs) arrays (planes_in old)
     → (0 < length old → length old ≡ length cs) → 0 < length new → length new ≡ length cs
-kept-count cs arrays [] new e made h some = grind (arith, common_steps, strips-none, length-map)
-kept-count cs arrays (x ∷ old) new e made h some =
-    grind (arith, common_steps, length-map, strips-length)
+kept-count cs arrays old new e made h some = grind (arith, common_steps, strips-none, length-map, strips-length)
 
 -- a plane of all rows of MCUs has the samples of all blocks
 pub lengths-all : (frame : Frame) (cs : List Coded) → AllByRecursion (Fits frame) (components_in cs)
     → map (λ (c : Coded). samples_in (frame.mcus_high * down_in c) c) cs
     ≡ map (λ (c : Component). c.blocks_high * c.scale * (c.blocks_wide * c.scale)) (components_in cs)
 lengths-all frame [] fits = refl
-lengths-all frame (c ∷ cs) fits =
-    let s = c.component.now.dct_scale in
-    let w = wide_in c in
-    let h = c.component.now.block_size.height in
-    ap₂ (λ (n : ℕ) (l : List ℕ). n ∷ l)
-    (ap (λ (n : ℕ). s * w * (s * n)) (sym fits.0.high) ∙ mul_comm (s * w) (s * h)
-    ∙ ap₂ (λ (m n : ℕ). m * n) (mul_comm s h) (mul_comm s w))
-    (lengths-all frame cs fits.1)
+lengths-all frame (c ∷ cs) fits = grind (arith, common_steps, mul_comm, lengths-all frame cs fits.1)

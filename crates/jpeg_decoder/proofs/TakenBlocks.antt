@@ -1,4 +1,5 @@
 -- Blocks that are taken out of those that are held, and put back.
+use Rattle.std.proofs.Common.{rules}
 use Rattle.std.proofs.Common.{◌≡◌, ◌≢◌, ◌<◌, ℕ, zero, suc, ◌+◌, ℤ, List, [], ◌∷◌, ◌++◌, refl, sym, ap, ◌∙◌, length}
 use Rattle.std.proofs.Common.{get_or, set, map, take, arith}
 use Rattle.std.specs.declared.alloc.Global.{Global}
@@ -23,8 +24,7 @@ pub left-elsewhere : (codings : List Coding) (held : Arrays) (place : ℕ) → (
 unfolding without_blocks
 left-elsewhere [] held place n = refl
 left-elsewhere (c ∷ more) held place n =
-    let other : place ≢ c.place = λ e. n (inl (sym e)) in
-    left-elsewhere more (set held c.place []) place (λ i. n (inr i)) ∙ get_or-set_other held c.place place [] [] other
+    grind (arith, common_steps, get_or-set_other, left-elsewhere more (set held c.place []) place (λ i. n (inr i)))
 
 -- A place elsewhere may be set before or after.
 set-after : (codings : List Coding) (held : Arrays) (place : ℕ) (blocks : List Block)
@@ -33,9 +33,7 @@ set-after : (codings : List Coding) (held : Arrays) (place : ℕ) (blocks : List
 unfolding without_blocks
 set-after [] held place blocks n = refl
 set-after (c ∷ more) held place blocks n =
-    let other : c.place ≢ place = λ e. n (inl e) in
-    set-after more (set held c.place []) place blocks (λ i. n (inr i))
-    ∙ ap (without_blocks more) (set_comm held c.place place [] blocks other)
+    grind (arith, common_steps, set_comm, set-after more (set held c.place []) place blocks (λ i. n (inr i)))
 
 -- The blocks of a scan's components are put in the same places, whether those were emptied before or not.
 pub put-back : (codings : List Coding) (arrays held : Arrays) → AreApart (places_of codings)
@@ -45,9 +43,8 @@ unfolding put_arrays without_blocks
 put-back [] arrays held apart e = refl
 put-back (c ∷ more) [] held apart e = absurd (omega arith)
 put-back (c ∷ more) (blocks ∷ arrays) held apart e =
-    ap (put_arrays more arrays) (set-after more (set held c.place []) c.place blocks apart.0)
-    ∙ put-back more arrays (set (set held c.place []) c.place blocks) apart.1 (omega arith)
-    ∙ ap (put_arrays more arrays) (set-set held c.place [] blocks)
+    grind (arith, common_steps, set-after, set-set,
+    put-back more arrays (set (set held c.place []) c.place blocks) apart.1 (omega arith))
 
 -- ---- one component more
 
@@ -98,8 +95,7 @@ pub left-more : (cs : List Coded) (i : ℕ) (c : Coded) (old now : List Held) (e
     → c ≡ get_or cs i c → empty.items ≡ []
     → arrays_in now ≡ without_blocks (map coding_in (take i cs)) (arrays_in old)
     → arrays_in (set now c.place empty) ≡ without_blocks (map coding_in (take (i + 1) cs)) (arrays_in old)
-left-more cs i c old now empty h e none left =
-    grind (arith, common_steps, map-set, more-codings, left-one)
+left-more cs i c old now empty h e none left = grind (arith, common_steps, map-set, more-codings, left-one)
 
 -- before the first, and after the last
 pub none-taken : (cs : List Coded) (old : List Held)

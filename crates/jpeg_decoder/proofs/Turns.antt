@@ -1,4 +1,5 @@
 -- The segments of a stream, a turn at a time.
+use Rattle.std.proofs.Common.{rules}
 use Rattle.std.proofs.Common.{◌≡◌, ◌≤◌, ◌<◌, ℕ, suc, List, Result, Ok, Err, Bool, true, false, Option, Some, None}
 use Rattle.std.proofs.Common.{refl, ◌∙◌, length, arith}
 use Rattle.std.specs.Prelude.{if◌then◌else◌, ◌&&◌, is_some, option_map}
@@ -64,31 +65,26 @@ on-err P fault = tt
 
 pub on-weaker : (P Q : Turn × List ℕ → Type 0) (r : Outcome Turn) → ((x : Turn × List ℕ) → P x → Q x) → On P r → On Q r
 unfolding On
-on-weaker P Q (Ok x) f h = f x h
-on-weaker P Q (Err fault) f h = tt
+on-weaker P Q r f h = grind (arith, common_steps)
 
 on-else : (P : Turn × List ℕ → Type 0) (b : Bool) (fault : Fault) (r : Outcome Turn) → On P r
     → On P (if b then Err fault else r)
-on-else P true fault r p = on-err P fault
-on-else P false fault r p = p
+on-else P b fault r p = grind (arith, common_steps, on-err)
 
 on-bind : {A : Type 0} (P : Turn × List ℕ → Type 0) (first : ℕ) (r : Outcome A) (f : A × List ℕ → Outcome Turn)
     → LeavesBelow first r → ((x : A × List ℕ) → length x.1 < first → On P (f x)) → On P (r >>= f)
 unfolding On LeavesBelow
-on-bind P first (Ok x) f p q = q x p
-on-bind P first (Err fault) f p q = tt
+on-bind P first r f p q = grind (arith, common_steps)
 
 pub on-needs : {A : Type 0} (P : Turn × List ℕ → Type 0) (r : Result A Fault) (f : A → Outcome Turn)
     → ((x : A) → On P (f x)) → On P (r >>= f)
-on-needs P (Ok x) f q = q x
-on-needs P (Err fault) f q = on-err P fault
+on-needs P r f q = grind (arith, common_steps, on-err)
 
 goes-passes : (limit : ℕ) (r : Outcome (Option Marker)) (f : Option Marker × List ℕ → Outcome Turn) → Passes limit r
     → ((x : Option Marker × List ℕ) → length x.1 < limit → is_restart_marker x.0 ≡ false → On (Below limit) (f x))
     → On (Below limit) (r >>= f)
 unfolding Passes
-goes-passes limit (Ok x) f p q = q x p.0 p.1
-goes-passes limit (Err fault) f p q = on-err (Below limit) fault
+goes-passes limit r f p q = grind (arith, common_steps, on-err)
 
 goes-ok : (limit : ℕ) (t : Turn) (rest : List ℕ) → length rest < limit → is_restart_marker t.met ≡ false
     → On (Below limit) (Ok (t, rest))
@@ -114,8 +110,7 @@ frame-goes limit number found bytes h =
 pub quantization-goes : (limit : ℕ) (found : Found) (bytes : List ℕ) → length bytes ≤ limit
     → On (IsOnward limit) (quantization_segment found bytes)
 unfolding quantization_segment
-quantization-goes limit found bytes h =
-    on-bind (IsOnward limit) limit (dqt_at bytes) _ (dqt-below limit bytes h) (λ t p. on-onward limit _ t.1 p)
+quantization-goes limit found bytes h = search (rules, arith, on-bind, dqt-below, on-onward)
 
 pub huffman-goes : (limit : ℕ) (found : Found) (bytes : List ℕ) → length bytes ≤ limit
     → On (IsOnward limit) (huffman_segment found bytes)
@@ -127,8 +122,7 @@ huffman-goes limit found bytes h =
 pub restart-goes : (limit : ℕ) (found : Found) (bytes : List ℕ) → length bytes ≤ limit
     → On (IsOnward limit) (restart_segment found bytes)
 unfolding restart_segment
-restart-goes limit found bytes h =
-    on-bind (IsOnward limit) limit (dri_at bytes) _ (dri-below limit bytes h) (λ t p. on-onward limit _ t.1 p)
+restart-goes limit found bytes h = search (rules, arith, on-bind, dri-below, on-onward)
 
 pub application-goes : (limit number : ℕ) (found : Found) (bytes : List ℕ) → length bytes ≤ limit
     → On (IsOnward limit) (application_segment number found bytes)
@@ -168,8 +162,7 @@ samples-go limit found frame scan bytes p =
 process-goes : (limit : ℕ) (p : CodingProcess) (found : Found) (frame : Frame) (scan : Scan) (bytes : List ℕ)
     → length bytes < limit
     → On (Below limit) (scan_by p found frame scan bytes)
-process-goes limit Lossless found frame scan bytes h = samples-go limit found frame scan bytes h
-process-goes limit _ found frame scan bytes h = blocks-go limit found frame scan bytes h
+process-goes limit p found frame scan bytes h = grind (arith, common_steps, samples-go, blocks-go)
 
 scan-goes : (limit : ℕ) (found : Found) (bytes : List ℕ) → length bytes ≤ limit
     → On (Below limit) (scan_segment found bytes)
@@ -179,46 +172,15 @@ scan-goes limit found bytes h =
     on-bind (Below limit) limit (sos_at frame bytes) _ (sos-below limit frame bytes h) (λ scan p.
     process-goes limit frame.process found frame scan.0 scan.1 p))
 
-end-goes : (limit : ℕ) (found : Found) (bytes : List ℕ) → On (Below limit) (end_segment found bytes)
-unfolding end_segment On
-end-goes limit found bytes = go (is_some found.frame)
-  where
-    go : (b : Bool) → On (Below limit) (cond b (Ok (
-      record {
-        found = found;
-        before = Elsewhere;
-        met = None;
-        ended = true;
-      },
-      bytes,
-    )) (Err Malformed))
-    go true = λ e. absurd (let n : ⊥ = cc in n)
-    go false = tt
-
-stray-goes : (limit : ℕ) (before : Before) (found : Found) (bytes : List ℕ) → length bytes < limit
-    → On (Below limit) (stray_restart before found bytes)
-stray-goes limit Elsewhere found bytes h = on-err (Below limit) _
-stray-goes limit _ found bytes h = onward-goes limit _ (on-onward limit found bytes h)
-
 lines-goes : (limit : ℕ) (before : Before) → On (Below limit) (line_count before)
-lines-goes limit FirstScan = on-err (Below limit) _
-lines-goes limit LaterScan = on-err (Below limit) _
-lines-goes limit Elsewhere = on-err (Below limit) _
+lines-goes limit before = grind (arith, common_steps, on-err)
 
 segment-goes : (limit : ℕ) (m : Marker) (before : Before) (found : Found) (bytes : List ℕ) → length bytes ≤ limit
     → (is_restart_marker (Some m) ≡ true → length bytes < limit) → On (Below limit) (segment_at m before found bytes)
-unfolding segment_at
-segment-goes limit (SOF number) before found bytes h r = onward-goes limit _ (frame-goes limit number found bytes h)
-segment-goes limit DQT before found bytes h r = onward-goes limit _ (quantization-goes limit found bytes h)
-segment-goes limit DHT before found bytes h r = onward-goes limit _ (huffman-goes limit found bytes h)
-segment-goes limit SOS before found bytes h r = scan-goes limit found bytes h
-segment-goes limit EOI before found bytes h r = end-goes limit found bytes
-segment-goes limit DRI before found bytes h r = onward-goes limit _ (restart-goes limit found bytes h)
-segment-goes limit (APP number) before found bytes h r = onward-goes limit _ (application-goes limit number found bytes h)
-segment-goes limit COM before found bytes h r = onward-goes limit _ (skipped-goes limit found bytes h)
-segment-goes limit (RST n) before found bytes h r = stray-goes limit before found bytes (r refl)
-segment-goes limit DNL before found bytes h r = lines-goes limit before
-segment-goes limit _ before found bytes h r = on-err (Below limit) _
+unfolding segment_at end_segment On
+segment-goes limit m before found bytes h r =
+    grind (arith, common_steps, onward-goes, frame-goes, quantization-goes, huffman-goes, scan-goes, restart-goes,
+    application-goes, skipped-goes, on-onward, lines-goes, on-err)
 
 turn-goes : (before : Before) (found : Found) (met : Option Marker) (bytes : List ℕ) → is_restart_marker met ≡ false
     → On (Below (length bytes)) (turn_at before found met bytes)
@@ -240,8 +202,7 @@ turn-takes before found met bytes r none e =
 -- ---- turns
 
 cond-same : {A : Type 0} (b : Bool) (x y z : A) → (b ≡ false → y ≡ z) → cond b x y ≡ cond b x z
-cond-same true x y z h = refl
-cond-same false x y z h = h refl
+cond-same b x y z h = grind (arith, common_steps)
 
 turn-same : (r : Outcome Turn) (found : Found) (f g : Turn × List ℕ → Found) → ((x : Turn × List ℕ) → r ≡ Ok x
     → f x ≡ g x)
@@ -249,8 +210,7 @@ turn-same : (r : Outcome Turn) (found : Found) (f g : Turn × List ℕ → Found
       | Err fault ↦ found
       | Ok t ↦ g t
     ]
-turn-same (Ok x) found f g h = h x refl
-turn-same (Err fault) found f g h = refl
+turn-same r found f g h = grind (arith, common_steps)
 
 -- more turns than bytes change nothing
 turns-enough : (m n : ℕ) (header : Bool) (before : Before) (found : Found) (met : Option Marker) (bytes : List ℕ)
@@ -278,27 +238,6 @@ told-enough (suc m) (suc n) header before found met bytes none p q =
     let less : length t.1 < length bytes = took.0 in
     told-enough m n header t.0.before t.0.found t.0.met t.1 took.1 (omega arith) (omega arith))))
 told-enough _ _ header before found met bytes none p q = absurd (omega arith)
-
--- the segments are one turn and then the segments after it
-pub segments-turn : (header : Bool) (before : Before) (found : Found) (met : Option Marker) (bytes : List ℕ)
-    → is_restart_marker met ≡ false
-    → segments_at header before found met bytes ≡ (if header && is_some found.frame then Ok (found, bytes) else
-    (turn_at before found met bytes >>= λ (t : Turn × List ℕ). if t.0.ended then Ok (t.0.found, t.1)
-    else segments_at header t.0.before t.0.found t.0.met t.1))
-unfolding segments_at segments_within
-segments-turn header before found met bytes none =
-    grind (arith, common_steps, cond-same, bind-same, turn-takes, turns-enough)
-
-pub told-turn : (header : Bool) (before : Before) (found : Found) (met : Option Marker) (bytes : List ℕ)
-    → is_restart_marker met ≡ false
-    → told_at header before found met bytes ≡ (if header && is_some found.frame then found else
-    elim (turn_at before found met bytes) as (λ _. Found) [
-      | Err fault ↦ found
-      | Ok t ↦ if t.0.ended then t.0.found else told_at header t.0.before t.0.found t.0.met t.1
-    ])
-unfolding told_at told_within
-told-turn header before found met bytes none =
-    grind (arith, common_steps, cond-same, turn-same, turn-takes, told-enough)
 
 -- ---- the ways a turn goes
 
@@ -336,19 +275,38 @@ pub told-end : (header : Bool) (before : Before) (found : Found) (met : Option M
 unfolding told_at told_within
 told-end header before found met bytes rest t p e q = rw (p, q, e) refl
 
+-- the segments are one turn and then the segments after it
+pub segments-turn : (header : Bool) (before : Before) (found : Found) (met : Option Marker) (bytes : List ℕ)
+    → is_restart_marker met ≡ false
+    → segments_at header before found met bytes ≡ (if header && is_some found.frame then Ok (found, bytes) else
+    (turn_at before found met bytes >>= λ (t : Turn × List ℕ). if t.0.ended then Ok (t.0.found, t.1)
+    else segments_at header t.0.before t.0.found t.0.met t.1))
+unfolding segments_at segments_within
+segments-turn header before found met bytes none =
+    grind (arith, common_steps, cond-same, bind-same, turn-takes, turns-enough)
+
 pub segments-next : (header : Bool) (before : Before) (found : Found) (met : Option Marker) (bytes rest : List ℕ)
     (t : Turn) → is_restart_marker met ≡ false → (header && is_some found.frame) ≡ false → t.ended ≡ false
     → turn_at before found met bytes ≡ Ok (t, rest) → segments_at header before found met bytes ≡ segments_at header
     t.before t.found t.met rest
-segments-next header before found met bytes rest t none p e q =
-    segments-turn header before found met bytes none ∙ rw (p, q, e) refl
+segments-next header before found met bytes rest t none p e q = grind (arith, common_steps, segments-turn)
+
+pub told-turn : (header : Bool) (before : Before) (found : Found) (met : Option Marker) (bytes : List ℕ)
+    → is_restart_marker met ≡ false
+    → told_at header before found met bytes ≡ (if header && is_some found.frame then found else
+    elim (turn_at before found met bytes) as (λ _. Found) [
+      | Err fault ↦ found
+      | Ok t ↦ if t.0.ended then t.0.found else told_at header t.0.before t.0.found t.0.met t.1
+    ])
+unfolding told_at told_within
+told-turn header before found met bytes none =
+    grind (arith, common_steps, cond-same, turn-same, turn-takes, told-enough)
 
 pub told-next : (header : Bool) (before : Before) (found : Found) (met : Option Marker) (bytes rest : List ℕ) (t : Turn)
     → is_restart_marker met ≡ false → (header && is_some found.frame) ≡ false → t.ended ≡ false
     → turn_at before found met bytes ≡ Ok (t, rest) → told_at header before found met bytes ≡ told_at header t.before
     t.found t.met rest
-told-next header before found met bytes rest t none p e q =
-    told-turn header before found met bytes none ∙ rw (p, q, e) refl
+told-next header before found met bytes rest t none p e q = grind (arith, common_steps, told-turn)
 
 -- ---- this many turns
 
@@ -372,5 +330,4 @@ within-end header before found met bytes rest t p e q = rw (p, q, e) refl
 
 -- While a header is read on, the frame is not read yet.
 pub not-framed : {A : Type 0} (header : Bool) (o : Option A) → (header && is_some o) ≡ false → header ≡ true → o ≡ None
-not-framed true None e h = refl
-not-framed _ _ e h = absurd (let n : ⊥ = cc in n)
+not-framed header o e h = grind (arith, common_steps)

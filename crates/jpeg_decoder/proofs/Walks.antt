@@ -12,18 +12,15 @@ use Rattle.std.proofs.lemmas.Grind.{common_steps}
 pub position-next : (wide row column columns below rows : ℕ) → 0 < columns
     → raster_left wide row column columns below rows
     ≡ (row, column) ∷ raster_left wide row (column + 1) (columns - 1) below rows
-position-next wide row column zero below rows h = absurd (omega arith)
-position-next wide row column (suc n) below rows h = grind (arith, common_steps)
+position-next wide row column columns below rows h = grind (arith, common_steps)
 
 pub row-next : (wide row column columns below rows : ℕ) → columns ≡ 0 → 0 < rows
     → raster_left wide row column columns below rows ≡ raster_left wide below 0 wide (below + 1) (rows - 1)
-row-next wide row column columns below zero e h = absurd (omega arith)
-row-next wide row column columns below (suc n) e h = grind (arith, common_steps)
+row-next wide row column columns below rows e h = grind (arith, common_steps)
 
 pub rows-none : (wide row column columns below rows : ℕ) → columns ≡ 0 → rows ≡ 0
     → raster_left wide row column columns below rows ≡ []
-rows-none wide row column columns below rows e f =
-    ap₂ (λ (j k : ℕ). positions_of row column j ++ rows_from wide below k) e f
+rows-none wide row column columns below rows e f = grind (arith, common_steps)
 
 no-rows : (below rows : ℕ) → rows_from 0 below rows ≡ []
 no-rows below zero = refl
@@ -31,8 +28,7 @@ no-rows below (suc n) = no-rows (below + 1) n
 
 pub wide-none : (wide row column columns below rows : ℕ) → columns ≡ 0 → wide ≡ 0
     → raster_left wide row column columns below rows ≡ []
-wide-none wide row column columns below rows e f =
-    ap₂ (λ (j k : ℕ). positions_of row column j ++ rows_from k below rows) e f ∙ no-rows below rows
+wide-none wide row column columns below rows e f = grind (arith, common_steps, no-rows)
 
 pub ruleset raster_rules = (position-next, row-next, rows-none, wide-none)
 
@@ -41,8 +37,7 @@ pub ruleset raster_rules = (position-next, row-next, rows-none, wide-none)
 pub block-next : (members : List Member) (number : ℕ) (mcu : ℕ × ℕ) (mcus : List (ℕ × ℕ)) (m : Member)
     → number < length members → m ≡ get_or members number m
     → spots_left members number mcu mcus ≡ spot_at mcu m ∷ spots_left members (number + 1) mcu mcus
-block-next members number mcu mcus m h e =
-    ap (λ (l : List Member). map (spot_at mcu) l ++ spots_at members mcus) (dropped members number m h e)
+block-next members number mcu mcus m h e = grind (arith, common_steps, dropped)
 
 pub mcu-next : (members : List Member) (number : ℕ) (mcu next : ℕ × ℕ) (mcus more : List (ℕ × ℕ))
     → number ≡ length members → mcus ≡ next ∷ more

@@ -74,8 +74,7 @@ with-length : (samples : Samples) (places : List ℕ) (decided : List (Option (L
 unfolding with_samples
 with-length samples [] decided = refl
 with-length samples (p ∷ places) decided =
-    with-length samples places (slice_set decided p (Some (concat (samples p))))
-    ∙ length-set decided p (Some (concat (samples p)))
+    search (rules, arith, length-set, with-length samples places (slice_set decided p (Some (concat (samples p)))))
 
 with-there : (samples : Samples) (places : List ℕ) (decided : List (Option (List ℕ)))
     → AllByRecursion (λ k. k < length decided) places
@@ -83,11 +82,10 @@ with-there : (samples : Samples) (places : List ℕ) (decided : List (Option (Li
 unfolding with_samples
 with-there samples [] decided h = tt
 with-there samples (p ∷ places) decided h =
-    let next = slice_set decided p (Some (concat (samples p))) in (
-      with-keeps samples places next p (get_or-set_same decided p (Some (concat (samples p))) None h.0),
-      with-there samples places next (subst (λ (n : ℕ). AllByRecursion (λ (k : ℕ). k < n) places)
-          (sym (length-set decided p (Some (concat (samples p))))) h.1),
-    )
+    let next = slice_set decided p (Some (concat (samples p))) in
+    grind (arith, common_steps, with-keeps, get_or-set_same, length-set, with-there samples places next
+    (subst (λ (n : ℕ). AllByRecursion (λ (k : ℕ). k < n) places) (sym
+    (length-set decided p (Some (concat (samples p))))) h.1))
 
 held-append : (samples : Samples) (decided : List (Option (List ℕ))) (xs ys : List ℕ) → AreHeld samples decided xs
     → AreHeld samples decided ys → AreHeld samples decided (xs ++ ys)
@@ -123,9 +121,8 @@ segment-held : (before : Before) (said : Found) (decided : List (Option (List �
     → StandsInLossless said s
     → segment_at (marker_for s) before (and_samples said decided)
     (sized (payload_of s) ++ rest) ≡ Ok (onward (and_samples (found_after said s) decided), rest)
-segment-held before said decided (Header number h) rest may =
-    frame-turn before (and_samples said decided) number h rest may.0 (lossless-accepted number h may.0.1 may.1)
-segment-held before said decided s rest may = segment-read before (and_samples said decided) s rest may.0 tt
+segment-held before said decided s rest may =
+    grind (arith, common_steps, frame-turn, and_samples, lossless-accepted, segment-read)
 
 -- ---- what begins with a marker
 
@@ -209,8 +206,7 @@ closed-read samples rest turns said sent frame fill framed lossless sends before
       frame = frame;
       framed = framed;
       lossless = lossless;
-      held = all-in (λ k. slice_index_or decided k None ≡ Some (concat (samples k)))
-          (range_with_len 0 (length frame.components)) sent held sends;
+      held = grind (arith, common_steps, all-in);
     }
 
 segment-next : (samples : Samples) (rest : List ℕ) (turns : ℕ) (said final : Found) (sent : List ℕ) (fill : ℕ)
@@ -232,8 +228,7 @@ segment-next samples rest turns said final sent fill s more may again before dec
 places-below : (frame : Frame) (h : ScanHeader) → IsScan frame h
     → AllByRecursion (λ k. k < length frame.components) (places_of h.choices)
 unfolding scan_of
-places-below frame h is =
-    grind (arith, common_steps, components-of, recursion_from_All, header-rules)
+places-below frame h is = grind (arith, common_steps, components-of, recursion_from_All, header-rules)
 
 scan-next : (samples : Samples) (rest : List ℕ) (turns : ℕ) (said final : Found) (sent : List ℕ) (frame : Frame)
     (fill : ℕ) (h : ScanHeader) (data_bytes more : List ℕ)
@@ -300,24 +295,16 @@ planes-there : (decided : List (Option (List ℕ))) (samples : Samples) (place :
 unfolding samples_from
 planes-there decided samples place [] h = refl
 planes-there decided samples place (c ∷ cs) h =
-    then-ok (needed (slice_index_or decided place None)) _ (concat (samples place)) _ (ap needed h.0)
-    (then-ok (samples_from decided (place + 1) cs) _ (planes_for samples (range_with_len (place + 1) (length cs))) _
-    (planes-there decided samples (place + 1) cs h.1) refl)
-
-samples-drawn : (found : Found) (samples : Samples) (frame : Frame)
-    → AreHeld samples found.samples (range_with_len 0 (length frame.components))
-    → samples_picture found frame ≡ Ok (drawn frame samples)
-unfolding samples_picture
-samples-drawn found samples frame held = grind (arith, common_steps, then-ok, planes-there)
+    grind (arith, common_steps, then-ok, planes_for, planes-there decided samples (place + 1) cs h.1)
 
 picture-there : (settings : Settings) (found : Found) (samples : Samples) (frame : Frame)
     → found.frame ≡ Some frame → frame.process ≡ Lossless
     → length frame.components * (frame.output_width * frame.output_height) ≤ settings.limit
     → AreHeld samples found.samples (range_with_len 0 (length frame.components))
     → picture_of settings found ≡ Ok (drawn frame samples)
-unfolding picture_of
+unfolding picture_of samples_picture
 picture-there settings found samples frame framed lossless within held =
-    grind (arith, common_steps, then-ok, not-refused, le-ltb, samples-drawn)
+    grind (arith, common_steps, then-ok, not-refused, le-ltb, planes-there)
 
 -- what a caller is given of a picture
 abbrev given : Found → List ℕ → List ℕ → Outcome (Told × List ℕ)
@@ -368,9 +355,7 @@ pub samples-meant : (settings : Settings) (samples : Samples) (bytes rest : List
     → final.frame ≡ Some frame → length frame.components * (frame.output_width * frame.output_height) ≤ settings.limit
     → meaning settings (bytes ++ rest) ≡ Ok ((told_of final, drawn frame samples), rest)
 unfolding meaning start_at nothing_found
-samples-meant settings samples bytes rest final frame w framed within =
-    ap (λ (l : List ℕ). meaning settings (l ++ rest)) w.starts
-    ∙ rest-read samples settings w.after rest nothing_found final frame w.written nothing-said framed within
+samples-meant settings samples bytes rest final frame w framed within = search (rules, arith, rest-read, nothing-said)
 
 -- One that is beyond the limit is refused.
 pub samples-refused : (settings : Settings) (samples : Samples) (bytes rest : List ℕ) (final : Found) (frame : Frame)
@@ -379,15 +364,13 @@ pub samples-refused : (settings : Settings) (samples : Samples) (bytes rest : Li
     → meaning settings (bytes ++ rest) ≡ Err Malformed
 unfolding meaning start_at nothing_found
 samples-refused settings samples bytes rest final frame w framed over =
-    ap (λ (l : List ℕ). meaning settings (l ++ rest)) w.starts
-    ∙ rest-refused samples settings w.after rest nothing_found final frame w.written nothing-said framed over
+    grind (arith, common_steps, rest-refused, nothing-said)
 
 -- ---- the frame
 
 frame-stays : (said : Found) (s : Segment) (frame : Frame) → StandsInLossless said s → said.frame ≡ Some frame
     → (found_after said s).frame ≡ Some frame
-frame-stays said (Header number h) frame may e = some-none frame said.frame e may.0.0
-frame-stays said _ frame may e = e
+frame-stays said s frame may e = grind (arith, common_steps, some-none)
 
 pub final-framed : (samples : Samples) (frame : Frame) (said : Found) (sent bytes : List ℕ) (final : Found)
     → Writes samples said sent bytes final → said.frame ≡ Some frame → final.frame ≡ Some frame
@@ -456,10 +439,7 @@ header-read samples rest decided (suc turns) before said sent bytes final (segme
       framed = framed;
       written = w;
       is_said = next;
-      is = step ∙ head-end turns Elsewhere (and_samples (found_after said s) decided) None (more ++ rest) (omega (
-        arith,
-        shorter,
-      )) (ap is_some framed);
+      is = grind (arith, common_steps, head-end, and_samples);
     })
     (λ other.
     let r = header-read samples rest decided turns Elsewhere (found_after said s) sent more final w shorter next

@@ -1,4 +1,5 @@
 -- A lossless scan that is written is read as its samples.
+use Rattle.std.proofs.Common.{rules}
 use Rattle.std.proofs.Common.{◌≡◌, ℕ, zero, suc, ◌+◌, ◌-◌, ◌*◌, ◌/◌, ◌%◌, ◌<◌, ◌≤◌, Bool, true, false, eqb}
 use Rattle.std.proofs.Common.{leb, List, [], ◌∷◌, ◌++◌, drop, map, length, replicate, take, Option, Some}
 use Rattle.std.proofs.Common.{Ok, refl, sym, ap, ap₂, ◌∙◌, subst, arith, length-append, suc-mul}
@@ -62,18 +63,10 @@ by-one wide high restart h e = record { is = rw e refl; some = rw (e, rows_of_in
 
 by-rows : (wide high n : ℕ) → 0 < wide → 0 < high → (b : Bool) → is_one_interval wide high (suc n * wide) ≡ b
     → IsOfRows wide high (suc n * wide)
-by-rows wide high n w h true e = by-one wide high (suc n * wide) h e
-by-rows wide high n w h false e =
-    let z : suc n * wide ≡ suc n * wide + 0 = omega arith in
-    let m : suc n * wide % wide ≡ 0 = ap (λ (x : ℕ). x % wide) z ∙ mod-mul-add (suc n) wide 0 w in
-    let d : suc n * wide / wide ≡ suc n = ap (λ (x : ℕ). x / wide) z ∙ div-mul-add (suc n) wide 0 w in
-    record { is = rw (e, eq-eqb (suc n * wide % wide) 0 m) refl; some = rw (e, rows_of_interval, d) (omega arith) }
+by-rows wide high n w h b e = grind (arith, common_steps, by-one, mod-mul-add, div-mul-add, eq-eqb)
 
 of-rows : (wide high restart : ℕ) → 0 < wide → 0 < high → IsInterval wide high restart → IsOfRows wide high restart
-of-rows wide high restart w h no_interval = by-one wide high 0 h refl
-of-rows wide high restart w h (whole_rows n) = by-rows wide high n w h (is_one_interval wide high (suc n * wide)) refl
-of-rows wide high restart w h (whole_scan n le) =
-    by-one wide high restart h (or_right (eqb restart 0) (leb (wide * high) restart) (le-leb (wide * high) restart le))
+of-rows wide high restart w h h0 = grind (arith, common_steps, by-one, by-rows, or_right, le-leb)
 
 -- ---- how many lines there are
 
@@ -87,11 +80,7 @@ lines-count : (p : Part) (n size from : ℕ) (rows : List (List ℕ))
 unfolding lines_in
 lines-count p n size from [] = omega arith
 lines-count p n size from (row ∷ rows) =
-    length-append (strands p.down n size from p.across row) (lines_in p n size from rows)
-    ∙ ap₂ (λ (a b : ℕ). a + b) (strands-count p.down n size from p.across row) (lines-count p n size from rows)
-    ∙ (let e = suc-mul (length rows) p.down in
-    let sum : p.down + length rows * p.down ≡ suc (length rows) * p.down = omega arith in
-    sum)
+    grind (arith, common_steps, length-append, strands-count, suc-mul, lines-count p n size from rows)
 
 -- each component has the lines of this many rows of MCUs
 abbrev pub AreCounted : ℕ → List Part → List (List (List ℕ)) → Type 0
@@ -103,29 +92,24 @@ placed-counted : (w : Way) (n from : ℕ) (parts : List Part) (lines : List (Lis
     → length rows ≡ n → HaveDifferences w from parts lines rows → AreCounted n parts lines
 unfolding HaveDifferences
 placed-counted w n from [] [] rows e h = tt
-placed-counted w n from (p ∷ parts) (l ∷ lines) rows e h = (
-  sym (rows-count w.selection w.start [] l) ∙ ap (λ (x : List (List ℕ)). length x) (sym h.0)
-      ∙ lines-count p w.wide (mcu_size w) from rows ∙ ap (λ (x : ℕ). x * p.down) e,
-  placed-counted w n (from + p.down * p.across) parts lines rows e h.1,
-)
+placed-counted w n from (p ∷ parts) (l ∷ lines) rows e h =
+    grind (arith, common_steps, rows-count, lines-count,
+    placed-counted w n (from + p.down * p.across) parts lines rows e h.1)
 placed-counted w n from _ _ rows e h = absurd h
 
 above-counted : (a b : ℕ) (parts : List Part) (front others : List (List (List ℕ))) → AreCounted a parts front
     → AreCounted b parts others → AreCounted (a + b) parts (all_above front others)
 unfolding all_above
 above-counted a b [] [] [] h g = tt
-above-counted a b (p ∷ parts) (l ∷ front) (m ∷ others) h g = (
-  length-append l m ∙ ap₂ (λ (x y : ℕ). x + y) h.0 g.0 ∙ sym (add-mul a b p.down),
-  above-counted a b parts front others h.1 g.1,
-)
+above-counted a b (p ∷ parts) (l ∷ front) (m ∷ others) h g =
+    grind (arith, common_steps, length-append, add-mul, above-counted a b parts front others h.1 g.1)
 above-counted a b [] (l ∷ front) others h g = absurd h
 above-counted a b (p ∷ parts) [] others h g = absurd h
 above-counted a b _ _ _ h g = absurd g
 
 intervals-counted : (w : Way) (per k left : ℕ) (lines : List (List (List ℕ))) (bytes : List ℕ)
     → WritesIntervals w per k left lines bytes → AreCounted left w.parts lines
-intervals-counted w per k left lines bytes (last k' left' lines' bytes' le s) =
-    placed-counted w left 0 w.parts lines s.rows s.count s.placed
+intervals-counted w per k left lines bytes (last k' left' lines' bytes' le s) = search (rules, arith, placed-counted)
 intervals-counted w per k left lines bytes (another k' fill' left' front others first after lt s more) =
     subst (λ (n : ℕ). AreCounted n w.parts (all_above front others)) (let e : per + (left - per) ≡ left = omega arith in
     e)
@@ -158,9 +142,7 @@ intervals-grids w per k left lines bytes (another k' fill' left' front others fi
 own-even : (wide n high : ℕ) (lines : List (List ℕ)) → AreLines n lines → wide ≤ n
     → AreEven wide (map (take wide) (take high lines))
 unfolding AreEven
-own-even wide n (suc high) (l ∷ lines) h le =
-    let e = h.0.0 in
-    (length-take-le wide l (omega (arith, e, le)), own-even wide n high lines h.1 le)
+own-even wide n (suc high) (l ∷ lines) h le = search (rules, arith, length-take-le, own-even wide n high lines h.1 le)
 own-even wide n _ _ h le = tt
 
 -- the samples of a component have its size
@@ -175,11 +157,6 @@ record Covers (wide high : ℕ) (c : Component) (p : Part) : Type 0 where
   across : c.width ≤ wide * p.across
   down : c.height ≤ high * p.down
 
-part-sized : (w : Way) (high : ℕ) (c : Component) (p : Part) (lines : List (List ℕ)) → Covers w.wide high c p
-    → AreLines (w.wide * p.across) lines → length lines ≡ high * p.down → HasSize (own_lines p lines) c
-part-sized w high c p lines h grid count =
-    grind (arith, common_steps, length-map, length-take-le, own-even)
-
 abbrev AllCover : ℕ → ℕ → List LosslessCoding → List Part → Type 0
 AllCover wide high [] [] = Unit {0}
 AllCover wide high (k ∷ codings) (p ∷ parts) = Covers wide high k.component p × AllCover wide high codings parts
@@ -193,26 +170,21 @@ unfolding HoldSamples
 all-sized w high samples [] parts lines cover grid count held = tt
 all-sized w high samples (k ∷ codings) [] lines cover grid count held = absurd cover
 all-sized w high samples (k ∷ codings) (p ∷ parts) [] cover grid count held = absurd count
-all-sized w high samples (k ∷ codings) (p ∷ parts) (l ∷ lines) cover grid count held = (
-  subst (λ (x : List (List ℕ)). HasSize x k.component) held.0
-      (part-sized w high k.component p l cover.0 grid.0 count.0),
-  all-sized w high samples codings parts lines cover.1 grid.1 count.1 held.1,
-)
+all-sized w high samples (k ∷ codings) (p ∷ parts) (l ∷ lines) cover grid count held =
+    grind (arith, common_steps, length-map, length-take-le, own-even,
+    all-sized w high samples codings parts lines cover.1 grid.1 count.1 held.1)
 
 all-among : (frame : Frame) (codings : List LosslessCoding) → AllByRecursion (λ k. IsMade frame k.component) codings
     → AllCover (ceiling frame.width (most_across frame)) (ceiling frame.height (most_down frame)) codings
     (map (λ k. part_of k.component.factors.horizontal k.component.factors.vertical k) codings)
 all-among frame [] h = tt
-all-among frame (k ∷ codings) h =
-    let c = made-covered frame k.component h.0 in
-    (record { width = refl; height = refl; across = c.0; down = c.1 }, all-among frame codings h.1)
+all-among frame (k ∷ codings) h = search (rules, arith, made-covered, all-among frame codings h.1)
 
 all-cover : (frame : Frame) (codings : List LosslessCoding) → AllByRecursion (λ k. IsMade frame k.component) codings
     → AllCover (mcus_across frame codings) (mcus_down frame codings) codings (parts_of codings)
 unfolding mcus_across mcus_down parts_of
 all-cover frame [] h = tt
-all-cover frame (k ∷ []) h =
-    (record { width = refl; height = refl; across = omega arith; down = omega arith }, tt)
+all-cover frame (k ∷ []) h = grind (arith, common_steps)
 all-cover frame (k ∷ j ∷ codings) h = all-among frame (k ∷ j ∷ codings) h
 
 -- ---- the planes of a scan are its samples
@@ -239,8 +211,7 @@ samples-append (x ∷ xs) ys h g = (h.0, samples-append xs ys h.1 g)
 own-samples : (n wide high : ℕ) (lines : List (List ℕ)) → AreLines n lines
     → AreSamples (concat (map (take wide) (take high lines)))
 own-samples n wide (suc high) (l ∷ lines) h =
-    samples-append (take wide l) (concat (map (take wide) (take high lines))) (take-samples wide l h.0.1)
-    (own-samples n wide high lines h.1)
+    grind (arith, common_steps, samples-append, take-samples, own-samples n wide high lines h.1)
 own-samples n wide _ _ h = tt
 
 -- the samples of the components at some places
@@ -253,55 +224,40 @@ planes-are : (samples : Samples) (w : Way) (codings : List LosslessCoding) (part
 unfolding planes_of HoldSamples
 planes-are samples w [] [] [] g h = refl
 planes-are samples w (k ∷ codings) (p ∷ parts) (l ∷ lines) g h =
-    ap₂ (λ (a : List ℕ) (b : List (List ℕ)). a ∷ b)
-    (all-unshifted (concat (own_lines p l)) (own-samples (w.wide * p.across) p.width p.height l g.0)
-    ∙ ap (λ (x : List (List ℕ)). concat x) h.0)
-    (planes-are samples w codings parts lines g.1 h.1)
+    grind (arith, common_steps, all-unshifted, own-samples, planes-are samples w codings parts lines g.1 h.1)
 planes-are samples w _ _ _ g h = absurd h
 
 -- ---- what a scan names
-
-coding-read : (said : Found) (frame : Frame) (c : Choice) (k : LosslessCoding) → IsCoding said frame c k
-    → lossless_coding said.huffman.dc frame c.component c.dc ≡ Ok k
-unfolding lossless_coding
-coding-read said frame c k h = grind (arith, common_steps, then-ok)
 
 codings-read : (said : Found) (frame from : Frame) (choices : List Choice) (codings : List LosslessCoding)
     → AreCodings said frame choices codings
     → lossless_codings said.huffman.dc frame (map (λ s. s.component) (map (selector_of from) choices))
     (map (λ s. s.dc) (map (selector_of from) choices)) ≡ Ok codings
-unfolding lossless_codings AreCodings
+unfolding lossless_codings AreCodings lossless_coding
 codings-read said frame from [] [] h = refl
 codings-read said frame from (c ∷ choices) (k ∷ codings) h =
-    then-ok (lossless_coding said.huffman.dc frame c.component c.dc) _ k _ (coding-read said frame c k h.0)
-    (then-ok (lossless_codings said.huffman.dc frame (map (λ s. s.component) (map (selector_of from) choices))
-    (map (λ s. s.dc) (map (selector_of from) choices))) _ codings _ (codings-read said frame from choices codings h.1)
-    refl)
+    search (rules, arith, then-ok, codings-read said frame from choices codings h.1)
 codings-read said frame from _ _ h = absurd h
 
 places-are : (said : Found) (frame : Frame) (choices : List Choice) (codings : List LosslessCoding)
     → AreCodings said frame choices codings → map (λ k. k.place) codings ≡ places_of choices
 unfolding AreCodings
 places-are said frame [] [] h = refl
-places-are said frame (c ∷ choices) (k ∷ codings) h =
-    ap₂ (λ (n : ℕ) (l : List ℕ). n ∷ l) h.0.stands (places-are said frame choices codings h.1)
+places-are said frame (c ∷ choices) (k ∷ codings) h = search (rules, arith, places-are said frame choices codings h.1)
 places-are said frame _ _ h = absurd h
 
 planes-placed : (samples : Samples) (codings : List LosslessCoding)
     → map (λ k. concat (samples k.place)) codings ≡ planes_for samples (map (λ k. k.place) codings)
 planes-placed samples [] = refl
-planes-placed samples (k ∷ codings) =
-    ap (λ (l : List (List ℕ)). concat (samples k.place) ∷ l) (planes-placed samples codings)
+planes-placed samples (k ∷ codings) = grind (arith, common_steps, planes-placed samples codings)
 
 codings-made : (said : Found) (frame : Frame) (choices : List Choice) (codings : List LosslessCoding)
     → AllByRecursion (IsMade frame) frame.components → AreCodings said frame choices codings
     → AllByRecursion (λ k. IsMade frame k.component) codings
 unfolding AreCodings
 codings-made said frame [] [] made h = tt
-codings-made said frame (c ∷ choices) (k ∷ codings) made h = (
-  all-at (IsMade frame) c.component frame.components k.component made h.0.component,
-  codings-made said frame choices codings made h.1,
-)
+codings-made said frame (c ∷ choices) (k ∷ codings) made h =
+    grind (arith, common_steps, all-at, IsMade, codings-made said frame choices codings made h.1)
 codings-made said frame _ _ made h = absurd h
 
 -- the samples of the component at a place have its size
@@ -318,12 +274,8 @@ choices-sized : (samples : Samples) (said : Found) (frame : Frame) (choices : Li
 unfolding AreCodings
 choices-sized samples said frame [] codings h all = tt
 choices-sized samples said frame (c ∷ choices) [] h all = absurd h
-choices-sized samples said frame (c ∷ choices) (k ∷ codings) h all = (
-  (λ d e. subst (λ (x : Component). HasSize (samples c.component) x)
-      (same-component k.component d (sym h.0.component ∙ e))
-      (subst (λ (n : ℕ). HasSize (samples n) k.component) h.0.stands all.0)),
-  choices-sized samples said frame choices codings h.1 all.1,
-)
+choices-sized samples said frame (c ∷ choices) (k ∷ codings) h all =
+    grind (arith, common_steps, same-component, choices-sized samples said frame choices codings h.1 all.1)
 
 -- ---- tables
 
@@ -338,8 +290,7 @@ tables-again (suc n) t h = (h, tables-again n t h)
 parts-tables : (parts : List Part) → AllByRecursion (λ p. IsTable p.table) parts → AreTables (mcu_tables parts)
 unfolding mcu_tables
 parts-tables [] h = tt
-parts-tables (p ∷ parts) h = tables-append (replicate (p.down * p.across) p.table) (mcu_tables parts)
-    (tables-again (p.down * p.across) p.table h.0) (parts-tables parts h.1)
+parts-tables (p ∷ parts) h = grind (arith, common_steps, tables-append, tables-again, parts-tables parts h.1)
 
 all-tables : (n : ℕ) (tables : List Table) → AreTables tables → AreTables (row_tables n tables)
 unfolding row_tables
@@ -363,9 +314,7 @@ mapped-tables (k ∷ codings) h = (h.0, mapped-tables codings h.1)
 tables-of-parts : (codings : List LosslessCoding) → AllByRecursion (λ k. IsTable k.table) codings
     → AllByRecursion (λ p. IsTable p.table) (parts_of codings)
 unfolding parts_of
-tables-of-parts [] h = tt
-tables-of-parts (k ∷ []) h = (h.0, tt)
-tables-of-parts (k ∷ j ∷ codings) h = mapped-tables (k ∷ j ∷ codings) h
+tables-of-parts codings h = grind (arith, common_steps, mapped-tables)
 
 -- ---- the data
 
@@ -434,40 +383,12 @@ abbrev by : Found → Frame → List LosslessCoding → List ℕ → Predictor �
 by said frame codings bytes predictor point =
     scan_at (way_of frame predictor point codings) (mcus_down frame codings) said.restart point bytes
 
-lossless-read : (said : Found) (decided : List (Option (List ℕ))) (frame : Frame) (h : ScanHeader)
-    (samples : Samples) (bytes rest : List ℕ)
-    (fill code : ℕ) (m : Marker) (w : WritesScan said frame h samples bytes) → IsScan frame h → frame.process ≡ Lossless
-    → IsShaped frame → HasTables said.huffman → marker_of code ≡ Some m → IsEnd m
-    → lossless_scan (and_samples said decided) frame (scan_written frame h) (bytes ++ marker fill code rest)
-    ≡ Ok (turn_after said (places_of h.choices) samples decided m, rest)
-unfolding lossless_scan scan_of
-lossless-read said decided frame h samples bytes rest fill code m w scan lossless is tables makes end =
-    let all = bytes ++ marker fill code rest in
-    let s = scan_written frame h in
-    let places = map (λ (k : LosslessCoding). k.place) w.codings in
-    then-ok (lossless_codings said.huffman.dc frame s.components s.dc_places) _ w.codings _
-    (codings-read said frame frame h.choices w.codings w.coded)
-    (then-ok (scan_samples (and_samples said decided) frame s w.codings all) _ ((planes_for samples places, Some m), rest)
-    _
-    (ap₂ (by said frame w.codings all) (predictor-of frame h lossless) (point-of frame h scan w.point)
-    ∙ data-read said frame h samples bytes rest fill code m w is tables makes)
-    (then-ok (after_restarts (suc (length rest)) (Some m) rest) _ (Some m, rest) _ (end (length rest) rest)
-    (ap (λ (l : List ℕ). Ok (
-      record {
-        found = and_samples (said_after_scan said) (with_samples l (planes_for samples l) decided);
-        before = scan_before said;
-        met = Some m;
-        ended = false;
-      },
-      rest,
-    )) (places-are said frame h.choices w.codings w.coded))))
-
 pub scan-read : (said : Found) (decided : List (Option (List ℕ))) (frame : Frame) (h : ScanHeader)
     (samples : Samples) (bytes rest : List ℕ)
     (fill code : ℕ) (m : Marker) → WritesScan said frame h samples bytes → said.frame ≡ Some frame → IsScan frame h
     → frame.process ≡ Lossless → IsShaped frame → HasTables said.huffman → marker_of code ≡ Some m → IsEnd m
     → scan_segment (and_samples said decided) (sized (scan_payload h) ++ (bytes ++ marker fill code rest))
     ≡ Ok (turn_after said (places_of h.choices) samples decided m, rest)
-unfolding scan_segment
+unfolding scan_segment lossless_scan scan_of
 scan-read said decided frame h samples bytes rest fill code m w framed scan lossless is tables makes end =
-    grind (arith, common_steps, then-ok, sos-read, lossless-read)
+    grind (arith, common_steps, then-ok, sos-read, codings-read, predictor-of, point-of, data-read, places-are)

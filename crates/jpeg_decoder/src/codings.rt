@@ -47,6 +47,7 @@ pub fn is_progressive(process: CodingProcess) -> bool
 }
 
 /// Returns what a scan codes.
+#[tactic(auto, unfolding(jpeg_streams::specs::ScanSegments::pass_of))]
 pub fn pass_of(header: &ScanInfo) -> Pass
     requires { 1 ≤ (scan_in header.now).after }
     ensures { pass_in result ≡ pass_of (scan_in header.now) }

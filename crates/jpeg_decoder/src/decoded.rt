@@ -72,6 +72,7 @@ fn zero_blocks(
 }
 
 /// Returns the blocks of all components of a frame in which nothing was read yet.
+#[tactic(auto, using(crate::proofs::BlocksBefore::zeros_all))]
 fn zero_frame(
     alloc: Global,
     frame: &FrameInfo,
@@ -224,7 +225,7 @@ impl Decoded {
     }
 
     /// Adds the plane of a component after a scan of a sequential frame.
-    #[tactic(auto, using(crate::proofs::DecidedPlanes::plane_rules))]
+    #[tactic(auto, using(crate::proofs::DecidedPlanes::plane_rules, crate::proofs::PutLoops::decided_as))]
     fn add_plane(&mut self, pass: Pass, place: usize, plane: Vec<u8>)
         requires pass { IsPass (pass_in pass) }
         requires place { place < 4 }
@@ -240,7 +241,7 @@ impl Decoded {
     }
 
     /// Adds the blocks of a component after a scan of a progressive frame.
-    #[tactic(auto, using(crate::proofs::DecidedPlanes::plane_rules))]
+    #[tactic(auto, using(crate::proofs::DecidedPlanes::plane_rules, crate::proofs::PutLoops::decided_as))]
     fn add_blocks(
         &mut self,
         alloc: Global,

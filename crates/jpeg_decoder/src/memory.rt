@@ -110,6 +110,7 @@ fn pixel_bytes(count: usize, precision: u8) -> u64
 }
 
 /// Returns how many bytes the picture takes.
+#[tactic(auto, unfolding(crate::specs::Bytes::picture_bytes))]
 pub(crate) fn picture_bytes(frame: &FrameInfo) -> u64
     requires { length (frame_in frame.now).components ≤ 4 }
     ensures bytes { result ≡ picture_bytes (frame_in frame.now) }

@@ -12,6 +12,7 @@ const ORIENTATION: u16 = 0x0112;
 const SHORT: u16 = 3;
 
 /// Returns the number of two bytes at an offset, if they are there.
+#[tactic(auto, using(crate::proofs::Orientations::two_lower, crate::proofs::Orientations::two_higher))]
 fn short_at(bytes: &[u8], offset: usize, is_little: bool) -> Option<u16>
     ensures { MatchOption result (length bytes.now < offset + 2)
         (λ n. n ≡ number_at is_little offset 2 bytes.now) }
@@ -29,6 +30,7 @@ fn short_at(bytes: &[u8], offset: usize, is_little: bool) -> Option<u16>
 }
 
 /// Returns the number of four bytes at an offset, if they are there.
+#[tactic(auto, using(crate::proofs::Orientations::four_lower, crate::proofs::Orientations::four_higher))]
 fn long_at(bytes: &[u8], offset: usize, is_little: bool) -> Option<u32>
     ensures { MatchOption result (length bytes.now < offset + 4)
         (λ n. n ≡ number_at is_little offset 4 bytes.now) }

@@ -32,6 +32,7 @@ ghost use Rattle.jpeg_streams.specs.WorkedImages.{colour_bytes, colour_picture};
 ghost use Rattle.jpeg_streams.specs.WorkedImages.{grey_bytes, grey_picture};
 
 /// Ten streams of one component, and what they mean.
+#[tactic(auto, unfolding(crate::proofs::OnLiterals::jpeg_on_literals))]
 pub fn known_streams()
     // A block of one coefficient, DC 8, is 64 samples of 129.
     ensures flat { picture_meant (stream_with 8 (67 ∷ [])) ≡ Ok (replicate 64 129) }
@@ -69,6 +70,7 @@ pub fn known_streams()
 {}
 
 /// Streams of several components, with restarts, or in several scans, and what they mean.
+#[tactic(auto, unfolding(crate::proofs::OnLiterals::jpeg_on_literals))]
 pub fn known_scans()
     // Three components give the same picture in one scan and in one each, in any order.
     ensures at_once { picture_meant three_at_once
@@ -136,12 +138,14 @@ pub fn known_orders()
 {}
 
 /// A height and a width that are no multiples of 8 crop the picture.
+#[tactic(auto, unfolding(crate::proofs::OnLiterals::jpeg_on_literals))]
 pub fn known_crops()
     ensures lines { picture_meant (stream_parts 5 8 (67 ∷ []) []) ≡ Ok (replicate 40 129) }
     ensures columns { picture_meant (stream_parts 8 3 (67 ∷ []) []) ≡ Ok (replicate 24 129) }
 {}
 
 /// A frame of an MJPEG stream without its Huffman tables, and what the last Adobe segment says.
+#[tactic(auto, unfolding(crate::proofs::OnLiterals::jpeg_on_literals))]
 pub fn known_applications()
     ensures defaults { picture_meant without_tables ≡ Ok (replicate 64 129) }
     ensures last_adobe { (with_application (with_application no_metadata (Some (Adobe adobe.YCbCr)))
@@ -150,6 +154,7 @@ pub fn known_applications()
 
 /// Streams that break one rule: a restart marker before the frame, a DC difference of more than 11
 /// bits, an MCU of more than 10 blocks, a refinement by two levels.
+#[tactic(auto, unfolding(crate::proofs::OnLiterals::jpeg_on_literals))]
 pub fn known_refusals()
     ensures stray { picture_meant stray_marker ≡ Err Malformed }
     ensures category { picture_meant category_12 ≡ Err Malformed }
@@ -158,6 +163,7 @@ pub fn known_refusals()
 {}
 
 /// The scales for some sizes that are asked for.
+#[tactic(auto, unfolding(jpeg_segments::specs::Scales::scale_for))]
 pub fn known_scales()
     ensures eighth { scale_for 5472 3648 684 456 ≡ 1 }
     ensures quarter { scale_for 5472 3648 685 999 ≡ 2 }
@@ -168,6 +174,7 @@ pub fn known_scales()
 {}
 
 /// Sizes that are no multiples of 8, at each scale.
+#[tactic(auto, unfolding(jpeg_segments::specs::Frame::component_of, jpeg_segments::specs::Frame::frame_of, jpeg_segments::specs::Scales::component_at, jpeg_segments::specs::Scales::frame_at))]
 pub fn known_sizes()
     ensures eighth { (frame_at 1 odd_frame).output_width ≡ 3 }
     ensures quarter { (frame_at 2 odd_frame).output_width ≡ 5 }
@@ -200,12 +207,14 @@ pub fn known_transforms()
 {}
 
 /// Tables that are read replace those that were there.
+#[tactic(auto, unfolding(jpeg_streams::specs::Segments::updated))]
 pub fn known_tables()
     ensures { updated {A = ℕ} (Some 1 ∷ None ∷ Some 3 ∷ None ∷ [])
         (Some 4 ∷ Some 5 ∷ None ∷ None ∷ []) ≡ Some 4 ∷ Some 5 ∷ Some 3 ∷ None ∷ [] }
 {}
 
 /// The rules by which components are upsampled.
+#[tactic(auto, unfolding(jpeg_pixels::specs::Upsampling::rule_of))]
 pub fn known_rules()
     ensures both { rule_of 1 1 2 2 2 2 ≡ Some rules.H2V2 }
     ensures one_column { rule_of 1 1 2 2 1 16 ≡ Some rules.H1V2 }
@@ -217,6 +226,7 @@ pub fn known_rules()
 {}
 
 /// Which colour transform is chosen for components, and how it converts them.
+#[tactic(auto, unfolding(jpeg_streams::specs::ColourChoice::by_identifiers, jpeg_streams::specs::ColourChoice::transform_of, jpeg_pixels::specs::Colour::conversion_of))]
 pub fn known_choices()
     ensures none { transform_of None (0 ∷ 1 ∷ 2 ∷ []) false None ≡ transforms.YCbCr }
     ensures jfif { transform_of None (0 ∷ 1 ∷ 2 ∷ []) true (Some adobe.Unknown) ≡ transforms.YCbCr }
@@ -239,6 +249,7 @@ pub fn known_choices()
 {}
 
 /// Colours of some pixels, by JFIF's equations rounded to the nearest.
+#[tactic(auto, unfolding(jpeg_pixels::specs::Colour::red_of, jpeg_pixels::specs::Colour::green_of, jpeg_pixels::specs::Colour::blue_of, jpeg_pixels::specs::Colour::colour_of))]
 pub fn known_pixels()
     ensures middle { colour_of converts.YCbCr (128 ∷ 100 ∷ 200 ∷ []) ≡ 229 ∷ 86 ∷ 78 ∷ [] }
     ensures bright { colour_of converts.YCbCr (200 ∷ 60 ∷ 90 ∷ []) ≡ 147 ∷ 251 ∷ 80 ∷ [] }
@@ -249,6 +260,7 @@ pub fn known_pixels()
 
 /// Lossless predictions by each selection, the first one of an interval, a line, and the bytes of a
 /// sample.
+#[tactic(auto, unfolding(jpeg_lossless::specs::Prediction::residue, jpeg_lossless::specs::Prediction::first_line, jpeg_lossless::specs::Prediction::line_rest, jpeg_lossless::specs::Prediction::line_below))]
 pub fn known_selections()
     ensures left { selected selections.Ra (pos 10) (pos 20) (pos 13) ≡ pos 10 }
     ensures above { selected selections.Rb (pos 10) (pos 20) (pos 13) ≡ pos 20 }

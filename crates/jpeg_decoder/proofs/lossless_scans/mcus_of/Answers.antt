@@ -19,9 +19,7 @@ pub returns-then-places-eq1-clause-wide : goal.returns-then-places-eq1-clause-wi
 returns-then-places-eq1-clause-wide c = grind (arith, common_steps, only, alone)
 
 pub returns-then-places-eq1-clause-high : goal.returns-then-places-eq1-clause-high
-returns-then-places-eq1-clause-high c =
-    ap (λ (x : Component). x.height) (only c)
-    ∙ sym (alone (frame_in c.args.frame.now) c.args.places.now (search rules)).1
+returns-then-places-eq1-clause-high c = ap (λ (x : Component). x.height) (only c) ∙ sym (alone _ _ (search rules)).1
 
 pub returns-clause-wide : goal.returns-clause-wide
 returns-clause-wide c = grind (arith, common_steps, factors-seen, not-alone)

@@ -11,9 +11,8 @@ plane_bytes-planes-requires c =
     let cs = c.args.frame.now.components.items in
     let r = c.index-component.result.now in
     let count = length-map cs component_in in
-    scale-most (map component_in cs) c.loop-i.i (component_in r) c.requires.sampling
-    (omega (arith, c.loop-i-test.true, c.len-i-end.ensures, count))
-    (mapped-at component_in cs c.loop-i.i r c.index-component.ensures)
+    scale-most _ c.loop-i.i (component_in r) c.requires.sampling (omega
+    (arith, c.loop-i-test.true, c.len-i-end.ensures, count)) (mapped-at _ cs _ r c.index-component.ensures)
 
 pub loop-i-preserved : goal.loop-i-preserved
 loop-i-preserved c =

@@ -5,6 +5,4 @@ use Rattle.jpeg_decoder.proofs.BlocksBefore.{plane_by-length}
 use Rattle.jpeg_decoder.proofs.picture.plane_at_end.Goals as goal
 
 pub returns-clause-whole : goal.returns-clause-whole
-returns-clause-whole c =
-    ap length c.in_ok-render.ensures
-    ∙ plane_by-length (component_in c.args.component.now) c.in_ok-table.table.now (map to_block c.deref.result.now)
+returns-clause-whole c = ap length c.in_ok-render.ensures ∙ plane_by-length _ _ _

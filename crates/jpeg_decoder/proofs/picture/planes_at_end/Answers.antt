@@ -1,3 +1,4 @@
+use Rattle.std.proofs.lemmas.Grind.{common_steps}
 use Rattle.std.proofs.Common.{◌≡◌, ◌<◌, ◌∷◌, ◌++◌, [], drop, get_or, map, rules, arith, refl, sym, ap}
 use Rattle.std.proofs.Common.{None, ◌∙◌, length}
 use Rattle.std.specs.Prelude.{option_map}
@@ -21,22 +22,19 @@ use Rattle.jpeg_decoder.proofs.picture.planes_at_end.Goals as goal
 pub listed : goal.listed
 listed c =
     let within = mapped-within component_in c.args.frame.now.components.items c.loop-place.place (omega arith) in
-    let four = reached-four (with_decoded (found_in c.args.state.now) c.args.decoded.now) (frame_in c.args.frame.now)
-    c.loop-place.place c.requires.sound c.requires.frame within in
+    let four = reached-four _ _ _ c.requires.sound c.requires.frame within in
     omega (arith, four)
 
 pub bounds-decoded-place : goal.bounds-decoded-place
 bounds-decoded-place c =
     let within = mapped-within component_in c.args.frame.now.components.items c.loop-place.place (omega arith) in
-    reached-four (with_decoded (found_in c.args.state.now) c.args.decoded.now) (frame_in c.args.frame.now)
-    c.loop-place.place c.requires.sound c.requires.frame within
+    reached-four _ _ _ c.requires.sound c.requires.frame within
 
 pub take_held-held-requires : goal.take_held-held-requires
 take_held-held-requires c h =
     let within = mapped-within component_in c.args.frame.now.components.items c.loop-place.place (omega arith) in
-    let some = reached-held (with_decoded (found_in c.args.state.now) c.args.decoded.now) (frame_in c.args.frame.now)
-    c.loop-place.place (arrays_in c.loop-place.decoded.held.items) c.requires.sound c.requires.frame within
-    c.loop-place.invariant.held (sym c.are_held-is_held.ensures ∙ h) in
+    let some = reached-held _ _ _ _ c.requires.sound c.requires.frame within c.loop-place.invariant.held
+    (sym c.are_held-is_held.ensures ∙ h) in
     omega (arith, some, length-map c.loop-place.decoded.held.items blocks_in)
 
 -- ---- a component of the frame
@@ -55,8 +53,7 @@ taken : (c : After-index)
     → option_map (λ v. v.items) c.take-plane.result
     ≡ get_or (planes_in c.loop-place.decoded.planes) c.loop-place.place None
 taken c =
-    let four = reached-four (with_decoded (found_in c.args.state.now) c.args.decoded.now) (frame_in c.args.frame.now)
-    c.loop-place.place c.requires.sound c.requires.frame (inside c) in
+    let four = reached-four _ _ _ c.requires.sound c.requires.frame (inside c) in
     mapped-or (λ p. option_map (λ v. v.items) p) c.loop-place.decoded.planes c.loop-place.place c.take-plane.result _
     None (omega (arith, four)) c.take-plane.ensures.value
 
@@ -115,9 +112,7 @@ loop-place-preserved c =
     let joined : map (λ v. v.items) c.push.new.self.items ≡ front ++ plane.items ∷ [] =
     ap (map (λ v. v.items)) pushed ∙ map-append (λ v. v.items) c.loop-place.planes.items (plane ∷ []) in
     record {
-      decided = planes-kept c.loop-place.decoded.planes place _
-          ∙ drop_more_same planes (planes_in c.args.decoded.now.planes)
-          place c.loop-place.invariant.decided;
+      decided = grind (arith, common_steps, planes-kept, drop_more_same);
       held = c.take_held-held.ensures.left ∙ drop_more_same held (arrays_in c.args.decoded.now.held.items) place
           c.loop-place.invariant.held;
       given = one-more (λ i. planes_from found frame i (drop i frame.components)) place

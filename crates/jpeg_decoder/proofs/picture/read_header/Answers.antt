@@ -12,9 +12,8 @@ use Rattle.jpeg_decoder.proofs.picture.read_header.Goals as goal
 pub returns-in_err-read_start-clause-told : goal.returns-in_err-read_start-clause-told
 returns-in_err-read_start-clause-told g c =
     let p = err_from_is_err_and c.from_residual.result c.from_residual.ensures.1 in
-    rw (p.1, p.2) (λ k known.
-    told-err _ (start_at c.args.source.now.bytes) _ (c.in_err-read_start.ensures.1 k known)
-    (λ f h. ap (λ (f : Found). told_of f) c.requires ∙ sym (told-no_start true c.args.source.now.bytes f h)))
+    rw (p.1, p.2) (λ k known. told-err _ (start_at c.args.source.now.bytes) _ (c.in_err-read_start.ensures.1 k known)
+    (λ f h. ap (λ (f : Found). told_of f) c.requires ∙ sym (told-no_start _ _ f h)))
 
 pub returns-clause-told : goal.returns-clause-told
 returns-clause-told g c =
@@ -29,8 +28,7 @@ returns-clause-told g c =
 
 pub returns-in_err-read_start-clause-turns : goal.returns-in_err-read_start-clause-turns
 unfolding IsOfTurns
-returns-in_err-read_start-clause-turns g c k =
-    (0, ap (λ (f : Found). told_of f) c.requires ∙ sym (turns-none true c.args.source.now.bytes))
+returns-in_err-read_start-clause-turns g c k = (0, ap (λ (f : Found). told_of f) c.requires ∙ sym (turns-none _ _))
 
 pub returns-clause-turns : goal.returns-clause-turns
 unfolding IsOfTurns

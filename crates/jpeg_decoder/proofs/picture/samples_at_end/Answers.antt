@@ -1,3 +1,4 @@
+use Rattle.std.proofs.lemmas.Grind.{common_steps}
 use Rattle.std.proofs.Common.{◌≡◌, ◌<◌, ◌∷◌, ◌++◌, ◌∙◌, [], None, Some, ap, sym, arith, drop, get_or, map, rules}
 use Rattle.std.specs.Prelude.{option_map, slice_index_or}
 use Rattle.std.proofs.lemmas.List.{length-map, map-append}
@@ -59,10 +60,7 @@ loop-place-preserved c =
     record {
       left = planes-kept l.decoded.samples l.place _ ∙ drop_more_same (planes_in l.decoded.samples) samples l.place
           l.invariant.left;
-      given = one-more (λ i. samples_from samples i (drop i (frame_in c.args.frame.now).components)) l.place
-          (needed (slice_index_or samples l.place None)) plane.items front _ _
-          (samples-after samples (frame_in c.args.frame.now).components l.place within) (ap needed set) joined
-          l.invariant.given;
+      given = grind (arith, common_steps, one-more, samples-after);
       count = search rules;
     }
 

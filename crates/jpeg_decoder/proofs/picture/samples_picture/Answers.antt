@@ -1,3 +1,4 @@
+use Rattle.std.proofs.lemmas.Grind.{common_steps}
 use Rattle.std.proofs.Common.{length, map, arith}
 use Rattle.std.proofs.lemmas.Result.{err_from_is_err_and}
 use Rattle.jpeg_segments.specs.FrameView.{frame_in}
@@ -43,19 +44,14 @@ compute_image_lossless-requires c =
 
 pub returns-clause-meant : goal.returns-clause-meant
 returns-clause-meant c =
-    let frame = frame_in c.args.frame.now in
-    let found = with_decoded (found_in c.args.state.now) c.args.decoded.now in
     let planes = map (λ v. v.items) c.in_ok-planes.planes.items in
-    picture-given (λ v. v.items) c.compute_image_lossless.result _ _
-    (picture-made found frame planes c.in_ok-planes.ensures.planes)
+    picture-given (λ v. v.items) _ _ _ (picture-made _ _ _ c.in_ok-planes.ensures.planes)
     c.compute_image_lossless.ensures.pixels c.compute_image_lossless.ensures.err
 
 pub returns-clause-size : goal.returns-clause-size
 returns-clause-size c =
     let frame = frame_in c.args.frame.now in
     let planes = map (λ v. v.items) c.in_ok-planes.planes.items in
-    if-samples_size (λ v. v.items) frame planes c.compute_image_lossless.result
-    (c.requires.sound.frames frame c.requires.frame) c.requires.process
-    (samples-whole (planes_in c.args.decoded.now.samples) frame.components planes
-    (c.requires.sound.samples frame c.requires.frame) c.in_ok-planes.ensures.planes)
+    if-samples_size (λ v. v.items) _ _ _ (c.requires.sound.frames frame c.requires.frame) c.requires.process
+    (samples-whole _ _ _ (c.requires.sound.samples frame c.requires.frame) c.in_ok-planes.ensures.planes)
     c.compute_image_lossless.ensures.pixels

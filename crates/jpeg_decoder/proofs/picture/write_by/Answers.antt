@@ -1,3 +1,4 @@
+use Rattle.std.proofs.Common.{rules}
 use Rattle.std.proofs.Common.{◌≡◌, ◌≢◌, ◌≤◌, ◌*◌, ◌∙◌, ℕ, Ok, Vec, Global, arith, ap, length, map, refl, sym}
 use Rattle.std.proofs.lemmas.List.{length-map}
 use Rattle.jpeg_segments.specs.FrameView.{component_in, frame_in}
@@ -15,36 +16,24 @@ copy_from_slice-requires c =
     c.in_ok-picture.ensures c.requires.process in
     omega (arith, c.requires.room, whole.0, ap length c.deref.ensures.value)
 
-several : (c : goal.After-compute_image_rows_into-arg-2-1)
-    → let slice = c.as_slice-components.result.now in
-    (length (frame_in c.args.frame.now).components ≢ 1) × ((3 ≤ length slice) × (length slice ≤ 4))
-several c =
-    several-seen c.args.frame.now.components.items c.as_slice-components.result.now (frame_in c.args.frame.now) refl
-    c.as_slice-components.ensures.value c.requires.frame c.if-components-eq1.false
-
-pub compute_image_rows_into-requires-clause-some : goal.compute_image_rows_into-requires-clause-some
-compute_image_rows_into-requires-clause-some c = (several c).1.0
-
-pub compute_image_rows_into-requires-clause-most : goal.compute_image_rows_into-requires-clause-most
-compute_image_rows_into-requires-clause-most c = (several c).1.1
-
-pub compute_image_rows_into-requires-clause-factors : goal.compute_image_rows_into-requires-clause-factors
-compute_image_rows_into-requires-clause-factors c =
-    rw (c.as_slice-components.ensures.value) (decoded-factors (frame_in c.args.frame.now) c.requires.frame)
-
-pub compute_image_rows_into-requires-clause-cover : goal.compute_image_rows_into-requires-clause-cover
-compute_image_rows_into-requires-clause-cover c =
-    rw (c.as_slice-components.ensures.value, c.deref-2.ensures.value)
-    (decoded-cover (frame_in c.args.frame.now) c.requires.frame (map (λ v. v.items) c.args.planes.items)
-    c.requires.planes)
-
-pub compute_image_rows_into-requires-clause-room : goal.compute_image_rows_into-requires-clause-room
-compute_image_rows_into-requires-clause-room c =
+pub compute_image_rows_into-requires : goal.compute_image_rows_into-requires
+compute_image_rows_into-requires c =
     let frame = frame_in c.args.frame.now in
+    let same = c.as_slice-components.ensures.value in
+    let seen = several-seen c.args.frame.now.components.items c.as_slice-components.result.now frame refl same
+    c.requires.frame c.if-components-eq1.false in
     let count : length frame.components ≡ length c.as_slice-components.result.now =
-    length-map c.args.frame.now.components.items component_in ∙ sym (ap length c.as_slice-components.ensures.value) in
-    c.requires.room ∙ block-bytes frame c.requires.frame c.requires.process
-    ∙ ap (λ n. n * frame.output_width * frame.output_height) count
+    length-map c.args.frame.now.components.items component_in ∙ sym (ap length same) in
+    record {
+      some = seen.1.0;
+      most = seen.1.1;
+      planes = search rules;
+      factors = rw same (decoded-factors frame c.requires.frame);
+      cover = rw (same, c.deref-2.ensures.value) (decoded-cover frame c.requires.frame
+          (map (λ v. v.items) c.args.planes.items) c.requires.planes);
+      room = c.requires.room ∙ block-bytes frame c.requires.frame c.requires.process
+          ∙ ap (λ n. n * frame.output_width * frame.output_height) count;
+    }
 
 pub returns-clause-meant : goal.returns-clause-meant
 returns-clause-meant c =

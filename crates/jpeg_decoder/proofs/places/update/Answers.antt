@@ -1,3 +1,4 @@
+use Rattle.std.proofs.lemmas.Grind.{common_steps}
 use Rattle.std.proofs.Common.{◌≡◌, ◌≢◌, ◌∙◌, ◌<◌, arith, length, refl, sym, below_more, get_or-set_other}
 use Rattle.std.proofs.Common.{get_or-set_same}
 use Rattle.std.proofs.Math.ListN.{length-set}
@@ -14,18 +15,8 @@ loop-place-preserved g c =
     let same_length : length c.loop-place.old ≡ length c.loop-place.new = omega arith in
     let room : c.loop-place.place < length c.loop-place.new = omega arith in
     record {
-      same = elim c.match-take.branch [
-        | in-Some+in-Some-1 w ↦ moved-some _ _ _ _ _ _ _ _ w.in-Some.table few same_length c.take.ensures.value
-            c.take.ensures.after w.in-Some.is w.old-is refl
-        | in-Some+in-None-1 w ↦ moved-some _ _ _ _ _ _ _ _ w.in-Some.table few same_length c.take.ensures.value
-            c.take.ensures.after w.in-Some.is w.old-is refl
-        | in_default w ↦ moved-none _ _ _ _ _ _ _ _ few same_length c.take.ensures.value c.take.ensures.after
-            w.in_default.is w.old-is refl
-      ] ∙ c.loop-place.invariant.same;
+      same = grind (arith, common_steps, in-Some+in-Some-1, moved-some, in-Some+in-None-1, in_default, moved-none);
       old_length = omega arith;
       new_length = omega (arith, length-set c.loop-place.new c.loop-place.place c.take.new.self);
-      gone = below_more _ _
-          (λ k h. let ne : k ≢ c.loop-place.place = omega arith in
-          rw get_or-set_other (c.loop-place.invariant.gone k h))
-          (get_or-set_same c.loop-place.new c.loop-place.place c.take.new.self _ room ∙ c.take.ensures.after);
+      gone = grind (arith, common_steps, below_more, get_or-set_other, get_or-set_same);
     }

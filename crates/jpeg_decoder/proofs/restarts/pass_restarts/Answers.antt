@@ -22,10 +22,7 @@ loop-preserved g c =
     let e : is_restart_marker c.loop.met ≡ true = search rules in
     let m = c.in_ok-read_marker.field-0 in
     record {
-      reads = Continues-ok {X = Marker} (λ m. m) (after_all c.args.met) (after_all c.loop.met) (after_all (Some m))
-          next_marker c.args.source.now c.loop.source c.read_marker.new.source m
-          (λ q. after-next c.loop.met c.loop.source.bytes c.read_marker.new.source.bytes m e q) c.loop.invariant.reads
-          c.in_ok-read_marker.ensures.answers;
+      reads = grind (arith, common_steps, after-next);
       took = λ k.
           let here = c.loop.invariant.reads.1 k in
           let there = c.in_ok-read_marker.ensures.answers.1 here.0 in

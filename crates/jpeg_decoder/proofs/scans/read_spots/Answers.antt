@@ -23,14 +23,13 @@ returns-then-not-begin-clause-blocks g c =
     let s = spot c.in-Some.spot.slot c.in-Some.spot.index in
     let arrays = arrays_in l.arrays.items in
     let now = counted l.interval arrays in
-    rw c.take_refusal.ensures (refused_after (λ (u : Unit {0}). now) (λ (u : Unit {0}). counted c.begin.new.interval arrays)
-    (blocks_from p vias n c.args.spots.now (counted c.args.interval.now (arrays_in c.args.arrays.now.items)))
-    (blocks_from p vias n l.spots now) (begun_from n now)
-    c.args.interval.now.decoder l.interval.decoder c.begin.new.interval.decoder c.args.source.now l.source
-    c.begin.new.source _
-    (λ t f h. ap (λ (m : List Spot). blocks_from p vias n m now t) c.in-Some.ensures
-    ∙ blocks_refused p vias n s c.next.new.self now t f (next_unbegun p vias n s now t f h))
-    l.invariant.blocks (c.if-not-begin.ensures.begun arrays))
+    rw c.take_refusal.ensures (refused_after (λ (u : Unit {0}). now)
+    (λ (u : Unit {0}). counted c.begin.new.interval arrays) (blocks_from p vias n c.args.spots.now
+    (counted c.args.interval.now (arrays_in c.args.arrays.now.items))) (blocks_from p vias n l.spots now)
+    (begun_from n now) c.args.interval.now.decoder l.interval.decoder c.begin.new.interval.decoder c.args.source.now
+    l.source c.begin.new.source _ (λ t f h. ap (λ (m : List Spot). blocks_from p vias n m now t) c.in-Some.ensures
+    ∙ blocks_refused p _ n s _ now t f (next_unbegun p _ n s now t f h)) l.invariant.blocks
+    (c.if-not-begin.ensures.begun arrays))
 
 pub returns-then-not-take_block-clause-sizes : goal.returns-then-not-take_block-clause-sizes
 returns-then-not-take_block-clause-sizes g c = grind (arith, common_steps, sizes-set)

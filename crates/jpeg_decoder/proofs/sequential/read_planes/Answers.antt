@@ -1,3 +1,4 @@
+use Rattle.std.proofs.lemmas.Grind.{common_steps}
 use Rattle.std.proofs.Common.{◌≡◌, ◌∙◌, ◌-◌, ◌+◌, ◌*◌, [], ap, ap₂, map, sym, refl, subst, ℕ, List, Option, Result, Ok, Err}
 use Rattle.std.proofs.Common.{arith, length}
 use Rattle.std.specs.List.{AllByRecursion, range_with_len}
@@ -44,15 +45,7 @@ loop-row-init g c =
           (rows-spots frame cs c.in_ok-rows.rows.items c.requires.fits sized));
       count = c.requires.planes;
       lengths = lengths-none cs planes;
-      strips = rw c.first_interval-interval.ensures (
-        refl,
-        λ k. (
-          k,
-          ap (λ (rows : List (List Spot)). strips_from (pass_in c.args.scan.now.pass) (vias_in 0 cs) o.interval
-              (map coding_in cs) rows planes (counted_at_start o.interval [])
-              (upcoming fresh c.args.source.now.bytes)) (whole-rows (walk_of_row o) o.rows),
-        ),
-      );
+      strips = grind (arith, common_steps, whole-rows);
     }
 
 pub read_spots-requires : goal.read_spots-requires
@@ -81,22 +74,18 @@ returns-in_err-read_spots-clause-planes g c =
     let l = c.loop-row in
     let planes = planes_in l.planes.items in
     let zeros = arrays_in c.clear_rows.new.rows.items in
-    let none : zeros ≡ zero_rows 1 (components_of codings) = c.clear_rows.ensures.zeros
-    ∙ ap zeros_of l.invariant.sizes ∙ zeros-are cs in
+    let none : zeros ≡ zero_rows 1 (components_of codings) = c.clear_rows.ensures.zeros ∙ ap zeros_of l.invariant.sizes
+    ∙ zeros-are cs in
     rw (e.1, e.2) (rows-refused (frame_in c.args.frame.now) cs p (vias_in 0 cs) c.args.scan.now.restart_interval o
-    c.in_ok-order.ensures (planes_in c.args.planes.now.items) c.args.source.now
-    (λ (u : Unit {0}). planes) (λ (m : Option Marker). (planes, m)) c.read_spots.new.interval.decoder
-    c.read_spots.new.source _
+    c.in_ok-order.ensures (planes_in c.args.planes.now.items) c.args.source.now (λ (u : Unit {0}). planes)
+    (λ (m : Option Marker). (planes, m)) c.read_spots.new.interval.decoder c.read_spots.new.source _
     (refused_after (λ (u : Unit {0}). planes) (λ (u : Unit {0}). counted c.read_spots.new.interval
-    (arrays_in c.read_spots.new.arrays.items))
-    (strips_from p (vias_in 0 cs) o.interval codings (walks_of_rows o)
+    (arrays_in c.read_spots.new.arrays.items)) (strips_from p (vias_in 0 cs) o.interval codings (walks_of_rows o)
     (planes_in c.args.planes.now.items) (counted_at_start o.interval []))
     (strips_from p (vias_in 0 cs) o.interval codings (map f (range_with_len l.row (o.rows - l.row))) planes
-    (counted l.interval []))
-    (blocks_from p (vias_in 0 cs) o.interval c.row-spots.result (counted l.interval zeros))
+    (counted l.interval [])) (blocks_from p (vias_in 0 cs) o.interval c.row-spots.result (counted l.interval zeros))
     fresh l.interval.decoder c.read_spots.new.interval.decoder c.args.source.now l.source c.read_spots.new.source _
-    (λ t fault h. strips_refused p (vias_in 0 cs) o.interval codings f c.row-spots.result l.row o.rows planes zeros
-    (counted l.interval []) t fault c.loop-row-test.true none c.row-spots.ensures h)
+    (λ t fault h. strips_refused p _ _ _ f _ _ _ _ _ _ t _ c.loop-row-test.true none c.row-spots.ensures h)
     l.invariant.strips c.in_err-read_spots.ensures.blocks))
 
 pub loop-row-preserved : goal.loop-row-preserved
@@ -148,19 +137,16 @@ loop-row-preserved g c =
     }
 
 on-any : {X E P : Type 0} (r : Result X E) → P → OnOk r P
-on-any (Ok x) h = h
-on-any (Err e) h = tt
+on-any r h = grind (arith, common_steps)
 
 pub returns-clause-sizes : goal.returns-clause-sizes
 returns-clause-sizes g c =
     let cs = c.args.scan.now.components.items in
     let l = c.loop-row in
     let end : l.row ≡ c.in_ok-order.order.rows = omega (arith, c.loop-row-test.false, l.auto.row-end) in
-    λ none.
-    on-any c.take_marker.result
-    (l.invariant.lengths none
-    ∙ ap (λ (k : ℕ). map (λ (x : Coded). samples_in (k * down_in x) x) cs) (end ∙ c.in_ok-order.ensures.rows)
-    ∙ lengths-all (frame_in c.args.frame.now) cs c.requires.fits)
+    λ none. on-any c.take_marker.result (l.invariant.lengths none ∙ ap
+    (λ (k : ℕ). map (λ (x : Coded). samples_in (k * down_in x) x) cs) (end ∙ c.in_ok-order.ensures.rows)
+    ∙ lengths-all _ cs c.requires.fits)
 
 pub returns-clause-planes : goal.returns-clause-planes
 returns-clause-planes g c =
@@ -171,15 +157,10 @@ returns-clause-planes g c =
     let l = c.loop-row in
     let planes = planes_in l.planes.items in
     let start = planes_in c.args.planes.now.items in
-    scan-ended (frame_in c.args.frame.now) cs p (vias_in 0 cs) c.args.scan.now.restart_interval o
-    c.in_ok-order.ensures start c.args.source.now
-    (λ (u : Unit {0}). planes) l.interval.decoder l.source c.take_marker.new.source tt c.take_marker.result
-    (Leaves-end (λ (u : Unit {0}). planes)
-    (strips_from p (vias_in 0 cs) o.interval codings (walks_of_rows o) start (counted_at_start o.interval []))
-    (strips_from p (vias_in 0 cs) o.interval codings (map (walk_of_row o) (range_with_len l.row (o.rows - l.row))) planes
-    (counted l.interval []))
-    fresh l.interval.decoder c.args.source.now l.source tt
-    (λ t. strips_none p (vias_in 0 cs) o.interval codings (walk_of_row o) l.row o.rows planes (counted l.interval []) t
-    c.loop-row-test.false)
-    l.invariant.strips)
-    c.take_marker.ensures.answers
+    scan-ended (frame_in c.args.frame.now) cs p (vias_in 0 cs) c.args.scan.now.restart_interval o c.in_ok-order.ensures
+    start c.args.source.now (λ (u : Unit {0}). planes) l.interval.decoder l.source c.take_marker.new.source tt
+    c.take_marker.result (Leaves-end (λ (u : Unit {0}). planes) (strips_from p (vias_in 0 cs) o.interval codings
+    (walks_of_rows o) start (counted_at_start o.interval [])) (strips_from p (vias_in 0 cs) o.interval codings
+    (map (walk_of_row o) (range_with_len l.row (o.rows - l.row))) planes (counted l.interval [])) fresh
+    l.interval.decoder c.args.source.now l.source tt (λ t. strips_none p _ _ _ _ _ _ _ _ t c.loop-row-test.false)
+    l.invariant.strips) c.take_marker.ensures.answers

@@ -12,11 +12,9 @@ returns-in_err-read_info-clause-reads g c =
     let e = err_from_is_err_and c.from_residual.result c.from_residual.ensures.1 in
     let w = c.args.requested_width in
     let h = c.args.requested_height in
-    let bytes = c.args.self.now.source.bytes in
-    rw (e.1, e.2) (λ fresh.
-    answers-err (λ (u : Unit {0}). c.read_info.new.self.found) (λ (size : ℕ × ℕ). c.read_info.new.self.found) header_at
-    (sized_header_at w h) c.args.self.now.source c.read_info.new.self.source _
-    (λ fault k. sized-refused w h bytes fault k) (c.in_err-read_info.ensures.reads fresh))
+    rw (e.1, e.2) (λ fresh. answers-err (λ (u : Unit {0}). c.read_info.new.self.found)
+    (λ (size : ℕ × ℕ). c.read_info.new.self.found) header_at (sized_header_at w h) c.args.self.now.source
+    c.read_info.new.self.source _ (λ fault k. sized-refused w h _ _ k) (c.in_err-read_info.ensures.reads fresh))
 
 pub returns-clause-reads : goal.returns-clause-reads
 returns-clause-reads g c =

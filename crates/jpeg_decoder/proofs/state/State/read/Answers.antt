@@ -1,3 +1,4 @@
+use Rattle.std.proofs.lemmas.Grind.{common_steps}
 use Rattle.std.proofs.Common.{is_some, Option, ◌≡◌, ◌∙◌, ◌+◌, ◌<◌, ◌^◌, suc, true, None, sym, ap, arith, length}
 use Rattle.std.proofs.lemmas.Result.{err_from_is_err_and}
 use Rattle.jpeg_bits.proofs.Loops.{Continues-err}
@@ -26,21 +27,17 @@ returns-in_err-step-clause-reads g c =
     rw (p.1, p.2) (Continues-err {X = Unit {0}} {Z = Step} (λ _. found_in c.read_turn.new.self)
     (turn_of c.read_turn.new.self) (segments_at c.args.header Elsewhere (found_in c.args.self.now) None)
     (segments_at c.args.header c.loop.before found c.loop.met) (turn_at c.loop.before found c.loop.met)
-    c.args.source.now c.loop.source c.read_turn.new.source _
-    (λ f h. segments-refused c.args.header c.loop.before found c.loop.met c.loop.source.bytes f
+    c.args.source.now c.loop.source c.read_turn.new.source _ (λ f h. segments-refused _ _ _ _ _ f
     (sym c.if-is_read_for.ensures) h) c.loop.invariant.reads c.in_err-step.ensures.reads)
 
 pub returns-in_err-step-clause-told : goal.returns-in_err-step-clause-told
 returns-in_err-step-clause-told g c =
     let p = err_from_is_err_and c.from_residual.result c.from_residual.ensures.1 in
     let found = found_in c.loop.self in
-    rw (p.1, p.2) (λ k known.
-    let here = c.loop.invariant.reads.1 k in
-    told-err _ (turn_at c.loop.before found c.loop.met c.loop.source.bytes) _ (c.in_err-step.ensures.reads.1 here.0
-    known)
-    (λ f h. c.in_err-step.ensures.steps.kept ∙ ap (λ (f : Found). told_of f) (sym (c.loop.invariant.told k
-    ∙ told-refused c.args.header c.loop.before found c.loop.met c.loop.source.bytes f (sym c.if-is_read_for.ensures)
-    h))))
+    rw (p.1, p.2) (λ k known. let here = c.loop.invariant.reads.1 k in told-err _
+    (turn_at c.loop.before found c.loop.met c.loop.source.bytes) _ (c.in_err-step.ensures.reads.1 here.0 known)
+    (λ f h. c.in_err-step.ensures.steps.kept ∙ ap (λ (f : Found). told_of f)
+    (sym (c.loop.invariant.told k ∙ told-refused _ _ _ _ _ f (sym c.if-is_read_for.ensures) h))))
 
 pub returns-then-is_read_for-clause-reads : goal.returns-then-is_read_for-clause-reads
 returns-then-is_read_for-clause-reads g c = (
@@ -55,9 +52,7 @@ returns-then-is_read_for-clause-reads g c = (
 
 pub returns-then-is_read_for-clause-told : goal.returns-then-is_read_for-clause-told
 returns-then-is_read_for-clause-told g c k =
-    ap (λ (f : Found). told_of f) (sym (c.loop.invariant.told k
-    ∙ told-stop c.args.header c.loop.before (found_in c.loop.self) c.loop.met c.loop.source.bytes
-    (sym c.if-is_read_for.ensures)))
+    ap (λ (f : Found). told_of f) (sym (c.loop.invariant.told k ∙ told-stop _ _ _ _ _ (sym c.if-is_read_for.ensures)))
 
 pub returns-in_err-step-clause-turns : goal.returns-in_err-step-clause-turns
 unfolding IsOfTurns
@@ -104,10 +99,8 @@ pub returns-then-step-clause-told : goal.returns-then-step-clause-told
 returns-then-step-clause-told g c k =
     let here = c.loop.invariant.reads.1 k in
     let there = c.in_ok-step.ensures.reads.1 here.0 in
-    ap (λ (f : Found). told_of f) (sym (c.loop.invariant.told k
-    ∙ told-end c.args.header c.loop.before (found_in c.loop.self) c.loop.met c.loop.source.bytes
-    c.read_turn.new.source.bytes (turn_of c.read_turn.new.self c.in_ok-step.step) (sym c.if-is_read_for.ensures)
-    c.if-step.true there.1))
+    ap (λ (f : Found). told_of f) (sym (c.loop.invariant.told k ∙ told-end _ _ _ _ _ _ _
+    (sym c.if-is_read_for.ensures) c.if-step.true there.1))
 
 stays-on : (mid new old : State) → (found_in mid).frame ≡ (found_in old).frame → (is_some (found_in mid).frame ≡ true
     → (found_in new).frame ≡ (found_in mid).frame) → is_some (found_in old).frame ≡ true
