@@ -1,5 +1,5 @@
 -- A number that isn't 0, and its correction bit.
-use Rattle.std.proofs.Common.{◌≡◌, ℕ, zero, ◌-◌, ◌*◌, ◌<◌, ◌≤◌, Bool, false, ℤ, pos, Option, Some, None, Result, Ok}
+use Rattle.std.proofs.Common.{◌≡◌, ℕ, ◌*◌, ◌<◌, ◌≤◌, Bool, false, ℤ, Option, Some, None, Result, Ok}
 use Rattle.std.proofs.Common.{refl, sym, ap, ◌∙◌, arith, w16, FitsSigned}
 use Rattle.std.proofs.lemmas.Bool.{false≢true, lt-ltb, ne_eqb}
 use Rattle.jpeg_bits.specs.Stream.{Stream}
@@ -9,7 +9,6 @@ use Rattle.jpeg_bits.specs.Refinement.{is_zero}
 use Rattle.jpeg_bits.specs.Entropy.{Text, Ahead, Takes, bits_from, upcoming}
 use Rattle.jpeg_bits.specs.Pieces.{place_from, moved_within, distance_of}
 use Rattle.jpeg_bits.specs.declared.error.Error.{Error}
-use Rattle.jpeg_bits.specs.declared.error.Error.TheVariants as errors
 use Rattle.jpeg_bits.proofs.Loops.{Names-through}
 use Rattle.jpeg_bits.proofs.PieceWalks.{by_bool}
 

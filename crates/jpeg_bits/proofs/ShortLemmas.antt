@@ -1,6 +1,6 @@
 -- Short codes and values.
 use Rattle.std.proofs.lemmas.Grind.{common_steps}
-use Rattle.std.proofs.Common.{◌≡◌, ◌≢◌, length-set, set, below_more, get_or-set_other, get_or-set_same, ℕ, ℤ, zero, suc}
+use Rattle.std.proofs.Common.{◌≡◌, length-set, set, below_more, get_or-set_other, get_or-set_same, ℕ, ℤ, zero, suc}
 use Rattle.std.proofs.Common.{◌+◌, ◌-◌, ◌*◌, ◌/◌, ◌%◌, ◌^◌, ◌<◌, ◌≤◌, Bool, true, false, cond, eqb, leb, ltb, ◌&&◌}
 use Rattle.std.proofs.Common.{List, [], ◌∷◌, ◌++◌, length, take, drop, get_or, replicate, Option, Some, None, Ok, refl}
 use Rattle.std.proofs.Common.{sym, ap, ◌∙◌, arith, inl, inr, length-append, length-take, length-drop, IfSome, is_some}
@@ -16,14 +16,12 @@ use Rattle.jpeg_bits.specs.Entropy.{number_of, extended, upcoming_by, has_held, 
 use Rattle.jpeg_bits.specs.Readers.{read_on, signed_from}
 use Rattle.jpeg_bits.specs.Written.{low_bits}
 use Rattle.jpeg_bits.specs.Codes.{Table, code_in, code_lengths, code_value, begins, first_from, next_16, is_ac}
-use Rattle.jpeg_bits.specs.Codes.{lengths_from, short_token, after_code, short_code_by, short_code_from, short_value}
+use Rattle.jpeg_bits.specs.Codes.{short_token, after_code, short_code_by, short_code_from, short_value}
 use Rattle.jpeg_bits.specs.Codes.{fast_from}
 use Rattle.jpeg_bits.specs.ShortCodes.{IsOf, named, symbol_in, short_only, short_code, short_value_by, short_value_of}
 use Rattle.jpeg_bits.specs.ShortCodes.{next_bits, packed}
 use Rattle.jpeg_bits.specs.declared.codes.HuffmanTableClass.{HuffmanTableClass}
-use Rattle.jpeg_bits.specs.declared.codes.HuffmanTableClass.TheVariants as classes
 use Rattle.jpeg_bits.specs.declared.ahead.DataEnd.{DataEnd}
-use Rattle.jpeg_bits.specs.declared.ahead.DataEnd.TheVariants as ends
 use Rattle.std.proofs.Math.Nat.{mod-lt}
 use Rattle.jpeg_bits.proofs.WrittenBits.{length-low_bits, number_of-low_bits}
 use Rattle.jpeg_bits.proofs.Reservoirs.{low_bits-append, low_bits-zeros, low_bits-take, low_bits-drop, same_zeros}

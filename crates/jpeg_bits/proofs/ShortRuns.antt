@@ -1,12 +1,11 @@
 -- Bytes that the same short code begins.
-use Rattle.std.proofs.Common.{◌≡◌, ℕ, ◌+◌, ◌-◌, ◌*◌, ◌/◌, ◌%◌, ◌^◌, ◌<◌, ◌≤◌, ◌++◌, false, cond, List, take, length}
-use Rattle.std.proofs.Common.{get_or, replicate, IfSome, Option, Some, sym, ap, ◌∙◌, subst, arith}
+use Rattle.std.proofs.Common.{◌≡◌, ℕ, ◌+◌, ◌-◌, ◌*◌, ◌/◌, ◌%◌, ◌^◌, ◌<◌, ◌≤◌, false, List, length}
+use Rattle.std.proofs.Common.{replicate, IfSome, Option, Some, sym, ap, ◌∙◌, arith}
 use Rattle.std.proofs.lemmas.Bool.{false≢true}
 use Rattle.std.proofs.lemmas.List.{take-append-le}
 use Rattle.std.proofs.Math.Nat.{div-mul-le_self, div-eq_of_lt-le, mul-le-mul_right}
 use Rattle.std.proofs.lemmas.Nat.{pow-add}
 use Rattle.jpeg_bits.specs.Written.{low_bits}
-use Rattle.jpeg_bits.specs.Codes.{code_in, code_lengths}
 use Rattle.jpeg_bits.specs.ShortCodes.{named, short_only, short_code, IsRun}
 use Rattle.jpeg_bits.proofs.Reservoirs.{low_bits-take, front_small}
 use Rattle.jpeg_bits.proofs.ShortLemmas.{at_most, short_agree}

@@ -4,7 +4,7 @@ use Rattle.std.proofs.Common.{Err, refl, sym, ap, ◌∙◌, is_ok, get_or}
 use Rattle.std.proofs.lemmas.Bool.{false≢true}
 use Rattle.jpeg_bits.specs.Stream.{Stream}
 use Rattle.jpeg_bits.specs.Reading.{Fault, ◌>>=◌ as ◌>>r=◌, Names, NamesFormat}
-use Rattle.jpeg_bits.specs.Entropy.{Text, Ahead, Takes, upcoming_by, upcoming, has_held, IsFilled}
+use Rattle.jpeg_bits.specs.Entropy.{Ahead, Takes, upcoming_by, upcoming, has_held, IsFilled}
 use Rattle.jpeg_bits.specs.Codes.{Table, code_in, code_lengths, next_16, symbol_from, fast_from, if_held, code_from}
 use Rattle.jpeg_bits.specs.ShortCodes.{symbol_in, short_value_of, next_bits}
 use Rattle.jpeg_bits.specs.declared.error.Error.{Error}

@@ -11,7 +11,7 @@ use Rattle.std.proofs.Math.Logic.{⊎_elim}
 use Rattle.std.proofs.lemmas.List.{take-append-le, take_all, drop_at, take-take, get_or-take, length-replicate}
 use Rattle.std.proofs.lemmas.List.Sums.{sum_by-append, sum_by_more, sum_by-take-le}
 use Rattle.jpeg_bits.specs.Codes.{Table, code_lengths, lengths_from, code_value, HasCodes, codes_exist, all_below}
-use Rattle.jpeg_bits.specs.Codes.{begins, first_from, code_in, next_16, symbol_by, symbol_from, code_from, code_by}
+use Rattle.jpeg_bits.specs.Codes.{begins, first_from, code_in, next_16, symbol_from, code_from, code_by}
 use Rattle.jpeg_bits.specs.Entropy.{Text, number_of}
 use Rattle.jpeg_bits.proofs.CodeLemmas.{first_from-skip, first_from-hit}
 use Rattle.jpeg_bits.proofs.Held.{has_enough, bit_le}

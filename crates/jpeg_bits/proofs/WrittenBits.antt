@@ -9,7 +9,7 @@ use Rattle.std.proofs.Math.Nat.{mod-one, add-mul}
 use Rattle.std.proofs.lemmas.List.{take-append-le, take_all, drop_at, drop-drop}
 use Rattle.jpeg_bits.specs.Entropy.{bits_from, number_of}
 use Rattle.jpeg_bits.proofs.Held.{has_enough}
-use Rattle.jpeg_bits.specs.Readers.{Reads, ◌>>=◌, gives, text, ReadsJust}
+use Rattle.jpeg_bits.specs.Readers.{Reads, ◌>>=◌, gives, ReadsJust}
 use Rattle.jpeg_bits.specs.Written.{bit, low_bits}
 
 pub takes-gives : {A : Type 0} (x : A) → ReadsJust (gives x) [] x

@@ -5,7 +5,6 @@ use Rattle.std.proofs.lemmas.List.{ext_get_or, get_or-map, length-map, get_or-se
 use Rattle.std.proofs.lemmas.List.Folds.{list_all_at}
 use Rattle.std.proofs.lemmas.List.FromFn.{get_or-range_with_len}
 use Rattle.std.proofs.lemmas.Bool.{cases_eq, cases_lt, ltb-true, false_from_ne_true, false≢true}
-use Rattle.std.proofs.Math.Logic.{⊎_elim}
 use Rattle.std.proofs.Math.Dec.{ltb}
 use Rattle.std.specs.List.{list_all, range_with_len}
 use Rattle.jpeg_bits.specs.Zigzag.{zigzag, zigzag_places, coefficients_in_zigzag, coefficients_in_block_order}

@@ -1,5 +1,5 @@
-use Rattle.std.proofs.Common.{◌≡◌, ◌∙◌, ◌+◌, ◌*◌, ◌%◌, ◌++◌, ℕ, ℤ, List, Bool, sym, ap, subst, arith, rules, replicate}
-use Rattle.std.proofs.Common.{false, slice_index_or, None}
+use Rattle.std.proofs.Common.{◌≡◌, ◌∙◌, ◌+◌, ◌*◌, ◌%◌, ◌++◌, ℕ, List, Bool, sym, ap, subst, arith, replicate}
+use Rattle.std.proofs.Common.{false, None}
 use Rattle.jpeg_bits.specs.Codes.{code_in, code_lengths}
 use Rattle.jpeg_bits.specs.Written.{low_bits}
 use Rattle.jpeg_bits.specs.ShortCodes.{ArePassed, named, packed, short_value_by, short_value_of}

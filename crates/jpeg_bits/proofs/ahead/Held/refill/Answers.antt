@@ -1,7 +1,7 @@
-use Rattle.std.proofs.Common.{◌≤◌, length, subst, sym, arith}
+use Rattle.std.proofs.Common.{arith}
 use Rattle.jpeg_bits.specs.Entropy.{Ahead}
 use Rattle.jpeg_bits.specs.Refusals.{held_refusal}
-use Rattle.jpeg_bits.proofs.Texts.{none_from, within_byte, Holds, Holds-byte, Holds-end, Holds-refused}
+use Rattle.jpeg_bits.proofs.Texts.{none_from, within_byte, Holds-byte, Holds-end, Holds-refused}
 use Rattle.jpeg_bits.proofs.ahead.Held.refill.Goals as goal
 
 pub loop-held-preserved-in-Some-Byte : goal.loop-held-preserved-in-Some-Byte

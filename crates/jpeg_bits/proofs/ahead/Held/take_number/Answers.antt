@@ -1,6 +1,6 @@
 use Rattle.std.proofs.Common.{arith}
 use Rattle.std.proofs.Common.{refl, ap, ◌∙◌, sym}
-use Rattle.jpeg_bits.specs.Entropy.{Ahead, has_held}
+use Rattle.jpeg_bits.specs.Entropy.{Ahead}
 use Rattle.jpeg_bits.proofs.Held.{Takes-held, Takes-refused, MayFail-same}
 use Rattle.jpeg_bits.specs.Refusals.{held_refusal}
 use Rattle.jpeg_bits.proofs.ahead.Held.take_number.Goals as goal

@@ -1,7 +1,6 @@
 use Rattle.std.proofs.Common.{arith}
-use Rattle.std.proofs.Common.{Ok, Err}
+use Rattle.std.proofs.Common.{Ok}
 use Rattle.jpeg_bits.specs.Codes.{symbol_from}
-use Rattle.jpeg_bits.specs.Refusals.{held_refusal}
 use Rattle.jpeg_bits.proofs.Calls.{Takes-ahead}
 use Rattle.jpeg_bits.proofs.ShortSymbols.{Symbol-of-code, Symbol-no-code}
 use Rattle.jpeg_bits.proofs.ahead.Held.take_symbol.Goals as goal

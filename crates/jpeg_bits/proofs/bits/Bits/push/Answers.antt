@@ -1,6 +1,5 @@
-use Rattle.std.proofs.Common.{◌∙◌, ◌≤◌, ◌<◌, ◌+◌, ◌++◌, ap, ℕ, List, Bool, arith, sym, subst}
-use Rattle.jpeg_bits.specs.Entropy.{bits_of}
-use Rattle.jpeg_bits.specs.Reservoir.{bits_held, IsReservoir}
+use Rattle.std.proofs.Common.{◌≤◌, ◌<◌, ◌+◌, ℕ, arith, sym, subst}
+use Rattle.jpeg_bits.specs.Reservoir.{IsReservoir}
 use Rattle.jpeg_bits.proofs.WrittenBits.{length-low_bits}
 use Rattle.jpeg_bits.proofs.Reservoirs.{byte_zeros, byte_held, byte_fits, byte_shifted}
 use Rattle.jpeg_bits.proofs.bits.Bits.push.Goals as goal

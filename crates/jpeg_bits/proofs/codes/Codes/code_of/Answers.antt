@@ -1,5 +1,4 @@
-use Rattle.std.proofs.Common.{◌∙◌, ◌+◌, ◌-◌, ◌<◌, ◌≤◌, sym, ap, ℕ, Some, arith, get_or}
-use Rattle.jpeg_bits.specs.ShortCodes.{named, no_row}
+use Rattle.std.proofs.Common.{◌<◌, arith}
 use Rattle.jpeg_bits.proofs.RowLemmas.{first_le, index_within, row_found, none_found, passed-none}
 use Rattle.jpeg_bits.proofs.codes.Codes.code_of.Goals as goal
 
