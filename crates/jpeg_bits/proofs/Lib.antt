@@ -15,6 +15,7 @@ pub mod ShortRuns
 pub mod RowLemmas
 pub mod ShortSymbols
 pub mod WideTokens
+pub mod SkipLemmas
 pub mod Tables
 pub mod EndLemmas
 pub mod MarkerLemmas
