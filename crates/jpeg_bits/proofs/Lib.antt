@@ -24,12 +24,14 @@ pub mod Fast
 pub mod BandLoop
 pub mod WholeBlocks
 pub mod BandSteps
+pub mod SkipLoop
 pub mod SetBits
 mod Masks
 pub mod PieceWalks
 pub mod RefinedPieces
 pub mod RefinedBands
 pub mod BlockParts
+pub mod DcAlone
 pub mod Corrections
 pub mod ZigzagPlaces
 pub mod ZigzagParts

@@ -88,3 +88,6 @@ kept false b = dc_alone b
 -- what is kept of a turn: of its block, and the next predictor and run
 abbrev pub kept_turn : Bool → Block × ℤ × ℕ → Reads (Block × ℤ × ℕ)
 kept_turn keeps r = gives (kept keeps r.0, r.1, r.2)
+
+abbrev pub kept_from : Bool → Reads (Block × ℤ × ℕ) → Reads (Block × ℤ × ℕ)
+kept_from keeps read = read >>= kept_turn keeps
