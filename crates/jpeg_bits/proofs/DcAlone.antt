@@ -6,7 +6,7 @@ use Rattle.std.proofs.Common.{set, Result, Ok, Err, refl, sym, ap, ap₂, subst,
 use Rattle.std.proofs.Common.{Option, is_ok, get_or}
 use Rattle.std.proofs.lemmas.List.{length-map}
 use Rattle.std.proofs.lemmas.Bool.{false≢true}
-use Rattle.jpeg_bits.specs.Reading.{Fault}
+use Rattle.jpeg_bits.specs.Reading.{Fault, Names}
 use Rattle.jpeg_bits.specs.Stream.{Stream}
 use Rattle.jpeg_bits.specs.Entropy.{Text, Ahead, Takes, upcoming}
 use Rattle.jpeg_bits.specs.Codes.{Table}
@@ -15,7 +15,7 @@ use Rattle.jpeg_bits.specs.Bands.{Band}
 use Rattle.jpeg_bits.specs.Passes.{Pass, Block, band_of, before_band, band_size, with_band, dc_part, band_part, block_from}
 use Rattle.jpeg_bits.specs.Refusals.{outcome_of}
 use Rattle.jpeg_bits.specs.BlockView.{to_block, IsPass}
-use Rattle.jpeg_bits.specs.Skips.{run_within, run_of, run_part, dc_alone, kept, kept_turn}
+use Rattle.jpeg_bits.specs.Skips.{run_within, run_of, run_part, dc_alone, kept, kept_from, kept_turn}
 use Rattle.jpeg_bits.specs.declared.error.Error.{Error}
 use Rattle.jpeg_bits.proofs.BandLoop.{Leaves}
 use Rattle.jpeg_bits.proofs.Loops.{Names-through}
@@ -204,3 +204,19 @@ blocks-alike p dc ac predictor run b c t f e =
 
 abbrev pub keep : Bool → Block × ℤ × ℕ → Block × ℤ × ℕ
 keep keeps r = (kept keeps r.0, r.1, r.2)
+
+-- where all is kept, a block is read as it is
+whole-kept : (o : Result ((Block × ℤ × ℕ) × Text) Fault) → read_on (kept_turn true) o ≡ o
+whole-kept (Ok r) = refl
+whole-kept (Err e) = refl
+
+pub Takes-whole : {X : Type 0} (view : X → Block × ℤ × ℕ) (read : Reads (Block × ℤ × ℕ)) (a b : Ahead)
+    (old new : Stream) (r : Result X Error) → Takes view (kept_from true read) a old r b new
+    → Takes view read a old r b new
+Takes-whole view read a b old new (Ok x) h =
+    (h.0, λ known. let at = h.1 known in (at.0, sym (whole-kept (read (upcoming a old.bytes))) ∙ at.1))
+Takes-whole view read a b old new (Err e) h = (
+  h.0,
+  (λ known still. subst (Names e) (whole-kept (read (upcoming a old.bytes))) (h.1 known still)),
+  h.2,
+)
