@@ -15,6 +15,7 @@ pub mod ShortRuns
 pub mod RowLemmas
 pub mod ShortSymbols
 pub mod WideTokens
+pub mod SkipLemmas
 pub mod Tables
 pub mod EndLemmas
 pub mod MarkerLemmas
@@ -23,12 +24,14 @@ pub mod Fast
 pub mod BandLoop
 pub mod WholeBlocks
 pub mod BandSteps
+pub mod SkipLoop
 pub mod SetBits
 mod Masks
 pub mod PieceWalks
 pub mod RefinedPieces
 pub mod RefinedBands
 pub mod BlockParts
+pub mod DcAlone
 pub mod Corrections
 pub mod ZigzagPlaces
 pub mod ZigzagParts

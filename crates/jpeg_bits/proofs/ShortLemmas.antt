@@ -147,7 +147,7 @@ none_short counts symbols bits h none c le found = grind (arith, short_of_16, fa
 -- ---- values by their first n bits
 
 -- the next n bits of a text of which n are held
-next-held : (n : ℕ) (bits : List Bool) (met : Option DataEnd) (bytes : List ℕ) → n ≤ 16 → IsFilled n bits met
+pub next-held : (n : ℕ) (bits : List Bool) (met : Option DataEnd) (bytes : List ℕ) → n ≤ 16 → IsFilled n bits met
     → take n (next_16 (upcoming_by bits met bytes).bits) ≡ next_bits n bits
 next-held n bits None bytes le h =
     let t = (text_at bytes).bits in
@@ -189,7 +189,7 @@ zeros-after (x ∷ xs) zero n k h = same_zeros (x ∷ xs) n k n (omega arith) (o
 zeros-after (x ∷ xs) (suc l) n k h = zeros-after xs l n k (omega arith)
 
 -- the bits of a value after its code, of the first n
-value-bits : (n : ℕ) (bits : List Bool) (l s : ℕ) → l + s ≤ n
+pub value-bits : (n : ℕ) (bits : List Bool) (l s : ℕ) → l + s ≤ n
     → take s (drop l (next_bits n bits)) ≡ take s (drop l bits ++ replicate s false)
 value-bits n bits l s h =
     let z = bits ++ replicate n false in

@@ -22,6 +22,7 @@ pub mod BlockView
 pub mod Refusals
 pub mod Reservoir
 pub mod ShortCodes
+pub mod Skips
 pub mod Lookups
 pub mod Pieces
 pub mod Masks

@@ -138,6 +138,7 @@ impl Held {
     ghost use Rattle.jpeg_bits.specs.Stream.{Stream};
     ghost use Rattle.jpeg_bits.specs.Codes.{next_16, code_from, symbol_from, fast_from};
     ghost use Rattle.jpeg_bits.specs.ShortCodes.{symbol_in, short_value_of, next_bits};
+    ghost use Rattle.jpeg_bits.specs.Skips.{IsSkip};
     ghost use Rattle.jpeg_bits.specs.Reading.{Names, Gives};
     ghost use Rattle.jpeg_bits.specs.Readers.{signed_from};
     ghost use Rattle.jpeg_bits.specs.Refusals.{outcome_of, answer_of, IsHeld};
@@ -436,6 +437,15 @@ impl Held {
         ensures counted { length table.now.counts ≡ 16 }
     {
         table.wide_value_of(self.bits.front_16())
+    }
+
+    /// Returns the tokens that the buffered bits begin with: how many bits they take, how many
+    /// coefficients they stand for, and whether the last is the end of the band.
+    #[inline(always)]
+    pub(crate) fn skip_ahead(&self, table: &HuffmanTable) -> (u8, u8, bool)
+        ensures { IsSkip table.now (next_bits 12 self.now.bits) result }
+    {
+        table.skip_of(self.bits.front_16())
     }
 
     pub(crate) fn clear(&mut self)

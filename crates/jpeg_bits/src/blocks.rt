@@ -6,13 +6,15 @@ ghost use Rattle.jpeg_bits.specs.declared.codes.HuffmanTableClass.TheVariants.{A
 ghost use Rattle.jpeg_bits.specs.Passes.{dc_part, band_part, block_from, or_bit};
 ghost use Rattle.jpeg_bits.specs.BlockView.{to_block, dc_in, pass_in, predictor_at, IsPass};
 ghost use Rattle.jpeg_bits.specs.ZigzagParts.{band_in, KeepsOthers};
+ghost use Rattle.jpeg_bits.specs.Passes.{band_size};
+ghost use Rattle.jpeg_bits.specs.Skips.{kept, kept_from, run_part};
 
 use crate::ahead::Held;
 use crate::error::{Error, Result, take_refusal};
 use crate::huffman::{HuffmanDecoder, HuffmanTable};
 use crate::refinement::{correct_band, lacks_bit, read_refined_band, unit};
 use crate::source::Source;
-use crate::tokens::{read_difference, read_first_band, shifted, wrapped_sum};
+use crate::tokens::{read_difference, read_first_band, shifted, skip_first_band, wrapped_sum};
 use std::io::Read;
 
 /// What a scan codes: the coefficients from `ss` to `se` in zigzag order at the point transform
@@ -63,6 +65,10 @@ pub struct BlockCoding<'a> {
     pub dc_table: &'a HuffmanTable,
     /// The table of the AC coefficients.
     pub ac_table: &'a HuffmanTable,
+    /// Whether the AC coefficients are kept. Where they aren't, those of a block that begins with
+    /// DC are passed over, and stay as they are.
+    pub keeps_ac: bool,
+    pub ghost first: { keeps_ac ≡ false → pass.is_first ≡ true },
     pub ghost legal: { IsPass (pass_in pass) },
     pub ghost within: { slot < 4 },
     pub ghost class: { ac_table.now.class ≡ AC },
@@ -217,6 +223,39 @@ fn read_coded_band<R: Read + Drop>(
     }
 }
 
+/// Passes over the band of a block in a first pass, of which nothing is kept. A refusal is stored
+/// in `refusal`, and false is returned.
+#[inline(always)]
+fn skip_band<R: Read + Drop>(
+    held: &mut Held,
+    source: &mut Source<R>,
+    coding: &BlockCoding<'_>,
+    run: &mut u16,
+    refusal: &mut Option<Error>,
+) -> bool
+    ensures band { Takes (λ _. run.new)
+        (run_part coding.now.ac_table.now (band_size (pass_in coding.now.pass)) run.old)
+        held.old source.old (outcome_of result refusal.new) held.new source.new }
+    ensures held { result ≡ false → is_some refusal.new ≡ true }
+{
+    let pass = coding.pass;
+    let room = pass.band_end() - pass.band_start();
+    if room == 0 {
+        return true;
+    }
+    if *run > 0 {
+        *run -= 1;
+        return true;
+    }
+    match skip_first_band(held, source, coding.ac_table, room, refusal) {
+        Some(blocks) => {
+            *run = blocks;
+            true
+        }
+        None => false,
+    }
+}
+
 /// As `read_block`. A refusal is stored in `refusal`, and false is returned.
 pub fn take_block<R: Read + Drop>(
     decoder: &mut HuffmanDecoder,
@@ -227,12 +266,13 @@ pub fn take_block<R: Read + Drop>(
     refusal: &mut Option<Error>,
 ) -> bool
     ensures block { Takes (λ _. (
-      to_block block.new,
+      kept coding.now.keeps_ac (to_block block.new),
       predictor_at coding.now.slot carried.new,
       carried.new.run,
     ))
+        (kept_from coding.now.keeps_ac
         (block_from (pass_in coding.now.pass) coding.now.dc_table.now coding.now.ac_table.now
-        (predictor_at coding.now.slot carried.old) carried.old.run (to_block block.old))
+        (predictor_at coding.now.slot carried.old) carried.old.run (to_block block.old)))
         decoder.old source.old (outcome_of result refusal.new) decoder.new source.new }
     ensures others { carried.new.predictors ≡ set carried.old.predictors coding.now.slot
         (predictor_at coding.now.slot carried.new) }
@@ -247,11 +287,14 @@ pub fn take_block<R: Read + Drop>(
     if !read_dc(held, source, coding, predictor, block, refusal) {
         return false;
     }
+    if !coding.keeps_ac {
+        return skip_band(held, source, coding, &mut carried.run, refusal);
+    }
     read_band(held, source, coding, &mut carried.run, block, refusal)
 }
 
 /// Reads what a pass codes of a block, in block order, over its coefficients so far (T.81, F.2.2
-/// and G.2). It is `Format` where the bits begin no code or a coefficient does not fit; the other
+/// and G.2), or of its AC coefficients none, where they aren't kept. It is `Format` where the bits begin no code or a coefficient does not fit; the other
 /// errors are those of `HuffmanDecoder::get_bits`.
 pub fn read_block<R: Read + Drop>(
     decoder: &mut HuffmanDecoder,
@@ -261,12 +304,13 @@ pub fn read_block<R: Read + Drop>(
     block: &mut [i16; 64],
 ) -> Result<()>
     ensures block { Takes (λ _. (
-      to_block block.new,
+      kept coding.now.keeps_ac (to_block block.new),
       predictor_at coding.now.slot carried.new,
       carried.new.run,
     ))
+        (kept_from coding.now.keeps_ac
         (block_from (pass_in coding.now.pass) coding.now.dc_table.now coding.now.ac_table.now
-        (predictor_at coding.now.slot carried.old) carried.old.run (to_block block.old))
+        (predictor_at coding.now.slot carried.old) carried.old.run (to_block block.old)))
         decoder.old source.old result decoder.new source.new }
     ensures others { carried.new.predictors ≡ set carried.old.predictors coding.now.slot
         (predictor_at coding.now.slot carried.new) }

@@ -7,6 +7,7 @@ ghost use Rattle.jpeg_bits.specs.declared.codes.HuffmanTableClass.TheVariants.{A
 ghost use Rattle.jpeg_bits.specs.Bands.{wrapped, difference, token_at, token_from, first_ac};
 ghost use Rattle.jpeg_bits.specs.Bands.{IsWithinRoom};
 ghost use Rattle.jpeg_bits.specs.BlockView.{pass_in, IsPass};
+ghost use Rattle.jpeg_bits.specs.Skips.{run_of};
 ghost use Rattle.jpeg_bits.specs.ZigzagParts.{band_in, KeepsOthers};
 
 use crate::ahead::Held;
@@ -232,6 +233,72 @@ pub(crate) fn read_first_band<R: Read + Drop>(
 {
     let mut local = held.copied();
     let run = read_places(&mut local, source, table, pass, block, refusal);
+    *held = local;
+    run
+}
+
+/// Reads the band of a block in a first pass, of `room` coefficients, of which nothing is kept but
+/// the blocks of the run that follows. A refusal is stored in `refusal`, and none is returned.
+#[inline(always)]
+fn skip_places<R: Read + Drop>(
+    held: &mut Held,
+    source: &mut Source<R>,
+    table: &HuffmanTable,
+    room: usize,
+    refusal: &mut Option<Error>,
+) -> Option<u16>
+    requires class { table.now.class ≡ AC }
+    requires room { room ≤ 63 }
+    ensures run { Takes (λ run. run) (run_of table.now room)
+        held.old source.old (answer_of result refusal.new) held.new source.new }
+    ensures held { IsHeld result refusal.new }
+{
+    let mut left = room;
+    while left > 0 {
+        if !held.hold(source, 16, refusal) {
+            return None;
+        }
+        let (bits, passed, is_last) = held.skip_ahead(table);
+        let count = usize::from(bits);
+        let passed = usize::from(passed);
+        if passed < left && held.has(count) {
+            held.skip(count);
+            if is_last {
+                return Some(0);
+            }
+            left -= passed;
+        } else {
+            let Some(token) = read_token(held, source, table, left, refusal) else {
+                return None;
+            };
+            match token {
+                Token::Value(run, _) => left -= usize::from(run) + 1,
+                Token::Sixteen => left = left.saturating_sub(16),
+                Token::Rest(run) => return Some(run),
+                Token::Overlong => return Some(0),
+            }
+        }
+    }
+    Some(0)
+}
+
+/// As `skip_places`, on a copy of the buffered bits: a local that stays in registers.
+#[inline(never)]
+pub(crate) fn skip_first_band<R: Read + Drop>(
+    held: &mut Held,
+    source: &mut Source<R>,
+    table: &HuffmanTable,
+    room: usize,
+    refusal: &mut Option<Error>,
+) -> Option<u16>
+    requires class { table.now.class ≡ AC }
+    requires room { room ≤ 63 }
+    ensures run { Takes (λ run. run) (run_of table.now room)
+        held.old source.old (answer_of result refusal.new) held.new source.new }
+    ensures held { IsHeld result refusal.new }
+{
+    let mut local = held.copied();
+    let run = skip_places(&mut local, source, table, room, refusal);
     *held = local;
     run
 }

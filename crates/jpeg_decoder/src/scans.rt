@@ -118,6 +118,7 @@ pub fn read_spots<R: Read + Drop>(
             slot: spot.slot,
             dc_table: coded.dc,
             ac_table: coded.ac,
+            keeps_ac: true,
         };
         if !take_block(
             &mut interval.decoder,

@@ -1,6 +1,7 @@
-use Rattle.std.proofs.Common.{◌∙◌, ap, pos, refl, rules, List, ◌∷◌, Result, get_or, length, arith}
+use Rattle.std.proofs.Common.{◌∙◌, ap, pos, refl, rules, List, ◌∷◌, Result, get_or, length, arith, Ok}
 use Rattle.std.specs.List.{AllByRecursion}
 use Rattle.jpeg_bits.proofs.WholeBlocks.{refused_after}
+use Rattle.jpeg_bits.proofs.DcAlone.{Takes-whole}
 use Rattle.jpeg_bits.specs.BlockView.{pass_in, predictor_at, to_block}
 use Rattle.jpeg_bits.specs.Entropy.{Text, upcoming}
 use Rattle.jpeg_bits.specs.Passes.{block_from}
@@ -75,7 +76,13 @@ returns-then-not-take_block-clause-blocks g c =
                 ∙ blocks_begun p vias n s c.next.new.self now (counted i (arrays_in vs)) _ _ by.1,
           ),
     )
-    c.if-not-take_block.ensures.block)
+    (Takes-whole (λ (u : Unit {0}). (
+      to_block c.take_block.new.block,
+      predictor_at slot c.take_block.new.carried,
+      c.take_block.new.carried.run,
+    ))
+    (block_from p coded.dc.now coded.ac.now first i.carried.run (to_block c.index_mut-in-Some.result.now))
+    i.decoder c.take_block.new.decoder c.begin.new.source c.take_block.new.source _ c.if-not-take_block.ensures.block))
 
 pub loop-spot-preserved : goal.loop-spot-preserved
 loop-spot-preserved g c =
@@ -94,7 +101,14 @@ loop-spot-preserved g c =
     let coded = c.index-coded.result.now in
     let of : AllByRecursion (IsSpotOf (length cs) (sizes_of vs)) (s ∷ c.next.new.self) = search rules in
     let q = c.if-not-begin.ensures.begun (arrays_in vs) in
-    let r = c.if-not-take_block.ensures.block in
+    let r = Takes-whole (λ (u : Unit {0}). (
+      to_block c.take_block.new.block,
+      predictor_at slot c.take_block.new.carried,
+      c.take_block.new.carried.run,
+    ))
+    (block_from p coded.dc.now coded.ac.now first i.carried.run (to_block c.index_mut-in-Some.result.now))
+    i.decoder c.take_block.new.decoder c.begin.new.source c.take_block.new.source (Ok tt)
+    c.if-not-take_block.ensures.block in
     let sizes = sizes-set vs slot index c.index_mut.result.now c.take_block.new.block c.index_mut.ensures.value in
     record {
       sizes = sizes ∙ l.invariant.sizes;

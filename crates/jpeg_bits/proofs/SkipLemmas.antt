@@ -1,0 +1,296 @@
+-- A band of a first pass that is passed over, token by token or several at once.
+use Rattle.std.proofs.lemmas.Grind.{common_steps}
+use Rattle.std.proofs.lemmas.Bool.Decides.{nat_tests}
+use Rattle.std.proofs.Common.{◌≡◌, ℕ, ℤ, zero, suc, ◌+◌, ◌-◌, ◌*◌, ◌/◌, ◌%◌, ◌^◌, ◌<◌, ◌≤◌, Bool, true, false, List, []}
+use Rattle.std.proofs.Common.{◌∷◌, ◌++◌, length, take, drop, replicate, get_or, pos, ◌*ℤ◌, Option, Some, None, Result, Ok}
+use Rattle.std.proofs.Common.{Err, is_ok, refl, sym, ap, ◌∙◌, subst, arith, length-append, length-drop, length-take, ltb, leb}
+use Rattle.std.proofs.Common.{inl, inr, pow_pos, set, get_or-set_other, get_or-set_same}
+use Rattle.std.proofs.lemmas.Bool.{lt-ltb, false≢true, cases_lt}
+use Rattle.std.proofs.lemmas.List.{take-take, take-append-le, drop-drop}
+use Rattle.std.proofs.Math.Nat.{div-add-mod'}
+use Rattle.jpeg_bits.proofs.Reservoirs.{low_bits-append, low_bits-zeros, low_bits-take, low_bits-drop, low_bits-high}
+use Rattle.jpeg_bits.proofs.Reservoirs.{same_zeros}
+use Rattle.jpeg_bits.proofs.ShortLemmas.{at_most, short_agree, value-bits}
+use Rattle.jpeg_bits.proofs.Tables.{all-rising}
+use Rattle.jpeg_bits.proofs.WideTokens.{none-left, value-within}
+use Rattle.jpeg_bits.specs.Reading.{Fault}
+use Rattle.jpeg_bits.specs.Entropy.{Text, advance, has_bits, bits_from}
+use Rattle.jpeg_bits.specs.Codes.{Table, code_in, code_lengths, next_16, code_by, code_from}
+use Rattle.jpeg_bits.specs.ShortCodes.{named, symbol_in, next_bits}
+use Rattle.jpeg_bits.specs.Readers.{Reads, read_on, gives, signed_from}
+use Rattle.jpeg_bits.specs.Written.{low_bits}
+use Rattle.jpeg_bits.specs.Bands.{Band, IsWithinRoom, before_more, wrapped, after_token, first_ac, token_at, token_from}
+use Rattle.jpeg_bits.specs.Skips.{run_after, run_within, run_of, run_part, Skip, no_skip, after_skip, IsSkip}
+use Rattle.jpeg_bits.specs.Skips.{BeginsText, PassesOver}
+use Rattle.jpeg_bits.specs.declared.tokens.Token.{Token}
+use Rattle.jpeg_bits.specs.declared.tokens.Token.TheVariants.{Value, Sixteen, Rest, Overlong}
+
+-- ---- turns
+
+-- what the turns after the next give alike, the turns from there do
+same-after : (f g : ℕ → Reads ℕ) (room : ℕ) → 0 < room → ((k : ℕ) (t : Text) → k < room → f k t ≡ g k t)
+    → (o : Result (Token × Text) Fault) → read_on (run_after f room) o ≡ read_on (run_after g room) o
+same-after f g room some h (Err e) = refl
+same-after f g room some h (Ok (Value r v, u)) = h (room - (r + 1)) u (omega arith)
+same-after f g room some h (Ok (Sixteen, u)) = h (room - 16) u (omega arith)
+same-after f g room some h (Ok (Rest run, u)) = refl
+same-after f g room some h (Ok (Overlong, u)) = refl
+
+-- more turns than there is room for make no difference
+turns-same : (table : Table) (m n room : ℕ) (t : Text) → room ≤ m → room ≤ n
+    → run_within table m room t ≡ run_within table n room t
+unfolding run_within
+turns-same table m n zero t h k = refl
+turns-same table zero n (suc room) t h k = absurd (omega arith)
+turns-same table (suc m) zero (suc room) t h k = absurd (omega arith)
+turns-same table (suc m) (suc n) (suc room) t h k =
+    same-after (run_within table m) (run_within table n) (suc room) (omega arith)
+    (λ l u lt. turns-same table m n l u (omega arith) (omega arith)) (token_from table (suc room) t)
+
+-- a band is passed over token by token
+pub run-token : (table : Table) (room : ℕ) (t : Text) → 0 < room
+    → run_of table room t ≡ read_on (run_after (run_of table) room) (token_from table room t)
+unfolding run_of run_within
+run-token table zero t h = absurd (omega arith)
+run-token table (suc room) t h =
+    same-after (run_within table room) (run_of table) (suc room) h
+    (λ l u lt. turns-same table room l l u (omega arith) (omega arith)) (token_from table (suc room) t)
+
+pub run-none : (table : Table) (t : Text) → run_of table 0 t ≡ Ok (0, t)
+unfolding run_of run_within
+run-none table t = refl
+
+-- ---- a band whose coefficients are read and not kept
+
+-- the zeros of a token that is read are within the room
+within-at : (room size r s : ℕ) (t : Text) (a : Bool) → ltb r room ≡ a → (k : Token) (u : Text)
+    → token_at room size r s t ≡ Ok (k, u) → IsWithinRoom room k
+unfolding token_at
+within-at room size r s t a e k u h = grind (arith, common_steps, nat_tests)
+
+token-within : (table : Table) (room : ℕ) (t : Text) (k : Token) (u : Text) → token_from table room t ≡ Ok (k, u)
+    → IsWithinRoom room k
+unfolding token_from
+token-within table room t k u h = go (code_from table t) h
+  where
+    go : (o : Result ((ℕ × ℕ) × Text) Fault)
+        → read_on (λ (c : ℕ × ℕ). token_at room c.0 (c.1 / 16) (c.1 % 16)) o ≡ Ok (k, u) → IsWithinRoom room k
+    go (Err e) h = absurd (false≢true (ap is_ok h))
+    go (Ok (c, v)) h = within-at room c.0 (c.1 / 16) (c.1 % 16) v (ltb (c.1 / 16) room) refl k u h
+
+abbrev pub measured : Band → Reads (ℕ × ℕ)
+measured b = gives (length b.0, b.1)
+
+abbrev pub of_length : ℕ → ℕ → Reads (ℕ × ℕ)
+of_length n run = gives (n, run)
+
+measured-after : (front : List ℤ) (n m : ℕ) (o : Result (Band × Text) Fault) (p : Result (ℕ × Text) Fault)
+    → read_on measured o ≡ read_on (of_length m) p → length front + m ≡ n
+    → read_on measured (read_on (λ more. gives (before_more front more)) o) ≡ read_on (of_length n) p
+measured-after front n m o p h k = grind (arith, common_steps, length-append, false≢true)
+
+-- a band keeps its length, and its run is read without its coefficients
+pub first-measured : (table : Table) (al n : ℕ) (band : List ℤ) (t : Text)
+    → read_on measured (first_ac table al n band t) ≡ read_on (of_length (length band)) (run_within table n (length band) t)
+unfolding first_ac run_within
+first-measured table al n [] t = refl
+first-measured table al zero (x ∷ rest) t = refl
+first-measured table al (suc n) (x ∷ rest) t =
+    go (token_from table (length (x ∷ rest)) t) (token-within table (length (x ∷ rest)) t)
+    (λ k u. first-measured table al n (drop k (x ∷ rest)) u)
+  where
+    go : (o : Result (Token × Text) Fault)
+        → ((k : Token) (u : Text) → o ≡ Ok (k, u) → IsWithinRoom (length (x ∷ rest)) k)
+        → ((k : ℕ) (u : Text) → read_on measured (first_ac table al n (drop k (x ∷ rest)) u)
+        ≡ read_on (of_length (length (drop k (x ∷ rest)))) (run_within table n (length (drop k (x ∷ rest))) u))
+        → read_on measured (read_on (after_token al (first_ac table al n) (x ∷ rest)) o)
+        ≡ read_on (of_length (length (x ∷ rest))) (read_on (run_after (run_within table n) (length (x ∷ rest))) o)
+    go (Err e) within more = refl
+    go (Ok (Value r v, u)) within more =
+        let lt : r < length (x ∷ rest) = within (Value r v) u refl in
+        let front = take r (x ∷ rest) ++ wrapped (v *ℤ pos (2 ^ al)) ∷ [] in
+        let left = length-drop (r + 1) (x ∷ rest) in
+        let long : length front + length (drop (r + 1) (x ∷ rest)) ≡ length (x ∷ rest)
+        = omega (
+          arith,
+          left,
+          length-append (take r (x ∷ rest)) (wrapped (v *ℤ pos (2 ^ al)) ∷ []),
+          length-take r (x ∷ rest),
+        ) in
+        measured-after front (length (x ∷ rest)) (length (drop (r + 1) (x ∷ rest)))
+        (first_ac table al n (drop (r + 1) (x ∷ rest)) u)
+        (run_within table n (length (x ∷ rest) - (r + 1)) u) (subst (λ (l : ℕ).
+        read_on measured (first_ac table al n (drop (r + 1) (x ∷ rest)) u)
+        ≡ read_on (of_length (length (drop (r + 1) (x ∷ rest)))) (run_within table n l u)) left (more (r + 1) u)) long
+    go (Ok (Sixteen, u)) within more =
+        let front = take 16 (x ∷ rest) in
+        let left = length-drop 16 (x ∷ rest) in
+        let long : length front + length (drop 16 (x ∷ rest)) ≡ length (x ∷ rest)
+        = omega (arith, left, length-take 16 (x ∷ rest)) in
+        measured-after front (length (x ∷ rest)) (length (drop 16 (x ∷ rest)))
+        (first_ac table al n (drop 16 (x ∷ rest)) u)
+        (run_within table n (length (x ∷ rest) - 16) u) (subst (λ (l : ℕ).
+        read_on measured (first_ac table al n (drop 16 (x ∷ rest)) u)
+        ≡ read_on (of_length (length (drop 16 (x ∷ rest)))) (run_within table n l u)) left (more 16 u)) long
+    go (Ok (Rest run, u)) within more = refl
+    go (Ok (Overlong, u)) within more = refl
+
+-- ---- the tokens that 12 bits begin with
+
+pub bits-after : (b used rest : ℕ) → used ≤ 12 → rest ≡ b * 2 ^ (4 + used) % 65536
+    → low_bits 16 rest ≡ drop used (low_bits 12 b) ++ replicate (4 + used) false
+bits-after b used rest h e =
+    let n = 12 - used in
+    let x = b * 2 ^ (4 + used) in
+    let whole : x ≡ x / 65536 * 2 ^ 16 + x % 65536 = omega arith in
+    let all : 16 ≡ n + (4 + used) = omega arith in
+    let twelve : 12 ≡ used + n = omega arith in
+    let none : x ≡ b * 2 ^ (4 + used) + 0 = omega arith in
+    let low : low_bits n b ≡ low_bits n (b % 2 ^ n)
+    = ap (low_bits n) (sym (div-add-mod' b (2 ^ n))) ∙ low_bits-high n (b / 2 ^ n) (b % 2 ^ n) in
+    ap (low_bits 16) e ∙ sym (ap (low_bits 16) whole ∙ low_bits-high 16 (x / 65536) (x % 65536))
+    ∙ ap (low_bits 16) none ∙ ap (λ (k : ℕ). low_bits k (b * 2 ^ (4 + used) + 0)) all
+    ∙ low_bits-append n (4 + used) b 0 (pow_pos (4 + used))
+    ∙ ap (λ (l : List Bool). low_bits n b ++ l) (low_bits-zeros (4 + used))
+    ∙ ap (λ (l : List Bool). l ++ replicate (4 + used) false) (low ∙ sym (low_bits-drop used n b)
+    ∙ ap (λ (k : ℕ). drop used (low_bits k b)) (sym twelve))
+
+advanced : (m n : ℕ) (t : Text) → advance n (advance m t) ≡ advance (m + n) t
+advanced m n t = grind (arith, common_steps, drop-drop)
+
+held-first : (n s : ℕ) (t : Text) → has_bits (n + s) t.bits t.ending ≡ Ok tt → has_bits n t.bits t.ending ≡ Ok tt
+held-first n s t h = grind (arith, common_steps, nat_tests, false≢true)
+
+held-then : (n s : ℕ) (t : Text) → has_bits (n + s) t.bits t.ending ≡ Ok tt
+    → has_bits s (advance n t).bits (advance n t).ending ≡ Ok tt
+held-then n s t h = grind (arith, common_steps, nat_tests, false≢true, length-drop)
+
+-- a code that is seen in some bits is that of a text whose bits agree with them so far
+seen-code : (table : Table) (n symbol size : ℕ) (u : Text) (o p : Option (ℕ × ℕ))
+    → named table.symbols o ≡ Some (symbol, size) → at_most n o ≡ at_most n p → size ≤ n
+    → has_bits size u.bits u.ending ≡ Ok tt → code_by table u p ≡ Ok ((size, symbol), advance size u)
+seen-code table n symbol size u o p is same le held = grind (arith, common_steps, nat_tests, false≢true)
+
+signed-passed : (others : ℕ → Reads ℕ) (room r s : ℕ) (t : Text) → has_bits s t.bits t.ending ≡ Ok tt
+    → read_on (run_after others room) (read_on (λ (v : ℤ). gives (Value r v)) (signed_from s t))
+    ≡ others (room - (r + 1)) (advance s t)
+unfolding signed_from bits_from
+signed-passed others room r s t held = rw held refl
+
+value-passed : (others : ℕ → Reads ℕ) (room size r s : ℕ) (t : Text) → 0 < s → r < room
+    → has_bits s t.bits t.ending ≡ Ok tt
+    → read_on (run_after others room) (token_at room size r s t) ≡ others (room - (r + 1)) (advance s t)
+value-passed others room size r s t some within held =
+    ap (read_on (run_after others room)) (value-within room size r s t (lt-ltb 0 s some) (lt-ltb r room within))
+    ∙ signed-passed others room r s t held
+
+sixteen-passed : (others : ℕ → Reads ℕ) (room size r s : ℕ) (t : Text) → s ≡ 0 → r ≡ 15
+    → read_on (run_after others room) (token_at room size r s t) ≡ others (room - (r + 1)) (advance s t)
+unfolding token_at
+sixteen-passed others room size r s t none all = rw (none, all) refl
+
+module _ (table : Table) (counted : length table.counts ≡ 16) (bits : List Bool) (long : length bits ≡ 12)
+    (used symbol size : ℕ) (found : symbol_in table (drop used bits ++ replicate (4 + used) false) ≡ Some (symbol, size))
+  where
+    token-seen : (room : ℕ) (t : Text) → next_bits 12 t.bits ≡ bits → used + size ≤ 12
+        → has_bits (used + size) t.bits t.ending ≡ Ok tt
+        → token_from table room (advance used t)
+        ≡ token_at room size (symbol / 16) (symbol % 16) (advance size (advance used t))
+    unfolding token_from code_from
+    token-seen room t e le held =
+        let n = 12 - used in
+        let lens = code_lengths table.counts in
+        let zeros = replicate 16 false in
+        let x = drop used bits ++ replicate (4 + used) false in
+        let y = next_16 (drop used t.bits) in
+        let cut = length-drop used bits in
+        let first : take n x ≡ take n (drop used bits)
+        = take-append-le n (drop used bits) (replicate (4 + used) false) (omega arith) in
+        let second : take n y ≡ take n (drop used bits)
+        = take-take n 16 (drop used t.bits ++ zeros) (omega arith)
+        ∙ same_zeros (drop used t.bits) n 16 n (omega arith) (omega arith)
+        ∙ sym (value-bits 12 t.bits used n (omega arith)) ∙ ap (λ (l : List Bool). take n (drop used l)) e in
+        let same = short_agree n lens (all-rising table.counts counted) x y (first ∙ sym second) in
+        ap (read_on (λ (c : ℕ × ℕ). token_at room c.0 (c.1 / 16) (c.1 % 16)))
+        (seen-code table n symbol size (advance used t) (code_in lens x) (code_in lens y) found same (omega arith)
+        (held-then used size t held))
+
+    abbrev s : ℕ
+    s = symbol % 16
+
+    abbrev r : ℕ
+    r = symbol / 16
+
+    pub skip-more : (count passed : ℕ) → count ≡ size + s → used + count ≤ 12 → (s ≡ 0 → r ≡ 15)
+        → PassesOver table bits (used, passed, false)
+        → PassesOver table bits (used + count, passed + (r + 1), false)
+    skip-more count passed is le all h room lt most t b =
+        let held : has_bits (used + size + s) t.bits t.ending ≡ Ok tt
+        = ap (λ (k : ℕ). has_bits k t.bits t.ending) (omega (arith, is)) ∙ b.1 in
+        let here = held-first (used + size) s t held in
+        let room' = room - passed in
+        let u = advance used t in
+        let v = advance size u in
+        let next : has_bits s v.bits v.ending ≡ Ok tt
+        = ap (λ (w : Text). has_bits s w.bits w.ending) (advanced used size t) ∙ held-then (used + size) s t held in
+        let step : read_on (run_after (run_of table) room') (token_at room' size r s v)
+        ≡ run_of table (room' - (r + 1)) (advance s v)
+        = elim (cases_lt 0 s) [
+          | inl some ↦ value-passed (run_of table) room' size r s v some (omega arith) next
+          | inr none ↦ sixteen-passed (run_of table) room' size r s v (omega arith) (all (omega arith))
+        ] in
+        let left : room' - (r + 1) ≡ room - (passed + (r + 1)) = omega arith in
+        let after : advance s v ≡ advance (used + count) t
+        = ap (advance s) (advanced used size t) ∙ advanced (used + size) s t
+        ∙ ap (λ (k : ℕ). advance k t) (omega (arith, is)) in
+        h room (omega arith) most t (b.0, held-first used size t here)
+        ∙ run-token table room' u (omega arith)
+        ∙ ap (read_on (run_after (run_of table) room')) (token-seen room' t b.0 (omega (arith, is)) here)
+        ∙ step
+        ∙ ap (λ (k : ℕ). run_of table k (advance s v)) left
+        ∙ ap (run_of table (room - (passed + (r + 1)))) after
+
+    pub skip-last : (count passed : ℕ) → count ≡ size + s → used + count ≤ 12 → s ≡ 0 → r ≡ 0
+        → PassesOver table bits (used, passed, false)
+        → PassesOver table bits (used + count, passed, true)
+    skip-last count passed is le none end h room lt most t b =
+        let same : used + size ≡ used + count = omega arith in
+        let here : has_bits (used + size) t.bits t.ending ≡ Ok tt
+        = ap (λ (k : ℕ). has_bits k t.bits t.ending) same ∙ b.1 in
+        let room' = room - passed in
+        let u = advance used t in
+        let v = advance size u in
+        h room lt most t (b.0, held-first used size t here)
+        ∙ run-token table room' u (omega arith)
+        ∙ ap (read_on (run_after (run_of table) room')) (token-seen room' t b.0 (omega (arith, is)) here
+        ∙ none-left room' size r s v none end)
+        ∙ ap (λ (w : Text). Ok (0, w)) (advanced used size t ∙ ap (λ (k : ℕ). advance k t) same)
+
+-- no token yet
+pub skip-start : (table : Table) (bits : List Bool) → PassesOver table bits (0, 0, false)
+skip-start table bits room lt most t b =
+    let e : room ≡ room - 0 = omega arith in ap (λ (k : ℕ). run_of table k t) e
+
+-- none at all
+pub skip-none : (table : Table) (bits : List Bool) → IsSkip table bits no_skip
+skip-none table bits = record {
+  few = omega arith;
+  some = λ e. omega arith;
+  passes = λ room lt most t b. absurd (omega (arith, lt, most));
+}
+
+pub twelve-front : (number : ℕ) (bits : List Bool) → low_bits 16 number ≡ next_16 bits
+    → low_bits 12 (number / 16) ≡ next_bits 12 bits
+twelve-front number bits e =
+    sym (low_bits-take 12 4 number) ∙ ap (take 12) e ∙ take-take 12 16 (bits ++ replicate 16 false) (omega arith)
+    ∙ same_zeros bits 12 16 12 (omega arith) (omega arith)
+
+-- what holds of the first places of a list, with one more
+pub set-holds : {A : Type 0} (P : ℕ → A → Type 0) (xs : List A) (i : ℕ) (v d : A) → i < length xs
+    → ((k : ℕ) → k < i → P k (get_or xs k d)) → P i v → (k : ℕ) → k < i + 1 → P k (get_or (set xs i v) k d)
+set-holds P xs i v d lt below here k h =
+    elim (cases_lt k i) [
+      | inl l ↦ subst (P k) (sym (get_or-set_other xs i k v d (λ e. omega (arith, l, e)))) (below k l)
+      | inr g ↦ let e : i ≡ k = omega (arith, g, h) in subst (λ (j : ℕ). P j (get_or (set xs i v) j d)) e
+          (subst (P i) (sym (get_or-set_same xs i v d lt)) here)
+    ]
