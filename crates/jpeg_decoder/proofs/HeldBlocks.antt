@@ -15,7 +15,10 @@ use Rattle.jpeg_streams.specs.Scans.{Arrays, block_at, put_block, via_at}
 use Rattle.jpeg_streams.specs.InTurn.{Reached, turn_from}
 use Rattle.jpeg_decoder.specs.declared.scan.Coded.{Coded}
 use Rattle.jpeg_bits.specs.BlockView.{to_block}
-use Rattle.jpeg_decoder.specs.Scanning.{IsSpotOf, vias_in, arrays_in, sizes_of}
+use Rattle.std.proofs.Common.{Bool, Result, ap₂}
+use Rattle.jpeg_bits.specs.Skips.{kept, kept_turn}
+use Rattle.jpeg_decoder.specs.Scanning.{IsSpotOf, vias_in, arrays_in, kept_arrays, sizes_of}
+use Rattle.jpeg_decoder.proofs.KeptScans.{kept_reached, kept_read, kept_result, not-read, put-kept, read-parts}
 use Rattle.std.proofs.lemmas.Grind.{common_steps}
 
 abbrev pub Held : Type 0
@@ -120,3 +123,43 @@ module _ (p : Pass) (cs : List Coded) (slot index : ℕ) (c : Coded) (vs : List 
   pub turn-refused : (t : Text) (f : Fault) → block_from p c.dc.now c.ac.now z run (to_block x) t ≡ Err f
       → turn_from p (vias_in 0 cs) (spot slot index) old t ≡ Err f
   turn-refused t f e = turn-is t ∙ ap (read_on (put_turn slot slot index old)) e
+
+  pub turn-kept : (keeps : Bool) (y : List ℤ) (next : ℤ) (more : ℕ) (t u : Text)
+      → read_on (kept_turn keeps) (block_from p c.dc.now c.ac.now z run (to_block x) t)
+      ≡ Ok ((kept keeps (to_block y), next, more), u)
+      → read_on (kept_read keeps) (turn_from p (vias_in 0 cs) (spot slot index) old t)
+      ≡ Ok (
+        kept_reached keeps (record {
+          arrays = arrays_in (set vs slot (with_item v index y));
+          predictors = set predictors slot next;
+          run = more;
+        }),
+        u,
+      )
+  turn-kept keeps y next more t u e =
+      ap (read_on (kept_read keeps)) (turn-is t) ∙ go (block_from p c.dc.now c.ac.now z run (to_block x) t) e
+    where
+      go : (o : Result ((Block × ℤ × ℕ) × Text) Fault)
+          → read_on (kept_turn keeps) o ≡ Ok ((kept keeps (to_block y), next, more), u)
+          → read_on (kept_read keeps) (read_on (put_turn slot slot index old) o)
+          ≡ Ok (
+            kept_reached keeps (record {
+              arrays = arrays_in (set vs slot (with_item v index y));
+              predictors = set predictors slot next;
+              run = more;
+            }),
+            u,
+          )
+      go (Ok r) e =
+          let q = read-parts (kept_result keeps r.0) (kept keeps (to_block y), next, more) r.1 u e in
+          let same : kept_arrays keeps (put_block (spot slot index) r.0.0 (arrays_in vs))
+              ≡ kept_arrays keeps (arrays_in (set vs slot (with_item v index y)))
+          = put-kept keeps (spot slot index) (arrays_in vs) r.0.0 (to_block y) (ap (λ (b : Block × ℤ × ℕ). b.0) q.0)
+          ∙ ap (kept_arrays keeps) (sym (arrays-set vs slot index v y inside array)) in
+          ap (λ (a : Arrays). Ok (record { arrays = a; predictors = set predictors slot r.0.1; run = r.0.2 }, r.1)) same
+          ∙ ap₂ (λ (b : Block × ℤ × ℕ) (w : Text). Ok (record {
+            arrays = kept_arrays keeps (arrays_in (set vs slot (with_item v index y)));
+            predictors = set predictors slot b.1;
+            run = b.2;
+          }, w)) q.0 q.1
+      go (Err f) e = absurd (not-read f ((kept keeps (to_block y), next, more), u) e)

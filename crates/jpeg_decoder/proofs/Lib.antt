@@ -47,3 +47,5 @@ pub mod OnLiterals
 pub mod MemorySums
 pub mod LosslessOnLiterals
 mod Orientations
+pub mod KeptScans
+pub mod KeptStrips

@@ -1,5 +1,5 @@
 -- What a caller sees of a scan, of what is held of it, and of the state of an interval.
-use Rattle.std.specs.Prelude.{ℕ, ◌<◌, ◌+◌, List, [], ◌∷◌, map, length, get_or, ℤ}
+use Rattle.std.specs.Prelude.{ℕ, ◌<◌, ◌+◌, List, [], ◌∷◌, map, length, get_or, ℤ, Bool, true, false}
 use Rattle.std.specs.declared.alloc.Global.{Global}
 use Rattle.std.specs.declared.vec.Vec.{Vec}
 use Rattle.jpeg_segments.specs.Frame.{Component}
@@ -7,6 +7,9 @@ use Rattle.jpeg_segments.specs.FrameView.{component_in}
 use Rattle.jpeg_bits.specs.Passes.{Pass, Via, Block}
 use Rattle.jpeg_streams.specs.Scans.{Arrays}
 use Rattle.jpeg_streams.specs.InTurn.{Reached, Counted}
+use Rattle.jpeg_streams.specs.McuRows.{on_arrays}
+use Rattle.jpeg_bits.specs.Readers.{Reads, ◌>>=◌, gives}
+use Rattle.jpeg_bits.specs.Skips.{dc_alone}
 use Rattle.jpeg_decoder.specs.declared.scan.Coded.{Coded}
 use Rattle.jpeg_decoder.specs.declared.scans.Interval.{Interval}
 use Rattle.jpeg_decoder.specs.declared.scan.Scan.{Scan}
@@ -48,6 +51,20 @@ reached i arrays =
 
 abbrev pub counted : Interval → Arrays → Counted
 counted i arrays = record { reached = reached i arrays; left = i.left; number = i.number }
+
+-- what is kept of the blocks of a scan, where their AC coefficients are or aren't
+abbrev pub kept_arrays : Bool → Arrays → Arrays
+kept_arrays true arrays = arrays
+kept_arrays false arrays = map (map dc_alone) arrays
+
+abbrev pub kept_counted : Bool → Counted → Counted
+kept_counted keeps c = on_arrays (kept_arrays keeps c.reached.arrays) c
+
+abbrev pub kept_after : Bool → Counted → Reads Counted
+kept_after keeps c = gives (kept_counted keeps c)
+
+abbrev pub kept_blocks : Bool → Reads Counted → Reads Counted
+kept_blocks keeps p = p >>= kept_after keeps
 
 -- the block of a slot and an index is held
 pub record IsHeld (sizes : List ℕ) (slot index : ℕ) : Type 0 where

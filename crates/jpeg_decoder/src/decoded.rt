@@ -343,6 +343,7 @@ impl Decoded {
         scan: &Scan<'_>,
     ) -> Result<Option<Marker>>
         requires process { is_progressive (frame_in frame.now).process ≡ true }
+        requires keeps { scan.now.keeps_ac ≡ true }
         requires ready { IsReadable (frame_in frame.now) (found_in state.now) scan.now }
         requires held { AreArrays (frame_in frame.now).components
             (arrays_before (with_decoded (found_in state.now) self.old) (frame_in frame.now)) }
@@ -428,6 +429,8 @@ impl Decoded {
         frame: &FrameInfo,
         scan: &Scan<'_>,
     ) -> Result<Option<Marker>>
+        requires keeps { is_progressive (frame_in frame.now).process ≡ true
+            → scan.now.keeps_ac ≡ true }
         requires ready { IsReadable (frame_in frame.now) (found_in state.now) scan.now }
         requires held { AreArrays (frame_in frame.now).components
             (arrays_before (with_decoded (found_in state.now) self.old) (frame_in frame.now)) }

@@ -1,12 +1,14 @@
 //! A scan, as it is read (T.81, B.2.3).
-ghost use Rattle.std.specs.Prelude.{◌≡◌, ◌≤◌, length, true};
+ghost use Rattle.std.specs.Prelude.{◌≡◌, ◌≤◌, All, length, false, true};
 ghost use Rattle.jpeg_bits.specs.BlockView.{IsPass, pass_in};
 ghost use Rattle.jpeg_bits.specs.declared.codes.HuffmanTableClass.TheVariants.{AC};
 ghost use Rattle.jpeg_segments.specs.Scales.{is_scale};
+ghost use Rattle.jpeg_streams.specs.ScanSegments.{is_progressive};
 
+use crate::codings::is_progressive;
 use jpeg_bits::blocks::Pass;
 use jpeg_bits::huffman::HuffmanTable;
-use jpeg_segments::parser::Component;
+use jpeg_segments::parser::{CodingProcess, Component};
 
 /// A component of a scan: its index in the frame, and the tables that its blocks are coded by.
 #[derive(Drop)]
@@ -36,8 +38,31 @@ pub struct Scan<'a> {
     pub restart_interval: u16,
     /// Its components, in the scan header's order.
     pub components: Vec<Coded<'a>>,
+    /// Whether the AC coefficients of its blocks are kept.
+    pub keeps_ac: bool,
     /// It codes what a pass may.
     pub ghost legal: { IsPass (pass_in pass) },
     /// It has at most four components.
     pub ghost few: { length components.items ≤ 4 },
+    /// Where they aren't, it is a first pass, and a block gives one sample, which is of DC alone.
+    pub ghost dc_alone: { keeps_ac ≡ false → (pass.is_first ≡ true)
+        × All (λ c. c.component.now.dct_scale ≡ 1) components.items },
+}
+
+/// Returns whether the AC coefficients of a scan's blocks are wanted. Those of a sequential frame
+/// aren't where each block gives one sample.
+pub fn wants_ac(process: CodingProcess, pass: Pass, components: &[Coded<'_>]) -> bool
+    ensures dc_alone { result ≡ false → (pass.is_first ≡ true)
+        × All (λ c. c.component.now.dct_scale ≡ 1) components.now }
+    ensures progressive { is_progressive process ≡ true → result ≡ true }
+{
+    if is_progressive(process) || !pass.is_first {
+        return true;
+    }
+    for coded in components {
+        if coded.component.dct_scale != 1 {
+            return true;
+        }
+    }
+    false
 }

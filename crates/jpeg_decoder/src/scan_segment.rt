@@ -12,7 +12,7 @@ use crate::decoded::Decoded;
 use crate::lossless_scans::read_lossless_scan;
 use crate::places::{Missing, needed};
 use crate::restarts::pass_restarts;
-use crate::scan::Scan;
+use crate::scan::{Scan, wants_ac};
 use crate::state::{State, Step};
 use jpeg_bits::error::{Error, Result, UnsupportedFeature, format_error};
 use jpeg_bits::marker::Marker;
@@ -55,10 +55,13 @@ pub fn read_scan<R: Read + Drop>(
         return Ok(state.end_scan(decoded, met));
     }
     let spare = spare_tables(alloc, &header, frame, state.metadata.avi1)?;
+    let components = codings_of(alloc, state, &spare, frame, &header)?;
+    let pass = pass_of(&header);
     let scan = Scan {
-        pass: pass_of(&header),
+        pass,
         restart_interval: state.restart_interval,
-        components: codings_of(alloc, state, &spare, frame, &header)?,
+        keeps_ac: wants_ac(frame.coding_process, pass, &components),
+        components,
     };
     let reached = decoded.read(alloc, source, state, frame, &scan)?;
     // It borrows from `state`, which changes now.

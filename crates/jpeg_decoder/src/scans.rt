@@ -14,6 +14,7 @@ ghost use Rattle.jpeg_streams.specs.Scans.{Arrays, arrays_at};
 ghost use Rattle.jpeg_decoder.specs.Scanning.{IsSpotOf};
 ghost use Rattle.jpeg_decoder.specs.Scanning.{scan_pass, scan_vias, scan_components};
 ghost use Rattle.jpeg_decoder.specs.Scanning.{arrays_in, sizes_of, reached, counted};
+ghost use Rattle.jpeg_decoder.specs.Scanning.{kept_blocks, kept_counted};
 
 use crate::restarts::read_restart;
 use crate::scan::Scan;
@@ -91,7 +92,8 @@ fn begin<R: Read + Drop>(interval: &mut Interval, source: &mut Source<R>, n: u64
 }
 
 /// Reads the blocks at some spots, in restart intervals of `n` blocks, or in one where `n` is 0.
-#[tactic(auto, using(crate::proofs::BlockSteps::blocks_rules))]
+/// Where the scan doesn't keep AC coefficients, those of the arrays mean nothing after it.
+#[tactic(auto, using(crate::proofs::KeptScans::kept_rules))]
 pub fn read_spots<R: Read + Drop>(
     interval: &mut Interval,
     source: &mut Source<R>,
@@ -103,9 +105,10 @@ pub fn read_spots<R: Read + Drop>(
     requires spots { AllByRecursion (IsSpotOf (length scan.now.components.items)
         (sizes_of arrays.now.items)) spots.old }
     ensures sizes { sizes_of arrays.new.items ≡ sizes_of arrays.old.items }
-    ensures blocks { Takes (λ _. counted interval.new (arrays_in arrays.new.items))
-        (blocks_from (scan_pass scan.now) (scan_vias scan.now) n spots.old
-        (counted interval.old (arrays_in arrays.old.items)))
+    ensures blocks { Takes (λ _. kept_counted scan.now.keeps_ac
+        (counted interval.new (arrays_in arrays.new.items)))
+        (kept_blocks scan.now.keeps_ac (blocks_from (scan_pass scan.now) (scan_vias scan.now) n
+        spots.old (counted interval.old (arrays_in arrays.old.items))))
         interval.old.decoder source.old result interval.new.decoder source.new }
 {
     while let Some(spot) = spots.next() {
@@ -118,7 +121,7 @@ pub fn read_spots<R: Read + Drop>(
             slot: spot.slot,
             dc_table: coded.dc,
             ac_table: coded.ac,
-            keeps_ac: true,
+            keeps_ac: scan.keeps_ac,
         };
         if !take_block(
             &mut interval.decoder,
@@ -146,6 +149,7 @@ fn read_scan<R: Read + Drop>(
     n: u64,
     spots: &mut Spots<'_>,
 ) -> Result<Option<Marker>>
+    requires keeps { scan.now.keeps_ac ≡ true }
     requires spots { AllByRecursion (IsSpotOf (length scan.now.components.items)
         (sizes_of arrays.now.items)) spots.old }
     ensures sizes { sizes_of arrays.new.items ≡ sizes_of arrays.old.items }
@@ -171,6 +175,7 @@ pub fn read_blocks<R: Read + Drop>(
     arrays: &mut Vec<Vec<[i16; 64]>>,
     frame: &FrameInfo,
 ) -> Result<Option<Marker>>
+    requires keeps { scan.now.keeps_ac ≡ true }
     requires some { 1 ≤ length scan.now.components.items }
     requires fits { AllByRecursion (Fits (frame_in frame.now)) (scan_components scan.now) }
     requires arrays { AreArrays (scan_components scan.now) (arrays_in arrays.now.items) }

@@ -89,9 +89,9 @@ codings_of-requires-clause-scales g c =
     decoded-scales frame (c.requires.sound.frames frame (ap (λ (f : Found). f.frame) (sym c.widen_tables.ensures)
     ∙ framed))
 
-pub returns-in_err-codings_of-clause-reads : goal.returns-in_err-codings_of-clause-reads
-returns-in_err-codings_of-clause-reads g c =
-    let p = err_from_is_err_and c.from_residual-in_err-codings_of.result c.from_residual-in_err-codings_of.ensures.1 in
+pub returns-in_err-components-clause-reads : goal.returns-in_err-components-clause-reads
+returns-in_err-components-clause-reads g c =
+    let p = err_from_is_err_and c.from_residual-in_err-components.result c.from_residual-in_err-components.ensures.1 in
     let old = found_in c.args.state.now in
     let now = found_in c.widen_tables.new.self in
     let found = with_decoded now c.replace-decoded.result in
@@ -104,16 +104,17 @@ returns-in_err-codings_of-clause-reads g c =
     c.args.source.now c.parse_sos.new.reader _ _
     (header-read found frame header c.args.source.now c.parse_sos.new.reader framed (search rules)
     c.in_ok-header.ensures.answers)
-    c.in_err-codings_of.ensures.codings.0
-    c.in_err-codings_of.ensures.codings.1 (λ f h. codings-refused found frame header c.parse_sos.new.reader.bytes f
+    c.in_err-components.ensures.codings.0
+    c.in_err-components.ensures.codings.1 (λ f h. codings-refused found frame header c.parse_sos.new.reader.bytes f
     (codings-kept (with_decoded now c.replace-decoded.new.dest) c.replace-decoded.result frame header ∙ h))))
 
 pub invariant_of-scan : goal.invariant_of-scan
 invariant_of-scan g c =
     record {
       legal = legal-pass (frame_in c.in_ok-frame.frame.now).process (scan_in c.in_ok-header.header) _ (is-dct _ (search rules))
-          c.in_ok-header.ensures.scan.coded c.pass_of.ensures;
-      few = omega (arith, c.in_ok-codings_of.ensures.count, c.in_ok-header.ensures.scan.most);
+          c.in_ok-header.ensures.scan.coded c.pass_of-pass.ensures;
+      few = omega (arith, c.in_ok-components.ensures.count, c.in_ok-header.ensures.scan.most);
+      dc_alone = c.wants_ac.ensures.dc_alone;
     }
 
 pub read-requires-clause-ready : goal.read-requires-clause-ready
@@ -123,7 +124,7 @@ read-requires-clause-ready g c =
     let framed : now.frame ≡ Some frame = search rules in
     ready (with_decoded now c.replace-decoded.new.dest) frame (scan_in c.in_ok-header.header) _
     (c.requires.sound.frames frame (ap (λ (f : Found). f.frame) (sym c.widen_tables.ensures) ∙ framed))
-    c.in_ok-header.ensures.scan refl c.in_ok-codings_of.ensures.codings c.in_ok-codings_of.ensures.count
+    c.in_ok-header.ensures.scan refl c.in_ok-components.ensures.codings c.in_ok-components.ensures.count
 
 pub returns-in_err-reached-clause-reads : goal.returns-in_err-reached-clause-reads
 returns-in_err-reached-clause-reads g c =
@@ -135,17 +136,17 @@ returns-in_err-reached-clause-reads g c =
     let frame = frame_in c.in_ok-frame.frame.now in
     let header = scan_in c.in_ok-header.header in
     let framed : now.frame ≡ Some frame = search rules in
-    let codings = map coding_in c.in_ok-codings_of.field-0.items in
+    let codings = map coding_in c.in_ok-components.components.items in
     let begun =
     blocks-begun (with_decoded now c.replace-decoded.new.dest) c.replace-decoded.result frame header
-    (pass_in c.pass_of.result) codings c.args.source.now c.parse_sos.new.reader framed (search rules)
-    c.in_ok-header.ensures.answers c.in_ok-codings_of.ensures.codings c.pass_of.ensures in
+    (pass_in c.pass_of-pass.result) codings c.args.source.now c.parse_sos.new.reader framed (search rules)
+    c.in_ok-header.ensures.answers c.in_ok-components.ensures.codings c.pass_of-pass.ensures in
     rw (p.1, p.2) (segment-refused (turn_of c.args.state.now) found old c.args.source.now c.read.new.source _ same
     (Continues-err (λ (m : Option Marker). (found, m))
     (λ (m : Option Marker). (record (with_decoded now c.read.new.self) { scanned = true }, m))
     (scan_read found)
-    (after_codings found frame (pass_in c.pass_of.result) codings)
-    (scan_data found frame (pass_in c.pass_of.result) codings) c.args.source.now c.parse_sos.new.reader
+    (after_codings found frame (pass_in c.pass_of-pass.result) codings)
+    (scan_data found frame (pass_in c.pass_of-pass.result) codings) c.args.source.now c.parse_sos.new.reader
     c.read.new.source _ (λ f h. bind_err after_data _ f h) begun c.in_err-reached.ensures.data))
 
 pub returns-in_err-met-2-clause-reads : goal.returns-in_err-met-2-clause-reads
@@ -158,16 +159,16 @@ returns-in_err-met-2-clause-reads g c =
     let frame = frame_in c.in_ok-frame.frame.now in
     let header = scan_in c.in_ok-header.header in
     let framed : now.frame ≡ Some frame = search rules in
-    let codings = map coding_in c.in_ok-codings_of.field-0.items in
+    let codings = map coding_in c.in_ok-components.components.items in
     let begun =
     blocks-begun (with_decoded now c.replace-decoded.new.dest) c.replace-decoded.result frame header
-    (pass_in c.pass_of.result) codings c.args.source.now c.parse_sos.new.reader framed (search rules)
-    c.in_ok-header.ensures.answers c.in_ok-codings_of.ensures.codings c.pass_of.ensures in
+    (pass_in c.pass_of-pass.result) codings c.args.source.now c.parse_sos.new.reader framed (search rules)
+    c.in_ok-header.ensures.answers c.in_ok-components.ensures.codings c.pass_of-pass.ensures in
     rw (p.1, p.2) (segment-refused (turn_of c.args.state.now) found old c.args.source.now c.pass_restarts.new.source _ same
-    (scan-ends (scan_read found) (after_codings found frame (pass_in c.pass_of.result) codings)
+    (scan-ends (scan_read found) (after_codings found frame (pass_in c.pass_of-pass.result) codings)
     (record (with_decoded now c.read.new.self) { scanned = true }) c.in_ok-reached.reached
     c.args.source.now c.parse_sos.new.reader c.read.new.source c.pass_restarts.new.source (Err c.in_err-met-2.field-0.0)
-    (scan_data found frame (pass_in c.pass_of.result) codings) (λ bytes. refl) begun c.in_ok-reached.ensures.data
+    (scan_data found frame (pass_in c.pass_of-pass.result) codings) (λ bytes. refl) begun c.in_ok-reached.ensures.data
     c.in_err-met-2.ensures))
 
 pub returns-clause-reads : goal.returns-clause-reads
@@ -179,18 +180,18 @@ returns-clause-reads g c =
     let frame = frame_in c.in_ok-frame.frame.now in
     let header = scan_in c.in_ok-header.header in
     let framed : now.frame ≡ Some frame = search rules in
-    let codings = map coding_in c.in_ok-codings_of.field-0.items in
+    let codings = map coding_in c.in_ok-components.components.items in
     let next = record (with_decoded now c.read.new.self) { scanned = true } in
     let begun =
     blocks-begun (with_decoded now c.replace-decoded.new.dest) c.replace-decoded.result frame header
-    (pass_in c.pass_of.result) codings c.args.source.now c.parse_sos.new.reader framed (search rules)
-    c.in_ok-header.ensures.answers c.in_ok-codings_of.ensures.codings c.pass_of.ensures in
+    (pass_in c.pass_of-pass.result) codings c.args.source.now c.parse_sos.new.reader framed (search rules)
+    c.in_ok-header.ensures.answers c.in_ok-components.ensures.codings c.pass_of-pass.ensures in
     segment-ends found old next c.in_ok-met-2.met c.args.source.now c.pass_restarts.new.source
     (turn_of c.end_scan-2.new.self c.end_scan-2.result) same c.end_scan-2.ensures
-    (scan-ends (scan_read found) (after_codings found frame (pass_in c.pass_of.result) codings)
+    (scan-ends (scan_read found) (after_codings found frame (pass_in c.pass_of-pass.result) codings)
     next c.in_ok-reached.reached
     c.args.source.now c.parse_sos.new.reader c.read.new.source c.pass_restarts.new.source (Ok c.in_ok-met-2.met)
-    (scan_data found frame (pass_in c.pass_of.result) codings) (λ bytes. refl) begun c.in_ok-reached.ensures.data
+    (scan_data found frame (pass_in c.pass_of-pass.result) codings) (λ bytes. refl) begun c.in_ok-reached.ensures.data
     c.in_ok-met-2.ensures)
 
 pub returns-clause-steps : goal.returns-clause-steps

@@ -14,7 +14,9 @@ use Rattle.jpeg_decoder.specs.declared.scan.Coded.{Coded}
 use Rattle.jpeg_streams.specs.Order.{Spot}
 use Rattle.jpeg_streams.specs.InTurn.{blocks_from, counted_at_start}
 use Rattle.jpeg_streams.specs.McuRows.{rows_of, zero_rows}
-use Rattle.jpeg_decoder.specs.Scanning.{IsSpotOf, arrays_in, components_in, counted, down_in, sizes_of, vias_in}
+use Rattle.jpeg_decoder.specs.Scanning.{IsSpotOf, arrays_in, components_in, counted, down_in, kept_blocks}
+use Rattle.jpeg_decoder.specs.Scanning.{kept_counted, sizes_of, vias_in}
+use Rattle.jpeg_decoder.proofs.KeptStrips.{kept-refused, one-a-side, strips_kept}
 use Rattle.jpeg_decoder.specs.Steps.{coding_in}
 use Rattle.jpeg_decoder.specs.Strips.{planes_in, row_sizes, samples_in, strips_from, with_strips, zeros_of}
 use Rattle.jpeg_decoder.specs.Walk.{walk_of_row, walks_of_rows}
@@ -77,15 +79,21 @@ returns-in_err-read_spots-clause-planes g c =
     let none : zeros ≡ zero_rows 1 (components_of codings) = c.clear_rows.ensures.zeros ∙ ap zeros_of l.invariant.sizes
     ∙ zeros-are cs in
     rw (e.1, e.2) (rows-refused (frame_in c.args.frame.now) cs p (vias_in 0 cs) c.args.scan.now.restart_interval o
-    c.in_ok-order.ensures (planes_in c.args.planes.now.items) c.args.source.now (λ (u : Unit {0}). planes)
-    (λ (m : Option Marker). (planes, m)) c.read_spots.new.interval.decoder c.read_spots.new.source _
-    (refused_after (λ (u : Unit {0}). planes) (λ (u : Unit {0}). counted c.read_spots.new.interval
-    (arrays_in c.read_spots.new.arrays.items)) (strips_from p (vias_in 0 cs) o.interval codings (walks_of_rows o)
+    c.in_ok-order.ensures (planes_in c.args.planes.now.items) c.args.source.now
+    (λ (u : Unit {0}). planes) (λ (m : Option Marker). (planes, m)) c.read_spots.new.interval.decoder
+    c.read_spots.new.source _
+    (refused_after (λ (u : Unit {0}). planes) (λ (u : Unit {0}). kept_counted c.args.scan.now.keeps_ac
+    (counted c.read_spots.new.interval (arrays_in c.read_spots.new.arrays.items)))
+    (strips_from p (vias_in 0 cs) o.interval codings (walks_of_rows o)
     (planes_in c.args.planes.now.items) (counted_at_start o.interval []))
     (strips_from p (vias_in 0 cs) o.interval codings (map f (range_with_len l.row (o.rows - l.row))) planes
-    (counted l.interval [])) (blocks_from p (vias_in 0 cs) o.interval c.row-spots.result (counted l.interval zeros))
+    (counted l.interval []))
+    (kept_blocks c.args.scan.now.keeps_ac
+    (blocks_from p (vias_in 0 cs) o.interval c.row-spots.result (counted l.interval zeros)))
     fresh l.interval.decoder c.read_spots.new.interval.decoder c.args.source.now l.source c.read_spots.new.source _
-    (λ t fault h. strips_refused p _ _ _ f _ _ _ _ _ _ t _ c.loop-row-test.true none c.row-spots.ensures h)
+    (λ t fault h. strips_refused p (vias_in 0 cs) o.interval codings f c.row-spots.result l.row o.rows planes zeros
+    (counted l.interval []) t fault c.loop-row-test.true none c.row-spots.ensures
+    (kept-refused c.args.scan.now.keeps_ac _ fault h))
     l.invariant.strips c.in_err-read_spots.ensures.blocks))
 
 pub loop-row-preserved : goal.loop-row-preserved
@@ -124,10 +132,11 @@ loop-row-preserved g c =
             let by = q.blocks.1 at.0 in (
               by.0,
               at.1
-                  ∙ strips_step p (vias_in 0 cs) n codings f c.row-spots.result l.row high planes zeros (counted l.interval [])
-                  (counted c.read_spots.new.interval (arrays_in read))
+                  ∙ strips_kept c.args.scan.now.keeps_ac p (vias_in 0 cs) n codings f c.row-spots.result l.row high planes
+                  zeros (counted l.interval []) (counted c.read_spots.new.interval (arrays_in read))
                   (upcoming l.interval.decoder l.source.bytes)
-                  (upcoming c.read_spots.new.interval.decoder c.read_spots.new.source.bytes) c.loop-row-test.true
+                  (upcoming c.read_spots.new.interval.decoder c.read_spots.new.source.bytes)
+                  (λ alone. one-a-side cs (c.args.scan.now.dc_alone alone).1) c.loop-row-test.true
                   none c.row-spots.ensures by.1
                   ∙ ap (λ (x : List (List ℕ)). strips_from p (vias_in 0 cs) n codings (map f (range_with_len
                   (l.row + 1) (high - (l.row + 1)))) x (counted c.read_spots.new.interval [])
