@@ -204,19 +204,3 @@ blocks-alike p dc ac predictor run b c t f e =
 
 abbrev pub keep : Bool → Block × ℤ × ℕ → Block × ℤ × ℕ
 keep keeps r = (kept keeps r.0, r.1, r.2)
-
--- where all is kept, a block is read as it is
-whole-kept : (o : Result ((Block × ℤ × ℕ) × Text) Fault) → read_on (kept_turn true) o ≡ o
-whole-kept (Ok r) = refl
-whole-kept (Err e) = refl
-
-pub Takes-whole : {X : Type 0} (view : X → Block × ℤ × ℕ) (read : Reads (Block × ℤ × ℕ)) (a b : Ahead)
-    (old new : Stream) (r : Result X Error) → Takes view (kept_from true read) a old r b new
-    → Takes view read a old r b new
-Takes-whole view read a b old new (Ok x) h =
-    (h.0, λ known. let at = h.1 known in (at.0, sym (whole-kept (read (upcoming a old.bytes))) ∙ at.1))
-Takes-whole view read a b old new (Err e) h = (
-  h.0,
-  (λ known still. subst (Names e) (whole-kept (read (upcoming a old.bytes))) (h.1 known still)),
-  h.2,
-)

@@ -70,16 +70,48 @@ pub fn is_large(frame: &FrameInfo) -> bool {
     u32::from(size.width) * u32::from(size.height) >= WIDE_PIXELS
 }
 
-/// Fills the look-up tables of AC values.
+/// Returns whether no AC coefficient of a frame is wanted: it is sequential, and each of its blocks
+/// gives one sample.
+fn wants_no_ac(frame: &FrameInfo) -> bool {
+    if is_progressive(frame.coding_process) {
+        return false;
+    }
+    for component in &frame.components {
+        if component.dct_scale != 1 {
+            return false;
+        }
+    }
+    true
+}
+
+/// Fills the look-up tables of a table of AC coefficients that a frame's blocks are read by.
+fn widen(
+    alloc: Global,
+    table: &mut HuffmanTable,
+    passes_over: bool,
+) -> std::result::Result<(), AllocError>
+    ensures { table.new ≡ table.old }
+{
+    table.widen(alloc)?;
+    if passes_over {
+        return table.fill_skips(alloc);
+    }
+    Ok(())
+}
+
+/// Fills the look-up tables of AC values, and, where a frame wants none of them, those by which
+/// they are passed over.
 pub fn widen_all(
     alloc: Global,
     tables: &mut [Option<HuffmanTable>],
+    frame: &FrameInfo,
 ) -> std::result::Result<(), AllocError>
     ensures { tables.new ≡ tables.old }
 {
+    let passes_over = wants_no_ac(frame);
     for destination in 0..tables.len() {
         if let Some(table) = &mut tables[destination] {
-            table.widen(alloc)?;
+            widen(alloc, table, passes_over)?;
         }
     }
     Ok(())
@@ -109,7 +141,7 @@ pub fn spare_tables(
         spare.ac = vec![in alloc; None, None, None, None]?;
         fill_default_mjpeg_tables(alloc, header, &mut spare.dc, &mut spare.ac)?;
         if is_large(frame) {
-            widen_all(alloc, &mut spare.ac)?;
+            widen_all(alloc, &mut spare.ac, frame)?;
         }
     }
     Ok(spare)

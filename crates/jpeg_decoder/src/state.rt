@@ -224,7 +224,7 @@ impl State {
         if !is_large(frame) {
             return Ok(());
         }
-        widen_all(alloc, &mut self.ac_tables)
+        widen_all(alloc, &mut self.ac_tables, frame)
     }
 
     /// Ends a scan with what the scans have decoded, and returns what stands after it: this marker,
