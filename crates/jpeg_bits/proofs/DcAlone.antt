@@ -1,12 +1,10 @@
 -- Blocks of a first pass of which DC alone is kept.
-use Rattle.std.proofs.lemmas.Grind.{common_steps}
-use Rattle.std.proofs.lemmas.Bool.Decides.{nat_tests}
-use Rattle.std.proofs.Common.{◌≡◌, ℕ, ℤ, zero, suc, ◌+◌, ◌-◌, Bool, true, false, List, [], ◌∷◌, ◌++◌, length, take, drop, map, pos}
+use Rattle.std.proofs.Common.{◌≡◌, ℕ, ℤ, zero, suc, ◌+◌, Bool, true, false, List, [], ◌∷◌, ◌++◌, length, take, drop, map, pos}
 use Rattle.std.proofs.Common.{set, Result, Ok, Err, refl, sym, ap, ap₂, subst, ◌∙◌, arith, length-append, length-take, length-drop}
-use Rattle.std.proofs.Common.{Option, is_ok, get_or}
+use Rattle.std.proofs.Common.{Option}
 use Rattle.std.proofs.lemmas.List.{length-map}
 use Rattle.std.proofs.lemmas.Bool.{false≢true}
-use Rattle.jpeg_bits.specs.Reading.{Fault, Names}
+use Rattle.jpeg_bits.specs.Reading.{Fault}
 use Rattle.jpeg_bits.specs.Stream.{Stream}
 use Rattle.jpeg_bits.specs.Entropy.{Text, Ahead, Takes, upcoming}
 use Rattle.jpeg_bits.specs.Codes.{Table}
@@ -15,7 +13,7 @@ use Rattle.jpeg_bits.specs.Bands.{Band}
 use Rattle.jpeg_bits.specs.Passes.{Pass, Block, band_of, before_band, band_size, with_band, dc_part, band_part, block_from}
 use Rattle.jpeg_bits.specs.Refusals.{outcome_of}
 use Rattle.jpeg_bits.specs.BlockView.{to_block, IsPass}
-use Rattle.jpeg_bits.specs.Skips.{run_within, run_of, run_part, dc_alone, kept, kept_from, kept_turn}
+use Rattle.jpeg_bits.specs.Skips.{run_of, run_part, dc_alone, kept, kept_turn}
 use Rattle.jpeg_bits.specs.declared.error.Error.{Error}
 use Rattle.jpeg_bits.proofs.BandLoop.{Leaves}
 use Rattle.jpeg_bits.proofs.Loops.{Names-through}

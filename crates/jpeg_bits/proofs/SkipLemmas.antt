@@ -2,8 +2,8 @@
 use Rattle.std.proofs.lemmas.Grind.{common_steps}
 use Rattle.std.proofs.lemmas.Bool.Decides.{nat_tests}
 use Rattle.std.proofs.Common.{◌≡◌, ℕ, ℤ, zero, suc, ◌+◌, ◌-◌, ◌*◌, ◌/◌, ◌%◌, ◌^◌, ◌<◌, ◌≤◌, Bool, true, false, List, []}
-use Rattle.std.proofs.Common.{◌∷◌, ◌++◌, length, take, drop, replicate, get_or, pos, ◌*ℤ◌, Option, Some, None, Result, Ok}
-use Rattle.std.proofs.Common.{Err, is_ok, refl, sym, ap, ◌∙◌, subst, arith, length-append, length-drop, length-take, ltb, leb}
+use Rattle.std.proofs.Common.{◌∷◌, ◌++◌, length, take, drop, replicate, get_or, pos, ◌*ℤ◌, Option, Some, Result, Ok}
+use Rattle.std.proofs.Common.{Err, is_ok, refl, sym, ap, ◌∙◌, subst, arith, length-append, length-drop, length-take, ltb}
 use Rattle.std.proofs.Common.{inl, inr, pow_pos, set, get_or-set_other, get_or-set_same}
 use Rattle.std.proofs.lemmas.Bool.{lt-ltb, false≢true, cases_lt}
 use Rattle.std.proofs.lemmas.List.{take-take, take-append-le, drop-drop}
@@ -20,8 +20,8 @@ use Rattle.jpeg_bits.specs.ShortCodes.{named, symbol_in, next_bits}
 use Rattle.jpeg_bits.specs.Readers.{Reads, read_on, gives, signed_from}
 use Rattle.jpeg_bits.specs.Written.{low_bits}
 use Rattle.jpeg_bits.specs.Bands.{Band, IsWithinRoom, before_more, wrapped, after_token, first_ac, token_at, token_from}
-use Rattle.jpeg_bits.specs.Skips.{run_after, run_within, run_of, run_part, Skip, no_skip, after_skip, IsSkip}
-use Rattle.jpeg_bits.specs.Skips.{BeginsText, PassesOver}
+use Rattle.jpeg_bits.specs.Skips.{run_after, run_within, run_of, no_skip, IsSkip}
+use Rattle.jpeg_bits.specs.Skips.{PassesOver}
 use Rattle.jpeg_bits.specs.declared.tokens.Token.{Token}
 use Rattle.jpeg_bits.specs.declared.tokens.Token.TheVariants.{Value, Sixteen, Rest, Overlong}
 

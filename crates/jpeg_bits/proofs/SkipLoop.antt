@@ -1,19 +1,18 @@
 -- Steps of the loop that passes over the tokens of a band.
-use Rattle.std.proofs.Common.{◌≡◌, ℕ, ◌-◌, ◌<◌, ◌≤◌, Bool, true, false, List, drop, replicate, Result, Ok, Err, refl, ap, ◌∙◌}
+use Rattle.std.proofs.Common.{◌≡◌, ℕ, ◌-◌, ◌<◌, ◌≤◌, Bool, true, false, List, drop, replicate, Ok, Err, refl, ap, ◌∙◌}
 use Rattle.std.proofs.Common.{arith, is_ok, sym, Option, ◌++◌}
 use Rattle.std.proofs.lemmas.List.{take-take}
-use Rattle.jpeg_bits.specs.Reading.{Fault}
 use Rattle.jpeg_bits.specs.Stream.{Stream}
 use Rattle.jpeg_bits.specs.Entropy.{Text, Ahead, Takes, advance, upcoming_by, upcoming, same_text, has_held, IsFilled}
-use Rattle.jpeg_bits.specs.Codes.{Table, next_16}
+use Rattle.jpeg_bits.specs.Codes.{Table}
 use Rattle.jpeg_bits.specs.ShortCodes.{next_bits}
 use Rattle.jpeg_bits.specs.Readers.{read_on, gives}
 use Rattle.jpeg_bits.specs.Bands.{token_from}
-use Rattle.jpeg_bits.specs.Skips.{run_after, run_of, Skip, after_skip, IsSkip}
+use Rattle.jpeg_bits.specs.Skips.{run_after, run_of, after_skip, IsSkip}
 use Rattle.jpeg_bits.specs.declared.error.Error.{Error}
 use Rattle.jpeg_bits.specs.declared.ahead.DataEnd.{DataEnd}
 use Rattle.jpeg_bits.specs.declared.tokens.Token.{Token}
-use Rattle.jpeg_bits.proofs.BandLoop.{Leaves, IsLast}
+use Rattle.jpeg_bits.proofs.BandLoop.{Leaves}
 use Rattle.jpeg_bits.proofs.BandSteps.{Leaves-ok, Leaves-err, Leaves-end}
 use Rattle.jpeg_bits.proofs.Held.{has_bits-held, advance-held, filled-less, ok_unit}
 use Rattle.jpeg_bits.proofs.Reservoirs.{same_zeros}

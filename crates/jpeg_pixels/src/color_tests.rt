@@ -68,6 +68,33 @@ fn picture_of_three(
     compute_image_rows(alloc, &components, &planes, size, color_transform)
 }
 
+// The picture of one pixel.
+fn picture_of_four(
+    alloc: Global,
+    first: Vec<u8>,
+    second: Vec<u8>,
+    third: Vec<u8>,
+    fourth: Vec<u8>,
+    color_transform: ColorTransform,
+) -> Result<Vec<u8>>
+    requires first { length first.items ≡ 1 }
+    requires second { length second.items ≡ 1 }
+    requires third { length third.items ≡ 1 }
+    requires fourth { length fourth.items ≡ 1 }
+{
+    let one = component(1, 1, (1, 1), (1, 1));
+    let two = component(1, 1, (1, 1), (1, 1));
+    let three = component(1, 1, (1, 1), (1, 1));
+    let four = component(1, 1, (1, 1), (1, 1));
+    let components = [one, two, three, four];
+    let planes = [first, second, third, fourth];
+    let size = Dimensions {
+        width: 1,
+        height: 1,
+    };
+    compute_image_rows(alloc, &components, &planes, size, color_transform)
+}
+
 // The picture of 3x2 pixels whose colour differences have 2x1 samples.
 fn picture_of_halves(alloc: Global, luma: Vec<u8>, cb: Vec<u8>, cr: Vec<u8>) -> Result<Vec<u8>>
     requires luma { length luma.items ≡ 19 }
@@ -248,6 +275,25 @@ fn lines_of_three_components(rt: HostRuntime) -> std::result::Result<(), Fail> {
         let second = Vec::from_array(alloc, second)?;
         let third = Vec::from_array(alloc, third)?;
         let picture = picture_of_three(alloc, first, second, third, transform)?;
+        assert_eq!(rt; picture.as_slice(), expected.as_slice(), "{transform:?}");
+    }
+    Ok(())
+}
+
+#[test]
+fn pixels_of_four_components(rt: HostRuntime) -> std::result::Result<(), Fail> {
+    let alloc = rt.alloc();
+    let pixels = [
+        (ColorTransform::CMYK, [0, 10, 200, 255], [255, 245, 55, 0]),
+        (ColorTransform::YCCK, [76, 85, 255, 10], [254, 0, 0, 245]),
+        (ColorTransform::None, [76, 85, 255, 10], [76, 85, 255, 10]),
+    ];
+    for (transform, [first, second, third, fourth], expected) in pixels {
+        let first = Vec::from_array(alloc, [first])?;
+        let second = Vec::from_array(alloc, [second])?;
+        let third = Vec::from_array(alloc, [third])?;
+        let fourth = Vec::from_array(alloc, [fourth])?;
+        let picture = picture_of_four(alloc, first, second, third, fourth, transform)?;
         assert_eq!(rt; picture.as_slice(), expected.as_slice(), "{transform:?}");
     }
     Ok(())

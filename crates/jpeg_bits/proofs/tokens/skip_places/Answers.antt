@@ -1,7 +1,7 @@
-use Rattle.std.proofs.Common.{◌≡◌, ◌∙◌, ◌+◌, ◌-◌, ◌<◌, ap, subst, sym, arith, ℕ, refl, Ok}
+use Rattle.std.proofs.Common.{◌+◌, ◌-◌, subst, sym, arith, ℕ, refl}
 use Rattle.jpeg_bits.specs.Refusals.{held_refusal}
 use Rattle.jpeg_bits.specs.Skips.{run_of}
-use Rattle.jpeg_bits.specs.declared.tokens.Token.TheVariants.{Value, Sixteen, Rest, Overlong}
+use Rattle.jpeg_bits.specs.declared.tokens.Token.TheVariants.{Value, Sixteen}
 use Rattle.jpeg_bits.proofs.BandLoop.{Leaves}
 use Rattle.jpeg_bits.proofs.SkipLoop.{skip-all, skip-over, skip-overlong, skip-refused, skip-rest, skip-to-end}
 use Rattle.jpeg_bits.proofs.SkipLoop.{skip-token}

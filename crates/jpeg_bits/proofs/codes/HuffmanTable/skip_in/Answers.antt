@@ -1,4 +1,4 @@
-use Rattle.std.proofs.Common.{◌≡◌, ◌<◌, rules, refl, ◌∙◌, ◌/◌, ◌%◌, ◌+◌, ◌++◌, sym, ap, subst, arith, length, Some, drop, replicate, false}
+use Rattle.std.proofs.Common.{◌≡◌, ◌<◌, rules, refl, ◌∙◌, ◌%◌, ◌+◌, ◌++◌, sym, ap, arith, Some, drop, replicate, false}
 use Rattle.std.proofs.lemmas.Bool.{false≢true}
 use Rattle.jpeg_bits.specs.ShortCodes.{symbol_in}
 use Rattle.jpeg_bits.specs.Written.{low_bits}

@@ -1,0 +1,21 @@
+use Rattle.std.proofs.Common.{ℕ, List, [], ◌∷◌, All, arith, rules}
+use Rattle.std.proofs.lemmas.List.Elements.{All-cons, All-nil}
+use Rattle.jpeg_segments.specs.Frame.{Factors, IsInRange, component_of, frame_of}
+use Rattle.jpeg_segments.specs.FrameView.{component_in}
+use Rattle.jpeg_pixels.specs.Pictures.{HaveRoom}
+use Rattle.jpeg_pixels.proofs.FramesOfFactors.{by_factors, are-covered, have-factors}
+use Rattle.jpeg_pixels.proofs.color_tests.picture_of_four.Goals as goal
+
+abbrev factors : List Factors
+factors = by_factors 1 1 ∷ by_factors 1 1 ∷ by_factors 1 1 ∷ by_factors 1 1 ∷ []
+
+are-factors : All IsInRange factors
+are-factors = search (rules, All-cons, All-nil)
+
+pub compute_image_rows-requires-clause-factors : goal.compute_image_rows-requires-clause-factors
+unfolding frame_of component_of
+compute_image_rows-requires-clause-factors c = search (rules, have-factors, are-factors)
+
+pub compute_image_rows-requires-clause-cover : goal.compute_image_rows-requires-clause-cover
+unfolding frame_of component_of HaveRoom
+compute_image_rows-requires-clause-cover c = search (rules, are-covered, are-factors)
