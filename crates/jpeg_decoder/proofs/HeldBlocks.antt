@@ -153,13 +153,16 @@ module _ (p : Pass) (cs : List Coded) (slot index : ℕ) (c : Coded) (vs : List 
       go (Ok r) e =
           let q = read-parts (kept_result keeps r.0) (kept keeps (to_block y), next, more) r.1 u e in
           let same : kept_arrays keeps (put_block (spot slot index) r.0.0 (arrays_in vs))
-              ≡ kept_arrays keeps (arrays_in (set vs slot (with_item v index y)))
+          ≡ kept_arrays keeps (arrays_in (set vs slot (with_item v index y)))
           = put-kept keeps (spot slot index) (arrays_in vs) r.0.0 (to_block y) (ap (λ (b : Block × ℤ × ℕ). b.0) q.0)
           ∙ ap (kept_arrays keeps) (sym (arrays-set vs slot index v y inside array)) in
           ap (λ (a : Arrays). Ok (record { arrays = a; predictors = set predictors slot r.0.1; run = r.0.2 }, r.1)) same
-          ∙ ap₂ (λ (b : Block × ℤ × ℕ) (w : Text). Ok (record {
-            arrays = kept_arrays keeps (arrays_in (set vs slot (with_item v index y)));
-            predictors = set predictors slot b.1;
-            run = b.2;
-          }, w)) q.0 q.1
+          ∙ ap₂ (λ (b : Block × ℤ × ℕ) (w : Text). Ok (
+            record {
+              arrays = kept_arrays keeps (arrays_in (set vs slot (with_item v index y)));
+              predictors = set predictors slot b.1;
+              run = b.2;
+            },
+            w,
+          )) q.0 q.1
       go (Err f) e = absurd (not-read f ((kept keeps (to_block y), next, more), u) e)

@@ -54,8 +54,16 @@ pub image-length : (components : List Component) (planes : List (List ℕ)) (wid
     → length picture ≡ height * (length components * width)
 unfolding image_of picture_bytes picture_line
 image-length components planes width height transform picture counts is =
-    grind (arith, common_steps, sources-length, made-length, lines_of-length, line-length, lines_of-long,
-    conversion-fits)
+    grind (
+      arith,
+      common_steps,
+      sources-length,
+      made-length,
+      lines_of-length,
+      line-length,
+      lines_of-long,
+      conversion-fits,
+    )
 
 pub cropped-length : (stride width height : ℕ) (plane : List ℕ)
     → length (cropped stride width height plane) ≡ width * height

@@ -164,6 +164,7 @@ begun-alike keeps p vias s a b t first e =
         ≡ read_on (turn_then (kept_counted keeps c)) (read_on (kept_read keeps) o)
     then-kept c (Ok r) = refl
     then-kept c (Err f) = refl
+
     go : (o q : Result (Reached × Text) Fault) → read_on (kept_read keeps) o ≡ read_on (kept_read keeps) q
         → read_on (kept_after keeps) (read_on (turn_then a) o) ≡ read_on (kept_after keeps) (read_on (turn_then b) q)
     go o q h =
@@ -193,6 +194,7 @@ start-kept keeps n c t = go (nat_lt 0 n && c.left == 0)
     ]) t
     go false = refl
     go true = restarted (restart_from c.number t)
+
     restarted : (o : Result (Unit {0} × Text) Fault)
         → read_on (kept_after keeps) (read_on (λ (u : Unit {0}). gives (record {
           reached = at_start c.reached.arrays;

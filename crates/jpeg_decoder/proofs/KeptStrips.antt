@@ -43,7 +43,7 @@ samples-alike high c a b one e =
     let wide = c.component.blocks_wide in
     let q = values_in_block_order c.quantization in
     let at : (x y row column : ℕ) → sample_at 1 (in_raster wide a row column) q x y
-        ≡ sample_at 1 (in_raster wide b row column) q x y
+    ≡ sample_at 1 (in_raster wide b row column) q x y
     = λ x y row column.
     one-sample (get_or a (row * wide + column) zero_block) q x y
     ∙ ap (λ (l : Block). sample_at 1 (ordered l) q x y) (block-alike a b (row * wide + column) e)

@@ -133,8 +133,14 @@ whole-by f pixels p dct long = go f.process refl
 pub whole-if : (found : Found) (frame : Option Frame) (n : ℕ) (pixels : List ℕ) → HasDecodedFrame found
     → found.frame ≡ frame → IfSome frame (λ f. n ≡ picture_bytes f) → length pixels ≡ n
     → IsWhole found.frame pixels
-whole-if found frame n pixels p same size long = grind (arith, common_steps, by-info, precision-8, block-bytes,
-    mul_comm)
+whole-if found frame n pixels p same size long = grind (
+  arith,
+  common_steps,
+  by-info,
+  precision-8,
+  block-bytes,
+  mul_comm,
+)
 
 pub if-size : {X : Type 0} (items : X → List ℕ) (E : Error → Type 0) (settings : Settings) (m : Metadata) (f : Frame)
     (planes : List (List ℕ)) (result : Result X Error) → IsDecodedFrame f → AreWhole f.components planes

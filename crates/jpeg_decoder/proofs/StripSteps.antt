@@ -128,8 +128,15 @@ lengths-next (c ∷ cs) (a ∷ arrays) (p ∷ planes) row e h =
     let s = c.component.now.dct_scale in
     let head : length p ≡ samples_in (row * down_in c) c = ap (λ (l : List ℕ). get_or l 0 0) h in
     let tail = ap (λ (l : List ℕ). drop 1 l) h in
-    grind (arith, common_steps, length-append, length-samples, one-row-more, lengths-next cs arrays planes row
-    (omega arith) tail)
+    grind (
+      arith,
+      common_steps,
+      length-append,
+      length-samples,
+      one-row-more,
+      lengths-next cs arrays planes row
+          (omega arith) tail,
+    )
 lengths-next [] (a ∷ arrays) planes row e h = absurd (omega arith)
 lengths-next (c ∷ cs) [] planes row e h = absurd (omega arith)
 lengths-next _ _ _ row e h = absurd (let n = ap (λ (l : List ℕ). length l) h in omega arith)

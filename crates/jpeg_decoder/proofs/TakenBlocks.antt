@@ -43,8 +43,13 @@ unfolding put_arrays without_blocks
 put-back [] arrays held apart e = refl
 put-back (c ∷ more) [] held apart e = absurd (omega arith)
 put-back (c ∷ more) (blocks ∷ arrays) held apart e =
-    grind (arith, common_steps, set-after, set-set,
-    put-back more arrays (set (set held c.place []) c.place blocks) apart.1 (omega arith))
+    grind (
+      arith,
+      common_steps,
+      set-after,
+      set-set,
+      put-back more arrays (set (set held c.place []) c.place blocks) apart.1 (omega arith),
+    )
 
 -- ---- one component more
 

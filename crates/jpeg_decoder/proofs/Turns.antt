@@ -179,8 +179,21 @@ segment-goes : (limit : ℕ) (m : Marker) (before : Before) (found : Found) (byt
     → (is_restart_marker (Some m) ≡ true → length bytes < limit) → On (Below limit) (segment_at m before found bytes)
 unfolding segment_at end_segment On
 segment-goes limit m before found bytes h r =
-    grind (arith, common_steps, onward-goes, frame-goes, quantization-goes, huffman-goes, scan-goes, restart-goes,
-    application-goes, skipped-goes, on-onward, lines-goes, on-err)
+    grind (
+      arith,
+      common_steps,
+      onward-goes,
+      frame-goes,
+      quantization-goes,
+      huffman-goes,
+      scan-goes,
+      restart-goes,
+      application-goes,
+      skipped-goes,
+      on-onward,
+      lines-goes,
+      on-err,
+    )
 
 turn-goes : (before : Before) (found : Found) (met : Option Marker) (bytes : List ℕ) → is_restart_marker met ≡ false
     → On (Below (length bytes)) (turn_at before found met bytes)

@@ -83,9 +83,16 @@ unfolding with_samples
 with-there samples [] decided h = tt
 with-there samples (p ∷ places) decided h =
     let next = slice_set decided p (Some (concat (samples p))) in
-    grind (arith, common_steps, with-keeps, get_or-set_same, length-set, with-there samples places next
-    (subst (λ (n : ℕ). AllByRecursion (λ (k : ℕ). k < n) places) (sym
-    (length-set decided p (Some (concat (samples p))))) h.1))
+    grind (
+      arith,
+      common_steps,
+      with-keeps,
+      get_or-set_same,
+      length-set,
+      with-there samples places next
+          (subst (λ (n : ℕ). AllByRecursion (λ (k : ℕ). k < n) places) (sym
+          (length-set decided p (Some (concat (samples p))))) h.1),
+    )
 
 held-append : (samples : Samples) (decided : List (Option (List ℕ))) (xs ys : List ℕ) → AreHeld samples decided xs
     → AreHeld samples decided ys → AreHeld samples decided (xs ++ ys)

@@ -93,8 +93,13 @@ placed-counted : (w : Way) (n from : ℕ) (parts : List Part) (lines : List (Lis
 unfolding HaveDifferences
 placed-counted w n from [] [] rows e h = tt
 placed-counted w n from (p ∷ parts) (l ∷ lines) rows e h =
-    grind (arith, common_steps, rows-count, lines-count,
-    placed-counted w n (from + p.down * p.across) parts lines rows e h.1)
+    grind (
+      arith,
+      common_steps,
+      rows-count,
+      lines-count,
+      placed-counted w n (from + p.down * p.across) parts lines rows e h.1,
+    )
 placed-counted w n from _ _ rows e h = absurd h
 
 above-counted : (a b : ℕ) (parts : List Part) (front others : List (List (List ℕ))) → AreCounted a parts front
@@ -171,8 +176,14 @@ all-sized w high samples [] parts lines cover grid count held = tt
 all-sized w high samples (k ∷ codings) [] lines cover grid count held = absurd cover
 all-sized w high samples (k ∷ codings) (p ∷ parts) [] cover grid count held = absurd count
 all-sized w high samples (k ∷ codings) (p ∷ parts) (l ∷ lines) cover grid count held =
-    grind (arith, common_steps, length-map, length-take-le, own-even,
-    all-sized w high samples codings parts lines cover.1 grid.1 count.1 held.1)
+    grind (
+      arith,
+      common_steps,
+      length-map,
+      length-take-le,
+      own-even,
+      all-sized w high samples codings parts lines cover.1 grid.1 count.1 held.1,
+    )
 
 all-among : (frame : Frame) (codings : List LosslessCoding) → AllByRecursion (λ k. IsMade frame k.component) codings
     → AllCover (ceiling frame.width (most_across frame)) (ceiling frame.height (most_down frame)) codings

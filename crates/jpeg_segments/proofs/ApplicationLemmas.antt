@@ -1,7 +1,7 @@
 -- A payload that says nothing is passed over.
 use Rattle.std.proofs.lemmas.Bool.Decides.{nat_tests}
-use Rattle.std.proofs.Common.{◌≡◌, ◌≢◌, ℕ, zero, suc, ◌<◌, List, [], ◌∷◌, refl, ap, ◌∙◌, Option, None}
-use Rattle.std.proofs.Common.{Ok, Err, arith}
+use Rattle.std.proofs.Common.{◌≡◌, ◌≢◌, ℕ, zero, suc, ◌<◌, List, [], ◌∷◌, refl, ◌∙◌, Option, None}
+use Rattle.std.proofs.Common.{Ok, arith}
 use Rattle.jpeg_bits.specs.Reading.{Outcome, ◌>>=◌, times, skip_at, next_byte}
 use Rattle.jpeg_segments.specs.Application.{Application, application_by, payload_at, passed_over}
 use Rattle.std.proofs.lemmas.Grind.{common_steps}

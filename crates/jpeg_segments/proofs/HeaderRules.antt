@@ -1,7 +1,7 @@
 -- A scan header that is written keeps the rules of scans.
 use Rattle.std.proofs.lemmas.List.{length-map}
-use Rattle.std.proofs.Common.{◌≡◌, ℕ, suc, ◌<◌, ◌+◌, ◌-◌, ◌/◌, ◌%◌, true, List, [], ◌∷◌, map, length}
-use Rattle.std.proofs.Common.{All, refl, sym, ap, ◌∙◌, subst, arith, rules}
+use Rattle.std.proofs.Common.{◌≡◌, ℕ, ◌+◌, true, List, [], ◌∷◌, map}
+use Rattle.std.proofs.Common.{All, arith, rules}
 use Rattle.std.proofs.lemmas.Bool.{ltb-true}
 use Rattle.std.proofs.lemmas.Bool.Decides.{nat_tests}
 use Rattle.std.proofs.lemmas.List.Elements.{All-nil}
@@ -11,7 +11,6 @@ use Rattle.jpeg_segments.specs.Frame.{Frame}
 use Rattle.jpeg_segments.specs.ScanHeader.{is_band, after_of, scan_of, IsCoded, IsRising, IsSelectorOf}
 use Rattle.jpeg_segments.specs.ScanHeader.{IsScanOf}
 use Rattle.jpeg_segments.proofs.ScanLemmas.{is-scan, legal-again}
-use Rattle.jpeg_segments.specs.WrittenSegments.{nibbles}
 use Rattle.jpeg_segments.specs.ScanHeaders.{Choice, ScanHeader, selector_of, IsChoice, AreChoices, IsScan, scan_written}
 use Rattle.jpeg_segments.proofs.Fields.{nibbles-high, nibbles-low}
 use Rattle.std.proofs.lemmas.Grind.{common_steps}

@@ -9,7 +9,7 @@ use Rattle.std.proofs.lemmas.Bool.{not-true, and_parts}
 use Rattle.std.specs.Prelude.{flat_map}
 use Rattle.jpeg_bits.specs.Reading.{Malformed, Lacks, ◌>>=◌}
 use Rattle.jpeg_bits.specs.declared.error.UnsupportedFeature.TheVariants.{DNL}
-use Rattle.jpeg_segments.specs.Frame.{Factors, IsInRange, Frame, Head, frame_of, is_factor, is_place}
+use Rattle.jpeg_segments.specs.Frame.{Factors, Frame, Head, frame_of, is_factor, is_place}
 use Rattle.jpeg_segments.specs.Frame.{is_lossless_number, is_taken, is_precision, is_count, parameters_at}
 use Rattle.jpeg_segments.specs.Frame.{factors_at, components_from, size_at, head_at, sof_at}
 use Rattle.jpeg_segments.specs.HuffmanTables.{greatest_place}

@@ -8,7 +8,6 @@ use Rattle.jpeg_bits.specs.Reading.{next_byte}
 use Rattle.jpeg_bits.specs.Codes.{Table, HasCodes, RefusesCodes, codes_exist, code_lengths}
 use Rattle.jpeg_bits.specs.declared.codes.HuffmanTableClass.{HuffmanTableClass}
 use Rattle.jpeg_bits.specs.declared.error.Error.{Error}
-use Rattle.jpeg_bits.specs.declared.error.Error.TheVariants as errors
 use Rattle.jpeg_bits.proofs.Loops.{still_known}
 use Rattle.jpeg_bits.proofs.Tables.{exist-tested, tested-exist}
 use Rattle.jpeg_segments.specs.HuffmanTables.{Tables, PlacedTable, size_of, symbols_at, with_table, tables_from}

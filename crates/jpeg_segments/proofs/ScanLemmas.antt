@@ -1,6 +1,6 @@
 -- Steps of the parser of scan headers.
 use Rattle.std.proofs.Common.{All, sym, true, ◌∙◌, ◌≡◌, ◌≤◌, ℕ, zero, suc, ◌+◌, ◌-◌, ◌*◌, ◌<◌, Bool, not, cond}
-use Rattle.std.proofs.Common.{List, [], ◌∷◌, ◌++◌, map, length, refl, ap, ap₂, subst, Ok, arith, get_or, nat_le, sum_by}
+use Rattle.std.proofs.Common.{List, [], ◌∷◌, ◌++◌, map, length, refl, ap, subst, arith, get_or, nat_le, sum_by}
 use Rattle.std.proofs.Common.{append-nil, append_assoc, rules}
 use Rattle.std.specs.List.{position, position_or_len}
 use Rattle.std.proofs.lemmas.List.{length-map}

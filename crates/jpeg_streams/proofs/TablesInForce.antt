@@ -29,8 +29,11 @@ good-defaults one two places l a b h = search rules
 needed-good : (b : Bool) (class : HuffmanTableClass) (l : List (Option Table)) (i : ℕ) (t : Table)
     → AllByRecursion IsTableOrNone l → InForce b class l i t → IsTable t
 needed-good true class l i t h e = table-there l i t h e
-needed-good false class l i t h e = subst IsTable (sym e) (record { counted = refl; exists = λ i h. absurd
-    (let n = no-codes class in omega arith) })
+needed-good false class l i t h e = subst IsTable (sym e) (record {
+  counted = refl;
+  exists = λ i h. absurd
+      (let n = no-codes class in omega arith);
+})
 
 codings-good_from : (w : Found) (f : Frame) (p : Pass) (tables : Tables) (places ds ks : List ℕ)
     (codings : List Coding) → HasTables tables → AreCodings w f p tables places ds ks codings
@@ -44,6 +47,12 @@ pub codings-good : (w : Found) (f : Frame) (s : Scan) (codings : List Coding) �
     → AreCodings w f (pass_of s) (tables_of w s) s.components s.dc_places s.ac_places codings
     → AllByRecursion (λ c. IsTable c.dc × IsTable c.ac) codings
 unfolding tables_of
-codings-good w f s codings h are = search
-    (rules, codings-good_from, good-defaults, luminance-dc-codes, chrominance-dc-codes, luminance-ac-codes,
-    chrominance-ac-codes)
+codings-good w f s codings h are = search (
+  rules,
+  codings-good_from,
+  good-defaults,
+  luminance-dc-codes,
+  chrominance-dc-codes,
+  luminance-ac-codes,
+  chrominance-ac-codes,
+)

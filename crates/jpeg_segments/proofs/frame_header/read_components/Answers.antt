@@ -1,14 +1,13 @@
-use Rattle.std.proofs.Common.{◌≡◌, ℕ, ◌-◌, ◌++◌, ◌∷◌, [], List, Vec, Global, map, ap, ◌∙◌, arith, rules}
+use Rattle.std.proofs.Common.{◌≡◌, ◌++◌, ◌∷◌, [], List, Vec, Global, map, arith, rules}
 use Rattle.std.proofs.lemmas.List.{map-append}
 use Rattle.std.proofs.lemmas.List.Elements.{All-push}
 use Rattle.std.proofs.lemmas.Result.{err_from_is_err_and}
-use Rattle.jpeg_bits.proofs.Loops.{Continues-ok, Continues-end, bind_at, bind_err}
+use Rattle.jpeg_bits.proofs.Loops.{bind_at, bind_err}
 use Rattle.jpeg_segments.specs.declared.frame_header.Factors.{Factors as Read}
-use Rattle.jpeg_segments.specs.Frame.{Factors, IsInRange, components_from, factors_at}
+use Rattle.jpeg_segments.specs.Frame.{Factors, IsInRange, components_from}
 use Rattle.jpeg_segments.specs.FrameView.{factors_of}
 use Rattle.jpeg_segments.proofs.FrameLemmas.{components_from-more}
 use Rattle.jpeg_segments.proofs.frame_header.read_components.Goals as goal
-use Rattle.std.proofs.lemmas.Grind.{common_steps}
 
 abbrev all_of : Vec Read Global → List Factors
 all_of v = map factors_of v.items

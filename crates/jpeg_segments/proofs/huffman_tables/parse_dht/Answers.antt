@@ -1,10 +1,9 @@
-use Rattle.std.proofs.Common.{◌≡◌, ◌-◌, true, arith, ◌∙◌, List, ℕ, Vec, Global, Option, rules}
+use Rattle.std.proofs.Common.{arith, Vec, Global, Option, rules}
 use Rattle.std.proofs.lemmas.Result.{err_from_is_err_and}
-use Rattle.jpeg_segments.specs.HuffmanTables.{Tables, PlacedTable, size_of, with_table, dht_at, tables_from}
-use Rattle.jpeg_segments.specs.HuffmanTables.{placed_codes_at}
+use Rattle.jpeg_segments.specs.HuffmanTables.{Tables, PlacedTable}
 use Rattle.jpeg_segments.specs.declared.huffman_tables.PlacedTable.{PlacedTable as Read}
 use Rattle.jpeg_bits.specs.Codes.{Table}
-use Rattle.jpeg_bits.proofs.Loops.{Continues-ok, bind_at, bind_err}
+use Rattle.jpeg_bits.proofs.Loops.{bind_at, bind_err}
 use Rattle.jpeg_segments.proofs.HuffmanLemmas.{tables_from-more, tables_from-rest}
 use Rattle.jpeg_segments.proofs.huffman_tables.parse_dht.Goals as goal
 use Rattle.std.proofs.lemmas.Grind.{common_steps}

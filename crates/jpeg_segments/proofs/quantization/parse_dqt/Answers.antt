@@ -1,7 +1,6 @@
-use Rattle.std.proofs.Common.{◌≡◌, arith, ap, ◌∙◌, List, ℕ, length-set, rules}
+use Rattle.std.proofs.Common.{◌≡◌, arith, length-set, rules}
 use Rattle.std.proofs.lemmas.Result.{err_from_is_err_and}
-use Rattle.jpeg_segments.specs.Quantization.{Tables, dqt_at, tables_from}
-use Rattle.jpeg_bits.proofs.Loops.{Continues-end, bind_at, bind_err}
+use Rattle.jpeg_bits.proofs.Loops.{bind_at, bind_err}
 use Rattle.jpeg_segments.proofs.QuantizationLemmas.{tables_from-more, tables_from-none}
 use Rattle.jpeg_segments.proofs.quantization.parse_dqt.Goals as goal
 use Rattle.std.proofs.lemmas.Grind.{common_steps}

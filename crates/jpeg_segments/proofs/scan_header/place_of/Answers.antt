@@ -1,5 +1,4 @@
-use Rattle.std.proofs.Common.{sym, ◌∙◌, eqb, rules}
-use Rattle.jpeg_segments.specs.FrameView.{component_in}
+use Rattle.std.proofs.Common.{rules}
 use Rattle.jpeg_segments.proofs.ScanLemmas.{position-map}
 use Rattle.jpeg_segments.proofs.scan_header.place_of.Goals as goal
 

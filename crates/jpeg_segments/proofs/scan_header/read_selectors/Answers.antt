@@ -1,15 +1,14 @@
-use Rattle.std.proofs.Common.{◌≡◌, ℕ, ◌+◌, ◌-◌, ◌++◌, ◌∷◌, [], List, Vec, Global, length, length-append, map, ap, ◌∙◌}
+use Rattle.std.proofs.Common.{◌≡◌, ◌+◌, ◌++◌, ◌∷◌, [], List, Vec, Global, length, length-append, map, ap, ◌∙◌}
 use Rattle.std.proofs.Common.{arith, rules}
 use Rattle.std.proofs.lemmas.List.{map-append}
 use Rattle.std.proofs.lemmas.List.Elements.{All-push}
 use Rattle.std.proofs.lemmas.Result.{err_from_is_err_and}
-use Rattle.jpeg_bits.proofs.Loops.{Continues-ok, Continues-end, bind_at, bind_err}
+use Rattle.jpeg_bits.proofs.Loops.{bind_at, bind_err}
 use Rattle.jpeg_segments.specs.declared.scan_header.Selector.{Selector as Read}
-use Rattle.jpeg_segments.specs.ScanHeader.{IsSelectorOf, Selector, selectors_from, selector_at}
+use Rattle.jpeg_segments.specs.ScanHeader.{IsSelectorOf, Selector, selectors_from}
 use Rattle.jpeg_segments.specs.FrameView.{frame_in, selector_of}
 use Rattle.jpeg_segments.proofs.ScanLemmas.{rises-all, rises-more, selectors_from-more}
 use Rattle.jpeg_segments.proofs.scan_header.read_selectors.Goals as goal
-use Rattle.std.proofs.lemmas.Grind.{common_steps}
 
 abbrev all_of : Vec Read Global → List Selector
 all_of v = map selector_of v.items

@@ -1,6 +1,5 @@
-use Rattle.std.proofs.Common.{◌≡◌, ◌≤◌, ℕ, List, map, ap, arith, sym, ◌∙◌, rules}
+use Rattle.std.proofs.Common.{arith, rules}
 use Rattle.std.proofs.lemmas.List.{take_all}
-use Rattle.jpeg_segments.specs.Frame.{Factors, greatest}
 use Rattle.jpeg_segments.specs.FrameView.{factors_of}
 use Rattle.jpeg_segments.specs.declared.frame_header.Factors.{Factors as Read}
 use Rattle.jpeg_segments.proofs.FrameLemmas.{greatest-next, greatest-some, greatest-most, greatest-after}

@@ -1,8 +1,6 @@
-use Rattle.std.proofs.Common.{◌≡◌, ◌≤◌, ℕ, List, map, ap, arith, sym, ◌∙◌, rules}
+use Rattle.std.proofs.Common.{arith, rules}
 use Rattle.std.proofs.lemmas.List.{take_all}
-use Rattle.jpeg_segments.specs.Frame.{Factors, greatest}
 use Rattle.jpeg_segments.specs.FrameView.{factors_in}
-use Rattle.jpeg_segments.specs.declared.parser.Component.{Component as Read}
 use Rattle.jpeg_segments.proofs.FrameLemmas.{greatest-next, greatest-some, greatest-most, greatest-after}
 use Rattle.jpeg_segments.proofs.ScaleLemmas.{none, seen-in-range}
 use Rattle.jpeg_segments.proofs.sizes.greatest_of.Goals as goal
