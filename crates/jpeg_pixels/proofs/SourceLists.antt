@@ -1,5 +1,5 @@
 -- The components of a frame, one after the other.
-use Rattle.std.proofs.Common.{◌≡◌, ℕ, zero, suc, ◌<◌, ◌≤◌, List, [], ◌∷◌, ◌++◌, length, get_or, max, sym, ap, ◌∙◌, refl}
+use Rattle.std.proofs.Common.{◌≡◌, ℕ, zero, suc, ◌<◌, List, [], ◌∷◌, ◌++◌, length, get_or, max, sym, ap, ◌∙◌, refl}
 use Rattle.std.proofs.Common.{arith, append_assoc, Result, Ok, Err, rules, ◌+◌, map, drop, subst, add-one, drop-cons}
 use Rattle.std.proofs.lemmas.List.{append-nil}
 use Rattle.jpeg_bits.specs.Reading.{Fault, Names, ◌>>=◌}
@@ -10,7 +10,6 @@ use Rattle.jpeg_segments.specs.declared.parser.Component.{Component as Seen}
 use Rattle.jpeg_segments.proofs.FrameLemmas.{greatest-some}
 use Rattle.jpeg_segments.proofs.ScaleLemmas.{none}
 use Rattle.jpeg_pixels.specs.Pictures.{Source, source_of, sources_by}
-use Rattle.std.proofs.lemmas.Grind.{common_steps}
 
 pub greatest_start : (f : Factors → ℕ) (cs : List Factors) → max 1 (greatest f cs) ≡ greatest f cs
 greatest_start f cs = let h = greatest-some f cs in omega arith

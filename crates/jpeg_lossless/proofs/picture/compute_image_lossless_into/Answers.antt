@@ -1,4 +1,4 @@
-use Rattle.std.proofs.Common.{[], ◌∷◌, refl, ◌≡◌, ◌∙◌, ap, map, List, ℕ, rules, arith}
+use Rattle.std.proofs.Common.{[], ◌∷◌, refl, ◌≡◌, ap, map, List, ℕ, rules, arith}
 use Rattle.jpeg_segments.specs.Frame.{Factors, greatest}
 use Rattle.jpeg_segments.specs.FrameView.{component_in, factors_in}
 use Rattle.jpeg_segments.specs.declared.parser.Component.{Component as Given}

@@ -1,6 +1,6 @@
-use Rattle.std.proofs.Common.{◌≡◌, ◌<◌, ◌+◌, ◌++◌, ◌∷◌, ◌∙◌, ap, sym, arith, drop, length, length-set, subst}
+use Rattle.std.proofs.Common.{◌≡◌, ◌<◌, ◌+◌, ◌∷◌, ◌∙◌, ap, sym, arith, drop, length, length-set}
 use Rattle.std.specs.Vec.{with_items}
-use Rattle.std.proofs.Common.{map, take, rules, List, ℕ}
+use Rattle.std.proofs.Common.{map, rules, List, ℕ}
 use Rattle.std.proofs.Common.{append-nil, slice_index_or, Vec, Global}
 use Rattle.std.proofs.lemmas.List.{length-map, map-set, take_all}
 use Rattle.std.specs.List.{AllByRecursion}

@@ -1,8 +1,8 @@
-use Rattle.std.proofs.Common.{◌≡◌, ◌-◌, ◌*◌, ◌≤◌, length, slice_index_or, [], arith, subst}
+use Rattle.std.proofs.Common.{◌-◌, ◌*◌, ◌≤◌, length, slice_index_or, [], arith}
 use Rattle.std.proofs.lemmas.List.{get_or_default}
 use Rattle.jpeg_pixels.specs.Scaled.{sample_at}
 use Rattle.jpeg_pixels.specs.Planes.{plane_sample, zero_coefficients}
-use Rattle.jpeg_pixels.proofs.Strips.{HoldsSamples, HoldsSamples-next, HoldsSamples-all, block_has_room, block_in_row}
+use Rattle.jpeg_pixels.proofs.Strips.{HoldsSamples-next, HoldsSamples-all, block_has_room, block_in_row}
 use Rattle.jpeg_pixels.proofs.plane.write_strip.Goals as goal
 
 pub loop-column-preserved : goal.loop-column-preserved

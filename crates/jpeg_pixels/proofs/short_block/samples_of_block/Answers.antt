@@ -1,6 +1,5 @@
-use Rattle.std.proofs.Common.{ap, ◌∙◌, rules}
-use Rattle.std.specs.Int.{int_shr}
-use Rattle.jpeg_pixels.specs.Samples.{sample, clamped, column_value}
+use Rattle.std.proofs.Common.{rules}
+use Rattle.jpeg_pixels.specs.Samples.{sample, column_value}
 use Rattle.jpeg_pixels.specs.ShortRows.{line_value, IsWithin}
 use Rattle.jpeg_pixels.proofs.short_block.samples_of_block.Goals as goal
 

@@ -1,15 +1,12 @@
-use Rattle.std.proofs.Common.{◌≡◌, ◌+◌, ◌<◌, List, [], ◌∷◌, ◌++◌, length, get_or, map, drop, ap, sym, ◌∙◌, arith, subst}
-use Rattle.std.proofs.Common.{add-one, drop-cons, Result, rules}
+use Rattle.std.proofs.Common.{◌≡◌, List, length, map, arith, subst}
+use Rattle.std.proofs.Common.{Result, rules}
 use Rattle.std.proofs.Math.ListN.{drop_of_length-le}
 use Rattle.std.proofs.Math.ListN as lists
 use Rattle.std.proofs.lemmas.List.{map-append, length-map}
 use Rattle.std.proofs.lemmas.Result.{err_from_is_err_and}
 use Rattle.jpeg_bits.specs.Reading.{Fault, Names}
-use Rattle.jpeg_pixels.specs.declared.upsampler.ComponentSource.{ComponentSource}
-use Rattle.jpeg_segments.specs.declared.parser.Component.{Component}
 use Rattle.jpeg_segments.specs.FrameView.{component_in}
 use Rattle.jpeg_pixels.specs.Pictures.{Source, sources_by}
-use Rattle.jpeg_pixels.specs.PicturesView.{source_in}
 use Rattle.jpeg_segments.specs.Frame.{HasSampling}
 use Rattle.jpeg_pixels.proofs.SourceLists.{next-component, sources-start, sources-more, sources-end, sources-err, factors-at}
 use Rattle.jpeg_segments.proofs.ScaleLemmas.{none}

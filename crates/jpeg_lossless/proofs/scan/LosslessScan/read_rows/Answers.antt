@@ -1,11 +1,10 @@
-use Rattle.std.proofs.Common.{◌≡◌, ◌+◌, ◌-◌, Bool, subst, ◌∙◌, ap, ap₂, sym, map, length, ℕ, List}
+use Rattle.std.proofs.Common.{◌≡◌, ◌-◌, Bool, ◌∙◌, ap, ap₂, sym, map, length, ℕ, List}
 use Rattle.std.proofs.Common.{Vec, Global, take, drop, ◌++◌, true, false, arith, rules}
 use Rattle.std.proofs.lemmas.List.{length-map}
 use Rattle.std.proofs.lemmas.Result.{err_from_is_err_and}
 use Rattle.jpeg_lossless.specs.Differences.{differences, mcu_tables, row_tables}
 use Rattle.jpeg_lossless.specs.Rows.{planes_after_rows, with_row}
 use Rattle.jpeg_lossless.specs.Codings.{part_in, way_by}
-use Rattle.jpeg_lossless.specs.PlanesRead.{AreGrown}
 use Rattle.jpeg_lossless.specs.Scans.{mcu_size}
 use Rattle.jpeg_bits.specs.Codes.{Table}
 use Rattle.jpeg_bits.specs.declared.scan.Predictor.{Predictor}
