@@ -164,7 +164,6 @@ begun-alike keeps p vias s a b t first e =
         ≡ read_on (turn_then (kept_counted keeps c)) (read_on (kept_read keeps) o)
     then-kept c (Ok r) = refl
     then-kept c (Err f) = refl
-
     go : (o q : Result (Reached × Text) Fault) → read_on (kept_read keeps) o ≡ read_on (kept_read keeps) q
         → read_on (kept_after keeps) (read_on (turn_then a) o) ≡ read_on (kept_after keeps) (read_on (turn_then b) q)
     go o q h =
@@ -177,6 +176,18 @@ start-kept : (keeps : Bool) (n : ℕ) (c : Counted) (t : Text)
 unfolding begun_from
 start-kept keeps n c t = go (nat_lt 0 n && c.left == 0)
   where
+    restarted : (o : Result (Unit {0} × Text) Fault)
+        → read_on (kept_after keeps) (read_on (λ (u : Unit {0}). gives (record {
+          reached = at_start c.reached.arrays;
+          left = n;
+          number = (c.number + 1) % 8;
+        })) o) ≡ read_on (λ (u : Unit {0}). gives (record {
+          reached = at_start (kept_arrays keeps c.reached.arrays);
+          left = n;
+          number = (c.number + 1) % 8;
+        })) o
+    restarted (Ok u) = refl
+    restarted (Err f) = refl
     go : (b : Bool) → read_on (kept_after keeps) ((elim b as (λ _. Reads Counted) [
       | true ↦ restart_from c.number >>= (λ u. gives (record {
         reached = at_start c.reached.arrays;
@@ -194,19 +205,6 @@ start-kept keeps n c t = go (nat_lt 0 n && c.left == 0)
     ]) t
     go false = refl
     go true = restarted (restart_from c.number t)
-
-    restarted : (o : Result (Unit {0} × Text) Fault)
-        → read_on (kept_after keeps) (read_on (λ (u : Unit {0}). gives (record {
-          reached = at_start c.reached.arrays;
-          left = n;
-          number = (c.number + 1) % 8;
-        })) o) ≡ read_on (λ (u : Unit {0}). gives (record {
-          reached = at_start (kept_arrays keeps c.reached.arrays);
-          left = n;
-          number = (c.number + 1) % 8;
-        })) o
-    restarted (Ok u) = refl
-    restarted (Err f) = refl
 
 read-on-on : {A B C : Type 0} (f : A → Reads B) (g : B → Reads C) (o : Result (A × Text) Fault)
     → read_on g (read_on f o) ≡ read_on (λ a. λ u. read_on g (f a u)) o
@@ -255,7 +253,7 @@ put-kept false s arrays a b e =
 -- what is left after the next block
 pub turn-kept-refused : (keeps : Bool) (o : Result ((Block × ℤ × ℕ) × Text) Fault) (f : Fault)
     → read_on (kept_turn keeps) o ≡ Err f → o ≡ Err f
-turn-kept-refused keeps (Ok r) f e = absurd (not-read f (kept_result keeps r, r.1) (sym e))
+turn-kept-refused keeps (Ok r) f e = absurd (not-read f (kept_result keeps r.0, r.1) (sym e))
 turn-kept-refused keeps (Err g) f e = e
 
 -- The next block of which the same is kept leaves the same to read.

@@ -114,7 +114,7 @@ invariant_of-scan g c =
       legal = legal-pass (frame_in c.in_ok-frame.frame.now).process (scan_in c.in_ok-header.header) _ (is-dct _ (search rules))
           c.in_ok-header.ensures.scan.coded c.pass_of-pass.ensures;
       few = omega (arith, c.in_ok-components.ensures.count, c.in_ok-header.ensures.scan.most);
-      dc_alone = c.wants_ac.ensures.dc_alone;
+      dc_alone = rw (sym c.deref.ensures.value) c.wants_ac.ensures.dc_alone;
     }
 
 pub read-requires-clause-ready : goal.read-requires-clause-ready
