@@ -1,4 +1,4 @@
-use Rattle.std.proofs.Common.{◌∙◌, ap, pos, refl, rules, List, ◌∷◌, Result, get_or, length, arith, Ok}
+use Rattle.std.proofs.Common.{◌∙◌, ap, pos, refl, rules, List, ◌∷◌, Result, get_or, length, arith, Ok, Err}
 use Rattle.std.specs.List.{AllByRecursion}
 use Rattle.jpeg_bits.proofs.WholeBlocks.{refused_after}
 use Rattle.jpeg_bits.proofs.DcAlone.{Takes-whole}
@@ -9,6 +9,7 @@ use Rattle.jpeg_bits.specs.Readers.{read_on}
 use Rattle.jpeg_streams.specs.Order.{Spot}
 use Rattle.jpeg_streams.specs.InTurn.{Counted, begun_from, blocks_from}
 use Rattle.jpeg_bits.specs.Reading.{Fault}
+use Rattle.jpeg_bits.specs.Refusals.{held_refusal}
 use Rattle.jpeg_decoder.specs.Scanning.{IsSpotOf, arrays_in, counted, sizes_of, vias_in}
 use Rattle.jpeg_decoder.proofs.BlockSteps.{begun_turn, blocks_begun, blocks_refused, next_read, next_refused, next_unbegun}
 use Rattle.jpeg_decoder.proofs.HeldBlocks.{sizes-set, spot, turn-read, turn-refused}
@@ -83,7 +84,8 @@ returns-then-not-take_block-clause-blocks g c =
       c.take_block.new.carried.run,
     ))
     (block_from p coded.dc.now coded.ac.now first i.carried.run (to_block c.index_mut-in-Some.result.now))
-    i.decoder c.take_block.new.decoder c.begin.new.source c.take_block.new.source _ c.if-not-take_block.ensures.block))
+    i.decoder c.take_block.new.decoder c.begin.new.source c.take_block.new.source
+    (Err (held_refusal c.take_block.new.refusal)) c.if-not-take_block.ensures.block))
 
 pub loop-spot-preserved : goal.loop-spot-preserved
 loop-spot-preserved g c =
