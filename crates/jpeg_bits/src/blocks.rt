@@ -294,8 +294,9 @@ pub fn take_block<R: Read + Drop>(
 }
 
 /// Reads what a pass codes of a block, in block order, over its coefficients so far (T.81, F.2.2
-/// and G.2), or of its AC coefficients none, where they aren't kept. It is `Format` where the bits begin no code or a coefficient does not fit; the other
-/// errors are those of `HuffmanDecoder::get_bits`.
+/// and G.2), or of its AC coefficients none, where they aren't kept. It is `Format` where the bits
+/// begin no code or a coefficient does not fit; the other errors are those of
+/// `HuffmanDecoder::get_bits`.
 pub fn read_block<R: Read + Drop>(
     decoder: &mut HuffmanDecoder,
     source: &mut Source<R>,

@@ -1,5 +1,4 @@
-ghost use Rattle.std.specs.Prelude.{◌≡◌, ◌≤◌};
-ghost use Rattle.jpeg_bits.specs.declared.codes.HuffmanTableClass.TheVariants.{AC};
+ghost use Rattle.std.specs.Prelude.{◌≤◌};
 
 use crate::blocks::{BlockCoding, Carried, Pass, read_block};
 use crate::color_transform::ColorTransform;
@@ -633,74 +632,4 @@ fn a_table_of_no_codes(rt: HostRuntime) {
             Err(Error::Format(_))
         )
     );
-}
-
-/// The runs and the sizes of codes of each length, of which that of the end is none of the first.
-const OFTEN_SHORT: [u8; 16] = [
-    0x01, 0x11, 0x02, 0x00, 0xf0, 0x21, 0x03, 0x12, 0x05, 0x10, 0x31, 0x26, 0x20, 0x0a, 0x41, 0x51,
-];
-
-/// Reads a block of a sequential scan, and returns its DC coefficient and the 8 bits after it, or
-/// none where it is refused.
-fn read_whole(
-    alloc: Global,
-    bytes: &[u8],
-    dc_table: &HuffmanTable,
-    ac_table: &HuffmanTable,
-    keeps_ac: bool,
-) -> Option<(i16, Option<u16>)>
-    requires { ac_table.now.class ≡ AC }
-{
-    let mut source = Source::new(reader_of(bytes, 7));
-    let mut decoder = HuffmanDecoder::new(alloc);
-    let coding = BlockCoding {
-        pass: Pass {
-            is_first: true,
-            ss: 0,
-            se: 63,
-            al: 0,
-        },
-        slot: 0,
-        dc_table,
-        ac_table,
-        keeps_ac,
-    };
-    let mut carried = Carried::at_start();
-    let mut block = [0; 64];
-    match read_block(&mut decoder, &mut source, &coding, &mut carried, &mut block) {
-        Ok(()) => match decoder.get_bits(&mut source, 8) {
-            Ok(next) => Some((block[0], Some(next))),
-            Err(_) => Some((block[0], None)),
-        },
-        Err(_) => None,
-    }
-}
-
-#[test]
-fn tokens_are_passed_over(rt: HostRuntime) -> Result<(), Fail> {
-    let alloc = rt.alloc();
-    let mut counts = [0u8; 16];
-    counts[0] = 2;
-    let dc = HuffmanTable::new(alloc, &counts, &[0, 3], HuffmanTableClass::DC)?;
-    let plain = HuffmanTable::new(alloc, &ONE_EACH, &OFTEN_SHORT, HuffmanTableClass::AC)?;
-    let mut filled = HuffmanTable::new(alloc, &ONE_EACH, &OFTEN_SHORT, HuffmanTableClass::AC)?;
-    filled.fill_skips(alloc)?;
-    let mut state = 1u32;
-    let mut read = 0;
-    for length in 0..400usize {
-        let mut bytes = [0u8; 40];
-        for byte in bytes.iter_mut() {
-            state = state.wrapping_mul(1_664_525).wrapping_add(1_013_904_223);
-            *byte = (state >> 25) as u8;
-        }
-        let bytes = &bytes[..length % 41];
-        let kept = read_whole(alloc, bytes, &dc, &plain, true);
-        assert!(rt; read_whole(alloc, bytes, &dc, &plain, false) == kept);
-        assert!(rt; read_whole(alloc, bytes, &dc, &filled, false) == kept);
-        if kept.is_some() {
-            read += 1;
-        }
-    }
-    assert!(rt; read > 200);
-    Ok(())
 }
