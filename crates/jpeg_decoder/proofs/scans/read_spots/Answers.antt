@@ -1,8 +1,4 @@
-<<<<<<< HEAD
 use Rattle.std.proofs.Common.{◌∙◌, ap, pos, refl, rules, List, ◌∷◌, Result, get_or, length, arith}
-=======
-use Rattle.std.proofs.Common.{◌∙◌, ap, pos, refl, rules, List, ◌∷◌, Result, get_or, length, arith, Ok, Err}
->>>>>>> skips
 use Rattle.std.specs.List.{AllByRecursion}
 use Rattle.jpeg_bits.proofs.WholeBlocks.{refused_after}
 use Rattle.jpeg_bits.specs.BlockView.{pass_in, predictor_at, to_block}
@@ -12,14 +8,9 @@ use Rattle.jpeg_bits.specs.Readers.{◌>>=◌, read_on}
 use Rattle.jpeg_streams.specs.Order.{Spot}
 use Rattle.jpeg_streams.specs.InTurn.{Counted, begun_from, blocks_from}
 use Rattle.jpeg_bits.specs.Reading.{Fault}
-<<<<<<< HEAD
 use Rattle.jpeg_decoder.specs.Scanning.{IsSpotOf, arrays_in, counted, kept_after, sizes_of, vias_in}
 use Rattle.jpeg_bits.specs.Skips.{kept, kept_from}
 use Rattle.jpeg_decoder.proofs.KeptScans.{next-kept, turn-kept-refused}
-=======
-use Rattle.jpeg_bits.specs.Refusals.{held_refusal}
-use Rattle.jpeg_decoder.specs.Scanning.{IsSpotOf, arrays_in, counted, sizes_of, vias_in}
->>>>>>> skips
 use Rattle.jpeg_decoder.proofs.BlockSteps.{begun_turn, blocks_begun, blocks_refused, next_read, next_refused, next_unbegun}
 use Rattle.jpeg_decoder.proofs.HeldBlocks.{sizes-set, spot, turn-kept, turn-refused}
 use Rattle.jpeg_decoder.proofs.scans.read_spots.Goals as goal
@@ -93,18 +84,7 @@ returns-then-not-take_block-clause-blocks g c =
                 ∙ blocks_begun p vias n s c.next.new.self now (counted i (arrays_in vs)) _ _ by.1),
           ),
     )
-<<<<<<< HEAD
     c.if-not-take_block.ensures.block)
-=======
-    (Takes-whole (λ (u : Unit {0}). (
-      to_block c.take_block.new.block,
-      predictor_at slot c.take_block.new.carried,
-      c.take_block.new.carried.run,
-    ))
-    (block_from p coded.dc.now coded.ac.now first i.carried.run (to_block c.index_mut-in-Some.result.now))
-    i.decoder c.take_block.new.decoder c.begin.new.source c.take_block.new.source
-    (Err (held_refusal c.take_block.new.refusal)) c.if-not-take_block.ensures.block))
->>>>>>> skips
 
 pub loop-spot-preserved : goal.loop-spot-preserved
 loop-spot-preserved g c =
