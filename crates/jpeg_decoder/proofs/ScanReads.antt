@@ -14,6 +14,7 @@ use Rattle.jpeg_segments.specs.declared.parser.CodingProcess.{CodingProcess}
 use Rattle.jpeg_segments.specs.declared.parser.CodingProcess.TheVariants.{DctProgressive, DctSequential, Lossless}
 use Rattle.jpeg_segments.specs.ScanHeader.{Scan, sos_at}
 use Rattle.jpeg_streams.specs.Scans.{Arrays}
+use Rattle.jpeg_streams.specs.ScanSegments.{scan_turn as turn_of_scan}
 use Rattle.jpeg_streams.specs.ScanSegments.{arrays_before, blocks_scan, after_restarts, after_scan, codings_of, Coding, scan_by}
 use Rattle.jpeg_streams.specs.ScanSegments.{lossless_scan, scan_before, scan_arrays, pass_of}
 use Rattle.jpeg_streams.specs.ScanSegments.{scan_segment}
@@ -181,15 +182,7 @@ through-made o made k s t h = grind (arith, common_steps)
 data-parts : (found : Found) (frame : Frame) (scan : Scan) (bytes : List ℕ) (codings : List Coding)
     → (scan_arrays found frame scan codings bytes >>= (λ (read : (Arrays × Option Marker) × List ℕ).
     after_restarts (suc (length read.1)) read.0.1 read.1 >>= (λ (met : Option Marker × List ℕ).
-    Ok (
-      record {
-        found = after_scan found frame scan codings read.0.0;
-        before = scan_before found;
-        met = met.0;
-        ended = false;
-      },
-      met.1,
-    ))))
+    Ok (turn_of_scan found (after_scan found frame scan codings read.0.0) met.0, met.1))))
     ≡ (after_codings found frame (pass_of scan) codings bytes >>= scan_turn found)
 unfolding scan_arrays scan_data after_scan after_all
 data-parts found frame scan bytes codings =

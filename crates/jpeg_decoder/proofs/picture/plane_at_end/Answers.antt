@@ -1,6 +1,4 @@
-use Rattle.std.proofs.Common.{◌∙◌, ap, length, map}
-use Rattle.jpeg_bits.specs.BlockView.{to_block}
-use Rattle.jpeg_segments.specs.FrameView.{component_in}
+use Rattle.std.proofs.Common.{◌∙◌, ap, length}
 use Rattle.jpeg_decoder.proofs.BlocksBefore.{plane_by-length}
 use Rattle.jpeg_decoder.proofs.picture.plane_at_end.Goals as goal
 

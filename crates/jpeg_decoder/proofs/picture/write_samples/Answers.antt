@@ -1,4 +1,3 @@
-use Rattle.std.proofs.lemmas.Grind.{common_steps}
 use Rattle.std.proofs.Common.{◌∙◌, ap, length, map, arith, sym}
 use Rattle.jpeg_lossless.specs.Pictures.{image_bytes}
 use Rattle.jpeg_segments.specs.FrameView.{frame_in}

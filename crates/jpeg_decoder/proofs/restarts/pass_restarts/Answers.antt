@@ -1,8 +1,6 @@
-use Rattle.std.proofs.Common.{rules, ◌≡◌, ◌∙◌, ◌<◌, ◌^◌, Option, Some, true, ap, arith, length}
+use Rattle.std.proofs.Common.{rules, ◌≡◌, ◌∙◌, ◌<◌, ◌^◌, Option, true, ap, arith, length}
 use Rattle.std.proofs.lemmas.Result.{err_from_is_err_and}
-use Rattle.jpeg_bits.specs.Marker.{next_marker}
 use Rattle.jpeg_bits.specs.declared.marker.Marker.{Marker}
-use Rattle.jpeg_bits.proofs.Loops.{Continues-ok}
 use Rattle.jpeg_decoder.specs.Steps.{is_restart_marker, after_all}
 use Rattle.jpeg_streams.proofs.Refusals.{never-met, short-first}
 use Rattle.jpeg_decoder.proofs.PassedRestarts.{after-done, after-refused, after-next, marker-takes}

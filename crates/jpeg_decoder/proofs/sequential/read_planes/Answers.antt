@@ -1,5 +1,5 @@
 use Rattle.std.proofs.lemmas.Grind.{common_steps}
-use Rattle.std.proofs.Common.{◌≡◌, ◌∙◌, ◌-◌, ◌+◌, ◌*◌, [], ap, ap₂, map, sym, refl, subst, ℕ, List, Option, Result, Ok, Err}
+use Rattle.std.proofs.Common.{◌≡◌, ◌∙◌, ◌-◌, ◌+◌, ◌*◌, [], ap, ap₂, map, sym, subst, ℕ, List, Option, Result}
 use Rattle.std.proofs.Common.{arith, length}
 use Rattle.std.specs.List.{AllByRecursion, range_with_len}
 use Rattle.std.specs.Prelude.{OnOk}
@@ -25,7 +25,7 @@ use Rattle.jpeg_decoder.proofs.HeldBlocks.{Held}
 use Rattle.jpeg_decoder.proofs.HeldSpots.{rows-spots}
 use Rattle.jpeg_decoder.proofs.ScanOrders.{rows-walked}
 use Rattle.jpeg_decoder.proofs.StripScans.{rows-refused, scan-ended}
-use Rattle.jpeg_decoder.proofs.StripSteps.{strips_step, strips_refused, strips_none, whole-rows, first-row, later-rows}
+use Rattle.jpeg_decoder.proofs.StripSteps.{strips_refused, strips_none, whole-rows, first-row, later-rows}
 use Rattle.jpeg_decoder.proofs.StripSteps.{zeros-are, kept-count, lengths, lengths-all, lengths-none, lengths-next}
 use Rattle.jpeg_decoder.proofs.StripSteps.{row-count}
 use Rattle.jpeg_decoder.proofs.sequential.read_planes.Goals as goal
