@@ -1,6 +1,6 @@
 -- For callers that prove contracts of their own: a new decoder knows the bytes that its reader tells, and a picture
 -- has the bytes that its size, format and precision say.
-use Rattle.std.proofs.Common.{◌≡◌, ◌*◌, ◌^◌, ℕ, List, length, Option, Some, None, true, false, refl}
+use Rattle.std.proofs.Common.{◌≡◌, ◌*◌, ◌^◌, ℕ, List, length, Option, Some, true, false, refl}
 use Rattle.std.specs.Prelude.{option_map}
 use Rattle.std.proofs.lemmas.Bool.{lt-ltb}
 use Rattle.jpeg_bits.specs.Stream.{stream_of}

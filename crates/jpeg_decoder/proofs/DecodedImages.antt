@@ -1,17 +1,15 @@
 -- A call that answers the meaning of what its source has left decodes images.
-use Rattle.std.proofs.Common.{rules}
 use Rattle.std.proofs.Common.{◌≡◌, ℕ, List, ◌++◌, true, Result, Ok, Err, is_ok, refl, sym, ap, ◌∙◌}
 use Rattle.std.proofs.lemmas.Bool.{false≢true}
 use Rattle.std.specs.Prelude.{MatchResult}
-use Rattle.jpeg_bits.specs.Reading.{Outcome, Fault, Answers, Names}
+use Rattle.jpeg_bits.specs.Reading.{Outcome, Fault, Answers}
 use Rattle.jpeg_bits.specs.Stream.{Stream}
 use Rattle.jpeg_bits.specs.declared.error.Error.{Error}
-use Rattle.jpeg_bits.specs.declared.error.Error.TheVariants as errors
 use Rattle.jpeg_streams.specs.ArrayPictures.{picture_of_array, Takes}
 use Rattle.jpeg_streams.specs.DecodedImages.{AtLeast, DecodesImages, FailsOutside, FullSize, Gives, HasLeft, Size}
 use Rattle.jpeg_streams.specs.DecodedImages.{at_size}
 use Rattle.jpeg_streams.specs.Levels.{Is8Bit, Levels}
-use Rattle.jpeg_streams.specs.States.{Decoding, Fresh, HeaderRead, IsReading, Stage, ahead}
+use Rattle.jpeg_streams.specs.States.{Decoding, IsReading, Stage, ahead}
 use Rattle.jpeg_streams.specs.Stream.{Told, header_at, meaning, rest_at, sized_meaning, told_of}
 use Rattle.jpeg_streams.specs.Found.{Found}
 use Rattle.jpeg_streams.specs.WrittenImages.{WritesImage}

@@ -1,31 +1,27 @@
 -- The planes of a frame's components at the end of an image, one after the other.
-use Rattle.std.proofs.Common.{◌≡◌, ◌<◌, ◌≤◌, ℕ, zero, suc, ◌+◌, ◌*◌, ℤ, Bool, true, false, List, [], ◌∷◌, ◌++◌, refl}
+use Rattle.std.proofs.Common.{◌≡◌, ◌<◌, ◌≤◌, ℕ, zero, suc, ◌+◌, ◌*◌, ℤ, Bool, true, List, [], ◌∷◌, ◌++◌}
 use Rattle.std.proofs.Common.{sym, ap, ◌∙◌, subst, length, get_or, set, map, drop, drop_of_length-le, arith, Option}
-use Rattle.std.proofs.Common.{Some, None, Result, Ok, Err, rules}
-use Rattle.std.specs.Prelude.{◌==◌, ◌||◌, option_map, slice_index_or}
+use Rattle.std.proofs.Common.{Some, None, Ok, rules}
+use Rattle.std.specs.Prelude.{option_map, slice_index_or}
 use Rattle.std.specs.List.{AllByRecursion}
-use Rattle.std.proofs.Math.Logic.{inl, inr}
 use Rattle.std.proofs.lemmas.Bool.{eqb-true}
 use Rattle.std.specs.declared.alloc.Global.{Global}
 use Rattle.std.specs.declared.vec.Vec.{Vec}
-use Rattle.std.proofs.Math.Bool.{cond}
 use Rattle.std.proofs.lemmas.List.{append_assoc, append-nil, drop_more, drop-set-lt, get_or-drop, get_or-map}
 use Rattle.std.proofs.lemmas.List.{length-drop, length-map, map-set}
 use Rattle.jpeg_bits.specs.Passes.{Block}
-use Rattle.jpeg_bits.specs.Reading.{Fault, Malformed, ◌>>=◌}
 use Rattle.jpeg_segments.specs.Frame.{Frame, Component}
-use Rattle.jpeg_segments.specs.Scales.{component_at, frame_at, is_scale}
+use Rattle.jpeg_segments.specs.Scales.{component_at, frame_at}
 use Rattle.jpeg_pixels.specs.Pictures.{AreWhole}
 use Rattle.jpeg_pixels.specs.Scaled.{IsScale}
 use Rattle.jpeg_streams.specs.EndPlanes.{AreBlocksOf, blocks_if, is_held, plane_or}
 use Rattle.jpeg_streams.specs.InTurn.{AreArrays}
 use Rattle.jpeg_decoder.specs.Scanning.{arrays_in}
-use Rattle.jpeg_streams.specs.Scans.{Arrays, zero_arrays}
+use Rattle.jpeg_streams.specs.Scans.{Arrays}
 use Rattle.jpeg_streams.specs.Sound.{ArePlanes, IsDecodedFrame, IsPlaneOf, IsSound}
 use Rattle.jpeg_streams.proofs.Soundness.{count-few, decoded-count}
-use Rattle.jpeg_streams.specs.Needed.{needed}
 use Rattle.jpeg_streams.specs.FoundPictures.{planes_from, plane_at_end}
-use Rattle.jpeg_streams.specs.ScanSegments.{plane_by, arrays_before}
+use Rattle.jpeg_streams.specs.ScanSegments.{arrays_before}
 use Rattle.jpeg_streams.specs.Found.{Found}
 use Rattle.jpeg_decoder.proofs.ReadLists.{and_others}
 use Rattle.std.proofs.lemmas.Grind.{common_steps}

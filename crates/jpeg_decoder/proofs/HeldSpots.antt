@@ -1,7 +1,7 @@
 -- The blocks of a scan are held: of all components of a scan, or of a row of MCUs.
 use Rattle.std.proofs.Common.{rules}
-use Rattle.std.proofs.Common.{◌≡◌, inl, inr, ℕ, zero, suc, ◌+◌, ◌*◌, ◌<◌, List, [], ◌∷◌, map, drop, length, get_or, refl}
-use Rattle.std.proofs.Common.{sym, ap, ◌∙◌, arith}
+use Rattle.std.proofs.Common.{◌≡◌, inl, inr, ℕ, zero, suc, ◌+◌, ◌<◌, List, [], ◌∷◌, map, drop, length, get_or, refl}
+use Rattle.std.proofs.Common.{sym, ap, arith}
 use Rattle.std.proofs.lemmas.List.{length-map}
 use Rattle.std.specs.List.{AllByRecursion, range_with_len}
 use Rattle.jpeg_segments.specs.Frame.{Frame, Component}
@@ -14,8 +14,7 @@ use Rattle.jpeg_streams.specs.Scans.{zero_arrays, zero_of}
 use Rattle.jpeg_streams.proofs.Apart.{spots-inside, zeros-sized}
 use Rattle.jpeg_streams.proofs.McuRows.{AreRows, row-inside, rows-count}
 use Rattle.jpeg_decoder.specs.declared.scan.Coded.{Coded}
-use Rattle.jpeg_decoder.specs.Scanning.{IsSpotOf, arrays_in, blocks_in, sizes_of, components_in, down_in}
-use Rattle.jpeg_decoder.specs.Scanning.{wide_in}
+use Rattle.jpeg_decoder.specs.Scanning.{IsSpotOf, arrays_in, blocks_in, sizes_of, components_in}
 use Rattle.jpeg_decoder.specs.Strips.{row_sizes}
 use Rattle.jpeg_decoder.proofs.HeldBlocks.{Held, sizes-long}
 use Rattle.std.proofs.lemmas.Grind.{common_steps}

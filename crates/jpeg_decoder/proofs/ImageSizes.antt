@@ -1,20 +1,17 @@
 -- The number of bytes of a picture.
-use Rattle.std.proofs.Common.{rules}
-use Rattle.std.proofs.Common.{◌≡◌, ℕ, ◌*◌, ◌<◌, List, [], length, get_or, map, sym, ap, ◌∙◌}
-use Rattle.std.proofs.Common.{refl, arith, subst, Result, Ok, Err, Bool, true, false}
-use Rattle.std.specs.Prelude.{◌==◌, ◌||◌}
+use Rattle.std.proofs.Common.{◌≡◌, ℕ, ◌*◌, ◌<◌, List, [], length, get_or, map, ap, ◌∙◌}
+use Rattle.std.proofs.Common.{arith, Result, Ok, true}
 use Rattle.std.proofs.lemmas.Bool.{eqb-true}
 use Rattle.std.proofs.lemmas.List.{length-map}
 use Rattle.std.proofs.lemmas.List.FromFn.{length-map-range_with_len, get_or-map-range_with_len}
 use Rattle.std.proofs.Math.Nat.{mul_comm}
 use Rattle.std.specs.List.{range_with_len, concat}
-use Rattle.jpeg_bits.specs.Reading.{Fault, ◌>>=◌}
+use Rattle.jpeg_bits.specs.Reading.{Fault}
 use Rattle.jpeg_bits.specs.declared.color_transform.ColorTransform.{ColorTransform}
 use Rattle.jpeg_segments.specs.Frame.{Component}
 use Rattle.jpeg_pixels.specs.declared.upsampler.ColorConvert.{ColorConvert}
-use Rattle.jpeg_pixels.specs.declared.upsampler.ColorConvert.TheVariants as converts
-use Rattle.jpeg_pixels.specs.Colour.{colour_of, line_bytes, conversion_of}
-use Rattle.jpeg_pixels.specs.Pictures.{Source, sources_of, picture_line, picture_bytes, image_of}
+use Rattle.jpeg_pixels.specs.Colour.{colour_of, line_bytes}
+use Rattle.jpeg_pixels.specs.Pictures.{picture_line, picture_bytes, image_of}
 use Rattle.jpeg_pixels.specs.PicturesView.{IsFor}
 use Rattle.jpeg_pixels.specs.Planes.{cropped}
 use Rattle.jpeg_streams.specs.Segments.{is_decoded_count}

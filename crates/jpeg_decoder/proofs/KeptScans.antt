@@ -1,11 +1,9 @@
 -- Scans of blocks of which what is kept goes on alike.
-use Rattle.std.proofs.Common.{◌≡◌, ℕ, zero, suc, ◌+◌, ◌-◌, ◌%◌, ◌<◌, ◌==◌, ◌&&◌, nat_lt, Bool, true, false, List, [], ◌∷◌}
-use Rattle.std.proofs.Common.{map, length, get_or, set, ℤ, pos, Result, Ok, Err, refl, sym, ap, ap₂, ◌∙◌, subst, arith}
-use Rattle.std.proofs.lemmas.Grind.{common_steps}
+use Rattle.std.proofs.Common.{◌≡◌, ℕ, zero, suc, ◌+◌, ◌-◌, ◌%◌, ◌==◌, ◌&&◌, nat_lt, Bool, true, false, List, [], ◌∷◌}
+use Rattle.std.proofs.Common.{map, get_or, set, ℤ, pos, Result, Ok, Err, refl, sym, ap, ap₂, ◌∙◌}
 use Rattle.std.proofs.lemmas.List.{map-set}
 use Rattle.jpeg_bits.specs.Reading.{Fault}
 use Rattle.jpeg_bits.specs.Entropy.{Text}
-use Rattle.jpeg_bits.specs.Codes.{Table}
 use Rattle.jpeg_bits.specs.Readers.{Reads, gives, read_on, ◌>>=◌}
 use Rattle.jpeg_bits.specs.Passes.{Block, Pass, Via, block_from, zero_block}
 use Rattle.jpeg_bits.specs.Skips.{dc_alone, kept, kept_turn}
@@ -13,9 +11,8 @@ use Rattle.jpeg_bits.proofs.DcAlone.{blocks-alike as block-alike}
 use Rattle.jpeg_streams.specs.Order.{Spot}
 use Rattle.jpeg_streams.specs.Scans.{Arrays, block_at, put_block, via_at}
 use Rattle.jpeg_streams.specs.InTurn.{Counted, Reached, at_start, begun_from, blocks_from, next_from, restart_from, turn_from}
-use Rattle.jpeg_streams.specs.McuRows.{on_arrays}
 use Rattle.jpeg_decoder.specs.Scanning.{kept_after, kept_arrays, kept_counted}
-use Rattle.jpeg_decoder.proofs.BlockSteps.{begun_next, begun_none, begun_refused, begun_turn, begun_within}
+use Rattle.jpeg_decoder.proofs.BlockSteps.{begun_turn}
 
 -- ---- what is read twice, alike as far as something of it goes
 
@@ -164,6 +161,7 @@ begun-alike keeps p vias s a b t first e =
         ≡ read_on (turn_then (kept_counted keeps c)) (read_on (kept_read keeps) o)
     then-kept c (Ok r) = refl
     then-kept c (Err f) = refl
+
     go : (o q : Result (Reached × Text) Fault) → read_on (kept_read keeps) o ≡ read_on (kept_read keeps) q
         → read_on (kept_after keeps) (read_on (turn_then a) o) ≡ read_on (kept_after keeps) (read_on (turn_then b) q)
     go o q h =
@@ -188,6 +186,7 @@ start-kept keeps n c t = go (nat_lt 0 n && c.left == 0)
         })) o
     restarted (Ok u) = refl
     restarted (Err f) = refl
+
     go : (b : Bool) → read_on (kept_after keeps) ((elim b as (λ _. Reads Counted) [
       | true ↦ restart_from c.number >>= (λ u. gives (record {
         reached = at_start c.reached.arrays;

@@ -1,6 +1,6 @@
 -- Strips of which what is kept of the blocks is enough: where a block gives one sample, it is of DC alone.
-use Rattle.std.proofs.Common.{◌≡◌, ℕ, zero, suc, ◌+◌, ◌-◌, ◌*◌, ◌/◌, ◌%◌, ◌<◌, ◌++◌, Bool, true, false, List, [], ◌∷◌, map}
-use Rattle.std.proofs.Common.{length, get_or, drop, ℤ, Result, Ok, Err, refl, sym, ap, ap₂, ◌∙◌, arith}
+use Rattle.std.proofs.Common.{◌≡◌, ℕ, suc, ◌+◌, ◌-◌, ◌*◌, ◌/◌, ◌%◌, ◌<◌, ◌++◌, Bool, true, false, List, [], ◌∷◌, map}
+use Rattle.std.proofs.Common.{length, get_or, drop, Result, Ok, Err, refl, sym, ap, ap₂, ◌∙◌, arith}
 use Rattle.std.specs.List.{AllByRecursion, All, range_with_len}
 use Rattle.jpeg_bits.specs.Reading.{Fault}
 use Rattle.jpeg_bits.specs.Entropy.{Text}
@@ -22,7 +22,7 @@ use Rattle.jpeg_decoder.specs.declared.scan.Coded.{Coded}
 use Rattle.jpeg_decoder.specs.Scanning.{kept_after, kept_arrays, kept_counted}
 use Rattle.jpeg_decoder.specs.Steps.{coding_in}
 use Rattle.jpeg_decoder.specs.Strips.{samples_of, strips_from, with_strips}
-use Rattle.jpeg_decoder.proofs.KeptScans.{get_or-mapped, none-alone, not-read, read-parts}
+use Rattle.jpeg_decoder.proofs.KeptScans.{get_or-mapped, not-read, read-parts}
 use Rattle.jpeg_decoder.proofs.StripSteps.{strips_step}
 
 -- one sample of a block is of DC alone

@@ -1,12 +1,10 @@
 -- The number of bytes of a lossless picture.
-use Rattle.std.proofs.Common.{rules}
 use Rattle.std.proofs.lemmas.Grind.{common_steps}
-use Rattle.std.proofs.Common.{◌≡◌, ℕ, suc, ◌+◌, ◌*◌, List, [], ◌∷◌, length, sym, ap, ap₂, ◌∙◌, refl, arith, subst}
-use Rattle.std.proofs.Common.{Bool, true, false, Result, Ok, Err, Some, length-append, mul_assoc}
-use Rattle.std.specs.Prelude.{IfOk, nat_le, ◌/◌, ◌%◌, if◌then◌else◌}
+use Rattle.std.proofs.Common.{◌≡◌, ℕ, suc, ◌*◌, List, [], ◌∷◌, length, sym, ap, ap₂, ◌∙◌, refl, arith}
+use Rattle.std.proofs.Common.{Bool, true, false, Result, Some, length-append, mul_assoc}
+use Rattle.std.specs.Prelude.{IfOk, nat_le, if◌then◌else◌}
 use Rattle.std.proofs.Math.Nat.{mul_comm}
 use Rattle.jpeg_bits.specs.declared.error.Error.{Error}
-use Rattle.jpeg_segments.specs.declared.parser.CodingProcess.{CodingProcess}
 use Rattle.jpeg_segments.specs.declared.parser.CodingProcess.TheVariants.{Lossless}
 use Rattle.jpeg_segments.specs.Frame.{Component, Frame, ceiling}
 use Rattle.jpeg_segments.specs.Scales.{frame_at}
@@ -14,7 +12,7 @@ use Rattle.jpeg_lossless.specs.Pictures as pictures
 use Rattle.jpeg_lossless.specs.Pictures.{ArePlanesOf, Layer, image_bytes, layers_of, lossless_picture, most_across, most_down}
 use Rattle.jpeg_lossless.specs.Pictures.{pixel_bytes, line_bytes, sample_at, sample_bytes}
 use Rattle.jpeg_streams.specs.Sound.{IsDecodedFrame}
-use Rattle.jpeg_decoder.specs.Bytes.{HasBytesBy, IsWhole, bytes_a_sample, picture_bytes}
+use Rattle.jpeg_decoder.specs.Bytes.{IsWhole, bytes_a_sample, picture_bytes}
 use Rattle.jpeg_decoder.proofs.ImageSizes.{made-length}
 
 -- ---- the lines

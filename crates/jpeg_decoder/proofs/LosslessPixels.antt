@@ -1,14 +1,13 @@
 -- The picture of samples that are written is their pixels.
-use Rattle.std.proofs.Common.{rules}
-use Rattle.std.proofs.Common.{◌≡◌, ℕ, zero, suc, ◌+◌, ◌-◌, ◌*◌, ◌/◌, ◌<◌, List, [], ◌∷◌, ◌++◌, drop, length}
-use Rattle.std.proofs.Common.{get_or, Ok, Some, refl, sym, ap, ap₂, ◌∙◌, subst, arith}
+use Rattle.std.proofs.Common.{◌≡◌, ℕ, zero, suc, ◌+◌, ◌*◌, ◌<◌, List, [], ◌∷◌, ◌++◌, drop, length}
+use Rattle.std.proofs.Common.{get_or, Ok, Some, refl, sym, ap, ◌∙◌, subst, arith}
 use Rattle.std.specs.Prelude.{slice_index}
 use Rattle.std.specs.List.{AllByRecursion, concat, range_with_len}
 use Rattle.std.proofs.lemmas.List.{get_or_append_left, get_or-append_right}
 use Rattle.std.proofs.Math.Nat.{add-mul, one-mul}
 use Rattle.jpeg_segments.specs.Frame.{Component, Frame}
 use Rattle.jpeg_lossless.specs.Pictures.{layers_of, lossless_picture, most_across, most_down, pixel_bytes}
-use Rattle.jpeg_lossless.specs.Pictures.{picture_bytes, sample_bytes}
+use Rattle.jpeg_lossless.specs.Pictures.{picture_bytes}
 use Rattle.jpeg_lossless.specs.Places.{AreEven, at_place}
 use Rattle.jpeg_lossless.proofs.ImageLoops.{inside}
 use Rattle.jpeg_streams.specs.declared.settings.Settings.{Settings}

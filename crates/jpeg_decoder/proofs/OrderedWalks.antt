@@ -1,5 +1,4 @@
 -- The blocks of a scan in order are those that are walked.
-use Rattle.std.proofs.Common.{rules}
 use Rattle.std.proofs.Common.{◌≡◌, ℕ, zero, suc, ◌+◌, ◌-◌, ◌*◌, ◌<◌, ◌≤◌, List, [], ◌∷◌, ◌++◌, map, drop, length, refl, sym, ap}
 use Rattle.std.proofs.Common.{ap₂, ◌∙◌, arith, add-mul, mul_assoc, append-nil, append_assoc, get_or}
 use Rattle.std.specs.List.{range_with_len, flat_map}

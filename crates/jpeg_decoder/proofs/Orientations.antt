@@ -1,6 +1,6 @@
 -- Numbers of two and four bytes, and the entries of a directory.
-use Rattle.std.proofs.Common.{◌≡◌, ℕ, zero, suc, ◌+◌, ◌*◌, ◌<◌, ◌≤◌, Bool, true, false, List, [], ◌∷◌, length, take, drop}
-use Rattle.std.proofs.Common.{slice_index, refl, arith, None, Some, length-drop, nat_le, if◌then◌else◌, Option, ap, ◌∙◌, eq-eqb, ne_eqb, ◌-◌}
+use Rattle.std.proofs.Common.{◌≡◌, ℕ, ◌+◌, ◌*◌, ◌<◌, ◌≤◌, Bool, true, false, List, [], length, take, drop}
+use Rattle.std.proofs.Common.{slice_index, arith, None, Some, length-drop, ap, eq-eqb, ne_eqb, ◌-◌}
 use Rattle.std.proofs.lemmas.Bool.{lt-leb, le-leb}
 use Rattle.jpeg_decoder.specs.Orientation.{lower_first, number, number_at, entries_in, first_directory, orientation_in, orientation_among, is_orientation, value_of}
 use Rattle.std.proofs.lemmas.Grind.{common_steps}

@@ -1,12 +1,10 @@
 -- Restart markers after a scan.
-use Rattle.std.proofs.Common.{rules}
 use Rattle.std.proofs.lemmas.Grind.{common_steps}
 use Rattle.std.proofs.Common.{◌≡◌, ◌<◌, ℕ, zero, suc, List, Result, Ok, Err, true, false, Option, Some}
-use Rattle.std.proofs.Common.{refl, sym, ap, ◌∙◌, length, arith}
+use Rattle.std.proofs.Common.{refl, sym, ◌∙◌, length, arith}
 use Rattle.jpeg_bits.specs.Reading.{Outcome, Fault, ◌>>=◌}
 use Rattle.jpeg_bits.specs.Marker.{next_marker}
 use Rattle.jpeg_bits.specs.declared.marker.Marker.{Marker}
-use Rattle.jpeg_bits.specs.declared.marker.Marker.TheVariants.{RST}
 use Rattle.jpeg_bits.proofs.PieceWalks.{by_bool}
 use Rattle.jpeg_streams.specs.ScanSegments.{after_restarts}
 use Rattle.jpeg_decoder.specs.Steps.{is_restart_marker, after_all}

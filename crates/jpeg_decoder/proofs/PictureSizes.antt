@@ -1,27 +1,24 @@
 -- The number of bytes of a picture of a frame that is decoded.
-use Rattle.std.proofs.Common.{rules}
 use Rattle.std.proofs.lemmas.Grind.{common_steps}
-use Rattle.std.proofs.Common.{◌≡◌, ℕ, zero, suc, ◌*◌, ◌/◌, ◌<◌, ◌≤◌, List, [], ◌∷◌, length, sym, ap, ap₂, ◌∙◌}
-use Rattle.std.proofs.Common.{refl, arith, subst, Result, Ok, Err, Option, Some, None, Bool, true, false}
-use Rattle.std.specs.Prelude.{MatchResult, IfOk, IfSome, OnOk, if◌then◌else◌, nat_le, min}
+use Rattle.std.proofs.Common.{◌≡◌, ℕ, zero, suc, ◌*◌, ◌/◌, ◌<◌, ◌≤◌, List, [], ◌∷◌, length, sym, ap, ◌∙◌}
+use Rattle.std.proofs.Common.{refl, arith, subst, Result, Ok, Option, Some, true}
+use Rattle.std.specs.Prelude.{MatchResult, IfOk, IfSome, OnOk, min}
 use Rattle.jpeg_bits.specs.declared.error.Error.{Error}
 use Rattle.jpeg_decoder.specs.Bytes.{HasBytes, HasBytesBy, IsCounted, IsWhole}
 use Rattle.jpeg_decoder.specs.Bytes.{bytes_a_sample, picture_bytes, samples_a_pixel}
 use Rattle.jpeg_segments.specs.declared.parser.CodingProcess.{CodingProcess}
 use Rattle.jpeg_segments.specs.declared.parser.CodingProcess.TheVariants.{Lossless}
 use Rattle.jpeg_streams.specs.Pixels.{bytes_a_pixel, format_of}
-use Rattle.jpeg_streams.specs.declared.images.PixelFormat.TheVariants.{L8, L16}
 use Rattle.jpeg_streams.specs.Segments.{is_decoded_count, is_decoded_precision}
 use Rattle.std.specs.List.{AllByRecursion}
 use Rattle.std.proofs.lemmas.Bool.{eqb-true}
 use Rattle.std.proofs.lemmas.List.Elements.{recursion_from_All}
 use Rattle.std.proofs.Common.{mul_assoc}
 use Rattle.std.proofs.Math.Nat.{mul_comm, mul-div_cancel}
-use Rattle.jpeg_segments.specs.Frame.{Frame, Component, IsInRange, ceiling}
+use Rattle.jpeg_segments.specs.Frame.{Frame, Component, ceiling}
 use Rattle.jpeg_segments.specs.Scales.{frame_at}
-use Rattle.jpeg_pixels.specs.Pictures.{AreWhole, image_of}
+use Rattle.jpeg_pixels.specs.Pictures.{AreWhole}
 use Rattle.jpeg_segments.proofs.Ceilings.{ceiling-low}
-use Rattle.jpeg_streams.specs.ColourChoice.{identifiers_of, transform_of}
 use Rattle.jpeg_streams.specs.Found.{Found, Metadata}
 use Rattle.jpeg_streams.specs.FoundPictures.{picture_by, picture_in}
 use Rattle.jpeg_streams.specs.InTurn.{Fits}

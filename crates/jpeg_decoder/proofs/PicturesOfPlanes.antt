@@ -1,23 +1,19 @@
 -- The picture of a frame's planes: of one component, and of several.
 use Rattle.std.proofs.Common.{rules}
-use Rattle.std.proofs.Common.{◌≡◌, ◌≢◌, ◌<◌, ◌≤◌, ℕ, List, [], ◌∷◌, ◌++◌, refl, sym, ap, ◌∙◌}
-use Rattle.std.proofs.Common.{subst, length, get_or, map, arith, Bool, true, false, Result, Ok, Err}
-use Rattle.std.specs.Prelude.{◌==◌, MatchResult}
-use Rattle.std.proofs.Math.Bool.{cond}
+use Rattle.std.proofs.Common.{◌≡◌, ◌≢◌, ◌<◌, ◌≤◌, ℕ, List, [], ◌∷◌, ◌++◌, refl, ap}
+use Rattle.std.proofs.Common.{subst, length, get_or, map, arith, Result, Ok, Err}
+use Rattle.std.specs.Prelude.{MatchResult}
 use Rattle.std.specs.List.{AllByRecursion}
 use Rattle.std.proofs.lemmas.List.{length-append, length-map}
-use Rattle.jpeg_bits.specs.Reading.{Fault, Malformed, End, Names, ◌>>=◌}
+use Rattle.jpeg_bits.specs.Reading.{Fault, End, Names, ◌>>=◌}
 use Rattle.jpeg_bits.specs.declared.color_transform.ColorTransform.{ColorTransform}
-use Rattle.jpeg_bits.specs.declared.color_transform.ColorTransform.TheVariants as transforms
 use Rattle.jpeg_bits.specs.declared.error.Error.{Error}
-use Rattle.jpeg_bits.specs.declared.error.Error.TheVariants as errors
 use Rattle.jpeg_segments.specs.Frame.{Frame, Component, AllHaveSampling}
 use Rattle.jpeg_segments.specs.FrameView.{component_in}
 use Rattle.jpeg_segments.specs.declared.parser.Component as declared
 use Rattle.jpeg_pixels.specs.Scaled.{IsScale}
 use Rattle.jpeg_segments.proofs.ScaleLemmas.{sized_frames_have_factors}
 use Rattle.jpeg_pixels.specs.declared.upsampler.ColorConvert.{ColorConvert}
-use Rattle.jpeg_pixels.specs.declared.upsampler.ColorConvert.TheVariants as converts
 use Rattle.jpeg_pixels.specs.Colour.{conversion_of}
 use Rattle.jpeg_pixels.specs.Pictures.{Source, AllCover, AreWhole, image_of, picture_bytes, sources_of}
 use Rattle.jpeg_streams.specs.ColourChoice.{identifiers_of, transform_of}

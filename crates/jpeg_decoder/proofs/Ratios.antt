@@ -1,11 +1,9 @@
 -- Sampling ratios are refused by name alone.
-use Rattle.std.proofs.Common.{◌≡◌, ℕ, List, [], ◌∷◌, Result, Ok, Err, Option, Some, arith}
+use Rattle.std.proofs.Common.{◌≡◌, ℕ, List, [], ◌∷◌, Result, Ok, Err, Option, arith}
 use Rattle.jpeg_bits.specs.Reading.{Fault, End, Names, ◌>>=◌}
 use Rattle.jpeg_bits.specs.declared.error.Error.{Error}
-use Rattle.jpeg_bits.specs.declared.error.Error.TheVariants.{Io, Internal}
 use Rattle.jpeg_segments.specs.Frame.{Component}
 use Rattle.jpeg_pixels.specs.declared.upsampler.UpsampleRule.{UpsampleRule}
-use Rattle.jpeg_pixels.specs.Upsampling.{rule_of}
 use Rattle.jpeg_pixels.specs.Pictures.{Source, source_by, sources_by, sources_of}
 use Rattle.jpeg_decoder.specs.Steps.{IsRefusal}
 use Rattle.std.proofs.lemmas.Grind.{common_steps}

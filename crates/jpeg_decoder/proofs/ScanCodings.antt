@@ -1,6 +1,5 @@
 -- The codings of a scan, slot after slot.
-use Rattle.std.proofs.Common.{rules}
-use Rattle.std.proofs.Common.{◌≡◌, ◌<◌, ◌≤◌, ◌+◌, ℕ, zero, suc, List, [], ◌∷◌, ◌++◌, Result, Ok, Err, refl, sym, ap}
+use Rattle.std.proofs.Common.{◌≡◌, ◌<◌, ◌≤◌, ◌+◌, ℕ, zero, suc, List, [], ◌∷◌, ◌++◌, Result, Ok, Err, refl}
 use Rattle.std.proofs.Common.{length, get_or, map, drop, arith}
 use Rattle.std.proofs.lemmas.List.{map-append, append-nil, append_assoc, drop_all}
 use Rattle.jpeg_bits.specs.Passes.{Pass}

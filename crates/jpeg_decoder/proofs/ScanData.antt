@@ -1,9 +1,9 @@
 -- The data of a scan, of what is read of its blocks, and the planes that it decides.
-use Rattle.std.proofs.Common.{◌≡◌, ◌<◌, ℕ, zero, suc, ◌+◌, ◌*◌, Bool, true, false, Option, Some, None, Result, Ok, Err}
+use Rattle.std.proofs.Common.{◌≡◌, ◌<◌, ℕ, zero, suc, ◌+◌, ◌*◌, true, false, Option, None, Result, Ok, Err}
 use Rattle.std.proofs.Common.{List, [], ◌∷◌, refl, sym, ap, subst, ◌∙◌, length, get_or, set, map, drop, arith}
 use Rattle.std.proofs.Math.Logic.{inl, inr}
-use Rattle.std.specs.Prelude.{All, OnOk, slice_set, slice_index_or}
-use Rattle.std.specs.List.{AllByRecursion, list_all}
+use Rattle.std.specs.Prelude.{All, OnOk}
+use Rattle.std.specs.List.{AllByRecursion}
 use Rattle.std.proofs.lemmas.List.{length-map}
 use Rattle.jpeg_bits.specs.Stream.{Stream}
 use Rattle.jpeg_bits.specs.Reading.{Outcome, Fault, Answers, ◌>>=◌}
@@ -21,8 +21,8 @@ use Rattle.jpeg_streams.specs.Scans.{Arrays, zero_arrays, arrays_at}
 use Rattle.jpeg_decoder.specs.Scanning.{vias_in, arrays_in, blocks_in, sizes_of, components_in}
 use Rattle.jpeg_decoder.specs.Seen.{planes_in}
 use Rattle.jpeg_streams.specs.Sound.{IsPlaneOf, ArePlanes}
-use Rattle.jpeg_decoder.specs.Steps.{blocks_at, coding_in, decided_planes, marks_after, scan_data}
-use Rattle.jpeg_streams.specs.ScanSegments.{components_of, held_after, decided, plane_by, arrays_before, Coding}
+use Rattle.jpeg_decoder.specs.Steps.{blocks_at, coding_in, decided_planes, scan_data}
+use Rattle.jpeg_streams.specs.ScanSegments.{components_of, held_after, plane_by, arrays_before, Coding}
 use Rattle.jpeg_streams.specs.ScanSegments.{is_progressive, put_arrays, with_arrays, with_blocks, vias_from}
 use Rattle.jpeg_decoder.specs.Steps.{with_decoded, with_its_plane, with_planes, IsCodingOf, AreRising}
 use Rattle.jpeg_streams.specs.Found.{Found}

@@ -1,12 +1,11 @@
 -- The steps of a scan that is read, and what they are to a segment of the stream.
 use Rattle.std.proofs.Common.{rules}
-use Rattle.std.proofs.Common.{◌≡◌, ℕ, suc, Bool, true, false, List, length, Option, Some, None, Result, Ok, Err, refl}
-use Rattle.std.proofs.Common.{◌∙◌, ap, arith, is_some, subst, sym}
+use Rattle.std.proofs.Common.{◌≡◌, ℕ, suc, true, false, List, length, Option, Some, None, Result, Ok, Err, refl}
+use Rattle.std.proofs.Common.{◌∙◌, ap, arith}
 use Rattle.jpeg_bits.specs.Stream.{Stream}
-use Rattle.jpeg_bits.specs.Reading.{Answers, Fault, MayFail, Names, NamesFormat, Outcome, ◌>>=◌}
+use Rattle.jpeg_bits.specs.Reading.{Answers, Fault, Names, NamesFormat, Outcome, ◌>>=◌}
 use Rattle.jpeg_bits.specs.Passes.{Pass}
 use Rattle.jpeg_bits.specs.declared.error.Error.{Error}
-use Rattle.jpeg_bits.specs.declared.error.Error.TheVariants as errors
 use Rattle.jpeg_bits.specs.declared.marker.Marker.{Marker}
 use Rattle.jpeg_bits.proofs.Loops.{Continues, Continues-err, bind_at, bind_err, still_known}
 use Rattle.jpeg_segments.specs.Frame.{Frame}
@@ -30,7 +29,7 @@ use Rattle.jpeg_decoder.proofs.ReadableScans.{codings-kept}
 use Rattle.jpeg_decoder.proofs.SlotCodings.{format-refuses}
 use Rattle.jpeg_streams.specs.InTurn.{AreArrays}
 use Rattle.jpeg_streams.specs.Needed.{needed}
-use Rattle.jpeg_streams.specs.Sound.{AreSampled, ArePlanes, IsSound}
+use Rattle.jpeg_streams.specs.Sound.{ArePlanes, IsSound}
 use Rattle.std.proofs.lemmas.Grind.{common_steps}
 
 -- ---- calls on a source

@@ -1,6 +1,6 @@
 -- Steps of the loop over the rows of MCUs of a sequential scan.
-use Rattle.std.proofs.Common.{◌≡◌, ℕ, ◌+◌, ◌-◌, ◌*◌, ◌<◌, ◌≤◌, List, [], ◌∷◌, map, drop, length, replicate}
-use Rattle.std.proofs.Common.{get_or, Ok, Err, refl, sym, subst, ap, ap₂, ◌∙◌, arith, add-mul, length-append, mul-add, mul_comm}
+use Rattle.std.proofs.Common.{◌≡◌, ℕ, ◌+◌, ◌-◌, ◌*◌, ◌<◌, ◌≤◌, List, [], ◌∷◌, map, drop, length}
+use Rattle.std.proofs.Common.{get_or, Ok, Err, refl, sym, ap, ap₂, ◌∙◌, arith, add-mul, length-append, mul-add, mul_comm}
 use Rattle.std.proofs.lemmas.List.{length-map}
 use Rattle.std.proofs.lemmas.List.FromFn.{length-map-range_with_len}
 use Rattle.jpeg_pixels.specs.Planes.{plane_of}
@@ -8,7 +8,7 @@ use Rattle.std.specs.List.{AllByRecursion, range_with_len}
 use Rattle.jpeg_bits.specs.Reading.{Fault}
 use Rattle.jpeg_bits.specs.Entropy.{Text}
 use Rattle.jpeg_bits.specs.Readers.{Reads, read_on}
-use Rattle.jpeg_bits.specs.Passes.{Pass, Via, Block, zero_block}
+use Rattle.jpeg_bits.specs.Passes.{Pass, Via, Block}
 use Rattle.jpeg_segments.specs.Frame.{Frame, Component}
 use Rattle.jpeg_decoder.specs.declared.scan.Coded.{Coded}
 use Rattle.jpeg_streams.specs.Order.{Spot}

@@ -1,31 +1,27 @@
 -- The segments of a stream, a turn at a time.
 use Rattle.std.proofs.Common.{rules}
 use Rattle.std.proofs.Common.{◌≡◌, ◌≤◌, ◌<◌, ℕ, suc, List, Result, Ok, Err, Bool, true, false, Option, Some, None}
-use Rattle.std.proofs.Common.{refl, ◌∙◌, length, arith}
+use Rattle.std.proofs.Common.{refl, length, arith}
 use Rattle.std.specs.Prelude.{if◌then◌else◌, ◌&&◌, is_some, option_map}
 use Rattle.std.proofs.Math.Bool.{cond}
-use Rattle.jpeg_bits.specs.Reading.{Outcome, Fault, Malformed, ◌>>=◌, length_at, skip_at}
+use Rattle.jpeg_bits.specs.Reading.{Outcome, Fault, ◌>>=◌, length_at, skip_at}
 use Rattle.jpeg_bits.specs.Marker.{next_marker}
 use Rattle.jpeg_bits.specs.declared.marker.Marker.{Marker}
-use Rattle.jpeg_bits.specs.declared.marker.Marker.TheVariants.{SOF, DHT, RST, EOI, SOS, DQT, DNL, DRI}
-use Rattle.jpeg_bits.specs.declared.marker.Marker.TheVariants.{APP, COM}
 use Rattle.jpeg_segments.specs.Frame.{Frame, sof_at}
 use Rattle.jpeg_segments.specs.ScanHeader.{Scan, sos_at}
 use Rattle.jpeg_segments.specs.declared.parser.CodingProcess.{CodingProcess}
-use Rattle.jpeg_segments.specs.declared.parser.CodingProcess.TheVariants.{Lossless}
 use Rattle.jpeg_streams.specs.LosslessScans.{lossless_codings}
-use Rattle.jpeg_segments.specs.Quantization.{dqt_at}
 use Rattle.jpeg_segments.specs.HuffmanTables.{dht_at}
-use Rattle.jpeg_segments.specs.Application.{app_at, dri_at}
+use Rattle.jpeg_segments.specs.Application.{app_at}
 use Rattle.jpeg_streams.specs.declared.before.Before.{Before}
-use Rattle.jpeg_streams.specs.declared.before.Before.TheVariants.{FirstScan, LaterScan, Elsewhere}
+use Rattle.jpeg_streams.specs.declared.before.Before.TheVariants.{Elsewhere}
 use Rattle.jpeg_streams.specs.Needed.{needed}
 use Rattle.jpeg_streams.specs.ScanSegments.{lossless_scan, blocks_scan, codings_of, scan_by, scan_samples}
 use Rattle.jpeg_streams.specs.ScanSegments.{after_restarts, scan_arrays, scan_segment}
 use Rattle.jpeg_streams.specs.Segments.{accepted, onward, Turn, frame_segment, application_segment, restart_segment}
 use Rattle.jpeg_streams.specs.Segments.{huffman_segment, quantization_segment, skipped_segment}
 use Rattle.jpeg_streams.specs.Found.{Found}
-use Rattle.jpeg_streams.specs.Stream.{end_segment, stray_restart, line_count, segment_at, turn_at, segments_within}
+use Rattle.jpeg_streams.specs.Stream.{end_segment, line_count, segment_at, turn_at, segments_within}
 use Rattle.jpeg_streams.specs.Stream.{segments_at}
 use Rattle.jpeg_streams.specs.Reported.{told_at, told_within}
 use Rattle.jpeg_decoder.specs.Steps.{is_restart_marker}

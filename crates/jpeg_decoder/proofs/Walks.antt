@@ -1,10 +1,10 @@
 -- Steps of a walk.
-use Rattle.std.proofs.Common.{◌≡◌, ℕ, zero, suc, ◌+◌, ◌-◌, ◌<◌, List, [], ◌∷◌, ◌++◌, map, length}
-use Rattle.std.proofs.Common.{refl, ap, ap₂, ◌∙◌, arith, get_or}
+use Rattle.std.proofs.Common.{◌≡◌, ℕ, zero, suc, ◌+◌, ◌-◌, ◌<◌, List, [], ◌∷◌, length}
+use Rattle.std.proofs.Common.{refl, arith, get_or}
 use Rattle.std.proofs.lemmas.List.{drop_all}
 use Rattle.jpeg_decoder.specs.declared.spots.Member.{Member}
 use Rattle.jpeg_decoder.proofs.ReadLists.{dropped}
-use Rattle.jpeg_decoder.specs.Walk.{positions_of, rows_from, raster_left, spot_at, spots_at, spots_left}
+use Rattle.jpeg_decoder.specs.Walk.{rows_from, raster_left, spot_at, spots_left}
 use Rattle.std.proofs.lemmas.Grind.{common_steps}
 
 -- ---- a raster

@@ -1,8 +1,8 @@
 -- A lossless scan that is written is read as its samples.
 use Rattle.std.proofs.Common.{rules}
-use Rattle.std.proofs.Common.{◌≡◌, ℕ, zero, suc, ◌+◌, ◌-◌, ◌*◌, ◌/◌, ◌%◌, ◌<◌, ◌≤◌, Bool, true, false, eqb}
-use Rattle.std.proofs.Common.{leb, List, [], ◌∷◌, ◌++◌, drop, map, length, replicate, take, Option, Some}
-use Rattle.std.proofs.Common.{Ok, refl, sym, ap, ap₂, ◌∙◌, subst, arith, length-append, suc-mul}
+use Rattle.std.proofs.Common.{◌≡◌, ℕ, zero, suc, ◌+◌, ◌-◌, ◌*◌, ◌<◌, ◌≤◌, Bool, true, false}
+use Rattle.std.proofs.Common.{List, [], ◌∷◌, ◌++◌, drop, map, length, replicate, take, Option, Some}
+use Rattle.std.proofs.Common.{Ok, refl, ap, ap₂, ◌∙◌, subst, arith, length-append, suc-mul}
 use Rattle.std.specs.List.{AllByRecursion, concat}
 use Rattle.std.proofs.lemmas.Bool.{le-leb, eq-eqb, or_right}
 use Rattle.std.proofs.lemmas.List.{length-map, length-take-le}
@@ -24,7 +24,7 @@ use Rattle.jpeg_segments.proofs.HeaderSegments.{sos-read}
 use Rattle.jpeg_lossless.specs.Differences.{Part, lines_in, mcu_tables, strands, row_tables}
 use Rattle.jpeg_lossless.specs.Pictures.{most_across, most_down}
 use Rattle.jpeg_lossless.specs.Places.{AreEven}
-use Rattle.jpeg_lossless.specs.Scans.{Way, all_above, is_of_rows, is_one_interval, mcu_size, planes_of}
+use Rattle.jpeg_lossless.specs.Scans.{Way, all_above, is_of_rows, is_one_interval, planes_of}
 use Rattle.jpeg_lossless.specs.Scans.{rows_of_interval, scan_at, shifted}
 use Rattle.jpeg_lossless.specs.Written.{AreGrids, AreLines, AreSamples, AreTables, HaveDifferences}
 use Rattle.jpeg_lossless.specs.Written.{WritesIntervals}
@@ -34,12 +34,11 @@ use Rattle.jpeg_lossless.proofs.ReadBack.{reads-scan}
 use Rattle.jpeg_streams.specs.LosslessScans.{LosslessCoding, lossless_coding, lossless_codings, mcus_across, mcus_down}
 use Rattle.jpeg_streams.specs.LosslessScans.{part_of, parts_of, way_of, with_samples}
 use Rattle.jpeg_streams.specs.Needed.{first_of}
-use Rattle.jpeg_streams.specs.ScanSegments.{lossless_scan, scan_before, after_restarts, scan_segment}
-use Rattle.jpeg_streams.specs.ScanSegments.{scan_samples}
+use Rattle.jpeg_streams.specs.ScanSegments.{lossless_scan, scan_before, scan_segment}
 use Rattle.jpeg_streams.specs.Segments.{Turn}
 use Rattle.jpeg_streams.specs.Found.{Found}
-use Rattle.jpeg_streams.specs.WrittenLossless.{AreCodings, HoldSamples, IsCoding, IsInterval, own_lines, Samples}
-use Rattle.jpeg_streams.specs.WrittenLossless.{WritesScan, no_interval, said_after_scan, whole_rows, whole_scan}
+use Rattle.jpeg_streams.specs.WrittenLossless.{AreCodings, HoldSamples, IsInterval, Samples}
+use Rattle.jpeg_streams.specs.WrittenLossless.{WritesScan, said_after_scan}
 use Rattle.jpeg_streams.proofs.ReadTurns.{IsEnd, then-ok}
 use Rattle.jpeg_streams.proofs.EncodedSamples.{rows-count}
 use Rattle.jpeg_streams.proofs.LosslessFrames.{IsShaped}

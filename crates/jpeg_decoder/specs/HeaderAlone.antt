@@ -1,5 +1,5 @@
 -- A call that has read a header and nothing of the scans after it.
-use Rattle.std.specs.Prelude.{◌≡◌, ℕ, Result, Ok, Err, true, IsErrAnd}
+use Rattle.std.specs.Prelude.{◌≡◌, Result, Ok, Err, true, IsErrAnd}
 use Rattle.jpeg_bits.specs.Reading.{Answers}
 use Rattle.jpeg_bits.specs.declared.error.Error.{Error}
 use Rattle.jpeg_streams.specs.Reported.{IsOfTurns}

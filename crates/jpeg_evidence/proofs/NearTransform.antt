@@ -1,13 +1,13 @@
 -- The transform is near the exact one.
 use Rattle.std.proofs.Common.{rules}
-use Rattle.std.proofs.Common.{◌≡◌, ℕ, ◌+◌, ◌*◌, ◌<◌, ◌≤◌, List, ℤ, pos, negsuc, neg_ℤ, ◌+ℤ◌, ◌-ℤ◌, ◌*ℤ◌}
-use Rattle.std.proofs.Common.{◌≤ℤ◌, ◌<ℤ◌, Bool, true, false, refl, arith, unsigned_abs, FitsSigned, le_trans}
+use Rattle.std.proofs.Common.{◌≡◌, ℕ, ◌+◌, ◌*◌, ◌<◌, ◌≤◌, List, ℤ, pos, neg_ℤ, ◌+ℤ◌, ◌-ℤ◌, ◌*ℤ◌}
+use Rattle.std.proofs.Common.{◌≤ℤ◌, ◌<ℤ◌, Bool, refl, arith, unsigned_abs, le_trans}
 use Rattle.std.proofs.Common.{mul-le-mul_left}
 use Rattle.std.proofs.lemmas.Int.{ints, int_wrap_fits}
 use Rattle.std.specs.Int.{w32, int_shr, int_wrap}
 use Rattle.jpeg_pixels.specs.Samples.{sum_below, basis, transformed, dequantized, is_flat_column, column_value}
 use Rattle.jpeg_pixels.proofs.ZeroCases.{zero_column}
-use Rattle.jpeg_evidence.specs.Exact.{weight, exact_sum, squares, unclamped, whole, distance}
+use Rattle.jpeg_evidence.specs.Exact.{exact_sum, squares, unclamped, whole, distance}
 use Rattle.jpeg_evidence.proofs.Sums.{drifted, bounded, each_at_most, products_of_rows, within_product}
 use Rattle.jpeg_evidence.proofs.Sums.{one_sum, difference}
 use Rattle.jpeg_evidence.proofs.Errors.{size_of_row, error, squared_errors, greatest, errors_at_most}

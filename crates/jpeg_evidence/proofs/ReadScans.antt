@@ -1,12 +1,12 @@
 -- What a decoder reads of a scan, where it fits, is what the scan was written for.
-use Rattle.std.proofs.Common.{rules, ◌≡◌, ℕ, zero, suc, ◌+◌, ◌%◌, ◌≤◌, Bool, true, false, List, [], ◌∷◌, ◌++◌, length}
-use Rattle.std.proofs.Common.{drop, refl, sym, ap, ap₂, ◌∙◌, subst, arith, Ok, Err, Option, Some, None, eqb}
+use Rattle.std.proofs.Common.{rules, ◌≡◌, ℕ, suc, ◌%◌, ◌≤◌, Bool, true, false, List, [], ◌∷◌, ◌++◌, length}
+use Rattle.std.proofs.Common.{drop, refl, sym, ap, ap₂, ◌∙◌, subst, arith, Ok, Err, Option, Some}
 use Rattle.std.proofs.lemmas.Bool.{le-leb, eqb-true, false≢true}
 use Rattle.jpeg_bits.specs.Reading.{End, Fault, Malformed, Outcome, ◌>>=◌}
-use Rattle.jpeg_bits.specs.Entropy.{Broken, Found, Text, advance, fresh, marker_from, text_at, upcoming}
+use Rattle.jpeg_bits.specs.Entropy.{Broken, Text, advance, fresh, marker_from, text_at, upcoming}
 use Rattle.jpeg_bits.specs.Ends.{end_after}
 use Rattle.jpeg_bits.specs.Intervals.{after_restart, blocks_before, interval, intervals, is_restart, predictors_at_start}
-use Rattle.jpeg_bits.specs.Passes.{Block, Pass, Via, blocks_of}
+use Rattle.jpeg_bits.specs.Passes.{Block, Pass, Via}
 use Rattle.jpeg_bits.specs.declared.marker.Marker.{Marker}
 use Rattle.jpeg_bits.specs.declared.marker.Marker.TheVariants.{RST}
 use Rattle.jpeg_bits.proofs.EndLemmas.{ends-so}
@@ -85,16 +85,20 @@ scan-parts a b m n r s h = (
 
 after-first : (k : ℕ) (first blocks : List Block) (m n : Marker) (rest : List ℕ)
     (others : Outcome (List Block × Option Marker))
-    → (elim (is_restart k (Some m)) [ true ↦ blocks_before first others | false ↦ Err Malformed ])
-    ≡ Ok ((blocks, Some n), rest)
+    → ◌≡◌ {A = Outcome (List Block × Option Marker)}
+    (elim (is_restart k (Some m)) as (λ _. Outcome (List Block × Option Marker)) [
+      | true ↦ blocks_before first others
+      | false ↦ Err Malformed
+    ]) (Ok ((blocks, Some n), rest))
     → AfterFirst k first blocks m n rest others
 after-first k first blocks m n rest others h = go (is_restart k (Some m)) refl others h
   where
     go : (b : Bool) → is_restart k (Some m) ≡ b → (o : Outcome (List Block × Option Marker))
-        → (elim b as (λ _. Outcome (List Block × Option Marker)) [
+        → ◌≡◌ {A = Outcome (List Block × Option Marker)}
+        (elim b as (λ _. Outcome (List Block × Option Marker)) [
           | true ↦ blocks_before first o
           | false ↦ Err Malformed
-        ]) ≡ Ok ((blocks, Some n), rest)
+        ]) (Ok ((blocks, Some n), rest))
         → AfterFirst k first blocks m n rest o
     go true e (Ok r) h =
         let q = scan-parts (first ++ r.0.0) blocks r.0.1 (Some n) r.1 rest h in
@@ -128,10 +132,10 @@ scan-written p k turns more bytes rest blocks m (last turns' bytes' rest' m' w) 
     (subst (λ (n : Marker). IsInterval p (numbers_read p turns w.blocks) bytes n rest) (some-is m' m q.1)
     (subst (λ (r : List ℕ). IsInterval p (numbers_read p turns w.blocks) bytes m' r) q.2
     (interval-written p turns bytes rest' m' w))))
-scan-written p k turns more bytes rest blocks m (another turns' next others bytes' after m' w fits) h =
+scan-written p k turns more bytes rest blocks m (another turns' following others bytes' after m' w fits) h =
     let is = interval-read p turns bytes after m' w in
-    let a = after-first k w.blocks blocks m' m rest (intervals p (suc k) next others after)
-    (sym (ap (λ o. o >>= after_restart k (intervals p (suc k) next others)) is) ∙ h) in
+    let a = after-first k w.blocks blocks m' m rest (intervals p (suc k) following others after)
+    (sym (ap (λ o. o >>= after_restart k (intervals p (suc k) following others)) is) ∙ h) in
     let long : length w.blocks ≡ length turns
     = subst (λ o. IsLongAfter (length turns) o) is (interval-long p turns bytes) in
     let first : IsInterval p (numbers_read p turns blocks) bytes (RST (k % 8)) after
@@ -142,5 +146,5 @@ scan-written p k turns more bytes rest blocks m (another turns' next others byte
     let rest-blocks : a.more ≡ drop (length turns) blocks
     = sym (drop-front w.blocks a.more (length turns) long) ∙ ap (drop (length turns)) a.together in
     another-interval p k (numbers_read p turns blocks) _ _ bytes after rest m first
-    (subst (λ (l : List Block). IsIntervals p (suc k) (numbers_read p next l) (others_read p next others l) after m rest)
-    rest-blocks (scan-written p (suc k) next others after rest a.more m fits a.are_read))
+    (subst (λ (l : List Block). IsIntervals p (suc k) (numbers_read p following l) (others_read p following others l) after m rest)
+    rest-blocks (scan-written p (suc k) following others after rest a.more m fits a.are_read))

@@ -2,7 +2,7 @@
 use Rattle.std.proofs.Common.{rules}
 use Rattle.std.proofs.Common.{◌≡◌, ℕ, zero, suc, ◌+◌, ◌*◌, ◌<◌, ◌≤◌, ℤ, pos, negsuc, neg_ℤ, ◌+ℤ◌, ◌-ℤ◌, ◌*ℤ◌, ◌≤ℤ◌}
 use Rattle.std.proofs.Common.{refl, subst, one-mul, mul-add, mul_comm, zero-lt-suc, arith, mul-le-mul, mul-le-mul_left}
-use Rattle.std.proofs.Common.{unsigned_abs, ap, ◌∙◌}
+use Rattle.std.proofs.Common.{unsigned_abs}
 use Rattle.std.proofs.Math.Logic.{⊎_elim}
 use Rattle.std.proofs.Math.Nat.{le_of_mul-le-mul_left, mul-pos}
 use Rattle.std.proofs.Math.IntN.{*ℤ-zero}

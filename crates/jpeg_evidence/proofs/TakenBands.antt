@@ -6,7 +6,7 @@ use Rattle.std.proofs.lemmas.List.{take-replicate, drop-replicate, length-replic
 use Rattle.jpeg_bits.specs.Entropy.{Text}
 use Rattle.jpeg_bits.specs.Codes.{Table, IsTable}
 use Rattle.jpeg_bits.specs.Bands.{Band, before_more, wrapped, token_from, after_token, first_ac}
-use Rattle.jpeg_bits.specs.Written.{low_bits, IsCategory, IsCoded}
+use Rattle.jpeg_bits.specs.Written.{IsCategory, IsCoded}
 use Rattle.jpeg_bits.specs.declared.tokens.Token.{Token}
 use Rattle.jpeg_bits.specs.declared.tokens.Token.TheVariants.{Value, Sixteen, Rest, Overlong}
 use Rattle.jpeg_streams.specs.WrittenData.{no_numbers, WritesBand}

@@ -1,8 +1,8 @@
 -- The bits that were taken are those of what was read of them.
 use Rattle.std.proofs.Common.{rules}
 use Rattle.std.proofs.Common.{◌≡◌, ℕ, zero, suc, ◌+◌, ◌*◌, ◌/◌, ◌%◌, ◌^◌, ◌<◌, ◌≤◌, Bool, true, false, cond}
-use Rattle.std.proofs.Common.{List, [], ◌∷◌, ◌++◌, length, take, drop, replicate, refl, sym, ap, ap₂, ◌∙◌, subst, arith}
-use Rattle.std.proofs.Common.{take-append-drop, length-take, pow-suc, mul_assoc, Ok, Err, Result, slice_index}
+use Rattle.std.proofs.Common.{List, [], ◌∷◌, ◌++◌, length, take, replicate, refl, sym, ap, ◌∙◌, subst, arith}
+use Rattle.std.proofs.Common.{take-append-drop, length-take, pow-suc, mul_assoc, Ok, Err, slice_index}
 use Rattle.std.proofs.Common.{Option, Some, None, leb}
 use lib.Arith.{digits_div}
 use Rattle.std.proofs.Math.Nat.{add-mul, zero-mul, one-mul}
@@ -12,14 +12,13 @@ use Rattle.std.proofs.Common.{append_assoc}
 use Rattle.std.proofs.Math.Seq.{drop-nil}
 use Rattle.jpeg_bits.specs.Reading.{Fault, End}
 use Rattle.jpeg_bits.specs.Reading as outcomes
-use Rattle.jpeg_bits.specs.Entropy.{bits_from, number_of, Text, advance, Broken}
-use Rattle.jpeg_bits.specs.Readers.{Reads, read_on, gives, text, ◌>>=◌}
+use Rattle.jpeg_bits.specs.Entropy.{bits_from, number_of, Text, advance}
+use Rattle.jpeg_bits.specs.Readers.{Reads, gives, ◌>>=◌}
 use Rattle.jpeg_bits.specs.Codes.{Table, IsTable, code_from, code_in, code_value, first_from, begins, code_lengths}
 use Rattle.jpeg_bits.specs.Codes.{next_16, code_by, if_held, symbol_from}
 use Rattle.jpeg_bits.specs.Reading.{Malformed}
 use Rattle.jpeg_bits.specs.Written.{bit, low_bits, IsCoded}
 use Rattle.jpeg_bits.proofs.Tables.{rising-at, all-rising, symbol-code}
-use Rattle.std.specs.Option.{option_map}
 use Rattle.std.proofs.lemmas.List.{take-take}
 use Rattle.jpeg_bits.proofs.WrittenBits.{number_onto}
 use Rattle.jpeg_bits.proofs.Reservoirs.{low_bits-high}

@@ -1,34 +1,31 @@
 -- The bits that were taken of a block are those that are written for it.
-use Rattle.std.proofs.Common.{rules, ◌≡◌, ℕ, zero, suc, ◌+◌, ◌-◌, ◌*◌, ◌^◌, ◌<◌, ◌≤◌, Bool, true, false, List, []}
-use Rattle.std.proofs.Common.{◌∷◌, ◌++◌, map, length, take, drop, refl, sym, ap, ◌∙◌, subst, arith, Ok, eqb, ℤ, pos}
-use Rattle.std.proofs.Common.{◌+ℤ◌, ◌-ℤ◌, unsigned_abs, le_refl, append-nil, length-append, length-take}
+use Rattle.std.proofs.Common.{rules, ◌≡◌, ℕ, zero, suc, ◌+◌, ◌-◌, ◌*◌, ◌^◌, ◌<◌, Bool, true, false, List, []}
+use Rattle.std.proofs.Common.{◌∷◌, map, length, refl, sym, ap, ◌∙◌, subst, arith, Ok, ℤ, pos}
+use Rattle.std.proofs.Common.{◌+ℤ◌, ◌-ℤ◌, unsigned_abs, le_refl, append-nil}
 use Rattle.std.proofs.lemmas.Bool.{eqb-true, eqb-false}
 use Rattle.std.proofs.lemmas.Int.{ints, int_wrap_fits}
-use Rattle.std.proofs.lemmas.List.{drop-replicate, length-map, length-replicate}
+use Rattle.std.proofs.lemmas.List.{length-map, length-replicate}
 use Rattle.jpeg_bits.specs.Entropy.{Text, bits_from}
 use Rattle.jpeg_bits.specs.Codes.{Table, IsTable}
 use Rattle.jpeg_bits.specs.Readers.{Reads, gives, ◌>>=◌}
-use Rattle.jpeg_bits.specs.Bands.{Band, before_more, difference, first_dc, wrapped, token_from, after_token, first_ac}
+use Rattle.jpeg_bits.specs.Bands.{Band, difference, first_dc, wrapped, first_ac}
 use Rattle.jpeg_bits.specs.Refinement.{corrected, refined_ac}
 use Rattle.jpeg_bits.specs.Passes.{Block, Pass, Via, band_of, with_band, or_bit, dc_part, band_part, block_from}
-use Rattle.jpeg_bits.specs.declared.tokens.Token.{Token}
-use Rattle.jpeg_bits.specs.declared.tokens.Token.TheVariants.{Value, Sixteen, Rest, Overlong}
 use Rattle.jpeg_streams.specs.Levels.{floor_at, toward_zero}
-use Rattle.jpeg_streams.specs.WrittenData.{no_numbers, WritesAc, WritesBand, WritesDc, WritesDifference}
+use Rattle.jpeg_streams.specs.WrittenData.{no_numbers, WritesAc, WritesBand, WritesDc}
 use Rattle.jpeg_streams.specs.WrittenData.WritesDc.{other_band, whole as a_whole}
 use Rattle.jpeg_streams.specs.WrittenData.WritesAc.{no_band, first as a_first, first_run}
 use Rattle.jpeg_streams.proofs.SentBlocks.{scaled, InRange}
 use Rattle.jpeg_streams.proofs.WrittenBands.{map-no_numbers, scaled-fits, range-below, mag-le}
 use Rattle.jpeg_streams.proofs.CutLevels.{band-map}
-use Rattle.jpeg_evidence.specs.Strict.{alone, IsCut, HasBytes, TokensFit, Fits, room_after, IsBand, IsBlock}
+use Rattle.jpeg_evidence.specs.Strict.{alone, IsCut, HasBytes, TokensFit, IsBlock}
 use Rattle.jpeg_evidence.specs.Strict.{BlockFits, HasTables}
-use Rattle.jpeg_evidence.specs.Strict.TokensFit.{filled, token}
 use Rattle.jpeg_evidence.proofs.TakenBits.{bind-cut, gives-taken, map-parts, map-taken, cut-map, Both}
 use Rattle.jpeg_evidence.proofs.TakenBits.{number-taken}
 use Rattle.jpeg_evidence.proofs.TakenRefinements.{IsHeld, IsCorrected, IsRefined, alike-long, alike-none, one-bit}
 use Rattle.jpeg_evidence.proofs.TakenRefinements.{corrected-taken, refined-taken}
 use Rattle.jpeg_evidence.proofs.TakenValues.{difference-taken}
-use Rattle.std.proofs.Common.{ap₂, ◌/◌, ◌%◌, negsuc}
+use Rattle.std.proofs.Common.{ap₂, negsuc}
 use Rattle.std.specs.List.{AllByRecursion}
 use Rattle.jpeg_bits.specs.Written.{bit}
 use Rattle.jpeg_streams.specs.WrittenData.{NoneNew, corrections, low_bit, WritesRefinement}

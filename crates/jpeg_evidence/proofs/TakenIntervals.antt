@@ -1,10 +1,9 @@
 -- An interval whose bits are written for its blocks, with at most 7 bits after them, is written.
 use Rattle.std.proofs.Common.{arith}
-use Rattle.std.proofs.Common.{◌≡◌, ℕ, List, ◌∙◌, ◌≤◌, length, refl, Ok}
+use Rattle.std.proofs.Common.{◌≡◌, ℕ, List, ◌≤◌, length, Ok}
 use Rattle.jpeg_bits.specs.Entropy.{Text, Found, text_at}
 use Rattle.jpeg_bits.specs.Intervals.{predictors_at_start}
 use Rattle.jpeg_bits.specs.Passes.{Block, Pass, Via, blocks_of}
-use Rattle.jpeg_bits.specs.Written.{stuffed}
 use Rattle.jpeg_bits.specs.declared.marker.Marker.{Marker}
 use Rattle.jpeg_streams.specs.WrittenData.{WritesBlocks}
 use Rattle.jpeg_evidence.specs.Strict.{alone, BlocksFit, IsCut, IsInterval, numbers_read}

@@ -1,6 +1,6 @@
 -- A coefficient's number at the level that it was read at, and the band of a block after a pass.
-use Rattle.std.proofs.Common.{◌≡◌, ℕ, zero, suc, ◌+◌, ◌-◌, ◌*◌, ◌/◌, ◌^◌, ◌<◌, ◌≤◌, List, [], ◌∷◌, ◌++◌, map, length}
-use Rattle.std.proofs.Common.{take, drop, refl, sym, ap, ap₂, ◌∙◌, arith, ℤ, pos, negsuc, neg_ℤ, pow_pos, inl, inr}
+use Rattle.std.proofs.Common.{◌≡◌, ℕ, suc, ◌+◌, ◌*◌, ◌/◌, ◌^◌, ◌<◌, ◌≤◌, List, [], ◌∷◌, ◌++◌, map, length}
+use Rattle.std.proofs.Common.{take, drop, refl, sym, ap, ap₂, ◌∙◌, arith, ℤ, pow_pos}
 use Rattle.std.proofs.Common.{length-take, length-drop, add-zero, append-nil, ◌≢◌}
 use lib.Arith.{digits_div}
 use Rattle.std.proofs.Math.Nat.{add-mul, one-mul}

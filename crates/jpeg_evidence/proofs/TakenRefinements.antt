@@ -6,12 +6,11 @@ use Rattle.std.proofs.Common.{append_assoc, append-nil, length-append, length-ta
 use Rattle.std.proofs.Math.Nat.{zero-mul, one-mul}
 use Rattle.std.proofs.lemmas.Bool.{eqb-true, eq-eqb, le-leb}
 use Rattle.std.specs.List.{AllByRecursion}
-use Rattle.jpeg_bits.specs.Reading.{Malformed}
 use Rattle.jpeg_bits.specs.Entropy.{Text, bits_from}
 use Rattle.jpeg_bits.specs.Codes.{Table, IsTable, symbol_from}
-use Rattle.jpeg_bits.specs.Readers.{Reads, gives, refused, ◌>>=◌}
+use Rattle.jpeg_bits.specs.Readers.{Reads, gives, ◌>>=◌}
 use Rattle.jpeg_bits.specs.Bands.{Band, before_more}
-use Rattle.jpeg_bits.specs.Refinement.{is_zero, bit_of, moved, fits_i16, corrected_by, corrected, through_zero}
+use Rattle.jpeg_bits.specs.Refinement.{is_zero, bit_of, moved, corrected_by, corrected, through_zero}
 use Rattle.jpeg_bits.specs.Refinement.{new_number, with_last, refined_piece, refined_ac}
 use Rattle.jpeg_bits.specs.Written.{bit, low_bits, IsCoded}
 use Rattle.jpeg_streams.specs.Levels.{toward_zero}
@@ -27,7 +26,7 @@ use Rattle.jpeg_evidence.specs.Strict.{alone, IsCut, IsNumber, HasBytes, count_z
 use Rattle.jpeg_evidence.specs.Strict.PiecesFit.{covered, new, zeros, last}
 use Rattle.jpeg_evidence.proofs.TakenBits.{number-taken, symbol-taken, after-read, bind-cut, map-parts}
 use Rattle.jpeg_streams.proofs.TakenTexts.{bind-parts, ok-parts, no-error}
-use Rattle.jpeg_evidence.proofs.TakenBits.{cut-map, cut-none, cut-both, gives-taken, map-taken, Both}
+use Rattle.jpeg_evidence.proofs.TakenBits.{cut-map, cut-none, cut-both, gives-taken, Both}
 use Rattle.jpeg_evidence.proofs.TakenBands.{run-small}
 
 -- ---- a place

@@ -1,6 +1,6 @@
 -- The bits that were taken of a token are those that are written for it.
-use Rattle.std.proofs.Common.{◌≡◌, ℕ, zero, suc, ◌+◌, ◌-◌, ◌*◌, ◌/◌, ◌%◌, ◌^◌, Bool, true, false, List, []}
-use Rattle.std.proofs.Common.{refl, subst, arith, Ok, leb, ltb, eqb, ℤ}
+use Rattle.std.proofs.Common.{◌≡◌, ℕ, zero, suc, ◌+◌, ◌-◌, ◌/◌, ◌%◌, ◌^◌, Bool, true, false, List, []}
+use Rattle.std.proofs.Common.{refl, arith, Ok, leb, ltb, eqb, ℤ}
 use Rattle.std.proofs.lemmas.Bool.{ltb-false, eqb-true, eqb-false}
 use Rattle.jpeg_bits.specs.Entropy.{Text, bits_from}
 use Rattle.jpeg_bits.specs.Readers.{Reads, gives, signed_from, ◌>>=◌}
@@ -12,7 +12,7 @@ use Rattle.jpeg_bits.specs.declared.tokens.Token.TheVariants.{Value, Sixteen, Re
 use Rattle.jpeg_evidence.specs.Strict.{alone, IsCut, IsNumber, IsValue, Follows, IsToken}
 use Rattle.jpeg_evidence.specs.Strict.Follows.{value, sixteen, ended, overlong}
 use Rattle.jpeg_evidence.proofs.TakenBits.{number-taken, code-taken, cut-map, gives-taken, map-taken}
-use Rattle.jpeg_evidence.proofs.TakenBits.{bind-cut, Both}
+use Rattle.jpeg_evidence.proofs.TakenBits.{bind-cut}
 use Rattle.jpeg_evidence.proofs.TakenValues.{value-taken}
 
 -- a token without a value

@@ -1,7 +1,7 @@
 -- The bits that were taken of a value and of a DC difference are those that are written for it.
-use Rattle.std.proofs.Common.{◌≡◌, ℕ, zero, suc, ◌-◌, ◌^◌, ◌<◌, ◌≤◌, Bool, true, false, cond, List, []}
-use Rattle.std.proofs.Common.{◌++◌, refl, sym, ap, ◌∙◌, subst, arith, pow_pos, pow-suc, Ok, leb, ltb, eqb, nat_le}
-use Rattle.std.proofs.Common.{ℤ, pos, negsuc, inl, inr, ◌-ℤ◌}
+use Rattle.std.proofs.Common.{◌≡◌, ℕ, zero, suc, ◌-◌, ◌^◌, ◌<◌, ◌≤◌, Bool, true, false, List, []}
+use Rattle.std.proofs.Common.{refl, ap, ◌∙◌, arith, pow_pos, pow-suc, Ok, leb, eqb, nat_le}
+use Rattle.std.proofs.Common.{ℤ, pos, negsuc, ◌-ℤ◌}
 use Rattle.std.proofs.lemmas.Int.{ints}
 use Rattle.std.proofs.lemmas.Bool.{cases_lt, ltb-true, ltb-false, eqb-true}
 use Rattle.std.proofs.Math.Pow.{pow_mono}
@@ -15,7 +15,7 @@ use Rattle.jpeg_streams.specs.WrittenData.{WritesDifference}
 use Rattle.jpeg_evidence.specs.Strict.{alone, IsCut, IsNumber, IsValue}
 use Rattle.jpeg_evidence.proofs.TakenBits.{number-taken, symbol-taken, cut-map, gives-taken, map-taken}
 use Rattle.jpeg_streams.proofs.TakenTexts.{no-error}
-use Rattle.jpeg_evidence.proofs.TakenBits.{bind-cut, Both}
+use Rattle.jpeg_evidence.proofs.TakenBits.{bind-cut}
 
 -- ---- signed numbers
 

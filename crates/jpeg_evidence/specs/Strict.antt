@@ -237,14 +237,14 @@ pub record IntervalFits (p : Pass) (turns : List (Via × Block)) (bytes : List �
 pub data IntervalsFit (p : Pass) : List (Via × Block) → List (List (Via × Block)) → List ℕ → Type 0 where
   last : (turns : List (Via × Block)) (bytes rest : List ℕ) (m : Marker)
       → IntervalFits p turns bytes m rest → IntervalsFit p turns [] bytes
-  another : (turns next : List (Via × Block)) (more : List (List (Via × Block))) (bytes rest : List ℕ) (m : Marker)
-      → IntervalFits p turns bytes m rest → IntervalsFit p next more rest
-      → IntervalsFit p turns (next ∷ more) bytes
+  another : (turns following : List (Via × Block)) (more : List (List (Via × Block))) (bytes rest : List ℕ)
+      (m : Marker) → IntervalFits p turns bytes m rest → IntervalsFit p following more rest
+      → IntervalsFit p turns (following ∷ more) bytes
 
 -- What a writer codes of the intervals after the first, where these blocks were read of all.
 unfoldable pub others_read : Pass → List (Via × Block) → List (List (Via × Block)) → List Block
     → List (List (Via × Block))
 others_read p turns [] blocks = []
-others_read p turns (next ∷ more) blocks =
-    numbers_read p next (drop (length turns) blocks)
-    ∷ others_read p next more (drop (length turns) blocks)
+others_read p turns (following ∷ more) blocks =
+    numbers_read p following (drop (length turns) blocks)
+    ∷ others_read p following more (drop (length turns) blocks)

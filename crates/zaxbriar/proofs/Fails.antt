@@ -1,10 +1,9 @@
 -- A refusal of the header, or of what follows it, is one of the stream.
-use Rattle.std.proofs.Common.{◌≡◌, ◌<◌, ◌^◌, ℕ, List, Ok, Err, Some, length, Result, Bool, true, false, arith, refl, subst, sym}
+use Rattle.std.proofs.Common.{◌≡◌, ◌<◌, ◌^◌, ℕ, List, Ok, Err, Some, length, Result, Bool, true, arith, refl}
 use Rattle.std.specs.Prelude.{IfErr}
-use Rattle.jpeg_bits.specs.Reading.{Answers, Fault, Malformed, Lacks, End, IsGivenUp, Names, Outcome}
+use Rattle.jpeg_bits.specs.Reading.{Answers, Fault, IsGivenUp, Names, Outcome}
 use Rattle.jpeg_bits.specs.Stream.{Stream}
 use Rattle.jpeg_bits.specs.declared.error.Error.{Error}
-use Rattle.jpeg_bits.specs.declared.error.Error.TheVariants as errors
 use Rattle.jpeg_streams.specs.DecodedImages.{at_size}
 use Rattle.jpeg_streams.specs.Found.{Found}
 use Rattle.jpeg_streams.specs.Stream.{header_at, rest_at}

@@ -1,7 +1,7 @@
 -- A header that was read, and then the rest of its stream, are what the stream means by some options.
 use Rattle.std.proofs.Common.{arith}
 use Rattle.std.proofs.Common.{◌≡◌, ℕ, List, Ok}
-use Rattle.jpeg_streams.specs.DecodedImages.{Size, FullSize, AtLeast, at_size, HasLeft}
+use Rattle.jpeg_streams.specs.DecodedImages.{Size, at_size, HasLeft}
 use Rattle.jpeg_streams.specs.Found.{Found}
 use Rattle.jpeg_streams.specs.States.{HeaderRead}
 use Rattle.jpeg_streams.specs.Stream.{Told, header_at, rest_at}

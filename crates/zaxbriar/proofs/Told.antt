@@ -1,14 +1,14 @@
 -- What a caller is given of a picture that was decoded.
 use Rattle.std.proofs.Common.{arith}
 use Rattle.std.proofs.Common.{rules}
-use Rattle.std.proofs.Common.{◌≡◌, ◌∙◌, ℕ, ◌*◌, List, Result, Ok, Err, sym, ap, Some}
+use Rattle.std.proofs.Common.{◌≡◌, ◌∙◌, ℕ, ◌*◌, List, Result, Ok, sym, ap, Some}
 use Rattle.std.specs.Prelude.{IfOk, OnOk, option_map}
 use Rattle.std.proofs.Math.Nat.{mul_comm, mul_assoc}
 use Rattle.jpeg_bits.specs.Reading.{Fault}
 use Rattle.jpeg_streams.specs.declared.images.ImageInfo.{ImageInfo}
 use Rattle.zaxbriar.specs.Faults.{answer_of}
 use Rattle.zaxbriar.specs.Layouts.{laid_out, line_of}
-use Rattle.zaxbriar.specs.Lines.{Arranged, HasLines, lines_by, picture_by, stored_bytes}
+use Rattle.zaxbriar.specs.Lines.{Arranged, HasLines, picture_by, stored_bytes}
 use Rattle.zaxbriar.specs.Meanings.{Describes, Shows, ShowsSamples, orientation_by, size_of}
 use Rattle.jpeg_streams.specs.Found.{Found}
 use Rattle.jpeg_streams.specs.DecodedImages.{at_size}

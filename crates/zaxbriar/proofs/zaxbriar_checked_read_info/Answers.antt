@@ -1,5 +1,4 @@
 use Rattle.std.proofs.Common.{arith}
-use Rattle.jpeg_streams.specs.Stream.{header_at}
 use Rattle.zaxbriar.proofs.Fails.{named, tells-all}
 use Rattle.zaxbriar.proofs.Told.{described}
 use Rattle.zaxbriar.proofs.zaxbriar_checked_read_info.Goals as goal

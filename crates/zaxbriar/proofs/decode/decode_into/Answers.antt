@@ -8,7 +8,7 @@ use Rattle.jpeg_streams.specs.Stream.{told_of}
 use Rattle.zaxbriar.proofs.Fails.{argument-fails, header-fails, means-rest}
 use Rattle.zaxbriar.proofs.Means.{joined, has-left}
 use Rattle.zaxbriar.proofs.Told.{arranged-of}
-use Rattle.zaxbriar.specs.Meanings.{meaning_by, size_of}
+use Rattle.zaxbriar.specs.Meanings.{size_of}
 use Rattle.zaxbriar.proofs.decode.decode_into.Goals as goal
 
 pub returns-clause-means : goal.returns-clause-means

@@ -1,7 +1,6 @@
 use Rattle.std.proofs.Common.{arith}
 use Rattle.std.proofs.lemmas.Result.{err_from_is_err_and}
 use Rattle.jpeg_decoder.proofs.Callers.{bytes_are_known, known_bytes_are_told}
-use Rattle.jpeg_streams.specs.Stream.{header_at}
 use Rattle.zaxbriar.proofs.Fails.{argument-fails}
 use Rattle.zaxbriar.proofs.Told.{described-of}
 use Rattle.zaxbriar.proofs.decode.read_info_from.Goals as goal

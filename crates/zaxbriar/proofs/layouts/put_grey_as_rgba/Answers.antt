@@ -1,5 +1,5 @@
-use Rattle.std.proofs.Common.{◌∙◌, ◌+◌, ◌-◌, ◌*◌, [], ◌∷◌, refl, arith}
-use Rattle.zaxbriar.specs.Layouts.{grey_as_rgba, pixels_of}
+use Rattle.std.proofs.Common.{refl, arith}
+use Rattle.zaxbriar.specs.Layouts.{pixels_of}
 use Rattle.zaxbriar.proofs.Laid.{grey-of, pixel-put}
 use Rattle.zaxbriar.proofs.layouts.put_grey_as_rgba.Goals as goal
 

@@ -1,5 +1,5 @@
-use Rattle.std.proofs.Common.{◌∙◌, ◌+◌, ◌-◌, ◌*◌, [], ◌∷◌, refl, arith}
-use Rattle.zaxbriar.specs.Layouts.{rgb_as_bgra, pixels_of}
+use Rattle.std.proofs.Common.{refl, arith}
+use Rattle.zaxbriar.specs.Layouts.{pixels_of}
 use Rattle.zaxbriar.proofs.Laid.{red-of, green-of, blue-of, pixel-put}
 use Rattle.zaxbriar.proofs.layouts.put_rgb_as_bgra.Goals as goal
 

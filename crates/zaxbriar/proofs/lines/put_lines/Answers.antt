@@ -1,7 +1,6 @@
-use Rattle.std.proofs.Common.{◌≡◌, ◌∙◌, ◌+◌, ◌-◌, ◌*◌, ◌<◌, ◌≤◌, refl, sym, ap, arith, drop, length, take}
+use Rattle.std.proofs.Common.{refl, arith}
 use Rattle.std.proofs.Math.Nat.{mul-le-mul_right}
-use borrow.Rule.Slice.PartMut.{put_mid}
-use Rattle.zaxbriar.specs.Layouts.{laid_out, line_of}
+use Rattle.zaxbriar.specs.Layouts.{laid_out}
 use Rattle.zaxbriar.proofs.Laid.{line-length, line-put}
 use Rattle.zaxbriar.proofs.lines.put_lines.Goals as goal
 

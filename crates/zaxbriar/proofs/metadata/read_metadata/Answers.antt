@@ -1,10 +1,7 @@
 use Rattle.std.proofs.Common.{arith}
-use Rattle.std.proofs.Common.{◌∙◌, List, ℕ, ap, subst, sym, true}
+use Rattle.std.proofs.Common.{◌∙◌, sym}
 use Rattle.jpeg_decoder.proofs.Callers.{bytes_are_known, known_bytes_are_told}
-use Rattle.jpeg_streams.specs.Reported.{told_by_stream}
-use Rattle.jpeg_streams.specs.Stream.{Told, header_at}
 use Rattle.zaxbriar.proofs.Fails.{other-named}
-use Rattle.zaxbriar.specs.Metadata.{IsCopied, metadata_of}
 use Rattle.zaxbriar.proofs.metadata.read_metadata.Goals as goal
 use Rattle.zaxbriar.proofs.metadata.read_metadata.Goals.{then-code-eq-NO_DATA, else-code-eq-NO_DATA}
 
