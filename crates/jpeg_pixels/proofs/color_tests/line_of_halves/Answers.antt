@@ -17,17 +17,30 @@ are-factors = search (rules, All-cons, All-nil)
 
 pub new-requires-clause-factors : goal.new-requires-clause-factors
 unfolding frame_of component_of
-new-requires-clause-factors c = search (rules, have-factors, are-factors)
+new-requires-clause-factors c = have-factors 3 2 factors _ (λ i. c.component-one.ensures i
+    ∷ c.component-two.ensures i ∷ c.component-three.ensures i ∷ []) are-factors
 
 pub upsample_and_interleave_row-requires-clause-planes : goal.upsample_and_interleave_row-requires-clause-planes
 upsample_and_interleave_row-requires-clause-planes c = search (rules, sources-count)
 
 pub upsample_and_interleave_row-requires-clause-cover : goal.upsample_and_interleave_row-requires-clause-cover
 unfolding frame_of component_of HaveRoom
-upsample_and_interleave_row-requires-clause-cover c = search (rules, cover-lower, are-covered, are-factors)
+upsample_and_interleave_row-requires-clause-cover c =
+    let planes = c.args.luma.items ∷ c.args.cb.items ∷ c.args.cr.items ∷ [] in
+    let sources = c.in_ok-upsampler.upsampler in
+    cover-lower sources planes 3 (c.args.row + 1) 2 (omega arith)
+    (are-covered 3 2 factors _ planes (λ i. c.component-one.ensures i
+    ∷ c.component-two.ensures i
+    ∷ c.component-three.ensures i ∷ []) are-factors (omega arith) (omega arith) (
+      omega arith,
+      (omega arith, (omega arith, tt)),
+    )
+    sources c.in_ok-upsampler.ensures)
 
 pub upsample_and_interleave_row-requires-clause-fits : goal.upsample_and_interleave_row-requires-clause-fits
-upsample_and_interleave_row-requires-clause-fits c = search (rules, sources-count)
+upsample_and_interleave_row-requires-clause-fits c =
+    subst (λ n. IsFor n c.args.color_convert) (upsample_and_interleave_row-requires-clause-planes c)
+    c.requires.fits
 
 pub upsample_and_interleave_row-requires-clause-room : goal.upsample_and_interleave_row-requires-clause-room
 upsample_and_interleave_row-requires-clause-room c = search (rules, sources-count)

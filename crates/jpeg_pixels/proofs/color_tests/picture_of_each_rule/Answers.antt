@@ -14,8 +14,17 @@ are-factors = search (rules, All-cons, All-nil)
 
 pub compute_image_rows-requires-clause-factors : goal.compute_image_rows-requires-clause-factors
 unfolding frame_of component_of
-compute_image_rows-requires-clause-factors c = search (rules, have-factors, are-factors)
+compute_image_rows-requires-clause-factors c =
+    have-factors 6 4 factors _ (λ i. c.component-one.ensures i
+    ∷ c.component-two.ensures i ∷ c.component-three.ensures i ∷ c.component-four.ensures i ∷ []) are-factors
 
 pub compute_image_rows-requires-clause-cover : goal.compute_image_rows-requires-clause-cover
 unfolding frame_of component_of HaveRoom
-compute_image_rows-requires-clause-cover c = search (rules, are-covered, are-factors)
+compute_image_rows-requires-clause-cover c =
+    are-covered 6 4 factors _
+    (c.args.copied.items ∷ c.args.widened.items ∷ c.args.heightened.items ∷ c.args.repeated.items ∷ [])
+    (λ i. c.component-one.ensures i ∷ c.component-two.ensures i ∷ c.component-three.ensures i
+    ∷ c.component-four.ensures i ∷ []) are-factors (omega arith) (omega arith) (
+      omega arith,
+      (omega arith, (omega arith, (omega arith, tt))),
+    )
