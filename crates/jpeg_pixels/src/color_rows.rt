@@ -1,54 +1,63 @@
 //! The colours of a line (JFIF, and Adobe's transforms), in whole numbers.
 ghost use Rattle.std.specs.Prelude.{◌≡◌, ℕ, ◌+◌, ◌-◌, ◌*◌, ◌/◌, ◌%◌, ◌<◌, ◌≤◌, length, slice_index};
+ghost use Rattle.std.specs.Prelude.{◌+ℤ◌, ◌-ℤ◌, ◌*ℤ◌, pos};
 ghost use Rattle.std.specs.Int.{int_shr};
 ghost use Rattle.jpeg_pixels.specs.Samples.{clamped};
-ghost use Rattle.jpeg_pixels.specs.Colour.{luma_of, centred_of, red_of, green_of, blue_of};
+ghost use Rattle.jpeg_pixels.specs.Colour.{centred_of, red_of, green_of, blue_of};
 
-use crate::idct::clamp_to_byte;
-
-fn luma(y: u8) -> i32
-    ensures { result ≡ luma_of y }
-{
-    i32::from(y) * (1 << 20) + (1 << 19)
-}
-
-fn centred(c: u8) -> i32
+// The sample of a colour difference, from -128 to 127.
+fn centred(c: u8) -> i16
     ensures { result ≡ centred_of c }
 {
-    i32::from(c) - 128
+    i16::from(c) - 128
 }
 
-fn scaled_down(sum: i32) -> u8
-    ensures { result ≡ clamped (int_shr sum 20) }
+// The upper half of a product.
+fn upper_half(value: i16, factor: i16) -> i16
+    ensures { result ≡ int_shr (value *ℤ factor) 16 }
 {
-    clamp_to_byte(sum >> 20)
+    ((i32::from(value) * i32::from(factor)) >> 16) as i16
+}
+
+// Half of a number, rounded up.
+fn rounded(value: i16) -> i16
+    requires { value ≤ pos 32766 }
+    ensures { result ≡ int_shr (value +ℤ pos 1) 1 }
+{
+    (value + 1) >> 1
+}
+
+// A brightness and what a colour differs from it, as a byte.
+fn added(y: u8, difference: i16) -> u8
+    requires low { pos 0 -ℤ pos 1000 ≤ difference }
+    requires high { difference ≤ pos 1000 }
+    ensures { result ≡ clamped (pos y +ℤ difference) }
+{
+    (i16::from(y) + difference).clamp(0, 255) as u8
 }
 
 #[tactic(auto, unfolding(crate::specs::Colour::red_of))]
 fn red(y: u8, cr: u8) -> u8
     ensures { result ≡ red_of y cr }
 {
-    let y = luma(y);
-    let cr = centred(cr);
-    scaled_down(y + 1470104 * cr)
+    added(y, rounded(upper_half(8 * centred(cr), 22971)))
 }
 
 fn green(y: u8, cb: u8, cr: u8) -> u8
     ensures { result ≡ green_of y cb cr }
 {
-    let y = luma(y);
     let cb = centred(cb);
     let cr = centred(cr);
-    scaled_down(y - 360857 * cb - 748830 * cr)
+    let coarse = i32::from(64 * cb) * -5638 + i32::from(64 * cr) * -11700;
+    let fine = i32::from(cb) * -25 + i32::from(cr) * -30;
+    added(y, ((coarse + (fine + (1 << 19))) >> 20) as i16)
 }
 
 #[tactic(auto, unfolding(crate::specs::Colour::blue_of))]
 fn blue(y: u8, cb: u8) -> u8
     ensures { result ≡ blue_of y cb }
 {
-    let y = luma(y);
-    let cb = centred(cb);
-    scaled_down(y + 1858077 * cb)
+    added(y, rounded(upper_half(8 * centred(cb), 29033)))
 }
 
 // Writes the red of some pixels from index `start` on, by their brightness and third component.
