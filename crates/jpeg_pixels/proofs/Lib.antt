@@ -2,6 +2,7 @@ pub mod BlockRows
 pub mod LaneChoice
 pub mod LaneRows
 pub mod LaneSums
+pub mod ShortColours
 pub mod ShortLanes
 pub mod ShortPasses
 pub mod MatrixRows

@@ -23,7 +23,7 @@ zero_row coefficients quantization x y h none = simp (transformed_one)
 pub both_true : (a b : Bool) → (a && b) ≡ true → (a ≡ true) × (b ≡ true)
 both_true a b h1 = grind (arith, nat_tests)
 
-below_true : (p : ℕ → Bool) (n k : ℕ) → all_below p n ≡ true → k < n → p k ≡ true
+pub below_true : (p : ℕ → Bool) (n k : ℕ) → all_below p n ≡ true → k < n → p k ≡ true
 below_true p zero k e h = absurd (omega arith)
 below_true p (suc n) k e h =
     let parts = both_true (all_below p n) (p n) e in

@@ -1,6 +1,6 @@
 //! The colours of a line (JFIF, and Adobe's transforms), in whole numbers.
 ghost use Rattle.std.specs.Prelude.{◌≡◌, ℕ, ◌+◌, ◌-◌, ◌*◌, ◌/◌, ◌%◌, ◌<◌, ◌≤◌, length, slice_index};
-ghost use Rattle.std.specs.Prelude.{◌+ℤ◌, ◌-ℤ◌, ◌*ℤ◌, pos};
+ghost use Rattle.std.specs.Prelude.{◌+ℤ◌, ◌-ℤ◌, ◌*ℤ◌, ◌≤ℤ◌, pos, unsigned_abs};
 ghost use Rattle.std.specs.Int.{int_shr};
 ghost use Rattle.jpeg_pixels.specs.Samples.{clamped};
 ghost use Rattle.jpeg_pixels.specs.Colour.{centred_of, red_of, green_of, blue_of};
@@ -21,7 +21,7 @@ fn upper_half(value: i16, factor: i16) -> i16
 
 // Half of a number, rounded up.
 fn rounded(value: i16) -> i16
-    requires { value ≤ pos 32766 }
+    requires { value ≤ℤ pos 32766 }
     ensures { result ≡ int_shr (value +ℤ pos 1) 1 }
 {
     (value + 1) >> 1
@@ -29,31 +29,41 @@ fn rounded(value: i16) -> i16
 
 // A brightness and what a colour differs from it, as a byte.
 fn added(y: u8, difference: i16) -> u8
-    requires low { pos 0 -ℤ pos 1000 ≤ difference }
-    requires high { difference ≤ pos 1000 }
+    requires { unsigned_abs difference ≤ 1000 }
     ensures { result ≡ clamped (pos y +ℤ difference) }
 {
     (i16::from(y) + difference).clamp(0, 255) as u8
 }
 
-#[tactic(auto, unfolding(crate::specs::Colour::red_of))]
+#[tactic(auto, using(crate::proofs::ShortColours::red_by_short))]
 fn red(y: u8, cr: u8) -> u8
     ensures { result ≡ red_of y cr }
 {
     added(y, rounded(upper_half(8 * centred(cr), 22971)))
 }
 
+// The part of `green_sum` by the multiples of 64 in its factors.
+fn coarse_green_sum(cb: u8, cr: u8) -> i32
+    ensures { result ≡ pos 0 -ℤ pos 360832 *ℤ centred_of cb -ℤ pos 748800 *ℤ centred_of cr }
+{
+    i32::from(64 * centred(cb)) * -5638 + i32::from(64 * centred(cr)) * -11700
+}
+
+// What green differs from a brightness, in units of 1 / 2^20, and half a unit to round.
+fn green_sum(cb: u8, cr: u8) -> i32
+    ensures { result ≡ pos 524288 -ℤ pos 360857 *ℤ centred_of cb -ℤ pos 748830 *ℤ centred_of cr }
+{
+    let fine = i32::from(centred(cb)) * -25 + i32::from(centred(cr)) * -30;
+    coarse_green_sum(cb, cr) + (fine + (1 << 19))
+}
+
 fn green(y: u8, cb: u8, cr: u8) -> u8
     ensures { result ≡ green_of y cb cr }
 {
-    let cb = centred(cb);
-    let cr = centred(cr);
-    let coarse = i32::from(64 * cb) * -5638 + i32::from(64 * cr) * -11700;
-    let fine = i32::from(cb) * -25 + i32::from(cr) * -30;
-    added(y, ((coarse + (fine + (1 << 19))) >> 20) as i16)
+    added(y, (green_sum(cb, cr) >> 20) as i16)
 }
 
-#[tactic(auto, unfolding(crate::specs::Colour::blue_of))]
+#[tactic(auto, using(crate::proofs::ShortColours::blue_by_short))]
 fn blue(y: u8, cb: u8) -> u8
     ensures { result ≡ blue_of y cb }
 {
