@@ -35,21 +35,21 @@ fn added(y: u8, difference: i16) -> u8
     (i16::from(y) + difference).clamp(0, 255) as u8
 }
 
-#[tactic(auto, using(crate::proofs::ShortColours::red_by_short))]
 fn red(y: u8, cr: u8) -> u8
     ensures { result ≡ red_of y cr }
 {
     added(y, rounded(upper_half(8 * centred(cr), 22971)))
 }
 
-// The part of `green_sum` by the multiples of 64 in its factors.
+// The part of `green_sum` from the multiples of 64 in its factors.
 fn coarse_green_sum(cb: u8, cr: u8) -> i32
     ensures { result ≡ pos 0 -ℤ pos 360832 *ℤ centred_of cb -ℤ pos 748800 *ℤ centred_of cr }
 {
     i32::from(64 * centred(cb)) * -5638 + i32::from(64 * centred(cr)) * -11700
 }
 
-// What green differs from a brightness, in units of 1 / 2^20, and half a unit to round.
+// What green differs from the brightness, in units of 1 / 2^20, plus half a unit to round. Its
+// factors are 64 * 5638 + 25 and 64 * 11700 + 30, so that each product is one of 16 bits.
 fn green_sum(cb: u8, cr: u8) -> i32
     ensures { result ≡ pos 524288 -ℤ pos 360857 *ℤ centred_of cb -ℤ pos 748830 *ℤ centred_of cr }
 {
@@ -63,7 +63,6 @@ fn green(y: u8, cb: u8, cr: u8) -> u8
     added(y, (green_sum(cb, cr) >> 20) as i16)
 }
 
-#[tactic(auto, using(crate::proofs::ShortColours::blue_by_short))]
 fn blue(y: u8, cb: u8) -> u8
     ensures { result ≡ blue_of y cb }
 {

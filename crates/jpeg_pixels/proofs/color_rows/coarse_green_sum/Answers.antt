@@ -3,4 +3,4 @@ use Rattle.std.proofs.lemmas.Int.{ints}
 use Rattle.jpeg_pixels.proofs.color_rows.coarse_green_sum.Goals as goal
 
 pub returns : goal.returns
-returns c = omega (arith, ints, c.from.ensures, c.from-2.ensures, c.centred.ensures, c.centred-2.ensures)
+returns c = omega (arith, ints)
