@@ -10,7 +10,6 @@ ghost use Rattle.jpeg_segments.specs.Frame.{AllHaveSampling};
 ghost use Rattle.jpeg_segments.specs.FrameView.{component_in};
 ghost use Rattle.jpeg_pixels.specs.JointPlanes.{IsLike, IsShapeOf, IsSmall, joint_planes, row_size};
 ghost use Rattle.jpeg_pixels.specs.Pictures.{image_of};
-ghost use Rattle.jpeg_pixels.specs.PicturesView.{IsFor};
 
 use crate::picture_lines::convert_line;
 use crate::upsampler::ColorConvert;
@@ -166,7 +165,6 @@ struct JointPicture {
     color_convert: ColorConvert,
     ghost small: { IsSmall shape },
     ghost wide: { width ≤ shape.stride },
-    ghost fits: { IsFor shape.count color_convert },
 }
 
 impl JointPicture {
@@ -174,6 +172,7 @@ impl JointPicture {
     ghost use Rattle.std.specs.List.{concat};
     ghost use Rattle.jpeg_pixels.specs.JointPlanes.{converted, gathered, joint_bytes, row_size};
     ghost use Rattle.jpeg_pixels.specs.JointPlanes.{strip_lines};
+    ghost use Rattle.jpeg_pixels.specs.PicturesView.{IsFor};
 
     // The bytes of a line.
     fn line_size(&self) -> usize
@@ -214,6 +213,7 @@ impl JointPicture {
 
     // Writes the colours of the first lines of a row of MCUs.
     fn convert_row(&self, lines: &[u8], count: usize, output: &mut [u8])
+        requires fits { IsFor self.now.shape.count self.now.color_convert }
         requires count { count ≤ self.now.shape.lines }
         requires lines { length lines.now ≡ count * (self.now.shape.count * self.now.width) }
         requires room { length output.old ≡ count * (self.now.shape.count * self.now.width) }
@@ -248,6 +248,7 @@ impl JointPicture {
     // Puts the lines of the picture in the place of the strips. Those of a row of MCUs, which are no
     // longer than its strips, are copied to `lines` first.
     fn write_in_place(&self, height: usize, lines: &mut [u8], room: &mut [u8])
+        requires fits { IsFor self.now.shape.count self.now.color_convert }
         requires high { height ≤ self.now.shape.rows * self.now.shape.lines }
         requires lines { length lines.old
             ≡ self.now.shape.lines * (self.now.shape.count * self.now.width) }
@@ -268,6 +269,7 @@ impl JointPicture {
 
     // Writes the lines of the picture elsewhere. Those of a row of MCUs are copied to `lines` first.
     fn write(&self, height: usize, samples: &[u8], lines: &mut [u8], picture: &mut [u8])
+        requires fits { IsFor self.now.shape.count self.now.color_convert }
         requires high { height ≤ self.now.shape.rows * self.now.shape.lines }
         requires lines { length lines.old
             ≡ self.now.shape.lines * (self.now.shape.count * self.now.width) }
