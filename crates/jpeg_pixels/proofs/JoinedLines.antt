@@ -7,7 +7,7 @@ use Rattle.std.proofs.Math.Nat.{mul_comm, div-lt_iff_lt-mul, mod-lt, div-add-mod
 use Rattle.std.specs.List.{range_with_len, concat}
 use Rattle.jpeg_pixels.specs.JointPlanes.{AreLong}
 
-AreLong-more : (n : ℕ) (l : List ℕ) (lines : List (List ℕ)) → AreLong n (l ∷ lines) → AreLong n lines
+pub AreLong-more : (n : ℕ) (l : List ℕ) (lines : List (List ℕ)) → AreLong n (l ∷ lines) → AreLong n lines
 AreLong-more n l lines long = record { each = λ k h. long.each (suc k) (omega arith) }
 
 pub joined-length : (n : ℕ) (lines : List (List ℕ)) → AreLong n lines → length (concat lines) ≡ length lines * n

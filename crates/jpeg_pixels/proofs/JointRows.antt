@@ -1,0 +1,69 @@
+-- Rows of MCUs whose strips stand in one room: their lines, joined, and the plane of a component.
+use Rattle.std.proofs.lemmas.Grind.{common_steps, rows}
+use Rattle.std.proofs.Common.{◌≡◌, ℕ, zero, suc, ◌+◌, ◌*◌, ◌/◌, ◌%◌, ◌<◌, ◌≤◌, List, [], ◌∷◌, ◌++◌, length, get_or, map}
+use Rattle.std.proofs.Common.{take, drop, ap, ◌∙◌, slice_index, arith, rules}
+use Rattle.std.proofs.lemmas.List.{append-nil, take_all}
+use Rattle.std.proofs.lemmas.Nat.{row_fits}
+use Rattle.std.proofs.Math.Seq.{take-append_seam, drop-append-add}
+use Rattle.jpeg_pixels.specs.JointPlanes.{AreLong}
+use Rattle.jpeg_pixels.proofs.JoinedLines.{AreLong-more}
+use Rattle.std.proofs.lemmas.List.FromFn.{map-range_with_len_more}
+use Rattle.std.proofs.lemmas.List.Folds.{concat-append}
+use Rattle.std.specs.List.{range_with_len, concat}
+use borrow.Rule.Slice.PartMut.{put_mid}
+use Rattle.jpeg_pixels.specs.JointPlanes.{strip_size, row_size}
+use Rattle.jpeg_pixels.specs.declared.joint_planes.JointShape.{JointShape}
+use Rattle.jpeg_pixels.proofs.ComponentLines.{take-put}
+
+-- the lists that a function gives for the first numbers, one after the other
+abbrev pub joined : (ℕ → List ℕ) → ℕ → List ℕ
+joined f n = concat (map f (range_with_len 0 n))
+
+-- one list more
+pub joined-more : (f : ℕ → List ℕ) (n : ℕ) → joined f (n + 1) ≡ joined f n ++ f n
+joined-more f n =
+    ap concat (map-range_with_len_more f 0 n n (omega arith))
+    ∙ concat-append (map f (range_with_len 0 n)) (f n ∷ [])
+    ∙ ap (λ (l : List ℕ). joined f n ++ l) (append-nil (f n))
+
+-- one list more, written after those before it
+pub joined-put : (f : ℕ → List ℕ) (n line k : ℕ) (now new : List ℕ) → n * line ≤ length now → length new ≡ line
+    → new ≡ f n → take (n * line) now ≡ joined f n → take ((n + 1) * line) (put_mid (n * line) k now new) ≡ joined f (n + 1)
+joined-put f n line k now new room long is before = search (rules, joined-more, take-put)
+
+-- all lists, written one after the other
+pub joined-all : (f : ℕ → List ℕ) (n all line : ℕ) (now : List ℕ) → n ≡ all → length now ≡ all * line
+    → take (n * line) now ≡ joined f n → now ≡ joined f all
+joined-all f n all line now end long is = search (rules, take_all)
+
+-- a list of lines of the same length, by its number
+pub joined-part : (n : ℕ) (lines : List (List ℕ)) (k : ℕ) → AreLong n lines → k < length lines
+    → take n (drop (k * n) (concat lines)) ≡ get_or lines k []
+joined-part n [] k long h = absurd (omega arith)
+joined-part n (l ∷ lines) zero long h =
+    let first : length l ≡ n = long.each 0 (omega arith) in
+    let e : 0 * n ≡ 0 = omega arith in
+    rw e (search (rules, take-append_seam))
+joined-part n (l ∷ lines) (suc k) long h =
+    let first : length l ≡ n = long.each 0 (omega arith) in
+    let e : suc k * n ≡ n + k * n = omega arith in
+    rw e (search (rules, drop-append-add, joined-part n lines k (AreLong-more n l lines long) (omega arith)))
+
+-- a line is within its strip
+pub strip-fits : (count lines stride slot line width size long : ℕ) → slot < count → line < lines → width ≤ stride
+    → size ≡ lines * stride → long ≡ count * (lines * stride) → slot * size + line * stride + width ≤ long
+strip-fits count lines stride slot line width size long h lt wide is all =
+    let strip : slot * (lines * stride) + lines * stride ≤ count * (lines * stride) =
+    row_fits slot (lines * stride) count _ h (omega arith) in
+    let in_strip : line * stride + stride ≤ lines * stride = row_fits line stride lines _ lt (omega arith) in
+    rw is (omega arith)
+
+-- the part of a line that a strip has
+abbrev pub strip_line : JointShape → ℕ → List ℕ → ℕ → ℕ → List ℕ
+strip_line shape width strips line slot = take width (drop (slot * strip_size shape + line * shape.stride) strips)
+
+-- the first samples of the plane of the component in a slot
+abbrev pub first_samples : JointShape → List ℕ → ℕ → ℕ → List ℕ
+first_samples shape samples slot n =
+    map (λ i. slice_index samples (i / strip_size shape * row_size shape + (slot * strip_size shape
+    + i % strip_size shape))) (range_with_len 0 n)
