@@ -1,17 +1,17 @@
 -- Rows of MCUs whose strips stand in one room: their lines, joined, and the plane of a component.
 use Rattle.std.proofs.lemmas.Grind.{common_steps, rows}
-use Rattle.std.proofs.Common.{◌≡◌, ℕ, zero, suc, ◌+◌, ◌*◌, ◌/◌, ◌%◌, ◌<◌, ◌≤◌, List, [], ◌∷◌, ◌++◌, length, get_or, map}
-use Rattle.std.proofs.Common.{take, drop, ap, ◌∙◌, slice_index, arith, rules}
+use Rattle.std.proofs.Common.{◌≡◌, ℕ, zero, suc, ◌+◌, ◌-◌, ◌*◌, ◌/◌, ◌%◌, ◌<◌, ◌≤◌, List, [], ◌∷◌, ◌++◌, length, get_or, map}
+use Rattle.std.proofs.Common.{take, drop, ap, sym, refl, length-take, length-drop, ◌∙◌, slice_index, arith, rules}
 use Rattle.std.proofs.lemmas.List.{append-nil, take_all}
 use Rattle.std.proofs.lemmas.Nat.{row_fits}
 use Rattle.std.proofs.Math.Seq.{take-append_seam, drop-append-add}
 use Rattle.jpeg_pixels.specs.JointPlanes.{AreLong}
-use Rattle.jpeg_pixels.proofs.JoinedLines.{AreLong-more}
-use Rattle.std.proofs.lemmas.List.FromFn.{map-range_with_len_more}
+use Rattle.jpeg_pixels.proofs.JoinedLines.{AreLong-more, joined-length}
+use Rattle.std.proofs.lemmas.List.FromFn.{length-map-range_with_len, get_or-map-range_with_len, map-range_with_len_more}
 use Rattle.std.proofs.lemmas.List.Folds.{concat-append}
 use Rattle.std.specs.List.{range_with_len, concat}
 use borrow.Rule.Slice.PartMut.{put_mid}
-use Rattle.jpeg_pixels.specs.JointPlanes.{strip_size, row_size}
+use Rattle.jpeg_pixels.specs.JointPlanes.{gathered, strip_lines, strip_size, row_size}
 use Rattle.jpeg_pixels.specs.declared.joint_planes.JointShape.{JointShape}
 use Rattle.jpeg_pixels.proofs.ComponentLines.{take-put}
 
@@ -61,6 +61,45 @@ strip-fits count lines stride slot line width size long h lt wide is all =
 -- the part of a line that a strip has
 abbrev pub strip_line : JointShape → ℕ → List ℕ → ℕ → ℕ → List ℕ
 strip_line shape width strips line slot = take width (drop (slot * strip_size shape + line * shape.stride) strips)
+
+pub strip_lines-count : (shape : JointShape) (width : ℕ) (strips : List ℕ) (line : ℕ)
+    → length (strip_lines shape width strips line) ≡ shape.count
+unfolding strip_lines
+strip_lines-count shape width strips line =
+    length-map-range_with_len (strip_line shape width strips line) 0 shape.count
+
+pub strip_lines-long : (shape : JointShape) (width : ℕ) (strips : List ℕ) (line : ℕ) → line < shape.lines
+    → width ≤ shape.stride → length strips ≡ row_size shape → AreLong width (strip_lines shape width strips line)
+unfolding strip_lines
+strip_lines-long shape width strips line lt wide long = record {
+  each = λ k h.
+      let slot : k < shape.count =
+      omega (arith, length-map-range_with_len (strip_line shape width strips line) 0 shape.count) in
+      let fits = strip-fits shape.count shape.lines shape.stride k line width _ _ slot lt wide refl long in
+      ap length (get_or-map-range_with_len (strip_line shape width strips line) 0 shape.count k k [] slot (omega arith))
+      ∙ simp (length-take, length-drop) (omega (arith, fits));
+}
+
+-- a line of those that were gathered
+pub gathered-line : (shape : JointShape) (width : ℕ) (strips given : List ℕ) (count line size : ℕ) → line < count
+    → count ≤ shape.lines → width ≤ shape.stride → length strips ≡ row_size shape → size ≡ shape.count * width
+    → given ≡ gathered shape width strips count → take (line * size + size - line * size) (drop (line * size) given)
+    ≡ concat (strip_lines shape width strips line)
+unfolding gathered
+gathered-line shape width strips given count line size lt high wide long is from =
+    let same : line * size + size - line * size ≡ size = omega arith in
+    let f = λ (k : ℕ). concat (strip_lines shape width strips k) in
+    let lines = map f (range_with_len 0 count) in
+    let counted : length lines ≡ count = length-map-range_with_len f 0 count in
+    let at : (k : ℕ) → k < count → get_or lines k [] ≡ f k = λ k h. get_or-map-range_with_len f 0 count k k [] h (omega arith) in
+    rw (same, from) (joined-part size lines line (record {
+      each = λ k h.
+          let below : k < count = omega arith in
+          ap length (at k below)
+          ∙ joined-length width (strip_lines shape width strips k)
+          (strip_lines-long shape width strips k (omega arith) wide long)
+          ∙ ap (λ m. m * width) (strip_lines-count shape width strips k) ∙ sym is;
+    }) (omega arith) ∙ at line lt)
 
 -- the first samples of the plane of the component in a slot
 abbrev pub first_samples : JointShape → List ℕ → ℕ → ℕ → List ℕ

@@ -1,5 +1,5 @@
 use Rattle.std.proofs.Common.{◌+◌, ◌*◌, ◌≤◌, ◌∙◌, length, arith, ap, take, drop, rules}
-use Rattle.std.proofs.Math.Nat.{mul-le-mul_right}
+use Rattle.std.proofs.lemmas.Nat.{row_fits}
 use Rattle.jpeg_pixels.specs.JointPlanes.{strip_lines}
 use Rattle.jpeg_pixels.proofs.JointRows.{joined-all, joined-put, strip-fits, strip_line}
 use Rattle.jpeg_pixels.proofs.joint_planes.JointPicture.gather_line.Goals as goal
@@ -18,7 +18,7 @@ loop-slot-preserved c =
     let shape = c.args.self.now.shape in
     let width = c.args.self.now.width in
     joined-put (strip_line shape width c.args.strips.now c.args.line) c.loop-slot.slot
-    width _ c.loop-slot.lines c.copy_from_slice.new.self (omega (arith, mul-le-mul_right width c.loop-slot-test.true)) (omega arith)
+    width _ c.loop-slot.lines c.copy_from_slice.new.self (omega (arith, row_fits c.loop-slot.slot width shape.count width c.loop-slot-test.true (omega arith))) (omega arith)
     (search rules) c.loop-slot.invariant
 
 pub returns : goal.returns
