@@ -1,17 +1,20 @@
 -- Rows of MCUs whose strips stand in one room: their lines, joined, and the plane of a component.
 use Rattle.std.proofs.lemmas.Grind.{common_steps, rows}
 use Rattle.std.proofs.Common.{◌≡◌, ℕ, zero, suc, ◌+◌, ◌-◌, ◌*◌, ◌/◌, ◌%◌, ◌<◌, ◌≤◌, List, [], ◌∷◌, ◌++◌, length, get_or, map}
-use Rattle.std.proofs.Common.{take, drop, ap, sym, refl, length-take, length-drop, ◌∙◌, slice_index, arith, rules}
-use Rattle.std.proofs.lemmas.List.{append-nil, take_all}
-use Rattle.std.proofs.lemmas.Nat.{row_fits}
+use Rattle.std.proofs.Common.{take, drop, ap, sym, refl, length-append, length-take, length-drop, ◌∙◌, slice_index, arith, rules}
+use Rattle.std.proofs.lemmas.List.{append-nil, get_or-append_right, get_or-drop, get_or-take, get_or_append_left, take_all}
+use Rattle.std.proofs.lemmas.Nat.{row_fits, div-mul-add, mod-mul-add}
+use Rattle.std.proofs.Math.Nat.{mul-div_cancel_left}
+use Rattle.std.proofs.lemmas.Bool.{cases_lt}
+use Rattle.std.proofs.Math.Logic.{⊎_elim}
 use Rattle.std.proofs.Math.Seq.{take-append_seam, drop-append-add}
 use Rattle.jpeg_pixels.specs.JointPlanes.{AreLong}
 use Rattle.jpeg_pixels.proofs.JoinedLines.{AreLong-more, joined-length}
-use Rattle.std.proofs.lemmas.List.FromFn.{length-map-range_with_len, get_or-map-range_with_len, map-range_with_len_more}
+use Rattle.std.proofs.lemmas.List.FromFn.{fill_by_all, length-map-range_with_len, get_or-map-range_with_len, map-range_with_len_more}
 use Rattle.std.proofs.lemmas.List.Folds.{concat-append}
 use Rattle.std.specs.List.{range_with_len, concat}
 use borrow.Rule.Slice.PartMut.{put_mid}
-use Rattle.jpeg_pixels.specs.JointPlanes.{gathered, strip_lines, strip_size, row_size}
+use Rattle.jpeg_pixels.specs.JointPlanes.{gathered, joint_plane, strip_lines, strip_size, row_size}
 use Rattle.jpeg_pixels.specs.declared.joint_planes.JointShape.{JointShape}
 use Rattle.jpeg_pixels.proofs.ComponentLines.{take-put}
 
@@ -106,3 +109,55 @@ abbrev pub first_samples : JointShape → List ℕ → ℕ → ℕ → List ℕ
 first_samples shape samples slot n =
     map (λ i. slice_index samples (i / strip_size shape * row_size shape + (slot * strip_size shape
     + i % strip_size shape))) (range_with_len 0 n)
+
+-- a strip is within the samples
+pub strip-in : (shape : JointShape) (row slot size row_long long : ℕ) → row < shape.rows → slot < shape.count
+    → size ≡ strip_size shape → row_long ≡ row_size shape → long ≡ shape.rows * row_size shape
+    → row * row_long + slot * size + size ≤ long
+strip-in shape row slot size row_long long h lt is_size is_row all =
+    let in_row : slot * strip_size shape + strip_size shape ≤ row_size shape =
+    row_fits slot (strip_size shape) shape.count _ lt (omega arith) in
+    let in_all : row * row_size shape + row_size shape ≤ shape.rows * row_size shape =
+    row_fits row (row_size shape) shape.rows _ h (omega arith) in
+    rw (is_size, is_row) (omega arith)
+
+-- one strip more of a plane
+pub samples-more : (shape : JointShape) (samples given plane : List ℕ) (slot row size row_long : ℕ) → row < shape.rows
+    → slot < shape.count → length samples ≡ shape.rows * row_size shape → size ≡ strip_size shape
+    → row_long ≡ row_size shape → given ≡ samples → plane ≡ first_samples shape samples slot (row * size)
+    → plane ++ take (row * row_long + slot * size + size - (row * row_long + slot * size))
+    (drop (row * row_long + slot * size) given) ≡ first_samples shape samples slot ((row + 1) * size)
+samples-more shape samples given plane slot row size row_long h lt long is_size is_row is before =
+    let start = row * row_long + slot * size in
+    let f = λ (i : ℕ). slice_index samples (i / strip_size shape * row_size shape + (slot * strip_size shape
+    + i % strip_size shape)) in
+    let same : start + size - start ≡ size = omega arith in
+    let all : row * size + size ≡ (row + 1) * size = omega arith in
+    let first : length plane ≡ row * size = ap length before ∙ length-map-range_with_len f 0 (row * size) in
+    let fits = strip-in shape row slot size row_long _ h lt is_size is_row long in
+    let strip = take size (drop start samples) in
+    let own : length strip ≡ size = simp (length-take, length-drop) (omega (arith, fits)) in
+    rw (same, is) (fill_by_all f (plane ++ strip) ((row + 1) * size) 0 (length-append plane strip ∙ omega arith)
+    (λ i below. ⊎_elim
+    (λ lower. get_or_append_left plane strip 0 i (omega arith) ∙ ap (λ (l : List ℕ). get_or l i 0) before
+    ∙ get_or-map-range_with_len f 0 (row * size) i i 0 lower (omega arith))
+    (λ upper.
+    let j = i - row * size in
+    let inside : j < size = omega arith in
+    let is_at : i ≡ row * size + j = omega arith in
+    let line : i / strip_size shape ≡ row = rw (← is_size) (ap (λ m. m / size) is_at ∙ div-mul-add row size j inside) in
+    let rest : i % strip_size shape ≡ j = rw (← is_size) (ap (λ m. m % size) is_at ∙ mod-mul-add row size j inside) in
+    get_or-append_right plane strip (row * size) i 0 first upper
+    ∙ get_or-take size (drop start samples) j 0 inside ∙ get_or-drop start samples j 0
+    ∙ rw (line, rest, is_row, is_size) (ap (λ m. get_or samples m 0) (omega arith)))
+    (cases_lt i (row * size))))
+
+-- all strips
+pub samples-all : (shape : JointShape) (samples : List ℕ) (slot : ℕ) → slot < shape.count
+    → length samples ≡ shape.rows * row_size shape
+    → first_samples shape samples slot (shape.rows * strip_size shape) ≡ joint_plane shape samples slot
+unfolding joint_plane
+samples-all shape samples slot lt long =
+    let some : 0 < shape.count = omega arith in
+    let e : shape.rows * row_size shape ≡ shape.count * (shape.rows * strip_size shape) = omega arith in
+    ap (first_samples shape samples slot) (sym (ap (λ n. n / shape.count) (long ∙ e) ∙ mul-div_cancel_left (shape.rows * strip_size shape) some))
