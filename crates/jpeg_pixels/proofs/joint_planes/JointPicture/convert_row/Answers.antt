@@ -1,7 +1,7 @@
-use Rattle.std.proofs.Common.{◌≡◌, ◌*◌, ◌∙◌, ℕ, List, take, drop, ap, arith, rules}
+use Rattle.std.proofs.Common.{◌*◌, arith}
 use Rattle.std.proofs.lemmas.Nat.{row_fits}
 use Rattle.jpeg_pixels.specs.Colour.{line_bytes}
-use Rattle.jpeg_pixels.specs.JointPlanes.{converted, gathered, strip_lines}
+use Rattle.jpeg_pixels.specs.JointPlanes.{converted, strip_lines}
 use Rattle.jpeg_pixels.proofs.FilledLines.{no-lines}
 use Rattle.jpeg_pixels.proofs.JointRows.{gathered-line, joined-put, strip_lines-count, strip_lines-long}
 use Rattle.jpeg_pixels.proofs.joint_planes.JointPicture.convert_row.Goals as goal

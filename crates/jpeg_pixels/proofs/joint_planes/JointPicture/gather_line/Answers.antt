@@ -1,4 +1,4 @@
-use Rattle.std.proofs.Common.{◌+◌, ◌*◌, ◌≤◌, ◌∙◌, length, arith, ap, take, drop, rules}
+use Rattle.std.proofs.Common.{length, arith, rules}
 use Rattle.std.proofs.lemmas.Nat.{row_fits}
 use Rattle.jpeg_pixels.specs.JointPlanes.{strip_lines}
 use Rattle.jpeg_pixels.proofs.JointRows.{joined-all, joined-put, strip-fits, strip_line}

@@ -1,5 +1,4 @@
-use Rattle.std.proofs.Common.{◌≡◌, ◌+◌, ◌*◌, ◌∙◌, length, arith, rules}
-use Rattle.jpeg_pixels.specs.JointPlanes.{strip_size}
+use Rattle.std.proofs.Common.{◌∙◌, length, arith, rules}
 use Rattle.jpeg_pixels.proofs.JointRows.{samples-all, samples-more, strip-in}
 use Rattle.jpeg_pixels.proofs.joint_planes.JointPlanes.plane.Goals as goal
 
