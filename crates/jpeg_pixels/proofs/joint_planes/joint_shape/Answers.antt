@@ -1,5 +1,5 @@
-use Rattle.std.proofs.Common.{◌≡◌, ◌*◌, List, [], ◌∷◌, map, All, Some, sym, subst, arith}
-use Rattle.std.specs.List.{slice_get}
+use Rattle.std.proofs.Common.{◌≡◌, ℕ, ◌*◌, ◌≤◌, List, [], ◌∷◌, map, All, Some, sym, subst, refl, arith}
+use Rattle.std.specs.List.{AllByRecursion, slice_get}
 use Rattle.std.proofs.lemmas.List.Elements.{All-map, All-weaker, recursion_from_All}
 use Rattle.std.proofs.lemmas.List.{length-map}
 use Rattle.std.proofs.lemmas.Nat.{mul-le}
@@ -7,59 +7,82 @@ use Rattle.jpeg_segments.specs.Frame as frames
 use Rattle.jpeg_segments.specs.Frame.{AllHaveSampling, HasSampling}
 use Rattle.jpeg_segments.specs.FrameView.{component_in}
 use Rattle.jpeg_segments.specs.declared.parser.Component.{Component}
-use Rattle.jpeg_pixels.specs.JointPlanes.{AreAlike, IsLike}
+use Rattle.jpeg_pixels.specs.JointPlanes.{IsLike}
 use Rattle.jpeg_pixels.proofs.joint_planes.joint_shape.Goals as goal
 
 -- the first component has sampling factors
-sampled : (components : List Component) (first : Component) → AllHaveSampling (map component_in components)
-    → slice_get components 0 ≡ Some first → HasSampling (component_in first)
+sampled : (components : List Component) (first : Component)
+    → AllHaveSampling (map component_in components) → Some first ≡ slice_get components 0
+    → HasSampling (component_in first)
 unfolding AllHaveSampling
 sampled [] first all is = absurd (cc)
-sampled (c ∷ more) first all is = subst (λ (x : Component). HasSampling (component_in x)) (cc) all.0
+sampled (c ∷ more) first all is =
+    subst (λ (x : Component). HasSampling (component_in x)) (cc) all.0
 
--- components like the first one are alike
-alike : (components : List Component) (first : Component) → All (IsLike first) components
-    → AreAlike (map component_in components) (first.block_size.width * first.dct_scale)
-alike components first all =
-    let Factors = λ (c : frames.Component). (c.factors.horizontal ≡ first.horizontal_sampling_factor)
-    × (c.factors.vertical ≡ first.vertical_sampling_factor) in
-    let Strides = λ (c : frames.Component). c.blocks_wide * c.scale ≡ first.block_size.width * first.dct_scale in
-    record {
-      horizontal = first.horizontal_sampling_factor;
-      vertical = first.vertical_sampling_factor;
-      factors = recursion_from_All Factors (map component_in components) (All-map Factors component_in components
-          (All-weaker (IsLike first) (λ c. Factors (component_in c)) (λ c is. (is.horizontal, is.vertical)) components all));
-      strides = recursion_from_All Strides (map component_in components) (All-map Strides component_in components
-          (All-weaker (IsLike first) (λ c. Strides (component_in c)) (λ c is. (λ i. is.wide i * is.scale i)) components all));
-    }
+-- the sizes of strips are small
+sizes : (components : List Component) (first : Component) (wide down rows : ℕ)
+    → AllHaveSampling (map component_in components) → Some first ≡ slice_get components 0
+    → wide ≤ 65535 → down ≡ first.vertical_sampling_factor → rows ≤ 65535
+    → (wide * first.dct_scale ≤ 524280) × (down * first.dct_scale ≤ 32)
+    × (rows * (down * first.dct_scale) ≤ 2097120)
+sizes components first wide down rows all is h same h' =
+    let some = sampled components first all is in
+    let high = mul-le down first.dct_scale 4 8 (omega (arith, some.vertical_most)) some.scale_most in (
+      mul-le wide first.dct_scale 65535 8 h some.scale_most,
+      high,
+      mul-le rows (down * first.dct_scale) 65535 32 h' high,
+    )
+
+-- what is true of each component like the first one
+each-like : (P : frames.Component → Type 0) (components : List Component) (first : Component)
+    → ((c : Component) → IsLike first c → P (component_in c)) → All (IsLike first) components
+    → AllByRecursion P (map component_in components)
+each-like P components first of all = recursion_from_All P (map component_in components)
+    (All-map P component_in components
+    (All-weaker (IsLike first) (λ c. P (component_in c)) of components all))
 
 pub overflow_mul-shape : goal.overflow_mul-shape
 overflow_mul-shape c =
-    let some = sampled c.args.components.now c.in_ok-first.first.now c.requires (sym c.in_ok-first.ensures.value) in
-    omega (arith, mul-le c.from.result c.in_ok-first.first.now.dct_scale 65535 8 (omega arith) some.scale_most)
+    let most = sizes c.args.components.now c.in_ok-first.first.now c.from.result _ 0 c.requires
+    c.in_ok-first.ensures.value (omega arith) refl (omega arith) in
+    omega arith
 
 pub overflow_mul-shape-2 : goal.overflow_mul-shape-2
 overflow_mul-shape-2 c =
-    let some = sampled c.args.components.now c.in_ok-first.first.now c.requires (sym c.in_ok-first.ensures.value) in
-    omega (arith, mul-le c.from-2.result c.in_ok-first.first.now.dct_scale 4 8 (omega (arith, some.vertical_most)) some.scale_most)
+    let most = sizes c.args.components.now c.in_ok-first.first.now c.from.result c.from-2.result 0
+    c.requires c.in_ok-first.ensures.value (omega arith) c.from-2.ensures (omega arith) in
+    omega arith
 
 pub overflow_mul-is_high : goal.overflow_mul-is_high
 overflow_mul-is_high c =
-    let some = sampled c.args.components.now c.in_ok-first.first.now c.requires (sym c.in_ok-first.ensures.value) in
-    let high = mul-le c.from-2.result c.in_ok-first.first.now.dct_scale 4 8 (omega (arith, some.vertical_most)) some.scale_most in
-    omega (arith, mul-le c.from-3.result (c.from-2.result * c.in_ok-first.first.now.dct_scale) 65535 32 (omega arith) high)
+    let most = sizes c.args.components.now c.in_ok-first.first.now c.from.result c.from-2.result
+    c.from-3.result c.requires c.in_ok-first.ensures.value (omega arith) c.from-2.ensures
+    (omega arith) in
+    omega arith
 
 pub returns-then-is_high : goal.returns-then-is_high
 returns-then-is_high c =
+    let components = c.args.components.now in
     let first = c.in_ok-first.first.now in
-    let some = sampled c.args.components.now first c.requires (sym c.in_ok-first.ensures.value) in
-    let wide = mul-le c.from.result first.dct_scale 65535 8 (omega arith) some.scale_most in
-    let high = mul-le c.from-2.result first.dct_scale 4 8 (omega (arith, some.vertical_most)) some.scale_most in
+    let most = sizes components first c.from.result c.from-2.result c.from-3.result c.requires
+    c.in_ok-first.ensures.value (omega arith) c.from-2.ensures (omega arith) in
+    let all = c.are_alike.ensures c.if-not-are_alike.false in
     record {
-      count = sym (length-map c.args.components.now component_in);
+      count = sym (length-map components component_in);
       some = omega arith;
-      small = record { count = omega arith; stride = omega (arith, wide); lines = omega (arith, high); rows = omega arith };
-      alike = rw c.from.ensures (alike c.args.components.now first (c.are_alike.ensures c.if-not-are_alike.false));
+      small = record {
+        count = omega arith;
+        stride = omega arith;
+        lines = omega arith;
+        rows = omega arith;
+      };
+      alike = record {
+        horizontal = first.horizontal_sampling_factor;
+        vertical = first.vertical_sampling_factor;
+        factors = each-like _ components first (λ x is. (is.horizontal, is.vertical)) all;
+        strides = rw c.from.ensures (each-like _ components first
+            (λ x is. (λ i. is.wide i * is.scale i)) all);
+      };
       wide = omega arith;
       high = omega arith;
     }

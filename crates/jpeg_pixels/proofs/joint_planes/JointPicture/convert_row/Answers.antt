@@ -3,7 +3,8 @@ use Rattle.std.proofs.lemmas.Nat.{row_fits}
 use Rattle.jpeg_pixels.specs.Colour.{line_bytes}
 use Rattle.jpeg_pixels.specs.JointPlanes.{converted, strip_lines}
 use Rattle.jpeg_pixels.proofs.FilledLines.{no-lines}
-use Rattle.jpeg_pixels.proofs.JointRows.{gathered-line, joined-put, strip_lines-count, strip_lines-long}
+use Rattle.jpeg_pixels.proofs.JointRows.{gathered-line, joined-put, strip_lines-count}
+use Rattle.jpeg_pixels.proofs.JointRows.{strip_lines-long}
 use Rattle.jpeg_pixels.proofs.joint_planes.JointPicture.convert_row.Goals as goal
 
 pub loop-line-init : goal.loop-line-init
@@ -14,15 +15,17 @@ pub loop-line-preserved : goal.loop-line-preserved
 unfolding converted
 loop-line-preserved c = λ strips long is.
     let shape = c.args.self.now.shape in
-    let room = row_fits c.loop-line.line c.line_size-size.result c.args.count (shape.count * c.args.self.now.width)
-    c.loop-line-test.true (omega arith) in
     let width = c.args.self.now.width in
-    joined-put (λ line. line_bytes c.args.self.now.color_convert width (strip_lines shape width strips line))
-    c.loop-line.line c.line_size-size.result _ c.loop-line.output c.convert_line.new.output
-    (omega (arith, room)) (omega arith)
-    (c.convert_line.ensures (strip_lines shape width strips c.loop-line.line)
-    (strip_lines-count shape width strips c.loop-line.line)
-    (strip_lines-long shape width strips c.loop-line.line (omega arith) c.args.self.now.wide long)
-    (gathered-line shape width strips c.args.lines.now c.args.count c.loop-line.line c.line_size-size.result
-    c.loop-line-test.true c.requires.count c.args.self.now.wide long c.line_size-size.ensures is))
+    let wide = c.args.self.now.wide in
+    let line = c.loop-line.line in
+    let size = c.line_size-size.result in
+    let room = row_fits line size c.args.count (shape.count * width) c.loop-line-test.true
+    (omega arith) in
+    joined-put (λ k. line_bytes c.args.self.now.color_convert width (strip_lines shape width strips k))
+    line size _ c.loop-line.output c.convert_line.new.output (omega (arith, room)) (omega arith)
+    (c.convert_line.ensures (strip_lines shape width strips line)
+    (strip_lines-count shape width strips line)
+    (strip_lines-long shape width strips line (omega arith) wide long)
+    (gathered-line shape width strips c.args.lines.now c.args.count line size
+    c.loop-line-test.true c.requires.count wide long c.line_size-size.ensures is))
     (c.loop-line.invariant strips long is)
