@@ -30,10 +30,13 @@ joined-more f n =
     ∙ ap (λ (l : List ℕ). joined f n ++ l) (append-nil (f n))
 
 -- one list more, written after those before it
-pub joined-put : (f : ℕ → List ℕ) (n line k : ℕ) (now new : List ℕ) → n * line ≤ length now
-    → length new ≡ line → new ≡ f n → take (n * line) now ≡ joined f n
+pub joined-put : (f : ℕ → List ℕ) (n all line size k : ℕ) (now new : List ℕ) → n < all
+    → line ≡ size → length now ≡ all * size → length new ≡ line → new ≡ f n
+    → take (n * line) now ≡ joined f n
     → take ((n + 1) * line) (put_mid (n * line) k now new) ≡ joined f (n + 1)
-joined-put f n line k now new room long is before = search (rules, joined-more, take-put)
+joined-put f n all line size k now new h same room long is before =
+    let fits = row_fits n line all size h (omega arith) in
+    search (rules, joined-more, take-put)
 
 -- all lists, written one after the other
 pub joined-all : (f : ℕ → List ℕ) (n all line : ℕ) (now : List ℕ) → n ≡ all

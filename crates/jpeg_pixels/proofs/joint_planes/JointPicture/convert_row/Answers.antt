@@ -19,10 +19,9 @@ loop-line-preserved c = λ strips long is.
     let wide = c.args.self.now.wide in
     let line = c.loop-line.line in
     let size = c.line_size-size.result in
-    let room = row_fits line size c.args.count (shape.count * width) c.loop-line-test.true
-    (omega arith) in
     joined-put (λ k. line_bytes c.args.self.now.color_convert width (strip_lines shape width strips k))
-    line size _ c.loop-line.output c.convert_line.new.output (omega (arith, room)) (omega arith)
+    line _ size _ _ c.loop-line.output c.convert_line.new.output c.loop-line-test.true
+    c.line_size-size.ensures (omega arith) (omega arith)
     (c.convert_line.ensures (strip_lines shape width strips line)
     (strip_lines-count shape width strips line)
     (strip_lines-long shape width strips line (omega arith) wide long)

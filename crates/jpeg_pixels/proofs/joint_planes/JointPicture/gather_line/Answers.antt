@@ -1,5 +1,4 @@
-use Rattle.std.proofs.Common.{arith, rules}
-use Rattle.std.proofs.lemmas.Nat.{row_fits}
+use Rattle.std.proofs.Common.{refl, arith, rules}
 use Rattle.jpeg_pixels.specs.JointPlanes.{strip_lines}
 use Rattle.jpeg_pixels.proofs.JointRows.{joined-all, joined-put, part-fits, strip_line}
 use Rattle.jpeg_pixels.proofs.joint_planes.JointPicture.gather_line.Goals as goal
@@ -15,18 +14,10 @@ slice_bounds-copy_from_slice-end-in-loop-slot c =
 
 pub loop-slot-preserved : goal.loop-slot-preserved
 loop-slot-preserved c =
-    let shape = c.args.self.now.shape in
-    let width = c.args.self.now.width in
-    let slot = c.loop-slot.slot in
-    let room = row_fits slot width shape.count width c.loop-slot-test.true (omega arith) in
-    joined-put (strip_line shape width c.args.strips.now c.args.line) slot width _ c.loop-slot.lines
-    c.copy_from_slice.new.self (omega (arith, room)) (omega arith) (search rules)
-    c.loop-slot.invariant
+    joined-put (strip_line c.args.self.now.shape c.args.self.now.width c.args.strips.now c.args.line)
+    c.loop-slot.slot _ c.args.self.now.width _ _ c.loop-slot.lines c.copy_from_slice.new.self
+    c.loop-slot-test.true refl (omega arith) (omega arith) (search rules) c.loop-slot.invariant
 
 pub returns : goal.returns
 unfolding strip_lines
-returns c =
-    let shape = c.args.self.now.shape in
-    let width = c.args.self.now.width in
-    joined-all (strip_line shape width c.args.strips.now c.args.line) c.loop-slot.slot shape.count
-    width c.loop-slot.lines (omega arith) (omega arith) c.loop-slot.invariant
+returns c = search (rules, joined-all)

@@ -1,5 +1,4 @@
-use Rattle.std.proofs.Common.{◌*◌, arith}
-use Rattle.std.proofs.lemmas.Nat.{row_fits}
+use Rattle.std.proofs.Common.{arith, rules}
 use Rattle.std.specs.List.{concat}
 use Rattle.jpeg_pixels.specs.JointPlanes.{gathered, strip_lines}
 use Rattle.jpeg_pixels.proofs.FilledLines.{no-lines}
@@ -8,17 +7,11 @@ use Rattle.jpeg_pixels.proofs.joint_planes.JointPicture.gather_row.Goals as goal
 
 pub loop-line-init : goal.loop-line-init
 unfolding gathered
-loop-line-init c = no-lines c.line_size-size.result c.args.lines.now
+loop-line-init c = search (rules, no-lines)
 
 pub loop-line-preserved : goal.loop-line-preserved
 unfolding gathered
 loop-line-preserved c =
-    let shape = c.args.self.now.shape in
-    let width = c.args.self.now.width in
-    let line = c.loop-line.line in
-    let size = c.line_size-size.result in
-    let room = row_fits line size c.args.count (shape.count * width) c.loop-line-test.true
-    (omega arith) in
-    joined-put (λ k. concat (strip_lines shape width c.args.strips.now k)) line size _
-    c.loop-line.lines c.gather_line.new.lines (omega (arith, room)) (omega arith)
-    c.gather_line.ensures c.loop-line.invariant
+    joined-put (λ line. concat (strip_lines c.args.self.now.shape c.args.self.now.width c.args.strips.now line))
+    c.loop-line.line _ c.line_size-size.result _ _ c.loop-line.lines c.gather_line.new.lines
+    c.loop-line-test.true c.line_size-size.ensures (omega arith) (omega arith) c.gather_line.ensures c.loop-line.invariant
