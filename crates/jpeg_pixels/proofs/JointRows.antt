@@ -1,12 +1,12 @@
 -- Rows of MCUs whose strips are in one room: their lines, joined, and the plane of a component.
 use Rattle.std.proofs.Common.{◌≡◌, ℕ, zero, suc, ◌+◌, ◌-◌, ◌*◌, ◌/◌, ◌%◌, ◌<◌, ◌≤◌, List, [], ◌∷◌}
-use Rattle.std.proofs.Common.{◌++◌, length, get_or, map, take, drop, ap, sym, refl, ◌∙◌, slice_index}
-use Rattle.std.proofs.Common.{append_assoc, length-append, length-take, length-drop, arith, rules}
+use Rattle.std.proofs.Common.{◌++◌, length, get_or, map, take, drop, ap, sym, ◌∙◌, slice_index}
+use Rattle.std.proofs.Common.{length-append, length-take, length-drop, arith, rules}
 use Rattle.std.proofs.lemmas.Grind.{elements}
 use Rattle.std.proofs.lemmas.List.{append-nil, get_or-drop, get_or-take, take_all}
 use Rattle.std.proofs.lemmas.List.Folds.{concat-append}
-use Rattle.std.proofs.lemmas.List.FromFn.{fill_by_all, get_or-map-range_with_len}
-use Rattle.std.proofs.lemmas.List.FromFn.{length-map-range_with_len, map-range_with_len_more}
+use Rattle.std.proofs.lemmas.List.FromFn.{get_or-map-range_with_len, length-map-range_with_len}
+use Rattle.std.proofs.lemmas.List.FromFn.{map-range_with_len_more}
 use Rattle.std.proofs.lemmas.Nat.{div-mul-add, mod-mul-add, row_fits}
 use Rattle.std.proofs.Math.Nat.{mul-div_cancel_left}
 use Rattle.std.proofs.Math.Seq.{drop-append-add, take-append_seam}
@@ -61,7 +61,7 @@ joined-part n (l ∷ lines) (suc k) long h =
 pub part-fits : (row rows part parts size : ℕ) → row < rows → part < parts
     → row * (parts * size) + part * size + size ≤ rows * (parts * size)
 part-fits row rows part parts size h lt =
-    let inner : part * size + size ≤ parts * size = row_fits part size parts size lt (omega arith) in
+    let inner = row_fits part size parts size lt (omega arith) in
     omega (arith, row_fits row (parts * size) rows (parts * size) h (omega arith))
 
 -- the part of a line that a strip has
@@ -139,8 +139,9 @@ samples-more shape samples given plane slot row size long h lt whole is_size is_
     let all : (row + 1) * n ≡ row * n + n = omega arith in
     let same : start + n - start ≡ n = omega arith in
     let fits = part-fits row shape.rows slot shape.count n h lt in
-    rw (is_size, is_long, is, same, all) (values-more f plane (take n (drop start samples)) (row * n) n
-    (rw is_size at before) (simp (length-take, length-drop) (omega (arith, fits)))
+    rw (is_size, is_long, is, same, all)
+    (values-more f plane (take n (drop start samples)) (row * n) n (rw is_size at before)
+    (simp (length-take, length-drop) (omega (arith, fits)))
     (λ k below. get_or-take n (drop start samples) k 0 below ∙ get_or-drop start samples k 0
     ∙ rw (div-mul-add row n k below, mod-mul-add row n k below)
     (ap (λ m. get_or samples m 0) (omega arith))))
@@ -148,7 +149,8 @@ samples-more shape samples given plane slot row size long h lt whole is_size is_
 -- all strips
 pub samples-all : (shape : JointShape) (samples : List ℕ) (slot : ℕ) → slot < shape.count
     → length samples ≡ shape.rows * row_size shape
-    → first_samples shape samples slot (shape.rows * strip_size shape) ≡ joint_plane shape samples slot
+    → first_samples shape samples slot (shape.rows * strip_size shape)
+    ≡ joint_plane shape samples slot
 unfolding joint_plane
 samples-all shape samples slot lt long =
     let some : 0 < shape.count = omega arith in

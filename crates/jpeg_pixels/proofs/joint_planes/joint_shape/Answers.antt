@@ -1,4 +1,4 @@
-use Rattle.std.proofs.Common.{◌≡◌, ℕ, ◌*◌, ◌≤◌, List, [], ◌∷◌, map, All, Some, sym, subst, refl, arith}
+use Rattle.std.proofs.Common.{◌≡◌, ◌*◌, List, [], ◌∷◌, map, All, Some, sym, subst, arith, rules}
 use Rattle.std.specs.List.{AllByRecursion, slice_get}
 use Rattle.std.proofs.lemmas.List.Elements.{All-map, All-weaker, recursion_from_All}
 use Rattle.std.proofs.lemmas.List.{length-map}
@@ -19,20 +19,6 @@ sampled [] first all is = absurd (cc)
 sampled (c ∷ more) first all is =
     subst (λ (x : Component). HasSampling (component_in x)) (cc) all.0
 
--- the sizes of strips are small
-sizes : (components : List Component) (first : Component) (wide down rows : ℕ)
-    → AllHaveSampling (map component_in components) → Some first ≡ slice_get components 0
-    → wide ≤ 65535 → down ≡ first.vertical_sampling_factor → rows ≤ 65535
-    → (wide * first.dct_scale ≤ 524280) × (down * first.dct_scale ≤ 32)
-    × (rows * (down * first.dct_scale) ≤ 2097120)
-sizes components first wide down rows all is h same h' =
-    let some = sampled components first all is in
-    let high = mul-le down first.dct_scale 4 8 (omega (arith, some.vertical_most)) some.scale_most in (
-      mul-le wide first.dct_scale 65535 8 h some.scale_most,
-      high,
-      mul-le rows (down * first.dct_scale) 65535 32 h' high,
-    )
-
 -- what is true of each component like the first one
 each-like : (P : frames.Component → Type 0) (components : List Component) (first : Component)
     → ((c : Component) → IsLike first c → P (component_in c)) → All (IsLike first) components
@@ -43,39 +29,32 @@ each-like P components first of all = recursion_from_All P (map component_in com
 
 pub overflow_mul-shape : goal.overflow_mul-shape
 overflow_mul-shape c =
-    let most = sizes c.args.components.now c.in_ok-first.first.now c.from.result _ 0 c.requires
-    c.in_ok-first.ensures.value (omega arith) refl (omega arith) in
-    omega arith
+    let some = sampled c.args.components.now _ c.requires c.in_ok-first.ensures.value in
+    omega (arith, mul-le c.from.result _ 65535 8 (omega arith) some.scale_most)
 
 pub overflow_mul-shape-2 : goal.overflow_mul-shape-2
 overflow_mul-shape-2 c =
-    let most = sizes c.args.components.now c.in_ok-first.first.now c.from.result c.from-2.result 0
-    c.requires c.in_ok-first.ensures.value (omega arith) c.from-2.ensures (omega arith) in
-    omega arith
+    let some = sampled c.args.components.now _ c.requires c.in_ok-first.ensures.value in
+    omega (arith, mul-le c.from-2.result _ 4 8 (omega arith) some.scale_most)
 
 pub overflow_mul-is_high : goal.overflow_mul-is_high
 overflow_mul-is_high c =
-    let most = sizes c.args.components.now c.in_ok-first.first.now c.from.result c.from-2.result
-    c.from-3.result c.requires c.in_ok-first.ensures.value (omega arith) c.from-2.ensures
-    (omega arith) in
-    omega arith
+    let some = sampled c.args.components.now _ c.requires c.in_ok-first.ensures.value in
+    let high = mul-le c.from-2.result _ 4 8 (omega arith) some.scale_most in
+    omega (arith, mul-le c.from-3.result _ 65535 32 (omega arith) high)
 
 pub returns-then-is_high : goal.returns-then-is_high
 returns-then-is_high c =
     let components = c.args.components.now in
     let first = c.in_ok-first.first.now in
-    let most = sizes components first c.from.result c.from-2.result c.from-3.result c.requires
-    c.in_ok-first.ensures.value (omega arith) c.from-2.ensures (omega arith) in
+    let some = sampled components first c.requires c.in_ok-first.ensures.value in
+    let wide = mul-le c.from.result _ 65535 8 (omega arith) some.scale_most in
+    let high = mul-le c.from-2.result _ 4 8 (omega arith) some.scale_most in
     let all = c.are_alike.ensures c.if-not-are_alike.false in
     record {
       count = sym (length-map components component_in);
       some = omega arith;
-      small = record {
-        count = omega arith;
-        stride = omega arith;
-        lines = omega arith;
-        rows = omega arith;
-      };
+      small = search rules;
       alike = record {
         horizontal = first.horizontal_sampling_factor;
         vertical = first.vertical_sampling_factor;

@@ -1,5 +1,4 @@
-use Rattle.std.proofs.Common.{◌*◌, arith}
-use Rattle.std.proofs.lemmas.Nat.{row_fits}
+use Rattle.std.proofs.Common.{arith}
 use Rattle.jpeg_pixels.specs.Colour.{line_bytes}
 use Rattle.jpeg_pixels.specs.JointPlanes.{converted, strip_lines}
 use Rattle.jpeg_pixels.proofs.FilledLines.{no-lines}
@@ -19,8 +18,9 @@ loop-line-preserved c = λ strips long is.
     let wide = c.args.self.now.wide in
     let line = c.loop-line.line in
     let size = c.line_size-size.result in
-    joined-put (λ k. line_bytes c.args.self.now.color_convert width (strip_lines shape width strips k))
-    line _ size _ _ c.loop-line.output c.convert_line.new.output c.loop-line-test.true
+    let convert = c.args.self.now.color_convert in
+    joined-put (λ k. line_bytes convert width (strip_lines shape width strips k)) line _ size _ _
+    c.loop-line.output c.convert_line.new.output c.loop-line-test.true
     c.line_size-size.ensures (omega arith) (omega arith)
     (c.convert_line.ensures (strip_lines shape width strips line)
     (strip_lines-count shape width strips line)

@@ -5,4 +5,5 @@ use Rattle.jpeg_pixels.proofs.joint_planes.JointPicture.convert_row.Given as goa
 abbrev pub invariant-loop-line : goal.invariant-loop-line
 invariant-loop-line l = (strips : List ℕ) → length strips ≡ row_size l.self.shape
     → l.lines ≡ gathered l.self.shape l.self.width strips l.count
-    → take (l.line * l.size) l.output ≡ converted l.self.color_convert l.self.shape l.self.width strips l.line
+    → take (l.line * l.size) l.output
+    ≡ converted l.self.color_convert l.self.shape l.self.width strips l.line

@@ -14,7 +14,8 @@ slice_bounds-copy_from_slice-end-in-loop-slot c =
 
 pub loop-slot-preserved : goal.loop-slot-preserved
 loop-slot-preserved c =
-    joined-put (strip_line c.args.self.now.shape c.args.self.now.width c.args.strips.now c.args.line)
+    let shape = c.args.self.now.shape in
+    joined-put (strip_line shape c.args.self.now.width c.args.strips.now c.args.line)
     c.loop-slot.slot _ c.args.self.now.width _ _ c.loop-slot.lines c.copy_from_slice.new.self
     c.loop-slot-test.true refl (omega arith) (omega arith) (search rules) c.loop-slot.invariant
 

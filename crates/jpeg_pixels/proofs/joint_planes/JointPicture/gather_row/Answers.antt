@@ -12,6 +12,8 @@ loop-line-init c = search (rules, no-lines)
 pub loop-line-preserved : goal.loop-line-preserved
 unfolding gathered
 loop-line-preserved c =
-    joined-put (λ line. concat (strip_lines c.args.self.now.shape c.args.self.now.width c.args.strips.now line))
+    let strips = strip_lines c.args.self.now.shape c.args.self.now.width c.args.strips.now in
+    joined-put (λ line. concat (strips line))
     c.loop-line.line _ c.line_size-size.result _ _ c.loop-line.lines c.gather_line.new.lines
-    c.loop-line-test.true c.line_size-size.ensures (omega arith) (omega arith) c.gather_line.ensures c.loop-line.invariant
+    c.loop-line-test.true c.line_size-size.ensures (omega arith) (omega arith)
+    c.gather_line.ensures c.loop-line.invariant
