@@ -10,7 +10,7 @@ use Rattle.std.specs.List.{concat}
 use borrow.Rule.Slice.PartMut.{put_mid}
 use Rattle.jpeg_pixels.specs.Upsampling.{upsampled}
 use Rattle.jpeg_pixels.specs.Pictures.{Source, Covers, AllCover, line_of, lines_of}
-use Rattle.jpeg_pixels.proofs.JoinedLines.{AreLong}
+use Rattle.jpeg_pixels.specs.JointPlanes.{AreLong}
 
 pub lines_of-length : (sources : List Source) (planes : List (List ℕ)) (width row : ℕ) → length planes ≡ length sources
     → length (lines_of sources planes width row) ≡ length sources

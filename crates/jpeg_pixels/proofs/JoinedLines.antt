@@ -5,12 +5,9 @@ use Rattle.std.proofs.lemmas.List.{ext_get_or, get_or-append_right, get_or_appen
 use Rattle.std.proofs.lemmas.List.FromFn.{length-map-range_with_len, get_or-map-range_with_len}
 use Rattle.std.proofs.Math.Nat.{mul_comm, div-lt_iff_lt-mul, mod-lt, div-add-mod}
 use Rattle.std.specs.List.{range_with_len, concat}
+use Rattle.jpeg_pixels.specs.JointPlanes.{AreLong}
 
--- each line has n entries
-pub record AreLong (n : ℕ) (lines : List (List ℕ)) : Type 0 where
-  pub each : (k : ℕ) → k < length lines → length (get_or lines k []) ≡ n
-
-AreLong-more : (n : ℕ) (l : List ℕ) (lines : List (List ℕ)) → AreLong n (l ∷ lines) → AreLong n lines
+pub AreLong-more : (n : ℕ) (l : List ℕ) (lines : List (List ℕ)) → AreLong n (l ∷ lines) → AreLong n lines
 AreLong-more n l lines long = record { each = λ k h. long.each (suc k) (omega arith) }
 
 pub joined-length : (n : ℕ) (lines : List (List ℕ)) → AreLong n lines → length (concat lines) ≡ length lines * n

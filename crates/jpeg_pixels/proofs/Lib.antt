@@ -24,6 +24,7 @@ pub mod GivenRows
 pub mod Greys
 pub mod Growing
 pub mod JoinedLines
+pub mod JointRows
 pub mod LinesOfColour
 pub mod Pieces
 pub mod PlaneRows

@@ -6,7 +6,8 @@ use Rattle.std.proofs.Math.Seq.{take-length}
 use Rattle.std.specs.List.{concat}
 use Rattle.jpeg_pixels.specs.Colour.{red_of, green_of, blue_of, colour_of, line_bytes}
 use Rattle.jpeg_pixels.specs.declared.upsampler.ColorConvert.TheVariants as converts
-use Rattle.jpeg_pixels.proofs.JoinedLines.{AreLong, by_pixels, sample-at}
+use Rattle.jpeg_pixels.specs.JointPlanes.{AreLong}
+use Rattle.jpeg_pixels.proofs.JoinedLines.{by_pixels, sample-at}
 use Rattle.std.proofs.lemmas.Bool.Decides.{nat_tests}
 
 abbrev samples : List (List ℕ) → ℕ → List ℕ

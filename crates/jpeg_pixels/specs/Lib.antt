@@ -14,3 +14,4 @@ pub mod PicturesView
 pub mod Workers
 pub mod GrowingView
 pub mod ShortRows
+pub mod JointPlanes

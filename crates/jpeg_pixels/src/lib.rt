@@ -7,6 +7,7 @@ mod color_rows;
 mod color_tests;
 mod growing_plane;
 pub mod idct;
+pub mod joint_planes;
 pub mod laws;
 mod picture_lines;
 pub mod plane;

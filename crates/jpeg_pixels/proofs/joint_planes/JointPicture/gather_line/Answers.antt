@@ -1,0 +1,24 @@
+use Rattle.std.proofs.Common.{refl, arith, rules}
+use Rattle.jpeg_pixels.specs.JointPlanes.{strip_lines}
+use Rattle.jpeg_pixels.proofs.JointRows.{joined-all, joined-put, part-fits, strip_line}
+use Rattle.jpeg_pixels.proofs.joint_planes.JointPicture.gather_line.Goals as goal
+
+pub slice_bounds-copy_from_slice-end-in-loop-slot :
+    goal.slice_bounds-copy_from_slice-end-in-loop-slot
+slice_bounds-copy_from_slice-end-in-loop-slot c =
+    let shape = c.args.self.now.shape in
+    let fits = part-fits c.loop-slot.slot shape.count c.args.line shape.lines shape.stride
+    c.loop-slot-test.true c.requires.line in
+    let same = rw (← c.requires.strips, ← c.strip_size.ensures) at fits in
+    omega (arith, same)
+
+pub loop-slot-preserved : goal.loop-slot-preserved
+loop-slot-preserved c =
+    let shape = c.args.self.now.shape in
+    joined-put (strip_line shape c.args.self.now.width c.args.strips.now c.args.line)
+    c.loop-slot.slot _ c.args.self.now.width _ _ c.loop-slot.lines c.copy_from_slice.new.self
+    c.loop-slot-test.true refl (omega arith) (omega arith) (search rules) c.loop-slot.invariant
+
+pub returns : goal.returns
+unfolding strip_lines
+returns c = search (rules, joined-all)
