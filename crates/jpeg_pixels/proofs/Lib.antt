@@ -23,6 +23,7 @@ pub mod GivenRows
 pub mod Greys
 pub mod Growing
 pub mod JoinedLines
+pub mod JointPictures
 pub mod LinesOfColour
 pub mod Pieces
 pub mod PlaneRows
