@@ -143,3 +143,11 @@ lines-inside shape width height row start count size long wide first some is lt 
     let next : (row + 1) * row_size shape ≤ shape.rows * row_size shape = mul-le-mul_right (row_size shape) (omega arith)
     in
     omega (arith, lines-end shape width height row start count size wide first some is)
+
+-- and in a picture of this height
+pub lines-fit : (height row lines start count size line long : ℕ) → start ≡ min height (row * lines)
+    → count ≡ min lines (height - row * lines) → size ≡ line → long ≡ height * line
+    → start * size + count * size ≤ long
+lines-fit height row lines start count size line long first some is whole =
+    let within : start + count ≤ height = omega arith in
+    rw whole (rw (← is) (omega (arith, add-mul start count size, mul-le-mul_right size within)))
