@@ -1,4 +1,5 @@
 use Rattle.std.proofs.Common.{◌≡◌, ℕ, ◌*◌, length, arith, rules, ◌∙◌, sym, refl, length-drop, length-take}
+use Rattle.std.proofs.lemmas.Grind.{common_steps}
 use Rattle.std.proofs.lemmas.List.{take_all}
 use Rattle.jpeg_pixels.specs.JointPlanes.{joint_bytes}
 use Rattle.jpeg_pixels.proofs.JointPictures.{all-written, converted-row, lines-fit, strips-inside, written-more}
@@ -27,7 +28,7 @@ slice_bounds-convert_row-end c =
     (c.loop-row.auto.picture ∙ c.requires.room)
 
 pub convert_row-requires-clause-lines : goal.convert_row-requires-clause-lines
-convert_row-requires-clause-lines c = ?
+convert_row-requires-clause-lines c = grind (arith, common_steps, length-take)
 
 pub loop-row-preserved : goal.loop-row-preserved
 loop-row-preserved c =
