@@ -1,18 +1,28 @@
 -- The picture of planes in one room: row of MCUs by row of MCUs.
 use Rattle.std.proofs.Common.{◌≡◌, ℕ, zero, suc, ◌+◌, ◌-◌, ◌*◌, ◌/◌, ◌%◌, ◌<◌, ◌≤◌, List, [], ◌∷◌, ◌++◌, length, map}
-use Rattle.std.proofs.Common.{min, take, drop, ap, ◌∙◌, sym, refl, arith, rules, append_assoc, length-drop, subst}
-use Rattle.std.proofs.Math.Nat.{add-mul, mul_assoc, mul_comm, mul-le-mul, mul-le-mul_left, mul-le-mul_right}
-use Rattle.std.proofs.lemmas.List.{append-nil, drop-drop, length-take-le}
+use Rattle.std.proofs.Common.{min, take, drop, ap, ◌∙◌, sym, refl, arith, rules, append_assoc, length-drop, subst, get_or, Result, Ok, Some}
+use Rattle.std.proofs.Math.Nat.{add-mul, lt_of_mul-lt-mul_left, mod-lt, mul_assoc, mul_comm, mul-div_cancel_left, mul-le-mul, mul-le-mul_left, mul-le-mul_right}
+use Rattle.std.proofs.lemmas.List.{append-nil, drop-drop, get_or-drop, get_or-take, length-take-le}
 use Rattle.std.proofs.lemmas.List.Folds.{concat-append}
-use Rattle.std.proofs.lemmas.List.FromFn.{map-range_with_len_more}
-use Rattle.std.proofs.lemmas.Nat.{div-mul-add, mod-mul-add, row_fits}
+use Rattle.std.proofs.lemmas.List.FromFn.{fill_by_all, length-map-range_with_len, get_or-map-range_with_len, map-range_with_len_more}
+use Rattle.std.proofs.lemmas.Nat.{div-mul-add, mod-mul-add, div-add-mod', div_below, mul-add-lt, row_fits}
 use Rattle.std.proofs.lemmas.Slice.{take-put_mid, drop-put_mid}
-use Rattle.std.specs.List.{concat, range_with_len}
+use Rattle.std.proofs.lemmas.Bool.{eq-eqb}
+use Rattle.std.specs.List.{AllByRecursion, concat, range_with_len}
 use borrow.Rule.Slice.PartMut.{put_mid}
-use Rattle.jpeg_pixels.specs.Colour.{line_bytes}
-use Rattle.jpeg_pixels.specs.JointPlanes.{converted, gathered, joint_bytes, row_size, strip_lines, strips_at}
+use Rattle.jpeg_bits.specs.Reading.{Fault}
+use Rattle.jpeg_bits.specs.declared.color_transform.ColorTransform.{ColorTransform}
+use Rattle.jpeg_segments.specs.Frame.{AllHaveSampling, Component, Factors, greatest}
+use Rattle.jpeg_pixels.specs.Colour.{conversion_of, line_bytes}
+use Rattle.jpeg_pixels.specs.JointPlanes.{AreAlike, IsShapeOf, converted, gathered, joint_bytes, joint_plane, joint_planes, row_size}
+use Rattle.jpeg_pixels.specs.JointPlanes.{strip_lines, strip_size, strips_at}
+use Rattle.jpeg_pixels.specs.Pictures.{Source, all_factors, image_of, line_of, lines_of, picture_bytes, picture_line, sources_by, sources_of}
+use Rattle.jpeg_pixels.specs.Upsampling.{rule_of, upsampled}
+use Rattle.jpeg_pixels.specs.declared.upsampler.UpsampleRule.TheVariants.{H1V1}
 use Rattle.jpeg_pixels.specs.declared.joint_planes.JointShape.{JointShape}
 use Rattle.jpeg_pixels.specs.declared.upsampler.ColorConvert.{ColorConvert}
+use Rattle.jpeg_pixels.proofs.ComponentLines.{line_by_samples}
+use Rattle.jpeg_pixels.proofs.WholePictures.{image-is}
 
 -- ---- lines one after the other
 
@@ -41,7 +51,21 @@ concat-rows f g a (suc n) same =
     rw end (concat-more f (a + n) ∙ cc (front, here, more, append_assoc (concat (map f (range_with_len 0 a)))
     (concat (map g (range_with_len 0 n))) (g n)))
 
+-- the same lines
+same-lines : (f g : ℕ → List ℕ) (n : ℕ) → ((k : ℕ) → k < n → f k ≡ g k)
+    → concat (map f (range_with_len 0 n)) ≡ concat (map g (range_with_len 0 n))
+same-lines f g n same =
+    ap concat (fill_by_all g (map f (range_with_len 0 n)) n [] (length-map-range_with_len f 0 n)
+    (λ k h. get_or-map-range_with_len f 0 n k k [] h (omega arith) ∙ same k h))
+
 -- ---- rows of MCUs
+
+strips-long : (shape : JointShape) (samples : List ℕ) (row : ℕ) → row < shape.rows
+    → length samples ≡ shape.rows * row_size shape → length (strips_at shape samples row) ≡ row_size shape
+strips-long shape samples row lt full =
+    let inside = row_fits row (row_size shape) shape.rows (row_size shape) lt (omega arith) in
+    length-take-le (row_size shape) (drop (row * row_size shape) samples) (omega (arith, length-drop
+    (row * row_size shape) samples))
 
 lines-more : (height row lines : ℕ)
     → min height ((row + 1) * lines) ≡ min height (row * lines) + min lines (height - row * lines)
@@ -96,12 +120,8 @@ pub converted-row : (convert : ColorConvert) (shape : JointShape) (width row fir
     → new ≡ converted convert shape width strips count)
     → new ≡ converted convert shape width (strips_at shape samples row) count
 converted-row convert shape width row first size count room samples lines new e f lt full same read made =
-    let inside = row_fits row (row_size shape) shape.rows (row_size shape) lt (omega arith) in
     let some : row * first + size - row * first ≡ row_size shape = omega arith in
-    made (strips_at shape samples row)
-    (length-take-le (row_size shape) (drop (row * row_size shape) samples) (omega (arith, length-drop
-    (row * row_size shape) samples)))
-    (read ∙ cc)
+    made (strips_at shape samples row) (strips-long shape samples row lt full) (read ∙ cc)
 
 -- and the strips after them are as they were
 pub unread-more : (shape : JointShape) (row start k : ℕ) (room samples new : List ℕ)
@@ -151,3 +171,145 @@ pub lines-fit : (height row lines start count size line long : ℕ) → start �
 lines-fit height row lines start count size line long first some is whole =
     let within : start + count ≤ height = omega arith in
     rw whole (rw (← is) (omega (arith, add-mul start count size, mul-le-mul_right size within)))
+
+-- ---- sources of components alike
+
+-- the samples of a component are those of the picture
+abbrev plain : Component → Source
+plain c = record { rule = H1V1; width = c.width; height = c.height; stride = c.blocks_wide * c.scale }
+
+abbrev as_all : List Source → Result (List Source) Fault
+as_all l = Ok l
+
+-- the greatest factor is the one that all have
+greatest-alike : (f : Factors → ℕ) (n : ℕ) (P : Component → Type 0) → ((c : Component) → P c → f c.factors ≡ n) → 1 ≤ n
+    → (c : Component) (more : List Component) → P c → AllByRecursion P more → greatest f (all_factors (c ∷ more)) ≡ n
+greatest-alike f n P each some c [] here all = let e = each c here in omega arith
+greatest-alike f n P each some c (d ∷ more) here all =
+    let e = each c here in
+    let rest = greatest-alike f n P each some d more all.0 all.1 in
+    omega arith
+
+rule-plain : (h v width height : ℕ) → rule_of h v h v width height ≡ Some H1V1
+unfolding rule_of
+rule-plain h v width height = rw (eq-eqb h h refl, eq-eqb v v refl) refl
+
+sources-plain : (h v width height : ℕ) (cs : List Component)
+    → AllByRecursion (λ c. (c.factors.horizontal ≡ h) × (c.factors.vertical ≡ v)) cs
+    → sources_by h v width height cs ≡ as_all (map plain cs)
+unfolding sources_by
+sources-plain h v width height [] all = refl
+sources-plain h v width height (c ∷ more) all =
+    rw (all.0.0, all.0.1, rule-plain h v width height, sources-plain h v width height more all.1) refl
+
+sources-alike : (components : List Component) (width height stride : ℕ) → 0 < length components
+    → AllHaveSampling components → AreAlike components stride
+    → sources_of components width height ≡ as_all (map plain components)
+unfolding AllHaveSampling
+sources-alike [] width height stride some factors alike = absurd (omega arith)
+sources-alike (c ∷ more) width height stride some factors alike =
+    let P = λ (d : Component). (d.factors.horizontal ≡ alike.horizontal) × (d.factors.vertical ≡ alike.vertical) in
+    let here = alike.factors.0 in
+    let sampling = factors.0 in
+    let h = greatest-alike (λ f. f.horizontal) alike.horizontal P (λ d e. e.0) (omega (arith, here.0,
+    sampling.horizontal_some)) c more here alike.factors.1 in
+    let v = greatest-alike (λ f. f.vertical) alike.vertical P (λ d e. e.1) (omega (arith, here.1,
+    sampling.vertical_some)) c more here alike.factors.1 in
+    (λ i. sources_by (h i) (v i) width height (c ∷ more))
+    ∙ sources-plain alike.horizontal alike.vertical width height (c ∷ more) alike.factors
+
+-- ---- lines of planes in one room
+
+-- the sample of a plane
+plane-at : (shape : JointShape) (samples : List ℕ) (slot row line x : ℕ) → slot < shape.count → row < shape.rows
+    → line < shape.lines → x < shape.stride → length samples ≡ shape.rows * row_size shape
+    → get_or (joint_plane shape samples slot) ((row * shape.lines + line) * shape.stride + x) 0
+    ≡ get_or samples (row * row_size shape + (slot * strip_size shape + (line * shape.stride + x))) 0
+unfolding joint_plane
+plane-at shape samples slot row line x inside lt below left full =
+    let size = strip_size shape in
+    let rest : line * shape.stride + x < size = omega (arith, mul-add-lt line shape.stride x shape.lines below left) in
+    let index : (row * shape.lines + line) * shape.stride + x ≡ row * size + (line * shape.stride + x) =
+    omega (arith, add-mul, mul_assoc) in
+    let turned : shape.rows * row_size shape ≡ shape.count * (shape.rows * size) = search (rules, mul_assoc, mul_comm) in
+    let all : length samples ≡ shape.count * (shape.rows * size) = cc in
+    let some : length samples / shape.count ≡ shape.rows * size =
+    ap (λ n. n / shape.count) all ∙ mul-div_cancel_left (shape.rows * size) (omega arith) in
+    let place = row * size + (line * shape.stride + x) in
+    rw (index, some) (get_or-map-range_with_len _ 0 (shape.rows * size) place place 0
+    (omega (arith, mul-add-lt row size (line * shape.stride + x) shape.rows lt rest)) (omega arith)
+    ∙ rw (div-mul-add row size (line * shape.stride + x) rest, mod-mul-add row size (line * shape.stride + x) rest) refl)
+
+-- a line of a component is the part of it that its strip has
+line-plain : (shape : JointShape) (samples : List ℕ) (width row slot : ℕ) (c : Component)
+    → c.blocks_wide * c.scale ≡ shape.stride → slot < shape.count → width ≤ shape.stride
+    → row < shape.rows * shape.lines → length samples ≡ shape.rows * row_size shape
+    → line_of (plain c) (joint_plane shape samples slot) width row
+    ≡ take width (drop (slot * strip_size shape + row % shape.lines * shape.stride)
+    (strips_at shape samples (row / shape.lines)))
+unfolding upsampled
+line-plain shape samples width row slot c stride inside wide lt full =
+    let lines = shape.lines in
+    let none : shape.rows * 0 ≡ 0 = omega arith in
+    let some : 0 < lines = lt_of_mul-lt-mul_left shape.rows (omega arith) in
+    let mcu : row / lines < shape.rows = div_below row lines shape.rows some lt in
+    let line : row % lines < lines = mod-lt row some in
+    let first = slot * strip_size shape + row % lines * shape.stride in
+    let strips = strips_at shape samples (row / lines) in
+    let ends : first + width ≤ row_size shape = omega (arith, row_fits (row % lines) shape.stride lines shape.stride line
+    (omega arith), row_fits slot (strip_size shape) shape.count (strip_size shape) inside (omega arith)) in
+    let long : length strips ≡ row_size shape = strips-long shape samples (row / lines) mcu full in
+    sym (line_by_samples (plain c) (joint_plane shape samples slot) width row (take width (drop first strips))
+    (length-take-le width (drop first strips) (omega (arith, length-drop first strips)))
+    (λ x h.
+    let is : (row / lines * lines + row % lines) * shape.stride + x ≡ row * (c.blocks_wide * c.scale) + x =
+    cc (div-add-mod' row lines) in
+    let at : row / lines * row_size shape + (first + x) ≡ row / lines * row_size shape + (slot * strip_size shape
+    + (row % lines * shape.stride + x)) = omega arith in
+    get_or-take width (drop first strips) x 0 h
+    ∙ get_or-drop first strips x 0
+    ∙ get_or-take (row_size shape) (drop (row / lines * row_size shape) samples) (first + x) 0 (omega arith)
+    ∙ get_or-drop (row / lines * row_size shape) samples (first + x) 0
+    ∙ ap (λ i. get_or samples i 0) at
+    ∙ sym (plane-at shape samples slot (row / lines) (row % lines) x inside mcu line (omega arith) full)
+    ∙ ap (λ i. get_or (joint_plane shape samples slot) i 0) is))
+
+lines-plain : (shape : JointShape) (samples : List ℕ) (width row : ℕ) → width ≤ shape.stride
+    → row < shape.rows * shape.lines → length samples ≡ shape.rows * row_size shape
+    → (cs : List Component) (slot : ℕ) → slot + length cs ≤ shape.count
+    → AllByRecursion (λ c. c.blocks_wide * c.scale ≡ shape.stride) cs
+    → lines_of (map plain cs) (map (joint_plane shape samples) (range_with_len slot (length cs))) width row
+    ≡ map (λ k. take width (drop (k * strip_size shape + row % shape.lines * shape.stride)
+    (strips_at shape samples (row / shape.lines)))) (range_with_len slot (length cs))
+unfolding lines_of
+lines-plain shape samples width row wide lt full [] slot inside strides = refl
+lines-plain shape samples width row wide lt full (c ∷ more) slot inside strides =
+    cc (line-plain shape samples width row slot c strides.0 (omega arith) wide lt full,
+    lines-plain shape samples width row wide lt full more (slot + 1) (omega arith) strides.1)
+
+-- a picture of components alike is made line by line of the strips
+picture-joint : (convert : ColorConvert) (shape : JointShape) (width : ℕ) (samples : List ℕ) (height : ℕ)
+    (cs : List Component) → shape.count ≡ length cs → AllByRecursion (λ c. c.blocks_wide * c.scale ≡ shape.stride) cs
+    → width ≤ shape.stride → height ≤ shape.rows * shape.lines → length samples ≡ shape.rows * row_size shape
+    → picture_bytes convert (map plain cs) (joint_planes shape samples) width height
+    ≡ joint_bytes convert shape width samples height
+unfolding picture_bytes picture_line joint_bytes joint_planes strip_lines
+picture-joint convert shape width samples height cs count strides wide high full =
+    same-lines _ _ height (λ row h. ap (line_bytes convert width) (
+    ap (λ n. lines_of (map plain cs) (map (joint_plane shape samples) (range_with_len 0 n)) width row) count
+    ∙ lines-plain shape samples width row wide (omega arith) full cs 0 (omega arith) strides
+    ∙ ap (λ n. map (λ k. take width (drop (k * strip_size shape + row % shape.lines * shape.stride)
+    (strips_at shape samples (row / shape.lines)))) (range_with_len 0 n)) (sym count)))
+
+-- and so is its image
+pub image-joint : (components : List Component) (shape : JointShape) (width height : ℕ) (samples : List ℕ)
+    (transform : ColorTransform) (convert : ColorConvert) (w h : ℕ) (bytes : List ℕ)
+    → AllHaveSampling components → IsShapeOf components width height shape
+    → length samples ≡ shape.rows * row_size shape → conversion_of (length components) transform ≡ Ok convert
+    → w ≡ width → h ≡ height → bytes ≡ joint_bytes convert shape w samples h
+    → image_of components (joint_planes shape samples) width height transform ≡ Ok bytes
+image-joint components shape width height samples transform convert w h bytes factors is full conversion e f made =
+    image-is components (joint_planes shape samples) width height transform convert (map plain components) bytes
+    conversion (sources-alike components width height shape.stride (omega (arith, is.count, is.some)) factors is.alike)
+    (made ∙ (λ i. joint_bytes convert shape (e i) samples (f i)) ∙ sym (picture-joint convert shape width samples height
+    components is.count is.alike.strides is.wide is.high full))
