@@ -232,9 +232,8 @@ plane-at shape samples slot row line x inside lt below left full =
     let index : (row * shape.lines + line) * shape.stride + x ≡ row * size + (line * shape.stride + x) =
     omega (arith, add-mul, mul_assoc) in
     let turned : shape.rows * row_size shape ≡ shape.count * (shape.rows * size) = search (rules, mul_assoc, mul_comm) in
-    let all : length samples ≡ shape.count * (shape.rows * size) = cc in
     let some : length samples / shape.count ≡ shape.rows * size =
-    ap (λ n. n / shape.count) all ∙ mul-div_cancel_left (shape.rows * size) (omega arith) in
+    rw (full, turned) (mul-div_cancel_left (shape.rows * size) (omega arith)) in
     let place = row * size + (line * shape.stride + x) in
     rw (index, some) (get_or-map-range_with_len _ 0 (shape.rows * size) place place 0
     (omega (arith, mul-add-lt row size (line * shape.stride + x) shape.rows lt rest)) (omega arith)
