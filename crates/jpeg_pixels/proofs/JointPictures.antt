@@ -26,7 +26,7 @@ use Rattle.jpeg_pixels.proofs.WholePictures.{image-is}
 
 -- ---- lines one after the other
 
--- the lines that a function gives, one more of them
+-- the lines that a function gives by their number, and one more of them
 pub concat-more : (f : ℕ → List ℕ) (n : ℕ)
     → concat (map f (range_with_len 0 (n + 1))) ≡ concat (map f (range_with_len 0 n)) ++ f n
 concat-more f n =
@@ -48,8 +48,13 @@ concat-rows f g a (suc n) same =
     let here = same n (omega arith) in
     let more : concat (map g (range_with_len 0 (suc n))) ≡ concat (map g (range_with_len 0 n)) ++ g n =
     ap (λ (m : ℕ). concat (map g (range_with_len 0 m))) next ∙ concat-more g n in
-    rw end (concat-more f (a + n) ∙ cc (front, here, more, append_assoc (concat (map f (range_with_len 0 a)))
-    (concat (map g (range_with_len 0 n))) (g n)))
+    rw end (concat-more f (a + n) ∙ cc (
+      front,
+      here,
+      more,
+      append_assoc (concat (map f (range_with_len 0 a)))
+          (concat (map g (range_with_len 0 n))) (g n),
+    ))
 
 -- the same lines
 same-lines : (f g : ℕ → List ℕ) (n : ℕ) → ((k : ℕ) → k < n → f k ≡ g k)
@@ -60,18 +65,23 @@ same-lines f g n same =
 
 -- ---- rows of MCUs
 
+-- a row of MCUs has all of its strips
 strips-long : (shape : JointShape) (samples : List ℕ) (row : ℕ) → row < shape.rows
     → length samples ≡ shape.rows * row_size shape → length (strips_at shape samples row) ≡ row_size shape
 strips-long shape samples row lt full =
     let inside = row_fits row (row_size shape) shape.rows (row_size shape) lt (omega arith) in
-    length-take-le (row_size shape) (drop (row * row_size shape) samples) (omega (arith, length-drop
-    (row * row_size shape) samples))
+    length-take-le (row_size shape) (drop (row * row_size shape) samples) (omega (
+      arith,
+      length-drop
+          (row * row_size shape) samples,
+    ))
 
+-- the lines of the picture before the next row of MCUs: those before this one, and those in it
 lines-more : (height row lines : ℕ)
     → min height ((row + 1) * lines) ≡ min height (row * lines) + min lines (height - row * lines)
 lines-more height row lines = omega (arith, add-mul)
 
--- the lines of one row of MCUs more
+-- the lines of the picture, those of one row of MCUs more
 pub joint-more : (convert : ColorConvert) (shape : JointShape) (width : ℕ) (samples : List ℕ) (height row : ℕ)
     → joint_bytes convert shape width samples (min height ((row + 1) * shape.lines))
     ≡ joint_bytes convert shape width samples (min height (row * shape.lines))
@@ -85,7 +95,7 @@ joint-more convert shape width samples height row =
     let inside : k < shape.lines = omega arith in
     rw (first, div-mul-add row shape.lines k inside, mod-mul-add row shape.lines k inside) refl))
 
--- they are written after those before
+-- these lines written after those before them
 pub written-more : (convert : ColorConvert) (shape : JointShape) (width : ℕ) (samples : List ℕ)
     (height row start count size k : ℕ) (room new : List ℕ)
     → start ≡ min height (row * shape.lines) → count ≡ min shape.lines (height - row * shape.lines)
@@ -100,7 +110,7 @@ written-more convert shape width samples height row start count size k room new 
     cc (lines-more height row shape.lines, add-mul start count size) in
     take-put_mid (start * size) k room new _ next inside ∙ cc (joint-more convert shape width samples height row)
 
--- and after the last row of MCUs all lines are written
+-- after the last row of MCUs all lines are written
 pub all-written : (convert : ColorConvert) (shape : JointShape) (width : ℕ) (samples : List ℕ) (height row : ℕ)
     (room : List ℕ) → height ≤ shape.rows * shape.lines → shape.rows ≤ row
     → take (min height (row * shape.lines) * (shape.count * width)) room
@@ -123,7 +133,7 @@ converted-row convert shape width row first size count room samples lines new e 
     let some : row * first + size - row * first ≡ row_size shape = omega arith in
     made (strips_at shape samples row) (strips-long shape samples row lt full) (read ∙ cc)
 
--- and the strips after them are as they were
+-- the strips after those of the row are as they were
 pub unread-more : (shape : JointShape) (row start k : ℕ) (room samples new : List ℕ)
     → start + k ≤ (row + 1) * row_size shape → start ≤ length room → length new ≡ k
     → drop (row * row_size shape) room ≡ drop (row * row_size shape) samples
@@ -190,10 +200,12 @@ greatest-alike f n P each some c (d ∷ more) here all =
     let rest = greatest-alike f n P each some d more all.0 all.1 in
     omega arith
 
+-- a component of the greatest factors is not upsampled
 rule-plain : (h v width height : ℕ) → rule_of h v h v width height ≡ Some H1V1
 unfolding rule_of
 rule-plain h v width height = rw (eq-eqb h h refl, eq-eqb v v refl) refl
 
+-- nor are components that all have these factors
 sources-plain : (h v width height : ℕ) (cs : List Component)
     → AllByRecursion (λ c. (c.factors.horizontal ≡ h) × (c.factors.vertical ≡ v)) cs
     → sources_by h v width height cs ≡ as_all (map plain cs)
@@ -202,6 +214,7 @@ sources-plain h v width height [] all = refl
 sources-plain h v width height (c ∷ more) all =
     rw (all.0.0, all.0.1, rule-plain h v width height, sources-plain h v width height more all.1) refl
 
+-- nor are components alike
 sources-alike : (components : List Component) (width height stride : ℕ) → 0 < length components
     → AllHaveSampling components → AreAlike components stride
     → sources_of components width height ≡ as_all (map plain components)
@@ -211,33 +224,47 @@ sources-alike (c ∷ more) width height stride some factors alike =
     let P = λ (d : Component). (d.factors.horizontal ≡ alike.horizontal) × (d.factors.vertical ≡ alike.vertical) in
     let here = alike.factors.0 in
     let sampling = factors.0 in
-    let h = greatest-alike (λ f. f.horizontal) alike.horizontal P (λ d e. e.0) (omega (arith, here.0,
-    sampling.horizontal_some)) c more here alike.factors.1 in
-    let v = greatest-alike (λ f. f.vertical) alike.vertical P (λ d e. e.1) (omega (arith, here.1,
-    sampling.vertical_some)) c more here alike.factors.1 in
+    let h = greatest-alike (λ f. f.horizontal) alike.horizontal P (λ d e. e.0) (omega (
+      arith,
+      here.0,
+      sampling.horizontal_some,
+    )) c more here alike.factors.1 in
+    let v = greatest-alike (λ f. f.vertical) alike.vertical P (λ d e. e.1) (omega (
+      arith,
+      here.1,
+      sampling.vertical_some,
+    )) c more here alike.factors.1 in
     (λ i. sources_by (h i) (v i) width height (c ∷ more))
     ∙ sources-plain alike.horizontal alike.vertical width height (c ∷ more) alike.factors
 
 -- ---- lines of planes in one room
 
--- the sample of a plane
-plane-at : (shape : JointShape) (samples : List ℕ) (slot row line x : ℕ) → slot < shape.count → row < shape.rows
+-- the sample of a plane by its index
+plane-at : (shape : JointShape) (samples : List ℕ) (slot i : ℕ) → slot < shape.count → i < shape.rows * strip_size shape
+    → length samples ≡ shape.rows * row_size shape
+    → get_or (joint_plane shape samples slot) i 0 ≡ get_or samples (i / strip_size shape * row_size shape
+    + (slot * strip_size shape + i % strip_size shape)) 0
+unfolding joint_plane
+plane-at shape samples slot i inside lt full =
+    let turned : shape.rows * row_size shape ≡ shape.count * (shape.rows * strip_size shape) =
+    search (rules, mul_assoc, mul_comm) in
+    let some : length samples / shape.count ≡ shape.rows * strip_size shape =
+    rw (full, turned) (mul-div_cancel_left (shape.rows * strip_size shape) (omega arith)) in
+    rw some (get_or-map-range_with_len _ 0 (shape.rows * strip_size shape) i i 0 lt (omega arith))
+
+-- and by its row of MCUs and its line there
+plane-in : (shape : JointShape) (samples : List ℕ) (slot row line x : ℕ) → slot < shape.count → row < shape.rows
     → line < shape.lines → x < shape.stride → length samples ≡ shape.rows * row_size shape
     → get_or (joint_plane shape samples slot) ((row * shape.lines + line) * shape.stride + x) 0
     ≡ get_or samples (row * row_size shape + (slot * strip_size shape + (line * shape.stride + x))) 0
-unfolding joint_plane
-plane-at shape samples slot row line x inside lt below left full =
+plane-in shape samples slot row line x inside lt below left full =
     let size = strip_size shape in
-    let rest : line * shape.stride + x < size = omega (arith, mul-add-lt line shape.stride x shape.lines below left) in
-    let index : (row * shape.lines + line) * shape.stride + x ≡ row * size + (line * shape.stride + x) =
-    omega (arith, add-mul, mul_assoc) in
-    let turned : shape.rows * row_size shape ≡ shape.count * (shape.rows * size) = search (rules, mul_assoc, mul_comm) in
-    let some : length samples / shape.count ≡ shape.rows * size =
-    rw (full, turned) (mul-div_cancel_left (shape.rows * size) (omega arith)) in
-    let place = row * size + (line * shape.stride + x) in
-    rw (index, some) (get_or-map-range_with_len _ 0 (shape.rows * size) place place 0
-    (omega (arith, mul-add-lt row size (line * shape.stride + x) shape.rows lt rest)) (omega arith)
-    ∙ rw (div-mul-add row size (line * shape.stride + x) rest, mod-mul-add row size (line * shape.stride + x) rest) refl)
+    let rest = line * shape.stride + x in
+    let low : rest < size = omega (arith, mul-add-lt line shape.stride x shape.lines below left) in
+    let index : (row * shape.lines + line) * shape.stride + x ≡ row * size + rest = omega (arith, add-mul, mul_assoc) in
+    rw index (plane-at shape samples slot (row * size + rest) inside
+    (omega (arith, mul-add-lt row size rest shape.rows lt low)) full
+    ∙ rw (div-mul-add row size rest low, mod-mul-add row size rest low) refl)
 
 -- a line of a component is the part of it that its strip has
 line-plain : (shape : JointShape) (samples : List ℕ) (width row slot : ℕ) (c : Component)
@@ -255,8 +282,12 @@ line-plain shape samples width row slot c stride inside wide lt full =
     let line : row % lines < lines = mod-lt row some in
     let first = slot * strip_size shape + row % lines * shape.stride in
     let strips = strips_at shape samples (row / lines) in
-    let ends : first + width ≤ row_size shape = omega (arith, row_fits (row % lines) shape.stride lines shape.stride line
-    (omega arith), row_fits slot (strip_size shape) shape.count (strip_size shape) inside (omega arith)) in
+    let ends : first + width ≤ row_size shape = omega (
+      arith,
+      row_fits (row % lines) shape.stride lines shape.stride line
+          (omega arith),
+      row_fits slot (strip_size shape) shape.count (strip_size shape) inside (omega arith),
+    ) in
     let long : length strips ≡ row_size shape = strips-long shape samples (row / lines) mcu full in
     sym (line_by_samples (plain c) (joint_plane shape samples slot) width row (take width (drop first strips))
     (length-take-le width (drop first strips) (omega (arith, length-drop first strips)))
@@ -270,9 +301,10 @@ line-plain shape samples width row slot c stride inside wide lt full =
     ∙ get_or-take (row_size shape) (drop (row / lines * row_size shape) samples) (first + x) 0 (omega arith)
     ∙ get_or-drop (row / lines * row_size shape) samples (first + x) 0
     ∙ ap (λ i. get_or samples i 0) at
-    ∙ sym (plane-at shape samples slot (row / lines) (row % lines) x inside mcu line (omega arith) full)
+    ∙ sym (plane-in shape samples slot (row / lines) (row % lines) x inside mcu line (omega arith) full)
     ∙ ap (λ i. get_or (joint_plane shape samples slot) i 0) is))
 
+-- and so are the lines of all components, from a slot on
 lines-plain : (shape : JointShape) (samples : List ℕ) (width row : ℕ) → width ≤ shape.stride
     → row < shape.rows * shape.lines → length samples ≡ shape.rows * row_size shape
     → (cs : List Component) (slot : ℕ) → slot + length cs ≤ shape.count
@@ -283,10 +315,12 @@ lines-plain : (shape : JointShape) (samples : List ℕ) (width row : ℕ) → wi
 unfolding lines_of
 lines-plain shape samples width row wide lt full [] slot inside strides = refl
 lines-plain shape samples width row wide lt full (c ∷ more) slot inside strides =
-    cc (line-plain shape samples width row slot c strides.0 (omega arith) wide lt full,
-    lines-plain shape samples width row wide lt full more (slot + 1) (omega arith) strides.1)
+    cc (
+      line-plain shape samples width row slot c strides.0 (omega arith) wide lt full,
+      lines-plain shape samples width row wide lt full more (slot + 1) (omega arith) strides.1,
+    )
 
--- a picture of components alike is made line by line of the strips
+-- so the picture is made line by line of the strips
 picture-joint : (convert : ColorConvert) (shape : JointShape) (width : ℕ) (samples : List ℕ) (height : ℕ)
     (cs : List Component) → shape.count ≡ length cs → AllByRecursion (λ c. c.blocks_wide * c.scale ≡ shape.stride) cs
     → width ≤ shape.stride → height ≤ shape.rows * shape.lines → length samples ≡ shape.rows * row_size shape
@@ -300,7 +334,7 @@ picture-joint convert shape width samples height cs count strides wide high full
     ∙ ap (λ n. map (λ k. take width (drop (k * strip_size shape + row % shape.lines * shape.stride)
     (strips_at shape samples (row / shape.lines)))) (range_with_len 0 n)) (sym count)))
 
--- and so is its image
+-- what `image_of` gives for components alike, by the bytes that are made of their strips
 pub image-joint : (components : List Component) (shape : JointShape) (width height : ℕ) (samples : List ℕ)
     (transform : ColorTransform) (convert : ColorConvert) (w h : ℕ) (bytes : List ℕ)
     → AllHaveSampling components → IsShapeOf components width height shape

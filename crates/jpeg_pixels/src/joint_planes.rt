@@ -94,7 +94,11 @@ pub fn joint_shape(components: &[Component], size: Dimensions, rows: u16) -> Opt
     };
     let is_wide = usize::from(size.width) <= shape.stride;
     let is_high = usize::from(size.height) <= shape.rows * shape.lines;
-    if is_wide && is_high { Some(shape) } else { None }
+    if is_wide && is_high {
+        Some(shape)
+    } else {
+        None
+    }
 }
 
 /// Planes of components alike in one room.

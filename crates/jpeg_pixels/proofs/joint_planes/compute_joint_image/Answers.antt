@@ -21,5 +21,7 @@ returns c =
     c.args.planes.samples.items transform c.in_ok-color_convert.color_convert c.from-width.result c.from-height.result
     c.truncate.new.self.items c.requires.factors c.requires.shape c.requires.full
     (ap (λ n. conversion_of n transform) (length-map components component_in) ∙ c.in_ok-color_convert.ensures.answers)
-    c.from-width.ensures c.from-height.ensures (cc (c.truncate.ensures.items,
-    with_items_is c.args.planes.samples c.write_in_place.new.room (c.write_in_place.auto.room ∙ c.deref_mut-2.ensures.len)))
+    c.from-width.ensures c.from-height.ensures (cc (
+      c.truncate.ensures.items,
+      with_items_is c.args.planes.samples c.write_in_place.new.room (c.write_in_place.auto.room ∙ c.deref_mut-2.ensures.len),
+    ))

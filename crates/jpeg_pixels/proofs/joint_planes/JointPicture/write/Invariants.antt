@@ -1,4 +1,4 @@
-use Rattle.std.proofs.Common.{◌≡◌, ◌*◌, length, min, take}
+use Rattle.std.proofs.Common.{◌≡◌, ◌*◌, min, take}
 use Rattle.jpeg_pixels.specs.JointPlanes.{joint_bytes}
 use Rattle.jpeg_pixels.proofs.joint_planes.JointPicture.write.Given as goal
 

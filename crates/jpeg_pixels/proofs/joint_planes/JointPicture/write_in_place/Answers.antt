@@ -1,5 +1,4 @@
 use Rattle.std.proofs.Common.{◌≡◌, ℕ, ◌+◌, ◌*◌, ◌≤◌, length, arith, rules, ◌∙◌, length-drop, length-take}
-use Rattle.std.proofs.lemmas.Grind.{common_steps}
 use borrow.Rule.Slice.PartMut.{same_len_mid}
 use Rattle.jpeg_pixels.specs.JointPlanes.{joint_bytes}
 use Rattle.jpeg_pixels.proofs.JointPictures.{all-written, converted-row, lines-end, lines-inside, strips-inside, unread-more, written-more}
