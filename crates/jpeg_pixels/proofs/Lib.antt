@@ -25,6 +25,7 @@ pub mod Greys
 pub mod Growing
 pub mod JoinedLines
 pub mod JointRows
+pub mod JointPictures
 pub mod LinesOfColour
 pub mod Pieces
 pub mod PlaneRows

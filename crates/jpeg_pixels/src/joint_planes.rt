@@ -5,6 +5,7 @@
 //! above, row by row, and no second room is touched.
 ghost use Rattle.std.specs.Prelude.{◌≡◌, ◌≤◌, ◌*◌, All, IfSome, MatchResult, Ok, OnErr, length, map};
 ghost use Rattle.std.specs.Prelude.{true};
+ghost use Rattle.std.specs.List.{AllByRecursion};
 ghost use Rattle.jpeg_bits.specs.Reading.{Names};
 ghost use Rattle.jpeg_segments.specs.Frame.{AllHaveSampling};
 ghost use Rattle.jpeg_segments.specs.FrameView.{component_in};
@@ -80,7 +81,11 @@ fn are_alike(components: &[Component], first: &Component) -> bool
 /// `rows` rows of MCUs.
 pub fn joint_shape(components: &[Component], size: Dimensions, rows: u16) -> Option<JointShape>
     requires { AllHaveSampling (map component_in components.now) }
-    ensures { IfSome result (IsShapeOf (map component_in components.now) size.width size.height) }
+    ensures shape { IfSome result
+        (IsShapeOf (map component_in components.now) size.width size.height) }
+    ensures rows { IfSome result (λ shape. shape.rows ≡ rows) }
+    ensures lines { IfSome result (λ shape. AllByRecursion
+        (λ c. c.factors.vertical * c.scale ≡ shape.lines) (map component_in components.now)) }
 {
     let first = components.first()?;
     if components.len() < 3 || components.len() > 4 || !are_alike(components, first) {
@@ -125,8 +130,9 @@ impl JointPlanes {
         Ok(JointPlanes { shape, samples })
     }
 
-    // The plane of the component in a slot.
-    fn plane(&self, alloc: Global, slot: usize) -> std::result::Result<Vec<u8>, AllocError>
+    /// Returns the plane of the component in a slot, in memory of its own, where all rows have come.
+    /// The only error is that no memory is left.
+    pub fn plane(&self, alloc: Global, slot: usize) -> std::result::Result<Vec<u8>, AllocError>
         requires small { IsSmall self.now.shape }
         requires slot { slot < self.now.shape.count }
         requires full { length self.now.samples.items
@@ -141,22 +147,6 @@ impl JointPlanes {
             plane.extend_from_slice(&self.samples[start..start + size])?;
         }
         Ok(plane)
-    }
-
-    /// Returns each plane in memory of its own, where all rows have come. The only error is that no
-    /// memory is left.
-    pub fn split(&self, alloc: Global) -> std::result::Result<Vec<Vec<u8>>, AllocError>
-        requires small { IsSmall self.now.shape }
-        requires full { length self.now.samples.items
-            ≡ self.now.shape.rows * row_size self.now.shape }
-        ensures { IfOk result (λ v. map (λ plane. plane.items) v.items
-            ≡ joint_planes self.now.shape self.now.samples.items) }
-    {
-        let mut planes = Vec::with_capacity(alloc, self.shape.count)?;
-        for slot in 0..self.shape.count {
-            planes.push(self.plane(alloc, slot)?)?;
-        }
-        Ok(planes)
     }
 }
 

@@ -43,8 +43,8 @@ overflow_mul-is_high c =
     let high = mul-le c.from-2.result _ 4 8 (omega arith) some.scale_most in
     omega (arith, mul-le c.from-3.result _ 65535 32 (omega arith) high)
 
-pub returns-then-is_high : goal.returns-then-is_high
-returns-then-is_high c =
+pub returns-then-is_high-clause-shape : goal.returns-then-is_high-clause-shape
+returns-then-is_high-clause-shape c =
     let components = c.args.components.now in
     let first = c.in_ok-first.first.now in
     let some = sampled components first c.requires c.in_ok-first.ensures.value in
@@ -65,3 +65,11 @@ returns-then-is_high c =
       wide = omega arith;
       high = omega arith;
     }
+
+pub returns-then-is_high-clause-lines : goal.returns-then-is_high-clause-lines
+returns-then-is_high-clause-lines c =
+    let components = c.args.components.now in
+    let first = c.in_ok-first.first.now in
+    let all = c.are_alike.ensures c.if-not-are_alike.false in
+    rw c.from-2.ensures (each-like _ components first (λ x is. (λ i. is.vertical i * is.scale i))
+    all)

@@ -1,0 +1,348 @@
+-- The picture of planes in one room: row of MCUs by row of MCUs.
+use Rattle.std.proofs.Common.{◌≡◌, ℕ, zero, suc, ◌+◌, ◌-◌, ◌*◌, ◌/◌, ◌%◌, ◌<◌, ◌≤◌, List, [], ◌∷◌, ◌++◌, length, map}
+use Rattle.std.proofs.Common.{min, take, drop, ap, ◌∙◌, sym, refl, arith, rules, append_assoc, length-drop, subst, get_or, Result, Ok, Some}
+use Rattle.std.proofs.Math.Nat.{add-mul, lt_of_mul-lt-mul_left, mod-lt, mul_assoc, mul_comm, mul-div_cancel_left, mul-le-mul, mul-le-mul_left, mul-le-mul_right}
+use Rattle.std.proofs.lemmas.List.{append-nil, drop-drop, get_or-drop, get_or-take, length-take-le}
+use Rattle.std.proofs.lemmas.List.Folds.{concat-append}
+use Rattle.std.proofs.lemmas.List.FromFn.{fill_by_all, length-map-range_with_len, get_or-map-range_with_len, map-range_with_len_more}
+use Rattle.std.proofs.lemmas.Nat.{div-mul-add, mod-mul-add, div-add-mod', div_below, mul-add-lt, row_fits}
+use Rattle.std.proofs.lemmas.Slice.{take-put_mid, drop-put_mid}
+use Rattle.std.proofs.lemmas.Bool.{eq-eqb}
+use Rattle.std.specs.List.{AllByRecursion, concat, range_with_len}
+use borrow.Rule.Slice.PartMut.{put_mid}
+use Rattle.jpeg_bits.specs.Reading.{Fault}
+use Rattle.jpeg_bits.specs.declared.color_transform.ColorTransform.{ColorTransform}
+use Rattle.jpeg_segments.specs.Frame.{AllHaveSampling, Component, Factors, greatest}
+use Rattle.jpeg_pixels.specs.Colour.{conversion_of, line_bytes}
+use Rattle.jpeg_pixels.specs.JointPlanes.{AreAlike, IsShapeOf, converted, gathered, joint_bytes, joint_plane, joint_planes, row_size}
+use Rattle.jpeg_pixels.specs.JointPlanes.{strip_lines, strip_size, strips_at}
+use Rattle.jpeg_pixels.specs.Pictures.{Source, all_factors, image_of, line_of, lines_of, picture_bytes, picture_line, sources_by, sources_of}
+use Rattle.jpeg_pixels.specs.Upsampling.{rule_of, upsampled}
+use Rattle.jpeg_pixels.specs.declared.upsampler.UpsampleRule.TheVariants.{H1V1}
+use Rattle.jpeg_pixels.specs.declared.joint_planes.JointShape.{JointShape}
+use Rattle.jpeg_pixels.specs.declared.upsampler.ColorConvert.{ColorConvert}
+use Rattle.jpeg_pixels.proofs.ComponentLines.{line_by_samples}
+use Rattle.jpeg_pixels.proofs.WholePictures.{image-is}
+
+-- ---- lines one after the other
+
+-- the lines that a function gives by their number, and one more of them
+pub concat-more : (f : ℕ → List ℕ) (n : ℕ)
+    → concat (map f (range_with_len 0 (n + 1))) ≡ concat (map f (range_with_len 0 n)) ++ f n
+concat-more f n =
+    ap concat (map-range_with_len_more f 0 n n (omega arith))
+    ∙ concat-append (map f (range_with_len 0 n)) (f n ∷ [])
+    ∙ ap (λ (l : List ℕ). concat (map f (range_with_len 0 n)) ++ l) (append-nil (f n))
+
+-- n more of them, which another function gives from its beginning
+pub concat-rows : (f g : ℕ → List ℕ) (a n : ℕ) → ((k : ℕ) → k < n → f (a + k) ≡ g k)
+    → concat (map f (range_with_len 0 (a + n)))
+    ≡ concat (map f (range_with_len 0 a)) ++ concat (map g (range_with_len 0 n))
+concat-rows f g a zero same =
+    let end : a + zero ≡ a = omega arith in
+    rw end (sym (append-nil (concat (map f (range_with_len 0 a)))))
+concat-rows f g a (suc n) same =
+    let end : a + suc n ≡ a + n + 1 = omega arith in
+    let next : suc n ≡ n + 1 = omega arith in
+    let front = concat-rows f g a n (λ k h. same k (omega arith)) in
+    let here = same n (omega arith) in
+    let more : concat (map g (range_with_len 0 (suc n))) ≡ concat (map g (range_with_len 0 n)) ++ g n =
+    ap (λ (m : ℕ). concat (map g (range_with_len 0 m))) next ∙ concat-more g n in
+    rw end (concat-more f (a + n) ∙ cc (
+      front,
+      here,
+      more,
+      append_assoc (concat (map f (range_with_len 0 a)))
+          (concat (map g (range_with_len 0 n))) (g n),
+    ))
+
+-- the same lines
+same-lines : (f g : ℕ → List ℕ) (n : ℕ) → ((k : ℕ) → k < n → f k ≡ g k)
+    → concat (map f (range_with_len 0 n)) ≡ concat (map g (range_with_len 0 n))
+same-lines f g n same =
+    ap concat (fill_by_all g (map f (range_with_len 0 n)) n [] (length-map-range_with_len f 0 n)
+    (λ k h. get_or-map-range_with_len f 0 n k k [] h (omega arith) ∙ same k h))
+
+-- ---- rows of MCUs
+
+-- a row of MCUs has all of its strips
+strips-long : (shape : JointShape) (samples : List ℕ) (row : ℕ) → row < shape.rows
+    → length samples ≡ shape.rows * row_size shape → length (strips_at shape samples row) ≡ row_size shape
+strips-long shape samples row lt full =
+    let inside = row_fits row (row_size shape) shape.rows (row_size shape) lt (omega arith) in
+    length-take-le (row_size shape) (drop (row * row_size shape) samples) (omega (
+      arith,
+      length-drop
+          (row * row_size shape) samples,
+    ))
+
+-- the lines of the picture before the next row of MCUs: those before this one, and those in it
+lines-more : (height row lines : ℕ)
+    → min height ((row + 1) * lines) ≡ min height (row * lines) + min lines (height - row * lines)
+lines-more height row lines = omega (arith, add-mul)
+
+-- the lines of the picture, those of one row of MCUs more
+pub joint-more : (convert : ColorConvert) (shape : JointShape) (width : ℕ) (samples : List ℕ) (height row : ℕ)
+    → joint_bytes convert shape width samples (min height ((row + 1) * shape.lines))
+    ≡ joint_bytes convert shape width samples (min height (row * shape.lines))
+    ++ converted convert shape width (strips_at shape samples row)
+    (min shape.lines (height - row * shape.lines))
+unfolding joint_bytes converted
+joint-more convert shape width samples height row =
+    let n = min shape.lines (height - row * shape.lines) in
+    rw (lines-more height row shape.lines) (concat-rows _ _ (min height (row * shape.lines)) n (λ k h.
+    let first : min height (row * shape.lines) ≡ row * shape.lines = omega arith in
+    let inside : k < shape.lines = omega arith in
+    rw (first, div-mul-add row shape.lines k inside, mod-mul-add row shape.lines k inside) refl))
+
+-- these lines written after those before them
+pub written-more : (convert : ColorConvert) (shape : JointShape) (width : ℕ) (samples : List ℕ)
+    (height row start count size k : ℕ) (room new : List ℕ)
+    → start ≡ min height (row * shape.lines) → count ≡ min shape.lines (height - row * shape.lines)
+    → size ≡ shape.count * width → length new ≡ count * size → start * size ≤ length room
+    → take (min height (row * shape.lines) * (shape.count * width)) room
+    ≡ joint_bytes convert shape width samples (min height (row * shape.lines))
+    → new ≡ converted convert shape width (strips_at shape samples row) count
+    → take (min height ((row + 1) * shape.lines) * (shape.count * width)) (put_mid (start * size) k room new)
+    ≡ joint_bytes convert shape width samples (min height ((row + 1) * shape.lines))
+written-more convert shape width samples height row start count size k room new first some is long inside before more =
+    let next : min height ((row + 1) * shape.lines) * (shape.count * width) ≡ start * size + length new =
+    cc (lines-more height row shape.lines, add-mul start count size) in
+    take-put_mid (start * size) k room new _ next inside ∙ cc (joint-more convert shape width samples height row)
+
+-- after the last row of MCUs all lines are written
+pub all-written : (convert : ColorConvert) (shape : JointShape) (width : ℕ) (samples : List ℕ) (height row : ℕ)
+    (room : List ℕ) → height ≤ shape.rows * shape.lines → shape.rows ≤ row
+    → take (min height (row * shape.lines) * (shape.count * width)) room
+    ≡ joint_bytes convert shape width samples (min height (row * shape.lines))
+    → take (height * (shape.count * width)) room ≡ joint_bytes convert shape width samples height
+all-written convert shape width samples height row room high end is =
+    let all : min height (row * shape.lines) ≡ height = omega (arith, mul-le-mul_right shape.lines end) in
+    subst (λ (n : ℕ). take (n * (shape.count * width)) room ≡ joint_bytes convert shape width samples n) all is
+
+-- what is made of the strips that are read is made of those of the samples
+pub converted-row : (convert : ColorConvert) (shape : JointShape) (width row first size count : ℕ)
+    (room samples lines new : List ℕ) → first ≡ row_size shape → size ≡ row_size shape → row < shape.rows
+    → length samples ≡ shape.rows * row_size shape
+    → drop (row * row_size shape) room ≡ drop (row * row_size shape) samples
+    → lines ≡ gathered shape width (take (row * first + size - row * first) (drop (row * first) room)) count
+    → ((strips : List ℕ) → length strips ≡ row_size shape → lines ≡ gathered shape width strips count
+    → new ≡ converted convert shape width strips count)
+    → new ≡ converted convert shape width (strips_at shape samples row) count
+converted-row convert shape width row first size count room samples lines new e f lt full same read made =
+    let some : row * first + size - row * first ≡ row_size shape = omega arith in
+    made (strips_at shape samples row) (strips-long shape samples row lt full) (read ∙ cc)
+
+-- the strips after those of the row are as they were
+pub unread-more : (shape : JointShape) (row start k : ℕ) (room samples new : List ℕ)
+    → start + k ≤ (row + 1) * row_size shape → start ≤ length room → length new ≡ k
+    → drop (row * row_size shape) room ≡ drop (row * row_size shape) samples
+    → drop ((row + 1) * row_size shape) (put_mid start k room new) ≡ drop ((row + 1) * row_size shape) samples
+unread-more shape row start k room samples new below inside long same =
+    let next : (row + 1) * row_size shape ≡ row * row_size shape + row_size shape = omega (arith, add-mul) in
+    drop-put_mid start k room new _ below inside long
+    ∙ rw next (sym (drop-drop (row_size shape) (row * row_size shape) room)
+    ∙ ap (drop (row_size shape)) same
+    ∙ drop-drop (row_size shape) (row * row_size shape) samples)
+
+-- the strips of a row of MCUs are in the room
+pub strips-inside : (shape : JointShape) (row first size long : ℕ) → first ≡ row_size shape → size ≡ row_size shape
+    → row < shape.rows → long ≡ shape.rows * row_size shape → row * first + size ≤ long
+strips-inside shape row first size long e f lt is =
+    rw (e, f, is) (row_fits row (row_size shape) shape.rows (row_size shape) lt (omega arith))
+
+-- its lines end before the strips of the next row of MCUs
+pub lines-end : (shape : JointShape) (width height row start count size : ℕ) → width ≤ shape.stride
+    → start ≡ min height (row * shape.lines) → count ≡ min shape.lines (height - row * shape.lines)
+    → size ≡ shape.count * width → start * size + count * size ≤ (row + 1) * row_size shape
+lines-end shape width height row start count size wide first some is =
+    let within : start + count ≤ (row + 1) * shape.lines = omega (arith, lines-more height row shape.lines) in
+    let wider : size ≤ shape.count * shape.stride = omega (arith, mul-le-mul_left shape.count wide) in
+    let long : (start + count) * size ≤ ((row + 1) * shape.lines) * (shape.count * shape.stride)
+    = mul-le-mul within wider in
+    let same : ((row + 1) * shape.lines) * (shape.count * shape.stride) ≡ (row + 1) * row_size shape
+    = search (rules, mul_assoc, mul_comm) in
+    omega (arith, add-mul)
+
+-- and so in the room
+pub lines-inside : (shape : JointShape) (width height row start count size long : ℕ) → width ≤ shape.stride
+    → start ≡ min height (row * shape.lines) → count ≡ min shape.lines (height - row * shape.lines)
+    → size ≡ shape.count * width → row < shape.rows → long ≡ shape.rows * row_size shape
+    → start * size + count * size ≤ long
+lines-inside shape width height row start count size long wide first some is lt whole =
+    let next : (row + 1) * row_size shape ≤ shape.rows * row_size shape = mul-le-mul_right (row_size shape) (omega arith)
+    in
+    omega (arith, lines-end shape width height row start count size wide first some is)
+
+-- and in a picture of this height
+pub lines-fit : (height row lines start count size line long : ℕ) → start ≡ min height (row * lines)
+    → count ≡ min lines (height - row * lines) → size ≡ line → long ≡ height * line
+    → start * size + count * size ≤ long
+lines-fit height row lines start count size line long first some is whole =
+    let within : start + count ≤ height = omega arith in
+    rw whole (rw (← is) (omega (arith, add-mul start count size, mul-le-mul_right size within)))
+
+-- ---- sources of components alike
+
+-- the samples of a component are those of the picture
+abbrev plain : Component → Source
+plain c = record { rule = H1V1; width = c.width; height = c.height; stride = c.blocks_wide * c.scale }
+
+abbrev as_all : List Source → Result (List Source) Fault
+as_all l = Ok l
+
+-- the greatest factor is the one that all have
+greatest-alike : (f : Factors → ℕ) (n : ℕ) (P : Component → Type 0) → ((c : Component) → P c → f c.factors ≡ n) → 1 ≤ n
+    → (c : Component) (more : List Component) → P c → AllByRecursion P more → greatest f (all_factors (c ∷ more)) ≡ n
+greatest-alike f n P each some c [] here all = let e = each c here in omega arith
+greatest-alike f n P each some c (d ∷ more) here all =
+    let e = each c here in
+    let rest = greatest-alike f n P each some d more all.0 all.1 in
+    omega arith
+
+-- a component of the greatest factors is not upsampled
+rule-plain : (h v width height : ℕ) → rule_of h v h v width height ≡ Some H1V1
+unfolding rule_of
+rule-plain h v width height = rw (eq-eqb h h refl, eq-eqb v v refl) refl
+
+-- nor are components that all have these factors
+sources-plain : (h v width height : ℕ) (cs : List Component)
+    → AllByRecursion (λ c. (c.factors.horizontal ≡ h) × (c.factors.vertical ≡ v)) cs
+    → sources_by h v width height cs ≡ as_all (map plain cs)
+unfolding sources_by
+sources-plain h v width height [] all = refl
+sources-plain h v width height (c ∷ more) all =
+    rw (all.0.0, all.0.1, rule-plain h v width height, sources-plain h v width height more all.1) refl
+
+-- nor are components alike
+sources-alike : (components : List Component) (width height stride : ℕ) → 0 < length components
+    → AllHaveSampling components → AreAlike components stride
+    → sources_of components width height ≡ as_all (map plain components)
+unfolding AllHaveSampling
+sources-alike [] width height stride some factors alike = absurd (omega arith)
+sources-alike (c ∷ more) width height stride some factors alike =
+    let P = λ (d : Component). (d.factors.horizontal ≡ alike.horizontal) × (d.factors.vertical ≡ alike.vertical) in
+    let here = alike.factors.0 in
+    let sampling = factors.0 in
+    let h = greatest-alike (λ f. f.horizontal) alike.horizontal P (λ d e. e.0) (omega (
+      arith,
+      here.0,
+      sampling.horizontal_some,
+    )) c more here alike.factors.1 in
+    let v = greatest-alike (λ f. f.vertical) alike.vertical P (λ d e. e.1) (omega (
+      arith,
+      here.1,
+      sampling.vertical_some,
+    )) c more here alike.factors.1 in
+    (λ i. sources_by (h i) (v i) width height (c ∷ more))
+    ∙ sources-plain alike.horizontal alike.vertical width height (c ∷ more) alike.factors
+
+-- ---- lines of planes in one room
+
+-- the sample of a plane by its index
+plane-at : (shape : JointShape) (samples : List ℕ) (slot i : ℕ) → slot < shape.count → i < shape.rows * strip_size shape
+    → length samples ≡ shape.rows * row_size shape
+    → get_or (joint_plane shape samples slot) i 0 ≡ get_or samples (i / strip_size shape * row_size shape
+    + (slot * strip_size shape + i % strip_size shape)) 0
+unfolding joint_plane
+plane-at shape samples slot i inside lt full =
+    let turned : shape.rows * row_size shape ≡ shape.count * (shape.rows * strip_size shape) =
+    search (rules, mul_assoc, mul_comm) in
+    let some : length samples / shape.count ≡ shape.rows * strip_size shape =
+    rw (full, turned) (mul-div_cancel_left (shape.rows * strip_size shape) (omega arith)) in
+    rw some (get_or-map-range_with_len _ 0 (shape.rows * strip_size shape) i i 0 lt (omega arith))
+
+-- and by its row of MCUs and its line there
+plane-in : (shape : JointShape) (samples : List ℕ) (slot row line x : ℕ) → slot < shape.count → row < shape.rows
+    → line < shape.lines → x < shape.stride → length samples ≡ shape.rows * row_size shape
+    → get_or (joint_plane shape samples slot) ((row * shape.lines + line) * shape.stride + x) 0
+    ≡ get_or samples (row * row_size shape + (slot * strip_size shape + (line * shape.stride + x))) 0
+plane-in shape samples slot row line x inside lt below left full =
+    let size = strip_size shape in
+    let rest = line * shape.stride + x in
+    let low : rest < size = omega (arith, mul-add-lt line shape.stride x shape.lines below left) in
+    let index : (row * shape.lines + line) * shape.stride + x ≡ row * size + rest = omega (arith, add-mul, mul_assoc) in
+    rw index (plane-at shape samples slot (row * size + rest) inside
+    (omega (arith, mul-add-lt row size rest shape.rows lt low)) full
+    ∙ rw (div-mul-add row size rest low, mod-mul-add row size rest low) refl)
+
+-- a line of a component is the part of it that its strip has
+line-plain : (shape : JointShape) (samples : List ℕ) (width row slot : ℕ) (c : Component)
+    → c.blocks_wide * c.scale ≡ shape.stride → slot < shape.count → width ≤ shape.stride
+    → row < shape.rows * shape.lines → length samples ≡ shape.rows * row_size shape
+    → line_of (plain c) (joint_plane shape samples slot) width row
+    ≡ take width (drop (slot * strip_size shape + row % shape.lines * shape.stride)
+    (strips_at shape samples (row / shape.lines)))
+unfolding upsampled
+line-plain shape samples width row slot c stride inside wide lt full =
+    let lines = shape.lines in
+    let none : shape.rows * 0 ≡ 0 = omega arith in
+    let some : 0 < lines = lt_of_mul-lt-mul_left shape.rows (omega arith) in
+    let mcu : row / lines < shape.rows = div_below row lines shape.rows some lt in
+    let line : row % lines < lines = mod-lt row some in
+    let first = slot * strip_size shape + row % lines * shape.stride in
+    let strips = strips_at shape samples (row / lines) in
+    let ends : first + width ≤ row_size shape = omega (
+      arith,
+      row_fits (row % lines) shape.stride lines shape.stride line
+          (omega arith),
+      row_fits slot (strip_size shape) shape.count (strip_size shape) inside (omega arith),
+    ) in
+    let long : length strips ≡ row_size shape = strips-long shape samples (row / lines) mcu full in
+    sym (line_by_samples (plain c) (joint_plane shape samples slot) width row (take width (drop first strips))
+    (length-take-le width (drop first strips) (omega (arith, length-drop first strips)))
+    (λ x h.
+    let is : (row / lines * lines + row % lines) * shape.stride + x ≡ row * (c.blocks_wide * c.scale) + x =
+    cc (div-add-mod' row lines) in
+    let at : row / lines * row_size shape + (first + x) ≡ row / lines * row_size shape + (slot * strip_size shape
+    + (row % lines * shape.stride + x)) = omega arith in
+    get_or-take width (drop first strips) x 0 h
+    ∙ get_or-drop first strips x 0
+    ∙ get_or-take (row_size shape) (drop (row / lines * row_size shape) samples) (first + x) 0 (omega arith)
+    ∙ get_or-drop (row / lines * row_size shape) samples (first + x) 0
+    ∙ ap (λ i. get_or samples i 0) at
+    ∙ sym (plane-in shape samples slot (row / lines) (row % lines) x inside mcu line (omega arith) full)
+    ∙ ap (λ i. get_or (joint_plane shape samples slot) i 0) is))
+
+-- and so are the lines of all components, from a slot on
+lines-plain : (shape : JointShape) (samples : List ℕ) (width row : ℕ) → width ≤ shape.stride
+    → row < shape.rows * shape.lines → length samples ≡ shape.rows * row_size shape
+    → (cs : List Component) (slot : ℕ) → slot + length cs ≤ shape.count
+    → AllByRecursion (λ c. c.blocks_wide * c.scale ≡ shape.stride) cs
+    → lines_of (map plain cs) (map (joint_plane shape samples) (range_with_len slot (length cs))) width row
+    ≡ map (λ k. take width (drop (k * strip_size shape + row % shape.lines * shape.stride)
+    (strips_at shape samples (row / shape.lines)))) (range_with_len slot (length cs))
+unfolding lines_of
+lines-plain shape samples width row wide lt full [] slot inside strides = refl
+lines-plain shape samples width row wide lt full (c ∷ more) slot inside strides =
+    cc (
+      line-plain shape samples width row slot c strides.0 (omega arith) wide lt full,
+      lines-plain shape samples width row wide lt full more (slot + 1) (omega arith) strides.1,
+    )
+
+-- so the picture is made line by line of the strips
+picture-joint : (convert : ColorConvert) (shape : JointShape) (width : ℕ) (samples : List ℕ) (height : ℕ)
+    (cs : List Component) → shape.count ≡ length cs → AllByRecursion (λ c. c.blocks_wide * c.scale ≡ shape.stride) cs
+    → width ≤ shape.stride → height ≤ shape.rows * shape.lines → length samples ≡ shape.rows * row_size shape
+    → picture_bytes convert (map plain cs) (joint_planes shape samples) width height
+    ≡ joint_bytes convert shape width samples height
+unfolding picture_bytes picture_line joint_bytes joint_planes strip_lines
+picture-joint convert shape width samples height cs count strides wide high full =
+    same-lines _ _ height (λ row h. ap (line_bytes convert width) (
+    ap (λ n. lines_of (map plain cs) (map (joint_plane shape samples) (range_with_len 0 n)) width row) count
+    ∙ lines-plain shape samples width row wide (omega arith) full cs 0 (omega arith) strides
+    ∙ ap (λ n. map (λ k. take width (drop (k * strip_size shape + row % shape.lines * shape.stride)
+    (strips_at shape samples (row / shape.lines)))) (range_with_len 0 n)) (sym count)))
+
+-- what `image_of` gives for components alike, by the bytes that are made of their strips
+pub image-joint : (components : List Component) (shape : JointShape) (width height : ℕ) (samples : List ℕ)
+    (transform : ColorTransform) (convert : ColorConvert) (w h : ℕ) (bytes : List ℕ)
+    → AllHaveSampling components → IsShapeOf components width height shape
+    → length samples ≡ shape.rows * row_size shape → conversion_of (length components) transform ≡ Ok convert
+    → w ≡ width → h ≡ height → bytes ≡ joint_bytes convert shape w samples h
+    → image_of components (joint_planes shape samples) width height transform ≡ Ok bytes
+image-joint components shape width height samples transform convert w h bytes factors is full conversion e f made =
+    image-is components (joint_planes shape samples) width height transform convert (map plain components) bytes
+    conversion (sources-alike components width height shape.stride (omega (arith, is.count, is.some)) factors is.alike)
+    (made ∙ (λ i. joint_bytes convert shape (e i) samples (f i)) ∙ sym (picture-joint convert shape width samples height
+    components is.count is.alike.strides is.wide is.high full))
