@@ -1,7 +1,6 @@
 -- Steps of the loop that passes over the tokens of a band.
 use Rattle.std.proofs.Common.{◌≡◌, ℕ, ◌-◌, ◌<◌, ◌≤◌, Bool, true, false, List, drop, replicate, Ok, Err, refl, ap, ◌∙◌}
 use Rattle.std.proofs.Common.{arith, is_ok, sym, Option, ◌++◌}
-use Rattle.std.proofs.lemmas.List.{take-take}
 use Rattle.jpeg_bits.specs.Stream.{Stream}
 use Rattle.jpeg_bits.specs.Entropy.{Text, Ahead, Takes, advance, upcoming_by, upcoming, same_text, has_held, IsFilled}
 use Rattle.jpeg_bits.specs.Codes.{Table}
@@ -15,20 +14,10 @@ use Rattle.jpeg_bits.specs.declared.tokens.Token.{Token}
 use Rattle.jpeg_bits.proofs.BandLoop.{Leaves}
 use Rattle.jpeg_bits.proofs.BandSteps.{Leaves-ok, Leaves-err, Leaves-end}
 use Rattle.jpeg_bits.proofs.Held.{has_bits-held, advance-held, filled-less, ok_unit}
-use Rattle.jpeg_bits.proofs.Reservoirs.{same_zeros}
-use Rattle.jpeg_bits.proofs.ShortLemmas.{next-held}
 use Rattle.jpeg_bits.proofs.SkipLemmas.{run-token, run-none}
 use Rattle.jpeg_bits.proofs.Texts.{second_ok}
+use Rattle.jpeg_bits.proofs.WideTokens.{front-text}
 use Rattle.jpeg_bits.specs.declared.tokens.Token.TheVariants.{Rest, Overlong}
-
--- the 12 bits that are held are those of the text
-twelve-held : (bits : List Bool) (met : Option DataEnd) (bytes : List ℕ) → IsFilled 16 bits met
-    → next_bits 12 (upcoming_by bits met bytes).bits ≡ next_bits 12 bits
-twelve-held bits met bytes filled =
-    let xs = (upcoming_by bits met bytes).bits in
-    same_zeros xs 12 12 16 (omega arith) (omega arith)
-    ∙ sym (take-take 12 16 (xs ++ replicate 16 false) (omega arith))
-    ∙ next-held 12 bits met bytes (omega arith) (filled-less 12 16 bits met (omega arith) filled)
 
 after-held : (table : Table) (left n passed : ℕ) (last : Bool) (bits : List Bool) (met : Option DataEnd)
     (bytes : List ℕ) → IsFilled 16 bits met → IsSkip table (next_bits 12 bits) (n, passed, last) → passed < left
@@ -38,7 +27,7 @@ after-held : (table : Table) (left n passed : ℕ) (last : Bool) (bits : List Bo
 after-held table left n passed last bits met bytes filled skip lt most ok =
     let few : n ≤ 16 = omega (arith, skip.few) in
     skip.passes left lt most (upcoming_by bits met bytes) (
-      twelve-held bits met bytes filled,
+      front-text 12 bits met bytes (omega arith) (filled-less 12 16 bits met (omega arith) filled),
       has_bits-held n bits met bytes (filled-less n 16 bits met few filled) ∙ ok_unit _ ok,
     )
 

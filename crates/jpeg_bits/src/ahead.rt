@@ -454,7 +454,8 @@ impl Held {
     /// filled.
     #[inline(always)]
     pub(crate) fn next_pair(&self, table: &HuffmanTable) -> Pair
-        ensures { IsPairOf table.now (next_bits 11 self.now.bits) result }
+        ensures pair { IsPairOf table.now (next_bits 11 self.now.bits) result }
+        ensures counted { length table.now.counts ≡ 16 }
     {
         table.pair_of(self.bits.front_16())
     }
