@@ -169,7 +169,7 @@ value-buffered table room bits met bytes used more v r n counted filled le held 
     (front-text 11 bits met bytes (omega arith) (less 11 (omega arith))) ∙ is)
     ∙ ap (λ (w : Text). Ok (Value r v, w)) (advance-held (used + n) bits met bytes (less (used + n) le))
 
-few-bits : (most : ℕ) (class : HuffmanTableClass) (bits : List Bool) (o : Option (ℕ × ℕ)) (v : ℤ) (r n : ℕ)
+pub few-bits : (most : ℕ) (class : HuffmanTableClass) (bits : List Bool) (o : Option (ℕ × ℕ)) (v : ℤ) (r n : ℕ)
     → short_value_by most class bits o ≡ Some (v, r, n) → n ≤ most
 few-bits most class bits o v r n h = grind (arith, false≢true, all_short)
 
