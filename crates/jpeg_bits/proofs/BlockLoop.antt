@@ -1,12 +1,12 @@
 -- Steps of the loop over the tokens of a band, at a zigzag place of a block in block order.
-use Rattle.std.proofs.Common.{◌≡◌, ℕ, ◌+◌, ◌-◌, ◌^◌, ◌<◌, ◌≤◌, List, length, get_or, set, ℤ, pos, ◌*ℤ◌, Result, Ok, Err}
+use Rattle.std.proofs.Common.{◌≡◌, ℕ, ◌+◌, ◌-◌, ◌^◌, ◌<◌, ◌≤◌, List, length, take, drop, get_or, set, ℤ, pos, ◌*ℤ◌, Result, Ok, Err}
 use Rattle.std.proofs.Common.{ap, ◌∙◌, arith}
 use Rattle.jpeg_bits.specs.Stream.{Stream}
-use Rattle.jpeg_bits.specs.Entropy.{Ahead, Takes}
+use Rattle.jpeg_bits.specs.Entropy.{Ahead, Takes, same_text}
 use Rattle.jpeg_bits.specs.Codes.{Table}
 use Rattle.jpeg_bits.specs.declared.error.Error.{Error}
 use Rattle.jpeg_bits.specs.Readers.{Reads}
-use Rattle.jpeg_bits.specs.Bands.{Band, wrapped, token_from}
+use Rattle.jpeg_bits.specs.Bands.{Band, wrapped, token_from, first_ac}
 use Rattle.jpeg_bits.specs.Passes.{Pass}
 use Rattle.jpeg_bits.specs.Zigzag.{zigzag}
 use Rattle.jpeg_bits.specs.BlockView.{IsPass}
@@ -14,13 +14,22 @@ use Rattle.jpeg_bits.specs.ZigzagParts.{band_start, band_end, band_in}
 use Rattle.jpeg_bits.specs.declared.tokens.Token.{Token}
 use Rattle.jpeg_bits.specs.declared.tokens.Token.TheVariants.{Value, Sixteen}
 use Rattle.jpeg_bits.proofs.BandLoop.{IsAt, IsLast, IsAt-value, IsAt-sixteen, IsAt-all, IsAt-last, IsAt-refused}
-use Rattle.jpeg_bits.proofs.BandLoop.{IsAt-none}
+use Rattle.jpeg_bits.proofs.BandLoop.{IsAt-none, after_front}
+use Rattle.jpeg_bits.proofs.BandSteps.{Leaves-held}
 use Rattle.jpeg_bits.proofs.ZigzagParts.{band-length, part-set}
 
 -- the band of a block is written up to a zigzag place
 abbrev pub IsAtPlace : Table → Pass → Reads Band → Ahead → Stream → List ℤ → ℕ → Ahead → Stream → Type 0
 IsAtPlace table p whole a old block at b cur =
     IsAt table p.al whole a old (band_in p block) (at - band_start p) b cur
+
+-- bits are buffered
+pub place-held : (table : Table) (p : Pass) (whole : Reads Band) (a b d : Ahead) (old cur mid : Stream) (block : List ℤ)
+    (at : ℕ) → IsAtPlace table p whole a old block at b cur → Takes (λ (u : Unit {0}). 0) same_text b cur (Ok tt) d mid
+    → IsAtPlace table p whole a old block at d mid
+place-held table p whole a b d old cur mid block at h q =
+    (h.0, h.1, Leaves-held whole (after_front (take (at - band_start p) (band_in p block)) (first_ac table p.al h.0
+    (drop (at - band_start p) (band_in p block)))) a b d old cur mid h.2 q)
 
 module _ (table : Table) (p : Pass) (whole : Reads Band) (a b d : Ahead) (old cur new : Stream) (block : List ℤ)
     (at end : ℕ) (is : IsPass p) (e : end ≡ band_end p) (from : band_start p ≤ at) (lt : at < end)

@@ -1,6 +1,7 @@
 -- The values that 11 bits begin with, one or two: how their look-up table is filled, and how they are read.
+use Rattle.std.proofs.lemmas.Bool.{false≢true}
 use Rattle.std.proofs.lemmas.Bool.Decides.{nat_tests}
-use Rattle.std.proofs.Common.{◌≡◌, ℕ, ℤ, zero, suc, ◌+◌, ◌*◌, ◌%◌, ◌^◌, ◌<◌, ◌≤◌, nat_lt, ◌==◌, ◌||◌, Bool, true, false}
+use Rattle.std.proofs.Common.{◌≡◌, ℕ, ℤ, zero, suc, ◌+◌, ◌-◌, ◌*◌, ◌%◌, ◌^◌, ◌<◌, ◌≤◌, nat_lt, ◌==◌, ◌||◌, Bool, true, false}
 use Rattle.std.proofs.Common.{List, [], ◌∷◌, ◌++◌, length, drop, replicate, get_or, set, pos, ◌*ℤ◌, Option, Some, None}
 use Rattle.std.proofs.Common.{if◌then◌else◌, Ok, refl, sym, ap, ◌∙◌, subst, arith, ◌⊎◌, inl, inr, length-set}
 use Rattle.jpeg_bits.specs.Entropy.{Ahead, Takes, upcoming, IsFilled, has_held}
@@ -67,7 +68,7 @@ module _ (table : Table) (bits : List Bool) (p : Pair) (some : p.passed < 64) wh
   seen-after v r n few e None f is =
       elim (by-tests (n == 0) true (v, r, n) (packed None) p is some) [
         | inl one ↦ subst (Seen table bits) (sym one) (One v r n few e)
-        | inr two ↦ absurd (true≢false two.0)
+        | inr two ↦ absurd (false≢true (sym two.0))
       ]
   seen-after v r n few e (Some (w, q, m)) f is =
       elim (by-tests (n == 0) ((m == 0) || nat_lt 11 (n + m)) (v, r, n) (w, q, m) p is some) [
@@ -98,3 +99,69 @@ pair-small table bits _ (One v r n few e) =
     record { first = omega arith; second = omega arith; few = few }
 pair-small table bits _ (Two v r n w q m few e f) =
     record { first = omega arith; second = omega arith; few = few }
+
+-- ---- how they are read
+
+set-twice : (xs : List ℤ) (i : ℕ) (y : ℤ) → set (set xs i y) i y ≡ set xs i y
+set-twice [] i y = refl
+set-twice (x ∷ xs) zero y = refl
+set-twice (x ∷ xs) (suc i) y = ap (λ (l : List ℤ). x ∷ l) (set-twice xs i y)
+
+module _ (table : Table) (counted : length table.counts ≡ 16) (d : Ahead) (filled : IsFilled 16 d.bits d.met)
+    (mid : Stream) where
+  -- after n of the buffered bits
+  abbrev after : ℕ → Ahead
+  after n = record { bits = drop n d.bits; met = d.met }
+
+  first-value : (room : ℕ) (v : ℤ) (r n : ℕ) → short_value_of 11 table (next_bits 11 d.bits) ≡ Some (v, r, n)
+      → has_held n d.bits d.met ≡ Ok tt → r < room
+      → Takes (λ (t : Token). t) (token_from table room) d mid (Ok (Value r v)) (after n) mid
+  first-value room v r n e held within = (
+    refl,
+    λ known. (
+      known,
+      wide-taken table room d (after n) mid.bytes v r n counted filled e within held refl refl,
+    ),
+  )
+
+  second-value : (room n : ℕ) (w : ℤ) (q m : ℕ) → n + m ≤ 11
+      → short_value_of 11 table (drop n (next_bits 11 d.bits) ++ replicate n false) ≡ Some (w, q, m)
+      → has_held (n + m) d.bits d.met ≡ Ok tt → q < room
+      → Takes (λ (t : Token). t) (token_from table room) (after n) mid (Ok (Value q w)) (after (n + m)) mid
+  unfolding upcoming
+  second-value room n w q m few e held within = (
+    refl,
+    λ known. (
+      known,
+      value-buffered table room d.bits d.met mid.bytes n (replicate n false) w q m counted filled few held within e,
+    ),
+  )
+
+  module _ (p : Pass) (whole : Reads Band) (a : Ahead) (old : Stream) (block : List ℤ) (at end : ℕ) (is : IsPass p)
+      (last : end ≡ band_end p) (from : band_start p ≤ at) (long : length block ≡ 64)
+      (here : IsAtPlace table p whole a old block at d mid) where
+    -- The values of a pair are written, and its bits are taken.
+    pub place-pair : (pair : Pair) → Seen table (next_bits 11 d.bits) pair → at + pair.passed ≤ end
+        → has_held pair.bits d.bits d.met ≡ Ok tt → (x y : ℤ) → x ≡ wrapped (pair.first *ℤ pos (2 ^ p.al))
+        → y ≡ wrapped (pair.second *ℤ pos (2 ^ p.al))
+        → IsAtPlace table p whole a old (set (set block (get_or zigzag (at + pair.run) 0) x)
+        (get_or zigzag (at + pair.next) 0) y) (at + pair.passed) (after pair.bits) mid
+    place-pair _ (One v r n few e) room held x y value same =
+        let again : y ≡ x = same ∙ sym value in
+        let next : at + (r + 1) ≡ at + r + 1 = omega arith in
+        let i = get_or zigzag (at + r) 0 in
+        let written : set (set block i x) i y ≡ set block i x
+        = ap (set (set block i x) i) again ∙ set-twice block i x in
+        rw (written, next) (place-value table p whole a d (after n) old mid mid block at end is last from (omega arith)
+        here r v x long (omega arith) value (first-value (end - at) v r n e held (omega arith)))
+    place-pair _ (Two v r n w q m few e f) room held x y value other =
+        let i = get_or zigzag (at + r) 0 in
+        let at' = at + r + 1 in
+        let index : at + (r + 1 + q) ≡ at' + q = omega arith in
+        let next : at + (r + q + 2) ≡ at' + q + 1 = omega arith in
+        let one = place-value table p whole a d (after n) old mid mid block at end is last from (omega arith) here r v x
+        long (omega arith) value (first-value (end - at) v r n e (fewer-held n (n + m) d.bits d.met (omega arith) held)
+        (omega arith)) in
+        rw (index, next) (place-value table p whole a (after n) (after (n + m)) old mid mid (set block i x) at' end is
+        last (omega arith) (omega arith) one q w y (length-set block i x ∙ long) (omega arith) other
+        (second-value (end - at') n w q m few f held (omega arith)))

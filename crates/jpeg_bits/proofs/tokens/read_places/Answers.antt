@@ -4,7 +4,7 @@ use Rattle.jpeg_bits.specs.Bands.{first_ac}
 use Rattle.jpeg_bits.specs.BlockView.{pass_in}
 use Rattle.jpeg_bits.specs.ZigzagParts.{band_start, band_end, band_in}
 use Rattle.jpeg_bits.proofs.BlockLoop.{place-value, place-sixteen, place-all, place-last, place-refused}
-use Rattle.jpeg_bits.proofs.BlockLoop.{place-none}
+use Rattle.jpeg_bits.proofs.BlockLoop.{place-none, place-held}
 use Rattle.jpeg_bits.proofs.ZigzagParts.{kept-set}
 use Rattle.jpeg_bits.proofs.tokens.read_places.Goals as goal
 
@@ -12,34 +12,40 @@ pub returns-in_default-clause-band : goal.returns-in_default-clause-band
 returns-in_default-clause-band g c =
     let p = pass_in c.args.pass in
     let band = band_in p c.args.block.now in
-    place-refused c.args.table.now p (first_ac c.args.table.now p.al (length band) band) c.args.held.now c.loop-at.held
-    c.read_token.new.held c.args.source.now c.loop-at.source c.read_token.new.source c.loop-at.block c.loop-at.at
+    let text = place-held c.args.table.now p (first_ac c.args.table.now p.al (length band) band) c.args.held.now
+    c.loop-at.held c.hold.new.self c.args.source.now c.loop-at.source c.hold.new.source c.loop-at.block c.loop-at.at
+    c.loop-at.invariant.text c.if-not-hold.ensures.holds in
+    place-refused c.args.table.now p (first_ac c.args.table.now p.al (length band) band) c.args.held.now c.hold.new.self
+    c.read_token.new.held c.args.source.now c.hold.new.source c.read_token.new.source c.loop-at.block c.loop-at.at
     c.band_end-end.result c.requires.pass c.band_end-end.ensures c.loop-at.invariant.from c.loop-at-test.true
-    c.loop-at.invariant.text _ c.in_default.ensures.token
+    text _ c.in_default.ensures.token
 
 pub loop-at-preserved-in-Value : goal.loop-at-preserved-in-Value
 loop-at-preserved-in-Value g c =
     let p = pass_in c.args.pass in
     let band = band_in p c.args.block.now in
-    let back = to_z-of_z w16 c.shifted.result (record { sfits = c.shifted.type_inv }) in
+    let text = place-held c.args.table.now p (first_ac c.args.table.now p.al (length band) band) c.args.held.now
+    c.loop-at.held c.hold.new.self c.args.source.now c.loop-at.source c.hold.new.source c.loop-at.block c.loop-at.at
+    c.loop-at.invariant.text c.if-not-hold.ensures.holds in
+    let back = to_z-of_z w16 c.shifted-in-Value.result (record { sfits = c.shifted-in-Value.type_inv }) in
     let room : c.in-Value.run' < c.band_end-end.result - c.loop-at.at = rw c.in-Value.is at c.in-Some.ensures.room in
     let fits : FitsSigned w16 c.in-Value.value = search rules in
-    let is = rw (to_z-of_z w16 c.in-Value.value fits) at c.shifted.ensures in
+    let is = rw (to_z-of_z w16 c.in-Value.value fits) at c.shifted-in-Value.ensures in
     let end = c.band_end-end.ensures in
     let last = c.requires.pass.end in
     let from = c.loop-at.invariant.from in
-    let place = rw c.from-at.ensures at c.place_of.ensures.value in
+    let place = rw c.from-at.ensures at c.place_of-in-Value.ensures.value in
     rw (c.from-at.ensures, back, place) record {
       len = length-set _ _ _ ∙ c.loop-at.invariant.len;
       from = omega arith;
       within = omega arith;
       text = place-value c.args.table.now p (first_ac c.args.table.now p.al (length band) band) c.args.held.now
-          c.loop-at.held c.read_token.new.held c.args.source.now c.loop-at.source c.read_token.new.source
+          c.hold.new.self c.read_token.new.held c.args.source.now c.hold.new.source c.read_token.new.source
           c.loop-at.block c.loop-at.at c.band_end-end.result c.requires.pass end from c.loop-at-test.true
-          c.loop-at.invariant.text c.in-Value.run' c.in-Value.value c.shifted.result c.loop-at.invariant.len room is
+          text c.in-Value.run' c.in-Value.value c.shifted-in-Value.result c.loop-at.invariant.len room is
           (rw c.in-Value.is at c.in-Some.ensures.token);
       others = kept-set (band_start p) (band_end p) (c.loop-at.at + c.in-Value.run') c.args.block.now c.loop-at.block
-          c.shifted.result c.loop-at.invariant.len (omega arith) (omega arith) (omega arith)
+          c.shifted-in-Value.result c.loop-at.invariant.len (omega arith) (omega arith) (omega arith)
           c.loop-at.invariant.others;
     }
 
@@ -47,6 +53,9 @@ pub loop-at-preserved-then-end-at-gt16 : goal.loop-at-preserved-then-end-at-gt16
 loop-at-preserved-then-end-at-gt16 g c =
     let p = pass_in c.args.pass in
     let band = band_in p c.args.block.now in
+    let text = place-held c.args.table.now p (first_ac c.args.table.now p.al (length band) band) c.args.held.now
+    c.loop-at.held c.hold.new.self c.args.source.now c.loop-at.source c.hold.new.source c.loop-at.block c.loop-at.at
+    c.loop-at.invariant.text c.if-not-hold.ensures.holds in
     let end = c.band_end-end.ensures in
     let from = c.loop-at.invariant.from in
     record {
@@ -54,9 +63,9 @@ loop-at-preserved-then-end-at-gt16 g c =
       from = omega arith;
       within = omega arith;
       text = place-sixteen c.args.table.now p (first_ac c.args.table.now p.al (length band) band) c.args.held.now
-          c.loop-at.held c.read_token.new.held c.args.source.now c.loop-at.source c.read_token.new.source
+          c.hold.new.self c.read_token.new.held c.args.source.now c.hold.new.source c.read_token.new.source
           c.loop-at.block c.loop-at.at c.band_end-end.result c.requires.pass end from c.loop-at-test.true
-          c.loop-at.invariant.text (rw c.in-Sixteen.is at c.in-Some.ensures.token);
+          text (rw c.in-Sixteen.is at c.in-Some.ensures.token);
       others = c.loop-at.invariant.others;
     }
 
@@ -64,6 +73,9 @@ pub loop-at-preserved : goal.loop-at-preserved
 loop-at-preserved g c =
     let p = pass_in c.args.pass in
     let band = band_in p c.args.block.now in
+    let text = place-held c.args.table.now p (first_ac c.args.table.now p.al (length band) band) c.args.held.now
+    c.loop-at.held c.hold.new.self c.args.source.now c.loop-at.source c.hold.new.source c.loop-at.block c.loop-at.at
+    c.loop-at.invariant.text c.if-not-hold.ensures.holds in
     let end = c.band_end-end.ensures in
     let from = c.loop-at.invariant.from in
     record {
@@ -71,9 +83,9 @@ loop-at-preserved g c =
       from = omega arith;
       within = omega arith;
       text = place-all c.args.table.now p (first_ac c.args.table.now p.al (length band) band) c.args.held.now
-          c.loop-at.held c.read_token.new.held c.args.source.now c.loop-at.source c.read_token.new.source
+          c.hold.new.self c.read_token.new.held c.args.source.now c.hold.new.source c.read_token.new.source
           c.loop-at.block c.loop-at.at c.band_end-end.result c.requires.pass end from c.loop-at-test.true
-          c.loop-at.invariant.text (omega (arith, c.if-end-at-gt16.false))
+          text (omega (arith, c.if-end-at-gt16.false))
           (rw c.in-Sixteen.is at c.in-Some.ensures.token);
       others = c.loop-at.invariant.others;
     }
@@ -82,19 +94,25 @@ pub returns-in-Rest-clause-band : goal.returns-in-Rest-clause-band
 returns-in-Rest-clause-band g c =
     let p = pass_in c.args.pass in
     let band = band_in p c.args.block.now in
-    place-last c.args.table.now p (first_ac c.args.table.now p.al (length band) band) c.args.held.now c.loop-at.held
-    c.read_token.new.held c.args.source.now c.loop-at.source c.read_token.new.source c.loop-at.block c.loop-at.at
+    let text = place-held c.args.table.now p (first_ac c.args.table.now p.al (length band) band) c.args.held.now
+    c.loop-at.held c.hold.new.self c.args.source.now c.loop-at.source c.hold.new.source c.loop-at.block c.loop-at.at
+    c.loop-at.invariant.text c.if-not-hold.ensures.holds in
+    place-last c.args.table.now p (first_ac c.args.table.now p.al (length band) band) c.args.held.now c.hold.new.self
+    c.read_token.new.held c.args.source.now c.hold.new.source c.read_token.new.source c.loop-at.block c.loop-at.at
     c.band_end-end.result c.requires.pass c.band_end-end.ensures c.loop-at.invariant.from c.loop-at-test.true
-    c.loop-at.invariant.text _ c.in-Rest.run' refl (rw c.in-Rest.is at c.in-Some.ensures.token)
+    text _ c.in-Rest.run' refl (rw c.in-Rest.is at c.in-Some.ensures.token)
 
 pub returns-in-Overlong-clause-band : goal.returns-in-Overlong-clause-band
 returns-in-Overlong-clause-band g c =
     let p = pass_in c.args.pass in
     let band = band_in p c.args.block.now in
+    let text = place-held c.args.table.now p (first_ac c.args.table.now p.al (length band) band) c.args.held.now
+    c.loop-at.held c.hold.new.self c.args.source.now c.loop-at.source c.hold.new.source c.loop-at.block c.loop-at.at
+    c.loop-at.invariant.text c.if-not-hold.ensures.holds in
     place-last c.args.table.now p (first_ac c.args.table.now p.al (length band) band) c.args.held.now
-    c.loop-at.held c.read_token.new.held c.args.source.now c.loop-at.source c.read_token.new.source c.loop-at.block
+    c.hold.new.self c.read_token.new.held c.args.source.now c.hold.new.source c.read_token.new.source c.loop-at.block
     c.loop-at.at c.band_end-end.result c.requires.pass c.band_end-end.ensures c.loop-at.invariant.from
-    c.loop-at-test.true c.loop-at.invariant.text _ 0 refl (rw c.in-Overlong.is at c.in-Some.ensures.token)
+    c.loop-at-test.true text _ 0 refl (rw c.in-Overlong.is at c.in-Some.ensures.token)
 
 pub returns-clause-band : goal.returns-clause-band
 returns-clause-band g c =
@@ -105,3 +123,18 @@ returns-clause-band g c =
     place-none c.args.table.now p (first_ac c.args.table.now p.al (length band) band) c.args.held.now c.loop-at.held
     c.args.source.now c.loop-at.source c.loop-at.block c.loop-at.at c.requires.pass (omega arith)
     c.loop-at.invariant.text
+
+pub place_of-requires : goal.place_of-requires
+place_of-requires g c = ?
+
+pub place_of-requires-then-has : goal.place_of-requires-then-has
+place_of-requires-then-has g c = ?
+
+pub skip-requires : goal.skip-requires
+skip-requires g c = ?
+
+pub loop-at-smaller-then-has : goal.loop-at-smaller-then-has
+loop-at-smaller-then-has g c = ?
+
+pub loop-at-preserved-then-has : goal.loop-at-preserved-then-has
+loop-at-preserved-then-has g c = ?
