@@ -3,7 +3,7 @@ use Rattle.std.proofs.lemmas.Bool.{false≢true}
 use Rattle.std.proofs.lemmas.Bool.Decides.{nat_tests}
 use Rattle.std.proofs.Common.{◌≡◌, ℕ, ℤ, zero, suc, ◌+◌, ◌-◌, ◌*◌, ◌%◌, ◌^◌, ◌<◌, ◌≤◌, nat_lt, ◌==◌, ◌||◌, Bool, true, false}
 use Rattle.std.proofs.Common.{List, [], ◌∷◌, ◌++◌, length, drop, replicate, get_or, set, pos, ◌*ℤ◌, Option, Some, None}
-use Rattle.std.proofs.Common.{if◌then◌else◌, Ok, refl, sym, ap, ◌∙◌, subst, arith, ◌⊎◌, inl, inr, length-set}
+use Rattle.std.proofs.Common.{if◌then◌else◌, Ok, refl, sym, ap, ◌∙◌, subst, arith, ◌⊎◌, inl, inr, length-set, is_ok}
 use Rattle.jpeg_bits.specs.Entropy.{Ahead, Takes, upcoming, IsFilled, has_held}
 use Rattle.jpeg_bits.specs.Stream.{Stream}
 use Rattle.jpeg_bits.specs.Codes.{Table}
@@ -16,10 +16,12 @@ use Rattle.jpeg_bits.specs.Passes.{Pass}
 use Rattle.jpeg_bits.specs.Zigzag.{zigzag}
 use Rattle.jpeg_bits.specs.BlockView.{IsPass}
 use Rattle.jpeg_bits.specs.ZigzagParts.{band_start, band_end}
+use Rattle.jpeg_bits.specs.declared.ahead.DataEnd.{DataEnd}
 use Rattle.jpeg_bits.specs.declared.pairs.Pair.{Pair}
 use Rattle.jpeg_bits.specs.declared.tokens.Token.{Token}
 use Rattle.jpeg_bits.specs.declared.tokens.Token.TheVariants.{Value}
 use Rattle.jpeg_bits.proofs.BlockLoop.{IsAtPlace, place-value}
+use Rattle.jpeg_bits.proofs.Held.{ok_unit}
 use Rattle.jpeg_bits.proofs.ShortLemmas.{fewer-held}
 use Rattle.jpeg_bits.proofs.SkipLemmas.{bits-after}
 use Rattle.jpeg_bits.proofs.WideTokens.{few-bits, value-buffered, wide-taken}
@@ -100,7 +102,17 @@ pair-small table bits _ (One v r n few e) =
 pair-small table bits _ (Two v r n w q m few e f) =
     record { first = omega arith; second = omega arith; few = few }
 
+-- those of an entry that is within the room of a band
+pub pair-within : (table : Table) (bits : List Bool) (p : Pair) (passed at end : ℕ) → IsPairOf table bits p
+    → passed ≡ p.passed → 1 ≤ at → end ≤ 64 → passed ≤ end - at → Seen table bits p × IsSmall p
+pair-within table bits p passed at end h is from most le =
+    let seen = pair-seen table bits p (omega arith) h in (seen, pair-small table bits p seen)
+
 -- ---- how they are read
+
+ahead-is : (e : Ahead) (bits : List Bool) (met : Option DataEnd) → e.bits ≡ bits → e.met ≡ met
+    → e ≡ record { bits = bits; met = met }
+ahead-is e bits met b m = grind arith
 
 set-twice : (xs : List ℤ) (i : ℕ) (y : ℤ) → set (set xs i y) i y ≡ set xs i y
 set-twice [] i y = refl
@@ -141,7 +153,7 @@ module _ (table : Table) (counted : length table.counts ≡ 16) (d : Ahead) (fil
       (last : end ≡ band_end p) (from : band_start p ≤ at) (long : length block ≡ 64)
       (here : IsAtPlace table p whole a old block at d mid) where
     -- The values of a pair are written, and its bits are taken.
-    pub place-pair : (pair : Pair) → Seen table (next_bits 11 d.bits) pair → at + pair.passed ≤ end
+    place-pair : (pair : Pair) → Seen table (next_bits 11 d.bits) pair → at + pair.passed ≤ end
         → has_held pair.bits d.bits d.met ≡ Ok tt → (x y : ℤ) → x ≡ wrapped (pair.first *ℤ pos (2 ^ p.al))
         → y ≡ wrapped (pair.second *ℤ pos (2 ^ p.al))
         → IsAtPlace table p whole a old (set (set block (get_or zigzag (at + pair.run) 0) x)
@@ -165,3 +177,14 @@ module _ (table : Table) (counted : length table.counts ≡ 16) (d : Ahead) (fil
         rw (index, next) (place-value table p whole a (after n) (after (n + m)) old mid mid (set block i x) at' end is
         last (omega arith) (omega arith) one q w y (length-set block i x ∙ long) (omega arith) other
         (second-value (end - at') n w q m few f held (omega arith)))
+
+    pub pair-placed : (pair : Pair) → Seen table (next_bits 11 d.bits) pair → at + pair.passed ≤ end → (e : Ahead)
+        (count : ℕ) → count ≡ pair.bits → true ≡ is_ok (has_held count d.bits d.met) → e.bits ≡ drop count d.bits
+        → e.met ≡ d.met → (x y : ℤ) → x ≡ wrapped (pair.first *ℤ pos (2 ^ p.al))
+        → y ≡ wrapped (pair.second *ℤ pos (2 ^ p.al))
+        → IsAtPlace table p whole a old (set (set block (get_or zigzag (at + pair.run) 0) x)
+        (get_or zigzag (at + pair.next) 0) y) (at + pair.passed) e mid
+    pair-placed pair seen room e count same ok bits met x y value other =
+        let held = ap (λ (n : ℕ). has_held n d.bits d.met) (sym same) ∙ ok_unit (has_held count d.bits d.met) (sym ok) in
+        let taken = ahead-is e (drop pair.bits d.bits) d.met (bits ∙ ap (λ (n : ℕ). drop n d.bits) same) met in
+        rw taken (place-pair pair seen room held x y value other)
