@@ -3,12 +3,13 @@ use Rattle.std.proofs.lemmas.Bool.{false≢true}
 use Rattle.std.proofs.lemmas.Bool.Decides.{nat_tests}
 use Rattle.std.proofs.Common.{◌≡◌, ℕ, ℤ, zero, suc, ◌+◌, ◌-◌, ◌*◌, ◌%◌, ◌^◌, ◌<◌, ◌≤◌, nat_lt, ◌==◌, ◌||◌, Bool, true, false}
 use Rattle.std.proofs.Common.{List, [], ◌∷◌, ◌++◌, length, drop, replicate, get_or, set, pos, ◌*ℤ◌, Option, Some, None}
-use Rattle.std.proofs.Common.{if◌then◌else◌, Ok, refl, sym, ap, ◌∙◌, subst, arith, ◌⊎◌, inl, inr, length-set, is_ok}
+use Rattle.std.proofs.Common.{if◌then◌else◌, Ok, refl, sym, ap, ◌∙◌, subst, arith, length-set, is_ok}
 use Rattle.jpeg_bits.specs.Entropy.{Ahead, Takes, upcoming, IsFilled, has_held}
 use Rattle.jpeg_bits.specs.Stream.{Stream}
 use Rattle.jpeg_bits.specs.Codes.{Table}
-use Rattle.jpeg_bits.specs.ShortCodes.{symbol_in, short_value_of, next_bits, packed, HoldsWideValues}
-use Rattle.jpeg_bits.specs.Pairs.{ShortValue, no_pair, one_value, two_values, pair_by, value_in, pair_of, IsPairOf}
+use Rattle.jpeg_bits.specs.ShortCodes.{symbol_in, short_value_by, short_value_of, next_bits, packed}
+use Rattle.jpeg_bits.specs.ShortCodes.{HoldsWideValues}
+use Rattle.jpeg_bits.specs.Pairs.{ShortValue, no_pair, one_value, two_values, pair_by, value_in, pair_of, IsPairOf, IsSmall}
 use Rattle.jpeg_bits.specs.Written.{low_bits}
 use Rattle.jpeg_bits.specs.Readers.{Reads}
 use Rattle.jpeg_bits.specs.Bands.{Band, wrapped, token_from}
@@ -16,7 +17,7 @@ use Rattle.jpeg_bits.specs.Passes.{Pass}
 use Rattle.jpeg_bits.specs.Zigzag.{zigzag}
 use Rattle.jpeg_bits.specs.BlockView.{IsPass}
 use Rattle.jpeg_bits.specs.ZigzagParts.{band_start, band_end}
-use Rattle.jpeg_bits.specs.declared.ahead.DataEnd.{DataEnd}
+use Rattle.jpeg_bits.specs.declared.codes.HuffmanTableClass.{HuffmanTableClass}
 use Rattle.jpeg_bits.specs.declared.pairs.Pair.{Pair}
 use Rattle.jpeg_bits.specs.declared.tokens.Token.{Token}
 use Rattle.jpeg_bits.specs.declared.tokens.Token.TheVariants.{Value}
@@ -24,7 +25,7 @@ use Rattle.jpeg_bits.proofs.BlockLoop.{IsAtPlace, place-value}
 use Rattle.jpeg_bits.proofs.Held.{ok_unit}
 use Rattle.jpeg_bits.proofs.ShortLemmas.{fewer-held}
 use Rattle.jpeg_bits.proofs.SkipLemmas.{bits-after}
-use Rattle.jpeg_bits.proofs.WideTokens.{few-bits, value-buffered, wide-taken}
+use Rattle.jpeg_bits.proofs.WideTokens.{value-buffered, wide-taken}
 
 -- ---- the look-up table
 
@@ -44,75 +45,60 @@ pair-at table values b j holds size lt few is =
 
 -- ---- what is found
 
--- what is found: one value, or two
-pub data Seen (table : Table) (bits : List Bool) : Pair → Type 0 where
-  One : (v : ℤ) (r n : ℕ) → n ≤ 11 → short_value_of 11 table bits ≡ Some (v, r, n)
-      → Seen table bits (one_value (v, r, n))
-  Two : (v : ℤ) (r n : ℕ) (w : ℤ) (q m : ℕ) → n + m ≤ 11 → short_value_of 11 table bits ≡ Some (v, r, n)
-      → short_value_of 11 table (drop n bits ++ replicate n false) ≡ Some (w, q, m)
-      → Seen table bits (two_values (v, r, n) (w, q, m))
-
-by-tests : (a b : Bool) (v w : ShortValue) (p : Pair)
-    → p ≡ (if a then no_pair else (if b then one_value v else two_values v w)) → p.passed < 64
-    → (p ≡ one_value v) ⊎ ((b ≡ false) × (p ≡ two_values v w))
-by-tests true b v w p e some = absurd (omega (arith, some, ap (λ (q : Pair). q.passed) e))
-by-tests false true v w p e some = inl e
-by-tests false false v w p e some = inr (refl, e)
+abbrev by-tests : (a b : Bool) (v w : ShortValue) → Pair
+by-tests a b v w = if a then no_pair else (if b then one_value v else two_values v w)
 
 few-both : (n m : ℕ) → ((m == 0) || nat_lt 11 (n + m)) ≡ false → n + m ≤ 11
 few-both n m h = grind (arith, nat_tests)
 
-module _ (table : Table) (bits : List Bool) (p : Pair) (some : p.passed < 64) where
-  seen-after : (v : ℤ) (r n : ℕ) → n ≤ 11 → short_value_of 11 table bits ≡ Some (v, r, n) → (o : Option ShortValue)
-      → short_value_of 11 table (drop n bits ++ replicate n false) ≡ o → p ≡ pair_by (v, r, n) (packed o)
-      → Seen table bits p
-  unfolding pair_by
-  seen-after v r n few e None f is =
-      elim (by-tests (n == 0) true (v, r, n) (packed None) p is some) [
-        | inl one ↦ subst (Seen table bits) (sym one) (One v r n few e)
-        | inr two ↦ absurd (false≢true (sym two.0))
-      ]
-  seen-after v r n few e (Some (w, q, m)) f is =
-      elim (by-tests (n == 0) ((m == 0) || nat_lt 11 (n + m)) (v, r, n) (w, q, m) p is some) [
-        | inl one ↦ subst (Seen table bits) (sym one) (One v r n few e)
-        | inr two ↦ subst (Seen table bits) (sym two.1) (Two v r n w q m (few-both n m two.0) e f)
-      ]
+small-by : (a b : Bool) (v w : ShortValue) → v.2 ≤ 11 → (b ≡ false → v.2 + w.2 ≤ 11) → IsSmall (by-tests a b v w)
+small-by true b v w few both = record { first = omega arith; second = omega arith; few = omega arith }
+small-by false true v w few both = record { first = omega arith; second = omega arith; few = few }
+small-by false false v w few both = record { first = omega arith; second = omega arith; few = both refl }
 
-  pub pair-seen : IsPairOf table bits p → Seen table bits p
+few-in : (class : HuffmanTableClass) (bits : List Bool) (o : Option (ℕ × ℕ))
+    → (packed (short_value_by 11 class bits o)).2 ≤ 11
+few-in class bits o = grind arith
+
+pub pair-small : (table : Table) (bits : List Bool) (p : Pair) → p ≡ pair_of table bits → IsSmall p
+unfolding pair_of pair_by
+pair-small table bits p is =
+    let v = value_in table bits in
+    let w = value_in table (drop v.2 bits ++ replicate v.2 false) in
+    subst IsSmall (sym is) (small-by (v.2 == 0) ((w.2 == 0) || nat_lt 11 (v.2 + w.2)) v w
+    (few-in table.class bits (symbol_in table (bits ++ replicate 5 false))) (few-both v.2 w.2))
+
+-- what is found: one value, or two
+pub data Seen (table : Table) (bits : List Bool) : Pair → Type 0 where
+  One : (v : ℤ) (r n : ℕ) → short_value_of 11 table bits ≡ Some (v, r, n) → Seen table bits (one_value (v, r, n))
+  Two : (v : ℤ) (r n : ℕ) (w : ℤ) (q m : ℕ) → n + m ≤ 11 → short_value_of 11 table bits ≡ Some (v, r, n)
+      → short_value_of 11 table (drop n bits ++ replicate n false) ≡ Some (w, q, m)
+      → Seen table bits (two_values (v, r, n) (w, q, m))
+
+module _ (table : Table) (bits : List Bool) where
+  seen-by : (v : ℤ) (r n : ℕ) → short_value_of 11 table bits ≡ Some (v, r, n) → (o : Option ShortValue)
+      → short_value_of 11 table (drop n bits ++ replicate n false) ≡ o → (a b : Bool)
+      → b ≡ (((packed o).2 == 0) || nat_lt 11 (n + (packed o).2)) → (by-tests a b (v, r, n) (packed o)).passed < 64
+      → Seen table bits (by-tests a b (v, r, n) (packed o))
+  seen-by v r n e o f true b is some = absurd (omega (arith, some))
+  seen-by v r n e o f false true is some = One v r n e
+  seen-by v r n e None f false false is some = absurd (false≢true is)
+  seen-by v r n e (Some (w, q, m)) f false false is some = Two v r n w q m (few-both n m (sym is)) e f
+
+  pub pair-seen : (p : Pair) → IsPairOf table bits p → p.passed < 64 → Seen table bits p
   unfolding pair_of pair_by
-  pair-seen h = go (short_value_of 11 table bits) refl (h some)
+  pair-seen p h some =
+      subst (Seen table bits) (sym (h some)) (go (short_value_of 11 table bits) refl (subst (λ (p : Pair). p.passed < 64)
+      (h some) some))
     where
       go : (o : Option ShortValue) → short_value_of 11 table bits ≡ o
-          → p ≡ pair_by (packed o) (value_in table (drop (packed o).2 bits ++ replicate (packed o).2 false))
-          → Seen table bits p
-      go None e is = absurd (omega (arith, some, ap (λ (q : Pair). q.passed) is))
-      go (Some (v, r, n)) e is =
-          seen-after v r n (few-bits 11 table.class bits (symbol_in table (bits ++ replicate 5 false)) v r n e) e
-          (short_value_of 11 table (drop n bits ++ replicate n false)) refl is
-
--- the indices of the values, and the bits of both
-pub record IsSmall (p : Pair) : Type 0 where
-  pub first : p.run < p.passed
-  pub second : p.next < p.passed
-  pub few : p.bits ≤ 11
-
-pub pair-small : (table : Table) (bits : List Bool) (p : Pair) → Seen table bits p → IsSmall p
-pair-small table bits _ (One v r n few e) =
-    record { first = omega arith; second = omega arith; few = few }
-pair-small table bits _ (Two v r n w q m few e f) =
-    record { first = omega arith; second = omega arith; few = few }
-
--- those of an entry that is within the room of a band
-pub pair-within : (table : Table) (bits : List Bool) (p : Pair) (passed at end : ℕ) → IsPairOf table bits p
-    → passed ≡ p.passed → 1 ≤ at → end ≤ 64 → passed ≤ end - at → Seen table bits p × IsSmall p
-pair-within table bits p passed at end h is from most le =
-    let seen = pair-seen table bits p (omega arith) h in (seen, pair-small table bits p seen)
+          → (pair_by (packed o) (value_in table (drop (packed o).2 bits ++ replicate (packed o).2 false))).passed < 64
+          → Seen table bits (pair_by (packed o) (value_in table (drop (packed o).2 bits ++ replicate (packed o).2 false)))
+      go None e some = absurd (omega (arith, some))
+      go (Some (v, r, n)) e some =
+          seen-by v r n e (short_value_of 11 table (drop n bits ++ replicate n false)) refl (n == 0) _ refl some
 
 -- ---- how they are read
-
-ahead-is : (e : Ahead) (bits : List Bool) (met : Option DataEnd) → e.bits ≡ bits → e.met ≡ met
-    → e ≡ record { bits = bits; met = met }
-ahead-is e bits met b m = grind arith
 
 set-twice : (xs : List ℤ) (i : ℕ) (y : ℤ) → set (set xs i y) i y ≡ set xs i y
 set-twice [] i y = refl
@@ -121,70 +107,58 @@ set-twice (x ∷ xs) (suc i) y = ap (λ (l : List ℤ). x ∷ l) (set-twice xs i
 
 module _ (table : Table) (counted : length table.counts ≡ 16) (d : Ahead) (filled : IsFilled 16 d.bits d.met)
     (mid : Stream) where
-  -- after n of the buffered bits
-  abbrev after : ℕ → Ahead
-  after n = record { bits = drop n d.bits; met = d.met }
-
-  first-value : (room : ℕ) (v : ℤ) (r n : ℕ) → short_value_of 11 table (next_bits 11 d.bits) ≡ Some (v, r, n)
-      → has_held n d.bits d.met ≡ Ok tt → r < room
-      → Takes (λ (t : Token). t) (token_from table room) d mid (Ok (Value r v)) (after n) mid
-  first-value room v r n e held within = (
+  Takes-first : (room : ℕ) (v : ℤ) (r n : ℕ) (e : Ahead)
+      → short_value_of 11 table (next_bits 11 d.bits) ≡ Some (v, r, n) → has_held n d.bits d.met ≡ Ok tt → r < room
+      → e.bits ≡ drop n d.bits → e.met ≡ d.met
+      → Takes (λ (t : Token). t) (token_from table room) d mid (Ok (Value r v)) e mid
+  Takes-first room v r n e is held within bits met = (
     refl,
-    λ known. (
-      known,
-      wide-taken table room d (after n) mid.bytes v r n counted filled e within held refl refl,
-    ),
+    λ known. (known, wide-taken table room d e mid.bytes v r n counted filled is within held bits met),
   )
 
-  second-value : (room n : ℕ) (w : ℤ) (q m : ℕ) → n + m ≤ 11
+  Takes-second : (room n : ℕ) (w : ℤ) (q m : ℕ) (e : Ahead) → n + m ≤ 11
       → short_value_of 11 table (drop n (next_bits 11 d.bits) ++ replicate n false) ≡ Some (w, q, m)
-      → has_held (n + m) d.bits d.met ≡ Ok tt → q < room
-      → Takes (λ (t : Token). t) (token_from table room) (after n) mid (Ok (Value q w)) (after (n + m)) mid
+      → has_held (n + m) d.bits d.met ≡ Ok tt → q < room → e.bits ≡ drop (n + m) d.bits → e.met ≡ d.met
+      → Takes (λ (t : Token). t) (token_from table room) (record { bits = drop n d.bits; met = d.met }) mid
+      (Ok (Value q w)) e mid
   unfolding upcoming
-  second-value room n w q m few e held within = (
+  Takes-second room n w q m e few is held within bits met = (
     refl,
     λ known. (
       known,
-      value-buffered table room d.bits d.met mid.bytes n (replicate n false) w q m counted filled few held within e,
+      rw (bits, met) (value-buffered table room d.bits d.met mid.bytes n (replicate n false) w q m counted filled few
+          held within is),
     ),
   )
 
-  module _ (p : Pass) (whole : Reads Band) (a : Ahead) (old : Stream) (block : List ℤ) (at end : ℕ) (is : IsPass p)
+  module _ (p : Pass) (whole : Reads Band) (a : Ahead) (old : Stream) (block : List ℤ) (at end : ℕ) (pass : IsPass p)
       (last : end ≡ band_end p) (from : band_start p ≤ at) (long : length block ≡ 64)
       (here : IsAtPlace table p whole a old block at d mid) where
     -- The values of a pair are written, and its bits are taken.
-    place-pair : (pair : Pair) → Seen table (next_bits 11 d.bits) pair → at + pair.passed ≤ end
-        → has_held pair.bits d.bits d.met ≡ Ok tt → (x y : ℤ) → x ≡ wrapped (pair.first *ℤ pos (2 ^ p.al))
-        → y ≡ wrapped (pair.second *ℤ pos (2 ^ p.al))
+    pub place-pair : (pair : Pair) → Seen table (next_bits 11 d.bits) pair → at + pair.passed ≤ end
+        → true ≡ is_ok (has_held pair.bits d.bits d.met) → (e : Ahead) → e.bits ≡ drop pair.bits d.bits → e.met ≡ d.met
+        → (x y : ℤ) → x ≡ wrapped (pair.first *ℤ pos (2 ^ p.al)) → y ≡ wrapped (pair.second *ℤ pos (2 ^ p.al))
         → IsAtPlace table p whole a old (set (set block (get_or zigzag (at + pair.run) 0) x)
-        (get_or zigzag (at + pair.next) 0) y) (at + pair.passed) (after pair.bits) mid
-    place-pair _ (One v r n few e) room held x y value same =
+        (get_or zigzag (at + pair.next) 0) y) (at + pair.passed) e mid
+    place-pair _ (One v r n is) room ok e bits met x y value same =
         let again : y ≡ x = same ∙ sym value in
         let next : at + (r + 1) ≡ at + r + 1 = omega arith in
         let i = get_or zigzag (at + r) 0 in
         let written : set (set block i x) i y ≡ set block i x
         = ap (set (set block i x) i) again ∙ set-twice block i x in
-        rw (written, next) (place-value table p whole a d (after n) old mid mid block at end is last from (omega arith)
-        here r v x long (omega arith) value (first-value (end - at) v r n e held (omega arith)))
-    place-pair _ (Two v r n w q m few e f) room held x y value other =
+        rw (written, next) (place-value table p whole a d e old mid mid block at end pass last from (omega arith)
+        here r v x long (omega arith) value (Takes-first (end - at) v r n e is (ok_unit _ (sym ok)) (omega arith) bits
+        met))
+    place-pair _ (Two v r n w q m few is then-is) room ok e bits met x y value other =
+        let held = ok_unit _ (sym ok) in
+        let mid-way : Ahead = record { bits = drop n d.bits; met = d.met } in
         let i = get_or zigzag (at + r) 0 in
         let at' = at + r + 1 in
         let index : at + (r + 1 + q) ≡ at' + q = omega arith in
         let next : at + (r + q + 2) ≡ at' + q + 1 = omega arith in
-        let one = place-value table p whole a d (after n) old mid mid block at end is last from (omega arith) here r v x
-        long (omega arith) value (first-value (end - at) v r n e (fewer-held n (n + m) d.bits d.met (omega arith) held)
-        (omega arith)) in
-        rw (index, next) (place-value table p whole a (after n) (after (n + m)) old mid mid (set block i x) at' end is
-        last (omega arith) (omega arith) one q w y (length-set block i x ∙ long) (omega arith) other
-        (second-value (end - at') n w q m few f held (omega arith)))
-
-    pub pair-placed : (pair : Pair) → Seen table (next_bits 11 d.bits) pair → at + pair.passed ≤ end → (e : Ahead)
-        (count : ℕ) → count ≡ pair.bits → true ≡ is_ok (has_held count d.bits d.met) → e.bits ≡ drop count d.bits
-        → e.met ≡ d.met → (x y : ℤ) → x ≡ wrapped (pair.first *ℤ pos (2 ^ p.al))
-        → y ≡ wrapped (pair.second *ℤ pos (2 ^ p.al))
-        → IsAtPlace table p whole a old (set (set block (get_or zigzag (at + pair.run) 0) x)
-        (get_or zigzag (at + pair.next) 0) y) (at + pair.passed) e mid
-    pair-placed pair seen room e count same ok bits met x y value other =
-        let held = ap (λ (n : ℕ). has_held n d.bits d.met) (sym same) ∙ ok_unit (has_held count d.bits d.met) (sym ok) in
-        let taken = ahead-is e (drop pair.bits d.bits) d.met (bits ∙ ap (λ (n : ℕ). drop n d.bits) same) met in
-        rw taken (place-pair pair seen room held x y value other)
+        let one = place-value table p whole a d mid-way old mid mid block at end pass last from (omega arith) here r v x
+        long (omega arith) value (Takes-first (end - at) v r n mid-way is
+        (fewer-held n (n + m) d.bits d.met (omega arith) held) (omega arith) refl refl) in
+        rw (index, next) (place-value table p whole a mid-way e old mid mid (set block i x) at' end pass last
+        (omega arith) (omega arith) one q w y (length-set block i x ∙ long) (omega arith) other
+        (Takes-second (end - at') n w q m e few then-is held (omega arith) bits met))

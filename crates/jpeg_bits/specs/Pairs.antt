@@ -55,6 +55,12 @@ pair_of table bits =
 abbrev pub IsPairOf : Table → List Bool → Pair → Type 0
 IsPairOf table bits pair = pair.passed < 64 → pair ≡ pair_of table bits
 
+-- The values are within the coefficients that are passed, and their bits are few.
+pub record IsSmall (pair : Pair) : Type 0 where
+  pub first : pair.run < pair.passed
+  pub second : pair.next < pair.passed
+  pub few : pair.bits ≤ 11
+
 -- the values that 11 bits begin with, at the index of each, where the table is filled
 abbrev pub HoldsPairs : Table → List Pair → Type 0
 HoldsPairs table pairs = (b : ℕ) → b < length pairs

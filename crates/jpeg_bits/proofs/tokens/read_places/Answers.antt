@@ -5,7 +5,7 @@ use Rattle.jpeg_bits.specs.BlockView.{pass_in}
 use Rattle.jpeg_bits.specs.ZigzagParts.{band_start, band_end, band_in}
 use Rattle.jpeg_bits.proofs.BlockLoop.{place-value, place-sixteen, place-all, place-last, place-refused}
 use Rattle.jpeg_bits.proofs.BlockLoop.{place-none, place-held}
-use Rattle.jpeg_bits.proofs.PairLemmas.{pair-within, pair-placed}
+use Rattle.jpeg_bits.proofs.PairLemmas.{pair-seen, place-pair}
 use Rattle.jpeg_bits.specs.ShortCodes.{next_bits}
 use Rattle.jpeg_bits.specs.Zigzag.{zigzag}
 use Rattle.jpeg_bits.proofs.ZigzagParts.{kept-set}
@@ -127,93 +127,44 @@ returns-clause-band g c =
     c.args.source.now c.loop-at.source c.loop-at.block c.loop-at.at c.requires.pass (omega arith)
     c.loop-at.invariant.text
 
-pub place_of-requires : goal.place_of-requires
-place_of-requires g c =
-    let l = c.loop-at in
-    let end = c.band_end-end.ensures in
-    let last = c.requires.pass.end in
-    let from = l.invariant.from in
-    let fits = c.if-passed-end.true in
-    let is = c.from-passed.ensures in
-    let found = pair-within c.args.table.now (next_bits 11 c.hold.new.self.bits) c.next_pair-pair.result
-    c.from-passed.result l.at c.band_end-end.result c.next_pair-pair.ensures.pair is (omega arith) (omega arith) fits in
-    omega (arith, found.1.first, c.from.ensures)
-
-pub place_of-requires-then-has : goal.place_of-requires-then-has
-place_of-requires-then-has g c =
-    let l = c.loop-at in
-    let end = c.band_end-end.ensures in
-    let last = c.requires.pass.end in
-    let from = l.invariant.from in
-    let fits = c.if-passed-end.true in
-    let is = c.from-passed.ensures in
-    let found = pair-within c.args.table.now (next_bits 11 c.hold.new.self.bits) c.next_pair-pair.result
-    c.from-passed.result l.at c.band_end-end.result c.next_pair-pair.ensures.pair is (omega arith) (omega arith) fits in
-    omega (arith, found.1.second, c.from-then-has.ensures)
-
-pub skip-requires : goal.skip-requires
-skip-requires g c =
-    let l = c.loop-at in
-    let end = c.band_end-end.ensures in
-    let last = c.requires.pass.end in
-    let from = l.invariant.from in
-    let fits = c.if-passed-end.true in
-    let is = c.from-passed.ensures in
-    let found = pair-within c.args.table.now (next_bits 11 c.hold.new.self.bits) c.next_pair-pair.result
-    c.from-passed.result l.at c.band_end-end.result c.next_pair-pair.ensures.pair is (omega arith) (omega arith) fits in
-    omega (arith, found.1.few, c.from-count.ensures)
-
-pub loop-at-smaller-then-has : goal.loop-at-smaller-then-has
-loop-at-smaller-then-has g c =
-    let l = c.loop-at in
-    let end = c.band_end-end.ensures in
-    let last = c.requires.pass.end in
-    let from = l.invariant.from in
-    let fits = c.if-passed-end.true in
-    let is = c.from-passed.ensures in
-    let found = pair-within c.args.table.now (next_bits 11 c.hold.new.self.bits) c.next_pair-pair.result
-    c.from-passed.result l.at c.band_end-end.result c.next_pair-pair.ensures.pair is (omega arith) (omega arith) fits in
-    omega (arith, found.1.first)
-
 pub loop-at-preserved-then-has : goal.loop-at-preserved-then-has
 loop-at-preserved-then-has g c =
-    let l = c.loop-at in
-    let end = c.band_end-end.ensures in
-    let last = c.requires.pass.end in
-    let from = l.invariant.from in
-    let fits = c.if-passed-end.true in
-    let is = c.from-passed.ensures in
-    let found = pair-within c.args.table.now (next_bits 11 c.hold.new.self.bits) c.next_pair-pair.result
-    c.from-passed.result l.at c.band_end-end.result c.next_pair-pair.ensures.pair is (omega arith) (omega arith) fits in
     let p = pass_in c.args.pass in
+    let l = c.loop-at in
     let d = c.hold.new.self in
     let table = c.args.table.now in
     let pair = c.next_pair-pair.result in
     let band = band_in p c.args.block.now in
-    let run = found.1.first in
-    let next = found.1.second in
+    let end = c.band_end-end.ensures in
+    let last = c.requires.pass.end in
+    let from = l.invariant.from in
+    let fits = c.if-passed-end.true in
+    let is = c.from-passed.ensures in
+    let run = c.next_pair-pair.ensures.small.first in
+    let next = c.next_pair-pair.ensures.small.second in
+    let seen = pair-seen table (next_bits 11 d.bits) pair c.next_pair-pair.ensures.pair (omega arith) in
     let back = to_z-of_z w16 c.shifted.result (record { sfits = c.shifted.type_inv }) in
     let back' = to_z-of_z w16 c.shifted-then-has.result (record { sfits = c.shifted-then-has.type_inv }) in
     let fit : FitsSigned w16 pair.first = search rules in
     let fit' : FitsSigned w16 pair.second = search rules in
-    let value = rw (to_z-of_z w16 pair.first fit) at c.shifted.ensures in
-    let other = rw (to_z-of_z w16 pair.second fit') at c.shifted-then-has.ensures in
     let index = rw c.from.ensures at c.place_of.ensures.value in
     let index' = rw c.from-then-has.ensures at c.place_of-then-has.ensures.value in
     let text = place-held table p (first_ac table p.al (length band) band) c.args.held.now l.held d c.args.source.now
     l.source c.hold.new.source l.block l.at l.invariant.text c.if-not-hold.ensures.holds in
-    let written = set l.block (get_or zigzag (l.at + pair.run) 0) c.shifted.result in
     rw (is, back, back', index, index') record {
       len = length-set _ _ _ ∙ length-set _ _ _ ∙ l.invariant.len;
       from = omega arith;
       within = omega arith;
-      text = pair-placed table c.next_pair-pair.ensures.counted d (c.if-not-hold.ensures.full refl) c.hold.new.source p
+      text = place-pair table c.next_pair-pair.ensures.counted d (c.if-not-hold.ensures.full refl) c.hold.new.source p
           (first_ac table p.al (length band) band) c.args.held.now c.args.source.now l.block l.at c.band_end-end.result
-          c.requires.pass end from l.invariant.len text pair found.0 (omega arith) c.skip.new.self c.from-count.result
-          c.from-count.ensures c.if-has.ensures c.skip.ensures.bits c.skip.ensures.met c.shifted.result
-          c.shifted-then-has.result value other;
-      others = kept-set (band_start p) (band_end p) (l.at + pair.next) c.args.block.now written
-          c.shifted-then-has.result (length-set _ _ _ ∙ l.invariant.len) (omega arith) (omega arith) (omega arith)
+          c.requires.pass end from l.invariant.len text pair seen (omega arith)
+          (rw c.from-count.ensures at c.if-has.ensures) c.skip.new.self (rw c.from-count.ensures at c.skip.ensures.bits)
+          c.skip.ensures.met c.shifted.result c.shifted-then-has.result
+          (rw (to_z-of_z w16 pair.first fit) at c.shifted.ensures)
+          (rw (to_z-of_z w16 pair.second fit') at c.shifted-then-has.ensures);
+      others = kept-set (band_start p) (band_end p) (l.at + pair.next) c.args.block.now
+          (set l.block (get_or zigzag (l.at + pair.run) 0) c.shifted.result) c.shifted-then-has.result
+          (length-set _ _ _ ∙ l.invariant.len) (omega arith) (omega arith) (omega arith)
           (kept-set (band_start p) (band_end p) (l.at + pair.run) c.args.block.now l.block c.shifted.result
           l.invariant.len (omega arith) (omega arith) (omega arith) l.invariant.others);
     }
