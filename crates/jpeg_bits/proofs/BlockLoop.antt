@@ -23,17 +23,17 @@ abbrev pub IsAtPlace : Table → Pass → Reads Band → Ahead → Stream → Li
 IsAtPlace table p whole a old block at b cur =
     IsAt table p.al whole a old (band_in p block) (at - band_start p) b cur
 
--- bits are buffered
-pub place-held : (table : Table) (p : Pass) (whole : Reads Band) (a b d : Ahead) (old cur mid : Stream) (block : List ℤ)
-    (at : ℕ) → IsAtPlace table p whole a old block at b cur → Takes (λ (u : Unit {0}). 0) same_text b cur (Ok tt) d mid
-    → IsAtPlace table p whole a old block at d mid
-place-held table p whole a b d old cur mid block at h q =
-    (h.0, h.1, Leaves-held whole (after_front (take (at - band_start p) (band_in p block)) (first_ac table p.al h.0
-    (drop (at - band_start p) (band_in p block)))) a b d old cur mid h.2 q)
-
-module _ (table : Table) (p : Pass) (whole : Reads Band) (a b d : Ahead) (old cur new : Stream) (block : List ℤ)
+-- where bits are buffered first
+module _ (table : Table) (p : Pass) (whole : Reads Band) (a b m d : Ahead) (old cur mid new : Stream) (block : List ℤ)
     (at end : ℕ) (is : IsPass p) (e : end ≡ band_end p) (from : band_start p ≤ at) (lt : at < end)
-    (here : IsAtPlace table p whole a old block at b cur) where
+    (before : IsAtPlace table p whole a old block at b cur)
+    (held : Takes (λ (u : Unit {0}). 0) same_text b cur (Ok tt) m mid) where
+  here : IsAtPlace table p whole a old block at m mid
+  here =
+      let n = at - band_start p in
+      (before.0, before.1, Leaves-held whole (after_front (take n (band_in p block)) (first_ac table p.al before.0
+      (drop n (band_in p block)))) a b m old cur mid before.2 held)
+
   abbrev place : ℕ
   place = at - band_start p
 
@@ -44,10 +44,10 @@ module _ (table : Table) (p : Pass) (whole : Reads Band) (a b d : Ahead) (old cu
   room = let h = band-length p block is in let order = is.order in omega arith
 
   abbrev Gives : Result Token Error → Type 0
-  Gives r = Takes (λ (t : Token). t) (token_from table (end - at)) b cur r d new
+  Gives r = Takes (λ (t : Token). t) (token_from table (end - at)) m mid r d new
 
   token : (r : Result Token Error) → Gives r
-      → Takes (λ (t : Token). t) (token_from table (length (band_in p block) - place)) b cur r d new
+      → Takes (λ (t : Token). t) (token_from table (length (band_in p block) - place)) m mid r d new
   token r q = rw room at q
 
   pub place-value : (r : ℕ) (v w : ℤ) → length block ≡ 64 → r < end - at → w ≡ wrapped (v *ℤ pos (2 ^ p.al))
@@ -60,13 +60,13 @@ module _ (table : Table) (p : Pass) (whole : Reads Band) (a b d : Ahead) (old cu
       let put : band_in p (set block (get_or zigzag (at + r) 0) w) ≡ set (band_in p block) (place + r) w =
       part-set (band_start p) (band_end p) (at + r) block w n (omega arith) (omega arith) (omega arith)
       ∙ ap (λ (k : ℕ). set (band_in p block) k w) here' in
-      rw (next, put) (IsAt-value table p.al whole a b d old cur new (band_in p block) place within here r v w
+      rw (next, put) (IsAt-value table p.al whole a m d old mid new (band_in p block) place within here r v w
       (omega (arith, room)) same (token (Ok (Value r v)) q))
 
   pub place-sixteen : Gives (Ok Sixteen) → IsAtPlace table p whole a old block (at + 16) d new
   place-sixteen q =
       let next : at + 16 - band_start p ≡ place + 16 = omega arith in
-      rw next (IsAt-sixteen table p.al whole a b d old cur new (band_in p block) place within here
+      rw next (IsAt-sixteen table p.al whole a m d old mid new (band_in p block) place within here
       (token (Ok Sixteen) q))
 
   pub place-all : end - at ≤ 16 → Gives (Ok Sixteen) → IsAtPlace table p whole a old block end d new
@@ -74,17 +74,17 @@ module _ (table : Table) (p : Pass) (whole : Reads Band) (a b d : Ahead) (old cu
       let all = band-length p block is in
       let order = is.order in
       let next : end - band_start p ≡ length (band_in p block) = omega arith in
-      rw next (IsAt-all table p.al whole a b d old cur new (band_in p block) place within here (omega (arith, room))
+      rw next (IsAt-all table p.al whole a m d old mid new (band_in p block) place within here (omega (arith, room))
       (token (Ok Sixteen) q))
 
   pub place-last : (k : Token) (run : ℕ) → IsLast k run → Gives (Ok k)
       → Takes (λ (run : ℕ). (band_in p block, run)) whole a old (Ok run) d new
   place-last k run last q =
-      IsAt-last table p.al whole a b d old cur new (band_in p block) place within here k run last (token (Ok k) q)
+      IsAt-last table p.al whole a m d old mid new (band_in p block) place within here k run last (token (Ok k) q)
 
   pub place-refused : (x : Error) → Gives (Err x) → Takes (λ (run : ℕ). (band_in p block, run)) whole a old (Err x) d new
   place-refused x q =
-      IsAt-refused table p.al whole a b d old cur new (band_in p block) place within here
+      IsAt-refused table p.al whole a m d old mid new (band_in p block) place within here
       (λ (run : ℕ). (band_in p block, run)) x (token (Err x) q)
 
 pub place-none : (table : Table) (p : Pass) (whole : Reads Band) (a b : Ahead) (old new : Stream) (block : List ℤ)

@@ -4,7 +4,7 @@ use Rattle.std.proofs.lemmas.Bool.Decides.{nat_tests}
 use Rattle.std.proofs.Common.{◌≡◌, ℕ, ℤ, zero, suc, ◌+◌, ◌-◌, ◌*◌, ◌%◌, ◌^◌, ◌<◌, ◌≤◌, nat_lt, ◌==◌, ◌||◌, Bool, true, false}
 use Rattle.std.proofs.Common.{List, [], ◌∷◌, ◌++◌, length, drop, replicate, get_or, set, pos, ◌*ℤ◌, Option, Some, None}
 use Rattle.std.proofs.Common.{if◌then◌else◌, Ok, refl, sym, ap, ◌∙◌, subst, arith, length-set, is_ok}
-use Rattle.jpeg_bits.specs.Entropy.{Ahead, Takes, upcoming, IsFilled, has_held}
+use Rattle.jpeg_bits.specs.Entropy.{Ahead, Takes, upcoming, IsFilled, has_held, same_text}
 use Rattle.jpeg_bits.specs.Stream.{Stream}
 use Rattle.jpeg_bits.specs.Codes.{Table}
 use Rattle.jpeg_bits.specs.ShortCodes.{symbol_in, short_value_by, short_value_of, next_bits, packed}
@@ -131,10 +131,11 @@ module _ (table : Table) (counted : length table.counts ≡ 16) (d : Ahead) (fil
     ),
   )
 
-  module _ (p : Pass) (whole : Reads Band) (a : Ahead) (old : Stream) (block : List ℤ) (at end : ℕ) (pass : IsPass p)
-      (last : end ≡ band_end p) (from : band_start p ≤ at) (long : length block ≡ 64)
-      (here : IsAtPlace table p whole a old block at d mid) where
-    -- The values of a pair are written, and its bits are taken.
+  -- The values of a pair are written, and its bits are taken.
+  module _ (p : Pass) (whole : Reads Band) (a b : Ahead) (old cur : Stream) (block : List ℤ) (at end : ℕ)
+      (pass : IsPass p) (last : end ≡ band_end p) (from : band_start p ≤ at) (long : length block ≡ 64)
+      (before : IsAtPlace table p whole a old block at b cur)
+      (buffered : Takes (λ (u : Unit {0}). 0) same_text b cur (Ok tt) d mid) where
     pub place-pair : (pair : Pair) → Seen table (next_bits 11 d.bits) pair → at + pair.passed ≤ end
         → true ≡ is_ok (has_held pair.bits d.bits d.met) → (e : Ahead) → e.bits ≡ drop pair.bits d.bits → e.met ≡ d.met
         → (x y : ℤ) → x ≡ wrapped (pair.first *ℤ pos (2 ^ p.al)) → y ≡ wrapped (pair.second *ℤ pos (2 ^ p.al))
@@ -146,19 +147,19 @@ module _ (table : Table) (counted : length table.counts ≡ 16) (d : Ahead) (fil
         let i = get_or zigzag (at + r) 0 in
         let written : set (set block i x) i y ≡ set block i x
         = ap (set (set block i x) i) again ∙ set-twice block i x in
-        rw (written, next) (place-value table p whole a d e old mid mid block at end pass last from (omega arith)
-        here r v x long (omega arith) value (Takes-first (end - at) v r n e is (ok_unit _ (sym ok)) (omega arith) bits
-        met))
+        rw (written, next) (place-value table p whole a b d e old cur mid mid block at end pass last from (omega arith)
+        before buffered r v x long (omega arith) value (Takes-first (end - at) v r n e is (ok_unit _ (sym ok))
+        (omega arith) bits met))
     place-pair _ (Two v r n w q m few is then-is) room ok e bits met x y value other =
         let held = ok_unit _ (sym ok) in
-        let mid-way : Ahead = record { bits = drop n d.bits; met = d.met } in
+        let c : Ahead = record { bits = drop n d.bits; met = d.met } in
         let i = get_or zigzag (at + r) 0 in
         let at' = at + r + 1 in
         let index : at + (r + 1 + q) ≡ at' + q = omega arith in
         let next : at + (r + q + 2) ≡ at' + q + 1 = omega arith in
-        let one = place-value table p whole a d mid-way old mid mid block at end pass last from (omega arith) here r v x
-        long (omega arith) value (Takes-first (end - at) v r n mid-way is
+        let one = place-value table p whole a b d c old cur mid mid block at end pass last from (omega arith) before
+        buffered r v x long (omega arith) value (Takes-first (end - at) v r n c is
         (fewer-held n (n + m) d.bits d.met (omega arith) held) (omega arith) refl refl) in
-        rw (index, next) (place-value table p whole a mid-way e old mid mid (set block i x) at' end pass last
-        (omega arith) (omega arith) one q w y (length-set block i x ∙ long) (omega arith) other
-        (Takes-second (end - at') n w q m e few then-is held (omega arith) bits met))
+        rw (index, next) (place-value table p whole a c c e old mid mid mid (set block i x) at' end pass last
+        (omega arith) (omega arith) one (refl, λ known. (known, refl)) q w y (length-set block i x ∙ long) (omega arith)
+        other (Takes-second (end - at') n w q m e few then-is held (omega arith) bits met))

@@ -10,7 +10,8 @@ use Rattle.std.proofs.lemmas.List.{take-take}
 use Rattle.std.proofs.Math.Nat.{div-add-mod'}
 use Rattle.jpeg_bits.proofs.Reservoirs.{low_bits-append, low_bits-zeros, low_bits-take, low_bits-drop, low_bits-high}
 use Rattle.jpeg_bits.proofs.Reservoirs.{same_zeros}
-use Rattle.jpeg_bits.proofs.WideTokens.{none-left, value-within, advanced, held-first, held-then, token-seen}
+use Rattle.jpeg_bits.proofs.WideTokens.{none-left, value-within, advanced, held-then, token-seen}
+use Rattle.jpeg_bits.proofs.Fast.{both-held}
 use Rattle.jpeg_bits.specs.Reading.{Fault}
 use Rattle.jpeg_bits.specs.Entropy.{Text, advance, has_bits, bits_from}
 use Rattle.jpeg_bits.specs.Codes.{Table, next_16, code_from}
@@ -194,7 +195,7 @@ module _ (table : Table) (counted : length table.counts ≡ 16) (bits : List Boo
     skip-more count passed is le all h room lt most t b =
         let held : has_bits (used + size + s) t.bits t.ending ≡ Ok tt
         = ap (λ (k : ℕ). has_bits k t.bits t.ending) (omega (arith, is)) ∙ b.1 in
-        let here = held-first (used + size) s t held in
+        let here = both-held (used + size) s t.bits t.ending held in
         let room' = room - passed in
         let u = advance used t in
         let v = advance size u in
@@ -210,7 +211,7 @@ module _ (table : Table) (counted : length table.counts ≡ 16) (bits : List Boo
         let after : advance s v ≡ advance (used + count) t
         = ap (advance s) (advanced used size t) ∙ advanced (used + size) s t
         ∙ ap (λ (k : ℕ). advance k t) (omega (arith, is)) in
-        h room (omega arith) most t (b.0, held-first used size t here)
+        h room (omega arith) most t (b.0, both-held used size t.bits t.ending here)
         ∙ run-token table room' u (omega arith)
         ∙ ap (read_on (run_after (run_of table) room')) (seen room' t b.0 (omega (arith, is)) here)
         ∙ step
@@ -227,7 +228,7 @@ module _ (table : Table) (counted : length table.counts ≡ 16) (bits : List Boo
         let room' = room - passed in
         let u = advance used t in
         let v = advance size u in
-        h room lt most t (b.0, held-first used size t here)
+        h room lt most t (b.0, both-held used size t.bits t.ending here)
         ∙ run-token table room' u (omega arith)
         ∙ ap (read_on (run_after (run_of table) room')) (seen room' t b.0 (omega (arith, is)) here
         ∙ none-left room' size r s v none end)

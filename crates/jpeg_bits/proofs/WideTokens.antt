@@ -20,7 +20,7 @@ use Rattle.jpeg_bits.specs.declared.ahead.DataEnd.{DataEnd}
 use Rattle.jpeg_bits.specs.declared.tokens.Token.{Token}
 use Rattle.jpeg_bits.specs.declared.tokens.Token.TheVariants.{Value, Rest}
 use Rattle.jpeg_bits.proofs.Held.{has_bits-held, advance-held, filled-less}
-use Rattle.jpeg_bits.proofs.Fast.{no-bits}
+use Rattle.jpeg_bits.proofs.Fast.{no-bits, both-held}
 use Rattle.jpeg_bits.proofs.Reservoirs.{same_zeros}
 use Rattle.jpeg_bits.proofs.ShortLemmas.{IsShort, short_some, size_of, all_short, at_most, short_agree, value-bits}
 use Rattle.jpeg_bits.proofs.ShortLemmas.{length-next_bits, next-held}
@@ -42,9 +42,6 @@ none-left room size r s t none zero = rw (none, zero) (none-here room size t)
 
 pub advanced : (m n : ℕ) (t : Text) → advance n (advance m t) ≡ advance (m + n) t
 advanced m n t = grind (arith, common_steps, drop-drop)
-
-pub held-first : (n s : ℕ) (t : Text) → has_bits (n + s) t.bits t.ending ≡ Ok tt → has_bits n t.bits t.ending ≡ Ok tt
-held-first n s t h = grind (arith, common_steps, nat_tests, false≢true)
 
 pub held-then : (n s : ℕ) (t : Text) → has_bits (n + s) t.bits t.ending ≡ Ok tt
     → has_bits s (advance n t).bits (advance n t).ending ≡ Ok tt
@@ -92,14 +89,8 @@ seen-bits : (bits more : List Bool) (used l s : ℕ) → used + l + s ≤ 11
     → take s (drop l (drop used (next_bits 11 bits) ++ more)) ≡ take s (drop l (drop used bits) ++ replicate s false)
 seen-bits bits more used l s le =
     let xs = next_bits 11 bits in
-    let cut = length-drop used xs in
-    let rest = length-drop l (drop used xs) in
-    let long = length-next_bits 11 bits in
-    ap (take s) (drop-append-le l (drop used xs) more (omega arith))
-    ∙ take-append-le s (drop l (drop used xs)) more (omega arith)
-    ∙ ap (take s) (drop-drop l used xs)
-    ∙ value-bits 11 bits (used + l) s le
-    ∙ ap (λ (ys : List Bool). take s (ys ++ replicate s false)) (sym (drop-drop l used bits))
+    let long : l + s ≤ length (drop used xs) = omega (arith, length-drop used xs, length-next_bits 11 bits) in
+    grind (arith, drop-append-le, take-append-le, drop-drop, length-drop, value-bits 11 bits (used + l) s)
 
 module _ (table : Table) (room : ℕ) (t : Text) (used : ℕ) (more : List Bool) (v : ℤ) (r n : ℕ)
     (counted : length table.counts ≡ 16) (le : used + n ≤ 11) (held : has_bits (used + n) t.bits t.ending ≡ Ok tt)
@@ -119,18 +110,15 @@ module _ (table : Table) (room : ℕ) (t : Text) (used : ℕ) (more : List Bool)
       = ap (λ (i : ℕ). has_bits i t.bits t.ending) (omega (arith, k.all)) ∙ held in
       let next : has_bits s u.bits u.ending ≡ Ok tt
       = ap (λ (w : Text). has_bits s w.bits w.ending) (advanced used c.1 t) ∙ held-then (used + c.1) s t all in
-      let value : extended (number_of (take s (u.bits ++ replicate s false))) s ≡ v
-      = sym (k.value ∙ ap (λ (l : List Bool). extended (number_of l) s)
-      (seen-bits t.bits more used c.1 s (omega (arith, k.all)))) in
-      token-seen table counted 11 (omega arith) xs (length-next_bits 11 t.bits) used (more ++ replicate 5 false) symbol
-      c.1 found room t refl (omega (arith, k.all)) (held-first (used + c.1) s t all)
-      ∙ value-within room c.1 (symbol / 16) s u k.some (lt-ltb (symbol / 16) room (omega (arith, k.run)))
-      ∙ ap (read_on (λ (v : ℤ). gives (Value (symbol / 16) v))) (signed-seen s u next)
-      ∙ ap (λ (w : Text). Ok (Value (symbol / 16) (extended (number_of (take s (u.bits ++ replicate s false))) s), w))
-      (ap (advance s) (advanced used c.1 t) ∙ advanced (used + c.1) s t
-      ∙ ap (λ (i : ℕ). advance i t) (omega (arith, k.all)))
-      ∙ ap (λ (z : ℤ). Ok (Value (symbol / 16) z, advance (used + n) t)) value
-      ∙ ap (λ (i : ℕ). Ok (Value i v, advance (used + n) t)) (sym k.run)
+      let seen = token-seen table counted 11 (omega arith) xs (length-next_bits 11 t.bits) used (more ++ replicate 5 false)
+      symbol c.1 found room t refl (omega (arith, k.all)) (both-held (used + c.1) s t.bits t.ending all) in
+      let bits = seen-bits t.bits more used c.1 s (omega (arith, k.all)) in
+      let read = signed-seen s u next in
+      let some = k.some in
+      let value = k.value in
+      let run = k.run in
+      let count = k.all in
+      grind (arith, common_steps, nat_tests, value-within, lt-ltb, advanced)
 
   -- a value that is seen after the first of 11 bits is that of a text which begins with them
   pub value-seen : short_value_of 11 table (drop used (next_bits 11 t.bits) ++ more) ≡ Some (v, r, n)
