@@ -30,9 +30,12 @@ module _ (table : Table) (p : Pass) (whole : Reads Band) (a b m d : Ahead) (old 
     (held : Takes (λ (u : Unit {0}). 0) same_text b cur (Ok tt) m mid) where
   here : IsAtPlace table p whole a old block at m mid
   here =
-      let n = at - band_start p in
-      (before.0, before.1, Leaves-held whole (after_front (take n (band_in p block)) (first_ac table p.al before.0
-      (drop n (band_in p block)))) a b m old cur mid before.2 held)
+      let n = at - band_start p in (
+        before.0,
+        before.1,
+        Leaves-held whole (after_front (take n (band_in p block)) (first_ac table p.al before.0
+            (drop n (band_in p block)))) a b m old cur mid before.2 held,
+      )
 
   abbrev place : ℕ
   place = at - band_start p

@@ -2,7 +2,7 @@
 use Rattle.std.proofs.lemmas.Grind.{common_steps}
 use Rattle.std.proofs.lemmas.Bool.Decides.{nat_tests}
 use Rattle.std.proofs.Common.{◌≡◌, ℕ, ℤ, zero, suc, ◌+◌, ◌-◌, ◌*◌, ◌/◌, ◌%◌, ◌^◌, ◌<◌, ◌≤◌, Bool, true, false, List, []}
-use Rattle.std.proofs.Common.{◌∷◌, ◌++◌, length, take, drop, replicate, get_or, pos, ◌*ℤ◌, Option, Some, Result, Ok}
+use Rattle.std.proofs.Common.{◌∷◌, ◌++◌, length, take, drop, replicate, get_or, pos, ◌*ℤ◌, Some, Result, Ok}
 use Rattle.std.proofs.Common.{Err, is_ok, refl, sym, ap, ◌∙◌, subst, arith, length-append, length-drop, length-take, ltb}
 use Rattle.std.proofs.Common.{inl, inr, pow_pos, set, get_or-set_other, get_or-set_same}
 use Rattle.std.proofs.lemmas.Bool.{lt-ltb, false≢true, cases_lt}

@@ -1,6 +1,6 @@
 -- Steps of the loop that passes over the tokens of a band.
-use Rattle.std.proofs.Common.{◌≡◌, ℕ, ◌-◌, ◌<◌, ◌≤◌, Bool, true, false, List, drop, replicate, Ok, Err, refl, ap, ◌∙◌}
-use Rattle.std.proofs.Common.{arith, is_ok, sym, Option, ◌++◌}
+use Rattle.std.proofs.Common.{◌≡◌, ℕ, ◌-◌, ◌<◌, ◌≤◌, Bool, true, false, List, drop, Ok, Err, refl, ap, ◌∙◌}
+use Rattle.std.proofs.Common.{arith, is_ok, sym, Option}
 use Rattle.jpeg_bits.specs.Stream.{Stream}
 use Rattle.jpeg_bits.specs.Entropy.{Text, Ahead, Takes, advance, upcoming_by, upcoming, same_text, has_held, IsFilled}
 use Rattle.jpeg_bits.specs.Codes.{Table}

@@ -6,7 +6,6 @@ use Rattle.std.proofs.Common.{take, drop, replicate, get_or, Option, Some, None,
 use Rattle.std.proofs.Common.{arith, is_some, ltb, append_assoc, append-nil, length-drop}
 use Rattle.std.proofs.lemmas.Bool.{lt-ltb, false≢true}
 use Rattle.std.proofs.lemmas.List.{take-take, take-append-le, drop-append-le, drop-drop}
-use Rattle.jpeg_bits.specs.Reading.{Fault}
 use Rattle.jpeg_bits.specs.Entropy.{Text, Ahead, upcoming_by, upcoming, IsFilled, has_held, Takes, advance}
 use Rattle.jpeg_bits.specs.Entropy.{has_bits, bits_from, number_of, extended}
 use Rattle.jpeg_bits.specs.Stream.{Stream}
@@ -52,7 +51,6 @@ seen-code : (table : Table) (n symbol size : ℕ) (u : Text) (o p : Option (ℕ 
     → named table.symbols o ≡ Some (symbol, size) → at_most n o ≡ at_most n p → size ≤ n
     → has_bits size u.bits u.ending ≡ Ok tt → code_by table u p ≡ Ok ((size, symbol), advance size u)
 seen-code table n symbol size u o p is same le held = grind (arith, common_steps, nat_tests, false≢true)
-
 
 module _ (table : Table) (counted : length table.counts ≡ 16) (most : ℕ) (few : most ≤ 16) (bits : List Bool)
     (long : length bits ≡ most) (used : ℕ) (more : List Bool) (symbol size : ℕ)
@@ -105,20 +103,16 @@ module _ (table : Table) (room : ℕ) (t : Text) (used : ℕ) (more : List Bool)
       let symbol = get_or table.symbols c.0 0 in
       let found : symbol_in table (drop used xs ++ (more ++ replicate 5 false)) ≡ Some (symbol, c.1)
       = ap (symbol_in table) (sym (append_assoc (drop used xs) more (replicate 5 false))) ∙ ap (named table.symbols) e in
-      let u = advance c.1 (advance used t) in
       let all : has_bits (used + c.1 + s) t.bits t.ending ≡ Ok tt
       = ap (λ (i : ℕ). has_bits i t.bits t.ending) (omega (arith, k.all)) ∙ held in
-      let next : has_bits s u.bits u.ending ≡ Ok tt
-      = ap (λ (w : Text). has_bits s w.bits w.ending) (advanced used c.1 t) ∙ held-then (used + c.1) s t all in
+      let next = held-then (used + c.1) s t all in
       let seen = token-seen table counted 11 (omega arith) xs (length-next_bits 11 t.bits) used (more ++ replicate 5 false)
       symbol c.1 found room t refl (omega (arith, k.all)) (both-held (used + c.1) s t.bits t.ending all) in
       let bits = seen-bits t.bits more used c.1 s (omega (arith, k.all)) in
-      let read = signed-seen s u next in
-      let some = k.some in
       let value = k.value in
       let run = k.run in
       let count = k.all in
-      grind (arith, common_steps, nat_tests, value-within, lt-ltb, advanced)
+      grind (arith, common_steps, nat_tests, signed-seen, value-within, lt-ltb, advanced)
 
   -- a value that is seen after the first of 11 bits is that of a text which begins with them
   pub value-seen : short_value_of 11 table (drop used (next_bits 11 t.bits) ++ more) ≡ Some (v, r, n)
@@ -157,7 +151,7 @@ value-buffered table room bits met bytes used more v r n counted filled le held 
     (front-text 11 bits met bytes (omega arith) (less 11 (omega arith))) ∙ is)
     ∙ ap (λ (w : Text). Ok (Value r v, w)) (advance-held (used + n) bits met bytes (less (used + n) le))
 
-pub few-bits : (most : ℕ) (class : HuffmanTableClass) (bits : List Bool) (o : Option (ℕ × ℕ)) (v : ℤ) (r n : ℕ)
+few-bits : (most : ℕ) (class : HuffmanTableClass) (bits : List Bool) (o : Option (ℕ × ℕ)) (v : ℤ) (r n : ℕ)
     → short_value_by most class bits o ≡ Some (v, r, n) → n ≤ most
 few-bits most class bits o v r n h = grind (arith, false≢true, all_short)
 

@@ -36,6 +36,7 @@ pub(crate) const NO_PAIR: Pair = Pair {
 
 /// Returns a value and the one after it, where both have at most 11 bits together. Each has its run
 /// and its bits, which are none where there is no value.
+#[tactic(auto, unfolding(crate::specs::Pairs::pair_by))]
 fn pair_of(value: (i16, u8, u8), after: (i16, u8, u8)) -> Pair
     requires run { value.1 ≤ 15 }
     requires more { after.1 ≤ 15 }

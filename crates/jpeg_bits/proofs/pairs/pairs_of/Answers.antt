@@ -1,4 +1,4 @@
-use Rattle.std.proofs.Common.{◌≡◌, ◌∙◌, ◌%◌, arith, length-set, ℕ}
+use Rattle.std.proofs.Common.{◌∙◌, arith, length-set, ℕ}
 use Rattle.jpeg_bits.specs.Written.{low_bits}
 use Rattle.jpeg_bits.specs.Pairs.{no_pair, pair_of}
 use Rattle.jpeg_bits.proofs.PairLemmas.{pair-at}
