@@ -18,10 +18,10 @@ pub Leaves-ok : {X Y W : Type 0} (view : X → W) (whole rest next : Text → Re
 Leaves-ok view whole rest next read a b d old cur new x step p q = grind arith
 
 -- bits are buffered
-pub Leaves-held : {Y : Type 0} (whole rest : Text → Result (Y × Text) Fault) (a b d : Ahead) (old cur mid : Stream)
+pub Leaves-buffered : {Y : Type 0} (whole rest : Text → Result (Y × Text) Fault) (a b d : Ahead) (old cur mid : Stream)
     → Leaves whole a old rest b cur → Takes (λ (u : Unit {0}). 0) same_text b cur (Ok tt) d mid
     → Leaves whole a old rest d mid
-Leaves-held whole rest a b d old cur mid p q = grind (arith, second_ok)
+Leaves-buffered whole rest a b d old cur mid p q = grind (arith, second_ok)
 
 -- a refusal after a part of the whole
 pub Leaves-err : {X Y Z W : Type 0} (v : X → Y) (view : Z → W) (whole rest : Text → Result (Y × Text) Fault)

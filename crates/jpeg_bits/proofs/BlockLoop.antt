@@ -1,6 +1,6 @@
 -- Steps of the loop over the tokens of a band, at a zigzag place of a block in block order.
-use Rattle.std.proofs.Common.{◌≡◌, ℕ, ◌+◌, ◌-◌, ◌^◌, ◌<◌, ◌≤◌, List, length, take, drop, get_or, set, ℤ, pos, ◌*ℤ◌, Result, Ok, Err}
-use Rattle.std.proofs.Common.{ap, ◌∙◌, arith}
+use Rattle.std.proofs.Common.{◌≡◌, ℕ, ◌+◌, ◌-◌, ◌^◌, ◌<◌, ◌≤◌, List, length, take, drop, get_or, set, ℤ, pos, ◌*ℤ◌}
+use Rattle.std.proofs.Common.{Result, Ok, Err, ap, ◌∙◌, arith}
 use Rattle.jpeg_bits.specs.Stream.{Stream}
 use Rattle.jpeg_bits.specs.Entropy.{Ahead, Takes, same_text}
 use Rattle.jpeg_bits.specs.Codes.{Table}
@@ -15,7 +15,7 @@ use Rattle.jpeg_bits.specs.declared.tokens.Token.{Token}
 use Rattle.jpeg_bits.specs.declared.tokens.Token.TheVariants.{Value, Sixteen}
 use Rattle.jpeg_bits.proofs.BandLoop.{IsAt, IsLast, IsAt-value, IsAt-sixteen, IsAt-all, IsAt-last, IsAt-refused}
 use Rattle.jpeg_bits.proofs.BandLoop.{IsAt-none, after_front}
-use Rattle.jpeg_bits.proofs.BandSteps.{Leaves-held}
+use Rattle.jpeg_bits.proofs.BandSteps.{Leaves-buffered}
 use Rattle.jpeg_bits.proofs.ZigzagParts.{band-length, part-set}
 
 -- the band of a block is written up to a zigzag place
@@ -23,18 +23,18 @@ abbrev pub IsAtPlace : Table → Pass → Reads Band → Ahead → Stream → Li
 IsAtPlace table p whole a old block at b cur =
     IsAt table p.al whole a old (band_in p block) (at - band_start p) b cur
 
--- where bits are buffered first
+-- after bits were buffered
 module _ (table : Table) (p : Pass) (whole : Reads Band) (a b m d : Ahead) (old cur mid new : Stream) (block : List ℤ)
     (at end : ℕ) (is : IsPass p) (e : end ≡ band_end p) (from : band_start p ≤ at) (lt : at < end)
     (before : IsAtPlace table p whole a old block at b cur)
-    (held : Takes (λ (u : Unit {0}). 0) same_text b cur (Ok tt) m mid) where
+    (buffered : Takes (λ (u : Unit {0}). 0) same_text b cur (Ok tt) m mid) where
   here : IsAtPlace table p whole a old block at m mid
   here =
       let n = at - band_start p in (
         before.0,
         before.1,
-        Leaves-held whole (after_front (take n (band_in p block)) (first_ac table p.al before.0
-            (drop n (band_in p block)))) a b m old cur mid before.2 held,
+        Leaves-buffered whole (after_front (take n (band_in p block)) (first_ac table p.al before.0
+            (drop n (band_in p block)))) a b m old cur mid before.2 buffered,
       )
 
   abbrev place : ℕ

@@ -1,15 +1,16 @@
 -- The values that 11 bits begin with, one or two: how their look-up table is filled, and how they are read.
 use Rattle.std.proofs.lemmas.Bool.{false≢true}
 use Rattle.std.proofs.lemmas.Bool.Decides.{nat_tests}
-use Rattle.std.proofs.Common.{◌≡◌, ℕ, ℤ, zero, suc, ◌+◌, ◌-◌, ◌*◌, ◌%◌, ◌^◌, ◌<◌, ◌≤◌, nat_lt, ◌==◌, ◌||◌, Bool, true, false}
-use Rattle.std.proofs.Common.{List, [], ◌∷◌, ◌++◌, length, drop, replicate, get_or, set, pos, ◌*ℤ◌, Option, Some, None}
+use Rattle.std.proofs.Common.{◌≡◌, ℕ, ℤ, zero, suc, ◌+◌, ◌-◌, ◌*◌, ◌%◌, ◌^◌, ◌<◌, ◌≤◌, nat_lt, ◌==◌, ◌||◌, Bool, true}
+use Rattle.std.proofs.Common.{false, List, [], ◌∷◌, ◌++◌, length, drop, replicate, get_or, set, pos, ◌*ℤ◌, Option, Some, None}
 use Rattle.std.proofs.Common.{if◌then◌else◌, Ok, refl, sym, ap, ◌∙◌, subst, arith, length-set, is_ok}
 use Rattle.jpeg_bits.specs.Entropy.{Ahead, Takes, upcoming, IsFilled, has_held, same_text}
 use Rattle.jpeg_bits.specs.Stream.{Stream}
 use Rattle.jpeg_bits.specs.Codes.{Table}
 use Rattle.jpeg_bits.specs.ShortCodes.{symbol_in, short_value_by, short_value_of, next_bits, packed}
 use Rattle.jpeg_bits.specs.ShortCodes.{HoldsWideValues}
-use Rattle.jpeg_bits.specs.Pairs.{ShortValue, no_pair, one_value, two_values, pair_by, value_in, pair_of, IsPairOf, IsSmall}
+use Rattle.jpeg_bits.specs.Pairs.{ShortValue, no_pair, one_value, two_values, pair_by, value_in, pair_of}
+use Rattle.jpeg_bits.specs.Pairs.{IsPairOf, IsSmall}
 use Rattle.jpeg_bits.specs.Written.{low_bits}
 use Rattle.jpeg_bits.specs.Readers.{Reads}
 use Rattle.jpeg_bits.specs.Bands.{Band, wrapped, token_from}
@@ -45,21 +46,26 @@ pair-at table values b j holds size lt few is =
 
 -- ---- what is found
 
+-- an entry by two tests: whether there is no value, and whether there is one alone
 abbrev by-tests : (a b : Bool) (v w : ShortValue) → Pair
 by-tests a b v w = if a then no_pair else (if b then one_value v else two_values v w)
 
+-- both values are within 11 bits
 few-both : (n m : ℕ) → ((m == 0) || nat_lt 11 (n + m)) ≡ false → n + m ≤ 11
 few-both n m h = grind (arith, nat_tests)
 
+-- each entry is small
 small-by : (a b : Bool) (v w : ShortValue) → v.2 ≤ 11 → (b ≡ false → v.2 + w.2 ≤ 11) → IsSmall (by-tests a b v w)
 small-by true b v w few both = record { first = omega arith; second = omega arith; few = omega arith }
 small-by false true v w few both = record { first = omega arith; second = omega arith; few = few }
 small-by false false v w few both = record { first = omega arith; second = omega arith; few = both refl }
 
+-- a value takes at most 11 bits
 few-in : (class : HuffmanTableClass) (bits : List Bool) (o : Option (ℕ × ℕ))
     → (packed (short_value_by 11 class bits o)).2 ≤ 11
 few-in class bits o = grind arith
 
+-- the entry of any bits is small
 pub pair-small : (table : Table) (bits : List Bool) (p : Pair) → p ≡ pair_of table bits → IsSmall p
 unfolding pair_of pair_by
 pair-small table bits p is =
@@ -76,6 +82,7 @@ pub data Seen (table : Table) (bits : List Bool) : Pair → Type 0 where
       → Seen table bits (two_values (v, r, n) (w, q, m))
 
 module _ (table : Table) (bits : List Bool) where
+  -- after a first value
   seen-by : (v : ℤ) (r n : ℕ) → short_value_of 11 table bits ≡ Some (v, r, n) → (o : Option ShortValue)
       → short_value_of 11 table (drop n bits ++ replicate n false) ≡ o → (a b : Bool)
       → b ≡ (((packed o).2 == 0) || nat_lt 11 (n + (packed o).2)) → (by-tests a b (v, r, n) (packed o)).passed < 64
@@ -85,21 +92,27 @@ module _ (table : Table) (bits : List Bool) where
   seen-by v r n e None f false false is some = absurd (false≢true is)
   seen-by v r n e (Some (w, q, m)) f false false is some = Two v r n w q m (few-both n m (sym is)) e f
 
+  -- the entry after a first look-up
+  abbrev entry_by : Option ShortValue → Pair
+  entry_by o = pair_by (packed o) (value_in table (drop (packed o).2 bits ++ replicate (packed o).2 false))
+
+  -- an entry that has values is what is found
   pub pair-seen : (p : Pair) → IsPairOf table bits p → p.passed < 64 → Seen table bits p
   unfolding pair_of pair_by
   pair-seen p h some =
-      subst (Seen table bits) (sym (h some)) (go (short_value_of 11 table bits) refl (subst (λ (p : Pair). p.passed < 64)
-      (h some) some))
+      let is = h some in
+      subst (Seen table bits) (sym is)
+      (go (short_value_of 11 table bits) refl (subst (λ (p : Pair). p.passed < 64) is some))
     where
-      go : (o : Option ShortValue) → short_value_of 11 table bits ≡ o
-          → (pair_by (packed o) (value_in table (drop (packed o).2 bits ++ replicate (packed o).2 false))).passed < 64
-          → Seen table bits (pair_by (packed o) (value_in table (drop (packed o).2 bits ++ replicate (packed o).2 false)))
+      go : (o : Option ShortValue) → short_value_of 11 table bits ≡ o → (entry_by o).passed < 64
+          → Seen table bits (entry_by o)
       go None e some = absurd (omega (arith, some))
       go (Some (v, r, n)) e some =
           seen-by v r n e (short_value_of 11 table (drop n bits ++ replicate n false)) refl (n == 0) _ refl some
 
 -- ---- how they are read
 
+-- a value that is written twice
 set-twice : (xs : List ℤ) (i : ℕ) (y : ℤ) → set (set xs i y) i y ≡ set xs i y
 set-twice [] i y = refl
 set-twice (x ∷ xs) zero y = refl
@@ -107,6 +120,7 @@ set-twice (x ∷ xs) (suc i) y = ap (λ (l : List ℤ). x ∷ l) (set-twice xs i
 
 module _ (table : Table) (counted : length table.counts ≡ 16) (d : Ahead) (filled : IsFilled 16 d.bits d.met)
     (mid : Stream) where
+  -- the first value is taken
   Takes-first : (room : ℕ) (v : ℤ) (r n : ℕ) (e : Ahead)
       → short_value_of 11 table (next_bits 11 d.bits) ≡ Some (v, r, n) → has_held n d.bits d.met ≡ Ok tt → r < room
       → e.bits ≡ drop n d.bits → e.met ≡ d.met
@@ -116,6 +130,7 @@ module _ (table : Table) (counted : length table.counts ≡ 16) (d : Ahead) (fil
     λ known. (known, wide-taken table room d e mid.bytes v r n counted filled is within held bits met),
   )
 
+  -- and the second
   Takes-second : (room n : ℕ) (w : ℤ) (q m : ℕ) (e : Ahead) → n + m ≤ 11
       → short_value_of 11 table (drop n (next_bits 11 d.bits) ++ replicate n false) ≡ Some (w, q, m)
       → has_held (n + m) d.bits d.met ≡ Ok tt → q < room → e.bits ≡ drop (n + m) d.bits → e.met ≡ d.met

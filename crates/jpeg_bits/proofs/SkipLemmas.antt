@@ -10,8 +10,8 @@ use Rattle.std.proofs.lemmas.List.{take-take}
 use Rattle.std.proofs.Math.Nat.{div-add-mod'}
 use Rattle.jpeg_bits.proofs.Reservoirs.{low_bits-append, low_bits-zeros, low_bits-take, low_bits-drop, low_bits-high}
 use Rattle.jpeg_bits.proofs.Reservoirs.{same_zeros}
-use Rattle.jpeg_bits.proofs.WideTokens.{none-left, value-within, advanced, held-then, token-seen}
 use Rattle.jpeg_bits.proofs.Fast.{both-held}
+use Rattle.jpeg_bits.proofs.WideTokens.{none-left, value-within, advanced, held-then, token-seen}
 use Rattle.jpeg_bits.specs.Reading.{Fault}
 use Rattle.jpeg_bits.specs.Entropy.{Text, advance, has_bits, bits_from}
 use Rattle.jpeg_bits.specs.Codes.{Table, next_16, code_from}
@@ -176,13 +176,6 @@ sixteen-passed others room size r s t none all = rw (none, all) refl
 module _ (table : Table) (counted : length table.counts ≡ 16) (bits : List Bool) (long : length bits ≡ 12)
     (used symbol size : ℕ) (found : symbol_in table (drop used bits ++ replicate (4 + used) false) ≡ Some (symbol, size))
   where
-    seen : (room : ℕ) (t : Text) → next_bits 12 t.bits ≡ bits → used + size ≤ 12
-        → has_bits (used + size) t.bits t.ending ≡ Ok tt
-        → token_from table room (advance used t)
-        ≡ token_at room size (symbol / 16) (symbol % 16) (advance size (advance used t))
-    seen room t =
-        token-seen table counted 12 (omega arith) bits long used (replicate (4 + used) false) symbol size found room t
-
     abbrev s : ℕ
     s = symbol % 16
 
@@ -213,7 +206,8 @@ module _ (table : Table) (counted : length table.counts ≡ 16) (bits : List Boo
         ∙ ap (λ (k : ℕ). advance k t) (omega (arith, is)) in
         h room (omega arith) most t (b.0, both-held used size t.bits t.ending here)
         ∙ run-token table room' u (omega arith)
-        ∙ ap (read_on (run_after (run_of table) room')) (seen room' t b.0 (omega (arith, is)) here)
+        ∙ ap (read_on (run_after (run_of table) room')) (token-seen table counted 12 (omega arith) bits long used
+        (replicate (4 + used) false) symbol size found room' t b.0 (omega (arith, is)) here)
         ∙ step
         ∙ ap (λ (k : ℕ). run_of table k (advance s v)) left
         ∙ ap (run_of table (room - (passed + (r + 1)))) after
@@ -230,7 +224,8 @@ module _ (table : Table) (counted : length table.counts ≡ 16) (bits : List Boo
         let v = advance size u in
         h room lt most t (b.0, both-held used size t.bits t.ending here)
         ∙ run-token table room' u (omega arith)
-        ∙ ap (read_on (run_after (run_of table) room')) (seen room' t b.0 (omega (arith, is)) here
+        ∙ ap (read_on (run_after (run_of table) room')) (token-seen table counted 12 (omega arith) bits long used
+        (replicate (4 + used) false) symbol size found room' t b.0 (omega (arith, is)) here
         ∙ none-left room' size r s v none end)
         ∙ ap (λ (w : Text). Ok (0, w)) (advanced used size t ∙ ap (λ (k : ℕ). advance k t) same)
 

@@ -12,7 +12,7 @@ use Rattle.jpeg_bits.specs.declared.error.Error.{Error}
 use Rattle.jpeg_bits.specs.declared.ahead.DataEnd.{DataEnd}
 use Rattle.jpeg_bits.specs.declared.tokens.Token.{Token}
 use Rattle.jpeg_bits.proofs.BandLoop.{Leaves}
-use Rattle.jpeg_bits.proofs.BandSteps.{Leaves-ok, Leaves-err, Leaves-end, Leaves-held}
+use Rattle.jpeg_bits.proofs.BandSteps.{Leaves-ok, Leaves-err, Leaves-end, Leaves-buffered}
 use Rattle.jpeg_bits.proofs.Held.{has_bits-held, advance-held, filled-less, ok_unit}
 use Rattle.jpeg_bits.proofs.SkipLemmas.{run-token, run-none}
 use Rattle.jpeg_bits.proofs.WideTokens.{front-text}
@@ -33,22 +33,22 @@ after-held table left n passed last bits met bytes filled skip lt most ok =
 module _ (table : Table) (room left : ℕ) (a b d e : Ahead) (old cur mid new : Stream)
     (p : Leaves (run_of table room) a old (run_of table left) b cur)
     (q : Takes (λ (u : Unit {0}). 0) same_text b cur (Ok tt) d mid) where
-  text-held : Leaves (run_of table room) a old (run_of table left) d mid
-  text-held = Leaves-held (run_of table room) (run_of table left) a b d old cur mid p q
+  text-buffered : Leaves (run_of table room) a old (run_of table left) d mid
+  text-buffered = Leaves-buffered (run_of table room) (run_of table left) a b d old cur mid p q
 
   pub skip-refused : 0 < left → (x : Error) → Takes (λ (k : Token). k) (token_from table left) d mid (Err x) e new
       → Takes (λ (run : ℕ). run) (run_of table room) a old (Err x) e new
   skip-refused some x h =
       Leaves-err (λ (run : ℕ). run) (λ (k : Token). k) (run_of table room) (run_of table left) (token_from table left)
       a d e old mid new x
-      (λ t f is. run-token table left t some ∙ ap (read_on (run_after (run_of table) left)) is) text-held h
+      (λ t f is. run-token table left t some ∙ ap (read_on (run_after (run_of table) left)) is) text-buffered h
 
   pub skip-token : 0 < left → (k : Token) → Takes (λ (k : Token). k) (token_from table left) d mid (Ok k) e new
       → Leaves (run_of table room) a old (run_after (run_of table) left k) e new
   skip-token some k h =
       Leaves-ok (λ (k : Token). k) (run_of table room) (run_of table left) (run_after (run_of table) left k)
       (token_from table left) a d e old mid new k
-      (λ t u is. run-token table left t some ∙ ap (read_on (run_after (run_of table) left)) is) text-held h
+      (λ t u is. run-token table left t some ∙ ap (read_on (run_after (run_of table) left)) is) text-buffered h
 
   pub skip-rest : 0 < left → (run : ℕ) → Takes (λ (k : Token). k) (token_from table left) d mid (Ok (Rest run)) e new
       → Takes (λ (run : ℕ). run) (run_of table room) a old (Ok run) e new
@@ -85,7 +85,7 @@ module _ (table : Table) (room left : ℕ) (a b d e : Ahead) (old cur mid new : 
 
     pub skip-over : last ≡ false → Leaves (run_of table room) a old (run_of table (left - over)) e mid
     skip-over on =
-        let held = text-held in (
+        let held = text-buffered in (
           held.0,
           λ known.
               let at = held.1 known in (
@@ -99,7 +99,7 @@ module _ (table : Table) (room left : ℕ) (a b d e : Ahead) (old cur mid new : 
 
     pub skip-to-end : last ≡ true → Takes (λ (run : ℕ). run) (run_of table room) a old (Ok 0) e mid
     skip-to-end end =
-        let held = text-held in (
+        let held = text-buffered in (
           held.0,
           λ known.
               let at = held.1 known in (

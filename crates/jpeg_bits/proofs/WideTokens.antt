@@ -39,9 +39,11 @@ none-here room size t = ap (read_on (λ (e : ℕ). gives (Rest (2 ^ 0 - 1 + e)))
 pub none-left : (room size r s : ℕ) (t : Text) → s ≡ 0 → r ≡ 0 → token_at room size r s t ≡ Ok (Rest 0, t)
 none-left room size r s t none zero = rw (none, zero) (none-here room size t)
 
+-- Bits are passed in two steps.
 pub advanced : (m n : ℕ) (t : Text) → advance n (advance m t) ≡ advance (m + n) t
 advanced m n t = grind (arith, common_steps, drop-drop)
 
+-- the bits after the first n can be taken where all can
 pub held-then : (n s : ℕ) (t : Text) → has_bits (n + s) t.bits t.ending ≡ Ok tt
     → has_bits s (advance n t).bits (advance n t).ending ≡ Ok tt
 held-then n s t h = grind (arith, common_steps, nat_tests, false≢true, length-drop)
@@ -77,6 +79,7 @@ module _ (table : Table) (counted : length table.counts ≡ 16) (most : ℕ) (fe
       (seen-code table n symbol size (advance used t) (code_in lens x) (code_in lens y) found same (omega arith)
       (held-then used size t held))
 
+-- a signed number of bits that can be taken
 signed-seen : (s : ℕ) (t : Text) → has_bits s t.bits t.ending ≡ Ok tt
     → signed_from s t ≡ Ok (extended (number_of (take s (t.bits ++ replicate s false))) s, advance s t)
 unfolding signed_from bits_from
@@ -93,6 +96,7 @@ seen-bits bits more used l s le =
 module _ (table : Table) (room : ℕ) (t : Text) (used : ℕ) (more : List Bool) (v : ℤ) (r n : ℕ)
     (counted : length table.counts ≡ 16) (le : used + n ≤ 11) (held : has_bits (used + n) t.bits t.ending ≡ Ok tt)
     (within : r < room) where
+  -- by its code
   at-value : (c : ℕ × ℕ)
       → code_in (code_lengths table.counts) ((drop used (next_bits 11 t.bits) ++ more) ++ replicate 5 false) ≡ Some c
       → IsShort 11 table c (drop used (next_bits 11 t.bits) ++ more) v r n
@@ -101,13 +105,14 @@ module _ (table : Table) (room : ℕ) (t : Text) (used : ℕ) (more : List Bool)
       let xs = next_bits 11 t.bits in
       let s = size_of table c in
       let symbol = get_or table.symbols c.0 0 in
-      let found : symbol_in table (drop used xs ++ (more ++ replicate 5 false)) ≡ Some (symbol, c.1)
-      = ap (symbol_in table) (sym (append_assoc (drop used xs) more (replicate 5 false))) ∙ ap (named table.symbols) e in
+      let zeros = replicate 5 false in
+      let found : symbol_in table (drop used xs ++ (more ++ zeros)) ≡ Some (symbol, c.1)
+      = ap (symbol_in table) (sym (append_assoc (drop used xs) more zeros)) ∙ ap (named table.symbols) e in
       let all : has_bits (used + c.1 + s) t.bits t.ending ≡ Ok tt
       = ap (λ (i : ℕ). has_bits i t.bits t.ending) (omega (arith, k.all)) ∙ held in
       let next = held-then (used + c.1) s t all in
-      let seen = token-seen table counted 11 (omega arith) xs (length-next_bits 11 t.bits) used (more ++ replicate 5 false)
-      symbol c.1 found room t refl (omega (arith, k.all)) (both-held (used + c.1) s t.bits t.ending all) in
+      let seen = token-seen table counted 11 (omega arith) xs (length-next_bits 11 t.bits) used (more ++ zeros) symbol
+      c.1 found room t refl (omega (arith, k.all)) (both-held (used + c.1) s t.bits t.ending all) in
       let bits = seen-bits t.bits more used c.1 s (omega (arith, k.all)) in
       let value = k.value in
       let run = k.run in
@@ -144,17 +149,20 @@ pub value-buffered : (table : Table) (room : ℕ) (bits : List Bool) (met : Opti
     ≡ Ok (Value r v, upcoming_by (drop (used + n) bits) met bytes)
 value-buffered table room bits met bytes used more v r n counted filled le held within is =
     let t = upcoming_by bits met bytes in
-    let less : (k : ℕ) → k ≤ 11 → IsFilled k bits met = λ k few. filled-less k 16 bits met (omega (arith, few)) filled in
+    let less : (k : ℕ) → k ≤ 11 → IsFilled k bits met
+    = λ k few. filled-less k 16 bits met (omega (arith, few)) filled in
     ap (token_from table room) (sym (advance-held used bits met bytes (less used (omega arith))))
     ∙ value-seen table room t used more v r n counted le (has_bits-held (used + n) bits met bytes (less (used + n) le)
     ∙ held) within (ap (λ (xs : List Bool). short_value_of 11 table (drop used xs ++ more))
     (front-text 11 bits met bytes (omega arith) (less 11 (omega arith))) ∙ is)
     ∙ ap (λ (w : Text). Ok (Value r v, w)) (advance-held (used + n) bits met bytes (less (used + n) le))
 
+-- a value that is found takes at most the bits that are looked at
 few-bits : (most : ℕ) (class : HuffmanTableClass) (bits : List Bool) (o : Option (ℕ × ℕ)) (v : ℤ) (r n : ℕ)
     → short_value_by most class bits o ≡ Some (v, r, n) → n ≤ most
 few-bits most class bits o v r n h = grind (arith, false≢true, all_short)
 
+-- a value that the next 11 bits begin with
 pub wide-taken : (table : Table) (room : ℕ) (b d : Ahead) (bytes : List ℕ) (v : ℤ) (r n : ℕ)
     → length table.counts ≡ 16 → IsFilled 16 b.bits b.met
     → short_value_of 11 table (next_bits 11 b.bits) ≡ Some (v, r, n) → r < room → has_held n b.bits b.met ≡ Ok tt
@@ -162,9 +170,10 @@ pub wide-taken : (table : Table) (room : ℕ) (b d : Ahead) (bytes : List ℕ) (
     → token_from table room (upcoming b bytes) ≡ Ok (Value r v, upcoming d bytes)
 unfolding upcoming
 wide-taken table room b d bytes v r n counted filled e within enough eb em =
-    let few = few-bits 11 table.class (next_bits 11 b.bits) (symbol_in table (next_bits 11 b.bits ++ replicate 5 false)) v r n e in
+    let bits = next_bits 11 b.bits in
+    let few = few-bits 11 table.class bits (symbol_in table (bits ++ replicate 5 false)) v r n e in
     let same : n ≡ 0 + n = omega arith in
-    let all = append-nil (next_bits 11 b.bits) in
+    let all = append-nil bits in
     grind (arith, common_steps, value-buffered table room b.bits b.met bytes 0 [] v r n)
 
 -- ---- a token of a code that was read

@@ -69,4 +69,5 @@ HoldsPairs table pairs = (b : ℕ) → b < length pairs
 -- the zeros and the bits of values are few
 abbrev pub AreSmall : List ShortValue → Type 0
 AreSmall values = (b : ℕ) → b < length values
-    → ((slice_index_or values b (packed None)).1 ≤ 15) × ((slice_index_or values b (packed None)).2 ≤ 11)
+    → ((slice_index_or values b (packed None)).1 ≤ 15)
+    × ((slice_index_or values b (packed None)).2 ≤ 11)

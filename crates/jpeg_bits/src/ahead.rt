@@ -450,8 +450,8 @@ impl Held {
         table.skip_of(self.bits.front_16())
     }
 
-    /// Returns the values that the buffered bits begin with, one or two, where the table for them is
-    /// filled.
+    /// Returns the values that the buffered bits begin with, one or two, where the table for them
+    /// is filled.
     #[inline(always)]
     pub(crate) fn next_pair(&self, table: &HuffmanTable) -> Pair
         ensures pair { IsPairOf table.now (next_bits 11 self.now.bits) result }

@@ -46,17 +46,11 @@ pub packed-requires : goal.packed-requires
 packed-requires c = within_byte c.short_value.result c.short_value.ensures.within
 
 pub returns-clause-values : goal.returns-clause-values
-returns-clause-values c = λ b lt. c.loop-place.invariant.filled b (omega (
-  arith,
-  lt,
-  c.loop-place.invariant.whole,
-  c.loop-place-test.false,
-))
+returns-clause-values c =
+    let i = c.loop-place.invariant in
+    λ b lt. i.filled b (omega (arith, lt, i.whole, c.loop-place-test.false))
 
 pub returns-clause-small : goal.returns-clause-small
-returns-clause-small c = λ b lt. c.loop-place.invariant.small b (omega (
-  arith,
-  lt,
-  c.loop-place.invariant.whole,
-  c.loop-place-test.false,
-))
+returns-clause-small c =
+    let i = c.loop-place.invariant in
+    λ b lt. i.small b (omega (arith, lt, i.whole, c.loop-place-test.false))
