@@ -2,11 +2,12 @@
 use Rattle.std.proofs.Common.{◌≡◌, ℕ, ◌<◌, List, Result, Ok, Err, refl, ◌∙◌, arith, ◌++◌, append_assoc, ℤ}
 use Rattle.jpeg_bits.specs.Stream.{Stream}
 use Rattle.jpeg_bits.specs.Reading.{Fault, ◌>>=◌}
-use Rattle.jpeg_bits.specs.Entropy.{Text, Ahead, Takes, bits_from}
+use Rattle.jpeg_bits.specs.Entropy.{Text, Ahead, Takes, bits_from, same_text}
 use Rattle.jpeg_bits.specs.declared.error.Error.{Error}
 use Rattle.jpeg_bits.specs.Bands.{Band}
 use Rattle.jpeg_bits.proofs.BandLoop.{Leaves}
 use Rattle.jpeg_bits.proofs.Fast.{no-bits}
+use Rattle.jpeg_bits.proofs.Texts.{second_ok}
 use Rattle.jpeg_bits.specs.Pieces.{before}
 
 -- one step of the whole
@@ -15,6 +16,12 @@ pub Leaves-ok : {X Y W : Type 0} (view : X → W) (whole rest next : Text → Re
     → ((t u : Text) → read t ≡ Ok (view x, u) → rest t ≡ next u) → Leaves whole a old rest b cur
     → Takes view read b cur (Ok x) d new → Leaves whole a old next d new
 Leaves-ok view whole rest next read a b d old cur new x step p q = grind arith
+
+-- bits are buffered
+pub Leaves-buffered : {Y : Type 0} (whole rest : Text → Result (Y × Text) Fault) (a b d : Ahead) (old cur mid : Stream)
+    → Leaves whole a old rest b cur → Takes (λ (u : Unit {0}). 0) same_text b cur (Ok tt) d mid
+    → Leaves whole a old rest d mid
+Leaves-buffered whole rest a b d old cur mid p q = grind (arith, second_ok)
 
 -- a refusal after a part of the whole
 pub Leaves-err : {X Y Z W : Type 0} (v : X → Y) (view : Z → W) (whole rest : Text → Result (Y × Text) Fault)

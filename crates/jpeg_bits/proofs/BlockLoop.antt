@@ -1,12 +1,12 @@
 -- Steps of the loop over the tokens of a band, at a zigzag place of a block in block order.
-use Rattle.std.proofs.Common.{◌≡◌, ℕ, ◌+◌, ◌-◌, ◌^◌, ◌<◌, ◌≤◌, List, length, get_or, set, ℤ, pos, ◌*ℤ◌, Result, Ok, Err}
-use Rattle.std.proofs.Common.{ap, ◌∙◌, arith}
+use Rattle.std.proofs.Common.{◌≡◌, ℕ, ◌+◌, ◌-◌, ◌^◌, ◌<◌, ◌≤◌, List, length, take, drop, get_or, set, ℤ, pos, ◌*ℤ◌}
+use Rattle.std.proofs.Common.{Result, Ok, Err, ap, ◌∙◌, arith}
 use Rattle.jpeg_bits.specs.Stream.{Stream}
-use Rattle.jpeg_bits.specs.Entropy.{Ahead, Takes}
+use Rattle.jpeg_bits.specs.Entropy.{Ahead, Takes, same_text}
 use Rattle.jpeg_bits.specs.Codes.{Table}
 use Rattle.jpeg_bits.specs.declared.error.Error.{Error}
 use Rattle.jpeg_bits.specs.Readers.{Reads}
-use Rattle.jpeg_bits.specs.Bands.{Band, wrapped, token_from}
+use Rattle.jpeg_bits.specs.Bands.{Band, wrapped, token_from, first_ac}
 use Rattle.jpeg_bits.specs.Passes.{Pass}
 use Rattle.jpeg_bits.specs.Zigzag.{zigzag}
 use Rattle.jpeg_bits.specs.BlockView.{IsPass}
@@ -14,7 +14,8 @@ use Rattle.jpeg_bits.specs.ZigzagParts.{band_start, band_end, band_in}
 use Rattle.jpeg_bits.specs.declared.tokens.Token.{Token}
 use Rattle.jpeg_bits.specs.declared.tokens.Token.TheVariants.{Value, Sixteen}
 use Rattle.jpeg_bits.proofs.BandLoop.{IsAt, IsLast, IsAt-value, IsAt-sixteen, IsAt-all, IsAt-last, IsAt-refused}
-use Rattle.jpeg_bits.proofs.BandLoop.{IsAt-none}
+use Rattle.jpeg_bits.proofs.BandLoop.{IsAt-none, after_front}
+use Rattle.jpeg_bits.proofs.BandSteps.{Leaves-buffered}
 use Rattle.jpeg_bits.proofs.ZigzagParts.{band-length, part-set}
 
 -- the band of a block is written up to a zigzag place
@@ -22,9 +23,20 @@ abbrev pub IsAtPlace : Table → Pass → Reads Band → Ahead → Stream → Li
 IsAtPlace table p whole a old block at b cur =
     IsAt table p.al whole a old (band_in p block) (at - band_start p) b cur
 
-module _ (table : Table) (p : Pass) (whole : Reads Band) (a b d : Ahead) (old cur new : Stream) (block : List ℤ)
+-- after bits were buffered
+module _ (table : Table) (p : Pass) (whole : Reads Band) (a b m d : Ahead) (old cur mid new : Stream) (block : List ℤ)
     (at end : ℕ) (is : IsPass p) (e : end ≡ band_end p) (from : band_start p ≤ at) (lt : at < end)
-    (here : IsAtPlace table p whole a old block at b cur) where
+    (before : IsAtPlace table p whole a old block at b cur)
+    (buffered : Takes (λ (u : Unit {0}). 0) same_text b cur (Ok tt) m mid) where
+  here : IsAtPlace table p whole a old block at m mid
+  here =
+      let n = at - band_start p in (
+        before.0,
+        before.1,
+        Leaves-buffered whole (after_front (take n (band_in p block)) (first_ac table p.al before.0
+            (drop n (band_in p block)))) a b m old cur mid before.2 buffered,
+      )
+
   abbrev place : ℕ
   place = at - band_start p
 
@@ -35,10 +47,10 @@ module _ (table : Table) (p : Pass) (whole : Reads Band) (a b d : Ahead) (old cu
   room = let h = band-length p block is in let order = is.order in omega arith
 
   abbrev Gives : Result Token Error → Type 0
-  Gives r = Takes (λ (t : Token). t) (token_from table (end - at)) b cur r d new
+  Gives r = Takes (λ (t : Token). t) (token_from table (end - at)) m mid r d new
 
   token : (r : Result Token Error) → Gives r
-      → Takes (λ (t : Token). t) (token_from table (length (band_in p block) - place)) b cur r d new
+      → Takes (λ (t : Token). t) (token_from table (length (band_in p block) - place)) m mid r d new
   token r q = rw room at q
 
   pub place-value : (r : ℕ) (v w : ℤ) → length block ≡ 64 → r < end - at → w ≡ wrapped (v *ℤ pos (2 ^ p.al))
@@ -51,13 +63,13 @@ module _ (table : Table) (p : Pass) (whole : Reads Band) (a b d : Ahead) (old cu
       let put : band_in p (set block (get_or zigzag (at + r) 0) w) ≡ set (band_in p block) (place + r) w =
       part-set (band_start p) (band_end p) (at + r) block w n (omega arith) (omega arith) (omega arith)
       ∙ ap (λ (k : ℕ). set (band_in p block) k w) here' in
-      rw (next, put) (IsAt-value table p.al whole a b d old cur new (band_in p block) place within here r v w
+      rw (next, put) (IsAt-value table p.al whole a m d old mid new (band_in p block) place within here r v w
       (omega (arith, room)) same (token (Ok (Value r v)) q))
 
   pub place-sixteen : Gives (Ok Sixteen) → IsAtPlace table p whole a old block (at + 16) d new
   place-sixteen q =
       let next : at + 16 - band_start p ≡ place + 16 = omega arith in
-      rw next (IsAt-sixteen table p.al whole a b d old cur new (band_in p block) place within here
+      rw next (IsAt-sixteen table p.al whole a m d old mid new (band_in p block) place within here
       (token (Ok Sixteen) q))
 
   pub place-all : end - at ≤ 16 → Gives (Ok Sixteen) → IsAtPlace table p whole a old block end d new
@@ -65,17 +77,17 @@ module _ (table : Table) (p : Pass) (whole : Reads Band) (a b d : Ahead) (old cu
       let all = band-length p block is in
       let order = is.order in
       let next : end - band_start p ≡ length (band_in p block) = omega arith in
-      rw next (IsAt-all table p.al whole a b d old cur new (band_in p block) place within here (omega (arith, room))
+      rw next (IsAt-all table p.al whole a m d old mid new (band_in p block) place within here (omega (arith, room))
       (token (Ok Sixteen) q))
 
   pub place-last : (k : Token) (run : ℕ) → IsLast k run → Gives (Ok k)
       → Takes (λ (run : ℕ). (band_in p block, run)) whole a old (Ok run) d new
   place-last k run last q =
-      IsAt-last table p.al whole a b d old cur new (band_in p block) place within here k run last (token (Ok k) q)
+      IsAt-last table p.al whole a m d old mid new (band_in p block) place within here k run last (token (Ok k) q)
 
   pub place-refused : (x : Error) → Gives (Err x) → Takes (λ (run : ℕ). (band_in p block, run)) whole a old (Err x) d new
   place-refused x q =
-      IsAt-refused table p.al whole a b d old cur new (band_in p block) place within here
+      IsAt-refused table p.al whole a m d old mid new (band_in p block) place within here
       (λ (run : ℕ). (band_in p block, run)) x (token (Err x) q)
 
 pub place-none : (table : Table) (p : Pass) (whole : Reads Band) (a b : Ahead) (old new : Stream) (block : List ℤ)

@@ -48,7 +48,7 @@ value-same room size r s t e short = grind (arith, nat_lt, nat_le, false≢true)
 
 -- ---- bits that can be taken
 
-both-held : (n s : ℕ) (bits : List Bool) (e : Ending) → has_bits (n + s) bits e ≡ Ok tt → has_bits n bits e ≡ Ok tt
+pub both-held : (n s : ℕ) (bits : List Bool) (e : Ending) → has_bits (n + s) bits e ≡ Ok tt → has_bits n bits e ≡ Ok tt
 both-held n s bits e h = grind (arith, cases_lt, lt-leb, le-leb)
 
 -- where n + s bits can't be taken, the n can't, or the s after them

@@ -25,6 +25,7 @@ pub mod BandLoop
 pub mod WholeBlocks
 pub mod BandSteps
 pub mod SkipLoop
+pub mod PairLemmas
 pub mod SetBits
 mod Masks
 pub mod PieceWalks

@@ -18,7 +18,7 @@ use Rattle.jpeg_bits.specs.Written.{low_bits}
 use Rattle.jpeg_bits.specs.Codes.{Table, code_in, code_lengths, code_value, begins, first_from, next_16, is_ac}
 use Rattle.jpeg_bits.specs.Codes.{short_token, after_code, short_code_by, short_code_from, short_value}
 use Rattle.jpeg_bits.specs.Codes.{fast_from}
-use Rattle.jpeg_bits.specs.ShortCodes.{IsOf, named, symbol_in, short_only, short_code, short_value_by, short_value_of}
+use Rattle.jpeg_bits.specs.ShortCodes.{named, symbol_in, short_only, short_code, short_value_by, short_value_of}
 use Rattle.jpeg_bits.specs.ShortCodes.{next_bits, packed}
 use Rattle.jpeg_bits.specs.declared.codes.HuffmanTableClass.{HuffmanTableClass}
 use Rattle.jpeg_bits.specs.declared.ahead.DataEnd.{DataEnd}
@@ -158,7 +158,7 @@ next-held n bits None bytes le h =
 next-held n bits (Some end) bytes le h =
     take-take n 16 (bits ++ replicate 16 false) le ∙ same_zeros bits n 16 n (omega arith) (omega arith)
 
-length-next_bits : (n : ℕ) (bits : List Bool) → length (next_bits n bits) ≡ n
+pub length-next_bits : (n : ℕ) (bits : List Bool) → length (next_bits n bits) ≡ n
 length-next_bits n bits = grind (arith, length-take, length-append, length-replicate)
 
 -- the first 11 of the next 16 bits
@@ -214,7 +214,7 @@ pub record IsShort (most : ℕ) (table : Table) (c : ℕ × ℕ) (bits : List Bo
   pub run : r ≡ get_or table.symbols c.0 0 / 16
   pub all : n ≡ c.1 + size_of table c
 
-all_short : (a b d : Bool) → (a && (b && d)) ≡ true → (b ≡ true) × (d ≡ true)
+pub all_short : (a b d : Bool) → (a && (b && d)) ≡ true → (b ≡ true) × (d ≡ true)
 all_short a b d h = grind (arith, false≢true)
 
 pub short_some : (most : ℕ) (table : Table) (c : ℕ × ℕ) (bits : List Bool) (v : ℤ) (r n : ℕ)
@@ -303,9 +303,10 @@ eleven_padded b =
     ap (low_bits 16) e ∙ low_bits-append 11 5 b 0 (omega arith)
     ∙ ap (λ (l : List Bool). low_bits 11 b ++ l) (low_bits-zeros 5)
 
--- an entry of a filled table
-pub entry-of : (value : Option (ℤ × ℕ × ℕ)) (entry : ℤ × ℕ × ℕ) → entry ≡ packed value → IsOf value entry
-entry-of value entry e = grind arith
+-- the zeros and the bits of a packed value are few
+pub small_packed : (o : Option (ℤ × ℕ × ℕ)) → IfSome o (λ t. t.1 ≤ 15) → IfSome o (λ t. t.2 ≤ 11)
+    → ((packed o).1 ≤ 15) × ((packed o).2 ≤ 11)
+small_packed o run few = grind arith
 
 -- bits that fit a byte
 pub within_byte : (o : Option (ℤ × ℕ × ℕ)) → IfSome o (λ t. t.2 ≤ 11) → IfSome o (λ t. t.2 ≤ 255)

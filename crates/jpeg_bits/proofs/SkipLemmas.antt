@@ -2,21 +2,20 @@
 use Rattle.std.proofs.lemmas.Grind.{common_steps}
 use Rattle.std.proofs.lemmas.Bool.Decides.{nat_tests}
 use Rattle.std.proofs.Common.{◌≡◌, ℕ, ℤ, zero, suc, ◌+◌, ◌-◌, ◌*◌, ◌/◌, ◌%◌, ◌^◌, ◌<◌, ◌≤◌, Bool, true, false, List, []}
-use Rattle.std.proofs.Common.{◌∷◌, ◌++◌, length, take, drop, replicate, get_or, pos, ◌*ℤ◌, Option, Some, Result, Ok}
+use Rattle.std.proofs.Common.{◌∷◌, ◌++◌, length, take, drop, replicate, get_or, pos, ◌*ℤ◌, Some, Result, Ok}
 use Rattle.std.proofs.Common.{Err, is_ok, refl, sym, ap, ◌∙◌, subst, arith, length-append, length-drop, length-take, ltb}
 use Rattle.std.proofs.Common.{inl, inr, pow_pos, set, get_or-set_other, get_or-set_same}
 use Rattle.std.proofs.lemmas.Bool.{lt-ltb, false≢true, cases_lt}
-use Rattle.std.proofs.lemmas.List.{take-take, take-append-le, drop-drop}
+use Rattle.std.proofs.lemmas.List.{take-take}
 use Rattle.std.proofs.Math.Nat.{div-add-mod'}
 use Rattle.jpeg_bits.proofs.Reservoirs.{low_bits-append, low_bits-zeros, low_bits-take, low_bits-drop, low_bits-high}
 use Rattle.jpeg_bits.proofs.Reservoirs.{same_zeros}
-use Rattle.jpeg_bits.proofs.ShortLemmas.{at_most, short_agree, value-bits}
-use Rattle.jpeg_bits.proofs.Tables.{all-rising}
-use Rattle.jpeg_bits.proofs.WideTokens.{none-left, value-within}
+use Rattle.jpeg_bits.proofs.Fast.{both-held}
+use Rattle.jpeg_bits.proofs.WideTokens.{none-left, value-within, advanced, held-then, token-seen}
 use Rattle.jpeg_bits.specs.Reading.{Fault}
 use Rattle.jpeg_bits.specs.Entropy.{Text, advance, has_bits, bits_from}
-use Rattle.jpeg_bits.specs.Codes.{Table, code_in, code_lengths, next_16, code_by, code_from}
-use Rattle.jpeg_bits.specs.ShortCodes.{named, symbol_in, next_bits}
+use Rattle.jpeg_bits.specs.Codes.{Table, next_16, code_from}
+use Rattle.jpeg_bits.specs.ShortCodes.{symbol_in, next_bits}
 use Rattle.jpeg_bits.specs.Readers.{Reads, read_on, gives, signed_from}
 use Rattle.jpeg_bits.specs.Written.{low_bits}
 use Rattle.jpeg_bits.specs.Bands.{Band, IsWithinRoom, before_more, wrapped, after_token, first_ac, token_at, token_from}
@@ -137,39 +136,24 @@ first-measured table al (suc n) (x ∷ rest) t =
 
 -- ---- the tokens that 12 bits begin with
 
-pub bits-after : (b used rest : ℕ) → used ≤ 12 → rest ≡ b * 2 ^ (4 + used) % 65536
-    → low_bits 16 rest ≡ drop used (low_bits 12 b) ++ replicate (4 + used) false
-bits-after b used rest h e =
-    let n = 12 - used in
-    let x = b * 2 ^ (4 + used) in
-    let whole : x ≡ x / 65536 * 2 ^ 16 + x % 65536 = omega arith in
-    let all : 16 ≡ n + (4 + used) = omega arith in
-    let twelve : 12 ≡ used + n = omega arith in
-    let none : x ≡ b * 2 ^ (4 + used) + 0 = omega arith in
-    let low : low_bits n b ≡ low_bits n (b % 2 ^ n)
-    = ap (low_bits n) (sym (div-add-mod' b (2 ^ n))) ∙ low_bits-high n (b / 2 ^ n) (b % 2 ^ n) in
-    ap (low_bits 16) e ∙ sym (ap (low_bits 16) whole ∙ low_bits-high 16 (x / 65536) (x % 65536))
-    ∙ ap (low_bits 16) none ∙ ap (λ (k : ℕ). low_bits k (b * 2 ^ (4 + used) + 0)) all
-    ∙ low_bits-append n (4 + used) b 0 (pow_pos (4 + used))
-    ∙ ap (λ (l : List Bool). low_bits n b ++ l) (low_bits-zeros (4 + used))
-    ∙ ap (λ (l : List Bool). l ++ replicate (4 + used) false) (low ∙ sym (low_bits-drop used n b)
-    ∙ ap (λ (k : ℕ). drop used (low_bits k b)) (sym twelve))
-
-advanced : (m n : ℕ) (t : Text) → advance n (advance m t) ≡ advance (m + n) t
-advanced m n t = grind (arith, common_steps, drop-drop)
-
-held-first : (n s : ℕ) (t : Text) → has_bits (n + s) t.bits t.ending ≡ Ok tt → has_bits n t.bits t.ending ≡ Ok tt
-held-first n s t h = grind (arith, common_steps, nat_tests, false≢true)
-
-held-then : (n s : ℕ) (t : Text) → has_bits (n + s) t.bits t.ending ≡ Ok tt
-    → has_bits s (advance n t).bits (advance n t).ending ≡ Ok tt
-held-then n s t h = grind (arith, common_steps, nat_tests, false≢true, length-drop)
-
--- a code that is seen in some bits is that of a text whose bits agree with them so far
-seen-code : (table : Table) (n symbol size : ℕ) (u : Text) (o p : Option (ℕ × ℕ))
-    → named table.symbols o ≡ Some (symbol, size) → at_most n o ≡ at_most n p → size ≤ n
-    → has_bits size u.bits u.ending ≡ Ok tt → code_by table u p ≡ Ok ((size, symbol), advance size u)
-seen-code table n symbol size u o p is same le held = grind (arith, common_steps, nat_tests, false≢true)
+-- Some bits after the first of n, with zeros after them, are the low ones of their number, moved.
+pub bits-after : (n w used k b rest : ℕ) → used ≤ n → n + k ≡ w + used → rest ≡ b * 2 ^ k % 2 ^ w
+    → low_bits w rest ≡ drop used (low_bits n b) ++ replicate k false
+bits-after n w used k b rest h size e =
+    let m = n - used in
+    let x = b * 2 ^ k in
+    let whole : x ≡ x / 2 ^ w * 2 ^ w + x % 2 ^ w = sym (div-add-mod' x (2 ^ w)) in
+    let all : w ≡ m + k = omega arith in
+    let split : n ≡ used + m = omega arith in
+    let none : x ≡ x + 0 = omega arith in
+    let low : low_bits m b ≡ low_bits m (b % 2 ^ m)
+    = ap (low_bits m) (sym (div-add-mod' b (2 ^ m))) ∙ low_bits-high m (b / 2 ^ m) (b % 2 ^ m) in
+    ap (low_bits w) e ∙ sym (ap (low_bits w) whole ∙ low_bits-high w (x / 2 ^ w) (x % 2 ^ w))
+    ∙ ap (low_bits w) none ∙ ap (λ (j : ℕ). low_bits j (x + 0)) all
+    ∙ low_bits-append m k b 0 (pow_pos k)
+    ∙ ap (λ (l : List Bool). low_bits m b ++ l) (low_bits-zeros k)
+    ∙ ap (λ (l : List Bool). l ++ replicate k false) (low ∙ sym (low_bits-drop used m b)
+    ∙ ap (λ (j : ℕ). drop used (low_bits j b)) (sym split))
 
 signed-passed : (others : ℕ → Reads ℕ) (room r s : ℕ) (t : Text) → has_bits s t.bits t.ending ≡ Ok tt
     → read_on (run_after others room) (read_on (λ (v : ℤ). gives (Value r v)) (signed_from s t))
@@ -192,29 +176,6 @@ sixteen-passed others room size r s t none all = rw (none, all) refl
 module _ (table : Table) (counted : length table.counts ≡ 16) (bits : List Bool) (long : length bits ≡ 12)
     (used symbol size : ℕ) (found : symbol_in table (drop used bits ++ replicate (4 + used) false) ≡ Some (symbol, size))
   where
-    token-seen : (room : ℕ) (t : Text) → next_bits 12 t.bits ≡ bits → used + size ≤ 12
-        → has_bits (used + size) t.bits t.ending ≡ Ok tt
-        → token_from table room (advance used t)
-        ≡ token_at room size (symbol / 16) (symbol % 16) (advance size (advance used t))
-    unfolding token_from code_from
-    token-seen room t e le held =
-        let n = 12 - used in
-        let lens = code_lengths table.counts in
-        let zeros = replicate 16 false in
-        let x = drop used bits ++ replicate (4 + used) false in
-        let y = next_16 (drop used t.bits) in
-        let cut = length-drop used bits in
-        let first : take n x ≡ take n (drop used bits)
-        = take-append-le n (drop used bits) (replicate (4 + used) false) (omega arith) in
-        let second : take n y ≡ take n (drop used bits)
-        = take-take n 16 (drop used t.bits ++ zeros) (omega arith)
-        ∙ same_zeros (drop used t.bits) n 16 n (omega arith) (omega arith)
-        ∙ sym (value-bits 12 t.bits used n (omega arith)) ∙ ap (λ (l : List Bool). take n (drop used l)) e in
-        let same = short_agree n lens (all-rising table.counts counted) x y (first ∙ sym second) in
-        ap (read_on (λ (c : ℕ × ℕ). token_at room c.0 (c.1 / 16) (c.1 % 16)))
-        (seen-code table n symbol size (advance used t) (code_in lens x) (code_in lens y) found same (omega arith)
-        (held-then used size t held))
-
     abbrev s : ℕ
     s = symbol % 16
 
@@ -227,7 +188,7 @@ module _ (table : Table) (counted : length table.counts ≡ 16) (bits : List Boo
     skip-more count passed is le all h room lt most t b =
         let held : has_bits (used + size + s) t.bits t.ending ≡ Ok tt
         = ap (λ (k : ℕ). has_bits k t.bits t.ending) (omega (arith, is)) ∙ b.1 in
-        let here = held-first (used + size) s t held in
+        let here = both-held (used + size) s t.bits t.ending held in
         let room' = room - passed in
         let u = advance used t in
         let v = advance size u in
@@ -243,9 +204,10 @@ module _ (table : Table) (counted : length table.counts ≡ 16) (bits : List Boo
         let after : advance s v ≡ advance (used + count) t
         = ap (advance s) (advanced used size t) ∙ advanced (used + size) s t
         ∙ ap (λ (k : ℕ). advance k t) (omega (arith, is)) in
-        h room (omega arith) most t (b.0, held-first used size t here)
+        h room (omega arith) most t (b.0, both-held used size t.bits t.ending here)
         ∙ run-token table room' u (omega arith)
-        ∙ ap (read_on (run_after (run_of table) room')) (token-seen room' t b.0 (omega (arith, is)) here)
+        ∙ ap (read_on (run_after (run_of table) room')) (token-seen table counted 12 (omega arith) bits long used
+        (replicate (4 + used) false) symbol size found room' t b.0 (omega (arith, is)) here)
         ∙ step
         ∙ ap (λ (k : ℕ). run_of table k (advance s v)) left
         ∙ ap (run_of table (room - (passed + (r + 1)))) after
@@ -260,9 +222,10 @@ module _ (table : Table) (counted : length table.counts ≡ 16) (bits : List Boo
         let room' = room - passed in
         let u = advance used t in
         let v = advance size u in
-        h room lt most t (b.0, held-first used size t here)
+        h room lt most t (b.0, both-held used size t.bits t.ending here)
         ∙ run-token table room' u (omega arith)
-        ∙ ap (read_on (run_after (run_of table) room')) (token-seen room' t b.0 (omega (arith, is)) here
+        ∙ ap (read_on (run_after (run_of table) room')) (token-seen table counted 12 (omega arith) bits long used
+        (replicate (4 + used) false) symbol size found room' t b.0 (omega (arith, is)) here
         ∙ none-left room' size r s v none end)
         ∙ ap (λ (w : Text). Ok (0, w)) (advanced used size t ∙ ap (λ (k : ℕ). advance k t) same)
 

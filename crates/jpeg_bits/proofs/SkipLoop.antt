@@ -1,7 +1,6 @@
 -- Steps of the loop that passes over the tokens of a band.
-use Rattle.std.proofs.Common.{◌≡◌, ℕ, ◌-◌, ◌<◌, ◌≤◌, Bool, true, false, List, drop, replicate, Ok, Err, refl, ap, ◌∙◌}
-use Rattle.std.proofs.Common.{arith, is_ok, sym, Option, ◌++◌}
-use Rattle.std.proofs.lemmas.List.{take-take}
+use Rattle.std.proofs.Common.{◌≡◌, ℕ, ◌-◌, ◌<◌, ◌≤◌, Bool, true, false, List, drop, Ok, Err, refl, ap, ◌∙◌}
+use Rattle.std.proofs.Common.{arith, is_ok, sym, Option}
 use Rattle.jpeg_bits.specs.Stream.{Stream}
 use Rattle.jpeg_bits.specs.Entropy.{Text, Ahead, Takes, advance, upcoming_by, upcoming, same_text, has_held, IsFilled}
 use Rattle.jpeg_bits.specs.Codes.{Table}
@@ -13,22 +12,11 @@ use Rattle.jpeg_bits.specs.declared.error.Error.{Error}
 use Rattle.jpeg_bits.specs.declared.ahead.DataEnd.{DataEnd}
 use Rattle.jpeg_bits.specs.declared.tokens.Token.{Token}
 use Rattle.jpeg_bits.proofs.BandLoop.{Leaves}
-use Rattle.jpeg_bits.proofs.BandSteps.{Leaves-ok, Leaves-err, Leaves-end}
+use Rattle.jpeg_bits.proofs.BandSteps.{Leaves-ok, Leaves-err, Leaves-end, Leaves-buffered}
 use Rattle.jpeg_bits.proofs.Held.{has_bits-held, advance-held, filled-less, ok_unit}
-use Rattle.jpeg_bits.proofs.Reservoirs.{same_zeros}
-use Rattle.jpeg_bits.proofs.ShortLemmas.{next-held}
 use Rattle.jpeg_bits.proofs.SkipLemmas.{run-token, run-none}
-use Rattle.jpeg_bits.proofs.Texts.{second_ok}
+use Rattle.jpeg_bits.proofs.WideTokens.{front-text}
 use Rattle.jpeg_bits.specs.declared.tokens.Token.TheVariants.{Rest, Overlong}
-
--- the 12 bits that are held are those of the text
-twelve-held : (bits : List Bool) (met : Option DataEnd) (bytes : List ℕ) → IsFilled 16 bits met
-    → next_bits 12 (upcoming_by bits met bytes).bits ≡ next_bits 12 bits
-twelve-held bits met bytes filled =
-    let xs = (upcoming_by bits met bytes).bits in
-    same_zeros xs 12 12 16 (omega arith) (omega arith)
-    ∙ sym (take-take 12 16 (xs ++ replicate 16 false) (omega arith))
-    ∙ next-held 12 bits met bytes (omega arith) (filled-less 12 16 bits met (omega arith) filled)
 
 after-held : (table : Table) (left n passed : ℕ) (last : Bool) (bits : List Bool) (met : Option DataEnd)
     (bytes : List ℕ) → IsFilled 16 bits met → IsSkip table (next_bits 12 bits) (n, passed, last) → passed < left
@@ -38,30 +26,29 @@ after-held : (table : Table) (left n passed : ℕ) (last : Bool) (bits : List Bo
 after-held table left n passed last bits met bytes filled skip lt most ok =
     let few : n ≤ 16 = omega (arith, skip.few) in
     skip.passes left lt most (upcoming_by bits met bytes) (
-      twelve-held bits met bytes filled,
+      front-text 12 bits met bytes (omega arith) (filled-less 12 16 bits met (omega arith) filled),
       has_bits-held n bits met bytes (filled-less n 16 bits met few filled) ∙ ok_unit _ ok,
     )
 
 module _ (table : Table) (room left : ℕ) (a b d e : Ahead) (old cur mid new : Stream)
     (p : Leaves (run_of table room) a old (run_of table left) b cur)
     (q : Takes (λ (u : Unit {0}). 0) same_text b cur (Ok tt) d mid) where
-  -- bits are read ahead
-  pub Leaves-held : Leaves (run_of table room) a old (run_of table left) d mid
-  Leaves-held = grind (arith, second_ok)
+  text-buffered : Leaves (run_of table room) a old (run_of table left) d mid
+  text-buffered = Leaves-buffered (run_of table room) (run_of table left) a b d old cur mid p q
 
   pub skip-refused : 0 < left → (x : Error) → Takes (λ (k : Token). k) (token_from table left) d mid (Err x) e new
       → Takes (λ (run : ℕ). run) (run_of table room) a old (Err x) e new
   skip-refused some x h =
       Leaves-err (λ (run : ℕ). run) (λ (k : Token). k) (run_of table room) (run_of table left) (token_from table left)
       a d e old mid new x
-      (λ t f is. run-token table left t some ∙ ap (read_on (run_after (run_of table) left)) is) Leaves-held h
+      (λ t f is. run-token table left t some ∙ ap (read_on (run_after (run_of table) left)) is) text-buffered h
 
   pub skip-token : 0 < left → (k : Token) → Takes (λ (k : Token). k) (token_from table left) d mid (Ok k) e new
       → Leaves (run_of table room) a old (run_after (run_of table) left k) e new
   skip-token some k h =
       Leaves-ok (λ (k : Token). k) (run_of table room) (run_of table left) (run_after (run_of table) left k)
       (token_from table left) a d e old mid new k
-      (λ t u is. run-token table left t some ∙ ap (read_on (run_after (run_of table) left)) is) Leaves-held h
+      (λ t u is. run-token table left t some ∙ ap (read_on (run_after (run_of table) left)) is) text-buffered h
 
   pub skip-rest : 0 < left → (run : ℕ) → Takes (λ (k : Token). k) (token_from table left) d mid (Ok (Rest run)) e new
       → Takes (λ (run : ℕ). run) (run_of table room) a old (Ok run) e new
@@ -98,7 +85,7 @@ module _ (table : Table) (room left : ℕ) (a b d e : Ahead) (old cur mid new : 
 
     pub skip-over : last ≡ false → Leaves (run_of table room) a old (run_of table (left - over)) e mid
     skip-over on =
-        let held = Leaves-held in (
+        let held = text-buffered in (
           held.0,
           λ known.
               let at = held.1 known in (
@@ -112,7 +99,7 @@ module _ (table : Table) (room left : ℕ) (a b d e : Ahead) (old cur mid new : 
 
     pub skip-to-end : last ≡ true → Takes (λ (run : ℕ). run) (run_of table room) a old (Ok 0) e mid
     skip-to-end end =
-        let held = Leaves-held in (
+        let held = text-buffered in (
           held.0,
           λ known.
               let at = held.1 known in (

@@ -23,6 +23,7 @@ pub mod Refusals
 pub mod Reservoir
 pub mod ShortCodes
 pub mod Skips
+pub mod Pairs
 pub mod Lookups
 pub mod Pieces
 pub mod Masks

@@ -65,14 +65,10 @@ abbrev pub packed : Option (ℤ × ℕ × ℕ) → ℤ × ℕ × ℕ
 packed None = (pos 0, 0, 0)
 packed (Some value) = value
 
--- An entry that has bits is this value.
-abbrev pub IsOf : Option (ℤ × ℕ × ℕ) → ℤ × ℕ × ℕ → Type 0
-IsOf value entry = 0 < entry.2 → value ≡ Some entry
-
 -- the values that 11 bits begin with, at the index of each, where the table is filled
 abbrev pub HoldsWideValues : Table → List (ℤ × ℕ × ℕ) → Type 0
 HoldsWideValues table values = (b : ℕ) → b < length values
-    → IsOf (short_value_of 11 table (low_bits 11 b)) (slice_index_or values b (packed None))
+    → slice_index_or values b (packed None) ≡ packed (short_value_of 11 table (low_bits 11 b))
 
 -- the value after the codes of at most i bits, as a number of i bits
 abbrev pub value_after : List ℕ → ℕ → ℕ

@@ -11,6 +11,7 @@ use crate::bits::{Bits, extend};
 use crate::codes::HuffmanTable;
 use crate::error::{Error, Result, end_of_bytes, format_error, hold_format_error};
 use crate::marker::Marker;
+use crate::pairs::Pair;
 use crate::source::Source;
 use std::alloc::Global;
 use std::io::Read;
@@ -139,6 +140,7 @@ impl Held {
     ghost use Rattle.jpeg_bits.specs.Codes.{next_16, code_from, symbol_from, fast_from};
     ghost use Rattle.jpeg_bits.specs.ShortCodes.{symbol_in, short_value_of, next_bits};
     ghost use Rattle.jpeg_bits.specs.Skips.{IsSkip};
+    ghost use Rattle.jpeg_bits.specs.Pairs.{IsPairOf, IsSmall};
     ghost use Rattle.jpeg_bits.specs.Reading.{Names, Gives};
     ghost use Rattle.jpeg_bits.specs.Readers.{signed_from};
     ghost use Rattle.jpeg_bits.specs.Refusals.{outcome_of, answer_of, IsHeld};
@@ -446,6 +448,17 @@ impl Held {
         ensures { IsSkip table.now (next_bits 12 self.now.bits) result }
     {
         table.skip_of(self.bits.front_16())
+    }
+
+    /// Returns the values that the buffered bits begin with, one or two, where the table for them
+    /// is filled.
+    #[inline(always)]
+    pub(crate) fn next_pair(&self, table: &HuffmanTable) -> Pair
+        ensures pair { IsPairOf table.now (next_bits 11 self.now.bits) result }
+        ensures small { IsSmall result }
+        ensures counted { length table.now.counts ≡ 16 }
+    {
+        table.pair_of(self.bits.front_16())
     }
 
     pub(crate) fn clear(&mut self)

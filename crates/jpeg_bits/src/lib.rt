@@ -14,6 +14,7 @@ pub mod error;
 pub mod huffman;
 pub mod laws;
 pub mod marker;
+mod pairs;
 pub mod reads;
 mod refinement;
 pub mod scan;

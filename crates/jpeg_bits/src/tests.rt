@@ -218,7 +218,7 @@ fn short_tokens(rt: HostRuntime) -> Result<(), Fail> {
     Ok(())
 }
 
-/// Reads the AC coefficients of a block by the codes 0 and 10 from a byte.
+/// Reads the AC coefficients of a block by the codes 0 and 10 from a byte, two values at once.
 fn read_coefficients(
     alloc: Global,
     symbols: &[u8; 2],
@@ -229,7 +229,9 @@ fn read_coefficients(
     let mut counts = [0u8; 16];
     counts[0] = 1;
     counts[1] = 1;
-    let table = HuffmanTable::new(alloc, &counts, symbols, HuffmanTableClass::AC)?;
+    let mut table = HuffmanTable::new(alloc, &counts, symbols, HuffmanTableClass::AC)?;
+    table.widen(alloc)?;
+    table.fill_pairs(alloc)?;
     let bytes = [byte, 0xff, 0xd9];
     let mut source = Source::new(reader_of(&bytes, 1));
     let mut decoder = HuffmanDecoder::new(alloc);

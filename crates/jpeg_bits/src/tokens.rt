@@ -2,7 +2,7 @@
 //! (T.81, F.2.2 and G.1.2).
 ghost use Rattle.std.specs.Prelude.{◌≡◌, ◌≤◌, ◌/◌, ◌%◌, ◌^◌, ◌+ℤ◌, ◌*ℤ◌, pos, length, IfSome};
 ghost use Rattle.jpeg_bits.specs.Refusals.{answer_of, IsHeld};
-ghost use Rattle.jpeg_bits.specs.Entropy.{Takes};
+ghost use Rattle.jpeg_bits.specs.Entropy.{IsFilled, Takes};
 ghost use Rattle.jpeg_bits.specs.declared.codes.HuffmanTableClass.TheVariants.{AC};
 ghost use Rattle.jpeg_bits.specs.Bands.{wrapped, difference, token_at, token_from, first_ac};
 ghost use Rattle.jpeg_bits.specs.Bands.{IsWithinRoom};
@@ -122,9 +122,9 @@ fn read_token_of<R: Read + Drop>(
     }
 }
 
-/// Reads the next token of a first pass, where `room` coefficients are left of the band. A value
-/// that is within them is looked up by the next 11 bits. A refusal is stored in `refusal`, and
-/// none is returned.
+/// Reads the next token of a first pass, where `room` coefficients are left of the band, and 16
+/// bits are buffered, or the end is reached. A value that is within the room is looked up by the
+/// next 11 bits. A refusal is stored in `refusal`, and none is returned.
 #[inline(always)]
 fn read_token<R: Read + Drop>(
     held: &mut Held,
@@ -133,15 +133,13 @@ fn read_token<R: Read + Drop>(
     room: usize,
     refusal: &mut Option<Error>,
 ) -> Option<Token>
-    requires { table.now.class ≡ AC }
+    requires class { table.now.class ≡ AC }
+    requires filled { IsFilled 16 held.old.bits held.old.met }
     ensures token { Takes (λ t. t) (token_from table.now room)
         held.old source.old (answer_of result refusal.new) held.new source.new }
     ensures held { IsHeld result refusal.new }
     ensures room { IfSome result (IsWithinRoom room) }
 {
-    if !held.hold(source, 16, refusal) {
-        return None;
-    }
     if let Some((value, run, bits)) = held.wide_value(table) {
         let count = usize::from(bits);
         if usize::from(run) < room && held.has(count) {
@@ -195,18 +193,31 @@ fn read_places<R: Read + Drop>(
     let end = pass.band_end();
     let mut at = pass.band_start();
     while at < end {
-        let Some(token) = read_token(held, source, table, end - at, refusal) else {
+        if !held.hold(source, 16, refusal) {
             return None;
-        };
-        match token {
-            Token::Value(run, value) => {
-                at += usize::from(run);
-                block[place_of(at)] = shifted(value, pass.al);
-                at += 1;
+        }
+        let pair = held.next_pair(table);
+        let count = usize::from(pair.bits);
+        let passed = usize::from(pair.passed);
+        if passed <= end - at && held.has(count) {
+            block[place_of(at + usize::from(pair.run))] = shifted(pair.first, pass.al);
+            block[place_of(at + usize::from(pair.next))] = shifted(pair.second, pass.al);
+            at += passed;
+            held.skip(count);
+        } else {
+            let Some(token) = read_token(held, source, table, end - at, refusal) else {
+                return None;
+            };
+            match token {
+                Token::Value(run, value) => {
+                    at += usize::from(run);
+                    block[place_of(at)] = shifted(value, pass.al);
+                    at += 1;
+                }
+                Token::Sixteen => at = if end - at > 16 { at + 16 } else { end },
+                Token::Rest(run) => return Some(run),
+                Token::Overlong => return Some(0),
             }
-            Token::Sixteen => at = if end - at > 16 { at + 16 } else { end },
-            Token::Rest(run) => return Some(run),
-            Token::Overlong => return Some(0),
         }
     }
     Some(0)

@@ -66,16 +66,31 @@ const WIDE_PIXELS: u32 = 1 << 14;
 
 /// Returns whether a frame has so many pixels that it pays to fill the look-up tables of AC values.
 pub fn is_large(frame: &FrameInfo) -> bool {
-    let size = &frame.image_size;
-    u32::from(size.width) * u32::from(size.height) >= WIDE_PIXELS
+    pixels_of(frame) >= WIDE_PIXELS
 }
 
-/// Returns whether no AC coefficient of a frame is wanted: it is sequential, and each of its blocks
-/// gives one sample.
-fn wants_no_ac(frame: &FrameInfo) -> bool {
-    if is_progressive(frame.coding_process) {
-        return false;
-    }
+/// The number of pixels from which on it pays to look two AC values up at once.
+const PAIR_PIXELS: u32 = 1 << 17;
+
+/// Which look-up tables of AC values are filled for a frame.
+#[derive(Clone, Copy, Debug, PartialEq)]
+enum LookUps {
+    /// Those of single values.
+    Values,
+    /// Those of two values at once besides.
+    Pairs,
+    /// Those by which values are passed over besides.
+    Skips,
+}
+
+/// Returns the number of pixels of a frame.
+fn pixels_of(frame: &FrameInfo) -> u32 {
+    let size = &frame.image_size;
+    u32::from(size.width) * u32::from(size.height)
+}
+
+/// Returns whether each block of a frame gives one sample.
+fn is_eighth(frame: &FrameInfo) -> bool {
     for component in &frame.components {
         if component.dct_scale != 1 {
             return false;
@@ -84,23 +99,38 @@ fn wants_no_ac(frame: &FrameInfo) -> bool {
     true
 }
 
+/// Returns which look-up tables of AC values it pays to fill for a frame. The scans of a
+/// progressive one read few tokens each, and of a sequential one whose blocks give one sample each
+/// no AC coefficient is wanted.
+fn look_ups_for(frame: &FrameInfo) -> LookUps {
+    if is_progressive(frame.coding_process) {
+        LookUps::Values
+    } else if is_eighth(frame) {
+        LookUps::Skips
+    } else if pixels_of(frame) >= PAIR_PIXELS {
+        LookUps::Pairs
+    } else {
+        LookUps::Values
+    }
+}
+
 /// Fills the look-up tables of a table of AC coefficients that a frame's blocks are read by.
 fn widen(
     alloc: Global,
     table: &mut HuffmanTable,
-    passes_over: bool,
+    look_ups: LookUps,
 ) -> std::result::Result<(), AllocError>
     ensures { table.new ≡ table.old }
 {
     table.widen(alloc)?;
-    if passes_over {
-        return table.fill_skips(alloc);
+    match look_ups {
+        LookUps::Values => Ok(()),
+        LookUps::Pairs => table.fill_pairs(alloc),
+        LookUps::Skips => table.fill_skips(alloc),
     }
-    Ok(())
 }
 
-/// Fills the look-up tables of AC values, and, where a frame wants none of them, those by which
-/// they are passed over.
+/// Fills the look-up tables of AC values, and those besides that pay for a frame.
 pub fn widen_all(
     alloc: Global,
     tables: &mut [Option<HuffmanTable>],
@@ -108,10 +138,10 @@ pub fn widen_all(
 ) -> std::result::Result<(), AllocError>
     ensures { tables.new ≡ tables.old }
 {
-    let passes_over = wants_no_ac(frame);
+    let look_ups = look_ups_for(frame);
     for destination in 0..tables.len() {
         if let Some(table) = &mut tables[destination] {
-            widen(alloc, table, passes_over)?;
+            widen(alloc, table, look_ups)?;
         }
     }
     Ok(())

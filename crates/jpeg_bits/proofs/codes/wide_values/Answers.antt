@@ -1,11 +1,12 @@
-use Rattle.std.proofs.Common.{◌≡◌, ◌∙◌, ◌+◌, ◌*◌, ◌%◌, ◌++◌, ℕ, List, Bool, sym, ap, subst, arith, replicate}
+use Rattle.std.proofs.Common.{ℤ, ◌≤◌, ◌≡◌, ◌∙◌, ◌+◌, ◌*◌, ◌%◌, ◌++◌, ℕ, List, Bool, sym, ap, subst, arith, replicate}
 use Rattle.std.proofs.Common.{false, None}
 use Rattle.jpeg_bits.specs.Codes.{code_in, code_lengths}
 use Rattle.jpeg_bits.specs.Written.{low_bits}
 use Rattle.jpeg_bits.specs.ShortCodes.{ArePassed, named, packed, short_value_by, short_value_of}
 use Rattle.jpeg_bits.specs.declared.codes.HuffmanTableClass.TheVariants.{AC}
 use Rattle.jpeg_bits.proofs.RowLemmas.{still-passed}
-use Rattle.jpeg_bits.proofs.ShortLemmas.{set_next, length_set, eleven_padded, within_byte, entry-of}
+use Rattle.jpeg_bits.proofs.ShortLemmas.{set_next, length_set, eleven_padded, within_byte, small_packed}
+use Rattle.jpeg_bits.proofs.SkipLemmas.{set-holds}
 use Rattle.jpeg_bits.proofs.codes.wide_values.Goals as goal
 
 pub code_of-code-requires-clause-passed : goal.code_of-code-requires-clause-passed
@@ -32,6 +33,10 @@ loop-place-preserved c =
           (λ (k : ℕ). packed (short_value_of 11
           (record { class = AC; counts = t.counts.now; symbols = t.values.now }) (low_bits 11 k)))
           (omega (arith, i.whole, c.loop-place-test.true)) i.filled entry;
+      small = set-holds (λ (k : ℕ) (v : ℤ × ℕ × ℕ). (v.1 ≤ 15) × (v.2 ≤ 11)) c.loop-place.tokens.items b
+          c.packed.result (packed None) (omega (arith, i.whole, c.loop-place-test.true)) i.small (subst
+          (λ (v : ℤ × ℕ × ℕ). (v.1 ≤ 15) × (v.2 ≤ 11)) (sym c.packed.ensures)
+          (small_packed c.short_value.result c.short_value.ensures.run c.short_value.ensures.within));
       within = c.code_of-code.ensures.within;
       passed = still-passed t.rows.now c.code_of-code.new.row (b * 32) ((b + 1) * 32) (omega arith)
           (subst (λ (n : ℕ). ArePassed t.rows.now c.code_of-code.new.row n) whole c.code_of-code.ensures.passed);
@@ -40,10 +45,12 @@ loop-place-preserved c =
 pub packed-requires : goal.packed-requires
 packed-requires c = within_byte c.short_value.result c.short_value.ensures.within
 
-pub returns : goal.returns
-returns c = λ b lt. entry-of _ _ (c.loop-place.invariant.filled b (omega (
-  arith,
-  lt,
-  c.loop-place.invariant.whole,
-  c.loop-place-test.false,
-)))
+pub returns-clause-values : goal.returns-clause-values
+returns-clause-values c =
+    let i = c.loop-place.invariant in
+    λ b lt. i.filled b (omega (arith, lt, i.whole, c.loop-place-test.false))
+
+pub returns-clause-small : goal.returns-clause-small
+returns-clause-small c =
+    let i = c.loop-place.invariant in
+    λ b lt. i.small b (omega (arith, lt, i.whole, c.loop-place-test.false))

@@ -9,6 +9,8 @@ invariant-loop-place l = record {
   whole : length l.tokens.items ≡ 2048;
   filled : (b : ℕ) → b < l.place → slice_index_or l.tokens.items b (packed None) ≡ packed (short_value_of 11
       (record { class = AC; counts = l.codes.counts.now; symbols = l.codes.values.now }) (low_bits 11 b));
+  small : (b : ℕ) → b < l.place → ((slice_index_or l.tokens.items b (packed None)).1 ≤ 15)
+      × ((slice_index_or l.tokens.items b (packed None)).2 ≤ 11);
   within : l.row ≤ 16;
   passed : ArePassed l.codes.rows.now l.row (l.place * 32);
 }

@@ -11,14 +11,12 @@ returns-then-has-clause-token g c = grind (arith, common_steps, ok_unit, to_z-of
 
 pub returns-in_default-take_held_code-clause-token : goal.returns-in_default-take_held_code-clause-token
 returns-in_default-take_held_code-clause-token g c =
-    Token-no-code c.args.table.now c.args.room tt c.args.held.now c.hold.new.self c.take_held_code.new.self
-    c.args.source.now c.hold.new.source (held_refusal c.take_held_code.new.refusal) c.if-not-hold.ensures.holds
-    (c.in_default-take_held_code.ensures.code c.hold.new.source)
+    Token-no-code c.args.table.now c.args.room c.args.held.now c.take_held_code.new.self c.args.source.now
+    (held_refusal c.take_held_code.new.refusal) (c.in_default-take_held_code.ensures.code c.args.source.now)
 
 pub returns-clause-token : goal.returns-clause-token
 returns-clause-token g c =
-    Token-of-code c.args.table.now c.args.room tt c.args.held.now c.hold.new.self c.take_held_code.new.self
-    c.read_token_of.new.held c.args.source.now c.hold.new.source c.read_token_of.new.source
-    c.in-Some-take_held_code.code (answer_of c.read_token_of.result c.read_token_of.new.refusal)
-    c.if-not-hold.ensures.holds (c.in-Some-take_held_code.ensures.code c.hold.new.source)
-    c.read_token_of.ensures.token
+    Token-of-code c.args.table.now c.args.room c.args.held.now c.take_held_code.new.self c.read_token_of.new.held
+    c.args.source.now c.read_token_of.new.source c.in-Some-take_held_code.code
+    (answer_of c.read_token_of.result c.read_token_of.new.refusal)
+    (c.in-Some-take_held_code.ensures.code c.args.source.now) c.read_token_of.ensures.token

@@ -1,0 +1,73 @@
+-- The values that 11 bits begin with, one or two, which are looked up at once (F.2.2.2).
+use Rattle.std.specs.Prelude.{◌≡◌, ℕ, ℤ, pos, ◌+◌, ◌<◌, ◌≤◌, ◌==◌, ◌||◌, List, ◌++◌, drop, length}
+use Rattle.std.specs.Prelude.{replicate, Bool, false, nat_lt, if◌then◌else◌, slice_index_or, None}
+use Rattle.jpeg_bits.specs.Codes.{Table}
+use Rattle.jpeg_bits.specs.ShortCodes.{packed, short_value_of}
+use Rattle.jpeg_bits.specs.Written.{low_bits}
+use Rattle.jpeg_bits.specs.declared.pairs.Pair.{Pair}
+
+-- a value, the zeros before it, and the bits of both: 0 where there is no value
+abbrev pub ShortValue : Type 0
+ShortValue = ℤ × ℕ × ℕ
+
+-- no band has room for so many coefficients
+abbrev pub no_pair : Pair
+no_pair = record { first = pos 0; second = pos 0; run = 0; next = 0; passed = 64; bits = 0 }
+
+-- A value alone is written twice, at one index.
+abbrev pub one_value : ShortValue → Pair
+one_value v = record {
+  first = v.0;
+  second = v.0;
+  run = v.1;
+  next = v.1;
+  passed = v.1 + 1;
+  bits = v.2;
+}
+
+abbrev pub two_values : ShortValue → ShortValue → Pair
+two_values v w = record {
+  first = v.0;
+  second = w.0;
+  run = v.1;
+  next = v.1 + 1 + w.1;
+  passed = v.1 + w.1 + 2;
+  bits = v.2 + w.2;
+}
+
+-- a value and the one after it, where 11 bits have both
+unfoldable pub pair_by : ShortValue → ShortValue → Pair
+pair_by v w =
+    if v.2 == 0 then no_pair else (
+    if w.2 == 0 || nat_lt 11 (v.2 + w.2) then one_value v else two_values v w)
+
+-- the value that 11 bits begin with
+abbrev pub value_in : Table → List Bool → ShortValue
+value_in table bits = packed (short_value_of 11 table bits)
+
+-- the values that 11 bits begin with: after the bits of the first come zeros
+unfoldable pub pair_of : Table → List Bool → Pair
+pair_of table bits =
+    let v = value_in table bits in
+    pair_by v (value_in table (drop v.2 bits ++ replicate v.2 false))
+
+-- An entry with values has these.
+abbrev pub IsPairOf : Table → List Bool → Pair → Type 0
+IsPairOf table bits pair = pair.passed < 64 → pair ≡ pair_of table bits
+
+-- The values are within the coefficients that are passed, and their bits are few.
+pub record IsSmall (pair : Pair) : Type 0 where
+  pub first : pair.run < pair.passed
+  pub second : pair.next < pair.passed
+  pub few : pair.bits ≤ 11
+
+-- the values that 11 bits begin with, at the index of each, where the table is filled
+abbrev pub HoldsPairs : Table → List Pair → Type 0
+HoldsPairs table pairs = (b : ℕ) → b < length pairs
+    → slice_index_or pairs b no_pair ≡ pair_of table (low_bits 11 b)
+
+-- the zeros and the bits of values are few
+abbrev pub AreSmall : List ShortValue → Type 0
+AreSmall values = (b : ℕ) → b < length values
+    → ((slice_index_or values b (packed None)).1 ≤ 15)
+    × ((slice_index_or values b (packed None)).2 ≤ 11)
