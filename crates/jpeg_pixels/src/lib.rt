@@ -8,6 +8,8 @@ mod color_tests;
 mod growing_plane;
 pub mod idct;
 pub mod joint_planes;
+#[cfg(test)]
+mod joint_tests;
 pub mod laws;
 mod picture_lines;
 pub mod plane;
