@@ -70,11 +70,9 @@ fn planes_of_a_room(rt: HostRuntime) -> Result<(), Fail> {
     joint
         .samples
         .extend_from_slice(&[1, 2, 3, 4, 5, 6, 7, 8, 9, 10, 11, 12])?;
-    let planes = joint.split(rt.alloc())?;
-    assert_eq!(rt; planes.len(), 3);
-    let expected = [[1, 2, 7, 8], [3, 4, 9, 10], [5, 6, 11, 12]];
-    for (plane, samples) in planes.iter().zip(expected.iter()) {
-        assert_eq!(rt; plane.as_slice(), samples.as_slice());
-    }
+    let first = joint.plane(rt.alloc(), 0)?;
+    assert_eq!(rt; first.as_slice(), &[1, 2, 7, 8]);
+    let last = joint.plane(rt.alloc(), 2)?;
+    assert_eq!(rt; last.as_slice(), &[5, 6, 11, 12]);
     Ok(())
 }
