@@ -3,7 +3,7 @@ use Rattle.std.proofs.Common.{◌≡◌, ℕ, zero, suc, ◌+◌, ◌-◌, ◌*�
 use Rattle.std.proofs.Common.{◌++◌, length, get_or, map, take, drop, ap, sym, ◌∙◌, slice_index}
 use Rattle.std.proofs.Common.{length-append, length-take, length-drop, arith, rules}
 use Rattle.std.proofs.lemmas.Grind.{elements}
-use Rattle.std.proofs.lemmas.List.{append-nil, get_or-drop, get_or-take, take_all}
+use Rattle.std.proofs.lemmas.List.{append-nil, get_or-drop, get_or-take}
 use Rattle.std.proofs.lemmas.List.Folds.{concat-append}
 use Rattle.std.proofs.lemmas.List.FromFn.{get_or-map-range_with_len, length-map-range_with_len}
 use Rattle.std.proofs.lemmas.List.FromFn.{map-range_with_len_more}
@@ -37,11 +37,6 @@ pub joined-put : (f : ℕ → List ℕ) (n all line size k : ℕ) (now new : Lis
 joined-put f n all line size k now new h same room long is before =
     let fits = row_fits n line all size h (omega arith) in
     search (rules, joined-more, take-put)
-
--- all lists, written one after the other
-pub joined-all : (f : ℕ → List ℕ) (n all line : ℕ) (now : List ℕ) → n ≡ all
-    → length now ≡ all * line → take (n * line) now ≡ joined f n → now ≡ joined f all
-joined-all f n all line now end long is = search (rules, take_all)
 
 -- one of several lines of one length, by its number
 joined-part : (n : ℕ) (lines : List (List ℕ)) (k : ℕ) → AreLong n lines → k < length lines

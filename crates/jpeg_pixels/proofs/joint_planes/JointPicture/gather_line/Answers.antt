@@ -1,6 +1,7 @@
 use Rattle.std.proofs.Common.{refl, arith, rules}
+use Rattle.std.proofs.lemmas.List.{take_all}
 use Rattle.jpeg_pixels.specs.JointPlanes.{strip_lines}
-use Rattle.jpeg_pixels.proofs.JointRows.{joined-all, joined-put, part-fits, strip_line}
+use Rattle.jpeg_pixels.proofs.JointRows.{joined-put, part-fits, strip_line}
 use Rattle.jpeg_pixels.proofs.joint_planes.JointPicture.gather_line.Goals as goal
 
 pub slice_bounds-copy_from_slice-end-in-loop-slot :
@@ -21,4 +22,4 @@ loop-slot-preserved c =
 
 pub returns : goal.returns
 unfolding strip_lines
-returns c = search (rules, joined-all)
+returns c = search (rules, take_all)
