@@ -1,15 +1,15 @@
 -- The picture of planes in one room: row of MCUs by row of MCUs.
 use Rattle.std.proofs.Common.{◌≡◌, ℕ, zero, suc, ◌+◌, ◌-◌, ◌*◌, ◌/◌, ◌%◌, ◌<◌, ◌≤◌, List, [], ◌∷◌, ◌++◌, length, map}
-use Rattle.std.proofs.Common.{min, take, drop, ap, ◌∙◌, sym, refl, arith, rules, append_assoc, length-drop, subst, get_or, Result, Ok, Some}
+use Rattle.std.proofs.Common.{min, take, drop, ap, ◌∙◌, sym, refl, arith, rules, append_assoc, length-drop, length-take, subst, get_or, Result, Ok, Some}
 use Rattle.std.proofs.Math.Nat.{add-mul, lt_of_mul-lt-mul_left, mod-lt, mul_assoc, mul_comm, mul-div_cancel_left, mul-le-mul, mul-le-mul_left, mul-le-mul_right}
-use Rattle.std.proofs.lemmas.List.{append-nil, drop-drop, get_or-drop, get_or-take, length-take-le}
+use Rattle.std.proofs.lemmas.List.{drop-drop, get_or-drop, get_or-take, length-take-le, take-append-drop}
 use Rattle.std.proofs.lemmas.List.Folds.{concat-append}
-use Rattle.std.proofs.lemmas.List.FromFn.{fill_by_all, length-map-range_with_len, get_or-map-range_with_len, map-range_with_len_more}
+use Rattle.std.proofs.lemmas.List.FromFn.{fill_by_all, get_or-map-range_with_len, length-map-range_with_len, take-map-range_with_len}
 use Rattle.std.proofs.lemmas.Nat.{div-mul-add, mod-mul-add, div-add-mod', div_below, mul-add-lt, row_fits}
 use Rattle.std.proofs.lemmas.Slice.{take-put_mid, drop-put_mid}
 use Rattle.std.proofs.lemmas.Bool.{eq-eqb}
 use Rattle.std.specs.List.{AllByRecursion, concat, range_with_len}
-use borrow.Rule.Slice.PartMut.{put_mid}
+use borrow.Rule.Slice.PartMut.{mid_of, put_mid}
 use Rattle.jpeg_bits.specs.Reading.{Fault}
 use Rattle.jpeg_bits.specs.declared.color_transform.ColorTransform.{ColorTransform}
 use Rattle.jpeg_segments.specs.Frame.{AllHaveSampling, Component, Factors, greatest}
@@ -26,35 +26,17 @@ use Rattle.jpeg_pixels.proofs.WholePictures.{image-is}
 
 -- ---- lines one after the other
 
--- the lines that a function gives by their number, and one more of them
-pub concat-more : (f : ℕ → List ℕ) (n : ℕ)
-    → concat (map f (range_with_len 0 (n + 1))) ≡ concat (map f (range_with_len 0 n)) ++ f n
-concat-more f n =
-    ap concat (map-range_with_len_more f 0 n n (omega arith))
-    ∙ concat-append (map f (range_with_len 0 n)) (f n ∷ [])
-    ∙ ap (λ (l : List ℕ). concat (map f (range_with_len 0 n)) ++ l) (append-nil (f n))
-
--- n more of them, which another function gives from its beginning
-pub concat-rows : (f g : ℕ → List ℕ) (a n : ℕ) → ((k : ℕ) → k < n → f (a + k) ≡ g k)
+-- the lines that a function gives, and n more of them, which another one gives from its beginning
+lines-after : (f g : ℕ → List ℕ) (a n : ℕ) → ((k : ℕ) → k < n → f (a + k) ≡ g k)
     → concat (map f (range_with_len 0 (a + n)))
     ≡ concat (map f (range_with_len 0 a)) ++ concat (map g (range_with_len 0 n))
-concat-rows f g a zero same =
-    let end : a + zero ≡ a = omega arith in
-    rw end (sym (append-nil (concat (map f (range_with_len 0 a)))))
-concat-rows f g a (suc n) same =
-    let end : a + suc n ≡ a + n + 1 = omega arith in
-    let next : suc n ≡ n + 1 = omega arith in
-    let front = concat-rows f g a n (λ k h. same k (omega arith)) in
-    let here = same n (omega arith) in
-    let more : concat (map g (range_with_len 0 (suc n))) ≡ concat (map g (range_with_len 0 n)) ++ g n =
-    ap (λ (m : ℕ). concat (map g (range_with_len 0 m))) next ∙ concat-more g n in
-    rw end (concat-more f (a + n) ∙ cc (
-      front,
-      here,
-      more,
-      append_assoc (concat (map f (range_with_len 0 a)))
-          (concat (map g (range_with_len 0 n))) (g n),
-    ))
+lines-after f g a n same =
+    let all = map f (range_with_len 0 (a + n)) in
+    let front : take a all ≡ map f (range_with_len 0 a) = take-map-range_with_len f 0 (a + n) a (omega arith) in
+    let long : length (drop a all) ≡ n = omega (arith, length-drop a all, length-map-range_with_len f 0 (a + n)) in
+    let back : drop a all ≡ map g (range_with_len 0 n) = fill_by_all g (drop a all) n [] long (λ k h. get_or-drop a all k []
+    ∙ get_or-map-range_with_len f 0 (a + n) (a + k) (a + k) [] (omega arith) (omega arith) ∙ same k h) in
+    ap concat (sym (take-append-drop a all)) ∙ concat-append (take a all) (drop a all) ∙ cc
 
 -- the same lines
 same-lines : (f g : ℕ → List ℕ) (n : ℕ) → ((k : ℕ) → k < n → f k ≡ g k)
@@ -65,122 +47,102 @@ same-lines f g n same =
 
 -- ---- rows of MCUs
 
--- a row of MCUs has all of its strips
-strips-long : (shape : JointShape) (samples : List ℕ) (row : ℕ) → row < shape.rows
-    → length samples ≡ shape.rows * row_size shape → length (strips_at shape samples row) ≡ row_size shape
-strips-long shape samples row lt full =
-    let inside = row_fits row (row_size shape) shape.rows (row_size shape) lt (omega arith) in
-    length-take-le (row_size shape) (drop (row * row_size shape) samples) (omega (
-      arith,
-      length-drop
-          (row * row_size shape) samples,
-    ))
+-- the lines of the picture above a row of MCUs stand in a list
+abbrev pub AreWritten : ColorConvert → JointShape → ℕ → List ℕ → ℕ → ℕ → List ℕ → Type 0
+AreWritten convert shape width samples height row out =
+    take (min height (row * shape.lines) * (shape.count * width)) out
+    ≡ joint_bytes convert shape width samples (min height (row * shape.lines))
 
--- the lines of the picture before the next row of MCUs: those before this one, and those in it
+-- those above the next row of MCUs
 lines-more : (height row lines : ℕ)
     → min height ((row + 1) * lines) ≡ min height (row * lines) + min lines (height - row * lines)
 lines-more height row lines = omega (arith, add-mul)
 
--- the lines of the picture, those of one row of MCUs more
-pub joint-more : (convert : ColorConvert) (shape : JointShape) (width : ℕ) (samples : List ℕ) (height row : ℕ)
-    → joint_bytes convert shape width samples (min height ((row + 1) * shape.lines))
-    ≡ joint_bytes convert shape width samples (min height (row * shape.lines))
-    ++ converted convert shape width (strips_at shape samples row)
-    (min shape.lines (height - row * shape.lines))
-unfolding joint_bytes converted
-joint-more convert shape width samples height row =
-    let n = min shape.lines (height - row * shape.lines) in
-    rw (lines-more height row shape.lines) (concat-rows _ _ (min height (row * shape.lines)) n (λ k h.
-    let first : min height (row * shape.lines) ≡ row * shape.lines = omega arith in
-    let inside : k < shape.lines = omega arith in
-    rw (first, div-mul-add row shape.lines k inside, mod-mul-add row shape.lines k inside) refl))
+-- the strips of a row of MCUs are in the room
+pub strips-inside : (shape : JointShape) (row first size long whole : ℕ) → first ≡ row_size shape → size ≡ row_size shape
+    → row < shape.rows → long ≡ whole → whole ≡ shape.rows * row_size shape → row * first + size ≤ long
+strips-inside shape row first size long whole e f lt g is =
+    rw (e, f, g, is) (row_fits row (row_size shape) shape.rows (row_size shape) lt (omega arith))
 
--- these lines written after those before them
-pub written-more : (convert : ColorConvert) (shape : JointShape) (width : ℕ) (samples : List ℕ)
-    (height row start count size k : ℕ) (room new : List ℕ)
+strips-long : (shape : JointShape) (samples : List ℕ) (row : ℕ) → row < shape.rows
+    → length samples ≡ shape.rows * row_size shape → length (strips_at shape samples row) ≡ row_size shape
+strips-long shape samples row lt full =
+    let inside = strips-inside shape row _ _ _ _ refl refl lt full refl in
+    let left = length-drop (row * row_size shape) samples in
+    length-take-le (row_size shape) (drop (row * row_size shape) samples) (omega arith)
+
+-- The lines of a row of MCUs are written after those above it. They are made of the strips that are read, which are those
+-- of the samples.
+pub row-written : (convert : ColorConvert) (shape : JointShape) (width : ℕ) (samples : List ℕ)
+    (height row start count size first rest k : ℕ) (room out lines new : List ℕ)
     → start ≡ min height (row * shape.lines) → count ≡ min shape.lines (height - row * shape.lines)
-    → size ≡ shape.count * width → length new ≡ count * size → start * size ≤ length room
-    → take (min height (row * shape.lines) * (shape.count * width)) room
-    ≡ joint_bytes convert shape width samples (min height (row * shape.lines))
-    → new ≡ converted convert shape width (strips_at shape samples row) count
-    → take (min height ((row + 1) * shape.lines) * (shape.count * width)) (put_mid (start * size) k room new)
-    ≡ joint_bytes convert shape width samples (min height ((row + 1) * shape.lines))
-written-more convert shape width samples height row start count size k room new first some is long inside before more =
+    → size ≡ shape.count * width → first ≡ row_size shape → rest ≡ row_size shape → row < shape.rows
+    → length samples ≡ shape.rows * row_size shape
+    → drop (row * row_size shape) room ≡ drop (row * row_size shape) samples
+    → length new ≡ count * size → start * size ≤ length out
+    → lines ≡ gathered shape width (take (row * first + rest - row * first) (drop (row * first) room)) count
+    → ((strips : List ℕ) → length strips ≡ row_size shape → lines ≡ gathered shape width strips count
+    → new ≡ converted convert shape width strips count)
+    → AreWritten convert shape width samples height row out
+    → AreWritten convert shape width samples height (row + 1) (put_mid (start * size) k out new)
+unfolding joint_bytes converted
+row-written convert shape width samples height row start count size first rest k room out lines new h1 h2 h3 e f lt full
+    same long inside read made before =
     let next : min height ((row + 1) * shape.lines) * (shape.count * width) ≡ start * size + length new =
     cc (lines-more height row shape.lines, add-mul start count size) in
-    take-put_mid (start * size) k room new _ next inside ∙ cc (joint-more convert shape width samples height row)
+    let some : row * first + rest - row * first ≡ row_size shape = omega arith in
+    let here = made (strips_at shape samples row) (strips-long shape samples row lt full) (read ∙ cc) in
+    let lines = lines-after (λ k. line_bytes convert width (strip_lines shape width (strips_at shape samples
+    (k / shape.lines)) (k % shape.lines))) (λ k. line_bytes convert width (strip_lines shape width (strips_at shape samples
+    row) k)) start count (λ k h.
+    let first : start ≡ row * shape.lines = omega arith in
+    let inside : k < shape.lines = omega arith in
+    rw (first, div-mul-add row shape.lines k inside, mod-mul-add row shape.lines k inside) refl) in
+    take-put_mid (start * size) k out new _ next inside ∙ cc (lines-more height row shape.lines)
 
 -- after the last row of MCUs all lines are written
 pub all-written : (convert : ColorConvert) (shape : JointShape) (width : ℕ) (samples : List ℕ) (height row : ℕ)
-    (room : List ℕ) → height ≤ shape.rows * shape.lines → shape.rows ≤ row
-    → take (min height (row * shape.lines) * (shape.count * width)) room
-    ≡ joint_bytes convert shape width samples (min height (row * shape.lines))
-    → take (height * (shape.count * width)) room ≡ joint_bytes convert shape width samples height
-all-written convert shape width samples height row room high end is =
+    (out : List ℕ) → height ≤ shape.rows * shape.lines → shape.rows ≤ row
+    → AreWritten convert shape width samples height row out
+    → take (height * (shape.count * width)) out ≡ joint_bytes convert shape width samples height
+all-written convert shape width samples height row out high end is =
     let all : min height (row * shape.lines) ≡ height = omega (arith, mul-le-mul_right shape.lines end) in
-    subst (λ (n : ℕ). take (n * (shape.count * width)) room ≡ joint_bytes convert shape width samples n) all is
-
--- what is made of the strips that are read is made of those of the samples
-pub converted-row : (convert : ColorConvert) (shape : JointShape) (width row first size count : ℕ)
-    (room samples lines new : List ℕ) → first ≡ row_size shape → size ≡ row_size shape → row < shape.rows
-    → length samples ≡ shape.rows * row_size shape
-    → drop (row * row_size shape) room ≡ drop (row * row_size shape) samples
-    → lines ≡ gathered shape width (take (row * first + size - row * first) (drop (row * first) room)) count
-    → ((strips : List ℕ) → length strips ≡ row_size shape → lines ≡ gathered shape width strips count
-    → new ≡ converted convert shape width strips count)
-    → new ≡ converted convert shape width (strips_at shape samples row) count
-converted-row convert shape width row first size count room samples lines new e f lt full same read made =
-    let some : row * first + size - row * first ≡ row_size shape = omega arith in
-    made (strips_at shape samples row) (strips-long shape samples row lt full) (read ∙ cc)
+    subst (λ (n : ℕ). take (n * (shape.count * width)) out ≡ joint_bytes convert shape width samples n) all is
 
 -- the strips after those of the row are as they were
 pub unread-more : (shape : JointShape) (row start k : ℕ) (room samples new : List ℕ)
-    → start + k ≤ (row + 1) * row_size shape → start ≤ length room → length new ≡ k
+    → length new ≡ length (mid_of start k room) → start + k ≤ (row + 1) * row_size shape
+    → (row + 1) * row_size shape ≤ length room
     → drop (row * row_size shape) room ≡ drop (row * row_size shape) samples
     → drop ((row + 1) * row_size shape) (put_mid start k room new) ≡ drop ((row + 1) * row_size shape) samples
-unread-more shape row start k room samples new below inside long same =
-    let next : (row + 1) * row_size shape ≡ row * row_size shape + row_size shape = omega (arith, add-mul) in
-    drop-put_mid start k room new _ below inside long
-    ∙ rw next (sym (drop-drop (row_size shape) (row * row_size shape) room)
-    ∙ ap (drop (row_size shape)) same
-    ∙ drop-drop (row_size shape) (row * row_size shape) samples)
+unread-more shape row start k room samples new long below inside same =
+    let size = row_size shape in
+    let next : (row + 1) * size ≡ row * size + size = omega (arith, add-mul) in
+    let some : length new ≡ k = omega (arith, length-take k (drop start room), length-drop start room) in
+    drop-put_mid start k room new _ below (omega arith) some
+    ∙ rw next (sym (drop-drop size (row * size) room) ∙ ap (drop size) same ∙ drop-drop size (row * size) samples)
 
--- the strips of a row of MCUs are in the room
-pub strips-inside : (shape : JointShape) (row first size long : ℕ) → first ≡ row_size shape → size ≡ row_size shape
-    → row < shape.rows → long ≡ shape.rows * row_size shape → row * first + size ≤ long
-strips-inside shape row first size long e f lt is =
-    rw (e, f, is) (row_fits row (row_size shape) shape.rows (row_size shape) lt (omega arith))
-
--- its lines end before the strips of the next row of MCUs
-pub lines-end : (shape : JointShape) (width height row start count size : ℕ) → width ≤ shape.stride
+-- the lines of a row of MCUs end before the strips of the next one
+pub lines-end : (shape : JointShape) (width height row start count size long whole : ℕ) → width ≤ shape.stride
     → start ≡ min height (row * shape.lines) → count ≡ min shape.lines (height - row * shape.lines)
-    → size ≡ shape.count * width → start * size + count * size ≤ (row + 1) * row_size shape
-lines-end shape width height row start count size wide first some is =
+    → size ≡ shape.count * width → row < shape.rows → long ≡ whole → whole ≡ shape.rows * row_size shape
+    → (start * size + count * size ≤ (row + 1) * row_size shape) × ((row + 1) * row_size shape ≤ long)
+lines-end shape width height row start count size long whole wide first some is lt e full =
     let within : start + count ≤ (row + 1) * shape.lines = omega (arith, lines-more height row shape.lines) in
     let wider : size ≤ shape.count * shape.stride = omega (arith, mul-le-mul_left shape.count wide) in
-    let long : (start + count) * size ≤ ((row + 1) * shape.lines) * (shape.count * shape.stride)
+    let most : (start + count) * size ≤ ((row + 1) * shape.lines) * (shape.count * shape.stride)
     = mul-le-mul within wider in
     let same : ((row + 1) * shape.lines) * (shape.count * shape.stride) ≡ (row + 1) * row_size shape
     = search (rules, mul_assoc, mul_comm) in
-    omega (arith, add-mul)
+    (omega (arith, add-mul), omega (arith, mul-le-mul_right (row_size shape) lt))
 
--- and so in the room
-pub lines-inside : (shape : JointShape) (width height row start count size long : ℕ) → width ≤ shape.stride
-    → start ≡ min height (row * shape.lines) → count ≡ min shape.lines (height - row * shape.lines)
-    → size ≡ shape.count * width → row < shape.rows → long ≡ shape.rows * row_size shape
+-- and they are in a picture of this height
+pub lines-fit : (height row lines start count size line long whole : ℕ) → start ≡ min height (row * lines)
+    → count ≡ min lines (height - row * lines) → size ≡ line → long ≡ whole → whole ≡ height * line
     → start * size + count * size ≤ long
-lines-inside shape width height row start count size long wide first some is lt whole =
-    let next : (row + 1) * row_size shape ≤ shape.rows * row_size shape = mul-le-mul_right (row_size shape) (omega arith)
-    in
-    omega (arith, lines-end shape width height row start count size wide first some is)
-
--- and in a picture of this height
-pub lines-fit : (height row lines start count size line long : ℕ) → start ≡ min height (row * lines)
-    → count ≡ min lines (height - row * lines) → size ≡ line → long ≡ height * line
-    → start * size + count * size ≤ long
-lines-fit height row lines start count size line long first some is whole =
+lines-fit height row lines start count size line long whole first some is e full =
     let within : start + count ≤ height = omega arith in
-    rw whole (rw (← is) (omega (arith, add-mul start count size, mul-le-mul_right size within)))
+    rw (e, full) (rw (← is) (omega (arith, add-mul start count size, mul-le-mul_right size within)))
 
 -- ---- sources of components alike
 
