@@ -2,7 +2,7 @@
 use Rattle.std.proofs.Common.{◌≡◌, ℕ, zero, suc, ◌+◌, ◌-◌, ◌*◌, ◌/◌, ◌%◌, ◌<◌, ◌≤◌, List, [], ◌∷◌, ◌++◌, length, map}
 use Rattle.std.proofs.Common.{min, take, drop, ap, ◌∙◌, sym, refl, arith, rules, append_assoc, length-drop, length-take, subst, get_or, Result, Ok, Some}
 use Rattle.std.proofs.Math.Nat.{add-mul, lt_of_mul-lt-mul_left, mod-lt, mul_assoc, mul_comm, mul-div_cancel_left, mul-le-mul, mul-le-mul_left, mul-le-mul_right}
-use Rattle.std.proofs.lemmas.List.{drop-drop, get_or-drop, get_or-take, length-take-le, take-append-drop}
+use Rattle.std.proofs.lemmas.List.{drop-drop, get_or-drop, length-take-le, places, take-append-drop}
 use Rattle.std.proofs.lemmas.List.Folds.{concat-append}
 use Rattle.std.proofs.lemmas.List.FromFn.{fill_by_all, get_or-map-range_with_len, length-map-range_with_len, take-map-range_with_len}
 use Rattle.std.proofs.lemmas.Nat.{div-mul-add, mod-mul-add, div-add-mod', div_below, mul-add-lt, row_fits}
@@ -156,25 +156,18 @@ as_all l = Ok l
 -- the greatest factor is the one that all have
 greatest-alike : (f : Factors → ℕ) (n : ℕ) (P : Component → Type 0) → ((c : Component) → P c → f c.factors ≡ n) → 1 ≤ n
     → (c : Component) (more : List Component) → P c → AllByRecursion P more → greatest f (all_factors (c ∷ more)) ≡ n
-greatest-alike f n P each some c [] here all = let e = each c here in omega arith
+greatest-alike f n P each some c [] here all = omega (arith, each c here)
 greatest-alike f n P each some c (d ∷ more) here all =
-    let e = each c here in
-    let rest = greatest-alike f n P each some d more all.0 all.1 in
-    omega arith
+    omega (arith, each c here, greatest-alike f n P each some d more all.0 all.1)
 
--- a component of the greatest factors is not upsampled
-rule-plain : (h v width height : ℕ) → rule_of h v h v width height ≡ Some H1V1
-unfolding rule_of
-rule-plain h v width height = rw (eq-eqb h h refl, eq-eqb v v refl) refl
-
--- nor are components that all have these factors
+-- components of the greatest factors are not upsampled
 sources-plain : (h v width height : ℕ) (cs : List Component)
     → AllByRecursion (λ c. (c.factors.horizontal ≡ h) × (c.factors.vertical ≡ v)) cs
     → sources_by h v width height cs ≡ as_all (map plain cs)
-unfolding sources_by
+unfolding rule_of sources_by
 sources-plain h v width height [] all = refl
 sources-plain h v width height (c ∷ more) all =
-    rw (all.0.0, all.0.1, rule-plain h v width height, sources-plain h v width height more all.1) refl
+    rw (all.0.0, all.0.1, eq-eqb h h refl, eq-eqb v v refl, sources-plain h v width height more all.1) refl
 
 -- nor are components alike
 sources-alike : (components : List Component) (width height stride : ℕ) → 0 < length components
@@ -186,115 +179,89 @@ sources-alike (c ∷ more) width height stride some factors alike =
     let P = λ (d : Component). (d.factors.horizontal ≡ alike.horizontal) × (d.factors.vertical ≡ alike.vertical) in
     let here = alike.factors.0 in
     let sampling = factors.0 in
-    let h = greatest-alike (λ f. f.horizontal) alike.horizontal P (λ d e. e.0) (omega (
-      arith,
-      here.0,
-      sampling.horizontal_some,
-    )) c more here alike.factors.1 in
-    let v = greatest-alike (λ f. f.vertical) alike.vertical P (λ d e. e.1) (omega (
-      arith,
-      here.1,
-      sampling.vertical_some,
-    )) c more here alike.factors.1 in
+    let h = greatest-alike (λ f. f.horizontal) alike.horizontal P (λ d e. e.0) (omega arith) c more here alike.factors.1 in
+    let v = greatest-alike (λ f. f.vertical) alike.vertical P (λ d e. e.1) (omega arith) c more here alike.factors.1 in
     (λ i. sources_by (h i) (v i) width height (c ∷ more))
     ∙ sources-plain alike.horizontal alike.vertical width height (c ∷ more) alike.factors
 
 -- ---- lines of planes in one room
 
--- the sample of a plane by its index
-plane-at : (shape : JointShape) (samples : List ℕ) (slot i : ℕ) → slot < shape.count → i < shape.rows * strip_size shape
-    → length samples ≡ shape.rows * row_size shape
-    → get_or (joint_plane shape samples slot) i 0 ≡ get_or samples (i / strip_size shape * row_size shape
-    + (slot * strip_size shape + i % strip_size shape)) 0
-unfolding joint_plane
-plane-at shape samples slot i inside lt full =
-    let turned : shape.rows * row_size shape ≡ shape.count * (shape.rows * strip_size shape) =
-    search (rules, mul_assoc, mul_comm) in
-    let some : length samples / shape.count ≡ shape.rows * strip_size shape =
-    rw (full, turned) (mul-div_cancel_left (shape.rows * strip_size shape) (omega arith)) in
-    rw some (get_or-map-range_with_len _ 0 (shape.rows * strip_size shape) i i 0 lt (omega arith))
+module _ (shape : JointShape) (samples : List ℕ) (full : length samples ≡ shape.rows * row_size shape) where
+  -- the sample of a plane
+  plane-at : (slot i : ℕ) → slot < shape.count → i < shape.rows * strip_size shape
+      → get_or (joint_plane shape samples slot) i 0 ≡ get_or samples (i / strip_size shape * row_size shape
+      + (slot * strip_size shape + i % strip_size shape)) 0
+  unfolding joint_plane
+  plane-at slot i inside lt =
+      let turned : shape.rows * row_size shape ≡ shape.count * (shape.rows * strip_size shape) =
+      search (rules, mul_assoc, mul_comm) in
+      let some : length samples / shape.count ≡ shape.rows * strip_size shape =
+      rw (full, turned) (mul-div_cancel_left (shape.rows * strip_size shape) (omega arith)) in
+      rw some (get_or-map-range_with_len _ 0 (shape.rows * strip_size shape) i i 0 lt (omega arith))
 
--- and by its row of MCUs and its line there
-plane-in : (shape : JointShape) (samples : List ℕ) (slot row line x : ℕ) → slot < shape.count → row < shape.rows
-    → line < shape.lines → x < shape.stride → length samples ≡ shape.rows * row_size shape
-    → get_or (joint_plane shape samples slot) ((row * shape.lines + line) * shape.stride + x) 0
-    ≡ get_or samples (row * row_size shape + (slot * strip_size shape + (line * shape.stride + x))) 0
-plane-in shape samples slot row line x inside lt below left full =
-    let size = strip_size shape in
-    let rest = line * shape.stride + x in
-    let low : rest < size = omega (arith, mul-add-lt line shape.stride x shape.lines below left) in
-    let index : (row * shape.lines + line) * shape.stride + x ≡ row * size + rest = omega (arith, add-mul, mul_assoc) in
-    rw index (plane-at shape samples slot (row * size + rest) inside
-    (omega (arith, mul-add-lt row size rest shape.rows lt low)) full
-    ∙ rw (div-mul-add row size rest low, mod-mul-add row size rest low) refl)
+  -- the part of a line of the picture that the strip in a slot has
+  abbrev part : ℕ → ℕ → ℕ → List ℕ
+  part width row slot = take width (drop (slot * strip_size shape + row % shape.lines * shape.stride)
+      (strips_at shape samples (row / shape.lines)))
 
--- a line of a component is the part of it that its strip has
-line-plain : (shape : JointShape) (samples : List ℕ) (width row slot : ℕ) (c : Component)
-    → c.blocks_wide * c.scale ≡ shape.stride → slot < shape.count → width ≤ shape.stride
-    → row < shape.rows * shape.lines → length samples ≡ shape.rows * row_size shape
-    → line_of (plain c) (joint_plane shape samples slot) width row
-    ≡ take width (drop (slot * strip_size shape + row % shape.lines * shape.stride)
-    (strips_at shape samples (row / shape.lines)))
-unfolding upsampled
-line-plain shape samples width row slot c stride inside wide lt full =
-    let lines = shape.lines in
-    let none : shape.rows * 0 ≡ 0 = omega arith in
-    let some : 0 < lines = lt_of_mul-lt-mul_left shape.rows (omega arith) in
-    let mcu : row / lines < shape.rows = div_below row lines shape.rows some lt in
-    let line : row % lines < lines = mod-lt row some in
-    let first = slot * strip_size shape + row % lines * shape.stride in
-    let strips = strips_at shape samples (row / lines) in
-    let ends : first + width ≤ row_size shape = omega (
-      arith,
-      row_fits (row % lines) shape.stride lines shape.stride line
-          (omega arith),
-      row_fits slot (strip_size shape) shape.count (strip_size shape) inside (omega arith),
-    ) in
-    let long : length strips ≡ row_size shape = strips-long shape samples (row / lines) mcu full in
-    sym (line_by_samples (plain c) (joint_plane shape samples slot) width row (take width (drop first strips))
-    (length-take-le width (drop first strips) (omega (arith, length-drop first strips)))
-    (λ x h.
-    let is : (row / lines * lines + row % lines) * shape.stride + x ≡ row * (c.blocks_wide * c.scale) + x =
-    cc (div-add-mod' row lines) in
-    let at : row / lines * row_size shape + (first + x) ≡ row / lines * row_size shape + (slot * strip_size shape
-    + (row % lines * shape.stride + x)) = omega arith in
-    get_or-take width (drop first strips) x 0 h
-    ∙ get_or-drop first strips x 0
-    ∙ get_or-take (row_size shape) (drop (row / lines * row_size shape) samples) (first + x) 0 (omega arith)
-    ∙ get_or-drop (row / lines * row_size shape) samples (first + x) 0
-    ∙ ap (λ i. get_or samples i 0) at
-    ∙ sym (plane-in shape samples slot (row / lines) (row % lines) x inside mcu line (omega arith) full)
-    ∙ ap (λ i. get_or (joint_plane shape samples slot) i 0) is))
+  -- it is the line of the component
+  line-plain : (width row slot : ℕ) (c : Component) → width ≤ shape.stride → row < shape.rows * shape.lines
+      → slot < shape.count → c.blocks_wide * c.scale ≡ shape.stride
+      → line_of (plain c) (joint_plane shape samples slot) width row ≡ part width row slot
+  unfolding upsampled
+  line-plain width row slot c wide lt inside stride =
+      let size = strip_size shape in
+      let mcu = row / shape.lines in
+      let line = row % shape.lines in
+      let none : shape.rows * 0 ≡ 0 = omega arith in
+      let some : 0 < shape.lines = lt_of_mul-lt-mul_left shape.rows (omega arith) in
+      let above : mcu < shape.rows = div_below row shape.lines shape.rows some lt in
+      let below : line < shape.lines = mod-lt row some in
+      let low = row_fits line shape.stride shape.lines shape.stride below (omega arith) in
+      let high = row_fits slot size shape.count size inside (omega arith) in
+      let long = strips-long shape samples mcu above full in
+      let first = slot * size + line * shape.stride in
+      let strips = strips_at shape samples mcu in
+      sym (line_by_samples (plain c) (joint_plane shape samples slot) width row (part width row slot)
+      (length-take-le width (drop first strips) (omega (arith, length-drop first strips))) (λ x h.
+      let rest = line * shape.stride + x in
+      let read : get_or (part width row slot) x 0 ≡ get_or samples (mcu * row_size shape + (first + x)) 0
+      = search (rules, places) in
+      let at : first + x ≡ slot * size + rest = omega arith in
+      let is : mcu * size + rest ≡ row * (c.blocks_wide * c.scale) + x
+      = omega (arith, add-mul, mul_assoc, ap (λ n. n * shape.stride) (div-add-mod' row shape.lines), ap (λ n. row * n) stride)
+      in
+      cc (
+        plane-at slot (mcu * size + rest) inside (omega (arith, mul-add-lt mcu size rest shape.rows above (omega arith))),
+        div-mul-add mcu size rest (omega arith),
+        mod-mul-add mcu size rest (omega arith),
+      )))
 
--- and so are the lines of all components, from a slot on
-lines-plain : (shape : JointShape) (samples : List ℕ) (width row : ℕ) → width ≤ shape.stride
-    → row < shape.rows * shape.lines → length samples ≡ shape.rows * row_size shape
-    → (cs : List Component) (slot : ℕ) → slot + length cs ≤ shape.count
-    → AllByRecursion (λ c. c.blocks_wide * c.scale ≡ shape.stride) cs
-    → lines_of (map plain cs) (map (joint_plane shape samples) (range_with_len slot (length cs))) width row
-    ≡ map (λ k. take width (drop (k * strip_size shape + row % shape.lines * shape.stride)
-    (strips_at shape samples (row / shape.lines)))) (range_with_len slot (length cs))
-unfolding lines_of
-lines-plain shape samples width row wide lt full [] slot inside strides = refl
-lines-plain shape samples width row wide lt full (c ∷ more) slot inside strides =
-    cc (
-      line-plain shape samples width row slot c strides.0 (omega arith) wide lt full,
-      lines-plain shape samples width row wide lt full more (slot + 1) (omega arith) strides.1,
-    )
+  -- and so are the lines of all components, from a slot on
+  lines-plain : (width row slot : ℕ) (cs : List Component) → width ≤ shape.stride → row < shape.rows * shape.lines
+      → slot + length cs ≤ shape.count → AllByRecursion (λ c. c.blocks_wide * c.scale ≡ shape.stride) cs
+      → lines_of (map plain cs) (map (joint_plane shape samples) (range_with_len slot (length cs))) width row
+      ≡ map (part width row) (range_with_len slot (length cs))
+  unfolding lines_of
+  lines-plain width row slot [] wide lt inside strides = refl
+  lines-plain width row slot (c ∷ more) wide lt inside strides =
+      cc (
+        line-plain width row slot c wide lt (omega arith) strides.0,
+        lines-plain width row (slot + 1) more wide lt
+            (omega arith) strides.1,
+      )
 
--- so the picture is made line by line of the strips
-picture-joint : (convert : ColorConvert) (shape : JointShape) (width : ℕ) (samples : List ℕ) (height : ℕ)
-    (cs : List Component) → shape.count ≡ length cs → AllByRecursion (λ c. c.blocks_wide * c.scale ≡ shape.stride) cs
-    → width ≤ shape.stride → height ≤ shape.rows * shape.lines → length samples ≡ shape.rows * row_size shape
-    → picture_bytes convert (map plain cs) (joint_planes shape samples) width height
-    ≡ joint_bytes convert shape width samples height
-unfolding picture_bytes picture_line joint_bytes joint_planes strip_lines
-picture-joint convert shape width samples height cs count strides wide high full =
-    same-lines _ _ height (λ row h. ap (line_bytes convert width) (
-    ap (λ n. lines_of (map plain cs) (map (joint_plane shape samples) (range_with_len 0 n)) width row) count
-    ∙ lines-plain shape samples width row wide (omega arith) full cs 0 (omega arith) strides
-    ∙ ap (λ n. map (λ k. take width (drop (k * strip_size shape + row % shape.lines * shape.stride)
-    (strips_at shape samples (row / shape.lines)))) (range_with_len 0 n)) (sym count)))
+  -- so the picture is made line by line of the strips
+  picture-joint : (convert : ColorConvert) (width height : ℕ) (cs : List Component) → shape.count ≡ length cs
+      → AllByRecursion (λ c. c.blocks_wide * c.scale ≡ shape.stride) cs → width ≤ shape.stride
+      → height ≤ shape.rows * shape.lines → picture_bytes convert (map plain cs) (joint_planes shape samples) width height
+      ≡ joint_bytes convert shape width samples height
+  unfolding picture_bytes picture_line joint_bytes joint_planes strip_lines
+  picture-joint convert width height cs count strides wide high = same-lines _ _ height (λ row h.
+      let all : (n : ℕ) → n ≡ length cs → lines_of (map plain cs) (map (joint_plane shape samples) (range_with_len 0 n))
+      width row ≡ map (part width row) (range_with_len 0 n)
+      = λ n e. rw e (lines-plain width row 0 cs wide (omega arith) (omega arith) strides) in
+      ap (line_bytes convert width) (all shape.count count))
 
 -- what `image_of` gives for components alike, by the bytes that are made of their strips
 pub image-joint : (components : List Component) (shape : JointShape) (width height : ℕ) (samples : List ℕ)
@@ -306,5 +273,5 @@ pub image-joint : (components : List Component) (shape : JointShape) (width heig
 image-joint components shape width height samples transform convert w h bytes factors is full conversion e f made =
     image-is components (joint_planes shape samples) width height transform convert (map plain components) bytes
     conversion (sources-alike components width height shape.stride (omega (arith, is.count, is.some)) factors is.alike)
-    (made ∙ (λ i. joint_bytes convert shape (e i) samples (f i)) ∙ sym (picture-joint convert shape width samples height
-    components is.count is.alike.strides is.wide is.high full))
+    (made ∙ (λ i. joint_bytes convert shape (e i) samples (f i)) ∙ sym (picture-joint shape samples full convert width
+    height components is.count is.alike.strides is.wide is.high))

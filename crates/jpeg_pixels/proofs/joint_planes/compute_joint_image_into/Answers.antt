@@ -1,4 +1,4 @@
-use Rattle.std.proofs.Common.{map, ap, ◌∙◌, rules}
+use Rattle.std.proofs.Common.{ap, ◌∙◌, rules}
 use Rattle.std.proofs.lemmas.List.{length-map}
 use Rattle.std.proofs.lemmas.Result.{err_from_is_err_and}
 use Rattle.jpeg_segments.specs.FrameView.{component_in}
@@ -15,10 +15,6 @@ write-requires-clause-fits c = search (rules, conversion-fits, length-map)
 
 pub returns-clause-picture : goal.returns-clause-picture
 returns-clause-picture c =
-    let components = c.args.components.now in
-    let transform = c.args.color_transform in
-    image-joint (map component_in components) c.args.planes.now.shape c.args.output_size.width
-    c.args.output_size.height c.args.planes.now.samples.items transform c.in_ok-color_convert.color_convert
-    c.from.result c.from-height.result c.write.new.picture c.requires.factors c.requires.shape c.requires.full
-    (ap (λ n. conversion_of n transform) (length-map components component_in) ∙ c.in_ok-color_convert.ensures.answers)
-    c.from.ensures c.from-height.ensures (cc)
+    image-joint _ _ _ _ c.args.planes.now.samples.items _ _ _ _ _ c.requires.factors c.requires.shape c.requires.full
+    (ap (λ n. conversion_of n c.args.color_transform) (length-map c.args.components.now component_in)
+    ∙ c.in_ok-color_convert.ensures.answers) c.from.ensures c.from-height.ensures (cc)
