@@ -1,6 +1,6 @@
 -- The picture of planes in one room: row of MCUs by row of MCUs.
-use Rattle.std.proofs.Common.{◌≡◌, ℕ, zero, suc, ◌+◌, ◌-◌, ◌*◌, ◌/◌, ◌%◌, ◌<◌, ◌≤◌, List, [], ◌∷◌, ◌++◌, length, map}
-use Rattle.std.proofs.Common.{min, take, drop, ap, ◌∙◌, sym, refl, arith, rules, append_assoc, length-drop, length-take, subst, get_or, Result, Ok, Some}
+use Rattle.std.proofs.Common.{◌≡◌, ℕ, ◌+◌, ◌-◌, ◌*◌, ◌/◌, ◌%◌, ◌<◌, ◌≤◌, List, [], ◌∷◌, ◌++◌, length, map}
+use Rattle.std.proofs.Common.{min, take, drop, ap, ◌∙◌, sym, refl, arith, rules, length-drop, length-take, subst, get_or, Result, Ok}
 use Rattle.std.proofs.Math.Nat.{add-mul, lt_of_mul-lt-mul_left, mod-lt, mul_assoc, mul_comm, mul-div_cancel_left, mul-le-mul, mul-le-mul_left, mul-le-mul_right}
 use Rattle.std.proofs.lemmas.List.{drop-drop, get_or-drop, length-take-le, places, take-append-drop}
 use Rattle.std.proofs.lemmas.List.Folds.{concat-append}

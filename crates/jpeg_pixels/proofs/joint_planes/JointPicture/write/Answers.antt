@@ -1,4 +1,4 @@
-use Rattle.std.proofs.Common.{◌≡◌, ℕ, ◌*◌, length, arith, rules, ◌∙◌, sym, refl, length-drop, length-take}
+use Rattle.std.proofs.Common.{ℕ, arith, rules, refl, length-drop, length-take}
 use Rattle.std.proofs.lemmas.Grind.{common_steps}
 use Rattle.std.proofs.lemmas.List.{take_all}
 use Rattle.jpeg_pixels.specs.JointPlanes.{joint_bytes}

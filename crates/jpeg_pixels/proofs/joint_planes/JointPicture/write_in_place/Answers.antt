@@ -1,4 +1,4 @@
-use Rattle.std.proofs.Common.{ℕ, ◌*◌, arith, rules, ◌∙◌, length-drop, length-take}
+use Rattle.std.proofs.Common.{ℕ, arith, rules, ◌∙◌, length-drop, length-take}
 use borrow.Rule.Slice.PartMut.{same_len_mid}
 use Rattle.jpeg_pixels.specs.JointPlanes.{joint_bytes}
 use Rattle.jpeg_pixels.proofs.JointPictures.{all-written, lines-end, row-written, strips-inside, unread-more}
