@@ -8,16 +8,19 @@ use Rattle.jpeg_pixels.proofs.WholePictures.{conversion-fits, image-no_conversio
 use Rattle.jpeg_pixels.proofs.joint_planes.compute_joint_image.Goals as goal
 
 pub returns-in_err-color_convert : goal.returns-in_err-color_convert
-returns-in_err-color_convert c = search (rules, err_from_is_err_and, image-no_conversion, length-map)
+returns-in_err-color_convert c =
+    search (rules, err_from_is_err_and, image-no_conversion, length-map)
 
 pub write_in_place-requires-clause-fits : goal.write_in_place-requires-clause-fits
 write_in_place-requires-clause-fits c = search (rules, conversion-fits, length-map)
 
 pub returns : goal.returns
 returns c =
-    image-joint _ _ _ _ c.args.planes.samples.items _ _ _ _ _ c.requires.factors c.requires.shape c.requires.full
-    (ap (λ n. conversion_of n c.args.color_transform) (length-map c.args.components.now component_in)
-    ∙ c.in_ok-color_convert.ensures.answers) c.from-width.ensures c.from-height.ensures (cc (
-      c.truncate.ensures.items,
-      with_items_is c.args.planes.samples c.write_in_place.new.room (c.write_in_place.auto.room ∙ c.deref_mut-2.ensures.len),
-    ))
+    let components = c.args.components.now in
+    let fits = ap (λ n. conversion_of n c.args.color_transform) (length-map components component_in)
+    ∙ c.in_ok-color_convert.ensures.answers in
+    image-joint _ _ _ _ c.args.planes.samples.items _ _ _ _ _ c.requires.factors c.requires.shape
+    c.requires.full fits c.from-width.ensures c.from-height.ensures (
+    let long = c.write_in_place.auto.room ∙ c.deref_mut-2.ensures.len in
+    let room = with_items_is c.args.planes.samples c.write_in_place.new.room long in
+    cc (c.truncate.ensures.items))

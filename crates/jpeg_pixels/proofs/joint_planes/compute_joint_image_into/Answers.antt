@@ -8,13 +8,16 @@ use Rattle.jpeg_pixels.proofs.WholePictures.{conversion-fits, image-no_conversio
 use Rattle.jpeg_pixels.proofs.joint_planes.compute_joint_image_into.Goals as goal
 
 pub returns-in_err-color_convert-clause-picture : goal.returns-in_err-color_convert-clause-picture
-returns-in_err-color_convert-clause-picture c = search (rules, err_from_is_err_and, image-no_conversion, length-map)
+returns-in_err-color_convert-clause-picture c =
+    search (rules, err_from_is_err_and, image-no_conversion, length-map)
 
 pub write-requires-clause-fits : goal.write-requires-clause-fits
 write-requires-clause-fits c = search (rules, conversion-fits, length-map)
 
 pub returns-clause-picture : goal.returns-clause-picture
 returns-clause-picture c =
-    image-joint _ _ _ _ c.args.planes.now.samples.items _ _ _ _ _ c.requires.factors c.requires.shape c.requires.full
-    (ap (λ n. conversion_of n c.args.color_transform) (length-map c.args.components.now component_in)
-    ∙ c.in_ok-color_convert.ensures.answers) c.from.ensures c.from-height.ensures (cc)
+    let components = c.args.components.now in
+    let fits = ap (λ n. conversion_of n c.args.color_transform) (length-map components component_in)
+    ∙ c.in_ok-color_convert.ensures.answers in
+    image-joint _ _ _ _ c.args.planes.now.samples.items _ _ _ _ _ c.requires.factors c.requires.shape
+    c.requires.full fits c.from.ensures c.from-height.ensures (cc)

@@ -2,7 +2,8 @@ use Rattle.std.proofs.Common.{ℕ, arith, rules, refl, length-drop, length-take}
 use Rattle.std.proofs.lemmas.Grind.{common_steps}
 use Rattle.std.proofs.lemmas.List.{take_all}
 use Rattle.jpeg_pixels.specs.JointPlanes.{joint_bytes}
-use Rattle.jpeg_pixels.proofs.JointPictures.{all-written, lines-fit, row-written, strips-inside}
+use Rattle.jpeg_pixels.proofs.JointPictures.{all-written, lines-fit, row-written}
+use Rattle.jpeg_pixels.proofs.JointPictures.{strips-inside}
 use Rattle.jpeg_pixels.proofs.joint_planes.JointPicture.write.Goals as goal
 
 pub loop-row-init : goal.loop-row-init
@@ -14,8 +15,8 @@ slice_bounds-gather_row-end c = search (rules, strips-inside)
 
 pub overflow_add-start : goal.overflow_add-start
 overflow_add-start c =
-    let inside = lines-fit _ _ _ _ _ _ _ _ _ c.min.ensures c.lines_in-count.ensures c.line_size-size.ensures
-    c.loop-row.auto.picture c.requires.room in
+    let inside = lines-fit _ _ _ _ _ _ _ _ _ c.min.ensures c.lines_in-count.ensures
+    c.line_size-size.ensures c.loop-row.auto.picture c.requires.room in
     search rules
 
 pub slice_bounds-convert_row-end : goal.slice_bounds-convert_row-end
@@ -26,11 +27,12 @@ convert_row-requires-clause-lines c = grind (arith, common_steps, length-take)
 
 pub loop-row-preserved : goal.loop-row-preserved
 loop-row-preserved c =
-    let inside = lines-fit _ _ _ _ _ _ _ _ _ c.min.ensures c.lines_in-count.ensures c.line_size-size.ensures
-    c.loop-row.auto.picture c.requires.room in
-    row-written _ _ _ _ _ _ _ _ _ _ _ _ _ _ _ _ c.min.ensures c.lines_in-count.ensures c.line_size-size.ensures
-    c.row_size.ensures c.row_size-in-loop-row.ensures c.loop-row-test.true c.requires.full refl
-    (omega (arith, length-take {A = ℕ}, length-drop {A = ℕ})) (omega arith) c.gather_row.ensures c.convert_row.ensures c.loop-row.invariant
+    let inside = lines-fit _ _ _ _ _ _ _ _ _ c.min.ensures c.lines_in-count.ensures
+    c.line_size-size.ensures c.loop-row.auto.picture c.requires.room in
+    row-written _ _ _ _ _ _ _ _ _ _ _ _ _ _ _ _ c.min.ensures c.lines_in-count.ensures
+    c.line_size-size.ensures c.row_size.ensures c.row_size-in-loop-row.ensures c.loop-row-test.true
+    c.requires.full refl (omega (arith, length-take {A = ℕ}, length-drop {A = ℕ})) (omega arith)
+    c.gather_row.ensures c.convert_row.ensures c.loop-row.invariant
 
 pub returns : goal.returns
 returns c = search (rules, all-written, take_all)

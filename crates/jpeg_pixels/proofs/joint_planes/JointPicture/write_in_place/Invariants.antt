@@ -5,7 +5,9 @@ use Rattle.jpeg_pixels.proofs.joint_planes.JointPicture.write_in_place.Given as 
 
 abbrev pub invariant-loop-row : goal.invariant-loop-row
 invariant-loop-row l = record {
-  written : AreWritten l.self.color_convert l.self.shape l.self.width l.fn.room l.height l.row l.room;
-  unread : drop (l.row * row_size l.self.shape) l.room ≡ drop (l.row * row_size l.self.shape) l.fn.room;
+  written : AreWritten l.self.color_convert l.self.shape l.self.width l.fn.room l.height l.row
+      l.room;
+  unread : drop (l.row * row_size l.self.shape) l.room
+      ≡ drop (l.row * row_size l.self.shape) l.fn.room;
   long : length l.room ≡ length l.fn.room;
 }
