@@ -1,6 +1,6 @@
 -- The picture of planes in one room: row of MCUs by row of MCUs.
-use Rattle.std.proofs.Common.{◌≡◌, ℕ, ◌+◌, ◌-◌, ◌*◌, ◌/◌, ◌%◌, ◌<◌, ◌≤◌, List, [], ◌∷◌, ◌++◌, length}
-use Rattle.std.proofs.Common.{map, min, take, drop, get_or, ap, ◌∙◌, sym, refl, subst, arith, rules}
+use Rattle.std.proofs.Common.{◌≡◌, ℕ, ◌+◌, ◌-◌, ◌*◌, ◌/◌, ◌%◌, ◌<◌, ◌≤◌, List, [], ◌∷◌, ◌++◌}
+use Rattle.std.proofs.Common.{length, map, min, take, drop, get_or, ap, ◌∙◌, sym, refl, subst, arith, rules}
 use Rattle.std.proofs.Common.{length-drop, length-take, Result, Ok}
 use Rattle.std.proofs.Math.Nat.{add-mul, lt_of_mul-lt-mul_left, mod-lt, mul_assoc, mul_comm}
 use Rattle.std.proofs.Math.Nat.{mul-div_cancel_left, mul-le-mul, mul-le-mul_left, mul-le-mul_right}
@@ -33,26 +33,19 @@ use Rattle.jpeg_pixels.proofs.WholePictures.{image-is}
 -- ---- lines one after the other
 
 -- the lines that a function gives, and n more of them, which another one gives from its beginning
-lines-after : (f g : ℕ → List ℕ) (a n : ℕ) → ((k : ℕ) → k < n → f (a + k) ≡ g k)
-    → concat (map f (range_with_len 0 (a + n)))
+lines-after : (f g : ℕ → List ℕ) (a n end : ℕ) → end ≡ a + n
+    → ((k : ℕ) → k < n → f (a + k) ≡ g k)
+    → concat (map f (range_with_len 0 end))
     ≡ concat (map f (range_with_len 0 a)) ++ concat (map g (range_with_len 0 n))
-lines-after f g a n same =
-    let all = map f (range_with_len 0 (a + n)) in
-    let long = length-map-range_with_len f 0 (a + n) in
-    let front = take-map-range_with_len f 0 (a + n) a (omega arith) in
+lines-after f g a n end e same =
+    let all = map f (range_with_len 0 end) in
+    let long = length-map-range_with_len f 0 end in
+    let front = take-map-range_with_len f 0 end a (omega arith) in
     let back = fill_by_all g (drop a all) n [] (omega (arith, length-drop a all)) (λ k h.
     get_or-drop a all k []
-    ∙ get_or-map-range_with_len f 0 (a + n) (a + k) (a + k) [] (omega arith) (omega arith)
+    ∙ get_or-map-range_with_len f 0 end (a + k) (a + k) [] (omega arith) (omega arith)
     ∙ same k h) in
     ap concat (sym (take-append-drop a all)) ∙ concat-append (take a all) (drop a all) ∙ cc
-
--- the same lines
-same-lines : (f g : ℕ → List ℕ) (n : ℕ) → ((k : ℕ) → k < n → f k ≡ g k)
-    → concat (map f (range_with_len 0 n)) ≡ concat (map g (range_with_len 0 n))
-same-lines f g n same =
-    let all = map f (range_with_len 0 n) in
-    ap concat (fill_by_all g all n [] (length-map-range_with_len f 0 n) (λ k h.
-    get_or-map-range_with_len f 0 n k k [] h (omega arith) ∙ same k h))
 
 -- ---- rows of MCUs
 
@@ -120,7 +113,7 @@ row-written convert shape width samples height row out room lines new start coun
     let here = made strips (strips-long shape samples row lt full) (read ∙ cc) in
     let more : joint_bytes convert shape width samples (start + count)
     ≡ joint_bytes convert shape width samples start
-    ++ converted convert shape width strips count = lines-after _ _ start count (λ k h.
+    ++ converted convert shape width strips count = lines-after _ _ start count _ refl (λ k h.
     let first : start ≡ row * shape.lines = omega arith in
     let below : k < shape.lines = omega arith in
     rw (first, div-mul-add row shape.lines k below, mod-mul-add row shape.lines k below) refl) in
@@ -156,9 +149,7 @@ lines-end shape width height row start count size long whole wide first some is 
     omega (arith, mul-le-mul_left shape.count wide) in
     let most : (start + count) * size ≤ ((row + 1) * shape.lines) * (shape.count * shape.stride) =
     mul-le-mul within wider in
-    let same : ((row + 1) * shape.lines) * (shape.count * shape.stride)
-    ≡ (row + 1) * row_size shape = search (rules, mul_assoc, mul_comm) in
-    (omega (arith, add-mul), omega (arith, mul-le-mul_right (row_size shape) lt))
+    (omega (arith, add-mul, mul_assoc), omega (arith, mul-le-mul_right (row_size shape) lt))
 
 -- and they are in a picture of this height
 pub lines-fit : (height row lines start count size line long whole : ℕ)
@@ -179,9 +170,6 @@ plain c = record {
   stride = c.blocks_wide * c.scale;
 }
 
-abbrev as_all : List Source → Result (List Source) Fault
-as_all l = Ok l
-
 -- the greatest factor is the one that all have
 greatest-alike : (f : Factors → ℕ) (n : ℕ) (P : Component → Type 0)
     → ((c : Component) → P c → f c.factors ≡ n) → 1 ≤ n → (c : Component) (more : List Component)
@@ -193,7 +181,7 @@ greatest-alike f n P each some c (d ∷ more) here all =
 -- components of the greatest factors are not upsampled
 sources-plain : (h v width height : ℕ) (cs : List Component)
     → AllByRecursion (λ c. (c.factors.horizontal ≡ h) × (c.factors.vertical ≡ v)) cs
-    → sources_by h v width height cs ≡ as_all (map plain cs)
+    → sources_by h v width height cs ≡ Ok (map plain cs)
 unfolding rule_of sources_by
 sources-plain h v width height [] all = refl
 sources-plain h v width height (c ∷ more) all =
@@ -203,7 +191,7 @@ sources-plain h v width height (c ∷ more) all =
 -- nor are components alike
 sources-alike : (components : List Component) (width height stride : ℕ) → 0 < length components
     → AllHaveSampling components → AreAlike components stride
-    → sources_of components width height ≡ as_all (map plain components)
+    → sources_of components width height ≡ Ok (map plain components)
 unfolding AllHaveSampling
 sources-alike [] width height stride some factors alike = absurd (omega arith)
 sources-alike (c ∷ more) width height stride some factors alike =
@@ -230,10 +218,9 @@ module _ (shape : JointShape) (samples : List ℕ)
   unfolding joint_plane
   plane-at slot i inside lt =
       let size = shape.rows * strip_size shape in
-      let turned : shape.rows * row_size shape ≡ shape.count * size =
-      search (rules, mul_assoc, mul_comm) in
+      let all : length samples ≡ shape.count * size = omega arith in
       let some : length samples / shape.count ≡ size =
-      rw (full, turned) (mul-div_cancel_left size (omega arith)) in
+      rw all (mul-div_cancel_left size (omega arith)) in
       rw some (get_or-map-range_with_len _ 0 size i i 0 lt (omega arith))
 
   -- the part of a line of the picture that the strip in a slot has
@@ -279,18 +266,17 @@ module _ (shape : JointShape) (samples : List ℕ)
       )))
 
   -- and so are the lines of all components, from a slot on
-  lines-plain : (width row slot : ℕ) (cs : List Component) → width ≤ shape.stride
-      → row < shape.rows * shape.lines → slot + length cs ≤ shape.count
-      → AllByRecursion (λ c. c.blocks_wide * c.scale ≡ shape.stride) cs
-      → lines_of (map plain cs)
-      (map (joint_plane shape samples) (range_with_len slot (length cs))) width row
-      ≡ map (part width row) (range_with_len slot (length cs))
+  lines-plain : (width row slot n : ℕ) (cs : List Component) → n ≡ length cs
+      → AllByRecursion (λ c. c.blocks_wide * c.scale ≡ shape.stride) cs → width ≤ shape.stride
+      → row < shape.rows * shape.lines → slot + n ≤ shape.count
+      → lines_of (map plain cs) (map (joint_plane shape samples) (range_with_len slot n)) width row
+      ≡ map (part width row) (range_with_len slot n)
   unfolding lines_of
-  lines-plain width row slot [] wide lt inside strides = refl
-  lines-plain width row slot (c ∷ more) wide lt inside strides =
+  lines-plain width row slot n [] count strides wide lt inside = rw count refl
+  lines-plain width row slot n (c ∷ more) count strides wide lt inside =
       let here = line-plain width row slot c wide lt (omega arith) strides.0 in
-      let rest = lines-plain width row (slot + 1) more wide lt (omega arith) strides.1 in
-      cc
+      let rest = lines-plain width row (slot + 1) (length more) more refl strides.1 wide lt (omega arith) in
+      rw count (cc)
 
   -- so the picture is made line by line of the strips
   picture-joint : (convert : ColorConvert) (width height : ℕ) (cs : List Component)
@@ -299,27 +285,24 @@ module _ (shape : JointShape) (samples : List ℕ)
       → picture_bytes convert (map plain cs) (joint_planes shape samples) width height
       ≡ joint_bytes convert shape width samples height
   unfolding picture_bytes picture_line joint_bytes joint_planes strip_lines
-  picture-joint convert width height cs count strides wide high = same-lines _ _ height (λ row h.
-      let all : (n : ℕ) → n ≡ length cs → lines_of (map plain cs)
-      (map (joint_plane shape samples) (range_with_len 0 n)) width row
-      ≡ map (part width row) (range_with_len 0 n) =
-      λ n e. rw e (lines-plain width row 0 cs wide (omega arith) (omega arith) strides) in
-      ap (line_bytes convert width) (all shape.count count))
+  picture-joint convert width height cs count strides wide high =
+      lines-after _ _ 0 height height (omega arith) (λ row h.
+      let from : 0 + row ≡ row = omega arith in
+      rw from (ap (line_bytes convert width) (lines-plain width row 0 shape.count cs count strides
+      wide (omega arith) (omega arith))))
 
 -- what `image_of` gives for components alike, by the bytes that are made of their strips
 pub image-joint : (components : List Component) (shape : JointShape) (width height : ℕ)
-    (samples : List ℕ) (transform : ColorTransform) (convert : ColorConvert) (w h : ℕ)
-    (bytes : List ℕ) → AllHaveSampling components → IsShapeOf components width height shape
+    (samples : List ℕ) (transform : ColorTransform) (convert : ColorConvert) (bytes : List ℕ)
+    → AllHaveSampling components → IsShapeOf components width height shape
     → length samples ≡ shape.rows * row_size shape
-    → conversion_of (length components) transform ≡ Ok convert → w ≡ width → h ≡ height
-    → bytes ≡ joint_bytes convert shape w samples h
+    → conversion_of (length components) transform ≡ Ok convert
+    → bytes ≡ joint_bytes convert shape width samples height
     → image_of components (joint_planes shape samples) width height transform ≡ Ok bytes
-image-joint components shape width height samples transform convert w h bytes factors is full fits
-    e f made =
+image-joint components shape width height samples transform convert bytes factors is full fits made =
     let some : 0 < length components = omega (arith, is.count, is.some) in
     image-is components (joint_planes shape samples) width height transform convert
     (map plain components) bytes fits
     (sources-alike components width height shape.stride some factors is.alike)
-    (made ∙ (λ i. joint_bytes convert shape (e i) samples (f i))
-    ∙ sym (picture-joint shape samples full convert width height components is.count
+    (made ∙ sym (picture-joint shape samples full convert width height components is.count
     is.alike.strides is.wide is.high))

@@ -19,8 +19,7 @@ returns c =
     let components = c.args.components.now in
     let fits = ap (λ n. conversion_of n c.args.color_transform) (length-map components component_in)
     ∙ c.in_ok-color_convert.ensures.answers in
-    image-joint _ _ _ _ c.args.planes.samples.items _ _ _ _ _ c.requires.factors c.requires.shape
-    c.requires.full fits c.from-width.ensures c.from-height.ensures (
     let long = c.write_in_place.auto.room ∙ c.deref_mut-2.ensures.len in
     let room = with_items_is c.args.planes.samples c.write_in_place.new.room long in
-    cc (c.truncate.ensures.items))
+    image-joint _ _ _ _ c.args.planes.samples.items _ _ _ c.requires.factors c.requires.shape
+    c.requires.full fits (cc (c.truncate.ensures.items))
