@@ -1,8 +1,8 @@
 -- The picture of planes in one room: row of MCUs by row of MCUs.
 use Rattle.std.proofs.Common.{◌≡◌, ℕ, ◌+◌, ◌-◌, ◌*◌, ◌/◌, ◌%◌, ◌<◌, ◌≤◌, List, [], ◌∷◌, ◌++◌}
-use Rattle.std.proofs.Common.{length, map, min, take, drop, get_or, ap, ◌∙◌, sym, refl, subst, arith, rules}
-use Rattle.std.proofs.Common.{length-drop, length-take, Result, Ok}
-use Rattle.std.proofs.Math.Nat.{add-mul, lt_of_mul-lt-mul_left, mod-lt, mul_assoc, mul_comm}
+use Rattle.std.proofs.Common.{length, map, min, take, drop, get_or, ap, ◌∙◌, sym, refl, subst, Ok}
+use Rattle.std.proofs.Common.{arith, rules, length-drop, length-take}
+use Rattle.std.proofs.Math.Nat.{add-mul, lt_of_mul-lt-mul_left, mod-lt, mul_assoc}
 use Rattle.std.proofs.Math.Nat.{mul-div_cancel_left, mul-le-mul, mul-le-mul_left, mul-le-mul_right}
 use Rattle.std.proofs.lemmas.Bool.{eq-eqb}
 use Rattle.std.proofs.lemmas.List.{drop-drop, get_or-drop, length-take-le, places, take-append-drop}
@@ -14,7 +14,6 @@ use Rattle.std.proofs.lemmas.Nat.{row_fits}
 use Rattle.std.proofs.lemmas.Slice.{take-put_mid, drop-put_mid}
 use Rattle.std.specs.List.{AllByRecursion, concat, range_with_len}
 use borrow.Rule.Slice.PartMut.{mid_of, put_mid}
-use Rattle.jpeg_bits.specs.Reading.{Fault}
 use Rattle.jpeg_bits.specs.declared.color_transform.ColorTransform.{ColorTransform}
 use Rattle.jpeg_segments.specs.Frame.{AllHaveSampling, Component, Factors, greatest}
 use Rattle.jpeg_pixels.specs.Colour.{conversion_of, line_bytes}
@@ -61,6 +60,7 @@ pub strips-inside : (shape : JointShape) (row first size long whole : ℕ)
 strips-inside shape row first size long whole e f lt g is =
     rw (e, f, g, is) (row_fits row (row_size shape) shape.rows (row_size shape) lt (omega arith))
 
+-- and the samples have all of them
 strips-long : (shape : JointShape) (samples : List ℕ) (row : ℕ) → row < shape.rows
     → length samples ≡ shape.rows * row_size shape
     → length (strips_at shape samples row) ≡ row_size shape
@@ -69,21 +69,22 @@ strips-long shape samples row lt full =
     let left = length-drop (row * row_size shape) samples in
     length-take-le (row_size shape) (drop (row * row_size shape) samples) (omega arith)
 
-module _ (convert : ColorConvert) (shape : JointShape) (width : ℕ) (samples : List ℕ)
-    (height row : ℕ) (out : List ℕ) where
-  -- the lines of the picture above a row of MCUs stand in a list
-  abbrev pub AreWritten : Type 0
-  AreWritten = take (min height (row * shape.lines) * (shape.count * width)) out
-      ≡ joint_bytes convert shape width samples (min height (row * shape.lines))
+-- the lines of the picture above a row of MCUs stand in a list
+abbrev pub AreWritten : ColorConvert → JointShape → ℕ → List ℕ → ℕ → ℕ → List ℕ → Type 0
+AreWritten convert shape width samples height row out =
+    take (min height (row * shape.lines) * (shape.count * width)) out
+    ≡ joint_bytes convert shape width samples (min height (row * shape.lines))
 
-  -- after the last row of MCUs all lines do
-  pub all-written : height ≤ shape.rows * shape.lines → shape.rows ≤ row → AreWritten
-      → take (height * (shape.count * width)) out ≡ joint_bytes convert shape width samples height
-  all-written high end is =
-      let all : min height (row * shape.lines) ≡ height =
-      omega (arith, mul-le-mul_right shape.lines end) in
-      subst (λ (n : ℕ). take (n * (shape.count * width)) out
-      ≡ joint_bytes convert shape width samples n) all is
+-- after the last row of MCUs all lines do
+pub all-written : (convert : ColorConvert) (shape : JointShape) (width : ℕ) (samples : List ℕ)
+    (height row : ℕ) (out : List ℕ) → height ≤ shape.rows * shape.lines → shape.rows ≤ row
+    → AreWritten convert shape width samples height row out
+    → take (height * (shape.count * width)) out ≡ joint_bytes convert shape width samples height
+all-written convert shape width samples height row out high end is =
+    let all : min height (row * shape.lines) ≡ height =
+    omega (arith, mul-le-mul_right shape.lines end) in
+    subst (λ (n : ℕ). take (n * (shape.count * width)) out
+    ≡ joint_bytes convert shape width samples n) all is
 
 -- The lines of a row of MCUs are written after those above it. They are made of the strips that are
 -- read, which are those of the samples.
@@ -103,8 +104,8 @@ pub row-written : (convert : ColorConvert) (shape : JointShape) (width : ℕ) (s
     → AreWritten convert shape width samples height row out
     → AreWritten convert shape width samples height (row + 1) (put_mid (start * size) k out new)
 unfolding joint_bytes converted
-row-written convert shape width samples height row out room lines new start count size whole whole' k
-    starts counts sizes wholes wholes' lt full same long inside read made before =
+row-written convert shape width samples height row out room lines new start count size whole
+    whole' k starts counts sizes wholes wholes' lt full same long inside read made before =
     let next : min height ((row + 1) * shape.lines) * (shape.count * width)
     ≡ start * size + length new =
     cc (lines-more height row shape.lines, add-mul start count size) in
@@ -201,9 +202,10 @@ sources-alike (c ∷ more) width height stride some factors alike =
     let here = alike.factors.0 in
     let rest = alike.factors.1 in
     let sampling = factors.0 in
-    let across = greatest-alike (λ f. f.horizontal) h P (λ d e. e.0) (omega arith) c more here rest in
-    let down = greatest-alike (λ f. f.vertical) v P (λ d e. e.1) (omega arith) c more here rest in
-    (λ i. sources_by (across i) (down i) width height (c ∷ more))
+    let most_h = greatest-alike (λ f. f.horizontal) h P (λ d e. e.0) (omega arith) c more here rest
+    in
+    let most_v = greatest-alike (λ f. f.vertical) v P (λ d e. e.1) (omega arith) c more here rest in
+    (λ i. sources_by (most_h i) (most_v i) width height (c ∷ more))
     ∙ sources-plain h v width height (c ∷ more) alike.factors
 
 -- ---- lines of planes in one room
@@ -275,7 +277,8 @@ module _ (shape : JointShape) (samples : List ℕ)
   lines-plain width row slot n [] count strides wide lt inside = rw count refl
   lines-plain width row slot n (c ∷ more) count strides wide lt inside =
       let here = line-plain width row slot c wide lt (omega arith) strides.0 in
-      let rest = lines-plain width row (slot + 1) (length more) more refl strides.1 wide lt (omega arith) in
+      let left : slot + 1 + length more ≤ shape.count = omega arith in
+      let rest = lines-plain width row (slot + 1) (length more) more refl strides.1 wide lt left in
       rw count (cc)
 
   -- so the picture is made line by line of the strips
@@ -291,18 +294,17 @@ module _ (shape : JointShape) (samples : List ℕ)
       rw from (ap (line_bytes convert width) (lines-plain width row 0 shape.count cs count strides
       wide (omega arith) (omega arith))))
 
--- what `image_of` gives for components alike, by the bytes that are made of their strips
-pub image-joint : (components : List Component) (shape : JointShape) (width height : ℕ)
-    (samples : List ℕ) (transform : ColorTransform) (convert : ColorConvert) (bytes : List ℕ)
-    → AllHaveSampling components → IsShapeOf components width height shape
-    → length samples ≡ shape.rows * row_size shape
-    → conversion_of (length components) transform ≡ Ok convert
-    → bytes ≡ joint_bytes convert shape width samples height
-    → image_of components (joint_planes shape samples) width height transform ≡ Ok bytes
-image-joint components shape width height samples transform convert bytes factors is full fits made =
-    let some : 0 < length components = omega (arith, is.count, is.some) in
-    image-is components (joint_planes shape samples) width height transform convert
-    (map plain components) bytes fits
-    (sources-alike components width height shape.stride some factors is.alike)
-    (made ∙ sym (picture-joint shape samples full convert width height components is.count
-    is.alike.strides is.wide is.high))
+  -- what `image_of` gives for components alike, by the bytes that are made of their strips
+  pub image-joint : (components : List Component) (width height : ℕ) (transform : ColorTransform)
+      (convert : ColorConvert) (bytes : List ℕ) → AllHaveSampling components
+      → IsShapeOf components width height shape
+      → conversion_of (length components) transform ≡ Ok convert
+      → bytes ≡ joint_bytes convert shape width samples height
+      → image_of components (joint_planes shape samples) width height transform ≡ Ok bytes
+  image-joint components width height transform convert bytes factors is fits made =
+      let some : 0 < length components = omega (arith, is.count, is.some) in
+      let sources = sources-alike components width height shape.stride some factors is.alike in
+      image-is components (joint_planes shape samples) width height transform convert
+      (map plain components) bytes fits sources
+      (made ∙ sym (picture-joint convert width height components is.count is.alike.strides is.wide
+      is.high))

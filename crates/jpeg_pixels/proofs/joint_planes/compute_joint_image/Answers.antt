@@ -21,5 +21,5 @@ returns c =
     ∙ c.in_ok-color_convert.ensures.answers in
     let long = c.write_in_place.auto.room ∙ c.deref_mut-2.ensures.len in
     let room = with_items_is c.args.planes.samples c.write_in_place.new.room long in
-    image-joint _ _ _ _ c.args.planes.samples.items _ _ _ c.requires.factors c.requires.shape
-    c.requires.full fits (cc (c.truncate.ensures.items))
+    image-joint c.args.planes.shape c.args.planes.samples.items c.requires.full _ _ _ _ _ _
+    c.requires.factors c.requires.shape fits (cc (c.truncate.ensures.items))

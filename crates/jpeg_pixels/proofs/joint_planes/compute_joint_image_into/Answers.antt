@@ -19,5 +19,5 @@ returns-clause-picture c =
     let components = c.args.components.now in
     let fits = ap (λ n. conversion_of n c.args.color_transform) (length-map components component_in)
     ∙ c.in_ok-color_convert.ensures.answers in
-    image-joint _ _ _ _ c.args.planes.now.samples.items _ _ _ c.requires.factors c.requires.shape
-    c.requires.full fits (cc)
+    image-joint c.args.planes.now.shape c.args.planes.now.samples.items c.requires.full _ _ _ _ _ _
+    c.requires.factors c.requires.shape fits (cc)
