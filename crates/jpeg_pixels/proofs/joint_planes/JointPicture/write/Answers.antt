@@ -1,5 +1,4 @@
 use Rattle.std.proofs.Common.{ℕ, arith, rules, refl, length-drop, length-take}
-use Rattle.std.proofs.lemmas.Grind.{common_steps}
 use Rattle.std.proofs.lemmas.List.{take_all}
 use Rattle.jpeg_pixels.specs.JointPlanes.{joint_bytes}
 use Rattle.jpeg_pixels.proofs.JointPictures.{all-written, lines-fit, row-written}
@@ -21,9 +20,6 @@ overflow_add-start c =
 
 pub slice_bounds-convert_row-end : goal.slice_bounds-convert_row-end
 slice_bounds-convert_row-end c = search (rules, lines-fit)
-
-pub convert_row-requires-clause-lines : goal.convert_row-requires-clause-lines
-convert_row-requires-clause-lines c = grind (arith, common_steps, length-take)
 
 pub loop-row-preserved : goal.loop-row-preserved
 loop-row-preserved c =
