@@ -1,22 +1,27 @@
 -- The picture of planes in one room: row of MCUs by row of MCUs.
-use Rattle.std.proofs.Common.{◌≡◌, ℕ, zero, suc, ◌+◌, ◌-◌, ◌*◌, ◌/◌, ◌%◌, ◌<◌, ◌≤◌, List, [], ◌∷◌, ◌++◌, length, map}
-use Rattle.std.proofs.Common.{min, take, drop, ap, ◌∙◌, sym, refl, arith, rules, append_assoc, length-drop, subst, get_or, Result, Ok, Some}
-use Rattle.std.proofs.Math.Nat.{add-mul, lt_of_mul-lt-mul_left, mod-lt, mul_assoc, mul_comm, mul-div_cancel_left, mul-le-mul, mul-le-mul_left, mul-le-mul_right}
-use Rattle.std.proofs.lemmas.List.{append-nil, drop-drop, get_or-drop, get_or-take, length-take-le}
-use Rattle.std.proofs.lemmas.List.Folds.{concat-append}
-use Rattle.std.proofs.lemmas.List.FromFn.{fill_by_all, length-map-range_with_len, get_or-map-range_with_len, map-range_with_len_more}
-use Rattle.std.proofs.lemmas.Nat.{div-mul-add, mod-mul-add, div-add-mod', div_below, mul-add-lt, row_fits}
-use Rattle.std.proofs.lemmas.Slice.{take-put_mid, drop-put_mid}
+use Rattle.std.proofs.Common.{◌≡◌, ℕ, ◌+◌, ◌-◌, ◌*◌, ◌/◌, ◌%◌, ◌<◌, ◌≤◌, List, [], ◌∷◌, ◌++◌}
+use Rattle.std.proofs.Common.{length, map, min, take, drop, get_or, ap, ◌∙◌, sym, refl, subst, Ok}
+use Rattle.std.proofs.Common.{arith, rules, length-drop, length-take}
+use Rattle.std.proofs.Math.Nat.{add-mul, lt_of_mul-lt-mul_left, mod-lt, mul_assoc}
+use Rattle.std.proofs.Math.Nat.{mul-div_cancel_left, mul-le-mul, mul-le-mul_left, mul-le-mul_right}
 use Rattle.std.proofs.lemmas.Bool.{eq-eqb}
+use Rattle.std.proofs.lemmas.List.{drop-drop, get_or-drop, length-take-le, places, take-append-drop}
+use Rattle.std.proofs.lemmas.List.Folds.{concat-append}
+use Rattle.std.proofs.lemmas.List.FromFn.{fill_by_all, get_or-map-range_with_len}
+use Rattle.std.proofs.lemmas.List.FromFn.{length-map-range_with_len, take-map-range_with_len}
+use Rattle.std.proofs.lemmas.Nat.{div-add-mod', div_below, div-mul-add, mod-mul-add, mul-add-lt}
+use Rattle.std.proofs.lemmas.Nat.{row_fits}
+use Rattle.std.proofs.lemmas.Slice.{take-put_mid, drop-put_mid}
 use Rattle.std.specs.List.{AllByRecursion, concat, range_with_len}
-use borrow.Rule.Slice.PartMut.{put_mid}
-use Rattle.jpeg_bits.specs.Reading.{Fault}
+use borrow.Rule.Slice.PartMut.{mid_of, put_mid}
 use Rattle.jpeg_bits.specs.declared.color_transform.ColorTransform.{ColorTransform}
 use Rattle.jpeg_segments.specs.Frame.{AllHaveSampling, Component, Factors, greatest}
 use Rattle.jpeg_pixels.specs.Colour.{conversion_of, line_bytes}
-use Rattle.jpeg_pixels.specs.JointPlanes.{AreAlike, IsShapeOf, converted, gathered, joint_bytes, joint_plane, joint_planes, row_size}
-use Rattle.jpeg_pixels.specs.JointPlanes.{strip_lines, strip_size, strips_at}
-use Rattle.jpeg_pixels.specs.Pictures.{Source, all_factors, image_of, line_of, lines_of, picture_bytes, picture_line, sources_by, sources_of}
+use Rattle.jpeg_pixels.specs.JointPlanes.{AreAlike, IsShapeOf, converted, gathered, joint_bytes}
+use Rattle.jpeg_pixels.specs.JointPlanes.{joint_plane, joint_planes, row_size, strip_lines}
+use Rattle.jpeg_pixels.specs.JointPlanes.{strip_size, strips_at}
+use Rattle.jpeg_pixels.specs.Pictures.{Source, all_factors, image_of, line_of, lines_of}
+use Rattle.jpeg_pixels.specs.Pictures.{picture_bytes, picture_line, sources_by, sources_of}
 use Rattle.jpeg_pixels.specs.Upsampling.{rule_of, upsampled}
 use Rattle.jpeg_pixels.specs.declared.upsampler.UpsampleRule.TheVariants.{H1V1}
 use Rattle.jpeg_pixels.specs.declared.joint_planes.JointShape.{JointShape}
@@ -26,323 +31,280 @@ use Rattle.jpeg_pixels.proofs.WholePictures.{image-is}
 
 -- ---- lines one after the other
 
--- the lines that a function gives by their number, and one more of them
-pub concat-more : (f : ℕ → List ℕ) (n : ℕ)
-    → concat (map f (range_with_len 0 (n + 1))) ≡ concat (map f (range_with_len 0 n)) ++ f n
-concat-more f n =
-    ap concat (map-range_with_len_more f 0 n n (omega arith))
-    ∙ concat-append (map f (range_with_len 0 n)) (f n ∷ [])
-    ∙ ap (λ (l : List ℕ). concat (map f (range_with_len 0 n)) ++ l) (append-nil (f n))
-
--- n more of them, which another function gives from its beginning
-pub concat-rows : (f g : ℕ → List ℕ) (a n : ℕ) → ((k : ℕ) → k < n → f (a + k) ≡ g k)
-    → concat (map f (range_with_len 0 (a + n)))
+-- the lines that a function gives, and n more of them, which another one gives from its beginning
+lines-after : (f g : ℕ → List ℕ) (a n end : ℕ) → end ≡ a + n
+    → ((k : ℕ) → k < n → f (a + k) ≡ g k)
+    → concat (map f (range_with_len 0 end))
     ≡ concat (map f (range_with_len 0 a)) ++ concat (map g (range_with_len 0 n))
-concat-rows f g a zero same =
-    let end : a + zero ≡ a = omega arith in
-    rw end (sym (append-nil (concat (map f (range_with_len 0 a)))))
-concat-rows f g a (suc n) same =
-    let end : a + suc n ≡ a + n + 1 = omega arith in
-    let next : suc n ≡ n + 1 = omega arith in
-    let front = concat-rows f g a n (λ k h. same k (omega arith)) in
-    let here = same n (omega arith) in
-    let more : concat (map g (range_with_len 0 (suc n))) ≡ concat (map g (range_with_len 0 n)) ++ g n =
-    ap (λ (m : ℕ). concat (map g (range_with_len 0 m))) next ∙ concat-more g n in
-    rw end (concat-more f (a + n) ∙ cc (
-      front,
-      here,
-      more,
-      append_assoc (concat (map f (range_with_len 0 a)))
-          (concat (map g (range_with_len 0 n))) (g n),
-    ))
-
--- the same lines
-same-lines : (f g : ℕ → List ℕ) (n : ℕ) → ((k : ℕ) → k < n → f k ≡ g k)
-    → concat (map f (range_with_len 0 n)) ≡ concat (map g (range_with_len 0 n))
-same-lines f g n same =
-    ap concat (fill_by_all g (map f (range_with_len 0 n)) n [] (length-map-range_with_len f 0 n)
-    (λ k h. get_or-map-range_with_len f 0 n k k [] h (omega arith) ∙ same k h))
+lines-after f g a n end e same =
+    let all = map f (range_with_len 0 end) in
+    let long = length-map-range_with_len f 0 end in
+    let front = take-map-range_with_len f 0 end a (omega arith) in
+    let back = fill_by_all g (drop a all) n [] (omega (arith, length-drop a all)) (λ k h.
+    get_or-drop a all k []
+    ∙ get_or-map-range_with_len f 0 end (a + k) (a + k) [] (omega arith) (omega arith)
+    ∙ same k h) in
+    ap concat (sym (take-append-drop a all)) ∙ concat-append (take a all) (drop a all) ∙ cc
 
 -- ---- rows of MCUs
 
--- a row of MCUs has all of its strips
-strips-long : (shape : JointShape) (samples : List ℕ) (row : ℕ) → row < shape.rows
-    → length samples ≡ shape.rows * row_size shape → length (strips_at shape samples row) ≡ row_size shape
-strips-long shape samples row lt full =
-    let inside = row_fits row (row_size shape) shape.rows (row_size shape) lt (omega arith) in
-    length-take-le (row_size shape) (drop (row * row_size shape) samples) (omega (
-      arith,
-      length-drop
-          (row * row_size shape) samples,
-    ))
-
--- the lines of the picture before the next row of MCUs: those before this one, and those in it
+-- the lines of the picture above a row of MCUs, and those of that row
 lines-more : (height row lines : ℕ)
     → min height ((row + 1) * lines) ≡ min height (row * lines) + min lines (height - row * lines)
 lines-more height row lines = omega (arith, add-mul)
 
--- the lines of the picture, those of one row of MCUs more
-pub joint-more : (convert : ColorConvert) (shape : JointShape) (width : ℕ) (samples : List ℕ) (height row : ℕ)
-    → joint_bytes convert shape width samples (min height ((row + 1) * shape.lines))
-    ≡ joint_bytes convert shape width samples (min height (row * shape.lines))
-    ++ converted convert shape width (strips_at shape samples row)
-    (min shape.lines (height - row * shape.lines))
-unfolding joint_bytes converted
-joint-more convert shape width samples height row =
-    let n = min shape.lines (height - row * shape.lines) in
-    rw (lines-more height row shape.lines) (concat-rows _ _ (min height (row * shape.lines)) n (λ k h.
-    let first : min height (row * shape.lines) ≡ row * shape.lines = omega arith in
-    let inside : k < shape.lines = omega arith in
-    rw (first, div-mul-add row shape.lines k inside, mod-mul-add row shape.lines k inside) refl))
+-- the strips of a row of MCUs are in the room
+pub strips-inside : (shape : JointShape) (row first size long whole : ℕ)
+    → first ≡ row_size shape → size ≡ row_size shape → row < shape.rows → long ≡ whole
+    → whole ≡ shape.rows * row_size shape → row * first + size ≤ long
+strips-inside shape row first size long whole e f lt g is =
+    rw (e, f, g, is) (row_fits row (row_size shape) shape.rows (row_size shape) lt (omega arith))
 
--- these lines written after those before them
-pub written-more : (convert : ColorConvert) (shape : JointShape) (width : ℕ) (samples : List ℕ)
-    (height row start count size k : ℕ) (room new : List ℕ)
-    → start ≡ min height (row * shape.lines) → count ≡ min shape.lines (height - row * shape.lines)
-    → size ≡ shape.count * width → length new ≡ count * size → start * size ≤ length room
-    → take (min height (row * shape.lines) * (shape.count * width)) room
-    ≡ joint_bytes convert shape width samples (min height (row * shape.lines))
-    → new ≡ converted convert shape width (strips_at shape samples row) count
-    → take (min height ((row + 1) * shape.lines) * (shape.count * width)) (put_mid (start * size) k room new)
-    ≡ joint_bytes convert shape width samples (min height ((row + 1) * shape.lines))
-written-more convert shape width samples height row start count size k room new first some is long inside before more =
-    let next : min height ((row + 1) * shape.lines) * (shape.count * width) ≡ start * size + length new =
-    cc (lines-more height row shape.lines, add-mul start count size) in
-    take-put_mid (start * size) k room new _ next inside ∙ cc (joint-more convert shape width samples height row)
-
--- after the last row of MCUs all lines are written
-pub all-written : (convert : ColorConvert) (shape : JointShape) (width : ℕ) (samples : List ℕ) (height row : ℕ)
-    (room : List ℕ) → height ≤ shape.rows * shape.lines → shape.rows ≤ row
-    → take (min height (row * shape.lines) * (shape.count * width)) room
-    ≡ joint_bytes convert shape width samples (min height (row * shape.lines))
-    → take (height * (shape.count * width)) room ≡ joint_bytes convert shape width samples height
-all-written convert shape width samples height row room high end is =
-    let all : min height (row * shape.lines) ≡ height = omega (arith, mul-le-mul_right shape.lines end) in
-    subst (λ (n : ℕ). take (n * (shape.count * width)) room ≡ joint_bytes convert shape width samples n) all is
-
--- what is made of the strips that are read is made of those of the samples
-pub converted-row : (convert : ColorConvert) (shape : JointShape) (width row first size count : ℕ)
-    (room samples lines new : List ℕ) → first ≡ row_size shape → size ≡ row_size shape → row < shape.rows
+-- and the samples have all of them
+strips-long : (shape : JointShape) (samples : List ℕ) (row : ℕ) → row < shape.rows
     → length samples ≡ shape.rows * row_size shape
+    → length (strips_at shape samples row) ≡ row_size shape
+strips-long shape samples row lt full =
+    let inside = strips-inside shape row _ _ _ _ refl refl lt full refl in
+    let left = length-drop (row * row_size shape) samples in
+    length-take-le (row_size shape) (drop (row * row_size shape) samples) (omega arith)
+
+-- the lines of the picture above a row of MCUs stand in a list
+abbrev pub AreWritten : ColorConvert → JointShape → ℕ → List ℕ → ℕ → ℕ → List ℕ → Type 0
+AreWritten convert shape width samples height row out =
+    take (min height (row * shape.lines) * (shape.count * width)) out
+    ≡ joint_bytes convert shape width samples (min height (row * shape.lines))
+
+-- after the last row of MCUs all lines do
+pub all-written : (convert : ColorConvert) (shape : JointShape) (width : ℕ) (samples : List ℕ)
+    (height row : ℕ) (out : List ℕ) → height ≤ shape.rows * shape.lines → shape.rows ≤ row
+    → AreWritten convert shape width samples height row out
+    → take (height * (shape.count * width)) out ≡ joint_bytes convert shape width samples height
+all-written convert shape width samples height row out high end is =
+    let all : min height (row * shape.lines) ≡ height =
+    omega (arith, mul-le-mul_right shape.lines end) in
+    subst (λ (n : ℕ). take (n * (shape.count * width)) out
+    ≡ joint_bytes convert shape width samples n) all is
+
+-- The lines of a row of MCUs are written after those above it. They are made of the strips that are
+-- read, which are those of the samples.
+pub row-written : (convert : ColorConvert) (shape : JointShape) (width : ℕ) (samples : List ℕ)
+    (height row : ℕ) (out room lines new : List ℕ) (start count size whole whole' k : ℕ)
+    → start ≡ min height (row * shape.lines)
+    → count ≡ min shape.lines (height - row * shape.lines)
+    → size ≡ shape.count * width → whole ≡ row_size shape → whole' ≡ row_size shape
+    → row < shape.rows → length samples ≡ shape.rows * row_size shape
     → drop (row * row_size shape) room ≡ drop (row * row_size shape) samples
-    → lines ≡ gathered shape width (take (row * first + size - row * first) (drop (row * first) room)) count
-    → ((strips : List ℕ) → length strips ≡ row_size shape → lines ≡ gathered shape width strips count
+    → length new ≡ count * size → start * size ≤ length out
+    → lines ≡ gathered shape width
+    (take (row * whole + whole' - row * whole) (drop (row * whole) room)) count
+    → ((strips : List ℕ) → length strips ≡ row_size shape
+    → lines ≡ gathered shape width strips count
     → new ≡ converted convert shape width strips count)
-    → new ≡ converted convert shape width (strips_at shape samples row) count
-converted-row convert shape width row first size count room samples lines new e f lt full same read made =
-    let some : row * first + size - row * first ≡ row_size shape = omega arith in
-    made (strips_at shape samples row) (strips-long shape samples row lt full) (read ∙ cc)
+    → AreWritten convert shape width samples height row out
+    → AreWritten convert shape width samples height (row + 1) (put_mid (start * size) k out new)
+unfolding joint_bytes converted
+row-written convert shape width samples height row out room lines new start count size whole
+    whole' k starts counts sizes wholes wholes' lt full same long inside read made before =
+    let next : min height ((row + 1) * shape.lines) * (shape.count * width)
+    ≡ start * size + length new =
+    cc (lines-more height row shape.lines, add-mul start count size) in
+    let some : row * whole + whole' - row * whole ≡ row_size shape = omega arith in
+    let strips = strips_at shape samples row in
+    let here = made strips (strips-long shape samples row lt full) (read ∙ cc) in
+    let more : joint_bytes convert shape width samples (start + count)
+    ≡ joint_bytes convert shape width samples start
+    ++ converted convert shape width strips count = lines-after _ _ start count _ refl (λ k h.
+    let first : start ≡ row * shape.lines = omega arith in
+    let below : k < shape.lines = omega arith in
+    rw (first, div-mul-add row shape.lines k below, mod-mul-add row shape.lines k below) refl) in
+    take-put_mid (start * size) k out new _ next inside ∙ cc (lines-more height row shape.lines)
 
 -- the strips after those of the row are as they were
 pub unread-more : (shape : JointShape) (row start k : ℕ) (room samples new : List ℕ)
-    → start + k ≤ (row + 1) * row_size shape → start ≤ length room → length new ≡ k
+    → length new ≡ length (mid_of start k room) → start + k ≤ (row + 1) * row_size shape
+    → (row + 1) * row_size shape ≤ length room
     → drop (row * row_size shape) room ≡ drop (row * row_size shape) samples
-    → drop ((row + 1) * row_size shape) (put_mid start k room new) ≡ drop ((row + 1) * row_size shape) samples
-unread-more shape row start k room samples new below inside long same =
-    let next : (row + 1) * row_size shape ≡ row * row_size shape + row_size shape = omega (arith, add-mul) in
-    drop-put_mid start k room new _ below inside long
-    ∙ rw next (sym (drop-drop (row_size shape) (row * row_size shape) room)
-    ∙ ap (drop (row_size shape)) same
-    ∙ drop-drop (row_size shape) (row * row_size shape) samples)
+    → drop ((row + 1) * row_size shape) (put_mid start k room new)
+    ≡ drop ((row + 1) * row_size shape) samples
+unread-more shape row start k room samples new long below inside same =
+    let size = row_size shape in
+    let next : (row + 1) * size ≡ row * size + size = omega (arith, add-mul) in
+    let some : length new ≡ k =
+    omega (arith, length-take k (drop start room), length-drop start room) in
+    drop-put_mid start k room new _ below (omega arith) some
+    ∙ rw next (sym (drop-drop size (row * size) room) ∙ ap (drop size) same
+    ∙ drop-drop size (row * size) samples)
 
--- the strips of a row of MCUs are in the room
-pub strips-inside : (shape : JointShape) (row first size long : ℕ) → first ≡ row_size shape → size ≡ row_size shape
-    → row < shape.rows → long ≡ shape.rows * row_size shape → row * first + size ≤ long
-strips-inside shape row first size long e f lt is =
-    rw (e, f, is) (row_fits row (row_size shape) shape.rows (row_size shape) lt (omega arith))
+-- the lines of a row of MCUs end before the strips of the next one
+pub lines-end : (shape : JointShape) (width height row start count size long whole : ℕ)
+    → width ≤ shape.stride → start ≡ min height (row * shape.lines)
+    → count ≡ min shape.lines (height - row * shape.lines) → size ≡ shape.count * width
+    → row < shape.rows → long ≡ whole → whole ≡ shape.rows * row_size shape
+    → (start * size + count * size ≤ (row + 1) * row_size shape)
+    × ((row + 1) * row_size shape ≤ long)
+lines-end shape width height row start count size long whole wide first some is lt e full =
+    let within : start + count ≤ (row + 1) * shape.lines =
+    omega (arith, lines-more height row shape.lines) in
+    let wider : size ≤ shape.count * shape.stride =
+    omega (arith, mul-le-mul_left shape.count wide) in
+    let most : (start + count) * size ≤ ((row + 1) * shape.lines) * (shape.count * shape.stride) =
+    mul-le-mul within wider in
+    (omega (arith, add-mul, mul_assoc), omega (arith, mul-le-mul_right (row_size shape) lt))
 
--- its lines end before the strips of the next row of MCUs
-pub lines-end : (shape : JointShape) (width height row start count size : ℕ) → width ≤ shape.stride
-    → start ≡ min height (row * shape.lines) → count ≡ min shape.lines (height - row * shape.lines)
-    → size ≡ shape.count * width → start * size + count * size ≤ (row + 1) * row_size shape
-lines-end shape width height row start count size wide first some is =
-    let within : start + count ≤ (row + 1) * shape.lines = omega (arith, lines-more height row shape.lines) in
-    let wider : size ≤ shape.count * shape.stride = omega (arith, mul-le-mul_left shape.count wide) in
-    let long : (start + count) * size ≤ ((row + 1) * shape.lines) * (shape.count * shape.stride)
-    = mul-le-mul within wider in
-    let same : ((row + 1) * shape.lines) * (shape.count * shape.stride) ≡ (row + 1) * row_size shape
-    = search (rules, mul_assoc, mul_comm) in
-    omega (arith, add-mul)
-
--- and so in the room
-pub lines-inside : (shape : JointShape) (width height row start count size long : ℕ) → width ≤ shape.stride
-    → start ≡ min height (row * shape.lines) → count ≡ min shape.lines (height - row * shape.lines)
-    → size ≡ shape.count * width → row < shape.rows → long ≡ shape.rows * row_size shape
-    → start * size + count * size ≤ long
-lines-inside shape width height row start count size long wide first some is lt whole =
-    let next : (row + 1) * row_size shape ≤ shape.rows * row_size shape = mul-le-mul_right (row_size shape) (omega arith)
-    in
-    omega (arith, lines-end shape width height row start count size wide first some is)
-
--- and in a picture of this height
-pub lines-fit : (height row lines start count size line long : ℕ) → start ≡ min height (row * lines)
-    → count ≡ min lines (height - row * lines) → size ≡ line → long ≡ height * line
-    → start * size + count * size ≤ long
-lines-fit height row lines start count size line long first some is whole =
+-- and they are in a picture of this height
+pub lines-fit : (height row lines start count size line long whole : ℕ)
+    → start ≡ min height (row * lines) → count ≡ min lines (height - row * lines) → size ≡ line
+    → long ≡ whole → whole ≡ height * line → start * size + count * size ≤ long
+lines-fit height row lines start count size line long whole first some is e full =
     let within : start + count ≤ height = omega arith in
-    rw whole (rw (← is) (omega (arith, add-mul start count size, mul-le-mul_right size within)))
+    rw (e, full, ← is) (omega (arith, add-mul start count size, mul-le-mul_right size within))
 
 -- ---- sources of components alike
 
 -- the samples of a component are those of the picture
 abbrev plain : Component → Source
-plain c = record { rule = H1V1; width = c.width; height = c.height; stride = c.blocks_wide * c.scale }
-
-abbrev as_all : List Source → Result (List Source) Fault
-as_all l = Ok l
+plain c = record {
+  rule = H1V1;
+  width = c.width;
+  height = c.height;
+  stride = c.blocks_wide * c.scale;
+}
 
 -- the greatest factor is the one that all have
-greatest-alike : (f : Factors → ℕ) (n : ℕ) (P : Component → Type 0) → ((c : Component) → P c → f c.factors ≡ n) → 1 ≤ n
-    → (c : Component) (more : List Component) → P c → AllByRecursion P more → greatest f (all_factors (c ∷ more)) ≡ n
-greatest-alike f n P each some c [] here all = let e = each c here in omega arith
+greatest-alike : (f : Factors → ℕ) (n : ℕ) (P : Component → Type 0)
+    → ((c : Component) → P c → f c.factors ≡ n) → 1 ≤ n → (c : Component) (more : List Component)
+    → P c → AllByRecursion P more → greatest f (all_factors (c ∷ more)) ≡ n
+greatest-alike f n P each some c [] here all = omega (arith, each c here)
 greatest-alike f n P each some c (d ∷ more) here all =
-    let e = each c here in
-    let rest = greatest-alike f n P each some d more all.0 all.1 in
-    omega arith
+    omega (arith, each c here, greatest-alike f n P each some d more all.0 all.1)
 
--- a component of the greatest factors is not upsampled
-rule-plain : (h v width height : ℕ) → rule_of h v h v width height ≡ Some H1V1
-unfolding rule_of
-rule-plain h v width height = rw (eq-eqb h h refl, eq-eqb v v refl) refl
-
--- nor are components that all have these factors
+-- components of the greatest factors are not upsampled
 sources-plain : (h v width height : ℕ) (cs : List Component)
     → AllByRecursion (λ c. (c.factors.horizontal ≡ h) × (c.factors.vertical ≡ v)) cs
-    → sources_by h v width height cs ≡ as_all (map plain cs)
-unfolding sources_by
+    → sources_by h v width height cs ≡ Ok (map plain cs)
+unfolding rule_of sources_by
 sources-plain h v width height [] all = refl
 sources-plain h v width height (c ∷ more) all =
-    rw (all.0.0, all.0.1, rule-plain h v width height, sources-plain h v width height more all.1) refl
+    let rest = sources-plain h v width height more all.1 in
+    rw (all.0.0, all.0.1, eq-eqb h h refl, eq-eqb v v refl, rest) refl
 
 -- nor are components alike
 sources-alike : (components : List Component) (width height stride : ℕ) → 0 < length components
     → AllHaveSampling components → AreAlike components stride
-    → sources_of components width height ≡ as_all (map plain components)
+    → sources_of components width height ≡ Ok (map plain components)
 unfolding AllHaveSampling
 sources-alike [] width height stride some factors alike = absurd (omega arith)
 sources-alike (c ∷ more) width height stride some factors alike =
-    let P = λ (d : Component). (d.factors.horizontal ≡ alike.horizontal) × (d.factors.vertical ≡ alike.vertical) in
+    let h = alike.horizontal in
+    let v = alike.vertical in
+    let P = λ (d : Component). (d.factors.horizontal ≡ h) × (d.factors.vertical ≡ v) in
     let here = alike.factors.0 in
+    let rest = alike.factors.1 in
     let sampling = factors.0 in
-    let h = greatest-alike (λ f. f.horizontal) alike.horizontal P (λ d e. e.0) (omega (
-      arith,
-      here.0,
-      sampling.horizontal_some,
-    )) c more here alike.factors.1 in
-    let v = greatest-alike (λ f. f.vertical) alike.vertical P (λ d e. e.1) (omega (
-      arith,
-      here.1,
-      sampling.vertical_some,
-    )) c more here alike.factors.1 in
-    (λ i. sources_by (h i) (v i) width height (c ∷ more))
-    ∙ sources-plain alike.horizontal alike.vertical width height (c ∷ more) alike.factors
+    let most_h = greatest-alike (λ f. f.horizontal) h P (λ d e. e.0) (omega arith) c more here rest
+    in
+    let most_v = greatest-alike (λ f. f.vertical) v P (λ d e. e.1) (omega arith) c more here rest in
+    (λ i. sources_by (most_h i) (most_v i) width height (c ∷ more))
+    ∙ sources-plain h v width height (c ∷ more) alike.factors
 
 -- ---- lines of planes in one room
 
--- the sample of a plane by its index
-plane-at : (shape : JointShape) (samples : List ℕ) (slot i : ℕ) → slot < shape.count → i < shape.rows * strip_size shape
-    → length samples ≡ shape.rows * row_size shape
-    → get_or (joint_plane shape samples slot) i 0 ≡ get_or samples (i / strip_size shape * row_size shape
-    + (slot * strip_size shape + i % strip_size shape)) 0
-unfolding joint_plane
-plane-at shape samples slot i inside lt full =
-    let turned : shape.rows * row_size shape ≡ shape.count * (shape.rows * strip_size shape) =
-    search (rules, mul_assoc, mul_comm) in
-    let some : length samples / shape.count ≡ shape.rows * strip_size shape =
-    rw (full, turned) (mul-div_cancel_left (shape.rows * strip_size shape) (omega arith)) in
-    rw some (get_or-map-range_with_len _ 0 (shape.rows * strip_size shape) i i 0 lt (omega arith))
+module _ (shape : JointShape) (samples : List ℕ)
+    (full : length samples ≡ shape.rows * row_size shape) where
+  -- the sample of a plane
+  plane-at : (slot i : ℕ) → slot < shape.count → i < shape.rows * strip_size shape
+      → get_or (joint_plane shape samples slot) i 0
+      ≡ get_or samples (i / strip_size shape * row_size shape
+      + (slot * strip_size shape + i % strip_size shape)) 0
+  unfolding joint_plane
+  plane-at slot i inside lt =
+      let size = shape.rows * strip_size shape in
+      let all : length samples ≡ shape.count * size = omega arith in
+      let some : length samples / shape.count ≡ size =
+      rw all (mul-div_cancel_left size (omega arith)) in
+      rw some (get_or-map-range_with_len _ 0 size i i 0 lt (omega arith))
 
--- and by its row of MCUs and its line there
-plane-in : (shape : JointShape) (samples : List ℕ) (slot row line x : ℕ) → slot < shape.count → row < shape.rows
-    → line < shape.lines → x < shape.stride → length samples ≡ shape.rows * row_size shape
-    → get_or (joint_plane shape samples slot) ((row * shape.lines + line) * shape.stride + x) 0
-    ≡ get_or samples (row * row_size shape + (slot * strip_size shape + (line * shape.stride + x))) 0
-plane-in shape samples slot row line x inside lt below left full =
-    let size = strip_size shape in
-    let rest = line * shape.stride + x in
-    let low : rest < size = omega (arith, mul-add-lt line shape.stride x shape.lines below left) in
-    let index : (row * shape.lines + line) * shape.stride + x ≡ row * size + rest = omega (arith, add-mul, mul_assoc) in
-    rw index (plane-at shape samples slot (row * size + rest) inside
-    (omega (arith, mul-add-lt row size rest shape.rows lt low)) full
-    ∙ rw (div-mul-add row size rest low, mod-mul-add row size rest low) refl)
+  -- the part of a line of the picture that the strip in a slot has
+  abbrev part : ℕ → ℕ → ℕ → List ℕ
+  part width row slot =
+      take width (drop (slot * strip_size shape + row % shape.lines * shape.stride)
+      (strips_at shape samples (row / shape.lines)))
 
--- a line of a component is the part of it that its strip has
-line-plain : (shape : JointShape) (samples : List ℕ) (width row slot : ℕ) (c : Component)
-    → c.blocks_wide * c.scale ≡ shape.stride → slot < shape.count → width ≤ shape.stride
-    → row < shape.rows * shape.lines → length samples ≡ shape.rows * row_size shape
-    → line_of (plain c) (joint_plane shape samples slot) width row
-    ≡ take width (drop (slot * strip_size shape + row % shape.lines * shape.stride)
-    (strips_at shape samples (row / shape.lines)))
-unfolding upsampled
-line-plain shape samples width row slot c stride inside wide lt full =
-    let lines = shape.lines in
-    let none : shape.rows * 0 ≡ 0 = omega arith in
-    let some : 0 < lines = lt_of_mul-lt-mul_left shape.rows (omega arith) in
-    let mcu : row / lines < shape.rows = div_below row lines shape.rows some lt in
-    let line : row % lines < lines = mod-lt row some in
-    let first = slot * strip_size shape + row % lines * shape.stride in
-    let strips = strips_at shape samples (row / lines) in
-    let ends : first + width ≤ row_size shape = omega (
-      arith,
-      row_fits (row % lines) shape.stride lines shape.stride line
-          (omega arith),
-      row_fits slot (strip_size shape) shape.count (strip_size shape) inside (omega arith),
-    ) in
-    let long : length strips ≡ row_size shape = strips-long shape samples (row / lines) mcu full in
-    sym (line_by_samples (plain c) (joint_plane shape samples slot) width row (take width (drop first strips))
-    (length-take-le width (drop first strips) (omega (arith, length-drop first strips)))
-    (λ x h.
-    let is : (row / lines * lines + row % lines) * shape.stride + x ≡ row * (c.blocks_wide * c.scale) + x =
-    cc (div-add-mod' row lines) in
-    let at : row / lines * row_size shape + (first + x) ≡ row / lines * row_size shape + (slot * strip_size shape
-    + (row % lines * shape.stride + x)) = omega arith in
-    get_or-take width (drop first strips) x 0 h
-    ∙ get_or-drop first strips x 0
-    ∙ get_or-take (row_size shape) (drop (row / lines * row_size shape) samples) (first + x) 0 (omega arith)
-    ∙ get_or-drop (row / lines * row_size shape) samples (first + x) 0
-    ∙ ap (λ i. get_or samples i 0) at
-    ∙ sym (plane-in shape samples slot (row / lines) (row % lines) x inside mcu line (omega arith) full)
-    ∙ ap (λ i. get_or (joint_plane shape samples slot) i 0) is))
+  -- it is the line of the component
+  line-plain : (width row slot : ℕ) (c : Component) → width ≤ shape.stride
+      → row < shape.rows * shape.lines → slot < shape.count
+      → c.blocks_wide * c.scale ≡ shape.stride
+      → line_of (plain c) (joint_plane shape samples slot) width row ≡ part width row slot
+  unfolding upsampled
+  line-plain width row slot c wide lt inside stride =
+      let size = strip_size shape in
+      let mcu = row / shape.lines in
+      let line = row % shape.lines in
+      let none : shape.rows * 0 ≡ 0 = omega arith in
+      let some : 0 < shape.lines = lt_of_mul-lt-mul_left shape.rows (omega arith) in
+      let above : mcu < shape.rows = div_below row shape.lines shape.rows some lt in
+      let below : line < shape.lines = mod-lt row some in
+      let low = row_fits line shape.stride shape.lines shape.stride below (omega arith) in
+      let high = row_fits slot size shape.count size inside (omega arith) in
+      let long = strips-long shape samples mcu above full in
+      let first = slot * size + line * shape.stride in
+      let left = length-drop first (strips_at shape samples mcu) in
+      sym (line_by_samples (plain c) (joint_plane shape samples slot) width row
+      (part width row slot) (length-take-le width _ (omega arith)) (λ x h.
+      let rest = line * shape.stride + x in
+      let at : first + x ≡ slot * size + rest = omega arith in
+      let read : get_or (part width row slot) x 0
+      ≡ get_or samples (mcu * row_size shape + (first + x)) 0 = search (rules, places) in
+      let lines = ap (λ n. n * shape.stride) (div-add-mod' row shape.lines) in
+      let is : mcu * size + rest ≡ row * (c.blocks_wide * c.scale) + x =
+      omega (arith, add-mul, mul_assoc, lines, ap (λ n. row * n) stride) in
+      let in_strip : rest < size = omega arith in
+      let in_plane = mul-add-lt mcu size rest shape.rows above in_strip in
+      cc (
+        plane-at slot (mcu * size + rest) inside (omega arith),
+        div-mul-add mcu size rest in_strip,
+        mod-mul-add mcu size rest in_strip,
+      )))
 
--- and so are the lines of all components, from a slot on
-lines-plain : (shape : JointShape) (samples : List ℕ) (width row : ℕ) → width ≤ shape.stride
-    → row < shape.rows * shape.lines → length samples ≡ shape.rows * row_size shape
-    → (cs : List Component) (slot : ℕ) → slot + length cs ≤ shape.count
-    → AllByRecursion (λ c. c.blocks_wide * c.scale ≡ shape.stride) cs
-    → lines_of (map plain cs) (map (joint_plane shape samples) (range_with_len slot (length cs))) width row
-    ≡ map (λ k. take width (drop (k * strip_size shape + row % shape.lines * shape.stride)
-    (strips_at shape samples (row / shape.lines)))) (range_with_len slot (length cs))
-unfolding lines_of
-lines-plain shape samples width row wide lt full [] slot inside strides = refl
-lines-plain shape samples width row wide lt full (c ∷ more) slot inside strides =
-    cc (
-      line-plain shape samples width row slot c strides.0 (omega arith) wide lt full,
-      lines-plain shape samples width row wide lt full more (slot + 1) (omega arith) strides.1,
-    )
+  -- and so are the lines of all components, from a slot on
+  lines-plain : (width row slot n : ℕ) (cs : List Component) → n ≡ length cs
+      → AllByRecursion (λ c. c.blocks_wide * c.scale ≡ shape.stride) cs → width ≤ shape.stride
+      → row < shape.rows * shape.lines → slot + n ≤ shape.count
+      → lines_of (map plain cs) (map (joint_plane shape samples) (range_with_len slot n)) width row
+      ≡ map (part width row) (range_with_len slot n)
+  unfolding lines_of
+  lines-plain width row slot n [] count strides wide lt inside = rw count refl
+  lines-plain width row slot n (c ∷ more) count strides wide lt inside =
+      let here = line-plain width row slot c wide lt (omega arith) strides.0 in
+      let left : slot + 1 + length more ≤ shape.count = omega arith in
+      let rest = lines-plain width row (slot + 1) (length more) more refl strides.1 wide lt left in
+      rw count (cc)
 
--- so the picture is made line by line of the strips
-picture-joint : (convert : ColorConvert) (shape : JointShape) (width : ℕ) (samples : List ℕ) (height : ℕ)
-    (cs : List Component) → shape.count ≡ length cs → AllByRecursion (λ c. c.blocks_wide * c.scale ≡ shape.stride) cs
-    → width ≤ shape.stride → height ≤ shape.rows * shape.lines → length samples ≡ shape.rows * row_size shape
-    → picture_bytes convert (map plain cs) (joint_planes shape samples) width height
-    ≡ joint_bytes convert shape width samples height
-unfolding picture_bytes picture_line joint_bytes joint_planes strip_lines
-picture-joint convert shape width samples height cs count strides wide high full =
-    same-lines _ _ height (λ row h. ap (line_bytes convert width) (
-    ap (λ n. lines_of (map plain cs) (map (joint_plane shape samples) (range_with_len 0 n)) width row) count
-    ∙ lines-plain shape samples width row wide (omega arith) full cs 0 (omega arith) strides
-    ∙ ap (λ n. map (λ k. take width (drop (k * strip_size shape + row % shape.lines * shape.stride)
-    (strips_at shape samples (row / shape.lines)))) (range_with_len 0 n)) (sym count)))
+  -- so the picture is made line by line of the strips
+  picture-joint : (convert : ColorConvert) (width height : ℕ) (cs : List Component)
+      → shape.count ≡ length cs → AllByRecursion (λ c. c.blocks_wide * c.scale ≡ shape.stride) cs
+      → width ≤ shape.stride → height ≤ shape.rows * shape.lines
+      → picture_bytes convert (map plain cs) (joint_planes shape samples) width height
+      ≡ joint_bytes convert shape width samples height
+  unfolding picture_bytes picture_line joint_bytes joint_planes strip_lines
+  picture-joint convert width height cs count strides wide high =
+      lines-after _ _ 0 height height (omega arith) (λ row h.
+      let from : 0 + row ≡ row = omega arith in
+      rw from (ap (line_bytes convert width) (lines-plain width row 0 shape.count cs count strides
+      wide (omega arith) (omega arith))))
 
--- what `image_of` gives for components alike, by the bytes that are made of their strips
-pub image-joint : (components : List Component) (shape : JointShape) (width height : ℕ) (samples : List ℕ)
-    (transform : ColorTransform) (convert : ColorConvert) (w h : ℕ) (bytes : List ℕ)
-    → AllHaveSampling components → IsShapeOf components width height shape
-    → length samples ≡ shape.rows * row_size shape → conversion_of (length components) transform ≡ Ok convert
-    → w ≡ width → h ≡ height → bytes ≡ joint_bytes convert shape w samples h
-    → image_of components (joint_planes shape samples) width height transform ≡ Ok bytes
-image-joint components shape width height samples transform convert w h bytes factors is full conversion e f made =
-    image-is components (joint_planes shape samples) width height transform convert (map plain components) bytes
-    conversion (sources-alike components width height shape.stride (omega (arith, is.count, is.some)) factors is.alike)
-    (made ∙ (λ i. joint_bytes convert shape (e i) samples (f i)) ∙ sym (picture-joint convert shape width samples height
-    components is.count is.alike.strides is.wide is.high full))
+  -- what `image_of` gives for components alike, by the bytes that are made of their strips
+  pub image-joint : (components : List Component) (width height : ℕ) (transform : ColorTransform)
+      (convert : ColorConvert) (bytes : List ℕ) → AllHaveSampling components
+      → IsShapeOf components width height shape
+      → conversion_of (length components) transform ≡ Ok convert
+      → bytes ≡ joint_bytes convert shape width samples height
+      → image_of components (joint_planes shape samples) width height transform ≡ Ok bytes
+  image-joint components width height transform convert bytes factors is fits made =
+      let some : 0 < length components = omega (arith, is.count, is.some) in
+      let sources = sources-alike components width height shape.stride some factors is.alike in
+      image-is components (joint_planes shape samples) width height transform convert
+      (map plain components) bytes fits sources
+      (made ∙ sym (picture-joint convert width height components is.count is.alike.strides is.wide
+      is.high))

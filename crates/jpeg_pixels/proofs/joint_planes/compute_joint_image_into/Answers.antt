@@ -1,4 +1,4 @@
-use Rattle.std.proofs.Common.{map, ap, ◌∙◌, rules}
+use Rattle.std.proofs.Common.{ap, ◌∙◌, rules}
 use Rattle.std.proofs.lemmas.List.{length-map}
 use Rattle.std.proofs.lemmas.Result.{err_from_is_err_and}
 use Rattle.jpeg_segments.specs.FrameView.{component_in}
@@ -8,7 +8,8 @@ use Rattle.jpeg_pixels.proofs.WholePictures.{conversion-fits, image-no_conversio
 use Rattle.jpeg_pixels.proofs.joint_planes.compute_joint_image_into.Goals as goal
 
 pub returns-in_err-color_convert-clause-picture : goal.returns-in_err-color_convert-clause-picture
-returns-in_err-color_convert-clause-picture c = search (rules, err_from_is_err_and, image-no_conversion, length-map)
+returns-in_err-color_convert-clause-picture c =
+    search (rules, err_from_is_err_and, image-no_conversion, length-map)
 
 pub write-requires-clause-fits : goal.write-requires-clause-fits
 write-requires-clause-fits c = search (rules, conversion-fits, length-map)
@@ -16,9 +17,7 @@ write-requires-clause-fits c = search (rules, conversion-fits, length-map)
 pub returns-clause-picture : goal.returns-clause-picture
 returns-clause-picture c =
     let components = c.args.components.now in
-    let transform = c.args.color_transform in
-    image-joint (map component_in components) c.args.planes.now.shape c.args.output_size.width
-    c.args.output_size.height c.args.planes.now.samples.items transform c.in_ok-color_convert.color_convert
-    c.from.result c.from-height.result c.write.new.picture c.requires.factors c.requires.shape c.requires.full
-    (ap (λ n. conversion_of n transform) (length-map components component_in) ∙ c.in_ok-color_convert.ensures.answers)
-    c.from.ensures c.from-height.ensures (cc)
+    let fits = ap (λ n. conversion_of n c.args.color_transform) (length-map components component_in)
+    ∙ c.in_ok-color_convert.ensures.answers in
+    image-joint c.args.planes.now.shape c.args.planes.now.samples.items c.requires.full _ _ _ _ _ _
+    c.requires.factors c.requires.shape fits (cc)
