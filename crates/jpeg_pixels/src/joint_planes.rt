@@ -121,8 +121,9 @@ impl JointPlanes {
         Ok(JointPlanes { shape, samples })
     }
 
-    // The plane of the component in a slot.
-    fn plane(&self, alloc: Global, slot: usize) -> std::result::Result<Vec<u8>, AllocError>
+    /// Returns the plane of the component in a slot, in memory of its own, where all rows have come.
+    /// The only error is that no memory is left.
+    pub fn plane(&self, alloc: Global, slot: usize) -> std::result::Result<Vec<u8>, AllocError>
         requires small { IsSmall self.now.shape }
         requires slot { slot < self.now.shape.count }
         requires full { length self.now.samples.items
@@ -137,22 +138,6 @@ impl JointPlanes {
             plane.extend_from_slice(&self.samples[start..start + size])?;
         }
         Ok(plane)
-    }
-
-    /// Returns each plane in memory of its own, where all rows have come. The only error is that no
-    /// memory is left.
-    pub fn split(&self, alloc: Global) -> std::result::Result<Vec<Vec<u8>>, AllocError>
-        requires small { IsSmall self.now.shape }
-        requires full { length self.now.samples.items
-            ≡ self.now.shape.rows * row_size self.now.shape }
-        ensures { IfOk result (λ v. map (λ plane. plane.items) v.items
-            ≡ joint_planes self.now.shape self.now.samples.items) }
-    {
-        let mut planes = Vec::with_capacity(alloc, self.shape.count)?;
-        for slot in 0..self.shape.count {
-            planes.push(self.plane(alloc, slot)?)?;
-        }
-        Ok(planes)
     }
 }
 

@@ -9,7 +9,8 @@ use Rattle.jpeg_bits.proofs.Loops.{Names-through}
 use Rattle.jpeg_streams.specs.FoundPictures.{plane_at_end, planes_from}
 use Rattle.jpeg_segments.specs.FrameView.{component_in, frame_in}
 use Rattle.jpeg_decoder.specs.Scanning.{arrays_in, blocks_in}
-use Rattle.jpeg_decoder.specs.Seen.{found_in, planes_in}
+use Rattle.jpeg_decoder.specs.Seen.{found_in}
+use Rattle.jpeg_decoder.specs.PlanesView.{planes_in}
 use Rattle.jpeg_decoder.specs.Steps.{with_decoded}
 use Rattle.jpeg_decoder.proofs.EndedPlanes.{mapped-or, none-left, planes-kept, reached-four}
 use Rattle.jpeg_decoder.proofs.EndedPlanes.{reached-held, reached-scale, reached-plane, reached-blocks, reached-end}

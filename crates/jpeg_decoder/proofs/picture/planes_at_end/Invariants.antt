@@ -2,7 +2,8 @@ use Rattle.std.proofs.Common.{◌≡◌, drop, length, map}
 use Rattle.jpeg_bits.specs.Reading.{◌>>=◌}
 use Rattle.jpeg_segments.specs.FrameView.{frame_in}
 use Rattle.jpeg_decoder.specs.Scanning.{arrays_in}
-use Rattle.jpeg_decoder.specs.Seen.{found_in, planes_in}
+use Rattle.jpeg_decoder.specs.Seen.{found_in}
+use Rattle.jpeg_decoder.specs.PlanesView.{planes_in}
 use Rattle.jpeg_decoder.specs.Steps.{with_decoded}
 use Rattle.jpeg_streams.specs.FoundPictures.{planes_from}
 use Rattle.jpeg_decoder.proofs.EndedPlanes.{AreWholeWith}
