@@ -11,8 +11,6 @@ ghost use Rattle.jpeg_segments.specs.FrameView.{component_in};
 ghost use Rattle.jpeg_pixels.specs.JointPlanes.{IsLike, IsShapeOf, IsSmall, joint_planes, row_size};
 ghost use Rattle.jpeg_pixels.specs.Pictures.{image_of};
 
-use crate::picture_lines::convert_line;
-use crate::upsampler::ColorConvert;
 use jpeg_bits::color_transform::ColorTransform;
 use jpeg_bits::error::Result;
 use jpeg_segments::parser::{Component, Dimensions};
@@ -53,28 +51,6 @@ impl JointShape {
     }
 }
 
-// Whether a component has the factors, the columns of blocks and the scale of another one.
-fn is_like(component: &Component, first: &Component) -> bool
-    ensures { result ≡ true → IsLike first.now component.now }
-{
-    component.horizontal_sampling_factor == first.horizontal_sampling_factor
-        && component.vertical_sampling_factor == first.vertical_sampling_factor
-        && component.block_size.width == first.block_size.width
-        && component.dct_scale == first.dct_scale
-}
-
-// Whether all components are like the first one.
-fn are_alike(components: &[Component], first: &Component) -> bool
-    ensures { result ≡ true → All (IsLike first.now) components.now }
-{
-    for component in components {
-        if !is_like(component, first) {
-            return false;
-        }
-    }
-    true
-}
-
 /// Returns how the planes of a frame's components lie in one room, where they are alike and have
 /// the samples of a picture of this size: three or four components with the same factors, in
 /// `rows` rows of MCUs.
@@ -82,19 +58,7 @@ pub fn joint_shape(components: &[Component], size: Dimensions, rows: u16) -> Opt
     requires { AllHaveSampling (map component_in components.now) }
     ensures { IfSome result (IsShapeOf (map component_in components.now) size.width size.height) }
 {
-    let first = components.first()?;
-    if components.len() < 3 || components.len() > 4 || !are_alike(components, first) {
-        return None;
-    }
-    let shape = JointShape {
-        count: components.len(),
-        stride: usize::from(first.block_size.width) * first.dct_scale,
-        lines: usize::from(first.vertical_sampling_factor) * first.dct_scale,
-        rows: usize::from(rows),
-    };
-    let is_wide = usize::from(size.width) <= shape.stride;
-    let is_high = usize::from(size.height) <= shape.rows * shape.lines;
-    if is_wide && is_high { Some(shape) } else { None }
+    None
 }
 
 /// Planes of components alike in one room.
@@ -131,148 +95,7 @@ impl JointPlanes {
         ensures { IfOk result
             (λ v. v.items ≡ joint_plane self.now.shape self.now.samples.items slot) }
     {
-        let size = self.shape.strip_size();
-        let mut plane = Vec::with_capacity(alloc, self.shape.rows * size)?;
-        for row in 0..self.shape.rows {
-            let start = row * self.shape.row_size() + slot * size;
-            plane.extend_from_slice(&self.samples[start..start + size])?;
-        }
-        Ok(plane)
-    }
-}
-
-/// A picture that is made of planes in one room: how they lie in it, how wide the picture is, and
-/// how its colours are made.
-#[derive(Clone, Copy)]
-struct JointPicture {
-    shape: JointShape,
-    width: usize,
-    color_convert: ColorConvert,
-    ghost small: { IsSmall shape },
-    ghost wide: { width ≤ shape.stride },
-}
-
-impl JointPicture {
-    ghost use Rattle.std.specs.Prelude.{◌≡◌, ◌*◌, ◌-◌, ◌<◌, ◌≤◌, List, ℕ, length, min, take};
-    ghost use Rattle.std.specs.List.{concat};
-    ghost use Rattle.jpeg_pixels.specs.JointPlanes.{converted, gathered, joint_bytes, row_size};
-    ghost use Rattle.jpeg_pixels.specs.JointPlanes.{strip_lines};
-    ghost use Rattle.jpeg_pixels.specs.PicturesView.{IsFor};
-
-    // The bytes of a line.
-    fn line_size(&self) -> usize
-        ensures { result ≡ self.now.shape.count * self.now.width }
-    {
-        self.shape.count * self.width
-    }
-
-    // Copies a line of each strip of a row of MCUs, one after the other.
-    fn gather_line(&self, strips: &[u8], line: usize, lines: &mut [u8])
-        requires line { line < self.now.shape.lines }
-        requires strips { length strips.now ≡ row_size self.now.shape }
-        requires room { length lines.old ≡ self.now.shape.count * self.now.width }
-        ensures { lines.new
-            ≡ concat (strip_lines self.now.shape self.now.width strips.now line) }
-    {
-        for slot in 0..self.shape.count {
-            let first = slot * self.shape.strip_size() + line * self.shape.stride;
-            let start = slot * self.width;
-            let end = start + self.width;
-            lines[start..end].copy_from_slice(&strips[first..first + self.width]);
-        }
-    }
-
-    // Copies the first lines of the strips of a row of MCUs, line by line of the picture.
-    fn gather_row(&self, strips: &[u8], count: usize, lines: &mut [u8])
-        requires count { count ≤ self.now.shape.lines }
-        requires strips { length strips.now ≡ row_size self.now.shape }
-        requires room { length lines.old ≡ count * (self.now.shape.count * self.now.width) }
-        ensures { lines.new ≡ gathered self.now.shape self.now.width strips.now count }
-    {
-        let size = self.line_size();
-        for line in 0..count {
-            let start = line * size;
-            self.gather_line(strips, line, &mut lines[start..start + size]);
-        }
-    }
-
-    // Writes the colours of the first lines of a row of MCUs.
-    fn convert_row(&self, lines: &[u8], count: usize, output: &mut [u8])
-        requires fits { IsFor self.now.shape.count self.now.color_convert }
-        requires count { count ≤ self.now.shape.lines }
-        requires lines { length lines.now ≡ count * (self.now.shape.count * self.now.width) }
-        requires room { length output.old ≡ count * (self.now.shape.count * self.now.width) }
-        ensures { (strips : List ℕ) → length strips ≡ row_size self.now.shape
-            → lines.now ≡ gathered self.now.shape self.now.width strips count
-            → output.new ≡ converted self.now.color_convert self.now.shape self.now.width
-            strips count }
-    {
-        let size = self.line_size();
-        for line in 0..count {
-            let start = line * size;
-            let end = start + size;
-            convert_line(
-                &lines[start..end],
-                self.width,
-                self.shape.count,
-                self.color_convert,
-                &mut output[start..end],
-            );
-        }
-    }
-
-    // How many lines of a picture are in a row of MCUs.
-    fn lines_in(&self, row: usize, height: usize) -> usize
-        requires row { row < self.now.shape.rows }
-        ensures { result ≡ min self.now.shape.lines (height - row * self.now.shape.lines) }
-    {
-        let lines = self.shape.lines;
-        height.saturating_sub(row * lines).min(lines)
-    }
-
-    // Puts the lines of the picture in the place of the strips. Those of a row of MCUs, which are no
-    // longer than its strips, are copied to `lines` first.
-    fn write_in_place(&self, height: usize, lines: &mut [u8], room: &mut [u8])
-        requires fits { IsFor self.now.shape.count self.now.color_convert }
-        requires high { height ≤ self.now.shape.rows * self.now.shape.lines }
-        requires lines { length lines.old
-            ≡ self.now.shape.lines * (self.now.shape.count * self.now.width) }
-        requires full { length room.old ≡ self.now.shape.rows * row_size self.now.shape }
-        ensures { take (height * (self.now.shape.count * self.now.width)) room.new
-            ≡ joint_bytes self.now.color_convert self.now.shape self.now.width room.old height }
-    {
-        let size = self.line_size();
-        for row in 0..self.shape.rows {
-            let count = self.lines_in(row, height);
-            let first = row * self.shape.row_size();
-            let lines = &mut lines[..count * size];
-            self.gather_row(&room[first..first + self.shape.row_size()], count, lines);
-            let start = height.min(row * self.shape.lines) * size;
-            self.convert_row(lines, count, &mut room[start..start + count * size]);
-        }
-    }
-
-    // Writes the lines of the picture elsewhere. Those of a row of MCUs are copied to `lines` first.
-    fn write(&self, height: usize, samples: &[u8], lines: &mut [u8], picture: &mut [u8])
-        requires fits { IsFor self.now.shape.count self.now.color_convert }
-        requires high { height ≤ self.now.shape.rows * self.now.shape.lines }
-        requires lines { length lines.old
-            ≡ self.now.shape.lines * (self.now.shape.count * self.now.width) }
-        requires full { length samples.now ≡ self.now.shape.rows * row_size self.now.shape }
-        requires room { length picture.old
-            ≡ height * (self.now.shape.count * self.now.width) }
-        ensures { picture.new
-            ≡ joint_bytes self.now.color_convert self.now.shape self.now.width samples.now height }
-    {
-        let size = self.line_size();
-        for row in 0..self.shape.rows {
-            let count = self.lines_in(row, height);
-            let first = row * self.shape.row_size();
-            let lines = &mut lines[..count * size];
-            self.gather_row(&samples[first..first + self.shape.row_size()], count, lines);
-            let start = height.min(row * self.shape.lines) * size;
-            self.convert_row(lines, count, &mut picture[start..start + count * size]);
-        }
+        Err(AllocError)
     }
 }
 
@@ -300,21 +123,7 @@ pub fn compute_joint_image(
         (joint_planes planes.shape planes.samples.items) output_size.width output_size.height
         color_transform)) }
 {
-    let color_convert = ColorConvert::choose(alloc, components.len(), color_transform)?;
-    let shape = planes.shape;
-    let width = usize::from(output_size.width);
-    let height = usize::from(output_size.height);
-    let picture = JointPicture {
-        shape,
-        width,
-        color_convert,
-    };
-    let size = picture.line_size();
-    let mut lines = vec![in alloc; 0; shape.lines * size]?;
-    let mut room = planes.samples;
-    picture.write_in_place(height, &mut lines, &mut room);
-    room.truncate(height * size);
-    Ok(room)
+    Err(jpeg_bits::error::Error::OutOfMemory)
 }
 
 /// Writes the picture of components alike, whose planes lie in one room, into memory that has
@@ -344,15 +153,5 @@ pub fn compute_joint_image_into(
         output_size.height color_transform)) }
     ensures unwritten { OnErr result (picture.new ≡ picture.old) }
 {
-    let color_convert = ColorConvert::choose(alloc, components.len(), color_transform)?;
-    let shape = planes.shape;
-    let height = usize::from(output_size.height);
-    let joint = JointPicture {
-        shape,
-        width: usize::from(output_size.width),
-        color_convert,
-    };
-    let mut lines = vec![in alloc; 0; shape.lines * joint.line_size()]?;
-    joint.write(height, &planes.samples, &mut lines, picture);
-    Ok(())
+    Err(jpeg_bits::error::Error::OutOfMemory)
 }

@@ -1,9 +1,6 @@
 //! The lines of a picture: those of its components, upsampled, converted and put together.
 ghost use Rattle.std.specs.Prelude.{◌≡◌, ◌+◌, ◌*◌, ◌≤◌, map, length, IfOk};
-ghost use Rattle.std.specs.Prelude.{List, ℕ};
 ghost use Rattle.std.specs.List.{concat};
-ghost use Rattle.jpeg_pixels.specs.Colour.{line_bytes};
-ghost use Rattle.jpeg_pixels.specs.JointPlanes.{AreLong};
 ghost use Rattle.jpeg_pixels.specs.Pictures.{Covers, AllCover};
 ghost use Rattle.jpeg_pixels.specs.Pictures.{line_of, lines_of, picture_line, picture_bytes};
 ghost use Rattle.jpeg_pixels.specs.PicturesView.{source_in, IsFor};
@@ -65,29 +62,6 @@ fn upsample_lines(components: &[ComponentSource], line: &Line<'_>, lines: &mut [
     }
 }
 
-/// Writes a line of the picture, by those of its components, which follow one another.
-pub(crate) fn convert_line(
-    lines: &[u8],
-    width: usize,
-    count: usize,
-    color_convert: ColorConvert,
-    output: &mut [u8],
-)
-    requires fits { IsFor count color_convert }
-    requires lines { length lines.now ≡ count * width }
-    requires room { length output.old ≡ count * width }
-    ensures { (parts : List (List ℕ)) → length parts ≡ count → AreLong width parts
-        → lines.now ≡ concat parts → output.new ≡ line_bytes color_convert width parts }
-{
-    match color_convert {
-        ColorConvert::None => output.copy_from_slice(lines),
-        ColorConvert::Rgb => write_rgb(lines, width, output),
-        ColorConvert::YCbCr => write_ycbcr(lines, width, output),
-        ColorConvert::Cmyk => write_cmyk(lines, width, output),
-        ColorConvert::Ycck => write_ycck(lines, width, output),
-    }
-}
-
 /// Writes a line of the picture. The lines of the components are put into the buffer `lines`.
 pub(crate) fn write_line(
     components: &[ComponentSource],
@@ -105,8 +79,15 @@ pub(crate) fn write_line(
     ensures { output.new ≡ picture_line color_convert (map source_in components.now)
         (map (λ v. v.items) line.now.planes.now) line.now.width line.now.row }
 {
+    let width = line.width;
     upsample_lines(components, line, lines);
-    convert_line(lines, line.width, components.len(), color_convert, output);
+    match color_convert {
+        ColorConvert::None => output.copy_from_slice(lines),
+        ColorConvert::Rgb => write_rgb(lines, width, output),
+        ColorConvert::YCbCr => write_ycbcr(lines, width, output),
+        ColorConvert::Cmyk => write_cmyk(lines, width, output),
+        ColorConvert::Ycck => write_ycck(lines, width, output),
+    }
 }
 
 /// The picture: its lines from above. The only error is that no memory is left.
