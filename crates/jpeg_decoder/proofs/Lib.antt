@@ -33,6 +33,7 @@ pub mod ScanData
 pub mod SequentialScans
 pub mod EndedPlanes
 pub mod PicturesOfPlanes
+pub mod JointDecided
 mod LosslessReads
 mod WrittenSamples
 mod WrittenLosslessStreams

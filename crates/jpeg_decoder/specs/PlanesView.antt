@@ -16,8 +16,10 @@ pub record IsFullJoint (joint : JointPlanes) : Type 0 where
   pub small : IsSmall joint.shape
   pub full : length joint.samples.items ≡ joint.shape.rows * row_size joint.shape
 
-abbrev pub HasFullJoint : Inside → Type 0
-HasFullJoint p = IfSome p.joint IsFullJoint
+-- What always holds of planes that are decided.
+pub record HasFullJoint (p : Inside) : Type 0 where
+  pub four : length p.own ≡ 4
+  pub joint : IfSome p.joint IsFullJoint
 
 -- the planes of their own, or else those in one room
 unfoldable pub or_joint : List (Option (List ℕ)) → List (List ℕ) → List (Option (List ℕ))

@@ -1,5 +1,7 @@
 //! The planes that are decided, by the components' indices in the frame (T.81, A.1.1).
-ghost use Rattle.std.specs.Prelude.{◌≡◌, replicate, None};
+ghost use Rattle.std.specs.Prelude.{◌≡◌, IfOk, IfSome, map, option_map, replicate, slice_index_or};
+ghost use Rattle.std.specs.Prelude.{None, Some, true};
+ghost use Rattle.jpeg_decoder.specs.PlanesView.{IsFullJoint, joint_in, planes_in};
 
 use jpeg_pixels::joint_planes::{JointPlanes, JointShape};
 use std::alloc::{AllocError, Global};
@@ -32,8 +34,25 @@ fn are_none(planes: &[Option<Vec<u8>>; 4]) -> bool
     planes.iter().all(|plane| plane.is_none())
 }
 
+/// Copies the plane of a component out of a room with others, if it is there. The only error is that
+/// no memory is left.
+fn copy_plane(
+    alloc: Global,
+    joint: &Option<JointPlanes>,
+    place: usize,
+) -> std::result::Result<Option<Vec<u8>>, AllocError>
+    requires { IfSome joint.now IsFullJoint }
+    ensures { IfOk result (λ plane. option_map (λ v. v.items) plane
+        ≡ slice_index_or (map Some (joint_in joint.now)) place None) }
+{
+    match joint {
+        Some(joint) if place < joint.shape.count => Ok(Some(joint.plane(alloc, place)?)),
+        _ => Ok(None),
+    }
+}
+
 impl Planes {
-    ghost use Rattle.std.specs.Prelude.{◌≡◌, ◌<◌, ◌+◌, IfSome, OnOk, None, Some, drop, is_some, length};
+    ghost use Rattle.std.specs.Prelude.{◌≡◌, ◌<◌, ◌+◌, IfOk, IfSome, None, Some, drop, is_some, length};
     ghost use Rattle.std.specs.Prelude.{option_map, replicate, slice_index_or, slice_set, true};
     ghost use Rattle.jpeg_pixels.specs.JointPlanes.{joint_planes};
     ghost use Rattle.jpeg_decoder.specs.PlanesView.{IsFullJoint, or_joint};
@@ -107,16 +126,13 @@ impl Planes {
         place: usize,
     ) -> std::result::Result<Option<Vec<u8>>, AllocError>
         requires { place < 4 }
-        ensures taken { OnOk result (λ plane. option_map (λ v. v.items) plane
+        ensures taken { IfOk result (λ plane. option_map (λ v. v.items) plane
             ≡ slice_index_or self.old place None) }
         ensures left { drop (place + 1) self.new ≡ drop (place + 1) self.old }
     {
         if let Some(plane) = self.own[place].take() {
             return Ok(Some(plane));
         }
-        match &self.joint {
-            Some(joint) if place < joint.shape.count => Ok(Some(joint.plane(alloc, place)?)),
-            _ => Ok(None),
-        }
+        copy_plane(alloc, &self.joint, place)
     }
 }
