@@ -34,6 +34,7 @@ pub mod SequentialScans
 pub mod EndedPlanes
 pub mod PicturesOfPlanes
 pub mod JointDecided
+pub mod JointEnds
 mod LosslessReads
 mod WrittenSamples
 mod WrittenLosslessStreams

@@ -12,7 +12,7 @@ use Rattle.jpeg_decoder.specs.Scanning.{arrays_in, blocks_in}
 use Rattle.jpeg_decoder.specs.Seen.{found_in}
 use Rattle.jpeg_decoder.specs.PlanesView.{planes_in}
 use Rattle.jpeg_decoder.specs.Steps.{with_decoded}
-use Rattle.jpeg_decoder.proofs.EndedPlanes.{mapped-or, none-left, planes-kept, reached-four}
+use Rattle.jpeg_decoder.proofs.EndedPlanes.{mapped-or, none-left, reached-four}
 use Rattle.jpeg_decoder.proofs.EndedPlanes.{reached-held, reached-scale, reached-plane, reached-blocks, reached-end}
 use Rattle.jpeg_decoder.proofs.EndedPlanes.{no-planes, planes-after, whole-there, whole-all}
 use Rattle.jpeg_lossless.proofs.RowLoops.{mapped-within}
@@ -20,14 +20,8 @@ use Rattle.jpeg_decoder.proofs.ReadLists.{no-more, one-more, one-refused}
 use Rattle.jpeg_decoder.proofs.picture.planes_at_end.Goals.{After-index}
 use Rattle.jpeg_decoder.proofs.picture.planes_at_end.Goals as goal
 
-pub listed : goal.listed
-listed c =
-    let within = mapped-within component_in c.args.frame.now.components.items c.loop-place.place (omega arith) in
-    let four = reached-four _ _ _ c.requires.sound c.requires.frame within in
-    omega (arith, four)
-
-pub take-plane-requires : goal.take-plane-requires
-take-plane-requires c =
+pub take-requires : goal.take-requires
+take-requires c =
     let within = mapped-within component_in c.args.frame.now.components.items c.loop-place.place (omega arith) in
     reached-four _ _ _ c.requires.sound c.requires.frame within
 
@@ -104,7 +98,7 @@ loop-place-preserved c =
     let joined : map (λ v. v.items) c.push.new.self.items ≡ front ++ plane.items ∷ [] =
     ap (map (λ v. v.items)) pushed ∙ map-append (λ v. v.items) c.loop-place.planes.items (plane ∷ []) in
     record {
-      decided = grind (arith, common_steps, planes-kept, drop_more_same);
+      decided = grind (arith, common_steps, drop_more_same);
       held = c.take_held-held.ensures.left ∙ drop_more_same held (arrays_in c.args.decoded.now.held.items) place
           c.loop-place.invariant.held;
       given = one-more (λ i. planes_from found frame i (drop i frame.components)) place
