@@ -5,6 +5,7 @@ use Rattle.std.proofs.Common.{ap, arith, get_or, length, map, refl, replicate, s
 use Rattle.std.proofs.lemmas.List.{get_or-map, get_or-replicate}
 use Rattle.jpeg_pixels.specs.JointPlanes.{IsShapeOf, joint_planes}
 use Rattle.jpeg_pixels.specs.Pictures.{AreWhole}
+use Rattle.jpeg_pixels.specs.declared.joint_planes.JointPlanes.{JointPlanes}
 use Rattle.jpeg_pixels.specs.declared.joint_planes.JointShape.{JointShape}
 use Rattle.jpeg_segments.specs.Frame.{Component, Frame}
 use Rattle.jpeg_streams.proofs.ReadTurns.{then-ok}
@@ -64,20 +65,27 @@ joint-there joint few k index h i =
     let other = get_or-map Some joint k [] None h in
     grind (arith, common_steps)
 
-module _ (found : Found) (frame : Frame) (joint : List (List ℕ)) (sound : IsSound found)
-    (is : found.frame ≡ Some frame) (planes : found.planes ≡ or_joint (replicate 4 None) joint)
-    (count : length joint ≡ length frame.components) where
-  there : AreThere 0 found.planes joint
+module _ (found : Found) (frame : Frame) (width height : ℕ) (joint : JointPlanes) (sound : IsSound found)
+    (is : found.frame ≡ Some frame) (shape : IsShapeOf frame.components width height joint.shape)
+    (decided : found.planes ≡ or_joint (replicate 4 None) (joint_planes joint.shape joint.samples.items)) where
+  abbrev planes : List (List ℕ)
+  planes = joint_planes joint.shape joint.samples.items
+
+  -- They are as many as the components.
+  pub joint-length : length planes ≡ length frame.components
+  joint-length = joint-count joint.shape joint.samples.items ∙ shape.count
+
+  there : AreThere 0 found.planes planes
   there =
       let few = count-few (length frame.components) (decoded-count frame (sound.frames frame is)) in
-      rw planes (joint-there joint (omega (arith, few.1, count)))
+      rw decided (joint-there planes (omega (arith, few.1, joint-length)))
 
   -- The picture is that of the planes in the room.
   pub joint-meant : (settings : Settings)
-      → blocks_picture settings found frame ≡ picture_by settings found.metadata frame frame.components joint
+      → blocks_picture settings found frame ≡ picture_by settings found.metadata frame frame.components planes
   unfolding blocks_picture
-  joint-meant settings = rw (all-there found frame 0 frame.components joint count there) refl
+  joint-meant settings = rw (all-there found frame 0 frame.components planes joint-length there) refl
 
   -- They are whole.
-  pub joint-whole : AreWhole frame.components joint
-  joint-whole = whole-there frame.components found.planes joint count there (sound.planes frame is)
+  pub joint-whole : AreWhole frame.components planes
+  joint-whole = whole-there frame.components found.planes planes joint-length there (sound.planes frame is)
