@@ -1,7 +1,8 @@
 -- Planes that are decided, of which those of components alike stand in one room.
 use Rattle.std.proofs.lemmas.Grind.{common_steps}
-use Rattle.std.proofs.Common.{◌≡◌, ◌<◌, ◌≤◌, ◌+◌, ℕ, zero, suc, List, [], ◌∷◌, Option, Some, None, arith}
-use Rattle.std.proofs.Common.{◌∙◌, ap, drop, get_or, length, map, refl, replicate, set, is_some, true}
+use Rattle.std.proofs.Common.{◌≡◌, ◌∙◌, ◌<◌, ◌≤◌, ℕ, zero, suc, List, [], ◌∷◌, Option, Some, None}
+use Rattle.std.proofs.Common.{ap, arith, drop, get_or, is_some, length, map, refl, replicate, set}
+use Rattle.std.proofs.Common.{true}
 use Rattle.std.proofs.lemmas.List.{drop-set-lt, get_or-map, get_or_past, length-map}
 use Rattle.std.proofs.lemmas.List.FromFn.{get_or-map-range_with_len, length-map-range_with_len}
 use Rattle.std.specs.Option.{option_or}
@@ -16,13 +17,15 @@ or-nothing [] = refl
 or-nothing (Some p ∷ own) = refl
 or-nothing (None ∷ own) = refl
 
+-- A value or nothing is that value.
 or-none : {A : Type 0} (o : Option A) → o ≡ option_or o None
 or-none (Some x) = refl
 or-none None = refl
 
 -- A plane of its own is the one that is decided, or else the one in the room.
 pub or-at : (own : List (Option (List ℕ))) (joint : List (List ℕ)) (k : ℕ) → k < length own
-    → get_or (or_joint own joint) k None ≡ option_or (get_or own k None) (get_or (map Some joint) k None)
+    → get_or (or_joint own joint) k None
+    ≡ option_or (get_or own k None) (get_or (map Some joint) k None)
 unfolding or_joint
 or-at own [] k h = rw or-nothing (or-none (get_or own k None))
 or-at [] (other ∷ joint) k h = absurd (omega arith)
@@ -45,7 +48,8 @@ or-set (None ∷ own) (other ∷ joint) (suc k) plane =
     ap (λ (l : List (Option (List ℕ))). Some other ∷ l) (or-set own joint k plane)
 
 -- What comes after a plane that is taken is as it was.
-pub or-after : (own : List (Option (List ℕ))) (joint : List (List ℕ)) (k n : ℕ) (o : Option (List ℕ)) → k < n
+pub or-after : (own : List (Option (List ℕ))) (joint : List (List ℕ)) (k n : ℕ)
+    (o : Option (List ℕ)) → k < n
     → drop n (or_joint (set own k o) joint) ≡ drop n (or_joint own joint)
 unfolding or_joint
 or-after own [] k n o h = simp or-nothing (drop-set-lt _ _ _ _ h)
@@ -59,8 +63,8 @@ or-after (Some p ∷ own) (other ∷ joint) (suc k) (suc n) o h = or-after own j
 or-after (None ∷ own) (other ∷ joint) (suc k) (suc n) o h = or-after own joint k n o (omega arith)
 
 -- Where none is decided there is none of its own.
-pub none-own : (own : List (Option (List ℕ))) (joint : List (List ℕ)) (n : ℕ) → or_joint own joint ≡ replicate n None
-    → own ≡ replicate n None
+pub none-own : (own : List (Option (List ℕ))) (joint : List (List ℕ)) (n : ℕ)
+    → or_joint own joint ≡ replicate n None → own ≡ replicate n None
 unfolding or_joint
 none-own own [] n e = rw (← or-nothing own) e
 none-own [] (other ∷ joint) n e = e
@@ -70,23 +74,30 @@ none-own (None ∷ own) (other ∷ joint) zero e = absurd (cc)
 none-own (None ∷ own) (other ∷ joint) (suc n) e = absurd (cc)
 
 -- The planes in one room are as many as its components.
-pub joint-count : (shape : JointShape) (samples : List ℕ) → length (joint_planes shape samples) ≡ shape.count
+pub joint-count : (shape : JointShape) (samples : List ℕ)
+    → length (joint_planes shape samples) ≡ shape.count
 unfolding joint_planes
 joint-count shape samples = length-map-range_with_len (joint_plane shape samples) 0 shape.count
 
 -- The plane of a component in a slot.
 pub room-at : (shape : JointShape) (samples : List ℕ) (slot : ℕ) → slot < shape.count
-    → get_or (map Some (joint_planes shape samples)) slot None ≡ Some (joint_plane shape samples slot)
+    → get_or (map Some (joint_planes shape samples)) slot None
+    ≡ Some (joint_plane shape samples slot)
 unfolding joint_planes
 room-at shape samples slot h =
-    get_or-map Some (joint_planes shape samples) slot [] None (omega (arith, joint-count shape samples, h))
-    ∙ ap Some (get_or-map-range_with_len (joint_plane shape samples) 0 shape.count slot slot [] h (omega arith))
+    let within : slot < length (joint_planes shape samples) =
+    omega (arith, joint-count shape samples, h) in
+    get_or-map Some (joint_planes shape samples) slot [] None within
+    ∙ ap Some (get_or-map-range_with_len (joint_plane shape samples) 0 shape.count slot slot [] h
+    (omega arith))
 
+-- Past those slots there is none.
 pub room-past : (shape : JointShape) (samples : List ℕ) (slot : ℕ) → shape.count ≤ slot
     → get_or (map Some (joint_planes shape samples)) slot None ≡ None
 room-past shape samples slot h =
-    get_or_past (map Some (joint_planes shape samples)) slot None
-    (omega (arith, joint-count shape samples, length-map (joint_planes shape samples) (λ (p : List ℕ). Some p), h))
+    let planes = joint_planes shape samples in
+    let count = length-map planes (λ (p : List ℕ). Some p) in
+    get_or_past (map Some planes) slot None (omega (arith, joint-count shape samples, count, h))
 
 -- A plane in the room is decided, whether there is one of its own or none.
 pub or-some : {A : Type 0} (o : Option A) (x : A) → true ≡ is_some (option_or o (Some x))

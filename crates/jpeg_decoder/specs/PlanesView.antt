@@ -1,7 +1,7 @@
--- What a caller sees of the planes that are decided, of which those of components alike stand in one
--- room.
-use Rattle.std.specs.Prelude.{◌≡◌, ℕ, ◌*◌, List, [], ◌∷◌, length, map, option_map, Option, Some, None}
-use Rattle.std.specs.Prelude.{IfSome}
+-- What a caller sees of the planes that are decided, of which those of components alike stand in
+-- one room.
+use Rattle.std.specs.Prelude.{◌≡◌, ℕ, ◌*◌, List, [], ◌∷◌, length, map, option_map, Option, Some}
+use Rattle.std.specs.Prelude.{IfSome, None}
 use Rattle.std.specs.declared.alloc.Global.{Global}
 use Rattle.std.specs.declared.vec.Vec.{Vec}
 use Rattle.jpeg_pixels.specs.JointPlanes.{IsSmall, joint_planes, row_size}

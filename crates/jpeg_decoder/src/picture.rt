@@ -34,12 +34,12 @@ use crate::color_choice::choose_color_transform;
 use crate::decoded::{Decoded, render};
 use crate::places::{Missing, needed, table_at};
 use crate::state::State;
+use jpeg_bits::color_transform::ColorTransform;
 use jpeg_bits::error::{Error, Result, format_error_of};
 use jpeg_bits::marker::Marker;
 use jpeg_bits::reads::read_u8;
 use jpeg_bits::source::Source;
 use jpeg_lossless::lossless::{compute_image_lossless, compute_image_lossless_into};
-use jpeg_bits::color_transform::ColorTransform;
 use jpeg_pixels::joint_planes::{
     JointPlanes, JointShape, compute_joint_image, compute_joint_image_into, joint_shape,
 };

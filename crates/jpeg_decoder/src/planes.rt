@@ -34,8 +34,8 @@ fn are_none(planes: &[Option<Vec<u8>>; 4]) -> bool
     planes.iter().all(|plane| plane.is_none())
 }
 
-/// Copies the plane of a component out of a room with others, if it is there. The only error is that
-/// no memory is left.
+/// Copies the plane of a component out of a room with others, if it is there. The only error is
+/// that no memory is left.
 fn copy_plane(
     alloc: Global,
     joint: &Option<JointPlanes>,
@@ -52,7 +52,7 @@ fn copy_plane(
 }
 
 impl Planes {
-    ghost use Rattle.std.specs.Prelude.{◌≡◌, ◌<◌, ◌+◌, IfOk, IfSome, None, Some, drop, is_some, length};
+    ghost use Rattle.std.specs.Prelude.{◌≡◌, ◌<◌, ◌+◌, IfOk, IfSome, None, Some, drop, is_some};
     ghost use Rattle.std.specs.Prelude.{option_map, replicate, slice_index_or, slice_set, true};
     ghost use Rattle.jpeg_pixels.specs.JointPlanes.{joint_planes};
     ghost use Rattle.jpeg_decoder.specs.PlanesView.{IsFullJoint, or_joint};
@@ -118,8 +118,8 @@ impl Planes {
         }
     }
 
-    /// Takes the plane of a component, if it is decided: out of a room with others it is copied. The
-    /// only error is that no memory is left.
+    /// Takes the plane of a component, if it is decided: out of a room with others it is copied.
+    /// The only error is that no memory is left.
     pub fn take(
         &mut self,
         alloc: Global,

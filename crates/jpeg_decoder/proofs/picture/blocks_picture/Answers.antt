@@ -10,14 +10,15 @@ use Rattle.jpeg_decoder.proofs.PicturesOfPlanes.{decoded-factors}
 use Rattle.jpeg_decoder.proofs.picture.blocks_picture.Goals as goal
 
 pub shape_of-requires : goal.shape_of-requires
-shape_of-requires c = decoded-factors (frame_in c.args.frame.now) (c.requires.sound.frames _ c.requires.frame)
+shape_of-requires c =
+    decoded-factors (frame_in c.args.frame.now) (c.requires.sound.frames _ c.requires.frame)
 
 pub returns-in-Some-clause-meant : goal.returns-in-Some-clause-meant
 returns-in-Some-clause-meant c =
     let found = with_decoded (found_in c.args.state.now) c.args.decoded.now in
     let shape = rw c.in-Some.ensures.taken.1 at c.shape_of.ensures in
-    rw (joint-meant found (frame_in c.args.frame.now) _ _ c.in-Some.planes c.requires.sound c.requires.frame shape
-    c.in-Some.ensures.taken.2 c.args.settings) c.joint_picture.ensures
+    rw (joint-meant found (frame_in c.args.frame.now) _ _ c.in-Some.planes c.requires.sound
+    c.requires.frame shape c.in-Some.ensures.taken.2 c.args.settings) c.joint_picture.ensures
 
 pub returns-in-Some-clause-size : goal.returns-in-Some-clause-size
 returns-in-Some-clause-size c dct =
@@ -30,7 +31,8 @@ returns-in-Some-clause-size c dct =
     (joint_planes joint.shape joint.samples.items) c.joint_picture.result
     (c.requires.sound.frames frame c.requires.frame)
     (joint-whole found frame _ _ joint c.requires.sound c.requires.frame shape planes)
-    (joint-length found frame _ _ joint c.requires.sound c.requires.frame shape planes) c.joint_picture.ensures dct
+    (joint-length found frame _ _ joint c.requires.sound c.requires.frame shape planes)
+    c.joint_picture.ensures dct
 
 pub returns-clause-size : goal.returns-clause-size
 returns-clause-size c dct =

@@ -14,6 +14,8 @@ pub returns : goal.returns
 returns c =
     let frame = frame_in c.args.frame.now in
     several-given (λ v. v.items) c.args.settings (metadata_in c.args.state.now.metadata) frame
-    (map component_in c.deref.result.now) (joint_planes c.args.planes.shape c.args.planes.samples.items) _ _
-    c.compute_joint_image.result c.requires.frame (not-one _ _ _ _ c.requires.shape)
-    (ap (map component_in) c.deref.ensures.value) refl c.transform_of-transform.ensures c.compute_joint_image.ensures
+    (map component_in c.deref.result.now)
+    (joint_planes c.args.planes.shape c.args.planes.samples.items) _ _ c.compute_joint_image.result
+    c.requires.frame (not-one _ _ _ _ c.requires.shape)
+    (ap (map component_in) c.deref.ensures.value) refl c.transform_of-transform.ensures
+    c.compute_joint_image.ensures

@@ -1,4 +1,3 @@
-use Rattle.std.proofs.Common.{refl}
 use Rattle.jpeg_decoder.proofs.JointDecided.{or-nothing}
 use Rattle.jpeg_decoder.proofs.planes.Planes.none.Goals as goal
 

@@ -1,5 +1,5 @@
 use Rattle.std.proofs.lemmas.Grind.{common_steps}
-use Rattle.std.proofs.Common.{◌≡◌, List, None, Some, arith, get_or, map}
+use Rattle.std.proofs.Common.{◌≡◌, None, Some, arith, get_or, map}
 use Rattle.std.proofs.lemmas.List.{length-map, get_or-map, map-set}
 use Rattle.jpeg_decoder.specs.PlanesView.{joint_in}
 use Rattle.jpeg_decoder.proofs.JointDecided.{or-after, or-at}
