@@ -15,7 +15,8 @@ use Rattle.jpeg_pixels.specs.Pictures.{picture_line, picture_bytes, image_of}
 use Rattle.jpeg_pixels.specs.PicturesView.{IsFor}
 use Rattle.jpeg_pixels.specs.Planes.{cropped}
 use Rattle.jpeg_streams.specs.Segments.{is_decoded_count}
-use Rattle.jpeg_pixels.proofs.JoinedLines.{AreLong, joined-length}
+use Rattle.jpeg_pixels.specs.JointPlanes.{AreLong}
+use Rattle.jpeg_pixels.proofs.JoinedLines.{joined-length}
 use Rattle.jpeg_pixels.proofs.LinesOfColour.{line-none}
 use Rattle.jpeg_pixels.proofs.ComponentLines.{lines_of-length, lines_of-long}
 use Rattle.jpeg_pixels.proofs.SourceLists.{sources-length}

@@ -33,6 +33,8 @@ pub mod ScanData
 pub mod SequentialScans
 pub mod EndedPlanes
 pub mod PicturesOfPlanes
+pub mod JointDecided
+pub mod JointEnds
 mod LosslessReads
 mod WrittenSamples
 mod WrittenLosslessStreams

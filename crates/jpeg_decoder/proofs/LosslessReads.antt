@@ -38,7 +38,7 @@ use Rattle.jpeg_streams.specs.ScanSegments.{after_samples, arrays_before, scan_s
 use Rattle.jpeg_streams.specs.Found.{Found}
 use Rattle.jpeg_streams.proofs.ReadTurns.{bind-ok, needed-some, ok-same, then-ok}
 use Rattle.jpeg_streams.proofs.LosslessSizes.{IsMade, across-some, all-at, all-covered, decoded-made, down-some}
-use Rattle.jpeg_decoder.specs.Seen.{planes_in}
+use Rattle.jpeg_decoder.specs.PlanesView.{planes_in}
 use Rattle.jpeg_decoder.proofs.PutLoops.{seen-at}
 use Rattle.jpeg_decoder.proofs.ScanData.{before-sequential}
 use Rattle.jpeg_decoder.proofs.ReadLists.{and_others, dropped}

@@ -92,7 +92,7 @@ picture-one settings m f cs c planes plane picture h e is made = grind (arith, c
 pub several-given : {R : Type 0} (view : R → List ℕ) (settings : Settings) (m : Metadata) (f : Frame)
     (cs : List Component) (planes given : List (List ℕ)) (t : ColorTransform) (r : Result R Error)
     → IsDecodedFrame f → length f.components ≢ 1 → cs ≡ f.components → given ≡ planes
-    → t ≡ transform_of settings.color_transform (identifiers_of cs) m.jfif m.adobe
+    → t ≡ transform_of settings.color_transform (identifiers_of f.components) m.jfif m.adobe
     → MatchResult r (λ v. image_of cs given f.output_width f.output_height t ≡ Ok (view v))
     (λ e. Names e (image_of cs given f.output_width f.output_height t))
     → MatchResult r (λ v. picture_by settings m f f.components planes ≡ Ok (view v))

@@ -15,7 +15,7 @@ use Rattle.jpeg_streams.specs.Found.{Found}
 use Rattle.jpeg_decoder.specs.Steps.{decided_planes, is_wanted, marks_after, with_decoded}
 use Rattle.jpeg_decoder.specs.declared.decoded.Decoded.{Decoded}
 use Rattle.jpeg_streams.specs.InTurn.{AreArrays}
-use Rattle.jpeg_decoder.specs.Seen.{planes_in}
+use Rattle.jpeg_decoder.specs.PlanesView.{planes_in}
 use Rattle.jpeg_bits.specs.BlockView.{to_block}
 use Rattle.std.specs.Prelude.{slice_set, slice_index_or}
 use Rattle.jpeg_decoder.proofs.DecidedPlanes.{its_plane_set}

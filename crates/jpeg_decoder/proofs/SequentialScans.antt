@@ -11,7 +11,7 @@ use Rattle.jpeg_segments.specs.Frame.{Frame}
 use Rattle.jpeg_streams.specs.Found.{Found}
 use Rattle.jpeg_streams.specs.ScanSegments.{Coding, is_progressive, vias_from}
 use Rattle.jpeg_decoder.specs.Scanning.{arrays_in, vias_in}
-use Rattle.jpeg_decoder.specs.Seen.{planes_in}
+use Rattle.jpeg_decoder.specs.PlanesView.{planes_in}
 use Rattle.jpeg_decoder.specs.Steps.{IsReadable, coding_in, scan_data, with_decoded, with_planes}
 use Rattle.jpeg_decoder.specs.Strips.{no_samples, planes_at, planes_by_rows}
 use Rattle.jpeg_decoder.specs.declared.decoded.Decoded.{Decoded}

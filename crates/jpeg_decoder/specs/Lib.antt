@@ -1,4 +1,5 @@
 -- what a caller sees of a decoder, and how many bytes a picture has
+pub mod PlanesView
 pub mod Seen
 pub mod Bytes
 -- what a call has read that was refused for want of room
@@ -8,6 +9,7 @@ pub mod Scanning
 -- the code's own words: the clauses of `Decoder`, `run` and `report` reach none of these
 pub mod Walk
 pub mod Strips
+pub mod GrowingView
 pub mod Steps
 pub mod LosslessParts
 -- what Exif data say

@@ -5,6 +5,7 @@ use Rattle.jpeg_decoder.specs.declared.state.State.{State}
 use Rattle.jpeg_decoder.specs.declared.decoder.Progress.{Progress}
 use Rattle.jpeg_decoder.specs.declared.decoder.Progress.TheVariants as progress
 use Rattle.jpeg_decoder.specs.declared.metadata.Metadata as declared
+use Rattle.jpeg_decoder.specs.PlanesView.{planes_in}
 use Rattle.jpeg_decoder.specs.Scanning.{arrays_in}
 use Rattle.jpeg_streams.specs.Found.{Found, Metadata}
 use Rattle.jpeg_streams.specs.States.{Stage, Fresh, HeaderRead, Finished, Failed}
@@ -25,9 +26,6 @@ metadata_in m = record {
   icc = map chunk_in m.icc.items;
 }
 
-abbrev pub planes_in : List (Option (Vec ℕ Global)) → List (Option (List ℕ))
-planes_in planes = map (λ p. option_map (λ v. v.items) p) planes
-
 abbrev pub found_in : State → Found
 found_in s = record {
   frame = option_map frame_in s.frame;
@@ -38,7 +36,7 @@ found_in s = record {
   metadata = metadata_in s.metadata;
   held = arrays_in s.decoded.held.items;
   finished = s.decoded.finished;
-  planes = planes_in s.decoded.planes;
+  planes = s.decoded.planes;
   samples = planes_in s.decoded.samples;
 }
 

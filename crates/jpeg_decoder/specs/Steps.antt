@@ -3,7 +3,7 @@
 use Rattle.std.specs.Prelude.{◌≡◌, ◌<◌, ◌≤◌, All, ℕ, suc, drop, ◌&&◌, not, is_some, slice_set, ◌*◌}
 use Rattle.std.specs.Prelude.{◌/◌, min, List, [], ◌∷◌, map, set, length, replicate, get_or, Bool}
 use Rattle.std.specs.Prelude.{true, false, Option, slice_index_or, Some, None, Result, Ok}
-use Rattle.std.specs.Prelude.{if◌then◌else◌, IfOk, OnErr, OnOk}
+use Rattle.std.specs.Prelude.{if◌then◌else◌, IfOk, IfSome, OnErr, OnOk}
 use Rattle.jpeg_bits.specs.Reading.{Outcome, Fault, ◌>>=◌}
 use Rattle.jpeg_bits.specs.Codes.{Table}
 use Rattle.jpeg_bits.specs.DefaultTables.{luminance_dc, chrominance_dc, luminance_ac}
@@ -12,14 +12,17 @@ use Rattle.jpeg_bits.specs.declared.error.Error.{Error}
 use Rattle.jpeg_bits.specs.declared.error.Error.TheVariants as errors
 use Rattle.jpeg_bits.specs.declared.marker.Marker.{Marker}
 use Rattle.jpeg_bits.specs.declared.marker.Marker.TheVariants.{RST}
-use Rattle.jpeg_segments.specs.Frame.{Frame, Component}
+use Rattle.jpeg_segments.specs.Frame.{AllHaveSampling, Frame, Component}
 use Rattle.jpeg_pixels.specs.Planes.{cropped}
 use Rattle.jpeg_segments.specs.Scales.{is_scale}
 use Rattle.jpeg_streams.specs.Scans.{Arrays, arrays_at}
 use Rattle.jpeg_decoder.specs.Scanning.{arrays_in, components_in}
 use Rattle.jpeg_streams.specs.Order.{spots_of, mcu_size}
 use Rattle.jpeg_decoder.specs.declared.decoded.Decoded.{Decoded}
-use Rattle.jpeg_bits.specs.Passes.{Pass}
+use Rattle.jpeg_bits.specs.BlockView.{pass_in}
+use Rattle.jpeg_bits.specs.Passes.{Pass, whole_pass}
+use Rattle.jpeg_decoder.specs.declared.strips.GrowingPlanes.{GrowingPlanes}
+use Rattle.jpeg_decoder.specs.declared.strips.GrowingPlanes.TheVariants as growing
 use Rattle.std.specs.List.{list_all, AllByRecursion}
 use Rattle.jpeg_segments.specs.FrameView.{component_in}
 use Rattle.jpeg_segments.specs.ScanHeader as headers
@@ -44,7 +47,8 @@ use Rattle.jpeg_streams.specs.Stream.{told_of}
 use Rattle.jpeg_segments.specs.declared.parser.CodingProcess.{CodingProcess}
 use Rattle.jpeg_segments.specs.declared.parser.CodingProcess.TheVariants.{DctSequential}
 use Rattle.jpeg_segments.specs.declared.parser.CodingProcess.TheVariants.{DctProgressive, Lossless}
-use Rattle.jpeg_decoder.specs.Seen.{found_in, planes_in}
+use Rattle.jpeg_decoder.specs.Seen.{found_in}
+use Rattle.jpeg_decoder.specs.PlanesView.{planes_in}
 
 abbrev pub turn_of : State → Step → Turn
 turn_of s step =
@@ -143,7 +147,7 @@ abbrev pub with_decoded : Found → Decoded → Found
 with_decoded found d = record found {
   held = arrays_in d.held.items;
   finished = d.finished;
-  planes = planes_in d.planes;
+  planes = d.planes;
   samples = planes_in d.samples;
 }
 
@@ -220,6 +224,20 @@ pub record IsReadable (frame : Frame) (found : Found) (scan : Scan) : Type 0 whe
   pub fits : AllByRecursion (Fits frame) (components_in scan.components.items)
   pub of_frame : AllByRecursion (IsCodingOf frame) (map coding_in scan.components.items)
   pub rising : AreRising (map coding_in scan.components.items)
+  pub sampling : AllHaveSampling frame.components
+
+-- the components of a scan are those of the frame in their order
+abbrev pub IsInOrder : List Coded → Type 0
+IsInOrder codings = (slot : ℕ) → slot < length codings
+    → IfSome (first_of (drop slot codings)) (λ c. c.place ≡ slot)
+
+-- Where planes grow in one room, none was decided, and the scan codes all coefficients of the
+-- components of the frame.
+abbrev pub IsFirstJoint : List (Option (List ℕ)) → Scan → GrowingPlanes → Type 0
+IsFirstJoint planes scan (growing.Own own) = Unit {0}
+IsFirstJoint planes scan (growing.Joint joint) =
+    (planes ≡ replicate 4 None) × (pass_in scan.pass ≡ whole_pass)
+    × IsInOrder scan.components.items
 
 -- those of the frame that are left
 unfoldable pub without_blocks : List Coding → Arrays → Arrays

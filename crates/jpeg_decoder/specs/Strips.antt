@@ -52,6 +52,12 @@ with_strips (c ∷ codings) (blocks ∷ arrays) (plane ∷ planes) =
     (plane ++ samples_of c.component.factors.vertical c blocks) ∷ with_strips codings arrays planes
 with_strips _ _ _ = []
 
+-- the samples of each component's blocks in a row of MCUs
+unfoldable pub strips_of : List Coding → Arrays → List (List ℕ)
+strips_of (c ∷ codings) (blocks ∷ arrays) =
+    samples_of c.component.factors.vertical c blocks ∷ strips_of codings arrays
+strips_of _ _ = []
+
 -- the planes after some more rows of MCUs, each of which is read into blocks of its own
 unfoldable pub strips_from : Pass → List Via → ℕ → List Coding → List (List Spot)
     → List (List ℕ) → Counted → Reads (List (List ℕ))

@@ -9,21 +9,24 @@ ghost use Rattle.jpeg_bits.specs.Reading.{Answers};
 ghost use Rattle.jpeg_streams.specs.InTurn.{AreApart};
 ghost use Rattle.jpeg_decoder.specs.Scanning.{arrays_in, blocks_in, components_in};
 ghost use Rattle.jpeg_streams.specs.Scans.{zero_arrays, zero_of};
-ghost use Rattle.jpeg_decoder.specs.Seen.{planes_in};
+ghost use Rattle.jpeg_decoder.specs.PlanesView.{planes_in};
 ghost use Rattle.jpeg_streams.specs.ScanSegments.{put_arrays, finished_by, plane_by};
 ghost use Rattle.jpeg_streams.specs.Found.{none_finished};
-ghost use Rattle.jpeg_decoder.specs.Steps.{blocks_at, coding_in, without_blocks};
+ghost use Rattle.jpeg_decoder.specs.Steps.{blocks_at, coding_in, without_blocks, IsInOrder};
+ghost use Rattle.jpeg_bits.specs.Passes.{whole_pass};
 
 use crate::codings::is_progressive;
 use crate::scan::{Coded, Scan};
 use crate::scans::read_blocks;
 use crate::sequential::read_planes;
 use crate::state::State;
-use crate::strips::{append_rows, empty_planes, plane_size};
+use crate::planes::Planes;
+use crate::strips::{GrowingPlanes, append_rows, empty_planes, plane_size};
 use jpeg_bits::blocks::Pass;
 use jpeg_bits::error::Result;
 use jpeg_bits::marker::Marker;
 use jpeg_bits::source::Source;
+use jpeg_pixels::joint_planes::{JointPlanes, joint_shape};
 use jpeg_segments::parser::{Component, FrameInfo};
 use std::alloc::{AllocError, Global};
 use std::io::Read;
@@ -37,7 +40,7 @@ pub struct Decoded {
     /// Which coefficients of a block are finished, in zigzag order.
     pub finished: [[bool; 64]; 4],
     /// The planes that are decided.
-    pub planes: [Option<Vec<u8>>; 4],
+    pub planes: Planes,
     /// The samples of a lossless frame's components, line by line.
     pub samples: [Option<Vec<u16>>; 4],
 }
@@ -51,6 +54,25 @@ fn finish(pass: Pass, marks: &mut [bool; 64])
         let after = usize::from(pass.se) + 1;
         marks[usize::from(pass.ss)..after].fill(true);
     }
+}
+
+/// Returns whether a pass finishes all coefficients of a block.
+fn is_whole(pass: Pass) -> bool
+    ensures { result ≡ true → pass_in pass ≡ whole_pass }
+{
+    pass.is_first && pass.ss == 0 && pass.se == 63 && pass.al == 0
+}
+
+/// Returns whether a scan has this many components, those of the frame in their order.
+fn are_in_order(codings: &[Coded<'_>], count: usize) -> bool
+    ensures { result ≡ true → (length codings.now ≡ count) × IsInOrder codings.now }
+{
+    for slot in 0..codings.len() {
+        if codings[slot].place != slot {
+            return false;
+        }
+    }
+    codings.len() == count
 }
 
 /// Returns whether all coefficients are marked.
@@ -163,25 +185,35 @@ impl Decoded {
     ghost use Rattle.jpeg_streams.specs.LosslessScans.{with_samples};
     ghost use Rattle.jpeg_streams.specs.Sound.{ArePlanes};
     ghost use Rattle.jpeg_decoder.specs.Scanning.{arrays_in, components_in};
-    ghost use Rattle.jpeg_decoder.specs.Seen.{found_in, planes_in};
+    ghost use Rattle.jpeg_decoder.specs.Seen.{found_in};
+    ghost use Rattle.jpeg_decoder.specs.PlanesView.{planes_in};
     ghost use Rattle.jpeg_decoder.specs.Steps.{coding_in, HasPlace, IsReadable, is_wanted};
     ghost use Rattle.jpeg_decoder.specs.Steps.{marks_after, scan_data, with_decoded};
     ghost use Rattle.jpeg_decoder.specs.Steps.{with_its_plane, with_planes};
     ghost use Rattle.jpeg_streams.specs.ScanSegments.{arrays_before, is_progressive, with_arrays};
     ghost use Rattle.jpeg_streams.specs.ScanSegments.{plane_by};
     ghost use Rattle.jpeg_streams.specs.Found.{Found, none_finished};
+    ghost use Rattle.jpeg_pixels.specs.JointPlanes.{joint_planes};
+    ghost use Rattle.jpeg_decoder.specs.GrowingView.{IsGrowing, growing_in};
+    ghost use Rattle.jpeg_decoder.specs.PlanesView.{IsFullJoint};
+    ghost use Rattle.jpeg_decoder.specs.Steps.{IsCodingOf, IsFirstJoint};
+    ghost use Rattle.jpeg_segments.specs.Frame.{AllHaveSampling};
+    ghost use Rattle.jpeg_streams.specs.InTurn.{Fits};
+    ghost use Rattle.std.specs.List.{AllByRecursion};
+    ghost use Rattle.jpeg_decoder.specs.Strips.{no_samples};
+    ghost use Rattle.jpeg_decoder.specs.declared.strips.GrowingPlanes.TheVariants as growing;
 
     /// Makes the state in which nothing was read.
     pub fn new(alloc: Global) -> Decoded
         ensures held { arrays_in result.held.items ≡ [] }
         ensures finished { result.finished ≡ replicate 4 none_finished }
-        ensures planes { planes_in result.planes ≡ replicate 4 None }
+        ensures planes { result.planes ≡ replicate 4 None }
         ensures samples { planes_in result.samples ≡ replicate 4 None }
     {
         Decoded {
             held: Vec::new(alloc),
             finished: [[false; 64]; 4],
-            planes: [None, None, None, None],
+            planes: Planes::none(),
             samples: [None, None, None, None],
         }
     }
@@ -213,15 +245,15 @@ impl Decoded {
         requires place { place < 4 }
         ensures held { self.new.held ≡ self.old.held }
         ensures samples { self.new.samples ≡ self.old.samples }
-        ensures planes { planes_in self.new.planes ≡ planes_in self.old.planes }
+        ensures planes { self.new.planes ≡ self.old.planes }
         ensures finished { self.new.finished ≡ slice_set self.old.finished place
             (marks_after (pass_in pass) self.old.finished place) }
         ensures wanted { result ≡ is_wanted (marks_after (pass_in pass) self.old.finished place)
-            (slice_index_or (planes_in self.old.planes) place None) }
+            (slice_index_or self.old.planes place None) }
     {
         let marks = &mut self.finished[place];
         finish(pass, marks);
-        are_all(marks) && self.planes[place].is_none()
+        are_all(marks) && !self.planes.has(place)
     }
 
     /// Adds the plane of a component after a scan of a sequential frame.
@@ -236,7 +268,7 @@ impl Decoded {
             (with_decoded base self.old) }
     {
         if self.is_wanted(pass, place) {
-            self.planes[place] = Some(plane);
+            self.planes.put(place, plane);
         }
     }
 
@@ -263,7 +295,7 @@ impl Decoded {
     {
         if self.is_wanted(pass, coded.place) {
             let plane = render(alloc, coded.component, coded.quantization, blocks)?;
-            self.planes[coded.place] = Some(plane);
+            self.planes.put(coded.place, plane);
         }
         Ok(())
     }
@@ -284,6 +316,54 @@ impl Decoded {
             self.add_plane(scan.pass, scan.components[slot].place, plane);
             slot += 1;
         }
+    }
+
+    /// Returns planes without samples for a scan of a sequential frame: in one room where it is the
+    /// first, it has all components of the frame, and they are alike.
+    fn start_planes(
+        &self,
+        alloc: Global,
+        frame: &FrameInfo,
+        scan: &Scan<'_>,
+    ) -> std::result::Result<GrowingPlanes, AllocError>
+        requires fits { AllByRecursion (Fits (frame_in frame.now))
+            (components_in scan.now.components.items) }
+        requires of_frame { AllByRecursion (IsCodingOf (frame_in frame.now))
+            (map coding_in scan.now.components.items) }
+        requires sampling { AllHaveSampling (frame_in frame.now).components }
+        ensures none { IfOk result (λ planes.
+            growing_in planes ≡ no_samples (map coding_in scan.now.components.items)) }
+        ensures growing { IfOk result
+            (IsGrowing (map coding_in scan.now.components.items)) }
+        ensures first { IfOk result (IsFirstJoint self.now.planes scan.now) }
+    {
+        let components = frame.components.as_slice();
+        let is_first = self.planes.are_none() && is_whole(scan.pass);
+        if is_first && are_in_order(&scan.components, components.len()) {
+            let rows = frame.mcu_size.height;
+            if let Some(shape) = joint_shape(components, frame.output_size, rows) {
+                return Ok(GrowingPlanes::Joint(JointPlanes::new(alloc, shape)?));
+            }
+        }
+        let planes = empty_planes(alloc, &scan.components, true)?;
+        Ok(GrowingPlanes::Own(planes))
+    }
+
+    /// Adds the planes of a scan of all components of a frame, which stand in one room.
+    fn add_joint(&mut self, scan: &Scan<'_>, joint: JointPlanes)
+        requires first { IsFirstJoint self.old.planes scan.now (growing.Joint joint) }
+        requires full { IsFullJoint joint }
+        requires count { joint.shape.count ≡ length scan.now.components.items }
+        ensures held { self.new.held ≡ self.old.held }
+        ensures samples { self.new.samples ≡ self.old.samples }
+        ensures planes { (base : Found) → with_decoded base self.new
+            ≡ with_planes (pass_in scan.now.pass) (map coding_in scan.now.components.items)
+            (joint_planes joint.shape joint.samples.items) (with_decoded base self.old) }
+    {
+        for coded in &scan.components {
+            finish(scan.pass, &mut self.finished[coded.place]);
+        }
+        self.planes.put_joint(joint);
     }
 
     /// Adds the blocks of a scan's components.
@@ -354,8 +434,8 @@ impl Decoded {
             source.old result source.new }
         ensures held { OnOk result (AreArrays (frame_in frame.now).components
             (arrays_in self.new.held.items)) }
-        ensures planes { ArePlanes (frame_in frame.now).components (planes_in self.old.planes)
-            → OnOk result (ArePlanes (frame_in frame.now).components (planes_in self.new.planes)) }
+        ensures planes { ArePlanes (frame_in frame.now).components self.old.planes
+            → OnOk result (ArePlanes (frame_in frame.now).components self.new.planes) }
         ensures samples { OnOk result (self.new.samples ≡ self.old.samples) }
     {
         self.hold(alloc, state, frame)?;
@@ -366,22 +446,14 @@ impl Decoded {
         Ok(met)
     }
 
-    /// Returns whether the plane of a component is decided.
-    fn has_plane(&self, place: usize) -> bool
-        requires { place < 4 }
-        ensures { result ≡ is_some (slice_index_or (planes_in self.now.planes) place None) }
-    {
-        self.planes[place].is_some()
-    }
-
     /// Returns whether the planes of all components of a scan are decided.
     fn are_decided(&self, codings: &[Coded<'_>]) -> bool
         requires places { All HasPlace codings.now }
-        ensures { result ≡ true → All (λ c. is_some (slice_index_or (planes_in self.now.planes)
+        ensures { result ≡ true → All (λ c. is_some (slice_index_or self.now.planes
             c.place None) ≡ true) codings.now }
     {
         for coded in codings {
-            if !self.has_plane(coded.place) {
+            if !self.planes.has(coded.place) {
                 return false;
             }
         }
@@ -403,18 +475,24 @@ impl Decoded {
     ) -> Result<Option<Marker>>
         requires process { is_progressive (frame_in frame.now).process ≡ false }
         requires ready { IsReadable (frame_in frame.now) (found_in state.now) scan.now }
-        requires decided { All (λ c. is_some (slice_index_or (planes_in self.now.planes)
+        requires decided { All (λ c. is_some (slice_index_or self.now.planes
             c.place None) ≡ true) scan.now.components.items }
         ensures data { Answers (λ m.
             (record (with_decoded (found_in state.now) self.new) { scanned = true }, m))
             (scan_data (with_decoded (found_in state.now) self.old) (frame_in frame.now)
             (pass_in scan.now.pass) (map coding_in scan.now.components.items))
             source.old result source.new }
-        ensures planes { OnOk result (planes_in self.new.planes ≡ planes_in self.old.planes) }
+        ensures planes { OnOk result (self.new.planes ≡ self.old.planes) }
         ensures samples { OnOk result (self.new.samples ≡ self.old.samples) }
     {
         let mut none = empty_planes(alloc, &scan.components, false)?;
-        let reached = read_planes(alloc, source, scan, frame, &mut Vec::new(alloc))?;
+        let reached = read_planes(
+            alloc,
+            source,
+            scan,
+            frame,
+            &mut GrowingPlanes::Own(Vec::new(alloc)),
+        )?;
         self.held = Vec::new(alloc);
         self.add_planes(scan, &mut none, alloc);
         Ok(reached)
@@ -442,8 +520,8 @@ impl Decoded {
         ensures held { OnOk result (AreArrays (frame_in frame.now).components
             (arrays_before (record (with_decoded (found_in state.now) self.new) { scanned = true })
             (frame_in frame.now))) }
-        ensures planes { ArePlanes (frame_in frame.now).components (planes_in self.old.planes)
-            → OnOk result (ArePlanes (frame_in frame.now).components (planes_in self.new.planes)) }
+        ensures planes { ArePlanes (frame_in frame.now).components self.old.planes
+            → OnOk result (ArePlanes (frame_in frame.now).components self.new.planes) }
         ensures samples { OnOk result (self.new.samples ≡ self.old.samples) }
     {
         if is_progressive(frame.coding_process) {
@@ -452,10 +530,13 @@ impl Decoded {
         if self.are_decided(&scan.components) {
             return self.read_again(alloc, source, state, frame, scan);
         }
-        let mut planes = empty_planes(alloc, &scan.components, true)?;
+        let mut planes = self.start_planes(alloc, frame, scan)?;
         let reached = read_planes(alloc, source, scan, frame, &mut planes)?;
         self.held = Vec::new(alloc);
-        self.add_planes(scan, &mut planes, alloc);
+        match planes {
+            GrowingPlanes::Own(mut planes) => self.add_planes(scan, &mut planes, alloc),
+            GrowingPlanes::Joint(joint) => self.add_joint(scan, joint),
+        }
         Ok(reached)
     }
 }

@@ -49,6 +49,7 @@ pub mod orientation;
 mod orientation_tests;
 mod picture;
 mod places;
+mod planes;
 mod profile;
 mod raster;
 mod restarts;

@@ -5,13 +5,18 @@ ghost use Rattle.std.specs.Prelude.{OnOk, Ok, Some, drop, false, is_some, length
 ghost use Rattle.std.specs.Prelude.{option_map, replicate, slice_index_or, true, []};
 ghost use Rattle.jpeg_bits.specs.Reading.{Answers, Names, NamesFormat};
 ghost use Rattle.jpeg_segments.specs.FrameView.{component_in, frame_in};
+ghost use Rattle.jpeg_segments.specs.Frame.{AllHaveSampling};
+ghost use Rattle.jpeg_pixels.specs.JointPlanes.{IsShapeOf, joint_planes};
+ghost use Rattle.jpeg_decoder.specs.PlanesView.{IsFullJoint};
+ghost use Rattle.jpeg_streams.specs.ColourChoice.{identifiers_of, transform_of};
 ghost use Rattle.jpeg_pixels.specs.Pictures.{AreWhole};
 ghost use Rattle.jpeg_pixels.specs.Scaled.{IsScale};
 ghost use Rattle.jpeg_streams.specs.EndPlanes.{AreBlocksOf, blocks_if, is_held, plane_or};
 ghost use Rattle.jpeg_segments.specs.declared.parser.CodingProcess.TheVariants.{Lossless};
 ghost use Rattle.jpeg_streams.specs.LosslessScans.{samples_from};
 ghost use Rattle.jpeg_decoder.specs.Scanning.{arrays_in, blocks_in};
-ghost use Rattle.jpeg_decoder.specs.Seen.{found_in, metadata_in, planes_in};
+ghost use Rattle.jpeg_decoder.specs.Seen.{found_in, metadata_in};
+ghost use Rattle.jpeg_decoder.specs.PlanesView.{planes_in};
 ghost use Rattle.jpeg_streams.specs.Sound.{IsDecodedFrame, IsPlaneOf, IsSound, HasDecodedFrame};
 ghost use Rattle.jpeg_streams.specs.Sound.{IsUnread};
 ghost use Rattle.jpeg_streams.specs.States.{OnTold};
@@ -29,11 +34,15 @@ use crate::color_choice::choose_color_transform;
 use crate::decoded::{Decoded, render};
 use crate::places::{Missing, needed, table_at};
 use crate::state::State;
+use jpeg_bits::color_transform::ColorTransform;
 use jpeg_bits::error::{Error, Result, format_error_of};
 use jpeg_bits::marker::Marker;
 use jpeg_bits::reads::read_u8;
 use jpeg_bits::source::Source;
 use jpeg_lossless::lossless::{compute_image_lossless, compute_image_lossless_into};
+use jpeg_pixels::joint_planes::{
+    JointPlanes, JointShape, compute_joint_image, compute_joint_image_into, joint_shape,
+};
 use jpeg_pixels::plane::crop;
 use jpeg_pixels::worker::{compute_image_rows, compute_image_rows_into};
 use jpeg_segments::parser::{CodingProcess, Component, Dimensions, FrameInfo};
@@ -156,7 +165,7 @@ fn planes_at_end(
     let is_held = are_held(state, frame);
     let mut planes = Vec::with_capacity(alloc, frame.components.len())?;
     for place in 0..frame.components.len() {
-        let plane = decoded.planes[place].take();
+        let plane = decoded.planes.take(alloc, place)?;
         let held = take_held(alloc, is_held, &mut decoded.held, place);
         planes.push(plane_at_end(alloc, state, &frame.components[place], plane, held)?)?;
     }
@@ -199,13 +208,7 @@ fn picture_by(
         crop_to(&mut plane, component, frame.output_size);
         return Ok(plane);
     }
-    let metadata = &state.metadata;
-    let transform = choose_color_transform(
-        settings.color_transform,
-        components,
-        metadata.jfif,
-        metadata.adobe,
-    );
+    let transform = transform_of(state, frame, settings);
     compute_image_rows(alloc, components, &planes, frame.output_size, transform)
 }
 
@@ -235,17 +238,95 @@ fn write_by(
         pixels.copy_from_slice(&picture);
         return Ok(());
     }
-    let metadata = &state.metadata;
-    let transform = choose_color_transform(
-        settings.color_transform,
-        components,
-        metadata.jfif,
-        metadata.adobe,
-    );
+    let transform = transform_of(state, frame, settings);
     compute_image_rows_into(
         alloc,
         components,
         &planes,
+        frame.output_size,
+        transform,
+        pixels,
+    )
+}
+
+/// Returns how the planes of a frame's components lie in one room, where they are alike.
+fn shape_of(frame: &FrameInfo) -> Option<JointShape>
+    requires { AllHaveSampling (frame_in frame.now).components }
+    ensures { IfSome result (IsShapeOf (frame_in frame.now).components
+        (frame_in frame.now).output_width (frame_in frame.now).output_height) }
+{
+    let rows = frame.mcu_size.height;
+    joint_shape(&frame.components, frame.output_size, rows)
+}
+
+/// Returns the colours of a frame's picture.
+fn transform_of(state: &State, frame: &FrameInfo, settings: Settings) -> ColorTransform
+    ensures { result ≡ transform_of settings.color_transform
+        (identifiers_of (frame_in frame.now).components) state.now.metadata.jfif
+        state.now.metadata.adobe }
+{
+    choose_color_transform(
+        settings.color_transform,
+        &frame.components,
+        state.metadata.jfif,
+        state.metadata.adobe,
+    )
+}
+
+/// Returns the picture of a frame's planes that lie in one room.
+fn joint_picture(
+    alloc: Global,
+    state: &State,
+    frame: &FrameInfo,
+    planes: JointPlanes,
+    settings: Settings,
+) -> Result<Vec<u8>>
+    requires frame { IsDecodedFrame (frame_in frame.now) }
+    requires shape { IsShapeOf (frame_in frame.now).components (frame_in frame.now).output_width
+        (frame_in frame.now).output_height planes.shape }
+    requires full { IsFullJoint planes }
+    ensures { let expected = picture_by settings (metadata_in state.now.metadata)
+        (frame_in frame.now) (frame_in frame.now).components
+        (joint_planes planes.shape planes.samples.items) in
+        MatchResult result (λ v. expected ≡ Ok v.items) (λ e. IsRefusal e × Names e expected) }
+{
+    let transform = transform_of(state, frame, settings);
+    compute_joint_image(
+        alloc,
+        &frame.components,
+        planes,
+        frame.output_size,
+        transform,
+    )
+}
+
+/// Writes the picture of a frame's planes that lie in one room into memory that has exactly its
+/// bytes. After an error nothing is written.
+fn write_joint(
+    alloc: Global,
+    state: &State,
+    frame: &FrameInfo,
+    planes: &JointPlanes,
+    settings: Settings,
+    pixels: &mut [u8],
+) -> Result<()>
+    requires frame { IsDecodedFrame (frame_in frame.now) }
+    requires shape { IsShapeOf (frame_in frame.now).components (frame_in frame.now).output_width
+        (frame_in frame.now).output_height planes.now.shape }
+    requires full { IsFullJoint planes.now }
+    requires process { (frame_in frame.now).process ≡ Lossless → ⊥ }
+    requires room { length pixels.old ≡ picture_bytes (frame_in frame.now) }
+    ensures meant { let expected = picture_by settings (metadata_in state.now.metadata)
+        (frame_in frame.now) (frame_in frame.now).components
+        (joint_planes planes.now.shape planes.now.samples.items) in
+        MatchResult result (λ u. expected ≡ Ok pixels.new) (λ e. IsRefusal e × Names e expected) }
+    ensures unwritten { OnErr result (pixels.new ≡ pixels.old) }
+{
+    let transform = transform_of(state, frame, settings);
+    compute_joint_image_into(
+        alloc,
+        &frame.components,
+        planes,
         frame.output_size,
         transform,
         pixels,
@@ -269,6 +350,9 @@ fn blocks_picture(
     ensures size { ((frame_in frame.now).process ≡ Lossless → ⊥)
         → IfOk result (λ v. IsWhole (Some (frame_in frame.now)) v.items) }
 {
+    if let Some(planes) = decoded.planes.take_joint(shape_of(frame)) {
+        return joint_picture(alloc, state, frame, planes, settings);
+    }
     let planes = planes_at_end(alloc, state, frame, decoded)?;
     picture_by(alloc, state, frame, planes, settings)
 }
@@ -293,6 +377,9 @@ fn write_blocks(
         MatchResult result (λ u. expected ≡ Ok pixels.new) (λ e. IsRefusal e × Names e expected) }
     ensures unwritten { OnErr result (pixels.new ≡ pixels.old) }
 {
+    if let Some(planes) = decoded.planes.take_joint(shape_of(frame)) {
+        return write_joint(alloc, state, frame, &planes, settings, pixels);
+    }
     let planes = planes_at_end(alloc, state, frame, decoded)?;
     write_by(alloc, state, frame, planes, settings, pixels)
 }

@@ -1,17 +1,18 @@
 //! Sequential scans, whose planes are made row by row of MCUs (T.81, A.2 and F.2).
-ghost use Rattle.std.specs.Prelude.{map, OnOk, length, ◌≡◌, ◌≤◌, ◌<◌, ◌*◌};
+ghost use Rattle.std.specs.Prelude.{map, OnOk, length, ◌≡◌, ◌≤◌, ◌*◌};
 ghost use Rattle.std.specs.List.{AllByRecursion};
 ghost use Rattle.jpeg_bits.specs.Reading.{Answers};
 ghost use Rattle.jpeg_segments.specs.FrameView.{frame_in};
 ghost use Rattle.jpeg_streams.specs.InTurn.{Fits};
 ghost use Rattle.jpeg_decoder.specs.Scanning.{scan_pass, scan_vias, scan_components};
 ghost use Rattle.jpeg_decoder.specs.Steps.{coding_in};
-ghost use Rattle.jpeg_decoder.specs.Strips.{no_samples, planes_by_rows, planes_in};
+ghost use Rattle.jpeg_decoder.specs.Strips.{no_samples, planes_by_rows};
+ghost use Rattle.jpeg_decoder.specs.GrowingView.{IsGrowing, growing_in};
 
 use crate::scan::Scan;
 use crate::scan_order::ScanOrder;
 use crate::scans::{first_interval, read_spots};
-use crate::strips::{append_strips, clear_rows, row_buffers};
+use crate::strips::{GrowingPlanes, append_strips, clear_rows, row_buffers};
 use jpeg_bits::error::Result;
 use jpeg_bits::marker::Marker;
 use jpeg_bits::source::Source;
@@ -33,21 +34,20 @@ pub fn read_planes<R: Read + Drop>(
     source: &mut Source<R>,
     scan: &Scan<'_>,
     frame: &FrameInfo,
-    planes: &mut Vec<Vec<u8>>,
+    planes: &mut GrowingPlanes,
 ) -> Result<Option<Marker>>
     requires some { 1 ≤ length scan.now.components.items }
     requires fits { AllByRecursion (Fits (frame_in frame.now)) (scan_components scan.now) }
-    requires planes { 0 < length planes.now.items
-        → length planes.now.items ≡ length scan.now.components.items }
-    ensures sizes { planes_in planes.old.items
-        ≡ no_samples (map coding_in scan.now.components.items)
-        → OnOk result (map length (planes_in planes.new.items)
-        ≡ map (λ c. c.blocks_high * c.scale * (c.blocks_wide * c.scale))
+    requires planes { IsGrowing (map coding_in scan.now.components.items) planes.old }
+    ensures growing { OnOk result
+        (IsGrowing (map coding_in scan.now.components.items) planes.new) }
+    ensures sizes { growing_in planes.old ≡ no_samples (map coding_in scan.now.components.items)
+        → OnOk result (map length (growing_in planes.new) ≡ map (λ c. c.blocks_high * c.scale * (c.blocks_wide * c.scale))
         (scan_components scan.now)) }
-    ensures planes { Answers (λ m. (planes_in planes.new.items, m))
+    ensures planes { Answers (λ m. (growing_in planes.new, m))
         (planes_by_rows (scan_pass scan.now) (scan_vias scan.now) scan.now.restart_interval
         (frame_in frame.now) (map coding_in scan.now.components.items)
-        (planes_in planes.old.items))
+        (growing_in planes.old))
         source.old result source.new }
 {
     let order = ScanOrder::new(alloc, scan, frame)?;

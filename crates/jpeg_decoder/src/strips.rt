@@ -1,6 +1,7 @@
 //! Planes, as they grow by rows of blocks: in a sequential scan row by row of MCUs (T.81, A.2).
 ghost use Rattle.std.specs.Prelude.{map, length, pos, replicate, IfOk, OnOk};
 ghost use Rattle.std.specs.Prelude.{◌≡◌, ◌≤◌, ◌<◌, ◌*◌, ◌++◌};
+ghost use Rattle.std.specs.List.{concat};
 ghost use Rattle.jpeg_bits.specs.BlockView.{to_block};
 ghost use Rattle.jpeg_bits.specs.Zigzag.{values_in_block_order};
 ghost use Rattle.jpeg_pixels.specs.Planes.{plane_of};
@@ -9,9 +10,11 @@ ghost use Rattle.jpeg_streams.specs.Rasters.{in_raster};
 ghost use Rattle.jpeg_decoder.specs.Scanning.{arrays_in, sizes_of};
 ghost use Rattle.jpeg_decoder.specs.Steps.{coding_in};
 ghost use Rattle.jpeg_decoder.specs.Strips.{no_samples, planes_in, row_sizes, zeros_of};
-ghost use Rattle.jpeg_decoder.specs.Strips.{with_strips};
+ghost use Rattle.jpeg_decoder.specs.Strips.{strips_of, with_strips};
+ghost use Rattle.jpeg_decoder.specs.GrowingView.{IsGrowing, growing_in};
 
 use crate::scan::Coded;
+use jpeg_pixels::joint_planes::JointPlanes;
 use jpeg_pixels::plane::append_row;
 use jpeg_pixels::zigzag::values_in_order;
 use jpeg_segments::parser::Component;
@@ -108,18 +111,26 @@ pub fn append_rows(
     Ok(())
 }
 
-/// Appends the samples of the blocks of a row of MCUs to the planes of a scan's components, if
-/// there are any.
-pub fn append_strips(
-    planes: &mut Vec<Vec<u8>>,
+/// Planes that grow by rows of MCUs.
+#[derive(Drop)]
+pub enum GrowingPlanes {
+    /// Each in memory of its own, one a component of the scan, or none at all.
+    Own(Vec<Vec<u8>>),
+    /// Those of components alike in one room.
+    Joint(JointPlanes),
+}
+
+/// Appends the samples of the blocks of a row of MCUs to planes in memory of their own, if there are
+/// any.
+fn append_to_each(
+    planes: &mut [Vec<u8>],
     codings: &[Coded<'_>],
     rows: &[Vec<[i16; 64]>],
 ) -> Result<(), AllocError>
-    requires planes { 0 < length planes.now.items → length planes.now.items ≡ length codings.now }
+    requires planes { 0 < length planes.old → length planes.old ≡ length codings.now }
     requires sizes { sizes_of rows.now ≡ row_sizes codings.now }
-    ensures { OnOk result (planes_in planes.new.items
-        ≡ with_strips (map coding_in codings.now) (arrays_in rows.now)
-        (planes_in planes.old.items)) }
+    ensures { OnOk result (planes_in planes.new
+        ≡ with_strips (map coding_in codings.now) (arrays_in rows.now) (planes_in planes.old)) }
 {
     if planes.is_empty() {
         return Ok(());
@@ -137,4 +148,48 @@ pub fn append_strips(
         )?;
     }
     Ok(())
+}
+
+/// Appends the samples of the blocks of a row of MCUs to planes in one room.
+fn append_to_room(
+    samples: &mut Vec<u8>,
+    codings: &[Coded<'_>],
+    rows: &[Vec<[i16; 64]>],
+) -> Result<(), AllocError>
+    requires sizes { sizes_of rows.now ≡ row_sizes codings.now }
+    ensures { OnOk result (samples.new.items ≡ samples.old.items
+        ++ concat (strips_of (map coding_in codings.now) (arrays_in rows.now))) }
+{
+    for slot in 0..codings.len() {
+        let coded = &codings[slot];
+        let component = coded.component;
+        let high = u16::from(component.vertical_sampling_factor);
+        append_rows(
+            samples,
+            component,
+            coded.quantization,
+            &rows[slot],
+            high,
+        )?;
+    }
+    Ok(())
+}
+
+/// Appends the samples of the blocks of a row of MCUs to the planes of a scan's components, if
+/// there are any.
+pub fn append_strips(
+    planes: &mut GrowingPlanes,
+    codings: &[Coded<'_>],
+    rows: &[Vec<[i16; 64]>],
+) -> Result<(), AllocError>
+    requires planes { IsGrowing (map coding_in codings.now) planes.old }
+    requires sizes { sizes_of rows.now ≡ row_sizes codings.now }
+    ensures strips { OnOk result (growing_in planes.new
+        ≡ with_strips (map coding_in codings.now) (arrays_in rows.now) (growing_in planes.old)) }
+    ensures growing { OnOk result (IsGrowing (map coding_in codings.now) planes.new) }
+{
+    match planes {
+        GrowingPlanes::Own(planes) => append_to_each(planes, codings, rows),
+        GrowingPlanes::Joint(joint) => append_to_room(&mut joint.samples, codings, rows),
+    }
 }

@@ -67,4 +67,4 @@ returns c =
     (map (λ v. v.items) c.args.planes.items) (map (λ v. v.items) c.deref.result.now) _ c.compute_image_rows.result
     c.requires.frame other
     (ap (map component_in) c.as_slice-components.ensures.value) (ap (map (λ v. v.items)) c.deref.ensures.value)
-    c.choose_color_transform-transform.ensures c.compute_image_rows.ensures
+    c.transform_of-transform.ensures c.compute_image_rows.ensures

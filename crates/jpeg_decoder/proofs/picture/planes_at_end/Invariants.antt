@@ -2,7 +2,7 @@ use Rattle.std.proofs.Common.{◌≡◌, drop, length, map}
 use Rattle.jpeg_bits.specs.Reading.{◌>>=◌}
 use Rattle.jpeg_segments.specs.FrameView.{frame_in}
 use Rattle.jpeg_decoder.specs.Scanning.{arrays_in}
-use Rattle.jpeg_decoder.specs.Seen.{found_in, planes_in}
+use Rattle.jpeg_decoder.specs.Seen.{found_in}
 use Rattle.jpeg_decoder.specs.Steps.{with_decoded}
 use Rattle.jpeg_streams.specs.FoundPictures.{planes_from}
 use Rattle.jpeg_decoder.proofs.EndedPlanes.{AreWholeWith}
@@ -11,7 +11,7 @@ use Rattle.jpeg_decoder.proofs.picture.planes_at_end.Given as goal
 
 abbrev pub invariant-loop-place : goal.invariant-loop-place
 invariant-loop-place l = record {
-  decided : drop l.place (planes_in l.decoded.planes) ≡ drop l.place (planes_in l.fn.decoded.planes);
+  decided : drop l.place l.decoded.planes ≡ drop l.place l.fn.decoded.planes;
   held : drop l.place (arrays_in l.decoded.held.items) ≡ drop l.place (arrays_in l.fn.decoded.held.items);
   given : planes_from (with_decoded (found_in l.fn.state) l.fn.decoded) (frame_in l.fn.frame) 0
       (frame_in l.fn.frame).components

@@ -8,7 +8,7 @@ use Rattle.jpeg_bits.specs.Reading.{Malformed}
 use Rattle.jpeg_streams.specs.LosslessScans.{samples_from}
 use Rattle.jpeg_streams.specs.Needed.{needed}
 use Rattle.jpeg_segments.specs.FrameView.{component_in, frame_in}
-use Rattle.jpeg_decoder.specs.Seen.{planes_in}
+use Rattle.jpeg_decoder.specs.PlanesView.{planes_in}
 use Rattle.jpeg_decoder.proofs.EndedPlanes.{mapped-or, planes-kept, same-at}
 use Rattle.jpeg_decoder.proofs.LosslessReads.{no-samples, samples-after}
 use Rattle.jpeg_lossless.proofs.RowLoops.{mapped-within}

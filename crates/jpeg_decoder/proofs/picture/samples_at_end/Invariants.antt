@@ -2,7 +2,7 @@ use Rattle.std.proofs.Common.{◌≡◌, drop, length, map}
 use Rattle.jpeg_bits.specs.Reading.{◌>>=◌}
 use Rattle.jpeg_segments.specs.FrameView.{frame_in}
 use Rattle.jpeg_streams.specs.LosslessScans.{samples_from}
-use Rattle.jpeg_decoder.specs.Seen.{planes_in}
+use Rattle.jpeg_decoder.specs.PlanesView.{planes_in}
 use Rattle.jpeg_decoder.proofs.ReadLists.{after}
 use Rattle.jpeg_decoder.proofs.picture.samples_at_end.Given as goal
 

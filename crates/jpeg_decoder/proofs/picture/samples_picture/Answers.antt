@@ -1,7 +1,8 @@
 use Rattle.std.proofs.Common.{length, map, arith}
 use Rattle.std.proofs.lemmas.Result.{err_from_is_err_and}
 use Rattle.jpeg_segments.specs.FrameView.{frame_in}
-use Rattle.jpeg_decoder.specs.Seen.{found_in, planes_in}
+use Rattle.jpeg_decoder.specs.Seen.{found_in}
+use Rattle.jpeg_decoder.specs.PlanesView.{planes_in}
 use Rattle.jpeg_decoder.specs.Steps.{with_decoded}
 use Rattle.jpeg_decoder.proofs.LosslessReads.{picture-given, picture-lacks, picture-made, samples-whole}
 use Rattle.jpeg_decoder.proofs.LosslessPictureSizes.{if-samples_size}

@@ -45,4 +45,4 @@ returns-clause-meant c =
     (map (λ v. v.items) c.args.planes.items) (map (λ v. v.items) c.deref-2.result.now) _ c.compute_image_rows_into.result
     c.requires.frame other
     (ap (map component_in) c.as_slice-components.ensures.value) (ap (map (λ v. v.items)) c.deref-2.ensures.value)
-    c.choose_color_transform-transform.ensures c.compute_image_rows_into.ensures.picture
+    c.transform_of-transform.ensures c.compute_image_rows_into.ensures.picture

@@ -1,7 +1,7 @@
 use Rattle.std.proofs.Common.{◌∙◌, ap, length, map, arith, sym}
 use Rattle.jpeg_lossless.specs.Pictures.{image_bytes}
 use Rattle.jpeg_segments.specs.FrameView.{frame_in}
-use Rattle.jpeg_decoder.specs.Seen.{planes_in}
+use Rattle.jpeg_decoder.specs.PlanesView.{planes_in}
 use Rattle.jpeg_decoder.proofs.LosslessReads.{samples-whole}
 use Rattle.jpeg_decoder.proofs.LosslessPictureSizes.{image-room}
 use Rattle.jpeg_decoder.proofs.PicturesOfPlanes.{decoded-factors}

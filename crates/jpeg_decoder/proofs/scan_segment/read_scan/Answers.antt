@@ -10,7 +10,8 @@ use Rattle.jpeg_segments.specs.ScanHeader.{sos_at}
 use Rattle.jpeg_streams.specs.Found.{Found}
 use Rattle.jpeg_streams.specs.Segments.{Turn}
 use Rattle.jpeg_streams.specs.Sound.{IsSound}
-use Rattle.jpeg_decoder.specs.Seen.{found_in, planes_in}
+use Rattle.jpeg_decoder.specs.Seen.{found_in}
+use Rattle.jpeg_decoder.specs.PlanesView.{planes_in}
 use Rattle.jpeg_decoder.specs.Steps.{IsStep, coding_in, samples_read, scan_data, turn_of, with_decoded}
 use Rattle.jpeg_decoder.proofs.ReadableScans.{codings-kept, decoded-scales, legal-pass, ready}
 use Rattle.jpeg_decoder.proofs.ScanReads.{after_codings, after_data, after_header, blocks-begun, blocks-sound}

@@ -1,6 +1,6 @@
 use Rattle.std.proofs.Common.{◌≡◌, ◌≤◌, ◌-◌, drop, length, map}
 use Rattle.jpeg_streams.specs.LosslessScans.{with_samples}
-use Rattle.jpeg_decoder.specs.Seen.{planes_in}
+use Rattle.jpeg_decoder.specs.PlanesView.{planes_in}
 use Rattle.jpeg_decoder.proofs.decoded.Decoded.put_samples.Given as goal
 
 abbrev pub invariant-loop-slot : goal.invariant-loop-slot

@@ -1,0 +1,101 @@
+-- The picture of planes that lie in one room, at the end of an image.
+use Rattle.std.proofs.lemmas.Grind.{common_steps}
+use Rattle.std.proofs.Common.{◌≡◌, ◌≢◌, ◌∙◌, ◌<◌, ◌≤◌, ◌+◌, ℕ, suc, List, [], ◌∷◌, Option, Some}
+use Rattle.std.proofs.Common.{None, Ok, arith, get_or, length, map, refl, replicate, subst}
+use Rattle.std.proofs.lemmas.List.{get_or-map, get_or-replicate}
+use Rattle.jpeg_pixels.specs.JointPlanes.{IsShapeOf, joint_planes}
+use Rattle.jpeg_pixels.specs.Pictures.{AreWhole}
+use Rattle.jpeg_pixels.specs.declared.joint_planes.JointPlanes.{JointPlanes}
+use Rattle.jpeg_pixels.specs.declared.joint_planes.JointShape.{JointShape}
+use Rattle.jpeg_segments.specs.Frame.{Component, Frame}
+use Rattle.jpeg_streams.proofs.ReadTurns.{then-ok}
+use Rattle.jpeg_streams.proofs.Soundness.{count-few, decoded-count}
+use Rattle.jpeg_streams.specs.Found.{Found}
+use Rattle.jpeg_streams.specs.FoundPictures.{blocks_picture, picture_by, plane_at_end, planes_from}
+use Rattle.jpeg_streams.specs.Sound.{ArePlanes, IsDecodedFrame, IsPlaneOf, IsSound}
+use Rattle.jpeg_streams.specs.declared.settings.Settings.{Settings}
+use Rattle.jpeg_decoder.specs.PlanesView.{or_joint}
+use Rattle.jpeg_decoder.proofs.JointDecided.{joint-count, or-at}
+
+-- Components whose planes lie in one room are several.
+pub not-one : (cs : List Component) (width height : ℕ) (shape : JointShape)
+    → IsShapeOf cs width height shape → length cs ≢ 1
+not-one cs width height shape p e = absurd (omega arith)
+
+-- Each of some planes is decided, from an index on.
+abbrev AreThere : ℕ → List (Option (List ℕ)) → List (List ℕ) → Type 0
+AreThere from planes joint =
+    (k index : ℕ) → k < length joint → index ≡ from + k
+    → get_or planes index None ≡ Some (get_or joint k [])
+
+-- A plane that is decided is that of its component at the end.
+plane-there : (found : Found) (frame : Frame) (index : ℕ) (c : Component) (plane : List ℕ)
+    → get_or found.planes index None ≡ Some plane → plane_at_end found frame index c ≡ Ok plane
+unfolding plane_at_end
+plane-there found frame index c plane e = grind (arith, common_steps)
+
+-- The planes of components are those that are decided.
+all-there : (found : Found) (frame : Frame) (from : ℕ) (cs : List Component) (joint : List (List ℕ))
+    → length joint ≡ length cs → AreThere from found.planes joint
+    → planes_from found frame from cs ≡ Ok joint
+unfolding planes_from
+all-there found frame from [] [] e there = refl
+all-there found frame from [] (plane ∷ joint) e there = absurd (omega arith)
+all-there found frame from (c ∷ cs) [] e there = absurd (omega arith)
+all-there found frame from (c ∷ cs) (plane ∷ joint) e there =
+    let first = plane-there found frame from c plane (there 0 from (omega arith) (omega arith)) in
+    then-ok _ _ _ _ first (then-ok _ _ _ _ (all-there found frame (from + 1) cs joint (omega arith)
+    (λ k index h i. there (suc k) index (omega arith) (omega arith))) refl)
+
+-- Planes that are decided are whole.
+whole-there : (cs : List Component) (planes : List (Option (List ℕ))) (joint : List (List ℕ))
+    → length joint ≡ length cs → AreThere 0 planes joint → ArePlanes cs planes → AreWhole cs joint
+unfolding ArePlanes AreWhole
+whole-there [] planes joint e there p = tt
+whole-there (c ∷ cs) planes [] e there p = absurd (omega arith)
+whole-there (c ∷ cs) [] (plane ∷ joint) e there p = absurd p
+whole-there (c ∷ cs) (o ∷ planes) (plane ∷ joint) e there p = (
+  subst (IsPlaneOf c) (there 0 0 (omega arith) (omega arith)) p.0,
+  whole-there cs planes joint (omega arith)
+      (λ k index h i. there (suc k) (suc index) (omega arith) (omega arith)) p.1,
+)
+
+-- Planes in one room, where there is none of its own.
+joint-there : (joint : List (List ℕ)) → length joint ≤ 4
+    → AreThere 0 (or_joint (replicate 4 None) joint) joint
+joint-there joint few k index h i =
+    let at = or-at (replicate 4 None) joint index (omega arith) in
+    let none : get_or {A = Option (List ℕ)} (replicate 4 None) index None ≡ None =
+    get_or-replicate 4 index None None (omega arith) in
+    let other = get_or-map Some joint k [] None h in
+    grind (arith, common_steps)
+
+module _ (found : Found) (frame : Frame) (width height : ℕ) (joint : JointPlanes)
+    (sound : IsSound found) (is : found.frame ≡ Some frame)
+    (shape : IsShapeOf frame.components width height joint.shape) (decided : found.planes
+    ≡ or_joint (replicate 4 None) (joint_planes joint.shape joint.samples.items)) where
+  abbrev planes : List (List ℕ)
+  planes = joint_planes joint.shape joint.samples.items
+
+  -- They are as many as the components.
+  pub joint-length : length planes ≡ length frame.components
+  joint-length = joint-count joint.shape joint.samples.items ∙ shape.count
+
+  -- Each of them is decided.
+  there : AreThere 0 found.planes planes
+  there =
+      let few = count-few (length frame.components) (decoded-count frame (sound.frames frame is)) in
+      rw decided (joint-there planes (omega (arith, few.1, joint-length)))
+
+  -- The picture is that of the planes in the room.
+  pub joint-meant : (settings : Settings)
+      → blocks_picture settings found frame
+      ≡ picture_by settings found.metadata frame frame.components planes
+  unfolding blocks_picture
+  joint-meant settings =
+      rw (all-there found frame 0 frame.components planes joint-length there) refl
+
+  -- They are whole.
+  pub joint-whole : AreWhole frame.components planes
+  joint-whole =
+      whole-there frame.components found.planes planes joint-length there (sound.planes frame is)

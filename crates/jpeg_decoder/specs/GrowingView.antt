@@ -1,0 +1,35 @@
+-- What a caller sees of planes that grow by rows of MCUs, each on its own or all in one room.
+use Rattle.std.specs.Prelude.{◌≡◌, ◌≤◌, ◌<◌, ℕ, ◌*◌, ◌/◌, List, length}
+use Rattle.std.specs.List.{AllByRecursion}
+use Rattle.jpeg_pixels.specs.JointPlanes.{IsSmall, joint_planes, row_size}
+use Rattle.jpeg_pixels.specs.declared.joint_planes.JointPlanes.{JointPlanes}
+use Rattle.jpeg_pixels.specs.declared.joint_planes.JointShape.{JointShape}
+use Rattle.jpeg_streams.specs.ScanSegments.{Coding}
+use Rattle.jpeg_decoder.specs.Strips.{planes_in}
+use Rattle.jpeg_decoder.specs.declared.strips.GrowingPlanes.{GrowingPlanes}
+use Rattle.jpeg_decoder.specs.declared.strips.GrowingPlanes.TheVariants as growing
+
+abbrev pub growing_in : GrowingPlanes → List (List ℕ)
+growing_in (growing.Own planes) = planes_in planes.items
+growing_in (growing.Joint joint) = joint_planes joint.shape joint.samples.items
+
+-- a component of a scan has strips of this shape
+pub record IsOfShape (shape : JointShape) (c : Coding) : Type 0 where
+  pub lines : c.component.factors.vertical * c.component.scale ≡ shape.lines
+  pub stride : c.component.blocks_wide * c.component.scale ≡ shape.stride
+  pub high : c.component.blocks_high ≡ shape.rows * c.component.factors.vertical
+
+-- Planes in one room grow by whole rows of MCUs of these components.
+pub record IsJointOf (codings : List Coding) (joint : JointPlanes) : Type 0 where
+  pub small : IsSmall joint.shape
+  pub count : joint.shape.count ≡ length codings
+  pub some : 1 ≤ joint.shape.count
+  pub codings : AllByRecursion (IsOfShape joint.shape) codings
+  pub whole : length joint.samples.items
+      ≡ length joint.samples.items / row_size joint.shape * row_size joint.shape
+
+-- planes of a scan's components, or none
+abbrev pub IsGrowing : List Coding → GrowingPlanes → Type 0
+IsGrowing codings (growing.Own planes) =
+    0 < length planes.items → length planes.items ≡ length codings
+IsGrowing codings (growing.Joint joint) = IsJointOf codings joint
