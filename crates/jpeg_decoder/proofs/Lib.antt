@@ -49,3 +49,4 @@ pub mod LosslessOnLiterals
 mod Orientations
 pub mod KeptScans
 pub mod KeptStrips
+pub mod JointStrips

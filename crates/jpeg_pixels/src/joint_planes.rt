@@ -5,6 +5,7 @@
 //! above, row by row, and no second room is touched.
 ghost use Rattle.std.specs.Prelude.{◌≡◌, ◌≤◌, ◌*◌, All, IfSome, MatchResult, Ok, OnErr, length, map};
 ghost use Rattle.std.specs.Prelude.{true};
+ghost use Rattle.std.specs.List.{AllByRecursion};
 ghost use Rattle.jpeg_bits.specs.Reading.{Names};
 ghost use Rattle.jpeg_segments.specs.Frame.{AllHaveSampling};
 ghost use Rattle.jpeg_segments.specs.FrameView.{component_in};
@@ -56,7 +57,11 @@ impl JointShape {
 /// `rows` rows of MCUs.
 pub fn joint_shape(components: &[Component], size: Dimensions, rows: u16) -> Option<JointShape>
     requires { AllHaveSampling (map component_in components.now) }
-    ensures { IfSome result (IsShapeOf (map component_in components.now) size.width size.height) }
+    ensures shape { IfSome result
+        (IsShapeOf (map component_in components.now) size.width size.height) }
+    ensures rows { IfSome result (λ shape. shape.rows ≡ rows) }
+    ensures lines { IfSome result (λ shape. AllByRecursion
+        (λ c. c.factors.vertical * c.scale ≡ shape.lines) (map component_in components.now)) }
 {
     None
 }

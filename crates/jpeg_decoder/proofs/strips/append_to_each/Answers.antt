@@ -1,7 +1,7 @@
 use Rattle.std.proofs.Common.{arith, rules}
 use Rattle.jpeg_decoder.specs.Strips.{samples_of}
 use Rattle.jpeg_decoder.proofs.RowBuffers.{no-strips, planes-long, row-size, planes-next, planes-all}
-use Rattle.jpeg_decoder.proofs.strips.append_strips.Goals as goal
+use Rattle.jpeg_decoder.proofs.strips.append_to_each.Goals as goal
 use Rattle.std.proofs.lemmas.Grind.{common_steps}
 
 pub index_mut-requires : goal.index_mut-requires
@@ -16,7 +16,7 @@ loop-slot-preserved c = grind (arith, common_steps, planes-next)
 
 pub returns-then-is_empty : goal.returns-then-is_empty
 returns-then-is_empty c =
-    no-strips c.args.codings.now c.args.rows.now c.args.planes.now.items (search rules)
+    no-strips c.args.codings.now c.args.rows.now c.args.planes.now (search rules)
 
 pub returns : goal.returns
 returns c = grind (arith, common_steps, planes-all)
