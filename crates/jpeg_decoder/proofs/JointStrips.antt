@@ -10,6 +10,8 @@ use Rattle.std.proofs.lemmas.Nat.{div-mul-add, div_below, mod_below, mod-mul-add
 use Rattle.std.proofs.lemmas.Grind.{common_steps}
 use Rattle.std.specs.Prelude.{slice_index}
 use Rattle.std.specs.List.{AllByRecursion, concat, range_with_len}
+use Rattle.std.specs.declared.alloc.Global.{Global}
+use Rattle.std.specs.declared.vec.Vec.{Vec}
 use Rattle.jpeg_pixels.specs.JointPlanes.{joint_plane, joint_planes, row_size, strip_size}
 use Rattle.jpeg_pixels.specs.declared.joint_planes.JointPlanes.{JointPlanes}
 use Rattle.jpeg_pixels.specs.declared.joint_planes.JointShape.{JointShape}
@@ -54,6 +56,26 @@ length-joint shape samples slot = length-map-range_with_len _ 0 (length samples 
 -- the index of a sample of a plane in the room
 abbrev index_of : JointShape → ℕ → ℕ → ℕ
 index_of shape slot i = i / strip_size shape * row_size shape + (slot * strip_size shape + i % strip_size shape)
+
+-- ---- planes without samples
+
+none-from : (shape : JointShape) (from : ℕ) (codings : List Coding)
+    → map (joint_plane shape []) (range_with_len from (length codings)) ≡ no_samples codings
+unfolding joint_plane
+none-from shape from [] = refl
+none-from shape from (c ∷ codings) =
+    let none = zero-div shape.count in
+    ap₂ (λ (l : List ℕ) (ls : List (List ℕ)). l ∷ ls)
+    (ap (λ (n : ℕ). map (λ (i : ℕ). slice_index [] (index_of shape from i)) (range_with_len 0 n)) none)
+    (none-from shape (from + 1) codings)
+
+pub none-joint : (shape : JointShape) (codings : List Coding) → shape.count ≡ length codings
+    → joint_planes shape [] ≡ no_samples codings
+unfolding joint_planes
+none-joint shape codings e =
+    ap (λ (n : ℕ). map (joint_plane shape []) (range_with_len 0 n)) e ∙ none-from shape 0 codings
+
+-- ---- a plane that grows
 
 joint-at : (shape : JointShape) (samples : List ℕ) (slot i : ℕ) → i < length samples / shape.count
     → get_or (joint_plane shape samples slot) i 0 ≡ slice_index samples (index_of shape slot i)
@@ -150,58 +172,52 @@ strips-even shape (c ∷ codings) (blocks ∷ arrays) h =
     )
 strips-even shape _ _ h = tt
 
-module _ (shape : JointShape) (codings : List Coding) (arrays : Arrays) (samples : List ℕ) (some : 1 ≤ shape.count)
-    (same : shape.count ≡ length codings) (each : AllByRecursion (IsOfShape shape) codings)
-    (whole : length samples ≡ length samples / row_size shape * row_size shape)
+module _ (codings : List Coding) (arrays : Arrays) (joint : JointPlanes) (is : IsJointOf codings joint)
     (held : length arrays ≡ length codings) where
+  abbrev shape : JointShape
+  shape = joint.shape
+
+  abbrev samples : List ℕ
+  samples = joint.samples.items
+
   abbrev strips : List (List ℕ)
   strips = strips_of codings arrays
 
+  even : AreEven (strip_size shape) strips
+  even = strips-even shape codings arrays is.each
+
   strips-count : length strips ≡ shape.count
-  strips-count = strips_of-length codings arrays held ∙ sym same
+  strips-count = strips_of-length codings arrays held ∙ sym is.count
 
   pub room-grown : (new : List ℕ) → new ≡ samples ++ concat strips
       → joint_planes shape new ≡ with_strips codings arrays (joint_planes shape samples)
   unfolding joint_planes
   room-grown new e =
-      let old-long = length-map-range_with_len (joint_plane shape samples) 0 shape.count in
+      let old-long = length-map-range_with_len (joint_plane shape samples) 0 shape.count ∙ is.count in
       let new-long = length-map-range_with_len (joint_plane shape new) 0 shape.count in
       ext_get_or [] (joint_planes shape new) (with_strips codings arrays (joint_planes shape samples))
-      (new-long ∙ same ∙ sym (strips-length codings arrays (joint_planes shape samples) held (old-long ∙ same)))
+      (new-long ∙ is.count ∙ sym (strips-length codings arrays (joint_planes shape samples) held old-long))
       (λ slot lt.
       let h : slot < shape.count = omega (arith, lt, new-long) in
       get_or-map-range_with_len (joint_plane shape new) 0 shape.count slot slot [] h (omega arith)
       ∙ ap (λ (l : List ℕ). joint_plane shape l slot) e
-      ∙ plane-grown shape samples strips (length samples / row_size shape) slot whole
-      (strips-even shape codings arrays each) strips-count h
+      ∙ plane-grown shape samples strips (length samples / row_size shape) slot is.whole even strips-count h
       ∙ ap (λ (l : List ℕ). l ++ get_or strips slot [])
       (sym (get_or-map-range_with_len (joint_plane shape samples) 0 shape.count slot slot [] h (omega arith)))
-      ∙ sym (strips-at codings arrays (joint_planes shape samples) slot held (old-long ∙ same) (omega (arith, h, same))))
+      ∙ sym (strips-at codings arrays (joint_planes shape samples) slot held old-long (omega (arith, h, is.count))))
 
-  pub room-whole : (new : List ℕ) → new ≡ samples ++ concat strips
-      → length new ≡ length new / row_size shape * row_size shape
-  room-whole new e =
-      let more : length new ≡ length samples + row_size shape =
+  pub room-kept : (new : Vec ℕ Global) → new.items ≡ samples ++ concat strips
+      → IsJointOf codings (record joint { samples = new })
+  room-kept new e =
+      let more : length new.items ≡ length samples + row_size shape =
       ap (λ (l : List ℕ). length l) e ∙ length-append samples (concat strips)
-      ∙ ap (λ (n : ℕ). length samples + n) (flat-length (strip_size shape) strips (strips-even shape codings arrays each)
+      ∙ ap (λ (n : ℕ). length samples + n) (flat-length (strip_size shape) strips even
       ∙ ap (λ (n : ℕ). n * strip_size shape) strips-count) in
-      more ∙ whole-rows (length samples) (row_size shape) whole
-      ∙ ap (λ (n : ℕ). n / row_size shape * row_size shape) (sym more)
-
--- ---- planes without samples
-
-none-from : (shape : JointShape) (from : ℕ) (codings : List Coding)
-    → map (joint_plane shape []) (range_with_len from (length codings)) ≡ no_samples codings
-unfolding joint_plane
-none-from shape from [] = refl
-none-from shape from (c ∷ codings) =
-    let none = zero-div shape.count in
-    ap₂ (λ (l : List ℕ) (ls : List (List ℕ)). l ∷ ls)
-    (ap (λ (n : ℕ). map (λ (i : ℕ). slice_index [] (index_of shape from i)) (range_with_len 0 n)) none)
-    (none-from shape (from + 1) codings)
-
-pub none-joint : (shape : JointShape) (codings : List Coding) → shape.count ≡ length codings
-    → joint_planes shape [] ≡ no_samples codings
-unfolding joint_planes
-none-joint shape codings e =
-    ap (λ (n : ℕ). map (joint_plane shape []) (range_with_len 0 n)) e ∙ none-from shape 0 codings
+      record {
+        small = is.small;
+        count = is.count;
+        some = is.some;
+        each = is.each;
+        whole = more ∙ whole-rows (length samples) (row_size shape) is.whole
+            ∙ ap (λ (n : ℕ). n / row_size shape * row_size shape) (sym more);
+      }

@@ -4,8 +4,8 @@ use Rattle.jpeg_decoder.proofs.RowBuffers.{no-strips, planes-long, row-size, pla
 use Rattle.jpeg_decoder.proofs.strips.append_to_each.Goals as goal
 use Rattle.std.proofs.lemmas.Grind.{common_steps}
 
-pub index_mut-requires : goal.index_mut-requires
-index_mut-requires c = grind (arith, common_steps, planes-long)
+pub bounds-planes-slot : goal.bounds-planes-slot
+bounds-planes-slot c = grind (arith, common_steps, planes-long)
 
 pub append_rows-requires-clause-size : goal.append_rows-requires-clause-size
 append_rows-requires-clause-size c = grind (arith, common_steps, row-size)
