@@ -53,6 +53,10 @@ pub length-joint : (shape : JointShape) (samples : List ℕ) (slot : ℕ)
 unfolding joint_plane
 length-joint shape samples slot = length-map-range_with_len _ 0 (length samples / shape.count)
 
+pub length-planes : (shape : JointShape) (samples : List ℕ) → length (joint_planes shape samples) ≡ shape.count
+unfolding joint_planes
+length-planes shape samples = length-map-range_with_len (joint_plane shape samples) 0 shape.count
+
 -- the index of a sample of a plane in the room
 abbrev index_of : JointShape → ℕ → ℕ → ℕ
 index_of shape slot i = i / strip_size shape * row_size shape + (slot * strip_size shape + i % strip_size shape)
@@ -193,8 +197,8 @@ module _ (codings : List Coding) (arrays : Arrays) (joint : JointPlanes) (is : I
       → joint_planes shape new ≡ with_strips codings arrays (joint_planes shape samples)
   unfolding joint_planes
   room-grown new e =
-      let old-long = length-map-range_with_len (joint_plane shape samples) 0 shape.count ∙ is.count in
-      let new-long = length-map-range_with_len (joint_plane shape new) 0 shape.count in
+      let old-long = length-planes shape samples ∙ is.count in
+      let new-long = length-planes shape new in
       ext_get_or [] (joint_planes shape new) (with_strips codings arrays (joint_planes shape samples))
       (new-long ∙ is.count ∙ sym (strips-length codings arrays (joint_planes shape samples) held old-long))
       (λ slot lt.

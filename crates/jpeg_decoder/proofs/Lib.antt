@@ -50,3 +50,4 @@ mod Orientations
 pub mod KeptScans
 pub mod KeptStrips
 pub mod JointStrips
+pub mod JointAdded

@@ -48,7 +48,8 @@ pub struct Decoded {
 /// Marks the coefficients that a pass finishes: those that it codes at level 0.
 fn finish(pass: Pass, marks: &mut [bool; 64])
     requires { IsPass (pass_in pass) }
-    ensures { marks.new ≡ finished_by (pass_in pass) marks.old }
+    ensures marked { marks.new ≡ finished_by (pass_in pass) marks.old }
+    ensures all { pass_in pass ≡ whole_pass → list_all (λ mark. mark) marks.new ≡ true }
 {
     if pass.al == 0 {
         let after = usize::from(pass.se) + 1;
