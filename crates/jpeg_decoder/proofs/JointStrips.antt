@@ -1,10 +1,10 @@
 -- Planes in one room, as it grows by a row of MCUs: each plane has its strip.
 use Rattle.std.proofs.Common.{◌≡◌, ℕ, zero, suc, ◌+◌, ◌*◌, ◌/◌, ◌%◌, ◌<◌, ◌≤◌, List, [], ◌∷◌, ◌++◌, length, map}
-use Rattle.std.proofs.Common.{◌-◌, get_or, arith, refl, sym, ap, ap₂, ◌∙◌, length-append, mul_assoc, mul_comm, add-mul}
+use Rattle.std.proofs.Common.{◌-◌, get_or, arith, refl, sym, subst, ap, ap₂, ◌∙◌, length-append, mul_assoc, mul_comm, add-mul}
 use Rattle.std.proofs.Math.Logic.{⊎_elim}
 use Rattle.std.proofs.Math.Nat.{add-div_right, mul-div_cancel, zero-div}
 use Rattle.std.proofs.lemmas.Bool.{cases_lt}
-use Rattle.std.proofs.lemmas.List.{ext_get_or, get_or_append_left, get_or-append_right, get_or-append-add, length-map}
+use Rattle.std.proofs.lemmas.List.{ext_get_or, get_or_append_left, get_or-append_right, get_or-append-add, get_or-map, length-map}
 use Rattle.std.proofs.lemmas.List.FromFn.{get_or-map-range_with_len, length-map-range_with_len}
 use Rattle.std.proofs.lemmas.Nat.{div-mul-add, div_below, mod_below, mod-mul-add, mul-add-lt}
 use Rattle.std.proofs.lemmas.Grind.{common_steps}
@@ -12,7 +12,16 @@ use Rattle.std.specs.Prelude.{slice_index}
 use Rattle.std.specs.List.{AllByRecursion, concat, range_with_len}
 use Rattle.std.specs.declared.alloc.Global.{Global}
 use Rattle.std.specs.declared.vec.Vec.{Vec}
-use Rattle.jpeg_pixels.specs.JointPlanes.{joint_plane, joint_planes, row_size, strip_size}
+use Rattle.jpeg_pixels.specs.JointPlanes.{IsShapeOf, IsSmall, joint_plane, joint_planes, row_size, strip_size}
+use Rattle.jpeg_segments.specs.Frame.{Component, Frame}
+use Rattle.jpeg_segments.specs.FrameView.{component_in}
+use Rattle.jpeg_streams.specs.InTurn.{Fits}
+use Rattle.jpeg_streams.proofs.Apart.{at-all}
+use Rattle.jpeg_streams.proofs.ScanArrays.{first-at}
+use Rattle.jpeg_decoder.specs.PlanesView.{IsFullJoint}
+use Rattle.jpeg_decoder.specs.Scanning.{components_in}
+use Rattle.jpeg_decoder.specs.Steps.{IsCodingOf, coding_in}
+use Rattle.jpeg_decoder.specs.declared.scan.Coded.{Coded}
 use Rattle.jpeg_pixels.specs.declared.joint_planes.JointPlanes.{JointPlanes}
 use Rattle.jpeg_pixels.specs.declared.joint_planes.JointShape.{JointShape}
 use Rattle.jpeg_lossless.specs.Places.{AreEven}
@@ -176,6 +185,24 @@ strips-even shape (c ∷ codings) (blocks ∷ arrays) h =
     )
 strips-even shape _ _ h = tt
 
+-- the components of a scan have strips of the shape of the frame's components
+shaped : (frame : Frame) (shape : JointShape) (cs : List Coded) → shape.rows ≡ frame.mcus_high
+    → AllByRecursion (λ c. c.factors.vertical * c.scale ≡ shape.lines) frame.components
+    → AllByRecursion (λ c. c.blocks_wide * c.scale ≡ shape.stride) frame.components
+    → AllByRecursion (Fits frame) (components_in cs) → AllByRecursion (IsCodingOf frame) (map coding_in cs)
+    → AllByRecursion (IsOfShape shape) (map coding_in cs)
+shaped frame shape [] rows lines strides fits of = tt
+shaped frame shape (c ∷ cs) rows lines strides fits of =
+    let k = component_in c.component.now in
+    let at = first-at c.place frame.components k of.0 in (
+      record {
+        lines = at-all (λ x. x.factors.vertical * x.scale ≡ shape.lines) c.place frame.components k lines at;
+        stride = at-all (λ x. x.blocks_wide * x.scale ≡ shape.stride) c.place frame.components k strides at;
+        high = fits.0.high ∙ ap (λ (n : ℕ). n * k.factors.vertical) (sym rows);
+      },
+      shaped frame shape cs rows lines strides fits.1 of.1,
+    )
+
 module _ (codings : List Coding) (arrays : Arrays) (joint : JointPlanes) (is : IsJointOf codings joint)
     (held : length arrays ≡ length codings) where
   abbrev shape : JointShape
@@ -225,3 +252,65 @@ module _ (codings : List Coding) (arrays : Arrays) (joint : JointPlanes) (is : I
         whole = more ∙ whole-rows (length samples) (row_size shape) is.whole
             ∙ ap (λ (n : ℕ). n / row_size shape * row_size shape) (sym more);
       }
+
+-- ---- a scan's planes, before its rows and after them
+
+module _ (frame : Frame) (cs : List Coded) (seen : List Component) (joint : JointPlanes) (shape : JointShape)
+    (width height : ℕ) (shape-is : joint.shape ≡ shape) (none : joint.samples.items ≡ []) (seen-is : seen ≡ frame.components)
+    (is : IsShapeOf seen width height shape) (count : length cs ≡ length seen) where
+  same : shape.count ≡ length (map coding_in cs)
+  same = is.count ∙ sym count ∙ sym (length-map cs coding_in)
+
+  pub none-started : joint_planes joint.shape joint.samples.items ≡ no_samples (map coding_in cs)
+  none-started =
+      ap₂ (λ (s : JointShape) (l : List ℕ). joint_planes s l) shape-is none ∙ none-joint shape (map coding_in cs) same
+
+  pub joint-started : shape.rows ≡ frame.mcus_high
+      → AllByRecursion (λ c. c.factors.vertical * c.scale ≡ shape.lines) seen
+      → AllByRecursion (Fits frame) (components_in cs) → AllByRecursion (IsCodingOf frame) (map coding_in cs)
+      → IsJointOf (map coding_in cs) joint
+  joint-started rows lines fits of =
+      let all = subst (λ (l : List Component). AllByRecursion (λ c. c.factors.vertical * c.scale ≡ shape.lines) l
+      × AllByRecursion (λ c. c.blocks_wide * c.scale ≡ shape.stride) l) seen-is (lines, is.alike.strides) in
+      let some = is.some in
+      let empty : 0 ≡ 0 / row_size joint.shape * row_size joint.shape =
+      sym (ap (λ (n : ℕ). n * row_size joint.shape) (zero-div (row_size joint.shape)) ∙ omega arith) in
+      record {
+        small = subst IsSmall (sym shape-is) is.small;
+        count = ap (λ (s : JointShape). s.count) shape-is ∙ same;
+        some = subst (λ (s : JointShape). 1 ≤ s.count) (sym shape-is) (omega arith);
+        each = subst (λ (s : JointShape). AllByRecursion (IsOfShape s) (map coding_in cs)) (sym shape-is)
+            (shaped frame shape cs rows all.0 all.1 fits of);
+        whole = subst (λ (l : List ℕ). length l ≡ length l / row_size joint.shape * row_size joint.shape) (sym none) empty;
+      }
+
+-- where all rows have come
+pub room-full : (cs : List Coded) (joint : JointPlanes) → IsJointOf (map coding_in cs) joint
+    → map length (joint_planes joint.shape joint.samples.items)
+    ≡ map (λ (c : Component). c.blocks_high * c.scale * (c.blocks_wide * c.scale)) (components_in cs)
+    → IsFullJoint joint
+unfolding joint_planes
+room-full [] joint is sizes = absurd (let some = is.some in omega (arith, some, is.count))
+room-full (c ∷ cs) joint is sizes =
+    let shape = joint.shape in
+    let samples = joint.samples.items in
+    let k = component_in c.component.now in
+    let planes = joint_planes shape samples in
+    let first = is.each.0 in
+    let one : length samples / shape.count ≡ shape.rows * strip_size shape =
+    sym (length-joint shape samples 0)
+    ∙ ap (λ (l : List ℕ). length l) (sym (get_or-map-range_with_len (joint_plane shape samples) 0 shape.count 0 0 []
+    is.some (omega arith)))
+    ∙ sym (get_or-map length planes 0 [] 0 (let n = length-planes shape samples in omega (arith, n, is.some)))
+    ∙ ap (λ (l : List ℕ). get_or l 0 0) sizes
+    ∙ ap₂ (λ (a b : ℕ). a * b) (ap (λ (n : ℕ). n * k.scale) first.high
+    ∙ mul_assoc shape.rows k.factors.vertical k.scale ∙ ap (λ (n : ℕ). shape.rows * n) first.lines) first.stride
+    ∙ mul_assoc shape.rows shape.lines shape.stride in
+    let rows = length samples / row_size shape in
+    let whole = one-row rows shape.count (strip_size shape) (length samples) is.some is.whole in
+    record {
+      small = is.small;
+      full = is.whole ∙ turned rows shape.count (strip_size shape)
+          ∙ ap (λ (n : ℕ). n * shape.count) (sym whole ∙ one)
+          ∙ sym (turned shape.rows shape.count (strip_size shape));
+    }
