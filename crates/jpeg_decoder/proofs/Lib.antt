@@ -51,3 +51,5 @@ pub mod LosslessOnLiterals
 mod Orientations
 pub mod KeptScans
 pub mod KeptStrips
+pub mod JointStrips
+pub mod JointAdded

@@ -1,15 +1,12 @@
 -- The picture of samples that are written is their pixels.
 use Rattle.std.proofs.Common.{◌≡◌, ℕ, zero, suc, ◌+◌, ◌*◌, ◌<◌, List, [], ◌∷◌, ◌++◌, drop, length}
 use Rattle.std.proofs.Common.{get_or, Ok, Some, refl, sym, ap, ◌∙◌, subst, arith}
-use Rattle.std.specs.Prelude.{slice_index}
-use Rattle.std.specs.List.{AllByRecursion, concat, range_with_len}
-use Rattle.std.proofs.lemmas.List.{get_or_append_left, get_or-append_right}
-use Rattle.std.proofs.Math.Nat.{add-mul, one-mul}
+use Rattle.std.specs.List.{AllByRecursion, range_with_len}
 use Rattle.jpeg_segments.specs.Frame.{Component, Frame}
 use Rattle.jpeg_lossless.specs.Pictures.{layers_of, lossless_picture, most_across, most_down, pixel_bytes}
 use Rattle.jpeg_lossless.specs.Pictures.{picture_bytes}
-use Rattle.jpeg_lossless.specs.Places.{AreEven, at_place}
 use Rattle.jpeg_lossless.proofs.ImageLoops.{inside}
+use Rattle.jpeg_decoder.proofs.ReadLists.{at-flat}
 use Rattle.jpeg_streams.specs.declared.settings.Settings.{Settings}
 use Rattle.jpeg_streams.specs.Needed.{first_of}
 use Rattle.jpeg_streams.specs.Stream.{meaning, sized_meaning, told_of}
@@ -72,19 +69,6 @@ from-places frame samples all place (c ∷ cs) e made h =
       from-places frame samples all (place + 1) cs
           (ap (λ (n : ℕ). drop n all) next ∙ drop-next place all c cs e) made.1 h.1,
     )
-
--- ---- lines in one list
-
-abbrev get_or_zero : List ℕ → ℕ → ℕ
-get_or_zero l i = get_or l i 0
-
-at-flat : (w x : ℕ) (lines : List (List ℕ)) (y : ℕ) → AreEven w lines → y < length lines → x < w
-    → slice_index (concat lines) (y * w + x) ≡ at_place lines x y
-unfolding AreEven
-at-flat w x [] y even h k = absurd (omega arith)
-at-flat w x (l ∷ lines) zero even h k = grind (arith, common_steps, get_or_append_left)
-at-flat w x (l ∷ lines) (suc y) even h k =
-    grind (arith, common_steps, one-mul, add-mul, get_or-append_right, at-flat w x lines y even.1 (omega arith) k)
 
 -- ---- pixels
 

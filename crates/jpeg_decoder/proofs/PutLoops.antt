@@ -1,6 +1,6 @@
 -- The loops that add the planes and the blocks of a scan's components, one after the other.
 use Rattle.std.proofs.Common.{rules}
-use Rattle.std.proofs.Common.{◌≡◌, ◌<◌, ℕ, zero, suc, ◌+◌, ◌*◌, ℤ, true, Some, None, List, [], ◌∷◌, refl, sym}
+use Rattle.std.proofs.Common.{◌≡◌, ◌<◌, ℕ, zero, suc, ◌+◌, ◌*◌, ℤ, List, [], ◌∷◌, refl, sym}
 use Rattle.std.proofs.Common.{ap, ◌∙◌, length, get_or, set, map, drop, arith}
 use Rattle.std.proofs.lemmas.List.{drop-set-lt, drop_more, get_or-map, length-map, map-set}
 use Rattle.std.specs.declared.alloc.Global.{Global}
@@ -12,13 +12,9 @@ use Rattle.jpeg_decoder.specs.Scanning.{arrays_in, blocks_in, components_in}
 use Rattle.jpeg_decoder.specs.Steps.{coding_in, with_its_plane, with_planes}
 use Rattle.jpeg_streams.specs.ScanSegments.{put_arrays, with_arrays, with_blocks, with_plane, plane_by, Coding}
 use Rattle.jpeg_streams.specs.Found.{Found}
-use Rattle.jpeg_decoder.specs.Steps.{decided_planes, is_wanted, marks_after, with_decoded}
-use Rattle.jpeg_decoder.specs.declared.decoded.Decoded.{Decoded}
+use Rattle.jpeg_decoder.specs.Steps.{decided_planes}
 use Rattle.jpeg_streams.specs.InTurn.{AreArrays}
-use Rattle.jpeg_decoder.specs.PlanesView.{planes_in}
 use Rattle.jpeg_bits.specs.BlockView.{to_block}
-use Rattle.std.specs.Prelude.{slice_set, slice_index_or}
-use Rattle.jpeg_decoder.proofs.DecidedPlanes.{its_plane_set}
 use Rattle.std.proofs.lemmas.Grind.{common_steps}
 
 -- the first of those that are left, in a list that is seen by a function
@@ -112,12 +108,3 @@ long-at [] vs i a h = absurd (omega arith)
 long-at (c ∷ cs) [] i a h = absurd a
 long-at (c ∷ cs) (x ∷ vs) zero a h = omega arith
 long-at (c ∷ cs) (x ∷ vs) (suc i) a h = let r = long-at cs vs i a.1 (omega arith) in omega (arith, r)
-
--- a plane is decided of one that is given
-pub decided_as : (p : Pass) (place : ℕ) (plane : Vec ℕ Global) (base : Found) (old new : Decoded)
-    → new.held ≡ old.held → new.samples ≡ old.samples → planes_in new.planes ≡ planes_in old.planes
-    → new.finished ≡ slice_set old.finished place (marks_after p old.finished place)
-    → true ≡ is_wanted (marks_after p old.finished place) (slice_index_or (planes_in old.planes) place None)
-    → with_decoded base (record new { planes = slice_set new.planes place (Some plane) }) ≡ with_its_plane p place
-    plane.items (with_decoded base old)
-decided_as p place plane base old new a s b e w = grind (arith, common_steps, its_plane_set, map-set)

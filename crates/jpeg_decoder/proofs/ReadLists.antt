@@ -1,8 +1,12 @@
 -- Lists of which each element is needed, one after the other.
 use Rattle.std.proofs.lemmas.Grind.{common_steps}
 use Rattle.std.proofs.Common.{arith}
-use Rattle.std.proofs.Common.{◌≡◌, ◌+◌, ◌<◌, ◌∙◌, ℕ, List, [], ◌∷◌, ◌++◌, Result, Ok, Err, refl, sym, drop, get_or, length}
-use Rattle.std.proofs.lemmas.List.{append_assoc, append-nil, drop_more}
+use Rattle.std.proofs.Common.{◌≡◌, ◌+◌, ◌*◌, ◌<◌, ◌∙◌, ℕ, zero, suc, length-append, List, [], ◌∷◌, ◌++◌, Result, Ok, Err, refl, sym, drop, get_or, length}
+use Rattle.std.specs.Prelude.{slice_index}
+use Rattle.std.specs.List.{concat}
+use Rattle.std.proofs.Math.Nat.{add-mul, one-mul}
+use Rattle.std.proofs.lemmas.List.{append_assoc, append-nil, drop_more, get_or-append_right, get_or_append_left}
+use Rattle.jpeg_lossless.specs.Places.{AreEven, at_place}
 use Rattle.jpeg_bits.specs.Reading.{Fault, ◌>>=◌}
 
 -- an element of a list, and what stands after it
@@ -44,3 +48,18 @@ one-refused {A = A} left i o f front whole e is w = grind (arith, common_steps, 
 pub no-more : {A : Type 0} (left : ℕ → Result (List A) Fault) (i : ℕ) (front : List A)
     (whole : Result (List A) Fault) → left i ≡ Ok [] → whole ≡ (left i >>= after front) → whole ≡ Ok front
 no-more {A = A} left i front whole e w = grind (arith, common_steps, append-nil)
+
+-- ---- lines of the same length in one list
+
+pub flat-length : (w : ℕ) (lines : List (List ℕ)) → AreEven w lines → length (concat lines) ≡ length lines * w
+unfolding AreEven
+flat-length w [] even = let e : 0 ≡ 0 * w = omega arith in e
+flat-length w (l ∷ lines) even = grind (arith, common_steps, add-mul, one-mul, length-append, flat-length w lines even.1)
+
+pub at-flat : (w x : ℕ) (lines : List (List ℕ)) (y : ℕ) → AreEven w lines → y < length lines → x < w
+    → slice_index (concat lines) (y * w + x) ≡ at_place lines x y
+unfolding AreEven
+at-flat w x [] y even h k = absurd (omega arith)
+at-flat w x (l ∷ lines) zero even h k = grind (arith, common_steps, get_or_append_left)
+at-flat w x (l ∷ lines) (suc y) even h k =
+    grind (arith, common_steps, one-mul, add-mul, get_or-append_right, at-flat w x lines y even.1 (omega arith) k)

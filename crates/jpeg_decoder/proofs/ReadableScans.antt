@@ -26,7 +26,8 @@ use Rattle.jpeg_decoder.specs.Steps.{AreRising, HasPlace, HasScale, IsCodingOf, 
 use Rattle.jpeg_decoder.specs.Steps.{with_decoded}
 use Rattle.jpeg_streams.proofs.ReadTurns.{CodingFacts, codings-facts_from, codings-same_from, tables-same}
 use Rattle.jpeg_streams.proofs.OwnSpots.{At}
-use Rattle.jpeg_streams.proofs.Soundness.{count-few, decoded-count, decoded-fits}
+use Rattle.jpeg_segments.proofs.ScaleLemmas.{sized_frames_have_factors}
+use Rattle.jpeg_streams.proofs.Soundness.{count-few, decoded-count, decoded-fits, decoded-sized}
 use Rattle.jpeg_streams.proofs.WrittenFrameScans.{at-all}
 
 -- What scans have given changes no table in force.
@@ -119,4 +120,5 @@ ready found frame header scan decoded legal restart codings count =
       fits = fits-at frame cs (each-at (Fits frame) found frame cs (decoded-fits frame decoded) facts.1);
       of_frame = of-frame found frame (map coding_in cs) facts.1;
       rising = rising-at (map coding_in cs) 0 (subst (IsRising 0) (sym facts.2) legal.rising);
+      sampling = sized_frames_have_factors frame (decoded-sized frame decoded);
     }

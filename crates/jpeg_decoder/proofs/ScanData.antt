@@ -121,7 +121,7 @@ pub data-held : (f : Found) (frame : Frame) (p : Pass) (codings : List Coding) (
     → is_progressive frame.process ≡ true
     → read_at f frame p codings (blocks_at codings (arrays_before f frame)) bytes ≡ Ok ((arrays, met), rest)
     → ((base : Found) → with_decoded base two ≡ with_arrays p codings arrays (with_decoded base one))
-    → one.finished ≡ f.finished → planes_in one.planes ≡ f.planes → planes_in one.samples ≡ f.samples
+    → one.finished ≡ f.finished → one.planes ≡ f.planes → planes_in one.samples ≡ f.samples
     → held ≡ put_arrays codings arrays (arrays_before f frame)
     → scan_data f frame p codings bytes
     ≡ Ok (
@@ -130,7 +130,7 @@ pub data-held : (f : Found) (frame : Frame) (p : Pass) (codings : List Coding) (
           scanned = true;
           held = held;
           finished = two.finished;
-          planes = planes_in two.planes;
+          planes = two.planes;
           samples = planes_in two.samples;
         },
         met,
@@ -153,7 +153,7 @@ data-held f frame p codings arrays met bytes rest one two held e r added fin pl 
           scanned = true;
           held = held;
           finished = two.finished;
-          planes = planes_in two.planes;
+          planes = two.planes;
           samples = planes_in two.samples;
         }
     same =
@@ -197,7 +197,7 @@ pub data-planes : (f : Found) (frame : Frame) (p : Pass) (codings : List Coding)
     → is_progressive frame.process ≡ false → AllByRecursion (IsOf frame) codings
     → planes_at p f.restart (vias_from 0 codings) frame codings bytes ≡ Ok ((planes, met), rest)
     → ((base : Found) → with_decoded base two ≡ with_planes p codings planes (with_decoded base one))
-    → one.finished ≡ f.finished → planes_in one.planes ≡ f.planes → planes_in one.samples ≡ f.samples
+    → one.finished ≡ f.finished → one.planes ≡ f.planes → planes_in one.samples ≡ f.samples
     → arrays_in one.held.items ≡ []
     → scan_data f frame p codings bytes ≡ Ok ((record (with_decoded f two) { scanned = true }, met), rest)
 data-planes f frame p codings planes met bytes rest one two e of r added fin pl sa none =

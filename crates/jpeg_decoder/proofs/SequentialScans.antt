@@ -55,7 +55,7 @@ module _ (said : Found) (before : Decoded) (frame : Frame) (scan : Scan) (bytes 
       (again-refused p (vias_in 0 cs) scan.restart_interval frame codings bytes fault h)
 
   module _ (met : Option Marker) (rest : List ℕ) (one two : Decoded) (finished : one.finished ≡ f.finished)
-      (planes : planes_in one.planes ≡ f.planes) (samples : planes_in one.samples ≡ f.samples)
+      (planes : one.planes ≡ f.planes) (samples : planes_in one.samples ≡ f.samples)
       (none : arrays_in one.held.items ≡ []) where
     pub read-data : (made : Planes) → by_rows (no_samples codings) ≡ Ok ((made, met), rest)
         → ((base : Found) → with_decoded base two ≡ with_planes p codings made (with_decoded base one))
@@ -63,7 +63,7 @@ module _ (said : Found) (before : Decoded) (frame : Frame) (scan : Scan) (bytes 
     read-data made h added = data-planes f frame p codings made met bytes rest one two process
         (of-frame frame codings ready.of_frame) (at-once ∙ h) added finished planes samples none
 
-    pub again-data : (qs : Planes) → AllByRecursion (IsDecided (planes_in one.planes)) codings
+    pub again-data : (qs : Planes) → AllByRecursion (IsDecided one.planes) codings
         → by_rows [] ≡ Ok ((qs, met), rest)
         → ((base : Found) → with_decoded base two
         ≡ with_planes p codings (no_samples codings) (with_decoded base one))
@@ -78,9 +78,9 @@ module _ (said : Found) (before : Decoded) (frame : Frame) (scan : Scan) (bytes 
 
 -- such a scan changes no plane
 pub again-planes : (p : Pass) (codings : List Coding) (base : Found) (one two : Decoded)
-    → AllByRecursion (IsDecided (planes_in one.planes)) codings
+    → AllByRecursion (IsDecided one.planes) codings
     → with_decoded base two ≡ with_planes p codings (no_samples codings) (with_decoded base one)
-    → planes_in two.planes ≡ planes_in one.planes
+    → two.planes ≡ one.planes
 again-planes p codings base one two decided added = grind (arith, common_steps, planes-decided, length-map)
 
 -- the components whose planes were found to be decided

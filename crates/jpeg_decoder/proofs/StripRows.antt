@@ -13,7 +13,7 @@ use Rattle.jpeg_pixels.proofs.PlaneRows.{plane-more, plane-same, plane-none}
 use Rattle.jpeg_streams.specs.Scans.{Arrays}
 use Rattle.jpeg_streams.specs.Rasters.{in_raster}
 use Rattle.jpeg_streams.specs.ScanSegments.{Coding}
-use Rattle.jpeg_decoder.specs.Strips.{samples_of, with_strips}
+use Rattle.jpeg_decoder.specs.Strips.{samples_of, strips_of, with_strips}
 use Rattle.std.proofs.lemmas.Grind.{common_steps}
 
 -- ---- a row of blocks
@@ -77,16 +77,33 @@ strips-length (c ∷ codings) (a ∷ arrays) (x ∷ planes) e f = ap (λ (n : �
     (strips-length codings arrays planes (omega arith) (omega arith))
 strips-length _ _ _ e f = absurd (omega arith)
 
-pub strips-at : (codings : List Coding) (arrays : Arrays) (planes : List (List ℕ)) (slot : ℕ) (c : Coding)
-    → length arrays ≡ length codings → length planes ≡ length codings
-    → slot < length codings → c ≡ get_or codings slot c
+-- each plane has its strip
+pub strips-at : (codings : List Coding) (arrays : Arrays) (planes : List (List ℕ)) (slot : ℕ)
+    → length arrays ≡ length codings → length planes ≡ length codings → slot < length codings
     → get_or (with_strips codings arrays planes) slot []
-    ≡ get_or planes slot [] ++ samples_of c.component.factors.vertical c (get_or arrays slot [])
-unfolding with_strips
-strips-at (d ∷ codings) (a ∷ arrays) (x ∷ planes) zero c e f h is = grind (arith, common_steps)
-strips-at (d ∷ codings) (a ∷ arrays) (x ∷ planes) (suc slot) c e f h is = strips-at codings arrays planes slot c
-    (omega arith) (omega arith) (omega arith) is
-strips-at _ _ _ slot c e f h is = absurd (omega arith)
+    ≡ get_or planes slot [] ++ get_or (strips_of codings arrays) slot []
+unfolding with_strips strips_of
+strips-at (d ∷ codings) (a ∷ arrays) (x ∷ planes) zero e f h = refl
+strips-at (d ∷ codings) (a ∷ arrays) (x ∷ planes) (suc slot) e f h =
+    strips-at codings arrays planes slot (omega arith) (omega arith) (omega arith)
+strips-at _ _ _ slot e f h = absurd (omega arith)
+
+pub strips_of-length : (codings : List Coding) (arrays : Arrays) → length arrays ≡ length codings
+    → length (strips_of codings arrays) ≡ length codings
+unfolding strips_of
+strips_of-length [] [] e = refl
+strips_of-length (c ∷ codings) (a ∷ arrays) e = ap (λ (n : ℕ). suc n) (strips_of-length codings arrays (omega arith))
+strips_of-length _ _ e = absurd (omega arith)
+
+-- the strip of a component's blocks
+pub strip-of : (codings : List Coding) (arrays : Arrays) (slot : ℕ) (c : Coding) → length arrays ≡ length codings
+    → slot < length codings → c ≡ get_or codings slot c
+    → get_or (strips_of codings arrays) slot [] ≡ samples_of c.component.factors.vertical c (get_or arrays slot [])
+unfolding strips_of
+strip-of (d ∷ codings) (a ∷ arrays) zero c e h is =
+    ap (λ (x : Coding). samples_of x.component.factors.vertical x a) (sym is)
+strip-of (d ∷ codings) (a ∷ arrays) (suc slot) c e h is = strip-of codings arrays slot c (omega arith) (omega arith) is
+strip-of _ _ slot c e h is = absurd (omega arith)
 
 -- ---- the loop over the rows
 

@@ -18,11 +18,9 @@ use Rattle.jpeg_streams.specs.McuRows.{zero_rows, on_arrays}
 use Rattle.jpeg_decoder.specs.Scanning.{components_in, arrays_in, sizes_of, wide_in, down_in}
 use Rattle.jpeg_decoder.specs.Steps.{coding_in}
 use Rattle.jpeg_streams.specs.ScanSegments.{Coding, components_of}
-use Rattle.jpeg_decoder.specs.Strips.{planes_in, row_sizes, samples_in, samples_of, zeros_of, with_strips}
+use Rattle.jpeg_decoder.specs.Strips.{row_sizes, samples_in, samples_of, zeros_of, with_strips}
 use Rattle.jpeg_decoder.specs.Strips.{strips_from}
 use Rattle.jpeg_decoder.proofs.HeldBlocks.{Held, sizes-long}
-use Rattle.jpeg_decoder.proofs.RowBuffers.{Plane}
-use Rattle.jpeg_decoder.proofs.StripRows.{strips-length, strips-none}
 use Rattle.std.proofs.lemmas.Grind.{common_steps}
 use Rattle.std.proofs.Common.{rules}
 
@@ -92,7 +90,7 @@ zeros-are (c ∷ cs) = grind (arith, common_steps, zeros-are cs)
 
 -- ---- the planes
 
-length-samples : (high : ℕ) (c : Coding) (blocks : List Block) → length (samples_of high c blocks)
+pub length-samples : (high : ℕ) (c : Coding) (blocks : List Block) → length (samples_of high c blocks)
     ≡ c.component.scale * c.component.blocks_wide * (c.component.scale * high)
 unfolding samples_of plane_of
 length-samples high c blocks = grind (arith, common_steps, length-map-range_with_len)
@@ -118,7 +116,8 @@ lengths-none cs planes e = ap lengths e ∙ go cs
         let w : a * 0 ≡ 0 = omega arith in
         ap₂ (λ (n : ℕ) (l : List ℕ). n ∷ l) (sym (ap (λ (n : ℕ). a * (s * n)) y ∙ ap (λ (n : ℕ). a * n) z ∙ w)) (go cs)
 
-pub lengths-next : (cs : List Coded) (arrays : Arrays) (planes : List (List ℕ)) (row : ℕ) → length arrays ≡ length cs
+pub lengths-next : (cs : List Coded) (arrays : Arrays) (planes : List (List ℕ)) (row : ℕ)
+    → length arrays ≡ length (map coding_in cs)
     → lengths planes ≡ map (λ (c : Coded). samples_in (row * down_in c) c) cs
     → lengths (with_strips (map coding_in cs) arrays planes)
     ≡ map (λ (c : Coded). samples_in ((row + 1) * down_in c) c) cs
@@ -141,14 +140,9 @@ lengths-next [] (a ∷ arrays) planes row e h = absurd (omega arith)
 lengths-next (c ∷ cs) [] planes row e h = absurd (omega arith)
 lengths-next _ _ _ row e h = absurd (let n = ap (λ (l : List ℕ). length l) h in omega arith)
 
-pub row-count : (cs : List Coded) (vs : List Held) → sizes_of vs ≡ row_sizes cs → length (arrays_in vs) ≡ length cs
+pub row-count : (cs : List Coded) (vs : List Held) → sizes_of vs ≡ row_sizes cs
+    → length (arrays_in vs) ≡ length (map coding_in cs)
 row-count cs vs sizes = grind (arith, common_steps, length-map, sizes-long)
-
--- the planes that are there are those of the components, also after a row of MCUs
-pub kept-count : (cs : List Coded) (arrays : Arrays) (old new : List Plane) → length arrays ≡ length cs
-    → planes_in new ≡ with_strips (map coding_in cs) arrays (planes_in old)
-    → (0 < length old → length old ≡ length cs) → 0 < length new → length new ≡ length cs
-kept-count cs arrays old new e made h some = grind (arith, common_steps, strips-none, length-map, strips-length)
 
 -- a plane of all rows of MCUs has the samples of all blocks
 pub lengths-all : (frame : Frame) (cs : List Coded) → AllByRecursion (Fits frame) (components_in cs)

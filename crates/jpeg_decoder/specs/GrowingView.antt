@@ -24,7 +24,7 @@ pub record IsJointOf (codings : List Coding) (joint : JointPlanes) : Type 0 wher
   pub small : IsSmall joint.shape
   pub count : joint.shape.count ≡ length codings
   pub some : 1 ≤ joint.shape.count
-  pub codings : AllByRecursion (IsOfShape joint.shape) codings
+  pub each : AllByRecursion (IsOfShape joint.shape) codings
   pub whole : length joint.samples.items
       ≡ length joint.samples.items / row_size joint.shape * row_size joint.shape
 

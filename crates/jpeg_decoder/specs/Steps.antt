@@ -228,8 +228,8 @@ pub record IsReadable (frame : Frame) (found : Found) (scan : Scan) : Type 0 whe
 
 -- the components of a scan are those of the frame in their order
 abbrev pub IsInOrder : List Coded → Type 0
-IsInOrder codings = (slot : ℕ) → slot < length codings
-    → IfSome (first_of (drop slot codings)) (λ c. c.place ≡ slot)
+IsInOrder codings = (slot : ℕ) (d : Coded) → slot < length codings
+    → (get_or codings slot d).place ≡ slot
 
 -- Where planes grow in one room, none was decided, and the scan codes all coefficients of the
 -- components of the frame.

@@ -1,6 +1,6 @@
 //! What the scans of a frame have given so far: blocks, and planes (T.81, A.2 and G.1).
 ghost use Rattle.std.specs.Prelude.{◌≡◌, ◌<◌, ◌*◌, [], All, IfOk};
-ghost use Rattle.std.specs.Prelude.{None, OnOk, length, map, replicate, slice_index_or, slice_set};
+ghost use Rattle.std.specs.Prelude.{None, OnOk, length, map, replicate, slice_index_or, slice_set, true};
 ghost use Rattle.std.specs.List.{list_all};
 ghost use Rattle.jpeg_bits.specs.BlockView.{pass_in, to_block, IsPass};
 ghost use Rattle.jpeg_pixels.specs.Scaled.{IsScale};
@@ -48,7 +48,8 @@ pub struct Decoded {
 /// Marks the coefficients that a pass finishes: those that it codes at level 0.
 fn finish(pass: Pass, marks: &mut [bool; 64])
     requires { IsPass (pass_in pass) }
-    ensures { marks.new ≡ finished_by (pass_in pass) marks.old }
+    ensures marked { marks.new ≡ finished_by (pass_in pass) marks.old }
+    ensures all { pass_in pass ≡ whole_pass → list_all (λ mark. mark) marks.new ≡ true }
 {
     if pass.al == 0 {
         let after = usize::from(pass.se) + 1;
@@ -257,7 +258,7 @@ impl Decoded {
     }
 
     /// Adds the plane of a component after a scan of a sequential frame.
-    #[tactic(auto, using(crate::proofs::DecidedPlanes::plane_rules, crate::proofs::PutLoops::decided_as))]
+    #[tactic(auto, using(crate::proofs::DecidedPlanes::plane_rules))]
     fn add_plane(&mut self, pass: Pass, place: usize, plane: Vec<u8>)
         requires pass { IsPass (pass_in pass) }
         requires place { place < 4 }
@@ -273,7 +274,7 @@ impl Decoded {
     }
 
     /// Adds the blocks of a component after a scan of a progressive frame.
-    #[tactic(auto, using(crate::proofs::DecidedPlanes::plane_rules, crate::proofs::PutLoops::decided_as))]
+    #[tactic(auto, using(crate::proofs::DecidedPlanes::plane_rules))]
     fn add_blocks(
         &mut self,
         alloc: Global,

@@ -42,7 +42,8 @@ pub fn read_planes<R: Read + Drop>(
     ensures growing { OnOk result
         (IsGrowing (map coding_in scan.now.components.items) planes.new) }
     ensures sizes { growing_in planes.old ≡ no_samples (map coding_in scan.now.components.items)
-        → OnOk result (map length (growing_in planes.new) ≡ map (λ c. c.blocks_high * c.scale * (c.blocks_wide * c.scale))
+        → OnOk result (map length (growing_in planes.new)
+        ≡ map (λ c. c.blocks_high * c.scale * (c.blocks_wide * c.scale))
         (scan_components scan.now)) }
     ensures planes { Answers (λ m. (growing_in planes.new, m))
         (planes_by_rows (scan_pass scan.now) (scan_vias scan.now) scan.now.restart_interval

@@ -1,11 +1,20 @@
-use Rattle.std.proofs.Common.{arith}
+use Rattle.std.proofs.Common.{arith, ap}
 use Rattle.jpeg_bits.specs.BlockView.{pass_in}
+use Rattle.jpeg_bits.specs.Passes.{Pass}
 use Rattle.jpeg_decoder.proofs.BlocksBefore.{marked-by, unmarked-by}
+use Rattle.jpeg_decoder.proofs.JointAdded.{all-marked}
 use Rattle.jpeg_decoder.proofs.decoded.finish.Goals as goal
 use Rattle.std.proofs.lemmas.Grind.{common_steps}
 
-pub returns-then-pass-eq0 : goal.returns-then-pass-eq0
-returns-then-pass-eq0 c = grind (arith, common_steps, marked-by)
+pub returns-then-pass-eq0-clause-marked : goal.returns-then-pass-eq0-clause-marked
+returns-then-pass-eq0-clause-marked c = grind (arith, common_steps, marked-by)
 
-pub returns-else-pass-eq0 : goal.returns-else-pass-eq0
-returns-else-pass-eq0 c = unmarked-by (pass_in c.args.pass) c.args.marks.now c.if-pass-eq0.false
+pub returns-then-pass-eq0-clause-all : goal.returns-then-pass-eq0-clause-all
+returns-then-pass-eq0-clause-all c =
+    all-marked (pass_in c.args.pass) c.args.marks.now _ c.told-marks (returns-then-pass-eq0-clause-marked c)
+
+pub returns-else-pass-eq0-clause-marked : goal.returns-else-pass-eq0-clause-marked
+returns-else-pass-eq0-clause-marked c = unmarked-by (pass_in c.args.pass) c.args.marks.now c.if-pass-eq0.false
+
+pub returns-else-pass-eq0-clause-all : goal.returns-else-pass-eq0-clause-all
+returns-else-pass-eq0-clause-all c = λ is. absurd (c.if-pass-eq0.false (ap (λ (p : Pass). p.al) is))

@@ -18,7 +18,8 @@ use Rattle.jpeg_decoder.specs.Scanning.{IsSpotOf, arrays_in, components_in, coun
 use Rattle.jpeg_decoder.specs.Scanning.{kept_counted, sizes_of, vias_in}
 use Rattle.jpeg_decoder.proofs.KeptStrips.{kept-refused, one-a-side, strips_kept}
 use Rattle.jpeg_decoder.specs.Steps.{coding_in}
-use Rattle.jpeg_decoder.specs.Strips.{planes_in, row_sizes, samples_in, strips_from, with_strips, zeros_of}
+use Rattle.jpeg_decoder.specs.GrowingView.{IsGrowing, growing_in}
+use Rattle.jpeg_decoder.specs.Strips.{row_sizes, samples_in, strips_from, with_strips, zeros_of}
 use Rattle.jpeg_decoder.specs.Walk.{walk_of_row, walks_of_rows}
 use Rattle.jpeg_streams.specs.ScanSegments.{components_of}
 use Rattle.jpeg_decoder.proofs.HeldBlocks.{Held}
@@ -26,7 +27,7 @@ use Rattle.jpeg_decoder.proofs.HeldSpots.{rows-spots}
 use Rattle.jpeg_decoder.proofs.ScanOrders.{rows-walked}
 use Rattle.jpeg_decoder.proofs.StripScans.{rows-refused, scan-ended}
 use Rattle.jpeg_decoder.proofs.StripSteps.{strips_refused, strips_none, whole-rows, first-row, later-rows}
-use Rattle.jpeg_decoder.proofs.StripSteps.{zeros-are, kept-count, lengths, lengths-all, lengths-none, lengths-next}
+use Rattle.jpeg_decoder.proofs.StripSteps.{zeros-are, lengths, lengths-all, lengths-none, lengths-next}
 use Rattle.jpeg_decoder.proofs.StripSteps.{row-count}
 use Rattle.jpeg_decoder.proofs.sequential.read_planes.Goals as goal
 
@@ -34,7 +35,7 @@ pub loop-row-init : goal.loop-row-init
 loop-row-init g c =
     let cs = c.args.scan.now.components.items in
     let o = c.in_ok-order.order in
-    let planes = planes_in c.args.planes.now.items in
+    let planes = growing_in c.args.planes.now in
     let frame = frame_in c.args.frame.now in
     let sized : sizes_of c.in_ok-rows.rows.items ≡ row_sizes cs = c.in_ok-rows.ensures ∙ ap row_sizes c.deref.ensures.value in
     record {
@@ -45,7 +46,7 @@ loop-row-init g c =
           (subst (λ (s : List ℕ). AllByRecursion (AllByRecursion (IsSpotOf (length cs) s))
           (rows_of frame (components_in cs))) sized
           (rows-spots frame cs c.in_ok-rows.rows.items c.requires.fits sized));
-      count = c.requires.planes;
+      growing = c.requires.planes;
       lengths = lengths-none cs planes;
       strips = grind (arith, common_steps, whole-rows);
     }
@@ -74,18 +75,18 @@ returns-in_err-read_spots-clause-planes g c =
     let codings = map coding_in cs in
     let f = walk_of_row o in
     let l = c.loop-row in
-    let planes = planes_in l.planes.items in
+    let planes = growing_in l.planes in
     let zeros = arrays_in c.clear_rows.new.rows.items in
     let none : zeros ≡ zero_rows 1 (components_of codings) = c.clear_rows.ensures.zeros ∙ ap zeros_of l.invariant.sizes
     ∙ zeros-are cs in
     rw (e.1, e.2) (rows-refused (frame_in c.args.frame.now) cs p (vias_in 0 cs) c.args.scan.now.restart_interval o
-    c.in_ok-order.ensures (planes_in c.args.planes.now.items) c.args.source.now
+    c.in_ok-order.ensures (growing_in c.args.planes.now) c.args.source.now
     (λ (u : Unit {0}). planes) (λ (m : Option Marker). (planes, m)) c.read_spots.new.interval.decoder
     c.read_spots.new.source _
     (refused_after (λ (u : Unit {0}). planes) (λ (u : Unit {0}). kept_counted c.args.scan.now.keeps_ac
     (counted c.read_spots.new.interval (arrays_in c.read_spots.new.arrays.items)))
     (strips_from p (vias_in 0 cs) o.interval codings (walks_of_rows o)
-    (planes_in c.args.planes.now.items) (counted_at_start o.interval []))
+    (growing_in c.args.planes.now) (counted_at_start o.interval []))
     (strips_from p (vias_in 0 cs) o.interval codings (map f (range_with_len l.row (o.rows - l.row))) planes
     (counted l.interval []))
     (kept_blocks c.args.scan.now.keeps_ac
@@ -106,23 +107,22 @@ loop-row-preserved g c =
     let f = walk_of_row o in
     let l = c.loop-row in
     let high = o.rows in
-    let planes = planes_in l.planes.items in
+    let planes = growing_in l.planes in
     let zeros = arrays_in c.clear_rows.new.rows.items in
     let none : zeros ≡ zero_rows 1 (components_of codings) = c.clear_rows.ensures.zeros
     ∙ ap zeros_of l.invariant.sizes ∙ zeros-are cs in
     let q = c.in_ok-read_spots.ensures in
     let read = c.read_spots.new.arrays.items in
     let sizes : sizes_of read ≡ row_sizes cs = q.sizes ∙ c.clear_rows.ensures.sizes ∙ l.invariant.sizes in
-    let a = c.in_ok-append_strips.ensures in
-    let made : planes_in c.append_strips.new.planes.items ≡ with_strips codings (arrays_in read) planes
-    = a ∙ ap₂ (λ (x : List Coded) (y : List Held). with_strips (map coding_in x) (arrays_in y) planes)
+    let made : growing_in c.append_strips.new.planes ≡ with_strips codings (arrays_in read) planes
+    = c.in_ok-append_strips.ensures.strips ∙ ap₂ (λ (x : List Coded) (y : List Held). with_strips (map coding_in x) (arrays_in y) planes)
     c.deref-in-loop-row.ensures.value c.deref-in-loop-row-2.ensures.value in
     record {
       sizes = sizes;
       spots = later-rows (AllByRecursion (IsSpotOf (length cs) (row_sizes cs))) f l.row high
           c.loop-row-test.true l.invariant.spots;
-      count = kept-count cs (arrays_in read) l.planes.items c.append_strips.new.planes.items
-          (row-count cs read sizes) made l.invariant.count;
+      growing = subst (λ (x : List Coded). IsGrowing (map coding_in x) c.append_strips.new.planes)
+          c.deref-in-loop-row.ensures.value c.in_ok-append_strips.ensures.growing;
       lengths = λ none. ap lengths made ∙ lengths-next cs (arrays_in read) planes l.row
           (row-count cs read sizes) (l.invariant.lengths none);
       strips = (
@@ -164,8 +164,8 @@ returns-clause-planes g c =
     let p = pass_in c.args.scan.now.pass in
     let codings = map coding_in cs in
     let l = c.loop-row in
-    let planes = planes_in l.planes.items in
-    let start = planes_in c.args.planes.now.items in
+    let planes = growing_in l.planes in
+    let start = growing_in c.args.planes.now in
     scan-ended (frame_in c.args.frame.now) cs p (vias_in 0 cs) c.args.scan.now.restart_interval o c.in_ok-order.ensures
     start c.args.source.now (λ (u : Unit {0}). planes) l.interval.decoder l.source c.take_marker.new.source tt
     c.take_marker.result (Leaves-end (λ (u : Unit {0}). planes) (strips_from p (vias_in 0 cs) o.interval codings

@@ -1,4 +1,4 @@
-use Rattle.std.proofs.Common.{◌≡◌, ◌*◌, ◌-◌, ◌<◌, [], length, map}
+use Rattle.std.proofs.Common.{◌≡◌, ◌*◌, ◌-◌, [], length, map}
 use Rattle.std.specs.List.{AllByRecursion, range_with_len}
 use Rattle.jpeg_bits.proofs.BandLoop.{Leaves}
 use Rattle.jpeg_bits.specs.BlockView.{pass_in}
@@ -6,7 +6,8 @@ use Rattle.jpeg_bits.specs.Entropy.{fresh}
 use Rattle.jpeg_streams.specs.InTurn.{counted_at_start}
 use Rattle.jpeg_decoder.specs.Scanning.{IsSpotOf, counted, down_in, sizes_of, vias_in}
 use Rattle.jpeg_decoder.specs.Steps.{coding_in}
-use Rattle.jpeg_decoder.specs.Strips.{no_samples, planes_in, row_sizes, samples_in, strips_from}
+use Rattle.jpeg_decoder.specs.GrowingView.{IsGrowing, growing_in}
+use Rattle.jpeg_decoder.specs.Strips.{no_samples, row_sizes, samples_in, strips_from}
 use Rattle.jpeg_decoder.specs.Walk.{walk_of_row, walks_of_rows}
 use Rattle.jpeg_decoder.proofs.sequential.read_planes.Given as goal
 
@@ -16,17 +17,17 @@ invariant-loop-row g l = record {
   spots : AllByRecursion (AllByRecursion (IsSpotOf (length l.fn.scan.components.items)
       (row_sizes l.fn.scan.components.items)))
       (map (walk_of_row l.order) (range_with_len l.row (l.order.rows - l.row)));
-  count : 0 < length l.planes.items → length l.planes.items ≡ length l.fn.scan.components.items;
-  lengths : planes_in l.fn.planes.items ≡ no_samples (map coding_in l.fn.scan.components.items)
-      → map length (planes_in l.planes.items)
+  growing : IsGrowing (map coding_in l.fn.scan.components.items) l.planes;
+  lengths : growing_in l.fn.planes ≡ no_samples (map coding_in l.fn.scan.components.items)
+      → map length (growing_in l.planes)
       ≡ map (λ c. samples_in (l.row * down_in c) c) l.fn.scan.components.items;
   strips : Leaves (strips_from (pass_in l.fn.scan.pass)
       (vias_in 0 l.fn.scan.components.items) l.order.interval (map coding_in l.fn.scan.components.items)
-      (walks_of_rows l.order) (planes_in l.fn.planes.items) (counted_at_start l.order.interval []))
+      (walks_of_rows l.order) (growing_in l.fn.planes) (counted_at_start l.order.interval []))
       fresh l.fn.source
       (strips_from (pass_in l.fn.scan.pass) (vias_in 0 l.fn.scan.components.items) l.order.interval
       (map coding_in l.fn.scan.components.items)
       (map (walk_of_row l.order) (range_with_len l.row (l.order.rows - l.row)))
-      (planes_in l.planes.items) (counted l.interval []))
+      (growing_in l.planes) (counted l.interval []))
       l.interval.decoder l.source;
 }

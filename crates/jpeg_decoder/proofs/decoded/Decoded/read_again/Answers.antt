@@ -25,7 +25,7 @@ returns-in_err-reached-clause-data g c =
     let start-is = ap (λ (l : List (Vec ℕ Global)). planes_by_rows (pass_in scan.pass) (vias_in 0 cs)
     scan.restart_interval frame (map coding_in cs) (strips.planes_in l) c.args.source.now.bytes) (sym c.new.ensures.items)
     in
-    rw (e.1, e.2) (answers-err (λ (m : Option Marker). (strips.planes_in c.read_planes.new.planes.items, m))
+    rw (e.1, e.2) (answers-err (λ (m : Option Marker). (growing_in c.read_planes.new.planes, m))
     (λ (m : Option Marker). (f, m))
     (planes_by_rows (pass_in scan.pass) (vias_in 0 cs) scan.restart_interval frame (map coding_in cs)
     (strips.planes_in c.new.result.items))
@@ -46,7 +46,7 @@ returns-clause-data g c =
             again-data (found_in c.args.state.now) c.args.self.now (frame_in c.args.frame.now) scan
                 c.args.source.now.bytes c.requires.process c.requires.ready c.in_ok-reached.reached c.read_planes.new.source.bytes (record c.args.self.now { held = c.new-2.result })
                 c.add_planes.new.self refl refl refl (ap (map _) c.new-2.ensures.items)
-                (strips.planes_in c.read_planes.new.planes.items)
+                (growing_in c.read_planes.new.planes)
                 (are-decided scan.components.items _ c.requires.decided)
                 (ap (λ (l : List (Vec ℕ Global)). planes_by_rows (pass_in scan.pass) (vias_in 0 scan.components.items)
                 scan.restart_interval (frame_in c.args.frame.now) (map coding_in scan.components.items)

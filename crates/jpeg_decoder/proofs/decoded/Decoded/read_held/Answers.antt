@@ -148,7 +148,7 @@ returns-clause-data g c =
                 (read-as f frame p cs n (blocks_at (map coding_in cs) (arrays_before f frame)) bytes
                 c.requires.ready.restart ∙ (ap (λ (a : Arrays). read a bytes) (sym t.0) ∙ at.1))
                 c.in_ok-add_arrays.ensures.planes c.in_ok-hold.ensures.finished
-                (ap planes_in c.in_ok-hold.ensures.planes) (ap planes_in c.in_ok-hold.ensures.samples)
+                c.in_ok-hold.ensures.planes (ap planes_in c.in_ok-hold.ensures.samples)
                 (put-held cs c.deref.result.now c.deref-2.result.now c.hold.new.self.held.items
                 c.add_arrays.new.self.held.items c.read_blocks.new.arrays.items c.put_blocks.new.held.items
                 (arrays_before f frame) c.deref.ensures.value c.deref-2.ensures.value c.in_ok-hold.ensures.held
@@ -190,4 +190,4 @@ returns-clause-planes g c =
     subst (λ (x : Found). ArePlanes frame.components x.planes) (sym (c.in_ok-add_arrays.ensures.planes base))
     (arrays-whole frame p codings (arrays_in c.read_blocks.new.arrays.items) (with_decoded base one)
     (of-frame frame codings c.requires.ready.of_frame)
-    (subst (ArePlanes frame.components) (sym (ap planes_in c.in_ok-hold.ensures.planes)) h))
+    (subst (ArePlanes frame.components) (sym c.in_ok-hold.ensures.planes) h))

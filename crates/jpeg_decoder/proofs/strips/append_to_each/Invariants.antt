@@ -3,9 +3,9 @@ use Rattle.jpeg_decoder.specs.Scanning.{arrays_in}
 use Rattle.jpeg_decoder.specs.Steps.{coding_in}
 use Rattle.jpeg_decoder.specs.Strips.{planes_in, with_strips}
 use Rattle.jpeg_streams.proofs.InPlace.{patched}
-use Rattle.jpeg_decoder.proofs.strips.append_strips.Given as goal
+use Rattle.jpeg_decoder.proofs.strips.append_to_each.Given as goal
 
 abbrev pub invariant-loop-slot : goal.invariant-loop-slot
-invariant-loop-slot l = planes_in l.planes.items
-    ≡ patched l.slot (with_strips (map coding_in l.codings) (arrays_in l.rows) (planes_in l.fn.planes.items))
-    (planes_in l.fn.planes.items)
+invariant-loop-slot l = planes_in l.planes
+    ≡ patched l.slot (with_strips (map coding_in l.codings) (arrays_in l.rows) (planes_in l.fn.planes))
+    (planes_in l.fn.planes)

@@ -1,0 +1,22 @@
+use Rattle.std.proofs.Common.{arith, rules}
+use Rattle.jpeg_decoder.specs.Strips.{samples_of}
+use Rattle.jpeg_decoder.proofs.RowBuffers.{no-strips, planes-long, row-size, planes-next, planes-all}
+use Rattle.jpeg_decoder.proofs.strips.append_to_each.Goals as goal
+use Rattle.std.proofs.lemmas.Grind.{common_steps}
+
+pub bounds-planes-slot : goal.bounds-planes-slot
+bounds-planes-slot c = grind (arith, common_steps, planes-long)
+
+pub append_rows-requires-clause-size : goal.append_rows-requires-clause-size
+append_rows-requires-clause-size c = grind (arith, common_steps, row-size)
+
+pub loop-slot-preserved : goal.loop-slot-preserved
+unfolding samples_of
+loop-slot-preserved c = grind (arith, common_steps, planes-next)
+
+pub returns-then-is_empty : goal.returns-then-is_empty
+returns-then-is_empty c =
+    no-strips c.args.codings.now c.args.rows.now c.args.planes.now (search rules)
+
+pub returns : goal.returns
+returns c = grind (arith, common_steps, planes-all)
