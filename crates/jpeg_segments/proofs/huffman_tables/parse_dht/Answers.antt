@@ -1,9 +1,9 @@
-use Rattle.std.proofs.Common.{arith, Vec, Global, Option, rules}
+use Rattle.std.proofs.Common.{◌-◌, ◌∙◌, sym, arith, Vec, Global, Option, rules}
 use Rattle.std.proofs.lemmas.Result.{err_from_is_err_and}
-use Rattle.jpeg_segments.specs.HuffmanTables.{Tables, PlacedTable}
+use Rattle.jpeg_segments.specs.HuffmanTables.{Tables, PlacedTable, dht_at, placed_codes_at, tables_from}
 use Rattle.jpeg_segments.specs.declared.huffman_tables.PlacedTable.{PlacedTable as Read}
 use Rattle.jpeg_bits.specs.Codes.{Table}
-use Rattle.jpeg_bits.proofs.Loops.{bind_at, bind_err}
+use Rattle.jpeg_bits.proofs.Loops.{Continues-ok, bind_at, bind_err}
 use Rattle.jpeg_segments.proofs.HuffmanLemmas.{tables_from-more, tables_from-rest}
 use Rattle.jpeg_segments.proofs.huffman_tables.parse_dht.Goals as goal
 use Rattle.std.proofs.lemmas.Grind.{common_steps}
@@ -15,7 +15,30 @@ abbrev placed_of : Read → PlacedTable
 placed_of t = record { place = t.place; table = t.table }
 
 pub loop-left-preserved : goal.loop-left-preserved
-loop-left-preserved g c = search (rules, tables_from-more, bind_at)
+loop-left-preserved g c =
+    let l = c.loop-left in
+    let placed = c.in_ok-placed in
+    let turns = l.invariant.rest.0 in
+    let greatest = c.greatest_place-greatest.result in
+    let tables = view_of l.tables in
+    record {
+      dc = search rules;
+      ac = search rules;
+      classes = search rules;
+      rest = (
+        turns - 1,
+        omega (arith, l.invariant.rest.1, placed.ensures.size.0, placed.ensures.size.1),
+        Continues-ok placed_of (dht_at c.args.is_baseline) (tables_from turns greatest l.left tables)
+            (tables_from (turns - 1) greatest (l.left - placed.placed.size) (view_of c.place_table.new.tables))
+            (placed_codes_at greatest l.left) c.args.reader.now l.reader c.read_placed_table.new.source
+            placed.placed
+            (λ is. tables_from-more turns greatest l.left tables l.reader.bytes (omega arith) l.invariant.rest.1
+            ∙ bind_at _ _ _ is
+            ∙ (λ i. tables_from (turns - 1) greatest (l.left - sym placed.ensures.size.0 i)
+            (sym c.place_table.ensures.tables i) c.read_placed_table.new.source.bytes))
+            l.invariant.rest.2 placed.ensures.answers,
+      );
+    }
 
 pub returns-in_err-placed-clause-tables : goal.returns-in_err-placed-clause-tables
 returns-in_err-placed-clause-tables g c = search (rules, err_from_is_err_and, tables_from-more, bind_err)
