@@ -16,11 +16,11 @@ ghost use Rattle.jpeg_decoder.specs.Steps.{blocks_at, coding_in, without_blocks,
 ghost use Rattle.jpeg_bits.specs.Passes.{whole_pass};
 
 use crate::codings::is_progressive;
+use crate::planes::Planes;
 use crate::scan::{Coded, Scan};
 use crate::scans::read_blocks;
 use crate::sequential::read_planes;
 use crate::state::State;
-use crate::planes::Planes;
 use crate::strips::{GrowingPlanes, append_rows, empty_planes, plane_size};
 use jpeg_bits::blocks::Pass;
 use jpeg_bits::error::Result;

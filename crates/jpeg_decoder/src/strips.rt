@@ -164,13 +164,7 @@ fn append_to_room(
         let coded = &codings[slot];
         let component = coded.component;
         let high = u16::from(component.vertical_sampling_factor);
-        append_rows(
-            samples,
-            component,
-            coded.quantization,
-            &rows[slot],
-            high,
-        )?;
+        append_rows(samples, component, coded.quantization, &rows[slot], high)?;
     }
     Ok(())
 }
