@@ -1,5 +1,5 @@
 -- What a caller sees of planes that grow by rows of MCUs, each on its own or all in one room.
-use Rattle.std.specs.Prelude.{◌≡◌, ◌≤◌, ◌<◌, ℕ, ◌*◌, ◌/◌, List, length}
+use Rattle.std.specs.Prelude.{◌≡◌, ◌≤◌, ◌<◌, ℕ, ◌*◌, ◌/◌, Bool, false, true, List, length}
 use Rattle.std.specs.List.{AllByRecursion}
 use Rattle.jpeg_pixels.specs.JointPlanes.{IsSmall, joint_planes, row_size}
 use Rattle.jpeg_pixels.specs.declared.joint_planes.JointPlanes.{JointPlanes}
@@ -12,6 +12,10 @@ use Rattle.jpeg_decoder.specs.declared.strips.GrowingPlanes.TheVariants as growi
 abbrev pub growing_in : GrowingPlanes → List (List ℕ)
 growing_in (growing.Own planes) = planes_in planes.items
 growing_in (growing.Joint joint) = joint_planes joint.shape joint.samples.items
+
+abbrev pub is_joint : GrowingPlanes → Bool
+is_joint (growing.Own planes) = false
+is_joint (growing.Joint joint) = true
 
 -- a component of a scan has strips of this shape
 pub record IsOfShape (shape : JointShape) (c : Coding) : Type 0 where

@@ -21,8 +21,6 @@ use Rattle.jpeg_streams.specs.Order.{spots_of, mcu_size}
 use Rattle.jpeg_decoder.specs.declared.decoded.Decoded.{Decoded}
 use Rattle.jpeg_bits.specs.BlockView.{pass_in}
 use Rattle.jpeg_bits.specs.Passes.{Pass, whole_pass}
-use Rattle.jpeg_decoder.specs.declared.strips.GrowingPlanes.{GrowingPlanes}
-use Rattle.jpeg_decoder.specs.declared.strips.GrowingPlanes.TheVariants as growing
 use Rattle.std.specs.List.{list_all, AllByRecursion}
 use Rattle.jpeg_segments.specs.FrameView.{component_in}
 use Rattle.jpeg_segments.specs.ScanHeader as headers
@@ -231,13 +229,11 @@ abbrev pub IsInOrder : List Coded → Type 0
 IsInOrder codings = (slot : ℕ) (d : Coded) → slot < length codings
     → (get_or codings slot d).place ≡ slot
 
--- Where planes grow in one room, none was decided, and the scan codes all coefficients of the
--- components of the frame.
-abbrev pub IsFirstJoint : List (Option (List ℕ)) → Scan → GrowingPlanes → Type 0
-IsFirstJoint planes scan (growing.Own own) = Unit {0}
-IsFirstJoint planes scan (growing.Joint joint) =
-    (planes ≡ replicate 4 None) × (pass_in scan.pass ≡ whole_pass)
-    × IsInOrder scan.components.items
+-- No plane is decided, and a scan codes all coefficients of the components of its frame.
+pub record IsFirst (planes : List (Option (List ℕ))) (scan : Scan) : Type 0 where
+  pub none : planes ≡ replicate 4 None
+  pub whole : pass_in scan.pass ≡ whole_pass
+  pub in_order : IsInOrder scan.components.items
 
 -- those of the frame that are left
 unfoldable pub without_blocks : List Coding → Arrays → Arrays

@@ -16,11 +16,11 @@ ghost use Rattle.jpeg_decoder.specs.Steps.{blocks_at, coding_in, without_blocks,
 ghost use Rattle.jpeg_bits.specs.Passes.{whole_pass};
 
 use crate::codings::is_progressive;
+use crate::planes::Planes;
 use crate::scan::{Coded, Scan};
 use crate::scans::read_blocks;
 use crate::sequential::read_planes;
 use crate::state::State;
-use crate::planes::Planes;
 use crate::strips::{GrowingPlanes, append_rows, empty_planes, plane_size};
 use jpeg_bits::blocks::Pass;
 use jpeg_bits::error::Result;
@@ -195,14 +195,13 @@ impl Decoded {
     ghost use Rattle.jpeg_streams.specs.ScanSegments.{plane_by};
     ghost use Rattle.jpeg_streams.specs.Found.{Found, none_finished};
     ghost use Rattle.jpeg_pixels.specs.JointPlanes.{joint_planes};
-    ghost use Rattle.jpeg_decoder.specs.GrowingView.{IsGrowing, growing_in};
+    ghost use Rattle.jpeg_decoder.specs.GrowingView.{IsGrowing, growing_in, is_joint};
     ghost use Rattle.jpeg_decoder.specs.PlanesView.{IsFullJoint};
-    ghost use Rattle.jpeg_decoder.specs.Steps.{IsCodingOf, IsFirstJoint};
+    ghost use Rattle.jpeg_decoder.specs.Steps.{IsCodingOf, IsFirst};
     ghost use Rattle.jpeg_segments.specs.Frame.{AllHaveSampling};
     ghost use Rattle.jpeg_streams.specs.InTurn.{Fits};
     ghost use Rattle.std.specs.List.{AllByRecursion};
     ghost use Rattle.jpeg_decoder.specs.Strips.{no_samples};
-    ghost use Rattle.jpeg_decoder.specs.declared.strips.GrowingPlanes.TheVariants as growing;
 
     /// Makes the state in which nothing was read.
     pub fn new(alloc: Global) -> Decoded
@@ -336,7 +335,8 @@ impl Decoded {
             growing_in planes ≡ no_samples (map coding_in scan.now.components.items)) }
         ensures growing { IfOk result
             (IsGrowing (map coding_in scan.now.components.items)) }
-        ensures first { IfOk result (IsFirstJoint self.now.planes scan.now) }
+        ensures first { IfOk result
+            (λ planes. is_joint planes ≡ true → IsFirst self.now.planes scan.now) }
     {
         let components = frame.components.as_slice();
         let is_first = self.planes.are_none() && is_whole(scan.pass);
@@ -352,7 +352,7 @@ impl Decoded {
 
     /// Adds the planes of a scan of all components of a frame, which stand in one room.
     fn add_joint(&mut self, scan: &Scan<'_>, joint: JointPlanes)
-        requires first { IsFirstJoint self.old.planes scan.now (growing.Joint joint) }
+        requires first { IsFirst self.old.planes scan.now }
         requires full { IsFullJoint joint }
         requires count { joint.shape.count ≡ length scan.now.components.items }
         ensures held { self.new.held ≡ self.old.held }
@@ -365,6 +365,26 @@ impl Decoded {
             finish(scan.pass, &mut self.finished[coded.place]);
         }
         self.planes.put_joint(joint);
+    }
+
+    /// Adds the planes of a scan of a sequential frame.
+    fn add_grown(&mut self, scan: &Scan<'_>, planes: GrowingPlanes, alloc: Global)
+        requires places { All HasPlace scan.now.components.items }
+        requires grown { IsGrowing (map coding_in scan.now.components.items) planes }
+        requires sizes { map length (growing_in planes)
+            ≡ map (λ c. c.blocks_high * c.scale * (c.blocks_wide * c.scale))
+            (components_in scan.now.components.items) }
+        requires first { is_joint planes ≡ true → IsFirst self.old.planes scan.now }
+        ensures held { self.new.held ≡ self.old.held }
+        ensures samples { self.new.samples ≡ self.old.samples }
+        ensures planes { (base : Found) → with_decoded base self.new
+            ≡ with_planes (pass_in scan.now.pass) (map coding_in scan.now.components.items)
+            (growing_in planes) (with_decoded base self.old) }
+    {
+        match planes {
+            GrowingPlanes::Own(mut planes) => self.add_planes(scan, &mut planes, alloc),
+            GrowingPlanes::Joint(joint) => self.add_joint(scan, joint),
+        }
     }
 
     /// Adds the blocks of a scan's components.
@@ -534,10 +554,7 @@ impl Decoded {
         let mut planes = self.start_planes(alloc, frame, scan)?;
         let reached = read_planes(alloc, source, scan, frame, &mut planes)?;
         self.held = Vec::new(alloc);
-        match planes {
-            GrowingPlanes::Own(mut planes) => self.add_planes(scan, &mut planes, alloc),
-            GrowingPlanes::Joint(joint) => self.add_joint(scan, joint),
-        }
+        self.add_grown(scan, planes, alloc);
         Ok(reached)
     }
 }

@@ -11,7 +11,7 @@ ghost use Rattle.jpeg_decoder.specs.Scanning.{arrays_in, sizes_of};
 ghost use Rattle.jpeg_decoder.specs.Steps.{coding_in};
 ghost use Rattle.jpeg_decoder.specs.Strips.{no_samples, planes_in, row_sizes, zeros_of};
 ghost use Rattle.jpeg_decoder.specs.Strips.{strips_of, with_strips};
-ghost use Rattle.jpeg_decoder.specs.GrowingView.{IsGrowing, growing_in};
+ghost use Rattle.jpeg_decoder.specs.GrowingView.{IsGrowing, growing_in, is_joint};
 
 use crate::scan::Coded;
 use jpeg_pixels::joint_planes::JointPlanes;
@@ -164,13 +164,7 @@ fn append_to_room(
         let coded = &codings[slot];
         let component = coded.component;
         let high = u16::from(component.vertical_sampling_factor);
-        append_rows(
-            samples,
-            component,
-            coded.quantization,
-            &rows[slot],
-            high,
-        )?;
+        append_rows(samples, component, coded.quantization, &rows[slot], high)?;
     }
     Ok(())
 }
@@ -187,6 +181,7 @@ pub fn append_strips(
     ensures strips { OnOk result (growing_in planes.new
         ≡ with_strips (map coding_in codings.now) (arrays_in rows.now) (growing_in planes.old)) }
     ensures growing { OnOk result (IsGrowing (map coding_in codings.now) planes.new) }
+    ensures kind { is_joint planes.new ≡ is_joint planes.old }
 {
     match planes {
         GrowingPlanes::Own(planes) => append_to_each(planes, codings, rows),

@@ -1,5 +1,5 @@
 use Rattle.std.proofs.lemmas.Grind.{common_steps}
-use Rattle.std.proofs.Common.{◌≡◌, ◌∙◌, ◌-◌, ◌+◌, ◌*◌, [], ap, ap₂, map, sym, subst, ℕ, List, Option, Result}
+use Rattle.std.proofs.Common.{◌≡◌, ◌∙◌, ◌-◌, ◌+◌, ◌*◌, [], ap, ap₂, map, refl, sym, subst, ℕ, List, Option, Result}
 use Rattle.std.proofs.Common.{arith, length}
 use Rattle.std.specs.List.{AllByRecursion, range_with_len}
 use Rattle.std.specs.Prelude.{OnOk}
@@ -47,6 +47,7 @@ loop-row-init g c =
           (rows_of frame (components_in cs))) sized
           (rows-spots frame cs c.in_ok-rows.rows.items c.requires.fits sized));
       growing = c.requires.planes;
+      kind = refl;
       lengths = lengths-none cs planes;
       strips = grind (arith, common_steps, whole-rows);
     }
@@ -123,6 +124,7 @@ loop-row-preserved g c =
           c.loop-row-test.true l.invariant.spots;
       growing = subst (λ (x : List Coded). IsGrowing (map coding_in x) c.append_strips.new.planes)
           c.deref-in-loop-row.ensures.value c.in_ok-append_strips.ensures.growing;
+      kind = c.in_ok-append_strips.ensures.kind ∙ l.invariant.kind;
       lengths = λ none. ap lengths made ∙ lengths-next cs (arrays_in read) planes l.row
           (row-count cs read sizes) (l.invariant.lengths none);
       strips = (

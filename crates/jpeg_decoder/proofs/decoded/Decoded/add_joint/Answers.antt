@@ -26,7 +26,7 @@ loop-coded-preserved c =
     let is : coded ≡ get_or cs l.coded-index coded =
     c.coded-item.is ∙ ap (λ (xs : List Coded). get_or xs l.coded-index coded) all in
     let place : coded.place ≡ l.coded-index =
-    ap (λ (x : Coded). x.place) is ∙ c.requires.first.2 l.coded-index coded within in
+    ap (λ (x : Coded). x.place) is ∙ c.requires.first.in_order l.coded-index coded within in
     let long = length-set l.self.finished coded.place c.finish.new.marks in
     let four : length l.self.finished ≡ 4 = search rules in
     let marked : c.finish.new.marks ≡ marks_after p l.self.finished coded.place =
@@ -39,7 +39,7 @@ loop-coded-preserved c =
       added = λ base.
           joint-step p cs planes count l.coded-index coded (with_decoded base l.self) c.finish.new.marks
           (omega (arith, small, c.requires.count)) within is place marked
-          (c.finish.ensures.all c.requires.first.1) ∙ l.invariant.added base;
+          (c.finish.ensures.all c.requires.first.whole) ∙ l.invariant.added base;
     }
 
 pub loop-coded-init : goal.loop-coded-init
@@ -52,7 +52,7 @@ loop-coded-init c = record {
       (map coding_in c.args.scan.now.components.items)
       (joint_planes c.args.joint.shape c.args.joint.samples.items)
       (record (with_decoded base c.args.self.now) { planes = planes }))
-      (or-none (replicate 4 None) ∙ sym c.requires.first.0);
+      (or-none (replicate 4 None) ∙ sym c.requires.first.none);
 }
 
 pub returns-clause-planes : goal.returns-clause-planes

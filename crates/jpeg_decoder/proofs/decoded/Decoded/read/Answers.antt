@@ -5,13 +5,12 @@ use Rattle.jpeg_bits.specs.BlockView.{pass_in}
 use Rattle.jpeg_segments.specs.Frame.{Component}
 use Rattle.jpeg_segments.specs.FrameView.{frame_in}
 use Rattle.jpeg_decoder.specs.Seen.{found_in}
-use Rattle.jpeg_decoder.specs.declared.scan.Coded.{Coded}
 use Rattle.jpeg_streams.specs.Sound.{ArePlanes}
 use Rattle.jpeg_decoder.specs.Scanning.{vias_in}
 use Rattle.jpeg_decoder.specs.Steps.{coding_in, scan_data, with_decoded}
 use Rattle.jpeg_streams.specs.Found.{Found}
-use Rattle.jpeg_decoder.specs.Strips.{no_samples, planes_by_rows}
-use Rattle.jpeg_decoder.specs.Strips as strips
+use Rattle.jpeg_decoder.specs.GrowingView.{growing_in}
+use Rattle.jpeg_decoder.specs.Strips.{planes_by_rows}
 use Rattle.jpeg_decoder.proofs.PlacedCodings.{coded-components}
 use Rattle.jpeg_decoder.proofs.ScanData.{answers-err, held-afterwards, none-held, of-frame, planes-whole}
 use Rattle.jpeg_decoder.proofs.SequentialScans.{read-data, read-refused}
@@ -25,16 +24,14 @@ returns-in_err-reached-clause-data g c =
     let frame = frame_in c.args.frame.now in
     let scan = c.args.scan.now in
     let cs = scan.components.items in
-    let start-is : strips.planes_in c.in_ok-planes.planes.items ≡ no_samples (map coding_in cs)
-    = c.in_ok-planes.ensures ∙ ap (λ (l : List Coded). no_samples (map coding_in l)) c.deref-2.ensures.value in
-    rw (e.1, e.2) (answers-err (λ (m : Option Marker). (strips.planes_in c.read_planes.new.planes.items, m))
+    rw (e.1, e.2) (answers-err (λ (m : Option Marker). (growing_in c.read_planes.new.planes, m))
     (λ (m : Option Marker). (f, m))
     (planes_by_rows (pass_in scan.pass) (vias_in 0 cs) scan.restart_interval frame (map coding_in cs)
-    (strips.planes_in c.in_ok-planes.planes.items))
+    (growing_in c.in_ok-planes.planes))
     (scan_data f frame (pass_in scan.pass) (map coding_in cs)) c.args.source.now c.read_planes.new.source _
     (λ fault h. read-refused (found_in c.args.state.now) c.args.self.now frame scan c.args.source.now.bytes (sym c.if-is_progressive.ensures)
     c.requires.ready fault (ap (λ (start : List (List ℕ)). planes_by_rows (pass_in scan.pass) (vias_in 0 cs)
-    scan.restart_interval frame (map coding_in cs) start c.args.source.now.bytes) (sym start-is) ∙ h))
+    scan.restart_interval frame (map coding_in cs) start c.args.source.now.bytes) (sym c.in_ok-planes.ensures.none) ∙ h))
     c.in_err-reached.ensures.planes)
 
 pub returns-clause-data : goal.returns-clause-data
@@ -48,13 +45,12 @@ returns-clause-data g c =
             at.0,
             read-data (found_in c.args.state.now) c.args.self.now (frame_in c.args.frame.now) scan
                 c.args.source.now.bytes (sym c.if-is_progressive.ensures) c.requires.ready c.in_ok-reached.reached c.read_planes.new.source.bytes (record c.args.self.now { held = c.new.result })
-                c.add_planes.new.self refl refl refl (ap (map _) c.new.ensures.items)
-                (strips.planes_in c.read_planes.new.planes.items)
+                c.add_grown.new.self refl refl refl (ap (map _) c.new.ensures.items)
+                (growing_in c.read_planes.new.planes)
                 (ap (λ (start : List (List ℕ)). planes_by_rows (pass_in scan.pass) (vias_in 0 scan.components.items)
                 scan.restart_interval (frame_in c.args.frame.now) (map coding_in scan.components.items) start
-                c.args.source.now.bytes) (sym (c.in_ok-planes.ensures
-                ∙ ap (λ (l : List Coded). no_samples (map coding_in l)) c.deref-2.ensures.value)) ∙ at.1)
-                c.add_planes.ensures.planes,
+                c.args.source.now.bytes) (sym c.in_ok-planes.ensures.none) ∙ at.1)
+                c.add_grown.ensures.planes,
           ),
     )
 
@@ -67,13 +63,12 @@ returns-clause-planes g c =
     let one = record c.args.self.now { held = c.new.result } in
     λ h.
     subst (λ (x : Found). ArePlanes frame.components x.planes)
-    (sym (c.add_planes.ensures.planes (found_in c.args.state.now)))
-    (planes-whole frame p codings (strips.planes_in c.read_planes.new.planes.items)
+    (sym (c.add_grown.ensures.planes (found_in c.args.state.now)))
+    (planes-whole frame p codings (growing_in c.read_planes.new.planes)
     (with_decoded (found_in c.args.state.now) one)
     (of-frame frame codings c.requires.ready.of_frame)
-    (c.in_ok-reached.ensures.sizes (c.in_ok-planes.ensures
-    ∙ ap (λ (l : List Coded). no_samples (map coding_in l)) c.deref-2.ensures.value) ∙ ap (map (λ (x : Component). (x.blocks_high * x.scale) * (x.blocks_wide * x.scale)))
-    (sym (coded-components cs))) h)
+    (c.in_ok-reached.ensures.sizes c.in_ok-planes.ensures.none
+    ∙ ap (map (λ (x : Component). (x.blocks_high * x.scale) * (x.blocks_wide * x.scale))) (sym (coded-components cs))) h)
 
 pub returns-then-is_progressive-clause-held : goal.returns-then-is_progressive-clause-held
 returns-then-is_progressive-clause-held g c = grind (arith, common_steps, held-afterwards)

@@ -9,6 +9,7 @@ use Rattle.jpeg_decoder.specs.Scanning.{vias_in}
 use Rattle.jpeg_decoder.specs.Seen.{found_in}
 use Rattle.jpeg_decoder.specs.declared.scan.Coded.{Coded}
 use Rattle.jpeg_decoder.specs.Steps.{coding_in, scan_data, with_decoded, with_planes}
+use Rattle.jpeg_decoder.specs.GrowingView.{growing_in}
 use Rattle.jpeg_decoder.specs.Strips.{no_samples, planes_by_rows}
 use Rattle.jpeg_decoder.specs.Strips as strips
 use Rattle.jpeg_decoder.proofs.ScanData.{answers-err}
