@@ -48,6 +48,11 @@ pub legal-pass : (process : CodingProcess) (s : headers.Scan) (p : Pass) → IsD
     → IsCoded process s.first s.after s.high s.low → p ≡ pass_of s → IsPass p
 legal-pass process s p is_dct coded e = subst IsPass (sym e) (is-pass process s is_dct coded)
 
+-- what it codes ends after the first coefficient at the earliest
+pub some-after : (process : CodingProcess) (s : headers.Scan) → IsDct process
+    → IsCoded process s.first s.after s.high s.low → 1 ≤ s.after
+some-after process s is_dct coded = grind (arith, common_steps)
+
 -- ---- the scales of a frame's components
 
 scales-at : (s width height h v : ℕ) (cs : List Component) → is_scale s ≡ true

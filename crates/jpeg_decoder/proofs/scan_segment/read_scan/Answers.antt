@@ -13,7 +13,7 @@ use Rattle.jpeg_streams.specs.Sound.{IsSound}
 use Rattle.jpeg_decoder.specs.Seen.{found_in}
 use Rattle.jpeg_decoder.specs.PlanesView.{planes_in}
 use Rattle.jpeg_decoder.specs.Steps.{IsStep, coding_in, samples_read, scan_data, turn_of, with_decoded}
-use Rattle.jpeg_decoder.proofs.ReadableScans.{codings-kept, decoded-scales, legal-pass, ready}
+use Rattle.jpeg_decoder.proofs.ReadableScans.{codings-kept, decoded-scales, legal-pass, ready, some-after}
 use Rattle.jpeg_decoder.proofs.ScanReads.{after_codings, after_data, after_header, blocks-begun, blocks-sound}
 use Rattle.jpeg_decoder.proofs.ScanReads.{codings-refused, frame-refused, header-read, header-refused, is-dct, refused}
 use Rattle.jpeg_decoder.proofs.ScanReads.{samples-begun, scan-ends, scan-steps, scan_read, segment-ends, segment-refused}
@@ -108,6 +108,11 @@ returns-in_err-components-clause-reads g c =
     c.in_err-components.ensures.codings.0
     c.in_err-components.ensures.codings.1 (λ f h. codings-refused found frame header c.parse_sos.new.reader.bytes f
     (codings-kept (with_decoded now c.replace-decoded.new.dest) c.replace-decoded.result frame header ∙ h))))
+
+pub pass_of-pass-requires : goal.pass_of-pass-requires
+pass_of-pass-requires g c =
+    some-after (frame_in c.in_ok-frame.frame.now).process (scan_in c.in_ok-header.header)
+        (is-dct _ (search rules)) c.in_ok-header.ensures.scan.coded
 
 pub invariant_of-scan : goal.invariant_of-scan
 invariant_of-scan g c =
