@@ -71,8 +71,8 @@ fn planes_of_a_room(rt: HostRuntime) -> Result<(), Fail> {
         .samples
         .extend_from_slice(&[1, 2, 3, 4, 5, 6, 7, 8, 9, 10, 11, 12])?;
     let first = joint.plane(rt.alloc(), 0)?;
-    assert_eq!(rt; first.as_slice(), &[1, 2, 7, 8]);
+    assert_eq!(rt; first.as_slice(), [1, 2, 7, 8].as_slice());
     let last = joint.plane(rt.alloc(), 2)?;
-    assert_eq!(rt; last.as_slice(), &[5, 6, 11, 12]);
+    assert_eq!(rt; last.as_slice(), [5, 6, 11, 12].as_slice());
     Ok(())
 }
