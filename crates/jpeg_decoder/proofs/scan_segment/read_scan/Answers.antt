@@ -112,7 +112,7 @@ returns-in_err-components-clause-reads g c =
 pub pass_of-pass-requires : goal.pass_of-pass-requires
 pass_of-pass-requires g c =
     some-after (frame_in c.in_ok-frame.frame.now).process (scan_in c.in_ok-header.header)
-        (is-dct _ (search rules)) c.in_ok-header.ensures.scan.coded
+    (is-dct _ (search rules)) c.in_ok-header.ensures.scan.coded
 
 pub invariant_of-scan : goal.invariant_of-scan
 invariant_of-scan g c =
