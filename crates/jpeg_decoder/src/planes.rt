@@ -1,6 +1,5 @@
 //! The planes that are decided, by the components' indices in the frame (T.81, A.1.1).
-ghost use Rattle.std.specs.Prelude.{◌≡◌, replicate, None, true};
-ghost use Rattle.jpeg_decoder.specs.PlanesView.{planes_in};
+ghost use Rattle.std.specs.Prelude.{◌≡◌, replicate, None};
 
 use jpeg_pixels::joint_planes::{JointPlanes, JointShape};
 use std::alloc::{AllocError, Global};
@@ -34,7 +33,7 @@ fn are_none(planes: &[Option<Vec<u8>>; 4]) -> bool
 }
 
 impl Planes {
-    ghost use Rattle.std.specs.Prelude.{◌≡◌, ◌<◌, ◌+◌, IfOk, IfSome, None, Some, drop, is_some, length};
+    ghost use Rattle.std.specs.Prelude.{◌≡◌, ◌<◌, ◌+◌, IfSome, OnOk, None, Some, drop, is_some, length};
     ghost use Rattle.std.specs.Prelude.{option_map, replicate, slice_index_or, slice_set, true};
     ghost use Rattle.jpeg_pixels.specs.JointPlanes.{joint_planes};
     ghost use Rattle.jpeg_decoder.specs.PlanesView.{IsFullJoint, or_joint};
@@ -108,7 +107,7 @@ impl Planes {
         place: usize,
     ) -> std::result::Result<Option<Vec<u8>>, AllocError>
         requires { place < 4 }
-        ensures taken { IfOk result (λ plane. option_map (λ v. v.items) plane
+        ensures taken { OnOk result (λ plane. option_map (λ v. v.items) plane
             ≡ slice_index_or self.old place None) }
         ensures left { drop (place + 1) self.new ≡ drop (place + 1) self.old }
     {
