@@ -92,10 +92,7 @@ none-from : (shape : JointShape) (from : ℕ) (codings : List Coding)
 unfolding joint_plane
 none-from shape from [] = refl
 none-from shape from (c ∷ codings) =
-    ap₂ (λ (l : List ℕ) (ls : List (List ℕ)). l ∷ ls)
-    (ap (λ (n : ℕ). map (λ (i : ℕ). slice_index [] (index_of shape from i)) (range_with_len 0 n))
-    (zero-div shape.count))
-    (none-from shape (from + 1) codings)
+    grind (arith, common_steps, zero-div, none-from shape (from + 1) codings)
 
 none-joint : (shape : JointShape) (codings : List Coding) → shape.count ≡ length codings
     → joint_planes shape [] ≡ no_samples codings
@@ -178,21 +175,12 @@ module _ (shape : JointShape) (samples : List ℕ) (strips : List (List ℕ)) (k
 -- ---- the planes of a scan's components
 
 -- a strip has the samples of its component's blocks in a row of MCUs
-scaled : (s w h : ℕ) → s * w * (s * h) ≡ h * s * (w * s)
-scaled s w h =
-    ap₂ (λ (a b : ℕ). a * b) (mul_comm s w) (mul_comm s h) ∙ mul_comm (w * s) (h * s)
-
 strips-even : (shape : JointShape) (codings : List Coding) (arrays : Arrays)
     → AllByRecursion (IsOfShape shape) codings
     → AreEven (strip_size shape) (strips_of codings arrays)
 unfolding strips_of AreEven
 strips-even shape (c ∷ codings) (blocks ∷ arrays) h =
-    let k = c.component in (
-      length-samples k.factors.vertical c blocks
-          ∙ scaled k.scale k.blocks_wide k.factors.vertical
-          ∙ ap₂ (λ (a b : ℕ). a * b) h.0.lines h.0.stride,
-      strips-even shape codings arrays h.1,
-    )
+    (grind (arith, common_steps, length-samples, mul_comm), strips-even shape codings arrays h.1)
 strips-even shape _ _ h = tt
 
 -- the components of a scan have strips of the shape of those of its frame
@@ -287,9 +275,7 @@ module _ (codings : List Coding) (arrays : Arrays) (joint : JointPlanes)
       let row = row_size joint.shape in
       let old = length joint.samples.items in
       let more : length new.items ≡ old + row =
-      ap (λ (l : List ℕ). length l) e ∙ length-append joint.samples.items (concat strips)
-      ∙ ap (λ (n : ℕ). old + n) (flat-length (strip_size joint.shape) strips even
-      ∙ ap (λ (n : ℕ). n * strip_size joint.shape) strips-count) in
+      grind (arith, common_steps, length-append, flat-length, even, strips-count) in
       record {
         small = is.small;
         count = is.count;
@@ -308,7 +294,6 @@ room-full [] joint is sizes = absurd (let some = is.some in omega (arith, some, 
 room-full (c ∷ cs) joint is sizes =
     let shape = joint.shape in
     let samples = joint.samples.items in
-    let k = component_in c.component.now in
     let first = is.each.0 in
     let one : length samples / shape.count ≡ shape.rows * strip_size shape =
     sym (plane-long shape samples 0)
@@ -316,10 +301,7 @@ room-full (c ∷ cs) joint is sizes =
     ∙ sym (get_or-map length (joint_planes shape samples) 0 [] 0
     (omega (arith, planes-long shape samples, is.some)))
     ∙ ap (λ (l : List ℕ). get_or l 0 0) sizes
-    ∙ ap₂ (λ (a b : ℕ). a * b) (ap (λ (n : ℕ). n * k.scale) first.high
-    ∙ mul_assoc shape.rows k.factors.vertical k.scale
-    ∙ ap (λ (n : ℕ). shape.rows * n) first.lines) first.stride
-    ∙ mul_assoc shape.rows shape.lines shape.stride in
+    ∙ grind (arith, common_steps, mul_assoc) in
     let rows = length samples / row_size shape in
     let whole = one-of rows shape.count (strip_size shape) (length samples) is.some is.whole in
     record {
