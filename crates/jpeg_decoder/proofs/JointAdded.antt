@@ -1,28 +1,27 @@
 -- What is found after a first scan of all components of a frame, whose planes stand in one room.
-use Rattle.std.proofs.Common.{◌≡◌, ℕ, zero, suc, ◌+◌, ◌<◌, ◌≤◌, Bool, true, Option, Some, None, List, [], ◌∷◌, ◌++◌}
-use Rattle.std.proofs.Common.{length, get_or, map, take, drop, replicate, refl, sym, ap, ap₂, ◌∙◌, ◌&&◌, arith}
+use Rattle.std.proofs.Common.{◌≡◌, ℕ, zero, suc, ◌+◌, ◌<◌, ◌≤◌, ◌&&◌, Bool, true, Option, Some}
+use Rattle.std.proofs.Common.{None, List, [], ◌∷◌, ◌++◌, length, get_or, map, take, drop, replicate}
+use Rattle.std.proofs.Common.{arith, refl, sym, ap, ap₂, ◌∙◌}
 use Rattle.std.proofs.lemmas.List.{drop_all, drop_more, length-take-le, take_all, take_more}
 use Rattle.std.specs.List.{list_all}
 use Rattle.std.specs.Prelude.{slice_index_or, slice_set}
 use Rattle.jpeg_bits.specs.Passes.{Pass, whole_pass}
 use Rattle.jpeg_streams.specs.Found.{Found}
-use Rattle.jpeg_streams.specs.ScanSegments.{finished_by, Coding}
+use Rattle.jpeg_streams.specs.ScanSegments.{Coding, finished_by}
 use Rattle.jpeg_decoder.specs.declared.scan.Coded.{Coded}
 use Rattle.jpeg_decoder.specs.PlanesView.{or_joint}
 use Rattle.jpeg_decoder.specs.Steps.{coding_in, is_wanted, marks_after, with_planes}
 use Rattle.jpeg_decoder.proofs.DecidedPlanes.{its_plane_set}
 use Rattle.jpeg_decoder.proofs.PutLoops.{none-left, planes-none, seen-at}
-use Rattle.std.proofs.lemmas.Grind.{common_steps}
 
--- all coefficients are finished by one pass
-pub all-marked : (p : Pass) (marks new : List Bool) → length marks ≡ 64 → new ≡ finished_by p marks → p ≡ whole_pass
-    → list_all (λ mark. mark) new ≡ true
+-- one pass finishes all coefficients
+pub all-marked : (p : Pass) (marks new : List Bool) → length marks ≡ 64 → new ≡ finished_by p marks
+    → p ≡ whole_pass → list_all (λ mark. mark) new ≡ true
 unfolding finished_by
 all-marked p marks new e f is =
-    let none : drop 64 marks ≡ [] = drop_all 64 marks (omega (arith, e)) in
-    rw (f, is, none) refl
+    let none : drop 64 marks ≡ [] = drop_all 64 marks (omega (arith, e)) in rw (f, is, none) refl
 
--- ---- the planes, of which some are there
+-- ---- planes, of which the first ones are there
 
 pub or-none : (own : List (Option (List ℕ))) → or_joint own [] ≡ own
 unfolding or_joint
@@ -30,7 +29,8 @@ or-none [] = refl
 or-none (Some plane ∷ own) = refl
 or-none (None ∷ own) = refl
 
-or-at : (n : ℕ) (planes : List (List ℕ)) → slice_index_or (or_joint (replicate n None) planes) (length planes) None ≡ None
+or-at : (n : ℕ) (planes : List (List ℕ))
+    → slice_index_or (or_joint (replicate n None) planes) (length planes) None ≡ None
 unfolding or_joint
 or-at zero [] = refl
 or-at zero (plane ∷ planes) = refl
@@ -42,37 +42,43 @@ or-next : (n : ℕ) (planes : List (List ℕ)) (plane : List ℕ) → length pla
     ≡ or_joint (replicate n None) (planes ++ plane ∷ [])
 unfolding or_joint
 or-next zero planes plane h = absurd (omega arith)
-or-next (suc n) [] plane h = ap (λ (l : List (Option (List ℕ))). Some plane ∷ l) (sym (or-none (replicate n None)))
+or-next (suc n) [] plane h =
+    ap (λ (l : List (Option (List ℕ))). Some plane ∷ l) (sym (or-none (replicate n None)))
 or-next (suc n) (x ∷ planes) plane h =
     ap (λ (l : List (Option (List ℕ))). Some x ∷ l) (or-next n planes plane (omega arith))
 
-module _ (p : Pass) (cs : List Coded) (planes : List (List ℕ)) (count : length planes ≡ length cs) where
+-- The planes of these components of a scan are added, as many as they are.
+module _ (p : Pass) (cs : List Coded) (planes : List (List ℕ))
+    (count : length planes ≡ length cs) where
   abbrev laid : ℕ → List (Option (List ℕ))
   laid i = or_joint (replicate 4 None) (take i planes)
 
   -- one component more, whose coefficients are all finished
-  pub joint-step : (i : ℕ) (c : Coded) (found : Found) (marks : List Bool) → length cs ≤ 4 → i < length cs
-      → c ≡ get_or cs i c → c.place ≡ i → marks ≡ marks_after p found.finished c.place → list_all (λ mark. mark) marks ≡ true
+  pub joint-step : (i : ℕ) (c : Coded) (found : Found) (marks : List Bool) → length cs ≤ 4
+      → i < length cs → c ≡ get_or cs i c → c.place ≡ i
+      → marks ≡ marks_after p found.finished c.place → list_all (λ mark. mark) marks ≡ true
       → with_planes p (drop (i + 1) (map coding_in cs)) (drop (i + 1) planes)
       (record found { finished = slice_set found.finished c.place marks; planes = laid (i + 1) })
       ≡ with_planes p (drop i (map coding_in cs)) (drop i planes) (record found { planes = laid i })
   unfolding with_planes
   joint-step i c found marks few h is place marked all =
       let plane = get_or planes i [] in
-      let long : i ≡ length (take i planes) = sym (length-take-le i planes (omega (arith, count))) in
-      let at : c.place ≡ length (take i planes) = place ∙ long in
+      let long : length (take i planes) ≡ i = length-take-le i planes (omega (arith, count)) in
+      let at : c.place ≡ length (take i planes) = place ∙ sym long in
       let none : slice_index_or (laid i) c.place None ≡ None =
       ap (λ (k : ℕ). slice_index_or (laid i) k None) at ∙ or-at 4 (take i planes) in
       let next : laid (i + 1) ≡ slice_set (laid i) c.place (Some plane) =
       ap (or_joint (replicate 4 None)) (take_more planes i [] (omega (arith, count)))
       ∙ sym (or-next 4 (take i planes) plane (omega arith))
       ∙ ap (λ (k : ℕ). slice_set (laid i) k (Some plane)) (sym at) in
-      let wanted : is_wanted (marks_after p found.finished c.place) (slice_index_or (laid i) c.place None) ≡ true =
-      ap₂ (λ (m : List Bool) (o : Option (List ℕ)). is_wanted m o) (sym marked) none ∙ ap (λ (b : Bool). b && true) all in
       ap (with_planes p (drop (i + 1) (map coding_in cs)) (drop (i + 1) planes))
-      (its_plane_set p c.place plane (record found { planes = laid i }) (slice_set found.finished c.place marks)
-      (laid (i + 1)) (ap (slice_set found.finished c.place) marked) next wanted)
-      ∙ sym (ap₂ (λ (ks : List Coding) (ps : List (List ℕ)). with_planes p ks ps (record found { planes = laid i }))
+      (its_plane_set p c.place plane (record found { planes = laid i })
+      (slice_set found.finished c.place marks) (laid (i + 1))
+      (ap (slice_set found.finished c.place) marked) next
+      (ap₂ (λ (m : List Bool) (o : Option (List ℕ)). is_wanted m o) (sym marked) none
+      ∙ ap (λ (b : Bool). b && true) all))
+      ∙ sym (ap₂ (λ (ks : List Coding) (ps : List (List ℕ)).
+      with_planes p ks ps (record found { planes = laid i }))
       (seen-at coding_in cs i c h is) (drop_more planes i [] (omega (arith, count))))
 
   -- all components
@@ -82,6 +88,7 @@ module _ (p : Pass) (cs : List Coded) (planes : List (List ℕ)) (count : length
   joint-done i found e =
       ap (λ (l : List (List ℕ)). record found { planes = or_joint (replicate 4 None) l })
       (sym (take_all i planes (omega (arith, count, e))))
-      ∙ sym (ap (λ (ks : List Coding). with_planes p ks (drop i planes) (record found { planes = laid i }))
+      ∙ sym (ap (λ (ks : List Coding).
+      with_planes p ks (drop i planes) (record found { planes = laid i }))
       (ap (λ (k : ℕ). drop k (map coding_in cs)) e ∙ none-left coding_in cs)
       ∙ planes-none p (drop i planes) (record found { planes = laid i }))

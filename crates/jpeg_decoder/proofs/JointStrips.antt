@@ -1,10 +1,12 @@
 -- Planes in one room, as it grows by a row of MCUs: each plane has its strip.
-use Rattle.std.proofs.Common.{◌≡◌, ℕ, zero, suc, ◌+◌, ◌*◌, ◌/◌, ◌%◌, ◌<◌, ◌≤◌, List, [], ◌∷◌, ◌++◌, length, map}
-use Rattle.std.proofs.Common.{◌-◌, get_or, arith, refl, sym, subst, ap, ap₂, ◌∙◌, length-append, mul_assoc, mul_comm, add-mul}
+use Rattle.std.proofs.Common.{◌≡◌, ℕ, zero, suc, ◌+◌, ◌-◌, ◌*◌, ◌/◌, ◌%◌, ◌<◌, ◌≤◌, List, [], ◌∷◌}
+use Rattle.std.proofs.Common.{◌++◌, length, map, get_or, arith, refl, sym, subst, ap, ap₂, ◌∙◌}
+use Rattle.std.proofs.Common.{length-append, mul_assoc, mul_comm, add-mul}
 use Rattle.std.proofs.Math.Logic.{⊎_elim}
 use Rattle.std.proofs.Math.Nat.{add-div_right, mul-div_cancel, zero-div}
 use Rattle.std.proofs.lemmas.Bool.{cases_lt}
-use Rattle.std.proofs.lemmas.List.{ext_get_or, get_or_append_left, get_or-append_right, get_or-append-add, get_or-map, length-map}
+use Rattle.std.proofs.lemmas.List.{ext_get_or, get_or_append_left, get_or-append_right}
+use Rattle.std.proofs.lemmas.List.{get_or-append-add, get_or-map, length-map}
 use Rattle.std.proofs.lemmas.List.FromFn.{get_or-map-range_with_len, length-map-range_with_len}
 use Rattle.std.proofs.lemmas.Nat.{div-mul-add, div_below, mod_below, mod-mul-add, mul-add-lt}
 use Rattle.std.proofs.lemmas.Grind.{common_steps}
@@ -12,91 +14,93 @@ use Rattle.std.specs.Prelude.{slice_index}
 use Rattle.std.specs.List.{AllByRecursion, concat, range_with_len}
 use Rattle.std.specs.declared.alloc.Global.{Global}
 use Rattle.std.specs.declared.vec.Vec.{Vec}
-use Rattle.jpeg_pixels.specs.JointPlanes.{IsShapeOf, IsSmall, joint_plane, joint_planes, row_size, strip_size}
 use Rattle.jpeg_segments.specs.Frame.{Component, Frame}
 use Rattle.jpeg_segments.specs.FrameView.{component_in}
-use Rattle.jpeg_streams.specs.InTurn.{Fits}
-use Rattle.jpeg_streams.proofs.Apart.{at-all}
-use Rattle.jpeg_streams.proofs.ScanArrays.{first-at}
-use Rattle.jpeg_decoder.specs.PlanesView.{IsFullJoint}
-use Rattle.jpeg_decoder.specs.Scanning.{components_in}
-use Rattle.jpeg_decoder.specs.Steps.{IsCodingOf, coding_in}
-use Rattle.jpeg_decoder.specs.declared.scan.Coded.{Coded}
+use Rattle.jpeg_pixels.specs.JointPlanes.{IsShapeOf, IsSmall, joint_plane, joint_planes, row_size}
+use Rattle.jpeg_pixels.specs.JointPlanes.{strip_size}
 use Rattle.jpeg_pixels.specs.declared.joint_planes.JointPlanes.{JointPlanes}
 use Rattle.jpeg_pixels.specs.declared.joint_planes.JointShape.{JointShape}
 use Rattle.jpeg_lossless.specs.Places.{AreEven}
+use Rattle.jpeg_streams.specs.InTurn.{Fits}
 use Rattle.jpeg_streams.specs.Scans.{Arrays}
 use Rattle.jpeg_streams.specs.ScanSegments.{Coding}
+use Rattle.jpeg_streams.proofs.Apart.{at-all}
+use Rattle.jpeg_streams.proofs.ScanArrays.{first-at}
 use Rattle.jpeg_decoder.specs.GrowingView.{IsJointOf, IsOfShape}
+use Rattle.jpeg_decoder.specs.PlanesView.{IsFullJoint}
+use Rattle.jpeg_decoder.specs.Scanning.{components_in}
+use Rattle.jpeg_decoder.specs.Steps.{IsCodingOf, coding_in}
 use Rattle.jpeg_decoder.specs.Strips.{no_samples, strips_of, with_strips}
-use Rattle.jpeg_decoder.proofs.ReadLists.{at-flat, flat-length}
+use Rattle.jpeg_decoder.specs.declared.scan.Coded.{Coded}
+use Rattle.jpeg_decoder.proofs.ReadLists.{at-flat, even-at, flat-length}
 use Rattle.jpeg_decoder.proofs.StripRows.{strips-at, strips-length, strips_of-length}
 use Rattle.jpeg_decoder.proofs.StripSteps.{length-samples}
 
--- ---- numbers
+-- ---- numbers of samples
 
 turned : (k c s : ℕ) → k * (c * s) ≡ k * s * c
 turned k c s = ap (λ (n : ℕ). k * n) (mul_comm c s) ∙ sym (mul_assoc k s c)
 
-one-row : (k c s n : ℕ) → 1 ≤ c → n ≡ k * (c * s) → n / c ≡ k * s
-one-row k c s n h e = ap (λ (m : ℕ). m / c) (e ∙ turned k c s) ∙ mul-div_cancel (k * s) (omega arith)
+-- of k rows of c strips, those of one component
+one-of : (k c s n : ℕ) → 1 ≤ c → n ≡ k * (c * s) → n / c ≡ k * s
+one-of k c s n h e =
+    ap (λ (m : ℕ). m / c) (e ∙ turned k c s) ∙ mul-div_cancel (k * s) (omega arith)
 
 next-row : (k r n : ℕ) → n ≡ k * r → n + r ≡ (k + 1) * r
 next-row k r n e = grind (arith, common_steps, add-mul)
 
--- a number of whole rows, and one row more
-pub whole-rows : (n r : ℕ) → n ≡ n / r * r → n + r ≡ (n + r) / r * r
+-- whole rows, and one row more
+whole-rows : (n r : ℕ) → n ≡ n / r * r → n + r ≡ (n + r) / r * r
 whole-rows n zero e = omega arith
-whole-rows n (suc r) e = next-row (n / suc r) (suc r) n e ∙ ap (λ (m : ℕ). m * suc r) (sym (add-div_right n (omega arith)))
+whole-rows n (suc r) e =
+    next-row (n / suc r) (suc r) n e
+    ∙ ap (λ (m : ℕ). m * suc r) (sym (add-div_right n (omega arith)))
 
 -- ---- a plane
 
-even-at : (w : ℕ) (lines : List (List ℕ)) (y : ℕ) → AreEven w lines → y < length lines → length (get_or lines y []) ≡ w
-unfolding AreEven
-even-at w [] y even h = absurd (omega arith)
-even-at w (l ∷ lines) zero even h = even.0
-even-at w (l ∷ lines) (suc y) even h = even-at w lines y even.1 (omega arith)
-
-pub length-joint : (shape : JointShape) (samples : List ℕ) (slot : ℕ)
-    → length (joint_plane shape samples slot) ≡ length samples / shape.count
-unfolding joint_plane
-length-joint shape samples slot = length-map-range_with_len _ 0 (length samples / shape.count)
-
-pub length-planes : (shape : JointShape) (samples : List ℕ) → length (joint_planes shape samples) ≡ shape.count
-unfolding joint_planes
-length-planes shape samples = length-map-range_with_len (joint_plane shape samples) 0 shape.count
-
 -- the index of a sample of a plane in the room
 abbrev index_of : JointShape → ℕ → ℕ → ℕ
-index_of shape slot i = i / strip_size shape * row_size shape + (slot * strip_size shape + i % strip_size shape)
+index_of shape slot i =
+    i / strip_size shape * row_size shape + (slot * strip_size shape + i % strip_size shape)
 
--- ---- planes without samples
+module _ (shape : JointShape) (samples : List ℕ) where
+  plane-long : (slot : ℕ) → length (joint_plane shape samples slot) ≡ length samples / shape.count
+  unfolding joint_plane
+  plane-long slot = length-map-range_with_len _ 0 (length samples / shape.count)
 
+  plane-at : (slot i : ℕ) → i < length samples / shape.count
+      → get_or (joint_plane shape samples slot) i 0 ≡ slice_index samples (index_of shape slot i)
+  unfolding joint_plane
+  plane-at slot i h =
+      get_or-map-range_with_len (λ (j : ℕ). slice_index samples (index_of shape slot j)) 0
+      (length samples / shape.count) i i 0 h (omega arith)
+
+  pub planes-long : length (joint_planes shape samples) ≡ shape.count
+  unfolding joint_planes
+  planes-long = length-map-range_with_len (joint_plane shape samples) 0 shape.count
+
+  planes-at : (slot : ℕ) → slot < shape.count
+      → get_or (joint_planes shape samples) slot [] ≡ joint_plane shape samples slot
+  unfolding joint_planes
+  planes-at slot h =
+      get_or-map-range_with_len (joint_plane shape samples) 0 shape.count slot slot [] h
+      (omega arith)
+
+-- planes without samples
 none-from : (shape : JointShape) (from : ℕ) (codings : List Coding)
     → map (joint_plane shape []) (range_with_len from (length codings)) ≡ no_samples codings
 unfolding joint_plane
 none-from shape from [] = refl
 none-from shape from (c ∷ codings) =
-    let none = zero-div shape.count in
-    ap₂ (λ (l : List ℕ) (ls : List (List ℕ)). l ∷ ls)
-    (ap (λ (n : ℕ). map (λ (i : ℕ). slice_index [] (index_of shape from i)) (range_with_len 0 n)) none)
-    (none-from shape (from + 1) codings)
+    grind (arith, common_steps, zero-div, none-from shape (from + 1) codings)
 
-pub none-joint : (shape : JointShape) (codings : List Coding) → shape.count ≡ length codings
+none-joint : (shape : JointShape) (codings : List Coding) → shape.count ≡ length codings
     → joint_planes shape [] ≡ no_samples codings
 unfolding joint_planes
 none-joint shape codings e =
     ap (λ (n : ℕ). map (joint_plane shape []) (range_with_len 0 n)) e ∙ none-from shape 0 codings
 
--- ---- a plane that grows
-
-joint-at : (shape : JointShape) (samples : List ℕ) (slot i : ℕ) → i < length samples / shape.count
-    → get_or (joint_plane shape samples slot) i 0 ≡ slice_index samples (index_of shape slot i)
-unfolding joint_plane
-joint-at shape samples slot i h =
-    get_or-map-range_with_len (λ (j : ℕ). slice_index samples (index_of shape slot j)) 0 (length samples / shape.count) i i 0
-    h (omega arith)
-
+-- A plane, and after it its strip of these, which come after k rows.
 module _ (shape : JointShape) (samples : List ℕ) (strips : List (List ℕ)) (k slot : ℕ)
     (whole : length samples ≡ k * row_size shape) (even : AreEven (strip_size shape) strips)
     (count : length strips ≡ shape.count) (h : slot < shape.count) where
@@ -107,18 +111,16 @@ module _ (shape : JointShape) (samples : List ℕ) (strips : List (List ℕ)) (k
   grown = samples ++ concat strips
 
   before-long : length samples / shape.count ≡ k * size
-  before-long = one-row k shape.count size (length samples) (omega arith) whole
+  before-long = one-of k shape.count size (length samples) (omega arith) whole
 
   grown-long : length grown / shape.count ≡ k * size + size
   grown-long =
-      one-row (k + 1) shape.count size (length grown) (omega arith)
+      one-of (k + 1) shape.count size (length grown) (omega arith)
       (length-append samples (concat strips)
-      ∙ ap (λ (n : ℕ). length samples + n) (flat-length size strips even ∙ ap (λ (n : ℕ). n * size) count)
+      ∙ ap (λ (n : ℕ). length samples + n)
+      (flat-length size strips even ∙ ap (λ (n : ℕ). n * size) count)
       ∙ next-row k (row_size shape) (length samples) whole)
       ∙ sym (next-row k size (k * size) refl)
-
-  long : length (get_or strips slot []) ≡ size
-  long = even-at size strips slot even (omega arith)
 
   some-size : (s i : ℕ) → i < k * s + s → 0 < s
   some-size zero i l = absurd (omega arith)
@@ -130,184 +132,178 @@ module _ (shape : JointShape) (samples : List ℕ) (strips : List (List ℕ)) (k
   kept-at i lt =
       let some : 0 < size = some-size size i (omega arith) in
       let column = mul-add-lt slot size (i % size) shape.count h (mod_below i size some) in
-      let turn = mul_comm shape.count size in
-      let below = mul-add-lt (i / size) (row_size shape) (slot * size + i % size) k (div_below i size k some lt)
-      (omega (arith, column, turn)) in
+      let below = mul-add-lt (i / size) (row_size shape) (slot * size + i % size) k
+      (div_below i size k some lt) (omega (arith, column, mul_comm shape.count size)) in
       get_or_append_left samples (concat strips) 0 (index_of shape slot i)
       (omega (arith, below, whole, mul_comm k (row_size shape)))
 
-  -- and then the strip
-  strip-sample : (j : ℕ) → j < size
+  strip-at : (j : ℕ) → j < size
       → slice_index grown (index_of shape slot (k * size + j)) ≡ get_or (get_or strips slot []) j 0
-  strip-sample j lt =
-      let at : index_of shape slot (k * size + j) ≡ length samples + (slot * size + j) =
-      ap₂ (λ (a b : ℕ). a * row_size shape + (slot * size + b)) (div-mul-add k size j lt) (mod-mul-add k size j lt)
-      ∙ ap (λ (n : ℕ). n + (slot * size + j)) (sym whole) in
-      ap (λ (n : ℕ). slice_index grown n) at
+  strip-at j lt =
+      ap (λ (n : ℕ). slice_index grown n)
+      (ap₂ (λ (a b : ℕ). a * row_size shape + (slot * size + b)) (div-mul-add k size j lt)
+      (mod-mul-add k size j lt)
+      ∙ ap (λ (n : ℕ). n + (slot * size + j)) (sym whole))
       ∙ get_or-append-add samples (concat strips) (slot * size + j) 0
       ∙ at-flat size j strips slot even (omega arith) lt
 
-  plane-grown : joint_plane shape grown slot ≡ joint_plane shape samples slot ++ get_or strips slot []
+  plane-grown : joint_plane shape grown slot
+      ≡ joint_plane shape samples slot ++ get_or strips slot []
   plane-grown =
       let front = joint_plane shape samples slot in
-      let front-long : length front ≡ k * size = length-joint shape samples slot ∙ before-long in
-      ext_get_or 0 (joint_plane shape grown slot) (front ++ get_or strips slot [])
-      (length-joint shape grown slot ∙ grown-long
-      ∙ sym (length-append front (get_or strips slot []) ∙ ap₂ (λ (a b : ℕ). a + b) front-long long))
+      let strip = get_or strips slot [] in
+      let front-long : length front ≡ k * size = plane-long shape samples slot ∙ before-long in
+      ext_get_or 0 (joint_plane shape grown slot) (front ++ strip)
+      (plane-long shape grown slot ∙ grown-long ∙ sym (length-append front strip
+      ∙ ap₂ (λ (a b : ℕ). a + b) front-long (even-at size strips slot even (omega arith))))
       (λ i lt.
-      let within : i < k * size + size = omega (arith, lt, length-joint shape grown slot, grown-long) in
-      joint-at shape grown slot i (omega (arith, within, grown-long))
+      let within : i < k * size + size =
+      omega (arith, lt, plane-long shape grown slot, grown-long) in
+      plane-at shape grown slot i (omega (arith, within, grown-long))
       ∙ ⊎_elim
-      (λ (early : i < k * size). kept-at i early
-      ∙ sym (get_or_append_left front (get_or strips slot []) 0 i (omega (arith, early, front-long))
-      ∙ joint-at shape samples slot i (omega (arith, early, before-long))))
+      (λ (early : i < k * size).
+      kept-at i early
+      ∙ sym (get_or_append_left front strip 0 i (omega (arith, early, front-long))
+      ∙ plane-at shape samples slot i (omega (arith, early, before-long))))
       (λ (late : k * size ≤ i).
-      let j = i - k * size in
-      let is : i ≡ k * size + j = omega arith in
-      ap (λ (n : ℕ). slice_index grown (index_of shape slot n)) is ∙ strip-sample j (omega arith)
-      ∙ sym (get_or-append_right front (get_or strips slot []) (k * size) i 0 front-long late))
+      let is : i ≡ k * size + (i - k * size) = omega arith in
+      ap (λ (n : ℕ). slice_index grown (index_of shape slot n)) is
+      ∙ strip-at (i - k * size) (omega arith)
+      ∙ sym (get_or-append_right front strip (k * size) i 0 front-long late))
       (cases_lt i (k * size)))
 
--- ---- all planes
+-- ---- the planes of a scan's components
 
 -- a strip has the samples of its component's blocks in a row of MCUs
-scaled : (s w h : ℕ) → s * w * (s * h) ≡ h * s * (w * s)
-scaled s w h = ap₂ (λ (a b : ℕ). a * b) (mul_comm s w) (mul_comm s h) ∙ mul_comm (w * s) (h * s)
-
-strips-even : (shape : JointShape) (codings : List Coding) (arrays : Arrays) → AllByRecursion (IsOfShape shape) codings
+strips-even : (shape : JointShape) (codings : List Coding) (arrays : Arrays)
+    → AllByRecursion (IsOfShape shape) codings
     → AreEven (strip_size shape) (strips_of codings arrays)
 unfolding strips_of AreEven
 strips-even shape (c ∷ codings) (blocks ∷ arrays) h =
-    let k = c.component in (
-      length-samples k.factors.vertical c blocks ∙ scaled k.scale k.blocks_wide k.factors.vertical
-          ∙ ap₂ (λ (a b : ℕ). a * b) h.0.lines h.0.stride,
-      strips-even shape codings arrays h.1,
-    )
+    (grind (arith, common_steps, length-samples, mul_comm), strips-even shape codings arrays h.1)
 strips-even shape _ _ h = tt
 
--- the components of a scan have strips of the shape of the frame's components
+-- the components of a scan have strips of the shape of those of its frame
 shaped : (frame : Frame) (shape : JointShape) (cs : List Coded) → shape.rows ≡ frame.mcus_high
     → AllByRecursion (λ c. c.factors.vertical * c.scale ≡ shape.lines) frame.components
     → AllByRecursion (λ c. c.blocks_wide * c.scale ≡ shape.stride) frame.components
-    → AllByRecursion (Fits frame) (components_in cs) → AllByRecursion (IsCodingOf frame) (map coding_in cs)
+    → AllByRecursion (Fits frame) (components_in cs)
+    → AllByRecursion (IsCodingOf frame) (map coding_in cs)
     → AllByRecursion (IsOfShape shape) (map coding_in cs)
 shaped frame shape [] rows lines strides fits of = tt
 shaped frame shape (c ∷ cs) rows lines strides fits of =
     let k = component_in c.component.now in
     let at = first-at c.place frame.components k of.0 in (
       record {
-        lines = at-all (λ x. x.factors.vertical * x.scale ≡ shape.lines) c.place frame.components k lines at;
-        stride = at-all (λ x. x.blocks_wide * x.scale ≡ shape.stride) c.place frame.components k strides at;
+        lines = at-all _ c.place frame.components k lines at;
+        stride = at-all _ c.place frame.components k strides at;
         high = fits.0.high ∙ ap (λ (n : ℕ). n * k.factors.vertical) (sym rows);
       },
       shaped frame shape cs rows lines strides fits.1 of.1,
     )
 
-module _ (codings : List Coding) (arrays : Arrays) (joint : JointPlanes) (is : IsJointOf codings joint)
-    (held : length arrays ≡ length codings) where
-  abbrev shape : JointShape
-  shape = joint.shape
-
-  abbrev samples : List ℕ
-  samples = joint.samples.items
-
-  abbrev strips : List (List ℕ)
-  strips = strips_of codings arrays
-
-  even : AreEven (strip_size shape) strips
-  even = strips-even shape codings arrays is.each
-
-  strips-count : length strips ≡ shape.count
-  strips-count = strips_of-length codings arrays held ∙ sym is.count
-
-  pub room-grown : (new : List ℕ) → new ≡ samples ++ concat strips
-      → joint_planes shape new ≡ with_strips codings arrays (joint_planes shape samples)
-  unfolding joint_planes
-  room-grown new e =
-      let old-long = length-planes shape samples ∙ is.count in
-      let new-long = length-planes shape new in
-      ext_get_or [] (joint_planes shape new) (with_strips codings arrays (joint_planes shape samples))
-      (new-long ∙ is.count ∙ sym (strips-length codings arrays (joint_planes shape samples) held old-long))
-      (λ slot lt.
-      let h : slot < shape.count = omega (arith, lt, new-long) in
-      get_or-map-range_with_len (joint_plane shape new) 0 shape.count slot slot [] h (omega arith)
-      ∙ ap (λ (l : List ℕ). joint_plane shape l slot) e
-      ∙ plane-grown shape samples strips (length samples / row_size shape) slot is.whole even strips-count h
-      ∙ ap (λ (l : List ℕ). l ++ get_or strips slot [])
-      (sym (get_or-map-range_with_len (joint_plane shape samples) 0 shape.count slot slot [] h (omega arith)))
-      ∙ sym (strips-at codings arrays (joint_planes shape samples) slot held old-long (omega (arith, h, is.count))))
-
-  pub room-kept : (new : Vec ℕ Global) → new.items ≡ samples ++ concat strips
-      → IsJointOf codings (record joint { samples = new })
-  room-kept new e =
-      let more : length new.items ≡ length samples + row_size shape =
-      ap (λ (l : List ℕ). length l) e ∙ length-append samples (concat strips)
-      ∙ ap (λ (n : ℕ). length samples + n) (flat-length (strip_size shape) strips even
-      ∙ ap (λ (n : ℕ). n * strip_size shape) strips-count) in
-      record {
-        small = is.small;
-        count = is.count;
-        some = is.some;
-        each = is.each;
-        whole = more ∙ whole-rows (length samples) (row_size shape) is.whole
-            ∙ ap (λ (n : ℕ). n / row_size shape * row_size shape) (sym more);
-      }
-
--- ---- a scan's planes, before its rows and after them
-
-module _ (frame : Frame) (cs : List Coded) (seen : List Component) (joint : JointPlanes) (shape : JointShape)
-    (width height : ℕ) (shape-is : joint.shape ≡ shape) (none : joint.samples.items ≡ []) (seen-is : seen ≡ frame.components)
+-- before the first row
+module _ (frame : Frame) (cs : List Coded) (seen : List Component) (joint : JointPlanes)
+    (shape : JointShape) (width height : ℕ) (shape-is : joint.shape ≡ shape)
+    (none : joint.samples.items ≡ []) (seen-is : seen ≡ frame.components)
     (is : IsShapeOf seen width height shape) (count : length cs ≡ length seen) where
   same : shape.count ≡ length (map coding_in cs)
   same = is.count ∙ sym count ∙ sym (length-map cs coding_in)
 
   pub none-started : joint_planes joint.shape joint.samples.items ≡ no_samples (map coding_in cs)
   none-started =
-      ap₂ (λ (s : JointShape) (l : List ℕ). joint_planes s l) shape-is none ∙ none-joint shape (map coding_in cs) same
+      ap₂ (λ (s : JointShape) (l : List ℕ). joint_planes s l) shape-is none
+      ∙ none-joint shape (map coding_in cs) same
 
   pub joint-started : shape.rows ≡ frame.mcus_high
       → AllByRecursion (λ c. c.factors.vertical * c.scale ≡ shape.lines) seen
-      → AllByRecursion (Fits frame) (components_in cs) → AllByRecursion (IsCodingOf frame) (map coding_in cs)
+      → AllByRecursion (Fits frame) (components_in cs)
+      → AllByRecursion (IsCodingOf frame) (map coding_in cs)
       → IsJointOf (map coding_in cs) joint
   joint-started rows lines fits of =
-      let all = subst (λ (l : List Component). AllByRecursion (λ c. c.factors.vertical * c.scale ≡ shape.lines) l
-      × AllByRecursion (λ c. c.blocks_wide * c.scale ≡ shape.stride) l) seen-is (lines, is.alike.strides) in
+      let all = subst (λ (l : List Component).
+      AllByRecursion (λ c. c.factors.vertical * c.scale ≡ shape.lines) l
+      × AllByRecursion (λ c. c.blocks_wide * c.scale ≡ shape.stride) l) seen-is
+      (lines, is.alike.strides) in
       let some = is.some in
-      let empty : 0 ≡ 0 / row_size joint.shape * row_size joint.shape =
-      sym (ap (λ (n : ℕ). n * row_size joint.shape) (zero-div (row_size joint.shape)) ∙ omega arith) in
+      let row = row_size joint.shape in
+      let empty : 0 ≡ 0 / row * row = sym (ap (λ (n : ℕ). n * row) (zero-div row) ∙ omega arith) in
       record {
         small = subst IsSmall (sym shape-is) is.small;
         count = ap (λ (s : JointShape). s.count) shape-is ∙ same;
         some = subst (λ (s : JointShape). 1 ≤ s.count) (sym shape-is) (omega arith);
-        each = subst (λ (s : JointShape). AllByRecursion (IsOfShape s) (map coding_in cs)) (sym shape-is)
-            (shaped frame shape cs rows all.0 all.1 fits of);
-        whole = subst (λ (l : List ℕ). length l ≡ length l / row_size joint.shape * row_size joint.shape) (sym none) empty;
+        each = subst (λ (s : JointShape). AllByRecursion (IsOfShape s) (map coding_in cs))
+            (sym shape-is) (shaped frame shape cs rows all.0 all.1 fits of);
+        whole = subst (λ (l : List ℕ). length l ≡ length l / row * row) (sym none) empty;
       }
 
--- where all rows have come
+-- after one row more
+module _ (codings : List Coding) (arrays : Arrays) (joint : JointPlanes)
+    (is : IsJointOf codings joint) (held : length arrays ≡ length codings) where
+  abbrev strips : List (List ℕ)
+  strips = strips_of codings arrays
+
+  even : AreEven (strip_size joint.shape) strips
+  even = strips-even joint.shape codings arrays is.each
+
+  strips-count : length strips ≡ joint.shape.count
+  strips-count = strips_of-length codings arrays held ∙ sym is.count
+
+  pub room-grown : (new : List ℕ) → new ≡ joint.samples.items ++ concat strips
+      → joint_planes joint.shape new
+      ≡ with_strips codings arrays (joint_planes joint.shape joint.samples.items)
+  room-grown new e =
+      let shape = joint.shape in
+      let samples = joint.samples.items in
+      let old = joint_planes shape samples in
+      let old-long = planes-long shape samples ∙ is.count in
+      let new-long = planes-long shape new in
+      ext_get_or [] (joint_planes shape new) (with_strips codings arrays old)
+      (new-long ∙ is.count ∙ sym (strips-length codings arrays old held old-long))
+      (λ slot lt.
+      let h : slot < shape.count = omega (arith, lt, new-long) in
+      planes-at shape new slot h
+      ∙ ap (λ (l : List ℕ). joint_plane shape l slot) e
+      ∙ plane-grown shape samples strips (length samples / row_size shape) slot is.whole even
+      strips-count h
+      ∙ ap (λ (l : List ℕ). l ++ get_or strips slot []) (sym (planes-at shape samples slot h))
+      ∙ sym (strips-at codings arrays old slot held old-long (omega (arith, h, is.count))))
+
+  pub room-kept : (new : Vec ℕ Global) → new.items ≡ joint.samples.items ++ concat strips
+      → IsJointOf codings (record joint { samples = new })
+  room-kept new e =
+      let row = row_size joint.shape in
+      let old = length joint.samples.items in
+      let more : length new.items ≡ old + row =
+      grind (arith, common_steps, length-append, flat-length, even, strips-count) in
+      record {
+        small = is.small;
+        count = is.count;
+        some = is.some;
+        each = is.each;
+        whole = more ∙ whole-rows old row is.whole ∙ ap (λ (n : ℕ). n / row * row) (sym more);
+      }
+
+-- after all rows
 pub room-full : (cs : List Coded) (joint : JointPlanes) → IsJointOf (map coding_in cs) joint
     → map length (joint_planes joint.shape joint.samples.items)
-    ≡ map (λ (c : Component). c.blocks_high * c.scale * (c.blocks_wide * c.scale)) (components_in cs)
+    ≡ map (λ (c : Component). c.blocks_high * c.scale * (c.blocks_wide * c.scale))
+    (components_in cs)
     → IsFullJoint joint
-unfolding joint_planes
 room-full [] joint is sizes = absurd (let some = is.some in omega (arith, some, is.count))
 room-full (c ∷ cs) joint is sizes =
     let shape = joint.shape in
     let samples = joint.samples.items in
-    let k = component_in c.component.now in
-    let planes = joint_planes shape samples in
     let first = is.each.0 in
     let one : length samples / shape.count ≡ shape.rows * strip_size shape =
-    sym (length-joint shape samples 0)
-    ∙ ap (λ (l : List ℕ). length l) (sym (get_or-map-range_with_len (joint_plane shape samples) 0 shape.count 0 0 []
-    is.some (omega arith)))
-    ∙ sym (get_or-map length planes 0 [] 0 (let n = length-planes shape samples in omega (arith, n, is.some)))
+    sym (plane-long shape samples 0)
+    ∙ ap (λ (l : List ℕ). length l) (sym (planes-at shape samples 0 is.some))
+    ∙ sym (get_or-map length (joint_planes shape samples) 0 [] 0
+    (omega (arith, planes-long shape samples, is.some)))
     ∙ ap (λ (l : List ℕ). get_or l 0 0) sizes
-    ∙ ap₂ (λ (a b : ℕ). a * b) (ap (λ (n : ℕ). n * k.scale) first.high
-    ∙ mul_assoc shape.rows k.factors.vertical k.scale ∙ ap (λ (n : ℕ). shape.rows * n) first.lines) first.stride
-    ∙ mul_assoc shape.rows shape.lines shape.stride in
+    ∙ grind (arith, common_steps, mul_assoc) in
     let rows = length samples / row_size shape in
-    let whole = one-row rows shape.count (strip_size shape) (length samples) is.some is.whole in
+    let whole = one-of rows shape.count (strip_size shape) (length samples) is.some is.whole in
     record {
       small = is.small;
       full = is.whole ∙ turned rows shape.count (strip_size shape)

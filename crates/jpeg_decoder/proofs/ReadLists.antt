@@ -1,11 +1,13 @@
 -- Lists of which each element is needed, one after the other.
 use Rattle.std.proofs.lemmas.Grind.{common_steps}
 use Rattle.std.proofs.Common.{arith}
-use Rattle.std.proofs.Common.{◌≡◌, ◌+◌, ◌*◌, ◌<◌, ◌∙◌, ℕ, zero, suc, length-append, List, [], ◌∷◌, ◌++◌, Result, Ok, Err, refl, sym, drop, get_or, length}
+use Rattle.std.proofs.Common.{◌≡◌, ◌+◌, ◌*◌, ◌<◌, ◌∙◌, ℕ, zero, suc, List, [], ◌∷◌, ◌++◌}
+use Rattle.std.proofs.Common.{Result, Ok, Err, refl, sym, drop, get_or, length, length-append}
 use Rattle.std.specs.Prelude.{slice_index}
 use Rattle.std.specs.List.{concat}
 use Rattle.std.proofs.Math.Nat.{add-mul, one-mul}
-use Rattle.std.proofs.lemmas.List.{append_assoc, append-nil, drop_more, get_or-append_right, get_or_append_left}
+use Rattle.std.proofs.lemmas.List.{append_assoc, append-nil, drop_more}
+use Rattle.std.proofs.lemmas.List.{get_or-append_right, get_or_append_left}
 use Rattle.jpeg_lossless.specs.Places.{AreEven, at_place}
 use Rattle.jpeg_bits.specs.Reading.{Fault, ◌>>=◌}
 
@@ -49,12 +51,21 @@ pub no-more : {A : Type 0} (left : ℕ → Result (List A) Fault) (i : ℕ) (fro
     (whole : Result (List A) Fault) → left i ≡ Ok [] → whole ≡ (left i >>= after front) → whole ≡ Ok front
 no-more {A = A} left i front whole e w = grind (arith, common_steps, append-nil)
 
--- ---- lines of the same length in one list
+-- ---- lines of the same length, and all of them in one list
 
-pub flat-length : (w : ℕ) (lines : List (List ℕ)) → AreEven w lines → length (concat lines) ≡ length lines * w
+pub even-at : (w : ℕ) (lines : List (List ℕ)) (y : ℕ) → AreEven w lines → y < length lines
+    → length (get_or lines y []) ≡ w
+unfolding AreEven
+even-at w [] y even h = absurd (omega arith)
+even-at w (l ∷ lines) zero even h = even.0
+even-at w (l ∷ lines) (suc y) even h = even-at w lines y even.1 (omega arith)
+
+pub flat-length : (w : ℕ) (lines : List (List ℕ)) → AreEven w lines
+    → length (concat lines) ≡ length lines * w
 unfolding AreEven
 flat-length w [] even = let e : 0 ≡ 0 * w = omega arith in e
-flat-length w (l ∷ lines) even = grind (arith, common_steps, add-mul, one-mul, length-append, flat-length w lines even.1)
+flat-length w (l ∷ lines) even =
+    grind (arith, common_steps, add-mul, one-mul, length-append, flat-length w lines even.1)
 
 pub at-flat : (w x : ℕ) (lines : List (List ℕ)) (y : ℕ) → AreEven w lines → y < length lines → x < w
     → slice_index (concat lines) (y * w + x) ≡ at_place lines x y
@@ -62,4 +73,11 @@ unfolding AreEven
 at-flat w x [] y even h k = absurd (omega arith)
 at-flat w x (l ∷ lines) zero even h k = grind (arith, common_steps, get_or_append_left)
 at-flat w x (l ∷ lines) (suc y) even h k =
-    grind (arith, common_steps, one-mul, add-mul, get_or-append_right, at-flat w x lines y even.1 (omega arith) k)
+    grind (
+      arith,
+      common_steps,
+      one-mul,
+      add-mul,
+      get_or-append_right,
+      at-flat w x lines y even.1 (omega arith) k,
+    )

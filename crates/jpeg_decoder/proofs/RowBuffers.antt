@@ -1,7 +1,8 @@
 -- The blocks of a row of MCUs, as they are cleared and as their samples are appended.
 use Rattle.std.proofs.lemmas.Grind.{common_steps}
 use Rattle.std.proofs.Common.{◌≡◌, ℕ, zero, suc, ◌+◌, ◌*◌, ◌<◌, ◌≤◌, List, [], ◌∷◌, ◌++◌, map, length, get_or}
-use Rattle.std.proofs.Common.{take, append_assoc, append-nil, set, replicate, ℤ, pos, refl, sym, ap, ◌∙◌, arith}
+use Rattle.std.proofs.Common.{set, replicate, ℤ, pos, refl, sym, ap, ◌∙◌, arith, take, append_assoc}
+use Rattle.std.proofs.Common.{append-nil}
 use Rattle.std.proofs.lemmas.List.{length-map, map-set, length-replicate, get_or-map}
 use Rattle.std.proofs.lemmas.List.{take_all, take_more}
 use Rattle.std.proofs.lemmas.List.Folds.{concat-append}
@@ -14,12 +15,14 @@ use Rattle.jpeg_streams.specs.Scans.{Arrays}
 use Rattle.jpeg_streams.specs.ScanSegments.{Coding}
 use Rattle.jpeg_decoder.specs.Steps.{coding_in}
 use Rattle.jpeg_decoder.specs.Scanning.{arrays_in, blocks_in, sizes_of, down_in, wide_in}
-use Rattle.jpeg_decoder.specs.Strips.{planes_in, row_sizes, samples_of, strips_of, with_strips, zeros_of}
+use Rattle.jpeg_decoder.specs.Strips.{planes_in, row_sizes, zeros_of, samples_of, strips_of}
+use Rattle.jpeg_decoder.specs.Strips.{with_strips}
 use Rattle.jpeg_decoder.specs.declared.scan.Coded.{Coded}
 use Rattle.jpeg_decoder.proofs.BlocksBefore.{zero-blocks}
 use Rattle.jpeg_decoder.proofs.HeldBlocks.{Held, sizes-long, size-at}
 use Rattle.jpeg_streams.proofs.InPlace.{patched, patched-next, patched-at, patched-all, patched-length}
-use Rattle.jpeg_decoder.proofs.StripRows.{strip-of, strips-at, strips-length, strips-none, strips_of-length}
+use Rattle.jpeg_decoder.proofs.StripRows.{strip-of, strips-at, strips-length, strips-none}
+use Rattle.jpeg_decoder.proofs.StripRows.{strips_of-length}
 
 abbrev pub Plane : Type 0
 Plane = Vec ℕ Global
@@ -66,6 +69,9 @@ module _ (cs : List Coded) (old : List Held) (sizes : sizes_of old ≡ row_sizes
   abbrev codings : List Coding
   codings = map coding_in cs
 
+  abbrev strips : List (List ℕ)
+  strips = strips_of codings (arrays_in old)
+
   old-long : length old ≡ length cs
   old-long = sym (sizes-long old) ∙ ap (λ (l : List ℕ). length l) sizes
       ∙ length-map cs (λ (c : Coded). down_in c * wide_in c)
@@ -73,84 +79,88 @@ module _ (cs : List Coded) (old : List Held) (sizes : sizes_of old ≡ row_sizes
   arrays-long : length (arrays_in old) ≡ length codings
   arrays-long = length-map old blocks_in ∙ old-long ∙ sym (length-map cs coding_in)
 
+  strips-long : length strips ≡ length cs
+  strips-long = strips_of-length codings (arrays_in old) arrays-long ∙ length-map cs coding_in
+
   -- the next component's blocks are those of a row of MCUs
-  pub row-size : (slot : ℕ) (c : Coded) (v : Held) → slot < length cs → c ≡ get_or cs slot c → v ≡ get_or old slot v
-      → length v.items ≡ down_in c * wide_in c
+  pub row-size : (slot : ℕ) (c : Coded) (v : Held) → slot < length cs → c ≡ get_or cs slot c
+      → v ≡ get_or old slot v → length v.items ≡ down_in c * wide_in c
   row-size slot c v h is held =
       sym (size-at old slot v (omega (arith, sizes-long old, old-long)) held)
       ∙ ap (λ (l : List ℕ). get_or l slot 0) sizes
       ∙ get_or-map (λ (x : Coded). down_in x * wide_in x) cs slot c 0 h
       ∙ sym (ap (λ (x : Coded). down_in x * wide_in x) is)
 
-  abbrev strips : List (List ℕ)
-  strips = strips_of codings (arrays_in old)
-
-  strip-here : (slot : ℕ) (c : Coded) (v : Held) → slot < length cs → c ≡ get_or cs slot c → v ≡ get_or old slot v
+  -- and these are its samples
+  strip-here : (slot : ℕ) (c : Coded) (v : Held) → slot < length cs → c ≡ get_or cs slot c
+      → v ≡ get_or old slot v
       → get_or strips slot [] ≡ samples_of (down_in c) (coding_in c) (map to_block v.items)
   strip-here slot c v h is held =
       let blocks : get_or (arrays_in old) slot [] ≡ map to_block v.items =
       get_or-map blocks_in old slot v [] (omega (arith, old-long)) ∙ sym (ap blocks_in held) in
       let coded : coding_in c ≡ get_or codings slot (coding_in c) = ap coding_in is
       ∙ sym (get_or-map coding_in cs slot c (coding_in c) h) in
-      strip-of codings (arrays_in old) slot (coding_in c) arrays-long (omega (arith, length-map cs coding_in)) coded
+      strip-of codings (arrays_in old) slot (coding_in c) arrays-long
+      (omega (arith, length-map cs coding_in)) coded
       ∙ ap (λ (l : List Block). samples_of (down_in c) (coding_in c) l) blocks
 
-  -- the strips so far in one room
-  pub room-next : (slot : ℕ) (c : Coded) (v : Held) (start samples new : List ℕ)
-      → slot < length cs → c ≡ get_or cs slot c → v ≡ get_or old slot v
-      → samples ≡ start ++ concat (take slot strips)
+  -- the strips so far, in one room
+  pub room-next : (slot : ℕ) (c : Coded) (v : Held) (start samples new : List ℕ) → slot < length cs
+      → c ≡ get_or cs slot c → v ≡ get_or old slot v → samples ≡ start ++ concat (take slot strips)
       → new ≡ samples ++ samples_of (down_in c) (coding_in c) (map to_block v.items)
       → new ≡ start ++ concat (take (slot + 1) strips)
   room-next slot c v start samples new h is held inv more =
       let here = strip-here slot c v h is held in
-      let long : length strips ≡ length cs = strips_of-length codings (arrays_in old) arrays-long ∙ length-map cs coding_in in
-      let next = take_more strips slot [] (omega arith) in
+      let next = take_more strips slot [] (omega (arith, strips-long)) in
       grind (arith, common_steps, here, next, concat-append, append_assoc, append-nil)
 
   pub room-all : (slot : ℕ) (start samples : List ℕ) → length cs ≤ slot
       → samples ≡ start ++ concat (take slot strips) → samples ≡ start ++ concat strips
   room-all slot start samples h inv =
-      let long : length strips ≡ length cs = strips_of-length codings (arrays_in old) arrays-long ∙ length-map cs coding_in in
-      inv ∙ ap (λ (l : List (List ℕ)). start ++ concat l) (take_all slot strips (omega arith))
+      inv ∙ ap (λ (l : List (List ℕ)). start ++ concat l)
+      (take_all slot strips (omega (arith, strips-long)))
 
-  module _ (start : List Plane) (long : length start ≡ length cs) where
-    abbrev all : List (List ℕ)
-    all = with_strips codings (arrays_in old) (planes_in start)
+module _ (cs : List Coded) (old : List Held) (start : List Plane) (sizes : sizes_of old
+    ≡ row_sizes cs) (long : length start ≡ length cs) where
+  abbrev all : List (List ℕ)
+  all = with_strips (map coding_in cs) (arrays_in old) (planes_in start)
 
-    start-long : length (planes_in start) ≡ length codings
-    start-long = length-map start (λ (v : Plane). v.items) ∙ long ∙ sym (length-map cs coding_in)
+  start-long : length (planes_in start) ≡ length (map coding_in cs)
+  start-long = length-map start (λ (v : Plane). v.items) ∙ long ∙ sym (length-map cs coding_in)
 
-    all-long : length all ≡ length (planes_in start)
-    all-long = strips-length codings (arrays_in old) (planes_in start) arrays-long start-long ∙ sym start-long
+  all-long : length all ≡ length (planes_in start)
+  all-long = strips-length (map coding_in cs) (arrays_in old) (planes_in start)
+      (arrays-long cs old sizes) start-long ∙ sym start-long
 
-    pub planes-long : (planes : List Plane) (slot : ℕ) → planes_in planes ≡ patched slot all (planes_in start)
-        → length planes ≡ length cs
-    planes-long planes slot e =
-        sym (length-map planes (λ (v : Plane). v.items)) ∙ ap (λ (l : List (List ℕ)). length l) e
-        ∙ patched-length all (planes_in start) slot all-long
-        ∙ length-map start (λ (v : Plane). v.items) ∙ long
+  pub planes-long : (planes : List Plane) (slot : ℕ) → planes_in planes ≡ patched slot all (planes_in start)
+      → length planes ≡ length cs
+  planes-long planes slot e =
+      sym (length-map planes (λ (v : Plane). v.items)) ∙ ap (λ (l : List (List ℕ)). length l) e
+      ∙ patched-length all (planes_in start) slot all-long
+      ∙ length-map start (λ (v : Plane). v.items) ∙ long
 
-    pub planes-next : (planes : List Plane) (slot : ℕ) (c : Coded) (v : Held) (p q : Plane)
-        → slot < length cs → c ≡ get_or cs slot c → v ≡ get_or old slot v
-        → planes_in planes ≡ patched slot all (planes_in start) → p ≡ get_or planes slot p → q.items
-        ≡ p.items ++ samples_of (down_in c) (coding_in c) (map to_block v.items)
-        → planes_in (set planes slot q) ≡ patched (slot + 1) all (planes_in start)
-    planes-next planes slot c v p q h is held inv at new =
-        let view : Plane → List ℕ = λ x. x.items in
-        let pl = planes-long planes slot inv in
-        let before : p.items ≡ get_or (planes_in start) slot [] =
-        ap view at ∙ sym (get_or-map view planes slot p [] (omega (arith, pl)))
-        ∙ ap (λ (l : List (List ℕ)). get_or l slot []) inv
-        ∙ patched-at all (planes_in start) slot [] all-long in
-        map-set view planes slot q
-        ∙ ap (λ (l : List (List ℕ)). set l slot q.items) inv
-        ∙ patched-next all (planes_in start) slot q.items [] all-long (omega (arith, start-long, length-map cs coding_in))
-        (new ∙ ap (λ (l : List ℕ). l ++ samples_of (down_in c) (coding_in c) (map to_block v.items)) before
-        ∙ sym (strips-at codings (arrays_in old) (planes_in start) slot arrays-long start-long
-        (omega (arith, length-map cs coding_in))
-        ∙ ap (λ (l : List ℕ). get_or (planes_in start) slot [] ++ l) (strip-here slot c v h is held)))
+  pub planes-next : (planes : List Plane) (slot : ℕ) (c : Coded) (v : Held) (p q : Plane)
+      → slot < length cs → c ≡ get_or cs slot c → v ≡ get_or old slot v
+      → planes_in planes ≡ patched slot all (planes_in start) → p ≡ get_or planes slot p → q.items
+      ≡ p.items ++ samples_of (down_in c) (coding_in c) (map to_block v.items)
+      → planes_in (set planes slot q) ≡ patched (slot + 1) all (planes_in start)
+  planes-next planes slot c v p q h is held inv at new =
+      let view : Plane → List ℕ = λ x. x.items in
+      let pl = planes-long planes slot inv in
+      let before : p.items ≡ get_or (planes_in start) slot [] =
+      ap view at ∙ sym (get_or-map view planes slot p [] (omega (arith, pl)))
+      ∙ ap (λ (l : List (List ℕ)). get_or l slot []) inv
+      ∙ patched-at all (planes_in start) slot [] all-long in
+      map-set view planes slot q
+      ∙ ap (λ (l : List (List ℕ)). set l slot q.items) inv
+      ∙ patched-next all (planes_in start) slot q.items [] all-long (omega (arith, start-long, length-map cs coding_in))
+      (new ∙ ap (λ (l : List ℕ). l ++ samples_of (down_in c) (coding_in c) (map to_block v.items)) before
+      ∙ sym (strips-at (map coding_in cs) (arrays_in old) (planes_in start) slot
+      (arrays-long cs old sizes) start-long (omega (arith, length-map cs coding_in))
+      ∙ ap (λ (l : List ℕ). get_or (planes_in start) slot [] ++ l)
+      (strip-here cs old sizes slot c v h is held)))
 
-    pub planes-all : (planes : List Plane) (slot : ℕ) → length cs ≤ slot → planes_in planes
-        ≡ patched slot all (planes_in start) → planes_in planes ≡ all
-    planes-all planes slot h e = e ∙ patched-all all (planes_in start) slot all-long (omega
-        (arith, start-long, length-map cs coding_in))
+  pub planes-all : (planes : List Plane) (slot : ℕ) → length cs ≤ slot → planes_in planes
+      ≡ patched slot all (planes_in start) → planes_in planes ≡ all
+  planes-all planes slot h e = e ∙ patched-all all (planes_in start) slot all-long (omega
+      (arith, start-long, length-map cs coding_in))

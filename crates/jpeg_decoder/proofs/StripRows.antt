@@ -92,17 +92,20 @@ pub strips_of-length : (codings : List Coding) (arrays : Arrays) → length arra
     → length (strips_of codings arrays) ≡ length codings
 unfolding strips_of
 strips_of-length [] [] e = refl
-strips_of-length (c ∷ codings) (a ∷ arrays) e = ap (λ (n : ℕ). suc n) (strips_of-length codings arrays (omega arith))
+strips_of-length (c ∷ codings) (a ∷ arrays) e =
+    ap (λ (n : ℕ). suc n) (strips_of-length codings arrays (omega arith))
 strips_of-length _ _ e = absurd (omega arith)
 
 -- the strip of a component's blocks
-pub strip-of : (codings : List Coding) (arrays : Arrays) (slot : ℕ) (c : Coding) → length arrays ≡ length codings
-    → slot < length codings → c ≡ get_or codings slot c
-    → get_or (strips_of codings arrays) slot [] ≡ samples_of c.component.factors.vertical c (get_or arrays slot [])
+pub strip-of : (codings : List Coding) (arrays : Arrays) (slot : ℕ) (c : Coding)
+    → length arrays ≡ length codings → slot < length codings → c ≡ get_or codings slot c
+    → get_or (strips_of codings arrays) slot []
+    ≡ samples_of c.component.factors.vertical c (get_or arrays slot [])
 unfolding strips_of
 strip-of (d ∷ codings) (a ∷ arrays) zero c e h is =
     ap (λ (x : Coding). samples_of x.component.factors.vertical x a) (sym is)
-strip-of (d ∷ codings) (a ∷ arrays) (suc slot) c e h is = strip-of codings arrays slot c (omega arith) (omega arith) is
+strip-of (d ∷ codings) (a ∷ arrays) (suc slot) c e h is =
+    strip-of codings arrays slot c (omega arith) (omega arith) is
 strip-of _ _ slot c e h is = absurd (omega arith)
 
 -- ---- the loop over the rows

@@ -90,7 +90,8 @@ zeros-are (c ∷ cs) = grind (arith, common_steps, zeros-are cs)
 
 -- ---- the planes
 
-pub length-samples : (high : ℕ) (c : Coding) (blocks : List Block) → length (samples_of high c blocks)
+pub length-samples : (high : ℕ) (c : Coding) (blocks : List Block)
+    → length (samples_of high c blocks)
     ≡ c.component.scale * c.component.blocks_wide * (c.component.scale * high)
 unfolding samples_of plane_of
 length-samples high c blocks = grind (arith, common_steps, length-map-range_with_len)

@@ -1,6 +1,7 @@
 //! What the scans of a frame have given so far: blocks, and planes (T.81, A.2 and G.1).
 ghost use Rattle.std.specs.Prelude.{◌≡◌, ◌<◌, ◌*◌, [], All, IfOk};
-ghost use Rattle.std.specs.Prelude.{None, OnOk, length, map, replicate, slice_index_or, slice_set, true};
+ghost use Rattle.std.specs.Prelude.{None, OnOk, length, map, replicate, slice_index_or};
+ghost use Rattle.std.specs.Prelude.{slice_set, true};
 ghost use Rattle.std.specs.List.{list_all};
 ghost use Rattle.jpeg_bits.specs.BlockView.{pass_in, to_block, IsPass};
 ghost use Rattle.jpeg_pixels.specs.Scaled.{IsScale};

@@ -1,6 +1,6 @@
 use Rattle.std.proofs.lemmas.Grind.{common_steps}
-use Rattle.std.proofs.Common.{◌≡◌, ◌∙◌, ◌-◌, ◌+◌, ◌*◌, [], ap, ap₂, map, refl, sym, subst, ℕ, List, Option, Result}
-use Rattle.std.proofs.Common.{arith, length}
+use Rattle.std.proofs.Common.{◌≡◌, ◌∙◌, ◌-◌, ◌+◌, ◌*◌, [], ap, ap₂, map, sym, subst, ℕ, List, Option, Result}
+use Rattle.std.proofs.Common.{arith, length, refl}
 use Rattle.std.specs.List.{AllByRecursion, range_with_len}
 use Rattle.std.specs.Prelude.{OnOk}
 use Rattle.std.proofs.lemmas.Result.{err_from_is_err_and}
@@ -27,8 +27,8 @@ use Rattle.jpeg_decoder.proofs.HeldSpots.{rows-spots}
 use Rattle.jpeg_decoder.proofs.ScanOrders.{rows-walked}
 use Rattle.jpeg_decoder.proofs.StripScans.{rows-refused, scan-ended}
 use Rattle.jpeg_decoder.proofs.StripSteps.{strips_refused, strips_none, whole-rows, first-row, later-rows}
-use Rattle.jpeg_decoder.proofs.StripSteps.{zeros-are, lengths, lengths-all, lengths-none, lengths-next}
-use Rattle.jpeg_decoder.proofs.StripSteps.{row-count}
+use Rattle.jpeg_decoder.proofs.StripSteps.{zeros-are, lengths, lengths-all, lengths-none}
+use Rattle.jpeg_decoder.proofs.StripSteps.{lengths-next, row-count}
 use Rattle.jpeg_decoder.proofs.sequential.read_planes.Goals as goal
 
 pub loop-row-init : goal.loop-row-init
@@ -116,7 +116,8 @@ loop-row-preserved g c =
     let read = c.read_spots.new.arrays.items in
     let sizes : sizes_of read ≡ row_sizes cs = q.sizes ∙ c.clear_rows.ensures.sizes ∙ l.invariant.sizes in
     let made : growing_in c.append_strips.new.planes ≡ with_strips codings (arrays_in read) planes
-    = c.in_ok-append_strips.ensures.strips ∙ ap₂ (λ (x : List Coded) (y : List Held). with_strips (map coding_in x) (arrays_in y) planes)
+    = c.in_ok-append_strips.ensures.strips
+    ∙ ap₂ (λ (x : List Coded) (y : List Held). with_strips (map coding_in x) (arrays_in y) planes)
     c.deref-in-loop-row.ensures.value c.deref-in-loop-row-2.ensures.value in
     record {
       sizes = sizes;

@@ -9,15 +9,19 @@ use Rattle.jpeg_decoder.proofs.strips.append_strips.Goals as goal
 
 pub returns-in-Joint-clause-strips : goal.returns-in-Joint-clause-strips
 returns-in-Joint-clause-strips c =
-    let codings = map coding_in c.args.codings.now in
-    let is = subst (IsGrowing codings) c.in-Joint.is c.requires.planes in
-    rw c.in-Joint.is (on_ok_weaker c.append_to_room.result (room-grown codings (arrays_in c.args.rows.now) c.in-Joint.joint
-    is (row-count c.args.codings.now c.args.rows.now c.requires.sizes) c.append_to_room.new.samples.items)
+    let cs = c.args.codings.now in
+    let rows = c.args.rows.now in
+    let is = subst (IsGrowing (map coding_in cs)) c.in-Joint.is c.requires.planes in
+    rw c.in-Joint.is (on_ok_weaker c.append_to_room.result
+    (room-grown (map coding_in cs) (arrays_in rows) c.in-Joint.joint is
+    (row-count cs rows c.requires.sizes) c.append_to_room.new.samples.items)
     c.append_to_room.ensures)
 
 pub returns-in-Joint-clause-growing : goal.returns-in-Joint-clause-growing
 returns-in-Joint-clause-growing c =
-    let codings = map coding_in c.args.codings.now in
-    let is = subst (IsGrowing codings) c.in-Joint.is c.requires.planes in
-    on_ok_weaker c.append_to_room.result (room-kept codings (arrays_in c.args.rows.now) c.in-Joint.joint is
-    (row-count c.args.codings.now c.args.rows.now c.requires.sizes) c.append_to_room.new.samples) c.append_to_room.ensures
+    let cs = c.args.codings.now in
+    let rows = c.args.rows.now in
+    let is = subst (IsGrowing (map coding_in cs)) c.in-Joint.is c.requires.planes in
+    on_ok_weaker c.append_to_room.result
+    (room-kept (map coding_in cs) (arrays_in rows) c.in-Joint.joint is
+    (row-count cs rows c.requires.sizes) c.append_to_room.new.samples) c.append_to_room.ensures

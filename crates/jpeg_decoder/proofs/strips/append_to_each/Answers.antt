@@ -1,6 +1,7 @@
 use Rattle.std.proofs.Common.{arith, rules}
 use Rattle.jpeg_decoder.specs.Strips.{samples_of}
-use Rattle.jpeg_decoder.proofs.RowBuffers.{no-strips, planes-long, row-size, planes-next, planes-all}
+use Rattle.jpeg_decoder.proofs.RowBuffers.{no-strips, planes-all, planes-long, planes-next}
+use Rattle.jpeg_decoder.proofs.RowBuffers.{row-size}
 use Rattle.jpeg_decoder.proofs.strips.append_to_each.Goals as goal
 use Rattle.std.proofs.lemmas.Grind.{common_steps}
 

@@ -6,6 +6,6 @@ use Rattle.jpeg_streams.proofs.InPlace.{patched}
 use Rattle.jpeg_decoder.proofs.strips.append_to_each.Given as goal
 
 abbrev pub invariant-loop-slot : goal.invariant-loop-slot
-invariant-loop-slot l = planes_in l.planes
-    ≡ patched l.slot (with_strips (map coding_in l.codings) (arrays_in l.rows) (planes_in l.fn.planes))
+invariant-loop-slot l = planes_in l.planes ≡ patched l.slot
+    (with_strips (map coding_in l.codings) (arrays_in l.rows) (planes_in l.fn.planes))
     (planes_in l.fn.planes)

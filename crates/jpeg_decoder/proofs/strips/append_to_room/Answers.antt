@@ -10,11 +10,13 @@ append_rows-requires-clause-size c = grind (arith, common_steps, row-size)
 pub loop-slot-preserved : goal.loop-slot-preserved
 unfolding samples_of
 loop-slot-preserved c =
-    room-next c.args.codings.now c.args.rows.now (search rules) c.loop-slot.slot c.index-codings-slot.result
-    c.index-rows-slot.result c.args.samples.now.items c.loop-slot.samples.items _ (search rules) (search rules)
-    (search rules) c.loop-slot.invariant (search rules)
+    let l = c.loop-slot in
+    room-next c.args.codings.now c.args.rows.now c.requires.sizes l.slot c.index-codings-slot.result
+    c.index-rows-slot.result c.args.samples.now.items l.samples.items _ (search rules)
+    (search rules) (search rules) l.invariant (search rules)
 
 pub returns : goal.returns
 returns c =
-    room-all c.args.codings.now c.args.rows.now (search rules) c.loop-slot.slot c.args.samples.now.items
-    c.loop-slot.samples.items (search rules) c.loop-slot.invariant
+    let l = c.loop-slot in
+    room-all c.args.codings.now c.args.rows.now c.requires.sizes l.slot c.args.samples.now.items
+    l.samples.items (search rules) l.invariant

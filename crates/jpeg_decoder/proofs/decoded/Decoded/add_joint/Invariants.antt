@@ -7,16 +7,18 @@ use Rattle.jpeg_decoder.specs.Steps.{coding_in, with_decoded, with_planes}
 use Rattle.jpeg_decoder.proofs.decoded.Decoded.add_joint.Given as goal
 
 abbrev pub invariant-loop-coded : goal.invariant-loop-coded
-invariant-loop-coded l = record {
-  held : l.self.held ≡ l.fn.self.held;
-  samples : l.self.samples ≡ l.fn.self.samples;
-  planes : l.self.planes ≡ l.fn.self.planes;
-  added : (base : Found) →
-      with_planes (pass_in l.scan.pass) (drop l.coded-index (map coding_in l.scan.components.items))
-      (drop l.coded-index (joint_planes l.joint.shape l.joint.samples.items))
-      (record (with_decoded base l.self) {
-        planes = or_joint (replicate 4 None) (take l.coded-index (joint_planes l.joint.shape l.joint.samples.items));
-      })
-      ≡ with_planes (pass_in l.scan.pass) (map coding_in l.scan.components.items)
-      (joint_planes l.joint.shape l.joint.samples.items) (with_decoded base l.fn.self);
-}
+invariant-loop-coded l =
+    let p = pass_in l.scan.pass in
+    let codings = map coding_in l.scan.components.items in
+    let all = joint_planes l.joint.shape l.joint.samples.items in
+    record {
+      held : l.self.held ≡ l.fn.self.held;
+      samples : l.self.samples ≡ l.fn.self.samples;
+      planes : l.self.planes ≡ l.fn.self.planes;
+      added : (base : Found) →
+          with_planes p (drop l.coded-index codings) (drop l.coded-index all)
+          (record (with_decoded base l.self) {
+            planes = or_joint (replicate 4 None) (take l.coded-index all);
+          })
+          ≡ with_planes p codings all (with_decoded base l.fn.self);
+    }

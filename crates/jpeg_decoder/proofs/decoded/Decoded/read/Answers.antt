@@ -1,4 +1,4 @@
-use Rattle.std.proofs.Common.{◌≡◌, ◌∙◌, ap, sym, subst, refl, List, map, ℕ, ◌*◌, Option, arith}
+use Rattle.std.proofs.Common.{◌∙◌, ap, sym, subst, refl, List, map, ℕ, ◌*◌, Option, arith}
 use Rattle.std.proofs.lemmas.Result.{err_from_is_err_and}
 use Rattle.jpeg_bits.specs.declared.marker.Marker.{Marker}
 use Rattle.jpeg_bits.specs.BlockView.{pass_in}
@@ -31,7 +31,8 @@ returns-in_err-reached-clause-data g c =
     (scan_data f frame (pass_in scan.pass) (map coding_in cs)) c.args.source.now c.read_planes.new.source _
     (λ fault h. read-refused (found_in c.args.state.now) c.args.self.now frame scan c.args.source.now.bytes (sym c.if-is_progressive.ensures)
     c.requires.ready fault (ap (λ (start : List (List ℕ)). planes_by_rows (pass_in scan.pass) (vias_in 0 cs)
-    scan.restart_interval frame (map coding_in cs) start c.args.source.now.bytes) (sym c.in_ok-planes.ensures.none) ∙ h))
+    scan.restart_interval frame (map coding_in cs) start c.args.source.now.bytes)
+    (sym c.in_ok-planes.ensures.none) ∙ h))
     c.in_err-reached.ensures.planes)
 
 pub returns-clause-data : goal.returns-clause-data
@@ -68,7 +69,8 @@ returns-clause-planes g c =
     (with_decoded (found_in c.args.state.now) one)
     (of-frame frame codings c.requires.ready.of_frame)
     (c.in_ok-reached.ensures.sizes c.in_ok-planes.ensures.none
-    ∙ ap (map (λ (x : Component). (x.blocks_high * x.scale) * (x.blocks_wide * x.scale))) (sym (coded-components cs))) h)
+    ∙ ap (map (λ (x : Component). (x.blocks_high * x.scale) * (x.blocks_wide * x.scale)))
+    (sym (coded-components cs))) h)
 
 pub returns-then-is_progressive-clause-held : goal.returns-then-is_progressive-clause-held
 returns-then-is_progressive-clause-held g c = grind (arith, common_steps, held-afterwards)
