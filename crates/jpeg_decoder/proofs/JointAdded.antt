@@ -1,4 +1,4 @@
--- What is found after a first scan of all components of a frame, whose planes stand in one room.
+-- What is found after a first scan of all components of a frame, whose planes share one buffer.
 use Rattle.std.proofs.Common.{◌≡◌, ℕ, zero, suc, ◌+◌, ◌<◌, ◌≤◌, ◌&&◌, Bool, true, Option, Some}
 use Rattle.std.proofs.Common.{None, List, [], ◌∷◌, ◌++◌, length, get_or, map, take, drop, replicate}
 use Rattle.std.proofs.Common.{arith, refl, sym, ap, ap₂, ◌∙◌}
@@ -11,6 +11,7 @@ use Rattle.jpeg_streams.specs.ScanSegments.{Coding, finished_by}
 use Rattle.jpeg_decoder.specs.declared.scan.Coded.{Coded}
 use Rattle.jpeg_decoder.specs.PlanesView.{or_joint}
 use Rattle.jpeg_decoder.specs.Steps.{coding_in, is_wanted, marks_after, with_planes}
+use Rattle.jpeg_decoder.proofs.JointDecided.{or-nothing}
 use Rattle.jpeg_decoder.proofs.DecidedPlanes.{its_plane_set}
 use Rattle.jpeg_decoder.proofs.PutLoops.{none-left, planes-none, seen-at}
 
@@ -22,12 +23,6 @@ all-marked p marks new e f is =
     let none : drop 64 marks ≡ [] = drop_all 64 marks (omega (arith, e)) in rw (f, is, none) refl
 
 -- ---- planes, of which the first ones are there
-
-pub or-none : (own : List (Option (List ℕ))) → or_joint own [] ≡ own
-unfolding or_joint
-or-none [] = refl
-or-none (Some plane ∷ own) = refl
-or-none (None ∷ own) = refl
 
 or-at : (n : ℕ) (planes : List (List ℕ))
     → slice_index_or (or_joint (replicate n None) planes) (length planes) None ≡ None
@@ -43,7 +38,7 @@ or-next : (n : ℕ) (planes : List (List ℕ)) (plane : List ℕ) → length pla
 unfolding or_joint
 or-next zero planes plane h = absurd (omega arith)
 or-next (suc n) [] plane h =
-    ap (λ (l : List (Option (List ℕ))). Some plane ∷ l) (sym (or-none (replicate n None)))
+    ap (λ (l : List (Option (List ℕ))). Some plane ∷ l) (sym (or-nothing (replicate n None)))
 or-next (suc n) (x ∷ planes) plane h =
     ap (λ (l : List (Option (List ℕ))). Some x ∷ l) (or-next n planes plane (omega arith))
 

@@ -1,4 +1,4 @@
--- Planes that are decided, of which those of components alike stand in one room.
+-- Planes that are decided, of which those of like components share one buffer.
 use Rattle.std.proofs.lemmas.Grind.{common_steps}
 use Rattle.std.proofs.Common.{◌≡◌, ◌∙◌, ◌<◌, ◌≤◌, ℕ, zero, suc, List, [], ◌∷◌, Option, Some, None}
 use Rattle.std.proofs.Common.{ap, arith, drop, get_or, is_some, length, map, refl, replicate, set}
@@ -10,7 +10,7 @@ use Rattle.jpeg_pixels.specs.JointPlanes.{joint_plane, joint_planes}
 use Rattle.jpeg_pixels.specs.declared.joint_planes.JointShape.{JointShape}
 use Rattle.jpeg_decoder.specs.PlanesView.{or_joint}
 
--- With nothing in the room there are those of their own.
+-- With nothing in a shared buffer there are those of their own.
 pub or-nothing : (own : List (Option (List ℕ))) → or_joint own [] ≡ own
 unfolding or_joint
 or-nothing [] = refl

@@ -1,4 +1,4 @@
--- What a caller sees of planes that grow by rows of MCUs, each on its own or all in one room.
+-- What a caller sees of planes that grow by rows of MCUs, each on its own or all in one buffer.
 use Rattle.std.specs.Prelude.{◌≡◌, ◌≤◌, ◌<◌, ℕ, ◌*◌, ◌/◌, Bool, false, true, List, length}
 use Rattle.std.specs.List.{AllByRecursion}
 use Rattle.jpeg_pixels.specs.JointPlanes.{IsSmall, joint_planes, row_size}
@@ -23,7 +23,7 @@ pub record IsOfShape (shape : JointShape) (c : Coding) : Type 0 where
   pub stride : c.component.blocks_wide * c.component.scale ≡ shape.stride
   pub high : c.component.blocks_high ≡ shape.rows * c.component.factors.vertical
 
--- Planes in one room grow by whole rows of MCUs of these components.
+-- Planes in one buffer grow by whole rows of MCUs of these components.
 pub record IsJointOf (codings : List Coding) (joint : JointPlanes) : Type 0 where
   pub small : IsSmall joint.shape
   pub count : joint.shape.count ≡ length codings

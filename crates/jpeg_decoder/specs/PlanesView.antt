@@ -1,5 +1,5 @@
--- What a caller sees of the planes that are decided, of which those of components alike stand in
--- one room.
+-- What a caller sees of the planes that are decided, of which those of like components share
+-- one buffer.
 use Rattle.std.specs.Prelude.{◌≡◌, ℕ, ◌*◌, List, [], ◌∷◌, length, map, option_map, Option, Some}
 use Rattle.std.specs.Prelude.{IfSome, None}
 use Rattle.std.specs.declared.alloc.Global.{Global}
@@ -21,7 +21,7 @@ pub record HasFullJoint (p : Inside) : Type 0 where
   pub four : length p.own ≡ 4
   pub joint : IfSome p.joint IsFullJoint
 
--- the planes of their own, or else those in one room
+-- the planes of their own, or else those in one buffer
 unfoldable pub or_joint : List (Option (List ℕ)) → List (List ℕ) → List (Option (List ℕ))
 or_joint (Some plane ∷ own) (other ∷ joint) = Some plane ∷ or_joint own joint
 or_joint (None ∷ own) (other ∷ joint) = Some other ∷ or_joint own joint

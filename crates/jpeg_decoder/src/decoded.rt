@@ -319,8 +319,8 @@ impl Decoded {
         }
     }
 
-    /// Returns planes without samples for a scan of a sequential frame: in one room where it is the
-    /// first, it has all components of the frame, and they are alike.
+    /// Returns planes without samples for a scan of a sequential frame: in one buffer where it is
+    /// the first, has all components of the frame, and they are alike.
     fn start_planes(
         &self,
         alloc: Global,
@@ -351,7 +351,7 @@ impl Decoded {
         Ok(GrowingPlanes::Own(planes))
     }
 
-    /// Adds the planes of a scan of all components of a frame, which stand in one room.
+    /// Adds the planes of a scan of all components of a frame, which are in one buffer.
     fn add_joint(&mut self, scan: &Scan<'_>, joint: JointPlanes)
         requires first { IsFirst self.old.planes scan.now }
         requires full { IsFullJoint joint }

@@ -249,7 +249,7 @@ fn write_by(
     )
 }
 
-/// Returns how the planes of a frame's components lie in one room, where they are alike.
+/// Returns the layout of a frame's planes in one buffer, where its components are alike.
 fn shape_of(frame: &FrameInfo) -> Option<JointShape>
     requires { AllHaveSampling (frame_in frame.now).components }
     ensures { IfSome result (IsShapeOf (frame_in frame.now).components
@@ -259,7 +259,7 @@ fn shape_of(frame: &FrameInfo) -> Option<JointShape>
     joint_shape(&frame.components, frame.output_size, rows)
 }
 
-/// Returns the colours of a frame's picture.
+/// Returns the colour transform of a frame's picture.
 fn transform_of(state: &State, frame: &FrameInfo, settings: Settings) -> ColorTransform
     ensures { result ≡ transform_of settings.color_transform
         (identifiers_of (frame_in frame.now).components) state.now.metadata.jfif
@@ -273,7 +273,7 @@ fn transform_of(state: &State, frame: &FrameInfo, settings: Settings) -> ColorTr
     )
 }
 
-/// Returns the picture of a frame's planes that lie in one room.
+/// Returns the picture of a frame's planes that are in one buffer.
 fn joint_picture(
     alloc: Global,
     state: &State,
@@ -300,7 +300,7 @@ fn joint_picture(
     )
 }
 
-/// Writes the picture of a frame's planes that lie in one room into memory that has exactly its
+/// Writes the picture of a frame's planes that are in one buffer into memory that has exactly its
 /// bytes. After an error nothing is written.
 fn write_joint(
     alloc: Global,

@@ -7,8 +7,8 @@ use jpeg_pixels::joint_planes::{JointPlanes, JointShape};
 use std::alloc::{AllocError, Global};
 use std::marker::Model;
 
-/// The planes of at most four components: of some each in memory of its own, and of components
-/// alike that one scan has all of together in one room.
+/// The planes of at most four components: each in memory of its own, or, of like components that
+/// one scan had all of, together in one buffer.
 #[derive(Drop)]
 pub struct Planes {
     own: [Option<Vec<u8>>; 4],
@@ -34,8 +34,8 @@ fn are_none(planes: &[Option<Vec<u8>>; 4]) -> bool
     planes.iter().all(|plane| plane.is_none())
 }
 
-/// Copies the plane of a component out of a room with others, if it is there. The only error is
-/// that no memory is left.
+/// Copies the plane of a component out of a buffer that it shares, if it is there. The only error
+/// is a refused allocation.
 fn copy_plane(
     alloc: Global,
     joint: &Option<JointPlanes>,
@@ -93,7 +93,7 @@ impl Planes {
         self.own[place] = Some(plane);
     }
 
-    /// Puts the planes of components alike, where none is decided.
+    /// Puts the planes of like components, where none is decided.
     pub fn put_joint(&mut self, joint: JointPlanes)
         requires none { self.old ≡ replicate 4 None }
         requires full { IsFullJoint joint }
@@ -103,7 +103,7 @@ impl Planes {
         self.joint = Some(joint);
     }
 
-    /// Takes the planes of components alike, where all planes lie in one room in this shape.
+    /// Takes the planes of like components, where all planes are in one buffer with this layout.
     pub fn take_joint(&mut self, shape: Option<JointShape>) -> Option<JointPlanes>
         ensures taken { IfSome result (λ joint. IsFullJoint joint × (shape ≡ Some joint.shape)
             × (self.old
@@ -118,8 +118,8 @@ impl Planes {
         }
     }
 
-    /// Takes the plane of a component, if it is decided: out of a room with others it is copied.
-    /// The only error is that no memory is left.
+    /// Takes the plane of a component, if it is decided; out of a shared buffer it is copied. The
+    /// only error is a refused allocation.
     pub fn take(
         &mut self,
         alloc: Global,

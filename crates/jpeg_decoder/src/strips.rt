@@ -116,12 +116,11 @@ pub fn append_rows(
 pub enum GrowingPlanes {
     /// Each in memory of its own, one a component of the scan, or none at all.
     Own(Vec<Vec<u8>>),
-    /// Those of components alike in one room.
+    /// Those of like components in one buffer.
     Joint(JointPlanes),
 }
 
-/// Appends the samples of the blocks of a row of MCUs to planes in memory of their own, if there are
-/// any.
+/// Appends the samples of the blocks of a row of MCUs to planes in memory of their own, if any.
 fn append_to_each(
     planes: &mut [Vec<u8>],
     codings: &[Coded<'_>],
@@ -150,7 +149,7 @@ fn append_to_each(
     Ok(())
 }
 
-/// Appends the samples of the blocks of a row of MCUs to planes in one room.
+/// Appends the samples of the blocks of a row of MCUs to planes in one buffer.
 fn append_to_room(
     samples: &mut Vec<u8>,
     codings: &[Coded<'_>],

@@ -1,4 +1,4 @@
--- Planes of components alike in one room: row of MCUs by row of MCUs, and of each component a strip.
+-- Planes of like components in one buffer: for each row of MCUs one strip per component.
 use Rattle.std.specs.Prelude.{◌≡◌, ℕ, ◌+◌, ◌*◌, ◌/◌, ◌%◌, ◌<◌, ◌≤◌, List, [], map, length, take, drop}
 use Rattle.std.specs.Prelude.{get_or, slice_index}
 use Rattle.std.specs.List.{AllByRecursion, concat, range_with_len}

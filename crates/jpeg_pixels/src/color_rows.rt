@@ -5,21 +5,21 @@ ghost use Rattle.std.specs.Int.{int_shr};
 ghost use Rattle.jpeg_pixels.specs.Samples.{clamped};
 ghost use Rattle.jpeg_pixels.specs.Colour.{centred_of, red_of, green_of, blue_of};
 
-// The sample of a colour difference, from -128 to 127.
+// Returns a colour difference: its sample less 128.
 fn centred(c: u8) -> i16
     ensures { result ≡ centred_of c }
 {
     i16::from(c) - 128
 }
 
-// The upper half of a product.
+// Returns the upper half of a product.
 fn upper_half(value: i16, factor: i16) -> i16
     ensures { result ≡ int_shr (value *ℤ factor) 16 }
 {
     ((i32::from(value) * i32::from(factor)) >> 16) as i16
 }
 
-// Half of a number, rounded up.
+// Returns half of a number, rounded up.
 fn rounded(value: i16) -> i16
     requires { value ≤ℤ pos 32766 }
     ensures { result ≡ int_shr (value +ℤ pos 1) 1 }
@@ -27,7 +27,7 @@ fn rounded(value: i16) -> i16
     (value + 1) >> 1
 }
 
-// A brightness and what a colour differs from it, as a byte.
+// Returns the sum of a brightness and the difference of a colour from it, as a byte.
 fn added(y: u8, difference: i16) -> u8
     requires { unsigned_abs difference ≤ 1000 }
     ensures { result ≡ clamped (pos y +ℤ difference) }
@@ -41,15 +41,15 @@ fn red(y: u8, cr: u8) -> u8
     added(y, rounded(upper_half(8 * centred(cr), 22971)))
 }
 
-// The part of `green_sum` from the multiples of 64 in its factors.
+// Returns the part of `green_sum` that comes from the multiples of 64 in its factors.
 fn coarse_green_sum(cb: u8, cr: u8) -> i32
     ensures { result ≡ pos 0 -ℤ pos 360832 *ℤ centred_of cb -ℤ pos 748800 *ℤ centred_of cr }
 {
     i32::from(64 * centred(cb)) * -5638 + i32::from(64 * centred(cr)) * -11700
 }
 
-// What green differs from the brightness, in units of 1 / 2^20, plus half a unit to round. Its
-// factors are 64 * 5638 + 25 and 64 * 11700 + 30, so that each product is one of 16 bits.
+// Returns the difference of green from the brightness, in units of 1 / 2^20, plus half a unit to
+// round. Its factors are 64 * 5638 + 25 and 64 * 11700 + 30, so that each product is one of 16 bits.
 fn green_sum(cb: u8, cr: u8) -> i32
     ensures { result ≡ pos 524288 -ℤ pos 360857 *ℤ centred_of cb -ℤ pos 748830 *ℤ centred_of cr }
 {

@@ -1,8 +1,8 @@
-//! Planes of components alike in one room, which becomes the picture: row of MCUs by row of MCUs
-//! (T.81, A.2.3), and of each component a strip.
+//! Planes of like components in one buffer, which becomes the picture: for each row of MCUs
+//! (T.81, A.2.3) one strip per component.
 //!
-//! A picture of such components is never longer than its strips, so its lines take their place from
-//! above, row by row, and no second room is touched.
+//! The picture of such components is never longer than its strips, so its lines overwrite them from
+//! the top, row by row, and no second buffer of that size is needed.
 ghost use Rattle.std.specs.Prelude.{◌≡◌, ◌≤◌, ◌*◌, All, IfSome, MatchResult, Ok, OnErr, length, map};
 ghost use Rattle.std.specs.Prelude.{true};
 ghost use Rattle.std.specs.List.{AllByRecursion};
@@ -19,8 +19,8 @@ use jpeg_bits::error::Result;
 use jpeg_segments::parser::{Component, Dimensions};
 use std::alloc::{AllocError, Global};
 
-/// How planes lie in one room: row of MCUs by row of MCUs, and of each component a strip of some
-/// lines.
+/// The layout of planes in one buffer: for each row of MCUs one strip per component, of some lines
+/// each.
 #[derive(Clone, Copy, Debug, PartialEq)]
 pub struct JointShape {
     /// How many components there are: 3 or 4.
@@ -37,7 +37,7 @@ impl JointShape {
     ghost use Rattle.std.specs.Prelude.{◌≡◌};
     ghost use Rattle.jpeg_pixels.specs.JointPlanes.{IsSmall, row_size, strip_size};
 
-    // The samples of a component in a row of MCUs.
+    // Returns the number of samples of a component in a row of MCUs.
     fn strip_size(&self) -> usize
         requires { IsSmall self.now }
         ensures { result ≡ strip_size self.now }
@@ -45,7 +45,7 @@ impl JointShape {
         self.lines * self.stride
     }
 
-    // The samples of all components in a row of MCUs.
+    // Returns the number of samples of all components in a row of MCUs.
     fn row_size(&self) -> usize
         requires { IsSmall self.now }
         ensures { result ≡ row_size self.now }
@@ -54,7 +54,7 @@ impl JointShape {
     }
 }
 
-// Whether a component has the factors, the columns of blocks and the scale of another one.
+// Returns whether a component has the factors, the columns of blocks and the scale of another.
 fn is_like(component: &Component, first: &Component) -> bool
     ensures { result ≡ true → IsLike first.now component.now }
 {
@@ -64,7 +64,7 @@ fn is_like(component: &Component, first: &Component) -> bool
         && component.dct_scale == first.dct_scale
 }
 
-// Whether all components are like the first one.
+// Returns whether all components are like the first one.
 fn are_alike(components: &[Component], first: &Component) -> bool
     ensures { result ≡ true → All (IsLike first.now) components.now }
 {
@@ -76,9 +76,8 @@ fn are_alike(components: &[Component], first: &Component) -> bool
     true
 }
 
-/// Returns how the planes of a frame's components lie in one room, where they are alike and have
-/// the samples of a picture of this size: three or four components with the same factors, in
-/// `rows` rows of MCUs.
+/// Returns the layout of a frame's planes in one buffer, where its three or four components have the
+/// same factors and the samples of a picture of this size, in `rows` rows of MCUs.
 pub fn joint_shape(components: &[Component], size: Dimensions, rows: u16) -> Option<JointShape>
     requires { AllHaveSampling (map component_in components.now) }
     ensures shape { IfSome result
@@ -106,12 +105,12 @@ pub fn joint_shape(components: &[Component], size: Dimensions, rows: u16) -> Opt
     }
 }
 
-/// Planes of components alike in one room.
+/// Planes of like components in one buffer.
 #[derive(Drop)]
 pub struct JointPlanes {
-    /// How they lie in it.
+    /// Their layout.
     pub shape: JointShape,
-    /// The strips of the rows of MCUs that have come.
+    /// The strips of the rows of MCUs that were read.
     pub samples: Vec<u8>,
 }
 
@@ -119,8 +118,8 @@ impl JointPlanes {
     ghost use Rattle.std.specs.Prelude.{◌≡◌, ◌*◌, ◌<◌, [], IfOk, length, map};
     ghost use Rattle.jpeg_pixels.specs.JointPlanes.{IsSmall, joint_plane, joint_planes, row_size};
 
-    /// Makes planes without samples, with room for all of them. The only error is that no memory is
-    /// left.
+    /// Makes planes without samples, and reserves memory for all of them. The only error is a
+    /// refused allocation.
     pub fn new(alloc: Global, shape: JointShape) -> std::result::Result<JointPlanes, AllocError>
         requires { IsSmall shape }
         ensures shape { IfOk result (λ p. p.shape ≡ shape) }
@@ -130,8 +129,8 @@ impl JointPlanes {
         Ok(JointPlanes { shape, samples })
     }
 
-    /// Returns the plane of the component in a slot, in memory of its own, where all rows have come.
-    /// The only error is that no memory is left.
+    /// Copies the plane of the component in a slot, once all rows were read. The only error is a
+    /// refused allocation.
     pub fn plane(&self, alloc: Global, slot: usize) -> std::result::Result<Vec<u8>, AllocError>
         requires small { IsSmall self.now.shape }
         requires slot { slot < self.now.shape.count }
@@ -150,8 +149,8 @@ impl JointPlanes {
     }
 }
 
-/// A picture that is made of planes in one room: how they lie in it, how wide the picture is, and
-/// how its colours are made.
+/// A picture that is made of planes in one buffer: their layout, the width of the picture, and its
+/// colour conversion.
 #[derive(Clone, Copy)]
 struct JointPicture {
     shape: JointShape,
@@ -168,7 +167,7 @@ impl JointPicture {
     ghost use Rattle.jpeg_pixels.specs.JointPlanes.{strip_lines};
     ghost use Rattle.jpeg_pixels.specs.PicturesView.{IsFor};
 
-    // The bytes of a line.
+    // Returns the number of bytes of a line.
     fn line_size(&self) -> usize
         ensures { result ≡ self.now.shape.count * self.now.width }
     {
@@ -230,7 +229,7 @@ impl JointPicture {
         }
     }
 
-    // How many lines of a picture are in a row of MCUs.
+    // Returns how many lines of a picture are in a row of MCUs.
     fn lines_in(&self, row: usize, height: usize) -> usize
         requires row { row < self.now.shape.rows }
         ensures { result ≡ min self.now.shape.lines (height - row * self.now.shape.lines) }
@@ -239,7 +238,7 @@ impl JointPicture {
         height.saturating_sub(row * lines).min(lines)
     }
 
-    // Puts the lines of the picture in the place of the strips. Those of a row of MCUs, which are no
+    // Overwrites the strips with the lines of the picture. Those of a row of MCUs, which are no
     // longer than its strips, are copied to `lines` first.
     fn write_in_place(&self, height: usize, lines: &mut [u8], room: &mut [u8])
         requires fits { IsFor self.now.shape.count self.now.color_convert }
@@ -261,7 +260,7 @@ impl JointPicture {
         }
     }
 
-    // Writes the lines of the picture elsewhere. Those of a row of MCUs are copied to `lines` first.
+    // Writes the lines of the picture to other memory, a row of MCUs at a time through `lines`.
     fn write(&self, height: usize, samples: &[u8], lines: &mut [u8], picture: &mut [u8])
         requires fits { IsFor self.now.shape.count self.now.color_convert }
         requires high { height ≤ self.now.shape.rows * self.now.shape.lines }
@@ -285,8 +284,7 @@ impl JointPicture {
     }
 }
 
-/// Returns the picture of components alike, whose planes lie in one room: in that room, without a
-/// second one of its size.
+/// Returns the picture of like components, whose planes are in one buffer: in that same buffer.
 ///
 /// A transform that doesn't fit is `Format` or `Unsupported(ColorTransform(..))`, and a refused
 /// allocation `OutOfMemory`.
@@ -326,7 +324,7 @@ pub fn compute_joint_image(
     Ok(room)
 }
 
-/// Writes the picture of components alike, whose planes lie in one room, into memory that has
+/// Writes the picture of like components, whose planes are in one buffer, into memory that has
 /// exactly its bytes: the one that `compute_joint_image` returns, with its errors, after which
 /// nothing is written.
 pub fn compute_joint_image_into(

@@ -6,7 +6,7 @@ use crate::joint_planes::{JointPlanes, JointShape, joint_shape};
 use jpeg_segments::parser::{Component, Dimensions};
 use std::test::Fail;
 
-// A component of two blocks a line, each one sample, by how many of them an MCU has across.
+// Returns a component of two blocks a line, each of one sample, with this horizontal factor.
 fn component(horizontal: u8) -> Component
     requires some { 1 ≤ horizontal }
     requires most { horizontal ≤ 4 }
@@ -29,7 +29,7 @@ fn component(horizontal: u8) -> Component
     }
 }
 
-// The shape of three components in a picture of two pixels a line.
+// Returns the layout of three components in a picture of two pixels a line.
 #[tactic(auto, unfolding(jpeg_segments::specs::Frame::AllHaveSampling))]
 fn shape_of(first: u8, second: u8, third: u8, height: u16) -> Option<JointShape>
     requires first_some { 1 ≤ first }

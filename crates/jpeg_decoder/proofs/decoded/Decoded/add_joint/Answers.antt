@@ -7,7 +7,8 @@ use Rattle.jpeg_streams.specs.Found.{none_finished}
 use Rattle.jpeg_streams.specs.ScanSegments.{finished_by}
 use Rattle.jpeg_decoder.specs.declared.scan.Coded.{Coded}
 use Rattle.jpeg_decoder.specs.Steps.{coding_in, marks_after, with_decoded, with_planes}
-use Rattle.jpeg_decoder.proofs.JointAdded.{joint-done, joint-step, or-none}
+use Rattle.jpeg_decoder.proofs.JointAdded.{joint-done, joint-step}
+use Rattle.jpeg_decoder.proofs.JointDecided.{or-nothing}
 use Rattle.jpeg_decoder.proofs.JointStrips.{planes-long}
 use Rattle.jpeg_decoder.proofs.decoded.Decoded.add_joint.Goals as goal
 
@@ -21,7 +22,7 @@ loop-coded-init c = record {
       (map coding_in c.args.scan.now.components.items)
       (joint_planes c.args.joint.shape c.args.joint.samples.items)
       (record (with_decoded base c.args.self.now) { planes = planes }))
-      (or-none (replicate 4 None) ∙ sym c.requires.first.none);
+      (or-nothing (replicate 4 None) ∙ sym c.requires.first.none);
 }
 
 pub loop-coded-preserved : goal.loop-coded-preserved
