@@ -10,7 +10,7 @@ use Rattle.jpeg_bits.specs.Codes.{Table}
 use Rattle.jpeg_bits.specs.ShortCodes.{symbol_in, short_value_by, short_value_of, next_bits, packed}
 use Rattle.jpeg_bits.specs.ShortCodes.{HoldsWideValues}
 use Rattle.jpeg_bits.specs.Pairs.{ShortValue, no_pair, one_value, two_values, pair_by, value_in, pair_of}
-use Rattle.jpeg_bits.specs.Pairs.{IsPairOf, IsSmall}
+use Rattle.jpeg_bits.specs.Pairs.{IsPairOf, IsWithinPassed}
 use Rattle.jpeg_bits.specs.Written.{low_bits}
 use Rattle.jpeg_bits.specs.Readers.{Reads}
 use Rattle.jpeg_bits.specs.Bands.{Band, wrapped, token_from}
@@ -55,7 +55,8 @@ few-both : (n m : ℕ) → ((m == 0) || nat_lt 11 (n + m)) ≡ false → n + m �
 few-both n m h = grind (arith, nat_tests)
 
 -- each entry is small
-small-by : (a b : Bool) (v w : ShortValue) → v.2 ≤ 11 → (b ≡ false → v.2 + w.2 ≤ 11) → IsSmall (by-tests a b v w)
+small-by : (a b : Bool) (v w : ShortValue) → v.2 ≤ 11 → (b ≡ false → v.2 + w.2 ≤ 11) →
+    IsWithinPassed (by-tests a b v w)
 small-by true b v w few both = record { first = omega arith; second = omega arith; few = omega arith }
 small-by false true v w few both = record { first = omega arith; second = omega arith; few = few }
 small-by false false v w few both = record { first = omega arith; second = omega arith; few = both refl }
@@ -66,12 +67,13 @@ few-in : (class : HuffmanTableClass) (bits : List Bool) (o : Option (ℕ × ℕ)
 few-in class bits o = grind arith
 
 -- the entry of any bits is small
-pub pair-small : (table : Table) (bits : List Bool) (p : Pair) → p ≡ pair_of table bits → IsSmall p
+pub pair-small : (table : Table) (bits : List Bool) (p : Pair) → p ≡ pair_of table bits →
+    IsWithinPassed p
 unfolding pair_of pair_by
 pair-small table bits p is =
     let v = value_in table bits in
     let w = value_in table (drop v.2 bits ++ replicate v.2 false) in
-    subst IsSmall (sym is) (small-by (v.2 == 0) ((w.2 == 0) || nat_lt 11 (v.2 + w.2)) v w
+    subst IsWithinPassed (sym is) (small-by (v.2 == 0) ((w.2 == 0) || nat_lt 11 (v.2 + w.2)) v w
     (few-in table.class bits (symbol_in table (bits ++ replicate 5 false))) (few-both v.2 w.2))
 
 -- what is found: one value, or two

@@ -11,7 +11,8 @@ use Rattle.jpeg_bits.specs.Codes.{Table}
 use Rattle.jpeg_bits.specs.declared.refinement.Refinement.{Refinement}
 use Rattle.jpeg_bits.specs.declared.refinement.Refinement.TheVariants.{Zeros, New, End}
 use Rattle.jpeg_bits.specs.Bands.{Band}
-use Rattle.jpeg_bits.specs.Pieces.{ReadsBand, before, place_from, corrected, refinement_from, refined_piece, refined_ac}
+use Rattle.jpeg_bits.specs.Pieces.{ReadsBand, before, place_from, corrected_at, refinement_from}
+use Rattle.jpeg_bits.specs.Pieces.{refined_piece_at, refined_ac_at}
 use Rattle.jpeg_bits.specs.Pieces.{refined_band_from, piece_from}
 use Rattle.jpeg_bits.specs.Refinement.{through_zero, with_last}
 use Rattle.jpeg_bits.proofs.BandSteps.{bind_same, before-before}
@@ -36,27 +37,28 @@ through_all (suc r) (z ∷ places) h = grind (arith, by_bool, through_all r plac
 
 piece-same : (al : ℕ) (f g : ReadsBand) (x : ℤ) (places : List ℤ) (k : Refinement) (t : Text)
     → ((j : ℕ) (t : Text) → 0 < j → f (drop j (x ∷ places)) t ≡ g (drop j (x ∷ places)) t)
-    → refined_piece al f (x ∷ places) k t ≡ refined_piece al g (x ∷ places) k t
-unfolding refined_piece
+    → refined_piece_at al f (x ∷ places) k t ≡ refined_piece_at al g (x ∷ places) k t
+unfolding refined_piece_at
 piece-same al f g x places k t h = grind (arith, bind_same, through_zero_pos)
 
 refined-fuel : (table : Table) (al n m : ℕ) (rest : List ℤ) (t : Text) → length rest ≤ n → length rest ≤ m
-    → refined_ac table al n rest t ≡ refined_ac table al m rest t
-unfolding refined_ac
+    → refined_ac_at table al n rest t ≡ refined_ac_at table al m rest t
+unfolding refined_ac_at
 refined-fuel table al n m [] t h k = refl
 refined-fuel table al zero m (x ∷ rest) t h k = absurd (omega arith)
 refined-fuel table al (suc n) zero (x ∷ rest) t h k = absurd (omega arith)
 refined-fuel table al (suc n) (suc m) (x ∷ rest) t h k =
     bind_same (refinement_from table al t) _ _ (λ c.
-    piece-same al (refined_ac table al n) (refined_ac table al m) x rest c.0 c.1 (λ j t g.
+    piece-same al (refined_ac_at table al n) (refined_ac_at table al m) x rest c.0 c.1 (λ j t g.
     let d = length-drop j (x ∷ rest) in
     refined-fuel table al n m (drop j (x ∷ rest)) t (omega arith) (omega arith)))
 
 -- a band is its first piece and then a band
 band-step : (table : Table) (al : ℕ) (rest : List ℤ) (t : Text) → 0 < length rest
-    → refined_band_from table al rest t ≡ (refinement_from table al t >>= λ (k : Refinement × Text). refined_piece al
+    → refined_band_from table al rest t ≡ (refinement_from table al t >>= λ (k : Refinement ×
+    Text). refined_piece_at al
     (refined_band_from table al) rest k.0 k.1)
-unfolding refined_band_from refined_ac
+unfolding refined_band_from refined_ac_at
 band-step table al rest t h = grind (arith, bind_same, piece-same, length-drop, refined-fuel, le_refl)
 
 -- what the places from i on give, after those before them
@@ -65,7 +67,8 @@ refined_left table al band i t = before (take i band) (refined_band_from table a
 
 -- what a token at place i makes of the band
 unfoldable pub refined_step : Table → ℕ → List ℤ → ℕ → Refinement → Text → Result (Band × Text) Fault
-refined_step table al band i k t = before (take i band) (refined_piece al (refined_band_from table al) (drop i band) k
+refined_step table al band i k t = before (take i band) (refined_piece_at al (refined_band_from
+    table al) (drop i band) k
     t)
 
 bind_before : (a : List ℤ) (r : Result (Refinement × Text) Fault) (f : Refinement × Text → Result (Band × Text) Fault)
@@ -80,7 +83,7 @@ refined_more table al band i t h = grind (arith, length-drop, band-step, bind_be
 
 pub refined_none : (table : Table) (al : ℕ) (band : List ℤ) (i : ℕ) (t : Text) → length band ≤ i
     → refined_left table al band i t ≡ Ok ((band, 0), t)
-unfolding refined_left refined_band_from refined_ac
+unfolding refined_left refined_band_from refined_ac_at
 refined_none table al band i t h = grind (arith, drop_all, append-nil, take_all)
 
 pub refined_all : (table : Table) (al : ℕ) (band : List ℤ) (t : Text)
@@ -95,8 +98,9 @@ KeepsLength n (Err e) = Unit {0}
 abbrev in_front : ℤ → List ℤ × Text → Result (List ℤ × Text) Fault
 in_front z o = Ok (z ∷ o.0, o.1)
 
-pub corrected-length : (al : ℕ) (places : List ℤ) (t : Text) → KeepsLength (length places) (corrected al places t)
-unfolding corrected
+pub corrected-length : (al : ℕ) (places : List ℤ) (t : Text) → KeepsLength (length places)
+    (corrected_at al places t)
+unfolding corrected_at
 corrected-length al [] t = refl
 corrected-length al (z ∷ places) t = by_place (place_from al z t) (λ t. corrected-length al places t)
   where
@@ -105,10 +109,11 @@ corrected-length al (z ∷ places) t = by_place (place_from al z t) (λ t. corre
     by_others y (Ok x) h = omega (arith, h)
     by_others y (Err e) h = tt
 
-    by_place : (f : Result (ℤ × Text) Fault) → ((t : Text) → KeepsLength (length places) (corrected al places t))
-        → KeepsLength (length (z ∷ places)) (f >>= λ (f : ℤ × Text). corrected al places f.1
+    by_place : (f : Result (ℤ × Text) Fault) → ((t : Text) → KeepsLength (length places)
+        (corrected_at al places t))
+        → KeepsLength (length (z ∷ places)) (f >>= λ (f : ℤ × Text). corrected_at al places f.1
         >>= λ (o : List ℤ × Text). in_front f.0 o)
-    by_place (Ok x) h = by_others x.0 (corrected al places x.1) (h x.1)
+    by_place (Ok x) h = by_others x.0 (corrected_at al places x.1) (h x.1)
     by_place (Err e) h = tt
 
 unfoldable ok_of : (ℕ × List ℤ) × Text → Walk → (ℕ × List ℤ) × Text
@@ -125,7 +130,7 @@ length_short : (n : ℕ) (xs : List ℤ) → n ≤ length xs → length (take n 
 length_short n xs h = length-take-le n xs h
 
 corrected_refused : (al r : ℕ) (rest : List ℤ) (t : Text) (f : Fault) → piece_from al r rest t ≡ Err f
-    → corrected al (take (through_zero r rest) rest) t ≡ Err f
+    → corrected_at al (take (through_zero r rest) rest) t ≡ Err f
 unfolding piece_from
 corrected_refused al r rest t f h = grind (arith, false≢true)
 
@@ -139,7 +144,7 @@ zeros_of all (End run) = all
 pub step_refused : (table : Table) (al : ℕ) (band rest : List ℤ) (i all : ℕ) (k : Refinement) (t : Text) (f : Fault)
     → rest ≡ drop i band → length rest ≤ all
     → piece_from al (zeros_of all k) rest t ≡ Err f → refined_step table al band i k t ≡ Err f
-unfolding refined_step refined_piece
+unfolding refined_step refined_piece_at
 step_refused table al band rest i all k t f e le h = grind (arith, corrected_refused, take_all, through_all)
 
 take_front : (k : ℕ) (xs ys : List ℤ) → length xs ≡ k → take k (xs ++ ys) ≡ xs
@@ -168,17 +173,18 @@ with_last-length v (y ∷ z ∷ xs) = ap (λ (n : ℕ). suc n) (with_last-length
 
 -- what a piece that was read is
 data IsPiece (al r : ℕ) (rest : List ℤ) (t : Text) (n : ℕ) (ys : List ℤ) (u : Text) : Type 0 where
-  piece : (front : List ℤ) → corrected al (take (through_zero r rest) rest) t ≡ Ok (front, u)
+  piece : (front : List ℤ) → corrected_at al (take (through_zero r rest) rest) t ≡ Ok (front, u)
       → length front ≡ through_zero r rest → n ≡ through_zero r rest → ys ≡ front ++ drop (through_zero r rest) rest
       → IsPiece al r rest t n ys u
 
 is_piece : (al r : ℕ) (rest : List ℤ) (t : Text) (n : ℕ) (ys : List ℤ) (u : Text)
     → piece_from al r rest t ≡ Ok ((n, ys), u) → IsPiece al r rest t n ys u
 unfolding piece_from ok_of
-is_piece al r rest t n ys u h = by_result (corrected al (take (through_zero r rest) rest) t) refl
+is_piece al r rest t n ys u h = by_result (corrected_at al (take (through_zero r rest) rest) t) refl
     (corrected-length al (take (through_zero r rest) rest) t) h
   where
-    by_result : (o : Result (List ℤ × Text) Fault) → corrected al (take (through_zero r rest) rest) t ≡ o
+    by_result : (o : Result (List ℤ × Text) Fault) → corrected_at al (take (through_zero r rest)
+        rest) t ≡ o
         → KeepsLength (length (take (through_zero r rest) rest)) o
         → (o >>= λ (front : List ℤ × Text). pieced (through_zero r rest) rest front) ≡ Ok ((n, ys), u)
         → IsPiece al r rest t n ys u
@@ -197,7 +203,7 @@ module _ (table : Table) (al i n : ℕ) (band nb rest ys : List ℤ) (t u : Text
 
   pub zeros_step : piece_from al 15 rest t ≡ Ok ((n, ys), u) → refined_step table al band i Zeros t ≡ refined_left table
       al nb (i + n) u
-  unfolding refined_step refined_piece refined_left
+  unfolding refined_step refined_piece_at refined_left
   zeros_step h = by (is_piece al 15 (drop i band) t n ys u (ap (λ (xs : List ℤ). piece_from al 15 xs t) (sym old) ∙ h))
     where
       by : IsPiece al 15 (drop i band) t n ys u → refined_step table al band i Zeros t ≡ refined_left table al nb
@@ -206,7 +212,7 @@ module _ (table : Table) (al i n : ℕ) (band nb rest ys : List ℤ) (t u : Text
 
   pub new_step : (r : ℕ) (v : ℤ) → 0 < n → piece_from al r rest t ≡ Ok ((n, ys), u)
       → refined_step table al band i (New r v) t ≡ refined_left table al (set nb (i + n - 1) v) (i + n) u
-  unfolding refined_step refined_piece refined_left
+  unfolding refined_step refined_piece_at refined_left
   new_step r v pos h = by (is_piece al r (drop i band) t n ys u (ap (λ (xs : List ℤ). piece_from al r xs t) (sym old)
       ∙ h))
     where
@@ -220,7 +226,7 @@ module _ (table : Table) (al i n : ℕ) (band nb rest ys : List ℤ) (t u : Text
 
   pub end_step : (run all : ℕ) → length rest ≤ all → piece_from al all rest t ≡ Ok ((n, ys), u)
       → refined_step table al band i (End run) t ≡ Ok ((nb, run), u)
-  unfolding refined_step refined_piece
+  unfolding refined_step refined_piece_at
   end_step run all few h = grind (arith, is_piece, take_all, through_all, drop_all, append-nil)
 
 pub refined_token : (table : Table) (al : ℕ) (band : List ℤ) (i : ℕ) (k : Refinement) (t u : Text) → i < length band
@@ -228,7 +234,8 @@ pub refined_token : (table : Table) (al : ℕ) (band : List ℤ) (i : ℕ) (k : 
 refined_token table al band i k t u h e = grind (arith, refined_more)
 
 -- a piece that is the whole band
-pub whole_piece : (al : ℕ) (band : List ℤ) (t : Text) → corrected al band t ≡ (piece_from al (length band) band t
+pub whole_piece : (al : ℕ) (band : List ℤ) (t : Text) → corrected_at al band t ≡ (piece_from al
+    (length band) band t
     >>= λ (p : (ℕ × List ℤ) × Text). Ok (p.0.1, p.1))
 unfolding piece_from
 whole_piece al band t = grind (arith, through_all, le_refl, take_all, drop_all, append-nil)

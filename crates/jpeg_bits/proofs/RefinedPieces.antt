@@ -9,7 +9,8 @@ use Rattle.jpeg_bits.specs.Readers.{Reads, read_on, gives}
 use Rattle.jpeg_bits.specs.Bands.{Band, before_more}
 use Rattle.jpeg_bits.specs.Refinement.{is_zero, corrected_by, through_zero, with_last, new_number}
 use Rattle.jpeg_bits.specs.Refinement as defined
-use Rattle.jpeg_bits.specs.Pieces.{before, run_from, place_from, corrected, refinement_from, refined_piece, refined_ac}
+use Rattle.jpeg_bits.specs.Pieces.{before, run_from, place_from, corrected_at, refinement_from}
+use Rattle.jpeg_bits.specs.Pieces.{refined_piece_at, refined_ac_at}
 use Rattle.jpeg_bits.specs.declared.refinement.Refinement.{Refinement}
 use Rattle.jpeg_bits.specs.declared.refinement.Refinement.TheVariants.{Zeros, New, End}
 
@@ -25,8 +26,9 @@ place-same : (al : ℕ) (z : ℤ) (t : Text) → place_from al z t ≡ place_by 
 unfolding place_from
 place-same al z t = grind (arith, ne_eqb)
 
-pub corrected-same : (al : ℕ) (places : List ℤ) (t : Text) → corrected al places t ≡ defined.corrected al places t
-unfolding corrected defined.corrected
+pub corrected-same : (al : ℕ) (places : List ℤ) (t : Text) → corrected_at al places t ≡
+    defined.corrected al places t
+unfolding corrected_at defined.corrected
 corrected-same al [] t = refl
 corrected-same al (z ∷ places) t = go (λ u. corrected-same al places u) (place_from al z t)
     ∙ ap (read_on (λ (x : ℤ). λ u. read_on (λ (xs : List ℤ). gives (x ∷ xs)) (defined.corrected al places u)))
@@ -37,8 +39,13 @@ corrected-same al (z ∷ places) t = go (λ u. corrected-same al places u) (plac
     last x (Ok o) = refl
     last x (Err e) = refl
 
-    go : ((u : Text) → corrected al places u ≡ defined.corrected al places u) → (o : Result (ℤ × Text) Fault)
-        → (o >>= λ (f : ℤ × Text). corrected al places f.1 >>= λ (o : List ℤ × Text). Ok (f.0 ∷ o.0, o.1))
+    go : ((u : Text) → corrected_at al places u ≡ defined.corrected al places u) → (o : Result (ℤ ×
+        Text) Fault)
+        → (o >>= λ (f : ℤ × Text). corrected_at al places f.1 >>= λ (o : List ℤ × Text). Ok (
+          f.0 ∷
+              o.0,
+          o.1,
+        ))
         ≡ read_on (λ (x : ℤ). λ u. read_on (λ (xs : List ℤ). gives (x ∷ xs)) (defined.corrected al places u)) o
     go rec (Ok x) = ap (λ (o : Result (List ℤ × Text) Fault). o >>= λ (o : List ℤ × Text). Ok (x.0 ∷ o.0, o.1))
         (rec x.1) ∙ last x.0 (defined.corrected al places x.1)
@@ -65,18 +72,21 @@ end-on : (run : ℕ) (o : Result (List ℤ × Text) Fault) → (o >>= λ (all : 
 end-on run o = grind arith
 
 abbrev Others : Table → ℕ → ℕ → Type 0
-Others table al n = (xs : List ℤ) (u : Text) → refined_ac table al n xs u ≡ defined.refined_ac table al n xs u
+Others table al n = (xs : List ℤ) (u : Text) → refined_ac_at table al n xs u ≡ defined.refined_ac
+    table al n xs u
 
 pub refined-same : (table : Table) (al n : ℕ) (rest : List ℤ) (t : Text)
-    → refined_ac table al n rest t ≡ defined.refined_ac table al n rest t
-unfolding refined_ac defined.refined_ac refined_piece defined.refined_piece refinement_from run_from
+    → refined_ac_at table al n rest t ≡ defined.refined_ac table al n rest t
+unfolding refined_ac_at defined.refined_ac refined_piece_at defined.refined_piece refinement_from
+    run_from
 refined-same table al n [] t = refl
 refined-same table al zero (x ∷ rest) t = refl
 refined-same table al (suc n) (x ∷ rest) t = go (λ xs u. refined-same table al n xs u) (symbol_from table t)
   where
     run : (r : ℕ) (o : Result (ℕ × Text) Fault)
         → (((o >>= λ (e : ℕ × Text). Ok (2 ^ r - 1 + e.0, e.1)) >>= λ (e : ℕ × Text). Ok (End e.0, e.1))
-        >>= λ (k : Refinement × Text). refined_piece al (refined_ac table al n) (x ∷ rest) k.0 k.1)
+        >>= λ (k : Refinement × Text). refined_piece_at al (refined_ac_at table al n) (x ∷ rest)
+        k.0 k.1)
         ≡ read_on {B = Band} (λ (e : ℕ). λ u. read_on {B = Band} (λ (all : List ℤ). gives (all, 2 ^ r - 1 + e))
         (defined.corrected al (x ∷ rest) u)) o
     run r (Ok e) = ap (λ (o : Result (List ℤ × Text) Fault). o
@@ -86,7 +96,8 @@ refined-same table al (suc n) (x ∷ rest) t = go (λ xs u. refined-same table a
 
     zeros : Others table al n → (r : ℕ) (u : Text) (b : Bool)
         → ((if b then Ok (Zeros, u) else (run_from r u >>= λ (e : ℕ × Text). Ok (End e.0, e.1)))
-        >>= λ (k : Refinement × Text). refined_piece al (refined_ac table al n) (x ∷ rest) k.0 k.1)
+        >>= λ (k : Refinement × Text). refined_piece_at al (refined_ac_at table al n) (x ∷ rest)
+        k.0 k.1)
         ≡ (elim b as (λ _. Reads Band) [
           | true ↦ λ u. read_on {B = Band} (λ (front : List ℤ). λ t. read_on {B = Band}
               (λ (more : Band). gives (before_more front more)) (defined.refined_ac table al n
@@ -99,25 +110,27 @@ refined-same table al (suc n) (x ∷ rest) t = go (λ xs u. refined-same table a
         ]) u
     zeros others r u true =
         ap (λ (o : Result (List ℤ × Text) Fault). o >>= λ (front : List ℤ × Text). before front.0
-        (refined_ac table al n (drop (through_zero 15 (x ∷ rest)) (x ∷ rest)) front.1))
+        (refined_ac_at table al n (drop (through_zero 15 (x ∷ rest)) (x ∷ rest)) front.1))
         (corrected-same al (take (through_zero 15 (x ∷ rest)) (x ∷ rest)) u)
-        ∙ piece-on (λ (l : List ℤ). l) (through_zero 15 (x ∷ rest)) (refined_ac table al n)
+        ∙ piece-on (λ (l : List ℤ). l) (through_zero 15 (x ∷ rest)) (refined_ac_at table al n)
         (defined.refined_ac table al n) (x ∷ rest) others
         (defined.corrected al (take (through_zero 15 (x ∷ rest)) (x ∷ rest)) u)
     zeros others r u false = run r (bits_from r u)
 
     new : Others table al n → (r : ℕ) (o : Result (ℕ × Text) Fault)
         → ((o >>= λ (sign : ℕ × Text). Ok (New r (new_number al sign.0), sign.1))
-        >>= λ (k : Refinement × Text). refined_piece al (refined_ac table al n) (x ∷ rest) k.0 k.1)
+        >>= λ (k : Refinement × Text). refined_piece_at al (refined_ac_at table al n) (x ∷ rest)
+        k.0 k.1)
         ≡ read_on (λ (sign : ℕ). λ u. read_piece (with_last (new_number al sign)) (through_zero r (x ∷ rest))
         (defined.refined_ac table al n) (x ∷ rest)
         (defined.corrected al (take (through_zero r (x ∷ rest)) (x ∷ rest)) u)) o
     new others r (Ok s) =
         ap (λ (o : Result (List ℤ × Text) Fault). o
         >>= λ (front : List ℤ × Text). before (with_last (new_number al s.0) front.0)
-        (refined_ac table al n (drop (through_zero r (x ∷ rest)) (x ∷ rest)) front.1))
+        (refined_ac_at table al n (drop (through_zero r (x ∷ rest)) (x ∷ rest)) front.1))
         (corrected-same al (take (through_zero r (x ∷ rest)) (x ∷ rest)) s.1)
-        ∙ piece-on (with_last (new_number al s.0)) (through_zero r (x ∷ rest)) (refined_ac table al n)
+        ∙ piece-on (with_last (new_number al s.0)) (through_zero r (x ∷ rest)) (refined_ac_at table
+        al n)
         (defined.refined_ac table al n) (x ∷ rest) others
         (defined.corrected al (take (through_zero r (x ∷ rest)) (x ∷ rest)) s.1)
     new others r (Err e) = refl
@@ -125,7 +138,8 @@ refined-same table al (suc n) (x ∷ rest) t = go (λ xs u. refined-same table a
     by : Others table al n → (r s : ℕ) (u : Text)
         → ((if s == 0 then (if r == 15 then Ok (Zeros, u) else (run_from r u >>= λ (e : ℕ × Text). Ok (End e.0, e.1)))
         else (if s == 1 then (bits_from 1 u >>= λ (sign : ℕ × Text). Ok (New r (new_number al sign.0), sign.1))
-        else Err Malformed)) >>= λ (k : Refinement × Text). refined_piece al (refined_ac table al n) (x ∷ rest) k.0
+        else Err Malformed)) >>= λ (k : Refinement × Text). refined_piece_at al (refined_ac_at
+        table al n) (x ∷ rest) k.0
         k.1)
         ≡ defined.refined_piece al (defined.refined_ac table al n) (x ∷ rest) r s u
     by others r zero u = zeros others r u (r == 15)
@@ -141,7 +155,8 @@ refined-same table al (suc n) (x ∷ rest) t = go (λ xs u. refined-same table a
         else (if c.0 % 16 == 1 then (bits_from 1 c.1 >>= λ (sign : ℕ × Text). Ok (
           New (c.0 / 16) (new_number al sign.0),
           sign.1,
-        )) else Err Malformed)) >>= λ (k : Refinement × Text). refined_piece al (refined_ac table al n)
+        )) else Err Malformed)) >>= λ (k : Refinement × Text). refined_piece_at al (refined_ac_at
+        table al n)
         (x ∷ rest) k.0 k.1)
         ≡ read_on (λ (c : ℕ). defined.refined_piece al (defined.refined_ac table al n) (x ∷ rest) (c / 16) (c % 16)) o
     go others (Ok c) = by others (c.0 / 16) (c.0 % 16) c.1

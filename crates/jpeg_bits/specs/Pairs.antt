@@ -56,7 +56,7 @@ abbrev pub IsPairOf : Table → List Bool → Pair → Type 0
 IsPairOf table bits pair = pair.passed < 64 → pair ≡ pair_of table bits
 
 -- The values are within the coefficients that are passed, and their bits are few.
-pub record IsSmall (pair : Pair) : Type 0 where
+pub record IsWithinPassed (pair : Pair) : Type 0 where
   pub first : pair.run < pair.passed
   pub second : pair.next < pair.passed
   pub few : pair.bits ≤ 11

@@ -40,9 +40,9 @@ place_from al z t = if is_zero z then Ok (z, t) else (do
     Ok (m, b.1)) else Ok (z, b.1)))
 
 -- One correction bit for each place that isn't zero.
-unfoldable pub corrected : ℕ → List ℤ → Text → Result (List ℤ × Text) Fault
-corrected al [] t = Ok ([], t)
-corrected al (z ∷ places) t = place_from al z t >>= λ f. corrected al places f.1 >>= λ o.
+unfoldable pub corrected_at : ℕ → List ℤ → Text → Result (List ℤ × Text) Fault
+corrected_at al [] t = Ok ([], t)
+corrected_at al (z ∷ places) t = place_from al z t >>= λ f. corrected_at al places f.1 >>= λ o.
     Ok (f.0 ∷ o.0, o.1)
 
 -- A token, and its sign bit or the bits of its run.
@@ -58,29 +58,33 @@ refinement_from table al t = do
       else Err Malformed)
 
 -- The piece of a token; `others` reads what is after it.
-unfoldable pub refined_piece : ℕ → ReadsBand → List ℤ → Refinement → Text
+unfoldable pub refined_piece_at : ℕ → ReadsBand → List ℤ → Refinement → Text
     → Result (Band × Text) Fault
-refined_piece al others rest Zeros t =
-    corrected al (take (through_zero 15 rest) rest) t >>= λ front.
+refined_piece_at al others rest Zeros t =
+    corrected_at al (take (through_zero 15 rest) rest) t >>= λ front.
     before front.0 (others (drop (through_zero 15 rest) rest) front.1)
-refined_piece al others rest (New r v) t =
-    corrected al (take (through_zero r rest) rest) t >>= λ front.
+refined_piece_at al others rest (New r v) t =
+    corrected_at al (take (through_zero r rest) rest) t >>= λ front.
     before (with_last v front.0) (others (drop (through_zero r rest) rest) front.1)
-refined_piece al others rest (End run) t = corrected al rest t >>= λ all. Ok ((all.0, run), all.1)
+refined_piece_at al others rest (End run) t = corrected_at al rest t >>= λ all. Ok (
+  (all.0, run),
+  all.1,
+)
 
 -- The rest of a band, of at most n places, cut into pieces, one a token.
-unfoldable pub refined_ac : Table → ℕ → ℕ → ReadsBand
-refined_ac table al n [] t = Ok (([], 0), t)
-refined_ac table al zero (x ∷ rest) t = Err Malformed
-refined_ac table al (suc n) (x ∷ rest) t =
-    refinement_from table al t >>= λ k. refined_piece al (refined_ac table al n) (x ∷ rest) k.0 k.1
+unfoldable pub refined_ac_at : Table → ℕ → ℕ → ReadsBand
+refined_ac_at table al n [] t = Ok (([], 0), t)
+refined_ac_at table al zero (x ∷ rest) t = Err Malformed
+refined_ac_at table al (suc n) (x ∷ rest) t =
+    refinement_from table al t >>= λ k. refined_piece_at al (refined_ac_at table al n) (x ∷ rest)
+    k.0 k.1
 
 -- A band of a refinement.
 unfoldable pub refined_band_from : Table → ℕ → List ℤ → Text → Result (Band × Text) Fault
-refined_band_from table al band t = refined_ac table al (length band) band t
+refined_band_from table al band t = refined_ac_at table al (length band) band t
 
 -- How many places the piece up to zero number r has, and the rest of the band with the piece
 -- corrected.
 unfoldable pub piece_from : ℕ → ℕ → List ℤ → Text → Result ((ℕ × List ℤ) × Text) Fault
-piece_from al r rest t = corrected al (take (through_zero r rest) rest) t >>= λ front.
+piece_from al r rest t = corrected_at al (take (through_zero r rest) rest) t >>= λ front.
     Ok ((through_zero r rest, front.0 ++ drop (through_zero r rest) rest), front.1)

@@ -140,7 +140,7 @@ impl Held {
     ghost use Rattle.jpeg_bits.specs.Codes.{next_16, code_from, symbol_from, fast_from};
     ghost use Rattle.jpeg_bits.specs.ShortCodes.{symbol_in, short_value_of, next_bits};
     ghost use Rattle.jpeg_bits.specs.Skips.{IsSkip};
-    ghost use Rattle.jpeg_bits.specs.Pairs.{IsPairOf, IsSmall};
+    ghost use Rattle.jpeg_bits.specs.Pairs.{IsPairOf, IsWithinPassed};
     ghost use Rattle.jpeg_bits.specs.Reading.{Names, Gives};
     ghost use Rattle.jpeg_bits.specs.Readers.{signed_from};
     ghost use Rattle.jpeg_bits.specs.Refusals.{outcome_of, answer_of, IsHeld};
@@ -455,7 +455,7 @@ impl Held {
     #[inline(always)]
     pub(crate) fn next_pair(&self, table: &HuffmanTable) -> Pair
         ensures pair { IsPairOf table.now (next_bits 11 self.now.bits) result }
-        ensures small { IsSmall result }
+        ensures small { IsWithinPassed result }
         ensures counted { length table.now.counts ≡ 16 }
     {
         table.pair_of(self.bits.front_16())

@@ -19,7 +19,8 @@ use Rattle.jpeg_streams.specs.Order.{Spot, mcu_size}
 use Rattle.jpeg_streams.specs.Scans.{Arrays, zero_arrays}
 use Rattle.jpeg_streams.specs.Rasters.{in_raster, ordered}
 use Rattle.jpeg_streams.specs.InTurn.{Counted, Fits, blocks_from, counted_at_start}
-use Rattle.jpeg_streams.specs.McuRows.{row_at, zero_rows, rows_of, joined, on_arrays, rows_from}
+use Rattle.jpeg_streams.specs.McuRows.{mcu_row, zero_rows, rows_of, each_with_more, on_arrays}
+use Rattle.jpeg_streams.specs.McuRows.{mcu_rows_from}
 use Rattle.jpeg_streams.specs.McuRows.{scan_by_rows}
 use Rattle.jpeg_streams.specs.ScanSegments.{plane_by, Coding, components_of}
 use Rattle.jpeg_decoder.specs.Strips.{planes_by, planes_at, samples_of, with_strips, strips_from}
@@ -69,8 +70,9 @@ grown rows (c ∷ codings) [] = []
 
 strips-grow : (r : ℕ) (codings : List Coding) (front arrays : Arrays) → AreRows r (components_of codings) front
     → AreRows 1 (components_of codings) arrays
-    → with_strips codings arrays (grown r codings front) ≡ grown (r + 1) codings (joined front arrays)
-unfolding AreRows with_strips joined grown samples_of
+    → with_strips codings arrays (grown r codings front) ≡ grown (r + 1) codings (each_with_more
+    front arrays)
+unfolding AreRows with_strips each_with_more grown samples_of
 strips-grow r [] [] [] h k = refl
 strips-grow r (c ∷ codings) (a ∷ front) (b ∷ arrays) h k =
     grind (arith, common_steps, mul_assoc, add-mul, plane-joined, strips-grow r codings front arrays h.1 k.1)
@@ -82,9 +84,10 @@ strips-in-turn : (p : Pass) (vias : List Via) (n : ℕ) (codings : List Coding) 
     (r : ℕ) (front : Arrays) (old : Counted) (t : Text)
     → AreRows r (components_of codings) front
     → strips_from p vias n codings rows (grown r codings front) (on_arrays [] old) t
-    ≡ read_on (λ s. gives (grown (r + length rows) codings s.reached.arrays)) (rows_from p vias n
+    ≡ read_on (λ s. gives (grown (r + length rows) codings s.reached.arrays)) (mcu_rows_from p vias
+    n
     (components_of codings) rows front old t)
-unfolding strips_from rows_from
+unfolding strips_from mcu_rows_from
 strips-in-turn p vias n codings [] r front old t h = grind (arith, common_steps, grown)
 strips-in-turn p vias n codings (spots ∷ rows) r front old t h =
     let cs = components_of codings in
@@ -94,17 +97,20 @@ strips-in-turn p vias n codings (spots ∷ rows) r front old t h =
     counted-where (AreRows 1 cs)
     (λ s. λ u. strips_from p vias n codings rows (with_strips codings s.reached.arrays (grown r codings front))
     (on_arrays [] s) u)
-    (λ s. λ u. read_on end (rows_from p vias n cs rows (joined front s.reached.arrays) s u))
+    (λ s. λ u. read_on end (mcu_rows_from p vias n cs rows (each_with_more front s.reached.arrays)
+    s u))
     (λ s u k.
     ap (λ (l : List (List ℕ)). strips_from p vias n codings rows l (on_arrays [] s) u)
     (strips-grow r codings front s.reached.arrays h k)
-    ∙ strips-in-turn p vias n codings rows (r + 1) (joined front s.reached.arrays) s u
+    ∙ strips-in-turn p vias n codings rows (r + 1) (each_with_more front s.reached.arrays) s u
     (joined-rows r cs front s.reached.arrays h k)
-    ∙ ap (λ (m : ℕ). read_on (λ (s : Counted). gives (grown m codings s.reached.arrays)) (rows_from p vias n cs rows
-    (joined front s.reached.arrays) s u))
+    ∙ ap (λ (m : ℕ). read_on (λ (s : Counted). gives (grown m codings s.reached.arrays))
+    (mcu_rows_from p vias n cs rows
+    (each_with_more front s.reached.arrays) s u))
     (let z : r + 1 + length rows ≡ r + suc (length rows) = omega arith in z))
     o (blocks-any (AreRows 1 cs) (rows-kept 1 cs) p vias n spots start t (zero-rows 1 cs))
-    ∙ sym (on-on (λ s. λ u. rows_from p vias n cs rows (joined front s.reached.arrays) s u) end o)
+    ∙ sym (on-on (λ s. λ u. mcu_rows_from p vias n cs rows (each_with_more front s.reached.arrays)
+    s u) end o)
 
 -- ---- a scan
 
@@ -161,8 +167,9 @@ planes-by-rows frame c codings p n vias bytes fits =
     let none : Arrays = map (λ (x : Component). []) cs in
     let blocks = n * mcu_size cs in
     let start = counted_at_start blocks [] in
-    let o = rows_from p vias blocks cs rows none start t in
-    let count : 0 + length rows ≡ high = let e = length-map-range_with_len (row_at frame cs) 0 high in omega arith in
+    let o = mcu_rows_from p vias blocks cs rows none start t in
+    let count : 0 + length rows ≡ high = let e = length-map-range_with_len (mcu_row frame cs) 0
+    high in omega arith in
     ap (made (planes_by all))
     (frame-scans frame cs p vias blocks (zero_arrays cs) bytes fits (zeros-sized cs)
     ∙ scans-by-rows frame c.component (components_of codings) p vias n bytes fits)

@@ -8,7 +8,8 @@ use Rattle.jpeg_segments.specs.Frame.{Frame}
 use Rattle.jpeg_streams.specs.Output.{Tells}
 use Rattle.jpeg_streams.specs.Pixels.{info_of}
 use Rattle.jpeg_streams.specs.declared.images.ImageInfo.{ImageInfo}
-use Rattle.jpeg_decoder.specs.Bytes.{IsCounted, IsWhole, bytes_a_sample, picture_bytes, samples_a_pixel}
+use Rattle.jpeg_decoder.specs.Bytes.{IsCounted, IsWhole, bytes_a_sample, picture_size}
+use Rattle.jpeg_decoder.specs.Bytes.{samples_a_pixel}
 use Rattle.std.proofs.lemmas.Grind.{common_steps}
 use Rattle.std.proofs.Common.{arith}
 
@@ -27,5 +28,5 @@ pub picture_size : (frame : Option Frame) (info : ImageInfo) (precision : ℕ) (
     → IsWhole frame pixels → IsCounted frame → option_map info_of frame ≡ Some info
     → option_map (λ f. f.precision) frame ≡ Some precision
     → length pixels ≡ info.width * info.height * (samples_a_pixel info.pixel_format * bytes_a_sample precision)
-unfolding picture_bytes
+unfolding picture_size
 picture_size frame info precision pixels whole counted i p = grind (arith, common_steps)

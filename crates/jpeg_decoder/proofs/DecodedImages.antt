@@ -5,8 +5,9 @@ use Rattle.std.specs.Prelude.{MatchResult}
 use Rattle.jpeg_bits.specs.Reading.{Outcome, Fault, Answers}
 use Rattle.jpeg_bits.specs.Stream.{Stream}
 use Rattle.jpeg_bits.specs.declared.error.Error.{Error}
-use Rattle.jpeg_streams.specs.ArrayPictures.{picture_of_array, Takes}
-use Rattle.jpeg_streams.specs.DecodedImages.{AtLeast, DecodesImages, FailsOutside, FullSize, Gives, HasLeft, Size}
+use Rattle.jpeg_streams.specs.ArrayPictures.{picture_of_array, TakesPicture}
+use Rattle.jpeg_streams.specs.DecodedImages.{AtLeast, DecodesImages, FailsOutside, FullSize}
+use Rattle.jpeg_streams.specs.DecodedImages.{GivesPicture, HasLeft, Size}
 use Rattle.jpeg_streams.specs.DecodedImages.{at_size}
 use Rattle.jpeg_streams.specs.Levels.{Is8Bit, Levels}
 use Rattle.jpeg_streams.specs.States.{Decoding, IsReading, Stage, ahead}
@@ -54,14 +55,15 @@ pub gives : {X : Type 0} (bytes_of : X → List ℕ) (o : Result (List ℕ) Faul
     (read : List ℕ → Outcome (Told × List ℕ)) (old : Stream) (result : Result X Error)
     → Answers (λ x. (told_of new.found, bytes_of x)) read old result new.source → o ≡ Ok picture
     → read old.bytes ≡ Ok ((told_of final, picture), rest) → old.known ≡ true
-    → MatchResult result (λ x. Gives o rest final (bytes_of x) new) (λ e. FailsOutside e new.source)
+    → MatchResult result (λ x. GivesPicture o rest final (bytes_of x) new) (λ e. FailsOutside e
+    new.source)
 gives bytes_of o picture rest final new read old result answers is means known =
     grind (arith, common_steps, ok-same, no-refusal)
 
 means-picture : (size : Size) (settings : Settings) (array : Coefficients) (image rest : List ℕ) (final : Found)
     (last : ℕ → Levels)
     → ((place row column : ℕ) → Is8Bit (array place row column)) → WritesImage array image final last
-    → Takes settings (at_size size final)
+    → TakesPicture settings (at_size size final)
     → (picture : List ℕ) × (picture_of_array settings (at_size size final) array last ≡ Ok picture)
     × (means_at size settings (image ++ rest) ≡ Ok ((told_of (at_size size final), picture), rest))
 means-picture FullSize = taken-means

@@ -8,14 +8,15 @@ use Rattle.jpeg_streams.specs.DecodedSamples.{DecodesSamples}
 use Rattle.jpeg_streams.specs.States.{Decoding, IsReading, ahead}
 use Rattle.jpeg_streams.specs.Stream.{told_of}
 use Rattle.jpeg_streams.specs.Found.{Found}
-use Rattle.jpeg_streams.specs.WrittenLossless.{IsWithin, Samples, WritesSamples, picture_of_samples}
+use Rattle.jpeg_streams.specs.WrittenLossless.{IsWithinLimit, Samples, WritesSamples}
+use Rattle.jpeg_streams.specs.WrittenLossless.{picture_of_samples}
 use Rattle.jpeg_streams.specs.declared.settings.Settings.{Settings}
 use Rattle.jpeg_decoder.proofs.DecodedImages.{gives, left-means, left-reading, means_at}
 use Rattle.jpeg_decoder.proofs.LosslessPixels.{lossless-means, lossless-sized}
 
 means-samples : (size : Size) (settings : Settings) (samples : Samples) (image rest : List ℕ) (final : Found)
     (frame : Frame)
-    → WritesSamples samples image final → IsWithin settings.limit final frame
+    → WritesSamples samples image final → IsWithinLimit settings.limit final frame
     → means_at size settings (image ++ rest) ≡ Ok ((told_of final, picture_of_samples frame samples), rest)
 means-samples FullSize settings samples image rest final frame w within =
     lossless-means settings samples image rest final frame w within

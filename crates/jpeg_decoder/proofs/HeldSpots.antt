@@ -9,7 +9,7 @@ use Rattle.jpeg_segments.specs.FrameView.{component_in}
 use Rattle.jpeg_bits.specs.BlockView.{to_block}
 use Rattle.jpeg_streams.specs.Order.{Spot, spots_of}
 use Rattle.jpeg_streams.specs.InTurn.{IsIn, IsInside, Fits, AreArrays}
-use Rattle.jpeg_streams.specs.McuRows.{row_at, rows_of}
+use Rattle.jpeg_streams.specs.McuRows.{mcu_row, rows_of}
 use Rattle.jpeg_streams.specs.Scans.{zero_arrays, zero_of}
 use Rattle.jpeg_streams.proofs.Apart.{spots-inside, zeros-sized}
 use Rattle.jpeg_streams.proofs.McuRows.{AreRows, row-inside, rows-count}
@@ -68,12 +68,13 @@ are-rows _ _ e = absurd (let n = ap (λ (l : List ℕ). length l) e in omega ari
 
 row-spots : (frame : Frame) (cs : List Coded) (vs : List Held) (row : ℕ) → AllByRecursion (Fits frame) (components_in cs)
     → sizes_of vs ≡ row_sizes cs
-    → AllByRecursion (IsSpotOf (length cs) (sizes_of vs)) (row_at frame (components_in cs) row)
+    → AllByRecursion (IsSpotOf (length cs) (sizes_of vs)) (mcu_row frame (components_in cs) row)
 row-spots frame cs vs row fits sizes =
     let sized = are-rows cs vs sizes in
-    let inside : (q : Spot) → IsIn q (row_at frame (components_in cs) row) → IsInside (arrays_in vs) q
+    let inside : (q : Spot) → IsIn q (mcu_row frame (components_in cs) row) → IsInside (arrays_in
+    vs) q
     = λ q t. (row-inside frame (components_in cs) row fits).inside (arrays_in vs) q sized t in
-    all-spots (length cs) vs (row_at frame (components_in cs) row)
+    all-spots (length cs) vs (mcu_row frame (components_in cs) row)
     (λ q t.
     let s = (inside q t).slot in
     let l = rows-count 1 (components_in cs) (arrays_in vs) sized in
@@ -89,5 +90,6 @@ each-row cs vs f a (suc n) h = (h a, each-row cs vs f (a + 1) n h)
 pub rows-spots : (frame : Frame) (cs : List Coded) (vs : List Held) → AllByRecursion (Fits frame) (components_in cs)
     → sizes_of vs ≡ row_sizes cs
     → AllByRecursion (AllByRecursion (IsSpotOf (length cs) (sizes_of vs))) (rows_of frame (components_in cs))
-rows-spots frame cs vs fits sizes = each-row cs vs (row_at frame (components_in cs)) 0 frame.mcus_high
+rows-spots frame cs vs fits sizes = each-row cs vs (mcu_row frame (components_in cs)) 0
+    frame.mcus_high
     (λ row. row-spots frame cs vs row fits sizes)

@@ -11,11 +11,11 @@ use Rattle.jpeg_bits.specs.declared.color_transform.ColorTransform.{ColorTransfo
 use Rattle.jpeg_segments.specs.Frame.{Component}
 use Rattle.jpeg_pixels.specs.declared.upsampler.ColorConvert.{ColorConvert}
 use Rattle.jpeg_pixels.specs.Colour.{colour_of, line_bytes}
-use Rattle.jpeg_pixels.specs.Pictures.{picture_line, picture_bytes, image_of}
+use Rattle.jpeg_pixels.specs.Pictures.{picture_line, converted_picture, image_of}
 use Rattle.jpeg_pixels.specs.PicturesView.{IsFor}
 use Rattle.jpeg_pixels.specs.Planes.{cropped}
 use Rattle.jpeg_streams.specs.Segments.{is_decoded_count}
-use Rattle.jpeg_pixels.specs.JointPlanes.{AreLong}
+use Rattle.jpeg_pixels.specs.JointPlanes.{HaveWidth}
 use Rattle.jpeg_pixels.proofs.JoinedLines.{joined-length}
 use Rattle.jpeg_pixels.proofs.LinesOfColour.{line-none}
 use Rattle.jpeg_pixels.proofs.ComponentLines.{lines_of-length, lines_of-long}
@@ -31,13 +31,14 @@ made-length n width line sizes =
     let count : length lines ≡ width = length-map-range_with_len line 0 width in
     let line_is : (k : ℕ) → k < width → get_or lines k [] ≡ line k = λ k h. get_or-map-range_with_len line 0 width k k
     [] h (omega arith) in
-    let are_long : AreLong n lines = grind (arith, common_steps) in
+    let are_long : HaveWidth n lines = grind (arith, common_steps) in
     joined-length n lines are_long ∙ ap (λ m. m * n) count
 
 abbrev samples : List (List ℕ) → ℕ → List ℕ
 samples lines x = map (λ (l : List ℕ). get_or l x 0) lines
 
-pub line-length : (convert : ColorConvert) (width : ℕ) (lines : List (List ℕ)) → AreLong width lines
+pub line-length : (convert : ColorConvert) (width : ℕ) (lines : List (List ℕ)) → HaveWidth width
+    lines
     → IsFor (length lines) convert → length (line_bytes convert width lines) ≡ length lines * width
 unfolding line_bytes colour_of
 line-length convert width lines long fits =
@@ -50,7 +51,7 @@ pub image-length : (components : List Component) (planes : List (List ℕ)) (wid
     (transform : ColorTransform) (picture : List ℕ) → length planes ≡ length components
     → image_of components planes width height transform ≡ Ok picture
     → length picture ≡ height * (length components * width)
-unfolding image_of picture_bytes picture_line
+unfolding image_of converted_picture picture_line
 image-length components planes width height transform picture counts is =
     grind (
       arith,

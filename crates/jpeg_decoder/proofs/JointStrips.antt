@@ -16,7 +16,8 @@ use Rattle.std.specs.declared.alloc.Global.{Global}
 use Rattle.std.specs.declared.vec.Vec.{Vec}
 use Rattle.jpeg_segments.specs.Frame.{Component, Frame}
 use Rattle.jpeg_segments.specs.FrameView.{component_in}
-use Rattle.jpeg_pixels.specs.JointPlanes.{IsShapeOf, IsSmall, joint_plane, joint_planes, row_size}
+use Rattle.jpeg_pixels.specs.JointPlanes.{IsShapeOf, HasFrameSizes, joint_plane, joint_planes}
+use Rattle.jpeg_pixels.specs.JointPlanes.{joint_row_size}
 use Rattle.jpeg_pixels.specs.JointPlanes.{strip_size}
 use Rattle.jpeg_pixels.specs.declared.joint_planes.JointPlanes.{JointPlanes}
 use Rattle.jpeg_pixels.specs.declared.joint_planes.JointShape.{JointShape}
@@ -61,7 +62,7 @@ whole-rows n (suc r) e =
 -- the index of a sample of a plane in the room
 abbrev index_of : JointShape → ℕ → ℕ → ℕ
 index_of shape slot i =
-    i / strip_size shape * row_size shape + (slot * strip_size shape + i % strip_size shape)
+    i / strip_size shape * joint_row_size shape + (slot * strip_size shape + i % strip_size shape)
 
 module _ (shape : JointShape) (samples : List ℕ) where
   plane-long : (slot : ℕ) → length (joint_plane shape samples slot) ≡ length samples / shape.count
@@ -102,7 +103,7 @@ none-joint shape codings e =
 
 -- A plane, and after it its strip of these, which come after k rows.
 module _ (shape : JointShape) (samples : List ℕ) (strips : List (List ℕ)) (k slot : ℕ)
-    (whole : length samples ≡ k * row_size shape) (even : AreEven (strip_size shape) strips)
+    (whole : length samples ≡ k * joint_row_size shape) (even : AreEven (strip_size shape) strips)
     (count : length strips ≡ shape.count) (h : slot < shape.count) where
   abbrev size : ℕ
   size = strip_size shape
@@ -119,7 +120,7 @@ module _ (shape : JointShape) (samples : List ℕ) (strips : List (List ℕ)) (k
       (length-append samples (concat strips)
       ∙ ap (λ (n : ℕ). length samples + n)
       (flat-length size strips even ∙ ap (λ (n : ℕ). n * size) count)
-      ∙ next-row k (row_size shape) (length samples) whole)
+      ∙ next-row k (joint_row_size shape) (length samples) whole)
       ∙ sym (next-row k size (k * size) refl)
 
   some-size : (s i : ℕ) → i < k * s + s → 0 < s
@@ -132,16 +133,16 @@ module _ (shape : JointShape) (samples : List ℕ) (strips : List (List ℕ)) (k
   kept-at i lt =
       let some : 0 < size = some-size size i (omega arith) in
       let column = mul-add-lt slot size (i % size) shape.count h (mod_below i size some) in
-      let below = mul-add-lt (i / size) (row_size shape) (slot * size + i % size) k
+      let below = mul-add-lt (i / size) (joint_row_size shape) (slot * size + i % size) k
       (div_below i size k some lt) (omega (arith, column, mul_comm shape.count size)) in
       get_or_append_left samples (concat strips) 0 (index_of shape slot i)
-      (omega (arith, below, whole, mul_comm k (row_size shape)))
+      (omega (arith, below, whole, mul_comm k (joint_row_size shape)))
 
   strip-at : (j : ℕ) → j < size
       → slice_index grown (index_of shape slot (k * size + j)) ≡ get_or (get_or strips slot []) j 0
   strip-at j lt =
       ap (λ (n : ℕ). slice_index grown n)
-      (ap₂ (λ (a b : ℕ). a * row_size shape + (slot * size + b)) (div-mul-add k size j lt)
+      (ap₂ (λ (a b : ℕ). a * joint_row_size shape + (slot * size + b)) (div-mul-add k size j lt)
       (mod-mul-add k size j lt)
       ∙ ap (λ (n : ℕ). n + (slot * size + j)) (sym whole))
       ∙ get_or-append-add samples (concat strips) (slot * size + j) 0
@@ -226,10 +227,10 @@ module _ (frame : Frame) (cs : List Coded) (seen : List Component) (joint : Join
       × AllByRecursion (λ c. c.blocks_wide * c.scale ≡ shape.stride) l) seen-is
       (lines, is.alike.strides) in
       let some = is.some in
-      let row = row_size joint.shape in
+      let row = joint_row_size joint.shape in
       let empty : 0 ≡ 0 / row * row = sym (ap (λ (n : ℕ). n * row) (zero-div row) ∙ omega arith) in
       record {
-        small = subst IsSmall (sym shape-is) is.small;
+        small = subst HasFrameSizes (sym shape-is) is.small;
         count = ap (λ (s : JointShape). s.count) shape-is ∙ same;
         some = subst (λ (s : JointShape). 1 ≤ s.count) (sym shape-is) (omega arith);
         each = subst (λ (s : JointShape). AllByRecursion (IsOfShape s) (map coding_in cs))
@@ -264,7 +265,7 @@ module _ (codings : List Coding) (arrays : Arrays) (joint : JointPlanes)
       let h : slot < shape.count = omega (arith, lt, new-long) in
       planes-at shape new slot h
       ∙ ap (λ (l : List ℕ). joint_plane shape l slot) e
-      ∙ plane-grown shape samples strips (length samples / row_size shape) slot is.whole even
+      ∙ plane-grown shape samples strips (length samples / joint_row_size shape) slot is.whole even
       strips-count h
       ∙ ap (λ (l : List ℕ). l ++ get_or strips slot []) (sym (planes-at shape samples slot h))
       ∙ sym (strips-at codings arrays old slot held old-long (omega (arith, h, is.count))))
@@ -272,7 +273,7 @@ module _ (codings : List Coding) (arrays : Arrays) (joint : JointPlanes)
   pub room-kept : (new : Vec ℕ Global) → new.items ≡ joint.samples.items ++ concat strips
       → IsJointOf codings (record joint { samples = new })
   room-kept new e =
-      let row = row_size joint.shape in
+      let row = joint_row_size joint.shape in
       let old = length joint.samples.items in
       let more : length new.items ≡ old + row =
       grind (arith, common_steps, length-append, flat-length, even, strips-count) in
@@ -302,7 +303,7 @@ room-full (c ∷ cs) joint is sizes =
     (omega (arith, planes-long shape samples, is.some)))
     ∙ ap (λ (l : List ℕ). get_or l 0 0) sizes
     ∙ grind (arith, common_steps, mul_assoc) in
-    let rows = length samples / row_size shape in
+    let rows = length samples / joint_row_size shape in
     let whole = one-of rows shape.count (strip_size shape) (length samples) is.some is.whole in
     record {
       small = is.small;

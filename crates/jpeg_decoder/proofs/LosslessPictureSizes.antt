@@ -10,15 +10,15 @@ use Rattle.jpeg_segments.specs.Frame.{Component, Frame, ceiling}
 use Rattle.jpeg_segments.specs.Scales.{frame_at}
 use Rattle.jpeg_lossless.specs.Pictures as pictures
 use Rattle.jpeg_lossless.specs.Pictures.{ArePlanesOf, Layer, image_bytes, layers_of, lossless_picture, most_across, most_down}
-use Rattle.jpeg_lossless.specs.Pictures.{pixel_bytes, line_bytes, sample_at, sample_bytes}
+use Rattle.jpeg_lossless.specs.Pictures.{sample_pixel, sample_line, layer_sample, sample_bytes}
 use Rattle.jpeg_streams.specs.Sound.{IsDecodedFrame}
-use Rattle.jpeg_decoder.specs.Bytes.{IsWhole, bytes_a_sample, picture_bytes}
+use Rattle.jpeg_decoder.specs.Bytes.{IsWhole, bytes_a_sample, picture_size}
 use Rattle.jpeg_decoder.proofs.ImageSizes.{made-length}
 
 -- ---- the lines
 
 pixel-length : (precision mh mv : ℕ) (layers : List Layer) (y x : ℕ)
-    → length (pixel_bytes precision mh mv layers y x) ≡ length layers * bytes_a_sample precision
+    → length (sample_pixel precision mh mv layers y x) ≡ length layers * bytes_a_sample precision
 pixel-length precision mh mv [] y x = omega arith
 pixel-length precision mh mv (l ∷ layers) y x =
     grind (arith, common_steps, length-append, pixel-length precision mh mv layers y x)
@@ -42,14 +42,14 @@ unfolding frame_at
 read-size f p e = grind (arith, common_steps, full-size)
 
 lines-length : (precision mh mv width height : ℕ) (layers : List Layer)
-    → length (pictures.picture_bytes precision mh mv width height layers)
+    → length (pictures.sample_picture precision mh mv width height layers)
     ≡ height * (width * (length layers * bytes_a_sample precision))
-unfolding pictures.picture_bytes
+unfolding pictures.sample_picture
 lines-length precision mh mv width height layers = grind (arith, common_steps, made-length, pixel-length)
 
 frame-length : (f : Frame) (planes : List (List ℕ)) → IsDecodedFrame f → f.process ≡ Lossless
-    → ArePlanesOf f.components planes → length (lossless_picture f planes) ≡ picture_bytes f
-unfolding lossless_picture picture_bytes
+    → ArePlanesOf f.components planes → length (lossless_picture f planes) ≡ picture_size f
+unfolding lossless_picture picture_size
 frame-length f planes p e whole =
     let size = read-size f p e in
     let n = bytes_a_sample f.precision in
@@ -64,8 +64,8 @@ if-samples_size items f planes result p e whole h = grind (arith, common_steps, 
 
 -- the room of a lossless picture
 pub image-room : (f : Frame) → IsDecodedFrame f → f.process ≡ Lossless
-    → picture_bytes f ≡ image_bytes f (length f.components)
-unfolding picture_bytes
+    → picture_size f ≡ image_bytes f (length f.components)
+unfolding picture_size
 image-room f p e =
     let size = read-size f p e in
     let n = length f.components * bytes_a_sample f.precision in

@@ -3,15 +3,17 @@ use Rattle.std.proofs.Common.{◌≡◌, ℕ, suc, ◌+◌, ◌<◌, List, [], �
 use Rattle.std.proofs.Common.{Ok, Some, refl, sym, ap, ◌∙◌, subst, arith}
 use Rattle.std.specs.List.{AllByRecursion, range_with_len}
 use Rattle.jpeg_segments.specs.Frame.{Component, Frame}
-use Rattle.jpeg_lossless.specs.Pictures.{layers_of, lossless_picture, most_across, most_down, pixel_bytes}
-use Rattle.jpeg_lossless.specs.Pictures.{picture_bytes}
+use Rattle.jpeg_lossless.specs.Pictures.{layers_of, lossless_picture, most_across, most_down}
+use Rattle.jpeg_lossless.specs.Pictures.{sample_pixel}
+use Rattle.jpeg_lossless.specs.Pictures.{sample_picture}
 use Rattle.jpeg_lossless.proofs.ImageLoops.{inside}
 use Rattle.jpeg_decoder.proofs.ReadLists.{at-flat}
 use Rattle.jpeg_streams.specs.declared.settings.Settings.{Settings}
 use Rattle.jpeg_streams.specs.Needed.{first_of}
 use Rattle.jpeg_streams.specs.Stream.{meaning, sized_meaning, told_of}
 use Rattle.jpeg_streams.specs.Found.{nothing_found, Found}
-use Rattle.jpeg_streams.specs.WrittenLossless.{IsWithin, Samples, Writes, WritesSamples, closed}
+use Rattle.jpeg_streams.specs.WrittenLossless.{IsWithinLimit, Samples, Writes, WritesSamples}
+use Rattle.jpeg_streams.specs.WrittenLossless.{closed}
 use Rattle.jpeg_streams.specs.WrittenLossless.{picture_of_samples, pixel_from, said_after_scan, scan, segment}
 use Rattle.jpeg_streams.specs.SaidSegments.{found_after}
 use Rattle.jpeg_streams.proofs.LosslessFrames.{IsShaped}
@@ -74,7 +76,7 @@ from-places frame samples all place (c ∷ cs) e made h =
 
 pixel-same : (frame : Frame) (samples : Samples) (x y : ℕ) → x < frame.width → y < frame.height
     → (place : ℕ) (cs : List Component) → AreAll frame samples place cs
-    → pixel_bytes frame.precision (most_across frame) (most_down frame)
+    → sample_pixel frame.precision (most_across frame) (most_down frame)
     (layers_of cs (planes_for samples (range_with_len place (length cs)))) y x
     ≡ pixel_from frame samples y x place cs
 unfolding AreAll pixel_from layers_of
@@ -92,7 +94,7 @@ pixel-same frame samples x y hx hy place (c ∷ cs) all =
 
 samples-shown : (frame : Frame) (samples : Samples) → AreAll frame samples 0 frame.components
     → drawn frame samples ≡ picture_of_samples frame samples
-unfolding picture_of_samples lossless_picture picture_bytes
+unfolding picture_of_samples lossless_picture sample_picture
 samples-shown frame samples all = grind (arith, common_steps, mapped-same, pixel-same)
 
 shown : (samples : Samples) (bytes : List ℕ) (final : Found) (frame : Frame) → WritesSamples samples bytes final
@@ -106,7 +108,7 @@ shown samples bytes final frame w e =
 -- ---- the whole
 
 pub lossless-means : (settings : Settings) (samples : Samples) (bytes rest : List ℕ) (final : Found) (frame : Frame)
-    → WritesSamples samples bytes final → IsWithin settings.limit final frame
+    → WritesSamples samples bytes final → IsWithinLimit settings.limit final frame
     → meaning settings (bytes ++ rest) ≡ Ok ((told_of final, picture_of_samples frame samples), rest)
 lossless-means settings samples bytes rest final frame w within =
     samples-meant settings samples bytes rest final frame w within.is_said within.limited
@@ -114,7 +116,7 @@ lossless-means settings samples bytes rest final frame w within =
 
 pub lossless-sized : (width height : ℕ) (settings : Settings) (samples : Samples) (bytes rest : List ℕ)
     (final : Found) (frame : Frame)
-    → WritesSamples samples bytes final → IsWithin settings.limit final frame
+    → WritesSamples samples bytes final → IsWithinLimit settings.limit final frame
     → sized_meaning width height settings (bytes ++ rest) ≡ Ok ((told_of final, picture_of_samples frame samples), rest)
 lossless-sized width height settings samples bytes rest final frame w within =
     samples-sized width height settings samples bytes rest final frame w within.is_said within.limited

@@ -21,7 +21,7 @@ use Rattle.jpeg_segments.specs.FrameView.{component_in, factors_in}
 use Rattle.jpeg_segments.specs.declared.parser.Component as declared
 use Rattle.jpeg_segments.specs.ScanHeader.{Scan}
 use Rattle.jpeg_segments.specs.declared.parser.CodingProcess.TheVariants.{Lossless}
-use Rattle.jpeg_lossless.specs.Codings.{AreWhole, IsCovered, way_by}
+use Rattle.jpeg_lossless.specs.Codings.{AreWholeSamples, IsCovered, way_by}
 use Rattle.jpeg_lossless.specs.Differences.{Part}
 use Rattle.jpeg_lossless.specs.declared.scan.Coding.{Coding}
 use Rattle.jpeg_lossless.specs.Pictures.{ArePlanesOf, lossless_picture, most_across, most_down}
@@ -322,9 +322,9 @@ set-sampled (c ∷ cs) (x ∷ samples) zero plane e h = (e, h.1)
 set-sampled (c ∷ cs) (x ∷ samples) (suc place) plane e h = (h.0, set-sampled cs samples place plane e h.1)
 
 with-sampled : (is_alone : Bool) (cs : List Component) (places : List ℕ) (ts : List Table) (planes : List (List ℕ))
-    (samples : List (Option (List ℕ))) → AreWhole (parts_at is_alone cs places ts) planes
+    (samples : List (Option (List ℕ))) → AreWholeSamples (parts_at is_alone cs places ts) planes
     → AreSampled cs samples → AreSampled cs (with_samples places planes samples)
-unfolding with_samples AreWhole parts_at
+unfolding with_samples AreWholeSamples parts_at
 with-sampled is_alone cs (p ∷ places) [] (plane ∷ planes) samples w h = absurd w
 with-sampled is_alone cs (p ∷ places) (t ∷ ts) (plane ∷ planes) samples w h =
     with-sampled is_alone cs places ts planes (slice_set samples p (Some plane)) w.1
@@ -334,7 +334,7 @@ with-sampled is_alone cs _ ts _ samples w h = h
 -- The samples of a scan are those of its components.
 pub scan-sampled : (is_alone : Bool) (found : Found) (frame : Frame) (places : List ℕ) (ts : List Table)
     (planes : List (List ℕ)) → IsSound found → found.frame ≡ Some frame
-    → AreWhole (parts_at is_alone frame.components places ts) planes
+    → AreWholeSamples (parts_at is_alone frame.components places ts) planes
     → AreSampled frame.components (with_samples places planes found.samples)
 scan-sampled is_alone found frame places ts planes sound e w = grind (arith, common_steps, with-sampled)
 

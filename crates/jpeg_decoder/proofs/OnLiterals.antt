@@ -12,7 +12,8 @@ use Rattle.jpeg_bits.specs.Reading.{length_at, next_u16, skip_at, times}
 use Rattle.jpeg_bits.specs.Refinement.{corrected, refined_ac, refined_piece, through_zero, with_last}
 use Rattle.jpeg_bits.specs.Zigzag.{coefficients_in_block_order, values_in_block_order, zigzag_places}
 use Rattle.jpeg_pixels.specs.Colour.{blue_of, colour_of, conversion_of, green_of, line_bytes, red_of}
-use Rattle.jpeg_pixels.specs.Pictures.{image_of, lines_of, picture_bytes, picture_line, sources_by}
+use Rattle.jpeg_pixels.specs.Pictures.{image_of, lines_of, converted_picture, picture_line}
+use Rattle.jpeg_pixels.specs.Pictures.{sources_by}
 use Rattle.jpeg_pixels.specs.Planes.{cropped, plane_of}
 use Rattle.jpeg_pixels.specs.Samples.{basis, column_value, dequantized, is_flat_column, sample, transformed}
 use Rattle.jpeg_pixels.specs.Scaled.{column_of_4, even_part, odd_part, sample_at, sample_of_1, sample_of_2}
@@ -25,7 +26,7 @@ use Rattle.jpeg_segments.specs.Frame.{component_of, components_from, factors_at,
 use Rattle.jpeg_segments.specs.Frame.{parameters_at, size_at, sof_at}
 use Rattle.jpeg_segments.specs.Scales.{component_at, frame_at, scale_for}
 use Rattle.jpeg_segments.specs.ScanHeader.{band_at, count_at, scan_of, selector_at, selectors_from, sos_at}
-use Rattle.jpeg_segments.specs.ScanHeader.{tables_at}
+use Rattle.jpeg_segments.specs.ScanHeader.{destinations_at}
 use Rattle.jpeg_streams.specs.ColourChoice.{by_identifiers, transform_of}
 use Rattle.jpeg_streams.specs.Found.{nothing_found}
 use Rattle.jpeg_streams.specs.FoundPictures.{blocks_picture, picture_by, picture_of, plane_at_end}
@@ -54,13 +55,16 @@ unfolding accepted adobe_at after_restarts after_scan all_spots app_at applicati
     first_dc first_from frame_at frame_of frame_segment green_of groups head_at header_at huffman_segment image_of
     int_wrap interval intervals is_flat_column length_at lengths_from line_bytes lines_of marker_of mcu_size
     mcu_spots meaning next_marker next_u16 nothing_found odd_part own_spots parameters_at part_spots pass_of
-    payload_at picture_by picture_bytes picture_line picture_of plane_at_end plane_by plane_of planes_from
+    payload_at picture_by converted_picture picture_line picture_of plane_at_end plane_by plane_of
+    planes_from
     put_arrays put_blocks quantization.dqt_at quantization.placed_table_at quantization.table_at
-    quantization.tables_from quantization.value_at quantization_segment red_of refined_ac refined_piece rest_at
+    quantization.quantization_from quantization.value_at quantization_segment red_of refined_ac
+    refined_piece rest_at
     restart_segment rule_of sample sample_at sample_of_1 sample_of_2 sample_of_4 scale_for scan_arrays scan_of
     scan_segment segment_at segments_at segments_within selector_at selectors_from signed_from size_at sized_meaning
     skip_at skipped_segment sof_at sos_at sources_by spots_of start_at symbol_from tables.codes_at tables.dht_at
-    tables.placed_codes_at tables.symbols_at tables.tables_from tables_at tables_of text_at through_zero times
+    tables.placed_codes_at tables.symbols_at tables.tables_from destinations_at tables_of text_at
+    through_zero times
     token_at token_from transform_of transformed turn_at turns_of upcoming updated upsampled values_in_block_order
     vias_from with_arrays with_blocks with_last with_plane zero_arrays zero_block zigzag_places
 jpeg_on_literals = tt

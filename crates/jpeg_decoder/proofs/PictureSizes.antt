@@ -5,7 +5,7 @@ use Rattle.std.proofs.Common.{refl, arith, subst, Result, Ok, Option, Some, true
 use Rattle.std.specs.Prelude.{MatchResult, IfOk, IfSome, OnOk, min}
 use Rattle.jpeg_bits.specs.declared.error.Error.{Error}
 use Rattle.jpeg_decoder.specs.Bytes.{HasBytes, HasBytesBy, IsCounted, IsWhole}
-use Rattle.jpeg_decoder.specs.Bytes.{bytes_a_sample, picture_bytes, samples_a_pixel}
+use Rattle.jpeg_decoder.specs.Bytes.{bytes_a_sample, picture_size, samples_a_pixel}
 use Rattle.jpeg_segments.specs.declared.parser.CodingProcess.{CodingProcess}
 use Rattle.jpeg_segments.specs.declared.parser.CodingProcess.TheVariants.{Lossless}
 use Rattle.jpeg_streams.specs.Pixels.{bytes_a_pixel, format_of}
@@ -88,8 +88,9 @@ by-info f pixels p eight long = grind (arith, common_steps, turned, format-bytes
 
 -- a byte a sample
 by-frame : (f : Frame) (pixels : List ℕ) → f.precision ≡ 8
-    → length pixels ≡ f.output_height * (length f.components * f.output_width) → length pixels ≡ picture_bytes f
-unfolding picture_bytes
+    → length pixels ≡ f.output_height * (length f.components * f.output_width) → length pixels ≡
+    picture_size f
+unfolding picture_size
 by-frame f pixels eight long = grind (arith, common_steps, turned)
 
 precision-8 : (f : Frame) → IsDecodedFrame f → (f.process ≡ Lossless → ⊥) → f.precision ≡ 8
@@ -104,8 +105,8 @@ precision-8 f p dct = go f.process refl
 
 -- the bytes of a picture of blocks
 pub block-bytes : (f : Frame) → IsDecodedFrame f → (f.process ≡ Lossless → ⊥)
-    → picture_bytes f ≡ length f.components * f.output_width * f.output_height
-unfolding picture_bytes
+    → picture_size f ≡ length f.components * f.output_width * f.output_height
+unfolding picture_size
 block-bytes f p dct =
     let n = length f.components in
     let area = f.output_width * f.output_height in
@@ -120,15 +121,16 @@ whole-by f pixels p dct long = go f.process refl
     eight : (x : CodingProcess) → f.process ≡ x → is_decoded_precision x f.precision ≡ true
     eight x e = ap (λ (x : CodingProcess). is_decoded_precision x f.precision) (sym e) ∙ precision-of f p
 
-    of : f.precision ≡ 8 → (length pixels ≡ picture_bytes f) × HasBytes f pixels
+    of : f.precision ≡ 8 → (length pixels ≡ picture_size f) × HasBytes f pixels
     of e = (by-frame f pixels e long, by-info f pixels p e long)
 
-    go : (x : CodingProcess) → f.process ≡ x → (length pixels ≡ picture_bytes f) × HasBytesBy x f pixels
+    go : (x : CodingProcess) → f.process ≡ x → (length pixels ≡ picture_size f) × HasBytesBy x f
+        pixels
     go Lossless e = absurd (dct e)
     go x e = of (eqb-true f.precision 8 (eight x e))
 
 pub whole-if : (found : Found) (frame : Option Frame) (n : ℕ) (pixels : List ℕ) → HasDecodedFrame found
-    → found.frame ≡ frame → IfSome frame (λ f. n ≡ picture_bytes f) → length pixels ≡ n
+    → found.frame ≡ frame → IfSome frame (λ f. n ≡ picture_size f) → length pixels ≡ n
     → IsWhole found.frame pixels
 whole-if found frame n pixels p same size long = grind (
   arith,

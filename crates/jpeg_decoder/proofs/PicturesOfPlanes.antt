@@ -15,7 +15,8 @@ use Rattle.jpeg_pixels.specs.Scaled.{IsScale}
 use Rattle.jpeg_segments.proofs.ScaleLemmas.{sized_frames_have_factors}
 use Rattle.jpeg_pixels.specs.declared.upsampler.ColorConvert.{ColorConvert}
 use Rattle.jpeg_pixels.specs.Colour.{conversion_of}
-use Rattle.jpeg_pixels.specs.Pictures.{Source, AllCover, AreWhole, image_of, picture_bytes, sources_of}
+use Rattle.jpeg_pixels.specs.Pictures.{Source, AllCover, AreWhole, image_of, converted_picture}
+use Rattle.jpeg_pixels.specs.Pictures.{sources_of}
 use Rattle.jpeg_streams.specs.ColourChoice.{identifiers_of, transform_of}
 use Rattle.jpeg_streams.specs.Sound.{IsDecodedFrame}
 use Rattle.jpeg_decoder.specs.Steps.{IsRefusal, cropped_to}
@@ -76,7 +77,8 @@ image-refused f p planes t e n =
     let s = decoded-sources f p in
     refused e (image_of f.components planes f.output_width f.output_height t)
     (never-end (length f.components) t (sources_of f.components f.output_width f.output_height) s.sources
-    (λ convert sources. picture_bytes convert sources planes f.output_width f.output_height) s.is) n
+    (λ convert sources. converted_picture convert sources planes f.output_width f.output_height)
+    s.is) n
 
 -- ---- the picture
 

@@ -12,7 +12,7 @@ use Rattle.jpeg_segments.specs.Frame.{Frame, Component}
 use Rattle.jpeg_segments.specs.FrameView.{component_in}
 use Rattle.jpeg_segments.specs.Scales.{component_at, frame_at, is_scale}
 use Rattle.jpeg_segments.specs.ScanHeader as headers
-use Rattle.jpeg_segments.specs.ScanHeader.{IsCoded, IsRising, IsScanOf}
+use Rattle.jpeg_segments.specs.ScanHeader.{IsBandOf, IsRising, IsScanOf}
 use Rattle.jpeg_decoder.specs.declared.scan.Coded.{Coded}
 use Rattle.jpeg_decoder.specs.declared.decoded.Decoded.{Decoded}
 use Rattle.jpeg_decoder.specs.declared.scan.Scan.{Scan}
@@ -39,18 +39,18 @@ codings-kept found d frame header = grind (arith, common_steps, tables-same, cod
 -- ---- the pass of a scan
 
 is-pass : (process : CodingProcess) (s : headers.Scan) → IsDct process
-    → IsCoded process s.first s.after s.high s.low → IsPass (pass_of s)
+    → IsBandOf process s.first s.after s.high s.low → IsPass (pass_of s)
 unfolding pass_of
 is-pass process s e c = grind (arith, common_steps)
 
 -- a scan codes what a pass may
 pub legal-pass : (process : CodingProcess) (s : headers.Scan) (p : Pass) → IsDct process
-    → IsCoded process s.first s.after s.high s.low → p ≡ pass_of s → IsPass p
+    → IsBandOf process s.first s.after s.high s.low → p ≡ pass_of s → IsPass p
 legal-pass process s p is_dct coded e = subst IsPass (sym e) (is-pass process s is_dct coded)
 
 -- what it codes ends after the first coefficient at the earliest
 pub some-after : (process : CodingProcess) (s : headers.Scan) → IsDct process
-    → IsCoded process s.first s.after s.high s.low → 1 ≤ s.after
+    → IsBandOf process s.first s.after s.high s.low → 1 ≤ s.after
 some-after process s is_dct coded = grind (arith, common_steps)
 
 -- ---- the scales of a frame's components

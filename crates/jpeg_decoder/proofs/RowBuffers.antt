@@ -15,7 +15,7 @@ use Rattle.jpeg_streams.specs.Scans.{Arrays}
 use Rattle.jpeg_streams.specs.ScanSegments.{Coding}
 use Rattle.jpeg_decoder.specs.Steps.{coding_in}
 use Rattle.jpeg_decoder.specs.Scanning.{arrays_in, blocks_in, sizes_of, down_in, wide_in}
-use Rattle.jpeg_decoder.specs.Strips.{planes_in, row_sizes, zeros_of, samples_of, strips_of}
+use Rattle.jpeg_decoder.specs.Strips.{plane_lists, row_sizes, zeros_of, samples_of, strips_of}
 use Rattle.jpeg_decoder.specs.Strips.{with_strips}
 use Rattle.jpeg_decoder.specs.declared.scan.Coded.{Coded}
 use Rattle.jpeg_decoder.proofs.BlocksBefore.{zero-blocks}
@@ -62,7 +62,7 @@ cleared-next old items i v w h sizes arrays is new =
 -- ---- samples that are appended
 
 pub no-strips : (cs : List Coded) (old : List Held) (start : List Plane) → length start ≡ 0
-    → planes_in start ≡ with_strips (map coding_in cs) (arrays_in old) (planes_in start)
+    → plane_lists start ≡ with_strips (map coding_in cs) (arrays_in old) (plane_lists start)
 no-strips cs old start e = grind (arith, common_steps, strips-none)
 
 module _ (cs : List Coded) (old : List Held) (sizes : sizes_of old ≡ row_sizes cs) where
@@ -123,44 +123,50 @@ module _ (cs : List Coded) (old : List Held) (sizes : sizes_of old ≡ row_sizes
 module _ (cs : List Coded) (old : List Held) (start : List Plane) (sizes : sizes_of old
     ≡ row_sizes cs) (long : length start ≡ length cs) where
   abbrev all : List (List ℕ)
-  all = with_strips (map coding_in cs) (arrays_in old) (planes_in start)
+  all = with_strips (map coding_in cs) (arrays_in old) (plane_lists start)
 
-  start-long : length (planes_in start) ≡ length (map coding_in cs)
+  start-long : length (plane_lists start) ≡ length (map coding_in cs)
   start-long = length-map start (λ (v : Plane). v.items) ∙ long ∙ sym (length-map cs coding_in)
 
-  all-long : length all ≡ length (planes_in start)
-  all-long = strips-length (map coding_in cs) (arrays_in old) (planes_in start)
+  all-long : length all ≡ length (plane_lists start)
+  all-long = strips-length (map coding_in cs) (arrays_in old) (plane_lists start)
       (arrays-long cs old sizes) start-long ∙ sym start-long
 
-  pub planes-long : (planes : List Plane) (slot : ℕ) → planes_in planes ≡ patched slot all (planes_in start)
+  pub planes-long : (planes : List Plane) (slot : ℕ) → plane_lists planes ≡ patched slot all
+      (plane_lists start)
       → length planes ≡ length cs
   planes-long planes slot e =
       sym (length-map planes (λ (v : Plane). v.items)) ∙ ap (λ (l : List (List ℕ)). length l) e
-      ∙ patched-length all (planes_in start) slot all-long
+      ∙ patched-length all (plane_lists start) slot all-long
       ∙ length-map start (λ (v : Plane). v.items) ∙ long
 
   pub planes-next : (planes : List Plane) (slot : ℕ) (c : Coded) (v : Held) (p q : Plane)
       → slot < length cs → c ≡ get_or cs slot c → v ≡ get_or old slot v
-      → planes_in planes ≡ patched slot all (planes_in start) → p ≡ get_or planes slot p → q.items
+      → plane_lists planes ≡ patched slot all (plane_lists start) → p ≡ get_or planes slot p →
+      q.items
       ≡ p.items ++ samples_of (down_in c) (coding_in c) (map to_block v.items)
-      → planes_in (set planes slot q) ≡ patched (slot + 1) all (planes_in start)
+      → plane_lists (set planes slot q) ≡ patched (slot + 1) all (plane_lists start)
   planes-next planes slot c v p q h is held inv at new =
       let view : Plane → List ℕ = λ x. x.items in
       let pl = planes-long planes slot inv in
-      let before : p.items ≡ get_or (planes_in start) slot [] =
+      let before : p.items ≡ get_or (plane_lists start) slot [] =
       ap view at ∙ sym (get_or-map view planes slot p [] (omega (arith, pl)))
       ∙ ap (λ (l : List (List ℕ)). get_or l slot []) inv
-      ∙ patched-at all (planes_in start) slot [] all-long in
+      ∙ patched-at all (plane_lists start) slot [] all-long in
       map-set view planes slot q
       ∙ ap (λ (l : List (List ℕ)). set l slot q.items) inv
-      ∙ patched-next all (planes_in start) slot q.items [] all-long (omega (arith, start-long, length-map cs coding_in))
+      ∙ patched-next all (plane_lists start) slot q.items [] all-long (omega (
+        arith,
+        start-long,
+        length-map cs coding_in,
+      ))
       (new ∙ ap (λ (l : List ℕ). l ++ samples_of (down_in c) (coding_in c) (map to_block v.items)) before
-      ∙ sym (strips-at (map coding_in cs) (arrays_in old) (planes_in start) slot
+      ∙ sym (strips-at (map coding_in cs) (arrays_in old) (plane_lists start) slot
       (arrays-long cs old sizes) start-long (omega (arith, length-map cs coding_in))
-      ∙ ap (λ (l : List ℕ). get_or (planes_in start) slot [] ++ l)
+      ∙ ap (λ (l : List ℕ). get_or (plane_lists start) slot [] ++ l)
       (strip-here cs old sizes slot c v h is held)))
 
-  pub planes-all : (planes : List Plane) (slot : ℕ) → length cs ≤ slot → planes_in planes
-      ≡ patched slot all (planes_in start) → planes_in planes ≡ all
-  planes-all planes slot h e = e ∙ patched-all all (planes_in start) slot all-long (omega
+  pub planes-all : (planes : List Plane) (slot : ℕ) → length cs ≤ slot → plane_lists planes
+      ≡ patched slot all (plane_lists start) → plane_lists planes ≡ all
+  planes-all planes slot h e = e ∙ patched-all all (plane_lists start) slot all-long (omega
       (arith, start-long, length-map cs coding_in))

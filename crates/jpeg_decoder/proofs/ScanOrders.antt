@@ -10,7 +10,7 @@ use Rattle.std.specs.List.{AllByRecursion, range_with_len, flat_map}
 use Rattle.jpeg_segments.specs.Frame.{Frame, Component}
 use Rattle.jpeg_streams.specs.Order.{Spot, grid_of, mcu_size, own_spots, spots_of}
 use Rattle.jpeg_streams.specs.InTurn.{Fits}
-use Rattle.jpeg_streams.specs.McuRows.{row_at, rows_of}
+use Rattle.jpeg_streams.specs.McuRows.{mcu_row, rows_of}
 use Rattle.jpeg_streams.proofs.CountedScans.{some-product}
 use Rattle.jpeg_segments.specs.FrameView.{component_in}
 use Rattle.jpeg_decoder.specs.declared.scan.Coded.{Coded}
@@ -49,7 +49,7 @@ pub several-order : (frame : Frame) (cs : List Component) (n : ℕ) (o : ScanOrd
     → AllByRecursion (Fits frame) cs → o.members.items ≡ members_from 0 cs → o.wide ≡ frame.mcus_wide
     → o.high ≡ frame.mcus_high → o.lines ≡ 1 → o.rows ≡ frame.mcus_high → o.interval ≡ n * length o.members.items
     → IsOrderOf frame cs n o
-unfolding mcu_size spots_of row_at
+unfolding mcu_size spots_of mcu_row
 several-order frame (c ∷ d ∷ more) n o h fits members wide high lines rows interval =
     grind (arith, common_steps, length-members, all_walked, sum_by-cons, some-product)
 several-order frame _ n o h fits members wide high lines rows interval = absurd (omega arith)
@@ -67,7 +67,7 @@ pub alone-order : (frame : Frame) (c : Component) (n : ℕ) (o : ScanOrder)
     → o.members.items ≡ own_member (grid_of c) ∷ [] → o.wide ≡ (grid_of c).own_wide
     → o.high ≡ (grid_of c).own_high → o.lines ≡ c.factors.vertical → o.rows ≡ frame.mcus_high → o.interval ≡ n
     → IsOrderOf frame (c ∷ []) n o
-unfolding mcu_size spots_of row_at
+unfolding mcu_size spots_of mcu_row
 alone-order frame c n o members wide high lines rows interval =
     let g = grid_of c in
     let walked : (k : ℕ) → spots_at o.members.items (raster o.wide k) ≡ own_spots (record g { own_high = k })

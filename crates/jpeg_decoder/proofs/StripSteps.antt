@@ -18,7 +18,7 @@ use Rattle.jpeg_streams.specs.McuRows.{zero_rows, on_arrays}
 use Rattle.jpeg_decoder.specs.Scanning.{components_in, arrays_in, sizes_of, wide_in, down_in}
 use Rattle.jpeg_decoder.specs.Steps.{coding_in}
 use Rattle.jpeg_streams.specs.ScanSegments.{Coding, components_of}
-use Rattle.jpeg_decoder.specs.Strips.{row_sizes, samples_in, samples_of, zeros_of, with_strips}
+use Rattle.jpeg_decoder.specs.Strips.{row_sizes, strip_samples, samples_of, zeros_of, with_strips}
 use Rattle.jpeg_decoder.specs.Strips.{strips_from}
 use Rattle.jpeg_decoder.proofs.HeldBlocks.{Held, sizes-long}
 use Rattle.std.proofs.lemmas.Grind.{common_steps}
@@ -103,11 +103,11 @@ abbrev pub lengths : List (List ℕ) → List ℕ
 lengths planes = map (λ (l : List ℕ). length l) planes
 
 pub lengths-none : (cs : List Coded) (planes : List (List ℕ)) → planes ≡ map (λ (c : Coding). []) (map coding_in cs)
-    → lengths planes ≡ map (λ (c : Coded). samples_in (0 * down_in c) c) cs
+    → lengths planes ≡ map (λ (c : Coded). strip_samples (0 * down_in c) c) cs
 lengths-none cs planes e = ap lengths e ∙ go cs
   where
     go : (cs : List Coded) → lengths (map (λ (c : Coding). []) (map coding_in cs))
-        ≡ map (λ (c : Coded). samples_in (0 * down_in c) c) cs
+        ≡ map (λ (c : Coded). strip_samples (0 * down_in c) c) cs
     go [] = refl
     go (c ∷ cs) =
         let s = c.component.now.dct_scale in
@@ -119,14 +119,14 @@ lengths-none cs planes e = ap lengths e ∙ go cs
 
 pub lengths-next : (cs : List Coded) (arrays : Arrays) (planes : List (List ℕ)) (row : ℕ)
     → length arrays ≡ length (map coding_in cs)
-    → lengths planes ≡ map (λ (c : Coded). samples_in (row * down_in c) c) cs
+    → lengths planes ≡ map (λ (c : Coded). strip_samples (row * down_in c) c) cs
     → lengths (with_strips (map coding_in cs) arrays planes)
-    ≡ map (λ (c : Coded). samples_in ((row + 1) * down_in c) c) cs
+    ≡ map (λ (c : Coded). strip_samples ((row + 1) * down_in c) c) cs
 unfolding with_strips
 lengths-next [] [] [] row e h = refl
 lengths-next (c ∷ cs) (a ∷ arrays) (p ∷ planes) row e h =
     let s = c.component.now.dct_scale in
-    let head : length p ≡ samples_in (row * down_in c) c = ap (λ (l : List ℕ). get_or l 0 0) h in
+    let head : length p ≡ strip_samples (row * down_in c) c = ap (λ (l : List ℕ). get_or l 0 0) h in
     let tail = ap (λ (l : List ℕ). drop 1 l) h in
     grind (
       arith,
@@ -147,7 +147,7 @@ row-count cs vs sizes = grind (arith, common_steps, length-map, sizes-long)
 
 -- a plane of all rows of MCUs has the samples of all blocks
 pub lengths-all : (frame : Frame) (cs : List Coded) → AllByRecursion (Fits frame) (components_in cs)
-    → map (λ (c : Coded). samples_in (frame.mcus_high * down_in c) c) cs
+    → map (λ (c : Coded). strip_samples (frame.mcus_high * down_in c) c) cs
     ≡ map (λ (c : Component). c.blocks_high * c.scale * (c.blocks_wide * c.scale)) (components_in cs)
 lengths-all frame [] fits = refl
 lengths-all frame (c ∷ cs) fits = grind (arith, common_steps, mul_comm, lengths-all frame cs fits.1)

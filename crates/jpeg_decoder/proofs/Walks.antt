@@ -4,7 +4,7 @@ use Rattle.std.proofs.Common.{refl, arith, get_or}
 use Rattle.std.proofs.lemmas.List.{drop_all}
 use Rattle.jpeg_decoder.specs.declared.spots.Member.{Member}
 use Rattle.jpeg_decoder.proofs.ReadLists.{dropped}
-use Rattle.jpeg_decoder.specs.Walk.{rows_from, raster_left, spot_at, spots_left}
+use Rattle.jpeg_decoder.specs.Walk.{row_positions, raster_left, spot_at, spots_left}
 use Rattle.std.proofs.lemmas.Grind.{common_steps}
 
 -- ---- a raster
@@ -22,7 +22,7 @@ pub rows-none : (wide row column columns below rows : ℕ) → columns ≡ 0 →
     → raster_left wide row column columns below rows ≡ []
 rows-none wide row column columns below rows e f = grind (arith, common_steps)
 
-no-rows : (below rows : ℕ) → rows_from 0 below rows ≡ []
+no-rows : (below rows : ℕ) → row_positions 0 below rows ≡ []
 no-rows below zero = refl
 no-rows below (suc n) = no-rows (below + 1) n
 

@@ -13,8 +13,8 @@ use Rattle.jpeg_bits.specs.declared.marker.Marker.TheVariants.{EOI, SOS}
 use Rattle.jpeg_segments.specs.declared.parser.CodingProcess.TheVariants.{Lossless}
 use Rattle.jpeg_segments.specs.Frame.{Frame, Component}
 use Rattle.jpeg_segments.specs.ScanHeaders.{ScanHeader, scan_payload, IsScan}
-use Rattle.jpeg_segments.specs.WrittenSegments.{sized, Segment}
-use Rattle.jpeg_segments.specs.WrittenSegments.{Header, code_of, payload_of, frame_written}
+use Rattle.jpeg_segments.specs.WrittenSegments.{with_length, Segment}
+use Rattle.jpeg_segments.specs.WrittenSegments.{Header, marker_code, payload_of, frame_written}
 use Rattle.jpeg_segments.proofs.Fields.{not-refused, kept}
 use Rattle.jpeg_segments.proofs.HeaderRules.{header-rules}
 use Rattle.jpeg_segments.specs.ScanHeader.{scan_of}
@@ -32,7 +32,8 @@ use Rattle.jpeg_streams.specs.Stream.{start_at, segment_at, turn_at, segments_wi
 use Rattle.jpeg_streams.specs.Stream.{header_at, rest_at, meaning, sized_meaning, sized_to, Told, told_of}
 use Rattle.jpeg_streams.specs.ScanSegments.{scan_before}
 use Rattle.jpeg_streams.specs.FoundPictures.{picture_of, samples_picture}
-use Rattle.jpeg_streams.specs.WrittenLossless.{Samples, StandsInLossless, Writes, WritesSamples, WritesScan, closed}
+use Rattle.jpeg_streams.specs.WrittenLossless.{Samples, StandsInLossless, Writes, WritesSamples}
+use Rattle.jpeg_streams.specs.WrittenLossless.{WritesSamplesScan, closed}
 use Rattle.jpeg_streams.specs.InTurn.{IsIn}
 use Rattle.jpeg_streams.specs.WrittenLossless.{said_after_scan, scan, segment}
 use Rattle.jpeg_streams.proofs.ReadTurns.{frame-or, frame-stays as unchanged, segment-tail, scan-tail, some-none}
@@ -126,7 +127,10 @@ all-in P (k ∷ ks) sent h e = (one-held P k sent h e.0, all-in P ks sent h e.1)
 segment-held : (before : Before) (said : Found) (decided : List (Option (List ℕ))) (s : Segment) (rest : List ℕ)
     → StandsInLossless said s
     → segment_at (marker_for s) before (and_samples said decided)
-    (sized (payload_of s) ++ rest) ≡ Ok (onward (and_samples (found_after said s) decided), rest)
+    (with_length (payload_of s) ++ rest) ≡ Ok (
+      onward (and_samples (found_after said s) decided),
+      rest,
+    )
 segment-held before said decided s rest may =
     grind (arith, common_steps, frame-turn, and_samples, lossless-accepted, segment-read)
 
@@ -139,7 +143,7 @@ starts samples said sent bytes final (segment said' final' sent' fill s more may
     segment-starts said.frame fill s more may.0
 starts samples said sent bytes final (scan said' final' sent' frame fill h data_bytes more framed lossless is data_of
     w) =
-    scan-starts fill (sized (scan_payload h) ++ (data_bytes ++ more))
+    scan-starts fill (with_length (scan_payload h) ++ (data_bytes ++ more))
 
 -- ---- what is kept
 
@@ -218,16 +222,17 @@ closed-read samples rest turns said sent frame fill framed lossless sends before
 segment-next : (samples : Samples) (rest : List ℕ) (turns : ℕ) (said final : Found) (sent : List ℕ) (fill : ℕ)
     (s : Segment) (more : List ℕ) → StandsInLossless said s
     → Reads samples rest turns (found_after said s) final sent more
-    → Reads samples rest (suc turns) said final sent (marker fill (code_of s) (sized (payload_of s) ++ more))
+    → Reads samples rest (suc turns) said final sent (marker fill (marker_code s) (with_length
+    (payload_of s) ++ more))
 segment-next samples rest turns said final sent fill s more may again before decided met all is four held stands =
     after-turn samples turns before Elsewhere said (found_after said s) final decided decided met None all
     (more ++ rest) rest
     (turn-on turns before (and_samples said decided) met all (more ++ rest)
     (onward (and_samples (found_after said s) decided))
     (stands.turn before (and_samples said decided) ∙ ap (turn_at before (and_samples said decided) None)
-    (segment-tail fill (code_of s) (sized (payload_of s)) more rest)
-    ∙ marker-turn before (and_samples said decided) fill (code_of s) (marker_for s)
-    (sized (payload_of s) ++ (more ++ rest)) (segment-marker said.frame s may.0)
+    (segment-tail fill (marker_code s) (with_length (payload_of s)) more rest)
+    ∙ marker-turn before (and_samples said decided) fill (marker_code s) (marker_for s)
+    (with_length (payload_of s) ++ (more ++ rest)) (segment-marker said.frame s may.0)
     ∙ segment-held before said decided s (more ++ rest) may) refl)
     (again Elsewhere decided None (more ++ rest) (segment-said said s may is) four held (stands-here (more ++ rest)))
 
@@ -239,9 +244,10 @@ places-below frame h is = grind (arith, common_steps, components-of, recursion_f
 scan-next : (samples : Samples) (rest : List ℕ) (turns : ℕ) (said final : Found) (sent : List ℕ) (frame : Frame)
     (fill : ℕ) (h : ScanHeader) (data_bytes more : List ℕ)
     → said.frame ≡ Some frame → frame.process ≡ Lossless → IsScan frame h
-    → WritesScan said frame h samples data_bytes → Starts more
+    → WritesSamplesScan said frame h samples data_bytes → Starts more
     → Reads samples rest turns (said_after_scan said) final (places_of h.choices ++ sent) more
-    → Reads samples rest (suc turns) said final sent (marker fill 218 (sized (scan_payload h) ++ (data_bytes ++ more)))
+    → Reads samples rest (suc turns) said final sent (marker fill 218 (with_length (scan_payload h)
+    ++ (data_bytes ++ more)))
 unfolding marker_of
 scan-next samples rest turns said final sent frame fill h data_bytes more framed lossless header w s again before
     decided met all is four held stands =
@@ -256,11 +262,14 @@ scan-next samples rest turns said final sent frame fill h data_bytes more framed
     left rest
     (turn-on turns before (and_samples said decided) met all left (turn_after said places samples decided s.m)
     (stands.turn before (and_samples said decided)
-    ∙ ap (turn_at before (and_samples said decided) None) (scan-tail fill 218 (sized (scan_payload h)) data_bytes more
-    rest ∙ ap (λ (l : List ℕ). marker fill 218 (sized (scan_payload h) ++ (data_bytes ++ l))) there)
-    ∙ marker-turn before (and_samples said decided) fill 218 SOS (sized (scan_payload h)
+    ∙ ap (turn_at before (and_samples said decided) None) (scan-tail fill 218 (with_length
+    (scan_payload h)) data_bytes more
+    rest ∙ ap (λ (l : List ℕ). marker fill 218 (with_length (scan_payload h) ++ (data_bytes ++ l)))
+    there)
+    ∙ marker-turn before (and_samples said decided) fill 218 SOS (with_length (scan_payload h)
     ++ (data_bytes ++ marker s.fill s.code left)) refl
-    ∙ scan-turn before (and_samples said decided) (sized (scan_payload h) ++ (data_bytes ++ marker s.fill s.code left))
+    ∙ scan-turn before (and_samples said decided) (with_length (scan_payload h) ++ (data_bytes ++
+    marker s.fill s.code left))
     ∙ scan-read said decided frame h samples data_bytes left s.fill s.code s.m w framed header lossless shaped is.tables
     s.makes s.ends) refl)
     (again (scan_before said) next (Some s.m) left (record { tables = is.tables; shaped = is.shaped })
@@ -279,14 +288,15 @@ stream-read samples rest (suc turns) said sent bytes final (closed said' sent' f
     closed-read samples rest turns said sent frame fill framed lossless all
 stream-read samples rest (suc turns) said sent bytes final (segment said' final' sent' fill s more may w) h =
     segment-next samples rest turns said final sent fill s more may
-    (stream-read samples rest turns (found_after said s) sent more final w (marker-longer fill (code_of s) turns
-    (sized (payload_of s)) more h))
+    (stream-read samples rest turns (found_after said s) sent more final w (marker-longer fill
+    (marker_code s) turns
+    (with_length (payload_of s)) more h))
 stream-read samples rest (suc turns) said sent bytes final (scan said' final' sent' frame fill h' data_bytes more framed
     lossless is data_of w) h =
     scan-next samples rest turns said final sent frame fill h' data_bytes more framed lossless is data_of
     (starts samples (said_after_scan said) (places_of h'.choices ++ sent) more final w)
     (stream-read samples rest turns (said_after_scan said) (places_of h'.choices ++ sent) more final w
-    (scan-longer fill 218 turns (sized (scan_payload h')) data_bytes more h))
+    (scan-longer fill 218 turns (with_length (scan_payload h')) data_bytes more h))
 
 -- ---- the picture
 
@@ -422,17 +432,19 @@ header-read samples rest decided (suc turns) before said sent bytes final (scan 
     more framed lossless header data_of w) l is e = some-none f said.frame framed e
 header-read samples rest decided (suc turns) before said sent bytes final (segment said' final' sent' fill s more may w)
     l is e =
-    let shorter = marker-longer fill (code_of s) turns (sized (payload_of s)) more l in
+    let shorter = marker-longer fill (marker_code s) turns (with_length (payload_of s)) more l in
     let next = segment-said said s may is in
     let step : segments_within (suc turns) true before (and_samples said decided) None
-    (marker fill (code_of s) (sized (payload_of s) ++ more) ++ rest)
+    (marker fill (marker_code s) (with_length (payload_of s) ++ more) ++ rest)
     ≡ segments_within turns true Elsewhere (and_samples (found_after said s) decided) None (more ++ rest)
-    = head-on turns before (and_samples said decided) None (marker fill (code_of s) (sized (payload_of s) ++ more)
+    = head-on turns before (and_samples said decided) None (marker fill (marker_code s)
+    (with_length (payload_of s) ++ more)
     ++ rest) (more ++ rest) (onward (and_samples (found_after said s) decided)) e
-    (ap (turn_at before (and_samples said decided) None) (segment-tail fill (code_of s) (sized (payload_of s)) more
+    (ap (turn_at before (and_samples said decided) None) (segment-tail fill (marker_code s)
+    (with_length (payload_of s)) more
     rest)
-    ∙ marker-turn before (and_samples said decided) fill (code_of s) (marker_for s)
-    (sized (payload_of s) ++ (more ++ rest)) (segment-marker said.frame s may.0)
+    ∙ marker-turn before (and_samples said decided) fill (marker_code s) (marker_for s)
+    (with_length (payload_of s) ++ (more ++ rest)) (segment-marker said.frame s may.0)
     ∙ segment-held before said decided s (more ++ rest) may) refl in
     frame-or s
     (λ number h f.

@@ -15,8 +15,9 @@ use Rattle.jpeg_bits.specs.declared.marker.Marker.{Marker}
 use Rattle.jpeg_bits.specs.declared.scan.Predictor.{Predictor}
 use Rattle.jpeg_segments.specs.Frame.{Component, Frame, ceiling}
 use Rattle.jpeg_segments.specs.ScanHeader.{predictor_by, predictor_of, scan_of}
-use Rattle.jpeg_segments.specs.ScanHeaders.{Choice, IsScan, ScanHeader, scan_payload, scan_written, selector_of}
-use Rattle.jpeg_segments.specs.WrittenSegments.{sized}
+use Rattle.jpeg_segments.specs.ScanHeaders.{Choice, IsScan, ScanHeader, scan_payload, scan_written}
+use Rattle.jpeg_segments.specs.ScanHeaders.{selector_for}
+use Rattle.jpeg_segments.specs.WrittenSegments.{with_length}
 use Rattle.jpeg_segments.specs.declared.parser.CodingProcess.{CodingProcess}
 use Rattle.jpeg_segments.specs.declared.parser.CodingProcess.TheVariants.{Lossless}
 use Rattle.jpeg_segments.proofs.Fields.{nibbles-low}
@@ -38,7 +39,7 @@ use Rattle.jpeg_streams.specs.ScanSegments.{lossless_scan, scan_before, scan_seg
 use Rattle.jpeg_streams.specs.Segments.{Turn}
 use Rattle.jpeg_streams.specs.Found.{Found}
 use Rattle.jpeg_streams.specs.WrittenLossless.{AreCodings, HoldSamples, IsInterval, Samples}
-use Rattle.jpeg_streams.specs.WrittenLossless.{WritesScan, said_after_scan}
+use Rattle.jpeg_streams.specs.WrittenLossless.{WritesSamplesScan, said_after_scan}
 use Rattle.jpeg_streams.proofs.ReadTurns.{IsEnd, then-ok}
 use Rattle.jpeg_streams.proofs.EncodedSamples.{rows-count}
 use Rattle.jpeg_streams.proofs.LosslessFrames.{IsShaped}
@@ -241,8 +242,9 @@ planes-are samples w _ _ _ g h = absurd h
 
 codings-read : (said : Found) (frame from : Frame) (choices : List Choice) (codings : List LosslessCoding)
     → AreCodings said frame choices codings
-    → lossless_codings said.huffman.dc frame (map (λ s. s.component) (map (selector_of from) choices))
-    (map (λ s. s.dc) (map (selector_of from) choices)) ≡ Ok codings
+    → lossless_codings said.huffman.dc frame (map (λ s. s.component) (map (selector_for from)
+    choices))
+    (map (λ s. s.dc) (map (selector_for from) choices)) ≡ Ok codings
 unfolding lossless_codings AreCodings lossless_coding
 codings-read said frame from [] [] h = refl
 codings-read said frame from (c ∷ choices) (k ∷ codings) h =
@@ -329,7 +331,7 @@ tables-of-parts codings h = grind (arith, common_steps, mapped-tables)
 -- ---- the data
 
 pub scan-sized : (said : Found) (frame : Frame) (h : ScanHeader) (samples : Samples) (bytes : List ℕ)
-    → IsShaped frame → WritesScan said frame h samples bytes
+    → IsShaped frame → WritesSamplesScan said frame h samples bytes
     → AllByRecursion (SizedAt samples frame.components) (places_of h.choices)
 scan-sized said frame h samples bytes is w =
     let way = way_of frame (predictor_by h.first) 0 w.codings in
@@ -344,7 +346,8 @@ scan-sized said frame h samples bytes is w =
 -- the scan of data and a marker after it
 data-read : (said : Found) (frame : Frame) (h : ScanHeader) (samples : Samples) (bytes rest : List ℕ)
     (fill code : ℕ) (m : Marker)
-    (w : WritesScan said frame h samples bytes) → IsShaped frame → HasTables said.huffman → marker_of code ≡ Some m
+    (w : WritesSamplesScan said frame h samples bytes) → IsShaped frame → HasTables said.huffman →
+    marker_of code ≡ Some m
     → scan_at (way_of frame (predictor_by h.first) 0 w.codings) (mcus_down frame w.codings) said.restart 0
     (bytes ++ marker fill code rest)
     ≡ Ok ((planes_for samples (map (λ k. k.place) w.codings), Some m), rest)
@@ -376,7 +379,7 @@ unfolding scan_of
 predictor-of frame h e = ap (λ (p : CodingProcess). predictor_of p h.first) e
 
 pub components-of : (frame : Frame) (choices : List Choice)
-    → map (λ s. s.component) (map (selector_of frame) choices) ≡ places_of choices
+    → map (λ s. s.component) (map (selector_for frame) choices) ≡ places_of choices
 components-of frame [] = refl
 components-of frame (c ∷ choices) = ap (λ (l : List ℕ). c.component ∷ l) (components-of frame choices)
 
@@ -395,9 +398,11 @@ by said frame codings bytes predictor point =
 
 pub scan-read : (said : Found) (decided : List (Option (List ℕ))) (frame : Frame) (h : ScanHeader)
     (samples : Samples) (bytes rest : List ℕ)
-    (fill code : ℕ) (m : Marker) → WritesScan said frame h samples bytes → said.frame ≡ Some frame → IsScan frame h
+    (fill code : ℕ) (m : Marker) → WritesSamplesScan said frame h samples bytes → said.frame ≡ Some
+    frame → IsScan frame h
     → frame.process ≡ Lossless → IsShaped frame → HasTables said.huffman → marker_of code ≡ Some m → IsEnd m
-    → scan_segment (and_samples said decided) (sized (scan_payload h) ++ (bytes ++ marker fill code rest))
+    → scan_segment (and_samples said decided) (with_length (scan_payload h) ++ (bytes ++ marker
+    fill code rest))
     ≡ Ok (turn_after said (places_of h.choices) samples decided m, rest)
 unfolding scan_segment lossless_scan scan_of
 scan-read said decided frame h samples bytes rest fill code m w framed scan lossless is tables makes end =

@@ -17,8 +17,8 @@ abbrev pub bytes_a_sample : ℕ → ℕ
 bytes_a_sample precision = if nat_le precision 8 then 1 else 2
 
 -- the bytes of a picture: for each pixel those of a sample of each component
-unfoldable pub picture_bytes : Frame → ℕ
-picture_bytes f =
+unfoldable pub picture_size : Frame → ℕ
+picture_size f =
     f.output_width * f.output_height * (length f.components * bytes_a_sample f.precision)
 
 -- those of the picture of a frame of blocks, by what `info` says of it
@@ -34,12 +34,12 @@ HasBytesBy Lossless f pixels = Unit {0}
 -- A picture has the bytes that its frame says, and one of blocks those that its format says.
 abbrev pub IsWhole : Option Frame → List ℕ → Type 0
 IsWhole None pixels = Unit {0}
-IsWhole (Some f) pixels = (length pixels ≡ picture_bytes f) × HasBytesBy f.process f pixels
+IsWhole (Some f) pixels = (length pixels ≡ picture_size f) × HasBytesBy f.process f pixels
 
 -- so many bytes are enough for the picture of a frame
 abbrev pub HasRoom : Option Frame → ℕ → Type 0
 HasRoom None room = Unit {0}
-HasRoom (Some f) room = picture_bytes f ≤ room
+HasRoom (Some f) room = picture_size f ≤ room
 
 -- the samples of a pixel, by its format
 abbrev pub samples_a_pixel : PixelFormat → ℕ
@@ -76,9 +76,9 @@ sum_of bytes (c ∷ more) = bytes c + sum_of bytes more
 
 -- The picture beside its planes: the one plane of a frame of blocks becomes the picture itself.
 abbrev pub beside_planes : CodingProcess → Frame → ℕ
-beside_planes DctSequential f = if length f.components == 1 then 0 else picture_bytes f
-beside_planes DctProgressive f = if length f.components == 1 then 0 else picture_bytes f
-beside_planes Lossless f = picture_bytes f
+beside_planes DctSequential f = if length f.components == 1 then 0 else picture_size f
+beside_planes DctProgressive f = if length f.components == 1 then 0 else picture_size f
+beside_planes Lossless f = picture_size f
 
 -- The blocks that are read, the planes and the picture, and the most of them at a time: blocks and
 -- planes while scans are read, and planes and picture at the end.
@@ -89,6 +89,6 @@ decoding_bytes f =
     record {
       coefficients = coefficients;
       planes = planes;
-      picture = picture_bytes f;
+      picture = picture_size f;
       peak = max (coefficients + planes) (planes + beside_planes f.process f);
     }

@@ -1,16 +1,16 @@
 -- What a caller sees of planes that grow by rows of MCUs, each on its own or all in one buffer.
 use Rattle.std.specs.Prelude.{◌≡◌, ◌≤◌, ◌<◌, ℕ, ◌*◌, ◌/◌, Bool, false, true, List, length}
 use Rattle.std.specs.List.{AllByRecursion}
-use Rattle.jpeg_pixels.specs.JointPlanes.{IsSmall, joint_planes, row_size}
+use Rattle.jpeg_pixels.specs.JointPlanes.{HasFrameSizes, joint_planes, joint_row_size}
 use Rattle.jpeg_pixels.specs.declared.joint_planes.JointPlanes.{JointPlanes}
 use Rattle.jpeg_pixels.specs.declared.joint_planes.JointShape.{JointShape}
 use Rattle.jpeg_streams.specs.ScanSegments.{Coding}
-use Rattle.jpeg_decoder.specs.Strips.{planes_in}
+use Rattle.jpeg_decoder.specs.Strips.{plane_lists}
 use Rattle.jpeg_decoder.specs.declared.strips.GrowingPlanes.{GrowingPlanes}
 use Rattle.jpeg_decoder.specs.declared.strips.GrowingPlanes.TheVariants as growing
 
 abbrev pub growing_in : GrowingPlanes → List (List ℕ)
-growing_in (growing.Own planes) = planes_in planes.items
+growing_in (growing.Own planes) = plane_lists planes.items
 growing_in (growing.Joint joint) = joint_planes joint.shape joint.samples.items
 
 abbrev pub is_joint : GrowingPlanes → Bool
@@ -25,15 +25,15 @@ pub record IsOfShape (shape : JointShape) (c : Coding) : Type 0 where
 
 -- Planes in one buffer grow by whole rows of MCUs of these components.
 pub record IsJointOf (codings : List Coding) (joint : JointPlanes) : Type 0 where
-  pub small : IsSmall joint.shape
+  pub small : HasFrameSizes joint.shape
   pub count : joint.shape.count ≡ length codings
   pub some : 1 ≤ joint.shape.count
   pub each : AllByRecursion (IsOfShape joint.shape) codings
   pub whole : length joint.samples.items
-      ≡ length joint.samples.items / row_size joint.shape * row_size joint.shape
+      ≡ length joint.samples.items / joint_row_size joint.shape * joint_row_size joint.shape
 
 -- planes of a scan's components, or none
-abbrev pub IsGrowing : List Coding → GrowingPlanes → Type 0
-IsGrowing codings (growing.Own planes) =
+abbrev pub GrowsFor : List Coding → GrowingPlanes → Type 0
+GrowsFor codings (growing.Own planes) =
     0 < length planes.items → length planes.items ≡ length codings
-IsGrowing codings (growing.Joint joint) = IsJointOf codings joint
+GrowsFor codings (growing.Joint joint) = IsJointOf codings joint

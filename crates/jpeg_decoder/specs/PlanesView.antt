@@ -4,7 +4,7 @@ use Rattle.std.specs.Prelude.{◌≡◌, ℕ, ◌*◌, List, [], ◌∷◌, leng
 use Rattle.std.specs.Prelude.{IfSome, None}
 use Rattle.std.specs.declared.alloc.Global.{Global}
 use Rattle.std.specs.declared.vec.Vec.{Vec}
-use Rattle.jpeg_pixels.specs.JointPlanes.{IsSmall, joint_planes, row_size}
+use Rattle.jpeg_pixels.specs.JointPlanes.{HasFrameSizes, joint_planes, joint_row_size}
 use Rattle.jpeg_pixels.specs.declared.joint_planes.JointPlanes.{JointPlanes}
 use Rattle.jpeg_decoder.specs.declared.planes.Planes.TheInside.{Inside}
 
@@ -13,8 +13,8 @@ planes_in planes = map (λ p. option_map (λ v. v.items) p) planes
 
 -- All rows of MCUs have come.
 pub record IsFullJoint (joint : JointPlanes) : Type 0 where
-  pub small : IsSmall joint.shape
-  pub full : length joint.samples.items ≡ joint.shape.rows * row_size joint.shape
+  pub small : HasFrameSizes joint.shape
+  pub full : length joint.samples.items ≡ joint.shape.rows * joint_row_size joint.shape
 
 -- What always holds of planes that are decided.
 pub record HasFullJoint (p : Inside) : Type 0 where

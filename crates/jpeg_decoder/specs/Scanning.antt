@@ -67,14 +67,14 @@ abbrev pub kept_blocks : Bool → Reads Counted → Reads Counted
 kept_blocks keeps p = p >>= kept_after keeps
 
 -- the block of a slot and an index is held
-pub record IsHeld (sizes : List ℕ) (slot index : ℕ) : Type 0 where
+pub record IsKeptBlock (sizes : List ℕ) (slot index : ℕ) : Type 0 where
   pub has_slot : slot < length sizes
   pub has_index : index < get_or sizes slot 0
 
 -- a spot of a scan of so many slots, whose block is held
 pub record IsSpotOf (slots : ℕ) (sizes : List ℕ) (s : Spot) : Type 0 where
   pub slot : s.slot < slots
-  pub held : IsHeld sizes s.slot s.index
+  pub held : IsKeptBlock sizes s.slot s.index
 
 -- ---- how many blocks a component has in a line, and how many lines in an MCU
 

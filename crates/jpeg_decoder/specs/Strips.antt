@@ -83,8 +83,8 @@ no_samples codings = map (λ c. []) codings
 
 -- ---- what a caller sees
 
-abbrev pub planes_in : List (Vec ℕ Global) → List (List ℕ)
-planes_in planes = map (λ v. v.items) planes
+abbrev pub plane_lists : List (Vec ℕ Global) → List (List ℕ)
+plane_lists planes = map (λ v. v.items) planes
 
 -- how many blocks each component has in a row of MCUs
 abbrev pub row_sizes : List Coded → List ℕ
@@ -95,5 +95,5 @@ abbrev pub zeros_of : List ℕ → Arrays
 zeros_of sizes = map (λ n. replicate n zero_block) sizes
 
 -- the number of samples of a component's blocks that are `high` blocks high
-abbrev pub samples_in : ℕ → Coded → ℕ
-samples_in high c = c.component.now.dct_scale * wide_in c * (c.component.now.dct_scale * high)
+abbrev pub strip_samples : ℕ → Coded → ℕ
+strip_samples high c = c.component.now.dct_scale * wide_in c * (c.component.now.dct_scale * high)

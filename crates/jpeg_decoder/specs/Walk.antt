@@ -5,7 +5,7 @@ use Rattle.std.specs.Prelude.{length, Option, Some, None}
 use Rattle.std.specs.List.{range_with_len, flat_map}
 use Rattle.jpeg_segments.specs.Frame.{Frame, Component}
 use Rattle.jpeg_streams.specs.Order.{Spot, mcu_size, spots_of}
-use Rattle.jpeg_streams.specs.McuRows.{row_at}
+use Rattle.jpeg_streams.specs.McuRows.{mcu_row}
 use Rattle.jpeg_streams.specs.declared.grids.Grid.{Grid}
 use Rattle.jpeg_decoder.specs.declared.scan_order.ScanOrder.{ScanOrder}
 use Rattle.jpeg_decoder.specs.declared.spots.Member.{Member}
@@ -18,17 +18,17 @@ abbrev pub positions_of : ℕ → ℕ → ℕ → List (ℕ × ℕ)
 positions_of row column n = map (λ c. (row, c)) (range_with_len column n)
 
 -- so many rows, from a row on
-abbrev pub rows_from : ℕ → ℕ → ℕ → List (ℕ × ℕ)
-rows_from wide row n = flat_map (λ r. positions_of r 0 wide) (range_with_len row n)
+abbrev pub row_positions : ℕ → ℕ → ℕ → List (ℕ × ℕ)
+row_positions wide row n = flat_map (λ r. positions_of r 0 wide) (range_with_len row n)
 
 -- the positions of a raster, each a row and a column
 abbrev pub raster : ℕ → ℕ → List (ℕ × ℕ)
-raster wide high = rows_from wide 0 high
+raster wide high = row_positions wide 0 high
 
 -- what is left: the rest of a row, and the rows below
 abbrev pub raster_left : ℕ → ℕ → ℕ → ℕ → ℕ → ℕ → List (ℕ × ℕ)
 raster_left wide row column columns below rows =
-    positions_of row column columns ++ rows_from wide below rows
+    positions_of row column columns ++ row_positions wide below rows
 
 -- the first position of those to come, and the others; or none
 abbrev pub NextPosition : List (ℕ × ℕ) → Option (ℕ × ℕ) → List (ℕ × ℕ) → Type 0
@@ -105,4 +105,4 @@ pub record IsOrderOf (frame : Frame) (components : List Component) (n : ℕ) (o 
     pub interval : o.interval ≡ n * mcu_size components
     pub rows : o.rows ≡ frame.mcus_high
     pub all : walk_of o ≡ spots_of frame components
-    pub each : (row : ℕ) → row < frame.mcus_high → walk_of_row o row ≡ row_at frame components row
+    pub each : (row : ℕ) → row < frame.mcus_high → walk_of_row o row ≡ mcu_row frame components row

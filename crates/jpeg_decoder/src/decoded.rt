@@ -196,7 +196,7 @@ impl Decoded {
     ghost use Rattle.jpeg_streams.specs.ScanSegments.{plane_by};
     ghost use Rattle.jpeg_streams.specs.Found.{Found, none_finished};
     ghost use Rattle.jpeg_pixels.specs.JointPlanes.{joint_planes};
-    ghost use Rattle.jpeg_decoder.specs.GrowingView.{IsGrowing, growing_in, is_joint};
+    ghost use Rattle.jpeg_decoder.specs.GrowingView.{GrowsFor, growing_in, is_joint};
     ghost use Rattle.jpeg_decoder.specs.PlanesView.{IsFullJoint};
     ghost use Rattle.jpeg_decoder.specs.Steps.{IsCodingOf, IsFirst};
     ghost use Rattle.jpeg_segments.specs.Frame.{AllHaveSampling};
@@ -335,7 +335,7 @@ impl Decoded {
         ensures none { IfOk result (λ planes.
             growing_in planes ≡ no_samples (map coding_in scan.now.components.items)) }
         ensures growing { IfOk result
-            (IsGrowing (map coding_in scan.now.components.items)) }
+            (GrowsFor (map coding_in scan.now.components.items)) }
         ensures first { IfOk result
             (λ planes. is_joint planes ≡ true → IsFirst self.now.planes scan.now) }
     {
@@ -371,7 +371,7 @@ impl Decoded {
     /// Adds the planes of a scan of a sequential frame.
     fn add_grown(&mut self, scan: &Scan<'_>, planes: GrowingPlanes, alloc: Global)
         requires places { All HasPlace scan.now.components.items }
-        requires grown { IsGrowing (map coding_in scan.now.components.items) planes }
+        requires grown { GrowsFor (map coding_in scan.now.components.items) planes }
         requires sizes { map length (growing_in planes)
             ≡ map (λ c. c.blocks_high * c.scale * (c.blocks_wide * c.scale))
             (components_in scan.now.components.items) }

@@ -14,7 +14,7 @@ ghost use Rattle.jpeg_streams.specs.DecodedImages.{DecodesImages};
 ghost use Rattle.jpeg_streams.specs.DecodedSamples.{DecodesSamples};
 ghost use Rattle.jpeg_decoder.specs.Seen.{found_in};
 ghost use Rattle.jpeg_decoder.specs.Bytes.{HasRoom, IsCounted, IsWhole, decoding_bytes};
-ghost use Rattle.jpeg_decoder.specs.Bytes.{picture_bytes};
+ghost use Rattle.jpeg_decoder.specs.Bytes.{picture_size};
 ghost use Rattle.jpeg_decoder.specs.HeaderAlone.{ReadsHeaderAlone};
 ghost use Rattle.jpeg_streams.specs.States.{IsInternal};
 ghost use Rattle.std.specs.Prelude.{◌≤◌, drop, length, take};
@@ -115,7 +115,7 @@ fn scale_state(state: &mut State, width: u16, height: u16) -> Option<(u16, u16)>
 fn size_within(state: &State, room: usize) -> Result<usize>
     requires framed { is_some (found_in state.now).frame ≡ true }
     requires frames { HasDecodedFrame (found_in state.now) }
-    ensures size { IfOk result (λ n. IfSome (found_in state.now).frame (λ f. n ≡ picture_bytes f)) }
+    ensures size { IfOk result (λ n. IfSome (found_in state.now).frame (λ f. n ≡ picture_size f)) }
     ensures room { IfOk result (λ n. n ≤ room) }
     ensures has_room { OnOk result (HasRoom (found_in state.now).frame room) }
     ensures short { OnErr result (HasRoom (found_in state.now).frame room → ⊥) }

@@ -5,11 +5,12 @@ ghost use Rattle.std.specs.Prelude.{true, option_map};
 ghost use Rattle.std.specs.List.{AllByRecursion};
 ghost use Rattle.jpeg_bits.specs.Passes.{Block};
 ghost use Rattle.jpeg_segments.specs.Frame.{Frame};
-ghost use Rattle.jpeg_segments.specs.WrittenSegments.{FrameHeader, IsFrame};
+ghost use Rattle.jpeg_segments.specs.WrittenSegments.{FrameHeader, IsFrameHeader};
 ghost use Rattle.jpeg_streams.specs.Output.{default_settings, header_line_of, output_of};
 ghost use Rattle.jpeg_streams.specs.SaidSegments.{HasPicture};
 ghost use Rattle.jpeg_streams.specs.Pixels.{info_of};
-ghost use Rattle.jpeg_streams.specs.ArrayPictures.{meaning_of_array, picture_of_array, Takes};
+ghost use Rattle.jpeg_streams.specs.ArrayPictures.{meaning_of_array, picture_of_array};
+ghost use Rattle.jpeg_streams.specs.ArrayPictures.{TakesPicture};
 ghost use Rattle.jpeg_streams.specs.Levels.{Is8Bit, Levels, cut, nothing_sent};
 ghost use Rattle.jpeg_streams.specs.Stream.{meaning, sized_meaning, sized_to, told_of};
 ghost use Rattle.jpeg_streams.specs.ScanSegments.{is_progressive};
@@ -77,14 +78,14 @@ pub fn images_have_pictures()
     ensures plain { (settings : Settings) (array : Coefficients) (bytes rest : List ℕ)
         (final : Found) (last : ℕ → Levels) →
         ((place row column : ℕ) → Is8Bit (array place row column)) →
-        WritesImage array bytes final last → Takes settings final →
+        WritesImage array bytes final last → TakesPicture settings final →
         (picture : List ℕ) × (picture_of_array settings final array last ≡ Ok picture)
         × (meaning settings (bytes ++ rest)
         ≡ Ok (record { 0 = record { 0 = told_of final; 1 = picture }; 1 = rest })) }
     ensures sized { (width height : ℕ) (settings : Settings) (array : Coefficients)
         (bytes rest : List ℕ) (final : Found) (last : ℕ → Levels) →
         ((place row column : ℕ) → Is8Bit (array place row column)) →
-        WritesImage array bytes final last → Takes settings (sized_to width height final) →
+        WritesImage array bytes final last → TakesPicture settings (sized_to width height final) →
         (picture : List ℕ)
         × (picture_of_array settings (sized_to width height final) array last ≡ Ok picture)
         × (sized_meaning width height settings (bytes ++ rest)
@@ -98,7 +99,7 @@ pub fn images_have_pictures()
 pub fn images_are_printed()
     ensures { (array : Coefficients) (image rest : List ℕ) (final : Found) (last : ℕ → Levels) →
         ((place row column : ℕ) → Is8Bit (array place row column)) →
-        WritesImage array image final last → Takes default_settings final →
+        WritesImage array image final last → TakesPicture default_settings final →
         (picture : List ℕ)
         × (picture_of_array default_settings final array last ≡ Ok picture)
         × (output_of (image ++ rest)
@@ -175,7 +176,7 @@ pub fn worked_images_are_written()
 /// or SOF2 that has a picture have one that sends every bit.
 pub fn every_image_has_a_stream()
     ensures { (number : ℕ) (h : FrameHeader) (array : Coefficients) →
-        number ≤ 2 → IsFrame number h → HasPicture h →
+        number ≤ 2 → IsFrameHeader number h → HasPicture h →
         ((place row column : ℕ) → Is8Bit (array place row column)) →
         (bytes : List ℕ) × IsWhollyWritten array bytes }
 {}

@@ -4,7 +4,7 @@ ghost use Rattle.std.specs.Prelude.{◌≡◌, ℕ, ◌*◌, ◌/◌, ◌<◌, L
 ghost use Rattle.std.specs.List.{AllByRecursion};
 ghost use Rattle.jpeg_bits.specs.declared.scan.Predictor.{Predictor};
 ghost use Rattle.jpeg_segments.specs.Frame.{Component, Frame};
-ghost use Rattle.jpeg_segments.specs.WrittenSegments.{FrameHeader, IsFrame, frame_written};
+ghost use Rattle.jpeg_segments.specs.WrittenSegments.{FrameHeader, IsFrameHeader, frame_written};
 ghost use Rattle.jpeg_lossless.specs.Differences.{Part};
 ghost use Rattle.jpeg_lossless.specs.Pictures.{most_across, most_down};
 ghost use Rattle.jpeg_lossless.specs.Prediction.{predicted_lines};
@@ -23,7 +23,7 @@ ghost use Rattle.jpeg_streams.specs.Worked.{picture_meant};
 ghost use Rattle.jpeg_streams.specs.WorkedSamples.{AreWritten, padded_bytes, padded_picture};
 ghost use Rattle.jpeg_streams.specs.WorkedSamples.{padded_samples, three_bytes, three_picture};
 ghost use Rattle.jpeg_streams.specs.WorkedSamples.{three_samples};
-ghost use Rattle.jpeg_streams.specs.WrittenLossless.{HasSamples, IsWithin, own_lines, Samples};
+ghost use Rattle.jpeg_streams.specs.WrittenLossless.{HasSamples, IsWithinLimit, own_lines, Samples};
 ghost use Rattle.jpeg_streams.specs.WrittenLossless.{WritesSamples, picture_of_samples};
 ghost use Rattle.jpeg_streams.specs.WrittenParts.{picture_meant_by};
 
@@ -33,7 +33,7 @@ ghost use Rattle.jpeg_streams.specs.WrittenParts.{picture_meant_by};
 pub fn lossless_streams_are_read()
     ensures { (settings : Settings) (samples : Samples) (image rest : List ℕ) (final : Found)
         (frame : Frame) →
-        WritesSamples samples image final → IsWithin settings.limit final frame →
+        WritesSamples samples image final → IsWithinLimit settings.limit final frame →
         meaning settings (image ++ rest)
         ≡ Ok ((told_of final, picture_of_samples frame samples), rest) }
 {}
@@ -42,7 +42,7 @@ pub fn lossless_streams_are_read()
 pub fn lossless_streams_keep_their_size()
     ensures { (width height : ℕ) (settings : Settings) (samples : Samples) (image rest : List ℕ)
         (final : Found) (frame : Frame) →
-        WritesSamples samples image final → IsWithin settings.limit final frame →
+        WritesSamples samples image final → IsWithinLimit settings.limit final frame →
         sized_meaning width height settings (image ++ rest)
         ≡ Ok ((told_of final, picture_of_samples frame samples), rest) }
 {}
@@ -73,14 +73,14 @@ pub fn lossless_padding_is_not_seen()
 
     // A pixel takes a sample inside.
     ensures taken { (h : FrameHeader) (place x y : ℕ) (c : Component) →
-        IsFrame 3 h → first_of (drop place (frame_written 3 h).components) ≡ Some c →
+        IsFrameHeader 3 h → first_of (drop place (frame_written 3 h).components) ≡ Some c →
         x < h.width → y < h.height →
         (x * c.factors.horizontal / most_across (frame_written 3 h) < c.width)
         × (y * c.factors.vertical / most_down (frame_written 3 h) < c.height) }
 
     // So samples that agree inside have the same picture.
     ensures pictured { (h : FrameHeader) (a b : Samples) →
-        IsFrame 3 h → AgreeInside (frame_written 3 h) a b →
+        IsFrameHeader 3 h → AgreeInside (frame_written 3 h) a b →
         picture_of_samples (frame_written 3 h) a ≡ picture_of_samples (frame_written 3 h) b }
 {}
 
@@ -91,14 +91,14 @@ pub fn equal_factors_mean_nothing()
     ensures pictured { (frame : Frame) (samples : Samples) → HasEqualFactors frame →
         picture_of_samples frame samples ≡ plain_picture frame samples }
     ensures alone { (h : FrameHeader) (selection : Predictor) (point : ℕ) (k : LosslessCoding) →
-        IsFrame 3 h → HasEqualFactors (frame_written 3 h) →
+        IsFrameHeader 3 h → HasEqualFactors (frame_written 3 h) →
         IsIn k.component (frame_written 3 h).components →
         (way_of (frame_written 3 h) selection point (k ∷ [])
         ≡ plain_way (frame_written 3 h) selection point (k ∷ []))
         × (mcus_down (frame_written 3 h) (k ∷ []) ≡ (frame_written 3 h).height) }
     ensures together { (h : FrameHeader) (selection : Predictor) (point : ℕ)
         (codings : List LosslessCoding) →
-        IsFrame 3 h → HasEqualFactors (frame_written 3 h) →
+        IsFrameHeader 3 h → HasEqualFactors (frame_written 3 h) →
         most_across (frame_written 3 h) ≡ 1 → most_down (frame_written 3 h) ≡ 1 →
         AllByRecursion (λ k. IsIn k.component (frame_written 3 h).components) codings →
         (way_of (frame_written 3 h) selection point codings
@@ -108,7 +108,7 @@ pub fn equal_factors_mean_nothing()
 
 /// A lossless frame is accepted where samples may be written in it, and nowhere else.
 pub fn lossless_frames_are_accepted()
-    ensures written { (h : FrameHeader) → IsFrame 3 h → HasSamples 3 h →
+    ensures written { (h : FrameHeader) → IsFrameHeader 3 h → HasSamples 3 h →
         accepted (frame_written 3 h) ≡ Ok (frame_written 3 h) }
     ensures read { (h : FrameHeader) →
         accepted (frame_written 3 h) ≡ Ok (frame_written 3 h) → HasSamples 3 h }
@@ -118,7 +118,7 @@ pub fn lossless_frames_are_accepted()
 /// 16 bits and of any factors, samples of the components' sizes and of that precision have one.
 pub fn every_picture_of_samples_has_a_stream()
     ensures { (h : FrameHeader) (samples : Samples) →
-        IsFrame 3 h → accepted (frame_written 3 h) ≡ Ok (frame_written 3 h) →
+        IsFrameHeader 3 h → accepted (frame_written 3 h) ≡ Ok (frame_written 3 h) →
         AreSamplesOf (frame_written 3 h) samples →
         (bytes : List ℕ) × AreWrittenIn h samples bytes }
 {}

@@ -3,7 +3,7 @@ ghost use Rattle.std.specs.Prelude.{◌≡◌, ◌<◌, ◌≤◌, ◌*◌, ◌^
 ghost use Rattle.jpeg_segments.specs.Frame.{AllHaveSampling};
 ghost use Rattle.jpeg_segments.specs.FrameView.{component_in, frame_in};
 ghost use Rattle.jpeg_decoder.specs.Bytes.{beside_planes, bytes_a_sample, coefficient_bytes};
-ghost use Rattle.jpeg_decoder.specs.Bytes.{decoding_bytes, picture_bytes, plane_bytes, sum_of};
+ghost use Rattle.jpeg_decoder.specs.Bytes.{decoding_bytes, picture_size, plane_bytes, sum_of};
 
 use jpeg_segments::parser::{CodingProcess, Component, FrameInfo};
 
@@ -110,10 +110,10 @@ fn pixel_bytes(count: usize, precision: u8) -> u64
 }
 
 /// Returns how many bytes the picture takes.
-#[tactic(auto, unfolding(crate::specs::Bytes::picture_bytes))]
+#[tactic(auto, unfolding(crate::specs::Bytes::picture_size))]
 pub(crate) fn picture_bytes(frame: &FrameInfo) -> u64
     requires { length (frame_in frame.now).components ≤ 4 }
-    ensures bytes { result ≡ picture_bytes (frame_in frame.now) }
+    ensures bytes { result ≡ picture_size (frame_in frame.now) }
     ensures most { result < 2 ^ 35 }
 {
     let size = frame.output_size;
@@ -122,7 +122,7 @@ pub(crate) fn picture_bytes(frame: &FrameInfo) -> u64
 
 /// Returns how many bytes a picture takes beside the planes that it is made of.
 fn beside_planes(frame: &FrameInfo, picture: u64) -> u64
-    requires { picture ≡ picture_bytes (frame_in frame.now) }
+    requires { picture ≡ picture_size (frame_in frame.now) }
     ensures bytes { result ≡ beside_planes (frame_in frame.now).process (frame_in frame.now) }
     ensures most { result ≤ picture }
 {

@@ -27,7 +27,7 @@ ghost use Rattle.jpeg_streams.specs.Reported.{told_in_turns, told_rest};
 ghost use Rattle.jpeg_streams.specs.FoundPictures.{blocks_picture, picture_of, picture_by};
 ghost use Rattle.jpeg_streams.specs.FoundPictures.{planes_from, samples_picture};
 ghost use Rattle.jpeg_streams.specs.Found.{nothing_found};
-ghost use Rattle.jpeg_decoder.specs.Bytes.{IsWhole, picture_bytes};
+ghost use Rattle.jpeg_decoder.specs.Bytes.{IsWhole, picture_size};
 
 use crate::codings::is_progressive;
 use crate::color_choice::choose_color_transform;
@@ -226,7 +226,7 @@ fn write_by(
     requires planes { AreWhole (frame_in frame.now).components (map (λ p. p.items) planes.items) }
     requires count { length planes.items ≡ length (frame_in frame.now).components }
     requires process { (frame_in frame.now).process ≡ Lossless → ⊥ }
-    requires room { length pixels.old ≡ picture_bytes (frame_in frame.now) }
+    requires room { length pixels.old ≡ picture_size (frame_in frame.now) }
     ensures meant { let expected = picture_by settings (metadata_in state.now.metadata)
         (frame_in frame.now) (frame_in frame.now).components (map (λ p. p.items) planes.items) in
         MatchResult result (λ u. expected ≡ Ok pixels.new) (λ e. IsRefusal e × Names e expected) }
@@ -315,7 +315,7 @@ fn write_joint(
         (frame_in frame.now).output_height planes.now.shape }
     requires full { IsFullJoint planes.now }
     requires process { (frame_in frame.now).process ≡ Lossless → ⊥ }
-    requires room { length pixels.old ≡ picture_bytes (frame_in frame.now) }
+    requires room { length pixels.old ≡ picture_size (frame_in frame.now) }
     ensures meant { let expected = picture_by settings (metadata_in state.now.metadata)
         (frame_in frame.now) (frame_in frame.now).components
         (joint_planes planes.now.shape planes.now.samples.items) in
@@ -371,7 +371,7 @@ fn write_blocks(
     requires sound { IsSound (with_decoded (found_in state.now) decoded.old) }
     requires frame { (found_in state.now).frame ≡ Some (frame_in frame.now) }
     requires process { (frame_in frame.now).process ≡ Lossless → ⊥ }
-    requires room { length pixels.old ≡ picture_bytes (frame_in frame.now) }
+    requires room { length pixels.old ≡ picture_size (frame_in frame.now) }
     ensures meant { let expected = blocks_picture settings (with_decoded (found_in state.now) decoded.old)
         (frame_in frame.now) in
         MatchResult result (λ u. expected ≡ Ok pixels.new) (λ e. IsRefusal e × Names e expected) }
@@ -435,7 +435,7 @@ fn write_samples(
     requires sound { IsSound (with_decoded (found_in state.now) decoded.old) }
     requires frame { (found_in state.now).frame ≡ Some (frame_in frame.now) }
     requires process { (frame_in frame.now).process ≡ Lossless }
-    requires room { length pixels.old ≡ picture_bytes (frame_in frame.now) }
+    requires room { length pixels.old ≡ picture_size (frame_in frame.now) }
     ensures meant { let expected =
         samples_picture (with_decoded (found_in state.now) decoded.old) (frame_in frame.now) in
         MatchResult result (λ u. expected ≡ Ok pixels.new) (λ e. IsRefusal e × Names e expected) }
@@ -499,7 +499,7 @@ fn write_picture(
     pixels: &mut [u8],
 ) -> Result<()>
     requires sound { IsSound (with_decoded (found_in state.now) decoded.old) }
-    requires room { IfSome (found_in state.now).frame (λ f. length pixels.old ≡ picture_bytes f) }
+    requires room { IfSome (found_in state.now).frame (λ f. length pixels.old ≡ picture_size f) }
     ensures meant { let expected = picture_of settings (with_decoded (found_in state.now) decoded.old) in
         MatchResult result (λ u. expected ≡ Ok pixels.new) (λ e. IsRefusal e × Names e expected) }
     ensures unwritten { OnErr result (pixels.new ≡ pixels.old) }
@@ -585,7 +585,7 @@ pub fn read_rest_into<R: Read + Drop>(
 ) -> Result<()>
     requires sound { IsSound (found_in state.old) }
     requires framed { is_some (found_in state.old).frame ≡ true }
-    requires room { IfSome (found_in state.old).frame (λ f. length pixels.old ≡ picture_bytes f) }
+    requires room { IfSome (found_in state.old).frame (λ f. length pixels.old ≡ picture_size f) }
     ensures reads { Answers (λ u. (told_of (found_in state.new), pixels.new))
         (rest_at settings (found_in state.old)) source.old result source.new }
     ensures told { OnTold source.old source.new result (told_of (found_in state.new)

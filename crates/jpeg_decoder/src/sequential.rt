@@ -7,7 +7,7 @@ ghost use Rattle.jpeg_streams.specs.InTurn.{Fits};
 ghost use Rattle.jpeg_decoder.specs.Scanning.{scan_pass, scan_vias, scan_components};
 ghost use Rattle.jpeg_decoder.specs.Steps.{coding_in};
 ghost use Rattle.jpeg_decoder.specs.Strips.{no_samples, planes_by_rows};
-ghost use Rattle.jpeg_decoder.specs.GrowingView.{IsGrowing, growing_in, is_joint};
+ghost use Rattle.jpeg_decoder.specs.GrowingView.{GrowsFor, growing_in, is_joint};
 
 use crate::scan::Scan;
 use crate::scan_order::ScanOrder;
@@ -38,9 +38,9 @@ pub fn read_planes<R: Read + Drop>(
 ) -> Result<Option<Marker>>
     requires some { 1 ≤ length scan.now.components.items }
     requires fits { AllByRecursion (Fits (frame_in frame.now)) (scan_components scan.now) }
-    requires planes { IsGrowing (map coding_in scan.now.components.items) planes.old }
+    requires planes { GrowsFor (map coding_in scan.now.components.items) planes.old }
     ensures growing { OnOk result
-        (IsGrowing (map coding_in scan.now.components.items) planes.new) }
+        (GrowsFor (map coding_in scan.now.components.items) planes.new) }
     ensures kind { OnOk result (is_joint planes.new ≡ is_joint planes.old) }
     ensures sizes { growing_in planes.old ≡ no_samples (map coding_in scan.now.components.items)
         → OnOk result (map length (growing_in planes.new)

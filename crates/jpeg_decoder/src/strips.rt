@@ -9,9 +9,9 @@ ghost use Rattle.jpeg_pixels.specs.Scaled.{IsScale};
 ghost use Rattle.jpeg_streams.specs.Rasters.{in_raster};
 ghost use Rattle.jpeg_decoder.specs.Scanning.{arrays_in, sizes_of};
 ghost use Rattle.jpeg_decoder.specs.Steps.{coding_in};
-ghost use Rattle.jpeg_decoder.specs.Strips.{no_samples, planes_in, row_sizes, zeros_of};
+ghost use Rattle.jpeg_decoder.specs.Strips.{no_samples, plane_lists, row_sizes, zeros_of};
 ghost use Rattle.jpeg_decoder.specs.Strips.{strips_of, with_strips};
-ghost use Rattle.jpeg_decoder.specs.GrowingView.{IsGrowing, growing_in, is_joint};
+ghost use Rattle.jpeg_decoder.specs.GrowingView.{GrowsFor, growing_in, is_joint};
 
 use crate::scan::Coded;
 use jpeg_pixels::joint_planes::JointPlanes;
@@ -69,7 +69,7 @@ pub fn empty_planes(
     codings: &[Coded<'_>],
     has_room: bool,
 ) -> Result<Vec<Vec<u8>>, AllocError>
-    ensures { IfOk result (λ v. planes_in v.items ≡ no_samples (map coding_in codings.now)) }
+    ensures { IfOk result (λ v. plane_lists v.items ≡ no_samples (map coding_in codings.now)) }
 {
     let mut planes = Vec::with_capacity(alloc, codings.len())?;
     for coded in codings {
@@ -128,8 +128,8 @@ fn append_to_each(
 ) -> Result<(), AllocError>
     requires planes { 0 < length planes.old → length planes.old ≡ length codings.now }
     requires sizes { sizes_of rows.now ≡ row_sizes codings.now }
-    ensures { OnOk result (planes_in planes.new
-        ≡ with_strips (map coding_in codings.now) (arrays_in rows.now) (planes_in planes.old)) }
+    ensures { OnOk result (plane_lists planes.new
+        ≡ with_strips (map coding_in codings.now) (arrays_in rows.now) (plane_lists planes.old)) }
 {
     if planes.is_empty() {
         return Ok(());
@@ -175,11 +175,11 @@ pub fn append_strips(
     codings: &[Coded<'_>],
     rows: &[Vec<[i16; 64]>],
 ) -> Result<(), AllocError>
-    requires planes { IsGrowing (map coding_in codings.now) planes.old }
+    requires planes { GrowsFor (map coding_in codings.now) planes.old }
     requires sizes { sizes_of rows.now ≡ row_sizes codings.now }
     ensures strips { OnOk result (growing_in planes.new
         ≡ with_strips (map coding_in codings.now) (arrays_in rows.now) (growing_in planes.old)) }
-    ensures growing { OnOk result (IsGrowing (map coding_in codings.now) planes.new) }
+    ensures growing { OnOk result (GrowsFor (map coding_in codings.now) planes.new) }
     ensures kind { is_joint planes.new ≡ is_joint planes.old }
 {
     match planes {

@@ -22,7 +22,7 @@ ghost use Rattle.jpeg_streams.specs.Found.{no_metadata};
 ghost use Rattle.jpeg_streams.specs.Levels.{floor_at, toward_zero};
 ghost use Rattle.jpeg_streams.specs.Segments.{updated, with_application};
 ghost use Rattle.jpeg_streams.specs.Worked.{picture_meant, picture_with, picture_sized};
-ghost use Rattle.jpeg_streams.specs.Worked.{eight_times, scan_of, stream_parts, stream_with};
+ghost use Rattle.jpeg_streams.specs.Worked.{eight_times, scan_text, stream_parts, stream_with};
 ghost use Rattle.jpeg_streams.specs.Worked.{stream_without_height, stream_of_one_coefficient};
 ghost use Rattle.jpeg_streams.specs.Worked.{scanned_twice, with_restart, three_at_once};
 ghost use Rattle.jpeg_streams.specs.Worked.{three_in_turn, two_to_one, refined, run_of_blocks};
@@ -99,7 +99,7 @@ pub fn known_scans()
     ensures first_decides { picture_meant scanned_twice ≡ Ok (replicate 64 129) }
 
     // A refinement, and the picture without it, at a quarter of the size.
-    ensures refined { picture_sized 2 2 (refined (scan_of 1 1 2 16 (63 ∷ []) ∷ []))
+    ensures refined { picture_sized 2 2 (refined (scan_text 1 1 2 16 (63 ∷ []) ∷ []))
         ≡ Ok (132 ∷ 120 ∷ 136 ∷ 124 ∷ []) }
     ensures unrefined { picture_sized 2 2 (refined []) ≡ Ok (132 ∷ 124 ∷ 132 ∷ 124 ∷ []) }
 

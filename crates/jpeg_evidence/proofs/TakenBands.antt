@@ -13,8 +13,9 @@ use Rattle.jpeg_streams.specs.WrittenData.{no_numbers, WritesBand}
 use Rattle.jpeg_streams.specs.WrittenData.WritesBand.{full, value as a_value, sixteen as a_sixteen, ended as an_end}
 use Rattle.jpeg_streams.proofs.SentBlocks.{scaled, InRange}
 use Rattle.jpeg_streams.proofs.WrittenBands.{map-no_numbers, scaled-fits}
-use Rattle.jpeg_evidence.specs.Strict.{alone, IsCut, IsNumber, IsValue, Follows, IsToken, Fits, room_after, TokensFit}
-use Rattle.jpeg_evidence.specs.Strict.{HasBytes, IsBand}
+use Rattle.jpeg_evidence.specs.Strict.{alone, IsCut, IsNumber, IsValue, Follows, IsToken}
+use Rattle.jpeg_evidence.specs.Strict.{IsTokenWithin, room_after, TokensFit}
+use Rattle.jpeg_evidence.specs.Strict.{HasByteSymbols, IsBand}
 use Rattle.jpeg_evidence.specs.Strict.Follows.{value, sixteen, ended}
 use Rattle.jpeg_evidence.specs.Strict.TokensFit.{filled, token}
 use Rattle.jpeg_evidence.proofs.TakenBits.{after-read, gives-taken, map-taken, cut-map, cut-both, Both}
@@ -33,10 +34,12 @@ of-rest r s run own (ended r' e own' n is) = (n, refl, e, refl, is)
 not-nothing : (s : ℕ) (u : ℤ) → 0 < s → IsCategory u s → u ≢ pos 0
 not-nothing s u h cat e = grind arith
 
-pub run-small : (table : Table) (r s : ℕ) (code : List Bool) → HasBytes table → IsCoded table (16 * r + s) code → r ≤ 15
+pub run-small : (table : Table) (r s : ℕ) (code : List Bool) → HasByteSymbols table → IsCoded table
+    (16 * r + s) code → r ≤ 15
 run-small table r s code bytes coded = let h = bytes.each coded.place in let e = coded.is_for in omega (arith, h, e)
 
-value-written : (table : Table) (al r : ℕ) (u : ℤ) (band : List ℤ) (run : ℕ) (own back : List Bool) → HasBytes table
+value-written : (table : Table) (al r : ℕ) (u : ℤ) (band : List ℤ) (run : ℕ) (own back : List Bool)
+    → HasByteSymbols table
     → InRange al u → IsToken table (Value r u) own → IsBand table al band run back
     → IsBand table al ((no_numbers r ++ wrapped (scaled al u) ∷ []) ++ band) run (own ++ back)
 value-written table al r u band run own back bytes range w b =
@@ -61,7 +64,8 @@ sixteen-written table al band run own back w b =
           (a_sixteen w.code b.numbers back run coded b.written);
     }
 
-rest-written : (table : Table) (al room run : ℕ) (own : List Bool) → HasBytes table → IsToken table (Rest run) own
+rest-written : (table : Table) (al room run : ℕ) (own : List Bool) → HasByteSymbols table → IsToken
+    table (Rest run) own
     → IsBand table al (no_numbers (suc room)) run own
 rest-written table al room run own bytes w =
     let f = of-rest w.r w.s run w.after w.follows in
@@ -87,8 +91,9 @@ pub record IsLong (table : Table) (al room : ℕ) (y : Band) (own : List Bool) :
 abbrev IsAfter : Table → ℕ → ℕ → Token → Band → List Bool → Type 0
 IsAfter table al room x y back = (own : List Bool) → IsToken table x own → IsLong table al room y (own ++ back)
 
-step : (table : Table) (al n room : ℕ) (x : Token) (more : List Bool) (y : Band) (t : Text) → HasBytes table
-    → Fits al (suc room) x
+step : (table : Table) (al n room : ℕ) (x : Token) (more : List Bool) (y : Band) (t : Text) →
+    HasByteSymbols table
+    → IsTokenWithin al (suc room) x
     → ((z : Band) → first_ac table al n (no_numbers (room_after (suc room) x)) (alone more) ≡ Ok (z, t)
     → IsCut (IsLong table al (room_after (suc room) x) z) more t)
     → after_token al (first_ac table al n) (no_numbers (suc room)) x (alone more) ≡ Ok (y, t)
@@ -120,7 +125,7 @@ after-small k n x h = grind arith
 
 -- The bits that were taken of a band whose tokens fit are written for it, and it has all its places.
 pub long-taken : (table : Table) (al n room : ℕ) (bits : List Bool) (y : Band) (t : Text) → IsTable table
-    → HasBytes table → TokensFit table al room bits → room ≤ n
+    → HasByteSymbols table → TokensFit table al room bits → room ≤ n
     → first_ac table al n (no_numbers room) (alone bits) ≡ Ok (y, t) → IsCut (IsLong table al room y) bits t
 unfolding first_ac
 long-taken table al n room bits y t is bytes (filled bits') le e =
@@ -142,7 +147,7 @@ long-taken table al (suc n) room bits y t is bytes (token k x bits' more h f w) 
 
 -- The bits that were taken of a band whose tokens fit are written for it.
 pub band-taken : (table : Table) (al n room : ℕ) (bits : List Bool) (y : Band) (t : Text) → IsTable table
-    → HasBytes table → TokensFit table al room bits → room ≤ n
+    → HasByteSymbols table → TokensFit table al room bits → room ≤ n
     → first_ac table al n (no_numbers room) (alone bits) ≡ Ok (y, t) → IsCut (IsBand table al y.0 y.1) bits t
 band-taken table al n room bits y t is bytes fits le e =
     cut-map (IsLong table al room y) (IsBand table al y.0 y.1) bits t (λ own b. b.band)

@@ -18,7 +18,7 @@ use Rattle.jpeg_streams.specs.WrittenData.WritesAc.{no_band, first as a_first, f
 use Rattle.jpeg_streams.proofs.SentBlocks.{scaled, InRange}
 use Rattle.jpeg_streams.proofs.WrittenBands.{map-no_numbers, scaled-fits, range-below, mag-le}
 use Rattle.jpeg_streams.proofs.CutLevels.{band-map}
-use Rattle.jpeg_evidence.specs.Strict.{alone, IsCut, HasBytes, TokensFit, IsBlock}
+use Rattle.jpeg_evidence.specs.Strict.{alone, IsCut, HasByteSymbols, TokensFit, IsBlock}
 use Rattle.jpeg_evidence.specs.Strict.{BlockFits, HasTables}
 use Rattle.jpeg_evidence.proofs.TakenBits.{bind-cut, gives-taken, map-parts, map-taken, cut-map, Both}
 use Rattle.jpeg_evidence.proofs.TakenBits.{number-taken}
@@ -126,7 +126,7 @@ pub record IsRead (p : Pass) (table : Table) (band : List ℤ) (run : ℕ) (y : 
 
 -- the tables of a band that has places
 abbrev pub Tabled : Table → List ℤ → Type 0
-Tabled table band = 0 < length band → IsTable table × HasBytes table
+Tabled table band = 0 < length band → IsTable table × HasByteSymbols table
 
 zeros-toward : (al n : ℕ) → map (toward_zero al) (no_numbers n) ≡ no_numbers n
 zeros-toward al n =
@@ -140,7 +140,7 @@ written-first p table [] own run f some w = absurd (omega arith)
 written-first p table (u ∷ us) own run f some w = a_first u us own run f w
 
 new-band : (p : Pass) (table : Table) (k : ℕ) (bits : List Bool) (y : Band) (t : Text) → p.is_first ≡ true → 0 < k
-    → IsTable table → HasBytes table → TokensFit table p.al k bits
+    → IsTable table → HasByteSymbols table → TokensFit table p.al k bits
     → first_ac table p.al k (no_numbers k) (alone bits) ≡ Ok (y, t)
     → IsCut (IsRead p table (no_numbers k) 0 y) bits t
 new-band p table k bits y t f some is bytes fits e =
@@ -164,7 +164,8 @@ written-run p table [] run f some none = absurd (omega arith)
 written-run p table (u ∷ us) run f some none = again_run u us run f none
 
 old-band : (p : Pass) (table : Table) (zs : List ℤ) (bits : List Bool) (y : Band) (t : Text) → p.is_first ≡ false
-    → 0 < length zs → IsTable table → HasBytes table → AllByRecursion (IsHeld p.al) zs → PiecesFit table p.al zs bits
+    → 0 < length zs → IsTable table → HasByteSymbols table → AllByRecursion (IsHeld p.al) zs →
+    PiecesFit table p.al zs bits
     → refined_ac table p.al (length zs) zs (alone bits) ≡ Ok (y, t) → IsCut (IsRead p table zs 0 y) bits t
 old-band p table zs bits y t f some is bytes held fits e =
     let al = p.al in

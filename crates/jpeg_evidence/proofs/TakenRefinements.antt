@@ -22,7 +22,8 @@ use Rattle.jpeg_streams.proofs.WrittenBands.{scaled-zero}
 use Rattle.jpeg_streams.proofs.WrittenRefinements.{times-two_power, spread, neg-times, even-bit, even-bit_neg}
 use Rattle.jpeg_streams.proofs.WrittenRefinements.{corrections-zero, corrections-old, corrections-end, count-zero, count-old}
 use Rattle.jpeg_streams.proofs.WrittenRefinements.{with_last-end, new-scaled, map-scaled, through-zero, through-other}
-use Rattle.jpeg_evidence.specs.Strict.{alone, IsCut, IsNumber, HasBytes, count_zeros, PiecesFit}
+use Rattle.jpeg_evidence.specs.Strict.{alone, IsCut, IsNumber, HasByteSymbols, count_zeros}
+use Rattle.jpeg_evidence.specs.Strict.{PiecesFit}
 use Rattle.jpeg_evidence.specs.Strict.PiecesFit.{covered, new, zeros, last}
 use Rattle.jpeg_evidence.proofs.TakenBits.{number-taken, symbol-taken, after-read, bind-cut, map-parts}
 use Rattle.jpeg_streams.proofs.TakenTexts.{bind-parts, ok-parts, no-error}
@@ -329,7 +330,8 @@ front-long : (n : ℕ) (zs front us more : List ℤ) (u : ℤ) → us ≡ front 
     → length more ≡ length (drop n zs) → length (front ++ u ∷ more) ≡ length zs
 front-long n zs front us more u e a h = grind (arith, alike-long, length-append, length-take, length-drop)
 
-found-both : (table : Table) (al r sign : ℕ) (zs ws : List ℤ) (x : Band) (own : List Bool) → HasBytes table
+found-both : (table : Table) (al r sign : ℕ) (zs ws : List ℤ) (x : Band) (own : List Bool) →
+    HasByteSymbols table
     → r < count_zeros zs
     → Both (IsCoded table (16 * r + 1)) (Both (IsNumber 1 sign) (Both (IsCorrected al (take (through_zero r zs) zs) ws)
     (IsRefined table al (drop (through_zero r zs) zs) x))) own
@@ -382,7 +384,8 @@ rest-refined : (table : Table) (r e : ℕ) (us : List ℤ) (code : List Bool) �
 rest-refined table r e [] code some h f none coded = absurd (omega arith)
 rest-refined table r e (u ∷ us) code some h f none coded = none_left r e u us code h f none coded
 
-last-both : (table : Table) (al r e : ℕ) (zs ws : List ℤ) (own : List Bool) → HasBytes table → r ≢ 15
+last-both : (table : Table) (al r e : ℕ) (zs ws : List ℤ) (own : List Bool) → HasByteSymbols table
+    → r ≢ 15
     → 0 < length zs → Both (IsCoded table (16 * r + 0)) (Both (IsNumber r e) (IsCorrected al zs ws)) own
     → IsRefined table al zs (ws, 2 ^ r - 1 + e) own
 last-both table al r e zs ws own bytes ne some b = grind (arith, alike-long, run-small, rest-refined, alike-none)
@@ -427,7 +430,8 @@ drop-small n r z zs h = grind (arith, through-some, length-drop)
 
 -- The bits that were taken of a band in a refinement are written for it.
 pub refined-taken : (table : Table) (al n : ℕ) (zs : List ℤ) (bits : List Bool) (y : Band) (t : Text) → IsTable table
-    → HasBytes table → AllByRecursion (IsHeld al) zs → PiecesFit table al zs bits → length zs ≤ n
+    → HasByteSymbols table → AllByRecursion (IsHeld al) zs → PiecesFit table al zs bits → length zs
+    ≤ n
     → refined_ac table al n zs (alone bits) ≡ Ok (y, t) → IsCut (IsRefined table al zs y) bits t
 unfolding refined_ac refined_piece
 refined-taken table al n zs bits y t is bytes held (covered bits') le e =

@@ -134,17 +134,17 @@ picture_of_files =
 
 -- ---- its Huffman tables
 
-abbrev pub listed : Option Table → List Table
-listed None = []
-listed (Some table) = table ∷ []
+abbrev pub listed_tables : Option Table → List Table
+listed_tables None = []
+listed_tables (Some table) = table ∷ []
 
 abbrev pub all_listed : Result (Tables × List ℕ) Fault → Result (List Table) Fault
-all_listed (Ok t) = Ok (flat_map listed t.0.dc ++ flat_map listed t.0.ac)
+all_listed (Ok t) = Ok (flat_map listed_tables t.0.dc ++ flat_map listed_tables t.0.ac)
 all_listed (Err e) = Err e
 
 -- those of the DHT segment of the sequential file whose length stands at a place
-abbrev pub tables_at : ℕ → Result (List Table) Fault
-tables_at place = all_listed (dht_at (Some true) (drop place sequential_file))
+abbrev pub file_tables : ℕ → Result (List Table) Fault
+file_tables place = all_listed (dht_at (Some true) (drop place sequential_file))
 
 -- ---- a lossless file
 

@@ -14,8 +14,8 @@ frame_numbers =
     0 ∷ 1 ∷ 2 ∷ 3 ∷ 5 ∷ 6 ∷ 7 ∷ 9 ∷ 10 ∷ 11 ∷ 13 ∷ 14 ∷ 15 ∷ []
 
 -- a progressive frame of 8 bits and one component
-abbrev pub grey_frame : Frame
-grey_frame = frame_of 2 8 8 8 (factors_by 1 1 ∷ [])
+abbrev pub progressive_grey : Frame
+progressive_grey = frame_of 2 8 8 8 (factors_by 1 1 ∷ [])
 
 -- An Adobe segment after its marker: the version, two flags of two bytes each, and the transform.
 abbrev pub adobe_segment : ℕ → List ℕ

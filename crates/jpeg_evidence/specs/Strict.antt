@@ -76,11 +76,11 @@ pub record IsToken (table : Table) (x : Token) (own : List Bool) : Type 0 where
 -- ---- a band in its first scan
 
 -- A token that stands for places that the rest of its band has, and whose value fits 16 bits.
-abbrev pub Fits : ℕ → ℕ → Token → Type 0
-Fits al room (Value r u) = (r < room) × (unsigned_abs u * 2 ^ al < 2 ^ 15)
-Fits al room Sixteen = 16 ≤ room
-Fits al room (Rest run) = Unit {0}
-Fits al room Overlong = ⊥
+abbrev pub IsTokenWithin : ℕ → ℕ → Token → Type 0
+IsTokenWithin al room (Value r u) = (r < room) × (unsigned_abs u * 2 ^ al < 2 ^ 15)
+IsTokenWithin al room Sixteen = 16 ≤ room
+IsTokenWithin al room (Rest run) = Unit {0}
+IsTokenWithin al room Overlong = ⊥
 
 -- how many places are left after it
 abbrev pub room_after : ℕ → Token → ℕ
@@ -93,11 +93,12 @@ room_after room Overlong = 0
 pub data TokensFit (table : Table) (al : ℕ) : ℕ → List Bool → Type 0 where
   filled : (bits : List Bool) → TokensFit table al 0 bits
   token : (room : ℕ) (x : Token) (bits more : List Bool)
-      → token_from table (suc room) (alone bits) ≡ Ok (x, alone more) → Fits al (suc room) x
+      → token_from table (suc room) (alone bits) ≡ Ok (x, alone more) → IsTokenWithin al (suc room)
+      x
       → TokensFit table al (room_after (suc room) x) more → TokensFit table al (suc room) bits
 
 -- the symbols are bytes
-pub record HasBytes (table : Table) : Type 0 where
+pub record HasByteSymbols (table : Table) : Type 0 where
   pub each : (i : ℕ) → slice_index table.symbols i < 256
 
 -- A band of these coefficients at level al, the run after it, and bits that are written for them.
@@ -137,7 +138,7 @@ pub data PiecesFit (table : Table) (al : ℕ) : List ℤ → List Bool → Type 
 pub record HasTables (p : Pass) (via : Via) : Type 0 where
   pub dc_is : p.ss ≡ 0 → p.is_first ≡ true → IsTable via.dc
   pub ac_is : p.se ≢ 0 → IsTable via.ac
-  pub ac_bytes : p.se ≢ 0 → HasBytes via.ac
+  pub ac_bytes : p.se ≢ 0 → HasByteSymbols via.ac
 
 -- A block that these bits begin with fits. In a first pass none of its band was sent before, DC that
 -- is read has its number in 16 bits, and the tokens of the band fit it. In a refinement what is held

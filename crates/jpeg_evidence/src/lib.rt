@@ -39,8 +39,9 @@ ghost use Rattle.jpeg_evidence.specs.Cosines.{adds, are_entries, cosine, is_posi
 ghost use Rattle.jpeg_evidence.specs.Exact.{distance, squares, unclamped, whole};
 ghost use Rattle.jpeg_evidence.specs.Files.{file_of_table_1, lossless_file, picture_of_files};
 ghost use Rattle.jpeg_evidence.specs.Files.{progressive_file, samples_of_file, sequential_file};
-ghost use Rattle.jpeg_evidence.specs.Files.{tables_at};
-ghost use Rattle.jpeg_evidence.specs.Headers.{adobe_segment, f0_and_one, frame_numbers, grey_frame};
+ghost use Rattle.jpeg_evidence.specs.Files.{file_tables};
+ghost use Rattle.jpeg_evidence.specs.Headers.{adobe_segment, f0_and_one, frame_numbers};
+ghost use Rattle.jpeg_evidence.specs.Headers.{progressive_grey};
 ghost use Rattle.jpeg_evidence.specs.Headers.{ones, table_of_f0};
 ghost use Rattle.jpeg_evidence.specs.Walks.{at, walk};
 
@@ -103,10 +104,10 @@ pub fn lossless_tables_are_by_td()
 
 /// The default Huffman tables of MJPEG frames are the four that `cjpeg` writes into its file.
 pub fn default_tables_are_of_a_file()
-    ensures luminance { tables_at 179 ≡ Ok (luminance_dc ∷ []) }
-    ensures luminance_rest { tables_at 212 ≡ Ok (luminance_ac ∷ []) }
-    ensures chrominance { tables_at 395 ≡ Ok (chrominance_dc ∷ []) }
-    ensures chrominance_rest { tables_at 428 ≡ Ok (chrominance_ac ∷ []) }
+    ensures luminance { file_tables 179 ≡ Ok (luminance_dc ∷ []) }
+    ensures luminance_rest { file_tables 212 ≡ Ok (luminance_ac ∷ []) }
+    ensures chrominance { file_tables 395 ≡ Ok (chrominance_dc ∷ []) }
+    ensures chrominance_rest { file_tables 428 ≡ Ok (chrominance_ac ∷ []) }
 {}
 
 /// What segments of applications say. Adobe's transform is the last of its twelve bytes, the data of
@@ -170,9 +171,9 @@ pub fn headers_are_of_tables()
     ensures refined { is_progressive_band 1 1 63 2 1 ≡ true }
     ensures not_refined { is_progressive_band 1 1 63 1 1 ≡ false }
     ensures levels { map (is_progressive_band 1 0 0 0) (13 ∷ 14 ∷ []) ≡ true ∷ false ∷ [] }
-    ensures level_7 { band_at grey_frame [] (0 ∷ 0 ∷ 7 ∷ [])
-        ≡ Ok (scan_of grey_frame [] 0 0 7, []) }
-    ensures level_8 { band_at grey_frame [] (0 ∷ 0 ∷ 8 ∷ []) ≡ Err Malformed }
+    ensures level_7 { band_at progressive_grey [] (0 ∷ 0 ∷ 7 ∷ [])
+        ≡ Ok (scan_of progressive_grey [] 0 0 7, []) }
+    ensures level_8 { band_at progressive_grey [] (0 ∷ 0 ∷ 8 ∷ []) ≡ Err Malformed }
 
     // Identifiers of components that name their colours.
     ensures wide_ycc { by_identifiers (1 ∷ 34 ∷ 35 ∷ []) ≡ Some transforms.JcsBgYcc }

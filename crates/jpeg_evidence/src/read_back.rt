@@ -12,7 +12,8 @@ ghost use Rattle.jpeg_bits.specs.declared.marker.Marker.{Marker};
 ghost use Rattle.jpeg_bits.specs.declared.marker.Marker.TheVariants.{RST};
 ghost use Rattle.jpeg_bits.specs.declared.tokens.Token.{Token};
 ghost use Rattle.jpeg_streams.specs.WrittenData.{WritesBlocks, WritesDifference, no_numbers};
-ghost use Rattle.jpeg_evidence.specs.Strict.{BlockFits, BlocksFit, HasBytes, HasTables, IsBand};
+ghost use Rattle.jpeg_evidence.specs.Strict.{BlockFits, BlocksFit, HasByteSymbols, HasTables};
+ghost use Rattle.jpeg_evidence.specs.Strict.{IsBand};
 ghost use Rattle.jpeg_evidence.specs.Strict.{IsBlock, IsCut, IsData, IsDc, IsInterval, IsIntervals};
 ghost use Rattle.jpeg_evidence.specs.Strict.{IntervalFits, IntervalsFit, IsNumber, IsToken, IsValue};
 ghost use Rattle.jpeg_evidence.specs.Strict.{TokensFit, alone, numbers_read, others_read};
@@ -61,7 +62,7 @@ pub fn tokens_taken_are_written()
 /// level al, and for the run of blocks after them (T.81, F.1.2.2 and G.1.2.2).
 pub fn bands_taken_are_written()
     ensures { (table : Table) (al n room : ℕ) (bits : List Bool) (y : Band) (left : Text)
-        → IsTable table → HasBytes table → TokensFit table al room bits → room ≤ n
+        → IsTable table → HasByteSymbols table → TokensFit table al room bits → room ≤ n
         → first_ac table al n (no_numbers room) (alone bits) ≡ Ok (y, left)
         → IsCut (IsBand table al y.0 y.1) bits left }
 {}

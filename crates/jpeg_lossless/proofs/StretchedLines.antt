@@ -9,8 +9,10 @@ use Rattle.std.proofs.lemmas.List.FromFn.{map-range_with_len_more}
 use Rattle.std.proofs.lemmas.Nat.{div-mul-add}
 use Rattle.std.specs.List.{range_with_len}
 use Rattle.jpeg_segments.specs.Frame.{Component, Frame, greatest}
-use Rattle.jpeg_lossless.specs.Pictures.{AreLong, Layer, bytes_at, layer_of, line_bytes, line_from, lines_across}
-use Rattle.jpeg_lossless.specs.Pictures.{factors_of, most_across, most_down, pixel_bytes, sample_at}
+use Rattle.jpeg_lossless.specs.Pictures.{AreLong, Layer, bytes_at, layer_of, sample_line, line_from}
+use Rattle.jpeg_lossless.specs.Pictures.{lines_across}
+use Rattle.jpeg_lossless.specs.Pictures.{frame_factors, most_across, most_down, sample_pixel}
+use Rattle.jpeg_lossless.specs.Pictures.{layer_sample}
 use Rattle.jpeg_lossless.proofs.ImageLoops.{IsPixelOf, at-most, greatest-some, inside, line-begun, line-grown}
 use Rattle.jpeg_lossless.proofs.ImageLoops.{line-more, line-none, through, within}
 use Rattle.std.proofs.lemmas.Grind.{common_steps}
@@ -77,16 +79,17 @@ pub own_line : (frame : Frame) (c : Component) (plane : List ℕ) (y n : ℕ) �
     → n ≤ frame.width
     → stretched (take c.width (drop (y * c.factors.vertical / most_down frame * c.width) plane)) c.factors.horizontal
     (most_across frame) n
-    ≡ map (λ x. sample_at (most_across frame) (most_down frame) (layer_of c plane) x y) (range_with_len 0 n)
+    ≡ map (λ x. layer_sample (most_across frame) (most_down frame) (layer_of c plane) x y)
+    (range_with_len 0 n)
 own_line frame c plane y zero is h = refl
 own_line frame c plane y (suc n) is h =
     let row = y * c.factors.vertical / most_down frame in
     let a = most_across frame in
     let own = take c.width (drop (row * c.width) plane) in
-    let f : ℕ → ℕ = λ x. sample_at a (most_down frame) (layer_of c plane) x y in
+    let f : ℕ → ℕ = λ x. layer_sample a (most_down frame) (layer_of c plane) x y in
     let s : suc n ≡ n + 1 = omega arith in
     let column = inside n frame.width c.factors.horizontal a c.width (omega arith) is.sampling.horizontal_some
-    (greatest-some (λ f. f.horizontal) (factors_of frame)) is.reaches.across in
+    (greatest-some (λ f. f.horizontal) (frame_factors frame)) is.reaches.across in
     ap (stretched own c.factors.horizontal a) s
     ∙ stretched-more own c.factors.horizontal a n
     ∙ ap₂ (λ (l : List ℕ) (k : ℕ). l ++ k ∷ []) (own_line frame c plane y n is (omega arith))
@@ -100,7 +103,7 @@ pub line_inside : (frame : Frame) (c : Component) (plane slice : List ℕ) (y v 
     → y * c.factors.vertical / v * c.width + c.width ≤ length slice
 line_inside frame c plane slice y v e f is h =
     let row = inside y frame.height c.factors.vertical (most_down frame) c.height h is.sampling.vertical_some
-    (greatest-some (λ f. f.vertical) (factors_of frame)) is.reaches.down in
+    (greatest-some (λ f. f.vertical) (frame_factors frame)) is.reaches.down in
     let same : y * c.factors.vertical / v * c.width ≡ y * c.factors.vertical / most_down frame * c.width = search rules in
     search (rules, within)
 
@@ -115,14 +118,15 @@ pub own_samples : (frame : Frame) (c : Component) (plane slice own line : List �
     → h ≡ most_across frame → v ≡ most_down frame → width ≡ frame.width → slice ≡ plane
     → own ≡ take c.width (drop (y * c.factors.vertical / v * c.width) slice)
     → line ≡ stretched own c.factors.horizontal h width → IsPixelOf frame c plane
-    → line ≡ map (λ x. sample_at h v (layer_of c plane) x y) (range_with_len 0 frame.width)
+    → line ≡ map (λ x. layer_sample h v (layer_of c plane) x y) (range_with_len 0 frame.width)
 own_samples frame c plane slice own line y h v width e f g s o l is =
     let part : ℕ → List ℕ → List ℕ = λ b p. take c.width (drop (y * c.factors.vertical / b * c.width) p) in
     l
     ∙ ap (λ (p : List ℕ). stretched p c.factors.horizontal h width) (o ∙ ap₂ part f s)
     ∙ ap₂ (λ (a n : ℕ). stretched (part (most_down frame) plane) c.factors.horizontal a n) e g
     ∙ own_line frame c plane y frame.width is (omega arith)
-    ∙ sym (ap₂ (λ (a b : ℕ). map (λ x. sample_at a b (layer_of c plane) x y) (range_with_len 0 frame.width)) e f)
+    ∙ sym (ap₂ (λ (a b : ℕ). map (λ x. layer_sample a b (layer_of c plane) x y) (range_with_len 0
+    frame.width)) e f)
 
 -- no factor is above the greatest
 pub factor_most : (cs : List Component) (i : ℕ) (c : Component) → i < length cs → slice_index_or cs i c ≡ c
@@ -133,7 +137,7 @@ factor_most (d ∷ cs) (suc i) c h e = omega (arith, factor_most cs i c (omega a
 
 pub lines_more : (h v width y : ℕ) (l : Layer) (layers : List Layer)
     → lines_across h v width (l ∷ layers) y
-    ≡ map (λ x. sample_at h v l x y) (range_with_len 0 width) ∷ lines_across h v width layers y
+    ≡ map (λ x. layer_sample h v l x y) (range_with_len 0 width) ∷ lines_across h v width layers y
 unfolding lines_across
 lines_more h v width y l layers = refl
 
@@ -154,7 +158,7 @@ lines_long h v width y [] = tt
 lines_long h v width y (l ∷ layers) = search (rules, length-map-range_with_len, lines_long h v width y layers)
 
 pixel-of : (precision h v width y x : ℕ) (layers : List Layer) → x < width
-    → bytes_at precision (lines_across h v width layers y) x ≡ pixel_bytes precision h v layers y x
+    → bytes_at precision (lines_across h v width layers y) x ≡ sample_pixel precision h v layers y x
 unfolding bytes_at lines_across
 pixel-of precision h v width y x [] k = refl
 pixel-of precision h v width y x (l ∷ layers) k =
@@ -164,7 +168,8 @@ pub from-none : (n : ℕ) → 0 + n ≡ n
 from-none n = omega arith
 
 pub line_of_lines : (precision h v width y n : ℕ) (layers : List Layer) → n ≤ width
-    → line_from precision (lines_across h v width layers y) 0 n ≡ line_bytes precision h v n layers y
+    → line_from precision (lines_across h v width layers y) 0 n ≡ sample_line precision h v n
+    layers y
 line_of_lines precision h v width y zero layers k = search (rules, line-none, line-begun)
 line_of_lines precision h v width y (suc n) layers k =
     let s : suc n ≡ n + 1 = omega arith in
@@ -174,4 +179,4 @@ line_of_lines precision h v width y (suc n) layers k =
     ∙ ap₂ (λ (a b : List ℕ). a ++ b) (line_of_lines precision h v width y n layers (omega arith))
     (ap (bytes_at precision lines) (from-none n) ∙ pixel-of precision h v width y n layers (omega arith))
     ∙ sym (line-grown precision h v n layers y)
-    ∙ ap (λ (m : ℕ). line_bytes precision h v m layers y) (sym s)
+    ∙ ap (λ (m : ℕ). sample_line precision h v m layers y) (sym s)

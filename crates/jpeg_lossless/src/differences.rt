@@ -2,7 +2,7 @@
 ghost use Rattle.std.specs.Prelude.{◌≡◌, ◌+◌, ◌*◌, map, length, OnOk, is_some, true, false};
 ghost use Rattle.jpeg_bits.specs.Entropy.{Takes};
 ghost use Rattle.jpeg_bits.specs.Refusals.{answer_of, outcome_of, IsHeld};
-ghost use Rattle.jpeg_lossless.specs.Differences.{difference, differences, row_tables, onto};
+ghost use Rattle.jpeg_lossless.specs.Differences.{sample_difference, differences, row_tables, onto};
 
 use jpeg_bits::error::{Error, Result, hold_category_error, take_refusal};
 use jpeg_bits::huffman::{HuffmanDecoder, HuffmanTable};
@@ -14,7 +14,7 @@ use std::io::Read;
 /// of category 16 is 32768 and has no bits; a category above 16 is an error. On an error stores it
 /// in `refusal` and returns none.
 #[inline(always)]
-#[tactic(auto, unfolding(crate::specs::Differences::difference))]
+#[tactic(auto, unfolding(crate::specs::Differences::sample_difference))]
 fn take_difference<R: Read + Drop>(
     alloc: Global,
     decoder: &mut HuffmanDecoder,
@@ -22,7 +22,7 @@ fn take_difference<R: Read + Drop>(
     table: &HuffmanTable,
     refusal: &mut Option<Error>,
 ) -> Option<u16>
-    ensures difference { Takes (λ d. d) (difference table.now)
+    ensures difference { Takes (λ d. d) (sample_difference table.now)
         decoder.old source.old (answer_of result refusal.new) decoder.new source.new }
     ensures held { IsHeld result refusal.new }
 {

@@ -7,11 +7,11 @@ ghost use Rattle.std.specs.List.{AllByRecursion};
 ghost use Rattle.std.proofs.Props.{props};
 ghost use Rattle.jpeg_lossless.specs.Rows.{planes_after_rows};
 ghost use Rattle.jpeg_lossless.specs.PlanesRead.{planes_interval, planes_intervals, planes_scan};
-ghost use Rattle.jpeg_lossless.specs.PlanesRead.{AreGrown, IsWithin, cut_planes};
+ghost use Rattle.jpeg_lossless.specs.PlanesRead.{AreGrown, IsWithinMcus, cut_planes};
 ghost use Rattle.jpeg_lossless.specs.Scans.{is_of_rows, rows_of_interval};
 ghost use Rattle.jpeg_bits.specs.Intervals.{is_restart};
 ghost use Rattle.jpeg_lossless.specs.Scans.{shifted, scan_at};
-ghost use Rattle.jpeg_lossless.specs.Codings.{AreWhole, IsCovered, part_in, way_by};
+ghost use Rattle.jpeg_lossless.specs.Codings.{AreWholeSamples, IsCovered, part_in, way_by};
 ghost use Rattle.jpeg_lossless.specs.Differences.{mcu_tables};
 
 use crate::differences::read_row;
@@ -76,7 +76,7 @@ struct RowCoding<'a, 't> {
     /// The table of each sample of an MCU.
     tables: Vec<&'t HuffmanTable>,
     ghost listed: { map (λ t. t.now) tables.items ≡ mcu_tables (map part_in parts.now) },
-    ghost within: { AllByRecursion (IsWithin scan.wide)
+    ghost within: { AllByRecursion (IsWithinMcus scan.wide)
         (map part_in parts.now) } by { Prim.hlevel props },
     ghost point: { scan.point_transform < scan.precision },
     ghost precision: { scan.precision ≤ 16 },
@@ -103,7 +103,7 @@ impl LosslessScan {
     ghost use Rattle.jpeg_lossless.specs.Differences.{mcu_tables};
     ghost use Rattle.jpeg_lossless.specs.Rows.{planes_after_rows};
     ghost use Rattle.jpeg_lossless.specs.PlanesRead.{planes_interval, planes_intervals};
-    ghost use Rattle.jpeg_lossless.specs.PlanesRead.{AreGrown, IsWithin};
+    ghost use Rattle.jpeg_lossless.specs.PlanesRead.{AreGrown, IsWithinMcus};
 
     /// Reads `count` rows of MCUs, and appends their samples to the planes.
     fn read_rows<R: Read + Drop>(
@@ -276,7 +276,7 @@ fn read_planes<R: Read + Drop>(
     requires covered { AllByRecursion (IsCovered coding.wide coding.high) (map part_in parts.now) }
     ensures count { IfOk result (λ r. length r.0.items ≡ length parts.now) }
     ensures whole { IfOk result
-        (λ r. AreWhole (map part_in parts.now) (map (λ v. v.items) r.0.items)) }
+        (λ r. AreWholeSamples (map part_in parts.now) (map (λ v. v.items) r.0.items)) }
     ensures reads { Answers (λ r. (map (λ v. v.items) r.0.items, r.1))
         (planes_scan (way_by coding (map part_in parts.now))
         coding.high coding.restart_interval coding.point_transform)
@@ -326,7 +326,7 @@ pub fn read_scan<R: Read + Drop>(
     requires covered { AllByRecursion (IsCovered coding.wide coding.high) (map part_in parts.now) }
     ensures count { IfOk result (λ r. length r.0.items ≡ length parts.now) }
     ensures whole { IfOk result
-        (λ r. AreWhole (map part_in parts.now) (map (λ v. v.items) r.0.items)) }
+        (λ r. AreWholeSamples (map part_in parts.now) (map (λ v. v.items) r.0.items)) }
     ensures reads { Answers (λ r. (map (λ v. v.items) r.0.items, r.1))
         (scan_at (way_by coding (map part_in parts.now))
         coding.high coding.restart_interval coding.point_transform)

@@ -10,7 +10,7 @@ use Rattle.std.specs.List.{concat}
 use borrow.Rule.Slice.PartMut.{put_mid}
 use Rattle.jpeg_pixels.specs.Upsampling.{upsampled}
 use Rattle.jpeg_pixels.specs.Pictures.{Source, Covers, AllCover, line_of, lines_of}
-use Rattle.jpeg_pixels.specs.JointPlanes.{AreLong}
+use Rattle.jpeg_pixels.specs.JointPlanes.{HaveWidth}
 
 pub lines_of-length : (sources : List Source) (planes : List (List ℕ)) (width row : ℕ) → length planes ≡ length sources
     → length (lines_of sources planes width row) ≡ length sources
@@ -64,7 +64,7 @@ cover-lower (s ∷ sources) (p ∷ planes) width low high le all =
     search (rules, cover-lower sources planes width low high le all.1)
 
 pub lines_of-long : (sources : List Source) (planes : List (List ℕ)) (width row : ℕ) → length planes ≡ length sources
-    → AreLong width (lines_of sources planes width row)
+    → HaveWidth width (lines_of sources planes width row)
 unfolding lines_of
 lines_of-long [] planes width row e = record { each = λ k h. absurd (omega arith) }
 lines_of-long (s ∷ sources) [] width row e = absurd (omega arith)

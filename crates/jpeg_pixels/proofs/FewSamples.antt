@@ -5,7 +5,7 @@ use Rattle.std.proofs.lemmas.Grind.{get_or-set_at}
 use Rattle.std.proofs.lemmas.Int.{int_wrap-add_left}
 use Rattle.std.specs.Int.{w32, int_wrap, int_shr}
 use Rattle.jpeg_pixels.specs.Samples.{clamped}
-use Rattle.jpeg_pixels.specs.Scaled.{sample_by}
+use Rattle.jpeg_pixels.specs.Scaled.{scaled_sample}
 use Rattle.jpeg_pixels.specs.Blocks.{WritesBlock}
 
 pub one_sample : (stride : ℕ) (f : ℕ → ℕ → ℕ) (old : List ℕ) (a : ℕ) → 1 ≤ stride → 1 ≤ length old → a ≡ f 0 0
@@ -54,17 +54,17 @@ wrapped_eighths z = ap (λ y. clamped (int_shr y 3)) (int_wrap-add_left w32 z (p
 
 -- the samples of the four products of a block
 pub sum_both : (s : ℕ → ℕ → ℤ) (m a d b : ℤ) → m ≡ s 0 0 → a ≡ s 0 1 → d ≡ s 1 0 → b ≡ s 1 1
-    → eighths (int_wrap w32 (m +ℤ a +ℤ (d +ℤ b))) ≡ sample_by s 0 0
+    → eighths (int_wrap w32 (m +ℤ a +ℤ (d +ℤ b))) ≡ scaled_sample s 0 0
 sum_both s m a d b e0 e1 e2 e3 = wrapped_eighths _ ∙ (λ i. eighths (e0 i +ℤ e1 i +ℤ (e2 i +ℤ e3 i)))
 
 pub sum_right : (s : ℕ → ℕ → ℤ) (m a d b : ℤ) → m ≡ s 0 0 → a ≡ s 0 1 → d ≡ s 1 0 → b ≡ s 1 1
-    → eighths (int_wrap w32 (m -ℤ a +ℤ (d -ℤ b))) ≡ sample_by s 1 0
+    → eighths (int_wrap w32 (m -ℤ a +ℤ (d -ℤ b))) ≡ scaled_sample s 1 0
 sum_right s m a d b e0 e1 e2 e3 = wrapped_eighths _ ∙ (λ i. eighths (e0 i +ℤ neg_ℤ (e1 i) +ℤ (e2 i +ℤ neg_ℤ (e3 i))))
 
 pub sum_down : (s : ℕ → ℕ → ℤ) (m a d b : ℤ) → m ≡ s 0 0 → a ≡ s 0 1 → d ≡ s 1 0 → b ≡ s 1 1
-    → eighths (int_wrap w32 (m +ℤ a -ℤ (d +ℤ b))) ≡ sample_by s 0 1
+    → eighths (int_wrap w32 (m +ℤ a -ℤ (d +ℤ b))) ≡ scaled_sample s 0 1
 sum_down s m a d b e0 e1 e2 e3 = wrapped_eighths _ ∙ (λ i. eighths (e0 i +ℤ e1 i +ℤ neg_ℤ (e2 i +ℤ e3 i)))
 
 pub sum_across : (s : ℕ → ℕ → ℤ) (m a d b : ℤ) → m ≡ s 0 0 → a ≡ s 0 1 → d ≡ s 1 0 → b ≡ s 1 1
-    → eighths (int_wrap w32 (m -ℤ a -ℤ (d -ℤ b))) ≡ sample_by s 1 1
+    → eighths (int_wrap w32 (m -ℤ a -ℤ (d -ℤ b))) ≡ scaled_sample s 1 1
 sum_across s m a d b e0 e1 e2 e3 = search (rules, neg_ℤ, wrapped_eighths)

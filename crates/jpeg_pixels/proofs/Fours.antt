@@ -3,7 +3,7 @@ use Rattle.std.proofs.Common.{◌≡◌, ℕ, ◌<◌, List, [], ◌∷◌, ℤ,
 use Rattle.std.proofs.Common.{ap, ◌∙◌, arith, rules}
 use Rattle.std.proofs.lemmas.Int.{int_wrap-add_left}
 use Rattle.std.specs.Int.{w32, int_wrap, int_shr}
-use Rattle.jpeg_pixels.specs.Scaled.{joined, even_part, odd_part, column_by}
+use Rattle.jpeg_pixels.specs.Scaled.{even_and_odd, even_part, odd_part, column_by}
 use Rattle.jpeg_pixels.specs.SmallBlocks.{four}
 use Rattle.jpeg_pixels.proofs.Residues.{wrapped_parts, wrapped_apart, wrapped_inside}
 use Rattle.std.proofs.lemmas.Bool.Decides.{nat_tests}
@@ -62,7 +62,8 @@ both_difference x y a b ex ey = (λ i. int_wrap w32 (ex i -ℤ ey i)) ∙ wrappe
 
 -- a value of a row before the last shift
 abbrev pub row_sum : (ℕ → ℤ) → ℕ → ℤ
-row_sum s x = int_wrap w32 (joined x (pos 4096 *ℤ even_part s x +ℤ pos 16842752) (odd_part s x))
+row_sum s x = int_wrap w32 (even_and_odd x (pos 4096 *ℤ even_part s x +ℤ pos 16842752) (odd_part s
+    x))
 
 pub row_is : (s0 s1 s2 s3 outer_sum inner_sum outer_even inner_even outer inner : ℤ) (xs : List ℤ)
     → outer_sum ≡ int_wrap w32 (s0 +ℤ s2) → inner_sum ≡ int_wrap w32 (s0 -ℤ s2)

@@ -5,12 +5,14 @@ use Rattle.std.proofs.lemmas.List.{ext_get_or, get_or-append_right, get_or_appen
 use Rattle.std.proofs.lemmas.List.FromFn.{length-map-range_with_len, get_or-map-range_with_len}
 use Rattle.std.proofs.Math.Nat.{mul_comm, div-lt_iff_lt-mul, mod-lt, div-add-mod}
 use Rattle.std.specs.List.{range_with_len, concat}
-use Rattle.jpeg_pixels.specs.JointPlanes.{AreLong}
+use Rattle.jpeg_pixels.specs.JointPlanes.{HaveWidth}
 
-pub AreLong-more : (n : ℕ) (l : List ℕ) (lines : List (List ℕ)) → AreLong n (l ∷ lines) → AreLong n lines
+pub AreLong-more : (n : ℕ) (l : List ℕ) (lines : List (List ℕ)) → HaveWidth n (l ∷ lines) →
+    HaveWidth n lines
 AreLong-more n l lines long = record { each = λ k h. long.each (suc k) (omega arith) }
 
-pub joined-length : (n : ℕ) (lines : List (List ℕ)) → AreLong n lines → length (concat lines) ≡ length lines * n
+pub joined-length : (n : ℕ) (lines : List (List ℕ)) → HaveWidth n lines → length (concat lines) ≡
+    length lines * n
 joined-length n [] long = omega arith
 joined-length n (l ∷ lines) long =
     let first : length l ≡ n = long.each 0 (omega arith) in
@@ -18,7 +20,8 @@ joined-length n (l ∷ lines) long =
     length-append l (concat lines) ∙ omega arith
 
 -- the entry at a place of a line
-pub joined-at : (n : ℕ) (lines : List (List ℕ)) (k x : ℕ) → AreLong n lines → k < length lines → x < n
+pub joined-at : (n : ℕ) (lines : List (List ℕ)) (k x : ℕ) → HaveWidth n lines → k < length lines →
+    x < n
     → get_or (concat lines) (k * n + x) 0 ≡ get_or (get_or lines k []) x 0
 joined-at n [] k x long h lt = absurd (omega arith)
 joined-at n (l ∷ lines) zero x long h lt =
@@ -44,7 +47,7 @@ by_pixels n width pixel out some sizes long each =
     let count : length lines ≡ width = length-map-range_with_len pixel 0 width in
     let line_is : (k : ℕ) → k < width → get_or lines k [] ≡ pixel k = λ k h. get_or-map-range_with_len pixel 0 width k k
     [] h (omega arith) in
-    let are_long : AreLong n lines = search (rules, each) in
+    let are_long : HaveWidth n lines = search (rules, each) in
     let all : length (concat lines) ≡ length lines * n = joined-length n lines are_long in
     let turned : n * width ≡ width * n = mul_comm n width in
     ext_get_or 0 out (concat lines) (long ∙ turned ∙ ap (λ m. m * n) (sym count) ∙ sym all)
@@ -61,6 +64,7 @@ by_pixels n width pixel out some sizes long each =
     ∙ ap (λ m. get_or (concat lines) m 0) is')
 
 -- the samples of a pixel stand in the lines
-pub sample-at : (n : ℕ) (lines : List (List ℕ)) (k x : ℕ) → AreLong n lines → k < length lines → x < n
+pub sample-at : (n : ℕ) (lines : List (List ℕ)) (k x : ℕ) → HaveWidth n lines → k < length lines →
+    x < n
     → get_or (map (λ (l : List ℕ). get_or l x 0) lines) k 0 ≡ get_or (concat lines) (k * n + x) 0
 sample-at n lines k x long h lt = search (rules, get_or, get_or-map, joined-at)

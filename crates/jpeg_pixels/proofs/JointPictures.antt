@@ -18,10 +18,10 @@ use Rattle.jpeg_bits.specs.declared.color_transform.ColorTransform.{ColorTransfo
 use Rattle.jpeg_segments.specs.Frame.{AllHaveSampling, Component, Factors, greatest}
 use Rattle.jpeg_pixels.specs.Colour.{conversion_of, line_bytes}
 use Rattle.jpeg_pixels.specs.JointPlanes.{AreAlike, IsShapeOf, converted, gathered, joint_bytes}
-use Rattle.jpeg_pixels.specs.JointPlanes.{joint_plane, joint_planes, row_size, strip_lines}
+use Rattle.jpeg_pixels.specs.JointPlanes.{joint_plane, joint_planes, joint_row_size, strip_lines}
 use Rattle.jpeg_pixels.specs.JointPlanes.{strip_size, strips_at}
 use Rattle.jpeg_pixels.specs.Pictures.{Source, all_factors, image_of, line_of, lines_of}
-use Rattle.jpeg_pixels.specs.Pictures.{picture_bytes, picture_line, sources_by, sources_of}
+use Rattle.jpeg_pixels.specs.Pictures.{converted_picture, picture_line, sources_by, sources_of}
 use Rattle.jpeg_pixels.specs.Upsampling.{rule_of, upsampled}
 use Rattle.jpeg_pixels.specs.declared.upsampler.UpsampleRule.TheVariants.{H1V1}
 use Rattle.jpeg_pixels.specs.declared.joint_planes.JointShape.{JointShape}
@@ -55,19 +55,20 @@ lines-more height row lines = omega (arith, add-mul)
 
 -- the strips of a row of MCUs are in the room
 pub strips-inside : (shape : JointShape) (row first size long whole : ℕ)
-    → first ≡ row_size shape → size ≡ row_size shape → row < shape.rows → long ≡ whole
-    → whole ≡ shape.rows * row_size shape → row * first + size ≤ long
+    → first ≡ joint_row_size shape → size ≡ joint_row_size shape → row < shape.rows → long ≡ whole
+    → whole ≡ shape.rows * joint_row_size shape → row * first + size ≤ long
 strips-inside shape row first size long whole e f lt g is =
-    rw (e, f, g, is) (row_fits row (row_size shape) shape.rows (row_size shape) lt (omega arith))
+    rw (e, f, g, is) (row_fits row (joint_row_size shape) shape.rows (joint_row_size shape) lt
+    (omega arith))
 
 -- and the samples have all of them
 strips-long : (shape : JointShape) (samples : List ℕ) (row : ℕ) → row < shape.rows
-    → length samples ≡ shape.rows * row_size shape
-    → length (strips_at shape samples row) ≡ row_size shape
+    → length samples ≡ shape.rows * joint_row_size shape
+    → length (strips_at shape samples row) ≡ joint_row_size shape
 strips-long shape samples row lt full =
     let inside = strips-inside shape row _ _ _ _ refl refl lt full refl in
-    let left = length-drop (row * row_size shape) samples in
-    length-take-le (row_size shape) (drop (row * row_size shape) samples) (omega arith)
+    let left = length-drop (row * joint_row_size shape) samples in
+    length-take-le (joint_row_size shape) (drop (row * joint_row_size shape) samples) (omega arith)
 
 -- the lines of the picture above a row of MCUs stand in a list
 abbrev pub AreWritten : ColorConvert → JointShape → ℕ → List ℕ → ℕ → ℕ → List ℕ → Type 0
@@ -92,13 +93,13 @@ pub row-written : (convert : ColorConvert) (shape : JointShape) (width : ℕ) (s
     (height row : ℕ) (out room lines new : List ℕ) (start count size whole whole' k : ℕ)
     → start ≡ min height (row * shape.lines)
     → count ≡ min shape.lines (height - row * shape.lines)
-    → size ≡ shape.count * width → whole ≡ row_size shape → whole' ≡ row_size shape
-    → row < shape.rows → length samples ≡ shape.rows * row_size shape
-    → drop (row * row_size shape) room ≡ drop (row * row_size shape) samples
+    → size ≡ shape.count * width → whole ≡ joint_row_size shape → whole' ≡ joint_row_size shape
+    → row < shape.rows → length samples ≡ shape.rows * joint_row_size shape
+    → drop (row * joint_row_size shape) room ≡ drop (row * joint_row_size shape) samples
     → length new ≡ count * size → start * size ≤ length out
     → lines ≡ gathered shape width
     (take (row * whole + whole' - row * whole) (drop (row * whole) room)) count
-    → ((strips : List ℕ) → length strips ≡ row_size shape
+    → ((strips : List ℕ) → length strips ≡ joint_row_size shape
     → lines ≡ gathered shape width strips count
     → new ≡ converted convert shape width strips count)
     → AreWritten convert shape width samples height row out
@@ -109,7 +110,7 @@ row-written convert shape width samples height row out room lines new start coun
     let next : min height ((row + 1) * shape.lines) * (shape.count * width)
     ≡ start * size + length new =
     cc (lines-more height row shape.lines, add-mul start count size) in
-    let some : row * whole + whole' - row * whole ≡ row_size shape = omega arith in
+    let some : row * whole + whole' - row * whole ≡ joint_row_size shape = omega arith in
     let strips = strips_at shape samples row in
     let here = made strips (strips-long shape samples row lt full) (read ∙ cc) in
     let more : joint_bytes convert shape width samples (start + count)
@@ -122,13 +123,13 @@ row-written convert shape width samples height row out room lines new start coun
 
 -- the strips after those of the row are as they were
 pub unread-more : (shape : JointShape) (row start k : ℕ) (room samples new : List ℕ)
-    → length new ≡ length (mid_of start k room) → start + k ≤ (row + 1) * row_size shape
-    → (row + 1) * row_size shape ≤ length room
-    → drop (row * row_size shape) room ≡ drop (row * row_size shape) samples
-    → drop ((row + 1) * row_size shape) (put_mid start k room new)
-    ≡ drop ((row + 1) * row_size shape) samples
+    → length new ≡ length (mid_of start k room) → start + k ≤ (row + 1) * joint_row_size shape
+    → (row + 1) * joint_row_size shape ≤ length room
+    → drop (row * joint_row_size shape) room ≡ drop (row * joint_row_size shape) samples
+    → drop ((row + 1) * joint_row_size shape) (put_mid start k room new)
+    ≡ drop ((row + 1) * joint_row_size shape) samples
 unread-more shape row start k room samples new long below inside same =
-    let size = row_size shape in
+    let size = joint_row_size shape in
     let next : (row + 1) * size ≡ row * size + size = omega (arith, add-mul) in
     let some : length new ≡ k =
     omega (arith, length-take k (drop start room), length-drop start room) in
@@ -140,9 +141,9 @@ unread-more shape row start k room samples new long below inside same =
 pub lines-end : (shape : JointShape) (width height row start count size long whole : ℕ)
     → width ≤ shape.stride → start ≡ min height (row * shape.lines)
     → count ≡ min shape.lines (height - row * shape.lines) → size ≡ shape.count * width
-    → row < shape.rows → long ≡ whole → whole ≡ shape.rows * row_size shape
-    → (start * size + count * size ≤ (row + 1) * row_size shape)
-    × ((row + 1) * row_size shape ≤ long)
+    → row < shape.rows → long ≡ whole → whole ≡ shape.rows * joint_row_size shape
+    → (start * size + count * size ≤ (row + 1) * joint_row_size shape)
+    × ((row + 1) * joint_row_size shape ≤ long)
 lines-end shape width height row start count size long whole wide first some is lt e full =
     let within : start + count ≤ (row + 1) * shape.lines =
     omega (arith, lines-more height row shape.lines) in
@@ -150,7 +151,7 @@ lines-end shape width height row start count size long whole wide first some is 
     omega (arith, mul-le-mul_left shape.count wide) in
     let most : (start + count) * size ≤ ((row + 1) * shape.lines) * (shape.count * shape.stride) =
     mul-le-mul within wider in
-    (omega (arith, add-mul, mul_assoc), omega (arith, mul-le-mul_right (row_size shape) lt))
+    (omega (arith, add-mul, mul_assoc), omega (arith, mul-le-mul_right (joint_row_size shape) lt))
 
 -- and they are in a picture of this height
 pub lines-fit : (height row lines start count size line long whole : ℕ)
@@ -211,11 +212,11 @@ sources-alike (c ∷ more) width height stride some factors alike =
 -- ---- lines of planes in one room
 
 module _ (shape : JointShape) (samples : List ℕ)
-    (full : length samples ≡ shape.rows * row_size shape) where
+    (full : length samples ≡ shape.rows * joint_row_size shape) where
   -- the sample of a plane
   plane-at : (slot i : ℕ) → slot < shape.count → i < shape.rows * strip_size shape
       → get_or (joint_plane shape samples slot) i 0
-      ≡ get_or samples (i / strip_size shape * row_size shape
+      ≡ get_or samples (i / strip_size shape * joint_row_size shape
       + (slot * strip_size shape + i % strip_size shape)) 0
   unfolding joint_plane
   plane-at slot i inside lt =
@@ -255,7 +256,7 @@ module _ (shape : JointShape) (samples : List ℕ)
       let rest = line * shape.stride + x in
       let at : first + x ≡ slot * size + rest = omega arith in
       let read : get_or (part width row slot) x 0
-      ≡ get_or samples (mcu * row_size shape + (first + x)) 0 = search (rules, places) in
+      ≡ get_or samples (mcu * joint_row_size shape + (first + x)) 0 = search (rules, places) in
       let lines = ap (λ n. n * shape.stride) (div-add-mod' row shape.lines) in
       let is : mcu * size + rest ≡ row * (c.blocks_wide * c.scale) + x =
       omega (arith, add-mul, mul_assoc, lines, ap (λ n. row * n) stride) in
@@ -285,9 +286,9 @@ module _ (shape : JointShape) (samples : List ℕ)
   picture-joint : (convert : ColorConvert) (width height : ℕ) (cs : List Component)
       → shape.count ≡ length cs → AllByRecursion (λ c. c.blocks_wide * c.scale ≡ shape.stride) cs
       → width ≤ shape.stride → height ≤ shape.rows * shape.lines
-      → picture_bytes convert (map plain cs) (joint_planes shape samples) width height
+      → converted_picture convert (map plain cs) (joint_planes shape samples) width height
       ≡ joint_bytes convert shape width samples height
-  unfolding picture_bytes picture_line joint_bytes joint_planes strip_lines
+  unfolding converted_picture picture_line joint_bytes joint_planes strip_lines
   picture-joint convert width height cs count strides wide high =
       lines-after _ _ 0 height height (omega arith) (λ row h.
       let from : 0 + row ≡ row = omega arith in

@@ -12,7 +12,8 @@ use Rattle.std.proofs.Math.Nat.{mul-div_cancel_left}
 use Rattle.std.proofs.Math.Seq.{drop-append-add, take-append_seam}
 use Rattle.std.specs.List.{range_with_len, concat}
 use borrow.Rule.Slice.PartMut.{put_mid}
-use Rattle.jpeg_pixels.specs.JointPlanes.{AreLong, gathered, joint_plane, row_size, strip_lines}
+use Rattle.jpeg_pixels.specs.JointPlanes.{HaveWidth, gathered, joint_plane, joint_row_size}
+use Rattle.jpeg_pixels.specs.JointPlanes.{strip_lines}
 use Rattle.jpeg_pixels.specs.JointPlanes.{strip_size}
 use Rattle.jpeg_pixels.specs.declared.joint_planes.JointShape.{JointShape}
 use Rattle.jpeg_pixels.proofs.ComponentLines.{take-put}
@@ -39,7 +40,7 @@ joined-put f n all line size k now new h same room long is before =
     search (rules, joined-more, take-put)
 
 -- one of several lines of one length, by its number
-joined-part : (n : ℕ) (lines : List (List ℕ)) (k : ℕ) → AreLong n lines → k < length lines
+joined-part : (n : ℕ) (lines : List (List ℕ)) (k : ℕ) → HaveWidth n lines → k < length lines
     → take n (drop (k * n) (concat lines)) ≡ get_or lines k []
 joined-part n [] k long h = absurd (omega arith)
 joined-part n (l ∷ lines) zero long h =
@@ -73,8 +74,8 @@ strip_lines-count shape width strips line =
 
 -- each is as wide as the picture
 pub strip_lines-long : (shape : JointShape) (width : ℕ) (strips : List ℕ) (line : ℕ)
-    → line < shape.lines → width ≤ shape.stride → length strips ≡ row_size shape
-    → AreLong width (strip_lines shape width strips line)
+    → line < shape.lines → width ≤ shape.stride → length strips ≡ joint_row_size shape
+    → HaveWidth width (strip_lines shape width strips line)
 unfolding strip_lines
 strip_lines-long shape width strips line lt wide long = record {
   each = λ k h.
@@ -87,7 +88,8 @@ strip_lines-long shape width strips line lt wide long = record {
 
 -- a line of those that were gathered
 pub gathered-line : (shape : JointShape) (width : ℕ) (strips given : List ℕ) (count line size : ℕ)
-    → line < count → count ≤ shape.lines → width ≤ shape.stride → length strips ≡ row_size shape
+    → line < count → count ≤ shape.lines → width ≤ shape.stride → length strips ≡ joint_row_size
+    shape
     → size ≡ shape.count * width → given ≡ gathered shape width strips count
     → take (line * size + size - line * size) (drop (line * size) given)
     ≡ concat (strip_lines shape width strips line)
@@ -98,7 +100,7 @@ gathered-line shape width strips given count line size lt high wide long is from
     let counted : length lines ≡ count = length-map-range_with_len f 0 count in
     let at : (k : ℕ) → k < count → get_or lines k [] ≡ f k = λ k h.
     get_or-map-range_with_len f 0 count k k [] h (omega arith) in
-    let longs : AreLong size lines = record {
+    let longs : HaveWidth size lines = record {
       each = λ k h. ap length (at k (omega arith))
           ∙ joined-length width (strip_lines shape width strips k)
           (strip_lines-long shape width strips k (omega arith) wide long)
@@ -117,20 +119,21 @@ values-more f xs ys a n is own each =
 -- the first samples of the plane of the component in a slot
 abbrev pub first_samples : JointShape → List ℕ → ℕ → ℕ → List ℕ
 first_samples shape samples slot n =
-    map (λ i. slice_index samples (i / strip_size shape * row_size shape + (slot * strip_size shape
+    map (λ i. slice_index samples (i / strip_size shape * joint_row_size shape + (slot * strip_size
+    shape
     + i % strip_size shape))) (range_with_len 0 n)
 
 -- one strip more of a plane
 pub samples-more : (shape : JointShape) (samples given plane : List ℕ) (slot row size long : ℕ)
-    → row < shape.rows → slot < shape.count → length samples ≡ shape.rows * row_size shape
-    → size ≡ strip_size shape → long ≡ row_size shape → given ≡ samples
+    → row < shape.rows → slot < shape.count → length samples ≡ shape.rows * joint_row_size shape
+    → size ≡ strip_size shape → long ≡ joint_row_size shape → given ≡ samples
     → plane ≡ first_samples shape samples slot (row * size)
     → plane ++ take (row * long + slot * size + size - (row * long + slot * size))
     (drop (row * long + slot * size) given) ≡ first_samples shape samples slot ((row + 1) * size)
 samples-more shape samples given plane slot row size long h lt whole is_size is_long is before =
     let n = strip_size shape in
-    let f = λ (i : ℕ). slice_index samples (i / n * row_size shape + (slot * n + i % n)) in
-    let start = row * row_size shape + slot * n in
+    let f = λ (i : ℕ). slice_index samples (i / n * joint_row_size shape + (slot * n + i % n)) in
+    let start = row * joint_row_size shape + slot * n in
     let all : (row + 1) * n ≡ row * n + n = omega arith in
     let same : start + n - start ≡ n = omega arith in
     let fits = part-fits row shape.rows slot shape.count n h lt in
@@ -143,7 +146,7 @@ samples-more shape samples given plane slot row size long h lt whole is_size is_
 
 -- all strips
 pub samples-all : (shape : JointShape) (samples : List ℕ) (slot : ℕ) → slot < shape.count
-    → length samples ≡ shape.rows * row_size shape
+    → length samples ≡ shape.rows * joint_row_size shape
     → first_samples shape samples slot (shape.rows * strip_size shape)
     ≡ joint_plane shape samples slot
 unfolding joint_plane

@@ -6,7 +6,7 @@ use Rattle.std.proofs.Math.Seq.{take-length}
 use Rattle.std.specs.List.{concat}
 use Rattle.jpeg_pixels.specs.Colour.{red_of, green_of, blue_of, colour_of, line_bytes}
 use Rattle.jpeg_pixels.specs.declared.upsampler.ColorConvert.TheVariants as converts
-use Rattle.jpeg_pixels.specs.JointPlanes.{AreLong}
+use Rattle.jpeg_pixels.specs.JointPlanes.{HaveWidth}
 use Rattle.jpeg_pixels.proofs.JoinedLines.{by_pixels, sample-at}
 use Rattle.std.proofs.lemmas.Bool.Decides.{nat_tests}
 
@@ -20,7 +20,7 @@ by_three f g h1 h2 h3 k h4 = grind (arith, nat_tests)
 by_four : (f g : ℕ → ℕ) → f 0 ≡ g 0 → f 1 ≡ g 1 → f 2 ≡ g 2 → f 3 ≡ g 3 → (k : ℕ) → k < 4 → f k ≡ g k
 by_four f g h1 h2 h3 h4 k h5 = grind (arith, nat_tests)
 
-pub line-none : (width : ℕ) (lines : List (List ℕ)) → AreLong width lines
+pub line-none : (width : ℕ) (lines : List (List ℕ)) → HaveWidth width lines
     → concat lines ≡ line_bytes converts.None width lines
 unfolding line_bytes
 line-none width lines long = ap concat (ext_get_or [] lines (map (take width) lines)
@@ -30,7 +30,7 @@ line-none width lines long = ap concat (ext_get_or [] lines (map (take width) li
     sym (get_or-map (take width) lines k [] [] h ∙ ap (λ n. take n (get_or lines k [])) (sym own)
     ∙ take-length (get_or lines k []))))
 
-module _ (width : ℕ) (lines : List (List ℕ)) (out : List ℕ) (long : AreLong width lines) where
+module _ (width : ℕ) (lines : List (List ℕ)) (out : List ℕ) (long : HaveWidth width lines) where
   -- the number at a place of the lines in a row
   abbrev pub in_lines : ℕ → ℕ
   in_lines i = get_or (concat lines) i 0

@@ -13,7 +13,8 @@ use lib.Lanes.{zip2}
 use Rattle.jpeg_pixels.specs.declared.short_block.Shorts.{Shorts}
 use Rattle.jpeg_pixels.specs.Lanes.{lanes}
 use Rattle.jpeg_pixels.specs.Samples.{transformed, basis, sum_below, dequantized, column_value, is_flat_column}
-use Rattle.jpeg_pixels.specs.ShortRows.{HasShorts, HasShortZeros, IsWithin, line_value, short_column_of}
+use Rattle.jpeg_pixels.specs.ShortRows.{HasShorts, HasShortZeros, HasShortProducts, line_value}
+use Rattle.jpeg_pixels.specs.ShortRows.{short_column_of}
 use Rattle.jpeg_pixels.specs.ShortRows.{short_lane_at}
 use Rattle.jpeg_pixels.proofs.Columns.{other_value}
 use Rattle.jpeg_pixels.proofs.LaneRows.{eight_cases}
@@ -74,7 +75,8 @@ shifted_lanes v s g e =
 small_product : (z : ℤ) (q : ℕ) → unsigned_abs z ≤ 1095 / max q 1 → unsigned_abs (z *ℤ pos q) ≤ 1095
 small_product z q h = grind (arith, common_steps)
 
-pub small_input : (coefficients : List ℤ) (quantization : List ℕ) → IsWithin coefficients quantization
+pub small_input : (coefficients : List ℤ) (quantization : List ℕ) → HasShortProducts coefficients
+    quantization
     → (row column : ℕ) → row < 8 → column < 8 → unsigned_abs (dequantized coefficients quantization row column) ≤ 1095
 unfolding dequantized
 small_input coefficients quantization within row column h h' = search (rules, small_product)
@@ -111,7 +113,8 @@ shifted_short (pos n) h = record { sfits = omega (arith, h) }
 shifted_short (negsuc n) h = record { sfits = omega (arith, h) }
 
 -- the general case of a column's value holds of a flat column too
-pub value_is : (coefficients : List ℤ) (quantization : List ℕ) → IsWithin coefficients quantization
+pub value_is : (coefficients : List ℤ) (quantization : List ℕ) → HasShortProducts coefficients
+    quantization
     → (row column : ℕ) → row < 8 → column < 8
     → int_shr (int_wrap w32 (transformed (λ k. dequantized coefficients quantization k column) row +ℤ pos 512)) 10
     ≡ column_value coefficients quantization row column
@@ -127,7 +130,8 @@ value_is coefficients quantization within row column h h' = by_flat (is_flat_col
         (omega (arith, ints, first)))
     by_flat false e = sym (other_value coefficients quantization row column e)
 
-pub value_fits : (coefficients : List ℤ) (quantization : List ℕ) → IsWithin coefficients quantization
+pub value_fits : (coefficients : List ℤ) (quantization : List ℕ) → HasShortProducts coefficients
+    quantization
     → (row column : ℕ) → row < 8 → column < 8 → FitsSigned w16 (column_value coefficients quantization row column)
 value_fits coefficients quantization within row column h h' =
     let z = transformed (λ k. dequantized coefficients quantization k column) row +ℤ pos 512 in
@@ -139,7 +143,8 @@ value_fits coefficients quantization within row column h h' =
     (shifted_short z most)
 
 -- a row of the columns' values
-pub value_row : (coefficients : List ℤ) (quantization : List ℕ) → IsWithin coefficients quantization → (inputs : Shorts)
+pub value_row : (coefficients : List ℤ) (quantization : List ℕ) → HasShortProducts coefficients
+    quantization → (inputs : Shorts)
     → HasShorts inputs (dequantized coefficients quantization) → (row : ℕ) → row < 8 → (v : List ℤ)
     → v ≡ lanes (λ j. int_wrap w32 (transformed (λ k. short_lane_at inputs k j) row +ℤ pos 512))
     → map (to_z w32) (zip2 (λ a b. of_z w32 (int_shr (to_z w32 a) b)) (map (of_z w32) v) (replicate 8 10))

@@ -19,7 +19,8 @@ use Rattle.jpeg_bits.specs.declared.color_transform.ColorTransform.{ColorTransfo
 use Rattle.jpeg_segments.specs.Frame.{Component}
 use Rattle.jpeg_pixels.specs.declared.upsampler.ColorConvert.{ColorConvert}
 use Rattle.jpeg_pixels.specs.Colour.{conversion_of}
-use Rattle.jpeg_pixels.specs.Pictures.{Source, sources_of, picture_line, picture_bytes, image_of}
+use Rattle.jpeg_pixels.specs.Pictures.{Source, sources_of, picture_line, converted_picture}
+use Rattle.jpeg_pixels.specs.Pictures.{image_of}
 use Rattle.jpeg_pixels.specs.PicturesView.{IsFor}
 use Rattle.jpeg_pixels.proofs.SourceLists.{sources-length}
 
@@ -35,9 +36,10 @@ grown start size old whole new tail begins is long =
 
 -- one more line
 pub picture-more : (convert : ColorConvert) (sources : List Source) (planes : List (List ℕ)) (width height : ℕ)
-    → picture_bytes convert sources planes width (height + 1) ≡ picture_bytes convert sources planes width height
+    → converted_picture convert sources planes width (height + 1) ≡ converted_picture convert
+    sources planes width height
     ++ picture_line convert sources planes width height
-unfolding picture_bytes
+unfolding converted_picture
 picture-more convert sources planes width height =
     let line = picture_line convert sources planes width in
     ap concat (map-range_with_len_more line 0 height height (omega arith))
@@ -45,8 +47,8 @@ picture-more convert sources planes width height =
     ∙ ap (λ (l : List ℕ). concat (map line (range_with_len 0 height)) ++ l) (append-nil (line height))
 
 pub picture-none : (convert : ColorConvert) (sources : List Source) (planes : List (List ℕ)) (width : ℕ)
-    → picture_bytes convert sources planes width 0 ≡ []
-unfolding picture_bytes
+    → converted_picture convert sources planes width 0 ≡ []
+unfolding converted_picture
 picture-none convert sources planes width = refl
 
 by_count : (count n : ℕ) (own convert : ColorConvert) → (count ≡ n → IsFor count own)
@@ -65,7 +67,7 @@ as_bytes l = Ok l
 pub image-is : (components : List Component) (planes : List (List ℕ)) (width height : ℕ) (transform : ColorTransform)
     (convert : ColorConvert) (sources : List Source) (bytes : List ℕ)
     → conversion_of (length components) transform ≡ Ok convert → sources_of components width height ≡ Ok sources
-    → bytes ≡ picture_bytes convert sources planes width height
+    → bytes ≡ converted_picture convert sources planes width height
     → image_of components planes width height transform ≡ Ok bytes
 unfolding image_of
 image-is components planes width height transform convert sources bytes conversion is same = cc
@@ -90,7 +92,8 @@ pub image-answer : (components : List Component) (planes : List (List ℕ)) (wid
     (result : Result (Vec ℕ Global) Error)
     → conversion_of (length components) transform ≡ Ok convert → sources_of components width height ≡ Ok sources
     → w ≡ width → h ≡ height
-    → MatchResult result (λ v. v.items ≡ picture_bytes convert sources planes w h) (λ e. e ≡ OutOfMemory)
+    → MatchResult result (λ v. v.items ≡ converted_picture convert sources planes w h) (λ e. e ≡
+    OutOfMemory)
     → MatchResult result (λ v. image_of components planes width height transform ≡ Ok v.items)
     (λ e. Names e (image_of components planes width height transform))
 image-answer components planes width height transform convert sources w h result h1 h2 h3 h4 h5 =
@@ -101,7 +104,7 @@ pub image-written : (components : List Component) (planes : List (List ℕ)) (wi
     (transform : ColorTransform) (convert : ColorConvert) (sources : List Source) (pixels : List ℕ)
     (result : Result (Unit {0}) Error)
     → conversion_of (length components) transform ≡ Ok convert → sources_of components width height ≡ Ok sources
-    → OnOk result (pixels ≡ picture_bytes convert sources planes width height)
+    → OnOk result (pixels ≡ converted_picture convert sources planes width height)
     → IfErr result (λ e. e ≡ OutOfMemory)
     → MatchResult result (λ u. image_of components planes width height transform ≡ Ok pixels)
     (λ e. Names e (image_of components planes width height transform))

@@ -12,13 +12,14 @@ use Rattle.jpeg_pixels.specs.declared.upsampler.ColorConvert.{ColorConvert}
 abbrev pub strip_size : JointShape → ℕ
 strip_size shape = shape.lines * shape.stride
 
-abbrev pub row_size : JointShape → ℕ
-row_size shape = shape.count * strip_size shape
+abbrev pub joint_row_size : JointShape → ℕ
+joint_row_size shape = shape.count * strip_size shape
 
 -- the plane of the component in this slot: strip after strip
 unfoldable pub joint_plane : JointShape → List ℕ → ℕ → List ℕ
 joint_plane shape samples slot =
-    map (λ i. slice_index samples (i / strip_size shape * row_size shape + (slot * strip_size shape
+    map (λ i. slice_index samples (i / strip_size shape * joint_row_size shape + (slot * strip_size
+    shape
     + i % strip_size shape))) (range_with_len 0 (length samples / shape.count))
 
 unfoldable pub joint_planes : JointShape → List ℕ → List (List ℕ)
@@ -43,7 +44,8 @@ converted convert shape width strips count =
 
 -- the strips of a row of MCUs
 abbrev pub strips_at : JointShape → List ℕ → ℕ → List ℕ
-strips_at shape samples row = take (row_size shape) (drop (row * row_size shape) samples)
+strips_at shape samples row = take (joint_row_size shape) (drop (row * joint_row_size shape)
+    samples)
 
 -- the first lines of the picture
 unfoldable pub joint_bytes : ColorConvert → JointShape → ℕ → List ℕ → ℕ → List ℕ
@@ -52,7 +54,7 @@ joint_bytes convert shape width samples height =
     (strips_at shape samples (row / shape.lines)) (row % shape.lines))) (range_with_len 0 height))
 
 -- Each line has this many samples.
-pub record AreLong (width : ℕ) (lines : List (List ℕ)) : Type 0 where
+pub record HaveWidth (width : ℕ) (lines : List (List ℕ)) : Type 0 where
   pub each : (k : ℕ) → k < length lines → length (get_or lines k []) ≡ width
 
 -- a component has the factors, the columns of blocks and the scale of another one
@@ -71,7 +73,7 @@ pub record AreAlike (components : List Component) (stride : ℕ) : Type 0 where
   pub strides : AllByRecursion (λ c. c.blocks_wide * c.scale ≡ stride) components
 
 -- The sizes of strips are within those of frames.
-pub record IsSmall (shape : JointShape) : Type 0 where
+pub record HasFrameSizes (shape : JointShape) : Type 0 where
   pub count : shape.count ≤ 4
   pub stride : shape.stride ≤ 524280
   pub lines : shape.lines ≤ 32
@@ -83,7 +85,7 @@ pub record IsShapeOf (components : List Component) (width height : ℕ) (shape :
     : Type 0 where
   pub count : shape.count ≡ length components
   pub some : 3 ≤ shape.count
-  pub small : IsSmall shape
+  pub small : HasFrameSizes shape
   pub alike : AreAlike components shape.stride
   pub wide : width ≤ shape.stride
   pub high : height ≤ shape.rows * shape.lines

@@ -66,8 +66,8 @@ picture_line convert sources planes width row =
     line_bytes convert width (lines_of sources planes width row)
 
 -- the picture: its lines from above
-unfoldable pub picture_bytes : ColorConvert → List Source → List (List ℕ) → ℕ → ℕ → List ℕ
-picture_bytes convert sources planes width height =
+unfoldable pub converted_picture : ColorConvert → List Source → List (List ℕ) → ℕ → ℕ → List ℕ
+converted_picture convert sources planes width height =
     concat (map (picture_line convert sources planes width) (range_with_len 0 height))
 
 unfoldable pub image_of : List Component → List (List ℕ) → ℕ → ℕ → ColorTransform
@@ -75,7 +75,7 @@ unfoldable pub image_of : List Component → List (List ℕ) → ℕ → ℕ →
 image_of components planes width height transform =
     conversion_of (length components) transform >>= (λ convert.
     sources_of components width height
-    >>= (λ sources. Ok (picture_bytes convert sources planes width height)))
+    >>= (λ sources. Ok (converted_picture convert sources planes width height)))
 
 -- ---- what is asked of planes
 

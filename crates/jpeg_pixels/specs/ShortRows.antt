@@ -51,7 +51,7 @@ pub record IsShortTable (table : ShortTable) (quantization : List ℕ) : Type 0 
       → slice_index_or table.limits k (pos 0) ≡ pos (1095 / max (slice_index quantization k) 1)
 
 -- No product of a coefficient and its quantization value is above 1095 in magnitude.
-pub record IsWithin (coefficients : List ℤ) (quantization : List ℕ) : Type 0 where
+pub record HasShortProducts (coefficients : List ℤ) (quantization : List ℕ) : Type 0 where
   pub are : (k : ℕ) → k < 64
       → unsigned_abs (slice_index_or coefficients k (pos 0)) ≤ 1095 / max (slice_index quantization k) 1
 

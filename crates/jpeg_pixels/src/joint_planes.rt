@@ -9,7 +9,8 @@ ghost use Rattle.std.specs.List.{AllByRecursion};
 ghost use Rattle.jpeg_bits.specs.Reading.{Names};
 ghost use Rattle.jpeg_segments.specs.Frame.{AllHaveSampling};
 ghost use Rattle.jpeg_segments.specs.FrameView.{component_in};
-ghost use Rattle.jpeg_pixels.specs.JointPlanes.{IsLike, IsShapeOf, IsSmall, joint_planes, row_size};
+ghost use Rattle.jpeg_pixels.specs.JointPlanes.{IsLike, IsShapeOf, HasFrameSizes, joint_planes};
+ghost use Rattle.jpeg_pixels.specs.JointPlanes.{joint_row_size};
 ghost use Rattle.jpeg_pixels.specs.Pictures.{image_of};
 
 use crate::picture_lines::convert_line;
@@ -35,11 +36,11 @@ pub struct JointShape {
 
 impl JointShape {
     ghost use Rattle.std.specs.Prelude.{◌≡◌};
-    ghost use Rattle.jpeg_pixels.specs.JointPlanes.{IsSmall, row_size, strip_size};
+    ghost use Rattle.jpeg_pixels.specs.JointPlanes.{HasFrameSizes, joint_row_size, strip_size};
 
     // Returns the number of samples of a component in a row of MCUs.
     fn strip_size(&self) -> usize
-        requires { IsSmall self.now }
+        requires { HasFrameSizes self.now }
         ensures { result ≡ strip_size self.now }
     {
         self.lines * self.stride
@@ -47,8 +48,8 @@ impl JointShape {
 
     // Returns the number of samples of all components in a row of MCUs.
     fn row_size(&self) -> usize
-        requires { IsSmall self.now }
-        ensures { result ≡ row_size self.now }
+        requires { HasFrameSizes self.now }
+        ensures { result ≡ joint_row_size self.now }
     {
         self.count * self.strip_size()
     }
@@ -116,12 +117,13 @@ pub struct JointPlanes {
 
 impl JointPlanes {
     ghost use Rattle.std.specs.Prelude.{◌≡◌, ◌*◌, ◌<◌, [], IfOk, length, map};
-    ghost use Rattle.jpeg_pixels.specs.JointPlanes.{IsSmall, joint_plane, joint_planes, row_size};
+    ghost use Rattle.jpeg_pixels.specs.JointPlanes.{HasFrameSizes, joint_plane, joint_planes};
+    ghost use Rattle.jpeg_pixels.specs.JointPlanes.{joint_row_size};
 
     /// Makes planes without samples, and reserves memory for all of them. The only error is a
     /// refused allocation.
     pub fn new(alloc: Global, shape: JointShape) -> std::result::Result<JointPlanes, AllocError>
-        requires { IsSmall shape }
+        requires { HasFrameSizes shape }
         ensures shape { IfOk result (λ p. p.shape ≡ shape) }
         ensures none { IfOk result (λ p. p.samples.items ≡ []) }
     {
@@ -132,10 +134,10 @@ impl JointPlanes {
     /// Copies the plane of the component in a slot, once all rows were read. The only error is a
     /// refused allocation.
     pub fn plane(&self, alloc: Global, slot: usize) -> std::result::Result<Vec<u8>, AllocError>
-        requires small { IsSmall self.now.shape }
+        requires small { HasFrameSizes self.now.shape }
         requires slot { slot < self.now.shape.count }
         requires full { length self.now.samples.items
-            ≡ self.now.shape.rows * row_size self.now.shape }
+            ≡ self.now.shape.rows * joint_row_size self.now.shape }
         ensures { IfOk result
             (λ v. v.items ≡ joint_plane self.now.shape self.now.samples.items slot) }
     {
@@ -156,14 +158,15 @@ struct JointPicture {
     shape: JointShape,
     width: usize,
     color_convert: ColorConvert,
-    ghost small: { IsSmall shape },
+    ghost small: { HasFrameSizes shape },
     ghost wide: { width ≤ shape.stride },
 }
 
 impl JointPicture {
     ghost use Rattle.std.specs.Prelude.{◌≡◌, ◌*◌, ◌-◌, ◌<◌, ◌≤◌, List, ℕ, length, min, take};
     ghost use Rattle.std.specs.List.{concat};
-    ghost use Rattle.jpeg_pixels.specs.JointPlanes.{converted, gathered, joint_bytes, row_size};
+    ghost use Rattle.jpeg_pixels.specs.JointPlanes.{converted, gathered, joint_bytes};
+    ghost use Rattle.jpeg_pixels.specs.JointPlanes.{joint_row_size};
     ghost use Rattle.jpeg_pixels.specs.JointPlanes.{strip_lines};
     ghost use Rattle.jpeg_pixels.specs.PicturesView.{IsFor};
 
@@ -177,7 +180,7 @@ impl JointPicture {
     // Copies a line of each strip of a row of MCUs, one after the other.
     fn gather_line(&self, strips: &[u8], line: usize, lines: &mut [u8])
         requires line { line < self.now.shape.lines }
-        requires strips { length strips.now ≡ row_size self.now.shape }
+        requires strips { length strips.now ≡ joint_row_size self.now.shape }
         requires room { length lines.old ≡ self.now.shape.count * self.now.width }
         ensures { lines.new
             ≡ concat (strip_lines self.now.shape self.now.width strips.now line) }
@@ -193,7 +196,7 @@ impl JointPicture {
     // Copies the first lines of the strips of a row of MCUs, line by line of the picture.
     fn gather_row(&self, strips: &[u8], count: usize, lines: &mut [u8])
         requires count { count ≤ self.now.shape.lines }
-        requires strips { length strips.now ≡ row_size self.now.shape }
+        requires strips { length strips.now ≡ joint_row_size self.now.shape }
         requires room { length lines.old ≡ count * (self.now.shape.count * self.now.width) }
         ensures { lines.new ≡ gathered self.now.shape self.now.width strips.now count }
     {
@@ -210,7 +213,7 @@ impl JointPicture {
         requires count { count ≤ self.now.shape.lines }
         requires lines { length lines.now ≡ count * (self.now.shape.count * self.now.width) }
         requires room { length output.old ≡ count * (self.now.shape.count * self.now.width) }
-        ensures { (strips : List ℕ) → length strips ≡ row_size self.now.shape
+        ensures { (strips : List ℕ) → length strips ≡ joint_row_size self.now.shape
             → lines.now ≡ gathered self.now.shape self.now.width strips count
             → output.new ≡ converted self.now.color_convert self.now.shape self.now.width
             strips count }
@@ -245,7 +248,7 @@ impl JointPicture {
         requires high { height ≤ self.now.shape.rows * self.now.shape.lines }
         requires lines { length lines.old
             ≡ self.now.shape.lines * (self.now.shape.count * self.now.width) }
-        requires full { length room.old ≡ self.now.shape.rows * row_size self.now.shape }
+        requires full { length room.old ≡ self.now.shape.rows * joint_row_size self.now.shape }
         ensures { take (height * (self.now.shape.count * self.now.width)) room.new
             ≡ joint_bytes self.now.color_convert self.now.shape self.now.width room.old height }
     {
@@ -266,7 +269,7 @@ impl JointPicture {
         requires high { height ≤ self.now.shape.rows * self.now.shape.lines }
         requires lines { length lines.old
             ≡ self.now.shape.lines * (self.now.shape.count * self.now.width) }
-        requires full { length samples.now ≡ self.now.shape.rows * row_size self.now.shape }
+        requires full { length samples.now ≡ self.now.shape.rows * joint_row_size self.now.shape }
         requires room { length picture.old
             ≡ height * (self.now.shape.count * self.now.width) }
         ensures { picture.new
@@ -298,7 +301,7 @@ pub fn compute_joint_image(
     requires factors { AllHaveSampling (map component_in components.now) }
     requires shape { IsShapeOf (map component_in components.now) output_size.width
         output_size.height planes.shape }
-    requires full { length planes.samples.items ≡ planes.shape.rows * row_size planes.shape }
+    requires full { length planes.samples.items ≡ planes.shape.rows * joint_row_size planes.shape }
     ensures { MatchResult result
         (λ v. image_of (map component_in components.now)
         (joint_planes planes.shape planes.samples.items) output_size.width output_size.height
@@ -339,7 +342,7 @@ pub fn compute_joint_image_into(
     requires shape { IsShapeOf (map component_in components.now) output_size.width
         output_size.height planes.now.shape }
     requires full { length planes.now.samples.items
-        ≡ planes.now.shape.rows * row_size planes.now.shape }
+        ≡ planes.now.shape.rows * joint_row_size planes.now.shape }
     requires room { length picture.old
         ≡ length components.now * output_size.width * output_size.height }
     ensures picture { MatchResult result

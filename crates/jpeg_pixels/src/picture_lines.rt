@@ -3,9 +3,9 @@ ghost use Rattle.std.specs.Prelude.{◌≡◌, ◌+◌, ◌*◌, ◌≤◌, map,
 ghost use Rattle.std.specs.Prelude.{List, ℕ};
 ghost use Rattle.std.specs.List.{concat};
 ghost use Rattle.jpeg_pixels.specs.Colour.{line_bytes};
-ghost use Rattle.jpeg_pixels.specs.JointPlanes.{AreLong};
+ghost use Rattle.jpeg_pixels.specs.JointPlanes.{HaveWidth};
 ghost use Rattle.jpeg_pixels.specs.Pictures.{Covers, AllCover};
-ghost use Rattle.jpeg_pixels.specs.Pictures.{line_of, lines_of, picture_line, picture_bytes};
+ghost use Rattle.jpeg_pixels.specs.Pictures.{line_of, lines_of, picture_line, converted_picture};
 ghost use Rattle.jpeg_pixels.specs.PicturesView.{source_in, IsFor};
 
 use crate::color_rows::{write_cmyk, write_rgb, write_ycbcr, write_ycck};
@@ -76,7 +76,7 @@ pub(crate) fn convert_line(
     requires fits { IsFor count color_convert }
     requires lines { length lines.now ≡ count * width }
     requires room { length output.old ≡ count * width }
-    ensures { (parts : List (List ℕ)) → length parts ≡ count → AreLong width parts
+    ensures { (parts : List (List ℕ)) → length parts ≡ count → HaveWidth width parts
         → lines.now ≡ concat parts → output.new ≡ line_bytes color_convert width parts }
 {
     match color_convert {
@@ -126,7 +126,7 @@ pub(crate) fn lines_from_above(
         (map (λ v. v.items) planes.now) width height }
     requires fits { IsFor (length components.now) color_convert }
     ensures { IfOk result (λ v. v.items ≡
-        picture_bytes color_convert (map source_in components.now)
+        converted_picture color_convert (map source_in components.now)
         (map (λ v. v.items) planes.now) width height) }
 {
     let line_size = components.len() * width;
@@ -165,7 +165,7 @@ pub(crate) fn write_lines(
     requires fits { IsFor (length components.now) color_convert }
     requires lines_room { length lines.old ≡ length components.now * size.width }
     requires room { length picture.old ≡ length components.now * size.width * size.height }
-    ensures { picture.new ≡ picture_bytes color_convert (map source_in components.now)
+    ensures { picture.new ≡ converted_picture color_convert (map source_in components.now)
         (map (λ v. v.items) planes.now) size.width size.height }
 {
     let width = usize::from(size.width);

@@ -13,7 +13,8 @@ ghost use Rattle.jpeg_pixels.specs.Lanes.{lanes, lane};
 ghost use Rattle.jpeg_pixels.specs.Blocks.{WritesBlock};
 ghost use Rattle.jpeg_pixels.specs.LaneRows.{HasNumbers, IsInCorner};
 ghost use Rattle.jpeg_pixels.specs.ShortRows.{HasShorts, HasShortZeros, IsLimit, IsShortTable};
-ghost use Rattle.jpeg_pixels.specs.ShortRows.{HasValues, IsWithin, short_lane_at, line_value};
+ghost use Rattle.jpeg_pixels.specs.ShortRows.{HasValues, HasShortProducts, short_lane_at};
+ghost use Rattle.jpeg_pixels.specs.ShortRows.{line_value};
 
 use crate::arch::{Rows, copy_lines, is_in_corner, samples_of, sums_of};
 use crate::idct::{COLUMN_BIAS, ROW_BIAS};
@@ -114,7 +115,7 @@ fn slack(coefficients: [i16; 64], limits: [i16; 64], at: usize) -> i16x8
 #[inline(always)]
 fn is_within(coefficients: [i16; 64], table: &ShortTable) -> bool
     ensures { (quantization : List ℕ) → IsShortTable table.now quantization → IsTrue result
-        → IsWithin coefficients quantization }
+        → HasShortProducts coefficients quantization }
 {
     let limits = table.limits;
     let least = slack(coefficients, limits, 0)
@@ -132,7 +133,7 @@ fn is_within(coefficients: [i16; 64], table: &ShortTable) -> bool
 fn short_products(coefficients: [i16; 64], values: [i16; 64], at: usize) -> i16x8
     requires { at + 8 ≤ 64 }
     ensures { (quantization : List ℕ) → HasValues values quantization
-        → IsWithin coefficients quantization
+        → HasShortProducts coefficients quantization
         → result ≡ lanes (λ j. slice_index_or coefficients (at + j) (pos 0) *ℤ pos
         (slice_index quantization (at + j))) }
 {
@@ -144,7 +145,7 @@ fn short_products(coefficients: [i16; 64], values: [i16; 64], at: usize) -> i16x
 #[tactic(auto, using(crate::proofs::LaneSums::kept_halves), unfolding(crate::specs::Samples::dequantized))]
 fn short_inputs(coefficients: [i16; 64], table: &ShortTable) -> Shorts
     ensures { (quantization : List ℕ) → IsShortTable table.now quantization
-        → IsWithin coefficients quantization
+        → HasShortProducts coefficients quantization
         → HasShorts result (dequantized coefficients quantization) }
 {
     let values = table.values;
@@ -237,7 +238,8 @@ fn with_short_zeros(rows: Shorts) -> Shorts
 // The columns of a block that is within its limits, turned so that each is a row.
 #[inline(always)]
 fn short_columns(inputs: Shorts) -> Shorts
-    ensures { (coefficients : List ℤ) (quantization : List ℕ) → IsWithin coefficients quantization
+    ensures { (coefficients : List ℤ) (quantization : List ℕ) → HasShortProducts coefficients
+        quantization
         → HasShorts inputs (dequantized coefficients quantization)
         → HasShorts result (λ column row. column_value coefficients quantization row column) }
 {
@@ -279,7 +281,7 @@ fn short_lines(columns: Shorts) -> Shorts
 // the rows that each pass takes are 0.
 fn lines_within(coefficients: [i16; 64], table: &ShortTable) -> Shorts
     ensures { (quantization : List ℕ) → IsShortTable table.now quantization
-        → IsWithin coefficients quantization
+        → HasShortProducts coefficients quantization
         → HasShorts result (line_value (column_value coefficients quantization)) }
 {
     let inputs = short_inputs(coefficients, table);

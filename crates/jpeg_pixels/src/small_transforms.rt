@@ -3,7 +3,8 @@ ghost use Rattle.std.specs.Prelude.{◌≡◌, ℕ, ◌+◌, ◌*◌, ◌<◌, �
 ghost use Rattle.std.specs.Prelude.{length, slice_index, slice_index_or};
 ghost use Rattle.std.specs.Int.{w32, int_wrap, int_shr};
 ghost use Rattle.jpeg_pixels.specs.Samples.{clamped, dequantized};
-ghost use Rattle.jpeg_pixels.specs.Scaled.{joined, even_part, odd_part, column_by, column_of_4};
+ghost use Rattle.jpeg_pixels.specs.Scaled.{even_and_odd, even_part, odd_part, column_by};
+ghost use Rattle.jpeg_pixels.specs.Scaled.{column_of_4};
 ghost use Rattle.jpeg_pixels.specs.Scaled.{sample_of_4, sample_of_2, sample_of_1};
 ghost use Rattle.jpeg_pixels.specs.SmallBlocks.{four};
 ghost use Rattle.jpeg_pixels.specs.Blocks.{WritesBlock};
@@ -110,7 +111,7 @@ fn transform_column(
 // The sums of the samples of a row, before the last shift.
 fn row_sums(s0: i32, s1: i32, s2: i32, s3: i32) -> [i32; 4]
     ensures { (x : ℕ) → x < 4 → slice_index_or result x (pos 0)
-        ≡ int_wrap w32 (joined x (pos 4096 *ℤ even_part (four s0 s1 s2 s3) x +ℤ pos 16842752)
+        ≡ int_wrap w32 (even_and_odd x (pos 4096 *ℤ even_part (four s0 s1 s2 s3) x +ℤ pos 16842752)
         (odd_part (four s0 s1 s2 s3) x)) }
 {
     let (outer, inner) = odd_sums(s1, s3);

@@ -197,7 +197,8 @@ impl Upsampler {
     ghost use Rattle.jpeg_bits.specs.Reading.{Gives};
     ghost use Rattle.jpeg_bits.specs.declared.error.Error.TheVariants.{OutOfMemory};
     ghost use Rattle.jpeg_segments.specs.FrameView.{component_in};
-    ghost use Rattle.jpeg_pixels.specs.Pictures.{sources_of, AllCover, picture_line, picture_bytes};
+    ghost use Rattle.jpeg_pixels.specs.Pictures.{sources_of, AllCover, picture_line};
+    ghost use Rattle.jpeg_pixels.specs.Pictures.{converted_picture};
     ghost use Rattle.jpeg_pixels.specs.PicturesView.{IsFor};
     ghost use Rattle.jpeg_segments.specs.Frame.{AllHaveSampling};
 
@@ -271,7 +272,7 @@ impl Upsampler {
         requires cover { AllCover self.now (map (λ v. v.items) component_data.now) width height }
         requires fits { IsFor (length self.now) color_convert }
         ensures { MatchResult result
-            (λ v. v.items ≡ picture_bytes color_convert self.now
+            (λ v. v.items ≡ converted_picture color_convert self.now
             (map (λ v. v.items) component_data.now) width height)
             (λ e. e ≡ OutOfMemory) }
     {
@@ -302,7 +303,7 @@ impl Upsampler {
             size.height }
         requires fits { IsFor (length self.now) color_convert }
         requires room { length picture.old ≡ length self.now * size.width * size.height }
-        ensures picture { OnOk result (picture.new ≡ picture_bytes color_convert self.now
+        ensures picture { OnOk result (picture.new ≡ converted_picture color_convert self.now
             (map (λ v. v.items) component_data.now) size.width size.height) }
         ensures unwritten { OnErr result (picture.new ≡ picture.old) }
         ensures err { IfErr result (λ e. e ≡ OutOfMemory) }

@@ -7,8 +7,8 @@ use Rattle.jpeg_streams.specs.declared.images.PixelFormat.{PixelFormat}
 use Rattle.jpeg_streams.specs.declared.images.PixelFormat.TheVariants.{L8, L16, RGB24, CMYK32}
 
 -- the greatest value of a sample of so many bits, MAXVAL
-abbrev pub greatest : ℕ → List ℕ
-greatest precision = decimal (2 ^ precision - 1)
+abbrev pub greatest_value : ℕ → List ℕ
+greatest_value precision = decimal (2 ^ precision - 1)
 
 -- whether a sample of so many bits takes two bytes
 abbrev pub is_wide : ℕ → Bool
@@ -17,13 +17,14 @@ is_wide precision = nat_lt 8 precision
 -- a header of PGM or PPM
 abbrev pub plain_header : List ℕ → ImageInfo → ℕ → List ℕ
 plain_header kind info precision =
-    kind ++ 10 ∷ decimal info.width ++ 32 ∷ decimal info.height ++ 10 ∷ greatest precision ++ 10 ∷ []
+    kind ++ 10 ∷ decimal info.width ++ 32 ∷ decimal info.height ++ 10 ∷ greatest_value precision ++
+    10 ∷ []
 
 -- a header of PAM for four samples a pixel
 abbrev pub pam_header : ImageInfo → ℕ → List ℕ
 pam_header info precision = codes "P7\nWIDTH " ++ decimal info.width ++ codes "\nHEIGHT " ++ decimal
     info.height
-    ++ codes "\nDEPTH 4\nMAXVAL " ++ greatest precision ++ codes "\nTUPLTYPE CMYK\nENDHDR\n"
+    ++ codes "\nDEPTH 4\nMAXVAL " ++ greatest_value precision ++ codes "\nTUPLTYPE CMYK\nENDHDR\n"
 
 -- what stands before the samples
 abbrev pub header_in : PixelFormat → ImageInfo → ℕ → List ℕ
@@ -44,10 +45,10 @@ abbrev pub higher_first : List ℕ → List ℕ
 higher_first samples = first_turned (length samples / 2) samples
 
 -- the samples of so many bits as the file has them
-abbrev pub samples_in : ℕ → List ℕ → List ℕ
-samples_in precision pixels = if is_wide precision then higher_first pixels else pixels
+abbrev pub file_samples : ℕ → List ℕ → List ℕ
+file_samples precision pixels = if is_wide precision then higher_first pixels else pixels
 
 -- the file of a picture whose samples have so many bits: its header, and its samples line by line
 abbrev pub file_of : ImageInfo → ℕ → List ℕ → List ℕ
 file_of info precision pixels =
-    header_in info.pixel_format info precision ++ samples_in precision pixels
+    header_in info.pixel_format info precision ++ file_samples precision pixels

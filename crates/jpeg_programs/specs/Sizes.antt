@@ -8,14 +8,14 @@ use Rattle.jpeg_programs.specs.declared.pictures.Request.TheVariants.{At, Within
 use Rattle.jpeg_programs.specs.declared.pictures.Scale.{Scale}
 use Rattle.jpeg_programs.specs.declared.pictures.Scale.TheVariants.{Eighth, Quarter, Half, Full}
 
-abbrev pub sized : ℕ → ℕ → Dimensions
-sized width height = record { width = width; height = height }
+abbrev pub dimensions : ℕ → ℕ → Dimensions
+dimensions width height = record { width = width; height = height }
 
 -- A size of the picture that is shown as one of the picture that is stored: the orientations from 5 to 8 lie on their
 -- side.
 abbrev pub as_stored : Dimensions → ℕ → Dimensions
 as_stored size orientation =
-    if nat_lt orientation 5 then size else sized size.height size.width
+    if nat_lt orientation 5 then size else dimensions size.height size.width
 
 -- what a side is when another side becomes shorter, from the first length to the second: the nearest number, and 1 at
 -- least
@@ -30,10 +30,10 @@ is_within width height most = nat_le width most.width && nat_le height most.heig
 -- proportions.
 abbrev pub fitted : ImageInfo → Dimensions → Dimensions
 fitted full most = if is_within full.width full.height most
-    then sized full.width full.height
+    then dimensions full.width full.height
     else if nat_le (full.height * most.width) (full.width * most.height)
-    then sized most.width (shrunk full.height full.width most.width)
-    else sized (shrunk full.width full.height most.height) most.height
+    then dimensions most.width (shrunk full.height full.width most.width)
+    else dimensions (shrunk full.width full.height most.height) most.height
 
 -- whether a picture at a scale isn't smaller than a size
 abbrev pub covers : Scale → ImageInfo → Dimensions → Bool
@@ -50,9 +50,11 @@ least_scale full size = if covers Eighth full size then Eighth
 -- The size of the picture that is asked for, as it is stored, and the scale that it is decoded at: by what the header
 -- says, and the orientation.
 unfoldable pub size_for : Request → ImageInfo → ℕ → Dimensions
-size_for (At scale) full orientation = sized (side_at scale full.width) (side_at scale full.height)
+size_for (At scale) full orientation = dimensions (side_at scale full.width) (side_at scale
+    full.height)
 size_for (Within most upright) full orientation = fitted full (as_stored most orientation)
 
-unfoldable pub scale_for : Request → ImageInfo → ℕ → Scale
-scale_for (At scale) full orientation = scale
-scale_for (Within most upright) full orientation = least_scale full (fitted full (as_stored most orientation))
+unfoldable pub scale_of_request : Request → ImageInfo → ℕ → Scale
+scale_of_request (At scale) full orientation = scale
+scale_of_request (Within most upright) full orientation = least_scale full (fitted full (as_stored
+    most orientation))

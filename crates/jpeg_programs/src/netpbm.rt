@@ -2,7 +2,7 @@
 ghost use Rattle.std.specs.Prelude.{◌≡◌, ◌++◌, ◌-◌, ◌^◌, IfOk, OnOk, string_bytes};
 ghost use Rattle.std.specs.Io.KnownBytes.{Appends};
 ghost use Rattle.jpeg_programs.specs.Netpbm.{file_of, header_in, higher_first, is_wide};
-ghost use Rattle.jpeg_programs.specs.Netpbm.{pam_header, plain_header, samples_in};
+ghost use Rattle.jpeg_programs.specs.Netpbm.{pam_header, plain_header, file_samples};
 
 use jpeg_decoder::error::{Error, Result, UnsupportedFeature};
 use jpeg_decoder::{ImageInfo, PixelFormat};
@@ -85,7 +85,7 @@ fn put_higher_first(samples: &mut [u8])
 
 /// Returns the pixels in the order of bytes that a file has.
 fn in_file_order(precision: u8, mut pixels: Vec<u8>) -> Vec<u8>
-    ensures { result.items ≡ samples_in precision pixels.items }
+    ensures { result.items ≡ file_samples precision pixels.items }
 {
     if is_wide(precision) {
         put_higher_first(pixels.as_mut_slice());

@@ -9,7 +9,7 @@ ghost use Rattle.jpeg_streams.specs.Stream.{told_of};
 ghost use Rattle.jpeg_programs.specs.ScaledPictures.{decoded, file_at_scale, header_info};
 ghost use Rattle.jpeg_programs.specs.ScaledPictures.{picture_at_scale, requested_height};
 ghost use Rattle.jpeg_programs.specs.ScaledPictures.{requested_width, side_at};
-ghost use Rattle.jpeg_programs.specs.Sizes.{covers, least_scale, scale_for, size_for};
+ghost use Rattle.jpeg_programs.specs.Sizes.{covers, least_scale, scale_of_request, size_for};
 ghost use Rattle.jpeg_programs.specs.declared.pictures.Request.TheVariants.{At};
 
 use crate::netpbm::{Picture, write_picture};
@@ -135,9 +135,9 @@ impl Request {
     }
 
     /// Returns the scale that such a picture is decoded at.
-    #[tactic(auto, unfolding(crate::specs::Sizes::scale_for))]
+    #[tactic(auto, unfolding(crate::specs::Sizes::scale_of_request))]
     fn scale(self, full: ImageInfo, orientation: u8) -> Scale
-        ensures chosen { result ≡ scale_for self full orientation }
+        ensures chosen { result ≡ scale_of_request self full orientation }
         ensures asked { (scale : _) → self ≡ At scale → result ≡ scale }
     {
         match self {
@@ -195,7 +195,7 @@ pub fn read_picture<R: Read + Drop>(
     ensures asked { (scale : _) → request ≡ At scale → IfOk result (λ made. made.scale ≡ scale) }
     ensures chosen { (bytes : List ℕ) → Tells (R.remaining reader) bytes → IfOk result (λ made.
         IsSomeAnd (header_info bytes) (λ full.
-        (made.scale ≡ scale_for request full made.orientation)
+        (made.scale ≡ scale_of_request request full made.orientation)
         × (made.size ≡ size_for request full made.orientation))) }
     ensures orientation { IfOk result (λ made. (1 ≤ made.orientation)
         × (made.orientation ≤ 8)) }

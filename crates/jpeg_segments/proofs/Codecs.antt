@@ -8,7 +8,7 @@ use Rattle.std.specs.Prelude.{flat_map}
 use Rattle.std.specs.List.{AllByRecursion}
 use Rattle.jpeg_bits.specs.Reading.{Outcome, Fault, Malformed, ◌>>=◌, next_byte, next_u16}
 use Rattle.jpeg_bits.specs.Reading.{length_at, times}
-use Rattle.jpeg_segments.specs.WrittenSegments.{u16_bytes, sized}
+use Rattle.jpeg_segments.specs.WrittenSegments.{u16_bytes, with_length}
 use Rattle.jpeg_segments.proofs.Fields.{read-on, not-refused, kept, u16-read}
 use Rattle.std.proofs.lemmas.Grind.{common_steps}
 
@@ -221,7 +221,7 @@ pub segment : {A D : Type 0} {view : A → D} {print : A → List ℕ} {Valid : 
     (q : ℕ → List ℕ → Outcome D)
     → ((left : ℕ) → Codec (q left) view print (λ (x : A). Valid x × (length (print x) ≡ left)))
     → Codec (λ (bytes : List ℕ). length_at bytes >>= λ (x : ℕ × List ℕ). q x.0 x.1) view
-    (λ (x : A). sized (print x)) Valid
+    (λ (x : A). with_length (print x)) Valid
 segment {print = print} q c = remap (bind q length-field c)
     (λ x is. namely x.1 is.1.0 refl (ap (λ (n : ℕ). u16_bytes (n + 2) ++ print x.1) (sym is.1.1)))
     (λ x is. namely (length (print x), x) (tt, (is, refl)) refl refl)

@@ -3,7 +3,7 @@ use Rattle.std.proofs.Common.{◌≡◌, ℕ, ◌<◌, ◌+◌, ◌*◌, ◌/◌
 use Rattle.std.proofs.Common.{length, Ok, refl, ap, ◌∙◌, arith}
 use Rattle.std.proofs.lemmas.Bool.{le-ltb}
 use Rattle.jpeg_bits.specs.Reading.{Outcome, ◌>>=◌, next_u16, length_at, skip_at}
-use Rattle.jpeg_segments.specs.WrittenSegments.{u16_bytes, sized, nibbles}
+use Rattle.jpeg_segments.specs.WrittenSegments.{u16_bytes, with_length, nibbles}
 use Rattle.std.proofs.lemmas.Grind.{common_steps}
 
 -- ---- steps
@@ -35,7 +35,7 @@ length-read n rest = grind (arith, common_steps, read-on, u16-read, not-refused,
 
 -- a payload after its length field
 pub sized-read : {B : Type 0} (payload rest : List ℕ) (f : ℕ × List ℕ → Outcome B)
-    → (length_at (sized payload ++ rest) >>= f) ≡ f (length payload, payload ++ rest)
+    → (length_at (with_length payload ++ rest) >>= f) ≡ f (length payload, payload ++ rest)
 sized-read payload rest f = grind (arith, common_steps, read-on, length-read)
 
 pub nibbles-high : (high low : ℕ) → low < 16 → nibbles high low / 16 ≡ high

@@ -13,12 +13,16 @@ use Rattle.jpeg_segments.specs.Frame.{Factors, Frame, Head, frame_of, is_factor,
 use Rattle.jpeg_segments.specs.Frame.{is_lossless_number, is_taken, is_precision, is_count, parameters_at}
 use Rattle.jpeg_segments.specs.Frame.{factors_at, components_from, size_at, head_at, sof_at}
 use Rattle.jpeg_segments.specs.HuffmanTables.{greatest_place}
-use Rattle.jpeg_segments.specs.ScanHeader.{Selector, place_of, blocks_by, tables_at, tables_by}
+use Rattle.jpeg_segments.specs.ScanHeader.{Selector, place_of, blocks_by, destinations_at}
+use Rattle.jpeg_segments.specs.ScanHeader.{tables_by}
 use Rattle.jpeg_segments.specs.ScanHeader.{selector_at, selectors_from, is_mcu, is_band, scan_of, band_at}
 use Rattle.jpeg_segments.specs.ScanHeader.{count_at, sos_at}
-use Rattle.jpeg_segments.specs.WrittenSegments.{u16_bytes, sized, nibbles, FrameHeader, factors_bytes}
-use Rattle.jpeg_segments.specs.WrittenSegments.{frame_payload, IsComponent, AreComponents, IsFrame, frame_written}
-use Rattle.jpeg_segments.specs.ScanHeaders.{Choice, ScanHeader, choice_bytes, scan_payload, selector_of}
+use Rattle.jpeg_segments.specs.WrittenSegments.{u16_bytes, with_length, nibbles, FrameHeader}
+use Rattle.jpeg_segments.specs.WrittenSegments.{factors_bytes}
+use Rattle.jpeg_segments.specs.WrittenSegments.{frame_payload, IsComponent, AreComponents}
+use Rattle.jpeg_segments.specs.WrittenSegments.{IsFrameHeader, frame_written}
+use Rattle.jpeg_segments.specs.ScanHeaders.{Choice, ScanHeader, choice_bytes, scan_payload}
+use Rattle.jpeg_segments.specs.ScanHeaders.{selector_for}
 use Rattle.jpeg_segments.specs.ScanHeaders.{IsChoice, AreChoices, IsScan, scan_written}
 use Rattle.jpeg_segments.proofs.Fields.{nibbles-high, nibbles-low}
 use Rattle.jpeg_segments.proofs.Codecs.{Codec, bind, ends, check-if, check-unless, done, remap, refused}
@@ -123,8 +127,9 @@ payload-length : (precision n : ℕ) (s : ℕ × ℕ) (cs : List Factors) → le
 payload-length precision n s cs e = omega (arith, e, factors-length cs)
 
 pub sof : (number : ℕ) → number ≤ 3
-    → Codec (sof_at number) (frame_written number) (λ (h : FrameHeader). sized (frame_payload h))
-    (IsFrame number)
+    → Codec (sof_at number) (frame_written number) (λ (h : FrameHeader). with_length (frame_payload
+    h))
+    (IsFrameHeader number)
 unfolding sof_at frame_payload
 sof number few = remap (bind (λ (h : Head) (bytes : List ℕ).
     components_from (is_lossless_number number) h.count [] bytes >>= λ (c : List Factors × List ℕ).
@@ -142,7 +147,8 @@ sof number few = remap (bind (λ (h : Head) (bytes : List ℕ).
     (ap (λ (m : ℕ). u16_bytes (m + 2)
     ++ (fields h.precision (h.width, h.height) h.count ++ flat_map factors_bytes cs))
     (is.0.1.1.1 ∙ sym long)
-    ∙ ap (λ (c : ℕ). sized (fields h.precision (h.width, h.height) c ++ flat_map factors_bytes cs))
+    ∙ ap (λ (c : ℕ). with_length (fields h.precision (h.width, h.height) c ++ flat_map
+    factors_bytes cs))
     (sym n)))
     (λ h is.
     let n : ℕ = length h.components in
@@ -152,8 +158,8 @@ sof number few = remap (bind (λ (h : Head) (bytes : List ℕ).
     ++ (fields h.precision (h.width, h.height) n ++ flat_map factors_bytes h.components))
     (payload-length h.precision n (h.width, h.height) h.components refl)))
 
-pub sof-read : (number : ℕ) (h : FrameHeader) (rest : List ℕ) → IsFrame number h
-    → sof_at number (sized (frame_payload h) ++ rest)
+pub sof-read : (number : ℕ) (h : FrameHeader) (rest : List ℕ) → IsFrameHeader number h
+    → sof_at number (with_length (frame_payload h) ++ rest)
     ≡ Ok (frame_of number h.precision h.width h.height h.components, rest)
 sof-read number h rest is = (sof number is.numbered).reads h rest is
 
@@ -179,8 +185,8 @@ some-same : (a b : ℕ) → ◌≡◌ {A = Option ℕ} (Some a) (Some b) → a �
 some-same a b e = cc
 
 destinations : (frame : Frame) (least identifier : ℕ) (o : Option ℕ) → Codec (tables_by frame least o)
-    (selector_of frame) (λ (c : Choice). nibbles c.dc c.ac ∷ []) (IsNamed frame least identifier o)
-unfolding tables_at
+    (selector_for frame) (λ (c : Choice). nibbles c.dc c.ac ∷ []) (IsNamed frame least identifier o)
+unfolding destinations_at
 destinations frame least identifier None = refused Malformed (λ c is. none-some c.component is.1.0)
 destinations frame least identifier (Some place) =
     remap (check-unless (ltb place least) Malformed (ends _ byte (λ (n : ℕ).
@@ -197,7 +203,7 @@ destinations frame least identifier (Some place) =
     namely (nibbles c.dc c.ac) (rw (at, high, low) (search (rules, le-ltb))) (rw (at, high, low)) refl)
 
 choice : (frame : Frame) (least : ℕ)
-    → Codec (selector_at frame least) (selector_of frame) choice_bytes (IsChoice frame least)
+    → Codec (selector_at frame least) (selector_for frame) choice_bytes (IsChoice frame least)
 unfolding selector_at
 choice frame least = remap (bind _ byte (λ (i : ℕ).
     destinations frame least i (place_of frame.components i)))
@@ -211,13 +217,14 @@ abbrev Choose : Frame → ℕ → ℕ → List Choice → Type 0
 Choose frame n least cs = (length cs ≡ n) × AreChoices frame least cs
 
 choices : (frame : Frame) (n : ℕ) (front : List Selector) (least : ℕ) → Codec (selectors_from frame n front least)
-    (λ (cs : List Choice). front ++ map (selector_of frame) cs) (flat_map choice_bytes) (Choose frame n least)
+    (λ (cs : List Choice). front ++ map (selector_for frame) cs) (flat_map choice_bytes) (Choose
+    frame n least)
 unfolding selectors_from AreChoices
 choices frame zero front least = grind (arith, common_steps, nil, append-nil)
 choices frame (suc n) front least = cons choice_bytes _ _ (bind (λ (s : Selector).
     selectors_from frame n (front ++ s ∷ []) (s.component + 1)) (choice frame least) (λ (c : Choice).
-    choices frame n (front ++ selector_of frame c ∷ []) (c.component + 1)))
-    (λ c cs. append_assoc front (selector_of frame c ∷ []) (map (selector_of frame) cs))
+    choices frame n (front ++ selector_for frame c ∷ []) (c.component + 1)))
+    (λ c cs. append_assoc front (selector_for frame c ∷ []) (map (selector_for frame) cs))
     (λ c cs is. (ap suc is.1.0, (is.0, is.1.1))) (λ is. omega (arith, is.0))
     (λ c cs is. (is.1.0, (omega (arith, is.0), is.1.1)))
 
@@ -250,17 +257,17 @@ scan-length : (h : ScanHeader) → length (length h.choices ∷ (flat_map choice
 scan-length h = search (rules, choices-length, length-append)
 
 pub sos : (frame : Frame)
-    → Codec (sos_at frame) (scan_written frame) (λ (h : ScanHeader). sized (scan_payload h))
+    → Codec (sos_at frame) (scan_written frame) (λ (h : ScanHeader). with_length (scan_payload h))
     (IsScan frame)
 unfolding sos_at band_at scan_payload
 sos frame = remap (bind _ count (λ (n : ℕ). bind (λ (ss : List Selector) (bytes : List ℕ).
     cond (is_mcu ss) (band_at frame ss bytes) (Err Malformed)) (choices frame n [] 0)
-    (λ (cs : List Choice). check-if (is_mcu (map (selector_of frame) cs)) Malformed
+    (λ (cs : List Choice). check-if (is_mcu (map (selector_for frame) cs)) Malformed
     (bind _ byte (λ (first : ℕ). bind _ byte (λ (last : ℕ). ends _ byte (λ (levels : ℕ).
     check-if (ltb (levels % 16) frame.precision) Malformed
-    (check-if (is_band frame.process (length (map (selector_of frame) cs)) first last (levels / 16)
+    (check-if (is_band frame.process (length (map (selector_for frame) cs)) first last (levels / 16)
     (levels % 16)) Malformed
-    (done (scan_of frame (map (selector_of frame) cs) first last levels))))))))))
+    (done (scan_of frame (map (selector_for frame) cs) first last levels))))))))))
     (λ x is.
     let cs : List Choice = x.1.0 in
     let first : ℕ = x.1.1.0 in
@@ -271,7 +278,7 @@ sos frame = remap (bind _ count (λ (n : ℕ). bind (λ (ss : List Selector) (by
     record { choices = cs; first = first; last = last; high = l / 16; low = l % 16 } in
     let n : length cs ≡ x.0 = is.1.0.0 in
     namely h (grind (arith, common_steps, length-map))
-    (ap (scan_of frame (map (selector_of frame) cs) first last) code)
+    (ap (scan_of frame (map (selector_for frame) cs) first last) code)
     (ap₂ (λ (k m : ℕ). (u16_bytes (4 + 2 * k + 2) ++ (k ∷ []))
     ++ (flat_map choice_bytes cs ++ (first ∷ last ∷ m ∷ []))) (sym n) code
     ∙ ap (λ (k : ℕ). u16_bytes (k + 2) ++ (length cs ∷ (flat_map choice_bytes cs ++ levels_bytes h)))
@@ -281,7 +288,7 @@ sos frame = remap (bind _ count (λ (n : ℕ). bind (λ (ss : List Selector) (by
     let high : nibbles h.high h.low / 16 ≡ h.high = nibbles-high h.high h.low is.narrow in
     let low : nibbles h.high h.low % 16 ≡ h.low = nibbles-low h.high h.low is.narrow in
     let band = ap (λ (k : ℕ). is_band frame.process k h.first h.last h.high h.low)
-    (length-map cs (selector_of frame)) ∙ is.band in
+    (length-map cs (selector_for frame)) ∙ is.band in
     namely (length cs, (cs, (h.first, (h.last, nibbles h.high h.low))))
     (rw (high, low) (
       (is.some, is.most),
@@ -292,5 +299,5 @@ sos frame = remap (bind _ count (λ (n : ℕ). bind (λ (ss : List Selector) (by
     (scan-length h)))
 
 pub sos-read : (frame : Frame) (h : ScanHeader) (rest : List ℕ) → IsScan frame h
-    → sos_at frame (sized (scan_payload h) ++ rest) ≡ Ok (scan_written frame h, rest)
+    → sos_at frame (with_length (scan_payload h) ++ rest) ≡ Ok (scan_written frame h, rest)
 sos-read frame = (sos frame).reads

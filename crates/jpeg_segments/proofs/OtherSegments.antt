@@ -10,20 +10,21 @@ use Rattle.jpeg_segments.specs.declared.parser.AdobeColorTransform.{AdobeColorTr
 use Rattle.jpeg_segments.specs.Application.{Application, Adobe, application_by, begins_with}
 use Rattle.jpeg_segments.specs.Application.{adobe_name, transform_by, passed_over, adobe_by, adobe_at}
 use Rattle.jpeg_segments.specs.Application.{application_14, payload_at, app_at, dri_at}
-use Rattle.jpeg_segments.specs.WrittenSegments.{u16_bytes, sized, is_adobe, said_by, IsApplication}
+use Rattle.jpeg_segments.specs.WrittenSegments.{u16_bytes, with_length, is_adobe, said_by}
+use Rattle.jpeg_segments.specs.WrittenSegments.{IsApplication}
 use Rattle.jpeg_segments.proofs.ApplicationLemmas.{read-skipped}
 use Rattle.jpeg_segments.proofs.Codecs.{Codec, bind, ends, check-if, choose, done, remap, namely, same}
 use Rattle.jpeg_segments.proofs.Codecs.{refused, u16, many, segment, length-field}
 use Rattle.std.proofs.lemmas.Grind.{common_steps}
 
-pub dri : Codec dri_at (λ (n : ℕ). n) (λ (n : ℕ). sized (u16_bytes n)) (λ (n : ℕ). Unit {0})
+pub dri : Codec dri_at (λ (n : ℕ). n) (λ (n : ℕ). with_length (u16_bytes n)) (λ (n : ℕ). Unit {0})
 unfolding dri_at
 dri = remap (bind _ length-field (λ (left : ℕ). check-if (eqb left 2) Malformed u16))
     (λ x is. namely x.1 tt refl
     (ap (λ (k : ℕ). u16_bytes (k + 2) ++ u16_bytes x.1) (eqb-true x.0 2 is.1.0)))
     (λ n is. namely (2, n) (tt, (refl, tt)) refl refl)
 
-pub dri-read : (n : ℕ) (rest : List ℕ) → dri_at (sized (u16_bytes n) ++ rest) ≡ Ok (n, rest)
+pub dri-read : (n : ℕ) (rest : List ℕ) → dri_at (with_length (u16_bytes n) ++ rest) ≡ Ok (n, rest)
 dri-read n rest = dri.reads n rest tt
 
 -- ---- application data
@@ -135,7 +136,7 @@ Names number payload = number ≡ 14 → names (is_adobe payload) payload
 abbrev says : Bool → ℕ → List ℕ → Option Application
 says b number payload = cond b (said_14 payload) (application_by number payload)
 
-pub app : (number : ℕ) → Codec (app_at number) (said_by number) sized (Names number)
+pub app : (number : ℕ) → Codec (app_at number) (said_by number) with_length (Names number)
 unfolding app_at payload_at said_by
 app number = segment _ (λ (left : ℕ). choose (eqb number 14)
     (λ t. remap (fourteen left)
@@ -148,5 +149,5 @@ app number = segment _ (λ (left : ℕ). choose (eqb number 14)
     (λ xs is. namely xs (is.1, tt) (ap (λ (b : Bool). says b number xs) f) refl)))
 
 pub app-read : (number : ℕ) (payload rest : List ℕ) → IsApplication number payload
-    → app_at number (sized payload ++ rest) ≡ Ok (said_by number payload, rest)
+    → app_at number (with_length payload ++ rest) ≡ Ok (said_by number payload, rest)
 app-read number payload rest is = (app number).reads payload rest is.named

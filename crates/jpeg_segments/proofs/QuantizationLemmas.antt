@@ -3,17 +3,20 @@ use Rattle.std.proofs.lemmas.Grind.{common_steps}
 use Rattle.std.proofs.Common.{◌≡◌, ℕ, ◌-◌, ◌<◌, ◌≤◌, List, Ok, Some, arith, set}
 use Rattle.std.proofs.lemmas.Bool.Decides.{nat_tests}
 use Rattle.jpeg_bits.specs.Reading.{◌>>=◌}
-use Rattle.jpeg_segments.specs.Quantization.{Tables, tables_from, placed_table_at}
+use Rattle.jpeg_segments.specs.Quantization.{QuantizationTables, quantization_from, placed_table_at}
 
-pub tables_from-more : (most left : ℕ) (tables : Tables) (bytes : List ℕ) → 0 < left → left ≤ most
-    → tables_from most left tables bytes ≡ (placed_table_at left bytes
-    >>= λ (t : (ℕ × ℕ × List ℕ) × List ℕ). tables_from (most - 1) (left - t.0.0) (set tables t.0.1 (Some t.0.2)) t.1)
-unfolding tables_from
+pub tables_from-more : (most left : ℕ) (tables : QuantizationTables) (bytes : List ℕ) → 0 < left →
+    left ≤ most
+    → quantization_from most left tables bytes ≡ (placed_table_at left bytes
+    >>= λ (t : (ℕ × ℕ × List ℕ) × List ℕ). quantization_from (most - 1) (left - t.0.0) (set tables
+    t.0.1 (Some t.0.2)) t.1)
+unfolding quantization_from
 tables_from-more most left tables bytes h1 h2 = grind (arith, nat_tests)
 
-pub tables_from-none : (most : ℕ) (tables : Tables) (bytes : List ℕ) → tables_from most 0 tables bytes ≡ Ok (
-  tables,
-  bytes,
-)
-unfolding tables_from
+pub tables_from-none : (most : ℕ) (tables : QuantizationTables) (bytes : List ℕ) →
+    quantization_from most 0 tables bytes ≡ Ok (
+      tables,
+      bytes,
+    )
+unfolding quantization_from
 tables_from-none most tables bytes = grind (arith, common_steps, nat_tests)

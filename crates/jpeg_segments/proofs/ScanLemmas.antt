@@ -13,7 +13,8 @@ use Rattle.jpeg_segments.specs.declared.parser.CodingProcess.{CodingProcess}
 use Rattle.jpeg_segments.specs.declared.parser.Component.{Component as Seen}
 use Rattle.jpeg_segments.specs.Frame as frames
 use Rattle.jpeg_segments.specs.FrameView.{component_in}
-use Rattle.jpeg_segments.specs.ScanHeader.{IsCoded, after_of, is_band, is_mcu, IsRising, IsScanOf, IsSelectorOf, Scan}
+use Rattle.jpeg_segments.specs.ScanHeader.{IsBandOf, after_of, is_band, is_mcu, IsRising, IsScanOf}
+use Rattle.jpeg_segments.specs.ScanHeader.{IsSelectorOf, Scan}
 use Rattle.jpeg_segments.specs.ScanHeader.{Selector, blocks_by, selector_at, selectors_from}
 use Rattle.std.proofs.lemmas.Grind.{common_steps}
 use Rattle.std.proofs.lemmas.Bool.Decides.{nat_tests}
@@ -85,7 +86,7 @@ pub is-scan : (frame : frames.Frame) (xs : List Selector) (s : Scan) → 1 ≤ l
     → All (IsSelectorOf frame) xs
     → IsRising 0 (map (λ x. x.component) xs) → is_mcu xs ≡ true
     → s.components ≡ map (λ x. x.component) xs → s.dc_places ≡ map (λ x. x.dc) xs → s.ac_places ≡ map (λ x. x.ac) xs
-    → IsCoded frame.process s.first s.after s.high s.low
+    → IsBandOf frame.process s.first s.after s.high s.low
     → is_band frame.process (length xs) s.first (s.after - 1) s.high s.low ≡ true
     → s.low < frame.precision → s.point_transform ≡ s.low → IsScanOf frame s
 is-scan frame xs s some most places rising mcu components dc ac coded legal below same_point =

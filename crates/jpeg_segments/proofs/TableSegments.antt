@@ -15,7 +15,7 @@ use Rattle.jpeg_segments.specs.Quantization.{value_at, table_at, table_size, pla
 use Rattle.jpeg_segments.specs.HuffmanTables.{Tables, PlacedTable, size_of, class_of, no_tables}
 use Rattle.jpeg_segments.specs.HuffmanTables.{with_table, greatest_place, symbols_at, codes_at}
 use Rattle.jpeg_segments.specs.HuffmanTables.{placed_codes_at, tables_from, dht_at}
-use Rattle.jpeg_segments.specs.WrittenSegments.{u16_bytes, sized, nibbles, QuantizationTable}
+use Rattle.jpeg_segments.specs.WrittenSegments.{u16_bytes, with_length, nibbles, QuantizationTable}
 use Rattle.jpeg_segments.specs.WrittenSegments.{IsQuantizationTable, value_bytes, quantization_bytes}
 use Rattle.jpeg_segments.specs.WrittenSegments.{quantization_tables, IsHuffmanTable, class_number}
 use Rattle.jpeg_segments.specs.WrittenSegments.{huffman_bytes, huffman_tables}
@@ -78,7 +78,8 @@ table-length : (t : QuantizationTable) → IsQuantizationTable t → length (qua
 unfolding quantization_bytes
 table-length t is = grind (arith, common_steps, values-length)
 
-abbrev with_values : quantization.Tables → QuantizationTable → quantization.Tables
+abbrev with_values : quantization.QuantizationTables → QuantizationTable →
+    quantization.QuantizationTables
 with_values tables t = set tables t.place (Some t.values)
 
 joined : (t : QuantizationTable) (ts : List QuantizationTable) → length (flat_map quantization_bytes (t ∷ ts))
@@ -89,21 +90,22 @@ joined t ts = length-append (quantization_bytes t) (flat_map quantization_bytes 
 abbrev FillTables : ℕ → List QuantizationTable → Type 0
 FillTables left ts = AllByRecursion IsQuantizationTable ts × (length (flat_map quantization_bytes ts) ≡ left)
 
-no-tables : (left : ℕ) (old : quantization.Tables) → left ≡ 0
+no-tables : (left : ℕ) (old : quantization.QuantizationTables) → left ≡ 0
     → Codec (outcome old) (fold with_values old) (flat_map quantization_bytes) (FillTables left)
 no-tables left old z = nil _ old _ _ refl (tt, sym z)
     (λ t ts is. omega (arith, z, is.1, table-length t is.0.0, joined t ts))
 
-tables : (most left : ℕ) (old : quantization.Tables) → left ≤ most → Codec (quantization.tables_from most left old)
+tables : (most left : ℕ) (old : quantization.QuantizationTables) → left ≤ most → Codec
+    (quantization.quantization_from most left old)
     (fold with_values old) (flat_map quantization_bytes) (FillTables left)
-unfolding quantization.tables_from
+unfolding quantization.quantization_from
 tables zero left old le =
     remap (check-if (eqb left 0) Malformed (no-tables left old (omega (arith, le))))
     (λ ts is. namely ts is.1 refl refl)
     (λ ts is. namely ts (eq-eqb left 0 (omega (arith, le)), is) refl refl)
 tables (suc most) left old le = choose (eqb left 0) (λ z. no-tables left old (eqb-true left 0 z))
     (λ z. cons _ _ _ (bind (λ (t : ℕ × ℕ × List ℕ).
-    quantization.tables_from most (left - t.0) (set old t.1 (Some t.2)))
+    quantization.quantization_from most (left - t.0) (set old t.1 (Some t.2)))
     (placed left) (λ (t : QuantizationTable).
     tables most (left - table_size t.precision) (with_values old t) (omega (arith, le))))
     (λ t ts. refl)
@@ -115,13 +117,16 @@ tables (suc most) left old le = choose (eqb left 0) (λ z. no-tables left old (e
     search rules))
 
 pub dqt : Codec dqt_at quantization_tables
-    (λ (ts : List QuantizationTable). sized (flat_map quantization_bytes ts))
+    (λ (ts : List QuantizationTable). with_length (flat_map quantization_bytes ts))
     (AllByRecursion IsQuantizationTable)
 unfolding dqt_at
 dqt = segment _ (λ (left : ℕ). tables left left _ (omega arith))
 
 pub dqt-read : (ts : List QuantizationTable) (rest : List ℕ) → AllByRecursion IsQuantizationTable ts
-    → dqt_at (sized (flat_map quantization_bytes ts) ++ rest) ≡ Ok (quantization_tables ts, rest)
+    → dqt_at (with_length (flat_map quantization_bytes ts) ++ rest) ≡ Ok (
+      quantization_tables ts,
+      rest,
+    )
 dqt-read = dqt.reads
 
 -- ---- Huffman tables
@@ -218,7 +223,8 @@ greatest-small : (b : Option Bool) → greatest_place b ≤ 3
 greatest-small b = grind (arith, nat_tests)
 
 pub dht : (b : Option Bool)
-    → Codec (dht_at b) huffman_tables (λ (ts : List PlacedTable). sized (flat_map huffman_bytes ts))
+    → Codec (dht_at b) huffman_tables (λ (ts : List PlacedTable). with_length (flat_map
+    huffman_bytes ts))
     (AllByRecursion (IsHuffmanTable (greatest_place b)))
 unfolding dht_at
 dht b = segment _ (λ (left : ℕ).
@@ -226,5 +232,5 @@ dht b = segment _ (λ (left : ℕ).
 
 pub dht-read : (b : Option Bool) (ts : List PlacedTable) (rest : List ℕ)
     → AllByRecursion (IsHuffmanTable (greatest_place b)) ts
-    → dht_at b (sized (flat_map huffman_bytes ts) ++ rest) ≡ Ok (huffman_tables ts, rest)
+    → dht_at b (with_length (flat_map huffman_bytes ts) ++ rest) ≡ Ok (huffman_tables ts, rest)
 dht-read b = (dht b).reads

@@ -50,8 +50,8 @@ blocks_by (c ∷ more) (suc place) = blocks_by more place
 
 -- The destinations Td and Ta of the tables of the component at a place of the frame. In a baseline
 -- frame they are 0 or 1.
-unfoldable pub tables_at : Frame → ℕ → List ℕ → Outcome Selector
-tables_at frame place bytes = do
+unfoldable pub destinations_at : Frame → ℕ → List ℕ → Outcome Selector
+destinations_at frame place bytes = do
   places ← next_byte bytes
   if nat_lt (greatest_place (Some frame.is_baseline)) (places.0 / 16) then Err Malformed else (
       if nat_lt (greatest_place (Some frame.is_baseline)) (places.0 % 16) then Err Malformed else
@@ -69,7 +69,7 @@ tables_at frame place bytes = do
 abbrev pub tables_by : Frame → ℕ → Option ℕ → List ℕ → Outcome Selector
 tables_by frame least None bytes = Err Malformed
 tables_by frame least (Some place) bytes =
-    if nat_lt place least then Err Malformed else tables_at frame place bytes
+    if nat_lt place least then Err Malformed else destinations_at frame place bytes
 
 -- The next component, whose place in the frame is at least `least`: components stand in the order
 -- of the frame.
@@ -189,11 +189,11 @@ IsRising least (place ∷ more) = (least ≤ place) × IsRising (place + 1) more
 
 -- The coefficients, from the first to the one after the last, and the levels of successive
 -- approximation that a process may code.
-abbrev pub IsCoded : CodingProcess → ℕ → ℕ → ℕ → ℕ → Type 0
-IsCoded DctSequential first after high low = (first ≡ 0) × (after ≡ 64) × (high ≡ 0) × (low ≡ 0)
-IsCoded DctProgressive first after high low =
+abbrev pub IsBandOf : CodingProcess → ℕ → ℕ → ℕ → ℕ → Type 0
+IsBandOf DctSequential first after high low = (first ≡ 0) × (after ≡ 64) × (high ≡ 0) × (low ≡ 0)
+IsBandOf DctProgressive first after high low =
     (first < after) × (after ≤ 64) × (high ≤ 13) × (low ≤ 13)
-IsCoded Lossless first after high low = (first ≤ 7) × (after ≡ 1) × (high ≡ 0)
+IsBandOf Lossless first after high low = (first ≤ 7) × (after ≡ 1) × (high ≡ 0)
 
 -- A scan has one to four components of the frame, which stand in the order of the frame, each once,
 -- and of which two or more have at most 10 blocks in an MCU; two tables for each; and coefficients
@@ -209,7 +209,7 @@ pub record IsScanOf (frame : Frame) (s : Scan) : Type 0 where
   pub dc_places : All (λ place. place ≤ 3) s.dc_places
   pub ac_length : length s.ac_places ≡ length s.components
   pub ac_places : All (λ place. place ≤ 3) s.ac_places
-  pub coded : IsCoded frame.process s.first s.after s.high s.low
+  pub coded : IsBandOf frame.process s.first s.after s.high s.low
   pub legal :
       is_band frame.process (length s.components) s.first (s.after - 1) s.high s.low ≡ true
   pub below : s.low < frame.precision

@@ -37,8 +37,8 @@ scan_payload h =
     (flat_map choice_bytes h.choices ++ (h.first ∷ h.last ∷ nibbles h.high h.low ∷ []))
 
 -- what a reader knows of a component
-abbrev pub selector_of : Frame → Choice → Selector
-selector_of frame c = record {
+abbrev pub selector_for : Frame → Choice → Selector
+selector_for frame c = record {
   component = c.component;
   dc = c.dc;
   ac = c.ac;
@@ -66,7 +66,7 @@ pub record IsScan (frame : Frame) (h : ScanHeader) : Type 0 where
   pub some : 1 ≤ length h.choices
   pub most : length h.choices ≤ 4
   pub choices : AreChoices frame 0 h.choices
-  pub fits : is_mcu (map (selector_of frame) h.choices) ≡ true
+  pub fits : is_mcu (map (selector_for frame) h.choices) ≡ true
   pub narrow : h.low < 16
   pub precise : nat_lt h.low frame.precision ≡ true
   pub band : is_band frame.process (length h.choices) h.first h.last h.high h.low ≡ true
@@ -74,4 +74,4 @@ pub record IsScan (frame : Frame) (h : ScanHeader) : Type 0 where
 -- the scan that a header gives
 abbrev pub scan_written : Frame → ScanHeader → Scan
 scan_written frame h =
-    scan_of frame (map (selector_of frame) h.choices) h.first h.last (nibbles h.high h.low)
+    scan_of frame (map (selector_for frame) h.choices) h.first h.last (nibbles h.high h.low)

@@ -8,11 +8,12 @@ ghost use Rattle.jpeg_segments.specs.HuffmanTables.{Tables, PlacedTable, greates
 ghost use Rattle.jpeg_segments.specs.Application.{Application, app_at, dri_at};
 ghost use Rattle.jpeg_segments.specs.Frame.{Frame, sof_at};
 ghost use Rattle.jpeg_segments.specs.ScanHeader.{Scan, sos_at};
-ghost use Rattle.jpeg_segments.specs.WrittenSegments.{u16_bytes, sized, QuantizationTable};
+ghost use Rattle.jpeg_segments.specs.WrittenSegments.{u16_bytes, with_length, QuantizationTable};
 ghost use Rattle.jpeg_segments.specs.WrittenSegments.{IsQuantizationTable, quantization_bytes};
 ghost use Rattle.jpeg_segments.specs.WrittenSegments.{quantization_tables, IsHuffmanTable};
 ghost use Rattle.jpeg_segments.specs.WrittenSegments.{huffman_bytes, huffman_tables, IsApplication};
-ghost use Rattle.jpeg_segments.specs.WrittenSegments.{said_by, FrameHeader, frame_payload, IsFrame};
+ghost use Rattle.jpeg_segments.specs.WrittenSegments.{said_by, FrameHeader, frame_payload};
+ghost use Rattle.jpeg_segments.specs.WrittenSegments.{IsFrameHeader};
 ghost use Rattle.jpeg_segments.specs.WrittenSegments.{frame_written};
 ghost use Rattle.jpeg_segments.specs.ScanHeaders.{ScanHeader, scan_payload, IsScan, scan_written};
 
@@ -21,20 +22,20 @@ ghost use Rattle.jpeg_segments.specs.ScanHeaders.{ScanHeader, scan_payload, IsSc
 pub fn written_segments_are_read()
     ensures quantization { (ts : List QuantizationTable) (rest : List ℕ) →
         AllByRecursion IsQuantizationTable ts →
-        dqt_at (sized (flat_map quantization_bytes ts) ++ rest)
+        dqt_at (with_length (flat_map quantization_bytes ts) ++ rest)
         ≡ Ok (quantization_tables ts, rest) }
     ensures huffman { (is_baseline : Option Bool) (ts : List PlacedTable) (rest : List ℕ) →
         AllByRecursion (IsHuffmanTable (greatest_place is_baseline)) ts →
-        dht_at is_baseline (sized (flat_map huffman_bytes ts) ++ rest)
+        dht_at is_baseline (with_length (flat_map huffman_bytes ts) ++ rest)
         ≡ Ok (huffman_tables ts, rest) }
     ensures interval { (n : ℕ) (rest : List ℕ) →
-        dri_at (sized (u16_bytes n) ++ rest) ≡ Ok (n, rest) }
+        dri_at (with_length (u16_bytes n) ++ rest) ≡ Ok (n, rest) }
     ensures application { (number : ℕ) (payload rest : List ℕ) → IsApplication number payload →
-        app_at number (sized payload ++ rest) ≡ Ok (said_by number payload, rest) }
-    ensures frame { (number : ℕ) (h : FrameHeader) (rest : List ℕ) → IsFrame number h →
-        sof_at number (sized (frame_payload h) ++ rest) ≡ Ok (frame_written number h, rest) }
+        app_at number (with_length payload ++ rest) ≡ Ok (said_by number payload, rest) }
+    ensures frame { (number : ℕ) (h : FrameHeader) (rest : List ℕ) → IsFrameHeader number h →
+        sof_at number (with_length (frame_payload h) ++ rest) ≡ Ok (frame_written number h, rest) }
     ensures scan { (frame : Frame) (h : ScanHeader) (rest : List ℕ) → IsScan frame h →
-        sos_at frame (sized (scan_payload h) ++ rest) ≡ Ok (scan_written frame h, rest) }
+        sos_at frame (with_length (scan_payload h) ++ rest) ≡ Ok (scan_written frame h, rest) }
 {}
 
 /// Bytes of which a segment is accepted begin with one that is written by its parameters, with the
@@ -44,29 +45,29 @@ pub fn accepted_segments_are_written()
         AllByRecursion (λ b. b < 256) bytes → dqt_at bytes ≡ Ok (tables, rest) →
         (ts : List QuantizationTable) × AllByRecursion IsQuantizationTable ts
         × (tables ≡ quantization_tables ts)
-        × (bytes ≡ sized (flat_map quantization_bytes ts) ++ rest) }
+        × (bytes ≡ with_length (flat_map quantization_bytes ts) ++ rest) }
     ensures huffman { (is_baseline : Option Bool) (bytes rest : List ℕ) (tables : Tables) →
         AllByRecursion (λ b. b < 256) bytes → dht_at is_baseline bytes ≡ Ok (tables, rest) →
         (ts : List PlacedTable)
         × AllByRecursion (IsHuffmanTable (greatest_place is_baseline)) ts
         × (tables ≡ huffman_tables ts)
-        × (bytes ≡ sized (flat_map huffman_bytes ts) ++ rest) }
+        × (bytes ≡ with_length (flat_map huffman_bytes ts) ++ rest) }
     ensures interval { (bytes rest : List ℕ) (n : ℕ) →
         AllByRecursion (λ b. b < 256) bytes → dri_at bytes ≡ Ok (n, rest) →
-        bytes ≡ sized (u16_bytes n) ++ rest }
+        bytes ≡ with_length (u16_bytes n) ++ rest }
     ensures application { (number : ℕ) (bytes rest : List ℕ) (said : Option Application) →
         number ≤ 15 → AllByRecursion (λ b. b < 256) bytes → app_at number bytes ≡ Ok (said, rest) →
         (payload : List ℕ) × IsApplication number payload
         × (said ≡ said_by number payload)
-        × (bytes ≡ sized payload ++ rest) }
+        × (bytes ≡ with_length payload ++ rest) }
     ensures frame { (number : ℕ) (bytes rest : List ℕ) (frame : Frame) → number ≤ 3 →
         AllByRecursion (λ b. b < 256) bytes → sof_at number bytes ≡ Ok (frame, rest) →
-        (h : FrameHeader) × IsFrame number h
+        (h : FrameHeader) × IsFrameHeader number h
         × (frame ≡ frame_written number h)
-        × (bytes ≡ sized (frame_payload h) ++ rest) }
+        × (bytes ≡ with_length (frame_payload h) ++ rest) }
     ensures scan { (frame : Frame) (bytes rest : List ℕ) (scan : Scan) →
         AllByRecursion (λ b. b < 256) bytes → sos_at frame bytes ≡ Ok (scan, rest) →
         (h : ScanHeader) × IsScan frame h
         × (scan ≡ scan_written frame h)
-        × (bytes ≡ sized (scan_payload h) ++ rest) }
+        × (bytes ≡ with_length (scan_payload h) ++ rest) }
 {}

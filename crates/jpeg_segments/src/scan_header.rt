@@ -3,12 +3,13 @@ ghost use Rattle.std.specs.Prelude.{◌≡◌, ◌≤◌, ◌<◌, ◌==◌, ◌
 ghost use Rattle.std.specs.Prelude.{IsTrue, IfOk, IfSome, All, true};
 ghost use Rattle.jpeg_bits.specs.Reading.{Answers, NamesFormat};
 ghost use Rattle.jpeg_segments.specs.HuffmanTables.{greatest_place};
-ghost use Rattle.jpeg_segments.specs.ScanHeader.{IsCoded, IsRising, IsScanOf, IsSelectorOf};
+ghost use Rattle.jpeg_segments.specs.ScanHeader.{IsBandOf, IsRising, IsScanOf, IsSelectorOf};
 ghost use Rattle.jpeg_segments.specs.ScanHeader.{band_at, after_of, blocks_by, count_at, is_band};
 ghost use Rattle.jpeg_segments.specs.ScanHeader.{is_lossless_band, is_mcu, is_progressive_band};
 ghost use Rattle.jpeg_segments.specs.ScanHeader.{is_sequential_band, place_of, predictor_by};
 ghost use Rattle.jpeg_segments.specs.ScanHeader.{predictor_of, scan_of, selector_at};
-ghost use Rattle.jpeg_segments.specs.ScanHeader.{selectors_from, sos_at, tables_at, tables_by};
+ghost use Rattle.jpeg_segments.specs.ScanHeader.{selectors_from, sos_at, destinations_at};
+ghost use Rattle.jpeg_segments.specs.ScanHeader.{tables_by};
 ghost use Rattle.jpeg_segments.specs.FrameView.{component_in, frame_in, scan_in, selector_of};
 
 use crate::huffman_tables::{expected_destinations, greatest_place};
@@ -107,7 +108,7 @@ fn destination_error(
 }
 
 /// Reads the tables of the component at an index of the frame.
-#[tactic(auto, unfolding(crate::specs::ScanHeader::tables_at))]
+#[tactic(auto, unfolding(crate::specs::ScanHeader::destinations_at))]
 fn read_tables<R: Read + Drop>(
     alloc: Global,
     source: &mut Source<R>,
@@ -115,7 +116,8 @@ fn read_tables<R: Read + Drop>(
     place: usize,
 ) -> Result<Selector>
     requires { place < length frame.now.components.items }
-    ensures answers { Answers selector_of (tables_at (frame_in frame.now) place) source.old result
+    ensures answers { Answers selector_of (destinations_at (frame_in frame.now) place) source.old
+        result
         source.new }
     ensures place { IfOk result (λ s. IsSelectorOf (frame_in frame.now) (selector_of s)) }
     ensures same { IfOk result (λ s. s.component ≡ place) }
@@ -239,7 +241,7 @@ struct Band {
 fn is_band(process: CodingProcess, count: usize, band: Band) -> bool
     ensures value { result ≡ is_band process count band.first band.last band.high band.low }
     ensures small { IsTrue result → band.last ≤ 63 }
-    ensures coded { IsTrue result → IsCoded process band.first (after_of process band.last)
+    ensures coded { IsTrue result → IsBandOf process band.first (after_of process band.last)
         band.high band.low }
 {
     let Band {

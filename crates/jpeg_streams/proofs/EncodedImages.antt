@@ -19,7 +19,8 @@ use Rattle.jpeg_segments.specs.HuffmanTables.{PlacedTable, Tables}
 use Rattle.jpeg_segments.specs.ScanHeader.{is_band, place_of, Scan, scan_of}
 use Rattle.jpeg_segments.specs.ScanHeaders.{AreChoices, IsScan, scan_payload, scan_written, ScanHeader}
 use Rattle.jpeg_segments.specs.WrittenSegments.{IsComponent, AreComponents, frame_written, FrameHeader, Header, Huffman}
-use Rattle.jpeg_segments.specs.WrittenSegments.{IsFrame, payload_of, Quantization, QuantizationTable, sized}
+use Rattle.jpeg_segments.specs.WrittenSegments.{IsFrameHeader, payload_of, Quantization}
+use Rattle.jpeg_segments.specs.WrittenSegments.{QuantizationTable, with_length}
 use Rattle.jpeg_streams.specs.declared.grids.Grid.{Grid}
 use Rattle.jpeg_streams.specs.Levels.{Is8Bit, Levels, sent_after, nothing_sent, numbers_at}
 use Rattle.jpeg_streams.specs.Order.{grid_of, mcu_size, own_spots, Spot, spots_of}
@@ -369,7 +370,7 @@ one-scan kind number h array front more c levels last scanned bytes fits le p ra
     search (rules, pass-is) in
     let legal = scan-legal kind number h front more c levels fits e
     (place-low number c.quantization le is.placed) was in (
-      marker 0 218 (sized (scan_payload head) ++ (d.0 ++ bytes)),
+      marker 0 218 (with_length (scan_payload head) ++ (d.0 ++ bytes)),
       scan (said number h) (said number h) levels last scanned f 0 head ks d.0 bytes refl
           (lone-written (from_for kind) (to_for kind) number h front more c (kind-is kind number h (length front) c fits).1
           (let q = p.precise in omega arith) e is.is_new) legal coded w,
@@ -454,11 +455,13 @@ each-steps number h array le p range = ⊎_elim
 -- ---- the segments
 
 abbrev front_bytes : ℕ → FrameHeader → List ℕ → List ℕ
-front_bytes number h more = marker 0 219 (sized (payload_of (Quantization all_ones))
+front_bytes number h more = marker 0 219 (with_length (payload_of (Quantization all_ones))
     ++ marker 0 (192 + number)
-    (sized (payload_of (Header number h)) ++ marker 0 196 (sized (payload_of (Huffman flat_tables)) ++ more)))
+    (with_length (payload_of (Header number h)) ++ marker 0 196 (with_length (payload_of (Huffman
+    flat_tables)) ++ more)))
 
-pub image-written : (number : ℕ) (h : FrameHeader) (array : Coefficients) → number ≤ 2 → IsFrame number h → HasPicture h
+pub image-written : (number : ℕ) (h : FrameHeader) (array : Coefficients) → number ≤ 2 →
+    IsFrameHeader number h → HasPicture h
     → ((place row column : ℕ) → Is8Bit (array place row column)) → (bytes : List ℕ) × IsWhollyWritten array bytes
 unfolding nothing_found frame_of codes_exist lengths_from code_value
 image-written number h array le is p range =

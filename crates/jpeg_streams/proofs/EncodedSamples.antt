@@ -20,12 +20,14 @@ use Rattle.jpeg_segments.specs.Frame.{Factors, frame_of}
 use Rattle.jpeg_segments.specs.HuffmanTables.{PlacedTable}
 use Rattle.jpeg_segments.specs.ScanHeaders.{scan_payload, ScanHeader}
 use Rattle.jpeg_segments.specs.WrittenSegments.{AreComponents, frame_written, FrameHeader, factors_bytes, frame_payload}
-use Rattle.jpeg_segments.specs.WrittenSegments.{Header, Huffman, IsFrame, huffman_bytes, payload_of, sized, u16_bytes}
+use Rattle.jpeg_segments.specs.WrittenSegments.{Header, Huffman, IsFrameHeader, huffman_bytes}
+use Rattle.jpeg_segments.specs.WrittenSegments.{payload_of, with_length, u16_bytes}
 use Rattle.jpeg_lossless.specs.Prediction.{residue, start_of}
 use Rattle.jpeg_lossless.specs.Differences.{Part, lines_in, mcu_tables, row_tables, strand, strands}
 use Rattle.jpeg_lossless.specs.Scans.{rows_of_interval, Way}
 use Rattle.jpeg_lossless.specs.Written.{AreLines, AreSamples, differences_below, differences_of, first_differences}
-use Rattle.jpeg_lossless.specs.Written.{HaveDifferences, rest_differences, WritesDifference, WritesInterval, WritesRow}
+use Rattle.jpeg_lossless.specs.Written.{HaveDifferences, rest_differences, WritesSampleDifference}
+use Rattle.jpeg_lossless.specs.Written.{WritesSampleInterval, WritesRow}
 use Rattle.jpeg_lossless.specs.Written.{WritesRows}
 use Rattle.jpeg_lossless.specs.Written.WritesIntervals.{last}
 use Rattle.jpeg_lossless.specs.Written.WritesRow.{none, one}
@@ -39,7 +41,7 @@ use Rattle.jpeg_streams.specs.Needed.{first_of}
 use Rattle.jpeg_streams.specs.SaidSegments.{found_after}
 use Rattle.jpeg_streams.specs.Segments.{updated}
 use Rattle.jpeg_streams.specs.WrittenLossless.{AreCodings, HasSamples, HoldSamples, IsInterval, no_interval, own_lines}
-use Rattle.jpeg_streams.specs.WrittenLossless.{said_after_scan, Samples, Writes, WritesScan}
+use Rattle.jpeg_streams.specs.WrittenLossless.{said_after_scan, Samples, Writes, WritesSamplesScan}
 use Rattle.jpeg_streams.specs.WrittenLossless.Writes.{closed, scan, segment}
 use Rattle.jpeg_streams.proofs.EncodedBlocks.{category-at_most, packed}
 use Rattle.jpeg_streams.proofs.EncodedImages.{component_in, first-is, in-range, lone_header, lone-written}
@@ -62,7 +64,7 @@ even-coded s h = grind (arith, get_or-range_with_len 0 17 s 0 h)
 -- ---- differences
 
 number-written : (d : ℤ) (r : ℕ) → residue d ≡ r → negsuc 32766 ≤ℤ d → d ≤ℤ pos 32768 → unsigned_abs d < 2 ^ 16
-    → (bits : List Bool) × WritesDifference even_table r bits
+    → (bits : List Bool) × WritesSampleDifference even_table r bits
 number-written d r e low high h =
     let c = category-at_most d 16 h in (
       _,
@@ -79,7 +81,8 @@ number-written d r e low high h =
       },
     )
 
-difference-written : (r : ℕ) → r < 65536 → (bits : List Bool) × WritesDifference even_table r bits
+difference-written : (r : ℕ) → r < 65536 → (bits : List Bool) × WritesSampleDifference even_table r
+    bits
 difference-written r h = ⊎_elim
     (λ less. number-written (pos r) r (sym (residue_small r h)) (omega (arith, ints)) (omega (arith, ints))
     (omega (arith, ints)))
@@ -222,7 +225,8 @@ u16-bytes : (n : ℕ) → n < 65536 → AreBytes (u16_bytes n)
 u16-bytes n h = (omega arith, (omega arith, tt))
 
 -- a segment of bytes
-sized-bytes : (payload : List ℕ) → length payload + 2 < 65536 → AreBytes payload → AreBytes (sized payload)
+sized-bytes : (payload : List ℕ) → length payload + 2 < 65536 → AreBytes payload → AreBytes
+    (with_length payload)
 sized-bytes payload h k = all-append (λ b. b < 256) (u16_bytes (length payload + 2)) payload (u16-bytes (length payload + 2) h) k
 
 marked-bytes : (code : ℕ) (bytes : List ℕ) → code < 256 → AreBytes bytes → AreBytes (marker 0 code bytes)
@@ -252,7 +256,8 @@ lone_way start width height =
 
 interval-written : (start bound width height : ℕ) (lines : List (List ℕ)) → bound ≤ 65536 → length lines ≡ height
     → AllByRecursion (IsLineOf width bound) lines
-    → (bytes : List ℕ) × WritesInterval (lone_way start width height) height (lines ∷ []) bytes × AreBytes bytes
+    → (bytes : List ℕ) × WritesSampleInterval (lone_way start width height) height (lines ∷ [])
+    bytes × AreBytes bytes
 unfolding mcu_tables HaveDifferences
 interval-written start bound width height lines le e h =
     let rows = differences_of Ra start [] lines in
@@ -289,7 +294,8 @@ component-at h front more c e = cc (first-is h front more c)
 data-written : (h : FrameHeader) (now : Found) (front more : List Factors) (c : Factors) (samples : Samples)
     → IsReady h now → h.components ≡ front ++ c ∷ more → h.precision ≤ 16
     → AreLinesOf (2 ^ h.precision) (component_in h c) (samples (length front))
-    → (bytes : List ℕ) × WritesScan now (frame_written 3 h) (header_of (length front) c) samples bytes × AreBytes bytes
+    → (bytes : List ℕ) × WritesSamplesScan now (frame_written 3 h) (header_of (length front) c)
+    samples bytes × AreBytes bytes
 unfolding frame_of mcus_across mcus_down parts_of AreCodings HoldSamples
 data-written h now front more c samples ready e most are =
     let frame = frame_written 3 h in
@@ -314,7 +320,8 @@ data-written h now front more c samples ready e most are =
       w.2,
     )
 
-scan-bytes : (place : ℕ) (c : Factors) → c.identifier < 256 → AreBytes (sized (scan_payload (header_of place c)))
+scan-bytes : (place : ℕ) (c : Factors) → c.identifier < 256 → AreBytes (with_length (scan_payload
+    (header_of place c)))
 unfolding scan_payload
 scan-bytes place c h = search (rules, sized-bytes)
 
@@ -358,13 +365,15 @@ scans-written h samples (c ∷ more) front now sent p all ready e are sends =
     (record { framed = ready.framed; tabled = ready.tabled; restart = ready.restart })
     (e ∙ sym (append_assoc front (c ∷ []) more)) are.1
     (search (rules, cases_lt)) in (
-      marker 0 218 (sized (scan_payload (header_of place c)) ++ (d.0 ++ rest.0)),
+      marker 0 218 (with_length (scan_payload (header_of place c)) ++ (d.0 ++ rest.0)),
       rest.1,
       scan now rest.1 sent (frame_written 3 h) 0 (header_of place c) d.0 rest.0 ready.framed refl
           (lone-written 1 0 3 h front more c refl (let q = p.least in omega arith) e are.0.is_new) d.1 rest.2,
       rest.3,
-      λ fits. marked-bytes 218 (sized (scan_payload (header_of place c)) ++ (d.0 ++ rest.0)) (omega arith)
-          (all-append (λ b. b < 256) (sized (scan_payload (header_of place c))) (d.0 ++ rest.0)
+      λ fits. marked-bytes 218 (with_length (scan_payload (header_of place c)) ++ (d.0 ++ rest.0))
+          (omega arith)
+          (all-append (λ b. b < 256) (with_length (scan_payload (header_of place c))) (d.0 ++
+          rest.0)
           (scan-bytes place c (one-identified h.components front more c e fits.identified))
           (all-append (λ b. b < 256) d.0 rest.0 d.2 (rest.4 fits))),
     )
@@ -384,9 +393,10 @@ said-ready h = record { framed = refl; tabled = refl; restart = refl }
 
 abbrev front_bytes : FrameHeader → List ℕ → List ℕ
 front_bytes h more =
-    marker 0 195 (sized (payload_of (Header 3 h)) ++ marker 0 196 (sized (payload_of (Huffman even_tables)) ++ more))
+    marker 0 195 (with_length (payload_of (Header 3 h)) ++ marker 0 196 (with_length (payload_of
+    (Huffman even_tables)) ++ more))
 
-pub samples-written : (h : FrameHeader) (samples : Samples) → IsFrame 3 h → HasSamples 3 h
+pub samples-written : (h : FrameHeader) (samples : Samples) → IsFrameHeader 3 h → HasSamples 3 h
     → AreSamplesOf (frame_written 3 h) samples → (bytes : List ℕ) × AreWrittenIn h samples bytes
 unfolding nothing_found frame_of codes_exist lengths_from code_value huffman_bytes frame_payload
 samples-written h samples is p all =
@@ -406,9 +416,11 @@ samples-written h samples is p all =
           omega arith,
           (
             omega arith,
-            marked-bytes 195 (sized (payload_of (Header 3 h))
-                ++ marker 0 196 (sized (payload_of (Huffman even_tables)) ++ r.0)) (omega arith)
-                (all-append (λ b. b < 256) (sized (payload_of (Header 3 h))) (marker 0 196 (sized (payload_of (Huffman even_tables))
+            marked-bytes 195 (with_length (payload_of (Header 3 h))
+                ++ marker 0 196 (with_length (payload_of (Huffman even_tables)) ++ r.0)) (omega
+                arith)
+                (all-append (λ b. b < 256) (with_length (payload_of (Header 3 h))) (marker 0 196
+                (with_length (payload_of (Huffman even_tables))
                 ++ r.0))
                 (search (rules, factors-length, sized-bytes, all-append, u16-bytes, components-bytes))
                 (search (rules, marked-bytes, all-append, tested-bytes))),

@@ -12,7 +12,7 @@ use Rattle.jpeg_pixels.specs.declared.upsampler.ColorConvert.{ColorConvert}
 use Rattle.jpeg_pixels.specs.Upsampling.{upsampled, across, down}
 use Rattle.jpeg_pixels.specs.Colour.{line_bytes}
 use Rattle.jpeg_pixels.specs.Pictures.{Source, sources_by, sources_of, lines_of}
-use Rattle.jpeg_pixels.specs.Pictures.{picture_line, picture_bytes, image_of}
+use Rattle.jpeg_pixels.specs.Pictures.{picture_line, converted_picture, image_of}
 use Rattle.jpeg_pixels.specs.Planes.{cropped}
 use Rattle.jpeg_streams.proofs.ReadTurns.{err-ok, ok-same, bind-ok}
 
@@ -74,8 +74,9 @@ lines-same sources ps qs width height row c low same = search rules
 
 picture-same : (convert : ColorConvert) (sources : List Source) (ps qs : List (List ℕ)) (width height : ℕ)
     → AllReach sources width height → AllSame sources ps qs
-    → picture_bytes convert sources ps width height ≡ picture_bytes convert sources qs width height
-unfolding picture_bytes picture_line
+    → converted_picture convert sources ps width height ≡ converted_picture convert sources qs
+    width height
+unfolding converted_picture picture_line
 picture-same convert sources ps qs width height c same =
     ap concat (map-same (picture_line convert sources ps width) (picture_line convert sources qs width) 0 height
     (λ row a b. ap (line_bytes convert width) (lines-same sources ps qs width height row c (omega arith) same)))

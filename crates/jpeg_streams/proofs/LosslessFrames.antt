@@ -3,7 +3,8 @@ use Rattle.std.proofs.Common.{rules, ◌≡◌, ℕ, ◌≤◌, ◌<◌, true, f
 use Rattle.std.specs.List.{AllByRecursion}
 use Rattle.std.proofs.lemmas.Bool.{le-leb, and_from as both-true}
 use Rattle.jpeg_segments.specs.Frame.{Factors, Frame, IsInRange, frame_of}
-use Rattle.jpeg_segments.specs.WrittenSegments.{AreComponents, FrameHeader, IsFrame, frame_written}
+use Rattle.jpeg_segments.specs.WrittenSegments.{AreComponents, FrameHeader, IsFrameHeader}
+use Rattle.jpeg_segments.specs.WrittenSegments.{frame_written}
 use Rattle.jpeg_streams.specs.Segments.{accepted, is_arithmetic, is_decoded_precision}
 use Rattle.jpeg_streams.specs.WrittenLossless.{HasSamples}
 use Rattle.jpeg_streams.proofs.LosslessSizes.{IsMade, frames-made}
@@ -18,14 +19,15 @@ header-process : (h : FrameHeader) → HasSamples 3 h
 unfolding frame_of
 header-process h p = search (rules, both-true, le-leb)
 
-accepted-three : (h : FrameHeader) → IsFrame 3 h → HasSamples 3 h
+accepted-three : (h : FrameHeader) → IsFrameHeader 3 h → HasSamples 3 h
     → accepted (frame_written 3 h) ≡ Ok (frame_written 3 h)
 accepted-three h is p =
     let s = header-sources 3 h (p.upsampled) in
     let f = header-process h p in
     accepted-by (frame_written 3 h) s.0 f.0 f.1 f.2 (header-count 3 h p.counted) s.1
 
-pub lossless-accepted : (number : ℕ) (h : FrameHeader) → IsFrame number h → HasSamples number h
+pub lossless-accepted : (number : ℕ) (h : FrameHeader) → IsFrameHeader number h → HasSamples number
+    h
     → accepted (frame_written number h) ≡ Ok (frame_written number h)
 lossless-accepted number h is p = search (rules, accepted-three)
 
@@ -43,7 +45,7 @@ unfolding AreComponents
 all-ranged number front [] h = tt
 all-ranged number front (c ∷ cs) h = (h.0.ranged, all-ranged number (front ++ c ∷ []) cs h.1)
 
-pub header-shaped : (number : ℕ) (h : FrameHeader) → IsFrame number h
+pub header-shaped : (number : ℕ) (h : FrameHeader) → IsFrameHeader number h
     → accepted (frame_written number h) ≡ Ok (frame_written number h) → IsShaped (frame_written number h)
 unfolding frame_of
 header-shaped number h is ok = search (rules, accepted-few, frames-made, all-ranged)

@@ -8,7 +8,7 @@ use Rattle.jpeg_segments.specs.Frame.{Component, Factors, Frame, IsInRange, ceil
 use Rattle.jpeg_segments.specs.Scales.{frame_at}
 use Rattle.jpeg_segments.proofs.ScaleLemmas.{full_frames}
 use Rattle.jpeg_lossless.specs.Codings.{IsCovered}
-use Rattle.jpeg_lossless.specs.Pictures.{Reaches, factors_of, most_across, most_down}
+use Rattle.jpeg_lossless.specs.Pictures.{Reaches, frame_factors, most_across, most_down}
 use Rattle.jpeg_streams.specs.LosslessScans.{LosslessCoding, mcus_across, mcus_down, part_of, parts_of}
 use Rattle.jpeg_streams.specs.Needed.{first_of}
 use Rattle.jpeg_streams.specs.Sound.{IsDecodedFrame}
@@ -32,10 +32,10 @@ pub record IsMade (frame : Frame) (c : Component) : Type 0 where
   pub vertical : 1 ≤ c.factors.vertical
 
 pub some-across : (frame : Frame) → 0 < most_across frame
-some-across frame = greatest-some (λ f. f.horizontal) (factors_of frame)
+some-across frame = greatest-some (λ f. f.horizontal) (frame_factors frame)
 
 pub some-down : (frame : Frame) → 0 < most_down frame
-some-down frame = greatest-some (λ f. f.vertical) (factors_of frame)
+some-down frame = greatest-some (λ f. f.vertical) (frame_factors frame)
 
 all-made : (frame : Frame) (mh mv : ℕ) (cs : List Factors) → most_across frame ≡ mh → most_down frame ≡ mv
     → AllByRecursion IsInRange cs

@@ -14,7 +14,8 @@ use Rattle.jpeg_streams.specs.Order.{Spot, grid_of, own_spots, part_spots, mcu_s
 use Rattle.jpeg_streams.specs.Scans.{Arrays, zero_arrays, put_block}
 use Rattle.jpeg_streams.specs.InTurn.{Reached, turn_from, Counted, begun_from, next_from, blocks_from, IsIn, IsInside}
 use Rattle.jpeg_streams.specs.InTurn.{Fits, counted_at_start, scan_from}
-use Rattle.jpeg_streams.specs.McuRows.{zero_rows, row_size, own_row, row_at, rows_of, joined, on_arrays, rows_from}
+use Rattle.jpeg_streams.specs.McuRows.{zero_rows, row_size, own_row, mcu_row, rows_of}
+use Rattle.jpeg_streams.specs.McuRows.{each_with_more, on_arrays, mcu_rows_from}
 use Rattle.jpeg_streams.specs.McuRows.{scan_by_rows}
 use Rattle.jpeg_streams.proofs.Put.{put-inside}
 use Rattle.std.proofs.Math.Nat.{add-mul, mul_assoc, div-lt_iff_lt-mul}
@@ -231,8 +232,8 @@ zero-rows rows [] = tt
 zero-rows rows (c ∷ cs) = (length-replicate (rows * (c.factors.vertical * c.blocks_wide)) zero_block, zero-rows rows cs)
 
 pub joined-rows : (r : ℕ) (cs : List Component) (front arrays : Arrays) → AreRows r cs front → AreRows 1 cs arrays
-    → AreRows (r + 1) cs (joined front arrays)
-unfolding AreRows joined
+    → AreRows (r + 1) cs (each_with_more front arrays)
+unfolding AreRows each_with_more
 joined-rows r (c ∷ cs) (a ∷ front) (b ∷ arrays) h k =
     search (rules, length-append, add-mul, joined-rows r cs front arrays h.1 k.1)
 joined-rows r cs front arrays h k = search rules
@@ -243,19 +244,22 @@ replicate-both m n k b e = search rules
 
 -- a row of zeros, and the others
 first-row : (rows r : ℕ) (cs : List Component) (front : Arrays) → AreRows r cs front
-    → joined front (zero_rows (suc rows) cs) ≡ around front (zero_rows 1 cs) (zero_rows rows cs)
-unfolding AreRows joined zero_rows
+    → each_with_more front (zero_rows (suc rows) cs) ≡ around front (zero_rows 1 cs) (zero_rows
+    rows cs)
+unfolding AreRows each_with_more zero_rows
 first-row rows r (c ∷ cs) (a ∷ front) h = search (rules, replicate-both, add-mul, first-row rows r cs front h.1)
 first-row rows r cs front h = search rules
 
 -- rows after rows
-around-joined : (front arrays rest : Arrays) → around front arrays rest ≡ joined (joined front arrays) rest
-unfolding joined
+around-joined : (front arrays rest : Arrays) → around front arrays rest ≡ each_with_more
+    (each_with_more front arrays) rest
+unfolding each_with_more
 around-joined (x ∷ front) (y ∷ arrays) (z ∷ rest) = rw (← (append_assoc x y z), around-joined front arrays rest) refl
 around-joined front arrays rest = refl
 
-no-rows : (r : ℕ) (cs : List Component) (front : Arrays) → AreRows r cs front → joined front (zero_rows 0 cs) ≡ front
-unfolding AreRows joined zero_rows
+no-rows : (r : ℕ) (cs : List Component) (front : Arrays) → AreRows r cs front → each_with_more
+    front (zero_rows 0 cs) ≡ front
+unfolding AreRows each_with_more zero_rows
 no-rows r (c ∷ cs) (a ∷ front) h = search (rules, append-nil, no-rows r cs front h.1)
 no-rows r cs front h = search rules
 
@@ -325,9 +329,10 @@ pub record IsRow (cs : List Component) (spots : List Spot) : Type 0 where
 pub rows-in-turn : (p : Pass) (vias : List Via) (n : ℕ) (cs : List Component) (rows : List (List Spot)) (row : ℕ)
     (front : Arrays) (old : Counted) (t : Text)
     → AllByRecursion (IsRow cs) rows → AreRows row cs front
-    → blocks_from p vias n (placed_rows cs row rows) (on_arrays (joined front (zero_rows (length rows) cs)) old) t
-    ≡ rows_from p vias n cs rows front old t
-unfolding blocks_from rows_from placed_rows
+    → blocks_from p vias n (placed_rows cs row rows) (on_arrays (each_with_more front (zero_rows
+    (length rows) cs)) old) t
+    ≡ mcu_rows_from p vias n cs rows front old t
+unfolding blocks_from mcu_rows_from placed_rows
 rows-in-turn p vias n cs [] row front old t fits h = rw (no-rows row cs front h) refl
 rows-in-turn p vias n cs (spots ∷ rows) row front old t fits h =
     let one = zero_rows 1 cs in
@@ -351,11 +356,12 @@ rows-in-turn p vias n cs (spots ∷ rows) row front old t fits h =
     (search (rules, map-same, front-size))
     ∙ ap (read_on next) (blocks-shifted p vias n front rest spots start t holds)
     ∙ on-on wrap next o
-    ∙ counted-where (AreRows 1 cs) (λ r. λ u. next (wrapped_count front rest r) u) (λ r. λ u. rows_from p vias n cs rows
-    (joined front r.reached.arrays) r u)
+    ∙ counted-where (AreRows 1 cs) (λ r. λ u. next (wrapped_count front rest r) u) (λ r. λ u.
+    mcu_rows_from p vias n cs rows
+    (each_with_more front r.reached.arrays) r u)
     (λ r u k.
     ap (λ (l : Arrays). next (on_arrays l r) u) (around-joined front r.reached.arrays rest)
-    ∙ rows-in-turn p vias n cs rows (row + 1) (joined front r.reached.arrays) r u fits.1
+    ∙ rows-in-turn p vias n cs rows (row + 1) (each_with_more front r.reached.arrays) r u fits.1
     (joined-rows row cs front r.reached.arrays h k))
     o (blocks-any (AreRows 1 cs) (rows-kept 1 cs) p vias n spots start t sized)
 
@@ -365,8 +371,8 @@ no-blocks [] = tt
 no-blocks (c ∷ cs) = ((let e : 0 ≡ 0 * row_size c = omega arith in e), no-blocks cs)
 
 all-zeros : (frame : Frame) (cs : List Component) → AllByRecursion (Fits frame) cs
-    → zero_arrays cs ≡ joined (map (λ c. []) cs) (zero_rows frame.mcus_high cs)
-unfolding zero_arrays zero_rows joined
+    → zero_arrays cs ≡ each_with_more (map (λ c. []) cs) (zero_rows frame.mcus_high cs)
+unfolding zero_arrays zero_rows each_with_more
 all-zeros frame [] fits = refl
 all-zeros frame (c ∷ cs) fits = search (rules, mul_assoc, all-zeros frame cs fits.1)
 
@@ -465,15 +471,15 @@ own-inside frame c row arrays s fits sized h =
 
 -- the spots of each row are inside its blocks
 pub row-inside : (frame : Frame) (cs : List Component) (row : ℕ) → AllByRecursion (Fits frame) cs
-    → IsRow cs (row_at frame cs row)
-unfolding row_at
+    → IsRow cs (mcu_row frame cs row)
+unfolding mcu_row
 row-inside frame [] row fits = record { inside = λ arrays s sized h. absurd h }
 row-inside frame (c ∷ []) row fits = search (rules, own-inside)
 row-inside frame (c ∷ d ∷ more) row fits = search (rules, several-inside)
 
 one-placed : (frame : Frame) (c : Component) → Fits frame c
     → spots_of frame (c ∷ []) ≡ placed_rows (c ∷ []) 0 (rows_of frame (c ∷ []))
-unfolding row_at spots_of own_spots
+unfolding mcu_row spots_of own_spots
 one-placed frame c fits =
     let vt = c.factors.vertical in
     let high = (grid_of c).own_high in
@@ -486,7 +492,7 @@ one-placed frame c fits =
 
 some-placed : (frame : Frame) (c d : Component) (more : List Component)
     → spots_of frame (c ∷ d ∷ more) ≡ placed_rows (c ∷ d ∷ more) 0 (rows_of frame (c ∷ d ∷ more))
-unfolding row_at spots_of all_spots
+unfolding mcu_row spots_of all_spots
 some-placed frame c d more = sym (several-rows frame.mcus_wide (c ∷ d ∷ more) 0 frame.mcus_high)
 
 placed-all : (frame : Frame) (c : Component) (more : List Component) → AllByRecursion (Fits frame) (c ∷ more)
@@ -508,4 +514,5 @@ scans-by-rows frame c more p vias n bytes fits =
     (placed-all frame c more fits)
     (search (rules, all-zeros, length-map-range_with_len))
     ∙ ap finished (rows-in-turn p vias blocks cs (rows_of frame cs) 0 (map (λ c. []) cs) (counted_at_start blocks [])
-    t (all-rows cs (row_at frame cs) 0 frame.mcus_high (λ row. row-inside frame cs row fits)) (no-blocks cs))
+    t (all-rows cs (mcu_row frame cs) 0 frame.mcus_high (λ row. row-inside frame cs row fits))
+    (no-blocks cs))

@@ -4,7 +4,7 @@ use Rattle.std.proofs.Common.{Some, refl, ap, ap₂, arith}
 use Rattle.std.specs.List.{AllByRecursion, concat, range_with_len}
 use Rattle.jpeg_bits.specs.declared.scan.Predictor.{Predictor}
 use Rattle.jpeg_segments.specs.Frame.{Component, Frame, frame_of}
-use Rattle.jpeg_segments.specs.WrittenSegments.{FrameHeader, IsFrame, frame_written}
+use Rattle.jpeg_segments.specs.WrittenSegments.{FrameHeader, IsFrameHeader, frame_written}
 use Rattle.jpeg_lossless.specs.Differences.{Part}
 use Rattle.jpeg_lossless.specs.Pictures.{most_across, most_down, sample_bytes}
 use Rattle.jpeg_lossless.specs.Prediction.{lines_below, predicted_lines}
@@ -42,7 +42,7 @@ planes-same w point from (p ∷ parts) a b h =
 
 -- ---- pixels
 
-pub header-made : (h : FrameHeader) → IsFrame 3 h
+pub header-made : (h : FrameHeader) → IsFrameHeader 3 h
     → AllByRecursion (IsMade (frame_written 3 h)) (frame_written 3 h).components
 header-made h is = search (rules, frames-made, all-ranged)
 
@@ -51,7 +51,7 @@ made-inside : (frame : Frame) (c : Component) (x y : ℕ) → IsMade frame c →
     × (y * c.factors.vertical / most_down frame < c.height)
 made-inside frame c x y made h k = search (rules, made-reaches, inside, some-across, some-down)
 
-pub taken-inside : (h : FrameHeader) (place x y : ℕ) (c : Component) → IsFrame 3 h
+pub taken-inside : (h : FrameHeader) (place x y : ℕ) (c : Component) → IsFrameHeader 3 h
     → first_of (drop place (frame_written 3 h).components) ≡ Some c → x < h.width → y < h.height
     → (x * c.factors.horizontal / most_across (frame_written 3 h) < c.width)
     × (y * c.factors.vertical / most_down (frame_written 3 h) < c.height)
@@ -83,7 +83,8 @@ pub mapped-same : {A : Type 0} (f g : ℕ → A) (from n most : ℕ) → from + 
 mapped-same f g from zero most le same = refl
 mapped-same f g from (suc n) most le same = search (rules, mapped-same f g (from + 1) n most (omega arith) same)
 
-pub pictures-agree : (h : FrameHeader) (a b : Samples) → IsFrame 3 h → AgreeInside (frame_written 3 h) a b
+pub pictures-agree : (h : FrameHeader) (a b : Samples) → IsFrameHeader 3 h → AgreeInside
+    (frame_written 3 h) a b
     → picture_of_samples (frame_written 3 h) a ≡ picture_of_samples (frame_written 3 h) b
 unfolding picture_of_samples
 pictures-agree h a b is agree =

@@ -5,7 +5,7 @@ use Rattle.std.proofs.lemmas.Nat.{div-mul-add}
 use Rattle.jpeg_bits.specs.Codes.{Table}
 use Rattle.jpeg_bits.specs.declared.scan.Predictor.{Predictor}
 use Rattle.jpeg_segments.specs.Frame.{ceiling, Component, Frame}
-use Rattle.jpeg_segments.specs.WrittenSegments.{FrameHeader, IsFrame, frame_written}
+use Rattle.jpeg_segments.specs.WrittenSegments.{FrameHeader, IsFrameHeader, frame_written}
 use Rattle.jpeg_lossless.specs.Differences.{Part}
 use Rattle.jpeg_lossless.specs.Pictures.{most_across, most_down}
 use Rattle.jpeg_lossless.specs.Prediction.{start_of}
@@ -39,7 +39,8 @@ full-in frame c [] all is = absurd is
 full-in frame c (d ∷ cs) all (inl e) = subst (IsFull frame) e all.0
 full-in frame c (d ∷ cs) all (inr is) = full-in frame c cs all.1 is
 
-header-full : (h : FrameHeader) (c : Component) → IsFrame 3 h → HasEqualFactors (frame_written 3 h)
+header-full : (h : FrameHeader) (c : Component) → IsFrameHeader 3 h → HasEqualFactors
+    (frame_written 3 h)
     → IsIn c (frame_written 3 h).components → IsFull (frame_written 3 h) c
 header-full h c is same in_frame =
     let frame = frame_written 3 h in
@@ -54,7 +55,8 @@ way_by frame selection point wide parts =
     record { wide = wide; selection = selection; start = start_of frame.precision point; parts = parts }
 
 -- a component alone in a scan
-pub way-alone : (h : FrameHeader) (selection : Predictor) (point : ℕ) (k : LosslessCoding) → IsFrame 3 h
+pub way-alone : (h : FrameHeader) (selection : Predictor) (point : ℕ) (k : LosslessCoding) →
+    IsFrameHeader 3 h
     → HasEqualFactors (frame_written 3 h) → IsIn k.component (frame_written 3 h).components
     → (way_of (frame_written 3 h) selection point (k ∷ []) ≡ plain_way (frame_written 3 h) selection point (k ∷ []))
     × (mcus_down (frame_written 3 h) (k ∷ []) ≡ (frame_written 3 h).height)
@@ -69,13 +71,15 @@ parts-plain : (frame : Frame) (codings : List LosslessCoding) → most_across fr
 parts-plain frame [] a d all = refl
 parts-plain frame (k ∷ codings) a d all = search (rules, parts-plain frame codings a d all.1)
 
-codings-full : (h : FrameHeader) (codings : List LosslessCoding) → IsFrame 3 h → HasEqualFactors (frame_written 3 h)
+codings-full : (h : FrameHeader) (codings : List LosslessCoding) → IsFrameHeader 3 h →
+    HasEqualFactors (frame_written 3 h)
     → AllByRecursion (λ k. IsIn k.component (frame_written 3 h).components) codings
     → AllByRecursion (λ k. IsFull (frame_written 3 h) k.component) codings
 codings-full h [] is same all = tt
 codings-full h (k ∷ codings) is same all = search (rules, header-full, codings-full h codings is same all.1)
 
-pub way-together : (h : FrameHeader) (selection : Predictor) (point : ℕ) (codings : List LosslessCoding) → IsFrame 3 h
+pub way-together : (h : FrameHeader) (selection : Predictor) (point : ℕ) (codings : List
+    LosslessCoding) → IsFrameHeader 3 h
     → HasEqualFactors (frame_written 3 h) → most_across (frame_written 3 h) ≡ 1 → most_down (frame_written 3 h) ≡ 1
     → AllByRecursion (λ k. IsIn k.component (frame_written 3 h).components) codings
     → (way_of (frame_written 3 h) selection point codings ≡ plain_way (frame_written 3 h) selection point codings)

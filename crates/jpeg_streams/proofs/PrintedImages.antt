@@ -3,7 +3,7 @@ use Rattle.std.proofs.Common.{rules, arith, ◌≡◌, ℕ, ◌++◌, List, Opti
 use Rattle.std.specs.Prelude.{IfErr, IsSomeAnd, OnOk, option_map}
 use Rattle.std.specs.Io.KnownBytes.{Appends}
 use Rattle.jpeg_bits.specs.declared.error.Error.{Error}
-use Rattle.jpeg_streams.specs.ArrayPictures.{picture_of_array, Takes}
+use Rattle.jpeg_streams.specs.ArrayPictures.{picture_of_array, TakesPicture}
 use Rattle.jpeg_streams.specs.Levels.{Is8Bit, Levels}
 use Rattle.jpeg_streams.specs.Output.{default_settings, header_line_of, output_of, IsOutsideOrMemory, TakesBeginning}
 use Rattle.jpeg_streams.specs.Output.{Tells}
@@ -17,7 +17,7 @@ use Rattle.jpeg_streams.proofs.WrittenPictures.{taken-means}
 -- what is written for a stream of an image
 pub image-output : (array : Coefficients) (image rest : List ℕ) (final : Found) (last : ℕ → Levels)
     → ((place row column : ℕ) → Is8Bit (array place row column)) → WritesImage array image final last
-    → Takes default_settings final
+    → TakesPicture default_settings final
     → (picture : List ℕ) × (picture_of_array default_settings final array last ≡ Ok picture)
     × (output_of (image ++ rest) ≡ Some (header_line_of (option_map info_of final.frame) ++ picture))
 unfolding output_of

@@ -28,8 +28,10 @@ use Rattle.jpeg_streams.proofs.ReadTurns.{scan-by, codings-same, codings-read, s
 use Rattle.jpeg_streams.proofs.ReadTurns.{scan-turn, marker-turn, segment-tail, scan-tail, marker-longer, scan-longer}
 use Rattle.jpeg_streams.proofs.ReadTurns.{writes-starts, frame-or, frame-stays, is-other, same-frame, some-none}
 use Rattle.jpeg_segments.specs.ScanHeaders.{IsScan, ScanHeader, scan_payload, scan_written}
-use Rattle.jpeg_segments.specs.WrittenSegments.{sized, Segment, Quantization, Huffman, Interval, Application, Comment}
-use Rattle.jpeg_segments.specs.WrittenSegments.{Header, FrameHeader, code_of, payload_of, frame_written}
+use Rattle.jpeg_segments.specs.WrittenSegments.{with_length, Segment, Quantization, Huffman}
+use Rattle.jpeg_segments.specs.WrittenSegments.{Interval, Application, Comment}
+use Rattle.jpeg_segments.specs.WrittenSegments.{Header, FrameHeader, marker_code, payload_of}
+use Rattle.jpeg_segments.specs.WrittenSegments.{frame_written}
 use Rattle.jpeg_segments.proofs.HeaderSegments.{sos-read}
 use Rattle.jpeg_streams.proofs.ScanFacts.{header-facts}
 use Rattle.jpeg_streams.proofs.TablesInForce.{tables-start, codings-good}
@@ -140,13 +142,15 @@ module _ (array : Coefficients) (tail : List ℕ) (final : Found) (last : ℕ �
   segment-turn : (bf : Before) (w : Found) (s : Segment) (sc : Bool) (h : Arrays) (fi : List (List Bool))
       (pl : List (Option (List ℕ))) (met : Option Marker) (all : List ℕ) (fill : ℕ) (more : List ℕ)
       → Stands w s → IsDctSegment s
-      → StandsAt met all (marker fill (code_of s) (sized (payload_of s) ++ more) ++ tail)
+      → StandsAt met all (marker fill (marker_code s) (with_length (payload_of s) ++ more) ++ tail)
       → turn_at bf (reading w sc h fi pl) met all ≡ Ok (onward (reading (found_after w s) sc h fi pl), more ++ tail)
   segment-turn bf w s sc h fi pl met all fill more may dct at =
       let now = reading w sc h fi pl in
       at.turn bf now
-      ∙ ap (turn_at bf now None) (segment-tail fill (code_of s) (sized (payload_of s)) more tail)
-      ∙ marker-turn bf now fill (code_of s) (marker_for s) (sized (payload_of s) ++ (more ++ tail))
+      ∙ ap (turn_at bf now None) (segment-tail fill (marker_code s) (with_length (payload_of s))
+      more tail)
+      ∙ marker-turn bf now fill (marker_code s) (marker_for s) (with_length (payload_of s) ++ (more
+      ++ tail))
       (segment-marker w.frame s may.0)
       ∙ (search (rules, segment-read, frame-turn, header-accepted))
 
@@ -170,10 +174,10 @@ module _ (array : Coefficients) (tail : List ℕ) (final : Found) (last : ℕ �
       (reads-scans f (found_after w s) levels sc more h fi pl turns Elsewhere None (more ++ tail)
       range shape (segment-tables w s may.0 good) (frame-stays w s other ∙ e) none
       (framed-next w s f array levels sc h fi pl follows none fr) r (stands-here (more ++ tail))
-      (marker-longer fill (code_of s) turns (sized (payload_of s)) more room))
+      (marker-longer fill (marker_code s) turns (with_length (payload_of s)) more room))
   reads-scans f w levels sc bytes h fi pl (suc turns) bf met all range shape good e none fr
       (scan w' final' levels' last' sc' frame fill head codings payload more framed is l x r) at room =
-      let header = sized (scan_payload head) in
+      let header = with_length (scan_payload head) in
       let of = subst (ScanOf array w levels final last head codings payload more)
       (same-frame frame f w.frame framed e) (is, l, x, r) in
       let s = scan_written f head in
@@ -266,9 +270,10 @@ module _ (array : Coefficients) (tail : List ℕ) (final : Found) (last : ℕ �
   reads-header w levels sc bytes zero good none fresh unscanned r room = absurd (omega arith)
   reads-header w levels sc bytes (suc turns) good none fresh unscanned
       (segment w' final' levels' last' sc' fill s more may dct follows r) room =
-      let all = marker fill (code_of s) (sized (payload_of s) ++ more) ++ tail in
+      let all = marker fill (marker_code s) (with_length (payload_of s) ++ more) ++ tail in
       let next = onward (unread (found_after w s)) in
-      let shorter = marker-longer fill (code_of s) turns (sized (payload_of s)) more room in
+      let shorter = marker-longer fill (marker_code s) turns (with_length (payload_of s)) more room
+      in
       let turn = segment-turn Elsewhere w s false [] nothing_finished no_planes None all fill more may dct
       (stands-here all) in
       header-by _ _ _ _

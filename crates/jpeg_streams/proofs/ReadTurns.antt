@@ -12,8 +12,8 @@ use Rattle.jpeg_bits.specs.declared.marker.Marker.TheVariants.{EOI, SOF, SOS}
 use Rattle.jpeg_segments.specs.Frame.{Frame}
 use Rattle.jpeg_segments.specs.ScanHeader.{Scan, sos_at}
 use Rattle.jpeg_segments.specs.HuffmanTables.{Tables}
-use Rattle.jpeg_segments.specs.WrittenSegments.{sized, Segment, Header, FrameHeader, MayStand}
-use Rattle.jpeg_segments.specs.WrittenSegments.{code_of, frame_written, payload_of}
+use Rattle.jpeg_segments.specs.WrittenSegments.{with_length, Segment, Header, FrameHeader, MayStand}
+use Rattle.jpeg_segments.specs.WrittenSegments.{marker_code, frame_written, payload_of}
 use Rattle.jpeg_segments.proofs.Fields.{kept, not-refused, read-on, sized-read, skip-read}
 use Rattle.jpeg_segments.proofs.TableSegments.{dqt-read, dht-read}
 use Rattle.jpeg_segments.proofs.OtherSegments.{dri-read, app-read}
@@ -133,7 +133,7 @@ pub record Starts (bytes : List ℕ) : Type 0 where
   pub ends : IsEnd m
 
 pub segment-starts : (frame : Option Frame) (fill : ℕ) (s : Segment) (more : List ℕ) → MayStand frame s
-    → Starts (marker fill (code_of s) (sized (payload_of s) ++ more))
+    → Starts (marker fill (marker_code s) (with_length (payload_of s) ++ more))
 unfolding after_restarts
 segment-starts frame fill s more may = grind (arith, common_steps, segment-marker)
 
@@ -172,7 +172,11 @@ IsOther _ = Unit {0}
 
 -- such a segment is read, whatever was found before it
 pub segment-read : (before : Before) (found : Found) (s : Segment) (rest : List ℕ) → MayStand found.frame s → IsOther s
-    → segment_at (marker_for s) before found (sized (payload_of s) ++ rest) ≡ Ok (onward (found_after found s), rest)
+    → segment_at (marker_for s) before found (with_length (payload_of s) ++ rest) ≡ Ok (
+      onward
+          (found_after found s),
+      rest,
+    )
 unfolding segment_at quantization_segment huffman_segment restart_segment application_segment skipped_segment
 segment-read before found s rest may other =
     search (rules, read-on, dqt-read, dht-read, dri-read, app-read, sized-read, skip-read)
@@ -180,7 +184,7 @@ segment-read before found s rest may other =
 -- a frame that is accepted is read, where none was
 pub frame-turn : (before : Before) (found : Found) (number : ℕ) (h : FrameHeader) (rest : List ℕ)
     → MayStand found.frame (Header number h) → accepted (frame_written number h) ≡ Ok (frame_written number h)
-    → segment_at (SOF number) before found (sized (payload_of (Header number h)) ++ rest)
+    → segment_at (SOF number) before found (with_length (payload_of (Header number h)) ++ rest)
     ≡ Ok (onward (found_after found (Header number h)), rest)
 unfolding segment_at frame_segment
 frame-turn before found number h rest may ok = grind (arith, common_steps, not-refused, read-on, sof-read)

@@ -8,7 +8,8 @@ use Rattle.std.specs.List.{AllByRecursion, flat_map, position}
 use Rattle.std.proofs.lemmas.List.Sums.{sum-map}
 use Rattle.jpeg_segments.specs.Frame.{Frame, Component, Factors, ceiling}
 use Rattle.jpeg_segments.specs.ScanHeader.{place_of, blocks_by, scan_of}
-use Rattle.jpeg_segments.specs.ScanHeaders.{AreChoices, Choice, IsScan, ScanHeader, scan_payload, scan_written, selector_of}
+use Rattle.jpeg_segments.specs.ScanHeaders.{AreChoices, Choice, IsScan, ScanHeader, scan_payload}
+use Rattle.jpeg_segments.specs.ScanHeaders.{scan_written, selector_for}
 use Rattle.jpeg_segments.proofs.ScanLemmas.{position-map}
 use Rattle.jpeg_bits.specs.Passes.{Pass}
 use Rattle.jpeg_streams.specs.Order.{Spot, grid_of, part_spots, mcu_spots, all_spots, spots_of, mcu_size}
@@ -22,7 +23,7 @@ use Rattle.jpeg_streams.specs.WrittenScans.{HasTable, IsLegalScan}
 use Rattle.jpeg_streams.specs.WrittenScans.AreCodings.{no_more, and_more}
 use Rattle.jpeg_streams.specs.WrittenImages.{Writes, closed, segment, scan}
 use Rattle.jpeg_streams.specs.SaidSegments.{Stands, found_after}
-use Rattle.jpeg_segments.specs.WrittenSegments.{sized, Segment}
+use Rattle.jpeg_segments.specs.WrittenSegments.{with_length, Segment}
 use Rattle.jpeg_bits.specs.Written.{marker}
 use Rattle.jpeg_streams.proofs.FrameShapes.{below-ceiling}
 use Rattle.jpeg_streams.proofs.ReadTurns.{frame-stays, is-other, same-frame, some-none}
@@ -123,7 +124,8 @@ blocks-same cs ds place none = refl
 blocks-same cs ds zero (one_more c d cs' ds' h more) = rw h.factors refl
 blocks-same cs ds (suc place) (one_more c d cs' ds' h more) = blocks-same cs' ds' place more
 
-selectors-same : (f g : Frame) (cs : List Choice) → SameFrame f g → map (selector_of g) cs ≡ map (selector_of f) cs
+selectors-same : (f g : Frame) (cs : List Choice) → SameFrame f g → map (selector_for g) cs ≡ map
+    (selector_for f) cs
 selectors-same f g [] same = refl
 selectors-same f g (c ∷ cs) same = search (rules, blocks-same, selectors-same f g cs same)
 
@@ -257,7 +259,8 @@ scan-other : (array : Coefficients) (f g : Frame) (w final : Found) (levels last
     → WritesScan f w.restart (pass_of (scan_written f h)) codings array bytes
     → Writes array (at_frame w g) (levels_after (pass_of (scan_written f h)) (map (λ c. c.place) codings) levels) true
     more (at_frame final g) last
-    → Writes array (at_frame w g) levels sc (marker fill 218 (sized (scan_payload h) ++ (bytes ++ more)))
+    → Writes array (at_frame w g) levels sc (marker fill 218 (with_length (scan_payload h) ++
+    (bytes ++ more)))
     (at_frame final g) last
 unfolding tables_of
 scan-other array f g w final levels last sc fill h codings bytes more same is l x r =

@@ -6,7 +6,8 @@ use lib.ListN.{length-map}
 use Rattle.jpeg_segments.specs.declared.parser.CodingProcess.TheVariants.{Lossless}
 use Rattle.jpeg_segments.specs.Frame.{Frame}
 use Rattle.jpeg_segments.specs.ScanHeader.{Selector, is_band, scan_of}
-use Rattle.jpeg_segments.specs.ScanHeaders.{AreChoices, Choice, IsScan, ScanHeader, scan_written, selector_of}
+use Rattle.jpeg_segments.specs.ScanHeaders.{AreChoices, Choice, IsScan, ScanHeader, scan_written}
+use Rattle.jpeg_segments.specs.ScanHeaders.{selector_for}
 use Rattle.jpeg_segments.proofs.Fields.{nibbles-high, nibbles-low}
 use Rattle.jpeg_streams.specs.ScanSegments.{pass_of}
 use Rattle.jpeg_streams.proofs.PlacesApart.{IsAbsent, AreApart}
@@ -15,7 +16,7 @@ use Rattle.jpeg_streams.proofs.BroughtLevels.{PassSo, ScanFacts, progressive-pas
 -- ---- the components, each after those before it
 
 places_of : Frame → List Choice → List ℕ
-places_of f cs = map (λ s. s.component) (map (selector_of f) cs)
+places_of f cs = map (λ s. s.component) (map (selector_for f) cs)
 
 absent-after : (f : Frame) (n least : ℕ) (cs : List Choice) → n < least → AreChoices f least cs
     → IsAbsent n (places_of f cs)

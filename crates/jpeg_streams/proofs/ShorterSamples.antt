@@ -6,8 +6,10 @@ use Rattle.jpeg_bits.specs.Codes.{Table, symbol_from}
 use Rattle.jpeg_bits.specs.Entropy.{upcoming, fresh, marker_from}
 use Rattle.jpeg_bits.specs.Readers.{refused}
 use Rattle.jpeg_bits.specs.declared.marker.Marker.{Marker}
-use Rattle.jpeg_lossless.specs.Differences.{difference, difference_of, differences, mcu_tables, rows_from, row_tables}
-use Rattle.jpeg_lossless.specs.Scans.{Way, interval, intervals, is_of_rows, rows_of_interval, scan_at}
+use Rattle.jpeg_lossless.specs.Differences.{sample_difference, difference_of, differences}
+use Rattle.jpeg_lossless.specs.Differences.{mcu_tables, difference_rows, row_tables}
+use Rattle.jpeg_lossless.specs.Scans.{Way, line_interval, line_intervals, is_of_rows}
+use Rattle.jpeg_lossless.specs.Scans.{rows_of_interval, scan_at}
 use Rattle.jpeg_streams.proofs.Shorter.{below_steps, LeavesBelow, below-ok, below-err, below-bind}
 use Rattle.jpeg_streams.proofs.ShorterTexts.{marker_from-below, takes-below, texts-below, upcoming-below}
 use Rattle.jpeg_streams.proofs.TakenTexts.{TakesBits, bind-takes, elim-takes, gives-takes, refused-takes}
@@ -15,8 +17,8 @@ use Rattle.jpeg_streams.proofs.TakenTexts.{signed-takes, symbol-takes}
 
 -- ---- differences
 
-difference-takes : (table : Table) → TakesBits (difference table)
-unfolding difference
+difference-takes : (table : Table) → TakesBits (sample_difference table)
+unfolding sample_difference
 difference-takes table =
     bind-takes (symbol_from table) _ (symbol-takes table) (λ s.
     elim-takes (nat_le s 16) (difference_of s) refused
@@ -29,8 +31,8 @@ differences-take [] = gives-takes []
 differences-take (table ∷ tables) =
     search (rules, bind-takes, difference-takes, gives-takes, differences-take tables)
 
-rows-take : (tables : List Table) (n : ℕ) → TakesBits (rows_from tables n)
-unfolding rows_from
+rows-take : (tables : List Table) (n : ℕ) → TakesBits (difference_rows tables n)
+unfolding difference_rows
 rows-take tables zero = gives-takes []
 rows-take tables (suc n) = search (rules, bind-takes, differences-take, gives-takes, rows-take tables n)
 
@@ -40,18 +42,18 @@ abbrev Lines : Type 0
 Lines = List (List (List ℕ)) × Option Marker
 
 interval-below : (limit : ℕ) (w : Way) (n : ℕ) (bytes : List ℕ) → length bytes < limit
-    → LeavesBelow limit (interval w n bytes)
-unfolding interval
+    → LeavesBelow limit (line_interval w n bytes)
+unfolding line_interval
 interval-below limit w n bytes h =
     let tables = row_tables w.wide (mcu_tables w.parts) in
-    texts-below limit (rows_from tables n (upcoming fresh bytes)) _
-    (takes-below limit (rows_from tables n) (upcoming fresh bytes) (rows-take tables n)
+    texts-below limit (difference_rows tables n (upcoming fresh bytes)) _
+    (takes-below limit (difference_rows tables n) (upcoming fresh bytes) (rows-take tables n)
     (upcoming-below limit bytes h)) (λ r a.
     below-bind limit limit (marker_from r.1) _ (marker_from-below limit r.1 a) (λ m q. below-ok limit _ m.1 q))
 
 intervals-below : (limit turns : ℕ) (w : Way) (per k left : ℕ) (bytes : List ℕ) → length bytes < limit
-    → LeavesBelow limit (intervals turns w per k left bytes)
-unfolding intervals
+    → LeavesBelow limit (line_intervals turns w per k left bytes)
+unfolding line_intervals
 intervals-below limit zero w per k left bytes h = below-err Lines limit Malformed
 intervals-below limit (suc turns) w per k left bytes h =
     search (below_steps, interval-below, intervals-below limit turns w per) depth 12
@@ -68,6 +70,7 @@ pub samples-below : (limit : ℕ) (w : Way) (high restart point : ℕ) (bytes : 
 unfolding scan_at
 samples-below limit w high restart point bytes h =
     planes-below limit _ (is_of_rows w.wide high restart)
-    (below-bind limit limit (intervals (suc high) w (rows_of_interval w.wide high restart) 0 high bytes) _
+    (below-bind limit limit (line_intervals (suc high) w (rows_of_interval w.wide high restart) 0
+    high bytes) _
     (intervals-below limit (suc high) w (rows_of_interval w.wide high restart) 0 high bytes h)
     (λ r q. below-ok limit _ r.1 q))

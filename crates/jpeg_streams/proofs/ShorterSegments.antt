@@ -4,7 +4,8 @@ use Rattle.std.proofs.Common.{None, length}
 use Rattle.jpeg_bits.specs.declared.codes.HuffmanTableClass.{HuffmanTableClass}
 use Rattle.jpeg_segments.specs.Frame.{Frame, Factors, size_at, head_at, sof_at}
 use Rattle.jpeg_segments.specs.Frame.{parameters_at, factors_at, components_from}
-use Rattle.jpeg_segments.specs.ScanHeader.{Selector, count_at, tables_at, tables_by, selector_at, selectors_from}
+use Rattle.jpeg_segments.specs.ScanHeader.{Selector, count_at, destinations_at, tables_by}
+use Rattle.jpeg_segments.specs.ScanHeader.{selector_at, selectors_from}
 use Rattle.jpeg_segments.specs.ScanHeader.{band_at, sos_at}
 use Rattle.jpeg_segments.specs.Application.{Application, passed_over, adobe_by, adobe_at, application_14, payload_at}
 use Rattle.jpeg_segments.specs.Application.{app_at, dri_at}
@@ -57,9 +58,10 @@ placed-below : (limit left : ℕ) (bytes : List ℕ) → length bytes < limit �
 unfolding placed_table_at
 placed-below limit left bytes h = search (below_steps, table-below) depth 12
 
-quantization-below : (limit most left : ℕ) (tables : quantization.Tables) (bytes : List ℕ) → length bytes < limit
-    → LeavesBelow limit (quantization.tables_from most left tables bytes)
-unfolding quantization.tables_from
+quantization-below : (limit most left : ℕ) (tables : quantization.QuantizationTables) (bytes : List
+    ℕ) → length bytes < limit
+    → LeavesBelow limit (quantization.quantization_from most left tables bytes)
+unfolding quantization.quantization_from
 quantization-below limit zero left tables bytes h = search (below_steps) depth 12
 quantization-below limit (suc most) left tables bytes h =
     search (below_steps, placed-below, quantization-below limit most) depth 12
@@ -104,8 +106,8 @@ unfolding count_at
 count-below limit bytes h = search (below_steps) depth 12
 
 tables-below : (limit : ℕ) (frame : Frame) (place : ℕ) (bytes : List ℕ) → length bytes < limit
-    → LeavesBelow limit (tables_at frame place bytes)
-unfolding tables_at
+    → LeavesBelow limit (destinations_at frame place bytes)
+unfolding destinations_at
 tables-below limit frame place bytes h = search (below_steps) depth 12
 
 named_tables-below : (limit : ℕ) (frame : Frame) (least : ℕ) (place : Option ℕ) (bytes : List ℕ) → length bytes < limit

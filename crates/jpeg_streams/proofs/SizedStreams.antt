@@ -16,7 +16,7 @@ use Rattle.jpeg_streams.specs.Found.{Found}
 use Rattle.jpeg_streams.specs.Levels.{Levels, Is8Bit, nothing_sent}
 use Rattle.jpeg_streams.specs.WrittenScans.{Coefficients}
 use Rattle.jpeg_streams.specs.WrittenImages.{WritesImage}
-use Rattle.jpeg_streams.specs.ArrayPictures.{meaning_of_array, picture_of_array, Takes}
+use Rattle.jpeg_streams.specs.ArrayPictures.{meaning_of_array, picture_of_array, TakesPicture}
 use Rattle.jpeg_streams.proofs.OwnSpots.{At}
 use Rattle.jpeg_streams.proofs.ReadStates.{reading}
 use Rattle.jpeg_streams.proofs.ReadTurns.{frame-kept, stands-here, then-ok}
@@ -159,14 +159,14 @@ stream-means_sized width height settings array bytes rest final last range w =
 pub sized-taken : (width height : ℕ) (settings : Settings) (array : Coefficients) (bytes rest : List ℕ)
     (final : Found) (last : ℕ → Levels)
     → ((place row column : ℕ) → Is8Bit (array place row column)) → WritesImage array bytes final last
-    → Takes settings (sized_to width height final)
+    → TakesPicture settings (sized_to width height final)
     → (picture : List ℕ) × (picture_of_array settings (sized_to width height final) array last ≡ Ok picture)
     × (sized_meaning width height settings (bytes ++ rest)
     ≡ Ok ((told_of (sized_to width height final), picture), rest))
 sized-taken width height settings array bytes rest final last range w takes =
     let r = read-at width height array rest bytes final last range w in
     let p = pictures-taken settings array (at_frame final r.frame) last r.frame r.sources r.shape r.read.end
-    r.sources_are (subst (Takes settings) r.sized_is takes) in
+    r.sources_are (subst (TakesPicture settings) r.sized_is takes) in
     let q = ap (λ (x : Found). picture_of_array settings x array last) r.sized_is ∙ p.1 in (
       p.0,
       q,

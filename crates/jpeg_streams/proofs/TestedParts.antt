@@ -18,8 +18,10 @@ use Rattle.jpeg_segments.specs.Frame.{Factors, Frame, is_count, is_factor, is_lo
 use Rattle.jpeg_segments.specs.Frame.{is_taken}
 use Rattle.jpeg_segments.specs.HuffmanTables.{greatest_place, PlacedTable}
 use Rattle.jpeg_segments.specs.ScanHeader.{is_band, is_mcu, place_of, scan_of}
-use Rattle.jpeg_segments.specs.ScanHeaders.{AreChoices, Choice, IsScan, ScanHeader, scan_written, selector_of}
-use Rattle.jpeg_segments.specs.WrittenSegments.{AreComponents, FrameHeader, IsFrame, IsHuffmanTable}
+use Rattle.jpeg_segments.specs.ScanHeaders.{AreChoices, Choice, IsScan, ScanHeader, scan_written}
+use Rattle.jpeg_segments.specs.ScanHeaders.{selector_for}
+use Rattle.jpeg_segments.specs.WrittenSegments.{AreComponents, FrameHeader, IsFrameHeader}
+use Rattle.jpeg_segments.specs.WrittenSegments.{IsHuffmanTable}
 use Rattle.jpeg_segments.specs.WrittenSegments.{IsQuantizationTable, QuantizationTable}
 use Rattle.jpeg_streams.specs.Found.{Found}
 use Rattle.jpeg_streams.specs.Levels.{Is8Bit, IsLegal, Levels}
@@ -82,7 +84,7 @@ is_frame number h =
     nat_le number 3 && (is_precision number h.precision && (nat_lt 0 h.width && (nat_lt 0 h.height
     && (is_count number (length h.components) && are_components number [] h.components))))
 
-pub frame-by : (number : ℕ) (h : FrameHeader) → is_frame number h ≡ true → IsFrame number h
+pub frame-by : (number : ℕ) (h : FrameHeader) → is_frame number h ≡ true → IsFrameHeader number h
 frame-by number h e = search (rules, nat_tests, components-by)
 
 -- ---- scan headers
@@ -104,7 +106,8 @@ choices-by frame least (c ∷ more) e =
 abbrev is_scan : Frame → ScanHeader → Bool
 is_scan frame h =
     nat_le 1 (length h.choices) && (nat_le (length h.choices) 4 && (are_choices frame 0 h.choices
-    && (is_mcu (map (selector_of frame) h.choices) && (nat_lt h.low 16 && (nat_lt h.low frame.precision
+    && (is_mcu (map (selector_for frame) h.choices) && (nat_lt h.low 16 && (nat_lt h.low
+    frame.precision
     && is_band frame.process (length h.choices) h.first h.last h.high h.low)))))
 
 pub scan-by : (frame : Frame) (h : ScanHeader) → is_scan frame h ≡ true → IsScan frame h

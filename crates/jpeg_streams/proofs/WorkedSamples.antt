@@ -12,7 +12,8 @@ use Rattle.jpeg_segments.specs.WrittenSegments.{FrameHeader, Header, Interval, f
 use Rattle.jpeg_lossless.specs.Prediction.{residue}
 use Rattle.jpeg_lossless.specs.Differences.{mcu_tables, row_tables, strand, strands, lines_in}
 use Rattle.jpeg_lossless.specs.Scans.{all_above, Way}
-use Rattle.jpeg_lossless.specs.Written.{AreGrids, bits_for, WritesDifference, WritesInterval, WritesRow, WritesRows, none, one}
+use Rattle.jpeg_lossless.specs.Written.{AreGrids, bits_of_difference, WritesSampleDifference}
+use Rattle.jpeg_lossless.specs.Written.{WritesSampleInterval, WritesRow, WritesRows, none, one}
 use Rattle.jpeg_lossless.specs.Written.{no_row, row, first_differences, rest_differences, differences_below}
 use Rattle.jpeg_lossless.specs.Written.{differences_of, HaveDifferences}
 use Rattle.jpeg_lossless.specs.Written.WritesIntervals.{another, last}
@@ -26,7 +27,8 @@ use Rattle.jpeg_streams.specs.WorkedSamples.{AreWritten, lone_data, lone_scan, o
 use Rattle.jpeg_streams.specs.WorkedSamples.{padded_data, padded_header, padded_samples, padded_scan, plain_factors}
 use Rattle.jpeg_streams.specs.WorkedSamples.{table_segment, twice_factors, third_data, third_scan, three_bytes}
 use Rattle.jpeg_streams.specs.WorkedSamples.{three_header, three_samples}
-use Rattle.jpeg_streams.specs.WrittenLossless.{AreCodings, HasSamples, HoldSamples, WritesScan, closed, said_after_scan}
+use Rattle.jpeg_streams.specs.WrittenLossless.{AreCodings, HasSamples, HoldSamples}
+use Rattle.jpeg_streams.specs.WrittenLossless.{WritesSamplesScan, closed, said_after_scan}
 use Rattle.jpeg_streams.specs.WrittenLossless.{scan, segment, whole_rows}
 use Rattle.jpeg_streams.specs.LosslessScans.{LosslessCoding, mcus_across, mcus_down, parts_of}
 use Rattle.jpeg_streams.proofs.AcceptedSamples.{accepted-samples}
@@ -72,7 +74,8 @@ small_bits (suc (suc n)) = true ∷ false ∷ false ∷ []
 
 -- a difference of this category, by the code of the category
 of-category : (d : ℤ) (s : ℕ) (code : List Bool) → negsuc 32766 ≤ℤ d → d ≤ℤ pos 32768 → is_category d s ≡ true
-    → IsCoded small_table s code → WritesDifference small_table (residue d) (code ++ bits_for d s)
+    → IsCoded small_table s code → WritesSampleDifference small_table (residue d) (code ++
+    bits_of_difference d s)
 of-category d s code low high is coded = record {
   d = d;
   s = s;
@@ -85,11 +88,11 @@ of-category d s code low high is coded = record {
   has_bits = refl;
 }
 
-less : WritesDifference small_table 65535 (true ∷ false ∷ false ∷ [])
+less : WritesSampleDifference small_table 65535 (true ∷ false ∷ false ∷ [])
 unfolding low_bits number_for lengths_from code_value residue
 less = of-category (negsuc 0) 1 (true ∷ false ∷ []) (record { le = tt }) (record { le = tt }) refl (search rules)
 
-small-written : (r : ℕ) → is_small r ≡ true → WritesDifference small_table r (small_bits r)
+small-written : (r : ℕ) → is_small r ≡ true → WritesSampleDifference small_table r (small_bits r)
 unfolding low_bits number_for lengths_from code_value residue
 small-written zero e =
     of-category (pos 0) 0 (false ∷ []) (record { le = tt }) (record { le = tt }) refl (search rules)
@@ -115,7 +118,7 @@ row-interval : (w : Way) (lines : List (List (List ℕ))) (rs data_bytes : List 
     → bits_of_bytes data_bytes ≡ row_bits rs ++ drop (length (row_bits rs)) (bits_of_bytes data_bytes)
     → nat_le (length (drop (length (row_bits rs)) (bits_of_bytes data_bytes))) 7 ≡ true
     → HaveDifferences w 0 w.parts lines (rs ∷ []) → AreGrids w w.parts lines
-    → WritesInterval w 1 lines (stuffed data_bytes)
+    → WritesSampleInterval w 1 lines (stuffed data_bytes)
 row-interval w lines rs data_bytes tables small whole short placed sized = record {
   rows = rs ∷ [];
   bits = row_bits rs;
@@ -141,8 +144,10 @@ coding identifier place = record {
   table = small_table;
 }
 
-three-scans : WritesScan (said three_header) (frame_by three_header) third_scan three_samples third_data
-    × WritesScan (scanned three_header) (frame_by three_header) other_scan three_samples other_data
+three-scans : WritesSamplesScan (said three_header) (frame_by three_header) third_scan
+    three_samples third_data
+    × WritesSamplesScan (scanned three_header) (frame_by three_header) other_scan three_samples
+    other_data
 unfolding frame_of component_of nothing_found updated three_samples AreCodings HoldSamples mcus_across mcus_down
     parts_of mcu_tables row_tables strand strands
     lines_in first_differences rest_differences differences_below differences_of HaveDifferences residue stuffed
@@ -211,8 +216,10 @@ abbrev lower : List (List (List ℕ))
 lower =
     ((128 ∷ 127 ∷ 127 ∷ 127 ∷ []) ∷ (127 ∷ 128 ∷ 127 ∷ 126 ∷ []) ∷ []) ∷ ((127 ∷ 127 ∷ []) ∷ []) ∷ []
 
-padded-scans : WritesScan (said padded_header) (frame_by padded_header) padded_scan padded_samples padded_data
-    × WritesScan (scanned padded_header) (frame_by padded_header) lone_scan padded_samples lone_data
+padded-scans : WritesSamplesScan (said padded_header) (frame_by padded_header) padded_scan
+    padded_samples padded_data
+    × WritesSamplesScan (scanned padded_header) (frame_by padded_header) lone_scan padded_samples
+    lone_data
 unfolding frame_of component_of nothing_found updated padded_samples AreCodings HoldSamples mcus_across mcus_down
     parts_of mcu_tables row_tables strand strands
     lines_in first_differences rest_differences differences_below differences_of HaveDifferences residue stuffed

@@ -5,7 +5,7 @@ use Rattle.jpeg_bits.specs.declared.marker.Marker.{Marker}
 use Rattle.jpeg_bits.specs.declared.marker.Marker.TheVariants.{SOF, DHT, DQT, DRI, APP, COM}
 use Rattle.jpeg_segments.specs.Frame.{Frame}
 use Rattle.jpeg_segments.specs.WrittenSegments.{Segment, Quantization, Huffman, Interval, Application, Comment, Header}
-use Rattle.jpeg_segments.specs.WrittenSegments.{code_of, MayStand}
+use Rattle.jpeg_segments.specs.WrittenSegments.{marker_code, MayStand}
 pub use Rattle.jpeg_lossless.proofs.ReadBack.{marker-append}
 
 abbrev pub marker_for : Segment → Marker
@@ -17,6 +17,6 @@ marker_for (Comment payload) = COM
 marker_for (Header number h) = SOF number
 
 pub segment-marker : (frame : Option Frame) (s : Segment) → MayStand frame s
-    → marker_of (code_of s) ≡ Some (marker_for s)
+    → marker_of (marker_code s) ≡ Some (marker_for s)
 unfolding marker_of
 segment-marker frame s may = search rules

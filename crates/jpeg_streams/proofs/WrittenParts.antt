@@ -9,7 +9,7 @@ use Rattle.jpeg_bits.specs.Reading.{Fault, Malformed, ◌>>=◌}
 use Rattle.jpeg_segments.specs.Frame.{Component, Frame}
 use Rattle.jpeg_segments.specs.HuffmanTables.{Tables}
 use Rattle.jpeg_segments.specs.ScanHeaders.{scan_payload, scan_written}
-use Rattle.jpeg_segments.specs.WrittenSegments.{code_of, payload_of, sized}
+use Rattle.jpeg_segments.specs.WrittenSegments.{marker_code, payload_of, with_length}
 use Rattle.jpeg_streams.specs.ArrayPictures.{picture_of_array, picture_of_blocks, planes_of_blocks}
 use Rattle.jpeg_streams.specs.declared.settings.Settings.{Settings}
 use Rattle.jpeg_streams.specs.Levels.{Is8Bit, Levels, nothing_sent}
@@ -42,13 +42,13 @@ front-append array said next final levels reached last scanned after front more 
 front-append array said next final levels reached last scanned after front more
     (segment said' next' levels' reached' scanned' after' fill s others stands dct follows f) w =
     subst (λ (l : List ℕ). Writes array said levels scanned l final last)
-    (sym (segment-tail fill (code_of s) (sized (payload_of s)) others more))
+    (sym (segment-tail fill (marker_code s) (with_length (payload_of s)) others more))
     (then_segment said final levels last scanned fill s (others ++ more) stands dct follows
     (front-append array (found_after said s) next final levels reached last scanned after others more f w))
 front-append array said next final levels reached last scanned after front more
     (scan said' next' levels' reached' scanned' after' frame fill h codings data_bytes others framed is legal written
     f) w = subst (λ (l : List ℕ). Writes array said levels scanned l final last)
-    (sym (scan-tail fill 218 (sized (scan_payload h)) data_bytes others more))
+    (sym (scan-tail fill 218 (with_length (scan_payload h)) data_bytes others more))
     (then_scan said final levels last scanned frame fill h codings data_bytes (others ++ more) framed is legal written
     (front-append array said next final
     (levels_after (pass_of (scan_written frame h)) (map (λ c. c.place) codings) levels) reached last true after others

@@ -33,7 +33,8 @@ use Rattle.jpeg_streams.specs.declared.before.Before.TheVariants.{Elsewhere}
 use Rattle.jpeg_streams.specs.Levels.{Levels, Is8Bit, cut}
 use Rattle.jpeg_streams.proofs.FinishedPlaces.{is_level_0}
 use Rattle.jpeg_streams.specs.WrittenScans.{Coefficients, HasTable, IsComplete}
-use Rattle.jpeg_streams.specs.ArrayPictures.{HasTransform, IsTransformOf, Takes, plane_of_blocks, planes_of_blocks}
+use Rattle.jpeg_streams.specs.ArrayPictures.{HasTransform, IsTransformOf, TakesPicture}
+use Rattle.jpeg_streams.specs.ArrayPictures.{plane_of_blocks, planes_of_blocks}
 use Rattle.jpeg_streams.specs.ArrayPictures.{as_sent, picture_of_blocks}
 use Rattle.jpeg_streams.specs.ArrayPictures.{picture_of_array}
 use Rattle.jpeg_streams.specs.WrittenImages.{WritesImage}
@@ -302,7 +303,8 @@ picture-there settings w f components ours planes sources t e h = absurd h
 -- The picture of an array that is taken.
 pub pictures-taken : (settings : Settings) (array : Coefficients) (final : Found) (last : ℕ → Levels) (f : Frame)
     (sources : List Source) → Shaped f → Ended f array final last
-    → sources_of f.components f.output_width f.output_height ≡ Ok sources → Takes settings final
+    → sources_of f.components f.output_width f.output_height ≡ Ok sources → TakesPicture settings
+    final
     → (picture : List ℕ) × (picture_of_array settings final array last ≡ Ok picture)
 pictures-taken settings array final last f sources shape end is takes =
     let same : takes.frame ≡ f = cc in
@@ -321,7 +323,7 @@ pictures-taken settings array final last f sources shape end is takes =
 -- A written stream whose picture is taken means that picture.
 pub taken-means : (settings : Settings) (array : Coefficients) (bytes rest : List ℕ) (final : Found) (last : ℕ → Levels)
     → ((place row column : ℕ) → Is8Bit (array place row column)) → WritesImage array bytes final last
-    → Takes settings final
+    → TakesPicture settings final
     → (picture : List ℕ) × (picture_of_array settings final array last ≡ Ok picture)
     × (meaning settings (bytes ++ rest) ≡ Ok ((told_of final, picture), rest))
 taken-means settings array bytes rest final last range w takes =

@@ -87,7 +87,7 @@ HasTransform settings w (c ∷ d ∷ more) =
 
 -- The settings take the picture of the frame that was said: its bytes are within the limit, and its
 -- components can have the colour transform.
-pub record Takes (settings : Settings) (w : Found) : Type 0 where
+pub record TakesPicture (settings : Settings) (w : Found) : Type 0 where
   pub frame : Frame
   pub is_said : w.frame ≡ Some frame
   pub limit :

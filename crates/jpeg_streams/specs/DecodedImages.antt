@@ -4,7 +4,7 @@ use Rattle.jpeg_bits.specs.Reading.{Fault, IsGivenUp}
 use Rattle.jpeg_bits.specs.Stream.{Stream}
 use Rattle.jpeg_bits.specs.declared.error.Error.{Error}
 use Rattle.jpeg_bits.specs.declared.error.Error.TheVariants.{OutOfMemory}
-use Rattle.jpeg_streams.specs.ArrayPictures.{picture_of_array, Takes}
+use Rattle.jpeg_streams.specs.ArrayPictures.{picture_of_array, TakesPicture}
 use Rattle.jpeg_streams.specs.Levels.{Is8Bit, Levels}
 use Rattle.jpeg_streams.specs.States.{Decoding, Stage, Fresh, HeaderRead, Finished, Failed}
 use Rattle.jpeg_streams.specs.Stream.{header_at, sized_to, told_of}
@@ -37,7 +37,7 @@ HasLeft size bytes Failed found left = ⊥
 -- ---- what is given
 
 -- The picture is given, `final` is what a caller is given, and the bytes after the image are left.
-pub record Gives (picture : Result (List ℕ) Fault) (rest : List ℕ) (final : Found)
+pub record GivesPicture (picture : Result (List ℕ) Fault) (rest : List ℕ) (final : Found)
     (given : List ℕ) (new : Decoding) : Type 0 where
   pub pixels : picture ≡ Ok given
   pub told : told_of new.found ≡ told_of final
@@ -59,10 +59,10 @@ DecodesImages bytes_of old result new =
     (size : Size) (array : Coefficients) (image rest : List ℕ) (final : Found)
     (last : ℕ → Levels) →
     ((place row column : ℕ) → Is8Bit (array place row column)) →
-    WritesImage array image final last → Takes old.settings (at_size size final) →
+    WritesImage array image final last → TakesPicture old.settings (at_size size final) →
     HasLeft size (image ++ rest) old.stage old.found old.source.bytes →
     old.source.known ≡ true →
     MatchResult result
-    (λ x. Gives (picture_of_array old.settings (at_size size final) array last) rest
+    (λ x. GivesPicture (picture_of_array old.settings (at_size size final) array last) rest
     (at_size size final) (bytes_of x) new)
     (λ e. FailsOutside e new.source)

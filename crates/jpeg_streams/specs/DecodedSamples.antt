@@ -2,10 +2,11 @@
 use Rattle.std.specs.Prelude.{◌≡◌, ℕ, ◌++◌, List, true, Result, Ok, MatchResult}
 use Rattle.jpeg_bits.specs.declared.error.Error.{Error}
 use Rattle.jpeg_segments.specs.Frame.{Frame}
-use Rattle.jpeg_streams.specs.DecodedImages.{FailsOutside, Gives, HasLeft, Size}
+use Rattle.jpeg_streams.specs.DecodedImages.{FailsOutside, GivesPicture, HasLeft, Size}
 use Rattle.jpeg_streams.specs.States.{Decoding}
 use Rattle.jpeg_streams.specs.Found.{Found}
-use Rattle.jpeg_streams.specs.WrittenLossless.{IsWithin, picture_of_samples, Samples, WritesSamples}
+use Rattle.jpeg_streams.specs.WrittenLossless.{IsWithinLimit, picture_of_samples, Samples}
+use Rattle.jpeg_streams.specs.WrittenLossless.{WritesSamples}
 
 -- A call on a decoder whose source has a lossless stream that is written for samples, and whose
 -- limit takes them, gives their picture, at full size whatever size was asked for, and leaves what
@@ -14,9 +15,9 @@ abbrev pub DecodesSamples :
     {X : Type 0} → (X → List ℕ) → Decoding → Result X Error → Decoding → Type 0
 DecodesSamples bytes_of old result new =
     (size : Size) (samples : Samples) (image rest : List ℕ) (final : Found) (frame : Frame) →
-    WritesSamples samples image final → IsWithin old.settings.limit final frame →
+    WritesSamples samples image final → IsWithinLimit old.settings.limit final frame →
     HasLeft size (image ++ rest) old.stage old.found old.source.bytes →
     old.source.known ≡ true →
     MatchResult result
-    (λ x. Gives (Ok (picture_of_samples frame samples)) rest final (bytes_of x) new)
+    (λ x. GivesPicture (Ok (picture_of_samples frame samples)) rest final (bytes_of x) new)
     (λ e. FailsOutside e new.source)

@@ -5,7 +5,7 @@ use Rattle.jpeg_segments.specs.Frame.{Component, Frame}
 use Rattle.jpeg_segments.specs.WrittenSegments.{FrameHeader, frame_written}
 use Rattle.jpeg_lossless.specs.Differences.{Part, lines_in}
 use Rattle.jpeg_lossless.specs.Places.{at_place}
-use Rattle.jpeg_lossless.specs.Scans.{Way, mcu_size}
+use Rattle.jpeg_lossless.specs.Scans.{Way, samples_an_mcu}
 use Rattle.jpeg_streams.specs.Found.{Found}
 use Rattle.jpeg_streams.specs.Needed.{first_of}
 use Rattle.jpeg_streams.specs.WrittenLossless.{own_lines, Samples, WritesSamples}
@@ -56,8 +56,8 @@ AgreeInside frame a b =
 unfoldable pub DifferInPadding : Way → ℕ → List Part → List (List ℕ) → List (List ℕ) → Type 0
 DifferInPadding w from [] a b = Unit {0}
 DifferInPadding w from (p ∷ parts) a b =
-    (own_lines p (lines_in p w.wide (mcu_size w) from a)
-    ≡ own_lines p (lines_in p w.wide (mcu_size w) from b))
+    (own_lines p (lines_in p w.wide (samples_an_mcu w) from a)
+    ≡ own_lines p (lines_in p w.wide (samples_an_mcu w) from b))
     × DifferInPadding w (from + p.down * p.across) parts a b
 
 -- ---- pictures that are the same

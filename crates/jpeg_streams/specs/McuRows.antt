@@ -24,23 +24,23 @@ own_row c row = own_spots (record (grid_of c) {
   own_high = min c.factors.vertical ((grid_of c).own_high - row * c.factors.vertical);
 })
 
-unfoldable pub row_at : Frame → List Component → ℕ → List Spot
-row_at frame [] row = []
-row_at frame (c ∷ []) row = own_row c row
-row_at frame (c ∷ d ∷ more) row = all_spots frame.mcus_wide 1 (c ∷ d ∷ more)
+unfoldable pub mcu_row : Frame → List Component → ℕ → List Spot
+mcu_row frame [] row = []
+mcu_row frame (c ∷ []) row = own_row c row
+mcu_row frame (c ∷ d ∷ more) row = all_spots frame.mcus_wide 1 (c ∷ d ∷ more)
 
 -- the rows of MCUs of a scan
 abbrev pub rows_of : Frame → List Component → List (List Spot)
-rows_of frame components = map (row_at frame components) (range_with_len 0 frame.mcus_high)
+rows_of frame components = map (mcu_row frame components) (range_with_len 0 frame.mcus_high)
 
 -- the blocks of this many rows of MCUs, in which nothing was read yet
 unfoldable pub zero_rows : ℕ → List Component → Arrays
 zero_rows rows components = map (λ c. replicate (rows * row_size c) zero_block) components
 
 -- each component's blocks, with more after
-unfoldable pub joined : Arrays → Arrays → Arrays
-joined (a ∷ front) (b ∷ more) = (a ++ b) ∷ joined front more
-joined _ _ = []
+unfoldable pub each_with_more : Arrays → Arrays → Arrays
+each_with_more (a ∷ front) (b ∷ more) = (a ++ b) ∷ each_with_more front more
+each_with_more _ _ = []
 
 abbrev pub on_arrays : Arrays → Counted → Counted
 on_arrays arrays c =
@@ -51,18 +51,18 @@ on_arrays arrays c =
     }
 
 -- rows of MCUs after the blocks in front, each read into blocks of its own
-unfoldable pub rows_from : Pass → List Via → ℕ → List Component → List (List Spot) → Arrays
+unfoldable pub mcu_rows_from : Pass → List Via → ℕ → List Component → List (List Spot) → Arrays
     → Counted → Reads Counted
-rows_from p vias n components [] front old = gives (on_arrays front old)
-rows_from p vias n components (spots ∷ rows) front old =
+mcu_rows_from p vias n components [] front old = gives (on_arrays front old)
+mcu_rows_from p vias n components (spots ∷ rows) front old =
     blocks_from p vias n spots (on_arrays (zero_rows 1 components) old) >>= (λ r.
-    rows_from p vias n components rows (joined front r.reached.arrays) r)
+    mcu_rows_from p vias n components rows (each_with_more front r.reached.arrays) r)
 
 -- a scan from zeros, row by row, in intervals of n MCUs
 unfoldable pub scan_by_rows : Pass → List Via → ℕ → Frame → List Component → List ℕ
     → Outcome (Arrays × Option Marker)
 scan_by_rows p vias n frame components bytes =
     let blocks = n * mcu_size components in
-    reading.◌>>=◌ (rows_from p vias blocks components (rows_of frame components)
+    reading.◌>>=◌ (mcu_rows_from p vias blocks components (rows_of frame components)
     (map (λ c. []) components) (counted_at_start blocks []) (upcoming fresh bytes)) (λ r.
     reading.◌>>=◌ (marker_from r.1) (λ m. Ok ((r.0.reached.arrays, m.0), m.1)))

@@ -2,7 +2,7 @@
 use Rattle.std.specs.Prelude.{◌≡◌, ℕ, ◌++◌, List, Option, option_map, Result, Ok, MatchResult}
 use Rattle.std.specs.Io.KnownBytes.{Appends}
 use Rattle.jpeg_bits.specs.declared.error.Error.{Error}
-use Rattle.jpeg_streams.specs.ArrayPictures.{picture_of_array, Takes}
+use Rattle.jpeg_streams.specs.ArrayPictures.{picture_of_array, TakesPicture}
 use Rattle.jpeg_streams.specs.Levels.{Is8Bit, Levels}
 use Rattle.jpeg_streams.specs.Output.{default_settings, header_line_of, IsOutsideOrMemory}
 use Rattle.jpeg_streams.specs.Output.{TakesBeginning, Tells}
@@ -28,7 +28,7 @@ abbrev pub PrintsImages : {X : Type 0} →
 PrintsImages remaining old result new =
     (array : Coefficients) (image rest : List ℕ) (final : Found) (last : ℕ → Levels) →
     ((place row column : ℕ) → Is8Bit (array place row column)) →
-    WritesImage array image final last → Takes default_settings final →
+    WritesImage array image final last → TakesPicture default_settings final →
     Tells remaining (image ++ rest) →
     (picture : List ℕ)
     × (picture_of_array default_settings final array last ≡ Ok picture)

@@ -55,8 +55,8 @@ abbrev pub restart_interval : ℕ → List ℕ
 restart_interval count = 255 ∷ 221 ∷ 0 ∷ 4 ∷ 0 ∷ count ∷ []
 
 -- The header of a scan of one component, its band and its levels, and then its data.
-abbrev pub scan_of : ℕ → ℕ → ℕ → ℕ → List ℕ → List ℕ
-scan_of identifier first last levels data_bytes =
+abbrev pub scan_text : ℕ → ℕ → ℕ → ℕ → List ℕ → List ℕ
+scan_text identifier first last levels data_bytes =
     255 ∷ 218 ∷ 0 ∷ 8 ∷ 1 ∷ identifier ∷ 0 ∷ first ∷ last ∷ levels ∷ data_bytes
 
 -- The header of a scan of the letters RGB, and then its data.
@@ -79,7 +79,7 @@ eight_times line = concat (replicate 8 line)
 abbrev pub stream_parts : ℕ → ℕ → List ℕ → List (List ℕ) → List ℕ
 stream_parts height width data_bytes more =
     image_with (quantization_of 1 ∷ grey_frame 0 height width ∷ one_code 0 4 ∷ one_code 16 0
-    ∷ scan_of 1 0 63 0 data_bytes ∷ more)
+    ∷ scan_text 1 0 63 0 data_bytes ∷ more)
 
 abbrev pub stream_with : ℕ → List ℕ → List ℕ
 stream_with width data_bytes = stream_parts 8 width data_bytes []
@@ -92,17 +92,17 @@ stream_without_height byte = stream_parts 0 8 (byte ∷ []) []
 abbrev pub stream_of_one_coefficient : List ℕ
 stream_of_one_coefficient =
     image_with (quantization_of 64 ∷ grey_frame 0 8 8 ∷ one_code 0 0 ∷ two_codes 16 1 0
-    ∷ scan_of 1 0 63 0 (55 ∷ []) ∷ [])
+    ∷ scan_text 1 0 63 0 (55 ∷ []) ∷ [])
 
 -- two scans of the same component, by different quantization tables
 abbrev pub scanned_twice : List ℕ
-scanned_twice = stream_parts 8 8 (67 ∷ []) (quantization_of 8 ∷ scan_of 1 0 63 0 (67 ∷ []) ∷ [])
+scanned_twice = stream_parts 8 8 (67 ∷ []) (quantization_of 8 ∷ scan_text 1 0 63 0 (67 ∷ []) ∷ [])
 
 -- two blocks with a restart marker between them
 abbrev pub with_restart : ℕ → List ℕ
 with_restart number =
     image_with (quantization_of 1 ∷ grey_frame 0 8 16 ∷ one_code 0 4 ∷ one_code 16 0
-    ∷ restart_interval 1 ∷ scan_of 1 0 63 0 (67 ∷ 255 ∷ number ∷ 67 ∷ []) ∷ [])
+    ∷ restart_interval 1 ∷ scan_text 1 0 63 0 (67 ∷ 255 ∷ number ∷ 67 ∷ []) ∷ [])
 
 -- ---- streams of three components
 
@@ -116,7 +116,7 @@ three_at_once =
 abbrev pub three_in_turn : List ℕ
 three_in_turn =
     image_with (quantization_of 1 ∷ colour_frame 0 8 8 17 ∷ one_code 0 4 ∷ one_code 16 0
-    ∷ scan_of 66 0 63 0 (123 ∷ []) ∷ scan_of 82 0 63 0 (67 ∷ []) ∷ scan_of 71 0 63 0 (59 ∷ [])
+    ∷ scan_text 66 0 63 0 (123 ∷ []) ∷ scan_text 82 0 63 0 (67 ∷ []) ∷ scan_text 71 0 63 0 (59 ∷ [])
     ∷ [])
 
 -- The first component has two blocks in an MCU.
@@ -138,8 +138,8 @@ two_by_two =
 abbrev pub own_blocks : List ℕ
 own_blocks =
     image_with (quantization_of 8 ∷ colour_frame 0 24 24 34 ∷ two_codes 0 4 0 ∷ one_code 16 0
-    ∷ scan_of 82 0 63 0 (65 ∷ 34 ∷ 142 ∷ 81 ∷ 97 ∷ 140 ∷ 99 ∷ [])
-    ∷ scan_of 71 0 63 0 (66 ∷ 73 ∷ []) ∷ scan_of 66 0 63 0 (58 ∷ 73 ∷ []) ∷ [])
+    ∷ scan_text 82 0 63 0 (65 ∷ 34 ∷ 142 ∷ 81 ∷ 97 ∷ 140 ∷ 99 ∷ [])
+    ∷ scan_text 71 0 63 0 (66 ∷ 73 ∷ []) ∷ scan_text 66 0 63 0 (58 ∷ 73 ∷ []) ∷ [])
 
 -- ---- progressive streams
 
@@ -147,13 +147,13 @@ own_blocks =
 abbrev pub refined : List (List ℕ) → List ℕ
 refined more =
     image_with (quantization_of 16 ∷ grey_frame 2 8 8 ∷ one_code 0 0 ∷ two_codes 16 1 0
-    ∷ scan_of 1 0 0 0 (127 ∷ []) ∷ scan_of 1 1 2 1 (111 ∷ []) ∷ more)
+    ∷ scan_text 1 0 0 0 (127 ∷ []) ∷ scan_text 1 1 2 1 (111 ∷ []) ∷ more)
 
 -- An end of band that stands for two blocks.
 abbrev pub run_of_blocks : List ℕ
 run_of_blocks =
     image_with (quantization_of 1 ∷ grey_frame 2 8 16 ∷ one_code 0 4 ∷ one_code 16 16
-    ∷ scan_of 1 0 0 0 (65 ∷ 192 ∷ []) ∷ scan_of 1 1 63 0 (63 ∷ []) ∷ [])
+    ∷ scan_text 1 0 0 0 (65 ∷ 192 ∷ []) ∷ scan_text 1 1 63 0 (63 ∷ []) ∷ [])
 
 -- ---- the default tables
 
@@ -162,7 +162,7 @@ run_of_blocks =
 abbrev pub without_tables : List ℕ
 without_tables =
     image_with ((255 ∷ 224 ∷ 0 ∷ 7 ∷ 65 ∷ 86 ∷ 73 ∷ 49 ∷ 0 ∷ []) ∷ quantization_of 1
-    ∷ grey_frame 0 8 8 ∷ scan_of 1 0 63 0 (177 ∷ 95 ∷ []) ∷ [])
+    ∷ grey_frame 0 8 8 ∷ scan_text 1 0 63 0 (177 ∷ 95 ∷ []) ∷ [])
 
 -- ---- streams that are refused
 
@@ -170,13 +170,13 @@ without_tables =
 abbrev pub stray_marker : List ℕ
 stray_marker =
     image_with (quantization_of 1 ∷ (255 ∷ 208 ∷ []) ∷ grey_frame 0 8 8 ∷ one_code 0 4
-    ∷ one_code 16 0 ∷ scan_of 1 0 63 0 (67 ∷ []) ∷ [])
+    ∷ one_code 16 0 ∷ scan_text 1 0 63 0 (67 ∷ []) ∷ [])
 
 -- a DC difference of 12 bits
 abbrev pub category_12 : List ℕ
 category_12 =
     image_with (quantization_of 1 ∷ grey_frame 0 8 8 ∷ one_code 0 12 ∷ one_code 16 0
-    ∷ scan_of 1 0 63 0 (64 ∷ 0 ∷ 127 ∷ []) ∷ [])
+    ∷ scan_text 1 0 63 0 (64 ∷ 0 ∷ 127 ∷ []) ∷ [])
 
 -- an MCU of 9 + 1 + 1 blocks
 abbrev pub eleven_blocks : List ℕ
@@ -188,7 +188,7 @@ eleven_blocks =
 abbrev pub by_two_levels : List ℕ
 by_two_levels =
     image_with (quantization_of 1 ∷ grey_frame 2 8 8 ∷ one_code 0 0
-    ∷ scan_of 1 0 0 2 (127 ∷ []) ∷ scan_of 1 0 0 32 (127 ∷ []) ∷ [])
+    ∷ scan_text 1 0 0 2 (127 ∷ []) ∷ scan_text 1 0 0 32 (127 ∷ []) ∷ [])
 
 -- ---- a frame
 

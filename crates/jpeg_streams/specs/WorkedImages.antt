@@ -8,7 +8,7 @@ use Rattle.jpeg_streams.specs.Levels.{Levels}
 use Rattle.jpeg_streams.specs.Found.{Found}
 use Rattle.jpeg_streams.specs.WholeImages.{AllComplete}
 use Rattle.jpeg_streams.specs.Worked.{colour_frame, eight_times, grey_frame, image_with, one_code}
-use Rattle.jpeg_streams.specs.Worked.{quantization_of, restart_interval, scan_of, scan_of_three}
+use Rattle.jpeg_streams.specs.Worked.{quantization_of, restart_interval, scan_text, scan_of_three}
 use Rattle.jpeg_streams.specs.WrittenImages.{WritesImage}
 use Rattle.jpeg_streams.specs.WrittenScans.{Coefficients}
 
@@ -49,8 +49,8 @@ three_codes = 255 ∷ 196 ∷ 0 ∷ 22 ∷ 16 ∷ 1 ∷ 1 ∷ 1 ∷ (replicate 1
 abbrev pub grey_bytes : List ℕ
 grey_bytes =
     image_with (quantization_of 16 ∷ grey_frame 2 8 24 ∷ one_code 0 3 ∷ three_codes
-    ∷ scan_of 1 0 0 1 (66 ∷ 79 ∷ []) ∷ scan_of 1 1 63 1 (99 ∷ 63 ∷ [])
-    ∷ scan_of 1 0 0 16 (191 ∷ []) ∷ scan_of 1 1 63 16 (58 ∷ []) ∷ [])
+    ∷ scan_text 1 0 0 1 (66 ∷ 79 ∷ []) ∷ scan_text 1 1 63 1 (99 ∷ 63 ∷ [])
+    ∷ scan_text 1 0 0 16 (191 ∷ []) ∷ scan_text 1 1 63 16 (58 ∷ []) ∷ [])
 
 -- a line of its picture, by the samples of the first block
 abbrev pub grey_line : List ℕ → List ℕ

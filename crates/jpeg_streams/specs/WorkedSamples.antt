@@ -4,7 +4,7 @@ use Rattle.std.specs.Prelude.{ℕ, suc, zero, List, [], ◌∷◌, ◌++◌}
 use Rattle.jpeg_segments.specs.Frame.{Factors}
 use Rattle.jpeg_segments.specs.ScanHeaders.{Choice, scan_payload, ScanHeader}
 use Rattle.jpeg_segments.specs.WrittenSegments.{FrameHeader, Header, Huffman, Interval, payload_of}
-use Rattle.jpeg_segments.specs.WrittenSegments.{Segment, sized}
+use Rattle.jpeg_segments.specs.WrittenSegments.{Segment, with_length}
 use Rattle.jpeg_lossless.specs.Worked.{small_table}
 use Rattle.jpeg_bits.specs.Written.{marker}
 use Rattle.jpeg_streams.specs.Found.{Found}
@@ -36,15 +36,15 @@ choice identifier component =
     record { identifier = identifier; component = component; dc = 0; ac = 0 }
 
 -- a scan of some components by a selection
-abbrev pub scan_of : List Choice → ℕ → ScanHeader
-scan_of choices selection =
+abbrev pub samples_scan : List Choice → ℕ → ScanHeader
+samples_scan choices selection =
     record { choices = choices; first = selection; last = 0; high = 0; low = 0 }
 
 abbrev pub third_scan : ScanHeader
-third_scan = scan_of (choice 3 2 ∷ []) 7
+third_scan = samples_scan (choice 3 2 ∷ []) 7
 
 abbrev pub other_scan : ScanHeader
-other_scan = scan_of (choice 1 0 ∷ choice 2 1 ∷ []) 1
+other_scan = samples_scan (choice 1 0 ∷ choice 2 1 ∷ []) 1
 
 abbrev pub table_segment : Segment
 table_segment = Huffman (record { place = 0; table = small_table } ∷ [])
@@ -61,11 +61,11 @@ other_data = (0xA3 ∷ []) ++ marker 0 0xD0 (0x54 ∷ [])
 abbrev pub three_bytes : List ℕ
 three_bytes =
     255 ∷ 216 ∷
-    marker 0 195 (sized (payload_of (Header 3 three_header)) ++
-    marker 0 196 (sized (payload_of table_segment) ++
-    marker 1 221 (sized (payload_of (Interval 2)) ++
-    marker 0 218 (sized (scan_payload third_scan) ++ (third_data ++
-    marker 0 218 (sized (scan_payload other_scan) ++ (other_data ++ marker 0 217 [])))))))
+    marker 0 195 (with_length (payload_of (Header 3 three_header)) ++
+    marker 0 196 (with_length (payload_of table_segment) ++
+    marker 1 221 (with_length (payload_of (Interval 2)) ++
+    marker 0 218 (with_length (scan_payload third_scan) ++ (third_data ++
+    marker 0 218 (with_length (scan_payload other_scan) ++ (other_data ++ marker 0 217 [])))))))
 
 -- its picture, of two lines of two pixels
 abbrev pub three_picture : List ℕ
@@ -97,11 +97,11 @@ padded_header = record {
 -- The first two components are in a scan of two rows of two MCUs, where the fourth column and line
 -- of the first are padding. The selection is 2: the sample above.
 abbrev pub padded_scan : ScanHeader
-padded_scan = scan_of (choice 1 0 ∷ choice 2 1 ∷ []) 2
+padded_scan = samples_scan (choice 1 0 ∷ choice 2 1 ∷ []) 2
 
 -- the third component alone, whose MCUs are its own two lines of two samples
 abbrev pub lone_scan : ScanHeader
-lone_scan = scan_of (choice 3 2 ∷ []) 1
+lone_scan = samples_scan (choice 3 2 ∷ []) 1
 
 -- Of the first component, with its padding:
 --     129 129 128 127      1  0 -1 -1
@@ -124,11 +124,11 @@ lone_data = (0x8F ∷ []) ++ marker 0 0xD0 (0xB3 ∷ [])
 abbrev pub padded_bytes : List ℕ
 padded_bytes =
     255 ∷ 216 ∷
-    marker 0 195 (sized (payload_of (Header 3 padded_header)) ++
-    marker 0 196 (sized (payload_of table_segment) ++
-    marker 0 221 (sized (payload_of (Interval 2)) ++
-    marker 0 218 (sized (scan_payload padded_scan) ++ (padded_data ++
-    marker 0 218 (sized (scan_payload lone_scan) ++ (lone_data ++ marker 0 217 [])))))))
+    marker 0 195 (with_length (payload_of (Header 3 padded_header)) ++
+    marker 0 196 (with_length (payload_of table_segment) ++
+    marker 0 221 (with_length (payload_of (Interval 2)) ++
+    marker 0 218 (with_length (scan_payload padded_scan) ++ (padded_data ++
+    marker 0 218 (with_length (scan_payload lone_scan) ++ (lone_data ++ marker 0 217 [])))))))
 
 -- its picture, line by line
 abbrev pub padded_picture : List ℕ

@@ -5,8 +5,9 @@ use Rattle.std.specs.Prelude.{Some}
 use Rattle.std.specs.List.{AllByRecursion, range_with_len}
 use Rattle.jpeg_segments.specs.Frame.{Frame}
 use Rattle.jpeg_segments.specs.ScanHeaders.{ScanHeader, scan_payload, IsScan, scan_written}
-use Rattle.jpeg_segments.specs.WrittenSegments.{code_of, Header, payload_of, Quantization, Segment}
-use Rattle.jpeg_segments.specs.WrittenSegments.{sized}
+use Rattle.jpeg_segments.specs.WrittenSegments.{marker_code, Header, payload_of, Quantization}
+use Rattle.jpeg_segments.specs.WrittenSegments.{Segment}
+use Rattle.jpeg_segments.specs.WrittenSegments.{with_length}
 use Rattle.jpeg_streams.specs.Levels.{Levels, nothing_sent}
 use Rattle.jpeg_streams.specs.SaidSegments.{Stands, found_after}
 use Rattle.jpeg_streams.specs.ScanSegments.{Coding, pass_of, is_progressive}
@@ -41,7 +42,7 @@ pub data Writes (array : Coefficients) :
       → Stands said s → IsDctSegment s → (scanned ≡ true → MayFollow s)
       → Writes array (found_after said s) levels scanned more final last
       → Writes array said levels scanned
-      (marker fill (code_of s) (sized (payload_of s) ++ more)) final last
+      (marker fill (marker_code s) (with_length (payload_of s) ++ more)) final last
   scan : (said final : Found) (levels last : ℕ → Levels) (scanned : Bool) (frame : Frame)
       (fill : ℕ) (h : ScanHeader) (codings : List Coding) (data_bytes more : List ℕ)
       → said.frame ≡ Some frame → IsScan frame h
@@ -51,7 +52,7 @@ pub data Writes (array : Coefficients) :
       (levels_after (pass_of (scan_written frame h)) (map (λ c. c.place) codings) levels) true
       more final last
       → Writes array said levels scanned
-      (marker fill 218 (sized (scan_payload h) ++ (data_bytes ++ more))) final last
+      (marker fill 218 (with_length (scan_payload h) ++ (data_bytes ++ more))) final last
 
 -- A stream for the coefficients of an image: SOI, and then segments and scans up to EOI. `final` is
 -- what is said at its end, and `last` are the levels at which each component was sent last.

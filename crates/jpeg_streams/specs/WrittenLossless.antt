@@ -7,8 +7,9 @@ use Rattle.jpeg_segments.specs.declared.parser.CodingProcess.TheVariants.{Lossle
 use Rattle.jpeg_segments.specs.Frame.{Component, Frame}
 use Rattle.jpeg_segments.specs.ScanHeader.{predictor_by}
 use Rattle.jpeg_segments.specs.ScanHeaders.{Choice, IsScan, ScanHeader, scan_payload}
-use Rattle.jpeg_segments.specs.WrittenSegments.{code_of, FrameHeader, Header, MayStand, payload_of}
-use Rattle.jpeg_segments.specs.WrittenSegments.{Segment, sized}
+use Rattle.jpeg_segments.specs.WrittenSegments.{marker_code, FrameHeader, Header, MayStand}
+use Rattle.jpeg_segments.specs.WrittenSegments.{payload_of}
+use Rattle.jpeg_segments.specs.WrittenSegments.{Segment, with_length}
 use Rattle.jpeg_lossless.specs.Differences.{Part}
 use Rattle.jpeg_lossless.specs.Pictures.{most_across, most_down, sample_bytes}
 use Rattle.jpeg_lossless.specs.Places.{at_place}
@@ -48,7 +49,8 @@ StandsInLossless said s = MayStand said.frame s × IsLossless s
 -- ---- a scan
 
 -- A component that a scan names, and the table in force at the destination that it names.
-pub record IsCoding (said : Found) (frame : Frame) (c : Choice) (k : LosslessCoding) : Type 0 where
+pub record IsLosslessCoding (said : Found) (frame : Frame) (c : Choice) (k : LosslessCoding) : Type
+    0 where
   pub stands : k.place ≡ c.component
   pub component : first_of (drop c.component frame.components) ≡ Some k.component
   pub table : slice_index_or said.huffman.dc c.dc None ≡ Some k.table
@@ -56,7 +58,7 @@ pub record IsCoding (said : Found) (frame : Frame) (c : Choice) (k : LosslessCod
 unfoldable pub AreCodings : Found → Frame → List Choice → List LosslessCoding → Type 0
 AreCodings said frame [] [] = Unit {0}
 AreCodings said frame (c ∷ choices) (k ∷ codings) =
-    IsCoding said frame c k × AreCodings said frame choices codings
+    IsLosslessCoding said frame c k × AreCodings said frame choices codings
 AreCodings said frame _ _ = ⊥
 
 -- A restart interval is none, some whole rows of MCUs, or at least the whole scan.
@@ -80,7 +82,7 @@ HoldSamples samples _ _ _ = ⊥
 
 -- The data of a scan: the samples of its components, by the tables in force, without a point
 -- transform.
-pub record WritesScan (said : Found) (frame : Frame) (h : ScanHeader) (samples : Samples)
+pub record WritesSamplesScan (said : Found) (frame : Frame) (h : ScanHeader) (samples : Samples)
     (bytes : List ℕ) : Type 0 where
   pub codings : List LosslessCoding
   pub coded : AreCodings said frame h.choices codings
@@ -108,14 +110,15 @@ pub data Writes (samples : Samples) : Found → List ℕ → List ℕ → Found 
       → Writes samples said sent (marker fill 217 []) said
   segment : (said final : Found) (sent : List ℕ) (fill : ℕ) (s : Segment) (more : List ℕ)
       → StandsInLossless said s → Writes samples (found_after said s) sent more final
-      → Writes samples said sent (marker fill (code_of s) (sized (payload_of s) ++ more)) final
+      → Writes samples said sent (marker fill (marker_code s) (with_length (payload_of s) ++ more))
+      final
   scan : (said final : Found) (sent : List ℕ) (frame : Frame) (fill : ℕ) (h : ScanHeader)
       (data_bytes more : List ℕ)
       → said.frame ≡ Some frame → frame.process ≡ Lossless → IsScan frame h
-      → WritesScan said frame h samples data_bytes
+      → WritesSamplesScan said frame h samples data_bytes
       → Writes samples (said_after_scan said) (map (λ c. c.component) h.choices ++ sent) more final
       → Writes samples said sent
-      (marker fill 218 (sized (scan_payload h) ++ (data_bytes ++ more))) final
+      (marker fill 218 (with_length (scan_payload h) ++ (data_bytes ++ more))) final
 
 -- A stream for samples: SOI, and then segments and scans up to EOI. `final` is what is said at its
 -- end.
@@ -146,6 +149,6 @@ picture_of_samples frame samples =
     concat (map (samples_line frame samples) (range_with_len 0 frame.height))
 
 -- The picture of a frame is within a limit on its samples.
-pub record IsWithin (limit : ℕ) (final : Found) (frame : Frame) : Type 0 where
+pub record IsWithinLimit (limit : ℕ) (final : Found) (frame : Frame) : Type 0 where
   pub is_said : final.frame ≡ Some frame
   pub limited : length frame.components * (frame.output_width * frame.output_height) ≤ limit

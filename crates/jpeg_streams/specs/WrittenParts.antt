@@ -5,7 +5,7 @@ use Rattle.std.specs.List.{AllByRecursion}
 use Rattle.jpeg_bits.specs.Reading.{Fault, ◌>>=◌}
 use Rattle.jpeg_segments.specs.Frame.{Component, Frame}
 use Rattle.jpeg_segments.specs.ScanHeaders.{IsScan, ScanHeader, scan_payload, scan_written}
-use Rattle.jpeg_segments.specs.WrittenSegments.{code_of, payload_of, Segment, sized}
+use Rattle.jpeg_segments.specs.WrittenSegments.{marker_code, payload_of, Segment, with_length}
 use Rattle.jpeg_streams.specs.Levels.{Levels}
 use Rattle.jpeg_streams.specs.Order.{grid_of}
 use Rattle.jpeg_streams.specs.SaidSegments.{found_after, Stands}
@@ -31,7 +31,7 @@ pub data WritesFront (array : Coefficients) :
       → Stands said s → IsDctSegment s → (scanned ≡ true → MayFollow s)
       → WritesFront array (found_after said s) levels scanned more next reached after
       → WritesFront array said levels scanned
-      (marker fill (code_of s) (sized (payload_of s) ++ more)) next reached after
+      (marker fill (marker_code s) (with_length (payload_of s) ++ more)) next reached after
   scan : (said next : Found) (levels reached : ℕ → Levels) (scanned after : Bool) (frame : Frame)
       (fill : ℕ) (h : ScanHeader) (codings : List Coding) (data_bytes more : List ℕ)
       → said.frame ≡ Some frame → IsScan frame h
@@ -41,7 +41,7 @@ pub data WritesFront (array : Coefficients) :
       (levels_after (pass_of (scan_written frame h)) (map (λ c. c.place) codings) levels) true
       more next reached after
       → WritesFront array said levels scanned
-      (marker fill 218 (sized (scan_payload h) ++ (data_bytes ++ more))) next reached after
+      (marker fill 218 (with_length (scan_payload h) ++ (data_bytes ++ more))) next reached after
 
 -- ---- pictures that are the same
 

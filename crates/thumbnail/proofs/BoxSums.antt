@@ -2,28 +2,29 @@
 use Rattle.std.proofs.Common.{◌≡◌, ℕ, suc, ◌+◌, ◌*◌, ◌/◌, ◌^◌, ◌<◌, ◌≤◌, List, ◌++◌, refl, arith}
 use Rattle.std.proofs.Common.{append-nil, append_assoc, sym}
 use Rattle.std.proofs.Math.Nat.{div-le_of_le-mul, mul-le-mul_right}
-use Rattle.thumbnail.specs.Boxes.{joined, sum_of}
+use Rattle.thumbnail.specs.Boxes.{texts_below, sum_over}
 
-pub sum-none : (f : ℕ → ℕ) → sum_of 0 f ≡ 0
-unfolding sum_of
+pub sum-none : (f : ℕ → ℕ) → sum_over 0 f ≡ 0
+unfolding sum_over
 sum-none f = refl
 
-pub sum-more : (count : ℕ) (f : ℕ → ℕ) → sum_of (count + 1) f ≡ sum_of count f + f count
-unfolding sum_of
+pub sum-more : (count : ℕ) (f : ℕ → ℕ) → sum_over (count + 1) f ≡ sum_over count f + f count
+unfolding sum_over
 sum-more count f =
     let next : count + 1 ≡ suc count = omega arith in
     rw next refl
 
-pub joined-none : (before : List ℕ) (f : ℕ → List ℕ) → before ≡ before ++ joined 0 f
-unfolding joined
+pub joined-none : (before : List ℕ) (f : ℕ → List ℕ) → before ≡ before ++ texts_below 0 f
+unfolding texts_below
 joined-none before f = sym (append-nil before)
 
 pub joined-more : (count : ℕ) (f : ℕ → List ℕ) (before bytes after : List ℕ)
-    → bytes ≡ before ++ joined count f → after ≡ bytes ++ f count → after ≡ before ++ joined (count + 1) f
-unfolding joined
+    → bytes ≡ before ++ texts_below count f → after ≡ bytes ++ f count → after ≡ before ++
+    texts_below (count + 1) f
+unfolding texts_below
 joined-more count f before bytes after known more =
     let next : count + 1 ≡ suc count = omega arith in
-    rw (next, more, known) (append_assoc before (joined count f) (f count))
+    rw (next, more, known) (append_assoc before (texts_below count f) (f count))
 
 -- a box begins within its side
 pub edge-most : (place side boxes : ℕ) → place ≤ boxes → place * side / boxes ≤ side

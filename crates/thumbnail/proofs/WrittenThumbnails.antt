@@ -4,7 +4,7 @@ use Rattle.std.specs.Io.KnownBytes.{Appends}
 use Rattle.jpeg_segments.specs.declared.parser.Dimensions.{Dimensions}
 use Rattle.jpeg_streams.specs.declared.images.ImageInfo.{ImageInfo}
 use Rattle.jpeg_programs.specs.ScaledPictures.{Decoded, header_info, picture_at_scale}
-use Rattle.jpeg_programs.specs.Sizes.{scale_for, size_for}
+use Rattle.jpeg_programs.specs.Sizes.{scale_of_request, size_for}
 use Rattle.jpeg_programs.specs.declared.pictures.Request.{Request}
 use Rattle.jpeg_programs.specs.declared.pictures.Scale.{Scale}
 use Rattle.thumbnail.specs.Boxes.{boxed}
@@ -25,14 +25,15 @@ pub written : {T E : Type 0} (result : Result T E) (request : Request) (bytes : 
     (scale : Scale) (size : Dimensions) (orientation : ℕ) (p smaller made : Decoded)
     → 1 ≤ orientation → orientation ≤ 8 → picture_at_scale scale bytes ≡ Some p
     → IsSomeAnd (header_info bytes)
-    (λ full. (scale ≡ scale_for request full orientation) × (size ≡ size_for request full orientation))
+    (λ full. (scale ≡ scale_of_request request full orientation) × (size ≡ size_for request full
+    orientation))
     → smaller ≡ boxed size p → made ≡ upright orientation smaller
     → OnOk result (Appends before after (file_in made))
     → OnOk result (WritesThumbnail request bytes before after)
 written (Ok x) request bytes before after scale size orientation p smaller made low high is chosen less same appended =
     let header = said (header_info bytes) _ chosen in
     let full = header.0 in
-    let at_scale : picture_at_scale (scale_for request full orientation) bytes ≡ Some p
+    let at_scale : picture_at_scale (scale_of_request request full orientation) bytes ≡ Some p
     = rw (← header.2.0) is in
     let known : made ≡ upright orientation (boxed (size_for request full orientation) p)
     = same ∙ ap (upright orientation) (less ∙ ap (λ (s : Dimensions). boxed s p) header.2.1) in

@@ -29,9 +29,9 @@ sample_in precision pixels index = if nat_lt 8 precision
     else slice_index_or pixels index 0
 
 -- the values of a function at so many numbers from 0, added
-unfoldable pub sum_of : ℕ → (ℕ → ℕ) → ℕ
-sum_of zero f = 0
-sum_of (suc count) f = sum_of count f + f count
+unfoldable pub sum_over : ℕ → (ℕ → ℕ) → ℕ
+sum_over zero f = 0
+sum_over (suc count) f = sum_over count f + f count
 
 -- the index of a component's sample in a box, by its line and its column there
 abbrev pub index_of : Reduction → Area → ℕ → ℕ → ℕ → ℕ
@@ -42,8 +42,9 @@ unfoldable pub sample_of : List ℕ → Reduction → Area → ℕ → ℕ → �
 sample_of pixels r area component down across =
     sample_in r.precision pixels (index_of r area component down across)
 
-unfoldable pub line_sum : List ℕ → Reduction → Area → ℕ → ℕ → ℕ
-line_sum pixels r area component down = sum_of area.width (sample_of pixels r area component down)
+unfoldable pub box_line_sum : List ℕ → Reduction → Area → ℕ → ℕ → ℕ
+box_line_sum pixels r area component down = sum_over area.width (sample_of pixels r area component
+    down)
 
 -- the mean of so many values that add up to a sum
 abbrev pub rounded_mean : ℕ → ℕ → ℕ
@@ -52,37 +53,39 @@ rounded_mean sum count = (sum + count / 2) / count
 -- the mean of a component's samples in a box
 unfoldable pub mean_in : List ℕ → Reduction → Area → ℕ → ℕ
 mean_in pixels r area component =
-    rounded_mean (sum_of area.height (line_sum pixels r area component)) (area.width * area.height)
+    rounded_mean (sum_over area.height (box_line_sum pixels r area component)) (area.width *
+    area.height)
 
 -- the bytes of a sample of so many bits
-unfoldable pub sample_bytes : ℕ → ℕ → List ℕ
-sample_bytes precision sample =
+unfoldable pub higher_first_bytes : ℕ → ℕ → List ℕ
+higher_first_bytes precision sample =
     if nat_lt 8 precision then sample % 256 ∷ sample / 256 % 256 ∷ [] else sample % 256 ∷ []
 
 -- the texts of a function at so many numbers from 0, one after the other
-unfoldable pub joined : ℕ → (ℕ → List ℕ) → List ℕ
-joined zero f = []
-joined (suc count) f = joined count f ++ f count
+unfoldable pub texts_below : ℕ → (ℕ → List ℕ) → List ℕ
+texts_below zero f = []
+texts_below (suc count) f = texts_below count f ++ f count
 
 -- the bytes of a component, of a pixel, of a line and of the whole of the smaller picture
 unfoldable pub component_bytes : List ℕ → Reduction → Area → ℕ → List ℕ
-component_bytes pixels r area component = sample_bytes r.precision (mean_in pixels r area component)
+component_bytes pixels r area component = higher_first_bytes r.precision (mean_in pixels r area
+    component)
 
-unfoldable pub pixel_bytes : List ℕ → Reduction → ℕ → ℕ → List ℕ
-pixel_bytes pixels r y x = joined r.components (component_bytes pixels r (area_of r x y))
+unfoldable pub box_pixel : List ℕ → Reduction → ℕ → ℕ → List ℕ
+box_pixel pixels r y x = texts_below r.components (component_bytes pixels r (area_of r x y))
 
-unfoldable pub line_bytes : List ℕ → Reduction → ℕ → List ℕ
-line_bytes pixels r y = joined r.to_width (pixel_bytes pixels r y)
+unfoldable pub box_line : List ℕ → Reduction → ℕ → List ℕ
+box_line pixels r y = texts_below r.to_width (box_pixel pixels r y)
 
 unfoldable pub reduced_bytes : List ℕ → Reduction → List ℕ
-reduced_bytes pixels r = joined r.to_height (line_bytes pixels r)
+reduced_bytes pixels r = texts_below r.to_height (box_line pixels r)
 
 -- how many samples a pixel has
-abbrev pub components_of : PixelFormat → ℕ
-components_of L8 = 1
-components_of L16 = 1
-components_of RGB24 = 3
-components_of CMYK32 = 4
+abbrev pub components_a_pixel : PixelFormat → ℕ
+components_a_pixel L8 = 1
+components_a_pixel L16 = 1
+components_a_pixel RGB24 = 3
+components_a_pixel CMYK32 = 4
 
 -- how a picture is made smaller to a size
 abbrev pub reduction_of : ImageInfo → ℕ → Dimensions → Reduction
@@ -91,7 +94,7 @@ reduction_of info precision size = record {
   height = info.height;
   to_width = size.width;
   to_height = size.height;
-  components = components_of info.pixel_format;
+  components = components_a_pixel info.pixel_format;
   precision = precision;
 }
 

@@ -4,7 +4,7 @@ use Rattle.std.specs.Io.KnownBytes.{Appends}
 use Rattle.jpeg_streams.specs.declared.images.ImageInfo.{ImageInfo}
 use Rattle.jpeg_programs.specs.Netpbm.{file_of}
 use Rattle.jpeg_programs.specs.ScaledPictures.{Decoded, header_info, picture_at_scale}
-use Rattle.jpeg_programs.specs.Sizes.{scale_for, size_for}
+use Rattle.jpeg_programs.specs.Sizes.{scale_of_request, size_for}
 use Rattle.jpeg_programs.specs.declared.pictures.Request.{Request}
 use Rattle.thumbnail.specs.Boxes.{boxed}
 use Rattle.thumbnail.specs.Turns.{upright}
@@ -17,5 +17,5 @@ file_in p = file_of p.info p.precision p.pixels
 abbrev pub WritesThumbnail : Request → List ℕ → Option (List ℕ) → Option (List ℕ) → Type 0
 WritesThumbnail request bytes before after = (full : ImageInfo) × (orientation : ℕ) × (p : Decoded)
     × (header_info bytes ≡ Some full) × (1 ≤ orientation) × (orientation ≤ 8)
-    × (picture_at_scale (scale_for request full orientation) bytes ≡ Some p)
+    × (picture_at_scale (scale_of_request request full orientation) bytes ≡ Some p)
     × Appends before after (file_in (upright orientation (boxed (size_for request full orientation) p)))

@@ -31,14 +31,14 @@ stored_place turn across down =
     + mirrored (flips_x turn.orientation) turn.width (if is_on_side turn.orientation then down else across)
 
 -- where the byte at a place of the upright picture stands in the stored one
-abbrev pub source_of : Turn → ℕ → ℕ
-source_of turn place =
+abbrev pub stored_index : Turn → ℕ → ℕ
+stored_index turn place =
     let wide = if is_on_side turn.orientation then turn.height else turn.width in
     let pixel = place / turn.bytes in
     stored_place turn (pixel % wide) (pixel / wide) * turn.bytes + place % turn.bytes
 
 unfoldable pub turned_byte : Turn → List ℕ → ℕ → ℕ
-turned_byte turn pixels place = slice_index_or pixels (source_of turn place) 0
+turned_byte turn pixels place = slice_index_or pixels (stored_index turn place) 0
 
 -- the values of a function at so many numbers from 0
 unfoldable pub tabulate : ℕ → (ℕ → ℕ) → List ℕ
@@ -58,8 +58,8 @@ turned_info info orientation = if is_on_side orientation
     then record info { width = info.height; height = info.width } else info
 
 -- how a picture is turned by an orientation
-abbrev pub turn_of : ImageInfo → ℕ → ℕ → Turn
-turn_of info precision orientation = record {
+abbrev pub turn_by : ImageInfo → ℕ → ℕ → Turn
+turn_by info precision orientation = record {
   width = info.width;
   height = info.height;
   bytes = bytes_of info.pixel_format precision;
@@ -69,7 +69,7 @@ turn_of info precision orientation = record {
 -- the upright picture
 abbrev pub upright : ℕ → Decoded → Decoded
 upright orientation p = if orientation == 1 then p else decoded (turned_info p.info orientation) p.precision
-    (tabulate (length p.pixels) (turned_byte (turn_of p.info p.precision orientation) p.pixels))
+    (tabulate (length p.pixels) (turned_byte (turn_by p.info p.precision orientation) p.pixels))
 
 -- the picture that a value of the program is
 abbrev pub decoded_in : Picture → Decoded

@@ -1,9 +1,10 @@
 //! Pictures made smaller: each sample is the mean of the samples of its box.
 ghost use Rattle.std.specs.Prelude.{◌≡◌, ◌≤◌, ◌<◌, ◌++◌, ◌*◌, ◌^◌, IfOk, OnOk, slice_index_or};
-ghost use Rattle.thumbnail.specs.Boxes.{area_of, boxed, components_of, edge, index_of, is_smaller};
-ghost use Rattle.thumbnail.specs.Boxes.{line_bytes};
-ghost use Rattle.thumbnail.specs.Boxes.{line_sum, mean_in, pixel_bytes, reduced_bytes};
-ghost use Rattle.thumbnail.specs.Boxes.{sample_bytes, sample_in, sum_of};
+ghost use Rattle.thumbnail.specs.Boxes.{area_of, boxed, components_a_pixel, edge, index_of};
+ghost use Rattle.thumbnail.specs.Boxes.{is_smaller};
+ghost use Rattle.thumbnail.specs.Boxes.{box_line};
+ghost use Rattle.thumbnail.specs.Boxes.{box_line_sum, mean_in, box_pixel, reduced_bytes};
+ghost use Rattle.thumbnail.specs.Boxes.{higher_first_bytes, sample_in, sum_over};
 ghost use Rattle.thumbnail.specs.Turns.{decoded_in};
 
 use jpeg_decoder::parser::Dimensions;
@@ -105,7 +106,7 @@ fn index_of(reduction: Reduction, area: Area, component: u8, down: u16, across: 
 
 /// Returns the sum of a component's samples in a line of a box.
 fn line_sum(pixels: &[u8], reduction: Reduction, area: Area, component: u8, down: u16) -> u64
-    ensures sum { result ≡ line_sum pixels.now reduction area component down }
+    ensures sum { result ≡ box_line_sum pixels.now reduction area component down }
     ensures most { result ≤ 65535 * area.width }
 {
     let mut sum = 0;
@@ -118,7 +119,7 @@ fn line_sum(pixels: &[u8], reduction: Reduction, area: Area, component: u8, down
 
 /// Returns the sum of a component's samples in a box.
 fn box_sum(pixels: &[u8], reduction: Reduction, area: Area, component: u8) -> u64
-    ensures sum { result ≡ sum_of area.height (line_sum pixels.now reduction area component) }
+    ensures sum { result ≡ sum_over area.height (box_line_sum pixels.now reduction area component) }
     ensures most { result ≤ 65535 * 65535 * area.height }
 {
     let mut sum = 0;
@@ -138,10 +139,10 @@ fn mean_in(pixels: &[u8], reduction: Reduction, area: Area, component: u8) -> u6
 }
 
 /// Appends the bytes of a sample.
-#[tactic(auto, unfolding(crate::specs::Boxes::sample_bytes))]
+#[tactic(auto, unfolding(crate::specs::Boxes::higher_first_bytes))]
 fn push_sample(bytes: &mut Vec<u8>, precision: u8, sample: u64) -> Result<(), AllocError>
     ensures { OnOk result (bytes.new.items
-        ≡ bytes.old.items ++ sample_bytes precision sample) }
+        ≡ bytes.old.items ++ higher_first_bytes precision sample) }
 {
     bytes.push((sample % 256) as u8)?;
     if precision > 8 {
@@ -161,7 +162,7 @@ fn push_pixel(
     requires across { x < reduction.to_width }
     requires down { y < reduction.to_height }
     ensures { OnOk result (bytes.new.items ≡ bytes.old.items
-        ++ pixel_bytes pixels.now reduction y x) }
+        ++ box_pixel pixels.now reduction y x) }
 {
     let area = area_of(reduction, x, y);
     for component in 0..reduction.components {
@@ -180,7 +181,7 @@ fn push_line(
 ) -> Result<(), AllocError>
     requires { y < reduction.to_height }
     ensures { OnOk result (bytes.new.items ≡ bytes.old.items
-        ++ line_bytes pixels.now reduction y) }
+        ++ box_line pixels.now reduction y) }
 {
     for x in 0..reduction.to_width {
         push_pixel(bytes, pixels, reduction, x, y)?;
@@ -201,7 +202,7 @@ fn reduced_bytes(alloc: Global, pixels: &[u8], reduction: Reduction) -> Result<V
 
 /// Returns how many samples a pixel has.
 fn components_of(format: PixelFormat) -> u8
-    ensures { result ≡ components_of format }
+    ensures { result ≡ components_a_pixel format }
 {
     match format {
         PixelFormat::L8 | PixelFormat::L16 => 1,

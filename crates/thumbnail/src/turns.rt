@@ -1,7 +1,7 @@
 //! Pictures turned upright by the orientation in their Exif data (Exif 2.3, 4.6.4).
 ghost use Rattle.std.specs.Prelude.{◌≡◌, length, IfOk, IfSome};
 ghost use Rattle.thumbnail.specs.Turns.{bytes_of, decoded_in, flips_x, flips_y, is_on_side};
-ghost use Rattle.thumbnail.specs.Turns.{mirrored, source_of, tabulate, turned_byte, turned_info};
+ghost use Rattle.thumbnail.specs.Turns.{mirrored, stored_index, tabulate, turned_byte, turned_info};
 ghost use Rattle.thumbnail.specs.Turns.{upright};
 
 use jpeg_decoder::error::{Error, Result};
@@ -56,7 +56,7 @@ fn mirrored(is_flipped: bool, side: usize, place: usize) -> usize
 
 /// Returns where a byte of the upright picture stands in the stored one.
 fn source_of(turn: Turn, place: usize) -> Option<usize>
-    ensures { IfSome result (λ source. source ≡ source_of turn place) }
+    ensures { IfSome result (λ source. source ≡ stored_index turn place) }
 {
     let on_side = is_on_side(turn.orientation);
     let wide = if on_side { turn.height } else { turn.width };

@@ -15,7 +15,7 @@ use Rattle.jpeg_decoder.specs.declared.memory.DecodingBytes.{DecodingBytes}
 use Rattle.zaxbriar.proofs.Fails.{stands}
 use Rattle.zaxbriar.proofs.Told.{count-of}
 use Rattle.zaxbriar.specs.Faults.{IsFault, StandsFor}
-use Rattle.zaxbriar.specs.Layouts.{converted_bytes, laid_out, line_of}
+use Rattle.zaxbriar.specs.Layouts.{converted_bytes, laid_out, layout_line}
 use Rattle.zaxbriar.specs.Lines.{Decodes, HasLines}
 use Rattle.zaxbriar.specs.declared.answers.Refusal.{Refusal}
 use Rattle.zaxbriar.specs.declared.lines.Lines.{Lines}
@@ -48,7 +48,8 @@ pub decodes-of : (lines : Lines) (old new : Decoding) (samples before after : Li
     → (IsReading old.stage → Answers {X = Unit {0}} (λ u. (told_of new.found, samples))
     (ahead old.stage old.settings old.found) old.source (Ok tt) new.source)
     → DecodesImages {X = Unit {0}} (λ u. samples) old (Ok tt) new
-    → after ≡ laid_out (line_of lines.conversion lines.width) (lines.width * lines.stored) lines.stride lines.height samples before
+    → after ≡ laid_out (layout_line lines.conversion lines.width) (lines.width * lines.stored)
+    lines.stride lines.height samples before
     → Decodes lines old new before after
 decodes-of lines old new samples before after s frame reads images pixels = record {
   samples = samples;

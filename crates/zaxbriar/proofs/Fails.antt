@@ -9,8 +9,8 @@ use Rattle.jpeg_streams.specs.Found.{Found}
 use Rattle.jpeg_streams.specs.Stream.{header_at, rest_at}
 use Rattle.jpeg_streams.specs.Output.{Tells}
 use Rattle.jpeg_streams.proofs.ReadTurns.{then-ok}
-use Rattle.zaxbriar.specs.Faults.{IsArgument, IsFault, IsNamed, StandsFor, answer_of, code_of}
-use Rattle.zaxbriar.specs.Meanings.{settings_of, size_of, meaning_by}
+use Rattle.zaxbriar.specs.Faults.{IsArgument, IsFault, IsNamed, StandsFor, status_of, fault_code}
+use Rattle.zaxbriar.specs.Meanings.{settings_of, size_wanted, meaning_by}
 use Rattle.zaxbriar.specs.declared.answers.Refusal.{Refusal}
 use Rattle.zaxbriar.specs.declared.answers.Refusal.TheVariants as refusals
 use Rattle.zaxbriar.specs.declared.options.Options.{Options}
@@ -45,7 +45,7 @@ pub stands : {X Y : Type 0} (view : X → Y) (read : List ℕ → Outcome Y) (ol
 stands view read old new e x s a o = grind (arith, names)
 
 pub means-rest : (o : Options) (bytes rest : List ℕ) (header : Found) → header_at bytes ≡ Ok (header, rest)
-    → meaning_by o bytes ≡ rest_at (settings_of o) (at_size (size_of o) header) rest
+    → meaning_by o bytes ≡ rest_at (settings_of o) (at_size (size_wanted o) header) rest
 unfolding meaning_by
 means-rest o bytes rest header h = then-ok (header_at bytes) _ (header, rest) _ h refl
 
@@ -53,14 +53,16 @@ means-rest o bytes rest header h = then-ok (header_at bytes) _ (header, rest) _ 
 pub other-named : {Y : Type 0} (code : ℕ) (read : Result Y Fault) → (code < 4 → code ≡ 0) → IsNamed code read
 other-named code read h = grind arith
 
-refusal-named : {Y : Type 0} (r : Refusal) (read : Result Y Fault) → IsFault read r → IsNamed (code_of r) read
+refusal-named : {Y : Type 0} (r : Refusal) (read : Result Y Fault) → IsFault read r → IsNamed
+    (fault_code r) read
 refusal-named x read h = grind (arith, other-named)
 
 -- the number of an outcome that names a fault is the fault's
-pub named : {X Y : Type 0} (outcome : Result X Refusal) (read : Result Y Fault) (code : ℕ) → code ≡ answer_of outcome
+pub named : {X Y : Type 0} (outcome : Result X Refusal) (read : Result Y Fault) (code : ℕ) → code ≡
+    status_of outcome
     → IfErr outcome (IsFault read) → IsNamed code read
 named x read code c h = grind (arith, other-named, refusal-named)
 
 -- no refusal has the number of an OK
-pub code-fails : (r : Refusal) → code_of r ≡ 0 → ⊥
+pub code-fails : (r : Refusal) → fault_code r ≡ 0 → ⊥
 code-fails x e = grind arith

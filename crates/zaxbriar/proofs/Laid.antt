@@ -7,7 +7,8 @@ use Rattle.std.proofs.lemmas.List.{append-nil, drop-append-le, drop-drop, drop_m
 use Rattle.std.proofs.Math.ListN.{drop_of_length-le}
 use Rattle.std.specs.Prelude.{min}
 use borrow.Rule.Slice.PartMut.{put_mid}
-use Rattle.zaxbriar.specs.Layouts.{Fits, converted_bytes, laid_out, line_of, over, pixels_of}
+use Rattle.zaxbriar.specs.Layouts.{TakesStored, converted_bytes, laid_out, layout_line, over}
+use Rattle.zaxbriar.specs.Layouts.{pixels_of}
 use Rattle.zaxbriar.specs.Layouts.{grey_as_rgb, grey_as_rgba, rgb_as_rgba, rgb_as_bgra}
 use Rattle.zaxbriar.specs.declared.layouts.Conversion.{Conversion}
 use Rattle.zaxbriar.specs.declared.layouts.Conversion.TheVariants.{Stored, GreyToRgb, GreyToRgba, RgbToRgba, RgbToBgra}
@@ -158,8 +159,10 @@ line-put line row bytes stride (suc y) k samples old new each few le room e is =
     ∙ ap (λ n. laid_out line row stride n samples old) next
 
 -- the bytes of a line
-pub line-length : (conversion : Conversion) (stored width : ℕ) (row : List ℕ) → Fits conversion stored
-    → length row ≡ width * stored → length (line_of conversion width row) ≡ width * converted_bytes conversion stored
+pub line-length : (conversion : Conversion) (stored width : ℕ) (row : List ℕ) → TakesStored
+    conversion stored
+    → length row ≡ width * stored → length (layout_line conversion width row) ≡ width *
+    converted_bytes conversion stored
 line-length Stored stored width row fits e = e
 line-length GreyToRgb stored width row fits e = pixels-length grey_as_rgb 1 3 width row (λ p. refl)
 line-length GreyToRgba stored width row fits e = pixels-length grey_as_rgba 1 4 width row (λ p. refl)
@@ -170,7 +173,7 @@ line-length RgbToBgra stored width row fits e = pixels-length rgb_as_bgra 3 4 wi
 
 -- the lines of a picture as it is stored, without gaps
 laid-whole : (width row height : ℕ) (samples old : List ℕ) → length samples ≡ height * row
-    → laid_out (line_of Stored width) row row height samples old ≡ over samples old
+    → laid_out (layout_line Stored width) row row height samples old ≡ over samples old
 unfolding laid_out
 laid-whole width row zero [] old e = refl
 laid-whole width row zero (x ∷ xs) old e = absurd (omega (arith, e))
@@ -196,8 +199,9 @@ written-over n old new same rest =
 pub laid-at_once : (conversion : Conversion) (width stored row stride height n : ℕ) (old new : List ℕ) → conversion ≡ Stored
     → row ≡ width * converted_bytes conversion stored → stride ≡ row → length new ≡ length old → drop n new ≡ drop n old
     → length (take n new) ≡ height * (width * stored)
-    → new ≡ laid_out (line_of conversion width) (width * stored) stride height (take n new) old
+    → new ≡ laid_out (layout_line conversion width) (width * stored) stride height (take n new) old
 laid-at_once conversion width stored row stride height n old new s r e same rest count =
     let at : stride ≡ width * stored = e ∙ r ∙ ap (λ (x : Conversion). width * converted_bytes x stored) s in
     written-over n old new same rest ∙ sym (laid-whole width (width * stored) height (take n new) old count)
-    ∙ (λ i. laid_out (line_of (sym s i) width) (width * stored) (sym at i) height (take n new) old)
+    ∙ (λ i. laid_out (layout_line (sym s i) width) (width * stored) (sym at i) height (take n new)
+    old)

@@ -6,12 +6,12 @@ use Rattle.jpeg_streams.specs.Found.{Found}
 use Rattle.jpeg_streams.specs.States.{HeaderRead}
 use Rattle.jpeg_streams.specs.Stream.{Told, header_at, rest_at}
 use Rattle.jpeg_streams.proofs.ReadTurns.{then-ok}
-use Rattle.zaxbriar.specs.Meanings.{settings_of, size_of, meaning_by}
+use Rattle.zaxbriar.specs.Meanings.{settings_of, size_wanted, meaning_by}
 use Rattle.zaxbriar.specs.declared.options.Options.{Options}
 
 pub joined : (o : Options) (bytes rest left : List ℕ) (header : Found) (told : Told) (pixels : List ℕ)
     → header_at bytes ≡ Ok (header, rest)
-    → rest_at (settings_of o) (at_size (size_of o) header) rest ≡ Ok ((told, pixels), left)
+    → rest_at (settings_of o) (at_size (size_wanted o) header) rest ≡ Ok ((told, pixels), left)
     → meaning_by o bytes ≡ Ok ((told, pixels), left)
 unfolding meaning_by
 joined o bytes rest left header told pixels h r = then-ok (header_at bytes) _ (header, rest) _ h r

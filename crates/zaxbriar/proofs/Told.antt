@@ -6,10 +6,10 @@ use Rattle.std.specs.Prelude.{IfOk, OnOk, option_map}
 use Rattle.std.proofs.Math.Nat.{mul_comm, mul_assoc}
 use Rattle.jpeg_bits.specs.Reading.{Fault}
 use Rattle.jpeg_streams.specs.declared.images.ImageInfo.{ImageInfo}
-use Rattle.zaxbriar.specs.Faults.{answer_of}
-use Rattle.zaxbriar.specs.Layouts.{laid_out, line_of}
-use Rattle.zaxbriar.specs.Lines.{Arranged, HasLines, picture_by, stored_bytes}
-use Rattle.zaxbriar.specs.Meanings.{Describes, Shows, ShowsSamples, orientation_by, size_of}
+use Rattle.zaxbriar.specs.Faults.{status_of}
+use Rattle.zaxbriar.specs.Layouts.{laid_out, layout_line}
+use Rattle.zaxbriar.specs.Lines.{Arranged, HasLines, described_picture, stored_bytes}
+use Rattle.zaxbriar.specs.Meanings.{Describes, Shows, ShowsSamples, orientation_by, size_wanted}
 use Rattle.jpeg_streams.specs.Found.{Found}
 use Rattle.jpeg_streams.specs.DecodedImages.{at_size}
 use Rattle.jpeg_streams.specs.Pixels.{info_of}
@@ -30,9 +30,10 @@ count-of o info precision count lines h e = grind (arith, mul_comm, mul_assoc)
 pub arranged-of : (o : Options) (info : ImageInfo) (precision : ℕ) (samples old new : List ℕ) (picture : Picture)
     (lines : Lines) (decoding orientation : ℕ)
     → HasLines o info precision lines
-    → new ≡ laid_out (line_of lines.conversion lines.width) (lines.width * lines.stored) lines.stride lines.height
+    → new ≡ laid_out (layout_line lines.conversion lines.width) (lines.width * lines.stored)
+    lines.stride lines.height
     samples old
-    → picture ≡ picture_by o.layout info precision lines decoding orientation 0
+    → picture ≡ described_picture o.layout info precision lines decoding orientation 0
     → Arranged o info precision samples old new picture
 arranged-of o info precision samples old new picture lines decoding orientation h e p = record {
   conversion = h.conversion;
@@ -40,17 +41,18 @@ arranged-of o info precision samples old new picture lines decoding orientation 
   pixels = grind arith;
   decoding = decoding;
   orientation = orientation;
-  picture_is = p ∙ (λ i. picture_by o.layout info precision (h.lines_are i) decoding orientation
+  picture_is = p ∙ (λ i. described_picture o.layout info precision (h.lines_are i) decoding
+      orientation
       (ap (λ (q : Picture). q.stream_bytes) (sym p) i));
 }
 
 pub described-of : (o : Options) (bytes rest : List ℕ) (header found : Found) (info : ImageInfo) (precision : ℕ)
     (decoding : DecodingBytes) (lines : Lines) (orientation : ℕ) (picture : Picture)
-    → header_at bytes ≡ Ok (header, rest) → found ≡ at_size (size_of o) header
+    → header_at bytes ≡ Ok (header, rest) → found ≡ at_size (size_wanted o) header
     → option_map info_of found.frame ≡ Some info → option_map (λ f. f.precision) found.frame ≡ Some precision
     → option_map decoding_bytes found.frame ≡ Some decoding → HasLines o info precision lines
     → orientation ≡ orientation_by found.metadata.exif
-    → picture ≡ picture_by o.layout info precision lines decoding.peak orientation 0
+    → picture ≡ described_picture o.layout info precision lines decoding.peak orientation 0
     → Describes o bytes picture
 described-of o bytes rest header found info precision decoding lines orientation picture r s i p d h n e = grind arith
 
@@ -62,21 +64,21 @@ retold o info precision samples old new picture stream text t a = grind arith
 
 pub shown : {X : Type 0} (outcome : Result X Refusal) (o : Options) (bytes old new : List ℕ) (picture : Picture)
     (stream : ℕ) (text : List ℕ) (result : ℕ)
-    → result ≡ answer_of outcome → IfOk outcome (λ _. text ≡ picture.text)
+    → result ≡ status_of outcome → IfOk outcome (λ _. text ≡ picture.text)
     → OnOk outcome (Shows o bytes old new picture) → result ≡ 0
     → Shows o bytes old new (record picture { stream_bytes = stream; text = text })
 shown x o bytes old new picture stream text result code ok s z = search (rules, retold, code-fails)
 
 pub shown-samples : {X : Type 0} (outcome : Result X Refusal) (o : Options) (image : Result (List ℕ) Fault)
     (old new : List ℕ) (picture : Picture) (stream : ℕ) (text : List ℕ) (result : ℕ)
-    → result ≡ answer_of outcome → IfOk outcome (λ _. text ≡ picture.text)
+    → result ≡ status_of outcome → IfOk outcome (λ _. text ≡ picture.text)
     → OnOk outcome (ShowsSamples o image old new picture) → result ≡ 0
     → ShowsSamples o image old new (record picture { stream_bytes = stream; text = text })
 shown-samples x o image old new picture stream text result code ok s z = search (rules, retold, code-fails)
 
 pub described : {X : Type 0} (outcome : Result X Refusal) (o : Options) (bytes : List ℕ) (picture : Picture)
     (text : List ℕ) (result : ℕ)
-    → result ≡ answer_of outcome → IfOk outcome (λ _. text ≡ picture.text)
+    → result ≡ status_of outcome → IfOk outcome (λ _. text ≡ picture.text)
     → OnOk outcome (Describes o bytes picture) → result ≡ 0
     → Describes o bytes (record picture { text = text })
 described x o bytes picture text result code ok d z = grind (arith, code-fails)

@@ -27,18 +27,18 @@ StandsFor error failed (Argument text) = Unit {0}
 StandsFor error failed NoRoom = ⊥
 
 -- the number of a refusal, and of an outcome
-abbrev pub code_of : Refusal → ℕ
-code_of (Stream (errors.Format text)) = 1
-code_of (Stream (errors.Unsupported feature)) = 2
-code_of (Stream (errors.Io e)) = 3
-code_of (Stream errors.OutOfMemory) = 4
-code_of (Stream (errors.Internal text)) = 6
-code_of (Argument text) = 6
-code_of NoRoom = 5
+abbrev pub fault_code : Refusal → ℕ
+fault_code (Stream (errors.Format text)) = 1
+fault_code (Stream (errors.Unsupported feature)) = 2
+fault_code (Stream (errors.Io e)) = 3
+fault_code (Stream errors.OutOfMemory) = 4
+fault_code (Stream (errors.Internal text)) = 6
+fault_code (Argument text) = 6
+fault_code NoRoom = 5
 
-abbrev pub answer_of : {X : Type 0} → Result X Refusal → ℕ
-answer_of (Ok x) = 0
-answer_of (Err r) = code_of r
+abbrev pub status_of : {X : Type 0} → Result X Refusal → ℕ
+status_of (Ok x) = 0
+status_of (Err r) = fault_code r
 
 -- Where a number is that of a fault, it is the fault of the bytes.
 abbrev pub IsNamed : {Y : Type 0} → ℕ → Result Y Fault → Type 0

@@ -30,12 +30,12 @@ pixels_of pixel stored (suc width) row =
     pixel (take stored row) ++ pixels_of pixel stored width (drop stored row)
 
 -- a row of samples as a line of a layout
-abbrev pub line_of : Conversion → ℕ → List ℕ → List ℕ
-line_of Stored width row = row
-line_of GreyToRgb width row = pixels_of grey_as_rgb 1 width row
-line_of GreyToRgba width row = pixels_of grey_as_rgba 1 width row
-line_of RgbToRgba width row = pixels_of rgb_as_rgba 3 width row
-line_of RgbToBgra width row = pixels_of rgb_as_bgra 3 width row
+abbrev pub layout_line : Conversion → ℕ → List ℕ → List ℕ
+layout_line Stored width row = row
+layout_line GreyToRgb width row = pixels_of grey_as_rgb 1 width row
+layout_line GreyToRgba width row = pixels_of grey_as_rgba 1 width row
+layout_line RgbToRgba width row = pixels_of rgb_as_rgba 3 width row
+layout_line RgbToBgra width row = pixels_of rgb_as_bgra 3 width row
 
 -- the bytes of a pixel in a layout, where it is stored in so many
 abbrev pub converted_bytes : Conversion → ℕ → ℕ
@@ -46,12 +46,12 @@ converted_bytes RgbToRgba stored = 4
 converted_bytes RgbToBgra stored = 4
 
 -- A conversion takes pixels that are stored in so many bytes.
-abbrev pub Fits : Conversion → ℕ → Type 0
-Fits Stored stored = Unit {0}
-Fits GreyToRgb stored = stored ≡ 1
-Fits GreyToRgba stored = stored ≡ 1
-Fits RgbToRgba stored = stored ≡ 3
-Fits RgbToBgra stored = stored ≡ 3
+abbrev pub TakesStored : Conversion → ℕ → Type 0
+TakesStored Stored stored = Unit {0}
+TakesStored GreyToRgb stored = stored ≡ 1
+TakesStored GreyToRgba stored = stored ≡ 1
+TakesStored RgbToRgba stored = stored ≡ 3
+TakesStored RgbToBgra stored = stored ≡ 3
 
 -- ---- layouts
 
@@ -68,8 +68,8 @@ conversion_of_bytes layout L16 = None
 conversion_of_bytes layout CMYK32 = None
 
 -- the conversion to a layout: 0 as stored, 1 grey, 2 RGB, 3 RGBA, 4 BGRA
-abbrev pub conversion_of : ℕ → PixelFormat → ℕ → Option Conversion
-conversion_of layout format precision = if layout == 0 then Some Stored
+abbrev pub conversion_to : ℕ → PixelFormat → ℕ → Option Conversion
+conversion_to layout format precision = if layout == 0 then Some Stored
     else (if precision == 8 then conversion_of_bytes layout format else None)
 
 -- ---- lines

@@ -9,7 +9,8 @@ use Rattle.jpeg_streams.specs.DecodedImages.{DecodesImages}
 use Rattle.jpeg_streams.specs.States.{Decoding}
 use Rattle.jpeg_streams.specs.Stream.{rest_at, told_of}
 use Rattle.jpeg_streams.specs.declared.images.ImageInfo.{ImageInfo}
-use Rattle.zaxbriar.specs.Layouts.{Fits, conversion_of, converted_bytes, laid_out, line_of}
+use Rattle.zaxbriar.specs.Layouts.{TakesStored, conversion_to, converted_bytes, laid_out}
+use Rattle.zaxbriar.specs.Layouts.{layout_line}
 use Rattle.zaxbriar.specs.Layouts.{size_of_lines}
 use Rattle.zaxbriar.specs.declared.layouts.Conversion.{Conversion}
 use Rattle.zaxbriar.specs.declared.lines.Lines.{Lines}
@@ -21,11 +22,12 @@ abbrev pub stored_bytes : ImageInfo → ℕ → ℕ
 stored_bytes info precision = samples_a_pixel info.pixel_format * bytes_a_sample precision
 
 -- the bytes of a pixel, and those of a line without its gap
-abbrev pub pixel_bytes : ImageInfo → ℕ → Conversion → ℕ
-pixel_bytes info precision conversion = converted_bytes conversion (stored_bytes info precision)
+abbrev pub layout_pixel_bytes : ImageInfo → ℕ → Conversion → ℕ
+layout_pixel_bytes info precision conversion = converted_bytes conversion (stored_bytes info
+    precision)
 
 abbrev pub row_bytes : ImageInfo → ℕ → Conversion → ℕ
-row_bytes info precision conversion = info.width * pixel_bytes info precision conversion
+row_bytes info precision conversion = info.width * layout_pixel_bytes info precision conversion
 
 -- the bytes from one line to the next
 abbrev pub stride_of : ℕ → ℕ → ℕ
@@ -38,7 +40,7 @@ lines_by stride info precision conversion = record {
   width = info.width;
   height = info.height;
   stored = stored_bytes info precision;
-  pixel_bytes = pixel_bytes info precision conversion;
+  layout_pixel_bytes = layout_pixel_bytes info precision conversion;
   row_bytes = row_bytes info precision conversion;
   stride = stride_of stride (row_bytes info precision conversion);
 }
@@ -46,34 +48,34 @@ lines_by stride info precision conversion = record {
 -- Lines are those that the options ask for.
 pub record HasLines (o : Options) (info : ImageInfo) (precision : ℕ) (lines : Lines) : Type 0 where
   pub conversion : Conversion
-  pub is : conversion_of o.layout info.pixel_format precision ≡ Some conversion
-  pub fits : Fits conversion (stored_bytes info precision)
+  pub is : conversion_to o.layout info.pixel_format precision ≡ Some conversion
+  pub fits : TakesStored conversion (stored_bytes info precision)
   pub lines_are : lines ≡ lines_by o.stride info precision conversion
   pub wide : lines.row_bytes ≤ lines.stride
   pub narrow : lines.stride ≤ 4294967296
 
 -- the number of a coding process
-abbrev pub number_of : CodingProcess → ℕ
-number_of DctSequential = 1
-number_of DctProgressive = 2
-number_of Lossless = 3
+abbrev pub process_number : CodingProcess → ℕ
+process_number DctSequential = 1
+process_number DctProgressive = 2
+process_number Lossless = 3
 
 -- what a caller is told of a picture: these lines, the memory that decoding takes, the orientation,
 -- and the bytes of the stream
-abbrev pub picture_by : ℕ → ImageInfo → ℕ → Lines → ℕ → ℕ → ℕ → Picture
-picture_by layout info precision lines decoding orientation stream = record {
+abbrev pub described_picture : ℕ → ImageInfo → ℕ → Lines → ℕ → ℕ → ℕ → Picture
+described_picture layout info precision lines decoding orientation stream = record {
   size = size_of_lines lines.stride lines.row_bytes lines.height;
   row_bytes = lines.row_bytes;
   decoding_bytes = decoding;
   stream_bytes = stream;
   width = lines.width;
   height = lines.height;
-  pixel_bytes = lines.pixel_bytes;
+  layout_pixel_bytes = lines.pixel_bytes;
   layout = layout;
   components = samples_a_pixel info.pixel_format;
   precision = precision;
   sample_bytes = bytes_a_sample precision;
-  process = number_of info.coding_process;
+  process = process_number info.coding_process;
   orientation = orientation;
   reserved = replicate 33 0;
   text = replicate 112 0;
@@ -84,13 +86,13 @@ picture_by layout info precision lines decoding orientation stream = record {
 pub record Arranged (o : Options) (info : ImageInfo) (precision : ℕ) (samples old new : List ℕ)
     (picture : Picture) : Type 0 where
   pub conversion : Conversion
-  pub is : conversion_of o.layout info.pixel_format precision ≡ Some conversion
-  pub pixels : new ≡ laid_out (line_of conversion info.width)
+  pub is : conversion_to o.layout info.pixel_format precision ≡ Some conversion
+  pub pixels : new ≡ laid_out (layout_line conversion info.width)
       (info.width * stored_bytes info precision)
       (stride_of o.stride (row_bytes info precision conversion)) info.height samples old
   pub decoding : ℕ
   pub orientation : ℕ
-  pub picture_is : picture ≡ picture_by o.layout info precision
+  pub picture_is : picture ≡ described_picture o.layout info precision
       (lines_by o.stride info precision conversion) decoding orientation picture.stream_bytes
 
 -- A decoder whose header was read has decoded its picture, and the lines of it are in the caller's
@@ -101,5 +103,6 @@ pub record Decodes (lines : Lines) (old new : Decoding) (before after : List ℕ
   pub reads : Answers {X = Unit {0}} (λ u. (told_of new.found, samples))
       (rest_at old.settings old.found) old.source (Ok tt) new.source
   pub images : DecodesImages {X = Unit {0}} (λ u. samples) old (Ok tt) new
-  pub pixels : after ≡ laid_out (line_of lines.conversion lines.width) (lines.width * lines.stored)
+  pub pixels : after ≡ laid_out (layout_line lines.conversion lines.width) (lines.width *
+      lines.stored)
       lines.stride lines.height samples before

@@ -15,15 +15,15 @@ use Rattle.jpeg_bits.specs.Reading.{Fault}
 use Rattle.jpeg_decoder.specs.Bytes.{decoding_bytes}
 use Rattle.jpeg_decoder.specs.Orientation.{orientation_in}
 use Rattle.jpeg_decoder.specs.declared.memory.DecodingBytes.{DecodingBytes}
-use Rattle.zaxbriar.specs.Layouts.{conversion_of}
-use Rattle.zaxbriar.specs.Lines.{Arranged, lines_by, picture_by}
+use Rattle.zaxbriar.specs.Layouts.{conversion_to}
+use Rattle.zaxbriar.specs.Lines.{Arranged, lines_by, described_picture}
 use Rattle.zaxbriar.specs.declared.layouts.Conversion.{Conversion}
 use Rattle.zaxbriar.specs.declared.options.Options.{Options}
 use Rattle.zaxbriar.specs.declared.picture.Picture.{Picture}
 
 -- the colour transform of a number
-abbrev pub transform_of : ℕ → Option ColorTransform
-transform_of n = if n == 2 then Some transforms.RGB
+abbrev pub transform_number : ℕ → Option ColorTransform
+transform_number n = if n == 2 then Some transforms.RGB
     else (if n == 3 then Some transforms.YCbCr
     else (if n == 4 then Some transforms.CMYK
     else (if n == 5 then Some transforms.YCCK else None)))
@@ -32,19 +32,19 @@ transform_of n = if n == 2 then Some transforms.RGB
 abbrev pub settings_of : Options → Settings
 settings_of o = record {
   limit = if o.max_samples == 0 then 18446744073709551615 else o.max_samples;
-  color_transform = transform_of o.transform;
+  color_transform = transform_number o.transform;
 }
 
 -- the size that the picture is to have
-abbrev pub size_of : Options → Size
-size_of o = if o.min_width == 0 && o.min_height == 0 then FullSize
+abbrev pub size_wanted : Options → Size
+size_wanted o = if o.min_width == 0 && o.min_height == 0 then FullSize
     else AtLeast o.min_width o.min_height
 
 -- what is told of a stream, its picture, and the bytes after it
 unfoldable pub meaning_by : Options → List ℕ → Outcome (Told × List ℕ)
 meaning_by o bytes = do
   header ← header_at bytes
-  rest_at (settings_of o) (at_size (size_of o) header.0) header.1
+  rest_at (settings_of o) (at_size (size_wanted o) header.0) header.1
 
 -- A decoder of known bytes has read their header, and its picture is to have the size of the
 -- options.
@@ -53,7 +53,7 @@ pub record ReadsHeader (o : Options) (old new : Decoding) : Type 0 where
   pub settings : new.settings ≡ settings_of o
   pub reads : old.source.known ≡ true → (new.source.known ≡ true) × ((header : Found)
       × (header_at old.source.bytes ≡ Ok (header, new.source.bytes))
-      × (new.found ≡ at_size (size_of o) header))
+      × (new.found ≡ at_size (size_wanted o) header))
 
 -- the orientation that Exif data say, and 1, upright, where they say none
 abbrev pub or_upright : Option ℕ → ℕ
@@ -73,14 +73,14 @@ pub record Describes (o : Options) (bytes : List ℕ) (picture : Picture) : Type
   pub decoding : DecodingBytes
   pub conversion : Conversion
   pub reads : header_at bytes ≡ Ok (header, rest)
-  pub info_is : option_map info_of (at_size (size_of o) header).frame ≡ Some info
-  pub precision_is : option_map (λ f. f.precision) (at_size (size_of o) header).frame
+  pub info_is : option_map info_of (at_size (size_wanted o) header).frame ≡ Some info
+  pub precision_is : option_map (λ f. f.precision) (at_size (size_wanted o) header).frame
       ≡ Some precision
-  pub decoding_is : option_map decoding_bytes (at_size (size_of o) header).frame ≡ Some decoding
-  pub conversion_is : conversion_of o.layout info.pixel_format precision ≡ Some conversion
-  pub picture_is : picture ≡ picture_by o.layout info precision
+  pub decoding_is : option_map decoding_bytes (at_size (size_wanted o) header).frame ≡ Some decoding
+  pub conversion_is : conversion_to o.layout info.pixel_format precision ≡ Some conversion
+  pub picture_is : picture ≡ described_picture o.layout info precision
       (lines_by o.stride info precision conversion) decoding.peak
-      (orientation_by (at_size (size_of o) header).metadata.exif) 0
+      (orientation_by (at_size (size_wanted o) header).metadata.exif) 0
 
 -- The picture of a stream is in the caller's memory.
 pub record Shows (o : Options) (bytes old new : List ℕ) (picture : Picture) : Type 0 where

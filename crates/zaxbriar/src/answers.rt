@@ -1,6 +1,6 @@
 //! What a call returns, and the text of a refusal.
 ghost use Rattle.std.specs.Prelude.{◌≡◌, IfOk};
-ghost use Rattle.zaxbriar.specs.Faults.{StandsFor, answer_of, code_of};
+ghost use Rattle.zaxbriar.specs.Faults.{StandsFor, status_of, fault_code};
 
 use jpeg_decoder::Decoder;
 use jpeg_decoder::error::Error;
@@ -65,7 +65,7 @@ pub fn refusal_of<R: Read + Drop>(decoder: &Decoder<R>, error: Error) -> Refusal
 
 /// Returns the number of a refusal.
 pub fn code_of(refusal: &Refusal) -> u32
-    ensures { result ≡ code_of refusal.now }
+    ensures { result ≡ fault_code refusal.now }
 {
     match refusal {
         Refusal::Stream(Error::Format(_)) => MALFORMED,
@@ -102,7 +102,7 @@ pub fn answer(
     outcome: std::result::Result<(), Refusal>,
     text: &mut [u8; TEXT_BYTES],
 ) -> u32
-    ensures code { result ≡ answer_of outcome }
+    ensures code { result ≡ status_of outcome }
     ensures text { IfOk outcome (λ _. text.new ≡ text.old) }
 {
     match outcome {

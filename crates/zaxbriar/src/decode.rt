@@ -2,7 +2,7 @@
 ghost use Rattle.std.specs.Prelude.{◌≡◌, ◌++◌, ◌≤◌, ℕ, List, Some, length, option_map, true};
 ghost use Rattle.std.specs.Prelude.{IfErr, OnErr, OnOk};
 ghost use Rattle.jpeg_decoder.specs.Bytes.{decoding_bytes};
-ghost use Rattle.jpeg_streams.specs.ArrayPictures.{picture_of_array, Takes};
+ghost use Rattle.jpeg_streams.specs.ArrayPictures.{picture_of_array, TakesPicture};
 ghost use Rattle.jpeg_streams.specs.DecodedImages.{at_size};
 ghost use Rattle.jpeg_streams.specs.Found.{Found};
 ghost use Rattle.jpeg_streams.specs.Levels.{Is8Bit, Levels};
@@ -16,7 +16,7 @@ ghost use Rattle.zaxbriar.specs.Faults.{IsFault};
 ghost use Rattle.zaxbriar.specs.Layouts.{size_of_lines};
 ghost use Rattle.zaxbriar.specs.Lines.{Decodes, HasLines};
 ghost use Rattle.zaxbriar.specs.Meanings.{Describes, Shows, ShowsSamples};
-ghost use Rattle.zaxbriar.specs.Meanings.{meaning_by, settings_of, size_of};
+ghost use Rattle.zaxbriar.specs.Meanings.{meaning_by, settings_of, size_wanted};
 
 use crate::answers::{Refusal, refusal_of};
 use crate::header::{Header, read_header};
@@ -97,10 +97,10 @@ pub fn decode_into<R: Read + Drop>(
         (array : Coefficients) (image rest : List ℕ) (final : Found) (last : ℕ → Levels) →
         ((place row column : ℕ) → Is8Bit (array place row column)) →
         WritesImage array image final last →
-        Takes (settings_of options.now) (at_size (size_of options.now) final) →
+        TakesPicture (settings_of options.now) (at_size (size_wanted options.now) final) →
         bytes ≡ image ++ rest →
         OnOk result (ShowsSamples options.now (picture_of_array (settings_of options.now)
-        (at_size (size_of options.now) final) array last) pixels.old pixels.new picture.new) }
+        (at_size (size_wanted options.now) final) array last) pixels.old pixels.new picture.new) }
     ensures named { (bytes : List ℕ) → Tells (R.remaining reader.old) bytes
         → IfErr result (IsFault (meaning_by options.now bytes)) }
     ensures kept { OnErr result (pixels.new ≡ pixels.old) }

@@ -2,8 +2,8 @@
 ghost use Rattle.std.specs.Prelude.{◌≡◌, ◌*◌, length, IfSome};
 ghost use Rattle.jpeg_decoder.specs.Bytes.{bytes_a_sample, samples_a_pixel};
 ghost use Rattle.jpeg_streams.specs.declared.images.PixelFormat.TheVariants.{L8, RGB24};
-ghost use Rattle.zaxbriar.specs.Layouts.{Fits, conversion_of, conversion_of_bytes};
-ghost use Rattle.zaxbriar.specs.Layouts.{converted_bytes, line_of, pixels_of};
+ghost use Rattle.zaxbriar.specs.Layouts.{TakesStored, conversion_to, conversion_of_bytes};
+ghost use Rattle.zaxbriar.specs.Layouts.{converted_bytes, layout_line, pixels_of};
 ghost use Rattle.zaxbriar.specs.Layouts.{grey_as_rgb, grey_as_rgba, rgb_as_rgba, rgb_as_bgra};
 
 use jpeg_decoder::PixelFormat;
@@ -60,8 +60,8 @@ fn conversion_of_bytes(layout: u8, format: PixelFormat) -> Option<Conversion>
 
 /// Returns the conversion to a layout, unless the layout doesn't fit the picture.
 pub fn conversion_of(layout: u8, format: PixelFormat, precision: u8) -> Option<Conversion>
-    ensures conversion { result ≡ conversion_of layout format precision }
-    ensures fits { IfSome result (λ conversion. Fits conversion
+    ensures conversion { result ≡ conversion_to layout format precision }
+    ensures fits { IfSome result (λ conversion. TakesStored conversion
         (samples_a_pixel format * bytes_a_sample precision)) }
 {
     if layout == 0 {
@@ -138,10 +138,10 @@ fn put_rgb_as_bgra(row: &[u8], width: usize, line: &mut [u8])
 
 /// Writes a row of samples as a line of a layout. Each pixel has `stored` bytes in the row.
 pub fn put_row(row: &[u8], conversion: Conversion, stored: usize, width: usize, line: &mut [u8])
-    requires fits { Fits conversion stored }
+    requires fits { TakesStored conversion stored }
     requires whole { length row.now ≡ width * stored }
     requires room { length line.old ≡ width * converted_bytes conversion stored }
-    ensures { line.new ≡ line_of conversion width row.now }
+    ensures { line.new ≡ layout_line conversion width row.now }
 {
     match conversion {
         Conversion::Stored => line.copy_from_slice(row),

@@ -8,7 +8,7 @@
 ghost use Rattle.std.specs.Prelude.{◌≡◌, ◌++◌, ◌<◌, ◌^◌, ℕ, List, length, Err, None};
 ghost use Rattle.jpeg_bits.specs.Reading.{Malformed, Lacks, End};
 ghost use Rattle.jpeg_bits.specs.declared.error.UnsupportedFeature.{UnsupportedFeature};
-ghost use Rattle.jpeg_streams.specs.ArrayPictures.{picture_of_array, Takes};
+ghost use Rattle.jpeg_streams.specs.ArrayPictures.{picture_of_array, TakesPicture};
 ghost use Rattle.jpeg_streams.specs.DecodedImages.{at_size};
 ghost use Rattle.jpeg_streams.specs.Found.{Found};
 ghost use Rattle.jpeg_streams.specs.Levels.{Is8Bit, Levels};
@@ -17,7 +17,7 @@ ghost use Rattle.jpeg_streams.specs.WrittenImages.{WritesImage};
 ghost use Rattle.jpeg_streams.specs.WrittenScans.{Coefficients};
 ghost use Rattle.zaxbriar.specs.Metadata.{IsCopied, said_of};
 ghost use Rattle.zaxbriar.specs.Meanings.{Describes, Shows, ShowsSamples};
-ghost use Rattle.zaxbriar.specs.Meanings.{meaning_by, settings_of, size_of};
+ghost use Rattle.zaxbriar.specs.Meanings.{meaning_by, settings_of, size_wanted};
 
 mod answers;
 mod decode;
@@ -81,10 +81,10 @@ pub extern "C" fn zaxbriar_checked_decode(
         (array : Coefficients) (image rest : List ℕ) (final : Found) (last : ℕ → Levels) →
         ((place row column : ℕ) → Is8Bit (array place row column)) →
         WritesImage array image final last →
-        Takes (settings_of options.now) (at_size (size_of options.now) final) →
+        TakesPicture (settings_of options.now) (at_size (size_wanted options.now) final) →
         jpeg.now ≡ image ++ rest →
         ShowsSamples options.now (picture_of_array (settings_of options.now)
-        (at_size (size_of options.now) final) array last) pixels.old pixels.new picture.new }
+        (at_size (size_wanted options.now) final) array last) pixels.old pixels.new picture.new }
 
     // MALFORMED, UNSUPPORTED and TRUNCATED name the stream's fault.
     ensures malformed { length jpeg.now < 2 ^ 64 → result ≡ 1

@@ -2,7 +2,8 @@
 ghost use Rattle.std.specs.Prelude.{◌≡◌, ◌+◌, ◌*◌, ◌<◌, ◌≤◌, ℕ, length, true, IfOk, IfErr};
 ghost use Rattle.jpeg_decoder.specs.Bytes.{bytes_a_sample, samples_a_pixel};
 ghost use Rattle.zaxbriar.specs.Faults.{IsArgument};
-ghost use Rattle.zaxbriar.specs.Layouts.{Fits, converted_bytes, laid_out, line_of, size_of_lines};
+ghost use Rattle.zaxbriar.specs.Layouts.{TakesStored, converted_bytes, laid_out, layout_line};
+ghost use Rattle.zaxbriar.specs.Layouts.{size_of_lines};
 ghost use Rattle.zaxbriar.specs.Lines.{HasLines};
 ghost use Rattle.zaxbriar.specs.declared.layouts.Conversion.TheVariants.{Stored};
 
@@ -114,8 +115,8 @@ pub fn put_lines(samples: &[u8], lines: Lines, pixels: &mut [u8])
     requires row { lines.row_bytes
         ≡ lines.width * converted_bytes lines.conversion lines.stored }
     requires wide { lines.row_bytes ≤ lines.stride }
-    requires fits { Fits lines.conversion lines.stored }
-    ensures { pixels.new ≡ laid_out (line_of lines.conversion lines.width)
+    requires fits { TakesStored lines.conversion lines.stored }
+    ensures { pixels.new ≡ laid_out (layout_line lines.conversion lines.width)
         (lines.width * lines.stored) lines.stride lines.height samples.now pixels.old }
 {
     let from_bytes = usize::from(lines.width) * usize::from(lines.stored);

@@ -3,7 +3,7 @@ ghost use Rattle.std.specs.Prelude.{◌≡◌, IsOk, OnOk, true};
 ghost use Rattle.jpeg_streams.specs.DecodedImages.{at_size};
 ghost use Rattle.jpeg_streams.specs.Output.{default_settings};
 ghost use Rattle.jpeg_streams.specs.States.{HeaderRead};
-ghost use Rattle.zaxbriar.specs.Meanings.{settings_of, size_of, transform_of};
+ghost use Rattle.zaxbriar.specs.Meanings.{settings_of, size_wanted, transform_number};
 
 use jpeg_decoder::error::Result;
 use jpeg_decoder::{ColorTransform, Decoder};
@@ -40,7 +40,7 @@ pub fn are_known(options: &Options) -> bool {
 
 /// Returns the colour transform of a number.
 fn transform_of(number: u8) -> Option<ColorTransform>
-    ensures { result ≡ transform_of number }
+    ensures { result ≡ transform_number number }
 {
     match number {
         2 => Some(ColorTransform::RGB),
@@ -68,7 +68,7 @@ pub fn apply<R: Read + Drop>(decoder: &mut Decoder<R>, options: &Options)
 pub fn apply_size<R: Read + Drop>(decoder: &mut Decoder<R>, options: &Options) -> Result<()>
     requires read { decoder.old.stage ≡ HeaderRead }
     ensures sized { OnOk result (decoder.new ≡ record decoder.old
-        { found = at_size (size_of options.now) decoder.old.found }) }
+        { found = at_size (size_wanted options.now) decoder.old.found }) }
     ensures ok { IsOk result }
 {
     if options.min_width != 0 || options.min_height != 0 {

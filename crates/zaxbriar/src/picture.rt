@@ -1,6 +1,6 @@
 //! What a caller is told of a picture.
 ghost use Rattle.std.specs.Prelude.{◌≡◌, ◌≤◌, ◌<◌};
-ghost use Rattle.zaxbriar.specs.Lines.{number_of, picture_by};
+ghost use Rattle.zaxbriar.specs.Lines.{process_number, described_picture};
 
 use crate::answers::TEXT_BYTES;
 use crate::header::Header;
@@ -64,7 +64,7 @@ pub const NO_PICTURE: Picture = Picture {
 
 /// Returns the number of a coding process.
 fn process_number(process: CodingProcess) -> u8
-    ensures { result ≡ number_of process }
+    ensures { result ≡ process_number process }
 {
     match process {
         CodingProcess::DctSequential => 1,
@@ -77,7 +77,7 @@ fn process_number(process: CodingProcess) -> u8
 pub fn picture_of(header: Header, lines: Lines, layout: u8) -> Picture
     requires row { lines.row_bytes ≤ lines.stride }
     requires stride { lines.stride ≤ 4294967296 }
-    ensures { result ≡ picture_by layout header.info header.precision lines
+    ensures { result ≡ described_picture layout header.info header.precision lines
         header.decoding_bytes.peak header.orientation 0 }
 {
     Picture {

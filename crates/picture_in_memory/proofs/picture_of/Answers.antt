@@ -3,7 +3,7 @@ use Rattle.std.specs.Prelude.{IfOk, MatchResult}
 use Rattle.jpeg_bits.specs.Reading.{Answers, Fault, Outcome}
 use Rattle.jpeg_bits.specs.Stream.{Stream, stream_of}
 use Rattle.jpeg_bits.specs.declared.error.Error.{Error}
-use Rattle.jpeg_streams.specs.DecodedImages.{FailsOutside, FullSize, Gives}
+use Rattle.jpeg_streams.specs.DecodedImages.{FailsOutside, FullSize, GivesPicture}
 use Rattle.jpeg_streams.specs.Output.{Tells, default_settings}
 use Rattle.jpeg_streams.specs.States.{Decoding}
 use Rattle.jpeg_streams.specs.Stream.{Told, meaning, told_of}
@@ -20,7 +20,8 @@ read-whole told bytes_of read old new (Err e) a k = tt
 
 given : {X : Type 0} (bytes_of : X → List ℕ) (picture : Result (List ℕ) Fault) (rest : List ℕ) (final : Found)
     (new : Decoding) (r : Result X Error)
-    → MatchResult r (λ x. Gives picture rest final (bytes_of x) new) (λ e. FailsOutside e new.source)
+    → MatchResult r (λ x. GivesPicture picture rest final (bytes_of x) new) (λ e. FailsOutside e
+    new.source)
     → IfOk r (λ x. picture ≡ Ok (bytes_of x))
 given bytes_of picture rest final new (Ok x) h = h.pixels
 given bytes_of picture rest final new (Err e) h = tt

@@ -5,7 +5,7 @@ use Rattle.std.proofs.lemmas.List.Elements.{recursion_from_All}
 use Rattle.std.specs.List.{AllByRecursion}
 use Rattle.std.specs.declared.alloc.Global.{Global}
 use Rattle.std.specs.declared.vec.Vec.{Vec}
-use Rattle.jpeg_lossless.specs.Codings.{AreWhole, IsCovered, part_in}
+use Rattle.jpeg_lossless.specs.Codings.{AreWholeSamples, IsCovered, part_in}
 use Rattle.jpeg_lossless.specs.Differences.{Part}
 use Rattle.jpeg_lossless.specs.declared.scan.Coding.{Coding}
 use Rattle.std.proofs.lemmas.Result.{err_from_is_err_and}
@@ -165,5 +165,6 @@ returns-clause-sound g c =
     on-ok c.pass_restarts.result (samples-sound found next frame header.components planes c.requires.sound
     c.requires.frame c.requires.process
     (scan-sampled (length header.components == 1) found frame header.components _ planes c.requires.sound
-    c.requires.frame (subst (λ (l : List Part). AreWhole l planes) (made g at.After-deref-3) c.in_ok-planes.ensures.whole))
+    c.requires.frame (subst (λ (l : List Part). AreWholeSamples l planes) (made g at.After-deref-3)
+    c.in_ok-planes.ensures.whole))
     (placed g at.After-put_samples))

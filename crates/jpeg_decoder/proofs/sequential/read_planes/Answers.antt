@@ -18,8 +18,8 @@ use Rattle.jpeg_decoder.specs.Scanning.{IsSpotOf, arrays_in, components_in, coun
 use Rattle.jpeg_decoder.specs.Scanning.{kept_counted, sizes_of, vias_in}
 use Rattle.jpeg_decoder.proofs.KeptStrips.{kept-refused, one-a-side, strips_kept}
 use Rattle.jpeg_decoder.specs.Steps.{coding_in}
-use Rattle.jpeg_decoder.specs.GrowingView.{IsGrowing, growing_in}
-use Rattle.jpeg_decoder.specs.Strips.{row_sizes, samples_in, strips_from, with_strips, zeros_of}
+use Rattle.jpeg_decoder.specs.GrowingView.{GrowsFor, growing_in}
+use Rattle.jpeg_decoder.specs.Strips.{row_sizes, strip_samples, strips_from, with_strips, zeros_of}
 use Rattle.jpeg_decoder.specs.Walk.{walk_of_row, walks_of_rows}
 use Rattle.jpeg_streams.specs.ScanSegments.{components_of}
 use Rattle.jpeg_decoder.proofs.HeldBlocks.{Held}
@@ -123,7 +123,7 @@ loop-row-preserved g c =
       sizes = sizes;
       spots = later-rows (AllByRecursion (IsSpotOf (length cs) (row_sizes cs))) f l.row high
           c.loop-row-test.true l.invariant.spots;
-      growing = subst (λ (x : List Coded). IsGrowing (map coding_in x) c.append_strips.new.planes)
+      growing = subst (λ (x : List Coded). GrowsFor (map coding_in x) c.append_strips.new.planes)
           c.deref-in-loop-row.ensures.value c.in_ok-append_strips.ensures.growing;
       kind = c.in_ok-append_strips.ensures.kind ∙ l.invariant.kind;
       lengths = λ none. ap lengths made ∙ lengths-next cs (arrays_in read) planes l.row
@@ -157,7 +157,8 @@ returns-clause-sizes g c =
     let l = c.loop-row in
     let end : l.row ≡ c.in_ok-order.order.rows = omega (arith, c.loop-row-test.false, l.auto.row-end) in
     λ none. on-any c.take_marker.result (l.invariant.lengths none ∙ ap
-    (λ (k : ℕ). map (λ (x : Coded). samples_in (k * down_in x) x) cs) (end ∙ c.in_ok-order.ensures.rows)
+    (λ (k : ℕ). map (λ (x : Coded). strip_samples (k * down_in x) x) cs) (end ∙
+    c.in_ok-order.ensures.rows)
     ∙ lengths-all _ cs c.requires.fits)
 
 pub returns-clause-planes : goal.returns-clause-planes

@@ -1,7 +1,8 @@
 use Rattle.std.proofs.Common.{◌≡◌, ◌*◌, map, take}
-use Rattle.jpeg_lossless.specs.Pictures.{picture_bytes, layer_by}
+use Rattle.jpeg_lossless.specs.Pictures.{sample_picture, layer_by}
 use Rattle.jpeg_lossless.proofs.picture.write_plain.Given as goal
 
 abbrev pub invariant-loop-y : goal.invariant-loop-y
-invariant-loop-y l = take (l.y * l.line) l.image ≡ picture_bytes l.precision 1 1 l.fn.size.width l.y
+invariant-loop-y l = take (l.y * l.line) l.image ≡ sample_picture l.precision 1 1 l.fn.size.width
+    l.y
     (map (layer_by l.fn.size.width) (map (λ v. v.items) l.planes))

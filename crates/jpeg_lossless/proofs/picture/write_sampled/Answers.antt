@@ -2,7 +2,7 @@ use Rattle.std.proofs.Common.{◌≡◌, ◌*◌, ◌∙◌, ap, arith, length, 
 use Rattle.jpeg_segments.specs.Frame.{Frame}
 use Rattle.jpeg_segments.specs.FrameView.{frame_in}
 use Rattle.jpeg_lossless.specs.Pictures.{layers_of, lossless_picture}
-use Rattle.jpeg_lossless.specs.Pictures.{most_across, most_down, picture_bytes}
+use Rattle.jpeg_lossless.specs.Pictures.{most_across, most_down, sample_picture}
 use Rattle.jpeg_lossless.proofs.FilledLines.{across-wide, all-pieces, no-pieces, piece-fits}
 use Rattle.jpeg_lossless.proofs.ImageLoops.{picture-begun, picture-grown}
 use Rattle.jpeg_lossless.proofs.StretchedLines.{from-none, line_of_lines, lines_long}
@@ -28,7 +28,8 @@ pub loop-y-preserved : goal.loop-y-preserved
 loop-y-preserved c = grind (arith, common_steps, across-wide, line_of_lines, picture-grown)
 
 whole : (frame : Frame) (planes : List (List ℕ)) (h v high : ℕ) → h ≡ most_across frame → v ≡ most_down frame → high
-    ≡ frame.height → picture_bytes frame.precision h v frame.width high (layers_of frame.components planes)
+    ≡ frame.height → sample_picture frame.precision h v frame.width high (layers_of
+    frame.components planes)
     ≡ lossless_picture frame planes
 unfolding lossless_picture
 whole frame planes h v high e f g = search rules

@@ -1,5 +1,5 @@
 use Rattle.std.proofs.Common.{ℕ, ◌++◌, sym, ap, ◌∙◌}
-use Rattle.jpeg_segments.specs.WrittenSegments.{u16_bytes, sized}
+use Rattle.jpeg_segments.specs.WrittenSegments.{u16_bytes, with_length}
 use Rattle.jpeg_segments.proofs.TableSegments.{dqt, dht}
 use Rattle.jpeg_segments.proofs.OtherSegments.{dri, app}
 use Rattle.jpeg_segments.proofs.HeaderSegments.{sof, sos}
@@ -12,7 +12,8 @@ returns c = record {
   huffman = λ is_baseline bytes rest tables all e.
       let s = (dht is_baseline).only bytes rest tables all e in (s.value, s.valid, s.made, s.is);
   interval = λ bytes rest n all e.
-      let s = dri.only bytes rest n all e in s.is ∙ ap (λ (m : ℕ). sized (u16_bytes m) ++ rest) (sym s.made);
+      let s = dri.only bytes rest n all e in s.is ∙ ap (λ (m : ℕ). with_length (u16_bytes m) ++
+      rest) (sym s.made);
   application = λ number bytes rest said few all e.
       let s = (app number).only bytes rest said all e in
       (s.value, record { numbered = few; named = s.valid }, s.made, s.is);

@@ -1,5 +1,5 @@
 use Rattle.std.proofs.Common.{◌≡◌, ◌≤◌, ℕ, List, length}
-use Rattle.jpeg_segments.specs.Quantization.{dqt_at, tables_from}
+use Rattle.jpeg_segments.specs.Quantization.{dqt_at, quantization_from}
 use Rattle.jpeg_bits.proofs.Loops.{Continues}
 use Rattle.jpeg_segments.proofs.quantization.parse_dqt.Given as goal
 
@@ -7,7 +7,8 @@ abbrev pub invariant-loop-left : goal.invariant-loop-left
 invariant-loop-left g l = record {
   len : length l.tables ≡ 4;
   rest : (turns : ℕ) × (l.left ≤ turns)
-      × Continues dqt_at l.fn.reader (λ (bs : List ℕ). tables_from turns l.left l.tables bs) l.reader;
+      × Continues dqt_at l.fn.reader (λ (bs : List ℕ). quantization_from turns l.left l.tables bs)
+      l.reader;
 }
 
 abbrev pub decreases-loop-left : goal.decreases-loop-left

@@ -1,11 +1,11 @@
 use Rattle.std.proofs.Common.{arith, rules, refl}
-use Rattle.thumbnail.specs.Boxes.{line_sum}
+use Rattle.thumbnail.specs.Boxes.{box_line_sum}
 use Rattle.thumbnail.proofs.BoxSums.{sum-fits, sum-more, sum-none}
 use Rattle.thumbnail.proofs.boxes.box_sum.Goals as goal
 
 pub loop-down-init : goal.loop-down-init
 loop-down-init c =
-    let f = line_sum c.args.pixels.now c.args.reduction c.args.area c.args.component in
+    let f = box_line_sum c.args.pixels.now c.args.reduction c.args.area c.args.component in
     (rw (sum-none f) refl, omega arith)
 
 pub loop-down-preserved : goal.loop-down-preserved

@@ -1,5 +1,5 @@
 use Rattle.std.proofs.Common.{arith, rules, refl}
-use Rattle.thumbnail.specs.Boxes.{line_sum, sample_of}
+use Rattle.thumbnail.specs.Boxes.{box_line_sum, sample_of}
 use Rattle.thumbnail.proofs.BoxSums.{sum-more, sum-none}
 use Rattle.thumbnail.proofs.boxes.line_sum.Goals as goal
 
@@ -13,5 +13,5 @@ unfolding sample_of
 loop-across-preserved c = search (rules, sum-more)
 
 pub returns-clause-sum : goal.returns-clause-sum
-unfolding line_sum
+unfolding box_line_sum
 returns-clause-sum c = search rules

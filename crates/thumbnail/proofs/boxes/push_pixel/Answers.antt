@@ -1,5 +1,5 @@
 use Rattle.std.proofs.Common.{rules}
-use Rattle.thumbnail.specs.Boxes.{area_of, component_bytes, pixel_bytes}
+use Rattle.thumbnail.specs.Boxes.{area_of, component_bytes, box_pixel}
 use Rattle.thumbnail.proofs.BoxSums.{joined-more, joined-none}
 use Rattle.thumbnail.proofs.boxes.push_pixel.Goals as goal
 
@@ -17,5 +17,5 @@ loop-component-preserved c =
     c.push_sample.new.bytes.items c.loop-component.invariant more
 
 pub returns : goal.returns
-unfolding pixel_bytes
+unfolding box_pixel
 returns c = search rules

@@ -1,15 +1,15 @@
 use Rattle.std.proofs.Common.{rules, [], ◌∙◌}
-use Rattle.thumbnail.specs.Boxes.{line_bytes, reduced_bytes}
+use Rattle.thumbnail.specs.Boxes.{box_line, reduced_bytes}
 use Rattle.thumbnail.proofs.BoxSums.{joined-more, joined-none}
 use Rattle.thumbnail.proofs.boxes.reduced_bytes.Goals as goal
 
 pub loop-y-init : goal.loop-y-init
 loop-y-init c =
-    c.new-bytes.ensures.items ∙ joined-none [] (line_bytes c.args.pixels.now c.args.reduction)
+    c.new-bytes.ensures.items ∙ joined-none [] (box_line c.args.pixels.now c.args.reduction)
 
 pub loop-y-preserved : goal.loop-y-preserved
 loop-y-preserved c =
-    joined-more c.loop-y.y (line_bytes c.args.pixels.now c.args.reduction) [] c.loop-y.bytes.items
+    joined-more c.loop-y.y (box_line c.args.pixels.now c.args.reduction) [] c.loop-y.bytes.items
     c.push_line.new.bytes.items c.loop-y.invariant (c.in_ok-push_line.ensures)
 
 pub returns : goal.returns

@@ -8,7 +8,7 @@ use Rattle.jpeg_streams.specs.Stream.{told_of}
 use Rattle.zaxbriar.proofs.Fails.{argument-fails, header-fails, means-rest}
 use Rattle.zaxbriar.proofs.Means.{joined, has-left}
 use Rattle.zaxbriar.proofs.Told.{arranged-of}
-use Rattle.zaxbriar.specs.Meanings.{size_of}
+use Rattle.zaxbriar.specs.Meanings.{size_wanted}
 use Rattle.zaxbriar.proofs.decode.decode_into.Goals as goal
 
 pub returns-clause-means : goal.returns-clause-means
@@ -45,13 +45,15 @@ returns-clause-images g c bytes tells array image rest final last range w takes 
     let header = c.in_ok-header.header in
     let decodes = c.in_ok-decode_lines.ensures.decodes in
     let images = rw (read.stage, read.settings) at decodes.images in
-    let left = has-left (size_of c.args.options.now) (image ++ rest) c.read_header.new.decoder.source.bytes
+    let left = has-left (size_wanted c.args.options.now) (image ++ rest)
+    c.read_header.new.decoder.source.bytes
     c.read_header.new.decoder.found facts.1.0 (rw (same ∙ is) at facts.1.1) facts.1.2 in
     record {
       samples = decodes.samples;
       info = header.info;
       precision = header.precision;
-      are = (images (size_of c.args.options.now) array image rest final last range w takes left facts.0).pixels;
+      are = (images (size_wanted c.args.options.now) array image rest final last range w takes left
+          facts.0).pixels;
       arranged = arranged-of c.args.options.now header.info header.precision decodes.samples c.args.pixels.now
           c.decode_lines.new.pixels c.picture_of.result c.in_ok-lines.lines header.decoding_bytes.peak
           header.orientation c.in_ok-lines.ensures.lines decodes.pixels c.picture_of.ensures;

@@ -24,12 +24,13 @@ returns-in_err-reached-clause-data g c =
     let scan = c.args.scan.now in
     let cs = scan.components.items in
     let start-is = ap (λ (l : List (Vec ℕ Global)). planes_by_rows (pass_in scan.pass) (vias_in 0 cs)
-    scan.restart_interval frame (map coding_in cs) (strips.planes_in l) c.args.source.now.bytes) (sym c.new.ensures.items)
+    scan.restart_interval frame (map coding_in cs) (strips.plane_lists l) c.args.source.now.bytes)
+    (sym c.new.ensures.items)
     in
     rw (e.1, e.2) (answers-err (λ (m : Option Marker). (growing_in c.read_planes.new.planes, m))
     (λ (m : Option Marker). (f, m))
     (planes_by_rows (pass_in scan.pass) (vias_in 0 cs) scan.restart_interval frame (map coding_in cs)
-    (strips.planes_in c.new.result.items))
+    (strips.plane_lists c.new.result.items))
     (scan_data f frame (pass_in scan.pass) (map coding_in cs)) c.args.source.now c.read_planes.new.source _
     (λ fault h. again-refused-data (found_in c.args.state.now) c.args.self.now frame scan c.args.source.now.bytes
     c.requires.process c.requires.ready fault (start-is ∙ h))
@@ -51,7 +52,7 @@ returns-clause-data g c =
                 (are-decided scan.components.items _ c.requires.decided)
                 (ap (λ (l : List (Vec ℕ Global)). planes_by_rows (pass_in scan.pass) (vias_in 0 scan.components.items)
                 scan.restart_interval (frame_in c.args.frame.now) (map coding_in scan.components.items)
-                (strips.planes_in l) c.args.source.now.bytes) (sym c.new.ensures.items) ∙ at.1)
+                (strips.plane_lists l) c.args.source.now.bytes) (sym c.new.ensures.items) ∙ at.1)
                 (λ base. c.add_planes.ensures.planes base
                 ∙ ap (λ (made : List (List ℕ)). with_planes (pass_in scan.pass) (map coding_in scan.components.items) made
                 (with_decoded base (record c.args.self.now { held = c.new-2.result })))

@@ -3,9 +3,9 @@ use Rattle.std.proofs.Common.{Vec, Global, take, drop, ◌++◌, true, false, ar
 use Rattle.std.proofs.lemmas.List.{length-map}
 use Rattle.std.proofs.lemmas.Result.{err_from_is_err_and}
 use Rattle.jpeg_lossless.specs.Differences.{differences, mcu_tables, row_tables}
-use Rattle.jpeg_lossless.specs.Rows.{planes_after_rows, with_row}
+use Rattle.jpeg_lossless.specs.Rows.{planes_after_rows, with_mcu_row}
 use Rattle.jpeg_lossless.specs.Codings.{part_in, way_by}
-use Rattle.jpeg_lossless.specs.Scans.{mcu_size}
+use Rattle.jpeg_lossless.specs.Scans.{samples_an_mcu}
 use Rattle.jpeg_bits.specs.Codes.{Table}
 use Rattle.jpeg_bits.specs.declared.scan.Predictor.{Predictor}
 use Rattle.jpeg_lossless.proofs.Leaves.{Leaves-step, Leaves-refused}
@@ -52,11 +52,12 @@ loop-left-preserved g c =
     let same : next ≡ map (λ v. v.items) c.add_row.new.planes = ap (map (λ v. v.items)) held in
     let row = c.read_row.new.row.items in
     let grid = λ (l : List (Vec ℕ Global)). map (λ v. v.items) l in
-    let size : length c.as_slice-tables.result.now ≡ mcu_size v =
+    let size : length c.as_slice-tables.result.now ≡ samples_an_mcu v =
     sym (length-map c.as_slice-tables.result.now (λ t. t.now)) ∙ ap (λ (l : List Table). length l) listed in
     let made : Predictor → ℕ → Bool → ℕ → ℕ → List ℕ → List (Vec ℕ Global) → List (List ℕ) =
-    λ p s f n k r l. with_row p s f n k r 0 parts (grid l) in
-    let grown : next ≡ with_row v.selection v.start first v.wide (mcu_size v) row 0 parts planes
+    λ p s f n k r l. with_mcu_row p s f n k r 0 parts (grid l) in
+    let grown : next ≡ with_mcu_row v.selection v.start first v.wide (samples_an_mcu v) row 0 parts
+    planes
     = search rules in
     record {
       count = ap length held ∙ c.add_row.ensures.count ∙ ap length back ∙ c.loop-left.invariant.count;
