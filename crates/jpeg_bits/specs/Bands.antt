@@ -85,6 +85,4 @@ first_ac table al (suc n) (x ∷ rest) =
 -- the zeros of a value are within the room
 abbrev pub IsWithinRoom : ℕ → Token → Type 0
 IsWithinRoom room (Value r v) = r < room
-IsWithinRoom room Sixteen = Unit {0}
-IsWithinRoom room (Rest run) = Unit {0}
-IsWithinRoom room Overlong = Unit {0}
+IsWithinRoom room _ = Unit {0}

@@ -116,10 +116,8 @@ fast_from table t = read_on short_value (short_code_from table t)
 -- why a table is refused
 abbrev pub RefusesCodes : Error → List ℕ → Type 0
 RefusesCodes (errors.Format text) lengths = HasCodes lengths → ⊥
-RefusesCodes (errors.Unsupported feature) lengths = ⊥
-RefusesCodes (errors.Io e) lengths = ⊥
-RefusesCodes (errors.Internal text) lengths = ⊥
 RefusesCodes errors.OutOfMemory lengths = Unit {0}
+RefusesCodes _ lengths = ⊥
 
 -- p holds of each number below n
 abbrev pub all_below : (ℕ → Bool) → ℕ → Bool

@@ -38,19 +38,15 @@ Names errors.OutOfMemory outcome = Unit {0}
 abbrev pub MayFail : Error → Bool → Bool → Type 0
 MayFail (errors.Io e) old new =
     (old ≡ true → new ≡ true) × (new ≡ false → error_kind e ≡ UnexpectedEof)
-MayFail (errors.Format text) old new = new ≡ old
-MayFail (errors.Unsupported feature) old new = new ≡ old
 MayFail (errors.Internal text) old new = ⊥
-MayFail errors.OutOfMemory old new = new ≡ old
+MayFail _ old new = new ≡ old
 
 -- why a source is known no more: a failed read, or interruptions without end, whose refusal has no
 -- text
 abbrev pub IsGivenUp : Error → Bool → Type 0
 IsGivenUp (errors.Io e) failed = failed ≡ true
 IsGivenUp (errors.Format text) failed = string_bytes text ≡ []
-IsGivenUp (errors.Unsupported feature) failed = ⊥
-IsGivenUp (errors.Internal text) failed = ⊥
-IsGivenUp errors.OutOfMemory failed = ⊥
+IsGivenUp _ failed = ⊥
 
 -- known bytes are fewer than 2 ^ 64
 abbrev pub IsShort : Stream → Type 0
@@ -74,17 +70,12 @@ next_byte (b ∷ bs) = Ok (b, bs)
 -- what a refusal of a broken rule is: its text, or `OutOfMemory`
 abbrev pub NamesFormat : Error → Type 0
 NamesFormat (errors.Format text) = Unit {0}
-NamesFormat (errors.Unsupported feature) = ⊥
-NamesFormat (errors.Io e) = ⊥
-NamesFormat (errors.Internal text) = ⊥
 NamesFormat errors.OutOfMemory = Unit {0}
+NamesFormat _ = ⊥
 
 abbrev pub NamesEnd : Error → Type 0
-NamesEnd (errors.Format text) = ⊥
-NamesEnd (errors.Unsupported feature) = ⊥
 NamesEnd (errors.Io e) = error_kind e ≡ UnexpectedEof
-NamesEnd (errors.Internal text) = ⊥
-NamesEnd errors.OutOfMemory = ⊥
+NamesEnd _ = ⊥
 
 -- One read into a buffer took the front of the bytes, and none only at their end.
 abbrev pub ReadsSome : Stream → Result ℕ Error → List ℕ → Stream → Type 0

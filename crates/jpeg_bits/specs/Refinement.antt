@@ -8,8 +8,7 @@ use Rattle.jpeg_bits.specs.Bands.{Band, before_more}
 
 abbrev pub is_zero : ℤ → Bool
 is_zero (pos zero) = true
-is_zero (pos (suc n)) = false
-is_zero (negsuc n) = false
+is_zero _ = false
 
 -- bit al of a number's two's complement.
 abbrev pub bit_of : ℕ → ℤ → ℕ

@@ -27,9 +27,8 @@ HasBytes f pixels =
     length pixels ≡ (info_of f).width * (info_of f).height * bytes_a_pixel (info_of f).pixel_format
 
 abbrev pub HasBytesBy : CodingProcess → Frame → List ℕ → Type 0
-HasBytesBy DctSequential f pixels = HasBytes f pixels
-HasBytesBy DctProgressive f pixels = HasBytes f pixels
 HasBytesBy Lossless f pixels = Unit {0}
+HasBytesBy _ f pixels = HasBytes f pixels
 
 -- A picture has the bytes that its frame says, and one of blocks those that its format says.
 abbrev pub IsWhole : Option Frame → List ℕ → Type 0
@@ -65,9 +64,8 @@ coefficient_bytes Lossless c = 0
 -- the plane of a component: the samples of all its blocks, or those of a lossless one, two bytes
 -- each
 abbrev pub plane_bytes : CodingProcess → Component → ℕ
-plane_bytes DctSequential c = c.blocks_wide * c.scale * (c.blocks_high * c.scale)
-plane_bytes DctProgressive c = c.blocks_wide * c.scale * (c.blocks_high * c.scale)
 plane_bytes Lossless c = 2 * (c.width * c.height)
+plane_bytes _ c = c.blocks_wide * c.scale * (c.blocks_high * c.scale)
 
 -- those of all components
 unfoldable pub sum_of : (Component → ℕ) → List Component → ℕ
@@ -76,9 +74,8 @@ sum_of bytes (c ∷ more) = bytes c + sum_of bytes more
 
 -- The picture beside its planes: the one plane of a frame of blocks becomes the picture itself.
 abbrev pub beside_planes : CodingProcess → Frame → ℕ
-beside_planes DctSequential f = if length f.components == 1 then 0 else picture_size f
-beside_planes DctProgressive f = if length f.components == 1 then 0 else picture_size f
 beside_planes Lossless f = picture_size f
+beside_planes _ f = if length f.components == 1 then 0 else picture_size f
 
 -- The blocks that are read, the planes and the picture, and the most of them at a time: blocks and
 -- planes while scans are read, and planes and picture at the end.

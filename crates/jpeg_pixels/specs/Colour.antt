@@ -46,10 +46,7 @@ colour_of converts.Ycck samples =
 -- whether the components of a row stand one after the other, and not pixel by pixel
 abbrev pub is_by_component : ColorConvert → Bool
 is_by_component converts.None = true
-is_by_component converts.Rgb = false
-is_by_component converts.YCbCr = false
-is_by_component converts.Cmyk = false
-is_by_component converts.Ycck = false
+is_by_component _ = false
 
 -- The bytes of a line of the picture, by the lines of its components: pixel by pixel, or without a
 -- conversion component after component.
@@ -67,7 +64,6 @@ conversion_of count transforms.RGB = if count == 3 then Ok converts.Rgb else Err
 conversion_of count transforms.YCbCr = if count == 3 then Ok converts.YCbCr else Err Malformed
 conversion_of count transforms.CMYK = if count == 4 then Ok converts.Cmyk else Err Malformed
 conversion_of count transforms.YCCK = if count == 4 then Ok converts.Ycck else Err Malformed
-conversion_of count transforms.Grayscale = Err Malformed
-conversion_of count transforms.Unknown = Err Malformed
 conversion_of count transforms.JcsBgYcc = Err (Lacks (features.ColorTransform transforms.JcsBgYcc))
 conversion_of count transforms.JcsBgRgb = Err (Lacks (features.ColorTransform transforms.JcsBgRgb))
+conversion_of count _ = Err Malformed

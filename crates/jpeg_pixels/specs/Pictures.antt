@@ -55,10 +55,9 @@ line_of s plane width row = map (λ x. upsampled s.rule (λ i j. slice_index pla
     s.width s.height x row) (range_with_len 0 width)
 
 unfoldable pub lines_of : List Source → List (List ℕ) → ℕ → ℕ → List (List ℕ)
-lines_of [] planes width row = []
-lines_of (s ∷ sources) [] width row = []
 lines_of (s ∷ sources) (plane ∷ planes) width row =
     line_of s plane width row ∷ lines_of sources planes width row
+lines_of _ _ width row = []
 
 -- a line of the picture
 unfoldable pub picture_line : ColorConvert → List Source → List (List ℕ) → ℕ → ℕ → List ℕ

@@ -124,14 +124,12 @@ predictor_by (suc (suc (suc (suc (suc (suc zero)))))) = RaRbRc3
 predictor_by (suc (suc (suc (suc (suc (suc (suc n))))))) = RaRb
 
 abbrev pub predictor_of : CodingProcess → ℕ → Predictor
-predictor_of DctSequential first = NoPrediction
-predictor_of DctProgressive first = NoPrediction
 predictor_of Lossless first = predictor_by first
+predictor_of _ first = NoPrediction
 
 abbrev pub after_of : CodingProcess → ℕ → ℕ
 after_of DctSequential last = 64
-after_of DctProgressive last = last + 1
-after_of Lossless last = last + 1
+after_of _ last = last + 1
 
 unfoldable pub scan_of : Frame → List Selector → ℕ → ℕ → ℕ → Scan
 scan_of frame selectors first last levels = record {

@@ -70,10 +70,7 @@ IsTransformOf count transforms.RGB = count ≡ 3
 IsTransformOf count transforms.YCbCr = count ≡ 3
 IsTransformOf count transforms.CMYK = count ≡ 4
 IsTransformOf count transforms.YCCK = count ≡ 4
-IsTransformOf count transforms.Grayscale = ⊥
-IsTransformOf count transforms.Unknown = ⊥
-IsTransformOf count transforms.JcsBgYcc = ⊥
-IsTransformOf count transforms.JcsBgRgb = ⊥
+IsTransformOf count _ = ⊥
 
 -- A picture of several components can have the transform that is set, or else that its segments and
 -- the components' identifiers say.

@@ -14,11 +14,8 @@ identifiers_of components = map (λ c. c.factors.identifier) components
 
 -- whether there are three identifiers, and they are these
 abbrev pub are_three : ℕ → ℕ → ℕ → List ℕ → Bool
-are_three a b c [] = false
-are_three a b c (x ∷ []) = false
-are_three a b c (x ∷ y ∷ []) = false
 are_three a b c (x ∷ y ∷ z ∷ []) = x == a && (y == b && z == c)
-are_three a b c (x ∷ y ∷ z ∷ w ∷ more) = false
+are_three a b c _ = false
 
 -- by the identifiers of three components: 1, 2, 3 of JFIF; 1, 34, 35 and the letters rgb of wide
 -- gamuts; the letters RGB

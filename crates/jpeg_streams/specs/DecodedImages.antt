@@ -28,11 +28,9 @@ at_size (AtLeast width height) found = sized_to width height found
 -- header, which was found, and then its frame may be at a scale.
 abbrev pub HasLeft : Size → List ℕ → Stage → Found → List ℕ → Type 0
 HasLeft FullSize bytes Fresh found left = left ≡ bytes
-HasLeft (AtLeast width height) bytes Fresh found left = ⊥
 HasLeft size bytes HeaderRead found left =
     (header : Found) × (header_at bytes ≡ Ok (header, left)) × (found ≡ at_size size header)
-HasLeft size bytes Finished found left = ⊥
-HasLeft size bytes Failed found left = ⊥
+HasLeft _ bytes _ found left = ⊥
 
 -- ---- what is given
 

@@ -69,9 +69,8 @@ samples_picture found frame = do
   Ok (lossless_picture frame planes)
 
 abbrev pub picture_by_process : CodingProcess → Settings → Found → Frame → Result (List ℕ) Fault
-picture_by_process DctSequential settings found frame = blocks_picture settings found frame
-picture_by_process DctProgressive settings found frame = blocks_picture settings found frame
 picture_by_process Lossless settings found frame = samples_picture found frame
+picture_by_process _ settings found frame = blocks_picture settings found frame
 
 -- The picture of what was found: within the limit, of planes that are there.
 unfoldable pub picture_of : Settings → Found → Result (List ℕ) Fault

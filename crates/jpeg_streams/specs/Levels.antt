@@ -52,9 +52,8 @@ cut_ac c None = pos 0
 cut_ac c (Some a) = toward_zero a c *ℤ pos (2 ^ a)
 
 unfoldable pub cut_acs : List ℤ → List (Option ℕ) → List ℤ
-cut_acs [] levels = []
-cut_acs (c ∷ cs) [] = []
 cut_acs (c ∷ cs) (l ∷ levels) = cut_ac c l ∷ cut_acs cs levels
+cut_acs _ _ = []
 
 -- A block, cut at the bits that were sent.
 abbrev pub cut : Levels → Block → Block

@@ -47,17 +47,14 @@ TakesBeginning old new text = (taken : List ℕ) × (rest : List ℕ) × (text �
 abbrev pub IsOutside : Error → Type 0
 IsOutside (Io error) = Unit {0}
 IsOutside (Format text) = string_bytes text ≡ []
-IsOutside OutOfMemory = ⊥
-IsOutside (Unsupported feature) = ⊥
-IsOutside (Internal text) = ⊥
+IsOutside _ = ⊥
 
 -- out of memory, or an error of the reader or the writer
 abbrev pub IsOutsideOrMemory : Error → Type 0
 IsOutsideOrMemory (Io error) = Unit {0}
 IsOutsideOrMemory (Format text) = string_bytes text ≡ []
 IsOutsideOrMemory OutOfMemory = Unit {0}
-IsOutsideOrMemory (Unsupported feature) = ⊥
-IsOutsideOrMemory (Internal text) = ⊥
+IsOutsideOrMemory _ = ⊥
 
 -- the fault of these bytes by its name, or an error of the reader or the writer, or out of memory
 abbrev pub NamesOrOutside : List ℕ → Error → Type 0

@@ -39,9 +39,8 @@ use Rattle.jpeg_streams.specs.Segments.{Turn, onward}
 -- ---- scans
 
 abbrev pub is_progressive : CodingProcess → Bool
-is_progressive DctSequential = false
 is_progressive DctProgressive = true
-is_progressive Lossless = false
+is_progressive _ = false
 
 -- what a scan codes
 unfoldable pub pass_of : Scan → Pass
@@ -238,9 +237,8 @@ lossless_scan found frame scan bytes = do
   Ok (scan_turn found (after_samples found codings read.0.0) met.0, met.1)
 
 abbrev pub scan_by : CodingProcess → Found → Frame → Scan → List ℕ → Outcome Turn
-scan_by DctSequential found frame scan bytes = blocks_scan found frame scan bytes
-scan_by DctProgressive found frame scan bytes = blocks_scan found frame scan bytes
 scan_by Lossless found frame scan bytes = lossless_scan found frame scan bytes
+scan_by _ found frame scan bytes = blocks_scan found frame scan bytes
 
 unfoldable pub scan_segment : Found → List ℕ → Outcome Turn
 scan_segment found bytes = do

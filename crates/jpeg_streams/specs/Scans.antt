@@ -22,9 +22,8 @@ put_block s b arrays = set arrays s.slot (set (get_or arrays s.slot []) s.index 
 
 -- blocks put at their spots, one after the other
 unfoldable pub put_blocks : List Spot → List Block → Arrays → Arrays
-put_blocks [] blocks arrays = arrays
-put_blocks (s ∷ spots) [] arrays = arrays
 put_blocks (s ∷ spots) (b ∷ blocks) arrays = put_blocks spots blocks (put_block s b arrays)
+put_blocks _ _ arrays = arrays
 
 -- the blocks of a component in which nothing was read yet
 abbrev pub zero_of : Component → List Block

@@ -47,9 +47,8 @@ with_huffman old new = record { dc = updated old.dc new.dc; ac = updated old.ac 
 
 -- a precision that the process can be decoded at: 8 bits, or in a lossless frame 2 to 16
 abbrev pub is_decoded_precision : CodingProcess → ℕ → Bool
-is_decoded_precision DctSequential precision = precision == 8
-is_decoded_precision DctProgressive precision = precision == 8
 is_decoded_precision Lossless precision = nat_le 2 precision && nat_le precision 16
+is_decoded_precision _ precision = precision == 8
 
 abbrev pub is_arithmetic : EntropyCoding → Bool
 is_arithmetic Huffman = false

@@ -25,18 +25,12 @@ pub record Decoding : Type 0 where
 -- an error of a state
 abbrev pub IsInternal : Error → Type 0
 IsInternal (errors.Internal text) = Unit {0}
-IsInternal (errors.Format text) = ⊥
-IsInternal (errors.Unsupported feature) = ⊥
-IsInternal (errors.Io error) = ⊥
-IsInternal errors.OutOfMemory = ⊥
+IsInternal _ = ⊥
 
 -- an error that is none of a state
 abbrev pub IsOfBytes : Error → Type 0
 IsOfBytes (errors.Internal text) = ⊥
-IsOfBytes (errors.Format text) = Unit {0}
-IsOfBytes (errors.Unsupported feature) = Unit {0}
-IsOfBytes (errors.Io error) = Unit {0}
-IsOfBytes errors.OutOfMemory = Unit {0}
+IsOfBytes _ = Unit {0}
 
 -- ---- the state table
 
@@ -50,57 +44,46 @@ MovesToHeader Failed new result = (new ≡ Failed) × IsErrAnd result IsInternal
 
 -- the column for decoding
 abbrev pub MovesToEnd : {X : Type 0} → Stage → Stage → Result X Error → Type 0
-MovesToEnd Fresh new (Ok x) = new ≡ Finished
-MovesToEnd Fresh new (Err e) = (new ≡ Failed) × IsOfBytes e
-MovesToEnd HeaderRead new (Ok x) = new ≡ Finished
-MovesToEnd HeaderRead new (Err e) = (new ≡ Failed) × IsOfBytes e
 MovesToEnd Finished new result = (new ≡ Finished) × IsErrAnd result IsInternal
 MovesToEnd Failed new result = (new ≡ Failed) × IsErrAnd result IsInternal
+MovesToEnd _ new (Ok x) = new ≡ Finished
+MovesToEnd _ new (Err e) = (new ≡ Failed) × IsOfBytes e
 
 -- a state in which a stream is read
 abbrev pub IsReading : Stage → Type 0
 IsReading Fresh = Unit {0}
 IsReading HeaderRead = Unit {0}
-IsReading Finished = ⊥
-IsReading Failed = ⊥
+IsReading _ = ⊥
 
 -- a state in which a header was read
 abbrev pub HasHeader : Stage → Type 0
-HasHeader Fresh = ⊥
 HasHeader HeaderRead = Unit {0}
 HasHeader Finished = Unit {0}
-HasHeader Failed = ⊥
+HasHeader _ = ⊥
 
 -- the meaning of what lies ahead of a decoder: a whole stream, or the rest of one after its header
 abbrev pub ahead : Stage → Settings → Found → List ℕ → Outcome (Told × List ℕ)
 ahead Fresh settings found bytes = meaning settings bytes
-ahead HeaderRead settings found bytes = rest_at settings found bytes
-ahead Finished settings found bytes = rest_at settings found bytes
-ahead Failed settings found bytes = rest_at settings found bytes
+ahead _ settings found bytes = rest_at settings found bytes
 
 -- what has been said by the end, or the refusal, of what lies ahead
 abbrev pub told_ahead : Bool → Stage → Found → List ℕ → Told
 told_ahead header Fresh found bytes = told_by_stream header bytes
 told_ahead header HeaderRead found bytes = told_rest header found bytes
-told_ahead header Finished found bytes = told_of found
-told_ahead header Failed found bytes = told_of found
+told_ahead header _ found bytes = told_of found
 
 -- what this many turns of what lies ahead have said
 abbrev pub turns_ahead : ℕ → Bool → Stage → Found → List ℕ → Told
 turns_ahead turns header Fresh found bytes = told_by_turns turns header bytes
 turns_ahead turns header HeaderRead found bytes = told_in_turns turns header found bytes
-turns_ahead turns header Finished found bytes = told_of found
-turns_ahead turns header Failed found bytes = told_of found
+turns_ahead turns header _ found bytes = told_of found
 
 -- ---- calls that read
 
 -- a fact, unless memory ran out
 abbrev pub IfRefused : Error → Type 0 → Type 0
 IfRefused errors.OutOfMemory P = Unit {0}
-IfRefused (errors.Internal text) P = P
-IfRefused (errors.Format text) P = P
-IfRefused (errors.Unsupported feature) P = P
-IfRefused (errors.Io error) P = P
+IfRefused _ P = P
 
 -- Where the bytes of a source were known to the end of a call, and memory was found, the call left
 -- a fact.

@@ -30,14 +30,12 @@ end_segment found bytes = if is_some found.frame
 -- A restart marker after a scan is ignored, once.
 abbrev pub stray_restart : Before → Found → List ℕ → Outcome Turn
 stray_restart Elsewhere found bytes = Err Malformed
-stray_restart FirstScan found bytes = Ok (onward found, bytes)
-stray_restart LaterScan found bytes = Ok (onward found, bytes)
+stray_restart _ found bytes = Ok (onward found, bytes)
 
 -- A DNL segment after the first scan would give the height.
 abbrev pub line_count : Before → Outcome Turn
 line_count FirstScan = Err (Lacks features.DNL)
-line_count LaterScan = Err Malformed
-line_count Elsewhere = Err Malformed
+line_count _ = Err Malformed
 
 -- After a marker. SOI, TEM, RES, JPG and JPGn have no place here.
 unfoldable pub segment_at : Marker → Before → Found → List ℕ → Outcome Turn
