@@ -48,30 +48,33 @@ IsLast Overlong run = run ≡ 0
 module _ (table : Table) (al : ℕ) (whole : Reads Band) (a b d : Ahead) (old cur new : Stream) (front : List ℤ) (n : ℕ)
     (x : ℤ) (rest : List ℤ) (left : Leaves whole a old (after_front front (first_ac table al (suc n) (x ∷ rest))) b cur)
   where
-    abbrev places : List ℤ
-    places = x ∷ rest
+    abbrev numbers : List ℤ
+    numbers = x ∷ rest
 
     abbrev Gives : Result Token Error → Type 0
     Gives r = Takes (λ (t : Token). t) (token_from table (length (x ∷ rest))) b cur r d new
 
     -- what a token leaves to read
     step : (k : Token) → Gives (Ok k)
-        → Leaves whole a old (after_front front (after_token al (first_ac table al n) places k)) d new
+        → Leaves whole a old (after_front front (after_token al (first_ac table al n) numbers k)) d
+        new
     step k q = grind (arith, first_ac-token)
 
     pub Leaves-value : (r : ℕ) (v : ℤ) → Gives (Ok (Value r v))
-        → Leaves whole a old (after_front (front ++ (take r places ++ wrapped (v *ℤ pos (2 ^ al)) ∷ []))
-        (first_ac table al n (drop (r + 1) places))) d new
+        → Leaves whole a old (after_front (front ++ (take r numbers ++ wrapped (v *ℤ pos (2 ^ al))
+        ∷ []))
+        (first_ac table al n (drop (r + 1) numbers))) d new
     Leaves-value r v q =
         let s = step (Value r v) q in grind (arith, common_steps, nat_tests, joined)
 
     pub Leaves-sixteen : Gives (Ok Sixteen)
-        → Leaves whole a old (after_front (front ++ take 16 places) (first_ac table al n (drop 16 places))) d new
+        → Leaves whole a old (after_front (front ++ take 16 numbers) (first_ac table al n (drop 16
+        numbers))) d new
     Leaves-sixteen q =
         let s = step Sixteen q in grind (arith, common_steps, nat_tests, joined)
 
     pub Leaves-last : (k : Token) (run : ℕ) → IsLast k run → Gives (Ok k)
-        → Leaves whole a old (λ (t : Text). Ok ((front ++ places, run), t)) d new
+        → Leaves whole a old (λ (t : Text). Ok ((front ++ numbers, run), t)) d new
     Leaves-last (Value r v) run last q = absurd last
     Leaves-last Sixteen run last q = absurd last
     Leaves-last (Rest n) run last q = let s = step (Rest n) q in rw last s
@@ -102,7 +105,7 @@ module _ (table : Table) (al : ℕ) (whole : Reads Band) (a b d : Ahead) (old cu
   pub parts : Parts table al whole a old band at b cur
   parts = go p.0 (drop at band) refl p.1 p.2
     where
-      go : (turns : ℕ) (places : List ℤ) → drop at band ≡ places → length band - at ≤ turns
+      go : (turns : ℕ) (numbers : List ℤ) → drop at band ≡ numbers → length band - at ≤ turns
           → Leaves whole a old (after_front (take at band) (first_ac table al turns (drop at band))) b cur
           → Parts table al whole a old band at b cur
       go turns [] e h t = absurd (omega (arith, ap length e, length-drop at band))
@@ -140,9 +143,9 @@ module _ (table : Table) (al : ℕ) (whole : Reads Band) (a b d : Ahead) (old cu
       ∙ ap (λ (l : List ℤ). l ++ value ∷ []) (sym (take-add at r band))
       ∙ ap (λ (z : ℤ). take (at + r) band ++ z ∷ []) (sym is)
       ∙ sym (take_more_set band (at + r) w (omega arith)) in
-      let place : at + (r + 1) ≡ at + r + 1 = omega arith in
+      let index : at + (r + 1) ≡ at + r + 1 = omega arith in
       let back : drop (r + 1) (m.x ∷ m.rest) ≡ drop (at + r + 1) (set band (at + r) w)
-      = ap (drop (r + 1)) (sym m.is) ∙ drop-drop (r + 1) at band ∙ ap (λ (k : ℕ). drop k band) place
+      = ap (drop (r + 1)) (sym m.is) ∙ drop-drop (r + 1) at band ∙ ap (λ (k : ℕ). drop k band) index
       ∙ sym (drop-set-lt (at + r + 1) band (at + r) w (omega arith)) in
       let room = m.room in grind (arith, common_steps, nat_tests, length-set)
 

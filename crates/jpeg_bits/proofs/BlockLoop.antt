@@ -19,16 +19,17 @@ use Rattle.jpeg_bits.proofs.BandSteps.{Leaves-buffered}
 use Rattle.jpeg_bits.proofs.ZigzagParts.{band-length, part-set}
 
 -- the band of a block is written up to a zigzag place
-abbrev pub IsAtPlace : Table → Pass → Reads Band → Ahead → Stream → List ℤ → ℕ → Ahead → Stream → Type 0
-IsAtPlace table p whole a old block at b cur =
+abbrev pub IsAtIndex : Table → Pass → Reads Band → Ahead → Stream → List ℤ → ℕ → Ahead → Stream →
+    Type 0
+IsAtIndex table p whole a old block at b cur =
     IsAt table p.al whole a old (band_in p block) (at - band_start p) b cur
 
 -- after bits were buffered
 module _ (table : Table) (p : Pass) (whole : Reads Band) (a b m d : Ahead) (old cur mid new : Stream) (block : List ℤ)
     (at end : ℕ) (is : IsPass p) (e : end ≡ band_end p) (from : band_start p ≤ at) (lt : at < end)
-    (before : IsAtPlace table p whole a old block at b cur)
+    (before : IsAtIndex table p whole a old block at b cur)
     (buffered : Takes (λ (u : Unit {0}). 0) same_text b cur (Ok tt) m mid) where
-  here : IsAtPlace table p whole a old block at m mid
+  here : IsAtIndex table p whole a old block at m mid
   here =
       let n = at - band_start p in (
         before.0,
@@ -37,62 +38,69 @@ module _ (table : Table) (p : Pass) (whole : Reads Band) (a b m d : Ahead) (old 
             (drop n (band_in p block)))) a b m old cur mid before.2 buffered,
       )
 
-  abbrev place : ℕ
-  place = at - band_start p
+  abbrev index : ℕ
+  index = at - band_start p
 
-  within : place < length (band_in p block)
+  within : index < length (band_in p block)
   within = let h = band-length p block is in let order = is.order in omega arith
 
-  room : end - at ≡ length (band_in p block) - place
+  room : end - at ≡ length (band_in p block) - index
   room = let h = band-length p block is in let order = is.order in omega arith
 
   abbrev Gives : Result Token Error → Type 0
   Gives r = Takes (λ (t : Token). t) (token_from table (end - at)) m mid r d new
 
   token : (r : Result Token Error) → Gives r
-      → Takes (λ (t : Token). t) (token_from table (length (band_in p block) - place)) m mid r d new
+      → Takes (λ (t : Token). t) (token_from table (length (band_in p block) - index)) m mid r d new
   token r q = rw room at q
 
-  pub place-value : (r : ℕ) (v w : ℤ) → length block ≡ 64 → r < end - at → w ≡ wrapped (v *ℤ pos (2 ^ p.al))
+  pub index-value : (r : ℕ) (v w : ℤ) → length block ≡ 64 → r < end - at → w ≡ wrapped (v *ℤ pos (2
+      ^ p.al))
       → Gives (Ok (Value r v))
-      → IsAtPlace table p whole a old (set block (get_or zigzag (at + r) 0) w) (at + r + 1) d new
-  place-value r v w n few same q =
+      → IsAtIndex table p whole a old (set block (get_or zigzag (at + r) 0) w) (at + r + 1) d new
+  index-value r v w n few same q =
       let last = is.end in
-      let next : at + r + 1 - band_start p ≡ place + r + 1 = omega arith in
-      let here' : at + r - band_start p ≡ place + r = omega arith in
-      let put : band_in p (set block (get_or zigzag (at + r) 0) w) ≡ set (band_in p block) (place + r) w =
+      let next : at + r + 1 - band_start p ≡ index + r + 1 = omega arith in
+      let here' : at + r - band_start p ≡ index + r = omega arith in
+      let put : band_in p (set block (get_or zigzag (at + r) 0) w) ≡ set (band_in p block) (index +
+      r) w =
       part-set (band_start p) (band_end p) (at + r) block w n (omega arith) (omega arith) (omega arith)
       ∙ ap (λ (k : ℕ). set (band_in p block) k w) here' in
-      rw (next, put) (IsAt-value table p.al whole a m d old mid new (band_in p block) place within here r v w
+      rw (next, put) (IsAt-value table p.al whole a m d old mid new (band_in p block) index within
+      here r v w
       (omega (arith, room)) same (token (Ok (Value r v)) q))
 
-  pub place-sixteen : Gives (Ok Sixteen) → IsAtPlace table p whole a old block (at + 16) d new
-  place-sixteen q =
-      let next : at + 16 - band_start p ≡ place + 16 = omega arith in
-      rw next (IsAt-sixteen table p.al whole a m d old mid new (band_in p block) place within here
+  pub index-sixteen : Gives (Ok Sixteen) → IsAtIndex table p whole a old block (at + 16) d new
+  index-sixteen q =
+      let next : at + 16 - band_start p ≡ index + 16 = omega arith in
+      rw next (IsAt-sixteen table p.al whole a m d old mid new (band_in p block) index within here
       (token (Ok Sixteen) q))
 
-  pub place-all : end - at ≤ 16 → Gives (Ok Sixteen) → IsAtPlace table p whole a old block end d new
-  place-all few q =
+  pub index-all : end - at ≤ 16 → Gives (Ok Sixteen) → IsAtIndex table p whole a old block end d new
+  index-all few q =
       let all = band-length p block is in
       let order = is.order in
       let next : end - band_start p ≡ length (band_in p block) = omega arith in
-      rw next (IsAt-all table p.al whole a m d old mid new (band_in p block) place within here (omega (arith, room))
+      rw next (IsAt-all table p.al whole a m d old mid new (band_in p block) index within here
+      (omega (arith, room))
       (token (Ok Sixteen) q))
 
-  pub place-last : (k : Token) (run : ℕ) → IsLast k run → Gives (Ok k)
+  pub index-last : (k : Token) (run : ℕ) → IsLast k run → Gives (Ok k)
       → Takes (λ (run : ℕ). (band_in p block, run)) whole a old (Ok run) d new
-  place-last k run last q =
-      IsAt-last table p.al whole a m d old mid new (band_in p block) place within here k run last (token (Ok k) q)
+  index-last k run last q =
+      IsAt-last table p.al whole a m d old mid new (band_in p block) index within here k run last
+      (token (Ok k) q)
 
-  pub place-refused : (x : Error) → Gives (Err x) → Takes (λ (run : ℕ). (band_in p block, run)) whole a old (Err x) d new
-  place-refused x q =
-      IsAt-refused table p.al whole a m d old mid new (band_in p block) place within here
+  pub index-refused : (x : Error) → Gives (Err x) → Takes (λ (run : ℕ). (band_in p block, run))
+      whole a old (Err x) d new
+  index-refused x q =
+      IsAt-refused table p.al whole a m d old mid new (band_in p block) index within here
       (λ (run : ℕ). (band_in p block, run)) x (token (Err x) q)
 
-pub place-none : (table : Table) (p : Pass) (whole : Reads Band) (a b : Ahead) (old new : Stream) (block : List ℤ)
-    (at : ℕ) → IsPass p → band_end p ≤ at → IsAtPlace table p whole a old block at b new
+pub index-none : (table : Table) (p : Pass) (whole : Reads Band) (a b : Ahead) (old new : Stream)
+    (block : List ℤ)
+    (at : ℕ) → IsPass p → band_end p ≤ at → IsAtIndex table p whole a old block at b new
     → Takes (λ (run : ℕ). (band_in p block, run)) whole a old (Ok 0) b new
-place-none table p whole a b old new block at is end h =
+index-none table p whole a b old new block at is end h =
     IsAt-none table p.al whole a b old new (band_in p block) (at - band_start p)
     (let l = band-length p block is in let order = is.order in omega arith) h

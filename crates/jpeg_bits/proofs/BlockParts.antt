@@ -64,17 +64,21 @@ pub band_refused : (p : Pass) (table : Table) (band : List ℤ) (run : ℕ) (t :
 band_refused p table band run t fault f some h e = grind (arith, corrected-part)
 
 -- a pass has no band where it is of DC alone
-pub no_places : (ss se : ℕ) (block : List ℤ) → ss ≤ se → se ≤ 63 → se ≡ 0
+pub no_indices : (ss se : ℕ) (block : List ℤ) → ss ≤ se → se ≤ 63 → se ≡ 0
     → length (zigzag_part (ss - 1 + 1) (se + 1) block) ≡ 0
-no_places ss se block order end none = omega (arith, part-length (ss - 1 + 1) (se + 1) block (omega arith))
+no_indices ss se block order end none = omega (
+  arith,
+  part-length (ss - 1 + 1) (se + 1) block
+      (omega arith),
+)
 
-pub some_places : (ss se : ℕ) (block : List ℤ) → ss ≤ se → se ≤ 63 → (se ≡ 0 → ⊥)
+pub some_indices : (ss se : ℕ) (block : List ℤ) → ss ≤ se → se ≤ 63 → (se ≡ 0 → ⊥)
     → 0 < length (zigzag_part (ss - 1 + 1) (se + 1) block)
-some_places ss se block order end some = omega (arith, pos-of-ne, part-length)
+some_indices ss se block order end some = omega (arith, pos-of-ne, part-length)
 
 pub ruleset band_rules = (
-  no_places,
-  some_places,
+  no_indices,
+  some_indices,
   band_none,
   band_run,
   band_first,

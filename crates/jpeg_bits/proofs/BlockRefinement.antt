@@ -9,7 +9,7 @@ use Rattle.jpeg_bits.specs.Bands.{Band}
 use Rattle.jpeg_bits.specs.Passes.{Pass}
 use Rattle.jpeg_bits.specs.Pieces.{corrected_at, piece_from, refinement_from, refined_band_from}
 use Rattle.jpeg_bits.specs.Readers.{Reads}
-use Rattle.jpeg_bits.specs.Refusals.{answer_of, outcome_of, held_refusal}
+use Rattle.jpeg_bits.specs.Refusals.{answer_of, outcome_of, kept_refusal}
 use Rattle.jpeg_bits.specs.declared.error.Error.{Error}
 use Rattle.jpeg_bits.specs.declared.refinement.Refinement.{Refinement}
 use Rattle.jpeg_bits.specs.declared.refinement.Refinement.TheVariants.{Zeros, New, End}
@@ -188,7 +188,7 @@ band-corrected p block new start zeros a b old cur None refusal done is s z e q 
     rw e (Leaves-err (λ (u : Unit {0}). band_in p new) (to_piece p start new) (corrected_at p.al
     (band_in p block))
     (corrected_at p.al (band_in p block)) (piece_at p block start zeros) a a b old old cur
-    (held_refusal refusal)
+    (kept_refusal refusal)
     (λ t f h. whole-in p block start zeros t is s z
     ∙ ap (λ (o : Result ((ℕ × List ℤ) × Text) Fault). o >>= λ (w : (ℕ × List ℤ) × Text). Ok (w.0.1, w.1)) h)
     (Leaves-whole (corrected_at p.al (band_in p block)) a old) q)

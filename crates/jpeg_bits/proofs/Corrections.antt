@@ -4,10 +4,10 @@ use Rattle.std.proofs.Common.{refl, sym, ap, ◌∙◌, arith, w16, FitsSigned}
 use Rattle.std.proofs.lemmas.Bool.{false≢true, lt-ltb, ne_eqb}
 use Rattle.jpeg_bits.specs.Stream.{Stream}
 use Rattle.jpeg_bits.specs.Reading.{Fault, ◌>>=◌, Names, MayFail, Gives}
-use Rattle.jpeg_bits.specs.Refusals.{answer_of, held_refusal}
+use Rattle.jpeg_bits.specs.Refusals.{answer_of, kept_refusal}
 use Rattle.jpeg_bits.specs.Refinement.{is_zero}
 use Rattle.jpeg_bits.specs.Entropy.{Text, Ahead, Takes, bits_from, upcoming}
-use Rattle.jpeg_bits.specs.Pieces.{place_from, moved_within, distance_of}
+use Rattle.jpeg_bits.specs.Pieces.{corrected_from, moved_within, distance_of}
 use Rattle.jpeg_bits.specs.declared.error.Error.{Error}
 use Rattle.jpeg_bits.proofs.Loops.{Names-through}
 use Rattle.jpeg_bits.proofs.PieceWalks.{by_bool}
@@ -24,11 +24,12 @@ stays z n f e = grind (arith, lt-ltb)
 abbrev pub given : {Y : Type 0} → Text → Result Y Fault → Result (Y × Text) Fault
 given {Y} u o = ◌>>=◌ {B = Y × Text} o (λ m. Ok (m, u))
 
-pub place-moved : (al : ℕ) (z : ℤ) (b : ℕ) (t u : Text) → is_zero z ≡ false → FitsSigned w16 z → b < 2
+pub index-moved : (al : ℕ) (z : ℤ) (b : ℕ) (t u : Text) → is_zero z ≡ false → FitsSigned w16 z → b
+    < 2
     → bits_from 1 t ≡ Ok (b, u)
-    → place_from al z t ≡ given u (moved_within (distance_of al z b) z)
-unfolding place_from
-place-moved al z b t u n f h e = grind (arith, stays, ne_eqb)
+    → corrected_from al z t ≡ given u (moved_within (distance_of al z b) z)
+unfolding corrected_from
+index-moved al z b t u n f h e = grind (arith, stays, ne_eqb)
 
 fails : {Y : Type 0} (e : Error) (o : Result Y Fault) (a b : Bool) → b ≡ a → Names e o → MayFail e a b
 fails e o a b s n = grind arith
@@ -44,13 +45,15 @@ Takes-given {X} {Y} whole read a d old new x outcome (Some y) refusal step p g =
   λ k. let at = p.1 k in (at.0, step _ _ at.1 ∙ ap (given (upcoming d new.bytes)) g),
 )
 Takes-given {X} {Y} whole read a d old new x outcome None refusal step p g = (
-  fails (held_refusal refusal) outcome old.failed new.failed p.0 g,
+  fails (kept_refusal refusal) outcome old.failed new.failed p.0 g,
   λ k known. let at = p.1 k in
-      Names-through (held_refusal refusal) outcome _ (λ f h. step _ _ at.1 ∙ ap (given (upcoming d new.bytes)) h) g,
+      Names-through (kept_refusal refusal) outcome _ (λ f h. step _ _ at.1 ∙ ap (given (upcoming d
+      new.bytes)) h) g,
   λ k known. absurd (false≢true (sym known ∙ (p.1 k).0)),
 )
 
 -- a place whose correction bit is 0 stays
-pub place-kept : (al : ℕ) (z : ℤ) (t : Text) → bits_from 1 t ≡ Ok (0, t) → place_from al z t ≡ Ok (z, t)
-unfolding place_from
-place-kept al z t e = by_bool (is_zero z) (λ zero. rw zero refl) (λ some. rw (some, e) refl)
+pub index-kept : (al : ℕ) (z : ℤ) (t : Text) → bits_from 1 t ≡ Ok (0, t) → corrected_from al z t ≡
+    Ok (z, t)
+unfolding corrected_from
+index-kept al z t e = by_bool (is_zero z) (λ zero. rw zero refl) (λ some. rw (some, e) refl)

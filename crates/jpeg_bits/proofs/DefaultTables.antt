@@ -38,12 +38,13 @@ unfolding AreBetween
 all-same [] = tt
 all-same (t ∷ ts) = (inl refl, all-same ts)
 
-pub both-filled : (l r : Table) (places : List ℕ) (ts : List (Option Table)) (n m : Bool) (d e a b : Option Table)
+pub both-filled : (l r : Table) (destinations : List ℕ) (ts : List (Option Table)) (n m : Bool) (d
+    e a b : Option Table)
     → 2 ≤ length ts
-    → n ≡ names places 0 → m ≡ names places 1 → a ≡ filled l n (get_or ts 0 d)
+    → n ≡ names destinations 0 → m ≡ names destinations 1 → a ≡ filled l n (get_or ts 0 d)
     → b ≡ filled r m (get_or (set ts 0 a) 1 e)
-    → set (set ts 0 a) 1 b ≡ with_defaults l r places ts
-both-filled l r places ts n m d e a b two is_n is_m first second = grind arith
+    → set (set ts 0 a) 1 b ≡ with_defaults l r destinations ts
+both-filled l r destinations ts n m d e a b two is_n is_m first second = grind arith
 
 as-it-was : (whole : List (Option Table)) (ts : List (Option Table)) → length whole ≡ length ts → AreBetween ts whole ts
 unfolding AreBetween
@@ -51,26 +52,31 @@ as-it-was [] [] same = tt
 as-it-was (w ∷ whole) (t ∷ ts) same = (inl refl, as-it-was whole ts (omega arith))
 as-it-was whole ts same = absurd (omega arith)
 
-pub first-refused : (l r : Table) (places : List ℕ) (ts : List (Option Table)) (d a : Option Table) → 2 ≤ length ts
-    → a ≡ get_or ts 0 d → AreBetween ts (with_defaults l r places ts) (set ts 0 a)
+pub first-refused : (l r : Table) (destinations : List ℕ) (ts : List (Option Table)) (d a : Option
+    Table) → 2 ≤ length ts
+    → a ≡ get_or ts 0 d → AreBetween ts (with_defaults l r destinations ts) (set ts 0 a)
 unfolding AreBetween
-first-refused l r places ts d a two first = grind (arith, all-same)
+first-refused l r destinations ts d a two first = grind (arith, all-same)
 
-pub second-refused : (l r : Table) (places : List ℕ) (ts : List (Option Table)) (n m : Bool) (d e a b : Option Table)
+pub second-refused : (l r : Table) (destinations : List ℕ) (ts : List (Option Table)) (n m : Bool)
+    (d e a b : Option Table)
     → 2 ≤ length ts
-    → n ≡ names places 0 → m ≡ names places 1 → a ≡ filled l n (get_or ts 0 d) → b ≡ get_or (set ts 0 a) 1 e
-    → AreBetween ts (with_defaults l r places ts) (set (set ts 0 a) 1 b)
+    → n ≡ names destinations 0 → m ≡ names destinations 1 → a ≡ filled l n (get_or ts 0 d) → b ≡
+    get_or (set ts 0 a) 1 e
+    → AreBetween ts (with_defaults l r destinations ts) (set (set ts 0 a) 1 b)
 unfolding AreBetween
-second-refused l r places ts n m d e a b two is_n is_m first second = grind (arith, all-same)
+second-refused l r destinations ts n m d e a b two is_n is_m first second = grind (arith, all-same)
 
-same-length : (l r : Table) (places : List ℕ) (ts : List (Option Table)) → length (with_defaults l r places ts)
+same-length : (l r : Table) (destinations : List ℕ) (ts : List (Option Table)) → length
+    (with_defaults l r destinations ts)
     ≡ length ts
-same-length l r places ts = grind arith
+same-length l r destinations ts = grind arith
 
 -- tables that nothing was done to
-pub untouched : (l r : Table) (places : List ℕ) (ts : List (Option Table))
-    → AreBetween ts (with_defaults l r places ts) ts
-untouched l r places ts = as-it-was (with_defaults l r places ts) ts (same-length l r places ts)
+pub untouched : (l r : Table) (destinations : List ℕ) (ts : List (Option Table))
+    → AreBetween ts (with_defaults l r destinations ts) ts
+untouched l r destinations ts = as-it-was (with_defaults l r destinations ts) ts (same-length l r
+    destinations ts)
 
 -- tables that were filled
 pub all-done : (whole : List (Option Table)) (ts : List (Option Table)) → length whole ≡ length ts
@@ -80,6 +86,7 @@ all-done [] [] same = tt
 all-done (w ∷ whole) (t ∷ ts) same = (inr refl, all-done whole ts (omega arith))
 all-done whole ts same = absurd (omega arith)
 
-pub done : (l r : Table) (places : List ℕ) (ts : List (Option Table))
-    → AreBetween ts (with_defaults l r places ts) (with_defaults l r places ts)
-done l r places ts = all-done (with_defaults l r places ts) ts (same-length l r places ts)
+pub done : (l r : Table) (destinations : List ℕ) (ts : List (Option Table))
+    → AreBetween ts (with_defaults l r destinations ts) (with_defaults l r destinations ts)
+done l r destinations ts = all-done (with_defaults l r destinations ts) ts (same-length l r
+    destinations ts)

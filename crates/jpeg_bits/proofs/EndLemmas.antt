@@ -11,8 +11,8 @@ use Rattle.jpeg_bits.specs.Ends.{after_bytes, met, end_after}
 
 -- Each bit of a text has the place after the byte that has it.
 pub record IsPlaced (bytes : List ℕ) (t : Text) : Type 0 where
-  pub sized : length t.places ≡ length t.bits
-  pub each : (i : ℕ) → i < length t.bits → get_or t.places i [] ≡ after_bytes (suc (i / 8)) bytes
+  pub sized : length t.following ≡ length t.bits
+  pub each : (i : ℕ) → i < length t.bits → get_or t.following i [] ≡ after_bytes (suc (i / 8)) bytes
 
 get_or-after : {A : Type 0} (n i : ℕ) (x d : A) (ys : List A) → get_or (replicate n x ++ ys) (n + i) d ≡ get_or ys i d
 get_or-after zero i x d ys = let e : zero + i ≡ i = omega arith in ap (λ (k : ℕ). get_or ys k d) e
@@ -28,7 +28,7 @@ unfolding after_bytes
 add-placed bytes rest b t step h = record {
   sized = omega (
     arith,
-    length-append (replicate 8 rest) t.places,
+    length-append (replicate 8 rest) t.following,
     length-replicate 8 rest,
     length-append (bits_of b) t.bits,
     h.sized,
@@ -36,14 +36,19 @@ add-placed bytes rest b t step h = record {
   each = λ i lt. elim (cases_lt i 8) [
     | inl low ↦
         let z : i / 8 ≡ 0 = omega arith in
-        get_or_append_left (replicate 8 rest) t.places [] i (omega (arith, length-replicate 8 rest))
+        get_or_append_left (replicate 8 rest) t.following [] i (omega (
+          arith,
+          length-replicate 8
+              rest,
+        ))
         ∙ get_or-replicate 8 i rest [] low
         ∙ sym (ap (λ (n : ℕ). after_bytes (suc n) bytes) z ∙ step 0)
     | inr high ↦
         let j = i - 8 in
         let e : i ≡ 8 + j = omega arith in
         let d : i / 8 ≡ suc (j / 8) = omega arith in
-        ap (λ (k : ℕ). get_or (replicate 8 rest ++ t.places) k []) e ∙ get_or-after 8 j rest [] t.places
+        ap (λ (k : ℕ). get_or (replicate 8 rest ++ t.following) k []) e ∙ get_or-after 8 j rest []
+        t.following
         ∙ h.each j (omega (arith, length-append (bits_of b) t.bits))
         ∙ sym (ap (λ (n : ℕ). after_bytes (suc n) bytes) d ∙ step (suc (j / 8)))
   ];
@@ -81,8 +86,9 @@ placed (b ∷ c ∷ rest) = go (eqb b 255) refl (eqb c 0) (placed rest) (placed 
     go true e false h k = none-placed (b ∷ c ∷ rest) (ending_by (filled_end (c ∷ rest)))
     go false e y h k = add-placed (b ∷ c ∷ rest) (c ∷ rest) b (text_at (c ∷ rest)) (plain-step b c rest e) k
 
-marker-met : (places : List (List ℕ)) (e : Ending) → length places ≡ 0 → marker_by places e ≡ met e
-marker-met places e h = grind arith
+marker-met : (following : List (List ℕ)) (e : Ending) → length following ≡ 0 → marker_by following
+    e ≡ met e
+marker-met following e h = grind arith
 
 -- After k bits of the text that begins with bytes, the end is met where at most 56 bits are left, and otherwise
 -- reading goes on after the bytes of the bits taken and 57 more.
@@ -95,25 +101,28 @@ ends-so k bytes = go (cases_lt 56 (length (drop k t.bits)))
     t = text_at bytes
 
     go : (56 < length (drop k (text_at bytes).bits)) ⊎ (length (drop k (text_at bytes).bits) ≤ 56)
-        → marker_by (drop k (drop 56 (text_at bytes).places)) (text_at bytes).ending ≡ end_after k bytes
+        → marker_by (drop k (drop 56 (text_at bytes).following)) (text_at bytes).ending ≡ end_after
+        k bytes
         (drop k (text_at bytes).bits) (text_at bytes).ending
     go (inr few) =
         let t = text_at bytes in
         let is = placed bytes in
-        let none : length (drop k (drop 56 t.places)) ≡ 0 = omega (
+        let none : length (drop k (drop 56 t.following)) ≡ 0 = omega (
           arith,
-          length-drop k (drop 56 t.places),
-          length-drop 56 t.places,
+          length-drop k (drop 56 t.following),
+          length-drop 56 t.following,
           length-drop k t.bits,
           is.sized,
         ) in
-        rw (le-leb (length (drop k t.bits)) 56 few, end_after) (marker-met (drop k (drop 56 t.places)) t.ending none)
+        rw (le-leb (length (drop k t.bits)) 56 few, end_after) (marker-met (drop k (drop 56
+        t.following)) t.ending none)
     go (inl many) =
         let t = text_at bytes in
         let is = placed bytes in
         let within : k + 56 < length t.bits = omega (arith, length-drop k t.bits) in
         let order : 56 + k ≡ k + 56 = omega arith in
-        let head : drop k (drop 56 t.places) ≡ get_or t.places (k + 56) [] ∷ drop (k + 56 + 1) t.places
-        = drop-drop k 56 t.places ∙ ap (λ (n : ℕ). drop n t.places) order
-        ∙ drop_more t.places (k + 56) [] (omega (arith, is.sized)) in
+        let head : drop k (drop 56 t.following) ≡ get_or t.following (k + 56) [] ∷ drop (k + 56 +
+        1) t.following
+        = drop-drop k 56 t.following ∙ ap (λ (n : ℕ). drop n t.following) order
+        ∙ drop_more t.following (k + 56) [] (omega (arith, is.sized)) in
         grind (arith, lt-leb)

@@ -6,7 +6,8 @@ use Rattle.std.proofs.lemmas.Bool.{le-leb, lt-leb, lt-ltb, cases_lt, false≢tru
 use Rattle.jpeg_bits.specs.Reading.{Fault, ◌>>=◌ as ◌>>r=◌}
 use Rattle.jpeg_bits.specs.Entropy.{Text, Ending, has_bits, bits_from, advance, number_of}
 use Rattle.jpeg_bits.specs.Codes.{Table, code_in, code_lengths, next_16, symbol_by, symbol_from, is_ac, short_token}
-use Rattle.jpeg_bits.specs.Codes.{after_code, short_code_by, short_code_from, short_value, fast_from, if_held, code_by}
+use Rattle.jpeg_bits.specs.Codes.{after_code, short_code_by, short_code_from, short_value}
+use Rattle.jpeg_bits.specs.Codes.{fast_from, if_buffered, code_by}
 use Rattle.jpeg_bits.specs.Codes.{code_from}
 use Rattle.jpeg_bits.specs.Readers.{Reads, ◌>>=◌, gives, read_on, signed_from}
 use Rattle.jpeg_bits.specs.Bands.{token_at, token_from}
@@ -48,13 +49,15 @@ value-same room size r s t e short = grind (arith, nat_lt, nat_le, false≢true)
 
 -- ---- bits that can be taken
 
-pub both-held : (n s : ℕ) (bits : List Bool) (e : Ending) → has_bits (n + s) bits e ≡ Ok tt → has_bits n bits e ≡ Ok tt
-both-held n s bits e h = grind (arith, cases_lt, lt-leb, le-leb)
+pub both-buffered : (n s : ℕ) (bits : List Bool) (e : Ending) → has_bits (n + s) bits e ≡ Ok tt →
+    has_bits n bits e ≡ Ok tt
+both-buffered n s bits e h = grind (arith, cases_lt, lt-leb, le-leb)
 
 -- where n + s bits can't be taken, the n can't, or the s after them
-not-held : (n s : ℕ) (bits : List Bool) (e : Ending) (f : Fault) → has_bits (n + s) bits e ≡ Err f
+not-buffered : (n s : ℕ) (bits : List Bool) (e : Ending) (f : Fault) → has_bits (n + s) bits e ≡
+    Err f
     → (has_bits n bits e ≡ Err f) ⊎ ((has_bits n bits e ≡ Ok tt) × (has_bits s (drop n bits) e ≡ Err f))
-not-held n s bits e f h = grind (arith, cases_lt, lt-leb, le-leb, length-drop)
+not-buffered n s bits e f h = grind (arith, cases_lt, lt-leb, le-leb, length-drop)
 
 signed-refused : (s : ℕ) (t : Text) (f : Fault) → has_bits s t.bits t.ending ≡ Err f → signed_from s t ≡ Err f
 unfolding signed_from bits_from
@@ -81,17 +84,17 @@ module _ (table : Table) (room n symbol : ℕ) (t : Text) (some : nat_lt 0 (symb
   at-value = value-same room n (symbol / 16) (symbol % 16) (advance n t) some short
 
   pub at-short : (o : Result (Unit {0}) Fault) → has_bits (n + symbol % 16) t.bits t.ending ≡ o
-      → by_code room (if_held (n, symbol) (advance n t) (has_bits n t.bits t.ending))
+      → by_code room (if_buffered (n, symbol) (advance n t) (has_bits n t.bits t.ending))
       ≡ by_look table room (◌>>r=◌ {B = Option (ℕ × ℕ) × Text} o (λ (u : Unit {0}). Ok (
         Some (symbol / 16, symbol % 16),
         advance n t,
       )))
-  at-short (Ok u) h = grind (arith, both-held, at-value, value-look)
+  at-short (Ok u) h = grind (arith, both-buffered, at-value, value-look)
   at-short (Err f) h =
-      elim (not-held n (symbol % 16) t.bits t.ending f h) [
-        | inl e ↦ ap (λ o. by_code room (if_held (n, symbol) (advance n t) o)) e
+      elim (not-buffered n (symbol % 16) t.bits t.ending f h) [
+        | inl e ↦ ap (λ o. by_code room (if_buffered (n, symbol) (advance n t) o)) e
         | inr p ↦
-            ap (λ o. by_code room (if_held (n, symbol) (advance n t) o)) p.0
+            ap (λ o. by_code room (if_buffered (n, symbol) (advance n t) o)) p.0
             ∙ at-value ∙ ap (read_on (λ v. gives (value_token room (symbol / 16) v)))
             (signed-refused (symbol % 16) (advance n t) f p.1)
       ]
@@ -99,7 +102,8 @@ module _ (table : Table) (room n symbol : ℕ) (t : Text) (some : nat_lt 0 (symb
 -- a code of another symbol
 at-long : (room n symbol : ℕ) (t : Text) (a : Bool) → nat_lt 0 (symbol % 16) ≡ a
     → (a ≡ true → nat_le (n + symbol % 16) 8 ≡ false) → (o : Result (Unit {0}) Fault)
-    → by_code room (if_held (n, symbol) t o) ≡ read_on (λ (c : ℕ). slow_token room (c / 16) (c % 16))
+    → by_code room (if_buffered (n, symbol) t o) ≡ read_on (λ (c : ℕ). slow_token room (c / 16) (c
+    % 16))
     (◌>>r=◌ {B = ℕ × Text} o (λ (u : Unit {0}). Ok (symbol, t)))
 at-long room n symbol t a e long o = grind (arith, slow-same)
 

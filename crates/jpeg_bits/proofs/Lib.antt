@@ -2,7 +2,7 @@ pub mod Sources
 pub mod TakenBytes
 pub mod Loops
 pub mod Texts
-pub mod Held
+pub mod BufferedBits
 pub mod CodeLemmas
 pub mod DefaultTables
 pub mod Symbols
@@ -34,7 +34,7 @@ pub mod RefinedBands
 pub mod BlockParts
 pub mod DcAlone
 pub mod Corrections
-pub mod ZigzagPlaces
+pub mod ZigzagIndices
 pub mod ZigzagParts
 pub mod BlockLoop
 pub mod BlockWalks

@@ -20,7 +20,7 @@ use Rattle.jpeg_bits.specs.ZigzagParts.{zigzag_part}
 use Rattle.jpeg_bits.specs.Masks.{coefficient_at, MarksFrom, marked}
 use Rattle.jpeg_bits.specs.Entropy.{Text, bits_from}
 use Rattle.jpeg_bits.proofs.BlockWalks.{walk_at, at-skip, at-stop, at-end, at-value}
-use Rattle.jpeg_bits.proofs.Corrections.{place-kept}
+use Rattle.jpeg_bits.proofs.Corrections.{index-kept}
 use Rattle.jpeg_bits.proofs.ZigzagParts.{part-get, part-set}
 
 -- each coefficient fits, by what its type says
@@ -134,11 +134,11 @@ pub marks-later : (mask from next : ℕ) (block : List ℤ) → from ≤ next �
 marks-later mask from next block after h = grind arith
 
 abbrev in_order : List ℤ → List ℕ
-in_order zs = map (λ (place : ℕ). get_or (map marked zs) place 0) zigzag
+in_order zs = map (λ (index : ℕ). get_or (map marked zs) index 0) zigzag
 
 marked-at : (zs : List ℤ) (k : ℕ) → k < 64 → get_or (in_order zs) k 0 ≡ marked (coefficient_at k zs)
 marked-at zs k within =
-    get_or-map_within (λ (place : ℕ). get_or (map marked zs) place 0) zigzag k 0 0 within
+    get_or-map_within (λ (index : ℕ). get_or (map marked zs) index 0) zigzag k 0 0 within
     ∙ get_or-map marked zs (get_or zigzag k 0) (pos 0)
 
 one-or-zero : (n : ℕ) → one_or (n == 0) ≡ 0 → n ≡ 0
@@ -197,7 +197,7 @@ module _ (al from end : ℕ) (block : List ℤ) (within : end ≤ 64) where
       let z = coefficient_at k block in
       let b : k + 1 + n ≡ k + suc n = omega arith in
       at-value al r from end k (get_or zigzag k 0) block within after (omega arith) refl z z z t t long
-      (some k (omega arith) (omega arith)) refl refl (place-kept al z t e)
+      (some k (omega arith) (omega arith)) refl refl (index-kept al z t e)
       ∙ ap (λ (b : List ℤ). walk_at al r from end b (k + 1) t) (set-get_or block (get_or zigzag k 0) (pos 0))
       ∙ at-keeps n r (k + 1) t long (omega arith) (omega arith)
       (λ i later before. some i (omega arith) (omega arith)) e

@@ -4,7 +4,7 @@ use Rattle.std.proofs.lemmas.Bool.Decides.{nat_tests}
 use Rattle.std.proofs.Common.{◌≡◌, ℕ, ℤ, zero, suc, ◌+◌, ◌-◌, ◌*◌, ◌%◌, ◌^◌, ◌<◌, ◌≤◌, nat_lt, ◌==◌, ◌||◌, Bool, true}
 use Rattle.std.proofs.Common.{false, List, [], ◌∷◌, ◌++◌, length, drop, replicate, get_or, set, pos, ◌*ℤ◌, Option, Some, None}
 use Rattle.std.proofs.Common.{if◌then◌else◌, Ok, refl, sym, ap, ◌∙◌, subst, arith, length-set, is_ok}
-use Rattle.jpeg_bits.specs.Entropy.{Ahead, Takes, upcoming, IsFilled, has_held, same_text}
+use Rattle.jpeg_bits.specs.Entropy.{Ahead, Takes, upcoming, IsFilled, has_buffered, same_text}
 use Rattle.jpeg_bits.specs.Stream.{Stream}
 use Rattle.jpeg_bits.specs.Codes.{Table}
 use Rattle.jpeg_bits.specs.ShortCodes.{symbol_in, short_value_by, short_value_of, next_bits, packed}
@@ -22,9 +22,9 @@ use Rattle.jpeg_bits.specs.declared.codes.HuffmanTableClass.{HuffmanTableClass}
 use Rattle.jpeg_bits.specs.declared.pairs.Pair.{Pair}
 use Rattle.jpeg_bits.specs.declared.tokens.Token.{Token}
 use Rattle.jpeg_bits.specs.declared.tokens.Token.TheVariants.{Value}
-use Rattle.jpeg_bits.proofs.BlockLoop.{IsAtPlace, place-value}
-use Rattle.jpeg_bits.proofs.Held.{ok_unit}
-use Rattle.jpeg_bits.proofs.ShortLemmas.{fewer-held}
+use Rattle.jpeg_bits.proofs.BlockLoop.{IsAtIndex, index-value}
+use Rattle.jpeg_bits.proofs.BufferedBits.{ok_unit}
+use Rattle.jpeg_bits.proofs.ShortLemmas.{fewer-enough}
 use Rattle.jpeg_bits.proofs.SkipLemmas.{bits-after}
 use Rattle.jpeg_bits.proofs.WideTokens.{value-buffered, wide-taken}
 
@@ -124,59 +124,69 @@ module _ (table : Table) (counted : length table.counts ≡ 16) (d : Ahead) (fil
     (mid : Stream) where
   -- the first value is taken
   Takes-first : (room : ℕ) (v : ℤ) (r n : ℕ) (e : Ahead)
-      → short_value_of 11 table (next_bits 11 d.bits) ≡ Some (v, r, n) → has_held n d.bits d.met ≡ Ok tt → r < room
+      → short_value_of 11 table (next_bits 11 d.bits) ≡ Some (v, r, n) → has_buffered n d.bits
+      d.met ≡ Ok tt → r < room
       → e.bits ≡ drop n d.bits → e.met ≡ d.met
       → Takes (λ (t : Token). t) (token_from table room) d mid (Ok (Value r v)) e mid
-  Takes-first room v r n e is held within bits met = (
+  Takes-first room v r n e is enough within bits met = (
     refl,
-    λ known. (known, wide-taken table room d e mid.bytes v r n counted filled is within held bits met),
+    λ known. (
+      known,
+      wide-taken table room d e mid.bytes v r n counted filled is within enough bits
+          met,
+    ),
   )
 
   -- and the second
   Takes-second : (room n : ℕ) (w : ℤ) (q m : ℕ) (e : Ahead) → n + m ≤ 11
       → short_value_of 11 table (drop n (next_bits 11 d.bits) ++ replicate n false) ≡ Some (w, q, m)
-      → has_held (n + m) d.bits d.met ≡ Ok tt → q < room → e.bits ≡ drop (n + m) d.bits → e.met ≡ d.met
+      → has_buffered (n + m) d.bits d.met ≡ Ok tt → q < room → e.bits ≡ drop (n + m) d.bits → e.met
+      ≡ d.met
       → Takes (λ (t : Token). t) (token_from table room) (record { bits = drop n d.bits; met = d.met }) mid
       (Ok (Value q w)) e mid
   unfolding upcoming
-  Takes-second room n w q m e few is held within bits met = (
+  Takes-second room n w q m e few is enough within bits met = (
     refl,
     λ known. (
       known,
       rw (bits, met) (value-buffered table room d.bits d.met mid.bytes n (replicate n false) w q m counted filled few
-          held within is),
+          enough within is),
     ),
   )
 
   -- The values of a pair are written, and its bits are taken.
   module _ (p : Pass) (whole : Reads Band) (a b : Ahead) (old cur : Stream) (block : List ℤ) (at end : ℕ)
       (pass : IsPass p) (last : end ≡ band_end p) (from : band_start p ≤ at) (long : length block ≡ 64)
-      (before : IsAtPlace table p whole a old block at b cur)
+      (before : IsAtIndex table p whole a old block at b cur)
       (buffered : Takes (λ (u : Unit {0}). 0) same_text b cur (Ok tt) d mid) where
-    pub place-pair : (pair : Pair) → Seen table (next_bits 11 d.bits) pair → at + pair.passed ≤ end
-        → true ≡ is_ok (has_held pair.bits d.bits d.met) → (e : Ahead) → e.bits ≡ drop pair.bits d.bits → e.met ≡ d.met
+    pub index-pair : (pair : Pair) → Seen table (next_bits 11 d.bits) pair → at + pair.passed ≤ end
+        → true ≡ is_ok (has_buffered pair.bits d.bits d.met) → (e : Ahead) → e.bits ≡ drop
+        pair.bits d.bits → e.met ≡ d.met
         → (x y : ℤ) → x ≡ wrapped (pair.first *ℤ pos (2 ^ p.al)) → y ≡ wrapped (pair.second *ℤ pos (2 ^ p.al))
-        → IsAtPlace table p whole a old (set (set block (get_or zigzag (at + pair.run) 0) x)
+        → IsAtIndex table p whole a old (set (set block (get_or zigzag (at + pair.run) 0) x)
         (get_or zigzag (at + pair.next) 0) y) (at + pair.passed) e mid
-    place-pair _ (One v r n is) room ok e bits met x y value same =
+    index-pair _ (One v r n is) room ok e bits met x y value same =
         let again : y ≡ x = same ∙ sym value in
         let next : at + (r + 1) ≡ at + r + 1 = omega arith in
         let i = get_or zigzag (at + r) 0 in
         let written : set (set block i x) i y ≡ set block i x
         = ap (set (set block i x) i) again ∙ set-twice block i x in
-        rw (written, next) (place-value table p whole a b d e old cur mid mid block at end pass last from (omega arith)
+        rw (written, next) (index-value table p whole a b d e old cur mid mid block at end pass
+        last from (omega arith)
         before buffered r v x long (omega arith) value (Takes-first (end - at) v r n e is (ok_unit _ (sym ok))
         (omega arith) bits met))
-    place-pair _ (Two v r n w q m few is then-is) room ok e bits met x y value other =
-        let held = ok_unit _ (sym ok) in
+    index-pair _ (Two v r n w q m few is then-is) room ok e bits met x y value other =
+        let enough = ok_unit _ (sym ok) in
         let c : Ahead = record { bits = drop n d.bits; met = d.met } in
         let i = get_or zigzag (at + r) 0 in
         let at' = at + r + 1 in
         let index : at + (r + 1 + q) ≡ at' + q = omega arith in
         let next : at + (r + q + 2) ≡ at' + q + 1 = omega arith in
-        let one = place-value table p whole a b d c old cur mid mid block at end pass last from (omega arith) before
+        let one = index-value table p whole a b d c old cur mid mid block at end pass last from
+        (omega arith) before
         buffered r v x long (omega arith) value (Takes-first (end - at) v r n c is
-        (fewer-held n (n + m) d.bits d.met (omega arith) held) (omega arith) refl refl) in
-        rw (index, next) (place-value table p whole a c c e old mid mid mid (set block i x) at' end pass last
+        (fewer-enough n (n + m) d.bits d.met (omega arith) enough) (omega arith) refl refl) in
+        rw (index, next) (index-value table p whole a c c e old mid mid mid (set block i x) at' end
+        pass last
         (omega arith) (omega arith) one (refl, λ known. (known, refl)) q w y (length-set block i x ∙ long) (omega arith)
-        other (Takes-second (end - at') n w q m e few then-is held (omega arith) bits met))
+        other (Takes-second (end - at') n w q m e few then-is enough (omega arith) bits met))

@@ -8,7 +8,7 @@ use Rattle.std.proofs.lemmas.List.{drop-set-lt, set-get_or}
 use Rattle.jpeg_bits.specs.Reading.{Fault, ◌>>=◌}
 use Rattle.jpeg_bits.specs.Entropy.{Text}
 use Rattle.jpeg_bits.specs.Refinement.{is_zero, through_zero}
-use Rattle.jpeg_bits.specs.Pieces.{place_from, corrected_at, piece_from}
+use Rattle.jpeg_bits.specs.Pieces.{corrected_from, corrected_at, piece_from}
 use Rattle.jpeg_bits.proofs.BandSteps.{bind_same}
 
 abbrev pub Walk : Type 0
@@ -20,15 +20,15 @@ one_more z w = w >>= λ w. Ok ((suc w.0.0, z ∷ w.0.1), w.1)
 -- the piece up to zero number r, place by place
 unfoldable pub walk_from : ℕ → ℕ → List ℤ → Text → Walk
 walk_from al r [] t = Ok ((0, []), t)
-walk_from al zero (z ∷ places) t =
+walk_from al zero (z ∷ numbers) t =
     elim (is_zero z) [
-      | true ↦ Ok ((1, z ∷ places), t)
-      | false ↦ place_from al z t >>= λ f. one_more f.0 (walk_from al zero places f.1)
+      | true ↦ Ok ((1, z ∷ numbers), t)
+      | false ↦ corrected_from al z t >>= λ f. one_more f.0 (walk_from al zero numbers f.1)
     ]
-walk_from al (suc r) (z ∷ places) t =
+walk_from al (suc r) (z ∷ numbers) t =
     elim (is_zero z) [
-      | true ↦ one_more z (walk_from al r places t)
-      | false ↦ place_from al z t >>= λ f. one_more f.0 (walk_from al (suc r) places f.1)
+      | true ↦ one_more z (walk_from al r numbers t)
+      | false ↦ corrected_from al z t >>= λ f. one_more f.0 (walk_from al (suc r) numbers f.1)
     ]
 
 abbrev with_rest : ℕ → List ℤ → List ℤ × Text → Walk
@@ -37,12 +37,13 @@ with_rest n rest front = Ok ((n, front.0 ++ drop n rest), front.1)
 unfoldable pub piece_of : ℕ → ℕ → List ℤ → Text → Walk
 piece_of al n rest t = corrected_at al (take n rest) t >>= λ front. with_rest n rest front
 
-place_zero : (al : ℕ) (z : ℤ) (t : Text) → is_zero z ≡ true → place_from al z t ≡ Ok (z, t)
-unfolding place_from
-place_zero al z t e = rw e refl
+index_zero : (al : ℕ) (z : ℤ) (t : Text) → is_zero z ≡ true → corrected_from al z t ≡ Ok (z, t)
+unfolding corrected_from
+index_zero al z t e = rw e refl
 
 -- one place of a piece, and then the others
-piece_step : (al n : ℕ) (z : ℤ) (rest : List ℤ) (t : Text) → piece_of al (suc n) (z ∷ rest) t ≡ (place_from al z t
+piece_step : (al n : ℕ) (z : ℤ) (rest : List ℤ) (t : Text) → piece_of al (suc n) (z ∷ rest) t ≡
+    (corrected_from al z t
     >>= λ (f : ℤ × Text). one_more f.0 (piece_of al n rest f.1))
 unfolding piece_of corrected_at
 piece_step al n z rest t = grind arith
@@ -52,18 +53,20 @@ unfolding piece_of corrected_at
 piece_zero al rest t = refl
 
 -- a zero that ends the piece
-walk_ends : (al : ℕ) (z : ℤ) (places : List ℤ) (t : Text) → is_zero z ≡ true
-    → piece_of al 1 (z ∷ places) t ≡ Ok ((1, z ∷ places), t)
-walk_ends al z places t e = grind (arith, piece_step, place_zero, piece_zero)
+walk_ends : (al : ℕ) (z : ℤ) (numbers : List ℤ) (t : Text) → is_zero z ≡ true
+    → piece_of al 1 (z ∷ numbers) t ≡ Ok ((1, z ∷ numbers), t)
+walk_ends al z numbers t e = grind (arith, piece_step, index_zero, piece_zero)
 
-walk_over : (al n : ℕ) (z : ℤ) (places : List ℤ) (t : Text) (w : Walk) → is_zero z ≡ true → piece_of al n places t ≡ w
-    → piece_of al (suc n) (z ∷ places) t ≡ one_more z w
-walk_over al n z places t w e h = grind (arith, piece_step, place_zero)
+walk_over : (al n : ℕ) (z : ℤ) (numbers : List ℤ) (t : Text) (w : Walk) → is_zero z ≡ true →
+    piece_of al n numbers t ≡ w
+    → piece_of al (suc n) (z ∷ numbers) t ≡ one_more z w
+walk_over al n z numbers t w e h = grind (arith, piece_step, index_zero)
 
-walk_value_at : (al n : ℕ) (z : ℤ) (places : List ℤ) (t : Text) (w : Text → Walk)
-    → ((t : Text) → piece_of al n places t ≡ w t) → piece_of al (suc n) (z ∷ places) t ≡ (place_from al z t
+walk_value_at : (al n : ℕ) (z : ℤ) (numbers : List ℤ) (t : Text) (w : Text → Walk)
+    → ((t : Text) → piece_of al n numbers t ≡ w t) → piece_of al (suc n) (z ∷ numbers) t ≡
+    (corrected_from al z t
     >>= λ (f : ℤ × Text). one_more f.0 (w f.1))
-walk_value_at al n z places t w h = grind (arith, piece_step, bind_same)
+walk_value_at al n z numbers t w h = grind (arith, piece_step, bind_same)
 
 pub by_bool : {P : Type 0} (b : Bool) → (b ≡ true → P) → (b ≡ false → P) → P
 by_bool b f g = grind arith
@@ -72,15 +75,17 @@ pub piece_walk : (al r : ℕ) (rest : List ℤ) (t : Text) → piece_of al (thro
     t
 unfolding walk_from through_zero
 piece_walk al r [] t = piece_zero al [] t
-piece_walk al zero (z ∷ places) t =
-    by_bool (is_zero z) (λ e. rw (e, through_zero, walk_from) (walk_ends al z places t e))
-    (λ e. rw (e, through_zero, walk_from) (walk_value_at al (through_zero zero places) z places t
-    (walk_from al zero places) (λ t. piece_walk al zero places t)))
-piece_walk al (suc r) (z ∷ places) t =
-    by_bool (is_zero z) (λ e. rw (e, through_zero, walk_from) (walk_over al (through_zero r places) z places t
-    (walk_from al r places t) e (piece_walk al r places t)))
-    (λ e. rw (e, through_zero, walk_from) (walk_value_at al (through_zero (suc r) places) z places t
-    (walk_from al (suc r) places) (λ t. piece_walk al (suc r) places t)))
+piece_walk al zero (z ∷ numbers) t =
+    by_bool (is_zero z) (λ e. rw (e, through_zero, walk_from) (walk_ends al z numbers t e))
+    (λ e. rw (e, through_zero, walk_from) (walk_value_at al (through_zero zero numbers) z numbers t
+    (walk_from al zero numbers) (λ t. piece_walk al zero numbers t)))
+piece_walk al (suc r) (z ∷ numbers) t =
+    by_bool (is_zero z) (λ e. rw (e, through_zero, walk_from) (walk_over al (through_zero r
+    numbers) z numbers t
+    (walk_from al r numbers t) e (piece_walk al r numbers t)))
+    (λ e. rw (e, through_zero, walk_from) (walk_value_at al (through_zero (suc r) numbers) z
+    numbers t
+    (walk_from al (suc r) numbers) (λ t. piece_walk al (suc r) numbers t)))
 
 abbrev pub after : ℕ → List ℤ → (ℕ × List ℤ) × Text → Walk
 after i front w = Ok ((i + w.0.0, front ++ w.0.1), w.1)
@@ -132,7 +137,8 @@ unfolding walk_left walk_from
 walk_skip al r cur i t h e k = grind (arith, from_here, more_left, through_here)
 
 walk_nonzero : (al r : ℕ) (z : ℤ) (rest : List ℤ) (t : Text) → is_zero z ≡ false
-    → walk_from al r (z ∷ rest) t ≡ (place_from al z t >>= λ (f : ℤ × Text). one_more f.0 (walk_from al r rest f.1))
+    → walk_from al r (z ∷ rest) t ≡ (corrected_from al z t >>= λ (f : ℤ × Text). one_more f.0
+    (walk_from al r rest f.1))
 unfolding walk_from
 walk_nonzero al r z rest t e = grind arith
 
@@ -145,24 +151,26 @@ bind_bind o f i front = grind arith
 
 -- a place that isn't zero
 pub walk_value : (al r : ℕ) (cur : List ℤ) (i : ℕ) (t : Text) → i < length cur → (get_or cur i (pos 0) ≡ pos 0 → ⊥)
-    → walk_left al r cur i t ≡ (place_from al (get_or cur i (pos 0)) t
+    → walk_left al r cur i t ≡ (corrected_from al (get_or cur i (pos 0)) t
     >>= λ (f : ℤ × Text). walk_left al r (set cur i f.0) (i + 1) f.1)
 unfolding walk_left
 walk_value al r cur i t h e =
     let z = get_or cur i (pos 0) in
     ap (λ (ys : List ℤ). walk_from al r ys t >>= λ w. after i (take i cur) w) (from_here cur i z h refl)
     ∙ ap (λ o. o >>= λ w. after i (take i cur) w) (walk_nonzero al r z (drop (i + 1) cur) t (not_zero z e))
-    ∙ bind_bind (place_from al z t) (λ (f : ℤ × Text). one_more f.0 (walk_from al r (drop (i + 1) cur) f.1)) i
+    ∙ bind_bind (corrected_from al z t) (λ (f : ℤ × Text). one_more f.0 (walk_from al r (drop (i +
+    1) cur) f.1)) i
     (take i cur)
-    ∙ bind_same (place_from al z t) _ _ (grind (arith, more_left, take_more_set, drop-set-lt))
+    ∙ bind_same (corrected_from al z t) _ _ (grind (arith, more_left, take_more_set, drop-set-lt))
 
 -- a step at a place that isn't zero, which is read as y
 pub value_step : (al r : ℕ) (cur : List ℤ) (i : ℕ) (x y z : ℤ) (t u : Text) → i < length cur
     → (get_or cur i (pos 0) ≡ pos 0 → ⊥) → x ≡ get_or cur i (pos 0) → y ≡ z
-    → place_from al x t ≡ Ok (z, u) → walk_left al r cur i t ≡ walk_left al r (set cur i y) (i + 1) u
+    → corrected_from al x t ≡ Ok (z, u) → walk_left al r cur i t ≡ walk_left al r (set cur i y) (i
+    + 1) u
 value_step al r cur i x y z t u h e p q o = grind (arith, walk_value)
 
 pub value_refused : (al r : ℕ) (cur : List ℤ) (i : ℕ) (x : ℤ) (t : Text) (f : Fault) → i < length cur
     → (get_or cur i (pos 0) ≡ pos 0 → ⊥) → x ≡ get_or cur i (pos 0)
-    → place_from al x t ≡ Err f → walk_left al r cur i t ≡ Err f
+    → corrected_from al x t ≡ Err f → walk_left al r cur i t ≡ Err f
 value_refused al r cur i x t f h e p o = grind (arith, walk_value)

@@ -11,35 +11,46 @@ use Rattle.jpeg_bits.specs.Codes.{Table}
 use Rattle.jpeg_bits.specs.declared.refinement.Refinement.{Refinement}
 use Rattle.jpeg_bits.specs.declared.refinement.Refinement.TheVariants.{Zeros, New, End}
 use Rattle.jpeg_bits.specs.Bands.{Band}
-use Rattle.jpeg_bits.specs.Pieces.{ReadsBand, before, place_from, corrected_at, refinement_from}
+use Rattle.jpeg_bits.specs.Pieces.{ReadsBand, before, corrected_from, corrected_at, refinement_from}
 use Rattle.jpeg_bits.specs.Pieces.{refined_piece_at, refined_ac_at}
 use Rattle.jpeg_bits.specs.Pieces.{refined_band_from, piece_from}
 use Rattle.jpeg_bits.specs.Refinement.{through_zero, with_last}
 use Rattle.jpeg_bits.proofs.BandSteps.{bind_same, before-before}
 use Rattle.jpeg_bits.proofs.PieceWalks.{by_bool, Walk}
 
-through_zero_pos : (r : ℕ) (z : ℤ) (places : List ℤ) → 0 < through_zero r (z ∷ places)
+through_zero_pos : (r : ℕ) (z : ℤ) (numbers : List ℤ) → 0 < through_zero r (z ∷ numbers)
 unfolding through_zero
-through_zero_pos r z places = grind (arith, by_bool)
+through_zero_pos r z following = grind (arith, by_bool)
 
-through_zero_le : (r : ℕ) (places : List ℤ) → through_zero r places ≤ length places
+through_zero_le : (r : ℕ) (numbers : List ℤ) → through_zero r numbers ≤ length numbers
 unfolding through_zero
 through_zero_le r [] = omega arith
-through_zero_le zero (z ∷ places) = grind (arith, by_bool, through_zero_le zero places)
-through_zero_le (suc r) (z ∷ places) = grind (arith, by_bool, through_zero_le r places, through_zero_le (suc r) places)
+through_zero_le zero (z ∷ numbers) = grind (arith, by_bool, through_zero_le zero numbers)
+through_zero_le (suc r) (z ∷ numbers) = grind (
+  arith,
+  by_bool,
+  through_zero_le r numbers,
+  through_zero_le (suc r) numbers,
+)
 
 -- where there are too few zeros the piece is all places
-pub through_all : (r : ℕ) (places : List ℤ) → length places ≤ r → through_zero r places ≡ length places
+pub through_all : (r : ℕ) (numbers : List ℤ) → length numbers ≤ r → through_zero r numbers ≡ length
+    numbers
 unfolding through_zero
 through_all r [] h = refl
-through_all zero (z ∷ places) h = absurd (omega arith)
-through_all (suc r) (z ∷ places) h = grind (arith, by_bool, through_all r places (omega arith), through_all (suc r) places (omega arith))
+through_all zero (z ∷ numbers) h = absurd (omega arith)
+through_all (suc r) (z ∷ numbers) h = grind (
+  arith,
+  by_bool,
+  through_all r numbers (omega arith),
+  through_all (suc r) numbers (omega arith),
+)
 
-piece-same : (al : ℕ) (f g : ReadsBand) (x : ℤ) (places : List ℤ) (k : Refinement) (t : Text)
-    → ((j : ℕ) (t : Text) → 0 < j → f (drop j (x ∷ places)) t ≡ g (drop j (x ∷ places)) t)
-    → refined_piece_at al f (x ∷ places) k t ≡ refined_piece_at al g (x ∷ places) k t
+piece-same : (al : ℕ) (f g : ReadsBand) (x : ℤ) (numbers : List ℤ) (k : Refinement) (t : Text)
+    → ((j : ℕ) (t : Text) → 0 < j → f (drop j (x ∷ numbers)) t ≡ g (drop j (x ∷ numbers)) t)
+    → refined_piece_at al f (x ∷ numbers) k t ≡ refined_piece_at al g (x ∷ numbers) k t
 unfolding refined_piece_at
-piece-same al f g x places k t h = grind (arith, bind_same, through_zero_pos)
+piece-same al f g x numbers k t h = grind (arith, bind_same, through_zero_pos)
 
 refined-fuel : (table : Table) (al n m : ℕ) (rest : List ℤ) (t : Text) → length rest ≤ n → length rest ≤ m
     → refined_ac_at table al n rest t ≡ refined_ac_at table al m rest t
@@ -98,23 +109,24 @@ KeepsLength n (Err e) = Unit {0}
 abbrev in_front : ℤ → List ℤ × Text → Result (List ℤ × Text) Fault
 in_front z o = Ok (z ∷ o.0, o.1)
 
-pub corrected-length : (al : ℕ) (places : List ℤ) (t : Text) → KeepsLength (length places)
-    (corrected_at al places t)
+pub corrected-length : (al : ℕ) (numbers : List ℤ) (t : Text) → KeepsLength (length numbers)
+    (corrected_at al numbers t)
 unfolding corrected_at
 corrected-length al [] t = refl
-corrected-length al (z ∷ places) t = by_place (place_from al z t) (λ t. corrected-length al places t)
+corrected-length al (z ∷ numbers) t = by_index (corrected_from al z t) (λ t. corrected-length al
+    numbers t)
   where
-    by_others : (y : ℤ) (o : Result (List ℤ × Text) Fault) → KeepsLength (length places) o
-        → KeepsLength (length (z ∷ places)) (o >>= λ (o : List ℤ × Text). in_front y o)
+    by_others : (y : ℤ) (o : Result (List ℤ × Text) Fault) → KeepsLength (length numbers) o
+        → KeepsLength (length (z ∷ numbers)) (o >>= λ (o : List ℤ × Text). in_front y o)
     by_others y (Ok x) h = omega (arith, h)
     by_others y (Err e) h = tt
 
-    by_place : (f : Result (ℤ × Text) Fault) → ((t : Text) → KeepsLength (length places)
-        (corrected_at al places t))
-        → KeepsLength (length (z ∷ places)) (f >>= λ (f : ℤ × Text). corrected_at al places f.1
+    by_index : (f : Result (ℤ × Text) Fault) → ((t : Text) → KeepsLength (length numbers)
+        (corrected_at al numbers t))
+        → KeepsLength (length (z ∷ numbers)) (f >>= λ (f : ℤ × Text). corrected_at al numbers f.1
         >>= λ (o : List ℤ × Text). in_front f.0 o)
-    by_place (Ok x) h = by_others x.0 (corrected_at al places x.1) (h x.1)
-    by_place (Err e) h = tt
+    by_index (Ok x) h = by_others x.0 (corrected_at al numbers x.1) (h x.1)
+    by_index (Err e) h = tt
 
 unfoldable ok_of : (ℕ × List ℤ) × Text → Walk → (ℕ × List ℤ) × Text
 ok_of d (Ok x) = x

@@ -9,46 +9,49 @@ use Rattle.jpeg_bits.specs.Readers.{Reads, read_on, gives}
 use Rattle.jpeg_bits.specs.Bands.{Band, before_more}
 use Rattle.jpeg_bits.specs.Refinement.{is_zero, corrected_by, through_zero, with_last, new_number}
 use Rattle.jpeg_bits.specs.Refinement as defined
-use Rattle.jpeg_bits.specs.Pieces.{before, run_from, place_from, corrected_at, refinement_from}
+use Rattle.jpeg_bits.specs.Pieces.{before, run_from, corrected_from, corrected_at, refinement_from}
 use Rattle.jpeg_bits.specs.Pieces.{refined_piece_at, refined_ac_at}
 use Rattle.jpeg_bits.specs.declared.refinement.Refinement.{Refinement}
 use Rattle.jpeg_bits.specs.declared.refinement.Refinement.TheVariants.{Zeros, New, End}
 
 -- a place as the definition has it
-abbrev place_by : ℕ → ℤ → Bool → Reads ℤ
-place_by al z b t = (elim b as (λ _. Reads ℤ) [
+abbrev index_by : ℕ → ℤ → Bool → Reads ℤ
+index_by al z b t = (elim b as (λ _. Reads ℤ) [
   | true ↦ gives z
   | false ↦ λ u. read_on (λ b. corrected_by al z b)
       (bits_from 1 u)
 ]) t
 
-place-same : (al : ℕ) (z : ℤ) (t : Text) → place_from al z t ≡ place_by al z (is_zero z) t
-unfolding place_from
-place-same al z t = grind (arith, ne_eqb)
+index-same : (al : ℕ) (z : ℤ) (t : Text) → corrected_from al z t ≡ index_by al z (is_zero z) t
+unfolding corrected_from
+index-same al z t = grind (arith, ne_eqb)
 
-pub corrected-same : (al : ℕ) (places : List ℤ) (t : Text) → corrected_at al places t ≡
-    defined.corrected al places t
+pub corrected-same : (al : ℕ) (numbers : List ℤ) (t : Text) → corrected_at al numbers t ≡
+    defined.corrected al numbers t
 unfolding corrected_at defined.corrected
 corrected-same al [] t = refl
-corrected-same al (z ∷ places) t = go (λ u. corrected-same al places u) (place_from al z t)
-    ∙ ap (read_on (λ (x : ℤ). λ u. read_on (λ (xs : List ℤ). gives (x ∷ xs)) (defined.corrected al places u)))
-    (place-same al z t)
+corrected-same al (z ∷ numbers) t = go (λ u. corrected-same al numbers u) (corrected_from al z t)
+    ∙ ap (read_on (λ (x : ℤ). λ u. read_on (λ (xs : List ℤ). gives (x ∷ xs)) (defined.corrected al
+    numbers u)))
+    (index-same al z t)
   where
     last : (x : ℤ) (o : Result (List ℤ × Text) Fault) → (o >>= λ (o : List ℤ × Text). Ok (x ∷ o.0, o.1))
         ≡ read_on (λ (xs : List ℤ). gives (x ∷ xs)) o
     last x (Ok o) = refl
     last x (Err e) = refl
 
-    go : ((u : Text) → corrected_at al places u ≡ defined.corrected al places u) → (o : Result (ℤ ×
+    go : ((u : Text) → corrected_at al numbers u ≡ defined.corrected al numbers u) → (o : Result (ℤ
+        ×
         Text) Fault)
-        → (o >>= λ (f : ℤ × Text). corrected_at al places f.1 >>= λ (o : List ℤ × Text). Ok (
+        → (o >>= λ (f : ℤ × Text). corrected_at al numbers f.1 >>= λ (o : List ℤ × Text). Ok (
           f.0 ∷
               o.0,
           o.1,
         ))
-        ≡ read_on (λ (x : ℤ). λ u. read_on (λ (xs : List ℤ). gives (x ∷ xs)) (defined.corrected al places u)) o
+        ≡ read_on (λ (x : ℤ). λ u. read_on (λ (xs : List ℤ). gives (x ∷ xs)) (defined.corrected al
+        numbers u)) o
     go rec (Ok x) = ap (λ (o : Result (List ℤ × Text) Fault). o >>= λ (o : List ℤ × Text). Ok (x.0 ∷ o.0, o.1))
-        (rec x.1) ∙ last x.0 (defined.corrected al places x.1)
+        (rec x.1) ∙ last x.0 (defined.corrected al numbers x.1)
     go rec (Err e) = refl
 
 before-same : (front : List ℤ) (o : Result (Band × Text) Fault)

@@ -12,7 +12,7 @@ use Rattle.std.proofs.Math.Pow.{shl_exact}
 use Rattle.std.proofs.lemmas.Bool.{cases_lt}
 use Rattle.jpeg_bits.specs.Written.{low_bits}
 use Rattle.jpeg_bits.specs.Entropy.{bits_of, number_of}
-use Rattle.jpeg_bits.specs.Reservoir.{bits_held, HasZerosAfter}
+use Rattle.jpeg_bits.specs.Reservoir.{buffered_bits, HasZerosAfter}
 use Rattle.jpeg_bits.proofs.WrittenBits.{number_of-low_bits, length-low_bits}
 
 -- bits above the low ones do not count
@@ -55,18 +55,18 @@ same_zeros (x ∷ xs) (suc m) n k h g = ap (λ (l : List Bool). x ∷ l) (same_z
 
 -- the whole word
 pub whole_word : (word count : ℕ) → count ≤ 64 → HasZerosAfter word count
-    → low_bits 64 word ≡ bits_held word count ++ replicate (64 - count) false
+    → low_bits 64 word ≡ buffered_bits word count ++ replicate (64 - count) false
 whole_word word count h z =
     let e : 64 ≡ count + (64 - count) = omega arith in
     let k = 64 - count in grind (arith, common_steps, nat_tests, low_bits-split, low_bits-zeros)
 
 -- the first n bits, with zeros after them
 pub front_bits : (word count n : ℕ) → count ≤ 64 → n ≤ 64 → HasZerosAfter word count
-    → take n (bits_held word count ++ replicate n false) ≡ low_bits n (word / 2 ^ (64 - n))
+    → take n (buffered_bits word count ++ replicate n false) ≡ low_bits n (word / 2 ^ (64 - n))
 front_bits word count n h g z =
     let l = length-low_bits count (word / 2 ^ (64 - count)) in
     let e : 64 ≡ n + (64 - n) = omega arith in
-    same_zeros (bits_held word count) n n (64 - count) (omega (arith, l)) (omega (arith, l))
+    same_zeros (buffered_bits word count) n n (64 - count) (omega (arith, l)) (omega (arith, l))
     ∙ ap (take n) (sym (whole_word word count h z) ∙ ap (λ (k : ℕ). low_bits k word) e)
     ∙ low_bits-take n (64 - n) word
 
@@ -74,7 +74,7 @@ pub front_small : (word n m : ℕ) → word < 2 ^ (n + m) → word / 2 ^ m < 2 ^
 front_small word n m h = grind (arith, pow-add, div-lt_iff_lt-mul, pow_pos)
 
 pub front_number : (word count n : ℕ) → word < 2 ^ 64 → count ≤ 64 → n ≤ 64 → HasZerosAfter word count
-    → word / 2 ^ (64 - n) ≡ number_of (take n (bits_held word count ++ replicate n false))
+    → word / 2 ^ (64 - n) ≡ number_of (take n (buffered_bits word count ++ replicate n false))
 front_number word count n w h g z = grind (arith, front_bits, number_of-low_bits, front_small)
 
 -- the word by the bits of it
@@ -96,9 +96,10 @@ module _ (word count byte : ℕ) (few : count ≤ 56) (z : HasZerosAfter word co
   pub byte_zeros : HasZerosAfter (word + byte * 2 ^ (56 - count)) (count + 8)
   byte_zeros = grind (arith, with_byte, mul-mod_left)
 
-  pub byte_held : byte < 256 → bits_held (word + byte * 2 ^ (56 - count)) (count + 8) ≡ bits_held word count ++ bits_of
+  pub byte_buffered : byte < 256 → buffered_bits (word + byte * 2 ^ (56 - count)) (count + 8) ≡
+      buffered_bits word count ++ bits_of
       byte
-  byte_held small = grind (arith, with_byte, shl-shr, low_bits-append, byte_bits)
+  byte_buffered small = grind (arith, with_byte, shl-shr, low_bits-append, byte_bits)
 
   pub byte_fits : word < 2 ^ 64 → byte < 256 → word + byte * 2 ^ (56 - count) < 2 ^ 64
   byte_fits fits small =
@@ -146,9 +147,10 @@ module _ (word count n : ℕ) (few : count ≤ 64) (z : HasZerosAfter word count
             ap (λ (v : ℕ). v % 2 ^ (64 - (count - n))) f ∙ zero-mod (2 ^ (64 - (count - n)))
       ]
 
-  pub rest_held : bits_held (word * 2 ^ n % 2 ^ 64) (count - n) ≡ drop n (bits_held word count)
+  pub rest_buffered : buffered_bits (word * 2 ^ n % 2 ^ 64) (count - n) ≡ drop n (buffered_bits
+      word count)
   unfolding low_bits
-  rest_held =
+  rest_buffered =
       elim (cases_lt count n) [
         | inr le ↦
             let q = word / 2 ^ (64 - count) in
@@ -160,9 +162,9 @@ module _ (word count n : ℕ) (few : count ≤ 64) (z : HasZerosAfter word count
             grind (arith, drop_all, length-low_bits)
       ]
 
-pub none_held : (word : ℕ) → bits_held word 0 ≡ []
+pub none_buffered : (word : ℕ) → buffered_bits word 0 ≡ []
 unfolding low_bits
-none_held word = refl
+none_buffered word = refl
 
 pub word_fits : (v : ℕ) → v % 2 ^ 64 < 2 ^ 64
 word_fits v = mod-lt v (pow_pos 64)

@@ -9,17 +9,19 @@ use Rattle.jpeg_bits.specs.Codes.{code_lengths, code_in, first_from, begins}
 use Rattle.jpeg_bits.specs.Written.{low_bits}
 use Rattle.jpeg_bits.specs.ShortCodes.{ArePassed, value_after, HoldsRows, no_row}
 use Rattle.jpeg_bits.specs.declared.codes.Row.{Row}
-use Rattle.jpeg_bits.proofs.CodeLemmas.{Tried, Tried-none, Tried-more, code_found, code_missed, code_none, place_within}
+use Rattle.jpeg_bits.proofs.CodeLemmas.{Tried, Tried-none, Tried-more, code_found, code_missed}
+use Rattle.jpeg_bits.proofs.CodeLemmas.{code_none, zigzag_within}
 use Rattle.jpeg_bits.proofs.Reservoirs.{prefix_number}
-use Rattle.jpeg_bits.proofs.Held.{pow_more}
+use Rattle.jpeg_bits.proofs.BufferedBits.{pow_more}
 
 pub value-more : (counts : List ℕ) (i : ℕ) → i < length counts → value_after counts (i + 1) ≡ 2 * value_after counts i
     + get_or counts i 0
 value-more counts i lt = fold_more (λ (v c : ℕ). 2 * v + c) 0 counts i 0 lt
 
-pub place-more : (counts : List ℕ) (i : ℕ) → i < length counts → sum (take (i + 1) counts) ≡ sum (take i counts)
+pub index-more : (counts : List ℕ) (i : ℕ) → i < length counts → sum (take (i + 1) counts) ≡ sum
+    (take i counts)
     + get_or counts i 0
-place-more counts i lt = sum_by_more (λ (x : ℕ). x) counts i 0 lt
+index-more counts i lt = sum_by_more (λ (x : ℕ). x) counts i 0 lt
 
 pub tried-at : (counts : List ℕ) (i : ℕ) → i ≤ length counts
     → Tried (code_lengths counts) counts i (sum (take i counts)) (value_after counts i)
@@ -30,7 +32,7 @@ tried-at counts (suc i) h =
     let t = Tried-more lens counts i (sum (take i counts)) (value_after counts i) lt
     (tried-at counts i (omega arith)) in
     subst (λ (k : ℕ). Tried lens counts k (sum (take k counts)) (value_after counts k)) (add-one i)
-    (grind (arith, place-more, value-more))
+    (grind (arith, index-more, value-more))
 
 -- one bit less
 pub halved : (bits i : ℕ) → i < 16 → bits / 2 ^ (15 - i) / 2 ≡ bits / 2 ^ (16 - i)
@@ -63,18 +65,19 @@ module _ (counts : List ℕ) (rows : List Row) (bits i : ℕ) (counted : length 
       omega (arith, e, value-more counts i within, halved bits i lt, above, h)
 
   pub index_within : bits / 2 ^ (15 - i) < (get_or rows i no_row).end
-      → (get_or rows i no_row).place + (bits / 2 ^ (15 - i) - (get_or rows i no_row).first)
+      → (get_or rows i no_row).index + (bits / 2 ^ (15 - i) - (get_or rows i no_row).first)
       < length (code_lengths counts)
   index_within h =
       let e = ap (λ (r : Row). r.first) (holds i lt) in
-      let p = ap (λ (r : Row). r.place) (holds i lt) in
-      let w = place_within (code_lengths counts) counts i (sum (take i counts)) (value_after counts i) within
+      let p = ap (λ (r : Row). r.index) (holds i lt) in
+      let w = zigzag_within (code_lengths counts) counts i (sum (take i counts)) (value_after
+      counts i) within
       (tried-at counts i (omega arith)) (bits / 2 ^ (15 - i) - 2 * value_after counts i) (few_below h) in
       omega (arith, e, p, w)
 
   pub row_found : bits / 2 ^ (15 - i) < (get_or rows i no_row).end → NoneYet counts bits i
       → code_in (code_lengths counts) (low_bits 16 bits) ≡ Some (
-        (get_or rows i no_row).place
+        (get_or rows i no_row).index
             + (bits / 2 ^ (15 - i) - (get_or rows i no_row).first),
         i + 1,
       )
@@ -84,7 +87,7 @@ module _ (counts : List ℕ) (rows : List Row) (bits i : ℕ) (counted : length 
       code_found (code_lengths counts) counts i (sum (take i counts)) (value_after counts i) within
       (tried-at counts i (omega arith)) (low_bits 16 bits) (bits / 2 ^ (15 - i)) (prefix_number bits i fits lt)
       (omega (arith, e, f)) (few_below h) none
-      ∙ ap (λ (r : Row). Some (r.place + (bits / 2 ^ (15 - i) - r.first), i + 1)) (sym (holds i lt))
+      ∙ ap (λ (r : Row). Some (r.index + (bits / 2 ^ (15 - i) - r.first), i + 1)) (sym (holds i lt))
 
   pub row_missed : (get_or rows i no_row).end ≤ bits / 2 ^ (15 - i) → NoneYet counts bits i
       → NoneYet counts bits (i + 1)
@@ -93,7 +96,7 @@ module _ (counts : List ℕ) (rows : List Row) (bits i : ℕ) (counted : length 
       let v = value-more counts i within in
       subst (λ (n : ℕ). first_from (begins (code_lengths counts) (low_bits 16 bits)) 0 (length (code_lengths counts))
       ≡ first_from (begins (code_lengths counts) (low_bits 16 bits)) n (length (code_lengths counts) - n))
-      (sym (place-more counts i within))
+      (sym (index-more counts i within))
       (code_missed (code_lengths counts) counts i (sum (take i counts)) (value_after counts i) within
       (tried-at counts i (omega arith)) (low_bits 16 bits) (bits / 2 ^ (15 - i)) (prefix_number bits i fits lt)
       (λ g. omega (arith, e, v, h)) none)
@@ -125,8 +128,13 @@ pub none_found : (counts : List ℕ) (bits i : ℕ) → length counts ≡ 16 →
 none_found counts bits i counted h g none = code_none (code_lengths counts) counts i (sum (take i counts))
     (value_after counts i) (low_bits 16 bits) (omega arith) (tried-at counts i (omega arith)) none
 
-pub same_row : (a b c d e f : ℕ) → a ≡ d → b ≡ e → c ≡ f → ◌≡◌ {A = Row} (record { end = a; first = b; place = c })
-    (record { end = d; first = e; place = f })
+pub same_row : (a b c d e f : ℕ) → a ≡ d → b ≡ e → c ≡ f → ◌≡◌ {A = Row} (record {
+  end = a;
+  first =
+      b;
+  index = c;
+})
+    (record { end = d; first = e; index = f })
 same_row a b c d e f p q r = rw (p, q, r) refl
 
 -- ---- rows that are passed

@@ -1,5 +1,5 @@
 -- Lemmas that answers share.
-use Rattle.jpeg_bits.proofs.Held.{filled-less, filled-long}
+use Rattle.jpeg_bits.proofs.BufferedBits.{filled-less, filled-long}
 
 -- when enough bits are held
 pub ruleset filled = (filled-less, filled-long)

@@ -12,7 +12,8 @@ use Rattle.std.proofs.lemmas.List.{drop-drop, length-replicate}
 use Rattle.std.proofs.lemmas.Bool.{cases_lt, false≢true}
 use Rattle.std.proofs.lemmas.Bool.Decides.{nat_tests}
 use Rattle.jpeg_bits.specs.Reading.{◌>>=◌}
-use Rattle.jpeg_bits.specs.Entropy.{number_of, extended, upcoming_by, has_held, IsFilled, text_at}
+use Rattle.jpeg_bits.specs.Entropy.{number_of, extended, upcoming_by, has_buffered, IsFilled}
+use Rattle.jpeg_bits.specs.Entropy.{text_at}
 use Rattle.jpeg_bits.specs.Readers.{read_on, signed_from}
 use Rattle.jpeg_bits.specs.Written.{low_bits}
 use Rattle.jpeg_bits.specs.Codes.{Table, code_in, code_lengths, code_value, begins, first_from, next_16, is_ac}
@@ -27,7 +28,8 @@ use Rattle.jpeg_bits.proofs.WrittenBits.{length-low_bits, number_of-low_bits}
 use Rattle.jpeg_bits.proofs.Reservoirs.{low_bits-append, low_bits-zeros, low_bits-take, low_bits-drop, same_zeros}
 use Rattle.jpeg_bits.proofs.Reservoirs.{front_small}
 use Rattle.jpeg_bits.proofs.Tables.{IsRising, ordered, all-rising}
-use Rattle.jpeg_bits.proofs.Held.{has_bits-held, advance-held, bits_from-held, filled-less}
+use Rattle.jpeg_bits.proofs.BufferedBits.{has_bits-buffered, advance-buffered, bits_from-buffered}
+use Rattle.jpeg_bits.proofs.BufferedBits.{filled-less}
 
 -- ---- which code of at most n bits begins the bits is seen from the first n
 
@@ -147,15 +149,16 @@ none_short counts symbols bits h none c le found = grind (arith, short_of_16, fa
 -- ---- values by their first n bits
 
 -- the next n bits of a text of which n are held
-pub next-held : (n : ℕ) (bits : List Bool) (met : Option DataEnd) (bytes : List ℕ) → n ≤ 16 → IsFilled n bits met
+pub next-buffered : (n : ℕ) (bits : List Bool) (met : Option DataEnd) (bytes : List ℕ) → n ≤ 16 →
+    IsFilled n bits met
     → take n (next_16 (upcoming_by bits met bytes).bits) ≡ next_bits n bits
-next-held n bits None bytes le h =
+next-buffered n bits None bytes le h =
     let t = (text_at bytes).bits in
     let z = replicate 16 false in
     take-take n 16 ((bits ++ t) ++ z) le
     ∙ take-append-le n (bits ++ t) z (omega (arith, length-append bits t)) ∙ take-append-le n bits t h
     ∙ sym (take-append-le n bits (replicate n false) h)
-next-held n bits (Some end) bytes le h =
+next-buffered n bits (Some end) bytes le h =
     take-take n 16 (bits ++ replicate 16 false) le ∙ same_zeros bits n 16 n (omega arith) (omega arith)
 
 pub length-next_bits : (n : ℕ) (bits : List Bool) → length (next_bits n bits) ≡ n
@@ -169,18 +172,20 @@ eleven-front number bits e =
     ∙ same_zeros bits 11 16 11 (omega arith) (omega arith)
 
 -- whether the rest of some bits can be taken
-pub rest-held : (l n : ℕ) (bits : List Bool) (met : Option DataEnd) → l + n ≤ length bits
-    → has_held n (drop l bits) met ≡ Ok tt
-rest-held l n bits met h = grind (arith, length-drop)
+pub rest-buffered : (l n : ℕ) (bits : List Bool) (met : Option DataEnd) → l + n ≤ length bits
+    → has_buffered n (drop l bits) met ≡ Ok tt
+rest-buffered l n bits met h = grind (arith, length-drop)
 
-both-held : (l n : ℕ) (bits : List Bool) (met : Option DataEnd) → has_held (l + n) bits met ≡ Ok tt
-    → has_held n (drop l bits) met ≡ Ok tt
-both-held l n bits met h = grind (arith, rest-held, false≢true)
+both-buffered : (l n : ℕ) (bits : List Bool) (met : Option DataEnd) → has_buffered (l + n) bits met
+    ≡ Ok tt
+    → has_buffered n (drop l bits) met ≡ Ok tt
+both-buffered l n bits met h = grind (arith, rest-buffered, false≢true)
 
 -- fewer bits can be taken too
-pub fewer-held : (few n : ℕ) (bits : List Bool) (met : Option DataEnd) → few ≤ n → has_held n bits met ≡ Ok tt
-    → has_held few bits met ≡ Ok tt
-fewer-held few n bits met le h = grind (arith, rest-held, false≢true)
+pub fewer-buffered : (few n : ℕ) (bits : List Bool) (met : Option DataEnd) → few ≤ n → has_buffered
+    n bits met ≡ Ok tt
+    → has_buffered few bits met ≡ Ok tt
+fewer-buffered few n bits met le h = grind (arith, rest-buffered, false≢true)
 
 zeros-after : (bits : List Bool) (l n k : ℕ) → l + n ≤ k → take n (drop l (bits ++ replicate k false))
     ≡ take n (drop l bits ++ replicate n false)
@@ -232,21 +237,29 @@ module _ (most : ℕ) (table : Table) (bits : List Bool) (met : Option DataEnd) 
   pub value-text : length table.counts ≡ 16 → short_value_of most table (next_bits most bits)
       ≡ short_value_by most table.class (next_bits most bits)
       (symbol_in table (next_16 (upcoming_by bits met bytes).bits))
-  value-text counted = grind (arith, value_seen, front_of, length-next_bits, next-held)
+  value-text counted = grind (arith, value_seen, front_of, length-next_bits, next-buffered)
 
   -- the value after a code of l bits
-  pub value-read : (l s : ℕ) → l + s ≤ most → has_held (l + s) bits met ≡ Ok tt
+  pub value-read : (l s : ℕ) → l + s ≤ most → has_buffered (l + s) bits met ≡ Ok tt
       → signed_from s (upcoming_by (drop l bits) met bytes)
       ≡ Ok (extended (number_of (take s (drop l (next_bits most bits)))) s, upcoming_by (drop (l + s) bits) met bytes)
   unfolding signed_from
-  value-read l s le held = grind (arith, filled-rest, drop-drop, bits_from-held, both-held, value-bits)
+  value-read l s le buffered = grind (
+    arith,
+    filled-rest,
+    drop-drop,
+    bits_from-buffered,
+    both-buffered,
+    value-bits,
+  )
 
 module _ (table : Table) (bits : List Bool) (met : Option DataEnd) (bytes : List ℕ) (filled : IsFilled 8 bits met)
     (counted : length table.counts ≡ 16) where
   token-text : (c : ℕ × ℕ) (v : ℤ) (r n : ℕ) → IsShort 8 table c (next_bits 8 bits) v r n
-      → read_on short_value (after_code c.1 (upcoming_by bits met bytes) (short_token table c)) ≡ (has_held n bits met
+      → read_on short_value (after_code c.1 (upcoming_by bits met bytes) (short_token table c)) ≡
+      (has_buffered n bits met
       >>= λ (u : Unit {0}). Ok (Some (v, r), upcoming_by (drop n bits) met bytes))
-  token-text c v r n k = grind (arith, filled-less, has_bits-held, advance-held, value-read)
+  token-text c v r n k = grind (arith, filled-less, has_bits-buffered, advance-buffered, value-read)
 
   -- no short token
   pub fast-none : short_value_of 8 table (next_bits 8 bits) ≡ None → fast_from table (upcoming_by bits met bytes) ≡ Ok (
@@ -268,7 +281,8 @@ module _ (table : Table) (bits : List Bool) (met : Option DataEnd) (bytes : List
 
   -- a short token, and how many bits it takes
   pub fast-some : (v : ℤ) (r n : ℕ) → short_value_of 8 table (next_bits 8 bits) ≡ Some (v, r, n)
-      → fast_from table (upcoming_by bits met bytes) ≡ (has_held n bits met >>= λ (u : Unit {0}). Ok (
+      → fast_from table (upcoming_by bits met bytes) ≡ (has_buffered n bits met >>= λ (u : Unit
+      {0}). Ok (
         Some (v, r),
         upcoming_by (drop n bits) met bytes,
       ))
@@ -278,7 +292,8 @@ module _ (table : Table) (bits : List Bool) (met : Option DataEnd) (bytes : List
     where
       go : (o : Option (ℕ × ℕ)) → short_value_by 8 table.class (next_bits 8 bits) (named table.symbols o)
           ≡ Some (v, r, n)
-          → read_on short_value (short_code_by table (upcoming_by bits met bytes) o) ≡ (has_held n bits met
+          → read_on short_value (short_code_by table (upcoming_by bits met bytes) o) ≡
+          (has_buffered n bits met
           >>= λ (u : Unit {0}). Ok (Some (v, r), upcoming_by (drop n bits) met bytes))
       go None w = absurd (false≢true (ap is_some w))
       go (Some c) w = token-text c v r n (short_some 8 table c (next_bits 8 bits) v r n w)

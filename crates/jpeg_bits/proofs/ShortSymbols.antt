@@ -4,14 +4,16 @@ use Rattle.std.proofs.Common.{Err, refl, sym, ap, ◌∙◌, is_ok, get_or}
 use Rattle.std.proofs.lemmas.Bool.{false≢true}
 use Rattle.jpeg_bits.specs.Stream.{Stream}
 use Rattle.jpeg_bits.specs.Reading.{Fault, ◌>>=◌ as ◌>>r=◌, Names, NamesFormat}
-use Rattle.jpeg_bits.specs.Entropy.{Ahead, Takes, upcoming_by, upcoming, has_held, IsFilled}
-use Rattle.jpeg_bits.specs.Codes.{Table, code_in, code_lengths, next_16, symbol_from, fast_from, if_held, code_from}
+use Rattle.jpeg_bits.specs.Entropy.{Ahead, Takes, upcoming_by, upcoming, has_buffered, IsFilled}
+use Rattle.jpeg_bits.specs.Codes.{Table, code_in, code_lengths, next_16, symbol_from, fast_from}
+use Rattle.jpeg_bits.specs.Codes.{if_buffered, code_from}
 use Rattle.jpeg_bits.specs.ShortCodes.{symbol_in, short_value_of, next_bits}
 use Rattle.jpeg_bits.specs.declared.error.Error.{Error}
 use Rattle.jpeg_bits.specs.declared.ahead.DataEnd.{DataEnd}
 use Rattle.jpeg_bits.proofs.Loops.{Names-through, bind_err, still_known}
-use Rattle.jpeg_bits.proofs.Held.{ok_unit, MayFail-same}
-use Rattle.jpeg_bits.proofs.Symbols.{code_from-held, code_from-none, names_format, may_fail_format}
+use Rattle.jpeg_bits.proofs.BufferedBits.{ok_unit, MayFail-same}
+use Rattle.jpeg_bits.proofs.Symbols.{code_from-buffered, code_from-none, names_format}
+use Rattle.jpeg_bits.proofs.Symbols.{may_fail_format}
 use Rattle.jpeg_bits.proofs.ShortLemmas.{fast-none, fast-some}
 use Rattle.jpeg_bits.proofs.Tables.{symbol-code}
 
@@ -33,20 +35,24 @@ no_code_of table bits h = grind (arith, false≢true)
 code_from-named : (table : Table) (bits : List Bool) (met : Option DataEnd) (bytes : List ℕ) (symbol size : ℕ)
     → IsFilled 16 bits met → size ≤ 16 → symbol_in table (next_16 bits) ≡ Some (symbol, size)
     → code_from table (upcoming_by bits met bytes)
-    ≡ if_held (size, symbol) (upcoming_by (drop size bits) met bytes) (has_held size bits met)
-code_from-named table bits met bytes symbol size f le e = grind (arith, code_of, code_from-held)
+    ≡ if_buffered (size, symbol) (upcoming_by (drop size bits) met bytes) (has_buffered size bits
+    met)
+code_from-named table bits met bytes symbol size f le e = grind (arith, code_of, code_from-buffered)
 
-pub Code-held : (table : Table) (b d : Ahead) (source : Stream) (symbol size : ℕ) → IsFilled 16 b.bits b.met
-    → size ≤ 16 → symbol_in table (next_16 b.bits) ≡ Some (symbol, size) → is_ok (has_held size b.bits b.met) ≡ true
+pub Code-buffered : (table : Table) (b d : Ahead) (source : Stream) (symbol size : ℕ) → IsFilled 16
+    b.bits b.met
+    → size ≤ 16 → symbol_in table (next_16 b.bits) ≡ Some (symbol, size) → is_ok (has_buffered size
+    b.bits b.met) ≡ true
     → d.bits ≡ drop size b.bits → d.met ≡ b.met
     → Takes (λ (c : ℕ × ℕ). c) (code_from table) b source (Ok (size, symbol)) d source
 unfolding upcoming
-Code-held table b d source symbol size f le e ok eb em = (
+Code-buffered table b d source symbol size f le e ok eb em = (
   refl,
   λ known. (
     known,
     code_from-named table b.bits b.met source.bytes symbol size f le e
-        ∙ ap (if_held (size, symbol) (upcoming_by (drop size b.bits) b.met source.bytes)) (ok_unit _ ok)
+        ∙ ap (if_buffered (size, symbol) (upcoming_by (drop size b.bits) b.met source.bytes))
+        (ok_unit _ ok)
         ∙ sym (ap (λ bs. Ok ((size, symbol), upcoming_by bs d.met source.bytes)) eb
         ∙ ap (λ m. Ok ((size, symbol), upcoming_by (drop size b.bits) m source.bytes)) em),
   ),
@@ -54,13 +60,13 @@ Code-held table b d source symbol size f le e ok eb em = (
 
 pub Code-refused : (table : Table) (b : Ahead) (source : Stream) (symbol size : ℕ) (e : Error)
     → IsFilled 16 b.bits b.met → size ≤ 16 → symbol_in table (next_16 b.bits) ≡ Some (symbol, size)
-    → Names e (has_held size b.bits b.met)
+    → Names e (has_buffered size b.bits b.met)
     → Takes (λ (c : ℕ × ℕ). c) (code_from table) b source (Err e) b source
 unfolding upcoming
 Code-refused table b source symbol size e f le h want = (
-  MayFail-same e (has_held size b.bits b.met) source.failed want,
+  MayFail-same e (has_buffered size b.bits b.met) source.failed want,
   λ known _. Names-through e _ _ (λ g x. code_from-named table b.bits b.met source.bytes symbol size f le h
-      ∙ ap (if_held (size, symbol) (upcoming_by (drop size b.bits) b.met source.bytes)) x) want,
+      ∙ ap (if_buffered (size, symbol) (upcoming_by (drop size b.bits) b.met source.bytes)) x) want,
   λ known gone. still_known e _ known gone,
 )
 
@@ -82,7 +88,7 @@ Symbol-no-code table b d source e code = grind (arith, symbol-code)
 
 pub fast-taken : (table : Table) (b d : Ahead) (bytes : List ℕ) (v : ℤ) (r n : ℕ) → length table.counts ≡ 16
     → IsFilled 8 b.bits b.met → short_value_of 8 table (next_bits 8 b.bits) ≡ Some (v, r, n)
-    → is_ok (has_held n b.bits b.met) ≡ true → d.bits ≡ drop n b.bits → d.met ≡ b.met
+    → is_ok (has_buffered n b.bits b.met) ≡ true → d.bits ≡ drop n b.bits → d.met ≡ b.met
     → fast_from table (upcoming b bytes) ≡ Ok (Some (v, r), upcoming d bytes)
 unfolding upcoming
 fast-taken table b d bytes v r n counted f e ok eb em =
@@ -96,7 +102,7 @@ fast-taken table b d bytes v r n counted f e ok eb em =
 
 pub fast-refused : (table : Table) (b : Ahead) (bytes : List ℕ) (v : ℤ) (r n : ℕ) → length table.counts ≡ 16
     → IsFilled 8 b.bits b.met → short_value_of 8 table (next_bits 8 b.bits) ≡ Some (v, r, n)
-    → (f : Fault) → has_held n b.bits b.met ≡ Err f → fast_from table (upcoming b bytes) ≡ Err f
+    → (f : Fault) → has_buffered n b.bits b.met ≡ Err f → fast_from table (upcoming b bytes) ≡ Err f
 unfolding upcoming
 fast-refused table b bytes v r n counted h e f x =
     fast-some table b.bits b.met bytes h counted v r n e ∙ bind_err _ _ f x

@@ -10,8 +10,9 @@ use Rattle.std.proofs.lemmas.List.{take-take}
 use Rattle.std.proofs.Math.Nat.{div-add-mod'}
 use Rattle.jpeg_bits.proofs.Reservoirs.{low_bits-append, low_bits-zeros, low_bits-take, low_bits-drop, low_bits-high}
 use Rattle.jpeg_bits.proofs.Reservoirs.{same_zeros}
-use Rattle.jpeg_bits.proofs.Fast.{both-held}
-use Rattle.jpeg_bits.proofs.WideTokens.{none-left, value-within, advanced, held-then, token-seen}
+use Rattle.jpeg_bits.proofs.Fast.{both-buffered}
+use Rattle.jpeg_bits.proofs.WideTokens.{none-left, value-within, advanced, buffered-then}
+use Rattle.jpeg_bits.proofs.WideTokens.{token-seen}
 use Rattle.jpeg_bits.specs.Reading.{Fault}
 use Rattle.jpeg_bits.specs.Entropy.{Text, advance, has_bits, bits_from}
 use Rattle.jpeg_bits.specs.Codes.{Table, next_16, code_from}
@@ -159,14 +160,14 @@ signed-passed : (others : ℕ → Reads ℕ) (room r s : ℕ) (t : Text) → has
     → read_on (run_after others room) (read_on (λ (v : ℤ). gives (Value r v)) (signed_from s t))
     ≡ others (room - (r + 1)) (advance s t)
 unfolding signed_from bits_from
-signed-passed others room r s t held = rw held refl
+signed-passed others room r s t buffered = rw buffered refl
 
 value-passed : (others : ℕ → Reads ℕ) (room size r s : ℕ) (t : Text) → 0 < s → r < room
     → has_bits s t.bits t.ending ≡ Ok tt
     → read_on (run_after others room) (token_at room size r s t) ≡ others (room - (r + 1)) (advance s t)
-value-passed others room size r s t some within held =
+value-passed others room size r s t some within buffered =
     ap (read_on (run_after others room)) (value-within room size r s t (lt-ltb 0 s some) (lt-ltb r room within))
-    ∙ signed-passed others room r s t held
+    ∙ signed-passed others room r s t buffered
 
 sixteen-passed : (others : ℕ → Reads ℕ) (room size r s : ℕ) (t : Text) → s ≡ 0 → r ≡ 15
     → read_on (run_after others room) (token_at room size r s t) ≡ others (room - (r + 1)) (advance s t)
@@ -186,14 +187,15 @@ module _ (table : Table) (counted : length table.counts ≡ 16) (bits : List Boo
         → PassesOver table bits (used, passed, false)
         → PassesOver table bits (used + count, passed + (r + 1), false)
     skip-more count passed is le all h room lt most t b =
-        let held : has_bits (used + size + s) t.bits t.ending ≡ Ok tt
+        let buffered : has_bits (used + size + s) t.bits t.ending ≡ Ok tt
         = ap (λ (k : ℕ). has_bits k t.bits t.ending) (omega (arith, is)) ∙ b.1 in
-        let here = both-held (used + size) s t.bits t.ending held in
+        let here = both-buffered (used + size) s t.bits t.ending buffered in
         let room' = room - passed in
         let u = advance used t in
         let v = advance size u in
         let next : has_bits s v.bits v.ending ≡ Ok tt
-        = ap (λ (w : Text). has_bits s w.bits w.ending) (advanced used size t) ∙ held-then (used + size) s t held in
+        = ap (λ (w : Text). has_bits s w.bits w.ending) (advanced used size t) ∙ buffered-then
+        (used + size) s t buffered in
         let step : read_on (run_after (run_of table) room') (token_at room' size r s v)
         ≡ run_of table (room' - (r + 1)) (advance s v)
         = elim (cases_lt 0 s) [
@@ -204,7 +206,7 @@ module _ (table : Table) (counted : length table.counts ≡ 16) (bits : List Boo
         let after : advance s v ≡ advance (used + count) t
         = ap (advance s) (advanced used size t) ∙ advanced (used + size) s t
         ∙ ap (λ (k : ℕ). advance k t) (omega (arith, is)) in
-        h room (omega arith) most t (b.0, both-held used size t.bits t.ending here)
+        h room (omega arith) most t (b.0, both-buffered used size t.bits t.ending here)
         ∙ run-token table room' u (omega arith)
         ∙ ap (read_on (run_after (run_of table) room')) (token-seen table counted 12 (omega arith) bits long used
         (replicate (4 + used) false) symbol size found room' t b.0 (omega (arith, is)) here)
@@ -222,7 +224,7 @@ module _ (table : Table) (counted : length table.counts ≡ 16) (bits : List Boo
         let room' = room - passed in
         let u = advance used t in
         let v = advance size u in
-        h room lt most t (b.0, both-held used size t.bits t.ending here)
+        h room lt most t (b.0, both-buffered used size t.bits t.ending here)
         ∙ run-token table room' u (omega arith)
         ∙ ap (read_on (run_after (run_of table) room')) (token-seen table counted 12 (omega arith) bits long used
         (replicate (4 + used) false) symbol size found room' t b.0 (omega (arith, is)) here

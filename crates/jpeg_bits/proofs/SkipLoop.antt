@@ -2,7 +2,8 @@
 use Rattle.std.proofs.Common.{◌≡◌, ℕ, ◌-◌, ◌<◌, ◌≤◌, Bool, true, false, List, drop, Ok, Err, refl, ap, ◌∙◌}
 use Rattle.std.proofs.Common.{arith, is_ok, sym, Option}
 use Rattle.jpeg_bits.specs.Stream.{Stream}
-use Rattle.jpeg_bits.specs.Entropy.{Text, Ahead, Takes, advance, upcoming_by, upcoming, same_text, has_held, IsFilled}
+use Rattle.jpeg_bits.specs.Entropy.{Text, Ahead, Takes, advance, upcoming_by, upcoming, same_text}
+use Rattle.jpeg_bits.specs.Entropy.{has_buffered, IsFilled}
 use Rattle.jpeg_bits.specs.Codes.{Table}
 use Rattle.jpeg_bits.specs.ShortCodes.{next_bits}
 use Rattle.jpeg_bits.specs.Readers.{read_on, gives}
@@ -13,21 +14,22 @@ use Rattle.jpeg_bits.specs.declared.ahead.DataEnd.{DataEnd}
 use Rattle.jpeg_bits.specs.declared.tokens.Token.{Token}
 use Rattle.jpeg_bits.proofs.BandLoop.{Leaves}
 use Rattle.jpeg_bits.proofs.BandSteps.{Leaves-ok, Leaves-err, Leaves-end, Leaves-buffered}
-use Rattle.jpeg_bits.proofs.Held.{has_bits-held, advance-held, filled-less, ok_unit}
+use Rattle.jpeg_bits.proofs.BufferedBits.{has_bits-buffered, advance-buffered, filled-less, ok_unit}
 use Rattle.jpeg_bits.proofs.SkipLemmas.{run-token, run-none}
 use Rattle.jpeg_bits.proofs.WideTokens.{front-text}
 use Rattle.jpeg_bits.specs.declared.tokens.Token.TheVariants.{Rest, Overlong}
 
-after-held : (table : Table) (left n passed : ℕ) (last : Bool) (bits : List Bool) (met : Option DataEnd)
+after-buffered : (table : Table) (left n passed : ℕ) (last : Bool) (bits : List Bool) (met : Option
+    DataEnd)
     (bytes : List ℕ) → IsFilled 16 bits met → IsSkip table (next_bits 12 bits) (n, passed, last) → passed < left
-    → left ≤ 63 → is_ok (has_held n bits met) ≡ true
+    → left ≤ 63 → is_ok (has_buffered n bits met) ≡ true
     → run_of table left (upcoming_by bits met bytes)
     ≡ after_skip table left (n, passed, last) (upcoming_by bits met bytes)
-after-held table left n passed last bits met bytes filled skip lt most ok =
+after-buffered table left n passed last bits met bytes filled skip lt most ok =
     let few : n ≤ 16 = omega (arith, skip.few) in
     skip.passes left lt most (upcoming_by bits met bytes) (
       front-text 12 bits met bytes (omega arith) (filled-less 12 16 bits met (omega arith) filled),
-      has_bits-held n bits met bytes (filled-less n 16 bits met few filled) ∙ ok_unit _ ok,
+      has_bits-buffered n bits met bytes (filled-less n 16 bits met few filled) ∙ ok_unit _ ok,
     )
 
 module _ (table : Table) (room left : ℕ) (a b d e : Ahead) (old cur mid new : Stream)
@@ -65,19 +67,23 @@ module _ (table : Table) (room left : ℕ) (a b d e : Ahead) (old cur mid new : 
   -- several tokens at once
   module _ (n passed count over : ℕ) (last : Bool) (counted : count ≡ n) (is : over ≡ passed)
       (filled : IsFilled 16 d.bits d.met) (skip : IsSkip table (next_bits 12 d.bits) (n, passed, last))
-      (lt : over < left) (most : left ≤ 63) (ok : true ≡ is_ok (has_held count d.bits d.met))
+      (lt : over < left) (most : left ≤ 63) (ok : true ≡ is_ok (has_buffered count d.bits d.met))
       (bits : e.bits ≡ drop count d.bits) (met : e.met ≡ d.met) where
     after-text : (bytes : List ℕ)
         → run_of table left (upcoming d bytes) ≡ after_skip table left (n, passed, last) (upcoming d bytes)
     unfolding upcoming
     after-text bytes =
-        after-held table left n passed last d.bits d.met bytes filled skip (omega (arith, lt, is)) most
-        (ap (λ (k : ℕ). is_ok (has_held k d.bits d.met)) (sym counted) ∙ sym ok)
+        after-buffered table left n passed last d.bits d.met bytes filled skip (omega (
+          arith,
+          lt,
+          is,
+        )) most
+        (ap (λ (k : ℕ). is_ok (has_buffered k d.bits d.met)) (sym counted) ∙ sym ok)
 
     next-text : (bytes : List ℕ) → advance n (upcoming d bytes) ≡ upcoming e bytes
     unfolding upcoming
     next-text bytes =
-        advance-held n d.bits d.met bytes
+        advance-buffered n d.bits d.met bytes
         (filled-less n 16 d.bits d.met (omega (arith, skip.few)) filled)
         ∙ ap (λ (k : ℕ). upcoming_by (drop k d.bits) d.met bytes) (sym counted)
         ∙ sym (ap (λ (l : List Bool). upcoming_by l e.met bytes) bits
@@ -85,10 +91,10 @@ module _ (table : Table) (room left : ℕ) (a b d e : Ahead) (old cur mid new : 
 
     pub skip-over : last ≡ false → Leaves (run_of table room) a old (run_of table (left - over)) e mid
     skip-over on =
-        let held = text-buffered in (
-          held.0,
+        let buffered = text-buffered in (
+          buffered.0,
           λ known.
-              let at = held.1 known in (
+              let at = buffered.1 known in (
                 at.0,
                 at.1 ∙ after-text mid.bytes
                     ∙ ap (λ (l : Bool). after_skip table left (n, passed, l) (upcoming d mid.bytes)) on
@@ -99,10 +105,10 @@ module _ (table : Table) (room left : ℕ) (a b d e : Ahead) (old cur mid new : 
 
     pub skip-to-end : last ≡ true → Takes (λ (run : ℕ). run) (run_of table room) a old (Ok 0) e mid
     skip-to-end end =
-        let held = text-buffered in (
-          held.0,
+        let buffered = text-buffered in (
+          buffered.0,
           λ known.
-              let at = held.1 known in (
+              let at = buffered.1 known in (
                 at.0,
                 at.1 ∙ after-text mid.bytes
                     ∙ ap (λ (l : Bool). after_skip table left (n, passed, l) (upcoming d mid.bytes)) end

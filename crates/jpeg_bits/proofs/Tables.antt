@@ -14,7 +14,7 @@ use Rattle.jpeg_bits.specs.Codes.{Table, code_lengths, lengths_from, code_value,
 use Rattle.jpeg_bits.specs.Codes.{begins, first_from, code_in, next_16, symbol_from, code_from, code_by}
 use Rattle.jpeg_bits.specs.Entropy.{Text, number_of}
 use Rattle.jpeg_bits.proofs.CodeLemmas.{first_from-skip, first_from-hit}
-use Rattle.jpeg_bits.proofs.Held.{has_enough, bit_le}
+use Rattle.jpeg_bits.proofs.BufferedBits.{has_enough, bit_le}
 use Rattle.jpeg_bits.specs.Readers.{read_on, gives, text, ReadsJust}
 use Rattle.jpeg_bits.specs.Written.{low_bits, code_size, code_bits}
 use Rattle.jpeg_bits.proofs.WrittenBits.{number_of-low_bits, length-low_bits, number_onto}
@@ -191,12 +191,12 @@ pub code-read : (table : Table) (i : ℕ) → length table.counts ≡ 16 → Has
     → ReadsJust (code_from table) (code_bits table i) (code_size table i, slice_index table.symbols i)
 unfolding code_from
 code-read table i h all within = record {
-  read = λ rest places e.
+  read = λ rest indices e.
       let lens = code_lengths table.counts in
       let s = get_or lens i 0 in
       let own = code_bits table i in
       let long : length own ≡ s = length-low_bits s (code_value lens i) in
-      let t = text (own ++ rest) places e in
+      let t = text (own ++ rest) indices e in
       let found = finds 1 16 lens (all-rising table.counts h) (next_16 (own ++ rest)) (enough-bits (own ++ rest)) i
       within (begins-own table.counts i rest h all within) in
       ap (code_by table t) found ∙ rw (

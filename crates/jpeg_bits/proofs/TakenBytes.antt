@@ -5,18 +5,21 @@ use Rattle.std.proofs.lemmas.List.{take_all}
 use Rattle.std.specs.Io.KnownBytes.{Consumes, prepend_known}
 use Rattle.std.specs.Io.BufRead.{DropsConsumable}
 
-pub consumes-front : (is_none : Bool) (x : ℕ) (held : List ℕ) (inner new : Option (List ℕ))
-    → DropsConsumable (if is_none then None else prepend_known (x ∷ held) inner) new (Some (length (x ∷ held))) 1
-    → Consumes (if is_none then None else prepend_known (x ∷ held) inner) new (x ∷ [])
-consumes-front is_none x held inner new h = grind arith
+pub consumes-front : (is_none : Bool) (x : ℕ) (buffered : List ℕ) (inner new : Option (List ℕ))
+    → DropsConsumable (if is_none then None else prepend_known (x ∷ buffered) inner) new (Some
+    (length (x ∷ buffered))) 1
+    → Consumes (if is_none then None else prepend_known (x ∷ buffered) inner) new (x ∷ [])
+consumes-front is_none x buffered inner new h = grind arith
 
 -- the byte is put into a place for one
-pub takes-front : (is_none : Bool) (held buf : List ℕ) (inner new : Option (List ℕ)) → 0 < length held → length buf ≡ 1
-    → DropsConsumable (if is_none then None else prepend_known held inner) new (Some (length held)) 1
-    → Consumes (if is_none then None else prepend_known held inner) new
-    (take 1 (slice_set buf 0 (slice_index_or held 0 0)))
-takes-front z (x ∷ held) (b ∷ []) inner new some one h = consumes-front z x held inner new h
-takes-front z held buf inner new some one h = absurd (omega (arith, some, one))
+pub takes-front : (is_none : Bool) (buffered buf : List ℕ) (inner new : Option (List ℕ)) → 0 <
+    length buffered → length buf ≡ 1
+    → DropsConsumable (if is_none then None else prepend_known buffered inner) new (Some (length
+    buffered)) 1
+    → Consumes (if is_none then None else prepend_known buffered inner) new
+    (take 1 (slice_set buf 0 (slice_index_or buffered 0 0)))
+takes-front z (x ∷ buffered) (b ∷ []) inner new some one h = consumes-front z x buffered inner new h
+takes-front z buffered buf inner new some one h = absurd (omega (arith, some, one))
 
 -- the first of some bytes, and the others
 pub takes-first : (bytes buf : List ℕ) → 0 < length bytes → length buf ≡ 1

@@ -6,7 +6,8 @@ use Rattle.std.proofs.Common.{take, drop, replicate, get_or, Option, Some, None,
 use Rattle.std.proofs.Common.{arith, is_some, ltb, append_assoc, append-nil, length-drop}
 use Rattle.std.proofs.lemmas.Bool.{lt-ltb, false≢true}
 use Rattle.std.proofs.lemmas.List.{take-take, take-append-le, drop-append-le, drop-drop}
-use Rattle.jpeg_bits.specs.Entropy.{Text, Ahead, upcoming_by, upcoming, IsFilled, has_held, Takes, advance}
+use Rattle.jpeg_bits.specs.Entropy.{Text, Ahead, upcoming_by, upcoming, IsFilled, has_buffered}
+use Rattle.jpeg_bits.specs.Entropy.{Takes, advance}
 use Rattle.jpeg_bits.specs.Entropy.{has_bits, bits_from, number_of, extended}
 use Rattle.jpeg_bits.specs.Stream.{Stream}
 use Rattle.jpeg_bits.specs.declared.codes.HuffmanTableClass.{HuffmanTableClass}
@@ -18,11 +19,11 @@ use Rattle.jpeg_bits.specs.Bands.{token_at, token_from}
 use Rattle.jpeg_bits.specs.declared.ahead.DataEnd.{DataEnd}
 use Rattle.jpeg_bits.specs.declared.tokens.Token.{Token}
 use Rattle.jpeg_bits.specs.declared.tokens.Token.TheVariants.{Value, Rest}
-use Rattle.jpeg_bits.proofs.Held.{has_bits-held, advance-held, filled-less}
-use Rattle.jpeg_bits.proofs.Fast.{no-bits, both-held}
+use Rattle.jpeg_bits.proofs.BufferedBits.{has_bits-buffered, advance-buffered, filled-less}
+use Rattle.jpeg_bits.proofs.Fast.{no-bits, both-buffered}
 use Rattle.jpeg_bits.proofs.Reservoirs.{same_zeros}
 use Rattle.jpeg_bits.proofs.ShortLemmas.{IsShort, short_some, size_of, all_short, at_most, short_agree, value-bits}
-use Rattle.jpeg_bits.proofs.ShortLemmas.{length-next_bits, next-held}
+use Rattle.jpeg_bits.proofs.ShortLemmas.{length-next_bits, next-buffered}
 use Rattle.jpeg_bits.proofs.Tables.{all-rising}
 
 -- a value within the room
@@ -44,15 +45,20 @@ pub advanced : (m n : ℕ) (t : Text) → advance n (advance m t) ≡ advance (m
 advanced m n t = grind (arith, common_steps, drop-drop)
 
 -- the bits after the first n can be taken where all can
-pub held-then : (n s : ℕ) (t : Text) → has_bits (n + s) t.bits t.ending ≡ Ok tt
+pub buffered-then : (n s : ℕ) (t : Text) → has_bits (n + s) t.bits t.ending ≡ Ok tt
     → has_bits s (advance n t).bits (advance n t).ending ≡ Ok tt
-held-then n s t h = grind (arith, common_steps, nat_tests, false≢true, length-drop)
+buffered-then n s t h = grind (arith, common_steps, nat_tests, false≢true, length-drop)
 
 -- a code that is seen in some bits is that of a text whose bits agree with them so far
 seen-code : (table : Table) (n symbol size : ℕ) (u : Text) (o p : Option (ℕ × ℕ))
     → named table.symbols o ≡ Some (symbol, size) → at_most n o ≡ at_most n p → size ≤ n
     → has_bits size u.bits u.ending ≡ Ok tt → code_by table u p ≡ Ok ((size, symbol), advance size u)
-seen-code table n symbol size u o p is same le held = grind (arith, common_steps, nat_tests, false≢true)
+seen-code table n symbol size u o p is same le buffered = grind (
+  arith,
+  common_steps,
+  nat_tests,
+  false≢true,
+)
 
 module _ (table : Table) (counted : length table.counts ≡ 16) (most : ℕ) (few : most ≤ 16) (bits : List Bool)
     (long : length bits ≡ most) (used : ℕ) (more : List Bool) (symbol size : ℕ)
@@ -63,7 +69,7 @@ module _ (table : Table) (counted : length table.counts ≡ 16) (most : ℕ) (fe
       → token_from table room (advance used t)
       ≡ token_at room size (symbol / 16) (symbol % 16) (advance size (advance used t))
   unfolding token_from code_from
-  token-seen room t e le held =
+  token-seen room t e le buffered =
       let n = most - used in
       let lens = code_lengths table.counts in
       let x = drop used bits ++ more in
@@ -77,13 +83,13 @@ module _ (table : Table) (counted : length table.counts ≡ 16) (most : ℕ) (fe
       let same = short_agree n lens (all-rising table.counts counted) x y (first ∙ sym second) in
       ap (read_on (λ (c : ℕ × ℕ). token_at room c.0 (c.1 / 16) (c.1 % 16)))
       (seen-code table n symbol size (advance used t) (code_in lens x) (code_in lens y) found same (omega arith)
-      (held-then used size t held))
+      (buffered-then used size t buffered))
 
 -- a signed number of bits that can be taken
 signed-seen : (s : ℕ) (t : Text) → has_bits s t.bits t.ending ≡ Ok tt
     → signed_from s t ≡ Ok (extended (number_of (take s (t.bits ++ replicate s false))) s, advance s t)
 unfolding signed_from bits_from
-signed-seen s t held = rw held refl
+signed-seen s t buffered = rw buffered refl
 
 -- the bits of a value after its code
 seen-bits : (bits more : List Bool) (used l s : ℕ) → used + l + s ≤ 11
@@ -94,7 +100,8 @@ seen-bits bits more used l s le =
     grind (arith, drop-append-le, take-append-le, drop-drop, length-drop, value-bits 11 bits (used + l) s)
 
 module _ (table : Table) (room : ℕ) (t : Text) (used : ℕ) (more : List Bool) (v : ℤ) (r n : ℕ)
-    (counted : length table.counts ≡ 16) (le : used + n ≤ 11) (held : has_bits (used + n) t.bits t.ending ≡ Ok tt)
+    (counted : length table.counts ≡ 16) (le : used + n ≤ 11) (buffered : has_bits (used + n)
+    t.bits t.ending ≡ Ok tt)
     (within : r < room) where
   -- by its code
   at-value : (c : ℕ × ℕ)
@@ -109,10 +116,11 @@ module _ (table : Table) (room : ℕ) (t : Text) (used : ℕ) (more : List Bool)
       let found : symbol_in table (drop used xs ++ (more ++ zeros)) ≡ Some (symbol, c.1)
       = ap (symbol_in table) (sym (append_assoc (drop used xs) more zeros)) ∙ ap (named table.symbols) e in
       let all : has_bits (used + c.1 + s) t.bits t.ending ≡ Ok tt
-      = ap (λ (i : ℕ). has_bits i t.bits t.ending) (omega (arith, k.all)) ∙ held in
-      let next = held-then (used + c.1) s t all in
+      = ap (λ (i : ℕ). has_bits i t.bits t.ending) (omega (arith, k.all)) ∙ buffered in
+      let next = buffered-then (used + c.1) s t all in
       let seen = token-seen table counted 11 (omega arith) xs (length-next_bits 11 t.bits) used (more ++ zeros) symbol
-      c.1 found room t refl (omega (arith, k.all)) (both-held (used + c.1) s t.bits t.ending all) in
+      c.1 found room t refl (omega (arith, k.all)) (both-buffered (used + c.1) s t.bits t.ending
+      all) in
       let bits = seen-bits t.bits more used c.1 s (omega (arith, k.all)) in
       let value = k.value in
       let run = k.run in
@@ -138,24 +146,27 @@ pub front-text : (n : ℕ) (bits : List Bool) (met : Option DataEnd) (bytes : Li
 front-text n bits met bytes le filled =
     let xs = (upcoming_by bits met bytes).bits in
     same_zeros xs n n 16 (omega arith) (omega arith) ∙ sym (take-take n 16 (xs ++ replicate 16 false) le)
-    ∙ next-held n bits met bytes le filled
+    ∙ next-buffered n bits met bytes le filled
 
 -- a value that is seen after the first of the next 11 bits
 pub value-buffered : (table : Table) (room : ℕ) (bits : List Bool) (met : Option DataEnd) (bytes : List ℕ) (used : ℕ)
     (more : List Bool) (v : ℤ) (r n : ℕ) → length table.counts ≡ 16 → IsFilled 16 bits met → used + n ≤ 11
-    → has_held (used + n) bits met ≡ Ok tt → r < room
+    → has_buffered (used + n) bits met ≡ Ok tt → r < room
     → short_value_of 11 table (drop used (next_bits 11 bits) ++ more) ≡ Some (v, r, n)
     → token_from table room (upcoming_by (drop used bits) met bytes)
     ≡ Ok (Value r v, upcoming_by (drop (used + n) bits) met bytes)
-value-buffered table room bits met bytes used more v r n counted filled le held within is =
+value-buffered table room bits met bytes used more v r n counted filled le buffered within is =
     let t = upcoming_by bits met bytes in
     let less : (k : ℕ) → k ≤ 11 → IsFilled k bits met
     = λ k few. filled-less k 16 bits met (omega (arith, few)) filled in
-    ap (token_from table room) (sym (advance-held used bits met bytes (less used (omega arith))))
-    ∙ value-seen table room t used more v r n counted le (has_bits-held (used + n) bits met bytes (less (used + n) le)
-    ∙ held) within (ap (λ (xs : List Bool). short_value_of 11 table (drop used xs ++ more))
+    ap (token_from table room) (sym (advance-buffered used bits met bytes (less used (omega
+    arith))))
+    ∙ value-seen table room t used more v r n counted le (has_bits-buffered (used + n) bits met
+    bytes (less (used + n) le)
+    ∙ buffered) within (ap (λ (xs : List Bool). short_value_of 11 table (drop used xs ++ more))
     (front-text 11 bits met bytes (omega arith) (less 11 (omega arith))) ∙ is)
-    ∙ ap (λ (w : Text). Ok (Value r v, w)) (advance-held (used + n) bits met bytes (less (used + n) le))
+    ∙ ap (λ (w : Text). Ok (Value r v, w)) (advance-buffered (used + n) bits met bytes (less (used
+    + n) le))
 
 -- a value that is found takes at most the bits that are looked at
 few-bits : (most : ℕ) (class : HuffmanTableClass) (bits : List Bool) (o : Option (ℕ × ℕ)) (v : ℤ) (r n : ℕ)
@@ -165,7 +176,8 @@ few-bits most class bits o v r n h = grind (arith, false≢true, all_short)
 -- a value that the next 11 bits begin with
 pub wide-taken : (table : Table) (room : ℕ) (b d : Ahead) (bytes : List ℕ) (v : ℤ) (r n : ℕ)
     → length table.counts ≡ 16 → IsFilled 16 b.bits b.met
-    → short_value_of 11 table (next_bits 11 b.bits) ≡ Some (v, r, n) → r < room → has_held n b.bits b.met ≡ Ok tt
+    → short_value_of 11 table (next_bits 11 b.bits) ≡ Some (v, r, n) → r < room → has_buffered n
+    b.bits b.met ≡ Ok tt
     → d.bits ≡ drop n b.bits → d.met ≡ b.met
     → token_from table room (upcoming b bytes) ≡ Ok (Value r v, upcoming d bytes)
 unfolding upcoming

@@ -8,20 +8,21 @@ use Rattle.std.proofs.Math.Arith.{mod-mul}
 use Rattle.std.proofs.Math.Nat.{mod-one, add-mul}
 use Rattle.std.proofs.lemmas.List.{take-append-le, take_all, drop_at, drop-drop}
 use Rattle.jpeg_bits.specs.Entropy.{bits_from, number_of}
-use Rattle.jpeg_bits.proofs.Held.{has_enough}
+use Rattle.jpeg_bits.proofs.BufferedBits.{has_enough}
 use Rattle.jpeg_bits.specs.Readers.{Reads, ◌>>=◌, gives, ReadsJust}
 use Rattle.jpeg_bits.specs.Written.{bit, low_bits}
 
 pub takes-gives : {A : Type 0} (x : A) → ReadsJust (gives x) [] x
-takes-gives x = record { read = λ rest places e. refl }
+takes-gives x = record { read = λ rest following e. refl }
 
-pub places-after : (bits more : List Bool) (places : List (List ℕ)) → drop (length more) (drop (length bits) places)
-    ≡ drop (length (bits ++ more)) places
-places-after bits more places = grind (arith, drop-drop, length-append)
+pub following-after : (bits more : List Bool) (following : List (List ℕ)) → drop (length more)
+    (drop (length bits) following)
+    ≡ drop (length (bits ++ more)) following
+following-after bits more following = grind (arith, drop-drop, length-append)
 
 pub takes-bind : {A B : Type 0} (p : Reads A) (f : A → Reads B) (bits more : List Bool) (x : A) (y : B)
     → ReadsJust p bits x → ReadsJust (f x) more y → ReadsJust (p >>= f) (bits ++ more) y
-takes-bind {A} {B} p f bits more x y h k = grind (arith, append_assoc, places-after)
+takes-bind {A} {B} p f bits more x y h k = grind (arith, append_assoc, following-after)
 
 pub low_bits-mod : (n v : ℕ) → v % 2 ^ suc n ≡ (v / 2 ^ n % 2) * 2 ^ n + v % 2 ^ n
 low_bits-mod n v = grind (arith, pow-suc, mod-mul, pow_pos)
@@ -74,7 +75,7 @@ takes-bit b h =
 
 pub takes-map : {A B : Type 0} (p : Reads A) (f : A → B) (bits : List Bool) (x : A) → ReadsJust p bits x
     → ReadsJust (p >>= (λ r. gives (f r))) bits (f x)
-takes-map p f bits x h = record { read = λ rest places e. rw (h.read rest places e) refl }
+takes-map p f bits x h = record { read = λ rest following e. rw (h.read rest following e) refl }
 
 pub takes-as : {A : Type 0} (p : Reads A) (bits more : List Bool) (x y : A) → bits ≡ more → x ≡ y → ReadsJust p bits x
     → ReadsJust p more y

@@ -10,7 +10,7 @@ use Rattle.jpeg_bits.specs.Passes.{Pass, before_band, band_size, band_of, with_b
 use Rattle.jpeg_bits.specs.Zigzag.{zigzag, coefficients_in_zigzag}
 use Rattle.jpeg_bits.specs.ZigzagParts.{zigzag_part, IsKeptAround, band_start, band_end, band_in}
 use Rattle.jpeg_bits.specs.BlockView.{IsPass, to_block}
-use Rattle.jpeg_bits.proofs.ZigzagPlaces.{length-in_zigzag, in_zigzag-set, get_or-in_zigzag}
+use Rattle.jpeg_bits.proofs.ZigzagIndices.{length-in_zigzag, in_zigzag-set, get_or-in_zigzag}
 
 pub part-length : (start end : ℕ) (block : List ℤ) → end ≤ 64 → length (zigzag_part start end block) ≡ end - start
 unfolding zigzag_part

@@ -67,13 +67,13 @@ unfoldable pub symbol_from : Table → Text → Result (ℕ × Text) Fault
 symbol_from table t = symbol_by table t (code_in (code_lengths table.counts) (next_16 t.bits))
 
 -- a value and the text after it, where the bits of it can be taken
-abbrev pub if_held : {A : Type 0} → A → Text → Result (Unit {0}) Fault → Result (A × Text) Fault
-if_held x t (Ok u) = Ok (x, t)
-if_held x t (Err e) = Err e
+abbrev pub if_buffered : {A : Type 0} → A → Text → Result (Unit {0}) Fault → Result (A × Text) Fault
+if_buffered x t (Ok u) = Ok (x, t)
+if_buffered x t (Err e) = Err e
 
 abbrev pub code_by : Table → Text → Option (ℕ × ℕ) → Result ((ℕ × ℕ) × Text) Fault
 code_by table t None = Err Malformed
-code_by table t (Some c) = if_held (c.1, slice_index table.symbols c.0) (advance c.1 t)
+code_by table t (Some c) = if_buffered (c.1, slice_index table.symbols c.0) (advance c.1 t)
     (has_bits c.1 t.bits t.ending)
 
 -- the code that begins the bits: its length and its symbol

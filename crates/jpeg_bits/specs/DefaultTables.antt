@@ -83,7 +83,7 @@ pub record AreCodes (counts symbols : List ℕ) : Type 0 where
   pub exist : HasCodes (code_lengths counts)
 
 abbrev pub names : List ℕ → ℕ → Bool
-names places place = list_any (λ p. p == place) places
+names destinations destination = list_any (λ p. p == destination) destinations
 
 -- A table where one is there or the place isn't named, else the default one.
 abbrev pub filled : Table → Bool → Option Table → Option Table
@@ -93,10 +93,11 @@ filled default named None = if named then Some default else None
 -- Places 0 and 1 of some tables, with the default tables of luminance and of chrominance where a
 -- scan names them and they are unset.
 abbrev pub with_defaults : Table → Table → List ℕ → List (Option Table) → List (Option Table)
-with_defaults luminance chrominance places [] = []
-with_defaults luminance chrominance places (a ∷ []) = filled luminance (names places 0) a ∷ []
-with_defaults luminance chrominance places (a ∷ b ∷ more) =
-    filled luminance (names places 0) a ∷ filled chrominance (names places 1) b ∷ more
+with_defaults luminance chrominance destinations [] = []
+with_defaults luminance chrominance destinations (a ∷ []) = filled luminance (names destinations 0)
+    a ∷ []
+with_defaults luminance chrominance destinations (a ∷ b ∷ more) =
+    filled luminance (names destinations 0) a ∷ filled chrominance (names destinations 1) b ∷ more
 
 -- Each place is as it was or as it would be.
 unfoldable pub AreBetween : List (Option Table) → List (Option Table) → List (Option Table) → Type 0

@@ -22,7 +22,7 @@ pub data Ending : Type 0 where
 -- the bits of a text, for each of them the bytes after the byte that has it, and the end
 pub record Text : Type 0 where
   pub bits : List Bool
-  pub places : List (List ℕ)
+  pub following : List (List ℕ)
   pub ending : Ending
 
 -- a byte as eight bits, the highest first
@@ -31,14 +31,14 @@ bits_of b = (b / 128 % 2 == 1) ∷ (b / 64 % 2 == 1) ∷ (b / 32 % 2 == 1) ∷ (
     ∷ (b / 8 % 2 == 1) ∷ (b / 4 % 2 == 1) ∷ (b / 2 % 2 == 1) ∷ (b % 2 == 1) ∷ []
 
 abbrev pub no_bits : Ending → Text
-no_bits e = record { bits = []; places = []; ending = e }
+no_bits e = record { bits = []; following = []; ending = e }
 
 -- a byte in front of a text, where rest stands after the byte
 abbrev pub add_byte : ℕ → List ℕ → Text → Text
 add_byte b rest t =
     record {
       bits = bits_of b ++ t.bits;
-      places = replicate 8 rest ++ t.places;
+      following = replicate 8 rest ++ t.following;
       ending = t.ending;
     }
 
@@ -86,13 +86,13 @@ abbrev pub upcoming_by : List Bool → Option DataEnd → List ℕ → Text
 upcoming_by bits None bytes =
     record {
       bits = bits ++ (text_at bytes).bits;
-      places = drop 56 (replicate (length bits) bytes ++ (text_at bytes).places);
+      following = drop 56 (replicate (length bits) bytes ++ (text_at bytes).following);
       ending = (text_at bytes).ending;
     }
 upcoming_by bits (Some e) bytes =
     record {
       bits = bits;
-      places = drop 56 (replicate (length bits) bytes);
+      following = drop 56 (replicate (length bits) bytes);
       ending = ending_of e bytes;
     }
 
@@ -102,7 +102,7 @@ upcoming a bytes = upcoming_by a.bits a.met bytes
 
 -- the text after its first n bits
 abbrev pub advance : ℕ → Text → Text
-advance n t = record { bits = drop n t.bits; places = drop n t.places; ending = t.ending }
+advance n t = record { bits = drop n t.bits; following = drop n t.following; ending = t.ending }
 
 -- a number by its bits, the highest first
 abbrev pub number_of : List Bool → ℕ
@@ -127,7 +127,7 @@ marker_by [] (Found m rest) = Ok (Some m, rest)
 marker_by [] (Broken f) = Err f
 
 abbrev pub marker_from : Text → Outcome (Option Marker)
-marker_from t = marker_by t.places t.ending
+marker_from t = marker_by t.following t.ending
 
 -- A call on a decoder and a source, from a and old to b and new, answered what reading the text
 -- that they stand for gives.
@@ -175,16 +175,16 @@ byte_or_end [] = Ok (None, [])
 byte_or_end (b ∷ bs) = Ok (Some b, bs)
 
 -- whether n bits can be taken of those held
-abbrev pub has_held : ℕ → List Bool → Option DataEnd → Result (Unit {0}) Fault
-has_held n bits None = Ok tt
-has_held n bits (Some e) = has_bits n bits (ending_of e [])
+abbrev pub has_buffered : ℕ → List Bool → Option DataEnd → Result (Unit {0}) Fault
+has_buffered n bits None = Ok tt
+has_buffered n bits (Some e) = has_bits n bits (ending_of e [])
 
 -- the marker of an end
-abbrev pub marker_held : Option DataEnd → Result (Option Marker) Fault
-marker_held None = Ok None
-marker_held (Some (ends.Marker m)) = Ok (Some m)
-marker_held (Some ends.Malformed) = Err Malformed
-marker_held (Some ends.Ended) = Err End
+abbrev pub marker_at_end : Option DataEnd → Result (Option Marker) Fault
+marker_at_end None = Ok None
+marker_at_end (Some (ends.Marker m)) = Ok (Some m)
+marker_at_end (Some ends.Malformed) = Err Malformed
+marker_at_end (Some ends.Ended) = Err End
 
 -- a value of s bits as a signed number (F.2.2.1)
 unfoldable pub extended : ℕ → ℕ → ℤ

@@ -32,8 +32,8 @@ abbrev pub distance_of : ℕ → ℤ → ℕ → ℕ
 distance_of al z b = b * (1 - bit_of al z) * 2 ^ al
 
 -- A place of a piece: where it isn't zero it has a correction bit.
-unfoldable pub place_from : ℕ → ℤ → Text → Result (ℤ × Text) Fault
-place_from al z t = if is_zero z then Ok (z, t) else (do
+unfoldable pub corrected_from : ℕ → ℤ → Text → Result (ℤ × Text) Fault
+corrected_from al z t = if is_zero z then Ok (z, t) else (do
   b ← bits_from 1 t
   if b.0 == 0 then Ok (z, b.1) else (if bit_of al z == 0 then (do
     m ← moved_within (2 ^ al) z
@@ -42,7 +42,8 @@ place_from al z t = if is_zero z then Ok (z, t) else (do
 -- One correction bit for each place that isn't zero.
 unfoldable pub corrected_at : ℕ → List ℤ → Text → Result (List ℤ × Text) Fault
 corrected_at al [] t = Ok ([], t)
-corrected_at al (z ∷ places) t = place_from al z t >>= λ f. corrected_at al places f.1 >>= λ o.
+corrected_at al (z ∷ numbers) t = corrected_from al z t >>= λ f. corrected_at al numbers f.1 >>= λ
+    o.
     Ok (f.0 ∷ o.0, o.1)
 
 -- A token, and its sign bit or the bits of its run.

@@ -30,9 +30,9 @@ signed_from s = do
 -- ---- of bits that were written
 
 abbrev pub text : List Bool → List (List ℕ) → Ending → Text
-text bits places e = record { bits = bits; places = places; ending = e }
+text bits following e = record { bits = bits; following = following; ending = e }
 
 -- Of a text that begins with these bits, these are read, and give x.
 pub record ReadsJust {A : Type 0} (p : Reads A) (bits : List Bool) (x : A) : Type 0 where
-  pub read : (rest : List Bool) (places : List (List ℕ)) (e : Ending)
-      → p (text (bits ++ rest) places e) ≡ Ok (x, text rest (drop (length bits) places) e)
+  pub read : (rest : List Bool) (following : List (List ℕ)) (e : Ending)
+      → p (text (bits ++ rest) following e) ≡ Ok (x, text rest (drop (length bits) following) e)

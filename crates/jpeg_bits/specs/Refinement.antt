@@ -39,23 +39,23 @@ corrected_by al z (suc b) =
 -- One correction bit for each place that isn't zero.
 unfoldable pub corrected : ℕ → List ℤ → Reads (List ℤ)
 corrected al [] = gives []
-corrected al (z ∷ places) =
+corrected al (z ∷ numbers) =
     (elim (is_zero z) [ true ↦ gives z | false ↦ bits_from 1 >>= (λ b. corrected_by al z b) ])
     >>= (λ first.
-    corrected al places >>= (λ others. gives (first ∷ others)))
+    corrected al numbers >>= (λ others. gives (first ∷ others)))
 
 -- How many places there are up to zero number r, counted from 0, and with it; or all of them.
 unfoldable pub through_zero : ℕ → List ℤ → ℕ
 through_zero r [] = 0
-through_zero zero (z ∷ places) =
+through_zero zero (z ∷ numbers) =
     elim (is_zero z) [
       | true ↦ 1
-      | false ↦ suc (through_zero zero places)
+      | false ↦ suc (through_zero zero numbers)
     ]
-through_zero (suc r) (z ∷ places) =
+through_zero (suc r) (z ∷ numbers) =
     elim (is_zero z) [
-      | true ↦ suc (through_zero r places)
-      | false ↦ suc (through_zero (suc r) places)
+      | true ↦ suc (through_zero r numbers)
+      | false ↦ suc (through_zero (suc r) numbers)
     ]
 
 -- the new number of a sign bit.
@@ -67,7 +67,7 @@ new_number al (suc b) = pos (2 ^ al)
 unfoldable pub with_last : ℤ → List ℤ → List ℤ
 with_last x [] = []
 with_last x (y ∷ []) = x ∷ []
-with_last x (y ∷ z ∷ places) = y ∷ with_last x (z ∷ places)
+with_last x (y ∷ z ∷ numbers) = y ∷ with_last x (z ∷ numbers)
 
 -- The piece of a token of run r and size s, where `others` reads what is after it: the places
 -- through zero number r, counted from 0, the last of which becomes a new number; those through the

@@ -4,8 +4,8 @@ use Rattle.std.specs.Prelude.{◌≡◌, ℕ, ◌-◌, ◌/◌, ◌%◌, ◌^◌
 use Rattle.jpeg_bits.specs.Written.{low_bits}
 
 -- the first count bits of a word
-abbrev pub bits_held : ℕ → ℕ → List Bool
-bits_held word count = low_bits count (word / 2 ^ (64 - count))
+abbrev pub buffered_bits : ℕ → ℕ → List Bool
+buffered_bits word count = low_bits count (word / 2 ^ (64 - count))
 
 -- after the first count bits of a word are zeros
 abbrev pub HasZerosAfter : ℕ → ℕ → Type 0

@@ -76,7 +76,7 @@ value_after counts i = fold (λ v c. 2 * v + c) 0 (take i counts)
 
 -- no codes
 abbrev pub no_row : Row
-no_row = record { end = 0; first = 0; place = 0 }
+no_row = record { end = 0; first = 0; index = 0 }
 
 -- the codes of i + 1 bits
 abbrev pub row_at : List ℕ → ℕ → Row
@@ -84,7 +84,7 @@ row_at counts i =
     record {
       end = value_after counts (i + 1);
       first = 2 * value_after counts i;
-      place = sum (take i counts);
+      index = sum (take i counts);
     }
 
 -- each row stands at its place

@@ -40,10 +40,10 @@ code_bits table i = low_bits (code_size table i) (code_value (code_lengths table
 
 -- These are the bits of a code for the symbol, by a Huffman table (Annex C).
 pub record IsCoded (table : Table) (symbol : ℕ) (bits : List Bool) : Type 0 where
-  pub place : ℕ
-  pub listed : place < length (code_lengths table.counts)
-  pub is_for : slice_index table.symbols place ≡ symbol
-  pub has_bits : code_bits table place ≡ bits
+  pub index : ℕ
+  pub listed : index < length (code_lengths table.counts)
+  pub is_for : slice_index table.symbols index ≡ symbol
+  pub has_bits : code_bits table index ≡ bits
 
 -- The category SSSS of a value: the least s with |d| < 2 ^ s (F.1.2.1.2).
 pub record IsCategory (d : ℤ) (s : ℕ) : Type 0 where

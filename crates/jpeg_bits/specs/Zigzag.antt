@@ -11,8 +11,8 @@ zigzag =
     ∷ 51 ∷ 58 ∷ 59 ∷ 52 ∷ 45 ∷ 38 ∷ 31 ∷ 39 ∷ 46 ∷ 53 ∷ 60 ∷ 61 ∷ 54 ∷ 47 ∷ 55 ∷ 62 ∷ 63 ∷ []
 
 -- the place in zigzag order of each place in the block
-unfoldable pub zigzag_places : List ℕ
-zigzag_places =
+unfoldable pub zigzag_indices : List ℕ
+zigzag_indices =
     0 ∷ 1 ∷ 5 ∷ 6 ∷ 14 ∷ 15 ∷ 27 ∷ 28 ∷ 2 ∷ 4 ∷ 7 ∷ 13 ∷ 16 ∷ 26 ∷ 29 ∷ 42 ∷ 3 ∷ 8 ∷ 12 ∷ 17 ∷ 25
     ∷ 30 ∷ 41 ∷ 43
     ∷ 9 ∷ 11 ∷ 18 ∷ 24 ∷ 31 ∷ 40 ∷ 44 ∷ 53 ∷ 10 ∷ 19 ∷ 23 ∷ 32 ∷ 39 ∷ 45 ∷ 52 ∷ 54 ∷ 20 ∷ 22 ∷ 33
@@ -22,13 +22,13 @@ zigzag_places =
 -- coefficients in zigzag order, in block order
 unfoldable pub coefficients_in_block_order : List ℤ → List ℤ
 coefficients_in_block_order coefficients =
-    map (λ place. slice_index_or coefficients place (pos 0)) zigzag_places
+    map (λ index. slice_index_or coefficients index (pos 0)) zigzag_indices
 
 -- quantization values in zigzag order, in block order
 unfoldable pub values_in_block_order : List ℕ → List ℕ
-values_in_block_order values = map (λ place. slice_index values place) zigzag_places
+values_in_block_order values = map (λ index. slice_index values index) zigzag_indices
 
 -- coefficients in block order, in zigzag order
 unfoldable pub coefficients_in_zigzag : List ℤ → List ℤ
 coefficients_in_zigzag coefficients =
-    map (λ place. slice_index_or coefficients place (pos 0)) zigzag
+    map (λ index. slice_index_or coefficients index (pos 0)) zigzag

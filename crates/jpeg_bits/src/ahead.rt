@@ -1,15 +1,16 @@
 //! What is read ahead of a source: bits, and the end of the data (T.81, B.1.1.5).
 ghost use Rattle.std.specs.Prelude.{◌≡◌, ◌++◌, Ok, is_some, true, false};
 ghost use Rattle.jpeg_bits.specs.Reading.{Answers, IsShort, Gives, NamesFormat};
-ghost use Rattle.jpeg_bits.specs.Refusals.{held_refusal, answer_of, IsHeld};
-ghost use Rattle.jpeg_bits.specs.Entropy.{piece_at, after_ff, byte_or_end, marker_held, has_held};
+ghost use Rattle.jpeg_bits.specs.Refusals.{kept_refusal, answer_of, IsRefused};
+ghost use Rattle.jpeg_bits.specs.Entropy.{piece_at, after_ff, byte_or_end, marker_at_end};
+ghost use Rattle.jpeg_bits.specs.Entropy.{has_buffered};
 ghost use Rattle.jpeg_bits.specs.Entropy.{bits_from, upcoming_by};
 ghost use Rattle.std.specs.Prelude.{ℕ, ◌<◌, Bool, List, length, is_ok};
 ghost use Rattle.jpeg_bits.specs.Reading.{Names};
 
 use crate::bits::{Bits, extend};
 use crate::codes::HuffmanTable;
-use crate::error::{Error, Result, end_of_bytes, format_error, hold_format_error};
+use crate::error::{Error, Result, end_of_bytes, format_error, set_format_error};
 use crate::marker::Marker;
 use crate::pairs::Pair;
 use crate::source::Source;
@@ -46,7 +47,7 @@ fn next_piece<R: Read + Drop>(
 ) -> Option<Piece>
     ensures answers { Answers (λ p. p) piece_at source.old (answer_of result refusal.new)
         source.new }
-    ensures held { IsHeld result refusal.new }
+    ensures refused { IsRefused result refusal.new }
 {
     match source.next(alloc, refusal) {
         Some(Some(0xff)) => next_after_ff(alloc, source, refusal),
@@ -67,7 +68,7 @@ fn next_after_ff<R: Read + Drop>(
 ) -> Option<Piece>
     ensures answers { Answers (λ p. p) (λ bytes. Ok (after_ff bytes)) source.old
         (answer_of result refusal.new) source.new }
-    ensures held { IsHeld result refusal.new }
+    ensures refused { IsRefused result refusal.new }
 {
     match read_after_ff(alloc, source) {
         Ok(piece) => Some(piece),
@@ -116,13 +117,13 @@ fn read_or_end<R: Read + Drop>(alloc: Global, source: &mut Source<R>) -> Result<
 
 /// The bits read ahead of a source, and the end that was reached.
 #[derive(Debug, Drop)]
-pub(crate) struct Held {
+pub(crate) struct BufferedBits {
     alloc: Global,
     bits: Bits,
     end: Option<DataEnd>,
 }
 
-impl Model for Held {
+impl Model for BufferedBits {
     ghost use Rattle.std.specs.Prelude.{length};
     ghost use Rattle.jpeg_bits.specs.Entropy.{Ahead, IsWithin};
 
@@ -133,7 +134,7 @@ impl Model for Held {
     ghost invariant = { λ h. IsWithin (length h.bits) h.end };
 }
 
-impl Held {
+impl BufferedBits {
     ghost use Rattle.std.specs.Prelude.{◌≡◌, ◌≤◌, ◌<◌, ◌^◌, ◌++◌, ℕ, [], None, IfSome, true, false};
     ghost use Rattle.std.specs.Prelude.{Some, Ok, List, is_ok, is_some, length, take, drop, replicate};
     ghost use Rattle.jpeg_bits.specs.Stream.{Stream};
@@ -143,14 +144,14 @@ impl Held {
     ghost use Rattle.jpeg_bits.specs.Pairs.{IsPairOf, IsWithinPassed};
     ghost use Rattle.jpeg_bits.specs.Reading.{Names, Gives};
     ghost use Rattle.jpeg_bits.specs.Readers.{signed_from};
-    ghost use Rattle.jpeg_bits.specs.Refusals.{outcome_of, answer_of, IsHeld};
-    ghost use Rattle.jpeg_bits.specs.Entropy.{Takes, fresh, same_text, has_held, marker_held};
+    ghost use Rattle.jpeg_bits.specs.Refusals.{outcome_of, answer_of, IsRefused};
+    ghost use Rattle.jpeg_bits.specs.Entropy.{Takes, fresh, same_text, has_buffered, marker_at_end};
     ghost use Rattle.jpeg_bits.specs.Entropy.{number_of, IsFilled, bits_from, upcoming};
 
-    pub(crate) fn new(alloc: Global) -> Held
+    pub(crate) fn new(alloc: Global) -> BufferedBits
         ensures { result ≡ fresh }
     {
-        Held {
+        BufferedBits {
             alloc,
             bits: Bits::new(),
             end: None,
@@ -165,10 +166,10 @@ impl Held {
     /// Returns a copy, so that the hot loops work on a local of their own, which stays in
     /// registers.
     #[inline(always)]
-    pub(crate) fn copied(&self) -> Held
+    pub(crate) fn copied(&self) -> BufferedBits
         ensures { result ≡ self.now }
     {
-        Held {
+        BufferedBits {
             alloc: self.alloc,
             bits: self.bits.copied(),
             end: self.end,
@@ -179,7 +180,7 @@ impl Held {
     /// `refusal`, and false is returned.
     #[inline(always)]
     #[tactic(auto, using(crate::proofs::Rules::filled))]
-    pub(crate) fn hold<R: Read + Drop>(
+    pub(crate) fn fill<R: Read + Drop>(
         &mut self,
         source: &mut Source<R>,
         count: usize,
@@ -189,16 +190,16 @@ impl Held {
         ensures holds { Takes (λ _. 0) same_text self.old source.old (outcome_of result refusal.new)
             self.new source.new }
         ensures full { result ≡ true → IsFilled count self.new.bits self.new.met }
-        ensures held { result ≡ false → is_some refusal.new ≡ true }
+        ensures refused { result ≡ false → is_some refusal.new ≡ true }
     {
         // After the end nothing is left to read: what is taken then are zeros, or it is refused.
         if count <= self.bits.len() || self.end.is_some() {
             return true;
         }
         // A local's address goes to the call, so that `self` can stay in registers.
-        let mut held = self.copied();
-        let is_full = held.refill(source, refusal);
-        *self = held;
+        let mut buffered = self.copied();
+        let is_full = buffered.refill(source, refusal);
+        *self = buffered;
         is_full
     }
 
@@ -214,28 +215,28 @@ impl Held {
         ensures fills { Takes (λ _. 0) same_text self.old source.old (outcome_of result refusal.new)
             self.new source.new }
         ensures full { result ≡ true → IsFilled 57 self.new.bits self.new.met }
-        ensures held { result ≡ false → is_some refusal.new ≡ true }
+        ensures refused { result ≡ false → is_some refusal.new ≡ true }
     {
         // The loop works on a local, which stays in registers.
-        let mut held = self.copied();
-        while held.bits.len() <= 56 && held.end.is_none() {
-            match next_piece(held.alloc, source, refusal) {
-                Some(Piece::Byte(byte)) => held.bits.push(byte),
-                Some(Piece::Data(end)) => held.end = Some(end),
+        let mut buffered = self.copied();
+        while buffered.bits.len() <= 56 && buffered.end.is_none() {
+            match next_piece(buffered.alloc, source, refusal) {
+                Some(Piece::Byte(byte)) => buffered.bits.push(byte),
+                Some(Piece::Data(end)) => buffered.end = Some(end),
                 None => {
-                    *self = held;
+                    *self = buffered;
                     return false;
                 }
             }
         }
-        *self = held;
+        *self = buffered;
         true
     }
 
     /// Returns whether no fault stands before `count` of the buffered bits.
     #[inline(always)]
     pub(crate) fn has(&self, count: usize) -> bool
-        ensures { result ≡ is_ok (has_held count self.now.bits self.now.met) }
+        ensures { result ≡ is_ok (has_buffered count self.now.bits self.now.met) }
     {
         count <= self.bits.len() || is_padded(self.end)
     }
@@ -263,14 +264,14 @@ impl Held {
         ensures bits { Takes (λ n. n) (bits_from count) self.old source.old
             (answer_of result refusal.new) self.new source.new }
         ensures small { IfSome result (λ n. n < 2 ^ count) }
-        ensures held { IsHeld result refusal.new }
+        ensures refused { IsRefused result refusal.new }
     {
         let count = usize::from(count);
-        if !self.hold(source, count, refusal) {
+        if !self.fill(source, count, refusal) {
             return None;
         }
         if !self.has(count) {
-            hold_fault(self.alloc, self.end, refusal);
+            set_fault(self.alloc, self.end, refusal);
             return None;
         }
         Some(self.take(count))
@@ -290,7 +291,7 @@ impl Held {
         requires most { count ≤ 15 }
         ensures number { Takes (λ v. v) (signed_from count) self.old source.old
             (answer_of result refusal.new) self.new source.new }
-        ensures held { IsHeld result refusal.new }
+        ensures refused { IsRefused result refusal.new }
     {
         match self.take_number(source, count, refusal) {
             Some(value) => Some(extend(value, count)),
@@ -310,7 +311,7 @@ impl Held {
     /// bits are buffered, or the end is reached. A refusal is stored in `refusal`, and none is
     /// returned.
     #[inline(always)]
-    pub(crate) fn take_held_code(
+    pub(crate) fn take_buffered_code(
         &mut self,
         table: &HuffmanTable,
         refusal: &mut Option<Error>,
@@ -318,16 +319,16 @@ impl Held {
         requires { IsFilled 16 self.old.bits self.old.met }
         ensures code { (source : Stream) → Takes (λ c. c) (code_from table.now) self.old source
             (answer_of result refusal.new) self.new source }
-        ensures held { IsHeld result refusal.new }
+        ensures refused { IsRefused result refusal.new }
         ensures within { IfSome result (λ c. c.0 ≤ 16) }
     {
         let Some((symbol, length)) = self.symbol(table) else {
-            hold_no_code(self.alloc, refusal);
+            set_no_code(self.alloc, refusal);
             return None;
         };
         let count = usize::from(length);
         if !self.has(count) {
-            hold_fault(self.alloc, self.end, refusal);
+            set_fault(self.alloc, self.end, refusal);
             return None;
         }
         self.skip(count);
@@ -345,12 +346,12 @@ impl Held {
     ) -> Option<u8>
         ensures symbol { Takes (λ n. n) (symbol_from table.now) self.old source.old
             (answer_of result refusal.new) self.new source.new }
-        ensures held { IsHeld result refusal.new }
+        ensures refused { IsRefused result refusal.new }
     {
-        if !self.hold(source, 16, refusal) {
+        if !self.fill(source, 16, refusal) {
             return None;
         }
-        match self.take_held_code(table, refusal) {
+        match self.take_buffered_code(table, refusal) {
             Some((_, symbol)) => Some(symbol),
             None => None,
         }
@@ -368,9 +369,9 @@ impl Held {
     ) -> Option<Option<(i16, u8)>>
         ensures value { Takes (λ v. v) (fast_from table.now) self.old source.old
             (answer_of result refusal.new) self.new source.new }
-        ensures held { IsHeld result refusal.new }
+        ensures refused { IsRefused result refusal.new }
     {
-        if !self.hold(source, 8, refusal) {
+        if !self.fill(source, 8, refusal) {
             return None;
         }
         let Some((value, run, bits)) = self.short_value(table) else {
@@ -378,7 +379,7 @@ impl Held {
         };
         let count = usize::from(bits);
         if !self.has(count) {
-            hold_fault(self.alloc, self.end, refusal);
+            set_fault(self.alloc, self.end, refusal);
             return None;
         }
         self.skip(count);
@@ -472,7 +473,7 @@ impl Held {
         ensures end { result ≡ self.old.met }
         ensures none { self.new ≡ fresh }
     {
-        let empty = Held::new(self.alloc);
+        let empty = BufferedBits::new(self.alloc);
         std::mem::replace(self, empty).end
     }
 }
@@ -494,7 +495,7 @@ fn is_marker(end: Option<DataEnd>) -> bool
 #[inline(never)]
 fn is_padded(end: Option<DataEnd>) -> bool
     ensures { (count : ℕ) (bits : List Bool) → length bits < count → result
-        ≡ is_ok (has_held count bits end) }
+        ≡ is_ok (has_buffered count bits end) }
 {
     match end {
         None | Some(DataEnd::Marker(_)) => true,
@@ -505,10 +506,10 @@ fn is_padded(end: Option<DataEnd>) -> bool
 /// Stores the fault that stands where the buffered bits end.
 #[cold]
 #[inline(never)]
-fn hold_fault(alloc: Global, end: Option<DataEnd>, refusal: &mut Option<Error>)
-    ensures names { (count : ℕ) (bits : List Bool) → is_ok (has_held count bits end) ≡ false
-        → Names (held_refusal refusal.new) (has_held count bits end) }
-    ensures held { is_some refusal.new ≡ true }
+fn set_fault(alloc: Global, end: Option<DataEnd>, refusal: &mut Option<Error>)
+    ensures names { (count : ℕ) (bits : List Bool) → is_ok (has_buffered count bits end) ≡ false
+        → Names (kept_refusal refusal.new) (has_buffered count bits end) }
+    ensures refused { is_some refusal.new ≡ true }
 {
     *refusal = Some(match end {
         Some(DataEnd::Malformed) => malformed_end(alloc),
@@ -519,11 +520,11 @@ fn hold_fault(alloc: Global, end: Option<DataEnd>, refusal: &mut Option<Error>)
 /// Holds the refusal of bits that are no code.
 #[cold]
 #[inline(never)]
-fn hold_no_code(alloc: Global, refusal: &mut Option<Error>)
-    ensures names { NamesFormat (held_refusal refusal.new) }
-    ensures held { is_some refusal.new ≡ true }
+fn set_no_code(alloc: Global, refusal: &mut Option<Error>)
+    ensures names { NamesFormat (kept_refusal refusal.new) }
+    ensures refused { is_some refusal.new ≡ true }
 {
-    hold_format_error(
+    set_format_error(
         alloc,
         "found bits that begin no code of the Huffman table",
         refusal,
@@ -541,7 +542,7 @@ fn malformed_end(alloc: Global) -> Error
 
 /// Returns the marker of an end that was reached, or its refusal.
 pub(crate) fn marker_of_end(alloc: Global, end: Option<DataEnd>) -> Result<Option<Marker>>
-    ensures { Gives (marker_held end) result }
+    ensures { Gives (marker_at_end end) result }
 {
     match end {
         None => Ok(None),

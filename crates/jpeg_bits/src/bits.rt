@@ -13,11 +13,11 @@ pub(crate) struct Bits {
 
 impl Model for Bits {
     ghost use Rattle.std.specs.Prelude.{List, Bool};
-    ghost use Rattle.jpeg_bits.specs.Reservoir.{bits_held, IsReservoir};
+    ghost use Rattle.jpeg_bits.specs.Reservoir.{buffered_bits, IsReservoir};
 
     ghost Value = { List Bool };
 
-    ghost view = { λ b. bits_held b.word b.count };
+    ghost view = { λ b. buffered_bits b.word b.count };
 
     ghost invariant = { λ b. IsReservoir b.word b.count };
 }

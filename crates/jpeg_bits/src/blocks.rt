@@ -9,7 +9,7 @@ ghost use Rattle.jpeg_bits.specs.ZigzagParts.{band_in, KeepsOthers};
 ghost use Rattle.jpeg_bits.specs.Passes.{band_size};
 ghost use Rattle.jpeg_bits.specs.Skips.{kept, kept_from, run_part};
 
-use crate::ahead::Held;
+use crate::ahead::BufferedBits;
 use crate::error::{Error, Result, take_refusal};
 use crate::huffman::{HuffmanDecoder, HuffmanTable};
 use crate::refinement::{correct_band, lacks_bit, read_refined_band, unit};
@@ -116,7 +116,7 @@ fn with_bit(value: i16, al: u8) -> i16
 #[inline]
 #[tactic(auto, using(crate::proofs::BlockParts::dc_rules))]
 fn read_dc<R: Read + Drop>(
-    held: &mut Held,
+    buffered: &mut BufferedBits,
     source: &mut Source<R>,
     coding: &BlockCoding<'_>,
     predictor: &mut i16,
@@ -126,20 +126,20 @@ fn read_dc<R: Read + Drop>(
     requires dc { coding.now.pass.ss ≡ 0 }
     ensures part { Takes (λ _. (dc_in block.new, predictor.new))
         (dc_part (pass_in coding.now.pass) coding.now.dc_table.now (dc_in block.old) predictor.old)
-        held.old source.old (outcome_of result refusal.new) held.new source.new }
+        buffered.old source.old (outcome_of result refusal.new) buffered.new source.new }
     ensures others { block.new ≡ set block.old 0 (dc_in block.new) }
-    ensures held { result ≡ false → is_some refusal.new ≡ true }
+    ensures refused { result ≡ false → is_some refusal.new ≡ true }
 {
     let pass = coding.pass;
     if pass.is_first {
-        let Some(difference) = read_difference(held, source, coding.dc_table, refusal) else {
+        let Some(difference) = read_difference(buffered, source, coding.dc_table, refusal) else {
             return false;
         };
         *predictor = wrapped_sum(*predictor, difference);
         block[0] = shifted(*predictor, pass.al);
         return true;
     }
-    let Some(bit) = held.take_number(source, 1, refusal) else {
+    let Some(bit) = buffered.take_number(source, 1, refusal) else {
         return false;
     };
     // A block that stays as it is isn't even loaded.
@@ -154,7 +154,7 @@ fn read_dc<R: Read + Drop>(
 #[inline(always)]
 #[tactic(auto, using(crate::proofs::BlockParts::band_rules))]
 fn read_band<R: Read + Drop>(
-    held: &mut Held,
+    buffered: &mut BufferedBits,
     source: &mut Source<R>,
     coding: &BlockCoding<'_>,
     run: &mut u16,
@@ -164,9 +164,9 @@ fn read_band<R: Read + Drop>(
     ensures band { Takes (λ _. (band_in (pass_in coding.now.pass) block.new, run.new))
         (band_part (pass_in coding.now.pass) coding.now.ac_table.now
         (band_in (pass_in coding.now.pass) block.old) run.old)
-        held.old source.old (outcome_of result refusal.new) held.new source.new }
+        buffered.old source.old (outcome_of result refusal.new) buffered.new source.new }
     ensures others { KeepsOthers (pass_in coding.now.pass) block.old block.new }
-    ensures held { result ≡ false → is_some refusal.new ≡ true }
+    ensures refused { result ≡ false → is_some refusal.new ≡ true }
 {
     let pass = coding.pass;
     // A pass of DC alone has no band.
@@ -177,14 +177,14 @@ fn read_band<R: Read + Drop>(
         *run -= 1;
         return true;
     }
-    read_coded_band(held, source, coding, run, block, refusal)
+    read_coded_band(buffered, source, coding, run, block, refusal)
 }
 
 /// As `read_band`, where the bits have something of the band.
 #[inline(never)]
 #[tactic(auto, using(crate::proofs::BlockParts::band_rules))]
 fn read_coded_band<R: Read + Drop>(
-    held: &mut Held,
+    buffered: &mut BufferedBits,
     source: &mut Source<R>,
     coding: &BlockCoding<'_>,
     run: &mut u16,
@@ -196,13 +196,13 @@ fn read_coded_band<R: Read + Drop>(
     ensures band { Takes (λ _. (band_in (pass_in coding.now.pass) block.new, run.new))
         (band_part (pass_in coding.now.pass) coding.now.ac_table.now
         (band_in (pass_in coding.now.pass) block.old) run.old)
-        held.old source.old (outcome_of result refusal.new) held.new source.new }
+        buffered.old source.old (outcome_of result refusal.new) buffered.new source.new }
     ensures others { KeepsOthers (pass_in coding.now.pass) block.old block.new }
-    ensures held { result ≡ false → is_some refusal.new ≡ true }
+    ensures refused { result ≡ false → is_some refusal.new ≡ true }
 {
     let pass = coding.pass;
     if *run > 0 {
-        if !correct_band(held, source, pass, block, refusal) {
+        if !correct_band(buffered, source, pass, block, refusal) {
             return false;
         }
         *run -= 1;
@@ -210,9 +210,9 @@ fn read_coded_band<R: Read + Drop>(
     }
     let table = coding.ac_table;
     let next = if pass.is_first {
-        read_first_band(held, source, table, pass, block, refusal)
+        read_first_band(buffered, source, table, pass, block, refusal)
     } else {
-        read_refined_band(held, source, table, pass, block, refusal)
+        read_refined_band(buffered, source, table, pass, block, refusal)
     };
     match next {
         Some(blocks) => {
@@ -227,7 +227,7 @@ fn read_coded_band<R: Read + Drop>(
 /// in `refusal`, and false is returned.
 #[inline(always)]
 fn skip_band<R: Read + Drop>(
-    held: &mut Held,
+    buffered: &mut BufferedBits,
     source: &mut Source<R>,
     coding: &BlockCoding<'_>,
     run: &mut u16,
@@ -235,8 +235,8 @@ fn skip_band<R: Read + Drop>(
 ) -> bool
     ensures band { Takes (λ _. run.new)
         (run_part coding.now.ac_table.now (band_size (pass_in coding.now.pass)) run.old)
-        held.old source.old (outcome_of result refusal.new) held.new source.new }
-    ensures held { result ≡ false → is_some refusal.new ≡ true }
+        buffered.old source.old (outcome_of result refusal.new) buffered.new source.new }
+    ensures refused { result ≡ false → is_some refusal.new ≡ true }
 {
     let pass = coding.pass;
     let room = pass.band_end() - pass.band_start();
@@ -247,7 +247,7 @@ fn skip_band<R: Read + Drop>(
         *run -= 1;
         return true;
     }
-    match skip_first_band(held, source, coding.ac_table, room, refusal) {
+    match skip_first_band(buffered, source, coding.ac_table, room, refusal) {
         Some(blocks) => {
             *run = blocks;
             true
@@ -276,21 +276,21 @@ pub fn take_block<R: Read + Drop>(
         decoder.old source.old (outcome_of result refusal.new) decoder.new source.new }
     ensures others { carried.new.predictors ≡ set carried.old.predictors coding.now.slot
         (predictor_at coding.now.slot carried.new) }
-    ensures held { result ≡ false → is_some refusal.new ≡ true }
+    ensures refused { result ≡ false → is_some refusal.new ≡ true }
 {
-    let held = &mut decoder.held;
+    let buffered = &mut decoder.buffered;
     // A pass without DC often leaves a block as it is, which is then not even loaded.
     if coding.pass.ss > 0 {
-        return read_band(held, source, coding, &mut carried.run, block, refusal);
+        return read_band(buffered, source, coding, &mut carried.run, block, refusal);
     }
     let predictor = &mut carried.predictors[coding.slot];
-    if !read_dc(held, source, coding, predictor, block, refusal) {
+    if !read_dc(buffered, source, coding, predictor, block, refusal) {
         return false;
     }
     if !coding.keeps_ac {
-        return skip_band(held, source, coding, &mut carried.run, refusal);
+        return skip_band(buffered, source, coding, &mut carried.run, refusal);
     }
-    read_band(held, source, coding, &mut carried.run, block, refusal)
+    read_band(buffered, source, coding, &mut carried.run, block, refusal)
 }
 
 /// Reads what a pass codes of a block, in block order, over its coefficients so far (T.81, F.2.2

@@ -54,10 +54,10 @@ const CHROMINANCE_AC_SYMBOLS: [u8; 162] = [
 ];
 
 /// Returns whether a destination is among those named.
-fn names(places: &[usize], place: usize) -> bool
-    ensures { result ≡ names places.now place }
+fn names(destinations: &[usize], destination: usize) -> bool
+    ensures { result ≡ names destinations.now destination }
 {
-    places.contains(&place)
+    destinations.contains(&destination)
 }
 
 /// The codes of a table, as T.81 lists them.
@@ -96,12 +96,12 @@ fn fill(
 fn fill_both(
     alloc: Global,
     tables: &mut [Option<HuffmanTable>],
-    places: &[usize],
+    destinations: &[usize],
     class: HuffmanTableClass,
     luminance: &Listed<'_>,
     chrominance: &Listed<'_>,
 ) -> Result<()>
-    requires places { 2 ≤ length tables.old }
+    requires destinations { 2 ≤ length tables.old }
     ensures { let whole = with_defaults
         (record {
           class = class;
@@ -113,12 +113,24 @@ fn fill_both(
           counts = chrominance.now.counts.now;
           symbols = chrominance.now.symbols.now;
         })
-        places.now tables.old in
+        destinations.now tables.old in
         MatchResult result (λ _. tables.new ≡ whole) (λ e. (e ≡ OutOfMemory)
         × AreBetween tables.old whole tables.new) }
 {
-    fill(alloc, &mut tables[0], names(places, 0), class, luminance)?;
-    fill(alloc, &mut tables[1], names(places, 1), class, chrominance)
+    fill(
+        alloc,
+        &mut tables[0],
+        names(destinations, 0),
+        class,
+        luminance,
+    )?;
+    fill(
+        alloc,
+        &mut tables[1],
+        names(destinations, 1),
+        class,
+        chrominance,
+    )
 }
 
 /// Puts the default tables of T.81 (Tables K.3 to K.6), which the frames of an MJPEG stream may

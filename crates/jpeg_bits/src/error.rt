@@ -1,6 +1,6 @@
 //! Errors, and the reader whose failures they name.
 ghost use Rattle.std.specs.Prelude.{◌≡◌, is_some, true};
-ghost use Rattle.jpeg_bits.specs.Refusals.{held_refusal};
+ghost use Rattle.jpeg_bits.specs.Refusals.{kept_refusal};
 ghost use Rattle.jpeg_bits.specs.Reading.{NamesFormat, NamesEnd};
 ghost use Rattle.jpeg_bits.specs.declared.error.Error.TheVariants.{Io, OutOfMemory};
 
@@ -104,9 +104,9 @@ pub fn format_error_of(text: std::result::Result<String, AllocError>) -> Error
 /// Stores `format_error` in `refusal`: a call in which no `Error` stands has none to make room for.
 #[cold]
 #[inline(never)]
-pub fn hold_format_error(alloc: Global, text: &str, refusal: &mut Option<Error>)
-    ensures names { NamesFormat (held_refusal refusal.new) }
-    ensures held { is_some refusal.new ≡ true }
+pub fn set_format_error(alloc: Global, text: &str, refusal: &mut Option<Error>)
+    ensures names { NamesFormat (kept_refusal refusal.new) }
+    ensures refused { is_some refusal.new ≡ true }
 {
     *refusal = Some(format_error(alloc, text));
 }
@@ -114,9 +114,9 @@ pub fn hold_format_error(alloc: Global, text: &str, refusal: &mut Option<Error>)
 /// Holds the refusal of a difference whose magnitude category is above the greatest.
 #[cold]
 #[inline(never)]
-pub fn hold_category_error(alloc: Global, category: u8, greatest: u8, refusal: &mut Option<Error>)
-    ensures names { NamesFormat (held_refusal refusal.new) }
-    ensures held { is_some refusal.new ≡ true }
+pub fn set_category_error(alloc: Global, category: u8, greatest: u8, refusal: &mut Option<Error>)
+    ensures names { NamesFormat (kept_refusal refusal.new) }
+    ensures refused { is_some refusal.new ≡ true }
 {
     *refusal = Some(format_error_of(format!(in alloc;
         "difference magnitude category {category}, expected 0 to {greatest}"
@@ -137,7 +137,7 @@ pub fn end_of_bytes() -> Error
 #[inline(never)]
 pub fn take_refusal(refusal: &mut Option<Error>) -> Error
     requires { is_some refusal.old ≡ true }
-    ensures { result ≡ held_refusal refusal.old }
+    ensures { result ≡ kept_refusal refusal.old }
 {
     match refusal.take() {
         Some(e) => e,

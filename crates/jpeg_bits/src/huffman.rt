@@ -1,7 +1,7 @@
 //! Entropy-coded bits (T.81, B.1.1.5 and F.2.2).
 ghost use Rattle.std.specs.Prelude.{◌≡◌, ◌≤◌, ◌<◌, ◌^◌};
 
-use crate::ahead::{Held, marker_of_end};
+use crate::ahead::{BufferedBits, marker_of_end};
 use crate::bits::extend;
 pub use crate::codes::{HuffmanTable, HuffmanTableClass};
 pub use crate::default_tables::fill_default_mjpeg_tables;
@@ -19,7 +19,7 @@ use std::marker::Model;
 #[derive(Debug, Drop)]
 pub struct HuffmanDecoder {
     alloc: Global,
-    pub(crate) held: Held,
+    pub(crate) buffered: BufferedBits,
     refusal: Option<Error>,
 }
 
@@ -28,12 +28,12 @@ impl Model for HuffmanDecoder {
 
     ghost Value = { Ahead };
 
-    ghost view = { λ d. d.held };
+    ghost view = { λ d. d.buffered };
 }
 
 impl HuffmanDecoder {
     ghost use Rattle.std.specs.Prelude.{◌≡◌, ◌≤◌, ◌<◌, ◌^◌, [], None, OnOk, IfOk};
-    ghost use Rattle.jpeg_bits.specs.Refusals.{answer_of, IsHeld};
+    ghost use Rattle.jpeg_bits.specs.Refusals.{answer_of, IsRefused};
     ghost use Rattle.jpeg_bits.specs.Codes.{symbol_from, fast_from};
     ghost use Rattle.jpeg_bits.specs.Reading.{Answers};
     ghost use Rattle.jpeg_bits.specs.Readers.{signed_from};
@@ -45,7 +45,7 @@ impl HuffmanDecoder {
     {
         HuffmanDecoder {
             alloc,
-            held: Held::new(alloc),
+            buffered: BufferedBits::new(alloc),
             refusal: None,
         }
     }
@@ -58,7 +58,7 @@ impl HuffmanDecoder {
     {
         HuffmanDecoder {
             alloc: self.alloc,
-            held: self.held.copied(),
+            buffered: self.buffered.copied(),
             refusal: None,
         }
     }
@@ -68,7 +68,7 @@ impl HuffmanDecoder {
     pub fn reset(&mut self)
         ensures { self.new ≡ record self.old { bits = [] } }
     {
-        self.held.clear();
+        self.buffered.clear();
     }
 
     /// Reads the next `count` bits, from 1 to 16, as a number, the highest first. After a marker
@@ -82,7 +82,7 @@ impl HuffmanDecoder {
             source.new }
         ensures small { IfOk result (λ n. n < 2 ^ count) }
     {
-        match self.held.take_number(source, count, &mut self.refusal) {
+        match self.buffered.take_number(source, count, &mut self.refusal) {
             Some(number) => Ok(number),
             None => Err(take_refusal(&mut self.refusal)),
         }
@@ -117,7 +117,7 @@ impl HuffmanDecoder {
         ensures { Takes (λ n. n) (symbol_from table.now) self.old source.old result self.new
             source.new }
     {
-        match self.held.take_symbol(source, table, &mut self.refusal) {
+        match self.buffered.take_symbol(source, table, &mut self.refusal) {
             Some(symbol) => Ok(symbol),
             None => Err(take_refusal(&mut self.refusal)),
         }
@@ -135,7 +135,10 @@ impl HuffmanDecoder {
         ensures { Takes (λ v. v) (fast_from table.now) self.old source.old result self.new
             source.new }
     {
-        match self.held.take_short_value(source, table, &mut self.refusal) {
+        match self
+            .buffered
+            .take_short_value(source, table, &mut self.refusal)
+        {
             Some(value) => Ok(value),
             None => Err(take_refusal(&mut self.refusal)),
         }
@@ -150,10 +153,10 @@ impl HuffmanDecoder {
             source.old result source.new }
         ensures taken { OnOk result (self.new ≡ fresh) }
     {
-        if !self.held.hold(source, 57, &mut self.refusal) {
+        if !self.buffered.fill(source, 57, &mut self.refusal) {
             return Err(take_refusal(&mut self.refusal));
         }
-        let end = self.held.take_end();
+        let end = self.buffered.take_end();
         marker_of_end(self.alloc, end)
     }
 
@@ -169,9 +172,9 @@ impl HuffmanDecoder {
         requires most { count ≤ 15 }
         ensures number { Takes (λ v. v) (signed_from count) self.old source.old
             (answer_of result refusal.new) self.new source.new }
-        ensures held { IsHeld result refusal.new }
+        ensures refused { IsRefused result refusal.new }
     {
-        self.held.take_signed(source, count, refusal)
+        self.buffered.take_signed(source, count, refusal)
     }
 
     /// As `decode`. A refusal is stored in `refusal`, and none is returned: a call in which no
@@ -185,8 +188,8 @@ impl HuffmanDecoder {
     ) -> Option<u8>
         ensures symbol { Takes (λ n. n) (symbol_from table.now) self.old source.old
             (answer_of result refusal.new) self.new source.new }
-        ensures held { IsHeld result refusal.new }
+        ensures refused { IsRefused result refusal.new }
     {
-        self.held.take_symbol(source, table, refusal)
+        self.buffered.take_symbol(source, table, refusal)
     }
 }

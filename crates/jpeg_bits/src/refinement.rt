@@ -6,24 +6,24 @@ ghost use Rattle.jpeg_bits.specs.Zigzag.{zigzag};
 ghost use Rattle.std.specs.Simd.Lanes.{Each1};
 ghost use Rattle.std.specs.Int.{bit_at};
 ghost use Rattle.jpeg_bits.specs.Masks.{MarksFrom, marked};
-ghost use Rattle.jpeg_bits.specs.Refusals.{answer_of, outcome_of, held_refusal, IsHeld};
+ghost use Rattle.jpeg_bits.specs.Refusals.{answer_of, outcome_of, kept_refusal, IsRefused};
 ghost use Rattle.jpeg_bits.specs.Reading.{Gives, NamesFormat};
 ghost use Rattle.jpeg_bits.specs.Entropy.{Text, Takes, bits_from};
 ghost use Rattle.jpeg_bits.specs.Refinement.{bit_of, new_number};
-ghost use Rattle.jpeg_bits.specs.Pieces.{moved_within, run_from, place_from, piece_from};
+ghost use Rattle.jpeg_bits.specs.Pieces.{moved_within, run_from, corrected_from, piece_from};
 ghost use Rattle.jpeg_bits.specs.Pieces.{refinement_from, refined_band_from, corrected_at};
 ghost use Rattle.jpeg_bits.specs.Pieces.{distance_of};
 ghost use Rattle.jpeg_bits.specs.BlockView.{pass_in, IsPass};
 ghost use Rattle.jpeg_bits.specs.ZigzagParts.{band_end, band_in, rest_in, IsKeptAround};
 ghost use Rattle.jpeg_bits.specs.ZigzagParts.{KeepsOthers};
 
-use crate::ahead::Held;
+use crate::ahead::BufferedBits;
 use crate::blocks::Pass;
-use crate::error::{Error, format_error_of, hold_format_error};
+use crate::error::{Error, format_error_of, set_format_error};
 use crate::huffman::HuffmanTable;
 use crate::source::Source;
 use crate::tokens::power_of_two;
-use crate::zigzag::place_of;
+use crate::zigzag::index_of;
 use std::alloc::Global;
 use std::io::Read;
 use std::simd::prelude::*;
@@ -61,20 +61,20 @@ pub(crate) fn lacks_bit(value: i16, al: u8) -> bool
 #[inline(always)]
 #[tactic(auto, unfolding(crate::specs::Pieces::run_from), using(crate::proofs::BandSteps::no_bits_taken))]
 fn read_run<R: Read + Drop>(
-    held: &mut Held,
+    buffered: &mut BufferedBits,
     source: &mut Source<R>,
     exponent: u8,
     refusal: &mut Option<Error>,
 ) -> Option<u16>
     requires { exponent ≤ 14 }
-    ensures run { Takes (λ n. n) (run_from exponent) held.old source.old
-        (answer_of result refusal.new) held.new source.new }
-    ensures held { IsHeld result refusal.new }
+    ensures run { Takes (λ n. n) (run_from exponent) buffered.old source.old
+        (answer_of result refusal.new) buffered.new source.new }
+    ensures refused { IsRefused result refusal.new }
 {
     if exponent == 0 {
         return Some(0);
     }
-    match held.take_number(source, exponent, refusal) {
+    match buffered.take_number(source, exponent, refusal) {
         Some(extra) => Some(power_of_two(exponent) - 1 + extra),
         None => None,
     }
@@ -99,14 +99,14 @@ fn distance(value: i16, al: u8, bit: u16) -> u16
 fn move_away(alloc: Global, value: i16, by: u16, refusal: &mut Option<Error>) -> Option<i16>
     requires { by ≤ 8192 }
     ensures moved { Gives (moved_within by value) (answer_of result refusal.new) }
-    ensures held { IsHeld result refusal.new }
+    ensures refused { IsRefused result refusal.new }
 {
     let step = by as i16;
     let signed_step = if value >= 0 { step } else { -step };
     match value.checked_add(signed_step) {
         Some(moved) => Some(moved),
         None => {
-            hold_format_error(
+            set_format_error(
                 alloc,
                 "found a refined coefficient of more than 16 bits",
                 refusal,
@@ -118,26 +118,26 @@ fn move_away(alloc: Global, value: i16, by: u16, refusal: &mut Option<Error>) ->
 
 /// Reads a coefficient of a piece, with its correction bit.
 #[inline(always)]
-#[tactic(auto, unfolding(crate::specs::Pieces::place_from))]
+#[tactic(auto, unfolding(crate::specs::Pieces::corrected_from))]
 fn correct<R: Read + Drop>(
-    held: &mut Held,
+    buffered: &mut BufferedBits,
     source: &mut Source<R>,
     al: u8,
     value: i16,
     refusal: &mut Option<Error>,
 ) -> Option<i16>
     requires { al ≤ 13 }
-    ensures place { Takes (λ v. v) (place_from al value) held.old source.old
-        (answer_of result refusal.new) held.new source.new }
-    ensures held { IsHeld result refusal.new }
+    ensures index { Takes (λ v. v) (corrected_from al value) buffered.old source.old
+        (answer_of result refusal.new) buffered.new source.new }
+    ensures refused { IsRefused result refusal.new }
 {
     if value == 0 {
         return Some(0);
     }
-    let Some(bit) = held.take_number(source, 1, refusal) else {
+    let Some(bit) = buffered.take_number(source, 1, refusal) else {
         return None;
     };
-    move_away(held.alloc(), value, distance(value, al, bit), refusal)
+    move_away(buffered.alloc(), value, distance(value, al, bit), refusal)
 }
 
 /// Marks the coefficients of a block that aren't 0 by 1, and the others by 0.
@@ -163,7 +163,7 @@ fn narrowed(values: u16x64) -> u8x64
 #[inline(always)]
 fn in_zigzag(values: u8x64) -> u8x64
     requires { length values ≡ 64 }
-    ensures { result ≡ map (λ place. slice_index values place) zigzag }
+    ensures { result ≡ map (λ index. slice_index values index) zigzag }
 {
     values.swizzle([
         0, 1, 8, 16, 9, 2, 3, 10, 17, 24, 32, 25, 18, 11, 4, 5, 12, 19, 26, 33, 40, 48, 41, 34, 27,
@@ -259,7 +259,7 @@ fn pass_piece(piece: BandPiece, mask: u64) -> usize
 /// to the next. Gives the index after it.
 #[inline(always)]
 fn correct_piece<R: Read + Drop>(
-    held: &mut Held,
+    buffered: &mut BufferedBits,
     source: &mut Source<R>,
     piece: BandPiece,
     mask: u64,
@@ -277,13 +277,13 @@ fn correct_piece<R: Read + Drop>(
       rest_in (pass_in piece.pass) piece.from block.new,
     ))
         (piece_from piece.pass.al piece.zeros (rest_in (pass_in piece.pass) piece.from block.old))
-        held.old source.old (answer_of result refusal.new) held.new source.new }
+        buffered.old source.old (answer_of result refusal.new) buffered.new source.new }
     ensures others { IsKeptAround piece.from (band_end (pass_in piece.pass)) block.old block.new }
     ensures mask { IfSome result (λ next. MarksFrom mask next block.new) }
-    ensures held { IsHeld result refusal.new }
+    ensures refused { IsRefused result refusal.new }
 {
     // Refinements by the zeros after a marker cost a file no bytes, and needn't cost much time.
-    if held.is_past_marker() {
+    if buffered.is_past_marker() {
         return Some(pass_piece(piece, mask));
     }
     let BandPiece { pass, from, zeros } = piece;
@@ -300,11 +300,11 @@ fn correct_piece<R: Read + Drop>(
         if index == end {
             return Some(end);
         }
-        let place = place_of(index);
-        let Some(corrected) = correct(held, source, pass.al, block[place], refusal) else {
+        let at = index_of(index);
+        let Some(corrected) = correct(buffered, source, pass.al, block[at], refusal) else {
             return None;
         };
-        block[place] = corrected;
+        block[at] = corrected;
         index += 1;
     }
     Some(end)
@@ -322,18 +322,18 @@ fn signed_unit(sign: u16, al: u8) -> i16
 #[inline(always)]
 #[tactic(auto, unfolding(crate::specs::Pieces::refinement_from))]
 fn read_refinement<R: Read + Drop>(
-    held: &mut Held,
+    buffered: &mut BufferedBits,
     source: &mut Source<R>,
     table: &HuffmanTable,
     al: u8,
     refusal: &mut Option<Error>,
 ) -> Option<Refinement>
     requires { al ≤ 13 }
-    ensures token { Takes (λ t. t) (refinement_from table.now al) held.old source.old
-        (answer_of result refusal.new) held.new source.new }
-    ensures held { IsHeld result refusal.new }
+    ensures token { Takes (λ t. t) (refinement_from table.now al) buffered.old source.old
+        (answer_of result refusal.new) buffered.new source.new }
+    ensures refused { IsRefused result refusal.new }
 {
-    let Some(symbol) = held.take_symbol(source, table, refusal) else {
+    let Some(symbol) = buffered.take_symbol(source, table, refusal) else {
         return None;
     };
     let run = symbol / 16;
@@ -342,17 +342,17 @@ fn read_refinement<R: Read + Drop>(
             if run == 15 {
                 return Some(Refinement::Zeros);
             }
-            match read_run(held, source, run, refusal) {
+            match read_run(buffered, source, run, refusal) {
                 Some(blocks) => Some(Refinement::End(blocks)),
                 None => None,
             }
         }
-        1 => match held.take_number(source, 1, refusal) {
+        1 => match buffered.take_number(source, 1, refusal) {
             Some(sign) => Some(Refinement::New(run, signed_unit(sign, al))),
             None => None,
         },
         category => {
-            hold_refined_category_error(held.alloc(), category, refusal);
+            set_refined_category_error(buffered.alloc(), category, refusal);
             None
         }
     }
@@ -361,9 +361,9 @@ fn read_refinement<R: Read + Drop>(
 /// Holds the refusal of a magnitude category that no token of a refinement has (T.81, G.1.2.3).
 #[cold]
 #[inline(never)]
-fn hold_refined_category_error(alloc: Global, category: u8, refusal: &mut Option<Error>)
-    ensures names { NamesFormat (held_refusal refusal.new) }
-    ensures held { is_some refusal.new ≡ true }
+fn set_refined_category_error(alloc: Global, category: u8, refusal: &mut Option<Error>)
+    ensures names { NamesFormat (kept_refusal refusal.new) }
+    ensures refused { is_some refusal.new ≡ true }
 {
     *refusal = Some(format_error_of(format!(in alloc;
         "coefficient magnitude category {category} in a refinement scan, expected 0 or 1"
@@ -372,8 +372,8 @@ fn hold_refined_category_error(alloc: Global, category: u8, refusal: &mut Option
 
 /// Reads the band of a block in a refinement, and how many blocks after this one have no tokens.
 #[inline(always)]
-fn read_refined_places<R: Read + Drop>(
-    held: &mut Held,
+fn read_refined_coefficients<R: Read + Drop>(
+    buffered: &mut BufferedBits,
     source: &mut Source<R>,
     table: &HuffmanTable,
     pass: Pass,
@@ -383,15 +383,15 @@ fn read_refined_places<R: Read + Drop>(
     requires { IsPass (pass_in pass) }
     ensures reads { Takes (λ run. (band_in (pass_in pass) block.new, run))
         (refined_band_from table.now pass.al (band_in (pass_in pass) block.old))
-        held.old source.old (answer_of result refusal.new) held.new source.new }
+        buffered.old source.old (answer_of result refusal.new) buffered.new source.new }
     ensures others { KeepsOthers (pass_in pass) block.old block.new }
-    ensures held { IsHeld result refusal.new }
+    ensures refused { IsRefused result refusal.new }
 {
     let mask = mask_of(*block);
     let end = pass.band_end();
     let mut index = pass.band_start();
     while index < end {
-        let Some(token) = read_refinement(held, source, table, pass.al, refusal) else {
+        let Some(token) = read_refinement(buffered, source, table, pass.al, refusal) else {
             return None;
         };
         match token {
@@ -401,7 +401,7 @@ fn read_refined_places<R: Read + Drop>(
                     from: index,
                     zeros: 15,
                 };
-                let Some(next) = correct_piece(held, source, piece, mask, block, refusal) else {
+                let Some(next) = correct_piece(buffered, source, piece, mask, block, refusal) else {
                     return None;
                 };
                 index = next;
@@ -413,10 +413,10 @@ fn read_refined_places<R: Read + Drop>(
                     from: index,
                     zeros,
                 };
-                let Some(next) = correct_piece(held, source, piece, mask, block, refusal) else {
+                let Some(next) = correct_piece(buffered, source, piece, mask, block, refusal) else {
                     return None;
                 };
-                block[place_of(next - 1)] = value;
+                block[index_of(next - 1)] = value;
                 index = next;
             }
             Refinement::End(blocks) => {
@@ -425,7 +425,7 @@ fn read_refined_places<R: Read + Drop>(
                     from: index,
                     zeros: end - index,
                 };
-                return match correct_piece(held, source, piece, mask, block, refusal) {
+                return match correct_piece(buffered, source, piece, mask, block, refusal) {
                     Some(_) => Some(blocks),
                     None => None,
                 };
@@ -435,10 +435,10 @@ fn read_refined_places<R: Read + Drop>(
     Some(0)
 }
 
-/// As `read_refined_places`, on a copy of the buffered bits: a local that stays in registers.
+/// As `read_refined_coefficients`, on a copy of the buffered bits: a local that stays in registers.
 #[inline(never)]
 pub(crate) fn read_refined_band<R: Read + Drop>(
-    held: &mut Held,
+    buffered: &mut BufferedBits,
     source: &mut Source<R>,
     table: &HuffmanTable,
     pass: Pass,
@@ -448,20 +448,20 @@ pub(crate) fn read_refined_band<R: Read + Drop>(
     requires { IsPass (pass_in pass) }
     ensures reads { Takes (λ run. (band_in (pass_in pass) block.new, run))
         (refined_band_from table.now pass.al (band_in (pass_in pass) block.old))
-        held.old source.old (answer_of result refusal.new) held.new source.new }
+        buffered.old source.old (answer_of result refusal.new) buffered.new source.new }
     ensures others { KeepsOthers (pass_in pass) block.old block.new }
-    ensures held { IsHeld result refusal.new }
+    ensures refused { IsRefused result refusal.new }
 {
-    let mut local = held.copied();
-    let run = read_refined_places(&mut local, source, table, pass, block, refusal);
-    *held = local;
+    let mut local = buffered.copied();
+    let run = read_refined_coefficients(&mut local, source, table, pass, block, refusal);
+    *buffered = local;
     run
 }
 
 /// Reads the whole band of a block, one correction bit for each coefficient that isn't zero. A
 /// refusal is stored in `refusal`, and false is returned.
 pub(crate) fn correct_band<R: Read + Drop>(
-    held: &mut Held,
+    buffered: &mut BufferedBits,
     source: &mut Source<R>,
     pass: Pass,
     block: &mut [i16; 64],
@@ -470,9 +470,9 @@ pub(crate) fn correct_band<R: Read + Drop>(
     requires { IsPass (pass_in pass) }
     ensures band { Takes (λ _. band_in (pass_in pass) block.new)
         (corrected_at pass.al (band_in (pass_in pass) block.old))
-        held.old source.old (outcome_of result refusal.new) held.new source.new }
+        buffered.old source.old (outcome_of result refusal.new) buffered.new source.new }
     ensures others { KeepsOthers (pass_in pass) block.old block.new }
-    ensures held { result ≡ false → is_some refusal.new ≡ true }
+    ensures refused { result ≡ false → is_some refusal.new ≡ true }
 {
     let start = pass.band_start();
     let piece = BandPiece {
@@ -480,9 +480,9 @@ pub(crate) fn correct_band<R: Read + Drop>(
         from: start,
         zeros: pass.band_end() - start,
     };
-    let mut local = held.copied();
+    let mut local = buffered.copied();
     let mask = mask_of(*block);
     let next = correct_piece(&mut local, source, piece, mask, block, refusal);
-    *held = local;
+    *buffered = local;
     next.is_some()
 }

@@ -180,7 +180,7 @@ fn a_code_takes_its_bits(rt: HostRuntime) -> Result<(), Fail> {
 }
 
 #[test]
-fn more_bits_than_are_held_at_once(rt: HostRuntime) -> Result<(), Fail> {
+fn more_bits_than_are_buffered_at_once(rt: HostRuntime) -> Result<(), Fail> {
     let mut source = Source::new(reader_of(
         &[
             1, 2, 0xff, 0, 3, 4, 5, 6, 7, 8, 9, 10, 11, 12, 13, 14, 15, 16, 0xff, 0xd8,
@@ -312,8 +312,8 @@ fn read_first(
 /// Returns the block with these coefficients after DC in zigzag order, and zeros.
 fn block_of(first: [i16; 6]) -> [i16; 64] {
     let mut block = [0; 64];
-    for (place, coefficient) in [1usize, 8, 16, 9, 2, 3].into_iter().zip(first) {
-        if let Some(slot) = block.get_mut(place) {
+    for (index, coefficient) in [1usize, 8, 16, 9, 2, 3].into_iter().zip(first) {
+        if let Some(slot) = block.get_mut(index) {
             *slot = coefficient;
         }
     }
@@ -344,11 +344,11 @@ fn values_of_any_length(rt: HostRuntime) -> Result<(), Fail> {
         (&[0xff, 0, 0b1111_1101, 0b0101_0000], [0, 0, 0, 0, 1, 0]),
         (&[0xff, 0, 0b1111_1110, 0b0010_1000], [0, 0, 0, 0, 0, -1]),
     ];
-    for (bytes, places) in cases {
+    for (bytes, indices) in cases {
         let mut source = Source::new(reader_of(bytes, 2));
         let mut decoder = HuffmanDecoder::new(rt.alloc());
         let block = read_first(rt.alloc(), &mut decoder, &mut source, 63)?;
-        assert!(rt; block == block_of(places));
+        assert!(rt; block == block_of(indices));
         assert_eq!(rt; decoder.get_bits(&mut source, 4)?, 0b1010);
     }
     Ok(())
@@ -403,11 +403,11 @@ fn a_marker_within_a_value(rt: HostRuntime) -> Result<(), Fail> {
         (&[0b1010_0000, 0xff, 0xd9], [0, 64, 0, 0, 0, 0]),
         (&[0xff, 0, 0xff, 0xd9], [-3, 0, 0, 0, 0, 0]),
     ];
-    for (bytes, places) in cases {
+    for (bytes, indices) in cases {
         let mut source = Source::new(reader_of(bytes, 2));
         let mut decoder = HuffmanDecoder::new(rt.alloc());
         let block = read_first(rt.alloc(), &mut decoder, &mut source, 63)?;
-        assert!(rt; block == block_of(places));
+        assert!(rt; block == block_of(indices));
         assert!(rt; decoder.take_marker(&mut source)? == Some(Marker::EOI));
     }
     Ok(())

@@ -1,7 +1,7 @@
 //! The coefficients of a block in entropy-coded bits: DC differences, and the tokens of a band
 //! (T.81, F.2.2 and G.1.2).
 ghost use Rattle.std.specs.Prelude.{◌≡◌, ◌≤◌, ◌/◌, ◌%◌, ◌^◌, ◌+ℤ◌, ◌*ℤ◌, pos, length, IfSome};
-ghost use Rattle.jpeg_bits.specs.Refusals.{answer_of, IsHeld};
+ghost use Rattle.jpeg_bits.specs.Refusals.{answer_of, IsRefused};
 ghost use Rattle.jpeg_bits.specs.Entropy.{IsFilled, Takes};
 ghost use Rattle.jpeg_bits.specs.declared.codes.HuffmanTableClass.TheVariants.{AC};
 ghost use Rattle.jpeg_bits.specs.Bands.{wrapped, difference, token_at, token_from, first_ac};
@@ -10,12 +10,12 @@ ghost use Rattle.jpeg_bits.specs.BlockView.{pass_in, IsPass};
 ghost use Rattle.jpeg_bits.specs.Skips.{run_of};
 ghost use Rattle.jpeg_bits.specs.ZigzagParts.{band_in, KeepsOthers};
 
-use crate::ahead::Held;
+use crate::ahead::BufferedBits;
 use crate::blocks::Pass;
-use crate::error::{Error, hold_category_error};
+use crate::error::{Error, set_category_error};
 use crate::huffman::HuffmanTable;
 use crate::source::Source;
-use crate::zigzag::place_of;
+use crate::zigzag::index_of;
 use std::io::Read;
 
 /// What a token of a first pass stands for.
@@ -35,26 +35,26 @@ pub enum Token {
 #[inline(always)]
 #[tactic(auto, unfolding(crate::specs::Bands::difference))]
 pub(crate) fn read_difference<R: Read + Drop>(
-    held: &mut Held,
+    buffered: &mut BufferedBits,
     source: &mut Source<R>,
     table: &HuffmanTable,
     refusal: &mut Option<Error>,
 ) -> Option<i16>
     ensures difference { Takes (λ v. v) (difference table.now)
-        held.old source.old (answer_of result refusal.new) held.new source.new }
-    ensures held { IsHeld result refusal.new }
+        buffered.old source.old (answer_of result refusal.new) buffered.new source.new }
+    ensures refused { IsRefused result refusal.new }
 {
-    let Some(category) = held.take_symbol(source, table, refusal) else {
+    let Some(category) = buffered.take_symbol(source, table, refusal) else {
         return None;
     };
     if category > 11 {
-        hold_category_error(held.alloc(), category, 11, refusal);
+        set_category_error(buffered.alloc(), category, 11, refusal);
         return None;
     }
     if category == 0 {
         return Some(0);
     }
-    held.take_signed(source, category, refusal)
+    buffered.take_signed(source, category, refusal)
 }
 
 /// Returns a sum modulo 2^16.
@@ -81,7 +81,7 @@ pub(crate) fn power_of_two(exponent: u8) -> u16
 #[inline(always)]
 #[tactic(auto, unfolding(crate::specs::Bands::token_at))]
 fn read_token_of<R: Read + Drop>(
-    held: &mut Held,
+    buffered: &mut BufferedBits,
     source: &mut Source<R>,
     room: usize,
     code: (u8, u8),
@@ -89,8 +89,8 @@ fn read_token_of<R: Read + Drop>(
 ) -> Option<Token>
     requires { code.0 ≤ 16 }
     ensures token { Takes (λ t. t) (token_at room code.0 (code.1 / 16) (code.1 % 16))
-        held.old source.old (answer_of result refusal.new) held.new source.new }
-    ensures held { IsHeld result refusal.new }
+        buffered.old source.old (answer_of result refusal.new) buffered.new source.new }
+    ensures refused { IsRefused result refusal.new }
     ensures room { IfSome result (IsWithinRoom room) }
 {
     let (length, symbol) = code;
@@ -101,7 +101,7 @@ fn read_token_of<R: Read + Drop>(
         if !fits && length + size > 8 {
             return Some(Token::Overlong);
         }
-        return match held.take_signed(source, size, refusal) {
+        return match buffered.take_signed(source, size, refusal) {
             Some(value) => Some(if fits {
                 Token::Value(run, value)
             } else {
@@ -116,7 +116,7 @@ fn read_token_of<R: Read + Drop>(
     if run == 0 {
         return Some(Token::Rest(0));
     }
-    match held.take_number(source, run, refusal) {
+    match buffered.take_number(source, run, refusal) {
         Some(extra) => Some(Token::Rest(power_of_two(run) - 1 + extra)),
         None => None,
     }
@@ -127,30 +127,30 @@ fn read_token_of<R: Read + Drop>(
 /// next 11 bits. A refusal is stored in `refusal`, and none is returned.
 #[inline(always)]
 fn read_token<R: Read + Drop>(
-    held: &mut Held,
+    buffered: &mut BufferedBits,
     source: &mut Source<R>,
     table: &HuffmanTable,
     room: usize,
     refusal: &mut Option<Error>,
 ) -> Option<Token>
     requires class { table.now.class ≡ AC }
-    requires filled { IsFilled 16 held.old.bits held.old.met }
+    requires filled { IsFilled 16 buffered.old.bits buffered.old.met }
     ensures token { Takes (λ t. t) (token_from table.now room)
-        held.old source.old (answer_of result refusal.new) held.new source.new }
-    ensures held { IsHeld result refusal.new }
+        buffered.old source.old (answer_of result refusal.new) buffered.new source.new }
+    ensures refused { IsRefused result refusal.new }
     ensures room { IfSome result (IsWithinRoom room) }
 {
-    if let Some((value, run, bits)) = held.wide_value(table) {
+    if let Some((value, run, bits)) = buffered.wide_value(table) {
         let count = usize::from(bits);
-        if usize::from(run) < room && held.has(count) {
-            held.skip(count);
+        if usize::from(run) < room && buffered.has(count) {
+            buffered.skip(count);
             return Some(Token::Value(run, value));
         }
     }
-    let Some(code) = held.take_held_code(table, refusal) else {
+    let Some(code) = buffered.take_buffered_code(table, refusal) else {
         return None;
     };
-    read_token_of(held, source, room, code, refusal)
+    read_token_of(buffered, source, room, code, refusal)
 }
 
 #[inline]
@@ -173,8 +173,8 @@ pub(crate) fn shifted(value: i16, point: u8) -> i16
 /// Reads the band of a block in a first pass, and the blocks of the run that follows. A refusal
 /// is stored in `refusal`, and none is returned.
 #[inline(always)]
-fn read_places<R: Read + Drop>(
-    held: &mut Held,
+fn read_first_coefficients<R: Read + Drop>(
+    buffered: &mut BufferedBits,
     source: &mut Source<R>,
     table: &HuffmanTable,
     pass: Pass,
@@ -186,32 +186,32 @@ fn read_places<R: Read + Drop>(
     ensures band { Takes (λ run. (band_in (pass_in pass) block.new, run))
         (first_ac table.now pass.al (length (band_in (pass_in pass) block.old))
         (band_in (pass_in pass) block.old))
-        held.old source.old (answer_of result refusal.new) held.new source.new }
+        buffered.old source.old (answer_of result refusal.new) buffered.new source.new }
     ensures others { KeepsOthers (pass_in pass) block.old block.new }
-    ensures held { IsHeld result refusal.new }
+    ensures refused { IsRefused result refusal.new }
 {
     let end = pass.band_end();
     let mut at = pass.band_start();
     while at < end {
-        if !held.hold(source, 16, refusal) {
+        if !buffered.fill(source, 16, refusal) {
             return None;
         }
-        let pair = held.next_pair(table);
+        let pair = buffered.next_pair(table);
         let count = usize::from(pair.bits);
         let passed = usize::from(pair.passed);
-        if passed <= end - at && held.has(count) {
-            block[place_of(at + usize::from(pair.run))] = shifted(pair.first, pass.al);
-            block[place_of(at + usize::from(pair.next))] = shifted(pair.second, pass.al);
+        if passed <= end - at && buffered.has(count) {
+            block[index_of(at + usize::from(pair.run))] = shifted(pair.first, pass.al);
+            block[index_of(at + usize::from(pair.next))] = shifted(pair.second, pass.al);
             at += passed;
-            held.skip(count);
+            buffered.skip(count);
         } else {
-            let Some(token) = read_token(held, source, table, end - at, refusal) else {
+            let Some(token) = read_token(buffered, source, table, end - at, refusal) else {
                 return None;
             };
             match token {
                 Token::Value(run, value) => {
                     at += usize::from(run);
-                    block[place_of(at)] = shifted(value, pass.al);
+                    block[index_of(at)] = shifted(value, pass.al);
                     at += 1;
                 }
                 Token::Sixteen => at = if end - at > 16 { at + 16 } else { end },
@@ -223,10 +223,10 @@ fn read_places<R: Read + Drop>(
     Some(0)
 }
 
-/// As `read_places`, on a copy of the buffered bits: a local that stays in registers.
+/// As `read_first_coefficients`, on a copy of the buffered bits: a local that stays in registers.
 #[inline(never)]
 pub(crate) fn read_first_band<R: Read + Drop>(
-    held: &mut Held,
+    buffered: &mut BufferedBits,
     source: &mut Source<R>,
     table: &HuffmanTable,
     pass: Pass,
@@ -238,21 +238,21 @@ pub(crate) fn read_first_band<R: Read + Drop>(
     ensures band { Takes (λ run. (band_in (pass_in pass) block.new, run))
         (first_ac table.now pass.al (length (band_in (pass_in pass) block.old))
         (band_in (pass_in pass) block.old))
-        held.old source.old (answer_of result refusal.new) held.new source.new }
+        buffered.old source.old (answer_of result refusal.new) buffered.new source.new }
     ensures others { KeepsOthers (pass_in pass) block.old block.new }
-    ensures held { IsHeld result refusal.new }
+    ensures refused { IsRefused result refusal.new }
 {
-    let mut local = held.copied();
-    let run = read_places(&mut local, source, table, pass, block, refusal);
-    *held = local;
+    let mut local = buffered.copied();
+    let run = read_first_coefficients(&mut local, source, table, pass, block, refusal);
+    *buffered = local;
     run
 }
 
 /// Reads the band of a block in a first pass, of `room` coefficients, of which nothing is kept but
 /// the blocks of the run that follows. A refusal is stored in `refusal`, and none is returned.
 #[inline(always)]
-fn skip_places<R: Read + Drop>(
-    held: &mut Held,
+fn skip_coefficients<R: Read + Drop>(
+    buffered: &mut BufferedBits,
     source: &mut Source<R>,
     table: &HuffmanTable,
     room: usize,
@@ -261,25 +261,25 @@ fn skip_places<R: Read + Drop>(
     requires class { table.now.class ≡ AC }
     requires room { room ≤ 63 }
     ensures run { Takes (λ run. run) (run_of table.now room)
-        held.old source.old (answer_of result refusal.new) held.new source.new }
-    ensures held { IsHeld result refusal.new }
+        buffered.old source.old (answer_of result refusal.new) buffered.new source.new }
+    ensures refused { IsRefused result refusal.new }
 {
     let mut left = room;
     while left > 0 {
-        if !held.hold(source, 16, refusal) {
+        if !buffered.fill(source, 16, refusal) {
             return None;
         }
-        let (bits, passed, is_last) = held.skip_ahead(table);
+        let (bits, passed, is_last) = buffered.skip_ahead(table);
         let count = usize::from(bits);
         let passed = usize::from(passed);
-        if passed < left && held.has(count) {
-            held.skip(count);
+        if passed < left && buffered.has(count) {
+            buffered.skip(count);
             if is_last {
                 return Some(0);
             }
             left -= passed;
         } else {
-            let Some(token) = read_token(held, source, table, left, refusal) else {
+            let Some(token) = read_token(buffered, source, table, left, refusal) else {
                 return None;
             };
             match token {
@@ -293,10 +293,10 @@ fn skip_places<R: Read + Drop>(
     Some(0)
 }
 
-/// As `skip_places`, on a copy of the buffered bits: a local that stays in registers.
+/// As `skip_coefficients`, on a copy of the buffered bits: a local that stays in registers.
 #[inline(never)]
 pub(crate) fn skip_first_band<R: Read + Drop>(
-    held: &mut Held,
+    buffered: &mut BufferedBits,
     source: &mut Source<R>,
     table: &HuffmanTable,
     room: usize,
@@ -305,11 +305,11 @@ pub(crate) fn skip_first_band<R: Read + Drop>(
     requires class { table.now.class ≡ AC }
     requires room { room ≤ 63 }
     ensures run { Takes (λ run. run) (run_of table.now room)
-        held.old source.old (answer_of result refusal.new) held.new source.new }
-    ensures held { IsHeld result refusal.new }
+        buffered.old source.old (answer_of result refusal.new) buffered.new source.new }
+    ensures refused { IsRefused result refusal.new }
 {
-    let mut local = held.copied();
-    let run = skip_places(&mut local, source, table, room, refusal);
-    *held = local;
+    let mut local = buffered.copied();
+    let run = skip_coefficients(&mut local, source, table, room, refusal);
+    *buffered = local;
     run
 }

@@ -16,10 +16,10 @@ const PLACES: [u8; 64] = [
 
 /// Returns the index in the block, `8 * row + column`, of an index in zigzag order (T.81, A.3.6).
 #[inline(always)]
-pub(crate) fn place_of(zigzag_place: usize) -> usize
-    requires { zigzag_place < 64 }
-    ensures value { result ≡ slice_index zigzag zigzag_place }
+pub(crate) fn index_of(zigzag_index: usize) -> usize
+    requires { zigzag_index < 64 }
+    ensures value { result ≡ slice_index zigzag zigzag_index }
     ensures within { result < 64 }
 {
-    usize::from(PLACES[zigzag_place])
+    usize::from(PLACES[zigzag_index])
 }

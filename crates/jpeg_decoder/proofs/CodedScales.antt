@@ -8,8 +8,10 @@ use Rattle.jpeg_segments.specs.FrameView.{component_in}
 use Rattle.jpeg_decoder.specs.Steps.{HasScale}
 
 -- what each component of a frame has, the one at a place has
-pub scale-at : (cs : List declared.Component) (place : ℕ) (c : declared.Component) → place < length cs
-    → c ≡ get_or cs place c → AllByRecursion HasScale (map component_in cs) → is_scale c.dct_scale ≡ true
-scale-at [] place c h e all = absurd (omega arith)
+pub scale-at : (cs : List declared.Component) (index : ℕ) (c : declared.Component) → index < length
+    cs
+    → c ≡ get_or cs index c → AllByRecursion HasScale (map component_in cs) → is_scale c.dct_scale
+    ≡ true
+scale-at [] index c h e all = absurd (omega arith)
 scale-at (x ∷ cs) zero c h e all = ap (λ (y : declared.Component). is_scale y.dct_scale) e ∙ all.0
-scale-at (x ∷ cs) (suc place) c h e all = scale-at cs place c (omega arith) e all.1
+scale-at (x ∷ cs) (suc index) c h e all = scale-at cs index c (omega arith) e all.1

@@ -131,19 +131,21 @@ module _ (p : Pass) (vias : List Via) (n : ℕ) (frame : Frame) (codings : List 
 -- ---- what is found after them
 
 abbrev pub IsDecided : List (Option (List ℕ)) → Coding → Type 0
-IsDecided planes c = is_some (slice_index_or planes c.place None) ≡ true
+IsDecided planes c = is_some (slice_index_or planes c.index None) ≡ true
 
 pub finished_after : Pass → List Coding → List (List Bool) → List (List Bool)
 finished_after p [] marks = marks
 finished_after p (c ∷ codings) marks =
-    finished_after p codings (slice_set marks c.place (marks_after p marks c.place))
+    finished_after p codings (slice_set marks c.index (marks_after p marks c.index))
 
-its-plane-decided : (p : Pass) (place : ℕ) (plane : List ℕ) (found : Found)
-    → is_some (slice_index_or found.planes place None) ≡ true
-    → with_its_plane p place plane found
-    ≡ record found { finished = slice_set found.finished place (marks_after p found.finished place) }
+its-plane-decided : (p : Pass) (index : ℕ) (plane : List ℕ) (found : Found)
+    → is_some (slice_index_or found.planes index None) ≡ true
+    → with_its_plane p index plane found
+    ≡ record found {
+      finished = slice_set found.finished index (marks_after p found.finished index);
+    }
 unfolding with_its_plane
-its-plane-decided p place plane found h = grind (arith, common_steps, planes_kept)
+its-plane-decided p index plane found h = grind (arith, common_steps, planes_kept)
 
 pub planes-decided : (p : Pass) (codings : List Coding) (planes : Planes) (found : Found)
     → AllByRecursion (IsDecided found.planes) codings → length planes ≡ length codings
@@ -151,9 +153,12 @@ pub planes-decided : (p : Pass) (codings : List Coding) (planes : Planes) (found
 unfolding with_planes finished_after
 planes-decided p [] [] found h e = refl
 planes-decided p (c ∷ codings) (x ∷ planes) found h e =
-    ap (with_planes p codings planes) (its-plane-decided p c.place x found h.0)
+    ap (with_planes p codings planes) (its-plane-decided p c.index x found h.0)
     ∙ planes-decided p codings planes
-    (record found { finished = slice_set found.finished c.place (marks_after p found.finished c.place) }) h.1 (omega arith)
+    (record found {
+      finished = slice_set found.finished c.index (marks_after p found.finished
+          c.index);
+    }) h.1 (omega arith)
 planes-decided p _ _ found h e = absurd (omega arith)
 
 -- ---- a loop over the components

@@ -62,7 +62,8 @@ gives bytes_of o picture rest final new read old result answers is means known =
 
 means-picture : (size : Size) (settings : Settings) (array : Coefficients) (image rest : List ℕ) (final : Found)
     (last : ℕ → Levels)
-    → ((place row column : ℕ) → Is8Bit (array place row column)) → WritesImage array image final last
+    → ((index row column : ℕ) → Is8Bit (array index row column)) → WritesImage array image final
+    last
     → TakesPicture settings (at_size size final)
     → (picture : List ℕ) × (picture_of_array settings (at_size size final) array last ≡ Ok picture)
     × (means_at size settings (image ++ rest) ≡ Ok ((told_of (at_size size final), picture), rest))

@@ -14,7 +14,7 @@ use Rattle.jpeg_segments.specs.Frame.{Frame, Component}
 use Rattle.jpeg_segments.specs.Scales.{component_at, frame_at}
 use Rattle.jpeg_pixels.specs.Pictures.{AreWhole}
 use Rattle.jpeg_pixels.specs.Scaled.{IsScale}
-use Rattle.jpeg_streams.specs.EndPlanes.{AreBlocksOf, blocks_if, is_held, plane_or}
+use Rattle.jpeg_streams.specs.EndPlanes.{AreBlocksOf, blocks_if, is_kept, plane_or}
 use Rattle.jpeg_streams.specs.InTurn.{AreArrays}
 use Rattle.jpeg_decoder.specs.Scanning.{arrays_in}
 use Rattle.jpeg_streams.specs.Scans.{Arrays}
@@ -29,14 +29,14 @@ use Rattle.std.proofs.lemmas.Grind.{common_steps}
 -- ---- what is left after some places
 
 -- A place that is set leaves what is after it.
-pub rest-kept : (held : List (Vec (List ℤ) Global)) (place : ℕ) (v : Vec (List ℤ) Global)
-    → drop (place + 1) (arrays_in (set held place v)) ≡ drop (place + 1) (arrays_in held)
-rest-kept held place v = grind (arith, common_steps, map-set, drop-set-lt)
+pub rest-kept : (kept : List (Vec (List ℤ) Global)) (index : ℕ) (v : Vec (List ℤ) Global)
+    → drop (index + 1) (arrays_in (set kept index v)) ≡ drop (index + 1) (arrays_in kept)
+rest-kept kept index v = grind (arith, common_steps, map-set, drop-set-lt)
 
-pub planes-kept : (planes : List (Option (Vec ℕ Global))) (place : ℕ) (p : Option (Vec ℕ Global))
-    → drop (place + 1) (map (λ q. option_map (λ v. v.items) q) (set planes place p))
-    ≡ drop (place + 1) (map (λ q. option_map (λ v. v.items) q) planes)
-planes-kept planes place p = grind (arith, common_steps, map-set, drop-set-lt)
+pub planes-kept : (planes : List (Option (Vec ℕ Global))) (index : ℕ) (p : Option (Vec ℕ Global))
+    → drop (index + 1) (map (λ q. option_map (λ v. v.items) q) (set planes index p))
+    ≡ drop (index + 1) (map (λ q. option_map (λ v. v.items) q) planes)
+planes-kept planes index p = grind (arith, common_steps, map-set, drop-set-lt)
 
 -- Lists that are the same from a place on are so there, and from the next on.
 pub same-at : {A : Type 0} (xs ys : List A) (i : ℕ) (d : A) → drop i xs ≡ drop i ys → get_or xs i d ≡ get_or ys i d
@@ -57,34 +57,40 @@ none-left f xs i h = drop_of_length-le (map f xs) (omega (arith, length-map xs f
 
 -- ---- in turn
 
-left-at : (cs : List Component) (place : ℕ) (c : Component) → place < length cs → c ≡ get_or cs place c
-    → drop place cs ≡ c ∷ drop (place + 1) cs
-left-at cs place c h e = drop_more cs place c h ∙ ap (λ (x : Component). x ∷ drop (place + 1) cs) (sym e)
+left-at : (cs : List Component) (index : ℕ) (c : Component) → index < length cs → c ≡ get_or cs
+    index c
+    → drop index cs ≡ c ∷ drop (index + 1) cs
+left-at cs index c h e = drop_more cs index c h ∙ ap (λ (x : Component). x ∷ drop (index + 1) cs)
+    (sym e)
 
 -- a component, and those after it
-pub planes-after : (found : Found) (frame : Frame) (place : ℕ) (c : Component) → place < length frame.components
-    → c ≡ get_or frame.components place c
-    → planes_from found frame place (drop place frame.components)
-    ≡ and_others (plane_at_end found frame place c)
-    (planes_from found frame (place + 1) (drop (place + 1) frame.components))
+pub planes-after : (found : Found) (frame : Frame) (index : ℕ) (c : Component) → index < length
+    frame.components
+    → c ≡ get_or frame.components index c
+    → planes_from found frame index (drop index frame.components)
+    ≡ and_others (plane_at_end found frame index c)
+    (planes_from found frame (index + 1) (drop (index + 1) frame.components))
 unfolding planes_from
-planes-after found frame place c h e = ap (planes_from found frame place) (left-at frame.components place c h e)
+planes-after found frame index c h e = ap (planes_from found frame index) (left-at frame.components
+    index c h e)
 
-pub no-planes : (found : Found) (frame : Frame) (place : ℕ) → drop place frame.components ≡ []
-    → planes_from found frame place (drop place frame.components) ≡ Ok []
+pub no-planes : (found : Found) (frame : Frame) (index : ℕ) → drop index frame.components ≡ []
+    → planes_from found frame index (drop index frame.components) ≡ Ok []
 unfolding planes_from
-no-planes found frame place e = ap (planes_from found frame place) e
+no-planes found frame index e = ap (planes_from found frame index) e
 
 -- ---- all blocks
 
 -- what this many planes make whole, with those after them
 abbrev pub AreWholeWith : List Component → ℕ → List (List ℕ) → Type 0
-AreWholeWith cs place front = (others : List (List ℕ)) → AreWhole (drop place cs) others → AreWhole cs (front ++ others)
+AreWholeWith cs index front = (others : List (List ℕ)) → AreWhole (drop index cs) others → AreWhole
+    cs (front ++ others)
 
-pub whole-all : (cs : List Component) (place : ℕ) (front : List (List ℕ)) → AreWholeWith cs place front
-    → drop place cs ≡ [] → AreWhole cs front
+pub whole-all : (cs : List Component) (index : ℕ) (front : List (List ℕ)) → AreWholeWith cs index
+    front
+    → drop index cs ≡ [] → AreWhole cs front
 unfolding AreWhole
-whole-all cs place front old e =
+whole-all cs index front old e =
     subst (AreWhole cs) (append-nil front) (old [] (subst (λ (left : List Component). AreWhole left []) (sym e) tt))
 
 -- ---- what is known at a place
@@ -105,10 +111,11 @@ blocks-at (c ∷ cs) [] i d p h = absurd p
 blocks-at (c ∷ cs) (blocks ∷ arrays) zero d p h = p.0
 blocks-at (c ∷ cs) (blocks ∷ arrays) (suc i) d p h = blocks-at cs arrays i d p.1 (omega arith)
 
-pub held-arrays : (found : Found) (frame : Frame) → AreArrays frame.components (arrays_before found frame)
-    → is_held found frame ≡ true → AreArrays frame.components found.held
+pub kept-arrays : (found : Found) (frame : Frame) → AreArrays frame.components (arrays_before found
+    frame)
+    → is_kept found frame ≡ true → AreArrays frame.components found.kept
 unfolding arrays_before
-held-arrays found frame p h = grind (arith, common_steps)
+kept-arrays found frame p h = grind (arith, common_steps)
 
 arrays-count : (cs : List Component) (arrays : Arrays) → AreArrays cs arrays → length cs ≤ length arrays
 unfolding AreArrays
@@ -116,10 +123,10 @@ arrays-count [] arrays p = omega arith
 arrays-count (c ∷ cs) [] p = absurd p
 arrays-count (c ∷ cs) (blocks ∷ arrays) p = omega (arith, arrays-count cs arrays p.1)
 
-pub held-blocks : (found : Found) (frame : Frame) (i : ℕ) (d : Component)
+pub kept-blocks : (found : Found) (frame : Frame) (i : ℕ) (d : Component)
     → AreArrays frame.components (arrays_before found frame) → i < length frame.components
-    → AreBlocksOf (get_or frame.components i d) (blocks_if (is_held found frame) found.held i)
-held-blocks found frame i d p h = grind (arith, common_steps, blocks-at, held-arrays)
+    → AreBlocksOf (get_or frame.components i d) (blocks_if (is_kept found frame) found.kept i)
+kept-blocks found frame i d p h = grind (arith, common_steps, blocks-at, kept-arrays)
 
 -- ---- the components of a frame are at a scale
 
@@ -145,59 +152,88 @@ element P (c ∷ cs) (suc i) d p h = element P cs i d p.1 (omega arith)
 
 -- ---- at a place of what was found
 
-pub reached-four : (found : Found) (frame : Frame) (place : ℕ) → IsSound found → found.frame ≡ Some frame
-    → place < length frame.components → place < 4
-reached-four found frame place s f h =
+pub reached-four : (found : Found) (frame : Frame) (index : ℕ) → IsSound found → found.frame ≡ Some
+    frame
+    → index < length frame.components → index < 4
+reached-four found frame index s f h =
     let few = count-few (length frame.components) (decoded-count frame (s.frames frame f)) in omega (arith, few.1, h)
 
-pub reached-held : (found : Found) (frame : Frame) (place : ℕ) (held : Arrays) → IsSound found
-    → found.frame ≡ Some frame → place < length frame.components → drop place held ≡ drop place found.held
-    → is_held found frame ≡ true → place < length held
-reached-held found frame place held s f h e b = search (rules, arith, arrays-count, held-arrays, same-within)
+pub reached-kept : (found : Found) (frame : Frame) (index : ℕ) (kept : Arrays) → IsSound found
+    → found.frame ≡ Some frame → index < length frame.components → drop index kept ≡ drop index
+    found.kept
+    → is_kept found frame ≡ true → index < length kept
+reached-kept found frame index kept s f h e b = search (
+  rules,
+  arith,
+  arrays-count,
+  kept-arrays,
+  same-within,
+)
 
-pub reached-plane : (found : Found) (frame : Frame) (place : ℕ) (c : Component) (planes : List (Option (List ℕ)))
+pub reached-plane : (found : Found) (frame : Frame) (index : ℕ) (c : Component) (planes : List
+    (Option (List ℕ)))
     (o : Option (List ℕ)) → IsSound found
-    → found.frame ≡ Some frame → place < length frame.components → c ≡ get_or frame.components place c
-    → drop place planes ≡ drop place found.planes → o ≡ get_or planes place None → IsPlaneOf c o
-reached-plane found frame place c planes o s f h e left is =
-    let at = plane-at frame.components found.planes place c (s.planes frame f) h in
-    let same : o ≡ get_or found.planes place None = is ∙ same-at planes found.planes place None left in
+    → found.frame ≡ Some frame → index < length frame.components → c ≡ get_or frame.components
+    index c
+    → drop index planes ≡ drop index found.planes → o ≡ get_or planes index None → IsPlaneOf c o
+reached-plane found frame index c planes o s f h e left is =
+    let at = plane-at frame.components found.planes index c (s.planes frame f) h in
+    let same : o ≡ get_or found.planes index None = is ∙ same-at planes found.planes index None
+    left in
     grind (arith, common_steps)
 
-blocks-same : (b : Bool) (held old : Arrays) (place : ℕ) → drop place held ≡ drop place old
-    → blocks_if b held place ≡ blocks_if b old place
-blocks-same b held old place e = grind (arith, common_steps, same-at)
+blocks-same : (b : Bool) (kept old : Arrays) (index : ℕ) → drop index kept ≡ drop index old
+    → blocks_if b kept index ≡ blocks_if b old index
+blocks-same b kept old index e = grind (arith, common_steps, same-at)
 
-pub reached-blocks : (found : Found) (frame : Frame) (place : ℕ) (c : Component) (held : Arrays) (b : Bool)
+pub reached-blocks : (found : Found) (frame : Frame) (index : ℕ) (c : Component) (kept : Arrays) (b
+    : Bool)
     (o : Option (List Block)) → IsSound found
-    → found.frame ≡ Some frame → place < length frame.components → c ≡ get_or frame.components place c
-    → drop place held ≡ drop place found.held → b ≡ is_held found frame → o ≡ blocks_if b held place
+    → found.frame ≡ Some frame → index < length frame.components → c ≡ get_or frame.components
+    index c
+    → drop index kept ≡ drop index found.kept → b ≡ is_kept found frame → o ≡ blocks_if b kept index
     → AreBlocksOf c o
-reached-blocks found frame place c held b o s f h e left is given =
-    let at = held-blocks found frame place c (s.held frame f) h in
-    let same : o ≡ blocks_if (is_held found frame) found.held place = grind (arith, common_steps, blocks-same) in
+reached-blocks found frame index c kept b o s f h e left is given =
+    let at = kept-blocks found frame index c (s.kept frame f) h in
+    let same : o ≡ blocks_if (is_kept found frame) found.kept index = grind (
+      arith,
+      common_steps,
+      blocks-same,
+    ) in
     grind (arith, common_steps)
 
 -- the plane there, by what is left
-pub reached-end : (found : Found) (frame : Frame) (place : ℕ) (c : Component) (planes : List (Option (List ℕ)))
-    (held : Arrays) (table : Option (List ℕ)) (plane : Option (List ℕ)) (b : Bool) (blocks : Option (List Block))
+pub reached-end : (found : Found) (frame : Frame) (index : ℕ) (c : Component) (planes : List
+    (Option (List ℕ)))
+    (kept : Arrays) (table : Option (List ℕ)) (plane : Option (List ℕ)) (b : Bool) (blocks : Option
+    (List Block))
     → table ≡ slice_index_or found.quantization c.factors.quantization None
-    → drop place planes ≡ drop place found.planes → plane ≡ get_or planes place None
-    → drop place held ≡ drop place found.held → b ≡ is_held found frame → blocks ≡ blocks_if b held place
-    → plane_at_end found frame place c ≡ plane_or c table plane blocks
+    → drop index planes ≡ drop index found.planes → plane ≡ get_or planes index None
+    → drop index kept ≡ drop index found.kept → b ≡ is_kept found frame → blocks ≡ blocks_if b kept
+    index
+    → plane_at_end found frame index c ≡ plane_or c table plane blocks
 unfolding plane_at_end
-reached-end found frame place c planes held table plane b blocks t left is held_left held_is given =
+reached-end found frame index c planes kept table plane b blocks t left is kept_left kept_is given =
     grind (arith, common_steps, same-at, blocks-same)
 
-pub reached-scale : (found : Found) (frame : Frame) (place : ℕ) (c : Component) → IsSound found
-    → found.frame ≡ Some frame → place < length frame.components → c ≡ get_or frame.components place c
+pub reached-scale : (found : Found) (frame : Frame) (index : ℕ) (c : Component) → IsSound found
+    → found.frame ≡ Some frame → index < length frame.components → c ≡ get_or frame.components
+    index c
     → IsScale c.scale
-reached-scale found frame place c s f h e =
-    subst (λ (x : Component). IsScale x.scale) (sym e) (element (λ x. IsScale x.scale) frame.components place c
+reached-scale found frame index c s f h e =
+    subst (λ (x : Component). IsScale x.scale) (sym e) (element (λ x. IsScale x.scale)
+    frame.components index c
     (decoded-scales frame (s.frames frame f)) h)
 
-pub whole-there : (cs : List Component) (place : ℕ) (c : Component) (front new : List (List ℕ)) (plane : List ℕ)
-    → place < length cs → c ≡ get_or cs place c → AreWholeWith cs place front → IsPlaneOf c (Some plane)
-    → new ≡ front ++ plane ∷ [] → AreWholeWith cs (place + 1) new
+pub whole-there : (cs : List Component) (index : ℕ) (c : Component) (front new : List (List ℕ))
+    (plane : List ℕ)
+    → index < length cs → c ≡ get_or cs index c → AreWholeWith cs index front → IsPlaneOf c (Some
+    plane)
+    → new ≡ front ++ plane ∷ [] → AreWholeWith cs (index + 1) new
 unfolding AreWhole
-whole-there cs place c front new plane h e old l joined = grind (arith, common_steps, append_assoc, left-at)
+whole-there cs index c front new plane h e old l joined = grind (
+  arith,
+  common_steps,
+  append_assoc,
+  left-at,
+)

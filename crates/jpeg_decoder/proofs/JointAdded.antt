@@ -50,26 +50,26 @@ module _ (p : Pass) (cs : List Coded) (planes : List (List ℕ))
 
   -- one component more, whose coefficients are all finished
   pub joint-step : (i : ℕ) (c : Coded) (found : Found) (marks : List Bool) → length cs ≤ 4
-      → i < length cs → c ≡ get_or cs i c → c.place ≡ i
-      → marks ≡ marks_after p found.finished c.place → list_all (λ mark. mark) marks ≡ true
+      → i < length cs → c ≡ get_or cs i c → c.index ≡ i
+      → marks ≡ marks_after p found.finished c.index → list_all (λ mark. mark) marks ≡ true
       → with_planes p (drop (i + 1) (map coding_in cs)) (drop (i + 1) planes)
-      (record found { finished = slice_set found.finished c.place marks; planes = laid (i + 1) })
+      (record found { finished = slice_set found.finished c.index marks; planes = laid (i + 1) })
       ≡ with_planes p (drop i (map coding_in cs)) (drop i planes) (record found { planes = laid i })
   unfolding with_planes
-  joint-step i c found marks few h is place marked all =
+  joint-step i c found marks few h is index marked all =
       let plane = get_or planes i [] in
       let long : length (take i planes) ≡ i = length-take-le i planes (omega (arith, count)) in
-      let at : c.place ≡ length (take i planes) = place ∙ sym long in
-      let none : slice_index_or (laid i) c.place None ≡ None =
+      let at : c.index ≡ length (take i planes) = index ∙ sym long in
+      let none : slice_index_or (laid i) c.index None ≡ None =
       ap (λ (k : ℕ). slice_index_or (laid i) k None) at ∙ or-at 4 (take i planes) in
-      let next : laid (i + 1) ≡ slice_set (laid i) c.place (Some plane) =
+      let next : laid (i + 1) ≡ slice_set (laid i) c.index (Some plane) =
       ap (or_joint (replicate 4 None)) (take_more planes i [] (omega (arith, count)))
       ∙ sym (or-next 4 (take i planes) plane (omega arith))
       ∙ ap (λ (k : ℕ). slice_set (laid i) k (Some plane)) (sym at) in
       ap (with_planes p (drop (i + 1) (map coding_in cs)) (drop (i + 1) planes))
-      (its_plane_set p c.place plane (record found { planes = laid i })
-      (slice_set found.finished c.place marks) (laid (i + 1))
-      (ap (slice_set found.finished c.place) marked) next
+      (its_plane_set p c.index plane (record found { planes = laid i })
+      (slice_set found.finished c.index marks) (laid (i + 1))
+      (ap (slice_set found.finished c.index) marked) next
       (ap₂ (λ (m : List Bool) (o : Option (List ℕ)). is_wanted m o) (sym marked) none
       ∙ ap (λ (b : Bool). b && true) all))
       ∙ sym (ap₂ (λ (ks : List Coding) (ps : List (List ℕ)).

@@ -21,7 +21,7 @@ use Rattle.jpeg_pixels.specs.JointPlanes.{joint_row_size}
 use Rattle.jpeg_pixels.specs.JointPlanes.{strip_size}
 use Rattle.jpeg_pixels.specs.declared.joint_planes.JointPlanes.{JointPlanes}
 use Rattle.jpeg_pixels.specs.declared.joint_planes.JointShape.{JointShape}
-use Rattle.jpeg_lossless.specs.Places.{AreEven}
+use Rattle.jpeg_lossless.specs.Positions.{AreEven}
 use Rattle.jpeg_streams.specs.InTurn.{Fits}
 use Rattle.jpeg_streams.specs.Scans.{Arrays}
 use Rattle.jpeg_streams.specs.ScanSegments.{Coding}
@@ -194,10 +194,10 @@ shaped : (frame : Frame) (shape : JointShape) (cs : List Coded) → shape.rows �
 shaped frame shape [] rows lines strides fits of = tt
 shaped frame shape (c ∷ cs) rows lines strides fits of =
     let k = component_in c.component.now in
-    let at = first-at c.place frame.components k of.0 in (
+    let at = first-at c.index frame.components k of.0 in (
       record {
-        lines = at-all _ c.place frame.components k lines at;
-        stride = at-all _ c.place frame.components k strides at;
+        lines = at-all _ c.index frame.components k lines at;
+        stride = at-all _ c.index frame.components k strides at;
         high = fits.0.high ∙ ap (λ (n : ℕ). n * k.factors.vertical) (sym rows);
       },
       shaped frame shape cs rows lines strides fits.1 of.1,
@@ -240,7 +240,7 @@ module _ (frame : Frame) (cs : List Coded) (seen : List Component) (joint : Join
 
 -- after one row more
 module _ (codings : List Coding) (arrays : Arrays) (joint : JointPlanes)
-    (is : IsJointOf codings joint) (held : length arrays ≡ length codings) where
+    (is : IsJointOf codings joint) (kept : length arrays ≡ length codings) where
   abbrev strips : List (List ℕ)
   strips = strips_of codings arrays
 
@@ -248,7 +248,7 @@ module _ (codings : List Coding) (arrays : Arrays) (joint : JointPlanes)
   even = strips-even joint.shape codings arrays is.each
 
   strips-count : length strips ≡ joint.shape.count
-  strips-count = strips_of-length codings arrays held ∙ sym is.count
+  strips-count = strips_of-length codings arrays kept ∙ sym is.count
 
   pub room-grown : (new : List ℕ) → new ≡ joint.samples.items ++ concat strips
       → joint_planes joint.shape new
@@ -260,7 +260,7 @@ module _ (codings : List Coding) (arrays : Arrays) (joint : JointPlanes)
       let old-long = planes-long shape samples ∙ is.count in
       let new-long = planes-long shape new in
       ext_get_or [] (joint_planes shape new) (with_strips codings arrays old)
-      (new-long ∙ is.count ∙ sym (strips-length codings arrays old held old-long))
+      (new-long ∙ is.count ∙ sym (strips-length codings arrays old kept old-long))
       (λ slot lt.
       let h : slot < shape.count = omega (arith, lt, new-long) in
       planes-at shape new slot h
@@ -268,7 +268,7 @@ module _ (codings : List Coding) (arrays : Arrays) (joint : JointPlanes)
       ∙ plane-grown shape samples strips (length samples / joint_row_size shape) slot is.whole even
       strips-count h
       ∙ ap (λ (l : List ℕ). l ++ get_or strips slot []) (sym (planes-at shape samples slot h))
-      ∙ sym (strips-at codings arrays old slot held old-long (omega (arith, h, is.count))))
+      ∙ sym (strips-at codings arrays old slot kept old-long (omega (arith, h, is.count))))
 
   pub room-kept : (new : Vec ℕ Global) → new.items ≡ joint.samples.items ++ concat strips
       → IsJointOf codings (record joint { samples = new })

@@ -7,7 +7,8 @@ use Rattle.jpeg_bits.specs.Entropy.{Text}
 use Rattle.jpeg_bits.specs.Readers.{read_on}
 use Rattle.jpeg_bits.specs.Passes.{Block, Pass, Via, zero_block}
 use Rattle.jpeg_bits.specs.Skips.{dc_alone}
-use Rattle.jpeg_bits.specs.Zigzag.{coefficients_in_block_order, values_in_block_order, zigzag_places}
+use Rattle.jpeg_bits.specs.Zigzag.{coefficients_in_block_order, values_in_block_order}
+use Rattle.jpeg_bits.specs.Zigzag.{zigzag_indices}
 use Rattle.jpeg_pixels.specs.Planes.{plane_of}
 use Rattle.jpeg_pixels.specs.Samples.{dequantized}
 use Rattle.jpeg_pixels.specs.Scaled.{sample_at, sample_of_1}
@@ -27,7 +28,7 @@ use Rattle.jpeg_decoder.proofs.StripSteps.{strips_step}
 
 -- one sample of a block is of DC alone
 one-sample : (b : Block) (q : List ℕ) (x y : ℕ) → sample_at 1 (ordered b) q x y ≡ sample_at 1 (ordered (dc_alone b)) q x y
-unfolding sample_at sample_of_1 dequantized coefficients_in_block_order zigzag_places
+unfolding sample_at sample_of_1 dequantized coefficients_in_block_order zigzag_indices
 one-sample b q x y = refl
 
 block-alike : (a b : List Block) (i : ℕ) → map dc_alone a ≡ map dc_alone b

@@ -6,12 +6,12 @@ pub mod Headers
 pub mod HeaderThenRest
 pub mod DecodedInto
 pub mod Ratios
-pub mod HeldBlocks
+pub mod KeptBlocks
 pub mod Walks
 pub mod OrderedWalks
 pub mod ScanOrders
 pub mod BlockSteps
-pub mod HeldSpots
+pub mod KeptSpots
 pub mod StripRows
 pub mod RowBuffers
 pub mod ByStrips

@@ -22,7 +22,7 @@ use Rattle.jpeg_streams.proofs.PaddingUnseen.{drop-next, mapped-same}
 use Rattle.jpeg_streams.proofs.OwnSpots.{all-append}
 use Rattle.jpeg_decoder.proofs.WrittenLosslessStreams.{IsSaid, all-in, drawn, final-framed, nothing-said, samples-meant}
 use Rattle.jpeg_decoder.proofs.WrittenLosslessStreams.{samples-sized, segment-said, some-same}
-use Rattle.jpeg_decoder.proofs.WrittenSamples.{HasSize, SizedAt, places_of, planes_for, scan-sized}
+use Rattle.jpeg_decoder.proofs.WrittenSamples.{HasSize, SizedAt, indices_of, planes_for, scan-sized}
 use Rattle.std.proofs.lemmas.Grind.{common_steps}
 
 -- ---- sizes
@@ -39,8 +39,9 @@ sent-sized samples frame said sent bytes final (scan said' final' sent' f fill h
     data_of w) is e h =
     let same = some-same f frame (sym (final-framed samples f (said_after_scan said) _ more final w framed) ∙ e) in
     sent-sized samples frame (said_after_scan said) _ more final w (record { tables = is.tables; shaped = is.shaped }) e
-    (all-append (SizedAt samples frame.components) (places_of h'.choices) sent
-    (subst (λ (g : Frame). AllByRecursion (SizedAt samples g.components) (places_of h'.choices)) same
+    (all-append (SizedAt samples frame.components) (indices_of h'.choices) sent
+    (subst (λ (g : Frame). AllByRecursion (SizedAt samples g.components) (indices_of h'.choices))
+    same
     (scan-sized said f h' samples data_bytes (is.shaped f framed) data_of)) h)
 
 -- the frame at the end is one that was said
@@ -56,32 +57,34 @@ final-shaped samples frame said sent bytes final (scan said' final' sent' f fill
 
 -- each component, from a place on, has samples of its size
 AreAll : Frame → Samples → ℕ → List Component → Type 0
-AreAll frame samples place [] = Unit {0}
-AreAll frame samples place (c ∷ more) =
-    (HasSize (samples place) c × IsMade frame c) × AreAll frame samples (place + 1) more
+AreAll frame samples index [] = Unit {0}
+AreAll frame samples index (c ∷ more) =
+    (HasSize (samples index) c × IsMade frame c) × AreAll frame samples (index + 1) more
 
-from-places : (frame : Frame) (samples : Samples) (all : List Component) (place : ℕ) (cs : List Component)
-    → drop place all ≡ cs → AllByRecursion (IsMade frame) cs
-    → AllByRecursion (SizedAt samples all) (range_with_len place (length cs)) → AreAll frame samples place cs
+from-indices : (frame : Frame) (samples : Samples) (all : List Component) (index : ℕ) (cs : List
+    Component)
+    → drop index all ≡ cs → AllByRecursion (IsMade frame) cs
+    → AllByRecursion (SizedAt samples all) (range_with_len index (length cs)) → AreAll frame
+    samples index cs
 unfolding AreAll
-from-places frame samples all place [] e made h = tt
-from-places frame samples all place (c ∷ cs) e made h =
-    let next : place + 1 ≡ suc place = omega arith in (
+from-indices frame samples all index [] e made h = tt
+from-indices frame samples all index (c ∷ cs) e made h =
+    let next : index + 1 ≡ suc index = omega arith in (
       (h.0 c (ap first_of e), made.0),
-      from-places frame samples all (place + 1) cs
-          (ap (λ (n : ℕ). drop n all) next ∙ drop-next place all c cs e) made.1 h.1,
+      from-indices frame samples all (index + 1) cs
+          (ap (λ (n : ℕ). drop n all) next ∙ drop-next index all c cs e) made.1 h.1,
     )
 
 -- ---- pixels
 
 pixel-same : (frame : Frame) (samples : Samples) (x y : ℕ) → x < frame.width → y < frame.height
-    → (place : ℕ) (cs : List Component) → AreAll frame samples place cs
+    → (index : ℕ) (cs : List Component) → AreAll frame samples index cs
     → sample_pixel frame.precision (most_across frame) (most_down frame)
-    (layers_of cs (planes_for samples (range_with_len place (length cs)))) y x
-    ≡ pixel_from frame samples y x place cs
+    (layers_of cs (planes_for samples (range_with_len index (length cs)))) y x
+    ≡ pixel_from frame samples y x index cs
 unfolding AreAll pixel_from layers_of
-pixel-same frame samples x y hx hy place [] all = refl
-pixel-same frame samples x y hx hy place (c ∷ cs) all =
+pixel-same frame samples x y hx hy index [] all = refl
+pixel-same frame samples x y hx hy index (c ∷ cs) all =
     let size = all.0.0 in
     let made = all.0.1 in
     let reach = made-reaches frame c made in
@@ -90,7 +93,7 @@ pixel-same frame samples x y hx hy place (c ∷ cs) all =
     let row = inside y frame.height c.factors.vertical (most_down frame) c.height hy made.vertical
     (some-down frame) reach.down in
     let count = size.count in
-    grind (arith, common_steps, at-flat, pixel-same frame samples x y hx hy (place + 1) cs all.1)
+    grind (arith, common_steps, at-flat, pixel-same frame samples x y hx hy (index + 1) cs all.1)
 
 samples-shown : (frame : Frame) (samples : Samples) → AreAll frame samples 0 frame.components
     → drawn frame samples ≡ picture_of_samples frame samples
@@ -103,7 +106,8 @@ shown : (samples : Samples) (bytes : List ℕ) (final : Found) (frame : Frame) �
 shown samples bytes final frame w e =
     let sized = sent-sized samples frame nothing_found [] w.after final w.written nothing-said e tt in
     let is = final-shaped samples frame nothing_found [] w.after final w.written nothing-said e in
-    samples-shown frame samples (from-places frame samples frame.components 0 frame.components refl is.made sized)
+    samples-shown frame samples (from-indices frame samples frame.components 0 frame.components
+    refl is.made sized)
 
 -- ---- the whole
 

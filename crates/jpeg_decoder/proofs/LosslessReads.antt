@@ -67,61 +67,65 @@ no-tables ts ds slot h = ap (tables_in ts) (drop_all slot ds h)
 -- Components by their places and their tables.
 unfoldable pub AreOf : List Component → List LosslessCoding → List ℕ → List Table → Type 0
 AreOf cs [] [] [] = Unit {0}
-AreOf cs (k ∷ codings) (p ∷ places) (t ∷ ts) =
-    ((first_of (drop p cs) ≡ Some k.component) × (k.table ≡ t)) × AreOf cs codings places ts
+AreOf cs (k ∷ codings) (p ∷ indices) (t ∷ ts) =
+    ((first_of (drop p cs) ≡ Some k.component) × (k.table ≡ t)) × AreOf cs codings indices ts
 AreOf cs _ _ _ = ⊥
 
-pub record AreCodings (tables : List (Option Table)) (frame : Frame) (places ds : List ℕ) (ts : List Table) : Type
+pub record AreCodings (tables : List (Option Table)) (frame : Frame) (indices ds : List ℕ) (ts :
+    List Table) : Type
     0 where
   pub codings : List LosslessCoding
-  pub are : lossless_codings tables frame places ds ≡ Ok codings
-  pub places_are : map (λ k. k.place) codings ≡ places
+  pub are : lossless_codings tables frame indices ds ≡ Ok codings
+  pub indices_are : map (λ k. k.index) codings ≡ indices
   pub tables_are : map (λ k. k.table) codings ≡ ts
-  pub of : AreOf frame.components codings places ts
+  pub of : AreOf frame.components codings indices ts
 
 first-at : (n : ℕ) (cs : List Component) → n < length cs → (c : Component) × (first_of (drop n cs) ≡ Some c)
 first-at n [] h = absurd (omega arith)
 first-at zero (c ∷ cs) h = (c, refl)
 first-at (suc n) (c ∷ cs) h = first-at n cs (omega arith)
 
-pub codings-by-tables : (tables : List (Option Table)) (frame : Frame) (places ds : List ℕ) (ts : List Table)
-    → AllByRecursion (λ place. place < length frame.components) places → length ds ≡ length places
-    → tables_in tables ds ≡ Ok ts → AreCodings tables frame places ds ts
+pub codings-by-tables : (tables : List (Option Table)) (frame : Frame) (indices ds : List ℕ) (ts :
+    List Table)
+    → AllByRecursion (λ index. index < length frame.components) indices → length ds ≡ length indices
+    → tables_in tables ds ≡ Ok ts → AreCodings tables frame indices ds ts
 unfolding lossless_codings lossless_coding tables_in AreOf
 codings-by-tables tables frame [] [] ts within long e = grind (arith, common_steps, ok-same)
-codings-by-tables tables frame (p ∷ places) (d ∷ ds) ts within long e =
+codings-by-tables tables frame (p ∷ indices) (d ∷ ds) ts within long e =
     let one = bind-ok (needed (slice_index_or tables d None)) _ ts e in
     let more = bind-ok (tables_in tables ds) _ ts one.2 in
-    let rest = codings-by-tables tables frame places ds more.0 within.1 (omega arith) more.1 in
+    let rest = codings-by-tables tables frame indices ds more.0 within.1 (omega arith) more.1 in
     let c = first-at p frame.components within.0 in
-    let k : LosslessCoding = record { place = p; component = c.0; table = one.0 } in
+    let k : LosslessCoding = record { index = p; component = c.0; table = one.0 } in
     record {
       codings = k ∷ rest.codings;
       are = grind (arith, common_steps, then-ok);
-      places_are = ap (λ (l : List ℕ). p ∷ l) rest.places_are;
+      indices_are = ap (λ (l : List ℕ). p ∷ l) rest.indices_are;
       tables_are = ap (λ (l : List Table). one.0 ∷ l) rest.tables_are ∙ ok-same (one.0 ∷ more.0) ts more.2;
       of = grind (arith, common_steps, ok-same);
     }
 codings-by-tables tables frame _ _ ts within long e = absurd (omega arith)
 
-pub codings-lacking : (tables : List (Option Table)) (frame : Frame) (places ds : List ℕ) (f : Fault)
-    → AllByRecursion (λ place. place < length frame.components) places → length ds ≡ length places
-    → tables_in tables ds ≡ Err f → lossless_codings tables frame places ds ≡ Err f
+pub codings-lacking : (tables : List (Option Table)) (frame : Frame) (indices ds : List ℕ) (f :
+    Fault)
+    → AllByRecursion (λ index. index < length frame.components) indices → length ds ≡ length indices
+    → tables_in tables ds ≡ Err f → lossless_codings tables frame indices ds ≡ Err f
 unfolding lossless_codings lossless_coding tables_in
 codings-lacking tables frame [] [] f within long e = absurd (let n : ⊥ = cc in n)
 codings-lacking tables frame [] (d ∷ ds) f within long e = absurd (omega arith)
-codings-lacking tables frame (p ∷ places) [] f within long e = absurd (omega arith)
-codings-lacking tables frame (p ∷ places) (d ∷ ds) f within long e =
+codings-lacking tables frame (p ∷ indices) [] f within long e = absurd (omega arith)
+codings-lacking tables frame (p ∷ indices) (d ∷ ds) f within long e =
     let c = first-at p frame.components within.0 in
     go (first_of (drop p frame.components)) (ap needed c.1) (slice_index_or tables d None) (tables_in tables ds)
-    (lossless_codings tables frame places ds) e (λ h. codings-lacking tables frame places ds f within.1 (omega arith) h)
+    (lossless_codings tables frame indices ds) e (λ h. codings-lacking tables frame indices ds f
+    within.1 (omega arith) h)
   where
     go : (c : Option Component) {x : Component} → needed c ≡ Ok x → (t : Option Table) (o : Result (List Table) Fault)
         (r : Result (List LosslessCoding) Fault)
         → (needed t >>= (λ (table : Table). o >>= (λ (others : List Table). Ok (table ∷ others)))) ≡ Err f
         → (o ≡ Err f → r ≡ Err f)
         → ((needed c >>= (λ (component : Component). needed t >>= (λ (table : Table).
-        Ok (record { place = p; component = component; table = table }))))
+        Ok (record { index = p; component = component; table = table }))))
         >>= (λ (k : LosslessCoding). r >>= (λ (others : List LosslessCoding). Ok (k ∷ others)))) ≡ Err f
     go (Some x) h None o r e k = cc
     go (Some x) h (Some table) (Err g) r e k = rw (k e) refl
@@ -138,37 +142,49 @@ got (suc n) (y ∷ xs) x d e = got n xs x d e
 abbrev part : Bool → Component → Table → Part
 part is_alone c t = part_by is_alone c t
 
-several : (cs : List Component) (codings : List LosslessCoding) (places : List ℕ) (ts : List Table)
-    → AreOf cs codings places ts
+several : (cs : List Component) (codings : List LosslessCoding) (indices : List ℕ) (ts : List Table)
+    → AreOf cs codings indices ts
     → map (λ k. part_of k.component.factors.horizontal k.component.factors.vertical k) codings
-    ≡ parts_at false cs places ts
+    ≡ parts_at false cs indices ts
 unfolding AreOf parts_at
 several cs [] [] [] h = refl
-several cs (k ∷ codings) (p ∷ places) (t ∷ ts) h = grind (arith, common_steps, got, several cs codings places ts h.1)
+several cs (k ∷ codings) (p ∷ indices) (t ∷ ts) h = grind (
+  arith,
+  common_steps,
+  got,
+  several cs
+      codings indices ts h.1,
+)
 several cs _ _ _ h = absurd h
 
 two : (n : ℕ) → (suc (suc n) == 1) ≡ false
 two n = grind (arith, nat_tests)
 
-pub parts-are : (cs : List Component) (codings : List LosslessCoding) (places : List ℕ) (ts : List Table)
-    → AreOf cs codings places ts → parts_of codings ≡ parts_at (length places == 1) cs places ts
+pub parts-are : (cs : List Component) (codings : List LosslessCoding) (indices : List ℕ) (ts : List
+    Table)
+    → AreOf cs codings indices ts → parts_of codings ≡ parts_at (length indices == 1) cs indices ts
 unfolding AreOf parts_of parts_at
-parts-are cs codings places ts h = grind (arith, common_steps, got, several, two)
+parts-are cs codings indices ts h = grind (arith, common_steps, got, several, two)
 
 -- as many MCUs across and down
-pub mcus-are : (frame : Frame) (codings : List LosslessCoding) (places : List ℕ) (ts : List Table)
-    → AreOf frame.components codings places ts
-    → (mcus_across frame codings ≡ mcus_wide frame places) × (mcus_down frame codings ≡ mcus_high frame places)
+pub mcus-are : (frame : Frame) (codings : List LosslessCoding) (indices : List ℕ) (ts : List Table)
+    → AreOf frame.components codings indices ts
+    → (mcus_across frame codings ≡ mcus_wide frame indices) × (mcus_down frame codings ≡ mcus_high
+    frame indices)
 unfolding AreOf mcus_across mcus_down mcus_wide mcus_high
-mcus-are frame codings places ts h = grind (arith, common_steps, got)
+mcus-are frame codings indices ts h = grind (arith, common_steps, got)
 
-codings-made : (frame : Frame) (cs : List Component) (codings : List LosslessCoding) (places : List ℕ) (ts : List Table)
-    → AllByRecursion (IsMade frame) cs → AreOf cs codings places ts
+codings-made : (frame : Frame) (cs : List Component) (codings : List LosslessCoding) (indices :
+    List ℕ) (ts : List Table)
+    → AllByRecursion (IsMade frame) cs → AreOf cs codings indices ts
     → AllByRecursion (λ k. IsMade frame k.component) codings
 unfolding AreOf
-codings-made frame cs [] places ts made h = tt
-codings-made frame cs (k ∷ codings) (p ∷ places) (t ∷ ts) made h =
-    (all-at (IsMade frame) p cs k.component made h.0.0, codings-made frame cs codings places ts made h.1)
+codings-made frame cs [] indices ts made h = tt
+codings-made frame cs (k ∷ codings) (p ∷ indices) (t ∷ ts) made h = (
+  all-at (IsMade frame) p cs k.component made h.0.0,
+  codings-made frame cs codings indices ts
+      made h.1,
+)
 codings-made frame cs _ _ _ made h = absurd h
 
 -- ---- MCUs by places
@@ -177,51 +193,61 @@ pub factors-seen : (cs : List declared.Component) → map factors_in cs ≡ map 
 factors-seen [] = refl
 factors-seen (c ∷ cs) = ap (λ (l : List Factors). factors_in c ∷ l) (factors-seen cs)
 
-pub component-at : (cs : List declared.Component) (place : ℕ) (r : declared.Component) → place < length cs
-    → r ≡ get_or cs place r → component_in r ≡ get_or (map component_in cs) place no_component
-component-at [] place r h e = absurd (omega arith)
+pub component-at : (cs : List declared.Component) (index : ℕ) (r : declared.Component) → index <
+    length cs
+    → r ≡ get_or cs index r → component_in r ≡ get_or (map component_in cs) index no_component
+component-at [] index r h e = absurd (omega arith)
 component-at (c ∷ cs) zero r h e = ap component_in e
-component-at (c ∷ cs) (suc place) r h e = component-at cs place r (omega arith) e
+component-at (c ∷ cs) (suc index) r h e = component-at cs index r (omega arith) e
 
 -- those of a component alone, and of several
-pub alone : (frame : Frame) (places : List ℕ) → length places ≡ 1
-    → let c = get_or frame.components (get_or places 0 0) no_component in
-    (mcus_wide frame places ≡ c.width) × (mcus_high frame places ≡ c.height)
+pub alone : (frame : Frame) (indices : List ℕ) → length indices ≡ 1
+    → let c = get_or frame.components (get_or indices 0 0) no_component in
+    (mcus_wide frame indices ≡ c.width) × (mcus_high frame indices ≡ c.height)
 unfolding mcus_wide mcus_high
-alone frame places e = grind (arith, common_steps)
+alone frame indices e = grind (arith, common_steps)
 
-pub not-alone : (frame : Frame) (places : List ℕ) → (length places == 1) ≡ false
-    → (mcus_wide frame places ≡ ceiling frame.width (most_across frame))
-    × (mcus_high frame places ≡ ceiling frame.height (most_down frame))
+pub not-alone : (frame : Frame) (indices : List ℕ) → (length indices == 1) ≡ false
+    → (mcus_wide frame indices ≡ ceiling frame.width (most_across frame))
+    × (mcus_high frame indices ≡ ceiling frame.height (most_down frame))
 unfolding mcus_wide mcus_high
-not-alone frame places e = grind (arith, common_steps)
+not-alone frame indices e = grind (arith, common_steps)
 
 -- a part more
-pub parts_step : (is_alone : Bool) (cs : List Component) (places : List ℕ) (ts : List Table) (slot p : ℕ) (t : Table)
-    (c : Component) (front new : List Part) → slot < length places → slot < length ts
-    → p ≡ get_or places slot p → get_or ts slot t ≡ t → c ≡ get_or cs p no_component
+pub parts_step : (is_alone : Bool) (cs : List Component) (indices : List ℕ) (ts : List Table) (slot
+    p : ℕ) (t : Table)
+    (c : Component) (front new : List Part) → slot < length indices → slot < length ts
+    → p ≡ get_or indices slot p → get_or ts slot t ≡ t → c ≡ get_or cs p no_component
     → new ≡ front ++ part_by is_alone c t ∷ []
-    → front ++ parts_at is_alone cs (drop slot places) (drop slot ts)
-    ≡ new ++ parts_at is_alone cs (drop (slot + 1) places) (drop (slot + 1) ts)
+    → front ++ parts_at is_alone cs (drop slot indices) (drop slot ts)
+    ≡ new ++ parts_at is_alone cs (drop (slot + 1) indices) (drop (slot + 1) ts)
 unfolding parts_at
-parts_step is_alone cs places ts slot p t c front new h k e f g n =
+parts_step is_alone cs indices ts slot p t c front new h k e f g n =
     grind (arith, common_steps, dropped, drop_more, append_assoc)
 
 no-parts : (is_alone : Bool) (cs : List Component) (ts : List Table) → parts_at is_alone cs [] ts ≡ []
 unfolding parts_at
 no-parts is_alone cs ts = grind (arith, common_steps)
 
-pub parts_none : (is_alone : Bool) (cs : List Component) (places : List ℕ) (ts : List Table) (slot : ℕ)
-    (front : List Part) → length places ≤ slot
-    → front ++ parts_at is_alone cs (drop slot places) (drop slot ts) ≡ front
-parts_none is_alone cs places ts slot front h = grind (arith, common_steps, drop_all, no-parts, append-nil)
+pub parts_none : (is_alone : Bool) (cs : List Component) (indices : List ℕ) (ts : List Table) (slot
+    : ℕ)
+    (front : List Part) → length indices ≤ slot
+    → front ++ parts_at is_alone cs (drop slot indices) (drop slot ts) ≡ front
+parts_none is_alone cs indices ts slot front h = grind (
+  arith,
+  common_steps,
+  drop_all,
+  no-parts,
+  append-nil,
+)
 
-pub parts-count : (is_alone : Bool) (cs : List Component) (places : List ℕ) (ts : List Table)
-    → length ts ≡ length places → length (parts_at is_alone cs places ts) ≡ length places
+pub parts-count : (is_alone : Bool) (cs : List Component) (indices : List ℕ) (ts : List Table)
+    → length ts ≡ length indices → length (parts_at is_alone cs indices ts) ≡ length indices
 unfolding parts_at
 parts-count is_alone cs [] ts h = ap (λ (l : List Part). length l) (no-parts is_alone cs ts)
-parts-count is_alone cs (p ∷ places) [] h = absurd (omega arith)
-parts-count is_alone cs (p ∷ places) (t ∷ ts) h = ap suc (parts-count is_alone cs places ts (omega arith))
+parts-count is_alone cs (p ∷ indices) [] h = absurd (omega arith)
+parts-count is_alone cs (p ∷ indices) (t ∷ ts) h = ap suc (parts-count is_alone cs indices ts
+    (omega arith))
 
 -- what a call needs of MCUs
 pub record HasMcus (wide high : ℕ) (parts : List Part) : Type 0 where
@@ -229,15 +255,17 @@ pub record HasMcus (wide high : ℕ) (parts : List Part) : Type 0 where
   pub some_high : 0 < high
   pub covered : AllByRecursion (IsCovered wide high) parts
 
-pub has-mcus : (tables : List (Option Table)) (frame : Frame) (places ds : List ℕ) (ts : List Table)
-    → AreCodings tables frame places ds ts → IsDecodedFrame frame → frame.process ≡ Lossless
-    → HasMcus (mcus_wide frame places) (mcus_high frame places)
-    (parts_at (length places == 1) frame.components places ts)
-has-mcus tables frame places ds ts a decoded lossless =
-    let made = codings-made frame frame.components a.codings places ts (decoded-made frame decoded lossless) a.of in
+pub has-mcus : (tables : List (Option Table)) (frame : Frame) (indices ds : List ℕ) (ts : List
+    Table)
+    → AreCodings tables frame indices ds ts → IsDecodedFrame frame → frame.process ≡ Lossless
+    → HasMcus (mcus_wide frame indices) (mcus_high frame indices)
+    (parts_at (length indices == 1) frame.components indices ts)
+has-mcus tables frame indices ds ts a decoded lossless =
+    let made = codings-made frame frame.components a.codings indices ts (decoded-made frame decoded
+    lossless) a.of in
     let some = decoded-some frame decoded in
-    let mcus = mcus-are frame a.codings places ts a.of in
-    let parts = parts-are frame.components a.codings places ts a.of in
+    let mcus = mcus-are frame a.codings indices ts a.of in
+    let parts = parts-are frame.components a.codings indices ts a.of in
     record {
       some_wide = subst (λ (n : ℕ). 0 < n) mcus.0 (across-some frame a.codings some.0 made);
       some_high = subst (λ (n : ℕ). 0 < n) mcus.1 (down-some frame a.codings some.1 made);
@@ -250,7 +278,7 @@ pub begun : (whole : List ℕ → Outcome (Found × Option Marker)) (old : Strea
 begun whole old = (refl, λ k. (k, refl))
 
 pub samples-lacking : (found : Found) (frame : Frame) (scan : Scan) (bytes : List ℕ) (f : Fault)
-    → lossless_codings found.huffman.dc frame scan.components scan.dc_places ≡ Err f
+    → lossless_codings found.huffman.dc frame scan.components scan.dc_destinations ≡ Err f
     → samples_read found frame scan bytes ≡ Err f
 unfolding samples_read
 samples-lacking found frame scan bytes f e = bind_err _ _ f e
@@ -262,7 +290,7 @@ after_planes found codings r =
     after_all r.0.1 r.1 >>= (λ (met : Option Marker × List ℕ). Ok ((after_samples found codings r.0.0, met.0), met.1))
 
 samples-then : (found : Found) (frame : Frame) (scan : Scan) (codings : List LosslessCoding) (bytes : List ℕ)
-    → lossless_codings found.huffman.dc frame scan.components scan.dc_places ≡ Ok codings
+    → lossless_codings found.huffman.dc frame scan.components scan.dc_destinations ≡ Ok codings
     → samples_read found frame scan bytes ≡ (scan_samples found frame scan codings bytes >>= after_planes found codings)
 unfolding samples_read
 samples-then found frame scan codings bytes e = then-ok _ _ codings _ e refl
@@ -273,7 +301,7 @@ pub samples-fail : {X Z : Type 0} (v : X → Found × Option Marker) (view : Z �
     (frame : Frame) (scan : Scan) (codings : List LosslessCoding) (read : List ℕ
     → Outcome (List (List ℕ) × Option Marker))
     (old new : Stream) (e : Error)
-    → lossless_codings found.huffman.dc frame scan.components scan.dc_places ≡ Ok codings
+    → lossless_codings found.huffman.dc frame scan.components scan.dc_destinations ≡ Ok codings
     → scan_samples found frame scan codings ≡ read
     → Answers view read old (Err e) new → Answers v (samples_read found frame scan) old (Err e) new
 samples-fail v view found frame scan codings read old new e c is =
@@ -287,7 +315,7 @@ samples-fail v view found frame scan codings read old new e c is =
 pub samples-end : (found next : Found) (frame : Frame) (scan : Scan) (codings : List LosslessCoding)
     (read : List ℕ → Outcome (List (List ℕ) × Option Marker)) (planes : List (List ℕ)) (met : Option Marker)
     (old mid new : Stream) (r : Result (Option Marker) Error)
-    → lossless_codings found.huffman.dc frame scan.components scan.dc_places ≡ Ok codings
+    → lossless_codings found.huffman.dc frame scan.components scan.dc_destinations ≡ Ok codings
     → scan_samples found frame scan codings ≡ read → next ≡ after_samples found codings planes
     → HasRead read old (planes, met) mid → Answers (λ (m : Option Marker). m) (after_all met) mid r new
     → Answers (λ (m : Option Marker). (next, m)) (samples_read found frame scan) old r new
@@ -312,98 +340,134 @@ samples-end found next frame scan codings read planes met old mid new r c is mad
 
 -- ---- what is found after it
 
-set-sampled : (cs : List Component) (samples : List (Option (List ℕ))) (place : ℕ) (plane : List ℕ)
-    → length plane ≡ (get_or cs place no_component).width * (get_or cs place no_component).height
-    → AreSampled cs samples → AreSampled cs (set samples place (Some plane))
+set-sampled : (cs : List Component) (samples : List (Option (List ℕ))) (index : ℕ) (plane : List ℕ)
+    → length plane ≡ (get_or cs index no_component).width * (get_or cs index no_component).height
+    → AreSampled cs samples → AreSampled cs (set samples index (Some plane))
 unfolding AreSampled
-set-sampled [] samples place plane e h = tt
-set-sampled (c ∷ cs) [] place plane e h = absurd h
+set-sampled [] samples index plane e h = tt
+set-sampled (c ∷ cs) [] index plane e h = absurd h
 set-sampled (c ∷ cs) (x ∷ samples) zero plane e h = (e, h.1)
-set-sampled (c ∷ cs) (x ∷ samples) (suc place) plane e h = (h.0, set-sampled cs samples place plane e h.1)
+set-sampled (c ∷ cs) (x ∷ samples) (suc index) plane e h = (
+  h.0,
+  set-sampled cs samples index plane
+      e h.1,
+)
 
-with-sampled : (is_alone : Bool) (cs : List Component) (places : List ℕ) (ts : List Table) (planes : List (List ℕ))
-    (samples : List (Option (List ℕ))) → AreWholeSamples (parts_at is_alone cs places ts) planes
-    → AreSampled cs samples → AreSampled cs (with_samples places planes samples)
+with-sampled : (is_alone : Bool) (cs : List Component) (indices : List ℕ) (ts : List Table) (planes
+    : List (List ℕ))
+    (samples : List (Option (List ℕ))) → AreWholeSamples (parts_at is_alone cs indices ts) planes
+    → AreSampled cs samples → AreSampled cs (with_samples indices planes samples)
 unfolding with_samples AreWholeSamples parts_at
-with-sampled is_alone cs (p ∷ places) [] (plane ∷ planes) samples w h = absurd w
-with-sampled is_alone cs (p ∷ places) (t ∷ ts) (plane ∷ planes) samples w h =
-    with-sampled is_alone cs places ts planes (slice_set samples p (Some plane)) w.1
+with-sampled is_alone cs (p ∷ indices) [] (plane ∷ planes) samples w h = absurd w
+with-sampled is_alone cs (p ∷ indices) (t ∷ ts) (plane ∷ planes) samples w h =
+    with-sampled is_alone cs indices ts planes (slice_set samples p (Some plane)) w.1
     (set-sampled cs samples p plane w.0 h)
 with-sampled is_alone cs _ ts _ samples w h = h
 
 -- The samples of a scan are those of its components.
-pub scan-sampled : (is_alone : Bool) (found : Found) (frame : Frame) (places : List ℕ) (ts : List Table)
+pub scan-sampled : (is_alone : Bool) (found : Found) (frame : Frame) (indices : List ℕ) (ts : List
+    Table)
     (planes : List (List ℕ)) → IsSound found → found.frame ≡ Some frame
-    → AreWholeSamples (parts_at is_alone frame.components places ts) planes
-    → AreSampled frame.components (with_samples places planes found.samples)
-scan-sampled is_alone found frame places ts planes sound e w = grind (arith, common_steps, with-sampled)
+    → AreWholeSamples (parts_at is_alone frame.components indices ts) planes
+    → AreSampled frame.components (with_samples indices planes found.samples)
+scan-sampled is_alone found frame indices ts planes sound e w = grind (
+  arith,
+  common_steps,
+  with-sampled,
+)
 
 -- A lossless scan leaves a sound state.
-pub samples-sound : (found next : Found) (frame : Frame) (places : List ℕ) (planes : List (List ℕ))
+pub samples-sound : (found next : Found) (frame : Frame) (indices : List ℕ) (planes : List (List ℕ))
     → IsSound found → found.frame ≡ Some frame → frame.process ≡ Lossless
-    → AreSampled frame.components (with_samples places planes found.samples)
-    → next ≡ record found { scanned = true; samples = with_samples places planes found.samples } → IsSound next
+    → AreSampled frame.components (with_samples indices planes found.samples)
+    → next ≡ record found { scanned = true; samples = with_samples indices planes found.samples } →
+    IsSound next
 unfolding arrays_before
-samples-sound found next frame places planes sound e lossless whole is = grind (arith, common_steps, before-sequential)
+samples-sound found next frame indices planes sound e lossless whole is = grind (
+  arith,
+  common_steps,
+  before-sequential,
+)
 
 -- ---- where samples are put
 
-with-more : (p : ℕ) (places : List ℕ) (plane : List ℕ) (planes : List (List ℕ)) (samples : List (Option (List ℕ)))
-    → with_samples (p ∷ places)
-    (plane ∷ planes) samples ≡ with_samples places planes (slice_set samples p (Some plane))
+with-more : (p : ℕ) (indices : List ℕ) (plane : List ℕ) (planes : List (List ℕ)) (samples : List
+    (Option (List ℕ)))
+    → with_samples (p ∷ indices)
+    (plane ∷ planes) samples ≡ with_samples indices planes (slice_set samples p (Some plane))
 unfolding with_samples
-with-more p places plane planes samples = refl
+with-more p indices plane planes samples = refl
 
 with-none : (planes : List (List ℕ)) (samples : List (Option (List ℕ))) → with_samples [] planes samples ≡ samples
 unfolding with_samples
 with-none planes samples = refl
 
 -- a slot more
-pub put-step : (places : List ℕ) (i : ℕ) (planes : List (Vec ℕ Global)) (empty plane : Vec ℕ Global)
-    (before : List (Option (Vec ℕ Global))) → i < length places → length planes ≡ length places
+pub put-step : (indices : List ℕ) (i : ℕ) (planes : List (Vec ℕ Global)) (empty plane : Vec ℕ
+    Global)
+    (before : List (Option (Vec ℕ Global))) → i < length indices → length planes ≡ length indices
     → plane ≡ get_or planes i plane
-    → with_samples (drop (i + 1) places) (drop (i + 1) (map (λ (v : Vec ℕ Global). v.items) (set planes i empty)))
-    (planes_in (slice_set before (slice_index_or places i 0) (Some plane)))
-    ≡ with_samples (drop i places) (drop i (map (λ (v : Vec ℕ Global). v.items) planes)) (planes_in before)
-put-step places i planes empty plane before h e is =
+    → with_samples (drop (i + 1) indices) (drop (i + 1) (map (λ (v : Vec ℕ Global). v.items) (set
+    planes i empty)))
+    (planes_in (slice_set before (slice_index_or indices i 0) (Some plane)))
+    ≡ with_samples (drop i indices) (drop i (map (λ (v : Vec ℕ Global). v.items) planes))
+    (planes_in before)
+put-step indices i planes empty plane before h e is =
     grind (arith, common_steps, seen-at, map-set, drop-set-lt, with-more, drop_more)
 
 -- all slots
-pub put-all : (places : List ℕ) (i : ℕ) (planes : List (List ℕ)) (samples whole : List (Option (List ℕ)))
-    → length places ≤ i → with_samples (drop i places) planes samples ≡ whole → samples ≡ whole
-put-all places i planes samples whole h w = grind (arith, common_steps, with-none, drop_all)
+pub put-all : (indices : List ℕ) (i : ℕ) (planes : List (List ℕ)) (samples whole : List (Option
+    (List ℕ)))
+    → length indices ≤ i → with_samples (drop i indices) planes samples ≡ whole → samples ≡ whole
+put-all indices i planes samples whole h w = grind (arith, common_steps, with-none, drop_all)
 
 -- ---- samples at the end of an image
 
 -- a component, and those after it
-pub samples-after : (samples : List (Option (List ℕ))) (cs : List Component) (place : ℕ) → place < length cs
-    → samples_from samples place (drop place cs)
-    ≡ and_others (needed (slice_index_or samples place None)) (samples_from samples (place + 1) (drop (place + 1) cs))
+pub samples-after : (samples : List (Option (List ℕ))) (cs : List Component) (index : ℕ) → index <
+    length cs
+    → samples_from samples index (drop index cs)
+    ≡ and_others (needed (slice_index_or samples index None)) (samples_from samples (index + 1)
+    (drop (index + 1) cs))
 unfolding samples_from
-samples-after samples cs place h = ap (samples_from samples place) (drop_more cs place no_component h)
+samples-after samples cs index h = ap (samples_from samples index) (drop_more cs index no_component
+    h)
 
-pub no-samples : (samples : List (Option (List ℕ))) (cs : List Component) (place : ℕ) → length cs ≤ place
-    → samples_from samples place (drop place cs) ≡ Ok []
+pub no-samples : (samples : List (Option (List ℕ))) (cs : List Component) (index : ℕ) → length cs ≤
+    index
+    → samples_from samples index (drop index cs) ≡ Ok []
 unfolding samples_from
-no-samples samples cs place h = ap (samples_from samples place) (drop_all place cs h)
+no-samples samples cs index h = ap (samples_from samples index) (drop_all index cs h)
 
-drop-there : (samples : List (Option (List ℕ))) (place : ℕ) (plane : List ℕ)
-    → slice_index_or samples place None ≡ Some plane → drop place samples ≡ Some plane ∷ drop (place + 1) samples
-drop-there [] place plane e = absurd (let n : ⊥ = cc in n)
+drop-there : (samples : List (Option (List ℕ))) (index : ℕ) (plane : List ℕ)
+    → slice_index_or samples index None ≡ Some plane → drop index samples ≡ Some plane ∷ drop
+    (index + 1) samples
+drop-there [] index plane e = absurd (let n : ⊥ = cc in n)
 drop-there (x ∷ samples) zero plane e = grind (arith, common_steps)
-drop-there (x ∷ samples) (suc place) plane e = search (rules, arith, drop-there samples place plane e)
+drop-there (x ∷ samples) (suc index) plane e = search (
+  rules,
+  arith,
+  drop-there samples index plane
+      e,
+)
 
 -- The planes are those of the components.
-samples-from : (samples : List (Option (List ℕ))) (place : ℕ) (cs : List Component) (planes : List (List ℕ))
-    → AreSampled cs (drop place samples) → samples_from samples place cs ≡ Ok planes → ArePlanesOf cs planes
+samples-from : (samples : List (Option (List ℕ))) (index : ℕ) (cs : List Component) (planes : List
+    (List ℕ))
+    → AreSampled cs (drop index samples) → samples_from samples index cs ≡ Ok planes → ArePlanesOf
+    cs planes
 unfolding samples_from AreSampled ArePlanesOf
-samples-from samples place [] planes h e = subst (ArePlanesOf []) (ok-same [] planes e) tt
-samples-from samples place (c ∷ cs) planes h e =
-    let one = bind-ok (needed (slice_index_or samples place None)) _ planes e in
-    let more = bind-ok (samples_from samples (place + 1) cs) _ planes one.2 in
-    let there = needed-some (slice_index_or samples place None) one.0 one.1 in
-    let is : AreSampled (c ∷ cs) (Some one.0 ∷ drop (place + 1) samples) = grind (arith, common_steps, drop-there) in
-    grind (arith, common_steps, ok-same, samples-from samples (place + 1) cs more.0 is.1 more.1)
+samples-from samples index [] planes h e = subst (ArePlanesOf []) (ok-same [] planes e) tt
+samples-from samples index (c ∷ cs) planes h e =
+    let one = bind-ok (needed (slice_index_or samples index None)) _ planes e in
+    let more = bind-ok (samples_from samples (index + 1) cs) _ planes one.2 in
+    let there = needed-some (slice_index_or samples index None) one.0 one.1 in
+    let is : AreSampled (c ∷ cs) (Some one.0 ∷ drop (index + 1) samples) = grind (
+      arith,
+      common_steps,
+      drop-there,
+    ) in
+    grind (arith, common_steps, ok-same, samples-from samples (index + 1) cs more.0 is.1 more.1)
 
 pub samples-whole : (samples : List (Option (List ℕ))) (cs : List Component) (planes : List (List ℕ))
     → AreSampled cs samples → samples_from samples 0 cs ≡ Ok planes → ArePlanesOf cs planes
@@ -416,7 +480,8 @@ on-ok r p = grind (arith, common_steps)
 
 -- The samples of a scan by how it is coded.
 pub coded-by : (found : Found) (frame : Frame) (scan : Scan) (ts : List Table)
-    (a : AreCodings found.huffman.dc frame scan.components scan.dc_places ts) (k : Coding) (parts : List Part)
+    (a : AreCodings found.huffman.dc frame scan.components scan.dc_destinations ts) (k : Coding)
+    (parts : List Part)
     → k ≡ record {
       wide = mcus_wide frame scan.components;
       high = mcus_high frame scan.components;
@@ -431,30 +496,37 @@ pub coded-by : (found : Found) (frame : Frame) (scan : Scan) (ts : List Table)
 coded-by found frame scan ts a k parts e is = grind (arith, common_steps, mcus-are, parts-are)
 
 -- What is found after samples are put.
-pub put-made : (base : Found) (old new : Decoded) (samples : List (Option (List ℕ))) → new.held ≡ old.held
+pub put-made : (base : Found) (old new : Decoded) (samples : List (Option (List ℕ))) → new.kept ≡
+    old.kept
     → new.finished ≡ old.finished → new.planes ≡ old.planes → planes_in new.samples ≡ samples
     → ◌≡◌ {A = Found} (record (with_decoded base new) { scanned = true })
     (record (with_decoded base old) { scanned = true; samples = samples })
 put-made base old new samples h f p s = grind (arith, common_steps)
 
 -- as many tables as places
-pub codings-count : (tables : List (Option Table)) (frame : Frame) (places ds : List ℕ) (ts : List Table)
-    → AreCodings tables frame places ds ts → length ts ≡ length places
-codings-count tables frame places ds ts a = grind (arith, common_steps, length-map)
+pub codings-count : (tables : List (Option Table)) (frame : Frame) (indices ds : List ℕ) (ts : List
+    Table)
+    → AreCodings tables frame indices ds ts → length ts ≡ length indices
+codings-count tables frame indices ds ts a = grind (arith, common_steps, length-map)
 
-pub all-below : (n m : ℕ) (places : List ℕ) → n ≤ m → AllByRecursion (λ place. place < n) places
-    → AllByRecursion (λ place. place < m) places
+pub all-below : (n m : ℕ) (indices : List ℕ) → n ≤ m → AllByRecursion (λ index. index < n) indices
+    → AllByRecursion (λ index. index < m) indices
 all-below n m [] most h = tt
-all-below n m (p ∷ places) most h = let first = h.0 in (omega (arith, first, most), all-below n m places most h.1)
+all-below n m (p ∷ indices) most h = let first = h.0 in (
+  omega (arith, first, most),
+  all-below n m
+      indices most h.1,
+)
 
 -- Places of a frame's components are below 4.
-pub four-places : (frame : Frame) (places : List ℕ) → IsDecodedFrame frame
-    → All (λ place. place < length frame.components) places
-    → All (λ place. place < 4) places
-four-places frame places decoded h =
-    All-from_recursion (λ place. place < 4) places
-    (all-below (length frame.components) 4 places (count-few (length frame.components) (decoded-count frame decoded)).1
-    (recursion_from_All (λ place. place < length frame.components) places h))
+pub four-indices : (frame : Frame) (indices : List ℕ) → IsDecodedFrame frame
+    → All (λ index. index < length frame.components) indices
+    → All (λ index. index < 4) indices
+four-indices frame indices decoded h =
+    All-from_recursion (λ index. index < 4) indices
+    (all-below (length frame.components) 4 indices (count-few (length frame.components)
+    (decoded-count frame decoded)).1
+    (recursion_from_All (λ index. index < length frame.components) indices h))
 
 -- ---- the picture
 

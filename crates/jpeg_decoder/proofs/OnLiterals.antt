@@ -10,7 +10,8 @@ use Rattle.jpeg_bits.specs.Passes.{band_part, block_from, blocks_of, dc_part, ze
 use Rattle.jpeg_bits.specs.Readers.{signed_from}
 use Rattle.jpeg_bits.specs.Reading.{length_at, next_u16, skip_at, times}
 use Rattle.jpeg_bits.specs.Refinement.{corrected, refined_ac, refined_piece, through_zero, with_last}
-use Rattle.jpeg_bits.specs.Zigzag.{coefficients_in_block_order, values_in_block_order, zigzag_places}
+use Rattle.jpeg_bits.specs.Zigzag.{coefficients_in_block_order, values_in_block_order}
+use Rattle.jpeg_bits.specs.Zigzag.{zigzag_indices}
 use Rattle.jpeg_pixels.specs.Colour.{blue_of, colour_of, conversion_of, green_of, line_bytes, red_of}
 use Rattle.jpeg_pixels.specs.Pictures.{image_of, lines_of, converted_picture, picture_line}
 use Rattle.jpeg_pixels.specs.Pictures.{sources_by}
@@ -57,14 +58,14 @@ unfolding accepted adobe_at after_restarts after_scan all_spots app_at applicati
     mcu_spots meaning next_marker next_u16 nothing_found odd_part own_spots parameters_at part_spots pass_of
     payload_at picture_by converted_picture picture_line picture_of plane_at_end plane_by plane_of
     planes_from
-    put_arrays put_blocks quantization.dqt_at quantization.placed_table_at quantization.table_at
+    put_arrays put_blocks quantization.dqt_at quantization.defined_table_at quantization.table_at
     quantization.quantization_from quantization.value_at quantization_segment red_of refined_ac
     refined_piece rest_at
     restart_segment rule_of sample sample_at sample_of_1 sample_of_2 sample_of_4 scale_for scan_arrays scan_of
     scan_segment segment_at segments_at segments_within selector_at selectors_from signed_from size_at sized_meaning
     skip_at skipped_segment sof_at sos_at sources_by spots_of start_at symbol_from tables.codes_at tables.dht_at
-    tables.placed_codes_at tables.symbols_at tables.tables_from destinations_at tables_of text_at
+    tables.defined_codes_at tables.symbols_at tables.tables_from destinations_at tables_of text_at
     through_zero times
     token_at token_from transform_of transformed turn_at turns_of upcoming updated upsampled values_in_block_order
-    vias_from with_arrays with_blocks with_last with_plane zero_arrays zero_block zigzag_places
+    vias_from with_arrays with_blocks with_last with_plane zero_arrays zero_block zigzag_indices
 jpeg_on_literals = tt

@@ -5,12 +5,12 @@ use Rattle.jpeg_segments.specs.FrameView.{component_in}
 use Rattle.jpeg_decoder.specs.declared.scan.Coded.{Coded}
 use Rattle.jpeg_decoder.specs.Scanning.{components_in}
 use Rattle.jpeg_decoder.specs.Steps.{coding_in}
-use Rattle.jpeg_decoder.proofs.TakenBlocks.{places_of}
+use Rattle.jpeg_decoder.proofs.TakenBlocks.{indices_of}
 
 -- the same words of what the code has
-pub coded-places : (cs : List Coded) → places_of (map coding_in cs) ≡ map (λ c. c.place) cs
-coded-places [] = refl
-coded-places (c ∷ cs) = ap (λ (l : List ℕ). c.place ∷ l) (coded-places cs)
+pub coded-indices : (cs : List Coded) → indices_of (map coding_in cs) ≡ map (λ c. c.index) cs
+coded-indices [] = refl
+coded-indices (c ∷ cs) = ap (λ (l : List ℕ). c.index ∷ l) (coded-indices cs)
 
 pub coded-components : (cs : List Coded) → map (λ c. c.component) (map coding_in cs) ≡ components_in cs
 coded-components [] = refl

@@ -4,7 +4,7 @@ use Rattle.std.specs.List.{AllByRecursion, concat, range_with_len}
 use Rattle.std.proofs.lemmas.Nat.{div-mul-add}
 use Rattle.jpeg_segments.specs.Frame.{Component, Frame}
 use Rattle.jpeg_lossless.specs.Pictures.{most_across, most_down, sample_bytes}
-use Rattle.jpeg_lossless.specs.Places.{at_place}
+use Rattle.jpeg_lossless.specs.Positions.{at_position}
 use Rattle.jpeg_streams.specs.PlainSamples.{HasEqualFactors, plain_picture}
 use Rattle.jpeg_streams.specs.WrittenLossless.{Samples, picture_of_samples, pixel_from}
 use Rattle.jpeg_streams.proofs.LosslessSizes.{some-across, some-down}
@@ -13,14 +13,23 @@ use Rattle.std.proofs.lemmas.Grind.{common_steps}
 through : (x factor most : ℕ) → 0 < most → factor ≡ most → x * factor / most ≡ x
 through x factor most h e = grind (arith, common_steps, div-mul-add)
 
-pixel-plain : (frame : Frame) (samples : Samples) (y x place : ℕ) (cs : List Component)
+pixel-plain : (frame : Frame) (samples : Samples) (y x index : ℕ) (cs : List Component)
     → AllByRecursion (λ c. (c.factors.horizontal ≡ most_across frame) × (c.factors.vertical ≡ most_down frame)) cs
-    → pixel_from frame samples y x place cs
-    ≡ concat (map (λ k. sample_bytes frame.precision (at_place (samples k) x y)) (range_with_len place (length cs)))
+    → pixel_from frame samples y x index cs
+    ≡ concat (map (λ k. sample_bytes frame.precision (at_position (samples k) x y)) (range_with_len
+    index (length cs)))
 unfolding pixel_from
-pixel-plain frame samples y x place [] h = refl
-pixel-plain frame samples y x place (c ∷ cs) h =
-    grind (arith, common_steps, through, some-across, some-down, pixel-plain frame samples y x (place + 1) cs h.1)
+pixel-plain frame samples y x index [] h = refl
+pixel-plain frame samples y x index (c ∷ cs) h =
+    grind (
+      arith,
+      common_steps,
+      through,
+      some-across,
+      some-down,
+      pixel-plain frame samples y x
+          (index + 1) cs h.1,
+    )
 
 pub picture-plain : (frame : Frame) (samples : Samples) → HasEqualFactors frame
     → picture_of_samples frame samples ≡ plain_picture frame samples

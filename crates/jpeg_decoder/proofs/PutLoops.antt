@@ -41,7 +41,8 @@ planes-none p planes found = refl
 -- ---- blocks
 
 pub blocks-are : (p : Pass) (c : Coding) (blocks : List Block) (found : Found)
-    → with_blocks p c blocks found ≡ with_its_plane p c.place (plane_by c.component c.quantization blocks) found
+    → with_blocks p c blocks found ≡ with_its_plane p c.index (plane_by c.component c.quantization
+    blocks) found
 unfolding with_blocks with_plane with_its_plane decided_planes
 blocks-are p c blocks found = refl
 
@@ -54,25 +55,32 @@ arrays-none p arrays found = refl
 abbrev pub Held : Type 0
 Held = Vec (List ℤ) Global
 
-pub put-none : (arrays held : Arrays) → put_arrays [] arrays held ≡ held
+pub put-none : (arrays kept : Arrays) → put_arrays [] arrays kept ≡ kept
 unfolding put_arrays
-put-none arrays held = refl
+put-none arrays kept = refl
 
 -- one component more: where its blocks are taken from is empty afterwards
-pub put-step : (cs : List Coded) (i : ℕ) (d : Coded) (arrays held : List Held) (empty blocks : Held)
+pub put-step : (cs : List Coded) (i : ℕ) (d : Coded) (arrays kept : List Held) (empty blocks : Held)
     → i < length cs → length arrays ≡ length cs → blocks ≡ get_or arrays i blocks
     → put_arrays (drop (i + 1) (map coding_in cs)) (drop (i + 1) (arrays_in (set arrays i empty)))
-    (arrays_in (set held (get_or cs i d).place blocks))
-    ≡ put_arrays (drop i (map coding_in cs)) (drop i (arrays_in arrays)) (arrays_in held)
+    (arrays_in (set kept (get_or cs i d).index blocks))
+    ≡ put_arrays (drop i (map coding_in cs)) (drop i (arrays_in arrays)) (arrays_in kept)
 unfolding put_arrays
-put-step cs i d arrays held empty blocks h e is = grind (arith, common_steps, seen-any, seen-at, map-set, drop-set-lt)
+put-step cs i d arrays kept empty blocks h e is = grind (
+  arith,
+  common_steps,
+  seen-any,
+  seen-at,
+  map-set,
+  drop-set-lt,
+)
 
 -- ---- the planes and the blocks of a slot
 
 pub planes-step : (p : Pass) (cs : List Coded) (i : ℕ) (d : Coded) (planes : List (Vec ℕ Global))
     (empty plane : Vec ℕ Global) (before after : Found)
     → i < length cs → length planes ≡ length cs → plane ≡ get_or planes i plane
-    → after ≡ with_its_plane p (get_or cs i d).place plane.items before
+    → after ≡ with_its_plane p (get_or cs i d).index plane.items before
     → with_planes p (drop (i + 1) (map coding_in cs))
     (drop (i + 1) (map (λ (v : Vec ℕ Global). v.items) (set planes i empty))) after
     ≡ with_planes p (drop i (map coding_in cs)) (drop i (map (λ (v : Vec ℕ Global). v.items) planes)) before
@@ -83,7 +91,7 @@ planes-step p cs i d planes empty plane before after h e is made =
 pub arrays-step : (p : Pass) (cs : List Coded) (i : ℕ) (d : Coded) (arrays : List Held) (blocks : Held)
     (before after : Found)
     → i < length cs → i < length arrays → blocks ≡ get_or arrays i blocks
-    → after ≡ with_its_plane p (get_or cs i d).place (plane_by (coding_in (get_or cs i d)).component
+    → after ≡ with_its_plane p (get_or cs i d).index (plane_by (coding_in (get_or cs i d)).component
     (coding_in (get_or cs i d)).quantization (blocks_in blocks)) before
     → with_arrays p (drop (i + 1) (map coding_in cs)) (drop (i + 1) (arrays_in arrays)) after
     ≡ with_arrays p (drop i (map coding_in cs)) (drop i (arrays_in arrays)) before

@@ -8,7 +8,7 @@ use Rattle.std.specs.List.{concat}
 use Rattle.std.proofs.Math.Nat.{add-mul, one-mul}
 use Rattle.std.proofs.lemmas.List.{append_assoc, append-nil, drop_more}
 use Rattle.std.proofs.lemmas.List.{get_or-append_right, get_or_append_left}
-use Rattle.jpeg_lossless.specs.Places.{AreEven, at_place}
+use Rattle.jpeg_lossless.specs.Positions.{AreEven, at_position}
 use Rattle.jpeg_bits.specs.Reading.{Fault, ◌>>=◌}
 
 -- an element of a list, and what stands after it
@@ -68,7 +68,7 @@ flat-length w (l ∷ lines) even =
     grind (arith, common_steps, add-mul, one-mul, length-append, flat-length w lines even.1)
 
 pub at-flat : (w x : ℕ) (lines : List (List ℕ)) (y : ℕ) → AreEven w lines → y < length lines → x < w
-    → slice_index (concat lines) (y * w + x) ≡ at_place lines x y
+    → slice_index (concat lines) (y * w + x) ≡ at_position lines x y
 unfolding AreEven
 at-flat w x [] y even h k = absurd (omega arith)
 at-flat w x (l ∷ lines) zero even h k = grind (arith, common_steps, get_or_append_left)

@@ -22,7 +22,8 @@ use Rattle.jpeg_streams.specs.Sound.{IsDecodedFrame}
 use Rattle.jpeg_streams.specs.Needed.{first_of}
 use Rattle.jpeg_streams.specs.ScanSegments.{codings_from, component_coding, Coding, tables_of, pass_of}
 use Rattle.jpeg_streams.specs.Found.{Found}
-use Rattle.jpeg_decoder.specs.Steps.{AreRising, HasPlace, HasScale, IsCodingOf, IsDct, IsReadable, coding_in, codings_in_force}
+use Rattle.jpeg_decoder.specs.Steps.{AreRising, HasIndex, HasScale, IsCodingOf, IsDct, IsReadable}
+use Rattle.jpeg_decoder.specs.Steps.{coding_in, codings_in_force}
 use Rattle.jpeg_decoder.specs.Steps.{with_decoded}
 use Rattle.jpeg_streams.proofs.ReadTurns.{CodingFacts, codings-facts_from, codings-same_from, tables-same}
 use Rattle.jpeg_streams.proofs.OwnSpots.{At}
@@ -89,16 +90,26 @@ of-frame : (found : Found) (frame : Frame) (codings : List Coding) → AllByRecu
 of-frame found frame [] facts = tt
 of-frame found frame (c ∷ codings) facts = search (rules, arith, drop-first, of-frame found frame codings facts.1)
 
-places-at : (n : ℕ) (cs : List Coded) → n ≤ 4
-    → AllByRecursion (λ place. place < n) (map (λ (c : Coding). c.place) (map coding_in cs))
-    → AllByRecursion HasPlace cs
-places-at n [] most h = tt
-places-at n (c ∷ cs) most h = let first = h.0 in (omega (arith, first, most), places-at n cs most h.1)
+indices-at : (n : ℕ) (cs : List Coded) → n ≤ 4
+    → AllByRecursion (λ index. index < n) (map (λ (c : Coding). c.index) (map coding_in cs))
+    → AllByRecursion HasIndex cs
+indices-at n [] most h = tt
+indices-at n (c ∷ cs) most h = let first = h.0 in (
+  omega (arith, first, most),
+  indices-at n cs most
+      h.1,
+)
 
-rising-at : (codings : List Coding) (least : ℕ) → IsRising least (map (λ (c : Coding). c.place) codings)
+rising-at : (codings : List Coding) (least : ℕ) → IsRising least (map (λ (c : Coding). c.index)
+    codings)
     → AreRising codings
 unfolding IsRising
-rising-at (c ∷ d ∷ more) least h = grind (arith, common_steps, rising-at (d ∷ more) (c.place + 1) h.1)
+rising-at (c ∷ d ∷ more) least h = grind (
+  arith,
+  common_steps,
+  rising-at (d ∷ more) (c.index + 1)
+      h.1,
+)
 rising-at _ least h = tt
 
 -- ---- a scan
@@ -112,16 +123,18 @@ pub ready : (found : Found) (frame : Frame) (header : headers.Scan) (scan : Scan
 ready found frame header scan decoded legal restart codings count =
     let cs = scan.components.items in
     let facts =
-    codings-facts_from found frame (pass_of header) (tables_of found header) header.components header.dc_places
-    header.ac_places (map coding_in cs) legal.dc_length legal.ac_length codings in
+    codings-facts_from found frame (pass_of header) (tables_of found header) header.components
+    header.dc_destinations
+    header.ac_destinations (map coding_in cs) legal.dc_length legal.ac_length codings in
     let few = (count-few (length frame.components) (decoded-count frame decoded)).1 in
     record {
       restart = restart;
       some = subst (λ (n : ℕ). 1 ≤ n) (sym count) legal.some;
-      places =
-          All-from_recursion HasPlace cs (places-at (length frame.components) cs few
-          (subst (AllByRecursion (λ place. place < length frame.components)) (sym facts.2)
-          (recursion_from_All (λ place. place < length frame.components) header.components legal.components)));
+      indices =
+          All-from_recursion HasIndex cs (indices-at (length frame.components) cs few
+          (subst (AllByRecursion (λ index. index < length frame.components)) (sym facts.2)
+          (recursion_from_All (λ index. index < length frame.components) header.components
+          legal.components)));
       fits = fits-at frame cs (each-at (Fits frame) found frame cs (decoded-fits frame decoded) facts.1);
       of_frame = of-frame found frame (map coding_in cs) facts.1;
       rising = rising-at (map coding_in cs) 0 (subst (IsRising 0) (sym facts.2) legal.rising);

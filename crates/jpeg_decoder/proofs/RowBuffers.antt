@@ -19,7 +19,7 @@ use Rattle.jpeg_decoder.specs.Strips.{plane_lists, row_sizes, zeros_of, samples_
 use Rattle.jpeg_decoder.specs.Strips.{with_strips}
 use Rattle.jpeg_decoder.specs.declared.scan.Coded.{Coded}
 use Rattle.jpeg_decoder.proofs.BlocksBefore.{zero-blocks}
-use Rattle.jpeg_decoder.proofs.HeldBlocks.{Held, sizes-long, size-at}
+use Rattle.jpeg_decoder.proofs.KeptBlocks.{Held, sizes-long, size-at}
 use Rattle.jpeg_streams.proofs.InPlace.{patched, patched-next, patched-at, patched-all, patched-length}
 use Rattle.jpeg_decoder.proofs.StripRows.{strip-of, strips-at, strips-length, strips-none}
 use Rattle.jpeg_decoder.proofs.StripRows.{strips_of-length}
@@ -85,8 +85,8 @@ module _ (cs : List Coded) (old : List Held) (sizes : sizes_of old ≡ row_sizes
   -- the next component's blocks are those of a row of MCUs
   pub row-size : (slot : ℕ) (c : Coded) (v : Held) → slot < length cs → c ≡ get_or cs slot c
       → v ≡ get_or old slot v → length v.items ≡ down_in c * wide_in c
-  row-size slot c v h is held =
-      sym (size-at old slot v (omega (arith, sizes-long old, old-long)) held)
+  row-size slot c v h is kept =
+      sym (size-at old slot v (omega (arith, sizes-long old, old-long)) kept)
       ∙ ap (λ (l : List ℕ). get_or l slot 0) sizes
       ∙ get_or-map (λ (x : Coded). down_in x * wide_in x) cs slot c 0 h
       ∙ sym (ap (λ (x : Coded). down_in x * wide_in x) is)
@@ -95,9 +95,9 @@ module _ (cs : List Coded) (old : List Held) (sizes : sizes_of old ≡ row_sizes
   strip-here : (slot : ℕ) (c : Coded) (v : Held) → slot < length cs → c ≡ get_or cs slot c
       → v ≡ get_or old slot v
       → get_or strips slot [] ≡ samples_of (down_in c) (coding_in c) (map to_block v.items)
-  strip-here slot c v h is held =
+  strip-here slot c v h is kept =
       let blocks : get_or (arrays_in old) slot [] ≡ map to_block v.items =
-      get_or-map blocks_in old slot v [] (omega (arith, old-long)) ∙ sym (ap blocks_in held) in
+      get_or-map blocks_in old slot v [] (omega (arith, old-long)) ∙ sym (ap blocks_in kept) in
       let coded : coding_in c ≡ get_or codings slot (coding_in c) = ap coding_in is
       ∙ sym (get_or-map coding_in cs slot c (coding_in c) h) in
       strip-of codings (arrays_in old) slot (coding_in c) arrays-long
@@ -109,8 +109,8 @@ module _ (cs : List Coded) (old : List Held) (sizes : sizes_of old ≡ row_sizes
       → c ≡ get_or cs slot c → v ≡ get_or old slot v → samples ≡ start ++ concat (take slot strips)
       → new ≡ samples ++ samples_of (down_in c) (coding_in c) (map to_block v.items)
       → new ≡ start ++ concat (take (slot + 1) strips)
-  room-next slot c v start samples new h is held inv more =
-      let here = strip-here slot c v h is held in
+  room-next slot c v start samples new h is kept inv more =
+      let here = strip-here slot c v h is kept in
       let next = take_more strips slot [] (omega (arith, strips-long)) in
       grind (arith, common_steps, here, next, concat-append, append_assoc, append-nil)
 
@@ -146,7 +146,7 @@ module _ (cs : List Coded) (old : List Held) (start : List Plane) (sizes : sizes
       q.items
       ≡ p.items ++ samples_of (down_in c) (coding_in c) (map to_block v.items)
       → plane_lists (set planes slot q) ≡ patched (slot + 1) all (plane_lists start)
-  planes-next planes slot c v p q h is held inv at new =
+  planes-next planes slot c v p q h is kept inv at new =
       let view : Plane → List ℕ = λ x. x.items in
       let pl = planes-long planes slot inv in
       let before : p.items ≡ get_or (plane_lists start) slot [] =
@@ -164,7 +164,7 @@ module _ (cs : List Coded) (old : List Held) (start : List Plane) (sizes : sizes
       ∙ sym (strips-at (map coding_in cs) (arrays_in old) (plane_lists start) slot
       (arrays-long cs old sizes) start-long (omega (arith, length-map cs coding_in))
       ∙ ap (λ (l : List ℕ). get_or (plane_lists start) slot [] ++ l)
-      (strip-here cs old sizes slot c v h is held)))
+      (strip-here cs old sizes slot c v h is kept)))
 
   pub planes-all : (planes : List Plane) (slot : ℕ) → length cs ≤ slot → plane_lists planes
       ≡ patched slot all (plane_lists start) → plane_lists planes ≡ all

@@ -22,7 +22,7 @@ front xs (Err e) = Err e
 abbrev pub codings_left : Found → Frame → Scan → ℕ → Result (List Coding) Fault
 codings_left found frame scan slot =
     codings_from found frame (pass_of scan) (tables_of found scan) (drop slot scan.components)
-    (drop slot scan.dc_places) (drop slot scan.ac_places)
+    (drop slot scan.dc_destinations) (drop slot scan.ac_destinations)
 
 one-more : (found : Found) (frame : Frame) (p : Pass) (tables : Tables) (cs ds acs : List ℕ) (slot : ℕ)
     → slot < length cs → length ds ≡ length cs → length acs ≡ length cs
@@ -39,8 +39,8 @@ one-more found frame p tables _ _ _ slot h d a = absurd (omega arith)
 
 -- a slot more
 pub codings-more : (found : Found) (frame : Frame) (scan : Scan) (slot : ℕ) (xs : List Coded) (c : Coded)
-    → slot < length scan.components → length scan.dc_places ≡ length scan.components
-    → length scan.ac_places ≡ length scan.components
+    → slot < length scan.components → length scan.dc_destinations ≡ length scan.components
+    → length scan.ac_destinations ≡ length scan.components
     → codings_in_force found frame scan ≡ front (map coding_in xs) (codings_left found frame scan slot)
     → coding_in_slot found frame scan slot ≡ Ok (coding_in c)
     → codings_in_force found frame scan
@@ -49,8 +49,8 @@ codings-more found frame scan slot xs c h d a w e = grind (arith, common_steps, 
 
 -- a slot that is refused
 pub codings-fail : (found : Found) (frame : Frame) (scan : Scan) (slot : ℕ) (xs : List Coded) (f : Fault)
-    → slot < length scan.components → length scan.dc_places ≡ length scan.components
-    → length scan.ac_places ≡ length scan.components
+    → slot < length scan.components → length scan.dc_destinations ≡ length scan.components
+    → length scan.ac_destinations ≡ length scan.components
     → codings_in_force found frame scan ≡ front (map coding_in xs) (codings_left found frame scan slot)
     → coding_in_slot found frame scan slot ≡ Err f
     → codings_in_force found frame scan ≡ Err f

@@ -22,7 +22,8 @@ use Rattle.jpeg_decoder.specs.Scanning.{vias_in, arrays_in, blocks_in, sizes_of,
 use Rattle.jpeg_decoder.specs.PlanesView.{planes_in}
 use Rattle.jpeg_streams.specs.Sound.{IsPlaneOf, ArePlanes}
 use Rattle.jpeg_decoder.specs.Steps.{blocks_at, coding_in, decided_planes, scan_data}
-use Rattle.jpeg_streams.specs.ScanSegments.{components_of, held_after, plane_by, arrays_before, Coding}
+use Rattle.jpeg_streams.specs.ScanSegments.{components_of, blocks_after, plane_by, arrays_before}
+use Rattle.jpeg_streams.specs.ScanSegments.{Coding}
 use Rattle.jpeg_streams.specs.ScanSegments.{is_progressive, put_arrays, with_arrays, with_blocks, vias_from}
 use Rattle.jpeg_decoder.specs.Steps.{with_decoded, with_its_plane, with_planes, IsCodingOf, AreRising}
 use Rattle.jpeg_streams.specs.Found.{Found}
@@ -61,19 +62,21 @@ arrays-by-sizes (c ∷ cs) (o ∷ old) (n ∷ new) h e =
 
 -- ---- what scans give
 
-pub held-kept : (p : Pass) (codings : List Coding) (arrays : Arrays) (found : Found) (h : Arrays)
-    → record (with_arrays p codings arrays found) { held = h } ≡ with_arrays p codings arrays
-    (record found { held = h })
+pub kept-kept : (p : Pass) (codings : List Coding) (arrays : Arrays) (found : Found) (h : Arrays)
+    → record (with_arrays p codings arrays found) { kept = h } ≡ with_arrays p codings arrays
+    (record found { kept = h })
 unfolding with_arrays with_blocks
-held-kept p (c ∷ codings) (blocks ∷ arrays) found h = held-kept p codings arrays (with_blocks p c blocks found) h
-held-kept p _ _ found h = refl
+kept-kept p (c ∷ codings) (blocks ∷ arrays) found h = kept-kept p codings arrays (with_blocks p c
+    blocks found) h
+kept-kept p _ _ found h = refl
 
 pub arrays-by-planes : (p : Pass) (codings : List Coding) (arrays : Arrays) (found : Found)
     → with_arrays p codings arrays found ≡ with_planes p codings (planes_by codings arrays) found
 unfolding with_arrays with_planes planes_by
 arrays-by-planes p (c ∷ codings) (blocks ∷ arrays) found =
     ap (with_arrays p codings arrays) (blocks-are p c blocks found)
-    ∙ arrays-by-planes p codings arrays (with_its_plane p c.place (plane_by c.component c.quantization blocks) found)
+    ∙ arrays-by-planes p codings arrays (with_its_plane p c.index (plane_by c.component
+    c.quantization blocks) found)
 arrays-by-planes p _ _ found = refl
 
 -- the blocks at their places, of those of the frame
@@ -88,7 +91,7 @@ after_read f frame p codings r = Ok (
   (
     with_arrays p codings r.0.0 (record f {
       scanned = true;
-      held = held_after f frame codings r.0.0;
+      kept = blocks_after f frame codings r.0.0;
     }),
     r.0.1,
   ),
@@ -101,14 +104,14 @@ data-is : (f : Found) (frame : Frame) (p : Pass) (codings : List Coding) (bytes 
 unfolding scan_data
 data-is f frame p codings bytes = refl
 
-held-progressive : (f : Found) (frame : Frame) (codings : List Coding) (arrays : Arrays)
+kept-progressive : (f : Found) (frame : Frame) (codings : List Coding) (arrays : Arrays)
     → is_progressive frame.process ≡ true
-    → held_after f frame codings arrays ≡ put_arrays codings arrays (arrays_before f frame)
-held-progressive f frame codings arrays e = rw e refl
+    → blocks_after f frame codings arrays ≡ put_arrays codings arrays (arrays_before f frame)
+kept-progressive f frame codings arrays e = rw e refl
 
-held-sequential : (f : Found) (frame : Frame) (codings : List Coding) (arrays : Arrays)
-    → is_progressive frame.process ≡ false → held_after f frame codings arrays ≡ []
-held-sequential f frame codings arrays e = rw e refl
+kept-sequential : (f : Found) (frame : Frame) (codings : List Coding) (arrays : Arrays)
+    → is_progressive frame.process ≡ false → blocks_after f frame codings arrays ≡ []
+kept-sequential f frame codings arrays e = rw e refl
 
 pub before-sequential : (f : Found) (frame : Frame) → is_progressive frame.process ≡ false
     → arrays_before f frame ≡ zero_arrays frame.components
@@ -116,19 +119,20 @@ unfolding arrays_before
 before-sequential f frame e = rw e refl
 
 -- A scan of a progressive frame: of what is read and added, and of the blocks that are put back.
-pub data-held : (f : Found) (frame : Frame) (p : Pass) (codings : List Coding) (arrays : Arrays) (met : Option Marker)
-    (bytes rest : List ℕ) (one two : Decoded) (held : Arrays)
+pub data-kept : (f : Found) (frame : Frame) (p : Pass) (codings : List Coding) (arrays : Arrays)
+    (met : Option Marker)
+    (bytes rest : List ℕ) (one two : Decoded) (kept : Arrays)
     → is_progressive frame.process ≡ true
     → read_at f frame p codings (blocks_at codings (arrays_before f frame)) bytes ≡ Ok ((arrays, met), rest)
     → ((base : Found) → with_decoded base two ≡ with_arrays p codings arrays (with_decoded base one))
     → one.finished ≡ f.finished → one.planes ≡ f.planes → planes_in one.samples ≡ f.samples
-    → held ≡ put_arrays codings arrays (arrays_before f frame)
+    → kept ≡ put_arrays codings arrays (arrays_before f frame)
     → scan_data f frame p codings bytes
     ≡ Ok (
       (
         record f {
           scanned = true;
-          held = held;
+          kept = kept;
           finished = two.finished;
           planes = two.planes;
           samples = planes_in two.samples;
@@ -137,7 +141,7 @@ pub data-held : (f : Found) (frame : Frame) (p : Pass) (codings : List Coding) (
       ),
       rest,
     )
-data-held f frame p codings arrays met bytes rest one two held e r added fin pl sa h =
+data-kept f frame p codings arrays met bytes rest one two kept e r added fin pl sa h =
     data-is f frame p codings bytes
     ∙ ap (λ (o : Outcome (Arrays × Option Marker)). o >>= after_read f frame p codings) r
     ∙ ap (λ (x : Found). answer x) same
@@ -148,32 +152,37 @@ data-held f frame p codings arrays met bytes rest one two held e r added fin pl 
     answer : Found → Outcome (Found × Option Marker)
     answer x = Ok ((x, met), rest)
 
-    same : with_arrays p codings arrays (record f { scanned = true; held = held_after f frame codings arrays })
+    same : with_arrays p codings arrays (record f {
+      scanned = true;
+      kept = blocks_after f frame
+          codings arrays;
+    })
         ≡ record f {
           scanned = true;
-          held = held;
+          kept = kept;
           finished = two.finished;
           planes = two.planes;
           samples = planes_in two.samples;
         }
     same =
-        ap (λ (x : Arrays). with_arrays p codings arrays (record f { scanned = true; held = x }))
-        (held-progressive f frame codings arrays e ∙ sym h)
+        ap (λ (x : Arrays). with_arrays p codings arrays (record f { scanned = true; kept = x }))
+        (kept-progressive f frame codings arrays e ∙ sym h)
         ∙ (λ i. with_arrays p codings arrays (record f {
           scanned = true;
-          held = held;
+          kept = kept;
           finished = sym fin i;
           planes = sym pl i;
           samples = sym sa i;
         }))
-        ∙ sym (held-kept p codings arrays (with_decoded base one) held)
-        ∙ sym (ap (λ (x : Found). record x { held = held }) (added base))
+        ∙ sym (kept-kept p codings arrays (with_decoded base one) kept)
+        ∙ sym (ap (λ (x : Found). record x { kept = kept }) (added base))
 
-pub data-held-refused : (f : Found) (frame : Frame) (p : Pass) (codings : List Coding) (bytes : List ℕ) (fault : Fault)
+pub data-kept-refused : (f : Found) (frame : Frame) (p : Pass) (codings : List Coding) (bytes :
+    List ℕ) (fault : Fault)
     → read_at f frame p codings (blocks_at codings (arrays_before f frame)) bytes ≡ Err fault
     → scan_data f frame p codings bytes ≡ Err fault
 unfolding scan_data
-data-held-refused f frame p codings bytes fault r = search (rules)
+data-kept-refused f frame p codings bytes fault r = search (rules)
 
 -- A scan of a sequential frame.
 
@@ -198,7 +207,7 @@ pub data-planes : (f : Found) (frame : Frame) (p : Pass) (codings : List Coding)
     → planes_at p f.restart (vias_from 0 codings) frame codings bytes ≡ Ok ((planes, met), rest)
     → ((base : Found) → with_decoded base two ≡ with_planes p codings planes (with_decoded base one))
     → one.finished ≡ f.finished → one.planes ≡ f.planes → planes_in one.samples ≡ f.samples
-    → arrays_in one.held.items ≡ []
+    → arrays_in one.kept.items ≡ []
     → scan_data f frame p codings bytes ≡ Ok ((record (with_decoded f two) { scanned = true }, met), rest)
 data-planes f frame p codings planes met bytes rest one two e of r added fin pl sa none =
     data-is f frame p codings bytes
@@ -211,14 +220,18 @@ data-planes f frame p codings planes met bytes rest one two e of r added fin pl 
     base = record f { scanned = true }
 
     made : (arrays : Arrays) → planes_by codings arrays ≡ planes
-        → with_arrays p codings arrays (record f { scanned = true; held = held_after f frame codings arrays })
+        → with_arrays p codings arrays (record f {
+          scanned = true;
+          kept = blocks_after f frame
+              codings arrays;
+        })
         ≡ record (with_decoded f two) { scanned = true }
     made arrays q =
-        ap (λ (x : Arrays). with_arrays p codings arrays (record f { scanned = true; held = x }))
-        (held-sequential f frame codings arrays e ∙ sym none)
+        ap (λ (x : Arrays). with_arrays p codings arrays (record f { scanned = true; kept = x }))
+        (kept-sequential f frame codings arrays e ∙ sym none)
         ∙ (λ i. with_arrays p codings arrays (record f {
           scanned = true;
-          held = arrays_in one.held.items;
+          kept = arrays_in one.kept.items;
           finished = sym fin i;
           planes = sym pl i;
           samples = sym sa i;
@@ -254,28 +267,35 @@ data-planes-refused f frame p codings bytes fault e of r =
 
 -- ---- planes of all blocks
 
-plane-at : (cs : List Component) (planes : List (Option (List ℕ))) (place : ℕ) (c : Component) → ArePlanes cs planes
-    → At place cs c → IsPlaneOf c (get_or planes place None)
+plane-at : (cs : List Component) (planes : List (Option (List ℕ))) (index : ℕ) (c : Component) →
+    ArePlanes cs planes
+    → At index cs c → IsPlaneOf c (get_or planes index None)
 unfolding ArePlanes
-plane-at [] planes place c h at = absurd at
-plane-at (d ∷ cs) [] place c h at = absurd h
+plane-at [] planes index c h at = absurd at
+plane-at (d ∷ cs) [] index c h at = absurd h
 plane-at (d ∷ cs) (q ∷ planes) zero c h at = subst (λ (x : Component). IsPlaneOf x q) (at) h.0
-plane-at (d ∷ cs) (q ∷ planes) (suc place) c h at = plane-at cs planes place c h.1 at
+plane-at (d ∷ cs) (q ∷ planes) (suc index) c h at = plane-at cs planes index c h.1 at
 
-plane-set : (cs : List Component) (planes : List (Option (List ℕ))) (place : ℕ) (c : Component) (q : Option (List ℕ))
-    → ArePlanes cs planes → At place cs c → IsPlaneOf c q → ArePlanes cs (set planes place q)
+plane-set : (cs : List Component) (planes : List (Option (List ℕ))) (index : ℕ) (c : Component) (q
+    : Option (List ℕ))
+    → ArePlanes cs planes → At index cs c → IsPlaneOf c q → ArePlanes cs (set planes index q)
 unfolding ArePlanes
-plane-set [] planes place c q h at k = tt
-plane-set (d ∷ cs) [] place c q h at k = absurd h
+plane-set [] planes index c q h at k = tt
+plane-set (d ∷ cs) [] index c q h at k = absurd h
 plane-set (d ∷ cs) (x ∷ planes) zero c q h at k = (subst (λ (y : Component). IsPlaneOf y q) (sym (at)) k, h.1)
-plane-set (d ∷ cs) (x ∷ planes) (suc place) c q h at k = (h.0, plane-set cs planes place c q h.1 at k)
+plane-set (d ∷ cs) (x ∷ planes) (suc index) c q h at k = (
+  h.0,
+  plane-set cs planes index c q h.1 at
+      k,
+)
 
-one-whole : (cs : List Component) (p : Pass) (place : ℕ) (c : Component) (plane : List ℕ) (found : Found)
-    → At place cs c
+one-whole : (cs : List Component) (p : Pass) (index : ℕ) (c : Component) (plane : List ℕ) (found :
+    Found)
+    → At index cs c
     → length plane ≡ (c.blocks_high * c.scale) * (c.blocks_wide * c.scale) → ArePlanes cs found.planes
-    → ArePlanes cs (with_its_plane p place plane found).planes
+    → ArePlanes cs (with_its_plane p index plane found).planes
 unfolding with_its_plane decided_planes
-one-whole cs p place c plane found at k h = search (rules, arith, plane-set, plane-at)
+one-whole cs p index c plane found at k h = search (rules, arith, plane-set, plane-at)
 
 pub planes-whole : (frame : Frame) (p : Pass) (codings : List Coding) (planes : List (List ℕ)) (found : Found)
     → AllByRecursion (IsOf frame) codings
@@ -286,8 +306,9 @@ unfolding with_planes
 planes-whole frame p (c ∷ codings) (plane ∷ planes) found of k h =
     let a : length plane ≡ (c.component.blocks_high * c.component.scale)
     * (c.component.blocks_wide * c.component.scale) = ap (λ (l : List ℕ). get_or l 0 0) k in
-    planes-whole frame p codings planes (with_its_plane p c.place plane found) of.1 (ap (λ (l : List ℕ). drop 1 l) k)
-    (one-whole frame.components p c.place c.component plane found of.0.here a h)
+    planes-whole frame p codings planes (with_its_plane p c.index plane found) of.1 (ap (λ (l :
+    List ℕ). drop 1 l) k)
+    (one-whole frame.components p c.index c.component plane found of.0.here a h)
 planes-whole frame p _ _ found of k h = h
 
 pub arrays-whole : (frame : Frame) (p : Pass) (codings : List Coding) (arrays : Arrays) (found : Found)
@@ -297,7 +318,8 @@ unfolding with_arrays
 arrays-whole frame p (c ∷ codings) (blocks ∷ arrays) found of h =
     arrays-whole frame p codings arrays (with_blocks p c blocks found) of.1
     (subst (λ (x : Found). ArePlanes frame.components x.planes) (sym (blocks-are p c blocks found))
-    (one-whole frame.components p c.place c.component (plane_by c.component c.quantization blocks) found of.0.here
+    (one-whole frame.components p c.index c.component (plane_by c.component c.quantization blocks)
+    found of.0.here
     (plane_by-length c.component c.quantization blocks) h))
 arrays-whole frame p _ _ found of h = h
 
@@ -328,50 +350,56 @@ pub read-as : (f : Found) (frame : Frame) (p : Pass) (cs : List Coded) (n : ℕ)
 read-as f frame p cs n arrays bytes e = grind (arith, common_steps, vias-same, coded-components)
 
 -- the places of a scan's components are places of the arrays
-pub coded-within-held : (frame : Frame) (cs : List Coded) (held : List Held)
-    → AllByRecursion (IsCodingOf frame) (map coding_in cs) → AreArrays frame.components (arrays_in held)
-    → All (λ (x : Coded). x.place < length held) cs
-coded-within-held frame cs held of a k d h = at cs of k d h
+pub coded-within-kept : (frame : Frame) (cs : List Coded) (kept : List Held)
+    → AllByRecursion (IsCodingOf frame) (map coding_in cs) → AreArrays frame.components (arrays_in
+    kept)
+    → All (λ (x : Coded). x.index < length kept) cs
+coded-within-kept frame cs kept of a k d h = at cs of k d h
   where
     long : (components : List Component) (vs : List Held) → AreArrays components (arrays_in vs)
-        → (place : ℕ) (c : Component) → At place components c → place < length vs
-    long [] vs a place c at = absurd at
-    long (x ∷ components) [] a place c at = absurd (no-arrays x components a)
+        → (index : ℕ) (c : Component) → At index components c → index < length vs
+    long [] vs a index c at = absurd at
+    long (x ∷ components) [] a index c at = absurd (no-arrays x components a)
     long (x ∷ components) (v ∷ vs) a zero c at = omega arith
-    long (x ∷ components) (v ∷ vs) a (suc place) c at = let r =
-        long components vs (other-arrays x components (blocks_in v) (arrays_in vs) a) place c at in omega (arith, r)
+    long (x ∷ components) (v ∷ vs) a (suc index) c at = let r =
+        long components vs (other-arrays x components (blocks_in v) (arrays_in vs) a) index c at in
+        omega (arith, r)
 
     at : (cs : List Coded) → AllByRecursion (IsCodingOf frame) (map coding_in cs) → (k : ℕ) (d : Coded) → k < length cs
-        → (get_or cs k d).place < length held
+        → (get_or cs k d).index < length kept
     at [] of k d h = absurd (omega arith)
-    at (c ∷ cs) of zero d h = long frame.components held a c.place (coding_in c).component
-        (first-at c.place frame.components (coding_in c).component of.0)
+    at (c ∷ cs) of zero d h = long frame.components kept a c.index (coding_in c).component
+        (first-at c.index frame.components (coding_in c).component of.0)
     at (c ∷ cs) of (suc k) d h = at cs of.1 k d (omega arith)
 
 -- places that rise are apart
-pub rising-codings : (cs : List Coded) → AreRising (map coding_in cs) → AreApart (map (λ (x : Coded). x.place) cs)
+pub rising-codings : (cs : List Coded) → AreRising (map coding_in cs) → AreApart (map (λ (x :
+    Coded). x.index) cs)
 rising-codings [] h = tt
 rising-codings (c ∷ []) h = ((λ n. n), tt)
-rising-codings (c ∷ d ∷ cs) h = (λ n. below c.place d cs h.0 h.1 n, rising-codings (d ∷ cs) h.1)
+rising-codings (c ∷ d ∷ cs) h = (λ n. below c.index d cs h.0 h.1 n, rising-codings (d ∷ cs) h.1)
   where
-    below : (p : ℕ) (d : Coded) (cs : List Coded) → p < d.place → AreRising (map coding_in (d ∷ cs))
-        → IsIn p (map (λ (x : Coded). x.place) (d ∷ cs)) → ⊥
+    below : (p : ℕ) (d : Coded) (cs : List Coded) → p < d.index → AreRising (map coding_in (d ∷ cs))
+        → IsIn p (map (λ (x : Coded). x.index) (d ∷ cs)) → ⊥
     below p d cs lt r (inl e) = omega (arith, e)
     below p d [] lt r (inr n) = n
     below p d (x ∷ cs) lt r (inr n) = below p x cs (let q = r.0 in omega (arith, q)) r.1 n
 
 -- ---- what is held after a scan
 
-before-held : (f : Found) (frame : Frame) → is_progressive frame.process ≡ true → f.scanned ≡ true
-    → arrays_before f frame ≡ f.held
+before-kept : (f : Found) (frame : Frame) → is_progressive frame.process ≡ true → f.scanned ≡ true
+    → arrays_before f frame ≡ f.kept
 unfolding arrays_before
-before-held f frame e s = rw (e, s) refl
+before-kept f frame e s = rw (e, s) refl
 
-pub held-afterwards : {X E : Type 0} (r : Result X E) (f : Found) (frame : Frame) → is_progressive frame.process ≡ true
+pub kept-afterwards : {X E : Type 0} (r : Result X E) (f : Found) (frame : Frame) → is_progressive
+    frame.process ≡ true
     → f.scanned ≡ true
-    → OnOk r (AreArrays frame.components f.held) → OnOk r (AreArrays frame.components (arrays_before f frame))
-held-afterwards r f frame e s h = grind (arith, common_steps, before-held)
+    → OnOk r (AreArrays frame.components f.kept) → OnOk r (AreArrays frame.components
+    (arrays_before f frame))
+kept-afterwards r f frame e s h = grind (arith, common_steps, before-kept)
 
-pub none-held : {X E : Type 0} (r : Result X E) (f : Found) (frame : Frame) → is_progressive frame.process ≡ false
+pub none-kept : {X E : Type 0} (r : Result X E) (f : Found) (frame : Frame) → is_progressive
+    frame.process ≡ false
     → OnOk r (AreArrays frame.components (arrays_before f frame))
-none-held r f frame e = grind (arith, common_steps, before-sequential, zeros-sized)
+none-kept r f frame e = grind (arith, common_steps, before-sequential, zeros-sized)

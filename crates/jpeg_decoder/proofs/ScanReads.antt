@@ -228,7 +228,12 @@ pub blocks-sound : (found next : Found) (frame : Frame) → IsSound found → fo
     → next.frame ≡ found.frame → AreArrays frame.components (arrays_before next frame)
     → (ArePlanes frame.components found.planes → ArePlanes frame.components next.planes)
     → next.samples ≡ found.samples → IsSound next
-blocks-sound found next frame sound e stays held planes samples = grind (arith, common_steps, some-same, none-some)
+blocks-sound found next frame sound e stays kept planes samples = grind (
+  arith,
+  common_steps,
+  some-same,
+  none-some,
+)
 
 -- A scan is a step, which keeps the frame.
 pub scan-steps : (old next : Found) (frame : Frame) (step : Step) → old.frame ≡ Some frame → next.frame ≡ old.frame

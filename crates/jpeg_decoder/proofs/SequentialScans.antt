@@ -56,7 +56,7 @@ module _ (said : Found) (before : Decoded) (frame : Frame) (scan : Scan) (bytes 
 
   module _ (met : Option Marker) (rest : List ℕ) (one two : Decoded) (finished : one.finished ≡ f.finished)
       (planes : one.planes ≡ f.planes) (samples : planes_in one.samples ≡ f.samples)
-      (none : arrays_in one.held.items ≡ []) where
+      (none : arrays_in one.kept.items ≡ []) where
     pub read-data : (made : Planes) → by_rows (no_samples codings) ≡ Ok ((made, met), rest)
         → ((base : Found) → with_decoded base two ≡ with_planes p codings made (with_decoded base one))
         → scan_data f frame p codings bytes ≡ Ok ((record (with_decoded f two) { scanned = true }, met), rest)
@@ -85,7 +85,8 @@ again-planes p codings base one two decided added = grind (arith, common_steps, 
 
 -- the components whose planes were found to be decided
 pub are-decided : (cs : List Coded) (planes : List (Option (List ℕ)))
-    → ((k : ℕ) (d : Coded) → k < length cs → is_some (slice_index_or planes (get_or cs k d).place None) ≡ true)
+    → ((k : ℕ) (d : Coded) → k < length cs → is_some (slice_index_or planes (get_or cs k d).index
+    None) ≡ true)
     → AllByRecursion (IsDecided planes) (map coding_in cs)
 are-decided [] planes h = tt
 are-decided (c ∷ more) planes h = (h 0 c (omega arith), are-decided more planes (λ k d lt. h (suc k) d (omega arith)))

@@ -38,22 +38,26 @@ or-none o = grind (arith, common_steps)
 abbrev none_of : (A : Type 0) → Option A
 none_of A = None
 
-none-at : (n place : ℕ) → get_or (replicate n (none_of Table)) place (none_of Table) ≡ none_of Table
-none-at (suc n) (suc place) = none-at n place
+none-at : (n destination : ℕ) → get_or (replicate n (none_of Table)) destination (none_of Table) ≡
+    none_of Table
+none-at (suc n) (suc destination) = none-at n destination
 none-at _ _ = refl
 
-forced-by : (b : Bool) (l c : Table) (places : List ℕ) (tables : List (Option Table)) (place : ℕ) → length tables ≡ 4
-    → get_or (cond b (with_defaults l c places tables) tables) place None
-    ≡ or_spare (get_or tables place None) (get_or
-    (cond b (with_defaults l c places (replicate 4 None)) []) place None)
-forced-by b l c places tables place e = grind (arith, common_steps, none-at, or-none)
+forced-by : (b : Bool) (l c : Table) (destinations : List ℕ) (tables : List (Option Table))
+    (destination : ℕ) → length tables ≡ 4
+    → get_or (cond b (with_defaults l c destinations tables) tables) destination None
+    ≡ or_spare (get_or tables destination None) (get_or
+    (cond b (with_defaults l c destinations (replicate 4 None)) []) destination None)
+forced-by b l c destinations tables destination e = grind (arith, common_steps, none-at, or-none)
 
 -- The tables in force are those that were read, or else the spare ones.
-pub forced-dc : (found : Found) (scan : Scan) (spare : Spare) (place : ℕ) → IsSpareOf found scan spare
+pub forced-dc : (found : Found) (scan : Scan) (spare : Spare) (destination : ℕ) → IsSpareOf found
+    scan spare
     → length found.huffman.dc ≡ 4
-    → get_or (tables_of found scan).dc place None ≡ in_force found.huffman.dc spare.dc.items place
+    → get_or (tables_of found scan).dc destination None ≡ in_force found.huffman.dc spare.dc.items
+    destination
 unfolding tables_of
-forced-dc found scan spare place s e = search (rules, forced-by)
+forced-dc found scan spare destination s e = search (rules, forced-by)
 
 -- ---- the class of an AC table in force
 
@@ -64,19 +68,29 @@ IsAc (Some t) = t.class ≡ classes.AC
 class-ac : (class : HuffmanTableClass) → is_ac class ≡ true → class ≡ classes.AC
 class-ac class e = grind (arith, common_steps)
 
-read-ac : (tables : List (Option Table)) (place : ℕ) → all_ac tables ≡ true → IsAc (get_or tables place None)
+read-ac : (tables : List (Option Table)) (destination : ℕ) → all_ac tables ≡ true → IsAc (get_or
+    tables destination None)
 read-ac (Some t ∷ more) zero e = class-ac t.class (and_parts (is_ac t.class) (all_ac more) e).0
-read-ac (o ∷ more) (suc place) e = read-ac more place (and_parts (is_ac_or_none o) (all_ac more) e).1
+read-ac (o ∷ more) (suc destination) e = read-ac more destination (and_parts (is_ac_or_none o)
+    (all_ac more) e).1
 read-ac _ _ e = tt
 
 if-ac : (needs : Bool) (o : Option Table) (t : Table) → IsAc o → table_if needs (no_table classes.AC) o ≡ Ok t
     → t.class ≡ classes.AC
 if-ac needs o t h e = grind (arith, common_steps)
 
-pub class-in-force : (found : Found) (scan : Scan) (spare : Spare) (needs : Bool) (place : ℕ) (t : Table)
+pub class-in-force : (found : Found) (scan : Scan) (spare : Spare) (needs : Bool) (destination : ℕ)
+    (t : Table)
     → IsSpareOf found scan spare → all_ac found.huffman.ac ≡ true
-    → table_if needs spare.no_ac (in_force found.huffman.ac spare.ac.items place) ≡ Ok t → t.class ≡ classes.AC
-class-in-force found scan spare needs place t s a e = grind (arith, common_steps, if-ac, read-ac, none-at)
+    → table_if needs spare.no_ac (in_force found.huffman.ac spare.ac.items destination) ≡ Ok t →
+    t.class ≡ classes.AC
+class-in-force found scan spare needs destination t s a e = grind (
+  arith,
+  common_steps,
+  if-ac,
+  read-ac,
+  none-at,
+)
 
 -- ---- what a slot gives
 
@@ -86,90 +100,115 @@ needed-either needs class o = grind (arith, common_steps)
 
 -- the table that is needed of the component in a slot
 abbrev pub dc_of : Found → Scan → Spare → ℕ → Result Table Fault
-dc_of found scan spare place = table_if (scan.first == 0) spare.no_dc (in_force found.huffman.dc spare.dc.items place)
+dc_of found scan spare destination = table_if (scan.first == 0) spare.no_dc (in_force
+    found.huffman.dc spare.dc.items destination)
 
 abbrev pub ac_of : Found → Scan → Spare → ℕ → Result Table Fault
-ac_of found scan spare place = table_if (nat_lt 1 scan.after) spare.no_ac (in_force found.huffman.ac spare.ac.items place)
+ac_of found scan spare destination = table_if (nat_lt 1 scan.after) spare.no_ac (in_force
+    found.huffman.ac spare.ac.items destination)
 
-dc-needed : (found : Found) (scan : Scan) (spare : Spare) (place : ℕ) → IsSpareOf found scan spare
+dc-needed : (found : Found) (scan : Scan) (spare : Spare) (destination : ℕ) → IsSpareOf found scan
+    spare
     → length found.huffman.dc ≡ 4
-    → needed_if ((pass_of scan).ss == 0) classes.DC (get_or (tables_of found scan).dc place None)
-    ≡ dc_of found scan spare place
+    → needed_if ((pass_of scan).ss == 0) classes.DC (get_or (tables_of found scan).dc destination
+    None)
+    ≡ dc_of found scan spare destination
 unfolding pass_of
-dc-needed found scan spare place s e = grind (arith, common_steps, forced-dc, needed-either)
+dc-needed found scan spare destination s e = grind (arith, common_steps, forced-dc, needed-either)
 
-ac-needed : (found : Found) (scan : Scan) (spare : Spare) (place : ℕ) → IsSpareOf found scan spare
+ac-needed : (found : Found) (scan : Scan) (spare : Spare) (destination : ℕ) → IsSpareOf found scan
+    spare
     → length found.huffman.ac ≡ 4
-    → needed_if (nat_lt 0 (pass_of scan).se) classes.AC (get_or (tables_of found scan).ac place None)
-    ≡ ac_of found scan spare place
+    → needed_if (nat_lt 0 (pass_of scan).se) classes.AC (get_or (tables_of found scan).ac
+    destination None)
+    ≡ ac_of found scan spare destination
 unfolding pass_of tables_of
-ac-needed found scan spare place s e = grind (arith, common_steps, forced-by, needed-either, nat_tests)
+ac-needed found scan spare destination s e = grind (
+  arith,
+  common_steps,
+  forced-by,
+  needed-either,
+  nat_tests,
+)
 
 -- what is there of the component in a slot, by the places of the header
 pub record HasComponent (found : Found) (frame : Frame) (scan : Scan) (spare : Spare) (slot index : ℕ)
     (c : Component) : Type 0 where
   pub stands_in : IsSpareOf found scan spare
-  pub place : index ≡ get_or scan.components slot 0
+  pub destination : index ≡ get_or scan.components slot 0
   pub component : first_of (drop index frame.components) ≡ Some c
 
-at-quantization : {found : Found} {frame : Frame} {scan : Scan} {spare : Spare} {slot place : ℕ} {c : Component}
+at-quantization : {found : Found} {frame : Frame} {scan : Scan} {spare : Spare} {slot destination :
+    ℕ} {c : Component}
     (p : Pass) (tables : Tables) (d a : ℕ)
-    → HasComponent found frame scan spare slot place c
+    → HasComponent found frame scan spare slot destination c
     → component_coding found frame p tables (get_or scan.components slot 0) d a
     ≡ (needed (get_or found.quantization c.factors.quantization None) >>= (λ q.
     needed_if (p.ss == 0) classes.DC (get_or tables.dc d None) >>= (λ dc.
     needed_if (nat_lt 0 p.se) classes.AC (get_or tables.ac a None) >>= (λ ac.
-    Ok (record { place = get_or scan.components slot 0; component = c; quantization = q; dc = dc; ac = ac })))))
+    Ok (record {
+      destination = get_or scan.components slot 0;
+      component = c;
+      quantization = q;
+      dc =
+          dc;
+      ac = ac;
+    })))))
 unfolding component_coding
-at-quantization p tables d a h = let e = h.component in rw (← h.place, e) refl
+at-quantization p tables d a h = let e = h.component in rw (← h.destination, e) refl
 
 -- A quantization table that is unset.
-pub fails-quantization : (found : Found) (frame : Frame) (scan : Scan) (spare : Spare) (slot place : ℕ)
-    (c : Component) → HasComponent found frame scan spare slot place c
+pub fails-quantization : (found : Found) (frame : Frame) (scan : Scan) (spare : Spare) (slot
+    destination : ℕ)
+    (c : Component) → HasComponent found frame scan spare slot destination c
     → get_or found.quantization c.factors.quantization None ≡ None
     → coding_in_slot found frame scan slot ≡ Err Malformed
 unfolding component_coding
-fails-quantization found frame scan spare slot place c h q = search (rules, at-quantization)
+fails-quantization found frame scan spare slot destination c h q = search (rules, at-quantization)
 
 -- A DC table that is needed and unset.
-pub fails-dc : (found : Found) (frame : Frame) (scan : Scan) (spare : Spare) (slot place : ℕ) (c : Component)
-    → HasComponent found frame scan spare slot place c
+pub fails-dc : (found : Found) (frame : Frame) (scan : Scan) (spare : Spare) (slot destination : ℕ)
+    (c : Component)
+    → HasComponent found frame scan spare slot destination c
     → (q : List ℕ) → get_or found.quantization c.factors.quantization None ≡ Some q
-    → length found.huffman.dc ≡ 4 → (f : Fault) → dc_of found scan spare (get_or scan.dc_places slot 0) ≡ Err f
+    → length found.huffman.dc ≡ 4 → (f : Fault) → dc_of found scan spare (get_or
+    scan.dc_destinations slot 0) ≡ Err f
     → coding_in_slot found frame scan slot ≡ Err f
-fails-dc found frame scan spare slot place c h q e m f d =
-    let dc = dc-needed found scan spare (get_or scan.dc_places slot 0) h.stands_in m ∙ d in
-    at-quantization (pass_of scan) (tables_of found scan) (get_or scan.dc_places slot 0)
-    (get_or scan.ac_places slot 0) h ∙ (rw (e, dc) refl)
+fails-dc found frame scan spare slot destination c h q e m f d =
+    let dc = dc-needed found scan spare (get_or scan.dc_destinations slot 0) h.stands_in m ∙ d in
+    at-quantization (pass_of scan) (tables_of found scan) (get_or scan.dc_destinations slot 0)
+    (get_or scan.ac_destinations slot 0) h ∙ (rw (e, dc) refl)
 
 -- An AC table that is needed and unset.
-pub fails-ac : (found : Found) (frame : Frame) (scan : Scan) (spare : Spare) (slot place : ℕ) (c : Component)
-    → HasComponent found frame scan spare slot place c
+pub fails-ac : (found : Found) (frame : Frame) (scan : Scan) (spare : Spare) (slot destination : ℕ)
+    (c : Component)
+    → HasComponent found frame scan spare slot destination c
     → (q : List ℕ) → get_or found.quantization c.factors.quantization None ≡ Some q
     → length found.huffman.dc ≡ 4 → length found.huffman.ac ≡ 4 → (dc : Table)
-    → dc_of found scan spare (get_or scan.dc_places slot 0) ≡ Ok dc
-    → (f : Fault) → ac_of found scan spare (get_or scan.ac_places slot 0) ≡ Err f
+    → dc_of found scan spare (get_or scan.dc_destinations slot 0) ≡ Ok dc
+    → (f : Fault) → ac_of found scan spare (get_or scan.ac_destinations slot 0) ≡ Err f
     → coding_in_slot found frame scan slot ≡ Err f
-fails-ac found frame scan spare slot place c h q e m n dc d f a =
-    let one = dc-needed found scan spare (get_or scan.dc_places slot 0) h.stands_in m ∙ d in
-    let two = ac-needed found scan spare (get_or scan.ac_places slot 0) h.stands_in n ∙ a in
-    at-quantization (pass_of scan) (tables_of found scan) (get_or scan.dc_places slot 0)
-    (get_or scan.ac_places slot 0) h ∙ (rw (e, one, two) refl)
+fails-ac found frame scan spare slot destination c h q e m n dc d f a =
+    let one = dc-needed found scan spare (get_or scan.dc_destinations slot 0) h.stands_in m ∙ d in
+    let two = ac-needed found scan spare (get_or scan.ac_destinations slot 0) h.stands_in n ∙ a in
+    at-quantization (pass_of scan) (tables_of found scan) (get_or scan.dc_destinations slot 0)
+    (get_or scan.ac_destinations slot 0) h ∙ (rw (e, one, two) refl)
 
 -- All that is needed is there.
-pub gives-coding : (found : Found) (frame : Frame) (scan : Scan) (spare : Spare) (slot place : ℕ) (c : Component)
-    → HasComponent found frame scan spare slot place c
+pub gives-coding : (found : Found) (frame : Frame) (scan : Scan) (spare : Spare) (slot destination
+    : ℕ) (c : Component)
+    → HasComponent found frame scan spare slot destination c
     → (q : List ℕ) → get_or found.quantization c.factors.quantization None ≡ Some q
     → length found.huffman.dc ≡ 4 → length found.huffman.ac ≡ 4 → (dc ac : Table)
-    → dc_of found scan spare (get_or scan.dc_places slot 0) ≡ Ok dc
-    → ac_of found scan spare (get_or scan.ac_places slot 0) ≡ Ok ac
+    → dc_of found scan spare (get_or scan.dc_destinations slot 0) ≡ Ok dc
+    → ac_of found scan spare (get_or scan.ac_destinations slot 0) ≡ Ok ac
     → coding_in_slot found frame scan slot
-    ≡ Ok (record { place = place; component = c; quantization = q; dc = dc; ac = ac })
-gives-coding found frame scan spare slot place c h q e m n dc ac d a =
-    let one = dc-needed found scan spare (get_or scan.dc_places slot 0) h.stands_in m ∙ d in
-    let two = ac-needed found scan spare (get_or scan.ac_places slot 0) h.stands_in n ∙ a in
-    at-quantization (pass_of scan) (tables_of found scan) (get_or scan.dc_places slot 0)
-    (get_or scan.ac_places slot 0) h ∙ (rw (e, one, two, ← h.place) refl)
+    ≡ Ok (record { destination = destination; component = c; quantization = q; dc = dc; ac = ac })
+gives-coding found frame scan spare slot destination c h q e m n dc ac d a =
+    let one = dc-needed found scan spare (get_or scan.dc_destinations slot 0) h.stands_in m ∙ d in
+    let two = ac-needed found scan spare (get_or scan.ac_destinations slot 0) h.stands_in n ∙ a in
+    at-quantization (pass_of scan) (tables_of found scan) (get_or scan.dc_destinations slot 0)
+    (get_or scan.ac_destinations slot 0) h ∙ (rw (e, one, two, ← h.destination) refl)
 
 -- the component at a place
 pub component-at : {A : Type 0} (f : A → Component) (xs : List A) (i : ℕ) (d : A) → i < length xs
@@ -179,30 +218,50 @@ component-at f (x ∷ xs) zero d h = refl
 component-at f (x ∷ xs) (suc i) d h = component-at f xs i d (omega arith)
 
 -- what the code reads there
-pub is-there : (state : State) (frame : FrameInfo) (header : ScanInfo) (spare : Spare) (slot place : ℕ)
+pub is-there : (state : State) (frame : FrameInfo) (header : ScanInfo) (spare : Spare) (slot
+    destination : ℕ)
     (c : declared.Component)
     → IsSpareOf (found_in state) (scan_in header) spare → slot < length header.component_indices.items
-    → place ≡ get_or header.component_indices.items slot place → place < length frame.components.items
-    → c ≡ get_or frame.components.items place c
-    → HasComponent (found_in state) (frame_in frame) (scan_in header) spare slot place (component_in c)
-is-there state frame header spare slot place c s h p l e = search (rules, arith, get_or_default_zero, component-at)
+    → destination ≡ get_or header.component_indices.items slot destination → destination < length
+    frame.components.items
+    → c ≡ get_or frame.components.items destination c
+    → HasComponent (found_in state) (frame_in frame) (scan_in header) spare slot destination
+    (component_in c)
+is-there state frame header spare slot destination c s h p l e = search (
+  rules,
+  arith,
+  get_or_default_zero,
+  component-at,
+)
 
 -- the table that is needed, of the one that the code looks up
-pub is-dc : (state : State) (header : ScanInfo) (spare : Spare) (slot place : ℕ) (o : Option Table)
+pub is-dc : (state : State) (header : ScanInfo) (spare : Spare) (slot destination : ℕ) (o : Option
+    Table)
     (r : Result Table Fault)
-    → slot < length header.dc_table_indices.items → place ≡ get_or header.dc_table_indices.items slot place
-    → o ≡ in_force state.dc_tables spare.dc.items place
+    → slot < length header.dc_table_indices.items → destination ≡ get_or
+    header.dc_table_indices.items slot destination
+    → o ≡ in_force state.dc_tables spare.dc.items destination
     → table_if (header.spectral_selection.start == 0) spare.no_dc o ≡ r
     → dc_of (found_in state) (scan_in header) spare (get_or header.dc_table_indices.items slot 0) ≡ r
-is-dc state header spare slot place o r h p e t = grind (arith, common_steps, get_or_default_zero)
+is-dc state header spare slot destination o r h p e t = grind (
+  arith,
+  common_steps,
+  get_or_default_zero,
+)
 
-pub is-ac : (state : State) (header : ScanInfo) (spare : Spare) (slot place : ℕ) (o : Option Table)
+pub is-ac : (state : State) (header : ScanInfo) (spare : Spare) (slot destination : ℕ) (o : Option
+    Table)
     (r : Result Table Fault)
-    → slot < length header.ac_table_indices.items → place ≡ get_or header.ac_table_indices.items slot place
-    → o ≡ in_force state.ac_tables spare.ac.items place
+    → slot < length header.ac_table_indices.items → destination ≡ get_or
+    header.ac_table_indices.items slot destination
+    → o ≡ in_force state.ac_tables spare.ac.items destination
     → table_if (nat_lt 1 header.spectral_selection.end) spare.no_ac o ≡ r
     → ac_of (found_in state) (scan_in header) spare (get_or header.ac_table_indices.items slot 0) ≡ r
-is-ac state header spare slot place o r h p e t = grind (arith, common_steps, get_or_default_zero)
+is-ac state header spare slot destination o r h p e t = grind (
+  arith,
+  common_steps,
+  get_or_default_zero,
+)
 
 -- a broken rule is a refusal
 pub format-refuses : {Y : Type 0} (e : Error) (o : Result Y Fault) → NamesFormat e → o ≡ Err Malformed

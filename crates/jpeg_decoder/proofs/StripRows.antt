@@ -7,7 +7,7 @@ use Rattle.std.proofs.lemmas.List.{drop-drop, ext_get_or, get_or-map, get_or-tak
 use Rattle.std.proofs.lemmas.List.FromFn.{length-map-range_with_len, get_or-map-range_with_len}
 use Rattle.std.specs.List.{range_with_len}
 use Rattle.jpeg_bits.specs.BlockView.{to_block}
-use Rattle.jpeg_bits.proofs.ZigzagPlaces.{ordered-block}
+use Rattle.jpeg_bits.proofs.ZigzagIndices.{ordered-block}
 use Rattle.jpeg_pixels.specs.Planes.{plane_of, strip_of, zero_coefficients}
 use Rattle.jpeg_pixels.proofs.PlaneRows.{plane-more, plane-same, plane-none}
 use Rattle.jpeg_streams.specs.Scans.{Arrays}

@@ -14,64 +14,81 @@ use Rattle.jpeg_decoder.specs.Steps.{blocks_at, coding_in, without_blocks}
 use Rattle.jpeg_streams.specs.ScanSegments.{put_arrays, Coding}
 use Rattle.std.proofs.lemmas.Grind.{common_steps}
 
-abbrev pub places_of : List Coding → List ℕ
-places_of codings = map (λ c. c.place) codings
+abbrev pub indices_of : List Coding → List ℕ
+indices_of codings = map (λ c. c.index) codings
 
 -- what is left elsewhere
-pub left-elsewhere : (codings : List Coding) (held : Arrays) (place : ℕ) → (IsIn place (places_of codings) → ⊥)
-    → get_or (without_blocks codings held) place [] ≡ get_or held place []
+pub left-elsewhere : (codings : List Coding) (kept : Arrays) (index : ℕ) → (IsIn index (indices_of
+    codings) → ⊥)
+    → get_or (without_blocks codings kept) index [] ≡ get_or kept index []
 unfolding without_blocks
-left-elsewhere [] held place n = refl
-left-elsewhere (c ∷ more) held place n =
-    grind (arith, common_steps, get_or-set_other, left-elsewhere more (set held c.place []) place (λ i. n (inr i)))
+left-elsewhere [] kept index n = refl
+left-elsewhere (c ∷ more) kept index n =
+    grind (
+      arith,
+      common_steps,
+      get_or-set_other,
+      left-elsewhere more (set kept c.index []) index
+          (λ i. n (inr i)),
+    )
 
 -- A place elsewhere may be set before or after.
-set-after : (codings : List Coding) (held : Arrays) (place : ℕ) (blocks : List Block)
-    → (IsIn place (places_of codings) → ⊥)
-    → set (without_blocks codings held) place blocks ≡ without_blocks codings (set held place blocks)
+set-after : (codings : List Coding) (kept : Arrays) (index : ℕ) (blocks : List Block)
+    → (IsIn index (indices_of codings) → ⊥)
+    → set (without_blocks codings kept) index blocks ≡ without_blocks codings (set kept index
+    blocks)
 unfolding without_blocks
-set-after [] held place blocks n = refl
-set-after (c ∷ more) held place blocks n =
-    grind (arith, common_steps, set_comm, set-after more (set held c.place []) place blocks (λ i. n (inr i)))
+set-after [] kept index blocks n = refl
+set-after (c ∷ more) kept index blocks n =
+    grind (
+      arith,
+      common_steps,
+      set_comm,
+      set-after more (set kept c.index []) index blocks (λ i. n
+          (inr i)),
+    )
 
 -- The blocks of a scan's components are put in the same places, whether those were emptied before or not.
-pub put-back : (codings : List Coding) (arrays held : Arrays) → AreApart (places_of codings)
+pub put-back : (codings : List Coding) (arrays kept : Arrays) → AreApart (indices_of codings)
     → length arrays ≡ length codings
-    → put_arrays codings arrays (without_blocks codings held) ≡ put_arrays codings arrays held
+    → put_arrays codings arrays (without_blocks codings kept) ≡ put_arrays codings arrays kept
 unfolding put_arrays without_blocks
-put-back [] arrays held apart e = refl
-put-back (c ∷ more) [] held apart e = absurd (omega arith)
-put-back (c ∷ more) (blocks ∷ arrays) held apart e =
+put-back [] arrays kept apart e = refl
+put-back (c ∷ more) [] kept apart e = absurd (omega arith)
+put-back (c ∷ more) (blocks ∷ arrays) kept apart e =
     grind (
       arith,
       common_steps,
       set-after,
       set-set,
-      put-back more arrays (set (set held c.place []) c.place blocks) apart.1 (omega arith),
+      put-back more arrays (set (set kept c.index []) c.index blocks) apart.1 (omega arith),
     )
 
 -- ---- one component more
 
-left-one : (codings : List Coding) (c : Coding) (held : Arrays)
-    → without_blocks (codings ++ c ∷ []) held ≡ set (without_blocks codings held) c.place []
+left-one : (codings : List Coding) (c : Coding) (kept : Arrays)
+    → without_blocks (codings ++ c ∷ []) kept ≡ set (without_blocks codings kept) c.index []
 unfolding without_blocks
-left-one [] c held = refl
-left-one (d ∷ more) c held = left-one more c (set held d.place [])
+left-one [] c kept = refl
+left-one (d ∷ more) c kept = left-one more c (set kept d.index [])
 
 more-codings : (cs : List Coded) (i : ℕ) (c : Coded) → i < length cs → c ≡ get_or cs i c
     → map coding_in (take (i + 1) cs) ≡ map coding_in (take i cs) ++ coding_in c ∷ []
 more-codings cs i c h e = grind (arith, common_steps, take_more, map-append)
 
 not-before : (cs : List Coded) (i : ℕ) (c : Coded) → i < length cs → c ≡ get_or cs i c
-    → AreApart (map (λ (x : Coded). x.place) cs) → IsIn c.place (places_of (map coding_in (take i cs))) → ⊥
+    → AreApart (map (λ (x : Coded). x.index) cs) → IsIn c.index (indices_of (map coding_in (take i
+    cs))) → ⊥
 not-before [] i c h e apart n = absurd (omega arith)
 not-before (x ∷ cs) zero c h e apart n = n
-not-before (x ∷ cs) (suc i) c h e apart (inl same) = apart.0 (is-in cs i c x.place (omega arith) e (sym same))
+not-before (x ∷ cs) (suc i) c h e apart (inl same) = apart.0 (is-in cs i c x.index (omega arith) e
+    (sym same))
   where
-    is-in : (cs : List Coded) (i : ℕ) (c : Coded) (p : ℕ) → i < length cs → c ≡ get_or cs i c → c.place ≡ p
-        → IsIn p (map (λ (x : Coded). x.place) cs)
+    is-in : (cs : List Coded) (i : ℕ) (c : Coded) (p : ℕ) → i < length cs → c ≡ get_or cs i c →
+        c.index ≡ p
+        → IsIn p (map (λ (x : Coded). x.index) cs)
     is-in [] i c p h e same = absurd (omega arith)
-    is-in (x ∷ cs) zero c p h e same = inl (ap (λ (y : Coded). y.place) (sym e) ∙ same)
+    is-in (x ∷ cs) zero c p h e same = inl (ap (λ (y : Coded). y.index) (sym e) ∙ same)
     is-in (x ∷ cs) (suc i) c p h e same = inr (is-in cs i c p (omega arith) e same)
 not-before (x ∷ cs) (suc i) c h e apart (inr n) = not-before cs i c (omega arith) e apart.1 n
 
@@ -86,8 +103,8 @@ blocks-of (x ∷ vs) (suc i) v h e = blocks-of vs i v (omega arith) e
 
 -- one component more is taken
 pub taken-more : (cs : List Coded) (i : ℕ) (c : Coded) (old now taken : List Held) (v : Held) → i < length cs
-    → c ≡ get_or cs i c → AreApart (map (λ (x : Coded). x.place) cs)
-    → c.place < length now → v ≡ get_or now c.place v
+    → c ≡ get_or cs i c → AreApart (map (λ (x : Coded). x.index) cs)
+    → c.index < length now → v ≡ get_or now c.index v
     → arrays_in now ≡ without_blocks (map coding_in (take i cs)) (arrays_in old)
     → arrays_in taken ≡ blocks_at (map coding_in (take i cs)) (arrays_in old)
     → arrays_in (taken ++ v ∷ []) ≡ blocks_at (map coding_in (take (i + 1) cs)) (arrays_in old)
@@ -98,7 +115,8 @@ taken-more cs i c old now taken v h e apart within is left so_far =
 pub left-more : (cs : List Coded) (i : ℕ) (c : Coded) (old now : List Held) (empty : Held) → i < length cs
     → c ≡ get_or cs i c → empty.items ≡ []
     → arrays_in now ≡ without_blocks (map coding_in (take i cs)) (arrays_in old)
-    → arrays_in (set now c.place empty) ≡ without_blocks (map coding_in (take (i + 1) cs)) (arrays_in old)
+    → arrays_in (set now c.index empty) ≡ without_blocks (map coding_in (take (i + 1) cs))
+    (arrays_in old)
 left-more cs i c old now empty h e none left = grind (arith, common_steps, map-set, more-codings, left-one)
 
 -- before the first, and after the last

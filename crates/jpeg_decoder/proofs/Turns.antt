@@ -148,7 +148,8 @@ samples-go : (limit : ℕ) (found : Found) (frame : Frame) (scan : Scan) (bytes 
     → On (Below limit) (lossless_scan found frame scan bytes)
 unfolding lossless_scan
 samples-go limit found frame scan bytes p =
-    on-needs (Below limit) (lossless_codings found.huffman.dc frame scan.components scan.dc_places) _ (λ codings.
+    on-needs (Below limit) (lossless_codings found.huffman.dc frame scan.components
+    scan.dc_destinations) _ (λ codings.
     on-bind (Below limit) limit (scan_samples found frame scan codings bytes) _ (samples-below limit _ _ _ _ bytes p)
     (λ read q.
     goes-passes limit (after_restarts (suc (length read.1)) read.0.1 read.1) _ (after-passes limit read.0.1 read.1 q)

@@ -43,7 +43,8 @@ use Rattle.jpeg_streams.proofs.ReadTurns.{segment-starts, scan-starts, end-start
 use Rattle.jpeg_streams.proofs.LosslessFrames.{IsShaped, header-shaped, lossless-accepted}
 use Rattle.jpeg_streams.proofs.SaidTables.{HasTables, no-tables, segment-tables}
 use Rattle.jpeg_streams.proofs.WrittenMarkers.{marker-append, marker_for, segment-marker}
-use Rattle.jpeg_decoder.proofs.WrittenSamples.{and_samples, components-of, places_of, planes_for, scan-read}
+use Rattle.jpeg_decoder.proofs.WrittenSamples.{and_samples, components-of, indices_of, planes_for}
+use Rattle.jpeg_decoder.proofs.WrittenSamples.{scan-read}
 use Rattle.jpeg_decoder.proofs.WrittenSamples.{turn_after}
 use Rattle.jpeg_decoder.proofs.LosslessReads.{all-below}
 use Rattle.std.proofs.lemmas.Grind.{common_steps}
@@ -51,8 +52,9 @@ use Rattle.std.proofs.lemmas.Grind.{common_steps}
 -- ---- samples that are decided
 
 -- the samples at these places are those that were written
-abbrev pub AreHeld : Samples → List (Option (List ℕ)) → List ℕ → Type 0
-AreHeld samples decided sent = AllByRecursion (λ k. slice_index_or decided k None ≡ Some (concat (samples k))) sent
+abbrev pub AreKept : Samples → List (Option (List ℕ)) → List ℕ → Type 0
+AreKept samples decided sent = AllByRecursion (λ k. slice_index_or decided k None ≡ Some (concat
+    (samples k))) sent
 
 set-keeps : {A : Type 0} (v : ℕ → A) (xs : List A) (j k : ℕ) (d : A) → get_or xs k d ≡ v k
     → get_or (set xs j (v j)) k d ≡ v k
@@ -60,28 +62,35 @@ set-keeps v (x ∷ xs) zero zero d h = refl
 set-keeps v (x ∷ xs) (suc j) (suc k) d h = set-keeps (λ n. v (suc n)) xs j k d h
 set-keeps v _ _ _ d h = h
 
-with-keeps : (samples : Samples) (places : List ℕ) (decided : List (Option (List ℕ))) (k : ℕ)
+with-keeps : (samples : Samples) (indices : List ℕ) (decided : List (Option (List ℕ))) (k : ℕ)
     → slice_index_or decided k None ≡ Some (concat (samples k))
-    → slice_index_or (with_samples places (planes_for samples places) decided) k None ≡ Some (concat (samples k))
+    → slice_index_or (with_samples indices (planes_for samples indices) decided) k None ≡ Some
+    (concat (samples k))
 unfolding with_samples
 with-keeps samples [] decided k h = h
-with-keeps samples (p ∷ places) decided k h =
-    with-keeps samples places (slice_set decided p (Some (concat (samples p)))) k
+with-keeps samples (p ∷ indices) decided k h =
+    with-keeps samples indices (slice_set decided p (Some (concat (samples p)))) k
     (set-keeps (λ n. Some (concat (samples n))) decided p k None h)
 
-with-length : (samples : Samples) (places : List ℕ) (decided : List (Option (List ℕ)))
-    → length (with_samples places (planes_for samples places) decided) ≡ length decided
+with-length : (samples : Samples) (indices : List ℕ) (decided : List (Option (List ℕ)))
+    → length (with_samples indices (planes_for samples indices) decided) ≡ length decided
 unfolding with_samples
 with-length samples [] decided = refl
-with-length samples (p ∷ places) decided =
-    search (rules, arith, length-set, with-length samples places (slice_set decided p (Some (concat (samples p)))))
+with-length samples (p ∷ indices) decided =
+    search (
+      rules,
+      arith,
+      length-set,
+      with-length samples indices (slice_set decided p (Some
+          (concat (samples p)))),
+    )
 
-with-there : (samples : Samples) (places : List ℕ) (decided : List (Option (List ℕ)))
-    → AllByRecursion (λ k. k < length decided) places
-    → AreHeld samples (with_samples places (planes_for samples places) decided) places
+with-there : (samples : Samples) (indices : List ℕ) (decided : List (Option (List ℕ)))
+    → AllByRecursion (λ k. k < length decided) indices
+    → AreKept samples (with_samples indices (planes_for samples indices) decided) indices
 unfolding with_samples
 with-there samples [] decided h = tt
-with-there samples (p ∷ places) decided h =
+with-there samples (p ∷ indices) decided h =
     let next = slice_set decided p (Some (concat (samples p))) in
     grind (
       arith,
@@ -89,49 +98,52 @@ with-there samples (p ∷ places) decided h =
       with-keeps,
       get_or-set_same,
       length-set,
-      with-there samples places next
-          (subst (λ (n : ℕ). AllByRecursion (λ (k : ℕ). k < n) places) (sym
+      with-there samples indices next
+          (subst (λ (n : ℕ). AllByRecursion (λ (k : ℕ). k < n) indices) (sym
           (length-set decided p (Some (concat (samples p))))) h.1),
     )
 
-held-append : (samples : Samples) (decided : List (Option (List ℕ))) (xs ys : List ℕ) → AreHeld samples decided xs
-    → AreHeld samples decided ys → AreHeld samples decided (xs ++ ys)
-held-append samples decided [] ys h g = g
-held-append samples decided (x ∷ xs) ys h g = (h.0, held-append samples decided xs ys h.1 g)
+kept-append : (samples : Samples) (decided : List (Option (List ℕ))) (xs ys : List ℕ) → AreKept
+    samples decided xs
+    → AreKept samples decided ys → AreKept samples decided (xs ++ ys)
+kept-append samples decided [] ys h g = g
+kept-append samples decided (x ∷ xs) ys h g = (h.0, kept-append samples decided xs ys h.1 g)
 
-all-kept : (samples : Samples) (places : List ℕ) (decided : List (Option (List ℕ))) (sent : List ℕ)
-    → AreHeld samples decided sent
-    → AreHeld samples (with_samples places (planes_for samples places) decided) sent
-all-kept samples places decided [] h = tt
-all-kept samples places decided (k ∷ sent) h =
-    (with-keeps samples places decided k h.0, all-kept samples places decided sent h.1)
+all-kept : (samples : Samples) (indices : List ℕ) (decided : List (Option (List ℕ))) (sent : List ℕ)
+    → AreKept samples decided sent
+    → AreKept samples (with_samples indices (planes_for samples indices) decided) sent
+all-kept samples indices decided [] h = tt
+all-kept samples indices decided (k ∷ sent) h =
+    (with-keeps samples indices decided k h.0, all-kept samples indices decided sent h.1)
 
-held-after : (samples : Samples) (places : List ℕ) (decided : List (Option (List ℕ))) (sent : List ℕ)
-    → AllByRecursion (λ k. k < length decided) places
-    → AreHeld samples decided sent
-    → AreHeld samples (with_samples places (planes_for samples places) decided) (places ++ sent)
-held-after samples places decided sent h g = search (rules, held-append, with-there, all-kept)
+blocks-after : (samples : Samples) (indices : List ℕ) (decided : List (Option (List ℕ))) (sent :
+    List ℕ)
+    → AllByRecursion (λ k. k < length decided) indices
+    → AreKept samples decided sent
+    → AreKept samples (with_samples indices (planes_for samples indices) decided) (indices ++ sent)
+blocks-after samples indices decided sent h g = search (rules, kept-append, with-there, all-kept)
 
-one-held : (P : ℕ → Type 0) (k : ℕ) (sent : List ℕ) → AllByRecursion P sent → IsIn k sent → P k
-one-held P k [] h e = absurd e
-one-held P k (x ∷ sent) h (inl e) = subst P e h.0
-one-held P k (x ∷ sent) h (inr e) = one-held P k sent h.1 e
+one-kept : (P : ℕ → Type 0) (k : ℕ) (sent : List ℕ) → AllByRecursion P sent → IsIn k sent → P k
+one-kept P k [] h e = absurd e
+one-kept P k (x ∷ sent) h (inl e) = subst P e h.0
+one-kept P k (x ∷ sent) h (inr e) = one-kept P k sent h.1 e
 
 pub all-in : (P : ℕ → Type 0) (ks sent : List ℕ) → AllByRecursion P sent → AllByRecursion (λ k. IsIn k sent) ks
     → AllByRecursion P ks
 all-in P [] sent h e = tt
-all-in P (k ∷ ks) sent h e = (one-held P k sent h e.0, all-in P ks sent h e.1)
+all-in P (k ∷ ks) sent h e = (one-kept P k sent h e.0, all-in P ks sent h e.1)
 
 -- ---- segments
 
-segment-held : (before : Before) (said : Found) (decided : List (Option (List ℕ))) (s : Segment) (rest : List ℕ)
+segment-kept : (before : Before) (said : Found) (decided : List (Option (List ℕ))) (s : Segment)
+    (rest : List ℕ)
     → StandsInLossless said s
     → segment_at (marker_for s) before (and_samples said decided)
     (with_length (payload_of s) ++ rest) ≡ Ok (
       onward (and_samples (found_after said s) decided),
       rest,
     )
-segment-held before said decided s rest may =
+segment-kept before said decided s rest may =
     grind (arith, common_steps, frame-turn, and_samples, lossless-accepted, segment-read)
 
 -- ---- what begins with a marker
@@ -178,7 +190,7 @@ record Ends (samples : Samples) (turns : ℕ) (before : Before) (said final : Fo
   frame : Frame
   framed : final.frame ≡ Some frame
   lossless : frame.process ≡ Lossless
-  held : AreHeld samples last (range_with_len 0 (length frame.components))
+  kept : AreKept samples last (range_with_len 0 (length frame.components))
 
 after-turn : (samples : Samples) (turns : ℕ) (before next : Before) (said between final : Found)
     (decided others : List (Option (List ℕ))) (met after : Option Marker) (all left rest : List ℕ)
@@ -187,12 +199,20 @@ after-turn : (samples : Samples) (turns : ℕ) (before next : Before) (said betw
     → Ends samples turns next between final others after left rest
     → Ends samples (suc turns) before said final decided met all rest
 after-turn samples turns before next said between final decided others met after all left rest e f =
-    record { last = f.last; is = e ∙ f.is; frame = f.frame; framed = f.framed; lossless = f.lossless; held = f.held }
+    record {
+      last = f.last;
+      is = e ∙ f.is;
+      frame = f.frame;
+      framed = f.framed;
+      lossless =
+          f.lossless;
+      kept = f.kept;
+    }
 
 abbrev Reads : Samples → List ℕ → ℕ → Found → Found → List ℕ → List ℕ → Type 0
 Reads samples rest turns said final sent bytes =
     (before : Before) (decided : List (Option (List ℕ))) (met : Option Marker) (all : List ℕ) → IsSaid said
-    → length decided ≡ 4 → AreHeld samples decided sent → StandsAt met all (bytes ++ rest)
+    → length decided ≡ 4 → AreKept samples decided sent → StandsAt met all (bytes ++ rest)
     → Ends samples turns before said final decided met all rest
 
 closed-read : (samples : Samples) (rest : List ℕ) (turns : ℕ) (said : Found) (sent : List ℕ) (frame : Frame)
@@ -200,7 +220,8 @@ closed-read : (samples : Samples) (rest : List ℕ) (turns : ℕ) (said : Found)
     → AllByRecursion (λ k. IsIn k sent) (range_with_len 0 (length frame.components))
     → Reads samples rest (suc turns) said said sent (marker fill 217 [])
 unfolding marker_of
-closed-read samples rest turns said sent frame fill framed lossless sends before decided met all is four held stands =
+closed-read samples rest turns said sent frame fill framed lossless sends before decided met all is
+    four kept stands =
     record {
       last = decided;
       is = turn-end turns before (and_samples said decided) met all rest (record {
@@ -216,7 +237,7 @@ closed-read samples rest turns said sent frame fill framed lossless sends before
       frame = frame;
       framed = framed;
       lossless = lossless;
-      held = grind (arith, common_steps, all-in);
+      kept = grind (arith, common_steps, all-in);
     }
 
 segment-next : (samples : Samples) (rest : List ℕ) (turns : ℕ) (said final : Found) (sent : List ℕ) (fill : ℕ)
@@ -224,7 +245,8 @@ segment-next : (samples : Samples) (rest : List ℕ) (turns : ℕ) (said final :
     → Reads samples rest turns (found_after said s) final sent more
     → Reads samples rest (suc turns) said final sent (marker fill (marker_code s) (with_length
     (payload_of s) ++ more))
-segment-next samples rest turns said final sent fill s more may again before decided met all is four held stands =
+segment-next samples rest turns said final sent fill s more may again before decided met all is
+    four kept stands =
     after-turn samples turns before Elsewhere said (found_after said s) final decided decided met None all
     (more ++ rest) rest
     (turn-on turns before (and_samples said decided) met all (more ++ rest)
@@ -233,34 +255,42 @@ segment-next samples rest turns said final sent fill s more may again before dec
     (segment-tail fill (marker_code s) (with_length (payload_of s)) more rest)
     ∙ marker-turn before (and_samples said decided) fill (marker_code s) (marker_for s)
     (with_length (payload_of s) ++ (more ++ rest)) (segment-marker said.frame s may.0)
-    ∙ segment-held before said decided s (more ++ rest) may) refl)
-    (again Elsewhere decided None (more ++ rest) (segment-said said s may is) four held (stands-here (more ++ rest)))
+    ∙ segment-kept before said decided s (more ++ rest) may) refl)
+    (again Elsewhere decided None (more ++ rest) (segment-said said s may is) four kept
+    (stands-here (more ++ rest)))
 
-places-below : (frame : Frame) (h : ScanHeader) → IsScan frame h
-    → AllByRecursion (λ k. k < length frame.components) (places_of h.choices)
+indices-below : (frame : Frame) (h : ScanHeader) → IsScan frame h
+    → AllByRecursion (λ k. k < length frame.components) (indices_of h.choices)
 unfolding scan_of
-places-below frame h is = grind (arith, common_steps, components-of, recursion_from_All, header-rules)
+indices-below frame h is = grind (
+  arith,
+  common_steps,
+  components-of,
+  recursion_from_All,
+  header-rules,
+)
 
 scan-next : (samples : Samples) (rest : List ℕ) (turns : ℕ) (said final : Found) (sent : List ℕ) (frame : Frame)
     (fill : ℕ) (h : ScanHeader) (data_bytes more : List ℕ)
     → said.frame ≡ Some frame → frame.process ≡ Lossless → IsScan frame h
     → WritesSamplesScan said frame h samples data_bytes → Starts more
-    → Reads samples rest turns (said_after_scan said) final (places_of h.choices ++ sent) more
+    → Reads samples rest turns (said_after_scan said) final (indices_of h.choices ++ sent) more
     → Reads samples rest (suc turns) said final sent (marker fill 218 (with_length (scan_payload h)
     ++ (data_bytes ++ more)))
 unfolding marker_of
 scan-next samples rest turns said final sent frame fill h data_bytes more framed lossless header w s again before
-    decided met all is four held stands =
+    decided met all is four kept stands =
     let shaped = is.shaped frame framed in
     let few = shaped.few in
-    let places = places_of h.choices in
-    let next = with_samples places (planes_for samples places) decided in
+    let indices = indices_of h.choices in
+    let next = with_samples indices (planes_for samples indices) decided in
     let left = s.after ++ rest in
     let there : more ++ rest ≡ marker s.fill s.code left = ap (λ (l : List ℕ). l ++ rest) s.is
     ∙ marker-append s.fill s.code s.after rest in
     after-turn samples turns before (scan_before said) said (said_after_scan said) final decided next met (Some s.m) all
     left rest
-    (turn-on turns before (and_samples said decided) met all left (turn_after said places samples decided s.m)
+    (turn-on turns before (and_samples said decided) met all left (turn_after said indices samples
+    decided s.m)
     (stands.turn before (and_samples said decided)
     ∙ ap (turn_at before (and_samples said decided) None) (scan-tail fill 218 (with_length
     (scan_payload h)) data_bytes more
@@ -273,12 +303,13 @@ scan-next samples rest turns said final sent frame fill h data_bytes more framed
     ∙ scan-read said decided frame h samples data_bytes left s.fill s.code s.m w framed header lossless shaped is.tables
     s.makes s.ends) refl)
     (again (scan_before said) next (Some s.m) left (record { tables = is.tables; shaped = is.shaped })
-    (with-length samples places decided ∙ four)
-    (held-after samples places decided sent (all-below (length frame.components) (length decided) places (omega (
+    (with-length samples indices decided ∙ four)
+    (blocks-after samples indices decided sent (all-below (length frame.components) (length
+    decided) indices (omega (
       arith,
       few,
       four,
-    )) (places-below frame h header)) held)
+    )) (indices-below frame h header)) kept)
     (subst (StandsAt (Some s.m) left) (sym there) (stands-met s.fill s.code s.m left s.makes)))
 
 stream-read : (samples : Samples) (rest : List ℕ) (turns : ℕ) (said : Found) (sent bytes : List ℕ) (final : Found)
@@ -294,8 +325,9 @@ stream-read samples rest (suc turns) said sent bytes final (segment said' final'
 stream-read samples rest (suc turns) said sent bytes final (scan said' final' sent' frame fill h' data_bytes more framed
     lossless is data_of w) h =
     scan-next samples rest turns said final sent frame fill h' data_bytes more framed lossless is data_of
-    (starts samples (said_after_scan said) (places_of h'.choices ++ sent) more final w)
-    (stream-read samples rest turns (said_after_scan said) (places_of h'.choices ++ sent) more final w
+    (starts samples (said_after_scan said) (indices_of h'.choices ++ sent) more final w)
+    (stream-read samples rest turns (said_after_scan said) (indices_of h'.choices ++ sent) more
+    final w
     (scan-longer fill 218 turns (with_length (scan_payload h')) data_bytes more h))
 
 -- ---- the picture
@@ -305,21 +337,29 @@ abbrev pub drawn : Frame → Samples → List ℕ
 drawn frame samples = lossless_picture frame
     (planes_for samples (range_with_len 0 (length frame.components)))
 
-planes-there : (decided : List (Option (List ℕ))) (samples : Samples) (place : ℕ) (cs : List Component)
-    → AreHeld samples decided (range_with_len place (length cs))
-    → samples_from decided place cs ≡ Ok (planes_for samples (range_with_len place (length cs)))
+planes-there : (decided : List (Option (List ℕ))) (samples : Samples) (index : ℕ) (cs : List
+    Component)
+    → AreKept samples decided (range_with_len index (length cs))
+    → samples_from decided index cs ≡ Ok (planes_for samples (range_with_len index (length cs)))
 unfolding samples_from
-planes-there decided samples place [] h = refl
-planes-there decided samples place (c ∷ cs) h =
-    grind (arith, common_steps, then-ok, planes_for, planes-there decided samples (place + 1) cs h.1)
+planes-there decided samples index [] h = refl
+planes-there decided samples index (c ∷ cs) h =
+    grind (
+      arith,
+      common_steps,
+      then-ok,
+      planes_for,
+      planes-there decided samples (index + 1) cs
+          h.1,
+    )
 
 picture-there : (settings : Settings) (found : Found) (samples : Samples) (frame : Frame)
     → found.frame ≡ Some frame → frame.process ≡ Lossless
     → length frame.components * (frame.output_width * frame.output_height) ≤ settings.limit
-    → AreHeld samples found.samples (range_with_len 0 (length frame.components))
+    → AreKept samples found.samples (range_with_len 0 (length frame.components))
     → picture_of settings found ≡ Ok (drawn frame samples)
 unfolding picture_of samples_picture
-picture-there settings found samples frame framed lossless within held =
+picture-there settings found samples frame framed lossless within kept =
     grind (arith, common_steps, then-ok, not-refused, le-ltb, planes-there)
 
 -- what a caller is given of a picture
@@ -358,12 +398,14 @@ rest-read samples settings bytes rest said final frame w is framed within =
     let e = stream-read samples rest (suc (length (bytes ++ rest))) said [] bytes final w (omega (arith, long))
     Elsewhere (replicate 4 None) None (bytes ++ rest) is refl tt (stands-here (bytes ++ rest)) in
     let same : e.frame ≡ frame = some-same e.frame frame (sym e.framed ∙ framed) in
-    let held = subst (λ (f : Frame). AreHeld samples e.last (range_with_len 0 (length f.components))) same e.held in
+    let kept = subst (λ (f : Frame). AreKept samples e.last (range_with_len 0 (length
+    f.components))) same e.kept in
     let lossless = subst (λ (f : Frame). f.process ≡ Lossless) same e.lossless in
     then-ok (segments_within (suc (length (bytes ++ rest))) false Elsewhere (and_samples said (replicate 4 None)) None
     (bytes ++ rest)) _ (and_samples final e.last, rest) _ e.is
     (then-ok (picture_of settings (and_samples final e.last)) _ (drawn frame samples) _
-    (picture-there settings (and_samples final e.last) samples frame framed lossless within held) refl)
+    (picture-there settings (and_samples final e.last) samples frame framed lossless within kept)
+    refl)
 
 -- A stream that was written for samples means their picture, and what stands after it is left.
 pub samples-meant : (settings : Settings) (samples : Samples) (bytes rest : List ℕ) (final : Found) (frame : Frame)
@@ -445,7 +487,7 @@ header-read samples rest decided (suc turns) before said sent bytes final (segme
     rest)
     ∙ marker-turn before (and_samples said decided) fill (marker_code s) (marker_for s)
     (with_length (payload_of s) ++ (more ++ rest)) (segment-marker said.frame s may.0)
-    ∙ segment-held before said decided s (more ++ rest) may) refl in
+    ∙ segment-kept before said decided s (more ++ rest) may) refl in
     frame-or s
     (λ number h f.
     let framed : (found_after said s).frame ≡ Some (frame_written number h) =

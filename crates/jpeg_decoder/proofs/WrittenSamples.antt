@@ -24,7 +24,7 @@ use Rattle.jpeg_segments.proofs.Fields.{nibbles-low}
 use Rattle.jpeg_segments.proofs.HeaderSegments.{sos-read}
 use Rattle.jpeg_lossless.specs.Differences.{Part, lines_in, mcu_tables, strands, row_tables}
 use Rattle.jpeg_lossless.specs.Pictures.{most_across, most_down}
-use Rattle.jpeg_lossless.specs.Places.{AreEven}
+use Rattle.jpeg_lossless.specs.Positions.{AreEven}
 use Rattle.jpeg_lossless.specs.Scans.{Way, all_above, is_of_rows, is_one_interval, planes_of}
 use Rattle.jpeg_lossless.specs.Scans.{rows_of_interval, scan_at, shifted}
 use Rattle.jpeg_lossless.specs.Written.{AreGrids, AreLines, AreSamples, AreTables, HaveDifferences}
@@ -170,19 +170,19 @@ AllCover wide high _ _ = ⊥
 all-sized : (w : Way) (high : ℕ) (samples : Samples) (codings : List LosslessCoding) (parts : List Part)
     (lines : List (List (List ℕ))) → AllCover w.wide high codings parts → AreGrids w parts lines
     → AreCounted high parts lines → HoldSamples samples codings parts lines
-    → AllByRecursion (λ k. HasSize (samples k.place) k.component) codings
+    → AllByRecursion (λ k. HasSize (samples k.index) k.component) codings
 unfolding HoldSamples
-all-sized w high samples [] parts lines cover grid count held = tt
-all-sized w high samples (k ∷ codings) [] lines cover grid count held = absurd cover
-all-sized w high samples (k ∷ codings) (p ∷ parts) [] cover grid count held = absurd count
-all-sized w high samples (k ∷ codings) (p ∷ parts) (l ∷ lines) cover grid count held =
+all-sized w high samples [] parts lines cover grid count kept = tt
+all-sized w high samples (k ∷ codings) [] lines cover grid count kept = absurd cover
+all-sized w high samples (k ∷ codings) (p ∷ parts) [] cover grid count kept = absurd count
+all-sized w high samples (k ∷ codings) (p ∷ parts) (l ∷ lines) cover grid count kept =
     grind (
       arith,
       common_steps,
       length-map,
       length-take-le,
       own-even,
-      all-sized w high samples codings parts lines cover.1 grid.1 count.1 held.1,
+      all-sized w high samples codings parts lines cover.1 grid.1 count.1 kept.1,
     )
 
 all-among : (frame : Frame) (codings : List LosslessCoding) → AllByRecursion (λ k. IsMade frame k.component) codings
@@ -201,8 +201,8 @@ all-cover frame (k ∷ j ∷ codings) h = all-among frame (k ∷ j ∷ codings) 
 -- ---- the planes of a scan are its samples
 
 -- the components at these places
-abbrev pub places_of : List Choice → List ℕ
-places_of choices = map (λ c. c.component) choices
+abbrev pub indices_of : List Choice → List ℕ
+indices_of choices = map (λ c. c.component) choices
 
 shifted-none : (x : ℕ) → x < 65536 → shifted 0 x ≡ x
 shifted-none x h = omega arith
@@ -227,11 +227,11 @@ own-samples n wide _ _ h = tt
 
 -- the samples of the components at some places
 abbrev pub planes_for : Samples → List ℕ → List (List ℕ)
-planes_for samples places = map (λ k. concat (samples k)) places
+planes_for samples indices = map (λ k. concat (samples k)) indices
 
 planes-are : (samples : Samples) (w : Way) (codings : List LosslessCoding) (parts : List Part)
     (lines : List (List (List ℕ))) → AreGrids w parts lines → HoldSamples samples codings parts lines
-    → planes_of 0 parts lines ≡ map (λ k. concat (samples k.place)) codings
+    → planes_of 0 parts lines ≡ map (λ k. concat (samples k.index)) codings
 unfolding planes_of HoldSamples
 planes-are samples w [] [] [] g h = refl
 planes-are samples w (k ∷ codings) (p ∷ parts) (l ∷ lines) g h =
@@ -251,15 +251,20 @@ codings-read said frame from (c ∷ choices) (k ∷ codings) h =
     search (rules, arith, then-ok, codings-read said frame from choices codings h.1)
 codings-read said frame from _ _ h = absurd h
 
-places-are : (said : Found) (frame : Frame) (choices : List Choice) (codings : List LosslessCoding)
-    → AreCodings said frame choices codings → map (λ k. k.place) codings ≡ places_of choices
+indices-are : (said : Found) (frame : Frame) (choices : List Choice) (codings : List LosslessCoding)
+    → AreCodings said frame choices codings → map (λ k. k.index) codings ≡ indices_of choices
 unfolding AreCodings
-places-are said frame [] [] h = refl
-places-are said frame (c ∷ choices) (k ∷ codings) h = search (rules, arith, places-are said frame choices codings h.1)
-places-are said frame _ _ h = absurd h
+indices-are said frame [] [] h = refl
+indices-are said frame (c ∷ choices) (k ∷ codings) h = search (
+  rules,
+  arith,
+  indices-are said frame
+      choices codings h.1,
+)
+indices-are said frame _ _ h = absurd h
 
 planes-placed : (samples : Samples) (codings : List LosslessCoding)
-    → map (λ k. concat (samples k.place)) codings ≡ planes_for samples (map (λ k. k.place) codings)
+    → map (λ k. concat (samples k.index)) codings ≡ planes_for samples (map (λ k. k.index) codings)
 planes-placed samples [] = refl
 planes-placed samples (k ∷ codings) = grind (arith, common_steps, planes-placed samples codings)
 
@@ -281,8 +286,8 @@ same-component a b e = cc
 
 choices-sized : (samples : Samples) (said : Found) (frame : Frame) (choices : List Choice)
     (codings : List LosslessCoding) → AreCodings said frame choices codings
-    → AllByRecursion (λ k. HasSize (samples k.place) k.component) codings
-    → AllByRecursion (SizedAt samples frame.components) (places_of choices)
+    → AllByRecursion (λ k. HasSize (samples k.index) k.component) codings
+    → AllByRecursion (SizedAt samples frame.components) (indices_of choices)
 unfolding AreCodings
 choices-sized samples said frame [] codings h all = tt
 choices-sized samples said frame (c ∷ choices) [] h all = absurd h
@@ -332,7 +337,7 @@ tables-of-parts codings h = grind (arith, common_steps, mapped-tables)
 
 pub scan-sized : (said : Found) (frame : Frame) (h : ScanHeader) (samples : Samples) (bytes : List ℕ)
     → IsShaped frame → WritesSamplesScan said frame h samples bytes
-    → AllByRecursion (SizedAt samples frame.components) (places_of h.choices)
+    → AllByRecursion (SizedAt samples frame.components) (indices_of h.choices)
 scan-sized said frame h samples bytes is w =
     let way = way_of frame (predictor_by h.first) 0 w.codings in
     let high = mcus_down frame w.codings in
@@ -341,7 +346,7 @@ scan-sized said frame h samples bytes is w =
     (all-sized way high samples w.codings way.parts w.lines
     (all-cover frame w.codings (codings-made said frame h.choices w.codings is.made w.coded))
     (intervals-grids way per 0 high w.lines bytes w.written) (intervals-counted way per 0 high w.lines bytes w.written)
-    w.held)
+    w.kept)
 
 -- the scan of data and a marker after it
 data-read : (said : Found) (frame : Frame) (h : ScanHeader) (samples : Samples) (bytes rest : List ℕ)
@@ -350,7 +355,7 @@ data-read : (said : Found) (frame : Frame) (h : ScanHeader) (samples : Samples) 
     marker_of code ≡ Some m
     → scan_at (way_of frame (predictor_by h.first) 0 w.codings) (mcus_down frame w.codings) said.restart 0
     (bytes ++ marker fill code rest)
-    ≡ Ok ((planes_for samples (map (λ k. k.place) w.codings), Some m), rest)
+    ≡ Ok ((planes_for samples (map (λ k. k.index) w.codings), Some m), rest)
 data-read said frame h samples bytes rest fill code m w is all makes =
     let way = way_of frame (predictor_by h.first) 0 w.codings in
     let wide = mcus_across frame w.codings in
@@ -364,7 +369,8 @@ data-read said frame h samples bytes rest fill code m w is all makes =
     (record { is = makes }) w.written
     ∙ ap (λ (l : List (List ℕ)). Ok ((l, Some m), rest))
     (planes-are samples way w.codings way.parts w.lines
-    (intervals-grids way (rows_of_interval wide high said.restart) 0 high w.lines bytes w.written) w.held
+    (intervals-grids way (rows_of_interval wide high said.restart) 0 high w.lines bytes w.written)
+    w.kept
     ∙ planes-placed samples w.codings)
 
 -- ---- a scan
@@ -379,14 +385,15 @@ unfolding scan_of
 predictor-of frame h e = ap (λ (p : CodingProcess). predictor_of p h.first) e
 
 pub components-of : (frame : Frame) (choices : List Choice)
-    → map (λ s. s.component) (map (selector_for frame) choices) ≡ places_of choices
+    → map (λ s. s.component) (map (selector_for frame) choices) ≡ indices_of choices
 components-of frame [] = refl
 components-of frame (c ∷ choices) = ap (λ (l : List ℕ). c.component ∷ l) (components-of frame choices)
 
 -- what a scan leads to
 abbrev pub turn_after : Found → List ℕ → Samples → List (Option (List ℕ)) → Marker → Turn
-turn_after said places samples decided m = record {
-  found = and_samples (said_after_scan said) (with_samples places (planes_for samples places) decided);
+turn_after said indices samples decided m = record {
+  found = and_samples (said_after_scan said) (with_samples indices (planes_for samples indices)
+      decided);
   before = scan_before said;
   met = Some m;
   ended = false;
@@ -403,7 +410,17 @@ pub scan-read : (said : Found) (decided : List (Option (List ℕ))) (frame : Fra
     → frame.process ≡ Lossless → IsShaped frame → HasTables said.huffman → marker_of code ≡ Some m → IsEnd m
     → scan_segment (and_samples said decided) (with_length (scan_payload h) ++ (bytes ++ marker
     fill code rest))
-    ≡ Ok (turn_after said (places_of h.choices) samples decided m, rest)
+    ≡ Ok (turn_after said (indices_of h.choices) samples decided m, rest)
 unfolding scan_segment lossless_scan scan_of
 scan-read said decided frame h samples bytes rest fill code m w framed scan lossless is tables makes end =
-    grind (arith, common_steps, then-ok, sos-read, codings-read, predictor-of, point-of, data-read, places-are)
+    grind (
+      arith,
+      common_steps,
+      then-ok,
+      sos-read,
+      codings-read,
+      predictor-of,
+      point-of,
+      data-read,
+      indices-are,
+    )

@@ -30,16 +30,16 @@ part_by is_alone c table = record {
 }
 
 unfoldable pub parts_at : Bool → List Component → List ℕ → List Table → List Part
-parts_at is_alone components (place ∷ places) (table ∷ tables) =
-    part_by is_alone (get_or components place no_component) table
-    ∷ parts_at is_alone components places tables
+parts_at is_alone components (index ∷ indices) (table ∷ tables) =
+    part_by is_alone (get_or components index no_component) table
+    ∷ parts_at is_alone components indices tables
 parts_at is_alone components _ _ = []
 
 -- the MCUs of a scan of the components at these places, across and down
 unfoldable pub mcus_wide : Frame → List ℕ → ℕ
-mcus_wide frame (place ∷ []) = (get_or frame.components place no_component).width
-mcus_wide frame places = ceiling frame.width (most_across frame)
+mcus_wide frame (index ∷ []) = (get_or frame.components index no_component).width
+mcus_wide frame indices = ceiling frame.width (most_across frame)
 
 unfoldable pub mcus_high : Frame → List ℕ → ℕ
-mcus_high frame (place ∷ []) = (get_or frame.components place no_component).height
-mcus_high frame places = ceiling frame.height (most_down frame)
+mcus_high frame (index ∷ []) = (get_or frame.components index no_component).height
+mcus_high frame indices = ceiling frame.height (most_down frame)

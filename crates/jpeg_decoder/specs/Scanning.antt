@@ -74,7 +74,7 @@ pub record IsKeptBlock (sizes : List ℕ) (slot index : ℕ) : Type 0 where
 -- a spot of a scan of so many slots, whose block is held
 pub record IsSpotOf (slots : ℕ) (sizes : List ℕ) (s : Spot) : Type 0 where
   pub slot : s.slot < slots
-  pub held : IsKeptBlock sizes s.slot s.index
+  pub kept : IsKeptBlock sizes s.slot s.index
 
 -- ---- how many blocks a component has in a line, and how many lines in an MCU
 

@@ -35,7 +35,7 @@ use Rattle.jpeg_bits.specs.declared.codes.HuffmanTableClass.TheVariants as class
 use Rattle.jpeg_streams.specs.Needed.{first_of, needed}
 use Rattle.jpeg_streams.specs.ScanSegments.{component_coding, components_of, Coding, tables_of}
 use Rattle.jpeg_streams.specs.ScanSegments.{pass_of, after_restarts, finished_by, codings_from}
-use Rattle.jpeg_streams.specs.ScanSegments.{held_after, with_arrays, decided, arrays_before}
+use Rattle.jpeg_streams.specs.ScanSegments.{blocks_after, with_arrays, decided, arrays_before}
 use Rattle.jpeg_streams.specs.ScanSegments.{vias_from, after_samples, scan_samples}
 use Rattle.jpeg_streams.specs.Segments.{Turn}
 use Rattle.jpeg_streams.specs.Found.{Found, none_finished}
@@ -82,11 +82,11 @@ after_all met bytes = after_restarts (suc (length bytes)) met bytes
 
 -- the default tables at the places that a scan names, where a frame of an MJPEG stream was named
 abbrev pub default_dc : Bool → List ℕ → List (Option Table)
-default_dc is_mjpeg places = if is_mjpeg then with_defaults luminance_dc chrominance_dc places
+default_dc is_mjpeg named = if is_mjpeg then with_defaults luminance_dc chrominance_dc named
     (replicate 4 None) else []
 
 abbrev pub default_ac : Bool → List ℕ → List (Option Table)
-default_ac is_mjpeg places = if is_mjpeg then with_defaults luminance_ac chrominance_ac places
+default_ac is_mjpeg named = if is_mjpeg then with_defaults luminance_ac chrominance_ac named
     (replicate 4 None) else []
 
 -- the table at a place, or else the spare one there
@@ -95,8 +95,8 @@ or_spare (Some table) spare = Some table
 or_spare None spare = spare
 
 abbrev pub in_force : List (Option Table) → List (Option Table) → ℕ → Option Table
-in_force tables spare place = or_spare (slice_index_or tables place None)
-    (slice_index_or spare place None)
+in_force tables spare destination = or_spare (slice_index_or tables destination None)
+    (slice_index_or spare destination None)
 
 -- the table where it is needed, and else another
 abbrev pub table_if : Bool → Table → Option Table → Result Table Fault
@@ -107,7 +107,7 @@ table_if false other table = Ok other
 abbrev pub coding_in : Coded → Coding
 coding_in c =
     record {
-      place = c.place;
+      index = c.index;
       component = component_in c.component.now;
       quantization = c.quantization.now;
       dc = c.dc.now;
@@ -123,18 +123,19 @@ abbrev pub coding_in_slot : Found → Frame → headers.Scan → ℕ → Result 
 coding_in_slot found frame scan slot =
     component_coding found frame (pass_of scan) (tables_of found scan)
     (get_or scan.components slot 0)
-    (get_or scan.dc_places slot 0) (get_or scan.ac_places slot 0)
+    (get_or scan.dc_destinations slot 0) (get_or scan.ac_destinations slot 0)
 
 -- all of them
 abbrev pub codings_in_force : Found → Frame → headers.Scan → Result (List Coding) Fault
 codings_in_force found frame scan =
-    codings_from found frame (pass_of scan) (tables_of found scan) scan.components scan.dc_places
-    scan.ac_places
+    codings_from found frame (pass_of scan) (tables_of found scan) scan.components
+    scan.dc_destinations
+    scan.ac_destinations
 
 -- The spare tables of a scan: the default ones by what was said, and those without codes.
 pub record IsSpareOf (found : Found) (scan : headers.Scan) (spare : Spare) : Type 0 where
-  pub dc : spare.dc.items ≡ default_dc found.metadata.avi1 scan.dc_places
-  pub ac : spare.ac.items ≡ default_ac found.metadata.avi1 scan.ac_places
+  pub dc : spare.dc.items ≡ default_dc found.metadata.avi1 scan.dc_destinations
+  pub ac : spare.ac.items ≡ default_ac found.metadata.avi1 scan.ac_destinations
   pub no_dc : spare.no_dc ≡ no_table classes.DC
   pub no_ac : spare.no_ac ≡ no_table classes.AC
 
@@ -143,7 +144,7 @@ pub record IsSpareOf (found : Found) (scan : headers.Scan) (spare : Spare) : Typ
 -- a state with what scans have given
 abbrev pub with_decoded : Found → Decoded → Found
 with_decoded found d = record found {
-  held = arrays_in d.held.items;
+  kept = arrays_in d.kept.items;
   finished = d.finished;
   planes = d.planes;
   samples = planes_in d.samples;
@@ -152,14 +153,14 @@ with_decoded found d = record found {
 -- Planes with that of a component: where all of these places are finished the first one decides.
 unfoldable pub decided_planes : List Bool → ℕ → List ℕ → List (Option (List ℕ))
     → List (Option (List ℕ))
-decided_planes marks place plane planes = elim (list_all (λ mark. mark) marks) [
-  | true ↦ slice_set planes place (decided (slice_index_or planes place None) plane)
+decided_planes marks index plane planes = elim (list_all (λ mark. mark) marks) [
+  | true ↦ slice_set planes index (decided (slice_index_or planes index None) plane)
   | false ↦ planes
 ]
 
 -- the finished places of a component after a pass
 abbrev pub marks_after : Pass → List (List Bool) → ℕ → List Bool
-marks_after p finished place = finished_by p (slice_index_or finished place none_finished)
+marks_after p finished index = finished_by p (slice_index_or finished index none_finished)
 
 -- whether the plane of a component is decided now
 abbrev pub is_wanted : List Bool → Option (List ℕ) → Bool
@@ -167,20 +168,20 @@ is_wanted marks plane = list_all (λ mark. mark) marks && not (is_some plane)
 
 -- a component of the scan with its plane
 unfoldable pub with_its_plane : Pass → ℕ → List ℕ → Found → Found
-with_its_plane p place plane found = record found {
-  finished = slice_set found.finished place (marks_after p found.finished place);
-  planes = decided_planes (marks_after p found.finished place) place plane found.planes;
+with_its_plane p index plane found = record found {
+  finished = slice_set found.finished index (marks_after p found.finished index);
+  planes = decided_planes (marks_after p found.finished index) index plane found.planes;
 }
 
 -- each component of the scan with its plane
 unfoldable pub with_planes : Pass → List Coding → List (List ℕ) → Found → Found
 with_planes p (c ∷ codings) (plane ∷ planes) found =
-    with_planes p codings planes (with_its_plane p c.place plane found)
+    with_planes p codings planes (with_its_plane p c.index plane found)
 with_planes p _ _ found = found
 
 -- the blocks of a scan's components, of those of a frame
 abbrev pub blocks_at : List Coding → Arrays → Arrays
-blocks_at codings held = map (λ c. get_or held c.place []) codings
+blocks_at codings kept = map (λ c. get_or kept c.index []) codings
 
 -- the data of a scan: what is found after it, and the marker after it, if it is met
 unfoldable pub scan_data : Found → Frame → Pass → List Coding → List ℕ
@@ -193,7 +194,7 @@ scan_data found frame p codings bytes = do
     (
       with_arrays p codings r.0.0 (record found {
         scanned = true;
-        held = held_after found frame codings r.0.0;
+        kept = blocks_after found frame codings r.0.0;
       }),
       r.0.1,
     ),
@@ -201,24 +202,24 @@ scan_data found frame p codings bytes = do
   )
 
 -- the place of a component in its frame
-abbrev pub HasPlace : Coded → Type 0
-HasPlace c = c.place < 4
+abbrev pub HasIndex : Coded → Type 0
+HasIndex c = c.index < 4
 
 -- each place is above the one before
 abbrev pub AreRising : List Coding → Type 0
 AreRising [] = Unit {0}
 AreRising (c ∷ []) = Unit {0}
-AreRising (c ∷ d ∷ more) = (c.place < d.place) × AreRising (d ∷ more)
+AreRising (c ∷ d ∷ more) = (c.index < d.index) × AreRising (d ∷ more)
 
 -- a component of a scan is that of the frame at its place
 abbrev pub IsCodingOf : Frame → Coding → Type 0
-IsCodingOf frame c = first_of (drop c.place frame.components) ≡ Some c.component
+IsCodingOf frame c = first_of (drop c.index frame.components) ≡ Some c.component
 
 -- What a scan of a frame needs to be read, by what was found before.
 pub record IsReadable (frame : Frame) (found : Found) (scan : Scan) : Type 0 where
   pub restart : scan.restart_interval ≡ found.restart
   pub some : 1 ≤ length scan.components.items
-  pub places : All HasPlace scan.components.items
+  pub indices : All HasIndex scan.components.items
   pub fits : AllByRecursion (Fits frame) (components_in scan.components.items)
   pub of_frame : AllByRecursion (IsCodingOf frame) (map coding_in scan.components.items)
   pub rising : AreRising (map coding_in scan.components.items)
@@ -227,7 +228,7 @@ pub record IsReadable (frame : Frame) (found : Found) (scan : Scan) : Type 0 whe
 -- the components of a scan are those of the frame in their order
 abbrev pub IsInOrder : List Coded → Type 0
 IsInOrder codings = (slot : ℕ) (d : Coded) → slot < length codings
-    → (get_or codings slot d).place ≡ slot
+    → (get_or codings slot d).index ≡ slot
 
 -- No plane is decided, and a scan codes all coefficients of the components of its frame.
 pub record IsFirst (planes : List (Option (List ℕ))) (scan : Scan) : Type 0 where
@@ -237,8 +238,8 @@ pub record IsFirst (planes : List (Option (List ℕ))) (scan : Scan) : Type 0 wh
 
 -- those of the frame that are left
 unfoldable pub without_blocks : List Coding → Arrays → Arrays
-without_blocks [] held = held
-without_blocks (c ∷ more) held = without_blocks more (set held c.place [])
+without_blocks [] kept = kept
+without_blocks (c ∷ more) kept = without_blocks more (set kept c.index [])
 
 -- a plane of a component, cropped to a size as far as the plane goes
 abbrev pub cropped_to : Component → ℕ → ℕ → List ℕ → List ℕ
@@ -258,7 +259,7 @@ IsDct Lossless = ⊥
 unfoldable pub samples_read : Found → Frame → headers.Scan → List ℕ
     → Outcome (Found × Option Marker)
 samples_read found frame scan bytes = do
-  codings ← lossless_codings found.huffman.dc frame scan.components scan.dc_places
+  codings ← lossless_codings found.huffman.dc frame scan.components scan.dc_destinations
   r ← scan_samples found frame scan codings bytes
   met ← after_all r.0.1 r.1
   Ok ((after_samples found codings r.0.0, met.0), met.1)

@@ -15,9 +15,9 @@ ghost use Rattle.jpeg_decoder.specs.Steps.{coding_in_slot, default_dc, default_a
 ghost use Rattle.jpeg_decoder.specs.Steps.{HasScale, table_if};
 ghost use Rattle.jpeg_streams.specs.ScanSegments.{pass_of, is_progressive};
 
-use crate::places::{Missing, needed, table_at};
 use crate::scan::Coded;
 use crate::state::State;
+use crate::tables::{Missing, needed, table_at};
 use jpeg_bits::blocks::Pass;
 use jpeg_bits::codes::HuffmanTableClass;
 use jpeg_bits::error::Result;
@@ -154,8 +154,8 @@ pub fn spare_tables(
     frame: &FrameInfo,
     is_mjpeg: bool,
 ) -> Result<Spare>
-    ensures dc { IfOk result (λ s. s.dc.items ≡ default_dc is_mjpeg (scan_in header.now).dc_places) }
-    ensures ac { IfOk result (λ s. s.ac.items ≡ default_ac is_mjpeg (scan_in header.now).ac_places) }
+    ensures dc { IfOk result (λ s. s.dc.items ≡ default_dc is_mjpeg (scan_in header.now).dc_destinations) }
+    ensures ac { IfOk result (λ s. s.ac.items ≡ default_ac is_mjpeg (scan_in header.now).ac_destinations) }
     ensures no_dc { IfOk result (λ s. s.no_dc ≡ no_table DC) }
     ensures no_ac { IfOk result (λ s. s.no_ac ≡ no_table AC) }
     ensures err { IfErr result (λ e. e ≡ OutOfMemory) }
@@ -181,13 +181,13 @@ pub fn spare_tables(
 fn table_in_force<'a>(
     tables: &'a [Option<HuffmanTable>],
     spare: &'a [Option<HuffmanTable>],
-    place: usize,
+    index: usize,
 ) -> Option<&'a HuffmanTable>
-    ensures { option_copied result ≡ in_force tables.now spare.now place }
+    ensures { option_copied result ≡ in_force tables.now spare.now index }
 {
-    match table_at(tables, place) {
+    match table_at(tables, index) {
         Some(table) => Some(table),
-        None => table_at(spare, place),
+        None => table_at(spare, index),
     }
 }
 
@@ -230,9 +230,9 @@ fn coding_of<'a>(
         (λ c. coding_in_slot found frame scan slot ≡ Ok (coding_in c))
         (λ e. IsRefusal e × Names e (coding_in_slot found frame scan slot)) }
 {
-    let place = header.component_indices[slot];
-    let component = frame.components.get(place);
-    let component = needed(alloc, component, Missing::Component(place))?;
+    let index = header.component_indices[slot];
+    let component = frame.components.get(index);
+    let component = needed(alloc, component, Missing::Component(index))?;
     let identifier = component.identifier;
     let destination = component.quantization_table_index;
     let missing = Missing::Table("quantization", destination, identifier);
@@ -249,7 +249,7 @@ fn coding_of<'a>(
     let ac = table_in_force(&state.ac_tables, &spare.ac, ac_destination);
     let ac = needed_table(alloc, has_ac, ac, &spare.no_ac, missing)?;
     Ok(Coded {
-        place,
+        index,
         component,
         quantization,
         dc,

@@ -37,7 +37,7 @@ use std::io::Read;
 pub struct Decoded {
     /// The blocks that are kept between the scans of a progressive frame, in raster order, their
     /// coefficients in block order. Empty before its first scan.
-    pub held: Vec<Vec<[i16; 64]>>,
+    pub kept: Vec<Vec<[i16; 64]>>,
     /// Which coefficients of a block are finished, in zigzag order.
     pub finished: [[bool; 64]; 4],
     /// The planes that are decided.
@@ -70,7 +70,7 @@ fn are_in_order(codings: &[Coded<'_>], count: usize) -> bool
     ensures { result ≡ true → (length codings.now ≡ count) × IsInOrder codings.now }
 {
     for slot in 0..codings.len() {
-        if codings[slot].place != slot {
+        if codings[slot].index != slot {
             return false;
         }
     }
@@ -137,20 +137,20 @@ pub fn render(
 fn take_blocks(
     alloc: Global,
     codings: &[Coded<'_>],
-    held: &mut Vec<Vec<[i16; 64]>>,
+    kept: &mut Vec<Vec<[i16; 64]>>,
 ) -> std::result::Result<Vec<Vec<[i16; 64]>>, AllocError>
-    requires within { All (λ c. c.place < length held.old.items) codings.now }
-    requires apart { AreApart (map (λ c. c.place) codings.now) }
+    requires within { All (λ c. c.index < length kept.old.items) codings.now }
+    requires apart { AreApart (map (λ c. c.index) codings.now) }
     ensures taken { let codings = map coding_in codings.now in
-        IfOk result (λ v. arrays_in v.items ≡ blocks_at codings (arrays_in held.old.items)) }
+        IfOk result (λ v. arrays_in v.items ≡ blocks_at codings (arrays_in kept.old.items)) }
     ensures left { let codings = map coding_in codings.now in
         OnOk result
-        (arrays_in held.new.items ≡ without_blocks codings (arrays_in held.old.items)) }
-    ensures length { length held.new.items ≡ length held.old.items }
+        (arrays_in kept.new.items ≡ without_blocks codings (arrays_in kept.old.items)) }
+    ensures length { length kept.new.items ≡ length kept.old.items }
 {
     let mut taken = Vec::with_capacity(alloc, codings.len())?;
     for coded in codings {
-        let blocks = std::mem::replace(&mut held[coded.place], Vec::new(alloc));
+        let blocks = std::mem::replace(&mut kept[coded.index], Vec::new(alloc));
         taken.push(blocks)?;
     }
     Ok(taken)
@@ -161,16 +161,16 @@ fn put_blocks(
     alloc: Global,
     codings: &[Coded<'_>],
     arrays: &mut Vec<Vec<[i16; 64]>>,
-    held: &mut Vec<Vec<[i16; 64]>>,
+    kept: &mut Vec<Vec<[i16; 64]>>,
 )
     requires count { length arrays.old.items ≡ length codings.now }
-    requires places { All (λ c. c.place < length held.old.items) codings.now }
-    ensures { arrays_in held.new.items ≡ put_arrays (map coding_in codings.now)
-        (arrays_in arrays.old.items) (arrays_in held.old.items) }
+    requires indices { All (λ c. c.index < length kept.old.items) codings.now }
+    ensures { arrays_in kept.new.items ≡ put_arrays (map coding_in codings.now)
+        (arrays_in arrays.old.items) (arrays_in kept.old.items) }
 {
     let mut slot = 0;
     while slot < codings.len() {
-        held[codings[slot].place] = std::mem::replace(&mut arrays[slot], Vec::new(alloc));
+        kept[codings[slot].index] = std::mem::replace(&mut arrays[slot], Vec::new(alloc));
         slot += 1;
     }
 }
@@ -189,7 +189,7 @@ impl Decoded {
     ghost use Rattle.jpeg_decoder.specs.Scanning.{arrays_in, components_in};
     ghost use Rattle.jpeg_decoder.specs.Seen.{found_in};
     ghost use Rattle.jpeg_decoder.specs.PlanesView.{planes_in};
-    ghost use Rattle.jpeg_decoder.specs.Steps.{coding_in, HasPlace, IsReadable, is_wanted};
+    ghost use Rattle.jpeg_decoder.specs.Steps.{coding_in, HasIndex, IsReadable, is_wanted};
     ghost use Rattle.jpeg_decoder.specs.Steps.{marks_after, scan_data, with_decoded};
     ghost use Rattle.jpeg_decoder.specs.Steps.{with_its_plane, with_planes};
     ghost use Rattle.jpeg_streams.specs.ScanSegments.{arrays_before, is_progressive, with_arrays};
@@ -206,13 +206,13 @@ impl Decoded {
 
     /// Makes the state in which nothing was read.
     pub fn new(alloc: Global) -> Decoded
-        ensures held { arrays_in result.held.items ≡ [] }
+        ensures kept { arrays_in result.kept.items ≡ [] }
         ensures finished { result.finished ≡ replicate 4 none_finished }
         ensures planes { result.planes ≡ replicate 4 None }
         ensures samples { planes_in result.samples ≡ replicate 4 None }
     {
         Decoded {
-            held: Vec::new(alloc),
+            kept: Vec::new(alloc),
             finished: [[false; 64]; 4],
             planes: Planes::none(),
             samples: [None, None, None, None],
@@ -221,55 +221,55 @@ impl Decoded {
 
     /// Puts the samples of a lossless scan at the indices of its components, where they replace
     /// those of earlier scans.
-    pub fn put_samples(&mut self, alloc: Global, places: &[usize], planes: &mut Vec<Vec<u16>>)
-        requires count { length planes.old.items ≡ length places.now }
-        requires places { All (λ place. place < 4) places.now }
-        ensures held { self.new.held ≡ self.old.held }
+    pub fn put_samples(&mut self, alloc: Global, indices: &[usize], planes: &mut Vec<Vec<u16>>)
+        requires count { length planes.old.items ≡ length indices.now }
+        requires indices { All (λ index. index < 4) indices.now }
+        ensures kept { self.new.kept ≡ self.old.kept }
         ensures finished { self.new.finished ≡ self.old.finished }
         ensures planes { self.new.planes ≡ self.old.planes }
         ensures samples { planes_in self.new.samples
-            ≡ with_samples places.now (map (λ v. v.items) planes.old.items)
+            ≡ with_samples indices.now (map (λ v. v.items) planes.old.items)
             (planes_in self.old.samples) }
     {
         let mut slot = 0;
-        while slot < places.len() {
+        while slot < indices.len() {
             let plane = std::mem::replace(&mut planes[slot], Vec::new(alloc));
-            self.samples[places[slot]] = Some(plane);
+            self.samples[indices[slot]] = Some(plane);
             slot += 1;
         }
     }
 
     /// Marks the coefficients of a component that a pass finishes, and returns whether its plane is
     /// to be decided now: all coefficients are finished, and it has none yet.
-    fn is_wanted(&mut self, pass: Pass, place: usize) -> bool
+    fn is_wanted(&mut self, pass: Pass, index: usize) -> bool
         requires pass { IsPass (pass_in pass) }
-        requires place { place < 4 }
-        ensures held { self.new.held ≡ self.old.held }
+        requires index { index < 4 }
+        ensures kept { self.new.kept ≡ self.old.kept }
         ensures samples { self.new.samples ≡ self.old.samples }
         ensures planes { self.new.planes ≡ self.old.planes }
-        ensures finished { self.new.finished ≡ slice_set self.old.finished place
-            (marks_after (pass_in pass) self.old.finished place) }
-        ensures wanted { result ≡ is_wanted (marks_after (pass_in pass) self.old.finished place)
-            (slice_index_or self.old.planes place None) }
+        ensures finished { self.new.finished ≡ slice_set self.old.finished index
+            (marks_after (pass_in pass) self.old.finished index) }
+        ensures wanted { result ≡ is_wanted (marks_after (pass_in pass) self.old.finished index)
+            (slice_index_or self.old.planes index None) }
     {
-        let marks = &mut self.finished[place];
+        let marks = &mut self.finished[index];
         finish(pass, marks);
-        are_all(marks) && !self.planes.has(place)
+        are_all(marks) && !self.planes.has(index)
     }
 
     /// Adds the plane of a component after a scan of a sequential frame.
     #[tactic(auto, using(crate::proofs::DecidedPlanes::plane_rules))]
-    fn add_plane(&mut self, pass: Pass, place: usize, plane: Vec<u8>)
+    fn add_plane(&mut self, pass: Pass, index: usize, plane: Vec<u8>)
         requires pass { IsPass (pass_in pass) }
-        requires place { place < 4 }
-        ensures held { self.new.held ≡ self.old.held }
+        requires index { index < 4 }
+        ensures kept { self.new.kept ≡ self.old.kept }
         ensures samples { self.new.samples ≡ self.old.samples }
         ensures plane { (base : Found) →
-            with_decoded base self.new ≡ with_its_plane (pass_in pass) place plane.items
+            with_decoded base self.new ≡ with_its_plane (pass_in pass) index plane.items
             (with_decoded base self.old) }
     {
-        if self.is_wanted(pass, place) {
-            self.planes.put(place, plane);
+        if self.is_wanted(pass, index) {
+            self.planes.put(index, plane);
         }
     }
 
@@ -283,29 +283,29 @@ impl Decoded {
         blocks: &[[i16; 64]],
     ) -> std::result::Result<(), AllocError>
         requires pass { IsPass (pass_in pass) }
-        requires place { coded.now.place < 4 }
+        requires index { coded.now.index < 4 }
         requires blocks { length blocks.now ≡ (component_in coded.now.component.now).blocks_high *
             (component_in coded.now.component.now).blocks_wide }
-        ensures held { OnOk result (self.new.held ≡ self.old.held) }
+        ensures kept { OnOk result (self.new.kept ≡ self.old.kept) }
         ensures samples { OnOk result (self.new.samples ≡ self.old.samples) }
         ensures plane { OnOk result ((base : Found) →
             with_decoded base self.new
-            ≡ with_its_plane (pass_in pass) coded.now.place
+            ≡ with_its_plane (pass_in pass) coded.now.index
             (plane_by (component_in coded.now.component.now) coded.now.quantization.now
             (map to_block blocks.now)) (with_decoded base self.old)) }
     {
-        if self.is_wanted(pass, coded.place) {
+        if self.is_wanted(pass, coded.index) {
             let plane = render(alloc, coded.component, coded.quantization, blocks)?;
-            self.planes.put(coded.place, plane);
+            self.planes.put(coded.index, plane);
         }
         Ok(())
     }
 
     /// Adds the planes of a scan's components.
     fn add_planes(&mut self, scan: &Scan<'_>, planes: &mut Vec<Vec<u8>>, alloc: Global)
-        requires places { All HasPlace scan.now.components.items }
+        requires indices { All HasIndex scan.now.components.items }
         requires count { length planes.old.items ≡ length scan.now.components.items }
-        ensures held { self.new.held ≡ self.old.held }
+        ensures kept { self.new.kept ≡ self.old.kept }
         ensures samples { self.new.samples ≡ self.old.samples }
         ensures planes { (base : Found) → with_decoded base self.new
             ≡ with_planes (pass_in scan.now.pass) (map coding_in scan.now.components.items)
@@ -314,7 +314,7 @@ impl Decoded {
         let mut slot = 0;
         while slot < scan.components.len() {
             let plane = std::mem::replace(&mut planes[slot], Vec::new(alloc));
-            self.add_plane(scan.pass, scan.components[slot].place, plane);
+            self.add_plane(scan.pass, scan.components[slot].index, plane);
             slot += 1;
         }
     }
@@ -356,27 +356,27 @@ impl Decoded {
         requires first { IsFirst self.old.planes scan.now }
         requires full { IsFullJoint joint }
         requires count { joint.shape.count ≡ length scan.now.components.items }
-        ensures held { self.new.held ≡ self.old.held }
+        ensures kept { self.new.kept ≡ self.old.kept }
         ensures samples { self.new.samples ≡ self.old.samples }
         ensures planes { (base : Found) → with_decoded base self.new
             ≡ with_planes (pass_in scan.now.pass) (map coding_in scan.now.components.items)
             (joint_planes joint.shape joint.samples.items) (with_decoded base self.old) }
     {
         for coded in &scan.components {
-            finish(scan.pass, &mut self.finished[coded.place]);
+            finish(scan.pass, &mut self.finished[coded.index]);
         }
         self.planes.put_joint(joint);
     }
 
     /// Adds the planes of a scan of a sequential frame.
     fn add_grown(&mut self, scan: &Scan<'_>, planes: GrowingPlanes, alloc: Global)
-        requires places { All HasPlace scan.now.components.items }
+        requires indices { All HasIndex scan.now.components.items }
         requires grown { GrowsFor (map coding_in scan.now.components.items) planes }
         requires sizes { map length (growing_in planes)
             ≡ map (λ c. c.blocks_high * c.scale * (c.blocks_wide * c.scale))
             (components_in scan.now.components.items) }
         requires first { is_joint planes ≡ true → IsFirst self.old.planes scan.now }
-        ensures held { self.new.held ≡ self.old.held }
+        ensures kept { self.new.kept ≡ self.old.kept }
         ensures samples { self.new.samples ≡ self.old.samples }
         ensures planes { (base : Found) → with_decoded base self.new
             ≡ with_planes (pass_in scan.now.pass) (map coding_in scan.now.components.items)
@@ -395,10 +395,10 @@ impl Decoded {
         scan: &Scan<'_>,
         arrays: &Vec<Vec<[i16; 64]>>,
     ) -> std::result::Result<(), AllocError>
-        requires places { All HasPlace scan.now.components.items }
+        requires indices { All HasIndex scan.now.components.items }
         requires blocks { AreArrays (components_in scan.now.components.items)
             (arrays_in arrays.now.items) }
-        ensures held { OnOk result (self.new.held ≡ self.old.held) }
+        ensures kept { OnOk result (self.new.kept ≡ self.old.kept) }
         ensures samples { OnOk result (self.new.samples ≡ self.old.samples) }
         ensures planes { OnOk result ((base : Found) → with_decoded base self.new
             ≡ with_arrays (pass_in scan.now.pass) (map coding_in scan.now.components.items)
@@ -415,28 +415,28 @@ impl Decoded {
 
     /// Holds the blocks of a progressive frame's components: before its first scan, zeros.
     #[tactic(auto, unfolding(jpeg_streams::specs::ScanSegments::arrays_before))]
-    fn hold(
+    fn keep(
         &mut self,
         alloc: Global,
         state: &State,
         frame: &FrameInfo,
     ) -> std::result::Result<(), AllocError>
         requires process { is_progressive (frame_in frame.now).process ≡ true }
-        ensures held { OnOk result (arrays_in self.new.held.items
+        ensures kept { OnOk result (arrays_in self.new.kept.items
             ≡ arrays_before (with_decoded (found_in state.now) self.old) (frame_in frame.now)) }
         ensures finished { self.new.finished ≡ self.old.finished }
         ensures planes { self.new.planes ≡ self.old.planes }
         ensures samples { self.new.samples ≡ self.old.samples }
     {
         if !state.scanned {
-            self.held = zero_frame(alloc, frame)?;
+            self.kept = zero_frame(alloc, frame)?;
         }
         Ok(())
     }
 
     /// Reads a scan of a progressive frame on the blocks that are kept, and returns the marker
     /// after it, if it was reached.
-    fn read_held<R: Read + Drop>(
+    fn read_kept<R: Read + Drop>(
         &mut self,
         alloc: Global,
         source: &mut Source<R>,
@@ -447,35 +447,35 @@ impl Decoded {
         requires process { is_progressive (frame_in frame.now).process ≡ true }
         requires keeps { scan.now.keeps_ac ≡ true }
         requires ready { IsReadable (frame_in frame.now) (found_in state.now) scan.now }
-        requires held { AreArrays (frame_in frame.now).components
+        requires kept { AreArrays (frame_in frame.now).components
             (arrays_before (with_decoded (found_in state.now) self.old) (frame_in frame.now)) }
         ensures data { Answers (λ m.
             (record (with_decoded (found_in state.now) self.new) { scanned = true }, m))
             (scan_data (with_decoded (found_in state.now) self.old) (frame_in frame.now)
             (pass_in scan.now.pass) (map coding_in scan.now.components.items))
             source.old result source.new }
-        ensures held { OnOk result (AreArrays (frame_in frame.now).components
-            (arrays_in self.new.held.items)) }
+        ensures kept { OnOk result (AreArrays (frame_in frame.now).components
+            (arrays_in self.new.kept.items)) }
         ensures planes { ArePlanes (frame_in frame.now).components self.old.planes
             → OnOk result (ArePlanes (frame_in frame.now).components self.new.planes) }
         ensures samples { OnOk result (self.new.samples ≡ self.old.samples) }
     {
-        self.hold(alloc, state, frame)?;
-        let mut arrays = take_blocks(alloc, &scan.components, &mut self.held)?;
+        self.keep(alloc, state, frame)?;
+        let mut arrays = take_blocks(alloc, &scan.components, &mut self.kept)?;
         let met = read_blocks(alloc, source, scan, &mut arrays, frame)?;
         self.add_arrays(alloc, scan, &arrays)?;
-        put_blocks(alloc, &scan.components, &mut arrays, &mut self.held);
+        put_blocks(alloc, &scan.components, &mut arrays, &mut self.kept);
         Ok(met)
     }
 
     /// Returns whether the planes of all components of a scan are decided.
     fn are_decided(&self, codings: &[Coded<'_>]) -> bool
-        requires places { All HasPlace codings.now }
+        requires indices { All HasIndex codings.now }
         ensures { result ≡ true → All (λ c. is_some (slice_index_or self.now.planes
-            c.place None) ≡ true) codings.now }
+            c.index None) ≡ true) codings.now }
     {
         for coded in codings {
-            if !self.planes.has(coded.place) {
+            if !self.planes.has(coded.index) {
                 return false;
             }
         }
@@ -498,7 +498,7 @@ impl Decoded {
         requires process { is_progressive (frame_in frame.now).process ≡ false }
         requires ready { IsReadable (frame_in frame.now) (found_in state.now) scan.now }
         requires decided { All (λ c. is_some (slice_index_or self.now.planes
-            c.place None) ≡ true) scan.now.components.items }
+            c.index None) ≡ true) scan.now.components.items }
         ensures data { Answers (λ m.
             (record (with_decoded (found_in state.now) self.new) { scanned = true }, m))
             (scan_data (with_decoded (found_in state.now) self.old) (frame_in frame.now)
@@ -515,7 +515,7 @@ impl Decoded {
             frame,
             &mut GrowingPlanes::Own(Vec::new(alloc)),
         )?;
-        self.held = Vec::new(alloc);
+        self.kept = Vec::new(alloc);
         self.add_planes(scan, &mut none, alloc);
         Ok(reached)
     }
@@ -532,14 +532,14 @@ impl Decoded {
         requires keeps { is_progressive (frame_in frame.now).process ≡ true
             → scan.now.keeps_ac ≡ true }
         requires ready { IsReadable (frame_in frame.now) (found_in state.now) scan.now }
-        requires held { AreArrays (frame_in frame.now).components
+        requires kept { AreArrays (frame_in frame.now).components
             (arrays_before (with_decoded (found_in state.now) self.old) (frame_in frame.now)) }
         ensures data { Answers (λ m.
             (record (with_decoded (found_in state.now) self.new) { scanned = true }, m))
             (scan_data (with_decoded (found_in state.now) self.old) (frame_in frame.now)
             (pass_in scan.now.pass) (map coding_in scan.now.components.items))
             source.old result source.new }
-        ensures held { OnOk result (AreArrays (frame_in frame.now).components
+        ensures kept { OnOk result (AreArrays (frame_in frame.now).components
             (arrays_before (record (with_decoded (found_in state.now) self.new) { scanned = true })
             (frame_in frame.now))) }
         ensures planes { ArePlanes (frame_in frame.now).components self.old.planes
@@ -547,14 +547,14 @@ impl Decoded {
         ensures samples { OnOk result (self.new.samples ≡ self.old.samples) }
     {
         if is_progressive(frame.coding_process) {
-            return self.read_held(alloc, source, state, frame, scan);
+            return self.read_kept(alloc, source, state, frame, scan);
         }
         if self.are_decided(&scan.components) {
             return self.read_again(alloc, source, state, frame, scan);
         }
         let mut planes = self.start_planes(alloc, frame, scan)?;
         let reached = read_planes(alloc, source, scan, frame, &mut planes)?;
-        self.held = Vec::new(alloc);
+        self.kept = Vec::new(alloc);
         self.add_grown(scan, planes, alloc);
         Ok(reached)
     }

@@ -134,7 +134,7 @@ fn size_within(state: &State, room: usize) -> Result<usize>
 /// Drops what scans have given.
 fn drop_decoded(state: &mut State, alloc: Global)
     ensures told { told_of (found_in state.new) ≡ told_of (found_in state.old) }
-    ensures emptied { ((found_in state.new).held ≡ [])
+    ensures emptied { ((found_in state.new).kept ≡ [])
         × ((found_in state.new).planes ≡ replicate 4 None)
         × ((found_in state.new).samples ≡ replicate 4 None) }
 {
@@ -430,7 +430,7 @@ impl<R: Read + Drop> Decoder<R> {
             self.old.source.bytes) (told_of self.new.found) }
 
         // No blocks, planes or samples are kept.
-        ensures emptied { IsReading self.old.stage → (self.new.found.held ≡ [])
+        ensures emptied { IsReading self.old.stage → (self.new.found.kept ≡ [])
             × (self.new.found.planes ≡ replicate 4 None)
             × (self.new.found.samples ≡ replicate 4 None) }
 
@@ -496,7 +496,7 @@ impl<R: Read + Drop> Decoder<R> {
             → IsOfTurns (λ n. turns_ahead n false self.old.stage self.old.found
             self.old.source.bytes) (told_of self.new.found) }
         ensures emptied { HasRoom self.new.found.frame (length pixels.old)
-            → IsReading self.old.stage → (self.new.found.held ≡ [])
+            → IsReading self.old.stage → (self.new.found.kept ≡ [])
             × (self.new.found.planes ≡ replicate 4 None)
             × (self.new.found.samples ≡ replicate 4 None) }
 

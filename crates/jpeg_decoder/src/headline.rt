@@ -30,7 +30,7 @@ ghost use Rattle.jpeg_streams.specs.declared.settings.Settings.{Settings};
 pub fn images_are_read()
     ensures { (settings : Settings) (array : Coefficients) (bytes rest : List ℕ) (final : Found)
         (last : ℕ → Levels) →
-        ((place row column : ℕ) → Is8Bit (array place row column)) →
+        ((index row column : ℕ) → Is8Bit (array index row column)) →
         WritesImage array bytes final last →
         meaning settings (bytes ++ rest) ≡ meaning_of_array settings final array last rest }
 {}
@@ -39,7 +39,7 @@ pub fn images_are_read()
 pub fn images_are_read_at_scales()
     ensures { (width height : ℕ) (settings : Settings) (array : Coefficients)
         (bytes rest : List ℕ) (final : Found) (last : ℕ → Levels) →
-        ((place row column : ℕ) → Is8Bit (array place row column)) →
+        ((index row column : ℕ) → Is8Bit (array index row column)) →
         WritesImage array bytes final last →
         sized_meaning width height settings (bytes ++ rest)
         ≡ meaning_of_array settings (sized_to width height final) array last rest }
@@ -50,13 +50,13 @@ pub fn images_are_read_at_scales()
 pub fn complete_images_are_whole()
     ensures whole { (settings : Settings) (array : Coefficients) (bytes rest : List ℕ)
         (final : Found) (last : ℕ → Levels) (frame : Frame) →
-        ((place row column : ℕ) → Is8Bit (array place row column)) →
+        ((index row column : ℕ) → Is8Bit (array index row column)) →
         WritesImage array bytes final last →
         final.frame ≡ Some frame → AllComplete frame last →
         meaning settings (bytes ++ rest) ≡ whole_meaning settings final array rest }
     ensures sized { (width height : ℕ) (settings : Settings) (array : Coefficients)
         (bytes rest : List ℕ) (final : Found) (last : ℕ → Levels) (frame : Frame) →
-        ((place row column : ℕ) → Is8Bit (array place row column)) →
+        ((index row column : ℕ) → Is8Bit (array index row column)) →
         WritesImage array bytes final last →
         final.frame ≡ Some frame → AllComplete frame last →
         sized_meaning width height settings (bytes ++ rest)
@@ -77,14 +77,14 @@ pub fn sequential_images_are_complete()
 pub fn images_have_pictures()
     ensures plain { (settings : Settings) (array : Coefficients) (bytes rest : List ℕ)
         (final : Found) (last : ℕ → Levels) →
-        ((place row column : ℕ) → Is8Bit (array place row column)) →
+        ((index row column : ℕ) → Is8Bit (array index row column)) →
         WritesImage array bytes final last → TakesPicture settings final →
         (picture : List ℕ) × (picture_of_array settings final array last ≡ Ok picture)
         × (meaning settings (bytes ++ rest)
         ≡ Ok (record { 0 = record { 0 = told_of final; 1 = picture }; 1 = rest })) }
     ensures sized { (width height : ℕ) (settings : Settings) (array : Coefficients)
         (bytes rest : List ℕ) (final : Found) (last : ℕ → Levels) →
-        ((place row column : ℕ) → Is8Bit (array place row column)) →
+        ((index row column : ℕ) → Is8Bit (array index row column)) →
         WritesImage array bytes final last → TakesPicture settings (sized_to width height final) →
         (picture : List ℕ)
         × (picture_of_array settings (sized_to width height final) array last ≡ Ok picture)
@@ -98,7 +98,7 @@ pub fn images_have_pictures()
 /// Where the default settings take the picture, the program prints it after its size and format.
 pub fn images_are_printed()
     ensures { (array : Coefficients) (image rest : List ℕ) (final : Found) (last : ℕ → Levels) →
-        ((place row column : ℕ) → Is8Bit (array place row column)) →
+        ((index row column : ℕ) → Is8Bit (array index row column)) →
         WritesImage array image final last → TakesPicture default_settings final →
         (picture : List ℕ)
         × (picture_of_array default_settings final array last ≡ Ok picture)
@@ -118,7 +118,7 @@ pub fn complete_blocks_are_whole()
 pub fn pictures_are_of_coefficients()
     ensures { (settings : Settings) (array : Coefficients) (first second rest others : List ℕ)
         (a b : Found) (last_a last_b : ℕ → Levels) →
-        ((place row column : ℕ) → Is8Bit (array place row column)) →
+        ((index row column : ℕ) → Is8Bit (array index row column)) →
         WritesImage array first a last_a → WritesImage array second b last_b →
         (same : HaveSamePicture a b) →
         AllComplete same.frame_a last_a → AllComplete same.frame_b last_b →
@@ -134,8 +134,8 @@ pub fn padding_is_not_seen()
         WritesImage b bytes final last }
     ensures pictured { (settings : Settings) (a b : Coefficients) (bytes : List ℕ) (final : Found)
         (last : ℕ → Levels) (frame : Frame) →
-        ((place row column : ℕ) → Is8Bit (a place row column)) →
-        ((place row column : ℕ) → Is8Bit (b place row column)) →
+        ((index row column : ℕ) → Is8Bit (a index row column)) →
+        ((index row column : ℕ) → Is8Bit (b index row column)) →
         WritesImage a bytes final last → final.frame ≡ Some frame → AgreeOnOwn frame a b →
         picture_of_array settings final a last ≡ picture_of_array settings final b last }
 {}
@@ -156,7 +156,7 @@ pub fn progressive_images_may_end_early()
         WritesImage array (255 ∷ 216 ∷ (front ++ (255 ∷ 217 ∷ []))) said levels }
     ensures pictured { (settings : Settings) (array : Coefficients) (front rest : List ℕ)
         (said : Found) (levels : ℕ → Levels) (frame : Frame) →
-        ((place row column : ℕ) → Is8Bit (array place row column)) →
+        ((index row column : ℕ) → Is8Bit (array index row column)) →
         WritesFront array nothing_found (λ k. nothing_sent) false front said levels true →
         said.frame ≡ Some frame → is_progressive frame.process ≡ true →
         AllByRecursion (HasTable said) frame.components →
@@ -177,6 +177,6 @@ pub fn worked_images_are_written()
 pub fn every_image_has_a_stream()
     ensures { (number : ℕ) (h : FrameHeader) (array : Coefficients) →
         number ≤ 2 → IsFrameHeader number h → HasPicture h →
-        ((place row column : ℕ) → Is8Bit (array place row column)) →
+        ((index row column : ℕ) → Is8Bit (array index row column)) →
         (bytes : List ℕ) × IsWhollyWritten array bytes }
 {}

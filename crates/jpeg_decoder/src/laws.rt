@@ -131,7 +131,7 @@ pub fn scans_of_frames()
         ≡ scan_from (pass_of scan) (vias_from 0 (c ∷ codings))
         (found.restart * mcu_size (map (λ c. c.component) (c ∷ codings)))
         (spots_of frame (map (λ c. c.component) (c ∷ codings)))
-        (map (λ c. get_or (arrays_before found frame) c.place []) (c ∷ codings)) bytes }
+        (map (λ c. get_or (arrays_before found frame) c.index []) (c ∷ codings)) bytes }
 {}
 
 /// One more row of blocks adds its strip of samples below a plane, at every scale.

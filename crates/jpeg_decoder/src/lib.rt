@@ -48,7 +48,6 @@ pub mod orientation;
 #[cfg(test)]
 mod orientation_tests;
 mod picture;
-mod places;
 mod planes;
 mod profile;
 mod raster;
@@ -64,6 +63,7 @@ mod spots;
 mod spots_tests;
 mod state;
 mod strips;
+mod tables;
 pub mod worked;
 
 pub use decoder::{Decoder, ImageInfo, PixelFormat};

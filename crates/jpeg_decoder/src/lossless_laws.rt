@@ -72,8 +72,8 @@ pub fn lossless_padding_is_not_seen()
         ≡ planes_of point w.parts (lines_by_component w 0 w.parts b) }
 
     // A pixel takes a sample inside.
-    ensures taken { (h : FrameHeader) (place x y : ℕ) (c : Component) →
-        IsFrameHeader 3 h → first_of (drop place (frame_written 3 h).components) ≡ Some c →
+    ensures taken { (h : FrameHeader) (index x y : ℕ) (c : Component) →
+        IsFrameHeader 3 h → first_of (drop index (frame_written 3 h).components) ≡ Some c →
         x < h.width → y < h.height →
         (x * c.factors.horizontal / most_across (frame_written 3 h) < c.width)
         × (y * c.factors.vertical / most_down (frame_written 3 h) < c.height) }

@@ -14,9 +14,9 @@ ghost use Rattle.jpeg_decoder.specs.LosslessParts.{mcus_high, mcus_wide, part_by
 ghost use Rattle.jpeg_lossless.specs.Codings.{part_in};
 
 use crate::decoded::Decoded;
-use crate::places::{Missing, needed, table_at};
 use crate::restarts::pass_restarts;
 use crate::state::State;
+use crate::tables::{Missing, needed, table_at};
 use jpeg_bits::error::Result;
 use jpeg_bits::huffman::HuffmanTable;
 use jpeg_bits::marker::Marker;
@@ -43,7 +43,7 @@ fn tables_of<'a>(
     frame: &FrameInfo,
     header: &ScanInfo,
 ) -> Result<Vec<&'a HuffmanTable>>
-    ensures { let expected = tables_in state.now.dc_tables (scan_in header.now).dc_places in
+    ensures { let expected = tables_in state.now.dc_tables (scan_in header.now).dc_destinations in
         MatchResult result (λ v. expected ≡ Ok (map (λ t. t.now) v.items))
         (λ e. IsRefusal e × Names e expected) }
 {
@@ -84,18 +84,18 @@ fn part_of<'a>(component: &Component, is_alone: bool, table: &'a HuffmanTable) -
 fn parts_of<'a>(
     alloc: Global,
     frame: &FrameInfo,
-    places: &[usize],
+    indices: &[usize],
     tables: &[&'a HuffmanTable],
 ) -> std::result::Result<Vec<Part<'a>>, AllocError>
-    requires within { All (λ place. place < length (frame_in frame.now).components) places.now }
-    requires count { length tables.now ≡ length places.now }
-    ensures { IfOk result (λ v. map part_in v.items ≡ parts_at (length places.now == 1)
-        (frame_in frame.now).components places.now (map (λ t. t.now) tables.now)) }
+    requires within { All (λ index. index < length (frame_in frame.now).components) indices.now }
+    requires count { length tables.now ≡ length indices.now }
+    ensures { IfOk result (λ v. map part_in v.items ≡ parts_at (length indices.now == 1)
+        (frame_in frame.now).components indices.now (map (λ t. t.now) tables.now)) }
 {
-    let is_alone = places.len() == 1;
-    let mut parts = Vec::with_capacity(alloc, places.len())?;
-    for slot in 0..places.len() {
-        let component = &frame.components[places[slot]];
+    let is_alone = indices.len() == 1;
+    let mut parts = Vec::with_capacity(alloc, indices.len())?;
+    for slot in 0..indices.len() {
+        let component = &frame.components[indices[slot]];
         parts.push(part_of(component, is_alone, tables[slot]))?;
     }
     Ok(parts)
@@ -103,15 +103,15 @@ fn parts_of<'a>(
 
 /// Returns how many MCUs a row of a scan has, and how many rows there are: of a component alone,
 /// its samples.
-fn mcus_of(frame: &FrameInfo, places: &[usize]) -> (u16, u16)
-    requires some { 0 < length places.now }
-    requires within { All (λ place. place < length (frame_in frame.now).components) places.now }
+fn mcus_of(frame: &FrameInfo, indices: &[usize]) -> (u16, u16)
+    requires some { 0 < length indices.now }
+    requires within { All (λ index. index < length (frame_in frame.now).components) indices.now }
     requires sampling { AllHaveSampling (frame_in frame.now).components }
-    ensures wide { result.0 ≡ mcus_wide (frame_in frame.now) places.now }
-    ensures high { result.1 ≡ mcus_high (frame_in frame.now) places.now }
+    ensures wide { result.0 ≡ mcus_wide (frame_in frame.now) indices.now }
+    ensures high { result.1 ≡ mcus_high (frame_in frame.now) indices.now }
 {
-    if places.len() == 1 {
-        let size = frame.components[places[0]].size;
+    if indices.len() == 1 {
+        let size = frame.components[indices[0]].size;
         return (size.width, size.height);
     }
     let (horizontal, vertical) = greatest_of(&frame.components);

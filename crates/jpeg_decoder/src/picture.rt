@@ -11,7 +11,7 @@ ghost use Rattle.jpeg_decoder.specs.PlanesView.{IsFullJoint};
 ghost use Rattle.jpeg_streams.specs.ColourChoice.{identifiers_of, transform_of};
 ghost use Rattle.jpeg_pixels.specs.Pictures.{AreWhole};
 ghost use Rattle.jpeg_pixels.specs.Scaled.{IsScale};
-ghost use Rattle.jpeg_streams.specs.EndPlanes.{AreBlocksOf, blocks_if, is_held, plane_or};
+ghost use Rattle.jpeg_streams.specs.EndPlanes.{AreBlocksOf, blocks_if, is_kept, plane_or};
 ghost use Rattle.jpeg_segments.specs.declared.parser.CodingProcess.TheVariants.{Lossless};
 ghost use Rattle.jpeg_streams.specs.LosslessScans.{samples_from};
 ghost use Rattle.jpeg_decoder.specs.Scanning.{arrays_in, blocks_in};
@@ -32,8 +32,8 @@ ghost use Rattle.jpeg_decoder.specs.Bytes.{IsWhole, picture_size};
 use crate::codings::is_progressive;
 use crate::color_choice::choose_color_transform;
 use crate::decoded::{Decoded, render};
-use crate::places::{Missing, needed, table_at};
 use crate::state::State;
+use crate::tables::{Missing, needed, table_at};
 use jpeg_bits::color_transform::ColorTransform;
 use jpeg_bits::error::{Error, Result, format_error_of};
 use jpeg_bits::marker::Marker;
@@ -88,29 +88,29 @@ fn is_within(limit: usize, count: usize, area: usize) -> bool
 }
 
 /// Returns whether blocks of a frame are kept: it is progressive, and a scan of it was read.
-fn are_held(state: &State, frame: &FrameInfo) -> bool
-    ensures { result ≡ is_held (found_in state.now) (frame_in frame.now) }
+fn are_kept(state: &State, frame: &FrameInfo) -> bool
+    ensures { result ≡ is_kept (found_in state.now) (frame_in frame.now) }
 {
     is_progressive(frame.coding_process) && state.scanned
 }
 
 /// Takes the blocks of a component out of those that are kept, where blocks are kept.
-fn take_held(
+fn take_kept(
     alloc: Global,
-    is_held: bool,
-    held: &mut Vec<Vec<[i16; 64]>>,
-    place: usize,
+    is_kept: bool,
+    kept: &mut Vec<Vec<[i16; 64]>>,
+    index: usize,
 ) -> Option<Vec<[i16; 64]>>
-    requires { is_held ≡ true → place < length held.old.items }
-    ensures taken { option_map blocks_in result ≡ blocks_if is_held (arrays_in held.old.items)
-        place }
-    ensures left { drop (place + 1) (arrays_in held.new.items)
-        ≡ drop (place + 1) (arrays_in held.old.items) }
+    requires { is_kept ≡ true → index < length kept.old.items }
+    ensures taken { option_map blocks_in result ≡ blocks_if is_kept (arrays_in kept.old.items)
+        index }
+    ensures left { drop (index + 1) (arrays_in kept.new.items)
+        ≡ drop (index + 1) (arrays_in kept.old.items) }
 {
-    if !is_held {
+    if !is_kept {
         return None;
     }
-    Some(std::mem::replace(&mut held[place], Vec::new(alloc)))
+    Some(std::mem::replace(&mut kept[index], Vec::new(alloc)))
 }
 
 /// Returns the plane of a component at the end of an image: the one that is decided, or else that
@@ -120,15 +120,15 @@ fn plane_at_end(
     state: &State,
     component: &Component,
     plane: Option<Vec<u8>>,
-    held: Option<Vec<[i16; 64]>>,
+    kept: Option<Vec<[i16; 64]>>,
 ) -> Result<Vec<u8>>
     requires scale { IsScale component.now.dct_scale }
     requires plane { IsPlaneOf (component_in component.now) (option_map (λ v. v.items) plane) }
-    requires blocks { AreBlocksOf (component_in component.now) (option_map blocks_in held) }
+    requires blocks { AreBlocksOf (component_in component.now) (option_map blocks_in kept) }
     ensures plane { let table = slice_index_or state.now.quantization
         component.now.quantization_table_index None in
         let expected = plane_or (component_in component.now) table (option_map (λ v. v.items) plane)
-        (option_map blocks_in held) in
+        (option_map blocks_in kept) in
         MatchResult result (λ v. expected ≡ Ok v.items) (λ e. IsRefusal e × Names e expected) }
     ensures whole { IfOk result (λ v. IsPlaneOf (component_in component.now) (Some v.items)) }
 {
@@ -136,7 +136,7 @@ fn plane_at_end(
         return Ok(plane);
     }
     let identifier = component.identifier;
-    let blocks = needed(alloc, held, Missing::Scan(identifier))?;
+    let blocks = needed(alloc, kept, Missing::Scan(identifier))?;
     let destination = component.quantization_table_index;
     let missing = Missing::Table("quantization", destination, identifier);
     let table = table_at(&state.quantization, destination);
@@ -162,12 +162,12 @@ fn planes_at_end(
         (map (λ p. p.items) v.items)) }
     ensures count { IfOk result (λ v. length v.items ≡ length (frame_in frame.now).components) }
 {
-    let is_held = are_held(state, frame);
+    let is_kept = are_kept(state, frame);
     let mut planes = Vec::with_capacity(alloc, frame.components.len())?;
-    for place in 0..frame.components.len() {
-        let plane = decoded.planes.take(alloc, place)?;
-        let held = take_held(alloc, is_held, &mut decoded.held, place);
-        planes.push(plane_at_end(alloc, state, &frame.components[place], plane, held)?)?;
+    for index in 0..frame.components.len() {
+        let plane = decoded.planes.take(alloc, index)?;
+        let kept = take_kept(alloc, is_kept, &mut decoded.kept, index);
+        planes.push(plane_at_end(alloc, state, &frame.components[index], plane, kept)?)?;
     }
     Ok(planes)
 }
@@ -394,9 +394,9 @@ fn samples_at_end(alloc: Global, frame: &FrameInfo, decoded: &mut Decoded) -> Re
     ensures count { IfOk result (λ v. length v.items ≡ length (frame_in frame.now).components) }
 {
     let mut planes = Vec::with_capacity(alloc, frame.components.len())?;
-    for place in 0..frame.components.len() {
-        let plane = decoded.samples[place].take();
-        let missing = Missing::Scan(frame.components[place].identifier);
+    for index in 0..frame.components.len() {
+        let plane = decoded.samples[index].take();
+        let missing = Missing::Scan(frame.components[index].identifier);
         planes.push(needed(alloc, plane, missing)?)?;
     }
     Ok(planes)
@@ -563,7 +563,7 @@ pub fn read_rest<R: Read + Drop>(
         ≡ (found_in state.old).frame }
     ensures frames { OnOk result (HasDecodedFrame (found_in state.new)) }
     ensures size { IfOk result (λ v. IsWhole (found_in state.new).frame v.items) }
-    ensures emptied { ((found_in state.new).held ≡ [])
+    ensures emptied { ((found_in state.new).kept ≡ [])
         × ((found_in state.new).planes ≡ replicate 4 None)
         × ((found_in state.new).samples ≡ replicate 4 None) }
 {
@@ -596,7 +596,7 @@ pub fn read_rest_into<R: Read + Drop>(
     ensures stays { (found_in state.new).frame ≡ (found_in state.old).frame }
     ensures frames { OnOk result (HasDecodedFrame (found_in state.new)) }
     ensures unwritten { OnErr result (pixels.new ≡ pixels.old) }
-    ensures emptied { ((found_in state.new).held ≡ [])
+    ensures emptied { ((found_in state.new).kept ≡ [])
         × ((found_in state.new).planes ≡ replicate 4 None)
         × ((found_in state.new).samples ≡ replicate 4 None) }
 {

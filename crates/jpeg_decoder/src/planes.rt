@@ -39,14 +39,14 @@ fn are_none(planes: &[Option<Vec<u8>>; 4]) -> bool
 fn copy_plane(
     alloc: Global,
     joint: &Option<JointPlanes>,
-    place: usize,
+    index: usize,
 ) -> std::result::Result<Option<Vec<u8>>, AllocError>
     requires { IfSome joint.now IsFullJoint }
     ensures { IfOk result (λ plane. option_map (λ v. v.items) plane
-        ≡ slice_index_or (map Some (joint_in joint.now)) place None) }
+        ≡ slice_index_or (map Some (joint_in joint.now)) index None) }
 {
     match joint {
-        Some(joint) if place < joint.shape.count => Ok(Some(joint.plane(alloc, place)?)),
+        Some(joint) if index < joint.shape.count => Ok(Some(joint.plane(alloc, index)?)),
         _ => Ok(None),
     }
 }
@@ -68,13 +68,13 @@ impl Planes {
     }
 
     /// Returns whether the plane of a component is decided.
-    pub fn has(&self, place: usize) -> bool
-        requires { place < 4 }
-        ensures { result ≡ is_some (slice_index_or self.now place None) }
+    pub fn has(&self, index: usize) -> bool
+        requires { index < 4 }
+        ensures { result ≡ is_some (slice_index_or self.now index None) }
     {
         match &self.joint {
-            Some(joint) if place < joint.shape.count => true,
-            _ => self.own[place].is_some(),
+            Some(joint) if index < joint.shape.count => true,
+            _ => self.own[index].is_some(),
         }
     }
 
@@ -86,11 +86,11 @@ impl Planes {
     }
 
     /// Puts the plane of a component.
-    pub fn put(&mut self, place: usize, plane: Vec<u8>)
-        requires { place < 4 }
-        ensures { self.new ≡ slice_set self.old place (Some plane.items) }
+    pub fn put(&mut self, index: usize, plane: Vec<u8>)
+        requires { index < 4 }
+        ensures { self.new ≡ slice_set self.old index (Some plane.items) }
     {
-        self.own[place] = Some(plane);
+        self.own[index] = Some(plane);
     }
 
     /// Puts the planes of like components, where none is decided.
@@ -123,16 +123,16 @@ impl Planes {
     pub fn take(
         &mut self,
         alloc: Global,
-        place: usize,
+        index: usize,
     ) -> std::result::Result<Option<Vec<u8>>, AllocError>
-        requires { place < 4 }
+        requires { index < 4 }
         ensures taken { IfOk result (λ plane. option_map (λ v. v.items) plane
-            ≡ slice_index_or self.old place None) }
-        ensures left { drop (place + 1) self.new ≡ drop (place + 1) self.old }
+            ≡ slice_index_or self.old index None) }
+        ensures left { drop (index + 1) self.new ≡ drop (index + 1) self.old }
     {
-        if let Some(plane) = self.own[place].take() {
+        if let Some(plane) = self.own[index].take() {
             return Ok(Some(plane));
         }
-        copy_plane(alloc, &self.joint, place)
+        copy_plane(alloc, &self.joint, index)
     }
 }

@@ -14,7 +14,7 @@ use jpeg_segments::parser::{CodingProcess, Component};
 #[derive(Drop)]
 pub struct Coded<'a> {
     /// The component's index in the frame.
-    pub place: usize,
+    pub index: usize,
     /// The component itself.
     pub component: &'a Component,
     /// The quantization table in zigzag order.

@@ -72,7 +72,7 @@ fn begin<R: Read + Drop>(interval: &mut Interval, source: &mut Source<R>, n: u64
         (begun_from n (counted interval.old arrays))
         interval.old.decoder source.old (outcome_of result interval.new.refusal)
         interval.new.decoder source.new }
-    ensures held { result ≡ false → is_some interval.new.refusal ≡ true }
+    ensures refused { result ≡ false → is_some interval.new.refusal ≡ true }
 {
     if n == 0 {
         return true;

@@ -32,11 +32,12 @@ rounded_row r h = grind (arith, int_wrap_fits, shifted_row)
 -- ---- no sum is too large
 
 -- a transform of numbers of at most m
-transform_at_most : (m : ℕ) (s : ℕ → ℤ) (place : ℕ) → place < 8 → ((k : ℕ) → k < 8 → unsigned_abs (s k) ≤ m)
-    → unsigned_abs (transformed s place) ≤ m * 30610
+transform_at_most : (m : ℕ) (s : ℕ → ℤ) (index : ℕ) → index < 8 → ((k : ℕ) → k < 8 → unsigned_abs
+    (s k) ≤ m)
+    → unsigned_abs (transformed s index) ≤ m * 30610
 unfolding transformed
-transform_at_most m s place h small =
-    le_trans (bounded m (basis place) s 8 small) (mul-le-mul_left m (size_of_row place h))
+transform_at_most m s index h small =
+    le_trans (bounded m (basis index) s 8 small) (mul-le-mul_left m (size_of_row index h))
 
 not_large : (z : ℤ) → unsigned_abs z ≤ 2048 → (neg_ℤ (pos 524288) ≤ℤ z) × (z <ℤ pos 524288)
 not_large z h = omega (arith, ints)

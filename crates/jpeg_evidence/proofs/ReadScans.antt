@@ -30,7 +30,8 @@ interval-read p turns bytes rest m w =
     = let s : length (drop r.n t.bits) ≤ 7 = subst (λ (l : List Bool). length l ≤ 7) left w.is_short in omega arith in
     let met : marker_from (advance r.n (upcoming fresh bytes)) ≡ Ok (Some m, rest)
     = ends-so r.n bytes ∙ rw (le-leb (length (drop r.n t.bits)) 56 few, w.ends, end_after) refl in
-    ap (λ o. o >>= (λ x. marker_from x.1 >>= (λ m. Ok ((x.0, m.0), m.1)))) (r.anywhere refl (drop 56 t.places) t.ending)
+    ap (λ o. o >>= (λ x. marker_from x.1 >>= (λ m. Ok ((x.0, m.0), m.1)))) (r.anywhere refl (drop
+    56 t.following) t.ending)
     ∙ ap (λ o. o >>= (λ m. Ok ((w.blocks, m.0), m.1))) met
 
 pub interval-written : (p : Pass) (turns : List (Via × Block)) (bytes rest : List ℕ) (m : Marker)

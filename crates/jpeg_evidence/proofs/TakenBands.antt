@@ -36,7 +36,8 @@ not-nothing s u h cat e = grind arith
 
 pub run-small : (table : Table) (r s : ℕ) (code : List Bool) → HasByteSymbols table → IsCoded table
     (16 * r + s) code → r ≤ 15
-run-small table r s code bytes coded = let h = bytes.each coded.place in let e = coded.is_for in omega (arith, h, e)
+run-small table r s code bytes coded = let h = bytes.each coded.index in let e = coded.is_for in
+    omega (arith, h, e)
 
 value-written : (table : Table) (al r : ℕ) (u : ℤ) (band : List ℤ) (run : ℕ) (own back : List Bool)
     → HasByteSymbols table
@@ -99,20 +100,25 @@ step : (table : Table) (al n room : ℕ) (x : Token) (more : List Bool) (y : Ban
     → after_token al (first_ac table al n) (no_numbers (suc room)) x (alone more) ≡ Ok (y, t)
     → IsCut (IsAfter table al (suc room) x y) more t
 step table al n room (Value r u) more y t bytes fits others e =
-    let places = no_numbers (suc room) in
+    let following = no_numbers (suc room) in
     let small = fits.0 in
-    let front : take r places ≡ no_numbers r = take-replicate r (suc room) (pos 0) (omega (arith, small)) in
-    let back : drop (r + 1) places ≡ no_numbers (suc room - (r + 1)) = drop-replicate (r + 1) (suc room) (pos 0) in
-    map-taken (first_ac table al n (drop (r + 1) places))
-    (λ (m : Band). before_more (take r places ++ wrapped (scaled al u) ∷ []) m) (IsLong table al (suc room - (r + 1)))
+    let front : take r following ≡ no_numbers r = take-replicate r (suc room) (pos 0) (omega
+    (arith, small)) in
+    let back : drop (r + 1) following ≡ no_numbers (suc room - (r + 1)) = drop-replicate (r + 1)
+    (suc room) (pos 0) in
+    map-taken (first_ac table al n (drop (r + 1) following))
+    (λ (m : Band). before_more (take r following ++ wrapped (scaled al u) ∷ []) m) (IsLong table al
+    (suc room - (r + 1)))
     (IsAfter table al (suc room) (Value r u)) more t y
     (λ z j. others z (ap (λ (l : List ℤ). first_ac table al n l (alone more)) (sym back) ∙ j))
     (grind (arith, value-written, length-append, length-replicate)) e
 step table al n room Sixteen more y t bytes fits others e =
-    let places = no_numbers (suc room) in
-    let front : take 16 places ≡ no_numbers 16 = take-replicate 16 (suc room) (pos 0) fits in
-    let back : drop 16 places ≡ no_numbers (suc room - 16) = drop-replicate 16 (suc room) (pos 0) in
-    map-taken (first_ac table al n (drop 16 places)) (λ (m : Band). before_more (take 16 places) m)
+    let following = no_numbers (suc room) in
+    let front : take 16 following ≡ no_numbers 16 = take-replicate 16 (suc room) (pos 0) fits in
+    let back : drop 16 following ≡ no_numbers (suc room - 16) = drop-replicate 16 (suc room) (pos
+    0) in
+    map-taken (first_ac table al n (drop 16 following)) (λ (m : Band). before_more (take 16
+    following) m)
     (IsLong table al (suc room - 16)) (IsAfter table al (suc room) Sixteen) more t y
     (λ z j. others z (ap (λ (l : List ℤ). first_ac table al n l (alone more)) (sym back) ∙ j))
     (λ z own b first w. subst (λ (l : List ℤ). IsLong table al (suc room) (before_more l z) (first ++ own)) (sym front)
@@ -133,10 +139,11 @@ long-taken table al n room bits y t is bytes (filled bits') le e =
     (record { band = record { numbers = []; are = refl; written = full }; long = refl }) e
 long-taken table al zero room bits y t is bytes (token k x bits' more h f w) le e = absurd (omega arith)
 long-taken table al (suc n) room bits y t is bytes (token k x bits' more h f w) le e =
-    let places = no_numbers (suc k) in
-    let long : length places ≡ suc k = length-replicate (suc k) (pos 0) in
-    let after = after_token al (first_ac table al n) places in
-    let rest = after-read (token_from table (length places)) after x (alone bits) (alone more) t y
+    let following = no_numbers (suc k) in
+    let long : length following ≡ suc k = length-replicate (suc k) (pos 0) in
+    let after = after_token al (first_ac table al n) following in
+    let rest = after-read (token_from table (length following)) after x (alone bits) (alone more) t
+    y
     (ap (λ (j : ℕ). token_from table j (alone bits)) long ∙ h) e in
     let small : room_after (suc k) x ≤ n = after-small k n x le in
     let d = step table al n k x more y t bytes f

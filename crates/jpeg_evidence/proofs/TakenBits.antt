@@ -15,7 +15,7 @@ use Rattle.jpeg_bits.specs.Reading as outcomes
 use Rattle.jpeg_bits.specs.Entropy.{bits_from, number_of, Text, advance}
 use Rattle.jpeg_bits.specs.Readers.{Reads, gives, ◌>>=◌}
 use Rattle.jpeg_bits.specs.Codes.{Table, IsTable, code_from, code_in, code_value, first_from, begins, code_lengths}
-use Rattle.jpeg_bits.specs.Codes.{next_16, code_by, if_held, symbol_from}
+use Rattle.jpeg_bits.specs.Codes.{next_16, code_by, if_kept, symbol_from}
 use Rattle.jpeg_bits.specs.Reading.{Malformed}
 use Rattle.jpeg_bits.specs.Written.{bit, low_bits, IsCoded}
 use Rattle.jpeg_bits.proofs.Tables.{rising-at, all-rising, symbol-code}
@@ -179,11 +179,11 @@ test-found test a (suc n) i e = go (test a) refl (test-found test (a + 1) n i) e
     go true h more k = grind (arith, some-is)
     go false h more k = let r = more k in (r.0, omega (arith, r.1))
 
-code-place : (lens : List ℕ) (bits : List Bool) (c : ℕ × ℕ) → code_in lens bits ≡ Some c
+code-index : (lens : List ℕ) (bits : List Bool) (c : ℕ × ℕ) → code_in lens bits ≡ Some c
     → (c.0 < length lens) × (c.1 ≡ slice_index lens c.0)
     × (number_of (take c.1 bits) ≡ code_value lens c.0)
 unfolding code_in begins
-code-place lens bits c e = grind (arith, none-is, some-is, test-found, eqb-true)
+code-index lens bits c e = grind (arith, none-is, some-is, test-found, eqb-true)
 
 -- The bits that were taken of a code are those of a code for its symbol.
 pub code-taken : (table : Table) (bits : List Bool) (c : ℕ × ℕ) (t : Text) → IsTable table
@@ -191,18 +191,19 @@ pub code-taken : (table : Table) (bits : List Bool) (c : ℕ × ℕ) (t : Text) 
 unfolding code_from
 code-taken table bits c t is e = go (code_in (code_lengths table.counts) (next_16 bits)) refl e
   where
-    held : (x : ℕ × ℕ) → code_in (code_lengths table.counts) (next_16 bits) ≡ Some x → (b : Bool)
+    kept : (x : ℕ × ℕ) → code_in (code_lengths table.counts) (next_16 bits) ≡ Some x → (b : Bool)
         → leb x.1 (length bits) ≡ b
-        → if_held (x.1, slice_index table.symbols x.0) (advance x.1 (alone bits)) (cond b (Ok tt) (Err End)) ≡ Ok (c, t)
+        → if_kept (x.1, slice_index table.symbols x.0) (advance x.1 (alone bits)) (cond b (Ok tt)
+        (Err End)) ≡ Ok (c, t)
         → IsCut (IsCoded table c.1) bits t
-    held x h false k l = absurd (no-error End (c, t) l)
-    held x h true k l =
+    kept x h false k l = absurd (no-error End (c, t) l)
+    kept x h true k l =
         let lens = code_lengths table.counts in
         let le : x.1 ≤ length bits = leb-true x.1 (length bits) k in
         let q = ok-parts (x.1, slice_index table.symbols x.0) c (advance x.1 (alone bits)) t l in
-        let place = code-place lens (next_16 bits) x h in
-        let top = (rising-at 1 16 lens x.0 (all-rising table.counts is.counted) place.0).1 in
-        let small : x.1 ≤ 16 = omega (arith, top, place.1) in
+        let index = code-index lens (next_16 bits) x h in
+        let top = (rising-at 1 16 lens x.0 (all-rising table.counts is.counted) index.0).1 in
+        let small : x.1 ≤ 16 = omega (arith, top, index.1) in
         let front : take x.1 (next_16 bits) ≡ take x.1 bits
         = take-take x.1 16 (bits ++ replicate 16 false) small ∙ take-append-le x.1 bits (replicate 16 false) le in
         grind (arith, front-number, cut-front)
@@ -210,7 +211,7 @@ code-taken table bits c t is e = go (code_in (code_lengths table.counts) (next_1
     go : (o : Option (ℕ × ℕ)) → code_in (code_lengths table.counts) (next_16 bits) ≡ o
         → code_by table (alone bits) o ≡ Ok (c, t) → IsCut (IsCoded table c.1) bits t
     go None h k = absurd (no-error Malformed (c, t) k)
-    go (Some x) h k = held x h (leb x.1 (length bits)) refl k
+    go (Some x) h k = kept x h (leb x.1 (length bits)) refl k
 
 -- The same of a symbol.
 pub symbol-taken : (table : Table) (bits : List Bool) (symbol : ℕ) (t : Text) → IsTable table

@@ -22,7 +22,8 @@ use Rattle.jpeg_evidence.specs.Strict.{alone, IsCut, HasByteSymbols, TokensFit, 
 use Rattle.jpeg_evidence.specs.Strict.{BlockFits, HasTables}
 use Rattle.jpeg_evidence.proofs.TakenBits.{bind-cut, gives-taken, map-parts, map-taken, cut-map, Both}
 use Rattle.jpeg_evidence.proofs.TakenBits.{number-taken}
-use Rattle.jpeg_evidence.proofs.TakenRefinements.{IsHeld, IsCorrected, IsRefined, alike-long, alike-none, one-bit}
+use Rattle.jpeg_evidence.proofs.TakenRefinements.{IsKept, IsCorrected, IsRefined, alike-long}
+use Rattle.jpeg_evidence.proofs.TakenRefinements.{alike-none, one-bit}
 use Rattle.jpeg_evidence.proofs.TakenRefinements.{corrected-taken, refined-taken}
 use Rattle.jpeg_evidence.proofs.TakenValues.{difference-taken}
 use Rattle.std.proofs.Common.{ap₂, negsuc}
@@ -31,7 +32,7 @@ use Rattle.jpeg_bits.specs.Written.{bit}
 use Rattle.jpeg_streams.specs.WrittenData.{NoneNew, corrections, low_bit, WritesRefinement}
 use Rattle.jpeg_streams.specs.WrittenData.WritesDc.{one_bit}
 use Rattle.jpeg_streams.specs.WrittenData.WritesAc.{again as a_refinement, again_run}
-use Rattle.jpeg_streams.proofs.SentBlocks.{dc_held, floor_half}
+use Rattle.jpeg_streams.proofs.SentBlocks.{dc_kept, floor_half}
 use Rattle.jpeg_streams.proofs.WrittenBlocks.{dc-refined}
 use Rattle.jpeg_evidence.specs.Strict.{IsNumber, PiecesFit}
 use Rattle.jpeg_evidence.proofs.TakenBands.{IsLong, long-taken}
@@ -65,10 +66,10 @@ dc-first p table predictor bits y t s f is fits e =
     let range : InRange al u = record { within = fits d t.bits read } in
     let plain : wrapped u ≡ u = fits-itself u (range-below al u range) in
     let next : u ≡ y.1 = sym plain ∙ ap (λ (v : ℤ × ℤ). v.1) r.2 in
-    let held : scaled al u ≡ y.0
+    let kept : scaled al u ≡ y.0
     = sym (scaled-fits al u range) ∙ ap (λ (x : ℤ). wrapped (scaled al x)) (sym plain)
     ∙ ap (λ (v : ℤ × ℤ). v.0) r.2 in
-    let number : u ≡ floor_at al y.0 = sym (floor-scaled al u) ∙ ap (floor_at al) held in
+    let number : u ≡ floor_at al y.0 = sym (floor-scaled al u) ∙ ap (floor_at al) kept in
     let same : d ≡ u -ℤ predictor = omega (arith, ints) in
     grind (arith, cut-map, a_whole)
 
@@ -87,23 +88,24 @@ pushed-low x b h = grind arith
 
 pushed-or : (al b : ℕ) (z : ℤ) → b < 2 → scaled (suc al) (floor_at (suc al) z) ≡ z
     → or_bit al z b ≡ scaled al (pushed (floor_at (suc al) z) b)
-pushed-or al b z h held =
+pushed-or al b z h kept =
     let v = floor_at (suc al) z in
-    let before : z ≡ dc_held al (pushed v b) = sym held ∙ ap (scaled (suc al)) (sym (pushed-half v b h)) in
+    let before : z ≡ dc_kept al (pushed v b) = sym kept ∙ ap (scaled (suc al)) (sym (pushed-half v
+    b h)) in
     ap₂ (λ (x : ℤ) (k : ℕ). or_bit al x k) before (sym (pushed-low v b h)) ∙ dc-refined al (pushed v b)
 
 dc-again : (p : Pass) (table : Table) (z predictor : ℤ) (bits : List Bool) (y : ℤ × ℤ) (t : Text) → p.ss ≡ 0
     → p.is_first ≡ false → scaled (suc p.al) (floor_at (suc p.al) z) ≡ z
     → (bits_from 1 >>= (λ b. gives (or_bit p.al z b, predictor))) (alone bits) ≡ Ok (y, t)
     → IsCut (WritesRead p table predictor y) bits t
-dc-again p table z predictor bits y t s f held e =
+dc-again p table z predictor bits y t s f kept e =
     let al = p.al in
     map-taken (bits_from 1) (λ (b : ℕ). (or_bit al z b, predictor)) (IsNumber 1) (WritesRead p table predictor) bits t y
     (λ b. number-taken 1 bits b t)
     (λ b own w.
     let u = pushed (floor_at (suc al) z) b in
     let number : u ≡ floor_at al (or_bit al z b)
-    = sym (floor-scaled al u) ∙ ap (floor_at al) (sym (pushed-or al b z w.below held)) in
+    = sym (floor-scaled al u) ∙ ap (floor_at al) (sym (pushed-or al b z w.below kept)) in
     let own_is : bit (low_bit u) ∷ [] ≡ own
     = ap (λ (x : ℕ). bit x ∷ []) (pushed-low (floor_at (suc al) z) b w.below) ∙ one-bit b own w in
     subst (λ (x : ℤ). WritesDc p table x predictor own predictor) number
@@ -164,10 +166,10 @@ written-run p table [] run f some none = absurd (omega arith)
 written-run p table (u ∷ us) run f some none = again_run u us run f none
 
 old-band : (p : Pass) (table : Table) (zs : List ℤ) (bits : List Bool) (y : Band) (t : Text) → p.is_first ≡ false
-    → 0 < length zs → IsTable table → HasByteSymbols table → AllByRecursion (IsHeld p.al) zs →
+    → 0 < length zs → IsTable table → HasByteSymbols table → AllByRecursion (IsKept p.al) zs →
     PiecesFit table p.al zs bits
     → refined_ac table p.al (length zs) zs (alone bits) ≡ Ok (y, t) → IsCut (IsRead p table zs 0 y) bits t
-old-band p table zs bits y t f some is bytes held fits e =
+old-band p table zs bits y t f some is bytes kept fits e =
     let al = p.al in
     cut-map (IsRefined table al zs y) (IsRead p table zs 0 y) bits t
     (λ own w.
@@ -179,16 +181,16 @@ old-band p table zs bits y t f some is bytes held fits e =
       written = subst (λ (l : List ℤ). WritesAc p table l 0 own y.1) (level-numbers al w.numbers y.0 w.are)
           (written-again p table w.numbers own y.1 f (omega (arith, some, long)) w.written);
     })
-    (refined-taken table al (length zs) zs bits y t is bytes held fits (le_refl (length zs)) e)
+    (refined-taken table al (length zs) zs bits y t is bytes kept fits (le_refl (length zs)) e)
 
 run-band : (p : Pass) (table : Table) (zs : List ℤ) (run : ℕ) (bits : List Bool) (y : Band) (t : Text)
-    → p.is_first ≡ false → 0 < length zs → AllByRecursion (IsHeld p.al) zs
+    → p.is_first ≡ false → 0 < length zs → AllByRecursion (IsKept p.al) zs
     → (corrected p.al zs >>= (λ all. gives (all, run))) (alone bits) ≡ Ok (y, t)
     → IsCut (IsRead p table zs (suc run) y) bits t
-run-band p table zs run bits y t f some held e =
+run-band p table zs run bits y t f some kept e =
     let al = p.al in
     map-taken (corrected al zs) (λ (all : List ℤ). (all, run)) (IsCorrected al zs) (IsRead p table zs (suc run)) bits t y
-    (λ ws. corrected-taken al zs bits ws t held)
+    (λ ws. corrected-taken al zs bits ws t kept)
     (λ ws own w.
     let size : length (map (scaled al) w.us) ≡ length w.us = length-map w.us (scaled al) in
     let sizes : length (map (scaled al) w.us) ≡ length ws = ap (λ (l : List ℤ). length l) w.are in
@@ -203,7 +205,7 @@ run-band p table zs run bits y t f some held e =
 pub band-taken-part : (p : Pass) (table : Table) (band : List ℤ) (run : ℕ) (bits : List Bool) (y : Band) (t : Text)
     → Tabled table band → (p.is_first ≡ true → band ≡ no_numbers (length band))
     → (p.is_first ≡ true → run ≡ 0 → TokensFit table p.al (length band) bits)
-    → (p.is_first ≡ false → AllByRecursion (IsHeld p.al) band)
+    → (p.is_first ≡ false → AllByRecursion (IsKept p.al) band)
     → (p.is_first ≡ false → run ≡ 0 → PiecesFit table p.al band bits)
     → band_part p table band run (alone bits) ≡ Ok (y, t) → IsCut (IsRead p table band run y) bits t
 unfolding band_part
@@ -270,12 +272,12 @@ pub parts-taken : (p : Pass) (via : Via) (predictor : ℤ) (run : ℕ) (old : Bl
     → IsCut (IsBlock p via predictor run r) bits t
 unfolding block_from
 parts-taken p via predictor run old bits r t dc band e =
-    let places = band_part p via.ac (band_of p old.acs) run in
-    let f : ℤ × ℤ → Reads (Block × ℤ × ℕ) = λ d. places >>= (λ b. gives (result p old d b)) in
+    let following = band_part p via.ac (band_of p old.acs) run in
+    let f : ℤ × ℤ → Reads (Block × ℤ × ℕ) = λ d. numbers >>= (λ b. gives (result p old d b)) in
     let c = bind-cut (dc_part p via.dc old.dc predictor) f bits t r (WritesRead p via.dc predictor)
     (IsRest p via.ac run old r) e dc
     (λ d more h k.
-    let m = map-parts places (λ (b : Band). result p old d b) (alone more) t r k in
+    let m = map-parts numbers (λ (b : Band). result p old d b) (alone more) t r k in
     cut-map (IsRead p via.ac (band_of p old.acs) run m.0) (IsRest p via.ac run old r d) more t
     (λ own w. record { y = m.0; same = m.2; band = w }) (band d more h m.0 m.1)) in
     cut-map (Both (WritesRead p via.dc predictor c.0) (IsRest p via.ac run old r c.0)) (IsBlock p via predictor run r)

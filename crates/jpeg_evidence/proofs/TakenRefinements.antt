@@ -33,8 +33,8 @@ use Rattle.jpeg_evidence.proofs.TakenBands.{run-small}
 -- ---- a place
 
 -- what is held of a place was sent at the level above
-abbrev pub IsHeld : ℕ → ℤ → Type 0
-IsHeld al z = scaled (suc al) (toward_zero (suc al) z) ≡ z
+abbrev pub IsKept : ℕ → ℤ → Type 0
+IsKept al z = scaled (suc al) (toward_zero (suc al) z) ≡ z
 
 abs-neg : (k : ℕ) → unsigned_abs (neg_ℤ (pos k)) ≡ k
 abs-neg x = grind arith
@@ -93,17 +93,17 @@ corrected-neg al m k b w s t some h small e = absurd (omega arith)
 not-none : (al m k : ℕ) → m * 2 ^ suc al ≡ suc k → 0 < m
 not-none al x k h = grind (arith, zero-mul)
 
-old-place : (al : ℕ) (z : ℤ) (b : ℕ) (w : ℤ) (s t : Text) → IsHeld al z → is_zero z ≡ false → b < 2
+old-index : (al : ℕ) (z : ℤ) (b : ℕ) (w : ℤ) (s t : Text) → IsKept al z → is_zero z ≡ false → b < 2
     → corrected_by al z b s ≡ Ok (w, t) → IsOld al w b × (s ≡ t)
-old-place al (pos zero) b w s t held old small e = cc
-old-place al (pos (suc k)) b w s t held old small e =
+old-index al (pos zero) b w s t kept old small e = cc
+old-index al (pos (suc k)) b w s t kept old small e =
     let m = suc k / 2 ^ suc al in
-    let h : m * 2 ^ suc al ≡ suc k = ap unsigned_abs held in
+    let h : m * 2 ^ suc al ≡ suc k = ap unsigned_abs kept in
     corrected-pos al m (suc k) b w s t (not-none al m k h) h small e
-old-place al (negsuc k) b w s t held old small e =
+old-index al (negsuc k) b w s t kept old small e =
     let m = suc k / 2 ^ suc al in
     let h : m * 2 ^ suc al ≡ suc k
-    = sym (abs-neg (m * 2 ^ suc al)) ∙ ap unsigned_abs (sym (neg-times m (2 ^ suc al)) ∙ held) in
+    = sym (abs-neg (m * 2 ^ suc al)) ∙ ap unsigned_abs (sym (neg-times m (2 ^ suc al)) ∙ kept) in
     corrected-neg al m k b w s t (not-none al m k h) h small e
 
 -- ---- places
@@ -157,12 +157,12 @@ pub one-bit : (b : ℕ) (own : List Bool) → IsNumber 1 b own → bit b ∷ [] 
 unfolding low_bits
 one-bit b own is = grind arith
 
-one-taken : (al : ℕ) (z : ℤ) (bits : List Bool) (w : ℤ) (t : Text) → IsHeld al z
+one-taken : (al : ℕ) (z : ℤ) (bits : List Bool) (w : ℤ) (t : Text) → IsKept al z
     → (elim (is_zero z) as (λ _. Reads ℤ) [
       | true ↦ gives z
       | false ↦ bits_from 1 >>= (λ b. corrected_by al z b)
     ]) (alone bits) ≡ Ok (w, t) → IsCut (IsOne al z w) bits t
-one-taken al z bits w t held e = go (is_zero z) refl e
+one-taken al z bits w t kept e = go (is_zero z) refl e
   where
     go : (a : Bool) → is_zero z ≡ a
         → (elim a as (λ _. Reads ℤ) [ true ↦ gives z | false ↦ bits_from 1 >>= (λ b. corrected_by al z b) ])
@@ -179,7 +179,7 @@ one-taken al z bits w t held e = go (is_zero z) refl e
         (λ b u f. number-taken 1 bits b u f)
         (λ b more f g.
         let small : b < 2 = (number-taken 1 bits b (alone more) f).holds.below in
-        let r = old-place al z b w (alone more) t held h small g in
+        let r = old-index al z b w (alone more) t kept h small g in
         cut-none (λ (own : List Bool). IsOld al w b × (own ≡ [])) more t r.1 (r.0, refl)) in
         cut-map (Both (IsNumber 1 c.0) (λ (own : List Bool). IsOld al w c.0 × (own ≡ []))) (IsOne al z w) bits t
         (λ own both.
@@ -200,23 +200,23 @@ nil-corrected al = record { us = []; are = refl; alike = tt; bits = refl }
 
 -- The bits that were taken of corrections are the correction bits of the old places.
 pub corrected-taken : (al : ℕ) (zs : List ℤ) (bits : List Bool) (ws : List ℤ) (t : Text)
-    → AllByRecursion (IsHeld al) zs → corrected al zs (alone bits) ≡ Ok (ws, t)
+    → AllByRecursion (IsKept al) zs → corrected al zs (alone bits) ≡ Ok (ws, t)
     → IsCut (IsCorrected al zs ws) bits t
 unfolding corrected
-corrected-taken al [] bits ws t held e =
+corrected-taken al [] bits ws t kept e =
     gives-taken (IsCorrected al []) [] ws bits t (nil-corrected al) e
-corrected-taken al (z ∷ zs) bits ws t held e =
+corrected-taken al (z ∷ zs) bits ws t kept e =
     let one : Reads ℤ = elim (is_zero z) as (λ _. Reads ℤ) [
       | true ↦ gives z
       | false ↦ bits_from 1 >>= (λ b. corrected_by al z b)
     ] in
     let f : ℤ → Reads (List ℤ) = λ w. corrected al zs >>= (λ others. gives (w ∷ others)) in
     let k = bind-parts one f (alone bits) t ws e in
-    let c = one-taken al z bits k.0 k.1 held.0 k.2 in
+    let c = one-taken al z bits k.0 k.1 kept.0 k.2 in
     let more = k.1.bits in
     let rest : f k.0 (alone more) ≡ Ok (ws, t) = ap (f k.0) (sym c.rest) ∙ k.3 in
     let m = map-parts (corrected al zs) (λ (l : List ℤ). k.0 ∷ l) (alone more) t ws rest in
-    let d = corrected-taken al zs more m.0 t held.1 m.1 in
+    let d = corrected-taken al zs more m.0 t kept.1 m.1 in
     let first : IsCut (IsOne al z k.0) bits (alone more)
     = subst (λ (u : Text). IsCut (IsOne al z k.0) bits u) c.rest c in
     cut-map (Both (IsOne al z k.0) (IsCorrected al zs m.0)) (IsCorrected al (z ∷ zs) ws) bits t
@@ -342,7 +342,7 @@ found-both table al r sign zs ws x own bytes small b =
     let z = ends-zero zs r c.us small c.alike in
     let n = signed al sign b.second.first.below in
     let u = n.0 in
-    let held = front-are al z.front c.us ws z.parts c.are in
+    let kept = front-are al z.front c.us ws z.parts c.are in
     let last_new : with_last (new_number al sign) ws ≡ map (scaled al) z.front ++ scaled al u ∷ []
     = grind (arith, with_last-end) in
     let sign_is : bit (sign_bit u) ∷ [] ≡ b.second.front
@@ -366,7 +366,7 @@ passed-both table al zs ws x own small b =
     let c = b.second.first in
     let m = b.second.second in
     let z = ends-zero zs 15 c.us small c.alike in
-    let held = front-are al z.front c.us ws z.parts c.are in
+    let kept = front-are al z.front c.us ws z.parts c.are in
     let whole : b.front ++ (corrections z.front ++ b.second.back) ≡ own
     = ap (λ (q : List Bool). b.front ++ (q ++ b.second.back)) (front-bits z.front c.us b.second.front z.parts c.bits)
     ∙ ap (λ (l : List Bool). b.front ++ l) b.second.whole ∙ b.whole in
@@ -392,10 +392,10 @@ last-both table al r e zs ws own bytes ne some b = grind (arith, alike-long, run
 
 -- the piece that ends a band
 last-taken : (al r : ℕ) (others : List ℤ → Reads Band) (zs : List ℤ) (bits : List Bool) (y : Band) (t : Text) → r ≢ 15
-    → AllByRecursion (IsHeld al) zs → refined_piece al others zs r 0 (alone bits) ≡ Ok (y, t)
+    → AllByRecursion (IsKept al) zs → refined_piece al others zs r 0 (alone bits) ≡ Ok (y, t)
     → (e : ℕ) × (ws : List ℤ) × ((ws, 2 ^ r - 1 + e) ≡ y) × IsCut (Both (IsNumber r e) (IsCorrected al zs ws)) bits t
 unfolding refined_piece
-last-taken al r others zs bits y t ne held e = go (eqb r 15) refl e
+last-taken al r others zs bits y t ne kept e = go (eqb r 15) refl e
   where
     go : (b : Bool) → eqb r 15 ≡ b
         → (elim b as (λ _. Reads Band) [
@@ -430,16 +430,18 @@ drop-small n r z zs h = grind (arith, through-some, length-drop)
 
 -- The bits that were taken of a band in a refinement are written for it.
 pub refined-taken : (table : Table) (al n : ℕ) (zs : List ℤ) (bits : List Bool) (y : Band) (t : Text) → IsTable table
-    → HasByteSymbols table → AllByRecursion (IsHeld al) zs → PiecesFit table al zs bits → length zs
+    → HasByteSymbols table → AllByRecursion (IsKept al) zs → PiecesFit table al zs bits → length zs
     ≤ n
     → refined_ac table al n zs (alone bits) ≡ Ok (y, t) → IsCut (IsRefined table al zs y) bits t
 unfolding refined_ac refined_piece
-refined-taken table al n zs bits y t is bytes held (covered bits') le e =
+refined-taken table al n zs bits y t is bytes kept (covered bits') le e =
     gives-taken (IsRefined table al []) ([], 0) y bits t
     (record { numbers = []; are = refl; long = refl; written = refined }) e
-refined-taken table al zero zs bits y t is bytes held (new r sign z rest front bits' one two more h small h1 h2 w) le e =
+refined-taken table al zero zs bits y t is bytes kept (new r sign z rest front bits' one two more h
+    small h1 h2 w) le e =
     absurd (omega arith)
-refined-taken table al (suc n) zs bits y t is bytes held (new r sign z rest front bits' one two more h small h1 h2 w) le e =
+refined-taken table al (suc n) zs bits y t is bytes kept (new r sign z rest front bits' one two
+    more h small h1 h2 w) le e =
     let k = through_zero r (z ∷ rest) in
     let others = refined_ac table al n (drop k (z ∷ rest)) in
     let last_is : List ℤ → Reads Band = λ f. others >>= (λ m. gives (before_more (with_last (new_number al sign) f) m)) in
@@ -458,12 +460,16 @@ refined-taken table al (suc n) zs bits y t is bytes held (new r sign z rest fron
     (cut-both A (Both B (Both C D)) bits one t (symbol-taken table bits (16 * r + 1) (alone one) is h)
     (cut-both B (Both C D) one two t (number-taken 1 one sign (alone two) h1)
     (cut-both C D two more t
-    (corrected-taken al (take k (z ∷ rest)) two front (alone more) (all-take (IsHeld al) k (z ∷ rest) held) h2)
-    (refined-taken table al n (drop k (z ∷ rest)) more m.0 t is bytes (all-drop (IsHeld al) k (z ∷ rest) held) w
+    (corrected-taken al (take k (z ∷ rest)) two front (alone more) (all-take (IsKept al) k (z ∷
+    rest) kept) h2)
+    (refined-taken table al n (drop k (z ∷ rest)) more m.0 t is bytes (all-drop (IsKept al) k (z ∷
+    rest) kept) w
     (drop-small n r z rest le) m.1))))
-refined-taken table al zero zs bits y t is bytes held (zeros z rest front bits' one more h small h2 w) le e =
+refined-taken table al zero zs bits y t is bytes kept (zeros z rest front bits' one more h small h2
+    w) le e =
     absurd (omega arith)
-refined-taken table al (suc n) zs bits y t is bytes held (zeros z rest front bits' one more h small h2 w) le e =
+refined-taken table al (suc n) zs bits y t is bytes kept (zeros z rest front bits' one more h small
+    h2 w) le e =
     let k = through_zero 15 (z ∷ rest) in
     let others = refined_ac table al n (drop k (z ∷ rest)) in
     let last_is : List ℤ → Reads Band = λ f. others >>= (λ m. gives (before_more f m)) in
@@ -478,12 +484,15 @@ refined-taken table al (suc n) zs bits y t is bytes held (zeros z rest front bit
     (passed-both table al (z ∷ rest) front m.0 own small p))
     (cut-both A (Both C D) bits one t (symbol-taken table bits (16 * 15 + 0) (alone one) is h)
     (cut-both C D one more t
-    (corrected-taken al (take k (z ∷ rest)) one front (alone more) (all-take (IsHeld al) k (z ∷ rest) held) h2)
-    (refined-taken table al n (drop k (z ∷ rest)) more m.0 t is bytes (all-drop (IsHeld al) k (z ∷ rest) held) w
+    (corrected-taken al (take k (z ∷ rest)) one front (alone more) (all-take (IsKept al) k (z ∷
+    rest) kept) h2)
+    (refined-taken table al n (drop k (z ∷ rest)) more m.0 t is bytes (all-drop (IsKept al) k (z ∷
+    rest) kept) w
     (drop-small n 15 z rest le) m.1)))
-refined-taken table al zero zs bits y t is bytes held (last r z rest bits' one h ne) le e = absurd (omega arith)
-refined-taken table al (suc n) zs bits y t is bytes held (last r z rest bits' one h ne) le e =
-    let k = last-taken al r (refined_ac table al n) (z ∷ rest) one y t ne held
+refined-taken table al zero zs bits y t is bytes kept (last r z rest bits' one h ne) le e = absurd
+    (omega arith)
+refined-taken table al (suc n) zs bits y t is bytes kept (last r z rest bits' one h ne) le e =
+    let k = last-taken al r (refined_ac table al n) (z ∷ rest) one y t ne kept
     (after-symbol table al n r 0 z rest bits one y t (omega arith) h e) in
     let A = IsCoded table (16 * r + 0) in
     let B = Both (IsNumber r k.0) (IsCorrected al (z ∷ rest) k.1) in

@@ -7,7 +7,7 @@ use Rattle.jpeg_evidence.specs.Cosines.{cosine, unit}
 
 -- C_k cos ((2 place + 1) k pi / 16), in units of 10^-12: C_0 is the cosine of 4 sixteenths of pi
 unfoldable pub weight : ℕ → ℕ → ℤ
-weight place k = cosine (if k == 0 then 4 else (2 * place + 1) * k)
+weight index k = cosine (if k == 0 then 4 else (2 * index + 1) * k)
 
 -- A.3.3's sum for the sample at (x, y), without its factor 1/4, in units of 10^-24: d v u is the
 -- coefficient of row v and column u, dequantized

@@ -144,7 +144,7 @@ all_listed (Err e) = Err e
 
 -- those of the DHT segment of the sequential file whose length stands at a place
 abbrev pub file_tables : ℕ → Result (List Table) Fault
-file_tables place = all_listed (dht_at (Some true) (drop place sequential_file))
+file_tables index = all_listed (dht_at (Some true) (drop index sequential_file))
 
 -- ---- a lossless file
 

@@ -112,7 +112,11 @@ pub record IsBand (table : Table) (al : ℕ) (band : List ℤ) (run : ℕ) (own 
 -- how many places are zero
 unfoldable pub count_zeros : List ℤ → ℕ
 count_zeros [] = 0
-count_zeros (z ∷ places) = elim (is_zero z) [ true ↦ suc (count_zeros places) | false ↦ count_zeros places ]
+count_zeros (z ∷ numbers) = elim (is_zero z) [
+  | true ↦ suc (count_zeros numbers)
+  | false ↦
+      count_zeros numbers
+]
 
 -- The pieces of a band fit, one after the other: each that goes through a zero has it.
 pub data PiecesFit (table : Table) (al : ℕ) : List ℤ → List Bool → Type 0 where

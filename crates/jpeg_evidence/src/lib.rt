@@ -25,7 +25,7 @@ ghost use Rattle.jpeg_pixels.specs.declared.upsampler.UpsampleRule.TheVariants a
 ghost use Rattle.jpeg_segments.specs.Application.{Adobe, Jfif, Avi1, Icc, Exif, Xmp, Psir, app_at};
 ghost use Rattle.jpeg_segments.specs.Frame.{coding_of, is_differential_number, is_factor};
 ghost use Rattle.jpeg_segments.specs.Frame.{is_precision, process_of};
-ghost use Rattle.jpeg_segments.specs.HuffmanTables.{greatest_place};
+ghost use Rattle.jpeg_segments.specs.HuffmanTables.{greatest_destination};
 ghost use Rattle.jpeg_segments.specs.Quantization.{value_at};
 ghost use Rattle.jpeg_segments.specs.Scales.{scale_for};
 ghost use Rattle.jpeg_segments.specs.ScanHeader.{band_at, is_progressive_band, predictor_by, scan_of};
@@ -154,7 +154,7 @@ pub fn headers_are_of_tables()
         ≡ false ∷ true ∷ false ∷ true ∷ true ∷ false ∷ [] }
 
     // Places of Huffman tables, and values of 16 bits in quantization tables.
-    ensures places { map (λ is_baseline. greatest_place (Some is_baseline)) (true ∷ false ∷ [])
+    ensures indices { map (λ is_baseline. greatest_destination (Some is_baseline)) (true ∷ false ∷ [])
         ≡ 1 ∷ 3 ∷ [] }
     ensures wide { value_at true (1 ∷ 2 ∷ []) ≡ Ok (258, []) }
 

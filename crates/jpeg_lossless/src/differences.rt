@@ -1,10 +1,10 @@
 //! The differences of a lossless scan (T.81, H.1.2.2), read from its entropy-coded bits.
 ghost use Rattle.std.specs.Prelude.{◌≡◌, ◌+◌, ◌*◌, map, length, OnOk, is_some, true, false};
 ghost use Rattle.jpeg_bits.specs.Entropy.{Takes};
-ghost use Rattle.jpeg_bits.specs.Refusals.{answer_of, outcome_of, IsHeld};
+ghost use Rattle.jpeg_bits.specs.Refusals.{answer_of, outcome_of, IsRefused};
 ghost use Rattle.jpeg_lossless.specs.Differences.{sample_difference, differences, row_tables, onto};
 
-use jpeg_bits::error::{Error, Result, hold_category_error, take_refusal};
+use jpeg_bits::error::{Error, Result, set_category_error, take_refusal};
 use jpeg_bits::huffman::{HuffmanDecoder, HuffmanTable};
 use jpeg_bits::source::Source;
 use std::alloc::Global;
@@ -24,13 +24,13 @@ fn take_difference<R: Read + Drop>(
 ) -> Option<u16>
     ensures difference { Takes (λ d. d) (sample_difference table.now)
         decoder.old source.old (answer_of result refusal.new) decoder.new source.new }
-    ensures held { IsHeld result refusal.new }
+    ensures refused { IsRefused result refusal.new }
 {
     let Some(category) = decoder.take_symbol(source, table, refusal) else {
         return None;
     };
     if category > 16 {
-        hold_category_error(alloc, category, 16, refusal);
+        set_category_error(alloc, category, 16, refusal);
         return None;
     }
     if category == 0 {
@@ -61,7 +61,7 @@ fn take_mcu<R: Read + Drop>(
     ensures reads { Takes (λ _. row.new.items)
         (onto row.old.items (differences (map (λ t. t.now) tables.now)))
         decoder.old source.old (outcome_of result refusal.new) decoder.new source.new }
-    ensures held { result ≡ false → is_some refusal.new ≡ true }
+    ensures refused { result ≡ false → is_some refusal.new ≡ true }
 {
     for i in 0..tables.len() {
         let Some(difference) = take_difference(alloc, decoder, source, tables[i], refusal) else {
@@ -92,16 +92,16 @@ pub(crate) fn read_row<R: Read + Drop>(
 {
     row.clear();
     // The buffered bits of a local decoder stay in registers while the row is read.
-    let mut held = decoder.copied();
+    let mut buffered = decoder.copied();
     let mut refusal = None;
     let mut left = count;
     while left > 0 {
-        if !take_mcu(alloc, &mut held, source, tables, row, &mut refusal) {
-            *decoder = held;
+        if !take_mcu(alloc, &mut buffered, source, tables, row, &mut refusal) {
+            *decoder = buffered;
             return Err(take_refusal(&mut refusal));
         }
         left -= 1;
     }
-    *decoder = held;
+    *decoder = buffered;
     Ok(())
 }

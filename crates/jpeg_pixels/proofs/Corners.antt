@@ -109,9 +109,9 @@ corner_is coefficients fits tested = record {
       (none (48 + column) (lower column l).third) (none (56 + column) (lower column l).fourth) row h;
 }
   where
-    none : (place : ℕ) → eqb (of_z w16 (get_or coefficients place (pos 0))) 0 ≡ true
-        → get_or coefficients place (pos 0) ≡ pos 0
-    none place e = none_of _ (sym (half_zero _ (fits place)) ∙ e)
+    none : (index : ℕ) → eqb (of_z w16 (get_or coefficients index (pos 0))) 0 ≡ true
+        → get_or coefficients index (pos 0) ≡ pos 0
+    none index e = none_of _ (sym (half_zero _ (fits index)) ∙ e)
 
     lower : (j : ℕ) → j < 8 → AreZero (bits_at coefficients 32 j) (bits_at coefficients 40 j)
         (bits_at coefficients 48 j) (bits_at coefficients 56 j)

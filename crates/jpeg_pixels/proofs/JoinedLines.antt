@@ -53,14 +53,14 @@ by_pixels n width pixel out some sizes long each =
     ext_get_or 0 out (concat lines) (long ∙ turned ∙ ap (λ m. m * n) (sym count) ∙ sym all)
     (λ i h.
     let below : i < width * n = omega (arith, long, turned) in
-    let place : i % n < n = mod-lt i some in
+    let index : i % n < n = mod-lt i some in
     let line : i / n < width = (div-lt_iff_lt-mul {k = n} {x = i} {y = width} some).1 below in
     let is : n * (i / n) + i % n ≡ i = div-add-mod i n in
     let is' : i / n * n + i % n ≡ i = (λ j. mul_comm (i / n) n j + i % n) ∙ is in
     ap (λ m. get_or out m 0) (sym is)
-    ∙ each (i / n) (i % n) line place
+    ∙ each (i / n) (i % n) line index
     ∙ ap (λ (l : List ℕ). get_or l (i % n) 0) (sym (line_is (i / n) line))
-    ∙ sym (joined-at n lines (i / n) (i % n) are_long (omega (arith, count)) place)
+    ∙ sym (joined-at n lines (i / n) (i % n) are_long (omega (arith, count)) index)
     ∙ ap (λ m. get_or (concat lines) m 0) is')
 
 -- the samples of a pixel stand in the lines

@@ -36,4 +36,4 @@ pub mod UpsampledEnds
 pub mod UpsampledRows
 pub mod WholePictures
 pub mod ZeroCases
-pub mod ZigzagPlaces
+pub mod ZigzagIndices

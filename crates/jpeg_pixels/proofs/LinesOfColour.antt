@@ -37,7 +37,7 @@ module _ (width : ℕ) (lines : List (List ℕ)) (out : List ℕ) (long : HaveWi
 
   -- at the place of each pixel stands its value
   abbrev pub Puts : (ℕ → ℕ) → (ℕ → ℕ) → Type 0
-  Puts place value = (x : ℕ) → x < width → get_or out (place x) 0 ≡ value x
+  Puts index value = (x : ℕ) → x < width → get_or out (index x) 0 ≡ value x
 
   -- the first byte of a pixel
   first : (n x : ℕ) → get_or out (n * x + 0) 0 ≡ get_or out (n * x) 0

@@ -54,15 +54,16 @@ pub signed_chosen : {w : Width} {a b x y : List ℕ} {f g p q : ℕ → ℤ} →
     → IsSigned w (sel_l (map (top (hbits w)) (zip2 (λ m n. cond (lt_z (to_z w m) (to_z w n)) (2 ^ bits w - 1) 0) a b))
     x y) (λ j. cond (lt_z (f j) (g j)) (p j) (q j))
 signed_chosen {w} {a} {b} {x} {y} {f} {g} {p} {q} sa sb sx sy =
-    let places = range_with_len 0 8 in
+    let indices = range_with_len 0 8 in
     let test : ℕ → ℕ → Bool = λ m n. lt_z (to_z w m) (to_z w n) in
     let mask = tops_compared w test a b
-    ∙ zip2_of_maps test (λ j. of_z w (f j)) (λ j. of_z w (g j)) places sa.is sb.is
-    ∙ (λ i. map (λ j. lt_z (to_z-of_z w (f j) (sa.fits j) i) (to_z-of_z w (g j) (sb.fits j) i)) places) in
+    ∙ zip2_of_maps test (λ j. of_z w (f j)) (λ j. of_z w (g j)) indices sa.is sb.is
+    ∙ (λ i. map (λ j. lt_z (to_z-of_z w (f j) (sa.fits j) i) (to_z-of_z w (g j) (sb.fits j) i))
+    indices) in
     record {
       is = (λ i. sel_l (mask i) (sx.is i) (sy.is i))
-          ∙ sel_of_maps (λ j. lt_z (f j) (g j)) (λ j. of_z w (p j)) (λ j. of_z w (q j)) places
-          ∙ (λ i. map (λ j. either (lt_z (f j) (g j)) (p j) (q j) i) places);
+          ∙ sel_of_maps (λ j. lt_z (f j) (g j)) (λ j. of_z w (p j)) (λ j. of_z w (q j)) indices
+          ∙ (λ i. map (λ j. either (lt_z (f j) (g j)) (p j) (q j) i) indices);
       fits = λ j. chosen_fits (lt_z (f j) (g j)) (p j) (q j) (sx.fits j) (sy.fits j);
     }
   where
@@ -109,15 +110,15 @@ pub choice : (P : ℤ → Type 0) (a b p q : ℤ) → (a <ℤ b → P p) → (b 
 choice P a b p q less not_less = grind (arith, common_steps, cond, not)
 
 -- the number of 16 bits that is nearest, as two choices find it
-abbrev pub held : ℤ → ℤ
-held z = cond (lt_z (cond (lt_z z (negsuc 32767)) (negsuc 32767) z) (pos 32767))
+abbrev pub kept : ℤ → ℤ
+kept z = cond (lt_z (cond (lt_z z (negsuc 32767)) (negsuc 32767) z) (pos 32767))
     (cond (lt_z z (negsuc 32767)) (negsuc 32767) z) (pos 32767)
 
-pub held_fits : (z : ℤ) → FitsSigned w16 (held z)
-held_fits z = grind (arith, common_steps, choice, cond)
+pub kept_fits : (z : ℤ) → FitsSigned w16 (kept z)
+kept_fits z = grind (arith, common_steps, choice, cond)
 
-pub held_same : (z : ℤ) → FitsSigned w16 z → held z ≡ z
-held_same z f = grind (arith, common_steps, choice, cond)
+pub kept_same : (z : ℤ) → FitsSigned w16 z → kept z ≡ z
+kept_same z f = grind (arith, common_steps, choice, cond)
 
 -- where the less of two numbers isn't negative, neither is
 pub both_above : (x y : ℤ) → pos 0 ≤ℤ cond (lt_z x y) x y → (pos 0 ≤ℤ x) × (pos 0 ≤ℤ y)
@@ -141,7 +142,7 @@ pub clamped_lanes : (row : List ℤ) → length row ≡ 8 → ((j : ℕ) → Fit
     (replicate 8 32767)))
     (sel_l (map (top 31) (zip2 (λ m n. cond (lt_z (to_z w32 m) (to_z w32 n)) 4294967295 0)
     (map (of_z w32) row) (replicate 8 4294934528))) (replicate 8 4294934528) (map (of_z w32) row))
-    (replicate 8 32767)) (λ j. held (lane row j))
+    (replicate 8 32767)) (λ j. kept (lane row j))
 clamped_lanes row long fits = search (rules, signed_given, signed_splat, signed_chosen)
 
 -- where `simd_ge(0)` holds in each lane

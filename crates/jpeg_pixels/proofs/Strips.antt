@@ -15,7 +15,7 @@ use Rattle.jpeg_pixels.proofs.PlaneRows.{some-left, line_lt}
 
 -- the first columns of samples of some lines
 pub record HoldsSamples (lines stride columns : ℕ) (at : ℕ → ℕ → ℕ) (strip : List ℕ) : Type 0 where
-  pub held : (x y : ℕ) → x < columns → y < lines → slice_index strip (y * stride + x) ≡ at x y
+  pub kept : (x y : ℕ) → x < columns → y < lines → slice_index strip (y * stride + x) ≡ at x y
 
 -- the place of a block in a row
 pub block_has_room : (s column count room : ℕ) → 1 ≤ s → column < count → room ≡ s * s * count
@@ -30,7 +30,10 @@ pub HoldsSamples-next : (s stride column k : ℕ) (at block_at : ℕ → ℕ →
     → HoldsSamples s stride (s * column) at now
     → HoldsSamples s stride (s * (column + 1)) at (put_mid (s * column) k now new)
 HoldsSamples-next s stride column k at block_at now new wide room whole same written before =
-    record { held = λ x y hx hy. ⊎_elim (left x y hy) (λ le. here x y hx hy le) (cases_lt x (s * column)) }
+    record {
+      kept = λ x y hx hy. ⊎_elim (left x y hy) (λ le. here x y hx hy le) (cases_lt x (s *
+          column));
+    }
   where
     a : ℕ
     a = s * column
@@ -39,9 +42,9 @@ HoldsSamples-next s stride column k at block_at now new wide room whole same wri
         → get_or (put_mid (s * column) k now new) (y * stride + x) 0 ≡ at x y
     here x y hx hy le =
         let more : s * (column + 1) ≡ s * column + s = omega arith in
-        let place : y * stride + x ≡ s * column + (y * stride + (x - s * column)) = omega arith in
+        let index : y * stride + x ≡ s * column + (y * stride + (x - s * column)) = omega arith in
         let back : s * column + (x - s * column) ≡ x = omega arith in
-        ap (λ i. get_or (put_mid (s * column) k now new) i 0) place
+        ap (λ i. get_or (put_mid (s * column) k now new) i 0) index
         ∙ put_tail_at (s * column) k now new (y * stride + (x - s * column)) room whole
         ∙ written.inside (x - s * column) y (omega (arith, more)) hy
         ∙ same (x - s * column) y (omega (arith, more)) hy
@@ -49,21 +52,22 @@ HoldsSamples-next s stride column k at block_at now new wide room whole same wri
 
     left : (x y : ℕ) → y < s → x < s * column → get_or (put_mid (s * column) k now new) (y * stride + x) 0 ≡ at x y
     left x zero hy lt = put_tail_below (s * column) k now new (0 * stride + x) room (omega arith)
-        ∙ before.held x 0 lt hy
+        ∙ before.kept x 0 lt hy
     left x (suc y) hy lt =
         let across = x + stride - s * column in
-        let place : suc y * stride + x ≡ s * column + (y * stride + across) = omega arith in
-        ap (λ i. get_or (put_mid (s * column) k now new) i 0) place
+        let index : suc y * stride + x ≡ s * column + (y * stride + across) = omega arith in
+        ap (λ i. get_or (put_mid (s * column) k now new) i 0) index
         ∙ put_tail_at (s * column) k now new (y * stride + across) room whole
         ∙ written.right across y (omega arith) (omega arith) (omega arith)
         ∙ tail_was (s * column) k now (y * stride + across) whole
-        ∙ ap (λ i. get_or now i 0) (sym place)
-        ∙ before.held x (suc y) lt hy
+        ∙ ap (λ i. get_or now i 0) (sym index)
+        ∙ before.kept x (suc y) lt hy
 
 -- a block of a row is at its column
 pub block_in_row : (s : ℕ) (table : List ℕ) (blocks : List (List ℤ)) (column : ℕ) (block : List ℤ)
     → block ≡ slice_index_or blocks column zero_coefficients → (x y : ℕ) → x < s → y < s
-    → sample_at s block table x y ≡ plane_sample s table (λ row place. slice_index_or blocks place zero_coefficients)
+    → sample_at s block table x y ≡ plane_sample s table (λ row index. slice_index_or blocks index
+    zero_coefficients)
     (s * column + x) y
 block_in_row s table blocks column block is x y hx hy =
     search (rules, line_lt, mod-eq_of_lt, mul-add-div, mul-add-mod_self_left, slice_index_or)
@@ -72,18 +76,19 @@ block_in_row s table blocks column block is x y hx hy =
 pub HoldsSamples-all : (s : ℕ) (table : List ℕ) (blocks : List (List ℤ)) (strip : List ℕ)
     (column : ℕ) → column ≡ length blocks → length strip ≡ s * s * length blocks
     → HoldsSamples s (s * length blocks) (s * column)
-    (plane_sample s table (λ row place. slice_index_or blocks place zero_coefficients)) strip
+    (plane_sample s table (λ row index. slice_index_or blocks index zero_coefficients)) strip
     → strip ≡ strip_of s table blocks
 unfolding plane_of
 HoldsSamples-all s table blocks strip column whole n before =
     let holds = rw whole at before in
     let stride = s * length blocks in
     let one : s * 1 ≡ s = omega arith in
-    fill_by_all (λ i. plane_sample s table (λ row place. slice_index_or blocks place zero_coefficients) (i % stride)
+    fill_by_all (λ i. plane_sample s table (λ row index. slice_index_or blocks index
+    zero_coefficients) (i % stride)
     (i / stride)) strip (stride * (s * 1)) 0 (n ∙ omega arith)
     (λ i h.
     let some : 0 < stride = some-left stride (s * 1) i h in
     let line : i / stride < s = omega (arith, line_lt stride (s * 1) i h, one) in
     let is : i / stride * stride + i % stride ≡ i = (λ j. mul_comm (i / stride) stride j + i % stride)
     ∙ div-add-mod i stride in
-    ap (λ m. get_or strip m 0) (sym is) ∙ holds.held (i % stride) (i / stride) (mod-lt i some) line)
+    ap (λ m. get_or strip m 0) (sym is) ∙ holds.kept (i % stride) (i / stride) (mod-lt i some) line)

@@ -3,7 +3,7 @@ use Rattle.std.proofs.lemmas.Grind.{common_steps}
 use Rattle.std.proofs.Common.{rules, ◌≡◌, ℕ, ◌+◌, ◌-◌, ◌*◌, ◌/◌, ◌<◌, ◌≤◌, arith, ap, ◌∙◌}
 use Rattle.std.proofs.lemmas.Bool.{cases_eq}
 use Rattle.std.proofs.lemmas.Nat.{div-mul-add}
-use Rattle.jpeg_pixels.specs.Upsampling.{across, down, blended, far_place, line_sum, upsampled}
+use Rattle.jpeg_pixels.specs.Upsampling.{across, down, blended, far_index, line_sum, upsampled}
 use Rattle.jpeg_pixels.specs.declared.upsampler.UpsampleRule.{UpsampleRule}
 use Rattle.jpeg_pixels.specs.declared.upsampler.UpsampleRule.TheVariants.{H1V1, H2V1, H1V2, H2V2, Generic}
 use Rattle.jpeg_pixels.proofs.UpsampledRows.{far_even, far_odd}
@@ -16,17 +16,17 @@ alike_twice : (a : ℕ) → (3 * (3 * a + a) + (3 * a + a) + 8) / 16 ≡ a
 alike_twice a = omega arith
 
 -- the nearer and the farther place at the ends
-far_first : (count : ℕ) → far_place count 0 ≡ 0
+far_first : (count : ℕ) → far_index count 0 ≡ 0
 far_first count = far_even count 0 (omega arith) ∙ omega arith
 
 near_last : (count : ℕ) → 1 ≤ count → (2 * count - 1) / 2 ≡ count - 1
 near_last count some = omega arith
 
-far_last : (count : ℕ) → 1 ≤ count → far_place count (2 * count - 1) ≡ count - 1
+far_last : (count : ℕ) → 1 ≤ count → far_index count (2 * count - 1) ≡ count - 1
 far_last count some = far_odd count (2 * count - 1) (omega arith) ∙ omega arith
 
 -- of one place
-far_alone : (x : ℕ) → x < 2 → far_place 1 x ≡ 0
+far_alone : (x : ℕ) → x < 2 → far_index 1 x ≡ 0
 far_alone x h = grind (arith, common_steps, cases_eq, far_even, far_odd)
 
 pub first_across : (plane : ℕ → ℕ → ℕ) (width height row : ℕ) → upsampled H2V1 plane width height 0 row ≡ plane 0 row
@@ -48,18 +48,25 @@ unfolding upsampled
 last_down plane width height x some = search (rules, far_last, near_last)
 
 -- a sample of H2V2 by the four places that it is blended from
-at_places : (plane : ℕ → ℕ → ℕ) (width height x row near far upper lower : ℕ) → x / 2 ≡ near → far_place width x ≡ far
-    → row / 2 ≡ upper → far_place height row ≡ lower → upsampled H2V2 plane width height x row
+at_indices : (plane : ℕ → ℕ → ℕ) (width height x row near far upper lower : ℕ) → x / 2 ≡ near →
+    far_index width x ≡ far
+    → row / 2 ≡ upper → far_index height row ≡ lower → upsampled H2V2 plane width height x row
     ≡ (3 * (3 * plane near upper + plane near lower) + (3 * plane far upper + plane far lower) + 8) / 16
 unfolding upsampled
-at_places plane width height x row near far upper lower a b c d = cc
+at_indices plane width height x row near far upper lower a b c d = cc
 
 pub first_corner : (plane : ℕ → ℕ → ℕ) (width height : ℕ) → upsampled H2V2 plane width height 0 0 ≡ plane 0 0
-first_corner plane width height = search (rules, alike_twice, at_places, far_first)
+first_corner plane width height = search (rules, alike_twice, at_indices, far_first)
 
 pub last_corner : (plane : ℕ → ℕ → ℕ) (width height : ℕ) → 1 ≤ width → 1 ≤ height →
     upsampled H2V2 plane width height (2 * width - 1) (2 * height - 1) ≡ plane (width - 1) (height - 1)
-last_corner plane width height wide high = search (rules, alike_twice, at_places, far_last, near_last)
+last_corner plane width height wide high = search (
+  rules,
+  alike_twice,
+  at_indices,
+  far_last,
+  near_last,
+)
 
 -- three parts of one sum of two lines and one of the same sum
 alike_sums : (a : ℕ) → (3 * a + a + 8) / 16 ≡ (a + 2) / 4
@@ -67,11 +74,17 @@ alike_sums a = omega arith
 
 pub first_column : (plane : ℕ → ℕ → ℕ) (width height row : ℕ) → upsampled H2V2 plane width height 0 row
     ≡ (line_sum plane height row 0 + 2) / 4
-first_column plane width height row = search (rules, alike_sums, at_places, far_first)
+first_column plane width height row = search (rules, alike_sums, at_indices, far_first)
 
 pub last_column : (plane : ℕ → ℕ → ℕ) (width height row : ℕ) → 1 ≤ width
     → upsampled H2V2 plane width height (2 * width - 1) row ≡ (line_sum plane height row (width - 1) + 2) / 4
-last_column plane width height row wide = search (rules, alike_sums, at_places, far_last, near_last)
+last_column plane width height row wide = search (
+  rules,
+  alike_sums,
+  at_indices,
+  far_last,
+  near_last,
+)
 
 -- two lines alike are one line
 one_line : (a b : ℕ) → (3 * (3 * a + a) + (3 * b + b) + 8) / 16 ≡ blended a b
@@ -80,7 +93,7 @@ one_line a b = omega arith
 pub first_line : (plane : ℕ → ℕ → ℕ) (width height x : ℕ) → upsampled H2V2 plane width height x 0 ≡ upsampled H2V1 plane
     width height x 0
 unfolding upsampled
-first_line plane width height x = grind (arith, common_steps, at_places, far_first, one_line)
+first_line plane width height x = grind (arith, common_steps, at_indices, far_first, one_line)
 
 pub repeated : (plane : ℕ → ℕ → ℕ) (width height h v i j k l : ℕ) → k < h → l < v
     → upsampled (Generic h v) plane width height (i * h + k) (j * v + l) ≡ plane i j
@@ -94,7 +107,7 @@ unfolding upsampled
 alone H1V1 plane x row hx hr = let a : x ≡ 0 = omega arith in let b : row ≡ 0 = omega arith in λ i. plane (a i) (b i)
 alone H2V1 plane x row hx hr = grind (arith, common_steps, far_alone, alike)
 alone H1V2 plane x row hx hr = grind (arith, common_steps, far_alone, alike)
-alone H2V2 plane x row hx hr = search (rules, at_places, far_alone, alike_twice)
+alone H2V2 plane x row hx hr = search (rules, at_indices, far_alone, alike_twice)
 alone (Generic h v) plane x row hx hr =
     let a : x / h ≡ 0 = ap (λ n. n / h) (let e : x ≡ 0 * h + x = omega arith in e) ∙ div-mul-add 0 h x hx in
     let b : row / v ≡ 0 = ap (λ n. n / v) (let e : row ≡ 0 * v + row = omega arith in e) ∙ div-mul-add 0 v row hr in

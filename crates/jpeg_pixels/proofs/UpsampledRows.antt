@@ -9,18 +9,18 @@ use Rattle.std.proofs.Math.Nat.{mul_comm, mul-le-mul_right, div-lt_iff_lt-mul}
 use Rattle.std.proofs.lemmas.List.{get_or_append_left}
 use Rattle.std.proofs.lemmas.Nat.{mod-mul-add}
 use Rattle.std.proofs.lemmas.Grind.{div_ceil_times, common_steps}
-use Rattle.jpeg_pixels.specs.Upsampling.{across, down, blended, far_place, upsampled}
+use Rattle.jpeg_pixels.specs.Upsampling.{across, down, blended, far_index, upsampled}
 use Rattle.jpeg_pixels.specs.declared.upsampler.UpsampleRule.{UpsampleRule}
 use Rattle.jpeg_pixels.specs.declared.upsampler.UpsampleRule.TheVariants.{H1V1, H2V1, H1V2, H2V2, Generic}
 
-pub far_even : (count x : ℕ) → x % 2 ≡ 0 → far_place count x ≡ x / 2 - 1
+pub far_even : (count x : ℕ) → x % 2 ≡ 0 → far_index count x ≡ x / 2 - 1
 far_even count x e = ap (λ r. cond (r == 0) (x / 2 - 1) (min (x / 2 + 1) (count - 1))) e
 
-pub far_odd : (count x : ℕ) → x % 2 ≡ 1 → far_place count x ≡ min (x / 2 + 1) (count - 1)
+pub far_odd : (count x : ℕ) → x % 2 ≡ 1 → far_index count x ≡ min (x / 2 + 1) (count - 1)
 far_odd count x e = ap (λ r. cond (r == 0) (x / 2 - 1) (min (x / 2 + 1) (count - 1))) e
 
 -- the farther place is a place
-pub far_below : (count x : ℕ) → x / 2 < count → far_place count x < count
+pub far_below : (count x : ℕ) → x / 2 < count → far_index count x < count
 far_below count x h = grind (arith, common_steps, cases_eq, far_even, far_odd)
 
 -- the front of a row, once it is written
@@ -40,7 +40,8 @@ as_h1v1 rule plane line used width height x row e inside each = rw e (each x ins
 pub as_h2v1 : (rule : UpsampleRule) (plane : ℕ → ℕ → ℕ) (line : List ℕ) (width height x row : ℕ) → rule ≡ H2V1
     → length line ≡ width → x < across rule * width →
     ((i : ℕ) → i < width → get_or line i 0 ≡ plane i row) →
-    blended (get_or line (x / 2) 0) (get_or line (far_place (length line) x) 0) ≡ upsampled rule plane width height x
+    blended (get_or line (x / 2) 0) (get_or line (far_index (length line) x) 0) ≡ upsampled rule
+    plane width height x
     row
 unfolding upsampled
 as_h2v1 rule plane line width height x row e long inside each = search (rules, far_below, get_or)
@@ -48,7 +49,7 @@ as_h2v1 rule plane line width height x row e long inside each = search (rules, f
 pub as_h1v2 : (rule : UpsampleRule) (plane : ℕ → ℕ → ℕ) (near far : List ℕ) (used width height x row : ℕ) → rule ≡ H1V2
     → x < used →
     ((i : ℕ) → i < used → get_or near i 0 ≡ plane i (row / 2)) →
-    ((i : ℕ) → i < used → get_or far i 0 ≡ plane i (far_place height row)) →
+    ((i : ℕ) → i < used → get_or far i 0 ≡ plane i (far_index height row)) →
     blended (get_or near x 0) (get_or far x 0) ≡ upsampled rule plane width height x row
 unfolding upsampled
 as_h1v2 rule plane near far used width height x row e inside near_is far_is = search rules
@@ -56,9 +57,10 @@ as_h1v2 rule plane near far used width height x row e inside near_is far_is = se
 pub as_h2v2 : (rule : UpsampleRule) (plane : ℕ → ℕ → ℕ) (near far : List ℕ) (width height x row : ℕ) → rule ≡ H2V2
     → length near ≡ width → x < across rule * width →
     ((i : ℕ) → i < width → get_or near i 0 ≡ plane i (row / 2)) →
-    ((i : ℕ) → i < width → get_or far i 0 ≡ plane i (far_place height row)) →
-    (3 * (3 * get_or near (x / 2) 0 + get_or far (x / 2) 0) + (3 * get_or near (far_place (length near) x) 0
-    + get_or far (far_place (length near) x) 0) + 8) / 16
+    ((i : ℕ) → i < width → get_or far i 0 ≡ plane i (far_index height row)) →
+    (3 * (3 * get_or near (x / 2) 0 + get_or far (x / 2) 0) + (3 * get_or near (far_index (length
+    near) x) 0
+    + get_or far (far_index (length near) x) 0) + 8) / 16
     ≡ upsampled rule plane width height x row
 unfolding upsampled
 as_h2v2 rule plane near far width height x row e long inside near_is far_is = search (rules, far_below)

@@ -41,7 +41,7 @@ basis row column = slice_index_or basis_entries (row * 8 + column) (pos 0)
 
 -- the value at this place of the transform of the eight numbers s
 unfoldable pub transformed : (ℕ → ℤ) → ℕ → ℤ
-transformed s place = sum_below (λ k. basis place k *ℤ s k) 8
+transformed s index = sum_below (λ k. basis index k *ℤ s k) 8
 
 -- the coefficient at this row and column, times its quantization value
 unfoldable pub dequantized : List ℤ → List ℕ → ℕ → ℕ → ℤ

@@ -3,4 +3,4 @@ use Rattle.std.specs.Prelude.{ℕ, [], ◌∷◌, ℤ, pos, slice_index_or}
 
 -- four numbers by their places
 abbrev pub four : ℤ → ℤ → ℤ → ℤ → ℕ → ℤ
-four s0 s1 s2 s3 place = slice_index_or (s0 ∷ s1 ∷ s2 ∷ s3 ∷ []) place (pos 0)
+four s0 s1 s2 s3 index = slice_index_or (s0 ∷ s1 ∷ s2 ∷ s3 ∷ []) index (pos 0)

@@ -26,8 +26,8 @@ down (Generic h v) = v
 
 -- of the two places next to place i / 2 the one that i is nearer to, where there are this many
 -- places: at the ends it is the place itself
-abbrev pub far_place : ℕ → ℕ → ℕ
-far_place count i = if i % 2 == 0 then i / 2 - 1 else min (i / 2 + 1) (count - 1)
+abbrev pub far_index : ℕ → ℕ → ℕ
+far_index count i = if i % 2 == 0 then i / 2 - 1 else min (i / 2 + 1) (count - 1)
 
 -- three parts of one sample and one of another, rounded
 abbrev pub blended : ℕ → ℕ → ℕ
@@ -35,18 +35,18 @@ blended near far = (3 * near + far + 2) / 4
 
 -- three parts of the nearer line and one of the farther, not divided yet
 abbrev pub line_sum : (ℕ → ℕ → ℕ) → ℕ → ℕ → ℕ → ℕ
-line_sum plane height row i = 3 * plane i (row / 2) + plane i (far_place height row)
+line_sum plane height row i = 3 * plane i (row / 2) + plane i (far_index height row)
 
 -- The sample at column x and row of the output, where plane gives the sample of the component at a
 -- column and a row, of which it has width and height.
 unfoldable pub upsampled : UpsampleRule → (ℕ → ℕ → ℕ) → ℕ → ℕ → ℕ → ℕ → ℕ
 upsampled H1V1 plane width height x row = plane x row
 upsampled H2V1 plane width height x row =
-    blended (plane (x / 2) row) (plane (far_place width x) row)
+    blended (plane (x / 2) row) (plane (far_index width x) row)
 upsampled H1V2 plane width height x row =
-    blended (plane x (row / 2)) (plane x (far_place height row))
+    blended (plane x (row / 2)) (plane x (far_index height row))
 upsampled H2V2 plane width height x row =
-    (3 * line_sum plane height row (x / 2) + line_sum plane height row (far_place width x) + 8) / 16
+    (3 * line_sum plane height row (x / 2) + line_sum plane height row (far_index width x) + 8) / 16
 upsampled (Generic h v) plane width height x row = plane (x / h) (row / v)
 
 -- whether one number divides another

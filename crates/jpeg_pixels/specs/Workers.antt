@@ -63,17 +63,17 @@ plane_at (Some w) = w.samples ++ replicate (w.room - length w.samples) 0
 
 -- one more row at a place
 abbrev pub with_row : List (Option Work) → ℕ → List ℤ → List (Option Work)
-with_row places index coefficients =
-    set places index (option_map (grown coefficients) (get_or places index None))
+with_row indices index coefficients =
+    set indices index (option_map (grown coefficients) (get_or indices index None))
 
 -- rows that come one after the other, each for a place
 abbrev pub with_rows : List (Option Work) → List (ℕ × Vec ℤ Global) → List (Option Work)
-with_rows places [] = places
-with_rows places (row ∷ rows) = with_rows (with_row places row.0 row.1.items) rows
+with_rows indices [] = indices
+with_rows indices (row ∷ rows) = with_rows (with_row indices row.0 row.1.items) rows
 
 -- each of them is for a place that holds a plane with room for it
 abbrev pub AreRows : List (Option Work) → List (ℕ × Vec ℤ Global) → Type 0
-AreRows places [] = Unit {0}
-AreRows places (row ∷ rows) =
-    (row.0 < 4) × IsRowAt (get_or places row.0 None) row.1.items
-    × AreRows (with_row places row.0 row.1.items) rows
+AreRows indices [] = Unit {0}
+AreRows indices (row ∷ rows) =
+    (row.0 < 4) × IsRowAt (get_or indices row.0 None) row.1.items
+    × AreRows (with_row indices row.0 row.1.items) rows

@@ -90,7 +90,7 @@ fn kernel_t(s: Rows) -> (i32x8, i32x8, i32x8, i32x8)
 // The transform of each lane's eight numbers, modulo 2^32.
 fn kernel(s: Rows, x_scale: i32) -> Rows
     ensures { HasNumbers result
-        (λ place j. int_wrap w32 (transformed (λ k. lane_at s k j) place +ℤ x_scale)) }
+        (λ index j. int_wrap w32 (transformed (λ k. lane_at s k j) index +ℤ x_scale)) }
 {
     let (x0, x1, x2, x3) = kernel_x(s, x_scale);
     let (t0, t1, t2, t3) = kernel_t(s);

@@ -198,10 +198,10 @@ fn over_and_over(alloc: Global, samples: [u8; 5]) -> std::result::Result<Vec<u8>
     ensures { IfOk result (λ v. length v.items ≡ 70) }
 {
     let mut line = vec![in alloc; 0u8; 70]?;
-    let mut place = 0usize;
+    let mut index = 0usize;
     for sample in line.iter_mut() {
-        *sample = samples[place % 5];
-        place = place.wrapping_add(1);
+        *sample = samples[index % 5];
+        index = index.wrapping_add(1);
     }
     Ok(line)
 }
@@ -378,9 +378,9 @@ fn wide_lines_of_four_components(rt: HostRuntime) -> std::result::Result<(), Fai
         let fourth = over_and_over(alloc, [10, 255, 0, 1, 128])?;
         let picture = wide_picture_of_four(alloc, first, second, third, fourth, transform)?;
         assert_eq!(rt; picture.len(), 280);
-        for (place, pixel) in picture.chunks_exact(4).enumerate() {
-            let expected = pixels[place % 5];
-            assert_eq!(rt; pixel, expected.as_slice(), "{transform:?} {place}");
+        for (index, pixel) in picture.chunks_exact(4).enumerate() {
+            let expected = pixels[index % 5];
+            assert_eq!(rt; pixel, expected.as_slice(), "{transform:?} {index}");
         }
     }
     Ok(())

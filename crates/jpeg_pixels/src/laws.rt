@@ -13,7 +13,7 @@ ghost use Rattle.jpeg_pixels.specs.Planes.{plane_of, strip_of};
 ghost use Rattle.jpeg_pixels.specs.Colour.{colour_of, line_bytes};
 ghost use Rattle.jpeg_pixels.specs.declared.upsampler.ColorConvert.TheVariants.{None, Rgb, YCbCr};
 ghost use Rattle.jpeg_pixels.specs.declared.upsampler.ColorConvert.TheVariants.{Cmyk, Ycck};
-ghost use Rattle.jpeg_bits.specs.Zigzag.{zigzag, zigzag_places};
+ghost use Rattle.jpeg_bits.specs.Zigzag.{zigzag, zigzag_indices};
 ghost use Rattle.jpeg_pixels.specs.Upsampling.{across, down, line_sum, upsampled};
 ghost use Rattle.jpeg_pixels.specs.declared.upsampler.UpsampleRule.{UpsampleRule};
 ghost use Rattle.jpeg_pixels.specs.declared.upsampler.UpsampleRule.TheVariants.{H1V1, H2V1, H1V2};
@@ -70,10 +70,10 @@ pub fn zero_columns_change_nothing()
 
 /// The table of indices in zigzag order and the table of indices in the block are inverse to one
 /// another (T.81, A.3.6).
-#[tactic(auto, unfolding(jpeg_bits::specs::Zigzag::zigzag_places))]
-pub fn zigzag_places_are_inverse()
-    ensures forth { map (λ place. slice_index zigzag place) zigzag_places ≡ range_with_len 0 64 }
-    ensures back { map (λ place. slice_index zigzag_places place) zigzag ≡ range_with_len 0 64 }
+#[tactic(auto, unfolding(jpeg_bits::specs::Zigzag::zigzag_indices))]
+pub fn zigzag_indices_are_inverse()
+    ensures forth { map (λ index. slice_index zigzag index) zigzag_indices ≡ range_with_len 0 64 }
+    ensures back { map (λ index. slice_index zigzag_indices index) zigzag ≡ range_with_len 0 64 }
 {}
 
 /// A plane is its rows of blocks, one after the other, at every scale. So is one that grows by some

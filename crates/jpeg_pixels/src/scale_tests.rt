@@ -9,11 +9,11 @@ use jpeg_segments::parser::Dimensions;
 use std::test::Fail;
 
 // A block of zeros but for one coefficient.
-fn block_of_one(place: usize, coefficient: i16) -> [i16; 64]
-    requires { place < 64 }
+fn block_of_one(index: usize, coefficient: i16) -> [i16; 64]
+    requires { index < 64 }
 {
     let mut coefficients = [0; 64];
-    coefficients[place] = coefficient;
+    coefficients[index] = coefficient;
     coefficients
 }
 
@@ -79,13 +79,13 @@ fn a_coefficient_across_at_each_scale(rt: HostRuntime) {
     ];
     let heights = [1, 2, 4, 8];
     for scale in 0..4 {
-        for (place, sample) in samples[scale].iter().enumerate() {
-            let expected = if place / 8 < heights[scale] {
-                lines[scale][place % 8]
+        for (index, sample) in samples[scale].iter().enumerate() {
+            let expected = if index / 8 < heights[scale] {
+                lines[scale][index % 8]
             } else {
                 7
             };
-            assert_eq!(rt; *sample, expected, "at {place} of {scale}");
+            assert_eq!(rt; *sample, expected, "at {index} of {scale}");
         }
     }
 }

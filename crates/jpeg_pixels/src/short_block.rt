@@ -46,7 +46,7 @@ fn pair(a: i16x8, b: i16x8, first: i32, second: i32) -> i32x8
 #[inline(always)]
 fn short_kernel(s: Shorts, x_scale: i32) -> Rows
     ensures { HasNumbers result
-        (λ place j. int_wrap w32 (transformed (λ k. short_lane_at s k j) place +ℤ x_scale)) }
+        (λ index j. int_wrap w32 (transformed (λ k. short_lane_at s k j) index +ℤ x_scale)) }
 {
     let x_scale = i32x8::splat(x_scale);
     let e0 = pair(s.r0, s.r4, 4096, 4096) + x_scale;

@@ -29,8 +29,8 @@ fn product(
     requires column { column < 8 }
     ensures { result ≡ dequantized coefficients.now quantization_table.now row column }
 {
-    let place = row * 8 + column;
-    dequantize(coefficients[place], quantization_table[place])
+    let index = row * 8 + column;
+    dequantize(coefficients[index], quantization_table[index])
 }
 
 // What the odd ones of four numbers give for the outer two values, and for the inner two.

@@ -14,20 +14,20 @@ fn samples_of(coefficients: &[i16; 64], quantization_table: &[u16; 64]) -> [u8; 
 }
 
 // A block of zeros but for one coefficient.
-fn block_of_one(place: usize, coefficient: i16) -> [i16; 64]
-    requires { place < 64 }
+fn block_of_one(index: usize, coefficient: i16) -> [i16; 64]
+    requires { index < 64 }
 {
     let mut coefficients = [0; 64];
-    coefficients[place] = coefficient;
+    coefficients[index] = coefficient;
     coefficients
 }
 
 // A quantization table of ones but for one value.
-fn table_of_one(place: usize, value: u16) -> [u16; 64]
-    requires { place < 64 }
+fn table_of_one(index: usize, value: u16) -> [u16; 64]
+    requires { index < 64 }
 {
     let mut values = [1; 64];
-    values[place] = value;
+    values[index] = value;
     values
 }
 
@@ -95,8 +95,8 @@ fn products_that_wrap(rt: HostRuntime) {
 #[test]
 fn a_general_block_within_one(rt: HostRuntime) {
     let samples = samples_of(&COEFFICIENTS, &QUANTIZATION_TABLE);
-    for (place, sample) in samples.iter().enumerate() {
-        assert!(rt; sample.abs_diff(SAMPLES[place]) <= 1, "{sample} at {place}");
+    for (index, sample) in samples.iter().enumerate() {
+        assert!(rt; sample.abs_diff(SAMPLES[index]) <= 1, "{sample} at {index}");
     }
 }
 
@@ -104,15 +104,15 @@ fn a_general_block_within_one(rt: HostRuntime) {
 fn bytes_between_lines_stay(rt: HostRuntime) {
     let mut bytes = [7; 148];
     dequantize_and_idct_block_8x8(&block_of_one(0, 8), &[1; 64], 20, &mut bytes);
-    for (place, byte) in bytes.iter().enumerate() {
-        let expected = if place % 20 < 8 { 129 } else { 7 };
-        assert_eq!(rt; *byte, expected, "at {place}");
+    for (index, byte) in bytes.iter().enumerate() {
+        let expected = if index % 20 < 8 { 129 } else { 7 };
+        assert_eq!(rt; *byte, expected, "at {index}");
     }
 }
 
 #[test]
 fn zigzag_order(rt: HostRuntime) {
-    let places = [
+    let indices = [
         (1, 1),
         (2, 8),
         (3, 16),
@@ -123,7 +123,7 @@ fn zigzag_order(rt: HostRuntime) {
         (35, 56),
         (63, 63),
     ];
-    for (from, to) in places {
+    for (from, to) in indices {
         assert!(rt; from < 64 && to < 64);
         let ordered = values_in_order(&table_of_one(from, 7));
         assert_eq!(rt; ordered, table_of_one(to, 7), "{from}");
@@ -140,14 +140,14 @@ fn rows_of_blocks_cropped(rt: HostRuntime) -> Result<(), Fail> {
     assert_eq!(rt; plane.len(), 256);
     crop(&mut plane, 16, 9, 9);
     assert_eq!(rt; plane.len(), 81);
-    for (place, sample) in plane.iter().enumerate() {
-        let expected = match (place / 9 < 8, place % 9 < 8) {
+    for (index, sample) in plane.iter().enumerate() {
+        let expected = match (index / 9 < 8, index % 9 < 8) {
             (true, true) => 129,
             (true, false) => 130,
             (false, true) => 131,
             (false, false) => 132,
         };
-        assert_eq!(rt; *sample, expected, "at {place}");
+        assert_eq!(rt; *sample, expected, "at {index}");
     }
     Ok(())
 }
@@ -171,17 +171,17 @@ fn lanes_give_the_same_samples(rt: HostRuntime) {
         assert_eq!(rt; line, [0, 255, 0, 0, 255, 255, 0, 255].as_slice());
     }
     let samples = samples_by_lanes(&COEFFICIENTS, &QUANTIZATION_TABLE);
-    for (place, sample) in samples.iter().enumerate() {
-        assert!(rt; sample.abs_diff(SAMPLES[place]) <= 1, "{sample} at {place}");
+    for (index, sample) in samples.iter().enumerate() {
+        assert!(rt; sample.abs_diff(SAMPLES[index]) <= 1, "{sample} at {index}");
     }
 }
 
 // The same block with zeros outside of its top left 4x4 corner.
 fn corner_of(coefficients: [i16; 64]) -> [i16; 64] {
     let mut corner = coefficients;
-    for place in 0..64 {
-        if place / 8 >= 4 || place % 8 >= 4 {
-            corner[place] = 0;
+    for index in 0..64 {
+        if index / 8 >= 4 || index % 8 >= 4 {
+            corner[index] = 0;
         }
     }
     corner
@@ -202,13 +202,13 @@ fn lanes_of_corners(rt: HostRuntime) {
     ] {
         let corner = corner_of(coefficients);
         assert!(rt; lanes_agree(&corner, &quantization_table));
-        for place in 0..64 {
+        for index in 0..64 {
             for coefficient in [1, -32768] {
                 let mut block = corner;
-                block[place] = coefficient;
+                block[index] = coefficient;
                 assert!(rt;
                     lanes_agree(&block, &quantization_table),
-                    "{coefficient} at {place}"
+                    "{coefficient} at {index}"
                 );
             }
         }
@@ -219,9 +219,9 @@ fn lanes_of_corners(rt: HostRuntime) {
 fn bytes_between_lines_of_lanes_stay(rt: HostRuntime) {
     let mut bytes = [7; 148];
     arch::dequantize_and_idct_block_8x8(&block_of_one(0, 8), &[1; 64], 20, &mut bytes);
-    for (place, byte) in bytes.iter().enumerate() {
-        let expected = if place % 20 < 8 { 129 } else { 7 };
-        assert_eq!(rt; *byte, expected, "at {place}");
+    for (index, byte) in bytes.iter().enumerate() {
+        let expected = if index % 20 < 8 { 129 } else { 7 };
+        assert_eq!(rt; *byte, expected, "at {index}");
     }
 }
 
@@ -230,13 +230,13 @@ fn chunks_of_eight_pixels_are_converted(rt: HostRuntime) {
     let mut output = [7; 33];
     let count = arch::color_convert_line_ycbcr(&[76; 11], &[85; 11], &[255; 11], &mut output);
     assert_eq!(rt; count, 8);
-    for (place, byte) in output.iter().enumerate() {
-        let expected = match (place < 24, place % 3) {
+    for (index, byte) in output.iter().enumerate() {
+        let expected = match (index < 24, index % 3) {
             (true, 0) => 254,
             (true, _) => 0,
             (false, _) => 7,
         };
-        assert_eq!(rt; *byte, expected, "at {place}");
+        assert_eq!(rt; *byte, expected, "at {index}");
     }
     let mut output = [7; 21];
     let count = arch::color_convert_line_ycbcr(&[76; 7], &[85; 7], &[255; 7], &mut output);
@@ -265,11 +265,11 @@ fn long_strips_are_their_blocks(rt: HostRuntime) -> Result<(), Fail> {
         (0, -32768, 1),
         (0, 32767, 65535),
     ];
-    for (place, coefficient, value) in cases {
-        assert!(rt; place < 64);
+    for (index, coefficient, value) in cases {
+        assert!(rt; index < 64);
         let mut block = COEFFICIENTS;
-        block[place] = coefficient;
-        let table = table_of_one(place, value);
+        block[index] = coefficient;
+        let table = table_of_one(index, value);
         let mut row = [COEFFICIENTS; 16];
         row[5] = block;
         let mut samples = [0; 64];
@@ -290,7 +290,7 @@ fn long_strips_are_their_blocks(rt: HostRuntime) -> Result<(), Fail> {
             assert_eq!(rt;
                 *sample,
                 expected,
-                "{place} {coefficient} {value}, at {index}"
+                "{index} {coefficient} {value}, at {index}"
             );
         }
     }

@@ -1,7 +1,7 @@
 //! Rows of a component made as wide as the picture, one function for each rule.
 ghost use Rattle.std.specs.Prelude.{◌≡◌, ℕ, ◌+◌, ◌-◌, ◌*◌, ◌/◌, ◌<◌, ◌≤◌, ◌%◌, ◌≢◌, length};
 ghost use Rattle.std.specs.Prelude.{slice_index};
-ghost use Rattle.jpeg_pixels.specs.Upsampling.{blended, far_place};
+ghost use Rattle.jpeg_pixels.specs.Upsampling.{blended, far_index};
 
 // The line of a plane whose lines are `row_stride` bytes apart.
 pub fn line_at(input: &[u8], input_width: usize, row_stride: usize, line: usize) -> &[u8]
@@ -18,7 +18,7 @@ pub fn line_at(input: &[u8], input_width: usize, row_stride: usize, line: usize)
 // itself.
 pub fn far_line(input_height: usize, row: usize) -> usize
     requires some { 1 ≤ input_height }
-    ensures { result ≡ far_place input_height row }
+    ensures { result ≡ far_index input_height row }
 {
     if row.is_multiple_of(2) {
         (row / 2).saturating_sub(1)
@@ -57,7 +57,7 @@ pub fn upsample_row_h2v1(line: &[u8], output: &mut [u8])
     requires wide { length output.old ≤ 2 * length line.now }
     ensures { (x : ℕ) → x < length output.old → slice_index output.new x ≡
         blended (slice_index line.now (x / 2))
-        (slice_index line.now (far_place (length line.now) x)) }
+        (slice_index line.now (far_index (length line.now) x)) }
 {
     let used = output.len().div_ceil(2);
     output[0] = line[0];
@@ -90,8 +90,8 @@ pub fn upsample_row_h2v2(near: &[u8], far: &[u8], output: &mut [u8])
     requires wide { length output.old ≤ 2 * length near.now }
     ensures { (x : ℕ) → x < length output.old → slice_index output.new x ≡
         (3 * (3 * slice_index near.now (x / 2) + slice_index far.now (x / 2))
-        + (3 * slice_index near.now (far_place (length near.now) x)
-        + slice_index far.now (far_place (length near.now) x)) + 8) / 16 }
+        + (3 * slice_index near.now (far_index (length near.now) x)
+        + slice_index far.now (far_index (length near.now) x)) + 8) / 16 }
 {
     let used = output.len().div_ceil(2);
     output[0] = blend(near[0], far[0]);

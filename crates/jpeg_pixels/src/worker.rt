@@ -67,8 +67,8 @@ impl ImmediateWorker {
     ///
     /// The only error is that no memory is left; nothing has changed then.
     pub fn start(&mut self, row_data: RowData) -> Result<()>
-        requires place { row_data.index < 4 }
-        requires none_held { get_or self.old row_data.index None ≡ None }
+        requires index { row_data.index < 4 }
+        requires none_kept { get_or self.old row_data.index None ≡ None }
         requires scale { IsScale row_data.component.dct_scale }
         ensures ok { OnOk result (self.new ≡ set self.old row_data.index
             (Some (work_of (component_in row_data.component) row_data.quantization_table))) }
@@ -91,7 +91,7 @@ impl ImmediateWorker {
     /// blocks by row of blocks. Those of a block are in block order, as its quantization table
     /// does.
     pub fn append_row(&mut self, row: (usize, Vec<i16>)) -> Result<()>
-        requires place { row.0 < 4 }
+        requires index { row.0 < 4 }
         requires row { IsRowAt (get_or self.old row.0 None) row.1.items }
         ensures ok { result ≡ Ok tt }
         ensures row { self.new ≡ with_row self.old row.0 row.1.items }
@@ -120,7 +120,7 @@ impl ImmediateWorker {
     }
 
     fn append(&mut self, index: usize, coefficients: &[i16])
-        requires place { index < 4 }
+        requires index { index < 4 }
         requires row { IsRowAt (get_or self.old index None) coefficients.now }
         ensures { self.new ≡ with_row self.old index coefficients.now }
     {
@@ -132,7 +132,7 @@ impl ImmediateWorker {
     /// Takes the plane at an index: its samples are 0 where no row has come yet. It is empty where
     /// the index has none. It allocates nothing, and returns no error.
     pub fn get_result(&mut self, index: usize) -> Result<Vec<u8>>
-        requires place { index < 4 }
+        requires index { index < 4 }
         ensures plane { MatchResult result
             (λ plane. plane.items ≡ plane_at (get_or self.old index None)) (λ e. ⊥) }
         ensures none_left { self.new ≡ set self.old index None }

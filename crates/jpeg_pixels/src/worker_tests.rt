@@ -41,8 +41,8 @@ fn row_of(alloc: Global, firsts: [i16; 4]) -> Result<Vec<i16>, Error>
     ensures { IfOk result (λ row. length row.items ≡ 256) }
 {
     let mut row = vec![in alloc; 0i16; 256]?;
-    for place in 0..4 {
-        row[place * 64] = firsts[place];
+    for index in 0..4 {
+        row[index * 64] = firsts[index];
     }
     Ok(row)
 }

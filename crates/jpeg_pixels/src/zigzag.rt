@@ -1,6 +1,6 @@
 //! The zigzag order of a block.
 ghost use Rattle.std.specs.Prelude.{◌≡◌, ◌<◌, slice_index};
-ghost use Rattle.jpeg_bits.specs.Zigzag.{zigzag_places, values_in_block_order};
+ghost use Rattle.jpeg_bits.specs.Zigzag.{zigzag_indices, values_in_block_order};
 
 // The index in zigzag order of each index in the block.
 const PLACES: [usize; 64] = [
@@ -14,13 +14,13 @@ const PLACES: [usize; 64] = [
     35, 36, 48, 49, 57, 58, 62, 63,
 ];
 
-#[tactic(auto, unfolding(jpeg_bits::specs::Zigzag::zigzag_places))]
-fn zigzag_place(place: usize) -> usize
-    requires { place < 64 }
-    ensures value { result ≡ slice_index zigzag_places place }
+#[tactic(auto, unfolding(jpeg_bits::specs::Zigzag::zigzag_indices))]
+fn zigzag_index(index: usize) -> usize
+    requires { index < 64 }
+    ensures value { result ≡ slice_index zigzag_indices index }
     ensures within { result < 64 }
 {
-    PLACES[place]
+    PLACES[index]
 }
 
 /// The 64 values of a quantization table, given in zigzag order, in block order: that of row `v`
@@ -30,8 +30,8 @@ pub fn values_in_order(values: &[u16; 64]) -> [u16; 64]
     ensures { result ≡ values_in_block_order values.now }
 {
     let mut ordered = [0u16; 64];
-    for place in 0..64 {
-        ordered[place] = values[zigzag_place(place)];
+    for index in 0..64 {
+        ordered[index] = values[zigzag_index(index)];
     }
     ordered
 }

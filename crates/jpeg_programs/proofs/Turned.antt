@@ -25,26 +25,28 @@ turned-length (suc count) [] = refl
 turned-length (suc count) (low ∷ []) = refl
 turned-length (suc count) (low ∷ high ∷ more) = ap (λ n. suc (suc n)) (turned-length count more)
 
-one-swapped : (place : ℕ) (xs : List ℕ) → 2 * place + 1 < length xs
-    → swapped (first_turned place xs) (2 * place) (2 * place + 1) ≡ first_turned (suc place) xs
+one-swapped : (index : ℕ) (xs : List ℕ) → 2 * index + 1 < length xs
+    → swapped (first_turned index xs) (2 * index) (2 * index + 1) ≡ first_turned (suc index) xs
 unfolding first_turned
-one-swapped place [] h = absurd (let n : ⊥ = omega arith in n)
-one-swapped place (low ∷ []) h = absurd (let n : ⊥ = omega arith in n)
+one-swapped index [] h = absurd (let n : ⊥ = omega arith in n)
+one-swapped index (low ∷ []) h = absurd (let n : ⊥ = omega arith in n)
 one-swapped zero (low ∷ high ∷ more) h = refl
-one-swapped (suc place) (low ∷ high ∷ more) h =
-    let first : 2 * suc place ≡ suc (suc (2 * place)) = omega arith in
-    let second : 2 * suc place + 1 ≡ suc (suc (2 * place + 1)) = omega arith in
-    let room : 2 * place + 1 < length more = omega arith in
-    deeper high low (first_turned place more) (2 * place) (2 * place + 1) (2 * suc place) (2 * suc place + 1) first
+one-swapped (suc index) (low ∷ high ∷ more) h =
+    let first : 2 * suc index ≡ suc (suc (2 * index)) = omega arith in
+    let second : 2 * suc index + 1 ≡ suc (suc (2 * index + 1)) = omega arith in
+    let room : 2 * index + 1 < length more = omega arith in
+    deeper high low (first_turned index more) (2 * index) (2 * index + 1) (2 * suc index) (2 * suc
+    index + 1) first
     second
-    ∙ ap (λ (ys : List ℕ). high ∷ low ∷ ys) (one-swapped place more room)
+    ∙ ap (λ (ys : List ℕ). high ∷ low ∷ ys) (one-swapped index more room)
 
-pub one-more : (place : ℕ) (xs : List ℕ) → 2 * place + 1 < length xs
-    → swap (first_turned place xs) (2 * place) (2 * place + 1) ≡ first_turned (place + 1) xs
-one-more place xs h =
-    let same = turned-length place xs in
-    let next : place + 1 ≡ suc place = omega arith in
+pub one-more : (index : ℕ) (xs : List ℕ) → 2 * index + 1 < length xs
+    → swap (first_turned index xs) (2 * index) (2 * index + 1) ≡ first_turned (index + 1) xs
+one-more index xs h =
+    let same = turned-length index xs in
+    let next : index + 1 ≡ suc index = omega arith in
     rw (
-      swap-swapped (first_turned place xs) (2 * place) (2 * place + 1) (rw same (omega arith)) (rw same h),
+      swap-swapped (first_turned index xs) (2 * index) (2 * index + 1) (rw same (omega arith)) (rw
+          same h),
       next,
-    ) (one-swapped place xs h)
+    ) (one-swapped index xs h)

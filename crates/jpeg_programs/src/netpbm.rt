@@ -78,8 +78,8 @@ fn is_wide(precision: u8) -> bool
 fn put_higher_first(samples: &mut [u8])
     ensures { samples.new ≡ higher_first samples.old }
 {
-    for place in 0..samples.len() / 2 {
-        samples.swap(2 * place, 2 * place + 1);
+    for index in 0..samples.len() / 2 {
+        samples.swap(2 * index, 2 * index + 1);
     }
 }
 

@@ -9,11 +9,11 @@ use Rattle.std.proofs.lemmas.Bool.{not-true, and_parts}
 use Rattle.std.specs.Prelude.{flat_map}
 use Rattle.jpeg_bits.specs.Reading.{Malformed, Lacks, ◌>>=◌}
 use Rattle.jpeg_bits.specs.declared.error.UnsupportedFeature.TheVariants.{DNL}
-use Rattle.jpeg_segments.specs.Frame.{Factors, Frame, Head, frame_of, is_factor, is_place}
+use Rattle.jpeg_segments.specs.Frame.{Factors, Frame, Head, frame_of, is_factor, is_destination}
 use Rattle.jpeg_segments.specs.Frame.{is_lossless_number, is_taken, is_precision, is_count, parameters_at}
 use Rattle.jpeg_segments.specs.Frame.{factors_at, components_from, size_at, head_at, sof_at}
-use Rattle.jpeg_segments.specs.HuffmanTables.{greatest_place}
-use Rattle.jpeg_segments.specs.ScanHeader.{Selector, place_of, blocks_by, destinations_at}
+use Rattle.jpeg_segments.specs.HuffmanTables.{greatest_destination}
+use Rattle.jpeg_segments.specs.ScanHeader.{Selector, index_of, blocks_by, destinations_at}
 use Rattle.jpeg_segments.specs.ScanHeader.{tables_by}
 use Rattle.jpeg_segments.specs.ScanHeader.{selector_at, selectors_from, is_mcu, is_band, scan_of, band_at}
 use Rattle.jpeg_segments.specs.ScanHeader.{count_at, sos_at}
@@ -51,7 +51,7 @@ unfolding factors_at parameters_at
 component number front = remap (bind _ byte (λ (i : ℕ). check-unless (is_taken front i) Malformed
     (bind _ byte (λ (n : ℕ). check-if (is_factor (n / 16)) Malformed
     (check-if (is_factor (n % 16)) Malformed
-    (ends _ byte (λ (p : ℕ). check-if (is_place (is_lossless_number number) p) Malformed
+    (ends _ byte (λ (p : ℕ). check-if (is_destination (is_lossless_number number) p) Malformed
     (done (factors i (n / 16) (n % 16) p)))))))))
     (λ x is. namely (factors x.0 (x.1.0 / 16) (x.1.0 % 16) x.1.1) (search (rules, factor-only)) refl
     (ap (λ (k : ℕ). x.0 ∷ k ∷ x.1.1 ∷ []) (omega arith)))
@@ -166,16 +166,22 @@ sof-read number h rest is = (sof number is.numbered).reads h rest is
 -- ---- scan headers
 
 abbrev selector : Frame → ℕ → ℕ → ℕ → Selector
-selector frame place dc ac = record { component = place; dc = dc; ac = ac; blocks = blocks_by frame.components place }
+selector frame index dc ac = record {
+  component = index;
+  dc = dc;
+  ac = ac;
+  blocks = blocks_by
+      frame.components index;
+}
 
 -- the rules of a component, whose identifier names the place `o`
 abbrev IsNamed : Frame → ℕ → ℕ → Option ℕ → Choice → Type 0
 IsNamed frame least identifier o c =
     (c.identifier ≡ identifier) × ((o ≡ Some c.component) × ((least ≤ c.component)
-    × ((c.dc ≤ greatest_place (Some frame.is_baseline))
-    × (c.ac ≤ greatest_place (Some frame.is_baseline)))))
+    × ((c.dc ≤ greatest_destination (Some frame.is_baseline))
+    × (c.ac ≤ greatest_destination (Some frame.is_baseline)))))
 
-greatest-small : (b : Bool) → greatest_place (Some b) ≤ 3
+greatest-small : (b : Bool) → greatest_destination (Some b) ≤ 3
 greatest-small b = grind (arith, common_steps, nat_tests)
 
 none-some : (n : ℕ) → ◌≡◌ {A = Option ℕ} None (Some n) → ⊥
@@ -188,16 +194,21 @@ destinations : (frame : Frame) (least identifier : ℕ) (o : Option ℕ) → Cod
     (selector_for frame) (λ (c : Choice). nibbles c.dc c.ac ∷ []) (IsNamed frame least identifier o)
 unfolding destinations_at
 destinations frame least identifier None = refused Malformed (λ c is. none-some c.component is.1.0)
-destinations frame least identifier (Some place) =
-    remap (check-unless (ltb place least) Malformed (ends _ byte (λ (n : ℕ).
-    check-unless (ltb (greatest_place (Some frame.is_baseline)) (n / 16)) Malformed
-    (check-unless (ltb (greatest_place (Some frame.is_baseline)) (n % 16)) Malformed
-    (done (selector frame place (n / 16) (n % 16)))))))
-    (λ n is. namely (record { identifier = identifier; component = place; dc = n / 16; ac = n % 16 })
+destinations frame least identifier (Some index) =
+    remap (check-unless (ltb index least) Malformed (ends _ byte (λ (n : ℕ).
+    check-unless (ltb (greatest_destination (Some frame.is_baseline)) (n / 16)) Malformed
+    (check-unless (ltb (greatest_destination (Some frame.is_baseline)) (n % 16)) Malformed
+    (done (selector frame index (n / 16) (n % 16)))))))
+    (λ n is. namely (record {
+      identifier = identifier;
+      component = index;
+      dc = n / 16;
+      ac = n % 16;
+    })
     (search (rules, ltb-false)) refl (ap (λ (k : ℕ). k ∷ []) (omega arith)))
     (λ c is.
     let small = greatest-small frame.is_baseline in
-    let at : place ≡ c.component = some-same place c.component is.1.0 in
+    let at : index ≡ c.component = some-same index c.component is.1.0 in
     let high : nibbles c.dc c.ac / 16 ≡ c.dc = search (rules, nibbles-high) in
     let low : nibbles c.dc c.ac % 16 ≡ c.ac = search (rules, nibbles-low) in
     namely (nibbles c.dc c.ac) (rw (at, high, low) (search (rules, le-ltb))) (rw (at, high, low)) refl)
@@ -206,11 +217,11 @@ choice : (frame : Frame) (least : ℕ)
     → Codec (selector_at frame least) (selector_for frame) choice_bytes (IsChoice frame least)
 unfolding selector_at
 choice frame least = remap (bind _ byte (λ (i : ℕ).
-    destinations frame least i (place_of frame.components i)))
+    destinations frame least i (index_of frame.components i)))
     (λ x is. namely x.1 (grind (arith, common_steps)) refl
     (ap (λ (i : ℕ). i ∷ nibbles x.1.dc x.1.ac ∷ []) (sym is.1.0)))
     (λ c is. namely (c.identifier, c)
-    (tt, (refl, (is.identified, (is.ordered, (is.dc_placed, is.ac_placed))))) refl refl)
+    (tt, (refl, (is.identified, (is.ordered, (is.dc_bounded, is.ac_bounded))))) refl refl)
 
 -- n components, the first of which stands at least at this place
 abbrev Choose : Frame → ℕ → ℕ → List Choice → Type 0

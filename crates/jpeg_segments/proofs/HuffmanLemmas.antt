@@ -10,8 +10,9 @@ use Rattle.jpeg_bits.specs.declared.codes.HuffmanTableClass.{HuffmanTableClass}
 use Rattle.jpeg_bits.specs.declared.error.Error.{Error}
 use Rattle.jpeg_bits.proofs.Loops.{still_known}
 use Rattle.jpeg_bits.proofs.Tables.{exist-tested, tested-exist}
-use Rattle.jpeg_segments.specs.HuffmanTables.{Tables, PlacedTable, size_of, symbols_at, with_table, tables_from}
-use Rattle.jpeg_segments.specs.HuffmanTables.{placed_codes_at}
+use Rattle.jpeg_segments.specs.HuffmanTables.{Tables, DefinedTable, size_of, symbols_at, with_table}
+use Rattle.jpeg_segments.specs.HuffmanTables.{tables_from}
+use Rattle.jpeg_segments.specs.HuffmanTables.{defined_codes_at}
 use Rattle.std.proofs.lemmas.Grind.{common_steps}
 
 MayFail-format : (e : Error) (a b : Bool) → NamesFormat e → b ≡ a → MayFail e a b
@@ -34,8 +35,9 @@ table-found class counts old mid symbols r h1 h2 h3 h4 =
     grind (arith, nat_tests, exist-tested, refused-names, MayFail-format, still_known)
 
 pub tables_from-more : (most greatest left : ℕ) (tables : Tables) (bytes : List ℕ) → 17 < left → left ≤ most
-    → tables_from most greatest left tables bytes ≡ (placed_codes_at greatest left bytes
-    >>= λ (t : PlacedTable × List ℕ). tables_from (most - 1) greatest (left - size_of t.0) (with_table tables t.0) t.1)
+    → tables_from most greatest left tables bytes ≡ (defined_codes_at greatest left bytes
+    >>= λ (t : DefinedTable × List ℕ). tables_from (most - 1) greatest (left - size_of t.0)
+    (with_table tables t.0) t.1)
 unfolding tables_from
 tables_from-more most greatest left tables bytes h1 h2 = grind (arith, nat_tests)
 

@@ -3,11 +3,12 @@ use Rattle.std.proofs.lemmas.Grind.{common_steps}
 use Rattle.std.proofs.Common.{◌≡◌, ℕ, ◌-◌, ◌<◌, ◌≤◌, List, Ok, Some, arith, set}
 use Rattle.std.proofs.lemmas.Bool.Decides.{nat_tests}
 use Rattle.jpeg_bits.specs.Reading.{◌>>=◌}
-use Rattle.jpeg_segments.specs.Quantization.{QuantizationTables, quantization_from, placed_table_at}
+use Rattle.jpeg_segments.specs.Quantization.{QuantizationTables, quantization_from}
+use Rattle.jpeg_segments.specs.Quantization.{defined_table_at}
 
 pub tables_from-more : (most left : ℕ) (tables : QuantizationTables) (bytes : List ℕ) → 0 < left →
     left ≤ most
-    → quantization_from most left tables bytes ≡ (placed_table_at left bytes
+    → quantization_from most left tables bytes ≡ (defined_table_at left bytes
     >>= λ (t : (ℕ × ℕ × List ℕ) × List ℕ). quantization_from (most - 1) (left - t.0.0) (set tables
     t.0.1 (Some t.0.2)) t.1)
 unfolding quantization_from

@@ -59,10 +59,10 @@ legal-again p count first last high low h1 = grind (arith, nat_tests)
 -- the blocks of an MCU, by the places of the components
 same-blocks : (frame : frames.Frame) (xs : List Selector) → All (IsSelectorOf frame) xs
     → sum_by (blocks_by frame.components) (map (λ x. x.component) xs) ≡ sum_by (λ x. x.blocks) xs
-same-blocks frame [] places = refl
-same-blocks frame (x ∷ xs) places =
-    let one = All-head (IsSelectorOf frame) x xs places in
-    search (rules, sum_by-cons, same-blocks frame xs (All-tail (IsSelectorOf frame) x xs places))
+same-blocks frame [] indices = refl
+same-blocks frame (x ∷ xs) indices =
+    let one = All-head (IsSelectorOf frame) x xs indices in
+    search (rules, sum_by-cons, same-blocks frame xs (All-tail (IsSelectorOf frame) x xs indices))
 
 few : (count blocks : ℕ) → (nat_le count 1 || nat_le blocks 10) ≡ true → 2 ≤ count → blocks ≤ 10
 few count blocks e h = grind (arith, common_steps, nat_le, leb-true)
@@ -73,10 +73,10 @@ few count blocks e h = grind (arith, common_steps, nat_le, leb-true)
 abbrev pub RisesTo : List ℕ → ℕ → Type 0
 RisesTo front least = (more : List ℕ) → IsRising least more → IsRising 0 (front ++ more)
 
-pub rises-more : (front : List ℕ) (least place : ℕ) → RisesTo front least → least ≤ place
-    → RisesTo (front ++ place ∷ []) (place + 1)
+pub rises-more : (front : List ℕ) (least index : ℕ) → RisesTo front least → least ≤ index
+    → RisesTo (front ++ index ∷ []) (index + 1)
 unfolding IsRising
-rises-more front least place rises h more after = search (rules, append_assoc)
+rises-more front least index rises h more after = search (rules, append_assoc)
 
 pub rises-all : (front : List ℕ) (least : ℕ) → RisesTo front least → IsRising 0 front
 unfolding IsRising
@@ -85,24 +85,27 @@ rises-all front least rises = subst (IsRising 0) (append-nil front) (rises [] tt
 pub is-scan : (frame : frames.Frame) (xs : List Selector) (s : Scan) → 1 ≤ length xs → length xs ≤ 4
     → All (IsSelectorOf frame) xs
     → IsRising 0 (map (λ x. x.component) xs) → is_mcu xs ≡ true
-    → s.components ≡ map (λ x. x.component) xs → s.dc_places ≡ map (λ x. x.dc) xs → s.ac_places ≡ map (λ x. x.ac) xs
+    → s.components ≡ map (λ x. x.component) xs → s.dc_destinations ≡ map (λ x. x.dc) xs →
+    s.ac_destinations ≡ map (λ x. x.ac) xs
     → IsBandOf frame.process s.first s.after s.high s.low
     → is_band frame.process (length xs) s.first (s.after - 1) s.high s.low ≡ true
     → s.low < frame.precision → s.point_transform ≡ s.low → IsScanOf frame s
-is-scan frame xs s some most places rising mcu components dc ac coded legal below same_point =
+is-scan frame xs s some most indices rising mcu components dc ac coded legal below same_point =
     let count : length s.components ≡ length xs = ap length components ∙ length-map xs (λ x. x.component) in
     record {
       some = rw count some;
       most = rw count most;
       components = rw components
           (all-of (IsSelectorOf frame) (λ n. n < length frame.components) (λ x. x.component) (λ x p. p.component) xs
-          places);
+          indices);
       rising = rw components rising;
       few_blocks = search (rules, same-blocks, few, sum_by);
       dc_length = (ap length dc ∙ length-map xs (λ x. x.dc)) ∙ sym count;
-      dc_places = rw dc (all-of (IsSelectorOf frame) (λ n. n ≤ 3) (λ x. x.dc) (λ x p. p.dc) xs places);
+      dc_destinations = rw dc (all-of (IsSelectorOf frame) (λ n. n ≤ 3) (λ x. x.dc) (λ x p. p.dc)
+          xs indices);
       ac_length = (ap length ac ∙ length-map xs (λ x. x.ac)) ∙ sym count;
-      ac_places = rw ac (all-of (IsSelectorOf frame) (λ n. n ≤ 3) (λ x. x.ac) (λ x p. p.ac) xs places);
+      ac_destinations = rw ac (all-of (IsSelectorOf frame) (λ n. n ≤ 3) (λ x. x.ac) (λ x p. p.ac)
+          xs indices);
       coded = coded;
       legal = rw count legal;
       below = below;

@@ -11,10 +11,12 @@ use Rattle.jpeg_bits.specs.Codes.{Table, code_lengths, codes_exist}
 use Rattle.jpeg_bits.specs.declared.codes.HuffmanTableClass.{HuffmanTableClass}
 use Rattle.jpeg_bits.proofs.Tables.{exist-tested, tested-exist}
 use Rattle.jpeg_segments.specs.Quantization as quantization
-use Rattle.jpeg_segments.specs.Quantization.{value_at, table_at, table_size, placed_table_at, dqt_at}
-use Rattle.jpeg_segments.specs.HuffmanTables.{Tables, PlacedTable, size_of, class_of, no_tables}
-use Rattle.jpeg_segments.specs.HuffmanTables.{with_table, greatest_place, symbols_at, codes_at}
-use Rattle.jpeg_segments.specs.HuffmanTables.{placed_codes_at, tables_from, dht_at}
+use Rattle.jpeg_segments.specs.Quantization.{value_at, table_at, table_size, defined_table_at}
+use Rattle.jpeg_segments.specs.Quantization.{dqt_at}
+use Rattle.jpeg_segments.specs.HuffmanTables.{Tables, DefinedTable, size_of, class_of, no_tables}
+use Rattle.jpeg_segments.specs.HuffmanTables.{with_table, greatest_destination, symbols_at}
+use Rattle.jpeg_segments.specs.HuffmanTables.{codes_at}
+use Rattle.jpeg_segments.specs.HuffmanTables.{defined_codes_at, tables_from, dht_at}
 use Rattle.jpeg_segments.specs.WrittenSegments.{u16_bytes, with_length, nibbles, QuantizationTable}
 use Rattle.jpeg_segments.specs.WrittenSegments.{IsQuantizationTable, value_bytes, quantization_bytes}
 use Rattle.jpeg_segments.specs.WrittenSegments.{quantization_tables, IsHuffmanTable, class_number}
@@ -50,22 +52,25 @@ some-values (v ∷ vs) e =
     (let n = eqb-false v 0 parts.0 in grind (arith, n), some-values vs parts.1)
 
 placed : (left : ℕ)
-    → Codec (placed_table_at left)
-    (λ (t : QuantizationTable). (table_size t.precision, t.place, t.values)) quantization_bytes
+    → Codec (defined_table_at left)
+    (λ (t : QuantizationTable). (table_size t.precision, t.destination, t.values))
+    quantization_bytes
     (λ (t : QuantizationTable). IsQuantizationTable t × (table_size t.precision ≤ left))
-unfolding placed_table_at table_at quantization_bytes
+unfolding defined_table_at table_at quantization_bytes
 placed left = remap (bind _ byte (λ (b : ℕ).
     check-unless (ltb 1 (b / 16)) Malformed (check-unless (ltb 3 (b % 16)) Malformed
     (check-unless (ltb left (table_size (b / 16))) Malformed
     (ends _ (ends _ (several (value (eqb (b / 16) 1)) 64) (λ (vs : List ℕ).
     check-unless (list_any (λ v. eqb v 0) vs) Malformed (done vs)))
     (λ (vs : List ℕ). done (table_size (b / 16), b % 16, vs)))))))
-    (λ x is. namely (record { precision = x.0 / 16; place = x.0 % 16; values = x.1 })
+    (λ x is. namely (record { precision = x.0 / 16; destination = x.0 % 16; values = x.1 })
     (search (rules, ltb-false, some-values)) refl (search (rules, ltb-false, wide-is)))
     (λ t is.
-    let high : nibbles t.precision t.place / 16 ≡ t.precision = search (rules, nibbles-high) in
-    let low : nibbles t.precision t.place % 16 ≡ t.place = search (rules, nibbles-low) in
-    namely (nibbles t.precision t.place, t.values)
+    let high : nibbles t.precision t.destination / 16 ≡ t.precision = search (rules, nibbles-high)
+    in
+    let low : nibbles t.precision t.destination % 16 ≡ t.destination = search (rules, nibbles-low)
+    in
+    namely (nibbles t.precision t.destination, t.values)
     (rw (high, low) (search (rules, le-ltb, none-zero, units))) (rw (high, low)) (rw high (search (rules, wide-is))))
 
 values-length : (p : ℕ) → p ≤ 1 → (vs : List ℕ) → length (flat_map (value_bytes p) vs) ≡ (p + 1) * length vs
@@ -80,7 +85,7 @@ table-length t is = grind (arith, common_steps, values-length)
 
 abbrev with_values : quantization.QuantizationTables → QuantizationTable →
     quantization.QuantizationTables
-with_values tables t = set tables t.place (Some t.values)
+with_values tables t = set tables t.destination (Some t.values)
 
 joined : (t : QuantizationTable) (ts : List QuantizationTable) → length (flat_map quantization_bytes (t ∷ ts))
     ≡ length (quantization_bytes t) + length (flat_map quantization_bytes ts)
@@ -143,13 +148,18 @@ class-number n h1 = grind (arith, nat_tests)
 abbrev table : HuffmanTableClass → List ℕ → List ℕ → Table
 table class counts symbols = record { class = class; counts = counts; symbols = symbols }
 
-abbrev placed_table : ℕ → HuffmanTableClass → List ℕ → List ℕ → PlacedTable
-placed_table place class counts symbols = record { place = place; table = table class counts symbols }
+abbrev defined_table : ℕ → HuffmanTableClass → List ℕ → List ℕ → DefinedTable
+defined_table destination class counts symbols = record {
+  destination = destination;
+  table = table
+      class counts symbols;
+}
 
-placed_codes : (most left : ℕ) → most ≤ 3 → Codec (placed_codes_at most left)
-    (λ (t : PlacedTable). t) huffman_bytes (λ (t : PlacedTable). IsHuffmanTable most t × (size_of t ≤ left))
-unfolding placed_codes_at codes_at symbols_at huffman_bytes
-placed_codes most left few = remap (bind _ byte (λ (b : ℕ).
+defined_codes : (most left : ℕ) → most ≤ 3 → Codec (defined_codes_at most left)
+    (λ (t : DefinedTable). t) huffman_bytes (λ (t : DefinedTable). IsHuffmanTable most t × (size_of
+    t ≤ left))
+unfolding defined_codes_at codes_at symbols_at huffman_bytes
+defined_codes most left few = remap (bind _ byte (λ (b : ℕ).
     check-unless (ltb 1 (b / 16)) Malformed (check-unless (ltb most (b % 16)) Malformed
     (ends _ (bind _ (many 16) (λ (counts : List ℕ).
     check-unless (eqb (sum counts) 0) Malformed (check-unless (ltb 256 (sum counts)) Malformed
@@ -158,31 +168,33 @@ placed_codes most left few = remap (bind _ byte (λ (b : ℕ).
     check-if (codes_exist (code_lengths counts)) Malformed
     (done (table (class_of (b / 16)) counts symbols))))))))
     (λ (x : List ℕ × List ℕ).
-    done (placed_table (b % 16) (class_of (b / 16)) x.0 x.1))))))
+    done (defined_table (b % 16) (class_of (b / 16)) x.0 x.1))))))
     (λ x is.
     let class : class_number (class_of (x.0 / 16)) ≡ x.0 / 16 = search (rules, class-number, ltb-false) in
     let none = eqb-false (sum x.1.0) 0 is.1.1.1.0.1.0 in
-    namely (placed_table (x.0 % 16) (class_of (x.0 / 16)) x.1.0 x.1.1)
+    namely (defined_table (x.0 % 16) (class_of (x.0 / 16)) x.1.0 x.1.1)
     (search (rules, ltb-false, tested-exist)) refl (ap (λ (k : ℕ). k ∷ (x.1.0 ++ x.1.1)) (omega arith)))
     (λ t is.
     let class : ℕ = class_number t.table.class in
     let small = class-small t.table.class in
-    let high : nibbles class t.place / 16 ≡ class = search (rules, nibbles-high) in
-    let low : nibbles class t.place % 16 ≡ t.place = search (rules, nibbles-low) in
+    let high : nibbles class t.destination / 16 ≡ class = search (rules, nibbles-high) in
+    let low : nibbles class t.destination % 16 ≡ t.destination = search (rules, nibbles-low) in
     let some = ne_eqb (sum t.table.counts) 0 (λ e. omega arith) in
-    namely (nibbles class t.place, (t.table.counts, t.table.symbols))
+    namely (nibbles class t.destination, (t.table.counts, t.table.symbols))
     (rw (high, low) (search (rules, le-ltb, exist-tested))) (rw (high, low, class-read)) refl)
 
-codes-length : (most : ℕ) (t : PlacedTable) → IsHuffmanTable most t → length (huffman_bytes t) ≡ size_of t
+codes-length : (most : ℕ) (t : DefinedTable) → IsHuffmanTable most t → length (huffman_bytes t) ≡
+    size_of t
 unfolding huffman_bytes
 codes-length most t is = grind (arith, common_steps, length-append)
 
-codes-joined : (t : PlacedTable) (ts : List PlacedTable) → length (flat_map huffman_bytes (t ∷ ts))
+codes-joined : (t : DefinedTable) (ts : List DefinedTable) → length (flat_map huffman_bytes (t ∷
+    ts))
     ≡ length (huffman_bytes t) + length (flat_map huffman_bytes ts)
 codes-joined t ts = length-append (huffman_bytes t) (flat_map huffman_bytes ts)
 
 -- these tables take `left` bytes
-abbrev FillCodes : ℕ → ℕ → List PlacedTable → Type 0
+abbrev FillCodes : ℕ → ℕ → List DefinedTable → Type 0
 FillCodes most left ts = AllByRecursion (IsHuffmanTable most) ts × (length (flat_map huffman_bytes ts) ≡ left)
 
 no-codes : (most left : ℕ) (old : Tables) → left ≤ 17
@@ -192,12 +204,12 @@ no-codes most left old few = choose (eqb left 0)
     (λ z. nil _ old _ _ refl (tt, sym (eqb-true left 0 z)) (λ t ts is. too-long t ts is))
     (λ z. refused Malformed (go (eqb-false left 0 z)))
   where
-    too-long : (t : PlacedTable) (ts : List PlacedTable) → FillCodes most left (t ∷ ts) → ⊥
+    too-long : (t : DefinedTable) (ts : List DefinedTable) → FillCodes most left (t ∷ ts) → ⊥
     too-long t ts is =
         let some = is.0.0.some in
         omega (arith, is.1, codes-length most t is.0.0, codes-joined t ts)
 
-    go : (left ≡ 0 → ⊥) → (ts : List PlacedTable) → FillCodes most left ts → ⊥
+    go : (left ≡ 0 → ⊥) → (ts : List DefinedTable) → FillCodes most left ts → ⊥
     go n [] is = n (sym is.1)
     go n (t ∷ ts) is = too-long t ts is
 
@@ -206,9 +218,9 @@ all-codes : (turns most left : ℕ) (old : Tables) → most ≤ 3 → left ≤ t
 unfolding tables_from
 all-codes zero most left old few le = no-codes most left old (omega (arith, le))
 all-codes (suc turns) most left old few le = choose (ltb 17 left)
-    (λ z. cons _ _ _ (bind (λ (t : PlacedTable).
+    (λ z. cons _ _ _ (bind (λ (t : DefinedTable).
     tables_from turns most (left - size_of t) (with_table old t))
-    (placed_codes most left few) (λ (t : PlacedTable).
+    (defined_codes most left few) (λ (t : DefinedTable).
     all-codes turns most (left - size_of t) (with_table old t) few (omega (arith, le))))
     (λ t ts. refl)
     (λ t ts is. ((is.0.0, is.1.0), codes-joined t ts ∙ omega (arith, codes-length most t is.0.0, is.0.1, is.1.1)))
@@ -219,18 +231,18 @@ all-codes (suc turns) most left old few le = choose (ltb 17 left)
     search rules))
     (λ z. no-codes most left old (ltb-false 17 left z))
 
-greatest-small : (b : Option Bool) → greatest_place b ≤ 3
+greatest-small : (b : Option Bool) → greatest_destination b ≤ 3
 greatest-small b = grind (arith, nat_tests)
 
 pub dht : (b : Option Bool)
-    → Codec (dht_at b) huffman_tables (λ (ts : List PlacedTable). with_length (flat_map
+    → Codec (dht_at b) huffman_tables (λ (ts : List DefinedTable). with_length (flat_map
     huffman_bytes ts))
-    (AllByRecursion (IsHuffmanTable (greatest_place b)))
+    (AllByRecursion (IsHuffmanTable (greatest_destination b)))
 unfolding dht_at
 dht b = segment _ (λ (left : ℕ).
-    all-codes left (greatest_place b) left no_tables (greatest-small b) (omega arith))
+    all-codes left (greatest_destination b) left no_tables (greatest-small b) (omega arith))
 
-pub dht-read : (b : Option Bool) (ts : List PlacedTable) (rest : List ℕ)
-    → AllByRecursion (IsHuffmanTable (greatest_place b)) ts
+pub dht-read : (b : Option Bool) (ts : List DefinedTable) (rest : List ℕ)
+    → AllByRecursion (IsHuffmanTable (greatest_destination b)) ts
     → dht_at b (with_length (flat_map huffman_bytes ts) ++ rest) ≡ Ok (huffman_tables ts, rest)
 dht-read b = (dht b).reads

@@ -114,24 +114,24 @@ abbrev pub is_taken : List Factors → ℕ → Bool
 is_taken front identifier = list_any (λ c. c.identifier == identifier) front
 
 -- a destination of a quantization table, which is 0 in a lossless frame
-abbrev pub is_place : Bool → ℕ → Bool
-is_place lossless place = if lossless then place == 0 else nat_le place 3
+abbrev pub is_destination : Bool → ℕ → Bool
+is_destination lossless destination = if lossless then destination == 0 else nat_le destination 3
 
 -- The sampling factors and the destination of the quantization table, after the identifier.
 unfoldable pub parameters_at : Bool → ℕ → List ℕ → Outcome Factors
 parameters_at lossless identifier bytes = do
   factors ← next_byte bytes
   if is_factor (factors.0 / 16) then (if is_factor (factors.0 % 16) then (do
-    place ← next_byte factors.1
-    if is_place lossless place.0
+    destination ← next_byte factors.1
+    if is_destination lossless destination.0
         then Ok (
           record {
             identifier = identifier;
             horizontal = factors.0 / 16;
             vertical = factors.0 % 16;
-            quantization = place.0;
+            quantization = destination.0;
           },
-          place.1,
+          destination.1,
         )
         else Err Malformed) else Err Malformed) else Err Malformed
 

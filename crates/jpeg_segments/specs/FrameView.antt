@@ -65,8 +65,8 @@ selector_of s = record { component = s.component; dc = s.dc; ac = s.ac; blocks =
 abbrev pub scan_in : ScanInfo → Scan
 scan_in s = record {
   components = s.component_indices.items;
-  dc_places = s.dc_table_indices.items;
-  ac_places = s.ac_table_indices.items;
+  dc_destinations = s.dc_table_indices.items;
+  ac_destinations = s.ac_table_indices.items;
   first = s.spectral_selection.start;
   after = s.spectral_selection.end;
   predictor = s.predictor_selection;

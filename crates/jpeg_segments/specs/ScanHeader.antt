@@ -10,7 +10,7 @@ use Rattle.jpeg_segments.specs.declared.parser.CodingProcess.{CodingProcess}
 use Rattle.jpeg_segments.specs.declared.parser.CodingProcess.TheVariants.{DctSequential}
 use Rattle.jpeg_segments.specs.declared.parser.CodingProcess.TheVariants.{DctProgressive, Lossless}
 use Rattle.jpeg_segments.specs.Frame.{Frame, Component}
-use Rattle.jpeg_segments.specs.HuffmanTables.{greatest_place}
+use Rattle.jpeg_segments.specs.HuffmanTables.{greatest_destination}
 
 -- A scan: the places of its components in the frame and the destinations of their DC and AC tables,
 -- in the order of the scan; the coefficients that it codes, by their places in zigzag order, from
@@ -18,8 +18,8 @@ use Rattle.jpeg_segments.specs.HuffmanTables.{greatest_place}
 -- approximation; and its point transform.
 pub record Scan : Type 0 where
   pub components : List ℕ
-  pub dc_places : List ℕ
-  pub ac_places : List ℕ
+  pub dc_destinations : List ℕ
+  pub ac_destinations : List ℕ
   pub first : ℕ
   pub after : ℕ
   pub predictor : Predictor
@@ -38,45 +38,47 @@ pub record Selector : Type 0 where
   pub blocks : ℕ
 
 -- the place of the component with this identifier
-abbrev pub place_of : List Component → ℕ → Option ℕ
-place_of components identifier = position (λ c. c.factors.identifier == identifier) components
+abbrev pub index_of : List Component → ℕ → Option ℕ
+index_of components identifier = position (λ c. c.factors.identifier == identifier) components
 
 -- The number of blocks that the component at a place has in such an MCU: its sampling factors
 -- multiplied.
 abbrev pub blocks_by : List Component → ℕ → ℕ
-blocks_by [] place = 0
+blocks_by [] index = 0
 blocks_by (c ∷ more) zero = c.factors.horizontal * c.factors.vertical
-blocks_by (c ∷ more) (suc place) = blocks_by more place
+blocks_by (c ∷ more) (suc index) = blocks_by more index
 
 -- The destinations Td and Ta of the tables of the component at a place of the frame. In a baseline
 -- frame they are 0 or 1.
 unfoldable pub destinations_at : Frame → ℕ → List ℕ → Outcome Selector
-destinations_at frame place bytes = do
-  places ← next_byte bytes
-  if nat_lt (greatest_place (Some frame.is_baseline)) (places.0 / 16) then Err Malformed else (
-      if nat_lt (greatest_place (Some frame.is_baseline)) (places.0 % 16) then Err Malformed else
+destinations_at frame index bytes = do
+  destinations ← next_byte bytes
+  if nat_lt (greatest_destination (Some frame.is_baseline)) (destinations.0 / 16) then Err Malformed
+      else (
+      if nat_lt (greatest_destination (Some frame.is_baseline)) (destinations.0 % 16) then Err Malformed
+      else
       Ok (
         record {
-          component = place;
-          dc = places.0 / 16;
-          ac = places.0 % 16;
-          blocks = blocks_by frame.components place;
+          component = index;
+          dc = destinations.0 / 16;
+          ac = destinations.0 % 16;
+          blocks = blocks_by frame.components index;
         },
-        places.1,
+        destinations.1,
       ))
 
 -- The same, where the frame has the component and it stands after those before it.
 abbrev pub tables_by : Frame → ℕ → Option ℕ → List ℕ → Outcome Selector
 tables_by frame least None bytes = Err Malformed
-tables_by frame least (Some place) bytes =
-    if nat_lt place least then Err Malformed else destinations_at frame place bytes
+tables_by frame least (Some index) bytes =
+    if nat_lt index least then Err Malformed else destinations_at frame index bytes
 
 -- The next component, whose place in the frame is at least `least`: components stand in the order
 -- of the frame.
 unfoldable pub selector_at : Frame → ℕ → List ℕ → Outcome Selector
 selector_at frame least bytes = do
   identifier ← next_byte bytes
-  tables_by frame least (place_of frame.components identifier.0) identifier.1
+  tables_by frame least (index_of frame.components identifier.0) identifier.1
 
 -- n more components, after those in `front`
 unfoldable pub selectors_from : Frame → ℕ → List Selector → ℕ → List ℕ → Outcome (List Selector)
@@ -134,8 +136,8 @@ after_of _ last = last + 1
 unfoldable pub scan_of : Frame → List Selector → ℕ → ℕ → ℕ → Scan
 scan_of frame selectors first last levels = record {
   components = map (λ s. s.component) selectors;
-  dc_places = map (λ s. s.dc) selectors;
-  ac_places = map (λ s. s.ac) selectors;
+  dc_destinations = map (λ s. s.dc) selectors;
+  ac_destinations = map (λ s. s.ac) selectors;
   first = first;
   after = after_of frame.process last;
   predictor = predictor_of frame.process first;
@@ -183,7 +185,7 @@ pub record IsSelectorOf (frame : Frame) (s : Selector) : Type 0 where
 -- The places rise: the first is at least `least`, and each other is greater than the one before.
 unfoldable pub IsRising : ℕ → List ℕ → Type 0
 IsRising least [] = Unit {0}
-IsRising least (place ∷ more) = (least ≤ place) × IsRising (place + 1) more
+IsRising least (index ∷ more) = (least ≤ index) × IsRising (index + 1) more
 
 -- The coefficients, from the first to the one after the last, and the levels of successive
 -- approximation that a process may code.
@@ -200,13 +202,13 @@ IsBandOf Lossless first after high low = (first ≤ 7) × (after ≡ 1) × (high
 pub record IsScanOf (frame : Frame) (s : Scan) : Type 0 where
   pub some : 1 ≤ length s.components
   pub most : length s.components ≤ 4
-  pub components : All (λ place. place < length frame.components) s.components
+  pub components : All (λ index. index < length frame.components) s.components
   pub rising : IsRising 0 s.components
   pub few_blocks : 2 ≤ length s.components → sum_by (blocks_by frame.components) s.components ≤ 10
-  pub dc_length : length s.dc_places ≡ length s.components
-  pub dc_places : All (λ place. place ≤ 3) s.dc_places
-  pub ac_length : length s.ac_places ≡ length s.components
-  pub ac_places : All (λ place. place ≤ 3) s.ac_places
+  pub dc_length : length s.dc_destinations ≡ length s.components
+  pub dc_destinations : All (λ d. d ≤ 3) s.dc_destinations
+  pub ac_length : length s.ac_destinations ≡ length s.components
+  pub ac_destinations : All (λ d. d ≤ 3) s.ac_destinations
   pub coded : IsBandOf frame.process s.first s.after s.high s.low
   pub legal :
       is_band frame.process (length s.components) s.first (s.after - 1) s.high s.low ≡ true

@@ -3,8 +3,8 @@
 use Rattle.std.specs.Prelude.{◌≡◌, ℕ, ◌≤◌, ◌<◌, ◌+◌, true, List, [], ◌∷◌, ◌++◌, length, map}
 use Rattle.std.specs.Prelude.{flat_map, Some, nat_lt}
 use Rattle.jpeg_segments.specs.Frame.{Frame}
-use Rattle.jpeg_segments.specs.HuffmanTables.{greatest_place}
-use Rattle.jpeg_segments.specs.ScanHeader.{Scan, Selector, place_of, blocks_by, is_mcu, is_band}
+use Rattle.jpeg_segments.specs.HuffmanTables.{greatest_destination}
+use Rattle.jpeg_segments.specs.ScanHeader.{Scan, Selector, index_of, blocks_by, is_mcu, is_band}
 use Rattle.jpeg_segments.specs.ScanHeader.{scan_of}
 use Rattle.jpeg_segments.specs.WrittenSegments.{nibbles}
 
@@ -48,10 +48,10 @@ selector_for frame c = record {
 -- A component of the frame whose place is at least `least`, with destinations of tables that the
 -- frame has: 0 and 1 in a baseline frame, else 0 to 3.
 pub record IsChoice (frame : Frame) (least : ℕ) (c : Choice) : Type 0 where
-  pub identified : place_of frame.components c.identifier ≡ Some c.component
+  pub identified : index_of frame.components c.identifier ≡ Some c.component
   pub ordered : least ≤ c.component
-  pub dc_placed : c.dc ≤ greatest_place (Some frame.is_baseline)
-  pub ac_placed : c.ac ≤ greatest_place (Some frame.is_baseline)
+  pub dc_bounded : c.dc ≤ greatest_destination (Some frame.is_baseline)
+  pub ac_bounded : c.ac ≤ greatest_destination (Some frame.is_baseline)
 
 -- The components stand in the frame's order, each once.
 unfoldable pub AreChoices : Frame → ℕ → List Choice → Type 0

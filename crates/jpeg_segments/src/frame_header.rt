@@ -8,7 +8,7 @@ ghost use Rattle.jpeg_bits.specs.declared.marker.Marker.TheVariants.{SOF};
 ghost use Rattle.jpeg_segments.specs.Frame.{AllHaveSampling, IsFrame, IsInRange, components_from};
 ghost use Rattle.jpeg_segments.specs.Frame.{factors_at, frame_of, head_at, is_count};
 ghost use Rattle.jpeg_segments.specs.Frame.{is_lossless_number};
-ghost use Rattle.jpeg_segments.specs.Frame.{is_place, is_precision, is_taken, parameters_at};
+ghost use Rattle.jpeg_segments.specs.Frame.{is_destination, is_precision, is_taken, parameters_at};
 ghost use Rattle.jpeg_segments.specs.Frame.{process_of, coding_of, is_differential_number, size_at};
 ghost use Rattle.jpeg_segments.specs.Frame.{sof_at};
 ghost use Rattle.jpeg_segments.specs.Scales.{IsSizedFrame};
@@ -179,10 +179,14 @@ fn read_head<R: Read + Drop>(alloc: Global, source: &mut Source<R>, number: u8) 
     })
 }
 
-fn is_place(lossless: bool, place: u8) -> bool
-    ensures { result ≡ is_place lossless place }
+fn is_destination(lossless: bool, destination: u8) -> bool
+    ensures { result ≡ is_destination lossless destination }
 {
-    if lossless { place == 0 } else { place <= 3 }
+    if lossless {
+        destination == 0
+    } else {
+        destination <= 3
+    }
 }
 
 /// Reads the sampling factors and the destination of the quantization table, after the
@@ -213,7 +217,7 @@ fn read_parameters<R: Read + Drop>(
         )));
     }
     let quantization = read_u8(alloc, source)?;
-    if !is_place(lossless, quantization) {
+    if !is_destination(lossless, quantization) {
         let expected = if lossless { "0" } else { "0 to 3" };
         return Err(format_error_of(format!(in alloc;
             "quantization table destination {quantization} of component {identifier}, \

@@ -2,8 +2,9 @@
 ghost use Rattle.std.specs.Prelude.{◌≡◌, ◌≤◌, ◌<◌, ◌+◌, true, None, replicate, length, sum, IfOk};
 ghost use Rattle.jpeg_bits.specs.Codes.{is_ac};
 ghost use Rattle.jpeg_bits.specs.Reading.{Answers, NamesFormat, times, next_byte};
-ghost use Rattle.jpeg_segments.specs.HuffmanTables.{symbols_at, codes_at, placed_codes_at};
-ghost use Rattle.jpeg_segments.specs.HuffmanTables.{greatest_place, with_table, dht_at, all_ac};
+ghost use Rattle.jpeg_segments.specs.HuffmanTables.{symbols_at, codes_at, defined_codes_at};
+ghost use Rattle.jpeg_segments.specs.HuffmanTables.{greatest_destination, with_table, dht_at};
+ghost use Rattle.jpeg_segments.specs.HuffmanTables.{all_ac};
 
 use jpeg_bits::error::{Error, Result, format_error_of};
 use jpeg_bits::huffman::{HuffmanTable, HuffmanTableClass};
@@ -13,7 +14,7 @@ use std::alloc::{AllocError, Global};
 use std::io::Read;
 
 /// The tables of each class, DC and AC, by their destinations 0 to 3.
-pub type PlacedTables = (Vec<Option<HuffmanTable>>, Vec<Option<HuffmanTable>>);
+pub type DefinedTables = (Vec<Option<HuffmanTable>>, Vec<Option<HuffmanTable>>);
 
 /// Reads how many codes each length has, from 1 to 16 bits.
 fn read_counts<R: Read + Drop>(alloc: Global, source: &mut Source<R>) -> Result<[u8; 16]>
@@ -99,25 +100,25 @@ fn read_codes<R: Read + Drop>(
 
 /// A table that is read: its class, its destination, and how many bytes of the segment it takes.
 #[derive(Drop)]
-struct PlacedTable {
+struct DefinedTable {
     class: HuffmanTableClass,
-    place: usize,
+    destination: usize,
     size: u16,
     table: HuffmanTable,
 }
 
 /// Reads the next table, where `left` bytes are left of the segment.
-#[tactic(auto, unfolding(crate::specs::HuffmanTables::placed_codes_at))]
-fn read_placed_table<R: Read + Drop>(
+#[tactic(auto, unfolding(crate::specs::HuffmanTables::defined_codes_at))]
+fn read_defined_table<R: Read + Drop>(
     alloc: Global,
     source: &mut Source<R>,
     greatest: u8,
     left: u16,
-) -> Result<PlacedTable>
+) -> Result<DefinedTable>
     requires { greatest ≤ 3 }
-    ensures answers { Answers (λ t. record { place = t.place; table = t.table })
-        (placed_codes_at greatest left) source.old result source.new }
-    ensures place { IfOk result (λ t. t.place ≤ 3) }
+    ensures answers { Answers (λ t. record { destination = t.destination; table = t.table })
+        (defined_codes_at greatest left) source.old result source.new }
+    ensures destination { IfOk result (λ t. t.destination ≤ 3) }
     ensures class { IfOk result (λ t. t.table.class ≡ t.class) }
     ensures size { IfOk result (λ t. (t.size ≡ 17 + sum t.table.counts) × (t.size ≤ left)) }
 {
@@ -131,17 +132,17 @@ fn read_placed_table<R: Read + Drop>(
             )));
         }
     };
-    let place = byte % 16;
-    if place > greatest {
+    let destination = byte % 16;
+    if destination > greatest {
         let expected = expected_destinations(greatest);
         return Err(format_error_of(format!(in alloc;
-            "{class:?} table destination {place}, expected {expected}"
+            "{class:?} table destination {destination}, expected {expected}"
         )));
     }
-    let (size, table) = read_codes(alloc, source, left, class, place)?;
-    Ok(PlacedTable {
+    let (size, table) = read_codes(alloc, source, left, class, destination)?;
+    Ok(DefinedTable {
         class,
-        place: usize::from(place),
+        destination: usize::from(destination),
         size,
         table,
     })
@@ -155,33 +156,33 @@ fn no_tables(alloc: Global) -> std::result::Result<Vec<Option<HuffmanTable>>, Al
 }
 
 /// The tables with one more.
-fn place_table(tables: &mut PlacedTables, placed: PlacedTable)
+fn put_table(tables: &mut DefinedTables, placed: DefinedTable)
     requires dc { length tables.old.0.items ≡ 4 }
     requires ac { length tables.old.1.items ≡ 4 }
-    requires place { placed.place ≤ 3 }
+    requires destination { placed.destination ≤ 3 }
     requires class { placed.table.class ≡ placed.class }
     ensures tables { record { dc = tables.new.0.items; ac = tables.new.1.items }
         ≡ with_table (record { dc = tables.old.0.items; ac = tables.old.1.items })
-        (record { place = placed.place; table = placed.table }) }
+        (record { destination = placed.destination; table = placed.table }) }
     ensures dc { length tables.new.0.items ≡ 4 }
     ensures ac { length tables.new.1.items ≡ 4 }
     ensures classes { all_ac tables.old.1.items ≡ true → all_ac tables.new.1.items ≡ true }
 {
-    let PlacedTable {
+    let DefinedTable {
         class,
-        place,
+        destination,
         table,
         ..
     } = placed;
     match class {
-        HuffmanTableClass::DC => tables.0[place] = Some(table),
-        HuffmanTableClass::AC => tables.1[place] = Some(table),
+        HuffmanTableClass::DC => tables.0[destination] = Some(table),
+        HuffmanTableClass::AC => tables.1[destination] = Some(table),
     }
 }
 
 /// Returns the greatest destination that a table may have.
-pub(crate) fn greatest_place(is_baseline: Option<bool>) -> u8
-    ensures place { result ≡ greatest_place is_baseline }
+pub(crate) fn greatest_destination(is_baseline: Option<bool>) -> u8
+    ensures destination { result ≡ greatest_destination is_baseline }
     ensures most { result ≤ 3 }
 {
     match is_baseline {
@@ -211,19 +212,19 @@ pub fn parse_dht<R: Read + Drop>(
     alloc: Global,
     reader: &mut Source<R>,
     is_baseline: Option<bool>,
-) -> Result<PlacedTables>
+) -> Result<DefinedTables>
     ensures tables { Answers (λ t. record { dc = t.0.items; ac = t.1.items }) (dht_at is_baseline)
         reader.old result reader.new }
-    ensures places { IfOk result (λ t. (length t.0.items ≡ 4) × (length t.1.items ≡ 4)) }
+    ensures destinations { IfOk result (λ t. (length t.0.items ≡ 4) × (length t.1.items ≡ 4)) }
     ensures classes { IfOk result (λ t. all_ac t.1.items ≡ true) }
 {
     let mut left = read_length(alloc, reader)?;
-    let greatest = greatest_place(is_baseline);
+    let greatest = greatest_destination(is_baseline);
     let mut tables = (no_tables(alloc)?, no_tables(alloc)?);
     while left > 17 {
-        let placed = read_placed_table(alloc, reader, greatest, left)?;
+        let placed = read_defined_table(alloc, reader, greatest, left)?;
         left -= placed.size;
-        place_table(&mut tables, placed);
+        put_table(&mut tables, placed);
     }
     if left > 0 {
         return Err(format_error_of(format!(in alloc;

@@ -4,7 +4,8 @@ ghost use Rattle.std.specs.Prelude.{◌≡◌, ℕ, ◌<◌, ◌≤◌, ◌++◌
 ghost use Rattle.std.specs.Prelude.{Ok};
 ghost use Rattle.std.specs.List.{AllByRecursion};
 ghost use Rattle.jpeg_segments.specs.Quantization.{dqt_at};
-ghost use Rattle.jpeg_segments.specs.HuffmanTables.{Tables, PlacedTable, greatest_place, dht_at};
+ghost use Rattle.jpeg_segments.specs.HuffmanTables.{Tables, DefinedTable, greatest_destination};
+ghost use Rattle.jpeg_segments.specs.HuffmanTables.{dht_at};
 ghost use Rattle.jpeg_segments.specs.Application.{Application, app_at, dri_at};
 ghost use Rattle.jpeg_segments.specs.Frame.{Frame, sof_at};
 ghost use Rattle.jpeg_segments.specs.ScanHeader.{Scan, sos_at};
@@ -24,8 +25,8 @@ pub fn written_segments_are_read()
         AllByRecursion IsQuantizationTable ts →
         dqt_at (with_length (flat_map quantization_bytes ts) ++ rest)
         ≡ Ok (quantization_tables ts, rest) }
-    ensures huffman { (is_baseline : Option Bool) (ts : List PlacedTable) (rest : List ℕ) →
-        AllByRecursion (IsHuffmanTable (greatest_place is_baseline)) ts →
+    ensures huffman { (is_baseline : Option Bool) (ts : List DefinedTable) (rest : List ℕ) →
+        AllByRecursion (IsHuffmanTable (greatest_destination is_baseline)) ts →
         dht_at is_baseline (with_length (flat_map huffman_bytes ts) ++ rest)
         ≡ Ok (huffman_tables ts, rest) }
     ensures interval { (n : ℕ) (rest : List ℕ) →
@@ -48,8 +49,8 @@ pub fn accepted_segments_are_written()
         × (bytes ≡ with_length (flat_map quantization_bytes ts) ++ rest) }
     ensures huffman { (is_baseline : Option Bool) (bytes rest : List ℕ) (tables : Tables) →
         AllByRecursion (λ b. b < 256) bytes → dht_at is_baseline bytes ≡ Ok (tables, rest) →
-        (ts : List PlacedTable)
-        × AllByRecursion (IsHuffmanTable (greatest_place is_baseline)) ts
+        (ts : List DefinedTable)
+        × AllByRecursion (IsHuffmanTable (greatest_destination is_baseline)) ts
         × (tables ≡ huffman_tables ts)
         × (bytes ≡ with_length (flat_map huffman_bytes ts) ++ rest) }
     ensures interval { (bytes rest : List ℕ) (n : ℕ) →

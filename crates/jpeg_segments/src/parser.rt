@@ -2,7 +2,7 @@
 
 pub use crate::application::{parse_app, parse_com, parse_dri};
 pub use crate::frame_header::parse_sof;
-pub use crate::huffman_tables::{PlacedTables, parse_dht};
+pub use crate::huffman_tables::{DefinedTables, parse_dht};
 pub use crate::quantization::parse_dqt;
 pub use crate::scan_header::parse_sos;
 pub use jpeg_bits::scan::{Predictor, ScanInfo};

@@ -2,7 +2,7 @@
 ghost use Rattle.std.specs.Prelude.{◌≡◌, ◌≤◌, ◌<◌, IfOk, true, Err};
 ghost use Rattle.jpeg_bits.specs.Reading.{Answers, Malformed, NamesFormat, times};
 ghost use Rattle.jpeg_bits.specs.declared.error.Error.TheVariants.{OutOfMemory};
-ghost use Rattle.jpeg_segments.specs.Quantization.{value_at, table_at, placed_table_at, dqt_at};
+ghost use Rattle.jpeg_segments.specs.Quantization.{value_at, table_at, defined_table_at, dqt_at};
 
 use jpeg_bits::error::{Error, Result, format_error_of};
 use jpeg_bits::reads::{read_length, read_u8, read_u16_be};
@@ -70,16 +70,16 @@ fn read_table<R: Read + Drop>(
 }
 
 /// Reads the next table where `left` bytes are left: its size and destination, and the table.
-#[tactic(auto, unfolding(crate::specs::Quantization::placed_table_at))]
-fn read_placed_table<R: Read + Drop>(
+#[tactic(auto, unfolding(crate::specs::Quantization::defined_table_at))]
+fn read_defined_table<R: Read + Drop>(
     alloc: Global,
     source: &mut Source<R>,
     left: u16,
 ) -> Result<(u16, usize, [u16; 64])>
-    ensures answers { Answers (λ t. t) (placed_table_at left) source.old result source.new }
+    ensures answers { Answers (λ t. t) (defined_table_at left) source.old result source.new }
     ensures room { source.old.known ≡ true → result ≡ Err OutOfMemory
-        → placed_table_at left source.old.bytes ≡ Err Malformed }
-    ensures place { IfOk result (λ t. (t.0 ≤ left) × (0 < t.0) × (t.1 < 4)) }
+        → defined_table_at left source.old.bytes ≡ Err Malformed }
+    ensures destination { IfOk result (λ t. (t.0 ≤ left) × (0 < t.0) × (t.1 < 4)) }
 {
     let byte = read_u8(alloc, source)?;
     let precision = byte / 16;
@@ -121,7 +121,7 @@ pub fn parse_dqt<R: Read + Drop>(
     let mut left = read_length(alloc, reader)?;
     let mut tables = [None; 4];
     while left > 0 {
-        let (size, index, table) = read_placed_table(alloc, reader, left)?;
+        let (size, index, table) = read_defined_table(alloc, reader, left)?;
         tables[index] = Some(table);
         left -= size;
     }

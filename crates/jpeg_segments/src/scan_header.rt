@@ -2,17 +2,17 @@
 ghost use Rattle.std.specs.Prelude.{◌≡◌, ◌≤◌, ◌<◌, ◌==◌, ◌*◌, [], map, position, length, sum_by};
 ghost use Rattle.std.specs.Prelude.{IsTrue, IfOk, IfSome, All, true};
 ghost use Rattle.jpeg_bits.specs.Reading.{Answers, NamesFormat};
-ghost use Rattle.jpeg_segments.specs.HuffmanTables.{greatest_place};
+ghost use Rattle.jpeg_segments.specs.HuffmanTables.{greatest_destination};
 ghost use Rattle.jpeg_segments.specs.ScanHeader.{IsBandOf, IsRising, IsScanOf, IsSelectorOf};
 ghost use Rattle.jpeg_segments.specs.ScanHeader.{band_at, after_of, blocks_by, count_at, is_band};
 ghost use Rattle.jpeg_segments.specs.ScanHeader.{is_lossless_band, is_mcu, is_progressive_band};
-ghost use Rattle.jpeg_segments.specs.ScanHeader.{is_sequential_band, place_of, predictor_by};
+ghost use Rattle.jpeg_segments.specs.ScanHeader.{is_sequential_band, index_of, predictor_by};
 ghost use Rattle.jpeg_segments.specs.ScanHeader.{predictor_of, scan_of, selector_at};
 ghost use Rattle.jpeg_segments.specs.ScanHeader.{selectors_from, sos_at, destinations_at};
 ghost use Rattle.jpeg_segments.specs.ScanHeader.{tables_by};
 ghost use Rattle.jpeg_segments.specs.FrameView.{component_in, frame_in, scan_in, selector_of};
 
-use crate::huffman_tables::{expected_destinations, greatest_place};
+use crate::huffman_tables::{expected_destinations, greatest_destination};
 use crate::parser::{CodingProcess, Component, FrameInfo, Predictor, ScanInfo};
 use jpeg_bits::error::{Error, Result, format_error, format_error_of};
 use jpeg_bits::huffman::HuffmanTableClass;
@@ -67,8 +67,8 @@ fn position_of(components: &[Component], identifier: u8) -> Option<usize>
 }
 
 /// Returns the index of the component with this identifier.
-fn place_of(components: &[Component], identifier: u8) -> Option<usize>
-    ensures place { result ≡ place_of (map component_in components.now) identifier }
+fn index_of(components: &[Component], identifier: u8) -> Option<usize>
+    ensures index { result ≡ index_of (map component_in components.now) identifier }
     ensures within { IfSome result (λ i. i < length components.now) }
 {
     position_of(components, identifier)
@@ -82,11 +82,11 @@ fn block_count(component: &Component) -> u16
 }
 
 /// Returns the number of blocks that the component at an index has in an MCU.
-fn blocks_by(components: &[Component], place: usize) -> u16
-    requires { place < length components.now }
-    ensures { result ≡ blocks_by (map component_in components.now) place }
+fn blocks_by(components: &[Component], index: usize) -> u16
+    requires { index < length components.now }
+    ensures { result ≡ blocks_by (map component_in components.now) index }
 {
-    block_count(&components[place])
+    block_count(&components[index])
 }
 
 /// Returns the refusal of a table destination that a scan names for a component.
@@ -113,32 +113,32 @@ fn read_tables<R: Read + Drop>(
     alloc: Global,
     source: &mut Source<R>,
     frame: &FrameInfo,
-    place: usize,
+    index: usize,
 ) -> Result<Selector>
-    requires { place < length frame.now.components.items }
-    ensures answers { Answers selector_of (destinations_at (frame_in frame.now) place) source.old
+    requires { index < length frame.now.components.items }
+    ensures answers { Answers selector_of (destinations_at (frame_in frame.now) index) source.old
         result
         source.new }
-    ensures place { IfOk result (λ s. IsSelectorOf (frame_in frame.now) (selector_of s)) }
-    ensures same { IfOk result (λ s. s.component ≡ place) }
+    ensures index { IfOk result (λ s. IsSelectorOf (frame_in frame.now) (selector_of s)) }
+    ensures same { IfOk result (λ s. s.component ≡ index) }
 {
-    let places = read_u8(alloc, source)?;
-    let greatest = greatest_place(Some(frame.is_baseline));
-    let dc = places / 16;
-    let ac = places % 16;
+    let indices = read_u8(alloc, source)?;
+    let greatest = greatest_destination(Some(frame.is_baseline));
+    let dc = indices / 16;
+    let ac = indices % 16;
     if dc > greatest {
-        let identifier = frame.components[place].identifier;
+        let identifier = frame.components[index].identifier;
         return Err(destination_error(alloc, HuffmanTableClass::DC, dc, identifier, greatest));
     }
     if ac > greatest {
-        let identifier = frame.components[place].identifier;
+        let identifier = frame.components[index].identifier;
         return Err(destination_error(alloc, HuffmanTableClass::AC, ac, identifier, greatest));
     }
     Ok(Selector {
-        component: place,
+        component: index,
         dc: usize::from(dc),
         ac: usize::from(ac),
-        blocks: blocks_by(&frame.components, place),
+        blocks: blocks_by(&frame.components, index),
     })
 }
 
@@ -153,12 +153,12 @@ fn read_selector<R: Read + Drop>(
 ) -> Result<Selector>
     ensures answers { Answers selector_of (selector_at (frame_in frame.now) least) source.old result
         source.new }
-    ensures place { IfOk result (λ s. IsSelectorOf (frame_in frame.now) (selector_of s)) }
+    ensures index { IfOk result (λ s. IsSelectorOf (frame_in frame.now) (selector_of s)) }
     ensures least { IfOk result (λ s. least ≤ s.component) }
 {
     let identifier = read_u8(alloc, source)?;
-    match place_of(&frame.components, identifier) {
-        Some(place) if place >= least => read_tables(alloc, source, frame, place),
+    match index_of(&frame.components, identifier) {
+        Some(index) if index >= least => read_tables(alloc, source, frame, index),
         Some(_) => Err(format_error_of(format!(in alloc;
             "component identifier {identifier} is out of the frame's order"
         ))),
@@ -178,7 +178,7 @@ fn read_selectors<R: Read + Drop>(
     ensures answers { Answers (λ v. map selector_of v.items)
         (selectors_from (frame_in frame.now) count [] 0) source.old result source.new }
     ensures length { IfOk result (λ v. length v.items ≡ count) }
-    ensures places { IfOk result (λ v. All (IsSelectorOf (frame_in frame.now))
+    ensures indices { IfOk result (λ v. All (IsSelectorOf (frame_in frame.now))
         (map selector_of v.items)) }
     ensures rising { IfOk result (λ v.
         IsRising 0 (map (λ s. s.component) (map selector_of v.items))) }
@@ -385,13 +385,13 @@ fn after_of(process: CodingProcess, last: u8) -> u8
 
 /// The indices of components, and the destinations of their DC and AC tables.
 #[derive(Drop)]
-struct Places {
+struct Indices {
     components: Vec<usize>,
     dc: Vec<usize>,
     ac: Vec<usize>,
 }
 
-fn places_of(alloc: Global, selectors: &[Selector]) -> std::result::Result<Places, AllocError>
+fn indices_of(alloc: Global, selectors: &[Selector]) -> std::result::Result<Indices, AllocError>
     ensures components { IfOk result (λ p. p.components.items
         ≡ map (λ s. s.component) (map selector_of selectors.now)) }
     ensures dc { IfOk result (λ p. p.dc.items ≡ map (λ s. s.dc) (map selector_of selectors.now)) }
@@ -405,7 +405,7 @@ fn places_of(alloc: Global, selectors: &[Selector]) -> std::result::Result<Place
         dc.push(selector.dc)?;
         ac.push(selector.ac)?;
     }
-    Ok(Places { components, dc, ac })
+    Ok(Indices { components, dc, ac })
 }
 
 #[tactic(auto, unfolding(crate::specs::ScanHeader::scan_of))]
@@ -418,8 +418,8 @@ fn scan_of(
     requires { band.last ≤ 63 }
     ensures { IfOk result (λ s. scan_in s ≡ record {
       components = map (λ s. s.component) (map selector_of selectors.now);
-      dc_places = map (λ s. s.dc) (map selector_of selectors.now);
-      ac_places = map (λ s. s.ac) (map selector_of selectors.now);
+      dc_destinations = map (λ s. s.dc) (map selector_of selectors.now);
+      ac_destinations = map (λ s. s.ac) (map selector_of selectors.now);
       first = band.first;
       after = after_of process band.last;
       predictor = predictor_of process band.first;
@@ -428,7 +428,7 @@ fn scan_of(
       point_transform = band.low;
     }) }
 {
-    let Places { components, dc, ac } = places_of(alloc, selectors)?;
+    let Indices { components, dc, ac } = indices_of(alloc, selectors)?;
     Ok(ScanInfo {
         component_indices: components,
         dc_table_indices: dc,
@@ -451,7 +451,7 @@ fn read_band<R: Read + Drop>(
 ) -> Result<ScanInfo>
     requires some { 1 ≤ length selectors.now }
     requires most { length selectors.now ≤ 4 }
-    requires places { All (IsSelectorOf (frame_in frame.now)) (map selector_of selectors.now) }
+    requires indices { All (IsSelectorOf (frame_in frame.now)) (map selector_of selectors.now) }
     requires rising { IsRising 0 (map (λ s. s.component) (map selector_of selectors.now)) }
     requires mcu { is_mcu (map selector_of selectors.now) ≡ true }
     ensures answers { Answers scan_in (band_at (frame_in frame.now) (map selector_of selectors.now))

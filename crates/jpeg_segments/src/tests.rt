@@ -1,6 +1,6 @@
 use crate::parser::{
-    AdobeColorTransform, AppData, CodingProcess, Dimensions, EntropyCoding, FrameInfo,
-    PlacedTables, Predictor, ScanInfo, parse_app, parse_com, parse_dht, parse_dqt, parse_dri,
+    AdobeColorTransform, AppData, CodingProcess, DefinedTables, Dimensions, EntropyCoding,
+    FrameInfo, Predictor, ScanInfo, parse_app, parse_com, parse_dht, parse_dqt, parse_dri,
     parse_sof, parse_sos,
 };
 use crate::sizes::scale_frame;
@@ -330,8 +330,8 @@ const LUMINANCE_DC: [u8; 31] = [
 fn a_table_of_codes(rt: HostRuntime) -> std::result::Result<(), Fail> {
     let (dc, ac) = parse_dht(rt.alloc(), &mut Source::new(&LUMINANCE_DC[..]), None)?;
     assert!(rt; ac.iter().all(|table| table.is_none()));
-    for (place, table) in dc.iter().enumerate() {
-        assert_eq!(rt; table.is_some(), place == 0);
+    for (destination, table) in dc.iter().enumerate() {
+        assert_eq!(rt; table.is_some(), destination == 0);
         if let Some(table) = table {
             let mut source = Source::new(&[0b0001_0111, 0b0111_1111, 0b1000_0000][..]);
             let mut decoder = HuffmanDecoder::new(rt.alloc());
@@ -344,9 +344,28 @@ fn a_table_of_codes(rt: HostRuntime) -> std::result::Result<(), Fail> {
 }
 
 /// Returns a segment of one table with one code of length 1.
-fn short_table(length: u8, place: u8) -> [u8; 20] {
+fn short_table(length: u8, destination: u8) -> [u8; 20] {
     [
-        0, length, place, 1, 0, 0, 0, 0, 0, 0, 0, 0, 0, 0, 0, 0, 0, 0, 0, 4,
+        0,
+        length,
+        destination,
+        1,
+        0,
+        0,
+        0,
+        0,
+        0,
+        0,
+        0,
+        0,
+        0,
+        0,
+        0,
+        0,
+        0,
+        0,
+        0,
+        4,
     ]
 }
 
@@ -357,22 +376,22 @@ fn two_tables_in_a_segment(rt: HostRuntime) -> std::result::Result<(), Fail> {
         0, 0, 0, 0, 0, 0, 0, 0, 0, 5,
     ];
     let (dc, ac) = parse_dht(rt.alloc(), &mut Source::new(&bytes[..]), Some(false))?;
-    for (place, table) in dc.iter().enumerate() {
-        assert_eq!(rt; table.is_some(), place == 3);
+    for (destination, table) in dc.iter().enumerate() {
+        assert_eq!(rt; table.is_some(), destination == 3);
     }
-    for (place, table) in ac.iter().enumerate() {
-        assert_eq!(rt; table.is_some(), place == 2);
+    for (destination, table) in ac.iter().enumerate() {
+        assert_eq!(rt; table.is_some(), destination == 2);
     }
     Ok(())
 }
 
-fn tables_of(alloc: Global, bytes: &[u8], is_baseline: Option<bool>) -> Result<PlacedTables> {
+fn tables_of(alloc: Global, bytes: &[u8], is_baseline: Option<bool>) -> Result<DefinedTables> {
     parse_dht(alloc, &mut Source::new(bytes), is_baseline)
 }
 
 #[test]
-fn places_of_tables(rt: HostRuntime) {
-    let places = [
+fn destinations_of_tables(rt: HostRuntime) {
+    let destinations = [
         (0x01, Some(true), Outcome::Read),
         (0x11, Some(true), Outcome::Read),
         (0x02, Some(true), Outcome::Format),
@@ -383,12 +402,12 @@ fn places_of_tables(rt: HostRuntime) {
         (0x14, Some(false), Outcome::Format),
         (0x20, None, Outcome::Format),
     ];
-    for (place, is_baseline, outcome) in places {
-        let bytes = short_table(20, place);
+    for (destination, is_baseline, outcome) in destinations {
+        let bytes = short_table(20, destination);
         assert_eq!(rt;
             outcome_of(tables_of(rt.alloc(), &bytes, is_baseline)),
             outcome,
-            "{place}"
+            "{destination}"
         );
     }
 }
@@ -724,7 +743,7 @@ fn quantization_tables(rt: HostRuntime) -> std::result::Result<(), Fail> {
 fn outcomes_of_quantization_tables(rt: HostRuntime) {
     let mut bytes = [1u8; 67];
     bytes[0] = 0;
-    for (length, place, outcome) in [
+    for (length, destination, outcome) in [
         (67, 0x00, Outcome::Read),
         (2, 0x00, Outcome::Read),
         (67, 0x04, Outcome::Format),
@@ -736,11 +755,11 @@ fn outcomes_of_quantization_tables(rt: HostRuntime) {
         (1, 0x00, Outcome::Format),
     ] {
         bytes[1] = length;
-        bytes[2] = place;
+        bytes[2] = destination;
         assert_eq!(rt;
             outcome_of(parse_dqt(rt.alloc(), &mut Source::new(&bytes[..]))),
             outcome,
-            "{length} {place}"
+            "{length} {destination}"
         );
     }
 }

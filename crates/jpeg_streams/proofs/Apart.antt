@@ -137,10 +137,10 @@ within frame c column h fits lt l = search (rules, div-mul-add, div-lt_iff_lt-mu
 
 -- the component that a spot of an MCU is of
 pub record IsOf (frame : Frame) (components : List Component) (base row column : ℕ) (s : Spot) : Type 0 where
-  pub place : ℕ
+  pub index : ℕ
   pub component : Component
-  pub here : At place components component
-  pub tells : Tells frame component (base + place) row column s
+  pub here : At index components component
+  pub tells : Tells frame component (base + index) row column s
 
 module _ (frame : Frame) (row column : ℕ) (lt : column < frame.mcus_wide) where
   spot-tells : (c : Component) (slot v h : ℕ) (s : Spot) → Fits frame c → v < c.factors.vertical
@@ -204,7 +204,7 @@ module _ (frame : Frame) (row column : ℕ) (lt : column < frame.mcus_wide) wher
           → IsOf frame (c ∷ more) base row column s
       go rec (inl p) = grind (arith, part-tells c base s fits.0 p)
       go rec (inr t) = let r = rec t in record {
-        place = suc r.place;
+        index = suc r.index;
         component = r.component;
         here = r.here;
         tells = search rules;

@@ -17,12 +17,13 @@ use Rattle.jpeg_bits.specs.Passes.{Pass, Block, whole_pass, zero_block}
 use Rattle.jpeg_streams.specs.Order.{grid_of}
 use Rattle.jpeg_segments.specs.Scales.{frame_at}
 use Rattle.jpeg_streams.specs.Scans.{Arrays, zero_arrays}
-use Rattle.jpeg_streams.specs.ScanSegments.{arrays_before, Coding, pass_of, is_progressive, after_scan, held_after}
+use Rattle.jpeg_streams.specs.ScanSegments.{arrays_before, Coding, pass_of, is_progressive}
+use Rattle.jpeg_streams.specs.ScanSegments.{after_scan, blocks_after}
 use Rattle.jpeg_streams.specs.ScanSegments.{put_arrays, scan_arrays}
 use Rattle.jpeg_streams.specs.Found.{none_finished, Found}
 use Rattle.jpeg_streams.specs.Levels.{Levels, Is8Bit, IsLegal, sent_after, nothing_sent}
 use Rattle.jpeg_streams.specs.WrittenScans.{Coefficients, levels_of_one, levels_after, IsLegalScan, WritesScan}
-use Rattle.jpeg_streams.proofs.PlacesApart.{AreApart}
+use Rattle.jpeg_streams.proofs.IndicesApart.{AreApart}
 use Rattle.jpeg_bits.specs.Written.{marker}
 use Rattle.jpeg_lossless.specs.Written.{IsMarker}
 use Rattle.jpeg_streams.proofs.FinishedMarks.{IsBand, marks-start}
@@ -30,7 +31,8 @@ use Rattle.jpeg_streams.proofs.OwnSpots.{At, at-get, Fits}
 use Rattle.jpeg_streams.proofs.WrittenFrameScans.{HoldsOwn, HasGood, SlotReady, SpotsSuit, dc_alone, one_component}
 use Rattle.jpeg_streams.proofs.WrittenFrameScans.{ReadsScan, scan-is_read, cut-nothing}
 use Rattle.jpeg_streams.proofs.Apart.{at-all}
-use Rattle.jpeg_streams.proofs.ReadStates.{reading, Marked, AllDone, places_of, Brought, brings, AllHeld, held-after}
+use Rattle.jpeg_streams.proofs.ReadStates.{reading, Marked, AllDone, indices_of, Brought, brings}
+use Rattle.jpeg_streams.proofs.ReadStates.{AllKept, blocks-after}
 use Rattle.jpeg_streams.proofs.ReadTurns.{CodingFacts, codings-facts, codings-read}
 use Rattle.jpeg_streams.proofs.UpsampledFactors.{either as either-true}
 
@@ -45,8 +47,8 @@ pub data PassSo (f : Frame) (s : Scan) : Type 0 where
 -- what a scan header says
 pub record ScanFacts (f : Frame) (s : Scan) : Type 0 where
   pub some : 1 ≤ length s.components
-  pub dc_length : length s.dc_places ≡ length s.components
-  pub ac_length : length s.ac_places ≡ length s.components
+  pub dc_length : length s.dc_destinations ≡ length s.components
+  pub ac_length : length s.ac_destinations ≡ length s.components
   pub apart : AreApart s.components
   pub so : PassSo f s
 
@@ -77,7 +79,8 @@ pub record Framed (w : Found) (f : Frame) (array : Coefficients) (levels : ℕ �
     (fi : List (List Bool)) (pl : List (Option (List ℕ))) : Type 0 where
   pub marked : Marked w f array levels fi pl
   pub sized : (k : ℕ) → length (levels k).acs ≡ 63
-  pub held : is_progressive f.process ≡ true → AllHeld f array levels (arrays_before (reading w sc h fi pl) f)
+  pub kept : is_progressive f.process ≡ true → AllKept f array levels (arrays_before (reading w sc
+      h fi pl) f)
   pub fresh : is_progressive f.process ≡ false → (k : ℕ) → (levels k).dc ≡ None → levels k ≡ nothing_sent
 
 pub get-same : {A : Type 0} (x : A) (n k : ℕ) → get_or (replicate n x) k x ≡ x
@@ -87,11 +90,11 @@ get-same x n k = refl
 get-replicate : (n i : ℕ) → get_or (replicate n zero_block) i zero_block ≡ zero_block
 get-replicate n i = get-same zero_block n i
 
-pub zeros-everywhere : (components : List Component) (place index : ℕ)
-    → get_or (get_or (zero_arrays components) place []) index zero_block ≡ zero_block
+pub zeros-everywhere : (components : List Component) (nth index : ℕ)
+    → get_or (get_or (zero_arrays components) nth []) index zero_block ≡ zero_block
 unfolding zero_arrays
-zeros-everywhere (c ∷ more) (suc place) index = zeros-everywhere more place index
-zeros-everywhere components place index = search (rules, get-replicate)
+zeros-everywhere (c ∷ more) (suc nth) index = zeros-everywhere more nth index
+zeros-everywhere components nth index = search (rules, get-replicate)
 
 pub zero-at : (components : List Component) (k : ℕ) (c : Component) → At k components c
     → get_or (zero_arrays components) k [] ≡ replicate (c.blocks_high * c.blocks_wide) zero_block
@@ -104,13 +107,13 @@ zero-holds array c range = search (rules, length-replicate, get-replicate, cut-n
 
 -- before the first scan
 pub framed-start : (w : Found) (f : Frame) (array : Coefficients) (h : Arrays) (fi : List (List Bool))
-    (pl : List (Option (List ℕ))) → ((place row column : ℕ) → Is8Bit (array place row column))
+    (pl : List (Option (List ℕ))) → ((nth row column : ℕ) → Is8Bit (array nth row column))
     → fi ≡ replicate 4 none_finished → pl ≡ replicate 4 None → Framed w f array (λ k. nothing_sent) false h fi pl
 unfolding arrays_before zero_arrays
 framed-start w f array h fi pl range e g = record {
   marked = grind (arith, marks-start);
   sized = λ k. refl;
-  held = λ d. subst (AllHeld f array (λ k. nothing_sent)) (sym (search rules))
+  kept = λ d. subst (AllKept f array (λ k. nothing_sent)) (sym (search rules))
       (record {
         count = length-map f.components _;
         each = λ k c t. subst (HoldsOwn (grid_of c) (array k) nothing_sent) (sym (zero-at f.components k c t))
@@ -121,23 +124,31 @@ framed-start w f array h fi pl range e g = record {
 
 -- ---- levels
 
-pub after-length : (p : Pass) (places : List ℕ) (levels : ℕ → Levels) → ((j : ℕ) → length (levels j).acs ≡ 63)
-    → (k : ℕ) → length (levels_after p places levels k).acs ≡ 63
+pub after-length : (p : Pass) (indices : List ℕ) (levels : ℕ → Levels) → ((j : ℕ) → length (levels
+    j).acs ≡ 63)
+    → (k : ℕ) → length (levels_after p indices levels k).acs ≡ 63
 unfolding levels_after
 after-length p [] levels h k = h k
-after-length p (q ∷ places) levels h k =
-    after-length p places (levels_of_one p q levels) (λ j. (search (rules, length-take, length-drop, length-replicate, length-append))) k
+after-length p (q ∷ indices) levels h k =
+    after-length p indices (levels_of_one p q levels) (λ j. (search (
+      rules,
+      length-take,
+      length-drop,
+      length-replicate,
+      length-append,
+    ))) k
 
 some-none : (a : ℕ) → ◌≡◌ {A = Option ℕ} (Some a) None → ⊥
 some-none a e = cc
 
-pub after-fresh : (p : Pass) (places : List ℕ) (levels : ℕ → Levels) → p ≡ whole_pass
+pub after-fresh : (p : Pass) (indices : List ℕ) (levels : ℕ → Levels) → p ≡ whole_pass
     → ((j : ℕ) → (levels j).dc ≡ None → levels j ≡ nothing_sent)
-    → (k : ℕ) → (levels_after p places levels k).dc ≡ None → levels_after p places levels k ≡ nothing_sent
+    → (k : ℕ) → (levels_after p indices levels k).dc ≡ None → levels_after p indices levels k ≡
+    nothing_sent
 unfolding levels_after
 after-fresh p [] levels e h k n = h k n
-after-fresh p (q ∷ places) levels e h k n =
-    search (rules, some-none, after-fresh p places (levels_of_one p q levels) e)
+after-fresh p (q ∷ indices) levels e h k n =
+    search (rules, some-none, after-fresh p indices (levels_of_one p q levels) e)
 
 -- ---- passes
 
@@ -171,23 +182,34 @@ sequential-arrays : (found : Found) (f : Frame) → is_progressive f.process ≡
 unfolding arrays_before
 sequential-arrays found f e = rw (e, arrays_before) refl
 
-pub held-arrays : (w : Found) (h : Arrays) (fi : List (List Bool)) (pl : List (Option (List ℕ))) (f : Frame)
+pub kept-arrays : (w : Found) (h : Arrays) (fi : List (List Bool)) (pl : List (Option (List ℕ))) (f
+    : Frame)
     → is_progressive f.process ≡ true → arrays_before (reading w true h fi pl) f ≡ h
 unfolding arrays_before
-held-arrays w h fi pl f e = rw (e, arrays_before) refl
+kept-arrays w h fi pl f e = rw (e, arrays_before) refl
 
-held-after_is : (found : Found) (f : Frame) (codings : List Coding) (arrays : Arrays) → is_progressive f.process ≡ true
-    → held_after found f codings arrays ≡ put_arrays codings arrays (arrays_before found f)
-held-after_is found f codings arrays e = rw (e, held_after) refl
+blocks-after_is : (found : Found) (f : Frame) (codings : List Coding) (arrays : Arrays) →
+    is_progressive f.process ≡ true
+    → blocks_after found f codings arrays ≡ put_arrays codings arrays (arrays_before found f)
+blocks-after_is found f codings arrays e = rw (e, blocks_after) refl
 
 all-done : (w : Found) (f : Frame) (p : Pass) (array : Coefficients) (levels : ℕ → Levels) (codings : List Coding)
     (arrays : Arrays) → length arrays ≡ length codings → ((k : Coding) (j : ℕ) → At j codings k
-    → HoldsOwn (grid_of k.component) (array k.place) (sent_after p (levels k.place)) (get_or arrays j []))
-    → AllByRecursion (CodingFacts w f) codings → AllByRecursion (λ c. IsLegal p (levels c.place)) codings
+    → HoldsOwn (grid_of k.component) (array k.nth) (sent_after p (levels k.nth)) (get_or arrays j
+    []))
+    → AllByRecursion (CodingFacts w f) codings → AllByRecursion (λ c. IsLegal p (levels c.nth))
+    codings
     → ((k : ℕ) → length (levels k).acs ≡ 63) → AllDone w f p array levels codings arrays
 all-done w f p array levels [] [] n holds facts legal sized = tt
 all-done w f p array levels (k ∷ codings) (b ∷ arrays) n holds facts legal sized = (
-  record { at = facts.0.at; table = facts.0.table; legal = legal.0; sized = sized k.place; holds = holds k 0 refl },
+  record {
+    at = facts.0.at;
+    table = facts.0.table;
+    legal = legal.0;
+    sized = sized k.nth;
+    holds =
+        holds k 0 refl;
+  },
   all-done w f p array levels codings arrays (omega arith) (λ c j t. holds c (suc j) t) facts.1 legal.1 sized,
 )
 all-done w f p array levels codings arrays n holds facts legal sized = absurd (omega arith)
@@ -195,9 +217,10 @@ all-done w f p array levels codings arrays n holds facts legal sized = absurd (o
 -- the components of the scan are ready, where their blocks are held
 all-ready : (w : Found) (f : Frame) (p : Pass) (array : Coefficients) (levels : ℕ → Levels) (before : Arrays)
     (codings : List Coding) → Shaped f
-    → ((k : Coding) → CodingFacts w f k → IsLegal p (levels k.place)
-    → HoldsOwn (grid_of k.component) (array k.place) (levels k.place) (get_or before k.place []))
-    → AllByRecursion (CodingFacts w f) codings → AllByRecursion (λ c. IsLegal p (levels c.place)) codings
+    → ((k : Coding) → CodingFacts w f k → IsLegal p (levels k.nth)
+    → HoldsOwn (grid_of k.component) (array k.nth) (levels k.nth) (get_or before k.nth []))
+    → AllByRecursion (CodingFacts w f) codings → AllByRecursion (λ c. IsLegal p (levels c.nth))
+    codings
     → ((k : ℕ) → length (levels k).acs ≡ 63)
     → AllByRecursion (SlotReady f p array levels before) codings
 all-ready w f p array levels before [] shape holds facts legal sized = tt
@@ -209,17 +232,20 @@ pub record Scanned (w : Found) (f : Frame) (array : Coefficients) (levels : ℕ 
     (fi : List (List Bool)) (pl : List (Option (List ℕ))) (s : Scan)
     (codings : List Coding) (bytes : List ℕ) : Type 0 where
   pub arrays : Arrays
-  pub held : Arrays
+  pub kept : Arrays
   pub finished : List (List Bool)
   pub planes : List (Option (List ℕ))
   pub read : (fill code : ℕ) (m : Marker) (rest : List ℕ) → IsMarker code m
       → scan_arrays (reading w sc h fi pl) f s codings (bytes ++ marker fill code rest) ≡ Ok ((arrays, Some m), rest)
-  pub after : after_scan (reading w sc h fi pl) f s codings arrays ≡ reading w true held finished planes
-  pub framed : Framed w f array (levels_after (pass_of s) (places_of codings) levels) true held finished planes
+  pub after : after_scan (reading w sc h fi pl) f s codings arrays ≡ reading w true kept finished
+      planes
+  pub framed : Framed w f array (levels_after (pass_of s) (indices_of codings) levels) true kept
+      finished planes
 
 module _ (w : Found) (f : Frame) (array : Coefficients) (levels : ℕ → Levels) (sc : Bool) (h : Arrays)
     (fi : List (List Bool)) (pl : List (Option (List ℕ))) (s : Scan)
-    (codings : List Coding) (bytes : List ℕ) (range : (place row column : ℕ) → Is8Bit (array place row column))
+    (codings : List Coding) (bytes : List ℕ) (range : (nth row column : ℕ) → Is8Bit (array nth row
+    column))
     (shape : Shaped f) (framed : Framed w f array levels sc h fi pl)
     (rules : ScanFacts f s) (exist : AllByRecursion (λ c. IsTable c.dc × IsTable c.ac) codings)
     (legal : IsLegalScan w f levels s codings)
@@ -228,11 +254,11 @@ module _ (w : Found) (f : Frame) (array : Coefficients) (levels : ℕ → Levels
   now = reading w sc h fi pl
 
   facts : (length codings ≡ length s.components) × AllByRecursion (CodingFacts w f) codings
-      × (places_of codings ≡ s.components)
+      × (indices_of codings ≡ s.components)
   facts = codings-facts w f s codings rules.dc_length rules.ac_length
       (codings-read w f s codings legal.are_in_force)
 
-  apart : AreApart (places_of codings)
+  apart : AreApart (indices_of codings)
   apart = subst AreApart (sym facts.2) rules.apart
 
   so : PassSo f s
@@ -240,21 +266,25 @@ module _ (w : Found) (f : Frame) (array : Coefficients) (levels : ℕ → Levels
 
   low : (pass_of s).al ≤ 7
   low = let k = some-first codings (let n = facts.0 in let r = rules.some in omega arith) in
-      (at-all (λ (c : Coding). IsLegal (pass_of s) (levels c.place)) 0 codings k.0 legal.legal k.1).low
+      (at-all (λ (c : Coding). IsLegal (pass_of s) (levels c.nth)) 0 codings k.0 legal.legal
+      k.1).low
 
-  holds-now : PassSo f s → (k : Coding) → CodingFacts w f k → IsLegal (pass_of s) (levels k.place)
-      → HoldsOwn (grid_of k.component) (array k.place) (levels k.place) (get_or (arrays_before now f) k.place [])
+  holds-now : PassSo f s → (k : Coding) → CodingFacts w f k → IsLegal (pass_of s) (levels k.nth)
+      → HoldsOwn (grid_of k.component) (array k.nth) (levels k.nth) (get_or (arrays_before now f)
+      k.nth [])
   holds-now (sequential e q) k fact l =
-      let none : levels k.place ≡ nothing_sent =
-      framed.fresh e k.place (l.dc_unsent (ap (λ (p : Pass). p.ss) q) (ap (λ (p : Pass). p.is_first) q)) in
-      subst (λ (a : Arrays). HoldsOwn (grid_of k.component) (array k.place) (levels k.place) (get_or a k.place []))
+      let none : levels k.nth ≡ nothing_sent =
+      framed.fresh e k.nth (l.dc_unsent (ap (λ (p : Pass). p.ss) q) (ap (λ (p : Pass). p.is_first)
+      q)) in
+      subst (λ (a : Arrays). HoldsOwn (grid_of k.component) (array k.nth) (levels k.nth) (get_or a
+      k.nth []))
       (sym (sequential-arrays now f e))
-      (subst (λ (x : Levels). HoldsOwn (grid_of k.component) (array k.place) x
-      (get_or (zero_arrays f.components) k.place [])) (sym none)
-      (subst (HoldsOwn (grid_of k.component) (array k.place) nothing_sent)
-      (sym (zero-at f.components k.place k.component fact.at))
-      (zero-holds (array k.place) k.component (range k.place))))
-  holds-now (progressive e d a lt le) k fact l = (framed.held e).each k.place k.component fact.at
+      (subst (λ (x : Levels). HoldsOwn (grid_of k.component) (array k.nth) x
+      (get_or (zero_arrays f.components) k.nth [])) (sym none)
+      (subst (HoldsOwn (grid_of k.component) (array k.nth) nothing_sent)
+      (sym (zero-at f.components k.nth k.component fact.at))
+      (zero-holds (array k.nth) k.component (range k.nth))))
+  holds-now (progressive e d a lt le) k fact l = (framed.kept e).each k.nth k.component fact.at
 
   suit-now : PassSo f s → SpotsSuit (pass_of s) (arrays_before now f) codings
   unfolding pass_of
@@ -272,42 +302,45 @@ module _ (w : Found) (f : Frame) (array : Coefficients) (levels : ℕ → Levels
   done = all-done w f (pass_of s) array levels codings reads-now.arrays reads-now.count reads-now.holds facts.1
       legal.legal framed.sized
 
-  abbrev after_held : Arrays
-  after_held = held_after now f codings reads-now.arrays
+  abbrev after_kept : Arrays
+  after_kept = blocks_after now f codings reads-now.arrays
 
-  brought : Brought w f (pass_of s) array levels codings reads-now.arrays true after_held fi pl
-  brought = brings w f (pass_of s) array levels codings reads-now.arrays true after_held fi pl shape.few
+  brought : Brought w f (pass_of s) array levels codings reads-now.arrays true after_kept fi pl
+  brought = brings w f (pass_of s) array levels codings reads-now.arrays true after_kept fi pl
+      shape.few
       (band-so f s so) apart done framed.marked
 
   fresh-after : PassSo f s → is_progressive f.process ≡ false → (k : ℕ)
-      → (levels_after (pass_of s) (places_of codings) levels k).dc ≡ None
-      → levels_after (pass_of s) (places_of codings) levels k ≡ nothing_sent
-  fresh-after (sequential e q) g = after-fresh (pass_of s) (places_of codings) levels q (framed.fresh e)
+      → (levels_after (pass_of s) (indices_of codings) levels k).dc ≡ None
+      → levels_after (pass_of s) (indices_of codings) levels k ≡ nothing_sent
+  fresh-after (sequential e q) g = after-fresh (pass_of s) (indices_of codings) levels q
+      (framed.fresh e)
   fresh-after (progressive e d a lt le) g = absurd (true≢false (sym e ∙ g))
 
-  held-now : is_progressive f.process ≡ true
-      → AllHeld f array (levels_after (pass_of s) (places_of codings) levels)
-      (arrays_before (reading w true after_held brought.finished brought.planes) f)
-  held-now e = subst (AllHeld f array (levels_after (pass_of s) (places_of codings) levels))
-      (sym (held-arrays w after_held brought.finished brought.planes f e
-      ∙ held-after_is now f codings reads-now.arrays e))
-      (held-after w f (pass_of s) array levels codings reads-now.arrays (arrays_before now f) apart done
-      (framed.held e))
+  kept-now : is_progressive f.process ≡ true
+      → AllKept f array (levels_after (pass_of s) (indices_of codings) levels)
+      (arrays_before (reading w true after_kept brought.finished brought.planes) f)
+  kept-now e = subst (AllKept f array (levels_after (pass_of s) (indices_of codings) levels))
+      (sym (kept-arrays w after_kept brought.finished brought.planes f e
+      ∙ blocks-after_is now f codings reads-now.arrays e))
+      (blocks-after w f (pass_of s) array levels codings reads-now.arrays (arrays_before now f)
+      apart done
+      (framed.kept e))
 
   -- A written scan brings what the levels after it say.
   pub scan-brings : Scanned w f array levels sc h fi pl s codings bytes
   unfolding scan_arrays after_scan
   scan-brings = record {
     arrays = reads-now.arrays;
-    held = after_held;
+    kept = after_kept;
     finished = brought.finished;
     planes = brought.planes;
     read = reads-now.read;
     after = brought.is;
     framed = record {
       marked = brought.marked;
-      sized = after-length (pass_of s) (places_of codings) levels framed.sized;
-      held = held-now;
+      sized = after-length (pass_of s) (indices_of codings) levels framed.sized;
+      kept = kept-now;
       fresh = fresh-after so;
     };
   }

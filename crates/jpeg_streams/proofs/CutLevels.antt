@@ -15,7 +15,8 @@ use Rattle.jpeg_bits.specs.Passes.{Pass, Block, band_of, with_band, before_band,
 use Rattle.jpeg_streams.specs.Levels.{floor_at, toward_zero, numbers_at, Levels, cut_ac, cut_acs, cut, IsLegal}
 use Rattle.jpeg_streams.specs.Levels.{sent_after, Is8Bit}
 use Rattle.jpeg_streams.specs.WrittenData.{no_numbers}
-use Rattle.jpeg_streams.proofs.SentBlocks.{halved, scaled, held, InRange, InDcRange, Suits, after_pass, floor_half}
+use Rattle.jpeg_streams.proofs.SentBlocks.{halved, scaled, kept, InRange, InDcRange, Suits}
+use Rattle.jpeg_streams.proofs.SentBlocks.{after_pass, floor_half}
 use Rattle.jpeg_streams.proofs.WrittenBands.{abs-scaled, mag-le}
 use Rattle.jpeg_streams.proofs.WrittenBlocks.{dc-refined}
 
@@ -132,7 +133,7 @@ suits-cut p l c range same legal = record {
   sent = λ f. band-cut p c.acs l.acs
       ∙ cut-sent (suc p.al) (band_of p c.acs) (band_of p l.acs) (same-band p c.acs l.acs same) (legal.acs_sent f)
       ∙ sym (search (rules, map-map, scaled, halved-toward))
-      ∙ ap (map (held p.al)) (sym (band-map p (toward_zero p.al) c.acs));
+      ∙ ap (map (kept p.al)) (sym (band-map p (toward_zero p.al) c.acs));
   range = search (rules, band-map, all-map, unsigned_abs, toward-range, all-take, all-drop);
   dc_range = floor-range p.al c.dc range.dc_low range.dc_high;
   dc_fits = floor-fits p.al c.dc legal.low range.dc_low range.dc_high;

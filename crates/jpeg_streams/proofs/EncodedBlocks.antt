@@ -22,7 +22,7 @@ use Rattle.jpeg_streams.specs.WrittenData.WritesAc.{first, no_band}
 use Rattle.jpeg_streams.specs.WrittenData.WritesBand.{ended, full, sixteen, value}
 use Rattle.jpeg_streams.specs.WrittenData.WritesBlocks.{block, done}
 use Rattle.jpeg_streams.specs.WrittenData.WritesDc.{other_band, whole}
-use Rattle.jpeg_bits.proofs.Held.{bit_le as at-most-one}
+use Rattle.jpeg_bits.proofs.BufferedBits.{bit_le as at-most-one}
 
 -- ---- tables
 

@@ -13,10 +13,10 @@ use Rattle.std.specs.Prelude.{slice_index_or}
 use Rattle.jpeg_bits.specs.Passes.{Block, Pass, Via, whole_pass}
 use Rattle.jpeg_bits.specs.declared.codes.HuffmanTableClass.TheVariants as classes
 use Rattle.jpeg_segments.specs.Frame.{Component, component_of, Factors, Frame, frame_of, greatest, is_lossless_number}
-use Rattle.jpeg_segments.specs.Frame.{is_place, is_taken}
+use Rattle.jpeg_segments.specs.Frame.{is_destination, is_taken}
 use Rattle.jpeg_bits.specs.Codes.{Table, codes_exist, code_value, lengths_from}
-use Rattle.jpeg_segments.specs.HuffmanTables.{PlacedTable, Tables}
-use Rattle.jpeg_segments.specs.ScanHeader.{is_band, place_of, Scan, scan_of}
+use Rattle.jpeg_segments.specs.HuffmanTables.{DefinedTable, Tables}
+use Rattle.jpeg_segments.specs.ScanHeader.{is_band, index_of, Scan, scan_of}
 use Rattle.jpeg_segments.specs.ScanHeaders.{AreChoices, IsScan, scan_payload, scan_written, ScanHeader}
 use Rattle.jpeg_segments.specs.WrittenSegments.{IsComponent, AreComponents, frame_written, FrameHeader, Header, Huffman}
 use Rattle.jpeg_segments.specs.WrittenSegments.{IsFrameHeader, payload_of, Quantization}
@@ -35,7 +35,8 @@ use Rattle.jpeg_bits.specs.Written.{marker}
 use Rattle.jpeg_streams.specs.WrittenData.WritesIntervals.{last as last_interval}
 use Rattle.jpeg_streams.specs.WrittenImages.{closed, scan, segment, Writes}
 use Rattle.jpeg_streams.specs.WrittenScans.{InForce, AreCodings, block_for, Coefficients, grid_at, HasTable, IsComplete}
-use Rattle.jpeg_streams.specs.WrittenScans.{IsLegalScan, levels_after, place_at, WritesScan, written_turns}
+use Rattle.jpeg_streams.specs.WrittenScans.{IsLegalScan, levels_after, index_at, WritesScan}
+use Rattle.jpeg_streams.specs.WrittenScans.{written_turns}
 use Rattle.jpeg_streams.specs.WrittenScans.AreCodings.{and_more, no_more}
 use Rattle.jpeg_streams.proofs.CutLevels.{all-same, all-map}
 use Rattle.jpeg_streams.proofs.TestedParts.{one-quantizes, table-by, table_of_one}
@@ -49,9 +50,9 @@ use Rattle.jpeg_streams.proofs.OwnSpots.{all-append}
 abbrev all_ones : List QuantizationTable
 all_ones = table_of_one 0 1 ∷ table_of_one 1 1 ∷ table_of_one 2 1 ∷ table_of_one 3 1 ∷ []
 
-abbrev flat_tables : List PlacedTable
-flat_tables = record { place = 0; table = flat_table classes.DC } ∷ record {
-  place = 0;
+abbrev flat_tables : List DefinedTable
+flat_tables = record { destination = 0; table = flat_table classes.DC } ∷ record {
+  index = 0;
   table = flat_table classes.AC;
 } ∷ []
 
@@ -121,9 +122,9 @@ each-for Whole = each-whole
 each-for kind = search (rules, each-dc, each-ac)
 
 abbrev coding : Kind → FrameHeader → ℕ → Factors → Coding
-coding kind h place c =
+coding kind h index c =
     record {
-      place = place;
+      index = index;
       component = component_in h c;
       quantization = replicate 64 1;
       dc = dc_for kind;
@@ -132,8 +133,8 @@ coding kind h place c =
 
 -- a scan of one component, first sent at level 0
 abbrev pub lone_header : ℕ → ℕ → ℕ → Factors → ScanHeader
-lone_header from to place c = record {
-  choices = (record { identifier = c.identifier; component = place; dc = 0; ac = 0 }) ∷ [];
+lone_header from to index c = record {
+  choices = (record { identifier = c.identifier; component = index; dc = 0; ac = 0 }) ∷ [];
   first = from;
   last = to;
   high = 0;
@@ -141,7 +142,7 @@ lone_header from to place c = record {
 }
 
 abbrev header_of : Kind → ℕ → Factors → ScanHeader
-header_of kind place c = lone_header (from_for kind) (to_for kind) place c
+header_of kind index c = lone_header (from_for kind) (to_for kind) index c
 
 -- ---- the blocks of a scan
 
@@ -162,25 +163,33 @@ map-whole : (f : ℤ → ℤ) (us : List ℤ) → ((u : ℤ) → f u ≡ u) → 
 map-whole f [] h = refl
 map-whole f (u ∷ us) h = ap₂ (λ (x : ℤ) (xs : List ℤ). x ∷ xs) (h u) (map-whole f us h)
 
-spot-flat : (kind : Kind) (h : FrameHeader) (place : ℕ) (c : Factors) (b : Block) (slot : ℕ) → Is8Bit b → slot ≡ 0
-    → Good kind (via_at (vias_from 0 (coding kind h place c ∷ [])) slot, numbers_at (pass_for kind).al b)
+spot-flat : (kind : Kind) (h : FrameHeader) (index : ℕ) (c : Factors) (b : Block) (slot : ℕ) →
+    Is8Bit b → slot ≡ 0
+    → Good kind (
+      via_at (vias_from 0 (coding kind h index c ∷ [])) slot,
+      numbers_at (pass_for
+          kind).al b,
+    )
 unfolding vias_from
-spot-flat kind h place c b slot range e = search (rules, floor-whole, map-whole, toward-whole)
+spot-flat kind h index c b slot range e = search (rules, floor-whole, map-whole, toward-whole)
 
-data-written : (kind : Kind) (f : Frame) (h : FrameHeader) (place : ℕ) (c : Factors) (array : Coefficients)
+data-written : (kind : Kind) (f : Frame) (h : FrameHeader) (index : ℕ) (c : Factors) (array :
+    Coefficients)
     → ((k row column : ℕ) → Is8Bit (array k row column))
-    → (data_bytes : List ℕ) × WritesScan f 0 (pass_for kind) (coding kind h place c ∷ []) array data_bytes
+    → (data_bytes : List ℕ) × WritesScan f 0 (pass_for kind) (coding kind h index c ∷ []) array
+    data_bytes
 unfolding spots_of mcu_size
-data-written kind f h place c array range =
-    let codings = coding kind h place c ∷ [] in
+data-written kind f h index c array range =
+    let codings = coding kind h index c ∷ [] in
     let spots = own_spots (grid_of (component_in h c)) in
     let sent = block_for codings array in
     let in_range : (s : Spot) → Is8Bit (sent s) =
-    λ s. range (place_at codings s.slot) (s.index / (grid_at (components_of codings) s.slot).wide)
+    λ s. range (index_at codings s.slot) (s.index / (grid_at (components_of codings) s.slot).wide)
     (s.index % (grid_at (components_of codings) s.slot).wide) in
     let turns = written_turns (vias_from 0 codings) spots (λ s. numbers_at (pass_for kind).al (sent s)) in
     let w = interval-written (pass_for kind) (Good kind) (each-for kind) turns
-    (all-map (λ s. s.slot ≡ 0) (Good kind) _ spots (λ s e. spot-flat kind h place c (sent s) s.slot (in_range s) e)
+    (all-map (λ s. s.slot ≡ 0) (Good kind) _ spots (λ s e. spot-flat kind h index c (sent s) s.slot
+    (in_range s) e)
     (own-slots (grid_of (component_in h c)))) in
     (w.0, record { sent = sent; in_range = in_range; is_own = λ s own. refl; coded = last_interval 0 turns w.0 w.1 })
 
@@ -203,15 +212,15 @@ first-is h (x ∷ front) more c = first-is h front more c
 -- ---- scans
 
 -- the pass that the header of such a scan gives, and that its frame has such a band
-kind-is : (kind : Kind) (number : ℕ) (h : FrameHeader) (place : ℕ) (c : Factors) → Fits kind number
-    → (pass_of (scan_written (frame_written number h) (header_of kind place c)) ≡ pass_for kind)
+kind-is : (kind : Kind) (number : ℕ) (h : FrameHeader) (index : ℕ) (c : Factors) → Fits kind number
+    → (pass_of (scan_written (frame_written number h) (header_of kind index c)) ≡ pass_for kind)
     × (is_band (frame_written number h).process 1 (from_for kind) (to_for kind) 0 0 ≡ true)
 unfolding pass_of scan_of frame_of
-kind-is kind number h place c fits = search rules
+kind-is kind number h index c fits = search rules
 
-pass-is : (kind : Kind) (number : ℕ) (h : FrameHeader) (place : ℕ) (c : Factors) → Fits kind number
-    → pass_of (scan_written (frame_written number h) (header_of kind place c)) ≡ pass_for kind
-pass-is kind number h place c fits = (kind-is kind number h place c fits).0
+pass-is : (kind : Kind) (number : ℕ) (h : FrameHeader) (index : ℕ) (c : Factors) → Fits kind number
+    → pass_of (scan_written (frame_written number h) (header_of kind index c)) ≡ pass_for kind
+pass-is kind number h index c fits = (kind-is kind number h index c fits).0
 
 pub lone-written : (from to number : ℕ) (h : FrameHeader) (front more : List Factors) (c : Factors)
     → is_band (frame_written number h).process 1 from to 0 0 ≡ true → 0 < h.precision
@@ -223,11 +232,11 @@ lone-written from to number h front more c band some e new = record {
   most = omega arith;
   choices = (
     record {
-      identified = ap (λ (cs : List Factors). place_of (map (component_in h) cs) c.identifier) e
+      identified = ap (λ (cs : List Factors). index_of (map (component_in h) cs) c.identifier) e
           ∙ (grind (arith, common_steps, before-it, length-append, lt-ltb));
       ordered = omega arith;
-      dc_placed = omega arith;
-      ac_placed = omega arith;
+      dc_bounded = omega arith;
+      ac_bounded = omega arith;
     },
     tt,
   );
@@ -239,30 +248,33 @@ lone-written from to number h front more c band some e new = record {
 
 -- ---- tables in force
 
-table-at : (number : ℕ) (h : FrameHeader) (place : ℕ) → place ≤ 3
-    → slice_index_or (said number h).quantization place None ≡ Some (replicate 64 1)
+table-at : (number : ℕ) (h : FrameHeader) (index : ℕ) → index ≤ 3
+    → slice_index_or (said number h).quantization index None ≡ Some (replicate 64 1)
 unfolding nothing_found updated
-table-at number h place le = search rules
+table-at number h index le = search rules
 
-place-low : (number place : ℕ) → number ≤ 2 → is_place (is_lossless_number number) place ≡ true → place ≤ 3
-place-low (suc (suc (suc number))) place le e = absurd (omega arith)
-place-low number place le e = leb-true place 3 e
+index-low : (number index : ℕ) → number ≤ 2 → is_destination (is_lossless_number number) index ≡
+    true → index ≤ 3
+index-low (suc (suc (suc number))) index le e = absurd (omega arith)
+index-low number index le e = leb-true index 3 e
 
 abbrev scan_for : Kind → ℕ → FrameHeader → ℕ → Factors → Scan
-scan_for kind number h place c = scan_written (frame_written number h) (header_of kind place c)
+scan_for kind number h index c = scan_written (frame_written number h) (header_of kind index c)
 
 abbrev tables_now : Kind → ℕ → FrameHeader → ℕ → Factors → Tables
-tables_now kind number h place c = tables_of (said number h) (scan_for kind number h place c)
+tables_now kind number h index c = tables_of (said number h) (scan_for kind number h index c)
 
-dc-force : (kind other : Kind) (number : ℕ) (h : FrameHeader) (place : ℕ) (c : Factors)
-    → InForce ((pass_for kind).ss == 0) classes.DC (tables_now other number h place c).dc 0 (dc_for kind)
+dc-force : (kind other : Kind) (number : ℕ) (h : FrameHeader) (index : ℕ) (c : Factors)
+    → InForce ((pass_for kind).ss == 0) classes.DC (tables_now other number h index c).dc 0 (dc_for
+    kind)
 unfolding tables_of nothing_found updated
-dc-force kind other number h place c = search rules
+dc-force kind other number h index c = search rules
 
-ac-force : (kind other : Kind) (number : ℕ) (h : FrameHeader) (place : ℕ) (c : Factors)
-    → InForce (nat_lt 0 (pass_for kind).se) classes.AC (tables_now other number h place c).ac 0 (ac_for kind)
+ac-force : (kind other : Kind) (number : ℕ) (h : FrameHeader) (index : ℕ) (c : Factors)
+    → InForce (nat_lt 0 (pass_for kind).se) classes.AC (tables_now other number h index c).ac 0
+    (ac_for kind)
 unfolding tables_of nothing_found updated
-ac-force kind other number h place c = search rules
+ac-force kind other number h index c = search rules
 
 codings-are : (kind : Kind) (number : ℕ) (h : FrameHeader) (front more : List Factors) (c : Factors)
     → h.components ≡ front ++ c ∷ more → c.quantization ≤ 3
@@ -291,15 +303,15 @@ scan-legal kind number h front more c levels fits e low was =
 -- ---- what is sent
 
 -- after a scan of one component
-after-same : (p : Pass) (place : ℕ) (levels : ℕ → Levels)
-    → levels_after p (place ∷ []) levels place ≡ sent_after p (levels place)
+after-same : (p : Pass) (index : ℕ) (levels : ℕ → Levels)
+    → levels_after p (index ∷ []) levels index ≡ sent_after p (levels index)
 unfolding levels_after
-after-same p place levels = search (rules, eq-eqb)
+after-same p index levels = search (rules, eq-eqb)
 
-after-other : (p : Pass) (place k : ℕ) (levels : ℕ → Levels) → k ≢ place
-    → levels_after p (place ∷ []) levels k ≡ levels k
+after-other : (p : Pass) (index k : ℕ) (levels : ℕ → Levels) → k ≢ index
+    → levels_after p (index ∷ []) levels k ≡ levels k
 unfolding levels_after
-after-other p place k levels ne = search (rules, ne_eqb)
+after-other p index k levels ne = search (rules, ne_eqb)
 
 have-tables : (number : ℕ) (h : FrameHeader) (front cs : List Factors) → number ≤ 2 → AreComponents number front cs
     → AllByRecursion (HasTable (said number h)) (map (component_in h) cs)
@@ -307,7 +319,7 @@ unfolding AreComponents component_of
 have-tables number h front [] le a = tt
 have-tables number h front (c ∷ cs) le a = grind (
   arith,
-  table-at number h c.quantization (place-low number c.quantization le a.0.placed),
+  table-at number h c.quantization (index-low number c.quantization le a.0.placed),
   have-tables number h (front ++ c ∷ []) cs le a.1,
 )
 
@@ -369,7 +381,7 @@ one-scan kind number h array front more c levels last scanned bytes fits le p ra
     let coded : WritesScan f 0 (pass_of (scan_written f head)) ks array d.0 =
     search (rules, pass-is) in
     let legal = scan-legal kind number h front more c levels fits e
-    (place-low number c.quantization le is.placed) was in (
+    (index-low number c.quantization le is.placed) was in (
       marker 0 218 (with_length (scan_payload head) ++ (d.0 ++ bytes)),
       scan (said number h) (said number h) levels last scanned f 0 head ks d.0 bytes refl
           (lone-written (from_for kind) (to_for kind) number h front more c (kind-is kind number h (length front) c fits).1
@@ -385,28 +397,29 @@ Steps number h array =
     × ((bytes : List ℕ) (last : ℕ → Levels) → Writes array (said number h) now true bytes (said number h) last
     → (all : List ℕ) × Writes array (said number h) levels scanned all (said number h) last)
 
-whole-after : (p : Pass) (place : ℕ) (levels : ℕ → Levels) → p ≡ whole_pass → levels place ≡ nothing_sent
-    → IsComplete (levels_after p (place ∷ []) levels place)
-whole-after p place levels e f = search (rules, after-same, all-same)
+whole-after : (p : Pass) (index : ℕ) (levels : ℕ → Levels) → p ≡ whole_pass → levels index ≡
+    nothing_sent
+    → IsComplete (levels_after p (index ∷ []) levels index)
+whole-after p index levels e f = search (rules, after-same, all-same)
 
-dc-after : (p : Pass) (place : ℕ) (levels : ℕ → Levels) → p ≡ dc_pass → levels place ≡ nothing_sent
-    → levels_after p (place ∷ []) levels place ≡ before OfAc
-dc-after p place levels e f = after-same p place levels ∙ ap₂ sent_after e f
+dc-after : (p : Pass) (index : ℕ) (levels : ℕ → Levels) → p ≡ dc_pass → levels index ≡ nothing_sent
+    → levels_after p (index ∷ []) levels index ≡ before OfAc
+dc-after p index levels e f = after-same p index levels ∙ ap₂ sent_after e f
 
-ac-after : (p : Pass) (place : ℕ) (levels : ℕ → Levels) → p ≡ ac_pass → levels place ≡ before OfAc
-    → IsComplete (levels_after p (place ∷ []) levels place)
-ac-after p place levels e f = search (rules, after-same, all-same)
+ac-after : (p : Pass) (index : ℕ) (levels : ℕ → Levels) → p ≡ ac_pass → levels index ≡ before OfAc
+    → IsComplete (levels_after p (index ∷ []) levels index)
+ac-after p index levels e f = search (rules, after-same, all-same)
 
 sequential-steps : (number : ℕ) (h : FrameHeader) (array : Coefficients) → number ≤ 1 → HasPicture h
     → ((k row column : ℕ) → Is8Bit (array k row column)) → Steps number h array
 sequential-steps number h array le p range front more c levels scanned e is s =
-    let place = length front in
-    let pass = pass_of (scan_for Whole number h place c) in
-    let unsent = s.unsent place (omega arith) in (
-      levels_after pass (place ∷ []) levels,
-      sent-more levels (levels_after pass (place ∷ []) levels) place
-          (whole-after pass place levels (pass-is Whole number h place c le) unsent)
-          (λ j n. after-other pass place j levels n) s,
+    let index = length front in
+    let pass = pass_of (scan_for Whole number h index c) in
+    let unsent = s.unsent index (omega arith) in (
+      levels_after pass (index ∷ []) levels,
+      sent-more levels (levels_after pass (index ∷ []) levels) index
+          (whole-after pass index levels (pass-is Whole number h index c le) unsent)
+          (λ j n. after-other pass index j levels n) s,
       λ bytes last w. one-scan Whole number h array front more c levels last scanned bytes le
           (omega arith) p range e is unsent w,
     )
@@ -414,17 +427,18 @@ sequential-steps number h array le p range front more c levels scanned e is s =
 progressive-steps : (number : ℕ) (h : FrameHeader) (array : Coefficients) → number ≡ 2 → HasPicture h
     → ((k row column : ℕ) → Is8Bit (array k row column)) → Steps number h array
 progressive-steps number h array two p range front more c levels scanned e is s =
-    let place = length front in
+    let index = length front in
     let low : number ≤ 2 = omega arith in
-    let dc = pass_of (scan_for OfDc number h place c) in
-    let ac = pass_of (scan_for OfAc number h place c) in
-    let mid = levels_after dc (place ∷ []) levels in
-    let unsent = s.unsent place (omega arith) in
-    let was : mid place ≡ before OfAc = dc-after dc place levels (pass-is OfDc number h place c two) unsent in (
-      levels_after ac (place ∷ []) mid,
-      sent-more levels (levels_after ac (place ∷ []) mid) place
-          (ac-after ac place mid (pass-is OfAc number h place c two) was)
-          (λ j n. after-other ac place j mid n ∙ after-other dc place j levels n) s,
+    let dc = pass_of (scan_for OfDc number h index c) in
+    let ac = pass_of (scan_for OfAc number h index c) in
+    let mid = levels_after dc (index ∷ []) levels in
+    let unsent = s.unsent index (omega arith) in
+    let was : mid index ≡ before OfAc = dc-after dc index levels (pass-is OfDc number h index c
+    two) unsent in (
+      levels_after ac (index ∷ []) mid,
+      sent-more levels (levels_after ac (index ∷ []) mid) index
+          (ac-after ac index mid (pass-is OfAc number h index c two) was)
+          (λ j n. after-other ac index j mid n ∙ after-other dc index j levels n) s,
       λ bytes last w.
           let second = one-scan OfAc number h array front more c mid last true bytes two low p range e is was w in
           one-scan OfDc number h array front more c levels last scanned second.0 two low p range e is unsent second.1,
@@ -462,7 +476,8 @@ front_bytes number h more = marker 0 219 (with_length (payload_of (Quantization 
 
 pub image-written : (number : ℕ) (h : FrameHeader) (array : Coefficients) → number ≤ 2 →
     IsFrameHeader number h → HasPicture h
-    → ((place row column : ℕ) → Is8Bit (array place row column)) → (bytes : List ℕ) × IsWhollyWritten array bytes
+    → ((index row column : ℕ) → Is8Bit (array index row column)) → (bytes : List ℕ) ×
+    IsWhollyWritten array bytes
 unfolding nothing_found frame_of codes_exist lengths_from code_value
 image-written number h array le is p range =
     let r = scans-written number h array h.components []

@@ -17,7 +17,7 @@ use Rattle.jpeg_bits.specs.declared.codes.HuffmanTableClass.TheVariants as class
 use Rattle.jpeg_bits.specs.declared.scan.Predictor.{Predictor}
 use Rattle.jpeg_bits.specs.declared.scan.Predictor.TheVariants.{Ra}
 use Rattle.jpeg_segments.specs.Frame.{Factors, frame_of}
-use Rattle.jpeg_segments.specs.HuffmanTables.{PlacedTable}
+use Rattle.jpeg_segments.specs.HuffmanTables.{DefinedTable}
 use Rattle.jpeg_segments.specs.ScanHeaders.{scan_payload, ScanHeader}
 use Rattle.jpeg_segments.specs.WrittenSegments.{AreComponents, frame_written, FrameHeader, factors_bytes, frame_payload}
 use Rattle.jpeg_segments.specs.WrittenSegments.{Header, Huffman, IsFrameHeader, huffman_bytes}
@@ -275,10 +275,10 @@ interval-written start bound width height lines le e h =
 -- ---- a scan of a component
 
 abbrev coding : FrameHeader → ℕ → Factors → LosslessCoding
-coding h place c = record { place = place; component = component_in h c; table = even_table }
+coding h index c = record { index = index; component = component_in h c; table = even_table }
 
 abbrev header_of : ℕ → Factors → ScanHeader
-header_of place c = lone_header 1 0 place c
+header_of index c = lone_header 1 0 index c
 
 -- what is said before a scan
 record IsReady (h : FrameHeader) (now : Found) : Type 0 where
@@ -314,16 +314,20 @@ data-written h now front more c samples ready e most are =
         point = refl;
         interval = subst (IsInterval wide high) (sym ready.restart) no_interval;
         lines = lines ∷ [];
-        held = (own-whole wide high lines are.counted (are-wide (2 ^ h.precision) wide lines are.lined), tt);
+        kept = (
+          own-whole wide high lines are.counted (are-wide (2 ^ h.precision) wide lines
+              are.lined),
+          tt,
+        );
         written = last 0 high (lines ∷ []) w.0 (subst (λ (n : ℕ). high ≤ n) (sym all) (omega arith)) w.1;
       },
       w.2,
     )
 
-scan-bytes : (place : ℕ) (c : Factors) → c.identifier < 256 → AreBytes (with_length (scan_payload
-    (header_of place c)))
+scan-bytes : (index : ℕ) (c : Factors) → c.identifier < 256 → AreBytes (with_length (scan_payload
+    (header_of index c)))
 unfolding scan_payload
-scan-bytes place c h = search (rules, sized-bytes)
+scan-bytes index c h = search (rules, sized-bytes)
 
 -- ---- the stream
 
@@ -357,29 +361,30 @@ scans-written h samples [] front now sent p all ready e are sends =
       λ fits. (omega arith, (omega arith, tt)),
     )
 scans-written h samples (c ∷ more) front now sent p all ready e are sends =
-    let place = length front in
+    let index = length front in
     let d = data-written h now front more c samples ready e p.most
-    (all place (component_in h c) (component-at h front more c e)) in
-    let size : place + 1 ≡ length (front ++ c ∷ []) = sym (length-append front (c ∷ [])) in
-    let rest = scans-written h samples more (front ++ c ∷ []) (said_after_scan now) (place ∷ sent) p all
+    (all index (component_in h c) (component-at h front more c e)) in
+    let size : index + 1 ≡ length (front ++ c ∷ []) = sym (length-append front (c ∷ [])) in
+    let rest = scans-written h samples more (front ++ c ∷ []) (said_after_scan now) (index ∷ sent)
+    p all
     (record { framed = ready.framed; tabled = ready.tabled; restart = ready.restart })
     (e ∙ sym (append_assoc front (c ∷ []) more)) are.1
     (search (rules, cases_lt)) in (
-      marker 0 218 (with_length (scan_payload (header_of place c)) ++ (d.0 ++ rest.0)),
+      marker 0 218 (with_length (scan_payload (header_of index c)) ++ (d.0 ++ rest.0)),
       rest.1,
-      scan now rest.1 sent (frame_written 3 h) 0 (header_of place c) d.0 rest.0 ready.framed refl
+      scan now rest.1 sent (frame_written 3 h) 0 (header_of index c) d.0 rest.0 ready.framed refl
           (lone-written 1 0 3 h front more c refl (let q = p.least in omega arith) e are.0.is_new) d.1 rest.2,
       rest.3,
-      λ fits. marked-bytes 218 (with_length (scan_payload (header_of place c)) ++ (d.0 ++ rest.0))
+      λ fits. marked-bytes 218 (with_length (scan_payload (header_of index c)) ++ (d.0 ++ rest.0))
           (omega arith)
-          (all-append (λ b. b < 256) (with_length (scan_payload (header_of place c))) (d.0 ++
+          (all-append (λ b. b < 256) (with_length (scan_payload (header_of index c))) (d.0 ++
           rest.0)
-          (scan-bytes place c (one-identified h.components front more c e fits.identified))
+          (scan-bytes index c (one-identified h.components front more c e fits.identified))
           (all-append (λ b. b < 256) d.0 rest.0 d.2 (rest.4 fits))),
     )
 
-abbrev even_tables : List PlacedTable
-even_tables = record { place = 0; table = even_table } ∷ []
+abbrev even_tables : List DefinedTable
+even_tables = record { destination = 0; table = even_table } ∷ []
 
 abbrev said_1 : FrameHeader → Found
 said_1 h = found_after nothing_found (Header 3 h)

@@ -4,8 +4,8 @@ use Rattle.std.proofs.Common.{length-take, length-drop, arith}
 use lib.ListN.{length-map}
 use Rattle.jpeg_bits.specs.Passes.{Pass}
 use Rattle.jpeg_streams.specs.Levels.{Levels, IsLegal, sent_after, nothing_sent}
-use Rattle.jpeg_streams.proofs.FinishedPlaces.{Finished, finish, is_level_0, at_level_0}
-use Rattle.jpeg_streams.proofs.FinishedPlaces.{finish-legal}
+use Rattle.jpeg_streams.proofs.FinishedIndices.{Finished, finish, is_level_0, at_level_0}
+use Rattle.jpeg_streams.proofs.FinishedIndices.{finish-legal}
 use Rattle.jpeg_streams.specs.ScanSegments.{finished_by}
 use Rattle.jpeg_streams.specs.Found.{none_finished}
 

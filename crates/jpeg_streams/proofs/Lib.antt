@@ -1,4 +1,4 @@
-pub mod PlacesApart
+pub mod IndicesApart
 pub mod WriterLemmas
 pub mod OutputLemmas
 pub mod Updates
@@ -31,7 +31,7 @@ pub mod WrittenBlocks
 pub mod WrittenIntervals
 pub mod WrittenArrays
 pub mod OwnSpots
-pub mod FinishedPlaces
+pub mod FinishedIndices
 pub mod FinishedMarks
 pub mod ReadStates
 pub mod WrittenFrameScans

@@ -51,13 +51,14 @@ made-inside : (frame : Frame) (c : Component) (x y : ℕ) → IsMade frame c →
     × (y * c.factors.vertical / most_down frame < c.height)
 made-inside frame c x y made h k = search (rules, made-reaches, inside, some-across, some-down)
 
-pub taken-inside : (h : FrameHeader) (place x y : ℕ) (c : Component) → IsFrameHeader 3 h
-    → first_of (drop place (frame_written 3 h).components) ≡ Some c → x < h.width → y < h.height
+pub taken-inside : (h : FrameHeader) (index x y : ℕ) (c : Component) → IsFrameHeader 3 h
+    → first_of (drop index (frame_written 3 h).components) ≡ Some c → x < h.width → y < h.height
     → (x * c.factors.horizontal / most_across (frame_written 3 h) < c.width)
     × (y * c.factors.vertical / most_down (frame_written 3 h) < c.height)
 unfolding frame_of
-taken-inside h place x y c is e hx hy = made-inside (frame_written 3 h) c x y
-    (all-at (IsMade (frame_written 3 h)) place (frame_written 3 h).components c (header-made h is) e) hx hy
+taken-inside h index x y c is e hx hy = made-inside (frame_written 3 h) c x y
+    (all-at (IsMade (frame_written 3 h)) index (frame_written 3 h).components c (header-made h is)
+    e) hx hy
 
 pub drop-next : {A : Type 0} (n : ℕ) (xs : List A) (x : A) (more : List A) → drop n xs ≡ x ∷ more → drop (suc n) xs ≡
     more
@@ -65,17 +66,19 @@ drop-next (suc n) (y ∷ xs) x more e = drop-next n xs x more e
 drop-next n xs x more e = search rules
 
 pixel-agrees : (frame : Frame) (a b : Samples) (x y : ℕ) → x < frame.width → y < frame.height
-    → AgreeInside frame a b → (place : ℕ) (cs : List Component) → drop place frame.components ≡ cs
-    → AllByRecursion (IsMade frame) cs → pixel_from frame a y x place cs ≡ pixel_from frame b y x place cs
+    → AgreeInside frame a b → (index : ℕ) (cs : List Component) → drop index frame.components ≡ cs
+    → AllByRecursion (IsMade frame) cs → pixel_from frame a y x index cs ≡ pixel_from frame b y x
+    index cs
 unfolding pixel_from
-pixel-agrees frame a b x y hx hy agree place [] e made = refl
-pixel-agrees frame a b x y hx hy agree place (c ∷ cs) e made =
+pixel-agrees frame a b x y hx hy agree index [] e made = refl
+pixel-agrees frame a b x y hx hy agree index (c ∷ cs) e made =
     let at = made-inside frame c x y made.0 hx hy in
-    let next : place + 1 ≡ suc place = omega arith in
+    let next : index + 1 ≡ suc index = omega arith in
     ap₂ (λ (s : ℕ) (more : List ℕ). sample_bytes frame.precision s ++ more)
-    (agree place (x * c.factors.horizontal / most_across frame) (y * c.factors.vertical / most_down frame) c
+    (agree index (x * c.factors.horizontal / most_across frame) (y * c.factors.vertical / most_down
+    frame) c
     (ap first_of e) at.0 at.1)
-    (pixel-agrees frame a b x y hx hy agree (place + 1) cs
+    (pixel-agrees frame a b x y hx hy agree (index + 1) cs
     (search (rules, drop-next)) made.1)
 
 pub mapped-same : {A : Type 0} (f g : ℕ → A) (from n most : ℕ) → from + n ≤ most → ((x : ℕ) → x < most → f x ≡ g x)

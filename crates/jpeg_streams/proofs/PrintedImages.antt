@@ -16,7 +16,8 @@ use Rattle.jpeg_streams.proofs.WrittenPictures.{taken-means}
 
 -- what is written for a stream of an image
 pub image-output : (array : Coefficients) (image rest : List ℕ) (final : Found) (last : ℕ → Levels)
-    → ((place row column : ℕ) → Is8Bit (array place row column)) → WritesImage array image final last
+    → ((index row column : ℕ) → Is8Bit (array index row column)) → WritesImage array image final
+    last
     → TakesPicture default_settings final
     → (picture : List ℕ) × (picture_of_array default_settings final array last ≡ Ok picture)
     × (output_of (image ++ rest) ≡ Some (header_line_of (option_map info_of final.frame) ++ picture))

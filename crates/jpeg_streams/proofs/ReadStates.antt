@@ -17,9 +17,9 @@ use Rattle.jpeg_streams.specs.ScanSegments.{with_plane, decided, finished_by, pl
 use Rattle.jpeg_streams.specs.ScanSegments.{with_blocks}
 use Rattle.jpeg_streams.specs.Found.{none_finished, Found}
 use Rattle.jpeg_streams.specs.Levels.{Levels, IsLegal, sent_after}
-use Rattle.jpeg_streams.proofs.FinishedPlaces.{is_level_0, dc-open}
+use Rattle.jpeg_streams.proofs.FinishedIndices.{is_level_0, dc-open}
 use Rattle.jpeg_streams.specs.WrittenScans.{Coefficients, levels_of_one, levels_after}
-use Rattle.jpeg_streams.proofs.PlacesApart.{IsAbsent, AreApart}
+use Rattle.jpeg_streams.proofs.IndicesApart.{IsAbsent, AreApart}
 use Rattle.jpeg_lossless.proofs.ReadBack.{not-equal}
 use Rattle.jpeg_streams.proofs.FinishedMarks.{marks_of, IsBand, marks-after}
 use Rattle.jpeg_streams.proofs.OwnSpots.{At, at-within}
@@ -28,7 +28,7 @@ use Rattle.jpeg_streams.proofs.Apart.{at-one}
 
 -- what was said, with what scans have brought
 abbrev pub reading : Found → Bool → Arrays → List (List Bool) → List (Option (List ℕ)) → Found
-reading w s h fi pl = record w { scanned = s; held = h; finished = fi; planes = pl }
+reading w s h fi pl = record w { scanned = s; kept = h; finished = fi; planes = pl }
 
 abbrev pub is_whole : Levels → Bool
 is_whole l = list_all (λ mark. mark) (marks_of l)
@@ -68,12 +68,13 @@ first-of_band Q d b n xs h lt = search rules
 
 -- ---- levels
 
-pub one-same : (p : Pass) (place : ℕ) (levels : ℕ → Levels)
-    → levels_of_one p place levels place ≡ sent_after p (levels place)
-one-same p place levels = rw (eq-eqb place place refl, levels_of_one) refl
+pub one-same : (p : Pass) (index : ℕ) (levels : ℕ → Levels)
+    → levels_of_one p index levels index ≡ sent_after p (levels index)
+one-same p index levels = rw (eq-eqb index index refl, levels_of_one) refl
 
-pub one-other : (p : Pass) (place k : ℕ) (levels : ℕ → Levels) → k ≢ place → levels_of_one p place levels k ≡ levels k
-one-other p place k levels n = rw (not-equal k place n, levels_of_one) refl
+pub one-other : (p : Pass) (index k : ℕ) (levels : ℕ → Levels) → k ≢ index → levels_of_one p index
+    levels k ≡ levels k
+one-other p index k levels n = rw (not-equal k index n, levels_of_one) refl
 
 get-map : (f : Option ℕ → Bool) (xs : List (Option ℕ)) (i : ℕ) → i < length xs
     → get_or (map f xs) i true ≡ f (get_or xs i None)
@@ -110,15 +111,16 @@ legal-open p l legal band h = go p.ss refl
 -- a component of the scan, and its blocks after it
 pub record CodingDone (w : Found) (frame : Frame) (p : Pass) (array : Coefficients) (levels : ℕ → Levels) (k : Coding)
     (blocks : List Block) : Type 0 where
-  pub at : At k.place frame.components k.component
+  pub at : At k.index frame.components k.component
   pub table : slice_index_or w.quantization k.component.factors.quantization None ≡ Some k.quantization
-  pub legal : IsLegal p (levels k.place)
-  pub sized : length (levels k.place).acs ≡ 63
-  pub holds : HoldsOwn (grid_of k.component) (array k.place) (sent_after p (levels k.place)) blocks
+  pub legal : IsLegal p (levels k.index)
+  pub sized : length (levels k.index).acs ≡ 63
+  pub holds : HoldsOwn (grid_of k.component) (array k.index) (sent_after p (levels k.index)) blocks
 
 plane-yes : (k : Coding) (blocks : List Block) (marks : List Bool) (pl : List (Option (List ℕ)))
     → list_all (λ mark. mark) marks ≡ true → with_plane k blocks marks pl
-    ≡ set pl k.place (decided (slice_index_or pl k.place None) (plane_by k.component k.quantization blocks))
+    ≡ set pl k.index (decided (slice_index_or pl k.index None) (plane_by k.component k.quantization
+    blocks))
 unfolding with_plane
 plane-yes k blocks marks pl e = rw (e, with_plane) refl
 
@@ -131,7 +133,8 @@ plane-count : (k : Coding) (blocks : List Block) (marks : List Bool) (pl : List 
     → length (with_plane k blocks marks pl) ≡ length pl
 plane-count k blocks marks pl = search (rules, plane-yes, length-set, plane-no)
 
-plane-other : (k : Coding) (blocks : List Block) (marks : List Bool) (pl : List (Option (List ℕ))) (j : ℕ) → j ≢ k.place
+plane-other : (k : Coding) (blocks : List Block) (marks : List Bool) (pl : List (Option (List ℕ)))
+    (j : ℕ) → j ≢ k.index
     → slice_index_or (with_plane k blocks marks pl) j None ≡ slice_index_or pl j None
 plane-other k blocks marks pl j n = search (rules, plane-yes, get_or-set_other, plane-no)
 
@@ -140,43 +143,60 @@ module _ (w : Found) (frame : Frame) (p : Pass) (array : Coefficients) (levels :
     (few : length frame.components ≤ 4) (band : IsBand p) (done : CodingDone w frame p array levels k blocks)
     (before : Marked w frame array levels fi pl) where
   abbrev marks : List Bool
-  marks = finished_by p (slice_index_or fi k.place none_finished)
+  marks = finished_by p (slice_index_or fi k.index none_finished)
 
   abbrev next : Levels
-  next = sent_after p (levels k.place)
+  next = sent_after p (levels k.index)
 
   marks-are : marks ≡ marks_of next
   marks-are = grind (arith, common_steps, marks-after)
 
-  was-open : is_whole (levels k.place) ≡ false
-  was-open = legal-open p (levels k.place) done.legal band done.sized
+  was-open : is_whole (levels k.index) ≡ false
+  was-open = legal-open p (levels k.index) done.legal band done.sized
 
-  was-none : slice_index_or pl k.place None ≡ None
-  was-none = (before.planes k.place k.component done.at).undecided was-open
+  was-none : slice_index_or pl k.index None ≡ None
+  was-none = (before.planes k.index k.component done.at).undecided was-open
 
-  place-in : k.place < 4
-  place-in = let h = at-within k.place frame.components k.component done.at in omega arith
+  index-in : k.index < 4
+  index-in = let h = at-within k.index frame.components k.component done.at in omega arith
 
-  plane-own : PlaneSo w array next (with_plane k blocks marks pl) k.place k.component
-  plane-own = grind (arith, common_steps, plane-yes, marks-are, get_or-set_same, place-in, was-none, plane-no)
+  plane-own : PlaneSo w array next (with_plane k blocks marks pl) k.index k.component
+  plane-own = grind (
+    arith,
+    common_steps,
+    plane-yes,
+    marks-are,
+    get_or-set_same,
+    index-in,
+    was-none,
+    plane-no,
+  )
 
-  plane-moved : (j : ℕ) (c : Component) → At j frame.components c → (j ≡ k.place) ⊎ (j ≢ k.place)
-      → PlaneSo w array (levels_of_one p k.place levels j) (with_plane k blocks marks pl) j c
+  plane-moved : (j : ℕ) (c : Component) → At j frame.components c → (j ≡ k.index) ⊎ (j ≢ k.index)
+      → PlaneSo w array (levels_of_one p k.index levels j) (with_plane k blocks marks pl) j c
   plane-moved j c h (inl e) = grind (arith, common_steps, at-one, one-same, plane-own)
   plane-moved j c h (inr n) = grind (arith, common_steps, plane-other, one-other)
 
-  marks-moved : (j : ℕ) (c : Component) → At j frame.components c → (j ≡ k.place) ⊎ (j ≢ k.place)
-      → slice_index_or (set fi k.place marks) j none_finished ≡ marks_of (levels_of_one p k.place levels j)
-  marks-moved j c h (inl e) = grind (arith, common_steps, get_or-set_same, place-in, marks-are, one-same)
+  marks-moved : (j : ℕ) (c : Component) → At j frame.components c → (j ≡ k.index) ⊎ (j ≢ k.index)
+      → slice_index_or (set fi k.index marks) j none_finished ≡ marks_of (levels_of_one p k.index
+      levels j)
+  marks-moved j c h (inl e) = grind (
+    arith,
+    common_steps,
+    get_or-set_same,
+    index-in,
+    marks-are,
+    one-same,
+  )
   marks-moved j c h (inr n) = grind (arith, common_steps, get_or-set_other, one-other)
 
-  pub marked-one : Marked w frame array (levels_of_one p k.place levels) (set fi k.place marks)
+  pub marked-one : Marked w frame array (levels_of_one p k.index levels) (set fi k.index marks)
       (with_plane k blocks marks pl)
   marked-one = record {
-    fi_count = length-set fi k.place marks ∙ before.fi_count;
+    fi_count = length-set fi k.index marks ∙ before.fi_count;
     pl_count = plane-count k blocks marks pl ∙ before.pl_count;
-    marks = λ j c h. marks-moved j c h (eqb_cases j k.place);
-    planes = λ j c h. plane-moved j c h (eqb_cases j k.place);
+    marks = λ j c h. marks-moved j c h (eqb_cases j k.index);
+    planes = λ j c h. plane-moved j c h (eqb_cases j k.index);
   }
 
 -- ---- all components of a scan
@@ -188,17 +208,18 @@ AllDone w frame p array levels (k ∷ codings) [] = ⊥
 AllDone w frame p array levels (k ∷ codings) (b ∷ arrays) = CodingDone w frame p array levels k b
     × AllDone w frame p array levels codings arrays
 
-abbrev pub places_of : List Coding → List ℕ
-places_of codings = map (λ c. c.place) codings
+abbrev pub indices_of : List Coding → List ℕ
+indices_of codings = map (λ c. c.index) codings
 
 -- the others are as they were
-pub done-others : (w : Found) (frame : Frame) (p : Pass) (array : Coefficients) (levels : ℕ → Levels) (place : ℕ)
+pub done-others : (w : Found) (frame : Frame) (p : Pass) (array : Coefficients) (levels : ℕ →
+    Levels) (index : ℕ)
     (codings : List Coding) (arrays : Arrays)
-    → IsAbsent place (places_of codings) → AllDone w frame p array levels codings arrays
-    → AllDone w frame p array (levels_of_one p place levels) codings arrays
-done-others w frame p array levels place (k ∷ codings) (b ∷ arrays) apart h =
-    search (rules, one-other, done-others w frame p array levels place codings arrays apart.1 h.1)
-done-others w frame p array levels place codings arrays apart h = search rules
+    → IsAbsent index (indices_of codings) → AllDone w frame p array levels codings arrays
+    → AllDone w frame p array (levels_of_one p index levels) codings arrays
+done-others w frame p array levels index (k ∷ codings) (b ∷ arrays) apart h =
+    search (rules, one-other, done-others w frame p array levels index codings arrays apart.1 h.1)
+done-others w frame p array levels index codings arrays apart h = search rules
 
 -- What scans have brought, after the components of one.
 pub record Brought (w : Found) (frame : Frame) (p : Pass) (array : Coefficients) (levels : ℕ → Levels)
@@ -207,39 +228,44 @@ pub record Brought (w : Found) (frame : Frame) (p : Pass) (array : Coefficients)
   pub finished : List (List Bool)
   pub planes : List (Option (List ℕ))
   pub is : with_arrays p codings arrays (reading w s h fi pl) ≡ reading w s h finished planes
-  pub marked : Marked w frame array (levels_after p (places_of codings) levels) finished planes
+  pub marked : Marked w frame array (levels_after p (indices_of codings) levels) finished planes
 
 pub brings : (w : Found) (frame : Frame) (p : Pass) (array : Coefficients) (levels : ℕ → Levels)
     (codings : List Coding) (arrays : Arrays) (s : Bool) (h : Arrays)
     (fi : List (List Bool)) (pl : List (Option (List ℕ))) → length frame.components ≤ 4 → IsBand p
-    → AreApart (places_of codings)
+    → AreApart (indices_of codings)
     → AllDone w frame p array levels codings arrays → Marked w frame array levels fi pl
     → Brought w frame p array levels codings arrays s h fi pl
 unfolding levels_after with_arrays with_blocks
 brings w frame p array levels [] [] s h fi pl few band apart done before = search rules
 brings w frame p array levels (k ∷ codings) (b ∷ arrays) s h fi pl few band apart done before =
-    let marks = finished_by p (slice_index_or fi k.place none_finished) in
-    let more = brings w frame p array (levels_of_one p k.place levels) codings arrays s h (set fi k.place marks)
+    let marks = finished_by p (slice_index_or fi k.index none_finished) in
+    let more = brings w frame p array (levels_of_one p k.index levels) codings arrays s h (set fi
+    k.index marks)
     (with_plane k b marks pl) few band apart.1
-    (done-others w frame p array levels k.place codings arrays apart.0 done.1)
+    (done-others w frame p array levels k.index codings arrays apart.0 done.1)
     (marked-one w frame p array levels k b fi pl few band done.0 before) in
     search rules
 brings w frame p array levels codings arrays s h fi pl few band apart done before = absurd done
 
 -- ---- held between scans
 
-pub record AllHeld (frame : Frame) (array : Coefficients) (levels : ℕ → Levels) (arrays : Arrays) : Type 0 where
+pub record AllKept (frame : Frame) (array : Coefficients) (levels : ℕ → Levels) (arrays : Arrays) :
+    Type 0 where
   pub count : length arrays ≡ length frame.components
   pub each : (k : ℕ) (c : Component) → At k frame.components c
       → HoldsOwn (grid_of c) (array k) (levels k) (get_or arrays k [])
 
-pub held-after : (w : Found) (frame : Frame) (p : Pass) (array : Coefficients) (levels : ℕ → Levels)
-    (codings : List Coding) (arrays held : Arrays) → AreApart (places_of codings)
-    → AllDone w frame p array levels codings arrays → AllHeld frame array levels held
-    → AllHeld frame array (levels_after p (places_of codings) levels) (put_arrays codings arrays held)
+pub blocks-after : (w : Found) (frame : Frame) (p : Pass) (array : Coefficients) (levels : ℕ →
+    Levels)
+    (codings : List Coding) (arrays kept : Arrays) → AreApart (indices_of codings)
+    → AllDone w frame p array levels codings arrays → AllKept frame array levels kept
+    → AllKept frame array (levels_after p (indices_of codings) levels) (put_arrays codings arrays
+    kept)
 unfolding levels_after put_arrays
-held-after w frame p array levels (k ∷ codings) (b ∷ arrays) held apart done before =
-    held-after w frame p array (levels_of_one p k.place levels) codings arrays (set held k.place b) apart.1
-    (done-others w frame p array levels k.place codings arrays apart.0 done.1)
+blocks-after w frame p array levels (k ∷ codings) (b ∷ arrays) kept apart done before =
+    blocks-after w frame p array (levels_of_one p k.index levels) codings arrays (set kept k.index
+    b) apart.1
+    (done-others w frame p array levels k.index codings arrays apart.0 done.1)
     (search (rules, length-set, eqb_cases, at-one, at-within, one-same, get_or-set_same, one-other, get_or-set_other))
-held-after w frame p array levels codings arrays held apart n before = search rules
+blocks-after w frame p array levels codings arrays kept apart n before = search rules

@@ -22,7 +22,7 @@ use Rattle.jpeg_bits.specs.Written.{marker}
 use Rattle.jpeg_streams.specs.WrittenScans.{Coefficients, levels_after, IsLegalScan, HasTable, WritesScan}
 use Rattle.jpeg_streams.specs.WholeImages.{AllComplete}
 use Rattle.jpeg_streams.specs.WrittenImages.{Writes, closed, segment, scan, WritesImage, MayFollow, IsDctSegment}
-use Rattle.jpeg_streams.proofs.ReadStates.{reading, PlaneSo, places_of}
+use Rattle.jpeg_streams.proofs.ReadStates.{reading, PlaneSo, indices_of}
 use Rattle.jpeg_streams.proofs.ReadTurns.{StandsAt, stands-here, stands-met, turn-on, turn-end, head-on, head-end}
 use Rattle.jpeg_streams.proofs.ReadTurns.{scan-by, codings-same, codings-read, segment-read, frame-turn, end-turn}
 use Rattle.jpeg_streams.proofs.ReadTurns.{scan-turn, marker-turn, segment-tail, scan-tail, marker-longer, scan-longer}
@@ -84,10 +84,10 @@ framed-next w (Header number header) f array levels sc h fi pl follows none fr =
 
 -- What scans have brought by the end of the image: the blocks and planes of the last levels.
 pub record Ended (f : Frame) (array : Coefficients) (final : Found) (last : ℕ → Levels) : Type 0 where
-  pub held : Arrays
+  pub kept : Arrays
   pub finished : List (List Bool)
   pub planes : List (Option (List ℕ))
-  pub framed : Framed final f array last true held finished planes
+  pub framed : Framed final f array last true kept finished planes
   pub frame_is : final.frame ≡ Some f
   pub tables : AllByRecursion (HasTable final) f.components
   pub complete : is_progressive f.process ≡ false → AllComplete f last
@@ -96,7 +96,7 @@ pub record Ended (f : Frame) (array : Coefficients) (final : Found) (last : ℕ 
 pub record ReadTo (f : Frame) (array : Coefficients) (tail : List ℕ) (final : Found) (last : ℕ → Levels)
     (found : Outcome Found) : Type 0 where
   pub end : Ended f array final last
-  pub is : found ≡ Ok (reading final true end.held end.finished end.planes, tail)
+  pub is : found ≡ Ok (reading final true end.kept end.finished end.planes, tail)
 
 -- the same end, of what leads to it
 -- a scan of this frame, and what follows it
@@ -105,7 +105,8 @@ abbrev ScanOf : Coefficients → Found → (ℕ → Levels) → Found → (ℕ �
 ScanOf array w levels final last head codings bytes more f =
     IsScan f head × IsLegalScan w f levels (scan_written f head) codings
     × WritesScan f w.restart (pass_of (scan_written f head)) codings array bytes
-    × Writes array w (levels_after (pass_of (scan_written f head)) (places_of codings) levels) true more final last
+    × Writes array w (levels_after (pass_of (scan_written f head)) (indices_of codings) levels)
+    true more final last
 
 abbrev pub nothing_finished : List (List Bool)
 nothing_finished = replicate 4 none_finished
@@ -157,7 +158,7 @@ module _ (array : Coefficients) (tail : List ℕ) (final : Found) (last : ℕ �
   pub reads-scans : (f : Frame) (w : Found) (levels : ℕ → Levels)
       (sc : Bool) (bytes : List ℕ) (h : Arrays) (fi : List (List Bool)) (pl : List (Option (List ℕ)))
       (turns : ℕ) (bf : Before) (met : Option Marker) (all : List ℕ)
-      → ((place row column : ℕ) → Is8Bit (array place row column)) → Shaped f → HasTables w.huffman
+      → ((index row column : ℕ) → Is8Bit (array index row column)) → Shaped f → HasTables w.huffman
       → w.frame ≡ Some f → (sc ≡ false → (k : ℕ) → levels k ≡ nothing_sent)
       → Framed w f array levels sc h fi pl → Writes array w levels sc bytes final last
       → StandsAt met all (bytes ++ tail) → length bytes < turns
@@ -200,7 +201,8 @@ module _ (array : Coefficients) (tail : List ℕ) (final : Found) (last : ℕ �
       ∙ scan-turn bf now (header ++ (payload ++ marker next.fill next.code left)) ∙ turn) refl
       ∙ ap (λ (x : Found). segments_within turns false (scan_before now) x (Some next.m) left) b.after)
       (reads-scans f w
-      (levels_after (pass_of s) (places_of codings) levels) true more b.held b.finished b.planes turns
+      (levels_after (pass_of s) (indices_of codings) levels) true more b.kept b.finished b.planes
+      turns
       (scan_before now) (Some next.m) left
       range shape good e (λ g. absurd (true≢false g)) b.framed of.3
       (subst (StandsAt (Some next.m) left) (sym there) (stands-met next.fill next.code next.m left next.makes))
@@ -211,7 +213,7 @@ module _ (array : Coefficients) (tail : List ℕ) (final : Found) (last : ℕ �
       let same = same-frame frame f w.frame framed e in
       record {
         end = record {
-          held = h;
+          kept = h;
           finished = fi;
           planes = pl;
           framed = fr;
@@ -317,7 +319,7 @@ stream-read array tail bytes final last w =
 
 -- the scans of a stream whose header was read
 pub scans-read : (array : Coefficients) (tail : List ℕ) (final : Found) (last : ℕ → Levels) (header whole : Outcome Found)
-    → ((place row column : ℕ) → Is8Bit (array place row column))
+    → ((index row column : ℕ) → Is8Bit (array index row column))
     → (r : ReadHeader array tail final last header whole) → ReadTo r.frame array tail final last whole
 scans-read array tail final last header whole range r =
     search (rules, read-to, reads-scans, framed-start, stands-here)

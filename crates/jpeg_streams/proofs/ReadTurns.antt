@@ -245,78 +245,91 @@ first-drop n xs x e = search rules
 
 -- a coding is of a component of the frame, with its quantization table
 pub record CodingFacts (w : Found) (frame : Frame) (k : Coding) : Type 0 where
-  pub at : At k.place frame.components k.component
+  pub at : At k.index frame.components k.component
   pub table : slice_index_or w.quantization k.component.factors.quantization None ≡ Some k.quantization
 
-pub codings-back : (w : Found) (frame : Frame) (p : Pass) (tables : Tables) (places ds ks : List ℕ)
-    (codings : List Coding) → length ds ≡ length places → length ks ≡ length places
-    → codings_from w frame p tables places ds ks ≡ Ok codings → AreCodings w frame p tables places ds ks codings
+pub codings-back : (w : Found) (frame : Frame) (p : Pass) (tables : Tables) (indices ds ks : List ℕ)
+    (codings : List Coding) → length ds ≡ length indices → length ks ≡ length indices
+    → codings_from w frame p tables indices ds ks ≡ Ok codings → AreCodings w frame p tables
+    indices ds ks codings
 unfolding codings_from component_coding
 codings-back w frame p tables [] [] [] codings h g e =
     subst (AreCodings w frame p tables [] [] []) (ok-same [] codings e) no_more
-codings-back w frame p tables (x ∷ places) (d ∷ ds) (a ∷ ks) codings h g e =
+codings-back w frame p tables (x ∷ indices) (d ∷ ds) (a ∷ ks) codings h g e =
     let one = bind-ok (component_coding w frame p tables x d a) _ codings e in
-    let more = bind-ok (codings_from w frame p tables places ds ks) _ codings one.2 in
-    subst (AreCodings w frame p tables (x ∷ places) (d ∷ ds) (a ∷ ks)) (ok-same (one.0 ∷ more.0) codings more.2)
-    (and_more x d a places ds ks one.0 more.0 (search (rules, bind-ok, ok-same, needed-some))
-    (codings-back w frame p tables places ds ks more.0 (omega arith) (omega arith) more.1))
-codings-back w frame p tables places ds ks codings h g e = absurd (omega arith)
+    let more = bind-ok (codings_from w frame p tables indices ds ks) _ codings one.2 in
+    subst (AreCodings w frame p tables (x ∷ indices) (d ∷ ds) (a ∷ ks)) (ok-same (one.0 ∷ more.0)
+    codings more.2)
+    (and_more x d a indices ds ks one.0 more.0 (search (rules, bind-ok, ok-same, needed-some))
+    (codings-back w frame p tables indices ds ks more.0 (omega arith) (omega arith) more.1))
+codings-back w frame p tables indices ds ks codings h g e = absurd (omega arith)
 
 -- the facts of codings
 abbrev AllFacts : Found → Frame → List ℕ → List Coding → Type 0
-AllFacts w frame places codings =
-    (length codings ≡ length places) × AllByRecursion (CodingFacts w frame) codings
-    × (map (λ c. c.place) codings ≡ places)
+AllFacts w frame indices codings =
+    (length codings ≡ length indices) × AllByRecursion (CodingFacts w frame) codings
+    × (map (λ c. c.index) codings ≡ indices)
 
-codings-so : (w : Found) (frame : Frame) (p : Pass) (tables : Tables) (places ds ks : List ℕ) (codings : List Coding)
-    → AreCodings w frame p tables places ds ks codings → AllFacts w frame places codings
-codings-so w frame p tables places ds ks codings no_more = (refl, tt, refl)
-codings-so w frame p tables places ds ks codings (and_more place d a places' ds' ks' k more h r) =
-    search (rules, first-drop, codings-so w frame p tables places' ds' ks' more r)
+codings-so : (w : Found) (frame : Frame) (p : Pass) (tables : Tables) (indices ds ks : List ℕ)
+    (codings : List Coding)
+    → AreCodings w frame p tables indices ds ks codings → AllFacts w frame indices codings
+codings-so w frame p tables indices ds ks codings no_more = (refl, tt, refl)
+codings-so w frame p tables indices ds ks codings (and_more index d a indices' ds' ks' k more h r) =
+    search (rules, first-drop, codings-so w frame p tables indices' ds' ks' more r)
 
-pub codings-facts_from : (w : Found) (frame : Frame) (p : Pass) (tables : Tables) (places ds ks : List ℕ)
-    (codings : List Coding) → length ds ≡ length places → length ks ≡ length places
-    → codings_from w frame p tables places ds ks ≡ Ok codings → AllFacts w frame places codings
-codings-facts_from w frame p tables places ds ks codings h g e =
-    codings-so w frame p tables places ds ks codings (codings-back w frame p tables places ds ks codings h g e)
+pub codings-facts_from : (w : Found) (frame : Frame) (p : Pass) (tables : Tables) (indices ds ks :
+    List ℕ)
+    (codings : List Coding) → length ds ≡ length indices → length ks ≡ length indices
+    → codings_from w frame p tables indices ds ks ≡ Ok codings → AllFacts w frame indices codings
+codings-facts_from w frame p tables indices ds ks codings h g e =
+    codings-so w frame p tables indices ds ks codings (codings-back w frame p tables indices ds ks
+    codings h g e)
 
 pub codings-facts : (w : Found) (frame : Frame) (s : Scan) (codings : List Coding)
-    → length s.dc_places ≡ length s.components → length s.ac_places ≡ length s.components
+    → length s.dc_destinations ≡ length s.components → length s.ac_destinations ≡ length
+    s.components
     → codings_of w frame s ≡ Ok codings
     → (length codings ≡ length s.components) × AllByRecursion (CodingFacts w frame) codings
-    × (map (λ c. c.place) codings ≡ s.components)
+    × (map (λ c. c.index) codings ≡ s.components)
 unfolding codings_of
 codings-facts w frame s codings h g e =
-    codings-facts_from w frame (pass_of s) (tables_of w s) s.components s.dc_places s.ac_places codings h g e
+    codings-facts_from w frame (pass_of s) (tables_of w s) s.components s.dc_destinations
+    s.ac_destinations codings h g e
 
 -- ---- the tables in force
 
-in-force : (b : Bool) (class : HuffmanTableClass) (tables : List (Option Table)) (place : ℕ) (table : Table)
-    → InForce b class tables place table → needed_if b class (slice_index_or tables place None) ≡ Ok table
-in-force true class tables place table e = ap needed e
-in-force false class tables place table e = ap (λ (t : Table). Ok t) (sym e)
+in-force : (b : Bool) (class : HuffmanTableClass) (tables : List (Option Table)) (index : ℕ) (table
+    : Table)
+    → InForce b class tables index table → needed_if b class (slice_index_or tables index None) ≡
+    Ok table
+in-force true class tables index table e = ap needed e
+in-force false class tables index table e = ap (λ (t : Table). Ok t) (sym e)
 
-codings-read_from : (w : Found) (frame : Frame) (p : Pass) (tables : Tables) (places ds ks : List ℕ)
-    (codings : List Coding) → AreCodings w frame p tables places ds ks codings
-    → codings_from w frame p tables places ds ks ≡ Ok codings
+codings-read_from : (w : Found) (frame : Frame) (p : Pass) (tables : Tables) (indices ds ks : List
+    ℕ)
+    (codings : List Coding) → AreCodings w frame p tables indices ds ks codings
+    → codings_from w frame p tables indices ds ks ≡ Ok codings
 unfolding codings_from component_coding
-codings-read_from w frame p tables places ds ks codings no_more = refl
-codings-read_from w frame p tables places ds ks codings (and_more place d a places' ds' ks' k more h r) =
-    search (rules, then-ok, in-force, codings-read_from w frame p tables places' ds' ks' more r)
+codings-read_from w frame p tables indices ds ks codings no_more = refl
+codings-read_from w frame p tables indices ds ks codings (and_more index d a indices' ds' ks' k
+    more h r) =
+    search (rules, then-ok, in-force, codings-read_from w frame p tables indices' ds' ks' more r)
 
 pub codings-read : (w : Found) (frame : Frame) (s : Scan) (codings : List Coding)
-    → AreCodings w frame (pass_of s) (tables_of w s) s.components s.dc_places s.ac_places codings
+    → AreCodings w frame (pass_of s) (tables_of w s) s.components s.dc_destinations
+    s.ac_destinations codings
     → codings_of w frame s ≡ Ok codings
 unfolding codings_of
 codings-read w frame s codings h = search (rules, codings-read_from)
 
 pub codings-same_from : (w : Found) (sc : Bool) (h : Arrays) (fi : List (List Bool)) (pl : List (Option (List ℕ)))
-    (frame : Frame) (p : Pass) (tables : Tables) (places ds ks : List ℕ)
-    → codings_from (reading w sc h fi pl) frame p tables places ds ks ≡ codings_from w frame p tables places ds ks
+    (frame : Frame) (p : Pass) (tables : Tables) (indices ds ks : List ℕ)
+    → codings_from (reading w sc h fi pl) frame p tables indices ds ks ≡ codings_from w frame p
+    tables indices ds ks
 unfolding codings_from component_coding
-codings-same_from w sc h fi pl frame p tables (x ∷ places) (d ∷ ds) (a ∷ ks) =
-    search (rules, codings-same_from w sc h fi pl frame p tables places ds ks)
-codings-same_from w sc h fi pl frame p tables places ds ks = refl
+codings-same_from w sc h fi pl frame p tables (x ∷ indices) (d ∷ ds) (a ∷ ks) =
+    search (rules, codings-same_from w sc h fi pl frame p tables indices ds ks)
+codings-same_from w sc h fi pl frame p tables indices ds ks = refl
 
 pub tables-same : (w : Found) (sc : Bool) (h : Arrays) (fi : List (List Bool)) (pl : List (Option (List ℕ))) (s : Scan)
     → tables_of (reading w sc h fi pl) s ≡ tables_of w s

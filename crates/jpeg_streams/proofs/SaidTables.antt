@@ -3,7 +3,7 @@ use Rattle.std.proofs.Common.{rules, ◌≡◌, ℕ, suc, List, [], ◌∷◌, s
 use Rattle.std.specs.List.{AllByRecursion}
 use Rattle.std.specs.Prelude.{slice_index_or}
 use Rattle.jpeg_bits.specs.Codes.{Table, IsTable}
-use Rattle.jpeg_segments.specs.HuffmanTables.{Tables, PlacedTable, no_tables, with_table}
+use Rattle.jpeg_segments.specs.HuffmanTables.{Tables, DefinedTable, no_tables, with_table}
 use Rattle.jpeg_streams.specs.Segments.{updated}
 use Rattle.jpeg_streams.specs.Found.{Found}
 use Rattle.jpeg_segments.specs.WrittenSegments.{Segment, Huffman, IsHuffmanTable, MayStand}
@@ -33,7 +33,7 @@ updated-all (o ∷ old) (None ∷ new) p q = (p.0, updated-all old new p.1 q.1)
 updated-all (o ∷ old) (Some t ∷ new) p q = (q.0, updated-all old new p.1 q.1)
 updated-all old new p q = search rules
 
-tables-all : (most : ℕ) (tables : Tables) (ts : List PlacedTable) → HasTables tables
+tables-all : (most : ℕ) (tables : Tables) (ts : List DefinedTable) → HasTables tables
     → AllByRecursion (IsHuffmanTable most) ts → HasTables (fold with_table tables ts)
 tables-all most tables [] h all = h
 tables-all most tables (t ∷ ts) h all = tables-all most (with_table tables t) ts (search (rules, set-all)) all.1
@@ -46,6 +46,7 @@ pub segment-tables : (found : Found) (s : Segment) → MayStand found.frame s �
 segment-tables found (Huffman ts) may h = search (rules, updated-all, tables-all, no-tables)
 segment-tables found s may h = h
 
-pub table-there : (tables : List (Option Table)) (place : ℕ) (t : Table) → AllByRecursion IsTableOrNone tables
-    → slice_index_or tables place None ≡ Some t → IsTable t
-table-there tables place t all e = search (rules, get-all)
+pub table-there : (tables : List (Option Table)) (index : ℕ) (t : Table) → AllByRecursion
+    IsTableOrNone tables
+    → slice_index_or tables index None ≡ Some t → IsTable t
+table-there tables index t all e = search (rules, get-all)

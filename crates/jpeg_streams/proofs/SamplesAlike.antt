@@ -29,18 +29,21 @@ down-alike (x ∷ xs) (y ∷ ys) e =
 down-alike xs ys e = absurd (let n : ⊥ = cc in n)
 
 pixel-alike : (f g : Frame) (samples : Samples) (x y : ℕ) → f.precision ≡ g.precision
-    → most_across f ≡ most_across g → most_down f ≡ most_down g → (place : ℕ) (cs ds : List Component)
-    → map sampling_of cs ≡ map sampling_of ds → pixel_from f samples y x place cs ≡ pixel_from g samples y x place ds
+    → most_across f ≡ most_across g → most_down f ≡ most_down g → (index : ℕ) (cs ds : List
+    Component)
+    → map sampling_of cs ≡ map sampling_of ds → pixel_from f samples y x index cs ≡ pixel_from g
+    samples y x index ds
 unfolding pixel_from
-pixel-alike f g samples x y p a d place [] [] e = refl
-pixel-alike f g samples x y p a d place (c ∷ cs) (b ∷ bs) e = grind (
+pixel-alike f g samples x y p a d index [] [] e = refl
+pixel-alike f g samples x y p a d index (c ∷ cs) (b ∷ bs) e = grind (
   arith,
   common_steps,
   first-same,
   others-same,
-  pixel-alike f g samples x y p a d (place + 1) cs bs (others-same (sampling_of c) (sampling_of b) _ _ e),
+  pixel-alike f g samples x y p a d (index + 1) cs bs (others-same (sampling_of c) (sampling_of b)
+      _ _ e),
 )
-pixel-alike f g samples x y p a d place cs bs e = absurd (let n : ⊥ = cc in n)
+pixel-alike f g samples x y p a d index cs bs e = absurd (let n : ⊥ = cc in n)
 
 pub pictures-alike : (f g : Frame) (samples : Samples) → f.precision ≡ g.precision → f.width ≡ g.width
     → f.height ≡ g.height → map sampling_of f.components ≡ map sampling_of g.components

@@ -7,7 +7,7 @@ use Rattle.std.proofs.Math.Nat.{mul_comm, lt_of_mul-lt-mul_right, mul-lt-mul_of_
 use Rattle.std.specs.List.{AllByRecursion, flat_map, position}
 use Rattle.std.proofs.lemmas.List.Sums.{sum-map}
 use Rattle.jpeg_segments.specs.Frame.{Frame, Component, Factors, ceiling}
-use Rattle.jpeg_segments.specs.ScanHeader.{place_of, blocks_by, scan_of}
+use Rattle.jpeg_segments.specs.ScanHeader.{index_of, blocks_by, scan_of}
 use Rattle.jpeg_segments.specs.ScanHeaders.{AreChoices, Choice, IsScan, ScanHeader, scan_payload}
 use Rattle.jpeg_segments.specs.ScanHeaders.{scan_written, selector_for}
 use Rattle.jpeg_segments.proofs.ScanLemmas.{position-map}
@@ -113,16 +113,18 @@ length-same cs ds (one_more c d cs' ds' h more) = ap suc (length-same cs' ds' mo
 
 -- ---- scan headers
 
-place-same : (cs ds : List Component) (identifier : ℕ) → Alikes cs ds → place_of ds identifier ≡ place_of cs identifier
-place-same cs ds identifier h =
+index-same : (cs ds : List Component) (identifier : ℕ) → Alikes cs ds → index_of ds identifier ≡
+    index_of cs identifier
+index-same cs ds identifier h =
     let test : Factors → Bool = λ f. f.identifier == identifier in
     sym (position-map (λ (c : Component). c.factors) test ds) ∙ ap (position test) (factors-same (λ f. f) cs ds h)
     ∙ position-map (λ (c : Component). c.factors) test cs
 
-blocks-same : (cs ds : List Component) (place : ℕ) → Alikes cs ds → blocks_by ds place ≡ blocks_by cs place
-blocks-same cs ds place none = refl
+blocks-same : (cs ds : List Component) (index : ℕ) → Alikes cs ds → blocks_by ds index ≡ blocks_by
+    cs index
+blocks-same cs ds index none = refl
 blocks-same cs ds zero (one_more c d cs' ds' h more) = rw h.factors refl
-blocks-same cs ds (suc place) (one_more c d cs' ds' h more) = blocks-same cs' ds' place more
+blocks-same cs ds (suc index) (one_more c d cs' ds' h more) = blocks-same cs' ds' index more
 
 selectors-same : (f g : Frame) (cs : List Choice) → SameFrame f g → map (selector_for g) cs ≡ map
     (selector_for f) cs
@@ -137,7 +139,12 @@ choices-same : (f g : Frame) (least : ℕ) (cs : List Choice) → SameFrame f g 
     → AreChoices g least cs
 unfolding AreChoices
 choices-same f g least [] same are = tt
-choices-same f g least (c ∷ cs) same are = search (rules, place-same, choices-same f g (c.component + 1) cs same are.1)
+choices-same f g least (c ∷ cs) same are = search (
+  rules,
+  index-same,
+  choices-same f g (c.component
+      + 1) cs same are.1,
+)
 
 scan-same : (f g : Frame) (h : ScanHeader) → SameFrame f g → IsScan f h → IsScan g h
 scan-same f g h same is = search (rules, choices-same, selectors-same)
@@ -145,7 +152,7 @@ scan-same f g h same is = search (rules, choices-same, selectors-same)
 -- ---- codings
 
 pub record CodingAlike (k l : Coding) : Type 0 where
-  pub place : l.place ≡ k.place
+  pub index : l.index ≡ k.index
   pub component : Alike k.component l.component
   pub dc : l.dc ≡ k.dc
   pub ac : l.ac ≡ k.ac
@@ -165,13 +172,15 @@ first-alike zero cs ds c (one_more x y cs' ds' h more) e = search rules
 first-alike (suc n) cs ds c none e = search rules
 first-alike (suc n) cs ds c (one_more x y cs' ds' h more) e = first-alike n cs' ds' c more e
 
-coding-alike : (w : Found) (f g : Frame) → SameFrame f g → (p : Pass) (tables : Tables) (place d a : ℕ) (k : Coding)
-    → IsCoding w f p tables place d a k
-    → (l : Coding) × IsCoding (at_frame w g) g p tables place d a l × CodingAlike k l
-coding-alike w f g same p tables place d a k h =
-    let other = first-alike place f.components g.components k.component same.components h.component in
+coding-alike : (w : Found) (f g : Frame) → SameFrame f g → (p : Pass) (tables : Tables) (index d a
+    : ℕ) (k : Coding)
+    → IsCoding w f p tables index d a k
+    → (l : Coding) × IsCoding (at_frame w g) g p tables index d a l × CodingAlike k l
+coding-alike w f g same p tables index d a k h =
+    let other = first-alike index f.components g.components k.component same.components h.component
+    in
     let l : Coding = record {
-      place = k.place;
+      index = k.index;
       component = other.0;
       quantization = k.quantization;
       dc = k.dc;
@@ -185,19 +194,21 @@ coding-alike w f g same p tables place d a k h =
         dc = h.dc;
         ac = h.ac;
       },
-      record { place = refl; component = other.2; dc = refl; ac = refl },
+      record { index = refl; component = other.2; dc = refl; ac = refl },
     )
 
 codings-alike : (w : Found) (f g : Frame) → SameFrame f g
-    → (p : Pass) (tables : Tables) (places ds ks : List ℕ) (codings : List Coding)
-    → AreCodings w f p tables places ds ks codings
-    → (others : List Coding) × AreCodings (at_frame w g) g p tables places ds ks others × CodingsAlike codings others
-codings-alike w f g same p tables places ds ks codings no_more = ([], no_more, none)
-codings-alike w f g same p tables places ds ks codings (and_more place d a places' ds' ks' k more h r) =
-    let l = coding-alike w f g same p tables place d a k h in
-    let others = codings-alike w f g same p tables places' ds' ks' more r in (
+    → (p : Pass) (tables : Tables) (indices ds ks : List ℕ) (codings : List Coding)
+    → AreCodings w f p tables indices ds ks codings
+    → (others : List Coding) × AreCodings (at_frame w g) g p tables indices ds ks others ×
+    CodingsAlike codings others
+codings-alike w f g same p tables indices ds ks codings no_more = ([], no_more, none)
+codings-alike w f g same p tables indices ds ks codings (and_more index d a indices' ds' ks' k more
+    h r) =
+    let l = coding-alike w f g same p tables index d a k h in
+    let others = codings-alike w f g same p tables indices' ds' ks' more r in (
       l.0 ∷ others.0,
-      and_more place d a places' ds' ks' l.0 others.0 l.1 others.1,
+      and_more index d a indices' ds' ks' l.0 others.0 l.1 others.1,
       one_more k l.0 more others.0 l.2 others.2,
     )
 
@@ -207,10 +218,10 @@ components-alike ks ls (one_more k l ks' ls' h more) =
     one_more k.component l.component (components_of ks') (components_of ls') h.component
     (components-alike ks' ls' more)
 
-places-alike : (ks ls : List Coding) → CodingsAlike ks ls
-    → map (λ (c : Coding). c.place) ls ≡ map (λ (c : Coding). c.place) ks
-places-alike ks ls none = refl
-places-alike ks ls (one_more k l ks' ls' h more) = search (rules, places-alike ks' ls' more)
+indices-alike : (ks ls : List Coding) → CodingsAlike ks ls
+    → map (λ (c : Coding). c.index) ls ≡ map (λ (c : Coding). c.index) ks
+indices-alike ks ls none = refl
+indices-alike ks ls (one_more k l ks' ls' h more) = search (rules, indices-alike ks' ls' more)
 
 vias-alike : (base : ℕ) (ks ls : List Coding) → CodingsAlike ks ls → vias_from base ls ≡ vias_from base ks
 unfolding vias_from
@@ -229,7 +240,7 @@ unfolding spots_of all_spots
 scan-alike f g n p ks ls array bytes same h w =
     let cs = components-alike ks ls h in
     let grids = grids-alike (components_of ks) (components_of ls) cs in
-    let places = places-alike ks ls h in
+    let indices = indices-alike ks ls h in
     let u = λ (s : Spot). numbers_at p.al (w.sent s) in
     let turns : written_turns (vias_from 0 ls) (spots_of g (components_of ls)) u
     ≡ written_turns (vias_from 0 ks) (spots_of f (components_of ks)) u
@@ -239,7 +250,8 @@ scan-alike f g n p ks ls array bytes same h w =
     grind arith
 
 legal-alike : (p : Pass) (levels : ℕ → Levels) (ks ls : List Coding) → CodingsAlike ks ls
-    → AllByRecursion (λ c. IsLegal p (levels c.place)) ks → AllByRecursion (λ c. IsLegal p (levels c.place)) ls
+    → AllByRecursion (λ c. IsLegal p (levels c.index)) ks → AllByRecursion (λ c. IsLegal p (levels
+    c.index)) ls
 legal-alike p levels ks ls none h = tt
 legal-alike p levels ks ls (one_more k l ks' ls' a more) h = search (rules, legal-alike p levels ks' ls' more h.1)
 
@@ -257,7 +269,8 @@ scan-other : (array : Coefficients) (f g : Frame) (w final : Found) (levels last
     (fill : ℕ) (h : ScanHeader) (codings : List Coding) (bytes more : List ℕ) → SameFrame f g
     → IsScan f h → IsLegalScan w f levels (scan_written f h) codings
     → WritesScan f w.restart (pass_of (scan_written f h)) codings array bytes
-    → Writes array (at_frame w g) (levels_after (pass_of (scan_written f h)) (map (λ c. c.place) codings) levels) true
+    → Writes array (at_frame w g) (levels_after (pass_of (scan_written f h)) (map (λ c. c.index)
+    codings) levels) true
     more (at_frame final g) last
     → Writes array (at_frame w g) levels sc (marker fill 218 (with_length (scan_payload h) ++
     (bytes ++ more)))
@@ -267,13 +280,13 @@ scan-other array f g w final levels last sc fill h codings bytes more same is l 
     let s = scan_written f h in
     let alike : scan_written g h ≡ s = written-same f g h same in
     let o = codings-alike w f g same (pass_of s)
-    (tables_of w s) s.components s.dc_places s.ac_places codings l.are_in_force in
-    let places = places-alike codings o.0 o.2 in
+    (tables_of w s) s.components s.dc_destinations s.ac_destinations codings l.are_in_force in
+    let indices = indices-alike codings o.0 o.2 in
     let legal : IsLegalScan (at_frame w g) g levels s o.0 =
     grind (arith, legal-alike (pass_of s) levels codings o.0 o.2 l.legal) in
     scan (at_frame w g) (at_frame final g) levels last sc g fill h o.0 bytes more refl (scan-same f g h same is)
     (rw alike legal) (rw alike (scan-alike f g w.restart (pass_of s) codings o.0 array bytes same o.2 x))
-    (rw (alike, places) r)
+    (rw (alike, indices) r)
 
 -- A stream that was written for a frame is written for one with the same blocks.
 pub scans-alike : (array : Coefficients) (f g : Frame) (w final : Found) (levels last : ℕ → Levels)

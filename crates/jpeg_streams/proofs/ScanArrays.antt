@@ -26,23 +26,24 @@ use Rattle.jpeg_streams.proofs.BroughtLevels.{zero-at as zeros-at}
 
 -- a coding is of a component of the frame
 pub record IsOf (frame : Frame) (c : Coding) : Type 0 where
-  pub here : At c.place frame.components c.component
+  pub here : At c.index frame.components c.component
 
-pub first-at : (place : ℕ) (cs : List Component) (c : Component)
-    → ◌≡◌ {A = Option Component} (first_of (drop place cs)) (Some c) → At place cs c
-first-at (suc place) (d ∷ cs) c e = first-at place cs c e
-first-at place cs c e = search rules
+pub first-at : (index : ℕ) (cs : List Component) (c : Component)
+    → ◌≡◌ {A = Option Component} (first_of (drop index cs)) (Some c) → At index cs c
+first-at (suc index) (d ∷ cs) c e = first-at index cs c e
+first-at index cs c e = search rules
 
 abbrev pub AllOf : Frame → Result (List Coding) Fault → Type 0
 AllOf frame (Ok codings) = AllByRecursion (IsOf frame) codings
 AllOf frame (Err e) = Unit {0}
 
-codings-from : (found : Found) (frame : Frame) (p : Pass) (tables : Tables) (places dcs acs : List ℕ)
-    → AllOf frame (codings_from found frame p tables places dcs acs)
+codings-from : (found : Found) (frame : Frame) (p : Pass) (tables : Tables) (indices dcs acs : List
+    ℕ)
+    → AllOf frame (codings_from found frame p tables indices dcs acs)
 unfolding codings_from component_coding
-codings-from found frame p tables (place ∷ places) (d ∷ dcs) (a ∷ acs) =
-    search (rules, first-at, codings-from found frame p tables places dcs acs)
-codings-from found frame p tables places dcs acs = tt
+codings-from found frame p tables (index ∷ indices) (d ∷ dcs) (a ∷ acs) =
+    search (rules, first-at, codings-from found frame p tables indices dcs acs)
+codings-from found frame p tables indices dcs acs = tt
 
 pub codings-are-of : (found : Found) (frame : Frame) (scan : Scan) → AllOf frame (codings_of found frame scan)
 unfolding codings_of
@@ -54,7 +55,7 @@ abbrev pub components_of : List Coding → List Component
 components_of codings = map (λ (c : Coding). c.component) codings
 
 abbrev pub arrays_of : List Coding → Arrays → Arrays
-arrays_of codings held = map (λ (c : Coding). get_or held c.place []) codings
+arrays_of codings kept = map (λ (c : Coding). get_or kept c.index []) codings
 
 pub fits-of : (frame : Frame) (codings : List Coding) → AllByRecursion (Fits frame) frame.components
     → AllByRecursion (IsOf frame) codings → AllByRecursion (Fits frame) (components_of codings)
@@ -62,12 +63,19 @@ fits-of frame [] fits of = tt
 fits-of frame (c ∷ codings) fits of = search (rules, at-all, fits-of frame codings fits of.1)
 
 -- the arrays of a scan's components are of all their blocks
-pub arrays-sized : (frame : Frame) (codings : List Coding) (held : Arrays) → AreArrays frame.components held
+pub arrays-sized : (frame : Frame) (codings : List Coding) (kept : Arrays) → AreArrays
+    frame.components kept
     → AllByRecursion (IsOf frame) codings
-    → AreArrays (components_of codings) (arrays_of codings held)
+    → AreArrays (components_of codings) (arrays_of codings kept)
 unfolding AreArrays
-arrays-sized frame [] held h of = tt
-arrays-sized frame (c ∷ codings) held h of = grind (arith, common_steps, sized, arrays-sized frame codings held h of.1)
+arrays-sized frame [] kept h of = tt
+arrays-sized frame (c ∷ codings) kept h of = grind (
+  arith,
+  common_steps,
+  sized,
+  arrays-sized frame
+      codings kept h of.1,
+)
 
 -- those of zeros are zeros
 pub zeros-of : (frame : Frame) (codings : List Coding) → AllByRecursion (IsOf frame) codings
@@ -83,14 +91,16 @@ set-sized (c ∷ cs) (a ∷ arrays) (suc j) y e h = (h.0, set-sized cs arrays j 
 set-sized cs arrays j y e h = search rules
 
 -- and so do the arrays of a scan's components
-pub held-sized : (frame : Frame) (codings : List Coding) (arrays held : Arrays) → AreArrays frame.components held
+pub kept-sized : (frame : Frame) (codings : List Coding) (arrays kept : Arrays) → AreArrays
+    frame.components kept
     → AllByRecursion (IsOf frame) codings
-    → AreArrays (components_of codings) arrays → AreArrays frame.components (put_arrays codings arrays held)
+    → AreArrays (components_of codings) arrays → AreArrays frame.components (put_arrays codings
+    arrays kept)
 unfolding put_arrays AreArrays
-held-sized frame (c ∷ codings) (a ∷ arrays) held h of k =
-    held-sized frame codings arrays (set held c.place a)
+kept-sized frame (c ∷ codings) (a ∷ arrays) kept h of k =
+    kept-sized frame codings arrays (set kept c.index a)
     (grind (arith, common_steps, set-sized, sized)) of.1 k.1
-held-sized frame codings arrays held h of k = h
+kept-sized frame codings arrays kept h of k = h
 
 -- ---- scans
 
@@ -105,7 +115,8 @@ sequential-scan found frame scan c codings bytes process fits of =
     let all = c ∷ codings in
     let cs = components_of all in
     let fit = fits-of frame all fits of in
-    let start : (if is_progressive frame.process && found.scanned then found.held else zero_arrays frame.components)
+    let start : (if is_progressive frame.process && found.scanned then found.kept else zero_arrays
+    frame.components)
     ≡ zero_arrays frame.components
     = search rules in
     (grind (arith, zeros-of frame all of))
@@ -122,7 +133,8 @@ pub progressive-scan : (found : Found) (frame : Frame) (scan : Scan) (c : Coding
     (spots_of frame (components_of (c ∷ codings)))
     (arrays_of (c ∷ codings) (arrays_before found frame)) bytes
 unfolding scan_arrays
-progressive-scan found frame scan c codings bytes held fits of = rw (
+progressive-scan found frame scan c codings bytes kept fits of = rw (
     frame-scans frame (components_of (c ∷ codings)) (pass_of scan) (vias_from 0 (c ∷ codings)) (found.restart *
     mcu_size (components_of (c ∷ codings))) (arrays_of (c ∷ codings) (arrays_before found frame)) bytes (fits-of frame
-    (c ∷ codings) fits of) (arrays-sized frame (c ∷ codings) (arrays_before found frame) held of)) refl
+    (c ∷ codings) fits of) (arrays-sized frame (c ∷ codings) (arrays_before found frame) kept of))
+    refl

@@ -10,22 +10,23 @@ use Rattle.jpeg_segments.specs.ScanHeaders.{AreChoices, Choice, IsScan, ScanHead
 use Rattle.jpeg_segments.specs.ScanHeaders.{selector_for}
 use Rattle.jpeg_segments.proofs.Fields.{nibbles-high, nibbles-low}
 use Rattle.jpeg_streams.specs.ScanSegments.{pass_of}
-use Rattle.jpeg_streams.proofs.PlacesApart.{IsAbsent, AreApart}
+use Rattle.jpeg_streams.proofs.IndicesApart.{IsAbsent, AreApart}
 use Rattle.jpeg_streams.proofs.BroughtLevels.{PassSo, ScanFacts, progressive-pass}
 
 -- ---- the components, each after those before it
 
-places_of : Frame → List Choice → List ℕ
-places_of f cs = map (λ s. s.component) (map (selector_for f) cs)
+indices_of : Frame → List Choice → List ℕ
+indices_of f cs = map (λ s. s.component) (map (selector_for f) cs)
 
 absent-after : (f : Frame) (n least : ℕ) (cs : List Choice) → n < least → AreChoices f least cs
-    → IsAbsent n (places_of f cs)
-unfolding AreChoices places_of
+    → IsAbsent n (indices_of f cs)
+unfolding AreChoices indices_of
 absent-after f n least [] h are = tt
 absent-after f n least (c ∷ cs) h are = search (rules, absent-after f n (c.component + 1) cs (omega arith) are.1)
 
-all-apart : (f : Frame) (least : ℕ) (cs : List Choice) → AreChoices f least cs → AreApart (places_of f cs)
-unfolding AreChoices places_of
+all-apart : (f : Frame) (least : ℕ) (cs : List Choice) → AreChoices f least cs → AreApart
+    (indices_of f cs)
+unfolding AreChoices indices_of
 all-apart f least [] are = tt
 all-apart f least (c ∷ cs) are = search (rules, absent-after, all-apart f (c.component + 1) cs are.1)
 
@@ -39,5 +40,5 @@ scan-is f sel first last levels n b = grind (arith, common_steps, eqb-true, prog
 
 -- What a scan header that is written says.
 pub header-facts : (f : Frame) (h : ScanHeader) → IsScan f h → f.process ≢ Lossless → ScanFacts f (scan_written f h)
-unfolding places_of scan_of
+unfolding indices_of scan_of
 header-facts f h is n = search (rules, length-map, nibbles-high, nibbles-low, all-apart, scan-is)

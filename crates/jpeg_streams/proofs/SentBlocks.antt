@@ -15,8 +15,8 @@ abbrev pub scaled : ℕ → ℤ → ℤ
 scaled al u = u *ℤ pos (2 ^ al)
 
 -- what is held of a number before its refinement to level al
-abbrev pub held : ℕ → ℤ → ℤ
-held al u = scaled (suc al) (halved u)
+abbrev pub kept : ℕ → ℤ → ℤ
+kept al u = scaled (suc al) (halved u)
 
 -- a number of a band fits, and its bits stand beside a run in a symbol
 pub record InRange (al : ℕ) (u : ℤ) : Type 0 where
@@ -32,13 +32,13 @@ abbrev pub floor_half : ℤ → ℤ
 floor_half (pos n) = pos (n / 2)
 floor_half (negsuc n) = negsuc (n / 2)
 
-abbrev pub dc_held : ℕ → ℤ → ℤ
-dc_held al u = scaled (suc al) (floor_half u)
+abbrev pub dc_kept : ℕ → ℤ → ℤ
+dc_kept al u = scaled (suc al) (floor_half u)
 
 -- What is held of a block before the pass, where u has its numbers at the level of the pass.
 pub record Suits (p : Pass) (old u : Block) : Type 0 where
   pub unsent : p.is_first ≡ true → band_of p old.acs ≡ no_numbers (length (band_of p u.acs))
-  pub sent : p.is_first ≡ false → band_of p old.acs ≡ map (held p.al) (band_of p u.acs)
+  pub sent : p.is_first ≡ false → band_of p old.acs ≡ map (kept p.al) (band_of p u.acs)
   pub range : AllByRecursion (InRange p.al) (band_of p u.acs)
   pub dc_range : InDcRange u.dc
   pub dc_fits : wrapped (scaled p.al u.dc) ≡ scaled p.al u.dc

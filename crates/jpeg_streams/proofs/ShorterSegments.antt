@@ -11,9 +11,11 @@ use Rattle.jpeg_segments.specs.Application.{Application, passed_over, adobe_by, 
 use Rattle.jpeg_segments.specs.Application.{app_at, dri_at}
 use Rattle.jpeg_segments.specs.declared.parser.AdobeColorTransform.{AdobeColorTransform}
 use Rattle.jpeg_segments.specs.Quantization as quantization
-use Rattle.jpeg_segments.specs.Quantization.{table_size, value_at, table_at, placed_table_at, dqt_at}
+use Rattle.jpeg_segments.specs.Quantization.{table_size, value_at, table_at, defined_table_at}
+use Rattle.jpeg_segments.specs.Quantization.{dqt_at}
 use Rattle.jpeg_segments.specs.HuffmanTables as huffman
-use Rattle.jpeg_segments.specs.HuffmanTables.{symbols_at, codes_at, placed_codes_at, dht_at, class_of}
+use Rattle.jpeg_segments.specs.HuffmanTables.{symbols_at, codes_at, defined_codes_at, dht_at}
+use Rattle.jpeg_segments.specs.HuffmanTables.{class_of}
 use Rattle.jpeg_streams.proofs.Shorter.{below_steps, LeavesBelow, below-ok, below-err, below-else}
 
 -- ---- frames
@@ -54,8 +56,9 @@ table-below : (limit : ℕ) (is_wide : Bool) (bytes : List ℕ) → length bytes
 unfolding table_at value_at
 table-below limit is_wide bytes h = search (below_steps) depth 12
 
-placed-below : (limit left : ℕ) (bytes : List ℕ) → length bytes < limit → LeavesBelow limit (placed_table_at left bytes)
-unfolding placed_table_at
+placed-below : (limit left : ℕ) (bytes : List ℕ) → length bytes < limit → LeavesBelow limit
+    (defined_table_at left bytes)
+unfolding defined_table_at
 placed-below limit left bytes h = search (below_steps, table-below) depth 12
 
 quantization-below : (limit most left : ℕ) (tables : quantization.QuantizationTables) (bytes : List
@@ -82,17 +85,17 @@ codes-below : (limit left : ℕ) (class : HuffmanTableClass) (bytes : List ℕ) 
 unfolding codes_at
 codes-below limit left class bytes h = search (below_steps, symbols-below) depth 12
 
-placed_codes-below : (limit greatest left : ℕ) (bytes : List ℕ) → length bytes < limit
-    → LeavesBelow limit (placed_codes_at greatest left bytes)
-unfolding placed_codes_at
-placed_codes-below limit greatest left bytes h = search (below_steps, codes-below) depth 12
+defined_codes-below : (limit greatest left : ℕ) (bytes : List ℕ) → length bytes < limit
+    → LeavesBelow limit (defined_codes_at greatest left bytes)
+unfolding defined_codes_at
+defined_codes-below limit greatest left bytes h = search (below_steps, codes-below) depth 12
 
 huffman-below : (limit most greatest left : ℕ) (tables : huffman.Tables) (bytes : List ℕ) → length bytes < limit
     → LeavesBelow limit (huffman.tables_from most greatest left tables bytes)
 unfolding huffman.tables_from
 huffman-below limit zero greatest left tables bytes h = search (below_steps) depth 12
 huffman-below limit (suc most) greatest left tables bytes h =
-    search (below_steps, placed_codes-below, huffman-below limit most greatest) depth 12
+    search (below_steps, defined_codes-below, huffman-below limit most greatest) depth 12
 
 pub dht-below : (limit : ℕ) (is_baseline : Option Bool) (bytes : List ℕ) → length bytes ≤ limit
     → LeavesBelow limit (dht_at is_baseline bytes)
@@ -105,15 +108,16 @@ count-below : (limit : ℕ) (bytes : List ℕ) → length bytes ≤ limit → Le
 unfolding count_at
 count-below limit bytes h = search (below_steps) depth 12
 
-tables-below : (limit : ℕ) (frame : Frame) (place : ℕ) (bytes : List ℕ) → length bytes < limit
-    → LeavesBelow limit (destinations_at frame place bytes)
+tables-below : (limit : ℕ) (frame : Frame) (index : ℕ) (bytes : List ℕ) → length bytes < limit
+    → LeavesBelow limit (destinations_at frame index bytes)
 unfolding destinations_at
-tables-below limit frame place bytes h = search (below_steps) depth 12
+tables-below limit frame index bytes h = search (below_steps) depth 12
 
-named_tables-below : (limit : ℕ) (frame : Frame) (least : ℕ) (place : Option ℕ) (bytes : List ℕ) → length bytes < limit
-    → LeavesBelow limit (tables_by frame least place bytes)
+named_tables-below : (limit : ℕ) (frame : Frame) (least : ℕ) (index : Option ℕ) (bytes : List ℕ) →
+    length bytes < limit
+    → LeavesBelow limit (tables_by frame least index bytes)
 named_tables-below limit frame least None bytes h = below-err Selector limit _
-named_tables-below limit frame least (Some place) bytes h = search (rules, below-else, tables-below)
+named_tables-below limit frame least (Some index) bytes h = search (rules, below-else, tables-below)
 
 selector-below : (limit : ℕ) (frame : Frame) (least : ℕ) (bytes : List ℕ) → length bytes < limit
     → LeavesBelow limit (selector_at frame least bytes)

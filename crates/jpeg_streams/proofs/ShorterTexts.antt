@@ -21,7 +21,7 @@ EndsBelow limit (Found m rest) = length rest < limit
 EndsBelow limit (Broken f) = Unit {0}
 
 pub record IsBelow (limit : ℕ) (t : Text) : Type 0 where
-  pub places : AllBelow limit t.places
+  pub following : AllBelow limit t.following
   pub ending : EndsBelow limit t.ending
 
 drop-below : (limit n : ℕ) (ps : List (List ℕ)) → AllBelow limit ps → AllBelow limit (drop n ps)
@@ -44,11 +44,15 @@ ending-below : (limit : ℕ) (x : DataEnd × List ℕ) → length x.1 < limit �
 ending-below limit x h = search rules
 
 no_bits-below : (limit : ℕ) (e : Ending) → EndsBelow limit e → IsBelow limit (no_bits e)
-no_bits-below limit e h = record { places = tt; ending = h }
+no_bits-below limit e h = record { following = tt; ending = h }
 
 add-below : (limit b : ℕ) (rest : List ℕ) (t : Text) → length rest < limit → IsBelow limit t
     → IsBelow limit (add_byte b rest t)
-add-below limit b rest t h a = record { places = repeated-below limit 8 rest t.places h a.places; ending = a.ending }
+add-below limit b rest t h a = record {
+  following = repeated-below limit 8 rest t.following h
+      a.following;
+  ending = a.ending;
+}
 
 cond-below : (limit : ℕ) (b : Bool) (x y : Text) → IsBelow limit x → IsBelow limit y
     → IsBelow limit (if b then x else y)
@@ -71,7 +75,11 @@ upcoming-below limit bytes h =
     search (rules, drop-below)
 
 pub advance-below : (limit n : ℕ) (t : Text) → IsBelow limit t → IsBelow limit (advance n t)
-advance-below limit n t h = record { places = drop-below limit n t.places h.places; ending = h.ending }
+advance-below limit n t h = record {
+  following = drop-below limit n t.following h.following;
+  ending
+      = h.ending;
+}
 
 -- the end of a text
 pub marker_from-below : (limit : ℕ) (t : Text) → IsBelow limit t → LeavesBelow limit (marker_from t)
@@ -91,7 +99,7 @@ takes-below {A} limit p t h a = go (p t) refl
   where
     go : (o : Result (A × Text) Fault) → p t ≡ o → AfterIsBelow limit o
     go (Ok x) e =
-        let r = h.taken t.bits t.places t.ending x.0 x.1 e in
+        let r = h.taken t.bits t.following t.ending x.0 x.1 e in
         subst (λ (u : Text). IsBelow limit u) (sym r.left_is) (advance-below limit r.n t a)
     go (Err fault) e = tt
 

@@ -100,7 +100,8 @@ record ReadAt (width height : ℕ) (array : Coefficients) (tail bytes : List ℕ
       (segments_at false Elsewhere (sized_to width height header) None left)
 
 read-at : (width height : ℕ) (array : Coefficients) (tail bytes : List ℕ) (final : Found) (last : ℕ → Levels)
-    → ((place row column : ℕ) → Is8Bit (array place row column)) → WritesImage array bytes final last
+    → ((index row column : ℕ) → Is8Bit (array index row column)) → WritesImage array bytes final
+    last
     → ReadAt width height array tail (bytes ++ tail) final last
 unfolding header_at segments_at
 read-at width height array tail bytes final last range w =
@@ -140,7 +141,8 @@ read-at width height array tail bytes final last range w =
 -- The meaning at a scale is the picture of the array at that scale.
 pub stream-means_sized : (width height : ℕ) (settings : Settings) (array : Coefficients) (bytes rest : List ℕ)
     (final : Found) (last : ℕ → Levels)
-    → ((place row column : ℕ) → Is8Bit (array place row column)) → WritesImage array bytes final last
+    → ((index row column : ℕ) → Is8Bit (array index row column)) → WritesImage array bytes final
+    last
     → sized_meaning width height settings (bytes ++ rest)
     ≡ meaning_of_array settings (sized_to width height final) array last rest
 unfolding sized_meaning
@@ -149,7 +151,8 @@ stream-means_sized width height settings array bytes rest final last range w =
     let end = r.read.end in
     let known = at_frame final r.frame in
     (then-ok (header_at (bytes ++ rest)) _ (r.header, r.left) _ r.is refl)
-    ∙ rest-by settings (sized_to width height r.header) (reading known true end.held end.finished end.planes) r.left rest
+    ∙ rest-by settings (sized_to width height r.header) (reading known true end.kept end.finished
+    end.planes) r.left rest
     r.read.is
     ∙ ap (λ (o : Result (List ℕ) Fault). o >>= (λ (picture : List ℕ). Ok ((told_of known, picture), rest)))
     (pictures-same settings r.frame array known last r.shape end)
@@ -158,7 +161,8 @@ stream-means_sized width height settings array bytes rest final last range w =
 -- A written stream whose picture is taken means one at each scale.
 pub sized-taken : (width height : ℕ) (settings : Settings) (array : Coefficients) (bytes rest : List ℕ)
     (final : Found) (last : ℕ → Levels)
-    → ((place row column : ℕ) → Is8Bit (array place row column)) → WritesImage array bytes final last
+    → ((index row column : ℕ) → Is8Bit (array index row column)) → WritesImage array bytes final
+    last
     → TakesPicture settings (sized_to width height final)
     → (picture : List ℕ) × (picture_of_array settings (sized_to width height final) array last ≡ Ok picture)
     × (sized_meaning width height settings (bytes ++ rest)

@@ -82,11 +82,11 @@ decoded-scaled s f e full p = search (rules, scaled_again)
 -- ---- states
 
 pub sound_kept : (old new : Found) → IsSound old → new.frame ≡ old.frame → new.scanned ≡ old.scanned
-    → new.held ≡ old.held → new.planes ≡ old.planes → new.samples ≡ old.samples → IsSound new
+    → new.kept ≡ old.kept → new.planes ≡ old.planes → new.samples ≡ old.samples → IsSound new
 unfolding arrays_before
 sound_kept old new p a b c d s = record {
   frames = λ f e. p.frames f (sym a ∙ e);
-  held = λ f e. subst (AreArrays f.components) (sym (rw (b, c) refl)) (p.held f (sym a ∙ e));
+  kept = λ f e. subst (AreArrays f.components) (sym (rw (b, c) refl)) (p.kept f (sym a ∙ e));
   planes = λ f e. subst (ArePlanes f.components) (sym d) (p.planes f (sym a ∙ e));
   samples = search rules;
   unread = λ e. let q = p.unread (sym a ∙ e) in (b ∙ q.0, d ∙ q.1, s ∙ q.2);

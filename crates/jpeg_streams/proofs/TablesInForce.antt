@@ -21,10 +21,12 @@ pub tables-start : HasTables nothing_found.huffman
 unfolding nothing_found
 tables-start = no-tables
 
-good-defaults : (one two : Table) (places : List ℕ) (l : List (Option Table)) → IsTable one → IsTable two
-    → AllByRecursion IsTableOrNone l → AllByRecursion IsTableOrNone (with_defaults one two places l)
-good-defaults one two places [] a b h = tt
-good-defaults one two places l a b h = search rules
+good-defaults : (one two : Table) (indices : List ℕ) (l : List (Option Table)) → IsTable one →
+    IsTable two
+    → AllByRecursion IsTableOrNone l → AllByRecursion IsTableOrNone (with_defaults one two indices
+    l)
+good-defaults one two indices [] a b h = tt
+good-defaults one two indices l a b h = search rules
 
 needed-good : (b : Bool) (class : HuffmanTableClass) (l : List (Option Table)) (i : ℕ) (t : Table)
     → AllByRecursion IsTableOrNone l → InForce b class l i t → IsTable t
@@ -35,16 +37,18 @@ needed-good false class l i t h e = subst IsTable (sym e) (record {
       (let n = no-codes class in omega arith);
 })
 
-codings-good_from : (w : Found) (f : Frame) (p : Pass) (tables : Tables) (places ds ks : List ℕ)
-    (codings : List Coding) → HasTables tables → AreCodings w f p tables places ds ks codings
+codings-good_from : (w : Found) (f : Frame) (p : Pass) (tables : Tables) (indices ds ks : List ℕ)
+    (codings : List Coding) → HasTables tables → AreCodings w f p tables indices ds ks codings
     → AllByRecursion (λ c. IsTable c.dc × IsTable c.ac) codings
-codings-good_from w f p tables places ds ks codings h no_more = tt
-codings-good_from w f p tables places ds ks codings h (and_more place d a places' ds' ks' k more is r) =
-    search (rules, needed-good, codings-good_from w f p tables places' ds' ks' more h r)
+codings-good_from w f p tables indices ds ks codings h no_more = tt
+codings-good_from w f p tables indices ds ks codings h (and_more index d a indices' ds' ks' k more
+    is r) =
+    search (rules, needed-good, codings-good_from w f p tables indices' ds' ks' more h r)
 
 -- The tables of a scan exist.
 pub codings-good : (w : Found) (f : Frame) (s : Scan) (codings : List Coding) → HasTables w.huffman
-    → AreCodings w f (pass_of s) (tables_of w s) s.components s.dc_places s.ac_places codings
+    → AreCodings w f (pass_of s) (tables_of w s) s.components s.dc_destinations s.ac_destinations
+    codings
     → AllByRecursion (λ c. IsTable c.dc × IsTable c.ac) codings
 unfolding tables_of
 codings-good w f s codings h are = search (

@@ -7,7 +7,8 @@ use Rattle.jpeg_bits.specs.Reading.{Fault, End, Malformed}
 use Rattle.jpeg_bits.specs.Reading as outcomes
 use Rattle.jpeg_bits.specs.Entropy.{advance, bits_from, has_bits, number_of, Broken, Ending, Found, Text}
 use Rattle.jpeg_bits.specs.Readers.{Reads, read_on, gives, refused, signed_from, text, ◌>>=◌}
-use Rattle.jpeg_bits.specs.Codes.{Table, code_by, code_from, code_in, code_lengths, if_held, next_16, symbol_by}
+use Rattle.jpeg_bits.specs.Codes.{Table, code_by, code_from, code_in, code_lengths, if_kept}
+use Rattle.jpeg_bits.specs.Codes.{next_16, symbol_by}
 use Rattle.jpeg_bits.specs.Codes.{symbol_from}
 use Rattle.std.specs.Prelude.{◌==◌, nat_lt}
 use Rattle.std.proofs.lemmas.Grind.{common_steps}
@@ -39,34 +40,38 @@ bind-parts {A} {B} p f s t y e = grind (arith, no-error)
 -- ---- readers
 
 -- What was read of a text: n bits. Where nothing follows the text's bits, the same is read of them whatever follows.
-pub record TakesSo {A : Type 0} (p : Reads A) (bits : List Bool) (places : List (List ℕ)) (e : Ending) (x : A)
+pub record TakesSo {A : Type 0} (p : Reads A) (bits : List Bool) (following : List (List ℕ)) (e :
+    Ending) (x : A)
     (left : Text) : Type 0 where
   pub n : ℕ
-  pub left_is : left ≡ text (drop n bits) (drop n places) e
+  pub left_is : left ≡ text (drop n bits) (drop n following) e
   pub anywhere : e ≡ Broken End → (ps : List (List ℕ)) (f : Ending)
       → p (text bits ps f) ≡ Ok (x, text (drop n bits) (drop n ps) f)
 
 pub record TakesBits {A : Type 0} (p : Reads A) : Type 0 where
-  pub taken : (bits : List Bool) (places : List (List ℕ)) (e : Ending) (x : A) (left : Text)
-      → p (text bits places e) ≡ Ok (x, left) → TakesSo p bits places e x left
+  pub taken : (bits : List Bool) (following : List (List ℕ)) (e : Ending) (x : A) (left : Text)
+      → p (text bits following e) ≡ Ok (x, left) → TakesSo p bits following e x left
 
-dropped-twice : {A : Type 0} (x : A) (m n : ℕ) (bits : List Bool) (places : List (List ℕ)) (e : Ending)
-    → ◌≡◌ {A = A × Text} (x, text (drop m (drop n bits)) (drop m (drop n places)) e)
-    (x, text (drop (n + m) bits) (drop (n + m) places) e)
-dropped-twice x m n bits places e =
-    ap₂ (λ (l : List Bool) (ps : List (List ℕ)). (x, text l ps e)) (drop-drop m n bits) (drop-drop m n places)
+dropped-twice : {A : Type 0} (x : A) (m n : ℕ) (bits : List Bool) (following : List (List ℕ)) (e :
+    Ending)
+    → ◌≡◌ {A = A × Text} (x, text (drop m (drop n bits)) (drop m (drop n following)) e)
+    (x, text (drop (n + m) bits) (drop (n + m) following) e)
+dropped-twice x m n bits following e =
+    ap₂ (λ (l : List Bool) (ps : List (List ℕ)). (x, text l ps e)) (drop-drop m n bits) (drop-drop
+    m n following)
 
 pub bind-takes : {A B : Type 0} (p : Reads A) (f : A → Reads B) → TakesBits p → ((x : A) → TakesBits (f x))
     → TakesBits (p >>= f)
 bind-takes {A} {B} p f h each = record {
-  taken = λ bits places e y left k.
-      let r = bind-parts p f (text bits places e) left y k in
-      let one = h.taken bits places e r.0 r.1 r.2 in
-      let two = (each r.0).taken (drop one.n bits) (drop one.n places) e y left
+  taken = λ bits following e y left k.
+      let r = bind-parts p f (text bits following e) left y k in
+      let one = h.taken bits following e r.0 r.1 r.2 in
+      let two = (each r.0).taken (drop one.n bits) (drop one.n following) e y left
       (ap (f r.0) (sym one.left_is) ∙ r.3) in
       record {
         n = one.n + two.n;
-        left_is = two.left_is ∙ ap (λ (r : B × Text). r.1) (dropped-twice y two.n one.n bits places e);
+        left_is = two.left_is ∙ ap (λ (r : B × Text). r.1) (dropped-twice y two.n one.n bits
+            following e);
         anywhere = λ b ps g.
             ap (read_on f) (one.anywhere b ps g) ∙ two.anywhere b (drop one.n ps) g
             ∙ ap (λ (r : B × Text). Ok r) (dropped-twice y two.n one.n bits ps g);
@@ -75,13 +80,18 @@ bind-takes {A} {B} p f h each = record {
 
 pub gives-takes : {A : Type 0} (x : A) → TakesBits (gives x)
 gives-takes {A} x = record {
-  taken = λ bits places e y left k.
-      let q = ok-parts x y (text bits places e) left k in
+  taken = λ bits following e y left k.
+      let q = ok-parts x y (text bits following e) left k in
       record { n = 0; left_is = sym q.1; anywhere = λ b ps f. ap (λ (z : A). Ok (z, text bits ps f)) q.0 };
 }
 
 pub refused-takes : (A : Type 0) → TakesBits {A = A} refused
-refused-takes A = record { taken = λ bits places e y left k. absurd (no-error Malformed (y, left) k) }
+refused-takes A = record {
+  taken = λ bits following e y left k. absurd (no-error Malformed (
+    y,
+    left,
+  ) k);
+}
 
 pub elim-takes : {A : Type 0} (b : Bool) (p q : Reads A) → TakesBits p → TakesBits q
     → TakesBits (elim b as (λ _. Reads A) [ true ↦ p | false ↦ q ])
@@ -106,20 +116,24 @@ abbrev takes_bits : {A : Type 0} → ℕ → A → Text → Result (Unit {0}) Fa
 takes_bits n x t o = outcomes.◌>>=◌ o (λ _. Ok (x, advance n t))
 
 -- what it reads, as far as it depends on nothing but its bits
-record TakesN {A : Type 0} (n : ℕ) (x y : A) (bits : List Bool) (places : List (List ℕ)) (e : Ending) (left : Text)
+record TakesN {A : Type 0} (n : ℕ) (x y : A) (bits : List Bool) (following : List (List ℕ)) (e :
+    Ending) (left : Text)
     : Type 0 where
-  left_is : left ≡ text (drop n bits) (drop n places) e
+  left_is : left ≡ text (drop n bits) (drop n following) e
   anywhere : e ≡ Broken End → (ps : List (List ℕ)) (f : Ending)
       → takes_bits n x (text bits ps f) (has_bits n bits f) ≡ Ok (y, text (drop n bits) (drop n ps) f)
 
-taken-n : {A : Type 0} (n : ℕ) (x y : A) (bits : List Bool) (places : List (List ℕ)) (e : Ending) (left : Text)
-    → takes_bits n x (text bits places e) (has_bits n bits e) ≡ Ok (y, left) → TakesN n x y bits places e left
-taken-n {A} n x y bits places e left k = go (has_bits n bits e) refl k
+taken-n : {A : Type 0} (n : ℕ) (x y : A) (bits : List Bool) (following : List (List ℕ)) (e :
+    Ending) (left : Text)
+    → takes_bits n x (text bits following e) (has_bits n bits e) ≡ Ok (y, left) → TakesN n x y bits
+    following e left
+taken-n {A} n x y bits following e left k = go (has_bits n bits e) refl k
   where
-    go : (o : Result (Unit {0}) Fault) → has_bits n bits e ≡ o → takes_bits n x (text bits places e) o ≡ Ok (y, left)
-        → TakesN n x y bits places e left
+    go : (o : Result (Unit {0}) Fault) → has_bits n bits e ≡ o → takes_bits n x (text bits
+        following e) o ≡ Ok (y, left)
+        → TakesN n x y bits following e left
     go (Ok u) h k =
-        let q = ok-parts x y (advance n (text bits places e)) left k in
+        let q = ok-parts x y (advance n (text bits following e)) left k in
         record {
           left_is = sym q.1;
           anywhere = λ b ps f.
@@ -129,32 +143,36 @@ taken-n {A} n x y bits places e left k = go (has_bits n bits e) refl k
         }
     go (Err f) h k = absurd (no-error f (y, left) k)
 
--- the same by `if_held`
-held-as : {A : Type 0} (n : ℕ) (x : A) (t : Text) (o : Result (Unit {0}) Fault)
-    → if_held x (advance n t) o ≡ takes_bits n x t o
-held-as n x t (Ok u) = refl
-held-as n x t (Err f) = refl
+-- the same by `if_kept`
+kept-as : {A : Type 0} (n : ℕ) (x : A) (t : Text) (o : Result (Unit {0}) Fault)
+    → if_kept x (advance n t) o ≡ takes_bits n x t o
+kept-as n x t (Ok u) = refl
+kept-as n x t (Err f) = refl
 
 pub bits-takes : (n : ℕ) → TakesBits (bits_from n)
 unfolding bits_from
 bits-takes n = record {
-  taken = λ bits places e v left k.
-      let r = taken-n n (number_of (take n (bits ++ replicate n false))) v bits places e left k in
+  taken = λ bits following e v left k.
+      let r = taken-n n (number_of (take n (bits ++ replicate n false))) v bits following e left k
+      in
       record { n = n; left_is = r.left_is; anywhere = r.anywhere };
 }
 
 pub symbol-takes : (table : Table) → TakesBits (symbol_from table)
 unfolding symbol_from
 symbol-takes table = record {
-  taken = λ bits places e v left k. go bits places e v left (code_in (code_lengths table.counts) (next_16 bits)) refl k;
+  taken = λ bits following e v left k. go bits following e v left (code_in (code_lengths
+      table.counts) (next_16 bits)) refl k;
 }
   where
-    go : (bits : List Bool) (places : List (List ℕ)) (e : Ending) (v : ℕ) (left : Text) (o : Option (ℕ × ℕ))
-        → code_in (code_lengths table.counts) (next_16 bits) ≡ o → symbol_by table (text bits places e) o ≡ Ok (v, left)
-        → TakesSo (symbol_from table) bits places e v left
-    go bits places e v left None h k = absurd (no-error Malformed (v, left) k)
-    go bits places e v left (Some c) h k =
-        let r = taken-n c.1 (slice_index table.symbols c.0) v bits places e left k in
+    go : (bits : List Bool) (following : List (List ℕ)) (e : Ending) (v : ℕ) (left : Text) (o :
+        Option (ℕ × ℕ))
+        → code_in (code_lengths table.counts) (next_16 bits) ≡ o → symbol_by table (text bits
+        following e) o ≡ Ok (v, left)
+        → TakesSo (symbol_from table) bits following e v left
+    go bits following e v left None h k = absurd (no-error Malformed (v, left) k)
+    go bits following e v left (Some c) h k =
+        let r = taken-n c.1 (slice_index table.symbols c.0) v bits following e left k in
         record {
           n = c.1;
           left_is = r.left_is;
@@ -164,22 +182,25 @@ symbol-takes table = record {
 code-takes : (table : Table) → TakesBits (code_from table)
 unfolding code_from
 code-takes table = record {
-  taken = λ bits places e v left k. go bits places e v left (code_in (code_lengths table.counts) (next_16 bits)) refl k;
+  taken = λ bits following e v left k. go bits following e v left (code_in (code_lengths
+      table.counts) (next_16 bits)) refl k;
 }
   where
-    go : (bits : List Bool) (places : List (List ℕ)) (e : Ending) (v : ℕ × ℕ) (left : Text) (o : Option (ℕ × ℕ))
-        → code_in (code_lengths table.counts) (next_16 bits) ≡ o → code_by table (text bits places e) o ≡ Ok (v, left)
-        → TakesSo (code_from table) bits places e v left
-    go bits places e v left None h k = absurd (no-error Malformed (v, left) k)
-    go bits places e v left (Some c) h k =
+    go : (bits : List Bool) (following : List (List ℕ)) (e : Ending) (v : ℕ × ℕ) (left : Text) (o :
+        Option (ℕ × ℕ))
+        → code_in (code_lengths table.counts) (next_16 bits) ≡ o → code_by table (text bits
+        following e) o ≡ Ok (v, left)
+        → TakesSo (code_from table) bits following e v left
+    go bits following e v left None h k = absurd (no-error Malformed (v, left) k)
+    go bits following e v left (Some c) h k =
         let x : ℕ × ℕ = (c.1, slice_index table.symbols c.0) in
-        let r = taken-n c.1 x v bits places e left
-        (sym (held-as c.1 x (text bits places e) (has_bits c.1 bits e)) ∙ k) in
+        let r = taken-n c.1 x v bits following e left
+        (sym (kept-as c.1 x (text bits following e) (has_bits c.1 bits e)) ∙ k) in
         record {
           n = c.1;
           left_is = r.left_is;
           anywhere = λ b ps f. ap (code_by table (text bits ps f)) h
-              ∙ held-as c.1 x (text bits ps f) (has_bits c.1 bits f) ∙ r.anywhere b ps f;
+              ∙ kept-as c.1 x (text bits ps f) (has_bits c.1 bits f) ∙ r.anywhere b ps f;
         }
 
 pub signed-takes : (n : ℕ) → TakesBits (signed_from n)

@@ -14,10 +14,11 @@ use Rattle.jpeg_bits.specs.Codes.{code_lengths, codes_exist}
 use Rattle.jpeg_bits.specs.Intervals.{predictors_at_start}
 use Rattle.jpeg_bits.specs.Passes.{band_of, Block, Pass, Via}
 use Rattle.jpeg_bits.specs.Written.{bits_of_bytes, IsCategory, stuffed}
-use Rattle.jpeg_segments.specs.Frame.{Factors, Frame, is_count, is_factor, is_lossless_number, is_place, is_precision}
+use Rattle.jpeg_segments.specs.Frame.{Factors, Frame, is_count, is_factor, is_lossless_number}
+use Rattle.jpeg_segments.specs.Frame.{is_destination, is_precision}
 use Rattle.jpeg_segments.specs.Frame.{is_taken}
-use Rattle.jpeg_segments.specs.HuffmanTables.{greatest_place, PlacedTable}
-use Rattle.jpeg_segments.specs.ScanHeader.{is_band, is_mcu, place_of, scan_of}
+use Rattle.jpeg_segments.specs.HuffmanTables.{greatest_destination, DefinedTable}
+use Rattle.jpeg_segments.specs.ScanHeader.{is_band, is_mcu, index_of, scan_of}
 use Rattle.jpeg_segments.specs.ScanHeaders.{AreChoices, Choice, IsScan, ScanHeader, scan_written}
 use Rattle.jpeg_segments.specs.ScanHeaders.{selector_for}
 use Rattle.jpeg_segments.specs.WrittenSegments.{AreComponents, FrameHeader, IsFrameHeader}
@@ -53,24 +54,26 @@ some-of (suc n) v h = (h, some-of n v h)
 
 -- a quantization table of one value
 abbrev pub table_of_one : ℕ → ℕ → QuantizationTable
-table_of_one place v = record { precision = 0; place = place; values = replicate 64 v }
+table_of_one index v = record { precision = 0; destination = index; values = replicate 64 v }
 
-pub one-quantizes : (place v : ℕ) → place ≤ 3 → 0 < v → IsQuantizationTable (table_of_one place v)
-one-quantizes place v h k = search (rules, some-of)
+pub one-quantizes : (index v : ℕ) → index ≤ 3 → 0 < v → IsQuantizationTable (table_of_one index v)
+one-quantizes index v h k = search (rules, some-of)
 
-abbrev is_table : PlacedTable → Bool
+abbrev is_table : DefinedTable → Bool
 is_table t =
     length t.table.counts == 16 && (length t.table.symbols == sum t.table.counts && (nat_le 1 (sum t.table.counts)
     && (nat_le (sum t.table.counts) 256 && codes_exist (code_lengths t.table.counts))))
 
-pub table-by : (most : ℕ) (t : PlacedTable) → t.place ≤ most → is_table t ≡ true → IsHuffmanTable most t
+pub table-by : (most : ℕ) (t : DefinedTable) → t.destination ≤ most → is_table t ≡ true →
+    IsHuffmanTable most t
 table-by most t h e = search (rules, nat_tests, tested-exist)
 
 abbrev are_components : ℕ → List Factors → List Factors → Bool
 are_components number front [] = true
 are_components number front (c ∷ more) =
     not (is_taken front c.identifier) && (is_factor c.horizontal && (is_factor c.vertical
-    && (is_place (is_lossless_number number) c.quantization && are_components number (front ++ c ∷ []) more)))
+    && (is_destination (is_lossless_number number) c.quantization && are_components number (front
+    ++ c ∷ []) more)))
 
 components-by : (number : ℕ) (front cs : List Factors) → are_components number front cs ≡ true
     → AreComponents number front cs
@@ -92,8 +95,9 @@ frame-by number h e = search (rules, nat_tests, components-by)
 abbrev are_choices : Frame → ℕ → List Choice → Bool
 are_choices frame least [] = true
 are_choices frame least (c ∷ more) =
-    is_at (place_of frame.components c.identifier) c.component && (nat_le least c.component
-    && (nat_le c.dc (greatest_place (Some frame.is_baseline)) && (nat_le c.ac (greatest_place (Some frame.is_baseline))
+    is_at (index_of frame.components c.identifier) c.component && (nat_le least c.component
+    && (nat_le c.dc (greatest_destination (Some frame.is_baseline)) && (nat_le c.ac
+    (greatest_destination (Some frame.is_baseline))
     && are_choices frame (c.component + 1) more)))
 
 choices-by : (frame : Frame) (least : ℕ) (cs : List Choice) → are_choices frame least cs ≡ true
@@ -144,7 +148,7 @@ legal-by p l e =
 -- a scan whose codings are found
 pub scan-legal : (w : Found) (frame : Frame) (levels : ℕ → Levels) (h : ScanHeader) (codings : List Coding)
     → codings_of w frame (scan_written frame h) ≡ Ok codings
-    → list_all (λ c. is_legal (pass_of (scan_written frame h)) (levels c.place)) codings ≡ true
+    → list_all (λ c. is_legal (pass_of (scan_written frame h)) (levels c.index)) codings ≡ true
     → IsLegalScan w frame levels (scan_written frame h) codings
 unfolding scan_of codings_of
 scan-legal w frame levels h codings e legal = grind (arith, common_steps, codings-back, all-by, legal-by)

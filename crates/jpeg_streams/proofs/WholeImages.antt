@@ -59,14 +59,22 @@ plane-same : (scale : ℕ) (table : List ℕ) (wide high : ℕ) (f g : ℕ → �
 unfolding plane_of
 plane-same scale table wide high f g h = grind (arith, common_steps, map-same)
 
-planes-whole : (said : Found) (array : Coefficients) (levels : ℕ → Levels) (place : ℕ) (cs : List Component)
-    → AllByRecursion (λ k. IsComplete (levels k)) (range_with_len place (length cs))
+planes-whole : (said : Found) (array : Coefficients) (levels : ℕ → Levels) (index : ℕ) (cs : List
+    Component)
+    → AllByRecursion (λ k. IsComplete (levels k)) (range_with_len index (length cs))
     → ((k row column : ℕ) → length (array k row column).acs ≡ length (levels k).acs)
-    → planes_of_blocks said (as_sent array levels) place cs ≡ planes_of_blocks said array place cs
+    → planes_of_blocks said (as_sent array levels) index cs ≡ planes_of_blocks said array index cs
 unfolding planes_of_blocks plane_of_blocks
-planes-whole said array levels place [] done h = refl
-planes-whole said array levels place (c ∷ cs) done h =
-    search (rules, bind_same, plane-same, cut-whole, planes-whole said array levels (place + 1) cs done.1 h)
+planes-whole said array levels index [] done h = refl
+planes-whole said array levels index (c ∷ cs) done h =
+    search (
+      rules,
+      bind_same,
+      plane-same,
+      cut-whole,
+      planes-whole said array levels (index + 1) cs
+          done.1 h,
+    )
 
 picture-whole : (settings : Settings) (said : Found) (array : Coefficients) (levels : ℕ → Levels) (frame : Frame)
     → said.frame ≡ Some frame → AllComplete frame levels
@@ -102,7 +110,7 @@ sequential-complete array said final levels last scanned bytes frame
     search (rules, sequential-complete array said final _ last true more frame w e n)
 
 pub whole-is : (settings : Settings) (array : Coefficients) (bytes tail : List ℕ) (final : Found) (last : ℕ → Levels)
-    (frame : Frame) → ((place row column : ℕ) → Is8Bit (array place row column))
+    (frame : Frame) → ((index row column : ℕ) → Is8Bit (array index row column))
     → WritesImage array bytes final last → final.frame ≡ Some frame → AllComplete frame last
     → meaning_of_array settings final array last tail ≡ whole_meaning settings final array tail
 whole-is settings array bytes tail final last frame range w e done = search (rules, levels-sized, picture-whole)
@@ -121,7 +129,8 @@ sized-count width height DctSequential frame = length-map frame.components _
 sized-count width height p frame = search (rules, length-map)
 
 pub sized-whole : (width height : ℕ) (settings : Settings) (array : Coefficients) (bytes tail : List ℕ)
-    (final : Found) (last : ℕ → Levels) (frame : Frame) → ((place row column : ℕ) → Is8Bit (array place row column))
+    (final : Found) (last : ℕ → Levels) (frame : Frame) → ((index row column : ℕ) → Is8Bit (array
+    index row column))
     → WritesImage array bytes final last → final.frame ≡ Some frame → AllComplete frame last
     → meaning_of_array settings (sized_to width height final) array last tail
     ≡ whole_meaning settings (sized_to width height final) array tail

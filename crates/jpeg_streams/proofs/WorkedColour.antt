@@ -56,17 +56,17 @@ abbrev table : HuffmanTableClass → ℕ → Table
 table class symbol = record { class = class; counts = 1 ∷ replicate 15 0; symbols = symbol ∷ [] }
 
 abbrev segment_of : Table → Segment
-segment_of t = Huffman (record { place = 0; table = t } ∷ [])
+segment_of t = Huffman (record { destination = 0; table = t } ∷ [])
 
 abbrev choice : ℕ → ℕ → Choice
-choice identifier place = record { identifier = identifier; component = place; dc = 0; ac = 0 }
+choice identifier index = record { identifier = identifier; component = index; dc = 0; ac = 0 }
 
 abbrev the_header : ScanHeader
 the_header = record { choices = choice 82 0 ∷ choice 71 1 ∷ choice 66 2 ∷ []; first = 0; last = 63; high = 0; low = 0 }
 
 abbrev coding : ℕ → Factors → Coding
-coding place x = record {
-  place = place;
+coding index x = record {
+  index = index;
   component = component_of 24 8 2 1 x;
   quantization = replicate 64 16;
   dc = table classes.DC 4;
@@ -100,11 +100,11 @@ sent-range slot index = search (rules, for-range, range-by)
 
 dc-coded : IsCoded (table classes.DC 4) 4 (false ∷ [])
 unfolding lengths_from code_value low_bits
-dc-coded = record { place = 0; listed = omega arith; is_for = refl; has_bits = refl }
+dc-coded = record { index = 0; listed = omega arith; is_for = refl; has_bits = refl }
 
 end-coded : IsCoded (table classes.AC 0) (16 * 0 + 0) (false ∷ [])
 unfolding lengths_from code_value low_bits
-end-coded = record { place = 0; listed = omega arith; is_for = refl; has_bits = refl }
+end-coded = record { index = 0; listed = omega arith; is_for = refl; has_bits = refl }
 
 no-ac : WritesAc (pass_of (scan_written the_frame the_header)) (table classes.AC 0) (replicate 63 (pos 0)) 0
     (false ∷ []) 0

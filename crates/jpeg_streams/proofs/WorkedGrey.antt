@@ -52,7 +52,7 @@ abbrev ac_table : Table
 ac_table = record { class = classes.AC; counts = 1 ∷ 1 ∷ 1 ∷ replicate 13 0; symbols = 1 ∷ 0 ∷ 16 ∷ [] }
 
 abbrev segment_of : Table → Segment
-segment_of table = Huffman (record { place = 0; table = table } ∷ [])
+segment_of table = Huffman (record { destination = 0; table = table } ∷ [])
 
 abbrev scan_header : ℕ → ℕ → ℕ → ℕ → ScanHeader
 scan_header from to high low = record {
@@ -77,7 +77,7 @@ header_4 = scan_header 1 63 1 0
 
 abbrev codings : Table → Table → List Coding
 codings dc ac = (record {
-  place = 0;
+  index = 0;
   component = component_of 24 8 1 1 factors;
   quantization = replicate 64 16;
   dc = dc;
@@ -96,10 +96,10 @@ codes : IsCoded dc_table 3 (false ∷ []) × IsCoded ac_table (16 * 0 + 1) (fals
     × IsCoded ac_table (16 * 0 + 0) (true ∷ false ∷ []) × IsCoded ac_table (16 * 1 + 0) (true ∷ true ∷ false ∷ [])
 unfolding lengths_from code_value low_bits
 codes = (
-  record { place = 0; listed = omega arith; is_for = refl; has_bits = refl },
-  record { place = 0; listed = omega arith; is_for = refl; has_bits = refl },
-  record { place = 1; listed = omega arith; is_for = refl; has_bits = refl },
-  record { place = 2; listed = omega arith; is_for = refl; has_bits = refl },
+  record { index = 0; listed = omega arith; is_for = refl; has_bits = refl },
+  record { index = 0; listed = omega arith; is_for = refl; has_bits = refl },
+  record { index = 1; listed = omega arith; is_for = refl; has_bits = refl },
+  record { index = 2; listed = omega arith; is_for = refl; has_bits = refl },
 )
 
 -- ---- data

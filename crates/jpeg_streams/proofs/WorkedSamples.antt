@@ -98,7 +98,7 @@ small-written zero e =
     of-category (pos 0) 0 (false ∷ []) (record { le = tt }) (record { le = tt }) refl (search rules)
 small-written (suc zero) e =
     of-category (pos 1) 1 (true ∷ false ∷ []) (record { le = tt }) (record { le = tt }) refl
-    (record { place = 1; listed = omega arith; is_for = refl; has_bits = refl })
+    (record { index = 1; listed = omega arith; is_for = refl; has_bits = refl })
 small-written (suc (suc n)) e = search (rules, eqb-true, less)
 
 row-written : (rs : List ℕ) → list_all is_small rs ≡ true
@@ -138,8 +138,8 @@ row-interval w lines rs data_bytes tables small whole short placed sized = recor
 
 -- a component, which has this identifier
 abbrev coding : ℕ → ℕ → LosslessCoding
-coding identifier place = record {
-  place = place;
+coding identifier index = record {
+  index = index;
   component = component_of 2 2 1 1 (plain_factors identifier);
   table = small_table;
 }
@@ -159,7 +159,7 @@ three-scans = (
     point = refl;
     interval = whole_rows 0;
     lines = _;
-    held = (refl, tt);
+    kept = (refl, tt);
     written = another 0 0 2 (((128 ∷ 129 ∷ []) ∷ []) ∷ []) (((128 ∷ 128 ∷ []) ∷ []) ∷ []) (0x5F ∷ []) (0x3F ∷ [])
         (omega arith)
         (row-interval _ _ (0 ∷ 1 ∷ []) (0x5F ∷ []) refl refl refl refl (refl, tt) (search rules))
@@ -172,7 +172,7 @@ three-scans = (
     point = refl;
     interval = whole_rows 0;
     lines = _;
-    held = (refl, (refl, tt));
+    kept = (refl, (refl, tt));
     written = another 0 0 2 (((129 ∷ 129 ∷ []) ∷ []) ∷ ((128 ∷ 128 ∷ []) ∷ []) ∷ []) (((128 ∷ 128 ∷ []) ∷ [])
         ∷ ((129 ∷ 128 ∷ []) ∷ []) ∷ []) (0xA3 ∷ []) (0x54 ∷ []) (omega arith)
         (row-interval _ _ (1 ∷ 0 ∷ 0 ∷ 0 ∷ []) (0xA3 ∷ []) refl refl refl refl (refl, (refl, tt)) (search rules))
@@ -205,7 +205,11 @@ three-written = record {
 
 -- a component of that frame, by its factors
 abbrev coding_by : Factors → ℕ → LosslessCoding
-coding_by c place = record { place = place; component = component_of 3 3 2 2 c; table = small_table }
+coding_by c index = record {
+  index = index;
+  component = component_of 3 3 2 2 c;
+  table = small_table;
+}
 
 -- the grids of an interval
 abbrev upper : List (List (List ℕ))
@@ -231,7 +235,7 @@ padded-scans = (
     point = refl;
     interval = whole_rows 0;
     lines = _;
-    held = (refl, (refl, tt));
+    kept = (refl, (refl, tt));
     written = another 0 0 2 upper lower (0xA8 ∷ 0x49 ∷ 0x6D ∷ []) (0x49 ∷ 0x60 ∷ 0x8F ∷ []) (omega arith)
         (row-interval _ _ (1 ∷ 0 ∷ 65535 ∷ 0 ∷ 0 ∷ 65535 ∷ 65535 ∷ 1 ∷ 1 ∷ 1 ∷ []) (0xA8 ∷ 0x49 ∷ 0x6D ∷ [])
         refl refl refl refl (refl, (refl, tt)) (search rules))
@@ -245,7 +249,7 @@ padded-scans = (
     point = refl;
     interval = whole_rows 0;
     lines = _;
-    held = (refl, tt);
+    kept = (refl, tt);
     written = another 0 0 2 (((127 ∷ 127 ∷ []) ∷ []) ∷ []) (((129 ∷ 128 ∷ []) ∷ []) ∷ []) (0x8F ∷ []) (0xB3 ∷ [])
         (omega arith)
         (row-interval _ _ (65535 ∷ 0 ∷ []) (0x8F ∷ []) refl refl refl refl (refl, tt) (search rules))

@@ -36,16 +36,20 @@ takes-token table al m j r s code own bits x y good coded small token after =
     (search (rules, takes-as, takes-bind, length-replicate))
     after
 
-pub after-value : (al : ℕ) (others : List ℤ → Reads Band) (places : List ℤ) (r : ℕ) (u : ℤ) (bits : List Bool)
+pub after-value : (al : ℕ) (others : List ℤ → Reads Band) (coefficients : List ℤ) (r : ℕ) (u : ℤ)
+    (bits : List Bool)
     (more : Band)
-    → wrapped (scaled al u) ≡ scaled al u → ReadsJust (others (drop (r + 1) places)) bits more
-    → ReadsJust (after_token al others places (Value r u)) bits (before_more (take r places ++ scaled al u ∷ []) more)
-after-value al others places r u bits more fits w = search (rules, takes-map, scaled)
+    → wrapped (scaled al u) ≡ scaled al u → ReadsJust (others (drop (r + 1) coefficients)) bits more
+    → ReadsJust (after_token al others coefficients (Value r u)) bits (before_more (take r
+    coefficients ++ scaled al u ∷ []) more)
+after-value al others coefficients r u bits more fits w = search (rules, takes-map, scaled)
 
-pub after-sixteen : (al : ℕ) (others : List ℤ → Reads Band) (places : List ℤ) (bits : List Bool) (more : Band)
-    → ReadsJust (others (drop 16 places)) bits more
-    → ReadsJust (after_token al others places Sixteen) bits (before_more (take 16 places) more)
-after-sixteen al others places bits more w = search (rules, takes-map)
+pub after-sixteen : (al : ℕ) (others : List ℤ → Reads Band) (coefficients : List ℤ) (bits : List
+    Bool) (more : Band)
+    → ReadsJust (others (drop 16 coefficients)) bits more
+    → ReadsJust (after_token al others coefficients Sixteen) bits (before_more (take 16
+    coefficients) more)
+after-sixteen al others coefficients bits more w = search (rules, takes-map)
 
 -- ---- bands
 
@@ -92,21 +96,24 @@ band-value table al r s zero u code more bits run good range nz cat coded room o
 band-value table al r zero (suc m) u code more bits run good range nz cat coded room others = search (rules, abs-zero)
 band-value table al r (suc t) (suc m) u code more bits run good range nz cat coded room others =
     let k = length more in
-    let places = no_numbers (suc (r + k)) in
-    let long : length places ≡ suc (r + k) = length-replicate (suc (r + k)) (pos 0) in
-    let front : take r places ≡ no_numbers r = take-replicate r (suc (r + k)) (pos 0) (omega arith) in
-    let back : drop (r + 1) places ≡ no_numbers k = drop-replicate (r + 1) (suc (r + k)) (pos 0)
+    let following = no_numbers (suc (r + k)) in
+    let long : length coefficients ≡ suc (r + k) = length-replicate (suc (r + k)) (pos 0) in
+    let front : take r coefficients ≡ no_numbers r = take-replicate r (suc (r + k)) (pos 0) (omega
+    arith) in
+    let back : drop (r + 1) coefficients ≡ no_numbers k = drop-replicate (r + 1) (suc (r + k)) (pos
+    0)
     ∙ ap no_numbers (omega arith) in
     let w = subst (λ (l : List ℤ). ReadsJust (first_ac table al m l) bits (map (scaled al) more, run)) (sym back)
     (others m (omega arith)) in
     let given : length (no_numbers r ++ u ∷ more) ≡ suc (r + k) = length-no_numbers r (u ∷ more) ∙ omega arith in
-    let numbers : (take r places ++ scaled al u ∷ []) ++ map (scaled al) more
+    let numbers : (take r coefficients ++ scaled al u ∷ []) ++ map (scaled al) more
     ≡ map (scaled al) (no_numbers r ++ u ∷ more)
     = search (rules, scaled, append_assoc, map-no_numbers) in
     let token = takes-token table al m (r + k) r (suc t) code (bits_for u (suc t)) bits (Value r u) _ good coded
     (category-small al u (suc t) range cat)
     (λ room size e. (grind (arith, lt-ltb 0 (suc t) (omega arith), lt-ltb r room (omega arith), takes-signed u t cat)))
-    (after-value al (first_ac table al m) places r u bits (map (scaled al) more, run) (scaled-fits al u range) w) in
+    (after-value al (first_ac table al m) coefficients r u bits (map (scaled al) more, run)
+    (scaled-fits al u range) w) in
     grind (arith, scaled al, takes-as)
 
 pub band-sixteen : (table : Table) (al n : ℕ) (code : List Bool) (more : List ℤ) (bits : List Bool) (run : ℕ)
@@ -119,17 +126,20 @@ unfolding token_at
 band-sixteen table al zero code more bits run good coded room others = absurd (omega arith)
 band-sixteen table al (suc m) code more bits run good coded room others =
     let k = length more in
-    let places = no_numbers (suc (15 + k)) in
-    let front : take 16 places ≡ no_numbers 16 = take-replicate 16 (suc (15 + k)) (pos 0) (omega arith) in
-    let back : drop 16 places ≡ no_numbers k = drop-replicate 16 (suc (15 + k)) (pos 0) ∙ ap no_numbers (omega arith) in
+    let following = no_numbers (suc (15 + k)) in
+    let front : take 16 coefficients ≡ no_numbers 16 = take-replicate 16 (suc (15 + k)) (pos 0)
+    (omega arith) in
+    let back : drop 16 coefficients ≡ no_numbers k = drop-replicate 16 (suc (15 + k)) (pos 0) ∙ ap
+    no_numbers (omega arith) in
     let w = subst (λ (l : List ℤ). ReadsJust (first_ac table al m l) bits (map (scaled al) more, run)) (sym back)
     (others m (omega arith)) in
     let given : length (no_numbers 16 ++ more) ≡ suc (15 + k) = length-no_numbers 16 more ∙ omega arith in
-    let numbers : take 16 places ++ map (scaled al) more ≡ map (scaled al) (no_numbers 16 ++ more)
+    let numbers : take 16 coefficients ++ map (scaled al) more ≡ map (scaled al) (no_numbers 16 ++
+    more)
     = ap (λ (l : List ℤ). l ++ map (scaled al) more) front ∙ sym (map-no_numbers al 16 more) in
     let token = takes-token table al m (15 + k) 15 0 code [] bits Sixteen _ good coded (omega arith)
     (λ room size e. (takes-gives Sixteen))
-    (after-sixteen al (first_ac table al m) places bits (map (scaled al) more, run) w) in
+    (after-sixteen al (first_ac table al m) coefficients bits (map (scaled al) more, run) w) in
     subst (λ (l : ℕ). ReadsJust (first_ac table al (suc m) (no_numbers l)) (code ++ bits)
     (map (scaled al) (no_numbers 16 ++ more), run))
     (sym given) (grind (arith, append-nil code))

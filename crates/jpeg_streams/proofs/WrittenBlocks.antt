@@ -24,7 +24,8 @@ use Rattle.jpeg_streams.specs.WrittenData.WritesAc.{no_band, first, first_run, a
 use Rattle.jpeg_streams.specs.WrittenData.WritesBlocks.{done, block}
 use Rattle.jpeg_bits.proofs.WrittenBits.{takes-gives, takes-bind, takes-bit, takes-map, takes-as}
 use Rattle.jpeg_bits.proofs.Tables.{IsGood, takes-symbol}
-use Rattle.jpeg_streams.proofs.SentBlocks.{scaled, held, InRange, InDcRange, dc_held, Suits, after_pass, reads_of}
+use Rattle.jpeg_streams.proofs.SentBlocks.{scaled, kept, InRange, InDcRange, dc_kept, Suits}
+use Rattle.jpeg_streams.proofs.SentBlocks.{after_pass, reads_of}
 use Rattle.jpeg_streams.proofs.SentBlocks.{numbers_of}
 use Rattle.jpeg_lossless.proofs.ReadBack.{takes-signed}
 use Rattle.jpeg_streams.proofs.WrittenBands.{takes-band, map-no_numbers, abs-zero}
@@ -46,7 +47,7 @@ pub takes-difference : (table : Table) (d : ℤ) (bits : List Bool) → IsGood t
     → WritesDifference table d bits → ReadsJust (difference table) bits d
 unfolding difference
 takes-difference table d bits good small w =
-    let i = w.coded.place in
+    let i = w.coded.index in
     let symbol = slice_index table.symbols i in
     let body = takes-listed symbol w.s (bits_for d w.s) d w.coded.is_for (w.category.is_least 11 small)
     (takes-category d w.s w.category) in
@@ -72,7 +73,7 @@ neg-sum x y z e = omega (arith, ints)
 or-even : (al b : ℕ) (z w : ℤ) → bit_of al z ≡ 0 → z +ℤ pos (b * 2 ^ al) ≡ w → or_bit al z b ≡ w
 or-even al b z w bit e = rw (eq-eqb (bit_of al z) 0 bit, or_bit) e
 
-pub dc-refined : (al : ℕ) (u : ℤ) → or_bit al (dc_held al u) (low_bit u) ≡ scaled al u
+pub dc-refined : (al : ℕ) (u : ℤ) → or_bit al (dc_kept al u) (low_bit u) ≡ scaled al u
 dc-refined al (pos n) = search (rules, or-even, even-bit, times-two_power, spread)
 dc-refined al (negsuc n) = grind (
   arith,
@@ -111,7 +112,8 @@ next-range p table u predictor next bits h k (whole v w bits' e f d) = h
 next-range p table u predictor next bits h k i = k
 
 pub takes-band_part : (p : Pass) (table : Table) (band us : List ℤ) (run after : ℕ) (bits : List Bool) → IsGood table
-    → (p.is_first ≡ true → band ≡ no_numbers (length us)) → (p.is_first ≡ false → band ≡ map (held p.al) us)
+    → (p.is_first ≡ true → band ≡ no_numbers (length us)) → (p.is_first ≡ false → band ≡ map (kept
+    p.al) us)
     → AllByRecursion (InRange p.al) us
     → WritesAc p table us run bits after → ReadsJust (band_part p table band run) bits (map (scaled p.al) us, after)
 unfolding band_part
@@ -131,7 +133,7 @@ takes-band_part p table band us run after bits good unsent sent range (first_run
 takes-band_part p table band us run after bits good unsent sent range (again u more bits' run' f w) =
     subst (λ (l : List ℤ). ReadsJust (band_part p table l 0) bits' (map (scaled p.al) (u ∷ more), run')) (sym (sent f))
     (rw (f, band_part) (takes-refinement table p.al (u ∷ more) bits' run' good range w
-    (length (map (held p.al) (u ∷ more))) (le_refl _)))
+    (length (map (kept p.al) (u ∷ more))) (le_refl _)))
 takes-band_part p table band us run after bits good unsent sent range (again_run u more run' f none) =
     grind (arith, scaled p.al, takes-corrected p.al (u ∷ more) none range)
 

@@ -30,7 +30,8 @@ start-predicts = search rules
 
 -- the text of an interval's bytes, where nothing is held
 abbrev pub whole_text : List ℕ → Text
-whole_text bytes = text (text_at bytes).bits (drop 56 (text_at bytes).places) (text_at bytes).ending
+whole_text bytes = text (text_at bytes).bits (drop 56 (text_at bytes).following) (text_at
+    bytes).ending
 
 -- what is read of a text, and the marker after it
 abbrev pub and_marker : Result (List Block × Text) Fault → Outcome (List Block × Option Marker)
@@ -42,18 +43,21 @@ in-text : (p : Pass) (turns : List (Via × Block)) (bytes rest : List ℕ) (m : 
     → interval p turns bytes ≡ Ok ((blocks, Some m), rest)
 unfolding interval
 in-text p turns bytes rest m bits filling blocks read is h =
-    let places = drop 56 (text_at bytes).places in
-    let read_all = read.read filling places (Found m rest) in
-    let left : length (drop (length bits) places) ≡ 0
+    let following = drop 56 (text_at bytes).following in
+    let read_all = read.read filling following (Found m rest) in
+    let left : length (drop (length bits) following) ≡ 0
     = omega (
       arith,
-      length-drop (length bits) places,
-      length-drop 56 (text_at bytes).places,
-      is.places_are,
+      length-drop (length bits) following,
+      length-drop 56 (text_at bytes).following,
+      is.following_are,
       length-append bits filling,
       ap length is.bits_are,
     ) in
-    cc ((ap (λ t. and_marker (blocks_of p predictors_at_start 0 turns t)) (upcoming-fresh bytes)), end-met (drop (length bits) places) m rest left)
+    cc (
+      (ap (λ t. and_marker (blocks_of p predictors_at_start 0 turns t)) (upcoming-fresh bytes)),
+      end-met (drop (length bits) following) m rest left,
+    )
 
 -- An interval that was written is read as the blocks after the pass, up to the marker.
 pub reads-interval : (p : Pass) (turns : List (Via × Block × Block)) (bytes : List ℕ) (fill code : ℕ) (m : Marker)

@@ -25,7 +25,7 @@ use Rattle.jpeg_streams.specs.WrittenImages.{closed, scan as then_scan, segment 
 use Rattle.jpeg_streams.specs.WrittenParts.{AgreeOnOwn, HaveSamePicture, nothing, picture_meant_by, scan, segment}
 use Rattle.jpeg_streams.specs.WrittenParts.{WritesFront}
 use Rattle.jpeg_streams.specs.WrittenScans.{AreCodings, Coefficients, grid_at, HasTable, levels_after}
-use Rattle.jpeg_streams.specs.WrittenScans.{no_grid, place_at}
+use Rattle.jpeg_streams.specs.WrittenScans.{no_grid, index_at}
 use Rattle.jpeg_streams.specs.WrittenScans.AreCodings.{and_more, no_more}
 use Rattle.jpeg_streams.proofs.ReadTurns.{frame-kept, same-frame, scan-tail, segment-tail, then-ok}
 use Rattle.jpeg_streams.proofs.WholeImages.{whole-is}
@@ -51,7 +51,8 @@ front-append array said next final levels reached last scanned after front more
     (sym (scan-tail fill 218 (with_length (scan_payload h)) data_bytes others more))
     (then_scan said final levels last scanned frame fill h codings data_bytes (others ++ more) framed is legal written
     (front-append array said next final
-    (levels_after (pass_of (scan_written frame h)) (map (λ c. c.place) codings) levels) reached last true after others
+    (levels_after (pass_of (scan_written frame h)) (map (λ c. c.index) codings) levels) reached
+    last true after others
     more f w))
 
 pub front-closed : (array : Coefficients) (front : List ℕ) (said : Found) (levels : ℕ → Levels) (frame : Frame)
@@ -78,13 +79,18 @@ picture-alone (Err e) told rest = refl
 
 -- ---- what is said of one picture
 
-same-planes : (a b : Found) (array : Coefficients) (place : ℕ) (cs : List Component)
+same-planes : (a b : Found) (array : Coefficients) (index : ℕ) (cs : List Component)
     → AllByRecursion (λ c. slice_index_or a.quantization c.factors.quantization None
     ≡ slice_index_or b.quantization c.factors.quantization None) cs
-    → planes_of_blocks a array place cs ≡ planes_of_blocks b array place cs
+    → planes_of_blocks a array index cs ≡ planes_of_blocks b array index cs
 unfolding planes_of_blocks
-same-planes a b array place [] h = refl
-same-planes a b array place (c ∷ cs) h = search (rules, bind_same, same-planes a b array (place + 1) cs h.1)
+same-planes a b array index [] h = refl
+same-planes a b array index (c ∷ cs) h = search (
+  rules,
+  bind_same,
+  same-planes a b array (index +
+      1) cs h.1,
+)
 
 -- the picture of an array in a frame
 picture_in_frame : Settings → Coefficients → Found → Frame → Result (List ℕ) Fault
@@ -107,7 +113,8 @@ same-picture settings array a b h =
 
 whole-picture : (settings : Settings) (array : Coefficients) (bytes rest : List ℕ) (final : Found) (last : ℕ → Levels)
     (frame : Frame)
-    → ((place row column : ℕ) → Is8Bit (array place row column)) → WritesImage array bytes final last
+    → ((index row column : ℕ) → Is8Bit (array index row column)) → WritesImage array bytes final
+    last
     → final.frame ≡ Some frame → AllComplete frame last
     → picture_meant_by settings (bytes ++ rest) ≡ picture_of_blocks settings final array
 whole-picture settings array bytes rest final last frame range w e done =
@@ -118,7 +125,7 @@ whole-picture settings array bytes rest final last frame range w e done =
 
 pub one-picture : (settings : Settings) (array : Coefficients) (first second rest others : List ℕ) (a b : Found)
     (last_a last_b : ℕ → Levels)
-    → ((place row column : ℕ) → Is8Bit (array place row column)) → WritesImage array first a last_a
+    → ((index row column : ℕ) → Is8Bit (array index row column)) → WritesImage array first a last_a
     → WritesImage array second b last_b
     → (same : HaveSamePicture a b) → AllComplete same.frame_a last_a → AllComplete same.frame_b last_b
     → picture_meant_by settings (first ++ rest) ≡ picture_meant_by settings (second ++ others)
@@ -130,16 +137,19 @@ one-picture settings array first second rest others a b last_a last_b range w x 
 -- ---- padding
 
 -- A slot of a scan is beyond its components, or has the component of a place in the frame.
-slot-coded : (w : Found) (frame : Frame) (p : Pass) (tables : Tables) (places ds ks : List ℕ) (codings : List Coding)
-    → AreCodings w frame p tables places ds ks codings
+slot-coded : (w : Found) (frame : Frame) (p : Pass) (tables : Tables) (indices ds ks : List ℕ)
+    (codings : List Coding)
+    → AreCodings w frame p tables indices ds ks codings
     → (slot : ℕ) → (grid_at (components_of codings) slot ≡ no_grid)
     ⊎ ((c : Component) × (grid_at (components_of codings) slot ≡ grid_of c)
-    × (first_of (drop (place_at codings slot) frame.components) ≡ Some c))
-slot-coded w frame p tables places ds ks codings no_more slot = inl refl
-slot-coded w frame p tables places ds ks codings (and_more place d a places' ds' ks' k codings' is more) zero =
+    × (first_of (drop (index_at codings slot) frame.components) ≡ Some c))
+slot-coded w frame p tables indices ds ks codings no_more slot = inl refl
+slot-coded w frame p tables indices ds ks codings (and_more index d a indices' ds' ks' k codings'
+    is more) zero =
     search rules
-slot-coded w frame p tables places ds ks codings (and_more place d a places' ds' ks' k codings' is more) (suc slot) =
-    slot-coded w frame p tables places' ds' ks' codings' more slot
+slot-coded w frame p tables indices ds ks codings (and_more index d a indices' ds' ks' k codings'
+    is more) (suc slot) =
+    slot-coded w frame p tables indices' ds' ks' codings' more slot
 
 also-writes : (a b : Coefficients) (said final : Found) (levels last : ℕ → Levels) (scanned : Bool) (bytes : List ℕ)
     (frame : Frame)
@@ -155,7 +165,7 @@ also-writes a b said final levels last scanned bytes frame
     (then_scan said' final' levels' last' scanned' f fill h codings data_bytes more framed is legal written w) e
     agree =
     let p = pass_of (scan_written f h) in
-    let levels_1 = levels_after p (map (λ c. c.place) codings) levels in
+    let levels_1 = levels_after p (map (λ c. c.index) codings) levels in
     let same : f ≡ frame =
     same-frame f frame final.frame (frame-kept a said final levels_1 last true more f w framed) e in
     let alike : AgreeOnOwn f a b = subst (λ (x : Frame). AgreeOnOwn x a b) (sym same) agree in
@@ -173,7 +183,8 @@ pub also-written : (a b : Coefficients) (bytes : List ℕ) (final : Found) (last
 also-written a b bytes final last frame w e agree = search (rules, also-writes)
 
 array-picture : (settings : Settings) (array : Coefficients) (bytes : List ℕ) (final : Found) (last : ℕ → Levels)
-    → ((place row column : ℕ) → Is8Bit (array place row column)) → WritesImage array bytes final last
+    → ((index row column : ℕ) → Is8Bit (array index row column)) → WritesImage array bytes final
+    last
     → picture_meant_by settings (bytes ++ []) ≡ picture_of_array settings final array last
 array-picture settings array bytes final last range w = ap (λ o. o >>= (λ m. Ok m.0.1))
     (search (rules, stream-means))
@@ -181,7 +192,8 @@ array-picture settings array bytes final last range w = ap (λ o. o >>= (λ m. O
 
 pub unseen-padding : (settings : Settings) (a b : Coefficients) (bytes : List ℕ) (final : Found) (last : ℕ → Levels)
     (frame : Frame)
-    → ((place row column : ℕ) → Is8Bit (a place row column)) → ((place row column : ℕ) → Is8Bit (b place row column))
+    → ((index row column : ℕ) → Is8Bit (a index row column)) → ((index row column : ℕ) → Is8Bit (b
+    index row column))
     → WritesImage a bytes final last → final.frame ≡ Some frame → AgreeOnOwn frame a b
     → picture_of_array settings final a last ≡ picture_of_array settings final b last
 unseen-padding settings a b bytes final last frame range_a range_b w e agree =

@@ -31,7 +31,7 @@ use Rattle.jpeg_segments.specs.declared.parser.CodingProcess.TheVariants.{Lossle
 use Rattle.jpeg_streams.specs.Stream.{rest_at, meaning, start_at, segments_at, told_of}
 use Rattle.jpeg_streams.specs.declared.before.Before.TheVariants.{Elsewhere}
 use Rattle.jpeg_streams.specs.Levels.{Levels, Is8Bit, cut}
-use Rattle.jpeg_streams.proofs.FinishedPlaces.{is_level_0}
+use Rattle.jpeg_streams.proofs.FinishedIndices.{is_level_0}
 use Rattle.jpeg_streams.specs.WrittenScans.{Coefficients, HasTable, IsComplete}
 use Rattle.jpeg_streams.specs.ArrayPictures.{HasTransform, IsTransformOf, TakesPicture}
 use Rattle.jpeg_streams.specs.ArrayPictures.{plane_of_blocks, planes_of_blocks}
@@ -42,7 +42,7 @@ use Rattle.jpeg_streams.proofs.OwnSpots.{At, at-within, Fits, in-below}
 use Rattle.jpeg_streams.proofs.WrittenFrameScans.{HoldsOwn, in-all}
 use Rattle.jpeg_streams.proofs.Apart.{at-all}
 use Rattle.jpeg_streams.proofs.ReadStates.{reading, is_whole}
-use Rattle.jpeg_streams.proofs.BroughtLevels.{Made, Shaped, held-arrays}
+use Rattle.jpeg_streams.proofs.BroughtLevels.{Made, Shaped, kept-arrays}
 use Rattle.jpeg_streams.proofs.ReadTurns.{then-ok}
 use Rattle.jpeg_streams.proofs.FrameShapes.{below-ceiling, accepted-sources}
 use Rattle.jpeg_streams.proofs.ReadStreams.{Ended, scans-read, stream-read}
@@ -100,12 +100,12 @@ plane-same frame c table l array blocks some fits holds =
           let at-column : i % wide ≡ x / s = mod-mul-add (y / s) wide (x / s) column-in in
           let block : get_or blocks i zero_block ≡ cut l (array (y / s) (x / s))
           = search rules in
-          let place : y * (wide * s) + x ≡ y * (s * wide) + x = ap (λ (n : ℕ). y * n + x) e1 in
-          ap (slice_index (plane_of s q wide c.blocks_high one)) place
+          let index : y * (wide * s) + x ≡ y * (s * wide) + x = ap (λ (n : ℕ). y * n + x) e1 in
+          ap (slice_index (plane_of s q wide c.blocks_high one)) index
           ∙ plane-at s q wide c.blocks_high one x y (omega arith) (omega arith)
           ∙ ap (λ (b : Block). sample_at s (coefficients_in_block_order (listed b)) q (x % s) (y % s)) block
           ∙ sym (plane-at s q wide c.blocks_high two x y (omega arith) (omega arith))
-          ∙ ap (slice_index (plane_of s q wide c.blocks_high two)) (sym place);
+          ∙ ap (slice_index (plane_of s q wide c.blocks_high two)) (sym index);
     }
 
 -- ---- planes at the end
@@ -132,17 +132,17 @@ end-decided : (found : Found) (f : Frame) (k : ℕ) (c : Component) (plane : Lis
 unfolding plane_at_end
 end-decided found f k c plane e = rw (e, plane_at_end) refl
 
-end-held : (found : Found) (f : Frame) (k : ℕ) (c : Component) (table : List ℕ)
+end-kept : (found : Found) (f : Frame) (k : ℕ) (c : Component) (table : List ℕ)
     → slice_index_or found.planes k None ≡ None → is_progressive f.process ≡ true → found.scanned ≡ true
     → slice_index_or found.quantization c.factors.quantization None ≡ Some table
-    → plane_at_end found f k c ≡ Ok (plane_by c table (get_or found.held k []))
+    → plane_at_end found f k c ≡ Ok (plane_by c table (get_or found.kept k []))
 unfolding plane_at_end
-end-held found f k c table n p s t = search (rules, then-ok)
+end-kept found f k c table n p s t = search (rules, then-ok)
 
 module _ (f : Frame) (array : Coefficients) (final : Found) (last : ℕ → Levels) (shape : Shaped f)
     (end : Ended f array final last) where
   abbrev found : Found
-  found = reading final true end.held end.finished end.planes
+  found = reading final true end.kept end.finished end.planes
 
   plane-end : (k : ℕ) (c : Component) → At k f.components c → PlaneAtEnd found f array (last k) k c
   plane-end k c t = go (is_whole (last k)) refl (is_progressive f.process) refl
@@ -164,10 +164,11 @@ module _ (f : Frame) (array : Coefficients) (final : Found) (last : ℕ → Leve
           record {
             table = q.table;
             is_table = q.is;
-            blocks = get_or end.held k [];
+            blocks = get_or end.kept k [];
             holds = subst (λ (a : Arrays). HoldsOwn (grid_of c) (array k) (last k) (get_or a k []))
-                (held-arrays final end.held end.finished end.planes f g) ((end.framed.held g).each k c t);
-            is = end-held found f k c q.table n g refl q.is;
+                (kept-arrays final end.kept end.finished end.planes f g) ((end.framed.kept g).each
+                k c t);
+            is = end-kept found f k c q.table n g refl q.is;
           }
       go false e false g =
           let all = in-all (λ (j : ℕ). IsComplete (last j)) (range_with_len 0 (length f.components)) k (end.complete g)
@@ -175,36 +176,46 @@ module _ (f : Frame) (array : Coefficients) (final : Found) (last : ℕ → Leve
           absurd (true≢false (sym (complete-whole (last k) all) ∙ e))
 
   -- the planes at the end and those of the array
-  record BothPlanes (place : ℕ) (components : List Component) : Type 0 where
+  record BothPlanes (index : ℕ) (components : List Component) : Type 0 where
     ours : List (List ℕ)
     theirs : List (List ℕ)
-    ours_are : planes_from found f place components ≡ Ok ours
-    theirs_are : planes_of_blocks final (as_sent array last) place components ≡ Ok theirs
+    ours_are : planes_from found f index components ≡ Ok ours
+    theirs_are : planes_of_blocks final (as_sent array last) index components ≡ Ok theirs
     alike : AllAlike components ours theirs
 
-  planes-end : (scaled : (k : ℕ) (c : Component) → At k f.components c → 0 < c.scale) (place : ℕ)
+  planes-end : (scaled : (k : ℕ) (c : Component) → At k f.components c → 0 < c.scale) (index : ℕ)
       (components : List Component)
-      → ((j : ℕ) (c : Component) → At j components c → At (place + j) f.components c) → BothPlanes place components
+      → ((j : ℕ) (c : Component) → At j components c → At (index + j) f.components c) → BothPlanes
+      index components
   unfolding planes_from planes_of_blocks
-  planes-end scaled place [] within = record { ours = []; theirs = []; ours_are = refl; theirs_are = refl; alike = tt }
-  planes-end scaled place (c ∷ more) within =
-      let start : place + 0 ≡ place = omega arith in
-      let t : At place f.components c = subst (λ (n : ℕ). At n f.components c) start (within 0 c refl) in
-      let e = plane-end place c t in
-      let others = planes-end scaled (place + 1) more
-      (λ j d u. let next : place + suc j ≡ (place + 1) + j = omega arith in
+  planes-end scaled index [] within = record {
+    ours = [];
+    theirs = [];
+    ours_are = refl;
+    theirs_are
+        = refl;
+    alike = tt;
+  }
+  planes-end scaled index (c ∷ more) within =
+      let start : index + 0 ≡ index = omega arith in
+      let t : At index f.components c = subst (λ (n : ℕ). At n f.components c) start (within 0 c
+      refl) in
+      let e = plane-end index c t in
+      let others = planes-end scaled (index + 1) more
+      (λ j d u. let next : index + suc j ≡ (index + 1) + j = omega arith in
       subst (λ (n : ℕ). At n f.components d) next (within (suc j) d u)) in
       record {
         ours = plane_by c e.table e.blocks ∷ others.ours;
-        theirs = plane_of_blocks c e.table (as_sent array last place) ∷ others.theirs;
-        ours_are = then-ok (plane_at_end found f place c) _ (plane_by c e.table e.blocks) _ e.is
-            (then-ok (planes_from found f (place + 1) more) _ others.ours _ others.ours_are refl);
+        theirs = plane_of_blocks c e.table (as_sent array last index) ∷ others.theirs;
+        ours_are = then-ok (plane_at_end found f index c) _ (plane_by c e.table e.blocks) _ e.is
+            (then-ok (planes_from found f (index + 1) more) _ others.ours _ others.ours_are refl);
         theirs_are = then-ok (needed (slice_index_or final.quantization c.factors.quantization None)) _ e.table _
             (ap needed e.is_table)
-            (then-ok (planes_of_blocks final (as_sent array last) (place + 1) more) _ others.theirs _ others.theirs_are refl);
+            (then-ok (planes_of_blocks final (as_sent array last) (index + 1) more) _ others.theirs
+            _ others.theirs_are refl);
         alike = (
-          plane-same f c e.table (last place) (array place) e.blocks (scaled place c t)
-              (shape.fits place c t) e.holds,
+          plane-same f c e.table (last index) (array index) e.blocks (scaled index c t)
+              (shape.fits index c t) e.holds,
           others.alike,
         );
       }
@@ -242,12 +253,13 @@ blocks-picture settings w blocks f planes e p = search (rules, then-ok)
 
 pub pictures-same : (settings : Settings) (f : Frame) (array : Coefficients) (final : Found) (last : ℕ → Levels)
     → Shaped f → (end : Ended f array final last)
-    → picture_of settings (reading final true end.held end.finished end.planes)
+    → picture_of settings (reading final true end.kept end.finished end.planes)
     ≡ picture_of_array settings final array last
 pictures-same settings f array final last shape end =
     let b = planes-end f array final last shape end (scale-made f shape.made) 0 f.components
     (λ j c t. let start : 0 + j ≡ j = omega arith in subst (λ (n : ℕ). At n f.components c) (sym start) t) in
-    found-picture settings (reading final true end.held end.finished end.planes) f b.ours shape.lossy end.frame_is
+    found-picture settings (reading final true end.kept end.finished end.planes) f b.ours
+    shape.lossy end.frame_is
     b.ours_are
     ∙ (search (rules, picture-by-same))
     ∙ sym (blocks-picture settings final (as_sent array last) f b.theirs end.frame_is b.theirs_are)
@@ -261,14 +273,15 @@ rest-by settings found all bytes rest e = then-ok (segments_at false Elsewhere f
 -- The meaning of a written stream is the picture of its array, cut at the levels that were sent.
 pub stream-means : (settings : Settings) (array : Coefficients) (bytes rest : List ℕ) (final : Found)
     (last : ℕ → Levels)
-    → ((place row column : ℕ) → Is8Bit (array place row column)) → WritesImage array bytes final last
+    → ((index row column : ℕ) → Is8Bit (array index row column)) → WritesImage array bytes final
+    last
     → meaning settings (bytes ++ rest)
     ≡ (picture_of_array settings final array last >>= (λ picture. Ok ((told_of final, picture), rest)))
 unfolding meaning
 stream-means settings array bytes rest final last range w =
     let r = stream-read array rest bytes final last w in
     let s = scans-read array rest final last _ _ range r.header in
-    let all = reading final true s.end.held s.end.finished s.end.planes in
+    let all = reading final true s.end.kept s.end.finished s.end.planes in
     (then-ok (start_at (bytes ++ rest)) _ (tt, r.rest) _ r.starts refl)
     ∙ rest-by settings nothing_found all r.rest rest s.is
     ∙ ap (λ (o : Result (List ℕ) Fault). o >>= (λ (picture : List ℕ). Ok ((told_of final, picture), rest)))
@@ -322,7 +335,8 @@ pictures-taken settings array final last f sources shape end is takes =
 
 -- A written stream whose picture is taken means that picture.
 pub taken-means : (settings : Settings) (array : Coefficients) (bytes rest : List ℕ) (final : Found) (last : ℕ → Levels)
-    → ((place row column : ℕ) → Is8Bit (array place row column)) → WritesImage array bytes final last
+    → ((index row column : ℕ) → Is8Bit (array index row column)) → WritesImage array bytes final
+    last
     → TakesPicture settings final
     → (picture : List ℕ) × (picture_of_array settings final array last ≡ Ok picture)
     × (meaning settings (bytes ++ rest) ≡ Ok ((told_of final, picture), rest))

@@ -20,7 +20,7 @@ use Rattle.jpeg_streams.specs.WrittenData.WritesRefinement.{refined, found, pass
 use Rattle.jpeg_bits.proofs.WrittenBits.{takes-gives, takes-bind, takes-number, takes-bit, takes-map, takes-as}
 use Rattle.jpeg_bits.proofs.Tables.{IsGood, takes-symbol}
 use Rattle.jpeg_streams.proofs.WrittenBands.{scaled-zero}
-use Rattle.jpeg_streams.proofs.SentBlocks.{scaled, held, InRange}
+use Rattle.jpeg_streams.proofs.SentBlocks.{scaled, kept, InRange}
 
 -- ---- what is held
 
@@ -34,26 +34,26 @@ pub neg-times : (a b : ℕ) → neg_ℤ (pos a) *ℤ pos b ≡ neg_ℤ (pos (a *
 neg-times zero b = ap (λ (x : ℕ). pos x) (zero-mul b) ∙ ap (λ (x : ℕ). neg_ℤ (pos x)) (sym (zero-mul b))
 neg-times (suc a) b = refl
 
-pub held-zero : (al : ℕ) → held al (pos 0) ≡ pos 0
-held-zero al = ap pos (zero-mul (2 ^ suc al))
+pub kept-zero : (al : ℕ) → kept al (pos 0) ≡ pos 0
+kept-zero al = ap pos (zero-mul (2 ^ suc al))
 
-pub held-new : (al : ℕ) (u : ℤ) → unsigned_abs u ≡ 1 → held al u ≡ pos 0
-held-new al (pos n) h = rw h (ap pos (zero-mul (2 ^ suc al)))
-held-new al (negsuc n) h = rw h (ap pos (zero-mul (2 ^ suc al)))
+pub kept-new : (al : ℕ) (u : ℤ) → unsigned_abs u ≡ 1 → kept al u ≡ pos 0
+kept-new al (pos n) h = rw h (ap pos (zero-mul (2 ^ suc al)))
+kept-new al (negsuc n) h = rw h (ap pos (zero-mul (2 ^ suc al)))
 
 pub not-zero : (k : ℕ) → 0 < k → (is_zero (pos k) ≡ false) × (is_zero (neg_ℤ (pos k)) ≡ false)
 not-zero zero h = absurd (omega arith)
 not-zero (suc k) h = (refl, refl)
 
-pub held-positive : (al n : ℕ) → 2 ≤ n → 0 < (n / 2) * 2 ^ suc al
-held-positive al n h = search (rules, pow_pos, mul-le-mul, times-two_power)
+pub kept-positive : (al n : ℕ) → 2 ≤ n → 0 < (n / 2) * 2 ^ suc al
+kept-positive al n h = search (rules, pow_pos, mul-le-mul, times-two_power)
 
 pub old-at : (u : ℤ) → is_old u ≡ true → 2 ≤ unsigned_abs u
 old-at u h = leb-true 2 (unsigned_abs u) h
 
-pub held-old : (al : ℕ) (u : ℤ) → is_old u ≡ true → is_zero (held al u) ≡ false
-held-old al (pos n) h = (not-zero (n / 2 * 2 ^ suc al) (held-positive al n (old-at (pos n) h))).0
-held-old al (negsuc n) h = search (rules, neg-times, not-zero, held-positive, old-at)
+pub kept-old : (al : ℕ) (u : ℤ) → is_old u ≡ true → is_zero (kept al u) ≡ false
+kept-old al (pos n) h = (not-zero (n / 2 * 2 ^ suc al) (kept-positive al n (old-at (pos n) h))).0
+kept-old al (negsuc n) h = search (rules, neg-times, not-zero, kept-positive, old-at)
 
 -- a place that isn't new is nothing or old
 pub nothing_or_old : (u : ℤ) → unsigned_abs u ≢ 1 → (u ≡ pos 0) ⊎ (is_old u ≡ true)
@@ -62,7 +62,13 @@ nothing_or_old u h = search (rules, le-leb)
 -- ---- correction bits
 
 pub corrected-stays : (al : ℕ) (z w : ℤ) → z ≡ w → ReadsJust (corrected_by al z 0) [] w
-corrected-stays al z w e = record { read = λ rest places n. ap (λ (x : ℤ). Ok (x, text rest places n)) e }
+corrected-stays al z w e = record {
+  read = λ rest numbers n. ap (λ (x : ℤ). Ok (
+    x,
+    text rest
+        numbers n,
+  )) e;
+}
 
 pub even : (m : ℕ) → (2 * m) % 2 ≡ 0
 even m = omega arith
@@ -110,12 +116,14 @@ corrects-neg al m b k e h fits = search (rules, corrected-stays, times-two_power
 
 -- the correction bit of an old number gives the number
 pub corrects : (al : ℕ) (u : ℤ) → is_old u ≡ true → InRange al u
-    → ReadsJust (corrected_by al (held al u) (unsigned_abs u % 2)) [] (scaled al u)
+    → ReadsJust (corrected_by al (kept al u) (unsigned_abs u % 2)) [] (scaled al u)
 corrects al (pos n) o range = search (rules, takes-as, corrects-pos)
-corrects al (negsuc i) o range = go (suc i / 2 * 2 ^ suc al) refl (held-positive al (suc i) (old-at (negsuc i) o))
+corrects al (negsuc i) o range = go (suc i / 2 * 2 ^ suc al) refl (kept-positive al (suc i) (old-at
+    (negsuc i) o))
   where
     go : (x : ℕ) → suc i / 2 * 2 ^ suc al ≡ x → 0 < x
-        → ReadsJust (corrected_by al (held al (negsuc i)) (suc i % 2)) [] (neg_ℤ (pos (suc i * 2 ^ al)))
+        → ReadsJust (corrected_by al (kept al (negsuc i)) (suc i % 2)) [] (neg_ℤ (pos (suc i * 2 ^
+        al)))
     go zero e h = absurd (omega arith)
     go (suc k) e h = search (rules, neg-times, neg_ℤ, takes-as, corrects-neg)
 
@@ -135,7 +143,7 @@ unfolding corrections
 corrections-old u us o = rw (o, corrections) refl
 
 pub takes-corrected : (al : ℕ) (us : List ℤ) → NoneNew us → AllByRecursion (InRange al) us
-    → ReadsJust (corrected al (map (held al) us)) (corrections us) (map (scaled al) us)
+    → ReadsJust (corrected al (map (kept al) us)) (corrections us) (map (scaled al) us)
 unfolding corrected NoneNew corrections
 takes-corrected al [] none range = takes-gives []
 takes-corrected al (u ∷ us) none range =
@@ -147,9 +155,9 @@ takes-corrected al (u ∷ us) none range =
       corrections-zero,
       scaled-zero,
       takes-map,
-      held-zero,
+      kept-zero,
       corrected-next,
-      held-old,
+      kept-old,
       corrects,
       takes-corrected al us none.1 range.1,
     )
@@ -177,20 +185,22 @@ unfolding count_unknown
 count-old u us o = rw (o, count_unknown) refl
 
 -- the piece of a token ends with the place after those that are neither old nor new
-pub through : (al : ℕ) (front : List ℤ) (u : ℤ) (more : List ℤ) → held al u ≡ pos 0
-    → NoneNew front → through_zero (count_unknown front) (map (held al) (front ++ u ∷ more)) ≡ suc (length front)
+pub through : (al : ℕ) (front : List ℤ) (u : ℤ) (more : List ℤ) → kept al u ≡ pos 0
+    → NoneNew front → through_zero (count_unknown front) (map (kept al) (front ++ u ∷ more)) ≡ suc
+    (length front)
 unfolding NoneNew count_unknown through_zero
-through al [] u more z none = search (rules, held)
+through al [] u more z none = search (rules, kept)
 through al (v ∷ front) u more z none =
-    search (rules, nothing_or_old, held-zero, held-old, through al front u more z none.1)
+    search (rules, nothing_or_old, kept-zero, kept-old, through al front u more z none.1)
 
-pub front-of : (al : ℕ) (front : List ℤ) (u : ℤ) (more : List ℤ) → held al u ≡ pos 0
-    → take (suc (length front)) (map (held al) (front ++ u ∷ more)) ≡ map (held al) (front ++ pos 0 ∷ [])
-front-of al [] u more z = ap (λ (x : ℤ). x ∷ []) (z ∙ sym (held-zero al))
-front-of al (v ∷ front) u more z = ap (λ (l : List ℤ). held al v ∷ l) (front-of al front u more z)
+pub front-of : (al : ℕ) (front : List ℤ) (u : ℤ) (more : List ℤ) → kept al u ≡ pos 0
+    → take (suc (length front)) (map (kept al) (front ++ u ∷ more)) ≡ map (kept al) (front ++ pos 0
+    ∷ [])
+front-of al [] u more z = ap (λ (x : ℤ). x ∷ []) (z ∙ sym (kept-zero al))
+front-of al (v ∷ front) u more z = ap (λ (l : List ℤ). kept al v ∷ l) (front-of al front u more z)
 
 pub back-of : (al : ℕ) (front : List ℤ) (u : ℤ) (more : List ℤ)
-    → drop (suc (length front)) (map (held al) (front ++ u ∷ more)) ≡ map (held al) more
+    → drop (suc (length front)) (map (kept al) (front ++ u ∷ more)) ≡ map (kept al) more
 back-of al [] u more = refl
 back-of al (v ∷ front) u more = back-of al front u more
 
@@ -215,9 +225,11 @@ with_last-end x y (z ∷ w ∷ xs) = ap (λ (l : List ℤ). z ∷ l) (with_last-
 with_last-end x y xs = refl
 
 -- the places of a piece, with their corrections
-pub takes-front : (al : ℕ) (front : List ℤ) (u : ℤ) (more : List ℤ) → held al u ≡ pos 0 → NoneNew front
+pub takes-front : (al : ℕ) (front : List ℤ) (u : ℤ) (more : List ℤ) → kept al u ≡ pos 0 → NoneNew
+    front
     → AllByRecursion (InRange al) (front ++ u ∷ more)
-    → ReadsJust (corrected al (take (suc (length front)) (map (held al) (front ++ u ∷ more)))) (corrections front)
+    → ReadsJust (corrected al (take (suc (length front)) (map (kept al) (front ++ u ∷ more))))
+    (corrections front)
     (map (scaled al) (front ++ pos 0 ∷ []))
 takes-front al front u more z none range =
     subst (λ (l : List ℤ). ReadsJust (corrected al l) (corrections front) (map (scaled al) (front ++ pos 0 ∷ [])))
@@ -241,13 +253,13 @@ sign-small (negsuc n) = omega arith
 pub piece-found : (al r : ℕ) (others : List ℤ → Reads Band) (front : List ℤ) (u : ℤ) (more : List ℤ)
     (bits : List Bool) (run : ℕ)
     → NoneNew front → count_unknown front ≡ r → unsigned_abs u ≡ 1 → AllByRecursion (InRange al) (front ++ u ∷ more)
-    → ReadsJust (others (map (held al) more)) bits (map (scaled al) more, run)
-    → ReadsJust (refined_piece al others (map (held al) (front ++ u ∷ more)) r 1)
+    → ReadsJust (others (map (kept al) more)) bits (map (scaled al) more, run)
+    → ReadsJust (refined_piece al others (map (kept al) (front ++ u ∷ more)) r 1)
     (bit (sign_bit u) ∷ (corrections front ++ bits)) (map (scaled al) (front ++ u ∷ more), run)
 unfolding refined_piece
 piece-found al r others front u more bits run none count new range w =
-    let z = held-new al u new in
-    let rest = map (held al) (front ++ u ∷ more) in
+    let z = kept-new al u new in
+    let rest = map (kept al) (front ++ u ∷ more) in
     let n : through_zero r rest ≡ suc (length front) = ap (λ (c : ℕ). through_zero c rest) (sym count)
     ∙ through al front u more z none in
     let result : with_last (new_number al (sign_bit u)) (map (scaled al) (front ++ pos 0 ∷ [])) ++ map
@@ -269,8 +281,9 @@ piece-found al r others front u more bits run none count new range w =
 
 pub piece-passed : (al : ℕ) (others : List ℤ → Reads Band) (front more : List ℤ) (bits : List Bool) (run : ℕ)
     → NoneNew front → count_unknown front ≡ 15 → AllByRecursion (InRange al) (front ++ pos 0 ∷ more)
-    → ReadsJust (others (map (held al) more)) bits (map (scaled al) more, run)
-    → ReadsJust (refined_piece al others (map (held al) (front ++ pos 0 ∷ more)) 15 0) (corrections front ++ bits)
+    → ReadsJust (others (map (kept al) more)) bits (map (scaled al) more, run)
+    → ReadsJust (refined_piece al others (map (kept al) (front ++ pos 0 ∷ more)) 15 0) (corrections
+    front ++ bits)
     (map (scaled al) (front ++ pos 0 ∷ more), run)
 unfolding refined_piece
 piece-passed al others front more bits run none count range w =
@@ -278,13 +291,17 @@ piece-passed al others front more bits run none count range w =
 
 pub piece-none_left : (al r e : ℕ) (others : List ℤ → Reads Band) (us : List ℤ) → r ≤ 14 → e < 2 ^ r → NoneNew us
     → AllByRecursion (InRange al) us
-    → ReadsJust (refined_piece al others (map (held al) us) r 0) (low_bits r e ++ corrections us)
+    → ReadsJust (refined_piece al others (map (kept al) us) r 0) (low_bits r e ++ corrections us)
     (map (scaled al) us, 2 ^ r - 1 + e)
 unfolding refined_piece
 piece-none_left al r e others us h f none range =
     let no : eqb r 15 ≡ false = grind (arith, nat_tests) in
     rw (no, refined_piece)
-    (takes-bind (bits_from r) (λ k. corrected al (map (held al) us) >>= (λ all. gives (all, 2 ^ r - 1 + k)))
+    (takes-bind (bits_from r) (λ k. corrected al (map (kept al) us) >>= (λ all. gives (
+      all,
+      2 ^ r -
+          1 + k,
+    )))
     (low_bits r e) (corrections us) e _ (takes-number r e f)
     (grind (arith, scaled al, takes-corrected al us none range)))
 
@@ -296,57 +313,63 @@ pub refined-token : (table : Table) (al m r s : ℕ) (z : ℤ) (zs : List ℤ) (
     → ReadsJust (refined_ac table al (suc m) (z ∷ zs)) (code ++ bits) x
 unfolding refined_ac
 refined-token table al m r s z zs code bits x good coded small piece =
-    let symbol = slice_index table.symbols coded.place in
+    let symbol = slice_index table.symbols coded.index in
     let high : symbol / 16 ≡ r = omega (arith, coded.is_for) in
     let low : symbol % 16 ≡ s = omega (arith, coded.is_for) in
     let token = λ (c : ℕ). refined_piece al (refined_ac table al m) (z ∷ zs) (c / 16) (c % 16) in
     let body : ReadsJust (token symbol) bits x = rw (high, low) piece in
-    takes-as _ (code_bits table coded.place ++ bits) (code ++ bits) x x
+    takes-as _ (code_bits table coded.index ++ bits) (code ++ bits) x x
     (ap (λ (b : List Bool). b ++ bits) coded.has_bits) refl
     (search (rules, takes-bind, takes-symbol))
 
 -- the same over a list that isn't empty, with room for its length
-pub refined-step : (table : Table) (al n r s : ℕ) (places : List ℤ) (code bits : List Bool) (x : Band) → IsGood table
-    → IsCoded table (16 * r + s) code → s ≤ 15 → 0 < length places → length places ≤ n
-    → ((m : ℕ) → suc m ≡ n → ReadsJust (refined_piece al (refined_ac table al m) places r s) bits x)
-    → ReadsJust (refined_ac table al n places) (code ++ bits) x
+pub refined-step : (table : Table) (al n r s : ℕ) (numbers : List ℤ) (code bits : List Bool) (x :
+    Band) → IsGood table
+    → IsCoded table (16 * r + s) code → s ≤ 15 → 0 < length numbers → length numbers ≤ n
+    → ((m : ℕ) → suc m ≡ n → ReadsJust (refined_piece al (refined_ac table al m) numbers r s) bits
+    x)
+    → ReadsJust (refined_ac table al n numbers) (code ++ bits) x
 refined-step table al (suc m) r s (z ∷ zs) code bits x good coded small some room piece = search (rules, refined-token)
-refined-step table al n r s places code bits x good coded small some room piece = absurd (omega arith)
+refined-step table al n r s numbers code bits x good coded small some room piece = absurd (omega
+    arith)
 
 pub range-after : (P : ℤ → Type 0) (front more : List ℤ) → AllByRecursion P (front ++ more) → AllByRecursion P more
 range-after P [] more h = h
 range-after P (v ∷ front) more h = range-after P front more h.1
 
 -- how many places a band has whose front ends with one more
-pub places-of : (al : ℕ) (front : List ℤ) (u : ℤ) (more : List ℤ)
-    → length (map (held al) (front ++ u ∷ more)) ≡ suc (length front + length (map (held al) more))
-places-of al [] u more = omega arith
-places-of al (v ∷ front) u more = let e = places-of al front u more in omega arith
+pub numbers-of : (al : ℕ) (front : List ℤ) (u : ℤ) (more : List ℤ)
+    → length (map (kept al) (front ++ u ∷ more)) ≡ suc (length front + length (map (kept al) more))
+numbers-of al [] u more = omega arith
+numbers-of al (v ∷ front) u more = let e = numbers-of al front u more in omega arith
 
 -- A refinement that was written is read as its numbers times 2 ^ al, from what is held before it,
 -- and as the run after it.
 pub takes-refinement : (table : Table) (al : ℕ) (band : List ℤ) (bits : List Bool) (run : ℕ) → IsGood table
     → AllByRecursion (InRange al) band
-    → WritesRefinement table band bits run → (n : ℕ) → length (map (held al) band) ≤ n
-    → ReadsJust (refined_ac table al n (map (held al) band)) bits (map (scaled al) band, run)
+    → WritesRefinement table band bits run → (n : ℕ) → length (map (kept al) band) ≤ n
+    → ReadsJust (refined_ac table al n (map (kept al) band)) bits (map (scaled al) band, run)
 unfolding refined_ac
 takes-refinement table al band bits run good range refined n room = takes-gives ([], 0)
 takes-refinement table al band bits run good range
     (found r front u code more bits' run' h none count new coded w) n room =
-    let size = places-of al front u more in
-    refined-step table al n r 1 (map (held al) (front ++ u ∷ more)) code _ _ good coded (omega arith) (omega arith) room
+    let size = numbers-of al front u more in
+    refined-step table al n r 1 (map (kept al) (front ++ u ∷ more)) code _ _ good coded (omega
+    arith) (omega arith) room
     (λ m e. piece-found al r (refined_ac table al m) front u more bits' run' none count new range
     (takes-refinement table al more bits' run' good
     (range-after (InRange al) (front ++ u ∷ []) more
     (subst (AllByRecursion (InRange al)) (sym (append_assoc front (u ∷ []) more)) range)) w m (omega arith)))
 takes-refinement table al band bits run good range (passed front code more bits' run' none count coded w) n room =
-    let size = places-of al front (pos 0) more in
-    refined-step table al n 15 0 (map (held al) (front ++ pos 0 ∷ more)) code _ _ good coded (omega arith)
+    let size = numbers-of al front (pos 0) more in
+    refined-step table al n 15 0 (map (kept al) (front ++ pos 0 ∷ more)) code _ _ good coded (omega
+    arith)
     (omega arith) room
     (λ m e. piece-passed al (refined_ac table al m) front more bits' run' none count range
     (takes-refinement table al more bits' run' good
     (range-after (InRange al) (front ++ pos 0 ∷ []) more
     (subst (AllByRecursion (InRange al)) (sym (append_assoc front (pos 0 ∷ []) more)) range)) w m (omega arith)))
 takes-refinement table al band bits run good range (none_left r e u others code h f none coded) n room =
-    refined-step table al n r 0 (map (held al) (u ∷ others)) code _ _ good coded (omega arith) (omega arith) room
+    refined-step table al n r 0 (map (kept al) (u ∷ others)) code _ _ good coded (omega arith)
+    (omega arith) room
     (λ m q. piece-none_left al r e (refined_ac table al m) (u ∷ others) h f none range)

@@ -56,7 +56,7 @@ abbrev pub DecodesImages :
 DecodesImages bytes_of old result new =
     (size : Size) (array : Coefficients) (image rest : List ℕ) (final : Found)
     (last : ℕ → Levels) →
-    ((place row column : ℕ) → Is8Bit (array place row column)) →
+    ((index row column : ℕ) → Is8Bit (array index row column)) →
     WritesImage array image final last → TakesPicture old.settings (at_size size final) →
     HasLeft size (image ++ rest) old.stage old.found old.source.bytes →
     old.source.known ≡ true →

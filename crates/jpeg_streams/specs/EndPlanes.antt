@@ -11,12 +11,12 @@ use Rattle.jpeg_streams.specs.Found.{Found}
 
 -- the blocks at a place, where blocks are held
 abbrev pub blocks_if : Bool → Arrays → ℕ → Option (List Block)
-blocks_if true held place = Some (get_or held place [])
-blocks_if false held place = None
+blocks_if true kept index = Some (get_or kept index [])
+blocks_if false kept index = None
 
 -- whether a frame has blocks that are held
-abbrev pub is_held : Found → Frame → Bool
-is_held found frame = is_progressive frame.process && found.scanned
+abbrev pub is_kept : Found → Frame → Bool
+is_kept found frame = is_progressive frame.process && found.scanned
 
 -- The plane that is decided, or else that of the blocks that are held, by the quantization table.
 abbrev pub plane_or : Component → Option (List ℕ) → Option (List ℕ) → Option (List Block)

@@ -44,7 +44,7 @@ pub record Found : Type 0 where
   pub restart : ℕ
   pub scanned : Bool
   pub metadata : Metadata
-  pub held : Arrays
+  pub kept : Arrays
   pub finished : List (List Bool)
   pub planes : List (Option (List ℕ))
   pub samples : List (Option (List ℕ))
@@ -61,7 +61,7 @@ nothing_found = record {
   restart = 0;
   scanned = false;
   metadata = no_metadata;
-  held = [];
+  kept = [];
   finished = replicate 4 none_finished;
   planes = replicate 4 None;
   samples = replicate 4 None;

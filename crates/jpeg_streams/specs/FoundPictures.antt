@@ -22,22 +22,22 @@ use Rattle.jpeg_streams.specs.ScanSegments.{is_progressive, plane_by}
 -- The plane of a component at the end of the image: the one that is decided; else, in a progressive
 -- frame of which a scan was read, that of the blocks held, by the quantization table in force.
 unfoldable pub plane_at_end : Found → Frame → ℕ → Component → Result (List ℕ) Fault
-plane_at_end found frame place c =
-    elim (slice_index_or found.planes place None) [
+plane_at_end found frame index c =
+    elim (slice_index_or found.planes index None) [
       | Some plane ↦ Ok plane
       | None ↦ elim (is_progressive frame.process && found.scanned) [
         | true ↦ needed (slice_index_or found.quantization c.factors.quantization None)
             >>= (λ quantization.
-            Ok (plane_by c quantization (get_or found.held place [])))
+            Ok (plane_by c quantization (get_or found.kept index [])))
         | false ↦ Err Malformed
       ]
     ]
 
 -- those of some components, from a place on
 unfoldable pub planes_from : Found → Frame → ℕ → List Component → Result (List (List ℕ)) Fault
-planes_from found frame place [] = Ok []
-planes_from found frame place (c ∷ more) =
-    plane_at_end found frame place c >>= (λ plane. planes_from found frame (place + 1) more
+planes_from found frame index [] = Ok []
+planes_from found frame index (c ∷ more) =
+    plane_at_end found frame index c >>= (λ plane. planes_from found frame (index + 1) more
     >>= (λ others. Ok (plane ∷ others)))
 
 -- The picture of one component: its plane, cropped to the picture as far as the plane goes.

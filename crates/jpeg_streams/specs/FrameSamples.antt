@@ -4,7 +4,7 @@ use Rattle.std.specs.List.{AllByRecursion}
 use Rattle.jpeg_segments.specs.Frame.{Component, Frame}
 use Rattle.jpeg_segments.specs.WrittenSegments.{FrameHeader, frame_written}
 use Rattle.jpeg_lossless.specs.Differences.{Part, lines_in}
-use Rattle.jpeg_lossless.specs.Places.{at_place}
+use Rattle.jpeg_lossless.specs.Positions.{at_position}
 use Rattle.jpeg_lossless.specs.Scans.{Way, samples_an_mcu}
 use Rattle.jpeg_streams.specs.Found.{Found}
 use Rattle.jpeg_streams.specs.Needed.{first_of}
@@ -24,8 +24,8 @@ pub record AreLinesOf (bound : ℕ) (c : Component) (lines : List (List ℕ)) : 
 -- Each component of a frame has samples of its size, and of the frame's precision.
 abbrev pub AreSamplesOf : Frame → Samples → Type 0
 AreSamplesOf frame samples =
-    (place : ℕ) (c : Component) → first_of (drop place frame.components) ≡ Some c →
-    AreLinesOf (2 ^ frame.precision) c (samples place)
+    (index : ℕ) (c : Component) → first_of (drop index frame.components) ≡ Some c →
+    AreLinesOf (2 ^ frame.precision) c (samples index)
 
 -- The parameters of a header fit their fields.
 pub record FitsFields (h : FrameHeader) : Type 0 where
@@ -48,8 +48,8 @@ pub record AreWrittenIn (h : FrameHeader) (samples : Samples) (bytes : List ℕ)
 -- Samples agree where the components of a frame have them.
 abbrev pub AgreeInside : Frame → Samples → Samples → Type 0
 AgreeInside frame a b =
-    (place x y : ℕ) (c : Component) → first_of (drop place frame.components) ≡ Some c →
-    x < c.width → y < c.height → at_place (a place) x y ≡ at_place (b place) x y
+    (index x y : ℕ) (c : Component) → first_of (drop index frame.components) ≡ Some c →
+    x < c.width → y < c.height → at_position (a index) x y ≡ at_position (b index) x y
 
 -- The rows of differences of an interval agree but for padding. The samples of the first component
 -- begin at `from` in an MCU.

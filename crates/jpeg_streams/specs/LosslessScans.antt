@@ -15,7 +15,7 @@ use Rattle.jpeg_streams.specs.Needed.{first_of, needed}
 
 -- A component of a scan: its place in the frame, the component, and its table.
 pub record LosslessCoding : Type 0 where
-  pub place : ℕ
+  pub index : ℕ
   pub component : Component
   pub table : Table
 
@@ -56,39 +56,39 @@ way_of frame predictor point codings = record {
 -- the component at a place, with the table in force for its differences
 unfoldable pub lossless_coding :
     List (Option Table) → Frame → ℕ → ℕ → Result LosslessCoding Fault
-lossless_coding tables frame place dc_place = do
-  component ← needed (first_of (drop place frame.components))
-  table ← needed (slice_index_or tables dc_place None)
-  Ok (record { place = place; component = component; table = table })
+lossless_coding tables frame index dc_destination = do
+  component ← needed (first_of (drop index frame.components))
+  table ← needed (slice_index_or tables dc_destination None)
+  Ok (record { index = index; component = component; table = table })
 
 -- those at some places, with the places of their tables
 unfoldable pub lossless_codings :
     List (Option Table) → Frame → List ℕ → List ℕ → Result (List LosslessCoding) Fault
-lossless_codings tables frame (place ∷ places) (d ∷ dc_places) =
-    lossless_coding tables frame place d >>= (λ c.
-    lossless_codings tables frame places dc_places >>= (λ others. Ok (c ∷ others)))
+lossless_codings tables frame (index ∷ indices) (d ∷ dc_destinations) =
+    lossless_coding tables frame index d >>= (λ c.
+    lossless_codings tables frame indices dc_destinations >>= (λ others. Ok (c ∷ others)))
 lossless_codings tables frame _ _ = Ok []
 
 -- the tables at some places
 unfoldable pub tables_in : List (Option Table) → List ℕ → Result (List Table) Fault
 tables_in tables [] = Ok []
-tables_in tables (d ∷ dc_places) =
+tables_in tables (d ∷ dc_destinations) =
     needed (slice_index_or tables d None) >>= (λ table.
-    tables_in tables dc_places >>= (λ others. Ok (table ∷ others)))
+    tables_in tables dc_destinations >>= (λ others. Ok (table ∷ others)))
 
 -- ---- samples
 
 -- The samples of a scan decide those of the components at its places.
 unfoldable pub with_samples :
     List ℕ → List (List ℕ) → List (Option (List ℕ)) → List (Option (List ℕ))
-with_samples (place ∷ places) (plane ∷ planes) samples =
-    with_samples places planes (slice_set samples place (Some plane))
+with_samples (index ∷ indices) (plane ∷ planes) samples =
+    with_samples indices planes (slice_set samples index (Some plane))
 with_samples _ _ samples = samples
 
 -- the samples at the places of some components, from a place on, each of which has to be there
 unfoldable pub samples_from :
     List (Option (List ℕ)) → ℕ → List Component → Result (List (List ℕ)) Fault
-samples_from samples place [] = Ok []
-samples_from samples place (c ∷ more) =
-    needed (slice_index_or samples place None) >>= (λ plane.
-    samples_from samples (place + 1) more >>= (λ others. Ok (plane ∷ others)))
+samples_from samples index [] = Ok []
+samples_from samples index (c ∷ more) =
+    needed (slice_index_or samples index None) >>= (λ plane.
+    samples_from samples (index + 1) more >>= (λ others. Ok (plane ∷ others)))

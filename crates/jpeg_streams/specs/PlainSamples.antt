@@ -3,7 +3,7 @@ use Rattle.std.specs.Prelude.{◌≡◌, ℕ, List, length, map}
 use Rattle.std.specs.List.{AllByRecursion, concat, range_with_len}
 use Rattle.jpeg_segments.specs.Frame.{Frame}
 use Rattle.jpeg_lossless.specs.Pictures.{most_across, most_down, sample_bytes}
-use Rattle.jpeg_lossless.specs.Places.{at_place}
+use Rattle.jpeg_lossless.specs.Positions.{at_position}
 use Rattle.jpeg_lossless.specs.Prediction.{start_of}
 use Rattle.jpeg_lossless.specs.Scans.{Way}
 use Rattle.jpeg_bits.specs.declared.scan.Predictor.{Predictor}
@@ -20,7 +20,8 @@ HasEqualFactors frame =
 -- The bytes of a pixel: of each component the sample in its column and line.
 abbrev pub plain_pixel : ℕ → ℕ → Samples → ℕ → ℕ → List ℕ
 plain_pixel precision count samples y x =
-    concat (map (λ k. sample_bytes precision (at_place (samples k) x y)) (range_with_len 0 count))
+    concat (map (λ k. sample_bytes precision (at_position (samples k) x y)) (range_with_len 0
+    count))
 
 abbrev pub plain_line : Frame → Samples → ℕ → List ℕ
 plain_line frame samples y =

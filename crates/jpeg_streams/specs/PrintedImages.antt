@@ -27,7 +27,7 @@ abbrev pub PrintsImages : {X : Type 0} →
     Option (List ℕ) → Option (List ℕ) → Result X Error → Option (List ℕ) → Type 0
 PrintsImages remaining old result new =
     (array : Coefficients) (image rest : List ℕ) (final : Found) (last : ℕ → Levels) →
-    ((place row column : ℕ) → Is8Bit (array place row column)) →
+    ((index row column : ℕ) → Is8Bit (array index row column)) →
     WritesImage array image final last → TakesPicture default_settings final →
     Tells remaining (image ++ rest) →
     (picture : List ℕ)

@@ -57,14 +57,14 @@ pass_of scan =
 unfoldable pub tables_of : Found → Scan → Tables
 tables_of found scan =
     if found.metadata.avi1 then record {
-      dc = with_defaults luminance_dc chrominance_dc scan.dc_places found.huffman.dc;
-      ac = with_defaults luminance_ac chrominance_ac scan.ac_places found.huffman.ac;
+      dc = with_defaults luminance_dc chrominance_dc scan.dc_destinations found.huffman.dc;
+      ac = with_defaults luminance_ac chrominance_ac scan.ac_destinations found.huffman.ac;
     } else found.huffman
 
 -- A component of a scan: its place in the frame, the component, its quantization table, and its
 -- Huffman tables.
 pub record Coding : Type 0 where
-  pub place : ℕ
+  pub index : ℕ
   pub component : Component
   pub quantization : List ℕ
   pub dc : Table
@@ -81,13 +81,13 @@ needed_if false class table = Ok (no_table class)
 -- The quantization table is needed, a table for DC where the pass has DC, also in a refinement, and
 -- one for AC where it has AC.
 unfoldable pub component_coding : Found → Frame → Pass → Tables → ℕ → ℕ → ℕ → Result Coding Fault
-component_coding found frame p tables place dc_place ac_place = do
-  component ← needed (first_of (drop place frame.components))
+component_coding found frame p tables index dc_destination ac_destination = do
+  component ← needed (first_of (drop index frame.components))
   quantization ← needed (slice_index_or found.quantization component.factors.quantization None)
-  dc ← needed_if (p.ss == 0) classes.DC (slice_index_or tables.dc dc_place None)
-  ac ← needed_if (nat_lt 0 p.se) classes.AC (slice_index_or tables.ac ac_place None)
+  dc ← needed_if (p.ss == 0) classes.DC (slice_index_or tables.dc dc_destination None)
+  ac ← needed_if (nat_lt 0 p.se) classes.AC (slice_index_or tables.ac ac_destination None)
   Ok (record {
-    place = place;
+    index = index;
     component = component;
     quantization = quantization;
     dc = dc;
@@ -97,16 +97,17 @@ component_coding found frame p tables place dc_place ac_place = do
 -- those at some places, with the places of their tables
 unfoldable pub codings_from : Found → Frame → Pass → Tables → List ℕ → List ℕ → List ℕ
     → Result (List Coding) Fault
-codings_from found frame p tables (place ∷ places) (d ∷ dc_places) (a ∷ ac_places) =
-    component_coding found frame p tables place d a
-    >>= (λ c. codings_from found frame p tables places dc_places ac_places
+codings_from found frame p tables (index ∷ indices) (d ∷ dc_destinations) (a ∷ ac_destinations) =
+    component_coding found frame p tables index d a
+    >>= (λ c. codings_from found frame p tables indices dc_destinations ac_destinations
     >>= (λ others. Ok (c ∷ others)))
 codings_from found frame p tables _ _ _ = Ok []
 
 unfoldable pub codings_of : Found → Frame → Scan → Result (List Coding) Fault
 codings_of found frame scan =
-    codings_from found frame (pass_of scan) (tables_of found scan) scan.components scan.dc_places
-    scan.ac_places
+    codings_from found frame (pass_of scan) (tables_of found scan) scan.components
+    scan.dc_destinations
+    scan.ac_destinations
 
 -- how the blocks of each component of a scan are coded, from a slot on
 unfoldable pub vias_from : ℕ → List Coding → List Via
@@ -117,7 +118,7 @@ vias_from slot (c ∷ more) = record { component = slot; dc = c.dc; ac = c.ac } 
 -- The blocks of a frame's components before a scan: in a progressive frame those held, and in a
 -- sequential one zeros.
 unfoldable pub arrays_before : Found → Frame → Arrays
-arrays_before found frame = if is_progressive frame.process && found.scanned then found.held
+arrays_before found frame = if is_progressive frame.process && found.scanned then found.kept
     else zero_arrays frame.components
 
 -- The blocks of the scan's components after it, and the marker after it, if it is met.
@@ -127,7 +128,7 @@ scan_arrays found frame scan codings bytes =
     let components = map (λ c. c.component) codings in
     arrays_at (pass_of scan) (found.restart * mcu_size components) (vias_from 0 codings)
     (spots_of frame components)
-    (map (λ c. get_or (arrays_before found frame) c.place []) codings) bytes
+    (map (λ c. get_or (arrays_before found frame) c.index []) codings) bytes
 
 -- ---- after a scan
 
@@ -154,16 +155,16 @@ unfoldable pub with_plane : Coding → List Block → List Bool → List (Option
     → List (Option (List ℕ))
 with_plane c blocks marks planes =
     elim (list_all (λ mark. mark) marks) [
-      | true ↦ slice_set planes c.place (decided (slice_index_or planes c.place None)
+      | true ↦ slice_set planes c.index (decided (slice_index_or planes c.index None)
           (plane_by c.component c.quantization blocks))
       | false ↦ planes
     ]
 
 unfoldable pub with_blocks : Pass → Coding → List Block → Found → Found
 with_blocks p c blocks found =
-    let marks = finished_by p (slice_index_or found.finished c.place none_finished) in
+    let marks = finished_by p (slice_index_or found.finished c.index none_finished) in
     record found {
-      finished = slice_set found.finished c.place marks;
+      finished = slice_set found.finished c.index marks;
       planes = with_plane c blocks marks found.planes;
     }
 
@@ -175,19 +176,19 @@ with_arrays p _ _ found = found
 
 -- the blocks of a scan's components in place of those of the frame
 unfoldable pub put_arrays : List Coding → Arrays → Arrays → Arrays
-put_arrays (c ∷ codings) (blocks ∷ arrays) held =
-    put_arrays codings arrays (set held c.place blocks)
-put_arrays _ _ held = held
+put_arrays (c ∷ codings) (blocks ∷ arrays) kept =
+    put_arrays codings arrays (set kept c.index blocks)
+put_arrays _ _ kept = kept
 
-abbrev pub held_after : Found → Frame → List Coding → Arrays → Arrays
-held_after found frame codings arrays = if is_progressive frame.process
+abbrev pub blocks_after : Found → Frame → List Coding → Arrays → Arrays
+blocks_after found frame codings arrays = if is_progressive frame.process
     then put_arrays codings arrays (arrays_before found frame) else []
 
 unfoldable pub after_scan : Found → Frame → Scan → List Coding → Arrays → Found
 after_scan found frame scan codings arrays =
     with_arrays (pass_of scan) codings arrays (record found {
       scanned = true;
-      held = held_after found frame codings arrays;
+      kept = blocks_after found frame codings arrays;
     })
 
 -- The marker after a scan, where restart markers at its end are passed over, fewer than this many.
@@ -224,14 +225,14 @@ abbrev pub after_samples : Found → List LosslessCoding → List (List ℕ) →
 after_samples found codings planes =
     record found {
       scanned = true;
-      samples = with_samples (map (λ k. k.place) codings) planes
+      samples = with_samples (map (λ k. k.index) codings) planes
           found.samples;
     }
 
 -- A lossless scan. It has no quantization tables, and no default tables.
 unfoldable pub lossless_scan : Found → Frame → Scan → List ℕ → Outcome Turn
 lossless_scan found frame scan bytes = do
-  codings ← lossless_codings found.huffman.dc frame scan.components scan.dc_places
+  codings ← lossless_codings found.huffman.dc frame scan.components scan.dc_destinations
   read ← scan_samples found frame scan codings bytes
   met ← after_restarts (suc (length read.1)) read.0.1 read.1
   Ok (scan_turn found (after_samples found codings read.0.0) met.0, met.1)

@@ -52,7 +52,7 @@ AreSampled (c ∷ more) (s ∷ samples) = IsSampled c s × AreSampled more sampl
 -- that are decided are of its components, and so are the samples. Before the frame no scan was read.
 pub record IsSound (found : Found) : Type 0 where
   pub frames : (frame : Frame) → found.frame ≡ Some frame → IsDecodedFrame frame
-  pub held : (frame : Frame) → found.frame ≡ Some frame
+  pub kept : (frame : Frame) → found.frame ≡ Some frame
       → AreArrays frame.components (arrays_before found frame)
   pub planes : (frame : Frame) → found.frame ≡ Some frame → ArePlanes frame.components found.planes
   pub samples : (frame : Frame) → found.frame ≡ Some frame

@@ -43,12 +43,12 @@ colour_frame number height width factors =
 
 -- A Huffman table for a class and place, with one code of one bit.
 abbrev pub one_code : ℕ → ℕ → List ℕ
-one_code place symbol = 255 ∷ 196 ∷ 0 ∷ 20 ∷ place ∷ 1 ∷ (replicate 15 0 ++ symbol ∷ [])
+one_code index symbol = 255 ∷ 196 ∷ 0 ∷ 20 ∷ index ∷ 1 ∷ (replicate 15 0 ++ symbol ∷ [])
 
 -- One with a code of one bit and a code of two.
 abbrev pub two_codes : ℕ → ℕ → ℕ → List ℕ
-two_codes place first second =
-    255 ∷ 196 ∷ 0 ∷ 21 ∷ place ∷ 1 ∷ 1 ∷ (replicate 14 0 ++ first ∷ second ∷ [])
+two_codes index first second =
+    255 ∷ 196 ∷ 0 ∷ 21 ∷ index ∷ 1 ∷ 1 ∷ (replicate 14 0 ++ first ∷ second ∷ [])
 
 -- A restart interval of this many MCUs, up to 255.
 abbrev pub restart_interval : ℕ → List ℕ

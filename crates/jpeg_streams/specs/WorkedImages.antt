@@ -38,7 +38,7 @@ grey_blocks =
     ∷ flat_block (pos 7) ∷ []
 
 abbrev pub grey_array : Coefficients
-grey_array place row column = in_column grey_blocks column
+grey_array index row column = in_column grey_blocks column
 
 -- Codes for AC: 0 for a value of one bit, 10 for the end of the band, 110 for that of two or three
 -- blocks.
@@ -78,7 +78,7 @@ colour_blocks =
     ∷ (flat_block (pos 15) ∷ flat_block (pos 12) ∷ []) ∷ []
 
 abbrev pub colour_array : Coefficients
-colour_array place row column = in_column (get_or colour_blocks place []) column
+colour_array index row column = in_column (get_or colour_blocks index []) column
 
 -- Two MCUs of four blocks, each an interval. The first component's second block in the second MCU
 -- is padding, and is sent with DC -1.

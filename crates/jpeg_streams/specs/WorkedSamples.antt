@@ -47,7 +47,7 @@ abbrev pub other_scan : ScanHeader
 other_scan = samples_scan (choice 1 0 ∷ choice 2 1 ∷ []) 1
 
 abbrev pub table_segment : Segment
-table_segment = Huffman (record { place = 0; table = small_table } ∷ [])
+table_segment = Huffman (record { destination = 0; table = small_table } ∷ [])
 
 -- the third component: 0 101, a restart, 0 0, each filled up with ones
 abbrev pub third_data : List ℕ

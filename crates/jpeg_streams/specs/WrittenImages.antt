@@ -49,7 +49,7 @@ pub data Writes (array : Coefficients) :
       → IsLegalScan said frame levels (scan_written frame h) codings
       → WritesScan frame said.restart (pass_of (scan_written frame h)) codings array data_bytes
       → Writes array said
-      (levels_after (pass_of (scan_written frame h)) (map (λ c. c.place) codings) levels) true
+      (levels_after (pass_of (scan_written frame h)) (map (λ c. c.index) codings) levels) true
       more final last
       → Writes array said levels scanned
       (marker fill 218 (with_length (scan_payload h) ++ (data_bytes ++ more))) final last

@@ -12,7 +12,7 @@ use Rattle.jpeg_segments.specs.WrittenSegments.{payload_of}
 use Rattle.jpeg_segments.specs.WrittenSegments.{Segment, with_length}
 use Rattle.jpeg_lossless.specs.Differences.{Part}
 use Rattle.jpeg_lossless.specs.Pictures.{most_across, most_down, sample_bytes}
-use Rattle.jpeg_lossless.specs.Places.{at_place}
+use Rattle.jpeg_lossless.specs.Positions.{at_position}
 use Rattle.jpeg_lossless.specs.Scans.{rows_of_interval}
 use Rattle.jpeg_lossless.specs.Written.{WritesIntervals}
 use Rattle.jpeg_bits.specs.Written.{marker}
@@ -51,7 +51,7 @@ StandsInLossless said s = MayStand said.frame s × IsLossless s
 -- A component that a scan names, and the table in force at the destination that it names.
 pub record IsLosslessCoding (said : Found) (frame : Frame) (c : Choice) (k : LosslessCoding) : Type
     0 where
-  pub stands : k.place ≡ c.component
+  pub stands : k.index ≡ c.component
   pub component : first_of (drop c.component frame.components) ≡ Some k.component
   pub table : slice_index_or said.huffman.dc c.dc None ≡ Some k.table
 
@@ -77,7 +77,7 @@ unfoldable pub HoldSamples
     : Samples → List LosslessCoding → List Part → List (List (List ℕ)) → Type 0
 HoldSamples samples [] [] [] = Unit {0}
 HoldSamples samples (k ∷ codings) (p ∷ parts) (lines ∷ more) =
-    (own_lines p lines ≡ samples k.place) × HoldSamples samples codings parts more
+    (own_lines p lines ≡ samples k.index) × HoldSamples samples codings parts more
 HoldSamples samples _ _ _ = ⊥
 
 -- The data of a scan: the samples of its components, by the tables in force, without a point
@@ -89,7 +89,7 @@ pub record WritesSamplesScan (said : Found) (frame : Frame) (h : ScanHeader) (sa
   pub point : h.low ≡ 0
   pub interval : IsInterval (mcus_across frame codings) (mcus_down frame codings) said.restart
   pub lines : List (List (List ℕ))
-  pub held : HoldSamples samples codings (parts_of codings) lines
+  pub kept : HoldSamples samples codings (parts_of codings) lines
   pub written : WritesIntervals (way_of frame (predictor_by h.first) 0 codings)
       (rows_of_interval (mcus_across frame codings) (mcus_down frame codings) said.restart) 0
       (mcus_down frame codings) lines bytes
@@ -131,12 +131,12 @@ pub record WritesSamples (samples : Samples) (bytes : List ℕ) (final : Found) 
 
 -- The bytes of pixel (x, y): of each component, from a place on, the sample that its factors name.
 unfoldable pub pixel_from : Frame → Samples → ℕ → ℕ → ℕ → List Component → List ℕ
-pixel_from frame samples y x place [] = []
-pixel_from frame samples y x place (c ∷ more) =
+pixel_from frame samples y x index [] = []
+pixel_from frame samples y x index (c ∷ more) =
     sample_bytes frame.precision
-    (at_place (samples place) (x * c.factors.horizontal / most_across frame)
+    (at_position (samples index) (x * c.factors.horizontal / most_across frame)
     (y * c.factors.vertical / most_down frame))
-    ++ pixel_from frame samples y x (place + 1) more
+    ++ pixel_from frame samples y x (index + 1) more
 
 abbrev pub samples_line : Frame → Samples → ℕ → List ℕ
 samples_line frame samples y =

@@ -38,7 +38,7 @@ pub data WritesFront (array : Coefficients) :
       → IsLegalScan said frame levels (scan_written frame h) codings
       → WritesScan frame said.restart (pass_of (scan_written frame h)) codings array data_bytes
       → WritesFront array said
-      (levels_after (pass_of (scan_written frame h)) (map (λ c. c.place) codings) levels) true
+      (levels_after (pass_of (scan_written frame h)) (map (λ c. c.index) codings) levels) true
       more next reached after
       → WritesFront array said levels scanned
       (marker fill 218 (with_length (scan_payload h) ++ (data_bytes ++ more))) next reached after
@@ -70,6 +70,6 @@ pub record HaveSamePicture (a b : Found) : Type 0 where
 -- padding, up to whole MCUs.
 abbrev pub AgreeOnOwn : Frame → Coefficients → Coefficients → Type 0
 AgreeOnOwn frame a b =
-    (place row column : ℕ) (c : Component) → first_of (drop place frame.components) ≡ Some c →
+    (index row column : ℕ) (c : Component) → first_of (drop index frame.components) ≡ Some c →
     row < (grid_of c).own_high → column < (grid_of c).own_wide →
-    a place row column ≡ b place row column
+    a index row column ≡ b index row column

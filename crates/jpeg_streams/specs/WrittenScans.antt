@@ -30,8 +30,8 @@ Coefficients = ℕ → ℕ → ℕ → Block
 -- ---- the blocks of a scan
 
 -- the place in the frame of the component in a slot of the scan
-abbrev pub place_at : List Coding → ℕ → ℕ
-place_at codings slot = get_or (map (λ c. c.place) codings) slot 0
+abbrev pub index_at : List Coding → ℕ → ℕ
+index_at codings slot = get_or (map (λ c. c.index) codings) slot 0
 
 abbrev pub no_grid : Grid
 no_grid = record { own_wide = 0; own_high = 0; wide = 0; high = 0 }
@@ -49,7 +49,7 @@ pub record IsOwn (g : Grid) (index : ℕ) : Type 0 where
 abbrev pub block_for : List Coding → Coefficients → Spot → Block
 block_for codings array s =
     let g = grid_at (components_of codings) s.slot in
-    array (place_at codings s.slot) (s.index / g.wide) (s.index % g.wide)
+    array (index_at codings s.slot) (s.index / g.wide) (s.index % g.wide)
 
 -- the blocks of a scan in order, each with its component's way of coding
 abbrev pub written_turns : List Via → List Spot → (Spot → Block) → List (Via × Block)
@@ -74,16 +74,16 @@ pub record WritesScan (frame : Frame) (restart : ℕ) (p : Pass) (codings : List
 
 -- The table at a destination, where the scan needs one.
 abbrev pub InForce : Bool → HuffmanTableClass → List (Option Table) → ℕ → Table → Type 0
-InForce true class tables place table = slice_index_or tables place None ≡ Some table
-InForce false class tables place table = table ≡ no_table class
+InForce true class tables index table = slice_index_or tables index None ≡ Some table
+InForce false class tables index table = table ≡ no_table class
 
 -- A component of a scan, by its place in the frame and the destinations of its Huffman tables: its
 -- quantization table is defined, its DC table where the scan codes DC, and its AC table where it
 -- codes AC.
-pub record IsCoding (w : Found) (frame : Frame) (p : Pass) (tables : Tables) (place d a : ℕ)
+pub record IsCoding (w : Found) (frame : Frame) (p : Pass) (tables : Tables) (index d a : ℕ)
     (k : Coding) : Type 0 where
-  pub stands : k.place ≡ place
-  pub component : first_of (drop place frame.components) ≡ Some k.component
+  pub stands : k.index ≡ index
+  pub component : first_of (drop index frame.components) ≡ Some k.component
   pub quantization :
       slice_index_or w.quantization k.component.factors.quantization None ≡ Some k.quantization
   pub dc : InForce (p.ss == 0) classes.DC tables.dc d k.dc
@@ -92,11 +92,12 @@ pub record IsCoding (w : Found) (frame : Frame) (p : Pass) (tables : Tables) (pl
 pub data AreCodings (w : Found) (frame : Frame) (p : Pass) (tables : Tables) :
     List ℕ → List ℕ → List ℕ → List Coding → Type 0 where
   no_more : AreCodings w frame p tables [] [] [] []
-  and_more : (place d a : ℕ) (places dc_places ac_places : List ℕ) (k : Coding)
+  and_more : (index d a : ℕ) (indices dc_destinations ac_destinations : List ℕ) (k : Coding)
       (codings : List Coding)
-      → IsCoding w frame p tables place d a k
-      → AreCodings w frame p tables places dc_places ac_places codings
-      → AreCodings w frame p tables (place ∷ places) (d ∷ dc_places) (a ∷ ac_places) (k ∷ codings)
+      → IsCoding w frame p tables index d a k
+      → AreCodings w frame p tables indices dc_destinations ac_destinations codings
+      → AreCodings w frame p tables (index ∷ indices) (d ∷ dc_destinations) (a ∷ ac_destinations)
+      (k ∷ codings)
 
 -- a component has its quantization table
 pub record HasTable (w : Found) (c : Component) : Type 0 where
@@ -107,22 +108,22 @@ pub record HasTable (w : Found) (c : Component) : Type 0 where
 
 -- the levels of each component after a scan of one
 abbrev pub levels_of_one : Pass → ℕ → (ℕ → Levels) → ℕ → Levels
-levels_of_one p place levels k =
-    elim (k == place) as (λ _. Levels) [ true ↦ sent_after p (levels k) | false ↦ levels k ]
+levels_of_one p index levels k =
+    elim (k == index) as (λ _. Levels) [ true ↦ sent_after p (levels k) | false ↦ levels k ]
 
 -- after a scan of some
 unfoldable pub levels_after : Pass → List ℕ → (ℕ → Levels) → ℕ → Levels
 levels_after p [] levels = levels
-levels_after p (place ∷ places) levels = levels_after p places (levels_of_one p place levels)
+levels_after p (index ∷ indices) levels = levels_after p indices (levels_of_one p index levels)
 
 -- A scan may be sent where these levels were: its tables are defined, and each of its components
 -- allows it.
 pub record IsLegalScan (w : Found) (frame : Frame) (levels : ℕ → Levels) (scan : Scan)
     (codings : List Coding) : Type 0 where
   pub are_in_force :
-      AreCodings w frame (pass_of scan) (tables_of w scan) scan.components scan.dc_places
-      scan.ac_places codings
-  pub legal : AllByRecursion (λ c. IsLegal (pass_of scan) (levels c.place)) codings
+      AreCodings w frame (pass_of scan) (tables_of w scan) scan.components scan.dc_destinations
+      scan.ac_destinations codings
+  pub legal : AllByRecursion (λ c. IsLegal (pass_of scan) (levels c.index)) codings
 
 -- Every bit of each coefficient was sent.
 pub record IsComplete (l : Levels) : Type 0 where

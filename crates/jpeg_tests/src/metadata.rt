@@ -102,8 +102,8 @@ fn a_profile_in_many_parts(rt: HostRuntime) -> Result<(), Fail> {
     let stream = with_profile(rt.alloc(), 254, 1, 254, "")?;
     let profile = profile_in(rt.alloc(), &stream)?.ok_or("no profile")?;
     assert_eq!(rt; profile.len(), 254);
-    for (place, byte) in profile.iter().enumerate() {
-        assert_eq!(rt; usize::from(*byte), place + 1);
+    for (index, byte) in profile.iter().enumerate() {
+        assert_eq!(rt; usize::from(*byte), index + 1);
     }
     Ok(())
 }

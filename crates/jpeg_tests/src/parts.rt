@@ -82,7 +82,7 @@ fn a_huffman_table_is_read(rt: HostRuntime) -> Result<(), Fail> {
 }
 
 #[test]
-fn a_baseline_frame_has_no_place_3(rt: HostRuntime) -> Result<(), Fail> {
+fn a_baseline_frame_has_no_destination_3(rt: HostRuntime) -> Result<(), Fail> {
     let segment = bytes(rt.alloc(), &["0014 13 01 00*15 00"])?;
     let refused = parse_dht(rt.alloc(), &mut Source::new(segment.as_slice()), Some(true));
     assert!(rt; matches!(&refused, Err(Error::Format(_))));

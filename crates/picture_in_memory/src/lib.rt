@@ -34,7 +34,7 @@ pub fn picture_of(alloc: Global, bytes: &[u8]) -> Result<Vec<u8>>
 
     // Where the bytes are written for the coefficients of an image, it is their picture.
     ensures images { (array : Coefficients) (image rest : List ℕ) (final : Found)
-        (last : ℕ → Levels) → ((place row column : ℕ) → Is8Bit (array place row column)) →
+        (last : ℕ → Levels) → ((index row column : ℕ) → Is8Bit (array index row column)) →
         WritesImage array image final last → TakesPicture default_settings final →
         bytes.now ≡ image ++ rest → length bytes.now < 2 ^ 64 →
         IfOk result (λ pixels.

@@ -249,7 +249,7 @@ fn what_is_passed_over_changes_nothing(rt: HostRuntime) -> Result<(), Fail> {
 }
 
 #[test]
-fn segments_without_a_place_are_refused(rt: HostRuntime) -> Result<(), Fail> {
+fn misplaced_segments_are_refused(rt: HostRuntime) -> Result<(), Fail> {
     for (segment, gives) in REFUSED_SEGMENTS.iter() {
         let before = ["FFD8", ONES, *segment, FRAME, DC_4, AC_0, SCAN, "43 FFD9"];
         let after = ["FFD8", ONES, FRAME, *segment, DC_4, AC_0, SCAN, "43 FFD9"];

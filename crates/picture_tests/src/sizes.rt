@@ -39,7 +39,7 @@ fn goes_down(samples: &[u8]) -> bool {
 /// Asserts what the samples of a longest picture are: block by block, and some by their number.
 fn assert_samples(rt: &impl Abort, name: &str, samples: &[u8]) {
     assert!(rt; samples.len() == 65535, "{name}");
-    for (place, sample) in [
+    for (index, sample) in [
         (0, 129),
         (7, 129),
         (8, 127),
@@ -51,7 +51,7 @@ fn assert_samples(rt: &impl Abort, name: &str, samples: &[u8]) {
         (65534, 255),
     ] {
         assert!(rt;
-            samples.get(place) == Some(&sample),
+            samples.get(index) == Some(&sample),
             "{name}: sample {place}"
         );
     }

@@ -22,8 +22,8 @@ impl Bits {
 
     /// Puts the lowest bits of a number, the highest of them first.
     pub fn put(&mut self, value: u16, count: u8) -> Result<(), AllocError> {
-        for place in (0..count).rev() {
-            self.put_bit(value.wrapping_shr(u32::from(place)) & 1 == 1)?;
+        for index in (0..count).rev() {
+            self.put_bit(value.wrapping_shr(u32::from(index)) & 1 == 1)?;
         }
         Ok(())
     }

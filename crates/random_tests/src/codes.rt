@@ -101,10 +101,10 @@ fn all_symbols(alloc: Global, is_dc: bool) -> Result<Vec<u8>, AllocError> {
 
 /// Puts bytes in a random order.
 fn shuffle(random: &mut Random, bytes: &mut Vec<u8>) {
-    for place in 0..bytes.len() {
+    for index in 0..bytes.len() {
         let other = random.below(bytes.len());
-        if place < bytes.len() && other < bytes.len() {
-            bytes.as_mut_slice().swap(place, other);
+        if index < bytes.len() && other < bytes.len() {
+            bytes.as_mut_slice().swap(index, other);
         }
     }
 }

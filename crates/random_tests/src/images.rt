@@ -168,10 +168,10 @@ fn copied(
 /// 0 in place of what no scan has sent (T.81, G.1.2.1).
 fn cut_block(block: &Block, levels: &[u8]) -> Block {
     let mut cut = [0; 64];
-    let places = block.iter().zip(levels).enumerate();
-    for (to, (place, (value, level))) in cut.iter_mut().zip(places) {
+    let indices = block.iter().zip(levels).enumerate();
+    for (to, (index, (value, level))) in cut.iter_mut().zip(indices) {
         if *level != UNSENT {
-            *to = cut_value(*value, u32::from(*level), place == 0);
+            *to = cut_value(*value, u32::from(*level), index == 0);
         }
     }
     cut
@@ -274,9 +274,9 @@ pub fn random_block(random: &mut Random, density: usize) -> Block {
         _ => 80,
     };
     for _ in 0..random.below(most) {
-        let place = random.below(64);
+        let index = random.below(64);
         let value = random_value(random);
-        if let Some(to) = block.get_mut(place) {
+        if let Some(to) = block.get_mut(index) {
             *to = value;
         }
     }

@@ -33,8 +33,8 @@ struct Grid {
 impl Grid {
     /// The sample in a column of a line, or 0 where there is none.
     fn sample(&self, column: usize, line: usize) -> i32 {
-        let place = line.wrapping_mul(self.across).wrapping_add(column);
-        i32::from(self.samples.get(place).copied().unwrap_or(0))
+        let index = line.wrapping_mul(self.across).wrapping_add(column);
+        i32::from(self.samples.get(index).copied().unwrap_or(0))
     }
 
     /// What a sample is predicted as. The lines of its interval begin with this one.

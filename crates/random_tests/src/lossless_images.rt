@@ -28,8 +28,8 @@ impl Plane {
         if column >= self.across || line >= self.down {
             return None;
         }
-        let place = line.saturating_mul(self.across).saturating_add(column);
-        self.samples.get(place).copied()
+        let index = line.saturating_mul(self.across).saturating_add(column);
+        self.samples.get(index).copied()
     }
 }
 

@@ -45,8 +45,8 @@ impl Random {
 
     /// One of these numbers, or 0 where there are none.
     pub fn one_of(&mut self, numbers: &[usize]) -> usize {
-        let place = self.below(numbers.len());
-        numbers.get(place).copied().unwrap_or(0)
+        let index = self.below(numbers.len());
+        numbers.get(index).copied().unwrap_or(0)
     }
 
     /// A byte.

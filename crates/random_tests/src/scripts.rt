@@ -24,17 +24,17 @@ impl Levels {
     }
 
     /// The level of a component's coefficient.
-    fn level(&self, component: usize, place: usize) -> u8 {
-        let place = component.saturating_mul(64).saturating_add(place);
-        self.all.get(place).copied().unwrap_or(0)
+    fn level(&self, component: usize, index: usize) -> u8 {
+        let index = component.saturating_mul(64).saturating_add(index);
+        self.all.get(index).copied().unwrap_or(0)
     }
 
     /// Notes what a scan sends.
     pub fn note(&mut self, scan: &Scan) {
         for (levels, is_included) in self.all.chunks_mut(64).zip(scan.includes) {
             if is_included {
-                for (place, level) in levels.iter_mut().enumerate() {
-                    if place >= scan.start && place <= scan.end {
+                for (index, level) in levels.iter_mut().enumerate() {
+                    if index >= scan.start && index <= scan.end {
                         *level = scan.level;
                     }
                 }
@@ -56,22 +56,22 @@ impl Levels {
 
     /// A scan of a progressive frame that may follow.
     pub fn progressive_scan(&self, random: &mut Random, image: &Image) -> Scan {
-        let (component, place) = self.open_place(random, image.components.len());
-        let level = self.level(component, place);
-        let includes = if place == 0 {
+        let (component, index) = self.open_index(random, image.components.len());
+        let level = self.level(component, index);
+        let includes = if index == 0 {
             self.group(random, image, level, false)
         } else {
             only(component)
         };
-        let end = if place == 0 {
+        let end = if index == 0 {
             0
         } else {
-            self.band_end(random, component, place)
+            self.band_end(random, component, index)
         };
         let run = random.one_of(&[1, 2, 5, 0x7FFF, 0x7FFF]);
         Scan {
             includes,
-            start: place,
+            start: index,
             end,
             before: if level == UNSENT { 0 } else { level },
             level: if level == UNSENT {
@@ -84,18 +84,18 @@ impl Levels {
     }
 
     /// A component and a coefficient of which some bits are left to send, and may be sent.
-    fn open_place(&self, random: &mut Random, components: usize) -> (usize, usize) {
+    fn open_index(&self, random: &mut Random, components: usize) -> (usize, usize) {
         let component = random.below(components);
         let any = random.below(64);
-        let place = random.one_of(&[0, 1, 1, any]);
+        let index = random.one_of(&[0, 1, 1, any]);
         let total = components.saturating_mul(64);
-        let first = component.saturating_mul(64).saturating_add(place);
+        let first = component.saturating_mul(64).saturating_add(index);
         for step in 0..total {
             let index = first.saturating_add(step) % total.max(1);
-            let (component, place) = (index / 64, index % 64);
-            let is_open = place == 0 || self.level(component, 0) != UNSENT;
-            if is_open && self.level(component, place) != 0 {
-                return (component, place);
+            let (component, index) = (index / 64, index % 64);
+            let is_open = index == 0 || self.level(component, 0) != UNSENT;
+            if is_open && self.level(component, index) != 0 {
+                return (component, index);
             }
         }
         (0, 0)
@@ -105,11 +105,11 @@ impl Levels {
     fn band_end(&self, random: &mut Random, component: usize, start: usize) -> usize {
         let level = self.level(component, start);
         let mut end = start;
-        for place in start..64 {
-            if self.level(component, place) != level {
+        for index in start..64 {
+            if self.level(component, index) != level {
                 break;
             }
-            end = place;
+            end = index;
         }
         if random.is_one_in(3) {
             random.between(start, end)
@@ -156,8 +156,8 @@ pub fn random_group(
         let more = size.saturating_add(total);
         let is_wanted = total == 0 || (more <= 10 && random.is_one_in(rarity));
         if size != 0 && is_wanted {
-            if let Some(place) = group.get_mut(number) {
-                *place = true;
+            if let Some(index) = group.get_mut(number) {
+                *index = true;
             }
             total = more;
         }
@@ -168,8 +168,8 @@ pub fn random_group(
 /// A group of one component.
 fn only(component: usize) -> [bool; 4] {
     let mut group = [false; 4];
-    if let Some(place) = group.get_mut(component) {
-        *place = true;
+    if let Some(index) = group.get_mut(component) {
+        *index = true;
     }
     group
 }

@@ -107,8 +107,8 @@ impl Stream {
             Codes::random(self.alloc, &mut self.random, symbols, is_dc)?
         };
         self.put_codes(table, &codes)?;
-        if let Some(place) = self.tables.get_mut(table) {
-            *place = codes;
+        if let Some(index) = self.tables.get_mut(table) {
+            *index = codes;
         }
         Ok(())
     }
@@ -132,8 +132,8 @@ impl Stream {
         symbols: &mut Vec<u8>,
     ) -> Result<(), AllocError> {
         for token in tokens {
-            if let Some((place, symbol)) = self.coded(*token) {
-                if place == table && !symbols.contains(&symbol) {
+            if let Some((index, symbol)) = self.coded(*token) {
+                if index == table && !symbols.contains(&symbol) {
                     symbols.push(symbol)?;
                 }
             }

@@ -82,8 +82,8 @@ impl Writer {
     /// Puts both quantization tables.
     fn put_quantization(&mut self, image: &Image) -> Result<(), AllocError> {
         let mut payload = Vec::new(self.stream.alloc);
-        for (place, table) in (0u8..).zip(image.quantization.iter()) {
-            payload.push(place)?;
+        for (index, table) in (0u8..).zip(image.quantization.iter()) {
+            payload.push(index)?;
             payload.extend_from_slice(table)?;
         }
         self.stream.put_noise()?;

@@ -27,8 +27,8 @@ joined-more count f before bytes after known more =
     rw (next, more, known) (append_assoc before (texts_below count f) (f count))
 
 -- a box begins within its side
-pub edge-most : (place side boxes : ℕ) → place ≤ boxes → place * side / boxes ≤ side
-edge-most place side boxes h = div-le_of_le-mul boxes (mul-le-mul_right side h)
+pub edge-most : (index side boxes : ℕ) → index ≤ boxes → index * side / boxes ≤ side
+edge-most index side boxes h = div-le_of_le-mul boxes (mul-le-mul_right side h)
 
 -- the indices of samples are small
 pub index-most : (top down width left across components component : ℕ) → top ≤ 65535 → down ≤ 65535 → width ≤ 65535

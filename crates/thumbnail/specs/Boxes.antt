@@ -11,7 +11,7 @@ use Rattle.thumbnail.specs.declared.boxes.Reduction.{Reduction}
 
 -- Where a box begins on a side: the places of a side are shared out to as many boxes as the smaller one has places.
 abbrev pub edge : ℕ → ℕ → ℕ → ℕ
-edge place side boxes = place * side / boxes
+edge index side boxes = index * side / boxes
 
 -- the box of a pixel of the smaller picture: its columns and its lines
 abbrev pub area_of : Reduction → ℕ → ℕ → Area

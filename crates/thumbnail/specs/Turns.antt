@@ -21,24 +21,24 @@ flips_y o = o == 3 || (o == 4 || (o == 6 || o == 7))
 
 -- a place on a side, from its other end where it is flipped
 abbrev pub mirrored : Bool → ℕ → ℕ → ℕ
-mirrored flipped side place = if flipped then side - 1 - place else place
+mirrored flipped side index = if flipped then side - 1 - index else index
 
 -- the place in the stored picture of a pixel across and down in the upright one
-abbrev pub stored_place : Turn → ℕ → ℕ → ℕ
-stored_place turn across down =
+abbrev pub stored_offset : Turn → ℕ → ℕ → ℕ
+stored_offset turn across down =
     mirrored (flips_y turn.orientation) turn.height (if is_on_side turn.orientation then across else down)
     * turn.width
     + mirrored (flips_x turn.orientation) turn.width (if is_on_side turn.orientation then down else across)
 
 -- where the byte at a place of the upright picture stands in the stored one
 abbrev pub stored_index : Turn → ℕ → ℕ
-stored_index turn place =
+stored_index turn index =
     let wide = if is_on_side turn.orientation then turn.height else turn.width in
-    let pixel = place / turn.bytes in
-    stored_place turn (pixel % wide) (pixel / wide) * turn.bytes + place % turn.bytes
+    let pixel = index / turn.bytes in
+    stored_offset turn (pixel % wide) (pixel / wide) * turn.bytes + index % turn.bytes
 
 unfoldable pub turned_byte : Turn → List ℕ → ℕ → ℕ
-turned_byte turn pixels place = slice_index_or pixels (stored_index turn place) 0
+turned_byte turn pixels index = slice_index_or pixels (stored_index turn index) 0
 
 -- the values of a function at so many numbers from 0
 unfoldable pub tabulate : ℕ → (ℕ → ℕ) → List ℕ

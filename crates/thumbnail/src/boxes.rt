@@ -43,12 +43,12 @@ struct Area {
 }
 
 /// Returns where a box begins on a side that is shared out to so many boxes.
-fn edge(place: u16, side: u16, boxes: u16) -> u16
+fn edge(index: u16, side: u16, boxes: u16) -> u16
     requires some { 1 ≤ boxes }
-    requires inside { place ≤ boxes }
-    ensures { result ≡ edge place side boxes }
+    requires inside { index ≤ boxes }
+    ensures { result ≡ edge index side boxes }
 {
-    (u32::from(place) * u32::from(side) / u32::from(boxes)) as u16
+    (u32::from(index) * u32::from(side) / u32::from(boxes)) as u16
 }
 
 /// Returns the box of a pixel of the smaller picture.

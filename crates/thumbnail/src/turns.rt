@@ -44,23 +44,23 @@ fn flips_y(orientation: u8) -> bool
 }
 
 /// Returns an index along a side, from its other end where it is flipped.
-fn mirrored(is_flipped: bool, side: usize, place: usize) -> usize
-    ensures { result ≡ mirrored is_flipped side place }
+fn mirrored(is_flipped: bool, side: usize, index: usize) -> usize
+    ensures { result ≡ mirrored is_flipped side index }
 {
     if is_flipped {
-        side.saturating_sub(1).saturating_sub(place)
+        side.saturating_sub(1).saturating_sub(index)
     } else {
-        place
+        index
     }
 }
 
 /// Returns where a byte of the upright picture stands in the stored one.
-fn source_of(turn: Turn, place: usize) -> Option<usize>
-    ensures { IfSome result (λ source. source ≡ stored_index turn place) }
+fn source_of(turn: Turn, index: usize) -> Option<usize>
+    ensures { IfSome result (λ source. source ≡ stored_index turn index) }
 {
     let on_side = is_on_side(turn.orientation);
     let wide = if on_side { turn.height } else { turn.width };
-    let pixel = place.checked_div(turn.bytes)?;
+    let pixel = index.checked_div(turn.bytes)?;
     let across = pixel.checked_rem(wide)?;
     let down = pixel.checked_div(wide)?;
     let (along, line) = if on_side {
@@ -73,15 +73,15 @@ fn source_of(turn: Turn, place: usize) -> Option<usize>
     let source = y.checked_mul(turn.width)?.checked_add(x)?;
     source
         .checked_mul(turn.bytes)?
-        .checked_add(place.checked_rem(turn.bytes)?)
+        .checked_add(index.checked_rem(turn.bytes)?)
 }
 
 /// Returns a byte of the upright picture.
 #[tactic(auto, unfolding(crate::specs::Turns::turned_byte))]
-fn turned_byte(turn: Turn, pixels: &[u8], place: usize) -> Option<u8>
-    ensures { IfSome result (λ byte. byte ≡ turned_byte turn pixels.now place) }
+fn turned_byte(turn: Turn, pixels: &[u8], index: usize) -> Option<u8>
+    ensures { IfSome result (λ byte. byte ≡ turned_byte turn pixels.now index) }
 {
-    let source = source_of(turn, place)?;
+    let source = source_of(turn, index)?;
     if source < pixels.len() {
         Some(pixels[source])
     } else {
@@ -95,8 +95,8 @@ fn turned(alloc: Global, turn: Turn, pixels: &[u8]) -> Result<Vec<u8>>
         ≡ tabulate (length pixels.now) (turned_byte turn pixels.now)) }
 {
     let mut upright = Vec::new(alloc);
-    for place in 0..pixels.len() {
-        match turned_byte(turn, pixels, place) {
+    for index in 0..pixels.len() {
+        match turned_byte(turn, pixels, index) {
             Some(byte) => upright.push(byte)?,
             None => return Err(Error::Internal("a pixel of the picture is missing")),
         }

@@ -95,7 +95,7 @@ pub fn decode_into<R: Read + Drop>(
         → OnOk result (Shows options.now bytes pixels.old pixels.new picture.new) }
     ensures images { (bytes : List ℕ) → Tells (R.remaining reader.old) bytes →
         (array : Coefficients) (image rest : List ℕ) (final : Found) (last : ℕ → Levels) →
-        ((place row column : ℕ) → Is8Bit (array place row column)) →
+        ((index row column : ℕ) → Is8Bit (array index row column)) →
         WritesImage array image final last →
         TakesPicture (settings_of options.now) (at_size (size_wanted options.now) final) →
         bytes ≡ image ++ rest →

@@ -79,7 +79,7 @@ pub extern "C" fn zaxbriar_checked_decode(
     // Where the bytes are written for the coefficients of an image, it is their picture.
     ensures images { result ≡ 0 → length jpeg.now < 2 ^ 64 →
         (array : Coefficients) (image rest : List ℕ) (final : Found) (last : ℕ → Levels) →
-        ((place row column : ℕ) → Is8Bit (array place row column)) →
+        ((index row column : ℕ) → Is8Bit (array index row column)) →
         WritesImage array image final last →
         TakesPicture (settings_of options.now) (at_size (size_wanted options.now) final) →
         jpeg.now ≡ image ++ rest →

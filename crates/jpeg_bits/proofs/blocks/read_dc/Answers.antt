@@ -32,8 +32,10 @@ returns-then-pass-clause-part g c =
           let at = c.in-Some.ensures.difference.1 known in (
             at.0,
             dc_first (pass_in k.pass) k.dc_table.now (dc_in block) c.args.predictor.now c.in-Some.difference
-                c.wrapped_sum.result c.shifted.result (upcoming c.args.held.now c.args.source.now.bytes)
-                (upcoming c.read_difference.new.held c.read_difference.new.source.bytes) (omega arith) c.if-pass.true
+                c.wrapped_sum.result c.shifted.result (upcoming c.args.buffered.now
+                c.args.source.now.bytes)
+                (upcoming c.read_difference.new.buffered c.read_difference.new.source.bytes) (omega
+                arith) c.if-pass.true
                 sum
                 value at.1,
           ),
@@ -59,7 +61,7 @@ returns-then-bit-gt0-clause-part g c =
           let at = c.in-Some-take_number.ensures.bits.1 known in (
             at.0,
             dc_refined (pass_in k.pass) k.dc_table.now (dc_in block) c.args.predictor.now c.with_bit.result
-                c.in-Some-take_number.bit (upcoming c.args.held.now c.args.source.now.bytes)
+                c.in-Some-take_number.bit (upcoming c.args.buffered.now c.args.source.now.bytes)
                 (upcoming c.take_number.new.self c.take_number.new.source.bytes) (omega arith) c.if-pass.false is at.1,
           ),
     )
@@ -74,7 +76,7 @@ returns-else-bit-gt0-clause-part g c =
           let at = c.in-Some-take_number.ensures.bits.1 known in (
             at.0,
             dc_refined (pass_in k.pass) k.dc_table.now (dc_in block) c.args.predictor.now (dc_in block)
-                c.in-Some-take_number.bit (upcoming c.args.held.now c.args.source.now.bytes)
+                c.in-Some-take_number.bit (upcoming c.args.buffered.now c.args.source.now.bytes)
                 (upcoming c.take_number.new.self c.take_number.new.source.bytes) (omega arith) c.if-pass.false
                 (sym (or_none k.pass.al (dc_in block) c.in-Some-take_number.bit none)) at.1,
           ),

@@ -6,8 +6,8 @@ abbrev pub invariant-loop-i : goal.invariant-loop-i
 invariant-loop-i l = record {
   size : length l.rows ≡ 16;
   end : l.end ≡ value_after l.counts l.i;
-  place : l.place ≡ sum (take l.i l.counts);
+  index : l.index ≡ sum (take l.i l.counts);
   short : l.end + 256 ≤ 2 ^ (l.i + 8);
-  few : l.place ≤ 255 * l.i;
+  few : l.index ≤ 255 * l.i;
   rows : (k : ℕ) → k < l.i → slice_index_or l.rows k no_row ≡ row_at l.counts k;
 }

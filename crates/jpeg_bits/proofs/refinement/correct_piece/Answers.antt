@@ -3,7 +3,7 @@ use Rattle.std.proofs.Common.{rules}
 use Rattle.std.proofs.lemmas.Int.{to_z-of_z}
 use Rattle.std.specs.Int.{cast_signed, cast_unsigned}
 use Rattle.jpeg_bits.specs.Entropy.{Text, upcoming}
-use Rattle.jpeg_bits.specs.Pieces.{piece_from, place_from}
+use Rattle.jpeg_bits.specs.Pieces.{piece_from, corrected_from}
 use Rattle.jpeg_bits.specs.BlockView.{pass_in}
 use Rattle.jpeg_bits.specs.ZigzagParts.{band_end, rest_in}
 use Rattle.jpeg_bits.proofs.BandSteps.{Leaves-ok, Leaves-err}
@@ -32,7 +32,8 @@ returns-then-left-gap-clause-piece g c =
         at.0,
         at.1
             ∙ at-gap p.al c.args.piece.from (band_end p) l.block (omega (arith, last)) gap l.left l.index
-            (upcoming l.held l.source.bytes) l.invariant.after (omega (arith, end, inside)) c.if-left-gap.true
+            (upcoming l.buffered l.source.bytes) l.invariant.after (omega (arith, end, inside))
+            c.if-left-gap.true
             (gap-zeros c.args.mask l.index gap l.block (omega (arith, end, last, inside)) l.invariant.marks
             c.zeros_from-gap.ensures.zeros),
       ),
@@ -58,7 +59,7 @@ returns-then-index-end-clause-piece g c =
         at.0,
         at.1
             ∙ at-last-gap p.al c.args.piece.from (band_end p) l.block (omega (arith, last)) gap l.left l.index
-            (upcoming l.held l.source.bytes) l.invariant.after (c.if-index-end.true ∙ end)
+            (upcoming l.buffered l.source.bytes) l.invariant.after (c.if-index-end.true ∙ end)
             (omega (arith, c.if-left-gap.false))
             (gap-zeros c.args.mask l.index gap l.block (omega (arith, end, last, inside)) l.invariant.marks
             c.zeros_from-gap.ensures.zeros),
@@ -79,13 +80,13 @@ returns-in_default-clause-piece g c =
     let gap = c.zeros_from-gap.result in
     let inside = c.zeros_from-gap.ensures.within in
     let next = l.index + gap in
-    let x = get_or l.block c.place_of-place.result (pos 0) in
+    let x = get_or l.block c.index_of-at.result (pos 0) in
     let f : SFits w16 x = search rules in
     let s : cast_signed w16 (cast_unsigned w16 x) ≡ x = to_z-of_z w16 x f in
     let after : a.from ≤ next = omega (arith, l.invariant.after) in
     let before : next < band_end p = omega (arith, end, inside, c.if-index-end.false) in
     let set = c.zeros_from-gap.ensures.stop (omega (arith, end, before)) in
-    let is = c.place_of-place.ensures.value in
+    let is = c.index_of-at.ensures.value in
     let some : x ≡ pos 0 → ⊥ = λ h. l.invariant.marks.values next (omega arith) (omega (arith, last, before)) set
     (ap (λ (i : ℕ). get_or l.block i (pos 0)) (sym is) ∙ h) in
     let skips = λ (t : Text). at-skips p.al a.from (band_end p) l.block (omega (arith, last)) gap l.left l.index t
@@ -95,11 +96,13 @@ returns-in_default-clause-piece g c =
     (Leaves-err (λ (next : ℕ). (next - a.from, rest_in p a.from l.block)) (λ (v : ℤ). v)
     (piece_from p.al a.zeros (rest_in p a.from c.args.block.now))
     (walk_at p.al l.left a.from (band_end p) l.block l.index)
-    (place_from p.al (cast_signed w16 (cast_unsigned w16 x))) c.args.held.now l.held c.correct.new.held
+    (corrected_from p.al (cast_signed w16 (cast_unsigned w16 x))) c.args.buffered.now l.buffered
+    c.correct.new.buffered
     c.args.source.now l.source c.correct.new.source _
-    (λ t f e. skips t ∙ at-refused p.al (l.left - gap) a.from (band_end p) next c.place_of-place.result l.block
+    (λ t f e. skips t ∙ at-refused p.al (l.left - gap) a.from (band_end p) next
+    c.index_of-at.result l.block
     (omega (arith, last)) after before is (cast_signed w16 (cast_unsigned w16 x)) t f some s e)
-    l.invariant.walk c.in_default.ensures.place)
+    l.invariant.walk c.in_default.ensures.index)
 
 pub loop-index-preserved : goal.loop-index-preserved
 loop-index-preserved g c =
@@ -111,13 +114,13 @@ loop-index-preserved g c =
     let gap = c.zeros_from-gap.result in
     let inside = c.zeros_from-gap.ensures.within in
     let next = l.index + gap in
-    let x = get_or l.block c.place_of-place.result (pos 0) in
+    let x = get_or l.block c.index_of-at.result (pos 0) in
     let f : SFits w16 x = search rules in
     let s : cast_signed w16 (cast_unsigned w16 x) ≡ x = to_z-of_z w16 x f in
     let after : a.from ≤ next = omega (arith, l.invariant.after) in
     let before : next < band_end p = omega (arith, end, inside, c.if-index-end.false) in
     let set = c.zeros_from-gap.ensures.stop (omega (arith, end, before)) in
-    let is = c.place_of-place.ensures.value in
+    let is = c.index_of-at.ensures.value in
     let some : x ≡ pos 0 → ⊥ = λ h. l.invariant.marks.values next (omega arith) (omega (arith, last, before)) set
     (ap (λ (i : ℕ). get_or l.block i (pos 0)) (sym is) ∙ h) in
     let skips = λ (t : Text). at-skips p.al a.from (band_end p) l.block (omega (arith, last)) gap l.left l.index t

@@ -13,9 +13,9 @@ invariant-loop-index g l = record {
   after : l.fn.piece.from ≤ l.index;
   within : l.index ≤ band_end (pass_in l.fn.piece.pass);
   walk : Leaves (piece_from l.fn.piece.pass.al l.fn.piece.zeros
-      (rest_in (pass_in l.fn.piece.pass) l.fn.piece.from l.fn.block)) l.fn.held l.fn.source
+      (rest_in (pass_in l.fn.piece.pass) l.fn.piece.from l.fn.block)) l.fn.buffered l.fn.source
       (walk_left l.fn.piece.pass.al l.left (rest_in (pass_in l.fn.piece.pass) l.fn.piece.from l.block)
-      (l.index - l.fn.piece.from)) l.held l.source;
+      (l.index - l.fn.piece.from)) l.buffered l.source;
   others : IsKeptAround l.fn.piece.from (band_end (pass_in l.fn.piece.pass)) l.fn.block l.block;
   marks : MarksFrom l.fn.mask l.index l.block;
 }

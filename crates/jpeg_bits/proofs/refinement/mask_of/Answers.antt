@@ -12,5 +12,5 @@ returns c =
     c.bits_of.ensures k
     ∙ ap (λ (xs : List ℕ). one_or (get_or xs k 0 == 0))
     (c.in_zigzag.ensures
-    ∙ ap (λ (xs : List ℕ). map (λ (place : ℕ). get_or xs place 0) zigzag)
+    ∙ ap (λ (xs : List ℕ). map (λ (index : ℕ). get_or xs index 0) zigzag)
     (c.narrowed.ensures ∙ c.marked.ensures)))

@@ -18,9 +18,11 @@ returns-in_err-quantization c =
     let header = c.args.header.now in
     let spare = c.args.spare.now in
     let component = c.in_ok-component.component.now in
-    let at : component ≡ get_or c.args.frame.now.components.items c.index-place.result.now component = search rules in
-    let is = is-there state c.args.frame.now header spare c.args.slot c.index-place.result.now component
-    c.requires.spare c.requires.slot c.index-place.ensures (search rules) at in
+    let at : component ≡ get_or c.args.frame.now.components.items c.index-index.result.now
+    component = search rules in
+    let is = is-there state c.args.frame.now header spare c.args.slot c.index-index.result.now
+    component
+    c.requires.spare c.requires.slot c.index-index.ensures (search rules) at in
     let unset : get_or state.quantization component.quantization_table_index None ≡ None = search rules in
     let e = fails-quantization (found_in state) (frame_in c.args.frame.now) (scan_in header) spare c.args.slot _ _ is
     unset in
@@ -34,9 +36,11 @@ returns-in_err-dc c =
     let header = c.args.header.now in
     let spare = c.args.spare.now in
     let component = c.in_ok-component.component.now in
-    let at : component ≡ get_or c.args.frame.now.components.items c.index-place.result.now component = search rules in
-    let is = is-there state c.args.frame.now header spare c.args.slot c.index-place.result.now component
-    c.requires.spare c.requires.slot c.index-place.ensures (search rules) at in
+    let at : component ≡ get_or c.args.frame.now.components.items c.index-index.result.now
+    component = search rules in
+    let is = is-there state c.args.frame.now header spare c.args.slot c.index-index.result.now
+    component
+    c.requires.spare c.requires.slot c.index-index.ensures (search rules) at in
     let set : get_or state.quantization component.quantization_table_index None
     ≡ Some c.in_ok-quantization.quantization.now = search rules in
     let dc_four : length state.dc_tables ≡ 4 = omega arith in
@@ -58,9 +62,11 @@ returns-in_err-ac c =
     let header = c.args.header.now in
     let spare = c.args.spare.now in
     let component = c.in_ok-component.component.now in
-    let at : component ≡ get_or c.args.frame.now.components.items c.index-place.result.now component = search rules in
-    let is = is-there state c.args.frame.now header spare c.args.slot c.index-place.result.now component
-    c.requires.spare c.requires.slot c.index-place.ensures (search rules) at in
+    let at : component ≡ get_or c.args.frame.now.components.items c.index-index.result.now
+    component = search rules in
+    let is = is-there state c.args.frame.now header spare c.args.slot c.index-index.result.now
+    component
+    c.requires.spare c.requires.slot c.index-index.ensures (search rules) at in
     let set : get_or state.quantization component.quantization_table_index None
     ≡ Some c.in_ok-quantization.quantization.now = search rules in
     let dc_four : length state.dc_tables ≡ 4 = omega arith in
@@ -86,9 +92,11 @@ returns c =
     let header = c.args.header.now in
     let spare = c.args.spare.now in
     let component = c.in_ok-component.component.now in
-    let at : component ≡ get_or c.args.frame.now.components.items c.index-place.result.now component = search rules in
-    let is = is-there state c.args.frame.now header spare c.args.slot c.index-place.result.now component
-    c.requires.spare c.requires.slot c.index-place.ensures (search rules) at in
+    let at : component ≡ get_or c.args.frame.now.components.items c.index-index.result.now
+    component = search rules in
+    let is = is-there state c.args.frame.now header spare c.args.slot c.index-index.result.now
+    component
+    c.requires.spare c.requires.slot c.index-index.ensures (search rules) at in
     let set : get_or state.quantization component.quantization_table_index None
     ≡ Some c.in_ok-quantization.quantization.now = search rules in
     let dc_four : length state.dc_tables ≡ 4 = omega arith in
@@ -108,10 +116,12 @@ pub invariant_of-result : goal.invariant_of-result
 invariant_of-result c =
     let forced = rw c.deref-3.ensures.value at (rw c.table_in_force-ac.ensures at c.in_ok-ac.ensures) in
     let component = c.in_ok-component.component.now in
-    let at : component ≡ get_or c.args.frame.now.components.items c.index-place.result.now component = search rules in
+    let at : component ≡ get_or c.args.frame.now.components.items c.index-index.result.now
+    component = search rules in
     record {
       class = class-in-force (found_in c.args.state.now) (scan_in c.args.header.now) c.args.spare.now _
           c.index-ac_destination.result.now _ c.requires.spare c.args.state.now.ac_classes forced;
-      scale = scale-at c.args.frame.now.components.items c.index-place.result.now component (search rules) at
+      scale = scale-at c.args.frame.now.components.items c.index-index.result.now component (search
+          rules) at
           c.requires.scales;
     }

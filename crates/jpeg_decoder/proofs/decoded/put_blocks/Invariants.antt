@@ -8,10 +8,11 @@ abbrev pub invariant-loop-slot : goal.invariant-loop-slot
 invariant-loop-slot l = record {
   within : l.slot ≤ length l.codings;
   arrays : length l.arrays.items ≡ length l.codings;
-  length : length l.held.items ≡ length l.fn.held.items;
+  length : length l.kept.items ≡ length l.fn.kept.items;
   put : put_arrays (drop l.slot (map coding_in l.codings)) (drop l.slot (arrays_in l.arrays.items))
-      (arrays_in l.held.items)
-      ≡ put_arrays (map coding_in l.codings) (arrays_in l.fn.arrays.items) (arrays_in l.fn.held.items);
+      (arrays_in l.kept.items)
+      ≡ put_arrays (map coding_in l.codings) (arrays_in l.fn.arrays.items) (arrays_in
+      l.fn.kept.items);
 }
 
 abbrev pub decreases-loop-slot : goal.decreases-loop-slot

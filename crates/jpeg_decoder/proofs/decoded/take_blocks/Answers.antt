@@ -5,7 +5,7 @@ use Rattle.jpeg_decoder.proofs.decoded.take_blocks.Goals as goal
 pub loop-coded-init : goal.loop-coded-init
 loop-coded-init c = record {
   taken = search rules;
-  left = none-taken c.args.codings.now c.args.held.now.items;
+  left = none-taken c.args.codings.now c.args.kept.now.items;
   length = search rules;
 }
 
@@ -14,12 +14,12 @@ loop-coded-preserved c =
     let cs = c.args.codings.now in
     let i = c.loop-coded.coded-index in
     let coded = c.coded-item.result in
-    let old = c.args.held.now.items in
-    let now = c.loop-coded.held.items in
+    let old = c.args.kept.now.items in
+    let now = c.loop-coded.kept.items in
     let v = c.replace-blocks.result in
     let more : c.push.new.self.items ≡ c.loop-coded.taken.items ++ v ∷ [] = search rules in
-    let at : v ≡ get_or now coded.place v = search rules in
-    let within : coded.place < length now = search rules in
+    let at : v ≡ get_or now coded.index v = search rules in
+    let within : coded.index < length now = search rules in
     let left = c.loop-coded.invariant.left in
     record {
       taken = rw more (taken-more cs i coded old now c.loop-coded.taken.items v (search rules) c.coded-item.is

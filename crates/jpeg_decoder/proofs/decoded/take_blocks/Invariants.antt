@@ -6,8 +6,8 @@ use Rattle.jpeg_decoder.proofs.decoded.take_blocks.Given as goal
 abbrev pub invariant-loop-coded : goal.invariant-loop-coded
 invariant-loop-coded l = record {
   taken : arrays_in l.taken.items
-      ≡ blocks_at (map coding_in (take l.coded-index l.codings)) (arrays_in l.fn.held.items);
-  left : arrays_in l.held.items ≡ without_blocks (map coding_in (take l.coded-index l.codings))
-      (arrays_in l.fn.held.items);
-  length : length l.held.items ≡ length l.fn.held.items;
+      ≡ blocks_at (map coding_in (take l.coded-index l.codings)) (arrays_in l.fn.kept.items);
+  left : arrays_in l.kept.items ≡ without_blocks (map coding_in (take l.coded-index l.codings))
+      (arrays_in l.fn.kept.items);
+  length : length l.kept.items ≡ length l.fn.kept.items;
 }

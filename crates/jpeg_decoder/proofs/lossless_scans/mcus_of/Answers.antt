@@ -12,14 +12,15 @@ use Rattle.std.proofs.lemmas.Grind.{common_steps}
 -- the component alone
 only : (c : goal.After-size-1)
     → component_in c.index.result.now
-    ≡ get_or (frame_in c.args.frame.now).components (get_or c.args.places.now 0 0) no_component
+    ≡ get_or (frame_in c.args.frame.now).components (get_or c.args.indices.now 0 0) no_component
 only c = grind (arith, common_steps, component-at, length-map)
 
-pub returns-then-places-eq1-clause-wide : goal.returns-then-places-eq1-clause-wide
-returns-then-places-eq1-clause-wide c = grind (arith, common_steps, only, alone)
+pub returns-then-indices-eq1-clause-wide : goal.returns-then-indices-eq1-clause-wide
+returns-then-indices-eq1-clause-wide c = grind (arith, common_steps, only, alone)
 
-pub returns-then-places-eq1-clause-high : goal.returns-then-places-eq1-clause-high
-returns-then-places-eq1-clause-high c = ap (λ (x : Component). x.height) (only c) ∙ sym (alone _ _ (search rules)).1
+pub returns-then-indices-eq1-clause-high : goal.returns-then-indices-eq1-clause-high
+returns-then-indices-eq1-clause-high c = ap (λ (x : Component). x.height) (only c) ∙ sym (alone _ _
+    (search rules)).1
 
 pub returns-clause-wide : goal.returns-clause-wide
 returns-clause-wide c = grind (arith, common_steps, factors-seen, not-alone)
@@ -33,4 +34,4 @@ returns-clause-high c =
     ∙ ap (λ (l : List Given). greatest (λ f. f.vertical) (map factors_in l)) c.deref.ensures.value
     ∙ ap (greatest (λ f. f.vertical)) (factors-seen cs) in
     c.ceiling-high.ensures ∙ ap₂ ceiling c.from-3.ensures (c.from-4.ensures ∙ most)
-    ∙ sym (not-alone frame c.args.places.now (search rules)).1
+    ∙ sym (not-alone frame c.args.indices.now (search rules)).1

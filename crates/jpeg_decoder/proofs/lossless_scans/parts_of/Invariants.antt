@@ -6,5 +6,6 @@ use Rattle.jpeg_decoder.proofs.lossless_scans.parts_of.Given as goal
 
 abbrev pub invariant-loop-slot : goal.invariant-loop-slot
 invariant-loop-slot l = map part_in l.parts.items
-    ++ parts_at l.is_alone (frame_in l.frame).components (drop l.slot l.places) (drop l.slot (map (λ t. t.now) l.tables))
-    ≡ parts_at l.is_alone (frame_in l.frame).components l.places (map (λ t. t.now) l.tables)
+    ++ parts_at l.is_alone (frame_in l.frame).components (drop l.slot l.indices) (drop l.slot (map
+    (λ t. t.now) l.tables))
+    ≡ parts_at l.is_alone (frame_in l.frame).components l.indices (map (λ t. t.now) l.tables)

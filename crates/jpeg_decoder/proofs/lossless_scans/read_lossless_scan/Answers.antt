@@ -16,7 +16,9 @@ use Rattle.jpeg_streams.specs.LosslessScans.{with_samples}
 use Rattle.jpeg_decoder.specs.LosslessParts.{mcus_high, mcus_wide, parts_at}
 use Rattle.jpeg_decoder.specs.Seen.{found_in}
 use Rattle.jpeg_decoder.specs.Steps.{samples_read, with_decoded}
-use Rattle.jpeg_decoder.proofs.LosslessReads.{AreCodings, HasMcus, begun, coded-by, codings-by-tables, codings-count, codings-lacking, four-places}
+use Rattle.jpeg_decoder.proofs.LosslessReads.{AreCodings, HasMcus, begun, coded-by}
+use Rattle.jpeg_decoder.proofs.LosslessReads.{codings-by-tables, codings-count, codings-lacking}
+use Rattle.jpeg_decoder.proofs.LosslessReads.{four-indices}
 use Rattle.jpeg_decoder.proofs.LosslessReads.{has-mcus, on-ok, parts-count, put-made, samples-end, samples-fail}
 use Rattle.jpeg_decoder.proofs.LosslessReads.{samples-lacking, samples-sound, scan-sampled}
 use Rattle.jpeg_decoder.proofs.PicturesOfPlanes.{decoded-factors}
@@ -30,21 +32,25 @@ use Rattle.std.proofs.Common.{arith}
 
 -- the components of the scan, with their tables
 coded : (g : given.Over) (c : After-deref-2 g) → let scan = scan_in c.args.header.now in
-    AreCodings (found_in c.args.state.now).huffman.dc (frame_in c.args.frame.now) scan.components scan.dc_places
+    AreCodings (found_in c.args.state.now).huffman.dc (frame_in c.args.frame.now) scan.components
+    scan.dc_destinations
     (map (λ t. t.now) c.in_ok-tables.tables.items)
 coded g c = grind (arith, common_steps, codings-by-tables, recursion_from_All)
 
 -- their parts
-made : (g : given.Over) (c : After-deref-3 g) → let places = (scan_in c.args.header.now).components in
-    map part_in c.deref-3.result.now ≡ parts_at (length places == 1) (frame_in c.args.frame.now).components places
+made : (g : given.Over) (c : After-deref-3 g) → let indices = (scan_in
+    c.args.header.now).components in
+    map part_in c.deref-3.result.now ≡ parts_at (length indices == 1) (frame_in
+    c.args.frame.now).components indices
     (map (λ t. t.now) c.in_ok-tables.tables.items)
 made g c = grind (arith, common_steps)
 
 -- their MCUs
 mcus : (g : given.Over) (c : After-deref-2 g)
     → let frame = frame_in c.args.frame.now in
-    let places = (scan_in c.args.header.now).components in
-    HasMcus (mcus_wide frame places) (mcus_high frame places) (parts_at (length places == 1) frame.components places
+    let indices = (scan_in c.args.header.now).components in
+    HasMcus (mcus_wide frame indices) (mcus_high frame indices) (parts_at (length indices == 1)
+    frame.components indices
     (map (λ t. t.now) c.in_ok-tables.tables.items))
 mcus g c =
     has-mcus _ _ _ _ _ (coded g c) (c.requires.sound.frames (frame_in c.args.frame.now) c.requires.frame)
@@ -66,14 +72,14 @@ returns-in_err-tables-clause-reads g c =
     let found = with_decoded (found_in c.args.state.now) c.args.decoded.now in
     let frame = frame_in c.args.frame.now in
     let header = scan_in c.args.header.now in
-    let places = recursion_from_All (λ place. place < length frame.components) header.components
+    let indices = recursion_from_All (λ index. index < length frame.components) header.components
     c.requires.legal.components in
     rw (p.1, p.2) (refused {X = Option Marker} (λ m. (found, m)) (samples_read found frame header)
     (samples_read found frame header) c.args.source.now c.args.source.now _ _
     (begun (samples_read found frame header) c.args.source.now) c.in_err-tables.ensures.0
     c.in_err-tables.ensures.1
     (λ f h. samples-lacking found frame header c.args.source.now.bytes f
-    (codings-lacking found.huffman.dc frame header.components header.dc_places f places
+    (codings-lacking found.huffman.dc frame header.components header.dc_destinations f indices
     c.requires.legal.dc_length h)))
 
 pub parts_of-requires-clause-count : goal.parts_of-requires-clause-count
@@ -97,11 +103,11 @@ read_scan-requires-clause-high g c =
 pub read_scan-requires-clause-covered : goal.read_scan-requires-clause-covered
 read_scan-requires-clause-covered g c =
     let frame = frame_in c.args.frame.now in
-    let places = (scan_in c.args.header.now).components in
+    let indices = (scan_in c.args.header.now).components in
     let at = goal.at.read_scan-requires-clause-covered g c in
     subst (λ (k : Coding). AllByRecursion (IsCovered k.wide k.high) (map part_in c.deref-3.result.now))
     (sym c.coding_of-coding.ensures)
-    (subst (AllByRecursion (IsCovered (mcus_wide frame places) (mcus_high frame places)))
+    (subst (AllByRecursion (IsCovered (mcus_wide frame indices) (mcus_high frame indices)))
     (sym (made g at.After-deref-3)) (mcus g at.After-deref-2).covered)
 
 pub read_scan-requires-clause-precision : goal.read_scan-requires-clause-precision
@@ -132,10 +138,10 @@ put_samples-requires-clause-count g c =
     ∙ parts-count _ _ _ _ (codings-count _ _ _ _ _ (coded g at.After-deref-2))
     ∙ ap length (sym c.deref-4.ensures.value)
 
-pub put_samples-requires-clause-places : goal.put_samples-requires-clause-places
-put_samples-requires-clause-places g c =
+pub put_samples-requires-clause-indices : goal.put_samples-requires-clause-indices
+put_samples-requires-clause-indices g c =
     let frame = frame_in c.args.frame.now in
-    rw c.deref-4.ensures.value (four-places frame c.args.header.now.component_indices.items
+    rw c.deref-4.ensures.value (four-indices frame c.args.header.now.component_indices.items
     (c.requires.sound.frames frame c.requires.frame) c.requires.legal.components)
 
 pub returns-clause-reads : goal.returns-clause-reads
@@ -151,7 +157,11 @@ returns-clause-reads g c =
     c.args.source.now c.read_scan.new.source c.pass_restarts.new.source c.pass_restarts.result a.are
     (coded-by found frame header _ a _ _ c.coding_of-coding.ensures (made g at.After-deref-3))
     (placed g at.After-put_samples
-    ∙ ap (λ (l : List ℕ). record found { scanned = true; samples = with_samples l planes found.samples }) (sym a.places_are))
+    ∙ ap (λ (l : List ℕ). record found {
+      scanned = true;
+      samples = with_samples l planes
+          found.samples;
+    }) (sym a.indices_are))
     c.in_ok-planes.ensures.reads c.pass_restarts.ensures
 
 pub returns-clause-sound : goal.returns-clause-sound

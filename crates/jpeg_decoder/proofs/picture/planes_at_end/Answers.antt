@@ -11,7 +11,8 @@ use Rattle.jpeg_decoder.specs.Scanning.{arrays_in, blocks_in}
 use Rattle.jpeg_decoder.specs.Seen.{found_in}
 use Rattle.jpeg_decoder.specs.Steps.{with_decoded}
 use Rattle.jpeg_decoder.proofs.EndedPlanes.{mapped-or, none-left, reached-four}
-use Rattle.jpeg_decoder.proofs.EndedPlanes.{reached-held, reached-scale, reached-plane, reached-blocks, reached-end}
+use Rattle.jpeg_decoder.proofs.EndedPlanes.{reached-kept, reached-scale, reached-plane}
+use Rattle.jpeg_decoder.proofs.EndedPlanes.{reached-blocks, reached-end}
 use Rattle.jpeg_decoder.proofs.EndedPlanes.{no-planes, planes-after, whole-there, whole-all}
 use Rattle.jpeg_lossless.proofs.RowLoops.{mapped-within}
 use Rattle.jpeg_decoder.proofs.ReadLists.{no-more, one-more, one-refused}
@@ -20,90 +21,110 @@ use Rattle.jpeg_decoder.proofs.picture.planes_at_end.Goals as goal
 
 pub take-requires : goal.take-requires
 take-requires c =
-    let within = mapped-within component_in c.args.frame.now.components.items c.loop-place.place (omega arith) in
+    let within = mapped-within component_in c.args.frame.now.components.items c.loop-index.index
+    (omega arith) in
     reached-four _ _ _ c.requires.sound c.requires.frame within
 
-pub take_held-held-requires : goal.take_held-held-requires
-take_held-held-requires c h =
-    let within = mapped-within component_in c.args.frame.now.components.items c.loop-place.place (omega arith) in
-    let some = reached-held _ _ _ _ c.requires.sound c.requires.frame within c.loop-place.invariant.held
-    (sym c.are_held-is_held.ensures ∙ h) in
-    omega (arith, some, length-map c.loop-place.decoded.held.items blocks_in)
+pub take_kept-kept-requires : goal.take_kept-kept-requires
+take_kept-kept-requires c h =
+    let within = mapped-within component_in c.args.frame.now.components.items c.loop-index.index
+    (omega arith) in
+    let some = reached-kept _ _ _ _ c.requires.sound c.requires.frame within
+    c.loop-index.invariant.kept
+    (sym c.are_kept-is_kept.ensures ∙ h) in
+    omega (arith, some, length-map c.loop-index.decoded.kept.items blocks_in)
 
 -- ---- a component of the frame
 
-inside : (c : After-index) → c.loop-place.place < length (frame_in c.args.frame.now).components
-inside c = mapped-within component_in c.args.frame.now.components.items c.loop-place.place (omega arith)
+inside : (c : After-index) → c.loop-index.index < length (frame_in c.args.frame.now).components
+inside c = mapped-within component_in c.args.frame.now.components.items c.loop-index.index (omega
+    arith)
 
 seen : (c : After-index) → let component = component_in c.index.result.now in
-    component ≡ get_or (frame_in c.args.frame.now).components c.loop-place.place component
+    component ≡ get_or (frame_in c.args.frame.now).components c.loop-index.index component
 seen c =
-    mapped-or component_in c.args.frame.now.components.items c.loop-place.place c.index.result.now c.index.result.now
+    mapped-or component_in c.args.frame.now.components.items c.loop-index.index c.index.result.now
+    c.index.result.now
     (component_in c.index.result.now) (omega arith) c.index.ensures
 
 pub plane_at_end-requires : goal.plane_at_end-requires
 plane_at_end-requires c =
-    let place = c.loop-place.place in
+    let index = c.loop-index.index in
     let found = with_decoded (found_in c.args.state.now) c.args.decoded.now in
     let frame = frame_in c.args.frame.now in
     let component = component_in c.index.result.now in
     let at = (goal.at.plane_at_end-requires c).After-index in
     record {
-      scale = reached-scale found frame place component c.requires.sound c.requires.frame (inside at) (seen at);
-      plane = reached-plane found frame place component c.loop-place.decoded.planes _ c.requires.sound
-          c.requires.frame (inside at) (seen at) c.loop-place.invariant.decided c.in_ok-plane.ensures.taken;
-      blocks = reached-blocks found frame place component (arrays_in c.loop-place.decoded.held.items)
-          c.are_held-is_held.result _ c.requires.sound c.requires.frame (inside at) (seen at)
-          c.loop-place.invariant.held c.are_held-is_held.ensures c.take_held-held.ensures.taken;
+      scale = reached-scale found frame index component c.requires.sound c.requires.frame (inside
+          at) (seen at);
+      plane = reached-plane found frame index component c.loop-index.decoded.planes _
+          c.requires.sound
+          c.requires.frame (inside at) (seen at) c.loop-index.invariant.decided
+          c.in_ok-plane.ensures.taken;
+      blocks = reached-blocks found frame index component (arrays_in
+          c.loop-index.decoded.kept.items)
+          c.are_kept-is_kept.result _ c.requires.sound c.requires.frame (inside at) (seen at)
+          c.loop-index.invariant.kept c.are_kept-is_kept.ensures c.take_kept-kept.ensures.taken;
     }
 
 pub returns-in_err-plane_at_end-clause-planes : goal.returns-in_err-plane_at_end-clause-planes
 returns-in_err-plane_at_end-clause-planes c =
-    let place = c.loop-place.place in
+    let index = c.loop-index.index in
     let component = component_in c.index.result.now in
-    let planes = c.loop-place.decoded.planes in
+    let planes = c.loop-index.decoded.planes in
     let found = with_decoded (found_in c.args.state.now) c.args.decoded.now in
     let frame = frame_in c.args.frame.now in
     let at = (goal.at.returns-in_err-plane_at_end-clause-planes c).After-index in
-    let end = reached-end found frame place component planes (arrays_in c.loop-place.decoded.held.items) _ _
-    c.are_held-is_held.result _ refl c.loop-place.invariant.decided c.in_ok-plane.ensures.taken c.loop-place.invariant.held
-    c.are_held-is_held.ensures c.take_held-held.ensures.taken in
+    let end = reached-end found frame index component planes (arrays_in
+    c.loop-index.decoded.kept.items) _ _
+    c.are_kept-is_kept.result _ refl c.loop-index.invariant.decided c.in_ok-plane.ensures.taken
+    c.loop-index.invariant.kept
+    c.are_kept-is_kept.ensures c.take_kept-kept.ensures.taken in
     let p = err_from_is_err_and c.from_residual-in_err-plane_at_end.result
     c.from_residual-in_err-plane_at_end.ensures.1 in
     rw (p.1, p.2) (
       c.in_err-plane_at_end.ensures.plane.0,
-      Names-through _ _ _ (λ f h. one-refused (λ i. planes_from found frame i (drop i frame.components)) place
-          (plane_at_end found frame place component) f (map (λ v. v.items) c.loop-place.planes.items) _
-          (planes-after found frame place component (inside at) (seen at)) (end ∙ h) c.loop-place.invariant.given)
+      Names-through _ _ _ (λ f h. one-refused (λ i. planes_from found frame i (drop i
+          frame.components)) index
+          (plane_at_end found frame index component) f (map (λ v. v.items)
+          c.loop-index.planes.items) _
+          (planes-after found frame index component (inside at) (seen at)) (end ∙ h)
+          c.loop-index.invariant.given)
           c.in_err-plane_at_end.ensures.plane.1,
     )
 
-pub loop-place-preserved : goal.loop-place-preserved
-loop-place-preserved c =
-    let place = c.loop-place.place in
+pub loop-index-preserved : goal.loop-index-preserved
+loop-index-preserved c =
+    let index = c.loop-index.index in
     let component = component_in c.index.result.now in
-    let planes = c.loop-place.decoded.planes in
-    let held = arrays_in c.loop-place.decoded.held.items in
+    let planes = c.loop-index.decoded.planes in
+    let kept = arrays_in c.loop-index.decoded.kept.items in
     let found = with_decoded (found_in c.args.state.now) c.args.decoded.now in
     let frame = frame_in c.args.frame.now in
-    let at = (goal.at.loop-place-preserved c).After-index in
-    let end = reached-end found frame place component planes held _ _ c.are_held-is_held.result _ refl
-    c.loop-place.invariant.decided c.in_ok-plane.ensures.taken c.loop-place.invariant.held c.are_held-is_held.ensures
-    c.take_held-held.ensures.taken in
-    let front = map (λ v. v.items) c.loop-place.planes.items in
+    let at = (goal.at.loop-index-preserved c).After-index in
+    let end = reached-end found frame index component planes kept _ _ c.are_kept-is_kept.result _
+    refl
+    c.loop-index.invariant.decided c.in_ok-plane.ensures.taken c.loop-index.invariant.kept
+    c.are_kept-is_kept.ensures
+    c.take_kept-kept.ensures.taken in
+    let front = map (λ v. v.items) c.loop-index.planes.items in
     let plane = c.in_ok-plane_at_end.field-0 in
-    let pushed : c.push.new.self.items ≡ c.loop-place.planes.items ++ plane ∷ [] = search rules in
+    let pushed : c.push.new.self.items ≡ c.loop-index.planes.items ++ plane ∷ [] = search rules in
     let joined : map (λ v. v.items) c.push.new.self.items ≡ front ++ plane.items ∷ [] =
-    ap (map (λ v. v.items)) pushed ∙ map-append (λ v. v.items) c.loop-place.planes.items (plane ∷ []) in
+    ap (map (λ v. v.items)) pushed ∙ map-append (λ v. v.items) c.loop-index.planes.items (plane ∷
+    []) in
     record {
       decided = grind (arith, common_steps, drop_more_same);
-      held = c.take_held-held.ensures.left ∙ drop_more_same held (arrays_in c.args.decoded.now.held.items) place
-          c.loop-place.invariant.held;
-      given = one-more (λ i. planes_from found frame i (drop i frame.components)) place
-          (plane_at_end found frame place component) plane.items front _ _
-          (planes-after found frame place component (inside at) (seen at)) (end ∙ c.in_ok-plane_at_end.ensures.plane) joined
-          c.loop-place.invariant.given;
-      whole = whole-there frame.components place component front _ plane.items (inside at) (seen at) c.loop-place.invariant.whole
+      kept = c.take_kept-kept.ensures.left ∙ drop_more_same kept (arrays_in
+          c.args.decoded.now.kept.items) index
+          c.loop-index.invariant.kept;
+      given = one-more (λ i. planes_from found frame i (drop i frame.components)) index
+          (plane_at_end found frame index component) plane.items front _ _
+          (planes-after found frame index component (inside at) (seen at)) (end ∙
+          c.in_ok-plane_at_end.ensures.plane) joined
+          c.loop-index.invariant.given;
+      whole = whole-there frame.components index component front _ plane.items (inside at) (seen
+          at) c.loop-index.invariant.whole
           c.in_ok-plane_at_end.ensures.whole joined;
       count = search rules;
     }
@@ -112,12 +133,13 @@ pub returns-clause-planes : goal.returns-clause-planes
 returns-clause-planes c =
     let found = with_decoded (found_in c.args.state.now) c.args.decoded.now in
     let frame = frame_in c.args.frame.now in
-    no-more (λ i. planes_from found frame i (drop i frame.components)) c.loop-place.place _ _
-    (no-planes found frame c.loop-place.place
-    (none-left component_in c.args.frame.now.components.items c.loop-place.place (omega arith)))
-    c.loop-place.invariant.given
+    no-more (λ i. planes_from found frame i (drop i frame.components)) c.loop-index.index _ _
+    (no-planes found frame c.loop-index.index
+    (none-left component_in c.args.frame.now.components.items c.loop-index.index (omega arith)))
+    c.loop-index.invariant.given
 
 pub returns-clause-whole : goal.returns-clause-whole
 returns-clause-whole c =
-    whole-all (frame_in c.args.frame.now).components c.loop-place.place _ c.loop-place.invariant.whole
-    (none-left component_in c.args.frame.now.components.items c.loop-place.place (omega arith))
+    whole-all (frame_in c.args.frame.now).components c.loop-index.index _
+    c.loop-index.invariant.whole
+    (none-left component_in c.args.frame.now.components.items c.loop-index.index (omega arith))

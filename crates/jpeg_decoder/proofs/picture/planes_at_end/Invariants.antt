@@ -9,14 +9,16 @@ use Rattle.jpeg_decoder.proofs.EndedPlanes.{AreWholeWith}
 use Rattle.jpeg_decoder.proofs.ReadLists.{after}
 use Rattle.jpeg_decoder.proofs.picture.planes_at_end.Given as goal
 
-abbrev pub invariant-loop-place : goal.invariant-loop-place
-invariant-loop-place l = record {
-  decided : drop l.place l.decoded.planes ≡ drop l.place l.fn.decoded.planes;
-  held : drop l.place (arrays_in l.decoded.held.items) ≡ drop l.place (arrays_in l.fn.decoded.held.items);
+abbrev pub invariant-loop-index : goal.invariant-loop-index
+invariant-loop-index l = record {
+  decided : drop l.index l.decoded.planes ≡ drop l.index l.fn.decoded.planes;
+  kept : drop l.index (arrays_in l.decoded.kept.items) ≡ drop l.index (arrays_in
+      l.fn.decoded.kept.items);
   given : planes_from (with_decoded (found_in l.fn.state) l.fn.decoded) (frame_in l.fn.frame) 0
       (frame_in l.fn.frame).components
-      ≡ (planes_from (with_decoded (found_in l.fn.state) l.fn.decoded) (frame_in l.fn.frame) l.place
-      (drop l.place (frame_in l.fn.frame).components) >>= after (map (λ v. v.items) l.planes.items));
-  whole : AreWholeWith (frame_in l.fn.frame).components l.place (map (λ v. v.items) l.planes.items);
-  count : length l.planes.items ≡ l.place;
+      ≡ (planes_from (with_decoded (found_in l.fn.state) l.fn.decoded) (frame_in l.fn.frame) l.index
+      (drop l.index (frame_in l.fn.frame).components) >>= after (map (λ v. v.items)
+      l.planes.items));
+  whole : AreWholeWith (frame_in l.fn.frame).components l.index (map (λ v. v.items) l.planes.items);
+  count : length l.planes.items ≡ l.index;
 }

@@ -18,47 +18,56 @@ use Rattle.jpeg_decoder.proofs.picture.samples_at_end.Goals as goal
 
 pub returns-in_err-needed-clause-planes : goal.returns-in_err-needed-clause-planes
 returns-in_err-needed-clause-planes c =
-    let l = c.loop-place in
+    let l = c.loop-index in
     let cs = c.args.frame.now.components.items in
     let samples = planes_in c.args.decoded.now.samples in
-    let within = mapped-within component_in cs l.place (omega arith) in
-    let four : l.place < 4 = omega (arith, within, c.requires) in
-    let taken : option_map (λ v. v.items) c.take-plane.result ≡ get_or (planes_in l.decoded.samples) l.place None =
-    mapped-or (λ p. option_map (λ v. v.items) p) l.decoded.samples l.place c.take-plane.result _ None (omega (
+    let within = mapped-within component_in cs l.index (omega arith) in
+    let four : l.index < 4 = omega (arith, within, c.requires) in
+    let taken : option_map (λ v. v.items) c.take-plane.result ≡ get_or (planes_in
+    l.decoded.samples) l.index None =
+    mapped-or (λ p. option_map (λ v. v.items) p) l.decoded.samples l.index c.take-plane.result _
+    None (omega (
       arith,
       four,
     )) c.take-plane.ensures.value in
     let none : option_map (λ v. v.items) c.take-plane.result ≡ None = search rules in
-    let unset : slice_index_or samples l.place None ≡ None =
-    sym (same-at (planes_in l.decoded.samples) samples l.place None l.invariant.left) ∙ sym taken ∙ none in
+    let unset : slice_index_or samples l.index None ≡ None =
+    sym (same-at (planes_in l.decoded.samples) samples l.index None l.invariant.left) ∙ sym taken ∙
+    none in
     let p = err_from_is_err_and c.from_residual-in_err-needed.result c.from_residual-in_err-needed.ensures.1 in
     rw (p.1, p.2) (format-refuses c.in_err-needed.field-0.0 _ c.in_err-needed.ensures.1
-    (one-refused (λ i. samples_from samples i (drop i (frame_in c.args.frame.now).components)) l.place
-    (needed (slice_index_or samples l.place None)) Malformed (map (λ v. v.items) l.planes.items) _
-    (samples-after samples (frame_in c.args.frame.now).components l.place within) (ap needed unset) l.invariant.given))
+    (one-refused (λ i. samples_from samples i (drop i (frame_in c.args.frame.now).components))
+    l.index
+    (needed (slice_index_or samples l.index None)) Malformed (map (λ v. v.items) l.planes.items) _
+    (samples-after samples (frame_in c.args.frame.now).components l.index within) (ap needed unset)
+    l.invariant.given))
 
-pub loop-place-preserved : goal.loop-place-preserved
-loop-place-preserved c =
-    let l = c.loop-place in
+pub loop-index-preserved : goal.loop-index-preserved
+loop-index-preserved c =
+    let l = c.loop-index in
     let cs = c.args.frame.now.components.items in
     let samples = planes_in c.args.decoded.now.samples in
-    let within = mapped-within component_in cs l.place (omega arith) in
-    let four : l.place < 4 = omega (arith, within, c.requires) in
+    let within = mapped-within component_in cs l.index (omega arith) in
+    let four : l.index < 4 = omega (arith, within, c.requires) in
     let plane = c.in_ok-needed.field-0 in
-    let taken : option_map (λ v. v.items) c.take-plane.result ≡ get_or (planes_in l.decoded.samples) l.place None =
-    mapped-or (λ p. option_map (λ v. v.items) p) l.decoded.samples l.place c.take-plane.result _ None (omega (
+    let taken : option_map (λ v. v.items) c.take-plane.result ≡ get_or (planes_in
+    l.decoded.samples) l.index None =
+    mapped-or (λ p. option_map (λ v. v.items) p) l.decoded.samples l.index c.take-plane.result _
+    None (omega (
       arith,
       four,
     )) c.take-plane.ensures.value in
     let some : option_map (λ v. v.items) c.take-plane.result ≡ Some plane.items = search rules in
-    let set : slice_index_or samples l.place None ≡ Some plane.items =
-    sym (same-at (planes_in l.decoded.samples) samples l.place None l.invariant.left) ∙ sym taken ∙ some in
+    let set : slice_index_or samples l.index None ≡ Some plane.items =
+    sym (same-at (planes_in l.decoded.samples) samples l.index None l.invariant.left) ∙ sym taken ∙
+    some in
     let front = map (λ v. v.items) l.planes.items in
     let pushed : c.push.new.self.items ≡ l.planes.items ++ plane ∷ [] = search rules in
     let joined : map (λ v. v.items) c.push.new.self.items ≡ front ++ plane.items ∷ [] =
     ap (map (λ v. v.items)) pushed ∙ map-append (λ v. v.items) l.planes.items (plane ∷ []) in
     record {
-      left = planes-kept l.decoded.samples l.place _ ∙ drop_more_same (planes_in l.decoded.samples) samples l.place
+      left = planes-kept l.decoded.samples l.index _ ∙ drop_more_same (planes_in l.decoded.samples)
+          samples l.index
           l.invariant.left;
       given = grind (arith, common_steps, one-more, samples-after);
       count = search rules;
@@ -66,9 +75,13 @@ loop-place-preserved c =
 
 pub returns-clause-planes : goal.returns-clause-planes
 returns-clause-planes c =
-    let l = c.loop-place in
+    let l = c.loop-index in
     let samples = planes_in c.args.decoded.now.samples in
     let cs = (frame_in c.args.frame.now).components in
-    no-more (λ i. samples_from samples i (drop i cs)) l.place (map (λ v. v.items) l.planes.items) _
-    (no-samples samples cs l.place (omega (arith, length-map c.args.frame.now.components.items component_in)))
+    no-more (λ i. samples_from samples i (drop i cs)) l.index (map (λ v. v.items) l.planes.items) _
+    (no-samples samples cs l.index (omega (
+      arith,
+      length-map c.args.frame.now.components.items
+          component_in,
+    )))
     l.invariant.given

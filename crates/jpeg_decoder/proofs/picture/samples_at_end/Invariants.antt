@@ -6,11 +6,12 @@ use Rattle.jpeg_decoder.specs.PlanesView.{planes_in}
 use Rattle.jpeg_decoder.proofs.ReadLists.{after}
 use Rattle.jpeg_decoder.proofs.picture.samples_at_end.Given as goal
 
-abbrev pub invariant-loop-place : goal.invariant-loop-place
-invariant-loop-place l = record {
-  left : drop l.place (planes_in l.decoded.samples) ≡ drop l.place (planes_in l.fn.decoded.samples);
+abbrev pub invariant-loop-index : goal.invariant-loop-index
+invariant-loop-index l = record {
+  left : drop l.index (planes_in l.decoded.samples) ≡ drop l.index (planes_in l.fn.decoded.samples);
   given : samples_from (planes_in l.fn.decoded.samples) 0 (frame_in l.fn.frame).components
-      ≡ (samples_from (planes_in l.fn.decoded.samples) l.place (drop l.place (frame_in l.fn.frame).components)
+      ≡ (samples_from (planes_in l.fn.decoded.samples) l.index (drop l.index (frame_in
+      l.fn.frame).components)
       >>= after (map (λ v. v.items) l.planes.items));
-  count : length l.planes.items ≡ l.place;
+  count : length l.planes.items ≡ l.index;
 }

@@ -214,5 +214,6 @@ returns-clause-steps g c =
     subst (λ (f : Found). IsStep old (Ok c.end_scan-2.result) f)
     (sym (ap (λ (t : Turn). t.found) c.end_scan-2.ensures))
     (scan-steps old next frame c.end_scan-2.result (sym stays ∙ framed) stays
-    (blocks-sound found next frame (subst IsSound (sym same) c.requires.sound) framed refl reads.held reads.planes
+    (blocks-sound found next frame (subst IsSound (sym same) c.requires.sound) framed refl
+    reads.kept reads.planes
     (ap (λ (s : List (Option (Vec ℕ Global))). planes_in s) reads.samples)))

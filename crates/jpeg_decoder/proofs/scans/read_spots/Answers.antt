@@ -12,7 +12,7 @@ use Rattle.jpeg_decoder.specs.Scanning.{IsSpotOf, arrays_in, counted, kept_after
 use Rattle.jpeg_bits.specs.Skips.{kept, kept_from}
 use Rattle.jpeg_decoder.proofs.KeptScans.{next-kept, turn-kept-refused}
 use Rattle.jpeg_decoder.proofs.BlockSteps.{begun_turn, blocks_begun, blocks_refused, next_refused, next_unbegun}
-use Rattle.jpeg_decoder.proofs.HeldBlocks.{sizes-set, spot, turn-kept, turn-refused}
+use Rattle.jpeg_decoder.proofs.KeptBlocks.{sizes-set, spot, turn-kept, turn-refused}
 use Rattle.jpeg_decoder.proofs.scans.read_spots.Goals as goal
 use Rattle.std.proofs.lemmas.Grind.{common_steps}
 

@@ -22,8 +22,8 @@ use Rattle.jpeg_decoder.specs.GrowingView.{GrowsFor, growing_in}
 use Rattle.jpeg_decoder.specs.Strips.{row_sizes, strip_samples, strips_from, with_strips, zeros_of}
 use Rattle.jpeg_decoder.specs.Walk.{walk_of_row, walks_of_rows}
 use Rattle.jpeg_streams.specs.ScanSegments.{components_of}
-use Rattle.jpeg_decoder.proofs.HeldBlocks.{Held}
-use Rattle.jpeg_decoder.proofs.HeldSpots.{rows-spots}
+use Rattle.jpeg_decoder.proofs.KeptBlocks.{Held}
+use Rattle.jpeg_decoder.proofs.KeptSpots.{rows-spots}
 use Rattle.jpeg_decoder.proofs.ScanOrders.{rows-walked}
 use Rattle.jpeg_decoder.proofs.StripScans.{rows-refused, scan-ended}
 use Rattle.jpeg_decoder.proofs.StripSteps.{strips_refused, strips_none, whole-rows, first-row, later-rows}

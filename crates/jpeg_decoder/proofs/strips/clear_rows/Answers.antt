@@ -1,7 +1,7 @@
 use Rattle.std.proofs.Common.{◌≡◌, ◌∙◌, ap, sym, get_or, length, replicate, List, ℤ, pos, arith}
 use Rattle.std.proofs.lemmas.List.{with_items_is}
 use Rattle.std.specs.Vec.{with_items}
-use Rattle.jpeg_decoder.proofs.HeldBlocks.{Held}
+use Rattle.jpeg_decoder.proofs.KeptBlocks.{Held}
 use Rattle.jpeg_decoder.proofs.RowBuffers.{cleared-next}
 use Rattle.jpeg_decoder.proofs.strips.clear_rows.Goals as goal
 

@@ -6,9 +6,10 @@ use Rattle.jpeg_lossless.proofs.planes.add_lines.Given as goal
 
 abbrev pub invariant-loop-left : goal.invariant-loop-left
 invariant-loop-left l = record {
-  within : l.place + l.left * l.across ≤ l.row.size;
+  within : l.index + l.left * l.across ≤ l.row.size;
   lines : with_lines l.row.prediction.predictor l.row.prediction.start l.is_first l.plane.items
-      (map (take l.part.width) (strands l.left l.row.count l.row.size l.place l.part.across l.row.differences.now))
+      (map (take l.part.width) (strands l.left l.row.count l.row.size l.index l.part.across
+      l.row.differences.now))
       ≡ with_lines l.row.prediction.predictor l.row.prediction.start l.row.is_first l.fn.plane.items
       (own_strands (part_in l.part) l.row.count l.row.size l.from l.row.differences.now);
 }

@@ -14,11 +14,13 @@ loop-column-preserved c =
     let block = slice_index_or blocks column [] in
     let strip = c.loop-column.strip in
     let rest = length strip - 8 * column in
-    let place = block_has_room 8 column (length blocks) (length strip) (omega arith) c.loop-column-test.true
+    let index = block_has_room 8 column (length blocks) (length strip) (omega arith)
+    c.loop-column-test.true
     (omega arith) in
     HoldsSamples-next 8 (8 * length blocks) column rest
-    (plane_sample 8 table (λ row place. slice_index_or blocks place zero_coefficients)) (sample_at 8 block table)
-    strip c.write_block.new.output place.0 place.1 (omega arith)
+    (plane_sample 8 table (λ row index. slice_index_or blocks index zero_coefficients)) (sample_at
+    8 block table)
+    strip c.write_block.new.output index.0 index.1 (omega arith)
     (block_in_row 8 table blocks column block (get_or_default blocks column [] zero_coefficients
     c.loop-column-test.true))
     c.write_block.ensures c.loop-column.invariant

@@ -5,4 +5,5 @@ use Rattle.jpeg_pixels.proofs.plane.write_long_strip.Given as goal
 
 abbrev pub invariant-loop-column : goal.invariant-loop-column
 invariant-loop-column l = HoldsSamples 8 (8 * length l.blocks) (8 * l.column)
-    (plane_sample 8 l.quantization_table (λ row place. slice_index_or l.blocks place zero_coefficients)) l.strip
+    (plane_sample 8 l.quantization_table (λ row index. slice_index_or l.blocks index
+    zero_coefficients)) l.strip

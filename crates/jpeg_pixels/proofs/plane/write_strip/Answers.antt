@@ -14,10 +14,12 @@ loop-column-preserved c =
     let block = slice_index_or blocks column [] in
     let strip = c.loop-column.strip in
     let some : 1 ≤ s = omega (arith, c.requires.scale) in
-    let place = block_has_room s column (length blocks) (length strip) some c.loop-column-test.true (omega arith) in
+    let index = block_has_room s column (length blocks) (length strip) some c.loop-column-test.true
+    (omega arith) in
     HoldsSamples-next s (s * length blocks) column (length strip - s * column)
-    (plane_sample s table (λ row place. slice_index_or blocks place zero_coefficients)) (sample_at s block table)
-    strip c.dequantize_and_idct_block.new.output place.0 place.1 (omega arith)
+    (plane_sample s table (λ row index. slice_index_or blocks index zero_coefficients)) (sample_at
+    s block table)
+    strip c.dequantize_and_idct_block.new.output index.0 index.1 (omega arith)
     (block_in_row s table blocks column block (get_or_default blocks column [] zero_coefficients
     c.loop-column-test.true))
     c.dequantize_and_idct_block.ensures c.loop-column.invariant

@@ -5,4 +5,5 @@ use Rattle.jpeg_pixels.proofs.plane.write_strip.Given as goal
 
 abbrev pub invariant-loop-column : goal.invariant-loop-column
 invariant-loop-column l = HoldsSamples l.scale (l.scale * length l.blocks) (l.scale * l.column)
-    (plane_sample l.scale l.quantization_table (λ row place. slice_index_or l.blocks place zero_coefficients)) l.strip
+    (plane_sample l.scale l.quantization_table (λ row index. slice_index_or l.blocks index
+    zero_coefficients)) l.strip

@@ -19,9 +19,10 @@ returns c =
     let k5 = kept_shorts s.r5 (search rules) (halves_fit s.r5 _ c.well_formed.0.1.1.1.1.1.1.1.0.1.1) in
     let k6 = kept_shorts s.r6 (search rules) (halves_fit s.r6 _ c.well_formed.0.1.1.1.1.1.1.1.1.0.1.1) in
     let k7 = kept_shorts s.r7 (search rules) (halves_fit s.r7 _ c.well_formed.0.1.1.1.1.1.1.1.1.1.0.1.1) in
-    let places = range_with_len 0 8 in
-    let eight : length places ≡ 8 = length-range_with_len 0 8 in
-    let x_scale = lane_splat places eight _ c.args.x_scale (residue_bits c.args.x_scale c.ranges.x_scale) in
+    let indices = range_with_len 0 8 in
+    let eight : length indices ≡ 8 = length-range_with_len 0 8 in
+    let x_scale = lane_splat indices eight _ c.args.x_scale (residue_bits c.args.x_scale
+    c.ranges.x_scale) in
     let e0 = lane_add (lane_pair c.pair.result s.r0 s.r4 _ _ _ _ k0 k4 c.pair.ensures) x_scale in
     let e1 = lane_add (lane_pair c.pair-2.result s.r0 s.r4 _ _ _ _ k0 k4 c.pair-2.ensures) x_scale in
     let o0 = lane_pair c.pair-o0.result s.r2 s.r6 _ _ _ _ k2 k6 c.pair-o0.ensures in

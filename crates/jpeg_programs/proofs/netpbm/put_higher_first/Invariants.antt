@@ -2,6 +2,6 @@ use Rattle.std.proofs.Common.{◌≡◌, length}
 use Rattle.jpeg_programs.specs.Netpbm.{first_turned}
 use Rattle.jpeg_programs.proofs.netpbm.put_higher_first.Given as goal
 
-abbrev pub invariant-loop-place : goal.invariant-loop-place
-invariant-loop-place l = (l.samples ≡ first_turned l.place l.initial.samples)
+abbrev pub invariant-loop-index : goal.invariant-loop-index
+invariant-loop-index l = (l.samples ≡ first_turned l.index l.initial.samples)
     × (length l.samples ≡ length l.initial.samples)

@@ -1,7 +1,8 @@
 use Rattle.std.proofs.Common.{◌-◌, ◌∙◌, sym, arith, Vec, Global, Option, rules}
 use Rattle.std.proofs.lemmas.Result.{err_from_is_err_and}
-use Rattle.jpeg_segments.specs.HuffmanTables.{Tables, PlacedTable, dht_at, placed_codes_at, tables_from}
-use Rattle.jpeg_segments.specs.declared.huffman_tables.PlacedTable.{PlacedTable as Read}
+use Rattle.jpeg_segments.specs.HuffmanTables.{Tables, DefinedTable, dht_at, defined_codes_at}
+use Rattle.jpeg_segments.specs.HuffmanTables.{tables_from}
+use Rattle.jpeg_segments.specs.declared.huffman_tables.DefinedTable.{DefinedTable as Read}
 use Rattle.jpeg_bits.specs.Codes.{Table}
 use Rattle.jpeg_bits.proofs.Loops.{Continues-ok, bind_at, bind_err}
 use Rattle.jpeg_segments.proofs.HuffmanLemmas.{tables_from-more, tables_from-rest}
@@ -11,15 +12,15 @@ use Rattle.std.proofs.lemmas.Grind.{common_steps}
 abbrev view_of : Vec (Option Table) Global × Vec (Option Table) Global → Tables
 view_of t = record { dc = t.0.items; ac = t.1.items }
 
-abbrev placed_of : Read → PlacedTable
-placed_of t = record { place = t.place; table = t.table }
+abbrev placed_of : Read → DefinedTable
+placed_of t = record { destination = t.destination; table = t.table }
 
 pub loop-left-preserved : goal.loop-left-preserved
 loop-left-preserved g c =
     let l = c.loop-left in
     let placed = c.in_ok-placed in
     let turns = l.invariant.rest.0 in
-    let greatest = c.greatest_place-greatest.result in
+    let greatest = c.greatest_destination-greatest.result in
     let tables = view_of l.tables in
     record {
       dc = search rules;
@@ -29,13 +30,15 @@ loop-left-preserved g c =
         turns - 1,
         omega (arith, l.invariant.rest.1, placed.ensures.size.0, placed.ensures.size.1),
         Continues-ok placed_of (dht_at c.args.is_baseline) (tables_from turns greatest l.left tables)
-            (tables_from (turns - 1) greatest (l.left - placed.placed.size) (view_of c.place_table.new.tables))
-            (placed_codes_at greatest l.left) c.args.reader.now l.reader c.read_placed_table.new.source
+            (tables_from (turns - 1) greatest (l.left - placed.placed.size) (view_of
+            c.put_table.new.tables))
+            (defined_codes_at greatest l.left) c.args.reader.now l.reader
+            c.read_defined_table.new.source
             placed.placed
             (λ is. tables_from-more turns greatest l.left tables l.reader.bytes (omega arith) l.invariant.rest.1
             ∙ bind_at _ _ _ is
             ∙ (λ i. tables_from (turns - 1) greatest (l.left - sym placed.ensures.size.0 i)
-            (sym c.place_table.ensures.tables i) c.read_placed_table.new.source.bytes))
+            (sym c.put_table.ensures.tables i) c.read_defined_table.new.source.bytes))
             l.invariant.rest.2 placed.ensures.answers,
       );
     }

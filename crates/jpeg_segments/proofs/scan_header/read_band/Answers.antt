@@ -15,8 +15,9 @@ returns-clause-scan g c =
     let high = ap (λ (s : Scan). s.high) e in
     let low = ap (λ (s : Scan). s.low) e in
     is-scan (frame_in c.args.frame.now) xs (scan_in c.in_ok-scan_of.field-0) (rw count c.requires.some)
-    (rw count c.requires.most) c.requires.places c.requires.rising c.requires.mcu
-    (ap (λ (s : Scan). s.components) e) (ap (λ (s : Scan). s.dc_places) e) (ap (λ (s : Scan). s.ac_places) e)
+    (rw count c.requires.most) c.requires.indices c.requires.rising c.requires.mcu
+    (ap (λ (s : Scan). s.components) e) (ap (λ (s : Scan). s.dc_destinations) e) (ap (λ (s : Scan).
+    s.ac_destinations) e)
     (rw (first, after, high, low) (c.is_band.ensures.coded c.if-not-is_band.false))
     (rw (first, after, high, low, count)
     (legal-again c.args.frame.now.coding_process (length c.args.selectors.now) _ _ _ _ (sym c.is_band.ensures.value

@@ -30,8 +30,9 @@ loop-left-preserved g c =
       rising = rw (e, map-append (λ (s : Selector). s.component) front (selector_of one ∷ []))
           (rises-more (map (λ (s : Selector). s.component) front) least one.component c.loop-left.invariant.rising
           c.in_ok-selector.ensures.least);
-      places = rw e (All-push (IsSelectorOf frame) front (selector_of one) c.loop-left.invariant.places
-          c.in_ok-selector.ensures.place);
+      indices = rw e (All-push (IsSelectorOf frame) front (selector_of one)
+          c.loop-left.invariant.indices
+          c.in_ok-selector.ensures.index);
     }
 
 pub returns-in_err-selector-clause-answers : goal.returns-in_err-selector-clause-answers

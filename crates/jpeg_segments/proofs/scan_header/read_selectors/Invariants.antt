@@ -11,7 +11,7 @@ invariant-loop-left g l = record {
       (frame_in l.frame) l.left (map selector_of l.selectors.items) l.least bs) l.source;
   length : length l.selectors.items + l.left ≡ l.fn.count;
   rising : RisesTo (map (λ s. s.component) (map selector_of l.selectors.items)) l.least;
-  places : All (IsSelectorOf (frame_in l.frame)) (map selector_of l.selectors.items);
+  indices : All (IsSelectorOf (frame_in l.frame)) (map selector_of l.selectors.items);
 }
 
 abbrev pub decreases-loop-left : goal.decreases-loop-left

@@ -2,12 +2,12 @@ use Rattle.std.proofs.Common.{rules, arith, ◌≡◌, ◌+◌, suc}
 use Rattle.thumbnail.specs.Turns.{tabulate}
 use Rattle.thumbnail.proofs.turns.turned.Goals as goal
 
-pub loop-place-init : goal.loop-place-init
+pub loop-index-init : goal.loop-index-init
 unfolding tabulate
-loop-place-init c = search rules
+loop-index-init c = search rules
 
-pub loop-place-preserved : goal.loop-place-preserved
+pub loop-index-preserved : goal.loop-index-preserved
 unfolding tabulate
-loop-place-preserved c =
-    let next : c.loop-place.place + 1 ≡ suc c.loop-place.place = omega arith in
+loop-index-preserved c =
+    let next : c.loop-index.index + 1 ≡ suc c.loop-index.index = omega arith in
     rw next (search rules)

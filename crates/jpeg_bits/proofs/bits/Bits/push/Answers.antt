@@ -1,7 +1,7 @@
 use Rattle.std.proofs.Common.{◌≤◌, ◌<◌, ◌+◌, ℕ, arith, sym, subst}
 use Rattle.jpeg_bits.specs.Reservoir.{IsReservoir}
 use Rattle.jpeg_bits.proofs.WrittenBits.{length-low_bits}
-use Rattle.jpeg_bits.proofs.Reservoirs.{byte_zeros, byte_held, byte_fits, byte_shifted}
+use Rattle.jpeg_bits.proofs.Reservoirs.{byte_zeros, byte_buffered, byte_fits, byte_shifted}
 use Rattle.jpeg_bits.proofs.bits.Bits.push.Goals as goal
 use Rattle.jpeg_bits.proofs.bits.Bits.push.Goals.{After-self}
 use Rattle.std.proofs.lemmas.Grind.{common_steps}
@@ -37,4 +37,4 @@ returns c =
     let i = c.self.invariant in
     let small : b < 256 = omega (arith, c.from.ensures, c.ranges.byte.fits) in
     let few = few (goal.at.returns c).After-self in
-    grind (arith, byte_shifted, few, byte_held)
+    grind (arith, byte_shifted, few, byte_buffered)

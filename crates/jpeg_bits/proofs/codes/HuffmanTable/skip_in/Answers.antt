@@ -16,7 +16,7 @@ returns-then-run-eq0 c =
     let counted = c.symbol_of.ensures.counted in
     let found : symbol_in table (drop used bits ++ replicate (4 + used) false) ≡ Some (symbol, n)
     = ap (symbol_in table) (sym c.bits_after.ensures) ∙ sym c.in-Some.ensures.symbol in
-    let none = c.if-not-has_places.ensures.none refl in
+    let none = c.if-not-has_room.ensures.none refl in
     record {
       few = c.if-used-count-gt12.false;
       some = λ e. absurd (false≢true (sym e));
@@ -39,5 +39,6 @@ loop-preserved c =
       within = c.if-used-count-gt12.false;
       small = omega (arith, fits, c.loop.invariant.small);
       over = skip-more table counted bits (length-low_bits 12 c.args.bits) used symbol n found (n + symbol % 16)
-          c.loop.passed refl c.if-used-count-gt12.false (c.if-not-has_places.ensures.some refl) c.loop.invariant.over;
+          c.loop.passed refl c.if-used-count-gt12.false (c.if-not-has_room.ensures.some refl)
+          c.loop.invariant.over;
     }

@@ -24,16 +24,18 @@ loop-slot-preserved c =
     let p = pass_in c.args.scan.now.pass in
     record {
       within = search rules;
-      held = search rules;
+      kept = search rules;
       samples = search rules;
       added = λ base.
           arrays-step p cs l.slot coded c.args.arrays.now.items c.index.result.now (with_decoded base l.self)
           (with_decoded base c.add_blocks.new.self) h
           (long-at cs c.args.arrays.now.items l.slot c.requires.blocks h) (search rules)
           (c.in_ok-add_blocks.ensures.plane base
-          ∙ (ap (λ bs. with_its_plane p coded.place (plane_by (coding_in coded).component (coding_in coded).quantization
+          ∙ (ap (λ bs. with_its_plane p coded.index (plane_by (coding_in coded).component
+          (coding_in coded).quantization
           (map to_block bs)) (with_decoded base l.self)) c.deref.ensures.value
-          ∙ ap (λ (x : Coded). with_its_plane p x.place (plane_by (coding_in x).component (coding_in x).quantization
+          ∙ ap (λ (x : Coded). with_its_plane p x.index (plane_by (coding_in x).component
+          (coding_in x).quantization
           (blocks_in c.index.result.now)) (with_decoded base l.self)) is))
           ∙ l.invariant.added base;
     }

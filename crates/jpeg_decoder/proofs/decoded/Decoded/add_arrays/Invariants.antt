@@ -9,7 +9,7 @@ use Rattle.jpeg_decoder.proofs.decoded.Decoded.add_arrays.Given as goal
 abbrev pub invariant-loop-slot : goal.invariant-loop-slot
 invariant-loop-slot l = record {
   within : l.slot ≤ length l.scan.components.items;
-  held : l.self.held ≡ l.fn.self.held;
+  kept : l.self.kept ≡ l.fn.self.kept;
   samples : l.self.samples ≡ l.fn.self.samples;
   added : (base : Found) →
       with_arrays (pass_in l.scan.pass) (drop l.slot (map coding_in l.scan.components.items))

@@ -14,7 +14,7 @@ use Rattle.jpeg_decoder.proofs.decoded.Decoded.add_joint.Goals as goal
 
 pub loop-coded-init : goal.loop-coded-init
 loop-coded-init c = record {
-  held = refl;
+  kept = refl;
   samples = refl;
   planes = refl;
   added = λ base.
@@ -38,23 +38,23 @@ loop-coded-preserved c =
     let is : coded ≡ get_or cs l.coded-index coded =
     c.coded-item.is
     ∙ ap (λ (xs : List Coded). get_or xs l.coded-index coded) c.deref-coded-items.ensures.value in
-    let place : coded.place ≡ l.coded-index =
-    ap (λ (x : Coded). x.place) is ∙ c.requires.first.in_order l.coded-index coded within in
-    let long = length-set l.self.finished coded.place c.finish.new.marks in
+    let index : coded.index ≡ l.coded-index =
+    ap (λ (x : Coded). x.index) is ∙ c.requires.first.in_order l.coded-index coded within in
+    let long = length-set l.self.finished coded.index c.finish.new.marks in
     let four : length l.self.finished ≡ 4 = search rules in
-    let marked : c.finish.new.marks ≡ marks_after p l.self.finished coded.place =
+    let marked : c.finish.new.marks ≡ marks_after p l.self.finished coded.index =
     c.finish.ensures.marked
-    ∙ ap (finished_by p) (get_or_default l.self.finished coded.place [] none_finished
-    (omega (arith, four, place, within, small, c.requires.count))) in
+    ∙ ap (finished_by p) (get_or_default l.self.finished coded.index [] none_finished
+    (omega (arith, four, index, within, small, c.requires.count))) in
     record {
-      held = search rules;
+      kept = search rules;
       samples = search rules;
       planes = search rules;
       added = λ base.
           joint-step p cs (joint_planes shape samples)
           (planes-long shape samples ∙ c.requires.count) l.coded-index coded
           (with_decoded base l.self) c.finish.new.marks (omega (arith, small, c.requires.count))
-          within is place marked (c.finish.ensures.all c.requires.first.whole)
+          within is index marked (c.finish.ensures.all c.requires.first.whole)
           ∙ l.invariant.added base;
     }
 

@@ -12,7 +12,7 @@ invariant-loop-coded l =
     let codings = map coding_in l.scan.components.items in
     let all = joint_planes l.joint.shape l.joint.samples.items in
     record {
-      held : l.self.held ≡ l.fn.self.held;
+      kept : l.self.kept ≡ l.fn.self.kept;
       samples : l.self.samples ≡ l.fn.self.samples;
       planes : l.self.planes ≡ l.fn.self.planes;
       added : (base : Found) →

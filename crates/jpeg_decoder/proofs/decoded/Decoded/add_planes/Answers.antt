@@ -14,14 +14,15 @@ loop-slot-preserved c =
     record {
       within = search rules;
       planes = search rules;
-      held = search rules;
+      kept = search rules;
       samples = search rules;
       added = λ base.
           planes-step (pass_in c.args.scan.now.pass) c.args.scan.now.components.items l.slot c.index.result.now
           l.planes.items c.replace-plane.new.dest c.replace-plane.result
           (with_decoded base l.self) (with_decoded base c.add_plane.new.self) (search rules) l.invariant.planes
           (search rules)
-          (c.add_plane.ensures.plane base ∙ ap (λ (x : Coded). with_its_plane (pass_in c.args.scan.now.pass) x.place
+          (c.add_plane.ensures.plane base ∙ ap (λ (x : Coded). with_its_plane (pass_in
+          c.args.scan.now.pass) x.index
           c.replace-plane.result.items (with_decoded base l.self)) is)
           ∙ l.invariant.added base;
     }

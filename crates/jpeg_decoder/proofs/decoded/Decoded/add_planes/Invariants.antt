@@ -8,7 +8,7 @@ abbrev pub invariant-loop-slot : goal.invariant-loop-slot
 invariant-loop-slot l = record {
   within : l.slot ≤ length l.scan.components.items;
   planes : length l.planes.items ≡ length l.scan.components.items;
-  held : l.self.held ≡ l.fn.self.held;
+  kept : l.self.kept ≡ l.fn.self.kept;
   samples : l.self.samples ≡ l.fn.self.samples;
   added : (base : Found) →
       with_planes (pass_in l.scan.pass) (drop l.slot (map coding_in l.scan.components.items))

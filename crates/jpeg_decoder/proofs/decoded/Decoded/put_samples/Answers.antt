@@ -9,4 +9,4 @@ loop-slot-preserved c = grind (arith, common_steps, put-step)
 pub returns-clause-samples : goal.returns-clause-samples
 returns-clause-samples c =
     let l = c.loop-slot in
-    put-all c.args.places.now l.slot _ _ _ (search rules) l.invariant.samples
+    put-all c.args.indices.now l.slot _ _ _ (search rules) l.invariant.samples

@@ -5,15 +5,15 @@ use Rattle.jpeg_decoder.proofs.decoded.Decoded.put_samples.Given as goal
 
 abbrev pub invariant-loop-slot : goal.invariant-loop-slot
 invariant-loop-slot l = record {
-  within : l.slot ≤ length l.places;
-  count : length l.planes.items ≡ length l.places;
-  held : l.self.held ≡ l.fn.self.held;
+  within : l.slot ≤ length l.indices;
+  count : length l.planes.items ≡ length l.indices;
+  kept : l.self.kept ≡ l.fn.self.kept;
   finished : l.self.finished ≡ l.fn.self.finished;
   planes : l.self.planes ≡ l.fn.self.planes;
-  samples : with_samples (drop l.slot l.places) (drop l.slot (map (λ v. v.items) l.planes.items))
+  samples : with_samples (drop l.slot l.indices) (drop l.slot (map (λ v. v.items) l.planes.items))
       (planes_in l.self.samples)
-      ≡ with_samples l.places (map (λ v. v.items) l.fn.planes.items) (planes_in l.fn.self.samples);
+      ≡ with_samples l.indices (map (λ v. v.items) l.fn.planes.items) (planes_in l.fn.self.samples);
 }
 
 abbrev pub decreases-loop-slot : goal.decreases-loop-slot
-decreases-loop-slot l = length l.places - l.slot
+decreases-loop-slot l = length l.indices - l.slot

@@ -12,7 +12,8 @@ use Rattle.jpeg_streams.specs.Found.{Found}
 use Rattle.jpeg_decoder.specs.GrowingView.{growing_in}
 use Rattle.jpeg_decoder.specs.Strips.{planes_by_rows}
 use Rattle.jpeg_decoder.proofs.PlacedCodings.{coded-components}
-use Rattle.jpeg_decoder.proofs.ScanData.{answers-err, held-afterwards, none-held, of-frame, planes-whole}
+use Rattle.jpeg_decoder.proofs.ScanData.{answers-err, kept-afterwards, none-kept, of-frame}
+use Rattle.jpeg_decoder.proofs.ScanData.{planes-whole}
 use Rattle.jpeg_decoder.proofs.SequentialScans.{read-data, read-refused}
 use Rattle.jpeg_decoder.proofs.decoded.Decoded.read.Goals as goal
 use Rattle.std.proofs.lemmas.Grind.{common_steps}
@@ -45,7 +46,8 @@ returns-clause-data g c =
           let at = q.1 k in (
             at.0,
             read-data (found_in c.args.state.now) c.args.self.now (frame_in c.args.frame.now) scan
-                c.args.source.now.bytes (sym c.if-is_progressive.ensures) c.requires.ready c.in_ok-reached.reached c.read_planes.new.source.bytes (record c.args.self.now { held = c.new.result })
+                c.args.source.now.bytes (sym c.if-is_progressive.ensures) c.requires.ready
+                c.in_ok-reached.reached c.read_planes.new.source.bytes (record c.args.self.now { kept = c.new.result })
                 c.add_grown.new.self refl refl refl (ap (map _) c.new.ensures.items)
                 (growing_in c.read_planes.new.planes)
                 (ap (λ (start : List (List ℕ)). planes_by_rows (pass_in scan.pass) (vias_in 0 scan.components.items)
@@ -61,7 +63,7 @@ returns-clause-planes g c =
     let p = pass_in c.args.scan.now.pass in
     let cs = c.args.scan.now.components.items in
     let codings = map coding_in cs in
-    let one = record c.args.self.now { held = c.new.result } in
+    let one = record c.args.self.now { kept = c.new.result } in
     λ h.
     subst (λ (x : Found). ArePlanes frame.components x.planes)
     (sym (c.add_grown.ensures.planes (found_in c.args.state.now)))
@@ -72,11 +74,11 @@ returns-clause-planes g c =
     ∙ ap (map (λ (x : Component). (x.blocks_high * x.scale) * (x.blocks_wide * x.scale)))
     (sym (coded-components cs))) h)
 
-pub returns-then-is_progressive-clause-held : goal.returns-then-is_progressive-clause-held
-returns-then-is_progressive-clause-held g c = grind (arith, common_steps, held-afterwards)
+pub returns-then-is_progressive-clause-kept : goal.returns-then-is_progressive-clause-kept
+returns-then-is_progressive-clause-kept g c = grind (arith, common_steps, kept-afterwards)
 
-pub returns-then-are_decided-clause-held : goal.returns-then-are_decided-clause-held
-returns-then-are_decided-clause-held g c = grind (arith, common_steps, none-held)
+pub returns-then-are_decided-clause-kept : goal.returns-then-are_decided-clause-kept
+returns-then-are_decided-clause-kept g c = grind (arith, common_steps, none-kept)
 
-pub returns-clause-held : goal.returns-clause-held
-returns-clause-held g c = grind (arith, common_steps, none-held)
+pub returns-clause-kept : goal.returns-clause-kept
+returns-clause-kept g c = grind (arith, common_steps, none-kept)

@@ -46,7 +46,8 @@ returns-clause-data g c =
           let at = q.1 k in (
             at.0,
             again-data (found_in c.args.state.now) c.args.self.now (frame_in c.args.frame.now) scan
-                c.args.source.now.bytes c.requires.process c.requires.ready c.in_ok-reached.reached c.read_planes.new.source.bytes (record c.args.self.now { held = c.new-2.result })
+                c.args.source.now.bytes c.requires.process c.requires.ready c.in_ok-reached.reached
+                c.read_planes.new.source.bytes (record c.args.self.now { kept = c.new-2.result })
                 c.add_planes.new.self refl refl refl (ap (map _) c.new-2.ensures.items)
                 (growing_in c.read_planes.new.planes)
                 (are-decided scan.components.items _ c.requires.decided)
@@ -55,7 +56,7 @@ returns-clause-data g c =
                 (strips.plane_lists l) c.args.source.now.bytes) (sym c.new.ensures.items) ∙ at.1)
                 (λ base. c.add_planes.ensures.planes base
                 ∙ ap (λ (made : List (List ℕ)). with_planes (pass_in scan.pass) (map coding_in scan.components.items) made
-                (with_decoded base (record c.args.self.now { held = c.new-2.result })))
+                (with_decoded base (record c.args.self.now { kept = c.new-2.result })))
                 (c.in_ok-none.ensures ∙ ap (λ (l : List Coded). no_samples (map coding_in l)) c.deref.ensures.value)),
           ),
     )
@@ -63,7 +64,7 @@ returns-clause-data g c =
 pub returns-clause-planes : goal.returns-clause-planes
 returns-clause-planes g c =
     let cs = c.args.scan.now.components.items in
-    let one = record c.args.self.now { held = c.new-2.result } in
+    let one = record c.args.self.now { kept = c.new-2.result } in
     let base = found_in c.args.state.now in
     let p = pass_in c.args.scan.now.pass in
     again-planes p (map coding_in cs) base one c.add_planes.new.self (are-decided cs _ c.requires.decided)

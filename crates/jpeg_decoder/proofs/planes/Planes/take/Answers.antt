@@ -13,7 +13,7 @@ returns-in-Some-clause-left c = grind (arith, common_steps, map-set, or-after)
 
 pub returns-clause-taken : goal.returns-clause-taken
 returns-clause-taken c =
-    let there : get_or c.args.self.now c.args.place None
-    ≡ get_or (map Some (joint_in c.self.inside.joint)) c.args.place None =
+    let there : get_or c.args.self.now c.args.index None
+    ≡ get_or (map Some (joint_in c.self.inside.joint)) c.args.index None =
     grind (arith, common_steps, length-map, get_or-map, or-at) in
     rw there c.copy_plane.ensures

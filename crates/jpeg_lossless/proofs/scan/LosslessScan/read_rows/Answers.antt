@@ -46,10 +46,10 @@ loop-left-preserved g c =
     let back : c.as_mut_slice-planes.result.now ≡ was.items = c.as_mut_slice-planes.ensures.value in
     let old-long : length was.items ≡ was.len = sym was.ok.0 in
     let new-long : length c.add_row.new.planes ≡ was.len = c.add_row.ensures.count ∙ ap length back ∙ old-long in
-    let held = written-back was.len c.add_row.new.planes was.items new-long old-long in
+    let buffered = written-back was.len c.add_row.new.planes was.items new-long old-long in
     let next = map (λ v. v.items) (take was.len
     (c.add_row.new.planes ++ drop (length c.add_row.new.planes) was.items)) in
-    let same : next ≡ map (λ v. v.items) c.add_row.new.planes = ap (map (λ v. v.items)) held in
+    let same : next ≡ map (λ v. v.items) c.add_row.new.planes = ap (map (λ v. v.items)) buffered in
     let row = c.read_row.new.row.items in
     let grid = λ (l : List (Vec ℕ Global)). map (λ v. v.items) l in
     let size : length c.as_slice-tables.result.now ≡ samples_an_mcu v =
@@ -60,7 +60,8 @@ loop-left-preserved g c =
     planes
     = search rules in
     record {
-      count = ap length held ∙ c.add_row.ensures.count ∙ ap length back ∙ c.loop-left.invariant.count;
+      count = ap length buffered ∙ c.add_row.ensures.count ∙ ap length back ∙
+          c.loop-left.invariant.count;
       left = omega (arith, c.loop-left.invariant.left);
       long = search (rules, grown-as, one-row);
       reads = Leaves-step (planes_after_rows v true c.args.count (map (λ v. v.items) c.args.self.now.planes.items))

@@ -16,7 +16,7 @@ append-requires g c =
     (subst (λ i. Yields g.I.Iterator.next_gives i (rows ++ row ∷ []) c.next.new.self)
     c.into_iter-index-iterator.ensures.into_iter_gives given) in
     let last = last_is_row c.args.self.now rows row are in
-    record { place = last.0; row = rw (c.loop-index.invariant, c.deref.ensures.value) last.1 }
+    record { index = last.0; row = rw (c.loop-index.invariant, c.deref.ensures.value) last.1 }
 
 pub loop-index-preserved : goal.loop-index-preserved
 loop-index-preserved g c = search (rules, with_rows_more)

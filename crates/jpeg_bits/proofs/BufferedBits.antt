@@ -1,0 +1,149 @@
+-- Taking bits that are held.
+use Rattle.std.proofs.Common.{◌≡◌, ℕ, ◌+◌, ◌-◌, ◌*◌, ◌^◌, ◌≤◌, Bool, true, false, cond, List, [], ◌++◌, length, take}
+use Rattle.std.proofs.Common.{drop, replicate, Option, Some, Result, Ok, Err, sym, ap, ◌∙◌, arith, length-append}
+use Rattle.std.proofs.Common.{length-drop, add-one, pow-suc, is_ok, subst}
+use Rattle.std.proofs.Math.Seq.{drop-nil}
+use Rattle.std.proofs.lemmas.List.{length-replicate, drop-drop, drop-replicate, drop-append-le, take-append-le}
+use Rattle.jpeg_bits.specs.Reading.{Fault, ◌>>=◌, Names, MayFail, Answers, Gives}
+use Rattle.jpeg_bits.specs.Entropy.{Ending, upcoming_by, upcoming, bits_from, has_bits, number_of, advance, IsFilled}
+use Rattle.jpeg_bits.specs.Entropy.{Ahead, Takes, same_text, IsWithin, has_buffered, ending_of}
+use Rattle.jpeg_bits.specs.Entropy.{marker_at_end, marker_from}
+use Rattle.jpeg_bits.specs.Stream.{Stream}
+use Rattle.jpeg_bits.specs.declared.ahead.DataEnd.{DataEnd}
+use Rattle.jpeg_bits.specs.declared.ahead.DataEnd.TheVariants as ends
+use Rattle.std.proofs.lemmas.Bool.{false≢true}
+use Rattle.jpeg_bits.specs.declared.error.Error.{Error}
+use Rattle.jpeg_bits.proofs.Loops.{bind_err, still_known}
+use Rattle.jpeg_bits.proofs.Texts.{same, none_left, second_ok, Takes-marker, Takes-no_marker}
+use Rattle.jpeg_bits.specs.declared.marker.Marker.{Marker}
+
+pub has_enough : (n : ℕ) (bits : List Bool) (e : Ending) → n ≤ length bits → has_bits n bits e ≡ Ok tt
+has_enough n bits e h = grind arith
+
+after : (n l : ℕ) (x : List ℕ) (ys : List (List ℕ)) → n ≤ l → drop n (drop 56 (replicate l x ++ ys))
+    ≡ drop 56 (replicate (l - n) x ++ ys)
+after n l x ys h =
+    let zs = replicate l x ++ ys in
+    let e : 56 + n ≡ n + 56 = omega arith in
+    drop-drop n 56 zs ∙ ap (λ k. drop k zs) e ∙ sym (drop-drop 56 n zs)
+    ∙ ap (drop 56) (drop-append-le n (replicate l x) ys (omega (arith, length-replicate l x))
+    ∙ ap (λ zs. zs ++ ys) (drop-replicate n l x))
+
+-- the text after bits that are held
+pub advance-buffered : (n : ℕ) (bits : List Bool) (met : Option DataEnd) (bytes : List ℕ) →
+    IsFilled n bits met
+    → advance n (upcoming_by bits met bytes) ≡ upcoming_by (drop n bits) met bytes
+advance-buffered n bits met bytes h = grind (
+  arith,
+  drop-append-le,
+  after,
+  length-drop,
+  same,
+  none_left,
+  drop-nil,
+)
+
+has_bits-same : (n : ℕ) (bits : List Bool) (end : DataEnd) (bytes : List ℕ) → has_bits n bits (ending_of end bytes)
+    ≡ has_bits n bits (ending_of end [])
+has_bits-same n bits end bytes = grind arith
+
+-- whether bits can be taken is seen from those that are held
+pub has_bits-buffered : (n : ℕ) (bits : List Bool) (met : Option DataEnd) (bytes : List ℕ) →
+    IsFilled n bits met
+    → has_bits n (upcoming_by bits met bytes).bits (upcoming_by bits met bytes).ending ≡
+    has_buffered n bits met
+has_bits-buffered n bits met bytes h = grind (arith, has_enough, length-append, has_bits-same)
+
+front-buffered : (n : ℕ) (bits : List Bool) (met : Option DataEnd) (bytes : List ℕ) → IsFilled n
+    bits met
+    → take n ((upcoming_by bits met bytes).bits ++ replicate n false) ≡ take n (bits ++ replicate n false)
+front-buffered n bits met bytes h = grind (arith, take-append-le, length-append)
+
+pub ok_unit : (r : Result (Unit {0}) Fault) → is_ok r ≡ true → r ≡ Ok tt
+ok_unit r h = grind (arith, false≢true)
+
+-- taking bits that are held
+pub bits_from-buffered : (n : ℕ) (bits : List Bool) (met : Option DataEnd) (bytes : List ℕ) →
+    IsFilled n bits met
+    → bits_from n (upcoming_by bits met bytes) ≡ (has_buffered n bits met
+    >>= λ (u : Unit {0}). Ok (number_of (take n (bits ++ replicate n false)), upcoming_by (drop n bits) met bytes))
+unfolding bits_from
+bits_from-buffered n bits met bytes h = grind (
+  arith,
+  has_bits-buffered,
+  front-buffered,
+  advance-buffered,
+)
+
+pub Takes-buffered : (n : ℕ) (u : Unit {0}) (a b c : Ahead) (old new : Stream) (x : ℕ) → IsFilled n
+    b.bits b.met
+    → is_ok (has_buffered n b.bits b.met) ≡ true
+    → x ≡ number_of (take n (b.bits ++ replicate n false)) → c.bits ≡ drop n b.bits → c.met ≡ b.met
+    → Takes (λ (x : Unit {0}). 0) same_text a old (Ok u) b new → Takes (λ (x : ℕ). x) (bits_from n) a old (Ok x) c new
+unfolding upcoming
+Takes-buffered n u a b c old new x h ok ex eb em p = grind (
+  arith,
+  same,
+  second_ok,
+  bits_from-buffered,
+  ok_unit,
+)
+
+-- a refusal for want of bits fails no source
+pub Takes-refused : (n : ℕ) (u : Unit {0}) (a b c : Ahead) (old new : Stream) (e : Error) → IsFilled n b.bits b.met
+    → Names e (has_buffered n b.bits b.met) → MayFail e new.failed new.failed
+    → Takes (λ (x : Unit {0}). 0) same_text a old (Ok u) b new → Takes (λ (x : ℕ). x) (bits_from n) a old (Err e) c new
+unfolding upcoming
+Takes-refused n u a b c old new e h want f p = grind (
+  arith,
+  same,
+  second_ok,
+  bits_from-buffered,
+  bind_err,
+  still_known,
+)
+
+pub MayFail-same : {Y : Type 0} (e : Error) (o : Result Y Fault) (b : Bool) → Names e o → MayFail e b b
+MayFail-same e o b n = grind arith
+
+-- enough bits are held for fewer
+pub filled-less : (n m : ℕ) (bits : List Bool) (met : Option DataEnd) → n ≤ m → IsFilled m bits met
+    → IsFilled n bits met
+filled-less n m bits met h f = grind arith
+
+pub filled-long : (n : ℕ) (bits : List Bool) (met : Option DataEnd) → n ≤ length bits → IsWithin (length bits) met
+    → IsFilled n bits met
+filled-long n bits met h w = grind arith
+
+pub bit_le : (b : Bool) → cond b 1 0 ≤ 1
+bit_le b = grind arith
+
+pub pow_more : (i : ℕ) → 2 ^ (i + 1) ≡ 2 * 2 ^ i
+pow_more i = rw add-one (omega (arith, pow-suc 2 i))
+
+pub Takes-end : (u : Unit {0}) (a b : Ahead) (old new : Stream) (met : Option DataEnd)
+    (r : Result (Option Marker) Error) → IsFilled 57 b.bits b.met → b.met ≡ met → Gives
+    (marker_at_end met) r
+    → Takes (λ (x : Unit {0}). 0) same_text a old (Ok u) b new
+    → Answers (λ (m : Option Marker). m) (λ bytes. marker_from (upcoming a bytes)) old r new
+Takes-end u a b old new met (Ok m) h e g p = Takes-marker u a b old new m h (ap marker_at_end e ∙
+    g) p
+Takes-end u a b old new met (Err e) h is g p =
+    Takes-no_marker u a b old new e h (rw is g) (MayFail-same e (marker_at_end b.met) new.failed
+    (rw is g)) p
+
+-- after a marker zeros come without end
+pub none_buffered : (bits : List Bool) (m : Marker) (bytes : List ℕ) → length bits ≡ 0
+    → bits_from 1 (upcoming_by bits (Some (ends.Marker m)) bytes)
+    ≡ Ok (0, upcoming_by bits (Some (ends.Marker m)) bytes)
+unfolding bits_from
+none_buffered bits m bytes e = grind arith
+
+abbrev pub GivesZero : List Bool → Option DataEnd → List ℕ → Type 0
+GivesZero bits met bytes = bits_from 1 (upcoming_by bits met bytes) ≡ Ok (0, upcoming_by bits met bytes)
+
+pub zero-next : (a b : Ahead) (bytes : List ℕ) → b ≡ a → length b.bits ≡ 0
+    → ((bits : List Bool) (bytes : List ℕ) → length bits ≡ 0 → GivesZero bits b.met bytes)
+    → bits_from 1 (upcoming a bytes) ≡ Ok (0, upcoming a bytes)
+unfolding upcoming
+zero-next a b bytes e none h = subst (λ (a : Ahead). GivesZero a.bits a.met bytes) e (h b.bits bytes none)
