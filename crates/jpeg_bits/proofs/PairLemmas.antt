@@ -24,7 +24,7 @@ use Rattle.jpeg_bits.specs.declared.tokens.Token.{Token}
 use Rattle.jpeg_bits.specs.declared.tokens.Token.TheVariants.{Value}
 use Rattle.jpeg_bits.proofs.BlockLoop.{IsAtIndex, index-value}
 use Rattle.jpeg_bits.proofs.BufferedBits.{ok_unit}
-use Rattle.jpeg_bits.proofs.ShortLemmas.{fewer-enough}
+use Rattle.jpeg_bits.proofs.ShortLemmas.{fewer-buffered}
 use Rattle.jpeg_bits.proofs.SkipLemmas.{bits-after}
 use Rattle.jpeg_bits.proofs.WideTokens.{value-buffered, wide-taken}
 
@@ -185,7 +185,7 @@ module _ (table : Table) (counted : length table.counts ≡ 16) (d : Ahead) (fil
         let one = index-value table p whole a b d c old cur mid mid block at end pass last from
         (omega arith) before
         buffered r v x long (omega arith) value (Takes-first (end - at) v r n c is
-        (fewer-enough n (n + m) d.bits d.met (omega arith) enough) (omega arith) refl refl) in
+        (fewer-buffered n (n + m) d.bits d.met (omega arith) enough) (omega arith) refl refl) in
         rw (index, next) (index-value table p whole a c c e old mid mid mid (set block i x) at' end
         pass last
         (omega arith) (omega arith) one (refl, λ known. (known, refl)) q w y (length-set block i x ∙ long) (omega arith)

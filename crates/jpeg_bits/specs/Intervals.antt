@@ -45,8 +45,9 @@ intervals p k turns (next ∷ more) bytes =
 
 -- A list cut into groups of n, the last of which may be smaller; and, where n is 0, into one.
 unfoldable pub groups : {A : Type 0} → ℕ → ℕ → List A → List (List A)
+groups turns n [] = []
+groups zero n (x ∷ xs) = []
 groups (suc turns) n (x ∷ xs) = take n (x ∷ xs) ∷ groups turns n (drop n (x ∷ xs))
-groups _ n _ = []
 
 abbrev pub first_group : {A : Type 0} → ℕ → List A → List A
 first_group zero xs = xs

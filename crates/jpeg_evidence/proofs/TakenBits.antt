@@ -15,7 +15,7 @@ use Rattle.jpeg_bits.specs.Reading as outcomes
 use Rattle.jpeg_bits.specs.Entropy.{bits_from, number_of, Text, advance}
 use Rattle.jpeg_bits.specs.Readers.{Reads, gives, ◌>>=◌}
 use Rattle.jpeg_bits.specs.Codes.{Table, IsTable, code_from, code_in, code_value, first_from, begins, code_lengths}
-use Rattle.jpeg_bits.specs.Codes.{next_16, code_by, if_kept, symbol_from}
+use Rattle.jpeg_bits.specs.Codes.{next_16, code_by, if_buffered, symbol_from}
 use Rattle.jpeg_bits.specs.Reading.{Malformed}
 use Rattle.jpeg_bits.specs.Written.{bit, low_bits, IsCoded}
 use Rattle.jpeg_bits.proofs.Tables.{rising-at, all-rising, symbol-code}
@@ -193,7 +193,7 @@ code-taken table bits c t is e = go (code_in (code_lengths table.counts) (next_1
   where
     kept : (x : ℕ × ℕ) → code_in (code_lengths table.counts) (next_16 bits) ≡ Some x → (b : Bool)
         → leb x.1 (length bits) ≡ b
-        → if_kept (x.1, slice_index table.symbols x.0) (advance x.1 (alone bits)) (cond b (Ok tt)
+        → if_buffered (x.1, slice_index table.symbols x.0) (advance x.1 (alone bits)) (cond b (Ok tt)
         (Err End)) ≡ Ok (c, t)
         → IsCut (IsCoded table c.1) bits t
     kept x h false k l = absurd (no-error End (c, t) l)

@@ -5,7 +5,7 @@ use Rattle.std.proofs.Common.{arith, rules, length-drop, length-take}
 use Rattle.std.proofs.Math.Nat.{add-mul, lt_of_mul-lt-mul_left, mod-lt, mul_assoc}
 use Rattle.std.proofs.Math.Nat.{mul-div_cancel_left, mul-le-mul, mul-le-mul_left, mul-le-mul_right}
 use Rattle.std.proofs.lemmas.Bool.{eq-eqb}
-use Rattle.std.proofs.lemmas.List.{drop-drop, get_or-drop, length-take-le, indices}
+use Rattle.std.proofs.lemmas.List.{drop-drop, get_or-drop, length-take-le, places}
 use Rattle.std.proofs.lemmas.List.{take-append-drop}
 use Rattle.std.proofs.lemmas.List.Folds.{concat-append}
 use Rattle.std.proofs.lemmas.List.FromFn.{fill_by_all, get_or-map-range_with_len}
@@ -257,7 +257,7 @@ module _ (shape : JointShape) (samples : List ℕ)
       let rest = line * shape.stride + x in
       let at : first + x ≡ slot * size + rest = omega arith in
       let read : get_or (part width row slot) x 0
-      ≡ get_or samples (mcu * joint_row_size shape + (first + x)) 0 = search (rules, indices) in
+      ≡ get_or samples (mcu * joint_row_size shape + (first + x)) 0 = search (rules, places) in
       let lines = ap (λ n. n * shape.stride) (div-add-mod' row shape.lines) in
       let is : mcu * size + rest ≡ row * (c.blocks_wide * c.scale) + x =
       omega (arith, add-mul, mul_assoc, lines, ap (λ n. row * n) stride) in

@@ -195,9 +195,9 @@ blocks-after_is found f codings arrays e = rw (e, blocks_after) refl
 
 all-done : (w : Found) (f : Frame) (p : Pass) (array : Coefficients) (levels : ℕ → Levels) (codings : List Coding)
     (arrays : Arrays) → length arrays ≡ length codings → ((k : Coding) (j : ℕ) → At j codings k
-    → HoldsOwn (grid_of k.component) (array k.nth) (sent_after p (levels k.nth)) (get_or arrays j
+    → HoldsOwn (grid_of k.component) (array k.index) (sent_after p (levels k.index)) (get_or arrays j
     []))
-    → AllByRecursion (CodingFacts w f) codings → AllByRecursion (λ c. IsLegal p (levels c.nth))
+    → AllByRecursion (CodingFacts w f) codings → AllByRecursion (λ c. IsLegal p (levels c.index))
     codings
     → ((k : ℕ) → length (levels k).acs ≡ 63) → AllDone w f p array levels codings arrays
 all-done w f p array levels [] [] n holds facts legal sized = tt
@@ -206,7 +206,7 @@ all-done w f p array levels (k ∷ codings) (b ∷ arrays) n holds facts legal s
     at = facts.0.at;
     table = facts.0.table;
     legal = legal.0;
-    sized = sized k.nth;
+    sized = sized k.index;
     holds =
         holds k 0 refl;
   },
@@ -217,9 +217,9 @@ all-done w f p array levels codings arrays n holds facts legal sized = absurd (o
 -- the components of the scan are ready, where their blocks are held
 all-ready : (w : Found) (f : Frame) (p : Pass) (array : Coefficients) (levels : ℕ → Levels) (before : Arrays)
     (codings : List Coding) → Shaped f
-    → ((k : Coding) → CodingFacts w f k → IsLegal p (levels k.nth)
-    → HoldsOwn (grid_of k.component) (array k.nth) (levels k.nth) (get_or before k.nth []))
-    → AllByRecursion (CodingFacts w f) codings → AllByRecursion (λ c. IsLegal p (levels c.nth))
+    → ((k : Coding) → CodingFacts w f k → IsLegal p (levels k.index)
+    → HoldsOwn (grid_of k.component) (array k.index) (levels k.index) (get_or before k.index []))
+    → AllByRecursion (CodingFacts w f) codings → AllByRecursion (λ c. IsLegal p (levels c.index))
     codings
     → ((k : ℕ) → length (levels k).acs ≡ 63)
     → AllByRecursion (SlotReady f p array levels before) codings
@@ -266,25 +266,25 @@ module _ (w : Found) (f : Frame) (array : Coefficients) (levels : ℕ → Levels
 
   low : (pass_of s).al ≤ 7
   low = let k = some-first codings (let n = facts.0 in let r = rules.some in omega arith) in
-      (at-all (λ (c : Coding). IsLegal (pass_of s) (levels c.nth)) 0 codings k.0 legal.legal
+      (at-all (λ (c : Coding). IsLegal (pass_of s) (levels c.index)) 0 codings k.0 legal.legal
       k.1).low
 
-  holds-now : PassSo f s → (k : Coding) → CodingFacts w f k → IsLegal (pass_of s) (levels k.nth)
-      → HoldsOwn (grid_of k.component) (array k.nth) (levels k.nth) (get_or (arrays_before now f)
-      k.nth [])
+  holds-now : PassSo f s → (k : Coding) → CodingFacts w f k → IsLegal (pass_of s) (levels k.index)
+      → HoldsOwn (grid_of k.component) (array k.index) (levels k.index) (get_or (arrays_before now f)
+      k.index [])
   holds-now (sequential e q) k fact l =
-      let none : levels k.nth ≡ nothing_sent =
-      framed.fresh e k.nth (l.dc_unsent (ap (λ (p : Pass). p.ss) q) (ap (λ (p : Pass). p.is_first)
+      let none : levels k.index ≡ nothing_sent =
+      framed.fresh e k.index (l.dc_unsent (ap (λ (p : Pass). p.ss) q) (ap (λ (p : Pass). p.is_first)
       q)) in
-      subst (λ (a : Arrays). HoldsOwn (grid_of k.component) (array k.nth) (levels k.nth) (get_or a
-      k.nth []))
+      subst (λ (a : Arrays). HoldsOwn (grid_of k.component) (array k.index) (levels k.index) (get_or a
+      k.index []))
       (sym (sequential-arrays now f e))
-      (subst (λ (x : Levels). HoldsOwn (grid_of k.component) (array k.nth) x
-      (get_or (zero_arrays f.components) k.nth [])) (sym none)
-      (subst (HoldsOwn (grid_of k.component) (array k.nth) nothing_sent)
-      (sym (zero-at f.components k.nth k.component fact.at))
-      (zero-holds (array k.nth) k.component (range k.nth))))
-  holds-now (progressive e d a lt le) k fact l = (framed.kept e).each k.nth k.component fact.at
+      (subst (λ (x : Levels). HoldsOwn (grid_of k.component) (array k.index) x
+      (get_or (zero_arrays f.components) k.index [])) (sym none)
+      (subst (HoldsOwn (grid_of k.component) (array k.index) nothing_sent)
+      (sym (zero-at f.components k.index k.component fact.at))
+      (zero-holds (array k.index) k.component (range k.index))))
+  holds-now (progressive e d a lt le) k fact l = (framed.kept e).each k.index k.component fact.at
 
   suit-now : PassSo f s → SpotsSuit (pass_of s) (arrays_before now f) codings
   unfolding pass_of

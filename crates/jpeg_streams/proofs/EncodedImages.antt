@@ -52,7 +52,7 @@ all_ones = table_of_one 0 1 ∷ table_of_one 1 1 ∷ table_of_one 2 1 ∷ table_
 
 abbrev flat_tables : List DefinedTable
 flat_tables = record { destination = 0; table = flat_table classes.DC } ∷ record {
-  index = 0;
+  destination = 0;
   table = flat_table classes.AC;
 } ∷ []
 

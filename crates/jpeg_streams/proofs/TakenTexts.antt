@@ -7,7 +7,7 @@ use Rattle.jpeg_bits.specs.Reading.{Fault, End, Malformed}
 use Rattle.jpeg_bits.specs.Reading as outcomes
 use Rattle.jpeg_bits.specs.Entropy.{advance, bits_from, has_bits, number_of, Broken, Ending, Found, Text}
 use Rattle.jpeg_bits.specs.Readers.{Reads, read_on, gives, refused, signed_from, text, ◌>>=◌}
-use Rattle.jpeg_bits.specs.Codes.{Table, code_by, code_from, code_in, code_lengths, if_kept}
+use Rattle.jpeg_bits.specs.Codes.{Table, code_by, code_from, code_in, code_lengths, if_buffered}
 use Rattle.jpeg_bits.specs.Codes.{next_16, symbol_by}
 use Rattle.jpeg_bits.specs.Codes.{symbol_from}
 use Rattle.std.specs.Prelude.{◌==◌, nat_lt}
@@ -143,9 +143,9 @@ taken-n {A} n x y bits following e left k = go (has_bits n bits e) refl k
         }
     go (Err f) h k = absurd (no-error f (y, left) k)
 
--- the same by `if_kept`
+-- the same by `if_buffered`
 kept-as : {A : Type 0} (n : ℕ) (x : A) (t : Text) (o : Result (Unit {0}) Fault)
-    → if_kept x (advance n t) o ≡ takes_bits n x t o
+    → if_buffered x (advance n t) o ≡ takes_bits n x t o
 kept-as n x t (Ok u) = refl
 kept-as n x t (Err f) = refl
 

@@ -96,7 +96,7 @@ band-value table al r s zero u code more bits run good range nz cat coded room o
 band-value table al r zero (suc m) u code more bits run good range nz cat coded room others = search (rules, abs-zero)
 band-value table al r (suc t) (suc m) u code more bits run good range nz cat coded room others =
     let k = length more in
-    let following = no_numbers (suc (r + k)) in
+    let coefficients = no_numbers (suc (r + k)) in
     let long : length coefficients ≡ suc (r + k) = length-replicate (suc (r + k)) (pos 0) in
     let front : take r coefficients ≡ no_numbers r = take-replicate r (suc (r + k)) (pos 0) (omega
     arith) in
@@ -126,7 +126,7 @@ unfolding token_at
 band-sixteen table al zero code more bits run good coded room others = absurd (omega arith)
 band-sixteen table al (suc m) code more bits run good coded room others =
     let k = length more in
-    let following = no_numbers (suc (15 + k)) in
+    let coefficients = no_numbers (suc (15 + k)) in
     let front : take 16 coefficients ≡ no_numbers 16 = take-replicate 16 (suc (15 + k)) (pos 0)
     (omega arith) in
     let back : drop 16 coefficients ≡ no_numbers k = drop-replicate 16 (suc (15 + k)) (pos 0) ∙ ap

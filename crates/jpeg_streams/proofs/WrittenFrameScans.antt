@@ -87,9 +87,9 @@ via-good codings slot all = vias-good 0 slot codings _ (record { dc = none-good 
 pub record SlotReady (frame : Frame) (p : Pass) (array : Coefficients) (levels : ℕ → Levels) (before : Arrays)
     (k : Coding) : Type 0 where
   pub fits : Fits frame k.component
-  pub holds : HoldsOwn (grid_of k.component) (array k.nth) (levels k.nth) (get_or before k.nth [])
-  pub legal : IsLegal p (levels k.nth)
-  pub sized : length (levels k.nth).acs ≡ 63
+  pub holds : HoldsOwn (grid_of k.component) (array k.index) (levels k.index) (get_or before k.index [])
+  pub legal : IsLegal p (levels k.index)
+  pub sized : length (levels k.index).acs ≡ 63
 
 -- why the blocks at all spots of a scan suit it: none was read yet; or it has DC alone; or it has
 -- one component, and so no padding
@@ -101,11 +101,11 @@ pub data SpotsSuit (p : Pass) (before : Arrays) (codings : List Coding) : Type 0
   one_component : (k : Coding) → codings ≡ k ∷ [] → SpotsSuit p before codings
 
 abbrev pub arrays_of : Arrays → List Coding → Arrays
-arrays_of before codings = map (λ (c : Coding). get_or before c.nth []) codings
+arrays_of before codings = map (λ (c : Coding). get_or before c.index []) codings
 
 pub array-at : (before : Arrays) (codings : List Coding) (k : Coding) (j : ℕ) → At j codings k
-    → get_or (arrays_of before codings) j [] ≡ get_or before k.nth []
-array-at before codings k j h = at-get (λ (c : Coding). get_or before c.nth []) [] j codings k h
+    → get_or (arrays_of before codings) j [] ≡ get_or before k.index []
+array-at before codings k j h = at-get (λ (c : Coding). get_or before c.index []) [] j codings k h
 
 pub grid-at : (codings : List Coding) (k : Coding) (j : ℕ) → At j codings k
     → grid_at (components_of codings) j ≡ grid_of k.component
@@ -143,7 +143,7 @@ pub record ReadsScan (frame : Frame) (restart : ℕ) (p : Pass) (codings : List 
   pub arrays : Arrays
   pub count : length arrays ≡ length codings
   pub holds : (k : Coding) (j : ℕ) → At j codings k
-      → HoldsOwn (grid_of k.component) (array k.nth) (sent_after p (levels k.nth)) (get_or arrays j
+      → HoldsOwn (grid_of k.component) (array k.index) (sent_after p (levels k.index)) (get_or arrays j
       [])
   pub read : (fill code : ℕ) (m : Marker) (rest : List ℕ) → IsMarker code m
       → arrays_at p (restart * mcu_size (components_of codings)) (vias_from 0 codings)
@@ -166,12 +166,12 @@ module _ (frame : Frame) (restart : ℕ) (p : Pass) (codings : List Coding) (arr
 
   -- the block held at an own spot, and the numbers sent for it
   kept-own : (k : Coding) (s : Spot) → At s.slot codings k → IsOwn (grid_of k.component) s.index
-      → block_at scanned s ≡ cut (levels k.nth)
-      (array k.nth (s.index / k.component.blocks_wide) (s.index % k.component.blocks_wide))
+      → block_at scanned s ≡ cut (levels k.index)
+      (array k.index (s.index / k.component.blocks_wide) (s.index % k.component.blocks_wide))
   kept-own k s h own = grind (arith, common_steps, array-at, at-all)
 
   sent-own : (k : Coding) (s : Spot) → At s.slot codings k → IsOwn (grid_of k.component) s.index
-      → w.sent s ≡ array k.nth (s.index / k.component.blocks_wide) (s.index %
+      → w.sent s ≡ array k.index (s.index / k.component.blocks_wide) (s.index %
       k.component.blocks_wide)
   sent-own k s h own = grind (arith, common_steps, grid-at, at-get)
 
@@ -179,13 +179,13 @@ module _ (frame : Frame) (restart : ℕ) (p : Pass) (codings : List Coding) (arr
       → Suits p (block_at scanned s) (u s)
   suits-own k s h own =
       let r = at-all (SlotReady frame p array levels before) s.slot codings k ready h in
-      let c = array k.nth (s.index / k.component.blocks_wide) (s.index % k.component.blocks_wide) in
-      let here : Is8Bit c = range k.nth (s.index / k.component.blocks_wide) (s.index %
+      let c = array k.index (s.index / k.component.blocks_wide) (s.index % k.component.blocks_wide) in
+      let here : Is8Bit c = range k.index (s.index / k.component.blocks_wide) (s.index %
       k.component.blocks_wide) in
       subst (λ (b : Block). Suits p b (u s)) (sym (kept-own k s h own))
-      (subst (λ (b : Block). Suits p (cut (levels k.nth) c) (numbers_at p.al b)) (sym (sent-own k s
+      (subst (λ (b : Block). Suits p (cut (levels k.index) c) (numbers_at p.al b)) (sym (sent-own k s
       h own))
-      (suits-cut p (levels k.nth) c here (here.count ∙ sym r.sized) r.legal))
+      (suits-cut p (levels k.index) c here (here.count ∙ sym r.sized) r.legal))
 
   zeros-at : (l : List Coding) (slot index : ℕ)
       → ((nth i : ℕ) → get_or (get_or before nth []) i zero_block ≡ zero_block)
@@ -219,28 +219,28 @@ module _ (frame : Frame) (restart : ℕ) (p : Pass) (codings : List Coding) (arr
   inside k s h own =
       let r = at-all (SlotReady frame p array levels before) s.slot codings k ready h in
       let within = at-within s.slot codings k h in
-      let count = length-map codings (λ (c : Coding). get_or before c.nth []) in
+      let count = length-map codings (λ (c : Coding). get_or before c.index []) in
       let size = ap (λ (l : List Block). length l) (array-at before codings k s.slot h) in
       let room = own-within (grid_of k.component) s.index own r.fits.own_wide r.fits.own_high in
       record { slot = omega arith; index = let e = r.holds.sized in omega arith }
 
   after-own : (k : Coding) (s : Spot) → At s.slot codings k → IsOwn (grid_of k.component) s.index
-      → block_at after s ≡ cut (sent_after p (levels k.nth))
-      (array k.nth (s.index / k.component.blocks_wide) (s.index % k.component.blocks_wide))
+      → block_at after s ≡ cut (sent_after p (levels k.index))
+      (array k.index (s.index / k.component.blocks_wide) (s.index % k.component.blocks_wide))
   after-own k s h own =
       let r = at-all (SlotReady frame p array levels before) s.slot codings k ready h in
-      let c = array k.nth (s.index / k.component.blocks_wide) (s.index % k.component.blocks_wide) in
-      let here : Is8Bit c = range k.nth (s.index / k.component.blocks_wide) (s.index %
+      let c = array k.index (s.index / k.component.blocks_wide) (s.index % k.component.blocks_wide) in
+      let here : Is8Bit c = range k.index (s.index / k.component.blocks_wide) (s.index %
       k.component.blocks_wide) in
       reaches f s spots scanned (inside k s h own)
       (covered frame (components_of codings) k.component s
       (at-map (λ (x : Coding). x.component) s.slot codings k h) r.fits own)
       ∙ ap₂ (λ (b d : Block). after_pass p b (numbers_at p.al d)) (kept-own k s h own) (sent-own k
       s h own)
-      ∙ cut-after p (levels k.nth) c (here.count ∙ sym r.sized) r.legal
+      ∙ cut-after p (levels k.index) c (here.count ∙ sym r.sized) r.legal
 
   after-kept : (k : Coding) (j : ℕ) → At j codings k
-      → HoldsOwn (grid_of k.component) (array k.nth) (sent_after p (levels k.nth)) (get_or after j
+      → HoldsOwn (grid_of k.component) (array k.index) (sent_after p (levels k.index)) (get_or after j
       [])
   after-kept k j h =
       let r = at-all (SlotReady frame p array levels before) j codings k ready h in

@@ -52,7 +52,7 @@ fn assert_samples(rt: &impl Abort, name: &str, samples: &[u8]) {
     ] {
         assert!(rt;
             samples.get(index) == Some(&sample),
-            "{name}: sample {place}"
+            "{name}: sample {index}"
         );
     }
     assert!(rt; goes_down(samples), "{name}");
