@@ -24,9 +24,9 @@ pub known_bytes_are_told : (remaining : Option (List ℕ)) (bytes : List ℕ) �
 known_bytes_are_told remaining bytes tells = rw tells.told refl
 
 -- the bytes of a picture by `info` and `precision`
-pub picture_size : (frame : Option Frame) (info : ImageInfo) (precision : ℕ) (pixels : List ℕ)
+pub picture_is_counted : (frame : Option Frame) (info : ImageInfo) (precision : ℕ) (pixels : List ℕ)
     → IsWhole frame pixels → IsCounted frame → option_map info_of frame ≡ Some info
     → option_map (λ f. f.precision) frame ≡ Some precision
     → length pixels ≡ info.width * info.height * (samples_a_pixel info.pixel_format * bytes_a_sample precision)
 unfolding picture_size
-picture_size frame info precision pixels whole counted i p = grind (arith, common_steps)
+picture_is_counted frame info precision pixels whole counted i p = grind (arith, common_steps)

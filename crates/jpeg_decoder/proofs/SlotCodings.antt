@@ -131,23 +131,23 @@ ac-needed found scan spare destination s e = grind (
   nat_tests,
 )
 
--- what is there of the component in a slot, by the places of the header
+-- what is there of the component in a slot, as the header names it
 pub record HasComponent (found : Found) (frame : Frame) (scan : Scan) (spare : Spare) (slot index : ℕ)
     (c : Component) : Type 0 where
   pub stands_in : IsSpareOf found scan spare
-  pub destination : index ≡ get_or scan.components slot 0
+  pub is_named : index ≡ get_or scan.components slot 0
   pub component : first_of (drop index frame.components) ≡ Some c
 
-at-quantization : {found : Found} {frame : Frame} {scan : Scan} {spare : Spare} {slot destination :
+at-quantization : {found : Found} {frame : Frame} {scan : Scan} {spare : Spare} {slot index :
     ℕ} {c : Component}
     (p : Pass) (tables : Tables) (d a : ℕ)
-    → HasComponent found frame scan spare slot destination c
+    → HasComponent found frame scan spare slot index c
     → component_coding found frame p tables (get_or scan.components slot 0) d a
     ≡ (needed (get_or found.quantization c.factors.quantization None) >>= (λ q.
     needed_if (p.ss == 0) classes.DC (get_or tables.dc d None) >>= (λ dc.
     needed_if (nat_lt 0 p.se) classes.AC (get_or tables.ac a None) >>= (λ ac.
     Ok (record {
-      destination = get_or scan.components slot 0;
+      index = get_or scan.components slot 0;
       component = c;
       quantization = q;
       dc =
@@ -155,60 +155,60 @@ at-quantization : {found : Found} {frame : Frame} {scan : Scan} {spare : Spare} 
       ac = ac;
     })))))
 unfolding component_coding
-at-quantization p tables d a h = let e = h.component in rw (← h.destination, e) refl
+at-quantization p tables d a h = let e = h.component in rw (← h.is_named, e) refl
 
 -- A quantization table that is unset.
 pub fails-quantization : (found : Found) (frame : Frame) (scan : Scan) (spare : Spare) (slot
-    destination : ℕ)
-    (c : Component) → HasComponent found frame scan spare slot destination c
+    index : ℕ)
+    (c : Component) → HasComponent found frame scan spare slot index c
     → get_or found.quantization c.factors.quantization None ≡ None
     → coding_in_slot found frame scan slot ≡ Err Malformed
 unfolding component_coding
-fails-quantization found frame scan spare slot destination c h q = search (rules, at-quantization)
+fails-quantization found frame scan spare slot index c h q = search (rules, at-quantization)
 
 -- A DC table that is needed and unset.
-pub fails-dc : (found : Found) (frame : Frame) (scan : Scan) (spare : Spare) (slot destination : ℕ)
+pub fails-dc : (found : Found) (frame : Frame) (scan : Scan) (spare : Spare) (slot index : ℕ)
     (c : Component)
-    → HasComponent found frame scan spare slot destination c
+    → HasComponent found frame scan spare slot index c
     → (q : List ℕ) → get_or found.quantization c.factors.quantization None ≡ Some q
     → length found.huffman.dc ≡ 4 → (f : Fault) → dc_of found scan spare (get_or
     scan.dc_destinations slot 0) ≡ Err f
     → coding_in_slot found frame scan slot ≡ Err f
-fails-dc found frame scan spare slot destination c h q e m f d =
+fails-dc found frame scan spare slot index c h q e m f d =
     let dc = dc-needed found scan spare (get_or scan.dc_destinations slot 0) h.stands_in m ∙ d in
     at-quantization (pass_of scan) (tables_of found scan) (get_or scan.dc_destinations slot 0)
     (get_or scan.ac_destinations slot 0) h ∙ (rw (e, dc) refl)
 
 -- An AC table that is needed and unset.
-pub fails-ac : (found : Found) (frame : Frame) (scan : Scan) (spare : Spare) (slot destination : ℕ)
+pub fails-ac : (found : Found) (frame : Frame) (scan : Scan) (spare : Spare) (slot index : ℕ)
     (c : Component)
-    → HasComponent found frame scan spare slot destination c
+    → HasComponent found frame scan spare slot index c
     → (q : List ℕ) → get_or found.quantization c.factors.quantization None ≡ Some q
     → length found.huffman.dc ≡ 4 → length found.huffman.ac ≡ 4 → (dc : Table)
     → dc_of found scan spare (get_or scan.dc_destinations slot 0) ≡ Ok dc
     → (f : Fault) → ac_of found scan spare (get_or scan.ac_destinations slot 0) ≡ Err f
     → coding_in_slot found frame scan slot ≡ Err f
-fails-ac found frame scan spare slot destination c h q e m n dc d f a =
+fails-ac found frame scan spare slot index c h q e m n dc d f a =
     let one = dc-needed found scan spare (get_or scan.dc_destinations slot 0) h.stands_in m ∙ d in
     let two = ac-needed found scan spare (get_or scan.ac_destinations slot 0) h.stands_in n ∙ a in
     at-quantization (pass_of scan) (tables_of found scan) (get_or scan.dc_destinations slot 0)
     (get_or scan.ac_destinations slot 0) h ∙ (rw (e, one, two) refl)
 
 -- All that is needed is there.
-pub gives-coding : (found : Found) (frame : Frame) (scan : Scan) (spare : Spare) (slot destination
+pub gives-coding : (found : Found) (frame : Frame) (scan : Scan) (spare : Spare) (slot index
     : ℕ) (c : Component)
-    → HasComponent found frame scan spare slot destination c
+    → HasComponent found frame scan spare slot index c
     → (q : List ℕ) → get_or found.quantization c.factors.quantization None ≡ Some q
     → length found.huffman.dc ≡ 4 → length found.huffman.ac ≡ 4 → (dc ac : Table)
     → dc_of found scan spare (get_or scan.dc_destinations slot 0) ≡ Ok dc
     → ac_of found scan spare (get_or scan.ac_destinations slot 0) ≡ Ok ac
     → coding_in_slot found frame scan slot
-    ≡ Ok (record { destination = destination; component = c; quantization = q; dc = dc; ac = ac })
-gives-coding found frame scan spare slot destination c h q e m n dc ac d a =
+    ≡ Ok (record { index = index; component = c; quantization = q; dc = dc; ac = ac })
+gives-coding found frame scan spare slot index c h q e m n dc ac d a =
     let one = dc-needed found scan spare (get_or scan.dc_destinations slot 0) h.stands_in m ∙ d in
     let two = ac-needed found scan spare (get_or scan.ac_destinations slot 0) h.stands_in n ∙ a in
     at-quantization (pass_of scan) (tables_of found scan) (get_or scan.dc_destinations slot 0)
-    (get_or scan.ac_destinations slot 0) h ∙ (rw (e, one, two, ← h.destination) refl)
+    (get_or scan.ac_destinations slot 0) h ∙ (rw (e, one, two, ← h.is_named) refl)
 
 -- the component at a place
 pub component-at : {A : Type 0} (f : A → Component) (xs : List A) (i : ℕ) (d : A) → i < length xs
@@ -219,15 +219,15 @@ component-at f (x ∷ xs) (suc i) d h = component-at f xs i d (omega arith)
 
 -- what the code reads there
 pub is-there : (state : State) (frame : FrameInfo) (header : ScanInfo) (spare : Spare) (slot
-    destination : ℕ)
+    index : ℕ)
     (c : declared.Component)
     → IsSpareOf (found_in state) (scan_in header) spare → slot < length header.component_indices.items
-    → destination ≡ get_or header.component_indices.items slot destination → destination < length
+    → index ≡ get_or header.component_indices.items slot index → index < length
     frame.components.items
-    → c ≡ get_or frame.components.items destination c
-    → HasComponent (found_in state) (frame_in frame) (scan_in header) spare slot destination
+    → c ≡ get_or frame.components.items index c
+    → HasComponent (found_in state) (frame_in frame) (scan_in header) spare slot index
     (component_in c)
-is-there state frame header spare slot destination c s h p l e = search (
+is-there state frame header spare slot index c s h p l e = search (
   rules,
   arith,
   get_or_default_zero,

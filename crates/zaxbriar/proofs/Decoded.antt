@@ -9,7 +9,7 @@ use Rattle.jpeg_streams.specs.Pixels.{info_of}
 use Rattle.jpeg_streams.specs.States.{Decoding, HeaderRead, IsReading, Stage, ahead}
 use Rattle.jpeg_streams.specs.Stream.{Told, rest_at, told_of}
 use Rattle.jpeg_streams.specs.declared.images.ImageInfo.{ImageInfo}
-use Rattle.jpeg_decoder.proofs.Callers.{picture_size}
+use Rattle.jpeg_decoder.proofs.Callers.{picture_is_counted}
 use Rattle.jpeg_decoder.specs.Bytes.{HasRoom, IsCounted, IsWhole, decoding_bytes}
 use Rattle.jpeg_decoder.specs.declared.memory.DecodingBytes.{DecodingBytes}
 use Rattle.zaxbriar.proofs.Fails.{stands}
@@ -39,7 +39,7 @@ pub samples-count : (o : Options) (info : ImageInfo) (precision : ℕ) (lines : 
     → option_map (λ f. f.precision) old ≡ Some precision → IsWhole new samples → IsCounted new
     → length samples ≡ lines.height * (lines.width * lines.stored)
 samples-count o info precision lines old new samples h same i p whole counted =
-    count-of o info precision (length samples) lines h (picture_size new info precision samples whole counted
+    count-of o info precision (length samples) lines h (picture_is_counted new info precision samples whole counted
     (ap (λ (f : Option Frame). option_map info_of f) same ∙ i)
     (ap (λ (f : Option Frame). option_map (λ f. f.precision) f) same ∙ p))
 

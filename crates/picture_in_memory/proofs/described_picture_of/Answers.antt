@@ -1,12 +1,12 @@
 use Rattle.std.proofs.Common.{◌∙◌, Some, refl, sym}
 use Rattle.jpeg_streams.specs.Output.{Tells}
 use Rattle.jpeg_streams.specs.Stream.{told_of}
-use Rattle.jpeg_decoder.proofs.Callers.{bytes_are_known, known_bytes_are_told, picture_size}
+use Rattle.jpeg_decoder.proofs.Callers.{bytes_are_known, known_bytes_are_told, picture_is_counted}
 use Rattle.picture_in_memory.proofs.described_picture_of.Goals as goal
 
 pub returns-clause-size : goal.returns-clause-size
 returns-clause-size c =
-    picture_size c.decode.new.self.found.frame c.unwrap-info.result c.unwrap-precision.result
+    picture_is_counted c.decode.new.self.found.frame c.unwrap-info.result c.unwrap-precision.result
     c.in_ok-pixels.pixels.items c.in_ok-pixels.ensures.size c.in_ok-pixels.ensures.counted
     (sym c.info.ensures ∙ c.unwrap-info.ensures) (sym c.precision.ensures ∙ c.unwrap-precision.ensures)
 
