@@ -272,12 +272,12 @@ pub parts-taken : (p : Pass) (via : Via) (predictor : ℤ) (run : ℕ) (old : Bl
     → IsCut (IsBlock p via predictor run r) bits t
 unfolding block_from
 parts-taken p via predictor run old bits r t dc band e =
-    let following = band_part p via.ac (band_of p old.acs) run in
-    let f : ℤ × ℤ → Reads (Block × ℤ × ℕ) = λ d. numbers >>= (λ b. gives (result p old d b)) in
+    let others = band_part p via.ac (band_of p old.acs) run in
+    let f : ℤ × ℤ → Reads (Block × ℤ × ℕ) = λ d. others >>= (λ b. gives (result p old d b)) in
     let c = bind-cut (dc_part p via.dc old.dc predictor) f bits t r (WritesRead p via.dc predictor)
     (IsRest p via.ac run old r) e dc
     (λ d more h k.
-    let m = map-parts numbers (λ (b : Band). result p old d b) (alone more) t r k in
+    let m = map-parts others (λ (b : Band). result p old d b) (alone more) t r k in
     cut-map (IsRead p via.ac (band_of p old.acs) run m.0) (IsRest p via.ac run old r d) more t
     (λ own w. record { y = m.0; same = m.2; band = w }) (band d more h m.0 m.1)) in
     cut-map (Both (WritesRead p via.dc predictor c.0) (IsRest p via.ac run old r c.0)) (IsBlock p via predictor run r)

@@ -40,7 +40,7 @@ lines_by stride info precision conversion = record {
   width = info.width;
   height = info.height;
   stored = stored_bytes info precision;
-  layout_pixel_bytes = layout_pixel_bytes info precision conversion;
+  pixel_bytes = layout_pixel_bytes info precision conversion;
   row_bytes = row_bytes info precision conversion;
   stride = stride_of stride (row_bytes info precision conversion);
 }
@@ -70,7 +70,7 @@ described_picture layout info precision lines decoding orientation stream = reco
   stream_bytes = stream;
   width = lines.width;
   height = lines.height;
-  layout_pixel_bytes = lines.pixel_bytes;
+  pixel_bytes = lines.pixel_bytes;
   layout = layout;
   components = samples_a_pixel info.pixel_format;
   precision = precision;
