@@ -20,7 +20,7 @@ to_block l = record { dc = dc_in l; acs = drop 1 (coefficients_in_zigzag l) }
 abbrev pub predictor_at : ℕ → Carried → ℤ
 predictor_at slot c = get_or c.predictors slot (pos 0)
 
--- The places of a pass are places of a block, and its level is one that a scan may have.
+-- The indices of a pass are indices of a block, and its level is one that a scan may have.
 pub record IsPass (p : Pass) : Type 0 where
   pub order : p.ss ≤ p.se
   pub end : p.se ≤ 63

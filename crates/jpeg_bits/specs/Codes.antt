@@ -32,12 +32,12 @@ HasCodes lengths = (i : ℕ) → i < length lengths → code_value lengths i < 2
 unfoldable pub begins : List ℕ → List Bool → ℕ → Bool
 begins lengths bits i = number_of (take (slice_index lengths i) bits) == code_value lengths i
 
--- the first place that passes, of n places from i on
+-- the first index that passes, of n indices from i on
 unfoldable pub first_from : (ℕ → Bool) → ℕ → ℕ → Option ℕ
 first_from test i zero = None
 first_from test i (suc n) = if test i then Some i else first_from test (i + 1) n
 
--- the place and the length of the code that begins the bits
+-- the index and the length of the code that begins the bits
 unfoldable pub code_in : List ℕ → List Bool → Option (ℕ × ℕ)
 code_in lengths bits = option_map (λ i. (i, slice_index lengths i))
     (first_from (begins lengths bits) 0 (length lengths))

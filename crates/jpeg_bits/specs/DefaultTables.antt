@@ -85,7 +85,7 @@ pub record AreCodes (counts symbols : List ℕ) : Type 0 where
 abbrev pub names : List ℕ → ℕ → Bool
 names destinations destination = list_any (λ p. p == destination) destinations
 
--- A table where one is there or the place isn't named, else the default one.
+-- A table where one is there or the destination isn't named, else the default one.
 abbrev pub filled : Table → Bool → Option Table → Option Table
 filled default named (Some table) = Some table
 filled default named None = if named then Some default else None
@@ -99,7 +99,7 @@ with_defaults luminance chrominance destinations (a ∷ []) = filled luminance (
 with_defaults luminance chrominance destinations (a ∷ b ∷ more) =
     filled luminance (names destinations 0) a ∷ filled chrominance (names destinations 1) b ∷ more
 
--- Each place is as it was or as it would be.
+-- Each destination is as it was or as it would be.
 unfoldable pub AreBetween : List (Option Table) → List (Option Table) → List (Option Table) → Type 0
 AreBetween [] [] [] = Unit {0}
 AreBetween (o ∷ old) (w ∷ whole) (n ∷ new) = ((n ≡ o) ⊎ (n ≡ w)) × AreBetween old whole new

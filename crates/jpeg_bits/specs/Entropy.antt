@@ -61,7 +61,7 @@ filled_end (c ∷ rest) = if c == 255 then filled_end rest else (end_by (marker_
 abbrev pub ending_by : DataEnd × List ℕ → Ending
 ending_by x = ending_of x.0 x.1
 
--- the text from a place
+-- the text from a byte on
 unfoldable pub text_at : List ℕ → Text
 text_at [] = no_bits (Broken End)
 text_at (b ∷ []) = if b == 255 then no_bits (Broken End) else add_byte b [] (no_bits (Broken End))
@@ -76,12 +76,12 @@ pub record Ahead : Type 0 where
   pub bits : List Bool
   pub met : Option DataEnd
 
--- nothing is held
+-- nothing is buffered
 abbrev pub fresh : Ahead
 fresh = record { bits = []; met = None }
 
--- The text that held bits, a marker that was met and the bytes after them stand for. The places are
--- those of the bits from the 57th on: only there can reading go on.
+-- The text that buffered bits, a marker that was met and the bytes after them stand for. What
+-- follows is given of the bits from the 57th on: only there can reading go on.
 abbrev pub upcoming_by : List Bool → Option DataEnd → List ℕ → Text
 upcoming_by bits None bytes =
     record {
@@ -141,12 +141,12 @@ Takes view read a old (Err e) b new =
     × (old.known ≡ true → new.known ≡ true → Names e (read (upcoming a old.bytes)))
     × (old.known ≡ true → new.known ≡ false → IsGivenUp e new.failed)
 
--- how many bits are held
+-- how many bits are buffered
 abbrev pub IsWithin : ℕ → Option DataEnd → Type 0
 IsWithin n None = n ≤ 64
 IsWithin n (Some e) = n ≤ 56
 
--- at least n bits are held, or the end was met
+-- at least n bits are buffered, or the end was met
 abbrev pub IsFilled : ℕ → List Bool → Option DataEnd → Type 0
 IsFilled n bits None = n ≤ length bits
 IsFilled n bits (Some e) = length bits ≤ 56
@@ -174,7 +174,7 @@ abbrev pub byte_or_end : List ℕ → Outcome (Option ℕ)
 byte_or_end [] = Ok (None, [])
 byte_or_end (b ∷ bs) = Ok (Some b, bs)
 
--- whether n bits can be taken of those held
+-- whether n bits can be taken of those buffered
 abbrev pub has_buffered : ℕ → List Bool → Option DataEnd → Result (Unit {0}) Fault
 has_buffered n bits None = Ok tt
 has_buffered n bits (Some e) = has_bits n bits (ending_of e [])

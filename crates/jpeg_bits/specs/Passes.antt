@@ -7,7 +7,7 @@ use Rattle.jpeg_bits.specs.Codes.{Table}
 use Rattle.jpeg_bits.specs.Bands.{Band, first_dc, first_ac}
 use Rattle.jpeg_bits.specs.Refinement.{bit_of, corrected, refined_ac}
 
--- What a scan codes: the places from ss to se at point transform al, for the first time or as a
+-- What a scan codes: the indices from ss to se at point transform al, for the first time or as a
 -- refinement.
 pub record Pass : Type 0 where
   pub is_first : Bool
@@ -19,7 +19,7 @@ pub record Pass : Type 0 where
 abbrev pub whole_pass : Pass
 whole_pass = record { is_first = true; ss = 0; se = 63; al = 0 }
 
--- How a block of the scan is coded: its component's place in the scan, and its tables.
+-- How a block of the scan is coded: its component's index in the scan, and its tables.
 pub record Via : Type 0 where
   pub component : ℕ
   pub dc : Table
@@ -37,7 +37,7 @@ zero_block = record { dc = pos 0; acs = replicate 63 (pos 0) }
 abbrev pub listed : Block → List ℤ
 listed b = b.dc ∷ b.acs
 
--- The places of a pass after DC: how many AC places stand before them, and how many there are.
+-- The indices of a pass after DC: how many AC indices stand before them, and how many there are.
 abbrev pub before_band : Pass → ℕ
 before_band p = p.ss - 1
 
@@ -50,7 +50,7 @@ band_of p acs = take (band_size p) (drop (before_band p) acs)
 abbrev pub with_band : {A : Type 0} → Pass → List A → List A → List A
 with_band p acs band = take (before_band p) acs ++ (band ++ drop (before_band p + band_size p) acs)
 
--- a bit that is set at place al, where the bit there is not set yet
+-- a number with a bit put to it as its bit al, where that is not set yet
 abbrev pub or_bit : ℕ → ℤ → ℕ → ℤ
 or_bit al z b = elim (bit_of al z == 0) [ true ↦ z +ℤ pos (b * 2 ^ al) | false ↦ z ]
 
@@ -80,7 +80,7 @@ band_part p ac (x ∷ band) (suc run) =
       | false ↦ corrected p.al (x ∷ band) >>= (λ all. gives (all, run))
     ]
 
--- A block on what is held of it: the block, the next predictor of its component, and the blocks of
+-- A block on what is kept of it: the block, the next predictor of its component, and the blocks of
 -- the run that follows.
 unfoldable pub block_from : Pass → Table → Table → ℤ → ℕ → Block → Reads (Block × ℤ × ℕ)
 block_from p dc ac predictor run old =

@@ -14,7 +14,7 @@ use Rattle.jpeg_bits.specs.declared.refinement.Refinement.TheVariants.{Zeros, Ne
 abbrev pub ReadsBand : Type 0
 ReadsBand = List ℤ → Text → Result (Band × Text) Fault
 
--- some places, and what the others give
+-- some coefficients, and what the others give
 abbrev pub before : List ℤ → Result (Band × Text) Fault → Result (Band × Text) Fault
 before front more = more >>= λ m. Ok ((front ++ m.0.0, m.0.1), m.1)
 
@@ -31,7 +31,7 @@ moved_within by z = if fits_i16 (moved by z) then Ok (moved by z) else Err Malfo
 abbrev pub distance_of : ℕ → ℤ → ℕ → ℕ
 distance_of al z b = b * (1 - bit_of al z) * 2 ^ al
 
--- A place of a piece: where it isn't zero it has a correction bit.
+-- A coefficient of a piece: where it isn't zero it has a correction bit.
 unfoldable pub corrected_from : ℕ → ℤ → Text → Result (ℤ × Text) Fault
 corrected_from al z t = if is_zero z then Ok (z, t) else (do
   b ← bits_from 1 t
@@ -39,7 +39,7 @@ corrected_from al z t = if is_zero z then Ok (z, t) else (do
     m ← moved_within (2 ^ al) z
     Ok (m, b.1)) else Ok (z, b.1)))
 
--- One correction bit for each place that isn't zero.
+-- One correction bit for each coefficient that isn't zero.
 unfoldable pub corrected_at : ℕ → List ℤ → Text → Result (List ℤ × Text) Fault
 corrected_at al [] t = Ok ([], t)
 corrected_at al (z ∷ numbers) t = corrected_from al z t >>= λ f. corrected_at al numbers f.1 >>= λ
@@ -72,7 +72,7 @@ refined_piece_at al others rest (End run) t = corrected_at al rest t >>= λ all.
   all.1,
 )
 
--- The rest of a band, of at most n places, cut into pieces, one a token.
+-- The rest of a band, of at most n coefficients, cut into pieces, one a token.
 unfoldable pub refined_ac_at : Table → ℕ → ℕ → ReadsBand
 refined_ac_at table al n [] t = Ok (([], 0), t)
 refined_ac_at table al zero (x ∷ rest) t = Err Malformed
@@ -84,7 +84,7 @@ refined_ac_at table al (suc n) (x ∷ rest) t =
 unfoldable pub refined_band_from : Table → ℕ → List ℤ → Text → Result (Band × Text) Fault
 refined_band_from table al band t = refined_ac_at table al (length band) band t
 
--- How many places the piece up to zero number r has, and the rest of the band with the piece
+-- How many coefficients the piece up to zero number r has, and the rest of the band with the piece
 -- corrected.
 unfoldable pub piece_from : ℕ → ℕ → List ℤ → Text → Result ((ℕ × List ℤ) × Text) Fault
 piece_from al r rest t = corrected_at al (take (through_zero r rest) rest) t >>= λ front.

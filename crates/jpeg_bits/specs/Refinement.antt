@@ -36,7 +36,7 @@ corrected_by al z (suc b) =
       | false ↦ gives z
     ]
 
--- One correction bit for each place that isn't zero.
+-- One correction bit for each coefficient that isn't zero.
 unfoldable pub corrected : ℕ → List ℤ → Reads (List ℤ)
 corrected al [] = gives []
 corrected al (z ∷ numbers) =
@@ -44,7 +44,7 @@ corrected al (z ∷ numbers) =
     >>= (λ first.
     corrected al numbers >>= (λ others. gives (first ∷ others)))
 
--- How many places there are up to zero number r, counted from 0, and with it; or all of them.
+-- How many coefficients there are up to zero number r, counted from 0, and with it; or all of them.
 unfoldable pub through_zero : ℕ → List ℤ → ℕ
 through_zero r [] = 0
 through_zero zero (z ∷ numbers) =
@@ -69,7 +69,7 @@ with_last x [] = []
 with_last x (y ∷ []) = x ∷ []
 with_last x (y ∷ z ∷ numbers) = y ∷ with_last x (z ∷ numbers)
 
--- The piece of a token of run r and size s, where `others` reads what is after it: the places
+-- The piece of a token of run r and size s, where `others` reads what is after it: the coefficients
 -- through zero number r, counted from 0, the last of which becomes a new number; those through the
 -- sixteenth zero; or the rest.
 unfoldable pub refined_piece : ℕ → (List ℤ → Reads Band) → List ℤ → ℕ → ℕ → Reads Band
@@ -85,7 +85,7 @@ refined_piece al others rest r (suc zero) =
     >>= (λ more. gives (before_more (with_last (new_number al sign) front) more))))
 refined_piece al others rest r (suc (suc s)) = refused
 
--- The rest of a band, of at most n places, cut into pieces, one a token.
+-- The rest of a band, of at most n coefficients, cut into pieces, one a token.
 unfoldable pub refined_ac : Table → ℕ → ℕ → List ℤ → Reads Band
 refined_ac table al n [] = gives ([], 0)
 refined_ac table al zero (x ∷ rest) = refused

@@ -50,7 +50,7 @@ short_value_of n table bits = short_value_by n table.class bits
 abbrev pub next_bits : ℕ → List Bool → List Bool
 next_bits n bits = take n (bits ++ replicate n false)
 
--- at the place of each 8 bits stands the code that begins them
+-- at the index of each 8 bits stands the code that begins them
 abbrev pub HoldsCodes : List ℕ → List ℕ → List (Option (ℕ × ℕ)) → Type 0
 HoldsCodes counts symbols codes =
     (b : ℕ) → b < 256 → slice_index_or codes b None ≡ short_code counts symbols (low_bits 8 b)
@@ -87,7 +87,7 @@ row_at counts i =
       index = sum (take i counts);
     }
 
--- each row stands at its place
+-- each row stands at its index
 abbrev pub HoldsRows : List ℕ → List Row → Type 0
 HoldsRows counts rows = (i : ℕ) → i < 16 → slice_index_or rows i no_row ≡ row_at counts i
 

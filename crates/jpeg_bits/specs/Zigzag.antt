@@ -1,7 +1,7 @@
--- The zigzag order of the places of a block (T.81, A.3.6, Figure A.6).
+-- The zigzag order of the indices of a block (T.81, A.3.6, Figure A.6).
 use Rattle.std.specs.Prelude.{ℕ, List, [], ◌∷◌, map, slice_index, slice_index_or, ℤ, pos}
 
--- the place in the block, row * 8 + column, of each place in zigzag order
+-- the index in the block, row * 8 + column, of each index in zigzag order
 abbrev pub zigzag : List ℕ
 zigzag =
     0 ∷ 1 ∷ 8 ∷ 16 ∷ 9 ∷ 2 ∷ 3 ∷ 10 ∷ 17 ∷ 24 ∷ 32 ∷ 25 ∷ 18 ∷ 11 ∷ 4 ∷ 5 ∷ 12 ∷ 19 ∷ 26 ∷ 33 ∷ 40
@@ -10,7 +10,7 @@ zigzag =
     ∷ 23 ∷ 30 ∷ 37 ∷ 44
     ∷ 51 ∷ 58 ∷ 59 ∷ 52 ∷ 45 ∷ 38 ∷ 31 ∷ 39 ∷ 46 ∷ 53 ∷ 60 ∷ 61 ∷ 54 ∷ 47 ∷ 55 ∷ 62 ∷ 63 ∷ []
 
--- the place in zigzag order of each place in the block
+-- the index in zigzag order of each index in the block
 unfoldable pub zigzag_indices : List ℕ
 zigzag_indices =
     0 ∷ 1 ∷ 5 ∷ 6 ∷ 14 ∷ 15 ∷ 27 ∷ 28 ∷ 2 ∷ 4 ∷ 7 ∷ 13 ∷ 16 ∷ 26 ∷ 29 ∷ 42 ∷ 3 ∷ 8 ∷ 12 ∷ 17 ∷ 25

@@ -4,7 +4,7 @@ pub mod Seen
 pub mod Bytes
 -- what a call has read that was refused for want of room
 pub mod HeaderAlone
--- what a caller sees of the blocks that are held, and the code's own words
+-- what a caller sees of the blocks that are kept, and the code's own words
 pub mod Scanning
 -- the code's own words: the clauses of `Decoder`, `run` and `report` reach none of these
 pub mod Walk

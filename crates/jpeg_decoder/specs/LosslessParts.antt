@@ -1,4 +1,4 @@
--- What a lossless scan has of its components, by their places in the frame.
+-- What a lossless scan has of its components, by their indices in the frame.
 use Rattle.std.specs.Prelude.{ℕ, Bool, true, false, List, [], ◌∷◌, get_or}
 use Rattle.jpeg_bits.specs.Codes.{Table}
 use Rattle.jpeg_segments.specs.Frame.{Component, Frame, ceiling}
@@ -35,7 +35,7 @@ parts_at is_alone components (index ∷ indices) (table ∷ tables) =
     ∷ parts_at is_alone components indices tables
 parts_at is_alone components _ _ = []
 
--- the MCUs of a scan of the components at these places, across and down
+-- the MCUs of a scan of the components at these indices, across and down
 unfoldable pub mcus_wide : Frame → List ℕ → ℕ
 mcus_wide frame (index ∷ []) = (get_or frame.components index no_component).width
 mcus_wide frame indices = ceiling frame.width (most_across frame)

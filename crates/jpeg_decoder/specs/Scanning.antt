@@ -1,4 +1,4 @@
--- What a caller sees of a scan, of what is held of it, and of the state of an interval.
+-- What a caller sees of a scan, of what is kept of it, and of the state of an interval.
 use Rattle.std.specs.Prelude.{ℕ, ◌<◌, ◌+◌, List, [], ◌∷◌, map, length, get_or, ℤ, Bool, true, false}
 use Rattle.std.specs.declared.alloc.Global.{Global}
 use Rattle.std.specs.declared.vec.Vec.{Vec}
@@ -66,12 +66,12 @@ kept_after keeps c = gives (kept_counted keeps c)
 abbrev pub kept_blocks : Bool → Reads Counted → Reads Counted
 kept_blocks keeps p = p >>= kept_after keeps
 
--- the block of a slot and an index is held
+-- the block of a slot and an index is kept
 pub record IsKeptBlock (sizes : List ℕ) (slot index : ℕ) : Type 0 where
   pub has_slot : slot < length sizes
   pub has_index : index < get_or sizes slot 0
 
--- a spot of a scan of so many slots, whose block is held
+-- a spot of a scan of so many slots, whose block is kept
 pub record IsSpotOf (slots : ℕ) (sizes : List ℕ) (s : Spot) : Type 0 where
   pub slot : s.slot < slots
   pub kept : IsKeptBlock sizes s.slot s.index

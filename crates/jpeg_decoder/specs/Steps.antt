@@ -80,7 +80,7 @@ after_all met bytes = after_restarts (suc (length bytes)) met bytes
 
 -- ---- the tables of a scan
 
--- the default tables at the places that a scan names, where a frame of an MJPEG stream was named
+-- the default tables at the destinations that a scan names, where a frame of an MJPEG stream was named
 abbrev pub default_dc : Bool → List ℕ → List (Option Table)
 default_dc is_mjpeg named = if is_mjpeg then with_defaults luminance_dc chrominance_dc named
     (replicate 4 None) else []
@@ -89,7 +89,7 @@ abbrev pub default_ac : Bool → List ℕ → List (Option Table)
 default_ac is_mjpeg named = if is_mjpeg then with_defaults luminance_ac chrominance_ac named
     (replicate 4 None) else []
 
--- the table at a place, or else the spare one there
+-- the table at a destination, or else the spare one there
 abbrev pub or_spare : Option Table → Option Table → Option Table
 or_spare (Some table) spare = Some table
 or_spare None spare = spare
@@ -150,7 +150,7 @@ with_decoded found d = record found {
   samples = planes_in d.samples;
 }
 
--- Planes with that of a component: where all of these places are finished the first one decides.
+-- Planes with that of a component: where all of these indices are finished the first one decides.
 unfoldable pub decided_planes : List Bool → ℕ → List ℕ → List (Option (List ℕ))
     → List (Option (List ℕ))
 decided_planes marks index plane planes = elim (list_all (λ mark. mark) marks) [
@@ -158,7 +158,7 @@ decided_planes marks index plane planes = elim (list_all (λ mark. mark) marks) 
   | false ↦ planes
 ]
 
--- the finished places of a component after a pass
+-- the finished indices of a component after a pass
 abbrev pub marks_after : Pass → List (List Bool) → ℕ → List Bool
 marks_after p finished index = finished_by p (slice_index_or finished index none_finished)
 
@@ -201,17 +201,17 @@ scan_data found frame p codings bytes = do
     r.1,
   )
 
--- the place of a component in its frame
+-- the index of a component in its frame
 abbrev pub HasIndex : Coded → Type 0
 HasIndex c = c.index < 4
 
--- each place is above the one before
+-- each index is above the one before
 abbrev pub AreRising : List Coding → Type 0
 AreRising [] = Unit {0}
 AreRising (c ∷ []) = Unit {0}
 AreRising (c ∷ d ∷ more) = (c.index < d.index) × AreRising (d ∷ more)
 
--- a component of a scan is that of the frame at its place
+-- a component of a scan is that of the frame at its index
 abbrev pub IsCodingOf : Frame → Coding → Type 0
 IsCodingOf frame c = first_of (drop c.index frame.components) ≡ Some c.component
 

@@ -1,4 +1,4 @@
--- The planes of a sequential scan, as they grow row by row of MCUs, so that no blocks are held of
+-- The planes of a sequential scan, as they grow row by row of MCUs, so that no blocks are kept of
 -- more than one row.
 use Rattle.std.specs.Prelude.{ℕ, ◌*◌, List, [], ◌∷◌, ◌++◌, map, replicate}
 use Rattle.std.specs.Prelude.{Option, Ok}

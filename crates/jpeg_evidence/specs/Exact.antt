@@ -5,7 +5,7 @@ use Rattle.std.specs.Int.{w32, int_shr, int_wrap}
 use Rattle.jpeg_pixels.specs.Samples.{sum_below, transformed, dequantized, column_value}
 use Rattle.jpeg_evidence.specs.Cosines.{cosine, unit}
 
--- C_k cos ((2 place + 1) k pi / 16), in units of 10^-12: C_0 is the cosine of 4 sixteenths of pi
+-- C_k cos ((2 index + 1) k pi / 16), in units of 10^-12: C_0 is the cosine of 4 sixteenths of pi
 unfoldable pub weight : ℕ → ℕ → ℤ
 weight index k = cosine (if k == 0 then 4 else (2 * index + 1) * k)
 

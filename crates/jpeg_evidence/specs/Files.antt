@@ -142,7 +142,7 @@ abbrev pub all_listed : Result (Tables × List ℕ) Fault → Result (List Table
 all_listed (Ok t) = Ok (flat_map listed_tables t.0.dc ++ flat_map listed_tables t.0.ac)
 all_listed (Err e) = Err e
 
--- those of the DHT segment of the sequential file whose length stands at a place
+-- those of the DHT segment of the sequential file whose length stands at an offset
 abbrev pub file_tables : ℕ → Result (List Table) Fault
 file_tables index = all_listed (dht_at (Some true) (drop index sequential_file))
 

@@ -75,21 +75,21 @@ pub record IsToken (table : Table) (x : Token) (own : List Bool) : Type 0 where
 
 -- ---- a band in its first scan
 
--- A token that stands for places that the rest of its band has, and whose value fits 16 bits.
+-- A token that stands for coefficients that the rest of its band has, and whose value fits 16 bits.
 abbrev pub IsTokenWithin : ℕ → ℕ → Token → Type 0
 IsTokenWithin al room (Value r u) = (r < room) × (unsigned_abs u * 2 ^ al < 2 ^ 15)
 IsTokenWithin al room Sixteen = 16 ≤ room
 IsTokenWithin al room (Rest run) = Unit {0}
 IsTokenWithin al room Overlong = ⊥
 
--- how many places are left after it
+-- how many coefficients are left after it
 abbrev pub room_after : ℕ → Token → ℕ
 room_after room (Value r u) = room - (r + 1)
 room_after room Sixteen = room - 16
 room_after room (Rest run) = 0
 room_after room Overlong = 0
 
--- The tokens of a band of so many places fit, one after the other.
+-- The tokens of a band of so many coefficients fit, one after the other.
 pub data TokensFit (table : Table) (al : ℕ) : ℕ → List Bool → Type 0 where
   filled : (bits : List Bool) → TokensFit table al 0 bits
   token : (room : ℕ) (x : Token) (bits more : List Bool)
@@ -109,7 +109,7 @@ pub record IsBand (table : Table) (al : ℕ) (band : List ℤ) (run : ℕ) (own 
 
 -- ---- a band in a refinement
 
--- how many places are zero
+-- how many coefficients are zero
 unfoldable pub count_zeros : List ℤ → ℕ
 count_zeros [] = 0
 count_zeros (z ∷ numbers) = elim (is_zero z) [
@@ -145,7 +145,7 @@ pub record HasTables (p : Pass) (via : Via) : Type 0 where
   pub ac_bytes : p.se ≢ 0 → HasByteSymbols via.ac
 
 -- A block that these bits begin with fits. In a first pass none of its band was sent before, DC that
--- is read has its number in 16 bits, and the tokens of the band fit it. In a refinement what is held
+-- is read has its number in 16 bits, and the tokens of the band fit it. In a refinement what is kept
 -- was sent at the level above, and the pieces of the band fit it.
 pub record BlockFits (p : Pass) (via : Via) (predictor : ℤ) (run : ℕ) (old : Block) (bits : List Bool)
     : Type 0 where

@@ -1,4 +1,4 @@
--- Samples by their places (T.81, H.1.2.1).
+-- Samples by their positions (T.81, H.1.2.1).
 use Rattle.std.specs.Prelude.{◌≡◌, ℕ, ◌-◌, ℤ, pos, List, [], ◌∷◌, length}
 use Rattle.std.specs.Prelude.{slice_index, slice_index_or}
 use Rattle.jpeg_bits.specs.declared.scan.Predictor.{Predictor}

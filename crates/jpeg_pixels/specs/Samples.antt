@@ -39,7 +39,7 @@ basis_entries =
 unfoldable pub basis : ℕ → ℕ → ℤ
 basis row column = slice_index_or basis_entries (row * 8 + column) (pos 0)
 
--- the value at this place of the transform of the eight numbers s
+-- the value at this index of the transform of the eight numbers s
 unfoldable pub transformed : (ℕ → ℤ) → ℕ → ℤ
 transformed s index = sum_below (λ k. basis index k *ℤ s k) 8
 

@@ -24,8 +24,8 @@ down H1V2 = 2
 down H2V2 = 2
 down (Generic h v) = v
 
--- of the two places next to place i / 2 the one that i is nearer to, where there are this many
--- places: at the ends it is the place itself
+-- of the two indices next to index i / 2 the one that i is nearer to, where there are this many
+-- indices: at the ends it is the index itself
 abbrev pub far_index : ℕ → ℕ → ℕ
 far_index count i = if i % 2 == 0 then i / 2 - 1 else min (i / 2 + 1) (count - 1)
 

@@ -48,30 +48,30 @@ pub record IsRowOf (w : Work) (coefficients : List ℤ) : Type 0 where
   pub blocks : length coefficients ≡ w.wide * w.down * 64
   pub room : length w.samples + w.scale * w.wide * (w.scale * w.down) ≤ w.room
 
--- the same, of a place that has to have a plane
+-- the same, of an index that has to have a plane
 abbrev pub IsRowAt : Option Work → List ℤ → Type 0
 IsRowAt None coefficients = ⊥
 IsRowAt (Some w) coefficients = IsRowOf w coefficients
 
--- What is seen of a place: the samples that rows have brought, and 0 for those that no row has
+-- What is seen of an index: the samples that rows have brought, and 0 for those that no row has
 -- brought yet.
 abbrev pub plane_at : Option Work → List ℕ
 plane_at None = []
 plane_at (Some w) = w.samples ++ replicate (w.room - length w.samples) 0
 
--- ---- the four places of a worker
+-- ---- the four indices of a worker
 
--- one more row at a place
+-- one more row at an index
 abbrev pub with_row : List (Option Work) → ℕ → List ℤ → List (Option Work)
 with_row indices index coefficients =
     set indices index (option_map (grown coefficients) (get_or indices index None))
 
--- rows that come one after the other, each for a place
+-- rows that come one after the other, each for an index
 abbrev pub with_rows : List (Option Work) → List (ℕ × Vec ℤ Global) → List (Option Work)
 with_rows indices [] = indices
 with_rows indices (row ∷ rows) = with_rows (with_row indices row.0 row.1.items) rows
 
--- each of them is for a place that holds a plane with room for it
+-- each of them is for an index that holds a plane with room for it
 abbrev pub AreRows : List (Option Work) → List (ℕ × Vec ℤ Global) → Type 0
 AreRows indices [] = Unit {0}
 AreRows indices (row ∷ rows) =

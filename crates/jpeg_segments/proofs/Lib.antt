@@ -1,3 +1,4 @@
+pub mod ApplicationParts
 pub mod Ceilings
 pub mod ScaleLemmas
 pub mod QuantizationLemmas

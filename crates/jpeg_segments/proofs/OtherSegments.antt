@@ -10,8 +10,7 @@ use Rattle.jpeg_segments.specs.declared.parser.AdobeColorTransform.{AdobeColorTr
 use Rattle.jpeg_segments.specs.Application.{Application, Adobe, application_by, begins_with}
 use Rattle.jpeg_segments.specs.Application.{adobe_name, transform_by, passed_over, adobe_by, adobe_at}
 use Rattle.jpeg_segments.specs.Application.{application_14, payload_at, app_at, dri_at}
-use Rattle.jpeg_segments.specs.WrittenSegments.{u16_bytes, with_length, is_adobe, said_by}
-use Rattle.jpeg_segments.specs.WrittenSegments.{IsApplication}
+use Rattle.jpeg_segments.specs.WrittenSegments.{u16_bytes, with_length}
 use Rattle.jpeg_segments.proofs.ApplicationLemmas.{read-skipped}
 use Rattle.jpeg_segments.proofs.Codecs.{Codec, bind, ends, check-if, choose, done, remap, namely, same}
 use Rattle.jpeg_segments.proofs.Codecs.{refused, u16, many, segment, length-field}
@@ -46,15 +45,19 @@ transformed left (Some t) = remap (passed left (Some (Adobe t)))
     (λ xs is. namely xs (refl, is) refl refl)
     (λ xs is. namely xs is.1 refl refl)
 
+-- whether the data of APP14 are Adobe's
+abbrev pub is_adobe : List ℕ → Bool
+is_adobe payload = cond (ltb (length payload) 12) false (begins_with (take 12 payload) adobe_name)
+
 -- what begins a payload of APP14 says
-abbrev head_says : Bool → List ℕ → Option Application
+abbrev pub head_says : Bool → List ℕ → Option Application
 head_says b head = cond b (option_map Adobe (transform_by (get_or head 11 0))) None
 
-abbrev names : Bool → List ℕ → Type 0
+abbrev pub names : Bool → List ℕ → Type 0
 names b head = b ≡ true → is_some (transform_by (get_or head 11 0)) ≡ true
 
 -- what a payload of APP14 says, and the rule that it keeps
-abbrev said_14 : List ℕ → Option Application
+abbrev pub said_14 : List ℕ → Option Application
 said_14 payload = head_says (is_adobe payload) payload
 
 -- the first twelve bytes, and the others
@@ -133,11 +136,15 @@ fourteen left = choose (ltb left 12)
 abbrev pub Names : ℕ → List ℕ → Type 0
 Names number payload = number ≡ 14 → names (is_adobe payload) payload
 
-abbrev says : Bool → ℕ → List ℕ → Option Application
+abbrev pub says : Bool → ℕ → List ℕ → Option Application
 says b number payload = cond b (said_14 payload) (application_by number payload)
 
+-- what the data of an APPn segment say
+abbrev pub said_by : ℕ → List ℕ → Option Application
+said_by number payload = says (eqb number 14) number payload
+
 pub app : (number : ℕ) → Codec (app_at number) (said_by number) with_length (Names number)
-unfolding app_at payload_at said_by
+unfolding app_at payload_at
 app number = segment _ (λ (left : ℕ). choose (eqb number 14)
     (λ t. remap (fourteen left)
     (λ xs is. namely xs ((λ q. is.0), is.1) (sym (ap (λ (b : Bool). says b number xs) t)) refl)
@@ -147,7 +154,3 @@ app number = segment _ (λ (left : ℕ). choose (eqb number 14)
     (λ xs is. namely xs ((λ q. absurd (eqb-false number 14 f q)), is.0)
     (sym (ap (λ (b : Bool). says b number xs) f)) refl)
     (λ xs is. namely xs (is.1, tt) (ap (λ (b : Bool). says b number xs) f) refl)))
-
-pub app-read : (number : ℕ) (payload rest : List ℕ) → IsApplication number payload
-    → app_at number (with_length payload ++ rest) ≡ Ok (said_by number payload, rest)
-app-read number payload rest is = (app number).reads payload rest is.named

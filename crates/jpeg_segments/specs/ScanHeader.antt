@@ -12,8 +12,8 @@ use Rattle.jpeg_segments.specs.declared.parser.CodingProcess.TheVariants.{DctPro
 use Rattle.jpeg_segments.specs.Frame.{Frame, Component}
 use Rattle.jpeg_segments.specs.HuffmanTables.{greatest_destination}
 
--- A scan: the places of its components in the frame and the destinations of their DC and AC tables,
--- in the order of the scan; the coefficients that it codes, by their places in zigzag order, from
+-- A scan: the indices of its components in the frame and the destinations of their DC and AC tables,
+-- in the order of the scan; the coefficients that it codes, by their indices in zigzag order, from
 -- the first to the one after the last; its predictor; the levels Ah and Al of successive
 -- approximation; and its point transform.
 pub record Scan : Type 0 where
@@ -29,7 +29,7 @@ pub record Scan : Type 0 where
 
 -- ---- components
 
--- The place of a component in the frame, the destinations of its DC and AC tables, and the number
+-- The index of a component in the frame, the destinations of its DC and AC tables, and the number
 -- of its blocks in an MCU of several components (A.2.3).
 pub record Selector : Type 0 where
   pub component : ℕ
@@ -37,18 +37,18 @@ pub record Selector : Type 0 where
   pub ac : ℕ
   pub blocks : ℕ
 
--- the place of the component with this identifier
+-- the index of the component with this identifier
 abbrev pub index_of : List Component → ℕ → Option ℕ
 index_of components identifier = position (λ c. c.factors.identifier == identifier) components
 
--- The number of blocks that the component at a place has in such an MCU: its sampling factors
+-- The number of blocks that the component at an index has in such an MCU: its sampling factors
 -- multiplied.
 abbrev pub blocks_by : List Component → ℕ → ℕ
 blocks_by [] index = 0
 blocks_by (c ∷ more) zero = c.factors.horizontal * c.factors.vertical
 blocks_by (c ∷ more) (suc index) = blocks_by more index
 
--- The destinations Td and Ta of the tables of the component at a place of the frame. In a baseline
+-- The destinations Td and Ta of the tables of the component at an index of the frame. In a baseline
 -- frame they are 0 or 1.
 unfoldable pub destinations_at : Frame → ℕ → List ℕ → Outcome Selector
 destinations_at frame index bytes = do
@@ -73,7 +73,7 @@ tables_by frame least None bytes = Err Malformed
 tables_by frame least (Some index) bytes =
     if nat_lt index least then Err Malformed else destinations_at frame index bytes
 
--- The next component, whose place in the frame is at least `least`: components stand in the order
+-- The next component, whose index in the frame is at least `least`: components stand in the order
 -- of the frame.
 unfoldable pub selector_at : Frame → ℕ → List ℕ → Outcome Selector
 selector_at frame least bytes = do
@@ -182,7 +182,7 @@ pub record IsSelectorOf (frame : Frame) (s : Selector) : Type 0 where
   pub ac : s.ac ≤ 3
   pub blocks : s.blocks ≡ blocks_by frame.components s.component
 
--- The places rise: the first is at least `least`, and each other is greater than the one before.
+-- The indices rise: the first is at least `least`, and each other is greater than the one before.
 unfoldable pub IsRising : ℕ → List ℕ → Type 0
 IsRising least [] = Unit {0}
 IsRising least (index ∷ more) = (least ≤ index) × IsRising (index + 1) more

@@ -8,7 +8,7 @@ use Rattle.jpeg_segments.specs.ScanHeader.{Scan, Selector, index_of, blocks_by, 
 use Rattle.jpeg_segments.specs.ScanHeader.{scan_of}
 use Rattle.jpeg_segments.specs.WrittenSegments.{nibbles}
 
--- A component of a scan: its identifier Csj, its place in the frame, and the destinations Tdj and
+-- A component of a scan: its identifier Csj, its index in the frame, and the destinations Tdj and
 -- Taj of its DC and AC tables.
 pub record Choice : Type 0 where
   pub identifier : ℕ
@@ -45,7 +45,7 @@ selector_for frame c = record {
   blocks = blocks_by frame.components c.component;
 }
 
--- A component of the frame whose place is at least `least`, with destinations of tables that the
+-- A component of the frame whose index is at least `least`, with destinations of tables that the
 -- frame has: 0 and 1 in a baseline frame, else 0 to 3.
 pub record IsChoice (frame : Frame) (least : ℕ) (c : Choice) : Type 0 where
   pub identified : index_of frame.components c.identifier ≡ Some c.component

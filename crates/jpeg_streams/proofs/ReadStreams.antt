@@ -76,7 +76,7 @@ framed-next w (Quantization ts) f array levels sc h fi pl follows none fr = go s
     go false e = search (rules, framed-by, plane-unscanned)
 framed-next w (Huffman ts) f array levels sc h fi pl follows none fr = search (rules, framed-same)
 framed-next w (Interval n) f array levels sc h fi pl follows none fr = search (rules, framed-same)
-framed-next w (Application number payload) f array levels sc h fi pl follows none fr = search (rules, framed-same)
+framed-next w (Application d) f array levels sc h fi pl follows none fr = search (rules, framed-same)
 framed-next w (Comment payload) f array levels sc h fi pl follows none fr = fr
 framed-next w (Header number header) f array levels sc h fi pl follows none fr = search (rules, framed-same)
 

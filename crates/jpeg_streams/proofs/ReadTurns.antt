@@ -16,7 +16,8 @@ use Rattle.jpeg_segments.specs.WrittenSegments.{with_length, Segment, Header, Fr
 use Rattle.jpeg_segments.specs.WrittenSegments.{marker_code, frame_written, payload_of}
 use Rattle.jpeg_segments.proofs.Fields.{kept, not-refused, read-on, sized-read, skip-read}
 use Rattle.jpeg_segments.proofs.TableSegments.{dqt-read, dht-read}
-use Rattle.jpeg_segments.proofs.OtherSegments.{dri-read, app-read}
+use Rattle.jpeg_segments.proofs.OtherSegments.{dri-read}
+use Rattle.jpeg_segments.proofs.ApplicationParts.{app-read}
 use Rattle.jpeg_segments.proofs.HeaderSegments.{sof-read}
 use Rattle.jpeg_streams.specs.declared.before.Before.{Before}
 use Rattle.jpeg_streams.specs.declared.before.Before.TheVariants.{Elsewhere}

@@ -9,16 +9,16 @@ use Rattle.jpeg_streams.specs.Needed.{needed}
 use Rattle.jpeg_streams.specs.ScanSegments.{plane_by, is_progressive}
 use Rattle.jpeg_streams.specs.Found.{Found}
 
--- the blocks at a place, where blocks are held
+-- the blocks at an index, where blocks are kept
 abbrev pub blocks_if : Bool → Arrays → ℕ → Option (List Block)
 blocks_if true kept index = Some (get_or kept index [])
 blocks_if false kept index = None
 
--- whether a frame has blocks that are held
+-- whether a frame has blocks that are kept
 abbrev pub is_kept : Found → Frame → Bool
 is_kept found frame = is_progressive frame.process && found.scanned
 
--- The plane that is decided, or else that of the blocks that are held, by the quantization table.
+-- The plane that is decided, or else that of the blocks that are kept, by the quantization table.
 abbrev pub plane_or : Component → Option (List ℕ) → Option (List ℕ) → Option (List Block)
     → Result (List ℕ) Fault
 plane_or c table (Some plane) blocks = Ok plane

@@ -32,11 +32,11 @@ no_metadata =
       icc = [];
     }
 
--- What the segments and scans so far have said: the frame; the tables in force, by their places;
--- the restart interval; whether a scan was read; the metadata; and by the components' places in the
--- frame the blocks that are held between the scans of a progressive frame, which of the 64 places
+-- What the segments and scans so far have said: the frame; the tables in force, by their destinations;
+-- the restart interval; whether a scan was read; the metadata; and by the components' indices in the
+-- frame the blocks that are kept between the scans of a progressive frame, which of the 64 indices
 -- of a block are finished, and the planes that are decided. Quantization tables stand in zigzag
--- order. By the components' places in a lossless frame, their samples.
+-- order. By the components' indices in a lossless frame, their samples.
 pub record Found : Type 0 where
   pub frame : Option Frame
   pub quantization : List (Option (List ℕ))
@@ -49,7 +49,7 @@ pub record Found : Type 0 where
   pub planes : List (Option (List ℕ))
   pub samples : List (Option (List ℕ))
 
--- no place of a block is finished
+-- no index of a block is finished
 abbrev pub none_finished : List Bool
 none_finished = replicate 64 false
 

@@ -20,7 +20,7 @@ use Rattle.jpeg_streams.specs.Found.{Metadata, Found}
 use Rattle.jpeg_streams.specs.ScanSegments.{is_progressive, plane_by}
 
 -- The plane of a component at the end of the image: the one that is decided; else, in a progressive
--- frame of which a scan was read, that of the blocks held, by the quantization table in force.
+-- frame of which a scan was read, that of the blocks kept, by the quantization table in force.
 unfoldable pub plane_at_end : Found → Frame → ℕ → Component → Result (List ℕ) Fault
 plane_at_end found frame index c =
     elim (slice_index_or found.planes index None) [
@@ -33,7 +33,7 @@ plane_at_end found frame index c =
       ]
     ]
 
--- those of some components, from a place on
+-- those of some components, from an index on
 unfoldable pub planes_from : Found → Frame → ℕ → List Component → Result (List (List ℕ)) Fault
 planes_from found frame index [] = Ok []
 planes_from found frame index (c ∷ more) =

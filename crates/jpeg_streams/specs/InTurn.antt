@@ -1,4 +1,4 @@
--- The blocks of a scan one after the other, as they are read on what is held of them and put back.
+-- The blocks of a scan one after the other, as they are read on what is kept of them and put back.
 use Rattle.std.specs.Prelude.{◌≡◌, ◌⊎◌, ◌<◌, ◌≤◌, ◌+◌, ◌*◌, ◌-◌, ◌%◌, ◌==◌, ◌&&◌, nat_lt, ℕ, suc}
 use Rattle.std.specs.Prelude.{true, false, List, [], ◌∷◌, length, set, get_or, ℤ, pos, Option}
 use Rattle.std.specs.Prelude.{Ok, Err}
@@ -13,7 +13,7 @@ use Rattle.jpeg_segments.specs.Frame.{Frame, Component}
 use Rattle.jpeg_streams.specs.Order.{Spot, grid_of}
 use Rattle.jpeg_streams.specs.Scans.{Arrays, block_at, put_block, via_at}
 
--- What is held inside an interval: the blocks, the predictors and the blocks of a run that follow.
+-- What is kept inside an interval: the blocks, the predictors and the blocks of a run that follow.
 pub record Reached : Type 0 where
   pub arrays : Arrays
   pub predictors : List ℤ
@@ -72,7 +72,7 @@ restart_from k t = reading.◌>>=◌ (marker_from t) (λ m. elim (is_restart k m
   | false ↦ Err Malformed
 ])
 
--- What is held between blocks: what is reached in an interval, how many blocks are left of it, and
+-- What is kept between blocks: what is reached in an interval, how many blocks are left of it, and
 -- the number of the restart marker after it, which counts modulo 8.
 pub record Counted : Type 0 where
   pub reached : Reached

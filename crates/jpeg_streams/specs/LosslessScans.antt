@@ -13,7 +13,7 @@ use Rattle.jpeg_streams.specs.Needed.{first_of, needed}
 
 -- ---- MCUs
 
--- A component of a scan: its place in the frame, the component, and its table.
+-- A component of a scan: its index in the frame, the component, and its table.
 pub record LosslessCoding : Type 0 where
   pub index : ℕ
   pub component : Component
@@ -53,7 +53,7 @@ way_of frame predictor point codings = record {
 
 -- ---- tables
 
--- the component at a place, with the table in force for its differences
+-- the component at an index, with the table in force for its differences
 unfoldable pub lossless_coding :
     List (Option Table) → Frame → ℕ → ℕ → Result LosslessCoding Fault
 lossless_coding tables frame index dc_destination = do
@@ -61,7 +61,7 @@ lossless_coding tables frame index dc_destination = do
   table ← needed (slice_index_or tables dc_destination None)
   Ok (record { index = index; component = component; table = table })
 
--- those at some places, with the places of their tables
+-- those at some indices, with the destinations of their tables
 unfoldable pub lossless_codings :
     List (Option Table) → Frame → List ℕ → List ℕ → Result (List LosslessCoding) Fault
 lossless_codings tables frame (index ∷ indices) (d ∷ dc_destinations) =
@@ -69,7 +69,7 @@ lossless_codings tables frame (index ∷ indices) (d ∷ dc_destinations) =
     lossless_codings tables frame indices dc_destinations >>= (λ others. Ok (c ∷ others)))
 lossless_codings tables frame _ _ = Ok []
 
--- the tables at some places
+-- the tables at some destinations
 unfoldable pub tables_in : List (Option Table) → List ℕ → Result (List Table) Fault
 tables_in tables [] = Ok []
 tables_in tables (d ∷ dc_destinations) =
@@ -78,14 +78,14 @@ tables_in tables (d ∷ dc_destinations) =
 
 -- ---- samples
 
--- The samples of a scan decide those of the components at its places.
+-- The samples of a scan decide those of the components at its indices.
 unfoldable pub with_samples :
     List ℕ → List (List ℕ) → List (Option (List ℕ)) → List (Option (List ℕ))
 with_samples (index ∷ indices) (plane ∷ planes) samples =
     with_samples indices planes (slice_set samples index (Some plane))
 with_samples _ _ samples = samples
 
--- the samples at the places of some components, from a place on, each of which has to be there
+-- the samples at the indices of some components, from an index on, each of which has to be there
 unfoldable pub samples_from :
     List (Option (List ℕ)) → ℕ → List Component → Result (List (List ℕ)) Fault
 samples_from samples index [] = Ok []

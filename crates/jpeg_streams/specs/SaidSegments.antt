@@ -2,9 +2,10 @@
 use Rattle.std.specs.Prelude.{◌≡◌, ◌⊎◌, ℕ, ◌*◌, ◌%◌, length, Some}
 use Rattle.std.specs.List.{AllByRecursion}
 use Rattle.jpeg_segments.specs.Frame.{Factors, greatest}
-use Rattle.jpeg_segments.specs.WrittenSegments.{Application, Comment, FrameHeader, frame_written}
+use Rattle.jpeg_segments.specs.WrittenSegments.{Application, application_says, Comment, FrameHeader}
+use Rattle.jpeg_segments.specs.WrittenSegments.{frame_written}
 use Rattle.jpeg_segments.specs.WrittenSegments.{Header, Huffman, huffman_tables, Interval, MayStand}
-use Rattle.jpeg_segments.specs.WrittenSegments.{Quantization, quantization_tables, said_by, Segment}
+use Rattle.jpeg_segments.specs.WrittenSegments.{Quantization, quantization_tables, Segment}
 use Rattle.jpeg_streams.specs.Segments.{with_application, with_huffman, updated}
 use Rattle.jpeg_streams.specs.Found.{Found}
 
@@ -48,7 +49,7 @@ found_after said (Quantization ts) =
 found_after said (Huffman ts) =
     record said { huffman = with_huffman said.huffman (huffman_tables ts) }
 found_after said (Interval n) = record said { restart = n }
-found_after said (Application number payload) =
-    record said { metadata = with_application said.metadata (said_by number payload) }
+found_after said (Application d) =
+    record said { metadata = with_application said.metadata (application_says d) }
 found_after said (Comment payload) = said
 found_after said (Header number h) = record said { frame = Some (frame_written number h) }

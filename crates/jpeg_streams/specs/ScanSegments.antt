@@ -53,7 +53,7 @@ pass_of scan =
     }
 
 -- The Huffman tables in force for a scan. In a frame of an MJPEG stream the default ones stand in
--- the unset places that the scan names.
+-- the unset destinations that the scan names.
 unfoldable pub tables_of : Found → Scan → Tables
 tables_of found scan =
     if found.metadata.avi1 then record {
@@ -61,7 +61,7 @@ tables_of found scan =
       ac = with_defaults luminance_ac chrominance_ac scan.ac_destinations found.huffman.ac;
     } else found.huffman
 
--- A component of a scan: its place in the frame, the component, its quantization table, and its
+-- A component of a scan: its index in the frame, the component, its quantization table, and its
 -- Huffman tables.
 pub record Coding : Type 0 where
   pub index : ℕ
@@ -94,7 +94,7 @@ component_coding found frame p tables index dc_destination ac_destination = do
     ac = ac;
   })
 
--- those at some places, with the places of their tables
+-- those at some indices, with the destinations of their tables
 unfoldable pub codings_from : Found → Frame → Pass → Tables → List ℕ → List ℕ → List ℕ
     → Result (List Coding) Fault
 codings_from found frame p tables (index ∷ indices) (d ∷ dc_destinations) (a ∷ ac_destinations) =
@@ -115,7 +115,7 @@ vias_from slot [] = []
 vias_from slot (c ∷ more) = record { component = slot; dc = c.dc; ac = c.ac } ∷ vias_from (slot + 1)
     more
 
--- The blocks of a frame's components before a scan: in a progressive frame those held, and in a
+-- The blocks of a frame's components before a scan: in a progressive frame those kept, and in a
 -- sequential one zeros.
 unfoldable pub arrays_before : Found → Frame → Arrays
 arrays_before found frame = if is_progressive frame.process && found.scanned then found.kept
@@ -139,7 +139,7 @@ plane_by c quantization blocks =
     plane_of c.scale (values_in_block_order quantization) c.blocks_wide c.blocks_high
     (in_raster c.blocks_wide blocks)
 
--- A pass at level 0 finishes its places.
+-- A pass at level 0 finishes its indices.
 unfoldable pub finished_by : Pass → List Bool → List Bool
 finished_by p marks = if p.al == 0
     then take p.ss marks ++ (replicate (suc p.se - p.ss) true ++ drop (suc p.se) marks) else marks
@@ -149,7 +149,7 @@ abbrev pub decided : Option (List ℕ) → List ℕ → Option (List ℕ)
 decided None plane = Some plane
 decided (Some first) plane = Some first
 
--- A component of the scan whose places are all finished now: its plane is decided, by the
+-- A component of the scan whose indices are all finished now: its plane is decided, by the
 -- quantization table in force.
 unfoldable pub with_plane : Coding → List Block → List Bool → List (Option (List ℕ))
     → List (Option (List ℕ))

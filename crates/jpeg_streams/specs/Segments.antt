@@ -35,7 +35,7 @@ pub record Turn : Type 0 where
 abbrev pub onward : Found → Turn
 onward found = record { found = found; before = Elsewhere; met = None; ended = false }
 
--- tables by their places, where those that are read stand in place of those that were there
+-- tables by their destinations, where those that are read stand in place of those that were there
 unfoldable pub updated : {A : Type 0} → List (Option A) → List (Option A) → List (Option A)
 updated [] new = []
 updated (o ∷ old) [] = o ∷ old

@@ -26,7 +26,7 @@ picture_sized width height bytes = picture_part (sized_meaning width height defa
 
 -- ---- segments
 
--- a quantization table of 64 times one value, for place 0
+-- a quantization table of 64 times one value, for destination 0
 abbrev pub quantization_of : ℕ → List ℕ
 quantization_of value = 255 ∷ 219 ∷ 0 ∷ 67 ∷ 0 ∷ replicate 64 value
 
@@ -41,7 +41,7 @@ colour_frame number height width factors =
     255 ∷ (192 + number) ∷ 0 ∷ 17 ∷ 8 ∷ 0 ∷ height ∷ 0 ∷ width ∷ 3
     ∷ 82 ∷ factors ∷ 0 ∷ 71 ∷ 17 ∷ 0 ∷ 66 ∷ 17 ∷ 0 ∷ []
 
--- A Huffman table for a class and place, with one code of one bit.
+-- A Huffman table for a class and destination, with one code of one bit.
 abbrev pub one_code : ℕ → ℕ → List ℕ
 one_code index symbol = 255 ∷ 196 ∷ 0 ∷ 20 ∷ index ∷ 1 ∷ (replicate 15 0 ++ symbol ∷ [])
 

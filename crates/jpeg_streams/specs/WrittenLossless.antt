@@ -23,7 +23,7 @@ use Rattle.jpeg_streams.specs.Needed.{first_of}
 use Rattle.jpeg_streams.specs.SaidSegments.{found_after, IsUpsampled}
 use Rattle.jpeg_streams.specs.Found.{nothing_found, Found}
 
--- By its place in the frame, a component's lines of samples.
+-- By its index in the frame, a component's lines of samples.
 abbrev pub Samples : Type 0
 Samples = ℕ → List (List ℕ)
 
@@ -101,7 +101,7 @@ abbrev pub said_after_scan : Found → Found
 said_after_scan said = record said { scanned = true }
 
 -- The rest of a stream, from a marker to the end of the image: what was said before it, and the
--- components that scans have had, by their places; its bytes; and what is said at the end, where
+-- components that scans have had, by their indices; its bytes; and what is said at the end, where
 -- scans have had all components.
 pub data Writes (samples : Samples) : Found → List ℕ → List ℕ → Found → Type 0 where
   closed : (said : Found) (sent : List ℕ) (frame : Frame) (fill : ℕ)
@@ -129,7 +129,7 @@ pub record WritesSamples (samples : Samples) (bytes : List ℕ) (final : Found) 
 
 -- ---- its picture
 
--- The bytes of pixel (x, y): of each component, from a place on, the sample that its factors name.
+-- The bytes of pixel (x, y): of each component, from an index on, the sample that its factors name.
 unfoldable pub pixel_from : Frame → Samples → ℕ → ℕ → ℕ → List Component → List ℕ
 pixel_from frame samples y x index [] = []
 pixel_from frame samples y x index (c ∷ more) =

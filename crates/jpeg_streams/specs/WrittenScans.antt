@@ -22,14 +22,14 @@ use Rattle.jpeg_streams.specs.WrittenData.{WritesIntervals}
 
 -- ---- the coefficients of an image
 
--- The quantized coefficients of an image: the block of a component, by the component's place in the
+-- The quantized coefficients of an image: the block of a component, by the component's index in the
 -- frame, in a row and a column of blocks.
 abbrev pub Coefficients : Type 0
 Coefficients = ℕ → ℕ → ℕ → Block
 
 -- ---- the blocks of a scan
 
--- the place in the frame of the component in a slot of the scan
+-- the index in the frame of the component in a slot of the scan
 abbrev pub index_at : List Coding → ℕ → ℕ
 index_at codings slot = get_or (map (λ c. c.index) codings) slot 0
 
@@ -77,7 +77,7 @@ abbrev pub InForce : Bool → HuffmanTableClass → List (Option Table) → ℕ 
 InForce true class tables index table = slice_index_or tables index None ≡ Some table
 InForce false class tables index table = table ≡ no_table class
 
--- A component of a scan, by its place in the frame and the destinations of its Huffman tables: its
+-- A component of a scan, by its index in the frame and the destinations of its Huffman tables: its
 -- quantization table is defined, its DC table where the scan codes DC, and its AC table where it
 -- codes AC.
 pub record IsCoding (w : Found) (frame : Frame) (p : Pass) (tables : Tables) (index d a : ℕ)

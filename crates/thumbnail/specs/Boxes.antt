@@ -9,7 +9,8 @@ use Rattle.jpeg_programs.specs.ScaledPictures.{Decoded, decoded}
 use Rattle.thumbnail.specs.declared.boxes.Area.{Area}
 use Rattle.thumbnail.specs.declared.boxes.Reduction.{Reduction}
 
--- Where a box begins on a side: the places of a side are shared out to as many boxes as the smaller one has places.
+-- Where a box begins on a side: the pixels of a side are shared out
+-- to as many boxes as the smaller side has pixels.
 abbrev pub edge : ℕ → ℕ → ℕ → ℕ
 edge index side boxes = index * side / boxes
 

@@ -19,18 +19,18 @@ flips_x o = o == 2 || (o == 3 || (o == 7 || o == 8))
 abbrev pub flips_y : ℕ → Bool
 flips_y o = o == 3 || (o == 4 || (o == 6 || o == 7))
 
--- a place on a side, from its other end where it is flipped
+-- an index on a side, from its other end where it is flipped
 abbrev pub mirrored : Bool → ℕ → ℕ → ℕ
 mirrored flipped side index = if flipped then side - 1 - index else index
 
--- the place in the stored picture of a pixel across and down in the upright one
+-- the index in the stored picture of a pixel across and down in the upright one
 abbrev pub stored_offset : Turn → ℕ → ℕ → ℕ
 stored_offset turn across down =
     mirrored (flips_y turn.orientation) turn.height (if is_on_side turn.orientation then across else down)
     * turn.width
     + mirrored (flips_x turn.orientation) turn.width (if is_on_side turn.orientation then down else across)
 
--- where the byte at a place of the upright picture stands in the stored one
+-- where the byte at an index of the upright picture stands in the stored one
 abbrev pub stored_index : Turn → ℕ → ℕ
 stored_index turn index =
     let wide = if is_on_side turn.orientation then turn.height else turn.width in

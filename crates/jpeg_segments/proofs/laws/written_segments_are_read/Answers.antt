@@ -1,5 +1,6 @@
 use Rattle.jpeg_segments.proofs.TableSegments.{dqt-read, dht-read}
-use Rattle.jpeg_segments.proofs.OtherSegments.{dri-read, app-read}
+use Rattle.jpeg_segments.proofs.OtherSegments.{dri-read}
+use Rattle.jpeg_segments.proofs.ApplicationParts.{app-read}
 use Rattle.jpeg_segments.proofs.HeaderSegments.{sof-read, sos-read}
 use Rattle.jpeg_segments.proofs.laws.written_segments_are_read.Goals as goal
 
