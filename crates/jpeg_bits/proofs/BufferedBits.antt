@@ -5,7 +5,7 @@ use Rattle.std.proofs.Common.{length-drop, add-one, pow-suc, is_ok, subst}
 use Rattle.std.proofs.Math.Seq.{drop-nil}
 use Rattle.std.proofs.lemmas.List.{length-replicate, drop-drop, drop-replicate, drop-append-le, take-append-le}
 use Rattle.jpeg_bits.specs.Reading.{Fault, ◌>>=◌, Names, MayFail, Answers, Gives}
-use Rattle.jpeg_bits.specs.Entropy.{Ending, upcoming_by, upcoming, bits_from, has_bits, number_of, advance, IsFilled}
+use Rattle.jpeg_bits.specs.Entropy.{Ending, Text, upcoming_by, upcoming, bits_from, has_bits, number_of, advance, IsFilled}
 use Rattle.jpeg_bits.specs.Entropy.{Ahead, Takes, same_text, IsWithin, has_buffered, ending_of}
 use Rattle.jpeg_bits.specs.Entropy.{marker_at_end, marker_from}
 use Rattle.jpeg_bits.specs.Stream.{Stream}
@@ -16,6 +16,10 @@ use Rattle.jpeg_bits.specs.declared.error.Error.{Error}
 use Rattle.jpeg_bits.proofs.Loops.{bind_err, still_known}
 use Rattle.jpeg_bits.proofs.Texts.{same, none_left, second_ok, Takes-marker, Takes-no_marker}
 use Rattle.jpeg_bits.specs.declared.marker.Marker.{Marker}
+
+-- a value and the text after it, where the bits of it can be taken
+abbrev pub if_buffered : {A : Type 0} → A → Text → Result (Unit {0}) Fault → Result (A × Text) Fault
+if_buffered x t o = o >>= λ _. Ok (x, t)
 
 pub has_enough : (n : ℕ) (bits : List Bool) (e : Ending) → n ≤ length bits → has_bits n bits e ≡ Ok tt
 has_enough n bits e h = grind arith

@@ -5,9 +5,10 @@ use Rattle.std.proofs.Common.{sym, ap, ◌∙◌, arith, length-drop}
 use Rattle.std.proofs.lemmas.Bool.{le-leb, lt-leb, lt-ltb, cases_lt, false≢true}
 use Rattle.jpeg_bits.specs.Reading.{Fault, ◌>>=◌ as ◌>>r=◌}
 use Rattle.jpeg_bits.specs.Entropy.{Text, Ending, has_bits, bits_from, advance, number_of}
-use Rattle.jpeg_bits.specs.Codes.{Table, code_in, code_lengths, next_16, symbol_by, symbol_from, is_ac, short_token}
+use Rattle.jpeg_bits.specs.Codes.{Table, code_in, code_lengths, next_16, symbol_from, is_ac, short_token}
 use Rattle.jpeg_bits.specs.Codes.{after_code, short_code_by, short_code_from, short_value}
-use Rattle.jpeg_bits.specs.Codes.{fast_from, if_buffered, code_by}
+use Rattle.jpeg_bits.specs.Codes.{fast_from, code_by}
+use Rattle.jpeg_bits.proofs.BufferedBits.{if_buffered}
 use Rattle.jpeg_bits.specs.Codes.{code_from}
 use Rattle.jpeg_bits.specs.Readers.{Reads, ◌>>=◌, gives, read_on, signed_from}
 use Rattle.jpeg_bits.specs.Bands.{token_at, token_from}
@@ -99,22 +100,28 @@ module _ (table : Table) (room n symbol : ℕ) (t : Text) (some : nat_lt 0 (symb
             (signed-refused (symbol % 16) (advance n t) f p.1)
       ]
 
+abbrev symbol_in_code : Result ((ℕ × ℕ) × Text) Fault → Result (ℕ × Text) Fault
+symbol_in_code o = read_on (λ (c : ℕ × ℕ). gives c.1) o
+
 -- a code of another symbol
 at-long : (room n symbol : ℕ) (t : Text) (a : Bool) → nat_lt 0 (symbol % 16) ≡ a
     → (a ≡ true → nat_le (n + symbol % 16) 8 ≡ false) → (o : Result (Unit {0}) Fault)
     → by_code room (if_buffered (n, symbol) t o) ≡ read_on (λ (c : ℕ). slow_token room (c / 16) (c
     % 16))
-    (◌>>r=◌ {B = ℕ × Text} o (λ (u : Unit {0}). Ok (symbol, t)))
+    (symbol_in_code (if_buffered (n, symbol) t o))
 at-long room n symbol t a e long o = grind (arith, slow-same)
 
 module _ (table : Table) (room : ℕ) (ac : is_ac table.class ≡ true) (t : Text) where
-  at-slow : (c : ℕ × ℕ) → symbol_from table t ≡ symbol_by table t (Some c) → short_token table c ≡ None → (a : Bool)
+  at-slow : (c : ℕ × ℕ) → symbol_from table t ≡ symbol_in_code (code_by table t (Some c)) → short_token table c ≡ None → (a : Bool)
       → nat_lt 0 (slice_index table.symbols c.0 % 16) ≡ a
       → (a ≡ true → nat_le (c.1 + slice_index table.symbols c.0 % 16) 8 ≡ false)
       → by_code room (code_by table t (Some c)) ≡ by_look table room (short_code_by table t (Some c))
-  at-slow c hs none a ha long = grind (arith, at-long, slice_index)
+  at-slow c hs none a ha long =
+      at-long room c.1 (slice_index table.symbols c.0) (advance c.1 t) a ha long (has_bits c.1 t.bits t.ending)
+      ∙ sym (ap (read_on (λ (k : ℕ). slow_token room (k / 16) (k % 16))) hs)
+      ∙ sym (ap (λ k. by_look table room (after_code c.1 t k)) none)
 
-  at-code : (c : ℕ × ℕ) → symbol_from table t ≡ symbol_by table t (Some c) → (a b : Bool)
+  at-code : (c : ℕ × ℕ) → symbol_from table t ≡ symbol_in_code (code_by table t (Some c)) → (a b : Bool)
       → nat_lt 0 (slice_index table.symbols c.0 % 16) ≡ a → nat_le (c.1 + slice_index table.symbols c.0 % 16) 8 ≡ b
       → by_code room (code_by table t (Some c)) ≡ by_look table room (short_code_by table t (Some c))
   at-code c hs true true ha hb =
@@ -125,7 +132,7 @@ module _ (table : Table) (room : ℕ) (ac : is_ac table.class ≡ true) (t : Tex
   at-code c hs true false ha hb = at-slow c hs (rw (ac, ha, hb) refl) true ha (λ e. hb)
   at-code c hs false b ha hb = at-slow c hs (rw (ac, ha) refl) false ha (λ e. absurd (false≢true e))
 
-  at-any : (o : Option (ℕ × ℕ)) → symbol_from table t ≡ symbol_by table t o
+  at-any : (o : Option (ℕ × ℕ)) → symbol_from table t ≡ symbol_in_code (code_by table t o)
       → by_code room (code_by table t o) ≡ by_look table room (short_code_by table t o)
   at-any o hs = grind (arith, at-code, nat_lt, slice_index, nat_le)
 

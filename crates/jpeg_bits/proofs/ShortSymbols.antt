@@ -6,7 +6,8 @@ use Rattle.jpeg_bits.specs.Stream.{Stream}
 use Rattle.jpeg_bits.specs.Reading.{Fault, ◌>>=◌ as ◌>>r=◌, Names, NamesFormat}
 use Rattle.jpeg_bits.specs.Entropy.{Ahead, Takes, upcoming_by, upcoming, has_buffered, IsFilled}
 use Rattle.jpeg_bits.specs.Codes.{Table, code_in, code_lengths, next_16, symbol_from, fast_from}
-use Rattle.jpeg_bits.specs.Codes.{if_buffered, code_from}
+use Rattle.jpeg_bits.specs.Codes.{code_from}
+use Rattle.jpeg_bits.proofs.BufferedBits.{if_buffered}
 use Rattle.jpeg_bits.specs.ShortCodes.{symbol_in, short_value_of, next_bits}
 use Rattle.jpeg_bits.specs.declared.error.Error.{Error}
 use Rattle.jpeg_bits.specs.declared.ahead.DataEnd.{DataEnd}

@@ -212,8 +212,8 @@ good-table table h all = record { reads = λ i within. code-read table i h all w
 -- a symbol is that of the code read
 pub symbol-code : (table : Table) (t : Text) → symbol_from table t ≡ read_on (λ (c : ℕ × ℕ). gives c.1)
     (code_from table t)
-unfolding symbol_from code_from
-symbol-code table t = grind (arith, slice_index)
+unfolding symbol_from
+symbol-code table t = refl
 
 pub takes-symbol : (table : Table) (i : ℕ) → IsGood table → i < length (code_lengths table.counts)
     → ReadsJust (symbol_from table) (code_bits table i) (slice_index table.symbols i)

@@ -57,28 +57,18 @@ pub record IsTable (table : Table) : Type 0 where
 abbrev pub next_16 : List Bool → List Bool
 next_16 bits = take 16 (bits ++ replicate 16 false)
 
-abbrev pub symbol_by : Table → Text → Option (ℕ × ℕ) → Result (ℕ × Text) Fault
-symbol_by table t None = Err Malformed
-symbol_by table t (Some c) = has_bits c.1 t.bits t.ending >>= λ _.
-    Ok (slice_index table.symbols c.0, advance c.1 t)
-
--- the symbol whose code begins the bits
-unfoldable pub symbol_from : Table → Text → Result (ℕ × Text) Fault
-symbol_from table t = symbol_by table t (code_in (code_lengths table.counts) (next_16 t.bits))
-
--- a value and the text after it, where the bits of it can be taken
-abbrev pub if_buffered : {A : Type 0} → A → Text → Result (Unit {0}) Fault → Result (A × Text) Fault
-if_buffered x t (Ok u) = Ok (x, t)
-if_buffered x t (Err e) = Err e
-
 abbrev pub code_by : Table → Text → Option (ℕ × ℕ) → Result ((ℕ × ℕ) × Text) Fault
 code_by table t None = Err Malformed
-code_by table t (Some c) = if_buffered (c.1, slice_index table.symbols c.0) (advance c.1 t)
-    (has_bits c.1 t.bits t.ending)
+code_by table t (Some c) = has_bits c.1 t.bits t.ending >>= λ _.
+    Ok ((c.1, slice_index table.symbols c.0), advance c.1 t)
 
 -- the code that begins the bits: its length and its symbol
 unfoldable pub code_from : Table → Reads (ℕ × ℕ)
 code_from table t = code_by table t (code_in (code_lengths table.counts) (next_16 t.bits))
+
+-- its symbol alone
+unfoldable pub symbol_from : Table → Reads ℕ
+symbol_from table t = read_on (λ c. gives c.1) (code_from table t)
 
 abbrev pub is_ac : HuffmanTableClass → Bool
 is_ac classes.DC = false

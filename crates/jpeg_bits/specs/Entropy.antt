@@ -70,35 +70,10 @@ text_at (b ∷ c ∷ rest) =
     else no_bits (ending_by (filled_end (c ∷ rest))))
     else add_byte b (c ∷ rest) (text_at (c ∷ rest))
 
--- What a decoder holds: the bits read ahead, and how the data ended where that was met and not
--- taken.
-pub record Ahead : Type 0 where
-  pub bits : List Bool
-  pub met : Option DataEnd
-
--- nothing is buffered
-abbrev pub fresh : Ahead
-fresh = record { bits = []; met = None }
-
--- The text that buffered bits, a marker that was met and the bytes after them stand for. What
--- follows is given of the bits from the 57th on: only there can reading go on.
-abbrev pub upcoming_by : List Bool → Option DataEnd → List ℕ → Text
-upcoming_by bits None bytes =
-    record {
-      bits = bits ++ (text_at bytes).bits;
-      following = drop 56 (replicate (length bits) bytes ++ (text_at bytes).following);
-      ending = (text_at bytes).ending;
-    }
-upcoming_by bits (Some e) bytes =
-    record {
-      bits = bits;
-      following = drop 56 (replicate (length bits) bytes);
-      ending = ending_of e bytes;
-    }
-
--- the text that a decoder and the bytes after it stand for
-unfoldable pub upcoming : Ahead → List ℕ → Text
-upcoming a bytes = upcoming_by a.bits a.met bytes
+-- The text of an interval as it is read. Bytes are taken up to 56 bits ahead, so what follows is
+-- given of the bits from the 57th on: only there can reading go on before the end is met.
+unfoldable pub text_ahead : List ℕ → Text
+text_ahead bytes = record (text_at bytes) { following = drop 56 (text_at bytes).following }
 
 -- the text after its first n bits
 abbrev pub advance : ℕ → Text → Text
@@ -128,6 +103,37 @@ marker_by [] (Broken f) = Err f
 
 abbrev pub marker_from : Text → Outcome (Option Marker)
 marker_from t = marker_by t.following t.ending
+
+-- ---- a text that is partly buffered, which the meaning doesn't speak of
+
+-- What a decoder holds: the bits read ahead, and how the data ended where that was met and not
+-- taken.
+pub record Ahead : Type 0 where
+  pub bits : List Bool
+  pub met : Option DataEnd
+
+-- nothing is buffered
+abbrev pub fresh : Ahead
+fresh = record { bits = []; met = None }
+
+-- The text that buffered bits, a marker that was met and the bytes after them stand for.
+abbrev pub upcoming_by : List Bool → Option DataEnd → List ℕ → Text
+upcoming_by bits None bytes =
+    record {
+      bits = bits ++ (text_at bytes).bits;
+      following = drop 56 (replicate (length bits) bytes ++ (text_at bytes).following);
+      ending = (text_at bytes).ending;
+    }
+upcoming_by bits (Some e) bytes =
+    record {
+      bits = bits;
+      following = drop 56 (replicate (length bits) bytes);
+      ending = ending_of e bytes;
+    }
+
+-- the text that a decoder and the bytes after it stand for
+unfoldable pub upcoming : Ahead → List ℕ → Text
+upcoming a bytes = upcoming_by a.bits a.met bytes
 
 -- A call on a decoder and a source, from a and old to b and new, answered what reading the text
 -- that they stand for gives.

@@ -2,7 +2,7 @@
 use Rattle.std.specs.Prelude.{ℕ, zero, suc, ◌%◌, ◌==◌, Bool, true, false, List, [], ◌∷◌, ◌++◌}
 use Rattle.std.specs.Prelude.{length, take, drop, replicate, ℤ, pos, Option, Some, Ok, Err}
 use Rattle.jpeg_bits.specs.Reading.{Outcome, Malformed, ◌>>=◌}
-use Rattle.jpeg_bits.specs.Entropy.{upcoming, fresh, marker_from}
+use Rattle.jpeg_bits.specs.Entropy.{marker_from, text_ahead}
 use Rattle.jpeg_bits.specs.declared.marker.Marker.{Marker}
 use Rattle.jpeg_bits.specs.declared.marker.Marker.TheVariants as markers
 use Rattle.jpeg_bits.specs.Passes.{Pass, Via, Block, blocks_of}
@@ -14,7 +14,7 @@ predictors_at_start = replicate 4 (pos 0)
 -- The blocks of the interval that begins these bytes, and the marker after it, if it is met.
 unfoldable pub interval : Pass → List (Via × Block) → List ℕ → Outcome (List Block × Option Marker)
 interval p turns bytes = do
-  r ← blocks_of p predictors_at_start 0 turns (upcoming fresh bytes)
+  r ← blocks_of p predictors_at_start 0 turns (text_ahead bytes)
   m ← marker_from r.1
   Ok ((r.0, m.0), m.1)
 

@@ -3,7 +3,7 @@ use Rattle.std.proofs.Common.{rules, ◌≡◌, ℕ, suc, ◌%◌, ◌≤◌, Bo
 use Rattle.std.proofs.Common.{drop, refl, sym, ap, ap₂, ◌∙◌, subst, arith, Ok, Err, Option, Some}
 use Rattle.std.proofs.lemmas.Bool.{le-leb, eqb-true, false≢true}
 use Rattle.jpeg_bits.specs.Reading.{End, Fault, Malformed, Outcome, ◌>>=◌}
-use Rattle.jpeg_bits.specs.Entropy.{Broken, Text, advance, fresh, marker_from, text_at, upcoming}
+use Rattle.jpeg_bits.specs.Entropy.{Broken, Text, advance, fresh, marker_from, text_ahead, text_at, upcoming}
 use Rattle.jpeg_bits.specs.Ends.{end_after}
 use Rattle.jpeg_bits.specs.Intervals.{after_restart, blocks_before, interval, intervals, is_restart, predictors_at_start}
 use Rattle.jpeg_bits.specs.Passes.{Block, Pass, Via}
@@ -20,7 +20,7 @@ use Rattle.jpeg_evidence.proofs.TakenScans.{another-interval, last-interval}
 -- An interval that fits is read, up to its marker.
 pub interval-read : (p : Pass) (turns : List (Via × Block)) (bytes rest : List ℕ) (m : Marker)
     → (w : IntervalFits p turns bytes m rest) → interval p turns bytes ≡ Ok ((w.blocks, Some m), rest)
-unfolding interval upcoming end_after
+unfolding interval text_ahead upcoming end_after
 interval-read p turns bytes rest m w =
     let t = text_at bytes in
     let r = (blocks-takes p predictors_at_start 0 turns).taken t.bits [] (Broken End) w.blocks (alone w.left)

@@ -15,7 +15,8 @@ use Rattle.jpeg_bits.specs.Reading as outcomes
 use Rattle.jpeg_bits.specs.Entropy.{bits_from, number_of, Text, advance}
 use Rattle.jpeg_bits.specs.Readers.{Reads, gives, ◌>>=◌}
 use Rattle.jpeg_bits.specs.Codes.{Table, IsTable, code_from, code_in, code_value, first_from, begins, code_lengths}
-use Rattle.jpeg_bits.specs.Codes.{next_16, code_by, if_buffered, symbol_from}
+use Rattle.jpeg_bits.specs.Codes.{next_16, code_by, symbol_from}
+use Rattle.jpeg_bits.proofs.BufferedBits.{if_buffered}
 use Rattle.jpeg_bits.specs.Reading.{Malformed}
 use Rattle.jpeg_bits.specs.Written.{bit, low_bits, IsCoded}
 use Rattle.jpeg_bits.proofs.Tables.{rising-at, all-rising, symbol-code}

@@ -4,7 +4,7 @@ use Rattle.std.proofs.Common.{◌≡◌, inl, inr, ℕ, suc, [], ◌∷◌, ◌+
 use Rattle.std.specs.List.{flat_map}
 use Rattle.jpeg_bits.specs.Reading as reading
 use Rattle.jpeg_bits.specs.Reading.{Outcome, Fault, Malformed}
-use Rattle.jpeg_bits.specs.Entropy.{Text, upcoming, fresh}
+use Rattle.jpeg_bits.specs.Entropy.{Text, text_ahead, upcoming, fresh}
 use Rattle.jpeg_bits.specs.Readers.{read_on, gives}
 use Rattle.jpeg_bits.specs.declared.marker.Marker.{Marker}
 use Rattle.jpeg_bits.specs.Passes.{Pass, Via, Block, block_from, blocks_of}
@@ -123,7 +123,7 @@ put_after spots arrays (Err e) = Err e
 pub interval-in-turn : (p : Pass) (vias : List Via) (spots : List Spot) (arrays : Arrays) (bytes : List ℕ)
     → AreApart spots → ((q : Spot) → IsIn q spots → IsInside arrays q)
     → interval_from p vias spots arrays bytes ≡ put_after spots arrays (interval p (turns_of vias spots arrays) bytes)
-unfolding interval_from interval
+unfolding interval_from interval upcoming text_ahead
 interval-in-turn p vias spots arrays bytes apart inside =
     grind (arith, in-turn p vias spots arrays predictors_at_start 0 (upcoming fresh bytes) apart inside)
 

@@ -3,7 +3,7 @@ use Rattle.std.proofs.Common.{rules, ◌<◌, ℕ, zero, suc, List, [], ◌∷�
 use Rattle.std.specs.Prelude.{nat_le}
 use Rattle.jpeg_bits.specs.Reading.{Outcome, Malformed}
 use Rattle.jpeg_bits.specs.Codes.{Table, symbol_from}
-use Rattle.jpeg_bits.specs.Entropy.{upcoming, fresh, marker_from}
+use Rattle.jpeg_bits.specs.Entropy.{marker_from, text_ahead}
 use Rattle.jpeg_bits.specs.Readers.{refused}
 use Rattle.jpeg_bits.specs.declared.marker.Marker.{Marker}
 use Rattle.jpeg_lossless.specs.Differences.{sample_difference, difference_of, differences}
@@ -11,7 +11,7 @@ use Rattle.jpeg_lossless.specs.Differences.{mcu_tables, difference_rows, row_tab
 use Rattle.jpeg_lossless.specs.Scans.{Way, line_interval, line_intervals, is_of_rows}
 use Rattle.jpeg_lossless.specs.Scans.{rows_of_interval, scan_at}
 use Rattle.jpeg_streams.proofs.Shorter.{below_steps, LeavesBelow, below-ok, below-err, below-bind}
-use Rattle.jpeg_streams.proofs.ShorterTexts.{marker_from-below, takes-below, texts-below, upcoming-below}
+use Rattle.jpeg_streams.proofs.ShorterTexts.{marker_from-below, takes-below, texts-below, ahead-below}
 use Rattle.jpeg_streams.proofs.TakenTexts.{TakesBits, bind-takes, elim-takes, gives-takes, refused-takes}
 use Rattle.jpeg_streams.proofs.TakenTexts.{signed-takes, symbol-takes}
 
@@ -46,9 +46,9 @@ interval-below : (limit : ℕ) (w : Way) (n : ℕ) (bytes : List ℕ) → length
 unfolding line_interval
 interval-below limit w n bytes h =
     let tables = row_tables w.wide (mcu_tables w.parts) in
-    texts-below limit (difference_rows tables n (upcoming fresh bytes)) _
-    (takes-below limit (difference_rows tables n) (upcoming fresh bytes) (rows-take tables n)
-    (upcoming-below limit bytes h)) (λ r a.
+    texts-below limit (difference_rows tables n (text_ahead bytes)) _
+    (takes-below limit (difference_rows tables n) (text_ahead bytes) (rows-take tables n)
+    (ahead-below limit bytes h)) (λ r a.
     below-bind limit limit (marker_from r.1) _ (marker_from-below limit r.1 a) (λ m q. below-ok limit _ m.1 q))
 
 intervals-below : (limit turns : ℕ) (w : Way) (per k left : ℕ) (bytes : List ℕ) → length bytes < limit

@@ -1,13 +1,13 @@
 -- What a scan leaves.
 use Rattle.std.proofs.Common.{◌<◌, ℕ, suc, List, [], ◌∷◌}
 use Rattle.std.proofs.Common.{length}
-use Rattle.jpeg_bits.specs.Entropy.{upcoming, fresh, marker_from}
+use Rattle.jpeg_bits.specs.Entropy.{marker_from, text_ahead}
 use Rattle.jpeg_bits.specs.Passes.{Pass, Via, Block, blocks_of}
 use Rattle.jpeg_bits.specs.Intervals.{interval, intervals, predictors_at_start}
 use Rattle.jpeg_streams.specs.Order.{Spot}
 use Rattle.jpeg_streams.specs.Scans.{Arrays, arrays_at}
 use Rattle.jpeg_streams.proofs.Shorter.{below_steps, LeavesBelow, below-ok, below-bind}
-use Rattle.jpeg_streams.proofs.ShorterTexts.{marker_from-below, takes-below, texts-below, upcoming-below}
+use Rattle.jpeg_streams.proofs.ShorterTexts.{marker_from-below, takes-below, texts-below, ahead-below}
 use Rattle.jpeg_streams.proofs.TakenTexts.{blocks-takes}
 
 -- ---- intervals
@@ -16,9 +16,9 @@ interval-below : (limit : ℕ) (p : Pass) (turns : List (Via × Block)) (bytes :
     → LeavesBelow limit (interval p turns bytes)
 unfolding interval
 interval-below limit p turns bytes h =
-    texts-below limit (blocks_of p predictors_at_start 0 turns (upcoming fresh bytes)) _
-    (takes-below limit (blocks_of p predictors_at_start 0 turns) (upcoming fresh bytes)
-    (blocks-takes p predictors_at_start 0 turns) (upcoming-below limit bytes h))
+    texts-below limit (blocks_of p predictors_at_start 0 turns (text_ahead bytes)) _
+    (takes-below limit (blocks_of p predictors_at_start 0 turns) (text_ahead bytes)
+    (blocks-takes p predictors_at_start 0 turns) (ahead-below limit bytes h))
     (λ r a.
     below-bind limit limit (marker_from r.1) _ (marker_from-below limit r.1 a) (λ m q. below-ok limit _ m.1 q))
 

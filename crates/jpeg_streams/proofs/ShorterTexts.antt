@@ -5,7 +5,7 @@ use Rattle.std.specs.Prelude.{◌==◌, if◌then◌else◌}
 use Rattle.jpeg_bits.specs.Reading as reading
 use Rattle.jpeg_bits.specs.Reading.{Outcome, Fault}
 use Rattle.jpeg_bits.specs.Entropy.{Text, add_byte, ending_by, filled_end, marker_from, Ending, Found}
-use Rattle.jpeg_bits.specs.Entropy.{Broken, no_bits, text_at, upcoming, fresh, advance}
+use Rattle.jpeg_bits.specs.Entropy.{Broken, no_bits, text_ahead, text_at, advance}
 use Rattle.jpeg_bits.specs.Readers.{Reads}
 use Rattle.jpeg_bits.specs.declared.ahead.DataEnd.{DataEnd}
 use Rattle.jpeg_streams.proofs.Shorter.{LeavesBelow, below-ok, below-err}
@@ -68,9 +68,9 @@ text-below limit (b ∷ c ∷ rest) h = cond-below limit (b == 255) _ _
     (add-below limit b (c ∷ rest) (text_at (c ∷ rest)) (omega arith) (text-below limit (c ∷ rest) (omega arith)))
 text-below limit bytes h = search (rules, no_bits-below, cond-below, add-below)
 
-pub upcoming-below : (limit : ℕ) (bytes : List ℕ) → length bytes < limit → IsBelow limit (upcoming fresh bytes)
-unfolding upcoming
-upcoming-below limit bytes h =
+pub ahead-below : (limit : ℕ) (bytes : List ℕ) → length bytes < limit → IsBelow limit (text_ahead bytes)
+unfolding text_ahead
+ahead-below limit bytes h =
     let t = text-below limit bytes h in
     search (rules, drop-below)
 

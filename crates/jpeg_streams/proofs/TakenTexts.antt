@@ -7,8 +7,7 @@ use Rattle.jpeg_bits.specs.Reading.{Fault, End, Malformed}
 use Rattle.jpeg_bits.specs.Reading as outcomes
 use Rattle.jpeg_bits.specs.Entropy.{advance, bits_from, has_bits, number_of, Broken, Ending, Found, Text}
 use Rattle.jpeg_bits.specs.Readers.{Reads, read_on, gives, refused, signed_from, text, ◌>>=◌}
-use Rattle.jpeg_bits.specs.Codes.{Table, code_by, code_from, code_in, code_lengths, if_buffered}
-use Rattle.jpeg_bits.specs.Codes.{next_16, symbol_by}
+use Rattle.jpeg_bits.specs.Codes.{Table, code_by, code_from, code_in, code_lengths, next_16}
 use Rattle.jpeg_bits.specs.Codes.{symbol_from}
 use Rattle.std.specs.Prelude.{◌==◌, nat_lt}
 use Rattle.std.proofs.lemmas.Grind.{common_steps}
@@ -143,12 +142,6 @@ taken-n {A} n x y bits following e left k = go (has_bits n bits e) refl k
         }
     go (Err f) h k = absurd (no-error f (y, left) k)
 
--- the same by `if_buffered`
-kept-as : {A : Type 0} (n : ℕ) (x : A) (t : Text) (o : Result (Unit {0}) Fault)
-    → if_buffered x (advance n t) o ≡ takes_bits n x t o
-kept-as n x t (Ok u) = refl
-kept-as n x t (Err f) = refl
-
 pub bits-takes : (n : ℕ) → TakesBits (bits_from n)
 unfolding bits_from
 bits-takes n = record {
@@ -157,27 +150,6 @@ bits-takes n = record {
       in
       record { n = n; left_is = r.left_is; anywhere = r.anywhere };
 }
-
-pub symbol-takes : (table : Table) → TakesBits (symbol_from table)
-unfolding symbol_from
-symbol-takes table = record {
-  taken = λ bits following e v left k. go bits following e v left (code_in (code_lengths
-      table.counts) (next_16 bits)) refl k;
-}
-  where
-    go : (bits : List Bool) (following : List (List ℕ)) (e : Ending) (v : ℕ) (left : Text) (o :
-        Option (ℕ × ℕ))
-        → code_in (code_lengths table.counts) (next_16 bits) ≡ o → symbol_by table (text bits
-        following e) o ≡ Ok (v, left)
-        → TakesSo (symbol_from table) bits following e v left
-    go bits following e v left None h k = absurd (no-error Malformed (v, left) k)
-    go bits following e v left (Some c) h k =
-        let r = taken-n c.1 (slice_index table.symbols c.0) v bits following e left k in
-        record {
-          n = c.1;
-          left_is = r.left_is;
-          anywhere = λ b ps f. ap (symbol_by table (text bits ps f)) h ∙ r.anywhere b ps f;
-        }
 
 code-takes : (table : Table) → TakesBits (code_from table)
 unfolding code_from
@@ -194,14 +166,16 @@ code-takes table = record {
     go bits following e v left None h k = absurd (no-error Malformed (v, left) k)
     go bits following e v left (Some c) h k =
         let x : ℕ × ℕ = (c.1, slice_index table.symbols c.0) in
-        let r = taken-n c.1 x v bits following e left
-        (sym (kept-as c.1 x (text bits following e) (has_bits c.1 bits e)) ∙ k) in
+        let r = taken-n c.1 x v bits following e left k in
         record {
           n = c.1;
           left_is = r.left_is;
-          anywhere = λ b ps f. ap (code_by table (text bits ps f)) h
-              ∙ kept-as c.1 x (text bits ps f) (has_bits c.1 bits f) ∙ r.anywhere b ps f;
+          anywhere = λ b ps f. ap (code_by table (text bits ps f)) h ∙ r.anywhere b ps f;
         }
+
+pub symbol-takes : (table : Table) → TakesBits (symbol_from table)
+unfolding symbol_from
+symbol-takes table = search (rules, bind-takes, code-takes, gives-takes)
 
 pub signed-takes : (n : ℕ) → TakesBits (signed_from n)
 unfolding signed_from

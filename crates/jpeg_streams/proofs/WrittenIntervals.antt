@@ -18,7 +18,7 @@ use Rattle.jpeg_bits.specs.Written.{marker}
 use Rattle.jpeg_streams.specs.WrittenData.WritesIntervals.{last, another}
 use Rattle.jpeg_streams.proofs.SentBlocks.{after_pass, reads_of, numbers_of}
 use Rattle.jpeg_lossless.specs.Written.{IsMarker}
-use Rattle.jpeg_lossless.proofs.ReadBack.{IsText, marker-append, rst-marker, stuffed-text, end-met, upcoming-fresh}
+use Rattle.jpeg_lossless.proofs.ReadBack.{IsText, marker-append, rst-marker, stuffed-text, end-met}
 use Rattle.jpeg_streams.proofs.WrittenBlocks.{Predicts, IsReady, takes-blocks}
 use Rattle.jpeg_streams.proofs.CutLevels.{all-take, all-drop}
 use Rattle.std.proofs.lemmas.List.{take-map, drop-map, map-append}
@@ -28,11 +28,6 @@ use Rattle.std.proofs.lemmas.List.{take-map, drop-map, map-append}
 pub start-predicts : Predicts predictors_at_start
 start-predicts = search rules
 
--- the text of an interval's bytes, where nothing is held
-abbrev pub whole_text : List ℕ → Text
-whole_text bytes = text (text_at bytes).bits (drop 56 (text_at bytes).following) (text_at
-    bytes).ending
-
 -- what is read of a text, and the marker after it
 abbrev pub and_marker : Result (List Block × Text) Fault → Outcome (List Block × Option Marker)
 and_marker o = o >>= λ r. (marker_from r.1 >>= λ m. Ok ((r.0, m.0), m.1))
@@ -41,7 +36,7 @@ in-text : (p : Pass) (turns : List (Via × Block)) (bytes rest : List ℕ) (m : 
     (blocks : List Block) → ReadsJust (blocks_of p predictors_at_start 0 turns) bits blocks
     → IsText (text_at bytes) (bits ++ filling) (Found m rest) → length filling ≤ 56
     → interval p turns bytes ≡ Ok ((blocks, Some m), rest)
-unfolding interval
+unfolding interval text_ahead
 in-text p turns bytes rest m bits filling blocks read is h =
     let following = drop 56 (text_at bytes).following in
     let read_all = read.read filling following (Found m rest) in
@@ -54,10 +49,7 @@ in-text p turns bytes rest m bits filling blocks read is h =
       length-append bits filling,
       ap length is.bits_are,
     ) in
-    cc (
-      (ap (λ t. and_marker (blocks_of p predictors_at_start 0 turns t)) (upcoming-fresh bytes)),
-      end-met (drop (length bits) following) m rest left,
-    )
+    cc (end-met (drop (length bits) following) m rest left)
 
 -- An interval that was written is read as the blocks after the pass, up to the marker.
 pub reads-interval : (p : Pass) (turns : List (Via × Block × Block)) (bytes : List ℕ) (fill code : ℕ) (m : Marker)
