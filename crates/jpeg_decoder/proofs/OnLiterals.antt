@@ -3,7 +3,7 @@ use Rattle.std.specs.Prelude.{⊤}
 use Rattle.jpeg_bits.specs.Bands.{difference, first_ac, first_dc, token_at, token_from}
 use Rattle.jpeg_bits.specs.Codes.{begins, code_from, code_in, code_value, codes_exist, first_from}
 use Rattle.jpeg_bits.specs.Codes.{lengths_from, symbol_from}
-use Rattle.jpeg_bits.specs.Entropy.{bits_from, extended, filled_end, text_at, upcoming}
+use Rattle.jpeg_bits.specs.Entropy.{bits_from, extended, filled_end, text_ahead, text_at}
 use Rattle.jpeg_bits.specs.Intervals.{groups, interval, intervals}
 use Rattle.jpeg_bits.specs.Marker.{marker_of, next_marker}
 use Rattle.jpeg_bits.specs.Passes.{band_part, block_from, blocks_of, dc_part, zero_block}
@@ -64,8 +64,8 @@ unfolding accepted adobe_at after_restarts after_scan all_spots app_at applicati
     restart_segment rule_of sample sample_at sample_of_1 sample_of_2 sample_of_4 scale_for scan_arrays scan_of
     scan_segment segment_at segments_at segments_within selector_at selectors_from signed_from size_at sized_meaning
     skip_at skipped_segment sof_at sos_at sources_by spots_of start_at symbol_from tables.codes_at tables.dht_at
-    tables.defined_codes_at tables.symbols_at tables.tables_from destinations_at tables_of text_at
+    tables.defined_codes_at tables.symbols_at tables.tables_from destinations_at tables_of text_ahead text_at
     through_zero times
-    token_at token_from transform_of transformed turn_at turns_of upcoming updated upsampled values_in_block_order
+    token_at token_from transform_of transformed turn_at turns_of updated upsampled values_in_block_order
     vias_from with_arrays with_blocks with_last with_plane zero_arrays zero_block zigzag_indices
 jpeg_on_literals = tt
