@@ -7,7 +7,7 @@ use Rattle.std.proofs.lemmas.Bool.{eq-eqb}
 use Rattle.std.specs.List.{AllByRecursion}
 use lib.ListN.{length-map}
 use Rattle.jpeg_bits.specs.Reading.{Outcome, Fault, ◌>>=◌}
-use Rattle.jpeg_bits.specs.Entropy.{Text, Found, text_at, marker_from}
+use Rattle.jpeg_bits.specs.Entropy.{Text, Found, text_ahead, text_at, marker_from}
 use Rattle.jpeg_bits.specs.declared.marker.Marker.{Marker}
 use Rattle.jpeg_bits.specs.declared.marker.Marker.TheVariants as markers
 use Rattle.jpeg_bits.specs.Readers.{text, ReadsJust}
