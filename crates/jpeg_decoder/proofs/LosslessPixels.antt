@@ -42,7 +42,7 @@ sent-sized samples frame said sent bytes final (scan said' final' sent' f fill h
     (all-append (SizedAt samples frame.components) (indices_of h'.choices) sent
     (subst (λ (g : Frame). AllByRecursion (SizedAt samples g.components) (indices_of h'.choices))
     same
-    (scan-sized said f h' samples data_bytes (is.shaped f framed) data_of)) h)
+    (scan-sized said f h' samples data_bytes (is.shaped f framed) is.tables data_of)) h)
 
 -- the frame at the end is one that was said
 pub final-shaped : (samples : Samples) (frame : Frame) (said : Found) (sent bytes : List ℕ) (final : Found)

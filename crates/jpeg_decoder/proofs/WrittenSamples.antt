@@ -1,19 +1,20 @@
 -- A lossless scan that is written is read as its samples.
 use Rattle.std.proofs.Common.{rules}
-use Rattle.std.proofs.Common.{◌≡◌, ℕ, zero, suc, ◌+◌, ◌-◌, ◌*◌, ◌<◌, ◌≤◌, Bool, true, false}
-use Rattle.std.proofs.Common.{List, [], ◌∷◌, ◌++◌, drop, map, length, replicate, take, Option, Some}
-use Rattle.std.proofs.Common.{Ok, refl, ap, ap₂, ◌∙◌, subst, arith, length-append, suc-mul}
+use Rattle.std.proofs.Common.{◌≡◌, ℕ, zero, suc, ◌*◌, ◌<◌, ◌≤◌, Bool, true, false}
+use Rattle.std.proofs.Common.{List, [], ◌∷◌, ◌++◌, drop, map, length, replicate, take, Option, Some, None}
+use Rattle.std.proofs.Common.{Ok, refl, ap, ◌∙◌, subst, arith}
 use Rattle.std.specs.List.{AllByRecursion, concat}
+use Rattle.std.specs.Prelude.{slice_index_or}
 use Rattle.std.proofs.lemmas.Bool.{le-leb, eq-eqb, or_right}
-use Rattle.std.proofs.lemmas.List.{length-map, length-take-le}
+use Rattle.std.proofs.lemmas.List.{length-map, length-take-le, map-append}
 use Rattle.std.proofs.lemmas.Nat.{div-mul-add, mod-mul-add}
-use Rattle.std.proofs.Math.Nat.{add-mul}
 use Rattle.jpeg_bits.specs.Codes.{IsTable, Table}
 use Rattle.jpeg_bits.specs.Marker.{marker_of}
 use Rattle.jpeg_bits.specs.Reading.{Outcome}
 use Rattle.jpeg_bits.specs.declared.marker.Marker.{Marker}
+use Rattle.jpeg_bits.specs.declared.marker.Marker.TheVariants.{EOI}
 use Rattle.jpeg_bits.specs.declared.scan.Predictor.{Predictor}
-use Rattle.jpeg_segments.specs.Frame.{Component, Frame, ceiling}
+use Rattle.jpeg_segments.specs.Frame.{Component, Frame}
 use Rattle.jpeg_segments.specs.ScanHeader.{predictor_by, predictor_of, scan_of}
 use Rattle.jpeg_segments.specs.ScanHeaders.{Choice, IsScan, ScanHeader, scan_payload, scan_written}
 use Rattle.jpeg_segments.specs.ScanHeaders.{selector_for}
@@ -22,28 +23,28 @@ use Rattle.jpeg_segments.specs.declared.parser.CodingProcess.{CodingProcess}
 use Rattle.jpeg_segments.specs.declared.parser.CodingProcess.TheVariants.{Lossless}
 use Rattle.jpeg_segments.proofs.Fields.{nibbles-low}
 use Rattle.jpeg_segments.proofs.HeaderSegments.{sos-read}
-use Rattle.jpeg_lossless.specs.Differences.{Part, lines_in, mcu_tables, strands, row_tables}
-use Rattle.jpeg_lossless.specs.Pictures.{most_across, most_down}
+use Rattle.jpeg_lossless.specs.Codings.{IsCovered}
+use Rattle.jpeg_lossless.specs.Differences.{Part, mcu_tables, row_tables}
 use Rattle.jpeg_lossless.specs.Positions.{AreEven}
-use Rattle.jpeg_lossless.specs.Scans.{Way, all_above, is_of_rows, is_one_interval, planes_of}
+use Rattle.jpeg_lossless.specs.SampleDifferences.{AreLines, AreSamples}
+use Rattle.jpeg_lossless.specs.Scans.{is_of_rows, is_one_interval, planes_of}
 use Rattle.jpeg_lossless.specs.Scans.{rows_of_interval, scan_at, shifted}
-use Rattle.jpeg_lossless.specs.Written.{AreGrids, AreLines, AreSamples, AreTables, HaveDifferences}
-use Rattle.jpeg_lossless.specs.Written.{WritesIntervals}
+use Rattle.jpeg_lossless.specs.Written.{AreTables}
 use Rattle.jpeg_bits.specs.Written.{marker}
-use Rattle.jpeg_lossless.specs.Written.WritesIntervals.{last, another}
-use Rattle.jpeg_lossless.proofs.ReadBack.{reads-scan}
+use Rattle.jpeg_lossless.proofs.ReadBack.{reads-scan, written-lines}
+use Rattle.jpeg_lossless.proofs.Sizes.{covered-within}
+use Rattle.jpeg_lossless.proofs.WholeScans.{HaveLines}
 use Rattle.jpeg_streams.specs.LosslessScans.{LosslessCoding, lossless_coding, lossless_codings, mcus_across, mcus_down}
 use Rattle.jpeg_streams.specs.LosslessScans.{part_of, parts_of, way_of, with_samples}
-use Rattle.jpeg_streams.specs.Needed.{first_of}
+use Rattle.jpeg_streams.specs.Needed.{first_of, needed}
 use Rattle.jpeg_streams.specs.ScanSegments.{lossless_scan, scan_before, scan_segment}
 use Rattle.jpeg_streams.specs.Segments.{Turn}
 use Rattle.jpeg_streams.specs.Found.{Found}
-use Rattle.jpeg_streams.specs.WrittenLossless.{AreCodings, HoldSamples, IsInterval, Samples}
+use Rattle.jpeg_streams.specs.WrittenLossless.{HoldSamples, IsInterval, Samples}
 use Rattle.jpeg_streams.specs.WrittenLossless.{WritesSamplesScan, said_after_scan}
-use Rattle.jpeg_streams.proofs.ReadTurns.{IsEnd, then-ok}
-use Rattle.jpeg_streams.proofs.EncodedSamples.{rows-count}
+use Rattle.jpeg_streams.proofs.ReadTurns.{IsEnd, bind-ok, needed-some, ok-same, then-ok}
 use Rattle.jpeg_streams.proofs.LosslessFrames.{IsShaped}
-use Rattle.jpeg_streams.proofs.LosslessSizes.{IsMade, across-some, all-at, down-some, made-covered}
+use Rattle.jpeg_streams.proofs.LosslessSizes.{IsMade, across-some, all-at, all-covered, down-some}
 use Rattle.jpeg_streams.proofs.SaidTables.{HasTables, table-there}
 use Rattle.std.proofs.lemmas.Grind.{common_steps}
 
@@ -68,231 +69,80 @@ by-rows wide high n w h b e = grind (arith, common_steps, by-one, mod-mul-add, d
 of-rows : (wide high restart : ℕ) → 0 < wide → 0 < high → IsInterval wide high restart → IsOfRows wide high restart
 of-rows wide high restart w h h0 = grind (arith, common_steps, by-one, by-rows, or_right, le-leb)
 
--- ---- how many lines there are
+-- ---- the lines of a component
 
-strands-count : (down n size from across : ℕ) (row : List ℕ) → length (strands down n size from across row) ≡ down
-unfolding strands
-strands-count zero n size from across row = refl
-strands-count (suc down) n size from across row = ap suc (strands-count down n size (from + across) across row)
-
-lines-count : (p : Part) (n size from : ℕ) (rows : List (List ℕ))
-    → length (lines_in p n size from rows) ≡ length rows * p.down
-unfolding lines_in
-lines-count p n size from [] = omega arith
-lines-count p n size from (row ∷ rows) =
-    grind (arith, common_steps, length-append, strands-count, suc-mul, lines-count p n size from rows)
-
--- each component has the lines of this many rows of MCUs
-abbrev pub AreCounted : ℕ → List Part → List (List (List ℕ)) → Type 0
-AreCounted n [] [] = Unit {0}
-AreCounted n (p ∷ parts) (l ∷ lines) = (length l ≡ n * p.down) × AreCounted n parts lines
-AreCounted n _ _ = ⊥
-
-placed-counted : (w : Way) (n from : ℕ) (parts : List Part) (lines : List (List (List ℕ))) (rows : List (List ℕ))
-    → length rows ≡ n → HaveDifferences w from parts lines rows → AreCounted n parts lines
-unfolding HaveDifferences
-placed-counted w n from [] [] rows e h = tt
-placed-counted w n from (p ∷ parts) (l ∷ lines) rows e h =
-    grind (
-      arith,
-      common_steps,
-      rows-count,
-      lines-count,
-      placed-counted w n (from + p.down * p.across) parts lines rows e h.1,
-    )
-placed-counted w n from _ _ rows e h = absurd h
-
-above-counted : (a b : ℕ) (parts : List Part) (front others : List (List (List ℕ))) → AreCounted a parts front
-    → AreCounted b parts others → AreCounted (a + b) parts (all_above front others)
-unfolding all_above
-above-counted a b [] [] [] h g = tt
-above-counted a b (p ∷ parts) (l ∷ front) (m ∷ others) h g =
-    grind (arith, common_steps, length-append, add-mul, above-counted a b parts front others h.1 g.1)
-above-counted a b [] (l ∷ front) others h g = absurd h
-above-counted a b (p ∷ parts) [] others h g = absurd h
-above-counted a b _ _ _ h g = absurd g
-
-intervals-counted : (w : Way) (per k left : ℕ) (lines : List (List (List ℕ))) (bytes : List ℕ)
-    → WritesIntervals w per k left lines bytes → AreCounted left w.parts lines
-intervals-counted w per k left lines bytes (last k' left' lines' bytes' le s) = search (rules, arith, placed-counted)
-intervals-counted w per k left lines bytes (another k' fill' left' front others first after lt s more) =
-    subst (λ (n : ℕ). AreCounted n w.parts (all_above front others)) (let e : per + (left - per) ≡ left = omega arith in
-    e)
-    (above-counted per (left - per) w.parts front others (placed-counted w per 0 w.parts front s.rows s.count s.placed)
-    (intervals-counted w per (suc k) (left - per) others after more))
-
--- ---- how long they are
-
-lines-above : (n : ℕ) (xs ys : List (List ℕ)) → AreLines n xs → AreLines n ys → AreLines n (xs ++ ys)
-lines-above n [] ys h g = g
-lines-above n (x ∷ xs) ys h g = (h.0, lines-above n xs ys h.1 g)
-
-grids-above : (w : Way) (parts : List Part) (front others : List (List (List ℕ))) → AreGrids w parts front
-    → AreGrids w parts others → AreGrids w parts (all_above front others)
-unfolding all_above
-grids-above w [] [] others h g = g
-grids-above w (p ∷ parts) (l ∷ front) [] h g = absurd g
-grids-above w (p ∷ parts) (l ∷ front) (m ∷ others) h g =
-    (lines-above (w.wide * p.across) l m h.0 g.0, grids-above w parts front others h.1 g.1)
-grids-above w _ _ others h g = absurd h
-
-intervals-grids : (w : Way) (per k left : ℕ) (lines : List (List (List ℕ))) (bytes : List ℕ)
-    → WritesIntervals w per k left lines bytes → AreGrids w w.parts lines
-intervals-grids w per k left lines bytes (last k' left' lines' bytes' le s) = s.sized
-intervals-grids w per k left lines bytes (another k' fill' left' front others first after lt s more) =
-    grids-above w w.parts front others s.sized (intervals-grids w per (suc k) (left - per) others after more)
-
--- ---- own lines
-
-own-even : (wide n high : ℕ) (lines : List (List ℕ)) → AreLines n lines → wide ≤ n
+own-even : (wide high : ℕ) (lines : List (List ℕ)) → AreLines wide (map (take wide) lines)
     → AreEven wide (map (take wide) (take high lines))
 unfolding AreEven
-own-even wide n (suc high) (l ∷ lines) h le = search (rules, arith, length-take-le, own-even wide n high lines h.1 le)
-own-even wide n _ _ h le = tt
+own-even wide (suc high) (l ∷ lines) h = (h.0.0, own-even wide high lines h.1)
+own-even wide _ _ h = tt
+
+unshifted : (xs : List ℕ) → AreSamples xs → map (shifted 0) xs ≡ xs
+unshifted [] h = refl
+unshifted (x ∷ xs) h = grind (arith, unshifted xs h.1)
+
+own-unshifted : (wide high : ℕ) (lines : List (List ℕ)) → AreLines wide (map (take wide) lines)
+    → map (shifted 0) (concat (map (take wide) (take high lines))) ≡ concat (map (take wide) (take high lines))
+own-unshifted wide (suc high) (l ∷ lines) h =
+    grind (arith, common_steps, map-append, unshifted, own-unshifted wide high lines h.1)
+own-unshifted wide _ _ h = search rules
 
 -- the samples of a component have its size
 pub record HasSize (lines : List (List ℕ)) (c : Component) : Type 0 where
   pub count : length lines ≡ c.height
   pub even : AreEven c.width lines
 
--- the MCUs of a scan cover a component
-record Covers (wide high : ℕ) (c : Component) (p : Part) : Type 0 where
-  width : p.width ≡ c.width
-  height : p.height ≡ c.height
-  across : c.width ≤ wide * p.across
-  down : c.height ≤ high * p.down
+-- ---- what a scan names
 
-abbrev AllCover : ℕ → ℕ → List LosslessCoding → List Part → Type 0
-AllCover wide high [] [] = Unit {0}
-AllCover wide high (k ∷ codings) (p ∷ parts) = Covers wide high k.component p × AllCover wide high codings parts
-AllCover wide high _ _ = ⊥
-
-all-sized : (w : Way) (high : ℕ) (samples : Samples) (codings : List LosslessCoding) (parts : List Part)
-    (lines : List (List (List ℕ))) → AllCover w.wide high codings parts → AreGrids w parts lines
-    → AreCounted high parts lines → HoldSamples samples codings parts lines
-    → AllByRecursion (λ k. HasSize (samples k.index) k.component) codings
-unfolding HoldSamples
-all-sized w high samples [] parts lines cover grid count kept = tt
-all-sized w high samples (k ∷ codings) [] lines cover grid count kept = absurd cover
-all-sized w high samples (k ∷ codings) (p ∷ parts) [] cover grid count kept = absurd count
-all-sized w high samples (k ∷ codings) (p ∷ parts) (l ∷ lines) cover grid count kept =
-    grind (
-      arith,
-      common_steps,
-      length-map,
-      length-take-le,
-      own-even,
-      all-sized w high samples codings parts lines cover.1 grid.1 count.1 kept.1,
-    )
-
-all-among : (frame : Frame) (codings : List LosslessCoding) → AllByRecursion (λ k. IsMade frame k.component) codings
-    → AllCover (ceiling frame.width (most_across frame)) (ceiling frame.height (most_down frame)) codings
-    (map (λ k. part_of k.component.factors.horizontal k.component.factors.vertical k) codings)
-all-among frame [] h = tt
-all-among frame (k ∷ codings) h = search (rules, arith, made-covered, all-among frame codings h.1)
-
-all-cover : (frame : Frame) (codings : List LosslessCoding) → AllByRecursion (λ k. IsMade frame k.component) codings
-    → AllCover (mcus_across frame codings) (mcus_down frame codings) codings (parts_of codings)
-unfolding mcus_across mcus_down parts_of
-all-cover frame [] h = tt
-all-cover frame (k ∷ []) h = grind (arith, common_steps)
-all-cover frame (k ∷ j ∷ codings) h = all-among frame (k ∷ j ∷ codings) h
-
--- ---- the planes of a scan are its samples
-
--- the components at these places
+-- the indices of the components
 abbrev pub indices_of : List Choice → List ℕ
 indices_of choices = map (λ c. c.component) choices
 
-shifted-none : (x : ℕ) → x < 65536 → shifted 0 x ≡ x
-shifted-none x h = omega arith
+-- components of the frame, of their sizes, with tables that exist
+record AreFound (frame : Frame) (choices : List Choice) (codings : List LosslessCoding) : Type 0 where
+  indices : map (λ k. k.index) codings ≡ indices_of choices
+  stand : AllByRecursion (λ k. first_of (drop k.index frame.components) ≡ Some k.component) codings
+  made : AllByRecursion (λ k. IsMade frame k.component) codings
+  tables : AllByRecursion (λ k. IsTable k.table) codings
 
-all-unshifted : (xs : List ℕ) → AreSamples xs → map (shifted 0) xs ≡ xs
-all-unshifted [] h = refl
-all-unshifted (x ∷ xs) h = ap₂ (λ (a : ℕ) (l : List ℕ). a ∷ l) (shifted-none x h.0) (all-unshifted xs h.1)
-
-take-samples : (n : ℕ) (xs : List ℕ) → AreSamples xs → AreSamples (take n xs)
-take-samples (suc n) (x ∷ xs) h = (h.0, take-samples n xs h.1)
-take-samples _ _ h = tt
-
-samples-append : (xs ys : List ℕ) → AreSamples xs → AreSamples ys → AreSamples (xs ++ ys)
-samples-append [] ys h g = g
-samples-append (x ∷ xs) ys h g = (h.0, samples-append xs ys h.1 g)
-
-own-samples : (n wide high : ℕ) (lines : List (List ℕ)) → AreLines n lines
-    → AreSamples (concat (map (take wide) (take high lines)))
-own-samples n wide (suc high) (l ∷ lines) h =
-    grind (arith, common_steps, samples-append, take-samples, own-samples n wide high lines h.1)
-own-samples n wide _ _ h = tt
-
--- the samples of the components at some places
-abbrev pub planes_for : Samples → List ℕ → List (List ℕ)
-planes_for samples indices = map (λ k. concat (samples k)) indices
-
-planes-are : (samples : Samples) (w : Way) (codings : List LosslessCoding) (parts : List Part)
-    (lines : List (List (List ℕ))) → AreGrids w parts lines → HoldSamples samples codings parts lines
-    → planes_of 0 parts lines ≡ map (λ k. concat (samples k.index)) codings
-unfolding planes_of HoldSamples
-planes-are samples w [] [] [] g h = refl
-planes-are samples w (k ∷ codings) (p ∷ parts) (l ∷ lines) g h =
-    grind (arith, common_steps, all-unshifted, own-samples, planes-are samples w codings parts lines g.1 h.1)
-planes-are samples w _ _ _ g h = absurd h
-
--- ---- what a scan names
-
-codings-read : (said : Found) (frame from : Frame) (choices : List Choice) (codings : List LosslessCoding)
-    → AreCodings said frame choices codings
-    → lossless_codings said.huffman.dc frame (map (λ s. s.component) (map (selector_for from)
-    choices))
+codings-found : (said : Found) (frame from : Frame) (choices : List Choice) (codings : List LosslessCoding)
+    → AllByRecursion (IsMade frame) frame.components → HasTables said.huffman
+    → lossless_codings said.huffman.dc frame (map (λ s. s.component) (map (selector_for from) choices))
     (map (λ s. s.dc) (map (selector_for from) choices)) ≡ Ok codings
-unfolding lossless_codings AreCodings lossless_coding
-codings-read said frame from [] [] h = refl
-codings-read said frame from (c ∷ choices) (k ∷ codings) h =
-    search (rules, arith, then-ok, codings-read said frame from choices codings h.1)
-codings-read said frame from _ _ h = absurd h
+    → AreFound frame choices codings
+unfolding lossless_codings lossless_coding
+codings-found said frame from [] codings made all e =
+    subst (AreFound frame []) (ok-same [] codings e)
+    (record { indices = refl; stand = tt; made = tt; tables = tt })
+codings-found said frame from (c ∷ choices) codings made all e =
+    let one = bind-ok (lossless_coding said.huffman.dc frame c.component c.dc) _ codings e in
+    let more = bind-ok (lossless_codings said.huffman.dc frame _ _) _ codings one.2 in
+    let component = bind-ok (needed (first_of (drop c.component frame.components))) _ one.0 one.1 in
+    let table = bind-ok (needed (slice_index_or said.huffman.dc c.dc None)) _ one.0 component.2 in
+    let rest = codings-found said frame from choices more.0 made all more.1 in
+    grind (arith, common_steps, ok-same, needed-some, all-at, table-there)
 
-indices-are : (said : Found) (frame : Frame) (choices : List Choice) (codings : List LosslessCoding)
-    → AreCodings said frame choices codings → map (λ k. k.index) codings ≡ indices_of choices
-unfolding AreCodings
-indices-are said frame [] [] h = refl
-indices-are said frame (c ∷ choices) (k ∷ codings) h = search (
-  rules,
-  arith,
-  indices-are said frame
-      choices codings h.1,
-)
-indices-are said frame _ _ h = absurd h
+-- what an MCU has of a component
+record IsPartOf (k : LosslessCoding) (p : Part) : Type 0 where
+  width : p.width ≡ k.component.width
+  height : p.height ≡ k.component.height
+  table : p.table ≡ k.table
 
-planes-placed : (samples : Samples) (codings : List LosslessCoding)
-    → map (λ k. concat (samples k.index)) codings ≡ planes_for samples (map (λ k. k.index) codings)
-planes-placed samples [] = refl
-planes-placed samples (k ∷ codings) = grind (arith, common_steps, planes-placed samples codings)
+abbrev AreParts : List LosslessCoding → List Part → Type 0
+AreParts [] [] = Unit {0}
+AreParts (k ∷ codings) (p ∷ parts) = IsPartOf k p × AreParts codings parts
+AreParts _ _ = ⊥
 
-codings-made : (said : Found) (frame : Frame) (choices : List Choice) (codings : List LosslessCoding)
-    → AllByRecursion (IsMade frame) frame.components → AreCodings said frame choices codings
-    → AllByRecursion (λ k. IsMade frame k.component) codings
-unfolding AreCodings
-codings-made said frame [] [] made h = tt
-codings-made said frame (c ∷ choices) (k ∷ codings) made h =
-    grind (arith, common_steps, all-at, IsMade, codings-made said frame choices codings made h.1)
-codings-made said frame _ _ made h = absurd h
+several : (codings : List LosslessCoding)
+    → AreParts codings (map (λ k. part_of k.component.factors.horizontal k.component.factors.vertical k) codings)
+several [] = tt
+several (k ∷ codings) = search (rules, several codings)
 
--- the samples of the component at a place have its size
-abbrev pub SizedAt : Samples → List Component → ℕ → Type 0
-SizedAt samples all k = (c : Component) → first_of (drop k all) ≡ Some c → HasSize (samples k) c
-
-same-component : (a b : Component) → ◌≡◌ {A = Option Component} (Some a) (Some b) → a ≡ b
-same-component a b e = cc
-
-choices-sized : (samples : Samples) (said : Found) (frame : Frame) (choices : List Choice)
-    (codings : List LosslessCoding) → AreCodings said frame choices codings
-    → AllByRecursion (λ k. HasSize (samples k.index) k.component) codings
-    → AllByRecursion (SizedAt samples frame.components) (indices_of choices)
-unfolding AreCodings
-choices-sized samples said frame [] codings h all = tt
-choices-sized samples said frame (c ∷ choices) [] h all = absurd h
-choices-sized samples said frame (c ∷ choices) (k ∷ codings) h all =
-    grind (arith, common_steps, same-component, choices-sized samples said frame choices codings h.1 all.1)
+parts-are : (codings : List LosslessCoding) → AreParts codings (parts_of codings)
+unfolding parts_of
+parts-are [] = tt
+parts-are (k ∷ []) = search rules
+parts-are (k ∷ j ∷ codings) = several (k ∷ j ∷ codings)
 
 -- ---- tables
 
@@ -304,74 +154,88 @@ tables-again : (n : ℕ) (t : Table) → IsTable t → AreTables (replicate n t)
 tables-again zero t h = tt
 tables-again (suc n) t h = (h, tables-again n t h)
 
-parts-tables : (parts : List Part) → AllByRecursion (λ p. IsTable p.table) parts → AreTables (mcu_tables parts)
+parts-tables : (codings : List LosslessCoding) (parts : List Part) → AreParts codings parts
+    → AllByRecursion (λ k. IsTable k.table) codings → AreTables (mcu_tables parts)
 unfolding mcu_tables
-parts-tables [] h = tt
-parts-tables (p ∷ parts) h = grind (arith, common_steps, tables-append, tables-again, parts-tables parts h.1)
+parts-tables [] [] are h = tt
+parts-tables (k ∷ codings) (p ∷ parts) are h =
+    grind (arith, common_steps, tables-append, tables-again, parts-tables codings parts are.1 h.1)
+parts-tables _ _ are h = absurd are
 
 all-tables : (n : ℕ) (tables : List Table) → AreTables tables → AreTables (row_tables n tables)
 unfolding row_tables
 all-tables zero tables h = tt
 all-tables (suc n) tables h = tables-append tables (row_tables n tables) h (all-tables n tables h)
 
-codings-tables : (said : Found) (frame : Frame) (choices : List Choice) (codings : List LosslessCoding)
-    → HasTables said.huffman → AreCodings said frame choices codings → AllByRecursion (λ k. IsTable k.table) codings
-unfolding AreCodings
-codings-tables said frame [] [] all h = tt
-codings-tables said frame (c ∷ choices) (k ∷ codings) all h =
-    (table-there said.huffman.dc c.dc k.table all.dc h.0.table, codings-tables said frame choices codings all h.1)
-codings-tables said frame _ _ all h = absurd h
+-- ---- samples
 
-mapped-tables : (codings : List LosslessCoding) → AllByRecursion (λ k. IsTable k.table) codings
-    → AllByRecursion (λ p. IsTable p.table)
-    (map (λ k. part_of k.component.factors.horizontal k.component.factors.vertical k) codings)
-mapped-tables [] h = tt
-mapped-tables (k ∷ codings) h = (h.0, mapped-tables codings h.1)
+-- the samples of the components at some indices
+abbrev pub planes_for : Samples → List ℕ → List (List ℕ)
+planes_for samples indices = map (λ k. concat (samples k)) indices
 
-tables-of-parts : (codings : List LosslessCoding) → AllByRecursion (λ k. IsTable k.table) codings
-    → AllByRecursion (λ p. IsTable p.table) (parts_of codings)
-unfolding parts_of
-tables-of-parts codings h = grind (arith, common_steps, mapped-tables)
+-- the samples of the component at an index have its size
+abbrev pub SizedAt : Samples → List Component → ℕ → Type 0
+SizedAt samples all k = (c : Component) → first_of (drop k all) ≡ Some c → HasSize (samples k) c
+
+same-component : (a b : Component) → ◌≡◌ {A = Option Component} (Some a) (Some b) → a ≡ b
+same-component a b e = cc
+
+-- The planes of a scan are its samples, and have their sizes.
+samples-are : (samples : Samples) (all : List Component) (wide high : ℕ) (codings : List LosslessCoding)
+    (parts : List Part) (lines : List (List (List ℕ))) → AreParts codings parts
+    → AllByRecursion (λ k. first_of (drop k.index all) ≡ Some k.component) codings
+    → AllByRecursion (IsCovered wide high) parts → HaveLines high parts lines
+    → HoldSamples samples codings parts lines
+    → let indices = map (λ k. k.index) codings in
+    (planes_of 0 parts lines ≡ planes_for samples indices) × AllByRecursion (SizedAt samples all) indices
+unfolding planes_of HoldSamples
+samples-are samples all wide high [] [] [] are stand cover have hold = (refl, tt)
+samples-are samples all wide high (k ∷ codings) (p ∷ parts) (l ∷ lines) are stand cover have hold =
+    let rest = samples-are samples all wide high codings parts lines are.1 stand.1 cover.1 have.1 hold.1 in
+    grind (arith, common_steps, length-map, length-take-le, own-even, own-unshifted, same-component)
+samples-are samples all wide high _ _ _ are stand cover have hold = absurd hold
 
 -- ---- the data
 
-pub scan-sized : (said : Found) (frame : Frame) (h : ScanHeader) (samples : Samples) (bytes : List ℕ)
-    → IsShaped frame → WritesSamplesScan said frame h samples bytes
-    → AllByRecursion (SizedAt samples frame.components) (indices_of h.choices)
-scan-sized said frame h samples bytes is w =
-    let way = way_of frame (predictor_by h.first) 0 w.codings in
-    let high = mcus_down frame w.codings in
-    let per = rows_of_interval (mcus_across frame w.codings) high said.restart in
-    choices-sized samples said frame h.choices w.codings w.coded
-    (all-sized way high samples w.codings way.parts w.lines
-    (all-cover frame w.codings (codings-made said frame h.choices w.codings is.made w.coded))
-    (intervals-grids way per 0 high w.lines bytes w.written) (intervals-counted way per 0 high w.lines bytes w.written)
-    w.kept)
-
--- the scan of data and a marker after it
+-- The scan of data and a marker after it; the samples have their sizes.
 data-read : (said : Found) (frame : Frame) (h : ScanHeader) (samples : Samples) (bytes rest : List ℕ)
     (fill code : ℕ) (m : Marker)
     (w : WritesSamplesScan said frame h samples bytes) → IsShaped frame → HasTables said.huffman →
     marker_of code ≡ Some m
-    → scan_at (way_of frame (predictor_by h.first) 0 w.codings) (mcus_down frame w.codings) said.restart 0
+    → (scan_at (way_of frame (predictor_by h.first) 0 w.codings) (mcus_down frame w.codings) said.restart 0
     (bytes ++ marker fill code rest)
-    ≡ Ok ((planes_for samples (map (λ k. k.index) w.codings), Some m), rest)
+    ≡ Ok ((planes_for samples (map (λ k. k.index) w.codings), Some m), rest))
+    × (map (λ k. k.index) w.codings ≡ indices_of h.choices)
+    × AllByRecursion (SizedAt samples frame.components) (map (λ k. k.index) w.codings)
+unfolding scan_of
 data-read said frame h samples bytes rest fill code m w is all makes =
     let way = way_of frame (predictor_by h.first) 0 w.codings in
     let wide = mcus_across frame w.codings in
     let high = mcus_down frame w.codings in
-    let made = codings-made said frame h.choices w.codings is.made w.coded in
-    let r = of-rows wide high said.restart (across-some frame w.codings is.wide made)
-    (down-some frame w.codings is.high made) w.interval in
-    reads-scan way high said.restart 0 w.lines bytes fill code m rest r.is r.some
-    (all-tables wide (mcu_tables way.parts) (parts-tables way.parts
-    (tables-of-parts w.codings (codings-tables said frame h.choices w.codings all w.coded))))
-    (record { is = makes }) w.written
-    ∙ ap (λ (l : List (List ℕ)). Ok ((l, Some m), rest))
-    (planes-are samples way w.codings way.parts w.lines
-    (intervals-grids way (rows_of_interval wide high said.restart) 0 high w.lines bytes w.written)
-    w.kept
-    ∙ planes-placed samples w.codings)
+    let found = codings-found said frame frame h.choices w.codings is.made all w.coded in
+    let parts = parts-are w.codings in
+    let cover = all-covered frame w.codings found.made in
+    let r = of-rows wide high said.restart (across-some frame w.codings is.wide found.made)
+    (down-some frame w.codings is.high found.made) w.interval in
+    let tables = all-tables wide (mcu_tables way.parts) (parts-tables w.codings way.parts parts found.tables) in
+    let have = written-lines way (rows_of_interval wide high said.restart) high w.lines bytes r.some tables
+    (covered-within wide high way.parts cover) w.written in
+    let are = samples-are samples frame.components wide high w.codings way.parts w.lines parts found.stand
+    cover have w.kept in (
+      reads-scan way high said.restart 0 w.lines bytes fill code m rest r.is r.some tables
+          (record { is = makes }) w.written
+          ∙ ap (λ (l : List (List ℕ)). Ok ((l, Some m), rest)) are.0,
+      found.indices,
+      are.1,
+    )
+
+pub scan-sized : (said : Found) (frame : Frame) (h : ScanHeader) (samples : Samples) (bytes : List ℕ)
+    → IsShaped frame → HasTables said.huffman → WritesSamplesScan said frame h samples bytes
+    → AllByRecursion (SizedAt samples frame.components) (indices_of h.choices)
+unfolding marker_of
+scan-sized said frame h samples bytes is all w =
+    let r = data-read said frame h samples bytes [] 0 0xD9 EOI w is all refl in
+    subst (AllByRecursion (SizedAt samples frame.components)) r.1 r.2
 
 -- ---- a scan
 
@@ -413,14 +277,5 @@ pub scan-read : (said : Found) (decided : List (Option (List ℕ))) (frame : Fra
     ≡ Ok (turn_after said (indices_of h.choices) samples decided m, rest)
 unfolding scan_segment lossless_scan scan_of
 scan-read said decided frame h samples bytes rest fill code m w framed scan lossless is tables makes end =
-    grind (
-      arith,
-      common_steps,
-      then-ok,
-      sos-read,
-      codings-read,
-      predictor-of,
-      point-of,
-      data-read,
-      indices-are,
-    )
+    let r = data-read said frame h samples bytes rest fill code m w is tables makes in
+    grind (arith, common_steps, then-ok, sos-read, predictor-of, point-of)

@@ -18,35 +18,39 @@ use Rattle.jpeg_bits.specs.declared.scan.Predictor.{Predictor}
 use Rattle.jpeg_bits.specs.declared.scan.Predictor.TheVariants.{Ra}
 use Rattle.jpeg_segments.specs.Frame.{Factors, frame_of}
 use Rattle.jpeg_segments.specs.HuffmanTables.{DefinedTable}
+use Rattle.jpeg_segments.specs.ScanHeader.{scan_of}
 use Rattle.jpeg_segments.specs.ScanHeaders.{scan_payload, ScanHeader}
 use Rattle.jpeg_segments.specs.WrittenSegments.{AreComponents, frame_written, FrameHeader, factors_bytes, frame_payload}
 use Rattle.jpeg_segments.specs.WrittenSegments.{Header, Huffman, IsFrameHeader, huffman_bytes}
 use Rattle.jpeg_segments.specs.WrittenSegments.{payload_of, with_length, u16_bytes}
 use Rattle.jpeg_lossless.specs.Prediction.{residue, start_of}
 use Rattle.jpeg_lossless.specs.Differences.{Part, lines_in, mcu_tables, row_tables, strand, strands}
-use Rattle.jpeg_lossless.specs.Scans.{rows_of_interval, Way}
-use Rattle.jpeg_lossless.specs.Written.{AreLines, AreSamples, differences_below, differences_of, first_differences}
-use Rattle.jpeg_lossless.specs.Written.{HaveDifferences, rest_differences, WritesSampleDifference}
-use Rattle.jpeg_lossless.specs.Written.{WritesSampleInterval, WritesRow}
-use Rattle.jpeg_lossless.specs.Written.{WritesRows}
+use Rattle.jpeg_lossless.specs.Scans.{lines_by_component, rows_of_interval, Way}
+use Rattle.jpeg_lossless.specs.SampleDifferences.{AreLines, AreSamples, differences_below, differences_of}
+use Rattle.jpeg_lossless.specs.SampleDifferences.{first_differences, rest_differences}
+use Rattle.jpeg_lossless.specs.Written.{WritesSampleDifference, WritesSampleInterval, WritesRow, WritesRows}
 use Rattle.jpeg_lossless.specs.Written.WritesIntervals.{last}
 use Rattle.jpeg_lossless.specs.Written.WritesRow.{none, one}
 use Rattle.jpeg_lossless.specs.Written.WritesRows.{no_row, row}
-use Rattle.jpeg_lossless.proofs.Residues.{residue_nat, residue_neg, residue_small}
+use Rattle.jpeg_lossless.proofs.Inverse.{all_back}
+use Rattle.jpeg_lossless.proofs.Residues.{residue_low, residue_neg, residue_small}
 use Rattle.jpeg_streams.specs.Found.{Found, nothing_found}
 use Rattle.jpeg_streams.specs.FrameSamples.{AreBytes, AreLinesOf, AreSamplesOf, AreWrittenIn, FitsFields, IsLineOf}
 use Rattle.jpeg_streams.specs.InTurn.{IsIn}
-use Rattle.jpeg_streams.specs.LosslessScans.{LosslessCoding, mcus_across, mcus_down, parts_of}
+use Rattle.jpeg_streams.specs.LosslessScans.{LosslessCoding, lossless_coding, lossless_codings}
+use Rattle.jpeg_streams.specs.LosslessScans.{mcus_across, mcus_down, parts_of}
 use Rattle.jpeg_streams.specs.Needed.{first_of}
 use Rattle.jpeg_streams.specs.SaidSegments.{found_after}
 use Rattle.jpeg_streams.specs.Segments.{updated}
-use Rattle.jpeg_streams.specs.WrittenLossless.{AreCodings, HasSamples, HoldSamples, IsInterval, no_interval, own_lines}
+use Rattle.jpeg_streams.specs.WrittenLossless.{HasSamples, HoldSamples, IsInterval, no_interval, own_lines}
 use Rattle.jpeg_streams.specs.WrittenLossless.{said_after_scan, Samples, Writes, WritesSamplesScan}
 use Rattle.jpeg_streams.specs.WrittenLossless.Writes.{closed, scan, segment}
 use Rattle.jpeg_streams.proofs.EncodedBlocks.{category-at_most, packed}
 use Rattle.jpeg_streams.proofs.EncodedImages.{component_in, first-is, in-range, lone_header, lone-written}
 use Rattle.jpeg_streams.proofs.OwnSpots.{all-append}
+use Rattle.jpeg_streams.proofs.ReadTurns.{then-ok}
 use Rattle.jpeg_streams.proofs.TestedParts.{table-by}
+use Rattle.std.proofs.lemmas.Grind.{common_steps}
 
 -- ---- the table
 
@@ -121,22 +125,18 @@ rows-written n (rs ∷ rows) h =
 
 -- ---- the differences of lines
 
-residue-low : (z : ℤ) → residue z < 65536
-residue-low (pos n) = let e = residue_nat n in omega (arith, e)
-residue-low (negsuc n) = let e = residue_neg n in omega (arith, e)
-
 first-row : (a : ℕ) (xs : List ℕ)
     → (length (first_differences a xs) ≡ length xs) × AreResidues (first_differences a xs)
 unfolding first_differences
 first-row a [] = (refl, tt)
-first-row a (x ∷ xs) = search (rules, residue-low, first-row x xs)
+first-row a (x ∷ xs) = search (rules, residue_low, first-row x xs)
 
 rest-row : (selection : Predictor) (a c : ℕ) (above xs : List ℕ) → length above ≡ length xs
     → (length (rest_differences selection a c above xs) ≡ length xs)
     × AreResidues (rest_differences selection a c above xs)
 unfolding rest_differences
 rest-row selection a c (b ∷ above) (x ∷ xs) h =
-    search (rules, residue-low, rest-row selection x b above xs (omega arith))
+    search (rules, residue_low, rest-row selection x b above xs (omega arith))
 rest-row selection a c above xs h = search rules
 
 -- the line above, or none
@@ -150,7 +150,7 @@ unfolding differences_below
 below-row selection start [] xs h = first-row start xs
 below-row selection start above xs (inl e) = rw e (first-row start xs)
 below-row selection start (b ∷ above) (x ∷ xs) (inr e) =
-    let r = rest-row selection x b above xs (omega arith) in search (rules, residue-low)
+    let r = rest-row selection x b above xs (omega arith) in search (rules, residue_low)
 below-row selection start above xs (inr e) = search rules
 
 -- lines of n samples
@@ -167,7 +167,7 @@ below-rows selection start n above (line ∷ lines) e h = grind (
   below-rows selection start n line lines (inr h.0) h.1,
 )
 
-pub rows-count : (selection : Predictor) (start : ℕ) (above : List ℕ) (lines : List (List ℕ))
+rows-count : (selection : Predictor) (start : ℕ) (above : List ℕ) (lines : List (List ℕ))
     → length (differences_of selection start above lines) ≡ length lines
 unfolding differences_of
 rows-count selection start above [] = refl
@@ -205,10 +205,10 @@ samples-low : (bound : ℕ) (xs : List ℕ) → bound ≤ 65536 → AllByRecursi
 samples-low bound [] le h = tt
 samples-low bound (x ∷ xs) le h = let low = h.0 in (omega arith, samples-low bound xs le h.1)
 
-lines-low : (bound n m : ℕ) (lines : List (List ℕ)) → bound ≤ 65536 → n ≡ m → AllByRecursion (IsLineOf n bound) lines
-    → AreLines m lines
-lines-low bound n m [] le e h = tt
-lines-low bound n m (l ∷ lines) le e h = search (rules, samples-low, lines-low bound n m lines le e h.1)
+lines-low : (bound n : ℕ) (lines : List (List ℕ)) → bound ≤ 65536 → AllByRecursion (IsLineOf n bound) lines
+    → AreLines n lines
+lines-low bound n [] le h = tt
+lines-low bound n (l ∷ lines) le h = search (rules, samples-low, lines-low bound n lines le h.1)
 
 are-wide : (bound n : ℕ) (lines : List (List ℕ)) → AllByRecursion (IsLineOf n bound) lines → AreWide n lines
 are-wide bound n [] h = tt
@@ -258,7 +258,7 @@ interval-written : (start bound width height : ℕ) (lines : List (List ℕ)) �
     → AllByRecursion (IsLineOf width bound) lines
     → (bytes : List ℕ) × WritesSampleInterval (lone_way start width height) height (lines ∷ [])
     bytes × AreBytes bytes
-unfolding mcu_tables HaveDifferences
+unfolding mcu_tables lines_by_component
 interval-written start bound width height lines le e h =
     let rows = differences_of Ra start [] lines in
     let are = below-rows Ra start width [] lines (inl refl) (are-wide bound width lines h) in
@@ -267,8 +267,9 @@ interval-written start bound width height lines le e h =
     grind (
       arith,
       rows-count Ra start [] lines,
-      lines-low bound width (width * 1) lines le (omega arith) h,
+      lines-low bound width lines le h,
       lines-whole width height rows are,
+      all_back,
       stuffed-bytes b.bytes b.are_bytes,
     )
 
@@ -296,7 +297,7 @@ data-written : (h : FrameHeader) (now : Found) (front more : List Factors) (c : 
     → AreLinesOf (2 ^ h.precision) (component_in h c) (samples (length front))
     → (bytes : List ℕ) × WritesSamplesScan now (frame_written 3 h) (header_of (length front) c)
     samples bytes × AreBytes bytes
-unfolding frame_of mcus_across mcus_down parts_of AreCodings HoldSamples
+unfolding frame_of mcus_across mcus_down parts_of lossless_codings lossless_coding scan_of HoldSamples
 data-written h now front more c samples ready e most are =
     let frame = frame_written 3 h in
     let k = coding h (length front) c in
@@ -310,7 +311,7 @@ data-written h now front more c samples ready e most are =
       w.0,
       record {
         codings = k ∷ [];
-        coded = (record { stands = refl; component = component-at h front more c e; table = ready.tabled }, tt);
+        coded = let is = component-at h front more c e in grind (arith, common_steps, then-ok);
         point = refl;
         interval = subst (IsInterval wide high) (sym ready.restart) no_interval;
         lines = lines ∷ [];

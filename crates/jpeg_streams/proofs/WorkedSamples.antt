@@ -7,15 +7,15 @@ use Rattle.std.specs.Prelude.{nat_le}
 use Rattle.jpeg_bits.specs.Codes.{lengths_from, code_value, codes_exist, Table}
 use Rattle.jpeg_bits.specs.Written.{IsCoded, low_bits, number_for, stuffed, bits_of_bytes}
 use Rattle.jpeg_segments.specs.Frame.{Factors, Frame, frame_of, component_of}
+use Rattle.jpeg_segments.specs.ScanHeader.{scan_of}
 use Rattle.jpeg_segments.specs.ScanHeaders.{IsScan}
 use Rattle.jpeg_segments.specs.WrittenSegments.{FrameHeader, Header, Interval, frame_written}
-use Rattle.jpeg_lossless.specs.Prediction.{residue}
+use Rattle.jpeg_lossless.specs.Prediction.{residue, first_line, line_rest, line_below, lines_below}
 use Rattle.jpeg_lossless.specs.Differences.{mcu_tables, row_tables, strand, strands, lines_in}
-use Rattle.jpeg_lossless.specs.Scans.{all_above, Way}
-use Rattle.jpeg_lossless.specs.Written.{AreGrids, bits_of_difference, WritesSampleDifference}
+use Rattle.jpeg_lossless.specs.Scans.{all_above, lines_by_component, Way}
+use Rattle.jpeg_lossless.specs.Written.{bits_of_difference, WritesSampleDifference}
 use Rattle.jpeg_lossless.specs.Written.{WritesSampleInterval, WritesRow, WritesRows, none, one}
-use Rattle.jpeg_lossless.specs.Written.{no_row, row, first_differences, rest_differences, differences_below}
-use Rattle.jpeg_lossless.specs.Written.{differences_of, HaveDifferences}
+use Rattle.jpeg_lossless.specs.Written.{no_row, row}
 use Rattle.jpeg_lossless.specs.Written.WritesIntervals.{another, last}
 use Rattle.jpeg_lossless.specs.Worked.{small_table}
 use Rattle.jpeg_pixels.specs.Pictures.{sources_by}
@@ -27,10 +27,11 @@ use Rattle.jpeg_streams.specs.WorkedSamples.{AreWritten, lone_data, lone_scan, o
 use Rattle.jpeg_streams.specs.WorkedSamples.{padded_data, padded_header, padded_samples, padded_scan, plain_factors}
 use Rattle.jpeg_streams.specs.WorkedSamples.{table_segment, twice_factors, third_data, third_scan, three_bytes}
 use Rattle.jpeg_streams.specs.WorkedSamples.{three_header, three_samples}
-use Rattle.jpeg_streams.specs.WrittenLossless.{AreCodings, HasSamples, HoldSamples}
+use Rattle.jpeg_streams.specs.WrittenLossless.{HasSamples, HoldSamples}
 use Rattle.jpeg_streams.specs.WrittenLossless.{WritesSamplesScan, closed, said_after_scan}
 use Rattle.jpeg_streams.specs.WrittenLossless.{scan, segment, whole_rows}
-use Rattle.jpeg_streams.specs.LosslessScans.{LosslessCoding, mcus_across, mcus_down, parts_of}
+use Rattle.jpeg_streams.specs.LosslessScans.{LosslessCoding, lossless_coding, lossless_codings}
+use Rattle.jpeg_streams.specs.LosslessScans.{mcus_across, mcus_down, parts_of}
 use Rattle.jpeg_streams.proofs.AcceptedSamples.{accepted-samples}
 use Rattle.jpeg_streams.proofs.TestedParts.{category-by, frame-by, is_category, scan-by, table-by}
 
@@ -113,20 +114,18 @@ abbrev row_bits : List ℕ → List Bool
 row_bits rs = flat_map small_bits rs ++ []
 
 -- an interval of one row of MCUs
-row-interval : (w : Way) (lines : List (List (List ℕ))) (rs data_bytes : List ℕ)
+row-interval : (w : Way) (rs data_bytes : List ℕ)
     → row_tables w.wide (mcu_tables w.parts) ≡ replicate (length rs) small_table → list_all is_small rs ≡ true
     → bits_of_bytes data_bytes ≡ row_bits rs ++ drop (length (row_bits rs)) (bits_of_bytes data_bytes)
     → nat_le (length (drop (length (row_bits rs)) (bits_of_bytes data_bytes))) 7 ≡ true
-    → HaveDifferences w 0 w.parts lines (rs ∷ []) → AreGrids w w.parts lines
-    → WritesSampleInterval w 1 lines (stuffed data_bytes)
-row-interval w lines rs data_bytes tables small whole short placed sized = record {
+    → WritesSampleInterval w 1 (lines_by_component w 0 w.parts (rs ∷ [])) (stuffed data_bytes)
+row-interval w rs data_bytes tables small whole short = record {
   rows = rs ∷ [];
   bits = row_bits rs;
   filling = drop (length (row_bits rs)) (bits_of_bytes data_bytes);
   data_bytes = data_bytes;
   count = refl;
-  sized = sized;
-  placed = placed;
+  placed = refl;
   coded = subst (λ (ts : List Table). WritesRows ts (rs ∷ []) (row_bits rs)) (sym tables)
       (row rs [] (flat_map small_bits rs) [] (row-written rs small) no_row);
   is_short = leb-true (length (drop (length (row_bits rs)) (bits_of_bytes data_bytes))) 7 short;
@@ -148,36 +147,34 @@ three-scans : WritesSamplesScan (said three_header) (frame_by three_header) thir
     three_samples third_data
     × WritesSamplesScan (scanned three_header) (frame_by three_header) other_scan three_samples
     other_data
-unfolding frame_of component_of nothing_found updated three_samples AreCodings HoldSamples mcus_across mcus_down
+unfolding frame_of component_of nothing_found updated three_samples lossless_codings lossless_coding scan_of HoldSamples mcus_across mcus_down
     parts_of mcu_tables row_tables strand strands
-    lines_in first_differences rest_differences differences_below differences_of HaveDifferences residue stuffed
+    lines_in lines_by_component first_line line_rest line_below lines_below residue stuffed
     bits_of_bytes all_above
 three-scans = (
   record {
     codings = coding 3 2 ∷ [];
-    coded = search rules;
+    coded = refl;
     point = refl;
     interval = whole_rows 0;
     lines = _;
     kept = (refl, tt);
-    written = another 0 0 2 (((128 ∷ 129 ∷ []) ∷ []) ∷ []) (((128 ∷ 128 ∷ []) ∷ []) ∷ []) (0x5F ∷ []) (0x3F ∷ [])
-        (omega arith)
-        (row-interval _ _ (0 ∷ 1 ∷ []) (0x5F ∷ []) refl refl refl refl (refl, tt) (search rules))
+    written = another 0 0 2 _ _ _ _ (omega arith)
+        (row-interval _ (0 ∷ 1 ∷ []) (0x5F ∷ []) refl refl refl refl)
         (last 1 1 _ _ (omega arith)
-        (row-interval _ _ (0 ∷ 0 ∷ []) (0x3F ∷ []) refl refl refl refl (refl, tt) (search rules)));
+        (row-interval _ (0 ∷ 0 ∷ []) (0x3F ∷ []) refl refl refl refl));
   },
   record {
     codings = coding 1 0 ∷ coding 2 1 ∷ [];
-    coded = search rules;
+    coded = refl;
     point = refl;
     interval = whole_rows 0;
     lines = _;
     kept = (refl, (refl, tt));
-    written = another 0 0 2 (((129 ∷ 129 ∷ []) ∷ []) ∷ ((128 ∷ 128 ∷ []) ∷ []) ∷ []) (((128 ∷ 128 ∷ []) ∷ [])
-        ∷ ((129 ∷ 128 ∷ []) ∷ []) ∷ []) (0xA3 ∷ []) (0x54 ∷ []) (omega arith)
-        (row-interval _ _ (1 ∷ 0 ∷ 0 ∷ 0 ∷ []) (0xA3 ∷ []) refl refl refl refl (refl, (refl, tt)) (search rules))
+    written = another 0 0 2 _ _ _ _ (omega arith)
+        (row-interval _ (1 ∷ 0 ∷ 0 ∷ 0 ∷ []) (0xA3 ∷ []) refl refl refl refl)
         (last 1 1 _ _ (omega arith)
-        (row-interval _ _ (0 ∷ 1 ∷ 0 ∷ 65535 ∷ []) (0x54 ∷ []) refl refl refl refl (refl, (refl, tt)) (search rules)));
+        (row-interval _ (0 ∷ 1 ∷ 0 ∷ 65535 ∷ []) (0x54 ∷ []) refl refl refl refl));
   },
 )
 
@@ -211,50 +208,40 @@ coding_by c index = record {
   table = small_table;
 }
 
--- the grids of an interval
-abbrev upper : List (List (List ℕ))
-upper =
-    ((129 ∷ 129 ∷ 128 ∷ 127 ∷ []) ∷ (128 ∷ 129 ∷ 129 ∷ 128 ∷ []) ∷ []) ∷ ((128 ∷ 129 ∷ []) ∷ []) ∷ []
-
-abbrev lower : List (List (List ℕ))
-lower =
-    ((128 ∷ 127 ∷ 127 ∷ 127 ∷ []) ∷ (127 ∷ 128 ∷ 127 ∷ 126 ∷ []) ∷ []) ∷ ((127 ∷ 127 ∷ []) ∷ []) ∷ []
-
 padded-scans : WritesSamplesScan (said padded_header) (frame_by padded_header) padded_scan
     padded_samples padded_data
     × WritesSamplesScan (scanned padded_header) (frame_by padded_header) lone_scan padded_samples
     lone_data
-unfolding frame_of component_of nothing_found updated padded_samples AreCodings HoldSamples mcus_across mcus_down
+unfolding frame_of component_of nothing_found updated padded_samples lossless_codings lossless_coding scan_of HoldSamples mcus_across mcus_down
     parts_of mcu_tables row_tables strand strands
-    lines_in first_differences rest_differences differences_below differences_of HaveDifferences residue stuffed
+    lines_in lines_by_component first_line line_rest line_below lines_below residue stuffed
     bits_of_bytes all_above
 padded-scans = (
   record {
     codings = coding_by (twice_factors 1) 0 ∷ coding_by (plain_factors 2) 1 ∷ [];
-    coded = search rules;
+    coded = refl;
     point = refl;
     interval = whole_rows 0;
     lines = _;
     kept = (refl, (refl, tt));
-    written = another 0 0 2 upper lower (0xA8 ∷ 0x49 ∷ 0x6D ∷ []) (0x49 ∷ 0x60 ∷ 0x8F ∷ []) (omega arith)
-        (row-interval _ _ (1 ∷ 0 ∷ 65535 ∷ 0 ∷ 0 ∷ 65535 ∷ 65535 ∷ 1 ∷ 1 ∷ 1 ∷ []) (0xA8 ∷ 0x49 ∷ 0x6D ∷ [])
-        refl refl refl refl (refl, (refl, tt)) (search rules))
+    written = another 0 0 2 _ _ _ _ (omega arith)
+        (row-interval _ (1 ∷ 0 ∷ 65535 ∷ 0 ∷ 0 ∷ 65535 ∷ 65535 ∷ 1 ∷ 1 ∷ 1 ∷ []) (0xA8 ∷ 0x49 ∷ 0x6D ∷ [])
+        refl refl refl refl)
         (last 1 1 _ _ (omega arith)
-        (row-interval _ _ (0 ∷ 65535 ∷ 65535 ∷ 1 ∷ 65535 ∷ 0 ∷ 0 ∷ 0 ∷ 65535 ∷ 0 ∷ []) (0x49 ∷ 0x60 ∷ 0x8F ∷ [])
-        refl refl refl refl (refl, (refl, tt)) (search rules)));
+        (row-interval _ (0 ∷ 65535 ∷ 65535 ∷ 1 ∷ 65535 ∷ 0 ∷ 0 ∷ 0 ∷ 65535 ∷ 0 ∷ []) (0x49 ∷ 0x60 ∷ 0x8F ∷ [])
+        refl refl refl refl));
   },
   record {
     codings = coding_by (plain_factors 3) 2 ∷ [];
-    coded = search rules;
+    coded = refl;
     point = refl;
     interval = whole_rows 0;
     lines = _;
     kept = (refl, tt);
-    written = another 0 0 2 (((127 ∷ 127 ∷ []) ∷ []) ∷ []) (((129 ∷ 128 ∷ []) ∷ []) ∷ []) (0x8F ∷ []) (0xB3 ∷ [])
-        (omega arith)
-        (row-interval _ _ (65535 ∷ 0 ∷ []) (0x8F ∷ []) refl refl refl refl (refl, tt) (search rules))
+    written = another 0 0 2 _ _ _ _ (omega arith)
+        (row-interval _ (65535 ∷ 0 ∷ []) (0x8F ∷ []) refl refl refl refl)
         (last 1 1 _ _ (omega arith)
-        (row-interval _ _ (1 ∷ 65535 ∷ []) (0xB3 ∷ []) refl refl refl refl (refl, tt) (search rules)));
+        (row-interval _ (1 ∷ 65535 ∷ []) (0xB3 ∷ []) refl refl refl refl));
   },
 )
 

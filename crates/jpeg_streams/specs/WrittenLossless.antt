@@ -1,12 +1,12 @@
 -- Lossless streams as a writer emits them for samples (T.81, B.2.1 and Annex H). Nothing here
 -- speaks of reading.
 use Rattle.std.specs.Prelude.{◌≡◌, ◌⊎◌, true, ℕ, suc, ◌+◌, ◌*◌, ◌/◌, ◌≤◌, List, [], ◌∷◌, ◌++◌}
-use Rattle.std.specs.Prelude.{drop, length, map, take, None, slice_index_or, Some}
+use Rattle.std.specs.Prelude.{length, map, Ok, Some, take}
 use Rattle.std.specs.List.{AllByRecursion, concat, range_with_len}
 use Rattle.jpeg_segments.specs.declared.parser.CodingProcess.TheVariants.{Lossless}
 use Rattle.jpeg_segments.specs.Frame.{Component, Frame}
 use Rattle.jpeg_segments.specs.ScanHeader.{predictor_by}
-use Rattle.jpeg_segments.specs.ScanHeaders.{Choice, IsScan, ScanHeader, scan_payload}
+use Rattle.jpeg_segments.specs.ScanHeaders.{IsScan, ScanHeader, scan_payload, scan_written}
 use Rattle.jpeg_segments.specs.WrittenSegments.{marker_code, FrameHeader, Header, MayStand}
 use Rattle.jpeg_segments.specs.WrittenSegments.{payload_of}
 use Rattle.jpeg_segments.specs.WrittenSegments.{Segment, with_length}
@@ -17,9 +17,8 @@ use Rattle.jpeg_lossless.specs.Scans.{rows_of_interval}
 use Rattle.jpeg_lossless.specs.Written.{WritesIntervals}
 use Rattle.jpeg_bits.specs.Written.{marker}
 use Rattle.jpeg_streams.specs.InTurn.{IsIn}
-use Rattle.jpeg_streams.specs.LosslessScans.{LosslessCoding, mcus_across, mcus_down, parts_of}
-use Rattle.jpeg_streams.specs.LosslessScans.{way_of}
-use Rattle.jpeg_streams.specs.Needed.{first_of}
+use Rattle.jpeg_streams.specs.LosslessScans.{LosslessCoding, lossless_codings, mcus_across, mcus_down}
+use Rattle.jpeg_streams.specs.LosslessScans.{parts_of, way_of}
 use Rattle.jpeg_streams.specs.SaidSegments.{found_after, IsUpsampled}
 use Rattle.jpeg_streams.specs.Found.{nothing_found, Found}
 
@@ -48,19 +47,6 @@ StandsInLossless said s = MayStand said.frame s × IsLossless s
 
 -- ---- a scan
 
--- A component that a scan names, and the table in force at the destination that it names.
-pub record IsLosslessCoding (said : Found) (frame : Frame) (c : Choice) (k : LosslessCoding) : Type
-    0 where
-  pub stands : k.index ≡ c.component
-  pub component : first_of (drop c.component frame.components) ≡ Some k.component
-  pub table : slice_index_or said.huffman.dc c.dc None ≡ Some k.table
-
-unfoldable pub AreCodings : Found → Frame → List Choice → List LosslessCoding → Type 0
-AreCodings said frame [] [] = Unit {0}
-AreCodings said frame (c ∷ choices) (k ∷ codings) =
-    IsLosslessCoding said frame c k × AreCodings said frame choices codings
-AreCodings said frame _ _ = ⊥
-
 -- A restart interval is none, some whole rows of MCUs, or at least the whole scan.
 pub data IsInterval (wide high : ℕ) : ℕ → Type 0 where
   no_interval : IsInterval wide high 0
@@ -85,7 +71,9 @@ HoldSamples samples _ _ _ = ⊥
 pub record WritesSamplesScan (said : Found) (frame : Frame) (h : ScanHeader) (samples : Samples)
     (bytes : List ℕ) : Type 0 where
   pub codings : List LosslessCoding
-  pub coded : AreCodings said frame h.choices codings
+  pub coded :
+      let scan = scan_written frame h in
+      lossless_codings said.huffman.dc frame scan.components scan.dc_destinations ≡ Ok codings
   pub point : h.low ≡ 0
   pub interval : IsInterval (mcus_across frame codings) (mcus_down frame codings) said.restart
   pub lines : List (List (List ℕ))
