@@ -95,11 +95,11 @@ unfolding header_at segments_at FollowsAt
 goes-on found bytes rest e =
     let s = bind-ok (start_at bytes) _ (found, rest) e in
     let start = s.0.1 in
-    let p = past _ _ _ found rest s.1.1 (follows (suc (length start)) nothing_found start) in
+    let p = past _ _ _ found rest s.2 (follows (suc (length start)) nothing_found start) in
     let enough = suc (length start + length rest) in
     record {
       start = start;
-      starts = s.1.0;
+      starts = s.1;
       turns = p.0;
       after = p.1;
       whole = turns-enough (suc (length start)) (p.0 + enough) false Elsewhere nothing_found None start refl (omega arith)
@@ -152,11 +152,16 @@ bind-err : {A B P : Type 0} (r : Result A Fault) (f : A → Result B Fault) (fau
     → (r ≡ Err fault → P) → ((x : A) → r ≡ Ok x → f x ≡ Err fault → P) → P
 bind-err r f fault e p q = grind (arith, common_steps)
 
+stream-lacks : (bytes : List ℕ) (fault : Fault) → segments_at true Elsewhere nothing_found None bytes ≡ Err fault
+    → segments_at false Elsewhere nothing_found None bytes ≡ Err fault
+unfolding segments_at
+stream-lacks bytes fault e = ap walked_to (segments-lack bytes fault e) ∙ e
+
 -- a fault of the header is that of the stream
 pub header-lacks : (settings : Settings) (bytes : List ℕ) (fault : Fault) → header_at bytes ≡ Err fault
     → meaning settings bytes ≡ Err fault
-unfolding header_at meaning rest_at segments_at
-header-lacks settings bytes fault e = grind (arith, common_steps, bind-err, segments-lack)
+unfolding header_at meaning rest_at
+header-lacks settings bytes fault e = grind (arith, common_steps, bind-err, stream-lacks)
 
 pub header-told_lacking : (bytes : List ℕ) (fault : Fault) → header_at bytes ≡ Err fault
     → told_by_turns (suc (length bytes)) true bytes ≡ told_by_turns (suc (length bytes)) false bytes

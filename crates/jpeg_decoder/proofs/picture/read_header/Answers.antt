@@ -1,6 +1,6 @@
 use Rattle.jpeg_decoder.specs.Seen.{found_in}
 use Rattle.jpeg_streams.proofs.Soundness.{sound-nothing, nothing-framed}
-use Rattle.std.proofs.Common.{◌∙◌, suc, sym, ap, length, refl}
+use Rattle.std.proofs.Common.{◌∙◌, suc, true, sym, ap, length, refl}
 use Rattle.std.proofs.lemmas.Result.{err_from_is_err_and}
 use Rattle.jpeg_streams.specs.Stream.{told_of, start_at}
 use Rattle.jpeg_streams.specs.Reported.{IsOfTurns, told_in_turns}
