@@ -1,5 +1,5 @@
 -- A call that reads the header of a stream where it is to be read, and then the rest of it.
-use Rattle.std.proofs.Common.{◌≡◌, ◌++◌, ℕ, List, Result, Ok, Err, true, false, refl, sym, ap, ◌∙◌, subst, length, take}
+use Rattle.std.proofs.Common.{◌≡◌, ◌++◌, ℕ, suc, List, Result, Ok, Err, true, false, refl, sym, ap, ◌∙◌, subst, length, take}
 use Rattle.std.proofs.lemmas.Bool.{false≢true}
 use Rattle.std.proofs.Math.Seq.{take-append_seam}
 use Rattle.jpeg_bits.specs.Reading.{Answers, MayFail, Names, Outcome}
@@ -8,7 +8,7 @@ use Rattle.jpeg_bits.specs.declared.error.Error.{Error}
 use Rattle.jpeg_bits.specs.declared.error.Error.TheVariants as errors
 use Rattle.jpeg_streams.specs.declared.settings.Settings.{Settings}
 use Rattle.jpeg_streams.specs.Found.{Found}
-use Rattle.jpeg_streams.specs.Reported.{IsOfTurns, told_by_stream, told_in_turns, told_rest}
+use Rattle.jpeg_streams.specs.Reported.{IsOfTurns, told_by_turns, told_in_turns}
 use Rattle.jpeg_streams.specs.States.{Fresh, HeaderRead, IfRefused, IsReading, OnTold}
 use Rattle.jpeg_streams.specs.States.{Decoding, MovesToHeader, Stage, ahead, told_ahead, turns_ahead}
 use Rattle.jpeg_streams.specs.Stream.{Told, header_at, rest_at, told_of}
@@ -63,17 +63,17 @@ reads-on told bytes_of _ settings found begun source mid new r reading b h = abs
 
 pub told-on : {X : Type 0} (told : Told) (stage : Stage) (found begun : Found) (source mid new : Stream)
     (r : Result X Error) → IsReading stage → HasBegun stage found begun source mid
-    → OnTold mid new r (told ≡ told_rest false begun mid.bytes)
+    → OnTold mid new r (told ≡ told_in_turns (suc (length mid.bytes)) false begun mid.bytes)
     → OnTold source new r (told ≡ told_ahead false stage found source.bytes)
 told-on {X = X} told Fresh found begun source mid new r reading b h =
-    told-through {X = X} source mid new r (told ≡ told_rest false begun mid.bytes)
+    told-through {X = X} source mid new r (told ≡ told_in_turns (suc (length mid.bytes)) false begun mid.bytes)
     (told ≡ told_ahead false Fresh found source.bytes)
     (λ k. let at = (b.fresh refl).1 k in
     (at.0, λ p. p ∙ sym (header-told begun source.bytes mid.bytes at.1))) h
 told-on told HeaderRead found begun source mid new r reading b h =
     let s = b.still other-stage in
-    subst (λ (m : Stream). OnTold m new r (told ≡ told_rest false found m.bytes)) s.1
-    (subst (λ (f : Found). OnTold mid new r (told ≡ told_rest false f mid.bytes)) s.0 h)
+    subst (λ (m : Stream). OnTold m new r (told ≡ told_in_turns (suc (length m.bytes)) false found m.bytes)) s.1
+    (subst (λ (f : Found). OnTold mid new r (told ≡ told_in_turns (suc (length mid.bytes)) false f mid.bytes)) s.0 h)
 told-on told _ found begun source mid new r reading b h = absurd reading
 
 pub turns-on : (told : Told) (stage : Stage) (found begun : Found) (source mid : Stream) → IsReading stage
@@ -118,7 +118,7 @@ told-refused X told stage found begun source new e f a h =
     subst (λ (s : Stage). source.known ≡ true → new.known ≡ true
     → IfRefused e (told ≡ told_ahead false s found source.bytes)) (sym f) (λ k l.
     refused-and e (told ≡ told_ahead true Fresh found source.bytes)
-    (told_by_stream true source.bytes ≡ told_by_stream false source.bytes)
+    (told_by_turns (suc (length source.bytes)) true source.bytes ≡ told_by_turns (suc (length source.bytes)) false source.bytes)
     (told ≡ told_ahead false Fresh found source.bytes) (λ p q. p ∙ q)
     (subst (λ (s : Stage). IfRefused e (told ≡ told_ahead true s found source.bytes)) f (h k l))
     (told-err e (header_at source.bytes) _ (a.1 k l) (λ fault is. header-told_lacking source.bytes fault is)))
@@ -164,7 +164,7 @@ has-begun old mid b = record {
 pub into : {X : Type 0} (bytes_of : X → List ℕ) (told : Told) (old mid : Decoding) (new : Stream) (r : Result X Error)
     → IsBegun old mid
     → Answers (λ x. (told, bytes_of x)) (rest_at mid.settings mid.found) mid.source r new
-    → OnTold mid.source new r (told ≡ told_rest false mid.found mid.source.bytes)
+    → OnTold mid.source new r (told ≡ told_in_turns (suc (length mid.source.bytes)) false mid.found mid.source.bytes)
     → (mid.source.known ≡ true → IsOfTurns (λ n. told_in_turns n false mid.found mid.source.bytes) told)
     → HasRead bytes_of told old r new
 into {X = X} bytes_of told old mid new r b answers tells turns =
@@ -180,7 +180,7 @@ into {X = X} bytes_of told old mid new r b answers tells turns =
 pub into-ok : {X : Type 0} (bytes_of : X → List ℕ) (told : Told) (old mid : Decoding) (pixels : List ℕ)
     (new : Stream) (r : Result (Unit {0}) Error) (x : X) → IsBegun old mid → r ≡ Ok tt → bytes_of x ≡ pixels
     → Answers (λ u. (told, pixels)) (rest_at mid.settings mid.found) mid.source r new
-    → OnTold mid.source new r (told ≡ told_rest false mid.found mid.source.bytes)
+    → OnTold mid.source new r (told ≡ told_in_turns (suc (length mid.source.bytes)) false mid.found mid.source.bytes)
     → (mid.source.known ≡ true → IsOfTurns (λ n. told_in_turns n false mid.found mid.source.bytes) told)
     → HasRead bytes_of told old (Ok x) new
 into-ok bytes_of told old mid pixels new r x b is same answers tells turns =
@@ -190,20 +190,20 @@ into-ok bytes_of told old mid pixels new r x b is same answers tells turns =
       given.0,
       λ k. ((given.1 k).0, (given.1 k).1 ∙ ap (λ (l : List ℕ). Ok ((told, l), new.bytes)) (sym same)),
     )
-    (subst (λ (q : Result (Unit {0}) Error). OnTold mid.source new q (told ≡ told_rest false mid.found mid.source.bytes))
+    (subst (λ (q : Result (Unit {0}) Error). OnTold mid.source new q (told ≡ told_in_turns (suc (length mid.source.bytes)) false mid.found mid.source.bytes))
     is tells) turns
 
 pub into-err : {X : Type 0} (bytes_of : X → List ℕ) (told : Told) (old mid : Decoding) (pixels : List ℕ)
     (new : Stream) (r : Result (Unit {0}) Error) (e : Error) → IsBegun old mid → r ≡ Err e
     → Answers (λ u. (told, pixels)) (rest_at mid.settings mid.found) mid.source r new
-    → OnTold mid.source new r (told ≡ told_rest false mid.found mid.source.bytes)
+    → OnTold mid.source new r (told ≡ told_in_turns (suc (length mid.source.bytes)) false mid.found mid.source.bytes)
     → (mid.source.known ≡ true → IsOfTurns (λ n. told_in_turns n false mid.found mid.source.bytes) told)
     → HasRead bytes_of told old (Err e) new
 into-err bytes_of told old mid pixels new r e b is answers tells turns =
     into bytes_of told old mid new (Err e) b
     (subst (λ (q : Result (Unit {0}) Error). Answers (λ u. (told, pixels)) (rest_at mid.settings mid.found)
     mid.source q new) is answers)
-    (subst (λ (q : Result (Unit {0}) Error). OnTold mid.source new q (told ≡ told_rest false mid.found mid.source.bytes))
+    (subst (λ (q : Result (Unit {0}) Error). OnTold mid.source new q (told ≡ told_in_turns (suc (length mid.source.bytes)) false mid.found mid.source.bytes))
     is tells) turns
 
 -- where the header was refused

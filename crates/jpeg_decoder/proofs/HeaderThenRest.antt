@@ -1,212 +1,193 @@
 -- A stream whose header is read, and then the rest of it.
-use Rattle.std.proofs.Common.{◌≡◌, ◌+◌, ◌<◌, ℕ, zero, suc, List, Ok, Err, Bool, true, false, Option, None}
-use Rattle.std.proofs.Common.{refl, sym, ap, ◌∙◌, length, arith}
+use Rattle.std.proofs.Common.{◌≡◌, ◌+◌, ℕ, zero, suc, List, Result, Ok, Err, Bool, true, false, None}
+use Rattle.std.proofs.Common.{refl, sym, subst, ap, ◌∙◌, length, arith}
 use Rattle.std.specs.Prelude.{◌&&◌, is_some}
 use Rattle.jpeg_bits.specs.Reading.{Fault, Outcome, ◌>>=◌}
-use Rattle.jpeg_bits.specs.declared.marker.Marker.{Marker}
-use Rattle.jpeg_streams.specs.declared.before.Before.{Before}
 use Rattle.jpeg_streams.specs.declared.before.Before.TheVariants.{Elsewhere}
 use Rattle.jpeg_streams.specs.declared.settings.Settings.{Settings}
 use Rattle.jpeg_streams.specs.Found.{Found, nothing_found}
-use Rattle.jpeg_streams.specs.Reported.{IsOfTurns, told_at, told_by_stream, told_by_turns, told_in_turns, told_rest}
-use Rattle.jpeg_streams.specs.Reported.{told_within}
+use Rattle.jpeg_streams.specs.Reported.{IsOfTurns, told_by_turns, told_in_turns}
 use Rattle.jpeg_streams.specs.Segments.{Turn}
-use Rattle.jpeg_streams.specs.Stream.{Told, header_at, meaning, rest_at, segments_at, segments_within, start_at}
-use Rattle.jpeg_streams.specs.Stream.{told_of, turn_at}
-use Rattle.jpeg_decoder.proofs.Headers.{after, after-begun, begins-at, bind-err, bind-ok, chosen, header-refused}
-use Rattle.jpeg_decoder.proofs.Headers.{header-rest, not-err, not-ok, same-parts, turn-begins}
-use Rattle.jpeg_decoder.proofs.Turns.{told-next, told-refused, turn-takes, within-next, within-none}
-use Rattle.jpeg_streams.proofs.Told.{told-no_start, told-start, turns-start}
+use Rattle.jpeg_streams.specs.Stream.{Told, header_at, meaning, rest_at, segments_at, start_at, told_of, turn_at, walk}
+use Rattle.jpeg_decoder.proofs.Headers.{turn-begins}
+use Rattle.jpeg_decoder.proofs.Turns.{IsElsewhere, on-at, told-start, turns-enough}
+use Rattle.jpeg_streams.proofs.ReadTurns.{Walked, bind-ok, err-ok, ok-same, then-ok, walk-on, walk-refused, walk-stop}
+use Rattle.jpeg_streams.proofs.ReadTurns.{walked_to}
+use Rattle.jpeg_streams.proofs.Told.{turns-no_start, turns-start}
 use Rattle.std.proofs.lemmas.Grind.{common_steps}
 
--- ---- what is meant
+-- ---- the turns of a header and those of its stream
+
+-- After these turns of a header, a stream goes on as its rest does; or it is refused as its header is.
+Follows : ℕ → Walked → (ℕ → Walked) → Type 0
+Follows n (next, Ok rest) whole = (m : ℕ) × ((k : ℕ) → whole (m + k) ≡ walk k false Elsewhere next None rest)
+Follows n (next, Err fault) whole = whole n ≡ (next, Err fault)
+
+follows-next : (n : ℕ) (w : Walked) (whole others : ℕ → Walked) → ((k : ℕ) → whole (suc k) ≡ others k)
+    → Follows n w others → Follows (suc n) w whole
+unfolding Follows
+follows-next n (next, Ok rest) whole others e h = (
+  suc h.0,
+  λ k. let one : suc h.0 + k ≡ suc (h.0 + k) = omega arith in ap whole one ∙ e (h.0 + k) ∙ h.1 k,
+)
+follows-next n (next, Err fault) whole others e h = e n ∙ h
+
+walk-begun : (n : ℕ) (header : Bool) (found : Found) (bytes : List ℕ) (t : Turn × List ℕ)
+    → (header && is_some found.frame) ≡ false → turn_at Elsewhere found None bytes ≡ Ok t → IsElsewhere t
+    → walk (suc n) header Elsewhere found None bytes ≡ walk n header Elsewhere t.0.found None t.1
+walk-begun n header found bytes t none is s =
+    walk-on n header Elsewhere found None bytes t.1 t.0 none is s.0 ∙ rw (s.1.0, s.1.1) refl
+
+FollowsAt : ℕ → Found → List ℕ → Type 0
+FollowsAt n found bytes =
+    Follows n (walk n true Elsewhere found None bytes) (λ k. walk k false Elsewhere found None bytes)
+
+follows-turn : (n : ℕ) (found : Found) (bytes : List ℕ)
+    → ((t : Turn × List ℕ) → FollowsAt n t.0.found t.1) → FollowsAt (suc n) found bytes
+unfolding Follows FollowsAt
+follows-turn n found bytes others = go (is_some found.frame) refl (turn_at Elsewhere found None bytes) refl
+  where
+    whole : ℕ → Walked
+    whole k = walk k false Elsewhere found None bytes
+
+    at : (w : Walked) → walk (suc n) true Elsewhere found None bytes ≡ w → Follows (suc n) w whole
+        → Follows (suc n) (walk (suc n) true Elsewhere found None bytes) whole
+    at w e h = subst (λ (v : Walked). Follows (suc n) v whole) (sym e) h
+
+    go : (b : Bool) → is_some found.frame ≡ b → (r : Outcome Turn) → turn_at Elsewhere found None bytes ≡ r
+        → FollowsAt (suc n) found bytes
+    go true e r q = at (found, Ok bytes) (walk-stop (suc n) true Elsewhere found None bytes (omega arith) e)
+        (0, λ k. let none : 0 + k ≡ k = omega arith in ap whole none)
+    go false e (Err fault) q = at (found, Err fault) (walk-refused n true Elsewhere found None bytes fault e q)
+        (walk-refused n false Elsewhere found None bytes fault refl q)
+    go false e (Ok t) q =
+        let s = on-at IsElsewhere _ t (turn-begins found bytes e) q in
+        at _ (walk-begun n true found bytes t e q s)
+        (follows-next n _ whole _ (λ k. walk-begun k false found bytes t refl q s) (others t))
+
+follows : (n : ℕ) (found : Found) (bytes : List ℕ) → FollowsAt n found bytes
+unfolding FollowsAt Follows walk
+follows zero found bytes = refl
+follows (suc n) found bytes = follows-turn n found bytes (λ t. follows n t.0.found t.1)
+
+-- ---- where the header is read
+
+past : (n : ℕ) (w : Walked) (whole : ℕ → Walked) (found : Found) (rest : List ℕ) → walked_to w ≡ Ok (found, rest)
+    → Follows n w whole → (m : ℕ) × ((k : ℕ) → whole (m + k) ≡ walk k false Elsewhere found None rest)
+unfolding Follows
+past n (next, Ok left) whole found rest e h = (
+  h.0,
+  λ k. h.1 k ∙ ap (λ (p : Found × List ℕ). walk k false Elsewhere p.0 None p.1) (ok-same (next, left) (found, rest) e),
+)
+past n (next, Err fault) whole found rest e h = absurd (err-ok fault (found, rest) e)
+
+-- A header was read, and the turns of the stream after its start go on as those of the rest.
+record GoesOn (found : Found) (bytes rest : List ℕ) : Type 0 where
+  start : List ℕ
+  starts : start_at bytes ≡ Ok (tt, start)
+  turns : ℕ
+  after : (k : ℕ) → walk (turns + k) false Elsewhere nothing_found None start ≡ walk k false Elsewhere found None rest
+  whole : walk (suc (length start)) false Elsewhere nothing_found None start
+      ≡ walk (suc (length rest)) false Elsewhere found None rest
+
+goes-on : (found : Found) (bytes rest : List ℕ) → header_at bytes ≡ Ok (found, rest) → GoesOn found bytes rest
+unfolding header_at segments_at FollowsAt
+goes-on found bytes rest e =
+    let s = bind-ok (start_at bytes) _ (found, rest) e in
+    let start = s.0.1 in
+    let p = past _ _ _ found rest s.2 (follows (suc (length start)) nothing_found start) in
+    let enough = suc (length start + length rest) in
+    record {
+      start = start;
+      starts = s.1;
+      turns = p.0;
+      after = p.1;
+      whole = turns-enough (suc (length start)) (p.0 + enough) false Elsewhere nothing_found None start refl (omega arith)
+          (omega arith) ∙ p.1 enough
+          ∙ turns-enough enough (suc (length rest)) false Elsewhere found None rest refl (omega arith) (omega arith);
+    }
 
 -- a stream whose header was read means what its rest means
 pub header-means : (settings : Settings) (found : Found) (bytes rest : List ℕ) → header_at bytes ≡ Ok (found, rest)
     → meaning settings bytes ≡ rest_at settings found rest
-unfolding header_at meaning rest_at segments_at
-header-means settings found bytes rest e = grind (arith, common_steps, bind-ok, header-rest)
+unfolding meaning rest_at segments_at
+header-means settings found bytes rest e =
+    let g = goes-on found bytes rest e in
+    then-ok (start_at bytes) _ (tt, g.start) _ g.starts (rw g.whole refl)
 
--- a fault of the header is that of the stream
-pub header-lacks : (settings : Settings) (bytes : List ℕ) (fault : Fault) → header_at bytes ≡ Err fault
-    → meaning settings bytes ≡ Err fault
-unfolding header_at meaning rest_at segments_at
-header-lacks settings bytes fault e = grind (arith, common_steps, bind-err, header-refused)
-
--- ---- what is told
-
-told-begun : (found : Found) (bytes rest : List ℕ) (t : Turn) → t.ended ≡ false → t.before ≡ Elsewhere
-    → t.met ≡ None → turn_at Elsewhere found None bytes ≡ Ok (t, rest)
-    → told_at false Elsewhere found None bytes ≡ told_at false Elsewhere t.found None rest
-told-begun found bytes rest t e b m was = grind (arith, common_steps, told-next)
-
-told-past : (n : ℕ) (found next : Found) (bytes rest : List ℕ)
-    → segments_within n true Elsewhere found None bytes ≡ Ok (next, rest)
-    → told_at false Elsewhere found None bytes ≡ told_at false Elsewhere next None rest
-unfolding segments_within
-told-past zero found next bytes rest e = not-ok _ _ e
-told-past (suc n) found next bytes rest e =
-    chosen (is_some found.frame) (Ok (found, bytes)) (turn_at Elsewhere found None bytes >>= after n) (Ok (next, rest))
-    e
-    (λ some is. let parts = same-parts found next bytes rest is in rw (parts.0, parts.1) refl)
-    (λ none is. bind-ok (turn_at Elsewhere found None bytes) (after n) (next, rest) is (λ turn was more.
-    let s = begins-at (turn_at Elsewhere found None bytes) turn (turn-begins found bytes none) was in
-    told-begun found bytes turn.1 turn.0 s.0 s.1.0 s.1.1 was
-    ∙ told-past n turn.0.found next turn.1 rest (sym (after-begun n turn.0 turn.1 s.0 s.1.0 s.1.1) ∙ more)))
-
--- where the header is read, the rest tells what the stream does
+-- and its rest tells what it does
 pub header-told : (found : Found) (bytes rest : List ℕ) → header_at bytes ≡ Ok (found, rest)
-    → told_by_stream false bytes ≡ told_rest false found rest
-unfolding header_at segments_at
+    → told_by_turns (suc (length bytes)) false bytes ≡ told_in_turns (suc (length rest)) false found rest
 header-told found bytes rest e =
-    bind-ok (start_at bytes) _ (found, rest) e (λ start is e1.
-    told-start false bytes start.1 is
-    ∙ ap (λ (f : Found). told_of f) (told-past (suc (length start.1)) nothing_found found start.1 rest e1))
-
--- while a header is refused, no frame was read: it tells what the stream does
-told-lacking : (n : ℕ) (found : Found) (bytes : List ℕ) (fault : Fault) → length bytes < n
-    → segments_within n true Elsewhere found None bytes ≡ Err fault
-    → told_at true Elsewhere found None bytes ≡ told_at false Elsewhere found None bytes
-unfolding segments_within
-told-lacking zero found bytes fault few e = absurd (omega arith)
-told-lacking (suc n) found bytes fault few e =
-    chosen (is_some found.frame) (Ok (found, bytes)) (turn_at Elsewhere found None bytes >>= after n) (Err fault) e
-    (λ some is. not-err fault _ is)
-    (λ none is. bind-err (turn_at Elsewhere found None bytes) (after n) fault is
-    (λ was. told-refused true Elsewhere found None bytes fault none was
-    ∙ sym (told-refused false Elsewhere found None bytes fault refl was))
-    (λ turn was more.
-    let s = begins-at (turn_at Elsewhere found None bytes) turn (turn-begins found bytes none) was in
-    let took = turn-takes Elsewhere found None bytes turn refl was s.0 in
-    let less : length turn.1 < length bytes = took.0 in
-    told-next true Elsewhere found None bytes turn.1 turn.0 refl none s.0 was ∙ rw (s.1.0, s.1.1) refl
-    ∙ told-lacking n turn.0.found turn.1 fault (omega arith) (sym (after-begun n turn.0 turn.1 s.0 s.1.0 s.1.1) ∙ more)
-    ∙ sym (told-begun found bytes turn.1 turn.0 s.0 s.1.0 s.1.1 was)))
-
-pub header-told_lacking : (bytes : List ℕ) (fault : Fault) → header_at bytes ≡ Err fault
-    → told_by_stream true bytes ≡ told_by_stream false bytes
-unfolding header_at segments_at
-header-told_lacking bytes fault e = grind (arith, common_steps, bind-err, told-no_start, told-start, told-lacking)
-
--- ---- what some turns have told
-
-within-begun : (n : ℕ) (found : Found) (bytes rest : List ℕ) (t : Turn) → t.ended ≡ false → t.before ≡ Elsewhere
-    → t.met ≡ None → turn_at Elsewhere found None bytes ≡ Ok (t, rest)
-    → told_within (suc n) false Elsewhere found None bytes ≡ told_within n false Elsewhere t.found None rest
-within-begun n found bytes rest t e b m was = grind (arith, common_steps, within-next)
-
--- the turns of a header, and those after it
-turns-past : (n : ℕ) (found next : Found) (bytes rest : List ℕ)
-    → segments_within n true Elsewhere found None bytes ≡ Ok (next, rest)
-    → (m : ℕ) × ((k : ℕ) → told_within (m + k) false Elsewhere found None bytes
-    ≡ told_within k false Elsewhere next None rest)
-unfolding segments_within
-turns-past zero found next bytes rest e = not-ok _ _ e
-turns-past (suc n) found next bytes rest e =
-    chosen (is_some found.frame) (Ok (found, bytes)) (turn_at Elsewhere found None bytes >>= after n) (Ok (next, rest))
-    e
-    (λ some is. let parts = same-parts found next bytes rest is in (
-      0,
-      λ k.
-          let none : 0 + k ≡ k = omega arith in
-          ap (λ (m : ℕ). told_within m false Elsewhere found None bytes) none ∙ rw (parts.0, parts.1) refl,
-    ))
-    (λ none is. bind-ok (turn_at Elsewhere found None bytes) (after n) (next, rest) is (λ turn was more.
-    let s = begins-at (turn_at Elsewhere found None bytes) turn (turn-begins found bytes none) was in
-    let others = turns-past n turn.0.found next turn.1 rest (sym (after-begun n turn.0 turn.1 s.0 s.1.0 s.1.1) ∙ more)
-    in (
-      suc others.0,
-      λ k.
-          let one : suc others.0 + k ≡ suc (others.0 + k) = omega arith in
-          ap (λ (m : ℕ). told_within m false Elsewhere found None bytes) one
-          ∙ within-begun (others.0 + k) found bytes turn.1 turn.0 s.0 s.1.0 s.1.1 was ∙ others.1 k,
-    )))
+    let g = goes-on found bytes rest e in
+    told-start false bytes g.start g.starts ∙ ap (λ (w : Walked). told_of w.0) g.whole
 
 pub header-turns : (found : Found) (bytes rest : List ℕ) (told : Told) → header_at bytes ≡ Ok (found, rest)
     → IsOfTurns (λ n. told_in_turns n false found rest) told
     → IsOfTurns (λ n. told_by_turns n false bytes) told
-unfolding IsOfTurns header_at segments_at
+unfolding IsOfTurns
 header-turns found bytes rest told e of =
-    bind-ok (start_at bytes) _ (found, rest) e (λ start is e1.
-    let past = turns-past (suc (length start.1)) nothing_found found start.1 rest e1 in (
-      past.0 + of.0,
-      of.1 ∙ sym (ap (λ (f : Found). told_of f) (past.1 of.0))
-          ∙ sym (turns-start (past.0 + of.0) false bytes start.1 is),
-    ))
-
--- the turns of a header, which end before the first scan, are turns of the stream
-within-stop : (n : ℕ) (before : Before) (found : Found) (met : Option Marker) (bytes : List ℕ)
-    → is_some found.frame ≡ true → told_within (suc n) true before found met bytes ≡ found
-unfolding told_within
-within-stop n before found met bytes p = rw p refl
-
-within-refused : (n : ℕ) (before : Before) (found : Found) (met : Option Marker) (bytes : List ℕ) (fault : Fault)
-    → is_some found.frame ≡ false → turn_at before found met bytes ≡ Err fault
-    → told_within (suc n) true before found met bytes ≡ found
-unfolding told_within
-within-refused n before found met bytes fault p q = rw (p, q) refl
-
-within-ended : (n : ℕ) (header : Bool) (before : Before) (found : Found) (met : Option Marker) (bytes rest : List ℕ)
-    (t : Turn) → (header && is_some found.frame) ≡ false → t.ended ≡ true
-    → turn_at before found met bytes ≡ Ok (t, rest) → told_within (suc n) header before found met bytes ≡ t.found
-unfolding told_within
-within-ended n header before found met bytes rest t p e q = rw (p, q, e) refl
-
-abbrev IsSaid : Before → Found → Option Marker → List ℕ → Found → Type 0
-IsSaid before found met bytes told = (m : ℕ) × (told ≡ told_within m false before found met bytes)
-
-said-turn : (n : ℕ) (before : Before) (found : Found) (met : Option Marker) (bytes : List ℕ) (t : Turn × List ℕ)
-    → is_some found.frame ≡ false → turn_at before found met bytes ≡ Ok t
-    → IsSaid t.0.before t.0.found t.0.met t.1 (told_within n true t.0.before t.0.found t.0.met t.1)
-    → IsSaid before found met bytes (told_within (suc n) true before found met bytes)
-said-turn n before found met bytes t none was others = go t.0.ended refl
-  where
-    go : (b : Bool) → t.0.ended ≡ b → IsSaid before found met bytes (told_within (suc n) true before found met bytes)
-    go true e = (
-      1,
-      within-ended n true before found met bytes t.1 t.0 none e was
-          ∙ sym (within-ended 0 false before found met bytes t.1 t.0 refl e was),
-    )
-    go false e = (
-      suc others.0,
-      within-next n true before found met bytes t.1 t.0 none e was ∙ others.1
-          ∙ sym (within-next others.0 false before found met bytes t.1 t.0 refl e was),
+    let g = goes-on found bytes rest e in (
+      g.turns + of.0,
+      of.1 ∙ sym (turns-start (g.turns + of.0) false bytes g.start g.starts
+          ∙ ap (λ (w : Walked). told_of w.0) (g.after of.0)),
     )
 
-said-one : (n : ℕ) (before : Before) (found : Found) (met : Option Marker) (bytes : List ℕ)
-    → ((t : Turn × List ℕ)
-    → IsSaid t.0.before t.0.found t.0.met t.1 (told_within n true t.0.before t.0.found t.0.met t.1))
-    → IsSaid before found met bytes (told_within (suc n) true before found met bytes)
-said-one n before found met bytes others = go (is_some found.frame) refl (turn_at before found met bytes) refl
-  where
-    go : (b : Bool) → is_some found.frame ≡ b → (r : Outcome Turn) → turn_at before found met bytes ≡ r
-        → IsSaid before found met bytes (told_within (suc n) true before found met bytes)
-    go true e r q = (0, within-stop n before found met bytes e ∙ sym (within-none false before found met bytes))
-    go false e (Err fault) q = (
-      0,
-      within-refused n before found met bytes fault e q ∙ sym (within-none false before found met bytes),
-    )
-    go false e (Ok t) q = said-turn n before found met bytes t e q (others t)
+-- ---- where the header is refused
 
-said-header : (n : ℕ) (before : Before) (found : Found) (met : Option Marker) (bytes : List ℕ)
-    → IsSaid before found met bytes (told_within n true before found met bytes)
-said-header zero before found met bytes = grind (arith, common_steps, within-none)
-said-header (suc n) before found met bytes =
-    said-one n before found met bytes (λ t. said-header n t.0.before t.0.found t.0.met t.1)
+lacks : (n : ℕ) (w : Walked) (whole : ℕ → Walked) (fault : Fault) → walked_to w ≡ Err fault → Follows n w whole
+    → whole n ≡ w
+unfolding Follows
+lacks n (next, Ok left) whole fault e h = absurd (err-ok fault (next, left) (sym e))
+lacks n (next, Err other) whole fault e h = h
 
+-- no frame was read: it is walked as the stream is
+segments-lack : (bytes : List ℕ) (fault : Fault) → segments_at true Elsewhere nothing_found None bytes ≡ Err fault
+    → walk (suc (length bytes)) false Elsewhere nothing_found None bytes
+    ≡ walk (suc (length bytes)) true Elsewhere nothing_found None bytes
+unfolding segments_at FollowsAt
+segments-lack bytes fault e = lacks _ _ _ fault e (follows (suc (length bytes)) nothing_found bytes)
+
+bind-err : {A B P : Type 0} (r : Result A Fault) (f : A → Result B Fault) (fault : Fault) → r >>= f ≡ Err fault
+    → (r ≡ Err fault → P) → ((x : A) → r ≡ Ok x → f x ≡ Err fault → P) → P
+bind-err r f fault e p q = grind (arith, common_steps)
+
+stream-lacks : (bytes : List ℕ) (fault : Fault) → segments_at true Elsewhere nothing_found None bytes ≡ Err fault
+    → segments_at false Elsewhere nothing_found None bytes ≡ Err fault
+unfolding segments_at
+stream-lacks bytes fault e = ap walked_to (segments-lack bytes fault e) ∙ e
+
+-- a fault of the header is that of the stream
+pub header-lacks : (settings : Settings) (bytes : List ℕ) (fault : Fault) → header_at bytes ≡ Err fault
+    → meaning settings bytes ≡ Err fault
+unfolding header_at meaning rest_at
+header-lacks settings bytes fault e = grind (arith, common_steps, bind-err, stream-lacks)
+
+pub header-told_lacking : (bytes : List ℕ) (fault : Fault) → header_at bytes ≡ Err fault
+    → told_by_turns (suc (length bytes)) true bytes ≡ told_by_turns (suc (length bytes)) false bytes
+unfolding header_at
+header-told_lacking bytes fault e =
+    grind (arith, common_steps, bind-err, turns-no_start, told-start, segments-lack)
+
+said-by : (n : ℕ) (w : Walked) (whole : ℕ → Walked) → Follows n w whole → (m : ℕ) × (w.0 ≡ (whole m).0)
+unfolding Follows walk
+said-by n (next, Ok rest) whole h = (h.0 + 0, ap (λ (w : Walked). w.0) (sym (h.1 0)))
+said-by n (next, Err fault) whole h = (n, ap (λ (w : Walked). w.0) (sym h))
+
+-- The turns of a header, which end before the first scan, are turns of the stream.
 pub header-turns_lacking : (bytes : List ℕ) (told : Told) → IsOfTurns (λ n. told_by_turns n true bytes) told
     → IsOfTurns (λ n. told_by_turns n false bytes) told
-unfolding IsOfTurns told_by_turns
-header-turns_lacking bytes told of = go (start_at bytes) of
+unfolding IsOfTurns FollowsAt
+header-turns_lacking bytes told of = go (start_at bytes) refl
   where
-    said : Bool → ℕ → Outcome (Unit {0}) → Told
-    said header n start = elim start as (λ _. Told) [
-      | Err fault ↦ told_of nothing_found
-      | Ok start ↦ told_in_turns n header nothing_found start.1
-    ]
-
-    go : (start : Outcome (Unit {0})) → (n : ℕ) × (told ≡ said true n start) → (n : ℕ) × (told ≡ said false n start)
-    go (Err fault) h = h
-    go (Ok start) h =
-        let s = said-header h.0 Elsewhere nothing_found None start.1 in
-        (s.0, h.1 ∙ ap (λ (f : Found). told_of f) s.1)
+    go : (r : Outcome (Unit {0})) → start_at bytes ≡ r → (n : ℕ) × (told ≡ told_by_turns n false bytes)
+    go (Err fault) q = (
+      of.0,
+      of.1 ∙ turns-no_start of.0 true bytes fault q ∙ sym (turns-no_start of.0 false bytes fault q),
+    )
+    go (Ok start) q =
+        let s = said-by _ _ _ (follows of.0 nothing_found start.1) in (
+          s.0,
+          of.1 ∙ turns-start of.0 true bytes start.1 q ∙ ap (λ (f : Found). told_of f) s.1
+              ∙ sym (turns-start s.0 false bytes start.1 q),
+        )

@@ -2,6 +2,7 @@ pub mod Callers
 pub mod ReadLists
 pub mod PassedRestarts
 pub mod Turns
+pub mod TurnLoops
 pub mod Headers
 pub mod HeaderThenRest
 pub mod DecodedInto

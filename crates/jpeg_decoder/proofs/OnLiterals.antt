@@ -41,7 +41,7 @@ use Rattle.jpeg_streams.specs.Scans.{arrays_at, put_blocks, turns_of, zero_array
 use Rattle.jpeg_streams.specs.Segments.{accepted, application_segment, frame_segment, huffman_segment}
 use Rattle.jpeg_streams.specs.Segments.{quantization_segment, restart_segment, skipped_segment, updated}
 use Rattle.jpeg_streams.specs.Stream.{end_segment, header_at, meaning, rest_at, segment_at, segments_at}
-use Rattle.jpeg_streams.specs.Stream.{segments_within, sized_meaning, start_at, turn_at}
+use Rattle.jpeg_streams.specs.Stream.{sized_meaning, start_at, turn_at, walk}
 use Rattle.std.specs.Int.{int_wrap}
 use Rattle.jpeg_segments.specs.HuffmanTables as tables
 use Rattle.jpeg_segments.specs.Quantization as quantization
@@ -62,10 +62,10 @@ unfolding accepted adobe_at after_restarts after_scan all_spots app_at applicati
     quantization.quantization_from quantization.value_at quantization_segment red_of refined_ac
     refined_piece rest_at
     restart_segment rule_of sample sample_at sample_of_1 sample_of_2 sample_of_4 scale_for scan_arrays scan_of
-    scan_segment segment_at segments_at segments_within selector_at selectors_from signed_from size_at sized_meaning
+    scan_segment segment_at segments_at selector_at selectors_from signed_from size_at sized_meaning
     skip_at skipped_segment sof_at sos_at sources_by spots_of start_at symbol_from tables.codes_at tables.dht_at
     tables.defined_codes_at tables.symbols_at tables.tables_from destinations_at tables_of text_ahead text_at
     through_zero times
     token_at token_from transform_of transformed turn_at turns_of updated upsampled values_in_block_order
-    vias_from with_arrays with_blocks with_last with_plane zero_arrays zero_block zigzag_indices
+    vias_from walk with_arrays with_blocks with_last with_plane zero_arrays zero_block zigzag_indices
 jpeg_on_literals = tt

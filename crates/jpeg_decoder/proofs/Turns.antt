@@ -1,7 +1,7 @@
 -- The segments of a stream, a turn at a time.
 use Rattle.std.proofs.Common.{rules}
 use Rattle.std.proofs.Common.{◌≡◌, ◌≤◌, ◌<◌, ℕ, suc, List, Result, Ok, Err, Bool, true, false, Option, Some, None}
-use Rattle.std.proofs.Common.{refl, length, arith}
+use Rattle.std.proofs.Common.{refl, ap, ◌∙◌, length, arith}
 use Rattle.std.specs.Prelude.{if◌then◌else◌, ◌&&◌, is_some, option_map}
 use Rattle.std.proofs.Math.Bool.{cond}
 use Rattle.jpeg_bits.specs.Reading.{Outcome, Fault, ◌>>=◌, length_at, skip_at}
@@ -20,16 +20,17 @@ use Rattle.jpeg_streams.specs.ScanSegments.{lossless_scan, blocks_scan, codings_
 use Rattle.jpeg_streams.specs.ScanSegments.{after_restarts, scan_arrays, scan_segment}
 use Rattle.jpeg_streams.specs.Segments.{accepted, onward, Turn, frame_segment, application_segment, restart_segment}
 use Rattle.jpeg_streams.specs.Segments.{huffman_segment, quantization_segment, skipped_segment}
-use Rattle.jpeg_streams.specs.Found.{Found}
-use Rattle.jpeg_streams.specs.Stream.{end_segment, line_count, segment_at, turn_at, segments_within}
-use Rattle.jpeg_streams.specs.Stream.{segments_at}
-use Rattle.jpeg_streams.specs.Reported.{told_at, told_within}
+use Rattle.jpeg_streams.specs.Found.{Found, nothing_found}
+use Rattle.jpeg_streams.specs.Stream.{end_segment, line_count, segment_at, start_at, told_of, turn_at, walk}
+use Rattle.jpeg_streams.specs.Reported.{told_by_turns, told_in_turns}
 use Rattle.jpeg_decoder.specs.Steps.{is_restart_marker}
-use Rattle.jpeg_streams.proofs.Shorter.{LeavesBelow, length-below, skip-below, marker-below}
+use Rattle.jpeg_streams.proofs.Shorter.{LeavesBelow, below-at, below_steps, length-below, skip-below, marker-below}
 use Rattle.jpeg_streams.proofs.ShorterSegments.{sof-below, dqt-below, dht-below, sos-below, app-below, dri-below}
 use Rattle.jpeg_streams.proofs.ShorterScans.{arrays-below}
 use Rattle.jpeg_streams.proofs.ShorterSamples.{samples-below}
-use Rattle.jpeg_decoder.proofs.PassedRestarts.{Passes, after-passes, bind-same}
+use Rattle.jpeg_streams.proofs.ReadTurns.{Walked}
+use Rattle.jpeg_streams.proofs.Told.{turns-start}
+use Rattle.jpeg_decoder.proofs.PassedRestarts.{Passes, after-passes}
 use Rattle.std.proofs.lemmas.Grind.{common_steps}
 
 -- ---- what a turn takes
@@ -214,129 +215,42 @@ turn-takes before found met bytes r none e =
 cond-same : {A : Type 0} (b : Bool) (x y z : A) → (b ≡ false → y ≡ z) → cond b x y ≡ cond b x z
 cond-same b x y z h = grind (arith, common_steps)
 
-turn-same : (r : Outcome Turn) (found : Found) (f g : Turn × List ℕ → Found) → ((x : Turn × List ℕ) → r ≡ Ok x
-    → f x ≡ g x)
-    → elim r as (λ _. Found) [ Err fault ↦ found | Ok t ↦ f t ] ≡ elim r as (λ _. Found) [
-      | Err fault ↦ found
+turn-same : (r : Outcome Turn) (f g : Turn × List ℕ → Walked) (refused : Fault → Walked)
+    → ((x : Turn × List ℕ) → r ≡ Ok x → f x ≡ g x)
+    → elim r as (λ _. Walked) [ Err fault ↦ refused fault | Ok t ↦ f t ] ≡ elim r as (λ _. Walked) [
+      | Err fault ↦ refused fault
       | Ok t ↦ g t
     ]
-turn-same r found f g h = grind (arith, common_steps)
+turn-same r f g refused h = grind (arith, common_steps)
 
 -- more turns than bytes change nothing
-turns-enough : (m n : ℕ) (header : Bool) (before : Before) (found : Found) (met : Option Marker) (bytes : List ℕ)
+pub turns-enough : (m n : ℕ) (header : Bool) (before : Before) (found : Found) (met : Option Marker) (bytes : List ℕ)
     → is_restart_marker met ≡ false → length bytes < m → length bytes < n
-    → segments_within m header before found met bytes ≡ segments_within n header before found met bytes
-unfolding segments_within
+    → walk m header before found met bytes ≡ walk n header before found met bytes
+unfolding walk
 turns-enough (suc m) (suc n) header before found met bytes none p q =
     cond-same (header && is_some found.frame) _ _ _ (λ _.
-    bind-same (turn_at before found met bytes) _ _ (λ t is.
+    turn-same (turn_at before found met bytes) _ _ _ (λ t is.
     cond-same t.0.ended _ _ _ (λ on.
     let took = turn-takes before found met bytes t none is on in
     let less : length t.1 < length bytes = took.0 in
     turns-enough m n header t.0.before t.0.found t.0.met t.1 took.1 (omega arith) (omega arith))))
 turns-enough _ _ header before found met bytes none p q = absurd (omega arith)
 
-told-enough : (m n : ℕ) (header : Bool) (before : Before) (found : Found) (met : Option Marker) (bytes : List ℕ)
-    → is_restart_marker met ≡ false → length bytes < m → length bytes < n
-    → told_within m header before found met bytes ≡ told_within n header before found met bytes
-unfolding told_within
-told-enough (suc m) (suc n) header before found met bytes none p q =
-    cond-same (header && is_some found.frame) _ _ _ (λ _.
-    turn-same (turn_at before found met bytes) found _ _ (λ t is.
-    cond-same t.0.ended _ _ _ (λ on.
-    let took = turn-takes before found met bytes t none is on in
-    let less : length t.1 < length bytes = took.0 in
-    told-enough m n header t.0.before t.0.found t.0.met t.1 took.1 (omega arith) (omega arith))))
-told-enough _ _ header before found met bytes none p q = absurd (omega arith)
+-- ---- the start
 
--- ---- the ways a turn goes
+start-below : (bytes : List ℕ) → LeavesBelow (suc (length bytes)) (start_at bytes)
+unfolding start_at
+start-below bytes = search below_steps
 
-pub segments-stop : (header : Bool) (before : Before) (found : Found) (met : Option Marker) (bytes : List ℕ)
-    → (header && is_some found.frame) ≡ true → segments_at header before found met bytes ≡ Ok (found, bytes)
-unfolding segments_at segments_within
-segments-stop header before found met bytes p = rw p refl
-
-pub told-stop : (header : Bool) (before : Before) (found : Found) (met : Option Marker) (bytes : List ℕ)
-    → (header && is_some found.frame) ≡ true → told_at header before found met bytes ≡ found
-unfolding told_at told_within
-told-stop header before found met bytes p = rw p refl
-
-pub segments-refused : (header : Bool) (before : Before) (found : Found) (met : Option Marker) (bytes : List ℕ)
-    (fault : Fault) → (header && is_some found.frame) ≡ false → turn_at before found met bytes ≡ Err fault
-    → segments_at header before found met bytes ≡ Err fault
-unfolding segments_at segments_within
-segments-refused header before found met bytes fault p q = rw (p, q) refl
-
-pub told-refused : (header : Bool) (before : Before) (found : Found) (met : Option Marker) (bytes : List ℕ)
-    (fault : Fault) → (header && is_some found.frame) ≡ false → turn_at before found met bytes ≡ Err fault
-    → told_at header before found met bytes ≡ found
-unfolding told_at told_within
-told-refused header before found met bytes fault p q = rw (p, q) refl
-
-pub segments-end : (header : Bool) (before : Before) (found : Found) (met : Option Marker) (bytes rest : List ℕ)
-    (t : Turn) → (header && is_some found.frame) ≡ false → t.ended ≡ true
-    → turn_at before found met bytes ≡ Ok (t, rest) → segments_at header before found met bytes ≡ Ok (t.found, rest)
-unfolding segments_at segments_within
-segments-end header before found met bytes rest t p e q = rw (p, q, e) refl
-
-pub told-end : (header : Bool) (before : Before) (found : Found) (met : Option Marker) (bytes rest : List ℕ) (t : Turn)
-    → (header && is_some found.frame) ≡ false → t.ended ≡ true
-    → turn_at before found met bytes ≡ Ok (t, rest) → told_at header before found met bytes ≡ t.found
-unfolding told_at told_within
-told-end header before found met bytes rest t p e q = rw (p, q, e) refl
-
--- the segments are one turn and then the segments after it
-pub segments-turn : (header : Bool) (before : Before) (found : Found) (met : Option Marker) (bytes : List ℕ)
-    → is_restart_marker met ≡ false
-    → segments_at header before found met bytes ≡ (if header && is_some found.frame then Ok (found, bytes) else
-    (turn_at before found met bytes >>= λ (t : Turn × List ℕ). if t.0.ended then Ok (t.0.found, t.1)
-    else segments_at header t.0.before t.0.found t.0.met t.1))
-unfolding segments_at segments_within
-segments-turn header before found met bytes none =
-    grind (arith, common_steps, cond-same, bind-same, turn-takes, turns-enough)
-
-pub segments-next : (header : Bool) (before : Before) (found : Found) (met : Option Marker) (bytes rest : List ℕ)
-    (t : Turn) → is_restart_marker met ≡ false → (header && is_some found.frame) ≡ false → t.ended ≡ false
-    → turn_at before found met bytes ≡ Ok (t, rest) → segments_at header before found met bytes ≡ segments_at header
-    t.before t.found t.met rest
-segments-next header before found met bytes rest t none p e q = grind (arith, common_steps, segments-turn)
-
-pub told-turn : (header : Bool) (before : Before) (found : Found) (met : Option Marker) (bytes : List ℕ)
-    → is_restart_marker met ≡ false
-    → told_at header before found met bytes ≡ (if header && is_some found.frame then found else
-    elim (turn_at before found met bytes) as (λ _. Found) [
-      | Err fault ↦ found
-      | Ok t ↦ if t.0.ended then t.0.found else told_at header t.0.before t.0.found t.0.met t.1
-    ])
-unfolding told_at told_within
-told-turn header before found met bytes none =
-    grind (arith, common_steps, cond-same, turn-same, turn-takes, told-enough)
-
-pub told-next : (header : Bool) (before : Before) (found : Found) (met : Option Marker) (bytes rest : List ℕ) (t : Turn)
-    → is_restart_marker met ≡ false → (header && is_some found.frame) ≡ false → t.ended ≡ false
-    → turn_at before found met bytes ≡ Ok (t, rest) → told_at header before found met bytes ≡ told_at header t.before
-    t.found t.met rest
-told-next header before found met bytes rest t none p e q = grind (arith, common_steps, told-turn)
-
--- ---- this many turns
-
-pub within-none : (header : Bool) (before : Before) (found : Found) (met : Option Marker) (bytes : List ℕ)
-    → told_within 0 header before found met bytes ≡ found
-unfolding told_within
-within-none header before found met bytes = refl
-
-pub within-next : (n : ℕ) (header : Bool) (before : Before) (found : Found) (met : Option Marker) (bytes rest : List ℕ)
-    (t : Turn) → (header && is_some found.frame) ≡ false → t.ended ≡ false
-    → turn_at before found met bytes ≡ Ok (t, rest) → told_within (suc n) header before found met bytes
-    ≡ told_within n header t.before t.found t.met rest
-unfolding told_within
-within-next n header before found met bytes rest t p e q = rw (p, q, e) refl
-
-pub within-end : (header : Bool) (before : Before) (found : Found) (met : Option Marker) (bytes rest : List ℕ)
-    (t : Turn) → (header && is_some found.frame) ≡ false → t.ended ≡ true
-    → turn_at before found met bytes ≡ Ok (t, rest) → told_within 1 header before found met bytes ≡ t.found
-unfolding told_within
-within-end header before found met bytes rest t p e q = rw (p, q, e) refl
+-- The turns of a stream, as many as it has bytes and one more, are those of what follows its start.
+pub told-start : (header : Bool) (bytes rest : List ℕ) → start_at bytes ≡ Ok (tt, rest)
+    → told_by_turns (suc (length bytes)) header bytes ≡ told_in_turns (suc (length rest)) header nothing_found rest
+told-start header bytes rest e =
+    let few : length rest < suc (length bytes) = below-at _ _ _ (start-below bytes) e in
+    turns-start (suc (length bytes)) header bytes rest e
+    ∙ ap (λ (w : Walked). told_of w.0)
+    (turns-enough (suc (length bytes)) (suc (length rest)) header Elsewhere nothing_found None rest refl few (omega arith))
 
 -- While a header is read on, the frame is not read yet.
 pub not-framed : {A : Type 0} (header : Bool) (o : Option A) → (header && is_some o) ≡ false → header ≡ true → o ≡ None

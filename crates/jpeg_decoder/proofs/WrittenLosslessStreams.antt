@@ -28,7 +28,7 @@ use Rattle.jpeg_lossless.specs.Pictures.{lossless_picture}
 use Rattle.jpeg_streams.specs.SaidSegments.{found_after}
 use Rattle.jpeg_streams.specs.Segments.{onward}
 use Rattle.jpeg_streams.specs.Found.{nothing_found, Found}
-use Rattle.jpeg_streams.specs.Stream.{start_at, segment_at, turn_at, segments_within, segments_at}
+use Rattle.jpeg_streams.specs.Stream.{start_at, segment_at, segments_at, turn_at, walk}
 use Rattle.jpeg_streams.specs.Stream.{header_at, rest_at, meaning, sized_meaning, sized_to, Told, told_of}
 use Rattle.jpeg_streams.specs.ScanSegments.{scan_before}
 use Rattle.jpeg_streams.specs.FoundPictures.{picture_of, samples_picture}
@@ -37,11 +37,12 @@ use Rattle.jpeg_streams.specs.WrittenLossless.{WritesSamplesScan, closed}
 use Rattle.jpeg_streams.specs.InTurn.{IsIn}
 use Rattle.jpeg_streams.specs.WrittenLossless.{said_after_scan, scan, segment}
 use Rattle.jpeg_streams.proofs.ReadTurns.{frame-or, frame-stays as unchanged, segment-tail, scan-tail, some-none}
-use Rattle.jpeg_streams.proofs.ReadTurns.{then-ok, turn-end, turn-on, head-on, head-end, frame-turn, segment-read}
+use Rattle.jpeg_streams.proofs.ReadTurns.{then-ok, segments-walked, walk-end, walk-on, walk-stop, frame-turn, segment-read}
 use Rattle.jpeg_streams.proofs.ReadTurns.{marker-turn, StandsAt, stands-here, stands-met, end-turn, scan-turn, Starts}
 use Rattle.jpeg_streams.proofs.ReadTurns.{segment-starts, scan-starts, end-starts, marker-longer, scan-longer}
 use Rattle.jpeg_streams.proofs.LosslessFrames.{IsShaped, header-shaped, lossless-accepted}
 use Rattle.jpeg_streams.proofs.SaidTables.{HasTables, no-tables, segment-tables}
+use Rattle.jpeg_streams.proofs.WrittenPictures.{rest-by}
 use Rattle.jpeg_streams.proofs.WrittenMarkers.{marker-append, marker_for, segment-marker}
 use Rattle.jpeg_decoder.proofs.WrittenSamples.{and_samples, components-of, indices_of, planes_for}
 use Rattle.jpeg_decoder.proofs.WrittenSamples.{scan-read}
@@ -186,7 +187,7 @@ segment-said said s may h = search (rules, segment-tables, segment-shaped)
 record Ends (samples : Samples) (turns : ℕ) (before : Before) (said final : Found) (decided : List (Option (List ℕ)))
     (met : Option Marker) (all rest : List ℕ) : Type 0 where
   last : List (Option (List ℕ))
-  is : segments_within turns false before (and_samples said decided) met all ≡ Ok (and_samples final last, rest)
+  is : walk turns false before (and_samples said decided) met all ≡ (and_samples final last, Ok rest)
   frame : Frame
   framed : final.frame ≡ Some frame
   lossless : frame.process ≡ Lossless
@@ -194,7 +195,7 @@ record Ends (samples : Samples) (turns : ℕ) (before : Before) (said final : Fo
 
 after-turn : (samples : Samples) (turns : ℕ) (before next : Before) (said between final : Found)
     (decided others : List (Option (List ℕ))) (met after : Option Marker) (all left rest : List ℕ)
-    → segments_within (suc turns) false before (and_samples said decided) met all ≡ segments_within turns false next
+    → walk (suc turns) false before (and_samples said decided) met all ≡ walk turns false next
     (and_samples between others) after left
     → Ends samples turns next between final others after left rest
     → Ends samples (suc turns) before said final decided met all rest
@@ -224,13 +225,13 @@ closed-read samples rest turns said sent frame fill framed lossless sends before
     four kept stands =
     record {
       last = decided;
-      is = turn-end turns before (and_samples said decided) met all rest (record {
+      is = walk-end turns false before (and_samples said decided) met all rest (record {
         found = and_samples said decided;
         before = Elsewhere;
         met = None;
         ended = true;
       })
-          (stands.turn before (and_samples said decided) ∙ ap (turn_at before (and_samples said decided) None)
+          refl (stands.turn before (and_samples said decided) ∙ ap (turn_at before (and_samples said decided) None)
           (marker-append fill 217 [] rest)
           ∙ marker-turn before (and_samples said decided) fill 217 EOI rest refl
           ∙ end-turn before (and_samples said decided) rest (ap is_some framed)) refl;
@@ -249,8 +250,8 @@ segment-next samples rest turns said final sent fill s more may again before dec
     four kept stands =
     after-turn samples turns before Elsewhere said (found_after said s) final decided decided met None all
     (more ++ rest) rest
-    (turn-on turns before (and_samples said decided) met all (more ++ rest)
-    (onward (and_samples (found_after said s) decided))
+    (walk-on turns false before (and_samples said decided) met all (more ++ rest)
+    (onward (and_samples (found_after said s) decided)) refl
     (stands.turn before (and_samples said decided) ∙ ap (turn_at before (and_samples said decided) None)
     (segment-tail fill (marker_code s) (with_length (payload_of s)) more rest)
     ∙ marker-turn before (and_samples said decided) fill (marker_code s) (marker_for s)
@@ -289,8 +290,8 @@ scan-next samples rest turns said final sent frame fill h data_bytes more framed
     ∙ marker-append s.fill s.code s.after rest in
     after-turn samples turns before (scan_before said) said (said_after_scan said) final decided next met (Some s.m) all
     left rest
-    (turn-on turns before (and_samples said decided) met all left (turn_after said indices samples
-    decided s.m)
+    (walk-on turns false before (and_samples said decided) met all left (turn_after said indices samples
+    decided s.m) refl
     (stands.turn before (and_samples said decided)
     ∙ ap (turn_at before (and_samples said decided) None) (scan-tail fill 218 (with_length
     (scan_payload h)) data_bytes more
@@ -373,39 +374,40 @@ unfolding picture_of
 picture-refused settings found frame framed over =
     grind (arith, common_steps, then-ok, kept, lt-ltb)
 
+-- the rest of a stream up to its end
+rest-ends : (samples : Samples) (bytes rest : List ℕ) (said final : Found) → Writes samples said [] bytes final
+    → IsSaid said
+    → Ends samples (suc (length (bytes ++ rest))) Elsewhere said final (replicate 4 None) None (bytes ++ rest) rest
+rest-ends samples bytes rest said final w is =
+    let long = length-append bytes rest in
+    stream-read samples rest (suc (length (bytes ++ rest))) said [] bytes final w (omega (arith, long))
+    Elsewhere (replicate 4 None) None (bytes ++ rest) is refl tt (stands-here (bytes ++ rest))
+
 rest-refused : (samples : Samples) (settings : Settings) (bytes rest : List ℕ) (said final : Found) (frame : Frame)
     → Writes samples said [] bytes final → IsSaid said → final.frame ≡ Some frame
     → settings.limit < length frame.components * (frame.output_width * frame.output_height)
     → rest_at settings (and_samples said (replicate 4 None)) (bytes ++ rest) ≡ Err Malformed
-unfolding rest_at segments_at
 rest-refused samples settings bytes rest said final frame w is framed over =
-    let long = length-append bytes rest in
-    let e = stream-read samples rest (suc (length (bytes ++ rest))) said [] bytes final w (omega (arith, long))
-    Elsewhere (replicate 4 None) None (bytes ++ rest) is refl tt (stands-here (bytes ++ rest)) in
-    then-ok (segments_within (suc (length (bytes ++ rest))) false Elsewhere (and_samples said (replicate 4 None)) None
-    (bytes ++ rest)) _ (and_samples final e.last, rest) _ e.is
-    (ap (λ (o : Result (List ℕ) Fault). o >>= λ (p : List ℕ). given (and_samples final e.last) p rest)
-    (picture-refused settings (and_samples final e.last) frame framed over))
+    let e = rest-ends samples bytes rest said final w is in
+    rest-by settings _ _ _ _ e.is
+    ∙ ap (λ (o : Result (List ℕ) Fault). o >>= λ (p : List ℕ). given (and_samples final e.last) p rest)
+    (picture-refused settings (and_samples final e.last) frame framed over)
 
 rest-read : (samples : Samples) (settings : Settings) (bytes rest : List ℕ) (said final : Found) (frame : Frame)
     → Writes samples said [] bytes final → IsSaid said
     → final.frame ≡ Some frame → length frame.components * (frame.output_width * frame.output_height) ≤ settings.limit
     → rest_at settings (and_samples said (replicate 4 None))
     (bytes ++ rest) ≡ Ok ((told_of final, drawn frame samples), rest)
-unfolding rest_at segments_at
 rest-read samples settings bytes rest said final frame w is framed within =
-    let long = length-append bytes rest in
-    let e = stream-read samples rest (suc (length (bytes ++ rest))) said [] bytes final w (omega (arith, long))
-    Elsewhere (replicate 4 None) None (bytes ++ rest) is refl tt (stands-here (bytes ++ rest)) in
+    let e = rest-ends samples bytes rest said final w is in
     let same : e.frame ≡ frame = some-same e.frame frame (sym e.framed ∙ framed) in
     let kept = subst (λ (f : Frame). AreKept samples e.last (range_with_len 0 (length
     f.components))) same e.kept in
     let lossless = subst (λ (f : Frame). f.process ≡ Lossless) same e.lossless in
-    then-ok (segments_within (suc (length (bytes ++ rest))) false Elsewhere (and_samples said (replicate 4 None)) None
-    (bytes ++ rest)) _ (and_samples final e.last, rest) _ e.is
-    (then-ok (picture_of settings (and_samples final e.last)) _ (drawn frame samples) _
+    rest-by settings _ _ _ _ e.is
+    ∙ then-ok (picture_of settings (and_samples final e.last)) _ (drawn frame samples) _
     (picture-there settings (and_samples final e.last) samples frame framed lossless within kept)
-    refl)
+    refl
 
 -- A stream that was written for samples means their picture, and what stands after it is left.
 pub samples-meant : (settings : Settings) (samples : Samples) (bytes rest : List ℕ) (final : Found) (frame : Frame)
@@ -460,8 +462,8 @@ record Headed (samples : Samples) (turns : ℕ) (before : Before) (said final : 
   framed : between.frame ≡ Some frame
   written : Writes samples between sent after final
   is_said : IsSaid between
-  is : segments_within turns true before (and_samples said decided) None (bytes ++ rest)
-      ≡ Ok (and_samples between decided, after ++ rest)
+  is : walk turns true before (and_samples said decided) None (bytes ++ rest)
+      ≡ (and_samples between decided, Ok (after ++ rest))
 
 header-read : (samples : Samples) (rest : List ℕ) (decided : List (Option (List ℕ))) (turns : ℕ) (before : Before)
     (said : Found) (sent bytes : List ℕ) (final : Found)
@@ -476,12 +478,12 @@ header-read samples rest decided (suc turns) before said sent bytes final (segme
     l is e =
     let shorter = marker-longer fill (marker_code s) turns (with_length (payload_of s)) more l in
     let next = segment-said said s may is in
-    let step : segments_within (suc turns) true before (and_samples said decided) None
+    let step : walk (suc turns) true before (and_samples said decided) None
     (marker fill (marker_code s) (with_length (payload_of s) ++ more) ++ rest)
-    ≡ segments_within turns true Elsewhere (and_samples (found_after said s) decided) None (more ++ rest)
-    = head-on turns before (and_samples said decided) None (marker fill (marker_code s)
+    ≡ walk turns true Elsewhere (and_samples (found_after said s) decided) None (more ++ rest)
+    = walk-on turns true before (and_samples said decided) None (marker fill (marker_code s)
     (with_length (payload_of s) ++ more)
-    ++ rest) (more ++ rest) (onward (and_samples (found_after said s) decided)) e
+    ++ rest) (more ++ rest) (onward (and_samples (found_after said s) decided)) (ap is_some e)
     (ap (turn_at before (and_samples said decided) None) (segment-tail fill (marker_code s)
     (with_length (payload_of s)) more
     rest)
@@ -499,7 +501,7 @@ header-read samples rest decided (suc turns) before said sent bytes final (segme
       framed = framed;
       written = w;
       is_said = next;
-      is = grind (arith, common_steps, head-end, and_samples);
+      is = grind (arith, common_steps, walk-stop, and_samples);
     })
     (λ other.
     let r = header-read samples rest decided turns Elsewhere (found_after said s) sent more final w shorter next
@@ -524,7 +526,7 @@ pub samples-sized : (width height : ℕ) (settings : Settings) (samples : Sample
     (final : Found) (frame : Frame) → WritesSamples samples bytes final
     → final.frame ≡ Some frame → length frame.components * (frame.output_width * frame.output_height) ≤ settings.limit
     → sized_meaning width height settings (bytes ++ rest) ≡ Ok ((told_of final, drawn frame samples), rest)
-unfolding sized_meaning header_at start_at segments_at nothing_found
+unfolding sized_meaning header_at start_at nothing_found
 samples-sized width height settings samples bytes rest final frame w framed within =
     let long = length-append w.after rest in
     let r = header-read samples rest (replicate 4 None) (suc (length (w.after ++ rest))) Elsewhere nothing_found []
@@ -532,8 +534,8 @@ samples-sized width height settings samples bytes rest final frame w framed with
     let frame_of_all = final-framed samples r.frame r.between [] r.after final r.written r.framed in
     let lossless = final-lossless samples r.frame r.between [] r.after final r.written frame_of_all in
     ap (λ (l : List ℕ). sized_meaning width height settings (l ++ rest)) w.starts
-    ∙ then-ok (segments_within (suc (length (w.after ++ rest))) true Elsewhere nothing_found None (w.after ++ rest)) _
-    (and_samples r.between (replicate 4 None), r.after ++ rest) _ r.is
+    ∙ then-ok (segments_at true Elsewhere nothing_found None (w.after ++ rest)) _
+    (and_samples r.between (replicate 4 None), r.after ++ rest) _ (segments-walked _ _ _ _ _ _ r.is)
     (ap (λ (f : Found). rest_at settings f (r.after ++ rest))
     (keeps-size width height (and_samples r.between (replicate 4 None)) r.frame r.framed lossless)
     ∙ rest-read samples settings r.after rest r.between final frame r.written r.is_said framed within)

@@ -1,6 +1,6 @@
 //! A stream from its start to its picture (T.81, B.2).
 ghost use Rattle.std.specs.Prelude.{◌≡◌, ◌*◌, ◌+◌, ◌<◌, ◌≤◌, ◌&&◌, IfOk, IfSome, MatchResult};
-ghost use Rattle.std.specs.Prelude.{None, OnErr};
+ghost use Rattle.std.specs.Prelude.{None, OnErr, suc};
 ghost use Rattle.std.specs.Prelude.{OnOk, Ok, Some, drop, false, is_some, length, map, nat_lt, not};
 ghost use Rattle.std.specs.Prelude.{option_map, replicate, slice_index_or, true, []};
 ghost use Rattle.jpeg_bits.specs.Reading.{Answers, Names, NamesFormat};
@@ -22,8 +22,7 @@ ghost use Rattle.jpeg_streams.specs.Sound.{IsUnread};
 ghost use Rattle.jpeg_streams.specs.States.{OnTold};
 ghost use Rattle.jpeg_decoder.specs.Steps.{IsRefusal, cropped_to, with_decoded};
 ghost use Rattle.jpeg_streams.specs.Stream.{header_at, rest_at, start_at, told_of};
-ghost use Rattle.jpeg_streams.specs.Reported.{IsOfTurns, told_by_stream, told_by_turns};
-ghost use Rattle.jpeg_streams.specs.Reported.{told_in_turns, told_rest};
+ghost use Rattle.jpeg_streams.specs.Reported.{IsOfTurns, told_by_turns, told_in_turns};
 ghost use Rattle.jpeg_streams.specs.FoundPictures.{blocks_picture, picture_of, picture_by};
 ghost use Rattle.jpeg_streams.specs.FoundPictures.{planes_from, samples_picture};
 ghost use Rattle.jpeg_streams.specs.Found.{nothing_found};
@@ -521,7 +520,7 @@ fn write_picture(
 }
 
 /// Reads the header of a stream: all through the frame's segment.
-#[tactic(auto, unfolding(jpeg_streams::specs::Stream::header_at, jpeg_streams::specs::Reported::told_by_stream))]
+#[tactic(auto, unfolding(jpeg_streams::specs::Stream::header_at, jpeg_streams::specs::Reported::told_by_turns))]
 pub fn read_header<R: Read + Drop>(
     alloc: Global,
     source: &mut Source<R>,
@@ -530,7 +529,7 @@ pub fn read_header<R: Read + Drop>(
     requires { found_in state.old ≡ nothing_found }
     ensures reads { Answers (λ _. found_in state.new) header_at source.old result source.new }
     ensures told { OnTold source.old source.new result (told_of (found_in state.new)
-        ≡ told_by_stream true source.old.bytes) }
+        ≡ told_by_turns (suc (length source.old.bytes)) true source.old.bytes) }
     ensures turns { source.old.known ≡ true → IsOfTurns (λ n. told_by_turns n true source.old.bytes)
         (told_of (found_in state.new)) }
     ensures framed { IfOk result (λ _. is_some (found_in state.new).frame ≡ true) }
@@ -554,7 +553,8 @@ pub fn read_rest<R: Read + Drop>(
     ensures reads { Answers (λ v. (told_of (found_in state.new), v.items))
         (rest_at settings (found_in state.old)) source.old result source.new }
     ensures told { OnTold source.old source.new result (told_of (found_in state.new)
-        ≡ told_rest false (found_in state.old) source.old.bytes) }
+        ≡ told_in_turns (suc (length source.old.bytes)) false (found_in state.old)
+        source.old.bytes) }
     ensures turns { source.old.known ≡ true → IsOfTurns
         (λ n. told_in_turns n false (found_in state.old) source.old.bytes)
         (told_of (found_in state.new)) }
@@ -589,7 +589,8 @@ pub fn read_rest_into<R: Read + Drop>(
     ensures reads { Answers (λ u. (told_of (found_in state.new), pixels.new))
         (rest_at settings (found_in state.old)) source.old result source.new }
     ensures told { OnTold source.old source.new result (told_of (found_in state.new)
-        ≡ told_rest false (found_in state.old) source.old.bytes) }
+        ≡ told_in_turns (suc (length source.old.bytes)) false (found_in state.old)
+        source.old.bytes) }
     ensures turns { source.old.known ≡ true → IsOfTurns
         (λ n. told_in_turns n false (found_in state.old) source.old.bytes)
         (told_of (found_in state.new)) }

@@ -65,7 +65,8 @@ const ONWARD: Step = Step {
 };
 
 impl State {
-    ghost use Rattle.std.specs.Prelude.{◌≡◌, ◌&&◌, true, is_some, None, OnOk, IfOk, false};
+    ghost use Rattle.std.specs.Prelude.{◌≡◌, ◌&&◌, true, is_some, None, OnOk, IfOk, false, suc};
+    ghost use Rattle.std.specs.Prelude.{length};
     ghost use Rattle.jpeg_bits.specs.Reading.{Answers, IsShort};
     ghost use Rattle.jpeg_streams.specs.Segments.{quantization_segment, frame_segment};
     ghost use Rattle.jpeg_streams.specs.Segments.{restart_segment, huffman_segment};
@@ -74,7 +75,7 @@ impl State {
     ghost use Rattle.jpeg_streams.specs.ScanSegments.{scan_before};
     ghost use Rattle.jpeg_streams.specs.Stream.{end_segment, stray_restart, segment_at, turn_at};
     ghost use Rattle.jpeg_streams.specs.Stream.{segments_at, told_of};
-    ghost use Rattle.jpeg_streams.specs.Reported.{IsOfTurns, told_in_turns, told_rest};
+    ghost use Rattle.jpeg_streams.specs.Reported.{IsOfTurns, told_in_turns};
     ghost use Rattle.jpeg_streams.specs.States.{OnTold};
     ghost use Rattle.jpeg_decoder.specs.Seen.{found_in};
     ghost use Rattle.jpeg_decoder.specs.Steps.{IsStep, turn_of, with_decoded};
@@ -325,7 +326,8 @@ impl State {
         ensures reads { Answers (λ _. found_in self.new)
             (segments_at header Elsewhere (found_in self.old) None) source.old result source.new }
         ensures told { OnTold source.old source.new result (told_of (found_in self.new)
-            ≡ told_rest header (found_in self.old) source.old.bytes) }
+            ≡ told_in_turns (suc (length source.old.bytes)) header (found_in self.old)
+            source.old.bytes) }
         ensures turns { source.old.known ≡ true → IsOfTurns
             (λ n. told_in_turns n header (found_in self.old) source.old.bytes)
             (told_of (found_in self.new)) }

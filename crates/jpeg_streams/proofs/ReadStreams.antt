@@ -4,7 +4,6 @@ use Rattle.std.proofs.Common.{rules, ◌≡◌, ℕ, zero, suc, ◌<◌, ◌≤�
 use Rattle.std.proofs.Common.{replicate, is_some, Option, Some, None, Ok, refl, sym, ap, ◌∙◌, subst, arith, true≢false}
 use Rattle.std.proofs.Common.{length-append}
 use Rattle.std.specs.List.{AllByRecursion}
-use Rattle.jpeg_bits.specs.Reading.{Outcome}
 use Rattle.jpeg_bits.specs.Marker.{marker_of}
 use Rattle.jpeg_bits.specs.declared.marker.Marker.{Marker}
 use Rattle.jpeg_bits.specs.declared.marker.Marker.TheVariants.{EOI, SOS}
@@ -16,14 +15,14 @@ use Rattle.jpeg_streams.specs.ScanSegments.{Coding, is_progressive, scan_before,
 use Rattle.jpeg_streams.specs.Segments.{accepted, onward}
 use Rattle.jpeg_streams.specs.SaidSegments.{Stands, found_after}
 use Rattle.jpeg_streams.specs.Found.{nothing_found, none_finished, Found}
-use Rattle.jpeg_streams.specs.Stream.{segments_within, segments_at, start_at, turn_at}
+use Rattle.jpeg_streams.specs.Stream.{start_at, turn_at, walk}
 use Rattle.jpeg_streams.specs.Levels.{Levels, Is8Bit, nothing_sent}
 use Rattle.jpeg_bits.specs.Written.{marker}
 use Rattle.jpeg_streams.specs.WrittenScans.{Coefficients, levels_after, IsLegalScan, HasTable, WritesScan}
 use Rattle.jpeg_streams.specs.WholeImages.{AllComplete}
 use Rattle.jpeg_streams.specs.WrittenImages.{Writes, closed, segment, scan, WritesImage, MayFollow, IsDctSegment}
 use Rattle.jpeg_streams.proofs.ReadStates.{reading, PlaneSo, indices_of}
-use Rattle.jpeg_streams.proofs.ReadTurns.{StandsAt, stands-here, stands-met, turn-on, turn-end, head-on, head-end}
+use Rattle.jpeg_streams.proofs.ReadTurns.{StandsAt, stands-here, stands-met, Walked, walk-stop, walk-end, walk-on}
 use Rattle.jpeg_streams.proofs.ReadTurns.{scan-by, codings-same, codings-read, segment-read, frame-turn, end-turn}
 use Rattle.jpeg_streams.proofs.ReadTurns.{scan-turn, marker-turn, segment-tail, scan-tail, marker-longer, scan-longer}
 use Rattle.jpeg_streams.proofs.ReadTurns.{writes-starts, frame-or, frame-stays, is-other, same-frame, some-none}
@@ -94,9 +93,9 @@ pub record Ended (f : Frame) (array : Coefficients) (final : Found) (last : ℕ 
 
 -- What is found at the end.
 pub record ReadTo (f : Frame) (array : Coefficients) (tail : List ℕ) (final : Found) (last : ℕ → Levels)
-    (found : Outcome Found) : Type 0 where
+    (found : Walked) : Type 0 where
   pub end : Ended f array final last
-  pub is : found ≡ Ok (reading final true end.kept end.finished end.planes, tail)
+  pub is : found ≡ (reading final true end.kept end.finished end.planes, Ok tail)
 
 -- the same end, of what leads to it
 -- a scan of this frame, and what follows it
@@ -120,7 +119,7 @@ unread w = reading w false [] nothing_finished no_planes
 
 -- What is found up to the frame, and what stands after it, where whoever wants more goes on.
 pub record ReadHeader (array : Coefficients) (tail : List ℕ) (final : Found) (last : ℕ → Levels)
-    (header whole : Outcome Found) : Type 0 where
+    (header whole : Walked) : Type 0 where
   pub said : Found
   pub frame : Frame
   pub framed : said.frame ≡ Some frame
@@ -130,13 +129,13 @@ pub record ReadHeader (array : Coefficients) (tail : List ℕ) (final : Found) (
   pub good : HasTables said.huffman
   pub more : List ℕ
   pub written : Writes array said (λ k. nothing_sent) false more final last
-  pub is : header ≡ Ok (unread said, more ++ tail)
+  pub is : header ≡ (unread said, Ok (more ++ tail))
   pub turns : ℕ
   pub room : length more < turns
-  pub goes_on : whole ≡ segments_within turns false Elsewhere (unread said) None (more ++ tail)
+  pub goes_on : whole ≡ walk turns false Elsewhere (unread said) None (more ++ tail)
 
 module _ (array : Coefficients) (tail : List ℕ) (final : Found) (last : ℕ → Levels) where
-  pub read-to : (f : Frame) (one other : Outcome Found) → one ≡ other
+  pub read-to : (f : Frame) (one other : Walked) → one ≡ other
       → ReadTo f array tail final last other → ReadTo f array tail final last one
   read-to f one other e r = record { end = r.end; is = e ∙ r.is }
 
@@ -162,7 +161,7 @@ module _ (array : Coefficients) (tail : List ℕ) (final : Found) (last : ℕ �
       → w.frame ≡ Some f → (sc ≡ false → (k : ℕ) → levels k ≡ nothing_sent)
       → Framed w f array levels sc h fi pl → Writes array w levels sc bytes final last
       → StandsAt met all (bytes ++ tail) → length bytes < turns
-      → ReadTo f array tail final last (segments_within turns false bf (reading w sc h fi pl) met all)
+      → ReadTo f array tail final last (walk turns false bf (reading w sc h fi pl) met all)
   unfolding marker_of
   reads-scans f w levels sc bytes h fi pl zero bf met all range shape good e none fr r at room =
       absurd (omega arith)
@@ -170,8 +169,8 @@ module _ (array : Coefficients) (tail : List ℕ) (final : Found) (last : ℕ �
       (segment w' final' levels' last' sc' fill s more may dct follows r) at room =
       let other = is-other w f s e may in
       read-to f _ _
-      (turn-on turns bf (reading w sc h fi pl) met all (more ++ tail) (onward (reading (found_after w s) sc h fi pl))
-      (segment-turn bf w s sc h fi pl met all fill more may dct at) refl)
+      (walk-on turns false bf (reading w sc h fi pl) met all (more ++ tail) (onward (reading (found_after w s) sc h fi pl))
+      refl (segment-turn bf w s sc h fi pl met all fill more may dct at) refl)
       (reads-scans f (found_after w s) levels sc more h fi pl turns Elsewhere None (more ++ tail)
       range shape (segment-tables w s may.0 good) (frame-stays w s other ∙ e) none
       (framed-next w s f array levels sc h fi pl follows none fr) r (stands-here (more ++ tail))
@@ -194,12 +193,12 @@ module _ (array : Coefficients) (tail : List ℕ) (final : Found) (last : ℕ �
       (sos-read f head (payload ++ marker next.fill next.code left) of.0)
       (codings-same w sc h fi pl f s ∙ codings-read w f s codings of.1.are_in_force)
       (b.read next.fill next.code next.m left (record { is = next.makes })) (next.ends (length left) left) in
-      read-to f _ _ (turn-on turns bf now met all left _ (at.turn bf now
+      read-to f _ _ (walk-on turns false bf now met all left _ refl (at.turn bf now
       ∙ ap (turn_at bf now None) (scan-tail fill 218 header payload more tail
       ∙ ap (λ (l : List ℕ). marker fill 218 (header ++ (payload ++ l))) there)
       ∙ marker-turn bf now fill 218 SOS (header ++ (payload ++ marker next.fill next.code left)) refl
       ∙ scan-turn bf now (header ++ (payload ++ marker next.fill next.code left)) ∙ turn) refl
-      ∙ ap (λ (x : Found). segments_within turns false (scan_before now) x (Some next.m) left) b.after)
+      ∙ ap (λ (x : Found). walk turns false (scan_before now) x (Some next.m) left) b.after)
       (reads-scans f w
       (levels_after (pass_of s) (indices_of codings) levels) true more b.kept b.finished b.planes
       turns
@@ -221,14 +220,14 @@ module _ (array : Coefficients) (tail : List ℕ) (final : Found) (last : ℕ �
           tables = subst (λ (x : Frame). AllByRecursion (HasTable w) x.components) same t;
           complete = subst (λ (x : Frame). is_progressive x.process ≡ false → AllComplete x levels) same c;
         };
-        is = turn-end turns bf now met all tail (record { found = now; before = Elsewhere; met = None; ended = true })
-            (at.turn bf now ∙ ap (turn_at bf now None) (marker-append fill 217 [] tail)
+        is = walk-end turns false bf now met all tail
+            (record { found = now; before = Elsewhere; met = None; ended = true }) refl (at.turn bf now ∙ ap (turn_at bf now None) (marker-append fill 217 [] tail)
             ∙ marker-turn bf now fill 217 EOI tail refl ∙ end-turn bf now tail (ap is_some e)) refl;
       }
 
   -- ---- up to the frame
 
-  header-by : (one two header whole : Outcome Found) → one ≡ header → two ≡ whole
+  header-by : (one two header whole : Walked) → one ≡ header → two ≡ whole
       → ReadHeader array tail final last header whole → ReadHeader array tail final last one two
   header-by one two header whole e g r = grind (arith, common_steps)
 
@@ -237,8 +236,8 @@ module _ (array : Coefficients) (tail : List ℕ) (final : Found) (last : ℕ �
       → Stands w s → IsDctSegment s
       → Writes array (found_after w s) (λ k. nothing_sent) false more final last
       → length more < turns → ReadHeader array tail final last
-      (segments_within turns true Elsewhere (unread (found_after w s)) None (more ++ tail))
-      (segments_within turns false Elsewhere (unread (found_after w s)) None (more ++ tail))
+      (walk turns true Elsewhere (unread (found_after w s)) None (more ++ tail))
+      (walk turns false Elsewhere (unread (found_after w s)) None (more ++ tail))
   frame-header w turns s number h more e good may dct r room =
       let may_be = subst (Stands w) e may in
       let few : number ≤ 2 = subst IsDctSegment e dct in
@@ -257,7 +256,7 @@ module _ (array : Coefficients) (tail : List ℕ) (final : Found) (last : ℕ �
         good = segment-tables w s may.0 good;
         more = more;
         written = r;
-        is = head-end turns Elsewhere (unread (found_after w s)) None (more ++ tail) (omega arith) (ap is_some framed);
+        is = walk-stop turns true Elsewhere (unread (found_after w s)) None (more ++ tail) (omega arith) (ap is_some framed);
         turns = turns;
         room = room;
         goes_on = refl;
@@ -267,8 +266,8 @@ module _ (array : Coefficients) (tail : List ℕ) (final : Found) (last : ℕ �
       → HasTables w.huffman → w.frame ≡ None → ◌≡◌ {A = ℕ → Levels} (λ k. nothing_sent) levels
       → false ≡ sc → Writes array w levels sc bytes final last → length bytes < turns
       → ReadHeader array tail final last
-      (segments_within turns true Elsewhere (unread w) None (bytes ++ tail))
-      (segments_within turns false Elsewhere (unread w) None (bytes ++ tail))
+      (walk turns true Elsewhere (unread w) None (bytes ++ tail))
+      (walk turns false Elsewhere (unread w) None (bytes ++ tail))
   reads-header w levels sc bytes zero good none fresh unscanned r room = absurd (omega arith)
   reads-header w levels sc bytes (suc turns) good none fresh unscanned
       (segment w' final' levels' last' sc' fill s more may dct follows r) room =
@@ -279,8 +278,8 @@ module _ (array : Coefficients) (tail : List ℕ) (final : Found) (last : ℕ �
       let turn = segment-turn Elsewhere w s false [] nothing_finished no_planes None all fill more may dct
       (stands-here all) in
       header-by _ _ _ _
-      (head-on turns Elsewhere (unread w) None all (more ++ tail) next none turn refl)
-      (turn-on turns Elsewhere (unread w) None all (more ++ tail) next turn refl) (frame-or s
+      (walk-on turns true Elsewhere (unread w) None all (more ++ tail) next (ap is_some none) turn refl)
+      (walk-on turns false Elsewhere (unread w) None all (more ++ tail) next refl turn refl) (frame-or s
       (λ number h is. frame-header w turns s number h more is good may dct
       (subst (λ (x : Bool). Writes array (found_after w s) (λ k. nothing_sent) x more final last) (sym unscanned)
       (subst (λ (l : ℕ → Levels). Writes array (found_after w s) l sc more final last) (sym fresh) r)) shorter)
@@ -302,12 +301,12 @@ no-frame = refl
 pub record ReadStream (array : Coefficients) (tail bytes : List ℕ) (final : Found) (last : ℕ → Levels) : Type 0 where
   pub rest : List ℕ
   pub starts : start_at bytes ≡ Ok (tt, rest)
-  pub header : ReadHeader array tail final last (segments_at true Elsewhere nothing_found None rest)
-      (segments_at false Elsewhere nothing_found None rest)
+  pub header : ReadHeader array tail final last (walk (suc (length rest)) true Elsewhere nothing_found None rest)
+      (walk (suc (length rest)) false Elsewhere nothing_found None rest)
 
 pub stream-read : (array : Coefficients) (tail bytes : List ℕ) (final : Found) (last : ℕ → Levels)
     → WritesImage array bytes final last → ReadStream array tail (bytes ++ tail) final last
-unfolding nothing_found start_at segments_at
+unfolding nothing_found start_at
 stream-read array tail bytes final last w =
     let sizes = length-append w.after tail in
     record {
@@ -318,7 +317,7 @@ stream-read array tail bytes final last w =
     }
 
 -- the scans of a stream whose header was read
-pub scans-read : (array : Coefficients) (tail : List ℕ) (final : Found) (last : ℕ → Levels) (header whole : Outcome Found)
+pub scans-read : (array : Coefficients) (tail : List ℕ) (final : Found) (last : ℕ → Levels) (header whole : Walked)
     → ((index row column : ℕ) → Is8Bit (array index row column))
     → (r : ReadHeader array tail final last header whole) → ReadTo r.frame array tail final last whole
 scans-read array tail final last header whole range r =

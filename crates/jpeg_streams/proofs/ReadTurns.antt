@@ -1,10 +1,10 @@
 -- A turn of a written stream is read.
-use Rattle.std.proofs.Common.{rules, ◌≡◌, ◌≢◌, ℕ, zero, suc, ◌<◌, Bool, true, false, List, [], ◌∷◌, ◌++◌, map, length}
+use Rattle.std.proofs.Common.{rules, ◌≡◌, ◌≢◌, ◌&&◌, ℕ, zero, suc, ◌<◌, Bool, true, false, List, [], ◌∷◌, ◌++◌, map, length}
 use Rattle.std.proofs.Common.{drop, slice_index_or, is_some, Option, Some, None, Result, Ok, Err, refl, sym}
 use Rattle.std.proofs.Common.{ap, ◌∙◌, subst, arith, append_assoc, length-append}
 use Rattle.std.proofs.lemmas.Grind.{common_steps}
 use Rattle.std.specs.List.{AllByRecursion}
-use Rattle.jpeg_bits.specs.Reading.{Fault, Malformed, ◌>>=◌}
+use Rattle.jpeg_bits.specs.Reading.{Fault, Malformed, Outcome, ◌>>=◌}
 use Rattle.jpeg_bits.specs.Codes.{Table}
 use Rattle.jpeg_bits.specs.Marker.{marker_of, next_marker}
 use Rattle.jpeg_bits.specs.declared.marker.Marker.{Marker}
@@ -31,7 +31,7 @@ use Rattle.jpeg_streams.specs.Segments.{onward, Turn, application_segment, resta
 use Rattle.jpeg_streams.specs.Segments.{quantization_segment, skipped_segment, frame_segment, accepted}
 use Rattle.jpeg_streams.specs.Found.{Found}
 use Rattle.jpeg_streams.specs.SaidSegments.{Stands, found_after}
-use Rattle.jpeg_streams.specs.Stream.{segment_at, end_segment, turn_at, segments_within}
+use Rattle.jpeg_streams.specs.Stream.{segment_at, segments_at, end_segment, turn_at, walk}
 use Rattle.jpeg_bits.specs.declared.codes.HuffmanTableClass.{HuffmanTableClass}
 use Rattle.jpeg_segments.specs.declared.parser.CodingProcess.TheVariants.{Lossless}
 use Rattle.jpeg_streams.specs.WrittenScans.{Coefficients, InForce, AreCodings}
@@ -59,31 +59,44 @@ pub then-ok : {A B : Type 0} (o : Result A Fault) (f : A → Result B Fault) (x 
     → f x ≡ y → (o >>= f) ≡ y
 then-ok o f x y e g = ap (λ r. r >>= f) e ∙ g
 
--- ---- segments
+-- ---- turns of a walk
 
-pub turn-on : (turns : ℕ) (before : Before) (f : Found) (met : Option Marker) (all rest : List ℕ) (t : Turn)
-    → turn_at before f met all ≡ Ok (t, rest) → t.ended ≡ false
-    → segments_within (suc turns) false before f met all ≡ segments_within turns false t.before t.found t.met rest
-unfolding segments_within
-turn-on turns before f met all rest t e g = rw e (rw g refl)
+-- what a walk gives
+abbrev pub Walked : Type 0
+Walked = Found × Result (List ℕ) Fault
 
-pub turn-end : (turns : ℕ) (before : Before) (f : Found) (met : Option Marker) (all rest : List ℕ) (t : Turn)
-    → turn_at before f met all ≡ Ok (t, rest) → t.ended ≡ true
-    → segments_within (suc turns) false before f met all ≡ Ok (t.found, rest)
-unfolding segments_within
-turn-end turns before f met all rest t e g = rw e (rw g refl)
+pub walk-stop : (turns : ℕ) (header : Bool) (before : Before) (f : Found) (met : Option Marker) (all : List ℕ)
+    → 0 < turns → (header && is_some f.frame) ≡ true → walk turns header before f met all ≡ (f, Ok all)
+unfolding walk
+walk-stop zero header before f met all h e = absurd (omega arith)
+walk-stop (suc turns) header before f met all h e = rw e refl
 
--- a frame whose header is met, where the header is wanted alone
-pub head-on : (turns : ℕ) (before : Before) (f : Found) (met : Option Marker) (all rest : List ℕ) (t : Turn)
-    → f.frame ≡ None → turn_at before f met all ≡ Ok (t, rest) → t.ended ≡ false
-    → segments_within (suc turns) true before f met all ≡ segments_within turns true t.before t.found t.met rest
-unfolding segments_within
-head-on turns before f met all rest t n e g = search (rules, is_some)
+pub walk-refused : (turns : ℕ) (header : Bool) (before : Before) (f : Found) (met : Option Marker) (all : List ℕ)
+    (fault : Fault) → (header && is_some f.frame) ≡ false → turn_at before f met all ≡ Err fault
+    → walk (suc turns) header before f met all ≡ (f, Err fault)
+unfolding walk
+walk-refused turns header before f met all fault n e = rw (n, e) refl
 
-pub head-end : (turns : ℕ) (before : Before) (f : Found) (met : Option Marker) (all : List ℕ) → 0 < turns
-    → is_some f.frame ≡ true → segments_within turns true before f met all ≡ Ok (f, all)
-unfolding segments_within
-head-end turns before f met all h e = search rules
+pub walk-end : (turns : ℕ) (header : Bool) (before : Before) (f : Found) (met : Option Marker) (all rest : List ℕ)
+    (t : Turn) → (header && is_some f.frame) ≡ false → turn_at before f met all ≡ Ok (t, rest) → t.ended ≡ true
+    → walk (suc turns) header before f met all ≡ (t.found, Ok rest)
+unfolding walk
+walk-end turns header before f met all rest t n e g = rw (n, e, g) refl
+
+pub walk-on : (turns : ℕ) (header : Bool) (before : Before) (f : Found) (met : Option Marker) (all rest : List ℕ)
+    (t : Turn) → (header && is_some f.frame) ≡ false → turn_at before f met all ≡ Ok (t, rest) → t.ended ≡ false
+    → walk (suc turns) header before f met all ≡ walk turns header t.before t.found t.met rest
+unfolding walk
+walk-on turns header before f met all rest t n e g = rw (n, e, g) refl
+
+-- what is read by a walk
+abbrev pub walked_to : Walked → Outcome Found
+walked_to w = w.1 >>= λ (rest : List ℕ). Ok (w.0, rest)
+
+pub segments-walked : (header : Bool) (before : Before) (f : Found) (met : Option Marker) (all : List ℕ) (w : Walked)
+    → walk (suc (length all)) header before f met all ≡ w → segments_at header before f met all ≡ walked_to w
+unfolding segments_at
+segments-walked header before f met all w e = ap walked_to e
 
 -- ---- the turn of a marker
 

@@ -10,7 +10,7 @@ use Rattle.jpeg_segments.specs.Frame.{Frame, Component, Factors}
 use Rattle.jpeg_streams.specs.declared.before.Before.TheVariants.{Elsewhere}
 use Rattle.jpeg_streams.specs.declared.settings.Settings.{Settings}
 use Rattle.jpeg_segments.specs.Scales.{frame_at, scale_for, sized}
-use Rattle.jpeg_streams.specs.Stream.{segments_at, start_at, header_at, sized_to}
+use Rattle.jpeg_streams.specs.Stream.{start_at, header_at, sized_to, walk}
 use Rattle.jpeg_streams.specs.Stream.{sized_meaning, told_of}
 use Rattle.jpeg_streams.specs.Found.{Found}
 use Rattle.jpeg_streams.specs.Levels.{Levels, Is8Bit, nothing_sent}
@@ -19,7 +19,7 @@ use Rattle.jpeg_streams.specs.WrittenImages.{WritesImage}
 use Rattle.jpeg_streams.specs.ArrayPictures.{meaning_of_array, picture_of_array, TakesPicture}
 use Rattle.jpeg_streams.proofs.OwnSpots.{At}
 use Rattle.jpeg_streams.proofs.ReadStates.{reading}
-use Rattle.jpeg_streams.proofs.ReadTurns.{frame-kept, stands-here, then-ok}
+use Rattle.jpeg_streams.proofs.ReadTurns.{frame-kept, segments-walked, stands-here, then-ok}
 use Rattle.jpeg_streams.proofs.BroughtLevels.{Shaped, framed-start}
 use Rattle.jpeg_streams.proofs.FrameShapes.{Plain, plain-size, accepted-sources}
 use Rattle.jpeg_streams.proofs.ScaledSizes.{scaled_component, most_h, most_v, frame-components}
@@ -97,13 +97,13 @@ record ReadAt (width height : ℕ) (array : Coefficients) (tail bytes : List ℕ
   sized_is : sized_to width height final ≡ at_frame final frame
   sources_are : sources_of frame.components frame.output_width frame.output_height ≡ Ok sources
   read : ReadTo frame array tail (at_frame final frame) last
-      (segments_at false Elsewhere (sized_to width height header) None left)
+      (walk (suc (length left)) false Elsewhere (sized_to width height header) None left)
 
 read-at : (width height : ℕ) (array : Coefficients) (tail bytes : List ℕ) (final : Found) (last : ℕ → Levels)
     → ((index row column : ℕ) → Is8Bit (array index row column)) → WritesImage array bytes final
     last
     → ReadAt width height array tail (bytes ++ tail) final last
-unfolding header_at segments_at
+unfolding header_at
 read-at width height array tail bytes final last range w =
     let r = stream-read array tail bytes final last w in
     let h = r.header in
@@ -124,13 +124,13 @@ read-at width height array tail bytes final last range w =
       left = left;
       frame = g;
       sources = there.0;
-      is = (then-ok (start_at (bytes ++ tail)) _ (tt, r.rest) _ r.starts refl) ∙ h.is;
+      is = then-ok (start_at (bytes ++ tail)) _ (tt, r.rest) _ r.starts (segments-walked _ _ _ _ _ _ h.is);
       shape = shape;
       sized_is = ap (λ (o : Option Frame). record final { frame = option_map (sized width height) o }) kept;
       sources_are = subst (λ (x : Frame). sources_of x.components x.output_width x.output_height ≡ Ok there.0)
           (sym size.2) there.1;
       read = read-to array tail (at_frame final g) last g _ _
-          (ap (λ (x : Found). segments_at false Elsewhere x None left) now)
+          (ap (λ (x : Found). walk (suc (length left)) false Elsewhere x None left) now)
           (reads-scans array tail (at_frame final g) last g (at_frame h.said g) (λ k. nothing_sent) false h.more []
           nothing_finished no_planes (suc (length left)) Elsewhere None left range shape h.good refl (λ e k. refl)
           (framed-start (at_frame h.said g) g array [] nothing_finished no_planes range refl refl)

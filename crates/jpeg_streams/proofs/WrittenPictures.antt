@@ -28,7 +28,7 @@ use Rattle.jpeg_streams.specs.FoundPictures.{picture_by, picture_in}
 use Rattle.jpeg_streams.specs.ScanSegments.{plane_by, is_progressive}
 use Rattle.jpeg_streams.specs.Found.{Found, Metadata, nothing_found}
 use Rattle.jpeg_segments.specs.declared.parser.CodingProcess.TheVariants.{Lossless}
-use Rattle.jpeg_streams.specs.Stream.{rest_at, meaning, start_at, segments_at, told_of}
+use Rattle.jpeg_streams.specs.Stream.{rest_at, meaning, start_at, segments_at, told_of, walk}
 use Rattle.jpeg_streams.specs.declared.before.Before.TheVariants.{Elsewhere}
 use Rattle.jpeg_streams.specs.Levels.{Levels, Is8Bit, cut}
 use Rattle.jpeg_streams.proofs.FinishedIndices.{is_level_0}
@@ -43,7 +43,7 @@ use Rattle.jpeg_streams.proofs.WrittenFrameScans.{HoldsOwn, in-all}
 use Rattle.jpeg_streams.proofs.Apart.{at-all}
 use Rattle.jpeg_streams.proofs.ReadStates.{reading, is_whole}
 use Rattle.jpeg_streams.proofs.BroughtLevels.{Made, Shaped, kept-arrays}
-use Rattle.jpeg_streams.proofs.ReadTurns.{then-ok}
+use Rattle.jpeg_streams.proofs.ReadTurns.{segments-walked, then-ok}
 use Rattle.jpeg_streams.proofs.FrameShapes.{below-ceiling, accepted-sources}
 use Rattle.jpeg_streams.proofs.ReadStreams.{Ended, scans-read, stream-read}
 use Rattle.jpeg_streams.proofs.InsidePictures.{SamePlane, AllAlike, image-same, cropped-same}
@@ -265,10 +265,11 @@ pictures-same settings f array final last shape end =
     ∙ sym (blocks-picture settings final (as_sent array last) f b.theirs end.frame_is b.theirs_are)
 
 pub rest-by : (settings : Settings) (found all : Found) (bytes rest : List ℕ)
-    → segments_at false Elsewhere found None bytes ≡ Ok (all, rest)
+    → walk (suc (length bytes)) false Elsewhere found None bytes ≡ (all, Ok rest)
     → rest_at settings found bytes ≡ (picture_of settings all >>= (λ picture. Ok ((told_of all, picture), rest)))
 unfolding rest_at
-rest-by settings found all bytes rest e = then-ok (segments_at false Elsewhere found None bytes) _ (all, rest) _ e refl
+rest-by settings found all bytes rest e =
+    then-ok (segments_at false Elsewhere found None bytes) _ (all, rest) _ (segments-walked _ _ _ _ _ _ e) refl
 
 -- The meaning of a written stream is the picture of its array, cut at the levels that were sent.
 pub stream-means : (settings : Settings) (array : Coefficients) (bytes rest : List ℕ) (final : Found)

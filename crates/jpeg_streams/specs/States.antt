@@ -1,12 +1,13 @@
 -- The states of a decoder, and what each call does in each.
-use Rattle.std.specs.Prelude.{◌≡◌, ℕ, List, Result, Ok, Err, Bool, true, IsOk, IsErrAnd}
+use Rattle.std.specs.Prelude.{◌≡◌, ℕ, suc, List, length, Result, Ok, Err, Bool, true, IsOk}
+use Rattle.std.specs.Prelude.{IsErrAnd}
 use Rattle.jpeg_bits.specs.Reading.{Outcome}
 use Rattle.jpeg_bits.specs.Stream.{Stream}
 use Rattle.jpeg_bits.specs.declared.error.Error.{Error}
 use Rattle.jpeg_bits.specs.declared.error.Error.TheVariants as errors
 use Rattle.jpeg_streams.specs.declared.settings.Settings.{Settings}
 use Rattle.jpeg_streams.specs.Stream.{Told, told_of, meaning, rest_at}
-use Rattle.jpeg_streams.specs.Reported.{told_by_stream, told_by_turns, told_in_turns, told_rest}
+use Rattle.jpeg_streams.specs.Reported.{told_by_turns, told_in_turns}
 use Rattle.jpeg_streams.specs.Found.{Found}
 
 pub data Stage : Type 0 where
@@ -66,17 +67,16 @@ abbrev pub ahead : Stage → Settings → Found → List ℕ → Outcome (Told �
 ahead Fresh settings found bytes = meaning settings bytes
 ahead _ settings found bytes = rest_at settings found bytes
 
--- what has been said by the end, or the refusal, of what lies ahead
-abbrev pub told_ahead : Bool → Stage → Found → List ℕ → Told
-told_ahead header Fresh found bytes = told_by_stream header bytes
-told_ahead header HeaderRead found bytes = told_rest header found bytes
-told_ahead header _ found bytes = told_of found
-
 -- what this many turns of what lies ahead have said
 abbrev pub turns_ahead : ℕ → Bool → Stage → Found → List ℕ → Told
 turns_ahead turns header Fresh found bytes = told_by_turns turns header bytes
 turns_ahead turns header HeaderRead found bytes = told_in_turns turns header found bytes
 turns_ahead turns header _ found bytes = told_of found
+
+-- What has been said by the end, or the refusal, of what lies ahead: there are fewer turns than
+-- bytes.
+abbrev pub told_ahead : Bool → Stage → Found → List ℕ → Told
+told_ahead header stage found bytes = turns_ahead (suc (length bytes)) header stage found bytes
 
 -- ---- calls that read
 

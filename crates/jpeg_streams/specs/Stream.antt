@@ -2,9 +2,9 @@
 use Rattle.std.specs.Prelude.{ℕ, zero, suc, ◌==◌, ◌&&◌}
 use Rattle.std.specs.Prelude.{List, length}
 use Rattle.std.specs.Prelude.{Bool, true, false}
-use Rattle.std.specs.Prelude.{Option, Some, None, option_map, is_some, Ok, Err}
+use Rattle.std.specs.Prelude.{Option, Some, None, option_map, is_some, Result, Ok, Err}
 use Rattle.std.specs.Prelude.{if◌then◌else◌}
-use Rattle.jpeg_bits.specs.Reading.{Outcome, Malformed, Lacks, End, ◌>>=◌, next_byte}
+use Rattle.jpeg_bits.specs.Reading.{Fault, Outcome, Malformed, Lacks, End, ◌>>=◌, next_byte}
 use Rattle.jpeg_bits.specs.Marker.{next_marker}
 use Rattle.jpeg_bits.specs.declared.marker.Marker.{Marker}
 use Rattle.jpeg_bits.specs.declared.marker.Marker.TheVariants.{SOF, DHT, DAC, RST, EOI, SOS, DQT}
@@ -64,19 +64,25 @@ turn_at before found met bytes = do
   m ← marker_or met bytes
   segment_at m.0 before found m.1
 
--- Segments and scans up to the end of the image, or, where the header is wanted alone, up to the
--- frame. Each after which the image goes on takes at least one byte.
-unfoldable pub segments_within : ℕ → Bool → Before → Found → Option Marker → List ℕ → Outcome Found
-segments_within zero header before found met bytes = Err End
-segments_within (suc turns) header before found met bytes =
-    if header && is_some found.frame then Ok (found, bytes) else
-    turn_at before found met bytes >>= (λ t.
-    if t.0.ended then Ok (t.0.found, t.1) else segments_within turns header t.0.before t.0.found
-    t.0.met t.1)
+-- Segments in turn from a marker on, up to the end of the image, or where a header is wanted up to
+-- a frame: what is found by then, and the bytes after them; or what is found by the fault that ends
+-- them, and this fault. There are at most so many turns.
+unfoldable pub walk : ℕ → Bool → Before → Found → Option Marker → List ℕ
+    → Found × Result (List ℕ) Fault
+walk zero header before found met bytes = (found, Err End)
+walk (suc turns) header before found met bytes =
+    if header && is_some found.frame then (found, Ok bytes) else
+    elim (turn_at before found met bytes) [
+      | Err fault ↦ (found, Err fault)
+      | Ok t ↦ if t.0.ended then (t.0.found, Ok t.1) else walk turns header t.0.before t.0.found
+          t.0.met t.1
+    ]
 
+-- As each turn takes bytes, there are fewer turns than bytes.
 unfoldable pub segments_at : Bool → Before → Found → Option Marker → List ℕ → Outcome Found
 segments_at header before found met bytes =
-    segments_within (suc (length bytes)) header before found met bytes
+    let w = walk (suc (length bytes)) header before found met bytes in
+    w.1 >>= λ rest. Ok (w.0, rest)
 
 -- A stream begins with FF D8.
 unfoldable pub start_at : List ℕ → Outcome (Unit {0})

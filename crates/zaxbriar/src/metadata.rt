@@ -1,8 +1,9 @@
 //! The metadata of a header.
-ghost use Rattle.std.specs.Prelude.{◌≡◌, ◌<◌, ℕ, List, None, true, IfErr, IfOk, OnErr, OnOk};
+ghost use Rattle.std.specs.Prelude.{◌≡◌, ◌<◌, ℕ, suc, List, length, None, true, IfErr, IfOk, OnErr};
+ghost use Rattle.std.specs.Prelude.{OnOk};
 ghost use Rattle.std.specs.Option.{option_copied};
 ghost use Rattle.jpeg_streams.specs.Output.{Tells};
-ghost use Rattle.jpeg_streams.specs.Reported.{told_by_stream};
+ghost use Rattle.jpeg_streams.specs.Reported.{told_by_turns};
 ghost use Rattle.jpeg_streams.specs.States.{Fresh};
 ghost use Rattle.jpeg_streams.specs.Stream.{header_at, told_of};
 ghost use Rattle.zaxbriar.specs.Faults.{IsNamed};
@@ -84,7 +85,7 @@ fn copy_kind<R: Read + Drop>(
 fn read_told<R: Read + Drop>(decoder: &mut Decoder<R>) -> std::result::Result<u32, u32>
     requires fresh { decoder.old.stage ≡ Fresh }
     ensures told { decoder.old.source.known ≡ true → OnOk result (told_of decoder.new.found
-        ≡ told_by_stream true decoder.old.source.bytes) }
+        ≡ told_by_turns (suc (length decoder.old.source.bytes)) true decoder.old.source.bytes) }
     ensures named { decoder.old.source.known ≡ true
         → IfOk result (λ code. IsNamed code (header_at decoder.old.source.bytes)) }
     ensures fails { IfOk result (λ code. code ≡ 0 → ⊥) }

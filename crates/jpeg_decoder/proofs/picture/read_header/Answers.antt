@@ -1,19 +1,20 @@
 use Rattle.jpeg_decoder.specs.Seen.{found_in}
 use Rattle.jpeg_streams.proofs.Soundness.{sound-nothing, nothing-framed}
-use Rattle.std.proofs.Common.{◌∙◌, sym, ap, true, refl}
+use Rattle.std.proofs.Common.{◌∙◌, suc, true, sym, ap, length, refl}
 use Rattle.std.proofs.lemmas.Result.{err_from_is_err_and}
 use Rattle.jpeg_streams.specs.Stream.{told_of, start_at}
-use Rattle.jpeg_streams.specs.Reported.{IsOfTurns, told_in_turns, told_rest}
+use Rattle.jpeg_streams.specs.Reported.{IsOfTurns, told_in_turns}
 use Rattle.jpeg_streams.specs.Found.{Found}
 use Rattle.jpeg_streams.proofs.Refusals.{told-err}
-use Rattle.jpeg_streams.proofs.Told.{told-no_start, told-start, told-through, turns-start, turns-none}
+use Rattle.jpeg_streams.proofs.Told.{told-through, turns-no_start, turns-start, turns-none}
+use Rattle.jpeg_decoder.proofs.Turns.{told-start}
 use Rattle.jpeg_decoder.proofs.picture.read_header.Goals as goal
 
 pub returns-in_err-read_start-clause-told : goal.returns-in_err-read_start-clause-told
 returns-in_err-read_start-clause-told g c =
     let p = err_from_is_err_and c.from_residual.result c.from_residual.ensures.1 in
     rw (p.1, p.2) (λ k known. told-err _ (start_at c.args.source.now.bytes) _ (c.in_err-read_start.ensures.1 k known)
-    (λ f h. ap (λ (f : Found). told_of f) c.requires ∙ sym (told-no_start _ _ f h)))
+    (λ f h. ap (λ (f : Found). told_of f) c.requires ∙ sym (turns-no_start _ _ _ f h)))
 
 pub returns-clause-told : goal.returns-clause-told
 returns-clause-told g c =
@@ -21,7 +22,8 @@ returns-clause-told g c =
     (λ k.
     let at = c.in_ok-read_start.ensures.1 k in (
       at.0,
-      λ p. p ∙ ap (λ (f : Found). told_rest true f c.read_start.new.source.bytes) c.requires
+      λ p. p ∙ ap (λ (f : Found). told_in_turns (suc (length c.read_start.new.source.bytes)) true f
+          c.read_start.new.source.bytes) c.requires
           ∙ sym (told-start true c.args.source.now.bytes c.read_start.new.source.bytes at.1),
     ))
     c.read.ensures.told

@@ -1,105 +1,90 @@
-use Rattle.std.proofs.Common.{is_some, Option, ◌≡◌, ◌∙◌, ◌+◌, ◌<◌, ◌^◌, suc, true, None, sym, ap, arith, length}
+use Rattle.std.proofs.Common.{is_some, Option, ◌≡◌, ◌∙◌, ◌+◌, ◌<◌, ◌^◌, suc, true, None, Ok, sym, ap, arith, length}
 use Rattle.std.proofs.lemmas.Result.{err_from_is_err_and}
-use Rattle.jpeg_bits.proofs.Loops.{Continues-err}
 use Rattle.jpeg_streams.specs.declared.before.Before.TheVariants.{Elsewhere}
-use Rattle.jpeg_decoder.specs.declared.state.Step.{Step}
-use Rattle.jpeg_streams.specs.Stream.{told_of, turn_at, segments_at}
-use Rattle.jpeg_streams.specs.Reported.{IsOfTurns, told_within}
-use Rattle.jpeg_streams.specs.Found.{Found}
+use Rattle.jpeg_streams.specs.Stream.{told_of, turn_at, segments_at, walk}
+use Rattle.jpeg_streams.specs.Reported.{IsOfTurns}
 use Rattle.jpeg_decoder.specs.Seen.{found_in}
 use Rattle.jpeg_segments.specs.Frame.{Frame}
 use Rattle.jpeg_decoder.specs.declared.state.State.{State}
 use Rattle.jpeg_decoder.specs.Steps.{turn_of}
+use Rattle.jpeg_streams.proofs.ReadTurns.{Walked, segments-walked, walk-end, walk-refused, walk-stop}
 use Rattle.jpeg_streams.proofs.Refusals.{short-step, told-err, never-met}
-use Rattle.jpeg_decoder.proofs.Turns.{not-framed, segments-stop, segments-refused, segments-end, segments-next}
-use Rattle.jpeg_decoder.proofs.Turns.{told-stop, told-refused, told-end, told-next, turn-takes, within-end, within-next}
-use Rattle.jpeg_decoder.proofs.Turns.{within-none}
+use Rattle.jpeg_decoder.proofs.Turns.{not-framed, turn-takes}
+use Rattle.jpeg_decoder.proofs.TurnLoops.{walked-err, walked-on, walked-whole}
 use Rattle.jpeg_decoder.proofs.state.State.read.Given.{Over}
 use Rattle.jpeg_decoder.proofs.state.State.read.Goals as goal
 use Rattle.jpeg_decoder.proofs.state.State.read.Goals.{else-loop-test}
 use Rattle.jpeg_decoder.proofs.state.State.read.Goals.{then-loop-test+else-is_read_for+in_ok-step+else-step+else-counter-lt18446744073709551615}
 
+-- ---- a turn that is refused
+
 pub returns-in_err-step-clause-reads : goal.returns-in_err-step-clause-reads
 returns-in_err-step-clause-reads g c =
     let p = err_from_is_err_and c.from_residual.result c.from_residual.ensures.1 in
-    let found = found_in c.loop.self in
-    rw (p.1, p.2) (Continues-err {X = Unit {0}} {Z = Step} (λ _. found_in c.read_turn.new.self)
-    (turn_of c.read_turn.new.self) (segments_at c.args.header Elsewhere (found_in c.args.self.now) None)
-    (segments_at c.args.header c.loop.before found c.loop.met) (turn_at c.loop.before found c.loop.met)
-    c.args.source.now c.loop.source c.read_turn.new.source _ (λ f h. segments-refused _ _ _ _ _ f
-    (sym c.if-is_read_for.ensures) h) c.loop.invariant.reads c.in_err-step.ensures.reads)
+    rw (p.1, p.2) (walked-err (turn_of c.read_turn.new.self) c.args.header (found_in c.args.self.now) c.args.source.now
+    c.loop.counter c.loop.before (found_in c.loop.self) c.loop.met c.loop.source c.read_turn.new.source
+    (found_in c.read_turn.new.self) _ c.loop.invariant.walked (sym c.if-is_read_for.ensures) c.in_err-step.ensures.reads)
 
 pub returns-in_err-step-clause-told : goal.returns-in_err-step-clause-told
 returns-in_err-step-clause-told g c =
     let p = err_from_is_err_and c.from_residual.result c.from_residual.ensures.1 in
-    let found = found_in c.loop.self in
-    rw (p.1, p.2) (λ k known. let here = c.loop.invariant.reads.1 k in told-err _
-    (turn_at c.loop.before found c.loop.met c.loop.source.bytes) _ (c.in_err-step.ensures.reads.1 here.0 known)
-    (λ f h. c.in_err-step.ensures.steps.kept ∙ ap (λ (f : Found). told_of f)
-    (sym (c.loop.invariant.told k ∙ told-refused _ _ _ _ _ f (sym c.if-is_read_for.ensures) h))))
-
-pub returns-then-is_read_for-clause-reads : goal.returns-then-is_read_for-clause-reads
-returns-then-is_read_for-clause-reads g c = (
-  c.loop.invariant.reads.0,
-  λ k.
-      let here = c.loop.invariant.reads.1 k in (
-        here.0,
-        here.1 ∙ segments-stop c.args.header c.loop.before (found_in c.loop.self) c.loop.met c.loop.source.bytes
-            (sym c.if-is_read_for.ensures),
-      ),
-)
-
-pub returns-then-is_read_for-clause-told : goal.returns-then-is_read_for-clause-told
-returns-then-is_read_for-clause-told g c k =
-    ap (λ (f : Found). told_of f) (sym (c.loop.invariant.told k ∙ told-stop _ _ _ _ _ (sym c.if-is_read_for.ensures)))
+    let walked = c.loop.invariant.walked in
+    rw (p.1, p.2) (λ k known. told-err _ (turn_at c.loop.before (found_in c.loop.self) c.loop.met c.loop.source.bytes) _
+    (c.in_err-step.ensures.reads.1 (walked.known k) known)
+    (λ f h. c.in_err-step.ensures.steps.kept ∙ ap (λ (w : Walked). told_of w.0) (sym (walked-whole _ walked
+    (λ n. walk-refused n _ _ _ _ _ f (sym c.if-is_read_for.ensures) h) k))))
 
 pub returns-in_err-step-clause-turns : goal.returns-in_err-step-clause-turns
-unfolding IsOfTurns
+unfolding IsOfTurns walk
 returns-in_err-step-clause-turns g c k = (
   c.loop.counter + 0,
-  c.in_err-step.ensures.steps.kept ∙ ap (λ (f : Found). told_of f) (sym (c.loop.invariant.turns k 0
-      ∙ within-none c.args.header c.loop.before (found_in c.loop.self) c.loop.met c.loop.source.bytes)),
+  c.in_err-step.ensures.steps.kept ∙ ap (λ (w : Walked). told_of w.0) (sym (c.loop.invariant.walked.walks k 0)),
 )
+
+-- ---- a header that is read
+
+stopped : (g : Over) (c : goal.Then-is_read_for g) → c.args.source.now.known ≡ true
+    → walk (suc (length c.args.source.now.bytes)) c.args.header Elsewhere (found_in c.args.self.now) None
+    c.args.source.now.bytes ≡ (found_in c.loop.self, Ok c.loop.source.bytes)
+stopped g c k = walked-whole _ c.loop.invariant.walked
+    (λ n. walk-stop (suc n) _ _ _ _ _ (omega arith) (sym c.if-is_read_for.ensures)) k
+
+pub returns-then-is_read_for-clause-reads : goal.returns-then-is_read_for-clause-reads
+returns-then-is_read_for-clause-reads g c =
+    let walked = c.loop.invariant.walked in
+    (walked.failed, λ k. (walked.known k, segments-walked _ _ _ _ _ _ (stopped g c k)))
+
+pub returns-then-is_read_for-clause-told : goal.returns-then-is_read_for-clause-told
+returns-then-is_read_for-clause-told g c k = ap (λ (w : Walked). told_of w.0) (sym (stopped g c k))
 
 pub returns-then-is_read_for-clause-turns : goal.returns-then-is_read_for-clause-turns
 unfolding IsOfTurns
-returns-then-is_read_for-clause-turns g c k = (
-  c.loop.counter + 0,
-  ap (λ (f : Found). told_of f) (sym (c.loop.invariant.turns k 0
-      ∙ within-none c.args.header c.loop.before (found_in c.loop.self) c.loop.met c.loop.source.bytes)),
-)
+returns-then-is_read_for-clause-turns g c k = (_, ap (λ (w : Walked). told_of w.0) (sym (stopped g c k)))
+
+-- ---- the end of the image
+
+ended : (g : Over) (c : goal.Then-step g) → c.args.source.now.known ≡ true
+    → walk (suc (length c.args.source.now.bytes)) c.args.header Elsewhere (found_in c.args.self.now) None
+    c.args.source.now.bytes ≡ (found_in c.read_turn.new.self, Ok c.read_turn.new.source.bytes)
+ended g c k =
+    let walked = c.loop.invariant.walked in
+    walked-whole _ walked (λ n. walk-end n _ _ _ _ _ _ _ (sym c.if-is_read_for.ensures)
+    (c.in_ok-step.ensures.reads.1 (walked.known k)).1 c.if-step.true) k
+
+pub returns-then-step-clause-reads : goal.returns-then-step-clause-reads
+returns-then-step-clause-reads g c =
+    let walked = c.loop.invariant.walked in
+    let read = c.in_ok-step.ensures.reads in
+    (read.0 ∙ walked.failed, λ k. ((read.1 (walked.known k)).0, segments-walked _ _ _ _ _ _ (ended g c k)))
+
+pub returns-then-step-clause-told : goal.returns-then-step-clause-told
+returns-then-step-clause-told g c k = ap (λ (w : Walked). told_of w.0) (sym (ended g c k))
 
 pub returns-then-step-clause-turns : goal.returns-then-step-clause-turns
 unfolding IsOfTurns
-returns-then-step-clause-turns g c k =
-    let here = c.loop.invariant.reads.1 k in
-    let there = c.in_ok-step.ensures.reads.1 here.0 in (
-      c.loop.counter + 1,
-      ap (λ (f : Found). told_of f) (sym (c.loop.invariant.turns k 1
-          ∙ within-end c.args.header c.loop.before (found_in c.loop.self) c.loop.met c.loop.source.bytes
-          c.read_turn.new.source.bytes (turn_of c.read_turn.new.self c.in_ok-step.step) (sym c.if-is_read_for.ensures)
-          c.if-step.true there.1)),
-    )
+returns-then-step-clause-turns g c k = (_, ap (λ (w : Walked). told_of w.0) (sym (ended g c k)))
 
-pub returns-then-step-clause-reads : goal.returns-then-step-clause-reads
-returns-then-step-clause-reads g c = (
-  c.in_ok-step.ensures.reads.0 ∙ c.loop.invariant.reads.0,
-  λ k.
-      let here = c.loop.invariant.reads.1 k in
-      let there = c.in_ok-step.ensures.reads.1 here.0 in (
-        there.0,
-        here.1 ∙ segments-end c.args.header c.loop.before (found_in c.loop.self) c.loop.met c.loop.source.bytes
-            c.read_turn.new.source.bytes (turn_of c.read_turn.new.self c.in_ok-step.step) (sym c.if-is_read_for.ensures)
-            c.if-step.true there.1,
-      ),
-)
-
-pub returns-then-step-clause-told : goal.returns-then-step-clause-told
-returns-then-step-clause-told g c k =
-    let here = c.loop.invariant.reads.1 k in
-    let there = c.in_ok-step.ensures.reads.1 here.0 in
-    ap (λ (f : Found). told_of f) (sym (c.loop.invariant.told k ∙ told-end _ _ _ _ _ _ _
-    (sym c.if-is_read_for.ensures) c.if-step.true there.1))
+-- ---- the frame
 
 stays-on : (mid new old : State) → (found_in mid).frame ≡ (found_in old).frame → (is_some (found_in mid).frame ≡ true
     → (found_in new).frame ≡ (found_in mid).frame) → is_some (found_in old).frame ≡ true
@@ -126,48 +111,15 @@ returns-clause-stays g c h =
           w.in_ok-step.ensures.steps.stays h)
     ]
 
+-- ---- one more turn
+
 pub loop-preserved : goal.loop-preserved
 loop-preserved g c =
     let found = found_in c.loop.self in
-    let turn = turn_of c.read_turn.new.self c.in_ok-step.step in
     record {
-      reads = (
-        c.in_ok-step.ensures.reads.0 ∙ c.loop.invariant.reads.0,
-        λ k.
-            let here = c.loop.invariant.reads.1 k in
-            let there = c.in_ok-step.ensures.reads.1 here.0 in (
-              there.0,
-              here.1 ∙ segments-next c.args.header c.loop.before found c.loop.met c.loop.source.bytes
-                  c.read_turn.new.source.bytes turn (c.loop.invariant.none k) (sym c.if-is_read_for.ensures)
-                  c.if-step.false there.1,
-            ),
-      );
-      told = λ k.
-          let here = c.loop.invariant.reads.1 k in
-          let there = c.in_ok-step.ensures.reads.1 here.0 in
-          c.loop.invariant.told k ∙ told-next c.args.header c.loop.before found c.loop.met c.loop.source.bytes
-          c.read_turn.new.source.bytes turn (c.loop.invariant.none k) (sym c.if-is_read_for.ensures) c.if-step.false
-          there.1;
-      turns = λ k m.
-          let here = c.loop.invariant.reads.1 k in
-          let there = c.in_ok-step.ensures.reads.1 here.0 in
-          let one_more : c.loop.counter + 1 + m ≡ c.loop.counter + suc m = omega arith in
-          ap (λ n. told_within n c.args.header Elsewhere (found_in c.args.self.now) None c.args.source.now.bytes)
-          one_more
-          ∙ (c.loop.invariant.turns k (suc m)
-          ∙ within-next m c.args.header c.loop.before found c.loop.met c.loop.source.bytes c.read_turn.new.source.bytes
-          turn (sym c.if-is_read_for.ensures) c.if-step.false there.1);
-      none = λ k.
-          let here = c.loop.invariant.reads.1 k in
-          let there = c.in_ok-step.ensures.reads.1 here.0 in
-          (turn-takes c.loop.before found c.loop.met c.loop.source.bytes (turn, c.read_turn.new.source.bytes)
-          (c.loop.invariant.none k) there.1 c.if-step.false).1;
-      took = λ k.
-          let here = c.loop.invariant.reads.1 k in
-          let there = c.in_ok-step.ensures.reads.1 here.0 in
-          let less = (turn-takes c.loop.before found c.loop.met c.loop.source.bytes (turn, c.read_turn.new.source.bytes)
-          (c.loop.invariant.none k) there.1 c.if-step.false).0 in
-          omega (arith, c.loop.invariant.took k, less);
+      walked = walked-on c.args.header (found_in c.args.self.now) c.args.source.now c.loop.counter c.loop.before found
+          c.loop.met c.loop.source c.read_turn.new.source (turn_of c.read_turn.new.self c.in_ok-step.step)
+          c.loop.invariant.walked (sym c.if-is_read_for.ensures) c.if-step.false c.in_ok-step.ensures.reads;
       short = λ _. short-step c.loop.counter c.loop.met c.loop.source c.args.source.now c.loop.invariant.short
           c.loop.invariant.first c.in_ok-step.ensures.short;
       stays = λ h. stays-on c.loop.self c.read_turn.new.self c.args.self.now (c.loop.invariant.stays h)
@@ -186,14 +138,13 @@ never g c k =
       | then-loop-test+else-is_read_for+in_ok-step+else-step+else-counter-lt18446744073709551615 w ↦ omega arith
     ] in
     let few : length c.args.source.now.bytes < 2 ^ 64 = c.loop.invariant.short some k in
-    let here = c.loop.invariant.reads.1 k in
+    let walked = c.loop.invariant.walked in
     elim c.loop-test.branch [
-      | else-loop-test w ↦ omega (arith, c.loop.invariant.took k)
+      | else-loop-test w ↦ omega (arith, walked.took k)
       | then-loop-test+else-is_read_for+in_ok-step+else-step+else-counter-lt18446744073709551615 w ↦
-          let there = w.in_ok-step.ensures.reads.1 here.0 in
           let less = (turn-takes c.loop.before (found_in c.loop.self) c.loop.met c.loop.source.bytes _
-          (c.loop.invariant.none k) there.1 w.if-step.false).0 in
-          omega (arith, c.loop.invariant.took k, less)
+          (walked.none k) (w.in_ok-step.ensures.reads.1 (walked.known k)).1 w.if-step.false).0 in
+          omega (arith, walked.took k, less)
     ]
 
 pub returns-clause-reads : goal.returns-clause-reads
@@ -202,9 +153,9 @@ returns-clause-reads g c =
     (found_in c.args.self.now) None) c.args.source.now c.loop-test.source c.format_error.result
     c.format_error.ensures
     (elim c.loop-test.branch as (λ _. c.loop-test.source.failed ≡ c.args.source.now.failed) [
-      | else-loop-test w ↦ ap (λ s. s.failed) w.source-is ∙ c.loop.invariant.reads.0
+      | else-loop-test w ↦ ap (λ s. s.failed) w.source-is ∙ c.loop.invariant.walked.failed
       | then-loop-test+else-is_read_for+in_ok-step+else-step+else-counter-lt18446744073709551615 w ↦ ap (λ s. s.failed)
-          w.source-is ∙ w.in_ok-step.ensures.reads.0 ∙ c.loop.invariant.reads.0
+          w.source-is ∙ w.in_ok-step.ensures.reads.0 ∙ c.loop.invariant.walked.failed
     ])
     (never g c)
 
