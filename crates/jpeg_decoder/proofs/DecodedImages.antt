@@ -1,11 +1,11 @@
 -- A call that answers the meaning of what its source has left decodes images.
 use Rattle.std.proofs.Common.{◌≡◌, ℕ, List, ◌++◌, true, Result, Ok, Err, is_ok, refl, sym, ap, ◌∙◌}
 use Rattle.std.proofs.lemmas.Bool.{false≢true}
-use Rattle.std.specs.Prelude.{MatchResult}
-use Rattle.jpeg_bits.specs.Reading.{Outcome, Fault, Answers}
+use Rattle.std.specs.Prelude.{IsOk, MatchResult}
+use Rattle.jpeg_bits.specs.Reading.{Outcome, Fault, Answers, ◌>>=◌}
 use Rattle.jpeg_bits.specs.Stream.{Stream}
 use Rattle.jpeg_bits.specs.declared.error.Error.{Error}
-use Rattle.jpeg_streams.specs.ArrayPictures.{picture_of_array, TakesPicture}
+use Rattle.jpeg_streams.specs.ArrayPictures.{meaning_of_array, picture_of_array}
 use Rattle.jpeg_streams.specs.DecodedImages.{AtLeast, DecodesImages, FailsOutside, FullSize}
 use Rattle.jpeg_streams.specs.DecodedImages.{GivesPicture, HasLeft, Size}
 use Rattle.jpeg_streams.specs.DecodedImages.{at_size}
@@ -16,10 +16,10 @@ use Rattle.jpeg_streams.specs.Found.{Found}
 use Rattle.jpeg_streams.specs.WrittenImages.{WritesImage}
 use Rattle.jpeg_streams.specs.WrittenScans.{Coefficients}
 use Rattle.jpeg_streams.specs.declared.settings.Settings.{Settings}
-use Rattle.jpeg_streams.proofs.ReadTurns.{ok-same, then-ok}
+use Rattle.jpeg_streams.proofs.ReadTurns.{err-ok, ok-same, then-ok}
 use Rattle.jpeg_decoder.proofs.HeaderThenRest.{header-means}
-use Rattle.jpeg_streams.proofs.SizedStreams.{sized-taken}
-use Rattle.jpeg_streams.proofs.WrittenPictures.{taken-means}
+use Rattle.jpeg_streams.proofs.SizedStreams.{stream-means_sized}
+use Rattle.jpeg_streams.proofs.WrittenPictures.{stream-means}
 use Rattle.std.proofs.lemmas.Grind.{common_steps}
 use Rattle.std.proofs.Common.{arith}
 
@@ -50,34 +50,33 @@ left-means size settings bytes stage found left o h e = grind (arith, common_ste
 no-refusal : {P Y : Type 0} (o : Result Y Fault) (y : Y) (f : Fault) → o ≡ Ok y → o ≡ Err f → P
 no-refusal o y f e h = absurd (false≢true (ap is_ok (sym h ∙ e)))
 
-pub gives : {X : Type 0} (bytes_of : X → List ℕ) (o : Result (List ℕ) Fault) (picture rest : List ℕ) (final : Found)
-    (new : Decoding)
-    (read : List ℕ → Outcome (Told × List ℕ)) (old : Stream) (result : Result X Error)
-    → Answers (λ x. (told_of new.found, bytes_of x)) read old result new.source → o ≡ Ok picture
-    → read old.bytes ≡ Ok ((told_of final, picture), rest) → old.known ≡ true
-    → MatchResult result (λ x. GivesPicture o rest final (bytes_of x) new) (λ e. FailsOutside e
-    new.source)
-gives bytes_of o picture rest final new read old result answers is means known =
+pub gives : {X : Type 0} (bytes_of : X → List ℕ) (o : Result (List ℕ) Fault) (rest : List ℕ) (final : Found)
+    (new : Decoding) (read : List ℕ → Outcome (Told × List ℕ)) (old : Stream) (result : Result X Error)
+    → Answers (λ x. (told_of new.found, bytes_of x)) read old result new.source
+    → read old.bytes ≡ (o >>= (λ picture. Ok ((told_of final, picture), rest))) → old.known ≡ true
+    → MatchResult result (λ x. GivesPicture o rest final (bytes_of x) new)
+    (λ e. IsOk o → FailsOutside e new.source)
+gives bytes_of (Ok picture) rest final new read old result answers means known =
     grind (arith, common_steps, ok-same, no-refusal)
+gives bytes_of (Err f) rest final new read old result answers means known =
+    grind (arith, common_steps, err-ok)
 
-means-picture : (size : Size) (settings : Settings) (array : Coefficients) (image rest : List ℕ) (final : Found)
+means-array : (size : Size) (settings : Settings) (array : Coefficients) (image rest : List ℕ) (final : Found)
     (last : ℕ → Levels)
     → ((index row column : ℕ) → Is8Bit (array index row column)) → WritesImage array image final
     last
-    → TakesPicture settings (at_size size final)
-    → (picture : List ℕ) × (picture_of_array settings (at_size size final) array last ≡ Ok picture)
-    × (means_at size settings (image ++ rest) ≡ Ok ((told_of (at_size size final), picture), rest))
-means-picture FullSize = taken-means
-means-picture (AtLeast width height) = sized-taken width height
+    → means_at size settings (image ++ rest) ≡ meaning_of_array settings (at_size size final) array last rest
+means-array FullSize = stream-means
+means-array (AtLeast width height) = stream-means_sized width height
 
 pub decodes-images : {X : Type 0} (bytes_of : X → List ℕ) (old new : Decoding) (result : Result X Error)
     → (IsReading old.stage
     → Answers (λ x. (told_of new.found, bytes_of x))
     (ahead old.stage old.settings old.found) old.source result new.source)
     → DecodesImages bytes_of old result new
-decodes-images bytes_of old new result answers size array image rest final last range w takes has known =
-    let p = means-picture size old.settings array image rest final last range w takes in
-    gives bytes_of (picture_of_array old.settings (at_size size final) array last) p.0 rest (at_size size final) new
+decodes-images bytes_of old new result answers size array image rest final last range w has known =
+    gives bytes_of (picture_of_array old.settings (at_size size final) array last) rest (at_size size final) new
     (ahead old.stage old.settings old.found) old.source result
-    (answers (left-reading size (image ++ rest) old.stage old.found old.source.bytes has)) p.1
-    (left-means size old.settings (image ++ rest) old.stage old.found old.source.bytes _ has p.2) known
+    (answers (left-reading size (image ++ rest) old.stage old.found old.source.bytes has))
+    (left-means size old.settings (image ++ rest) old.stage old.found old.source.bytes _ has
+    (means-array size old.settings array image rest final last range w)) known

@@ -1,5 +1,5 @@
 -- A call that answers the meaning of what its source has left decodes samples.
-use Rattle.std.proofs.Common.{◌≡◌, ℕ, List, ◌++◌, Result, Ok, refl}
+use Rattle.std.proofs.Common.{arith, ◌≡◌, ℕ, List, ◌++◌, Result, Ok}
 use Rattle.jpeg_bits.specs.Reading.{Answers}
 use Rattle.jpeg_bits.specs.declared.error.Error.{Error}
 use Rattle.jpeg_segments.specs.Frame.{Frame}
@@ -29,8 +29,11 @@ pub decodes-samples : {X : Type 0} (bytes_of : X → List ℕ) (old new : Decodi
     (ahead old.stage old.settings old.found) old.source result new.source)
     → DecodesSamples bytes_of old result new
 decodes-samples bytes_of old new result answers size samples image rest final frame w within has known =
-    gives bytes_of (Ok (picture_of_samples frame samples)) (picture_of_samples frame samples) rest final new
-    (ahead old.stage old.settings old.found) old.source result
-    (answers (left-reading size (image ++ rest) old.stage old.found old.source.bytes has)) refl
-    (left-means size old.settings (image ++ rest) old.stage old.found old.source.bytes _ has
-    (means-samples size old.settings samples image rest final frame w within)) known
+    grind (
+      arith,
+      gives bytes_of (Ok (picture_of_samples frame samples)) rest final new
+          (ahead old.stage old.settings old.found) old.source result
+          (answers (left-reading size (image ++ rest) old.stage old.found old.source.bytes has))
+          (left-means size old.settings (image ++ rest) old.stage old.found old.source.bytes _ has
+          (means-samples size old.settings samples image rest final frame w within)) known,
+    )

@@ -25,7 +25,7 @@ use Rattle.jpeg_streams.specs.Found.{Found}
 use Rattle.jpeg_decoder.specs.Steps.{AreRising, HasIndex, HasScale, IsCodingOf, IsDct, IsReadable}
 use Rattle.jpeg_decoder.specs.Steps.{coding_in, codings_in_force}
 use Rattle.jpeg_decoder.specs.Steps.{with_decoded}
-use Rattle.jpeg_streams.proofs.ReadTurns.{CodingFacts, codings-facts_from, codings-same_from, tables-same}
+use Rattle.jpeg_streams.proofs.ReadTurns.{codings-each, codings-indices, codings-same_from, first-drop, tables-same}
 use Rattle.jpeg_streams.proofs.OwnSpots.{At}
 use Rattle.jpeg_segments.proofs.ScaleLemmas.{sized_frames_have_factors}
 use Rattle.jpeg_streams.proofs.Soundness.{count-few, decoded-count, decoded-fits, decoded-sized}
@@ -69,26 +69,16 @@ decoded-scales f p = grind (arith, common_steps, scales-at)
 -- ---- the components of a scan
 
 -- what each component of a frame has, those of its scans have
-each-at : (Q : Component → Type 0) (found : Found) (frame : Frame) (cs : List Coded)
-    → AllByRecursion Q frame.components → AllByRecursion (CodingFacts found frame) (map coding_in cs)
+each-at : (Q : Component → Type 0) (frame : Frame) (cs : List Coded)
+    → AllByRecursion Q frame.components → AllByRecursion (IsCodingOf frame) (map coding_in cs)
     → AllByRecursion (λ c. Q (component_in c.component.now)) cs
-each-at Q found frame [] h facts = tt
-each-at Q found frame (c ∷ cs) h facts = grind (arith, common_steps, at-all, each-at Q found frame cs h facts.1)
+each-at Q frame [] h are = tt
+each-at Q frame (c ∷ cs) h are = grind (arith, common_steps, at-all, first-drop, each-at Q frame cs h are.1)
 
 fits-at : (frame : Frame) (cs : List Coded) → AllByRecursion (λ c. Fits frame (component_in c.component.now)) cs
     → AllByRecursion (Fits frame) (components_in cs)
 fits-at frame [] h = tt
 fits-at frame (c ∷ cs) h = (h.0, fits-at frame cs h.1)
-
-drop-first : {A : Type 0} (n : ℕ) (xs : List A) (x : A) → At n xs x → first_of (drop n xs) ≡ Some x
-drop-first n [] x h = absurd h
-drop-first {A} zero (y ∷ xs) x h = ap (λ (z : A). Some z) h
-drop-first (suc n) (y ∷ xs) x h = drop-first n xs x h
-
-of-frame : (found : Found) (frame : Frame) (codings : List Coding) → AllByRecursion (CodingFacts found frame) codings
-    → AllByRecursion (IsCodingOf frame) codings
-of-frame found frame [] facts = tt
-of-frame found frame (c ∷ codings) facts = search (rules, arith, drop-first, of-frame found frame codings facts.1)
 
 indices-at : (n : ℕ) (cs : List Coded) → n ≤ 4
     → AllByRecursion (λ index. index < n) (map (λ (c : Coding). c.index) (map coding_in cs))
@@ -122,21 +112,25 @@ pub ready : (found : Found) (frame : Frame) (header : headers.Scan) (scan : Scan
     → IsReadable frame found scan
 ready found frame header scan decoded legal restart codings count =
     let cs = scan.components.items in
-    let facts =
-    codings-facts_from found frame (pass_of header) (tables_of found header) header.components
-    header.dc_destinations
-    header.ac_destinations (map coding_in cs) legal.dc_length legal.ac_length codings in
+    let p = pass_of header in
+    let tables = tables_of found header in
+    let indices =
+    codings-indices found frame p tables header.components header.dc_destinations header.ac_destinations
+    (map coding_in cs) legal.dc_length legal.ac_length codings in
+    let are =
+    codings-each (IsCodingOf frame) found frame p tables header.components header.dc_destinations header.ac_destinations
+    (map coding_in cs) codings (λ index d a k is. is.component) in
     let few = (count-few (length frame.components) (decoded-count frame decoded)).1 in
     record {
       restart = restart;
       some = subst (λ (n : ℕ). 1 ≤ n) (sym count) legal.some;
       indices =
           All-from_recursion HasIndex cs (indices-at (length frame.components) cs few
-          (subst (AllByRecursion (λ index. index < length frame.components)) (sym facts.2)
+          (subst (AllByRecursion (λ index. index < length frame.components)) (sym indices)
           (recursion_from_All (λ index. index < length frame.components) header.components
           legal.components)));
-      fits = fits-at frame cs (each-at (Fits frame) found frame cs (decoded-fits frame decoded) facts.1);
-      of_frame = of-frame found frame (map coding_in cs) facts.1;
-      rising = rising-at (map coding_in cs) 0 (subst (IsRising 0) (sym facts.2) legal.rising);
+      fits = fits-at frame cs (each-at (Fits frame) frame cs (decoded-fits frame decoded) are);
+      of_frame = are;
+      rising = rising-at (map coding_in cs) 0 (subst (IsRising 0) (sym indices) legal.rising);
       sampling = sized_frames_have_factors frame (decoded-sized frame decoded);
     }

@@ -40,7 +40,7 @@ use Rattle.jpeg_streams.proofs.ReadTurns.{frame-or, frame-stays as unchanged, se
 use Rattle.jpeg_streams.proofs.ReadTurns.{then-ok, segments-walked, walk-end, walk-on, walk-stop, frame-turn, segment-read}
 use Rattle.jpeg_streams.proofs.ReadTurns.{marker-turn, StandsAt, stands-here, stands-met, end-turn, scan-turn, Starts}
 use Rattle.jpeg_streams.proofs.ReadTurns.{segment-starts, scan-starts, end-starts, marker-longer, scan-longer}
-use Rattle.jpeg_streams.proofs.LosslessFrames.{IsShaped, header-shaped, lossless-accepted}
+use Rattle.jpeg_streams.proofs.LosslessFrames.{IsShaped, header-shaped}
 use Rattle.jpeg_streams.proofs.SaidTables.{HasTables, no-tables, segment-tables}
 use Rattle.jpeg_streams.proofs.WrittenPictures.{rest-by}
 use Rattle.jpeg_streams.proofs.WrittenMarkers.{marker-append, marker_for, segment-marker}
@@ -145,7 +145,7 @@ segment-kept : (before : Before) (said : Found) (decided : List (Option (List �
       rest,
     )
 segment-kept before said decided s rest may =
-    grind (arith, common_steps, frame-turn, and_samples, lossless-accepted, segment-read)
+    grind (arith, common_steps, frame-turn, and_samples, segment-read)
 
 -- ---- what begins with a marker
 
@@ -153,7 +153,7 @@ starts : (samples : Samples) (said : Found) (sent bytes : List ℕ) (final : Fou
     → Writes samples said sent bytes final → Starts bytes
 starts samples said sent bytes final (closed said' sent' frame fill framed lossless all) = end-starts fill []
 starts samples said sent bytes final (segment said' final' sent' fill s more may w) =
-    segment-starts said.frame fill s more may.0
+    segment-starts said.frame fill s more may.0.0
 starts samples said sent bytes final (scan said' final' sent' frame fill h data_bytes more framed lossless is data_of
     w) =
     scan-starts fill (with_length (scan_payload h) ++ (data_bytes ++ more))
@@ -175,7 +175,7 @@ some-same a b e = cc
 segment-shaped : (said : Found) (s : Segment) → StandsInLossless said s → IsSaid said → (frame : Frame)
     → (found_after said s).frame ≡ Some frame → IsShaped frame
 segment-shaped said (Header number header) may h frame e =
-    grind (arith, common_steps, some-same, header-shaped, lossless-accepted)
+    grind (arith, common_steps, some-same, header-shaped)
 segment-shaped said _ may h frame e = h.shaped frame e
 
 pub segment-said : (said : Found) (s : Segment) → StandsInLossless said s → IsSaid said → IsSaid (found_after said s)
@@ -255,7 +255,7 @@ segment-next samples rest turns said final sent fill s more may again before dec
     (stands.turn before (and_samples said decided) ∙ ap (turn_at before (and_samples said decided) None)
     (segment-tail fill (marker_code s) (with_length (payload_of s)) more rest)
     ∙ marker-turn before (and_samples said decided) fill (marker_code s) (marker_for s)
-    (with_length (payload_of s) ++ (more ++ rest)) (segment-marker said.frame s may.0)
+    (with_length (payload_of s) ++ (more ++ rest)) (segment-marker said.frame s may.0.0)
     ∙ segment-kept before said decided s (more ++ rest) may) refl)
     (again Elsewhere decided None (more ++ rest) (segment-said said s may is) four kept
     (stands-here (more ++ rest)))
@@ -488,7 +488,7 @@ header-read samples rest decided (suc turns) before said sent bytes final (segme
     (with_length (payload_of s)) more
     rest)
     ∙ marker-turn before (and_samples said decided) fill (marker_code s) (marker_for s)
-    (with_length (payload_of s) ++ (more ++ rest)) (segment-marker said.frame s may.0)
+    (with_length (payload_of s) ++ (more ++ rest)) (segment-marker said.frame s may.0.0)
     ∙ segment-kept before said decided s (more ++ rest) may) refl in
     frame-or s
     (λ number h f.

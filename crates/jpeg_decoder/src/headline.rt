@@ -5,9 +5,10 @@ ghost use Rattle.std.specs.Prelude.{true, option_map};
 ghost use Rattle.std.specs.List.{AllByRecursion};
 ghost use Rattle.jpeg_bits.specs.Passes.{Block};
 ghost use Rattle.jpeg_segments.specs.Frame.{Frame};
-ghost use Rattle.jpeg_segments.specs.WrittenSegments.{FrameHeader, IsFrameHeader};
+ghost use Rattle.jpeg_segments.specs.WrittenSegments.{FrameHeader, IsFrameHeader, frame_written};
 ghost use Rattle.jpeg_streams.specs.Output.{default_settings, header_line_of, output_of};
-ghost use Rattle.jpeg_streams.specs.SaidSegments.{HasPicture};
+ghost use Rattle.jpeg_streams.specs.AcceptedFrames.{HasPicture};
+ghost use Rattle.jpeg_streams.specs.Segments.{accepted};
 ghost use Rattle.jpeg_streams.specs.Pixels.{info_of};
 ghost use Rattle.jpeg_streams.specs.ArrayPictures.{meaning_of_array, picture_of_array};
 ghost use Rattle.jpeg_streams.specs.ArrayPictures.{TakesPicture};
@@ -97,13 +98,13 @@ pub fn images_have_pictures()
 
 /// Where the default settings take the picture, the program prints it after its size and format.
 pub fn images_are_printed()
-    ensures { (array : Coefficients) (image rest : List ℕ) (final : Found) (last : ℕ → Levels) →
+    ensures { (array : Coefficients) (image rest picture : List ℕ) (final : Found)
+        (last : ℕ → Levels) →
         ((index row column : ℕ) → Is8Bit (array index row column)) →
-        WritesImage array image final last → TakesPicture default_settings final →
-        (picture : List ℕ)
-        × (picture_of_array default_settings final array last ≡ Ok picture)
-        × (output_of (image ++ rest)
-        ≡ Some (header_line_of (option_map info_of final.frame) ++ picture)) }
+        WritesImage array image final last →
+        picture_of_array default_settings final array last ≡ Ok picture →
+        output_of (image ++ rest)
+        ≡ Some (header_line_of (option_map info_of final.frame) ++ picture) }
 {}
 
 /// A block of which every bit was sent is itself.
@@ -172,11 +173,21 @@ pub fn worked_images_are_written()
     ensures colour { IsWhollyWritten colour_array colour_bytes }
 {}
 
+/// A frame of SOF0, SOF1 or SOF2 is accepted where it has 8 bits and one, three or four components
+/// that can be upsampled, and nowhere else.
+pub fn frames_are_accepted()
+    ensures written { (number : ℕ) (h : FrameHeader) → number ≤ 2 → HasPicture h →
+        accepted (frame_written number h) ≡ Ok (frame_written number h) }
+    ensures read { (number : ℕ) (h : FrameHeader) → number ≤ 2 →
+        accepted (frame_written number h) ≡ Ok (frame_written number h) → HasPicture h }
+{}
+
 /// There is a stream for every image: the coefficients of 8-bit samples in any frame of SOF0, SOF1
-/// or SOF2 that has a picture have one that sends every bit.
+/// or SOF2 that is accepted have one that sends every bit.
 pub fn every_image_has_a_stream()
     ensures { (number : ℕ) (h : FrameHeader) (array : Coefficients) →
-        number ≤ 2 → IsFrameHeader number h → HasPicture h →
+        number ≤ 2 → IsFrameHeader number h →
+        accepted (frame_written number h) ≡ Ok (frame_written number h) →
         ((index row column : ℕ) → Is8Bit (array index row column)) →
         (bytes : List ℕ) × IsWhollyWritten array bytes }
 {}

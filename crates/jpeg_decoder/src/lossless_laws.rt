@@ -13,6 +13,7 @@ ghost use Rattle.jpeg_streams.specs.declared.settings.Settings.{Settings};
 ghost use Rattle.jpeg_streams.specs.InTurn.{IsIn};
 ghost use Rattle.jpeg_streams.specs.LosslessScans.{LosslessCoding, mcus_down, way_of};
 ghost use Rattle.jpeg_streams.specs.Needed.{first_of};
+ghost use Rattle.jpeg_streams.specs.AcceptedFrames.{HasSamples};
 ghost use Rattle.jpeg_streams.specs.Segments.{accepted};
 ghost use Rattle.jpeg_streams.specs.Stream.{meaning, sized_meaning, told_of};
 ghost use Rattle.jpeg_streams.specs.Found.{Found};
@@ -23,7 +24,7 @@ ghost use Rattle.jpeg_streams.specs.Worked.{picture_meant};
 ghost use Rattle.jpeg_streams.specs.WorkedSamples.{AreWritten, padded_bytes, padded_picture};
 ghost use Rattle.jpeg_streams.specs.WorkedSamples.{padded_samples, three_bytes, three_picture};
 ghost use Rattle.jpeg_streams.specs.WorkedSamples.{three_samples};
-ghost use Rattle.jpeg_streams.specs.WrittenLossless.{HasSamples, IsWithinLimit, own_lines, Samples};
+ghost use Rattle.jpeg_streams.specs.WrittenLossless.{IsWithinLimit, own_lines, Samples};
 ghost use Rattle.jpeg_streams.specs.WrittenLossless.{WritesSamples, picture_of_samples};
 ghost use Rattle.jpeg_streams.specs.WrittenParts.{picture_meant_by};
 

@@ -1,14 +1,13 @@
 -- A lossless frame that is accepted has samples that a writer may emit.
-use Rattle.std.proofs.Common.{rules, arith, ◌≡◌, ◌⊎◌, ℕ, List, [], ◌∷◌, map, length, Ok}
+use Rattle.std.proofs.Common.{rules, arith, ◌≡◌, ◌⊎◌, ℕ, ◌≤◌, List, [], ◌∷◌, map, length, Ok}
 use Rattle.std.specs.Prelude.{nat_le}
 use Rattle.std.proofs.lemmas.Bool.{and_parts, eqb-true, leb-true}
 use Rattle.std.specs.List.{AllByRecursion}
 use lib.ListN.{length-map}
 use Rattle.jpeg_segments.specs.Frame.{component_of, Factors, frame_of, greatest}
 use Rattle.jpeg_segments.specs.WrittenSegments.{FrameHeader, frame_written}
-use Rattle.jpeg_streams.specs.SaidSegments.{HasPicture, IsUpsampled}
+use Rattle.jpeg_streams.specs.AcceptedFrames.{HasPicture, HasSamples, IsUpsampled}
 use Rattle.jpeg_streams.specs.Segments.{accepted}
-use Rattle.jpeg_streams.specs.WrittenLossless.{HasSamples}
 use Rattle.jpeg_streams.proofs.FrameFits.{factors-back}
 use Rattle.jpeg_streams.proofs.UpsampledFactors.{Upsampled, either, sources-back}
 use Rattle.jpeg_streams.proofs.Soundness.{accepted-facts, accepted-precision}
@@ -51,7 +50,10 @@ accepted-samples h ok =
     let precise = and_parts (nat_le 2 h.precision) (nat_le h.precision 16) (accepted-precision frame frame ok) in
     grind (arith, leb-true 2 h.precision precise.0, leb-true h.precision 16 precise.1)
 
--- and a frame of 8 bits has a picture
-pub accepted-picture : (number : ℕ) (h : FrameHeader) → h.precision ≡ 8
+-- and a frame of SOF0, SOF1 or SOF2 has a picture
+pub accepted-picture : (number : ℕ) (h : FrameHeader) → number ≤ 2
     → accepted (frame_written number h) ≡ Ok (frame_written number h) → HasPicture h
-accepted-picture number h e ok = search (rules, accepted-parts)
+unfolding frame_of
+accepted-picture number h le ok =
+    let precise = accepted-precision (frame_written number h) (frame_written number h) ok in
+    search (rules, accepted-parts, eqb-true)

@@ -1,7 +1,7 @@
 -- A written stream is read as the blocks of its array, cut at the levels that were sent.
 use Rattle.std.proofs.lemmas.Grind.{common_steps}
 use Rattle.std.proofs.Common.{rules, ◌≡◌, ◌≢◌, ◌⊎◌, inl, inr, ℕ, suc, ◌-◌, ◌*◌, ◌<◌, ◌≤◌, Bool, true, false, List}
-use Rattle.std.proofs.Common.{[], ◌∷◌, ◌++◌, length, replicate, get_or, Option, Some, None, Ok, refl, sym, ap, ◌∙◌}
+use Rattle.std.proofs.Common.{[], ◌∷◌, ◌++◌, length, replicate, get_or, slice_index_or, Option, Some, None, Ok, refl, sym, ap, ◌∙◌}
 use Rattle.std.proofs.Common.{subst, arith, true≢false, length-append, length-take, length-drop}
 use Rattle.std.proofs.lemmas.Bool.{eqb-true, eq-eqb, not-true}
 use Rattle.std.proofs.lemmas.List.{length-replicate}
@@ -17,7 +17,7 @@ use Rattle.jpeg_bits.specs.Passes.{Pass, Block, whole_pass, zero_block}
 use Rattle.jpeg_streams.specs.Order.{grid_of}
 use Rattle.jpeg_segments.specs.Scales.{frame_at}
 use Rattle.jpeg_streams.specs.Scans.{Arrays, zero_arrays}
-use Rattle.jpeg_streams.specs.ScanSegments.{arrays_before, Coding, pass_of, is_progressive}
+use Rattle.jpeg_streams.specs.ScanSegments.{arrays_before, Coding, codings_of, pass_of, is_progressive, tables_of}
 use Rattle.jpeg_streams.specs.ScanSegments.{after_scan, blocks_after}
 use Rattle.jpeg_streams.specs.ScanSegments.{put_arrays, scan_arrays}
 use Rattle.jpeg_streams.specs.Found.{none_finished, Found}
@@ -33,7 +33,7 @@ use Rattle.jpeg_streams.proofs.WrittenFrameScans.{ReadsScan, scan-is_read, cut-n
 use Rattle.jpeg_streams.proofs.Apart.{at-all}
 use Rattle.jpeg_streams.proofs.ReadStates.{reading, Marked, AllDone, indices_of, Brought, brings}
 use Rattle.jpeg_streams.proofs.ReadStates.{AllKept, blocks-after}
-use Rattle.jpeg_streams.proofs.ReadTurns.{CodingFacts, codings-facts, codings-read}
+use Rattle.jpeg_streams.proofs.ReadTurns.{codings-each, codings-indices, first-drop}
 use Rattle.jpeg_streams.proofs.UpsampledFactors.{either as either-true}
 
 -- ---- what a scan header says
@@ -193,6 +193,11 @@ blocks-after_is : (found : Found) (f : Frame) (codings : List Coding) (arrays : 
     → blocks_after found f codings arrays ≡ put_arrays codings arrays (arrays_before found f)
 blocks-after_is found f codings arrays e = rw (e, blocks_after) refl
 
+-- a coding is of a component of the frame, with its quantization table
+record CodingFacts (w : Found) (frame : Frame) (k : Coding) : Type 0 where
+  at : At k.index frame.components k.component
+  table : slice_index_or w.quantization k.component.factors.quantization None ≡ Some k.quantization
+
 all-done : (w : Found) (f : Frame) (p : Pass) (array : Coefficients) (levels : ℕ → Levels) (codings : List Coding)
     (arrays : Arrays) → length arrays ≡ length codings → ((k : Coding) (j : ℕ) → At j codings k
     → HoldsOwn (grid_of k.component) (array k.index) (sent_after p (levels k.index)) (get_or arrays j
@@ -253,19 +258,30 @@ module _ (w : Found) (f : Frame) (array : Coefficients) (levels : ℕ → Levels
   abbrev now : Found
   now = reading w sc h fi pl
 
-  facts : (length codings ≡ length s.components) × AllByRecursion (CodingFacts w f) codings
-      × (indices_of codings ≡ s.components)
-  facts = codings-facts w f s codings rules.dc_length rules.ac_length
-      (codings-read w f s codings legal.are_in_force)
+  indices : indices_of codings ≡ s.components
+  unfolding codings_of
+  indices = codings-indices w f (pass_of s) (tables_of w s) s.components s.dc_destinations s.ac_destinations codings
+      rules.dc_length rules.ac_length legal.are_in_force
+
+  count : length codings ≡ length s.components
+  count = sym (length-map codings _) ∙ ap length indices
+
+  facts : AllByRecursion (CodingFacts w f) codings
+  unfolding codings_of
+  facts = codings-each (CodingFacts w f) w f (pass_of s) (tables_of w s) s.components s.dc_destinations
+      s.ac_destinations codings legal.are_in_force (λ index d a k is. record {
+        at = first-drop k.index f.components k.component is.component;
+        table = is.quantization;
+      })
 
   apart : AreApart (indices_of codings)
-  apart = subst AreApart (sym facts.2) rules.apart
+  apart = subst AreApart (sym indices) rules.apart
 
   so : PassSo f s
   so = rules.so
 
   low : (pass_of s).al ≤ 7
-  low = let k = some-first codings (let n = facts.0 in let r = rules.some in omega arith) in
+  low = let k = some-first codings (let n = count in let r = rules.some in omega arith) in
       (at-all (λ (c : Coding). IsLegal (pass_of s) (levels c.index)) 0 codings k.0 legal.legal
       k.1).low
 
@@ -290,16 +306,16 @@ module _ (w : Found) (f : Frame) (array : Coefficients) (levels : ℕ → Levels
   unfolding pass_of
   suit-now (sequential e q) = grind (arith, common_steps, sequential-arrays, zeros-everywhere)
   suit-now (progressive e d (inl z) lt le) = dc_alone z (d z) low
-  suit-now (progressive e d (inr one) lt le) = let k = single codings (facts.0 ∙ one) in one_component k.0 k.1
+  suit-now (progressive e d (inr one) lt le) = let k = single codings (count ∙ one) in one_component k.0 k.1
 
   reads-now : ReadsScan f w.restart (pass_of s) codings array levels (arrays_before now f) bytes
   reads-now = scan-is_read f w.restart (pass_of s) codings array levels (arrays_before now f) bytes range
       (all-ready w f (pass_of s) array levels (arrays_before now f) codings shape
-      (holds-now so) facts.1 legal.legal framed.sized)
+      (holds-now so) facts legal.legal framed.sized)
       (suit-now so) (all-good codings exist) written
 
   done : AllDone w f (pass_of s) array levels codings reads-now.arrays
-  done = all-done w f (pass_of s) array levels codings reads-now.arrays reads-now.count reads-now.holds facts.1
+  done = all-done w f (pass_of s) array levels codings reads-now.arrays reads-now.count reads-now.holds facts
       legal.legal framed.sized
 
   abbrev after_kept : Arrays

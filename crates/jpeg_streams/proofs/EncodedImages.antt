@@ -2,10 +2,11 @@
 use Rattle.std.proofs.Math.Logic.{⊎_elim}
 use Rattle.std.proofs.Common.{rules, ◌≡◌, ◌≢◌, ℕ, zero, suc, ◌+◌, ◌/◌, ◌%◌, ◌<◌, ◌≤◌, ◌==◌, nat_lt}
 use Rattle.std.proofs.Common.{not, Bool, true, false, List, [], ◌∷◌, ◌++◌, map, length, drop, replicate, flat_map, ℤ}
-use Rattle.std.proofs.Common.{Some, None, refl, sym, ap, ap₂, ◌∙◌, subst, append_assoc, length-append, arith}
+use Rattle.std.proofs.Common.{Some, None, Ok, refl, sym, ap, ap₂, ◌∙◌, subst, append_assoc, length-append, arith}
 use Rattle.std.proofs.Common.{true≢false, leb-true}
 use Rattle.std.proofs.lemmas.Grind.{common_steps}
 use Rattle.std.proofs.lemmas.Bool.{cases_lt, eq-eqb, ne_eqb, lt-ltb, or_parts as or-false}
+use Rattle.std.proofs.lemmas.Bool.Decides.{nat_tests}
 use Rattle.std.proofs.lemmas.List.{append-nil}
 use lib.ListN.{length-map}
 use Rattle.std.specs.List.{AllByRecursion, prefix_len, range_with_len}
@@ -24,26 +25,27 @@ use Rattle.jpeg_segments.specs.WrittenSegments.{QuantizationTable, with_length}
 use Rattle.jpeg_streams.specs.declared.grids.Grid.{Grid}
 use Rattle.jpeg_streams.specs.Levels.{Is8Bit, Levels, sent_after, nothing_sent, numbers_at}
 use Rattle.jpeg_streams.specs.Order.{grid_of, mcu_size, own_spots, Spot, spots_of}
-use Rattle.jpeg_streams.specs.SaidSegments.{found_after, HasPicture}
+use Rattle.jpeg_streams.specs.SaidSegments.{found_after}
 use Rattle.jpeg_streams.specs.Scans.{no_table, via_at}
 use Rattle.jpeg_streams.specs.Needed.{first_of}
-use Rattle.jpeg_streams.specs.ScanSegments.{vias_from, Coding, tables_of, pass_of, components_of}
-use Rattle.jpeg_streams.specs.Segments.{updated}
+use Rattle.jpeg_streams.specs.ScanSegments.{vias_from, Coding, codings_from, codings_of, component_coding, components_of}
+use Rattle.jpeg_streams.specs.ScanSegments.{needed_if, pass_of, tables_of}
+use Rattle.jpeg_streams.specs.Segments.{accepted, updated}
 use Rattle.jpeg_streams.specs.Found.{nothing_found, Found}
 use Rattle.jpeg_streams.specs.WorkedImages.{IsWhollyWritten}
 use Rattle.jpeg_bits.specs.Written.{marker}
 use Rattle.jpeg_streams.specs.WrittenData.WritesIntervals.{last as last_interval}
 use Rattle.jpeg_streams.specs.WrittenImages.{closed, scan, segment, Writes}
-use Rattle.jpeg_streams.specs.WrittenScans.{InForce, AreCodings, block_for, Coefficients, grid_at, HasTable, IsComplete}
+use Rattle.jpeg_streams.specs.WrittenScans.{block_for, Coefficients, grid_at, HasTable, IsComplete}
 use Rattle.jpeg_streams.specs.WrittenScans.{IsLegalScan, levels_after, index_at, WritesScan}
 use Rattle.jpeg_streams.specs.WrittenScans.{written_turns}
-use Rattle.jpeg_streams.specs.WrittenScans.AreCodings.{and_more, no_more}
 use Rattle.jpeg_streams.proofs.CutLevels.{all-same, all-map}
 use Rattle.jpeg_streams.proofs.TestedParts.{one-quantizes, table-by, table_of_one}
 use Rattle.jpeg_streams.proofs.EncodedBlocks.{ac_pass, dc_pass, Each, each-ac, each-dc, each-whole, flat_table}
 use Rattle.jpeg_streams.proofs.EncodedBlocks.{HasFlatAc, HasFlatDc, interval-written, IsFlat}
 use Rattle.jpeg_streams.proofs.WholeImages.{floor-whole, toward-whole}
 use Rattle.jpeg_streams.proofs.OwnSpots.{all-append}
+use Rattle.jpeg_streams.proofs.ReadTurns.{then-ok}
 
 -- ---- what is written
 
@@ -264,39 +266,22 @@ scan_for kind number h index c = scan_written (frame_written number h) (header_o
 abbrev tables_now : Kind → ℕ → FrameHeader → ℕ → Factors → Tables
 tables_now kind number h index c = tables_of (said number h) (scan_for kind number h index c)
 
-dc-force : (kind other : Kind) (number : ℕ) (h : FrameHeader) (index : ℕ) (c : Factors)
-    → InForce ((pass_for kind).ss == 0) classes.DC (tables_now other number h index c).dc 0 (dc_for
-    kind)
-unfolding tables_of nothing_found updated
-dc-force kind other number h index c = search rules
-
-ac-force : (kind other : Kind) (number : ℕ) (h : FrameHeader) (index : ℕ) (c : Factors)
-    → InForce (nat_lt 0 (pass_for kind).se) classes.AC (tables_now other number h index c).ac 0
-    (ac_for kind)
-unfolding tables_of nothing_found updated
-ac-force kind other number h index c = search rules
-
 codings-are : (kind : Kind) (number : ℕ) (h : FrameHeader) (front more : List Factors) (c : Factors)
     → h.components ≡ front ++ c ∷ more → c.quantization ≤ 3
-    → AreCodings (said number h) (frame_written number h) (pass_for kind) (tables_now kind number h (length front) c)
-    (length front ∷ []) (0 ∷ []) (0 ∷ []) (coding kind h (length front) c ∷ [])
-unfolding frame_of component_of
+    → codings_from (said number h) (frame_written number h) (pass_for kind) (tables_now kind number h (length front) c)
+    (length front ∷ []) (0 ∷ []) (0 ∷ []) ≡ Ok (coding kind h (length front) c ∷ [])
+unfolding codings_from component_coding frame_of component_of tables_of nothing_found updated
 codings-are kind number h front more c e le =
-    and_more (length front) 0 0 [] [] [] (coding kind h (length front) c) []
-    (record {
-      stands = refl;
-      component = grind (arith, common_steps, first-is);
-      quantization = table-at number h c.quantization le;
-      dc = dc-force kind kind number h (length front) c;
-      ac = ac-force kind kind number h (length front) c;
-    }) no_more
+    let at : first_of (drop (length front) (frame_written number h).components) ≡ Some (component_in h c)
+    = grind (arith, common_steps, first-is) in
+    search (rules, then-ok, table-at)
 
 scan-legal : (kind : Kind) (number : ℕ) (h : FrameHeader) (front more : List Factors) (c : Factors)
     (levels : ℕ → Levels) → Fits kind number
     → h.components ≡ front ++ c ∷ more → c.quantization ≤ 3 → levels (length front) ≡ before kind
     → IsLegalScan (said number h) (frame_written number h) levels (scan_for kind number h (length front) c)
     (coding kind h (length front) c ∷ [])
-unfolding scan_of
+unfolding codings_of scan_of
 scan-legal kind number h front more c levels fits e low was =
     grind (arith, pass-is kind number h (length front) c fits, codings-are kind number h front more c e low)
 
@@ -365,7 +350,7 @@ end-written number h array front levels scanned le are e s is =
 -- a scan before what is written after it
 one-scan : (kind : Kind) (number : ℕ) (h : FrameHeader) (array : Coefficients) (front more : List Factors)
     (c : Factors) (levels last : ℕ → Levels)
-    (scanned : Bool) (bytes : List ℕ) → Fits kind number → number ≤ 2 → HasPicture h
+    (scanned : Bool) (bytes : List ℕ) → Fits kind number → number ≤ 2 → IsFrameHeader number h
     → ((k row column : ℕ) → Is8Bit (array k row column))
     → h.components ≡ front ++ c ∷ more → IsComponent number front c → levels (length front) ≡ before kind
     → Writes array (said number h)
@@ -385,7 +370,7 @@ one-scan kind number h array front more c levels last scanned bytes fits le p ra
       marker 0 218 (with_length (scan_payload head) ++ (d.0 ++ bytes)),
       scan (said number h) (said number h) levels last scanned f 0 head ks d.0 bytes refl
           (lone-written (from_for kind) (to_for kind) number h front more c (kind-is kind number h (length front) c fits).1
-          (let q = p.precise in omega arith) e is.is_new) legal coded w,
+          (search (rules, nat_tests)) e is.is_new) legal coded w,
     )
 
 -- The scans of a component: what was sent after them, and they stand before what is written then.
@@ -410,7 +395,7 @@ ac-after : (p : Pass) (index : ℕ) (levels : ℕ → Levels) → p ≡ ac_pass 
     → IsComplete (levels_after p (index ∷ []) levels index)
 ac-after p index levels e f = search (rules, after-same, all-same)
 
-sequential-steps : (number : ℕ) (h : FrameHeader) (array : Coefficients) → number ≤ 1 → HasPicture h
+sequential-steps : (number : ℕ) (h : FrameHeader) (array : Coefficients) → number ≤ 1 → IsFrameHeader number h
     → ((k row column : ℕ) → Is8Bit (array k row column)) → Steps number h array
 sequential-steps number h array le p range front more c levels scanned e is s =
     let index = length front in
@@ -424,7 +409,7 @@ sequential-steps number h array le p range front more c levels scanned e is s =
           (omega arith) p range e is unsent w,
     )
 
-progressive-steps : (number : ℕ) (h : FrameHeader) (array : Coefficients) → number ≡ 2 → HasPicture h
+progressive-steps : (number : ℕ) (h : FrameHeader) (array : Coefficients) → number ≡ 2 → IsFrameHeader number h
     → ((k row column : ℕ) → Is8Bit (array k row column)) → Steps number h array
 progressive-steps number h array two p range front more c levels scanned e is s =
     let index = length front in
@@ -460,7 +445,7 @@ scans-written number h array (c ∷ more) front levels scanned le steps all e ar
     let w = step.2 rest.0 rest.1 rest.2 in
     (w.0, rest.1, w.1, rest.3)
 
-each-steps : (number : ℕ) (h : FrameHeader) (array : Coefficients) → number ≤ 2 → HasPicture h
+each-steps : (number : ℕ) (h : FrameHeader) (array : Coefficients) → number ≤ 2 → IsFrameHeader number h
     → ((k row column : ℕ) → Is8Bit (array k row column)) → Steps number h array
 each-steps number h array le p range = ⊎_elim
     (λ less. sequential-steps number h array (omega arith) p range)
@@ -475,13 +460,13 @@ front_bytes number h more = marker 0 219 (with_length (payload_of (Quantization 
     flat_tables)) ++ more)))
 
 pub image-written : (number : ℕ) (h : FrameHeader) (array : Coefficients) → number ≤ 2 →
-    IsFrameHeader number h → HasPicture h
+    IsFrameHeader number h → accepted (frame_written number h) ≡ Ok (frame_written number h)
     → ((index row column : ℕ) → Is8Bit (array index row column)) → (bytes : List ℕ) ×
     IsWhollyWritten array bytes
 unfolding nothing_found frame_of codes_exist lengths_from code_value
-image-written number h array le is p range =
+image-written number h array le is ok range =
     let r = scans-written number h array h.components []
-    (λ k. nothing_sent) false le (each-steps number h array le p range) is.components refl is.components
+    (λ k. nothing_sent) false le (each-steps number h array le is range) is.components refl is.components
     (record { sent = λ j lt. absurd (omega arith); unsent = λ j low. refl }) (search rules) in
     let size : length (frame_written number h).components ≡ length h.components = length-map h.components _ in (
       255 ∷ 216 ∷ front_bytes number h r.0,
@@ -496,13 +481,13 @@ image-written number h array le is p range =
               segment nothing_found (said number h) (λ k. nothing_sent) r.1 false 0 (Quantization all_ones) _ (search (rules, one-quantizes))
               tt
               (λ x. absurd (true≢false (sym x))) (
-              segment said_1 (said number h) (λ k. nothing_sent) r.1 false 0 (Header number h) _ ((refl, is), p)
+              segment said_1 (said number h) (λ k. nothing_sent) r.1 false 0 (Header number h) _ ((refl, is), ok)
               (omega arith)
               (λ x. absurd (true≢false (sym x))) (
               segment (said_2 number h) (said number h) (λ k. nothing_sent) r.1 false 0 (Huffman flat_tables) _
               ((table-by _ _ (omega arith) refl, (table-by _ _ (omega arith) refl, tt)), tt) tt (λ x. tt) r.2));
         };
         framed = refl;
-        complete = search (rules, in-range);
+        complete = in-range (λ k. IsComplete (r.1 k)) 0 _ (λ j low lt. r.3 j (omega arith));
       },
     )

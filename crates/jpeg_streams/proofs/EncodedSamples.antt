@@ -1,7 +1,7 @@
 -- Every picture of samples has a stream: a scan for each component.
 use Rattle.std.proofs.Math.Logic.{⊎_elim}
 use Rattle.std.proofs.Common.{rules, length, replicate, negsuc, unsigned_abs, subst, append_assoc, length-append}
-use Rattle.std.proofs.Common.{◌≡◌, ◌⊎◌, inl, ℕ, zero, Bool, true, List, ◌++◌, drop, take, ◌≤ℤ◌, Some, None, refl, arith}
+use Rattle.std.proofs.Common.{◌≡◌, ◌⊎◌, inl, ℕ, zero, Bool, true, List, ◌++◌, drop, take, ◌≤ℤ◌, Some, None, Ok, refl, arith}
 use Rattle.std.proofs.Common.{inr, suc, ◌+◌, ◌-◌, ◌*◌, ◌^◌, ◌<◌, ◌≤◌, [], ◌∷◌, map, ℤ, pos, sym, ap, ap₂, ◌∙◌}
 use Rattle.std.proofs.Math.Pow.{pow_mono}
 use Rattle.std.proofs.lemmas.Bool.{and_parts, cases_lt, eqb-true, ltb-true}
@@ -34,6 +34,7 @@ use Rattle.jpeg_lossless.specs.Written.WritesRow.{none, one}
 use Rattle.jpeg_lossless.specs.Written.WritesRows.{no_row, row}
 use Rattle.jpeg_lossless.proofs.Inverse.{all_back}
 use Rattle.jpeg_lossless.proofs.Residues.{residue_low, residue_neg, residue_small}
+use Rattle.jpeg_streams.specs.AcceptedFrames.{HasSamples}
 use Rattle.jpeg_streams.specs.Found.{Found, nothing_found}
 use Rattle.jpeg_streams.specs.FrameSamples.{AreBytes, AreLinesOf, AreSamplesOf, AreWrittenIn, FitsFields, IsLineOf}
 use Rattle.jpeg_streams.specs.InTurn.{IsIn}
@@ -41,10 +42,11 @@ use Rattle.jpeg_streams.specs.LosslessScans.{LosslessCoding, lossless_coding, lo
 use Rattle.jpeg_streams.specs.LosslessScans.{mcus_across, mcus_down, parts_of}
 use Rattle.jpeg_streams.specs.Needed.{first_of}
 use Rattle.jpeg_streams.specs.SaidSegments.{found_after}
-use Rattle.jpeg_streams.specs.Segments.{updated}
-use Rattle.jpeg_streams.specs.WrittenLossless.{HasSamples, HoldSamples, IsInterval, no_interval, own_lines}
+use Rattle.jpeg_streams.specs.Segments.{updated, accepted}
+use Rattle.jpeg_streams.specs.WrittenLossless.{HoldSamples, IsInterval, no_interval, own_lines}
 use Rattle.jpeg_streams.specs.WrittenLossless.{said_after_scan, Samples, Writes, WritesSamplesScan}
 use Rattle.jpeg_streams.specs.WrittenLossless.Writes.{closed, scan, segment}
+use Rattle.jpeg_streams.proofs.AcceptedSamples.{accepted-samples}
 use Rattle.jpeg_streams.proofs.EncodedBlocks.{category-at_most, packed}
 use Rattle.jpeg_streams.proofs.EncodedImages.{component_in, first-is, in-range, lone_header, lone-written}
 use Rattle.jpeg_streams.proofs.OwnSpots.{all-append}
@@ -402,10 +404,12 @@ front_bytes h more =
     marker 0 195 (with_length (payload_of (Header 3 h)) ++ marker 0 196 (with_length (payload_of
     (Huffman even_tables)) ++ more))
 
-pub samples-written : (h : FrameHeader) (samples : Samples) → IsFrameHeader 3 h → HasSamples 3 h
+pub samples-written : (h : FrameHeader) (samples : Samples) → IsFrameHeader 3 h
+    → accepted (frame_written 3 h) ≡ Ok (frame_written 3 h)
     → AreSamplesOf (frame_written 3 h) samples → (bytes : List ℕ) × AreWrittenIn h samples bytes
 unfolding nothing_found frame_of codes_exist lengths_from code_value huffman_bytes frame_payload
-samples-written h samples is p all =
+samples-written h samples is ok all =
+    let p = accepted-samples h ok in
     let r = scans-written h samples h.components [] (said h) [] p all (said-ready h) refl is.components
     (λ j lt. absurd (omega arith)) in (
       255 ∷ 216 ∷ front_bytes h r.0,
@@ -414,8 +418,8 @@ samples-written h samples is p all =
         written = record {
           after = front_bytes h r.0;
           starts = refl;
-          written = segment nothing_found r.1 [] 0 (Header 3 h) _ ((refl, is), p) (
-              segment (said_1 h) r.1 [] 0 (Huffman even_tables) _ ((table-by _ _ (omega arith) refl, tt), tt) r.2);
+          written = segment nothing_found r.1 [] 0 (Header 3 h) _ (((refl, is), ok), refl) (
+              segment (said_1 h) r.1 [] 0 (Huffman even_tables) _ (((table-by _ _ (omega arith) refl, tt), tt), tt) r.2);
         };
         framed = r.3;
         are_bytes = λ fits. (

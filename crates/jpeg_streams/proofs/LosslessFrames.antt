@@ -6,7 +6,7 @@ use Rattle.jpeg_segments.specs.Frame.{Factors, Frame, IsInRange, frame_of}
 use Rattle.jpeg_segments.specs.WrittenSegments.{AreComponents, FrameHeader, IsFrameHeader}
 use Rattle.jpeg_segments.specs.WrittenSegments.{frame_written}
 use Rattle.jpeg_streams.specs.Segments.{accepted, is_arithmetic, is_decoded_precision}
-use Rattle.jpeg_streams.specs.WrittenLossless.{HasSamples}
+use Rattle.jpeg_streams.specs.AcceptedFrames.{HasSamples}
 use Rattle.jpeg_streams.proofs.LosslessSizes.{IsMade, frames-made}
 use Rattle.jpeg_streams.proofs.FrameShapes.{accepted-few}
 use Rattle.jpeg_streams.proofs.PicturedFrames.{accepted-by, header-count, header-sources}
@@ -19,17 +19,11 @@ header-process : (h : FrameHeader) → HasSamples 3 h
 unfolding frame_of
 header-process h p = search (rules, both-true, le-leb)
 
-accepted-three : (h : FrameHeader) → IsFrameHeader 3 h → HasSamples 3 h
-    → accepted (frame_written 3 h) ≡ Ok (frame_written 3 h)
-accepted-three h is p =
-    let s = header-sources 3 h (p.upsampled) in
+pub lossless-accepted : (h : FrameHeader) → HasSamples 3 h → accepted (frame_written 3 h) ≡ Ok (frame_written 3 h)
+lossless-accepted h p =
+    let s = header-sources 3 h p.upsampled in
     let f = header-process h p in
     accepted-by (frame_written 3 h) s.0 f.0 f.1 f.2 (header-count 3 h p.counted) s.1
-
-pub lossless-accepted : (number : ℕ) (h : FrameHeader) → IsFrameHeader number h → HasSamples number
-    h
-    → accepted (frame_written number h) ≡ Ok (frame_written number h)
-lossless-accepted number h is p = search (rules, accepted-three)
 
 -- A frame with lines and columns, whose components have their sizes, and whose picture is as large.
 pub record IsShaped (frame : Frame) : Type 0 where

@@ -22,8 +22,9 @@ use Rattle.jpeg_streams.specs.WrittenScans.{Coefficients, levels_after, IsLegalS
 use Rattle.jpeg_streams.specs.WholeImages.{AllComplete}
 use Rattle.jpeg_streams.specs.WrittenImages.{Writes, closed, segment, scan, WritesImage, MayFollow, IsDctSegment}
 use Rattle.jpeg_streams.proofs.ReadStates.{reading, PlaneSo, indices_of}
-use Rattle.jpeg_streams.proofs.ReadTurns.{StandsAt, stands-here, stands-met, Walked, walk-stop, walk-end, walk-on}
-use Rattle.jpeg_streams.proofs.ReadTurns.{scan-by, codings-same, codings-read, segment-read, frame-turn, end-turn}
+use Rattle.jpeg_streams.proofs.ReadTurns.{StandsAt, stands-here, stands-met, Walked, walk-stop}
+use Rattle.jpeg_streams.proofs.ReadTurns.{walk-end, walk-on, scan-by, codings-same, segment-read}
+use Rattle.jpeg_streams.proofs.ReadTurns.{frame-turn, end-turn}
 use Rattle.jpeg_streams.proofs.ReadTurns.{scan-turn, marker-turn, segment-tail, scan-tail, marker-longer, scan-longer}
 use Rattle.jpeg_streams.proofs.ReadTurns.{writes-starts, frame-or, frame-stays, is-other, same-frame, some-none}
 use Rattle.jpeg_segments.specs.ScanHeaders.{IsScan, ScanHeader, scan_payload, scan_written}
@@ -38,7 +39,6 @@ use Rattle.jpeg_streams.proofs.SaidTables.{HasTables, segment-tables}
 use Rattle.jpeg_streams.proofs.BroughtLevels.{Shaped, Framed, framed-start, scan-brings}
 use Rattle.jpeg_streams.proofs.FrameShapes.{Plain, all-shaped, frame-lossy}
 use Rattle.jpeg_streams.proofs.LosslessFrames.{all-ranged}
-use Rattle.jpeg_streams.proofs.PicturedFrames.{header-accepted}
 use Rattle.jpeg_streams.proofs.WrittenMarkers.{marker-append, marker_for, segment-marker}
 
 -- ---- a segment between scans
@@ -141,10 +141,9 @@ module _ (array : Coefficients) (tail : List ℕ) (final : Found) (last : ℕ �
 
   segment-turn : (bf : Before) (w : Found) (s : Segment) (sc : Bool) (h : Arrays) (fi : List (List Bool))
       (pl : List (Option (List ℕ))) (met : Option Marker) (all : List ℕ) (fill : ℕ) (more : List ℕ)
-      → Stands w s → IsDctSegment s
-      → StandsAt met all (marker fill (marker_code s) (with_length (payload_of s) ++ more) ++ tail)
+      → Stands w s → StandsAt met all (marker fill (marker_code s) (with_length (payload_of s) ++ more) ++ tail)
       → turn_at bf (reading w sc h fi pl) met all ≡ Ok (onward (reading (found_after w s) sc h fi pl), more ++ tail)
-  segment-turn bf w s sc h fi pl met all fill more may dct at =
+  segment-turn bf w s sc h fi pl met all fill more may at =
       let now = reading w sc h fi pl in
       at.turn bf now
       ∙ ap (turn_at bf now None) (segment-tail fill (marker_code s) (with_length (payload_of s))
@@ -152,7 +151,7 @@ module _ (array : Coefficients) (tail : List ℕ) (final : Found) (last : ℕ �
       ∙ marker-turn bf now fill (marker_code s) (marker_for s) (with_length (payload_of s) ++ (more
       ++ tail))
       (segment-marker w.frame s may.0)
-      ∙ (search (rules, segment-read, frame-turn, header-accepted))
+      ∙ (search (rules, segment-read, frame-turn))
 
   pub reads-scans : (f : Frame) (w : Found) (levels : ℕ → Levels)
       (sc : Bool) (bytes : List ℕ) (h : Arrays) (fi : List (List Bool)) (pl : List (Option (List ℕ)))
@@ -170,7 +169,7 @@ module _ (array : Coefficients) (tail : List ℕ) (final : Found) (last : ℕ �
       let other = is-other w f s e may in
       read-to f _ _
       (walk-on turns false bf (reading w sc h fi pl) met all (more ++ tail) (onward (reading (found_after w s) sc h fi pl))
-      refl (segment-turn bf w s sc h fi pl met all fill more may dct at) refl)
+      refl (segment-turn bf w s sc h fi pl met all fill more may at) refl)
       (reads-scans f (found_after w s) levels sc more h fi pl turns Elsewhere None (more ++ tail)
       range shape (segment-tables w s may.0 good) (frame-stays w s other ∙ e) none
       (framed-next w s f array levels sc h fi pl follows none fr) r (stands-here (more ++ tail))
@@ -191,7 +190,7 @@ module _ (array : Coefficients) (tail : List ℕ) (final : Found) (last : ℕ �
       let turn = scan-by now f s codings b.arrays next.m (header ++ (payload ++ marker next.fill next.code left))
       (payload ++ marker next.fill next.code left) left shape.lossy e
       (sos-read f head (payload ++ marker next.fill next.code left) of.0)
-      (codings-same w sc h fi pl f s ∙ codings-read w f s codings of.1.are_in_force)
+      (codings-same w sc h fi pl f s ∙ of.1.are_in_force)
       (b.read next.fill next.code next.m left (record { is = next.makes })) (next.ends (length left) left) in
       read-to f _ _ (walk-on turns false bf now met all left _ refl (at.turn bf now
       ∙ ap (turn_at bf now None) (scan-tail fill 218 header payload more tail
@@ -241,7 +240,6 @@ module _ (array : Coefficients) (tail : List ℕ) (final : Found) (last : ℕ �
   frame-header w turns s number h more e good may dct r room =
       let may_be = subst (Stands w) e may in
       let few : number ≤ 2 = subst IsDctSegment e dct in
-      let ok = header-accepted number h few may_be.1 in
       let plain : Plain (frame_written number h) = search (rules, all-ranged) in
       let framed : (found_after w s).frame ≡ Some (frame_written number h) =
       ap (λ (x : Segment). (found_after w x).frame) e in
@@ -250,9 +248,9 @@ module _ (array : Coefficients) (tail : List ℕ) (final : Found) (last : ℕ �
         frame = frame_written number h;
         framed = framed;
         plain = plain;
-        is_accepted = ok;
+        is_accepted = may_be.1;
         shape = all-shaped (frame_written number h) plain
-            (frame-lossy number h.precision h.width h.height h.components few) ok;
+            (frame-lossy number h.precision h.width h.height h.components few) may_be.1;
         good = segment-tables w s may.0 good;
         more = more;
         written = r;
@@ -275,7 +273,7 @@ module _ (array : Coefficients) (tail : List ℕ) (final : Found) (last : ℕ �
       let next = onward (unread (found_after w s)) in
       let shorter = marker-longer fill (marker_code s) turns (with_length (payload_of s)) more room
       in
-      let turn = segment-turn Elsewhere w s false [] nothing_finished no_planes None all fill more may dct
+      let turn = segment-turn Elsewhere w s false [] nothing_finished no_planes None all fill more may
       (stands-here all) in
       header-by _ _ _ _
       (walk-on turns true Elsewhere (unread w) None all (more ++ tail) next (ap is_some none) turn refl)

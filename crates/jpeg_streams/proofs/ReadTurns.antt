@@ -1,7 +1,8 @@
 -- A turn of a written stream is read.
-use Rattle.std.proofs.Common.{rules, ◌≡◌, ◌≢◌, ◌&&◌, ℕ, zero, suc, ◌<◌, Bool, true, false, List, [], ◌∷◌, ◌++◌, map, length}
+use Rattle.std.proofs.Common.{rules, ◌≡◌, ◌≢◌, ◌&&◌, ℕ, zero, suc, ◌<◌, Bool, true, false, List, []}
+use Rattle.std.proofs.Common.{◌∷◌, ◌++◌, map, length, ◌==◌, nat_lt}
 use Rattle.std.proofs.Common.{drop, slice_index_or, is_some, Option, Some, None, Result, Ok, Err, refl, sym}
-use Rattle.std.proofs.Common.{ap, ◌∙◌, subst, arith, append_assoc, length-append}
+use Rattle.std.proofs.Common.{ap, ap₂, ◌∙◌, subst, arith, append_assoc, length-append}
 use Rattle.std.proofs.lemmas.Grind.{common_steps}
 use Rattle.std.specs.List.{AllByRecursion}
 use Rattle.jpeg_bits.specs.Reading.{Fault, Malformed, Outcome, ◌>>=◌}
@@ -32,10 +33,9 @@ use Rattle.jpeg_streams.specs.Segments.{quantization_segment, skipped_segment, f
 use Rattle.jpeg_streams.specs.Found.{Found}
 use Rattle.jpeg_streams.specs.SaidSegments.{Stands, found_after}
 use Rattle.jpeg_streams.specs.Stream.{segment_at, segments_at, end_segment, turn_at, walk}
-use Rattle.jpeg_bits.specs.declared.codes.HuffmanTableClass.{HuffmanTableClass}
+use Rattle.jpeg_bits.specs.declared.codes.HuffmanTableClass.TheVariants as classes
 use Rattle.jpeg_segments.specs.declared.parser.CodingProcess.TheVariants.{Lossless}
-use Rattle.jpeg_streams.specs.WrittenScans.{Coefficients, InForce, AreCodings}
-use Rattle.jpeg_streams.specs.WrittenScans.AreCodings.{no_more, and_more}
+use Rattle.jpeg_streams.specs.WrittenScans.{Coefficients}
 use Rattle.jpeg_streams.specs.WrittenImages.{Writes, closed, segment, scan}
 use Rattle.jpeg_streams.specs.Levels.{Levels}
 use Rattle.jpeg_bits.specs.Written.{marker}
@@ -253,88 +253,49 @@ pub needed-some : {A : Type 0} (o : Option A) (x : A) → needed o ≡ Ok x → 
 needed-some None x e = search rules
 needed-some (Some y) x e = cc
 
-first-drop : {A : Type 0} (n : ℕ) (xs : List A) (x : A) → first_of (drop n xs) ≡ Some x → At n xs x
+pub first-drop : {A : Type 0} (n : ℕ) (xs : List A) (x : A) → first_of (drop n xs) ≡ Some x → At n xs x
 first-drop (suc n) (y ∷ xs) x e = first-drop n xs x e
 first-drop n xs x e = search rules
 
--- a coding is of a component of the frame, with its quantization table
-pub record CodingFacts (w : Found) (frame : Frame) (k : Coding) : Type 0 where
-  pub at : At k.index frame.components k.component
-  pub table : slice_index_or w.quantization k.component.factors.quantization None ≡ Some k.quantization
+-- What is found for a component of a scan, by its index in the frame and the destinations of its tables.
+pub record IsCoding (w : Found) (frame : Frame) (p : Pass) (tables : Tables) (index d a : ℕ) (k : Coding) : Type 0 where
+  pub stands : k.index ≡ index
+  pub component : first_of (drop k.index frame.components) ≡ Some k.component
+  pub quantization : slice_index_or w.quantization k.component.factors.quantization None ≡ Some k.quantization
+  pub dc : needed_if (p.ss == 0) classes.DC (slice_index_or tables.dc d None) ≡ Ok k.dc
+  pub ac : needed_if (nat_lt 0 p.se) classes.AC (slice_index_or tables.ac a None) ≡ Ok k.ac
 
-pub codings-back : (w : Found) (frame : Frame) (p : Pass) (tables : Tables) (indices ds ks : List ℕ)
-    (codings : List Coding) → length ds ≡ length indices → length ks ≡ length indices
-    → codings_from w frame p tables indices ds ks ≡ Ok codings → AreCodings w frame p tables
-    indices ds ks codings
-unfolding codings_from component_coding
-codings-back w frame p tables [] [] [] codings h g e =
-    subst (AreCodings w frame p tables [] [] []) (ok-same [] codings e) no_more
-codings-back w frame p tables (x ∷ indices) (d ∷ ds) (a ∷ ks) codings h g e =
+pub coding-is : (w : Found) (frame : Frame) (p : Pass) (tables : Tables) (index d a : ℕ) (k : Coding)
+    → component_coding w frame p tables index d a ≡ Ok k → IsCoding w frame p tables index d a k
+unfolding component_coding
+coding-is w frame p tables index d a k e = search (rules, bind-ok, ok-same, needed-some)
+
+-- what holds of each coding that is found
+pub codings-each : (P : Coding → Type 0) (w : Found) (frame : Frame) (p : Pass) (tables : Tables)
+    (indices ds ks : List ℕ) (codings : List Coding) → codings_from w frame p tables indices ds ks ≡ Ok codings
+    → ((index d a : ℕ) (k : Coding) → IsCoding w frame p tables index d a k → P k) → AllByRecursion P codings
+unfolding codings_from
+codings-each P w frame p tables (x ∷ indices) (d ∷ ds) (a ∷ ks) codings e h =
     let one = bind-ok (component_coding w frame p tables x d a) _ codings e in
     let more = bind-ok (codings_from w frame p tables indices ds ks) _ codings one.2 in
-    subst (AreCodings w frame p tables (x ∷ indices) (d ∷ ds) (a ∷ ks)) (ok-same (one.0 ∷ more.0)
-    codings more.2)
-    (and_more x d a indices ds ks one.0 more.0 (search (rules, bind-ok, ok-same, needed-some))
-    (codings-back w frame p tables indices ds ks more.0 (omega arith) (omega arith) more.1))
-codings-back w frame p tables indices ds ks codings h g e = absurd (omega arith)
+    subst (AllByRecursion P) (ok-same (one.0 ∷ more.0) codings more.2)
+    (h x d a one.0 (coding-is w frame p tables x d a one.0 one.1),
+    codings-each P w frame p tables indices ds ks more.0 more.1 h)
+codings-each P w frame p tables indices ds ks codings e h = subst (AllByRecursion P) (ok-same [] codings e) tt
 
--- the facts of codings
-abbrev AllFacts : Found → Frame → List ℕ → List Coding → Type 0
-AllFacts w frame indices codings =
-    (length codings ≡ length indices) × AllByRecursion (CodingFacts w frame) codings
-    × (map (λ c. c.index) codings ≡ indices)
-
-codings-so : (w : Found) (frame : Frame) (p : Pass) (tables : Tables) (indices ds ks : List ℕ)
-    (codings : List Coding)
-    → AreCodings w frame p tables indices ds ks codings → AllFacts w frame indices codings
-codings-so w frame p tables indices ds ks codings no_more = (refl, tt, refl)
-codings-so w frame p tables indices ds ks codings (and_more index d a indices' ds' ks' k more h r) =
-    search (rules, first-drop, codings-so w frame p tables indices' ds' ks' more r)
-
-pub codings-facts_from : (w : Found) (frame : Frame) (p : Pass) (tables : Tables) (indices ds ks :
-    List ℕ)
+pub codings-indices : (w : Found) (frame : Frame) (p : Pass) (tables : Tables) (indices ds ks : List ℕ)
     (codings : List Coding) → length ds ≡ length indices → length ks ≡ length indices
-    → codings_from w frame p tables indices ds ks ≡ Ok codings → AllFacts w frame indices codings
-codings-facts_from w frame p tables indices ds ks codings h g e =
-    codings-so w frame p tables indices ds ks codings (codings-back w frame p tables indices ds ks
-    codings h g e)
-
-pub codings-facts : (w : Found) (frame : Frame) (s : Scan) (codings : List Coding)
-    → length s.dc_destinations ≡ length s.components → length s.ac_destinations ≡ length
-    s.components
-    → codings_of w frame s ≡ Ok codings
-    → (length codings ≡ length s.components) × AllByRecursion (CodingFacts w frame) codings
-    × (map (λ c. c.index) codings ≡ s.components)
-unfolding codings_of
-codings-facts w frame s codings h g e =
-    codings-facts_from w frame (pass_of s) (tables_of w s) s.components s.dc_destinations
-    s.ac_destinations codings h g e
-
--- ---- the tables in force
-
-in-force : (b : Bool) (class : HuffmanTableClass) (tables : List (Option Table)) (index : ℕ) (table
-    : Table)
-    → InForce b class tables index table → needed_if b class (slice_index_or tables index None) ≡
-    Ok table
-in-force true class tables index table e = ap needed e
-in-force false class tables index table e = ap (λ (t : Table). Ok t) (sym e)
-
-codings-read_from : (w : Found) (frame : Frame) (p : Pass) (tables : Tables) (indices ds ks : List
-    ℕ)
-    (codings : List Coding) → AreCodings w frame p tables indices ds ks codings
-    → codings_from w frame p tables indices ds ks ≡ Ok codings
-unfolding codings_from component_coding
-codings-read_from w frame p tables indices ds ks codings no_more = refl
-codings-read_from w frame p tables indices ds ks codings (and_more index d a indices' ds' ks' k
-    more h r) =
-    search (rules, then-ok, in-force, codings-read_from w frame p tables indices' ds' ks' more r)
-
-pub codings-read : (w : Found) (frame : Frame) (s : Scan) (codings : List Coding)
-    → AreCodings w frame (pass_of s) (tables_of w s) s.components s.dc_destinations
-    s.ac_destinations codings
-    → codings_of w frame s ≡ Ok codings
-unfolding codings_of
-codings-read w frame s codings h = search (rules, codings-read_from)
+    → codings_from w frame p tables indices ds ks ≡ Ok codings → map (λ c. c.index) codings ≡ indices
+unfolding codings_from
+codings-indices w frame p tables [] ds ks codings h g e =
+    ap (λ (l : List Coding). map (λ c. c.index) l) (sym (ok-same [] codings e))
+codings-indices w frame p tables (x ∷ indices) (d ∷ ds) (a ∷ ks) codings h g e =
+    let one = bind-ok (component_coding w frame p tables x d a) _ codings e in
+    let more = bind-ok (codings_from w frame p tables indices ds ks) _ codings one.2 in
+    subst (λ (l : List Coding). map (λ c. c.index) l ≡ x ∷ indices) (ok-same (one.0 ∷ more.0) codings more.2)
+    (ap₂ (λ (i : ℕ) (l : List ℕ). i ∷ l) (coding-is w frame p tables x d a one.0 one.1).stands
+    (codings-indices w frame p tables indices ds ks more.0 (omega arith) (omega arith) more.1))
+codings-indices w frame p tables indices ds ks codings h g e = absurd (omega arith)
 
 pub codings-same_from : (w : Found) (sc : Bool) (h : Arrays) (fi : List (List Bool)) (pl : List (Option (List ℕ)))
     (frame : Frame) (p : Pass) (tables : Tables) (indices ds ks : List ℕ)

@@ -1,7 +1,7 @@
 -- A stream that was written for a frame is one for the frame at any scale.
 use Rattle.std.proofs.lemmas.Grind.{common_steps}
 use Rattle.std.proofs.Common.{rules, ◌≡◌, ℕ, zero, suc, ◌+◌, ◌*◌, ◌<◌, ◌==◌, Bool, true, List, [], ◌∷◌, ◌++◌, map}
-use Rattle.std.proofs.Common.{length, sum_by, sum, drop, Some, refl, sym, ap, ap₂, ◌∙◌, subst, arith, mul_assoc}
+use Rattle.std.proofs.Common.{length, sum_by, sum, drop, slice_index_or, Some, None, Ok, refl, sym, ap, ap₂, ◌∙◌, subst, arith, mul_assoc}
 use Rattle.std.proofs.lemmas.Bool.Decides.{leb_tells}
 use Rattle.std.proofs.Math.Nat.{mul_comm, lt_of_mul-lt-mul_right, mul-lt-mul_of_pos_right}
 use Rattle.std.specs.List.{AllByRecursion, flat_map, position}
@@ -16,17 +16,17 @@ use Rattle.jpeg_streams.specs.Order.{Spot, grid_of, part_spots, mcu_spots, all_s
 use Rattle.jpeg_segments.specs.HuffmanTables.{Tables}
 use Rattle.jpeg_streams.specs.Levels.{Levels, IsLegal, numbers_at}
 use Rattle.jpeg_streams.specs.Needed.{first_of}
-use Rattle.jpeg_streams.specs.ScanSegments.{vias_from, Coding, tables_of, pass_of, components_of}
+use Rattle.jpeg_streams.specs.ScanSegments.{vias_from, Coding, codings_from, codings_of, component_coding, components_of}
+use Rattle.jpeg_streams.specs.ScanSegments.{pass_of, tables_of}
 use Rattle.jpeg_streams.specs.Found.{Found}
-use Rattle.jpeg_streams.specs.WrittenScans.{Coefficients, written_turns, IsCoding, AreCodings, WritesScan, levels_after}
+use Rattle.jpeg_streams.specs.WrittenScans.{Coefficients, written_turns, WritesScan, levels_after}
 use Rattle.jpeg_streams.specs.WrittenScans.{HasTable, IsLegalScan}
-use Rattle.jpeg_streams.specs.WrittenScans.AreCodings.{no_more, and_more}
 use Rattle.jpeg_streams.specs.WrittenImages.{Writes, closed, segment, scan}
 use Rattle.jpeg_streams.specs.SaidSegments.{Stands, found_after}
 use Rattle.jpeg_segments.specs.WrittenSegments.{with_length, Segment}
 use Rattle.jpeg_bits.specs.Written.{marker}
 use Rattle.jpeg_streams.proofs.FrameShapes.{below-ceiling}
-use Rattle.jpeg_streams.proofs.ReadTurns.{frame-stays, is-other, same-frame, some-none}
+use Rattle.jpeg_streams.proofs.ReadTurns.{bind-ok, coding-is, frame-stays, is-other, ok-same, same-frame, some-none, then-ok}
 
 -- ---- the same number
 
@@ -172,45 +172,39 @@ first-alike zero cs ds c (one_more x y cs' ds' h more) e = search rules
 first-alike (suc n) cs ds c none e = search rules
 first-alike (suc n) cs ds c (one_more x y cs' ds' h more) e = first-alike n cs' ds' c more e
 
-coding-alike : (w : Found) (f g : Frame) → SameFrame f g → (p : Pass) (tables : Tables) (index d a
-    : ℕ) (k : Coding)
-    → IsCoding w f p tables index d a k
-    → (l : Coding) × IsCoding (at_frame w g) g p tables index d a l × CodingAlike k l
-coding-alike w f g same p tables index d a k h =
-    let other = first-alike index f.components g.components k.component same.components h.component
-    in
-    let l : Coding = record {
-      index = k.index;
-      component = other.0;
-      quantization = k.quantization;
-      dc = k.dc;
-      ac = k.ac;
-    } in (
-      l,
-      record {
-        stands = h.stands;
-        component = other.1;
-        quantization = search rules;
-        dc = h.dc;
-        ac = h.ac;
-      },
+coding-alike : (w : Found) (f g : Frame) → SameFrame f g → (p : Pass) (tables : Tables) (index d a : ℕ) (k : Coding)
+    → component_coding w f p tables index d a ≡ Ok k
+    → (l : Coding) × (component_coding (at_frame w g) g p tables index d a ≡ Ok l) × CodingAlike k l
+unfolding component_coding
+coding-alike w f g same p tables index d a k e =
+    let h = coding-is w f p tables index d a k e in
+    let other = first-alike k.index f.components g.components k.component same.components h.component in
+    let at : first_of (drop index g.components) ≡ Some other.0 = search rules in
+    let quantization : slice_index_or w.quantization other.0.factors.quantization None ≡ Some k.quantization
+    = search rules in (
+      record k { component = other.0 },
+      search (rules, then-ok),
       record { index = refl; component = other.2; dc = refl; ac = refl },
     )
 
 codings-alike : (w : Found) (f g : Frame) → SameFrame f g
     → (p : Pass) (tables : Tables) (indices ds ks : List ℕ) (codings : List Coding)
-    → AreCodings w f p tables indices ds ks codings
-    → (others : List Coding) × AreCodings (at_frame w g) g p tables indices ds ks others ×
-    CodingsAlike codings others
-codings-alike w f g same p tables indices ds ks codings no_more = ([], no_more, none)
-codings-alike w f g same p tables indices ds ks codings (and_more index d a indices' ds' ks' k more
-    h r) =
-    let l = coding-alike w f g same p tables index d a k h in
-    let others = codings-alike w f g same p tables indices' ds' ks' more r in (
+    → codings_from w f p tables indices ds ks ≡ Ok codings
+    → (others : List Coding) × (codings_from (at_frame w g) g p tables indices ds ks ≡ Ok others) × CodingsAlike
+    codings others
+unfolding codings_from
+codings-alike w f g same p tables (x ∷ indices) (d ∷ ds) (a ∷ ks) codings e =
+    let one = bind-ok (component_coding w f p tables x d a) _ codings e in
+    let more = bind-ok (codings_from w f p tables indices ds ks) _ codings one.2 in
+    let l = coding-alike w f g same p tables x d a one.0 one.1 in
+    let others = codings-alike w f g same p tables indices ds ks more.0 more.1 in (
       l.0 ∷ others.0,
-      and_more index d a indices' ds' ks' l.0 others.0 l.1 others.1,
-      one_more k l.0 more others.0 l.2 others.2,
+      search (rules, then-ok),
+      subst (λ (ks : List Coding). CodingsAlike ks (l.0 ∷ others.0)) (ok-same (one.0 ∷ more.0) codings more.2)
+          (one_more one.0 l.0 more.0 others.0 l.2 others.2),
     )
+codings-alike w f g same p tables indices ds ks codings e =
+    ([], refl, subst (λ (ks : List Coding). CodingsAlike ks []) (ok-same [] codings e) none)
 
 components-alike : (ks ls : List Coding) → CodingsAlike ks ls → Alikes (components_of ks) (components_of ls)
 components-alike ks ls none = none
@@ -275,7 +269,7 @@ scan-other : (array : Coefficients) (f g : Frame) (w final : Found) (levels last
     → Writes array (at_frame w g) levels sc (marker fill 218 (with_length (scan_payload h) ++
     (bytes ++ more)))
     (at_frame final g) last
-unfolding tables_of
+unfolding codings_of tables_of
 scan-other array f g w final levels last sc fill h codings bytes more same is l x r =
     let s = scan_written f h in
     let alike : scan_written g h ≡ s = written-same f g h same in

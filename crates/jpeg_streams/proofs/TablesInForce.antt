@@ -1,5 +1,5 @@
 -- The tables in force exist.
-use Rattle.std.proofs.Common.{rules, ℕ, Bool, true, false, List, [], Option, refl, sym, subst, arith}
+use Rattle.std.proofs.Common.{rules, ◌≡◌, ℕ, Bool, true, false, List, [], Option, None, Ok, refl, slice_index_or, subst, arith}
 use Rattle.std.specs.List.{AllByRecursion}
 use Rattle.jpeg_bits.specs.Codes.{Table, IsTable}
 use Rattle.jpeg_bits.specs.declared.codes.HuffmanTableClass.{HuffmanTableClass}
@@ -8,12 +8,10 @@ use Rattle.jpeg_bits.proofs.DefaultTables.{luminance-dc-codes, chrominance-dc-co
 use Rattle.jpeg_bits.proofs.DefaultTables.{chrominance-ac-codes}
 use Rattle.jpeg_segments.specs.Frame.{Frame}
 use Rattle.jpeg_segments.specs.ScanHeader.{Scan}
-use Rattle.jpeg_segments.specs.HuffmanTables.{Tables}
-use Rattle.jpeg_bits.specs.Passes.{Pass}
-use Rattle.jpeg_streams.specs.ScanSegments.{Coding, tables_of, pass_of}
+use Rattle.jpeg_streams.specs.Scans.{no_table}
+use Rattle.jpeg_streams.specs.ScanSegments.{Coding, codings_of, needed_if, pass_of, tables_of}
 use Rattle.jpeg_streams.specs.Found.{Found, nothing_found}
-use Rattle.jpeg_streams.specs.WrittenScans.{AreCodings, InForce}
-use Rattle.jpeg_streams.specs.WrittenScans.AreCodings.{no_more, and_more}
+use Rattle.jpeg_streams.proofs.ReadTurns.{codings-each, needed-some, ok-same}
 use Rattle.jpeg_streams.proofs.SaidTables.{HasTables, IsTableOrNone, no-tables, table-there}
 use Rattle.jpeg_streams.proofs.WrittenFrameScans.{no-codes}
 
@@ -29,34 +27,26 @@ good-defaults one two indices [] a b h = tt
 good-defaults one two indices l a b h = search rules
 
 needed-good : (b : Bool) (class : HuffmanTableClass) (l : List (Option Table)) (i : ℕ) (t : Table)
-    → AllByRecursion IsTableOrNone l → InForce b class l i t → IsTable t
-needed-good true class l i t h e = table-there l i t h e
-needed-good false class l i t h e = subst IsTable (sym e) (record {
+    → AllByRecursion IsTableOrNone l → needed_if b class (slice_index_or l i None) ≡ Ok t → IsTable t
+needed-good true class l i t h e = table-there l i t h (needed-some _ t e)
+needed-good false class l i t h e = subst IsTable (ok-same (no_table class) t e) (record {
   counted = refl;
   exists = λ i h. absurd
       (let n = no-codes class in omega arith);
 })
 
-codings-good_from : (w : Found) (f : Frame) (p : Pass) (tables : Tables) (indices ds ks : List ℕ)
-    (codings : List Coding) → HasTables tables → AreCodings w f p tables indices ds ks codings
-    → AllByRecursion (λ c. IsTable c.dc × IsTable c.ac) codings
-codings-good_from w f p tables indices ds ks codings h no_more = tt
-codings-good_from w f p tables indices ds ks codings h (and_more index d a indices' ds' ks' k more
-    is r) =
-    search (rules, needed-good, codings-good_from w f p tables indices' ds' ks' more h r)
-
 -- The tables of a scan exist.
 pub codings-good : (w : Found) (f : Frame) (s : Scan) (codings : List Coding) → HasTables w.huffman
-    → AreCodings w f (pass_of s) (tables_of w s) s.components s.dc_destinations s.ac_destinations
-    codings
-    → AllByRecursion (λ c. IsTable c.dc × IsTable c.ac) codings
-unfolding tables_of
-codings-good w f s codings h are = search (
-  rules,
-  codings-good_from,
-  good-defaults,
-  luminance-dc-codes,
-  chrominance-dc-codes,
-  luminance-ac-codes,
-  chrominance-ac-codes,
-)
+    → codings_of w f s ≡ Ok codings → AllByRecursion (λ c. IsTable c.dc × IsTable c.ac) codings
+unfolding codings_of tables_of
+codings-good w f s codings h e =
+    let good : HasTables (tables_of w s) = search (
+      rules,
+      good-defaults,
+      luminance-dc-codes,
+      chrominance-dc-codes,
+      luminance-ac-codes,
+      chrominance-ac-codes,
+    ) in
+    codings-each (λ c. IsTable c.dc × IsTable c.ac) w f (pass_of s) (tables_of w s) s.components s.dc_destinations
+    s.ac_destinations codings e (λ index d a k is. search (rules, needed-good))

@@ -30,7 +30,6 @@ use Rattle.jpeg_streams.specs.ScanSegments.{Coding, codings_of, pass_of}
 use Rattle.jpeg_streams.specs.WorkedImages.{in_column}
 use Rattle.jpeg_streams.specs.WrittenData.{WritesBlocks, WritesInterval}
 use Rattle.jpeg_streams.specs.WrittenScans.{IsLegalScan}
-use Rattle.jpeg_streams.proofs.ReadTurns.{codings-back}
 
 all-by : {A : Type 0} (test : A → Bool) (P : A → Type 0) → ((x : A) → test x ≡ true → P x)
     → (xs : List A) → list_all test xs ≡ true → AllByRecursion P xs
@@ -150,8 +149,7 @@ pub scan-legal : (w : Found) (frame : Frame) (levels : ℕ → Levels) (h : Scan
     → codings_of w frame (scan_written frame h) ≡ Ok codings
     → list_all (λ c. is_legal (pass_of (scan_written frame h)) (levels c.index)) codings ≡ true
     → IsLegalScan w frame levels (scan_written frame h) codings
-unfolding scan_of codings_of
-scan-legal w frame levels h codings e legal = grind (arith, common_steps, codings-back, all-by, legal-by)
+scan-legal w frame levels h codings e legal = search (rules, all-by, legal-by)
 
 -- ---- data
 

@@ -8,7 +8,7 @@ use Rattle.jpeg_pixels.specs.declared.upsampler.UpsampleRule.{UpsampleRule}
 use Rattle.jpeg_pixels.specs.declared.upsampler.UpsampleRule.TheVariants.{H1V1, H2V1, H1V2, H2V2}
 use Rattle.jpeg_pixels.specs.Pictures.{Source, source_by, source_of, sources_by}
 use Rattle.jpeg_pixels.specs.Upsampling.{rule_of}
-use Rattle.jpeg_streams.specs.SaidSegments.{IsNear}
+use Rattle.jpeg_streams.specs.AcceptedFrames.{IsNear}
 use Rattle.jpeg_streams.proofs.ReadTurns.{bind-ok, err-ok, then-ok}
 
 -- ---- a rule by its tests

@@ -17,7 +17,7 @@ use Rattle.jpeg_pixels.specs.Pictures.{sources_by}
 use Rattle.jpeg_pixels.specs.Upsampling.{rule_of}
 use Rattle.jpeg_streams.specs.Levels.{Levels, Is8Bit, nothing_sent}
 use Rattle.jpeg_streams.specs.Order.{Spot, all_spots, mcu_size, mcu_spots, part_spots, spots_of}
-use Rattle.jpeg_streams.specs.SaidSegments.{HasPicture, found_after}
+use Rattle.jpeg_streams.specs.SaidSegments.{found_after}
 use Rattle.jpeg_streams.specs.ScanSegments.{Coding, codings_of, codings_from, component_coding, components_of, pass_of}
 use Rattle.jpeg_streams.specs.ScanSegments.{tables_of, vias_from}
 use Rattle.jpeg_streams.specs.Segments.{accepted, updated}
@@ -32,7 +32,6 @@ use Rattle.jpeg_streams.specs.WrittenData.WritesIntervals.{another, last}
 use Rattle.jpeg_streams.specs.WrittenImages.{closed, scan, segment}
 use Rattle.jpeg_streams.specs.WrittenScans.{IsComplete, IsLegalScan, IsOwn, WritesScan, block_for, grid_at}
 use Rattle.jpeg_streams.specs.WrittenScans.{levels_after}
-use Rattle.jpeg_streams.proofs.AcceptedSamples.{accepted-picture}
 use Rattle.jpeg_streams.proofs.CutLevels.{all-same}
 use Rattle.jpeg_streams.proofs.TestedParts.{category-by, frame-by, interval-by, is_category, one-quantizes, range-by}
 use Rattle.jpeg_streams.proofs.TestedParts.{range-in, scan-by, scan-legal, table-by, table_of_one}
@@ -162,10 +161,6 @@ data-written = record {
 
 -- ---- segments and the script
 
-has-picture : HasPicture header
-unfolding accepted frame_of component_of sources_by rule_of
-has-picture = accepted-picture 0 header refl refl
-
 scan-is : IsScan the_frame the_header
 unfolding frame_of component_of
 scan-is = scan-by the_frame the_header refl
@@ -191,7 +186,7 @@ legal = scan-legal said the_frame (λ k. nothing_sent) the_header codings refl r
 
 pub colour-written : IsWhollyWritten colour_array colour_bytes
 unfolding nothing_found frame_of component_of quantization_bytes frame_payload huffman_bytes scan_payload updated
-    codes_exist lengths_from code_value levels_after pass_of scan_of
+    codes_exist lengths_from code_value levels_after pass_of scan_of accepted sources_by rule_of
 colour-written =
     let whole : IsComplete (sent 0) = record { dc = refl; acs = all-same (Some 0) 63 } in
     record {
@@ -204,7 +199,7 @@ colour-written =
         written =
             segment nothing_found said _ sent false 0 (Quantization (table_of_one 0 16 ∷ [])) _
             ((one-quantizes 0 16 (omega arith) (omega arith), tt), tt) tt (λ e. absurd (true≢false (sym e))) (
-            segment said_1 said _ sent false 0 (Header 0 header) _ ((refl, frame-by 0 header refl), has-picture)
+            segment said_1 said _ sent false 0 (Header 0 header) _ ((refl, frame-by 0 header refl), refl)
             (omega arith) (λ e. absurd (true≢false (sym e))) (
             segment _ said _ sent false 0 (segment_of (table classes.DC 4)) _
             ((table-by _ _ (omega arith) refl, tt), tt) tt (λ e. tt) (

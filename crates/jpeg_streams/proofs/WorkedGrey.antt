@@ -13,7 +13,7 @@ use Rattle.jpeg_pixels.specs.Pictures.{sources_by}
 use Rattle.jpeg_pixels.specs.Upsampling.{rule_of}
 use Rattle.jpeg_streams.specs.Levels.{Levels, nothing_sent}
 use Rattle.jpeg_streams.specs.Order.{own_spots, spots_of, mcu_size}
-use Rattle.jpeg_streams.specs.SaidSegments.{HasPicture, found_after}
+use Rattle.jpeg_streams.specs.SaidSegments.{found_after}
 use Rattle.jpeg_streams.specs.Scans.{no_table}
 use Rattle.jpeg_streams.specs.ScanSegments.{Coding, codings_of, codings_from, component_coding, pass_of, tables_of}
 use Rattle.jpeg_streams.specs.ScanSegments.{vias_from}
@@ -29,7 +29,6 @@ use Rattle.jpeg_streams.specs.WrittenData.WritesIntervals.{last}
 use Rattle.jpeg_streams.specs.WrittenData.WritesRefinement.{found, none_left}
 use Rattle.jpeg_streams.specs.WrittenImages.{closed, scan, segment}
 use Rattle.jpeg_streams.specs.WrittenScans.{block_for, IsLegalScan, WritesScan, levels_after}
-use Rattle.jpeg_streams.proofs.AcceptedSamples.{accepted-picture}
 use Rattle.jpeg_streams.proofs.CutLevels.{all-same}
 use Rattle.jpeg_streams.proofs.TestedParts.{category-by, frame-by, interval-by, one-quantizes, range-in, scan-by}
 use Rattle.jpeg_streams.proofs.TestedParts.{scan-legal, table-by, table_of_one}
@@ -193,10 +192,6 @@ sent = (
 
 -- ---- segments and scripts
 
-has-picture : HasPicture header
-unfolding accepted frame_of component_of sources_by rule_of
-has-picture = accepted-picture 2 header refl refl
-
 scans-are : IsScan the_frame header_1 × IsScan the_frame header_2 × IsScan the_frame header_3
     × IsScan the_frame header_4
 unfolding frame_of component_of
@@ -236,7 +231,7 @@ legal = search (rules, scan-legal)
 
 pub grey-written : IsWhollyWritten grey_array grey_bytes
 unfolding nothing_found frame_of component_of quantization_bytes frame_payload huffman_bytes scan_payload updated
-    codes_exist lengths_from code_value levels_after pass_of scan_of
+    codes_exist lengths_from code_value levels_after pass_of scan_of accepted sources_by rule_of
 grey-written = record {
   final = said;
   last = sent_4;
@@ -246,7 +241,7 @@ grey-written = record {
     starts = refl;
     written = segment nothing_found said _ sent_4 false 0 (Quantization (table_of_one 0 16 ∷ [])) _
         ((one-quantizes 0 16 (omega arith) (omega arith), tt), tt) tt (λ e. absurd (true≢false (sym e))) (
-        segment said_1 said _ sent_4 false 0 (Header 2 header) _ ((refl, frame-by 2 header refl), has-picture)
+        segment said_1 said _ sent_4 false 0 (Header 2 header) _ ((refl, frame-by 2 header refl), refl)
         (omega arith) (λ e. absurd (true≢false (sym e))) (
         segment _ said _ sent_4 false 0 (segment_of dc_table) _ ((table-by _ _ (omega arith) refl, tt), tt) tt
         (λ e. tt) (

@@ -27,12 +27,11 @@ use Rattle.jpeg_streams.specs.WorkedSamples.{AreWritten, lone_data, lone_scan, o
 use Rattle.jpeg_streams.specs.WorkedSamples.{padded_data, padded_header, padded_samples, padded_scan, plain_factors}
 use Rattle.jpeg_streams.specs.WorkedSamples.{table_segment, twice_factors, third_data, third_scan, three_bytes}
 use Rattle.jpeg_streams.specs.WorkedSamples.{three_header, three_samples}
-use Rattle.jpeg_streams.specs.WrittenLossless.{HasSamples, HoldSamples}
+use Rattle.jpeg_streams.specs.WrittenLossless.{HoldSamples}
 use Rattle.jpeg_streams.specs.WrittenLossless.{WritesSamplesScan, closed, said_after_scan}
 use Rattle.jpeg_streams.specs.WrittenLossless.{scan, segment, whole_rows}
 use Rattle.jpeg_streams.specs.LosslessScans.{LosslessCoding, lossless_coding, lossless_codings}
 use Rattle.jpeg_streams.specs.LosslessScans.{mcus_across, mcus_down, parts_of}
-use Rattle.jpeg_streams.proofs.AcceptedSamples.{accepted-samples}
 use Rattle.jpeg_streams.proofs.TestedParts.{category-by, frame-by, is_category, scan-by, table-by}
 
 -- ---- what is said
@@ -51,10 +50,6 @@ scanned h = said_after_scan (said h)
 
 abbrev frame_by : FrameHeader → Frame
 frame_by h = frame_written 3 h
-
-have-samples : HasSamples 3 three_header × HasSamples 3 padded_header
-unfolding accepted frame_of component_of sources_by rule_of
-have-samples = (accepted-samples three_header refl, accepted-samples padded_header refl)
 
 are-scans : IsScan (frame_by three_header) third_scan × IsScan (frame_by three_header) other_scan
     × IsScan (frame_by padded_header) padded_scan × IsScan (frame_by padded_header) lone_scan
@@ -179,16 +174,16 @@ three-scans = (
 )
 
 pub three-written : AreWritten three_samples three_bytes
-unfolding nothing_found frame_of codes_exist lengths_from code_value
+unfolding nothing_found frame_of codes_exist lengths_from code_value accepted component_of sources_by rule_of
 three-written = record {
   final = scanned three_header;
   written = record {
     after = _;
     starts = refl;
     written =
-        segment nothing_found _ [] 0 (Header 3 three_header) _ ((refl, frame-by 3 three_header refl), have-samples.0) (
-        segment (framed three_header) _ [] 0 table_segment _ ((table-by _ _ (omega arith) refl, tt), tt) (
-        segment (tabled three_header) _ [] 1 (Interval 2) _ (tt, tt) (
+        segment nothing_found _ [] 0 (Header 3 three_header) _ (((refl, frame-by 3 three_header refl), refl), refl) (
+        segment (framed three_header) _ [] 0 table_segment _ (((table-by _ _ (omega arith) refl, tt), tt), tt) (
+        segment (tabled three_header) _ [] 1 (Interval 2) _ ((tt, tt), tt) (
         scan (said three_header) _ [] _ 0 third_scan third_data _ refl refl are-scans.0 three-scans.0 (
         scan (scanned three_header) _ (2 ∷ []) _ 0 other_scan other_data _ refl refl are-scans.1 three-scans.1 (
         closed (scanned three_header) (0 ∷ 1 ∷ 2 ∷ []) (frame_by three_header) 0 refl refl (
@@ -246,17 +241,17 @@ padded-scans = (
 )
 
 pub padding-written : AreWritten padded_samples padded_bytes
-unfolding nothing_found frame_of codes_exist lengths_from code_value
+unfolding nothing_found frame_of codes_exist lengths_from code_value accepted component_of sources_by rule_of
 padding-written = record {
   final = scanned padded_header;
   written = record {
     after = _;
     starts = refl;
     written =
-        segment nothing_found _ [] 0 (Header 3 padded_header) _ ((refl, frame-by 3 padded_header refl), have-samples.1)
+        segment nothing_found _ [] 0 (Header 3 padded_header) _ (((refl, frame-by 3 padded_header refl), refl), refl)
         (
-        segment (framed padded_header) _ [] 0 table_segment _ ((table-by _ _ (omega arith) refl, tt), tt) (
-        segment (tabled padded_header) _ [] 0 (Interval 2) _ (tt, tt) (
+        segment (framed padded_header) _ [] 0 table_segment _ (((table-by _ _ (omega arith) refl, tt), tt), tt) (
+        segment (tabled padded_header) _ [] 0 (Interval 2) _ ((tt, tt), tt) (
         scan (said padded_header) _ [] _ 0 padded_scan padded_data _ refl refl are-scans.2 padded-scans.0 (
         scan (scanned padded_header) _ (0 ∷ 1 ∷ []) _ 0 lone_scan lone_data _ refl refl are-scans.3 padded-scans.1 (
         closed (scanned padded_header) (2 ∷ 0 ∷ 1 ∷ []) (frame_by padded_header) 0 refl refl (

@@ -4,10 +4,8 @@ use Rattle.std.proofs.Common.{◌∷◌, ◌++◌, map, drop, length, nat_lt, So
 use Rattle.std.proofs.Common.{subst, true≢false}
 use Rattle.std.specs.List.{AllByRecursion}
 use Rattle.std.specs.Prelude.{slice_index_or}
-use Rattle.jpeg_bits.specs.Passes.{Pass}
 use Rattle.jpeg_bits.specs.Reading.{Fault, Malformed, ◌>>=◌}
 use Rattle.jpeg_segments.specs.Frame.{Component, Frame}
-use Rattle.jpeg_segments.specs.HuffmanTables.{Tables}
 use Rattle.jpeg_segments.specs.ScanHeaders.{scan_payload, scan_written}
 use Rattle.jpeg_segments.specs.WrittenSegments.{marker_code, payload_of, with_length}
 use Rattle.jpeg_streams.specs.ArrayPictures.{picture_of_array, picture_of_blocks, planes_of_blocks}
@@ -16,7 +14,7 @@ use Rattle.jpeg_streams.specs.Levels.{Is8Bit, Levels, nothing_sent}
 use Rattle.jpeg_streams.specs.Order.{grid_of}
 use Rattle.jpeg_streams.specs.SaidSegments.{found_after}
 use Rattle.jpeg_streams.specs.Needed.{first_of, needed}
-use Rattle.jpeg_streams.specs.ScanSegments.{Coding, is_progressive, pass_of, components_of}
+use Rattle.jpeg_streams.specs.ScanSegments.{Coding, codings_of, components_of, is_progressive, pass_of}
 use Rattle.jpeg_streams.specs.Found.{nothing_found, Found}
 use Rattle.jpeg_streams.specs.Stream.{Told, told_of}
 use Rattle.jpeg_streams.specs.FoundPictures.{picture_by}
@@ -24,10 +22,9 @@ use Rattle.jpeg_streams.specs.WholeImages.{AllComplete}
 use Rattle.jpeg_streams.specs.WrittenImages.{closed, scan as then_scan, segment as then_segment, Writes, WritesImage}
 use Rattle.jpeg_streams.specs.WrittenParts.{AgreeOnOwn, HaveSamePicture, nothing, picture_meant_by, scan, segment}
 use Rattle.jpeg_streams.specs.WrittenParts.{WritesFront}
-use Rattle.jpeg_streams.specs.WrittenScans.{AreCodings, Coefficients, grid_at, HasTable, levels_after}
+use Rattle.jpeg_streams.specs.WrittenScans.{Coefficients, grid_at, HasTable, levels_after}
 use Rattle.jpeg_streams.specs.WrittenScans.{no_grid, index_at}
-use Rattle.jpeg_streams.specs.WrittenScans.AreCodings.{and_more, no_more}
-use Rattle.jpeg_streams.proofs.ReadTurns.{frame-kept, same-frame, scan-tail, segment-tail, then-ok}
+use Rattle.jpeg_streams.proofs.ReadTurns.{codings-each, frame-kept, same-frame, scan-tail, segment-tail, then-ok}
 use Rattle.jpeg_streams.proofs.WholeImages.{whole-is}
 use Rattle.jpeg_streams.proofs.WrittenPictures.{stream-means}
 use Rattle.jpeg_bits.proofs.BandSteps.{bind_same}
@@ -136,25 +133,21 @@ one-picture settings array first second rest others a b last_a last_b range w x 
 
 -- ---- padding
 
--- A slot of a scan is beyond its components, or has the component of a place in the frame.
-slot-coded : (w : Found) (frame : Frame) (p : Pass) (tables : Tables) (indices ds ks : List ℕ)
-    (codings : List Coding)
-    → AreCodings w frame p tables indices ds ks codings
+-- A slot of a scan is beyond its components, or has the component of an index in the frame.
+slot-coded : (frame : Frame) (codings : List Coding)
+    → AllByRecursion (λ k. first_of (drop k.index frame.components) ≡ Some k.component) codings
     → (slot : ℕ) → (grid_at (components_of codings) slot ≡ no_grid)
     ⊎ ((c : Component) × (grid_at (components_of codings) slot ≡ grid_of c)
     × (first_of (drop (index_at codings slot) frame.components) ≡ Some c))
-slot-coded w frame p tables indices ds ks codings no_more slot = inl refl
-slot-coded w frame p tables indices ds ks codings (and_more index d a indices' ds' ks' k codings'
-    is more) zero =
-    search rules
-slot-coded w frame p tables indices ds ks codings (and_more index d a indices' ds' ks' k codings'
-    is more) (suc slot) =
-    slot-coded w frame p tables indices' ds' ks' codings' more slot
+slot-coded frame [] h slot = inl refl
+slot-coded frame (k ∷ codings) h zero = search rules
+slot-coded frame (k ∷ codings) h (suc slot) = slot-coded frame codings h.1 slot
 
 also-writes : (a b : Coefficients) (said final : Found) (levels last : ℕ → Levels) (scanned : Bool) (bytes : List ℕ)
     (frame : Frame)
     → Writes a said levels scanned bytes final last → final.frame ≡ Some frame → AgreeOnOwn frame a b
     → Writes b said levels scanned bytes final last
+unfolding codings_of
 also-writes a b said final levels last scanned bytes frame
     (closed said' levels' g fill framed tables complete) e agree = closed said levels g fill framed tables complete
 also-writes a b said final levels last scanned bytes frame
@@ -169,11 +162,13 @@ also-writes a b said final levels last scanned bytes frame
     let same : f ≡ frame =
     same-frame f frame final.frame (frame-kept a said final levels_1 last true more f w framed) e in
     let alike : AgreeOnOwn f a b = subst (λ (x : Frame). AgreeOnOwn x a b) (sym same) agree in
+    let slots = slot-coded f codings (codings-each _ said f p _ _ _ _ codings legal.are_in_force
+    (λ index d a k is. is.component)) in
     then_scan said final levels last scanned f fill h codings data_bytes more framed is legal
     (record {
       sent = written.sent;
       in_range = written.in_range;
-      is_own = λ s own. written.is_own s own ∙ (search (rules, slot-coded));
+      is_own = λ s own. written.is_own s own ∙ (search (rules, slots));
       coded = written.coded;
     })
     (also-writes a b said final levels_1 last true more frame w e agree)

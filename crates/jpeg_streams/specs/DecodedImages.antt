@@ -1,10 +1,10 @@
 -- What a call of `decode` gives where its source has a stream that is written for coefficients.
-use Rattle.std.specs.Prelude.{◌≡◌, ℕ, ◌++◌, List, true, false, Result, Ok, MatchResult}
+use Rattle.std.specs.Prelude.{◌≡◌, ℕ, ◌++◌, List, true, false, Result, IsOk, Ok, MatchResult}
 use Rattle.jpeg_bits.specs.Reading.{Fault, IsGivenUp}
 use Rattle.jpeg_bits.specs.Stream.{Stream}
 use Rattle.jpeg_bits.specs.declared.error.Error.{Error}
 use Rattle.jpeg_bits.specs.declared.error.Error.TheVariants.{OutOfMemory}
-use Rattle.jpeg_streams.specs.ArrayPictures.{picture_of_array, TakesPicture}
+use Rattle.jpeg_streams.specs.ArrayPictures.{picture_of_array}
 use Rattle.jpeg_streams.specs.Levels.{Is8Bit, Levels}
 use Rattle.jpeg_streams.specs.States.{Decoding, Stage, Fresh, HeaderRead, Finished, Failed}
 use Rattle.jpeg_streams.specs.Stream.{header_at, sized_to, told_of}
@@ -49,18 +49,18 @@ pub record FailsOutside (e : Error) (source : Stream) : Type 0 where
   pub reader : source.known ≡ false → IsGivenUp e source.failed
 
 -- A call on a decoder whose source has a stream that is written for the coefficients of 8-bit
--- samples, and whose settings take its picture, gives that picture, cut at the bits that were sent,
--- and leaves what follows the image; or it fails for lack of memory or by its reader.
+-- samples gives their picture, cut at the bits that were sent, and leaves what follows the image;
+-- or, where the settings take that picture, it fails for lack of memory or by its reader.
 abbrev pub DecodesImages :
     {X : Type 0} → (X → List ℕ) → Decoding → Result X Error → Decoding → Type 0
 DecodesImages bytes_of old result new =
     (size : Size) (array : Coefficients) (image rest : List ℕ) (final : Found)
     (last : ℕ → Levels) →
     ((index row column : ℕ) → Is8Bit (array index row column)) →
-    WritesImage array image final last → TakesPicture old.settings (at_size size final) →
+    WritesImage array image final last →
     HasLeft size (image ++ rest) old.stage old.found old.source.bytes →
     old.source.known ≡ true →
+    let picture = picture_of_array old.settings (at_size size final) array last in
     MatchResult result
-    (λ x. GivesPicture (picture_of_array old.settings (at_size size final) array last) rest
-    (at_size size final) (bytes_of x) new)
-    (λ e. FailsOutside e new.source)
+    (λ x. GivesPicture picture rest (at_size size final) (bytes_of x) new)
+    (λ e. IsOk picture → FailsOutside e new.source)

@@ -2,7 +2,7 @@
 use Rattle.std.specs.Prelude.{◌≡◌, ℕ, ◌++◌, List, Option, option_map, Result, Ok, MatchResult}
 use Rattle.std.specs.Io.KnownBytes.{Appends}
 use Rattle.jpeg_bits.specs.declared.error.Error.{Error}
-use Rattle.jpeg_streams.specs.ArrayPictures.{picture_of_array, TakesPicture}
+use Rattle.jpeg_streams.specs.ArrayPictures.{picture_of_array}
 use Rattle.jpeg_streams.specs.Levels.{Is8Bit, Levels}
 use Rattle.jpeg_streams.specs.Output.{default_settings, header_line_of, IsOutsideOrMemory}
 use Rattle.jpeg_streams.specs.Output.{TakesBeginning, Tells}
@@ -21,15 +21,14 @@ Prints text old result new =
     (λ e. IsOutsideOrMemory e × TakesBeginning old new text)
 
 -- A run whose reader gives a stream that is written for the coefficients of 8-bit samples, and
--- anything after it, where the default settings take the picture, prints the picture's size and
+-- anything after it, where the default settings take their picture, prints the picture's size and
 -- format and then the picture, cut at the bits that were sent.
 abbrev pub PrintsImages : {X : Type 0} →
     Option (List ℕ) → Option (List ℕ) → Result X Error → Option (List ℕ) → Type 0
 PrintsImages remaining old result new =
-    (array : Coefficients) (image rest : List ℕ) (final : Found) (last : ℕ → Levels) →
+    (array : Coefficients) (image rest picture : List ℕ) (final : Found) (last : ℕ → Levels) →
     ((index row column : ℕ) → Is8Bit (array index row column)) →
-    WritesImage array image final last → TakesPicture default_settings final →
+    WritesImage array image final last →
+    picture_of_array default_settings final array last ≡ Ok picture →
     Tells remaining (image ++ rest) →
-    (picture : List ℕ)
-    × (picture_of_array default_settings final array last ≡ Ok picture)
-    × Prints (header_line_of (option_map info_of final.frame) ++ picture) old result new
+    Prints (header_line_of (option_map info_of final.frame) ++ picture) old result new

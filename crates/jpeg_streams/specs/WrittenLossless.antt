@@ -7,7 +7,7 @@ use Rattle.jpeg_segments.specs.declared.parser.CodingProcess.TheVariants.{Lossle
 use Rattle.jpeg_segments.specs.Frame.{Component, Frame}
 use Rattle.jpeg_segments.specs.ScanHeader.{predictor_by}
 use Rattle.jpeg_segments.specs.ScanHeaders.{IsScan, ScanHeader, scan_payload, scan_written}
-use Rattle.jpeg_segments.specs.WrittenSegments.{marker_code, FrameHeader, Header, MayStand}
+use Rattle.jpeg_segments.specs.WrittenSegments.{marker_code, Header}
 use Rattle.jpeg_segments.specs.WrittenSegments.{payload_of}
 use Rattle.jpeg_segments.specs.WrittenSegments.{Segment, with_length}
 use Rattle.jpeg_lossless.specs.Differences.{Part}
@@ -17,9 +17,9 @@ use Rattle.jpeg_lossless.specs.Scans.{rows_of_interval}
 use Rattle.jpeg_lossless.specs.Written.{WritesIntervals}
 use Rattle.jpeg_bits.specs.Written.{marker}
 use Rattle.jpeg_streams.specs.InTurn.{IsIn}
-use Rattle.jpeg_streams.specs.LosslessScans.{LosslessCoding, lossless_codings, mcus_across, mcus_down}
-use Rattle.jpeg_streams.specs.LosslessScans.{parts_of, way_of}
-use Rattle.jpeg_streams.specs.SaidSegments.{found_after, IsUpsampled}
+use Rattle.jpeg_streams.specs.LosslessScans.{LosslessCoding, lossless_codings, mcus_across}
+use Rattle.jpeg_streams.specs.LosslessScans.{mcus_down, parts_of, way_of}
+use Rattle.jpeg_streams.specs.SaidSegments.{found_after, Stands}
 use Rattle.jpeg_streams.specs.Found.{nothing_found, Found}
 
 -- By its index in the frame, a component's lines of samples.
@@ -28,22 +28,13 @@ Samples = ℕ → List (List ℕ)
 
 -- ---- segments
 
--- A frame header SOF3 of 2 to 16 bits, with one, three or four components that can be upsampled.
-pub record HasSamples (number : ℕ) (h : FrameHeader) : Type 0 where
-  pub lossless : number ≡ 3
-  pub least : 2 ≤ h.precision
-  pub most : h.precision ≤ 16
-  pub counted :
-      (length h.components ≡ 1) ⊎ ((length h.components ≡ 3) ⊎ (length h.components ≡ 4))
-  pub upsampled : AllByRecursion (IsUpsampled h) h.components
-
 abbrev pub IsLossless : Segment → Type 0
-IsLossless (Header number h) = HasSamples number h
+IsLossless (Header number h) = number ≡ 3
 IsLossless _ = Unit {0}
 
 -- The segment keeps its rules where so much is known.
 abbrev pub StandsInLossless : Found → Segment → Type 0
-StandsInLossless said s = MayStand said.frame s × IsLossless s
+StandsInLossless said s = Stands said s × IsLossless s
 
 -- ---- a scan
 

@@ -1,22 +1,17 @@
 -- The scans that a writer sends of the coefficients of an image, and when a scan may be sent
 -- (T.81, A.2, E.1.4 and G.1).
-use Rattle.std.specs.Prelude.{◌≡◌, ℕ, ◌*◌, ◌/◌, ◌%◌, ◌==◌, ◌<◌, Bool, true, false, List, [], ◌∷◌}
-use Rattle.std.specs.Prelude.{map, drop, get_or, slice_index_or, Option, Some, None, nat_lt}
+use Rattle.std.specs.Prelude.{◌≡◌, ℕ, ◌*◌, ◌/◌, ◌%◌, ◌==◌, ◌<◌, true, false, List, [], ◌∷◌, map}
+use Rattle.std.specs.Prelude.{get_or, slice_index_or, Some, None, Ok}
 use Rattle.std.specs.List.{AllByRecursion}
-use Rattle.jpeg_bits.specs.Codes.{Table}
 use Rattle.jpeg_bits.specs.Intervals.{first_group, other_groups}
 use Rattle.jpeg_bits.specs.Passes.{Pass, Via, Block}
-use Rattle.jpeg_bits.specs.declared.codes.HuffmanTableClass.{HuffmanTableClass}
-use Rattle.jpeg_bits.specs.declared.codes.HuffmanTableClass.TheVariants as classes
 use Rattle.jpeg_segments.specs.Frame.{Frame, Component}
-use Rattle.jpeg_segments.specs.HuffmanTables.{Tables}
 use Rattle.jpeg_segments.specs.ScanHeader.{Scan}
 use Rattle.jpeg_streams.specs.declared.grids.Grid.{Grid}
 use Rattle.jpeg_streams.specs.Levels.{Is8Bit, IsLegal, Levels, sent_after, numbers_at}
 use Rattle.jpeg_streams.specs.Order.{Spot, grid_of, mcu_size, spots_of}
-use Rattle.jpeg_streams.specs.Scans.{no_table, via_at}
-use Rattle.jpeg_streams.specs.Needed.{first_of}
-use Rattle.jpeg_streams.specs.ScanSegments.{vias_from, components_of, Coding, tables_of, pass_of}
+use Rattle.jpeg_streams.specs.Scans.{via_at}
+use Rattle.jpeg_streams.specs.ScanSegments.{Coding, codings_of, components_of, pass_of, vias_from}
 use Rattle.jpeg_streams.specs.Found.{Found}
 use Rattle.jpeg_streams.specs.WrittenData.{WritesIntervals}
 
@@ -72,33 +67,6 @@ pub record WritesScan (frame : Frame) (restart : ℕ) (p : Pass) (codings : List
 
 -- ---- tables in force
 
--- The table at a destination, where the scan needs one.
-abbrev pub InForce : Bool → HuffmanTableClass → List (Option Table) → ℕ → Table → Type 0
-InForce true class tables index table = slice_index_or tables index None ≡ Some table
-InForce false class tables index table = table ≡ no_table class
-
--- A component of a scan, by its index in the frame and the destinations of its Huffman tables: its
--- quantization table is defined, its DC table where the scan codes DC, and its AC table where it
--- codes AC.
-pub record IsCoding (w : Found) (frame : Frame) (p : Pass) (tables : Tables) (index d a : ℕ)
-    (k : Coding) : Type 0 where
-  pub stands : k.index ≡ index
-  pub component : first_of (drop index frame.components) ≡ Some k.component
-  pub quantization :
-      slice_index_or w.quantization k.component.factors.quantization None ≡ Some k.quantization
-  pub dc : InForce (p.ss == 0) classes.DC tables.dc d k.dc
-  pub ac : InForce (nat_lt 0 p.se) classes.AC tables.ac a k.ac
-
-pub data AreCodings (w : Found) (frame : Frame) (p : Pass) (tables : Tables) :
-    List ℕ → List ℕ → List ℕ → List Coding → Type 0 where
-  no_more : AreCodings w frame p tables [] [] [] []
-  and_more : (index d a : ℕ) (indices dc_destinations ac_destinations : List ℕ) (k : Coding)
-      (codings : List Coding)
-      → IsCoding w frame p tables index d a k
-      → AreCodings w frame p tables indices dc_destinations ac_destinations codings
-      → AreCodings w frame p tables (index ∷ indices) (d ∷ dc_destinations) (a ∷ ac_destinations)
-      (k ∷ codings)
-
 -- a component has its quantization table
 pub record HasTable (w : Found) (c : Component) : Type 0 where
   pub table : List ℕ
@@ -120,9 +88,7 @@ levels_after p (index ∷ indices) levels = levels_after p indices (levels_of_on
 -- allows it.
 pub record IsLegalScan (w : Found) (frame : Frame) (levels : ℕ → Levels) (scan : Scan)
     (codings : List Coding) : Type 0 where
-  pub are_in_force :
-      AreCodings w frame (pass_of scan) (tables_of w scan) scan.components scan.dc_destinations
-      scan.ac_destinations codings
+  pub are_in_force : codings_of w frame scan ≡ Ok codings
   pub legal : AllByRecursion (λ c. IsLegal (pass_of scan) (levels c.index)) codings
 
 -- Every bit of each coefficient was sent.

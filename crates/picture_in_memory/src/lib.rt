@@ -7,7 +7,7 @@
 ghost use Rattle.std.specs.Prelude.{◌≡◌, ◌++◌, ◌*◌, ◌<◌, ◌^◌, ℕ, List, length, IfOk, Ok, Some};
 ghost use Rattle.std.specs.Prelude.{option_map};
 ghost use Rattle.jpeg_decoder.specs.Bytes.{bytes_a_sample, samples_a_pixel};
-ghost use Rattle.jpeg_streams.specs.ArrayPictures.{picture_of_array, TakesPicture};
+ghost use Rattle.jpeg_streams.specs.ArrayPictures.{picture_of_array};
 ghost use Rattle.jpeg_streams.specs.Levels.{Is8Bit, Levels};
 ghost use Rattle.jpeg_streams.specs.Output.{default_settings};
 ghost use Rattle.jpeg_streams.specs.Pixels.{info_of};
@@ -35,7 +35,7 @@ pub fn picture_of(alloc: Global, bytes: &[u8]) -> Result<Vec<u8>>
     // Where the bytes are written for the coefficients of an image, it is their picture.
     ensures images { (array : Coefficients) (image rest : List ℕ) (final : Found)
         (last : ℕ → Levels) → ((index row column : ℕ) → Is8Bit (array index row column)) →
-        WritesImage array image final last → TakesPicture default_settings final →
+        WritesImage array image final last →
         bytes.now ≡ image ++ rest → length bytes.now < 2 ^ 64 →
         IfOk result (λ pixels.
         picture_of_array default_settings final array last ≡ Ok pixels.items) }

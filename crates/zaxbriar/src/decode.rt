@@ -2,7 +2,7 @@
 ghost use Rattle.std.specs.Prelude.{◌≡◌, ◌++◌, ◌≤◌, ℕ, List, Some, length, option_map, true};
 ghost use Rattle.std.specs.Prelude.{IfErr, OnErr, OnOk};
 ghost use Rattle.jpeg_decoder.specs.Bytes.{decoding_bytes};
-ghost use Rattle.jpeg_streams.specs.ArrayPictures.{picture_of_array, TakesPicture};
+ghost use Rattle.jpeg_streams.specs.ArrayPictures.{picture_of_array};
 ghost use Rattle.jpeg_streams.specs.DecodedImages.{at_size};
 ghost use Rattle.jpeg_streams.specs.Found.{Found};
 ghost use Rattle.jpeg_streams.specs.Levels.{Is8Bit, Levels};
@@ -97,7 +97,6 @@ pub fn decode_into<R: Read + Drop>(
         (array : Coefficients) (image rest : List ℕ) (final : Found) (last : ℕ → Levels) →
         ((index row column : ℕ) → Is8Bit (array index row column)) →
         WritesImage array image final last →
-        TakesPicture (settings_of options.now) (at_size (size_wanted options.now) final) →
         bytes ≡ image ++ rest →
         OnOk result (ShowsSamples options.now (picture_of_array (settings_of options.now)
         (at_size (size_wanted options.now) final) array last) pixels.old pixels.new picture.new) }

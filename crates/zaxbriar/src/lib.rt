@@ -8,7 +8,7 @@
 ghost use Rattle.std.specs.Prelude.{◌≡◌, ◌++◌, ◌<◌, ◌^◌, ℕ, List, length, Err, None};
 ghost use Rattle.jpeg_bits.specs.Reading.{Malformed, Lacks, End};
 ghost use Rattle.jpeg_bits.specs.declared.error.UnsupportedFeature.{UnsupportedFeature};
-ghost use Rattle.jpeg_streams.specs.ArrayPictures.{picture_of_array, TakesPicture};
+ghost use Rattle.jpeg_streams.specs.ArrayPictures.{picture_of_array};
 ghost use Rattle.jpeg_streams.specs.DecodedImages.{at_size};
 ghost use Rattle.jpeg_streams.specs.Found.{Found};
 ghost use Rattle.jpeg_streams.specs.Levels.{Is8Bit, Levels};
@@ -81,7 +81,6 @@ pub extern "C" fn zaxbriar_checked_decode(
         (array : Coefficients) (image rest : List ℕ) (final : Found) (last : ℕ → Levels) →
         ((index row column : ℕ) → Is8Bit (array index row column)) →
         WritesImage array image final last →
-        TakesPicture (settings_of options.now) (at_size (size_wanted options.now) final) →
         jpeg.now ≡ image ++ rest →
         ShowsSamples options.now (picture_of_array (settings_of options.now)
         (at_size (size_wanted options.now) final) array last) pixels.old pixels.new picture.new }

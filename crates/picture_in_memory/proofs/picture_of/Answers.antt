@@ -1,5 +1,5 @@
 use Rattle.std.proofs.Common.{◌≡◌, List, ℕ, Result, Ok, Err, Some, refl, true, false, ◌∙◌}
-use Rattle.std.specs.Prelude.{IfOk, MatchResult}
+use Rattle.std.specs.Prelude.{IfOk, IsOk, MatchResult}
 use Rattle.jpeg_bits.specs.Reading.{Answers, Fault, Outcome}
 use Rattle.jpeg_bits.specs.Stream.{Stream, stream_of}
 use Rattle.jpeg_bits.specs.declared.error.Error.{Error}
@@ -20,8 +20,8 @@ read-whole told bytes_of read old new (Err e) a k = tt
 
 given : {X : Type 0} (bytes_of : X → List ℕ) (picture : Result (List ℕ) Fault) (rest : List ℕ) (final : Found)
     (new : Decoding) (r : Result X Error)
-    → MatchResult r (λ x. GivesPicture picture rest final (bytes_of x) new) (λ e. FailsOutside e
-    new.source)
+    → MatchResult r (λ x. GivesPicture picture rest final (bytes_of x) new)
+    (λ e. IsOk picture → FailsOutside e new.source)
     → IfOk r (λ x. picture ≡ Ok (bytes_of x))
 given bytes_of picture rest final new (Ok x) h = h.pixels
 given bytes_of picture rest final new (Err e) h = tt
@@ -41,11 +41,11 @@ returns-clause-means c few =
     rw same at whole
 
 pub returns-clause-images : goal.returns-clause-images
-returns-clause-images c array image rest final last range w takes is few =
+returns-clause-images c array image rest final last range w is few =
     let bytes = c.args.bytes.now in
     let tells : Tells (Some bytes) bytes = record { told = refl; few = few } in
     let images = rw (c.in_ok-decoder.ensures.ok, c.new.ensures) at c.decode.ensures.images in
     let known = bytes_are_known (Some bytes) bytes tells in
     let same = known_bytes_are_told (Some bytes) bytes tells in
     given (λ v. v.items) _ rest final _ c.decode.result
-    (images FullSize array image rest final last range w takes (same ∙ is) known)
+    (images FullSize array image rest final last range w (same ∙ is) known)

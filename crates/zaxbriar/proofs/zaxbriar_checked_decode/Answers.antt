@@ -10,9 +10,9 @@ returns-clause-means c ok few =
     ((rw c.new-reader.ensures at c.decode_into-outcome.ensures.means) c.args.jpeg.now (tells-all _ few)) ok
 
 pub returns-clause-images : goal.returns-clause-images
-returns-clause-images c ok few array image rest final last range w takes is =
+returns-clause-images c ok few array image rest final last range w is =
     let images = (rw c.new-reader.ensures at c.decode_into-outcome.ensures.images) c.args.jpeg.now (tells-all _ few) array
-    image rest final last range w takes is in
+    image rest final last range w is in
     shown-samples c.decode_into-outcome.result c.args.options.now _ _ _ c.decode_into-outcome.new.picture _
     c.answer.new.text c.answer.result c.answer.ensures.code c.answer.ensures.text images ok
 

@@ -2,4 +2,4 @@ use Rattle.jpeg_streams.proofs.PrintedImages.{image-output}
 use Rattle.jpeg_decoder.proofs.headline.images_are_printed.Goals as goal
 
 pub returns : goal.returns
-returns c = λ array image rest final last range w takes. image-output array image rest final last range w takes
+returns c = image-output

@@ -37,7 +37,7 @@ returns-clause-means g c bytes tells =
     }
 
 pub returns-clause-images : goal.returns-clause-images
-returns-clause-images g c bytes tells array image rest final last range w takes is =
+returns-clause-images g c bytes tells array image rest final last range w is =
     let known = bytes_are_known (g.R.Read.remaining c.args.reader.now) bytes tells in
     let same = known_bytes_are_told (g.R.Read.remaining c.args.reader.now) bytes tells in
     let read = rw c.in_ok-decoder.ensures.ok at c.in_ok-header.ensures.reads in
@@ -52,7 +52,7 @@ returns-clause-images g c bytes tells array image rest final last range w takes 
       samples = decodes.samples;
       info = header.info;
       precision = header.precision;
-      are = (images (size_wanted c.args.options.now) array image rest final last range w takes left
+      are = (images (size_wanted c.args.options.now) array image rest final last range w left
           facts.0).pixels;
       arranged = arranged-of c.args.options.now header.info header.precision decodes.samples c.args.pixels.now
           c.decode_lines.new.pixels c.picture_of.result c.in_ok-lines.lines header.decoding_bytes.peak
