@@ -2,7 +2,7 @@
 use Rattle.std.specs.Prelude.{◌≡◌, ◌⊎◌, ℕ, ◌*◌, ◌%◌, length, Some}
 use Rattle.std.specs.List.{AllByRecursion}
 use Rattle.jpeg_segments.specs.Frame.{Factors, greatest}
-use Rattle.jpeg_segments.specs.WrittenSegments.{Application, application_says, Comment, FrameHeader}
+use Rattle.jpeg_segments.specs.WrittenSegments.{Application, application_parts, Comment, FrameHeader}
 use Rattle.jpeg_segments.specs.WrittenSegments.{frame_written}
 use Rattle.jpeg_segments.specs.WrittenSegments.{Header, Huffman, huffman_tables, Interval, MayStand}
 use Rattle.jpeg_segments.specs.WrittenSegments.{Quantization, quantization_tables, Segment}
@@ -50,6 +50,6 @@ found_after said (Huffman ts) =
     record said { huffman = with_huffman said.huffman (huffman_tables ts) }
 found_after said (Interval n) = record said { restart = n }
 found_after said (Application d) =
-    record said { metadata = with_application said.metadata (application_says d) }
+    record said { metadata = with_application said.metadata (application_parts d).2 }
 found_after said (Comment payload) = said
 found_after said (Header number h) = record said { frame = Some (frame_written number h) }
