@@ -13,8 +13,8 @@ use Rattle.jpeg_segments.specs.Application.{adobe_name, transform_by, app_at, jf
 use Rattle.jpeg_segments.specs.Application.{exif_name, xmp_name, icc_name, photoshop_name}
 use Rattle.jpeg_segments.specs.Application.{application_0, application_1, application_2, application_13}
 use Rattle.jpeg_segments.specs.WrittenSegments.{ApplicationData, OfJfif, OfAvi1, OfExif, OfXmp, OfIcc}
-use Rattle.jpeg_segments.specs.WrittenSegments.{OfPhotoshop, OfAdobe, OfOther, application_number}
-use Rattle.jpeg_segments.specs.WrittenSegments.{application_bytes, application_says, transform_byte}
+use Rattle.jpeg_segments.specs.WrittenSegments.{OfPhotoshop, OfAdobe, OfOther, application_parts}
+use Rattle.jpeg_segments.specs.WrittenSegments.{transform_byte}
 use Rattle.jpeg_segments.specs.WrittenSegments.{IsApplicationData, is_known, with_length}
 use Rattle.jpeg_segments.specs.declared.parser.AdobeColorTransform.{AdobeColorTransform}
 use Rattle.jpeg_segments.specs.declared.parser.AdobeColorTransform.TheVariants as transforms
@@ -99,8 +99,8 @@ no-kind number bytes none = none-of-five (eqb number 0) (eqb number 1) (eqb numb
 
 -- what data by their parameters say, as a reader finds it
 record IsSaid (d : ApplicationData) : Type 0 where
-  named : Names (application_number d) (application_bytes d)
-  says : said_by (application_number d) (application_bytes d) ≡ application_says d
+  named : Names (application_parts d).0 (application_parts d).1
+  says : said_by (application_parts d).0 (application_parts d).1 ≡ (application_parts d).2
 
 is-said : (d : ApplicationData) → IsApplicationData d → IsSaid d
 unfolding application_by application_0 application_1 application_2 application_13
@@ -135,10 +135,10 @@ is-said (OfOther number bytes) is = record {
 }
 
 pub app-read : (d : ApplicationData) (rest : List ℕ) → IsApplicationData d
-    → app_at (application_number d) (with_length (application_bytes d) ++ rest) ≡ Ok (application_says d, rest)
+    → app_at (application_parts d).0 (with_length (application_parts d).1 ++ rest) ≡ Ok ((application_parts d).2, rest)
 app-read d rest is =
     let said = is-said d is in
-    (app (application_number d)).reads (application_bytes d) rest said.named
+    (app (application_parts d).0).reads (application_parts d).1 rest said.named
     ∙ ap (λ (x : Option Application). Ok (x, rest)) said.says
 
 -- ---- which data they are
@@ -147,8 +147,8 @@ app-read d rest is =
 pub record IsOf (number : ℕ) (bytes : List ℕ) : Type 0 where
   pub value : ApplicationData
   pub valid : IsApplicationData value
-  pub numbered : application_number value ≡ number
-  pub written : application_bytes value ≡ bytes
+  pub numbered : (application_parts value).0 ≡ number
+  pub written : (application_parts value).1 ≡ bytes
 
 -- what a payload goes on with after its name
 named-as : (bytes name : List ℕ) → begins_with bytes name ≡ true → name ++ drop (length name) bytes ≡ bytes
@@ -318,8 +318,8 @@ of-number number bytes few named =
 
 pub app-only : (number : ℕ) (bytes rest : List ℕ) (said : Option Application) → number ≤ 15
     → AreBytes bytes → app_at number bytes ≡ Ok (said, rest)
-    → (d : ApplicationData) × IsApplicationData d × (application_number d ≡ number)
-    × (said ≡ application_says d) × (bytes ≡ with_length (application_bytes d) ++ rest)
+    → (d : ApplicationData) × IsApplicationData d × ((application_parts d).0 ≡ number)
+    × (said ≡ (application_parts d).2) × (bytes ≡ with_length (application_parts d).1 ++ rest)
 app-only number bytes rest said few all e =
     let s = (app number).only bytes rest said all e in
     let d = of-number number s.value few s.valid in (
@@ -331,7 +331,7 @@ app-only number bytes rest said few all e =
     )
 
 -- there are sixteen markers APPn
-pub few-numbers : (d : ApplicationData) → IsApplicationData d → application_number d ≤ 15
+pub few-numbers : (d : ApplicationData) → IsApplicationData d → (application_parts d).0 ≤ 15
 few-numbers (OfJfif more) is = omega arith
 few-numbers (OfAvi1 more) is = omega arith
 few-numbers (OfExif bytes) is = omega arith

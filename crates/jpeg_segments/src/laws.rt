@@ -14,8 +14,7 @@ ghost use Rattle.jpeg_segments.specs.WrittenSegments.{IsQuantizationTable, quant
 ghost use Rattle.jpeg_segments.specs.WrittenSegments.{quantization_tables, IsHuffmanTable};
 ghost use Rattle.jpeg_segments.specs.WrittenSegments.{huffman_bytes, huffman_tables};
 ghost use Rattle.jpeg_segments.specs.WrittenSegments.{ApplicationData, IsApplicationData};
-ghost use Rattle.jpeg_segments.specs.WrittenSegments.{application_number, application_bytes};
-ghost use Rattle.jpeg_segments.specs.WrittenSegments.{application_says, FrameHeader};
+ghost use Rattle.jpeg_segments.specs.WrittenSegments.{application_parts, FrameHeader};
 ghost use Rattle.jpeg_segments.specs.WrittenSegments.{frame_payload, IsFrameHeader};
 ghost use Rattle.jpeg_segments.specs.WrittenSegments.{frame_written};
 ghost use Rattle.jpeg_segments.specs.ScanHeaders.{ScanHeader, scan_payload, IsScan, scan_written};
@@ -34,8 +33,8 @@ pub fn written_segments_are_read()
     ensures interval { (n : ℕ) (rest : List ℕ) →
         dri_at (with_length (u16_bytes n) ++ rest) ≡ Ok (n, rest) }
     ensures application { (d : ApplicationData) (rest : List ℕ) → IsApplicationData d →
-        app_at (application_number d) (with_length (application_bytes d) ++ rest)
-        ≡ Ok (application_says d, rest) }
+        app_at (application_parts d).0 (with_length (application_parts d).1 ++ rest)
+        ≡ Ok ((application_parts d).2, rest) }
     ensures frame { (number : ℕ) (h : FrameHeader) (rest : List ℕ) → IsFrameHeader number h →
         sof_at number (with_length (frame_payload h) ++ rest) ≡ Ok (frame_written number h, rest) }
     ensures scan { (frame : Frame) (h : ScanHeader) (rest : List ℕ) → IsScan frame h →
@@ -61,9 +60,9 @@ pub fn accepted_segments_are_written()
         bytes ≡ with_length (u16_bytes n) ++ rest }
     ensures application { (number : ℕ) (bytes rest : List ℕ) (said : Option Application) →
         number ≤ 15 → AllByRecursion (λ b. b < 256) bytes → app_at number bytes ≡ Ok (said, rest) →
-        (d : ApplicationData) × IsApplicationData d × (application_number d ≡ number)
-        × (said ≡ application_says d)
-        × (bytes ≡ with_length (application_bytes d) ++ rest) }
+        (d : ApplicationData) × IsApplicationData d × ((application_parts d).0 ≡ number)
+        × (said ≡ (application_parts d).2)
+        × (bytes ≡ with_length (application_parts d).1 ++ rest) }
     ensures frame { (number : ℕ) (bytes rest : List ℕ) (frame : Frame) → number ≤ 3 →
         AllByRecursion (λ b. b < 256) bytes → sof_at number bytes ≡ Ok (frame, rest) →
         (h : FrameHeader) × IsFrameHeader number h

@@ -5,7 +5,7 @@ use Rattle.jpeg_bits.specs.declared.marker.Marker.{Marker}
 use Rattle.jpeg_bits.specs.declared.marker.Marker.TheVariants.{SOF, DHT, DQT, DRI, APP, COM}
 use Rattle.jpeg_segments.specs.Frame.{Frame}
 use Rattle.jpeg_segments.specs.WrittenSegments.{Segment, Quantization, Huffman, Interval, Application, Comment, Header}
-use Rattle.jpeg_segments.specs.WrittenSegments.{application_number, marker_code, MayStand}
+use Rattle.jpeg_segments.specs.WrittenSegments.{application_parts, marker_code, MayStand}
 use Rattle.jpeg_segments.proofs.ApplicationParts.{few-numbers}
 pub use Rattle.jpeg_lossless.proofs.ReadBack.{marker-append}
 
@@ -13,7 +13,7 @@ abbrev pub marker_for : Segment → Marker
 marker_for (Quantization ts) = DQT
 marker_for (Huffman ts) = DHT
 marker_for (Interval n) = DRI
-marker_for (Application d) = APP (application_number d)
+marker_for (Application d) = APP (application_parts d).0
 marker_for (Comment payload) = COM
 marker_for (Header number h) = SOF number
 

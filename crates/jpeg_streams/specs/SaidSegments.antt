@@ -1,6 +1,6 @@
 -- What is known after a segment that was written.
 use Rattle.std.specs.Prelude.{◌≡◌, Ok, Some}
-use Rattle.jpeg_segments.specs.WrittenSegments.{Application, application_says, Comment}
+use Rattle.jpeg_segments.specs.WrittenSegments.{Application, Comment, application_parts}
 use Rattle.jpeg_segments.specs.WrittenSegments.{frame_written}
 use Rattle.jpeg_segments.specs.WrittenSegments.{Header, Huffman, huffman_tables, Interval, MayStand}
 use Rattle.jpeg_segments.specs.WrittenSegments.{Quantization, quantization_tables, Segment}
@@ -24,6 +24,6 @@ found_after said (Huffman ts) =
     record said { huffman = with_huffman said.huffman (huffman_tables ts) }
 found_after said (Interval n) = record said { restart = n }
 found_after said (Application d) =
-    record said { metadata = with_application said.metadata (application_says d) }
+    record said { metadata = with_application said.metadata (application_parts d).2 }
 found_after said (Comment payload) = said
 found_after said (Header number h) = record said { frame = Some (frame_written number h) }
