@@ -26,14 +26,6 @@ pub bind-ok : {A B : Type 0} (o : Result A Fault) (f : A → Result B Fault) (y 
     → (x : A) × (o ≡ Ok x) × (f x ≡ Ok y)
 bind-ok o f y h1 = grind (arith, common_steps, nat_tests, err-ok)
 
-pub kept-if : {C : Type 0} (b : Bool) (x : Result C Fault) (f : Fault) (r : C)
-    → cond b x (Err f) ≡ Ok r → (b ≡ true) × (x ≡ Ok r)
-kept-if b x f r h1 = grind (arith, common_steps, nat_tests, err-ok)
-
-pub kept-unless : {C : Type 0} (b : Bool) (x : Result C Fault) (f : Fault) (r : C)
-    → cond b (Err f) x ≡ Ok r → (b ≡ false) × (x ≡ Ok r)
-kept-unless b x f r h1 = grind (arith, common_steps, nat_tests, err-ok)
-
 -- ---- codecs
 
 abbrev pub AreBytes : List ℕ → Type 0
@@ -87,31 +79,6 @@ bind {C = C} {p = p} {view = view} {print = print} {print' = print'} q c d = rec
         is = a.is ∙ ap (λ (l : List ℕ). print a.value ++ l) b.is
             ∙ sym (append_assoc (print a.value) (print' a.value b.value) rest);
       };
-}
-
--- where a rule is kept
-pub check-if : {A C : Type 0} {p : List ℕ → Outcome C} {view : A → C} {print : A → List ℕ}
-    {Valid : A → Type 0} (b : Bool) (f : Fault) → Codec p view print Valid
-    → Codec (λ (bytes : List ℕ). cond b (p bytes) (Err f)) view print
-    (λ (x : A). (b ≡ true) × Valid x)
-check-if {p = p} b f c = record {
-  reads = λ x rest is. kept b _ (Err f) is.0 ∙ c.reads x rest is.1;
-  only = λ bytes rest y all e.
-      let k = kept-if b (p bytes) f (y, rest) e in
-      let o = c.only bytes rest y all k.1 in
-      record { value = o.value; valid = (k.0, o.valid); made = o.made; is = o.is };
-}
-
-pub check-unless : {A C : Type 0} {p : List ℕ → Outcome C} {view : A → C} {print : A → List ℕ}
-    {Valid : A → Type 0} (b : Bool) (f : Fault) → Codec p view print Valid
-    → Codec (λ (bytes : List ℕ). cond b (Err f) (p bytes)) view print
-    (λ (x : A). (b ≡ false) × Valid x)
-check-unless {p = p} b f c = record {
-  reads = λ x rest is. not-refused b (Err f) _ is.0 ∙ c.reads x rest is.1;
-  only = λ bytes rest y all e.
-      let k = kept-unless b (p bytes) f (y, rest) e in
-      let o = c.only bytes rest y all k.1 in
-      record { value = o.value; valid = (k.0, o.valid); made = o.made; is = o.is };
 }
 
 -- one of two, by a test
@@ -196,6 +163,23 @@ pub ends : {A C D : Type 0} {p : List ℕ → Outcome C} {view : A → C} {print
 ends {print = print} q c d = remap (bind q c d)
     (λ x is. namely x.0 is refl (append-nil (print x.0)))
     (λ x is. namely (x, tt) is refl (sym (append-nil (print x))))
+
+-- where a rule is kept
+pub check-if : {A C : Type 0} {p : List ℕ → Outcome C} {view : A → C} {print : A → List ℕ}
+    {Valid : A → Type 0} (b : Bool) (f : Fault) → Codec p view print Valid
+    → Codec (λ (bytes : List ℕ). cond b (p bytes) (Err f)) view print
+    (λ (x : A). (b ≡ true) × Valid x)
+check-if true f c = remap c (λ x is. namely x (refl, is) refl refl)
+    (λ x is. namely x is.1 refl refl)
+check-if false f c = refused f (λ x is. let e = is.0 in cc)
+
+pub check-unless : {A C : Type 0} {p : List ℕ → Outcome C} {view : A → C} {print : A → List ℕ}
+    {Valid : A → Type 0} (b : Bool) (f : Fault) → Codec p view print Valid
+    → Codec (λ (bytes : List ℕ). cond b (Err f) (p bytes)) view print
+    (λ (x : A). (b ≡ false) × Valid x)
+check-unless true f c = refused f (λ x is. let e = is.0 in cc)
+check-unless false f c = remap c (λ x is. namely x (refl, is) refl refl)
+    (λ x is. namely x is.1 refl refl)
 
 -- what has to hold
 pub checked : {A C : Type 0} {p : List ℕ → Outcome C} {view : A → C} {print : A → List ℕ}

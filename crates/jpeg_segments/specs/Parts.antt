@@ -78,12 +78,6 @@ destinations_at frame index bytes = do
         destinations.1,
       ))
 
--- The same, where the frame has the component and it stands after those before it.
-abbrev pub tables_by : Frame → ℕ → Option ℕ → List ℕ → Outcome Selector
-tables_by frame least None bytes = Err Malformed
-tables_by frame least (Some index) bytes =
-    if nat_lt index least then Err Malformed else destinations_at frame index bytes
-
 -- The values of a table of these counts, and the table, where codes of these lengths exist.
 unfoldable pub symbols_at : HuffmanTableClass → List ℕ → List ℕ → Outcome Table
 symbols_at class counts bytes = do
