@@ -10,7 +10,7 @@ use Rattle.jpeg_bits.specs.declared.marker.Marker.TheVariants.{SOF, DHT, EOI, SO
 use Rattle.jpeg_bits.specs.declared.marker.Marker.TheVariants.{APP, COM}
 use Rattle.jpeg_segments.specs.Frame.{Frame}
 use Rattle.jpeg_streams.specs.declared.before.Before.TheVariants.{Elsewhere}
-use Rattle.jpeg_streams.specs.Needed.{needed}
+use Rattle.jpeg_segments.specs.Checks.{needed}
 use Rattle.jpeg_streams.specs.Segments.{Turn}
 use Rattle.jpeg_streams.specs.Found.{Found}
 use Rattle.jpeg_streams.specs.Stream.{end_segment, segment_at, turn_at}

@@ -15,7 +15,7 @@ use Rattle.jpeg_segments.specs.HuffmanTables.{dht_at}
 use Rattle.jpeg_segments.specs.Application.{app_at}
 use Rattle.jpeg_streams.specs.declared.before.Before.{Before}
 use Rattle.jpeg_streams.specs.declared.before.Before.TheVariants.{Elsewhere}
-use Rattle.jpeg_streams.specs.Needed.{needed}
+use Rattle.jpeg_segments.specs.Checks.{needed}
 use Rattle.jpeg_streams.specs.ScanSegments.{lossless_scan, blocks_scan, codings_of, scan_by, scan_samples}
 use Rattle.jpeg_streams.specs.ScanSegments.{after_restarts, scan_arrays, scan_segment}
 use Rattle.jpeg_streams.specs.Segments.{accepted, onward, Turn, frame_segment, application_segment, restart_segment}

@@ -32,7 +32,8 @@ use Rattle.jpeg_decoder.specs.declared.scan.Coded.{Coded}
 use Rattle.jpeg_decoder.specs.declared.codings.Spare.{Spare}
 use Rattle.jpeg_streams.specs.Scans.{no_table}
 use Rattle.jpeg_bits.specs.declared.codes.HuffmanTableClass.TheVariants as classes
-use Rattle.jpeg_streams.specs.Needed.{first_of, needed}
+use Rattle.jpeg_segments.specs.Checks.{needed}
+use Rattle.jpeg_streams.specs.Needed.{first_of}
 use Rattle.jpeg_streams.specs.ScanSegments.{component_coding, components_of, Coding, tables_of}
 use Rattle.jpeg_streams.specs.ScanSegments.{pass_of, after_restarts, finished_by, codings_from}
 use Rattle.jpeg_streams.specs.ScanSegments.{blocks_after, with_arrays, decided, arrays_before}

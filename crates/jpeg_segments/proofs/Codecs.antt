@@ -1,13 +1,14 @@
 -- What is written, and what reads it: the two directions at once.
 use Rattle.std.proofs.lemmas.Bool.Decides.{nat_tests}
 use Rattle.std.proofs.Common.{◌≡◌, ℕ, zero, suc, ◌<◌, ◌≤◌, ◌+◌, ◌-◌, Bool, true}
-use Rattle.std.proofs.Common.{false, cond, List, [], ◌∷◌, ◌++◌, length, Result, Ok, Err, refl, sym}
+use Rattle.std.proofs.Common.{false, cond, List, [], ◌∷◌, ◌++◌, length, Option, Some, None, Result, Ok, Err, refl, sym}
 use Rattle.std.proofs.Common.{ap, ◌∙◌, subst, append_assoc, append-nil, arith, ltb, rules}
 use Rattle.std.proofs.lemmas.Bool.{ltb-false, le-ltb}
 use Rattle.std.specs.Prelude.{flat_map}
 use Rattle.std.specs.List.{AllByRecursion}
 use Rattle.jpeg_bits.specs.Reading.{Outcome, Fault, Malformed, ◌>>=◌, next_byte, next_u16}
 use Rattle.jpeg_bits.specs.Reading.{length_at, times}
+use Rattle.jpeg_segments.specs.Checks.{check, needed}
 use Rattle.jpeg_segments.specs.WrittenSegments.{u16_bytes, with_length}
 use Rattle.jpeg_segments.proofs.Fields.{read-on, not-refused, kept, u16-read}
 use Rattle.std.proofs.lemmas.Grind.{common_steps}
@@ -24,14 +25,6 @@ ok-same x r e = cc
 pub bind-ok : {A B : Type 0} (o : Result A Fault) (f : A → Result B Fault) (y : B) → (o >>= f) ≡ Ok y
     → (x : A) × (o ≡ Ok x) × (f x ≡ Ok y)
 bind-ok o f y h1 = grind (arith, common_steps, nat_tests, err-ok)
-
-pub kept-if : {C : Type 0} (b : Bool) (x : Result C Fault) (f : Fault) (r : C)
-    → cond b x (Err f) ≡ Ok r → (b ≡ true) × (x ≡ Ok r)
-kept-if b x f r h1 = grind (arith, common_steps, nat_tests, err-ok)
-
-pub kept-unless : {C : Type 0} (b : Bool) (x : Result C Fault) (f : Fault) (r : C)
-    → cond b (Err f) x ≡ Ok r → (b ≡ false) × (x ≡ Ok r)
-kept-unless b x f r h1 = grind (arith, common_steps, nat_tests, err-ok)
 
 -- ---- codecs
 
@@ -86,31 +79,6 @@ bind {C = C} {p = p} {view = view} {print = print} {print' = print'} q c d = rec
         is = a.is ∙ ap (λ (l : List ℕ). print a.value ++ l) b.is
             ∙ sym (append_assoc (print a.value) (print' a.value b.value) rest);
       };
-}
-
--- where a rule is kept
-pub check-if : {A C : Type 0} {p : List ℕ → Outcome C} {view : A → C} {print : A → List ℕ}
-    {Valid : A → Type 0} (b : Bool) (f : Fault) → Codec p view print Valid
-    → Codec (λ (bytes : List ℕ). cond b (p bytes) (Err f)) view print
-    (λ (x : A). (b ≡ true) × Valid x)
-check-if {p = p} b f c = record {
-  reads = λ x rest is. kept b _ (Err f) is.0 ∙ c.reads x rest is.1;
-  only = λ bytes rest y all e.
-      let k = kept-if b (p bytes) f (y, rest) e in
-      let o = c.only bytes rest y all k.1 in
-      record { value = o.value; valid = (k.0, o.valid); made = o.made; is = o.is };
-}
-
-pub check-unless : {A C : Type 0} {p : List ℕ → Outcome C} {view : A → C} {print : A → List ℕ}
-    {Valid : A → Type 0} (b : Bool) (f : Fault) → Codec p view print Valid
-    → Codec (λ (bytes : List ℕ). cond b (Err f) (p bytes)) view print
-    (λ (x : A). (b ≡ false) × Valid x)
-check-unless {p = p} b f c = record {
-  reads = λ x rest is. not-refused b (Err f) _ is.0 ∙ c.reads x rest is.1;
-  only = λ bytes rest y all e.
-      let k = kept-unless b (p bytes) f (y, rest) e in
-      let o = c.only bytes rest y all k.1 in
-      record { value = o.value; valid = (k.0, o.valid); made = o.made; is = o.is };
 }
 
 -- one of two, by a test
@@ -195,6 +163,46 @@ pub ends : {A C D : Type 0} {p : List ℕ → Outcome C} {view : A → C} {print
 ends {print = print} q c d = remap (bind q c d)
     (λ x is. namely x.0 is refl (append-nil (print x.0)))
     (λ x is. namely (x, tt) is refl (sym (append-nil (print x))))
+
+-- where a rule is kept
+pub check-if : {A C : Type 0} {p : List ℕ → Outcome C} {view : A → C} {print : A → List ℕ}
+    {Valid : A → Type 0} (b : Bool) (f : Fault) → Codec p view print Valid
+    → Codec (λ (bytes : List ℕ). cond b (p bytes) (Err f)) view print
+    (λ (x : A). (b ≡ true) × Valid x)
+check-if true f c = remap c (λ x is. namely x (refl, is) refl refl)
+    (λ x is. namely x is.1 refl refl)
+check-if false f c = refused f (λ x is. let e = is.0 in cc)
+
+pub check-unless : {A C : Type 0} {p : List ℕ → Outcome C} {view : A → C} {print : A → List ℕ}
+    {Valid : A → Type 0} (b : Bool) (f : Fault) → Codec p view print Valid
+    → Codec (λ (bytes : List ℕ). cond b (Err f) (p bytes)) view print
+    (λ (x : A). (b ≡ false) × Valid x)
+check-unless true f c = refused f (λ x is. let e = is.0 in cc)
+check-unless false f c = remap c (λ x is. namely x (refl, is) refl refl)
+    (λ x is. namely x is.1 refl refl)
+
+-- what has to hold
+pub checked : {A C : Type 0} {p : List ℕ → Outcome C} {view : A → C} {print : A → List ℕ}
+    {Valid : A → Type 0} (b : Bool) → Codec p view print Valid
+    → Codec (λ (bytes : List ℕ). check b >>= λ (u : Unit {0}). p bytes) view print
+    (λ (x : A). (b ≡ true) × Valid x)
+checked true c = remap c (λ x is. namely x (refl, is) refl refl) (λ x is. namely x is.1 refl refl)
+checked false c = refused Malformed (λ x is. let e = is.0 in cc)
+
+-- what has to be there
+pub present : {X A C : Type 0} {q : X → List ℕ → Outcome C} {view : X → A → C}
+    {print : X → A → List ℕ} {Valid : X → A → Type 0} (o : Option X)
+    → ((x : X) → Codec (q x) (view x) (print x) (Valid x))
+    → Codec (λ (bytes : List ℕ). needed o >>= λ (x : X). q x bytes)
+    (λ (y : X × A). view y.0 y.1) (λ (y : X × A). print y.0 y.1)
+    (λ (y : X × A). (o ≡ Some y.0) × Valid y.0 y.1)
+present None d = refused Malformed (λ y is. let e = is.0 in cc)
+present {X} {view = view} {print = print} {Valid = Valid} (Some x) d =
+    remap (d x) (λ a is. namely (x, a) (refl, is) refl refl)
+    (λ y is.
+    let e : y.0 ≡ x = (let g = is.0 in cc) in
+    namely y.1 (subst (λ (z : X). Valid z y.1) e is.1) (ap (λ (z : X). view z y.1) e)
+    (ap (λ (z : X). print z y.1) e))
 
 -- ---- fields
 

@@ -3,18 +3,17 @@ use Rattle.std.proofs.lemmas.Bool.Decides.{nat_tests}
 use Rattle.std.proofs.lemmas.List.{length-map}
 use Rattle.std.proofs.Common.{◌≡◌, ℕ, zero, suc, ◌≤◌, ◌<◌, ◌+◌, ◌*◌, ◌/◌, ◌%◌, Bool, true, false, cond}
 use Rattle.std.proofs.Common.{List, [], ◌∷◌, ◌++◌, map, length, length-append, append-nil, append_assoc}
-use Rattle.std.proofs.Common.{Option, Some, None, Ok, Err, refl, sym, ap, ap₂, ◌∙◌, arith, eqb, ltb, rules}
+use Rattle.std.proofs.Common.{Some, Ok, Err, refl, sym, ap, ap₂, ◌∙◌, arith, eqb, leb, ltb, rules}
 use Rattle.std.proofs.lemmas.Bool.{le-ltb, le-leb, eq-eqb, ne_eqb, eqb-true, eqb-false, ltb-false, leb-true}
 use Rattle.std.proofs.lemmas.Bool.{not-true, and_parts}
-use Rattle.std.specs.Prelude.{flat_map}
+use Rattle.std.specs.Prelude.{flat_map, not, ◌&&◌}
 use Rattle.jpeg_bits.specs.Reading.{Malformed, Lacks, ◌>>=◌}
 use Rattle.jpeg_bits.specs.declared.error.UnsupportedFeature.TheVariants.{DNL}
-use Rattle.jpeg_segments.specs.Frame.{Factors, Frame, Head, frame_of, is_factor, is_destination}
-use Rattle.jpeg_segments.specs.Frame.{is_lossless_number, is_taken, is_precision, is_count, parameters_at}
-use Rattle.jpeg_segments.specs.Frame.{factors_at, components_from, size_at, head_at, sof_at}
+use Rattle.jpeg_segments.specs.Frame.{Factors, Frame, frame_of, is_factor, is_destination}
+use Rattle.jpeg_segments.specs.Frame.{is_lossless_number, is_taken, is_precision, is_count}
+use Rattle.jpeg_segments.specs.Frame.{factors_at, components_from, size_at, sof_at}
 use Rattle.jpeg_segments.specs.HuffmanTables.{greatest_destination}
-use Rattle.jpeg_segments.specs.ScanHeader.{Selector, index_of, blocks_by, destinations_at}
-use Rattle.jpeg_segments.specs.ScanHeader.{tables_by}
+use Rattle.jpeg_segments.specs.ScanHeader.{Selector, index_of, blocks_by}
 use Rattle.jpeg_segments.specs.ScanHeader.{selector_at, selectors_from, is_mcu, is_band, scan_of, band_at}
 use Rattle.jpeg_segments.specs.ScanHeader.{count_at, sos_at}
 use Rattle.jpeg_segments.specs.WrittenSegments.{u16_bytes, with_length, nibbles, FrameHeader}
@@ -25,17 +24,11 @@ use Rattle.jpeg_segments.specs.ScanHeaders.{Choice, ScanHeader, choice_bytes, sc
 use Rattle.jpeg_segments.specs.ScanHeaders.{selector_for}
 use Rattle.jpeg_segments.specs.ScanHeaders.{IsChoice, AreChoices, IsScan, scan_written}
 use Rattle.jpeg_segments.proofs.Fields.{nibbles-high, nibbles-low}
-use Rattle.jpeg_segments.proofs.Codecs.{Codec, bind, ends, check-if, check-unless, done, remap, refused}
+use Rattle.jpeg_segments.proofs.Codecs.{Codec, bind, ends, check-if, check-unless, checked, present, done, remap}
 use Rattle.jpeg_segments.proofs.Codecs.{namely, nil, cons, byte, u16, length-field}
 use Rattle.std.proofs.lemmas.Grind.{common_steps}
 
 -- ---- frame headers
-
-factor-kept : (n : ℕ) → 1 ≤ n → n ≤ 4 → is_factor n ≡ true
-factor-kept n h k = rw (ne_eqb n 0 (λ e. omega arith), le-leb n 4 k) refl
-
-factor-only : (n : ℕ) → is_factor n ≡ true → (1 ≤ n) × (n ≤ 4)
-factor-only n e = grind (arith, common_steps, and_parts, eqb-false, not-true, leb-true)
 
 abbrev factors : ℕ → ℕ → ℕ → ℕ → Factors
 factors identifier horizontal vertical quantization = record {
@@ -47,19 +40,19 @@ factors identifier horizontal vertical quantization = record {
 
 component : (number : ℕ) (front : List Factors) → Codec (factors_at (is_lossless_number number) front)
     (λ (c : Factors). c) factors_bytes (IsComponent number front)
-unfolding factors_at parameters_at
-component number front = remap (bind _ byte (λ (i : ℕ). check-unless (is_taken front i) Malformed
-    (bind _ byte (λ (n : ℕ). check-if (is_factor (n / 16)) Malformed
-    (check-if (is_factor (n % 16)) Malformed
-    (ends _ byte (λ (p : ℕ). check-if (is_destination (is_lossless_number number) p) Malformed
-    (done (factors i (n / 16) (n % 16) p)))))))))
-    (λ x is. namely (factors x.0 (x.1.0 / 16) (x.1.0 % 16) x.1.1) (search (rules, factor-only)) refl
+unfolding factors_at
+component number front = remap (bind _ byte (λ (i : ℕ). checked (not (is_taken front i))
+    (bind _ byte (λ (n : ℕ). checked (is_factor (n / 16) && is_factor (n % 16))
+    (ends _ byte (λ (p : ℕ). checked (is_destination (is_lossless_number number) p)
+    (done (factors i (n / 16) (n % 16) p))))))))
+    (λ x is. namely (factors x.0 (x.1.0 / 16) (x.1.0 % 16) x.1.1)
+    (grind (arith, common_steps, nat_tests)) refl
     (ap (λ (k : ℕ). x.0 ∷ k ∷ x.1.1 ∷ []) (omega arith)))
     (λ c is.
     let high : nibbles c.horizontal c.vertical / 16 ≡ c.horizontal = search (rules, nibbles-high) in
     let low : nibbles c.horizontal c.vertical % 16 ≡ c.vertical = search (rules, nibbles-low) in
     namely (c.identifier, (nibbles c.horizontal c.vertical, c.quantization))
-    (rw (high, low) (search (rules, factor-kept))) (rw (high, low)) refl)
+    (rw (high, low) (grind (arith, common_steps, nat_tests))) (rw (high, low)) refl)
 
 -- n components after those in `front`
 abbrev Follow : ℕ → ℕ → List Factors → List Factors → Type 0
@@ -94,33 +87,9 @@ factors-length : (cs : List Factors) → length (flat_map factors_bytes cs) ≡ 
 factors-length [] = omega arith
 factors-length (c ∷ cs) = search (rules, length-append, factors-length cs)
 
-count-some : (number n : ℕ) → is_count number n ≡ true → 1 ≤ n
-count-some number n h1 = grind (arith, common_steps, nat_tests)
-
-abbrev head_of : ℕ → ℕ → ℕ → ℕ → ℕ → Head
-head_of left precision width height count =
-    record { length = left; precision = precision; width = width; height = height; count = count }
-
 -- what stands between the length and the components
 abbrev fields : ℕ → ℕ × ℕ → ℕ → List ℕ
 fields precision s count = precision ∷ (u16_bytes s.1 ++ (u16_bytes s.0 ++ (count ∷ [])))
-
--- the length, the precision, the size and the number of components
-head : (number : ℕ)
-    → Codec (head_at number) (λ (h : Head). h)
-    (λ (h : Head). u16_bytes (h.length + 2) ++ fields h.precision (h.width, h.height) h.count)
-    (λ (h : Head). (is_precision number h.precision ≡ true) × (((0 < h.width) × (0 < h.height))
-    × ((is_count number h.count ≡ true) × (h.length ≡ 6 + 3 * h.count))))
-unfolding head_at
-head number = remap (bind _ length-field (λ (left : ℕ). check-unless (ltb left 7) Malformed
-    (bind _ byte (λ (precision : ℕ). check-if (is_precision number precision) Malformed
-    (bind _ size (λ (s : ℕ × ℕ). ends _ byte (λ (count : ℕ).
-    check-if (is_count number count) Malformed (check-if (eqb left (6 + 3 * count)) Malformed
-    (done (head_of left precision s.0 s.1 count))))))))))
-    (λ x is. namely (head_of x.0 x.1.0 x.1.1.0.0 x.1.1.0.1 x.1.1.1) (search (rules, eqb-true)) refl refl)
-    (λ h is.
-    let some : 1 ≤ h.count = count-some number h.count is.1.1.0 in
-    namely (h.length, (h.precision, ((h.width, h.height), h.count))) (search (rules, le-ltb, eq-eqb)) refl refl)
 
 payload-length : (precision n : ℕ) (s : ℕ × ℕ) (cs : List Factors) → length cs ≡ n
     → length (fields precision s n ++ flat_map factors_bytes cs) ≡ 6 + 3 * n
@@ -131,29 +100,28 @@ pub sof : (number : ℕ) → number ≤ 3
     h))
     (IsFrameHeader number)
 unfolding sof_at frame_payload
-sof number few = remap (bind (λ (h : Head) (bytes : List ℕ).
-    components_from (is_lossless_number number) h.count [] bytes >>= λ (c : List Factors × List ℕ).
-    Ok (frame_of number h.precision h.width h.height c.0, c.1)) (head number) (λ (h : Head).
-    ends _ (components number h.count []) (λ (cs : List Factors).
-    done (frame_of number h.precision h.width h.height cs))))
+sof number few = remap (bind _ length-field (λ (left : ℕ). checked (leb 7 left)
+    (bind _ byte (λ (precision : ℕ). checked (is_precision number precision)
+    (bind _ size (λ (s : ℕ × ℕ). bind _ byte (λ (n : ℕ).
+    checked (is_count number n && eqb left (6 + 3 * n))
+    (ends _ (components number n []) (λ (cs : List Factors).
+    done (frame_of number precision s.0 s.1 cs))))))))))
     (λ x is.
-    let h : Head = x.0 in
-    let cs : List Factors = x.1 in
-    let n : length cs ≡ h.count = is.1.0.0 in
-    let long = payload-length h.precision h.count (h.width, h.height) cs n in
-    namely
-    (record { precision = h.precision; width = h.width; height = h.height; components = cs })
+    let precision : ℕ = x.1.0 in
+    let s : ℕ × ℕ = x.1.1.0 in
+    let n : ℕ = x.1.1.1.0 in
+    let cs : List Factors = x.1.1.1.1 in
+    let many : length cs ≡ n = omega arith in
+    let long : x.0 ≡ 6 + 3 * n = grind (arith, common_steps, nat_tests) in
+    namely (record { precision = precision; width = s.0; height = s.1; components = cs })
     (grind (arith, common_steps)) refl
-    (ap (λ (m : ℕ). u16_bytes (m + 2)
-    ++ (fields h.precision (h.width, h.height) h.count ++ flat_map factors_bytes cs))
-    (is.0.1.1.1 ∙ sym long)
-    ∙ ap (λ (c : ℕ). with_length (fields h.precision (h.width, h.height) c ++ flat_map
-    factors_bytes cs))
-    (sym n)))
+    (ap (λ (m : ℕ). u16_bytes (m + 2) ++ (fields precision s n ++ flat_map factors_bytes cs))
+    (long ∙ sym (payload-length precision n s cs many))
+    ∙ ap (λ (c : ℕ). with_length (fields precision s c ++ flat_map factors_bytes cs)) (sym many)))
     (λ h is.
     let n : ℕ = length h.components in
-    namely (head_of (6 + 3 * n) h.precision h.width h.height n, h.components)
-    ((is.precise, ((is.wide, is.high), (is.counted, refl))), ((refl, is.components), tt)) refl
+    namely (6 + 3 * n, (h.precision, ((h.width, h.height), (n, h.components))))
+    (grind (arith, common_steps, nat_tests)) refl
     (ap (λ (m : ℕ). u16_bytes (m + 2)
     ++ (fields h.precision (h.width, h.height) n ++ flat_map factors_bytes h.components))
     (payload-length h.precision n (h.width, h.height) h.components refl)))
@@ -174,54 +142,31 @@ selector frame index dc ac = record {
       frame.components index;
 }
 
--- the rules of a component, whose identifier names the place `o`
-abbrev IsNamed : Frame → ℕ → ℕ → Option ℕ → Choice → Type 0
-IsNamed frame least identifier o c =
-    (c.identifier ≡ identifier) × ((o ≡ Some c.component) × ((least ≤ c.component)
-    × ((c.dc ≤ greatest_destination (Some frame.is_baseline))
-    × (c.ac ≤ greatest_destination (Some frame.is_baseline)))))
-
 greatest-small : (b : Bool) → greatest_destination (Some b) ≤ 3
 greatest-small b = grind (arith, common_steps, nat_tests)
-
-none-some : (n : ℕ) → ◌≡◌ {A = Option ℕ} None (Some n) → ⊥
-none-some n e = cc
-
-some-same : (a b : ℕ) → ◌≡◌ {A = Option ℕ} (Some a) (Some b) → a ≡ b
-some-same a b e = cc
-
-destinations : (frame : Frame) (least identifier : ℕ) (o : Option ℕ) → Codec (tables_by frame least o)
-    (selector_for frame) (λ (c : Choice). nibbles c.dc c.ac ∷ []) (IsNamed frame least identifier o)
-unfolding destinations_at
-destinations frame least identifier None = refused Malformed (λ c is. none-some c.component is.1.0)
-destinations frame least identifier (Some index) =
-    remap (check-unless (ltb index least) Malformed (ends _ byte (λ (n : ℕ).
-    check-unless (ltb (greatest_destination (Some frame.is_baseline)) (n / 16)) Malformed
-    (check-unless (ltb (greatest_destination (Some frame.is_baseline)) (n % 16)) Malformed
-    (done (selector frame index (n / 16) (n % 16)))))))
-    (λ n is. namely (record {
-      identifier = identifier;
-      component = index;
-      dc = n / 16;
-      ac = n % 16;
-    })
-    (search (rules, ltb-false)) refl (ap (λ (k : ℕ). k ∷ []) (omega arith)))
-    (λ c is.
-    let small = greatest-small frame.is_baseline in
-    let at : index ≡ c.component = some-same index c.component is.1.0 in
-    let high : nibbles c.dc c.ac / 16 ≡ c.dc = search (rules, nibbles-high) in
-    let low : nibbles c.dc c.ac % 16 ≡ c.ac = search (rules, nibbles-low) in
-    namely (nibbles c.dc c.ac) (rw (at, high, low) (search (rules, le-ltb))) (rw (at, high, low)) refl)
 
 choice : (frame : Frame) (least : ℕ)
     → Codec (selector_at frame least) (selector_for frame) choice_bytes (IsChoice frame least)
 unfolding selector_at
 choice frame least = remap (bind _ byte (λ (i : ℕ).
-    destinations frame least i (index_of frame.components i)))
-    (λ x is. namely x.1 (grind (arith, common_steps)) refl
-    (ap (λ (i : ℕ). i ∷ nibbles x.1.dc x.1.ac ∷ []) (sym is.1.0)))
-    (λ c is. namely (c.identifier, c)
-    (tt, (refl, (is.identified, (is.ordered, (is.dc_bounded, is.ac_bounded))))) refl refl)
+    present (index_of frame.components i) (λ (index : ℕ). checked (leb least index)
+    (ends _ byte (λ (n : ℕ). checked
+    (leb (n / 16) (greatest_destination (Some frame.is_baseline))
+    && leb (n % 16) (greatest_destination (Some frame.is_baseline)))
+    (done (selector frame index (n / 16) (n % 16))))))))
+    (λ x is. namely (record {
+      identifier = x.0;
+      component = x.1.0;
+      dc = x.1.1 / 16;
+      ac = x.1.1 % 16;
+    })
+    (grind (arith, common_steps, nat_tests)) refl (ap (λ (k : ℕ). x.0 ∷ k ∷ []) (omega arith)))
+    (λ c is.
+    let small = greatest-small frame.is_baseline in
+    let high : nibbles c.dc c.ac / 16 ≡ c.dc = search (rules, nibbles-high) in
+    let low : nibbles c.dc c.ac % 16 ≡ c.ac = search (rules, nibbles-low) in
+    namely (c.identifier, (c.component, nibbles c.dc c.ac))
+    (rw (high, low) (grind (arith, common_steps, nat_tests))) (rw (high, low)) refl)
 
 -- n components, the first of which stands at least at this place
 abbrev Choose : Frame → ℕ → ℕ → List Choice → Type 0

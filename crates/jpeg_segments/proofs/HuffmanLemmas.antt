@@ -10,9 +10,10 @@ use Rattle.jpeg_bits.specs.declared.codes.HuffmanTableClass.{HuffmanTableClass}
 use Rattle.jpeg_bits.specs.declared.error.Error.{Error}
 use Rattle.jpeg_bits.proofs.Loops.{still_known}
 use Rattle.jpeg_bits.proofs.Tables.{exist-tested, tested-exist}
-use Rattle.jpeg_segments.specs.HuffmanTables.{Tables, DefinedTable, size_of, symbols_at, with_table}
+use Rattle.jpeg_segments.specs.HuffmanTables.{Tables, DefinedTable, size_of, with_table}
 use Rattle.jpeg_segments.specs.HuffmanTables.{tables_from}
 use Rattle.jpeg_segments.specs.HuffmanTables.{defined_codes_at}
+use Rattle.jpeg_segments.specs.Parts.{symbols_at}
 use Rattle.std.proofs.lemmas.Grind.{common_steps}
 
 MayFail-format : (e : Error) (a b : Bool) → NamesFormat e → b ≡ a → MayFail e a b

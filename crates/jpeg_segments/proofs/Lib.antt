@@ -1,5 +1,6 @@
 pub mod ApplicationParts
 pub mod Ceilings
+pub mod PartsOfSegments
 pub mod ScaleLemmas
 pub mod QuantizationLemmas
 pub mod HuffmanLemmas

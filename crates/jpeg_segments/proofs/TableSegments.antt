@@ -1,32 +1,32 @@
 -- Segments of tables: exactly what is written is read.
 use Rattle.std.proofs.Common.{◌≡◌, ℕ, zero, suc, ◌≤◌, ◌<◌, ◌+◌, ◌-◌, ◌*◌, ◌/◌, ◌%◌, Bool, true}
 use Rattle.std.proofs.Common.{false, cond, List, [], ◌∷◌, ◌++◌, length, set, length-append, Option}
-use Rattle.std.proofs.Common.{Some, Ok, Err, refl, sym, ap, ◌∙◌, arith, eqb, ltb, fold, rules}
+use Rattle.std.proofs.Common.{Some, Ok, Err, refl, sym, ap, ◌∙◌, arith, eqb, leb, ltb, fold, rules}
 use Rattle.std.proofs.lemmas.Bool.{le-ltb, ltb-false, ltb-true, ne_eqb, eq-eqb, eqb-true}
 use Rattle.std.proofs.lemmas.Bool.{eqb-false, or_parts}
-use Rattle.std.specs.Prelude.{flat_map, sum}
-use Rattle.std.specs.List.{AllByRecursion, list_any}
+use Rattle.std.specs.Prelude.{◌&&◌, flat_map, sum}
+use Rattle.std.specs.List.{AllByRecursion, list_all}
 use Rattle.jpeg_bits.specs.Reading.{Malformed}
 use Rattle.jpeg_bits.specs.Codes.{Table, code_lengths, codes_exist}
 use Rattle.jpeg_bits.specs.declared.codes.HuffmanTableClass.{HuffmanTableClass}
 use Rattle.jpeg_bits.proofs.Tables.{exist-tested, tested-exist}
 use Rattle.jpeg_segments.specs.Quantization as quantization
-use Rattle.jpeg_segments.specs.Quantization.{value_at, table_at, table_size, defined_table_at}
+use Rattle.jpeg_segments.specs.Quantization.{value_at, table_size, defined_table_at}
 use Rattle.jpeg_segments.specs.Quantization.{dqt_at}
 use Rattle.jpeg_segments.specs.HuffmanTables.{Tables, DefinedTable, size_of, class_of, no_tables}
-use Rattle.jpeg_segments.specs.HuffmanTables.{with_table, greatest_destination, symbols_at}
-use Rattle.jpeg_segments.specs.HuffmanTables.{codes_at}
+use Rattle.jpeg_segments.specs.HuffmanTables.{with_table, greatest_destination}
 use Rattle.jpeg_segments.specs.HuffmanTables.{defined_codes_at, tables_from, dht_at}
 use Rattle.jpeg_segments.specs.WrittenSegments.{u16_bytes, with_length, nibbles, QuantizationTable}
 use Rattle.jpeg_segments.specs.WrittenSegments.{IsQuantizationTable, value_bytes, quantization_bytes}
 use Rattle.jpeg_segments.specs.WrittenSegments.{quantization_tables, IsHuffmanTable, class_number}
 use Rattle.jpeg_segments.specs.WrittenSegments.{huffman_bytes, huffman_tables}
 use Rattle.jpeg_segments.proofs.Fields.{nibbles-high, nibbles-low}
-use Rattle.jpeg_segments.proofs.Codecs.{Codec, bind, ends, check-if, check-unless, choose, done, refused}
+use Rattle.jpeg_segments.proofs.Codecs.{Codec, bind, ends, check-if, checked, choose, done, refused}
 use Rattle.jpeg_segments.proofs.Codecs.{remap, namely, nil, cons, byte, u16, several, many}
 use Rattle.jpeg_segments.proofs.Codecs.{units, segment, outcome}
+use Rattle.std.specs.Bool.{Decides}
 use Rattle.std.proofs.lemmas.Grind.{common_steps}
-use Rattle.std.proofs.lemmas.Bool.Decides.{nat_tests}
+use Rattle.std.proofs.lemmas.Bool.Decides.{Decides-and, Decides-ltb, nat_tests}
 
 -- ---- quantization tables
 
@@ -41,37 +41,31 @@ value false = byte
 wide-is : (p : ℕ) → p ≤ 1 → (vs : List ℕ) → flat_map (wide_bytes (eqb p 1)) vs ≡ flat_map (value_bytes p) vs
 wide-is p h1 vs = grind (arith, nat_tests)
 
-none-zero : (vs : List ℕ) → AllByRecursion (λ v. 0 < v) vs → list_any (λ v. eqb v 0) vs ≡ false
-none-zero [] all = refl
-none-zero (v ∷ vs) all = search (rules, ne_eqb, none-zero vs all.1)
-
-some-values : (vs : List ℕ) → list_any (λ v. eqb v 0) vs ≡ false → AllByRecursion (λ v. 0 < v) vs
-some-values [] e = tt
-some-values (v ∷ vs) e =
-    let parts = or_parts (eqb v 0) (list_any (λ v. eqb v 0) vs) e in
-    (let n = eqb-false v 0 parts.0 in grind (arith, n), some-values vs parts.1)
+values-tested : (vs : List ℕ) → Decides (list_all (λ v. ltb 0 v) vs) (AllByRecursion (λ v. 0 < v) vs)
+values-tested [] = (λ e. tt, λ all. refl)
+values-tested (v ∷ vs) = Decides-and _ _ (Decides-ltb 0 v) (values-tested vs)
 
 placed : (left : ℕ)
     → Codec (defined_table_at left)
     (λ (t : QuantizationTable). (table_size t.precision, t.destination, t.values))
     quantization_bytes
     (λ (t : QuantizationTable). IsQuantizationTable t × (table_size t.precision ≤ left))
-unfolding defined_table_at table_at quantization_bytes
+unfolding defined_table_at quantization_bytes
 placed left = remap (bind _ byte (λ (b : ℕ).
-    check-unless (ltb 1 (b / 16)) Malformed (check-unless (ltb 3 (b % 16)) Malformed
-    (check-unless (ltb left (table_size (b / 16))) Malformed
-    (ends _ (ends _ (several (value (eqb (b / 16) 1)) 64) (λ (vs : List ℕ).
-    check-unless (list_any (λ v. eqb v 0) vs) Malformed (done vs)))
-    (λ (vs : List ℕ). done (table_size (b / 16), b % 16, vs)))))))
+    checked (leb (b / 16) 1 && (leb (b % 16) 3 && leb (table_size (b / 16)) left))
+    (ends _ (several (value (eqb (b / 16) 1)) 64) (λ (vs : List ℕ).
+    checked (list_all (λ v. ltb 0 v) vs) (done (table_size (b / 16), b % 16, vs))))))
     (λ x is. namely (record { precision = x.0 / 16; destination = x.0 % 16; values = x.1 })
-    (search (rules, ltb-false, some-values)) refl (search (rules, ltb-false, wide-is)))
+    (grind (arith, common_steps, nat_tests, values-tested)) refl
+    (grind (arith, common_steps, nat_tests, wide-is)))
     (λ t is.
     let high : nibbles t.precision t.destination / 16 ≡ t.precision = search (rules, nibbles-high)
     in
     let low : nibbles t.precision t.destination % 16 ≡ t.destination = search (rules, nibbles-low)
     in
     namely (nibbles t.precision t.destination, t.values)
-    (rw (high, low) (search (rules, le-ltb, none-zero, units))) (rw (high, low)) (rw high (search (rules, wide-is))))
+    (rw (high, low) (grind (arith, common_steps, nat_tests, values-tested, units))) (rw (high, low))
+    (rw high (search (rules, wide-is))))
 
 values-length : (p : ℕ) → p ≤ 1 → (vs : List ℕ) → length (flat_map (value_bytes p) vs) ≡ (p + 1) * length vs
 values-length p h [] = omega arith
@@ -158,30 +152,26 @@ defined_table destination class counts symbols = record {
 defined_codes : (most left : ℕ) → most ≤ 3 → Codec (defined_codes_at most left)
     (λ (t : DefinedTable). t) huffman_bytes (λ (t : DefinedTable). IsHuffmanTable most t × (size_of
     t ≤ left))
-unfolding defined_codes_at codes_at symbols_at huffman_bytes
+unfolding defined_codes_at huffman_bytes
 defined_codes most left few = remap (bind _ byte (λ (b : ℕ).
-    check-unless (ltb 1 (b / 16)) Malformed (check-unless (ltb most (b % 16)) Malformed
-    (ends _ (bind _ (many 16) (λ (counts : List ℕ).
-    check-unless (eqb (sum counts) 0) Malformed (check-unless (ltb 256 (sum counts)) Malformed
-    (check-unless (ltb left (17 + sum counts)) Malformed
-    (ends _ (many (sum counts)) (λ (symbols : List ℕ).
-    check-if (codes_exist (code_lengths counts)) Malformed
-    (done (table (class_of (b / 16)) counts symbols))))))))
-    (λ (x : List ℕ × List ℕ).
-    done (defined_table (b % 16) (class_of (b / 16)) x.0 x.1))))))
+    checked (leb (b / 16) 1 && leb (b % 16) most) (bind _ (many 16) (λ (counts : List ℕ).
+    checked (ltb 0 (sum counts) && (leb (sum counts) 256 && leb (17 + sum counts) left))
+    (ends _ (many (sum counts)) (λ (symbols : List ℕ). checked (codes_exist (code_lengths counts))
+    (done (defined_table (b % 16) (class_of (b / 16)) counts symbols))))))))
     (λ x is.
-    let class : class_number (class_of (x.0 / 16)) ≡ x.0 / 16 = search (rules, class-number, ltb-false) in
-    let none = eqb-false (sum x.1.0) 0 is.1.1.1.0.1.0 in
+    let class : class_number (class_of (x.0 / 16)) ≡ x.0 / 16 =
+    grind (arith, common_steps, nat_tests, class-number) in
     namely (defined_table (x.0 % 16) (class_of (x.0 / 16)) x.1.0 x.1.1)
-    (search (rules, ltb-false, tested-exist)) refl (ap (λ (k : ℕ). k ∷ (x.1.0 ++ x.1.1)) (omega arith)))
+    (grind (arith, common_steps, nat_tests, tested-exist)) refl
+    (ap (λ (k : ℕ). k ∷ (x.1.0 ++ x.1.1)) (omega arith)))
     (λ t is.
     let class : ℕ = class_number t.table.class in
     let small = class-small t.table.class in
     let high : nibbles class t.destination / 16 ≡ class = search (rules, nibbles-high) in
     let low : nibbles class t.destination % 16 ≡ t.destination = search (rules, nibbles-low) in
-    let some = ne_eqb (sum t.table.counts) 0 (λ e. omega arith) in
     namely (nibbles class t.destination, (t.table.counts, t.table.symbols))
-    (rw (high, low) (search (rules, le-ltb, exist-tested))) (rw (high, low, class-read)) refl)
+    (rw (high, low) (grind (arith, common_steps, nat_tests, exist-tested)))
+    (rw (high, low, class-read)) refl)
 
 codes-length : (most : ℕ) (t : DefinedTable) → IsHuffmanTable most t → length (huffman_bytes t) ≡
     size_of t

@@ -11,6 +11,7 @@ use Rattle.jpeg_segments.specs.declared.parser.CodingProcess.TheVariants.{DctSeq
 use Rattle.jpeg_segments.specs.declared.parser.CodingProcess.TheVariants.{DctProgressive, Lossless}
 use Rattle.jpeg_segments.specs.declared.parser.EntropyCoding.{EntropyCoding}
 use Rattle.jpeg_segments.specs.declared.parser.EntropyCoding.TheVariants.{Huffman, Arithmetic}
+use Rattle.jpeg_segments.specs.Checks.{check}
 
 -- The parameters of a component (B.2.2): its identifier Ci, its sampling factors Hi and Vi, and the
 -- destination Tqi of its quantization table.
@@ -117,30 +118,25 @@ is_taken front identifier = list_any (λ c. c.identifier == identifier) front
 abbrev pub is_destination : Bool → ℕ → Bool
 is_destination lossless destination = if lossless then destination == 0 else nat_le destination 3
 
--- The sampling factors and the destination of the quantization table, after the identifier.
-unfoldable pub parameters_at : Bool → ℕ → List ℕ → Outcome Factors
-parameters_at lossless identifier bytes = do
-  factors ← next_byte bytes
-  if is_factor (factors.0 / 16) then (if is_factor (factors.0 % 16) then (do
-    destination ← next_byte factors.1
-    if is_destination lossless destination.0
-        then Ok (
-          record {
-            identifier = identifier;
-            horizontal = factors.0 / 16;
-            vertical = factors.0 % 16;
-            quantization = destination.0;
-          },
-          destination.1,
-        )
-        else Err Malformed) else Err Malformed) else Err Malformed
-
--- A component after those in `front`, with an identifier of its own.
+-- A component after those in `front`: an identifier of its own, its sampling factors and the
+-- destination of its quantization table.
 unfoldable pub factors_at : Bool → List Factors → List ℕ → Outcome Factors
 factors_at lossless front bytes = do
   identifier ← next_byte bytes
-  if is_taken front identifier.0 then Err Malformed
-      else parameters_at lossless identifier.0 identifier.1
+  _ ← check (not (is_taken front identifier.0))
+  factors ← next_byte identifier.1
+  _ ← check (is_factor (factors.0 / 16) && is_factor (factors.0 % 16))
+  destination ← next_byte factors.1
+  _ ← check (is_destination lossless destination.0)
+  Ok (
+    record {
+      identifier = identifier.0;
+      horizontal = factors.0 / 16;
+      vertical = factors.0 % 16;
+      quantization = destination.0;
+    },
+    destination.1,
+  )
 
 -- n more components, after those in `front`
 unfoldable pub components_from : Bool → ℕ → List Factors → List ℕ → Outcome (List Factors)
@@ -148,14 +144,7 @@ components_from lossless zero front bytes = Ok (front, bytes)
 components_from lossless (suc n) front bytes =
     factors_at lossless front bytes >>= (λ c. components_from lossless n (front ++ c.0 ∷ []) c.1)
 
--- ---- the parameters before those of the components
-
-pub record Head : Type 0 where
-  pub length : ℕ
-  pub precision : ℕ
-  pub width : ℕ
-  pub height : ℕ
-  pub count : ℕ
+-- ---- headers
 
 -- The number of lines and of samples in a line. 0 lines would be defined by a later DNL segment.
 unfoldable pub size_at : List ℕ → Outcome (ℕ × ℕ)
@@ -175,34 +164,18 @@ is_precision number precision =
 abbrev pub is_count : ℕ → ℕ → Bool
 is_count number count = not (count == 0) && (not (is_progressive_number number) || nat_le count 4)
 
-unfoldable pub head_at : ℕ → List ℕ → Outcome Head
-head_at number bytes = do
-  left ← length_at bytes
-  if nat_lt left.0 7 then Err Malformed else (do
-    precision ← next_byte left.1
-    if is_precision number precision.0 then (do
-      size ← size_at precision.1
-      count ← next_byte size.1
-      if is_count number count.0 then (
-          if left.0 == 6 + 3 * count.0
-          then Ok (
-            record {
-              length = left.0;
-              precision = precision.0;
-              width = size.0.0;
-              height = size.0.1;
-              count = count.0;
-            },
-            count.1,
-          )
-          else Err Malformed) else Err Malformed) else Err Malformed)
-
 -- The parameters of an SOFn segment, after the marker.
 unfoldable pub sof_at : ℕ → List ℕ → Outcome Frame
 sof_at number bytes = do
-  head ← head_at number bytes
-  components ← components_from (is_lossless_number number) head.0.count [] head.1
-  Ok (frame_of number head.0.precision head.0.width head.0.height components.0, components.1)
+  left ← length_at bytes
+  _ ← check (nat_le 7 left.0)
+  precision ← next_byte left.1
+  _ ← check (is_precision number precision.0)
+  size ← size_at precision.1
+  count ← next_byte size.1
+  _ ← check (is_count number count.0 && left.0 == 6 + 3 * count.0)
+  components ← components_from (is_lossless_number number) count.0 [] count.1
+  Ok (frame_of number precision.0 size.0.0 size.0.1 components.0, components.1)
 
 -- ---- what each frame that is read has
 

@@ -1,11 +1,13 @@
 -- Huffman tables (T.81, B.2.4.2).
 use Rattle.std.specs.Prelude.{ℕ, zero, suc, ◌+◌, ◌-◌, ◌/◌, ◌%◌, List, Bool, true, Option, Some}
-use Rattle.std.specs.Prelude.{None, Ok, Err, nat_lt, ◌==◌, if◌then◌else◌, replicate, slice_set, sum}
+use Rattle.std.specs.Prelude.{None, Ok, Err, nat_le, nat_lt, ◌==◌, ◌&&◌, if◌then◌else◌}
+use Rattle.std.specs.Prelude.{replicate, slice_set, sum}
 use Rattle.std.specs.List.{list_all}
 use Rattle.jpeg_bits.specs.Reading.{Outcome, Malformed, ◌>>=◌, next_byte, length_at, times}
 use Rattle.jpeg_bits.specs.Codes.{Table, code_lengths, codes_exist, is_ac}
 use Rattle.jpeg_bits.specs.declared.codes.HuffmanTableClass.{HuffmanTableClass}
 use Rattle.jpeg_bits.specs.declared.codes.HuffmanTableClass.TheVariants as classes
+use Rattle.jpeg_segments.specs.Checks.{check}
 
 -- the tables of each class, by their destinations
 pub record Tables : Type 0 where
@@ -32,32 +34,24 @@ pub record DefinedTable : Type 0 where
 abbrev pub size_of : DefinedTable → ℕ
 size_of t = 17 + sum t.table.counts
 
--- The values of a table of these counts, and the table, where codes of these lengths exist.
-unfoldable pub symbols_at : HuffmanTableClass → List ℕ → List ℕ → Outcome Table
-symbols_at class counts bytes = do
-  symbols ← times (sum counts) next_byte bytes
-  if codes_exist (code_lengths counts)
-      then Ok (record { class = class; counts = counts; symbols = symbols.0 }, symbols.1)
-      else Err Malformed
-
--- The counts and the values, of which there are 1 to 256, and no more than bytes of the segment are
--- left.
-unfoldable pub codes_at : ℕ → HuffmanTableClass → List ℕ → Outcome Table
-codes_at left class bytes = do
-  counts ← times 16 next_byte bytes
-  if sum counts.0 == 0 then Err Malformed else (if nat_lt 256 (sum counts.0) then Err Malformed
-      else (
-      if nat_lt left (17 + sum counts.0) then Err Malformed
-      else symbols_at class counts.0 counts.1))
-
--- the next table, where `left` bytes of the segment are left
+-- The next table, where `left` bytes of the segment are left: its class and destination, its counts
+-- and its values, of which there are 1 to 256 and no more than are left. Its codes exist.
 unfoldable pub defined_codes_at : ℕ → ℕ → List ℕ → Outcome DefinedTable
 defined_codes_at greatest left bytes = do
   b ← next_byte bytes
-  if nat_lt 1 (b.0 / 16) then Err Malformed else (if nat_lt greatest (b.0 % 16) then Err Malformed
-      else (do
-        table ← codes_at left (class_of (b.0 / 16)) b.1
-        Ok (record { destination = b.0 % 16; table = table.0 }, table.1)))
+  _ ← check (nat_le (b.0 / 16) 1 && nat_le (b.0 % 16) greatest)
+  counts ← times 16 next_byte b.1
+  let n = sum counts.0 in do
+    _ ← check (nat_lt 0 n && (nat_le n 256 && nat_le (17 + n) left))
+    symbols ← times n next_byte counts.1
+    _ ← check (codes_exist (code_lengths counts.0))
+    Ok (
+      record {
+        destination = b.0 % 16;
+        table = record { class = class_of (b.0 / 16); counts = counts.0; symbols = symbols.0 };
+      },
+      symbols.1,
+    )
 
 -- the tables with one more
 abbrev pub with_table : Tables → DefinedTable → Tables

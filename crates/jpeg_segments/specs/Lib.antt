@@ -1,4 +1,5 @@
 -- the meaning
+pub mod Checks
 pub mod Quantization
 pub mod HuffmanTables
 pub mod Frame
@@ -10,3 +11,5 @@ pub mod WrittenSegments
 pub mod ScanHeaders
 -- the types of the code as these definitions see them
 pub mod FrameView
+-- the code's own words: the clauses of `Decoder`, `run` and `report` reach none of these
+pub mod Parts

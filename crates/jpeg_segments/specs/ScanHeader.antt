@@ -10,6 +10,7 @@ use Rattle.jpeg_segments.specs.declared.parser.CodingProcess.{CodingProcess}
 use Rattle.jpeg_segments.specs.declared.parser.CodingProcess.TheVariants.{DctSequential}
 use Rattle.jpeg_segments.specs.declared.parser.CodingProcess.TheVariants.{DctProgressive, Lossless}
 use Rattle.jpeg_segments.specs.Frame.{Frame, Component}
+use Rattle.jpeg_segments.specs.Checks.{check, needed}
 use Rattle.jpeg_segments.specs.HuffmanTables.{greatest_destination}
 
 -- A scan: the indices of its components in the frame and the destinations of their DC and AC tables,
@@ -48,37 +49,25 @@ blocks_by [] index = 0
 blocks_by (c ∷ more) zero = c.factors.horizontal * c.factors.vertical
 blocks_by (c ∷ more) (suc index) = blocks_by more index
 
--- The destinations Td and Ta of the tables of the component at an index of the frame. In a baseline
--- frame they are 0 or 1.
-unfoldable pub destinations_at : Frame → ℕ → List ℕ → Outcome Selector
-destinations_at frame index bytes = do
-  destinations ← next_byte bytes
-  if nat_lt (greatest_destination (Some frame.is_baseline)) (destinations.0 / 16) then Err Malformed
-      else (
-      if nat_lt (greatest_destination (Some frame.is_baseline)) (destinations.0 % 16) then Err Malformed
-      else
-      Ok (
-        record {
-          component = index;
-          dc = destinations.0 / 16;
-          ac = destinations.0 % 16;
-          blocks = blocks_by frame.components index;
-        },
-        destinations.1,
-      ))
-
--- The same, where the frame has the component and it stands after those before it.
-abbrev pub tables_by : Frame → ℕ → Option ℕ → List ℕ → Outcome Selector
-tables_by frame least None bytes = Err Malformed
-tables_by frame least (Some index) bytes =
-    if nat_lt index least then Err Malformed else destinations_at frame index bytes
-
--- The next component, whose index in the frame is at least `least`: components stand in the order
--- of the frame.
+-- The next component, whose index in the frame is at least `least`, since components stand in the
+-- order of the frame; and the destinations Td and Ta of its tables, 0 or 1 in a baseline frame.
 unfoldable pub selector_at : Frame → ℕ → List ℕ → Outcome Selector
 selector_at frame least bytes = do
   identifier ← next_byte bytes
-  tables_by frame least (index_of frame.components identifier.0) identifier.1
+  index ← needed (index_of frame.components identifier.0)
+  _ ← check (nat_le least index)
+  destinations ← next_byte identifier.1
+  let greatest = greatest_destination (Some frame.is_baseline) in do
+    _ ← check (nat_le (destinations.0 / 16) greatest && nat_le (destinations.0 % 16) greatest)
+    Ok (
+      record {
+        component = index;
+        dc = destinations.0 / 16;
+        ac = destinations.0 % 16;
+        blocks = blocks_by frame.components index;
+      },
+      destinations.1,
+    )
 
 -- n more components, after those in `front`
 unfoldable pub selectors_from : Frame → ℕ → List Selector → ℕ → List ℕ → Outcome (List Selector)

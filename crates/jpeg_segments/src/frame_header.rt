@@ -6,13 +6,13 @@ ghost use Rattle.std.specs.List.{list_any};
 ghost use Rattle.jpeg_bits.specs.Reading.{Answers, NamesFormat};
 ghost use Rattle.jpeg_bits.specs.declared.marker.Marker.TheVariants.{SOF};
 ghost use Rattle.jpeg_segments.specs.Frame.{AllHaveSampling, IsFrame, IsInRange, components_from};
-ghost use Rattle.jpeg_segments.specs.Frame.{factors_at, frame_of, head_at, is_count};
-ghost use Rattle.jpeg_segments.specs.Frame.{is_lossless_number};
-ghost use Rattle.jpeg_segments.specs.Frame.{is_destination, is_precision, is_taken, parameters_at};
+ghost use Rattle.jpeg_segments.specs.Frame.{factors_at, frame_of, is_count, is_lossless_number};
+ghost use Rattle.jpeg_segments.specs.Frame.{is_destination, is_precision, is_taken};
 ghost use Rattle.jpeg_segments.specs.Frame.{process_of, coding_of, is_differential_number, size_at};
 ghost use Rattle.jpeg_segments.specs.Frame.{sof_at};
 ghost use Rattle.jpeg_segments.specs.Scales.{IsSizedFrame};
 ghost use Rattle.jpeg_segments.specs.FrameView.{component_in, frame_in, factors_of};
+ghost use Rattle.jpeg_segments.specs.Parts.{head_at, parameters_at};
 
 use crate::parser::{CodingProcess, Dimensions, EntropyCoding, FrameInfo};
 use crate::sizes::{components_of, greatest_factors, mcus};
@@ -136,7 +136,7 @@ fn count_error(alloc: Global, number: u8, count: u8) -> Error
     ))
 }
 
-#[tactic(auto, unfolding(crate::specs::Frame::head_at))]
+#[tactic(auto, unfolding(crate::specs::Parts::head_at))]
 fn read_head<R: Read + Drop>(alloc: Global, source: &mut Source<R>, number: u8) -> Result<Head>
     ensures answers { Answers (λ h.
         record {
@@ -191,7 +191,7 @@ fn is_destination(lossless: bool, destination: u8) -> bool
 
 /// Reads the sampling factors and the destination of the quantization table, after the
 /// identifier.
-#[tactic(auto, unfolding(crate::specs::Frame::parameters_at))]
+#[tactic(auto, unfolding(crate::specs::Parts::parameters_at))]
 fn read_parameters<R: Read + Drop>(
     alloc: Global,
     source: &mut Source<R>,
@@ -249,7 +249,7 @@ fn is_taken(front: &[Factors], identifier: u8) -> bool
 }
 
 /// Reads the next component, after those in `front`.
-#[tactic(auto, unfolding(crate::specs::Frame::factors_at))]
+#[tactic(auto, using(crate::proofs::PartsOfSegments::parts))]
 fn read_factors<R: Read + Drop>(
     alloc: Global,
     source: &mut Source<R>,
@@ -326,7 +326,7 @@ fn frame_of(
 }
 
 /// Reads a frame header of the marker `SOF(number)`.
-#[tactic(auto, using(crate::proofs::ScaleLemmas::frames_are_sized), unfolding(crate::specs::Frame::sof_at))]
+#[tactic(auto, using(crate::proofs::ScaleLemmas::frames_are_sized, crate::proofs::PartsOfSegments::parts))]
 fn read_frame<R: Read + Drop>(
     alloc: Global,
     source: &mut Source<R>,

@@ -2,9 +2,9 @@
 ghost use Rattle.std.specs.Prelude.{◌≡◌, ◌≤◌, ◌<◌, ◌+◌, true, None, replicate, length, sum, IfOk};
 ghost use Rattle.jpeg_bits.specs.Codes.{is_ac};
 ghost use Rattle.jpeg_bits.specs.Reading.{Answers, NamesFormat, times, next_byte};
-ghost use Rattle.jpeg_segments.specs.HuffmanTables.{symbols_at, codes_at, defined_codes_at};
-ghost use Rattle.jpeg_segments.specs.HuffmanTables.{greatest_destination, with_table, dht_at};
-ghost use Rattle.jpeg_segments.specs.HuffmanTables.{all_ac};
+ghost use Rattle.jpeg_segments.specs.HuffmanTables.{all_ac, defined_codes_at, dht_at};
+ghost use Rattle.jpeg_segments.specs.HuffmanTables.{greatest_destination, with_table};
+ghost use Rattle.jpeg_segments.specs.Parts.{symbols_at, codes_at};
 
 use jpeg_bits::error::{Error, Result, format_error_of};
 use jpeg_bits::huffman::{HuffmanTable, HuffmanTableClass};
@@ -36,7 +36,7 @@ fn total(counts: &[u8; 16]) -> u16
 }
 
 /// Reads the symbols of a table of these counts, and the table.
-#[tactic(auto, unfolding(crate::specs::HuffmanTables::symbols_at))]
+#[tactic(auto, unfolding(crate::specs::Parts::symbols_at))]
 fn read_table<R: Read + Drop>(
     alloc: Global,
     source: &mut Source<R>,
@@ -68,7 +68,7 @@ fn count_error(alloc: Global, class: HuffmanTableClass, destination: u8, count: 
 
 /// Reads the next table of this class for this destination, where `left` bytes are left of the
 /// segment: how many bytes it takes with the byte of its class, and the table.
-#[tactic(auto, unfolding(crate::specs::HuffmanTables::codes_at))]
+#[tactic(auto, unfolding(crate::specs::Parts::codes_at))]
 fn read_codes<R: Read + Drop>(
     alloc: Global,
     source: &mut Source<R>,
@@ -108,7 +108,7 @@ struct DefinedTable {
 }
 
 /// Reads the next table, where `left` bytes are left of the segment.
-#[tactic(auto, unfolding(crate::specs::HuffmanTables::defined_codes_at))]
+#[tactic(auto, using(crate::proofs::PartsOfSegments::parts))]
 fn read_defined_table<R: Read + Drop>(
     alloc: Global,
     source: &mut Source<R>,

@@ -2,7 +2,8 @@
 ghost use Rattle.std.specs.Prelude.{◌≡◌, ◌≤◌, ◌<◌, IfOk, true, Err};
 ghost use Rattle.jpeg_bits.specs.Reading.{Answers, Malformed, NamesFormat, times};
 ghost use Rattle.jpeg_bits.specs.declared.error.Error.TheVariants.{OutOfMemory};
-ghost use Rattle.jpeg_segments.specs.Quantization.{value_at, table_at, defined_table_at, dqt_at};
+ghost use Rattle.jpeg_segments.specs.Quantization.{value_at, defined_table_at, dqt_at};
+ghost use Rattle.jpeg_segments.specs.Parts.{table_at};
 
 use jpeg_bits::error::{Error, Result, format_error_of};
 use jpeg_bits::reads::{read_length, read_u8, read_u16_be};
@@ -51,7 +52,7 @@ fn zero_error(alloc: Global, destination: usize, values: &[u16; 64]) -> Error
     ))
 }
 
-#[tactic(auto, unfolding(crate::specs::Quantization::table_at))]
+#[tactic(auto, unfolding(crate::specs::Parts::table_at))]
 fn read_table<R: Read + Drop>(
     alloc: Global,
     source: &mut Source<R>,
@@ -70,7 +71,7 @@ fn read_table<R: Read + Drop>(
 }
 
 /// Reads the next table where `left` bytes are left: its size and destination, and the table.
-#[tactic(auto, unfolding(crate::specs::Quantization::defined_table_at))]
+#[tactic(auto, using(crate::proofs::PartsOfSegments::parts))]
 fn read_defined_table<R: Read + Drop>(
     alloc: Global,
     source: &mut Source<R>,

@@ -8,8 +8,8 @@ ghost use Rattle.jpeg_segments.specs.ScanHeader.{band_at, after_of, blocks_by, c
 ghost use Rattle.jpeg_segments.specs.ScanHeader.{is_lossless_band, is_mcu, is_progressive_band};
 ghost use Rattle.jpeg_segments.specs.ScanHeader.{is_sequential_band, index_of, predictor_by};
 ghost use Rattle.jpeg_segments.specs.ScanHeader.{predictor_of, scan_of, selector_at};
-ghost use Rattle.jpeg_segments.specs.ScanHeader.{selectors_from, sos_at, destinations_at};
-ghost use Rattle.jpeg_segments.specs.ScanHeader.{tables_by};
+ghost use Rattle.jpeg_segments.specs.ScanHeader.{selectors_from, sos_at};
+ghost use Rattle.jpeg_segments.specs.Parts.{destinations_at};
 ghost use Rattle.jpeg_segments.specs.FrameView.{component_in, frame_in, scan_in, selector_of};
 
 use crate::huffman_tables::{expected_destinations, greatest_destination};
@@ -108,7 +108,7 @@ fn destination_error(
 }
 
 /// Reads the tables of the component at an index of the frame.
-#[tactic(auto, unfolding(crate::specs::ScanHeader::destinations_at))]
+#[tactic(auto, unfolding(crate::specs::Parts::destinations_at))]
 fn read_tables<R: Read + Drop>(
     alloc: Global,
     source: &mut Source<R>,
@@ -144,7 +144,7 @@ fn read_tables<R: Read + Drop>(
 
 /// Reads the next component, whose index in the frame is at least `least`: components stand in
 /// the order of the frame.
-#[tactic(auto, unfolding(crate::specs::ScanHeader::selector_at))]
+#[tactic(auto, using(crate::proofs::PartsOfSegments::parts))]
 fn read_selector<R: Read + Drop>(
     alloc: Global,
     source: &mut Source<R>,

@@ -6,6 +6,7 @@ use Rattle.std.specs.Prelude.{if◌then◌else◌}
 use Rattle.jpeg_bits.specs.Reading.{Outcome, Fault, ◌>>=◌, next_byte, next_u16, length_at, skip_at, times}
 use Rattle.jpeg_bits.specs.Marker.{next_marker, found_or}
 use Rattle.jpeg_bits.specs.declared.marker.Marker.{Marker}
+use Rattle.jpeg_segments.specs.Checks.{check, needed}
 
 -- fewer bytes are left than the limit
 unfoldable pub LeavesBelow : {A : Type 0} → ℕ → Outcome A → Type 0
@@ -83,6 +84,17 @@ times-below limit (suc n) read bytes each h =
     below-bind limit limit (times n read x.1) _ (times-below limit n read x.1 each p) (λ more q. below-ok limit _ more.1
     q))
 
+-- what has to hold, or to be there
+pub below-check : {B : Type 0} (limit : ℕ) (b : Bool) (f : Unit {0} → Outcome B) → LeavesBelow limit (f tt)
+    → LeavesBelow limit (check b >>= f)
+below-check limit true f p = p
+below-check {B} limit false f p = below-err B limit _
+
+pub below-needed : {A B : Type 0} (limit : ℕ) (o : Option A) (f : A → Outcome B)
+    → ((x : A) → LeavesBelow limit (f x)) → LeavesBelow limit (needed o >>= f)
+below-needed limit (Some x) f p = p x
+below-needed {A} {B} limit None f p = below-err B limit _
+
 -- the steps of which the readers of segments are made
 pub ruleset below_steps = (
   rules,
@@ -90,6 +102,8 @@ pub ruleset below_steps = (
   below-else,
   below-then,
   below-cond,
+  below-check,
+  below-needed,
   below-ok,
   below-err,
   byte-below,

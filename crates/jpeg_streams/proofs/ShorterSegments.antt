@@ -1,21 +1,16 @@
 -- What the segments leave.
 use Rattle.std.proofs.Common.{rules, ◌≤◌, ◌<◌, ℕ, zero, suc, List, Bool, Option, Some}
 use Rattle.std.proofs.Common.{None, length}
-use Rattle.jpeg_bits.specs.declared.codes.HuffmanTableClass.{HuffmanTableClass}
-use Rattle.jpeg_segments.specs.Frame.{Frame, Factors, size_at, head_at, sof_at}
-use Rattle.jpeg_segments.specs.Frame.{parameters_at, factors_at, components_from}
-use Rattle.jpeg_segments.specs.ScanHeader.{Selector, count_at, destinations_at, tables_by}
-use Rattle.jpeg_segments.specs.ScanHeader.{selector_at, selectors_from}
+use Rattle.jpeg_segments.specs.Frame.{Frame, Factors, size_at, factors_at, components_from, sof_at}
+use Rattle.jpeg_segments.specs.ScanHeader.{Selector, count_at, selector_at, selectors_from}
 use Rattle.jpeg_segments.specs.ScanHeader.{band_at, sos_at}
 use Rattle.jpeg_segments.specs.Application.{Application, passed_over, adobe_by, adobe_at, application_14, payload_at}
 use Rattle.jpeg_segments.specs.Application.{app_at, dri_at}
 use Rattle.jpeg_segments.specs.declared.parser.AdobeColorTransform.{AdobeColorTransform}
 use Rattle.jpeg_segments.specs.Quantization as quantization
-use Rattle.jpeg_segments.specs.Quantization.{table_size, value_at, table_at, defined_table_at}
-use Rattle.jpeg_segments.specs.Quantization.{dqt_at}
+use Rattle.jpeg_segments.specs.Quantization.{value_at, defined_table_at, dqt_at}
 use Rattle.jpeg_segments.specs.HuffmanTables as huffman
-use Rattle.jpeg_segments.specs.HuffmanTables.{symbols_at, codes_at, defined_codes_at, dht_at}
-use Rattle.jpeg_segments.specs.HuffmanTables.{class_of}
+use Rattle.jpeg_segments.specs.HuffmanTables.{defined_codes_at, dht_at}
 use Rattle.jpeg_streams.proofs.Shorter.{below_steps, LeavesBelow, below-ok, below-err, below-else}
 
 -- ---- frames
@@ -24,19 +19,10 @@ size-below : (limit : ℕ) (bytes : List ℕ) → length bytes < limit → Leave
 unfolding size_at
 size-below limit bytes h = search (below_steps) depth 12
 
-head-below : (limit number : ℕ) (bytes : List ℕ) → length bytes ≤ limit → LeavesBelow limit (head_at number bytes)
-unfolding head_at
-head-below limit number bytes h = search (below_steps, size-below) depth 12
-
-parameters-below : (limit : ℕ) (lossless : Bool) (identifier : ℕ) (bytes : List ℕ) → length bytes < limit
-    → LeavesBelow limit (parameters_at lossless identifier bytes)
-unfolding parameters_at
-parameters-below limit lossless identifier bytes h = search (below_steps) depth 12
-
 factors-below : (limit : ℕ) (lossless : Bool) (front : List Factors) (bytes : List ℕ) → length bytes < limit
     → LeavesBelow limit (factors_at lossless front bytes)
 unfolding factors_at
-factors-below limit lossless front bytes h = search (below_steps, parameters-below) depth 12
+factors-below limit lossless front bytes h = search (below_steps) depth 12
 
 components-below : (limit : ℕ) (lossless : Bool) (n : ℕ) (front : List Factors) (bytes : List ℕ) → length bytes < limit
     → LeavesBelow limit (components_from lossless n front bytes)
@@ -47,19 +33,14 @@ components-below limit lossless (suc n) front bytes h =
 
 pub sof-below : (limit number : ℕ) (bytes : List ℕ) → length bytes ≤ limit → LeavesBelow limit (sof_at number bytes)
 unfolding sof_at
-sof-below limit number bytes h = search (below_steps, head-below, components-below) depth 12
+sof-below limit number bytes h = search (below_steps, size-below, components-below) depth 16
 
 -- ---- quantization tables
 
-table-below : (limit : ℕ) (is_wide : Bool) (bytes : List ℕ) → length bytes < limit
-    → LeavesBelow limit (table_at is_wide bytes)
-unfolding table_at value_at
-table-below limit is_wide bytes h = search (below_steps) depth 12
-
 placed-below : (limit left : ℕ) (bytes : List ℕ) → length bytes < limit → LeavesBelow limit
     (defined_table_at left bytes)
-unfolding defined_table_at
-placed-below limit left bytes h = search (below_steps, table-below) depth 12
+unfolding defined_table_at value_at
+placed-below limit left bytes h = search (below_steps) depth 12
 
 quantization-below : (limit most left : ℕ) (tables : quantization.QuantizationTables) (bytes : List
     ℕ) → length bytes < limit
@@ -75,20 +56,10 @@ dqt-below limit bytes h = search (below_steps, quantization-below) depth 12
 
 -- ---- Huffman tables
 
-symbols-below : (limit : ℕ) (class : HuffmanTableClass) (counts : List ℕ) (bytes : List ℕ) → length bytes < limit
-    → LeavesBelow limit (symbols_at class counts bytes)
-unfolding symbols_at
-symbols-below limit class counts bytes h = search (below_steps) depth 12
-
-codes-below : (limit left : ℕ) (class : HuffmanTableClass) (bytes : List ℕ) → length bytes < limit
-    → LeavesBelow limit (codes_at left class bytes)
-unfolding codes_at
-codes-below limit left class bytes h = search (below_steps, symbols-below) depth 12
-
 defined_codes-below : (limit greatest left : ℕ) (bytes : List ℕ) → length bytes < limit
     → LeavesBelow limit (defined_codes_at greatest left bytes)
 unfolding defined_codes_at
-defined_codes-below limit greatest left bytes h = search (below_steps, codes-below) depth 12
+defined_codes-below limit greatest left bytes h = search (below_steps) depth 12
 
 huffman-below : (limit most greatest left : ℕ) (tables : huffman.Tables) (bytes : List ℕ) → length bytes < limit
     → LeavesBelow limit (huffman.tables_from most greatest left tables bytes)
@@ -108,21 +79,10 @@ count-below : (limit : ℕ) (bytes : List ℕ) → length bytes ≤ limit → Le
 unfolding count_at
 count-below limit bytes h = search (below_steps) depth 12
 
-tables-below : (limit : ℕ) (frame : Frame) (index : ℕ) (bytes : List ℕ) → length bytes < limit
-    → LeavesBelow limit (destinations_at frame index bytes)
-unfolding destinations_at
-tables-below limit frame index bytes h = search (below_steps) depth 12
-
-named_tables-below : (limit : ℕ) (frame : Frame) (least : ℕ) (index : Option ℕ) (bytes : List ℕ) →
-    length bytes < limit
-    → LeavesBelow limit (tables_by frame least index bytes)
-named_tables-below limit frame least None bytes h = below-err Selector limit _
-named_tables-below limit frame least (Some index) bytes h = search (rules, below-else, tables-below)
-
 selector-below : (limit : ℕ) (frame : Frame) (least : ℕ) (bytes : List ℕ) → length bytes < limit
     → LeavesBelow limit (selector_at frame least bytes)
 unfolding selector_at
-selector-below limit frame least bytes h = search (below_steps, named_tables-below) depth 12
+selector-below limit frame least bytes h = search (below_steps) depth 12
 
 selectors-below : (limit : ℕ) (frame : Frame) (n : ℕ) (front : List Selector) (least : ℕ) (bytes : List ℕ)
     → length bytes < limit → LeavesBelow limit (selectors_from frame n front least bytes)

@@ -13,8 +13,10 @@ use Rattle.jpeg_streams.specs.declared.settings.Settings.{Settings}
 use Rattle.jpeg_streams.specs.Levels.{Is8Bit, Levels, nothing_sent}
 use Rattle.jpeg_streams.specs.Order.{grid_of}
 use Rattle.jpeg_streams.specs.SaidSegments.{found_after}
-use Rattle.jpeg_streams.specs.Needed.{first_of, needed}
-use Rattle.jpeg_streams.specs.ScanSegments.{Coding, codings_of, components_of, is_progressive, pass_of}
+use Rattle.jpeg_segments.specs.Checks.{needed}
+use Rattle.jpeg_streams.specs.Needed.{first_of}
+use Rattle.jpeg_streams.specs.ScanSegments.{Coding, is_progressive, pass_of, components_of}
+use Rattle.jpeg_streams.specs.ScanSegments.{codings_of}
 use Rattle.jpeg_streams.specs.Found.{nothing_found, Found}
 use Rattle.jpeg_streams.specs.Stream.{Told, told_of}
 use Rattle.jpeg_streams.specs.FoundPictures.{picture_by}

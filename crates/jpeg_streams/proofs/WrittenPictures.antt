@@ -22,7 +22,7 @@ use Rattle.jpeg_streams.specs.Order.{grid_of}
 use Rattle.jpeg_streams.specs.Scans.{Arrays}
 use Rattle.jpeg_pixels.specs.Scaled.{sample_at}
 use Rattle.jpeg_pixels.specs.Planes.{plane_sample, plane_of}
-use Rattle.jpeg_streams.specs.Needed.{needed}
+use Rattle.jpeg_segments.specs.Checks.{needed}
 use Rattle.jpeg_streams.specs.FoundPictures.{planes_from, plane_at_end, picture_of, blocks_picture}
 use Rattle.jpeg_streams.specs.FoundPictures.{picture_by, picture_in}
 use Rattle.jpeg_streams.specs.ScanSegments.{plane_by, is_progressive}

@@ -11,7 +11,7 @@ use Rattle.jpeg_bits.specs.Zigzag.{coefficients_in_block_order, values_in_block_
 use Rattle.jpeg_streams.specs.ColourChoice.{identifiers_of, transform_of}
 use Rattle.jpeg_streams.specs.declared.settings.Settings.{Settings}
 use Rattle.jpeg_streams.specs.Levels.{Levels, cut}
-use Rattle.jpeg_streams.specs.Needed.{needed}
+use Rattle.jpeg_segments.specs.Checks.{needed}
 use Rattle.jpeg_streams.specs.Stream.{Told, told_of}
 use Rattle.jpeg_streams.specs.FoundPictures.{picture_by}
 use Rattle.jpeg_streams.specs.Found.{Found}

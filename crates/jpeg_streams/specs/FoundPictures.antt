@@ -14,7 +14,8 @@ use Rattle.jpeg_streams.specs.ColourChoice.{identifiers_of, transform_of}
 use Rattle.jpeg_pixels.specs.Planes.{cropped}
 use Rattle.jpeg_lossless.specs.Pictures.{lossless_picture}
 use Rattle.jpeg_streams.specs.LosslessScans.{samples_from}
-use Rattle.jpeg_streams.specs.Needed.{first_of, needed}
+use Rattle.jpeg_segments.specs.Checks.{needed}
+use Rattle.jpeg_streams.specs.Needed.{first_of}
 use Rattle.jpeg_streams.specs.declared.settings.Settings.{Settings}
 use Rattle.jpeg_streams.specs.Found.{Metadata, Found}
 use Rattle.jpeg_streams.specs.ScanSegments.{is_progressive, plane_by}

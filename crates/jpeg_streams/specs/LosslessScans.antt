@@ -9,7 +9,8 @@ use Rattle.jpeg_lossless.specs.Prediction.{start_of}
 use Rattle.jpeg_lossless.specs.Differences.{Part}
 use Rattle.jpeg_lossless.specs.Scans.{Way}
 use Rattle.jpeg_lossless.specs.Pictures.{most_across, most_down}
-use Rattle.jpeg_streams.specs.Needed.{first_of, needed}
+use Rattle.jpeg_segments.specs.Checks.{needed}
+use Rattle.jpeg_streams.specs.Needed.{first_of}
 
 -- ---- MCUs
 

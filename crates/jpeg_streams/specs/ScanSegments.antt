@@ -30,7 +30,8 @@ use Rattle.jpeg_streams.specs.Scans.{Arrays, zero_arrays, no_table, arrays_at}
 use Rattle.jpeg_lossless.specs.Scans.{scan_at}
 use Rattle.jpeg_streams.specs.LosslessScans.{LosslessCoding, lossless_codings}
 use Rattle.jpeg_streams.specs.LosslessScans.{mcus_down, way_of, with_samples}
-use Rattle.jpeg_streams.specs.Needed.{first_of, needed}
+use Rattle.jpeg_segments.specs.Checks.{needed}
+use Rattle.jpeg_streams.specs.Needed.{first_of}
 use Rattle.jpeg_streams.specs.declared.before.Before.{Before}
 use Rattle.jpeg_streams.specs.declared.before.Before.TheVariants.{FirstScan, LaterScan}
 use Rattle.jpeg_streams.specs.Found.{Found, none_finished}

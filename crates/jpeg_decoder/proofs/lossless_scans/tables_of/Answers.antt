@@ -4,7 +4,7 @@ use Rattle.std.proofs.lemmas.List.{map-append}
 use Rattle.std.proofs.lemmas.Result.{err_from_is_err_and}
 use Rattle.jpeg_bits.specs.Reading.{Malformed}
 use Rattle.jpeg_streams.specs.LosslessScans.{tables_in}
-use Rattle.jpeg_streams.specs.Needed.{needed}
+use Rattle.jpeg_segments.specs.Checks.{needed}
 use Rattle.jpeg_decoder.proofs.LosslessReads.{no-tables, tables-from}
 use Rattle.jpeg_decoder.proofs.ReadLists.{no-more, one-more, one-refused}
 use Rattle.jpeg_decoder.proofs.SlotCodings.{format-refuses}

@@ -6,7 +6,7 @@ use Rattle.std.proofs.lemmas.Grind.{drop_more_same}
 use Rattle.std.proofs.lemmas.Result.{err_from_is_err_and}
 use Rattle.jpeg_bits.specs.Reading.{Malformed}
 use Rattle.jpeg_streams.specs.LosslessScans.{samples_from}
-use Rattle.jpeg_streams.specs.Needed.{needed}
+use Rattle.jpeg_segments.specs.Checks.{needed}
 use Rattle.jpeg_segments.specs.FrameView.{component_in, frame_in}
 use Rattle.jpeg_decoder.specs.PlanesView.{planes_in}
 use Rattle.jpeg_decoder.proofs.EndedPlanes.{mapped-or, planes-kept, same-at}

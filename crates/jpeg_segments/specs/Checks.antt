@@ -1,0 +1,11 @@
+-- What a stream has to have: else it is malformed.
+use Rattle.std.specs.Prelude.{Bool, true, false, Option, Some, None, Result, Ok, Err}
+use Rattle.jpeg_bits.specs.Reading.{Fault, Malformed}
+
+abbrev pub check : Bool → Result (Unit {0}) Fault
+check true = Ok tt
+check false = Err Malformed
+
+abbrev pub needed : {A : Type 0} → Option A → Result A Fault
+needed None = Err Malformed
+needed (Some x) = Ok x
