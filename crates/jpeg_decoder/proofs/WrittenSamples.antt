@@ -36,7 +36,8 @@ use Rattle.jpeg_lossless.proofs.Sizes.{covered-within}
 use Rattle.jpeg_lossless.proofs.WholeScans.{HaveLines}
 use Rattle.jpeg_streams.specs.LosslessScans.{LosslessCoding, lossless_coding, lossless_codings, mcus_across, mcus_down}
 use Rattle.jpeg_streams.specs.LosslessScans.{part_of, parts_of, way_of, with_samples}
-use Rattle.jpeg_streams.specs.Needed.{first_of, needed}
+use Rattle.jpeg_segments.specs.Checks.{needed}
+use Rattle.jpeg_streams.specs.Needed.{first_of}
 use Rattle.jpeg_streams.specs.ScanSegments.{lossless_scan, scan_before, scan_segment}
 use Rattle.jpeg_streams.specs.Segments.{Turn}
 use Rattle.jpeg_streams.specs.Found.{Found}

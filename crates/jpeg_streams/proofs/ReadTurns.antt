@@ -279,9 +279,10 @@ unfolding codings_from
 codings-each P w frame p tables (x ∷ indices) (d ∷ ds) (a ∷ ks) codings e h =
     let one = bind-ok (component_coding w frame p tables x d a) _ codings e in
     let more = bind-ok (codings_from w frame p tables indices ds ks) _ codings one.2 in
-    subst (AllByRecursion P) (ok-same (one.0 ∷ more.0) codings more.2)
-    (h x d a one.0 (coding-is w frame p tables x d a one.0 one.1),
-    codings-each P w frame p tables indices ds ks more.0 more.1 h)
+    subst (AllByRecursion P) (ok-same (one.0 ∷ more.0) codings more.2) (
+      h x d a one.0 (coding-is w frame p tables x d a one.0 one.1),
+      codings-each P w frame p tables indices ds ks more.0 more.1 h,
+    )
 codings-each P w frame p tables indices ds ks codings e h = subst (AllByRecursion P) (ok-same [] codings e) tt
 
 pub codings-indices : (w : Found) (frame : Frame) (p : Pass) (tables : Tables) (indices ds ks : List ℕ)
