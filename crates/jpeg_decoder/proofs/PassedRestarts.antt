@@ -10,7 +10,7 @@ use Rattle.jpeg_streams.specs.ScanSegments.{after_restarts}
 use Rattle.jpeg_decoder.specs.Steps.{is_restart_marker, after_all}
 use Rattle.jpeg_streams.proofs.Shorter.{LeavesBelow, below-at, marker-below}
 
-pub bind-same : {A B : Type 0} (r : Result A Fault) (f g : A → Result B Fault) → ((x : A) → r ≡ Ok x → f x ≡ g x)
+bind-same : {A B : Type 0} (r : Result A Fault) (f g : A → Result B Fault) → ((x : A) → r ≡ Ok x → f x ≡ g x)
     → r >>= f ≡ r >>= g
 bind-same r f g h = grind (arith, common_steps)
 

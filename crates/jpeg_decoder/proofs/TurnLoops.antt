@@ -1,6 +1,5 @@
 -- A loop over the segments of a stream, a turn at a time.
-use Rattle.std.proofs.Common.{◌≡◌, ◌+◌, ◌-◌, ℕ, ◌<◌, suc, Err, Bool, true, false, Option, None, ap, ◌∙◌, length, arith}
-use Rattle.std.proofs.Common.{Ok}
+use Rattle.std.proofs.Common.{◌≡◌, ◌+◌, ◌-◌, ℕ, ◌<◌, suc, Err, Bool, true, false, Option, None, Ok, ap, ◌∙◌, length, arith}
 use Rattle.std.specs.Prelude.{◌&&◌, is_some}
 use Rattle.jpeg_bits.specs.Reading.{Answers}
 use Rattle.jpeg_bits.specs.Stream.{Stream}

@@ -1,27 +1,14 @@
 -- A header that was sized, and then the rest of its stream, are the picture of the stream.
-use Rattle.std.proofs.Common.{◌≡◌, ◌∙◌, ℕ, List, Result, Ok, Err, Option, Some, None, ap, option_map, refl}
-use Rattle.jpeg_bits.specs.Reading.{Fault, Outcome}
+use Rattle.std.proofs.Common.{◌≡◌, ◌∙◌, ℕ, List, Ok, Option, Some, None, ap, option_map, refl}
 use Rattle.jpeg_streams.specs.Output.{default_settings}
 use Rattle.jpeg_streams.specs.Pixels.{info_of}
 use Rattle.jpeg_streams.specs.Stream.{Told, header_at, rest_at, sized_header_at, sized_meaning, sized_to}
 use Rattle.jpeg_streams.specs.Found.{Found}
-use Rattle.jpeg_streams.proofs.ReadTurns.{then-ok}
-use Rattle.jpeg_decoder.proofs.Headers.{bind-ok}
+use Rattle.jpeg_streams.proofs.ReadTurns.{bind-ok, ok-same, then-ok}
 use Rattle.jpeg_streams.specs.declared.images.ImageInfo.{ImageInfo}
 use Rattle.jpeg_programs.specs.ScaledPictures.{decoded, header_info, picture_at, picture_at_scale}
 use Rattle.jpeg_programs.specs.ScaledPictures.{requested_height, requested_width}
 use Rattle.jpeg_programs.specs.declared.pictures.Scale.{Scale}
-
-value_or : {Y : Type 0} → Y → Result Y Fault → Y
-value_or d (Ok y) = y
-value_or d (Err f) = d
-
-same-value : {Y : Type 0} (x y : Y) → ◌≡◌ {A = Result Y Fault} (Ok x) (Ok y) → x ≡ y
-unfolding value_or
-same-value x y e = ap (value_or x) e
-
-abbrev rest_after : ℕ → ℕ → Found × List ℕ → Outcome (Told × List ℕ)
-rest_after width height header = rest_at default_settings (sized_to width height header.0) header.1
 
 sized-rest : (width height : ℕ) (bytes rest : List ℕ) (found : Found) → sized_header_at width height bytes ≡ Ok (
   found,
@@ -30,9 +17,9 @@ sized-rest : (width height : ℕ) (bytes rest : List ℕ) (found : Found) → si
     → sized_meaning width height default_settings bytes ≡ rest_at default_settings found rest
 unfolding sized_header_at sized_meaning
 sized-rest width height bytes rest found e =
-    bind-ok (header_at bytes) _ (found, rest) e (λ header is e1.
-    let same = same-value (sized_to width height header.0, header.1) (found, rest) e1 in
-    then-ok (header_at bytes) _ header _ is (ap (λ (p : Found × List ℕ). rest_at default_settings p.0 p.1) same))
+    let s = bind-ok (header_at bytes) _ (found, rest) e in
+    let same = ok-same (sized_to width height s.0.0, s.0.1) (found, rest) s.2 in
+    then-ok (header_at bytes) _ s.0 _ s.1 (ap (λ (p : Found × List ℕ). rest_at default_settings p.0 p.1) same)
 
 -- what is said of a frame and its precision are those of a picture
 of_frame : {F : Type 0} (frame : Option F) (said : F → ImageInfo) (bits : F → ℕ) (pixels : List ℕ) (info : ImageInfo)
