@@ -25,7 +25,7 @@ use Rattle.jpeg_streams.specs.Found.{Found}
 use Rattle.jpeg_decoder.specs.Steps.{AreRising, HasIndex, HasScale, IsCodingOf, IsDct, IsReadable}
 use Rattle.jpeg_decoder.specs.Steps.{coding_in, codings_in_force}
 use Rattle.jpeg_decoder.specs.Steps.{with_decoded}
-use Rattle.jpeg_streams.proofs.ReadTurns.{codings-each, codings-indices, codings-same_from, first-drop, tables-same}
+use Rattle.jpeg_streams.proofs.ReadTurns.{codings-each, codings-indices, first-drop}
 use Rattle.jpeg_streams.proofs.OwnSpots.{At}
 use Rattle.jpeg_segments.proofs.ScaleLemmas.{sized_frames_have_factors}
 use Rattle.jpeg_streams.proofs.Soundness.{count-few, decoded-count, decoded-fits, decoded-sized}
@@ -35,7 +35,7 @@ use Rattle.jpeg_streams.proofs.WrittenFrameScans.{at-all}
 pub codings-kept : (found : Found) (d : Decoded) (frame : Frame) (header : headers.Scan)
     → codings_in_force (with_decoded found d) frame header ≡ codings_in_force found frame header
 unfolding codings_from component_coding tables_of
-codings-kept found d frame header = grind (arith, common_steps, tables-same, codings-same_from)
+codings-kept found d frame header = refl
 
 -- ---- the pass of a scan
 

@@ -36,8 +36,8 @@ use Rattle.jpeg_streams.specs.WrittenLossless.{Samples, StandsInLossless, Writes
 use Rattle.jpeg_streams.specs.WrittenLossless.{WritesSamplesScan, closed}
 use Rattle.jpeg_streams.specs.InTurn.{IsIn}
 use Rattle.jpeg_streams.specs.WrittenLossless.{said_after_scan, scan, segment}
-use Rattle.jpeg_streams.proofs.ReadTurns.{frame-or, frame-stays as unchanged, segment-tail, scan-tail, some-none}
-use Rattle.jpeg_streams.proofs.ReadTurns.{then-ok, turn-end, turn-on, head-on, head-end, frame-turn, segment-read}
+use Rattle.jpeg_streams.proofs.ReadTurns.{frame-or, frame-stays, is-other, scan-tail, segment-turn, some-none}
+use Rattle.jpeg_streams.proofs.ReadTurns.{then-ok, turn-end, turn-on, head-on, head-end}
 use Rattle.jpeg_streams.proofs.ReadTurns.{marker-turn, StandsAt, stands-here, stands-met, end-turn, scan-turn, Starts}
 use Rattle.jpeg_streams.proofs.ReadTurns.{segment-starts, scan-starts, end-starts, marker-longer, scan-longer}
 use Rattle.jpeg_streams.proofs.LosslessFrames.{IsShaped, header-shaped}
@@ -135,16 +135,9 @@ all-in P (k ∷ ks) sent h e = (one-kept P k sent h e.0, all-in P ks sent h e.1)
 
 -- ---- segments
 
-segment-kept : (before : Before) (said : Found) (decided : List (Option (List ℕ))) (s : Segment)
-    (rest : List ℕ)
-    → StandsInLossless said s
-    → segment_at (marker_for s) before (and_samples said decided)
-    (with_length (payload_of s) ++ rest) ≡ Ok (
-      onward (and_samples (found_after said s) decided),
-      rest,
-    )
-segment-kept before said decided s rest may =
-    grind (arith, common_steps, frame-turn, and_samples, segment-read)
+said-beside : (said : Found) (decided : List (Option (List ℕ))) (s : Segment)
+    → found_after (and_samples said decided) s ≡ and_samples (found_after said s) decided
+said-beside said decided s = search rules
 
 -- ---- what begins with a marker
 
@@ -251,11 +244,8 @@ segment-next samples rest turns said final sent fill s more may again before dec
     (more ++ rest) rest
     (turn-on turns before (and_samples said decided) met all (more ++ rest)
     (onward (and_samples (found_after said s) decided))
-    (stands.turn before (and_samples said decided) ∙ ap (turn_at before (and_samples said decided) None)
-    (segment-tail fill (marker_code s) (with_length (payload_of s)) more rest)
-    ∙ marker-turn before (and_samples said decided) fill (marker_code s) (marker_for s)
-    (with_length (payload_of s) ++ (more ++ rest)) (segment-marker said.frame s may.0.0)
-    ∙ segment-kept before said decided s (more ++ rest) may) refl)
+    (segment-turn before (and_samples said decided) _ s met all fill more rest may.0 (said-beside said decided s) stands)
+    refl)
     (again Elsewhere decided None (more ++ rest) (segment-said said s may is) four kept
     (stands-here (more ++ rest)))
 
@@ -426,15 +416,11 @@ samples-refused settings samples bytes rest final frame w framed over =
 
 -- ---- the frame
 
-frame-stays : (said : Found) (s : Segment) (frame : Frame) → StandsInLossless said s → said.frame ≡ Some frame
-    → (found_after said s).frame ≡ Some frame
-frame-stays said s frame may e = grind (arith, common_steps, some-none)
-
 pub final-framed : (samples : Samples) (frame : Frame) (said : Found) (sent bytes : List ℕ) (final : Found)
     → Writes samples said sent bytes final → said.frame ≡ Some frame → final.frame ≡ Some frame
 final-framed samples frame said sent bytes final (closed said' sent' f fill framed lossless all) e = e
 final-framed samples frame said sent bytes final (segment said' final' sent' fill s more may w) e =
-    final-framed samples frame (found_after said s) sent more final w (frame-stays said s frame may e)
+    final-framed samples frame (found_after said s) sent more final w (frame-stays said s (is-other said frame s e may.0) ∙ e)
 final-framed samples frame said sent bytes final (scan said' final' sent' f fill h data_bytes more framed lossless is
     data_of w) e =
     final-framed samples frame (said_after_scan said) _ more final w e
@@ -482,12 +468,8 @@ header-read samples rest decided (suc turns) before said sent bytes final (segme
     = head-on turns before (and_samples said decided) None (marker fill (marker_code s)
     (with_length (payload_of s) ++ more)
     ++ rest) (more ++ rest) (onward (and_samples (found_after said s) decided)) e
-    (ap (turn_at before (and_samples said decided) None) (segment-tail fill (marker_code s)
-    (with_length (payload_of s)) more
-    rest)
-    ∙ marker-turn before (and_samples said decided) fill (marker_code s) (marker_for s)
-    (with_length (payload_of s) ++ (more ++ rest)) (segment-marker said.frame s may.0.0)
-    ∙ segment-kept before said decided s (more ++ rest) may) refl in
+    (segment-turn before (and_samples said decided) _ s None _ fill more rest may.0 (said-beside said decided s)
+    (stands-here _)) refl in
     frame-or s
     (λ number h f.
     let framed : (found_after said s).frame ≡ Some (frame_written number h) =
@@ -503,7 +485,7 @@ header-read samples rest decided (suc turns) before said sent bytes final (segme
     })
     (λ other.
     let r = header-read samples rest decided turns Elsewhere (found_after said s) sent more final w shorter next
-    (unchanged said s other ∙ e) in
+    (frame-stays said s other ∙ e) in
     record {
       between = r.between;
       frame = r.frame;
