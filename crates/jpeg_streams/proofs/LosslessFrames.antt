@@ -1,5 +1,5 @@
 -- A lossless frame header that is written is accepted.
-use Rattle.std.proofs.Common.{rules, ◌≡◌, ℕ, ◌≤◌, ◌<◌, true, false, List, [], ◌∷◌, ◌++◌, length, Ok}
+use Rattle.std.proofs.Common.{rules, ◌≡◌, ℕ, ◌≤◌, ◌<◌, List, [], ◌∷◌, ◌++◌, length, Ok}
 use Rattle.std.specs.List.{AllByRecursion}
 use Rattle.std.proofs.lemmas.Bool.{le-leb, and_from as both-true}
 use Rattle.jpeg_segments.specs.Frame.{Factors, Frame, IsInRange, frame_of}

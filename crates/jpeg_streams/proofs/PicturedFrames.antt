@@ -5,7 +5,7 @@ use Rattle.std.proofs.lemmas.Grind.{common_steps}
 use Rattle.std.proofs.lemmas.Bool.{eq-eqb, or_left}
 use Rattle.std.specs.List.{AllByRecursion}
 use Rattle.jpeg_pixels.specs.Pictures.{Source, sources_of}
-use Rattle.jpeg_segments.specs.Frame.{component_of, Factors, Frame, frame_of, greatest}
+use Rattle.jpeg_segments.specs.Frame.{component_of, Factors, frame_of, greatest}
 use Rattle.jpeg_segments.specs.WrittenSegments.{FrameHeader, frame_written}
 use Rattle.jpeg_streams.specs.AcceptedFrames.{HasPicture, IsUpsampled}
 use Rattle.jpeg_streams.specs.Segments.{accepted, is_decoded_count, is_arithmetic, is_decoded_precision}

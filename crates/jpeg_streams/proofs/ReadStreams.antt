@@ -39,7 +39,7 @@ use Rattle.jpeg_streams.proofs.SaidTables.{HasTables, segment-tables}
 use Rattle.jpeg_streams.proofs.BroughtLevels.{Shaped, Framed, framed-start, scan-brings}
 use Rattle.jpeg_streams.proofs.FrameShapes.{Plain, all-shaped, frame-lossy}
 use Rattle.jpeg_streams.proofs.LosslessFrames.{all-ranged}
-use Rattle.jpeg_streams.proofs.WrittenMarkers.{marker-append, marker_for, segment-marker}
+use Rattle.jpeg_streams.proofs.WrittenMarkers.{marker-append}
 
 -- ---- a segment between scans
 

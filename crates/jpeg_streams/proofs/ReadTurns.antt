@@ -5,7 +5,6 @@ use Rattle.std.proofs.Common.{ap, ap₂, ◌∙◌, subst, arith, append_assoc, 
 use Rattle.std.proofs.lemmas.Grind.{common_steps}
 use Rattle.std.specs.List.{AllByRecursion}
 use Rattle.jpeg_bits.specs.Reading.{Fault, Malformed, ◌>>=◌}
-use Rattle.jpeg_bits.specs.Codes.{Table}
 use Rattle.jpeg_bits.specs.Marker.{marker_of, next_marker}
 use Rattle.jpeg_bits.specs.declared.marker.Marker.{Marker}
 use Rattle.jpeg_bits.specs.declared.marker.Marker.TheVariants.{EOI, SOF, SOS}
@@ -25,7 +24,7 @@ use Rattle.jpeg_bits.specs.Passes.{Pass}
 use Rattle.jpeg_streams.specs.Scans.{Arrays}
 use Rattle.jpeg_streams.specs.Needed.{first_of, needed}
 use Rattle.jpeg_streams.specs.ScanSegments.{component_coding, needed_if, Coding, tables_of, after_restarts, after_scan}
-use Rattle.jpeg_streams.specs.ScanSegments.{scan_arrays, codings_of, codings_from, pass_of, scan_segment, scan_before}
+use Rattle.jpeg_streams.specs.ScanSegments.{scan_arrays, codings_of, codings_from, scan_segment, scan_before}
 use Rattle.jpeg_streams.specs.ScanSegments.{blocks_scan}
 use Rattle.jpeg_streams.specs.Segments.{onward, Turn, application_segment, restart_segment, huffman_segment}
 use Rattle.jpeg_streams.specs.Segments.{quantization_segment, skipped_segment, frame_segment, accepted}
@@ -277,9 +276,10 @@ unfolding codings_from
 codings-each P w frame p tables (x ∷ indices) (d ∷ ds) (a ∷ ks) codings e h =
     let one = bind-ok (component_coding w frame p tables x d a) _ codings e in
     let more = bind-ok (codings_from w frame p tables indices ds ks) _ codings one.2 in
-    subst (AllByRecursion P) (ok-same (one.0 ∷ more.0) codings more.2)
-    (h x d a one.0 (coding-is w frame p tables x d a one.0 one.1),
-    codings-each P w frame p tables indices ds ks more.0 more.1 h)
+    subst (AllByRecursion P) (ok-same (one.0 ∷ more.0) codings more.2) (
+      h x d a one.0 (coding-is w frame p tables x d a one.0 one.1),
+      codings-each P w frame p tables indices ds ks more.0 more.1 h,
+    )
 codings-each P w frame p tables indices ds ks codings e h = subst (AllByRecursion P) (ok-same [] codings e) tt
 
 pub codings-indices : (w : Found) (frame : Frame) (p : Pass) (tables : Tables) (indices ds ks : List ℕ)
