@@ -2,7 +2,7 @@
 use Rattle.std.proofs.Common.{rules}
 use Rattle.std.proofs.lemmas.Grind.{common_steps}
 use Rattle.std.proofs.Common.{◌≡◌, ◌≤◌, ◌<◌, ◌+◌, ℕ, zero, suc, true, List, []}
-use Rattle.std.proofs.Common.{◌∷◌, length, map, drop, Some, Ok, sym, ap, subst, arith}
+use Rattle.std.proofs.Common.{◌∷◌, length, map, drop, Some, Ok, refl, sym, ap, subst, arith}
 use Rattle.std.specs.List.{AllByRecursion}
 use Rattle.std.proofs.lemmas.List.Elements.{All-from_recursion, recursion_from_All}
 use Rattle.jpeg_bits.specs.BlockView.{IsPass}
