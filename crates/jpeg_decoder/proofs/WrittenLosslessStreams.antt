@@ -28,7 +28,7 @@ use Rattle.jpeg_lossless.specs.Pictures.{lossless_picture}
 use Rattle.jpeg_streams.specs.SaidSegments.{found_after}
 use Rattle.jpeg_streams.specs.Segments.{onward}
 use Rattle.jpeg_streams.specs.Found.{nothing_found, Found}
-use Rattle.jpeg_streams.specs.Stream.{start_at, segment_at, turn_at, segments_within, segments_at}
+use Rattle.jpeg_streams.specs.Stream.{start_at, turn_at, segments_within, segments_at}
 use Rattle.jpeg_streams.specs.Stream.{header_at, rest_at, meaning, sized_meaning, sized_to, Told, told_of}
 use Rattle.jpeg_streams.specs.ScanSegments.{scan_before}
 use Rattle.jpeg_streams.specs.FoundPictures.{picture_of, samples_picture}
@@ -42,7 +42,7 @@ use Rattle.jpeg_streams.proofs.ReadTurns.{marker-turn, StandsAt, stands-here, st
 use Rattle.jpeg_streams.proofs.ReadTurns.{segment-starts, scan-starts, end-starts, marker-longer, scan-longer}
 use Rattle.jpeg_streams.proofs.LosslessFrames.{IsShaped, header-shaped}
 use Rattle.jpeg_streams.proofs.SaidTables.{HasTables, no-tables, segment-tables}
-use Rattle.jpeg_streams.proofs.WrittenMarkers.{marker-append, marker_for, segment-marker}
+use Rattle.jpeg_streams.proofs.WrittenMarkers.{marker-append}
 use Rattle.jpeg_decoder.proofs.WrittenSamples.{and_samples, components-of, indices_of, planes_for}
 use Rattle.jpeg_decoder.proofs.WrittenSamples.{scan-read}
 use Rattle.jpeg_decoder.proofs.WrittenSamples.{turn_after}
