@@ -1,8 +1,7 @@
 -- Scans that are ready to be read, by what was found before them.
-use Rattle.std.proofs.Common.{rules}
 use Rattle.std.proofs.lemmas.Grind.{common_steps}
-use Rattle.std.proofs.Common.{◌≡◌, ◌≤◌, ◌<◌, ◌+◌, ℕ, zero, suc, true, List, []}
-use Rattle.std.proofs.Common.{◌∷◌, length, map, drop, Some, Ok, sym, ap, subst, arith}
+use Rattle.std.proofs.Common.{◌≡◌, ◌≤◌, ◌<◌, ◌+◌, ℕ, true, List, []}
+use Rattle.std.proofs.Common.{◌∷◌, length, map, Ok, refl, sym, subst, arith}
 use Rattle.std.specs.List.{AllByRecursion}
 use Rattle.std.proofs.lemmas.List.Elements.{All-from_recursion, recursion_from_All}
 use Rattle.jpeg_bits.specs.BlockView.{IsPass}
@@ -19,14 +18,12 @@ use Rattle.jpeg_decoder.specs.declared.scan.Scan.{Scan}
 use Rattle.jpeg_streams.specs.InTurn.{Fits}
 use Rattle.jpeg_decoder.specs.Scanning.{components_in}
 use Rattle.jpeg_streams.specs.Sound.{IsDecodedFrame}
-use Rattle.jpeg_streams.specs.Needed.{first_of}
 use Rattle.jpeg_streams.specs.ScanSegments.{codings_from, component_coding, Coding, tables_of, pass_of}
 use Rattle.jpeg_streams.specs.Found.{Found}
 use Rattle.jpeg_decoder.specs.Steps.{AreRising, HasIndex, HasScale, IsCodingOf, IsDct, IsReadable}
 use Rattle.jpeg_decoder.specs.Steps.{coding_in, codings_in_force}
 use Rattle.jpeg_decoder.specs.Steps.{with_decoded}
-use Rattle.jpeg_streams.proofs.ReadTurns.{codings-each, codings-indices, codings-same_from, first-drop, tables-same}
-use Rattle.jpeg_streams.proofs.OwnSpots.{At}
+use Rattle.jpeg_streams.proofs.ReadTurns.{codings-each, codings-indices, first-drop}
 use Rattle.jpeg_segments.proofs.ScaleLemmas.{sized_frames_have_factors}
 use Rattle.jpeg_streams.proofs.Soundness.{count-few, decoded-count, decoded-fits, decoded-sized}
 use Rattle.jpeg_streams.proofs.WrittenFrameScans.{at-all}
@@ -35,7 +32,7 @@ use Rattle.jpeg_streams.proofs.WrittenFrameScans.{at-all}
 pub codings-kept : (found : Found) (d : Decoded) (frame : Frame) (header : headers.Scan)
     → codings_in_force (with_decoded found d) frame header ≡ codings_in_force found frame header
 unfolding codings_from component_coding tables_of
-codings-kept found d frame header = grind (arith, common_steps, tables-same, codings-same_from)
+codings-kept found d frame header = refl
 
 -- ---- the pass of a scan
 

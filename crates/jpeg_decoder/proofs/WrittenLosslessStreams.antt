@@ -28,7 +28,7 @@ use Rattle.jpeg_lossless.specs.Pictures.{lossless_picture}
 use Rattle.jpeg_streams.specs.SaidSegments.{found_after}
 use Rattle.jpeg_streams.specs.Segments.{onward}
 use Rattle.jpeg_streams.specs.Found.{nothing_found, Found}
-use Rattle.jpeg_streams.specs.Stream.{start_at, segment_at, segments_at, turn_at, walk}
+use Rattle.jpeg_streams.specs.Stream.{start_at, segments_at, turn_at, walk}
 use Rattle.jpeg_streams.specs.Stream.{header_at, rest_at, meaning, sized_meaning, sized_to, Told, told_of}
 use Rattle.jpeg_streams.specs.ScanSegments.{scan_before}
 use Rattle.jpeg_streams.specs.FoundPictures.{picture_of, samples_picture}
@@ -36,14 +36,15 @@ use Rattle.jpeg_streams.specs.WrittenLossless.{Samples, StandsInLossless, Writes
 use Rattle.jpeg_streams.specs.WrittenLossless.{WritesSamplesScan, closed}
 use Rattle.jpeg_streams.specs.InTurn.{IsIn}
 use Rattle.jpeg_streams.specs.WrittenLossless.{said_after_scan, scan, segment}
-use Rattle.jpeg_streams.proofs.ReadTurns.{frame-or, frame-stays as unchanged, segment-tail, scan-tail, some-none}
-use Rattle.jpeg_streams.proofs.ReadTurns.{then-ok, segments-walked, walk-end, walk-on, walk-stop, frame-turn, segment-read}
+use Rattle.jpeg_streams.proofs.ReadTurns.{frame-or, scan-tail, some-none, then-ok, segments-walked}
+use Rattle.jpeg_streams.proofs.ReadTurns.{walk-end, walk-on, walk-stop, frame-stays, is-other}
+use Rattle.jpeg_streams.proofs.ReadTurns.{segment-turn}
 use Rattle.jpeg_streams.proofs.ReadTurns.{marker-turn, StandsAt, stands-here, stands-met, end-turn, scan-turn, Starts}
 use Rattle.jpeg_streams.proofs.ReadTurns.{segment-starts, scan-starts, end-starts, marker-longer, scan-longer}
 use Rattle.jpeg_streams.proofs.LosslessFrames.{IsShaped, header-shaped}
 use Rattle.jpeg_streams.proofs.SaidTables.{HasTables, no-tables, segment-tables}
 use Rattle.jpeg_streams.proofs.WrittenPictures.{rest-by}
-use Rattle.jpeg_streams.proofs.WrittenMarkers.{marker-append, marker_for, segment-marker}
+use Rattle.jpeg_streams.proofs.WrittenMarkers.{marker-append}
 use Rattle.jpeg_decoder.proofs.WrittenSamples.{and_samples, components-of, indices_of, planes_for}
 use Rattle.jpeg_decoder.proofs.WrittenSamples.{scan-read}
 use Rattle.jpeg_decoder.proofs.WrittenSamples.{turn_after}
@@ -136,16 +137,9 @@ all-in P (k ∷ ks) sent h e = (one-kept P k sent h e.0, all-in P ks sent h e.1)
 
 -- ---- segments
 
-segment-kept : (before : Before) (said : Found) (decided : List (Option (List ℕ))) (s : Segment)
-    (rest : List ℕ)
-    → StandsInLossless said s
-    → segment_at (marker_for s) before (and_samples said decided)
-    (with_length (payload_of s) ++ rest) ≡ Ok (
-      onward (and_samples (found_after said s) decided),
-      rest,
-    )
-segment-kept before said decided s rest may =
-    grind (arith, common_steps, frame-turn, and_samples, segment-read)
+said-beside : (said : Found) (decided : List (Option (List ℕ))) (s : Segment)
+    → found_after (and_samples said decided) s ≡ and_samples (found_after said s) decided
+said-beside said decided s = search rules
 
 -- ---- what begins with a marker
 
@@ -252,11 +246,8 @@ segment-next samples rest turns said final sent fill s more may again before dec
     (more ++ rest) rest
     (walk-on turns false before (and_samples said decided) met all (more ++ rest)
     (onward (and_samples (found_after said s) decided)) refl
-    (stands.turn before (and_samples said decided) ∙ ap (turn_at before (and_samples said decided) None)
-    (segment-tail fill (marker_code s) (with_length (payload_of s)) more rest)
-    ∙ marker-turn before (and_samples said decided) fill (marker_code s) (marker_for s)
-    (with_length (payload_of s) ++ (more ++ rest)) (segment-marker said.frame s may.0.0)
-    ∙ segment-kept before said decided s (more ++ rest) may) refl)
+    (segment-turn before (and_samples said decided) _ s met all fill more rest may.0 (said-beside said decided s) stands)
+    refl)
     (again Elsewhere decided None (more ++ rest) (segment-said said s may is) four kept
     (stands-here (more ++ rest)))
 
@@ -428,15 +419,11 @@ samples-refused settings samples bytes rest final frame w framed over =
 
 -- ---- the frame
 
-frame-stays : (said : Found) (s : Segment) (frame : Frame) → StandsInLossless said s → said.frame ≡ Some frame
-    → (found_after said s).frame ≡ Some frame
-frame-stays said s frame may e = grind (arith, common_steps, some-none)
-
 pub final-framed : (samples : Samples) (frame : Frame) (said : Found) (sent bytes : List ℕ) (final : Found)
     → Writes samples said sent bytes final → said.frame ≡ Some frame → final.frame ≡ Some frame
 final-framed samples frame said sent bytes final (closed said' sent' f fill framed lossless all) e = e
 final-framed samples frame said sent bytes final (segment said' final' sent' fill s more may w) e =
-    final-framed samples frame (found_after said s) sent more final w (frame-stays said s frame may e)
+    final-framed samples frame (found_after said s) sent more final w (frame-stays said s (is-other said frame s e may.0) ∙ e)
 final-framed samples frame said sent bytes final (scan said' final' sent' f fill h data_bytes more framed lossless is
     data_of w) e =
     final-framed samples frame (said_after_scan said) _ more final w e
@@ -484,12 +471,8 @@ header-read samples rest decided (suc turns) before said sent bytes final (segme
     = walk-on turns true before (and_samples said decided) None (marker fill (marker_code s)
     (with_length (payload_of s) ++ more)
     ++ rest) (more ++ rest) (onward (and_samples (found_after said s) decided)) (ap is_some e)
-    (ap (turn_at before (and_samples said decided) None) (segment-tail fill (marker_code s)
-    (with_length (payload_of s)) more
-    rest)
-    ∙ marker-turn before (and_samples said decided) fill (marker_code s) (marker_for s)
-    (with_length (payload_of s) ++ (more ++ rest)) (segment-marker said.frame s may.0.0)
-    ∙ segment-kept before said decided s (more ++ rest) may) refl in
+    (segment-turn before (and_samples said decided) _ s None _ fill more rest may.0 (said-beside said decided s)
+    (stands-here _)) refl in
     frame-or s
     (λ number h f.
     let framed : (found_after said s).frame ≡ Some (frame_written number h) =
@@ -505,7 +488,7 @@ header-read samples rest decided (suc turns) before said sent bytes final (segme
     })
     (λ other.
     let r = header-read samples rest decided turns Elsewhere (found_after said s) sent more final w shorter next
-    (unchanged said s other ∙ e) in
+    (frame-stays said s other ∙ e) in
     record {
       between = r.between;
       frame = r.frame;

@@ -1,29 +1,21 @@
 -- A lossless frame header that is written is accepted.
-use Rattle.std.proofs.Common.{rules, ◌≡◌, ℕ, ◌≤◌, ◌<◌, true, false, List, [], ◌∷◌, ◌++◌, length, Ok}
+use Rattle.std.proofs.Common.{rules, ◌≡◌, ℕ, ◌≤◌, ◌<◌, List, [], ◌∷◌, ◌++◌, length, Ok}
 use Rattle.std.specs.List.{AllByRecursion}
 use Rattle.std.proofs.lemmas.Bool.{le-leb, and_from as both-true}
 use Rattle.jpeg_segments.specs.Frame.{Factors, Frame, IsInRange, frame_of}
 use Rattle.jpeg_segments.specs.WrittenSegments.{AreComponents, FrameHeader, IsFrameHeader}
 use Rattle.jpeg_segments.specs.WrittenSegments.{frame_written}
-use Rattle.jpeg_streams.specs.Segments.{accepted, is_arithmetic, is_decoded_precision}
+use Rattle.jpeg_streams.specs.Segments.{accepted}
 use Rattle.jpeg_streams.specs.AcceptedFrames.{HasSamples}
 use Rattle.jpeg_streams.proofs.LosslessSizes.{IsMade, frames-made}
 use Rattle.jpeg_streams.proofs.FrameShapes.{accepted-few}
-use Rattle.jpeg_streams.proofs.PicturedFrames.{accepted-by, header-count, header-sources}
+use Rattle.jpeg_streams.proofs.PicturedFrames.{accepted-by}
 
 -- ---- frames
 
-header-process : (h : FrameHeader) → HasSamples 3 h
-    → ((frame_written 3 h).is_differential ≡ false) × (is_arithmetic (frame_written 3 h).coding ≡ false)
-    × (is_decoded_precision (frame_written 3 h).process (frame_written 3 h).precision ≡ true)
-unfolding frame_of
-header-process h p = search (rules, both-true, le-leb)
-
 pub lossless-accepted : (h : FrameHeader) → HasSamples 3 h → accepted (frame_written 3 h) ≡ Ok (frame_written 3 h)
-lossless-accepted h p =
-    let s = header-sources 3 h p.upsampled in
-    let f = header-process h p in
-    accepted-by (frame_written 3 h) s.0 f.0 f.1 f.2 (header-count 3 h p.counted) s.1
+unfolding frame_of
+lossless-accepted h p = search (rules, accepted-by, both-true, le-leb)
 
 -- A frame with lines and columns, whose components have their sizes, and whose picture is as large.
 pub record IsShaped (frame : Frame) : Type 0 where

@@ -5,7 +5,7 @@ use Rattle.std.proofs.lemmas.Grind.{common_steps}
 use Rattle.std.proofs.lemmas.Bool.{eq-eqb, or_left}
 use Rattle.std.specs.List.{AllByRecursion}
 use Rattle.jpeg_pixels.specs.Pictures.{Source, sources_of}
-use Rattle.jpeg_segments.specs.Frame.{component_of, Factors, Frame, frame_of, greatest}
+use Rattle.jpeg_segments.specs.Frame.{component_of, Factors, frame_of, greatest}
 use Rattle.jpeg_segments.specs.WrittenSegments.{FrameHeader, frame_written}
 use Rattle.jpeg_streams.specs.AcceptedFrames.{HasPicture, IsUpsampled}
 use Rattle.jpeg_streams.specs.Segments.{accepted, is_decoded_count, is_arithmetic, is_decoded_precision}
@@ -23,13 +23,7 @@ all-made P width height h v (x ∷ xs) u = (u.0, all-made P width height h v xs 
 
 -- ---- frames
 
-pub accepted-by : (f : Frame) (sources : List Source) → f.is_differential ≡ false → is_arithmetic f.coding ≡ false
-    → is_decoded_precision f.process f.precision ≡ true → is_decoded_count (length f.components) ≡ true
-    → sources_of f.components f.output_width f.output_height ≡ Ok sources → accepted f ≡ Ok f
-unfolding accepted
-accepted-by f sources a b c d e = search (rules, then-ok)
-
-pub header-sources : (number : ℕ) (h : FrameHeader) → AllByRecursion (IsUpsampled h) h.components
+header-sources : (number : ℕ) (h : FrameHeader) → AllByRecursion (IsUpsampled h) h.components
     → (sources : List Source)
     × (sources_of (frame_written number h).components (frame_written number h).output_width
     (frame_written number h).output_height ≡ Ok sources)
@@ -43,22 +37,25 @@ header-sources number h p =
     (search (rules, all-made)) in
     grind arith
 
-pub header-count : (number : ℕ) (h : FrameHeader)
+header-count : (number : ℕ) (h : FrameHeader)
     → (length h.components ≡ 1) ⊎ ((length h.components ≡ 3) ⊎ (length h.components ≡ 4))
     → is_decoded_count (length (frame_written number h).components) ≡ true
 unfolding frame_of
 header-count number h p = grind (arith, common_steps, or_left, eq-eqb)
 
--- SOF0 to SOF2 are neither differential nor arithmetic, and are decoded at 8 bits.
-header-process : (number : ℕ) (h : FrameHeader) → number ≤ 2 → HasPicture h
-    → ((frame_written number h).is_differential ≡ false) × (is_arithmetic (frame_written number h).coding ≡ false)
-    × (is_decoded_precision (frame_written number h).process (frame_written number h).precision ≡ true)
-unfolding frame_of
-header-process number h le p = search (rules, eq-eqb)
+pub accepted-by : (number : ℕ) (h : FrameHeader) → (frame_written number h).is_differential ≡ false
+    → is_arithmetic (frame_written number h).coding ≡ false
+    → is_decoded_precision (frame_written number h).process (frame_written number h).precision ≡ true
+    → (length h.components ≡ 1) ⊎ ((length h.components ≡ 3) ⊎ (length h.components ≡ 4))
+    → AllByRecursion (IsUpsampled h) h.components → accepted (frame_written number h) ≡ Ok (frame_written number h)
+unfolding accepted
+accepted-by number h plain huffman precise counted upsampled =
+    let s = header-sources number h upsampled in
+    let count = header-count number h counted in
+    search (rules, then-ok)
 
+-- SOF0 to SOF2 are neither differential nor arithmetic, and are decoded at 8 bits.
 pub header-accepted : (number : ℕ) (h : FrameHeader) → number ≤ 2 → HasPicture h
     → accepted (frame_written number h) ≡ Ok (frame_written number h)
-header-accepted number h le p =
-    let s = header-sources number h p.upsampled in
-    let f = header-process number h le p in
-    accepted-by (frame_written number h) s.0 f.0 f.1 f.2 (header-count number h p.counted) s.1
+unfolding frame_of
+header-accepted number h le p = search (rules, accepted-by, eq-eqb)

@@ -23,9 +23,9 @@ use Rattle.jpeg_streams.specs.WholeImages.{AllComplete}
 use Rattle.jpeg_streams.specs.WrittenImages.{Writes, closed, segment, scan, WritesImage, MayFollow, IsDctSegment}
 use Rattle.jpeg_streams.proofs.ReadStates.{reading, PlaneSo, indices_of}
 use Rattle.jpeg_streams.proofs.ReadTurns.{StandsAt, stands-here, stands-met, Walked, walk-stop}
-use Rattle.jpeg_streams.proofs.ReadTurns.{walk-end, walk-on, scan-by, codings-same, segment-read}
-use Rattle.jpeg_streams.proofs.ReadTurns.{frame-turn, end-turn}
-use Rattle.jpeg_streams.proofs.ReadTurns.{scan-turn, marker-turn, segment-tail, scan-tail, marker-longer, scan-longer}
+use Rattle.jpeg_streams.proofs.ReadTurns.{walk-end, walk-on, scan-by, codings-same, end-turn}
+use Rattle.jpeg_streams.proofs.ReadTurns.{scan-turn, marker-turn, scan-tail, marker-longer}
+use Rattle.jpeg_streams.proofs.ReadTurns.{scan-longer, segment-turn}
 use Rattle.jpeg_streams.proofs.ReadTurns.{writes-starts, frame-or, frame-stays, is-other, same-frame, some-none}
 use Rattle.jpeg_segments.specs.ScanHeaders.{IsScan, ScanHeader, scan_payload, scan_written}
 use Rattle.jpeg_segments.specs.WrittenSegments.{with_length, Segment, Quantization, Huffman}
@@ -39,7 +39,7 @@ use Rattle.jpeg_streams.proofs.SaidTables.{HasTables, segment-tables}
 use Rattle.jpeg_streams.proofs.BroughtLevels.{Shaped, Framed, framed-start, scan-brings}
 use Rattle.jpeg_streams.proofs.FrameShapes.{Plain, all-shaped, frame-lossy}
 use Rattle.jpeg_streams.proofs.LosslessFrames.{all-ranged}
-use Rattle.jpeg_streams.proofs.WrittenMarkers.{marker-append, marker_for, segment-marker}
+use Rattle.jpeg_streams.proofs.WrittenMarkers.{marker-append}
 
 -- ---- a segment between scans
 
@@ -117,6 +117,10 @@ no_planes = replicate 4 None
 abbrev pub unread : Found → Found
 unread w = reading w false [] nothing_finished no_planes
 
+said-beside : (w : Found) (s : Segment) (sc : Bool) (h : Arrays) (fi : List (List Bool)) (pl : List (Option (List ℕ)))
+    → found_after (reading w sc h fi pl) s ≡ reading (found_after w s) sc h fi pl
+said-beside w s sc h fi pl = search rules
+
 -- What is found up to the frame, and what stands after it, where whoever wants more goes on.
 pub record ReadHeader (array : Coefficients) (tail : List ℕ) (final : Found) (last : ℕ → Levels)
     (header whole : Walked) : Type 0 where
@@ -139,20 +143,6 @@ module _ (array : Coefficients) (tail : List ℕ) (final : Found) (last : ℕ �
       → ReadTo f array tail final last other → ReadTo f array tail final last one
   read-to f one other e r = record { end = r.end; is = e ∙ r.is }
 
-  segment-turn : (bf : Before) (w : Found) (s : Segment) (sc : Bool) (h : Arrays) (fi : List (List Bool))
-      (pl : List (Option (List ℕ))) (met : Option Marker) (all : List ℕ) (fill : ℕ) (more : List ℕ)
-      → Stands w s → StandsAt met all (marker fill (marker_code s) (with_length (payload_of s) ++ more) ++ tail)
-      → turn_at bf (reading w sc h fi pl) met all ≡ Ok (onward (reading (found_after w s) sc h fi pl), more ++ tail)
-  segment-turn bf w s sc h fi pl met all fill more may at =
-      let now = reading w sc h fi pl in
-      at.turn bf now
-      ∙ ap (turn_at bf now None) (segment-tail fill (marker_code s) (with_length (payload_of s))
-      more tail)
-      ∙ marker-turn bf now fill (marker_code s) (marker_for s) (with_length (payload_of s) ++ (more
-      ++ tail))
-      (segment-marker w.frame s may.0)
-      ∙ (search (rules, segment-read, frame-turn))
-
   pub reads-scans : (f : Frame) (w : Found) (levels : ℕ → Levels)
       (sc : Bool) (bytes : List ℕ) (h : Arrays) (fi : List (List Bool)) (pl : List (Option (List ℕ)))
       (turns : ℕ) (bf : Before) (met : Option Marker) (all : List ℕ)
@@ -169,7 +159,7 @@ module _ (array : Coefficients) (tail : List ℕ) (final : Found) (last : ℕ �
       let other = is-other w f s e may in
       read-to f _ _
       (walk-on turns false bf (reading w sc h fi pl) met all (more ++ tail) (onward (reading (found_after w s) sc h fi pl))
-      refl (segment-turn bf w s sc h fi pl met all fill more may at) refl)
+      refl (segment-turn bf (reading w sc h fi pl) _ s met all fill more tail may (said-beside w s sc h fi pl) at) refl)
       (reads-scans f (found_after w s) levels sc more h fi pl turns Elsewhere None (more ++ tail)
       range shape (segment-tables w s may.0 good) (frame-stays w s other ∙ e) none
       (framed-next w s f array levels sc h fi pl follows none fr) r (stands-here (more ++ tail))
@@ -273,8 +263,8 @@ module _ (array : Coefficients) (tail : List ℕ) (final : Found) (last : ℕ �
       let next = onward (unread (found_after w s)) in
       let shorter = marker-longer fill (marker_code s) turns (with_length (payload_of s)) more room
       in
-      let turn = segment-turn Elsewhere w s false [] nothing_finished no_planes None all fill more may
-      (stands-here all) in
+      let turn = segment-turn Elsewhere (unread w) (unread (found_after w s)) s None all fill more tail may
+      (said-beside w s false [] nothing_finished no_planes) (stands-here all) in
       header-by _ _ _ _
       (walk-on turns true Elsewhere (unread w) None all (more ++ tail) next (ap is_some none) turn refl)
       (walk-on turns false Elsewhere (unread w) None all (more ++ tail) next refl turn refl) (frame-or s

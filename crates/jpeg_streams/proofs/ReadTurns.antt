@@ -6,7 +6,6 @@ use Rattle.std.proofs.Common.{ap, ap₂, ◌∙◌, subst, arith, append_assoc, 
 use Rattle.std.proofs.lemmas.Grind.{common_steps}
 use Rattle.std.specs.List.{AllByRecursion}
 use Rattle.jpeg_bits.specs.Reading.{Fault, Malformed, Outcome, ◌>>=◌}
-use Rattle.jpeg_bits.specs.Codes.{Table}
 use Rattle.jpeg_bits.specs.Marker.{marker_of, next_marker}
 use Rattle.jpeg_bits.specs.declared.marker.Marker.{Marker}
 use Rattle.jpeg_bits.specs.declared.marker.Marker.TheVariants.{EOI, SOF, SOS}
@@ -27,7 +26,7 @@ use Rattle.jpeg_streams.specs.Scans.{Arrays}
 use Rattle.jpeg_segments.specs.Checks.{needed}
 use Rattle.jpeg_streams.specs.Needed.{first_of}
 use Rattle.jpeg_streams.specs.ScanSegments.{component_coding, needed_if, Coding, tables_of, after_restarts, after_scan}
-use Rattle.jpeg_streams.specs.ScanSegments.{scan_arrays, codings_of, codings_from, pass_of, scan_segment, scan_before}
+use Rattle.jpeg_streams.specs.ScanSegments.{scan_arrays, codings_of, codings_from, scan_segment, scan_before}
 use Rattle.jpeg_streams.specs.ScanSegments.{blocks_scan}
 use Rattle.jpeg_streams.specs.Segments.{onward, Turn, application_segment, restart_segment, huffman_segment}
 use Rattle.jpeg_streams.specs.Segments.{quantization_segment, skipped_segment, frame_segment, accepted}
@@ -204,6 +203,19 @@ pub frame-turn : (before : Before) (found : Found) (number : ℕ) (h : FrameHead
 unfolding segment_at frame_segment
 frame-turn before found number h rest may ok = grind (arith, common_steps, not-refused, read-on, sof-read)
 
+-- The turn of a segment that stands, where what else was found is kept beside what it says.
+pub segment-turn : (before : Before) (now next : Found) (s : Segment) (met : Option Marker) (all : List ℕ) (fill : ℕ)
+    (more tail : List ℕ) → Stands now s → found_after now s ≡ next
+    → StandsAt met all (marker fill (marker_code s) (with_length (payload_of s) ++ more) ++ tail)
+    → turn_at before now met all ≡ Ok (onward next, more ++ tail)
+segment-turn before now next s met all fill more tail may is at =
+    at.turn before now
+    ∙ ap (turn_at before now None) (segment-tail fill (marker_code s) (with_length (payload_of s)) more tail)
+    ∙ marker-turn before now fill (marker_code s) (marker_for s) (with_length (payload_of s) ++ (more ++ tail))
+    (segment-marker now.frame s may.0)
+    ∙ subst (λ (f : Found). segment_at (marker_for s) before now (with_length (payload_of s) ++ (more ++ tail))
+    ≡ Ok (onward f, more ++ tail)) is (search (rules, segment-read, frame-turn))
+
 pub frame-stays : (said : Found) (s : Segment) → IsOther s → (found_after said s).frame ≡ said.frame
 frame-stays said (Header number h) other = absurd other
 frame-stays said s other = refl
@@ -299,24 +311,10 @@ codings-indices w frame p tables (x ∷ indices) (d ∷ ds) (a ∷ ks) codings h
     (codings-indices w frame p tables indices ds ks more.0 (omega arith) (omega arith) more.1))
 codings-indices w frame p tables indices ds ks codings h g e = absurd (omega arith)
 
-pub codings-same_from : (w : Found) (sc : Bool) (h : Arrays) (fi : List (List Bool)) (pl : List (Option (List ℕ)))
-    (frame : Frame) (p : Pass) (tables : Tables) (indices ds ks : List ℕ)
-    → codings_from (reading w sc h fi pl) frame p tables indices ds ks ≡ codings_from w frame p
-    tables indices ds ks
-unfolding codings_from component_coding
-codings-same_from w sc h fi pl frame p tables (x ∷ indices) (d ∷ ds) (a ∷ ks) =
-    search (rules, codings-same_from w sc h fi pl frame p tables indices ds ks)
-codings-same_from w sc h fi pl frame p tables indices ds ks = refl
-
-pub tables-same : (w : Found) (sc : Bool) (h : Arrays) (fi : List (List Bool)) (pl : List (Option (List ℕ))) (s : Scan)
-    → tables_of (reading w sc h fi pl) s ≡ tables_of w s
-unfolding tables_of
-tables-same w sc h fi pl s = refl
-
 pub codings-same : (w : Found) (sc : Bool) (h : Arrays) (fi : List (List Bool)) (pl : List (Option (List ℕ)))
     (frame : Frame) (s : Scan) → codings_of (reading w sc h fi pl) frame s ≡ codings_of w frame s
-unfolding codings_of
-codings-same w sc h fi pl frame s = search (rules, tables-same, codings-same_from)
+unfolding codings_of codings_from component_coding tables_of
+codings-same w sc h fi pl frame s = refl
 
 -- ---- a scan
 

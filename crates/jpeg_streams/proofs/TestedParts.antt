@@ -2,7 +2,6 @@
 use Rattle.std.proofs.Common.{rules, ◌≡◌, ◌≢◌, ℕ, zero, suc, ◌+◌, ◌^◌, ◌<◌, ◌≤◌, ◌==◌, ◌&&◌, not, nat_lt, Bool, true}
 use Rattle.std.proofs.Common.{false, List, [], ◌∷◌, ◌++◌, map, length, drop, replicate, sum, Option, Some, None, Ok}
 use Rattle.std.proofs.Common.{is_some, ℤ, unsigned_abs, refl, sym, ap, arith, true≢false}
-use Rattle.std.proofs.lemmas.Grind.{common_steps}
 use Rattle.std.proofs.Math.Nat.{pow-le-pow_right}
 use Rattle.std.proofs.lemmas.Bool.{and_parts, cases_lt, eq-eqb, eqb-true, leb-true, ltb-true, ne_eqb}
 use Rattle.std.proofs.lemmas.Bool.Decides.{nat_tests}
@@ -18,7 +17,7 @@ use Rattle.jpeg_segments.specs.Frame.{Factors, Frame, is_count, is_factor, is_lo
 use Rattle.jpeg_segments.specs.Frame.{is_destination, is_precision}
 use Rattle.jpeg_segments.specs.Frame.{is_taken}
 use Rattle.jpeg_segments.specs.HuffmanTables.{greatest_destination, DefinedTable}
-use Rattle.jpeg_segments.specs.ScanHeader.{is_band, is_mcu, index_of, scan_of}
+use Rattle.jpeg_segments.specs.ScanHeader.{is_band, is_mcu, index_of}
 use Rattle.jpeg_segments.specs.ScanHeaders.{AreChoices, Choice, IsScan, ScanHeader, scan_written}
 use Rattle.jpeg_segments.specs.ScanHeaders.{selector_for}
 use Rattle.jpeg_segments.specs.WrittenSegments.{AreComponents, FrameHeader, IsFrameHeader}

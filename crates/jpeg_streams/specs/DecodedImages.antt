@@ -6,7 +6,7 @@ use Rattle.jpeg_bits.specs.declared.error.Error.{Error}
 use Rattle.jpeg_bits.specs.declared.error.Error.TheVariants.{OutOfMemory}
 use Rattle.jpeg_streams.specs.ArrayPictures.{picture_of_array}
 use Rattle.jpeg_streams.specs.Levels.{Is8Bit, Levels}
-use Rattle.jpeg_streams.specs.States.{Decoding, Stage, Fresh, HeaderRead, Finished, Failed}
+use Rattle.jpeg_streams.specs.States.{Decoding, Stage, Fresh, HeaderRead}
 use Rattle.jpeg_streams.specs.Stream.{header_at, sized_to, told_of}
 use Rattle.jpeg_streams.specs.Found.{Found}
 use Rattle.jpeg_streams.specs.WrittenImages.{WritesImage}
