@@ -1,5 +1,5 @@
 -- What the segments leave.
-use Rattle.std.proofs.Common.{rules, ◌≤◌, ◌<◌, ℕ, zero, suc, List, Bool, Option, Some}
+use Rattle.std.proofs.Common.{◌≤◌, ◌<◌, ℕ, zero, suc, List, Bool, Option, Some}
 use Rattle.std.proofs.Common.{None, length}
 use Rattle.jpeg_segments.specs.Frame.{Frame, Factors, size_at, factors_at, components_from, sof_at}
 use Rattle.jpeg_segments.specs.ScanHeader.{Selector, count_at, selector_at, selectors_from}
@@ -11,7 +11,7 @@ use Rattle.jpeg_segments.specs.Quantization as quantization
 use Rattle.jpeg_segments.specs.Quantization.{value_at, defined_table_at, dqt_at}
 use Rattle.jpeg_segments.specs.HuffmanTables as huffman
 use Rattle.jpeg_segments.specs.HuffmanTables.{defined_codes_at, dht_at}
-use Rattle.jpeg_streams.proofs.Shorter.{below_steps, LeavesBelow, below-ok, below-err, below-else}
+use Rattle.jpeg_streams.proofs.Shorter.{below_steps, LeavesBelow, below-ok, below-err}
 
 -- ---- frames
 
