@@ -1,5 +1,5 @@
 -- What the segments leave.
-use Rattle.std.proofs.Common.{◌≤◌, ◌<◌, ℕ, zero, suc, List, Bool, Option, Some}
+use Rattle.std.proofs.Common.{arith, ◌≤◌, ◌<◌, ℕ, zero, suc, List, Bool, Option, Some}
 use Rattle.std.proofs.Common.{None, length}
 use Rattle.jpeg_segments.specs.Frame.{Frame, Factors, size_at, factors_at, components_from, sof_at}
 use Rattle.jpeg_segments.specs.ScanHeader.{Selector, count_at, selector_at, selectors_from}
@@ -11,7 +11,8 @@ use Rattle.jpeg_segments.specs.Quantization as quantization
 use Rattle.jpeg_segments.specs.Quantization.{value_at, defined_table_at, dqt_at}
 use Rattle.jpeg_segments.specs.HuffmanTables as huffman
 use Rattle.jpeg_segments.specs.HuffmanTables.{defined_codes_at, dht_at}
-use Rattle.jpeg_streams.proofs.Shorter.{below_steps, LeavesBelow, below-ok, below-err}
+use Rattle.jpeg_bits.specs.Reading.{next_byte}
+use Rattle.jpeg_streams.proofs.Shorter.{below_steps, LeavesBelow, below-ok, below-err, below-on, byte-below}
 
 -- ---- frames
 
@@ -32,8 +33,8 @@ components-below limit lossless (suc n) front bytes h =
     search (below_steps, factors-below, components-below limit lossless n) depth 12
 
 pub sof-below : (limit number : ℕ) (bytes : List ℕ) → length bytes ≤ limit → LeavesBelow limit (sof_at number bytes)
-unfolding sof_at
-sof-below limit number bytes h = search (below_steps, size-below, components-below) depth 16
+unfolding sof_at LeavesBelow
+sof-below limit number bytes h = search (below_steps, size-below, components-below) depth 12
 
 -- ---- quantization tables
 
@@ -59,7 +60,9 @@ dqt-below limit bytes h = search (below_steps, quantization-below) depth 12
 defined_codes-below : (limit greatest left : ℕ) (bytes : List ℕ) → length bytes < limit
     → LeavesBelow limit (defined_codes_at greatest left bytes)
 unfolding defined_codes_at
-defined_codes-below limit greatest left bytes h = search (below_steps) depth 12
+defined_codes-below limit greatest left bytes h =
+    below-on limit (next_byte bytes) _ (byte-below limit bytes (omega arith))
+    (λ b p. search (below_steps) depth 12)
 
 huffman-below : (limit most greatest left : ℕ) (tables : huffman.Tables) (bytes : List ℕ) → length bytes < limit
     → LeavesBelow limit (huffman.tables_from most greatest left tables bytes)
