@@ -10,7 +10,7 @@ use Rattle.jpeg_bits.specs.Reading.{Outcome, Fault, Malformed, ◌>>=◌, next_b
 use Rattle.jpeg_bits.specs.Reading.{length_at, times}
 use Rattle.jpeg_segments.specs.Checks.{check, needed}
 use Rattle.jpeg_segments.specs.WrittenSegments.{u16_bytes, with_length}
-use Rattle.jpeg_segments.proofs.Fields.{read-on, not-refused, kept, u16-read}
+use Rattle.jpeg_segments.proofs.Fields.{read-on, u16-read}
 use Rattle.std.proofs.lemmas.Grind.{common_steps}
 
 -- ---- steps of a reader that accepts

@@ -1,6 +1,6 @@
 -- The functions of the code that a segment is read by, each by a definition. What is read of a whole
 -- segment is made of these, as proofs/PartsOfSegments says; no public clause speaks of them.
-use Rattle.std.specs.Prelude.{ℕ, ◌+◌, ◌*◌, ◌/◌, ◌%◌, List, Bool, Option, Some, None, Ok, Err, nat_lt}
+use Rattle.std.specs.Prelude.{ℕ, ◌+◌, ◌*◌, ◌/◌, ◌%◌, List, Bool, Some, Ok, Err, nat_lt}
 use Rattle.std.specs.Prelude.{◌==◌, if◌then◌else◌, sum}
 use Rattle.std.specs.List.{list_any}
 use Rattle.jpeg_bits.specs.Reading.{Outcome, Malformed, ◌>>=◌, next_byte, length_at, times}

@@ -1,7 +1,6 @@
 -- What the segments leave.
-use Rattle.std.proofs.Common.{rules, ◌≤◌, ◌<◌, ℕ, zero, suc, List, Bool, Option, Some}
-use Rattle.std.proofs.Common.{None, length, arith, nat_le, ◌&&◌, ◌/◌, ◌%◌}
-use Rattle.jpeg_bits.specs.Reading.{length_at, next_byte, times}
+use Rattle.std.proofs.Common.{arith, ◌≤◌, ◌<◌, ℕ, zero, suc, List, Bool, Option, Some}
+use Rattle.std.proofs.Common.{None, length}
 use Rattle.jpeg_segments.specs.Frame.{Frame, Factors, size_at, factors_at, components_from, sof_at}
 use Rattle.jpeg_segments.specs.ScanHeader.{Selector, count_at, selector_at, selectors_from}
 use Rattle.jpeg_segments.specs.ScanHeader.{band_at, sos_at}
@@ -12,8 +11,8 @@ use Rattle.jpeg_segments.specs.Quantization as quantization
 use Rattle.jpeg_segments.specs.Quantization.{value_at, defined_table_at, dqt_at}
 use Rattle.jpeg_segments.specs.HuffmanTables as huffman
 use Rattle.jpeg_segments.specs.HuffmanTables.{defined_codes_at, dht_at}
-use Rattle.jpeg_streams.proofs.Shorter.{below_steps, below-check, below-on, byte-below, length-below, times-below}
-use Rattle.jpeg_streams.proofs.Shorter.{LeavesBelow, below-ok, below-err, below-else}
+use Rattle.jpeg_bits.specs.Reading.{next_byte}
+use Rattle.jpeg_streams.proofs.Shorter.{below_steps, LeavesBelow, below-ok, below-err, below-on, byte-below}
 
 -- ---- frames
 
@@ -34,11 +33,8 @@ components-below limit lossless (suc n) front bytes h =
     search (below_steps, factors-below, components-below limit lossless n) depth 12
 
 pub sof-below : (limit number : ℕ) (bytes : List ℕ) → length bytes ≤ limit → LeavesBelow limit (sof_at number bytes)
-unfolding sof_at
-sof-below limit number bytes h =
-    below-on limit (length_at bytes) _ (length-below limit bytes h) (λ left p. below-check limit (nat_le 7 left.0) _
-    (below-on limit (next_byte left.1) _ (byte-below limit left.1 (omega arith)) (λ precision q.
-    search (below_steps, size-below, components-below) depth 16)))
+unfolding sof_at LeavesBelow
+sof-below limit number bytes h = search (below_steps, size-below, components-below) depth 12
 
 -- ---- quantization tables
 
@@ -65,10 +61,8 @@ defined_codes-below : (limit greatest left : ℕ) (bytes : List ℕ) → length 
     → LeavesBelow limit (defined_codes_at greatest left bytes)
 unfolding defined_codes_at
 defined_codes-below limit greatest left bytes h =
-    below-on limit (next_byte bytes) _ (byte-below limit bytes (omega arith)) (λ b p. below-check limit
-    (nat_le (b.0 / 16) 1 && nat_le (b.0 % 16) greatest) _
-    (below-on limit (times 16 next_byte b.1) _ (times-below limit 16 next_byte b.1 (λ bs k. byte-below limit bs (omega
-    arith)) p) (λ counts q. search (below_steps) depth 12)))
+    below-on limit (next_byte bytes) _ (byte-below limit bytes (omega arith))
+    (λ b p. search (below_steps) depth 12)
 
 huffman-below : (limit most greatest left : ℕ) (tables : huffman.Tables) (bytes : List ℕ) → length bytes < limit
     → LeavesBelow limit (huffman.tables_from most greatest left tables bytes)
