@@ -3,29 +3,27 @@ use Rattle.std.specs.Prelude.{◌≡◌, ◌≤◌, ◌⊎◌, ℕ, sum, length,
 use Rattle.std.specs.Prelude.{Some, None, if◌then◌else◌}
 use Rattle.std.specs.List.{list_any}
 use Rattle.jpeg_bits.specs.Codes.{HasCodes, Table, code_lengths}
+use Rattle.jpeg_bits.specs.declared.codes.HuffmanTableClass.{HuffmanTableClass}
 use Rattle.jpeg_bits.specs.declared.codes.HuffmanTableClass.TheVariants.{DC, AC}
 
 -- a byte for each DC category
 abbrev pub categories : List ℕ
 categories = 0 ∷ 1 ∷ 2 ∷ 3 ∷ 4 ∷ 5 ∷ 6 ∷ 7 ∷ 8 ∷ 9 ∷ 10 ∷ 11 ∷ []
 
+abbrev pub default_table : HuffmanTableClass → List ℕ → List ℕ → Table
+default_table class counts symbols = record { class = class; counts = counts; symbols = symbols }
+
 -- Table K.3: DC differences of luminance.
 abbrev pub luminance_dc : Table
 luminance_dc =
-    record {
-      class = DC;
-      counts = 0 ∷ 1 ∷ 5 ∷ 1 ∷ 1 ∷ 1 ∷ 1 ∷ 1 ∷ 1 ∷ 0 ∷ 0 ∷ 0 ∷ 0 ∷ 0 ∷ 0 ∷ 0 ∷ [];
-      symbols = categories;
-    }
+    default_table DC (0 ∷ 1 ∷ 5 ∷ 1 ∷ 1 ∷ 1 ∷ 1 ∷ 1 ∷ 1 ∷ 0 ∷ 0 ∷ 0 ∷ 0 ∷ 0 ∷ 0 ∷ 0 ∷ [])
+    categories
 
 -- Table K.4: DC differences of chrominance.
 abbrev pub chrominance_dc : Table
 chrominance_dc =
-    record {
-      class = DC;
-      counts = 0 ∷ 3 ∷ 1 ∷ 1 ∷ 1 ∷ 1 ∷ 1 ∷ 1 ∷ 1 ∷ 1 ∷ 1 ∷ 0 ∷ 0 ∷ 0 ∷ 0 ∷ 0 ∷ [];
-      symbols = categories;
-    }
+    default_table DC (0 ∷ 3 ∷ 1 ∷ 1 ∷ 1 ∷ 1 ∷ 1 ∷ 1 ∷ 1 ∷ 1 ∷ 1 ∷ 0 ∷ 0 ∷ 0 ∷ 0 ∷ 0 ∷ [])
+    categories
 
 abbrev pub luminance_symbols : List ℕ
 luminance_symbols =
@@ -44,11 +42,8 @@ luminance_symbols =
 -- Table K.5: AC coefficients of luminance.
 abbrev pub luminance_ac : Table
 luminance_ac =
-    record {
-      class = AC;
-      counts = 0 ∷ 2 ∷ 1 ∷ 3 ∷ 3 ∷ 2 ∷ 4 ∷ 3 ∷ 5 ∷ 5 ∷ 4 ∷ 4 ∷ 0 ∷ 0 ∷ 1 ∷ 125 ∷ [];
-      symbols = luminance_symbols;
-    }
+    default_table AC (0 ∷ 2 ∷ 1 ∷ 3 ∷ 3 ∷ 2 ∷ 4 ∷ 3 ∷ 5 ∷ 5 ∷ 4 ∷ 4 ∷ 0 ∷ 0 ∷ 1 ∷ 125 ∷ [])
+    luminance_symbols
 
 abbrev pub chrominance_symbols : List ℕ
 chrominance_symbols =
@@ -67,11 +62,8 @@ chrominance_symbols =
 -- Table K.6: AC coefficients of chrominance.
 abbrev pub chrominance_ac : Table
 chrominance_ac =
-    record {
-      class = AC;
-      counts = 0 ∷ 2 ∷ 1 ∷ 2 ∷ 4 ∷ 4 ∷ 3 ∷ 4 ∷ 7 ∷ 5 ∷ 4 ∷ 4 ∷ 0 ∷ 1 ∷ 2 ∷ 119 ∷ [];
-      symbols = chrominance_symbols;
-    }
+    default_table AC (0 ∷ 2 ∷ 1 ∷ 2 ∷ 4 ∷ 4 ∷ 3 ∷ 4 ∷ 7 ∷ 5 ∷ 4 ∷ 4 ∷ 0 ∷ 1 ∷ 2 ∷ 119 ∷ [])
+    chrominance_symbols
 
 -- ---- what is filled
 

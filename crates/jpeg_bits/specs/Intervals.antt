@@ -23,16 +23,12 @@ abbrev pub is_restart : ℕ → Option Marker → Bool
 is_restart k (Some (markers.RST n)) = n == k % 8
 is_restart k _ = false
 
-abbrev pub blocks_before : List Block → Outcome (List Block × Option Marker)
-    → Outcome (List Block × Option Marker)
-blocks_before blocks others = others >>= λ s. Ok ((blocks ++ s.0.0, s.0.1), s.1)
-
--- what stands after an interval: the others, where it ends with RST k
-abbrev pub after_restart : ℕ → (List ℕ → Outcome (List Block × Option Marker))
-    → (List Block × Option Marker) × List ℕ → Outcome (List Block × Option Marker)
-after_restart k others r =
+-- What stands after an interval, where it ends with RST k: the others, joined to it.
+abbrev pub after_restart : {A : Type 0} → (A → A → A) → ℕ → (List ℕ → Outcome (A × Option Marker))
+    → (A × Option Marker) × List ℕ → Outcome (A × Option Marker)
+after_restart join k others r =
     elim (is_restart k r.0.1) [
-      | true ↦ blocks_before r.0.0 (others r.1)
+      | true ↦ others r.1 >>= λ s. Ok ((join r.0.0 s.0.0, s.0.1), s.1)
       | false ↦ Err Malformed
     ]
 
@@ -41,7 +37,7 @@ unfoldable pub intervals : Pass → ℕ → List (Via × Block) → List (List (
     → Outcome (List Block × Option Marker)
 intervals p k turns [] bytes = interval p turns bytes
 intervals p k turns (next ∷ more) bytes =
-    interval p turns bytes >>= after_restart k (intervals p (suc k) next more)
+    interval p turns bytes >>= after_restart ◌++◌ k (intervals p (suc k) next more)
 
 -- A list cut into groups of n, the last of which may be smaller; and, where n is 0, into one.
 unfoldable pub groups : {A : Type 0} → ℕ → ℕ → List A → List (List A)

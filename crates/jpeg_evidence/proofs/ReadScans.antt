@@ -5,12 +5,12 @@ use Rattle.std.proofs.lemmas.Bool.{le-leb, eqb-true, false≢true}
 use Rattle.jpeg_bits.specs.Reading.{End, Fault, Malformed, Outcome, ◌>>=◌}
 use Rattle.jpeg_bits.specs.Entropy.{Broken, Text, advance, fresh, marker_from, text_ahead, text_at, upcoming}
 use Rattle.jpeg_bits.specs.Ends.{end_after}
-use Rattle.jpeg_bits.specs.Intervals.{after_restart, blocks_before, interval, intervals, is_restart, predictors_at_start}
+use Rattle.jpeg_bits.specs.Intervals.{after_restart, interval, intervals, is_restart, predictors_at_start}
 use Rattle.jpeg_bits.specs.Passes.{Block, Pass, Via}
 use Rattle.jpeg_bits.specs.declared.marker.Marker.{Marker}
 use Rattle.jpeg_bits.specs.declared.marker.Marker.TheVariants.{RST}
 use Rattle.jpeg_bits.proofs.EndLemmas.{ends-so}
-use Rattle.jpeg_streams.proofs.InTurn.{IsLongAfter, interval-long}
+use Rattle.jpeg_streams.proofs.InTurn.{IsLongAfter, blocks_before, interval-long}
 use Rattle.jpeg_evidence.specs.Strict.{alone, IntervalFits, IntervalsFit, IsInterval, IsIntervals, numbers_read, others_read}
 use Rattle.jpeg_evidence.specs.Strict.IntervalsFit.{last, another}
 use Rattle.jpeg_streams.proofs.TakenTexts.{blocks-takes}
@@ -136,7 +136,7 @@ scan-written p k turns more bytes rest blocks m (last turns' bytes' rest' m' w) 
 scan-written p k turns more bytes rest blocks m (another turns' following others bytes' after m' w fits) h =
     let is = interval-read p turns bytes after m' w in
     let a = after-first k w.blocks blocks m' m rest (intervals p (suc k) following others after)
-    (sym (ap (λ o. o >>= after_restart k (intervals p (suc k) following others)) is) ∙ h) in
+    (sym (ap (λ o. o >>= after_restart ◌++◌ k (intervals p (suc k) following others)) is) ∙ h) in
     let long : length w.blocks ≡ length turns
     = subst (λ o. IsLongAfter (length turns) o) is (interval-long p turns bytes) in
     let first : IsInterval p (numbers_read p turns blocks) bytes (RST (k % 8)) after

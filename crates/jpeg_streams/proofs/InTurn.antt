@@ -8,7 +8,7 @@ use Rattle.jpeg_bits.specs.Entropy.{Text, text_ahead, upcoming, fresh}
 use Rattle.jpeg_bits.specs.Readers.{read_on, gives}
 use Rattle.jpeg_bits.specs.declared.marker.Marker.{Marker}
 use Rattle.jpeg_bits.specs.Passes.{Pass, Via, Block, block_from, blocks_of}
-use Rattle.jpeg_bits.specs.Intervals.{predictors_at_start, interval, intervals, is_restart, blocks_before}
+use Rattle.jpeg_bits.specs.Intervals.{predictors_at_start, interval, intervals, is_restart}
 use Rattle.jpeg_bits.specs.Intervals.{after_restart}
 use Rattle.jpeg_streams.specs.Order.{Spot}
 use Rattle.jpeg_streams.specs.Scans.{Arrays, block_at, put_block, put_blocks, via_at, turns_of}
@@ -115,6 +115,10 @@ in-turn p vias (s ∷ spots) arrays predictors run t apart inside =
     step rec (Ok r) = search (rules, same-turns, kept-after)
 
 -- ---- intervals
+
+abbrev pub blocks_before : List Block → Outcome (List Block × Option Marker)
+    → Outcome (List Block × Option Marker)
+blocks_before blocks others = reading.◌>>=◌ others (λ s. Ok ((blocks ++ s.0.0, s.0.1), s.1))
 
 abbrev pub put_after : List Spot → Arrays → Outcome (List Block × Option Marker) → Outcome (Arrays × Option Marker)
 put_after spots arrays (Ok r) = Ok ((put_blocks spots r.0.0 arrays, r.0.1), r.1)
@@ -236,7 +240,7 @@ intervals-in-turn p vias k spots (next ∷ more) arrays bytes apart inside =
         (all_turns vias (put_blocks spots blocks arrays) more) rest))
         → reading.◌>>=◌ (put_after spots arrays o) (next_interval k (intervals_from p vias (suc k) next more))
         ≡ put_after (spots ++ after) arrays
-        (reading.◌>>=◌ o (after_restart k
+        (reading.◌>>=◌ o (after_restart ◌++◌ k
         (intervals p (suc k) (turns_of vias next arrays) (all_turns vias arrays more))))
     go (Ok r) h rec = test r h rec (is_restart k r.0.1)
     go (Err e) h rec = refl
