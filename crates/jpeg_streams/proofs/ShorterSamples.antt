@@ -53,7 +53,7 @@ interval-below limit w n bytes h =
 
 intervals-below : (limit turns : ℕ) (w : Way) (per k left : ℕ) (bytes : List ℕ) → length bytes < limit
     → LeavesBelow limit (line_intervals turns w per k left bytes)
-unfolding line_intervals
+unfolding line_intervals LeavesBelow
 intervals-below limit zero w per k left bytes h = below-err Lines limit Malformed
 intervals-below limit (suc turns) w per k left bytes h =
     search (below_steps, interval-below, intervals-below limit turns w per) depth 12

@@ -24,7 +24,7 @@ interval-below limit p turns bytes h =
 
 intervals-below : (limit : ℕ) (p : Pass) (k : ℕ) (turns : List (Via × Block)) (more : List (List (Via × Block)))
     (bytes : List ℕ) → length bytes < limit → LeavesBelow limit (intervals p k turns more bytes)
-unfolding intervals
+unfolding intervals LeavesBelow
 intervals-below limit p k turns [] bytes h = interval-below limit p turns bytes h
 intervals-below limit p k turns (next ∷ more) bytes h =
     search (below_steps, interval-below, intervals-below limit p (suc k) next more) depth 12
