@@ -6,7 +6,6 @@ use Rattle.std.proofs.lemmas.Result.{err_from_is_err_and}
 use Rattle.std.specs.List.{list_all, list_any}
 use Rattle.std.specs.Prelude.{◌==◌, ◌∷◌, nat_lt, if◌then◌else◌}
 use Rattle.jpeg_bits.specs.Reading.{Malformed, ◌>>=◌, next_byte}
-use Rattle.jpeg_bits.proofs.Loops.{bind_err}
 use Rattle.jpeg_segments.specs.Checks.{needed}
 use Rattle.jpeg_segments.specs.Frame.{Factors, Frame, components_from, factors_at, frame_of}
 use Rattle.jpeg_segments.specs.Frame.{is_lossless_number, is_taken, sof_at}
@@ -24,18 +23,18 @@ unfolding factors_at parameters_at
 factors_of_parts lossless front bytes = grind (arith, nat_tests)
 
 pub sof_of_parts : (number : ℕ) (bytes : List ℕ) → sof_at number bytes ≡ (do
-      h ← head_at number bytes
-      c ← components_from (is_lossless_number number) h.0.count [] h.1
-      Ok (frame_of number h.0.precision h.0.width h.0.height c.0, c.1))
+  h ← head_at number bytes
+  c ← components_from (is_lossless_number number) h.0.count [] h.1
+  Ok (frame_of number h.0.precision h.0.width h.0.height c.0, c.1))
 unfolding sof_at head_at
 sof_of_parts number bytes = grind (arith, nat_tests)
 
 pub codes_of_parts : (greatest left : ℕ) (bytes : List ℕ) → defined_codes_at greatest left bytes ≡ (do
-      b ← next_byte bytes
-      if nat_lt 1 (b.0 / 16) then Err Malformed else (
-          if nat_lt greatest (b.0 % 16) then Err Malformed else (do
-            t ← codes_at left (class_of (b.0 / 16)) b.1
-            Ok (record { destination = b.0 % 16; table = t.0 }, t.1))))
+  b ← next_byte bytes
+  if nat_lt 1 (b.0 / 16) then Err Malformed else (
+      if nat_lt greatest (b.0 % 16) then Err Malformed else (do
+        t ← codes_at left (class_of (b.0 / 16)) b.1
+        Ok (record { destination = b.0 % 16; table = t.0 }, t.1))))
 unfolding defined_codes_at codes_at symbols_at
 codes_of_parts greatest left bytes = grind (arith, nat_tests)
 
@@ -44,12 +43,12 @@ none-zero [] = refl
 none-zero (v ∷ vs) = grind (arith, nat_tests, none-zero vs)
 
 pub table_of_parts : (left : ℕ) (bytes : List ℕ) → defined_table_at left bytes ≡ (do
-      b ← next_byte bytes
-      if nat_lt 1 (b.0 / 16) then Err Malformed else (
-          if nat_lt 3 (b.0 % 16) then Err Malformed else (
-          if nat_lt left (table_size (b.0 / 16)) then Err Malformed else (do
-            t ← table_at (b.0 / 16 == 1) b.1
-            Ok ((table_size (b.0 / 16), b.0 % 16, t.0), t.1)))))
+  b ← next_byte bytes
+  if nat_lt 1 (b.0 / 16) then Err Malformed else (
+      if nat_lt 3 (b.0 % 16) then Err Malformed else (
+      if nat_lt left (table_size (b.0 / 16)) then Err Malformed else (do
+        t ← table_at (b.0 / 16 == 1) b.1
+        Ok ((table_size (b.0 / 16), b.0 % 16, t.0), t.1)))))
 unfolding defined_table_at table_at
 table_of_parts left bytes = grind (arith, nat_tests, none-zero)
 
@@ -65,7 +64,6 @@ selector_of_parts frame least bytes = grind (arith, nat_tests)
 pub ruleset parts = (
   err_from_is_err_and,
   common_steps,
-  bind_err,
   factors_of_parts,
   sof_of_parts,
   codes_of_parts,
