@@ -31,7 +31,7 @@ LAWS = {
 }
 STREAMS = {
     "known_streams": """jpeg_bits Reading Marker Entropy Readers Codes Bands Passes Intervals,
-        jpeg_segments Quantization HuffmanTables Frame ScanHeader, jpeg_pixels Samples Planes,
+        jpeg_segments Checks Quantization HuffmanTables Frame ScanHeader, jpeg_pixels Samples Planes,
         jpeg_streams Order Scans Rasters Needed Found Segments ScanSegments FoundPictures Stream""",
     "known_scans": """jpeg_bits Refinement, jpeg_segments Scales, jpeg_pixels Scaled Upsampling
         Pictures, jpeg_streams Order Scans ColourChoice""",
