@@ -1,5 +1,5 @@
 -- Streams as a writer emits them for the coefficients of an image (T.81, B.2.1): segments by their
--- parameters, and scans in a legal order. Nothing here speaks of reading.
+-- parameters, and scans in a legal order. Nothing here reads bytes.
 use Rattle.std.specs.Prelude.{◌≡◌, ℕ, ◌≤◌, Bool, true, false, List, [], ◌∷◌, ◌++◌, length, map}
 use Rattle.std.specs.Prelude.{Some}
 use Rattle.std.specs.List.{AllByRecursion, range_with_len}
