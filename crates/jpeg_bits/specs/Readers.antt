@@ -1,5 +1,5 @@
 -- Readers of entropy-coded bits: a value and the text after it, or the first fault.
-use Rattle.std.specs.Prelude.{◌≡◌, ℕ, ℤ, Bool, List, ◌++◌, length, drop, Result, Ok, Err}
+use Rattle.std.specs.Prelude.{◌≡◌, ℕ, ℤ, Bool, List, [], ◌∷◌, ◌++◌, length, drop, Result, Ok, Err}
 use Rattle.jpeg_bits.specs.Reading.{Fault, Malformed}
 use Rattle.jpeg_bits.specs.Entropy.{Text, Ending, bits_from, extended}
 
@@ -20,6 +20,11 @@ gives x t = Ok (x, t)
 
 abbrev pub refused : {A : Type 0} → Reads A
 refused t = Err Malformed
+
+-- what is read of each, in turn
+unfoldable pub each : {A B : Type 0} → (A → Reads B) → List A → Reads (List B)
+each read [] = gives []
+each read (x ∷ xs) = read x >>= (λ y. each read xs >>= (λ ys. gives (y ∷ ys)))
 
 -- s bits as a signed number
 unfoldable pub signed_from : ℕ → Reads ℤ

@@ -55,6 +55,13 @@ abbrev pub greatest : (Factors → ℕ) → List Factors → ℕ
 greatest f [] = 1
 greatest f (c ∷ more) = max (f c) (greatest f more)
 
+-- the greatest sampling factors of some components
+abbrev pub most_across : List Component → ℕ
+most_across components = greatest (λ f. f.horizontal) (map (λ c. c.factors) components)
+
+abbrev pub most_down : List Component → ℕ
+most_down components = greatest (λ f. f.vertical) (map (λ c. c.factors) components)
+
 -- A component of a frame of this width and height, where these are the greatest sampling factors of
 -- its components.
 unfoldable pub component_of : ℕ → ℕ → ℕ → ℕ → Factors → Component
