@@ -115,5 +115,4 @@ Gives outcome (Err e) = Names e outcome
 
 -- n bytes are passed over
 unfoldable pub skip_at : ℕ → List ℕ → Outcome (Unit {0})
-skip_at zero bytes = Ok (tt, bytes)
-skip_at (suc n) bytes = next_byte bytes >>= λ b. skip_at n b.1
+skip_at n bytes = times n next_byte bytes >>= λ x. Ok (tt, x.1)

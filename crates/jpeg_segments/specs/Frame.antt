@@ -129,20 +129,15 @@ is_destination lossless destination = if lossless then destination == 0 else nat
 -- destination of its quantization table.
 unfoldable pub factors_at : Bool → List Factors → List ℕ → Outcome Factors
 factors_at lossless front bytes = do
-  identifier ← next_byte bytes
-  _ ← check (not (is_taken front identifier.0))
-  factors ← next_byte identifier.1
-  _ ← check (is_factor (factors.0 / 16) && is_factor (factors.0 % 16))
-  destination ← next_byte factors.1
-  _ ← check (is_destination lossless destination.0)
+  c ← next_byte bytes
+  _ ← check (not (is_taken front c.0))
+  f ← next_byte c.1
+  _ ← check (is_factor (f.0 / 16) && is_factor (f.0 % 16))
+  q ← next_byte f.1
+  _ ← check (is_destination lossless q.0)
   Ok (
-    record {
-      identifier = identifier.0;
-      horizontal = factors.0 / 16;
-      vertical = factors.0 % 16;
-      quantization = destination.0;
-    },
-    destination.1,
+    record { identifier = c.0; horizontal = f.0 / 16; vertical = f.0 % 16; quantization = q.0 },
+    q.1,
   )
 
 -- n more components, after those in `front`

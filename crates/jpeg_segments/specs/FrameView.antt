@@ -60,7 +60,7 @@ frame_in f = record {
 
 -- a component of a scan, as it is read
 abbrev pub selector_of : Selector → scans.Selector
-selector_of s = record { component = s.component; dc = s.dc; ac = s.ac; blocks = s.blocks }
+selector_of s = record { component = s.component; dc = s.dc; ac = s.ac }
 
 abbrev pub scan_in : ScanInfo → Scan
 scan_in s = record {

@@ -56,10 +56,8 @@ defined_codes_at greatest left bytes = do
 -- the tables with one more
 abbrev pub with_table : Tables → DefinedTable → Tables
 with_table tables t =
-    if is_ac t.table.class then record tables {
-      ac = slice_set tables.ac t.destination (Some
-          t.table);
-    }
+    if is_ac t.table.class
+    then record tables { ac = slice_set tables.ac t.destination (Some t.table) }
     else record tables { dc = slice_set tables.dc t.destination (Some t.table) }
 
 -- At most `most` tables, while more than 17 bytes of the segment are left. Then none may be left.

@@ -10,7 +10,7 @@ use Rattle.jpeg_segments.specs.Frame.{Factors, Frame, is_count, is_destination, 
 use Rattle.jpeg_segments.specs.Frame.{is_precision, size_at}
 use Rattle.jpeg_segments.specs.HuffmanTables.{greatest_destination}
 use Rattle.jpeg_segments.specs.Quantization.{value_at}
-use Rattle.jpeg_segments.specs.ScanHeader.{Selector, blocks_by}
+use Rattle.jpeg_segments.specs.ScanHeader.{Selector}
 
 -- The sampling factors and the destination of the quantization table, after the identifier.
 unfoldable pub parameters_at : Bool → ℕ → List ℕ → Outcome Factors
@@ -73,7 +73,6 @@ destinations_at frame index bytes = do
           component = index;
           dc = destinations.0 / 16;
           ac = destinations.0 % 16;
-          blocks = blocks_by frame.components index;
         },
         destinations.1,
       ))

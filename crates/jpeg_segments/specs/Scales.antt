@@ -1,7 +1,7 @@
 -- The scales that a picture can be made at. They are the decoder's own, not of T.81: an 8 by 8
 -- block gives 1, 2, 4 or 8 samples a side, and the picture and each component are 1/8, 1/4, 1/2 or
 -- all of their size.
-use Rattle.std.specs.Prelude.{ℕ, ◌≡◌, ◌*◌, ◌==◌, nat_le, ◌||◌, Bool, true, map, if◌then◌else◌}
+use Rattle.std.specs.Prelude.{ℕ, ◌≡◌, ◌*◌, ◌==◌, nat_le, ◌||◌, Bool, true, List, [], ◌∷◌, map, find, unwrap_or}
 use Rattle.jpeg_segments.specs.declared.parser.CodingProcess.{CodingProcess}
 use Rattle.jpeg_segments.specs.declared.parser.CodingProcess.TheVariants.{DctSequential}
 use Rattle.jpeg_segments.specs.declared.parser.CodingProcess.TheVariants.{DctProgressive, Lossless}
@@ -18,9 +18,7 @@ reaches scale full_width full_height width height =
 -- The least of 1, 2 and 4 at which the picture is as wide or as high as is asked for, or else 8.
 unfoldable pub scale_for : ℕ → ℕ → ℕ → ℕ → ℕ
 scale_for full_width full_height width height =
-    if reaches 1 full_width full_height width height then 1 else (
-    if reaches 2 full_width full_height width height then 2 else (
-    if reaches 4 full_width full_height width height then 4 else 8))
+    unwrap_or (find (λ scale. reaches scale full_width full_height width height) (1 ∷ 2 ∷ 4 ∷ [])) 8
 
 -- A component at a scale, in a frame of this width and height with these greatest factors.
 unfoldable pub component_at : ℕ → ℕ → ℕ → ℕ → ℕ → Component → Component

@@ -1,8 +1,8 @@
 -- Scan headers (T.81, B.2.3).
 use Rattle.std.specs.Prelude.{◌≡◌, ◌≤◌, ◌<◌, ℕ, zero, suc, All, true, ◌+◌, ◌-◌, ◌*◌, ◌/◌, ◌%◌, List}
 use Rattle.std.specs.Prelude.{[], ◌∷◌, ◌++◌, map, length, sum_by, Bool, not, ◌&&◌, ◌||◌, Option}
-use Rattle.std.specs.Prelude.{Some, None, Ok, Err, nat_lt, nat_le, ◌==◌, if◌then◌else◌, position}
-use Rattle.jpeg_bits.specs.Reading.{Outcome, Malformed, ◌>>=◌, next_byte, length_at}
+use Rattle.std.specs.Prelude.{Some, None, Ok, nat_lt, nat_le, ◌==◌, position, get_or}
+use Rattle.jpeg_bits.specs.Reading.{Outcome, ◌>>=◌, next_byte, length_at}
 use Rattle.jpeg_bits.specs.declared.scan.Predictor.{Predictor}
 use Rattle.jpeg_bits.specs.declared.scan.Predictor.TheVariants.{NoPrediction, Ra, Rb, Rc, RaRbRc1}
 use Rattle.jpeg_bits.specs.declared.scan.Predictor.TheVariants.{RaRbRc2, RaRbRc3, RaRb}
@@ -30,20 +30,18 @@ pub record Scan : Type 0 where
 
 -- ---- components
 
--- The index of a component in the frame, the destinations of its DC and AC tables, and the number
--- of its blocks in an MCU of several components (A.2.3).
+-- the index of a component in the frame, and the destinations of its DC and AC tables
 pub record Selector : Type 0 where
   pub component : ℕ
   pub dc : ℕ
   pub ac : ℕ
-  pub blocks : ℕ
 
 -- the index of the component with this identifier
 abbrev pub index_of : List Component → ℕ → Option ℕ
 index_of components identifier = position (λ c. c.factors.identifier == identifier) components
 
--- The number of blocks that the component at an index has in such an MCU: its sampling factors
--- multiplied.
+-- The number of blocks that the component at an index has in an MCU of several components (A.2.3):
+-- its sampling factors multiplied.
 abbrev pub blocks_by : List Component → ℕ → ℕ
 blocks_by [] index = 0
 blocks_by (c ∷ more) zero = c.factors.horizontal * c.factors.vertical
@@ -56,18 +54,10 @@ selector_at frame least bytes = do
   identifier ← next_byte bytes
   index ← needed (index_of frame.components identifier.0)
   _ ← check (nat_le least index)
-  destinations ← next_byte identifier.1
+  d ← next_byte identifier.1
   let greatest = greatest_destination (Some frame.is_baseline) in do
-    _ ← check (nat_le (destinations.0 / 16) greatest && nat_le (destinations.0 % 16) greatest)
-    Ok (
-      record {
-        component = index;
-        dc = destinations.0 / 16;
-        ac = destinations.0 % 16;
-        blocks = blocks_by frame.components index;
-      },
-      destinations.1,
-    )
+    _ ← check (nat_le (d.0 / 16) greatest && nat_le (d.0 % 16) greatest)
+    Ok (record { component = index; dc = d.0 / 16; ac = d.0 % 16 }, d.1)
 
 -- n more components, after those in `front`
 unfoldable pub selectors_from : Frame → ℕ → List Selector → ℕ → List ℕ → Outcome (List Selector)
@@ -77,8 +67,10 @@ selectors_from frame (suc n) front least bytes =
     >>= (λ s. selectors_from frame n (front ++ s.0 ∷ []) (s.0.component + 1) s.1)
 
 -- An MCU of several components has at most 10 blocks.
-abbrev pub is_mcu : List Selector → Bool
-is_mcu selectors = nat_le (length selectors) 1 || nat_le (sum_by (λ s. s.blocks) selectors) 10
+abbrev pub is_mcu : Frame → List Selector → Bool
+is_mcu frame selectors =
+    nat_le (length selectors) 1
+    || nat_le (sum_by (λ s. blocks_by frame.components s.component) selectors) 10
 
 -- ---- the band
 
@@ -105,14 +97,7 @@ is_band DctProgressive count first last high low = is_progressive_band count fir
 is_band Lossless count first last high low = is_lossless_band first last high
 
 abbrev pub predictor_by : ℕ → Predictor
-predictor_by zero = NoPrediction
-predictor_by (suc zero) = Ra
-predictor_by (suc (suc zero)) = Rb
-predictor_by (suc (suc (suc zero))) = Rc
-predictor_by (suc (suc (suc (suc zero)))) = RaRbRc1
-predictor_by (suc (suc (suc (suc (suc zero))))) = RaRbRc2
-predictor_by (suc (suc (suc (suc (suc (suc zero)))))) = RaRbRc3
-predictor_by (suc (suc (suc (suc (suc (suc (suc n))))))) = RaRb
+predictor_by n = get_or (NoPrediction ∷ Ra ∷ Rb ∷ Rc ∷ RaRbRc1 ∷ RaRbRc2 ∷ RaRbRc3 ∷ []) n RaRb
 
 abbrev pub predictor_of : CodingProcess → ℕ → Predictor
 predictor_of Lossless first = predictor_by first
@@ -141,35 +126,34 @@ band_at frame selectors bytes = do
   first ← next_byte bytes
   last ← next_byte first.1
   levels ← next_byte last.1
-  if nat_lt (levels.0 % 16) frame.precision then (
-      if is_band frame.process (length selectors) first.0 last.0 (levels.0 / 16) (levels.0 % 16)
-      then Ok (scan_of frame selectors first.0 last.0 levels.0, levels.1) else Err Malformed)
-      else Err Malformed
+  _ ← check (nat_lt (levels.0 % 16) frame.precision && is_band frame.process (length selectors)
+      first.0 last.0 (levels.0 / 16) (levels.0 % 16))
+  Ok (scan_of frame selectors first.0 last.0 levels.0, levels.1)
 
 -- the number of components, where the length is the one that they need
 unfoldable pub count_at : List ℕ → Outcome ℕ
 count_at bytes = do
   left ← length_at bytes
-  if left.0 == 0 then Err Malformed else (do
-    count ← next_byte left.1
-    if count.0 == 0 then Err Malformed else (if nat_lt 4 count.0 then Err Malformed else (
-        if left.0 == 4 + 2 * count.0 then Ok (count.0, count.1) else Err Malformed)))
+  _ ← check (nat_lt 0 left.0)
+  count ← next_byte left.1
+  _ ← check (nat_lt 0 count.0 && (nat_le count.0 4 && left.0 == 4 + 2 * count.0))
+  Ok count
 
 -- The parameters of an SOS segment, after the marker.
 unfoldable pub sos_at : Frame → List ℕ → Outcome Scan
 sos_at frame bytes = do
   count ← count_at bytes
   selectors ← selectors_from frame count.0 [] 0 count.1
-  if is_mcu selectors.0 then band_at frame selectors.0 selectors.1 else Err Malformed
+  _ ← check (is_mcu frame selectors.0)
+  band_at frame selectors.0 selectors.1
 
 -- ---- what each scan that is read has
 
--- A component of the frame, the destinations of its two tables, and its blocks in an MCU.
+-- A component of the frame, and the destinations of its two tables.
 pub record IsSelectorOf (frame : Frame) (s : Selector) : Type 0 where
   pub component : s.component < length frame.components
   pub dc : s.dc ≤ 3
   pub ac : s.ac ≤ 3
-  pub blocks : s.blocks ≡ blocks_by frame.components s.component
 
 -- The indices rise: the first is at least `least`, and each other is greater than the one before.
 unfoldable pub IsRising : ℕ → List ℕ → Type 0

@@ -1,5 +1,5 @@
 -- Scans of a lossless frame (T.81, A.2 and Annex H).
-use Rattle.std.specs.Prelude.{ℕ, ◌+◌, List, [], ◌∷◌, map, drop, slice_index_or}
+use Rattle.std.specs.Prelude.{ℕ, ◌+◌, List, [], ◌∷◌, map, slice_get, slice_index_or, zip}
 use Rattle.std.specs.Prelude.{Option, Some, None, Result, Ok, slice_set}
 use Rattle.jpeg_bits.specs.Reading.{Fault, ◌>>=◌}
 use Rattle.jpeg_bits.specs.Codes.{Table}
@@ -9,8 +9,7 @@ use Rattle.jpeg_lossless.specs.Prediction.{start_of}
 use Rattle.jpeg_lossless.specs.Differences.{Part}
 use Rattle.jpeg_lossless.specs.Scans.{Way}
 use Rattle.jpeg_lossless.specs.Pictures.{most_across, most_down}
-use Rattle.jpeg_segments.specs.Checks.{needed}
-use Rattle.jpeg_streams.specs.Needed.{first_of}
+use Rattle.jpeg_segments.specs.Checks.{needed, gathered}
 
 -- ---- MCUs
 
@@ -58,17 +57,15 @@ way_of frame predictor point codings = record {
 unfoldable pub lossless_coding :
     List (Option Table) → Frame → ℕ → ℕ → Result LosslessCoding Fault
 lossless_coding tables frame index dc_destination = do
-  component ← needed (first_of (drop index frame.components))
+  component ← needed (slice_get frame.components index)
   table ← needed (slice_index_or tables dc_destination None)
   Ok (record { index = index; component = component; table = table })
 
 -- those at some indices, with the destinations of their tables
 unfoldable pub lossless_codings :
     List (Option Table) → Frame → List ℕ → List ℕ → Result (List LosslessCoding) Fault
-lossless_codings tables frame (index ∷ indices) (d ∷ dc_destinations) =
-    lossless_coding tables frame index d >>= (λ c.
-    lossless_codings tables frame indices dc_destinations >>= (λ others. Ok (c ∷ others)))
-lossless_codings tables frame _ _ = Ok []
+lossless_codings tables frame indices dc_destinations =
+    gathered (λ s. lossless_coding tables frame s.0 s.1) (zip indices dc_destinations)
 
 -- the tables at some destinations
 unfoldable pub tables_in : List (Option Table) → List ℕ → Result (List Table) Fault

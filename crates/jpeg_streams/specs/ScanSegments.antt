@@ -3,7 +3,7 @@
 use Rattle.std.specs.Prelude.{ℕ, zero, suc, ◌+◌, ◌-◌, ◌*◌, ◌==◌, ◌&&◌}
 use Rattle.std.specs.Prelude.{nat_lt, List, [], ◌∷◌, ◌++◌, map, length, take, drop, set}
 use Rattle.std.specs.Prelude.{get_or, replicate, slice_index_or, slice_set, Bool, true, false}
-use Rattle.std.specs.Prelude.{Option, Some, None, Result, Ok, Err}
+use Rattle.std.specs.Prelude.{Option, Some, None, Result, Ok, Err, slice_get, zip}
 use Rattle.std.specs.Prelude.{if◌then◌else◌}
 use Rattle.std.specs.List.{list_all}
 use Rattle.jpeg_bits.specs.Reading.{Outcome, Fault, End, ◌>>=◌}
@@ -30,8 +30,7 @@ use Rattle.jpeg_streams.specs.Scans.{Arrays, zero_arrays, no_table, arrays_at}
 use Rattle.jpeg_lossless.specs.Scans.{scan_at}
 use Rattle.jpeg_streams.specs.LosslessScans.{LosslessCoding, lossless_codings}
 use Rattle.jpeg_streams.specs.LosslessScans.{mcus_down, way_of, with_samples}
-use Rattle.jpeg_segments.specs.Checks.{needed}
-use Rattle.jpeg_streams.specs.Needed.{first_of}
+use Rattle.jpeg_segments.specs.Checks.{needed, gathered}
 use Rattle.jpeg_streams.specs.declared.before.Before.{Before}
 use Rattle.jpeg_streams.specs.declared.before.Before.TheVariants.{FirstScan, LaterScan}
 use Rattle.jpeg_streams.specs.Found.{Found, none_finished}
@@ -46,12 +45,7 @@ is_progressive _ = false
 -- what a scan codes
 unfoldable pub pass_of : Scan → Pass
 pass_of scan =
-    record {
-      is_first = scan.high == 0;
-      ss = scan.first;
-      se = scan.after - 1;
-      al = scan.low;
-    }
+    record { is_first = scan.high == 0; ss = scan.first; se = scan.after - 1; al = scan.low }
 
 -- The Huffman tables in force for a scan. In a frame of an MJPEG stream the default ones stand in
 -- the unset destinations that the scan names.
@@ -83,32 +77,17 @@ needed_if false class table = Ok (no_table class)
 -- one for AC where it has AC.
 unfoldable pub component_coding : Found → Frame → Pass → Tables → ℕ → ℕ → ℕ → Result Coding Fault
 component_coding found frame p tables index dc_destination ac_destination = do
-  component ← needed (first_of (drop index frame.components))
-  quantization ← needed (slice_index_or found.quantization component.factors.quantization None)
+  component ← needed (slice_get frame.components index)
+  table ← needed (slice_index_or found.quantization component.factors.quantization None)
   dc ← needed_if (p.ss == 0) classes.DC (slice_index_or tables.dc dc_destination None)
   ac ← needed_if (nat_lt 0 p.se) classes.AC (slice_index_or tables.ac ac_destination None)
-  Ok (record {
-    index = index;
-    component = component;
-    quantization = quantization;
-    dc = dc;
-    ac = ac;
-  })
+  Ok (record { index = index; component = component; quantization = table; dc = dc; ac = ac })
 
--- those at some indices, with the destinations of their tables
-unfoldable pub codings_from : Found → Frame → Pass → Tables → List ℕ → List ℕ → List ℕ
-    → Result (List Coding) Fault
-codings_from found frame p tables (index ∷ indices) (d ∷ dc_destinations) (a ∷ ac_destinations) =
-    component_coding found frame p tables index d a
-    >>= (λ c. codings_from found frame p tables indices dc_destinations ac_destinations
-    >>= (λ others. Ok (c ∷ others)))
-codings_from found frame p tables _ _ _ = Ok []
-
+-- those of a scan's components, with the destinations of their tables
 unfoldable pub codings_of : Found → Frame → Scan → Result (List Coding) Fault
 codings_of found frame scan =
-    codings_from found frame (pass_of scan) (tables_of found scan) scan.components
-    scan.dc_destinations
-    scan.ac_destinations
+    gathered (λ s. component_coding found frame (pass_of scan) (tables_of found scan) s.0 s.1.0 s.1.1)
+    (zip scan.components (zip scan.dc_destinations scan.ac_destinations))
 
 -- how the blocks of each component of a scan are coded, from a slot on
 unfoldable pub vias_from : ℕ → List Coding → List Via
