@@ -69,12 +69,13 @@ skip-bytes zero more bytes = let e : 0 + more ≡ more = omega arith in ap (λ m
 skip-bytes (suc n) more [] = let e : suc n + more ≡ suc (n + more) = omega arith in ap (λ m. skip_at m []) e
 skip-bytes (suc n) more (b ∷ bytes) =
     let e : suc n + more ≡ suc (n + more) = omega arith in
-    ap (λ m. skip_at m (b ∷ bytes)) e ∙ skip-bytes n more bytes ∙ sym (after b (times n next_byte bytes))
+    ap (λ m. skip_at m (b ∷ bytes)) e
+    ∙ (after (λ rest. Ok (tt, rest)) (times (n + more) next_byte bytes)
+    ∙ skip-bytes n more bytes ∙ sym (after (skip_at more) (times n next_byte bytes)))
   where
-    after : (b : ℕ) (o : Outcome (List ℕ)) → ((o >>= λ (x : List ℕ × List ℕ). Ok (b ∷ x.0, x.1))
-        >>= λ (x : List ℕ × List ℕ). skip_at more x.1) ≡ (o >>= λ (x : List ℕ × List ℕ). skip_at more x.1)
-    after b (Ok x) = refl
-    after b (Err e) = refl
+    after : (f : List ℕ → Outcome (Unit {0})) (o : Outcome (List ℕ)) → ((o >>= λ (x : List ℕ × List ℕ).
+        Ok (b ∷ x.0, x.1)) >>= λ (x : List ℕ × List ℕ). f x.1) ≡ (o >>= λ (x : List ℕ × List ℕ). f x.1)
+    after f o = grind arith
 
 skip-step : (n left : ℕ) (bytes : List ℕ) → n ≤ left
     → skip_at left bytes ≡ (times n next_byte bytes >>= λ (x : List ℕ × List ℕ). skip_at (left - n) x.1)
@@ -92,5 +93,5 @@ skip-goes n left bytes front rest le e =
     skip-step n left bytes le ∙ bind_at _ (times n next_byte bytes) (front, rest) e
 
 pub skip-none : (n : ℕ) (bytes : List ℕ) → n ≤ 0 → skip_at n bytes ≡ Ok (tt, bytes)
-unfolding skip_at
+unfolding skip_at times
 skip-none n bytes h = grind arith
