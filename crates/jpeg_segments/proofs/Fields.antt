@@ -4,6 +4,7 @@ use Rattle.std.proofs.Common.{length, Ok, refl, ap, ◌∙◌, arith}
 use Rattle.std.proofs.lemmas.Bool.{le-ltb}
 use Rattle.jpeg_bits.specs.Reading.{Outcome, ◌>>=◌, next_u16, length_at, skip_at}
 use Rattle.jpeg_segments.specs.WrittenSegments.{u16_bytes, with_length, nibbles}
+use Rattle.jpeg_bits.proofs.Filled.{bytes-read}
 use Rattle.std.proofs.lemmas.Grind.{common_steps}
 
 -- ---- steps
@@ -46,5 +47,4 @@ nibbles-low high low h = omega arith
 
 pub skip-read : (xs : List ℕ) (rest : List ℕ) → skip_at (length xs) (xs ++ rest) ≡ Ok (tt, rest)
 unfolding skip_at
-skip-read [] rest = refl
-skip-read (x ∷ xs) rest = skip-read xs rest
+skip-read xs rest = grind (arith, bytes-read)

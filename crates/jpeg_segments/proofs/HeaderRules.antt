@@ -9,10 +9,10 @@ use Rattle.std.proofs.lemmas.List.Quantifiers.{position-Some}
 use Rattle.jpeg_segments.specs.declared.parser.CodingProcess.{CodingProcess}
 use Rattle.jpeg_segments.specs.Frame.{Frame}
 use Rattle.jpeg_segments.specs.ScanHeader.{is_band, after_of, scan_of, IsBandOf, IsRising}
-use Rattle.jpeg_segments.specs.ScanHeader.{IsSelectorOf}
+use Rattle.jpeg_segments.specs.ScanHeader.{IsSelectorOf, Selector}
 use Rattle.jpeg_segments.specs.ScanHeader.{IsScanOf}
 use Rattle.jpeg_segments.proofs.ScanLemmas.{is-scan, legal-again}
-use Rattle.jpeg_segments.specs.ScanHeaders.{Choice, ScanHeader, selector_for, IsChoice, AreChoices}
+use Rattle.jpeg_segments.specs.ScanHeaders.{ScanHeader, IsChoice, AreChoices}
 use Rattle.jpeg_segments.specs.ScanHeaders.{IsScan, scan_written}
 use Rattle.jpeg_segments.proofs.Fields.{nibbles-high, nibbles-low}
 use Rattle.std.proofs.lemmas.Grind.{common_steps}
@@ -21,21 +21,20 @@ coded-by : (p : CodingProcess) (count first last high low : ℕ) → is_band p c
     → IsBandOf p first (after_of p last) high low
 coded-by p count first last high low h1 = grind (arith, nat_tests)
 
-choice-selects : (frame : Frame) (least : ℕ) (c : Choice) → IsChoice frame least c
-    → IsSelectorOf frame (selector_for frame c)
+choice-selects : (frame : Frame) (least : ℕ) (c : ℕ × Selector) → IsChoice frame least c → IsSelectorOf frame c.1
 choice-selects frame least c is = grind (arith, common_steps, position-Some)
 
-all-select : (frame : Frame) (least : ℕ) (cs : List Choice) → AreChoices frame least cs
-    → All (IsSelectorOf frame) (map (selector_for frame) cs)
+all-select : (frame : Frame) (least : ℕ) (cs : List (ℕ × Selector)) → AreChoices frame least cs
+    → All (IsSelectorOf frame) (map (λ c. c.1) cs)
 unfolding AreChoices
 all-select frame least [] all = All-nil (IsSelectorOf frame)
-all-select frame least (c ∷ cs) all = search (rules, choice-selects, all-select frame (c.component + 1) cs all.1)
+all-select frame least (c ∷ cs) all = search (rules, choice-selects, all-select frame (c.1.component + 1) cs all.1)
 
-all-rise : (frame : Frame) (least : ℕ) (cs : List Choice) → AreChoices frame least cs
-    → IsRising least (map (λ s. s.component) (map (selector_for frame) cs))
+all-rise : (frame : Frame) (least : ℕ) (cs : List (ℕ × Selector)) → AreChoices frame least cs
+    → IsRising least (map (λ s. s.component) (map (λ c. c.1) cs))
 unfolding AreChoices IsRising
 all-rise frame least [] all = tt
-all-rise frame least (c ∷ cs) all = search (rules, all-rise frame (c.component + 1) cs all.1)
+all-rise frame least (c ∷ cs) all = search (rules, all-rise frame (c.1.component + 1) cs all.1)
 
 pub header-rules : (frame : Frame) (h : ScanHeader) → IsScan frame h → IsScanOf frame (scan_written frame h)
 unfolding scan_of

@@ -1,29 +1,29 @@
 -- Frame headers and scan headers: exactly what is written is read.
 use Rattle.std.proofs.lemmas.Bool.Decides.{nat_tests}
 use Rattle.std.proofs.lemmas.List.{length-map}
-use Rattle.std.proofs.Common.{◌≡◌, ℕ, zero, suc, ◌≤◌, ◌<◌, ◌+◌, ◌*◌, ◌/◌, ◌%◌, Bool, false, cond}
+use Rattle.std.proofs.Common.{◌≡◌, ℕ, zero, suc, ◌≤◌, ◌<◌, ◌+◌, ◌*◌, ◌/◌, ◌%◌, Bool, false}
 use Rattle.std.proofs.Common.{List, [], ◌∷◌, ◌++◌, map, length, length-append, append-nil, append_assoc}
-use Rattle.std.proofs.Common.{Some, Ok, Err, refl, sym, ap, ap₂, ◌∙◌, arith, eqb, leb, ltb, rules}
-use Rattle.std.proofs.lemmas.Bool.{le-ltb, eq-eqb, ne_eqb, eqb-true, eqb-false, ltb-false}
+use Rattle.std.proofs.Common.{Some, Ok, refl, sym, ap, ap₂, ◌∙◌, arith, eqb, leb, ltb, rules}
+use Rattle.std.proofs.lemmas.Bool.{ne_eqb, eqb-false}
 use Rattle.std.specs.Prelude.{flat_map, not, ◌&&◌}
-use Rattle.jpeg_bits.specs.Reading.{Malformed, Lacks}
+use Rattle.jpeg_bits.specs.Reading.{Malformed, Lacks, ◌>>=◌}
 use Rattle.jpeg_bits.specs.declared.error.UnsupportedFeature.TheVariants.{DNL}
 use Rattle.jpeg_segments.specs.Frame.{Factors, Frame, frame_of, is_factor, is_destination}
 use Rattle.jpeg_segments.specs.Frame.{is_lossless_number, is_taken, is_precision, is_count}
 use Rattle.jpeg_segments.specs.Frame.{factors_at, components_from, size_at, sof_at}
+use Rattle.jpeg_segments.specs.Checks.{check}
 use Rattle.jpeg_segments.specs.HuffmanTables.{greatest_destination}
-use Rattle.jpeg_segments.specs.ScanHeader.{Selector, index_of, blocks_by}
+use Rattle.jpeg_segments.specs.ScanHeader.{Selector, index_of}
 use Rattle.jpeg_segments.specs.ScanHeader.{selector_at, selectors_from, is_mcu, is_band, scan_of, band_at}
 use Rattle.jpeg_segments.specs.ScanHeader.{count_at, sos_at}
 use Rattle.jpeg_segments.specs.WrittenSegments.{u16_bytes, with_length, nibbles, FrameHeader}
 use Rattle.jpeg_segments.specs.WrittenSegments.{factors_bytes}
 use Rattle.jpeg_segments.specs.WrittenSegments.{frame_payload, IsComponent, AreComponents}
 use Rattle.jpeg_segments.specs.WrittenSegments.{IsFrameHeader, frame_written}
-use Rattle.jpeg_segments.specs.ScanHeaders.{Choice, ScanHeader, choice_bytes, scan_payload}
-use Rattle.jpeg_segments.specs.ScanHeaders.{selector_for}
+use Rattle.jpeg_segments.specs.ScanHeaders.{ScanHeader, choice_bytes, scan_payload, selectors_in}
 use Rattle.jpeg_segments.specs.ScanHeaders.{IsChoice, AreChoices, IsScan, scan_written}
 use Rattle.jpeg_segments.proofs.Fields.{nibbles-high, nibbles-low}
-use Rattle.jpeg_segments.proofs.Codecs.{Codec, bind, ends, check-if, check-unless, checked, present, done, remap}
+use Rattle.jpeg_segments.proofs.Codecs.{Codec, bind, ends, check-unless, checked, present, done, remap}
 use Rattle.jpeg_segments.proofs.Codecs.{namely, nil, cons, byte, u16, length-field}
 use Rattle.std.proofs.lemmas.Grind.{common_steps}
 
@@ -132,74 +132,56 @@ sof-read number h rest is = (sof number is.numbered).reads h rest is
 
 -- ---- scan headers
 
-abbrev selector : Frame → ℕ → ℕ → ℕ → Selector
-selector frame index dc ac = record {
-  component = index;
-  dc = dc;
-  ac = ac;
-  blocks = blocks_by
-      frame.components index;
-}
+abbrev selector : ℕ → ℕ → ℕ → Selector
+selector index dc ac = record { component = index; dc = dc; ac = ac }
 
 greatest-small : (b : Bool) → greatest_destination (Some b) ≤ 3
 greatest-small b = grind (arith, common_steps, nat_tests)
 
 choice : (frame : Frame) (least : ℕ)
-    → Codec (selector_at frame least) (selector_for frame) choice_bytes (IsChoice frame least)
+    → Codec (selector_at frame least) (λ (c : ℕ × Selector). c.1) choice_bytes (IsChoice frame least)
 unfolding selector_at
 choice frame least = remap (bind _ byte (λ (i : ℕ).
     present (index_of frame.components i) (λ (index : ℕ). checked (leb least index)
     (ends _ byte (λ (n : ℕ). checked
     (leb (n / 16) (greatest_destination (Some frame.is_baseline))
     && leb (n % 16) (greatest_destination (Some frame.is_baseline)))
-    (done (selector frame index (n / 16) (n % 16))))))))
-    (λ x is. namely (record {
-      identifier = x.0;
-      component = x.1.0;
-      dc = x.1.1 / 16;
-      ac = x.1.1 % 16;
-    })
+    (done (selector index (n / 16) (n % 16))))))))
+    (λ x is. namely (x.0, selector x.1.0 (x.1.1 / 16) (x.1.1 % 16))
     (grind (arith, common_steps, nat_tests)) refl (ap (λ (k : ℕ). x.0 ∷ k ∷ []) (omega arith)))
     (λ c is.
     let small = greatest-small frame.is_baseline in
-    let high : nibbles c.dc c.ac / 16 ≡ c.dc = search (rules, nibbles-high) in
-    let low : nibbles c.dc c.ac % 16 ≡ c.ac = search (rules, nibbles-low) in
-    namely (c.identifier, (c.component, nibbles c.dc c.ac))
+    let high : nibbles c.1.dc c.1.ac / 16 ≡ c.1.dc = search (rules, nibbles-high) in
+    let low : nibbles c.1.dc c.1.ac % 16 ≡ c.1.ac = search (rules, nibbles-low) in
+    namely (c.0, (c.1.component, nibbles c.1.dc c.1.ac))
     (rw (high, low) (grind (arith, common_steps, nat_tests))) (rw (high, low)) refl)
 
 -- n components, the first of which stands at least at this place
-abbrev Choose : Frame → ℕ → ℕ → List Choice → Type 0
+abbrev Choose : Frame → ℕ → ℕ → List (ℕ × Selector) → Type 0
 Choose frame n least cs = (length cs ≡ n) × AreChoices frame least cs
 
 choices : (frame : Frame) (n : ℕ) (front : List Selector) (least : ℕ) → Codec (selectors_from frame n front least)
-    (λ (cs : List Choice). front ++ map (selector_for frame) cs) (flat_map choice_bytes) (Choose
-    frame n least)
+    (λ (cs : List (ℕ × Selector)). front ++ map (λ c. c.1) cs) (flat_map choice_bytes) (Choose frame n least)
 unfolding selectors_from AreChoices
 choices frame zero front least = grind (arith, common_steps, nil, append-nil)
 choices frame (suc n) front least = cons choice_bytes _ _ (bind (λ (s : Selector).
-    selectors_from frame n (front ++ s ∷ []) (s.component + 1)) (choice frame least) (λ (c : Choice).
-    choices frame n (front ++ selector_for frame c ∷ []) (c.component + 1)))
-    (λ c cs. append_assoc front (selector_for frame c ∷ []) (map (selector_for frame) cs))
+    selectors_from frame n (front ++ s ∷ []) (s.component + 1)) (choice frame least) (λ (c : ℕ × Selector).
+    choices frame n (front ++ c.1 ∷ []) (c.1.component + 1)))
+    (λ c cs. append_assoc front (c.1 ∷ []) (map (λ c. c.1) cs))
     (λ c cs is. (ap suc is.1.0, (is.0, is.1.1))) (λ is. omega (arith, is.0))
     (λ c cs is. (is.1.0, (omega (arith, is.0), is.1.1)))
 
 -- the length and the number of components
 count : Codec count_at (λ (n : ℕ). n) (λ (n : ℕ). u16_bytes (4 + 2 * n + 2) ++ (n ∷ [])) (λ (n : ℕ). (1 ≤ n) × (n ≤ 4))
 unfolding count_at
-count = remap (bind _ length-field (λ (left : ℕ). check-unless (eqb left 0) Malformed
-    (ends _ byte (λ (n : ℕ). check-unless (eqb n 0) Malformed (check-unless (ltb 4 n) Malformed
-    (check-if (eqb left (4 + 2 * n)) Malformed (done n)))))))
+count = remap (bind _ length-field (λ (left : ℕ). checked (ltb 0 left)
+    (ends _ byte (λ (n : ℕ). checked (ltb 0 n && (leb n 4 && eqb left (4 + 2 * n))) (done n)))))
     (λ x is.
-    let r = is.1.1.1 in
-    namely x.1 (some-number x.1 r.0, ltb-false 4 x.1 r.1.0) refl
-    (ap (λ (l : ℕ). u16_bytes (l + 2) ++ (x.1 ∷ [])) (eqb-true x.0 (4 + 2 * x.1) r.1.1.0)))
-    (λ n is.
-    let long = ne_eqb (4 + 2 * n) 0 (λ e. omega (arith, e)) in
-    let some = ne_eqb n 0 (λ e. omega (arith, e, is.0)) in
-    let same = eq-eqb (4 + 2 * n) (4 + 2 * n) refl in
-    namely (4 + 2 * n, n) (tt, (long, (tt, (some, (le-ltb 4 n is.1, (same, tt)))))) refl refl)
+    let long : x.0 ≡ 4 + 2 * x.1 = grind (arith, common_steps, nat_tests) in
+    namely x.1 (grind (arith, common_steps, nat_tests)) refl (ap (λ (l : ℕ). u16_bytes (l + 2) ++ (x.1 ∷ [])) long))
+    (λ n is. namely (4 + 2 * n, n) (grind (arith, common_steps, nat_tests)) refl refl)
 
-choices-length : (cs : List Choice) → length (flat_map choice_bytes cs) ≡ 2 * length cs
+choices-length : (cs : List (ℕ × Selector)) → length (flat_map choice_bytes cs) ≡ 2 * length cs
 choices-length [] = omega arith
 choices-length (c ∷ cs) = search (rules, length-append, choices-length cs)
 
@@ -216,15 +198,14 @@ pub sos : (frame : Frame)
     (IsScan frame)
 unfolding sos_at band_at scan_payload
 sos frame = remap (bind _ count (λ (n : ℕ). bind (λ (ss : List Selector) (bytes : List ℕ).
-    cond (is_mcu ss) (band_at frame ss bytes) (Err Malformed)) (choices frame n [] 0)
-    (λ (cs : List Choice). check-if (is_mcu (map (selector_for frame) cs)) Malformed
+    check (is_mcu frame ss) >>= λ (u : Unit {0}). band_at frame ss bytes) (choices frame n [] 0)
+    (λ (cs : List (ℕ × Selector)). checked (is_mcu frame (map (λ c. c.1) cs))
     (bind _ byte (λ (first : ℕ). bind _ byte (λ (last : ℕ). ends _ byte (λ (levels : ℕ).
-    check-if (ltb (levels % 16) frame.precision) Malformed
-    (check-if (is_band frame.process (length (map (selector_for frame) cs)) first last (levels / 16)
-    (levels % 16)) Malformed
-    (done (scan_of frame (map (selector_for frame) cs) first last levels))))))))))
+    checked (ltb (levels % 16) frame.precision
+    && is_band frame.process (length (map (λ (c : ℕ × Selector). c.1) cs)) first last (levels / 16) (levels % 16))
+    (done (scan_of frame (map (λ c. c.1) cs) first last levels)))))))))
     (λ x is.
-    let cs : List Choice = x.1.0 in
+    let cs : List (ℕ × Selector) = x.1.0 in
     let first : ℕ = x.1.1.0 in
     let last : ℕ = x.1.1.1.0 in
     let l : ℕ = x.1.1.1.1 in
@@ -233,22 +214,18 @@ sos frame = remap (bind _ count (λ (n : ℕ). bind (λ (ss : List Selector) (by
     record { choices = cs; first = first; last = last; high = l / 16; low = l % 16 } in
     let n : length cs ≡ x.0 = is.1.0.0 in
     namely h (grind (arith, common_steps, length-map))
-    (ap (scan_of frame (map (selector_for frame) cs) first last) code)
+    (ap (scan_of frame (selectors_in h) first last) code)
     (ap₂ (λ (k m : ℕ). (u16_bytes (4 + 2 * k + 2) ++ (k ∷ []))
     ++ (flat_map choice_bytes cs ++ (first ∷ last ∷ m ∷ []))) (sym n) code
     ∙ ap (λ (k : ℕ). u16_bytes (k + 2) ++ (length cs ∷ (flat_map choice_bytes cs ++ levels_bytes h)))
     (sym (scan-length h))))
     (λ h is.
-    let cs : List Choice = h.choices in
+    let cs : List (ℕ × Selector) = h.choices in
     let high : nibbles h.high h.low / 16 ≡ h.high = nibbles-high h.high h.low is.narrow in
     let low : nibbles h.high h.low % 16 ≡ h.low = nibbles-low h.high h.low is.narrow in
-    let band = ap (λ (k : ℕ). is_band frame.process k h.first h.last h.high h.low)
-    (length-map cs (selector_for frame)) ∙ is.band in
+    let counted = length-map cs (λ c. c.1) in
     namely (length cs, (cs, (h.first, (h.last, nibbles h.high h.low))))
-    (rw (high, low) (
-      (is.some, is.most),
-      ((refl, is.choices), (is.fits, (tt, (tt, (tt, (is.precise, (band, tt))))))),
-    ))
+    (rw (high, low) (grind (arith, common_steps)))
     refl
     (ap (λ (k : ℕ). u16_bytes (k + 2) ++ (length cs ∷ (flat_map choice_bytes cs ++ levels_bytes h)))
     (scan-length h)))

@@ -11,8 +11,10 @@ use Rattle.jpeg_bits.specs.Reading.{◌>>=◌}
 use Rattle.std.specs.Prelude.{◌||◌}
 use Rattle.jpeg_segments.specs.declared.parser.CodingProcess.{CodingProcess}
 use Rattle.jpeg_segments.specs.declared.parser.Component.{Component as Seen}
+use Rattle.jpeg_segments.specs.declared.scan_header.Selector.{Selector as Read}
 use Rattle.jpeg_segments.specs.Frame as frames
-use Rattle.jpeg_segments.specs.FrameView.{component_in}
+use Rattle.jpeg_segments.specs.FrameView.{component_in, selector_of}
+use Rattle.jpeg_segments.specs.Parts.{HasBlocks}
 use Rattle.jpeg_segments.specs.ScanHeader.{IsBandOf, after_of, is_band, is_mcu, IsRising, IsScanOf}
 use Rattle.jpeg_segments.specs.ScanHeader.{IsSelectorOf, Scan}
 use Rattle.jpeg_segments.specs.ScanHeader.{Selector, blocks_by, selector_at, selectors_from}
@@ -56,13 +58,23 @@ pub legal-again : (p : CodingProcess) (count first last high low : ℕ) → is_b
     → is_band p count first (after_of p last - 1) high low ≡ true
 legal-again p count first last high low h1 = grind (arith, nat_tests)
 
--- the blocks of an MCU, by the places of the components
-same-blocks : (frame : frames.Frame) (xs : List Selector) → All (IsSelectorOf frame) xs
-    → sum_by (blocks_by frame.components) (map (λ x. x.component) xs) ≡ sum_by (λ x. x.blocks) xs
-same-blocks frame [] indices = refl
-same-blocks frame (x ∷ xs) indices =
-    let one = All-head (IsSelectorOf frame) x xs indices in
-    search (rules, sum_by-cons, same-blocks frame xs (All-tail (IsSelectorOf frame) x xs indices))
+-- the blocks of an MCU, as the code keeps them
+kept-blocks : (frame : frames.Frame) (xs : List Read) → All (HasBlocks frame) xs
+    → sum_by (λ s. blocks_by frame.components s.component) (map selector_of xs) ≡ sum_by (λ s. s.blocks) xs
+kept-blocks frame [] all = refl
+kept-blocks frame (x ∷ xs) all =
+    let one = All-head (HasBlocks frame) x xs all in
+    search (rules, sum_by-cons, kept-blocks frame xs (All-tail (HasBlocks frame) x xs all))
+
+pub mcu_of_blocks : (frame : frames.Frame) (xs : List Read) → All (HasBlocks frame) xs
+    → is_mcu frame (map selector_of xs) ≡ (nat_le (length xs) 1 || nat_le (sum_by (λ s. s.blocks) xs) 10)
+mcu_of_blocks frame xs all = rw (kept-blocks frame xs all, length-map xs selector_of) refl
+
+-- the same, by the indices of the components
+blocks-by : (frame : frames.Frame) (xs : List Selector) → sum_by (blocks_by frame.components) (map (λ x. x.component) xs)
+    ≡ sum_by (λ x. blocks_by frame.components x.component) xs
+blocks-by frame [] = refl
+blocks-by frame (x ∷ xs) = search (rules, sum_by-cons, blocks-by frame xs)
 
 few : (count blocks : ℕ) → (nat_le count 1 || nat_le blocks 10) ≡ true → 2 ≤ count → blocks ≤ 10
 few count blocks e h = grind (arith, common_steps, nat_le, leb-true)
@@ -84,7 +96,7 @@ rises-all front least rises = subst (IsRising 0) (append-nil front) (rises [] tt
 
 pub is-scan : (frame : frames.Frame) (xs : List Selector) (s : Scan) → 1 ≤ length xs → length xs ≤ 4
     → All (IsSelectorOf frame) xs
-    → IsRising 0 (map (λ x. x.component) xs) → is_mcu xs ≡ true
+    → IsRising 0 (map (λ x. x.component) xs) → is_mcu frame xs ≡ true
     → s.components ≡ map (λ x. x.component) xs → s.dc_destinations ≡ map (λ x. x.dc) xs →
     s.ac_destinations ≡ map (λ x. x.ac) xs
     → IsBandOf frame.process s.first s.after s.high s.low
@@ -99,7 +111,7 @@ is-scan frame xs s some most indices rising mcu components dc ac coded legal bel
           (all-of (IsSelectorOf frame) (λ n. n < length frame.components) (λ x. x.component) (λ x p. p.component) xs
           indices);
       rising = rw components rising;
-      few_blocks = search (rules, same-blocks, few, sum_by);
+      few_blocks = search (rules, blocks-by, few);
       dc_length = (ap length dc ∙ length-map xs (λ x. x.dc)) ∙ sym count;
       dc_destinations = rw dc (all-of (IsSelectorOf frame) (λ n. n ≤ 3) (λ x. x.dc) (λ x p. p.dc)
           xs indices);

@@ -1,16 +1,18 @@
 -- The functions of the code that a segment is read by, each by a definition. What is read of a whole
 -- segment is made of these, as proofs/PartsOfSegments says; no public clause speaks of them.
-use Rattle.std.specs.Prelude.{ℕ, ◌+◌, ◌*◌, ◌/◌, ◌%◌, List, Bool, Some, Ok, Err, nat_lt}
+use Rattle.std.specs.Prelude.{◌≡◌, ℕ, ◌+◌, ◌*◌, ◌/◌, ◌%◌, List, Bool, Option, Some, Ok, Err, nat_lt}
 use Rattle.std.specs.Prelude.{◌==◌, if◌then◌else◌, sum}
 use Rattle.std.specs.List.{list_any}
 use Rattle.jpeg_bits.specs.Reading.{Outcome, Malformed, ◌>>=◌, next_byte, length_at, times}
 use Rattle.jpeg_bits.specs.Codes.{Table, code_lengths, codes_exist}
 use Rattle.jpeg_bits.specs.declared.codes.HuffmanTableClass.{HuffmanTableClass}
+use Rattle.jpeg_segments.specs.declared.scan_header.Selector.{Selector as Read}
+use Rattle.jpeg_segments.specs.Application.{Application, application_by}
 use Rattle.jpeg_segments.specs.Frame.{Factors, Frame, is_count, is_destination, is_factor}
 use Rattle.jpeg_segments.specs.Frame.{is_precision, size_at}
 use Rattle.jpeg_segments.specs.HuffmanTables.{greatest_destination}
 use Rattle.jpeg_segments.specs.Quantization.{value_at}
-use Rattle.jpeg_segments.specs.ScanHeader.{Selector}
+use Rattle.jpeg_segments.specs.ScanHeader.{Selector, blocks_by}
 
 -- The sampling factors and the destination of the quantization table, after the identifier.
 unfoldable pub parameters_at : Bool → ℕ → List ℕ → Outcome Factors
@@ -77,6 +79,10 @@ destinations_at frame index bytes = do
         destinations.1,
       ))
 
+-- The code keeps the blocks that the component of a selector has in an MCU.
+abbrev pub HasBlocks : Frame → Read → Type 0
+HasBlocks frame s = s.blocks ≡ blocks_by frame.components s.component
+
 -- The values of a table of these counts, and the table, where codes of these lengths exist.
 unfoldable pub symbols_at : HuffmanTableClass → List ℕ → List ℕ → Outcome Table
 symbols_at class counts bytes = do
@@ -100,3 +106,9 @@ unfoldable pub table_at : Bool → List ℕ → Outcome (List ℕ)
 table_at is_wide bytes = do
   values ← times 64 (value_at is_wide) bytes
   if list_any (λ v. v == 0) values.0 then Err Malformed else Ok values
+
+-- what a payload of `left` bytes says, by the number n of the marker APPn
+unfoldable pub payload_at : ℕ → ℕ → List ℕ → Outcome (Option Application)
+payload_at number left bytes = do
+  payload ← times left next_byte bytes
+  Ok (application_by number payload.0, payload.1)

@@ -1,14 +1,13 @@
 //! Segments of applications, comments, and restart intervals.
 ghost use Rattle.std.specs.Prelude.{◌≡◌, ◌≤◌, ℕ, None, Some, IfOk, IsErrAnd, drop, length};
 ghost use Rattle.std.specs.Prelude.{option_map};
-ghost use Rattle.std.specs.Prelude.{true, Err};
+ghost use Rattle.std.specs.Prelude.{true, Err, nat_le, if◌then◌else◌};
 ghost use Rattle.jpeg_bits.specs.Reading.{Answers, Malformed, NamesFormat};
 ghost use Rattle.jpeg_bits.specs.declared.error.Error.TheVariants.{OutOfMemory};
 ghost use Rattle.jpeg_bits.specs.declared.marker.Marker.TheVariants.{APP};
-ghost use Rattle.jpeg_segments.specs.Application.{Adobe, app_at, com_at, dri_at, payload_at};
-ghost use Rattle.jpeg_segments.specs.Application.{application_0, application_1, application_2};
-ghost use Rattle.jpeg_segments.specs.Application.{application_13, application_14, application_by};
-ghost use Rattle.jpeg_segments.specs.Application.{transform_by, passed_over, adobe_at};
+ghost use Rattle.jpeg_segments.specs.Application.{Adobe, adobe_at, app_at, application_by, com_at};
+ghost use Rattle.jpeg_segments.specs.Application.{dri_at, passed_over, transform_by};
+ghost use Rattle.jpeg_segments.specs.Parts.{payload_at};
 ghost use Rattle.jpeg_segments.specs.FrameView.{application_in};
 
 use crate::parser::{AdobeColorTransform, AppData, IccChunk};
@@ -35,9 +34,9 @@ fn bytes_after(
 }
 
 /// APP0: a JFIF file, or a frame of an MJPEG stream.
-#[tactic(auto, unfolding(crate::specs::Application::application_0))]
+#[tactic(auto, unfolding(crate::specs::Application::application_by))]
 fn application_0(payload: &[u8]) -> Option<AppData>
-    ensures { option_map application_in result ≡ application_0 payload.now }
+    ensures { option_map application_in result ≡ application_by 0 payload.now }
 {
     if payload.starts_with(b"JFIF\0") {
         Some(AppData::Jfif)
@@ -49,9 +48,9 @@ fn application_0(payload: &[u8]) -> Option<AppData>
 }
 
 /// APP1: Exif or XMP data.
-#[tactic(auto, unfolding(crate::specs::Application::application_1))]
+#[tactic(auto, unfolding(crate::specs::Application::application_by))]
 fn application_1(alloc: Global, payload: &[u8]) -> Said
-    ensures { IfOk result (λ said. option_map application_in said ≡ application_1 payload.now) }
+    ensures { IfOk result (λ said. option_map application_in said ≡ application_by 1 payload.now) }
 {
     if payload.starts_with(b"Exif\0\0") {
         Ok(Some(AppData::Exif(bytes_after(alloc, payload, 6)?)))
@@ -63,9 +62,9 @@ fn application_1(alloc: Global, payload: &[u8]) -> Said
 }
 
 /// APP2: a part of an ICC profile, of at least one byte.
-#[tactic(auto, unfolding(crate::specs::Application::application_2))]
+#[tactic(auto, unfolding(crate::specs::Application::application_by))]
 fn application_2(alloc: Global, payload: &[u8]) -> Said
-    ensures { IfOk result (λ said. option_map application_in said ≡ application_2 payload.now) }
+    ensures { IfOk result (λ said. option_map application_in said ≡ application_by 2 payload.now) }
 {
     if payload.len() > 14 && payload.starts_with(b"ICC_PROFILE\0") {
         Ok(Some(AppData::Icc(IccChunk {
@@ -79,9 +78,9 @@ fn application_2(alloc: Global, payload: &[u8]) -> Said
 }
 
 /// APP13: Photoshop's image resources.
-#[tactic(auto, unfolding(crate::specs::Application::application_13))]
+#[tactic(auto, unfolding(crate::specs::Application::application_by))]
 fn application_13(alloc: Global, payload: &[u8]) -> Said
-    ensures { IfOk result (λ said. option_map application_in said ≡ application_13 payload.now) }
+    ensures { IfOk result (λ said. option_map application_in said ≡ application_by 13 payload.now) }
 {
     if payload.starts_with(b"Photoshop 3.0\0") {
         Ok(Some(AppData::Psir(bytes_after(alloc, payload, 14)?)))
@@ -168,14 +167,15 @@ fn read_adobe<R: Read + Drop>(
 }
 
 /// Reads the payload after the marker `APP(14)`, of `left` bytes.
-#[tactic(auto, unfolding(crate::specs::Application::application_14))]
+#[tactic(auto, using(crate::proofs::ApplicationLemmas::payload_passed))]
 fn read_application_14<R: Read + Drop>(
     alloc: Global,
     source: &mut Source<R>,
     left: u16,
 ) -> Result<Option<AppData>>
-    ensures { Answers (option_map application_in) (application_14 left) source.old result
-        source.new }
+    ensures { Answers (option_map application_in)
+        (λ bytes. if nat_le 12 left then adobe_at left bytes else payload_at 14 left bytes)
+        source.old result source.new }
 {
     if left < 12 {
         pass_over(alloc, source, left)
@@ -204,7 +204,7 @@ fn read_payload<R: Read + Drop>(
 }
 
 /// Reads the payload after the marker `APP(number)`, of `left` bytes.
-#[tactic(auto, unfolding(crate::specs::Application::payload_at))]
+#[tactic(auto, unfolding(crate::specs::Parts::payload_at))]
 fn read_known_payload<R: Read + Drop>(
     alloc: Global,
     source: &mut Source<R>,
@@ -218,7 +218,7 @@ fn read_known_payload<R: Read + Drop>(
     Ok(application_by(alloc, number, &payload)?)
 }
 
-#[tactic(auto, unfolding(crate::specs::Application::app_at))]
+#[tactic(auto, unfolding(crate::specs::Application::app_at, crate::specs::Parts::payload_at))]
 fn read_application<R: Read + Drop>(
     alloc: Global,
     source: &mut Source<R>,

@@ -1,6 +1,6 @@
 //! Scan headers.
 ghost use Rattle.std.specs.Prelude.{◌≡◌, ◌≤◌, ◌<◌, ◌==◌, ◌*◌, [], map, position, length, sum_by};
-ghost use Rattle.std.specs.Prelude.{IsTrue, IfOk, IfSome, All, true};
+ghost use Rattle.std.specs.Prelude.{IsTrue, IfOk, IfSome, All, true, nat_le, ◌||◌};
 ghost use Rattle.jpeg_bits.specs.Reading.{Answers, NamesFormat};
 ghost use Rattle.jpeg_segments.specs.HuffmanTables.{greatest_destination};
 ghost use Rattle.jpeg_segments.specs.ScanHeader.{IsBandOf, IsRising, IsScanOf, IsSelectorOf};
@@ -9,7 +9,7 @@ ghost use Rattle.jpeg_segments.specs.ScanHeader.{is_lossless_band, is_mcu, is_pr
 ghost use Rattle.jpeg_segments.specs.ScanHeader.{is_sequential_band, index_of, predictor_by};
 ghost use Rattle.jpeg_segments.specs.ScanHeader.{predictor_of, scan_of, selector_at};
 ghost use Rattle.jpeg_segments.specs.ScanHeader.{selectors_from, sos_at};
-ghost use Rattle.jpeg_segments.specs.Parts.{destinations_at};
+ghost use Rattle.jpeg_segments.specs.Parts.{HasBlocks, destinations_at};
 ghost use Rattle.jpeg_segments.specs.FrameView.{component_in, frame_in, scan_in, selector_of};
 
 use crate::huffman_tables::{expected_destinations, greatest_destination};
@@ -120,6 +120,7 @@ fn read_tables<R: Read + Drop>(
         result
         source.new }
     ensures index { IfOk result (λ s. IsSelectorOf (frame_in frame.now) (selector_of s)) }
+    ensures blocks { IfOk result (λ s. HasBlocks (frame_in frame.now) s) }
     ensures same { IfOk result (λ s. s.component ≡ index) }
 {
     let indices = read_u8(alloc, source)?;
@@ -154,6 +155,7 @@ fn read_selector<R: Read + Drop>(
     ensures answers { Answers selector_of (selector_at (frame_in frame.now) least) source.old result
         source.new }
     ensures index { IfOk result (λ s. IsSelectorOf (frame_in frame.now) (selector_of s)) }
+    ensures blocks { IfOk result (λ s. HasBlocks (frame_in frame.now) s) }
     ensures least { IfOk result (λ s. least ≤ s.component) }
 {
     let identifier = read_u8(alloc, source)?;
@@ -180,6 +182,7 @@ fn read_selectors<R: Read + Drop>(
     ensures length { IfOk result (λ v. length v.items ≡ count) }
     ensures indices { IfOk result (λ v. All (IsSelectorOf (frame_in frame.now))
         (map selector_of v.items)) }
+    ensures blocks { IfOk result (λ v. All (HasBlocks (frame_in frame.now)) v.items) }
     ensures rising { IfOk result (λ v.
         IsRising 0 (map (λ s. s.component) (map selector_of v.items))) }
 {
@@ -210,7 +213,8 @@ fn total(selectors: &[Selector]) -> u32
 /// Returns whether an MCU of several components has at most 10 blocks.
 fn is_mcu(selectors: &[Selector]) -> bool
     requires { length selectors.now ≤ 4 }
-    ensures { result ≡ is_mcu (map selector_of selectors.now) }
+    ensures { result ≡ (nat_le (length selectors.now) 1
+        || nat_le (sum_by (λ s. s.blocks) selectors.now) 10) }
 {
     selectors.len() <= 1 || total(selectors) <= 10
 }
@@ -453,7 +457,7 @@ fn read_band<R: Read + Drop>(
     requires most { length selectors.now ≤ 4 }
     requires indices { All (IsSelectorOf (frame_in frame.now)) (map selector_of selectors.now) }
     requires rising { IsRising 0 (map (λ s. s.component) (map selector_of selectors.now)) }
-    requires mcu { is_mcu (map selector_of selectors.now) ≡ true }
+    requires mcu { is_mcu (frame_in frame.now) (map selector_of selectors.now) ≡ true }
     ensures answers { Answers scan_in (band_at (frame_in frame.now) (map selector_of selectors.now))
         source.old result source.new }
     ensures scan { IfOk result (λ s. IsScanOf (frame_in frame.now) (scan_in s)) }
@@ -487,7 +491,11 @@ fn read_band<R: Read + Drop>(
 /// Errors: `Format` where the header breaks a rule, names a component that the frame does not have,
 /// or names components out of the frame's order; `Io` where the bytes end or a read fails;
 /// `OutOfMemory`.
-#[tactic(auto, unfolding(crate::specs::ScanHeader::sos_at))]
+#[tactic(
+    auto,
+    using(crate::proofs::ScanLemmas::mcu_of_blocks),
+    unfolding(crate::specs::ScanHeader::sos_at)
+)]
 pub fn parse_sos<R: Read + Drop>(
     alloc: Global,
     reader: &mut Source<R>,

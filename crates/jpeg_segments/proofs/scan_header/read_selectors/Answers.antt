@@ -7,6 +7,7 @@ use Rattle.jpeg_bits.proofs.Loops.{bind_at, bind_err}
 use Rattle.jpeg_segments.specs.declared.scan_header.Selector.{Selector as Read}
 use Rattle.jpeg_segments.specs.ScanHeader.{IsSelectorOf, Selector, selectors_from}
 use Rattle.jpeg_segments.specs.FrameView.{frame_in, selector_of}
+use Rattle.jpeg_segments.specs.Parts.{HasBlocks}
 use Rattle.jpeg_segments.proofs.ScanLemmas.{rises-all, rises-more, selectors_from-more}
 use Rattle.jpeg_segments.proofs.scan_header.read_selectors.Goals as goal
 
@@ -33,6 +34,8 @@ loop-left-preserved g c =
       indices = rw e (All-push (IsSelectorOf frame) front (selector_of one)
           c.loop-left.invariant.indices
           c.in_ok-selector.ensures.index);
+      blocks = rw pushed (All-push (HasBlocks frame) c.loop-left.selectors.items one c.loop-left.invariant.blocks
+          c.in_ok-selector.ensures.blocks);
     }
 
 pub returns-in_err-selector-clause-answers : goal.returns-in_err-selector-clause-answers
