@@ -217,6 +217,7 @@ of-number number bytes few named = go (eqb number 0 && begins_with bytes jfif_na
           numbered = refl;
           written = refl;
         }
+
 pub app-only : (number : ℕ) (bytes rest : List ℕ) (said : Option Application) → number ≤ 15
     → AreBytes bytes → app_at number bytes ≡ Ok (said, rest)
     → (d : ApplicationData) × IsApplicationData d × ((application_parts d).0 ≡ number)

@@ -491,11 +491,7 @@ fn read_band<R: Read + Drop>(
 /// Errors: `Format` where the header breaks a rule, names a component that the frame does not have,
 /// or names components out of the frame's order; `Io` where the bytes end or a read fails;
 /// `OutOfMemory`.
-#[tactic(
-    auto,
-    using(crate::proofs::ScanLemmas::mcu_of_blocks),
-    unfolding(crate::specs::ScanHeader::sos_at)
-)]
+#[tactic(auto, using(crate::proofs::ScanLemmas::mcu_of_blocks), unfolding(crate::specs::ScanHeader::sos_at))]
 pub fn parse_sos<R: Read + Drop>(
     alloc: Global,
     reader: &mut Source<R>,
