@@ -1,7 +1,9 @@
 -- The spots of a scan are apart, and inside the arrays of its components.
+use Rattle.std.specs.Prelude.{slice_get}
 use Rattle.std.proofs.Math.Logic.{⊎_elim}
 use Rattle.std.proofs.lemmas.Grind.{common_steps}
 use Rattle.std.proofs.Common.{rules, ◌≡◌, ◌⊎◌, inl, inr, ℕ, zero, suc, ◌+◌, ◌*◌, ◌/◌, ◌%◌, ◌<◌, ◌≤◌, List, [], ◌∷◌}
+use Rattle.std.proofs.Common.{Some}
 use Rattle.std.proofs.Common.{◌++◌, map, length, get_or, refl, sym, ap, ap₂, ◌∙◌, subst, arith}
 use Rattle.std.proofs.Math.Nat.{div-lt_iff_lt-mul}
 use Rattle.std.proofs.lemmas.Nat.{div-mul-add, mod-mul-add}
@@ -98,6 +100,11 @@ pub at-all : {A : Type 0} (Q : A → Type 0) (j : ℕ) (xs : List A) (x : A) →
 at-all Q j [] x h k = absurd k
 at-all Q zero (y ∷ xs) x h k = subst Q k h.0
 at-all Q (suc j) (y ∷ xs) x h k = at-all Q j xs x h.1 k
+
+pub get-at : {A : Type 0} (j : ℕ) (xs : List A) (x : A) → slice_get xs j ≡ Some x → At j xs x
+get-at j [] x e = search rules
+get-at zero (y ∷ xs) x e = cc
+get-at (suc j) (y ∷ xs) x e = get-at j xs x e
 
 -- ---- one component
 

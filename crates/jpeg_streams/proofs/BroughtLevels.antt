@@ -17,7 +17,7 @@ use Rattle.jpeg_bits.specs.Passes.{Pass, Block, whole_pass, zero_block}
 use Rattle.jpeg_streams.specs.Order.{grid_of}
 use Rattle.jpeg_segments.specs.Scales.{frame_at}
 use Rattle.jpeg_streams.specs.Scans.{Arrays, zero_arrays}
-use Rattle.jpeg_streams.specs.ScanSegments.{arrays_before, Coding, codings_of, pass_of, is_progressive, tables_of}
+use Rattle.jpeg_streams.specs.ScanSegments.{arrays_before, Coding, pass_of, is_progressive}
 use Rattle.jpeg_streams.specs.ScanSegments.{after_scan, blocks_after}
 use Rattle.jpeg_streams.specs.ScanSegments.{put_arrays, scan_arrays}
 use Rattle.jpeg_streams.specs.Found.{none_finished, Found}
@@ -30,10 +30,10 @@ use Rattle.jpeg_streams.proofs.FinishedMarks.{IsBand, marks-start}
 use Rattle.jpeg_streams.proofs.OwnSpots.{At, at-get, Fits}
 use Rattle.jpeg_streams.proofs.WrittenFrameScans.{HoldsOwn, HasGood, SlotReady, SpotsSuit, dc_alone, one_component}
 use Rattle.jpeg_streams.proofs.WrittenFrameScans.{ReadsScan, scan-is_read, cut-nothing}
-use Rattle.jpeg_streams.proofs.Apart.{at-all}
+use Rattle.jpeg_streams.proofs.Apart.{at-all, get-at}
 use Rattle.jpeg_streams.proofs.ReadStates.{reading, Marked, AllDone, indices_of, Brought, brings}
 use Rattle.jpeg_streams.proofs.ReadStates.{AllKept, blocks-after}
-use Rattle.jpeg_streams.proofs.ReadTurns.{codings-each, codings-indices, first-drop}
+use Rattle.jpeg_streams.proofs.ReadTurns.{codings-each, codings-indices}
 use Rattle.jpeg_streams.proofs.UpsampledFactors.{either as either-true}
 
 -- ---- what a scan header says
@@ -259,20 +259,16 @@ module _ (w : Found) (f : Frame) (array : Coefficients) (levels : ℕ → Levels
   now = reading w sc h fi pl
 
   indices : indices_of codings ≡ s.components
-  unfolding codings_of
-  indices = codings-indices w f (pass_of s) (tables_of w s) s.components s.dc_destinations s.ac_destinations codings
-      rules.dc_length rules.ac_length legal.are_in_force
+  indices = codings-indices w f s codings rules.dc_length rules.ac_length legal.are_in_force
 
   count : length codings ≡ length s.components
   count = sym (length-map codings _) ∙ ap length indices
 
   facts : AllByRecursion (CodingFacts w f) codings
-  unfolding codings_of
-  facts = codings-each (CodingFacts w f) w f (pass_of s) (tables_of w s) s.components s.dc_destinations
-      s.ac_destinations codings legal.are_in_force (λ index d a k is. record {
-        at = first-drop k.index f.components k.component is.component;
-        table = is.quantization;
-      })
+  facts = codings-each (CodingFacts w f) w f s codings legal.are_in_force (λ index d a k is. record {
+    at = get-at k.index f.components k.component is.component;
+    table = is.quantization;
+  })
 
   apart : AreApart (indices_of codings)
   apart = subst AreApart (sym indices) rules.apart

@@ -1,7 +1,8 @@
 -- Every image has a stream: for each component a scan, or in a progressive frame a scan of DC and one of AC.
+use Rattle.jpeg_segments.specs.Checks.{gathered}
 use Rattle.std.proofs.Math.Logic.{⊎_elim}
 use Rattle.std.proofs.Common.{rules, ◌≡◌, ◌≢◌, ℕ, zero, suc, ◌+◌, ◌/◌, ◌%◌, ◌<◌, ◌≤◌, ◌==◌}
-use Rattle.std.proofs.Common.{not, Bool, true, false, List, [], ◌∷◌, ◌++◌, map, length, drop, replicate, flat_map, ℤ}
+use Rattle.std.proofs.Common.{not, Bool, true, false, List, [], ◌∷◌, ◌++◌, map, length, replicate, flat_map, ℤ}
 use Rattle.std.proofs.Common.{Some, None, Ok, refl, sym, ap, ap₂, ◌∙◌, subst, append_assoc, length-append, arith}
 use Rattle.std.proofs.Common.{true≢false, leb-true}
 use Rattle.std.proofs.lemmas.Grind.{common_steps}
@@ -11,6 +12,7 @@ use Rattle.std.proofs.lemmas.List.{append-nil}
 use lib.ListN.{length-map}
 use Rattle.std.specs.List.{AllByRecursion, prefix_len, range_with_len}
 use Rattle.std.specs.Prelude.{slice_index_or}
+use Rattle.std.specs.Prelude.{slice_get}
 use Rattle.jpeg_bits.specs.Passes.{Block, Pass, Via, whole_pass}
 use Rattle.jpeg_bits.specs.declared.codes.HuffmanTableClass.TheVariants as classes
 use Rattle.jpeg_segments.specs.Frame.{Component, component_of, Factors, Frame, frame_of, greatest, is_lossless_number}
@@ -27,8 +29,7 @@ use Rattle.jpeg_streams.specs.Levels.{Is8Bit, Levels, sent_after, nothing_sent, 
 use Rattle.jpeg_streams.specs.Order.{grid_of, mcu_size, own_spots, Spot, spots_of}
 use Rattle.jpeg_streams.specs.SaidSegments.{found_after}
 use Rattle.jpeg_streams.specs.Scans.{no_table, via_at}
-use Rattle.jpeg_streams.specs.Needed.{first_of}
-use Rattle.jpeg_streams.specs.ScanSegments.{vias_from, Coding, codings_from, codings_of, component_coding, components_of}
+use Rattle.jpeg_streams.specs.ScanSegments.{vias_from, Coding, codings_of, component_coding, components_of}
 use Rattle.jpeg_streams.specs.ScanSegments.{pass_of, tables_of}
 use Rattle.jpeg_streams.specs.Segments.{accepted, updated}
 use Rattle.jpeg_streams.specs.Found.{nothing_found, Found}
@@ -136,7 +137,7 @@ coding kind h index c =
 -- a scan of one component, first sent at level 0
 abbrev pub lone_header : ℕ → ℕ → ℕ → Factors → ScanHeader
 lone_header from to index c = record {
-  choices = (record { identifier = c.identifier; component = index; dc = 0; ac = 0 }) ∷ [];
+  choices = (c.identifier, record { component = index; dc = 0; ac = 0 }) ∷ [];
   first = from;
   last = to;
   high = 0;
@@ -206,10 +207,16 @@ unfolding component_of
 before-it h [] more c e = rw (eq-eqb c.identifier c.identifier refl) refl
 before-it h (x ∷ front) more c e = search (rules, or-false, before-it h front more c)
 
-pub first-is : (h : FrameHeader) (front more : List Factors) (c : Factors)
-    → first_of (drop (length front) (map (component_in h) (front ++ c ∷ more))) ≡ Some (component_in h c)
+first-is : (h : FrameHeader) (front more : List Factors) (c : Factors)
+    → slice_get (map (component_in h) (front ++ c ∷ more)) (length front) ≡ Some (component_in h c)
 first-is h [] more c = refl
 first-is h (x ∷ front) more c = first-is h front more c
+
+pub component-at : (number : ℕ) (h : FrameHeader) (front more : List Factors) (c : Factors)
+    → h.components ≡ front ++ c ∷ more
+    → slice_get (frame_written number h).components (length front) ≡ Some (component_in h c)
+unfolding frame_of
+component-at number h front more c e = cc (first-is h front more c)
 
 -- ---- scans
 
@@ -268,12 +275,12 @@ tables_now kind number h index c = tables_of (said number h) (scan_for kind numb
 
 codings-are : (kind : Kind) (number : ℕ) (h : FrameHeader) (front more : List Factors) (c : Factors)
     → h.components ≡ front ++ c ∷ more → c.quantization ≤ 3
-    → codings_from (said number h) (frame_written number h) (pass_for kind) (tables_now kind number h (length front) c)
-    (length front ∷ []) (0 ∷ []) (0 ∷ []) ≡ Ok (coding kind h (length front) c ∷ [])
-unfolding codings_from component_coding frame_of component_of tables_of nothing_found updated
+    → gathered (λ (s : ℕ × (ℕ × ℕ)). component_coding (said number h) (frame_written number h) (pass_for kind)
+    (tables_now kind number h (length front) c) s.0 s.1.0 s.1.1) ((length front, (0, 0)) ∷ [])
+    ≡ Ok (coding kind h (length front) c ∷ [])
+unfolding gathered component_coding frame_of component_of tables_of nothing_found updated
 codings-are kind number h front more c e le =
-    let at : first_of (drop (length front) (frame_written number h).components) ≡ Some (component_in h c)
-    = grind (arith, common_steps, first-is) in
+    let at = component-at number h front more c e in
     search (rules, then-ok, table-at)
 
 scan-legal : (kind : Kind) (number : ℕ) (h : FrameHeader) (front more : List Factors) (c : Factors)

@@ -1,7 +1,8 @@
 -- Every picture of samples has a stream: a scan for each component.
+use Rattle.jpeg_segments.specs.Checks.{gathered}
 use Rattle.std.proofs.Math.Logic.{⊎_elim}
 use Rattle.std.proofs.Common.{rules, length, replicate, negsuc, unsigned_abs, subst, append_assoc, length-append}
-use Rattle.std.proofs.Common.{◌≡◌, ◌⊎◌, inl, ℕ, zero, Bool, true, List, ◌++◌, drop, take, ◌≤ℤ◌, Some, None, Ok, refl, arith}
+use Rattle.std.proofs.Common.{◌≡◌, ◌⊎◌, inl, ℕ, zero, Bool, true, List, ◌++◌, take, ◌≤ℤ◌, Some, None, Ok, refl, arith}
 use Rattle.std.proofs.Common.{inr, suc, ◌+◌, ◌-◌, ◌*◌, ◌^◌, ◌<◌, ◌≤◌, [], ◌∷◌, map, ℤ, pos, sym, ap, ap₂, ◌∙◌}
 use Rattle.std.proofs.Math.Pow.{pow_mono}
 use Rattle.std.proofs.lemmas.Bool.{and_parts, cases_lt, eqb-true, ltb-true}
@@ -40,7 +41,6 @@ use Rattle.jpeg_streams.specs.FrameSamples.{AreBytes, AreLinesOf, AreSamplesOf, 
 use Rattle.jpeg_streams.specs.InTurn.{IsIn}
 use Rattle.jpeg_streams.specs.LosslessScans.{LosslessCoding, lossless_coding, lossless_codings}
 use Rattle.jpeg_streams.specs.LosslessScans.{mcus_across, mcus_down, parts_of}
-use Rattle.jpeg_streams.specs.Needed.{first_of}
 use Rattle.jpeg_streams.specs.SaidSegments.{found_after}
 use Rattle.jpeg_streams.specs.Segments.{updated, accepted}
 use Rattle.jpeg_streams.specs.WrittenLossless.{HoldSamples, IsInterval, no_interval, own_lines}
@@ -48,7 +48,7 @@ use Rattle.jpeg_streams.specs.WrittenLossless.{said_after_scan, Samples, Writes,
 use Rattle.jpeg_streams.specs.WrittenLossless.Writes.{closed, scan, segment}
 use Rattle.jpeg_streams.proofs.AcceptedSamples.{accepted-samples}
 use Rattle.jpeg_streams.proofs.EncodedBlocks.{category-at_most, packed}
-use Rattle.jpeg_streams.proofs.EncodedImages.{component_in, first-is, in-range, lone_header, lone-written}
+use Rattle.jpeg_streams.proofs.EncodedImages.{component_in, component-at, in-range, lone_header, lone-written}
 use Rattle.jpeg_streams.proofs.OwnSpots.{all-append}
 use Rattle.jpeg_streams.proofs.ReadTurns.{then-ok}
 use Rattle.jpeg_streams.proofs.TestedParts.{table-by}
@@ -289,17 +289,12 @@ record IsReady (h : FrameHeader) (now : Found) : Type 0 where
   tabled : slice_index_or now.huffman.dc 0 None ≡ Some even_table
   restart : now.restart ≡ 0
 
-component-at : (h : FrameHeader) (front more : List Factors) (c : Factors) → h.components ≡ front ++ c ∷ more
-    → first_of (drop (length front) (frame_written 3 h).components) ≡ Some (component_in h c)
-unfolding frame_of
-component-at h front more c e = cc (first-is h front more c)
-
 data-written : (h : FrameHeader) (now : Found) (front more : List Factors) (c : Factors) (samples : Samples)
     → IsReady h now → h.components ≡ front ++ c ∷ more → h.precision ≤ 16
     → AreLinesOf (2 ^ h.precision) (component_in h c) (samples (length front))
     → (bytes : List ℕ) × WritesSamplesScan now (frame_written 3 h) (header_of (length front) c)
     samples bytes × AreBytes bytes
-unfolding frame_of mcus_across mcus_down parts_of lossless_codings lossless_coding scan_of HoldSamples
+unfolding frame_of mcus_across mcus_down parts_of lossless_codings lossless_coding gathered scan_of HoldSamples
 data-written h now front more c samples ready e most are =
     let frame = frame_written 3 h in
     let k = coding h (length front) c in
@@ -313,7 +308,7 @@ data-written h now front more c samples ready e most are =
       w.0,
       record {
         codings = k ∷ [];
-        coded = let is = component-at h front more c e in grind (arith, common_steps, then-ok);
+        coded = let is = component-at 3 h front more c e in grind (arith, common_steps, then-ok);
         point = refl;
         interval = subst (IsInterval wide high) (sym ready.restart) no_interval;
         lines = lines ∷ [];
@@ -366,7 +361,7 @@ scans-written h samples [] front now sent p all ready e are sends =
 scans-written h samples (c ∷ more) front now sent p all ready e are sends =
     let index = length front in
     let d = data-written h now front more c samples ready e p.most
-    (all index (component_in h c) (component-at h front more c e)) in
+    (all index (component_in h c) (component-at 3 h front more c e)) in
     let size : index + 1 ≡ length (front ++ c ∷ []) = sym (length-append front (c ∷ [])) in
     let rest = scans-written h samples more (front ++ c ∷ []) (said_after_scan now) (index ∷ sent)
     p all

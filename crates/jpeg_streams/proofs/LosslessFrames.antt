@@ -2,6 +2,7 @@
 use Rattle.std.proofs.Common.{rules, ◌≡◌, ℕ, ◌≤◌, ◌<◌, List, [], ◌∷◌, ◌++◌, length, Ok}
 use Rattle.std.specs.List.{AllByRecursion}
 use Rattle.std.proofs.lemmas.Bool.{le-leb, and_from as both-true}
+use Rattle.std.proofs.lemmas.Bool.Decides.{nat_tests}
 use Rattle.jpeg_segments.specs.Frame.{Factors, Frame, IsInRange, frame_of}
 use Rattle.jpeg_segments.specs.WrittenSegments.{AreComponents, FrameHeader, IsFrameHeader}
 use Rattle.jpeg_segments.specs.WrittenSegments.{frame_written}
@@ -29,7 +30,7 @@ pub record IsShaped (frame : Frame) : Type 0 where
 pub all-ranged : (number : ℕ) (front cs : List Factors) → AreComponents number front cs → AllByRecursion IsInRange cs
 unfolding AreComponents
 all-ranged number front [] h = tt
-all-ranged number front (c ∷ cs) h = (h.0.ranged, all-ranged number (front ++ c ∷ []) cs h.1)
+all-ranged number front (c ∷ cs) h = search (rules, nat_tests, all-ranged number (front ++ c ∷ []) cs h.1)
 
 pub header-shaped : (number : ℕ) (h : FrameHeader) → IsFrameHeader number h
     → accepted (frame_written number h) ≡ Ok (frame_written number h) → IsShaped (frame_written number h)

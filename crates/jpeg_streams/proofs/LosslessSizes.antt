@@ -1,5 +1,5 @@
 -- The sizes of the components of a lossless frame, and the MCUs of its scans.
-use Rattle.std.proofs.Common.{rules, ◌≡◌, ℕ, suc, ◌*◌, ◌<◌, ◌≤◌, List, [], ◌∷◌, map, drop, Some, ap, arith}
+use Rattle.std.proofs.Common.{rules, ◌≡◌, ℕ, suc, ◌*◌, ◌<◌, ◌≤◌, List, [], ◌∷◌, map, slice_get, Some, ap, arith}
 use Rattle.std.specs.List.{AllByRecursion}
 use Rattle.std.proofs.lemmas.List.Elements.{recursion_from_All}
 use Rattle.std.proofs.Math.Nat.{mul-le-mul_right, mul_comm}
@@ -10,17 +10,16 @@ use Rattle.jpeg_segments.proofs.ScaleLemmas.{full_frames}
 use Rattle.jpeg_lossless.specs.Codings.{IsCovered}
 use Rattle.jpeg_lossless.specs.Pictures.{Reaches, frame_factors, most_across, most_down}
 use Rattle.jpeg_streams.specs.LosslessScans.{LosslessCoding, mcus_across, mcus_down, part_of, parts_of}
-use Rattle.jpeg_streams.specs.Needed.{first_of}
 use Rattle.jpeg_streams.specs.Sound.{IsDecodedFrame}
+use Rattle.jpeg_streams.proofs.Apart.{at-all, get-at}
 use Rattle.jpeg_streams.proofs.FrameShapes.{below-ceiling, ceiling-covers, ceiling-least}
 use Rattle.jpeg_streams.proofs.FrameFits.{factors-back}
 use Rattle.jpeg_segments.proofs.FrameLemmas.{greatest-some}
 use Rattle.jpeg_streams.proofs.CountedScans.{some-product}
 
 pub all-at : {A : Type 0} (P : A → Type 0) (n : ℕ) (xs : List A) (x : A) → AllByRecursion P xs
-    → first_of (drop n xs) ≡ Some x → P x
-all-at P (suc n) (y ∷ xs) x all e = all-at P n xs x all.1 e
-all-at P n xs x all e = search rules
+    → slice_get xs n ≡ Some x → P x
+all-at P n xs x all e = at-all P n xs x all (get-at n xs x e)
 
 -- ---- a component by its factors
 

@@ -1,6 +1,6 @@
 -- No sample outside a component reaches one inside.
 use Rattle.std.proofs.Common.{rules, ◌≡◌, ℕ, zero, suc, ◌+◌, ◌*◌, ◌/◌, ◌<◌, ◌≤◌, List, [], ◌∷◌, ◌++◌, map, drop, take}
-use Rattle.std.proofs.Common.{Some, refl, ap, ap₂, arith}
+use Rattle.std.proofs.Common.{Some, slice_get, refl, ap, ap₂, arith}
 use Rattle.std.specs.List.{AllByRecursion, concat, range_with_len}
 use Rattle.jpeg_bits.specs.declared.scan.Predictor.{Predictor}
 use Rattle.jpeg_segments.specs.Frame.{Component, Frame, frame_of}
@@ -12,7 +12,6 @@ use Rattle.jpeg_lossless.specs.Scans.{Way, lines_by_component, planes_of}
 use Rattle.jpeg_lossless.proofs.ImageLoops.{inside}
 use Rattle.jpeg_lossless.proofs.LineSums.{top-narrow}
 use Rattle.jpeg_streams.specs.FrameSamples.{AgreeInside, DifferInPadding}
-use Rattle.jpeg_streams.specs.Needed.{first_of}
 use Rattle.jpeg_streams.specs.WrittenLossless.{own_lines, picture_of_samples, pixel_from, Samples, samples_line}
 use Rattle.jpeg_streams.proofs.LosslessFrames.{all-ranged}
 use Rattle.jpeg_streams.proofs.LosslessSizes.{IsMade, all-at, frames-made, made-reaches, some-across, some-down}
@@ -52,7 +51,7 @@ made-inside : (frame : Frame) (c : Component) (x y : ℕ) → IsMade frame c →
 made-inside frame c x y made h k = search (rules, made-reaches, inside, some-across, some-down)
 
 pub taken-inside : (h : FrameHeader) (index x y : ℕ) (c : Component) → IsFrameHeader 3 h
-    → first_of (drop index (frame_written 3 h).components) ≡ Some c → x < h.width → y < h.height
+    → slice_get (frame_written 3 h).components index ≡ Some c → x < h.width → y < h.height
     → (x * c.factors.horizontal / most_across (frame_written 3 h) < c.width)
     × (y * c.factors.vertical / most_down (frame_written 3 h) < c.height)
 unfolding frame_of
@@ -64,6 +63,11 @@ pub drop-next : {A : Type 0} (n : ℕ) (xs : List A) (x : A) (more : List A) →
     more
 drop-next (suc n) (y ∷ xs) x more e = drop-next n xs x more e
 drop-next n xs x more e = search rules
+
+pub get-drop : {A : Type 0} (n : ℕ) (xs : List A) (x : A) (more : List A) → drop n xs ≡ x ∷ more
+    → slice_get xs n ≡ Some x
+get-drop (suc n) (y ∷ xs) x more e = get-drop n xs x more e
+get-drop n xs x more e = search rules
 
 pixel-agrees : (frame : Frame) (a b : Samples) (x y : ℕ) → x < frame.width → y < frame.height
     → AgreeInside frame a b → (index : ℕ) (cs : List Component) → drop index frame.components ≡ cs
@@ -77,7 +81,7 @@ pixel-agrees frame a b x y hx hy agree index (c ∷ cs) e made =
     ap₂ (λ (s : ℕ) (more : List ℕ). sample_bytes frame.precision s ++ more)
     (agree index (x * c.factors.horizontal / most_across frame) (y * c.factors.vertical / most_down
     frame) c
-    (ap first_of e) at.0 at.1)
+    (get-drop index frame.components c cs e) at.0 at.1)
     (pixel-agrees frame a b x y hx hy agree (index + 1) cs
     (search (rules, drop-next)) made.1)
 

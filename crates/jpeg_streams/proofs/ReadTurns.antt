@@ -1,9 +1,12 @@
 -- A turn of a written stream is read.
 use Rattle.std.proofs.Common.{rules, ◌≡◌, ◌≢◌, ◌&&◌, ℕ, zero, suc, ◌<◌, Bool, true, false, List, []}
 use Rattle.std.proofs.Common.{◌∷◌, ◌++◌, map, length, ◌==◌, nat_lt}
-use Rattle.std.proofs.Common.{drop, slice_index_or, is_some, Option, Some, None, Result, Ok, Err, refl, sym}
+use Rattle.std.proofs.Common.{slice_get, slice_index_or, is_some, Option, Some, None, Result, Ok, Err, refl, sym}
 use Rattle.std.proofs.Common.{ap, ap₂, ◌∙◌, subst, arith, append_assoc, length-append}
 use Rattle.std.proofs.lemmas.Grind.{common_steps}
+use Rattle.std.proofs.lemmas.Map.Made.{keys_of-zip}
+use Rattle.std.proofs.lemmas.Slice.Zip.{length-zip}
+use Rattle.std.specs.Prelude.{zip}
 use Rattle.std.specs.List.{AllByRecursion}
 use Rattle.jpeg_bits.specs.Reading.{Fault, Malformed, Outcome, ◌>>=◌}
 use Rattle.jpeg_bits.specs.Marker.{marker_of, next_marker}
@@ -23,11 +26,10 @@ use Rattle.jpeg_streams.specs.declared.before.Before.{Before}
 use Rattle.jpeg_streams.specs.declared.before.Before.TheVariants.{Elsewhere}
 use Rattle.jpeg_bits.specs.Passes.{Pass}
 use Rattle.jpeg_streams.specs.Scans.{Arrays}
-use Rattle.jpeg_segments.specs.Checks.{needed}
-use Rattle.jpeg_streams.specs.Needed.{first_of}
+use Rattle.jpeg_segments.specs.Checks.{gathered, needed}
 use Rattle.jpeg_streams.specs.ScanSegments.{component_coding, needed_if, Coding, tables_of, after_restarts, after_scan}
-use Rattle.jpeg_streams.specs.ScanSegments.{scan_arrays, codings_of, codings_from, scan_segment, scan_before}
-use Rattle.jpeg_streams.specs.ScanSegments.{blocks_scan}
+use Rattle.jpeg_streams.specs.ScanSegments.{scan_arrays, codings_of, scan_segment, scan_before}
+use Rattle.jpeg_streams.specs.ScanSegments.{blocks_scan, pass_of}
 use Rattle.jpeg_streams.specs.Segments.{onward, Turn, application_segment, restart_segment, huffman_segment}
 use Rattle.jpeg_streams.specs.Segments.{quantization_segment, skipped_segment, frame_segment, accepted}
 use Rattle.jpeg_streams.specs.Found.{Found}
@@ -41,7 +43,6 @@ use Rattle.jpeg_streams.specs.Levels.{Levels}
 use Rattle.jpeg_bits.specs.Written.{marker}
 use Rattle.jpeg_lossless.specs.Written.{IsMarker}
 pub use Rattle.jpeg_segments.proofs.Codecs.{err-ok, ok-same, bind-ok}
-use Rattle.jpeg_streams.proofs.OwnSpots.{At}
 use Rattle.jpeg_streams.proofs.ReadStates.{reading}
 use Rattle.jpeg_streams.proofs.WrittenMarkers.{marker-append, marker_for, segment-marker}
 
@@ -266,14 +267,10 @@ pub needed-some : {A : Type 0} (o : Option A) (x : A) → needed o ≡ Ok x → 
 needed-some None x e = search rules
 needed-some (Some y) x e = cc
 
-pub first-drop : {A : Type 0} (n : ℕ) (xs : List A) (x : A) → first_of (drop n xs) ≡ Some x → At n xs x
-first-drop (suc n) (y ∷ xs) x e = first-drop n xs x e
-first-drop n xs x e = search rules
-
 -- What is found for a component of a scan, by its index in the frame and the destinations of its tables.
 pub record IsCoding (w : Found) (frame : Frame) (p : Pass) (tables : Tables) (index d a : ℕ) (k : Coding) : Type 0 where
   pub stands : k.index ≡ index
-  pub component : first_of (drop k.index frame.components) ≡ Some k.component
+  pub component : slice_get frame.components k.index ≡ Some k.component
   pub quantization : slice_index_or w.quantization k.component.factors.quantization None ≡ Some k.quantization
   pub dc : needed_if (p.ss == 0) classes.DC (slice_index_or tables.dc d None) ≡ Ok k.dc
   pub ac : needed_if (nat_lt 0 p.se) classes.AC (slice_index_or tables.ac a None) ≡ Ok k.ac
@@ -283,37 +280,50 @@ pub coding-is : (w : Found) (frame : Frame) (p : Pass) (tables : Tables) (index 
 unfolding component_coding
 coding-is w frame p tables index d a k e = search (rules, bind-ok, ok-same, needed-some)
 
--- what holds of each coding that is found
-pub codings-each : (P : Coding → Type 0) (w : Found) (frame : Frame) (p : Pass) (tables : Tables)
-    (indices ds ks : List ℕ) (codings : List Coding) → codings_from w frame p tables indices ds ks ≡ Ok codings
-    → ((index d a : ℕ) (k : Coding) → IsCoding w frame p tables index d a k → P k) → AllByRecursion P codings
-unfolding codings_from
-codings-each P w frame p tables (x ∷ indices) (d ∷ ds) (a ∷ ks) codings e h =
-    let one = bind-ok (component_coding w frame p tables x d a) _ codings e in
-    let more = bind-ok (codings_from w frame p tables indices ds ks) _ codings one.2 in
-    subst (AllByRecursion P) (ok-same (one.0 ∷ more.0) codings more.2) (
-      h x d a one.0 (coding-is w frame p tables x d a one.0 one.1),
-      codings-each P w frame p tables indices ds ks more.0 more.1 h,
-    )
-codings-each P w frame p tables indices ds ks codings e h = subst (AllByRecursion P) (ok-same [] codings e) tt
+-- what holds of each that is gathered
+pub gathered-each : {A B : Type 0} (P : B → Type 0) (f : A → Result B Fault) (xs : List A) (ys : List B)
+    → gathered f xs ≡ Ok ys → ((x : A) (y : B) → f x ≡ Ok y → P y) → AllByRecursion P ys
+unfolding gathered
+gathered-each P f [] ys e h = subst (AllByRecursion P) (ok-same [] ys e) tt
+gathered-each P f (x ∷ xs) ys e h =
+    let one = bind-ok (f x) _ ys e in
+    let more = bind-ok (gathered f xs) _ ys one.2 in
+    subst (AllByRecursion P) (ok-same (one.0 ∷ more.0) ys more.2)
+    (h x one.0 one.1, gathered-each P f xs more.0 more.1 h)
 
-pub codings-indices : (w : Found) (frame : Frame) (p : Pass) (tables : Tables) (indices ds ks : List ℕ)
-    (codings : List Coding) → length ds ≡ length indices → length ks ≡ length indices
-    → codings_from w frame p tables indices ds ks ≡ Ok codings → map (λ c. c.index) codings ≡ indices
-unfolding codings_from
-codings-indices w frame p tables [] ds ks codings h g e =
-    ap (λ (l : List Coding). map (λ c. c.index) l) (sym (ok-same [] codings e))
-codings-indices w frame p tables (x ∷ indices) (d ∷ ds) (a ∷ ks) codings h g e =
-    let one = bind-ok (component_coding w frame p tables x d a) _ codings e in
-    let more = bind-ok (codings_from w frame p tables indices ds ks) _ codings one.2 in
-    subst (λ (l : List Coding). map (λ c. c.index) l ≡ x ∷ indices) (ok-same (one.0 ∷ more.0) codings more.2)
-    (ap₂ (λ (i : ℕ) (l : List ℕ). i ∷ l) (coding-is w frame p tables x d a one.0 one.1).stands
-    (codings-indices w frame p tables indices ds ks more.0 (omega arith) (omega arith) more.1))
-codings-indices w frame p tables indices ds ks codings h g e = absurd (omega arith)
+-- what each tells
+pub gathered-map : {A B C : Type 0} (g : B → C) (k : A → C) (f : A → Result B Fault) (xs : List A) (ys : List B)
+    → gathered f xs ≡ Ok ys → ((x : A) (y : B) → f x ≡ Ok y → g y ≡ k x) → map g ys ≡ map k xs
+unfolding gathered
+gathered-map g k f [] ys e h = ap (map g) (sym (ok-same [] ys e))
+gathered-map g k f (x ∷ xs) ys e h =
+    let one = bind-ok (f x) _ ys e in
+    let more = bind-ok (gathered f xs) _ ys one.2 in
+    ap (map g) (sym (ok-same (one.0 ∷ more.0) ys more.2))
+    ∙ ap₂ (λ (c : _) (l : List _). c ∷ l) (h x one.0 one.1) (gathered-map g k f xs more.0 more.1 h)
+
+-- what holds of each coding of a scan
+pub codings-each : (P : Coding → Type 0) (w : Found) (frame : Frame) (s : Scan) (codings : List Coding)
+    → codings_of w frame s ≡ Ok codings
+    → ((index d a : ℕ) (k : Coding) → IsCoding w frame (pass_of s) (tables_of w s) index d a k → P k)
+    → AllByRecursion P codings
+unfolding codings_of
+codings-each P w frame s codings e h = gathered-each P _ _ codings e (λ x k is.
+    h x.0 x.1.0 x.1.1 k (coding-is w frame (pass_of s) (tables_of w s) x.0 x.1.0 x.1.1 k is))
+
+pub codings-indices : (w : Found) (frame : Frame) (s : Scan) (codings : List Coding)
+    → length s.dc_destinations ≡ length s.components → length s.ac_destinations ≡ length s.components
+    → codings_of w frame s ≡ Ok codings → map (λ c. c.index) codings ≡ s.components
+unfolding codings_of
+codings-indices w frame s codings h g e =
+    gathered-map (λ c. c.index) (λ x. x.0) _ _ codings e (λ x k is.
+    (coding-is w frame (pass_of s) (tables_of w s) x.0 x.1.0 x.1.1 k is).stands)
+    ∙ keys_of-zip s.components (zip s.dc_destinations s.ac_destinations)
+    (omega (arith, h, g, length-zip s.dc_destinations s.ac_destinations))
 
 pub codings-same : (w : Found) (sc : Bool) (h : Arrays) (fi : List (List Bool)) (pl : List (Option (List ℕ)))
     (frame : Frame) (s : Scan) → codings_of (reading w sc h fi pl) frame s ≡ codings_of w frame s
-unfolding codings_of codings_from component_coding tables_of
+unfolding codings_of component_coding tables_of
 codings-same w sc h fi pl frame s = refl
 
 -- ---- a scan

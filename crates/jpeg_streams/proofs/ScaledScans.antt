@@ -1,22 +1,22 @@
 -- A stream that was written for a frame is one for the frame at any scale.
+use Rattle.std.specs.Prelude.{slice_get}
 use Rattle.std.proofs.lemmas.Grind.{common_steps}
 use Rattle.std.proofs.Common.{rules, ◌≡◌, ℕ, zero, suc, ◌+◌, ◌*◌, ◌<◌, ◌==◌, Bool, true, List, [], ◌∷◌, ◌++◌, map}
-use Rattle.std.proofs.Common.{length, sum_by, sum, drop, slice_index_or, Some, None, Ok, refl, sym, ap, ap₂, ◌∙◌, subst, arith, mul_assoc}
+use Rattle.std.proofs.Common.{length, sum_by, sum, slice_index_or, Some, None, Ok, refl, sym, ap, ap₂, ◌∙◌, subst, arith, mul_assoc}
 use Rattle.std.proofs.lemmas.Bool.Decides.{leb_tells}
 use Rattle.std.proofs.Math.Nat.{mul_comm, lt_of_mul-lt-mul_right, mul-lt-mul_of_pos_right}
 use Rattle.std.specs.List.{AllByRecursion, flat_map, position}
-use Rattle.std.proofs.lemmas.List.Sums.{sum-map}
+use Rattle.std.proofs.lemmas.List.Sums.{sum-map, sum_by-cons}
 use Rattle.jpeg_segments.specs.Frame.{Frame, Component, Factors, ceiling}
-use Rattle.jpeg_segments.specs.ScanHeader.{index_of, blocks_by, scan_of}
-use Rattle.jpeg_segments.specs.ScanHeaders.{AreChoices, Choice, IsScan, ScanHeader, scan_payload}
-use Rattle.jpeg_segments.specs.ScanHeaders.{scan_written, selector_for}
+use Rattle.jpeg_segments.specs.Checks.{gathered}
+use Rattle.jpeg_segments.specs.ScanHeader.{Selector, index_of, blocks_by, scan_of}
+use Rattle.jpeg_segments.specs.ScanHeaders.{AreChoices, IsScan, ScanHeader, scan_payload, scan_written}
 use Rattle.jpeg_segments.proofs.ScanLemmas.{position-map}
 use Rattle.jpeg_bits.specs.Passes.{Pass}
 use Rattle.jpeg_streams.specs.Order.{Spot, grid_of, part_spots, mcu_spots, all_spots, spots_of, mcu_size}
 use Rattle.jpeg_segments.specs.HuffmanTables.{Tables}
 use Rattle.jpeg_streams.specs.Levels.{Levels, IsLegal, numbers_at}
-use Rattle.jpeg_streams.specs.Needed.{first_of}
-use Rattle.jpeg_streams.specs.ScanSegments.{vias_from, Coding, codings_from, codings_of, component_coding, components_of}
+use Rattle.jpeg_streams.specs.ScanSegments.{vias_from, Coding, codings_of, component_coding, components_of}
 use Rattle.jpeg_streams.specs.ScanSegments.{pass_of, tables_of}
 use Rattle.jpeg_streams.specs.Found.{Found}
 use Rattle.jpeg_streams.specs.WrittenScans.{Coefficients, written_turns, WritesScan, levels_after}
@@ -120,34 +120,29 @@ index-same cs ds identifier h =
     sym (position-map (λ (c : Component). c.factors) test ds) ∙ ap (position test) (factors-same (λ f. f) cs ds h)
     ∙ position-map (λ (c : Component). c.factors) test cs
 
-blocks-same : (cs ds : List Component) (index : ℕ) → Alikes cs ds → blocks_by ds index ≡ blocks_by
-    cs index
+blocks-same : (cs ds : List Component) (index : ℕ) → Alikes cs ds → blocks_by ds index ≡ blocks_by cs index
 blocks-same cs ds index none = refl
 blocks-same cs ds zero (one_more c d cs' ds' h more) = rw h.factors refl
 blocks-same cs ds (suc index) (one_more c d cs' ds' h more) = blocks-same cs' ds' index more
 
-selectors-same : (f g : Frame) (cs : List Choice) → SameFrame f g → map (selector_for g) cs ≡ map
-    (selector_for f) cs
-selectors-same f g [] same = refl
-selectors-same f g (c ∷ cs) same = search (rules, blocks-same, selectors-same f g cs same)
+mcu-blocks_same : (f g : Frame) (ss : List Selector) → SameFrame f g
+    → sum_by (λ s. blocks_by g.components s.component) ss ≡ sum_by (λ s. blocks_by f.components s.component) ss
+mcu-blocks_same f g [] same = refl
+mcu-blocks_same f g (s ∷ ss) same = search (rules, sum_by-cons, blocks-same, mcu-blocks_same f g ss same)
 
 written-same : (f g : Frame) (h : ScanHeader) → SameFrame f g → scan_written g h ≡ scan_written f h
 unfolding scan_of
-written-same f g h same = rw (selectors-same f g h.choices same, same.process) refl
+written-same f g h same = rw same.process refl
 
-choices-same : (f g : Frame) (least : ℕ) (cs : List Choice) → SameFrame f g → AreChoices f least cs
+choices-same : (f g : Frame) (least : ℕ) (cs : List (ℕ × Selector)) → SameFrame f g → AreChoices f least cs
     → AreChoices g least cs
 unfolding AreChoices
 choices-same f g least [] same are = tt
-choices-same f g least (c ∷ cs) same are = search (
-  rules,
-  index-same,
-  choices-same f g (c.component
-      + 1) cs same are.1,
-)
+choices-same f g least (c ∷ cs) same are =
+    search (rules, index-same, choices-same f g (c.1.component + 1) cs same are.1)
 
 scan-same : (f g : Frame) (h : ScanHeader) → SameFrame f g → IsScan f h → IsScan g h
-scan-same f g h same is = search (rules, choices-same, selectors-same)
+scan-same f g h same is = search (rules, choices-same, mcu-blocks_same)
 
 -- ---- codings
 
@@ -165,8 +160,8 @@ pub data CodingsAlike : List Coding → List Coding → Type 0 where
 abbrev pub at_frame : Found → Frame → Found
 at_frame w g = record w { frame = Some g }
 
-first-alike : (n : ℕ) (cs ds : List Component) (c : Component) → Alikes cs ds → first_of (drop n cs) ≡ Some c
-    → (d : Component) × (first_of (drop n ds) ≡ Some d) × Alike c d
+first-alike : (n : ℕ) (cs ds : List Component) (c : Component) → Alikes cs ds → slice_get cs n ≡ Some c
+    → (d : Component) × (slice_get ds n ≡ Some d) × Alike c d
 first-alike zero cs ds c none e = search rules
 first-alike zero cs ds c (one_more x y cs' ds' h more) e = search rules
 first-alike (suc n) cs ds c none e = search rules
@@ -179,7 +174,7 @@ unfolding component_coding
 coding-alike w f g same p tables index d a k e =
     let h = coding-is w f p tables index d a k e in
     let other = first-alike k.index f.components g.components k.component same.components h.component in
-    let at : first_of (drop index g.components) ≡ Some other.0 = search rules in
+    let at : slice_get g.components index ≡ Some other.0 = search rules in
     let quantization : slice_index_or w.quantization other.0.factors.quantization None ≡ Some k.quantization
     = search rules in (
       record k { component = other.0 },
@@ -188,22 +183,23 @@ coding-alike w f g same p tables index d a k e =
     )
 
 codings-alike : (w : Found) (f g : Frame) → SameFrame f g
-    → (p : Pass) (tables : Tables) (indices ds ks : List ℕ) (codings : List Coding)
-    → codings_from w f p tables indices ds ks ≡ Ok codings
-    → (others : List Coding) × (codings_from (at_frame w g) g p tables indices ds ks ≡ Ok others) × CodingsAlike
-    codings others
-unfolding codings_from
-codings-alike w f g same p tables (x ∷ indices) (d ∷ ds) (a ∷ ks) codings e =
-    let one = bind-ok (component_coding w f p tables x d a) _ codings e in
-    let more = bind-ok (codings_from w f p tables indices ds ks) _ codings one.2 in
-    let l = coding-alike w f g same p tables x d a one.0 one.1 in
-    let others = codings-alike w f g same p tables indices ds ks more.0 more.1 in (
+    → (p : Pass) (tables : Tables) (xs : List (ℕ × (ℕ × ℕ))) (codings : List Coding)
+    → gathered (λ x. component_coding w f p tables x.0 x.1.0 x.1.1) xs ≡ Ok codings
+    → (others : List Coding)
+    × (gathered (λ x. component_coding (at_frame w g) g p tables x.0 x.1.0 x.1.1) xs ≡ Ok others)
+    × CodingsAlike codings others
+unfolding gathered
+codings-alike w f g same p tables (x ∷ xs) codings e =
+    let one = bind-ok (component_coding w f p tables x.0 x.1.0 x.1.1) _ codings e in
+    let more = bind-ok (gathered (λ x. component_coding w f p tables x.0 x.1.0 x.1.1) xs) _ codings one.2 in
+    let l = coding-alike w f g same p tables x.0 x.1.0 x.1.1 one.0 one.1 in
+    let others = codings-alike w f g same p tables xs more.0 more.1 in (
       l.0 ∷ others.0,
       search (rules, then-ok),
       subst (λ (ks : List Coding). CodingsAlike ks (l.0 ∷ others.0)) (ok-same (one.0 ∷ more.0) codings more.2)
           (one_more one.0 l.0 more.0 others.0 l.2 others.2),
     )
-codings-alike w f g same p tables indices ds ks codings e =
+codings-alike w f g same p tables [] codings e =
     ([], refl, subst (λ (ks : List Coding). CodingsAlike ks []) (ok-same [] codings e) none)
 
 components-alike : (ks ls : List Coding) → CodingsAlike ks ls → Alikes (components_of ks) (components_of ls)
@@ -273,8 +269,7 @@ unfolding codings_of tables_of
 scan-other array f g w final levels last sc fill h codings bytes more same is l x r =
     let s = scan_written f h in
     let alike : scan_written g h ≡ s = written-same f g h same in
-    let o = codings-alike w f g same (pass_of s)
-    (tables_of w s) s.components s.dc_destinations s.ac_destinations codings l.are_in_force in
+    let o = codings-alike w f g same (pass_of s) (tables_of w s) _ codings l.are_in_force in
     let indices = indices-alike codings o.0 o.2 in
     let legal : IsLegalScan (at_frame w g) g levels s o.0 =
     grind (arith, legal-alike (pass_of s) levels codings o.0 o.2 l.legal) in

@@ -1,5 +1,5 @@
 -- The blocks of a scan's components, before it and after it.
-use Rattle.std.proofs.Common.{rules, arith, ◌≡◌, ℕ, suc, ◌*◌, false, List, [], ◌∷◌, map, drop, length, set}
+use Rattle.std.proofs.Common.{rules, arith, ◌≡◌, ℕ, suc, ◌*◌, false, List, [], ◌∷◌, map, length, set}
 use Rattle.std.proofs.Common.{get_or, Option, Some, Result, Ok, Err, refl, ◌∙◌}
 use Rattle.std.proofs.lemmas.Grind.{common_steps}
 use Rattle.std.specs.Prelude.{◌&&◌, if◌then◌else◌}
@@ -13,14 +13,14 @@ use Rattle.jpeg_streams.specs.Order.{spots_of, mcu_size}
 use Rattle.jpeg_streams.specs.Scans.{Arrays, zero_arrays}
 use Rattle.jpeg_streams.specs.InTurn.{Fits, AreArrays, scan_from}
 use Rattle.jpeg_streams.specs.McuRows.{scan_by_rows}
-use Rattle.jpeg_streams.specs.Needed.{first_of}
 use Rattle.jpeg_streams.specs.ScanSegments.{Coding, pass_of, vias_from, codings_of, put_arrays, is_progressive}
-use Rattle.jpeg_streams.specs.ScanSegments.{arrays_before, codings_from, component_coding, scan_arrays}
+use Rattle.jpeg_streams.specs.ScanSegments.{arrays_before, scan_arrays}
 use Rattle.jpeg_streams.specs.Found.{Found}
-use Rattle.jpeg_streams.proofs.Apart.{At, at-all, sized, zeros-sized}
+use Rattle.jpeg_streams.proofs.Apart.{At, at-all, get-at, sized, zeros-sized}
 use Rattle.jpeg_streams.proofs.CountedScans.{frame-scans}
 use Rattle.jpeg_streams.proofs.McuRows.{scans-by-rows}
 use Rattle.jpeg_streams.proofs.BroughtLevels.{zero-at as zeros-at}
+use Rattle.jpeg_streams.proofs.ReadTurns.{codings-each}
 
 -- ---- codings
 
@@ -28,26 +28,17 @@ use Rattle.jpeg_streams.proofs.BroughtLevels.{zero-at as zeros-at}
 pub record IsOf (frame : Frame) (c : Coding) : Type 0 where
   pub here : At c.index frame.components c.component
 
-pub first-at : (index : ℕ) (cs : List Component) (c : Component)
-    → ◌≡◌ {A = Option Component} (first_of (drop index cs)) (Some c) → At index cs c
-first-at (suc index) (d ∷ cs) c e = first-at index cs c e
-first-at index cs c e = search rules
-
 abbrev pub AllOf : Frame → Result (List Coding) Fault → Type 0
 AllOf frame (Ok codings) = AllByRecursion (IsOf frame) codings
 AllOf frame (Err e) = Unit {0}
 
-codings-from : (found : Found) (frame : Frame) (p : Pass) (tables : Tables) (indices dcs acs : List
-    ℕ)
-    → AllOf frame (codings_from found frame p tables indices dcs acs)
-unfolding codings_from component_coding
-codings-from found frame p tables (index ∷ indices) (d ∷ dcs) (a ∷ acs) =
-    search (rules, first-at, codings-from found frame p tables indices dcs acs)
-codings-from found frame p tables indices dcs acs = tt
-
 pub codings-are-of : (found : Found) (frame : Frame) (scan : Scan) → AllOf frame (codings_of found frame scan)
-unfolding codings_of
-codings-are-of found frame scan = search (rules, codings-from)
+codings-are-of found frame scan = go (codings_of found frame scan) refl
+  where
+    go : (r : Result (List Coding) Fault) → codings_of found frame scan ≡ r → AllOf frame r
+    go (Ok codings) e = codings-each (IsOf frame) found frame scan codings e
+        (λ index d a k is. record { here = get-at k.index frame.components k.component is.component })
+    go (Err f) e = tt
 
 -- ---- blocks
 

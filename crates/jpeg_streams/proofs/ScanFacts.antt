@@ -6,8 +6,7 @@ use lib.ListN.{length-map}
 use Rattle.jpeg_segments.specs.declared.parser.CodingProcess.TheVariants.{Lossless}
 use Rattle.jpeg_segments.specs.Frame.{Frame}
 use Rattle.jpeg_segments.specs.ScanHeader.{Selector, is_band, scan_of}
-use Rattle.jpeg_segments.specs.ScanHeaders.{AreChoices, Choice, IsScan, ScanHeader, scan_written}
-use Rattle.jpeg_segments.specs.ScanHeaders.{selector_for}
+use Rattle.jpeg_segments.specs.ScanHeaders.{AreChoices, IsScan, ScanHeader, scan_written}
 use Rattle.jpeg_segments.proofs.Fields.{nibbles-high, nibbles-low}
 use Rattle.jpeg_streams.specs.ScanSegments.{pass_of}
 use Rattle.jpeg_streams.proofs.IndicesApart.{IsAbsent, AreApart}
@@ -15,20 +14,19 @@ use Rattle.jpeg_streams.proofs.BroughtLevels.{PassSo, ScanFacts, progressive-pas
 
 -- ---- the components, each after those before it
 
-indices_of : Frame → List Choice → List ℕ
-indices_of f cs = map (λ s. s.component) (map (selector_for f) cs)
+indices_of : List (ℕ × Selector) → List ℕ
+indices_of cs = map (λ s. s.component) (map (λ c. c.1) cs)
 
-absent-after : (f : Frame) (n least : ℕ) (cs : List Choice) → n < least → AreChoices f least cs
-    → IsAbsent n (indices_of f cs)
+absent-after : (f : Frame) (n least : ℕ) (cs : List (ℕ × Selector)) → n < least → AreChoices f least cs
+    → IsAbsent n (indices_of cs)
 unfolding AreChoices indices_of
 absent-after f n least [] h are = tt
-absent-after f n least (c ∷ cs) h are = search (rules, absent-after f n (c.component + 1) cs (omega arith) are.1)
+absent-after f n least (c ∷ cs) h are = search (rules, absent-after f n (c.1.component + 1) cs (omega arith) are.1)
 
-all-apart : (f : Frame) (least : ℕ) (cs : List Choice) → AreChoices f least cs → AreApart
-    (indices_of f cs)
+all-apart : (f : Frame) (least : ℕ) (cs : List (ℕ × Selector)) → AreChoices f least cs → AreApart (indices_of cs)
 unfolding AreChoices indices_of
 all-apart f least [] are = tt
-all-apart f least (c ∷ cs) are = search (rules, absent-after, all-apart f (c.component + 1) cs are.1)
+all-apart f least (c ∷ cs) are = search (rules, absent-after, all-apart f (c.1.component + 1) cs are.1)
 
 -- ---- the band
 

@@ -68,12 +68,6 @@ pub length-below : (limit : ℕ) (bytes : List ℕ) → length bytes ≤ limit �
 unfolding length_at
 length-below limit bytes h = search (rules, below-bind, u16-below, below-else, below-ok)
 
-pub skip-below : (limit n : ℕ) (bytes : List ℕ) → length bytes < limit → LeavesBelow limit (skip_at n bytes)
-unfolding skip_at
-skip-below limit zero bytes h = below-ok limit tt bytes h
-skip-below limit (suc n) bytes h =
-    below-bind limit limit (next_byte bytes) _ (byte-below limit bytes (omega arith)) (λ b p. skip-below limit n b.1 p)
-
 pub times-below : {A : Type 0} (limit n : ℕ) (read : List ℕ → Outcome A) (bytes : List ℕ)
     → ((bs : List ℕ) → length bs < limit → LeavesBelow limit (read bs)) → length bytes < limit
     → LeavesBelow limit (times n read bytes)
@@ -83,6 +77,12 @@ times-below limit (suc n) read bytes each h =
     below-bind limit limit (read bytes) _ (each bytes h) (λ x p.
     below-bind limit limit (times n read x.1) _ (times-below limit n read x.1 each p) (λ more q. below-ok limit _ more.1
     q))
+
+pub skip-below : (limit n : ℕ) (bytes : List ℕ) → length bytes < limit → LeavesBelow limit (skip_at n bytes)
+unfolding skip_at
+skip-below limit n bytes h = below-bind limit limit (times n next_byte bytes) _
+    (times-below limit n next_byte bytes (λ bs p. byte-below limit bs (omega arith)) h)
+    (λ x p. below-ok limit tt x.1 p)
 
 -- what has to hold, or to be there
 pub below-check : {B : Type 0} (limit : ℕ) (b : Bool) (f : Unit {0} → Outcome B) → LeavesBelow limit (f tt)

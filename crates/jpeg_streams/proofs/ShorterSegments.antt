@@ -4,9 +4,7 @@ use Rattle.std.proofs.Common.{None, length}
 use Rattle.jpeg_segments.specs.Frame.{Frame, Factors, size_at, factors_at, components_from, sof_at}
 use Rattle.jpeg_segments.specs.ScanHeader.{Selector, count_at, selector_at, selectors_from}
 use Rattle.jpeg_segments.specs.ScanHeader.{band_at, sos_at}
-use Rattle.jpeg_segments.specs.Application.{Application, passed_over, adobe_by, adobe_at, application_14, payload_at}
-use Rattle.jpeg_segments.specs.Application.{app_at, dri_at}
-use Rattle.jpeg_segments.specs.declared.parser.AdobeColorTransform.{AdobeColorTransform}
+use Rattle.jpeg_segments.specs.Application.{Application, adobe_at, app_at, dri_at, passed_over}
 use Rattle.jpeg_segments.specs.Quantization as quantization
 use Rattle.jpeg_segments.specs.Quantization.{value_at, defined_table_at, dqt_at}
 use Rattle.jpeg_segments.specs.HuffmanTables as huffman
@@ -110,23 +108,13 @@ passed-below : (limit left : ℕ) (said : Option Application) (bytes : List ℕ)
     → LeavesBelow limit (passed_over left said bytes)
 passed-below limit left said bytes h = search (below_steps) depth 12
 
-transform-below : (limit left : ℕ) (transform : Option AdobeColorTransform) (bytes : List ℕ) → length bytes < limit
-    → LeavesBelow limit (adobe_by left transform bytes)
-transform-below limit left None bytes h = below-err (Option Application) limit _
-transform-below limit left (Some transform) bytes h = passed-below limit left _ bytes h
-
 adobe-below : (limit left : ℕ) (bytes : List ℕ) → length bytes < limit → LeavesBelow limit (adobe_at left bytes)
 unfolding adobe_at
-adobe-below limit left bytes h = search (below_steps, transform-below, passed-below) depth 12
-
-payload-below : (limit number left : ℕ) (bytes : List ℕ) → length bytes < limit
-    → LeavesBelow limit (payload_at number left bytes)
-unfolding payload_at
-payload-below limit number left bytes h = search (below_steps) depth 12
+adobe-below limit left bytes h = search (below_steps, passed-below) depth 12
 
 pub app-below : (limit number : ℕ) (bytes : List ℕ) → length bytes ≤ limit → LeavesBelow limit (app_at number bytes)
-unfolding app_at application_14
-app-below limit number bytes h = search (below_steps, passed-below, adobe-below, payload-below) depth 12
+unfolding app_at
+app-below limit number bytes h = search (below_steps, adobe-below) depth 12
 
 pub dri-below : (limit : ℕ) (bytes : List ℕ) → length bytes ≤ limit → LeavesBelow limit (dri_at bytes)
 unfolding dri_at

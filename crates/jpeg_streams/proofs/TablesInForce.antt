@@ -38,7 +38,7 @@ needed-good false class l i t h e = subst IsTable (ok-same (no_table class) t e)
 -- The tables of a scan exist.
 pub codings-good : (w : Found) (f : Frame) (s : Scan) (codings : List Coding) → HasTables w.huffman
     → codings_of w f s ≡ Ok codings → AllByRecursion (λ c. IsTable c.dc × IsTable c.ac) codings
-unfolding codings_of tables_of
+unfolding tables_of
 codings-good w f s codings h e =
     let good : HasTables (tables_of w s) = search (
       rules,
@@ -48,5 +48,4 @@ codings-good w f s codings h e =
       luminance-ac-codes,
       chrominance-ac-codes,
     ) in
-    codings-each (λ c. IsTable c.dc × IsTable c.ac) w f (pass_of s) (tables_of w s) s.components s.dc_destinations
-    s.ac_destinations codings e (λ index d a k is. search (rules, needed-good))
+    codings-each (λ c. IsTable c.dc × IsTable c.ac) w f s codings e (λ index d a k is. search (rules, needed-good))

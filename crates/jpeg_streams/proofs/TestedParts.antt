@@ -17,9 +17,8 @@ use Rattle.jpeg_segments.specs.Frame.{Factors, Frame, is_count, is_factor, is_lo
 use Rattle.jpeg_segments.specs.Frame.{is_destination, is_precision}
 use Rattle.jpeg_segments.specs.Frame.{is_taken}
 use Rattle.jpeg_segments.specs.HuffmanTables.{greatest_destination, DefinedTable}
-use Rattle.jpeg_segments.specs.ScanHeader.{is_band, is_mcu, index_of}
-use Rattle.jpeg_segments.specs.ScanHeaders.{AreChoices, Choice, IsScan, ScanHeader, scan_written}
-use Rattle.jpeg_segments.specs.ScanHeaders.{selector_for}
+use Rattle.jpeg_segments.specs.ScanHeader.{Selector, is_band, is_mcu, index_of}
+use Rattle.jpeg_segments.specs.ScanHeaders.{AreChoices, IsScan, ScanHeader, scan_written, selectors_in}
 use Rattle.jpeg_segments.specs.WrittenSegments.{AreComponents, FrameHeader, IsFrameHeader}
 use Rattle.jpeg_segments.specs.WrittenSegments.{IsHuffmanTable}
 use Rattle.jpeg_segments.specs.WrittenSegments.{IsQuantizationTable, QuantizationTable}
@@ -90,25 +89,25 @@ frame-by number h e = search (rules, nat_tests, components-by)
 
 -- ---- scan headers
 
-abbrev are_choices : Frame → ℕ → List Choice → Bool
+abbrev are_choices : Frame → ℕ → List (ℕ × Selector) → Bool
 are_choices frame least [] = true
 are_choices frame least (c ∷ more) =
-    is_at (index_of frame.components c.identifier) c.component && (nat_le least c.component
-    && (nat_le c.dc (greatest_destination (Some frame.is_baseline)) && (nat_le c.ac
+    is_at (index_of frame.components c.0) c.1.component && (nat_le least c.1.component
+    && (nat_le c.1.dc (greatest_destination (Some frame.is_baseline)) && (nat_le c.1.ac
     (greatest_destination (Some frame.is_baseline))
-    && are_choices frame (c.component + 1) more)))
+    && are_choices frame (c.1.component + 1) more)))
 
-choices-by : (frame : Frame) (least : ℕ) (cs : List Choice) → are_choices frame least cs ≡ true
+choices-by : (frame : Frame) (least : ℕ) (cs : List (ℕ × Selector)) → are_choices frame least cs ≡ true
     → AreChoices frame least cs
 unfolding AreChoices
 choices-by frame least [] e = tt
 choices-by frame least (c ∷ more) e =
-    search (rules, at-is, nat_tests, choices-by frame (c.component + 1) more (grind (arith, nat_tests)))
+    search (rules, at-is, nat_tests, choices-by frame (c.1.component + 1) more (grind (arith, nat_tests)))
 
 abbrev is_scan : Frame → ScanHeader → Bool
 is_scan frame h =
     nat_le 1 (length h.choices) && (nat_le (length h.choices) 4 && (are_choices frame 0 h.choices
-    && (is_mcu (map (selector_for frame) h.choices) && (nat_lt h.low 16 && (nat_lt h.low
+    && (is_mcu frame (selectors_in h) && (nat_lt h.low 16 && (nat_lt h.low
     frame.precision
     && is_band frame.process (length h.choices) h.first h.last h.high h.low)))))
 

@@ -9,16 +9,17 @@ use Rattle.jpeg_bits.specs.Written.{low_bits, IsCoded, bits_of_bytes, marker, st
 use Rattle.jpeg_bits.specs.declared.codes.HuffmanTableClass.{HuffmanTableClass}
 use Rattle.jpeg_bits.specs.declared.codes.HuffmanTableClass.TheVariants as classes
 use Rattle.jpeg_segments.specs.Frame.{Factors, Frame, frame_of, component_of}
-use Rattle.jpeg_segments.specs.ScanHeader.{scan_of}
+use Rattle.jpeg_segments.specs.Checks.{gathered}
+use Rattle.jpeg_segments.specs.ScanHeader.{Selector, scan_of}
 use Rattle.jpeg_segments.specs.WrittenSegments.{FrameHeader, Segment, Quantization, Huffman, Interval, Header}
 use Rattle.jpeg_segments.specs.WrittenSegments.{frame_payload, huffman_bytes, quantization_bytes}
-use Rattle.jpeg_segments.specs.ScanHeaders.{Choice, ScanHeader, IsScan, scan_payload, scan_written}
+use Rattle.jpeg_segments.specs.ScanHeaders.{ScanHeader, IsScan, scan_payload, scan_written}
 use Rattle.jpeg_pixels.specs.Pictures.{sources_by}
 use Rattle.jpeg_pixels.specs.Upsampling.{rule_of}
 use Rattle.jpeg_streams.specs.Levels.{Levels, Is8Bit, nothing_sent}
 use Rattle.jpeg_streams.specs.Order.{Spot, all_spots, mcu_size, mcu_spots, part_spots, spots_of}
 use Rattle.jpeg_streams.specs.SaidSegments.{found_after}
-use Rattle.jpeg_streams.specs.ScanSegments.{Coding, codings_of, codings_from, component_coding, components_of, pass_of}
+use Rattle.jpeg_streams.specs.ScanSegments.{Coding, codings_of, component_coding, components_of, pass_of}
 use Rattle.jpeg_streams.specs.ScanSegments.{tables_of, vias_from}
 use Rattle.jpeg_streams.specs.Segments.{accepted, updated}
 use Rattle.jpeg_streams.specs.Found.{nothing_found, Found}
@@ -57,8 +58,8 @@ table class symbol = record { class = class; counts = 1 ∷ replicate 15 0; symb
 abbrev segment_of : Table → Segment
 segment_of t = Huffman (record { destination = 0; table = t } ∷ [])
 
-abbrev choice : ℕ → ℕ → Choice
-choice identifier index = record { identifier = identifier; component = index; dc = 0; ac = 0 }
+abbrev choice : ℕ → ℕ → ℕ × Selector
+choice identifier index = (identifier, record { component = index; dc = 0; ac = 0 })
 
 abbrev the_header : ScanHeader
 the_header = record { choices = choice 82 0 ∷ choice 71 1 ∷ choice 66 2 ∷ []; first = 0; last = 63; high = 0; low = 0 }
@@ -178,7 +179,7 @@ abbrev sent : ℕ → Levels
 sent = levels_after (pass_of (scan_written the_frame the_header)) (0 ∷ 1 ∷ 2 ∷ []) (λ k. nothing_sent)
 
 legal : IsLegalScan said the_frame (λ k. nothing_sent) (scan_written the_frame the_header) codings
-unfolding nothing_found updated frame_of component_of scan_of pass_of tables_of codings_of codings_from
+unfolding nothing_found updated frame_of component_of scan_of pass_of tables_of codings_of gathered
     component_coding
 legal = scan-legal said the_frame (λ k. nothing_sent) the_header codings refl refl
 

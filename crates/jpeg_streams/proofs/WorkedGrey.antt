@@ -1,4 +1,5 @@
 -- A progressive stream of three blocks, worked by hand, is one that is written.
+use Rattle.jpeg_segments.specs.Checks.{gathered}
 use Rattle.std.proofs.Common.{rules, ℕ, zero, suc, ◌*◌, ◌+◌, true, false, List, [], ◌∷◌, replicate, pos, negsuc, Some}
 use Rattle.std.proofs.Common.{refl, sym, arith, true≢false}
 use Rattle.jpeg_bits.specs.Codes.{Table, lengths_from, code_value, codes_exist}
@@ -15,7 +16,7 @@ use Rattle.jpeg_streams.specs.Levels.{Levels, nothing_sent}
 use Rattle.jpeg_streams.specs.Order.{own_spots, spots_of, mcu_size}
 use Rattle.jpeg_streams.specs.SaidSegments.{found_after}
 use Rattle.jpeg_streams.specs.Scans.{no_table}
-use Rattle.jpeg_streams.specs.ScanSegments.{Coding, codings_of, codings_from, component_coding, pass_of, tables_of}
+use Rattle.jpeg_streams.specs.ScanSegments.{Coding, codings_of, component_coding, pass_of, tables_of}
 use Rattle.jpeg_streams.specs.ScanSegments.{vias_from}
 use Rattle.jpeg_streams.specs.Found.{nothing_found, Found}
 use Rattle.jpeg_streams.specs.Segments.{accepted, updated}
@@ -55,7 +56,7 @@ segment_of table = Huffman (record { destination = 0; table = table } ∷ [])
 
 abbrev scan_header : ℕ → ℕ → ℕ → ℕ → ScanHeader
 scan_header from to high low = record {
-  choices = (record { identifier = 1; component = 0; dc = 0; ac = 0 }) ∷ [];
+  choices = (1, record { component = 0; dc = 0; ac = 0 }) ∷ [];
   first = from;
   last = to;
   high = high;
@@ -223,7 +224,7 @@ Legal h ks levels = IsLegalScan said the_frame levels (scan_written the_frame h)
 
 legal : Legal header_1 dc_codings (λ k. nothing_sent) × Legal header_2 ac_codings sent_1
     × Legal header_3 dc_codings sent_2 × Legal header_4 ac_codings sent_3
-unfolding nothing_found updated frame_of component_of scan_of pass_of tables_of levels_after codings_of codings_from
+unfolding nothing_found updated frame_of component_of scan_of pass_of tables_of levels_after codings_of gathered
     component_coding
 legal = search (rules, scan-legal)
 

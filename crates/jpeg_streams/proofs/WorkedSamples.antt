@@ -1,4 +1,5 @@
 -- The lossless streams that are worked by hand are written.
+use Rattle.jpeg_segments.specs.Checks.{gathered}
 use Rattle.std.proofs.Common.{rules, ◌≡◌, ℕ, zero, suc, ◌==◌, Bool, true, false, List, [], ◌∷◌, ◌++◌, length, drop}
 use Rattle.std.proofs.Common.{ℤ, ◌≤ℤ◌, replicate, flat_map, pos, negsuc, refl, sym, subst, arith, inl, inr}
 use Rattle.std.proofs.lemmas.Bool.{and_parts, eqb-true, leb-true}
@@ -142,7 +143,7 @@ three-scans : WritesSamplesScan (said three_header) (frame_by three_header) thir
     three_samples third_data
     × WritesSamplesScan (scanned three_header) (frame_by three_header) other_scan three_samples
     other_data
-unfolding frame_of component_of nothing_found updated three_samples lossless_codings lossless_coding scan_of HoldSamples mcus_across mcus_down
+unfolding frame_of component_of nothing_found updated three_samples lossless_codings lossless_coding gathered scan_of HoldSamples mcus_across mcus_down
     parts_of mcu_tables row_tables strand strands
     lines_in lines_by_component first_line line_rest line_below lines_below residue stuffed
     bits_of_bytes all_above
@@ -207,7 +208,7 @@ padded-scans : WritesSamplesScan (said padded_header) (frame_by padded_header) p
     padded_samples padded_data
     × WritesSamplesScan (scanned padded_header) (frame_by padded_header) lone_scan padded_samples
     lone_data
-unfolding frame_of component_of nothing_found updated padded_samples lossless_codings lossless_coding scan_of HoldSamples mcus_across mcus_down
+unfolding frame_of component_of nothing_found updated padded_samples lossless_codings lossless_coding gathered scan_of HoldSamples mcus_across mcus_down
     parts_of mcu_tables row_tables strand strands
     lines_in lines_by_component first_line line_rest line_below lines_below residue stuffed
     bits_of_bytes all_above

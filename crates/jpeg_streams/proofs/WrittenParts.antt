@@ -1,9 +1,10 @@
 -- Fronts of streams, and streams that mean one picture.
 use Rattle.std.proofs.Common.{rules, ◌≡◌, ◌⊎◌, inl, ℕ, zero, suc, ◌+◌, ◌*◌, Bool, true, false, cond, List, []}
-use Rattle.std.proofs.Common.{◌∷◌, ◌++◌, map, drop, length, nat_lt, Some, None, Result, Ok, Err, refl, sym, ap, ◌∙◌}
+use Rattle.std.proofs.Common.{◌∷◌, ◌++◌, map, length, nat_lt, Some, None, Result, Ok, Err, refl, sym, ap, ◌∙◌}
 use Rattle.std.proofs.Common.{subst, true≢false}
 use Rattle.std.specs.List.{AllByRecursion}
 use Rattle.std.specs.Prelude.{slice_index_or}
+use Rattle.std.specs.Prelude.{slice_get}
 use Rattle.jpeg_bits.specs.Reading.{Fault, Malformed, ◌>>=◌}
 use Rattle.jpeg_segments.specs.Frame.{Component, Frame}
 use Rattle.jpeg_segments.specs.ScanHeaders.{scan_payload, scan_written}
@@ -14,9 +15,7 @@ use Rattle.jpeg_streams.specs.Levels.{Is8Bit, Levels, nothing_sent}
 use Rattle.jpeg_streams.specs.Order.{grid_of}
 use Rattle.jpeg_streams.specs.SaidSegments.{found_after}
 use Rattle.jpeg_segments.specs.Checks.{needed}
-use Rattle.jpeg_streams.specs.Needed.{first_of}
 use Rattle.jpeg_streams.specs.ScanSegments.{Coding, is_progressive, pass_of, components_of}
-use Rattle.jpeg_streams.specs.ScanSegments.{codings_of}
 use Rattle.jpeg_streams.specs.Found.{nothing_found, Found}
 use Rattle.jpeg_streams.specs.Stream.{Told, told_of}
 use Rattle.jpeg_streams.specs.FoundPictures.{picture_by}
@@ -137,10 +136,10 @@ one-picture settings array first second rest others a b last_a last_b range w x 
 
 -- A slot of a scan is beyond its components, or has the component of an index in the frame.
 slot-coded : (frame : Frame) (codings : List Coding)
-    → AllByRecursion (λ k. first_of (drop k.index frame.components) ≡ Some k.component) codings
+    → AllByRecursion (λ k. slice_get frame.components k.index ≡ Some k.component) codings
     → (slot : ℕ) → (grid_at (components_of codings) slot ≡ no_grid)
     ⊎ ((c : Component) × (grid_at (components_of codings) slot ≡ grid_of c)
-    × (first_of (drop (index_at codings slot) frame.components) ≡ Some c))
+    × (slice_get frame.components (index_at codings slot) ≡ Some c))
 slot-coded frame [] h slot = inl refl
 slot-coded frame (k ∷ codings) h zero = search rules
 slot-coded frame (k ∷ codings) h (suc slot) = slot-coded frame codings h.1 slot
@@ -149,7 +148,6 @@ also-writes : (a b : Coefficients) (said final : Found) (levels last : ℕ → L
     (frame : Frame)
     → Writes a said levels scanned bytes final last → final.frame ≡ Some frame → AgreeOnOwn frame a b
     → Writes b said levels scanned bytes final last
-unfolding codings_of
 also-writes a b said final levels last scanned bytes frame
     (closed said' levels' g fill framed tables complete) e agree = closed said levels g fill framed tables complete
 also-writes a b said final levels last scanned bytes frame
@@ -164,7 +162,7 @@ also-writes a b said final levels last scanned bytes frame
     let same : f ≡ frame =
     same-frame f frame final.frame (frame-kept a said final levels_1 last true more f w framed) e in
     let alike : AgreeOnOwn f a b = subst (λ (x : Frame). AgreeOnOwn x a b) (sym same) agree in
-    let slots = slot-coded f codings (codings-each _ said f p _ _ _ _ codings legal.are_in_force
+    let slots = slot-coded f codings (codings-each _ said f (scan_written f h) codings legal.are_in_force
     (λ index d a k is. is.component)) in
     then_scan said final levels last scanned f fill h codings data_bytes more framed is legal
     (record {

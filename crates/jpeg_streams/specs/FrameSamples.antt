@@ -1,5 +1,5 @@
 -- The samples of the components of a frame: their sizes, and what is outside these.
-use Rattle.std.specs.Prelude.{◌≡◌, ℕ, ◌+◌, ◌*◌, ◌^◌, ◌<◌, List, [], ◌∷◌, length, drop, map, Some}
+use Rattle.std.specs.Prelude.{◌≡◌, ℕ, ◌+◌, ◌*◌, ◌^◌, ◌<◌, List, [], ◌∷◌, length, map, slice_get, Some}
 use Rattle.std.specs.List.{AllByRecursion}
 use Rattle.jpeg_segments.specs.Frame.{Component, Frame}
 use Rattle.jpeg_segments.specs.WrittenSegments.{FrameHeader, frame_written}
@@ -7,7 +7,6 @@ use Rattle.jpeg_lossless.specs.Differences.{Part, lines_in}
 use Rattle.jpeg_lossless.specs.Positions.{at_position}
 use Rattle.jpeg_lossless.specs.Scans.{Way, samples_an_mcu}
 use Rattle.jpeg_streams.specs.Found.{Found}
-use Rattle.jpeg_streams.specs.Needed.{first_of}
 use Rattle.jpeg_streams.specs.WrittenLossless.{own_lines, Samples, WritesSamples}
 
 -- ---- samples of each size
@@ -24,7 +23,7 @@ pub record AreLinesOf (bound : ℕ) (c : Component) (lines : List (List ℕ)) : 
 -- Each component of a frame has samples of its size, and of the frame's precision.
 abbrev pub AreSamplesOf : Frame → Samples → Type 0
 AreSamplesOf frame samples =
-    (index : ℕ) (c : Component) → first_of (drop index frame.components) ≡ Some c →
+    (index : ℕ) (c : Component) → slice_get frame.components index ≡ Some c →
     AreLinesOf (2 ^ frame.precision) c (samples index)
 
 -- The parameters of a header fit their fields.
@@ -48,7 +47,7 @@ pub record AreWrittenIn (h : FrameHeader) (samples : Samples) (bytes : List ℕ)
 -- Samples agree where the components of a frame have them.
 abbrev pub AgreeInside : Frame → Samples → Samples → Type 0
 AgreeInside frame a b =
-    (index x y : ℕ) (c : Component) → first_of (drop index frame.components) ≡ Some c →
+    (index x y : ℕ) (c : Component) → slice_get frame.components index ≡ Some c →
     x < c.width → y < c.height → at_position (a index) x y ≡ at_position (b index) x y
 
 -- The rows of differences of an interval agree but for padding. The samples of the first component

@@ -2,7 +2,8 @@
 -- after each row of MCUs: one without padding, and one with.
 use Rattle.std.specs.Prelude.{ℕ, suc, zero, List, [], ◌∷◌, ◌++◌}
 use Rattle.jpeg_segments.specs.Frame.{Factors}
-use Rattle.jpeg_segments.specs.ScanHeaders.{Choice, scan_payload, ScanHeader}
+use Rattle.jpeg_segments.specs.ScanHeader.{Selector}
+use Rattle.jpeg_segments.specs.ScanHeaders.{scan_payload, ScanHeader}
 use Rattle.jpeg_segments.specs.WrittenSegments.{FrameHeader, Header, Huffman, Interval, payload_of}
 use Rattle.jpeg_segments.specs.WrittenSegments.{Segment, with_length}
 use Rattle.jpeg_lossless.specs.Worked.{small_table}
@@ -31,12 +32,11 @@ three_header = record {
   components = plain_factors 1 ∷ plain_factors 2 ∷ plain_factors 3 ∷ [];
 }
 
-abbrev pub choice : ℕ → ℕ → Choice
-choice identifier component =
-    record { identifier = identifier; component = component; dc = 0; ac = 0 }
+abbrev pub choice : ℕ → ℕ → ℕ × Selector
+choice identifier component = (identifier, record { component = component; dc = 0; ac = 0 })
 
 -- a scan of some components by a selection
-abbrev pub samples_scan : List Choice → ℕ → ScanHeader
+abbrev pub samples_scan : List (ℕ × Selector) → ℕ → ScanHeader
 samples_scan choices selection =
     record { choices = choices; first = selection; last = 0; high = 0; low = 0 }
 

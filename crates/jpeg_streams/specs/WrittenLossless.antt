@@ -7,6 +7,7 @@ use Rattle.jpeg_segments.specs.declared.parser.CodingProcess.TheVariants.{Lossle
 use Rattle.jpeg_segments.specs.Frame.{Component, Frame}
 use Rattle.jpeg_segments.specs.ScanHeader.{predictor_by}
 use Rattle.jpeg_segments.specs.ScanHeaders.{IsScan, ScanHeader, scan_payload, scan_written}
+use Rattle.jpeg_segments.specs.ScanHeaders.{selectors_in}
 use Rattle.jpeg_segments.specs.WrittenSegments.{marker_code, Header}
 use Rattle.jpeg_segments.specs.WrittenSegments.{payload_of}
 use Rattle.jpeg_segments.specs.WrittenSegments.{Segment, with_length}
@@ -95,7 +96,7 @@ pub data Writes (samples : Samples) : Found → List ℕ → List ℕ → Found 
       (data_bytes more : List ℕ)
       → said.frame ≡ Some frame → frame.process ≡ Lossless → IsScan frame h
       → WritesSamplesScan said frame h samples data_bytes
-      → Writes samples (said_after_scan said) (map (λ c. c.component) h.choices ++ sent) more final
+      → Writes samples (said_after_scan said) (map (λ s. s.component) (selectors_in h) ++ sent) more final
       → Writes samples said sent
       (marker fill 218 (with_length (scan_payload h) ++ (data_bytes ++ more))) final
 

@@ -1,5 +1,6 @@
 -- Streams that are written as far as some segment or scan, and streams that mean one picture.
-use Rattle.std.specs.Prelude.{◌≡◌, ℕ, ◌<◌, Bool, true, List, [], ◌++◌, drop, map}
+use Rattle.std.specs.Prelude.{◌≡◌, ℕ, ◌<◌, Bool, true, List, [], ◌++◌, map}
+use Rattle.std.specs.Prelude.{slice_get}
 use Rattle.std.specs.Prelude.{Some, None, slice_index_or, Result, Ok}
 use Rattle.std.specs.List.{AllByRecursion}
 use Rattle.jpeg_bits.specs.Reading.{Fault, ◌>>=◌}
@@ -9,7 +10,6 @@ use Rattle.jpeg_segments.specs.WrittenSegments.{marker_code, payload_of, Segment
 use Rattle.jpeg_streams.specs.Levels.{Levels}
 use Rattle.jpeg_streams.specs.Order.{grid_of}
 use Rattle.jpeg_streams.specs.SaidSegments.{found_after, Stands}
-use Rattle.jpeg_streams.specs.Needed.{first_of}
 use Rattle.jpeg_streams.specs.Stream.{meaning}
 use Rattle.jpeg_streams.specs.ScanSegments.{Coding, pass_of}
 use Rattle.jpeg_streams.specs.Found.{Found}
@@ -70,6 +70,6 @@ pub record HaveSamePicture (a b : Found) : Type 0 where
 -- padding, up to whole MCUs.
 abbrev pub AgreeOnOwn : Frame → Coefficients → Coefficients → Type 0
 AgreeOnOwn frame a b =
-    (index row column : ℕ) (c : Component) → first_of (drop index frame.components) ≡ Some c →
+    (index row column : ℕ) (c : Component) → slice_get frame.components index ≡ Some c →
     row < (grid_of c).own_high → column < (grid_of c).own_wide →
     a index row column ≡ b index row column
