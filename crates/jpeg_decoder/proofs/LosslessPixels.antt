@@ -9,7 +9,6 @@ use Rattle.jpeg_lossless.specs.Pictures.{sample_picture}
 use Rattle.jpeg_lossless.proofs.ImageLoops.{inside}
 use Rattle.jpeg_decoder.proofs.ReadLists.{at-flat}
 use Rattle.jpeg_streams.specs.declared.settings.Settings.{Settings}
-use Rattle.jpeg_streams.specs.Needed.{first_of}
 use Rattle.jpeg_streams.specs.Stream.{meaning, sized_meaning, told_of}
 use Rattle.jpeg_streams.specs.Found.{nothing_found, Found}
 use Rattle.jpeg_streams.specs.WrittenLossless.{IsWithinLimit, Samples, Writes, WritesSamples}
@@ -18,7 +17,7 @@ use Rattle.jpeg_streams.specs.WrittenLossless.{picture_of_samples, pixel_from, s
 use Rattle.jpeg_streams.specs.SaidSegments.{found_after}
 use Rattle.jpeg_streams.proofs.LosslessFrames.{IsShaped}
 use Rattle.jpeg_streams.proofs.LosslessSizes.{IsMade, made-reaches, some-across, some-down}
-use Rattle.jpeg_streams.proofs.PaddingUnseen.{drop-next, mapped-same}
+use Rattle.jpeg_streams.proofs.PaddingUnseen.{drop-next, get-drop, mapped-same}
 use Rattle.jpeg_streams.proofs.OwnSpots.{all-append}
 use Rattle.jpeg_decoder.proofs.WrittenLosslessStreams.{IsSaid, all-in, drawn, final-framed, nothing-said, samples-meant}
 use Rattle.jpeg_decoder.proofs.WrittenLosslessStreams.{samples-sized, segment-said, some-same}
@@ -70,7 +69,7 @@ unfolding AreAll
 from-indices frame samples all index [] e made h = tt
 from-indices frame samples all index (c ∷ cs) e made h =
     let next : index + 1 ≡ suc index = omega arith in (
-      (h.0 c (ap first_of e), made.0),
+      (h.0 c (get-drop index all c cs e), made.0),
       from-indices frame samples all (index + 1) cs
           (ap (λ (n : ℕ). drop n all) next ∙ drop-next index all c cs e) made.1 h.1,
     )

@@ -3,7 +3,8 @@ use Rattle.std.proofs.Common.{rules}
 use Rattle.std.proofs.Common.{◌≡◌, ℕ, zero, suc, ◌+◌, ◌*◌, ◌<◌, ◌≤◌, ◌==◌, Bool, true, false, List, [], ◌∷◌, ◌++◌, All}
 use Rattle.std.proofs.Common.{length, map, drop, get_or, set, Option, Some, None, Result, Ok, Err, refl, sym, ap}
 use Rattle.std.proofs.Common.{◌∙◌, subst, arith}
-use Rattle.std.specs.Prelude.{IfErr, IfOk, MatchResult, OnOk, slice_index_or, slice_set}
+use Rattle.std.specs.Prelude.{IfErr, IfOk, MatchResult, OnOk, slice_get, slice_index_or, slice_set}
+use Rattle.std.proofs.lemmas.Option.{get_or_from_slice_get, slice_get-get_or}
 use Rattle.std.specs.declared.alloc.Global.{Global}
 use Rattle.std.specs.declared.vec.Vec.{Vec}
 use Rattle.std.proofs.lemmas.List.{length-map, map-set}
@@ -29,8 +30,7 @@ use Rattle.jpeg_lossless.specs.Scans.{scan_at}
 use Rattle.jpeg_streams.specs.LosslessScans.{LosslessCoding, lossless_coding, lossless_codings, mcus_across}
 use Rattle.jpeg_streams.specs.LosslessScans.{mcus_down, part_of, parts_of, samples_from, tables_in, with_samples}
 use Rattle.jpeg_decoder.specs.LosslessParts.{mcus_high, mcus_wide, no_component, part_by, parts_at}
-use Rattle.jpeg_segments.specs.Checks.{needed}
-use Rattle.jpeg_streams.specs.Needed.{first_of}
+use Rattle.jpeg_segments.specs.Checks.{gathered, needed}
 use Rattle.jpeg_decoder.specs.declared.decoded.Decoded.{Decoded}
 use Rattle.jpeg_streams.specs.Sound.{AreSampled, IsDecodedFrame, IsSound}
 use Rattle.jpeg_decoder.specs.Steps.{IsRefusal, after_all, samples_read, with_decoded}
@@ -69,7 +69,7 @@ no-tables ts ds slot h = ap (tables_in ts) (drop_all slot ds h)
 unfoldable pub AreOf : List Component → List LosslessCoding → List ℕ → List Table → Type 0
 AreOf cs [] [] [] = Unit {0}
 AreOf cs (k ∷ codings) (p ∷ indices) (t ∷ ts) =
-    ((first_of (drop p cs) ≡ Some k.component) × (k.table ≡ t)) × AreOf cs codings indices ts
+    ((slice_get cs p ≡ Some k.component) × (k.table ≡ t)) × AreOf cs codings indices ts
 AreOf cs _ _ _ = ⊥
 
 pub record AreCodings (tables : List (Option Table)) (frame : Frame) (indices ds : List ℕ) (ts :
@@ -81,23 +81,19 @@ pub record AreCodings (tables : List (Option Table)) (frame : Frame) (indices ds
   pub tables_are : map (λ k. k.table) codings ≡ ts
   pub of : AreOf frame.components codings indices ts
 
-first-at : (n : ℕ) (cs : List Component) → n < length cs → (c : Component) × (first_of (drop n cs) ≡ Some c)
-first-at n [] h = absurd (omega arith)
-first-at zero (c ∷ cs) h = (c, refl)
-first-at (suc n) (c ∷ cs) h = first-at n cs (omega arith)
-
 pub codings-by-tables : (tables : List (Option Table)) (frame : Frame) (indices ds : List ℕ) (ts :
     List Table)
     → AllByRecursion (λ index. index < length frame.components) indices → length ds ≡ length indices
     → tables_in tables ds ≡ Ok ts → AreCodings tables frame indices ds ts
-unfolding lossless_codings lossless_coding tables_in AreOf
+unfolding lossless_codings lossless_coding gathered tables_in AreOf
 codings-by-tables tables frame [] [] ts within long e = grind (arith, common_steps, ok-same)
 codings-by-tables tables frame (p ∷ indices) (d ∷ ds) ts within long e =
     let one = bind-ok (needed (slice_index_or tables d None)) _ ts e in
     let more = bind-ok (tables_in tables ds) _ ts one.2 in
     let rest = codings-by-tables tables frame indices ds more.0 within.1 (omega arith) more.1 in
-    let c = first-at p frame.components within.0 in
-    let k : LosslessCoding = record { index = p; component = c.0; table = one.0 } in
+    let c : Component = get_or frame.components p no_component in
+    let at = slice_get-get_or frame.components p no_component within.0 in
+    let k : LosslessCoding = record { index = p; component = c; table = one.0 } in
     record {
       codings = k ∷ rest.codings;
       are = grind (arith, common_steps, then-ok);
@@ -111,13 +107,13 @@ pub codings-lacking : (tables : List (Option Table)) (frame : Frame) (indices ds
     Fault)
     → AllByRecursion (λ index. index < length frame.components) indices → length ds ≡ length indices
     → tables_in tables ds ≡ Err f → lossless_codings tables frame indices ds ≡ Err f
-unfolding lossless_codings lossless_coding tables_in
+unfolding lossless_codings lossless_coding gathered tables_in
 codings-lacking tables frame [] [] f within long e = absurd (let n : ⊥ = cc in n)
 codings-lacking tables frame [] (d ∷ ds) f within long e = absurd (omega arith)
 codings-lacking tables frame (p ∷ indices) [] f within long e = absurd (omega arith)
 codings-lacking tables frame (p ∷ indices) (d ∷ ds) f within long e =
-    let c = first-at p frame.components within.0 in
-    go (first_of (drop p frame.components)) (ap needed c.1) (slice_index_or tables d None) (tables_in tables ds)
+    let at = slice_get-get_or frame.components p no_component within.0 in
+    go (slice_get frame.components p) (ap needed at) (slice_index_or tables d None) (tables_in tables ds)
     (lossless_codings tables frame indices ds) e (λ h. codings-lacking tables frame indices ds f
     within.1 (omega arith) h)
   where
@@ -134,12 +130,6 @@ codings-lacking tables frame (p ∷ indices) (d ∷ ds) f within long e =
 
 -- ---- the MCUs of a scan
 
-got : {A : Type 0} (n : ℕ) (xs : List A) (x d : A) → first_of (drop n xs) ≡ Some x → x ≡ get_or xs n d
-got zero [] x d e = absurd (let n : ⊥ = cc in n)
-got (suc n) [] x d e = absurd (let n : ⊥ = cc in n)
-got zero (y ∷ xs) x d e = cc
-got (suc n) (y ∷ xs) x d e = got n xs x d e
-
 abbrev part : Bool → Component → Table → Part
 part is_alone c t = part_by is_alone c t
 
@@ -149,13 +139,8 @@ several : (cs : List Component) (codings : List LosslessCoding) (indices : List 
     ≡ parts_at false cs indices ts
 unfolding AreOf parts_at
 several cs [] [] [] h = refl
-several cs (k ∷ codings) (p ∷ indices) (t ∷ ts) h = grind (
-  arith,
-  common_steps,
-  got,
-  several cs
-      codings indices ts h.1,
-)
+several cs (k ∷ codings) (p ∷ indices) (t ∷ ts) h =
+    grind (arith, common_steps, get_or_from_slice_get, several cs codings indices ts h.1)
 several cs _ _ _ h = absurd h
 
 two : (n : ℕ) → (suc (suc n) == 1) ≡ false
@@ -165,7 +150,7 @@ pub parts-are : (cs : List Component) (codings : List LosslessCoding) (indices :
     Table)
     → AreOf cs codings indices ts → parts_of codings ≡ parts_at (length indices == 1) cs indices ts
 unfolding AreOf parts_of parts_at
-parts-are cs codings indices ts h = grind (arith, common_steps, got, several, two)
+parts-are cs codings indices ts h = grind (arith, common_steps, get_or_from_slice_get, several, two)
 
 -- as many MCUs across and down
 pub mcus-are : (frame : Frame) (codings : List LosslessCoding) (indices : List ℕ) (ts : List Table)
@@ -173,7 +158,7 @@ pub mcus-are : (frame : Frame) (codings : List LosslessCoding) (indices : List �
     → (mcus_across frame codings ≡ mcus_wide frame indices) × (mcus_down frame codings ≡ mcus_high
     frame indices)
 unfolding AreOf mcus_across mcus_down mcus_wide mcus_high
-mcus-are frame codings indices ts h = grind (arith, common_steps, got)
+mcus-are frame codings indices ts h = grind (arith, common_steps, get_or_from_slice_get)
 
 codings-made : (frame : Frame) (cs : List Component) (codings : List LosslessCoding) (indices :
     List ℕ) (ts : List Table)

@@ -20,9 +20,8 @@ use Rattle.jpeg_pixels.specs.Samples.{basis, column_value, dequantized, is_flat_
 use Rattle.jpeg_pixels.specs.Scaled.{column_of_4, even_part, odd_part, sample_at, sample_of_1, sample_of_2}
 use Rattle.jpeg_pixels.specs.Scaled.{sample_of_4}
 use Rattle.jpeg_pixels.specs.Upsampling.{rule_of, upsampled}
-use Rattle.jpeg_segments.specs.Application.{adobe_at, app_at, application_0, application_1, application_13}
-use Rattle.jpeg_segments.specs.Application.{application_14, application_2, application_by, com_at, dri_at}
-use Rattle.jpeg_segments.specs.Application.{payload_at}
+use Rattle.jpeg_segments.specs.Application.{adobe_at, app_at, application_by, com_at, dri_at}
+use Rattle.jpeg_segments.specs.Checks.{gathered}
 use Rattle.jpeg_segments.specs.Frame.{component_of, components_from, factors_at, frame_of, size_at}
 use Rattle.jpeg_segments.specs.Frame.{sof_at}
 use Rattle.jpeg_segments.specs.Scales.{component_at, frame_at, scale_for}
@@ -33,7 +32,7 @@ use Rattle.jpeg_streams.specs.FoundPictures.{blocks_picture, picture_by, picture
 use Rattle.jpeg_streams.specs.FoundPictures.{planes_from}
 use Rattle.jpeg_streams.specs.Order.{all_spots, mcu_size, mcu_spots, own_spots, part_spots, spots_of}
 use Rattle.jpeg_streams.specs.ScanSegments.{after_restarts, after_scan, arrays_before, blocks_scan}
-use Rattle.jpeg_streams.specs.ScanSegments.{codings_from, codings_of, component_coding, finished_by, pass_of}
+use Rattle.jpeg_streams.specs.ScanSegments.{codings_of, component_coding, finished_by, pass_of}
 use Rattle.jpeg_streams.specs.ScanSegments.{plane_by, put_arrays, scan_arrays, scan_segment, tables_of}
 use Rattle.jpeg_streams.specs.ScanSegments.{vias_from, with_arrays, with_blocks, with_plane}
 use Rattle.jpeg_streams.specs.Scans.{arrays_at, put_blocks, turns_of, zero_arrays}
@@ -46,17 +45,16 @@ use Rattle.jpeg_segments.specs.HuffmanTables as tables
 use Rattle.jpeg_segments.specs.Quantization as quantization
 
 unfoldable pub jpeg_on_literals : ⊤
-unfolding accepted adobe_at after_restarts after_scan all_spots app_at application_0 application_1
-    application_13 application_14 application_2 application_by application_segment arrays_at
-    arrays_before band_at band_part basis begins bits_from block_from blocks_of blocks_picture
-    blocks_scan blue_of by_identifiers code_from code_in code_value codes_exist codings_from
+unfolding accepted adobe_at after_restarts after_scan all_spots app_at application_by
+    application_segment arrays_at arrays_before band_at band_part basis begins bits_from block_from blocks_of blocks_picture
+    blocks_scan blue_of by_identifiers code_from code_in code_value codes_exist
     codings_of coefficients_in_block_order colour_of column_of_4 column_value com_at component_at
     component_coding component_of components_from conversion_of converted_picture corrected count_at
     cropped dc_part dequantized difference dri_at end_segment even_part extended factors_at
     filled_end finished_by first_ac first_dc first_from frame_at frame_of frame_segment green_of
-    groups header_at huffman_segment image_of int_wrap interval intervals is_flat_column length_at
+    gathered groups header_at huffman_segment image_of int_wrap interval intervals is_flat_column length_at
     lengths_from line_bytes lines_of marker_of mcu_size mcu_spots meaning next_marker next_u16
-    nothing_found odd_part own_spots part_spots pass_of payload_at picture_by picture_line
+    nothing_found odd_part own_spots part_spots pass_of picture_by picture_line
     picture_of plane_at_end plane_by plane_of planes_from put_arrays put_blocks
     quantization.defined_table_at quantization.dqt_at quantization.quantization_from
     quantization.value_at quantization_segment red_of refined_ac refined_piece rest_at

@@ -18,20 +18,20 @@ use Rattle.jpeg_decoder.specs.declared.scan.Scan.{Scan}
 use Rattle.jpeg_streams.specs.InTurn.{Fits}
 use Rattle.jpeg_decoder.specs.Scanning.{components_in}
 use Rattle.jpeg_streams.specs.Sound.{IsDecodedFrame}
-use Rattle.jpeg_streams.specs.ScanSegments.{codings_from, component_coding, Coding, tables_of, pass_of}
+use Rattle.jpeg_streams.specs.ScanSegments.{codings_of, component_coding, Coding, tables_of, pass_of}
 use Rattle.jpeg_streams.specs.Found.{Found}
 use Rattle.jpeg_decoder.specs.Steps.{AreRising, HasIndex, HasScale, IsCodingOf, IsDct, IsReadable}
-use Rattle.jpeg_decoder.specs.Steps.{coding_in, codings_in_force}
+use Rattle.jpeg_decoder.specs.Steps.{coding_in}
 use Rattle.jpeg_decoder.specs.Steps.{with_decoded}
-use Rattle.jpeg_streams.proofs.ReadTurns.{codings-each, codings-indices, first-drop}
+use Rattle.jpeg_streams.proofs.LosslessSizes.{all-at}
+use Rattle.jpeg_streams.proofs.ReadTurns.{codings-each, codings-indices}
 use Rattle.jpeg_segments.proofs.ScaleLemmas.{sized_frames_have_factors}
 use Rattle.jpeg_streams.proofs.Soundness.{count-few, decoded-count, decoded-fits, decoded-sized}
-use Rattle.jpeg_streams.proofs.WrittenFrameScans.{at-all}
 
 -- What scans have given changes no table in force.
 pub codings-kept : (found : Found) (d : Decoded) (frame : Frame) (header : headers.Scan)
-    → codings_in_force (with_decoded found d) frame header ≡ codings_in_force found frame header
-unfolding codings_from component_coding tables_of
+    → codings_of (with_decoded found d) frame header ≡ codings_of found frame header
+unfolding codings_of component_coding tables_of
 codings-kept found d frame header = refl
 
 -- ---- the pass of a scan
@@ -70,7 +70,8 @@ each-at : (Q : Component → Type 0) (frame : Frame) (cs : List Coded)
     → AllByRecursion Q frame.components → AllByRecursion (IsCodingOf frame) (map coding_in cs)
     → AllByRecursion (λ c. Q (component_in c.component.now)) cs
 each-at Q frame [] h are = tt
-each-at Q frame (c ∷ cs) h are = grind (arith, common_steps, at-all, first-drop, each-at Q frame cs h are.1)
+each-at Q frame (c ∷ cs) h are =
+    (all-at Q c.index frame.components (component_in c.component.now) h are.0, each-at Q frame cs h are.1)
 
 fits-at : (frame : Frame) (cs : List Coded) → AllByRecursion (λ c. Fits frame (component_in c.component.now)) cs
     → AllByRecursion (Fits frame) (components_in cs)
@@ -104,19 +105,14 @@ rising-at _ least h = tt
 -- A scan with the tables in force for its header is ready to be read.
 pub ready : (found : Found) (frame : Frame) (header : headers.Scan) (scan : Scan) → IsDecodedFrame frame
     → IsScanOf frame header → scan.restart_interval ≡ found.restart
-    → codings_in_force found frame header ≡ Ok (map coding_in scan.components.items)
+    → codings_of found frame header ≡ Ok (map coding_in scan.components.items)
     → length scan.components.items ≡ length header.components
     → IsReadable frame found scan
 ready found frame header scan decoded legal restart codings count =
     let cs = scan.components.items in
-    let p = pass_of header in
-    let tables = tables_of found header in
-    let indices =
-    codings-indices found frame p tables header.components header.dc_destinations header.ac_destinations
-    (map coding_in cs) legal.dc_length legal.ac_length codings in
-    let are =
-    codings-each (IsCodingOf frame) found frame p tables header.components header.dc_destinations header.ac_destinations
-    (map coding_in cs) codings (λ index d a k is. is.component) in
+    let indices = codings-indices found frame header (map coding_in cs) legal.dc_length legal.ac_length codings in
+    let are = codings-each (IsCodingOf frame) found frame header (map coding_in cs) codings
+    (λ index d a k is. is.component) in
     let few = (count-few (length frame.components) (decoded-count frame decoded)).1 in
     record {
       restart = restart;

@@ -20,7 +20,7 @@ use Rattle.jpeg_streams.specs.ScanSegments.{scan_segment}
 use Rattle.jpeg_streams.specs.Segments.{Turn}
 use Rattle.jpeg_streams.specs.Found.{Found}
 use Rattle.jpeg_decoder.specs.Seen.{found_in}
-use Rattle.jpeg_decoder.specs.Steps.{IsDct, IsRefusal, IsStep, after_all, codings_in_force, samples_read, scan_data}
+use Rattle.jpeg_decoder.specs.Steps.{IsDct, IsRefusal, IsStep, after_all, samples_read, scan_data}
 use Rattle.jpeg_decoder.specs.Steps.{with_decoded}
 use Rattle.jpeg_decoder.specs.declared.decoded.Decoded.{Decoded}
 use Rattle.jpeg_decoder.specs.declared.state.State.{State}
@@ -53,7 +53,7 @@ last-step view v whole rest read old cur new r ok err p q = grind (arith, common
 -- a scan of blocks: what is found after it, and the marker after it and its restart markers
 unfoldable pub blocks_read : Found → Frame → Scan → List ℕ → Outcome (Found × Option Marker)
 blocks_read found frame scan bytes = do
-  codings ← codings_in_force found frame scan
+  codings ← codings_of found frame scan
   r ← scan_data found frame (pass_of scan) codings bytes
   met ← after_all r.0.1 r.1
   Ok ((r.0.0, met.0), met.1)
@@ -85,15 +85,15 @@ after_codings found frame p codings bytes = scan_data found frame p codings byte
 -- after the header
 abbrev pub after_header : Found → Frame → Scan → List ℕ → Outcome (Found × Option Marker)
 after_header found frame scan bytes =
-    codings_in_force found frame scan >>= (λ (codings : List Coding). after_codings found frame (pass_of scan) codings
+    codings_of found frame scan >>= (λ (codings : List Coding). after_codings found frame (pass_of scan) codings
     bytes)
 
 pub codings-refused : (found : Found) (frame : Frame) (scan : Scan) (bytes : List ℕ) (f : Fault)
-    → codings_in_force found frame scan ≡ Err f → after_header found frame scan bytes ≡ Err f
+    → codings_of found frame scan ≡ Err f → after_header found frame scan bytes ≡ Err f
 codings-refused found frame scan bytes f e = grind (arith, common_steps, bind_err)
 
 codings-read : (found : Found) (frame : Frame) (scan : Scan) (p : Pass) (codings : List Coding) (bytes : List ℕ)
-    → codings_in_force found frame scan ≡ Ok codings → p ≡ pass_of scan
+    → codings_of found frame scan ≡ Ok codings → p ≡ pass_of scan
     → after_header found frame scan bytes ≡ after_codings found frame p codings bytes
 codings-read found frame scan p codings bytes e is = grind (arith, common_steps, bind_at)
 
@@ -137,7 +137,7 @@ header-refused found frame bytes f e h = grind (arith, common_steps, bind_at, bi
 data-begun : (whole : List ℕ → Outcome (Found × Option Marker)) (found : Found) (frame : Frame) (scan : Scan)
     (p : Pass)
     (codings : List Coding) (old new : Stream)
-    → codings_in_force found frame scan ≡ Ok codings → p ≡ pass_of scan
+    → codings_of found frame scan ≡ Ok codings → p ≡ pass_of scan
     → Continues whole old (after_header found frame scan) new
     → Continues whole old (after_codings found frame p codings) new
 data-begun whole found frame scan p codings old new e is begun =
@@ -146,7 +146,7 @@ data-begun whole found frame scan p codings old new e is begun =
 -- A scan of blocks has its data after its header, where tables are in force.
 pub blocks-begun : (base : Found) (d : Decoded) (frame : Frame) (scan : Scan) (p : Pass) (codings : List Coding)
     (old new : Stream) → base.frame ≡ Some frame → (frame.process ≡ Lossless → ⊥)
-    → HasRead (sos_at frame) old scan new → codings_in_force base frame scan ≡ Ok codings → p ≡ pass_of scan
+    → HasRead (sos_at frame) old scan new → codings_of base frame scan ≡ Ok codings → p ≡ pass_of scan
     → Continues (scan_read (with_decoded base d)) old (after_codings (with_decoded base d) frame p codings) new
 blocks-begun base d frame scan p codings old new e process has in_force is =
     search (rules, arith, data-begun, codings-kept, header-read)
@@ -190,7 +190,7 @@ data-parts found frame scan bytes codings =
 
 process-parts : (p : CodingProcess) (found : Found) (frame : Frame) (scan : Scan) (bytes : List ℕ)
     → scan_by p found frame scan bytes ≡ (read_by p found frame scan bytes >>= scan_turn found)
-unfolding blocks_scan blocks_read codings_of lossless_scan samples_read after_all
+unfolding blocks_scan blocks_read lossless_scan samples_read after_all
 process-parts p found frame scan bytes = grind (arith, common_steps, through, data-parts)
 
 -- A segment of a scan is a scan that is read.

@@ -1,7 +1,8 @@
 -- The coding of the component in a slot of a scan, by the tables in force.
 use Rattle.std.proofs.Common.{◌≡◌, ◌<◌, ℕ, zero, suc, List, [], ◌∷◌, Option, Some, None, Result, Ok, Err, Bool}
-use Rattle.std.proofs.Common.{true, refl, ◌∙◌, length, get_or, map, drop, replicate, arith, cond}
-use Rattle.std.specs.Prelude.{◌==◌, nat_lt}
+use Rattle.std.proofs.Common.{true, refl, ap, ◌∙◌, length, get_or, map, drop, replicate, arith, cond}
+use Rattle.std.specs.Prelude.{◌==◌, nat_lt, option_map, slice_get}
+use Rattle.std.proofs.lemmas.Option.{slice_get-get_or, slice_get-map}
 use Rattle.std.proofs.lemmas.Bool.Decides.{nat_tests}
 use Rattle.jpeg_bits.specs.Passes.{Pass}
 use Rattle.jpeg_bits.specs.Reading.{Fault, Malformed, Names, NamesFormat, ◌>>=◌}
@@ -22,7 +23,6 @@ use Rattle.jpeg_decoder.specs.declared.codings.Spare.{Spare}
 use Rattle.jpeg_decoder.specs.declared.state.State.{State}
 use Rattle.jpeg_streams.specs.Scans.{no_table}
 use Rattle.jpeg_segments.specs.Checks.{needed}
-use Rattle.jpeg_streams.specs.Needed.{first_of}
 use Rattle.jpeg_streams.specs.ScanSegments.{component_coding, needed_if, tables_of, pass_of}
 use Rattle.jpeg_streams.specs.Found.{Found}
 use Rattle.jpeg_decoder.specs.Seen.{found_in}
@@ -137,7 +137,7 @@ pub record HasComponent (found : Found) (frame : Frame) (scan : Scan) (spare : S
     (c : Component) : Type 0 where
   pub stands_in : IsSpareOf found scan spare
   pub is_named : index ≡ get_or scan.components slot 0
-  pub component : first_of (drop index frame.components) ≡ Some c
+  pub component : slice_get frame.components index ≡ Some c
 
 at-quantization : {found : Found} {frame : Frame} {scan : Scan} {spare : Spare} {slot index :
     ℕ} {c : Component}
@@ -212,11 +212,9 @@ gives-coding found frame scan spare slot index c h q e m n dc ac d a =
     (get_or scan.ac_destinations slot 0) h ∙ (rw (e, one, two, ← h.is_named) refl)
 
 -- the component at a place
-pub component-at : {A : Type 0} (f : A → Component) (xs : List A) (i : ℕ) (d : A) → i < length xs
-    → first_of (drop i (map f xs)) ≡ Some (f (get_or xs i d))
-component-at f [] i d h = absurd (omega arith)
-component-at f (x ∷ xs) zero d h = refl
-component-at f (x ∷ xs) (suc i) d h = component-at f xs i d (omega arith)
+component-at : {A : Type 0} (f : A → Component) (xs : List A) (i : ℕ) (d : A) → i < length xs
+    → slice_get (map f xs) i ≡ Some (f (get_or xs i d))
+component-at f xs i d h = slice_get-map f xs i ∙ ap (option_map f) (slice_get-get_or xs i d h)
 
 -- what the code reads there
 pub is-there : (state : State) (frame : FrameInfo) (header : ScanInfo) (spare : Spare) (slot

@@ -45,7 +45,7 @@ use Rattle.jpeg_streams.proofs.LosslessFrames.{IsShaped, header-shaped}
 use Rattle.jpeg_streams.proofs.SaidTables.{HasTables, no-tables, segment-tables}
 use Rattle.jpeg_streams.proofs.WrittenPictures.{rest-by}
 use Rattle.jpeg_streams.proofs.WrittenMarkers.{marker-append}
-use Rattle.jpeg_decoder.proofs.WrittenSamples.{and_samples, components-of, indices_of, planes_for}
+use Rattle.jpeg_decoder.proofs.WrittenSamples.{and_samples, indices_of, planes_for}
 use Rattle.jpeg_decoder.proofs.WrittenSamples.{scan-read}
 use Rattle.jpeg_decoder.proofs.WrittenSamples.{turn_after}
 use Rattle.jpeg_decoder.proofs.LosslessReads.{all-below}
@@ -254,13 +254,7 @@ segment-next samples rest turns said final sent fill s more may again before dec
 indices-below : (frame : Frame) (h : ScanHeader) → IsScan frame h
     → AllByRecursion (λ k. k < length frame.components) (indices_of h.choices)
 unfolding scan_of
-indices-below frame h is = grind (
-  arith,
-  common_steps,
-  components-of,
-  recursion_from_All,
-  header-rules,
-)
+indices-below frame h is = recursion_from_All _ _ (header-rules frame h is).components
 
 scan-next : (samples : Samples) (rest : List ℕ) (turns : ℕ) (said final : Found) (sent : List ℕ) (frame : Frame)
     (fill : ℕ) (h : ScanHeader) (data_bytes more : List ℕ)

@@ -4,7 +4,7 @@ use Rattle.std.proofs.Common.{◌≡◌, ℕ, zero, suc, ◌*◌, ◌<◌, Bool,
 use Rattle.std.proofs.Common.{List, [], ◌∷◌, ◌++◌, drop, map, length, replicate, take, Option, Some, None}
 use Rattle.std.proofs.Common.{Ok, refl, ap, ◌∙◌, subst, arith}
 use Rattle.std.specs.List.{AllByRecursion, concat}
-use Rattle.std.specs.Prelude.{slice_index_or}
+use Rattle.std.specs.Prelude.{slice_get, slice_index_or}
 use Rattle.std.proofs.lemmas.Bool.{le-leb, eq-eqb, or_right}
 use Rattle.std.proofs.lemmas.List.{length-map, length-take-le, map-append}
 use Rattle.std.proofs.lemmas.Nat.{div-mul-add, mod-mul-add}
@@ -15,9 +15,9 @@ use Rattle.jpeg_bits.specs.declared.marker.Marker.{Marker}
 use Rattle.jpeg_bits.specs.declared.marker.Marker.TheVariants.{EOI}
 use Rattle.jpeg_bits.specs.declared.scan.Predictor.{Predictor}
 use Rattle.jpeg_segments.specs.Frame.{Component, Frame}
-use Rattle.jpeg_segments.specs.ScanHeader.{predictor_by, predictor_of, scan_of}
-use Rattle.jpeg_segments.specs.ScanHeaders.{Choice, IsScan, ScanHeader, scan_payload, scan_written}
-use Rattle.jpeg_segments.specs.ScanHeaders.{selector_for}
+use Rattle.jpeg_segments.specs.Checks.{gathered}
+use Rattle.jpeg_segments.specs.ScanHeader.{Selector, predictor_by, predictor_of, scan_of}
+use Rattle.jpeg_segments.specs.ScanHeaders.{IsScan, ScanHeader, scan_payload, scan_written}
 use Rattle.jpeg_segments.specs.WrittenSegments.{with_length}
 use Rattle.jpeg_segments.specs.declared.parser.CodingProcess.{CodingProcess}
 use Rattle.jpeg_segments.specs.declared.parser.CodingProcess.TheVariants.{Lossless}
@@ -37,7 +37,6 @@ use Rattle.jpeg_lossless.proofs.WholeScans.{HaveLines}
 use Rattle.jpeg_streams.specs.LosslessScans.{LosslessCoding, lossless_coding, lossless_codings, mcus_across, mcus_down}
 use Rattle.jpeg_streams.specs.LosslessScans.{part_of, parts_of, way_of, with_samples}
 use Rattle.jpeg_segments.specs.Checks.{needed}
-use Rattle.jpeg_streams.specs.Needed.{first_of}
 use Rattle.jpeg_streams.specs.ScanSegments.{lossless_scan, scan_before, scan_segment}
 use Rattle.jpeg_streams.specs.Segments.{Turn}
 use Rattle.jpeg_streams.specs.Found.{Found}
@@ -96,31 +95,30 @@ pub record HasSize (lines : List (List ℕ)) (c : Component) : Type 0 where
 -- ---- what a scan names
 
 -- the indices of the components
-abbrev pub indices_of : List Choice → List ℕ
-indices_of choices = map (λ c. c.component) choices
+abbrev pub indices_of : List (ℕ × Selector) → List ℕ
+indices_of choices = map (λ s. s.component) (map (λ c. c.1) choices)
 
 -- components of the frame, of their sizes, with tables that exist
-record AreFound (frame : Frame) (choices : List Choice) (codings : List LosslessCoding) : Type 0 where
+record AreFound (frame : Frame) (choices : List (ℕ × Selector)) (codings : List LosslessCoding) : Type 0 where
   indices : map (λ k. k.index) codings ≡ indices_of choices
-  stand : AllByRecursion (λ k. first_of (drop k.index frame.components) ≡ Some k.component) codings
+  stand : AllByRecursion (λ k. slice_get frame.components k.index ≡ Some k.component) codings
   made : AllByRecursion (λ k. IsMade frame k.component) codings
   tables : AllByRecursion (λ k. IsTable k.table) codings
 
-codings-found : (said : Found) (frame from : Frame) (choices : List Choice) (codings : List LosslessCoding)
+codings-found : (said : Found) (frame : Frame) (choices : List (ℕ × Selector)) (codings : List LosslessCoding)
     → AllByRecursion (IsMade frame) frame.components → HasTables said.huffman
-    → lossless_codings said.huffman.dc frame (map (λ s. s.component) (map (selector_for from) choices))
-    (map (λ s. s.dc) (map (selector_for from) choices)) ≡ Ok codings
-    → AreFound frame choices codings
-unfolding lossless_codings lossless_coding
-codings-found said frame from [] codings made all e =
+    → lossless_codings said.huffman.dc frame (indices_of choices) (map (λ s. s.dc) (map (λ c. c.1) choices))
+    ≡ Ok codings → AreFound frame choices codings
+unfolding lossless_codings lossless_coding gathered
+codings-found said frame [] codings made all e =
     subst (AreFound frame []) (ok-same [] codings e)
     (record { indices = refl; stand = tt; made = tt; tables = tt })
-codings-found said frame from (c ∷ choices) codings made all e =
-    let one = bind-ok (lossless_coding said.huffman.dc frame c.component c.dc) _ codings e in
+codings-found said frame (c ∷ choices) codings made all e =
+    let one = bind-ok (lossless_coding said.huffman.dc frame c.1.component c.1.dc) _ codings e in
     let more = bind-ok (lossless_codings said.huffman.dc frame _ _) _ codings one.2 in
-    let component = bind-ok (needed (first_of (drop c.component frame.components))) _ one.0 one.1 in
-    let table = bind-ok (needed (slice_index_or said.huffman.dc c.dc None)) _ one.0 component.2 in
-    let rest = codings-found said frame from choices more.0 made all more.1 in
+    let component = bind-ok (needed (slice_get frame.components c.1.component)) _ one.0 one.1 in
+    let table = bind-ok (needed (slice_index_or said.huffman.dc c.1.dc None)) _ one.0 component.2 in
+    let rest = codings-found said frame choices more.0 made all more.1 in
     grind (arith, common_steps, ok-same, needed-some, all-at, table-there)
 
 -- what an MCU has of a component
@@ -176,7 +174,7 @@ planes_for samples indices = map (λ k. concat (samples k)) indices
 
 -- the samples of the component at an index have its size
 abbrev pub SizedAt : Samples → List Component → ℕ → Type 0
-SizedAt samples all k = (c : Component) → first_of (drop k all) ≡ Some c → HasSize (samples k) c
+SizedAt samples all k = (c : Component) → slice_get all k ≡ Some c → HasSize (samples k) c
 
 same-component : (a b : Component) → ◌≡◌ {A = Option Component} (Some a) (Some b) → a ≡ b
 same-component a b e = cc
@@ -184,7 +182,7 @@ same-component a b e = cc
 -- The planes of a scan are its samples, and have their sizes.
 samples-are : (samples : Samples) (all : List Component) (wide high : ℕ) (codings : List LosslessCoding)
     (parts : List Part) (lines : List (List (List ℕ))) → AreParts codings parts
-    → AllByRecursion (λ k. first_of (drop k.index all) ≡ Some k.component) codings
+    → AllByRecursion (λ k. slice_get all k.index ≡ Some k.component) codings
     → AllByRecursion (IsCovered wide high) parts → HaveLines high parts lines
     → HoldSamples samples codings parts lines
     → let indices = map (λ k. k.index) codings in
@@ -213,7 +211,7 @@ data-read said frame h samples bytes rest fill code m w is all makes =
     let way = way_of frame (predictor_by h.first) 0 w.codings in
     let wide = mcus_across frame w.codings in
     let high = mcus_down frame w.codings in
-    let found = codings-found said frame frame h.choices w.codings is.made all w.coded in
+    let found = codings-found said frame h.choices w.codings is.made all w.coded in
     let parts = parts-are w.codings in
     let cover = all-covered frame w.codings found.made in
     let r = of-rows wide high said.restart (across-some frame w.codings is.wide found.made)
@@ -248,11 +246,6 @@ predictor-of : (frame : Frame) (h : ScanHeader) → frame.process ≡ Lossless
     → (scan_written frame h).predictor ≡ predictor_by h.first
 unfolding scan_of
 predictor-of frame h e = ap (λ (p : CodingProcess). predictor_of p h.first) e
-
-pub components-of : (frame : Frame) (choices : List Choice)
-    → map (λ s. s.component) (map (selector_for frame) choices) ≡ indices_of choices
-components-of frame [] = refl
-components-of frame (c ∷ choices) = ap (λ (l : List ℕ). c.component ∷ l) (components-of frame choices)
 
 -- what a scan leads to
 abbrev pub turn_after : Found → List ℕ → Samples → List (Option (List ℕ)) → Marker → Turn

@@ -2,7 +2,7 @@
 -- segment, the marker after a scan, and the components of a scan with their tables.
 use Rattle.std.specs.Prelude.{◌≡◌, ◌<◌, ◌≤◌, All, ℕ, suc, drop, ◌&&◌, not, is_some, slice_set, ◌*◌}
 use Rattle.std.specs.Prelude.{◌/◌, min, List, [], ◌∷◌, map, set, length, replicate, get_or, Bool}
-use Rattle.std.specs.Prelude.{true, false, Option, slice_index_or, Some, None, Result, Ok}
+use Rattle.std.specs.Prelude.{true, false, Option, slice_get, slice_index_or, Some, None, Result, Ok}
 use Rattle.std.specs.Prelude.{if◌then◌else◌, IfOk, OnErr, OnOk}
 use Rattle.jpeg_bits.specs.Reading.{Outcome, Fault, ◌>>=◌}
 use Rattle.jpeg_bits.specs.Codes.{Table}
@@ -33,9 +33,8 @@ use Rattle.jpeg_decoder.specs.declared.codings.Spare.{Spare}
 use Rattle.jpeg_streams.specs.Scans.{no_table}
 use Rattle.jpeg_bits.specs.declared.codes.HuffmanTableClass.TheVariants as classes
 use Rattle.jpeg_segments.specs.Checks.{needed}
-use Rattle.jpeg_streams.specs.Needed.{first_of}
 use Rattle.jpeg_streams.specs.ScanSegments.{component_coding, components_of, Coding, tables_of}
-use Rattle.jpeg_streams.specs.ScanSegments.{pass_of, after_restarts, finished_by, codings_from}
+use Rattle.jpeg_streams.specs.ScanSegments.{pass_of, after_restarts, finished_by}
 use Rattle.jpeg_streams.specs.ScanSegments.{blocks_after, with_arrays, decided, arrays_before}
 use Rattle.jpeg_streams.specs.ScanSegments.{vias_from, after_samples, scan_samples}
 use Rattle.jpeg_streams.specs.Segments.{Turn}
@@ -126,13 +125,6 @@ coding_in_slot found frame scan slot =
     (get_or scan.components slot 0)
     (get_or scan.dc_destinations slot 0) (get_or scan.ac_destinations slot 0)
 
--- all of them
-abbrev pub codings_in_force : Found → Frame → headers.Scan → Result (List Coding) Fault
-codings_in_force found frame scan =
-    codings_from found frame (pass_of scan) (tables_of found scan) scan.components
-    scan.dc_destinations
-    scan.ac_destinations
-
 -- The spare tables of a scan: the default ones by what was said, and those without codes.
 pub record IsSpareOf (found : Found) (scan : headers.Scan) (spare : Spare) : Type 0 where
   pub dc : spare.dc.items ≡ default_dc found.metadata.avi1 scan.dc_destinations
@@ -214,7 +206,7 @@ AreRising (c ∷ d ∷ more) = (c.index < d.index) × AreRising (d ∷ more)
 
 -- a component of a scan is that of the frame at its index
 abbrev pub IsCodingOf : Frame → Coding → Type 0
-IsCodingOf frame c = first_of (drop c.index frame.components) ≡ Some c.component
+IsCodingOf frame c = slice_get frame.components c.index ≡ Some c.component
 
 -- What a scan of a frame needs to be read, by what was found before.
 pub record IsReadable (frame : Frame) (found : Found) (scan : Scan) : Type 0 where

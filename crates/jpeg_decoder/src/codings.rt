@@ -10,10 +10,10 @@ ghost use Rattle.jpeg_segments.specs.FrameView.{frame_in, scan_in};
 ghost use Rattle.jpeg_segments.specs.ScanHeader.{IsScanOf};
 ghost use Rattle.jpeg_streams.specs.Scans.{no_table};
 ghost use Rattle.jpeg_decoder.specs.Seen.{found_in};
-ghost use Rattle.jpeg_decoder.specs.Steps.{IsRefusal, IsSpareOf, codings_in_force, coding_in};
+ghost use Rattle.jpeg_decoder.specs.Steps.{IsRefusal, IsSpareOf, coding_in};
 ghost use Rattle.jpeg_decoder.specs.Steps.{coding_in_slot, default_dc, default_ac, in_force};
 ghost use Rattle.jpeg_decoder.specs.Steps.{HasScale, table_if};
-ghost use Rattle.jpeg_streams.specs.ScanSegments.{pass_of, is_progressive};
+ghost use Rattle.jpeg_streams.specs.ScanSegments.{codings_of, pass_of, is_progressive};
 
 use crate::scan::Coded;
 use crate::state::State;
@@ -259,6 +259,7 @@ fn coding_of<'a>(
 
 /// Returns the components of a scan, and their tables in force. The errors are `Format` where a
 /// table that the scan needs is unset, and `OutOfMemory`.
+#[tactic(auto, unfolding(jpeg_streams::specs::ScanSegments::codings_of))]
 pub fn codings_of<'a>(
     alloc: Global,
     state: &'a State,
@@ -273,8 +274,8 @@ pub fn codings_of<'a>(
         let frame = frame_in frame.now in
         let scan = scan_in header.now in
         MatchResult result
-        (λ v. codings_in_force found frame scan ≡ Ok (map coding_in v.items))
-        (λ e. IsRefusal e × Names e (codings_in_force found frame scan)) }
+        (λ v. codings_of found frame scan ≡ Ok (map coding_in v.items))
+        (λ e. IsRefusal e × Names e (codings_of found frame scan)) }
     ensures count { IfOk result (λ v. length v.items ≡ length (scan_in header.now).components) }
 {
     let mut codings = Vec::with_capacity(alloc, header.component_indices.len())?;

@@ -1,6 +1,6 @@
 //! Theorems on lossless streams, each on a function without a body. docs/LOSSLESS.md says them in
 //! plain words.
-ghost use Rattle.std.specs.Prelude.{◌≡◌, ℕ, ◌*◌, ◌/◌, ◌<◌, List, [], ◌∷◌, ◌++◌, drop, Some, Ok};
+ghost use Rattle.std.specs.Prelude.{◌≡◌, ℕ, ◌*◌, ◌/◌, ◌<◌, List, [], ◌∷◌, ◌++◌, slice_get, Some, Ok};
 ghost use Rattle.std.specs.List.{AllByRecursion};
 ghost use Rattle.jpeg_bits.specs.declared.scan.Predictor.{Predictor};
 ghost use Rattle.jpeg_segments.specs.Frame.{Component, Frame};
@@ -12,7 +12,6 @@ ghost use Rattle.jpeg_lossless.specs.Scans.{Way, lines_by_component, planes_of};
 ghost use Rattle.jpeg_streams.specs.declared.settings.Settings.{Settings};
 ghost use Rattle.jpeg_streams.specs.InTurn.{IsIn};
 ghost use Rattle.jpeg_streams.specs.LosslessScans.{LosslessCoding, mcus_down, way_of};
-ghost use Rattle.jpeg_streams.specs.Needed.{first_of};
 ghost use Rattle.jpeg_streams.specs.AcceptedFrames.{HasSamples};
 ghost use Rattle.jpeg_streams.specs.Segments.{accepted};
 ghost use Rattle.jpeg_streams.specs.Stream.{meaning, sized_meaning, told_of};
@@ -74,7 +73,7 @@ pub fn lossless_padding_is_not_seen()
 
     // A pixel takes a sample inside.
     ensures taken { (h : FrameHeader) (index x y : ℕ) (c : Component) →
-        IsFrameHeader 3 h → first_of (drop index (frame_written 3 h).components) ≡ Some c →
+        IsFrameHeader 3 h → slice_get (frame_written 3 h).components index ≡ Some c →
         x < h.width → y < h.height →
         (x * c.factors.horizontal / most_across (frame_written 3 h) < c.width)
         × (y * c.factors.vertical / most_down (frame_written 3 h) < c.height) }

@@ -28,4 +28,5 @@ returns-in_err-coding_of-clause-codings c =
     )
 
 pub returns-clause-codings : goal.returns-clause-codings
-returns-clause-codings c = grind (arith, common_steps, codings-all)
+returns-clause-codings c = codings-all (found_in c.args.state.now) (frame_in c.args.frame.now)
+    (scan_in c.args.header.now) c.loop-slot.slot c.loop-slot.codings.items (omega arith) c.loop-slot.invariant.whole
