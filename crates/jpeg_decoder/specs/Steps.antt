@@ -1,6 +1,6 @@
 -- What the decoder's own clauses need beside the meaning of a stream: what a caller sees after a
 -- segment, the marker after a scan, and the components of a scan with their tables.
-use Rattle.std.specs.Prelude.{◌≡◌, ◌<◌, ◌≤◌, All, ℕ, suc, drop, ◌&&◌, not, is_some, slice_set, ◌*◌}
+use Rattle.std.specs.Prelude.{◌≡◌, ◌<◌, ◌≤◌, All, ℕ, suc, ◌&&◌, not, is_some, slice_set, ◌*◌}
 use Rattle.std.specs.Prelude.{◌/◌, min, List, [], ◌∷◌, map, set, length, replicate, get_or, Bool}
 use Rattle.std.specs.Prelude.{true, false, Option, slice_get, slice_index_or, Some, None, Result, Ok}
 use Rattle.std.specs.Prelude.{if◌then◌else◌, IfOk, OnErr, OnOk}

@@ -1,7 +1,7 @@
 -- Scan headers (T.81, B.2.3).
 use Rattle.std.specs.Prelude.{◌≡◌, ◌≤◌, ◌<◌, ℕ, zero, suc, All, true, ◌+◌, ◌-◌, ◌*◌, ◌/◌, ◌%◌, List}
 use Rattle.std.specs.Prelude.{[], ◌∷◌, ◌++◌, map, length, sum_by, Bool, not, ◌&&◌, ◌||◌, Option}
-use Rattle.std.specs.Prelude.{Some, None, Ok, nat_lt, nat_le, ◌==◌, position, get_or}
+use Rattle.std.specs.Prelude.{Some, Ok, nat_lt, nat_le, ◌==◌, position, get_or}
 use Rattle.jpeg_bits.specs.Reading.{Outcome, ◌>>=◌, next_byte, length_at}
 use Rattle.jpeg_bits.specs.declared.scan.Predictor.{Predictor}
 use Rattle.jpeg_bits.specs.declared.scan.Predictor.TheVariants.{NoPrediction, Ra, Rb, Rc, RaRbRc1}

@@ -1,14 +1,13 @@
 -- The blocks of a scan's components, before it and after it.
 use Rattle.std.proofs.Common.{rules, arith, ◌≡◌, ℕ, suc, ◌*◌, false, List, [], ◌∷◌, map, length, set}
-use Rattle.std.proofs.Common.{get_or, Option, Some, Result, Ok, Err, refl, ◌∙◌}
+use Rattle.std.proofs.Common.{get_or, Result, Ok, Err, refl, ◌∙◌}
 use Rattle.std.proofs.lemmas.Grind.{common_steps}
 use Rattle.std.specs.Prelude.{◌&&◌, if◌then◌else◌}
 use Rattle.std.specs.List.{AllByRecursion}
 use Rattle.jpeg_bits.specs.Reading.{Fault}
 use Rattle.jpeg_segments.specs.Frame.{Frame, Component}
-use Rattle.jpeg_segments.specs.HuffmanTables.{Tables}
 use Rattle.jpeg_segments.specs.ScanHeader.{Scan}
-use Rattle.jpeg_bits.specs.Passes.{Pass, Block}
+use Rattle.jpeg_bits.specs.Passes.{Block}
 use Rattle.jpeg_streams.specs.Order.{spots_of, mcu_size}
 use Rattle.jpeg_streams.specs.Scans.{Arrays, zero_arrays}
 use Rattle.jpeg_streams.specs.InTurn.{Fits, AreArrays, scan_from}

@@ -1,6 +1,6 @@
 -- What the segments leave.
-use Rattle.std.proofs.Common.{arith, ◌≤◌, ◌<◌, ℕ, zero, suc, List, Bool, Option, Some}
-use Rattle.std.proofs.Common.{None, length}
+use Rattle.std.proofs.Common.{arith, ◌≤◌, ◌<◌, ℕ, zero, suc, List, Bool, Option}
+use Rattle.std.proofs.Common.{length}
 use Rattle.jpeg_segments.specs.Frame.{Frame, Factors, size_at, factors_at, components_from, sof_at}
 use Rattle.jpeg_segments.specs.ScanHeader.{Selector, count_at, selector_at, selectors_from}
 use Rattle.jpeg_segments.specs.ScanHeader.{band_at, sos_at}
@@ -10,7 +10,7 @@ use Rattle.jpeg_segments.specs.Quantization.{value_at, defined_table_at, dqt_at}
 use Rattle.jpeg_segments.specs.HuffmanTables as huffman
 use Rattle.jpeg_segments.specs.HuffmanTables.{defined_codes_at, dht_at}
 use Rattle.jpeg_bits.specs.Reading.{next_byte}
-use Rattle.jpeg_streams.proofs.Shorter.{below_steps, LeavesBelow, below-ok, below-err, below-on, byte-below}
+use Rattle.jpeg_streams.proofs.Shorter.{below_steps, LeavesBelow, below-ok, below-on, byte-below}
 
 -- ---- frames
 

@@ -9,7 +9,7 @@ use Rattle.jpeg_bits.proofs.DefaultTables.{chrominance-ac-codes}
 use Rattle.jpeg_segments.specs.Frame.{Frame}
 use Rattle.jpeg_segments.specs.ScanHeader.{Scan}
 use Rattle.jpeg_streams.specs.Scans.{no_table}
-use Rattle.jpeg_streams.specs.ScanSegments.{Coding, codings_of, needed_if, pass_of, tables_of}
+use Rattle.jpeg_streams.specs.ScanSegments.{Coding, codings_of, needed_if, tables_of}
 use Rattle.jpeg_streams.specs.Found.{Found, nothing_found}
 use Rattle.jpeg_streams.proofs.ReadTurns.{codings-each, needed-some, ok-same}
 use Rattle.jpeg_streams.proofs.SaidTables.{HasTables, IsTableOrNone, no-tables, table-there}
