@@ -2,8 +2,8 @@
 -- segment, the marker after a scan, and the components of a scan with their tables.
 use Rattle.std.specs.Prelude.{◌≡◌, ◌<◌, ◌≤◌, All, ℕ, suc, ◌&&◌, not, is_some, slice_set, ◌*◌}
 use Rattle.std.specs.Prelude.{◌/◌, min, List, [], ◌∷◌, map, set, length, replicate, get_or, Bool}
-use Rattle.std.specs.Prelude.{true, false, Option, slice_get, slice_index_or, Some, None, Result, Ok}
-use Rattle.std.specs.Prelude.{if◌then◌else◌, IfOk, OnErr, OnOk}
+use Rattle.std.specs.Prelude.{true, false, Option, slice_get, slice_index_or, Some, None, Result}
+use Rattle.std.specs.Prelude.{Ok, if◌then◌else◌, IfOk, OnErr, OnOk}
 use Rattle.jpeg_bits.specs.Reading.{Outcome, Fault, ◌>>=◌}
 use Rattle.jpeg_bits.specs.Codes.{Table}
 use Rattle.jpeg_bits.specs.DefaultTables.{luminance_dc, chrominance_dc, luminance_ac}

@@ -1,6 +1,7 @@
 //! Theorems on lossless streams, each on a function without a body. docs/LOSSLESS.md says them in
 //! plain words.
-ghost use Rattle.std.specs.Prelude.{◌≡◌, ℕ, ◌*◌, ◌/◌, ◌<◌, List, [], ◌∷◌, ◌++◌, slice_get, Some, Ok};
+ghost use Rattle.std.specs.Prelude.{◌≡◌, ℕ, ◌*◌, ◌/◌, ◌<◌, List, [], ◌∷◌, ◌++◌, slice_get, Some};
+ghost use Rattle.std.specs.Prelude.{Ok};
 ghost use Rattle.std.specs.List.{AllByRecursion};
 ghost use Rattle.jpeg_bits.specs.declared.scan.Predictor.{Predictor};
 ghost use Rattle.jpeg_segments.specs.Frame.{Component, Frame};

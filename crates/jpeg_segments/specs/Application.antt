@@ -1,7 +1,7 @@
 -- Application data (T.81, B.2.4.6), comments (B.2.4.5) and restart intervals (B.2.4.4).
 use Rattle.std.specs.Prelude.{ℕ, ◌-◌, List, [], ◌∷◌, ◌++◌, length, drop, slice_index}
-use Rattle.std.specs.Prelude.{codes, Bool, ◌&&◌, Option, Some, None, Ok, Err, nat_lt, nat_le, nat_eq, ◌==◌}
-use Rattle.std.specs.Prelude.{if◌then◌else◌, slice_get}
+use Rattle.std.specs.Prelude.{codes, Bool, ◌&&◌, Option, Some, None, Ok, Err, nat_lt, nat_le, nat_eq}
+use Rattle.std.specs.Prelude.{◌==◌, if◌then◌else◌, slice_get}
 use Rattle.std.specs.List.{starts_with}
 use Rattle.jpeg_bits.specs.Reading.{Outcome, Malformed, ◌>>=◌, next_byte, next_u16, length_at}
 use Rattle.jpeg_bits.specs.Reading.{times, skip_at}
@@ -62,8 +62,8 @@ chunk_of payload = record {
   bytes = drop 14 payload;
 }
 
--- What a payload says, by the number n of the marker APPn: the data of Exif, XMP and Photoshop is the
--- rest, and a part of an ICC profile has at least one byte.
+-- What a payload says, by the number n of the marker APPn: the data of Exif, XMP and Photoshop is
+-- the rest, and a part of an ICC profile has at least one byte.
 unfoldable pub application_by : ℕ → List ℕ → Option Application
 application_by number payload =
     if number == 0 && begins_with payload jfif_name then Some Jfif else (
@@ -89,8 +89,8 @@ unfoldable pub adobe_at : ℕ → List ℕ → Outcome (Option Application)
 adobe_at left bytes = do
   head ← times 12 next_byte bytes
   if begins_with head.0 adobe_name then (do
-    transform ← needed (transform_by (slice_index head.0 11))
-    passed_over (left - 12) (Some (Adobe transform)) head.1) else passed_over (left - 12) None head.1
+    t ← needed (transform_by (slice_index head.0 11))
+    passed_over (left - 12) (Some (Adobe t)) head.1) else passed_over (left - 12) None head.1
 
 -- ---- segments
 

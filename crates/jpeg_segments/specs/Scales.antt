@@ -1,7 +1,8 @@
 -- The scales that a picture can be made at. They are the decoder's own, not of T.81: an 8 by 8
 -- block gives 1, 2, 4 or 8 samples a side, and the picture and each component are 1/8, 1/4, 1/2 or
 -- all of their size.
-use Rattle.std.specs.Prelude.{ℕ, ◌≡◌, ◌*◌, ◌==◌, nat_le, ◌||◌, Bool, true, [], ◌∷◌, map, find, unwrap_or}
+use Rattle.std.specs.Prelude.{ℕ, ◌≡◌, ◌*◌, ◌==◌, nat_le, ◌||◌, Bool, true, [], ◌∷◌, map, find}
+use Rattle.std.specs.Prelude.{unwrap_or}
 use Rattle.jpeg_segments.specs.declared.parser.CodingProcess.{CodingProcess}
 use Rattle.jpeg_segments.specs.declared.parser.CodingProcess.TheVariants.{DctSequential}
 use Rattle.jpeg_segments.specs.declared.parser.CodingProcess.TheVariants.{DctProgressive, Lossless}

@@ -1,5 +1,4 @@
 -- Every image has a stream: for each component a scan, or in a progressive frame a scan of DC and one of AC.
-use Rattle.jpeg_segments.specs.Checks.{gathered}
 use Rattle.std.proofs.Math.Logic.{⊎_elim}
 use Rattle.std.proofs.Common.{rules, ◌≡◌, ◌≢◌, ℕ, zero, suc, ◌+◌, ◌/◌, ◌%◌, ◌<◌, ◌≤◌, ◌==◌}
 use Rattle.std.proofs.Common.{not, Bool, true, false, List, [], ◌∷◌, ◌++◌, map, length, replicate, flat_map, ℤ}
@@ -15,6 +14,7 @@ use Rattle.std.specs.Prelude.{slice_index_or}
 use Rattle.std.specs.Prelude.{slice_get}
 use Rattle.jpeg_bits.specs.Passes.{Block, Pass, Via, whole_pass}
 use Rattle.jpeg_bits.specs.declared.codes.HuffmanTableClass.TheVariants as classes
+use Rattle.jpeg_segments.specs.Checks.{gathered}
 use Rattle.jpeg_segments.specs.Frame.{Component, component_of, Factors, Frame, frame_of, greatest, is_lossless_number}
 use Rattle.jpeg_segments.specs.Frame.{is_destination, is_taken}
 use Rattle.jpeg_bits.specs.Codes.{Table, codes_exist, code_value, lengths_from}

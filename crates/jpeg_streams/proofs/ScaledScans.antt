@@ -1,8 +1,7 @@
 -- A stream that was written for a frame is one for the frame at any scale.
-use Rattle.std.specs.Prelude.{slice_get}
 use Rattle.std.proofs.lemmas.Grind.{common_steps}
 use Rattle.std.proofs.Common.{rules, ◌≡◌, ℕ, zero, suc, ◌+◌, ◌*◌, ◌<◌, ◌==◌, Bool, true, List, [], ◌∷◌, ◌++◌, map}
-use Rattle.std.proofs.Common.{length, sum_by, sum, slice_index_or, Some, None, Ok, refl, sym, ap, ap₂, ◌∙◌, subst, arith, mul_assoc}
+use Rattle.std.proofs.Common.{length, sum_by, sum, slice_get, slice_index_or, Some, None, Ok, refl, sym, ap, ap₂, ◌∙◌, subst, arith, mul_assoc}
 use Rattle.std.proofs.lemmas.Bool.Decides.{leb_tells}
 use Rattle.std.proofs.Math.Nat.{mul_comm, lt_of_mul-lt-mul_right, mul-lt-mul_of_pos_right}
 use Rattle.std.specs.List.{AllByRecursion, flat_map, position}

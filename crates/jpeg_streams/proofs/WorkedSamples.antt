@@ -1,5 +1,4 @@
 -- The lossless streams that are worked by hand are written.
-use Rattle.jpeg_segments.specs.Checks.{gathered}
 use Rattle.std.proofs.Common.{rules, ◌≡◌, ℕ, zero, suc, ◌==◌, Bool, true, false, List, [], ◌∷◌, ◌++◌, length, drop}
 use Rattle.std.proofs.Common.{ℤ, ◌≤ℤ◌, replicate, flat_map, pos, negsuc, refl, sym, subst, arith, inl, inr}
 use Rattle.std.proofs.lemmas.Bool.{and_parts, eqb-true, leb-true}
@@ -7,6 +6,7 @@ use Rattle.std.specs.List.{list_all}
 use Rattle.std.specs.Prelude.{nat_le}
 use Rattle.jpeg_bits.specs.Codes.{lengths_from, code_value, codes_exist, Table}
 use Rattle.jpeg_bits.specs.Written.{IsCoded, low_bits, number_for, stuffed, bits_of_bytes}
+use Rattle.jpeg_segments.specs.Checks.{gathered}
 use Rattle.jpeg_segments.specs.Frame.{Factors, Frame, frame_of, component_of}
 use Rattle.jpeg_segments.specs.ScanHeader.{scan_of}
 use Rattle.jpeg_segments.specs.ScanHeaders.{IsScan}

@@ -86,7 +86,8 @@ component_coding found frame p tables index dc_destination ac_destination = do
 -- those of a scan's components, with the destinations of their tables
 unfoldable pub codings_of : Found → Frame → Scan → Result (List Coding) Fault
 codings_of found frame scan =
-    gathered (λ s. component_coding found frame (pass_of scan) (tables_of found scan) s.0 s.1.0 s.1.1)
+    gathered
+    (λ s. component_coding found frame (pass_of scan) (tables_of found scan) s.0 s.1.0 s.1.1)
     (zip scan.components (zip scan.dc_destinations scan.ac_destinations))
 
 -- how the blocks of each component of a scan are coded, from a slot on

@@ -96,7 +96,8 @@ pub data Writes (samples : Samples) : Found → List ℕ → List ℕ → Found 
       (data_bytes more : List ℕ)
       → said.frame ≡ Some frame → frame.process ≡ Lossless → IsScan frame h
       → WritesSamplesScan said frame h samples data_bytes
-      → Writes samples (said_after_scan said) (map (λ s. s.component) (selectors_in h) ++ sent) more final
+      → Writes samples (said_after_scan said) (map (λ s. s.component) (selectors_in h) ++ sent) more
+      final
       → Writes samples said sent
       (marker fill 218 (with_length (scan_payload h) ++ (data_bytes ++ more))) final
 

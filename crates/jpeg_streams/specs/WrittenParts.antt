@@ -1,7 +1,6 @@
 -- Streams that are written as far as some segment or scan, and streams that mean one picture.
 use Rattle.std.specs.Prelude.{◌≡◌, ℕ, ◌<◌, Bool, true, List, [], ◌++◌, map}
-use Rattle.std.specs.Prelude.{slice_get}
-use Rattle.std.specs.Prelude.{Some, None, slice_index_or, Result, Ok}
+use Rattle.std.specs.Prelude.{Some, None, slice_get, slice_index_or, Result, Ok}
 use Rattle.std.specs.List.{AllByRecursion}
 use Rattle.jpeg_bits.specs.Reading.{Fault, ◌>>=◌}
 use Rattle.jpeg_segments.specs.Frame.{Component, Frame}
