@@ -25,12 +25,11 @@ through_zero_pos r z following = grind (arith, by_bool)
 through_zero_le : (r : ℕ) (numbers : List ℤ) → through_zero r numbers ≤ length numbers
 unfolding through_zero
 through_zero_le r [] = omega arith
-through_zero_le zero (z ∷ numbers) = grind (arith, by_bool, through_zero_le zero numbers)
-through_zero_le (suc r) (z ∷ numbers) = grind (
+through_zero_le r (z ∷ numbers) = grind (
   arith,
   by_bool,
   through_zero_le r numbers,
-  through_zero_le (suc r) numbers,
+  through_zero_le (r - 1) numbers,
 )
 
 -- where there are too few zeros the piece is all places
@@ -38,12 +37,11 @@ pub through_all : (r : ℕ) (numbers : List ℤ) → length numbers ≤ r → th
     numbers
 unfolding through_zero
 through_all r [] h = refl
-through_all zero (z ∷ numbers) h = absurd (omega arith)
-through_all (suc r) (z ∷ numbers) h = grind (
+through_all r (z ∷ numbers) h = grind (
   arith,
   by_bool,
+  through_all (r - 1) numbers (omega arith),
   through_all r numbers (omega arith),
-  through_all (suc r) numbers (omega arith),
 )
 
 piece-same : (al : ℕ) (f g : ReadsBand) (x : ℤ) (numbers : List ℤ) (k : Refinement) (t : Text)

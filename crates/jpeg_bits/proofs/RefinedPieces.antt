@@ -2,10 +2,11 @@
 use Rattle.std.proofs.Common.{◌≡◌, ℕ, zero, suc, ◌+◌, ◌-◌, ◌/◌, ◌%◌, ◌^◌, ◌==◌, if◌then◌else◌, Bool, true, false, List}
 use Rattle.std.proofs.Common.{[], ◌∷◌, take, drop, ℤ, Result, Ok, Err, refl, ap, ◌∙◌, arith}
 use Rattle.std.proofs.lemmas.Bool.{ne_eqb}
+use Rattle.std.proofs.lemmas.Bool.Decides.{nat_tests}
 use Rattle.jpeg_bits.specs.Reading.{Fault, Malformed, ◌>>=◌}
 use Rattle.jpeg_bits.specs.Entropy.{Text, bits_from}
 use Rattle.jpeg_bits.specs.Codes.{Table, symbol_from}
-use Rattle.jpeg_bits.specs.Readers.{Reads, read_on, gives}
+use Rattle.jpeg_bits.specs.Readers.{Reads, each, read_on, gives, ◌>>=◌ as ◌>>r=◌}
 use Rattle.jpeg_bits.specs.Bands.{Band, before_more}
 use Rattle.jpeg_bits.specs.Refinement.{is_zero, corrected_by, through_zero, with_last, new_number}
 use Rattle.jpeg_bits.specs.Refinement as defined
@@ -14,26 +15,22 @@ use Rattle.jpeg_bits.specs.Pieces.{refined_piece_at, refined_ac_at}
 use Rattle.jpeg_bits.specs.declared.refinement.Refinement.{Refinement}
 use Rattle.jpeg_bits.specs.declared.refinement.Refinement.TheVariants.{Zeros, New, End}
 
--- a place as the definition has it
-abbrev index_by : ℕ → ℤ → Bool → Reads ℤ
-index_by al z b t = (elim b as (λ _. Reads ℤ) [
-  | true ↦ gives z
-  | false ↦ λ u. read_on (λ b. corrected_by al z b)
-      (bits_from 1 u)
-]) t
+-- a coefficient as the definition has it
+abbrev one_by : ℕ → ℤ → Reads ℤ
+one_by al z = if is_zero z then gives z else bits_from 1 >>r= (λ b. corrected_by al z b)
 
-index-same : (al : ℕ) (z : ℤ) (t : Text) → corrected_from al z t ≡ index_by al z (is_zero z) t
+one-same : (al : ℕ) (z : ℤ) (t : Text) → corrected_from al z t ≡ one_by al z t
 unfolding corrected_from
-index-same al z t = grind (arith, ne_eqb)
+one-same al z t = grind (arith, nat_tests)
 
 pub corrected-same : (al : ℕ) (numbers : List ℤ) (t : Text) → corrected_at al numbers t ≡
     defined.corrected al numbers t
-unfolding corrected_at defined.corrected
+unfolding corrected_at defined.corrected each
 corrected-same al [] t = refl
 corrected-same al (z ∷ numbers) t = go (λ u. corrected-same al numbers u) (corrected_from al z t)
     ∙ ap (read_on (λ (x : ℤ). λ u. read_on (λ (xs : List ℤ). gives (x ∷ xs)) (defined.corrected al
     numbers u)))
-    (index-same al z t)
+    (one-same al z t)
   where
     last : (x : ℤ) (o : Result (List ℤ × Text) Fault) → (o >>= λ (o : List ℤ × Text). Ok (x ∷ o.0, o.1))
         ≡ read_on (λ (xs : List ℤ). gives (x ∷ xs)) o
@@ -101,16 +98,12 @@ refined-same table al (suc n) (x ∷ rest) t = go (λ xs u. refined-same table a
         → ((if b then Ok (Zeros, u) else (run_from r u >>= λ (e : ℕ × Text). Ok (End e.0, e.1)))
         >>= λ (k : Refinement × Text). refined_piece_at al (refined_ac_at table al n) (x ∷ rest)
         k.0 k.1)
-        ≡ (elim b as (λ _. Reads Band) [
-          | true ↦ λ u. read_on {B = Band} (λ (front : List ℤ). λ t. read_on {B = Band}
-              (λ (more : Band). gives (before_more front more)) (defined.refined_ac table al n
-              (drop (through_zero 15 (x ∷ rest)) (x ∷ rest)) t))
-              (defined.corrected al (take (through_zero 15 (x ∷ rest)) (x ∷ rest)) u)
-          | false ↦ λ u. read_on {B = Band} (λ (e : ℕ). λ u. read_on {B = Band} (λ (all : List ℤ). gives (
-            all,
-            2 ^ r - 1 + e,
-          )) (defined.corrected al (x ∷ rest) u)) (bits_from r u)
-        ]) u
+        ≡ (if◌then◌else◌ {A = Reads Band} b (λ u. read_on {B = Band} (λ (front : List ℤ). λ t.
+        read_on {B = Band} (λ (more : Band). gives (before_more front more)) (defined.refined_ac table al n
+        (drop (through_zero 15 (x ∷ rest)) (x ∷ rest)) t))
+        (defined.corrected al (take (through_zero 15 (x ∷ rest)) (x ∷ rest)) u))
+        (λ u. read_on {B = Band} (λ (e : ℕ). λ u. read_on {B = Band} (λ (all : List ℤ).
+        gives (all, 2 ^ r - 1 + e)) (defined.corrected al (x ∷ rest) u)) (bits_from r u))) u
     zeros others r u true =
         ap (λ (o : Result (List ℤ × Text) Fault). o >>= λ (front : List ℤ × Text). before front.0
         (refined_ac_at table al n (drop (through_zero 15 (x ∷ rest)) (x ∷ rest)) front.1))

@@ -113,9 +113,6 @@ unfoldable pub filled_end : List ℕ → DataEnd × List ℕ
 filled_end [] = (ends.Ended, [])
 filled_end (c ∷ rest) = if c == 255 then filled_end rest else (end_by (marker_of c), rest)
 
-abbrev pub ending_by : DataEnd × List ℕ → Ending
-ending_by x = ending_of x.0 x.1
-
 -- What a decoder holds: the bits read ahead, and how the data ended where that was met and not
 -- taken.
 pub record Ahead : Type 0 where
