@@ -11,7 +11,7 @@ use Rattle.jpeg_bits.specs.Codes.{fast_from, code_by}
 use Rattle.jpeg_bits.proofs.BufferedBits.{if_buffered}
 use Rattle.jpeg_bits.specs.Codes.{code_from}
 use Rattle.jpeg_bits.specs.Readers.{Reads, ◌>>=◌, gives, read_on, signed_from}
-use Rattle.jpeg_bits.specs.Bands.{token_at, token_from}
+use Rattle.jpeg_bits.specs.Bands.{difference, token_at, token_from}
 use Rattle.jpeg_bits.specs.Lookups.{value_token, slow_token, fast_or, looked_up}
 use Rattle.jpeg_bits.specs.declared.tokens.Token.{Token}
 use Rattle.jpeg_bits.specs.declared.tokens.Token.TheVariants.{Rest}
@@ -30,9 +30,15 @@ unfolding bits_from
 no-bits t = rw (has-none t.bits t.ending, take-none (t.bits ++ replicate 0 false), advance-none t) refl
 
 -- a number of no bits
-pub no_number : (s : ℕ) (t : Text) → s ≡ 0 → signed_from s t ≡ Ok (pos 0, t)
+pub no-number : (t : Text) → signed_from 0 t ≡ Ok (pos 0, t)
 unfolding signed_from extended
-no_number s t e = rw e (ap (read_on (λ v. gives (extended v 0))) (no-bits t))
+no-number t = ap (read_on (λ v. gives (extended v 0))) (no-bits t)
+
+-- a difference of category 0
+pub no_difference : (table : Table) (s : ℕ) (t u : Text) → symbol_from table t ≡ Ok (s, u) → s ≡ 0
+    → difference table t ≡ Ok (pos 0, u)
+unfolding difference
+no_difference table s t u e none = rw (e, none) (no-number u)
 
 rest-same : (r : ℕ) (t : Text) → read_on (λ e. gives (Rest (2 ^ r - 1 + e))) (bits_from r t)
     ≡ (elim (nat_lt 0 r) as (λ _. Reads Token) [
