@@ -3,16 +3,16 @@ use Rattle.std.proofs.Common.{◌≡◌, ℕ, zero, suc, ◌+◌, ◌<◌, ◌�
 use Rattle.std.proofs.lemmas.Bool.{cases_lt, false≢true}
 use Rattle.std.specs.List.{list_all, range_with_len}
 
-pub all-pass : (p : ℕ → Bool) (a n : ℕ) → ((k : ℕ) → a ≤ k → k < a + n → p k ≡ true)
+pub all_pass : (p : ℕ → Bool) (a n : ℕ) → ((k : ℕ) → a ≤ k → k < a + n → p k ≡ true)
     → list_all p (range_with_len a n) ≡ true
-all-pass p a zero h = refl
-all-pass p a (suc n) h =
+all_pass p a zero h = refl
+all_pass p a (suc n) h =
     rw (
       h a (omega arith) (omega arith),
-      all-pass p (a + 1) n (λ k l m. h k (omega arith) (omega arith)),
+      all_pass p (a + 1) n (λ k l m. h k (omega arith) (omega arith)),
     ) refl
 
-pub each-passes : (p : ℕ → Bool) (a n k : ℕ) → list_all p (range_with_len a n) ≡ true → a ≤ k → k < a + n
+pub each_passes : (p : ℕ → Bool) (a n k : ℕ) → list_all p (range_with_len a n) ≡ true → a ≤ k → k < a + n
     → p k ≡ true
-each-passes p a zero k e l m = absurd (omega arith)
-each-passes p a (suc n) k e l m = grind (arith, cases_lt, false≢true, each-passes p (a + 1) n k)
+each_passes p a zero k e l m = absurd (omega arith)
+each_passes p a (suc n) k e l m = grind (arith, cases_lt, false≢true, each_passes p (a + 1) n k)

@@ -14,7 +14,7 @@ use Rattle.jpeg_bits.specs.Codes.{Table, code_lengths, lengths_from, code_value,
 use Rattle.jpeg_bits.specs.Codes.{begins, code_in, next_16, symbol_from, code_from, code_by}
 use Rattle.jpeg_bits.specs.Entropy.{Text, number_of}
 use Rattle.jpeg_bits.proofs.CodeLemmas.{first_from, first_from-skip, first_from-hit}
-use Rattle.jpeg_bits.proofs.Ranges.{all-pass, each-passes}
+use Rattle.jpeg_bits.proofs.Ranges.{all_pass, each_passes}
 use Rattle.jpeg_bits.proofs.BufferedBits.{has_enough, bit_le}
 use Rattle.jpeg_bits.specs.Readers.{read_on, gives, text, ReadsJust}
 use Rattle.jpeg_bits.specs.Written.{low_bits, code_size, code_bits}
@@ -224,8 +224,8 @@ takes-symbol table i good within = grind (arith, symbol-code)
 
 pub exist-tested : (lengths : List ℕ) → HasCodes lengths → codes_exist lengths ≡ true
 unfolding codes_exist
-exist-tested lengths h = all-pass _ 0 (length lengths) (λ i l m. lt-ltb _ _ (h i (omega arith)))
+exist-tested lengths h = all_pass _ 0 (length lengths) (λ i l m. lt-ltb _ _ (h i (omega arith)))
 
 pub tested-exist : (lengths : List ℕ) → codes_exist lengths ≡ true → HasCodes lengths
 unfolding codes_exist
-tested-exist lengths h i l = ltb-true _ _ (each-passes _ 0 (length lengths) i h (omega arith) (omega arith))
+tested-exist lengths h i l = ltb-true _ _ (each_passes _ 0 (length lengths) i h (omega arith) (omega arith))
