@@ -16,7 +16,7 @@ use Rattle.jpeg_bits.specs.declared.refinement.Refinement.{Refinement}
 use Rattle.jpeg_bits.specs.declared.refinement.Refinement.TheVariants.{Zeros, New, End}
 
 -- a coefficient as the definition has it
-abbrev one_by : ℕ → ℤ → Reads ℤ
+abbrev pub one_by : ℕ → ℤ → Reads ℤ
 one_by al z = if is_zero z then gives z else bits_from 1 >>r= (λ b. corrected_by al z b)
 
 one-same : (al : ℕ) (z : ℤ) (t : Text) → corrected_from al z t ≡ one_by al z t
