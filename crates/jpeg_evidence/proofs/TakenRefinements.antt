@@ -78,7 +78,14 @@ moves al z w s t even e = grind (arith, eq-eqb, ok-parts, no-error)
 
 corrected-pos : (al m k b : ℕ) (w : ℤ) (s t : Text) → 0 < m → m * 2 ^ suc al ≡ k → b < 2
     → corrected_by al (pos k) b s ≡ Ok (w, t) → IsOld al w b × (s ≡ t)
-corrected-pos al m k b w s t some h small e = grind (arith, ok-parts, old-pos, kept-sum, even-bit, moves, moved-sum)
+corrected-pos al m k zero w s t some h small e =
+    let q = ok-parts (pos k) w s t e in
+    (old-pos al m 0 w some small (ap pos (sym (kept-sum al m) ∙ h) ∙ q.0), q.1)
+corrected-pos al m k (suc zero) w s t some h small e =
+    let q = moves al (pos k) w s t (ap (λ (x : ℕ). bit_of al (pos x)) (sym h) ∙ even-bit al m) e in
+    let sum : (2 * m + 1) * 2 ^ al ≡ k + 2 ^ al = omega (arith, moved-sum al m, h) in
+    (old-pos al m 1 w some small (ap pos sum ∙ q.0), q.1)
+corrected-pos al m k b w s t some h small e = absurd (omega arith)
 
 corrected-neg : (al m k b : ℕ) (w : ℤ) (s t : Text) → 0 < m → m * 2 ^ suc al ≡ suc k → b < 2
     → corrected_by al (negsuc k) b s ≡ Ok (w, t) → IsOld al w b × (s ≡ t)

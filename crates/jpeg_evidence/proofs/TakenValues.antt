@@ -67,7 +67,11 @@ category-taken (suc s) bits u t e = value-taken s bits u t e
 
 listed-taken : (s : ℕ) (bits : List Bool) (u : ℤ) (t : Text)
     → (if nat_le s 11 then signed_from s else refused) (alone bits) ≡ Ok (u, t) → IsCut (IsValue s u) bits t
-listed-taken s bits u t e = grind (arith, category-taken, no-error)
+listed-taken s bits u t e = go (leb s 11) e
+  where
+    go : (b : Bool) → (if b then signed_from s else refused) (alone bits) ≡ Ok (u, t) → IsCut (IsValue s u) bits t
+    go true k = category-taken s bits u t k
+    go false k = absurd (no-error Malformed (u, t) k)
 
 -- The bits that were taken of a DC difference are those that a writer emits for it.
 pub difference-taken : (table : Table) (bits : List Bool) (u : ℤ) (t : Text) → IsTable table
