@@ -7,8 +7,9 @@ use Rattle.std.proofs.lemmas.List.{drop_all, drop_more, take_all, append-nil, ta
 use Rattle.std.proofs.lemmas.List.{drop-set-lt, set-get_or}
 use Rattle.jpeg_bits.specs.Reading.{Fault, ◌>>=◌}
 use Rattle.jpeg_bits.specs.Entropy.{Text}
-use Rattle.jpeg_bits.specs.Refinement.{is_zero, through_zero}
-use Rattle.jpeg_bits.specs.Pieces.{corrected_from, corrected_at, piece_from}
+use Rattle.jpeg_bits.specs.Readers.{each}
+use Rattle.jpeg_bits.specs.Refinement.{corrected, is_zero, through_zero}
+use Rattle.jpeg_bits.specs.Pieces.{corrected_from, piece_from}
 use Rattle.jpeg_bits.proofs.BandSteps.{bind_same}
 
 abbrev pub Walk : Type 0
@@ -33,7 +34,7 @@ abbrev with_rest : ℕ → List ℤ → List ℤ × Text → Walk
 with_rest n rest front = Ok ((n, front.0 ++ drop n rest), front.1)
 
 unfoldable pub piece_of : ℕ → ℕ → List ℤ → Text → Walk
-piece_of al n rest t = corrected_at al (take n rest) t >>= λ front. with_rest n rest front
+piece_of al n rest t = corrected al (take n rest) t >>= λ front. with_rest n rest front
 
 index_zero : (al : ℕ) (z : ℤ) (t : Text) → is_zero z ≡ true → corrected_from al z t ≡ Ok (z, t)
 unfolding corrected_from
@@ -43,11 +44,11 @@ index_zero al z t e = rw e refl
 piece_step : (al n : ℕ) (z : ℤ) (rest : List ℤ) (t : Text) → piece_of al (suc n) (z ∷ rest) t ≡
     (corrected_from al z t
     >>= λ (f : ℤ × Text). one_more f.0 (piece_of al n rest f.1))
-unfolding piece_of corrected_at
+unfolding piece_of corrected corrected_from each
 piece_step al n z rest t = grind arith
 
 piece_zero : (al : ℕ) (rest : List ℤ) (t : Text) → piece_of al 0 rest t ≡ Ok ((0, rest), t)
-unfolding piece_of corrected_at
+unfolding piece_of corrected each
 piece_zero al rest t = refl
 
 -- a zero that ends the piece

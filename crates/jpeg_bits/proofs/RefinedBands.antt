@@ -11,10 +11,11 @@ use Rattle.jpeg_bits.specs.Codes.{Table}
 use Rattle.jpeg_bits.specs.declared.refinement.Refinement.{Refinement}
 use Rattle.jpeg_bits.specs.declared.refinement.Refinement.TheVariants.{Zeros, New, End}
 use Rattle.jpeg_bits.specs.Bands.{Band}
-use Rattle.jpeg_bits.specs.Pieces.{ReadsBand, before, corrected_from, corrected_at, refinement_from}
+use Rattle.jpeg_bits.specs.Pieces.{ReadsBand, before, corrected_from, refinement_from}
 use Rattle.jpeg_bits.specs.Pieces.{refined_piece_at, refined_ac_at}
 use Rattle.jpeg_bits.specs.Pieces.{refined_band_from, piece_from}
-use Rattle.jpeg_bits.specs.Refinement.{through_zero, with_last}
+use Rattle.jpeg_bits.specs.Readers.{each, gives, read_on}
+use Rattle.jpeg_bits.specs.Refinement.{corrected, through_zero, with_last}
 use Rattle.jpeg_bits.proofs.BandSteps.{bind_same, before-before}
 use Rattle.jpeg_bits.proofs.PieceWalks.{by_bool, Walk}
 
@@ -104,26 +105,20 @@ abbrev pub KeepsLength : ℕ → Result (List ℤ × Text) Fault → Type 0
 KeepsLength n (Ok x) = length x.0 ≡ n
 KeepsLength n (Err e) = Unit {0}
 
-abbrev in_front : ℤ → List ℤ × Text → Result (List ℤ × Text) Fault
-in_front z o = Ok (z ∷ o.0, o.1)
-
-pub corrected-length : (al : ℕ) (numbers : List ℤ) (t : Text) → KeepsLength (length numbers)
-    (corrected_at al numbers t)
-unfolding corrected_at
+pub corrected-length : (al : ℕ) (numbers : List ℤ) (t : Text) → KeepsLength (length numbers) (corrected al numbers t)
+unfolding corrected corrected_from each
 corrected-length al [] t = refl
-corrected-length al (z ∷ numbers) t = by_index (corrected_from al z t) (λ t. corrected-length al
-    numbers t)
+corrected-length al (z ∷ numbers) t = by_index (corrected_from al z t) (λ t. corrected-length al numbers t)
   where
     by_others : (y : ℤ) (o : Result (List ℤ × Text) Fault) → KeepsLength (length numbers) o
-        → KeepsLength (length (z ∷ numbers)) (o >>= λ (o : List ℤ × Text). in_front y o)
+        → KeepsLength (length (z ∷ numbers)) (read_on (λ (ys : List ℤ). gives (y ∷ ys)) o)
     by_others y (Ok x) h = omega (arith, h)
     by_others y (Err e) h = tt
 
-    by_index : (f : Result (ℤ × Text) Fault) → ((t : Text) → KeepsLength (length numbers)
-        (corrected_at al numbers t))
-        → KeepsLength (length (z ∷ numbers)) (f >>= λ (f : ℤ × Text). corrected_at al numbers f.1
-        >>= λ (o : List ℤ × Text). in_front f.0 o)
-    by_index (Ok x) h = by_others x.0 (corrected_at al numbers x.1) (h x.1)
+    by_index : (f : Result (ℤ × Text) Fault) → ((t : Text) → KeepsLength (length numbers) (corrected al numbers t))
+        → KeepsLength (length (z ∷ numbers)) (read_on (λ (y : ℤ) (u : Text).
+        read_on (λ (ys : List ℤ). gives (y ∷ ys)) (corrected al numbers u)) f)
+    by_index (Ok x) h = by_others x.0 (corrected al numbers x.1) (h x.1)
     by_index (Err e) h = tt
 
 unfoldable ok_of : (ℕ × List ℤ) × Text → Walk → (ℕ × List ℤ) × Text
@@ -140,7 +135,7 @@ length_short : (n : ℕ) (xs : List ℤ) → n ≤ length xs → length (take n 
 length_short n xs h = length-take-le n xs h
 
 corrected_refused : (al r : ℕ) (rest : List ℤ) (t : Text) (f : Fault) → piece_from al r rest t ≡ Err f
-    → corrected_at al (take (through_zero r rest) rest) t ≡ Err f
+    → corrected al (take (through_zero r rest) rest) t ≡ Err f
 unfolding piece_from
 corrected_refused al r rest t f h = grind (arith, false≢true)
 
@@ -183,17 +178,17 @@ with_last-length v (y ∷ z ∷ xs) = ap (λ (n : ℕ). suc n) (with_last-length
 
 -- what a piece that was read is
 data IsPiece (al r : ℕ) (rest : List ℤ) (t : Text) (n : ℕ) (ys : List ℤ) (u : Text) : Type 0 where
-  piece : (front : List ℤ) → corrected_at al (take (through_zero r rest) rest) t ≡ Ok (front, u)
+  piece : (front : List ℤ) → corrected al (take (through_zero r rest) rest) t ≡ Ok (front, u)
       → length front ≡ through_zero r rest → n ≡ through_zero r rest → ys ≡ front ++ drop (through_zero r rest) rest
       → IsPiece al r rest t n ys u
 
 is_piece : (al r : ℕ) (rest : List ℤ) (t : Text) (n : ℕ) (ys : List ℤ) (u : Text)
     → piece_from al r rest t ≡ Ok ((n, ys), u) → IsPiece al r rest t n ys u
 unfolding piece_from ok_of
-is_piece al r rest t n ys u h = by_result (corrected_at al (take (through_zero r rest) rest) t) refl
+is_piece al r rest t n ys u h = by_result (corrected al (take (through_zero r rest) rest) t) refl
     (corrected-length al (take (through_zero r rest) rest) t) h
   where
-    by_result : (o : Result (List ℤ × Text) Fault) → corrected_at al (take (through_zero r rest)
+    by_result : (o : Result (List ℤ × Text) Fault) → corrected al (take (through_zero r rest)
         rest) t ≡ o
         → KeepsLength (length (take (through_zero r rest) rest)) o
         → (o >>= λ (front : List ℤ × Text). pieced (through_zero r rest) rest front) ≡ Ok ((n, ys), u)
@@ -244,7 +239,7 @@ pub refined_token : (table : Table) (al : ℕ) (band : List ℤ) (i : ℕ) (k : 
 refined_token table al band i k t u h e = grind (arith, refined_more)
 
 -- a piece that is the whole band
-pub whole_piece : (al : ℕ) (band : List ℤ) (t : Text) → corrected_at al band t ≡ (piece_from al
+pub whole_piece : (al : ℕ) (band : List ℤ) (t : Text) → corrected al band t ≡ (piece_from al
     (length band) band t
     >>= λ (p : (ℕ × List ℤ) × Text). Ok (p.0.1, p.1))
 unfolding piece_from

@@ -9,7 +9,7 @@ use Rattle.std.specs.List.{AllByRecursion}
 use Rattle.jpeg_bits.specs.Entropy.{Text, bits_from}
 use Rattle.jpeg_bits.specs.Codes.{Table, IsTable, symbol_from}
 use Rattle.jpeg_bits.specs.Readers.{Reads, each, gives, ◌>>=◌}
-use Rattle.jpeg_bits.proofs.RefinedPieces.{one_by}
+use Rattle.jpeg_bits.specs.Pieces.{corrected_from}
 use Rattle.jpeg_bits.specs.Bands.{Band, before_more}
 use Rattle.jpeg_bits.specs.Refinement.{is_zero, bit_of, moved, corrected_by, corrected, through_zero}
 use Rattle.jpeg_bits.specs.Refinement.{new_number, with_last, refined_piece, refined_ac}
@@ -166,7 +166,8 @@ unfolding low_bits
 one-bit b own is = grind arith
 
 one-taken : (al : ℕ) (z : ℤ) (bits : List Bool) (w : ℤ) (t : Text) → IsKept al z
-    → one_by al z (alone bits) ≡ Ok (w, t) → IsCut (IsOne al z w) bits t
+    → corrected_from al z (alone bits) ≡ Ok (w, t) → IsCut (IsOne al z w) bits t
+unfolding corrected_from
 one-taken al z bits w t kept e = go (is_zero z) refl e
   where
     go : (a : Bool) → is_zero z ≡ a
@@ -206,12 +207,12 @@ nil-corrected al = record { us = []; are = refl; alike = tt; bits = refl }
 pub corrected-taken : (al : ℕ) (zs : List ℤ) (bits : List Bool) (ws : List ℤ) (t : Text)
     → AllByRecursion (IsKept al) zs → corrected al zs (alone bits) ≡ Ok (ws, t)
     → IsCut (IsCorrected al zs ws) bits t
-unfolding corrected each
+unfolding corrected corrected_from each
 corrected-taken al [] bits ws t kept e =
     gives-taken (IsCorrected al []) [] ws bits t (nil-corrected al) e
 corrected-taken al (z ∷ zs) bits ws t kept e =
     let f : ℤ → Reads (List ℤ) = λ w. corrected al zs >>= (λ others. gives (w ∷ others)) in
-    let k = bind-parts (one_by al z) f (alone bits) t ws e in
+    let k = bind-parts (corrected_from al z) f (alone bits) t ws e in
     let c = one-taken al z bits k.0 k.1 kept.0 k.2 in
     let more = k.1.bits in
     let rest : f k.0 (alone more) ≡ Ok (ws, t) = ap (f k.0) (sym c.rest) ∙ k.3 in

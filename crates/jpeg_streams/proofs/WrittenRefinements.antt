@@ -18,7 +18,7 @@ use Rattle.jpeg_bits.specs.Written.{bit, low_bits, code_bits, IsCoded}
 use Rattle.jpeg_streams.specs.WrittenData.{is_old, count_unknown, NoneNew, corrections, sign_bit, WritesRefinement}
 use Rattle.jpeg_streams.specs.WrittenData.WritesRefinement.{refined, found, passed, none_left}
 use Rattle.jpeg_bits.proofs.WrittenBits.{takes-gives, takes-bind, takes-number, takes-bit, takes-map, takes-as}
-use Rattle.jpeg_bits.proofs.RefinedPieces.{one_by}
+use Rattle.jpeg_bits.specs.Pieces.{corrected_from}
 use Rattle.jpeg_bits.proofs.Tables.{IsGood, takes-symbol}
 use Rattle.jpeg_streams.proofs.WrittenBands.{scaled-zero}
 use Rattle.jpeg_streams.proofs.SentBlocks.{scaled, kept, InRange}
@@ -131,9 +131,9 @@ corrects al (negsuc i) o range = go (suc i / 2 * 2 ^ suc al) refl (kept-positive
 pub corrected-next : (al : ℕ) (z w : ℤ) (zs ws : List ℤ) (b : ℕ) (bits : List Bool) → b < 2 → is_zero z ≡ false
     → ReadsJust (corrected_by al z b) [] w
     → ReadsJust (corrected al zs) bits ws → ReadsJust (corrected al (z ∷ zs)) (bit b ∷ bits) (w ∷ ws)
-unfolding corrected each
+unfolding corrected corrected_from each
 corrected-next al z w zs ws b bits small e h k =
-    takes-bind (one_by al z) (λ y. each (one_by al) zs >>= (λ ys. gives (y ∷ ys))) (bit b ∷ []) bits w (w ∷ ws)
+    takes-bind (corrected_from al z) (λ y. each (corrected_from al) zs >>= (λ ys. gives (y ∷ ys))) (bit b ∷ []) bits w (w ∷ ws)
     (rw e (takes-bind (bits_from 1) (corrected_by al z) (bit b ∷ []) [] b w (takes-bit b small) h))
     (takes-map (corrected al zs) (λ (l : List ℤ). w ∷ l) bits ws k)
 
