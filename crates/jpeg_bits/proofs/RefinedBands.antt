@@ -1,9 +1,9 @@
 -- Bands of a refinement: what is left after some places.
 use Rattle.std.proofs.Common.{is_ok, ◌≡◌, ℕ, zero, suc, ◌+◌, ◌-◌, ◌<◌, ◌≤◌, List, [], ◌∷◌, ◌++◌, length, take, drop}
 use Rattle.std.proofs.Common.{set, ℤ, Result, Ok, Err, refl, sym, ap, ◌∙◌, arith, append_assoc, length-drop}
-use Rattle.std.proofs.Common.{length-take, length-append, le_refl}
+use Rattle.std.proofs.Common.{length-take, length-append, length-set, le_refl}
 use Rattle.std.proofs.lemmas.List.{drop_all, take_all, append-nil, take-append-le, drop-append-le, length-take-le}
-use Rattle.std.proofs.lemmas.List.{set-append_left}
+use Rattle.std.proofs.lemmas.List.{set-append_left, set-append_right}
 use Rattle.std.proofs.lemmas.Bool.{false≢true}
 use Rattle.jpeg_bits.specs.Reading.{Fault, ◌>>=◌}
 use Rattle.jpeg_bits.specs.Entropy.{Text}
@@ -161,20 +161,12 @@ drop_front k xs ys e = grind (arith, drop-append-le, drop_all)
 set_last : (a front : List ℤ) (v : ℤ) (k : ℕ) → k + 1 ≡ length a + length front → 0 < length front
     → set (a ++ front) k v ≡ a ++ with_last v front
 unfolding with_last
-set_last [] [] v k e h = absurd (omega arith)
-set_last [] (y ∷ []) v zero e h = refl
-set_last [] (y ∷ []) v (suc k) e h = absurd (omega arith)
-set_last [] (y ∷ z ∷ ps) v zero e h = absurd (omega arith)
-set_last [] (y ∷ z ∷ ps) v (suc k) e h =
-    ap (λ (xs : List ℤ). y ∷ xs) (set_last [] (z ∷ ps) v k (omega arith) (omega arith))
-set_last (x ∷ a) front v zero e h = absurd (omega arith)
-set_last (x ∷ a) front v (suc k) e h = ap (λ (xs : List ℤ). x ∷ xs) (set_last a front v k (omega arith) h)
+set_last a front v k e h =
+    set-append_right a front (length a) k v refl (omega arith) ∙ ap (λ (i : ℕ). a ++ set front i v) (omega arith)
 
 with_last-length : (v : ℤ) (xs : List ℤ) → length (with_last v xs) ≡ length xs
 unfolding with_last
-with_last-length v [] = refl
-with_last-length v (y ∷ []) = refl
-with_last-length v (y ∷ z ∷ xs) = ap (λ (n : ℕ). suc n) (with_last-length v (z ∷ xs))
+with_last-length v xs = length-set xs (length xs - 1) v
 
 -- what a piece that was read is
 data IsPiece (al r : ℕ) (rest : List ℤ) (t : Text) (n : ℕ) (ys : List ℤ) (u : Text) : Type 0 where

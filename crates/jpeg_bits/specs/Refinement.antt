@@ -1,6 +1,6 @@
 -- Refinement of coefficients (T.81, G.1.2.3 and G.2.3).
 use Rattle.std.specs.Prelude.{ℕ, zero, suc, ◌+◌, ◌-◌, ◌/◌, ◌%◌, ◌^◌, ◌==◌, nat_lt, Bool, true}
-use Rattle.std.specs.Prelude.{false, List, [], ◌∷◌, take, drop, ℤ, pos, negsuc, neg_ℤ}
+use Rattle.std.specs.Prelude.{false, List, [], ◌∷◌, length, set, take, drop, ℤ, pos, negsuc, neg_ℤ}
 use Rattle.std.specs.Prelude.{if◌then◌else◌, ◌||◌, not}
 use Rattle.jpeg_bits.specs.Entropy.{bits_from}
 use Rattle.jpeg_bits.specs.Codes.{Table, symbol_from}
@@ -50,9 +50,7 @@ new_number al (suc b) = pos (2 ^ al)
 
 -- the list with its last element replaced.
 unfoldable pub with_last : ℤ → List ℤ → List ℤ
-with_last x [] = []
-with_last x (y ∷ []) = x ∷ []
-with_last x (y ∷ z ∷ numbers) = y ∷ with_last x (z ∷ numbers)
+with_last x numbers = set numbers (length numbers - 1) x
 
 -- The piece of a token of run r and size s, where `others` reads what is after it: the coefficients
 -- through zero number r, counted from 0, the last of which becomes a new number; those through the

@@ -2,7 +2,8 @@
 use Rattle.std.proofs.Common.{rules, ◌≡◌, ◌≢◌, ◌⊎◌, inl, inr, ℕ, zero, suc, ◌+◌, ◌-◌, ◌*◌, ◌/◌, ◌%◌, ◌^◌, ◌<◌, ◌≤◌}
 use Rattle.std.proofs.Common.{Bool, true, false, List, [], ◌∷◌, ◌++◌, map, length, take, drop, ℤ, pos, negsuc, neg_ℤ}
 use Rattle.std.proofs.Common.{◌*ℤ◌, unsigned_abs, refl, sym, ap, ◌∙◌, subst, append_assoc, arith, eqb, pow-suc, pow_pos}
-use Rattle.std.proofs.Common.{add-zero, mul_assoc, Ok, slice_index}
+use Rattle.std.proofs.Common.{add-zero, mul_assoc, Ok, length-append, set, slice_index}
+use Rattle.std.proofs.Math.Seq.{set-append_seam}
 use lib.Arith.{digits_div}
 use Rattle.std.proofs.Math.Nat.{add-mul, zero-mul, one-mul, mul-le-mul}
 use Rattle.std.proofs.lemmas.Bool.{lt-ltb, eq-eqb, le-leb, leb-true}
@@ -224,8 +225,8 @@ range-end al (v ∷ front) more h = (h.0, range-end al front more h.1)
 
 pub with_last-end : (x y : ℤ) (xs : List ℤ) → with_last x (xs ++ y ∷ []) ≡ xs ++ x ∷ []
 unfolding with_last
-with_last-end x y (z ∷ w ∷ xs) = ap (λ (l : List ℤ). z ∷ l) (with_last-end x y (w ∷ xs))
-with_last-end x y xs = refl
+with_last-end x y xs =
+    ap (λ (i : ℕ). set (xs ++ y ∷ []) i x) (omega (arith, length-append xs (y ∷ []))) ∙ set-append_seam xs y [] x
 
 -- the places of a piece, with their corrections
 pub takes-front : (al : ℕ) (front : List ℤ) (u : ℤ) (more : List ℤ) → kept al u ≡ pos 0 → NoneNew
