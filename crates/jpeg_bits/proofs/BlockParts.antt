@@ -11,12 +11,13 @@ use Rattle.jpeg_bits.specs.Codes.{Table}
 use Rattle.jpeg_bits.specs.Readers.{Reads, gives, read_on}
 use Rattle.jpeg_bits.specs.Bands.{Band, wrapped, difference, first_dc, first_ac}
 use Rattle.jpeg_bits.specs.Passes.{Pass, Block, or_bit, band_of, with_band, dc_part, band_part, block_from}
-use Rattle.jpeg_bits.specs.Pieces.{corrected_at, refined_band_from}
+use Rattle.jpeg_bits.specs.Pieces.{refined_band_from}
+use Rattle.jpeg_bits.specs.Refinement.{corrected}
 use Rattle.jpeg_bits.specs.BlockView.{to_block, IsPass}
 use Rattle.jpeg_bits.specs.ZigzagParts.{zigzag_part, band_in, KeepsOthers}
 use Rattle.jpeg_bits.proofs.BandLoop.{Leaves}
 use Rattle.jpeg_bits.proofs.BandSteps.{pos-of-ne}
-use Rattle.jpeg_bits.proofs.RefinedPieces.{corrected-same, refined-same}
+use Rattle.jpeg_bits.proofs.RefinedPieces.{refined-same}
 use Rattle.jpeg_bits.proofs.ZigzagParts.{part-length, band-is, dc-put, band-put}
 
 -- ---- the band
@@ -49,18 +50,18 @@ with_run run o = read_on (λ (all : List ℤ). gives (all, run)) o
 
 corrected-part : (p : Pass) (table : Table) (band : List ℤ) (run : ℕ) (t : Text) → p.is_first ≡ false → 0 < length band
     → 0 < run
-    → band_part p table band run t ≡ with_run (run - 1) (corrected_at p.al band t)
+    → band_part p table band run t ≡ with_run (run - 1) (corrected p.al band t)
 unfolding band_part
-corrected-part p table band run t f some h = grind (arith, corrected-same)
+corrected-part p table band run t f some h = grind arith
 
 pub band_corrected : (p : Pass) (table : Table) (band all : List ℤ) (run : ℕ) (t u : Text) → p.is_first ≡ false
     → 0 < length band → 0 < run
-    → corrected_at p.al band t ≡ Ok (all, u) → band_part p table band run t ≡ Ok ((all, run - 1), u)
+    → corrected p.al band t ≡ Ok (all, u) → band_part p table band run t ≡ Ok ((all, run - 1), u)
 band_corrected p table band all run t u f some h e = grind (arith, corrected-part)
 
 pub band_refused : (p : Pass) (table : Table) (band : List ℤ) (run : ℕ) (t : Text) (fault : Fault) → p.is_first ≡ false
     → 0 < length band → 0 < run
-    → corrected_at p.al band t ≡ Err fault → band_part p table band run t ≡ Err fault
+    → corrected p.al band t ≡ Err fault → band_part p table band run t ≡ Err fault
 band_refused p table band run t fault f some h e = grind (arith, corrected-part)
 
 -- a pass has no band where it is of DC alone

@@ -7,7 +7,8 @@ use Rattle.jpeg_bits.specs.Entropy.{Text, Ahead, Takes, upcoming}
 use Rattle.jpeg_bits.specs.Codes.{Table}
 use Rattle.jpeg_bits.specs.Bands.{Band}
 use Rattle.jpeg_bits.specs.Passes.{Pass}
-use Rattle.jpeg_bits.specs.Pieces.{corrected_at, piece_from, refinement_from, refined_band_from}
+use Rattle.jpeg_bits.specs.Refinement.{corrected}
+use Rattle.jpeg_bits.specs.Pieces.{piece_from, refinement_from, refined_band_from}
 use Rattle.jpeg_bits.specs.Readers.{Reads}
 use Rattle.jpeg_bits.specs.Refusals.{answer_of, outcome_of, kept_refusal}
 use Rattle.jpeg_bits.specs.declared.error.Error.{Error}
@@ -164,7 +165,7 @@ module _ (table : Table) (p : Pass) (whole : Reads Band) (a b d : Ahead) (old cu
 -- a piece that is the whole band
 whole-in : (p : Pass) (block : List ℤ) (start zeros : ℕ) (t : Text) → IsPass p → start ≡ band_start p
     → zeros ≡ band_end p - start
-    → corrected_at p.al (band_in p block) t ≡ (piece_at p block start zeros t
+    → corrected p.al (band_in p block) t ≡ (piece_at p block start zeros t
     >>= λ (w : (ℕ × List ℤ) × Text). Ok (w.0.1, w.1))
 whole-in p block start zeros t is s z = grind (arith, band-length, whole_piece)
 
@@ -172,7 +173,7 @@ pub band-corrected : (p : Pass) (block new : List ℤ) (start zeros : ℕ) (a b 
     (next : Option ℕ) (refusal : Option Error) (done : Bool) → IsPass p → start ≡ band_start p
     → zeros ≡ band_end p - start → done ≡ is_some next
     → Takes (to_piece p start new) (piece_at p block start zeros) a old (answer_of next refusal) b cur
-    → Takes (λ (u : Unit {0}). band_in p new) (corrected_at p.al (band_in p block)) a old
+    → Takes (λ (u : Unit {0}). band_in p new) (corrected p.al (band_in p block)) a old
     (outcome_of done refusal) b cur
 band-corrected p block new start zeros a b old cur (Some next) refusal done is s z e q =
     rw e (
@@ -185,10 +186,10 @@ band-corrected p block new start zeros a b old cur (Some next) refusal done is s
       ),
     )
 band-corrected p block new start zeros a b old cur None refusal done is s z e q =
-    rw e (Leaves-err (λ (u : Unit {0}). band_in p new) (to_piece p start new) (corrected_at p.al
+    rw e (Leaves-err (λ (u : Unit {0}). band_in p new) (to_piece p start new) (corrected p.al
     (band_in p block))
-    (corrected_at p.al (band_in p block)) (piece_at p block start zeros) a a b old old cur
+    (corrected p.al (band_in p block)) (piece_at p block start zeros) a a b old old cur
     (kept_refusal refusal)
     (λ t f h. whole-in p block start zeros t is s z
     ∙ ap (λ (o : Result ((ℕ × List ℤ) × Text) Fault). o >>= λ (w : (ℕ × List ℤ) × Text). Ok (w.0.1, w.1)) h)
-    (Leaves-whole (corrected_at p.al (band_in p block)) a old) q)
+    (Leaves-whole (corrected p.al (band_in p block)) a old) q)

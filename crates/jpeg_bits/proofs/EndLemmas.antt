@@ -5,7 +5,7 @@ use Rattle.std.proofs.Common.{length-append, length-drop}
 use Rattle.std.proofs.lemmas.List.{length-replicate, drop-drop, drop_more, get_or_append_left, get_or-replicate}
 use Rattle.std.proofs.lemmas.Bool.{le-leb, lt-leb, cases_lt}
 use Rattle.jpeg_bits.specs.Reading.{End}
-use Rattle.jpeg_bits.specs.Entropy.{Text, Ending, Broken, bits_of, text_at, add_byte, no_bits, ending_by, filled_end}
+use Rattle.jpeg_bits.specs.Entropy.{Text, Ending, Broken, bits_of, text_at, add_byte, no_bits, ending_at}
 use Rattle.jpeg_bits.specs.Entropy.{upcoming, fresh, advance, marker_from, marker_by}
 use Rattle.jpeg_bits.specs.Ends.{after_bytes, met, end_after}
 
@@ -81,9 +81,9 @@ placed (b ∷ c ∷ rest) = go (eqb b 255) refl (eqb c 0) (placed rest) (placed 
     go : (x : Bool) → eqb b 255 ≡ x → (y : Bool) → IsPlaced rest (text_at rest)
         → IsPlaced (c ∷ rest) (text_at (c ∷ rest))
         → IsPlaced (b ∷ c ∷ rest) (cond x (cond y (add_byte 255 rest (text_at rest))
-        (no_bits (ending_by (filled_end (c ∷ rest))))) (add_byte b (c ∷ rest) (text_at (c ∷ rest))))
+        (no_bits (ending_at (c ∷ rest)))) (add_byte b (c ∷ rest) (text_at (c ∷ rest))))
     go true e true h k = add-placed (b ∷ c ∷ rest) rest 255 (text_at rest) (stuffed-step b c rest e) h
-    go true e false h k = none-placed (b ∷ c ∷ rest) (ending_by (filled_end (c ∷ rest)))
+    go true e false h k = none-placed (b ∷ c ∷ rest) (ending_at (c ∷ rest))
     go false e y h k = add-placed (b ∷ c ∷ rest) (c ∷ rest) b (text_at (c ∷ rest)) (plain-step b c rest e) k
 
 marker-met : (following : List (List ℕ)) (e : Ending) → length following ≡ 0 → marker_by following

@@ -1,17 +1,17 @@
 -- A token that is looked up is the token that is defined.
 use Rattle.std.proofs.Common.{◌≡◌, ◌⊎◌, inl, inr, ℕ, ◌+◌, ◌-◌, ◌/◌, ◌%◌, ◌^◌, nat_lt, nat_le, Bool, true, false, List}
-use Rattle.std.proofs.Common.{◌++◌, take, drop, replicate, slice_index, ℤ, Option, Some, None, Result, Ok, Err, refl}
+use Rattle.std.proofs.Common.{◌++◌, take, drop, replicate, slice_index, ℤ, pos, Option, Some, None, Result, Ok, Err, refl}
 use Rattle.std.proofs.Common.{sym, ap, ◌∙◌, arith, length-drop}
 use Rattle.std.proofs.lemmas.Bool.{le-leb, lt-leb, lt-ltb, cases_lt, false≢true}
 use Rattle.jpeg_bits.specs.Reading.{Fault, ◌>>=◌ as ◌>>r=◌}
-use Rattle.jpeg_bits.specs.Entropy.{Text, Ending, has_bits, bits_from, advance, number_of}
+use Rattle.jpeg_bits.specs.Entropy.{Text, Ending, has_bits, bits_from, advance, number_of, extended}
 use Rattle.jpeg_bits.specs.Codes.{Table, code_in, code_lengths, next_16, symbol_from, is_ac, short_token}
 use Rattle.jpeg_bits.specs.Codes.{after_code, short_code_by, short_code_from, short_value}
 use Rattle.jpeg_bits.specs.Codes.{fast_from, code_by}
 use Rattle.jpeg_bits.proofs.BufferedBits.{if_buffered}
 use Rattle.jpeg_bits.specs.Codes.{code_from}
 use Rattle.jpeg_bits.specs.Readers.{Reads, ◌>>=◌, gives, read_on, signed_from}
-use Rattle.jpeg_bits.specs.Bands.{token_at, token_from}
+use Rattle.jpeg_bits.specs.Bands.{difference, token_at, token_from}
 use Rattle.jpeg_bits.specs.Lookups.{value_token, slow_token, fast_or, looked_up}
 use Rattle.jpeg_bits.specs.declared.tokens.Token.{Token}
 use Rattle.jpeg_bits.specs.declared.tokens.Token.TheVariants.{Rest}
@@ -28,6 +28,17 @@ has-none bits e = grind (arith, le-leb)
 pub no-bits : (t : Text) → bits_from 0 t ≡ Ok (0, t)
 unfolding bits_from
 no-bits t = rw (has-none t.bits t.ending, take-none (t.bits ++ replicate 0 false), advance-none t) refl
+
+-- a number of no bits
+pub no-number : (t : Text) → signed_from 0 t ≡ Ok (pos 0, t)
+unfolding signed_from extended
+no-number t = ap (read_on (λ v. gives (extended v 0))) (no-bits t)
+
+-- a difference of category 0
+pub no_difference : (table : Table) (s : ℕ) (t u : Text) → symbol_from table t ≡ Ok (s, u) → s ≡ 0
+    → difference table t ≡ Ok (pos 0, u)
+unfolding difference
+no_difference table s t u e none = rw (e, none) (no-number u)
 
 rest-same : (r : ℕ) (t : Text) → read_on (λ e. gives (Rest (2 ^ r - 1 + e))) (bits_from r t)
     ≡ (elim (nat_lt 0 r) as (λ _. Reads Token) [

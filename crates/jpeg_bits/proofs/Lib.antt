@@ -4,6 +4,7 @@ pub mod Loops
 pub mod Texts
 pub mod BufferedBits
 pub mod CodeLemmas
+pub mod Ranges
 pub mod DefaultTables
 pub mod Symbols
 pub mod Filled

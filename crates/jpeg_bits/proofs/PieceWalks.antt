@@ -1,14 +1,15 @@
 -- A piece of a refinement, as it is walked.
 use Rattle.std.proofs.lemmas.Grind.{common_steps}
 use Rattle.std.proofs.lemmas.Bool.Decides.{nat_tests}
-use Rattle.std.proofs.Common.{◌≡◌, ℕ, zero, suc, ◌+◌, ◌-◌, ◌<◌, ◌≤◌, Bool, true, false, List, [], ◌∷◌, ◌++◌, length}
+use Rattle.std.proofs.Common.{◌≡◌, ℕ, zero, suc, ◌+◌, ◌-◌, ◌<◌, ◌≤◌, ◌==◌, Bool, true, false, List, [], ◌∷◌, ◌++◌, length}
 use Rattle.std.proofs.Common.{take, drop, set, get_or, ℤ, pos, Result, Ok, Err, refl, sym, ap, ◌∙◌, arith, append_assoc}
 use Rattle.std.proofs.lemmas.List.{drop_all, drop_more, take_all, append-nil, take-append-drop, take_more_set}
 use Rattle.std.proofs.lemmas.List.{drop-set-lt, set-get_or}
 use Rattle.jpeg_bits.specs.Reading.{Fault, ◌>>=◌}
 use Rattle.jpeg_bits.specs.Entropy.{Text}
-use Rattle.jpeg_bits.specs.Refinement.{is_zero, through_zero}
-use Rattle.jpeg_bits.specs.Pieces.{corrected_from, corrected_at, piece_from}
+use Rattle.jpeg_bits.specs.Readers.{each}
+use Rattle.jpeg_bits.specs.Refinement.{corrected, is_zero, through_zero}
+use Rattle.jpeg_bits.specs.Pieces.{corrected_from, piece_from}
 use Rattle.jpeg_bits.proofs.BandSteps.{bind_same}
 
 abbrev pub Walk : Type 0
@@ -20,22 +21,20 @@ one_more z w = w >>= λ w. Ok ((suc w.0.0, z ∷ w.0.1), w.1)
 -- the piece up to zero number r, place by place
 unfoldable pub walk_from : ℕ → ℕ → List ℤ → Text → Walk
 walk_from al r [] t = Ok ((0, []), t)
-walk_from al zero (z ∷ numbers) t =
+walk_from al r (z ∷ numbers) t =
     elim (is_zero z) [
-      | true ↦ Ok ((1, z ∷ numbers), t)
-      | false ↦ corrected_from al z t >>= λ f. one_more f.0 (walk_from al zero numbers f.1)
-    ]
-walk_from al (suc r) (z ∷ numbers) t =
-    elim (is_zero z) [
-      | true ↦ one_more z (walk_from al r numbers t)
-      | false ↦ corrected_from al z t >>= λ f. one_more f.0 (walk_from al (suc r) numbers f.1)
+      | true ↦ elim (r == 0) [
+        | true ↦ Ok ((1, z ∷ numbers), t)
+        | false ↦ one_more z (walk_from al (r - 1) numbers t)
+      ]
+      | false ↦ corrected_from al z t >>= λ f. one_more f.0 (walk_from al r numbers f.1)
     ]
 
 abbrev with_rest : ℕ → List ℤ → List ℤ × Text → Walk
 with_rest n rest front = Ok ((n, front.0 ++ drop n rest), front.1)
 
 unfoldable pub piece_of : ℕ → ℕ → List ℤ → Text → Walk
-piece_of al n rest t = corrected_at al (take n rest) t >>= λ front. with_rest n rest front
+piece_of al n rest t = corrected al (take n rest) t >>= λ front. with_rest n rest front
 
 index_zero : (al : ℕ) (z : ℤ) (t : Text) → is_zero z ≡ true → corrected_from al z t ≡ Ok (z, t)
 unfolding corrected_from
@@ -45,11 +44,11 @@ index_zero al z t e = rw e refl
 piece_step : (al n : ℕ) (z : ℤ) (rest : List ℤ) (t : Text) → piece_of al (suc n) (z ∷ rest) t ≡
     (corrected_from al z t
     >>= λ (f : ℤ × Text). one_more f.0 (piece_of al n rest f.1))
-unfolding piece_of corrected_at
+unfolding piece_of corrected corrected_from each
 piece_step al n z rest t = grind arith
 
 piece_zero : (al : ℕ) (rest : List ℤ) (t : Text) → piece_of al 0 rest t ≡ Ok ((0, rest), t)
-unfolding piece_of corrected_at
+unfolding piece_of corrected each
 piece_zero al rest t = refl
 
 -- a zero that ends the piece
@@ -75,17 +74,13 @@ pub piece_walk : (al r : ℕ) (rest : List ℤ) (t : Text) → piece_of al (thro
     t
 unfolding walk_from through_zero
 piece_walk al r [] t = piece_zero al [] t
-piece_walk al zero (z ∷ numbers) t =
-    by_bool (is_zero z) (λ e. rw (e, through_zero, walk_from) (walk_ends al z numbers t e))
-    (λ e. rw (e, through_zero, walk_from) (walk_value_at al (through_zero zero numbers) z numbers t
-    (walk_from al zero numbers) (λ t. piece_walk al zero numbers t)))
-piece_walk al (suc r) (z ∷ numbers) t =
-    by_bool (is_zero z) (λ e. rw (e, through_zero, walk_from) (walk_over al (through_zero r
-    numbers) z numbers t
-    (walk_from al r numbers t) e (piece_walk al r numbers t)))
-    (λ e. rw (e, through_zero, walk_from) (walk_value_at al (through_zero (suc r) numbers) z
-    numbers t
-    (walk_from al (suc r) numbers) (λ t. piece_walk al (suc r) numbers t)))
+piece_walk al r (z ∷ numbers) t =
+    by_bool (is_zero z) (λ e. by_bool (r == 0)
+    (λ n. rw (e, n, through_zero, walk_from) (walk_ends al z numbers t e))
+    (λ n. rw (e, n, through_zero, walk_from) (walk_over al (through_zero (r - 1) numbers) z numbers t
+    (walk_from al (r - 1) numbers t) e (piece_walk al (r - 1) numbers t))))
+    (λ e. rw (e, through_zero, walk_from) (walk_value_at al (through_zero r numbers) z numbers t
+    (walk_from al r numbers) (λ t. piece_walk al r numbers t)))
 
 abbrev pub after : ℕ → List ℤ → (ℕ × List ℤ) × Text → Walk
 after i front w = Ok ((i + w.0.0, front ++ w.0.1), w.1)
@@ -134,7 +129,7 @@ walk_stop al r cur i t h e z = grind (arith, from_here, take-append-drop)
 pub walk_skip : (al r : ℕ) (cur : List ℤ) (i : ℕ) (t : Text) → i < length cur → get_or cur i (pos 0) ≡ pos 0 → 0 < r
     → walk_left al r cur i t ≡ walk_left al (r - 1) cur (i + 1) t
 unfolding walk_left walk_from
-walk_skip al r cur i t h e k = grind (arith, from_here, more_left, through_here)
+walk_skip al r cur i t h e k = grind (arith, nat_tests, from_here, more_left, through_here)
 
 walk_nonzero : (al r : ℕ) (z : ℤ) (rest : List ℤ) (t : Text) → is_zero z ≡ false
     → walk_from al r (z ∷ rest) t ≡ (corrected_from al z t >>= λ (f : ℤ × Text). one_more f.0

@@ -1,9 +1,9 @@
 -- Bands of a refinement: what is left after some places.
 use Rattle.std.proofs.Common.{is_ok, ◌≡◌, ℕ, zero, suc, ◌+◌, ◌-◌, ◌<◌, ◌≤◌, List, [], ◌∷◌, ◌++◌, length, take, drop}
 use Rattle.std.proofs.Common.{set, ℤ, Result, Ok, Err, refl, sym, ap, ◌∙◌, arith, append_assoc, length-drop}
-use Rattle.std.proofs.Common.{length-take, length-append, le_refl}
+use Rattle.std.proofs.Common.{length-take, length-append, length-set, le_refl}
 use Rattle.std.proofs.lemmas.List.{drop_all, take_all, append-nil, take-append-le, drop-append-le, length-take-le}
-use Rattle.std.proofs.lemmas.List.{set-append_left}
+use Rattle.std.proofs.lemmas.List.{set-append_left, set-append_right}
 use Rattle.std.proofs.lemmas.Bool.{false≢true}
 use Rattle.jpeg_bits.specs.Reading.{Fault, ◌>>=◌}
 use Rattle.jpeg_bits.specs.Entropy.{Text}
@@ -11,10 +11,11 @@ use Rattle.jpeg_bits.specs.Codes.{Table}
 use Rattle.jpeg_bits.specs.declared.refinement.Refinement.{Refinement}
 use Rattle.jpeg_bits.specs.declared.refinement.Refinement.TheVariants.{Zeros, New, End}
 use Rattle.jpeg_bits.specs.Bands.{Band}
-use Rattle.jpeg_bits.specs.Pieces.{ReadsBand, before, corrected_from, corrected_at, refinement_from}
+use Rattle.jpeg_bits.specs.Pieces.{ReadsBand, before, corrected_from, refinement_from}
 use Rattle.jpeg_bits.specs.Pieces.{refined_piece_at, refined_ac_at}
 use Rattle.jpeg_bits.specs.Pieces.{refined_band_from, piece_from}
-use Rattle.jpeg_bits.specs.Refinement.{through_zero, with_last}
+use Rattle.jpeg_bits.specs.Readers.{each, gives, read_on}
+use Rattle.jpeg_bits.specs.Refinement.{corrected, through_zero, with_last}
 use Rattle.jpeg_bits.proofs.BandSteps.{bind_same, before-before}
 use Rattle.jpeg_bits.proofs.PieceWalks.{by_bool, Walk}
 
@@ -25,12 +26,11 @@ through_zero_pos r z following = grind (arith, by_bool)
 through_zero_le : (r : ℕ) (numbers : List ℤ) → through_zero r numbers ≤ length numbers
 unfolding through_zero
 through_zero_le r [] = omega arith
-through_zero_le zero (z ∷ numbers) = grind (arith, by_bool, through_zero_le zero numbers)
-through_zero_le (suc r) (z ∷ numbers) = grind (
+through_zero_le r (z ∷ numbers) = grind (
   arith,
   by_bool,
   through_zero_le r numbers,
-  through_zero_le (suc r) numbers,
+  through_zero_le (r - 1) numbers,
 )
 
 -- where there are too few zeros the piece is all places
@@ -38,12 +38,11 @@ pub through_all : (r : ℕ) (numbers : List ℤ) → length numbers ≤ r → th
     numbers
 unfolding through_zero
 through_all r [] h = refl
-through_all zero (z ∷ numbers) h = absurd (omega arith)
-through_all (suc r) (z ∷ numbers) h = grind (
+through_all r (z ∷ numbers) h = grind (
   arith,
   by_bool,
+  through_all (r - 1) numbers (omega arith),
   through_all r numbers (omega arith),
-  through_all (suc r) numbers (omega arith),
 )
 
 piece-same : (al : ℕ) (f g : ReadsBand) (x : ℤ) (numbers : List ℤ) (k : Refinement) (t : Text)
@@ -106,26 +105,20 @@ abbrev pub KeepsLength : ℕ → Result (List ℤ × Text) Fault → Type 0
 KeepsLength n (Ok x) = length x.0 ≡ n
 KeepsLength n (Err e) = Unit {0}
 
-abbrev in_front : ℤ → List ℤ × Text → Result (List ℤ × Text) Fault
-in_front z o = Ok (z ∷ o.0, o.1)
-
-pub corrected-length : (al : ℕ) (numbers : List ℤ) (t : Text) → KeepsLength (length numbers)
-    (corrected_at al numbers t)
-unfolding corrected_at
+pub corrected-length : (al : ℕ) (numbers : List ℤ) (t : Text) → KeepsLength (length numbers) (corrected al numbers t)
+unfolding corrected corrected_from each
 corrected-length al [] t = refl
-corrected-length al (z ∷ numbers) t = by_index (corrected_from al z t) (λ t. corrected-length al
-    numbers t)
+corrected-length al (z ∷ numbers) t = by_index (corrected_from al z t) (λ t. corrected-length al numbers t)
   where
     by_others : (y : ℤ) (o : Result (List ℤ × Text) Fault) → KeepsLength (length numbers) o
-        → KeepsLength (length (z ∷ numbers)) (o >>= λ (o : List ℤ × Text). in_front y o)
+        → KeepsLength (length (z ∷ numbers)) (read_on (λ (ys : List ℤ). gives (y ∷ ys)) o)
     by_others y (Ok x) h = omega (arith, h)
     by_others y (Err e) h = tt
 
-    by_index : (f : Result (ℤ × Text) Fault) → ((t : Text) → KeepsLength (length numbers)
-        (corrected_at al numbers t))
-        → KeepsLength (length (z ∷ numbers)) (f >>= λ (f : ℤ × Text). corrected_at al numbers f.1
-        >>= λ (o : List ℤ × Text). in_front f.0 o)
-    by_index (Ok x) h = by_others x.0 (corrected_at al numbers x.1) (h x.1)
+    by_index : (f : Result (ℤ × Text) Fault) → ((t : Text) → KeepsLength (length numbers) (corrected al numbers t))
+        → KeepsLength (length (z ∷ numbers)) (read_on (λ (y : ℤ) (u : Text).
+        read_on (λ (ys : List ℤ). gives (y ∷ ys)) (corrected al numbers u)) f)
+    by_index (Ok x) h = by_others x.0 (corrected al numbers x.1) (h x.1)
     by_index (Err e) h = tt
 
 unfoldable ok_of : (ℕ × List ℤ) × Text → Walk → (ℕ × List ℤ) × Text
@@ -142,7 +135,7 @@ length_short : (n : ℕ) (xs : List ℤ) → n ≤ length xs → length (take n 
 length_short n xs h = length-take-le n xs h
 
 corrected_refused : (al r : ℕ) (rest : List ℤ) (t : Text) (f : Fault) → piece_from al r rest t ≡ Err f
-    → corrected_at al (take (through_zero r rest) rest) t ≡ Err f
+    → corrected al (take (through_zero r rest) rest) t ≡ Err f
 unfolding piece_from
 corrected_refused al r rest t f h = grind (arith, false≢true)
 
@@ -168,34 +161,26 @@ drop_front k xs ys e = grind (arith, drop-append-le, drop_all)
 set_last : (a front : List ℤ) (v : ℤ) (k : ℕ) → k + 1 ≡ length a + length front → 0 < length front
     → set (a ++ front) k v ≡ a ++ with_last v front
 unfolding with_last
-set_last [] [] v k e h = absurd (omega arith)
-set_last [] (y ∷ []) v zero e h = refl
-set_last [] (y ∷ []) v (suc k) e h = absurd (omega arith)
-set_last [] (y ∷ z ∷ ps) v zero e h = absurd (omega arith)
-set_last [] (y ∷ z ∷ ps) v (suc k) e h =
-    ap (λ (xs : List ℤ). y ∷ xs) (set_last [] (z ∷ ps) v k (omega arith) (omega arith))
-set_last (x ∷ a) front v zero e h = absurd (omega arith)
-set_last (x ∷ a) front v (suc k) e h = ap (λ (xs : List ℤ). x ∷ xs) (set_last a front v k (omega arith) h)
+set_last a front v k e h =
+    set-append_right a front (length a) k v refl (omega arith) ∙ ap (λ (i : ℕ). a ++ set front i v) (omega arith)
 
 with_last-length : (v : ℤ) (xs : List ℤ) → length (with_last v xs) ≡ length xs
 unfolding with_last
-with_last-length v [] = refl
-with_last-length v (y ∷ []) = refl
-with_last-length v (y ∷ z ∷ xs) = ap (λ (n : ℕ). suc n) (with_last-length v (z ∷ xs))
+with_last-length v xs = length-set xs (length xs - 1) v
 
 -- what a piece that was read is
 data IsPiece (al r : ℕ) (rest : List ℤ) (t : Text) (n : ℕ) (ys : List ℤ) (u : Text) : Type 0 where
-  piece : (front : List ℤ) → corrected_at al (take (through_zero r rest) rest) t ≡ Ok (front, u)
+  piece : (front : List ℤ) → corrected al (take (through_zero r rest) rest) t ≡ Ok (front, u)
       → length front ≡ through_zero r rest → n ≡ through_zero r rest → ys ≡ front ++ drop (through_zero r rest) rest
       → IsPiece al r rest t n ys u
 
 is_piece : (al r : ℕ) (rest : List ℤ) (t : Text) (n : ℕ) (ys : List ℤ) (u : Text)
     → piece_from al r rest t ≡ Ok ((n, ys), u) → IsPiece al r rest t n ys u
 unfolding piece_from ok_of
-is_piece al r rest t n ys u h = by_result (corrected_at al (take (through_zero r rest) rest) t) refl
+is_piece al r rest t n ys u h = by_result (corrected al (take (through_zero r rest) rest) t) refl
     (corrected-length al (take (through_zero r rest) rest) t) h
   where
-    by_result : (o : Result (List ℤ × Text) Fault) → corrected_at al (take (through_zero r rest)
+    by_result : (o : Result (List ℤ × Text) Fault) → corrected al (take (through_zero r rest)
         rest) t ≡ o
         → KeepsLength (length (take (through_zero r rest) rest)) o
         → (o >>= λ (front : List ℤ × Text). pieced (through_zero r rest) rest front) ≡ Ok ((n, ys), u)
@@ -246,7 +231,7 @@ pub refined_token : (table : Table) (al : ℕ) (band : List ℤ) (i : ℕ) (k : 
 refined_token table al band i k t u h e = grind (arith, refined_more)
 
 -- a piece that is the whole band
-pub whole_piece : (al : ℕ) (band : List ℤ) (t : Text) → corrected_at al band t ≡ (piece_from al
+pub whole_piece : (al : ℕ) (band : List ℤ) (t : Text) → corrected al band t ≡ (piece_from al
     (length band) band t
     >>= λ (p : (ℕ × List ℤ) × Text). Ok (p.0.1, p.1))
 unfolding piece_from

@@ -7,52 +7,12 @@ use Rattle.jpeg_bits.specs.Entropy.{Text, bits_from}
 use Rattle.jpeg_bits.specs.Codes.{Table, symbol_from}
 use Rattle.jpeg_bits.specs.Readers.{Reads, read_on, gives}
 use Rattle.jpeg_bits.specs.Bands.{Band, before_more}
-use Rattle.jpeg_bits.specs.Refinement.{is_zero, corrected_by, through_zero, with_last, new_number}
+use Rattle.jpeg_bits.specs.Refinement.{corrected, through_zero, with_last, new_number}
 use Rattle.jpeg_bits.specs.Refinement as defined
-use Rattle.jpeg_bits.specs.Pieces.{before, run_from, corrected_from, corrected_at, refinement_from}
+use Rattle.jpeg_bits.specs.Pieces.{before, run_from, refinement_from}
 use Rattle.jpeg_bits.specs.Pieces.{refined_piece_at, refined_ac_at}
 use Rattle.jpeg_bits.specs.declared.refinement.Refinement.{Refinement}
 use Rattle.jpeg_bits.specs.declared.refinement.Refinement.TheVariants.{Zeros, New, End}
-
--- a place as the definition has it
-abbrev index_by : ℕ → ℤ → Bool → Reads ℤ
-index_by al z b t = (elim b as (λ _. Reads ℤ) [
-  | true ↦ gives z
-  | false ↦ λ u. read_on (λ b. corrected_by al z b)
-      (bits_from 1 u)
-]) t
-
-index-same : (al : ℕ) (z : ℤ) (t : Text) → corrected_from al z t ≡ index_by al z (is_zero z) t
-unfolding corrected_from
-index-same al z t = grind (arith, ne_eqb)
-
-pub corrected-same : (al : ℕ) (numbers : List ℤ) (t : Text) → corrected_at al numbers t ≡
-    defined.corrected al numbers t
-unfolding corrected_at defined.corrected
-corrected-same al [] t = refl
-corrected-same al (z ∷ numbers) t = go (λ u. corrected-same al numbers u) (corrected_from al z t)
-    ∙ ap (read_on (λ (x : ℤ). λ u. read_on (λ (xs : List ℤ). gives (x ∷ xs)) (defined.corrected al
-    numbers u)))
-    (index-same al z t)
-  where
-    last : (x : ℤ) (o : Result (List ℤ × Text) Fault) → (o >>= λ (o : List ℤ × Text). Ok (x ∷ o.0, o.1))
-        ≡ read_on (λ (xs : List ℤ). gives (x ∷ xs)) o
-    last x (Ok o) = refl
-    last x (Err e) = refl
-
-    go : ((u : Text) → corrected_at al numbers u ≡ defined.corrected al numbers u) → (o : Result (ℤ
-        ×
-        Text) Fault)
-        → (o >>= λ (f : ℤ × Text). corrected_at al numbers f.1 >>= λ (o : List ℤ × Text). Ok (
-          f.0 ∷
-              o.0,
-          o.1,
-        ))
-        ≡ read_on (λ (x : ℤ). λ u. read_on (λ (xs : List ℤ). gives (x ∷ xs)) (defined.corrected al
-        numbers u)) o
-    go rec (Ok x) = ap (λ (o : Result (List ℤ × Text) Fault). o >>= λ (o : List ℤ × Text). Ok (x.0 ∷ o.0, o.1))
-        (rec x.1) ∙ last x.0 (defined.corrected al numbers x.1)
-    go rec (Err e) = refl
 
 before-same : (front : List ℤ) (o : Result (Band × Text) Fault)
     → before front o ≡ read_on (λ (more : Band). gives (before_more front more)) o
@@ -91,33 +51,24 @@ refined-same table al (suc n) (x ∷ rest) t = go (λ xs u. refined-same table a
         >>= λ (k : Refinement × Text). refined_piece_at al (refined_ac_at table al n) (x ∷ rest)
         k.0 k.1)
         ≡ read_on {B = Band} (λ (e : ℕ). λ u. read_on {B = Band} (λ (all : List ℤ). gives (all, 2 ^ r - 1 + e))
-        (defined.corrected al (x ∷ rest) u)) o
-    run r (Ok e) = ap (λ (o : Result (List ℤ × Text) Fault). o
-        >>= λ (all : List ℤ × Text). Ok ((all.0, 2 ^ r - 1 + e.0), all.1)) (corrected-same al (x ∷ rest) e.1)
-        ∙ end-on (2 ^ r - 1 + e.0) (defined.corrected al (x ∷ rest) e.1)
+        (corrected al (x ∷ rest) u)) o
+    run r (Ok e) = end-on (2 ^ r - 1 + e.0) (corrected al (x ∷ rest) e.1)
     run r (Err e) = refl
 
     zeros : Others table al n → (r : ℕ) (u : Text) (b : Bool)
         → ((if b then Ok (Zeros, u) else (run_from r u >>= λ (e : ℕ × Text). Ok (End e.0, e.1)))
         >>= λ (k : Refinement × Text). refined_piece_at al (refined_ac_at table al n) (x ∷ rest)
         k.0 k.1)
-        ≡ (elim b as (λ _. Reads Band) [
-          | true ↦ λ u. read_on {B = Band} (λ (front : List ℤ). λ t. read_on {B = Band}
-              (λ (more : Band). gives (before_more front more)) (defined.refined_ac table al n
-              (drop (through_zero 15 (x ∷ rest)) (x ∷ rest)) t))
-              (defined.corrected al (take (through_zero 15 (x ∷ rest)) (x ∷ rest)) u)
-          | false ↦ λ u. read_on {B = Band} (λ (e : ℕ). λ u. read_on {B = Band} (λ (all : List ℤ). gives (
-            all,
-            2 ^ r - 1 + e,
-          )) (defined.corrected al (x ∷ rest) u)) (bits_from r u)
-        ]) u
+        ≡ (if◌then◌else◌ {A = Reads Band} b (λ u. read_on {B = Band} (λ (front : List ℤ). λ t.
+        read_on {B = Band} (λ (more : Band). gives (before_more front more)) (defined.refined_ac table al n
+        (drop (through_zero 15 (x ∷ rest)) (x ∷ rest)) t))
+        (corrected al (take (through_zero 15 (x ∷ rest)) (x ∷ rest)) u))
+        (λ u. read_on {B = Band} (λ (e : ℕ). λ u. read_on {B = Band} (λ (all : List ℤ).
+        gives (all, 2 ^ r - 1 + e)) (corrected al (x ∷ rest) u)) (bits_from r u))) u
     zeros others r u true =
-        ap (λ (o : Result (List ℤ × Text) Fault). o >>= λ (front : List ℤ × Text). before front.0
-        (refined_ac_at table al n (drop (through_zero 15 (x ∷ rest)) (x ∷ rest)) front.1))
-        (corrected-same al (take (through_zero 15 (x ∷ rest)) (x ∷ rest)) u)
-        ∙ piece-on (λ (l : List ℤ). l) (through_zero 15 (x ∷ rest)) (refined_ac_at table al n)
+        piece-on (λ (l : List ℤ). l) (through_zero 15 (x ∷ rest)) (refined_ac_at table al n)
         (defined.refined_ac table al n) (x ∷ rest) others
-        (defined.corrected al (take (through_zero 15 (x ∷ rest)) (x ∷ rest)) u)
+        (corrected al (take (through_zero 15 (x ∷ rest)) (x ∷ rest)) u)
     zeros others r u false = run r (bits_from r u)
 
     new : Others table al n → (r : ℕ) (o : Result (ℕ × Text) Fault)
@@ -126,16 +77,11 @@ refined-same table al (suc n) (x ∷ rest) t = go (λ xs u. refined-same table a
         k.0 k.1)
         ≡ read_on (λ (sign : ℕ). λ u. read_piece (with_last (new_number al sign)) (through_zero r (x ∷ rest))
         (defined.refined_ac table al n) (x ∷ rest)
-        (defined.corrected al (take (through_zero r (x ∷ rest)) (x ∷ rest)) u)) o
+        (corrected al (take (through_zero r (x ∷ rest)) (x ∷ rest)) u)) o
     new others r (Ok s) =
-        ap (λ (o : Result (List ℤ × Text) Fault). o
-        >>= λ (front : List ℤ × Text). before (with_last (new_number al s.0) front.0)
-        (refined_ac_at table al n (drop (through_zero r (x ∷ rest)) (x ∷ rest)) front.1))
-        (corrected-same al (take (through_zero r (x ∷ rest)) (x ∷ rest)) s.1)
-        ∙ piece-on (with_last (new_number al s.0)) (through_zero r (x ∷ rest)) (refined_ac_at table
-        al n)
+        piece-on (with_last (new_number al s.0)) (through_zero r (x ∷ rest)) (refined_ac_at table al n)
         (defined.refined_ac table al n) (x ∷ rest) others
-        (defined.corrected al (take (through_zero r (x ∷ rest)) (x ∷ rest)) s.1)
+        (corrected al (take (through_zero r (x ∷ rest)) (x ∷ rest)) s.1)
     new others r (Err e) = refl
 
     by : Others table al n → (r s : ℕ) (u : Text)

@@ -5,12 +5,12 @@ use Rattle.std.proofs.lemmas.Bool.{cases_lt}
 use Rattle.std.proofs.Math.Nat.{div-div-eq-div-mul, div-mul-le_self}
 use Rattle.std.proofs.lemmas.Nat.{le-div}
 use Rattle.std.proofs.lemmas.List.Sums.{fold_more, sum_by_more}
-use Rattle.jpeg_bits.specs.Codes.{code_lengths, code_in, first_from, begins}
+use Rattle.jpeg_bits.specs.Codes.{code_lengths, code_in}
 use Rattle.jpeg_bits.specs.Written.{low_bits}
 use Rattle.jpeg_bits.specs.ShortCodes.{ArePassed, value_after, HoldsRows, no_row}
 use Rattle.jpeg_bits.specs.declared.codes.Row.{Row}
 use Rattle.jpeg_bits.proofs.CodeLemmas.{Tried, Tried-none, Tried-more, code_found, code_missed}
-use Rattle.jpeg_bits.proofs.CodeLemmas.{code_none, zigzag_within}
+use Rattle.jpeg_bits.proofs.CodeLemmas.{code_none, zigzag_within, NoneBefore}
 use Rattle.jpeg_bits.proofs.Reservoirs.{prefix_number}
 use Rattle.jpeg_bits.proofs.BufferedBits.{pow_more}
 
@@ -43,10 +43,7 @@ halved bits i h =
 
 -- no code of at most i bits begins the bits
 abbrev pub NoneYet : List ℕ → ℕ → ℕ → Type 0
-NoneYet counts bits i =
-    first_from (begins (code_lengths counts) (low_bits 16 bits)) 0 (length (code_lengths counts))
-    ≡ first_from (begins (code_lengths counts) (low_bits 16 bits)) (sum (take i counts)) (length (code_lengths counts)
-    - sum (take i counts))
+NoneYet counts bits i = NoneBefore (code_lengths counts) (low_bits 16 bits) (sum (take i counts))
 
 module _ (counts : List ℕ) (rows : List Row) (bits i : ℕ) (counted : length counts ≡ 16) (holds : HoldsRows counts rows)
     (lt : i < 16) (fits : bits < 2 ^ 16) (above : value_after counts i ≤ bits / 2 ^ (16 - i)) where
@@ -94,9 +91,7 @@ module _ (counts : List ℕ) (rows : List Row) (bits i : ℕ) (counted : length 
   row_missed h none =
       let e = ap (λ (r : Row). r.end) (holds i lt) in
       let v = value-more counts i within in
-      subst (λ (n : ℕ). first_from (begins (code_lengths counts) (low_bits 16 bits)) 0 (length (code_lengths counts))
-      ≡ first_from (begins (code_lengths counts) (low_bits 16 bits)) n (length (code_lengths counts) - n))
-      (sym (index-more counts i within))
+      subst (NoneBefore (code_lengths counts) (low_bits 16 bits)) (sym (index-more counts i within))
       (code_missed (code_lengths counts) counts i (sum (take i counts)) (value_after counts i) within
       (tried-at counts i (omega arith)) (low_bits 16 bits) (bits / 2 ^ (15 - i)) (prefix_number bits i fits lt)
       (λ g. omega (arith, e, v, h)) none)

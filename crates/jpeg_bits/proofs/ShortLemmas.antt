@@ -16,7 +16,7 @@ use Rattle.jpeg_bits.specs.Entropy.{number_of, extended, upcoming_by, has_buffer
 use Rattle.jpeg_bits.specs.Entropy.{text_at}
 use Rattle.jpeg_bits.specs.Readers.{read_on, signed_from}
 use Rattle.jpeg_bits.specs.Written.{low_bits}
-use Rattle.jpeg_bits.specs.Codes.{Table, code_in, code_lengths, code_value, begins, first_from, next_16, is_ac}
+use Rattle.jpeg_bits.specs.Codes.{Table, code_in, code_lengths, code_value, begins, next_16, is_ac}
 use Rattle.jpeg_bits.specs.Codes.{short_token, after_code, short_code_by, short_code_from, short_value}
 use Rattle.jpeg_bits.specs.Codes.{fast_from}
 use Rattle.jpeg_bits.specs.ShortCodes.{named, symbol_in, short_only, short_code, short_value_by, short_value_of}
@@ -24,6 +24,7 @@ use Rattle.jpeg_bits.specs.ShortCodes.{next_bits, packed}
 use Rattle.jpeg_bits.specs.declared.codes.HuffmanTableClass.{HuffmanTableClass}
 use Rattle.jpeg_bits.specs.declared.ahead.DataEnd.{DataEnd}
 use Rattle.std.proofs.Math.Nat.{mod-lt}
+use Rattle.jpeg_bits.proofs.CodeLemmas.{first_from}
 use Rattle.jpeg_bits.proofs.WrittenBits.{length-low_bits, number_of-low_bits}
 use Rattle.jpeg_bits.proofs.Reservoirs.{low_bits-append, low_bits-zeros, low_bits-take, low_bits-drop, same_zeros}
 use Rattle.jpeg_bits.proofs.Reservoirs.{front_small}
@@ -50,14 +51,12 @@ short_from n lens o = at_most n (option_map (λ i. (i, get_or lens i 0)) o)
 
 long_only : (n : ℕ) (lens : List ℕ) (test : ℕ → Bool) (i k : ℕ)
     → ((j : ℕ) → i ≤ j → j < i + k → n < get_or lens j 0) → short_from n lens (first_from test i k) ≡ None
-unfolding first_from
 long_only n lens test i zero h = refl
 long_only n lens test i (suc k) h = grind (arith, long_only n lens test (i + 1) k (λ j a b. h j (omega arith) (omega arith)))
 
 module _ (n : ℕ) (lens : List ℕ) (rising : IsRising 1 16 lens) (x y : List Bool) (same : take n x ≡ take n y) where
   agree_from : (i k : ℕ) → i + k ≤ length lens → short_from n lens (first_from (begins lens x) i k)
       ≡ short_from n lens (first_from (begins lens y) i k)
-  unfolding first_from
   agree_from i zero h = refl
   agree_from i (suc k) h =
       elim (cases_lt n (get_or lens i 0)) [

@@ -10,10 +10,11 @@ use Rattle.std.proofs.lemmas.Bool.{eq-eqb, eqb-true, cases_lt, lt-ltb, ltb-true,
 use Rattle.std.proofs.Math.Logic.{⊎_elim}
 use Rattle.std.proofs.lemmas.List.{take-append-le, take_all, drop_at, take-take, get_or-take, length-replicate}
 use Rattle.std.proofs.lemmas.List.Sums.{sum_by-append, sum_by_more, sum_by-take-le}
-use Rattle.jpeg_bits.specs.Codes.{Table, code_lengths, lengths_from, code_value, HasCodes, codes_exist, all_below}
-use Rattle.jpeg_bits.specs.Codes.{begins, first_from, code_in, next_16, symbol_from, code_from, code_by}
+use Rattle.jpeg_bits.specs.Codes.{Table, code_lengths, lengths_from, code_value, HasCodes, codes_exist}
+use Rattle.jpeg_bits.specs.Codes.{begins, code_in, next_16, symbol_from, code_from, code_by}
 use Rattle.jpeg_bits.specs.Entropy.{Text, number_of}
-use Rattle.jpeg_bits.proofs.CodeLemmas.{first_from-skip, first_from-hit}
+use Rattle.jpeg_bits.proofs.CodeLemmas.{first_from, first_from-skip, first_from-hit}
+use Rattle.jpeg_bits.proofs.Ranges.{all_pass, each_passes}
 use Rattle.jpeg_bits.proofs.BufferedBits.{has_enough, bit_le}
 use Rattle.jpeg_bits.specs.Readers.{read_on, gives, text, ReadsJust}
 use Rattle.jpeg_bits.specs.Written.{low_bits, code_size, code_bits}
@@ -221,24 +222,10 @@ takes-symbol table i good within = grind (arith, symbol-code)
 
 -- ---- whether the codes exist, as a test
 
-all_below-each : (p : ℕ → Bool) (n : ℕ) → ((k : ℕ) → k < n → p k ≡ true) → all_below p n ≡ true
-all_below-each p zero h = refl
-all_below-each p (suc n) h = rw (all_below-each p n (λ k l. h k (omega arith)), h n (omega arith)) refl
-
-both : (a b : Bool) → a && b ≡ true → (a ≡ true) × (b ≡ true)
-both a b h = grind (arith, false≢true)
-
-each-below : (p : ℕ → Bool) (n : ℕ) → all_below p n ≡ true → (k : ℕ) → k < n → p k ≡ true
-each-below p zero h k l = absurd (omega arith)
-each-below p (suc n) h k l =
-    let w = both (all_below p n) (p n) h in
-    ⊎_elim (λ lt. each-below p n w.0 k lt) (λ le. let e : k ≡ n = omega arith in rw e w.1) (cases_lt k n)
-
 pub exist-tested : (lengths : List ℕ) → HasCodes lengths → codes_exist lengths ≡ true
 unfolding codes_exist
-exist-tested lengths h = grind (arith, all_below-each, lt-ltb, slice_index)
+exist-tested lengths h = all_pass _ 0 (length lengths) (λ i l m. lt-ltb _ _ (h i (omega arith)))
 
 pub tested-exist : (lengths : List ℕ) → codes_exist lengths ≡ true → HasCodes lengths
 unfolding codes_exist
-tested-exist lengths h i l = ltb-true (code_value lengths i) (2 ^ slice_index lengths i) (each-below _ (length lengths)
-    h i l)
+tested-exist lengths h i l = ltb-true _ _ (each_passes _ 0 (length lengths) i h (omega arith) (omega arith))

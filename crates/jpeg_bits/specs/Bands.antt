@@ -2,7 +2,7 @@
 -- that they fill.
 use Rattle.std.specs.Prelude.{ℕ, zero, suc, ◌<◌, ◌+◌, ◌-◌, ◌/◌, ◌%◌, ◌^◌, ◌==◌, nat_le, nat_lt}
 use Rattle.std.specs.Prelude.{true, false, List, [], ◌∷◌, ◌++◌, length, take, drop, ℤ, pos, ◌+ℤ◌}
-use Rattle.std.specs.Prelude.{◌*ℤ◌}
+use Rattle.std.specs.Prelude.{◌*ℤ◌, if◌then◌else◌}
 use Rattle.std.specs.Int.{int_wrap, w16}
 use Rattle.jpeg_bits.specs.Entropy.{bits_from}
 use Rattle.jpeg_bits.specs.Readers.{Reads, ◌>>=◌, gives, refused, signed_from}
@@ -16,15 +16,11 @@ wrapped z = int_wrap w16 z
 
 -- ---- DC
 
--- the number of category s
-abbrev pub category_number : ℕ → Reads ℤ
-category_number s = elim (s == 0) [ true ↦ gives (pos 0) | false ↦ signed_from s ]
-
--- a DC difference
+-- a DC difference: a code of its category, which is at most 11, and its bits
 unfoldable pub difference : Table → Reads ℤ
 difference table = do
   s ← symbol_from table
-  elim (nat_le s 11) [ true ↦ category_number s | false ↦ refused ]
+  if nat_le s 11 then signed_from s else refused
 
 -- A DC coefficient on its predictor, at point transform al: the coefficient and the next predictor.
 unfoldable pub first_dc : Table → ℕ → ℤ → Reads (ℤ × ℤ)
@@ -38,19 +34,10 @@ first_dc table al predictor = do
 -- band. A value that is longer than the room is taken where it and its code have at most 8 bits.
 unfoldable pub token_at : ℕ → ℕ → ℕ → ℕ → Reads Token
 token_at room size r s =
-    elim (nat_lt 0 s) [
-      | true ↦ elim (nat_lt r room) [
-        | true ↦ signed_from s >>= (λ v. gives (Value r v))
-        | false ↦ elim (nat_le (size + s) 8) [
-          | true ↦ signed_from s >>= (λ v. gives Overlong)
-          | false ↦ gives Overlong
-        ]
-      ]
-      | false ↦ elim (r == 15) [
-        | true ↦ gives Sixteen
-        | false ↦ bits_from r >>= (λ e. gives (Rest (2 ^ r - 1 + e)))
-      ]
-    ]
+    if nat_lt 0 s then (
+    if nat_lt r room then signed_from s >>= (λ v. gives (Value r v)) else (
+    if nat_le (size + s) 8 then signed_from s >>= (λ v. gives Overlong) else gives Overlong))
+    else (if r == 15 then gives Sixteen else bits_from r >>= (λ e. gives (Rest (2 ^ r - 1 + e))))
 
 -- the next token: a code of the symbol 16 r + s, and the bits after it
 unfoldable pub token_from : Table → ℕ → Reads Token

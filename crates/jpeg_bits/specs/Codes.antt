@@ -3,6 +3,7 @@ use Rattle.std.specs.Prelude.{◌≡◌, ℕ, zero, suc, ◌+◌, ◌-◌, ◌^�
 use Rattle.std.specs.Prelude.{take, replicate, Bool, true, false, Option, Some, None, Result, Ok}
 use Rattle.std.specs.Prelude.{Err, ◌==◌, if◌then◌else◌, sum_by, slice_index, ◌/◌, ◌%◌, ◌&&◌, nat_lt}
 use Rattle.std.specs.Prelude.{nat_le, ℤ}
+use Rattle.std.specs.List.{find, list_all, range_with_len}
 use Rattle.std.specs.Option.{option_map}
 use Rattle.jpeg_bits.specs.Reading.{Fault, Malformed, ◌>>=◌}
 use Rattle.jpeg_bits.specs.Entropy.{Text, advance, number_of, has_bits}
@@ -32,15 +33,10 @@ HasCodes lengths = (i : ℕ) → i < length lengths → code_value lengths i < 2
 unfoldable pub begins : List ℕ → List Bool → ℕ → Bool
 begins lengths bits i = number_of (take (slice_index lengths i) bits) == code_value lengths i
 
--- the first index that passes, of n indices from i on
-unfoldable pub first_from : (ℕ → Bool) → ℕ → ℕ → Option ℕ
-first_from test i zero = None
-first_from test i (suc n) = if test i then Some i else first_from test (i + 1) n
-
 -- the index and the length of the code that begins the bits
 unfoldable pub code_in : List ℕ → List Bool → Option (ℕ × ℕ)
 code_in lengths bits = option_map (λ i. (i, slice_index lengths i))
-    (first_from (begins lengths bits) 0 (length lengths))
+    (find (begins lengths bits) (range_with_len 0 (length lengths)))
 
 -- what a table is: its class, its counts and its symbols
 pub record Table : Type 0 where
@@ -109,12 +105,7 @@ RefusesCodes (errors.Format text) lengths = HasCodes lengths → ⊥
 RefusesCodes errors.OutOfMemory lengths = Unit {0}
 RefusesCodes _ lengths = ⊥
 
--- p holds of each number below n
-abbrev pub all_below : (ℕ → Bool) → ℕ → Bool
-all_below p zero = true
-all_below p (suc n) = all_below p n && p n
-
 -- whether the codes exist, as a test
 unfoldable pub codes_exist : List ℕ → Bool
-codes_exist lengths = all_below (λ i. nat_lt (code_value lengths i) (2 ^ slice_index lengths i))
-    (length lengths)
+codes_exist lengths = list_all (λ i. nat_lt (code_value lengths i) (2 ^ slice_index lengths i))
+    (range_with_len 0 (length lengths))

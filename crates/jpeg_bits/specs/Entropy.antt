@@ -42,24 +42,15 @@ add_byte b rest t =
       ending = t.ending;
     }
 
--- how the data ended, where rest stands after it
-abbrev pub ending_of : DataEnd → List ℕ → Ending
-ending_of (ends.Marker m) rest = Found m rest
-ending_of ends.Malformed rest = Broken Malformed
-ending_of ends.Ended rest = Broken End
+-- the end that a byte after FF makes, where rest stands after it
+abbrev pub ended_by : Option Marker → List ℕ → Ending
+ended_by None rest = Broken Malformed
+ended_by (Some m) rest = Found m rest
 
--- the end that a byte after FF makes
-abbrev pub end_by : Option Marker → DataEnd
-end_by None = ends.Malformed
-end_by (Some m) = ends.Marker m
-
--- after FF, where no stuffing stands: any more FF, and a marker; and what stands after it
-unfoldable pub filled_end : List ℕ → DataEnd × List ℕ
-filled_end [] = (ends.Ended, [])
-filled_end (c ∷ rest) = if c == 255 then filled_end rest else (end_by (marker_of c), rest)
-
-abbrev pub ending_by : DataEnd × List ℕ → Ending
-ending_by x = ending_of x.0 x.1
+-- after FF, where no stuffing stands: any more FF, and a marker
+unfoldable pub ending_at : List ℕ → Ending
+ending_at [] = Broken End
+ending_at (c ∷ rest) = if c == 255 then ending_at rest else ended_by (marker_of c) rest
 
 -- the text from a byte on
 unfoldable pub text_at : List ℕ → Text
@@ -67,7 +58,7 @@ text_at [] = no_bits (Broken End)
 text_at (b ∷ []) = if b == 255 then no_bits (Broken End) else add_byte b [] (no_bits (Broken End))
 text_at (b ∷ c ∷ rest) =
     if b == 255 then (if c == 0 then add_byte 255 rest (text_at rest)
-    else no_bits (ending_by (filled_end (c ∷ rest))))
+    else no_bits (ending_at (c ∷ rest)))
     else add_byte b (c ∷ rest) (text_at (c ∷ rest))
 
 -- The text of an interval as it is read. Bytes are taken up to 56 bits ahead, so what follows is
@@ -105,6 +96,22 @@ abbrev pub marker_from : Text → Outcome (Option Marker)
 marker_from t = marker_by t.following t.ending
 
 -- ---- a text that is partly buffered, which the meaning doesn't speak of
+
+-- how the data ended, where rest stands after it
+abbrev pub ending_of : DataEnd → List ℕ → Ending
+ending_of (ends.Marker m) rest = Found m rest
+ending_of ends.Malformed rest = Broken Malformed
+ending_of ends.Ended rest = Broken End
+
+-- the end that a byte after FF makes
+abbrev pub end_by : Option Marker → DataEnd
+end_by None = ends.Malformed
+end_by (Some m) = ends.Marker m
+
+-- after FF, where no stuffing stands: any more FF, and a marker; and what stands after it
+unfoldable pub filled_end : List ℕ → DataEnd × List ℕ
+filled_end [] = (ends.Ended, [])
+filled_end (c ∷ rest) = if c == 255 then filled_end rest else (end_by (marker_of c), rest)
 
 -- What a decoder holds: the bits read ahead, and how the data ended where that was met and not
 -- taken.

@@ -1,6 +1,7 @@
 -- The blocks of an interval (T.81, F.2 and G.2), in the order of the scan.
 use Rattle.std.specs.Prelude.{ℕ, zero, suc, ◌+◌, ◌-◌, ◌*◌, ◌^◌, ◌==◌, Bool, true, false, List, []}
 use Rattle.std.specs.Prelude.{◌∷◌, ◌++◌, length, take, drop, set, get_or, replicate, ℤ, pos, ◌+ℤ◌}
+use Rattle.std.specs.Prelude.{if◌then◌else◌}
 use Rattle.jpeg_bits.specs.Entropy.{bits_from}
 use Rattle.jpeg_bits.specs.Readers.{Reads, ◌>>=◌, gives}
 use Rattle.jpeg_bits.specs.Codes.{Table}
@@ -57,28 +58,19 @@ or_bit al z b = elim (bit_of al z == 0) [ true ↦ z +ℤ pos (b * 2 ^ al) | fal
 -- The DC coefficient and the next predictor. A refinement has one bit.
 unfoldable pub dc_part : Pass → Table → ℤ → ℤ → Reads (ℤ × ℤ)
 dc_part p dc z predictor =
-    elim (p.ss == 0) [
-      | true ↦ elim p.is_first [
-        | true ↦ first_dc dc p.al predictor
-        | false ↦ bits_from 1 >>= (λ b. gives (or_bit p.al z b, predictor))
-      ]
-      | false ↦ gives (z, predictor)
-    ]
+    if p.ss == 0 then (if p.is_first then first_dc dc p.al predictor
+    else bits_from 1 >>= (λ b. gives (or_bit p.al z b, predictor))) else gives (z, predictor)
 
 -- The band and the blocks of the run that follows, from those of the run that this block is in:
 -- where the run isn't 0 the band has no token, and in a refinement its correction bits alone.
 unfoldable pub band_part : Pass → Table → List ℤ → ℕ → Reads Band
 band_part p ac [] run = gives ([], run)
 band_part p ac (x ∷ band) zero =
-    elim p.is_first [
-      | true ↦ first_ac ac p.al (length (x ∷ band)) (x ∷ band)
-      | false ↦ refined_ac ac p.al (length (x ∷ band)) (x ∷ band)
-    ]
+    if p.is_first then first_ac ac p.al (length (x ∷ band)) (x ∷ band)
+    else refined_ac ac p.al (length (x ∷ band)) (x ∷ band)
 band_part p ac (x ∷ band) (suc run) =
-    elim p.is_first [
-      | true ↦ gives (x ∷ band, run)
-      | false ↦ corrected p.al (x ∷ band) >>= (λ all. gives (all, run))
-    ]
+    if p.is_first then gives (x ∷ band, run)
+    else corrected p.al (x ∷ band) >>= (λ all. gives (all, run))
 
 -- A block on what is kept of it: the block, the next predictor of its component, and the blocks of
 -- the run that follows.

@@ -6,8 +6,9 @@ use Rattle.jpeg_bits.specs.Reading.{Fault, Malformed, ◌>>=◌}
 use Rattle.jpeg_bits.specs.Entropy.{Text, bits_from}
 use Rattle.jpeg_bits.specs.Codes.{Table, symbol_from}
 use Rattle.jpeg_bits.specs.Bands.{Band}
-use Rattle.jpeg_bits.specs.Refinement.{is_zero, bit_of, moved, fits_i16, through_zero, with_last}
-use Rattle.jpeg_bits.specs.Refinement.{new_number}
+use Rattle.jpeg_bits.specs.Refinement.{is_zero, bit_of, corrected, corrected_by, moved, fits_i16}
+use Rattle.jpeg_bits.specs.Refinement.{new_number, through_zero, with_last}
+use Rattle.jpeg_bits.specs.Readers.{Reads, gives, read_on}
 use Rattle.jpeg_bits.specs.declared.refinement.Refinement.{Refinement}
 use Rattle.jpeg_bits.specs.declared.refinement.Refinement.TheVariants.{Zeros, New, End}
 
@@ -32,19 +33,9 @@ abbrev pub distance_of : ℕ → ℤ → ℕ → ℕ
 distance_of al z b = b * (1 - bit_of al z) * 2 ^ al
 
 -- A coefficient of a piece: where it isn't zero it has a correction bit.
-unfoldable pub corrected_from : ℕ → ℤ → Text → Result (ℤ × Text) Fault
-corrected_from al z t = if is_zero z then Ok (z, t) else (do
-  b ← bits_from 1 t
-  if b.0 == 0 then Ok (z, b.1) else (if bit_of al z == 0 then (do
-    m ← moved_within (2 ^ al) z
-    Ok (m, b.1)) else Ok (z, b.1)))
-
--- One correction bit for each coefficient that isn't zero.
-unfoldable pub corrected_at : ℕ → List ℤ → Text → Result (List ℤ × Text) Fault
-corrected_at al [] t = Ok ([], t)
-corrected_at al (z ∷ numbers) t = corrected_from al z t >>= λ f. corrected_at al numbers f.1 >>= λ
-    o.
-    Ok (f.0 ∷ o.0, o.1)
+unfoldable pub corrected_from : ℕ → ℤ → Reads ℤ
+corrected_from al z =
+    if is_zero z then gives z else (λ t. read_on (corrected_by al z) (bits_from 1 t))
 
 -- A token, and its sign bit or the bits of its run.
 unfoldable pub refinement_from : Table → ℕ → Text → Result (Refinement × Text) Fault
@@ -62,12 +53,12 @@ refinement_from table al t = do
 unfoldable pub refined_piece_at : ℕ → ReadsBand → List ℤ → Refinement → Text
     → Result (Band × Text) Fault
 refined_piece_at al others rest Zeros t =
-    corrected_at al (take (through_zero 15 rest) rest) t >>= λ front.
+    corrected al (take (through_zero 15 rest) rest) t >>= λ front.
     before front.0 (others (drop (through_zero 15 rest) rest) front.1)
 refined_piece_at al others rest (New r v) t =
-    corrected_at al (take (through_zero r rest) rest) t >>= λ front.
+    corrected al (take (through_zero r rest) rest) t >>= λ front.
     before (with_last v front.0) (others (drop (through_zero r rest) rest) front.1)
-refined_piece_at al others rest (End run) t = corrected_at al rest t >>= λ all. Ok (
+refined_piece_at al others rest (End run) t = corrected al rest t >>= λ all. Ok (
   (all.0, run),
   all.1,
 )
@@ -87,5 +78,5 @@ refined_band_from table al band t = refined_ac_at table al (length band) band t
 -- How many coefficients the piece up to zero number r has, and the rest of the band with the piece
 -- corrected.
 unfoldable pub piece_from : ℕ → ℕ → List ℤ → Text → Result ((ℕ × List ℤ) × Text) Fault
-piece_from al r rest t = corrected_at al (take (through_zero r rest) rest) t >>= λ front.
+piece_from al r rest t = corrected al (take (through_zero r rest) rest) t >>= λ front.
     Ok ((through_zero r rest, front.0 ++ drop (through_zero r rest) rest), front.1)

@@ -9,9 +9,9 @@ ghost use Rattle.jpeg_bits.specs.Masks.{MarksFrom, marked};
 ghost use Rattle.jpeg_bits.specs.Refusals.{answer_of, outcome_of, kept_refusal, IsRefused};
 ghost use Rattle.jpeg_bits.specs.Reading.{Gives, NamesFormat};
 ghost use Rattle.jpeg_bits.specs.Entropy.{Text, Takes, bits_from};
-ghost use Rattle.jpeg_bits.specs.Refinement.{bit_of, new_number};
+ghost use Rattle.jpeg_bits.specs.Refinement.{bit_of, corrected, new_number};
 ghost use Rattle.jpeg_bits.specs.Pieces.{moved_within, run_from, corrected_from, piece_from};
-ghost use Rattle.jpeg_bits.specs.Pieces.{refinement_from, refined_band_from, corrected_at};
+ghost use Rattle.jpeg_bits.specs.Pieces.{refinement_from, refined_band_from};
 ghost use Rattle.jpeg_bits.specs.Pieces.{distance_of};
 ghost use Rattle.jpeg_bits.specs.BlockView.{pass_in, IsPass};
 ghost use Rattle.jpeg_bits.specs.ZigzagParts.{band_end, band_in, rest_in, IsKeptAround};
@@ -469,7 +469,7 @@ pub(crate) fn correct_band<R: Read + Drop>(
 ) -> bool
     requires { IsPass (pass_in pass) }
     ensures band { Takes (λ _. band_in (pass_in pass) block.new)
-        (corrected_at pass.al (band_in (pass_in pass) block.old))
+        (corrected pass.al (band_in (pass_in pass) block.old))
         buffered.old source.old (outcome_of result refusal.new) buffered.new source.new }
     ensures others { KeepsOthers (pass_in pass) block.old block.new }
     ensures refused { result ≡ false → is_some refusal.new ≡ true }

@@ -33,7 +33,7 @@ pub enum Token {
 
 /// Reads a DC difference. A refusal is stored in `refusal`, and none is returned.
 #[inline(always)]
-#[tactic(auto, unfolding(crate::specs::Bands::difference))]
+#[tactic(auto, using(crate::proofs::Fast::no_difference), unfolding(crate::specs::Bands::difference))]
 pub(crate) fn read_difference<R: Read + Drop>(
     buffered: &mut BufferedBits,
     source: &mut Source<R>,

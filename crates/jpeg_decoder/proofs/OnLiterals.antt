@@ -1,13 +1,13 @@
 -- What an answer unfolds to compute the definitions of streams on a literal.
 use Rattle.std.specs.Prelude.{⊤}
 use Rattle.jpeg_bits.specs.Bands.{difference, first_ac, first_dc, token_at, token_from}
-use Rattle.jpeg_bits.specs.Codes.{begins, code_from, code_in, code_value, codes_exist, first_from}
+use Rattle.jpeg_bits.specs.Codes.{begins, code_from, code_in, code_value, codes_exist}
 use Rattle.jpeg_bits.specs.Codes.{lengths_from, symbol_from}
-use Rattle.jpeg_bits.specs.Entropy.{bits_from, extended, filled_end, text_ahead, text_at}
+use Rattle.jpeg_bits.specs.Entropy.{bits_from, ending_at, extended, text_ahead, text_at}
 use Rattle.jpeg_bits.specs.Intervals.{groups, interval, intervals}
 use Rattle.jpeg_bits.specs.Marker.{marker_of, next_marker}
 use Rattle.jpeg_bits.specs.Passes.{band_part, block_from, blocks_of, dc_part, zero_block}
-use Rattle.jpeg_bits.specs.Readers.{signed_from}
+use Rattle.jpeg_bits.specs.Readers.{each, signed_from}
 use Rattle.jpeg_bits.specs.Reading.{length_at, next_u16, skip_at, times}
 use Rattle.jpeg_bits.specs.Refinement.{corrected, refined_ac, refined_piece, through_zero, with_last}
 use Rattle.jpeg_bits.specs.Zigzag.{coefficients_in_block_order, values_in_block_order}
@@ -47,14 +47,14 @@ use Rattle.jpeg_segments.specs.Quantization as quantization
 unfoldable pub jpeg_on_literals : ⊤
 unfolding accepted adobe_at after_restarts after_scan all_spots app_at application_by
     application_segment arrays_at arrays_before band_at band_part basis begins bits_from block_from
-    blocks_of blocks_picture blocks_scan blue_of by_identifiers code_from code_in code_value
-    codes_exist codings_of coefficients_in_block_order colour_of column_of_4 column_value com_at
-    component_at component_coding component_of components_from conversion_of converted_picture
-    corrected count_at cropped dc_part dequantized difference dri_at end_segment even_part extended
-    factors_at filled_end finished_by first_ac first_dc first_from frame_at frame_of frame_segment
-    green_of gathered groups header_at huffman_segment image_of int_wrap interval intervals
-    is_flat_column length_at lengths_from line_bytes lines_of marker_of mcu_size mcu_spots meaning
-    next_marker next_u16 nothing_found odd_part own_spots part_spots pass_of picture_by picture_line
+    blocks_of blocks_picture blocks_scan blue_of by_identifiers code_from code_in code_value codes_exist
+    codings_of coefficients_in_block_order colour_of column_of_4 column_value com_at component_at
+    component_coding component_of components_from conversion_of converted_picture corrected count_at
+    cropped dc_part dequantized difference dri_at each end_segment ending_at even_part extended
+    factors_at finished_by first_ac first_dc frame_at frame_of frame_segment gathered green_of groups
+    header_at huffman_segment image_of int_wrap interval intervals is_flat_column length_at lengths_from
+    line_bytes lines_of marker_of mcu_size mcu_spots meaning next_marker next_u16 nothing_found odd_part
+    own_spots part_spots pass_of picture_by picture_line
     picture_of plane_at_end plane_by plane_of planes_from put_arrays put_blocks
     quantization.defined_table_at quantization.dqt_at quantization.quantization_from
     quantization.value_at quantization_segment red_of refined_ac refined_piece rest_at

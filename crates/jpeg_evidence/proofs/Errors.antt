@@ -1,31 +1,24 @@
 -- How far the products of the transform's matrix are from those of cosines, computed.
 use Rattle.std.proofs.Common.{◌≡◌, ℕ, zero, suc, ◌*◌, ◌<◌, ◌≤◌, ℤ, pos, ◌-ℤ◌, ◌*ℤ◌, ◌≤ℤ◌}
 use Rattle.std.proofs.Common.{Bool, true, refl, sym, ap, ◌∙◌, arith, unsigned_abs, nat_le}
-use Rattle.std.proofs.Math.Logic.{⊎_elim}
-use Rattle.std.proofs.lemmas.Bool.{cases_lt, leb-true}
+use Rattle.std.proofs.lemmas.Bool.{leb-true}
 use Rattle.std.proofs.lemmas.Int.{ints}
-use Rattle.jpeg_bits.specs.Codes.{all_below}
+use Rattle.std.specs.List.{list_all, range_with_len}
+use Rattle.jpeg_bits.proofs.Ranges.{each_passes}
 use Rattle.jpeg_pixels.specs.Samples.{sum_below, basis}
-use Rattle.jpeg_pixels.proofs.ZeroCases.{both_true}
 use Rattle.jpeg_evidence.specs.Cosines.{cosine}
 use Rattle.jpeg_evidence.specs.Exact.{weight}
 use Rattle.jpeg_evidence.proofs.Sums.{size_below}
 
-true_of_each : (p : ℕ → Bool) (n k : ℕ) → all_below p n ≡ true → k < n → p k ≡ true
-true_of_each p zero k e h = absurd (omega arith)
-true_of_each p (suc n) k e h =
-    let parts = both_true (all_below p n) (p n) e in
-    ⊎_elim (true_of_each p n k parts.0) (λ le. let is : n ≡ k = omega arith in ap p (sym is) ∙ parts.1) (cases_lt k n)
-
 abbrev is_small_row : ℕ → Bool
 is_small_row row = nat_le (size_below (basis row) 8) 30610
 
-sizes : all_below is_small_row 8 ≡ true
+sizes : list_all is_small_row (range_with_len 0 8) ≡ true
 unfolding basis
 sizes = refl
 
 pub size_of_row : (row : ℕ) → row < 8 → size_below (basis row) 8 ≤ 30610
-size_of_row row h = leb-true (size_below (basis row) 8) 30610 (true_of_each is_small_row 8 row sizes h)
+size_of_row row h = leb-true (size_below (basis row) 8) 30610 (each_passes is_small_row 0 8 row sizes (omega arith) h)
 
 -- how far the product of two entries is from that of their cosines, in units of 1 / (8 * 10^24)
 unfoldable pub error : ℕ → ℕ → ℕ → ℕ → ℤ
@@ -43,9 +36,9 @@ abbrev is_small : ℕ → ℕ → Bool
 is_small x y = nat_le (unsigned_abs (squared_errors x y)) (greatest * greatest)
 
 abbrev is_small_at : ℕ → Bool
-is_small_at x = all_below (is_small x) 8
+is_small_at x = list_all (is_small x) (range_with_len 0 8)
 
-are_small : all_below is_small_at 8 ≡ true
+are_small : list_all is_small_at (range_with_len 0 8) ≡ true
 unfolding squared_errors error weight cosine basis
 are_small = refl
 
@@ -56,4 +49,4 @@ pub errors_at_most : (x y : ℕ) → x < 8 → y < 8 → squared_errors x y ≤�
 errors_at_most x y hx hy =
     at_most_of (squared_errors x y) (greatest * greatest)
     (leb-true (unsigned_abs (squared_errors x y)) (greatest * greatest)
-    (true_of_each (is_small x) 8 y (true_of_each is_small_at 8 x are_small hx) hy))
+    (each_passes (is_small x) 0 8 y (each_passes is_small_at 0 8 x are_small (omega arith) hx) (omega arith) hy))

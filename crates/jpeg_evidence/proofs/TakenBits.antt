@@ -14,7 +14,8 @@ use Rattle.jpeg_bits.specs.Reading.{Fault, End}
 use Rattle.jpeg_bits.specs.Reading as outcomes
 use Rattle.jpeg_bits.specs.Entropy.{bits_from, number_of, Text, advance}
 use Rattle.jpeg_bits.specs.Readers.{Reads, gives, ◌>>=◌}
-use Rattle.jpeg_bits.specs.Codes.{Table, IsTable, code_from, code_in, code_value, first_from, begins, code_lengths}
+use Rattle.jpeg_bits.proofs.CodeLemmas.{first_from}
+use Rattle.jpeg_bits.specs.Codes.{Table, IsTable, code_from, code_in, code_value, begins, code_lengths}
 use Rattle.jpeg_bits.specs.Codes.{next_16, code_by, symbol_from}
 use Rattle.jpeg_bits.proofs.BufferedBits.{if_buffered}
 use Rattle.jpeg_bits.specs.Reading.{Malformed}
@@ -170,7 +171,6 @@ none-is : {A : Type 0} (a : A) → ◌≡◌ {A = Option A} None (Some a) → �
 none-is a e = cc
 
 test-found : (test : ℕ → Bool) (a n i : ℕ) → first_from test a n ≡ Some i → (test i ≡ true) × (i < a + n)
-unfolding first_from
 test-found test a zero i e = absurd (none-is i e)
 test-found test a (suc n) i e = go (test a) refl (test-found test (a + 1) n i) e
   where

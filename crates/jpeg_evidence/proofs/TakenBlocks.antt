@@ -26,7 +26,7 @@ use Rattle.jpeg_evidence.proofs.TakenRefinements.{IsKept, IsCorrected, IsRefined
 use Rattle.jpeg_evidence.proofs.TakenRefinements.{alike-none, one-bit}
 use Rattle.jpeg_evidence.proofs.TakenRefinements.{corrected-taken, refined-taken}
 use Rattle.jpeg_evidence.proofs.TakenValues.{difference-taken}
-use Rattle.std.proofs.Common.{ap₂, negsuc}
+use Rattle.std.proofs.Common.{ap₂, negsuc, if◌then◌else◌}
 use Rattle.std.specs.List.{AllByRecursion}
 use Rattle.jpeg_bits.specs.Written.{bit}
 use Rattle.jpeg_streams.specs.WrittenData.{NoneNew, corrections, low_bit, WritesRefinement}
@@ -214,10 +214,8 @@ band-taken-part p table [] run bits y t tables unsent fits sent pieces e =
 band-taken-part p table (x ∷ band) zero bits y t tables unsent fits sent pieces e = go p.is_first refl e
   where
     go : (b : Bool) → p.is_first ≡ b
-        → (elim b as (λ _. Reads Band) [
-          | true ↦ first_ac table p.al (length (x ∷ band)) (x ∷ band)
-          | false ↦ refined_ac table p.al (length (x ∷ band)) (x ∷ band)
-        ]) (alone bits) ≡ Ok (y, t) → IsCut (IsRead p table (x ∷ band) 0 y) bits t
+        → (if b then first_ac table p.al (length (x ∷ band)) (x ∷ band)
+        else refined_ac table p.al (length (x ∷ band)) (x ∷ band)) (alone bits) ≡ Ok (y, t) → IsCut (IsRead p table (x ∷ band) 0 y) bits t
     go true f k =
         let n = length (x ∷ band) in
         let is = tables (omega arith) in
@@ -236,10 +234,8 @@ band-taken-part p table (x ∷ band) (suc run) bits y t tables unsent fits sent 
     }
 
     go : (b : Bool) → p.is_first ≡ b
-        → (elim b as (λ _. Reads Band) [
-          | true ↦ gives (x ∷ band, run)
-          | false ↦ corrected p.al (x ∷ band) >>= (λ all. gives (all, run))
-        ]) (alone bits) ≡ Ok (y, t) → IsCut (IsRead p table (x ∷ band) (suc run) y) bits t
+        → (if b then gives (x ∷ band, run)
+        else corrected p.al (x ∷ band) >>= (λ all. gives (all, run))) (alone bits) ≡ Ok (y, t) → IsCut (IsRead p table (x ∷ band) (suc run) y) bits t
     go true f k = gives-taken (IsRead p table (x ∷ band) (suc run)) (x ∷ band, run) y bits t (here f) k
     go false f k = run-band p table (x ∷ band) run bits y t f (omega arith) (sent f) k
 

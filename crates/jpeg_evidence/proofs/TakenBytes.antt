@@ -4,48 +4,36 @@ use Rattle.std.proofs.Common.{◌≡◌, ℕ, zero, suc, Bool, true, false, cond
 use Rattle.std.proofs.Common.{ap, ap₂, ◌∙◌, eqb, Option, Some}
 use Rattle.std.proofs.lemmas.Bool.{eqb-true}
 use Rattle.jpeg_bits.specs.Reading.{End, Fault}
-use Rattle.jpeg_bits.specs.Entropy.{Ending, Found, Broken, bits_of, text_at, add_byte, no_bits, ending_by, ending_of}
-use Rattle.jpeg_bits.specs.Entropy.{filled_end, end_by}
+use Rattle.jpeg_bits.specs.Entropy.{Ending, Found, Broken, bits_of, text_at, add_byte, no_bits, ended_by, ending_at}
 use Rattle.jpeg_bits.specs.Marker.{marker_of}
 use Rattle.jpeg_bits.specs.Written.{stuffed, marker, bits_of_bytes}
 use Rattle.jpeg_bits.specs.declared.marker.Marker.{Marker}
-use Rattle.jpeg_bits.specs.declared.ahead.DataEnd.{DataEnd}
-use Rattle.jpeg_bits.specs.declared.ahead.DataEnd.TheVariants as ends
 use Rattle.jpeg_evidence.specs.Strict.{IsData}
 
 not-broken : (f : Fault) (m : Marker) (rest : List ℕ) → ◌≡◌ {A = Ending} (Broken f) (Found m rest) → ⊥
 not-broken f m rest e = cc
 
-end-found : (d : DataEnd) (r rest : List ℕ) (m : Marker) → ending_of d r ≡ Found m rest → (d ≡ ends.Marker m)
-    × (r ≡ rest)
-end-found x r rest m e = grind (arith, not-broken)
-
-not-malformed : (m : Marker) → ◌≡◌ {A = DataEnd} ends.Malformed (ends.Marker m) → ⊥
-not-malformed m e = cc
-
-not-ended : (m : Marker) → ◌≡◌ {A = DataEnd} ends.Ended (ends.Marker m) → ⊥
-not-ended m e = cc
-
-end-named : (o : Option Marker) (m : Marker) → end_by o ≡ ends.Marker m → o ≡ Some m
-end-named x m e = grind (arith, not-malformed)
+end-named : (o : Option Marker) (r rest : List ℕ) (m : Marker) → ended_by o r ≡ Found m rest → (o ≡ Some m) × (r ≡ rest)
+end-named o r rest m e = grind (arith, not-broken)
 
 -- fill bytes, and a marker's second byte
-filled-back : (bytes rest : List ℕ) (m : Marker) → (filled_end bytes).0 ≡ ends.Marker m → (filled_end bytes).1 ≡ rest
+filled-back : (bytes rest : List ℕ) (m : Marker) → ending_at bytes ≡ Found m rest
     → (fill : ℕ) × (code : ℕ) × (bytes ≡ replicate fill 0xFF ++ code ∷ rest) × (marker_of code ≡ Some m)
-unfolding filled_end
-filled-back [] rest m e f = absurd (not-ended m e)
-filled-back (c ∷ bytes) rest m e f = go (eqb c 255) refl (filled-back bytes rest m) e f
+unfolding ending_at
+filled-back [] rest m e = absurd (not-broken End m rest e)
+filled-back (c ∷ bytes) rest m e = go (eqb c 255) refl (filled-back bytes rest m) e
   where
     go : (b : Bool) → eqb c 255 ≡ b
-        → ((filled_end bytes).0 ≡ ends.Marker m → (filled_end bytes).1 ≡ rest
+        → (ending_at bytes ≡ Found m rest
         → (fill : ℕ) × (code : ℕ) × (bytes ≡ replicate fill 0xFF ++ code ∷ rest) × (marker_of code ≡ Some m))
-        → (cond b (filled_end bytes) (end_by (marker_of c), bytes)).0 ≡ ends.Marker m
-        → (cond b (filled_end bytes) (end_by (marker_of c), bytes)).1 ≡ rest
+        → cond b (ending_at bytes) (ended_by (marker_of c) bytes) ≡ Found m rest
         → (fill : ℕ) × (code : ℕ) × (c ∷ bytes ≡ replicate fill 0xFF ++ code ∷ rest) × (marker_of code ≡ Some m)
-    go true h more k l =
-        let r = more k l in
+    go true h more k =
+        let r = more k in
         (suc r.0, r.1, ap₂ (λ (x : ℕ) (xs : List ℕ). x ∷ xs) (eqb-true c 255 h) r.2, r.3)
-    go false h more k l = (zero, c, ap (λ (xs : List ℕ). c ∷ xs) l, end-named (marker_of c) m k)
+    go false h more k =
+        let r = end-named (marker_of c) bytes rest m k in
+        (zero, c, ap (λ (xs : List ℕ). c ∷ xs) r.1, r.0)
 
 -- The bytes of data are its bits' bytes, stuffed, and the marker after them.
 pub bytes-back : (bytes rest : List ℕ) (m : Marker) → (text_at bytes).ending ≡ Found m rest
@@ -59,10 +47,10 @@ bytes-back (b ∷ c ∷ more) rest m e =
     go : (x : Bool) → eqb b 255 ≡ x → (y : Bool) → eqb c 0 ≡ y
         → ((text_at more).ending ≡ Found m rest → IsData more (text_at more).bits m rest)
         → ((text_at (c ∷ more)).ending ≡ Found m rest → IsData (c ∷ more) (text_at (c ∷ more)).bits m rest)
-        → (cond x (cond y (add_byte 255 more (text_at more)) (no_bits (ending_by (filled_end (c ∷ more)))))
+        → (cond x (cond y (add_byte 255 more (text_at more)) (no_bits (ending_at (c ∷ more))))
         (add_byte b (c ∷ more) (text_at (c ∷ more)))).ending ≡ Found m rest
         → IsData (b ∷ c ∷ more) (cond x (cond y (add_byte 255 more (text_at more))
-        (no_bits (ending_by (filled_end (c ∷ more))))) (add_byte b (c ∷ more) (text_at (c ∷ more)))).bits m rest
+        (no_bits (ending_at (c ∷ more)))) (add_byte b (c ∷ more) (text_at (c ∷ more)))).bits m rest
     go true h true k first second f =
         let r = first f in
         record {
@@ -75,8 +63,7 @@ bytes-back (b ∷ c ∷ more) rest m e =
           has_bits = ap (λ (l : List Bool). bits_of 255 ++ l) r.has_bits;
         }
     go true h false k first second f =
-        let found = end-found (filled_end (c ∷ more)).0 (filled_end (c ∷ more)).1 rest m f in
-        let r = filled-back (c ∷ more) rest m found.0 found.1 in
+        let r = filled-back (c ∷ more) rest m f in
         record {
           data_bytes = [];
           fill = r.0;

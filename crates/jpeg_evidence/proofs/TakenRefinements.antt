@@ -2,13 +2,14 @@
 use Rattle.std.proofs.Common.{◌≡◌, ◌≢◌, ℕ, zero, suc, ◌+◌, ◌-◌, ◌*◌, ◌/◌, ◌%◌, ◌^◌, ◌<◌, ◌≤◌}
 use Rattle.std.proofs.Common.{Bool, true, false, List, [], ◌∷◌, ◌++◌, map, length, take, drop, refl, sym, ap, ap₂, ◌∙◌}
 use Rattle.std.proofs.Common.{subst, arith, Ok, eqb, ℤ, pos, negsuc, neg_ℤ, unsigned_abs}
-use Rattle.std.proofs.Common.{append_assoc, append-nil, length-append, length-take, length-drop, leb}
+use Rattle.std.proofs.Common.{append_assoc, append-nil, length-append, length-take, length-drop, leb, if◌then◌else◌}
 use Rattle.std.proofs.Math.Nat.{zero-mul, one-mul}
 use Rattle.std.proofs.lemmas.Bool.{eqb-true, eq-eqb, le-leb}
 use Rattle.std.specs.List.{AllByRecursion}
 use Rattle.jpeg_bits.specs.Entropy.{Text, bits_from}
 use Rattle.jpeg_bits.specs.Codes.{Table, IsTable, symbol_from}
-use Rattle.jpeg_bits.specs.Readers.{Reads, gives, ◌>>=◌}
+use Rattle.jpeg_bits.specs.Readers.{Reads, each, gives, ◌>>=◌}
+use Rattle.jpeg_bits.specs.Pieces.{corrected_from}
 use Rattle.jpeg_bits.specs.Bands.{Band, before_more}
 use Rattle.jpeg_bits.specs.Refinement.{is_zero, bit_of, moved, corrected_by, corrected, through_zero}
 use Rattle.jpeg_bits.specs.Refinement.{new_number, with_last, refined_piece, refined_ac}
@@ -77,7 +78,14 @@ moves al z w s t even e = grind (arith, eq-eqb, ok-parts, no-error)
 
 corrected-pos : (al m k b : ℕ) (w : ℤ) (s t : Text) → 0 < m → m * 2 ^ suc al ≡ k → b < 2
     → corrected_by al (pos k) b s ≡ Ok (w, t) → IsOld al w b × (s ≡ t)
-corrected-pos al m k b w s t some h small e = grind (arith, ok-parts, old-pos, kept-sum, even-bit, moves, moved-sum)
+corrected-pos al m k zero w s t some h small e =
+    let q = ok-parts (pos k) w s t e in
+    (old-pos al m 0 w some small (ap pos (sym (kept-sum al m) ∙ h) ∙ q.0), q.1)
+corrected-pos al m k (suc zero) w s t some h small e =
+    let q = moves al (pos k) w s t (ap (λ (x : ℕ). bit_of al (pos x)) (sym h) ∙ even-bit al m) e in
+    let sum : (2 * m + 1) * 2 ^ al ≡ k + 2 ^ al = omega (arith, moved-sum al m, h) in
+    (old-pos al m 1 w some small (ap pos sum ∙ q.0), q.1)
+corrected-pos al m k b w s t some h small e = absurd (omega arith)
 
 corrected-neg : (al m k b : ℕ) (w : ℤ) (s t : Text) → 0 < m → m * 2 ^ suc al ≡ suc k → b < 2
     → corrected_by al (negsuc k) b s ≡ Ok (w, t) → IsOld al w b × (s ≡ t)
@@ -158,15 +166,12 @@ unfolding low_bits
 one-bit b own is = grind arith
 
 one-taken : (al : ℕ) (z : ℤ) (bits : List Bool) (w : ℤ) (t : Text) → IsKept al z
-    → (elim (is_zero z) as (λ _. Reads ℤ) [
-      | true ↦ gives z
-      | false ↦ bits_from 1 >>= (λ b. corrected_by al z b)
-    ]) (alone bits) ≡ Ok (w, t) → IsCut (IsOne al z w) bits t
+    → corrected_from al z (alone bits) ≡ Ok (w, t) → IsCut (IsOne al z w) bits t
+unfolding corrected_from
 one-taken al z bits w t kept e = go (is_zero z) refl e
   where
     go : (a : Bool) → is_zero z ≡ a
-        → (elim a as (λ _. Reads ℤ) [ true ↦ gives z | false ↦ bits_from 1 >>= (λ b. corrected_by al z b) ])
-        (alone bits) ≡ Ok (w, t) → IsCut (IsOne al z w) bits t
+        → (if a then gives z else bits_from 1 >>= (λ b. corrected_by al z b)) (alone bits) ≡ Ok (w, t) → IsCut (IsOne al z w) bits t
     go true h k = gives-taken (IsOne al z) z w bits t (record {
       u = pos 0;
       are = scaled-zero al ∙ sym (zero-is z h);
@@ -202,16 +207,12 @@ nil-corrected al = record { us = []; are = refl; alike = tt; bits = refl }
 pub corrected-taken : (al : ℕ) (zs : List ℤ) (bits : List Bool) (ws : List ℤ) (t : Text)
     → AllByRecursion (IsKept al) zs → corrected al zs (alone bits) ≡ Ok (ws, t)
     → IsCut (IsCorrected al zs ws) bits t
-unfolding corrected
+unfolding corrected corrected_from each
 corrected-taken al [] bits ws t kept e =
     gives-taken (IsCorrected al []) [] ws bits t (nil-corrected al) e
 corrected-taken al (z ∷ zs) bits ws t kept e =
-    let one : Reads ℤ = elim (is_zero z) as (λ _. Reads ℤ) [
-      | true ↦ gives z
-      | false ↦ bits_from 1 >>= (λ b. corrected_by al z b)
-    ] in
     let f : ℤ → Reads (List ℤ) = λ w. corrected al zs >>= (λ others. gives (w ∷ others)) in
-    let k = bind-parts one f (alone bits) t ws e in
+    let k = bind-parts (corrected_from al z) f (alone bits) t ws e in
     let c = one-taken al z bits k.0 k.1 kept.0 k.2 in
     let more = k.1.bits in
     let rest : f k.0 (alone more) ≡ Ok (ws, t) = ap (f k.0) (sym c.rest) ∙ k.3 in
@@ -398,11 +399,9 @@ unfolding refined_piece
 last-taken al r others zs bits y t ne kept e = go (eqb r 15) refl e
   where
     go : (b : Bool) → eqb r 15 ≡ b
-        → (elim b as (λ _. Reads Band) [
-          | true ↦ corrected al (take (through_zero 15 zs) zs) >>= (λ front.
-              others (drop (through_zero 15 zs) zs) >>= (λ more. gives (before_more front more)))
-          | false ↦ bits_from r >>= (λ e. corrected al zs >>= (λ all. gives (all, 2 ^ r - 1 + e)))
-        ]) (alone bits) ≡ Ok (y, t)
+        → (if b then corrected al (take (through_zero 15 zs) zs) >>= (λ front.
+        others (drop (through_zero 15 zs) zs) >>= (λ more. gives (before_more front more)))
+        else bits_from r >>= (λ e. corrected al zs >>= (λ all. gives (all, 2 ^ r - 1 + e)))) (alone bits) ≡ Ok (y, t)
         → (e : ℕ) × (ws : List ℤ) × ((ws, 2 ^ r - 1 + e) ≡ y)
         × IsCut (Both (IsNumber r e) (IsCorrected al zs ws)) bits t
     go true h k = absurd (ne (eqb-true r 15 h))

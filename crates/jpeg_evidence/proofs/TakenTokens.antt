@@ -1,6 +1,6 @@
 -- The bits that were taken of a token are those that are written for it.
 use Rattle.std.proofs.Common.{◌≡◌, ℕ, zero, suc, ◌+◌, ◌-◌, ◌/◌, ◌%◌, ◌^◌, Bool, true, false, List, []}
-use Rattle.std.proofs.Common.{refl, arith, Ok, leb, ltb, eqb, ℤ}
+use Rattle.std.proofs.Common.{refl, arith, Ok, leb, ltb, eqb, ℤ, if◌then◌else◌}
 use Rattle.std.proofs.lemmas.Bool.{ltb-false, eqb-true, eqb-false}
 use Rattle.jpeg_bits.specs.Entropy.{Text, bits_from}
 use Rattle.jpeg_bits.specs.Readers.{Reads, gives, signed_from, ◌>>=◌}
@@ -22,10 +22,7 @@ unfolding token_at
 plain-taken room size r bits x t e = go (eqb r 15) refl e
   where
     go : (b : Bool) → eqb r 15 ≡ b
-        → (elim b as (λ _. Reads Token) [
-          | true ↦ gives Sixteen
-          | false ↦ bits_from r >>= (λ e. gives (Rest (2 ^ r - 1 + e)))
-        ]) (alone bits) ≡ Ok (x, t) → IsCut (Follows r 0 x) bits t
+        → (if b then gives Sixteen else bits_from r >>= (λ e. gives (Rest (2 ^ r - 1 + e)))) (alone bits) ≡ Ok (x, t) → IsCut (Follows r 0 x) bits t
     go true h k = gives-taken (Follows r 0) Sixteen x bits t (sixteen r (eqb-true r 15 h)) k
     go false h k =
         map-taken (bits_from r) (λ (n : ℕ). Rest (2 ^ r - 1 + n)) (IsNumber r) (Follows r 0) bits t x
@@ -38,19 +35,9 @@ unfolding token_at
 valued-taken room size r s bits x t e = go (ltb 0 (suc s)) refl (ltb r room) (leb (size + suc s) 8) e
   where
     go : (a : Bool) → ltb 0 (suc s) ≡ a → (b c : Bool)
-        → (elim a as (λ _. Reads Token) [
-          | true ↦ elim b as (λ _. Reads Token) [
-            | true ↦ signed_from (suc s) >>= (λ v. gives (Value r v))
-            | false ↦ elim c as (λ _. Reads Token) [
-              | true ↦ signed_from (suc s) >>= (λ v. gives Overlong)
-              | false ↦ gives Overlong
-            ]
-          ]
-          | false ↦ elim (eqb r 15) as (λ _. Reads Token) [
-            | true ↦ gives Sixteen
-            | false ↦ bits_from r >>= (λ e. gives (Rest (2 ^ r - 1 + e)))
-          ]
-        ]) (alone bits) ≡ Ok (x, t) → IsCut (Follows r (suc s) x) bits t
+        → (if a then (if b then signed_from (suc s) >>= (λ v. gives (Value r v))
+        else (if c then signed_from (suc s) >>= (λ v. gives Overlong) else gives Overlong))
+        else (if eqb r 15 then gives Sixteen else bits_from r >>= (λ e. gives (Rest (2 ^ r - 1 + e))))) (alone bits) ≡ Ok (x, t) → IsCut (Follows r (suc s) x) bits t
     go true h true c k =
         map-taken (signed_from (suc s)) (λ (v : ℤ). Value r v) (IsValue (suc s)) (Follows r (suc s)) bits t x
         (λ v. value-taken s bits v t) (λ v own is. value r s v own is) k

@@ -1,6 +1,6 @@
 -- The bits that were taken of a value and of a DC difference are those that are written for it.
 use Rattle.std.proofs.Common.{◌≡◌, ℕ, zero, suc, ◌-◌, ◌^◌, ◌<◌, ◌≤◌, Bool, true, false, List, []}
-use Rattle.std.proofs.Common.{refl, ap, ◌∙◌, arith, pow_pos, pow-suc, Ok, leb, eqb, nat_le}
+use Rattle.std.proofs.Common.{refl, sym, ap, ◌∙◌, arith, if◌then◌else◌, pow_pos, pow-suc, Ok, leb, eqb, nat_le}
 use Rattle.std.proofs.Common.{ℤ, pos, negsuc, ◌-ℤ◌}
 use Rattle.std.proofs.lemmas.Int.{ints}
 use Rattle.std.proofs.lemmas.Bool.{cases_lt, ltb-true, ltb-false, eqb-true}
@@ -9,7 +9,8 @@ use Rattle.jpeg_bits.specs.Reading.{Malformed}
 use Rattle.jpeg_bits.specs.Entropy.{Text, bits_from, extended}
 use Rattle.jpeg_bits.specs.Readers.{Reads, gives, refused, signed_from}
 use Rattle.jpeg_bits.specs.Codes.{Table, IsTable, symbol_from}
-use Rattle.jpeg_bits.specs.Bands.{difference, category_number}
+use Rattle.jpeg_bits.specs.Bands.{difference}
+use Rattle.jpeg_bits.proofs.Fast.{no-number}
 use Rattle.jpeg_bits.specs.Written.{low_bits, IsCoded, IsCategory, number_for}
 use Rattle.jpeg_streams.specs.WrittenData.{WritesDifference}
 use Rattle.jpeg_evidence.specs.Strict.{alone, IsCut, IsNumber, IsValue}
@@ -58,24 +59,17 @@ none-of-zero : IsValue 0 (pos 0) []
 unfolding low_bits
 none-of-zero = record { category = record { holds = omega arith; is_least = λ t h. omega arith }; are = refl }
 
-category-taken : (s : ℕ) (bits : List Bool) (u : ℤ) (t : Text) → category_number s (alone bits) ≡ Ok (u, t)
+category-taken : (s : ℕ) (bits : List Bool) (u : ℤ) (t : Text) → signed_from s (alone bits) ≡ Ok (u, t)
     → IsCut (IsValue s u) bits t
-category-taken zero bits u t e = gives-taken (IsValue 0) (pos 0) u bits t none-of-zero e
-category-taken (suc s) bits u t e = go (eqb (suc s) 0) refl e
-  where
-    go : (b : Bool) → eqb (suc s) 0 ≡ b
-        → (elim b as (λ _. Reads ℤ) [ true ↦ gives (pos 0) | false ↦ signed_from (suc s) ]) (alone bits) ≡ Ok (u, t)
-        → IsCut (IsValue (suc s) u) bits t
-    go true h k = let z = eqb-true (suc s) 0 h in absurd (omega (arith, z))
-    go false h k = value-taken s bits u t k
+category-taken zero bits u t e =
+    gives-taken (IsValue 0) (pos 0) u bits t none-of-zero (sym (no-number (alone bits)) ∙ e)
+category-taken (suc s) bits u t e = value-taken s bits u t e
 
 listed-taken : (s : ℕ) (bits : List Bool) (u : ℤ) (t : Text)
-    → (elim (nat_le s 11) as (λ _. Reads ℤ) [ true ↦ category_number s | false ↦ refused ]) (alone bits) ≡ Ok (u, t)
-    → IsCut (IsValue s u) bits t
+    → (if nat_le s 11 then signed_from s else refused) (alone bits) ≡ Ok (u, t) → IsCut (IsValue s u) bits t
 listed-taken s bits u t e = go (leb s 11) e
   where
-    go : (b : Bool) → (elim b as (λ _. Reads ℤ) [ true ↦ category_number s | false ↦ refused ]) (alone bits)
-        ≡ Ok (u, t) → IsCut (IsValue s u) bits t
+    go : (b : Bool) → (if b then signed_from s else refused) (alone bits) ≡ Ok (u, t) → IsCut (IsValue s u) bits t
     go true k = category-taken s bits u t k
     go false k = absurd (no-error Malformed (u, t) k)
 
@@ -84,7 +78,7 @@ pub difference-taken : (table : Table) (bits : List Bool) (u : ℤ) (t : Text) �
     → difference table (alone bits) ≡ Ok (u, t) → IsCut (WritesDifference table u) bits t
 unfolding difference
 difference-taken table bits u t is e =
-    let f : ℕ → Reads ℤ = λ s. elim (nat_le s 11) as (λ _. Reads ℤ) [ true ↦ category_number s | false ↦ refused ] in
+    let f : ℕ → Reads ℤ = λ s. if nat_le s 11 then signed_from s else refused in
     let r = bind-cut (symbol_from table) f bits t u (IsCoded table) (λ s. IsValue s u) e
     (λ s left k. symbol-taken table bits s left is k)
     (λ s more h k. listed-taken s more u t k) in

@@ -3,7 +3,7 @@
 use Rattle.std.specs.Prelude.{ℕ, zero, suc, ◌+◌, ◌-◌, ◌*◌, ◌%◌, ◌&&◌, ◌||◌, nat_le, nat_lt}
 use Rattle.std.specs.Prelude.{Bool, true, false, List, [], ◌∷◌, ℤ, pos, negsuc, neg_ℤ, ◌+ℤ◌, ◌-ℤ◌}
 use Rattle.std.specs.Prelude.{◌*ℤ◌, unsigned_abs, slice_index_or, if◌then◌else◌}
-use Rattle.jpeg_bits.specs.Codes.{all_below}
+use Rattle.std.specs.List.{list_all, range_with_len}
 use Rattle.jpeg_pixels.specs.Samples.{basis}
 
 abbrev pub unit : ℕ
@@ -48,5 +48,5 @@ is_entry row k =
 
 -- each entry but those of DC, which are 4096
 unfoldable pub are_entries : Bool
-are_entries = all_below (λ row. all_below (λ k. is_entry row (k + 1)) 7
-    && is_near 0 (basis row 0) (pos 4096)) 8
+are_entries = list_all (λ row. list_all (is_entry row) (range_with_len 1 7)
+    && is_near 0 (basis row 0) (pos 4096)) (range_with_len 0 8)

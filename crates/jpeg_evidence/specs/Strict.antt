@@ -2,11 +2,11 @@
 use Rattle.std.specs.Prelude.{◌≡◌, ◌≢◌, ℕ, ℤ, suc, ◌<◌, ◌+◌, ◌-◌, ◌*◌, ◌^◌, ◌++◌, Bool, List, [], Some}
 use Rattle.std.specs.Prelude.{Ok, map, pos, ◌*ℤ◌, ◌≤◌, unsigned_abs, slice_index}
 use Rattle.std.specs.Prelude.{◌-ℤ◌}
-use Rattle.std.specs.Prelude.{true, false, length, ◌+ℤ◌, ◌∷◌, get_or, set, take, drop}
+use Rattle.std.specs.Prelude.{filter, true, false, length, ◌+ℤ◌, ◌∷◌, get_or, set, take, drop}
 use Rattle.std.specs.List.{AllByRecursion}
 use Rattle.jpeg_bits.specs.Refinement.{corrected, is_zero, through_zero}
 use Rattle.jpeg_bits.specs.Bands.{difference, token_from, wrapped}
-use Rattle.jpeg_streams.specs.Levels.{cut_ac, cut_dc, numbers_at}
+use Rattle.jpeg_streams.specs.Levels.{cut_by, floor_at, numbers_at, toward_zero}
 use Rattle.jpeg_streams.specs.WrittenData.{WritesBand, WritesInterval, WritesDifference}
 use Rattle.jpeg_streams.specs.WrittenData.{WritesAc, WritesDc, WritesIntervals, no_numbers}
 use Rattle.jpeg_bits.specs.Passes.{Block, Pass, Via, band_of, block_from, blocks_of, dc_part}
@@ -111,12 +111,7 @@ pub record IsBand (table : Table) (al : ℕ) (band : List ℤ) (run : ℕ) (own 
 
 -- how many coefficients are zero
 unfoldable pub count_zeros : List ℤ → ℕ
-count_zeros [] = 0
-count_zeros (z ∷ numbers) = elim (is_zero z) [
-  | true ↦ suc (count_zeros numbers)
-  | false ↦
-      count_zeros numbers
-]
+count_zeros numbers = length (filter is_zero numbers)
 
 -- The pieces of a band fit, one after the other: each that goes through a zero has it.
 pub data PiecesFit (table : Table) (al : ℕ) : List ℤ → List Bool → Type 0 where
@@ -156,9 +151,9 @@ pub record BlockFits (p : Pass) (via : Via) (predictor : ℤ) (run : ℕ) (old :
   pub tokens_fit : p.is_first ≡ true → run ≡ 0 → (d : ℤ × ℤ) (more : List Bool)
       → dc_part p via.dc old.dc predictor (alone bits) ≡ Ok (d, alone more)
       → TokensFit via.ac p.al (length (band_of p old.acs)) more
-  pub dc_sent : p.ss ≡ 0 → p.is_first ≡ false → cut_dc old.dc (Some (suc p.al)) ≡ old.dc
+  pub dc_sent : p.ss ≡ 0 → p.is_first ≡ false → cut_by floor_at old.dc (Some (suc p.al)) ≡ old.dc
   pub acs_sent : p.is_first ≡ false
-      → AllByRecursion (λ z. cut_ac z (Some (suc p.al)) ≡ z) (band_of p old.acs)
+      → AllByRecursion (λ z. cut_by toward_zero z (Some (suc p.al)) ≡ z) (band_of p old.acs)
   pub pieces_fit : p.is_first ≡ false → run ≡ 0 → (d : ℤ × ℤ) (more : List Bool)
       → dc_part p via.dc old.dc predictor (alone bits) ≡ Ok (d, alone more)
       → PiecesFit via.ac p.al (band_of p old.acs) more

@@ -6,9 +6,8 @@
 ghost use Rattle.std.specs.Prelude.{◌≡◌, ◌-ℤ◌, ℕ, suc, true, false, pos, negsuc, neg_ℤ, Ok, Err};
 ghost use Rattle.std.specs.Prelude.{◌+◌, ◌*◌, ◌<◌, ◌≤◌, ◌≤ℤ◌, List, ℤ};
 ghost use Rattle.std.specs.Prelude.{Some, None, [], ◌∷◌, ◌++◌, map, replicate, codes};
-ghost use Rattle.std.specs.List.{range_with_len};
+ghost use Rattle.std.specs.List.{list_all, range_with_len};
 ghost use Rattle.jpeg_bits.specs.Bands.{first_ac, token_at};
-ghost use Rattle.jpeg_bits.specs.Codes.{all_below};
 ghost use Rattle.jpeg_bits.specs.DefaultTables.{luminance_dc, chrominance_dc};
 ghost use Rattle.jpeg_bits.specs.DefaultTables.{luminance_ac, chrominance_ac};
 ghost use Rattle.jpeg_bits.specs.Reading.{Malformed};
@@ -58,8 +57,10 @@ pub fn cosines_are_cosines()
     ensures first { cosine 0 ≡ pos unit }
     ensures middle { cosine 8 ≡ pos 0 }
     ensures last { cosine 16 ≡ neg_ℤ (pos unit) }
-    ensures falls { all_below (λ m. is_positive (cosine m -ℤ cosine (suc m))) 16 ≡ true }
-    ensures added { all_below (λ i. all_below (λ j. adds i j) 17) 17 ≡ true }
+    ensures falls {
+        list_all (λ m. is_positive (cosine m -ℤ cosine (suc m))) (range_with_len 0 16) ≡ true }
+    ensures added { list_all (λ i. list_all (adds i) (range_with_len 0 17)) (range_with_len 0 17)
+        ≡ true }
 {}
 
 /// The matrix of the inverse transform is that of the cosine transform (T.81, A.3.3), each entry

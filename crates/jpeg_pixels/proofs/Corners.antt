@@ -4,18 +4,18 @@ use Rattle.std.proofs.Common.{ap, ◌∙◌, map, FitsSigned, of_z, arith, true,
 use Rattle.std.proofs.Common.{cond, replicate, ◌%◌, ◌-◌, ◌++◌, ◌∷◌, [], nat_eq, lit≤, lit<, rules}
 use Rattle.std.proofs.lemmas.Int.{ints, int_wrap_fits}
 use Rattle.std.proofs.lemmas.Simd.{bitmask_splat, bit_mask_l, map-map, get_or-chunk, length-chunk}
-use Rattle.std.proofs.lemmas.Bool.{eqb-true}
+use Rattle.std.proofs.lemmas.Bool.{and_parts, eqb-true}
 use Rattle.std.proofs.lemmas.List.FromFn.{fill_by_all, length-map-range_with_len, get_or-map-range_with_len}
 use Rattle.std.specs.Int.{w16, w32, int_wrap}
 use Rattle.std.specs.Int.Bits.{bit_or}
 use lib.Lanes.{zip2, mask_l, top, pick_l, chunk}
 use Rattle.jpeg_pixels.specs.declared.arch.Rows.{Rows}
 use Rattle.jpeg_pixels.specs.LaneRows.{HasNumbers, HasZeros, IsInCorner}
-use Rattle.jpeg_pixels.specs.Samples.{is_zero_at, is_flat_column, dequantized, column_value}
+use Rattle.jpeg_pixels.specs.Samples.{dequantized, column_value}
 use Rattle.jpeg_pixels.proofs.Columns.{flat_value}
-use Rattle.jpeg_pixels.proofs.FlatBlocks.{all_below_true}
+use Rattle.jpeg_pixels.proofs.FlatBlocks.{all_flat}
 use Rattle.jpeg_pixels.proofs.LaneSums.{lanes_same}
-use Rattle.jpeg_pixels.proofs.ZeroCases.{none_of, both_true}
+use Rattle.jpeg_pixels.proofs.ZeroCases.{none_of}
 use Rattle.jpeg_pixels.proofs.LaneRows.{eight_cases}
 use Rattle.jpeg_pixels.proofs.LaneChoice.{IsBits, bits_at, or_both, or_zero, half_zero}
 use Rattle.std.proofs.lemmas.Grind.{common_steps}
@@ -37,10 +37,10 @@ no_product_below coefficients quantization corner row column below h h' = search
 -- and to its right each column is flat, and 0
 pub no_value_right : (coefficients : List ℤ) (quantization : List ℕ) → IsInCorner coefficients → (row column : ℕ)
     → 4 ≤ column → column < 8 → column_value coefficients quantization row column ≡ pos 0
-unfolding dequantized is_flat_column
+unfolding dequantized
 no_value_right coefficients quantization corner row column right h =
     flat_value coefficients quantization row column
-    (all_below_true (is_zero_at coefficients column) 7 (λ k l. ap (λ z. unsigned_abs z == 0)
+    (all_flat coefficients column (λ k l. ap (λ z. unsigned_abs z == 0)
     (corner.right (suc k) column (omega arith) right h)))
     ∙ ap (λ z. int_wrap w32 (pos 4 *ℤ z))
     (nothing_times _ (get_or quantization (0 * 8 + column) 0) (corner.right 0 column (omega arith) right h))
@@ -81,7 +81,7 @@ pub last_lanes : {v : List ℕ} {f : ℕ → ℕ} → IsBits v f
 last_lanes bits = record { is = ap (λ (l : List ℕ). pick_l 0 (l ++ l) (4 ∷ 5 ∷ 6 ∷ 7 ∷ 4 ∷ 5 ∷ 6 ∷ 7 ∷ [])) bits.is }
 
 parts : (a b : ℕ) → eqb (bit_or a b) 0 ≡ true → (eqb a 0 ≡ true) × (eqb b 0 ≡ true)
-parts a b e = both_true (eqb a 0) (eqb b 0) (sym (or_zero a b) ∙ e)
+parts a b e = and_parts (eqb a 0) (eqb b 0) (sym (or_zero a b) ∙ e)
 
 -- where four rows have only zeros in a lane
 record AreZero (a b c d : ℕ) : Type 0 where

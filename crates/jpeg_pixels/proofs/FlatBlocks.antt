@@ -5,20 +5,21 @@ use Rattle.std.proofs.Math.Logic.{⊎_elim}
 use Rattle.std.proofs.lemmas.Bool.{cases_lt}
 use Rattle.std.proofs.lemmas.Int.{int_wrap_fits}
 use Rattle.std.specs.Int.{int_shr}
-use Rattle.jpeg_pixels.specs.Samples.{is_flat_column, dequantized, sample, clamped}
-use Rattle.jpeg_bits.specs.Codes.{all_below}
+use Rattle.jpeg_pixels.specs.Samples.{is_flat_column, is_zero_at, dequantized, sample, clamped}
 use Rattle.jpeg_pixels.specs.Samples.{HasFirstOnly}
+use Rattle.jpeg_bits.proofs.Ranges.{all_pass}
 use Rattle.jpeg_pixels.proofs.Columns.{flat_value}
 use Rattle.jpeg_pixels.proofs.Sums.{transformed_one}
 
-pub all_below_true : (p : ℕ → Bool) (n : ℕ) → ((k : ℕ) → k < n → p k ≡ true) → all_below p n ≡ true
-all_below_true p zero h = refl
-all_below_true p (suc n) h = λ i. all_below_true p n (λ k l. h k (omega arith)) i && h n (omega arith) i
+pub all_flat : (coefficients : List ℤ) (column : ℕ)
+    → ((k : ℕ) → k < 7 → is_zero_at coefficients column k ≡ true)
+    → is_flat_column coefficients column ≡ true
+unfolding is_flat_column
+all_flat coefficients column h = all_pass _ 0 7 (λ k l m. h k (omega arith))
 
 is_flat : (coefficients : List ℤ) (column : ℕ) → HasFirstOnly coefficients → column < 8
     → is_flat_column coefficients column ≡ true
-unfolding is_flat_column
-is_flat coefficients column first h = search (rules, all_below_true, unsigned_abs)
+is_flat coefficients column first h = search (rules, all_flat, unsigned_abs)
 
 no_product : (coefficients : List ℤ) (quantization : List ℕ) (column : ℕ) → HasFirstOnly coefficients → 0 < column
     → column < 8 → dequantized coefficients quantization 0 column ≡ pos 0

@@ -4,10 +4,11 @@ use Rattle.std.proofs.Common.{refl, ap, ◌∙◌, arith, Bool, true, ◌==◌, 
 use Rattle.std.proofs.lemmas.Int.{ints}
 use Rattle.std.proofs.lemmas.Bool.{cases_lt}
 use Rattle.std.specs.Int.{int_shr}
-use Rattle.jpeg_bits.specs.Codes.{all_below}
+use Rattle.std.specs.List.{list_all, range_with_len}
+use Rattle.jpeg_bits.proofs.Ranges.{each_passes}
 use Rattle.jpeg_pixels.specs.Samples.{clamped}
 use Rattle.jpeg_pixels.specs.Colour.{centred_of, red_of, green_of, blue_of}
-use Rattle.jpeg_pixels.proofs.ZeroCases.{below_true, none_of}
+use Rattle.jpeg_pixels.proofs.ZeroCases.{none_of}
 
 -- a brightness of y units may be added before a shift by 20 bits, or after it
 shifted : (y : ℕ) (z sum : ℤ) → sum ≡ pos (y * 2 ^ 20) +ℤ z
@@ -28,12 +29,12 @@ abbrev is_same : ℕ → ℕ → ℕ → Bool
 is_same factor short c = unsigned_abs (difference factor c -ℤ short_difference short c) == 0
 
 -- if they do at each byte, they do so with a brightness
-by_short : (factor short : ℕ) → all_below (is_same factor short) 256 ≡ true
+by_short : (factor short : ℕ) → list_all (is_same factor short) (range_with_len 0 256) ≡ true
     → (y c : ℕ) → c < 256 → int_shr (pos (y * 2 ^ 20 + 2 ^ 19) +ℤ pos factor *ℤ centred_of c) 20
     ≡ pos y +ℤ short_difference short c
 by_short factor short same y c h =
     let none = none_of (difference factor c -ℤ short_difference short c)
-    (below_true (is_same factor short) 256 c same h) in
+    (each_passes (is_same factor short) 0 256 c same (omega arith) h) in
     let equal : difference factor c ≡ short_difference short c = omega (arith, ints, none) in
     shifted y (pos 524288 +ℤ pos factor *ℤ centred_of c) _ (omega (arith, ints))
     ∙ ap (λ z. pos y +ℤ z) equal

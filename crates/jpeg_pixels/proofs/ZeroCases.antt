@@ -7,11 +7,10 @@ use Rattle.std.proofs.lemmas.Bool.{cases_lt, eqb-true}
 use Rattle.std.proofs.lemmas.Int.{ints, int_wrap_fits}
 use Rattle.std.specs.Int.{w32, int_shr, int_wrap}
 use Rattle.jpeg_pixels.specs.Samples.{is_flat_column, dequantized, transformed, column_value}
-use Rattle.jpeg_bits.specs.Codes.{all_below}
 use Rattle.jpeg_pixels.specs.Samples.{sample, clamped}
+use Rattle.jpeg_bits.proofs.Ranges.{each_passes}
 use Rattle.jpeg_pixels.proofs.Columns.{flat_value}
 use Rattle.jpeg_pixels.proofs.Sums.{transformed_one}
-use Rattle.std.proofs.lemmas.Bool.Decides.{nat_tests}
 
 pub zero_row : (coefficients : List ℤ) (quantization : List ℕ) (x y : ℕ) → x < 8
     → ((k : ℕ) → 0 < k → k < 8 → column_value coefficients quantization y k ≡ pos 0)
@@ -19,15 +18,6 @@ pub zero_row : (coefficients : List ℤ) (quantization : List ℕ) (x y : ℕ) �
     ≡ clamped (int_shr (int_wrap w32 (pos 4096 *ℤ column_value coefficients quantization y 0 +ℤ pos 16842752)) 17)
 unfolding sample
 zero_row coefficients quantization x y h none = simp (transformed_one)
-
-pub both_true : (a b : Bool) → (a && b) ≡ true → (a ≡ true) × (b ≡ true)
-both_true a b h1 = grind (arith, nat_tests)
-
-pub below_true : (p : ℕ → Bool) (n k : ℕ) → all_below p n ≡ true → k < n → p k ≡ true
-below_true p zero k e h = absurd (omega arith)
-below_true p (suc n) k e h =
-    let parts = both_true (all_below p n) (p n) e in
-    ⊎_elim (below_true p n k parts.0) (λ le. let is : n ≡ k = omega arith in ap p (sym is) ∙ parts.1) (cases_lt k n)
 
 pub none_of : (z : ℤ) → (unsigned_abs z == 0) ≡ true → z ≡ pos 0
 none_of z e = let n : unsigned_abs z ≡ 0 = eqb-true (unsigned_abs z) 0 e in omega (arith, ints, n)
@@ -37,7 +27,7 @@ no_product : (coefficients : List ℤ) (quantization : List ℕ) (column k : ℕ
     ≡ true → 0 < k → k < 8 → dequantized coefficients quantization k column ≡ pos 0
 unfolding dequantized is_flat_column
 no_product coefficients quantization column zero flat some h = absurd (omega arith)
-no_product coefficients quantization column (suc k) flat some h = search (rules, below_true, get_or, none_of)
+no_product coefficients quantization column (suc k) flat some h = search (rules, each_passes, get_or, none_of)
 
 -- four times a number, by way of 4096 times
 four_of : (p : ℤ) → neg_ℤ (pos 524288) ≤ℤ p → p <ℤ pos 524288 → int_wrap w32 (pos 4 *ℤ p)

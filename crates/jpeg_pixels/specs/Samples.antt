@@ -5,7 +5,7 @@ use Rattle.std.specs.Prelude.{◌≡◌, ℕ, zero, suc, ◌<◌, ◌+◌, ◌*�
 use Rattle.std.specs.Prelude.{if◌then◌else◌, List, [], ◌∷◌, ℤ, pos, negsuc, neg_ℤ, ◌+ℤ◌, ◌*ℤ◌}
 use Rattle.std.specs.Prelude.{slice_index, slice_index_or, min, unsigned_abs}
 use Rattle.std.specs.Int.{w32, int_wrap, int_shr}
-use Rattle.jpeg_bits.specs.Codes.{all_below}
+use Rattle.std.specs.List.{list_all, range_with_len}
 
 -- f 0 + f 1 + .. + f (n - 1)
 abbrev pub sum_below : (ℕ → ℤ) → ℕ → ℤ
@@ -56,7 +56,8 @@ is_zero_at coefficients column k =
 
 -- below the first row, each coefficient of the column is 0
 unfoldable pub is_flat_column : List ℤ → ℕ → Bool
-is_flat_column coefficients column = all_below (is_zero_at coefficients column) 7
+is_flat_column coefficients column =
+    list_all (is_zero_at coefficients column) (range_with_len 0 7)
 
 -- the columns are transformed first: the value at this row of the column
 unfoldable pub column_value : List ℤ → List ℕ → ℕ → ℕ → ℤ

@@ -12,7 +12,7 @@ use Rattle.std.proofs.lemmas.Bool.{eqb-true}
 use Rattle.std.specs.List.{AllByRecursion}
 use Rattle.jpeg_bits.specs.Bands.{wrapped}
 use Rattle.jpeg_bits.specs.Passes.{Pass, Block, band_of, with_band, before_band, band_size}
-use Rattle.jpeg_streams.specs.Levels.{floor_at, toward_zero, numbers_at, Levels, cut_ac, cut_acs, cut, IsLegal}
+use Rattle.jpeg_streams.specs.Levels.{floor_at, toward_zero, numbers_at, Levels, cut_by, cut_acs, cut, IsLegal}
 use Rattle.jpeg_streams.specs.Levels.{sent_after, Is8Bit}
 use Rattle.jpeg_streams.specs.WrittenData.{no_numbers}
 use Rattle.jpeg_streams.proofs.SentBlocks.{halved, scaled, kept, InRange, InDcRange, Suits}
@@ -49,7 +49,7 @@ floor-fits al x low h k =
 
 pub cut-take : (n : ℕ) (cs : List ℤ) (ls : List (Option ℕ)) → take n (cut_acs cs ls) ≡ cut_acs (take n cs) (take n ls)
 unfolding cut_acs
-cut-take (suc n) (c ∷ cs) (l ∷ ls) = ap (λ (m : List ℤ). cut_ac c l ∷ m) (cut-take n cs ls)
+cut-take (suc n) (c ∷ cs) (l ∷ ls) = ap (λ (m : List ℤ). cut_by toward_zero c l ∷ m) (cut-take n cs ls)
 cut-take n cs ls = refl
 
 pub cut-nil : (cs : List ℤ) → [] ≡ cut_acs cs []
@@ -66,7 +66,7 @@ pub cut-append : (xs ys : List ℤ) (ms ns : List (Option ℕ)) → length xs �
     → cut_acs (xs ++ ys) (ms ++ ns) ≡ cut_acs xs ms ++ cut_acs ys ns
 unfolding cut_acs
 cut-append [] ys [] ns h = refl
-cut-append (x ∷ xs) ys (m ∷ ms) ns h = ap (λ (l : List ℤ). cut_ac x m ∷ l) (cut-append xs ys ms ns (omega arith))
+cut-append (x ∷ xs) ys (m ∷ ms) ns h = ap (λ (l : List ℤ). cut_by toward_zero x m ∷ l) (cut-append xs ys ms ns (omega arith))
 cut-append xs ys ms ns h = absurd (omega arith)
 
 pub cut-unsent : (cs : List ℤ) (ls : List (Option ℕ)) → length cs ≡ length ls → AllByRecursion (λ x. x ≡ None) ls

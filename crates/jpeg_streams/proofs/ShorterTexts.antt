@@ -4,10 +4,9 @@ use Rattle.std.proofs.Common.{Bool, true, false, length, arith, ◌≡◌, refl,
 use Rattle.std.specs.Prelude.{◌==◌, if◌then◌else◌}
 use Rattle.jpeg_bits.specs.Reading as reading
 use Rattle.jpeg_bits.specs.Reading.{Outcome, Fault}
-use Rattle.jpeg_bits.specs.Entropy.{Text, add_byte, ending_by, filled_end, marker_from, Ending, Found}
+use Rattle.jpeg_bits.specs.Entropy.{Text, add_byte, ending_at, marker_from, Ending, Found}
 use Rattle.jpeg_bits.specs.Entropy.{Broken, no_bits, text_ahead, text_at, advance}
 use Rattle.jpeg_bits.specs.Readers.{Reads}
-use Rattle.jpeg_bits.specs.declared.ahead.DataEnd.{DataEnd}
 use Rattle.jpeg_streams.proofs.Shorter.{LeavesBelow, below-ok, below-err}
 use Rattle.jpeg_streams.proofs.TakenTexts.{TakesBits}
 
@@ -35,13 +34,10 @@ repeated-below limit (suc n) p ps h a = (h, repeated-below limit n p ps h a)
 
 -- ---- the text of some bytes
 
-filled-shorter : (bytes : List ℕ) → length (filled_end bytes).1 ≤ length bytes
-unfolding filled_end
-filled-shorter [] = omega arith
-filled-shorter (c ∷ rest) = search (rules, filled-shorter rest)
-
-ending-below : (limit : ℕ) (x : DataEnd × List ℕ) → length x.1 < limit → EndsBelow limit (ending_by x)
-ending-below limit x h = search rules
+ending-below : (limit : ℕ) (bytes : List ℕ) → length bytes < limit → EndsBelow limit (ending_at bytes)
+unfolding ending_at
+ending-below limit [] h = tt
+ending-below limit (c ∷ rest) h = search (rules, ending-below limit rest (omega arith))
 
 no_bits-below : (limit : ℕ) (e : Ending) → EndsBelow limit e → IsBelow limit (no_bits e)
 no_bits-below limit e h = record { following = tt; ending = h }
@@ -64,7 +60,7 @@ unfolding text_at
 text-below limit (b ∷ c ∷ rest) h = cond-below limit (b == 255) _ _
     (cond-below limit (c == 0) _ _ (add-below limit 255 rest (text_at rest) (omega arith)
     (text-below limit rest (omega arith)))
-    (no_bits-below limit _ (ending-below limit (filled_end (c ∷ rest)) (omega (arith, filled-shorter (c ∷ rest))))))
+    (no_bits-below limit _ (ending-below limit (c ∷ rest) (omega arith))))
     (add-below limit b (c ∷ rest) (text_at (c ∷ rest)) (omega arith) (text-below limit (c ∷ rest) (omega arith)))
 text-below limit bytes h = search (rules, no_bits-below, cond-below, add-below)
 

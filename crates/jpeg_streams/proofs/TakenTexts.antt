@@ -6,12 +6,12 @@ use Rattle.std.proofs.lemmas.List.{drop-drop}
 use Rattle.jpeg_bits.specs.Reading.{Fault, End, Malformed}
 use Rattle.jpeg_bits.specs.Reading as outcomes
 use Rattle.jpeg_bits.specs.Entropy.{advance, bits_from, has_bits, number_of, Broken, Ending, Found, Text}
-use Rattle.jpeg_bits.specs.Readers.{Reads, read_on, gives, refused, signed_from, text, ◌>>=◌}
+use Rattle.jpeg_bits.specs.Readers.{Reads, each, read_on, gives, refused, signed_from, text, ◌>>=◌}
 use Rattle.jpeg_bits.specs.Codes.{Table, code_by, code_from, code_in, code_lengths, next_16}
 use Rattle.jpeg_bits.specs.Codes.{symbol_from}
 use Rattle.std.specs.Prelude.{◌==◌, nat_lt}
 use Rattle.std.proofs.lemmas.Grind.{common_steps}
-use Rattle.jpeg_bits.specs.Bands.{Band, after_token, category_number, difference, first_ac, first_dc, token_at, token_from}
+use Rattle.jpeg_bits.specs.Bands.{Band, after_token, difference, first_ac, first_dc, token_at, token_from}
 use Rattle.jpeg_bits.specs.Refinement.{corrected, corrected_by, refined_ac, refined_piece}
 use Rattle.jpeg_bits.specs.Passes.{Block, Pass, Via, band_part, block_from, blocks_of, dc_part}
 use Rattle.jpeg_bits.specs.declared.tokens.Token.{Token}
@@ -92,10 +92,21 @@ refused-takes A = record {
   ) k);
 }
 
+pub if-takes : {A : Type 0} (b : Bool) (p q : Reads A) → TakesBits p → TakesBits q
+    → TakesBits (if b then p else q)
+if-takes true p q x y = x
+if-takes false p q x y = y
+
 pub elim-takes : {A : Type 0} (b : Bool) (p q : Reads A) → TakesBits p → TakesBits q
     → TakesBits (elim b as (λ _. Reads A) [ true ↦ p | false ↦ q ])
 elim-takes true p q x y = x
 elim-takes false p q x y = y
+
+each-takes : {A B : Type 0} (read : A → Reads B) (xs : List A) → ((x : A) → TakesBits (read x))
+    → TakesBits (each read xs)
+unfolding each
+each-takes read [] h = gives-takes []
+each-takes read (x ∷ xs) h = search (rules, bind-takes, gives-takes, each-takes read xs h)
 
 -- ---- bits and codes
 
@@ -183,14 +194,11 @@ signed-takes n = search (rules, bind-takes, bits-takes, gives-takes)
 
 -- ---- first passes
 
-category-takes : (s : ℕ) → TakesBits (category_number s)
-category-takes s = search (rules, elim-takes, gives-takes, signed-takes)
-
 difference-takes : (table : Table) → TakesBits (difference table)
 unfolding difference
 difference-takes table =
     bind-takes (symbol_from table) _ (symbol-takes table) (λ s.
-    elim-takes (nat_le s 11) (category_number s) refused (category-takes s) (refused-takes ℤ))
+    if-takes (nat_le s 11) (signed_from s) refused (signed-takes s) (refused-takes ℤ))
 
 first_dc-takes : (table : Table) (al : ℕ) (predictor : ℤ) → TakesBits (first_dc table al predictor)
 unfolding first_dc
@@ -198,9 +206,9 @@ first_dc-takes table al predictor = search (rules, bind-takes, difference-takes,
 
 token_at-takes : (room size r s : ℕ) → TakesBits (token_at room size r s)
 unfolding token_at
-token_at-takes room size r s = elim-takes (nat_lt 0 s) _ _
-    (grind (arith, common_steps, elim-takes, bind-takes, signed-takes, gives-takes))
-    (search (rules, elim-takes, gives-takes, bind-takes, bits-takes))
+token_at-takes room size r s = if-takes (nat_lt 0 s) _ _
+    (grind (arith, common_steps, if-takes, bind-takes, signed-takes, gives-takes))
+    (search (rules, if-takes, gives-takes, bind-takes, bits-takes))
 
 after-takes : (al : ℕ) (others : List ℤ → Reads Band) (rest : List ℤ)
     → ((rest : List ℤ) → TakesBits (others rest)) → (token : Token) → TakesBits (after_token al others rest token)
@@ -215,34 +223,24 @@ first_ac-takes table al n rest = search (rules, gives-takes, refused-takes)
 
 dc-takes : (p : Pass) (dc : Table) (z predictor : ℤ) → TakesBits (dc_part p dc z predictor)
 unfolding dc_part
-dc-takes p dc z predictor = elim-takes (p.ss == 0) _ _
-    (elim-takes p.is_first _ _ (first_dc-takes dc p.al predictor)
+dc-takes p dc z predictor = if-takes (p.ss == 0) _ _
+    (if-takes p.is_first _ _ (first_dc-takes dc p.al predictor)
     (bind-takes (bits_from 1) _ (bits-takes 1) (λ b. gives-takes _)))
     (gives-takes _)
 
 -- ---- refinements
 
 moved-takes : (al : ℕ) (z : ℤ) (b : ℕ) → TakesBits (corrected_by al z b)
-moved-takes al z zero = gives-takes z
-moved-takes al z (suc b) = grind (arith, common_steps, elim-takes, gives-takes, refused-takes)
+moved-takes al z b = grind (arith, common_steps, if-takes, gives-takes, refused-takes)
 
 corrected-takes : (al : ℕ) (band : List ℤ) → TakesBits (corrected al band)
 unfolding corrected
-corrected-takes al [] = gives-takes _
-corrected-takes al (z ∷ band) = search (
-  rules,
-  bind-takes,
-  elim-takes,
-  gives-takes,
-  bits-takes,
-  moved-takes,
-  corrected-takes al band,
-)
+corrected-takes al band = search (rules, each-takes, bind-takes, if-takes, gives-takes, bits-takes, moved-takes)
 
 piece-takes : (al : ℕ) (others : List ℤ → Reads Band) (rest : List ℤ)
     → ((rest : List ℤ) → TakesBits (others rest)) → (r s : ℕ) → TakesBits (refined_piece al others rest r s)
 unfolding refined_piece
-piece-takes al others rest h r zero = elim-takes (r == 15) _ _
+piece-takes al others rest h r zero = if-takes (r == 15) _ _
     (search (rules, bind-takes, corrected-takes, gives-takes))
     (search (rules, bind-takes, bits-takes, corrected-takes, gives-takes))
 piece-takes al others rest h r (suc zero) =
@@ -260,9 +258,9 @@ refined_ac-takes table al n rest = search (rules, gives-takes, refused-takes)
 band-takes : (p : Pass) (ac : Table) (band : List ℤ) (run : ℕ) → TakesBits (band_part p ac band run)
 unfolding band_part
 band-takes p ac [] run = gives-takes _
-band-takes p ac (x ∷ band) zero = search (rules, elim-takes, first_ac-takes, refined_ac-takes)
+band-takes p ac (x ∷ band) zero = search (rules, if-takes, first_ac-takes, refined_ac-takes)
 band-takes p ac (x ∷ band) (suc run) =
-    elim-takes p.is_first _ _ (gives-takes _) (bind-takes (corrected p.al (x ∷ band)) _
+    if-takes p.is_first _ _ (gives-takes _) (bind-takes (corrected p.al (x ∷ band)) _
     (corrected-takes p.al (x ∷ band)) (λ all. gives-takes _))
 
 block-takes : (p : Pass) (dc ac : Table) (predictor : ℤ) (run : ℕ) (old : Block)

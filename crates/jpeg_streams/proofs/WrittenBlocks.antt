@@ -2,17 +2,18 @@
 use Rattle.std.proofs.Common.{rules, ◌≡◌, ℕ, zero, suc, ◌+◌, ◌*◌, ◌^◌, ◌<◌, ◌≤◌, Bool, true, false, List, [], ◌∷◌}
 use Rattle.std.proofs.Common.{◌++◌, map, length, get_or, set, ℤ, pos, negsuc, neg_ℤ, ◌+ℤ◌, ◌-ℤ◌, unsigned_abs, nat_le}
 use Rattle.std.proofs.Common.{refl, sym, ap, ◌∙◌, subst, append_assoc, append-nil, arith, pow_pos, le_refl}
-use Rattle.std.proofs.Common.{slice_index, mul_assoc}
+use Rattle.std.proofs.Common.{slice_index, mul_assoc, if◌then◌else◌}
 use Rattle.std.proofs.lemmas.Grind.{common_steps}
 use Rattle.std.proofs.lemmas.Int.{ints, int_wrap_fits}
 use Rattle.std.proofs.lemmas.Bool.{eq-eqb, le-leb, ne_eqb}
 use Rattle.std.specs.List.{AllByRecursion}
 use Rattle.std.proofs.lemmas.Bool.Decides.{nat_tests}
 use Rattle.jpeg_bits.specs.Codes.{Table}
-use Rattle.jpeg_bits.specs.Readers.{Reads, refused, ReadsJust}
+use Rattle.jpeg_bits.specs.Readers.{refused, signed_from, ReadsJust}
+use Rattle.jpeg_bits.proofs.Fast.{no-number}
 use Rattle.std.proofs.lemmas.List.{length-replicate}
 use Rattle.std.proofs.Math.Nat.{add-mul, mul-le-mul}
-use Rattle.jpeg_bits.specs.Bands.{wrapped, first_dc, difference, category_number}
+use Rattle.jpeg_bits.specs.Bands.{wrapped, first_dc, difference}
 use Rattle.jpeg_bits.specs.Refinement.{bit_of}
 use Rattle.jpeg_bits.specs.Passes.{Pass, Via, Block, band_of, with_band, or_bit, dc_part, band_part, block_from}
 use Rattle.jpeg_bits.specs.Passes.{blocks_of}
@@ -34,13 +35,13 @@ use Rattle.jpeg_streams.proofs.WrittenRefinements.{takes-refinement}
 
 -- ---- DC
 
-takes-category : (d : ℤ) (s : ℕ) → IsCategory d s → ReadsJust (category_number s) (bits_for d s) d
+takes-category : (d : ℤ) (s : ℕ) → IsCategory d s → ReadsJust (signed_from s) (bits_for d s) d
 unfolding low_bits
-takes-category d zero cat = search (rules, takes-as, abs-zero, takes-gives)
+takes-category d zero cat = search (rules, abs-zero, no-number)
 takes-category d (suc t) cat = search (rules, nat_tests, takes-signed)
 
-takes-listed : (k s : ℕ) (bits : List Bool) (d : ℤ) → k ≡ s → s ≤ 11 → ReadsJust (category_number s) bits d
-    → ReadsJust (elim (nat_le k 11) as (λ _. Reads ℤ) [ true ↦ category_number k | false ↦ refused ]) bits d
+takes-listed : (k s : ℕ) (bits : List Bool) (d : ℤ) → k ≡ s → s ≤ 11 → ReadsJust (signed_from s) bits d
+    → ReadsJust (if nat_le k 11 then signed_from k else refused) bits d
 takes-listed k s bits d e h w = search (rules, nat_le, le-leb)
 
 pub takes-difference : (table : Table) (d : ℤ) (bits : List Bool) → IsGood table → unsigned_abs d < 2 ^ 11

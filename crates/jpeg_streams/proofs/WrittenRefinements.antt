@@ -1,8 +1,9 @@
 -- A refinement that was written is read again.
-use Rattle.std.proofs.Common.{rules, ◌≡◌, ◌≢◌, ◌⊎◌, ℕ, zero, suc, ◌+◌, ◌-◌, ◌*◌, ◌/◌, ◌%◌, ◌^◌, ◌<◌, ◌≤◌}
+use Rattle.std.proofs.Common.{rules, ◌≡◌, ◌≢◌, ◌⊎◌, inl, inr, ℕ, zero, suc, ◌+◌, ◌-◌, ◌*◌, ◌/◌, ◌%◌, ◌^◌, ◌<◌, ◌≤◌}
 use Rattle.std.proofs.Common.{Bool, true, false, List, [], ◌∷◌, ◌++◌, map, length, take, drop, ℤ, pos, negsuc, neg_ℤ}
 use Rattle.std.proofs.Common.{◌*ℤ◌, unsigned_abs, refl, sym, ap, ◌∙◌, subst, append_assoc, arith, eqb, pow-suc, pow_pos}
-use Rattle.std.proofs.Common.{add-zero, mul_assoc, Ok, slice_index}
+use Rattle.std.proofs.Common.{add-zero, mul_assoc, Ok, length-append, set, slice_index}
+use Rattle.std.proofs.Math.Seq.{set-append_seam}
 use lib.Arith.{digits_div}
 use Rattle.std.proofs.Math.Nat.{add-mul, zero-mul, one-mul, mul-le-mul}
 use Rattle.std.proofs.lemmas.Bool.{lt-ltb, eq-eqb, le-leb, leb-true}
@@ -10,7 +11,7 @@ use Rattle.std.proofs.lemmas.Bool.Decides.{nat_tests}
 use Rattle.std.specs.List.{AllByRecursion}
 use Rattle.jpeg_bits.specs.Entropy.{bits_from}
 use Rattle.jpeg_bits.specs.Codes.{Table}
-use Rattle.jpeg_bits.specs.Readers.{Reads, ◌>>=◌, gives, text, ReadsJust}
+use Rattle.jpeg_bits.specs.Readers.{Reads, each, ◌>>=◌, gives, text, ReadsJust}
 use Rattle.jpeg_bits.specs.Bands.{Band, before_more}
 use Rattle.jpeg_bits.specs.Refinement.{is_zero, bit_of, corrected_by, corrected, through_zero}
 use Rattle.jpeg_bits.specs.Refinement.{new_number, with_last, refined_piece, refined_ac}
@@ -18,6 +19,7 @@ use Rattle.jpeg_bits.specs.Written.{bit, low_bits, code_bits, IsCoded}
 use Rattle.jpeg_streams.specs.WrittenData.{is_old, count_unknown, NoneNew, corrections, sign_bit, WritesRefinement}
 use Rattle.jpeg_streams.specs.WrittenData.WritesRefinement.{refined, found, passed, none_left}
 use Rattle.jpeg_bits.proofs.WrittenBits.{takes-gives, takes-bind, takes-number, takes-bit, takes-map, takes-as}
+use Rattle.jpeg_bits.specs.Pieces.{corrected_from}
 use Rattle.jpeg_bits.proofs.Tables.{IsGood, takes-symbol}
 use Rattle.jpeg_streams.proofs.WrittenBands.{scaled-zero}
 use Rattle.jpeg_streams.proofs.SentBlocks.{scaled, kept, InRange}
@@ -130,8 +132,16 @@ corrects al (negsuc i) o range = go (suc i / 2 * 2 ^ suc al) refl (kept-positive
 pub corrected-next : (al : ℕ) (z w : ℤ) (zs ws : List ℤ) (b : ℕ) (bits : List Bool) → b < 2 → is_zero z ≡ false
     → ReadsJust (corrected_by al z b) [] w
     → ReadsJust (corrected al zs) bits ws → ReadsJust (corrected al (z ∷ zs)) (bit b ∷ bits) (w ∷ ws)
-unfolding corrected
-corrected-next al z w zs ws b bits small e h k = grind (arith, takes-bit b small)
+unfolding corrected corrected_from each
+corrected-next al z w zs ws b bits small e h k =
+    takes-bind (corrected_from al z) (λ y. each (corrected_from al) zs >>= (λ ys. gives (y ∷ ys))) (bit b ∷ []) bits w (w ∷ ws)
+    (rw e (takes-bind (bits_from 1) (corrected_by al z) (bit b ∷ []) [] b w (takes-bit b small) h))
+    (takes-map (corrected al zs) (λ (l : List ℤ). w ∷ l) bits ws k)
+
+corrected-zero : (al : ℕ) (z : ℤ) (zs ws : List ℤ) (bits : List Bool) → z ≡ pos 0
+    → ReadsJust (corrected al zs) bits ws → ReadsJust (corrected al (z ∷ zs)) bits (pos 0 ∷ ws)
+unfolding corrected each
+corrected-zero al z zs ws bits e k = rw e (takes-map (corrected al zs) (λ (l : List ℤ). pos 0 ∷ l) bits ws k)
 
 pub corrections-zero : (us : List ℤ) → corrections (pos 0 ∷ us) ≡ corrections us
 unfolding corrections
@@ -144,36 +154,30 @@ corrections-old u us o = rw (o, corrections) refl
 
 pub takes-corrected : (al : ℕ) (us : List ℤ) → NoneNew us → AllByRecursion (InRange al) us
     → ReadsJust (corrected al (map (kept al) us)) (corrections us) (map (scaled al) us)
-unfolding corrected NoneNew corrections
+unfolding corrected each NoneNew corrections
 takes-corrected al [] none range = takes-gives []
 takes-corrected al (u ∷ us) none range =
-    search (
-      rules,
-      nothing_or_old,
-      scaled,
-      takes-as,
-      corrections-zero,
-      scaled-zero,
-      takes-map,
-      kept-zero,
-      corrected-next,
-      kept-old,
-      corrects,
-      takes-corrected al us none.1 range.1,
-    )
+    let all = takes-corrected al us none.1 range.1 in
+    elim (nothing_or_old u none.0) [
+      | inl e ↦ rw e (takes-as _ (corrections us) _ (pos 0 ∷ map (scaled al) us) _ refl
+          (ap (λ (z : ℤ). z ∷ map (scaled al) us) (sym (scaled-zero al)))
+          (corrected-zero al (kept al (pos 0)) (map (kept al) us) _ _ (kept-zero al) all))
+      | inr o ↦ takes-as _ (bit (unsigned_abs u % 2) ∷ corrections us) _ _ _ (sym (corrections-old u us o)) refl
+          (corrected-next al (kept al u) (scaled al u) (map (kept al) us) _ (unsigned_abs u % 2) _ (omega arith) (kept-old al u o)
+          (corrects al u o range.0) all)
+    ]
 
 -- ---- pieces
 
 pub through-zero : (c : ℕ) (z : ℤ) (zs : List ℤ) → z ≡ pos 0
     → through_zero (suc c) (z ∷ zs) ≡ suc (through_zero c zs)
 unfolding through_zero
-through-zero c z zs e = ap (λ (x : ℤ). through_zero (suc c) (x ∷ zs)) e
+through-zero c z zs e = grind (arith, nat_tests)
 
 pub through-other : (c : ℕ) (z : ℤ) (zs : List ℤ) → is_zero z ≡ false
     → through_zero c (z ∷ zs) ≡ suc (through_zero c zs)
 unfolding through_zero
-through-other zero z zs e = rw (e, through_zero) refl
-through-other (suc c) z zs e = rw (e, through_zero) refl
+through-other c z zs e = rw (e, through_zero) refl
 
 pub count-zero : (us : List ℤ) → count_unknown (pos 0 ∷ us) ≡ suc (count_unknown us)
 unfolding count_unknown
@@ -221,8 +225,8 @@ range-end al (v ∷ front) more h = (h.0, range-end al front more h.1)
 
 pub with_last-end : (x y : ℤ) (xs : List ℤ) → with_last x (xs ++ y ∷ []) ≡ xs ++ x ∷ []
 unfolding with_last
-with_last-end x y (z ∷ w ∷ xs) = ap (λ (l : List ℤ). z ∷ l) (with_last-end x y (w ∷ xs))
-with_last-end x y xs = refl
+with_last-end x y xs =
+    ap (λ (i : ℕ). set (xs ++ y ∷ []) i x) (omega (arith, length-append xs (y ∷ []))) ∙ set-append_seam xs y [] x
 
 -- the places of a piece, with their corrections
 pub takes-front : (al : ℕ) (front : List ℤ) (u : ℤ) (more : List ℤ) → kept al u ≡ pos 0 → NoneNew

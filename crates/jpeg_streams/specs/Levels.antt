@@ -1,7 +1,7 @@
 -- What successive approximation sends of a block, and which scans may follow (T.81, G.1.1 and
 -- G.1.2). A level is a point transform Al: at level a, the bits above the a lowest are sent.
 use Rattle.std.specs.Prelude.{◌≡◌, ◌≢◌, ℕ, suc, ◌/◌, ◌^◌, ◌≤◌, ◌==◌, true, false}
-use Rattle.std.specs.Prelude.{List, [], ◌∷◌, map, length, replicate, Option, Some, None}
+use Rattle.std.specs.Prelude.{List, [], ◌∷◌, map, length, replicate, zip, Option, Some, None}
 use Rattle.std.specs.Prelude.{ℤ, pos, negsuc, neg_ℤ, ◌*ℤ◌, ◌≤ℤ◌, unsigned_abs}
 use Rattle.std.specs.List.{AllByRecursion}
 use Rattle.jpeg_bits.specs.Passes.{Pass, Block, band_of, with_band}
@@ -43,21 +43,16 @@ abbrev pub nothing_sent : Levels
 nothing_sent = record { dc = None; acs = replicate 63 None }
 
 -- What is known of a coefficient by the bits that were sent: 0 in place of the others.
-abbrev pub cut_dc : ℤ → Option ℕ → ℤ
-cut_dc c None = pos 0
-cut_dc c (Some a) = floor_at a c *ℤ pos (2 ^ a)
-
-abbrev pub cut_ac : ℤ → Option ℕ → ℤ
-cut_ac c None = pos 0
-cut_ac c (Some a) = toward_zero a c *ℤ pos (2 ^ a)
+abbrev pub cut_by : (ℕ → ℤ → ℤ) → ℤ → Option ℕ → ℤ
+cut_by number_at c None = pos 0
+cut_by number_at c (Some a) = number_at a c *ℤ pos (2 ^ a)
 
 unfoldable pub cut_acs : List ℤ → List (Option ℕ) → List ℤ
-cut_acs (c ∷ cs) (l ∷ levels) = cut_ac c l ∷ cut_acs cs levels
-cut_acs _ _ = []
+cut_acs cs levels = map (λ x. cut_by toward_zero x.0 x.1) (zip cs levels)
 
 -- A block, cut at the bits that were sent.
 abbrev pub cut : Levels → Block → Block
-cut l c = record { dc = cut_dc c.dc l.dc; acs = cut_acs c.acs l.acs }
+cut l c = record { dc = cut_by floor_at c.dc l.dc; acs = cut_acs c.acs l.acs }
 
 -- ---- scans that may follow (G.1.1.1)
 

@@ -2,7 +2,8 @@
 -- coding leaves a choice, as how far a run of blocks goes, each choice is one that may be written.
 use Rattle.std.specs.Prelude.{◌≡◌, ◌≢◌, ℕ, suc, ◌+◌, ◌-◌, ◌*◌, ◌%◌, ◌^◌, ◌<◌, ◌≤◌}
 use Rattle.std.specs.Prelude.{Bool, true, false, List, [], ◌∷◌, ◌++◌, replicate, get_or, set}
-use Rattle.std.specs.Prelude.{length, ℤ, pos, negsuc, ◌-ℤ◌, unsigned_abs, nat_le}
+use Rattle.std.specs.Prelude.{length, ℤ, pos, negsuc, ◌-ℤ◌, unsigned_abs, nat_le, not, map, filter}
+use Rattle.std.specs.List.{AllByRecursion}
 use Rattle.jpeg_bits.specs.Codes.{Table}
 use Rattle.jpeg_bits.specs.Intervals.{predictors_at_start}
 use Rattle.jpeg_bits.specs.Passes.{Pass, Via, Block, band_of}
@@ -52,20 +53,15 @@ is_old u = nat_le 2 (unsigned_abs u)
 
 -- how many coefficients are not old
 unfoldable pub count_unknown : List ℤ → ℕ
-count_unknown [] = 0
-count_unknown (u ∷ us) =
-    elim (is_old u) [ true ↦ count_unknown us | false ↦ suc (count_unknown us) ]
+count_unknown us = length (filter (λ u. not (is_old u)) us)
 
 -- no coefficient is new
 unfoldable pub NoneNew : List ℤ → Type 0
-NoneNew [] = Unit {0}
-NoneNew (u ∷ us) = (unsigned_abs u ≢ 1) × NoneNew us
+NoneNew us = AllByRecursion (λ u. unsigned_abs u ≢ 1) us
 
 -- The correction bits of the old coefficients, in order: the lowest bit of each magnitude.
 unfoldable pub corrections : List ℤ → List Bool
-corrections [] = []
-corrections (u ∷ us) =
-    elim (is_old u) [ true ↦ bit (unsigned_abs u % 2) ∷ corrections us | false ↦ corrections us ]
+corrections us = map (λ u. bit (unsigned_abs u % 2)) (filter is_old us)
 
 -- 1 for a positive value, 0 for a negative one
 abbrev pub sign_bit : ℤ → ℕ

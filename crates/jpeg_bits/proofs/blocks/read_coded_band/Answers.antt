@@ -1,7 +1,7 @@
 use Rattle.std.proofs.Common.{◌<◌, length, arith}
 use Rattle.jpeg_bits.specs.Entropy.{upcoming}
 use Rattle.jpeg_bits.specs.Passes.{band_part}
-use Rattle.jpeg_bits.specs.Pieces.{corrected_at}
+use Rattle.jpeg_bits.specs.Refinement.{corrected}
 use Rattle.jpeg_bits.specs.BlockView.{pass_in}
 use Rattle.jpeg_bits.specs.ZigzagParts.{band_in}
 use Rattle.jpeg_bits.proofs.BandSteps.{Leaves-whole, Leaves-err}
@@ -19,7 +19,7 @@ returns-then-not-correct_band-clause-band g c =
     let whole = band_part p k.ac_table.now band c.args.run.now in
     Leaves-err (λ (u : Unit {0}). (band_in p c.correct_band.new.block, c.args.run.now))
     (λ (u : Unit {0}). band_in p c.correct_band.new.block)
-    whole whole (corrected_at p.al band)
+    whole whole (corrected p.al band)
     c.args.buffered.now c.args.buffered.now c.correct_band.new.buffered c.args.source.now
     c.args.source.now
     c.correct_band.new.source _

@@ -1,7 +1,7 @@
 use Rattle.jpeg_bits.specs.Marker.{marker_of}
-use Rattle.jpeg_bits.specs.Entropy.{filled_end, text_ahead, text_at, bits_from, extended}
+use Rattle.jpeg_bits.specs.Entropy.{ending_at, text_ahead, text_at, bits_from, extended}
 use Rattle.jpeg_bits.specs.Readers.{signed_from}
-use Rattle.jpeg_bits.specs.Codes.{lengths_from, code_value, begins, first_from, code_from, code_in}
+use Rattle.jpeg_bits.specs.Codes.{lengths_from, code_value, begins, code_from, code_in}
 use Rattle.jpeg_bits.specs.Codes.{symbol_from}
 use Rattle.jpeg_lossless.specs.Prediction.{residue, first_line, line_rest, line_below, lines_below}
 use Rattle.jpeg_lossless.specs.Differences.{sample_difference, differences, mcu_tables, row_tables}
@@ -14,7 +14,7 @@ use Rattle.std.proofs.lemmas.Grind.{common_steps}
 use Rattle.std.proofs.Common.{arith}
 
 pub returns : goal.returns
-unfolding marker_of filled_end text_ahead text_at bits_from extended signed_from lengths_from code_value begins first_from
+unfolding marker_of ending_at text_ahead text_at bits_from extended signed_from lengths_from code_value begins
     code_from code_in symbol_from residue first_line line_rest line_below lines_below sample_difference
     differences mcu_tables row_tables
     difference_rows strand strands lines_in lines_by_component line_interval all_above
