@@ -28,7 +28,7 @@ use Rattle.jpeg_streams.specs.Order.{grid_of, mcu_size, own_spots, Spot, spots_o
 use Rattle.jpeg_streams.specs.SaidSegments.{found_after}
 use Rattle.jpeg_streams.specs.Scans.{no_table, turns_of, via_at}
 use Rattle.jpeg_streams.specs.Needed.{first_of}
-use Rattle.jpeg_streams.specs.ScanSegments.{vias_from, Coding, codings_from, codings_of, component_coding, components_of}
+use Rattle.jpeg_streams.specs.ScanSegments.{vias_from, Coding, codings_from, codings_of, component_coding}
 use Rattle.jpeg_streams.specs.ScanSegments.{pass_of, tables_of}
 use Rattle.jpeg_streams.specs.Segments.{accepted, updated}
 use Rattle.jpeg_streams.specs.Found.{nothing_found, Found}

@@ -1,5 +1,5 @@
 -- Fronts of streams, and streams that mean one picture.
-use Rattle.std.proofs.Common.{rules, ◌≡◌, ◌⊎◌, inl, ℕ, ◌+◌, ◌*◌, ◌/◌, ◌%◌, Bool, true, false, cond, List, []}
+use Rattle.std.proofs.Common.{rules, ◌≡◌, ℕ, ◌+◌, ◌*◌, ◌/◌, ◌%◌, Bool, true, false, cond, List, []}
 use Rattle.std.proofs.Common.{◌∷◌, ◌++◌, map, drop, length, nat_lt, Some, None, Result, Ok, Err, refl, sym, ap, ◌∙◌}
 use Rattle.std.proofs.Common.{subst, true≢false}
 use Rattle.std.specs.List.{AllByRecursion}
@@ -11,11 +11,10 @@ use Rattle.jpeg_segments.specs.WrittenSegments.{marker_code, payload_of, with_le
 use Rattle.jpeg_streams.specs.ArrayPictures.{picture_of_array, picture_of_blocks, planes_of_blocks}
 use Rattle.jpeg_streams.specs.declared.settings.Settings.{Settings}
 use Rattle.jpeg_streams.specs.Levels.{Is8Bit, Levels, nothing_sent}
-use Rattle.jpeg_streams.specs.Order.{grid_of}
 use Rattle.jpeg_streams.specs.SaidSegments.{found_after}
 use Rattle.jpeg_segments.specs.Checks.{needed}
 use Rattle.jpeg_streams.specs.Needed.{first_of}
-use Rattle.jpeg_streams.specs.ScanSegments.{Coding, is_progressive, pass_of, components_of}
+use Rattle.jpeg_streams.specs.ScanSegments.{Coding, is_progressive, pass_of}
 use Rattle.jpeg_streams.specs.ScanSegments.{codings_of}
 use Rattle.jpeg_streams.specs.Found.{nothing_found, Found}
 use Rattle.jpeg_streams.specs.Stream.{Told, told_of}

@@ -1,5 +1,5 @@
 -- The blocks after a scan (T.81, A.2, E.2.3 and G.1).
-use Rattle.std.specs.Prelude.{ℕ, ◌*◌, List, [], ◌∷◌, fold, map, set, get_or, replicate, zip, Option, Ok}
+use Rattle.std.specs.Prelude.{ℕ, ◌*◌, List, [], fold, map, set, get_or, replicate, zip, Option, Ok}
 use Rattle.jpeg_bits.specs.Reading.{Outcome, ◌>>=◌}
 use Rattle.jpeg_bits.specs.Codes.{Table}
 use Rattle.jpeg_bits.specs.declared.codes.HuffmanTableClass.{HuffmanTableClass}

@@ -1,10 +1,10 @@
 -- The scans that a writer sends of the coefficients of an image, and when a scan may be sent
 -- (T.81, A.2, E.1.4 and G.1).
-use Rattle.std.specs.Prelude.{◌≡◌, ℕ, ◌*◌, ◌/◌, ◌%◌, ◌==◌, ◌<◌, true, false, List, [], ◌∷◌, map}
+use Rattle.std.specs.Prelude.{◌≡◌, ℕ, ◌*◌, ◌/◌, ◌%◌, ◌==◌, ◌<◌, true, false, List, [], ◌∷◌}
 use Rattle.std.specs.Prelude.{slice_get, slice_index_or, Some, None, IsSome, Ok}
 use Rattle.std.specs.List.{AllByRecursion}
 use Rattle.jpeg_bits.specs.Intervals.{first_group, other_groups}
-use Rattle.jpeg_bits.specs.Passes.{Pass, Via, Block}
+use Rattle.jpeg_bits.specs.Passes.{Pass, Block}
 use Rattle.jpeg_segments.specs.Frame.{Frame, Component}
 use Rattle.jpeg_segments.specs.ScanHeader.{Scan}
 use Rattle.jpeg_streams.specs.declared.grids.Grid.{Grid}
