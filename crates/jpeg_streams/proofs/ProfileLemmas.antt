@@ -9,9 +9,13 @@ use Rattle.jpeg_segments.specs.declared.parser.IccChunk.{IccChunk}
 use Rattle.jpeg_segments.specs.Application.{Chunk}
 use Rattle.jpeg_segments.specs.FrameView.{chunk_in}
 
+-- the bytes of the first part of this number
+abbrev pub part : ℕ → List Chunk → Option (List ℕ)
+part number chunks = option_map (λ (c : Chunk). c.bytes) (find (λ (c : Chunk). c.number == number) chunks)
+
 pub part_find : (number : ℕ) (chunks : List IccChunk)
-    → find (λ (c : Chunk). c.number == number) (map chunk_in chunks)
-    ≡ option_map chunk_in (find (λ (c : IccChunk). c.seq_no == number) chunks)
+    → part number (map chunk_in chunks) ≡ option_map (λ (c : IccChunk). c.bytes.items)
+    (find (λ (c : IccChunk). c.seq_no == number) chunks)
 part_find number [] = refl
 part_find number (c ∷ chunks) = search (rules, part_find number chunks)
 
@@ -39,15 +43,21 @@ module _ {X : Type 0} (h : ℕ → Option X) where
   missing a (suc n) zero j lt e is = search (rules, no-more (a + 1) n)
   missing a (suc n) (suc i) j lt e is = search (rules, missing (a + 1) n i j)
 
-pub joins-more : (all : List Chunk) (index : ℕ) (bytes : List ℕ) (c : Chunk)
-    → find (λ (c : Chunk). c.number == index + 1) all ≡ Some c → Joins all index bytes
-    → Joins all (index + 1) (bytes ++ c.bytes)
-joins-more all index bytes c is h =
-    let e = one-more (λ (k : ℕ). find (λ (c : Chunk). c.number == k) all) 1 index (index + 1) (omega arith) in
-    let more : parts_to all (index + 1) ≡ parts_to all index ++ c ∷ [] = rw (e, is) refl in
-    grind (arith, common_steps, flat_map-append, append-nil)
+pub joins-more : (all : List Chunk) (index : ℕ) (bytes more : List ℕ) → part (index + 1) all ≡ Some more
+    → Joins all index bytes → Joins all (index + 1) (bytes ++ more)
+joins-more all index bytes more is h = go (find (λ (c : Chunk). c.number == index + 1) all)
+    (one-more (λ (k : ℕ). find (λ (c : Chunk). c.number == k) all) 1 index (index + 1) (omega arith)) is
+  where
+    go : (o : Option Chunk) → parts_to all (index + 1) ≡ parts_to all index ++ cons_option o []
+        → option_map (λ (c : Chunk). c.bytes) o ≡ Some more → Joins all (index + 1) (bytes ++ more)
+    go None e is = absurd (let n : ⊥ = cc in n)
+    go (Some c) e is = grind (arith, common_steps, flat_map-append, append-nil)
 
-pub joins-missing : (all : List Chunk) (count index : ℕ) → index < count
-    → find (λ (c : Chunk). c.number == index + 1) all ≡ None → length (parts_to all count) < count
+pub joins-missing : (all : List Chunk) (count index : ℕ) → index < count → part (index + 1) all ≡ None
+    → length (parts_to all count) < count
 joins-missing all count index lt is =
-    missing (λ (k : ℕ). find (λ (c : Chunk). c.number == k) all) 1 count index (index + 1) lt (omega arith) is
+    missing (λ (k : ℕ). find (λ (c : Chunk). c.number == k) all) 1 count index (index + 1) lt (omega arith) (none _ is)
+  where
+    none : (o : Option Chunk) → option_map (λ (c : Chunk). c.bytes) o ≡ None → o ≡ None
+    none None e = refl
+    none (Some c) e = absurd (let n : ⊥ = cc in n)

@@ -1,5 +1,5 @@
 use Rattle.std.proofs.Common.{arith}
-use Rattle.jpeg_streams.proofs.ProfileLemmas.{joins-more, joins-missing, joins-all}
+use Rattle.jpeg_streams.proofs.ProfileLemmas.{joins-more, joins-missing}
 use Rattle.jpeg_decoder.proofs.profile.joined.Goals as goal
 use Rattle.std.proofs.lemmas.Grind.{common_steps}
 
@@ -8,6 +8,3 @@ returns-in-None c = grind (arith, common_steps, joins-missing)
 
 pub loop-index-preserved : goal.loop-index-preserved
 loop-index-preserved c = grind (arith, common_steps, joins-more)
-
-pub returns : goal.returns
-returns c = grind (arith, common_steps, joins-all)
