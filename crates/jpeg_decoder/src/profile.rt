@@ -21,7 +21,6 @@ fn part_of(chunks: &[IccChunk], number: usize) -> Option<&IccChunk>
 }
 
 /// Returns the bytes of the first part of this number.
-#[tactic(auto, using(jpeg_streams::proofs::ProfileLemmas::part_find))]
 fn part(chunks: &[IccChunk], number: usize) -> Option<&[u8]>
     ensures { option_copied result ≡ option_map (λ c. c.bytes)
         (find (λ c. c.number == number) (map chunk_in chunks.now)) }
