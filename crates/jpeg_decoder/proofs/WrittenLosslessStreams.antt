@@ -128,11 +128,11 @@ blocks-after samples indices decided sent h g = search (rules, kept-append, with
 
 one-kept : (P : ℕ → Type 0) (k : ℕ) (sent : List ℕ) → AllByRecursion P sent → names sent k ≡ true → P k
 one-kept P k [] h e = absurd (let n : ⊥ = cc in n)
-one-kept P k (x ∷ sent) h e = go (x == k) refl
+one-kept P k (x ∷ sent) h e = go (x == k) refl (one-kept P k sent h.1)
   where
-    go : (b : Bool) → (x == k) ≡ b → P k
-    go true t = subst P (eqb-true x k t) h.0
-    go false t = one-kept P k sent h.1 (rw t at e)
+    go : (b : Bool) → (x == k) ≡ b → (names sent k ≡ true → P k) → P k
+    go true t more = subst P (eqb-true x k t) h.0
+    go false t more = more (rw t at e)
 
 pub all-in : (P : ℕ → Type 0) (ks sent : List ℕ) → AllByRecursion P sent → AllByRecursion (λ k. names sent k ≡ true) ks
     → AllByRecursion P ks
