@@ -10,7 +10,8 @@ use Rattle.jpeg_streams.specs.DecodedImages.{AtLeast, DecodesImages, FailsOutsid
 use Rattle.jpeg_streams.specs.DecodedImages.{GivesPicture, HasLeft, Size}
 use Rattle.jpeg_streams.specs.DecodedImages.{at_size}
 use Rattle.jpeg_streams.specs.Levels.{Is8Bit, Levels}
-use Rattle.jpeg_streams.specs.States.{Decoding, IsReading, Stage, ahead}
+use Rattle.jpeg_streams.specs.declared.progress.Progress.{Progress}
+use Rattle.jpeg_streams.specs.States.{Decoding, IsReading, ahead}
 use Rattle.jpeg_streams.specs.Stream.{Told, header_at, meaning, rest_at, sized_meaning, told_of}
 use Rattle.jpeg_streams.specs.Found.{Found}
 use Rattle.jpeg_streams.specs.WrittenImages.{WritesImage}
@@ -25,7 +26,7 @@ use Rattle.std.proofs.Common.{arith}
 
 -- ---- what is left
 
-pub left-reading : (size : Size) (bytes : List ℕ) (stage : Stage) (found : Found) (left : List ℕ)
+pub left-reading : (size : Size) (bytes : List ℕ) (stage : Progress) (found : Found) (left : List ℕ)
     → HasLeft size bytes stage found left → IsReading stage
 left-reading size bytes stage found left h = grind (arith, common_steps)
 
@@ -40,7 +41,7 @@ sized-begins : (width height : ℕ) (settings : Settings) (found : Found) (bytes
 unfolding sized_meaning
 sized-begins width height settings found bytes rest e = then-ok (header_at bytes) _ (found, rest) _ e refl
 
-pub left-means : (size : Size) (settings : Settings) (bytes : List ℕ) (stage : Stage) (found : Found) (left : List ℕ)
+pub left-means : (size : Size) (settings : Settings) (bytes : List ℕ) (stage : Progress) (found : Found) (left : List ℕ)
     (o : Outcome (Told × List ℕ))
     → HasLeft size bytes stage found left → means_at size settings bytes ≡ o → ahead stage settings found left ≡ o
 left-means size settings bytes stage found left o h e = grind (arith, common_steps, header-means, sized-begins)

@@ -8,8 +8,10 @@ use Rattle.jpeg_bits.specs.declared.error.Error.{Error}
 use Rattle.jpeg_bits.specs.declared.error.Error.TheVariants as errors
 use Rattle.jpeg_streams.specs.declared.settings.Settings.{Settings}
 use Rattle.jpeg_streams.specs.Reported.{IsOfTurns, told_in_turns}
-use Rattle.jpeg_streams.specs.States.{Fresh, HeaderRead, IfRefused, IsReading, OnTold}
-use Rattle.jpeg_streams.specs.States.{Decoding, MovesToHeader, Stage, ahead, told_ahead, turns_ahead}
+use Rattle.jpeg_streams.specs.declared.progress.Progress.{Progress}
+use Rattle.jpeg_streams.specs.declared.progress.Progress.TheVariants.{Fresh, HeaderRead}
+use Rattle.jpeg_streams.specs.States.{IfRefused, IsReading, OnTold}
+use Rattle.jpeg_streams.specs.States.{Decoding, MovesToHeader, ahead, told_ahead, turns_ahead}
 use Rattle.jpeg_streams.specs.Stream.{Told, header_at, rest_at, told_of}
 use Rattle.jpeg_streams.proofs.Refusals.{told-err}
 use Rattle.jpeg_streams.proofs.Told.{told-through}
@@ -75,7 +77,7 @@ begun-seen old mid seen e fresh still settings =
 other-stage : HeaderRead ≡ Fresh → ⊥
 other-stage e = let n : ⊥ = cc in n
 
-into-at : {X : Type 0} (bytes_of : X → List ℕ) (told : Told) (stage : Stage) (old mid : Decoding) (new : Stream)
+into-at : {X : Type 0} (bytes_of : X → List ℕ) (told : Told) (stage : Progress) (old mid : Decoding) (new : Stream)
     (r : Result X Error) → IsBegun (record old { stage = stage }) mid → RestRead bytes_of told mid r new
     → HasRead bytes_of told (record old { stage = stage }) r new
 into-at {X} bytes_of told Fresh old mid new r b h =
@@ -139,7 +141,7 @@ refused-and errors.OutOfMemory P Q R f p q = tt
 refused-and _ _ _ _ f p q = f p q
 
 -- only a fresh decoder's is
-refused-at : {X : Type 0} (bytes_of : X → List ℕ) (stage : Stage) (old mid : Decoding) (e : Error)
+refused-at : {X : Type 0} (bytes_of : X → List ℕ) (stage : Progress) (old mid : Decoding) (e : Error)
     → MovesToHeader {X = Unit {0}} stage mid.stage (Err e)
     → (stage ≡ Fresh → Answers (λ (u : Unit {0}). mid.found) header_at old.source (Err e) mid.source)
     → (stage ≡ Fresh → OnTold {X = Unit {0}} old.source mid.source (Err e)

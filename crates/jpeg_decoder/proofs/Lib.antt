@@ -47,7 +47,6 @@ pub mod ImageSizes
 pub mod PictureSizes
 pub mod LosslessPictureSizes
 pub mod OnLiterals
-pub mod MemorySums
 pub mod LosslessOnLiterals
 mod Orientations
 pub mod KeptScans

@@ -4,11 +4,11 @@ use Rattle.std.proofs.Common.{◌≡◌, ℕ, zero, suc, ◌*◌, ◌/◌, ◌<�
 use Rattle.std.proofs.Common.{refl, arith, subst, Result, Ok, Option, Some, true}
 use Rattle.std.specs.Prelude.{MatchResult, IfOk, IfSome, OnOk, min}
 use Rattle.jpeg_bits.specs.declared.error.Error.{Error}
-use Rattle.jpeg_decoder.specs.Bytes.{HasBytes, HasBytesBy, IsCounted, IsWhole}
+use Rattle.jpeg_decoder.specs.Bytes.{HasBytes, IsCounted, IsWhole}
 use Rattle.jpeg_decoder.specs.Bytes.{bytes_a_sample, picture_size, samples_a_pixel}
 use Rattle.jpeg_segments.specs.declared.parser.CodingProcess.{CodingProcess}
 use Rattle.jpeg_segments.specs.declared.parser.CodingProcess.TheVariants.{Lossless}
-use Rattle.jpeg_streams.specs.Pixels.{bytes_a_pixel, format_of}
+use Rattle.jpeg_streams.specs.Pixels.{bytes_a_pixel, format_of, info_of}
 use Rattle.jpeg_streams.specs.Segments.{is_decoded_count, is_decoded_precision}
 use Rattle.std.specs.List.{AllByRecursion}
 use Rattle.std.proofs.lemmas.Bool.{eqb-true}
@@ -82,8 +82,8 @@ turned : (w h n k : ℕ) → k ≡ n → h * (n * w) ≡ w * h * k
 turned w h n k e = grind (arith, common_steps, mul_comm, mul_assoc)
 
 by-info : (f : Frame) (pixels : List ℕ) → IsDecodedFrame f → f.precision ≡ 8
-    → length pixels ≡ f.output_height * (length f.components * f.output_width) → HasBytes f pixels
-unfolding HasBytes
+    → length pixels ≡ f.output_height * (length f.components * f.output_width)
+    → length pixels ≡ (info_of f).width * (info_of f).height * bytes_a_pixel (info_of f).pixel_format
 by-info f pixels p eight long = grind (arith, common_steps, turned, format-bytes, decoded-count)
 
 -- a byte a sample
@@ -121,13 +121,9 @@ whole-by f pixels p dct long = go f.process refl
     eight : (x : CodingProcess) → f.process ≡ x → is_decoded_precision x f.precision ≡ true
     eight x e = ap (λ (x : CodingProcess). is_decoded_precision x f.precision) (sym e) ∙ precision-of f p
 
-    of : f.precision ≡ 8 → (length pixels ≡ picture_size f) × HasBytes f pixels
-    of e = (by-frame f pixels e long, by-info f pixels p e long)
-
-    go : (x : CodingProcess) → f.process ≡ x → (length pixels ≡ picture_size f) × HasBytesBy x f
-        pixels
+    go : (x : CodingProcess) → f.process ≡ x → (length pixels ≡ picture_size f) × HasBytes x (info_of f) pixels
     go Lossless e = absurd (dct e)
-    go x e = of (eqb-true f.precision 8 (eight x e))
+    go x e = let b = eqb-true f.precision 8 (eight x e) in (by-frame f pixels b long, by-info f pixels p b long)
 
 pub whole-if : (found : Found) (frame : Option Frame) (n : ℕ) (pixels : List ℕ) → HasDecodedFrame found
     → found.frame ≡ frame → IfSome frame (λ f. n ≡ picture_size f) → length pixels ≡ n

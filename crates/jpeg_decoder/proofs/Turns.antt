@@ -21,7 +21,7 @@ use Rattle.jpeg_streams.specs.ScanSegments.{after_restarts, scan_arrays, scan_se
 use Rattle.jpeg_streams.specs.Segments.{accepted, onward, Turn, frame_segment, application_segment, restart_segment}
 use Rattle.jpeg_streams.specs.Segments.{huffman_segment, quantization_segment, skipped_segment}
 use Rattle.jpeg_streams.specs.Found.{Found, nothing_found}
-use Rattle.jpeg_streams.specs.Stream.{end_segment, line_count, segment_at, start_at, told_of, turn_at, walk}
+use Rattle.jpeg_streams.specs.Stream.{end_segment, segment_at, start_at, told_of, turn_at, walk}
 use Rattle.jpeg_streams.specs.Reported.{told_by_turns, told_in_turns}
 use Rattle.jpeg_decoder.specs.Steps.{is_restart_marker}
 use Rattle.jpeg_streams.proofs.Shorter.{LeavesBelow, below-at, below_steps, length-below, skip-below, marker-below}
@@ -170,9 +170,6 @@ scan-goes limit found bytes h =
     on-bind (Below limit) limit (sos_at frame bytes) _ (sos-below limit frame bytes h) (λ scan p.
     process-goes limit frame.process found frame scan.0 scan.1 p))
 
-lines-goes : (limit : ℕ) (before : Before) → On (Below limit) (line_count before)
-lines-goes limit before = grind (arith, common_steps, on-err)
-
 segment-goes : (limit : ℕ) (m : Marker) (before : Before) (found : Found) (bytes : List ℕ) → length bytes ≤ limit
     → (is_restart_marker (Some m) ≡ true → length bytes < limit) → On (Below limit) (segment_at m before found bytes)
 unfolding segment_at end_segment On
@@ -189,7 +186,6 @@ segment-goes limit m before found bytes h r =
       application-goes,
       skipped-goes,
       on-onward,
-      lines-goes,
       on-err,
     )
 

@@ -1,7 +1,8 @@
 -- Lossless streams that are written give their samples, and keep their size.
-use Rattle.std.proofs.Common.{◌≡◌, ℕ, zero, suc, ◌+◌, ◌*◌, ◌<◌, ◌≤◌, true, false, List, [], ◌∷◌, ◌++◌, length}
+use Rattle.std.proofs.Common.{◌≡◌, ℕ, zero, suc, ◌+◌, ◌*◌, ◌<◌, ◌≤◌, Bool, true, false, List, [], ◌∷◌, ◌++◌, length}
 use Rattle.std.proofs.Common.{replicate, set, get_or, Option, Some, None, Result, Ok, Err, refl, sym, ap, ◌∙◌}
-use Rattle.std.proofs.Common.{subst, arith, length-append, length-set, inl, inr, rules}
+use Rattle.std.proofs.Common.{◌==◌, subst, arith, length-append, length-set, rules}
+use Rattle.std.proofs.lemmas.Bool.{eqb-true}
 use Rattle.std.proofs.lemmas.Bool.{le-ltb, lt-ltb}
 use Rattle.std.proofs.lemmas.List.{get_or-set_same}
 use Rattle.std.specs.Prelude.{is_some, slice_index_or, slice_set}
@@ -34,7 +35,7 @@ use Rattle.jpeg_streams.specs.ScanSegments.{scan_before}
 use Rattle.jpeg_streams.specs.FoundPictures.{picture_of, samples_picture}
 use Rattle.jpeg_streams.specs.WrittenLossless.{Samples, StandsInLossless, Writes, WritesSamples}
 use Rattle.jpeg_streams.specs.WrittenLossless.{WritesSamplesScan, closed}
-use Rattle.jpeg_streams.specs.InTurn.{IsIn}
+use Rattle.jpeg_bits.specs.DefaultTables.{names}
 use Rattle.jpeg_streams.specs.WrittenLossless.{said_after_scan, scan, segment}
 use Rattle.jpeg_streams.proofs.ReadTurns.{frame-or, scan-tail, some-none, then-ok, segments-walked}
 use Rattle.jpeg_streams.proofs.ReadTurns.{walk-end, walk-on, walk-stop, frame-stays, is-other}
@@ -125,12 +126,15 @@ blocks-after : (samples : Samples) (indices : List ℕ) (decided : List (Option 
     → AreKept samples (with_samples indices (planes_for samples indices) decided) (indices ++ sent)
 blocks-after samples indices decided sent h g = search (rules, kept-append, with-there, all-kept)
 
-one-kept : (P : ℕ → Type 0) (k : ℕ) (sent : List ℕ) → AllByRecursion P sent → IsIn k sent → P k
-one-kept P k [] h e = absurd e
-one-kept P k (x ∷ sent) h (inl e) = subst P e h.0
-one-kept P k (x ∷ sent) h (inr e) = one-kept P k sent h.1 e
+one-kept : (P : ℕ → Type 0) (k : ℕ) (sent : List ℕ) → AllByRecursion P sent → names sent k ≡ true → P k
+one-kept P k [] h e = absurd (let n : ⊥ = cc in n)
+one-kept P k (x ∷ sent) h e = go (x == k) refl (one-kept P k sent h.1)
+  where
+    go : (b : Bool) → (x == k) ≡ b → (names sent k ≡ true → P k) → P k
+    go true t more = subst P (eqb-true x k t) h.0
+    go false t more = more (rw t at e)
 
-pub all-in : (P : ℕ → Type 0) (ks sent : List ℕ) → AllByRecursion P sent → AllByRecursion (λ k. IsIn k sent) ks
+pub all-in : (P : ℕ → Type 0) (ks sent : List ℕ) → AllByRecursion P sent → AllByRecursion (λ k. names sent k ≡ true) ks
     → AllByRecursion P ks
 all-in P [] sent h e = tt
 all-in P (k ∷ ks) sent h e = (one-kept P k sent h e.0, all-in P ks sent h e.1)
@@ -212,7 +216,7 @@ Reads samples rest turns said final sent bytes =
 
 closed-read : (samples : Samples) (rest : List ℕ) (turns : ℕ) (said : Found) (sent : List ℕ) (frame : Frame)
     (fill : ℕ) → said.frame ≡ Some frame → frame.process ≡ Lossless
-    → AllByRecursion (λ k. IsIn k sent) (range_with_len 0 (length frame.components))
+    → AllByRecursion (λ k. names sent k ≡ true) (range_with_len 0 (length frame.components))
     → Reads samples rest (suc turns) said said sent (marker fill 217 [])
 unfolding marker_of
 closed-read samples rest turns said sent frame fill framed lossless sends before decided met all is

@@ -1,11 +1,12 @@
 -- How many bytes a picture has, and how many are taken while it is decoded.
 use Rattle.std.specs.Prelude.{◌≡◌, ◌≤◌, ℕ, ◌*◌, ◌+◌, ◌==◌, if◌then◌else◌, max, nat_le}
-use Rattle.std.specs.Prelude.{List, [], ◌∷◌, length, Option, Some, None}
+use Rattle.std.specs.Prelude.{List, length, Option, Some, None, sum_by}
 use Rattle.jpeg_segments.specs.Frame.{Component, Frame}
 use Rattle.jpeg_segments.specs.declared.parser.CodingProcess.{CodingProcess}
 use Rattle.jpeg_segments.specs.declared.parser.CodingProcess.TheVariants.{DctSequential}
 use Rattle.jpeg_segments.specs.declared.parser.CodingProcess.TheVariants.{DctProgressive, Lossless}
 use Rattle.jpeg_streams.specs.Pixels.{bytes_a_pixel, info_of}
+use Rattle.jpeg_streams.specs.declared.images.ImageInfo.{ImageInfo}
 use Rattle.jpeg_streams.specs.declared.images.PixelFormat.{PixelFormat}
 use Rattle.jpeg_streams.specs.declared.images.PixelFormat.TheVariants.{L8, L16, RGB24, CMYK32}
 use Rattle.jpeg_decoder.specs.declared.memory.DecodingBytes.{DecodingBytes}
@@ -22,18 +23,15 @@ picture_size f =
     f.output_width * f.output_height * (length f.components * bytes_a_sample f.precision)
 
 -- those of the picture of a frame of blocks, by what `info` says of it
-unfoldable pub HasBytes : Frame → List ℕ → Type 0
-HasBytes f pixels =
-    length pixels ≡ (info_of f).width * (info_of f).height * bytes_a_pixel (info_of f).pixel_format
-
-abbrev pub HasBytesBy : CodingProcess → Frame → List ℕ → Type 0
-HasBytesBy Lossless f pixels = Unit {0}
-HasBytesBy _ f pixels = HasBytes f pixels
+abbrev pub HasBytes : CodingProcess → ImageInfo → List ℕ → Type 0
+HasBytes Lossless info pixels = Unit {0}
+HasBytes _ info pixels =
+    length pixels ≡ info.width * info.height * bytes_a_pixel info.pixel_format
 
 -- A picture has the bytes that its frame says, and one of blocks those that its format says.
 abbrev pub IsWhole : Option Frame → List ℕ → Type 0
 IsWhole None pixels = Unit {0}
-IsWhole (Some f) pixels = (length pixels ≡ picture_size f) × HasBytesBy f.process f pixels
+IsWhole (Some f) pixels = (length pixels ≡ picture_size f) × HasBytes f.process (info_of f) pixels
 
 -- so many bytes are enough for the picture of a frame
 abbrev pub HasRoom : Option Frame → ℕ → Type 0
@@ -42,10 +40,8 @@ HasRoom (Some f) room = picture_size f ≤ room
 
 -- the samples of a pixel, by its format
 abbrev pub samples_a_pixel : PixelFormat → ℕ
-samples_a_pixel L8 = 1
 samples_a_pixel L16 = 1
-samples_a_pixel RGB24 = 3
-samples_a_pixel CMYK32 = 4
+samples_a_pixel format = bytes_a_pixel format
 
 -- A pixel of a frame has as many samples as its format says.
 abbrev pub IsCounted : Option Frame → Type 0
@@ -67,11 +63,6 @@ abbrev pub plane_bytes : CodingProcess → Component → ℕ
 plane_bytes Lossless c = 2 * (c.width * c.height)
 plane_bytes _ c = c.blocks_wide * c.scale * (c.blocks_high * c.scale)
 
--- those of all components
-unfoldable pub sum_of : (Component → ℕ) → List Component → ℕ
-sum_of bytes [] = 0
-sum_of bytes (c ∷ more) = bytes c + sum_of bytes more
-
 -- The picture beside its planes: the one plane of a frame of blocks becomes the picture itself.
 abbrev pub beside_planes : CodingProcess → Frame → ℕ
 beside_planes Lossless f = picture_size f
@@ -81,8 +72,8 @@ beside_planes _ f = if length f.components == 1 then 0 else picture_size f
 -- planes while scans are read, and planes and picture at the end.
 abbrev pub decoding_bytes : Frame → DecodingBytes
 decoding_bytes f =
-    let coefficients = sum_of (coefficient_bytes f.process) f.components in
-    let planes = sum_of (plane_bytes f.process) f.components in
+    let coefficients = sum_by (coefficient_bytes f.process) f.components in
+    let planes = sum_by (plane_bytes f.process) f.components in
     record {
       coefficients = coefficients;
       planes = planes;

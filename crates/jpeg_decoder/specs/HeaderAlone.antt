@@ -3,7 +3,8 @@ use Rattle.std.specs.Prelude.{◌≡◌, Result, Ok, Err, true, IsErrAnd}
 use Rattle.jpeg_bits.specs.Reading.{Answers}
 use Rattle.jpeg_bits.specs.declared.error.Error.{Error}
 use Rattle.jpeg_streams.specs.Reported.{IsOfTurns}
-use Rattle.jpeg_streams.specs.States.{Decoding, Fresh, IsInternal, MovesToHeader, OnTold}
+use Rattle.jpeg_streams.specs.declared.progress.Progress.TheVariants.{Fresh}
+use Rattle.jpeg_streams.specs.States.{Decoding, IsInternal, MovesToHeader, OnTold}
 use Rattle.jpeg_streams.specs.States.{told_ahead, turns_ahead}
 use Rattle.jpeg_streams.specs.Stream.{header_at, told_of}
 

@@ -2,13 +2,10 @@
 use Rattle.std.specs.Prelude.{ℕ, List, Option, map, option_map}
 use Rattle.jpeg_segments.specs.FrameView.{frame_in, chunk_in}
 use Rattle.jpeg_decoder.specs.declared.state.State.{State}
-use Rattle.jpeg_decoder.specs.declared.decoder.Progress.{Progress}
-use Rattle.jpeg_decoder.specs.declared.decoder.Progress.TheVariants as progress
 use Rattle.jpeg_decoder.specs.declared.metadata.Metadata as declared
 use Rattle.jpeg_decoder.specs.PlanesView.{planes_in}
 use Rattle.jpeg_decoder.specs.Scanning.{arrays_in}
 use Rattle.jpeg_streams.specs.Found.{Found, Metadata}
-use Rattle.jpeg_streams.specs.States.{Stage, Fresh, HeaderRead, Finished, Failed}
 use Rattle.std.specs.declared.alloc.Global.{Global}
 use Rattle.std.specs.declared.vec.Vec.{Vec}
 
@@ -39,9 +36,3 @@ found_in s = record {
   planes = s.decoded.planes;
   samples = planes_in s.decoded.samples;
 }
-
-abbrev pub stage_of : Progress → Stage
-stage_of progress.Fresh = Fresh
-stage_of progress.HeaderRead = HeaderRead
-stage_of progress.Finished = Finished
-stage_of progress.Failed = Failed

@@ -146,10 +146,8 @@ with_decoded found d = record found {
 -- Planes with that of a component: where all of these indices are finished the first one decides.
 unfoldable pub decided_planes : List Bool → ℕ → List ℕ → List (Option (List ℕ))
     → List (Option (List ℕ))
-decided_planes marks index plane planes = elim (list_all (λ mark. mark) marks) [
-  | true ↦ slice_set planes index (decided (slice_index_or planes index None) plane)
-  | false ↦ planes
-]
+decided_planes marks index plane planes = if list_all (λ mark. mark) marks
+    then slice_set planes index (decided (slice_index_or planes index None) plane) else planes
 
 -- the finished indices of a component after a pass
 abbrev pub marks_after : Pass → List (List Bool) → ℕ → List Bool

@@ -8,8 +8,8 @@ ghost use Rattle.jpeg_streams.specs.Stream.{header_at, sized_header_at, sized_to
 ghost use Rattle.jpeg_streams.specs.Found.{nothing_found};
 ghost use Rattle.jpeg_streams.specs.Reported.{IsOfTurns};
 ghost use Rattle.jpeg_streams.specs.States.{Decoding, MovesToHeader, MovesToEnd, IsReading, ahead};
-ghost use Rattle.jpeg_streams.specs.States.{told_ahead, turns_ahead, OnTold, OnToldRefusal, Fresh};
-ghost use Rattle.jpeg_streams.specs.States.{HasHeader, HeaderRead};
+ghost use Rattle.jpeg_streams.specs.States.{told_ahead, turns_ahead, OnTold, OnToldRefusal};
+ghost use Rattle.jpeg_streams.specs.States.{HasHeader};
 ghost use Rattle.jpeg_streams.specs.DecodedImages.{DecodesImages};
 ghost use Rattle.jpeg_streams.specs.DecodedSamples.{DecodesSamples};
 ghost use Rattle.jpeg_decoder.specs.Seen.{found_in};
@@ -20,7 +20,8 @@ ghost use Rattle.jpeg_streams.specs.States.{IsInternal};
 ghost use Rattle.std.specs.Prelude.{◌≤◌, drop, length, take};
 ghost use Rattle.jpeg_streams.specs.Pixels.{format_of, info_of};
 ghost use Rattle.jpeg_streams.specs.Sound.{HasDecodedFrame, IsSound, IsUnread};
-ghost use Rattle.jpeg_decoder.specs.declared.decoder.Progress.TheVariants.{Failed};
+ghost use Rattle.jpeg_streams.specs.declared.progress.Progress.TheVariants.{Failed, Fresh};
+ghost use Rattle.jpeg_streams.specs.declared.progress.Progress.TheVariants.{HeaderRead};
 ghost use Rattle.jpeg_segments.specs.FrameView.{frame_in};
 ghost use Rattle.jpeg_segments.specs.Scales.{IsSizedFrame, sized};
 ghost use Rattle.jpeg_streams.specs.Output.{default_settings};
@@ -40,6 +41,7 @@ use jpeg_pixels::idct::choose_idct_size;
 use jpeg_segments::parser::{CodingProcess, Dimensions, FrameInfo};
 use jpeg_segments::sizes::scale_frame;
 pub use jpeg_streams::images::{ImageInfo, PixelFormat};
+use jpeg_streams::progress::Progress;
 use jpeg_streams::settings::Settings;
 use std::alloc::Global;
 use std::io::Read;
@@ -141,15 +143,6 @@ fn drop_decoded(state: &mut State, alloc: Global)
     state.decoded = Decoded::new(alloc);
 }
 
-/// How far a decoder has come.
-#[derive(Clone, Copy, Debug, PartialEq)]
-enum Progress {
-    Fresh,
-    HeaderRead,
-    Finished,
-    Failed,
-}
-
 /// Returns how far a decoder has come after a call: a refusal fails it.
 fn progress_after(is_ok: bool, progress: Progress) -> Progress
     ensures { result ≡ (if is_ok then progress else Failed) }
@@ -170,25 +163,26 @@ pub struct Decoder<R: Read + Drop> {
 impl<R: Read + Drop> Model for Decoder<R> {
     ghost use Rattle.std.specs.Prelude.{◌≡◌, is_some, true};
     ghost use Rattle.jpeg_streams.specs.Sound.{HasDecodedFrame, IsSound, IsUnread};
-    ghost use Rattle.jpeg_streams.specs.States.{Decoding, Fresh, HasHeader, HeaderRead};
+    ghost use Rattle.jpeg_streams.specs.States.{Decoding, HasHeader};
+    ghost use Rattle.jpeg_streams.specs.declared.progress.Progress.TheVariants.{Fresh, HeaderRead};
     ghost use Rattle.jpeg_streams.specs.Found.{nothing_found};
-    ghost use Rattle.jpeg_decoder.specs.Seen.{found_in, stage_of};
+    ghost use Rattle.jpeg_decoder.specs.Seen.{found_in};
 
     ghost Value = { Decoding };
 
     ghost view = { λ d. record {
       source = d.source;
-      stage = stage_of d.progress;
+      stage = d.progress;
       found = found_in d.state;
       settings = d.settings;
     } };
 
     // A fresh decoder has found nothing. One whose header was read has a frame, which is decoded;
     // and until it is decoded no scan was read.
-    ghost invariant = { λ d. (stage_of d.progress ≡ Fresh → found_in d.state ≡ nothing_found)
-        × (HasHeader (stage_of d.progress) → is_some (found_in d.state).frame ≡ true)
-        × (HasHeader (stage_of d.progress) → HasDecodedFrame (found_in d.state))
-        × (stage_of d.progress ≡ HeaderRead → IsSound (found_in d.state)
+    ghost invariant = { λ d. (d.progress ≡ Fresh → found_in d.state ≡ nothing_found)
+        × (HasHeader d.progress → is_some (found_in d.state).frame ≡ true)
+        × (HasHeader d.progress → HasDecodedFrame (found_in d.state))
+        × (d.progress ≡ HeaderRead → IsSound (found_in d.state)
         × IsUnread (found_in d.state)) };
 }
 

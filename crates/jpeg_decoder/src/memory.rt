@@ -1,9 +1,9 @@
 //! The memory that decoding takes, by a frame's header.
-ghost use Rattle.std.specs.Prelude.{◌≡◌, ◌<◌, ◌≤◌, ◌*◌, ◌^◌, length};
+ghost use Rattle.std.specs.Prelude.{◌≡◌, ◌<◌, ◌≤◌, ◌*◌, ◌^◌, length, sum_by};
 ghost use Rattle.jpeg_segments.specs.Frame.{AllHaveSampling};
 ghost use Rattle.jpeg_segments.specs.FrameView.{component_in, frame_in};
 ghost use Rattle.jpeg_decoder.specs.Bytes.{beside_planes, bytes_a_sample, coefficient_bytes};
-ghost use Rattle.jpeg_decoder.specs.Bytes.{decoding_bytes, picture_size, plane_bytes, sum_of};
+ghost use Rattle.jpeg_decoder.specs.Bytes.{decoding_bytes, picture_size, plane_bytes};
 
 use jpeg_segments::parser::{CodingProcess, Component, FrameInfo};
 
@@ -80,9 +80,9 @@ fn plane_bytes(component: &Component, process: CodingProcess) -> u64
 fn component_bytes(frame: &FrameInfo) -> (u64, u64)
     requires few { length (frame_in frame.now).components ≤ 4 }
     requires sampling { AllHaveSampling (frame_in frame.now).components }
-    ensures coefficients { result.0 ≡ sum_of (coefficient_bytes (frame_in frame.now).process)
+    ensures coefficients { result.0 ≡ sum_by (coefficient_bytes (frame_in frame.now).process)
         (frame_in frame.now).components }
-    ensures planes { result.1 ≡ sum_of (plane_bytes (frame_in frame.now).process)
+    ensures planes { result.1 ≡ sum_by (plane_bytes (frame_in frame.now).process)
         (frame_in frame.now).components }
     ensures most { (result.0 ≤ 2 ^ 41) × (result.1 ≤ 2 ^ 40) }
 {

@@ -1,10 +1,11 @@
 //! The ICC profile of a stream, by its parts (ICC.1, Annex B.4).
-ghost use Rattle.std.specs.Prelude.{◌≡◌, ◌==◌, map, option_map, MatchResult};
+ghost use Rattle.std.specs.Prelude.{◌≡◌, ◌==◌, Some, None, MatchResult, filter_map, flat_map};
+ghost use Rattle.std.specs.Prelude.{if◌then◌else◌, length, map, option_map};
 ghost use Rattle.std.specs.Option.{option_copied};
-ghost use Rattle.std.specs.List.{find, list_all};
+ghost use Rattle.std.specs.List.{find, list_all, range_with_len};
 ghost use Rattle.jpeg_bits.specs.declared.error.Error.TheVariants.{OutOfMemory};
 ghost use Rattle.jpeg_segments.specs.FrameView.{chunk_in};
-ghost use Rattle.jpeg_streams.specs.Profile.{part, parts_from, profile_of};
+ghost use Rattle.jpeg_streams.specs.Profile.{profile_of};
 
 use jpeg_bits::error::Result;
 use jpeg_segments::parser::IccChunk;
@@ -20,9 +21,9 @@ fn part_of(chunks: &[IccChunk], number: usize) -> Option<&IccChunk>
 }
 
 /// Returns the bytes of the first part of this number.
-#[tactic(auto, using(jpeg_streams::proofs::ProfileLemmas::part_find))]
 fn part(chunks: &[IccChunk], number: usize) -> Option<&[u8]>
-    ensures { option_copied result ≡ part number (map chunk_in chunks.now) }
+    ensures { option_copied result ≡ option_map (λ c. c.bytes)
+        (find (λ c. c.number == number) (map chunk_in chunks.now)) }
 {
     match part_of(chunks, number) {
         Some(chunk) => Some(chunk.bytes.as_slice()),
@@ -47,8 +48,11 @@ fn have_count(chunks: &[IccChunk], count: usize) -> bool
 
 /// Returns the bytes of this many parts, which are numbered from 1, in turn.
 fn joined(alloc: Global, chunks: &[IccChunk], count: usize) -> Result<Option<Vec<u8>>>
-    ensures { MatchResult result (λ o. option_map (λ v. v.items) o
-        ≡ parts_from count 1 (map chunk_in chunks.now)) (λ e. e ≡ OutOfMemory) }
+    ensures { let parts = filter_map (λ k. find (λ c. c.number == k) (map chunk_in chunks.now))
+        (range_with_len 1 count) in
+        MatchResult result (λ o. option_map (λ v. v.items) o
+        ≡ (if length parts == count then Some (flat_map (λ c. c.bytes) parts) else None))
+        (λ e. e ≡ OutOfMemory) }
 {
     let mut bytes = Vec::new(alloc);
     for index in 0..count {

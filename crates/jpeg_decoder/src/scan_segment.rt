@@ -5,7 +5,10 @@ ghost use Rattle.jpeg_decoder.specs.Seen.{found_in};
 ghost use Rattle.jpeg_streams.specs.Sound.{IsSound};
 ghost use Rattle.jpeg_decoder.specs.Steps.{IsRefusal, IsStep, turn_of};
 ghost use Rattle.jpeg_streams.specs.ScanSegments.{scan_segment};
-ghost use Rattle.jpeg_streams.specs.Stream.{line_count};
+ghost use Rattle.jpeg_bits.specs.declared.marker.Marker.TheVariants.{DNL};
+ghost use Rattle.jpeg_streams.specs.Found.{Found};
+ghost use Rattle.jpeg_streams.specs.Stream.{segment_at};
+ghost use Rattle.std.specs.Prelude.{List, ℕ};
 
 use crate::codings::{codings_of, pass_of, spare_tables};
 use crate::decoded::Decoded;
@@ -23,8 +26,10 @@ use std::alloc::Global;
 use std::io::Read;
 
 /// Why a DNL segment is refused: after the first scan it would give the height (T.81, B.2.5).
+#[tactic(auto, unfolding(jpeg_streams::specs::Stream::segment_at))]
 pub fn refused_line_count(alloc: Global, before: Before) -> Error
-    ensures { IsRefusal result × Names result (line_count before) }
+    ensures { IsRefusal result × ((found : Found) (bytes : List ℕ) →
+        Names result (segment_at DNL before found bytes)) }
 {
     match before {
         Before::FirstScan => Error::Unsupported(UnsupportedFeature::DNL),

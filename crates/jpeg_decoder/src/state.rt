@@ -2,7 +2,7 @@
 ghost use Rattle.std.specs.Prelude.{◌≡◌, true, None};
 ghost use Rattle.jpeg_bits.specs.Reading.{Answers, IsShort};
 ghost use Rattle.jpeg_segments.specs.HuffmanTables.{all_ac};
-ghost use Rattle.jpeg_streams.specs.Stream.{marker_or};
+ghost use Rattle.jpeg_bits.specs.Marker.{found_or, next_marker};
 
 use crate::codings::{is_large, widen_all};
 use crate::decoded::Decoded;
@@ -68,12 +68,13 @@ impl State {
     ghost use Rattle.std.specs.Prelude.{◌≡◌, ◌&&◌, true, is_some, None, OnOk, IfOk, false, suc};
     ghost use Rattle.std.specs.Prelude.{length};
     ghost use Rattle.jpeg_bits.specs.Reading.{Answers, IsShort};
+    ghost use Rattle.jpeg_bits.specs.declared.marker.Marker.TheVariants.{RST};
     ghost use Rattle.jpeg_streams.specs.Segments.{quantization_segment, frame_segment};
     ghost use Rattle.jpeg_streams.specs.Segments.{restart_segment, huffman_segment};
     ghost use Rattle.jpeg_streams.specs.Segments.{skipped_segment, application_segment};
     ghost use Rattle.jpeg_streams.specs.Found.{nothing_found};
     ghost use Rattle.jpeg_streams.specs.ScanSegments.{scan_before};
-    ghost use Rattle.jpeg_streams.specs.Stream.{end_segment, stray_restart, segment_at, turn_at};
+    ghost use Rattle.jpeg_streams.specs.Stream.{end_segment, segment_at, turn_at};
     ghost use Rattle.jpeg_streams.specs.Stream.{segments_at, told_of};
     ghost use Rattle.jpeg_streams.specs.Reported.{IsOfTurns, told_in_turns};
     ghost use Rattle.jpeg_streams.specs.States.{OnTold};
@@ -253,6 +254,7 @@ impl State {
     }
 
     /// Ignores a restart marker after a scan, once.
+    #[tactic(auto, unfolding(jpeg_streams::specs::Stream::segment_at))]
     fn stray_restart<R: Read + Drop>(
         &self,
         alloc: Global,
@@ -260,7 +262,7 @@ impl State {
         number: u8,
         before: Before,
     ) -> Result<Step>
-        ensures reads { Answers (turn_of self.now) (stray_restart before (found_in self.now))
+        ensures reads { Answers (turn_of self.now) (segment_at (RST number) before (found_in self.now))
             source.old result source.new }
         ensures steps { IsStep (found_in self.now) result (found_in self.now) }
     {
@@ -361,7 +363,7 @@ fn marker_or_next<R: Read + Drop>(
     source: &mut Source<R>,
     met: Option<Marker>,
 ) -> Result<Marker>
-    ensures answers { Answers (λ m. m) (marker_or met) source.old result source.new }
+    ensures answers { Answers (λ m. m) (λ bytes. found_or met bytes (next_marker bytes)) source.old result source.new }
     ensures short { met ≡ None → IsShort source.old }
 {
     match met {

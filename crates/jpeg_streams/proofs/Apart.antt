@@ -2,7 +2,8 @@
 use Rattle.std.proofs.Math.Logic.{⊎_elim}
 use Rattle.std.proofs.lemmas.Grind.{common_steps}
 use Rattle.std.proofs.Common.{rules, ◌≡◌, ◌⊎◌, inl, inr, ℕ, zero, suc, ◌+◌, ◌*◌, ◌/◌, ◌%◌, ◌<◌, ◌≤◌, List, [], ◌∷◌}
-use Rattle.std.proofs.Common.{◌++◌, map, length, get_or, slice_get, Some, refl, sym, ap, ap₂, ◌∙◌, subst, arith}
+use Rattle.std.proofs.Common.{◌++◌, map, length, get_or, slice_get, Some, refl, sym, ap, ap₂, ◌∙◌}
+use Rattle.std.proofs.Common.{subst, arith}
 use Rattle.std.proofs.Math.Nat.{div-lt_iff_lt-mul}
 use Rattle.std.proofs.lemmas.Nat.{div-mul-add, mod-mul-add}
 use Rattle.std.specs.List.{AllByRecursion, range_with_len, flat_map}
@@ -88,6 +89,16 @@ abbrev pub At : {A : Type 0} → ℕ → List A → A → Type 0
 At j [] x = ⊥
 At zero (y ∷ ys) x = y ≡ x
 At (suc j) (y ∷ ys) x = At j ys x
+
+pub got-at : {A : Type 0} (j : ℕ) (xs : List A) (x : A) → slice_get xs j ≡ Some x → At j xs x
+got-at j [] x e = let n : ⊥ = cc in n
+got-at zero (y ∷ xs) x e = cc
+got-at (suc j) (y ∷ xs) x e = got-at j xs x e
+
+pub at-got : {A : Type 0} (j : ℕ) (xs : List A) (x : A) → At j xs x → slice_get xs j ≡ Some x
+at-got j [] x h = absurd h
+at-got zero (y ∷ xs) x h = ap Some h
+at-got (suc j) (y ∷ xs) x h = at-got j xs x h
 
 pub at-one : {A : Type 0} (j : ℕ) (xs : List A) (x y : A) → At j xs x → At j xs y → x ≡ y
 at-one j [] x y h k = absurd h

@@ -28,8 +28,8 @@ use Rattle.jpeg_streams.specs.declared.grids.Grid.{Grid}
 use Rattle.jpeg_streams.specs.Levels.{Is8Bit, Levels, sent_after, nothing_sent, numbers_at}
 use Rattle.jpeg_streams.specs.Order.{grid_of, mcu_size, own_spots, Spot, spots_of}
 use Rattle.jpeg_streams.specs.SaidSegments.{found_after}
-use Rattle.jpeg_streams.specs.Scans.{no_table, via_at}
-use Rattle.jpeg_streams.specs.ScanSegments.{vias_from, Coding, codings_of, component_coding, components_of}
+use Rattle.jpeg_streams.specs.Scans.{no_table, via_at, turns_of}
+use Rattle.jpeg_streams.specs.ScanSegments.{vias_from, Coding, codings_of, component_coding}
 use Rattle.jpeg_streams.specs.ScanSegments.{pass_of, tables_of}
 use Rattle.jpeg_streams.specs.Segments.{accepted, updated}
 use Rattle.jpeg_streams.specs.Found.{nothing_found, Found}
@@ -37,11 +37,9 @@ use Rattle.jpeg_streams.specs.WorkedImages.{IsWhollyWritten}
 use Rattle.jpeg_bits.specs.Written.{marker}
 use Rattle.jpeg_streams.specs.WrittenData.WritesIntervals.{last as last_interval}
 use Rattle.jpeg_streams.specs.WrittenImages.{closed, scan, segment, Writes}
-use Rattle.jpeg_streams.specs.WrittenScans.{block_for, Coefficients, grid_at, HasTable, IsComplete}
-use Rattle.jpeg_streams.specs.WrittenScans.{IsLegalScan, levels_after, index_at, WritesScan}
-use Rattle.jpeg_streams.specs.WrittenScans.{written_turns}
+use Rattle.jpeg_streams.specs.WrittenScans.{Coefficients, HasTable, IsComplete, IsLegalScan, levels_after, WritesScan}
 use Rattle.jpeg_streams.proofs.CutLevels.{all-same, all-map}
-use Rattle.jpeg_streams.proofs.TestedParts.{one-quantizes, table-by, table_of_one}
+use Rattle.jpeg_streams.proofs.TestedParts.{lone-own, one-quantizes, own_block, table-by, table_of_one}
 use Rattle.jpeg_streams.proofs.EncodedBlocks.{ac_pass, dc_pass, Each, each-ac, each-dc, each-whole, flat_table}
 use Rattle.jpeg_streams.proofs.EncodedBlocks.{HasFlatAc, HasFlatDc, interval-written, IsFlat}
 use Rattle.jpeg_streams.proofs.WholeImages.{floor-whole, toward-whole}
@@ -181,20 +179,19 @@ data-written : (kind : Kind) (f : Frame) (h : FrameHeader) (index : ℕ) (c : Fa
     → ((k row column : ℕ) → Is8Bit (array k row column))
     → (data_bytes : List ℕ) × WritesScan f 0 (pass_for kind) (coding kind h index c ∷ []) array
     data_bytes
-unfolding spots_of mcu_size
+unfolding spots_of mcu_size turns_of
 data-written kind f h index c array range =
     let codings = coding kind h index c ∷ [] in
     let spots = own_spots (grid_of (component_in h c)) in
-    let sent = block_for codings array in
-    let in_range : (s : Spot) → Is8Bit (sent s) =
-    λ s. range (index_at codings s.slot) (s.index / (grid_at (components_of codings) s.slot).wide)
-    (s.index % (grid_at (components_of codings) s.slot).wide) in
-    let turns = written_turns (vias_from 0 codings) spots (λ s. numbers_at (pass_for kind).al (sent s)) in
+    let wide = (component_in h c).blocks_wide in
+    let sent = own_block (coding kind h index c) array in
+    let in_range : (s : Spot) → Is8Bit (sent s) = λ s. range index (s.index / wide) (s.index % wide) in
+    let turns = turns_of (vias_from 0 codings) spots (λ s. numbers_at (pass_for kind).al (sent s)) in
     let w = interval-written (pass_for kind) (Good kind) (each-for kind) turns
     (all-map (λ s. s.slot ≡ 0) (Good kind) _ spots (λ s e. spot-flat kind h index c (sent s) s.slot
     (in_range s) e)
     (own-slots (grid_of (component_in h c)))) in
-    (w.0, record { sent = sent; in_range = in_range; is_own = λ s own. refl; coded = last_interval 0 turns w.0 w.1 })
+    (w.0, record { sent = sent; in_range = in_range; is_own = λ s k e own. lone-own (coding kind h index c) array s k e; coded = last_interval 0 turns w.0 w.1 })
 
 -- ---- components by their identifiers
 

@@ -38,7 +38,7 @@ use Rattle.jpeg_lossless.proofs.Residues.{residue_low, residue_neg, residue_smal
 use Rattle.jpeg_streams.specs.AcceptedFrames.{HasSamples}
 use Rattle.jpeg_streams.specs.Found.{Found, nothing_found}
 use Rattle.jpeg_streams.specs.FrameSamples.{AreBytes, AreLinesOf, AreSamplesOf, AreWrittenIn, FitsFields, IsLineOf}
-use Rattle.jpeg_streams.specs.InTurn.{IsIn}
+use Rattle.jpeg_bits.specs.DefaultTables.{names}
 use Rattle.jpeg_streams.specs.LosslessScans.{LosslessCoding, lossless_coding, lossless_codings}
 use Rattle.jpeg_streams.specs.LosslessScans.{mcus_across, mcus_down, parts_of}
 use Rattle.jpeg_streams.specs.SaidSegments.{found_after}
@@ -345,7 +345,7 @@ one-identified cs front more c e all =
 
 scans-written : (h : FrameHeader) (samples : Samples) (more front : List Factors) (now : Found) (sent : List ℕ)
     → HasSamples 3 h → AreSamplesOf (frame_written 3 h) samples → IsReady h now
-    → h.components ≡ front ++ more → AreComponents 3 front more → ((j : ℕ) → j < length front → IsIn j sent)
+    → h.components ≡ front ++ more → AreComponents 3 front more → ((j : ℕ) → j < length front → names sent j ≡ true)
     → Sends h samples now sent
 unfolding AreComponents frame_of
 scans-written h samples [] front now sent p all ready e are sends =

@@ -25,7 +25,7 @@ kept-after q r b arrays h n = search (rules, same-spot, put-other)
 -- spots that keep their blocks are read alike
 pub same-turns : (vias : List Via) (spots : List Spot) (arrays others : Arrays)
     → ((r : Spot) → IsIn r spots → block_at others r ≡ block_at arrays r)
-    → turns_of vias spots others ≡ turns_of vias spots arrays
+    → turns_of vias spots (block_at others) ≡ turns_of vias spots (block_at arrays)
 unfolding turns_of
 same-turns vias [] arrays others h = refl
 same-turns vias (s ∷ spots) arrays others h = search (rules, same-turns vias spots arrays others)
@@ -89,7 +89,7 @@ put_in spots arrays (Err e) = Err e
 pub in-turn : (p : Pass) (vias : List Via) (spots : List Spot) (arrays : Arrays) (predictors : List ℤ) (run : ℕ)
     (t : Text) → AreApart spots → ((q : Spot) → IsIn q spots → IsInside arrays q)
     → arrays_in (turns_from p vias spots (record { arrays = arrays; predictors = predictors; run = run }) t)
-    ≡ put_in spots arrays (blocks_of p predictors run (turns_of vias spots arrays) t)
+    ≡ put_in spots arrays (blocks_of p predictors run (turns_of vias spots (block_at arrays)) t)
 unfolding turns_from turn_from blocks_of turns_of put_blocks
 in-turn p vias [] arrays predictors run t apart inside = refl
 in-turn p vias (s ∷ spots) arrays predictors run t apart inside =
@@ -100,7 +100,7 @@ in-turn p vias (s ∷ spots) arrays predictors run t apart inside =
   where
     step : ((b : Block) (c : List ℤ) (n : ℕ) (u : Text)
         → arrays_in (turns_from p vias spots (record { arrays = put_block s b arrays; predictors = c; run = n }) u)
-        ≡ put_in spots (put_block s b arrays) (blocks_of p c n (turns_of vias spots (put_block s b arrays)) u))
+        ≡ put_in spots (put_block s b arrays) (blocks_of p c n (turns_of vias spots (block_at (put_block s b arrays))) u))
         → (o : Result ((Block × ℤ × ℕ) × Text) Fault) → arrays_in (read_on (turns_from p vias spots)
         (read_on (λ (r : Block × ℤ × ℕ). gives
         (record {
@@ -110,7 +110,7 @@ in-turn p vias (s ∷ spots) arrays predictors run t apart inside =
         })) o))
         ≡ put_in (s ∷ spots) arrays (read_on (λ (r : Block × ℤ × ℕ). λ (u : Text).
         read_on (λ more. gives (r.0 ∷ more))
-        (blocks_of p (set predictors (via_at vias s.slot).component r.1) r.2 (turns_of vias spots arrays) u)) o)
+        (blocks_of p (set predictors (via_at vias s.slot).component r.1) r.2 (turns_of vias spots (block_at arrays)) u)) o)
     step rec (Err e) = refl
     step rec (Ok r) = search (rules, same-turns, kept-after)
 
@@ -126,7 +126,7 @@ put_after spots arrays (Err e) = Err e
 
 pub interval-in-turn : (p : Pass) (vias : List Via) (spots : List Spot) (arrays : Arrays) (bytes : List ℕ)
     → AreApart spots → ((q : Spot) → IsIn q spots → IsInside arrays q)
-    → interval_from p vias spots arrays bytes ≡ put_after spots arrays (interval p (turns_of vias spots arrays) bytes)
+    → interval_from p vias spots arrays bytes ≡ put_after spots arrays (interval p (turns_of vias spots (block_at arrays)) bytes)
 unfolding interval_from interval upcoming text_ahead
 interval-in-turn p vias spots arrays bytes apart inside =
     grind (arith, in-turn p vias spots arrays predictors_at_start 0 (upcoming fresh bytes) apart inside)
@@ -152,7 +152,7 @@ unfolding interval
 interval-long p turns bytes = search (rules, blocks-long)
 
 pub turns-long : (vias : List Via) (spots : List Spot) (arrays : Arrays)
-    → length (turns_of vias spots arrays) ≡ length spots
+    → length (turns_of vias spots (block_at arrays)) ≡ length spots
 unfolding turns_of
 turns-long vias [] arrays = refl
 turns-long vias (s ∷ spots) arrays = ap suc (turns-long vias spots arrays)
@@ -162,7 +162,7 @@ abbrev pub all_of : List (List Spot) → List Spot
 all_of others = flat_map (λ (l : List Spot). l) others
 
 abbrev pub all_turns : List Via → Arrays → List (List Spot) → List (List (Via × Block))
-all_turns vias arrays others = map (λ (l : List Spot). turns_of vias l arrays) others
+all_turns vias arrays others = map (λ (l : List Spot). turns_of vias l (block_at arrays)) others
 
 pub same-groups : (vias : List Via) (others : List (List Spot)) (arrays new : Arrays)
     → ((r : Spot) → IsIn r (all_of others) → block_at new r ≡ block_at arrays r)
@@ -177,13 +177,13 @@ pub intervals-in-turn : (p : Pass) (vias : List Via) (k : ℕ) (spots : List Spo
     → AreApart (spots ++ all_of others) → ((q : Spot) → IsIn q (spots ++ all_of others) → IsInside arrays q)
     → intervals_from p vias k spots others arrays bytes
     ≡ put_after (spots ++ all_of others) arrays
-    (intervals p k (turns_of vias spots arrays) (all_turns vias arrays others) bytes)
+    (intervals p k (turns_of vias spots (block_at arrays)) (all_turns vias arrays others) bytes)
 unfolding intervals_from intervals
 intervals-in-turn p vias k spots [] arrays bytes apart inside =
     search (rules, interval-in-turn, apart-front, in-front, append-nil)
 intervals-in-turn p vias k spots (next ∷ more) arrays bytes apart inside =
     (search (rules, interval-in-turn, apart-front, in-front))
-    ∙ go (interval p (turns_of vias spots arrays) bytes)
+    ∙ go (interval p (turns_of vias spots (block_at arrays)) bytes)
     (search (rules, turns-long, interval-long))
     (λ blocks rest. intervals-in-turn p vias (suc k) next more (put_blocks spots blocks arrays) rest
     (apart-back spots (all_of (next ∷ more)) apart)
@@ -207,7 +207,7 @@ intervals-in-turn p vias k spots (next ∷ more) arrays bytes apart inside =
         → ((blocks : List Block) (rest : List ℕ)
         → intervals_from p vias (suc k) next more (put_blocks spots blocks arrays) rest
         ≡ put_after after (put_blocks spots blocks arrays)
-        (intervals p (suc k) (turns_of vias next (put_blocks spots blocks arrays))
+        (intervals p (suc k) (turns_of vias next (block_at (put_blocks spots blocks arrays)))
         (all_turns vias (put_blocks spots blocks arrays) more) rest)) → (b : Bool)
         → ◌≡◌ {A = Outcome (Arrays × Option Marker)}
         (elim b [
@@ -218,7 +218,7 @@ intervals-in-turn p vias k spots (next ∷ more) arrays bytes apart inside =
         (put_after (spots ++ after) arrays
         (elim b [
           | true ↦ blocks_before r.0.0
-              (intervals p (suc k) (turns_of vias next arrays) (all_turns vias arrays more) r.1)
+              (intervals p (suc k) (turns_of vias next (block_at arrays)) (all_turns vias arrays more) r.1)
           | false ↦ Err Malformed
         ]))
     test r h rec false = refl
@@ -228,19 +228,19 @@ intervals-in-turn p vias k spots (next ∷ more) arrays bytes apart inside =
         ∙ ap (λ (l : List (Via × Block)). put_after after new (intervals p (suc k) l (all_turns vias new more) r.1))
         (same-turns vias next arrays new (λ q t. kept r.0.0 q (in-front q next (all_of more) t)))
         ∙ ap (λ (l : List (List (Via × Block))). put_after after new
-        (intervals p (suc k) (turns_of vias next arrays) l r.1))
+        (intervals p (suc k) (turns_of vias next (block_at arrays)) l r.1))
         (same-groups vias more arrays new (λ q t. kept r.0.0 q (in-back q next (all_of more) t)))
-        ∙ both r h (intervals p (suc k) (turns_of vias next arrays) (all_turns vias arrays more) r.1)
+        ∙ both r h (intervals p (suc k) (turns_of vias next (block_at arrays)) (all_turns vias arrays more) r.1)
 
     go : (o : Outcome (List Block × Option Marker)) → IsLongAfter (length spots) o
         → ((blocks : List Block) (rest : List ℕ)
         → intervals_from p vias (suc k) next more (put_blocks spots blocks arrays) rest
         ≡ put_after after (put_blocks spots blocks arrays)
-        (intervals p (suc k) (turns_of vias next (put_blocks spots blocks arrays))
+        (intervals p (suc k) (turns_of vias next (block_at (put_blocks spots blocks arrays)))
         (all_turns vias (put_blocks spots blocks arrays) more) rest))
         → reading.◌>>=◌ (put_after spots arrays o) (next_interval k (intervals_from p vias (suc k) next more))
         ≡ put_after (spots ++ after) arrays
         (reading.◌>>=◌ o (after_restart ◌++◌ k
-        (intervals p (suc k) (turns_of vias next arrays) (all_turns vias arrays more))))
+        (intervals p (suc k) (turns_of vias next (block_at arrays)) (all_turns vias arrays more))))
     go (Ok r) h rec = test r h rec (is_restart k r.0.1)
     go (Err e) h rec = refl

@@ -1,7 +1,7 @@
 -- A stream that was written for a frame is one for the frame at any scale.
-use Rattle.std.proofs.lemmas.Grind.{common_steps}
-use Rattle.std.proofs.Common.{rules, ◌≡◌, ℕ, zero, suc, ◌+◌, ◌*◌, ◌<◌, ◌==◌, Bool, true, List, [], ◌∷◌, ◌++◌, map}
-use Rattle.std.proofs.Common.{length, sum_by, sum, slice_get, slice_index_or, Some, None, Ok, refl, sym, ap, ap₂, ◌∙◌, subst, arith, mul_assoc}
+use Rattle.std.proofs.Common.{rules, ◌≡◌, ℕ, zero, suc, ◌+◌, ◌*◌, ◌<◌, ◌==◌, Bool, true, List, []}
+use Rattle.std.proofs.Common.{◌∷◌, ◌++◌, map, length, sum_by, sum, slice_get, slice_index_or, Some}
+use Rattle.std.proofs.Common.{None, Ok, refl, sym, ap, ap₂, ◌∙◌, subst, arith, mul_assoc, ◌/◌, ◌%◌}
 use Rattle.std.proofs.lemmas.Bool.Decides.{leb_tells}
 use Rattle.std.proofs.Math.Nat.{mul_comm, lt_of_mul-lt-mul_right, mul-lt-mul_of_pos_right}
 use Rattle.std.specs.List.{AllByRecursion, flat_map, position}
@@ -11,14 +11,16 @@ use Rattle.jpeg_segments.specs.Checks.{gathered}
 use Rattle.jpeg_segments.specs.ScanHeader.{Selector, index_of, blocks_by, scan_of}
 use Rattle.jpeg_segments.specs.ScanHeaders.{AreChoices, IsScan, ScanHeader, scan_payload, scan_written}
 use Rattle.jpeg_segments.proofs.ScanLemmas.{position-map}
-use Rattle.jpeg_bits.specs.Passes.{Pass}
+use Rattle.jpeg_bits.specs.Passes.{Pass, Via}
 use Rattle.jpeg_streams.specs.Order.{Spot, grid_of, part_spots, mcu_spots, all_spots, spots_of, mcu_size}
 use Rattle.jpeg_segments.specs.HuffmanTables.{Tables}
 use Rattle.jpeg_streams.specs.Levels.{Levels, IsLegal, numbers_at}
 use Rattle.jpeg_streams.specs.ScanSegments.{vias_from, Coding, codings_of, component_coding, components_of}
 use Rattle.jpeg_streams.specs.ScanSegments.{pass_of, tables_of}
+use Rattle.jpeg_streams.specs.Scans.{turns_of}
 use Rattle.jpeg_streams.specs.Found.{Found}
-use Rattle.jpeg_streams.specs.WrittenScans.{Coefficients, written_turns, WritesScan, levels_after}
+use Rattle.jpeg_streams.specs.declared.grids.Grid.{Grid}
+use Rattle.jpeg_streams.specs.WrittenScans.{Coefficients, IsOwn, WritesScan, levels_after}
 use Rattle.jpeg_streams.specs.WrittenScans.{HasTable, IsLegalScan}
 use Rattle.jpeg_streams.specs.WrittenImages.{Writes, closed, segment, scan}
 use Rattle.jpeg_streams.specs.SaidSegments.{Stands, found_after}
@@ -105,6 +107,11 @@ mcu-size_same cs ds (one_more c d cs' ds' h (one_more c' d' cs'' ds'' h' more)) 
     sum-same (λ t. t.horizontal * t.vertical) (c ∷ c' ∷ cs'') (d ∷ d' ∷ ds'')
     (one_more c d (c' ∷ cs'') (d' ∷ ds'') h (one_more c' d' cs'' ds'' h' more))
 mcu-size_same cs ds n = refl
+
+spots-alike : (f g : Frame) → SameFrame f g → (cs ds : List Component) → Alikes cs ds → spots_of g ds ≡ spots_of f cs
+unfolding spots_of all_spots
+spots-alike f g same cs ds (one_more c d cs' ds' h none) = rw (grid-same c d h) refl
+spots-alike f g same cs ds h = search (rules, flat-same, mcu-same)
 
 pub length-same : (cs ds : List Component) → Alikes cs ds → length ds ≡ length cs
 length-same cs ds none = refl
@@ -217,26 +224,33 @@ unfolding vias_from
 vias-alike base ks ls none = refl
 vias-alike base ks ls (one_more k l ks' ls' h more) = search (rules, vias-alike (base + 1) ks' ls' more)
 
-grids-alike : (cs ds : List Component) → Alikes cs ds → map grid_of ds ≡ map grid_of cs
-grids-alike cs ds none = refl
-grids-alike cs ds (one_more c d cs' ds' h more) = rw (grid-same c d h, grids-alike cs' ds' more) refl
+got-alike : (ks ls : List Coding) → CodingsAlike ks ls → (j : ℕ) (l : Coding) → slice_get ls j ≡ Some l
+    → (k : Coding) × (slice_get ks j ≡ Some k) × CodingAlike k l
+got-alike ks ls none j l e = absurd (let n : ⊥ = cc in n)
+got-alike ks ls (one_more k m ks' ls' h more) zero l e = (k, refl, subst (CodingAlike k) (let q : m ≡ l = cc in q) h)
+got-alike ks ls (one_more k m ks' ls' h more) (suc j) l e = got-alike ks' ls' more j l e
 
 -- ---- scans
 
 scan-alike : (f g : Frame) (n : ℕ) (p : Pass) (ks ls : List Coding) (array : Coefficients) (bytes : List ℕ)
     → SameFrame f g → CodingsAlike ks ls → WritesScan f n p ks array bytes → WritesScan g n p ls array bytes
-unfolding spots_of all_spots
 scan-alike f g n p ks ls array bytes same h w =
     let cs = components-alike ks ls h in
-    let grids = grids-alike (components_of ks) (components_of ls) cs in
-    let indices = indices-alike ks ls h in
     let u = λ (s : Spot). numbers_at p.al (w.sent s) in
-    let turns : written_turns (vias_from 0 ls) (spots_of g (components_of ls)) u
-    ≡ written_turns (vias_from 0 ks) (spots_of f (components_of ks)) u
-    = grind (arith, common_steps, vias-alike, grid-same, flat-same, mcu-same) in
+    let turns = ap₂ (λ (v : List Via) (l : List Spot). turns_of v l u) (vias-alike 0 ks ls h)
+    (spots-alike f g same (components_of ks) (components_of ls) cs) in
     let size : n * mcu_size (components_of ls) ≡ n * mcu_size (components_of ks) =
     ap (λ (x : ℕ). n * x) (mcu-size_same (components_of ks) (components_of ls) cs) in
-    grind arith
+    record {
+      sent = w.sent;
+      in_range = w.in_range;
+      is_own = λ s l e own.
+          let o = got-alike ks ls h s.slot l e in
+          w.is_own s o.0 o.1
+          (subst (λ (x : Grid). IsOwn x s.index) (grid-same o.0.component l.component o.2.component) own)
+          ∙ ap₂ (λ (i wide : ℕ). array i (s.index / wide) (s.index % wide)) (sym o.2.index) (sym o.2.component.wide);
+      coded = rw (size, turns) w.coded;
+    }
 
 legal-alike : (p : Pass) (levels : ℕ → Levels) (ks ls : List Coding) → CodingsAlike ks ls
     → AllByRecursion (λ c. IsLegal p (levels c.index)) ks → AllByRecursion (λ c. IsLegal p (levels

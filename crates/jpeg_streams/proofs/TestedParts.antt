@@ -7,7 +7,7 @@ use Rattle.std.proofs.lemmas.Bool.{and_parts, cases_lt, eq-eqb, eqb-true, leb-tr
 use Rattle.std.proofs.lemmas.Bool.Decides.{nat_tests}
 use Rattle.std.proofs.lemmas.Int.{ints}
 use Rattle.std.specs.List.{AllByRecursion, list_all}
-use Rattle.std.specs.Prelude.{nat_le}
+use Rattle.std.specs.Prelude.{nat_le, slice_get, ◌/◌, ◌%◌}
 use Rattle.jpeg_bits.proofs.Tables.{tested-exist}
 use Rattle.jpeg_bits.specs.Codes.{code_lengths, codes_exist}
 use Rattle.jpeg_bits.specs.Intervals.{predictors_at_start}
@@ -27,7 +27,20 @@ use Rattle.jpeg_streams.specs.Levels.{Is8Bit, IsLegal, Levels}
 use Rattle.jpeg_streams.specs.ScanSegments.{Coding, codings_of, pass_of}
 use Rattle.jpeg_streams.specs.WorkedImages.{in_column}
 use Rattle.jpeg_streams.specs.WrittenData.{WritesBlocks, WritesInterval}
-use Rattle.jpeg_streams.specs.WrittenScans.{IsLegalScan}
+use Rattle.jpeg_streams.specs.Order.{Spot}
+use Rattle.jpeg_streams.specs.WrittenScans.{Coefficients, IsLegalScan}
+
+-- the block of a spot, if it is of this component
+abbrev pub own_block : Coding → Coefficients → Spot → Block
+own_block k array s = array k.index (s.index / k.component.blocks_wide) (s.index % k.component.blocks_wide)
+
+pub lone-own : (k : Coding) (array : Coefficients) (s : Spot) (c : Coding) → slice_get (k ∷ []) s.slot ≡ Some c
+    → own_block k array s ≡ own_block c array s
+lone-own k array s c e = ap (λ (x : Coding). own_block x array s) (lone s.slot e)
+  where
+    lone : (j : ℕ) → slice_get (k ∷ []) j ≡ Some c → k ≡ c
+    lone zero e = cc
+    lone (suc j) e = absurd (let n : ⊥ = cc in n)
 
 all-by : {A : Type 0} (test : A → Bool) (P : A → Type 0) → ((x : A) → test x ≡ true → P x)
     → (xs : List A) → list_all test xs ≡ true → AllByRecursion P xs

@@ -1,6 +1,7 @@
 -- A sequential stream of three components, with padding and a restart, worked by hand, is one that is written.
 use Rattle.std.proofs.Common.{rules, ◌≡◌, ℕ, zero, suc, ◌*◌, ◌+◌, Bool, true, false, List, [], ◌∷◌, ◌++◌}
-use Rattle.std.proofs.Common.{replicate, ℤ, pos, negsuc, ◌-ℤ◌, Some, refl, sym, arith, true≢false}
+use Rattle.std.proofs.Common.{replicate, ℤ, pos, negsuc, ◌-ℤ◌, Some, refl, sym, subst, arith, true≢false}
+use Rattle.std.proofs.lemmas.Option.{get_or_from_slice_get}
 use Rattle.std.specs.Prelude.{get_or, set}
 use Rattle.jpeg_bits.specs.Codes.{Table, lengths_from, code_value, codes_exist}
 use Rattle.jpeg_bits.specs.Intervals.{groups}
@@ -17,10 +18,11 @@ use Rattle.jpeg_segments.specs.ScanHeaders.{ScanHeader, IsScan, scan_payload, sc
 use Rattle.jpeg_pixels.specs.Pictures.{sources_by}
 use Rattle.jpeg_pixels.specs.Upsampling.{rule_of}
 use Rattle.jpeg_streams.specs.Levels.{Levels, Is8Bit, nothing_sent}
-use Rattle.jpeg_streams.specs.Order.{Spot, all_spots, mcu_size, mcu_spots, part_spots, spots_of}
+use Rattle.jpeg_streams.specs.Order.{all_spots, grid_of, mcu_size, mcu_spots, part_spots, spots_of}
 use Rattle.jpeg_streams.specs.SaidSegments.{found_after}
-use Rattle.jpeg_streams.specs.ScanSegments.{Coding, codings_of, component_coding, components_of, pass_of}
+use Rattle.jpeg_streams.specs.ScanSegments.{Coding, codings_of, component_coding, pass_of}
 use Rattle.jpeg_streams.specs.ScanSegments.{tables_of, vias_from}
+use Rattle.jpeg_streams.specs.Scans.{turns_of}
 use Rattle.jpeg_streams.specs.Segments.{accepted, updated}
 use Rattle.jpeg_streams.specs.Found.{nothing_found, Found}
 use Rattle.jpeg_streams.specs.WorkedImages.{IsWhollyWritten, flat_block, colour_array, colour_bytes}
@@ -31,11 +33,10 @@ use Rattle.jpeg_streams.specs.WrittenData.WritesBlocks.{done, block}
 use Rattle.jpeg_streams.specs.WrittenData.WritesDc.{whole}
 use Rattle.jpeg_streams.specs.WrittenData.WritesIntervals.{another, last}
 use Rattle.jpeg_streams.specs.WrittenImages.{closed, scan, segment}
-use Rattle.jpeg_streams.specs.WrittenScans.{IsComplete, IsLegalScan, IsOwn, WritesScan, block_for, grid_at}
-use Rattle.jpeg_streams.specs.WrittenScans.{levels_after}
+use Rattle.jpeg_streams.specs.WrittenScans.{IsComplete, IsLegalScan, IsOwn, WritesScan, levels_after}
 use Rattle.jpeg_streams.proofs.CutLevels.{all-same}
 use Rattle.jpeg_streams.proofs.TestedParts.{category-by, frame-by, interval-by, is_category, one-quantizes, range-by}
-use Rattle.jpeg_streams.proofs.TestedParts.{range-in, scan-by, scan-legal, table-by, table_of_one}
+use Rattle.jpeg_streams.proofs.TestedParts.{own_block, range-in, scan-by, scan-legal, table-by, table_of_one}
 
 -- ---- what is written
 
@@ -78,22 +79,26 @@ codings = coding 0 (factors 82 2) ∷ coding 1 (factors 71 1) ∷ coding 2 (fact
 
 -- ---- blocks
 
+abbrev block_for : ℕ → ℕ → Block
+block_for slot index =
+    own_block (get_or codings slot (coding 2 (factors 66 1))) colour_array (record { slot = slot; index = index })
+
 -- The fourth block of the first component is padding.
 sent_at : ℕ → ℕ → Block
 sent_at zero (suc (suc (suc zero))) = flat_block (negsuc 0)
-sent_at slot index = block_for codings colour_array (record { slot = slot; index = index })
+sent_at slot index = block_for slot index
 
-own-sent : (slot index : ℕ) → IsOwn (grid_at (components_of codings) slot) index
-    → sent_at slot index ≡ block_for codings colour_array (record { slot = slot; index = index })
+own-sent : (slot index : ℕ) → IsOwn (grid_of (get_or codings slot (coding 2 (factors 66 1))).component) index
+    → sent_at slot index ≡ block_for slot index
 unfolding sent_at component_of
 own-sent slot index own = search rules
 
-for-range : (s : Spot) → Is8Bit (block_for codings colour_array s)
-for-range s = search (rules, range-in)
+for-range : (slot index : ℕ) → Is8Bit (block_for slot index)
+for-range slot index = search (rules, range-in)
 
 sent-range : (slot index : ℕ) → Is8Bit (sent_at slot index)
 unfolding sent_at
-sent-range zero zero = for-range (record { slot = 0; index = 0 })
+sent-range zero zero = for-range 0 0
 sent-range slot index = search (rules, for-range, range-by)
 
 -- ---- codes
@@ -151,11 +156,14 @@ scan_bytes = (64 ∷ 195 ∷ 158 ∷ []) ++ marker 0 208 (72 ∷ 163 ∷ 24 ∷ 
 
 data-written : WritesScan the_frame 1 (pass_of (scan_written the_frame the_header)) codings colour_array scan_bytes
 unfolding pass_of scan_of frame_of component_of spots_of all_spots mcu_spots part_spots mcu_size vias_from groups
-    sent_at
+    sent_at turns_of
 data-written = record {
   sent = λ s. sent_at s.slot s.index;
   in_range = λ s. sent-range s.slot s.index;
-  is_own = λ s own. own-sent s.slot s.index own;
+  is_own = λ s c e.
+      subst (λ (x : Coding). IsOwn (grid_of x.component) s.index
+      → sent_at s.slot s.index ≡ own_block x colour_array s)
+      (get_or_from_slice_get codings s.slot c (coding 2 (factors 66 1)) e) (own-sent s.slot s.index);
   coded = another 0 0 (mcu (pos 8) (negsuc 0) (negsuc 7) (pos 15)) (mcu (pos 9) (negsuc 0) (negsuc 8) (pos 12)) [] _ _
       intervals.0 (last 1 _ _ intervals.1);
 }

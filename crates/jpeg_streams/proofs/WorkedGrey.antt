@@ -15,8 +15,9 @@ use Rattle.jpeg_pixels.specs.Upsampling.{rule_of}
 use Rattle.jpeg_streams.specs.Levels.{Levels, nothing_sent}
 use Rattle.jpeg_streams.specs.Order.{own_spots, spots_of, mcu_size}
 use Rattle.jpeg_streams.specs.SaidSegments.{found_after}
-use Rattle.jpeg_streams.specs.Scans.{no_table}
-use Rattle.jpeg_streams.specs.ScanSegments.{Coding, codings_of, component_coding, pass_of, tables_of}
+use Rattle.jpeg_streams.specs.Scans.{no_table, turns_of}
+use Rattle.jpeg_streams.specs.ScanSegments.{Coding, codings_of, component_coding, pass_of}
+use Rattle.jpeg_streams.specs.ScanSegments.{tables_of}
 use Rattle.jpeg_streams.specs.ScanSegments.{vias_from}
 use Rattle.jpeg_streams.specs.Found.{nothing_found, Found}
 use Rattle.jpeg_streams.specs.Segments.{accepted, updated}
@@ -29,10 +30,10 @@ use Rattle.jpeg_streams.specs.WrittenData.WritesDc.{other_band, whole, one_bit}
 use Rattle.jpeg_streams.specs.WrittenData.WritesIntervals.{last}
 use Rattle.jpeg_streams.specs.WrittenData.WritesRefinement.{found, none_left}
 use Rattle.jpeg_streams.specs.WrittenImages.{closed, scan, segment}
-use Rattle.jpeg_streams.specs.WrittenScans.{block_for, IsLegalScan, WritesScan, levels_after}
+use Rattle.jpeg_streams.specs.WrittenScans.{IsLegalScan, WritesScan, levels_after}
 use Rattle.jpeg_streams.proofs.CutLevels.{all-same}
-use Rattle.jpeg_streams.proofs.TestedParts.{category-by, frame-by, interval-by, one-quantizes, range-in, scan-by}
-use Rattle.jpeg_streams.proofs.TestedParts.{scan-legal, table-by, table_of_one}
+use Rattle.jpeg_streams.proofs.TestedParts.{category-by, frame-by, interval-by, lone-own, one-quantizes, own_block, range-in}
+use Rattle.jpeg_streams.proofs.TestedParts.{scan-by, scan-legal, table-by, table_of_one}
 
 -- ---- what is written
 
@@ -75,20 +76,20 @@ header_3 = scan_header 0 0 1 0
 abbrev header_4 : ScanHeader
 header_4 = scan_header 1 63 1 0
 
-abbrev codings : Table → Table → List Coding
-codings dc ac = (record {
+abbrev coding : Table → Table → Coding
+coding dc ac = record {
   index = 0;
   component = component_of 24 8 1 1 factors;
   quantization = replicate 64 16;
   dc = dc;
   ac = ac;
-}) ∷ []
+}
 
-abbrev dc_codings : List Coding
-dc_codings = codings dc_table (no_table classes.AC)
+abbrev dc_coding : Coding
+dc_coding = coding dc_table (no_table classes.AC)
 
-abbrev ac_codings : List Coding
-ac_codings = codings (no_table classes.DC) ac_table
+abbrev ac_coding : Coding
+ac_coding = coding (no_table classes.DC) ac_table
 
 -- ---- codes
 
@@ -113,17 +114,17 @@ unfolding NoneNew
 none-new zero = tt
 none-new (suc n) = ((λ e. absurd (omega arith)), none-new n)
 
-sent : Sends header_1 dc_codings (66 ∷ 79 ∷ [])
-    × Sends header_2 ac_codings (99 ∷ 63 ∷ [])
-    × Sends header_3 dc_codings (191 ∷ [])
-    × Sends header_4 ac_codings (58 ∷ [])
+sent : Sends header_1 (dc_coding ∷ []) (66 ∷ 79 ∷ [])
+    × Sends header_2 (ac_coding ∷ []) (99 ∷ 63 ∷ [])
+    × Sends header_3 (dc_coding ∷ []) (191 ∷ [])
+    × Sends header_4 (ac_coding ∷ []) (58 ∷ [])
 unfolding low_bits number_for bits_of_bytes stuffed pass_of scan_of frame_of component_of own_spots spots_of mcu_size
-    vias_from corrections count_unknown NoneNew
+    vias_from turns_of corrections count_unknown NoneNew
 sent = (
   record {
-    sent = block_for dc_codings grey_array;
+    sent = own_block dc_coding grey_array;
     in_range = search (rules, range-in);
-    is_own = λ s own. refl;
+    is_own = λ s c e own. lone-own dc_coding grey_array s c e;
     coded = last 0 _ _ (interval-by _ _ _ (66 ∷ 79 ∷ [])
         (block _ 0 0 _ _ _ (false ∷ true ∷ false ∷ false ∷ []) [] _ (pos 4)
         (whole (pos 4) (pos 0) _ refl refl
@@ -140,9 +141,9 @@ sent = (
         (done _)))) refl refl);
   },
   record {
-    sent = block_for ac_codings grey_array;
+    sent = own_block ac_coding grey_array;
     in_range = search (rules, range-in);
-    is_own = λ s own. refl;
+    is_own = λ s c e own. lone-own ac_coding grey_array s c e;
     coded = last 0 _ _ (interval-by _ _ _ (99 ∷ 63 ∷ [])
         (block _ 0 0 _ _ _ [] (false ∷ true ∷ true ∷ false ∷ []) _ (pos 0)
         (other_band (pos 4) (pos 0) (λ e. absurd (omega arith)))
@@ -161,9 +162,9 @@ sent = (
         (done _)))) refl refl);
   },
   record {
-    sent = block_for dc_codings grey_array;
+    sent = own_block dc_coding grey_array;
     in_range = search (rules, range-in);
-    is_own = λ s own. refl;
+    is_own = λ s c e own. lone-own dc_coding grey_array s c e;
     coded = last 0 _ _ (interval-by _ _ _ (191 ∷ [])
         (block _ 0 0 _ _ _ (true ∷ []) [] _ (pos 0) (one_bit (pos 9) (pos 0) refl refl) (no_band 0)
         (block _ 0 0 _ _ _ (false ∷ []) [] _ (pos 0) (one_bit (negsuc 1) (pos 0) refl refl) (no_band 0)
@@ -171,9 +172,9 @@ sent = (
         (done _)))) refl refl);
   },
   record {
-    sent = block_for ac_codings grey_array;
+    sent = own_block ac_coding grey_array;
     in_range = search (rules, range-in);
-    is_own = λ s own. refl;
+    is_own = λ s c e own. lone-own ac_coding grey_array s c e;
     coded = last 0 _ _ (interval-by _ _ _ (58 ∷ [])
         (block _ 0 2 _ _ _ [] (false ∷ false ∷ true ∷ true ∷ true ∷ false ∷ true ∷ []) _ (pos 0)
         (other_band (pos 9) (pos 0) (λ e. absurd (omega arith)))
@@ -222,8 +223,8 @@ sent_4 = after header_4 sent_3
 abbrev Legal : ScanHeader → List Coding → (ℕ → Levels) → Type 0
 Legal h ks levels = IsLegalScan said the_frame levels (scan_written the_frame h) ks
 
-legal : Legal header_1 dc_codings (λ k. nothing_sent) × Legal header_2 ac_codings sent_1
-    × Legal header_3 dc_codings sent_2 × Legal header_4 ac_codings sent_3
+legal : Legal header_1 (dc_coding ∷ []) (λ k. nothing_sent) × Legal header_2 (ac_coding ∷ []) sent_1
+    × Legal header_3 (dc_coding ∷ []) sent_2 × Legal header_4 (ac_coding ∷ []) sent_3
 unfolding nothing_found updated frame_of component_of scan_of pass_of tables_of levels_after codings_of gathered
     component_coding
 legal = search (rules, scan-legal)
@@ -248,11 +249,11 @@ grey-written = record {
         (λ e. tt) (
         segment _ said _ sent_4 false 0 (segment_of ac_table) _ ((table-by _ _ (omega arith) refl, tt), tt) tt
         (λ e. tt) (
-        scan said said _ sent_4 false the_frame 0 header_1 dc_codings _ _ refl scans-are.0 legal.0 sent.0 (
-        scan said said sent_1 sent_4 true the_frame 0 header_2 ac_codings _ _ refl scans-are.1 legal.1 sent.1 (
-        scan said said sent_2 sent_4 true the_frame 0 header_3 dc_codings _ _ refl scans-are.2 legal.2 sent.2 (
-        scan said said sent_3 sent_4 true the_frame 0 header_4 ac_codings _ _ refl scans-are.3 legal.3 sent.3 (
-        closed said sent_4 the_frame 0 refl (record { table = replicate 64 16; is = refl }, tt)
+        scan said said _ sent_4 false the_frame 0 header_1 (dc_coding ∷ []) _ _ refl scans-are.0 legal.0 sent.0 (
+        scan said said sent_1 sent_4 true the_frame 0 header_2 (ac_coding ∷ []) _ _ refl scans-are.1 legal.1 sent.1 (
+        scan said said sent_2 sent_4 true the_frame 0 header_3 (dc_coding ∷ []) _ _ refl scans-are.2 legal.2 sent.2 (
+        scan said said sent_3 sent_4 true the_frame 0 header_4 (ac_coding ∷ []) _ _ refl scans-are.3 legal.3 sent.3 (
+        closed said sent_4 the_frame 0 refl (refl, tt)
         (λ e. absurd (true≢false e))))))))));
   };
   framed = refl;

@@ -1,6 +1,6 @@
 -- The lossless streams that are worked by hand are written.
 use Rattle.std.proofs.Common.{rules, ◌≡◌, ℕ, zero, suc, ◌==◌, Bool, true, false, List, [], ◌∷◌, ◌++◌, length, drop}
-use Rattle.std.proofs.Common.{ℤ, ◌≤ℤ◌, replicate, flat_map, pos, negsuc, refl, sym, subst, arith, inl, inr}
+use Rattle.std.proofs.Common.{ℤ, ◌≤ℤ◌, replicate, flat_map, pos, negsuc, refl, sym, subst, arith}
 use Rattle.std.proofs.lemmas.Bool.{and_parts, eqb-true, leb-true}
 use Rattle.std.specs.List.{list_all}
 use Rattle.std.specs.Prelude.{nat_le}
@@ -187,10 +187,8 @@ three-written = record {
         segment (tabled three_header) _ [] 1 (Interval 2) _ ((tt, tt), tt) (
         scan (said three_header) _ [] _ 0 third_scan third_data _ refl refl are-scans.0 three-scans.0 (
         scan (scanned three_header) _ (2 ∷ []) _ 0 other_scan other_data _ refl refl are-scans.1 three-scans.1 (
-        closed (scanned three_header) (0 ∷ 1 ∷ 2 ∷ []) (frame_by three_header) 0 refl refl (
-          inl refl,
-          (inr (inl refl), (inr (inr (inl refl)), tt)),
-        ))))));
+        closed (scanned three_header) (0 ∷ 1 ∷ 2 ∷ []) (frame_by three_header) 0 refl refl
+        (refl, (refl, (refl, tt))))))));
   };
 }
 
@@ -255,9 +253,7 @@ padding-written = record {
         segment (tabled padded_header) _ [] 0 (Interval 2) _ ((tt, tt), tt) (
         scan (said padded_header) _ [] _ 0 padded_scan padded_data _ refl refl are-scans.2 padded-scans.0 (
         scan (scanned padded_header) _ (0 ∷ 1 ∷ []) _ 0 lone_scan lone_data _ refl refl are-scans.3 padded-scans.1 (
-        closed (scanned padded_header) (2 ∷ 0 ∷ 1 ∷ []) (frame_by padded_header) 0 refl refl (
-          inr (inl refl),
-          (inr (inr (inl refl)), (inl refl, tt)),
-        ))))));
+        closed (scanned padded_header) (2 ∷ 0 ∷ 1 ∷ []) (frame_by padded_header) 0 refl refl
+        (refl, (refl, (refl, tt))))))));
   };
 }

@@ -9,7 +9,6 @@ use Rattle.jpeg_streams.specs.Order.{Spot}
 use Rattle.jpeg_streams.specs.Scans.{Arrays, block_at, put_blocks, via_at, turns_of, arrays_at}
 use Rattle.jpeg_streams.specs.WrittenData.{WritesIntervals}
 use Rattle.jpeg_bits.specs.Written.{marker}
-use Rattle.jpeg_streams.specs.WrittenScans.{written_turns}
 use Rattle.jpeg_streams.proofs.SentBlocks.{after_pass, reads_of, numbers_of}
 use Rattle.jpeg_lossless.specs.Written.{IsMarker}
 use Rattle.jpeg_streams.proofs.WrittenBlocks.{IsReady}
@@ -37,7 +36,7 @@ abbrev pub put_back : List Spot → Arrays → (List Block × Option Marker) × 
 put_back spots arrays r = Ok ((put_blocks spots r.0.0 arrays, r.0.1), r.1)
 
 turns-are : (vias : List Via) (spots : List Spot) (arrays : Arrays) (u : Spot → Block)
-    → reads_of (map (turn_with vias arrays u) spots) ≡ turns_of vias spots arrays
+    → reads_of (map (turn_with vias arrays u) spots) ≡ turns_of vias spots (block_at arrays)
 unfolding turns_of
 turns-are vias spots arrays u = map-map_any (turn_with vias arrays u) (λ (t : Via × Block × Block). (t.0, t.1)) spots
 
@@ -45,15 +44,15 @@ turns-are vias spots arrays u = map-map_any (turn_with vias arrays u) (λ (t : V
 pub reads-arrays : (p : Pass) (n : ℕ) (vias : List Via) (spots : List Spot) (arrays : Arrays) (u : Spot → Block)
     (bytes : List ℕ) (fill code : ℕ) (m : Marker) (rest : List ℕ)
     → AllByRecursion (IsReadyAt p vias arrays u) spots → IsMarker code m
-    → WritesIntervals p 0 (first_group n (written_turns vias spots u))
-    (other_groups n (written_turns vias spots u)) bytes
+    → WritesIntervals p 0 (first_group n (turns_of vias spots u))
+    (other_groups n (turns_of vias spots u)) bytes
     → arrays_at p n vias spots arrays (bytes ++ marker fill code rest)
     ≡ Ok ((put_blocks spots (map (λ s. after_pass p (block_at arrays s) (u s)) spots) arrays, Some m), rest)
-unfolding arrays_at
+unfolding arrays_at turns_of
 reads-arrays p n vias spots arrays u bytes fill code m rest ready h w =
     let all = bytes ++ marker fill code rest in
     let turns = map (turn_with vias arrays u) spots in
-    let news : numbers_of turns ≡ written_turns vias spots u =
+    let news : numbers_of turns ≡ turns_of vias spots u =
     map-map_any (turn_with vias arrays u) (λ (t : Via × Block × Block). (t.0, t.2)) spots in
     let written = subst (λ (x : List (Via × Block)). WritesIntervals p 0 (first_group n x) (other_groups n x) bytes)
     (sym news) w in

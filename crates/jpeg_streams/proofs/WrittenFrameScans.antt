@@ -17,14 +17,15 @@ use Rattle.jpeg_streams.specs.Scans.{Arrays, block_at, put_block, put_blocks, vi
 use Rattle.jpeg_streams.specs.ScanSegments.{vias_from, Coding, components_of}
 use Rattle.jpeg_streams.specs.Levels.{Levels, Is8Bit, numbers_at, cut, nothing_sent, IsLegal, sent_after}
 use Rattle.jpeg_bits.specs.Written.{marker}
-use Rattle.jpeg_streams.specs.WrittenScans.{Coefficients, IsOwn, grid_at, WritesScan}
+use Rattle.jpeg_streams.specs.WrittenScans.{Coefficients, IsOwn, WritesScan}
 use Rattle.jpeg_streams.proofs.SentBlocks.{Suits, after_pass}
 use Rattle.jpeg_lossless.specs.Written.{IsMarker}
 use Rattle.jpeg_streams.proofs.CutLevels.{suits-cut, cut-after, all-same, cut-unsent, floor-range, floor-fits}
-use Rattle.jpeg_streams.proofs.WrittenArrays.{IsReadyAt, reads-arrays, map-map_any}
+use Rattle.jpeg_streams.proofs.WrittenArrays.{IsReadyAt, reads-arrays}
 use Rattle.jpeg_streams.proofs.Put.{reaches}
 use Rattle.jpeg_streams.specs.InTurn.{IsIn, IsInside}
 use Rattle.jpeg_streams.proofs.OwnSpots.{At, at-within, at-get, IsOwnSpot, own-only, Fits, covered}
+use Rattle.jpeg_streams.proofs.Apart.{at-got}
 pub use Rattle.jpeg_streams.proofs.Apart.{at-all}
 
 -- ---- blocks of a component
@@ -107,10 +108,6 @@ pub array-at : (before : Arrays) (codings : List Coding) (k : Coding) (j : ℕ) 
     → get_or (arrays_of before codings) j [] ≡ get_or before k.index []
 array-at before codings k j h = at-get (λ (c : Coding). get_or before c.index []) [] j codings k h
 
-pub grid-at : (codings : List Coding) (k : Coding) (j : ℕ) → At j codings k
-    → grid_at (components_of codings) j ≡ grid_of k.component
-grid-at codings k j h = search (rules, map-map_any, at-get)
-
 pub all-in : {A : Type 0} (Q : A → Type 0) (xs : List A) → ((x : A) → IsIn x xs → Q x) → AllByRecursion Q xs
 all-in Q [] h = tt
 all-in Q (x ∷ xs) h = (h x (inl refl), all-in Q xs (λ y t. h y (inr t)))
@@ -173,7 +170,7 @@ module _ (frame : Frame) (restart : ℕ) (p : Pass) (codings : List Coding) (arr
   sent-own : (k : Coding) (s : Spot) → At s.slot codings k → IsOwn (grid_of k.component) s.index
       → w.sent s ≡ array k.index (s.index / k.component.blocks_wide) (s.index %
       k.component.blocks_wide)
-  sent-own k s h own = grind (arith, common_steps, grid-at, at-get)
+  sent-own k s h own = w.is_own s k (at-got s.slot codings k h) own
 
   suits-own : (k : Coding) (s : Spot) → At s.slot codings k → IsOwn (grid_of k.component) s.index
       → Suits p (block_at scanned s) (u s)

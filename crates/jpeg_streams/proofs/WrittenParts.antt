@@ -1,6 +1,7 @@
 -- Fronts of streams, and streams that mean one picture.
-use Rattle.std.proofs.Common.{rules, ◌≡◌, ◌⊎◌, inl, ℕ, zero, suc, ◌+◌, ◌*◌, Bool, true, false, cond, List, []}
-use Rattle.std.proofs.Common.{◌∷◌, ◌++◌, map, length, nat_lt, Some, None, Result, Ok, Err, refl, sym, ap, ◌∙◌}
+use Rattle.std.proofs.Common.{rules, ◌≡◌, ℕ, ◌+◌, ◌*◌, Bool, true, false, cond, List, [], ◌∷◌, ◌++◌}
+use Rattle.std.proofs.Common.{map, length, nat_lt, Some, None, Result, Ok, Err, refl, sym, ap, ◌∙◌}
+use Rattle.std.proofs.Common.{◌/◌, ◌%◌}
 use Rattle.std.proofs.Common.{subst, true≢false}
 use Rattle.std.specs.List.{AllByRecursion}
 use Rattle.std.specs.Prelude.{slice_get, slice_index_or}
@@ -11,10 +12,9 @@ use Rattle.jpeg_segments.specs.WrittenSegments.{marker_code, payload_of, with_le
 use Rattle.jpeg_streams.specs.ArrayPictures.{picture_of_array, picture_of_blocks, planes_of_blocks}
 use Rattle.jpeg_streams.specs.declared.settings.Settings.{Settings}
 use Rattle.jpeg_streams.specs.Levels.{Is8Bit, Levels, nothing_sent}
-use Rattle.jpeg_streams.specs.Order.{grid_of}
 use Rattle.jpeg_streams.specs.SaidSegments.{found_after}
 use Rattle.jpeg_segments.specs.Checks.{needed}
-use Rattle.jpeg_streams.specs.ScanSegments.{Coding, is_progressive, pass_of, components_of}
+use Rattle.jpeg_streams.specs.ScanSegments.{Coding, is_progressive, pass_of}
 use Rattle.jpeg_streams.specs.Found.{nothing_found, Found}
 use Rattle.jpeg_streams.specs.Stream.{Told, told_of}
 use Rattle.jpeg_streams.specs.FoundPictures.{picture_by}
@@ -22,8 +22,8 @@ use Rattle.jpeg_streams.specs.WholeImages.{AllComplete}
 use Rattle.jpeg_streams.specs.WrittenImages.{closed, scan as then_scan, segment as then_segment, Writes, WritesImage}
 use Rattle.jpeg_streams.specs.WrittenParts.{AgreeOnOwn, HaveSamePicture, nothing, picture_meant_by, scan, segment}
 use Rattle.jpeg_streams.specs.WrittenParts.{WritesFront}
-use Rattle.jpeg_streams.specs.WrittenScans.{Coefficients, grid_at, HasTable, levels_after}
-use Rattle.jpeg_streams.specs.WrittenScans.{no_grid, index_at}
+use Rattle.jpeg_streams.specs.WrittenScans.{Coefficients, HasTable, levels_after}
+use Rattle.jpeg_streams.proofs.Apart.{at-all, got-at}
 use Rattle.jpeg_streams.proofs.ReadTurns.{codings-each, frame-kept, same-frame, scan-tail, segment-tail, then-ok}
 use Rattle.jpeg_streams.proofs.WholeImages.{whole-is}
 use Rattle.jpeg_streams.proofs.WrittenPictures.{stream-means}
@@ -133,16 +133,6 @@ one-picture settings array first second rest others a b last_a last_b range w x 
 
 -- ---- padding
 
--- A slot of a scan is beyond its components, or has the component of an index in the frame.
-slot-coded : (frame : Frame) (codings : List Coding)
-    → AllByRecursion (λ k. slice_get frame.components k.index ≡ Some k.component) codings
-    → (slot : ℕ) → (grid_at (components_of codings) slot ≡ no_grid)
-    ⊎ ((c : Component) × (grid_at (components_of codings) slot ≡ grid_of c)
-    × (slice_get frame.components (index_at codings slot) ≡ Some c))
-slot-coded frame [] h slot = inl refl
-slot-coded frame (k ∷ codings) h zero = search rules
-slot-coded frame (k ∷ codings) h (suc slot) = slot-coded frame codings h.1 slot
-
 also-writes : (a b : Coefficients) (said final : Found) (levels last : ℕ → Levels) (scanned : Bool) (bytes : List ℕ)
     (frame : Frame)
     → Writes a said levels scanned bytes final last → final.frame ≡ Some frame → AgreeOnOwn frame a b
@@ -161,13 +151,15 @@ also-writes a b said final levels last scanned bytes frame
     let same : f ≡ frame =
     same-frame f frame final.frame (frame-kept a said final levels_1 last true more f w framed) e in
     let alike : AgreeOnOwn f a b = subst (λ (x : Frame). AgreeOnOwn x a b) (sym same) agree in
-    let slots = slot-coded f codings (codings-each _ said f (scan_written f h) codings legal.are_in_force
-    (λ index d a k is. is.component)) in
+    let Here : Coding → Type 0 = λ k. slice_get f.components k.index ≡ Some k.component in
+    let here = codings-each Here said f (scan_written f h) codings legal.are_in_force (λ index d a k is. is.component) in
     then_scan said final levels last scanned f fill h codings data_bytes more framed is legal
     (record {
       sent = written.sent;
       in_range = written.in_range;
-      is_own = λ s own. written.is_own s own ∙ (search (rules, slots));
+      is_own = λ s k got own. written.is_own s k got own
+          ∙ alike k.index (s.index / k.component.blocks_wide) (s.index % k.component.blocks_wide) k.component
+          (at-all Here s.slot codings k here (got-at s.slot codings k got)) own.row own.column;
       coded = written.coded;
     })
     (also-writes a b said final levels_1 last true more frame w e agree)

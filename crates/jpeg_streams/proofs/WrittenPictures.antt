@@ -1,6 +1,6 @@
 -- The picture of a written stream is that of its array, cut at the levels that were sent.
 use Rattle.std.proofs.Common.{rules, ◌≡◌, ◌&&◌, Bool, true, false, List, Some, None, Result, refl, subst, arith}
-use Rattle.std.proofs.Common.{ℕ, nat_lt, length, get_or, slice_index, slice_index_or, Option, true≢false, if◌then◌else◌}
+use Rattle.std.proofs.Common.{ℕ, nat_lt, length, get_or, slice_index, slice_index_or, is_some, Option, true≢false, if◌then◌else◌}
 use Rattle.std.proofs.Common.{suc, ◌+◌, ◌*◌, ◌/◌, ◌%◌, ◌<◌, ◌≤◌, [], ◌∷◌, map, ℤ, ◌≢◌, Ok, Err, sym, ap, ap₂, ◌∙◌, ◌++◌}
 use Rattle.std.proofs.lemmas.Grind.{common_steps}
 use Rattle.std.proofs.Math.Nat.{div-lt_iff_lt-mul, mul_comm, div-mul-le_self}
@@ -127,6 +127,10 @@ pub record PlaneAtEnd (found : Found) (f : Frame) (array : Coefficients) (l : Le
   pub holds : HoldsOwn (grid_of c) (array k) l blocks
   pub is : plane_at_end found f k c ≡ Ok (plane_by c table blocks)
 
+some-there : {A : Type 0} (o : Option A) → is_some o ≡ true → (x : A) × (o ≡ Some x)
+some-there None e = absurd (true≢false (sym e))
+some-there (Some x) e = (x, refl)
+
 end-decided : (found : Found) (f : Frame) (k : ℕ) (c : Component) (plane : List ℕ)
     → slice_index_or found.planes k None ≡ Some plane → plane_at_end found f k c ≡ Ok plane
 unfolding plane_at_end
@@ -160,15 +164,15 @@ module _ (f : Frame) (array : Coefficients) (final : Found) (last : ℕ → Leve
           }
       go false e true g =
           let n = (end.framed.marked.planes k c t).undecided e in
-          let q = at-all (HasTable final) k f.components c end.tables t in
+          let q = some-there _ (at-all (HasTable final) k f.components c end.tables t) in
           record {
-            table = q.table;
-            is_table = q.is;
+            table = q.0;
+            is_table = q.1;
             blocks = get_or end.kept k [];
             holds = subst (λ (a : Arrays). HoldsOwn (grid_of c) (array k) (last k) (get_or a k []))
                 (kept-arrays final end.kept end.finished end.planes f g) ((end.framed.kept g).each
                 k c t);
-            is = end-kept found f k c q.table n g refl q.is;
+            is = end-kept found f k c q.0 n g refl q.1;
           }
       go false e false g =
           let all = in-all (λ (j : ℕ). IsComplete (last j)) (range_with_len 0 (length f.components)) k (end.complete g)

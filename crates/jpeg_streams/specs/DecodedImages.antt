@@ -6,7 +6,9 @@ use Rattle.jpeg_bits.specs.declared.error.Error.{Error}
 use Rattle.jpeg_bits.specs.declared.error.Error.TheVariants.{OutOfMemory}
 use Rattle.jpeg_streams.specs.ArrayPictures.{picture_of_array}
 use Rattle.jpeg_streams.specs.Levels.{Is8Bit, Levels}
-use Rattle.jpeg_streams.specs.States.{Decoding, Stage, Fresh, HeaderRead}
+use Rattle.jpeg_streams.specs.States.{Decoding}
+use Rattle.jpeg_streams.specs.declared.progress.Progress.{Progress}
+use Rattle.jpeg_streams.specs.declared.progress.Progress.TheVariants.{Fresh, HeaderRead}
 use Rattle.jpeg_streams.specs.Stream.{header_at, sized_to, told_of}
 use Rattle.jpeg_streams.specs.Found.{Found}
 use Rattle.jpeg_streams.specs.WrittenImages.{WritesImage}
@@ -26,7 +28,7 @@ at_size (AtLeast width height) found = sized_to width height found
 
 -- A decoder has a stream left: all of it, and then the picture is of full size; or what follows its
 -- header, which was found, and then its frame may be at a scale.
-abbrev pub HasLeft : Size → List ℕ → Stage → Found → List ℕ → Type 0
+abbrev pub HasLeft : Size → List ℕ → Progress → Found → List ℕ → Type 0
 HasLeft FullSize bytes Fresh found left = left ≡ bytes
 HasLeft size bytes HeaderRead found left =
     (header : Found) × (header_at bytes ≡ Ok (header, left)) × (found ≡ at_size size header)

@@ -1,6 +1,6 @@
 -- Scans of a lossless frame (T.81, A.2 and Annex H).
-use Rattle.std.specs.Prelude.{ℕ, ◌+◌, List, [], ◌∷◌, map, slice_get, slice_index_or, zip}
-use Rattle.std.specs.Prelude.{Option, Some, None, Result, Ok, slice_set}
+use Rattle.std.specs.Prelude.{ℕ, ◌+◌, List, [], ◌∷◌, map, slice_get, slice_index_or, zip, Option}
+use Rattle.std.specs.Prelude.{Some, None, Result, Ok, slice_set, fold}
 use Rattle.jpeg_bits.specs.Reading.{Fault, ◌>>=◌}
 use Rattle.jpeg_bits.specs.Codes.{Table}
 use Rattle.jpeg_bits.specs.declared.scan.Predictor.{Predictor}
@@ -79,9 +79,8 @@ tables_in tables (d ∷ dc_destinations) =
 -- The samples of a scan decide those of the components at its indices.
 unfoldable pub with_samples :
     List ℕ → List (List ℕ) → List (Option (List ℕ)) → List (Option (List ℕ))
-with_samples (index ∷ indices) (plane ∷ planes) samples =
-    with_samples indices planes (slice_set samples index (Some plane))
-with_samples _ _ samples = samples
+with_samples indices planes samples =
+    fold (λ samples x. slice_set samples x.0 (Some x.1)) samples (zip indices planes)
 
 -- the samples at the indices of some components, from an index on, each of which has to be there
 unfoldable pub samples_from :

@@ -4,7 +4,7 @@ use Rattle.std.specs.Prelude.{ℕ, zero, suc, ◌+◌, ◌-◌, ◌*◌, ◌==�
 use Rattle.std.specs.Prelude.{nat_lt, List, [], ◌∷◌, ◌++◌, map, length, take, drop, set}
 use Rattle.std.specs.Prelude.{get_or, replicate, slice_index_or, slice_set, Bool, true, false}
 use Rattle.std.specs.Prelude.{Option, Some, None, Result, Ok, Err, slice_get, zip}
-use Rattle.std.specs.Prelude.{if◌then◌else◌}
+use Rattle.std.specs.Prelude.{if◌then◌else◌, fold, unwrap_or}
 use Rattle.std.specs.List.{list_all}
 use Rattle.jpeg_bits.specs.Reading.{Outcome, Fault, End, ◌>>=◌}
 use Rattle.jpeg_bits.specs.Marker.{next_marker}
@@ -127,19 +127,16 @@ finished_by p marks = if p.al == 0
 
 -- The first plane stays.
 abbrev pub decided : Option (List ℕ) → List ℕ → Option (List ℕ)
-decided None plane = Some plane
-decided (Some first) plane = Some first
+decided first plane = Some (unwrap_or first plane)
 
 -- A component of the scan whose indices are all finished now: its plane is decided, by the
 -- quantization table in force.
 unfoldable pub with_plane : Coding → List Block → List Bool → List (Option (List ℕ))
     → List (Option (List ℕ))
 with_plane c blocks marks planes =
-    elim (list_all (λ mark. mark) marks) [
-      | true ↦ slice_set planes c.index (decided (slice_index_or planes c.index None)
-          (plane_by c.component c.quantization blocks))
-      | false ↦ planes
-    ]
+    if list_all (λ mark. mark) marks
+    then slice_set planes c.index (decided (slice_index_or planes c.index None)
+    (plane_by c.component c.quantization blocks)) else planes
 
 unfoldable pub with_blocks : Pass → Coding → List Block → Found → Found
 with_blocks p c blocks found =
@@ -151,15 +148,12 @@ with_blocks p c blocks found =
 
 -- with each component of the scan
 unfoldable pub with_arrays : Pass → List Coding → Arrays → Found → Found
-with_arrays p (c ∷ codings) (blocks ∷ arrays) found =
-    with_arrays p codings arrays (with_blocks p c blocks found)
-with_arrays p _ _ found = found
+with_arrays p codings arrays found =
+    fold (λ found x. with_blocks p x.0 x.1 found) found (zip codings arrays)
 
 -- the blocks of a scan's components in place of those of the frame
 unfoldable pub put_arrays : List Coding → Arrays → Arrays → Arrays
-put_arrays (c ∷ codings) (blocks ∷ arrays) kept =
-    put_arrays codings arrays (set kept c.index blocks)
-put_arrays _ _ kept = kept
+put_arrays codings arrays kept = fold (λ kept x. set kept x.0.index x.1) kept (zip codings arrays)
 
 abbrev pub blocks_after : Found → Frame → List Coding → Arrays → Arrays
 blocks_after found frame codings arrays = if is_progressive frame.process

@@ -1,5 +1,5 @@
 -- The blocks after a scan (T.81, A.2, E.2.3 and G.1).
-use Rattle.std.specs.Prelude.{ℕ, ◌*◌, List, [], ◌∷◌, map, set, get_or, replicate, Option, Ok}
+use Rattle.std.specs.Prelude.{ℕ, ◌*◌, List, [], fold, map, set, get_or, replicate, zip, Option, Ok}
 use Rattle.jpeg_bits.specs.Reading.{Outcome, ◌>>=◌}
 use Rattle.jpeg_bits.specs.Codes.{Table}
 use Rattle.jpeg_bits.specs.declared.codes.HuffmanTableClass.{HuffmanTableClass}
@@ -22,8 +22,7 @@ put_block s b arrays = set arrays s.slot (set (get_or arrays s.slot []) s.index 
 
 -- blocks put at their spots, one after the other
 unfoldable pub put_blocks : List Spot → List Block → Arrays → Arrays
-put_blocks (s ∷ spots) (b ∷ blocks) arrays = put_blocks spots blocks (put_block s b arrays)
-put_blocks _ _ arrays = arrays
+put_blocks spots blocks arrays = fold (λ arrays x. put_block x.0 x.1 arrays) arrays (zip spots blocks)
 
 -- the blocks of a component in which nothing was read yet
 abbrev pub zero_of : Component → List Block
@@ -46,14 +45,14 @@ via_at vias slot = get_or vias slot (record {
 })
 
 -- the blocks at the spots, and how each is coded
-unfoldable pub turns_of : List Via → List Spot → Arrays → List (Via × Block)
-turns_of vias spots arrays = map (λ s. (via_at vias s.slot, block_at arrays s)) spots
+unfoldable pub turns_of : List Via → List Spot → (Spot → Block) → List (Via × Block)
+turns_of vias spots at = map (λ s. (via_at vias s.slot, at s)) spots
 
 -- A scan: the blocks at its spots are read in intervals of n blocks, or in one where n is 0, and
 -- are put back; and the marker after the scan, if it is met.
 unfoldable pub arrays_at : Pass → ℕ → List Via → List Spot → Arrays → List ℕ
     → Outcome (Arrays × Option Marker)
 arrays_at p n vias spots arrays bytes =
-    let turns = turns_of vias spots arrays in do
+    let turns = turns_of vias spots (block_at arrays) in do
       r ← intervals p 0 (first_group n turns) (other_groups n turns) bytes
       Ok ((put_blocks spots r.0.0 arrays, r.0.1), r.1)

@@ -5,21 +5,18 @@ use Rattle.jpeg_bits.specs.Reading.{Outcome}
 use Rattle.jpeg_bits.specs.Stream.{Stream}
 use Rattle.jpeg_bits.specs.declared.error.Error.{Error}
 use Rattle.jpeg_bits.specs.declared.error.Error.TheVariants as errors
+use Rattle.jpeg_streams.specs.declared.progress.Progress.{Progress}
+use Rattle.jpeg_streams.specs.declared.progress.Progress.TheVariants.{Fresh, HeaderRead, Finished}
+use Rattle.jpeg_streams.specs.declared.progress.Progress.TheVariants.{Failed}
 use Rattle.jpeg_streams.specs.declared.settings.Settings.{Settings}
 use Rattle.jpeg_streams.specs.Stream.{Told, told_of, meaning, rest_at}
 use Rattle.jpeg_streams.specs.Reported.{told_by_turns, told_in_turns}
 use Rattle.jpeg_streams.specs.Found.{Found}
 
-pub data Stage : Type 0 where
-  Fresh : Stage
-  HeaderRead : Stage
-  Finished : Stage
-  Failed : Stage
-
 -- a decoder: its source, its stage, what was found, and what was set
 pub record Decoding : Type 0 where
   pub source : Stream
-  pub stage : Stage
+  pub stage : Progress
   pub found : Found
   pub settings : Settings
 
@@ -36,7 +33,7 @@ IsOfBytes _ = Unit {0}
 -- ---- the state table
 
 -- the column for reading the header
-abbrev pub MovesToHeader : {X : Type 0} → Stage → Stage → Result X Error → Type 0
+abbrev pub MovesToHeader : {X : Type 0} → Progress → Progress → Result X Error → Type 0
 MovesToHeader Fresh new (Ok x) = new ≡ HeaderRead
 MovesToHeader Fresh new (Err e) = (new ≡ Failed) × IsOfBytes e
 MovesToHeader HeaderRead new result = (new ≡ HeaderRead) × IsOk result
@@ -44,38 +41,38 @@ MovesToHeader Finished new result = (new ≡ Finished) × IsOk result
 MovesToHeader Failed new result = (new ≡ Failed) × IsErrAnd result IsInternal
 
 -- the column for decoding
-abbrev pub MovesToEnd : {X : Type 0} → Stage → Stage → Result X Error → Type 0
+abbrev pub MovesToEnd : {X : Type 0} → Progress → Progress → Result X Error → Type 0
 MovesToEnd Finished new result = (new ≡ Finished) × IsErrAnd result IsInternal
 MovesToEnd Failed new result = (new ≡ Failed) × IsErrAnd result IsInternal
 MovesToEnd _ new (Ok x) = new ≡ Finished
 MovesToEnd _ new (Err e) = (new ≡ Failed) × IsOfBytes e
 
 -- a state in which a stream is read
-abbrev pub IsReading : Stage → Type 0
+abbrev pub IsReading : Progress → Type 0
 IsReading Fresh = Unit {0}
 IsReading HeaderRead = Unit {0}
 IsReading _ = ⊥
 
 -- a state in which a header was read
-abbrev pub HasHeader : Stage → Type 0
+abbrev pub HasHeader : Progress → Type 0
 HasHeader HeaderRead = Unit {0}
 HasHeader Finished = Unit {0}
 HasHeader _ = ⊥
 
 -- the meaning of what lies ahead of a decoder: a whole stream, or the rest of one after its header
-abbrev pub ahead : Stage → Settings → Found → List ℕ → Outcome (Told × List ℕ)
+abbrev pub ahead : Progress → Settings → Found → List ℕ → Outcome (Told × List ℕ)
 ahead Fresh settings found bytes = meaning settings bytes
 ahead _ settings found bytes = rest_at settings found bytes
 
 -- what this many turns of what lies ahead have said
-abbrev pub turns_ahead : ℕ → Bool → Stage → Found → List ℕ → Told
+abbrev pub turns_ahead : ℕ → Bool → Progress → Found → List ℕ → Told
 turns_ahead turns header Fresh found bytes = told_by_turns turns header bytes
 turns_ahead turns header HeaderRead found bytes = told_in_turns turns header found bytes
 turns_ahead turns header _ found bytes = told_of found
 
 -- What has been said by the end, or the refusal, of what lies ahead: there are fewer turns than
 -- bytes.
-abbrev pub told_ahead : Bool → Stage → Found → List ℕ → Told
+abbrev pub told_ahead : Bool → Progress → Found → List ℕ → Told
 told_ahead header stage found bytes = turns_ahead (suc (length bytes)) header stage found bytes
 
 -- ---- calls that read

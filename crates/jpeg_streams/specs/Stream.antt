@@ -2,10 +2,10 @@
 use Rattle.std.specs.Prelude.{ℕ, zero, suc, ◌==◌, ◌&&◌}
 use Rattle.std.specs.Prelude.{List, length}
 use Rattle.std.specs.Prelude.{Bool, true, false}
-use Rattle.std.specs.Prelude.{Option, Some, None, option_map, is_some, Result, Ok, Err}
+use Rattle.std.specs.Prelude.{Option, None, option_map, is_some, Result, Ok, Err}
 use Rattle.std.specs.Prelude.{if◌then◌else◌}
 use Rattle.jpeg_bits.specs.Reading.{Fault, Outcome, Malformed, Lacks, End, ◌>>=◌, next_byte}
-use Rattle.jpeg_bits.specs.Marker.{next_marker}
+use Rattle.jpeg_bits.specs.Marker.{found_or, next_marker}
 use Rattle.jpeg_bits.specs.declared.marker.Marker.{Marker}
 use Rattle.jpeg_bits.specs.declared.marker.Marker.TheVariants.{SOF, DHT, DAC, RST, EOI, SOS, DQT}
 use Rattle.jpeg_bits.specs.declared.marker.Marker.TheVariants.{DNL, DRI, DHP, EXP, APP, COM}
@@ -14,7 +14,7 @@ use Rattle.jpeg_segments.specs.Frame.{Frame}
 use Rattle.jpeg_segments.specs.Scales.{sized}
 use Rattle.jpeg_streams.specs.declared.settings.Settings.{Settings}
 use Rattle.jpeg_streams.specs.declared.before.Before.{Before}
-use Rattle.jpeg_streams.specs.declared.before.Before.TheVariants.{FirstScan, LaterScan, Elsewhere}
+use Rattle.jpeg_streams.specs.declared.before.Before.TheVariants.{FirstScan, Elsewhere}
 use Rattle.jpeg_streams.specs.Found.{Metadata, Found, nothing_found}
 use Rattle.jpeg_streams.specs.Segments.{Turn, onward, frame_segment, quantization_segment}
 use Rattle.jpeg_streams.specs.Segments.{huffman_segment, restart_segment, application_segment}
@@ -27,17 +27,8 @@ unfoldable pub end_segment : Found → List ℕ → Outcome Turn
 end_segment found bytes = if is_some found.frame
     then Ok (record (onward found) { ended = true }, bytes) else Err Malformed
 
--- A restart marker after a scan is ignored, once.
-abbrev pub stray_restart : Before → Found → List ℕ → Outcome Turn
-stray_restart Elsewhere found bytes = Err Malformed
-stray_restart _ found bytes = Ok (onward found, bytes)
-
--- A DNL segment after the first scan would give the height.
-abbrev pub line_count : Before → Outcome Turn
-line_count FirstScan = Err (Lacks features.DNL)
-line_count _ = Err Malformed
-
--- After a marker. SOI, TEM, RES, JPG and JPGn have no place here.
+-- After a marker. A restart marker after a scan is ignored, once, and a DNL segment after the first
+-- scan would give the height. SOI, TEM, RES, JPG and JPGn have no place here.
 unfoldable pub segment_at : Marker → Before → Found → List ℕ → Outcome Turn
 segment_at (SOF number) before found bytes = frame_segment number found bytes
 segment_at DQT before found bytes = quantization_segment found bytes
@@ -47,21 +38,18 @@ segment_at EOI before found bytes = end_segment found bytes
 segment_at DRI before found bytes = restart_segment found bytes
 segment_at (APP number) before found bytes = application_segment number found bytes
 segment_at COM before found bytes = skipped_segment found bytes
-segment_at (RST n) before found bytes = stray_restart before found bytes
-segment_at DNL before found bytes = line_count before
+segment_at (RST n) Elsewhere found bytes = Err Malformed
+segment_at (RST n) _ found bytes = Ok (onward found, bytes)
+segment_at DNL FirstScan found bytes = Err (Lacks features.DNL)
 segment_at DAC before found bytes = Err (Lacks features.ArithmeticEntropyCoding)
 segment_at DHP before found bytes = Err (Lacks features.Hierarchical)
 segment_at EXP before found bytes = Err (Lacks features.Hierarchical)
 segment_at _ before found bytes = Err Malformed
 
--- the marker that is met, or else the next
-abbrev pub marker_or : Option Marker → List ℕ → Outcome Marker
-marker_or (Some m) bytes = Ok (m, bytes)
-marker_or None bytes = next_marker bytes
-
+-- after the marker that is met, or else the next
 unfoldable pub turn_at : Before → Found → Option Marker → List ℕ → Outcome Turn
 turn_at before found met bytes = do
-  m ← marker_or met bytes
+  m ← found_or met bytes (next_marker bytes)
   segment_at m.0 before found m.1
 
 -- Segments in turn from a marker on, up to the end of the image, or where a header is wanted up to

@@ -17,7 +17,7 @@ use Rattle.jpeg_lossless.specs.Positions.{at_position}
 use Rattle.jpeg_lossless.specs.Scans.{rows_of_interval}
 use Rattle.jpeg_lossless.specs.Written.{WritesIntervals}
 use Rattle.jpeg_bits.specs.Written.{marker}
-use Rattle.jpeg_streams.specs.InTurn.{IsIn}
+use Rattle.jpeg_bits.specs.DefaultTables.{names}
 use Rattle.jpeg_streams.specs.LosslessScans.{LosslessCoding, lossless_codings, mcus_across}
 use Rattle.jpeg_streams.specs.LosslessScans.{mcus_down, parts_of, way_of}
 use Rattle.jpeg_streams.specs.SaidSegments.{found_after, Stands}
@@ -86,7 +86,7 @@ said_after_scan said = record said { scanned = true }
 pub data Writes (samples : Samples) : Found → List ℕ → List ℕ → Found → Type 0 where
   closed : (said : Found) (sent : List ℕ) (frame : Frame) (fill : ℕ)
       → said.frame ≡ Some frame → frame.process ≡ Lossless
-      → AllByRecursion (λ k. IsIn k sent) (range_with_len 0 (length frame.components))
+      → AllByRecursion (λ k. names sent k ≡ true) (range_with_len 0 (length frame.components))
       → Writes samples said sent (marker fill 217 []) said
   segment : (said final : Found) (sent : List ℕ) (fill : ℕ) (s : Segment) (more : List ℕ)
       → StandsInLossless said s → Writes samples (found_after said s) sent more final

@@ -1,16 +1,16 @@
 -- The scans that a writer sends of the coefficients of an image, and when a scan may be sent
 -- (T.81, A.2, E.1.4 and G.1).
-use Rattle.std.specs.Prelude.{◌≡◌, ℕ, ◌*◌, ◌/◌, ◌%◌, ◌==◌, ◌<◌, true, false, List, [], ◌∷◌, map}
-use Rattle.std.specs.Prelude.{get_or, slice_index_or, Some, None, Ok}
+use Rattle.std.specs.Prelude.{◌≡◌, ℕ, ◌*◌, ◌/◌, ◌%◌, ◌==◌, ◌<◌, true, false, List, [], ◌∷◌}
+use Rattle.std.specs.Prelude.{slice_get, slice_index_or, Some, None, IsSome, Ok}
 use Rattle.std.specs.List.{AllByRecursion}
 use Rattle.jpeg_bits.specs.Intervals.{first_group, other_groups}
-use Rattle.jpeg_bits.specs.Passes.{Pass, Via, Block}
+use Rattle.jpeg_bits.specs.Passes.{Pass, Block}
 use Rattle.jpeg_segments.specs.Frame.{Frame, Component}
 use Rattle.jpeg_segments.specs.ScanHeader.{Scan}
 use Rattle.jpeg_streams.specs.declared.grids.Grid.{Grid}
 use Rattle.jpeg_streams.specs.Levels.{Is8Bit, IsLegal, Levels, sent_after, numbers_at}
 use Rattle.jpeg_streams.specs.Order.{Spot, grid_of, mcu_size, spots_of}
-use Rattle.jpeg_streams.specs.Scans.{via_at}
+use Rattle.jpeg_streams.specs.Scans.{turns_of}
 use Rattle.jpeg_streams.specs.ScanSegments.{Coding, codings_of, components_of, pass_of, vias_from}
 use Rattle.jpeg_streams.specs.Found.{Found}
 use Rattle.jpeg_streams.specs.WrittenData.{WritesIntervals}
@@ -24,31 +24,10 @@ Coefficients = ℕ → ℕ → ℕ → Block
 
 -- ---- the blocks of a scan
 
--- the index in the frame of the component in a slot of the scan
-abbrev pub index_at : List Coding → ℕ → ℕ
-index_at codings slot = get_or (map (λ c. c.index) codings) slot 0
-
-abbrev pub no_grid : Grid
-no_grid = record { own_wide = 0; own_high = 0; wide = 0; high = 0 }
-
--- the blocks across and down of the component in a slot
-abbrev pub grid_at : List Component → ℕ → Grid
-grid_at components slot = get_or (map grid_of components) slot no_grid
-
 -- A block that its component has by its own size. The others are padding up to whole MCUs (A.2.4).
 pub record IsOwn (g : Grid) (index : ℕ) : Type 0 where
   pub row : index / g.wide < g.own_high
   pub column : index % g.wide < g.own_wide
-
--- the block of an array at a spot of a scan
-abbrev pub block_for : List Coding → Coefficients → Spot → Block
-block_for codings array s =
-    let g = grid_at (components_of codings) s.slot in
-    array (index_at codings s.slot) (s.index / g.wide) (s.index % g.wide)
-
--- the blocks of a scan in order, each with its component's way of coding
-abbrev pub written_turns : List Via → List Spot → (Spot → Block) → List (Via × Block)
-written_turns vias spots u = map (λ s. (via_at vias s.slot, u s)) spots
 
 -- The data of a scan with restart intervals of `restart` MCUs, or in one interval where that is 0.
 -- The blocks that are sent are those of the array, and any others of the same range in the places
@@ -57,20 +36,20 @@ pub record WritesScan (frame : Frame) (restart : ℕ) (p : Pass) (codings : List
     (array : Coefficients) (bytes : List ℕ) : Type 0 where
   pub sent : Spot → Block
   pub in_range : (s : Spot) → Is8Bit (sent s)
-  pub is_own : (s : Spot)
-      → IsOwn (grid_at (components_of codings) s.slot) s.index → sent s ≡ block_for codings array s
+  pub is_own : (s : Spot) (c : Coding)
+      → slice_get codings s.slot ≡ Some c → IsOwn (grid_of c.component) s.index
+      → sent s ≡ array c.index (s.index / c.component.blocks_wide) (s.index % c.component.blocks_wide)
   pub coded :
       let n = restart * mcu_size (components_of codings) in
       let spots = spots_of frame (components_of codings) in
-      let turns = written_turns (vias_from 0 codings) spots (λ s. numbers_at p.al (sent s)) in
+      let turns = turns_of (vias_from 0 codings) spots (λ s. numbers_at p.al (sent s)) in
       WritesIntervals p 0 (first_group n turns) (other_groups n turns) bytes
 
 -- ---- tables in force
 
 -- a component has its quantization table
-pub record HasTable (w : Found) (c : Component) : Type 0 where
-  pub table : List ℕ
-  pub is : slice_index_or w.quantization c.factors.quantization None ≡ Some table
+abbrev pub HasTable : Found → Component → Type 0
+HasTable w c = IsSome (slice_index_or w.quantization c.factors.quantization None)
 
 -- ---- scripts (G.1.1.1)
 

@@ -11,4 +11,5 @@
 pub mod before;
 pub mod grids;
 pub mod images;
+pub mod progress;
 pub mod settings;

@@ -6,7 +6,9 @@ use Rattle.jpeg_bits.specs.declared.error.Error.{Error}
 use Rattle.jpeg_segments.specs.Frame.{Frame}
 use Rattle.jpeg_streams.specs.DecodedImages.{DecodesImages}
 use Rattle.jpeg_streams.specs.Pixels.{info_of}
-use Rattle.jpeg_streams.specs.States.{Decoding, HeaderRead, IsReading, Stage, ahead}
+use Rattle.jpeg_streams.specs.States.{Decoding, IsReading, ahead}
+use Rattle.jpeg_streams.specs.declared.progress.Progress.{Progress}
+use Rattle.jpeg_streams.specs.declared.progress.Progress.TheVariants.{HeaderRead}
 use Rattle.jpeg_streams.specs.Stream.{Told, rest_at, told_of}
 use Rattle.jpeg_streams.specs.declared.images.ImageInfo.{ImageInfo}
 use Rattle.jpeg_decoder.proofs.Callers.{picture_is_counted}
@@ -54,7 +56,7 @@ pub decodes-of : (lines : Lines) (old new : Decoding) (samples before after : Li
 decodes-of lines old new samples before after s frame reads images pixels = record {
   samples = samples;
   frame = frame;
-  reads = subst (λ (t : Stage). IsReading t → Answers {X = Unit {0}} (λ u. (told_of new.found, samples))
+  reads = subst (λ (t : Progress). IsReading t → Answers {X = Unit {0}} (λ u. (told_of new.found, samples))
       (ahead t old.settings old.found) old.source (Ok tt) new.source) s reads tt;
   images = images;
   pixels = pixels;
@@ -67,5 +69,5 @@ pub named-rest : {X : Type 0} (view : X → Told × List ℕ) (old new : Decodin
     → old.source.known ≡ true → IsFault (rest_at old.settings old.found old.source.bytes) r
 named-rest {X = X} view old new e r s for reads known =
     stands view (rest_at old.settings old.found) old.source new.source e r for
-    (subst (λ (t : Stage). IsReading t → Answers {X = X} view (ahead t old.settings old.found) old.source (Err e) new.source)
+    (subst (λ (t : Progress). IsReading t → Answers {X = X} view (ahead t old.settings old.found) old.source (Err e) new.source)
     s reads tt) known

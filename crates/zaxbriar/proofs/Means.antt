@@ -3,7 +3,7 @@ use Rattle.std.proofs.Common.{arith}
 use Rattle.std.proofs.Common.{◌≡◌, ℕ, List, Ok}
 use Rattle.jpeg_streams.specs.DecodedImages.{Size, at_size, HasLeft}
 use Rattle.jpeg_streams.specs.Found.{Found}
-use Rattle.jpeg_streams.specs.States.{HeaderRead}
+use Rattle.jpeg_streams.specs.declared.progress.Progress.TheVariants.{HeaderRead}
 use Rattle.jpeg_streams.specs.Stream.{Told, header_at, rest_at}
 use Rattle.jpeg_streams.proofs.ReadTurns.{then-ok}
 use Rattle.zaxbriar.specs.Meanings.{settings_of, size_wanted, meaning_by}

@@ -6,7 +6,8 @@ use Rattle.jpeg_bits.specs.declared.color_transform.ColorTransform.{ColorTransfo
 use Rattle.jpeg_bits.specs.declared.color_transform.ColorTransform.TheVariants as transforms
 use Rattle.jpeg_streams.specs.DecodedImages.{Size, FullSize, AtLeast, at_size}
 use Rattle.jpeg_streams.specs.Found.{Found}
-use Rattle.jpeg_streams.specs.States.{Decoding, HeaderRead}
+use Rattle.jpeg_streams.specs.States.{Decoding}
+use Rattle.jpeg_streams.specs.declared.progress.Progress.TheVariants.{HeaderRead}
 use Rattle.jpeg_streams.specs.Pixels.{info_of}
 use Rattle.jpeg_streams.specs.Stream.{Told, header_at, rest_at}
 use Rattle.jpeg_streams.specs.declared.images.ImageInfo.{ImageInfo}

@@ -3,7 +3,7 @@ ghost use Rattle.std.specs.Prelude.{◌≡◌, true, Some, IfOk, IfErr, OnOk, op
 ghost use Rattle.jpeg_decoder.specs.Bytes.{decoding_bytes};
 ghost use Rattle.jpeg_streams.specs.Output.{default_settings};
 ghost use Rattle.jpeg_streams.specs.Pixels.{info_of};
-ghost use Rattle.jpeg_streams.specs.States.{Fresh};
+ghost use Rattle.jpeg_streams.specs.declared.progress.Progress.TheVariants.{Fresh};
 ghost use Rattle.jpeg_streams.specs.Stream.{header_at};
 ghost use Rattle.zaxbriar.specs.Faults.{IsFault};
 ghost use Rattle.std.specs.Option.{option_copied};

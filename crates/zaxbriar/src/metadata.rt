@@ -4,7 +4,7 @@ ghost use Rattle.std.specs.Prelude.{OnOk};
 ghost use Rattle.std.specs.Option.{option_copied};
 ghost use Rattle.jpeg_streams.specs.Output.{Tells};
 ghost use Rattle.jpeg_streams.specs.Reported.{told_by_turns};
-ghost use Rattle.jpeg_streams.specs.States.{Fresh};
+ghost use Rattle.jpeg_streams.specs.declared.progress.Progress.TheVariants.{Fresh};
 ghost use Rattle.jpeg_streams.specs.Stream.{header_at, told_of};
 ghost use Rattle.zaxbriar.specs.Faults.{IsNamed};
 ghost use Rattle.zaxbriar.specs.Metadata.{IsCopied, metadata_of, said_of};

@@ -2,7 +2,7 @@
 ghost use Rattle.std.specs.Prelude.{◌≡◌, IsOk, OnOk, true};
 ghost use Rattle.jpeg_streams.specs.DecodedImages.{at_size};
 ghost use Rattle.jpeg_streams.specs.Output.{default_settings};
-ghost use Rattle.jpeg_streams.specs.States.{HeaderRead};
+ghost use Rattle.jpeg_streams.specs.declared.progress.Progress.TheVariants.{HeaderRead};
 ghost use Rattle.zaxbriar.specs.Meanings.{settings_of, size_wanted, transform_number};
 
 use jpeg_decoder::error::Result;

@@ -4,4 +4,4 @@ use Rattle.jpeg_streams.proofs.ProfileLemmas.{Joins}
 use Rattle.jpeg_decoder.proofs.profile.joined.Given as goal
 
 abbrev pub invariant-loop-index : goal.invariant-loop-index
-invariant-loop-index l = record { joins : Joins l.count (map chunk_in l.chunks) l.index l.bytes.items }
+invariant-loop-index l = record { joins : Joins (map chunk_in l.chunks) l.index l.bytes.items }

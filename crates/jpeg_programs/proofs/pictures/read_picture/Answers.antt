@@ -1,6 +1,7 @@
 use Rattle.std.proofs.Common.{◌≡◌, ◌∙◌, ap, refl, sym}
 use Rattle.jpeg_decoder.proofs.Callers.{bytes_are_known, known_bytes_are_told}
-use Rattle.jpeg_streams.specs.States.{Decoding, Fresh, HeaderRead}
+use Rattle.jpeg_streams.specs.States.{Decoding}
+use Rattle.jpeg_streams.specs.declared.progress.Progress.TheVariants.{Fresh, HeaderRead}
 use Rattle.jpeg_streams.specs.Stream.{told_of}
 use Rattle.jpeg_programs.proofs.SizedPictures.{header-info-some, picture-at-scale-some}
 use Rattle.jpeg_programs.proofs.pictures.read_picture.Goals as goal

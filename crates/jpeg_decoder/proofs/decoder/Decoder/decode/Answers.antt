@@ -5,11 +5,11 @@ use Rattle.std.specs.Prelude.{IfOk, OnOk, if◌then◌else◌, is_ok, is_some}
 use Rattle.jpeg_bits.specs.declared.error.Error.{Error}
 use Rattle.jpeg_streams.specs.Found.{Found, nothing_found}
 use Rattle.jpeg_streams.specs.Sound.{HasDecodedFrame, IsSound, IsUnread}
-use Rattle.jpeg_streams.specs.States.{Decoding, Fresh, HasHeader, HeaderRead, Stage}
+use Rattle.jpeg_streams.specs.States.{Decoding, HasHeader}
 use Rattle.jpeg_streams.specs.Stream.{told_of}
-use Rattle.jpeg_decoder.specs.declared.decoder.Progress.{Progress}
-use Rattle.jpeg_decoder.specs.declared.decoder.Progress.TheVariants as steps
-use Rattle.jpeg_decoder.specs.Seen.{found_in, stage_of}
+use Rattle.jpeg_streams.specs.declared.progress.Progress.{Progress}
+use Rattle.jpeg_streams.specs.declared.progress.Progress.TheVariants.{Failed, Finished, Fresh, HeaderRead}
+use Rattle.jpeg_decoder.specs.Seen.{found_in}
 use Rattle.jpeg_decoder.proofs.DecodedImages.{decodes-images}
 use Rattle.jpeg_decoder.proofs.DecodedInto.{HasRead, begun-seen, into, into-refused}
 use Rattle.jpeg_decoder.proofs.DecodedSamples.{decodes-samples}
@@ -58,7 +58,7 @@ returns-in-Err-clause-samples g c =
 abbrev ended : (g : given.Over) → goal.After-self-1 g → Decoding
 ended g c = record {
   source = c.read_rest-result.new.source;
-  stage = stage_of c.progress_after-self-inside.result;
+  stage = c.progress_after-self-inside.result;
   found = found_in c.read_rest-result.new.state;
   settings = c.self-2.inside.settings;
 }
@@ -94,13 +94,13 @@ returns-clause-counted g c =
     if-counted (found_in c.read_rest-result.new.state) c.read_rest-result.result (search rules)
 
 -- what holds between calls
-abbrev Holds : Stage → Found → Type 0
+abbrev Holds : Progress → Found → Type 0
 Holds stage found = (stage ≡ Fresh → found ≡ nothing_found) × (HasHeader stage → is_some found.frame ≡ true)
     × (HasHeader stage → HasDecodedFrame found) × (stage ≡ HeaderRead → IsSound found × IsUnread found)
 
 holds : {X : Type 0} (found : Found) (r : Result X Error) (b : Bool) (p : Progress) → b ≡ is_ok r
-    → p ≡ (if b then steps.Finished else steps.Failed) → IfOk r (λ _. is_some found.frame ≡ true)
-    → OnOk r (HasDecodedFrame found) → Holds (stage_of p) found
+    → p ≡ (if b then Finished else Failed) → IfOk r (λ _. is_some found.frame ≡ true)
+    → OnOk r (HasDecodedFrame found) → Holds p found
 holds found (Ok x) b p e q framed frames = rw (q, e) (search rules)
 holds found (Err x) b p e q framed frames = rw (q, e) (search rules)
 

@@ -5,7 +5,7 @@ use Rattle.std.specs.Prelude.{OnOk}
 use Rattle.jpeg_streams.specs.Sound.{HasDecodedFrame}
 use Rattle.jpeg_streams.specs.States.{Decoding}
 use Rattle.jpeg_streams.specs.Stream.{told_of}
-use Rattle.jpeg_decoder.specs.Seen.{found_in, stage_of}
+use Rattle.jpeg_decoder.specs.Seen.{found_in}
 use Rattle.jpeg_decoder.proofs.DecodedImages.{decodes-images}
 use Rattle.jpeg_decoder.proofs.DecodedInto.{HasRead, begun-seen, front-of, into-err, into-ok, into-refused}
 use Rattle.jpeg_decoder.proofs.DecodedSamples.{decodes-samples}
@@ -54,7 +54,7 @@ returns-in-Err-clause-samples g c room =
 abbrev stopped : (g : given.Over) → goal.After-from_residual-in_err-written g → Decoding
 stopped g c = record {
   source = c.read_rest_into-written.new.source;
-  stage = stage_of c.progress_after-self-inside.result;
+  stage = c.progress_after-self-inside.result;
   found = found_in c.read_rest_into-written.new.state;
   settings = c.self-2.inside.settings;
 }
@@ -98,7 +98,7 @@ returns-in_err-written-clause-samples g c room =
 abbrev ended : (g : given.Over) → goal.In_ok-written g → Decoding
 ended g c = record {
   source = c.read_rest_into-written.new.source;
-  stage = stage_of c.progress_after-self-inside.result;
+  stage = c.progress_after-self-inside.result;
   found = found_in c.read_rest_into-written.new.state;
   settings = c.self-2.inside.settings;
 }
