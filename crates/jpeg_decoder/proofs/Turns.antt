@@ -18,8 +18,7 @@ use Rattle.jpeg_streams.specs.declared.before.Before.TheVariants.{Elsewhere}
 use Rattle.jpeg_segments.specs.Checks.{needed}
 use Rattle.jpeg_streams.specs.ScanSegments.{lossless_scan, blocks_scan, codings_of, scan_by, scan_samples}
 use Rattle.jpeg_streams.specs.ScanSegments.{after_restarts, scan_arrays, scan_segment}
-use Rattle.jpeg_streams.specs.Segments.{accepted, onward, Turn, frame_segment, application_segment, restart_segment}
-use Rattle.jpeg_streams.specs.Segments.{huffman_segment, quantization_segment, skipped_segment}
+use Rattle.jpeg_streams.specs.Segments.{accepted, onward, Turn, frame_segment}
 use Rattle.jpeg_streams.specs.Found.{Found, nothing_found}
 use Rattle.jpeg_streams.specs.Stream.{end_segment, line_count, segment_at, start_at, told_of, turn_at, walk}
 use Rattle.jpeg_streams.specs.Reported.{told_by_turns, told_in_turns}
@@ -104,35 +103,9 @@ frame-goes limit number found bytes h =
     on-bind (IsOnward limit) limit (sof_at number bytes) _ (sof-below limit number bytes h) (λ f p.
     on-needs (IsOnward limit) (accepted f.0) _ (λ decoded. on-onward limit _ f.1 p)))
 
-pub quantization-goes : (limit : ℕ) (found : Found) (bytes : List ℕ) → length bytes ≤ limit
-    → On (IsOnward limit) (quantization_segment found bytes)
-unfolding quantization_segment
-quantization-goes limit found bytes h = search (rules, arith, on-bind, dqt-below, on-onward)
-
-pub huffman-goes : (limit : ℕ) (found : Found) (bytes : List ℕ) → length bytes ≤ limit
-    → On (IsOnward limit) (huffman_segment found bytes)
-unfolding huffman_segment
-huffman-goes limit found bytes h =
-    on-bind (IsOnward limit) limit (dht_at (option_map (λ f. f.is_baseline) found.frame) bytes) _ (dht-below limit _ bytes h)
-    (λ t p. on-onward limit _ t.1 p)
-
-pub restart-goes : (limit : ℕ) (found : Found) (bytes : List ℕ) → length bytes ≤ limit
-    → On (IsOnward limit) (restart_segment found bytes)
-unfolding restart_segment
-restart-goes limit found bytes h = search (rules, arith, on-bind, dri-below, on-onward)
-
-pub application-goes : (limit number : ℕ) (found : Found) (bytes : List ℕ) → length bytes ≤ limit
-    → On (IsOnward limit) (application_segment number found bytes)
-unfolding application_segment
-application-goes limit number found bytes h =
-    on-bind (IsOnward limit) limit (app_at number bytes) _ (app-below limit number bytes h) (λ t p. on-onward limit _ t.1 p)
-
-pub skipped-goes : (limit : ℕ) (found : Found) (bytes : List ℕ) → length bytes ≤ limit
-    → On (IsOnward limit) (skipped_segment found bytes)
-unfolding skipped_segment
-skipped-goes limit found bytes h =
-    on-bind (IsOnward limit) limit (length_at bytes) _ (length-below limit bytes h) (λ n p.
-    on-bind (IsOnward limit) limit (skip_at n.0 n.1) _ (skip-below limit n.0 n.1 p) (λ u q. on-onward limit found u.1 q))
+pub says-goes : {A : Type 0} (limit : ℕ) (r : Outcome A) (found_by : A → Found) → LeavesBelow limit r
+    → On (IsOnward limit) (r >>= (λ (x : A × List ℕ). Ok (onward (found_by x.0), x.1)))
+says-goes limit r found_by h = on-bind (IsOnward limit) limit r _ h (λ x p. on-onward limit _ x.1 p)
 
 blocks-go : (limit : ℕ) (found : Found) (frame : Frame) (scan : Scan) (bytes : List ℕ) → length bytes < limit
     → On (Below limit) (blocks_scan found frame scan bytes)
@@ -173,6 +146,13 @@ scan-goes limit found bytes h =
 lines-goes : (limit : ℕ) (before : Before) → On (Below limit) (line_count before)
 lines-goes limit before = grind (arith, common_steps, on-err)
 
+comment-goes : (limit : ℕ) (found : Found) (bytes : List ℕ) → length bytes ≤ limit
+    → On (IsOnward limit) (length_at bytes >>= (λ (n : ℕ × List ℕ). skip_at n.0 n.1
+    >>= (λ (x : Unit {0} × List ℕ). Ok (onward found, x.1))))
+comment-goes limit found bytes h =
+    on-bind (IsOnward limit) limit (length_at bytes) _ (length-below limit bytes h) (λ n p.
+    says-goes limit (skip_at n.0 n.1) (λ _. found) (skip-below limit n.0 n.1 p))
+
 segment-goes : (limit : ℕ) (m : Marker) (before : Before) (found : Found) (bytes : List ℕ) → length bytes ≤ limit
     → (is_restart_marker (Some m) ≡ true → length bytes < limit) → On (Below limit) (segment_at m before found bytes)
 unfolding segment_at end_segment On
@@ -182,12 +162,13 @@ segment-goes limit m before found bytes h r =
       common_steps,
       onward-goes,
       frame-goes,
-      quantization-goes,
-      huffman-goes,
+      says-goes,
+      dqt-below,
+      dht-below,
       scan-goes,
-      restart-goes,
-      application-goes,
-      skipped-goes,
+      dri-below,
+      app-below,
+      comment-goes,
       on-onward,
       lines-goes,
       on-err,

@@ -78,6 +78,23 @@ frame_segment number found bytes =
       decoded ← accepted frame.0
       Ok (onward (record found { frame = Some decoded }), frame.1))
 
+-- the metadata after what a segment of an application says
+abbrev pub with_application : Metadata → Option Application → Metadata
+with_application m None = m
+with_application m (Some (Adobe transform)) = record m { adobe = Some transform }
+with_application m (Some Jfif) = record m { jfif = true }
+with_application m (Some Avi1) = record m { avi1 = true }
+with_application m (Some (Icc chunk)) = record m { icc = m.icc ++ chunk ∷ [] }
+with_application m (Some (Exif bytes)) = record m { exif = Some bytes }
+with_application m (Some (Xmp bytes)) = record m { xmp = Some bytes }
+with_application m (Some (Psir bytes)) = record m { psir = Some bytes }
+
+-- A segment whose parameters are read so, and what is found after it by them.
+abbrev pub says : {A : Type 0} → (List ℕ → Outcome A) → (A → Found) → List ℕ → Outcome Turn
+says read found_by bytes = read bytes >>= (λ r. Ok (onward (found_by r.0), r.1))
+
+-- ---- as the functions of the code read them
+
 unfoldable pub quantization_segment : Found → List ℕ → Outcome Turn
 quantization_segment found bytes = do
   t ← dqt_at bytes
@@ -92,17 +109,6 @@ unfoldable pub restart_segment : Found → List ℕ → Outcome Turn
 restart_segment found bytes = do
   interval ← dri_at bytes
   Ok (onward (record found { restart = interval.0 }), interval.1)
-
--- the metadata after what a segment of an application says
-abbrev pub with_application : Metadata → Option Application → Metadata
-with_application m None = m
-with_application m (Some (Adobe transform)) = record m { adobe = Some transform }
-with_application m (Some Jfif) = record m { jfif = true }
-with_application m (Some Avi1) = record m { avi1 = true }
-with_application m (Some (Icc chunk)) = record m { icc = m.icc ++ chunk ∷ [] }
-with_application m (Some (Exif bytes)) = record m { exif = Some bytes }
-with_application m (Some (Xmp bytes)) = record m { xmp = Some bytes }
-with_application m (Some (Psir bytes)) = record m { psir = Some bytes }
 
 unfoldable pub application_segment : ℕ → Found → List ℕ → Outcome Turn
 application_segment number found bytes = do
