@@ -12,13 +12,15 @@ use Rattle.jpeg_segments.specs.ScanHeader.{Scan, sos_at}
 use Rattle.jpeg_segments.specs.declared.parser.CodingProcess.{CodingProcess}
 use Rattle.jpeg_streams.specs.LosslessScans.{lossless_codings}
 use Rattle.jpeg_segments.specs.HuffmanTables.{dht_at}
-use Rattle.jpeg_segments.specs.Application.{app_at}
+use Rattle.jpeg_segments.specs.Application.{app_at, dri_at}
+use Rattle.jpeg_segments.specs.Quantization.{dqt_at}
 use Rattle.jpeg_streams.specs.declared.before.Before.{Before}
 use Rattle.jpeg_streams.specs.declared.before.Before.TheVariants.{Elsewhere}
 use Rattle.jpeg_segments.specs.Checks.{needed}
 use Rattle.jpeg_streams.specs.ScanSegments.{lossless_scan, blocks_scan, codings_of, scan_by, scan_samples}
 use Rattle.jpeg_streams.specs.ScanSegments.{after_restarts, scan_arrays, scan_segment}
-use Rattle.jpeg_streams.specs.Segments.{accepted, onward, Turn, frame_segment}
+use Rattle.jpeg_streams.specs.Segments.{accepted, application_segment, frame_segment, huffman_segment, onward, Turn}
+use Rattle.jpeg_streams.specs.Segments.{quantization_segment, restart_segment, skipped_segment}
 use Rattle.jpeg_streams.specs.Found.{Found, nothing_found}
 use Rattle.jpeg_streams.specs.Stream.{end_segment, line_count, segment_at, start_at, told_of, turn_at, walk}
 use Rattle.jpeg_streams.specs.Reported.{told_by_turns, told_in_turns}
@@ -103,9 +105,32 @@ frame-goes limit number found bytes h =
     on-bind (IsOnward limit) limit (sof_at number bytes) _ (sof-below limit number bytes h) (λ f p.
     on-needs (IsOnward limit) (accepted f.0) _ (λ decoded. on-onward limit _ f.1 p)))
 
-pub says-goes : {A : Type 0} (limit : ℕ) (r : Outcome A) (found_by : A → Found) → LeavesBelow limit r
+says-goes : {A : Type 0} (limit : ℕ) (r : Outcome A) (found_by : A → Found) → LeavesBelow limit r
     → On (IsOnward limit) (r >>= (λ (x : A × List ℕ). Ok (onward (found_by x.0), x.1)))
 says-goes limit r found_by h = on-bind (IsOnward limit) limit r _ h (λ x p. on-onward limit _ x.1 p)
+
+pub quantization-goes : (limit : ℕ) (found : Found) (bytes : List ℕ) → length bytes ≤ limit
+    → On (IsOnward limit) (quantization_segment found bytes)
+quantization-goes limit found bytes h = says-goes limit (dqt_at bytes) _ (dqt-below limit bytes h)
+
+pub huffman-goes : (limit : ℕ) (found : Found) (bytes : List ℕ) → length bytes ≤ limit
+    → On (IsOnward limit) (huffman_segment found bytes)
+huffman-goes limit found bytes h = says-goes limit (dht_at _ bytes) _ (dht-below limit _ bytes h)
+
+pub restart-goes : (limit : ℕ) (found : Found) (bytes : List ℕ) → length bytes ≤ limit
+    → On (IsOnward limit) (restart_segment found bytes)
+restart-goes limit found bytes h = says-goes limit (dri_at bytes) _ (dri-below limit bytes h)
+
+pub application-goes : (limit number : ℕ) (found : Found) (bytes : List ℕ) → length bytes ≤ limit
+    → On (IsOnward limit) (application_segment number found bytes)
+application-goes limit number found bytes h =
+    says-goes limit (app_at number bytes) _ (app-below limit number bytes h)
+
+pub skipped-goes : (limit : ℕ) (found : Found) (bytes : List ℕ) → length bytes ≤ limit
+    → On (IsOnward limit) (skipped_segment found bytes)
+skipped-goes limit found bytes h =
+    on-bind (IsOnward limit) limit (length_at bytes) _ (length-below limit bytes h) (λ n p.
+    says-goes limit (skip_at n.0 n.1) _ (skip-below limit n.0 n.1 p))
 
 blocks-go : (limit : ℕ) (found : Found) (frame : Frame) (scan : Scan) (bytes : List ℕ) → length bytes < limit
     → On (Below limit) (blocks_scan found frame scan bytes)
@@ -146,13 +171,6 @@ scan-goes limit found bytes h =
 lines-goes : (limit : ℕ) (before : Before) → On (Below limit) (line_count before)
 lines-goes limit before = grind (arith, common_steps, on-err)
 
-comment-goes : (limit : ℕ) (found : Found) (bytes : List ℕ) → length bytes ≤ limit
-    → On (IsOnward limit) (length_at bytes >>= (λ (n : ℕ × List ℕ). skip_at n.0 n.1
-    >>= (λ (x : Unit {0} × List ℕ). Ok (onward found, x.1))))
-comment-goes limit found bytes h =
-    on-bind (IsOnward limit) limit (length_at bytes) _ (length-below limit bytes h) (λ n p.
-    says-goes limit (skip_at n.0 n.1) (λ _. found) (skip-below limit n.0 n.1 p))
-
 segment-goes : (limit : ℕ) (m : Marker) (before : Before) (found : Found) (bytes : List ℕ) → length bytes ≤ limit
     → (is_restart_marker (Some m) ≡ true → length bytes < limit) → On (Below limit) (segment_at m before found bytes)
 unfolding segment_at end_segment On
@@ -162,13 +180,12 @@ segment-goes limit m before found bytes h r =
       common_steps,
       onward-goes,
       frame-goes,
-      says-goes,
-      dqt-below,
-      dht-below,
+      quantization-goes,
+      huffman-goes,
       scan-goes,
-      dri-below,
-      app-below,
-      comment-goes,
+      restart-goes,
+      application-goes,
+      skipped-goes,
       on-onward,
       lines-goes,
       on-err,
