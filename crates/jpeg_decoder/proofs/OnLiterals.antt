@@ -36,8 +36,7 @@ use Rattle.jpeg_streams.specs.ScanSegments.{codings_of, component_coding, finish
 use Rattle.jpeg_streams.specs.ScanSegments.{plane_by, put_arrays, scan_arrays, scan_segment, tables_of}
 use Rattle.jpeg_streams.specs.ScanSegments.{vias_from, with_arrays, with_blocks, with_plane}
 use Rattle.jpeg_streams.specs.Scans.{arrays_at, put_blocks, turns_of, zero_arrays}
-use Rattle.jpeg_streams.specs.Segments.{accepted, application_segment, frame_segment, huffman_segment}
-use Rattle.jpeg_streams.specs.Segments.{quantization_segment, restart_segment, skipped_segment, updated}
+use Rattle.jpeg_streams.specs.Segments.{accepted, frame_segment, updated}
 use Rattle.jpeg_streams.specs.Stream.{end_segment, header_at, meaning, rest_at, segment_at, segments_at}
 use Rattle.jpeg_streams.specs.Stream.{sized_meaning, start_at, turn_at, walk}
 use Rattle.std.specs.Int.{int_wrap}
@@ -45,24 +44,23 @@ use Rattle.jpeg_segments.specs.HuffmanTables as tables
 use Rattle.jpeg_segments.specs.Quantization as quantization
 
 unfoldable pub jpeg_on_literals : ⊤
-unfolding accepted adobe_at after_restarts after_scan all_spots app_at application_by
-    application_segment arrays_at arrays_before band_at band_part basis begins bits_from block_from
-    blocks_of blocks_picture blocks_scan blue_of by_identifiers code_from code_in code_value codes_exist
+unfolding accepted adobe_at after_restarts after_scan all_spots app_at application_by arrays_at
+    arrays_before band_at band_part basis begins bits_from block_from blocks_of blocks_picture
+    blocks_scan blue_of by_identifiers code_from code_in code_value codes_exist
     codings_of coefficients_in_block_order colour_of column_of_4 column_value com_at component_at
     component_coding component_of components_from conversion_of converted_picture corrected count_at
     cropped dc_part dequantized difference dri_at each end_segment ending_at even_part extended
-    factors_at finished_by first_ac first_dc frame_at frame_of frame_segment gathered green_of groups
-    header_at huffman_segment image_of int_wrap interval intervals is_flat_column length_at lengths_from
-    line_bytes lines_of marker_of mcu_size mcu_spots meaning next_marker next_u16 nothing_found odd_part
-    own_spots part_spots pass_of picture_by picture_line
+    factors_at finished_by first_ac first_dc frame_at frame_of frame_segment gathered green_of
+    groups header_at image_of int_wrap interval intervals is_flat_column length_at lengths_from
+    line_bytes lines_of marker_of mcu_size mcu_spots meaning next_marker next_u16 nothing_found
+    odd_part own_spots part_spots pass_of picture_by picture_line
     picture_of plane_at_end plane_by plane_of planes_from put_arrays put_blocks
     quantization.defined_table_at quantization.dqt_at quantization.quantization_from
-    quantization.value_at quantization_segment red_of refined_ac refined_piece rest_at
-    restart_segment rule_of sample sample_at sample_of_1 sample_of_2 sample_of_4 scale_for
-    scan_arrays scan_of scan_segment segment_at segments_at selector_at selectors_from signed_from
-    size_at sized_meaning skip_at skipped_segment sof_at sos_at sources_by spots_of start_at
-    symbol_from tables.defined_codes_at tables.dht_at tables.tables_from tables_of text_ahead
+    tables.defined_codes_at tables.dht_at red_of refined_ac refined_piece rest_at rule_of sample
+    sample_at sample_of_1 sample_of_2 sample_of_4 scale_for scan_arrays scan_of scan_segment
+    segment_at segments_at selector_at selectors_from signed_from size_at sized_meaning skip_at
+    sof_at sos_at sources_by spots_of start_at symbol_from tables.tables_from tables_of text_ahead
     text_at through_zero times token_at token_from transform_of transformed turn_at turns_of updated
-    upsampled values_in_block_order vias_from walk with_arrays with_blocks with_last with_plane
-    zero_arrays zero_block zigzag_indices
+    upsampled quantization.value_at values_in_block_order vias_from walk with_arrays with_blocks
+    with_last with_plane zero_arrays zero_block zigzag_indices
 jpeg_on_literals = tt

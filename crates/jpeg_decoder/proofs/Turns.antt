@@ -12,14 +12,15 @@ use Rattle.jpeg_segments.specs.ScanHeader.{Scan, sos_at}
 use Rattle.jpeg_segments.specs.declared.parser.CodingProcess.{CodingProcess}
 use Rattle.jpeg_streams.specs.LosslessScans.{lossless_codings}
 use Rattle.jpeg_segments.specs.HuffmanTables.{dht_at}
-use Rattle.jpeg_segments.specs.Application.{app_at}
+use Rattle.jpeg_segments.specs.Application.{app_at, dri_at}
+use Rattle.jpeg_segments.specs.Quantization.{dqt_at}
 use Rattle.jpeg_streams.specs.declared.before.Before.{Before}
 use Rattle.jpeg_streams.specs.declared.before.Before.TheVariants.{Elsewhere}
 use Rattle.jpeg_segments.specs.Checks.{needed}
 use Rattle.jpeg_streams.specs.ScanSegments.{lossless_scan, blocks_scan, codings_of, scan_by, scan_samples}
 use Rattle.jpeg_streams.specs.ScanSegments.{after_restarts, scan_arrays, scan_segment}
-use Rattle.jpeg_streams.specs.Segments.{accepted, onward, Turn, frame_segment, application_segment, restart_segment}
-use Rattle.jpeg_streams.specs.Segments.{huffman_segment, quantization_segment, skipped_segment}
+use Rattle.jpeg_streams.specs.Segments.{accepted, application_segment, frame_segment, huffman_segment, onward, Turn}
+use Rattle.jpeg_streams.specs.Segments.{quantization_segment, restart_segment, skipped_segment}
 use Rattle.jpeg_streams.specs.Found.{Found, nothing_found}
 use Rattle.jpeg_streams.specs.Stream.{end_segment, segment_at, start_at, told_of, turn_at, walk}
 use Rattle.jpeg_streams.specs.Reported.{told_by_turns, told_in_turns}
@@ -104,35 +105,32 @@ frame-goes limit number found bytes h =
     on-bind (IsOnward limit) limit (sof_at number bytes) _ (sof-below limit number bytes h) (λ f p.
     on-needs (IsOnward limit) (accepted f.0) _ (λ decoded. on-onward limit _ f.1 p)))
 
+says-goes : {A : Type 0} (limit : ℕ) (r : Outcome A) (found_by : A → Found) → LeavesBelow limit r
+    → On (IsOnward limit) (r >>= (λ (x : A × List ℕ). Ok (onward (found_by x.0), x.1)))
+says-goes limit r found_by h = on-bind (IsOnward limit) limit r _ h (λ x p. on-onward limit _ x.1 p)
+
 pub quantization-goes : (limit : ℕ) (found : Found) (bytes : List ℕ) → length bytes ≤ limit
     → On (IsOnward limit) (quantization_segment found bytes)
-unfolding quantization_segment
-quantization-goes limit found bytes h = search (rules, arith, on-bind, dqt-below, on-onward)
+quantization-goes limit found bytes h = says-goes limit (dqt_at bytes) _ (dqt-below limit bytes h)
 
 pub huffman-goes : (limit : ℕ) (found : Found) (bytes : List ℕ) → length bytes ≤ limit
     → On (IsOnward limit) (huffman_segment found bytes)
-unfolding huffman_segment
-huffman-goes limit found bytes h =
-    on-bind (IsOnward limit) limit (dht_at (option_map (λ f. f.is_baseline) found.frame) bytes) _ (dht-below limit _ bytes h)
-    (λ t p. on-onward limit _ t.1 p)
+huffman-goes limit found bytes h = says-goes limit (dht_at _ bytes) _ (dht-below limit _ bytes h)
 
 pub restart-goes : (limit : ℕ) (found : Found) (bytes : List ℕ) → length bytes ≤ limit
     → On (IsOnward limit) (restart_segment found bytes)
-unfolding restart_segment
-restart-goes limit found bytes h = search (rules, arith, on-bind, dri-below, on-onward)
+restart-goes limit found bytes h = says-goes limit (dri_at bytes) _ (dri-below limit bytes h)
 
 pub application-goes : (limit number : ℕ) (found : Found) (bytes : List ℕ) → length bytes ≤ limit
     → On (IsOnward limit) (application_segment number found bytes)
-unfolding application_segment
 application-goes limit number found bytes h =
-    on-bind (IsOnward limit) limit (app_at number bytes) _ (app-below limit number bytes h) (λ t p. on-onward limit _ t.1 p)
+    says-goes limit (app_at number bytes) _ (app-below limit number bytes h)
 
 pub skipped-goes : (limit : ℕ) (found : Found) (bytes : List ℕ) → length bytes ≤ limit
     → On (IsOnward limit) (skipped_segment found bytes)
-unfolding skipped_segment
 skipped-goes limit found bytes h =
     on-bind (IsOnward limit) limit (length_at bytes) _ (length-below limit bytes h) (λ n p.
-    on-bind (IsOnward limit) limit (skip_at n.0 n.1) _ (skip-below limit n.0 n.1 p) (λ u q. on-onward limit found u.1 q))
+    says-goes limit (skip_at n.0 n.1) _ (skip-below limit n.0 n.1 p))
 
 blocks-go : (limit : ℕ) (found : Found) (frame : Frame) (scan : Scan) (bytes : List ℕ) → length bytes < limit
     → On (Below limit) (blocks_scan found frame scan bytes)

@@ -122,7 +122,7 @@ impl State {
     }
 
     /// Quantization tables (T.81, B.2.4.1).
-    #[tactic(auto, unfolding(jpeg_streams::specs::Segments::quantization_segment), using(jpeg_streams::proofs::Soundness::sound_kept))]
+    #[tactic(auto, using(jpeg_streams::proofs::Soundness::sound_kept))]
     fn read_quantization<R: Read + Drop>(
         &mut self,
         alloc: Global,
@@ -138,7 +138,7 @@ impl State {
     }
 
     /// Huffman tables (T.81, B.2.4.2).
-    #[tactic(auto, unfolding(jpeg_streams::specs::Segments::huffman_segment), using(jpeg_streams::proofs::Soundness::sound_kept))]
+    #[tactic(auto, using(jpeg_streams::proofs::Soundness::sound_kept))]
     fn read_huffman<R: Read + Drop>(
         &mut self,
         alloc: Global,
@@ -156,7 +156,7 @@ impl State {
     }
 
     /// Reads a restart interval (T.81, B.2.4.4).
-    #[tactic(auto, unfolding(jpeg_streams::specs::Segments::restart_segment), using(jpeg_streams::proofs::Soundness::sound_kept))]
+    #[tactic(auto, using(jpeg_streams::proofs::Soundness::sound_kept))]
     fn read_restart<R: Read + Drop>(
         &mut self,
         alloc: Global,
@@ -171,7 +171,7 @@ impl State {
     }
 
     /// Data of an application (T.81, B.2.4.6).
-    #[tactic(auto, unfolding(jpeg_streams::specs::Segments::application_segment), using(jpeg_streams::proofs::Soundness::sound_kept))]
+    #[tactic(auto, using(jpeg_streams::proofs::Soundness::sound_kept))]
     fn read_application<R: Read + Drop>(
         &mut self,
         alloc: Global,
@@ -188,7 +188,6 @@ impl State {
     }
 
     /// Skips a segment.
-    #[tactic(auto, unfolding(jpeg_streams::specs::Segments::skipped_segment))]
     fn skip_segment<R: Read + Drop>(&self, alloc: Global, source: &mut Source<R>) -> Result<Step>
         ensures reads { Answers (turn_of self.now) (skipped_segment (found_in self.now)) source.old
             result source.new }

@@ -30,8 +30,7 @@ use Rattle.jpeg_segments.specs.Checks.{gathered, needed}
 use Rattle.jpeg_streams.specs.ScanSegments.{component_coding, needed_if, Coding, tables_of, after_restarts, after_scan}
 use Rattle.jpeg_streams.specs.ScanSegments.{scan_arrays, codings_of, scan_segment, scan_before}
 use Rattle.jpeg_streams.specs.ScanSegments.{blocks_scan, pass_of}
-use Rattle.jpeg_streams.specs.Segments.{onward, Turn, application_segment, restart_segment, huffman_segment}
-use Rattle.jpeg_streams.specs.Segments.{quantization_segment, skipped_segment, frame_segment, accepted}
+use Rattle.jpeg_streams.specs.Segments.{onward, Turn, frame_segment, accepted}
 use Rattle.jpeg_streams.specs.Found.{Found}
 use Rattle.jpeg_streams.specs.SaidSegments.{Stands, found_after}
 use Rattle.jpeg_streams.specs.Stream.{segment_at, segments_at, end_segment, turn_at, walk}
@@ -192,7 +191,7 @@ pub segment-read : (before : Before) (found : Found) (s : Segment) (rest : List 
           (found_after found s),
       rest,
     )
-unfolding segment_at quantization_segment huffman_segment restart_segment application_segment skipped_segment
+unfolding segment_at
 segment-read before found s rest may other =
     search (rules, read-on, dqt-read, dht-read, dri-read, app-read, sized-read, skip-read)
 

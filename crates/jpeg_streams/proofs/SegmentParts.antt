@@ -21,5 +21,4 @@ frame-read number found bytes rest frame none e a = rw (none, e, a) refl
 pub application-read : (number : ℕ) (found : Found) (bytes rest : List ℕ) (said : Option Application) (m : Metadata)
     → app_at number bytes ≡ Ok (said, rest) → m ≡ with_application found.metadata said
     → application_segment number found bytes ≡ Ok (onward (record found { metadata = m }), rest)
-unfolding application_segment
 application-read number found bytes rest said m e a = rw (e, a) refl

@@ -78,21 +78,6 @@ frame_segment number found bytes =
       decoded ← accepted frame.0
       Ok (onward (record found { frame = Some decoded }), frame.1))
 
-unfoldable pub quantization_segment : Found → List ℕ → Outcome Turn
-quantization_segment found bytes = do
-  t ← dqt_at bytes
-  Ok (onward (record found { quantization = updated found.quantization t.0 }), t.1)
-
-unfoldable pub huffman_segment : Found → List ℕ → Outcome Turn
-huffman_segment found bytes = do
-  t ← dht_at (option_map (λ f. f.is_baseline) found.frame) bytes
-  Ok (onward (record found { huffman = with_huffman found.huffman t.0 }), t.1)
-
-unfoldable pub restart_segment : Found → List ℕ → Outcome Turn
-restart_segment found bytes = do
-  interval ← dri_at bytes
-  Ok (onward (record found { restart = interval.0 }), interval.1)
-
 -- the metadata after what a segment of an application says
 abbrev pub with_application : Metadata → Option Application → Metadata
 with_application m None = m
@@ -104,14 +89,28 @@ with_application m (Some (Exif bytes)) = record m { exif = Some bytes }
 with_application m (Some (Xmp bytes)) = record m { xmp = Some bytes }
 with_application m (Some (Psir bytes)) = record m { psir = Some bytes }
 
-unfoldable pub application_segment : ℕ → Found → List ℕ → Outcome Turn
-application_segment number found bytes = do
-  said ← app_at number bytes
-  Ok (onward (record found { metadata = with_application found.metadata said.0 }), said.1)
+-- A segment whose parameters are read so, and what is found after it by them.
+abbrev pub says : {A : Type 0} → (List ℕ → Outcome A) → (A → Found) → List ℕ → Outcome Turn
+says read found_by bytes = read bytes >>= (λ r. Ok (onward (found_by r.0), r.1))
+
+-- ---- as the functions of the code read them
+
+abbrev pub quantization_segment : Found → List ℕ → Outcome Turn
+quantization_segment found =
+    says dqt_at (λ t. record found { quantization = updated found.quantization t })
+
+abbrev pub huffman_segment : Found → List ℕ → Outcome Turn
+huffman_segment found =
+    says (dht_at (option_map (λ f. f.is_baseline) found.frame))
+    (λ t. record found { huffman = with_huffman found.huffman t })
+
+abbrev pub restart_segment : Found → List ℕ → Outcome Turn
+restart_segment found = says dri_at (λ n. record found { restart = n })
+
+abbrev pub application_segment : ℕ → Found → List ℕ → Outcome Turn
+application_segment number found =
+    says (app_at number) (λ a. record found { metadata = with_application found.metadata a })
 
 -- a segment that is passed over
-unfoldable pub skipped_segment : Found → List ℕ → Outcome Turn
-skipped_segment found bytes = do
-  n ← length_at bytes
-  u ← skip_at n.0 n.1
-  Ok (onward found, u.1)
+abbrev pub skipped_segment : Found → List ℕ → Outcome Turn
+skipped_segment found bytes = length_at bytes >>= (λ n. says (skip_at n.0) (λ _. found) n.1)

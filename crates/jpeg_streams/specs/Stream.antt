@@ -5,20 +5,23 @@ use Rattle.std.specs.Prelude.{Bool, true, false}
 use Rattle.std.specs.Prelude.{Option, None, option_map, is_some, Result, Ok, Err}
 use Rattle.std.specs.Prelude.{if◌then◌else◌}
 use Rattle.jpeg_bits.specs.Reading.{Fault, Outcome, Malformed, Lacks, End, ◌>>=◌, next_byte}
+use Rattle.jpeg_bits.specs.Reading.{length_at, skip_at}
 use Rattle.jpeg_bits.specs.Marker.{found_or, next_marker}
 use Rattle.jpeg_bits.specs.declared.marker.Marker.{Marker}
 use Rattle.jpeg_bits.specs.declared.marker.Marker.TheVariants.{SOF, DHT, DAC, RST, EOI, SOS, DQT}
 use Rattle.jpeg_bits.specs.declared.marker.Marker.TheVariants.{DNL, DRI, DHP, EXP, APP, COM}
 use Rattle.jpeg_bits.specs.declared.error.UnsupportedFeature.TheVariants as features
 use Rattle.jpeg_segments.specs.Frame.{Frame}
+use Rattle.jpeg_segments.specs.Application.{app_at, dri_at}
+use Rattle.jpeg_segments.specs.HuffmanTables.{dht_at}
+use Rattle.jpeg_segments.specs.Quantization.{dqt_at}
 use Rattle.jpeg_segments.specs.Scales.{sized}
 use Rattle.jpeg_streams.specs.declared.settings.Settings.{Settings}
 use Rattle.jpeg_streams.specs.declared.before.Before.{Before}
 use Rattle.jpeg_streams.specs.declared.before.Before.TheVariants.{FirstScan, Elsewhere}
 use Rattle.jpeg_streams.specs.Found.{Metadata, Found, nothing_found}
-use Rattle.jpeg_streams.specs.Segments.{Turn, onward, frame_segment, quantization_segment}
-use Rattle.jpeg_streams.specs.Segments.{huffman_segment, restart_segment, application_segment}
-use Rattle.jpeg_streams.specs.Segments.{skipped_segment}
+use Rattle.jpeg_streams.specs.Segments.{Turn, onward, frame_segment, says, updated}
+use Rattle.jpeg_streams.specs.Segments.{with_application, with_huffman}
 use Rattle.jpeg_streams.specs.ScanSegments.{scan_segment}
 use Rattle.jpeg_streams.specs.FoundPictures.{picture_of}
 
@@ -31,13 +34,17 @@ end_segment found bytes = if is_some found.frame
 -- scan would give the height. SOI, TEM, RES, JPG and JPGn have no place here.
 unfoldable pub segment_at : Marker → Before → Found → List ℕ → Outcome Turn
 segment_at (SOF number) before found bytes = frame_segment number found bytes
-segment_at DQT before found bytes = quantization_segment found bytes
-segment_at DHT before found bytes = huffman_segment found bytes
+segment_at DQT before found bytes =
+    says dqt_at (λ t. record found { quantization = updated found.quantization t }) bytes
+segment_at DHT before found bytes =
+    says (dht_at (option_map (λ f. f.is_baseline) found.frame))
+    (λ t. record found { huffman = with_huffman found.huffman t }) bytes
 segment_at SOS before found bytes = scan_segment found bytes
 segment_at EOI before found bytes = end_segment found bytes
-segment_at DRI before found bytes = restart_segment found bytes
-segment_at (APP number) before found bytes = application_segment number found bytes
-segment_at COM before found bytes = skipped_segment found bytes
+segment_at DRI before found bytes = says dri_at (λ n. record found { restart = n }) bytes
+segment_at (APP number) before found bytes =
+    says (app_at number) (λ a. record found { metadata = with_application found.metadata a }) bytes
+segment_at COM before found bytes = length_at bytes >>= (λ n. says (skip_at n.0) (λ _. found) n.1)
 segment_at (RST n) Elsewhere found bytes = Err Malformed
 segment_at (RST n) _ found bytes = Ok (onward found, bytes)
 segment_at DNL FirstScan found bytes = Err (Lacks features.DNL)
