@@ -85,11 +85,3 @@ unfoldable pub with_samples :
 with_samples (index ∷ indices) (plane ∷ planes) samples =
     with_samples indices planes (slice_set samples index (Some plane))
 with_samples _ _ samples = samples
-
--- the samples at the indices of some components, from an index on, each of which has to be there
-unfoldable pub samples_from :
-    List (Option (List ℕ)) → ℕ → List Component → Result (List (List ℕ)) Fault
-samples_from samples index [] = Ok []
-samples_from samples index (c ∷ more) =
-    needed (slice_index_or samples index None) >>= (λ plane.
-    samples_from samples (index + 1) more >>= (λ others. Ok (plane ∷ others)))
