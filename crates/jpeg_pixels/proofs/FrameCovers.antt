@@ -3,9 +3,6 @@ use Rattle.std.proofs.Common.{◌≡◌, ◌≤◌, ◌<◌, ℕ, ◌+◌, ◌-�
 use Rattle.std.proofs.Common.{Ok, Err, All, refl, subst, arith, rules}
 use Rattle.std.proofs.Math.Nat.{le-mul_of_pos_right}
 use Rattle.std.proofs.lemmas.List.Elements.{All-cons, All-head, All-nil, All-tail}
-use Rattle.std.specs.Prelude.{ok_or}
-use Rattle.jpeg_bits.specs.Reading.{Lacks, ◌>>=◌}
-use Rattle.jpeg_bits.specs.declared.error.UnsupportedFeature.TheVariants.{NonIntegerSubsamplingRatio}
 use Rattle.jpeg_segments.specs.Checks.{gathered}
 use Rattle.jpeg_segments.specs.Frame.{Component, Factors, IsInRange, ceiling, component_of, frame_of, greatest}
 use Rattle.jpeg_segments.proofs.Ceilings.{ceiling-eights}
@@ -14,6 +11,7 @@ use Rattle.jpeg_segments.proofs.ScaleLemmas.{factors-back}
 use Rattle.jpeg_pixels.specs.declared.upsampler.UpsampleRule.{UpsampleRule}
 use Rattle.jpeg_pixels.specs.Upsampling.{across, down, rule_of}
 use Rattle.jpeg_pixels.specs.Pictures.{AllCover, AreWhole, Covers, HaveRoom, Source, source_of, sources_of}
+use Rattle.jpeg_pixels.proofs.SourceLists.{source_by, source-rule}
 use Rattle.jpeg_pixels.proofs.RuleRatios.{in-blocks as in-blocks-at, reach-full, room-of, rule-ratios, some-ceiling}
 
 -- ---- components
@@ -29,12 +27,8 @@ covers : (width height most_h most_v : ℕ) (f : Factors) (rule : UpsampleRule) 
     → rule_of f.horizontal f.vertical most_h most_v width height ≡ Some rule
     → (ceiling (height * f.vertical) most_v - 1) * ((ceiling width (8 * most_h) * f.horizontal) * 8)
     + ceiling (width * f.horizontal) most_h ≤ length plane
-    → Covers (record {
-      rule = rule;
-      width = ceiling (width * f.horizontal) most_h;
-      height = ceiling (height * f.vertical) most_v;
-      stride = (ceiling width (8 * most_h) * f.horizontal) * 8;
-    }) plane width height
+    → Covers (source_by (component_of width height most_h most_v f) rule) plane width height
+unfolding component_of
 covers width height most_h most_v f rule plane some_width some_height range h_most v_most chosen room =
     let h = range.horizontal_some in
     let v = range.vertical_some in
@@ -51,11 +45,6 @@ covers width height most_h most_v f rule plane some_width some_height range h_mo
     }
 
 -- ---- lists
-
-some-rule : (o : Option UpsampleRule) (rule : UpsampleRule) → ok_or o (Lacks NonIntegerSubsamplingRatio) ≡ Ok rule
-    → o ≡ Some rule
-some-rule None rule e = absurd (cc)
-some-rule (Some r) rule e = cc
 
 -- the greatest number is at least each
 greatest-all : (f : Factors → ℕ) (m : ℕ) (xs : List Factors) → greatest f xs ≤ m → All (λ c. f c ≤ m) xs
@@ -76,12 +65,12 @@ all-cover width height h v (x ∷ xs) (plane ∷ planes) sources some_width some
     let one = bind-ok (source_of h v width height (component_of width height h v x)) _ sources is in
     let rest = bind-ok (gathered (source_of h v width height) (map (component_of width height h v) xs)) _ sources
     one.2 in
-    let rule = bind-ok (ok_or (rule_of x.horizontal x.vertical h v width height) _) _ one.0 one.1 in
+    let chosen = source-rule h v width height (component_of width height h v x) one.0 one.1 in
     subst (λ (l : List Source). AllCover l (plane ∷ planes) width height) (ok-same _ sources rest.2) (
-      subst (λ (s : Source). Covers s plane width height) (ok-same _ one.0 rule.2)
-          (covers width height h v x rule.0 plane some_width some_height (All-head IsInRange x xs range)
+      subst (λ (s : Source). Covers s plane width height) chosen.2
+          (covers width height h v x chosen.0 plane some_width some_height (All-head IsInRange x xs range)
           (All-head (λ f. f.horizontal ≤ h) x xs across_most) (All-head (λ f. f.vertical ≤ v) x xs down_most)
-          (some-rule _ rule.0 rule.1) room.0),
+          chosen.1 room.0),
       all-cover width height h v xs planes rest.0 some_width some_height (All-tail IsInRange x xs range)
           (All-tail (λ f. f.horizontal ≤ h) x xs across_most) (All-tail (λ f. f.vertical ≤ v) x xs down_most)
           room.1 rest.1,

@@ -47,14 +47,14 @@ pub header-made : (h : FrameHeader) → IsFrameHeader 3 h
 header-made h is = search (rules, frames-made, all-ranged)
 
 made-inside : (frame : Frame) (c : Component) (x y : ℕ) → IsMade frame c → x < frame.width → y < frame.height
-    → (x * c.factors.horizontal / most_across frame < c.width)
-    × (y * c.factors.vertical / most_down frame < c.height)
+    → (x * c.factors.horizontal / most_across frame.components < c.width)
+    × (y * c.factors.vertical / most_down frame.components < c.height)
 made-inside frame c x y made h k = search (rules, made-reaches, inside, some-across, some-down)
 
 pub taken-inside : (h : FrameHeader) (index x y : ℕ) (c : Component) → IsFrameHeader 3 h
     → first_of (drop index (frame_written 3 h).components) ≡ Some c → x < h.width → y < h.height
-    → (x * c.factors.horizontal / most_across (frame_written 3 h) < c.width)
-    × (y * c.factors.vertical / most_down (frame_written 3 h) < c.height)
+    → (x * c.factors.horizontal / most_across (frame_written 3 h).components < c.width)
+    × (y * c.factors.vertical / most_down (frame_written 3 h).components < c.height)
 unfolding frame_of
 taken-inside h index x y c is e hx hy = made-inside (frame_written 3 h) c x y
     (all-at (IsMade (frame_written 3 h)) index (frame_written 3 h).components c (header-made h is)
@@ -75,8 +75,8 @@ pixel-agrees frame a b x y hx hy agree index (c ∷ cs) e made =
     let at = made-inside frame c x y made.0 hx hy in
     let next : index + 1 ≡ suc index = omega arith in
     ap₂ (λ (s : ℕ) (more : List ℕ). sample_bytes frame.precision s ++ more)
-    (agree index (x * c.factors.horizontal / most_across frame) (y * c.factors.vertical / most_down
-    frame) c
+    (agree index (x * c.factors.horizontal / most_across frame.components) (y * c.factors.vertical / most_down
+    frame.components) c
     (ap first_of e) at.0 at.1)
     (pixel-agrees frame a b x y hx hy agree (index + 1) cs
     (search (rules, drop-next)) made.1)

@@ -29,7 +29,7 @@ down-alike (x ∷ xs) (y ∷ ys) e =
 down-alike xs ys e = absurd (let n : ⊥ = cc in n)
 
 pixel-alike : (f g : Frame) (samples : Samples) (x y : ℕ) → f.precision ≡ g.precision
-    → most_across f ≡ most_across g → most_down f ≡ most_down g → (index : ℕ) (cs ds : List
+    → most_across f.components ≡ most_across g.components → most_down f.components ≡ most_down g.components → (index : ℕ) (cs ds : List
     Component)
     → map sampling_of cs ≡ map sampling_of ds → pixel_from f samples y x index cs ≡ pixel_from g
     samples y x index ds

@@ -4,11 +4,10 @@ use Rattle.std.specs.Prelude.{Option, Some, None, Result, Ok, slice_set}
 use Rattle.jpeg_bits.specs.Reading.{Fault, ◌>>=◌}
 use Rattle.jpeg_bits.specs.Codes.{Table}
 use Rattle.jpeg_bits.specs.declared.scan.Predictor.{Predictor}
-use Rattle.jpeg_segments.specs.Frame.{Frame, Component, ceiling}
+use Rattle.jpeg_segments.specs.Frame.{Frame, Component, ceiling, most_across, most_down}
 use Rattle.jpeg_lossless.specs.Prediction.{start_of}
 use Rattle.jpeg_lossless.specs.Differences.{Part}
 use Rattle.jpeg_lossless.specs.Scans.{Way}
-use Rattle.jpeg_lossless.specs.Pictures.{most_across, most_down}
 use Rattle.jpeg_segments.specs.Checks.{needed}
 use Rattle.jpeg_streams.specs.Needed.{first_of}
 
@@ -23,11 +22,11 @@ pub record LosslessCoding : Type 0 where
 -- The MCUs of a scan, across and down: of a component alone, its samples.
 unfoldable pub mcus_across : Frame → List LosslessCoding → ℕ
 mcus_across frame (k ∷ []) = k.component.width
-mcus_across frame codings = ceiling frame.width (most_across frame)
+mcus_across frame codings = ceiling frame.width (most_across frame.components)
 
 unfoldable pub mcus_down : Frame → List LosslessCoding → ℕ
 mcus_down frame (k ∷ []) = k.component.height
-mcus_down frame codings = ceiling frame.height (most_down frame)
+mcus_down frame codings = ceiling frame.height (most_down frame.components)
 
 -- what an MCU has of a component: its factors, or one sample where it is alone
 abbrev pub part_of : ℕ → ℕ → LosslessCoding → Part
