@@ -14,7 +14,7 @@ use Rattle.jpeg_streams.specs.LosslessScans.{LosslessCoding, mcus_across, mcus_d
 use Rattle.jpeg_streams.specs.Needed.{first_of}
 use Rattle.jpeg_streams.specs.Sound.{IsDecodedFrame}
 use Rattle.jpeg_streams.proofs.FrameShapes.{below-ceiling, ceiling-covers, ceiling-least}
-use Rattle.jpeg_streams.proofs.FrameFits.{factors-back}
+use Rattle.jpeg_segments.proofs.ScaleLemmas.{factors-back}
 use Rattle.jpeg_segments.proofs.FrameLemmas.{greatest-some}
 use Rattle.jpeg_streams.proofs.CountedScans.{some-product}
 

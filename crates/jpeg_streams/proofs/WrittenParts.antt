@@ -2,18 +2,18 @@
 use Rattle.std.proofs.Common.{rules, ◌≡◌, ◌⊎◌, inl, ℕ, zero, suc, ◌+◌, ◌*◌, Bool, true, false, cond, List, []}
 use Rattle.std.proofs.Common.{◌∷◌, ◌++◌, map, drop, length, nat_lt, Some, None, Result, Ok, Err, refl, sym, ap, ◌∙◌}
 use Rattle.std.proofs.Common.{subst, true≢false}
-use Rattle.std.specs.List.{AllByRecursion}
+use Rattle.std.specs.List.{AllByRecursion, enumerate_from}
 use Rattle.std.specs.Prelude.{slice_index_or}
 use Rattle.jpeg_bits.specs.Reading.{Fault, Malformed, ◌>>=◌}
 use Rattle.jpeg_segments.specs.Frame.{Component, Frame}
 use Rattle.jpeg_segments.specs.ScanHeaders.{scan_payload, scan_written}
 use Rattle.jpeg_segments.specs.WrittenSegments.{marker_code, payload_of, with_length}
-use Rattle.jpeg_streams.specs.ArrayPictures.{picture_of_array, picture_of_blocks, planes_of_blocks}
+use Rattle.jpeg_streams.specs.ArrayPictures.{picture_of_array, picture_of_blocks}
 use Rattle.jpeg_streams.specs.declared.settings.Settings.{Settings}
 use Rattle.jpeg_streams.specs.Levels.{Is8Bit, Levels, nothing_sent}
 use Rattle.jpeg_streams.specs.Order.{grid_of}
 use Rattle.jpeg_streams.specs.SaidSegments.{found_after}
-use Rattle.jpeg_segments.specs.Checks.{needed}
+use Rattle.jpeg_segments.specs.Checks.{gathered, needed}
 use Rattle.jpeg_streams.specs.Needed.{first_of}
 use Rattle.jpeg_streams.specs.ScanSegments.{Coding, is_progressive, pass_of, components_of}
 use Rattle.jpeg_streams.specs.ScanSegments.{codings_of}
@@ -27,6 +27,7 @@ use Rattle.jpeg_streams.specs.WrittenParts.{WritesFront}
 use Rattle.jpeg_streams.specs.WrittenScans.{Coefficients, grid_at, HasTable, levels_after}
 use Rattle.jpeg_streams.specs.WrittenScans.{no_grid, index_at}
 use Rattle.jpeg_streams.proofs.ReadTurns.{codings-each, frame-kept, same-frame, scan-tail, segment-tail, then-ok}
+use Rattle.jpeg_streams.proofs.LimitedPictures.{array_plane, limited-same}
 use Rattle.jpeg_streams.proofs.WholeImages.{whole-is}
 use Rattle.jpeg_streams.proofs.WrittenPictures.{stream-means}
 use Rattle.jpeg_bits.proofs.BandSteps.{bind_same}
@@ -81,8 +82,8 @@ picture-alone (Err e) told rest = refl
 same-planes : (a b : Found) (array : Coefficients) (index : ℕ) (cs : List Component)
     → AllByRecursion (λ c. slice_index_or a.quantization c.factors.quantization None
     ≡ slice_index_or b.quantization c.factors.quantization None) cs
-    → planes_of_blocks a array index cs ≡ planes_of_blocks b array index cs
-unfolding planes_of_blocks
+    → gathered (array_plane a array) (enumerate_from index cs) ≡ gathered (array_plane b array) (enumerate_from index cs)
+unfolding gathered
 same-planes a b array index [] h = refl
 same-planes a b array index (c ∷ cs) h = search (
   rules,
@@ -91,24 +92,12 @@ same-planes a b array index (c ∷ cs) h = search (
       1) cs h.1,
 )
 
--- the picture of an array in a frame
-picture_in_frame : Settings → Coefficients → Found → Frame → Result (List ℕ) Fault
-picture_in_frame settings array said f =
-    cond (nat_lt settings.limit (length f.components * (f.output_width * f.output_height))) (Err Malformed)
-    (planes_of_blocks said array 0 f.components >>=
-    (λ (planes : List (List ℕ)). picture_by settings said.metadata f f.components planes))
-
-framed-picture : (settings : Settings) (array : Coefficients) (said : Found) (f : Frame) → said.frame ≡ Some f
-    → picture_of_blocks settings said array ≡ picture_in_frame settings array said f
-unfolding picture_of_blocks picture_in_frame
-framed-picture settings array said f e = then-ok (needed said.frame) _ f _ (ap needed e) refl
-
 pub same-picture : (settings : Settings) (array : Coefficients) (a b : Found) → HaveSamePicture a b
     → picture_of_blocks settings a array ≡ picture_of_blocks settings b array
-unfolding picture_in_frame picture_by
+unfolding picture_of_blocks picture_by
 same-picture settings array a b h =
-    framed-picture settings array a h.frame_a h.is_a ∙ (search (rules, bind_same, same-planes))
-    ∙ sym (framed-picture settings array b h.frame_b h.is_b)
+    limited-same settings a b h.frame_a h.frame_b _ _ h.is_a h.is_b (search rules)
+    (search (rules, bind_same, same-planes))
 
 whole-picture : (settings : Settings) (array : Coefficients) (bytes rest : List ℕ) (final : Found) (last : ℕ → Levels)
     (frame : Frame)
