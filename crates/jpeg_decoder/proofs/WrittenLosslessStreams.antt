@@ -23,7 +23,7 @@ use Rattle.jpeg_bits.specs.Written.{marker}
 use Rattle.jpeg_streams.specs.declared.before.Before.{Before}
 use Rattle.jpeg_streams.specs.declared.before.Before.TheVariants.{Elsewhere}
 use Rattle.jpeg_streams.specs.declared.settings.Settings.{Settings}
-use Rattle.jpeg_streams.specs.LosslessScans.{samples_from, with_samples}
+use Rattle.jpeg_streams.specs.LosslessScans.{with_samples}
 use Rattle.jpeg_lossless.specs.Pictures.{lossless_picture}
 use Rattle.jpeg_streams.specs.SaidSegments.{found_after}
 use Rattle.jpeg_streams.specs.Segments.{onward}
@@ -44,6 +44,7 @@ use Rattle.jpeg_streams.proofs.ReadTurns.{segment-starts, scan-starts, end-start
 use Rattle.jpeg_streams.proofs.LosslessFrames.{IsShaped, header-shaped}
 use Rattle.jpeg_streams.proofs.SaidTables.{HasTables, no-tables, segment-tables}
 use Rattle.jpeg_streams.proofs.WrittenPictures.{rest-by}
+use Rattle.jpeg_streams.proofs.WrittenFrameScans.{in-all}
 use Rattle.jpeg_streams.proofs.WrittenMarkers.{marker-append}
 use Rattle.jpeg_decoder.proofs.WrittenSamples.{and_samples, components-of, indices_of, planes_for}
 use Rattle.jpeg_decoder.proofs.WrittenSamples.{scan-read}
@@ -125,15 +126,10 @@ blocks-after : (samples : Samples) (indices : List ℕ) (decided : List (Option 
     → AreKept samples (with_samples indices (planes_for samples indices) decided) (indices ++ sent)
 blocks-after samples indices decided sent h g = search (rules, kept-append, with-there, all-kept)
 
-one-kept : (P : ℕ → Type 0) (k : ℕ) (sent : List ℕ) → AllByRecursion P sent → IsIn k sent → P k
-one-kept P k [] h e = absurd e
-one-kept P k (x ∷ sent) h (inl e) = subst P e h.0
-one-kept P k (x ∷ sent) h (inr e) = one-kept P k sent h.1 e
-
 pub all-in : (P : ℕ → Type 0) (ks sent : List ℕ) → AllByRecursion P sent → AllByRecursion (λ k. IsIn k sent) ks
     → AllByRecursion P ks
 all-in P [] sent h e = tt
-all-in P (k ∷ ks) sent h e = (one-kept P k sent h e.0, all-in P ks sent h e.1)
+all-in P (k ∷ ks) sent h e = (in-all P sent k h e.0, all-in P ks sent h e.1)
 
 -- ---- segments
 
@@ -178,14 +174,14 @@ segment-said said s may h = search (rules, segment-tables, segment-shaped)
 -- ---- the rest of a stream
 
 -- what is found by the end: all samples, of a size
-record Ends (samples : Samples) (turns : ℕ) (before : Before) (said final : Found) (decided : List (Option (List ℕ)))
+pub record Ends (samples : Samples) (turns : ℕ) (before : Before) (said final : Found) (decided : List (Option (List ℕ)))
     (met : Option Marker) (all rest : List ℕ) : Type 0 where
-  last : List (Option (List ℕ))
-  is : walk turns false before (and_samples said decided) met all ≡ (and_samples final last, Ok rest)
-  frame : Frame
-  framed : final.frame ≡ Some frame
-  lossless : frame.process ≡ Lossless
-  kept : AreKept samples last (range_with_len 0 (length frame.components))
+  pub last : List (Option (List ℕ))
+  pub is : walk turns false before (and_samples said decided) met all ≡ (and_samples final last, Ok rest)
+  pub frame : Frame
+  pub framed : final.frame ≡ Some frame
+  pub lossless : frame.process ≡ Lossless
+  pub kept : AreKept samples last (range_with_len 0 (length frame.components))
 
 after-turn : (samples : Samples) (turns : ℕ) (before next : Before) (said between final : Found)
     (decided others : List (Option (List ℕ))) (met after : Option Marker) (all left rest : List ℕ)
@@ -322,100 +318,14 @@ stream-read samples rest (suc turns) said sent bytes final (scan said' final' se
     final w
     (scan-longer fill 218 turns (with_length (scan_payload h')) data_bytes more h))
 
--- ---- the picture
-
--- the picture of a frame of these samples
-abbrev pub drawn : Frame → Samples → List ℕ
-drawn frame samples = lossless_picture frame
-    (planes_for samples (range_with_len 0 (length frame.components)))
-
-planes-there : (decided : List (Option (List ℕ))) (samples : Samples) (index : ℕ) (cs : List
-    Component)
-    → AreKept samples decided (range_with_len index (length cs))
-    → samples_from decided index cs ≡ Ok (planes_for samples (range_with_len index (length cs)))
-unfolding samples_from
-planes-there decided samples index [] h = refl
-planes-there decided samples index (c ∷ cs) h =
-    grind (
-      arith,
-      common_steps,
-      then-ok,
-      planes_for,
-      planes-there decided samples (index + 1) cs
-          h.1,
-    )
-
-picture-there : (settings : Settings) (found : Found) (samples : Samples) (frame : Frame)
-    → found.frame ≡ Some frame → frame.process ≡ Lossless
-    → length frame.components * (frame.output_width * frame.output_height) ≤ settings.limit
-    → AreKept samples found.samples (range_with_len 0 (length frame.components))
-    → picture_of settings found ≡ Ok (drawn frame samples)
-unfolding picture_of samples_picture
-picture-there settings found samples frame framed lossless within kept =
-    grind (arith, common_steps, then-ok, not-refused, le-ltb, planes-there)
-
--- what a caller is given of a picture
-abbrev given : Found → List ℕ → List ℕ → Outcome (Told × List ℕ)
-given found picture rest = Ok ((told_of found, picture), rest)
-
-picture-refused : (settings : Settings) (found : Found) (frame : Frame) → found.frame ≡ Some frame
-    → settings.limit < length frame.components * (frame.output_width * frame.output_height)
-    → picture_of settings found ≡ Err Malformed
-unfolding picture_of
-picture-refused settings found frame framed over =
-    grind (arith, common_steps, then-ok, kept, lt-ltb)
-
 -- the rest of a stream up to its end
-rest-ends : (samples : Samples) (bytes rest : List ℕ) (said final : Found) → Writes samples said [] bytes final
+pub rest-ends : (samples : Samples) (bytes rest : List ℕ) (said final : Found) → Writes samples said [] bytes final
     → IsSaid said
     → Ends samples (suc (length (bytes ++ rest))) Elsewhere said final (replicate 4 None) None (bytes ++ rest) rest
 rest-ends samples bytes rest said final w is =
     let long = length-append bytes rest in
     stream-read samples rest (suc (length (bytes ++ rest))) said [] bytes final w (omega (arith, long))
     Elsewhere (replicate 4 None) None (bytes ++ rest) is refl tt (stands-here (bytes ++ rest))
-
-rest-refused : (samples : Samples) (settings : Settings) (bytes rest : List ℕ) (said final : Found) (frame : Frame)
-    → Writes samples said [] bytes final → IsSaid said → final.frame ≡ Some frame
-    → settings.limit < length frame.components * (frame.output_width * frame.output_height)
-    → rest_at settings (and_samples said (replicate 4 None)) (bytes ++ rest) ≡ Err Malformed
-rest-refused samples settings bytes rest said final frame w is framed over =
-    let e = rest-ends samples bytes rest said final w is in
-    rest-by settings _ _ _ _ e.is
-    ∙ ap (λ (o : Result (List ℕ) Fault). o >>= λ (p : List ℕ). given (and_samples final e.last) p rest)
-    (picture-refused settings (and_samples final e.last) frame framed over)
-
-rest-read : (samples : Samples) (settings : Settings) (bytes rest : List ℕ) (said final : Found) (frame : Frame)
-    → Writes samples said [] bytes final → IsSaid said
-    → final.frame ≡ Some frame → length frame.components * (frame.output_width * frame.output_height) ≤ settings.limit
-    → rest_at settings (and_samples said (replicate 4 None))
-    (bytes ++ rest) ≡ Ok ((told_of final, drawn frame samples), rest)
-rest-read samples settings bytes rest said final frame w is framed within =
-    let e = rest-ends samples bytes rest said final w is in
-    let same : e.frame ≡ frame = some-same e.frame frame (sym e.framed ∙ framed) in
-    let kept = subst (λ (f : Frame). AreKept samples e.last (range_with_len 0 (length
-    f.components))) same e.kept in
-    let lossless = subst (λ (f : Frame). f.process ≡ Lossless) same e.lossless in
-    rest-by settings _ _ _ _ e.is
-    ∙ then-ok (picture_of settings (and_samples final e.last)) _ (drawn frame samples) _
-    (picture-there settings (and_samples final e.last) samples frame framed lossless within kept)
-    refl
-
--- A stream that was written for samples means their picture, and what stands after it is left.
-pub samples-meant : (settings : Settings) (samples : Samples) (bytes rest : List ℕ) (final : Found) (frame : Frame)
-    → WritesSamples samples bytes final
-    → final.frame ≡ Some frame → length frame.components * (frame.output_width * frame.output_height) ≤ settings.limit
-    → meaning settings (bytes ++ rest) ≡ Ok ((told_of final, drawn frame samples), rest)
-unfolding meaning start_at nothing_found
-samples-meant settings samples bytes rest final frame w framed within = search (rules, arith, rest-read, nothing-said)
-
--- One that is beyond the limit is refused.
-pub samples-refused : (settings : Settings) (samples : Samples) (bytes rest : List ℕ) (final : Found) (frame : Frame)
-    → WritesSamples samples bytes final → final.frame ≡ Some frame
-    → settings.limit < length frame.components * (frame.output_width * frame.output_height)
-    → meaning settings (bytes ++ rest) ≡ Err Malformed
-unfolding meaning start_at nothing_found
-samples-refused settings samples bytes rest final frame w framed over =
-    grind (arith, common_steps, rest-refused, nothing-said)
 
 -- ---- the frame
 
@@ -441,18 +351,18 @@ final-lossless samples frame said sent bytes final (scan said' final' sent' f fi
 -- ---- the header
 
 -- what is found up to the frame
-record Headed (samples : Samples) (turns : ℕ) (before : Before) (said final : Found) (decided : List (Option (List ℕ)))
+pub record Headed (samples : Samples) (turns : ℕ) (before : Before) (said final : Found) (decided : List (Option (List ℕ)))
     (sent bytes rest : List ℕ) : Type 0 where
-  between : Found
-  frame : Frame
-  after : List ℕ
-  framed : between.frame ≡ Some frame
-  written : Writes samples between sent after final
-  is_said : IsSaid between
-  is : walk turns true before (and_samples said decided) None (bytes ++ rest)
+  pub between : Found
+  pub frame : Frame
+  pub after : List ℕ
+  pub framed : between.frame ≡ Some frame
+  pub written : Writes samples between sent after final
+  pub is_said : IsSaid between
+  pub is : walk turns true before (and_samples said decided) None (bytes ++ rest)
       ≡ (and_samples between decided, Ok (after ++ rest))
 
-header-read : (samples : Samples) (rest : List ℕ) (decided : List (Option (List ℕ))) (turns : ℕ) (before : Before)
+pub header-read : (samples : Samples) (rest : List ℕ) (decided : List (Option (List ℕ))) (turns : ℕ) (before : Before)
     (said : Found) (sent bytes : List ℕ) (final : Found)
     → Writes samples said sent bytes final → length bytes < turns → IsSaid said → said.frame ≡ None
     → Headed samples turns before said final decided sent bytes rest
@@ -498,27 +408,3 @@ header-read samples rest decided (suc turns) before said sent bytes final (segme
       is_said = r.is_said;
       is = step ∙ r.is;
     })
-
--- ---- the whole
-
-pub keeps-size : (width height : ℕ) (found : Found) (frame : Frame) → found.frame ≡ Some frame
-    → frame.process ≡ Lossless → sized_to width height found ≡ found
-keeps-size width height found frame framed lossless = grind (arith, common_steps)
-
-pub samples-sized : (width height : ℕ) (settings : Settings) (samples : Samples) (bytes rest : List ℕ)
-    (final : Found) (frame : Frame) → WritesSamples samples bytes final
-    → final.frame ≡ Some frame → length frame.components * (frame.output_width * frame.output_height) ≤ settings.limit
-    → sized_meaning width height settings (bytes ++ rest) ≡ Ok ((told_of final, drawn frame samples), rest)
-unfolding sized_meaning header_at start_at nothing_found
-samples-sized width height settings samples bytes rest final frame w framed within =
-    let long = length-append w.after rest in
-    let r = header-read samples rest (replicate 4 None) (suc (length (w.after ++ rest))) Elsewhere nothing_found []
-    w.after final w.written (omega (arith, long)) nothing-said refl in
-    let frame_of_all = final-framed samples r.frame r.between [] r.after final r.written r.framed in
-    let lossless = final-lossless samples r.frame r.between [] r.after final r.written frame_of_all in
-    ap (λ (l : List ℕ). sized_meaning width height settings (l ++ rest)) w.starts
-    ∙ then-ok (segments_at true Elsewhere nothing_found None (w.after ++ rest)) _
-    (and_samples r.between (replicate 4 None), r.after ++ rest) _ (segments-walked _ _ _ _ _ _ r.is)
-    (ap (λ (f : Found). rest_at settings f (r.after ++ rest))
-    (keeps-size width height (and_samples r.between (replicate 4 None)) r.frame r.framed lossless)
-    ∙ rest-read samples settings r.after rest r.between final frame r.written r.is_said framed within)

@@ -4,6 +4,9 @@ use Rattle.std.proofs.Common.{◌≡◌, ◌≤◌, ◌<◌, ◌+◌, ◌∙◌,
 use Rattle.std.proofs.Common.{Result, Ok, Err, refl, sym, ap, arith, drop, get_or, length}
 use Rattle.std.proofs.Math.ListN.{drop_of_length-le}
 use Rattle.std.proofs.lemmas.List.{append_assoc, append-nil, drop_more}
+use Rattle.std.proofs.lemmas.List.FromFn.{get_or-enumerate_from}
+use Rattle.std.specs.List.{enumerate_from}
+use Rattle.jpeg_bits.proofs.Loops.{Names-through}
 use Rattle.jpeg_bits.specs.Reading.{Fault, Names, ◌>>=◌}
 use Rattle.jpeg_bits.specs.declared.error.Error.{Error}
 use Rattle.jpeg_segments.specs.Checks.{gathered}
@@ -47,17 +50,23 @@ pub gathers-more : {A B : Type 0} (f : A → Result B Fault) (xs : List A) (i : 
 gathers-more f xs i d x front new h e joins g =
     grind (arith, common_steps, joined, next f xs i d h)
 
-refused : {B : Type 0} (o : Result B Fault) (all r : Result (List B) Fault) (front : List B)
-    (e : Error) → all ≡ (and_others o r >>= after front) → Names e o → Names e all
-refused o all r front e is n = grind (arith, common_steps)
+lacking : {B : Type 0} (o : Result B Fault) (r : Result (List B) Fault) (front : List B) (e : Fault)
+    → o ≡ Err e → (and_others o r >>= after front) ≡ Err e
+lacking o r front e h = grind (arith, common_steps)
 
 -- one that is refused
+pub gathers-err : {A B : Type 0} (f : A → Result B Fault) (xs : List A) (i : ℕ) (d : A) (e : Fault)
+    (front : List B) → i < length xs → f (get_or xs i d) ≡ Err e → Gathers f xs i front
+    → gathered f xs ≡ Err e
+gathers-err f xs i d e front h is g =
+    g.is ∙ ap (λ r. r >>= after front) (next f xs i d h)
+    ∙ lacking (f (get_or xs i d)) (gathered f (drop (i + 1) xs)) front e is
+
 pub gathers-refused : {A B : Type 0} (f : A → Result B Fault) (xs : List A) (i : ℕ) (d : A)
     (e : Error) (front : List B) → i < length xs → Names e (f (get_or xs i d))
     → Gathers f xs i front → Names e (gathered f xs)
 gathers-refused f xs i d e front h n g =
-    refused (f (get_or xs i d)) (gathered f xs) (gathered f (drop (i + 1) xs)) front e
-    (g.is ∙ ap (λ r. r >>= after front) (next f xs i d h)) n
+    Names-through e (f (get_or xs i d)) (gathered f xs) (λ b is. gathers-err f xs i d b front h is g) n
 
 -- all of them
 pub gathers-all : {A B : Type 0} (f : A → Result B Fault) (xs : List A) (i : ℕ) (front : List B)
@@ -75,3 +84,10 @@ gathered-length f (x ∷ xs) ys e =
     let one = bind-ok (f x) _ ys e in
     let more = bind-ok (gathered f xs) _ ys one.2 in
     sym (ap length (ok-same (one.0 ∷ more.0) ys more.2)) ∙ ap suc (gathered-length f xs more.0 more.1)
+
+-- an element beside its index
+pub numbered : {A : Type 0} (xs : List A) (i : ℕ) (d x : A) → i < length xs → x ≡ get_or xs i d
+    → get_or (enumerate_from 0 xs) i (0, d) ≡ (i, x)
+numbered xs i d x h e =
+    let start : 0 + i ≡ i = omega arith in
+    get_or-enumerate_from 0 xs i (0, d) h ∙ (λ j. (start j, sym e j))

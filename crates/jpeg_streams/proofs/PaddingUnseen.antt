@@ -67,7 +67,7 @@ drop-next (suc n) (y ∷ xs) x more e = drop-next n xs x more e
 drop-next n xs x more e = search rules
 
 -- the bytes of a component's sample
-abbrev component_bytes : Frame → (ℕ × Component → ℕ → ℕ → ℕ) → ℕ → ℕ → ℕ × Component → List ℕ
+abbrev pub component_bytes : Frame → (ℕ × Component → ℕ → ℕ → ℕ) → ℕ → ℕ → ℕ × Component → List ℕ
 component_bytes frame sample y x c =
     sample_bytes frame.precision (sample c (x * c.1.factors.horizontal / most_across frame.components)
     (y * c.1.factors.vertical / most_down frame.components))

@@ -72,7 +72,7 @@ front-closed array front said levels frame f framed progressive tables = record 
 abbrev all_of : Told → List ℕ → List ℕ → Result ((Told × List ℕ) × List ℕ) Fault
 all_of told rest p = Ok ((told, p), rest)
 
-picture-alone : (o : Result (List ℕ) Fault) (told : Told) (rest : List ℕ)
+pub picture-alone : (o : Result (List ℕ) Fault) (told : Told) (rest : List ℕ)
     → ((o >>= all_of told rest) >>= (λ m. Ok m.0.1)) ≡ o
 picture-alone (Ok p) told rest = refl
 picture-alone (Err e) told rest = refl

@@ -8,7 +8,7 @@ use Rattle.jpeg_segments.specs.Frame.{Frame, Component, ceiling, most_across, mo
 use Rattle.jpeg_lossless.specs.Prediction.{start_of}
 use Rattle.jpeg_lossless.specs.Differences.{Part}
 use Rattle.jpeg_lossless.specs.Scans.{Way}
-use Rattle.jpeg_segments.specs.Checks.{needed}
+use Rattle.jpeg_segments.specs.Checks.{needed, gathered}
 use Rattle.jpeg_streams.specs.Needed.{first_of}
 
 -- ---- MCUs
@@ -70,11 +70,8 @@ lossless_codings tables frame (index ∷ indices) (d ∷ dc_destinations) =
 lossless_codings tables frame _ _ = Ok []
 
 -- the tables at some destinations
-unfoldable pub tables_in : List (Option Table) → List ℕ → Result (List Table) Fault
-tables_in tables [] = Ok []
-tables_in tables (d ∷ dc_destinations) =
-    needed (slice_index_or tables d None) >>= (λ table.
-    tables_in tables dc_destinations >>= (λ others. Ok (table ∷ others)))
+abbrev pub tables_in : List (Option Table) → List ℕ → Result (List Table) Fault
+tables_in tables = gathered (λ d. needed (slice_index_or tables d None))
 
 -- ---- samples
 
