@@ -1,7 +1,7 @@
 -- The planes of a frame's components at the end of an image, one after the other.
 use Rattle.std.proofs.Common.{◌≡◌, ◌<◌, ◌≤◌, ℕ, zero, suc, ◌+◌, ◌*◌, ℤ, Bool, true, List, [], ◌∷◌, ◌++◌}
 use Rattle.std.proofs.Common.{sym, ap, ◌∙◌, subst, length, get_or, set, map, drop, drop_of_length-le, arith, Option}
-use Rattle.std.proofs.Common.{Some, None, Ok, rules}
+use Rattle.std.proofs.Common.{Some, None, rules}
 use Rattle.std.specs.Prelude.{option_map, slice_index_or}
 use Rattle.std.specs.List.{AllByRecursion}
 use Rattle.std.proofs.lemmas.Bool.{eqb-true}

@@ -1,7 +1,7 @@
 -- The picture of planes that lie in one room, at the end of an image.
 use Rattle.std.proofs.lemmas.Grind.{common_steps}
 use Rattle.std.proofs.Common.{◌≡◌, ◌≢◌, ◌∙◌, ◌<◌, ◌≤◌, ◌+◌, ℕ, suc, List, [], ◌∷◌, Option, Some}
-use Rattle.std.proofs.Common.{None, Ok, arith, get_or, length, map, refl, replicate, subst}
+use Rattle.std.proofs.Common.{None, Ok, arith, get_or, length, refl, replicate, subst}
 use Rattle.std.proofs.lemmas.List.{get_or-map, get_or-replicate}
 use Rattle.jpeg_pixels.specs.JointPlanes.{IsShapeOf, joint_planes}
 use Rattle.jpeg_pixels.specs.Pictures.{AreWhole}
@@ -14,7 +14,7 @@ use Rattle.jpeg_streams.proofs.ReadTurns.{then-ok}
 use Rattle.jpeg_streams.proofs.Soundness.{count-few, decoded-count}
 use Rattle.jpeg_streams.specs.Found.{Found}
 use Rattle.jpeg_streams.specs.FoundPictures.{blocks_picture, picture_by, plane_at_end}
-use Rattle.jpeg_streams.specs.Sound.{ArePlanes, IsDecodedFrame, IsPlaneOf, IsSound}
+use Rattle.jpeg_streams.specs.Sound.{ArePlanes, IsPlaneOf, IsSound}
 use Rattle.jpeg_streams.specs.declared.settings.Settings.{Settings}
 use Rattle.jpeg_decoder.specs.PlanesView.{or_joint}
 use Rattle.jpeg_decoder.proofs.JointDecided.{joint-count, or-at}

@@ -1,7 +1,7 @@
 -- The number of bytes of a lossless picture.
 use Rattle.std.proofs.lemmas.Grind.{common_steps}
-use Rattle.std.proofs.Common.{◌≡◌, ℕ, suc, ◌*◌, List, [], ◌∷◌, length, sym, ap, ap₂, ◌∙◌, refl, arith}
-use Rattle.std.proofs.Common.{Bool, true, false, Result, Some, length-append, mul_assoc}
+use Rattle.std.proofs.Common.{◌≡◌, ℕ, ◌*◌, List, length, sym, ap, ap₂, ◌∙◌, refl, arith}
+use Rattle.std.proofs.Common.{Bool, true, false, Result, Some, mul_assoc}
 use Rattle.std.specs.Prelude.{IfOk, nat_le, if◌then◌else◌}
 use Rattle.std.proofs.Math.Nat.{mul_comm}
 use Rattle.std.proofs.lemmas.List.FromFn.{length-enumerate_from}

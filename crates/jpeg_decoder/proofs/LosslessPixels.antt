@@ -1,6 +1,6 @@
 -- The picture of samples that are written is their pixels.
 use Rattle.std.proofs.Common.{◌≡◌, ℕ, suc, ◌+◌, ◌*◌, true, List, [], ◌∷◌, ◌++◌, length, length-append, replicate}
-use Rattle.std.proofs.Common.{Option, Result, Ok, Some, None, refl, sym, ap, ◌∙◌, slice_index, subst, arith, rules}
+use Rattle.std.proofs.Common.{Option, Result, Ok, Some, None, refl, sym, ap, ◌∙◌, slice_index, subst, arith}
 use Rattle.std.specs.List.{AllByRecursion, concat, enumerate_from, range_with_len}
 use Rattle.std.proofs.lemmas.List.FromFn.{get_or-map-range_with_len}
 use Rattle.jpeg_bits.specs.Reading.{Fault, Outcome, ◌>>=◌}

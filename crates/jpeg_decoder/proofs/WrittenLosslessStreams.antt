@@ -1,49 +1,42 @@
 -- Lossless streams that are written give their samples, and keep their size.
-use Rattle.std.proofs.Common.{◌≡◌, ℕ, zero, suc, ◌+◌, ◌*◌, ◌<◌, ◌≤◌, true, false, List, [], ◌∷◌, ◌++◌, length}
-use Rattle.std.proofs.Common.{replicate, set, get_or, Option, Some, None, Result, Ok, Err, refl, sym, ap, ◌∙◌}
-use Rattle.std.proofs.Common.{subst, arith, length-append, length-set, inl, inr, rules}
-use Rattle.std.proofs.lemmas.Bool.{le-ltb, lt-ltb}
+use Rattle.std.proofs.Common.{◌≡◌, ℕ, zero, suc, ◌+◌, ◌<◌, true, false, List, [], ◌∷◌, ◌++◌, length}
+use Rattle.std.proofs.Common.{replicate, set, get_or, Option, Some, None, Ok, refl, sym, ap, ◌∙◌}
+use Rattle.std.proofs.Common.{subst, arith, length-append, length-set, rules}
 use Rattle.std.proofs.lemmas.List.{get_or-set_same}
 use Rattle.std.specs.Prelude.{is_some, slice_index_or, slice_set}
 use Rattle.std.specs.List.{AllByRecursion, concat, range_with_len}
-use Rattle.jpeg_bits.specs.Reading.{Fault, Malformed, Outcome, ◌>>=◌}
 use Rattle.jpeg_bits.specs.Marker.{marker_of}
 use Rattle.jpeg_bits.specs.declared.marker.Marker.{Marker}
 use Rattle.jpeg_bits.specs.declared.marker.Marker.TheVariants.{EOI, SOS}
 use Rattle.jpeg_segments.specs.declared.parser.CodingProcess.TheVariants.{Lossless}
-use Rattle.jpeg_segments.specs.Frame.{Frame, Component}
+use Rattle.jpeg_segments.specs.Frame.{Frame}
 use Rattle.jpeg_segments.specs.ScanHeaders.{ScanHeader, scan_payload, IsScan}
 use Rattle.jpeg_segments.specs.WrittenSegments.{with_length, Segment}
 use Rattle.jpeg_segments.specs.WrittenSegments.{Header, marker_code, payload_of, frame_written}
-use Rattle.jpeg_segments.proofs.Fields.{not-refused, kept}
+use Rattle.jpeg_segments.proofs.Fields.{kept}
 use Rattle.jpeg_segments.proofs.HeaderRules.{header-rules}
 use Rattle.jpeg_segments.specs.ScanHeader.{scan_of}
 use Rattle.std.proofs.lemmas.List.Elements.{recursion_from_All}
 use Rattle.jpeg_bits.specs.Written.{marker}
 use Rattle.jpeg_streams.specs.declared.before.Before.{Before}
 use Rattle.jpeg_streams.specs.declared.before.Before.TheVariants.{Elsewhere}
-use Rattle.jpeg_streams.specs.declared.settings.Settings.{Settings}
 use Rattle.jpeg_streams.specs.LosslessScans.{with_samples}
-use Rattle.jpeg_lossless.specs.Pictures.{lossless_picture}
 use Rattle.jpeg_streams.specs.SaidSegments.{found_after}
 use Rattle.jpeg_streams.specs.Segments.{onward}
 use Rattle.jpeg_streams.specs.Found.{nothing_found, Found}
-use Rattle.jpeg_streams.specs.Stream.{start_at, segments_at, turn_at, walk}
-use Rattle.jpeg_streams.specs.Stream.{header_at, rest_at, meaning, sized_meaning, sized_to, Told, told_of}
+use Rattle.jpeg_streams.specs.Stream.{turn_at, walk}
 use Rattle.jpeg_streams.specs.ScanSegments.{scan_before}
-use Rattle.jpeg_streams.specs.FoundPictures.{picture_of, samples_picture}
-use Rattle.jpeg_streams.specs.WrittenLossless.{Samples, StandsInLossless, Writes, WritesSamples}
+use Rattle.jpeg_streams.specs.WrittenLossless.{Samples, StandsInLossless, Writes}
 use Rattle.jpeg_streams.specs.WrittenLossless.{WritesSamplesScan, closed}
 use Rattle.jpeg_streams.specs.InTurn.{IsIn}
 use Rattle.jpeg_streams.specs.WrittenLossless.{said_after_scan, scan, segment}
-use Rattle.jpeg_streams.proofs.ReadTurns.{frame-or, scan-tail, some-none, then-ok, segments-walked}
+use Rattle.jpeg_streams.proofs.ReadTurns.{frame-or, scan-tail, some-none}
 use Rattle.jpeg_streams.proofs.ReadTurns.{walk-end, walk-on, walk-stop, frame-stays, is-other}
 use Rattle.jpeg_streams.proofs.ReadTurns.{segment-turn}
 use Rattle.jpeg_streams.proofs.ReadTurns.{marker-turn, StandsAt, stands-here, stands-met, end-turn, scan-turn, Starts}
 use Rattle.jpeg_streams.proofs.ReadTurns.{segment-starts, scan-starts, end-starts, marker-longer, scan-longer}
 use Rattle.jpeg_streams.proofs.LosslessFrames.{IsShaped, header-shaped}
 use Rattle.jpeg_streams.proofs.SaidTables.{HasTables, no-tables, segment-tables}
-use Rattle.jpeg_streams.proofs.WrittenPictures.{rest-by}
 use Rattle.jpeg_streams.proofs.WrittenFrameScans.{in-all}
 use Rattle.jpeg_streams.proofs.WrittenMarkers.{marker-append}
 use Rattle.jpeg_decoder.proofs.WrittenSamples.{and_samples, components-of, indices_of, planes_for}

@@ -1,10 +1,10 @@
 -- The planes of a frame's components cover its picture.
-use Rattle.std.proofs.Common.{◌≡◌, ◌≤◌, ◌<◌, ℕ, ◌+◌, ◌-◌, ◌*◌, List, [], ◌∷◌, length, map, Option, Some, None, Result}
-use Rattle.std.proofs.Common.{Ok, Err, All, refl, subst, arith, rules}
+use Rattle.std.proofs.Common.{◌≡◌, ◌≤◌, ◌<◌, ℕ, ◌+◌, ◌-◌, ◌*◌, List, [], ◌∷◌, length, map, Some}
+use Rattle.std.proofs.Common.{Ok, All, subst, arith, rules}
 use Rattle.std.proofs.Math.Nat.{le-mul_of_pos_right}
 use Rattle.std.proofs.lemmas.List.Elements.{All-cons, All-head, All-nil, All-tail}
 use Rattle.jpeg_segments.specs.Checks.{gathered}
-use Rattle.jpeg_segments.specs.Frame.{Component, Factors, IsInRange, ceiling, component_of, frame_of, greatest}
+use Rattle.jpeg_segments.specs.Frame.{Factors, IsInRange, ceiling, component_of, frame_of, greatest}
 use Rattle.jpeg_segments.proofs.Ceilings.{ceiling-eights}
 use Rattle.jpeg_segments.proofs.Codecs.{bind-ok, ok-same}
 use Rattle.jpeg_segments.proofs.ScaleLemmas.{factors-back}

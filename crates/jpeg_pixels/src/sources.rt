@@ -1,6 +1,6 @@
 //! How the components of a frame are upsampled: by the ratios of their factors to the greatest ones
 //! (T.81, A.1.1).
-ghost use Rattle.std.specs.Prelude.{◌≡◌, ◌≤◌, map, length, Ok, MatchResult};
+ghost use Rattle.std.specs.Prelude.{◌≡◌, ◌≤◌, map, Ok, MatchResult};
 ghost use Rattle.jpeg_bits.specs.Reading.{Names};
 ghost use Rattle.jpeg_segments.specs.Frame.{most_across, most_down};
 ghost use Rattle.jpeg_segments.specs.FrameView.{component_in};

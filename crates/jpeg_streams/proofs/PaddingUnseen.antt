@@ -1,5 +1,5 @@
 -- No sample outside a component reaches one inside.
-use Rattle.std.proofs.Common.{rules, ◌≡◌, ℕ, zero, suc, ◌+◌, ◌*◌, ◌/◌, ◌<◌, ◌≤◌, List, [], ◌∷◌, ◌++◌, map, drop, take}
+use Rattle.std.proofs.Common.{rules, ◌≡◌, ℕ, suc, ◌+◌, ◌*◌, ◌/◌, ◌<◌, List, [], ◌∷◌, ◌++◌, map, drop, take}
 use Rattle.std.proofs.Common.{Some, refl, ap, ap₂, arith}
 use Rattle.std.specs.List.{AllByRecursion, concat, enumerate_from}
 use Rattle.jpeg_bits.specs.declared.scan.Predictor.{Predictor}

@@ -9,7 +9,7 @@ use Rattle.jpeg_pixels.specs.Pictures.{AllCover, AreWhole, Covers, HasSources, S
 use Rattle.jpeg_pixels.specs.Pictures.{sources_of}
 use Rattle.jpeg_pixels.proofs.SourceLists.{source-rule}
 use Rattle.jpeg_pixels.proofs.RuleRatios.{in-blocks, room-of}
-use Rattle.jpeg_streams.proofs.ReadTurns.{err-ok, ok-same, bind-ok}
+use Rattle.jpeg_streams.proofs.ReadTurns.{ok-same, bind-ok}
 use Rattle.jpeg_streams.proofs.FrameShapes.{Plain, made-at}
 use Rattle.jpeg_streams.proofs.InsidePictures.{AllReach, Reaches}
 use Rattle.jpeg_streams.proofs.ScaledSizes.{scaled_component, is-sized, reaches-made}

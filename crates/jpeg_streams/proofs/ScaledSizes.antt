@@ -5,14 +5,12 @@ use Rattle.std.proofs.Math.Nat.{mul-le-mul}
 use Rattle.std.specs.List.{AllByRecursion}
 use Rattle.jpeg_segments.specs.Checks.{gathered}
 use Rattle.jpeg_segments.specs.Frame.{Frame, Component, Factors, IsInRange, frame_of, component_of, ceiling, greatest}
-use Rattle.jpeg_pixels.specs.declared.upsampler.UpsampleRule.{UpsampleRule}
-use Rattle.jpeg_pixels.specs.Upsampling.{rule_of}
 use Rattle.jpeg_pixels.specs.Pictures.{Source, source_of, sources_of}
 use Rattle.jpeg_segments.specs.Scales.{component_at, frame_at}
 use Rattle.jpeg_pixels.proofs.SourceLists.{source-rule}
 use Rattle.jpeg_pixels.proofs.RuleRatios.{reach-end, rule-ratios, some-ceiling}
 use Rattle.jpeg_streams.proofs.OwnSpots.{At}
-use Rattle.jpeg_streams.proofs.ReadTurns.{err-ok, ok-same, bind-ok}
+use Rattle.jpeg_streams.proofs.ReadTurns.{ok-same, bind-ok}
 use Rattle.jpeg_streams.proofs.FrameShapes.{at-mapped}
 use Rattle.jpeg_segments.proofs.ScaleLemmas.{factors-back}
 use Rattle.jpeg_streams.proofs.BroughtLevels.{Made}

@@ -1,6 +1,6 @@
 -- Components whose factors can be upsampled have a way to upsample them, and no others.
 use Rattle.std.proofs.Common.{rules, ◌≡◌, ◌⊎◌, inl, inr, ℕ, ◌%◌, ◌||◌, Bool, true, false, List, []}
-use Rattle.std.proofs.Common.{◌∷◌, Option, Some, None, Ok, refl, sym, ap, if◌then◌else◌, true≢false}
+use Rattle.std.proofs.Common.{◌∷◌, Option, Some, None, Ok, refl, sym, if◌then◌else◌, true≢false}
 use Rattle.std.proofs.lemmas.Bool.{eqb-true, eq-eqb, and_from as and-true, or_left}
 use Rattle.std.specs.List.{AllByRecursion}
 use Rattle.jpeg_segments.specs.Checks.{gathered}

@@ -1,14 +1,14 @@
 -- The picture of a written stream is that of its array, cut at the levels that were sent.
 use Rattle.std.proofs.Common.{rules, ◌≡◌, ◌&&◌, Bool, true, false, List, Some, None, Result, refl, subst, arith}
-use Rattle.std.proofs.Common.{ℕ, nat_lt, length, get_or, slice_index, slice_index_or, Option, true≢false, if◌then◌else◌}
-use Rattle.std.proofs.Common.{suc, ◌+◌, ◌*◌, ◌/◌, ◌%◌, ◌<◌, ◌≤◌, [], ◌∷◌, map, ℤ, ◌≢◌, Ok, Err, sym, ap, ap₂, ◌∙◌, ◌++◌}
+use Rattle.std.proofs.Common.{ℕ, length, get_or, slice_index, slice_index_or, Option, true≢false}
+use Rattle.std.proofs.Common.{suc, ◌+◌, ◌*◌, ◌/◌, ◌%◌, ◌<◌, ◌≤◌, [], ◌∷◌, map, ℤ, ◌≢◌, Ok, sym, ap, ap₂, ◌∙◌, ◌++◌}
 use Rattle.std.proofs.lemmas.Grind.{common_steps}
 use Rattle.std.proofs.Math.Nat.{div-lt_iff_lt-mul, mul_comm, div-mul-le_self}
 use Rattle.std.proofs.lemmas.Nat.{div-mul-add, mod-mul-add}
 use Rattle.std.proofs.lemmas.Bool.{eq-eqb}
 use Rattle.std.proofs.lemmas.List.FromFn.{get_or-map-range_with_len, length-map-range_with_len}
 use Rattle.std.specs.List.{AllByRecursion, enumerate_from, range_with_len, list_all}
-use Rattle.jpeg_bits.specs.Reading.{Fault, Malformed, ◌>>=◌}
+use Rattle.jpeg_bits.specs.Reading.{Fault, ◌>>=◌}
 use Rattle.jpeg_bits.specs.declared.color_transform.ColorTransform.{ColorTransform}
 use Rattle.jpeg_pixels.specs.Colour.{conversion_of}
 use Rattle.jpeg_pixels.specs.declared.upsampler.ColorConvert.{ColorConvert}

@@ -1,5 +1,5 @@
 -- Scans of a lossless frame (T.81, A.2 and Annex H).
-use Rattle.std.specs.Prelude.{ℕ, ◌+◌, List, [], ◌∷◌, map, drop, slice_index_or}
+use Rattle.std.specs.Prelude.{ℕ, List, [], ◌∷◌, map, drop, slice_index_or}
 use Rattle.std.specs.Prelude.{Option, Some, None, Result, Ok, slice_set}
 use Rattle.jpeg_bits.specs.Reading.{Fault, ◌>>=◌}
 use Rattle.jpeg_bits.specs.Codes.{Table}

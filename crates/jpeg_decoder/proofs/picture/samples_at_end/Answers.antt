@@ -1,4 +1,3 @@
-use Rattle.std.proofs.lemmas.Grind.{common_steps}
 use Rattle.std.proofs.Common.{◌≡◌, ◌<◌, ◌∷◌, ◌++◌, ◌∙◌, [], None, Some, ap, refl, sym, arith, get_or, map, rules}
 use Rattle.std.specs.Prelude.{option_map, slice_index_or}
 use Rattle.std.proofs.lemmas.List.{length-map, map-append}
@@ -8,7 +7,7 @@ use Rattle.std.proofs.lemmas.Grind.{drop_more_same}
 use Rattle.std.proofs.lemmas.Result.{err_from_is_err_and}
 use Rattle.jpeg_bits.specs.Reading.{Malformed}
 use Rattle.jpeg_segments.specs.Checks.{needed}
-use Rattle.jpeg_segments.specs.FrameView.{component_in, frame_in}
+use Rattle.jpeg_segments.specs.FrameView.{component_in}
 use Rattle.jpeg_decoder.specs.PlanesView.{planes_in}
 use Rattle.jpeg_decoder.proofs.EndedPlanes.{mapped-or, planes-kept, same-at}
 use Rattle.jpeg_decoder.proofs.LosslessReads.{sample_plane}
