@@ -15,7 +15,8 @@ use Rattle.jpeg_segments.specs.Frame.{Component}
 use Rattle.jpeg_pixels.specs.Planes.{plane_of}
 use Rattle.jpeg_decoder.specs.Scanning.{blocks_in}
 use Rattle.jpeg_streams.specs.Scans.{zero_of, zero_arrays}
-use Rattle.jpeg_streams.specs.ScanSegments.{finished_by, plane_by}
+use Rattle.jpeg_streams.specs.Rasters.{plane_by, plane_of_blocks}
+use Rattle.jpeg_streams.specs.ScanSegments.{finished_by}
 use Rattle.std.proofs.lemmas.Grind.{common_steps}
 
 -- ---- zeros
@@ -53,7 +54,7 @@ unmarked-by p marks level = rw (ne_eqb p.al 0 level) refl
 -- A plane has a sample for each place of the lines and columns of its blocks.
 pub plane_by-length : (c : Component) (quantization : List ℕ) (blocks : List Block)
     → length (plane_by c quantization blocks) ≡ (c.blocks_high * c.scale) * (c.blocks_wide * c.scale)
-unfolding plane_by plane_of
+unfolding plane_by plane_of_blocks plane_of
 plane_by-length c quantization blocks = grind (arith, common_steps, length-map-range_with_len)
 
 -- after the last component

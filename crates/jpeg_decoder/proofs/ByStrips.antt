@@ -22,7 +22,8 @@ use Rattle.jpeg_streams.specs.InTurn.{Counted, Fits, blocks_from, counted_at_sta
 use Rattle.jpeg_streams.specs.McuRows.{mcu_row, zero_rows, rows_of, each_with_more, on_arrays}
 use Rattle.jpeg_streams.specs.McuRows.{mcu_rows_from}
 use Rattle.jpeg_streams.specs.McuRows.{scan_by_rows}
-use Rattle.jpeg_streams.specs.ScanSegments.{plane_by, Coding, components_of}
+use Rattle.jpeg_streams.specs.Rasters.{plane_by, plane_of_blocks}
+use Rattle.jpeg_streams.specs.ScanSegments.{Coding, components_of}
 use Rattle.jpeg_decoder.specs.Strips.{planes_by, planes_at, samples_of, with_strips, strips_from}
 use Rattle.jpeg_decoder.specs.Strips.{no_samples, planes_by_rows}
 use Rattle.jpeg_streams.proofs.Apart.{zeros-sized}
@@ -148,7 +149,7 @@ none-grown (c ∷ codings) = ap₂ (λ (x : List ℕ) (l : List (List ℕ)). x �
 all-grown : (frame : Frame) (codings : List Coding) (arrays : Arrays)
     → AllByRecursion (Fits frame) (components_of codings) → grown frame.mcus_high codings arrays
     ≡ planes_by codings arrays
-unfolding planes_by samples_of plane_by grown
+unfolding planes_by samples_of plane_by plane_of_blocks grown
 all-grown frame (c ∷ codings) (blocks ∷ arrays) fits = search (rules, arith, all-grown frame codings arrays fits.1)
 all-grown frame _ _ fits = refl
 

@@ -1,7 +1,7 @@
 -- The planes of a frame's components at the end of an image, one after the other.
 use Rattle.std.proofs.Common.{◌≡◌, ◌<◌, ◌≤◌, ℕ, zero, suc, ◌+◌, ◌*◌, ℤ, Bool, true, List, [], ◌∷◌, ◌++◌}
 use Rattle.std.proofs.Common.{sym, ap, ◌∙◌, subst, length, get_or, set, map, drop, drop_of_length-le, arith, Option}
-use Rattle.std.proofs.Common.{Some, None, Ok, rules}
+use Rattle.std.proofs.Common.{Some, None, rules}
 use Rattle.std.specs.Prelude.{option_map, slice_index_or}
 use Rattle.std.specs.List.{AllByRecursion}
 use Rattle.std.proofs.lemmas.Bool.{eqb-true}
@@ -20,10 +20,9 @@ use Rattle.jpeg_decoder.specs.Scanning.{arrays_in}
 use Rattle.jpeg_streams.specs.Scans.{Arrays}
 use Rattle.jpeg_streams.specs.Sound.{ArePlanes, IsDecodedFrame, IsPlaneOf, IsSound}
 use Rattle.jpeg_streams.proofs.Soundness.{count-few, decoded-count}
-use Rattle.jpeg_streams.specs.FoundPictures.{planes_from, plane_at_end}
+use Rattle.jpeg_streams.specs.FoundPictures.{plane_at_end}
 use Rattle.jpeg_streams.specs.ScanSegments.{arrays_before}
 use Rattle.jpeg_streams.specs.Found.{Found}
-use Rattle.jpeg_decoder.proofs.ReadLists.{and_others}
 use Rattle.std.proofs.lemmas.Grind.{common_steps}
 
 -- ---- what is left after some places
@@ -53,8 +52,6 @@ mapped-or f xs i x d e h is = ap f is ∙ sym (get_or-map f xs i d e h)
 pub none-left : {A B : Type 0} (f : A → B) (xs : List A) (i : ℕ) → length xs ≤ i → drop i (map f xs) ≡ []
 none-left f xs i h = drop_of_length-le (map f xs) (omega (arith, length-map xs f, h))
 
--- ---- what is there of a component
-
 -- ---- in turn
 
 left-at : (cs : List Component) (index : ℕ) (c : Component) → index < length cs → c ≡ get_or cs
@@ -62,22 +59,6 @@ left-at : (cs : List Component) (index : ℕ) (c : Component) → index < length
     → drop index cs ≡ c ∷ drop (index + 1) cs
 left-at cs index c h e = drop_more cs index c h ∙ ap (λ (x : Component). x ∷ drop (index + 1) cs)
     (sym e)
-
--- a component, and those after it
-pub planes-after : (found : Found) (frame : Frame) (index : ℕ) (c : Component) → index < length
-    frame.components
-    → c ≡ get_or frame.components index c
-    → planes_from found frame index (drop index frame.components)
-    ≡ and_others (plane_at_end found frame index c)
-    (planes_from found frame (index + 1) (drop (index + 1) frame.components))
-unfolding planes_from
-planes-after found frame index c h e = ap (planes_from found frame index) (left-at frame.components
-    index c h e)
-
-pub no-planes : (found : Found) (frame : Frame) (index : ℕ) → drop index frame.components ≡ []
-    → planes_from found frame index (drop index frame.components) ≡ Ok []
-unfolding planes_from
-no-planes found frame index e = ap (planes_from found frame index) e
 
 -- ---- all blocks
 
@@ -211,7 +192,7 @@ pub reached-end : (found : Found) (frame : Frame) (index : ℕ) (c : Component) 
     → drop index planes ≡ drop index found.planes → plane ≡ get_or planes index None
     → drop index kept ≡ drop index found.kept → b ≡ is_kept found frame → blocks ≡ blocks_if b kept
     index
-    → plane_at_end found frame index c ≡ plane_or c table plane blocks
+    → plane_at_end found frame (index, c) ≡ plane_or c table plane blocks
 unfolding plane_at_end
 reached-end found frame index c planes kept table plane b blocks t left is kept_left kept_is given =
     grind (arith, common_steps, same-at, blocks-same)

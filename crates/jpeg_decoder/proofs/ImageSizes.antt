@@ -1,9 +1,9 @@
 -- The number of bytes of a picture.
-use Rattle.std.proofs.Common.{◌≡◌, ℕ, ◌*◌, ◌<◌, List, [], length, get_or, map, ap, ◌∙◌}
+use Rattle.std.proofs.Common.{◌≡◌, ℕ, ◌*◌, List, [], ◌∷◌, length, length-append, get_or, map, ap, ◌∙◌}
 use Rattle.std.proofs.Common.{arith, Result, Ok, true}
 use Rattle.std.proofs.lemmas.Bool.{eqb-true}
 use Rattle.std.proofs.lemmas.List.{length-map}
-use Rattle.std.proofs.lemmas.List.FromFn.{length-map-range_with_len, get_or-map-range_with_len}
+use Rattle.std.proofs.lemmas.List.FromFn.{length-map-range_with_len, length-range_with_len}
 use Rattle.std.proofs.Math.Nat.{mul_comm}
 use Rattle.std.specs.List.{range_with_len, concat}
 use Rattle.jpeg_bits.specs.Reading.{Fault}
@@ -19,20 +19,21 @@ use Rattle.jpeg_pixels.specs.JointPlanes.{HaveWidth}
 use Rattle.jpeg_pixels.proofs.JoinedLines.{joined-length}
 use Rattle.jpeg_pixels.proofs.LinesOfColour.{line-none}
 use Rattle.jpeg_pixels.proofs.ComponentLines.{lines_of-length, lines_of-long}
-use Rattle.jpeg_pixels.proofs.SourceLists.{sources-length}
+use Rattle.jpeg_segments.proofs.Gathered.{gathered-length}
 use Rattle.jpeg_pixels.proofs.WholePictures.{conversion-fits}
 use Rattle.std.proofs.lemmas.Grind.{common_steps}
 
--- lines made of numbers, of n entries each
+-- pieces of n entries each, put together
+pub each-length : {A : Type 0} (f : A → List ℕ) (n : ℕ) (xs : List A) → ((x : A) → length (f x) ≡ n)
+    → length (concat (map f xs)) ≡ length xs * n
+each-length f n [] sizes = let e : 0 ≡ 0 * n = omega arith in e
+each-length f n (x ∷ xs) sizes =
+    grind (arith, common_steps, length-append, sizes x, each-length f n xs sizes)
+
 pub made-length : (n width : ℕ) (line : ℕ → List ℕ) → ((x : ℕ) → length (line x) ≡ n)
     → length (concat (map line (range_with_len 0 width))) ≡ width * n
 made-length n width line sizes =
-    let lines = map line (range_with_len 0 width) in
-    let count : length lines ≡ width = length-map-range_with_len line 0 width in
-    let line_is : (k : ℕ) → k < width → get_or lines k [] ≡ line k = λ k h. get_or-map-range_with_len line 0 width k k
-    [] h (omega arith) in
-    let are_long : HaveWidth n lines = grind (arith, common_steps) in
-    joined-length n lines are_long ∙ ap (λ m. m * n) count
+    each-length line n (range_with_len 0 width) sizes ∙ ap (λ m. m * n) (length-range_with_len 0 width)
 
 abbrev samples : List (List ℕ) → ℕ → List ℕ
 samples lines x = map (λ (l : List ℕ). get_or l x 0) lines
@@ -56,7 +57,7 @@ image-length components planes width height transform picture counts is =
     grind (
       arith,
       common_steps,
-      sources-length,
+      gathered-length,
       made-length,
       lines_of-length,
       line-length,

@@ -1,18 +1,20 @@
 -- The picture of planes that lie in one room, at the end of an image.
 use Rattle.std.proofs.lemmas.Grind.{common_steps}
 use Rattle.std.proofs.Common.{◌≡◌, ◌≢◌, ◌∙◌, ◌<◌, ◌≤◌, ◌+◌, ℕ, suc, List, [], ◌∷◌, Option, Some}
-use Rattle.std.proofs.Common.{None, Ok, arith, get_or, length, map, refl, replicate, subst}
+use Rattle.std.proofs.Common.{None, Ok, arith, get_or, length, refl, replicate, subst}
 use Rattle.std.proofs.lemmas.List.{get_or-map, get_or-replicate}
 use Rattle.jpeg_pixels.specs.JointPlanes.{IsShapeOf, joint_planes}
 use Rattle.jpeg_pixels.specs.Pictures.{AreWhole}
 use Rattle.jpeg_pixels.specs.declared.joint_planes.JointPlanes.{JointPlanes}
 use Rattle.jpeg_pixels.specs.declared.joint_planes.JointShape.{JointShape}
+use Rattle.std.specs.List.{enumerate_from}
+use Rattle.jpeg_segments.specs.Checks.{gathered}
 use Rattle.jpeg_segments.specs.Frame.{Component, Frame}
 use Rattle.jpeg_streams.proofs.ReadTurns.{then-ok}
 use Rattle.jpeg_streams.proofs.Soundness.{count-few, decoded-count}
 use Rattle.jpeg_streams.specs.Found.{Found}
-use Rattle.jpeg_streams.specs.FoundPictures.{blocks_picture, picture_by, plane_at_end, planes_from}
-use Rattle.jpeg_streams.specs.Sound.{ArePlanes, IsDecodedFrame, IsPlaneOf, IsSound}
+use Rattle.jpeg_streams.specs.FoundPictures.{blocks_picture, picture_by, plane_at_end}
+use Rattle.jpeg_streams.specs.Sound.{ArePlanes, IsPlaneOf, IsSound}
 use Rattle.jpeg_streams.specs.declared.settings.Settings.{Settings}
 use Rattle.jpeg_decoder.specs.PlanesView.{or_joint}
 use Rattle.jpeg_decoder.proofs.JointDecided.{joint-count, or-at}
@@ -30,15 +32,15 @@ AreThere from planes joint =
 
 -- A plane that is decided is that of its component at the end.
 plane-there : (found : Found) (frame : Frame) (index : ℕ) (c : Component) (plane : List ℕ)
-    → get_or found.planes index None ≡ Some plane → plane_at_end found frame index c ≡ Ok plane
+    → get_or found.planes index None ≡ Some plane → plane_at_end found frame (index, c) ≡ Ok plane
 unfolding plane_at_end
 plane-there found frame index c plane e = grind (arith, common_steps)
 
 -- The planes of components are those that are decided.
 all-there : (found : Found) (frame : Frame) (from : ℕ) (cs : List Component) (joint : List (List ℕ))
     → length joint ≡ length cs → AreThere from found.planes joint
-    → planes_from found frame from cs ≡ Ok joint
-unfolding planes_from
+    → gathered (plane_at_end found frame) (enumerate_from from cs) ≡ Ok joint
+unfolding gathered
 all-there found frame from [] [] e there = refl
 all-there found frame from [] (plane ∷ joint) e there = absurd (omega arith)
 all-there found frame from (c ∷ cs) [] e there = absurd (omega arith)

@@ -8,7 +8,7 @@ use Rattle.jpeg_segments.specs.ScanHeaders.{scan_payload}
 use Rattle.jpeg_segments.specs.WrittenSegments.{frame_payload, huffman_bytes}
 use Rattle.jpeg_streams.specs.FoundPictures.{samples_picture}
 use Rattle.jpeg_streams.specs.LosslessScans.{lossless_coding, lossless_codings, mcus_across, mcus_down, parts_of}
-use Rattle.jpeg_streams.specs.LosslessScans.{samples_from, with_samples}
+use Rattle.jpeg_streams.specs.LosslessScans.{with_samples}
 use Rattle.jpeg_streams.specs.ScanSegments.{lossless_scan}
 
 unfoldable pub lossless_on_literals : ⊤
@@ -16,10 +16,10 @@ unfolding differences.sample_difference differences.differences differences.line
     differences.mcu_tables
     differences.row_tables differences.difference_rows differences.strand differences.strands
     frame_payload huffman_bytes lossless_coding
-    lossless_codings lossless_scan mcus_across mcus_down parts_of pictures.layers_of pictures.lossless_picture
-    pictures.sample_picture prediction.first_line prediction.line_below prediction.line_rest
+    lossless_codings lossless_scan mcus_across mcus_down parts_of pictures.lossless_picture
+    pictures.picture_by_samples pictures.pixel_of prediction.first_line prediction.line_below prediction.line_rest
     prediction.lines_below
-    prediction.residue samples_from samples_picture scans.all_above scans.line_interval
+    prediction.residue samples_picture scans.all_above scans.line_interval
     scans.line_intervals
     scan_payload scans.lines_by_component scans.planes_of scans.scan_at with_samples
 lossless_on_literals = tt

@@ -1,34 +1,37 @@
 -- The number of bytes of a lossless picture.
 use Rattle.std.proofs.lemmas.Grind.{common_steps}
-use Rattle.std.proofs.Common.{◌≡◌, ℕ, suc, ◌*◌, List, [], ◌∷◌, length, sym, ap, ap₂, ◌∙◌, refl, arith}
-use Rattle.std.proofs.Common.{Bool, true, false, Result, Some, length-append, mul_assoc}
+use Rattle.std.proofs.Common.{◌≡◌, ℕ, ◌*◌, List, length, sym, ap, ap₂, ◌∙◌, refl, arith}
+use Rattle.std.proofs.Common.{Bool, true, false, Result, Some, mul_assoc}
 use Rattle.std.specs.Prelude.{IfOk, nat_le, if◌then◌else◌}
 use Rattle.std.proofs.Math.Nat.{mul_comm}
+use Rattle.std.proofs.lemmas.List.FromFn.{length-enumerate_from}
+use Rattle.std.specs.List.{enumerate_from}
 use Rattle.jpeg_bits.specs.declared.error.Error.{Error}
 use Rattle.jpeg_segments.specs.declared.parser.CodingProcess.TheVariants.{Lossless}
 use Rattle.jpeg_segments.specs.Frame.{Component, Frame, ceiling}
 use Rattle.jpeg_segments.specs.Scales.{frame_at}
-use Rattle.jpeg_lossless.specs.Pictures as pictures
-use Rattle.jpeg_lossless.specs.Pictures.{ArePlanesOf, Layer, image_bytes, layers_of, lossless_picture, most_across, most_down}
-use Rattle.jpeg_lossless.specs.Pictures.{sample_pixel, sample_line, layer_sample, sample_bytes}
+use Rattle.jpeg_lossless.specs.Pictures.{image_bytes, lossless_picture, picture_by_samples, pixel_of, sample_bytes}
 use Rattle.jpeg_streams.specs.Sound.{IsDecodedFrame}
 use Rattle.jpeg_decoder.specs.Bytes.{IsWhole, bytes_a_sample, picture_size}
-use Rattle.jpeg_decoder.proofs.ImageSizes.{made-length}
+use Rattle.jpeg_decoder.proofs.ImageSizes.{each-length, made-length}
 
 -- ---- the lines
 
-pixel-length : (precision mh mv : ℕ) (layers : List Layer) (y x : ℕ)
-    → length (sample_pixel precision mh mv layers y x) ≡ length layers * bytes_a_sample precision
-pixel-length precision mh mv [] y x = omega arith
-pixel-length precision mh mv (l ∷ layers) y x =
-    grind (arith, common_steps, length-append, pixel-length precision mh mv layers y x)
+sample-length : (precision v : ℕ) → length (sample_bytes precision v) ≡ bytes_a_sample precision
+sample-length precision v = grind (arith, common_steps)
 
-layers-length : (components : List Component) (planes : List (List ℕ)) → ArePlanesOf components planes
-    → length (layers_of components planes) ≡ length components
-unfolding layers_of ArePlanesOf
-layers-length [] [] h = refl
-layers-length (c ∷ components) (plane ∷ planes) h = ap (λ n. suc n) (layers-length components planes h.1)
-layers-length _ _ h = absurd h
+pixel-length : (f : Frame) (sample : ℕ × Component → ℕ → ℕ → ℕ) (y x : ℕ)
+    → length (pixel_of f sample y x) ≡ length f.components * bytes_a_sample f.precision
+unfolding pixel_of
+pixel-length f sample y x =
+    each-length _ (bytes_a_sample f.precision) (enumerate_from 0 f.components) (λ c. sample-length f.precision _)
+    ∙ ap (λ n. n * bytes_a_sample f.precision) (length-enumerate_from 0 f.components)
+
+lines-length : (f : Frame) (sample : ℕ × Component → ℕ → ℕ → ℕ)
+    → length (picture_by_samples f sample) ≡ f.height * (f.width * (length f.components * bytes_a_sample f.precision))
+unfolding picture_by_samples
+lines-length f sample =
+    made-length _ f.height _ (λ y. made-length _ f.width (pixel_of f sample y) (pixel-length f sample y))
 
 -- ---- the frame
 
@@ -41,26 +44,20 @@ read-size : (f : Frame) (p : IsDecodedFrame f) → f.process ≡ Lossless
 unfolding frame_at
 read-size f p e = grind (arith, common_steps, full-size)
 
-lines-length : (precision mh mv width height : ℕ) (layers : List Layer)
-    → length (pictures.sample_picture precision mh mv width height layers)
-    ≡ height * (width * (length layers * bytes_a_sample precision))
-unfolding pictures.sample_picture
-lines-length precision mh mv width height layers = grind (arith, common_steps, made-length, pixel-length)
-
 frame-length : (f : Frame) (planes : List (List ℕ)) → IsDecodedFrame f → f.process ≡ Lossless
-    → ArePlanesOf f.components planes → length (lossless_picture f planes) ≡ picture_size f
+    → length (lossless_picture f planes) ≡ picture_size f
 unfolding lossless_picture picture_size
-frame-length f planes p e whole =
+frame-length f planes p e =
     let size = read-size f p e in
     let n = bytes_a_sample f.precision in
     let turned : (a b c : ℕ) → b * (a * c) ≡ a * b * c = λ a b c. sym (mul_assoc b a c) ∙ ap (λ k. k * c)
     (mul_comm b a) in
-    grind (arith, common_steps, lines-length, layers-length)
+    grind (arith, common_steps, lines-length)
 
 pub if-samples_size : {X : Type 0} (items : X → List ℕ) (f : Frame) (planes : List (List ℕ)) (result : Result X Error)
-    → IsDecodedFrame f → f.process ≡ Lossless → ArePlanesOf f.components planes
+    → IsDecodedFrame f → f.process ≡ Lossless
     → IfOk result (λ x. items x ≡ lossless_picture f planes) → IfOk result (λ x. IsWhole (Some f) (items x))
-if-samples_size items f planes result p e whole h = grind (arith, common_steps, frame-length)
+if-samples_size items f planes result p e h = grind (arith, common_steps, frame-length)
 
 -- the room of a lossless picture
 pub image-room : (f : Frame) → IsDecodedFrame f → f.process ≡ Lossless

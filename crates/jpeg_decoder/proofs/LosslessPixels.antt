@@ -1,27 +1,38 @@
 -- The picture of samples that are written is their pixels.
-use Rattle.std.proofs.Common.{◌≡◌, ℕ, suc, ◌+◌, ◌<◌, List, [], ◌∷◌, ◌++◌, drop, length}
-use Rattle.std.proofs.Common.{Ok, Some, refl, sym, ap, ◌∙◌, subst, arith}
-use Rattle.std.specs.List.{AllByRecursion, range_with_len}
+use Rattle.std.proofs.Common.{◌≡◌, ℕ, suc, ◌+◌, ◌*◌, true, List, [], ◌∷◌, ◌++◌, length, length-append, replicate}
+use Rattle.std.proofs.Common.{Option, Result, Ok, Some, None, refl, sym, ap, ◌∙◌, slice_index, subst, arith}
+use Rattle.std.specs.List.{AllByRecursion, concat, enumerate_from, range_with_len}
+use Rattle.std.proofs.lemmas.List.FromFn.{get_or-map-range_with_len}
+use Rattle.jpeg_bits.specs.Reading.{Fault, Outcome, ◌>>=◌}
+use Rattle.jpeg_segments.specs.Checks.{gathered}
 use Rattle.jpeg_segments.specs.Frame.{Component, Frame}
-use Rattle.jpeg_lossless.specs.Pictures.{layers_of, lossless_picture, most_across, most_down}
-use Rattle.jpeg_lossless.specs.Pictures.{sample_pixel}
-use Rattle.jpeg_lossless.specs.Pictures.{sample_picture}
-use Rattle.jpeg_lossless.proofs.ImageLoops.{inside}
-use Rattle.jpeg_decoder.proofs.ReadLists.{at-flat}
+use Rattle.jpeg_segments.specs.declared.parser.CodingProcess.{CodingProcess}
+use Rattle.jpeg_segments.specs.declared.parser.CodingProcess.TheVariants.{Lossless}
+use Rattle.jpeg_lossless.specs.Pictures.{lossless_picture}
+use Rattle.jpeg_streams.specs.declared.before.Before.TheVariants.{Elsewhere}
 use Rattle.jpeg_streams.specs.declared.settings.Settings.{Settings}
-use Rattle.jpeg_streams.specs.Stream.{meaning, sized_meaning, told_of}
 use Rattle.jpeg_streams.specs.Found.{nothing_found, Found}
-use Rattle.jpeg_streams.specs.WrittenLossless.{IsWithinLimit, Samples, Writes, WritesSamples}
-use Rattle.jpeg_streams.specs.WrittenLossless.{closed}
-use Rattle.jpeg_streams.specs.WrittenLossless.{picture_of_samples, pixel_from, said_after_scan, scan, segment}
+use Rattle.jpeg_streams.specs.FoundPictures.{limited, picture_by_process, picture_of, samples_picture}
 use Rattle.jpeg_streams.specs.SaidSegments.{found_after}
+use Rattle.jpeg_streams.specs.Stream.{header_at, meaning, rest_at, segments_at, sized_meaning, sized_to}
+use Rattle.jpeg_streams.specs.Stream.{start_at, Told, told_of}
+use Rattle.jpeg_streams.specs.WrittenLossless.{closed, IsWithinLimit, picture_of_samples, said_after_scan}
+use Rattle.jpeg_streams.specs.WrittenLossless.{Samples, scan, segment, Writes, WritesSamples}
+use Rattle.jpeg_streams.proofs.LimitedPictures.{limited-ok, limited-same}
 use Rattle.jpeg_streams.proofs.LosslessFrames.{IsShaped}
-use Rattle.jpeg_streams.proofs.LosslessSizes.{IsMade, made-reaches, some-across, some-down}
-use Rattle.jpeg_streams.proofs.PaddingUnseen.{drop-next, get-drop, mapped-same}
-use Rattle.jpeg_streams.proofs.OwnSpots.{all-append}
-use Rattle.jpeg_decoder.proofs.WrittenLosslessStreams.{IsSaid, all-in, drawn, final-framed, nothing-said, samples-meant}
-use Rattle.jpeg_decoder.proofs.WrittenLosslessStreams.{samples-sized, segment-said, some-same}
-use Rattle.jpeg_decoder.proofs.WrittenSamples.{HasSize, SizedAt, indices_of, planes_for, scan-sized}
+use Rattle.jpeg_streams.proofs.PaddingUnseen.{pictures-by}
+use Rattle.jpeg_streams.proofs.Apart.{get-at}
+use Rattle.jpeg_streams.proofs.OwnSpots.{all-append, at-within, in-below}
+use Rattle.jpeg_decoder.proofs.WrittenLosslessStreams.{IsSaid, all-in, final-framed, nothing-said}
+use Rattle.jpeg_decoder.proofs.WrittenLosslessStreams.{segment-said, some-same, AreKept}
+use Rattle.jpeg_decoder.proofs.WrittenLosslessStreams.{final-lossless, header-read, rest-ends}
+use Rattle.jpeg_decoder.proofs.WrittenSamples.{SizedAt, indices_of, planes_for, scan-sized}
+use Rattle.jpeg_decoder.proofs.WrittenSamples.{and_samples}
+use Rattle.jpeg_streams.proofs.ReadTurns.{segments-walked, then-ok}
+use Rattle.jpeg_streams.proofs.WrittenFrameScans.{in-all}
+use Rattle.jpeg_streams.proofs.WrittenPictures.{rest-by}
+use Rattle.jpeg_decoder.proofs.LosslessReads.{sample_plane}
+use Rattle.jpeg_decoder.proofs.ReadLists.{at-flat}
 use Rattle.std.proofs.lemmas.Grind.{common_steps}
 
 -- ---- sizes
@@ -54,73 +65,103 @@ final-shaped samples frame said sent bytes final (scan said' final' sent' f fill
     final-shaped samples frame (said_after_scan said) _ more final w
     (record { tables = is.tables; shaped = is.shaped }) e
 
--- each component, from a place on, has samples of its size
-AreAll : Frame → Samples → ℕ → List Component → Type 0
-AreAll frame samples index [] = Unit {0}
-AreAll frame samples index (c ∷ more) =
-    (HasSize (samples index) c × IsMade frame c) × AreAll frame samples (index + 1) more
+-- ---- the picture
 
-from-indices : (frame : Frame) (samples : Samples) (all : List Component) (index : ℕ) (cs : List
-    Component)
-    → drop index all ≡ cs → AllByRecursion (IsMade frame) cs
-    → AllByRecursion (SizedAt samples all) (range_with_len index (length cs)) → AreAll frame
-    samples index cs
-unfolding AreAll
-from-indices frame samples all index [] e made h = tt
-from-indices frame samples all index (c ∷ cs) e made h =
-    let next : index + 1 ≡ suc index = omega arith in (
-      (h.0 c (get-drop index all c cs e), made.0),
-      from-indices frame samples all (index + 1) cs
-          (ap (λ (n : ℕ). drop n all) next ∙ drop-next index all c cs e) made.1 h.1,
-    )
+-- the planes of samples that are kept
+planes-there : (decided : List (Option (List ℕ))) (samples : Samples) (index : ℕ) (cs : List Component)
+    → AreKept samples decided (range_with_len index (length cs))
+    → gathered (sample_plane decided) (enumerate_from index cs)
+    ≡ Ok (planes_for samples (range_with_len index (length cs)))
+unfolding gathered
+planes-there decided samples index [] h = refl
+planes-there decided samples index (c ∷ cs) h =
+    grind (arith, common_steps, then-ok, planes-there decided samples (index + 1) cs h.1)
 
--- ---- pixels
+-- They make the picture of the samples.
+planes-shown : (samples : Samples) (frame : Frame) (said : Found) (bytes : List ℕ) (final : Found)
+    → Writes samples said [] bytes final → IsSaid said → final.frame ≡ Some frame
+    → lossless_picture frame (planes_for samples (range_with_len 0 (length frame.components)))
+    ≡ picture_of_samples frame samples
+unfolding lossless_picture picture_of_samples
+planes-shown samples frame said bytes final w is e =
+    let cs = frame.components in
+    let sized = sent-sized samples frame said [] bytes final w is e tt in
+    let shaped = final-shaped samples frame said [] bytes final w is e in
+    pictures-by frame _ _ shaped.made (λ index x y c at hx hy.
+    let inside = at-within index cs c (get-at index cs c at) in
+    let size = in-all (SizedAt samples cs) (range_with_len 0 (length cs)) index sized
+    (in-below index (length cs) inside) c at in
+    ap (λ l. slice_index l (y * c.width + x)) (get_or-map-range_with_len (λ k. concat (samples k)) 0
+    (length cs) index index [] inside (omega arith))
+    ∙ at-flat c.width x (samples index) y size.even (omega (arith, size.count)) hx)
 
-pixel-same : (frame : Frame) (samples : Samples) (x y : ℕ) → x < frame.width → y < frame.height
-    → (index : ℕ) (cs : List Component) → AreAll frame samples index cs
-    → sample_pixel frame.precision (most_across frame) (most_down frame)
-    (layers_of cs (planes_for samples (range_with_len index (length cs)))) y x
-    ≡ pixel_from frame samples y x index cs
-unfolding AreAll pixel_from layers_of
-pixel-same frame samples x y hx hy index [] all = refl
-pixel-same frame samples x y hx hy index (c ∷ cs) all =
-    let size = all.0.0 in
-    let made = all.0.1 in
-    let reach = made-reaches frame c made in
-    let column = inside x frame.width c.factors.horizontal (most_across frame) c.width hx made.horizontal
-    (some-across frame) reach.across in
-    let row = inside y frame.height c.factors.vertical (most_down frame) c.height hy made.vertical
-    (some-down frame) reach.down in
-    let count = size.count in
-    grind (arith, common_steps, at-flat, pixel-same frame samples x y hx hy (index + 1) cs all.1)
+shown : (settings : Settings) (samples : Samples) (found said : Found) (bytes : List ℕ) (final : Found) (frame : Frame)
+    → Writes samples said [] bytes final → IsSaid said → found.frame ≡ Some frame → final.frame ≡ Some frame
+    → frame.process ≡ Lossless → AreKept samples found.samples (range_with_len 0 (length frame.components))
+    → picture_of settings found ≡ limited settings final (λ f. Ok (picture_of_samples f samples))
+unfolding picture_of samples_picture
+shown settings samples found said bytes final frame w is e framed lossless kept =
+    limited-same settings found final frame frame _ _ e framed refl
+    (ap (λ (p : CodingProcess). picture_by_process p settings found frame) lossless
+    ∙ then-ok (gathered (sample_plane found.samples) (enumerate_from 0 frame.components)) _ _ _
+    (planes-there found.samples samples 0 frame.components kept)
+    (ap (λ (l : List ℕ). Ok l) (planes-shown samples frame said bytes final w is framed)))
 
-samples-shown : (frame : Frame) (samples : Samples) → AreAll frame samples 0 frame.components
-    → drawn frame samples ≡ picture_of_samples frame samples
-unfolding picture_of_samples lossless_picture sample_picture
-samples-shown frame samples all = grind (arith, common_steps, mapped-same, pixel-same)
+-- what a caller is given of a picture
+abbrev given : Found → List ℕ → List ℕ → Outcome (Told × List ℕ)
+given found rest picture = Ok ((told_of found, picture), rest)
 
-shown : (samples : Samples) (bytes : List ℕ) (final : Found) (frame : Frame) → WritesSamples samples bytes final
-    → final.frame ≡ Some frame
-    → drawn frame samples ≡ picture_of_samples frame samples
-shown samples bytes final frame w e =
-    let sized = sent-sized samples frame nothing_found [] w.after final w.written nothing-said e tt in
-    let is = final-shaped samples frame nothing_found [] w.after final w.written nothing-said e in
-    samples-shown frame samples (from-indices frame samples frame.components 0 frame.components
-    refl is.made sized)
+rest-read : (samples : Samples) (settings : Settings) (bytes rest : List ℕ) (said final : Found)
+    → Writes samples said [] bytes final → IsSaid said
+    → rest_at settings (and_samples said (replicate 4 None)) (bytes ++ rest)
+    ≡ (limited settings final (λ f. Ok (picture_of_samples f samples)) >>= given final rest)
+rest-read samples settings bytes rest said final w is =
+    let e = rest-ends samples bytes rest said final w is in
+    rest-by settings _ _ _ _ e.is
+    ∙ ap (λ (o : Result (List ℕ) Fault). o >>= given final rest)
+    (shown settings samples (and_samples final e.last) said bytes final e.frame w is e.framed e.framed e.lossless
+    e.kept)
 
 -- ---- the whole
 
-pub lossless-means : (settings : Settings) (samples : Samples) (bytes rest : List ℕ) (final : Found) (frame : Frame)
-    → WritesSamples samples bytes final → IsWithinLimit settings.limit final frame
-    → meaning settings (bytes ++ rest) ≡ Ok ((told_of final, picture_of_samples frame samples), rest)
-lossless-means settings samples bytes rest final frame w within =
-    samples-meant settings samples bytes rest final frame w within.is_said within.limited
-    ∙ ap (λ (l : List ℕ). Ok ((told_of final, l), rest)) (shown samples bytes final frame w within.is_said)
+-- A stream that is written for samples means their picture where the limit takes it, and what
+-- follows it is left.
+pub lossless-means : (settings : Settings) (samples : Samples) (bytes rest : List ℕ) (final : Found)
+    → WritesSamples samples bytes final
+    → meaning settings (bytes ++ rest)
+    ≡ (limited settings final (λ f. Ok (picture_of_samples f samples)) >>= given final rest)
+unfolding meaning start_at nothing_found
+lossless-means settings samples bytes rest final w =
+    ap (λ (l : List ℕ). meaning settings (l ++ rest)) w.starts
+    ∙ rest-read samples settings w.after rest nothing_found final w.written nothing-said
+
+keeps-size : (width height : ℕ) (found : Found) (frame : Frame) → found.frame ≡ Some frame
+    → frame.process ≡ Lossless → sized_to width height found ≡ found
+keeps-size width height found frame framed lossless = grind (arith, common_steps)
 
 pub lossless-sized : (width height : ℕ) (settings : Settings) (samples : Samples) (bytes rest : List ℕ)
-    (final : Found) (frame : Frame)
-    → WritesSamples samples bytes final → IsWithinLimit settings.limit final frame
-    → sized_meaning width height settings (bytes ++ rest) ≡ Ok ((told_of final, picture_of_samples frame samples), rest)
-lossless-sized width height settings samples bytes rest final frame w within =
-    samples-sized width height settings samples bytes rest final frame w within.is_said within.limited
-    ∙ ap (λ (l : List ℕ). Ok ((told_of final, l), rest)) (shown samples bytes final frame w within.is_said)
+    (final : Found) → WritesSamples samples bytes final
+    → sized_meaning width height settings (bytes ++ rest)
+    ≡ (limited settings final (λ f. Ok (picture_of_samples f samples)) >>= given final rest)
+unfolding sized_meaning header_at start_at nothing_found
+lossless-sized width height settings samples bytes rest final w =
+    let long = length-append w.after rest in
+    let r = header-read samples rest (replicate 4 None) (suc (length (w.after ++ rest))) Elsewhere nothing_found []
+    w.after final w.written (omega (arith, long)) nothing-said refl in
+    let frame_of_all = final-framed samples r.frame r.between [] r.after final r.written r.framed in
+    let lossless = final-lossless samples r.frame r.between [] r.after final r.written frame_of_all in
+    ap (λ (l : List ℕ). sized_meaning width height settings (l ++ rest)) w.starts
+    ∙ then-ok (segments_at true Elsewhere nothing_found None (w.after ++ rest)) _
+    (and_samples r.between (replicate 4 None), r.after ++ rest) _ (segments-walked _ _ _ _ _ _ r.is)
+    (ap (λ (f : Found). rest_at settings f (r.after ++ rest))
+    (keeps-size width height (and_samples r.between (replicate 4 None)) r.frame r.framed lossless)
+    ∙ rest-read samples settings r.after rest r.between final r.written r.is_said)
+
+-- within the limit
+pub limit-takes : (settings : Settings) (samples : Samples) (rest : List ℕ) (final : Found) (frame : Frame)
+    → IsWithinLimit settings.limit final frame
+    → (limited settings final (λ f. Ok (picture_of_samples f samples)) >>= given final rest)
+    ≡ Ok ((told_of final, picture_of_samples frame samples), rest)
+limit-takes settings samples rest final frame within =
+    then-ok _ _ (picture_of_samples frame samples) _
+    (limited-ok settings final frame _ _ within.is_said within.limited refl) refl

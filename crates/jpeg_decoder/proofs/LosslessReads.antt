@@ -8,7 +8,7 @@ use Rattle.std.proofs.lemmas.Option.{get_or_from_slice_get, slice_get-get_or}
 use Rattle.std.specs.declared.alloc.Global.{Global}
 use Rattle.std.specs.declared.vec.Vec.{Vec}
 use Rattle.std.proofs.lemmas.List.{length-map, map-set}
-use Rattle.std.specs.List.{AllByRecursion}
+use Rattle.std.specs.List.{AllByRecursion, enumerate_from}
 use Rattle.std.proofs.lemmas.List.{append_assoc, append-nil, drop-set-lt, drop_all, drop_more}
 use Rattle.std.proofs.lemmas.List.Elements.{All-from_recursion, recursion_from_All}
 use Rattle.jpeg_bits.specs.Codes.{Table}
@@ -17,7 +17,7 @@ use Rattle.jpeg_bits.specs.Stream.{Stream}
 use Rattle.jpeg_bits.specs.declared.error.Error.{Error}
 use Rattle.jpeg_bits.specs.declared.marker.Marker.{Marker}
 use Rattle.jpeg_bits.proofs.Loops.{Continues, Continues-err, Names-through, bind_at, bind_err}
-use Rattle.jpeg_segments.specs.Frame.{Component, Factors, Frame, ceiling}
+use Rattle.jpeg_segments.specs.Frame.{Component, Factors, Frame, ceiling, most_across, most_down}
 use Rattle.jpeg_segments.specs.FrameView.{component_in, factors_in}
 use Rattle.jpeg_segments.specs.declared.parser.Component as declared
 use Rattle.jpeg_segments.specs.ScanHeader.{Scan}
@@ -25,10 +25,10 @@ use Rattle.jpeg_segments.specs.declared.parser.CodingProcess.TheVariants.{Lossle
 use Rattle.jpeg_lossless.specs.Codings.{AreWholeSamples, IsCovered, way_by}
 use Rattle.jpeg_lossless.specs.Differences.{Part}
 use Rattle.jpeg_lossless.specs.declared.scan.Coding.{Coding}
-use Rattle.jpeg_lossless.specs.Pictures.{ArePlanesOf, lossless_picture, most_across, most_down}
+use Rattle.jpeg_lossless.specs.Pictures.{ArePlanesOf, lossless_picture}
 use Rattle.jpeg_lossless.specs.Scans.{scan_at}
 use Rattle.jpeg_streams.specs.LosslessScans.{LosslessCoding, lossless_coding, lossless_codings, mcus_across}
-use Rattle.jpeg_streams.specs.LosslessScans.{mcus_down, part_of, parts_of, samples_from, tables_in, with_samples}
+use Rattle.jpeg_streams.specs.LosslessScans.{mcus_down, part_of, parts_of, tables_in, with_samples}
 use Rattle.jpeg_decoder.specs.LosslessParts.{mcus_high, mcus_wide, no_component, part_by, parts_at}
 use Rattle.jpeg_segments.specs.Checks.{gathered, needed}
 use Rattle.jpeg_decoder.specs.declared.decoded.Decoded.{Decoded}
@@ -42,26 +42,12 @@ use Rattle.jpeg_streams.proofs.LosslessSizes.{IsMade, across-some, all-at, all-c
 use Rattle.jpeg_decoder.specs.PlanesView.{planes_in}
 use Rattle.jpeg_decoder.proofs.PutLoops.{seen-at}
 use Rattle.jpeg_decoder.proofs.ScanData.{before-sequential}
-use Rattle.jpeg_decoder.proofs.ReadLists.{and_others, dropped}
+use Rattle.jpeg_decoder.proofs.ReadLists.{dropped}
 use Rattle.jpeg_decoder.proofs.ScanReads.{HasRead, last-step}
 use Rattle.jpeg_streams.proofs.Soundness.{count-few, decoded-count, decoded-some}
 use Rattle.std.proofs.lemmas.Bool.Decides.{nat_tests}
 use Rattle.jpeg_bits.specs.declared.error.Error.TheVariants.{OutOfMemory}
 use Rattle.std.proofs.lemmas.Grind.{common_steps}
-
--- ---- tables, slot after slot
-
--- a slot, and those after it
-pub tables-from : (ts : List (Option Table)) (ds : List ℕ) (slot d : ℕ) → slot < length ds → d ≡ get_or ds slot d
-    → tables_in ts (drop slot ds)
-    ≡ and_others (needed (slice_index_or ts d None)) (tables_in ts (drop (slot + 1) ds))
-unfolding tables_in
-tables-from ts ds slot d h e = ap (tables_in ts) (dropped ds slot d h e)
-
-pub no-tables : (ts : List (Option Table)) (ds : List ℕ) (slot : ℕ) → length ds ≤ slot
-    → tables_in ts (drop slot ds) ≡ Ok []
-unfolding tables_in
-no-tables ts ds slot h = ap (tables_in ts) (drop_all slot ds h)
 
 -- ---- the components of a scan, by its tables
 
@@ -85,7 +71,7 @@ pub codings-by-tables : (tables : List (Option Table)) (frame : Frame) (indices 
     List Table)
     → AllByRecursion (λ index. index < length frame.components) indices → length ds ≡ length indices
     → tables_in tables ds ≡ Ok ts → AreCodings tables frame indices ds ts
-unfolding lossless_codings lossless_coding gathered tables_in AreOf
+unfolding AreOf gathered lossless_coding lossless_codings
 codings-by-tables tables frame [] [] ts within long e = grind (arith, common_steps, ok-same)
 codings-by-tables tables frame (p ∷ indices) (d ∷ ds) ts within long e =
     let one = bind-ok (needed (slice_index_or tables d None)) _ ts e in
@@ -107,7 +93,7 @@ pub codings-lacking : (tables : List (Option Table)) (frame : Frame) (indices ds
     Fault)
     → AllByRecursion (λ index. index < length frame.components) indices → length ds ≡ length indices
     → tables_in tables ds ≡ Err f → lossless_codings tables frame indices ds ≡ Err f
-unfolding lossless_codings lossless_coding gathered tables_in
+unfolding gathered lossless_coding lossless_codings
 codings-lacking tables frame [] [] f within long e = absurd (let n : ⊥ = cc in n)
 codings-lacking tables frame [] (d ∷ ds) f within long e = absurd (omega arith)
 codings-lacking tables frame (p ∷ indices) [] f within long e = absurd (omega arith)
@@ -194,8 +180,8 @@ unfolding mcus_wide mcus_high
 alone frame indices e = grind (arith, common_steps)
 
 pub not-alone : (frame : Frame) (indices : List ℕ) → (length indices == 1) ≡ false
-    → (mcus_wide frame indices ≡ ceiling frame.width (most_across frame))
-    × (mcus_high frame indices ≡ ceiling frame.height (most_down frame))
+    → (mcus_wide frame indices ≡ ceiling frame.width (most_across frame.components))
+    × (mcus_high frame indices ≡ ceiling frame.height (most_down frame.components))
 unfolding mcus_wide mcus_high
 not-alone frame indices e = grind (arith, common_steps)
 
@@ -409,21 +395,9 @@ put-all indices i planes samples whole h w = grind (arith, common_steps, with-no
 
 -- ---- samples at the end of an image
 
--- a component, and those after it
-pub samples-after : (samples : List (Option (List ℕ))) (cs : List Component) (index : ℕ) → index <
-    length cs
-    → samples_from samples index (drop index cs)
-    ≡ and_others (needed (slice_index_or samples index None)) (samples_from samples (index + 1)
-    (drop (index + 1) cs))
-unfolding samples_from
-samples-after samples cs index h = ap (samples_from samples index) (drop_more cs index no_component
-    h)
-
-pub no-samples : (samples : List (Option (List ℕ))) (cs : List Component) (index : ℕ) → length cs ≤
-    index
-    → samples_from samples index (drop index cs) ≡ Ok []
-unfolding samples_from
-no-samples samples cs index h = ap (samples_from samples index) (drop_all index cs h)
+-- the plane of a component with its index in the frame
+abbrev pub sample_plane : List (Option (List ℕ)) → ℕ × Component → Result (List ℕ) Fault
+sample_plane samples c = needed (slice_index_or samples c.0 None)
 
 drop-there : (samples : List (Option (List ℕ))) (index : ℕ) (plane : List ℕ)
     → slice_index_or samples index None ≡ Some plane → drop index samples ≡ Some plane ∷ drop
@@ -440,13 +414,13 @@ drop-there (x ∷ samples) (suc index) plane e = search (
 -- The planes are those of the components.
 samples-from : (samples : List (Option (List ℕ))) (index : ℕ) (cs : List Component) (planes : List
     (List ℕ))
-    → AreSampled cs (drop index samples) → samples_from samples index cs ≡ Ok planes → ArePlanesOf
-    cs planes
-unfolding samples_from AreSampled ArePlanesOf
+    → AreSampled cs (drop index samples) → gathered (sample_plane samples) (enumerate_from index cs) ≡ Ok planes
+    → ArePlanesOf cs planes
+unfolding gathered AreSampled ArePlanesOf
 samples-from samples index [] planes h e = subst (ArePlanesOf []) (ok-same [] planes e) tt
 samples-from samples index (c ∷ cs) planes h e =
     let one = bind-ok (needed (slice_index_or samples index None)) _ planes e in
-    let more = bind-ok (samples_from samples (index + 1) cs) _ planes one.2 in
+    let more = bind-ok (gathered (sample_plane samples) (enumerate_from (index + 1) cs)) _ planes one.2 in
     let there = needed-some (slice_index_or samples index None) one.0 one.1 in
     let is : AreSampled (c ∷ cs) (Some one.0 ∷ drop (index + 1) samples) = grind (
       arith,
@@ -456,7 +430,7 @@ samples-from samples index (c ∷ cs) planes h e =
     grind (arith, common_steps, ok-same, samples-from samples (index + 1) cs more.0 is.1 more.1)
 
 pub samples-whole : (samples : List (Option (List ℕ))) (cs : List Component) (planes : List (List ℕ))
-    → AreSampled cs samples → samples_from samples 0 cs ≡ Ok planes → ArePlanesOf cs planes
+    → AreSampled cs samples → gathered (sample_plane samples) (enumerate_from 0 cs) ≡ Ok planes → ArePlanesOf cs planes
 samples-whole samples cs planes h e = samples-from samples 0 cs planes h e
 
 -- ---- what a call knows
@@ -517,13 +491,13 @@ four-indices frame indices decoded h =
 -- ---- the picture
 
 pub picture-lacks : (found : Found) (frame : Frame) (e : Error)
-    → Names e (samples_from found.samples 0 frame.components)
+    → Names e (gathered (sample_plane found.samples) (enumerate_from 0 frame.components))
     → Names e (samples_picture found frame)
 unfolding samples_picture
 picture-lacks found frame e n = grind (arith, common_steps, Names-through, bind_err)
 
 pub picture-made : (found : Found) (frame : Frame) (planes : List (List ℕ))
-    → samples_from found.samples 0 frame.components ≡ Ok planes
+    → gathered (sample_plane found.samples) (enumerate_from 0 frame.components) ≡ Ok planes
     → samples_picture found frame ≡ Ok (lossless_picture frame planes)
 unfolding samples_picture
 picture-made found frame planes h = then-ok _ _ planes _ h refl

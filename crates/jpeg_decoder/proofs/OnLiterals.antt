@@ -14,7 +14,6 @@ use Rattle.jpeg_bits.specs.Zigzag.{coefficients_in_block_order, values_in_block_
 use Rattle.jpeg_bits.specs.Zigzag.{zigzag_indices}
 use Rattle.jpeg_pixels.specs.Colour.{blue_of, colour_of, conversion_of, green_of, line_bytes, red_of}
 use Rattle.jpeg_pixels.specs.Pictures.{image_of, lines_of, converted_picture, picture_line}
-use Rattle.jpeg_pixels.specs.Pictures.{sources_by}
 use Rattle.jpeg_pixels.specs.Planes.{cropped, plane_of}
 use Rattle.jpeg_pixels.specs.Samples.{basis, column_value, dequantized, is_flat_column, sample, transformed}
 use Rattle.jpeg_pixels.specs.Scaled.{column_of_4, even_part, odd_part, sample_at, sample_of_1, sample_of_2}
@@ -29,11 +28,12 @@ use Rattle.jpeg_segments.specs.ScanHeader.{band_at, count_at, scan_of, selector_
 use Rattle.jpeg_streams.specs.ColourChoice.{by_identifiers, transform_of}
 use Rattle.jpeg_streams.specs.Found.{nothing_found}
 use Rattle.jpeg_streams.specs.FoundPictures.{blocks_picture, picture_by, picture_of, plane_at_end}
-use Rattle.jpeg_streams.specs.FoundPictures.{planes_from}
+use Rattle.jpeg_streams.specs.FoundPictures.{limited}
+use Rattle.jpeg_streams.specs.Rasters.{plane_by, plane_of_blocks}
 use Rattle.jpeg_streams.specs.Order.{all_spots, mcu_size, mcu_spots, own_spots, part_spots, spots_of}
 use Rattle.jpeg_streams.specs.ScanSegments.{after_restarts, after_scan, arrays_before, blocks_scan}
 use Rattle.jpeg_streams.specs.ScanSegments.{codings_of, component_coding, finished_by, pass_of}
-use Rattle.jpeg_streams.specs.ScanSegments.{plane_by, put_arrays, scan_arrays, scan_segment, tables_of}
+use Rattle.jpeg_streams.specs.ScanSegments.{put_arrays, scan_arrays, scan_segment, tables_of}
 use Rattle.jpeg_streams.specs.ScanSegments.{vias_from, with_arrays, with_blocks, with_plane}
 use Rattle.jpeg_streams.specs.Scans.{arrays_at, put_blocks, turns_of, zero_arrays}
 use Rattle.jpeg_streams.specs.Segments.{accepted, frame_segment, updated}
@@ -52,15 +52,15 @@ unfolding accepted adobe_at after_restarts after_scan all_spots app_at applicati
     cropped dc_part dequantized difference dri_at each end_segment ending_at even_part extended
     factors_at finished_by first_ac first_dc frame_at frame_of frame_segment gathered green_of
     groups header_at image_of int_wrap interval intervals is_flat_column length_at lengths_from
-    line_bytes lines_of marker_of mcu_size mcu_spots meaning next_marker next_u16 nothing_found
-    odd_part own_spots part_spots pass_of picture_by picture_line
-    picture_of plane_at_end plane_by plane_of planes_from put_arrays put_blocks
+    limited line_bytes lines_of marker_of mcu_size mcu_spots meaning next_marker next_u16
+    nothing_found odd_part own_spots part_spots pass_of picture_by picture_line picture_of
+    plane_at_end plane_by plane_of plane_of_blocks put_arrays put_blocks
     quantization.defined_table_at quantization.dqt_at quantization.quantization_from
     tables.defined_codes_at tables.dht_at red_of refined_ac refined_piece rest_at rule_of sample
     sample_at sample_of_1 sample_of_2 sample_of_4 scale_for scan_arrays scan_of scan_segment
     segment_at segments_at selector_at selectors_from signed_from size_at sized_meaning skip_at
-    sof_at sos_at sources_by spots_of start_at symbol_from tables.tables_from tables_of text_ahead
-    text_at through_zero times token_at token_from transform_of transformed turn_at turns_of updated
+    sof_at sos_at spots_of start_at symbol_from tables.tables_from tables_of text_ahead text_at
+    through_zero times token_at token_from transform_of transformed turn_at turns_of updated
     upsampled quantization.value_at values_in_block_order vias_from walk with_arrays with_blocks
     with_last with_plane zero_arrays zero_block zigzag_indices
 jpeg_on_literals = tt

@@ -10,7 +10,8 @@ use Rattle.jpeg_decoder.specs.declared.scan.Coded.{Coded}
 use Rattle.jpeg_streams.specs.Scans.{Arrays}
 use Rattle.jpeg_decoder.specs.Scanning.{arrays_in, blocks_in, components_in}
 use Rattle.jpeg_decoder.specs.Steps.{coding_in, with_its_plane, with_planes}
-use Rattle.jpeg_streams.specs.ScanSegments.{put_arrays, with_arrays, with_blocks, with_plane, plane_by, Coding}
+use Rattle.jpeg_streams.specs.Rasters.{plane_by}
+use Rattle.jpeg_streams.specs.ScanSegments.{put_arrays, with_arrays, with_blocks, with_plane, Coding}
 use Rattle.jpeg_streams.specs.Found.{Found}
 use Rattle.jpeg_decoder.specs.Steps.{decided_planes}
 use Rattle.jpeg_streams.specs.InTurn.{AreArrays}

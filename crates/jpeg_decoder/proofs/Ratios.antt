@@ -1,19 +1,25 @@
 -- Sampling ratios are refused by name alone.
 use Rattle.std.proofs.Common.{◌≡◌, ℕ, List, [], ◌∷◌, Result, Ok, Err, Option, arith}
-use Rattle.jpeg_bits.specs.Reading.{Fault, End, Names, ◌>>=◌}
+use Rattle.std.specs.Prelude.{ok_or}
+use Rattle.jpeg_bits.specs.Reading.{Fault, End, Lacks, Names, ◌>>=◌}
 use Rattle.jpeg_bits.specs.declared.error.Error.{Error}
+use Rattle.jpeg_bits.specs.declared.error.UnsupportedFeature.TheVariants.{NonIntegerSubsamplingRatio}
+use Rattle.jpeg_segments.specs.Checks.{gathered}
 use Rattle.jpeg_segments.specs.Frame.{Component}
 use Rattle.jpeg_pixels.specs.declared.upsampler.UpsampleRule.{UpsampleRule}
-use Rattle.jpeg_pixels.specs.Pictures.{Source, source_by, sources_by, sources_of}
+use Rattle.jpeg_pixels.specs.Pictures.{Source, source_of, sources_of}
+use Rattle.jpeg_pixels.proofs.SourceLists.{source_by}
 use Rattle.jpeg_decoder.specs.Steps.{IsRefusal}
 use Rattle.std.proofs.lemmas.Grind.{common_steps}
 
 one : (c : Component) (rule : Option UpsampleRule) (others : Result (List Source) Fault) → (others ≡ Err End → ⊥)
-    → (source_by c rule >>= λ (s : Source). (others >>= λ (rest : List Source). Ok (s ∷ rest))) ≡ Err End → ⊥
+    → ((ok_or rule (Lacks NonIntegerSubsamplingRatio) >>= λ (r : UpsampleRule). Ok (source_by c r))
+    >>= λ (s : Source). (others >>= λ (rest : List Source). Ok (s ∷ rest))) ≡ Err End → ⊥
 one c rule others h e = grind (arith, common_steps)
 
-never-end : (h v width height : ℕ) (components : List Component) → sources_by h v width height components ≡ Err End → ⊥
-unfolding sources_by
+never-end : (h v width height : ℕ) (components : List Component)
+    → gathered (source_of h v width height) components ≡ Err End → ⊥
+unfolding gathered
 never-end h v width height [] e = cc
 never-end h v width height (c ∷ more) e = grind (arith, common_steps, one, never-end h v width height more)
 

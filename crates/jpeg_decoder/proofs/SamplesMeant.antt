@@ -1,19 +1,21 @@
 -- Lossless streams for the same samples mean the same picture.
-use Rattle.std.proofs.Common.{◌≡◌, ◌⊎◌, inl, inr, ℕ, ◌*◌, ◌<◌, ◌≤◌, List, [], ◌++◌, map, length, Ok, Some, sym, ap, ◌∙◌}
-use Rattle.std.proofs.Common.{subst, arith}
-use Rattle.std.proofs.lemmas.Bool.{cases_lt}
+use Rattle.std.proofs.Common.{◌≡◌, ℕ, ◌*◌, List, [], ◌++◌, map, length, Ok, Some, sym, ap, ◌∙◌, arith}
 use lib.ListN.{length-map}
 use Rattle.jpeg_bits.specs.Reading.{◌>>=◌}
 use Rattle.jpeg_segments.specs.Frame.{Frame}
 use Rattle.jpeg_streams.specs.declared.settings.Settings.{Settings}
 use Rattle.jpeg_streams.specs.Found.{Found, nothing_found}
+use Rattle.jpeg_streams.specs.FoundPictures.{limited}
 use Rattle.jpeg_streams.specs.FrameSamples.{sampling_of, ShowAlike}
-use Rattle.jpeg_streams.specs.WrittenLossless.{Samples, WritesSamples}
+use Rattle.jpeg_streams.specs.Stream.{told_of}
+use Rattle.jpeg_streams.specs.WrittenLossless.{picture_of_samples, Samples, WritesSamples}
 use Rattle.jpeg_streams.specs.WrittenParts.{picture_meant_by}
+use Rattle.jpeg_streams.proofs.LimitedPictures.{limited-same}
 use Rattle.jpeg_streams.proofs.LosslessFrames.{IsShaped}
 use Rattle.jpeg_streams.proofs.SamplesAlike.{pictures-alike}
+use Rattle.jpeg_streams.proofs.WrittenParts.{picture-alone}
 use Rattle.jpeg_decoder.proofs.LosslessPixels.{final-shaped, lossless-means}
-use Rattle.jpeg_decoder.proofs.WrittenLosslessStreams.{nothing-said, samples-refused}
+use Rattle.jpeg_decoder.proofs.WrittenLosslessStreams.{nothing-said}
 use Rattle.std.proofs.lemmas.Grind.{common_steps}
 
 -- how many samples a frame's picture has
@@ -29,25 +31,22 @@ counts-same : (f g : Frame) → IsShaped f → IsShaped g → f.width ≡ g.widt
     → map sampling_of f.components ≡ map sampling_of g.components → count_of f ≡ count_of g
 counts-same f g p q w h e = grind (arith, common_steps, length-map)
 
+-- the picture that a stream for samples means
+meant : (settings : Settings) (samples : Samples) (bytes rest : List ℕ) (final : Found)
+    → WritesSamples samples bytes final
+    → picture_meant_by settings (bytes ++ rest) ≡ limited settings final (λ f. Ok (picture_of_samples f samples))
+meant settings samples bytes rest final w =
+    ap (λ o. o >>= (λ m. Ok m.0.1)) (lossless-means settings samples bytes rest final w)
+    ∙ picture-alone _ (told_of final) rest
+
 pub samples-alike : (settings : Settings) (samples : Samples) (first second rest others : List ℕ) (a b : Found)
     → WritesSamples samples first a → WritesSamples samples second b → ShowAlike a b
     → picture_meant_by settings (first ++ rest) ≡ picture_meant_by settings (second ++ others)
 samples-alike settings samples first second rest others a b u v same =
-    go (cases_lt settings.limit (count_of same.frame_a))
-  where
-    counts : count_of same.frame_a ≡ count_of same.frame_b
-    counts = counts-same same.frame_a same.frame_b (shaped samples first a same.frame_a u same.is_a)
-        (shaped samples second b same.frame_b v same.is_b) same.width same.height same.factors
-
-    go : (settings.limit < count_of same.frame_a) ⊎ (count_of same.frame_a ≤ settings.limit)
-        → picture_meant_by settings (first ++ rest) ≡ picture_meant_by settings (second ++ others)
-    go (inl over) =
-        ap (λ o. o >>= (λ m. Ok m.0.1)) (samples-refused settings samples first rest a same.frame_a u same.is_a over)
-        ∙ sym (ap (λ o. o >>= (λ m. Ok m.0.1)) (samples-refused settings samples second others b same.frame_b v same.is_b
-        (subst (λ (n : ℕ). settings.limit < n) counts over)))
-    go (inr within) =
-        ap (λ o. o >>= (λ m. Ok m.0.1)) (lossless-means settings samples first rest a same.frame_a u
-        (record { is_said = same.is_a; limited = within }))
-        ∙ ap Ok (pictures-alike same.frame_a same.frame_b samples same.precision same.width same.height same.factors)
-        ∙ sym (ap (λ o. o >>= (λ m. Ok m.0.1)) (lossless-means settings samples second others b same.frame_b v
-        (record { is_said = same.is_b; limited = subst (λ (n : ℕ). n ≤ settings.limit) counts within })))
+    meant settings samples first rest a u
+    ∙ limited-same settings a b same.frame_a same.frame_b _ _ same.is_a same.is_b
+    (counts-same same.frame_a same.frame_b (shaped samples first a same.frame_a u same.is_a)
+    (shaped samples second b same.frame_b v same.is_b) same.width same.height same.factors)
+    (ap (λ (l : List ℕ). Ok l) (pictures-alike same.frame_a same.frame_b samples same.precision same.width same.height
+    same.factors))
+    ∙ sym (meant settings samples second others b v)

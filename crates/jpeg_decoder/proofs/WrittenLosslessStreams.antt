@@ -1,50 +1,43 @@
 -- Lossless streams that are written give their samples, and keep their size.
-use Rattle.std.proofs.Common.{◌≡◌, ℕ, zero, suc, ◌+◌, ◌*◌, ◌<◌, ◌≤◌, Bool, true, false, List, [], ◌∷◌, ◌++◌, length}
-use Rattle.std.proofs.Common.{replicate, set, get_or, Option, Some, None, Result, Ok, Err, refl, sym, ap, ◌∙◌}
-use Rattle.std.proofs.Common.{◌==◌, subst, arith, length-append, length-set, rules}
+use Rattle.std.proofs.Common.{◌≡◌, ℕ, zero, suc, ◌+◌, ◌<◌, Bool, true, false, List, [], ◌∷◌, ◌++◌}
+use Rattle.std.proofs.Common.{length, replicate, set, get_or, Option, Some, None, Ok, refl, sym, ap}
+use Rattle.std.proofs.Common.{◌∙◌, ◌==◌, subst, arith, length-append, length-set, rules}
 use Rattle.std.proofs.lemmas.Bool.{eqb-true}
-use Rattle.std.proofs.lemmas.Bool.{le-ltb, lt-ltb}
 use Rattle.std.proofs.lemmas.List.{get_or-set_same}
 use Rattle.std.specs.Prelude.{is_some, slice_index_or, slice_set}
 use Rattle.std.specs.List.{AllByRecursion, concat, range_with_len}
-use Rattle.jpeg_bits.specs.Reading.{Fault, Malformed, Outcome, ◌>>=◌}
 use Rattle.jpeg_bits.specs.Marker.{marker_of}
 use Rattle.jpeg_bits.specs.declared.marker.Marker.{Marker}
 use Rattle.jpeg_bits.specs.declared.marker.Marker.TheVariants.{EOI, SOS}
 use Rattle.jpeg_segments.specs.declared.parser.CodingProcess.TheVariants.{Lossless}
-use Rattle.jpeg_segments.specs.Frame.{Frame, Component}
+use Rattle.jpeg_segments.specs.Frame.{Frame}
 use Rattle.jpeg_segments.specs.ScanHeaders.{ScanHeader, scan_payload, IsScan}
 use Rattle.jpeg_segments.specs.WrittenSegments.{with_length, Segment}
 use Rattle.jpeg_segments.specs.WrittenSegments.{Header, marker_code, payload_of, frame_written}
-use Rattle.jpeg_segments.proofs.Fields.{not-refused, kept}
+use Rattle.jpeg_segments.proofs.Fields.{kept}
 use Rattle.jpeg_segments.proofs.HeaderRules.{header-rules}
 use Rattle.jpeg_segments.specs.ScanHeader.{scan_of}
 use Rattle.std.proofs.lemmas.List.Elements.{recursion_from_All}
 use Rattle.jpeg_bits.specs.Written.{marker}
 use Rattle.jpeg_streams.specs.declared.before.Before.{Before}
 use Rattle.jpeg_streams.specs.declared.before.Before.TheVariants.{Elsewhere}
-use Rattle.jpeg_streams.specs.declared.settings.Settings.{Settings}
-use Rattle.jpeg_streams.specs.LosslessScans.{samples_from, with_samples}
-use Rattle.jpeg_lossless.specs.Pictures.{lossless_picture}
+use Rattle.jpeg_streams.specs.LosslessScans.{with_samples}
 use Rattle.jpeg_streams.specs.SaidSegments.{found_after}
 use Rattle.jpeg_streams.specs.Segments.{onward}
 use Rattle.jpeg_streams.specs.Found.{nothing_found, Found}
-use Rattle.jpeg_streams.specs.Stream.{start_at, segments_at, turn_at, walk}
-use Rattle.jpeg_streams.specs.Stream.{header_at, rest_at, meaning, sized_meaning, sized_to, Told, told_of}
+use Rattle.jpeg_streams.specs.Stream.{turn_at, walk}
 use Rattle.jpeg_streams.specs.ScanSegments.{scan_before}
-use Rattle.jpeg_streams.specs.FoundPictures.{picture_of, samples_picture}
-use Rattle.jpeg_streams.specs.WrittenLossless.{Samples, StandsInLossless, Writes, WritesSamples}
+use Rattle.jpeg_streams.specs.WrittenLossless.{Samples, StandsInLossless, Writes}
 use Rattle.jpeg_streams.specs.WrittenLossless.{WritesSamplesScan, closed}
 use Rattle.jpeg_bits.specs.DefaultTables.{names}
 use Rattle.jpeg_streams.specs.WrittenLossless.{said_after_scan, scan, segment}
-use Rattle.jpeg_streams.proofs.ReadTurns.{frame-or, scan-tail, some-none, then-ok, segments-walked}
+use Rattle.jpeg_streams.proofs.ReadTurns.{frame-or, scan-tail, some-none}
 use Rattle.jpeg_streams.proofs.ReadTurns.{walk-end, walk-on, walk-stop, frame-stays, is-other}
 use Rattle.jpeg_streams.proofs.ReadTurns.{segment-turn}
 use Rattle.jpeg_streams.proofs.ReadTurns.{marker-turn, StandsAt, stands-here, stands-met, end-turn, scan-turn, Starts}
 use Rattle.jpeg_streams.proofs.ReadTurns.{segment-starts, scan-starts, end-starts, marker-longer, scan-longer}
 use Rattle.jpeg_streams.proofs.LosslessFrames.{IsShaped, header-shaped}
 use Rattle.jpeg_streams.proofs.SaidTables.{HasTables, no-tables, segment-tables}
-use Rattle.jpeg_streams.proofs.WrittenPictures.{rest-by}
 use Rattle.jpeg_streams.proofs.WrittenMarkers.{marker-append}
 use Rattle.jpeg_decoder.proofs.WrittenSamples.{and_samples, indices_of, planes_for}
 use Rattle.jpeg_decoder.proofs.WrittenSamples.{scan-read}
@@ -182,14 +175,14 @@ segment-said said s may h = search (rules, segment-tables, segment-shaped)
 -- ---- the rest of a stream
 
 -- what is found by the end: all samples, of a size
-record Ends (samples : Samples) (turns : ℕ) (before : Before) (said final : Found) (decided : List (Option (List ℕ)))
+pub record Ends (samples : Samples) (turns : ℕ) (before : Before) (said final : Found) (decided : List (Option (List ℕ)))
     (met : Option Marker) (all rest : List ℕ) : Type 0 where
-  last : List (Option (List ℕ))
-  is : walk turns false before (and_samples said decided) met all ≡ (and_samples final last, Ok rest)
-  frame : Frame
-  framed : final.frame ≡ Some frame
-  lossless : frame.process ≡ Lossless
-  kept : AreKept samples last (range_with_len 0 (length frame.components))
+  pub last : List (Option (List ℕ))
+  pub is : walk turns false before (and_samples said decided) met all ≡ (and_samples final last, Ok rest)
+  pub frame : Frame
+  pub framed : final.frame ≡ Some frame
+  pub lossless : frame.process ≡ Lossless
+  pub kept : AreKept samples last (range_with_len 0 (length frame.components))
 
 after-turn : (samples : Samples) (turns : ℕ) (before next : Before) (said between final : Found)
     (decided others : List (Option (List ℕ))) (met after : Option Marker) (all left rest : List ℕ)
@@ -320,100 +313,14 @@ stream-read samples rest (suc turns) said sent bytes final (scan said' final' se
     final w
     (scan-longer fill 218 turns (with_length (scan_payload h')) data_bytes more h))
 
--- ---- the picture
-
--- the picture of a frame of these samples
-abbrev pub drawn : Frame → Samples → List ℕ
-drawn frame samples = lossless_picture frame
-    (planes_for samples (range_with_len 0 (length frame.components)))
-
-planes-there : (decided : List (Option (List ℕ))) (samples : Samples) (index : ℕ) (cs : List
-    Component)
-    → AreKept samples decided (range_with_len index (length cs))
-    → samples_from decided index cs ≡ Ok (planes_for samples (range_with_len index (length cs)))
-unfolding samples_from
-planes-there decided samples index [] h = refl
-planes-there decided samples index (c ∷ cs) h =
-    grind (
-      arith,
-      common_steps,
-      then-ok,
-      planes_for,
-      planes-there decided samples (index + 1) cs
-          h.1,
-    )
-
-picture-there : (settings : Settings) (found : Found) (samples : Samples) (frame : Frame)
-    → found.frame ≡ Some frame → frame.process ≡ Lossless
-    → length frame.components * (frame.output_width * frame.output_height) ≤ settings.limit
-    → AreKept samples found.samples (range_with_len 0 (length frame.components))
-    → picture_of settings found ≡ Ok (drawn frame samples)
-unfolding picture_of samples_picture
-picture-there settings found samples frame framed lossless within kept =
-    grind (arith, common_steps, then-ok, not-refused, le-ltb, planes-there)
-
--- what a caller is given of a picture
-abbrev given : Found → List ℕ → List ℕ → Outcome (Told × List ℕ)
-given found picture rest = Ok ((told_of found, picture), rest)
-
-picture-refused : (settings : Settings) (found : Found) (frame : Frame) → found.frame ≡ Some frame
-    → settings.limit < length frame.components * (frame.output_width * frame.output_height)
-    → picture_of settings found ≡ Err Malformed
-unfolding picture_of
-picture-refused settings found frame framed over =
-    grind (arith, common_steps, then-ok, kept, lt-ltb)
-
 -- the rest of a stream up to its end
-rest-ends : (samples : Samples) (bytes rest : List ℕ) (said final : Found) → Writes samples said [] bytes final
+pub rest-ends : (samples : Samples) (bytes rest : List ℕ) (said final : Found) → Writes samples said [] bytes final
     → IsSaid said
     → Ends samples (suc (length (bytes ++ rest))) Elsewhere said final (replicate 4 None) None (bytes ++ rest) rest
 rest-ends samples bytes rest said final w is =
     let long = length-append bytes rest in
     stream-read samples rest (suc (length (bytes ++ rest))) said [] bytes final w (omega (arith, long))
     Elsewhere (replicate 4 None) None (bytes ++ rest) is refl tt (stands-here (bytes ++ rest))
-
-rest-refused : (samples : Samples) (settings : Settings) (bytes rest : List ℕ) (said final : Found) (frame : Frame)
-    → Writes samples said [] bytes final → IsSaid said → final.frame ≡ Some frame
-    → settings.limit < length frame.components * (frame.output_width * frame.output_height)
-    → rest_at settings (and_samples said (replicate 4 None)) (bytes ++ rest) ≡ Err Malformed
-rest-refused samples settings bytes rest said final frame w is framed over =
-    let e = rest-ends samples bytes rest said final w is in
-    rest-by settings _ _ _ _ e.is
-    ∙ ap (λ (o : Result (List ℕ) Fault). o >>= λ (p : List ℕ). given (and_samples final e.last) p rest)
-    (picture-refused settings (and_samples final e.last) frame framed over)
-
-rest-read : (samples : Samples) (settings : Settings) (bytes rest : List ℕ) (said final : Found) (frame : Frame)
-    → Writes samples said [] bytes final → IsSaid said
-    → final.frame ≡ Some frame → length frame.components * (frame.output_width * frame.output_height) ≤ settings.limit
-    → rest_at settings (and_samples said (replicate 4 None))
-    (bytes ++ rest) ≡ Ok ((told_of final, drawn frame samples), rest)
-rest-read samples settings bytes rest said final frame w is framed within =
-    let e = rest-ends samples bytes rest said final w is in
-    let same : e.frame ≡ frame = some-same e.frame frame (sym e.framed ∙ framed) in
-    let kept = subst (λ (f : Frame). AreKept samples e.last (range_with_len 0 (length
-    f.components))) same e.kept in
-    let lossless = subst (λ (f : Frame). f.process ≡ Lossless) same e.lossless in
-    rest-by settings _ _ _ _ e.is
-    ∙ then-ok (picture_of settings (and_samples final e.last)) _ (drawn frame samples) _
-    (picture-there settings (and_samples final e.last) samples frame framed lossless within kept)
-    refl
-
--- A stream that was written for samples means their picture, and what stands after it is left.
-pub samples-meant : (settings : Settings) (samples : Samples) (bytes rest : List ℕ) (final : Found) (frame : Frame)
-    → WritesSamples samples bytes final
-    → final.frame ≡ Some frame → length frame.components * (frame.output_width * frame.output_height) ≤ settings.limit
-    → meaning settings (bytes ++ rest) ≡ Ok ((told_of final, drawn frame samples), rest)
-unfolding meaning start_at nothing_found
-samples-meant settings samples bytes rest final frame w framed within = search (rules, arith, rest-read, nothing-said)
-
--- One that is beyond the limit is refused.
-pub samples-refused : (settings : Settings) (samples : Samples) (bytes rest : List ℕ) (final : Found) (frame : Frame)
-    → WritesSamples samples bytes final → final.frame ≡ Some frame
-    → settings.limit < length frame.components * (frame.output_width * frame.output_height)
-    → meaning settings (bytes ++ rest) ≡ Err Malformed
-unfolding meaning start_at nothing_found
-samples-refused settings samples bytes rest final frame w framed over =
-    grind (arith, common_steps, rest-refused, nothing-said)
 
 -- ---- the frame
 
@@ -439,18 +346,18 @@ final-lossless samples frame said sent bytes final (scan said' final' sent' f fi
 -- ---- the header
 
 -- what is found up to the frame
-record Headed (samples : Samples) (turns : ℕ) (before : Before) (said final : Found) (decided : List (Option (List ℕ)))
+pub record Headed (samples : Samples) (turns : ℕ) (before : Before) (said final : Found) (decided : List (Option (List ℕ)))
     (sent bytes rest : List ℕ) : Type 0 where
-  between : Found
-  frame : Frame
-  after : List ℕ
-  framed : between.frame ≡ Some frame
-  written : Writes samples between sent after final
-  is_said : IsSaid between
-  is : walk turns true before (and_samples said decided) None (bytes ++ rest)
+  pub between : Found
+  pub frame : Frame
+  pub after : List ℕ
+  pub framed : between.frame ≡ Some frame
+  pub written : Writes samples between sent after final
+  pub is_said : IsSaid between
+  pub is : walk turns true before (and_samples said decided) None (bytes ++ rest)
       ≡ (and_samples between decided, Ok (after ++ rest))
 
-header-read : (samples : Samples) (rest : List ℕ) (decided : List (Option (List ℕ))) (turns : ℕ) (before : Before)
+pub header-read : (samples : Samples) (rest : List ℕ) (decided : List (Option (List ℕ))) (turns : ℕ) (before : Before)
     (said : Found) (sent bytes : List ℕ) (final : Found)
     → Writes samples said sent bytes final → length bytes < turns → IsSaid said → said.frame ≡ None
     → Headed samples turns before said final decided sent bytes rest
@@ -496,27 +403,3 @@ header-read samples rest decided (suc turns) before said sent bytes final (segme
       is_said = r.is_said;
       is = step ∙ r.is;
     })
-
--- ---- the whole
-
-pub keeps-size : (width height : ℕ) (found : Found) (frame : Frame) → found.frame ≡ Some frame
-    → frame.process ≡ Lossless → sized_to width height found ≡ found
-keeps-size width height found frame framed lossless = grind (arith, common_steps)
-
-pub samples-sized : (width height : ℕ) (settings : Settings) (samples : Samples) (bytes rest : List ℕ)
-    (final : Found) (frame : Frame) → WritesSamples samples bytes final
-    → final.frame ≡ Some frame → length frame.components * (frame.output_width * frame.output_height) ≤ settings.limit
-    → sized_meaning width height settings (bytes ++ rest) ≡ Ok ((told_of final, drawn frame samples), rest)
-unfolding sized_meaning header_at start_at nothing_found
-samples-sized width height settings samples bytes rest final frame w framed within =
-    let long = length-append w.after rest in
-    let r = header-read samples rest (replicate 4 None) (suc (length (w.after ++ rest))) Elsewhere nothing_found []
-    w.after final w.written (omega (arith, long)) nothing-said refl in
-    let frame_of_all = final-framed samples r.frame r.between [] r.after final r.written r.framed in
-    let lossless = final-lossless samples r.frame r.between [] r.after final r.written frame_of_all in
-    ap (λ (l : List ℕ). sized_meaning width height settings (l ++ rest)) w.starts
-    ∙ then-ok (segments_at true Elsewhere nothing_found None (w.after ++ rest)) _
-    (and_samples r.between (replicate 4 None), r.after ++ rest) _ (segments-walked _ _ _ _ _ _ r.is)
-    (ap (λ (f : Found). rest_at settings f (r.after ++ rest))
-    (keeps-size width height (and_samples r.between (replicate 4 None)) r.frame r.framed lossless)
-    ∙ rest-read samples settings r.after rest r.between final frame r.written r.is_said framed within)

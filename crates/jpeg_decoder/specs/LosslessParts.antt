@@ -3,7 +3,7 @@ use Rattle.std.specs.Prelude.{ℕ, Bool, true, false, List, [], ◌∷◌, get_o
 use Rattle.jpeg_bits.specs.Codes.{Table}
 use Rattle.jpeg_segments.specs.Frame.{Component, Frame, ceiling}
 use Rattle.jpeg_lossless.specs.Differences.{Part}
-use Rattle.jpeg_lossless.specs.Pictures.{most_across, most_down}
+use Rattle.jpeg_segments.specs.Frame.{most_across, most_down}
 
 -- no component
 abbrev pub no_component : Component
@@ -38,8 +38,8 @@ parts_at is_alone components _ _ = []
 -- the MCUs of a scan of the components at these indices, across and down
 unfoldable pub mcus_wide : Frame → List ℕ → ℕ
 mcus_wide frame (index ∷ []) = (get_or frame.components index no_component).width
-mcus_wide frame indices = ceiling frame.width (most_across frame)
+mcus_wide frame indices = ceiling frame.width (most_across frame.components)
 
 unfoldable pub mcus_high : Frame → List ℕ → ℕ
 mcus_high frame (index ∷ []) = (get_or frame.components index no_component).height
-mcus_high frame indices = ceiling frame.height (most_down frame)
+mcus_high frame indices = ceiling frame.height (most_down frame.components)

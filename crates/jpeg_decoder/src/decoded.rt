@@ -11,7 +11,8 @@ ghost use Rattle.jpeg_streams.specs.InTurn.{AreApart};
 ghost use Rattle.jpeg_decoder.specs.Scanning.{arrays_in, blocks_in, components_in};
 ghost use Rattle.jpeg_streams.specs.Scans.{zero_arrays, zero_of};
 ghost use Rattle.jpeg_decoder.specs.PlanesView.{planes_in};
-ghost use Rattle.jpeg_streams.specs.ScanSegments.{put_arrays, finished_by, plane_by};
+ghost use Rattle.jpeg_streams.specs.Rasters.{plane_by};
+ghost use Rattle.jpeg_streams.specs.ScanSegments.{put_arrays, finished_by};
 ghost use Rattle.jpeg_streams.specs.Found.{none_finished};
 ghost use Rattle.jpeg_decoder.specs.Steps.{blocks_at, coding_in, without_blocks, IsInOrder};
 ghost use Rattle.jpeg_bits.specs.Passes.{whole_pass};
@@ -113,7 +114,7 @@ fn zero_frame(
 
 /// Returns the plane of a component's blocks, which stand in raster order, at the component's
 /// scale, by its quantization table in zigzag order.
-#[tactic(auto, unfolding(jpeg_streams::specs::ScanSegments::plane_by))]
+#[tactic(auto, unfolding(jpeg_streams::specs::Rasters::plane_by, jpeg_streams::specs::Rasters::plane_of_blocks))]
 pub fn render(
     alloc: Global,
     component: &Component,
@@ -193,7 +194,7 @@ impl Decoded {
     ghost use Rattle.jpeg_decoder.specs.Steps.{marks_after, scan_data, with_decoded};
     ghost use Rattle.jpeg_decoder.specs.Steps.{with_its_plane, with_planes};
     ghost use Rattle.jpeg_streams.specs.ScanSegments.{arrays_before, is_progressive, with_arrays};
-    ghost use Rattle.jpeg_streams.specs.ScanSegments.{plane_by};
+    ghost use Rattle.jpeg_streams.specs.Rasters.{plane_by};
     ghost use Rattle.jpeg_streams.specs.Found.{Found, none_finished};
     ghost use Rattle.jpeg_pixels.specs.JointPlanes.{joint_planes};
     ghost use Rattle.jpeg_decoder.specs.GrowingView.{GrowsFor, growing_in, is_joint};

@@ -4,10 +4,9 @@ ghost use Rattle.std.specs.Prelude.{◌≡◌, ℕ, ◌*◌, ◌/◌, ◌<◌, L
 ghost use Rattle.std.specs.Prelude.{Ok};
 ghost use Rattle.std.specs.List.{AllByRecursion};
 ghost use Rattle.jpeg_bits.specs.declared.scan.Predictor.{Predictor};
-ghost use Rattle.jpeg_segments.specs.Frame.{Component, Frame};
+ghost use Rattle.jpeg_segments.specs.Frame.{Component, Frame, most_across, most_down};
 ghost use Rattle.jpeg_segments.specs.WrittenSegments.{FrameHeader, IsFrameHeader, frame_written};
 ghost use Rattle.jpeg_lossless.specs.Differences.{Part};
-ghost use Rattle.jpeg_lossless.specs.Pictures.{most_across, most_down};
 ghost use Rattle.jpeg_lossless.specs.Prediction.{predicted_lines};
 ghost use Rattle.jpeg_lossless.specs.Scans.{Way, lines_by_component, planes_of};
 ghost use Rattle.jpeg_streams.specs.declared.settings.Settings.{Settings};
@@ -76,8 +75,8 @@ pub fn lossless_padding_is_not_seen()
     ensures taken { (h : FrameHeader) (index x y : ℕ) (c : Component) →
         IsFrameHeader 3 h → slice_get (frame_written 3 h).components index ≡ Some c →
         x < h.width → y < h.height →
-        (x * c.factors.horizontal / most_across (frame_written 3 h) < c.width)
-        × (y * c.factors.vertical / most_down (frame_written 3 h) < c.height) }
+        (x * c.factors.horizontal / most_across (frame_written 3 h).components < c.width)
+        × (y * c.factors.vertical / most_down (frame_written 3 h).components < c.height) }
 
     // So samples that agree inside have the same picture.
     ensures pictured { (h : FrameHeader) (a b : Samples) →
@@ -100,7 +99,7 @@ pub fn equal_factors_mean_nothing()
     ensures together { (h : FrameHeader) (selection : Predictor) (point : ℕ)
         (codings : List LosslessCoding) →
         IsFrameHeader 3 h → HasEqualFactors (frame_written 3 h) →
-        most_across (frame_written 3 h) ≡ 1 → most_down (frame_written 3 h) ≡ 1 →
+        most_across (frame_written 3 h).components ≡ 1 → most_down (frame_written 3 h).components ≡ 1 →
         AllByRecursion (λ k. IsIn k.component (frame_written 3 h).components) codings →
         (way_of (frame_written 3 h) selection point codings
         ≡ plain_way (frame_written 3 h) selection point codings)

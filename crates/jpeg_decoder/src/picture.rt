@@ -2,6 +2,7 @@
 ghost use Rattle.std.specs.Prelude.{◌≡◌, ◌*◌, ◌+◌, ◌<◌, ◌≤◌, ◌&&◌, IfOk, IfSome, MatchResult};
 ghost use Rattle.std.specs.Prelude.{None, OnErr, suc};
 ghost use Rattle.std.specs.Prelude.{OnOk, Ok, Some, drop, false, is_some, length, map, nat_lt, not};
+ghost use Rattle.std.specs.List.{enumerate_from};
 ghost use Rattle.std.specs.Prelude.{option_map, replicate, slice_index_or, true, []};
 ghost use Rattle.jpeg_bits.specs.Reading.{Answers, Names, NamesFormat};
 ghost use Rattle.jpeg_segments.specs.FrameView.{component_in, frame_in};
@@ -13,7 +14,7 @@ ghost use Rattle.jpeg_pixels.specs.Pictures.{AreWhole};
 ghost use Rattle.jpeg_pixels.specs.Scaled.{IsScale};
 ghost use Rattle.jpeg_streams.specs.EndPlanes.{AreBlocksOf, blocks_if, is_kept, plane_or};
 ghost use Rattle.jpeg_segments.specs.declared.parser.CodingProcess.TheVariants.{Lossless};
-ghost use Rattle.jpeg_streams.specs.LosslessScans.{samples_from};
+ghost use Rattle.jpeg_segments.specs.Checks.{gathered, needed};
 ghost use Rattle.jpeg_decoder.specs.Scanning.{arrays_in, blocks_in};
 ghost use Rattle.jpeg_decoder.specs.Seen.{found_in, metadata_in};
 ghost use Rattle.jpeg_decoder.specs.PlanesView.{planes_in};
@@ -24,7 +25,7 @@ ghost use Rattle.jpeg_decoder.specs.Steps.{IsRefusal, cropped_to, with_decoded};
 ghost use Rattle.jpeg_streams.specs.Stream.{header_at, rest_at, start_at, told_of};
 ghost use Rattle.jpeg_streams.specs.Reported.{IsOfTurns, told_by_turns, told_in_turns};
 ghost use Rattle.jpeg_streams.specs.FoundPictures.{blocks_picture, picture_of, picture_by};
-ghost use Rattle.jpeg_streams.specs.FoundPictures.{planes_from, samples_picture};
+ghost use Rattle.jpeg_streams.specs.FoundPictures.{plane_at_end, samples_picture};
 ghost use Rattle.jpeg_streams.specs.Found.{nothing_found};
 ghost use Rattle.jpeg_decoder.specs.Bytes.{IsWhole, picture_size};
 
@@ -153,8 +154,9 @@ fn planes_at_end(
 ) -> Result<Vec<Vec<u8>>>
     requires sound { IsSound (with_decoded (found_in state.now) decoded.old) }
     requires frame { (found_in state.now).frame ≡ Some (frame_in frame.now) }
-    ensures planes { let expected = planes_from (with_decoded (found_in state.now) decoded.old)
-        (frame_in frame.now) 0 (frame_in frame.now).components in
+    ensures planes { let expected = gathered (plane_at_end
+        (with_decoded (found_in state.now) decoded.old) (frame_in frame.now))
+        (enumerate_from 0 (frame_in frame.now).components) in
         MatchResult result (λ v. expected ≡ Ok (map (λ p. p.items) v.items)) (λ e. IsRefusal e
         × Names e expected) }
     ensures whole { IfOk result (λ v. AreWhole (frame_in frame.now).components
@@ -386,8 +388,9 @@ fn write_blocks(
 /// Returns the samples of a lossless frame's components, which are taken.
 fn samples_at_end(alloc: Global, frame: &FrameInfo, decoded: &mut Decoded) -> Result<Vec<Vec<u16>>>
     requires count { length (frame_in frame.now).components ≤ 4 }
-    ensures planes { let expected = samples_from (planes_in decoded.old.samples) 0
-        (frame_in frame.now).components in
+    ensures planes { let expected = gathered
+        (λ c. needed (slice_index_or (planes_in decoded.old.samples) c.0 None))
+        (enumerate_from 0 (frame_in frame.now).components) in
         MatchResult result (λ v. expected ≡ Ok (map (λ p. p.items) v.items)) (λ e. IsRefusal e
         × Names e expected) }
     ensures count { IfOk result (λ v. length v.items ≡ length (frame_in frame.now).components) }
@@ -459,7 +462,7 @@ fn limit_error(alloc: Global, frame: &FrameInfo, limit: usize) -> Error
 
 /// Returns the picture of what was found, which is taken: within the limit, of planes that are
 /// there.
-#[tactic(auto, unfolding(jpeg_streams::specs::FoundPictures::picture_of))]
+#[tactic(auto, unfolding(jpeg_streams::specs::FoundPictures::picture_of, jpeg_streams::specs::FoundPictures::limited))]
 fn picture(
     alloc: Global,
     state: &State,
@@ -489,7 +492,7 @@ fn picture(
 
 /// Writes the picture of what was found, which is taken, into memory that has exactly its bytes:
 /// within the limit, of planes that are there. After an error nothing is written.
-#[tactic(auto, unfolding(jpeg_streams::specs::FoundPictures::picture_of))]
+#[tactic(auto, unfolding(jpeg_streams::specs::FoundPictures::picture_of, jpeg_streams::specs::FoundPictures::limited))]
 fn write_picture(
     alloc: Global,
     state: &State,

@@ -8,12 +8,12 @@ use Rattle.std.proofs.lemmas.List.FromFn.{get_or-map-range_with_len, length-map-
 use Rattle.std.proofs.lemmas.List.FromFn.{map-range_with_len_more}
 use Rattle.std.proofs.lemmas.Nat.{div-mul-add}
 use Rattle.std.specs.List.{range_with_len}
-use Rattle.jpeg_segments.specs.Frame.{Component, Frame, greatest}
+use Rattle.jpeg_segments.specs.Frame.{Component, Frame, greatest, most_across, most_down}
+use Rattle.jpeg_segments.proofs.FrameLemmas.{greatest-some}
 use Rattle.jpeg_lossless.specs.Pictures.{AreLong, Layer, bytes_at, layer_of, sample_line, line_from}
 use Rattle.jpeg_lossless.specs.Pictures.{lines_across}
-use Rattle.jpeg_lossless.specs.Pictures.{frame_factors, most_across, most_down, sample_pixel}
-use Rattle.jpeg_lossless.specs.Pictures.{layer_sample}
-use Rattle.jpeg_lossless.proofs.ImageLoops.{IsPixelOf, at-most, greatest-some, inside, line-begun, line-grown}
+use Rattle.jpeg_lossless.specs.Pictures.{layer_sample, sample_pixel}
+use Rattle.jpeg_lossless.proofs.ImageLoops.{IsPixelOf, at-most, inside, line-begun, line-grown}
 use Rattle.jpeg_lossless.proofs.ImageLoops.{line-more, line-none, through, within}
 use Rattle.std.proofs.lemmas.Grind.{common_steps}
 
@@ -77,19 +77,19 @@ row-at own row width y plane k h = simp (get_or-drop, get_or-take)
 
 pub own_line : (frame : Frame) (c : Component) (plane : List ℕ) (y n : ℕ) → IsPixelOf frame c plane
     → n ≤ frame.width
-    → stretched (take c.width (drop (y * c.factors.vertical / most_down frame * c.width) plane)) c.factors.horizontal
-    (most_across frame) n
-    ≡ map (λ x. layer_sample (most_across frame) (most_down frame) (layer_of c plane) x y)
+    → stretched (take c.width (drop (y * c.factors.vertical / most_down frame.components * c.width) plane)) c.factors.horizontal
+    (most_across frame.components) n
+    ≡ map (λ x. layer_sample (most_across frame.components) (most_down frame.components) (layer_of c plane) x y)
     (range_with_len 0 n)
 own_line frame c plane y zero is h = refl
 own_line frame c plane y (suc n) is h =
-    let row = y * c.factors.vertical / most_down frame in
-    let a = most_across frame in
+    let row = y * c.factors.vertical / most_down frame.components in
+    let a = most_across frame.components in
     let own = take c.width (drop (row * c.width) plane) in
-    let f : ℕ → ℕ = λ x. layer_sample a (most_down frame) (layer_of c plane) x y in
+    let f : ℕ → ℕ = λ x. layer_sample a (most_down frame.components) (layer_of c plane) x y in
     let s : suc n ≡ n + 1 = omega arith in
     let column = inside n frame.width c.factors.horizontal a c.width (omega arith) is.sampling.horizontal_some
-    (greatest-some (λ f. f.horizontal) (frame_factors frame)) is.reaches.across in
+    (greatest-some (λ f. f.horizontal) (map (λ c. c.factors) frame.components)) is.reaches.across in
     ap (stretched own c.factors.horizontal a) s
     ∙ stretched-more own c.factors.horizontal a n
     ∙ ap₂ (λ (l : List ℕ) (k : ℕ). l ++ k ∷ []) (own_line frame c plane y n is (omega arith))
@@ -98,24 +98,24 @@ own_line frame c plane y (suc n) is h =
     ∙ ap (λ (k : ℕ). map f (range_with_len 0 k)) (sym s)
 
 -- the line ends inside its plane
-pub line_inside : (frame : Frame) (c : Component) (plane slice : List ℕ) (y v : ℕ) → v ≡ most_down frame
+pub line_inside : (frame : Frame) (c : Component) (plane slice : List ℕ) (y v : ℕ) → v ≡ most_down frame.components
     → slice ≡ plane → IsPixelOf frame c plane → y < frame.height
     → y * c.factors.vertical / v * c.width + c.width ≤ length slice
 line_inside frame c plane slice y v e f is h =
-    let row = inside y frame.height c.factors.vertical (most_down frame) c.height h is.sampling.vertical_some
-    (greatest-some (λ f. f.vertical) (frame_factors frame)) is.reaches.down in
-    let same : y * c.factors.vertical / v * c.width ≡ y * c.factors.vertical / most_down frame * c.width = search rules in
+    let row = inside y frame.height c.factors.vertical (most_down frame.components) c.height h is.sampling.vertical_some
+    (greatest-some (λ f. f.vertical) (map (λ c. c.factors) frame.components)) is.reaches.down in
+    let same : y * c.factors.vertical / v * c.width ≡ y * c.factors.vertical / most_down frame.components * c.width = search rules in
     search (rules, within)
 
 pub line_reaches : (frame : Frame) (c : Component) (plane slice own : List ℕ) (y h v width : ℕ)
-    → h ≡ most_across frame → v ≡ most_down frame → width ≡ frame.width → slice ≡ plane
+    → h ≡ most_across frame.components → v ≡ most_down frame.components → width ≡ frame.width → slice ≡ plane
     → own ≡ take c.width (drop (y * c.factors.vertical / v * c.width) slice) → IsPixelOf frame c plane
     → y < frame.height → width * c.factors.horizontal ≤ length own * h
 line_reaches frame c plane slice own y h v width e f g s o is k = search (rules, length-drop, length-take, line_inside)
 
 -- the samples of a line that is put out
 pub own_samples : (frame : Frame) (c : Component) (plane slice own line : List ℕ) (y h v width : ℕ)
-    → h ≡ most_across frame → v ≡ most_down frame → width ≡ frame.width → slice ≡ plane
+    → h ≡ most_across frame.components → v ≡ most_down frame.components → width ≡ frame.width → slice ≡ plane
     → own ≡ take c.width (drop (y * c.factors.vertical / v * c.width) slice)
     → line ≡ stretched own c.factors.horizontal h width → IsPixelOf frame c plane
     → line ≡ map (λ x. layer_sample h v (layer_of c plane) x y) (range_with_len 0 frame.width)
@@ -123,7 +123,7 @@ own_samples frame c plane slice own line y h v width e f g s o l is =
     let part : ℕ → List ℕ → List ℕ = λ b p. take c.width (drop (y * c.factors.vertical / b * c.width) p) in
     l
     ∙ ap (λ (p : List ℕ). stretched p c.factors.horizontal h width) (o ∙ ap₂ part f s)
-    ∙ ap₂ (λ (a n : ℕ). stretched (part (most_down frame) plane) c.factors.horizontal a n) e g
+    ∙ ap₂ (λ (a n : ℕ). stretched (part (most_down frame.components) plane) c.factors.horizontal a n) e g
     ∙ own_line frame c plane y frame.width is (omega arith)
     ∙ sym (ap₂ (λ (a b : ℕ). map (λ x. layer_sample a b (layer_of c plane) x y) (range_with_len 0
     frame.width)) e f)

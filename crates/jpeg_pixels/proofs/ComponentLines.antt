@@ -1,8 +1,10 @@
 -- The lines of the components of a picture.
 use Rattle.std.proofs.lemmas.Grind.{common_steps}
 use Rattle.std.proofs.Common.{◌≡◌, ℕ, zero, suc, ◌+◌, ◌*◌, ◌<◌, ◌≤◌, List, [], ◌∷◌, ◌++◌, length, get_or, slice_index}
-use Rattle.std.proofs.Common.{take, ap, refl, arith, length-take, add-one, subst, rules}
-use Rattle.std.proofs.lemmas.List.{append-nil}
+use Rattle.std.proofs.Common.{take, ap₂, ◌∙◌, arith, length-take, add-one, subst, rules}
+use Rattle.std.specs.Prelude.{zip}
+use Rattle.std.proofs.lemmas.List.{append-nil, get_or-map, length-map}
+use Rattle.std.proofs.lemmas.Slice.Zip.{get_or-zip, length-zip}
 use Rattle.std.proofs.lemmas.List.FromFn.{length-map-range_with_len, fill_by_all}
 use Rattle.std.proofs.lemmas.List.Folds.{concat-append}
 use Rattle.std.proofs.Math.Seq.{take-suc, take-append-add, take-append_seam}
@@ -15,19 +17,7 @@ use Rattle.jpeg_pixels.specs.JointPlanes.{HaveWidth}
 pub lines_of-length : (sources : List Source) (planes : List (List ℕ)) (width row : ℕ) → length planes ≡ length sources
     → length (lines_of sources planes width row) ≡ length sources
 unfolding lines_of
-lines_of-length [] planes width row e = refl
-lines_of-length (s ∷ sources) [] width row e = absurd (omega arith)
-lines_of-length (s ∷ sources) (p ∷ planes) width row e = ap suc (lines_of-length sources planes width row (omega arith))
-
-pub lines_of-at : (sources : List Source) (planes : List (List ℕ)) (width row k : ℕ) (s : Source)
-    → length planes ≡ length sources → k < length sources
-    → get_or (lines_of sources planes width row) k [] ≡ line_of (get_or sources k s) (get_or planes k []) width row
-unfolding lines_of
-lines_of-at [] planes width row k s e h = absurd (omega arith)
-lines_of-at (t ∷ sources) [] width row k s e h = absurd (omega arith)
-lines_of-at (t ∷ sources) (p ∷ planes) width row zero s e h = refl
-lines_of-at (t ∷ sources) (p ∷ planes) width row (suc k) s e h =
-    lines_of-at sources planes width row k s (omega arith) (omega arith)
+lines_of-length sources planes width row e = grind (arith, common_steps, length-map, length-zip)
 
 pub cover-at : (sources : List Source) (planes : List (List ℕ)) (width height k : ℕ) (s : Source)
     → length planes ≡ length sources → AllCover sources planes width height → k < length sources
@@ -52,7 +42,11 @@ pub line-of : (sources : List Source) (planes : List (List ℕ)) (width row k : 
     → length planes ≡ length sources → k < length sources
     → get_or sources k s ≡ t → get_or planes k [] ≡ p → get_or (lines_of sources planes width row) k []
     ≡ line_of t p width row
-line-of sources planes width row k s t p e h source plane = search (rules, lines_of-at)
+unfolding lines_of
+line-of sources planes width row k s t p e h source plane =
+    let both = get_or-zip sources planes k (s, []) h (omega arith) in
+    get_or-map (λ x. line_of x.0 x.1 width row) (zip sources planes) k (s, []) [] (omega (arith, length-zip sources planes))
+    ∙ (λ i. line_of (both i).0 (both i).1 width row) ∙ ap₂ (λ a b. line_of a b width row) source plane
 
 -- planes that cover a picture cover its upper part
 pub cover-lower : (sources : List Source) (planes : List (List ℕ)) (width low high : ℕ) → low ≤ high

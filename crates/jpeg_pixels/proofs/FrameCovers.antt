@@ -1,15 +1,17 @@
 -- The planes of a frame's components cover its picture.
-use Rattle.std.proofs.Common.{◌≡◌, ◌≤◌, ◌<◌, ℕ, ◌+◌, ◌-◌, ◌*◌, List, [], ◌∷◌, length, map, Option, Some, None, Result}
-use Rattle.std.proofs.Common.{Ok, Err, All, refl, subst, arith, rules}
+use Rattle.std.proofs.Common.{◌≡◌, ◌≤◌, ◌<◌, ℕ, ◌+◌, ◌-◌, ◌*◌, List, [], ◌∷◌, length, map, Some}
+use Rattle.std.proofs.Common.{Ok, All, subst, arith, rules}
 use Rattle.std.proofs.Math.Nat.{le-mul_of_pos_right}
 use Rattle.std.proofs.lemmas.List.Elements.{All-cons, All-head, All-nil, All-tail}
-use Rattle.jpeg_bits.specs.Reading.{Fault, ◌>>=◌}
-use Rattle.jpeg_segments.specs.Frame.{Component, Factors, IsInRange, ceiling, component_of, frame_of, greatest}
+use Rattle.jpeg_segments.specs.Checks.{gathered}
+use Rattle.jpeg_segments.specs.Frame.{Factors, IsInRange, ceiling, component_of, frame_of, greatest}
 use Rattle.jpeg_segments.proofs.Ceilings.{ceiling-eights}
+use Rattle.jpeg_segments.proofs.Codecs.{bind-ok, ok-same}
 use Rattle.jpeg_segments.proofs.ScaleLemmas.{factors-back}
 use Rattle.jpeg_pixels.specs.declared.upsampler.UpsampleRule.{UpsampleRule}
 use Rattle.jpeg_pixels.specs.Upsampling.{across, down, rule_of}
-use Rattle.jpeg_pixels.specs.Pictures.{AllCover, AreWhole, Covers, HaveRoom, Source, source_by, sources_by, sources_of}
+use Rattle.jpeg_pixels.specs.Pictures.{AllCover, AreWhole, Covers, HaveRoom, Source, source_of, sources_of}
+use Rattle.jpeg_pixels.proofs.SourceLists.{source_by, source-rule}
 use Rattle.jpeg_pixels.proofs.RuleRatios.{in-blocks as in-blocks-at, reach-full, room-of, rule-ratios, some-ceiling}
 
 -- ---- components
@@ -25,12 +27,8 @@ covers : (width height most_h most_v : ℕ) (f : Factors) (rule : UpsampleRule) 
     → rule_of f.horizontal f.vertical most_h most_v width height ≡ Some rule
     → (ceiling (height * f.vertical) most_v - 1) * ((ceiling width (8 * most_h) * f.horizontal) * 8)
     + ceiling (width * f.horizontal) most_h ≤ length plane
-    → Covers (record {
-      rule = rule;
-      width = ceiling (width * f.horizontal) most_h;
-      height = ceiling (height * f.vertical) most_v;
-      stride = (ceiling width (8 * most_h) * f.horizontal) * 8;
-    }) plane width height
+    → Covers (source_by (component_of width height most_h most_v f) rule) plane width height
+unfolding component_of
 covers width height most_h most_v f rule plane some_width some_height range h_most v_most chosen room =
     let h = range.horizontal_some in
     let v = range.vertical_some in
@@ -48,12 +46,6 @@ covers width height most_h most_v f rule plane some_width some_height range h_mo
 
 -- ---- lists
 
-abbrev as_all : List Source → Result (List Source) Fault
-as_all l = Ok l
-
-ok-injective : (l m : List Source) → as_all l ≡ as_all m → l ≡ m
-ok-injective l m e = cc
-
 -- the greatest number is at least each
 greatest-all : (f : Factors → ℕ) (m : ℕ) (xs : List Factors) → greatest f xs ≤ m → All (λ c. f c ≤ m) xs
 greatest-all f m [] h = All-nil (λ c. f c ≤ m)
@@ -62,39 +54,27 @@ greatest-all f m (x ∷ xs) h = All-cons (λ c. f c ≤ m) x xs (omega arith) (g
 all-cover : (width height h v : ℕ) (xs : List Factors) (planes : List (List ℕ)) (sources : List Source) → 0 < width
     → 0 < height → All IsInRange xs → All (λ f. f.horizontal ≤ h) xs → All (λ f. f.vertical ≤ v) xs
     → HaveRoom (map (component_of width height h v) xs) planes
-    → sources_by h v width height (map (component_of width height h v) xs) ≡ Ok sources
+    → gathered (source_of h v width height) (map (component_of width height h v) xs) ≡ Ok sources
     → AllCover sources planes width height
-unfolding component_of sources_by HaveRoom AllCover
+unfolding component_of gathered HaveRoom AllCover
 all-cover width height h v [] planes sources some_width some_height range across_most down_most room is =
-    subst (λ (l : List Source). AllCover l planes width height) (ok-injective [] sources is) tt
+    subst (λ (l : List Source). AllCover l planes width height) (ok-same [] sources is) tt
 all-cover width height h v (x ∷ xs) [] sources some_width some_height range across_most down_most room is = absurd room
 all-cover width height h v (x ∷ xs) (plane ∷ planes) sources some_width some_height range across_most down_most room
     is =
-    go (rule_of x.horizontal x.vertical h v width height)
-    (sources_by h v width height (map (component_of width height h v) xs))
-    (λ rule e. covers width height h v x rule plane some_width some_height (All-head IsInRange x xs range)
-    (All-head (λ f. f.horizontal ≤ h) x xs across_most) (All-head (λ f. f.vertical ≤ v) x xs down_most) e room.0)
-    (λ others e. all-cover width height h v xs planes others some_width some_height (All-tail IsInRange x xs range)
-    (All-tail (λ f. f.horizontal ≤ h) x xs across_most) (All-tail (λ f. f.vertical ≤ v) x xs down_most) room.1 e) is
-  where
-    c : Component
-    c = component_of width height h v x
-
-    go : (one : Option UpsampleRule) (rest : Result (List Source) Fault)
-        → ((rule : UpsampleRule) → one ≡ Some rule → Covers (record {
-          rule = rule;
-          width = c.width;
-          height = c.height;
-          stride = c.blocks_wide * c.scale;
-        }) plane width height)
-        → ((others : List Source) → rest ≡ Ok others → AllCover others planes width height)
-        → (source_by c one >>= (λ s. rest >>= (λ others. Ok (s ∷ others)))) ≡ Ok sources
-        → AllCover sources (plane ∷ planes) width height
-    go None rest first others is = absurd (cc)
-    go (Some rule) (Err e) first others is = absurd (cc)
-    go (Some rule) (Ok more) first others is =
-        subst (λ (l : List Source). AllCover l (plane ∷ planes) width height) (ok-injective _ sources is)
-        (first rule refl, others more refl)
+    let one = bind-ok (source_of h v width height (component_of width height h v x)) _ sources is in
+    let rest = bind-ok (gathered (source_of h v width height) (map (component_of width height h v) xs)) _ sources
+    one.2 in
+    let chosen = source-rule h v width height (component_of width height h v x) one.0 one.1 in
+    subst (λ (l : List Source). AllCover l (plane ∷ planes) width height) (ok-same _ sources rest.2) (
+      subst (λ (s : Source). Covers s plane width height) chosen.2
+          (covers width height h v x chosen.0 plane some_width some_height (All-head IsInRange x xs range)
+          (All-head (λ f. f.horizontal ≤ h) x xs across_most) (All-head (λ f. f.vertical ≤ v) x xs down_most)
+          chosen.1 room.0),
+      all-cover width height h v xs planes rest.0 some_width some_height (All-tail IsInRange x xs range)
+          (All-tail (λ f. f.horizontal ≤ h) x xs across_most) (All-tail (λ f. f.vertical ≤ v) x xs down_most)
+          room.1 rest.1,
+    )
 
 pub frames-are-covered : (number precision width height : ℕ) (factors : List Factors) (planes : List (List ℕ))
     (sources : List Source)
@@ -111,8 +91,8 @@ frames-are-covered number precision width height factors planes sources range so
     all-cover width height h v factors planes sources some_width some_height range
     (greatest-all (λ f. f.horizontal) h factors (omega arith)) (greatest-all (λ f. f.vertical) v factors (omega arith))
     room
-    (subst (λ (l : List Factors). sources_by (greatest (λ f. f.horizontal) l) (greatest (λ f. f.vertical) l) width
-    height (map (component_of width height h v) factors) ≡ Ok sources) back is)
+    (subst (λ (l : List Factors). gathered (source_of (greatest (λ f. f.horizontal) l) (greatest (λ f. f.vertical) l)
+    width height) (map (component_of width height h v) factors) ≡ Ok sources) back is)
 
 -- ---- planes of all blocks
 

@@ -16,18 +16,20 @@ use Rattle.std.proofs.lemmas.Slice.{take-put_mid, drop-put_mid}
 use Rattle.std.specs.List.{AllByRecursion, concat, range_with_len}
 use borrow.Rule.Slice.PartMut.{mid_of, put_mid}
 use Rattle.jpeg_bits.specs.declared.color_transform.ColorTransform.{ColorTransform}
+use Rattle.jpeg_segments.specs.Checks.{gathered as results}
 use Rattle.jpeg_segments.specs.Frame.{AllHaveSampling, Component, Factors, greatest}
 use Rattle.jpeg_pixels.specs.Colour.{conversion_of, line_bytes}
 use Rattle.jpeg_pixels.specs.JointPlanes.{AreAlike, IsShapeOf, converted, gathered, joint_bytes}
 use Rattle.jpeg_pixels.specs.JointPlanes.{joint_plane, joint_planes, joint_row_size, strip_lines}
 use Rattle.jpeg_pixels.specs.JointPlanes.{strip_size, strips_at}
-use Rattle.jpeg_pixels.specs.Pictures.{Source, all_factors, image_of, line_of, lines_of}
-use Rattle.jpeg_pixels.specs.Pictures.{converted_picture, picture_line, sources_by, sources_of}
+use Rattle.jpeg_pixels.specs.Pictures.{Source, image_of, line_of, lines_of}
+use Rattle.jpeg_pixels.specs.Pictures.{converted_picture, picture_line, source_of, sources_of}
 use Rattle.jpeg_pixels.specs.Upsampling.{rule_of, upsampled}
 use Rattle.jpeg_pixels.specs.declared.upsampler.UpsampleRule.TheVariants.{H1V1}
 use Rattle.jpeg_pixels.specs.declared.joint_planes.JointShape.{JointShape}
 use Rattle.jpeg_pixels.specs.declared.upsampler.ColorConvert.{ColorConvert}
 use Rattle.jpeg_pixels.proofs.ComponentLines.{line_by_samples}
+use Rattle.jpeg_pixels.proofs.SourceLists.{source_by}
 use Rattle.jpeg_pixels.proofs.WholePictures.{image-is}
 
 -- ---- lines one after the other
@@ -166,17 +168,12 @@ lines-fit height row lines start count size line long whole first some is e full
 
 -- the samples of a component are those of the picture
 abbrev plain : Component → Source
-plain c = record {
-  rule = H1V1;
-  width = c.width;
-  height = c.height;
-  stride = c.blocks_wide * c.scale;
-}
+plain c = source_by c H1V1
 
 -- the greatest factor is the one that all have
 greatest-alike : (f : Factors → ℕ) (n : ℕ) (P : Component → Type 0)
     → ((c : Component) → P c → f c.factors ≡ n) → 1 ≤ n → (c : Component) (more : List Component)
-    → P c → AllByRecursion P more → greatest f (all_factors (c ∷ more)) ≡ n
+    → P c → AllByRecursion P more → greatest f (map (λ (d : Component). d.factors) (c ∷ more)) ≡ n
 greatest-alike f n P each some c [] here all = omega (arith, each c here)
 greatest-alike f n P each some c (d ∷ more) here all =
     omega (arith, each c here, greatest-alike f n P each some d more all.0 all.1)
@@ -184,8 +181,8 @@ greatest-alike f n P each some c (d ∷ more) here all =
 -- components of the greatest factors are not upsampled
 sources-plain : (h v width height : ℕ) (cs : List Component)
     → AllByRecursion (λ c. (c.factors.horizontal ≡ h) × (c.factors.vertical ≡ v)) cs
-    → sources_by h v width height cs ≡ Ok (map plain cs)
-unfolding rule_of sources_by
+    → results (source_of h v width height) cs ≡ Ok (map plain cs)
+unfolding rule_of results
 sources-plain h v width height [] all = refl
 sources-plain h v width height (c ∷ more) all =
     let rest = sources-plain h v width height more all.1 in
@@ -207,7 +204,7 @@ sources-alike (c ∷ more) width height stride some factors alike =
     let most_h = greatest-alike (λ f. f.horizontal) h P (λ d e. e.0) (omega arith) c more here rest
     in
     let most_v = greatest-alike (λ f. f.vertical) v P (λ d e. e.1) (omega arith) c more here rest in
-    (λ i. sources_by (most_h i) (most_v i) width height (c ∷ more))
+    (λ i. results (source_of (most_h i) (most_v i) width height) (c ∷ more))
     ∙ sources-plain h v width height (c ∷ more) alike.factors
 
 -- ---- lines of planes in one room

@@ -22,7 +22,7 @@ use Rattle.jpeg_pixels.specs.Colour.{conversion_of}
 use Rattle.jpeg_pixels.specs.Pictures.{Source, sources_of, picture_line, converted_picture}
 use Rattle.jpeg_pixels.specs.Pictures.{image_of}
 use Rattle.jpeg_pixels.specs.PicturesView.{IsFor}
-use Rattle.jpeg_pixels.proofs.SourceLists.{sources-length}
+use Rattle.jpeg_segments.proofs.Gathered.{gathered-length}
 
 abbrev as_convert : ColorConvert → Result ColorConvert Fault
 as_convert k = Ok k
@@ -113,4 +113,4 @@ image-written components planes width height transform convert sources pixels re
 
 pub sources-count : (components : List Component) (width height : ℕ) (sources : List Source)
     → sources_of components width height ≡ Ok sources → length sources ≡ length components
-sources-count components width height sources is = sources-length _ _ width height components sources is
+sources-count components width height sources is = gathered-length _ components sources is

@@ -1,11 +1,12 @@
 -- The picture of several components.
 use Rattle.std.specs.Prelude.{◌≡◌, ℕ, ◌+◌, ◌-◌, ◌*◌, ◌<◌, ◌≤◌, List, [], ◌∷◌, map, length}
-use Rattle.std.specs.Prelude.{slice_index, Option, Some, None, Result, Ok, Err}
+use Rattle.std.specs.Prelude.{slice_index, ok_or, zip, Result, Ok}
 use Rattle.std.specs.List.{range_with_len, concat}
 use Rattle.jpeg_bits.specs.Reading.{Fault, Lacks, ◌>>=◌}
 use Rattle.jpeg_bits.specs.declared.error.UnsupportedFeature.TheVariants.{NonIntegerSubsamplingRatio}
 use Rattle.jpeg_bits.specs.declared.color_transform.ColorTransform.{ColorTransform}
-use Rattle.jpeg_segments.specs.Frame.{Frame, Component, Factors, greatest}
+use Rattle.jpeg_segments.specs.Checks.{gathered}
+use Rattle.jpeg_segments.specs.Frame.{Frame, Component, most_across, most_down}
 use Rattle.jpeg_pixels.specs.declared.upsampler.UpsampleRule.{UpsampleRule}
 use Rattle.jpeg_pixels.specs.declared.upsampler.ColorConvert.{ColorConvert}
 use Rattle.jpeg_pixels.specs.Upsampling.{upsampled, rule_of, across, down}
@@ -19,35 +20,18 @@ pub record Source : Type 0 where
   pub height : ℕ
   pub stride : ℕ
 
-abbrev pub all_factors : List Component → List Factors
-all_factors components = map (λ c. c.factors) components
-
 -- how a component is upsampled in a picture of this width and height, in a frame of these greatest
 -- factors
-abbrev pub source_by : Component → Option UpsampleRule → Result Source Fault
-source_by c None = Err (Lacks NonIntegerSubsamplingRatio)
-source_by c (Some rule) = Ok (record {
-  rule = rule;
-  width = c.width;
-  height = c.height;
-  stride = c.blocks_wide * c.scale;
-})
-
 abbrev pub source_of : ℕ → ℕ → ℕ → ℕ → Component → Result Source Fault
-source_of most_h most_v width height c =
-    source_by c (rule_of c.factors.horizontal c.factors.vertical most_h most_v width height)
+source_of most_h most_v width height c = do
+  rule ← ok_or (rule_of c.factors.horizontal c.factors.vertical most_h most_v width height)
+      (Lacks NonIntegerSubsamplingRatio)
+  Ok (record { rule = rule; width = c.width; height = c.height; stride = c.blocks_wide * c.scale })
 
 -- each component's, or the first refusal
-unfoldable pub sources_by : ℕ → ℕ → ℕ → ℕ → List Component → Result (List Source) Fault
-sources_by most_h most_v width height [] = Ok []
-sources_by most_h most_v width height (c ∷ more) =
-    source_of most_h most_v width height c >>= (λ s. sources_by most_h most_v width height more
-    >>= (λ others. Ok (s ∷ others)))
-
 abbrev pub sources_of : List Component → ℕ → ℕ → Result (List Source) Fault
 sources_of components width height =
-    sources_by (greatest (λ f. f.horizontal) (all_factors components))
-    (greatest (λ f. f.vertical) (all_factors components)) width height components
+    gathered (source_of (most_across components) (most_down components) width height) components
 
 -- a line of a component as wide as the picture
 abbrev pub line_of : Source → List ℕ → ℕ → ℕ → List ℕ
@@ -55,9 +39,7 @@ line_of s plane width row = map (λ x. upsampled s.rule (λ i j. slice_index pla
     s.width s.height x row) (range_with_len 0 width)
 
 unfoldable pub lines_of : List Source → List (List ℕ) → ℕ → ℕ → List (List ℕ)
-lines_of (s ∷ sources) (plane ∷ planes) width row =
-    line_of s plane width row ∷ lines_of sources planes width row
-lines_of _ _ width row = []
+lines_of sources planes width row = map (λ x. line_of x.0 x.1 width row) (zip sources planes)
 
 -- a line of the picture
 unfoldable pub picture_line : ColorConvert → List Source → List (List ℕ) → ℕ → ℕ → List ℕ

@@ -1,11 +1,11 @@
 //! How the components of a frame are upsampled: by the ratios of their factors to the greatest ones
 //! (T.81, A.1.1).
-ghost use Rattle.std.specs.Prelude.{◌≡◌, ◌≤◌, map, length, Ok, MatchResult};
+ghost use Rattle.std.specs.Prelude.{◌≡◌, ◌≤◌, map, Ok, MatchResult};
 ghost use Rattle.jpeg_bits.specs.Reading.{Names};
-ghost use Rattle.jpeg_segments.specs.Frame.{greatest};
+ghost use Rattle.jpeg_segments.specs.Frame.{most_across, most_down};
 ghost use Rattle.jpeg_segments.specs.FrameView.{component_in};
 ghost use Rattle.jpeg_pixels.specs.Upsampling.{rule_of};
-ghost use Rattle.jpeg_pixels.specs.Pictures.{all_factors, source_of, sources_of};
+ghost use Rattle.jpeg_pixels.specs.Pictures.{source_of, sources_of};
 ghost use Rattle.jpeg_pixels.specs.PicturesView.{source_in};
 ghost use Rattle.jpeg_segments.specs.Frame.{HasSampling, AllHaveSampling};
 
@@ -79,8 +79,7 @@ fn component_source(
 // The greatest horizontal factor of the components.
 #[tactic(auto, using(crate::proofs::SourceLists::greatest_start))]
 fn greatest_horizontal(components: &[Component]) -> u8
-    ensures { result ≡ greatest (λ f. f.horizontal)
-        (all_factors (map component_in components.now)) }
+    ensures { result ≡ most_across (map component_in components.now) }
 {
     let mut most = 1;
     for component in components {
@@ -92,7 +91,7 @@ fn greatest_horizontal(components: &[Component]) -> u8
 // The greatest vertical factor of the components.
 #[tactic(auto, using(crate::proofs::SourceLists::greatest_start))]
 fn greatest_vertical(components: &[Component]) -> u8
-    ensures { result ≡ greatest (λ f. f.vertical) (all_factors (map component_in components.now)) }
+    ensures { result ≡ most_down (map component_in components.now) }
 {
     let mut most = 1;
     for component in components {

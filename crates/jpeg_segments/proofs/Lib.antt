@@ -9,6 +9,7 @@ pub mod FrameLemmas
 pub mod ScanLemmas
 pub mod Fields
 pub mod Codecs
+pub mod Gathered
 pub mod TableSegments
 pub mod OtherSegments
 pub mod HeaderSegments

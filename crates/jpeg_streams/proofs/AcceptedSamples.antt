@@ -8,7 +8,7 @@ use Rattle.jpeg_segments.specs.Frame.{component_of, Factors, frame_of, greatest}
 use Rattle.jpeg_segments.specs.WrittenSegments.{FrameHeader, frame_written}
 use Rattle.jpeg_streams.specs.AcceptedFrames.{HasPicture, HasSamples, IsUpsampled}
 use Rattle.jpeg_streams.specs.Segments.{accepted}
-use Rattle.jpeg_streams.proofs.FrameFits.{factors-back}
+use Rattle.jpeg_segments.proofs.ScaleLemmas.{factors-back}
 use Rattle.jpeg_streams.proofs.UpsampledFactors.{Upsampled, either, sources-back}
 use Rattle.jpeg_streams.proofs.Soundness.{accepted-facts, accepted-precision}
 

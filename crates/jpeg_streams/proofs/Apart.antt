@@ -90,10 +90,10 @@ At j [] x = ⊥
 At zero (y ∷ ys) x = y ≡ x
 At (suc j) (y ∷ ys) x = At j ys x
 
-pub got-at : {A : Type 0} (j : ℕ) (xs : List A) (x : A) → slice_get xs j ≡ Some x → At j xs x
-got-at j [] x e = let n : ⊥ = cc in n
-got-at zero (y ∷ xs) x e = cc
-got-at (suc j) (y ∷ xs) x e = got-at j xs x e
+pub get-at : {A : Type 0} (j : ℕ) (xs : List A) (x : A) → slice_get xs j ≡ Some x → At j xs x
+get-at j [] x e = search rules
+get-at zero (y ∷ xs) x e = cc
+get-at (suc j) (y ∷ xs) x e = get-at j xs x e
 
 pub at-got : {A : Type 0} (j : ℕ) (xs : List A) (x : A) → At j xs x → slice_get xs j ≡ Some x
 at-got j [] x h = absurd h
@@ -109,11 +109,6 @@ pub at-all : {A : Type 0} (Q : A → Type 0) (j : ℕ) (xs : List A) (x : A) →
 at-all Q j [] x h k = absurd k
 at-all Q zero (y ∷ xs) x h k = subst Q k h.0
 at-all Q (suc j) (y ∷ xs) x h k = at-all Q j xs x h.1 k
-
-pub get-at : {A : Type 0} (j : ℕ) (xs : List A) (x : A) → slice_get xs j ≡ Some x → At j xs x
-get-at j [] x e = search rules
-get-at zero (y ∷ xs) x e = cc
-get-at (suc j) (y ∷ xs) x e = get-at j xs x e
 
 -- ---- one component
 

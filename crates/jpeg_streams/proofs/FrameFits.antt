@@ -1,12 +1,11 @@
 -- The blocks of a frame's components at each scale.
 use Rattle.std.proofs.lemmas.Grind.{common_steps}
-use Rattle.std.proofs.Common.{rules, ◌≡◌, ◌≤◌, ◌<◌, ℕ, ◌*◌, List, [], ◌∷◌, map, refl, ap, subst, arith}
+use Rattle.std.proofs.Common.{rules, ◌≡◌, ◌≤◌, ◌<◌, ℕ, ◌*◌, List, [], ◌∷◌, map, subst, arith}
 use Rattle.std.proofs.Math.Nat.{mul_assoc, mul_comm, mul-le-mul_right}
 use Rattle.std.specs.List.{AllByRecursion}
 use Rattle.jpeg_segments.specs.Frame.{Frame, Factors, IsInRange, ceiling, component_of, frame_of, greatest}
-use Rattle.jpeg_pixels.specs.Pictures.{all_factors}
 use Rattle.jpeg_segments.proofs.Ceilings.{ceiling-low, ceiling-le}
-use Rattle.jpeg_segments.proofs.ScaleLemmas.{full_size}
+use Rattle.jpeg_segments.proofs.ScaleLemmas.{factors-back, full_size}
 use Rattle.jpeg_segments.specs.Scales.{component_at, frame_at}
 use Rattle.jpeg_streams.specs.InTurn.{Fits}
 
@@ -21,12 +20,6 @@ own-within width h m s some most scaled =
     = search (rules, mul_assoc, mul_comm) in
     let one : ceiling (width * h * s) (m * 8) ≤ s * (b * h) = search (rules, ceiling-le) in
     ceiling-le (ceiling (width * h * s) (m * 8)) s (b * h) scaled one
-
-pub factors-back : (width height h v : ℕ) (xs : List Factors) → all_factors (map (component_of width height h v) xs)
-    ≡ xs
-unfolding component_of
-factors-back width height h v [] = refl
-factors-back width height h v (x ∷ xs) = ap (λ l. x ∷ l) (factors-back width height h v xs)
 
 -- ---- components fit their frame
 

@@ -5,13 +5,14 @@ use Rattle.std.proofs.lemmas.Grind.{common_steps}
 use Rattle.std.proofs.Math.Nat.{div-lt_iff_lt-mul, mod-lt, mul_comm}
 use Rattle.std.specs.List.{range_with_len, concat}
 use Rattle.jpeg_bits.specs.declared.color_transform.ColorTransform.{ColorTransform}
+use Rattle.jpeg_segments.specs.Checks.{gathered}
 use Rattle.jpeg_segments.specs.Frame.{Component}
 use Rattle.jpeg_pixels.specs.declared.upsampler.UpsampleRule.{UpsampleRule}
 use Rattle.jpeg_pixels.specs.declared.upsampler.UpsampleRule.TheVariants.{Generic}
 use Rattle.jpeg_pixels.specs.declared.upsampler.ColorConvert.{ColorConvert}
 use Rattle.jpeg_pixels.specs.Upsampling.{upsampled, across, down}
 use Rattle.jpeg_pixels.specs.Colour.{line_bytes}
-use Rattle.jpeg_pixels.specs.Pictures.{Source, sources_by, sources_of, lines_of}
+use Rattle.jpeg_pixels.specs.Pictures.{Source, source_of, sources_of, lines_of}
 use Rattle.jpeg_pixels.specs.Pictures.{picture_line, converted_picture, image_of}
 use Rattle.jpeg_pixels.specs.Planes.{cropped}
 use Rattle.jpeg_streams.proofs.ReadTurns.{err-ok, ok-same, bind-ok}
@@ -34,7 +35,7 @@ upsampled-inside rule w h width height x y p q a b c d e f k l same = search rul
 
 -- ---- lines and pictures
 
-map-same : {B : Type 0} (f g : ℕ → B) (a n : ℕ) → ((k : ℕ) → a ≤ k → k < a + n → f k ≡ g k)
+pub map-same : {B : Type 0} (f g : ℕ → B) (a n : ℕ) → ((k : ℕ) → a ≤ k → k < a + n → f k ≡ g k)
     → map f (range_with_len a n) ≡ map g (range_with_len a n)
 map-same f g a zero h = refl
 map-same {B} f g a (suc n) h = ap₂ (λ (x : B) (l : List B). x ∷ l) (h a (omega arith) (omega arith))
@@ -90,9 +91,9 @@ AllAlike (c ∷ more) (p ∷ ps) [] = ⊥
 AllAlike (c ∷ more) (p ∷ ps) (q ∷ qs) = SamePlane (c.blocks_wide * c.scale) c.width c.height p q × AllAlike more ps qs
 
 sources-same : (a b width height : ℕ) (components : List Component) (sources : List Source) (ps qs : List (List ℕ))
-    → sources_by a b width height components ≡ Ok sources → AllAlike components ps qs
+    → gathered (source_of a b width height) components ≡ Ok sources → AllAlike components ps qs
     → AllSame sources ps qs
-unfolding sources_by
+unfolding gathered
 sources-same a b width height (c ∷ more) sources (p ∷ ps) (q ∷ qs) e h =
     search (rules, bind-ok, err-ok, sources-same a b width height more)
 sources-same a b width height components sources ps qs e h = search (rules, ok-same)

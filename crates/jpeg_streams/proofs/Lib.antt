@@ -41,6 +41,7 @@ pub mod FrameShapes
 pub mod ScanFacts
 pub mod TablesInForce
 pub mod ReadStreams
+pub mod LimitedPictures
 pub mod InsidePictures
 pub mod ScaledSizes
 pub mod WrittenPictures

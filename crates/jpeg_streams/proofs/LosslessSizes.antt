@@ -5,15 +5,16 @@ use Rattle.std.proofs.lemmas.List.Elements.{recursion_from_All}
 use Rattle.std.proofs.Math.Nat.{mul-le-mul_right, mul_comm}
 use Rattle.jpeg_segments.specs.declared.parser.CodingProcess.TheVariants.{Lossless}
 use Rattle.jpeg_segments.specs.Frame.{Component, Factors, Frame, IsInRange, ceiling, component_of, frame_of, greatest}
+use Rattle.jpeg_segments.specs.Frame.{most_across, most_down}
 use Rattle.jpeg_segments.specs.Scales.{frame_at}
 use Rattle.jpeg_segments.proofs.ScaleLemmas.{full_frames}
 use Rattle.jpeg_lossless.specs.Codings.{IsCovered}
-use Rattle.jpeg_lossless.specs.Pictures.{Reaches, frame_factors, most_across, most_down}
+use Rattle.jpeg_lossless.specs.Pictures.{Reaches}
 use Rattle.jpeg_streams.specs.LosslessScans.{LosslessCoding, mcus_across, mcus_down, part_of, parts_of}
 use Rattle.jpeg_streams.specs.Sound.{IsDecodedFrame}
 use Rattle.jpeg_streams.proofs.Apart.{at-all, get-at}
 use Rattle.jpeg_streams.proofs.FrameShapes.{below-ceiling, ceiling-covers, ceiling-least}
-use Rattle.jpeg_streams.proofs.FrameFits.{factors-back}
+use Rattle.jpeg_segments.proofs.ScaleLemmas.{factors-back}
 use Rattle.jpeg_segments.proofs.FrameLemmas.{greatest-some}
 use Rattle.jpeg_streams.proofs.CountedScans.{some-product}
 
@@ -25,18 +26,18 @@ all-at P n xs x all e = at-all P n xs x all (get-at n xs x e)
 
 -- A component has the size that its factors give (A.1.1).
 pub record IsMade (frame : Frame) (c : Component) : Type 0 where
-  pub width : c.width ≡ ceiling (frame.width * c.factors.horizontal) (most_across frame)
-  pub height : c.height ≡ ceiling (frame.height * c.factors.vertical) (most_down frame)
+  pub width : c.width ≡ ceiling (frame.width * c.factors.horizontal) (most_across frame.components)
+  pub height : c.height ≡ ceiling (frame.height * c.factors.vertical) (most_down frame.components)
   pub horizontal : 1 ≤ c.factors.horizontal
   pub vertical : 1 ≤ c.factors.vertical
 
-pub some-across : (frame : Frame) → 0 < most_across frame
-some-across frame = greatest-some (λ f. f.horizontal) (frame_factors frame)
+pub some-across : (frame : Frame) → 0 < most_across frame.components
+some-across frame = greatest-some (λ f. f.horizontal) (map (λ c. c.factors) frame.components)
 
-pub some-down : (frame : Frame) → 0 < most_down frame
-some-down frame = greatest-some (λ f. f.vertical) (frame_factors frame)
+pub some-down : (frame : Frame) → 0 < most_down frame.components
+some-down frame = greatest-some (λ f. f.vertical) (map (λ c. c.factors) frame.components)
 
-all-made : (frame : Frame) (mh mv : ℕ) (cs : List Factors) → most_across frame ≡ mh → most_down frame ≡ mv
+all-made : (frame : Frame) (mh mv : ℕ) (cs : List Factors) → most_across frame.components ≡ mh → most_down frame.components ≡ mv
     → AllByRecursion IsInRange cs
     → AllByRecursion (IsMade frame) (map (component_of frame.width frame.height mh mv) cs)
 unfolding component_of
@@ -80,12 +81,12 @@ covered : (size factor most : ℕ) → 0 < most → ceiling (size * factor) most
 covered size factor most h = grind (arith, mul-le-mul_right, mul_comm, ceiling-least)
 
 pub made-covered : (frame : Frame) (c : Component) → IsMade frame c
-    → (c.width ≤ ceiling frame.width (most_across frame) * c.factors.horizontal)
-    × (c.height ≤ ceiling frame.height (most_down frame) * c.factors.vertical)
+    → (c.width ≤ ceiling frame.width (most_across frame.components) * c.factors.horizontal)
+    × (c.height ≤ ceiling frame.height (most_down frame.components) * c.factors.vertical)
 made-covered frame c is = search (rules, covered, some-across, some-down)
 
 all-among : (frame : Frame) (codings : List LosslessCoding) → AllByRecursion (λ k. IsMade frame k.component) codings
-    → AllByRecursion (IsCovered (ceiling frame.width (most_across frame)) (ceiling frame.height (most_down frame)))
+    → AllByRecursion (IsCovered (ceiling frame.width (most_across frame.components)) (ceiling frame.height (most_down frame.components)))
     (map (λ k. part_of k.component.factors.horizontal k.component.factors.vertical k) codings)
 all-among frame [] h = tt
 all-among frame (k ∷ codings) h = search (rules, made-covered, all-among frame codings h.1)

@@ -1,18 +1,19 @@
 -- No sample outside a component reaches one inside.
-use Rattle.std.proofs.Common.{rules, ◌≡◌, ℕ, zero, suc, ◌+◌, ◌*◌, ◌/◌, ◌<◌, ◌≤◌, List, [], ◌∷◌, ◌++◌, map, drop, take}
-use Rattle.std.proofs.Common.{Some, slice_get, refl, ap, ap₂, arith}
-use Rattle.std.specs.List.{AllByRecursion, concat, range_with_len}
+use Rattle.std.proofs.Common.{rules, ◌≡◌, ℕ, suc, ◌+◌, ◌*◌, ◌/◌, ◌<◌, List, [], ◌∷◌, ◌++◌, map}
+use Rattle.std.proofs.Common.{drop, take, Some, slice_get, refl, ap, ap₂, arith}
+use Rattle.std.specs.List.{AllByRecursion, concat, enumerate_from}
 use Rattle.jpeg_bits.specs.declared.scan.Predictor.{Predictor}
-use Rattle.jpeg_segments.specs.Frame.{Component, Frame, frame_of}
+use Rattle.jpeg_segments.specs.Frame.{Component, Frame, frame_of, most_across, most_down}
 use Rattle.jpeg_segments.specs.WrittenSegments.{FrameHeader, IsFrameHeader, frame_written}
 use Rattle.jpeg_lossless.specs.Differences.{Part}
-use Rattle.jpeg_lossless.specs.Pictures.{most_across, most_down, sample_bytes}
+use Rattle.jpeg_lossless.specs.Pictures.{picture_by_samples, pixel_of, sample_bytes}
 use Rattle.jpeg_lossless.specs.Prediction.{lines_below, predicted_lines}
 use Rattle.jpeg_lossless.specs.Scans.{Way, lines_by_component, planes_of}
 use Rattle.jpeg_lossless.proofs.ImageLoops.{inside}
 use Rattle.jpeg_lossless.proofs.LineSums.{top-narrow}
 use Rattle.jpeg_streams.specs.FrameSamples.{AgreeInside, DifferInPadding}
-use Rattle.jpeg_streams.specs.WrittenLossless.{own_lines, picture_of_samples, pixel_from, Samples, samples_line}
+use Rattle.jpeg_streams.specs.WrittenLossless.{own_lines, picture_of_samples, Samples}
+use Rattle.jpeg_streams.proofs.InsidePictures.{map-same}
 use Rattle.jpeg_streams.proofs.LosslessFrames.{all-ranged}
 use Rattle.jpeg_streams.proofs.LosslessSizes.{IsMade, all-at, frames-made, made-reaches, some-across, some-down}
 
@@ -46,20 +47,20 @@ pub header-made : (h : FrameHeader) → IsFrameHeader 3 h
 header-made h is = search (rules, frames-made, all-ranged)
 
 made-inside : (frame : Frame) (c : Component) (x y : ℕ) → IsMade frame c → x < frame.width → y < frame.height
-    → (x * c.factors.horizontal / most_across frame < c.width)
-    × (y * c.factors.vertical / most_down frame < c.height)
+    → (x * c.factors.horizontal / most_across frame.components < c.width)
+    × (y * c.factors.vertical / most_down frame.components < c.height)
 made-inside frame c x y made h k = search (rules, made-reaches, inside, some-across, some-down)
 
 pub taken-inside : (h : FrameHeader) (index x y : ℕ) (c : Component) → IsFrameHeader 3 h
     → slice_get (frame_written 3 h).components index ≡ Some c → x < h.width → y < h.height
-    → (x * c.factors.horizontal / most_across (frame_written 3 h) < c.width)
-    × (y * c.factors.vertical / most_down (frame_written 3 h) < c.height)
+    → (x * c.factors.horizontal / most_across (frame_written 3 h).components < c.width)
+    × (y * c.factors.vertical / most_down (frame_written 3 h).components < c.height)
 unfolding frame_of
 taken-inside h index x y c is e hx hy = made-inside (frame_written 3 h) c x y
     (all-at (IsMade (frame_written 3 h)) index (frame_written 3 h).components c (header-made h is)
     e) hx hy
 
-pub drop-next : {A : Type 0} (n : ℕ) (xs : List A) (x : A) (more : List A) → drop n xs ≡ x ∷ more → drop (suc n) xs ≡
+drop-next : {A : Type 0} (n : ℕ) (xs : List A) (x : A) (more : List A) → drop n xs ≡ x ∷ more → drop (suc n) xs ≡
     more
 drop-next (suc n) (y ∷ xs) x more e = drop-next n xs x more e
 drop-next n xs x more e = search rules
@@ -69,33 +70,42 @@ pub get-drop : {A : Type 0} (n : ℕ) (xs : List A) (x : A) (more : List A) → 
 get-drop (suc n) (y ∷ xs) x more e = get-drop n xs x more e
 get-drop n xs x more e = search rules
 
-pixel-agrees : (frame : Frame) (a b : Samples) (x y : ℕ) → x < frame.width → y < frame.height
-    → AgreeInside frame a b → (index : ℕ) (cs : List Component) → drop index frame.components ≡ cs
-    → AllByRecursion (IsMade frame) cs → pixel_from frame a y x index cs ≡ pixel_from frame b y x
-    index cs
-unfolding pixel_from
-pixel-agrees frame a b x y hx hy agree index [] e made = refl
-pixel-agrees frame a b x y hx hy agree index (c ∷ cs) e made =
+-- the bytes of a component's sample
+abbrev pub component_bytes : Frame → (ℕ × Component → ℕ → ℕ → ℕ) → ℕ → ℕ → ℕ × Component → List ℕ
+component_bytes frame sample y x c =
+    sample_bytes frame.precision (sample c (x * c.1.factors.horizontal / most_across frame.components)
+    (y * c.1.factors.vertical / most_down frame.components))
+
+-- what gives a component's samples agrees with another one where the component has them
+abbrev pub SampleAlike : Frame → (ℕ × Component → ℕ → ℕ → ℕ) → (ℕ × Component → ℕ → ℕ → ℕ) → Type 0
+SampleAlike frame s t =
+    (index x y : ℕ) (c : Component) → slice_get frame.components index ≡ Some c →
+    x < c.width → y < c.height → s (index, c) x y ≡ t (index, c) x y
+
+pixel-agrees : (frame : Frame) (s t : ℕ × Component → ℕ → ℕ → ℕ) (x y : ℕ) → x < frame.width → y < frame.height
+    → SampleAlike frame s t → (index : ℕ) (cs : List Component) → drop index frame.components ≡ cs
+    → AllByRecursion (IsMade frame) cs
+    → concat (map (component_bytes frame s y x) (enumerate_from index cs))
+    ≡ concat (map (component_bytes frame t y x) (enumerate_from index cs))
+pixel-agrees frame s t x y hx hy agree index [] e made = refl
+pixel-agrees frame s t x y hx hy agree index (c ∷ cs) e made =
     let at = made-inside frame c x y made.0 hx hy in
     let next : index + 1 ≡ suc index = omega arith in
-    ap₂ (λ (s : ℕ) (more : List ℕ). sample_bytes frame.precision s ++ more)
-    (agree index (x * c.factors.horizontal / most_across frame) (y * c.factors.vertical / most_down
-    frame) c
-    (get-drop index frame.components c cs e) at.0 at.1)
-    (pixel-agrees frame a b x y hx hy agree (index + 1) cs
-    (search (rules, drop-next)) made.1)
+    ap₂ (λ (v : ℕ) (more : List ℕ). sample_bytes frame.precision v ++ more)
+    (agree index _ _ c (get-drop index frame.components c cs e) at.0 at.1)
+    (pixel-agrees frame s t x y hx hy agree (index + 1) cs (search (rules, drop-next)) made.1)
 
-pub mapped-same : {A : Type 0} (f g : ℕ → A) (from n most : ℕ) → from + n ≤ most → ((x : ℕ) → x < most → f x ≡ g x)
-    → map f (range_with_len from n) ≡ map g (range_with_len from n)
-mapped-same f g from zero most le same = refl
-mapped-same f g from (suc n) most le same = search (rules, mapped-same f g (from + 1) n most (omega arith) same)
+-- so the pictures of a frame agree
+pub pictures-by : (frame : Frame) (s t : ℕ × Component → ℕ → ℕ → ℕ) → AllByRecursion (IsMade frame) frame.components
+    → SampleAlike frame s t → picture_by_samples frame s ≡ picture_by_samples frame t
+unfolding picture_by_samples pixel_of
+pictures-by frame s t made agree =
+    ap concat (map-same _ _ 0 frame.height (λ y low below.
+    ap concat (map-same (pixel_of frame s y) (pixel_of frame t y) 0 frame.width (λ x left inside.
+    pixel-agrees frame s t x y (omega arith) (omega arith) agree 0 frame.components refl made))))
 
 pub pictures-agree : (h : FrameHeader) (a b : Samples) → IsFrameHeader 3 h → AgreeInside
     (frame_written 3 h) a b
     → picture_of_samples (frame_written 3 h) a ≡ picture_of_samples (frame_written 3 h) b
 unfolding picture_of_samples
-pictures-agree h a b is agree =
-    let frame = frame_written 3 h in
-    ap (λ (l : List (List ℕ)). concat l)
-    (mapped-same (samples_line frame a) (samples_line frame b) 0 frame.height frame.height (omega arith)
-    (search (rules, mapped-same, pixel-agrees, header-made)))
+pictures-agree h a b is agree = pictures-by (frame_written 3 h) _ _ (header-made h is) agree

@@ -10,7 +10,7 @@ use Rattle.jpeg_segments.specs.WrittenSegments.{FrameHeader, frame_written}
 use Rattle.jpeg_streams.specs.AcceptedFrames.{HasPicture, IsUpsampled}
 use Rattle.jpeg_streams.specs.Segments.{accepted, is_decoded_count, is_arithmetic, is_decoded_precision}
 use Rattle.jpeg_streams.proofs.ReadTurns.{then-ok}
-use Rattle.jpeg_streams.proofs.FrameFits.{factors-back}
+use Rattle.jpeg_segments.proofs.ScaleLemmas.{factors-back}
 use Rattle.jpeg_streams.proofs.UpsampledFactors.{sources-some}
 
 -- ---- sources

@@ -4,10 +4,9 @@ use Rattle.std.specs.List.{AllByRecursion}
 use Rattle.std.proofs.lemmas.Nat.{div-mul-add}
 use Rattle.jpeg_bits.specs.Codes.{Table}
 use Rattle.jpeg_bits.specs.declared.scan.Predictor.{Predictor}
-use Rattle.jpeg_segments.specs.Frame.{ceiling, Component, Frame}
+use Rattle.jpeg_segments.specs.Frame.{ceiling, Component, Frame, most_across, most_down}
 use Rattle.jpeg_segments.specs.WrittenSegments.{FrameHeader, IsFrameHeader, frame_written}
 use Rattle.jpeg_lossless.specs.Differences.{Part}
-use Rattle.jpeg_lossless.specs.Pictures.{most_across, most_down}
 use Rattle.jpeg_lossless.specs.Prediction.{start_of}
 use Rattle.jpeg_lossless.specs.Scans.{Way}
 use Rattle.jpeg_streams.specs.InTurn.{IsIn}
@@ -23,11 +22,11 @@ ceiling-one n most e = ap (ceiling n) e ∙ omega arith
 record IsFull (frame : Frame) (c : Component) : Type 0 where
   width : c.width ≡ frame.width
   height : c.height ≡ frame.height
-  across : c.factors.horizontal ≡ most_across frame
-  down : c.factors.vertical ≡ most_down frame
+  across : c.factors.horizontal ≡ most_across frame.components
+  down : c.factors.vertical ≡ most_down frame.components
 
 all-full : (frame : Frame) (cs : List Component) → AllByRecursion (IsMade frame) cs
-    → AllByRecursion (λ c. (c.factors.horizontal ≡ most_across frame) × (c.factors.vertical ≡ most_down frame)) cs
+    → AllByRecursion (λ c. (c.factors.horizontal ≡ most_across frame.components) × (c.factors.vertical ≡ most_down frame.components)) cs
     → AllByRecursion (IsFull frame) cs
 all-full frame [] made same = tt
 all-full frame (c ∷ cs) made same =
@@ -64,7 +63,7 @@ unfolding mcus_across mcus_down parts_of
 way-alone h selection point k is same in_frame = search (rules, header-full)
 
 -- components of a scan where the greatest factors are 1
-parts-plain : (frame : Frame) (codings : List LosslessCoding) → most_across frame ≡ 1 → most_down frame ≡ 1
+parts-plain : (frame : Frame) (codings : List LosslessCoding) → most_across frame.components ≡ 1 → most_down frame.components ≡ 1
     → AllByRecursion (λ k. IsFull frame k.component) codings
     → map (λ k. part_of k.component.factors.horizontal k.component.factors.vertical k) codings
     ≡ map (λ k. part_at k.table 1 1 frame.width frame.height) codings
@@ -80,7 +79,7 @@ codings-full h (k ∷ codings) is same all = search (rules, header-full, codings
 
 pub way-together : (h : FrameHeader) (selection : Predictor) (point : ℕ) (codings : List
     LosslessCoding) → IsFrameHeader 3 h
-    → HasEqualFactors (frame_written 3 h) → most_across (frame_written 3 h) ≡ 1 → most_down (frame_written 3 h) ≡ 1
+    → HasEqualFactors (frame_written 3 h) → most_across (frame_written 3 h).components ≡ 1 → most_down (frame_written 3 h).components ≡ 1
     → AllByRecursion (λ k. IsIn k.component (frame_written 3 h).components) codings
     → (way_of (frame_written 3 h) selection point codings ≡ plain_way (frame_written 3 h) selection point codings)
     × (mcus_down (frame_written 3 h) codings ≡ (frame_written 3 h).height)
@@ -90,7 +89,7 @@ way-together h selection point (k ∷ []) is same a d all = way-alone h selectio
 way-together h selection point (k ∷ j ∷ codings) is same a d all =
     let frame = frame_written 3 h in (
       ap₂ (λ (w : ℕ) (parts : List Part). way_by frame selection point w parts)
-          (ceiling-one frame.width (most_across frame) a)
+          (ceiling-one frame.width (most_across frame.components) a)
           (parts-plain frame (k ∷ j ∷ codings) a d (codings-full h (k ∷ j ∷ codings) is same all)),
-      ceiling-one frame.height (most_down frame) d,
+      ceiling-one frame.height (most_down frame.components) d,
     )

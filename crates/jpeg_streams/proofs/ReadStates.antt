@@ -13,7 +13,8 @@ use Rattle.jpeg_bits.specs.Passes.{band_of}
 use Rattle.jpeg_bits.specs.Passes.{Pass, Block, before_band, band_size}
 use Rattle.jpeg_streams.specs.Order.{grid_of}
 use Rattle.jpeg_streams.specs.Scans.{Arrays}
-use Rattle.jpeg_streams.specs.ScanSegments.{with_plane, decided, finished_by, plane_by, Coding, put_arrays, with_arrays}
+use Rattle.jpeg_streams.specs.Rasters.{plane_by}
+use Rattle.jpeg_streams.specs.ScanSegments.{with_plane, decided, finished_by, Coding, put_arrays, with_arrays}
 use Rattle.jpeg_streams.specs.ScanSegments.{with_blocks}
 use Rattle.jpeg_streams.specs.Found.{none_finished, Found}
 use Rattle.jpeg_streams.specs.Levels.{Levels, IsLegal, sent_after}

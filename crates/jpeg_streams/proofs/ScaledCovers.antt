@@ -1,15 +1,15 @@
 -- The planes of a frame's components cover its picture, at each scale.
-use Rattle.std.proofs.Common.{rules, arith, ◌≡◌, ◌≤◌, ◌<◌, ℕ, ◌*◌, List, [], ◌∷◌, length, map, Option, Some, None, Ok}
+use Rattle.std.proofs.Common.{rules, arith, ◌≡◌, ◌≤◌, ◌<◌, ℕ, ◌*◌, List, [], ◌∷◌, length, map, Ok}
 use Rattle.std.proofs.Common.{sym, subst}
 use Rattle.std.specs.List.{AllByRecursion}
-use Rattle.jpeg_bits.specs.Reading.{Lacks}
+use Rattle.jpeg_segments.specs.Checks.{gathered}
 use Rattle.jpeg_segments.specs.Frame.{Component, Factors, IsInRange, frame_of}
 use Rattle.jpeg_segments.specs.Scales.{frame_at}
-use Rattle.jpeg_pixels.specs.declared.upsampler.UpsampleRule.{UpsampleRule}
-use Rattle.jpeg_pixels.specs.Pictures.{AllCover, AreWhole, Covers, HasSources, Source, source_by, source_of, sources_by}
+use Rattle.jpeg_pixels.specs.Pictures.{AllCover, AreWhole, Covers, HasSources, Source, source_of}
 use Rattle.jpeg_pixels.specs.Pictures.{sources_of}
+use Rattle.jpeg_pixels.proofs.SourceLists.{source-rule}
 use Rattle.jpeg_pixels.proofs.RuleRatios.{in-blocks, room-of}
-use Rattle.jpeg_streams.proofs.ReadTurns.{err-ok, ok-same, bind-ok}
+use Rattle.jpeg_streams.proofs.ReadTurns.{ok-same, bind-ok}
 use Rattle.jpeg_streams.proofs.FrameShapes.{Plain, made-at}
 use Rattle.jpeg_streams.proofs.InsidePictures.{AllReach, Reaches}
 use Rattle.jpeg_streams.proofs.ScaledSizes.{scaled_component, is-sized, reaches-made}
@@ -28,12 +28,11 @@ all-inside : (s width height h v : ℕ) (xs : List Factors) → 0 < h → 0 < v
 all-inside s width height h v [] a b = tt
 all-inside s width height h v (x ∷ xs) a b = search (rules, in-blocks, all-inside s width height h v xs a b)
 
-covers : (c : Component) (rule : Option UpsampleRule) (source : Source) (plane : List ℕ) (width height : ℕ)
+covers : (h v width height : ℕ) (c : Component) (source : Source) (plane : List ℕ)
     → InBlocks c → length plane ≡ (c.blocks_high * c.scale) * (c.blocks_wide * c.scale)
-    → source_by c rule ≡ Ok source → Reaches source width height → Covers source plane width height
-covers c None source plane width height inside size e reach = absurd (err-ok (Lacks _) source e)
-covers c (Some rule) source plane width height inside size e reach =
-    let same = ok-same _ source e in
+    → source_of h v width height c ≡ Ok source → Reaches source width height → Covers source plane width height
+covers h v width height c source plane inside size e reach =
+    let same = (source-rule h v width height c source e).2 in
     let r = subst (λ (s : Source). Reaches s width height) (sym same) reach in
     grind (
       arith,
@@ -44,16 +43,16 @@ covers c (Some rule) source plane width height inside size e reach =
 -- ---- all components
 
 all-cover : (h v width height : ℕ) (cs : List Component) (planes : List (List ℕ)) (sources : List Source)
-    → AllByRecursion InBlocks cs → AreWhole cs planes → sources_by h v width height cs ≡ Ok sources
+    → AllByRecursion InBlocks cs → AreWhole cs planes → gathered (source_of h v width height) cs ≡ Ok sources
     → AllReach sources width height → AllCover sources planes width height
-unfolding sources_by AreWhole AllCover
+unfolding gathered AreWhole AllCover
 all-cover h v width height (c ∷ cs) (plane ∷ planes) sources inside whole e reach =
     let one = bind-ok (source_of h v width height c) _ sources e in
-    let more = bind-ok (sources_by h v width height cs) _ sources one.2 in
+    let more = bind-ok (gathered (source_of h v width height) cs) _ sources one.2 in
     let same = ok-same (one.0 ∷ more.0) sources more.2 in
     let r = subst (λ (l : List Source). AllReach l width height) (sym same) reach in
     subst (λ (l : List Source). AllCover l (plane ∷ planes) width height) same (
-      covers c _ one.0 plane width height inside.0 whole.0 one.1 r.0,
+      covers h v width height c one.0 plane inside.0 whole.0 one.1 r.0,
       all-cover h v width height cs planes more.0 inside.1 whole.1 more.1 r.1,
     )
 all-cover h v width height cs planes sources inside whole e reach = search (rules, ok-same)

@@ -1,19 +1,18 @@
 -- The sizes of a frame's components at each scale.
-use Rattle.std.proofs.Common.{rules, ◌≡◌, inl, ℕ, ◌*◌, ◌<◌, ◌≤◌, List, [], ◌∷◌, map, length, Option, Some, None, Ok}
+use Rattle.std.proofs.Common.{rules, ◌≡◌, inl, ℕ, ◌*◌, ◌<◌, ◌≤◌, List, [], ◌∷◌, map, length, Ok}
 use Rattle.std.proofs.Common.{refl, sym, ap, ◌∙◌, subst, arith}
 use Rattle.std.proofs.Math.Nat.{mul-le-mul}
 use Rattle.std.specs.List.{AllByRecursion}
-use Rattle.jpeg_bits.specs.Reading.{Lacks}
+use Rattle.jpeg_segments.specs.Checks.{gathered}
 use Rattle.jpeg_segments.specs.Frame.{Frame, Component, Factors, IsInRange, frame_of, component_of, ceiling, greatest}
-use Rattle.jpeg_pixels.specs.declared.upsampler.UpsampleRule.{UpsampleRule}
-use Rattle.jpeg_pixels.specs.Upsampling.{rule_of}
-use Rattle.jpeg_pixels.specs.Pictures.{Source, source_by, source_of, sources_by, sources_of, all_factors}
+use Rattle.jpeg_pixels.specs.Pictures.{Source, source_of, sources_of}
 use Rattle.jpeg_segments.specs.Scales.{component_at, frame_at}
+use Rattle.jpeg_pixels.proofs.SourceLists.{source-rule}
 use Rattle.jpeg_pixels.proofs.RuleRatios.{reach-end, rule-ratios, some-ceiling}
 use Rattle.jpeg_streams.proofs.OwnSpots.{At}
-use Rattle.jpeg_streams.proofs.ReadTurns.{err-ok, ok-same, bind-ok}
+use Rattle.jpeg_streams.proofs.ReadTurns.{ok-same, bind-ok}
 use Rattle.jpeg_streams.proofs.FrameShapes.{at-mapped}
-use Rattle.jpeg_streams.proofs.FrameFits.{factors-back}
+use Rattle.jpeg_segments.proofs.ScaleLemmas.{factors-back}
 use Rattle.jpeg_streams.proofs.BroughtLevels.{Made}
 use Rattle.jpeg_streams.proofs.InsidePictures.{Reaches, AllReach}
 use Rattle.jpeg_segments.proofs.FrameLemmas.{greatest-some}
@@ -50,38 +49,40 @@ frame-components s number precision width height xs = search (rules, factors-bac
 
 -- ---- all components
 
-reaches-one : (s width height mh mv : ℕ) (x : Factors) (rule : Option UpsampleRule) (source : Source) → 0 < s
-    → 0 < width → 0 < height → 0 < mh → 0 < mv → IsInRange x
-    → rule_of x.horizontal x.vertical mh mv (ceiling (width * s) 8) (ceiling (height * s) 8) ≡ rule
-    → source_by (scaled_component s width height mh mv x) rule ≡ Ok source
+reaches-one : (s width height mh mv : ℕ) (x : Factors) (source : Source) → 0 < s → 0 < width → 0 < height
+    → 0 < mh → 0 < mv → IsInRange x
+    → source_of mh mv (ceiling (width * s) 8) (ceiling (height * s) 8) (scaled_component s width height mh mv x)
+    ≡ Ok source
     → Reaches source (ceiling (width * s) 8) (ceiling (height * s) 8)
-reaches-one s width height mh mv x None source ss w h a b r e f = absurd (err-ok (Lacks _) source f)
-reaches-one s width height mh mv x (Some rule) source ss w h a b r e f =
-    let q = rule-ratios x.horizontal x.vertical mh mv (ceiling (width * s) 8) (ceiling (height * s) 8) rule a b e in
+reaches-one s width height mh mv x source ss w h a b r e =
+    let z = source-rule mh mv (ceiling (width * s) 8) (ceiling (height * s) 8)
+    (scaled_component s width height mh mv x) source e in
+    let q = rule-ratios x.horizontal x.vertical mh mv (ceiling (width * s) 8) (ceiling (height * s) 8) z.0 a b z.1 in
     let hs = r.horizontal_some in
     let vs = r.vertical_some in
     let p1 : 1 * 1 ≤ width * x.horizontal = mul-le-mul w hs in
     let p2 : 1 * 1 ≤ width * x.horizontal * s = mul-le-mul p1 ss in
     let q1 : 1 * 1 ≤ height * x.vertical = mul-le-mul h vs in
     let q2 : 1 * 1 ≤ height * x.vertical * s = mul-le-mul q1 ss in
-    search (rules, ok-same, some-ceiling, reach-end)
+    subst (λ (y : Source). Reaches y (ceiling (width * s) 8) (ceiling (height * s) 8)) z.2
+    (search (rules, some-ceiling, reach-end))
 
 reaches-all : (s width height mh mv : ℕ) (xs : List Factors) (sources : List Source) → 0 < s → 0 < width → 0 < height
     → 0 < mh → 0 < mv → AllByRecursion IsInRange xs
-    → sources_by mh mv (ceiling (width * s) 8) (ceiling (height * s) 8)
+    → gathered (source_of mh mv (ceiling (width * s) 8) (ceiling (height * s) 8))
     (map (scaled_component s width height mh mv) xs) ≡ Ok sources
     → AllReach sources (ceiling (width * s) 8) (ceiling (height * s) 8)
-unfolding sources_by
+unfolding gathered
 reaches-all s width height mh mv [] sources ss w h a b range e = search (rules, ok-same)
 reaches-all s width height mh mv (x ∷ xs) sources ss w h a b range e =
     let one = bind-ok (source_of mh mv (ceiling (width * s) 8) (ceiling (height * s) 8)
     (scaled_component s width height mh mv x)) _ sources e in
-    let others = bind-ok (sources_by mh mv (ceiling (width * s) 8) (ceiling (height * s) 8)
+    let others = bind-ok (gathered (source_of mh mv (ceiling (width * s) 8) (ceiling (height * s) 8))
     (map (scaled_component s width height mh mv) xs)) _ sources one.2 in
     search (rules, ok-same, reaches-one, reaches-all s width height mh mv xs others.0 ss w h a b range.1 others.1)
 
 pub factors-scaled : (s width height h v : ℕ) (xs : List Factors)
-    → all_factors (map (scaled_component s width height h v) xs) ≡ xs
+    → map (λ c. c.factors) (map (scaled_component s width height h v) xs) ≡ xs
 factors-scaled s width height h v [] = refl
 factors-scaled s width height h v (x ∷ xs) = ap (λ (l : List Factors). x ∷ l) (factors-scaled s width height h v xs)
 

@@ -1,9 +1,10 @@
 -- A frame with a way to upsample each component has one at each scale.
 use Rattle.std.proofs.Common.{rules, ◌≡◌, ℕ, ◌*◌, ◌<◌, ◌≤◌, List, [], ◌∷◌, map, Ok, sym, subst, arith}
 use Rattle.std.specs.List.{AllByRecursion}
+use Rattle.jpeg_segments.specs.Checks.{gathered}
 use Rattle.jpeg_segments.specs.Frame.{Factors, Frame, ceiling}
 use Rattle.jpeg_segments.specs.Scales.{frame_at}
-use Rattle.jpeg_pixels.specs.Pictures.{Source, sources_by, sources_of}
+use Rattle.jpeg_pixels.specs.Pictures.{Source, source_of, sources_of}
 use Rattle.jpeg_pixels.proofs.RuleRatios.{some-ceiling}
 use Rattle.jpeg_streams.proofs.FrameShapes.{Plain, made-at, plain-size, ceiling-covers, ceiling-least}
 use Rattle.jpeg_streams.proofs.ScaledSizes.{scaled_component, most_h, most_v, is-sized, factors-scaled}
@@ -36,8 +37,8 @@ frame-sources f s sources o a b e =
     let at8 : sources_of (map (scaled_component 8 o.width o.height (most_h o.factors) (most_v o.factors)) o.factors)
     (ceiling (o.width * 8) 8) (ceiling (o.height * 8) 8) ≡ Ok sources
     = search rules in
-    let by8 = subst (λ (l : List Factors). sources_by (most_h l) (most_v l) (ceiling (o.width * 8) 8)
-    (ceiling (o.height * 8) 8)
+    let by8 = subst (λ (l : List Factors). gathered (source_of (most_h l) (most_v l) (ceiling (o.width * 8) 8)
+    (ceiling (o.height * 8) 8))
     (map (scaled_component 8 o.width o.height (most_h o.factors) (most_v o.factors)) o.factors) ≡ Ok sources)
     (factors-scaled 8 o.width o.height (most_h o.factors) (most_v o.factors) o.factors) at8 in
     let others = sources-some (most_h o.factors) (most_v o.factors) (ceiling (o.width * s) 8) (ceiling
@@ -47,8 +48,8 @@ frame-sources f s sources o a b e =
     (λ k. one-wide o.width s a b k o.some_width) (λ k. one-wide o.height s a b k o.some_height)
     (sources-back (most_h o.factors) (most_v o.factors) (ceiling (o.width * 8) 8) (ceiling (o.height * 8) 8) (map
     (scaled_component 8 o.width o.height (most_h o.factors) (most_v o.factors)) o.factors) sources by8)) in
-    let back = subst (λ (l : List Factors). sources_by (most_h l) (most_v l) (ceiling (o.width * s) 8)
-    (ceiling (o.height * s) 8)
+    let back = subst (λ (l : List Factors). gathered (source_of (most_h l) (most_v l) (ceiling (o.width * s) 8)
+    (ceiling (o.height * s) 8))
     (map (scaled_component s o.width o.height (most_h o.factors) (most_v o.factors)) o.factors) ≡ Ok others.0)
     (sym (factors-scaled s o.width o.height (most_h o.factors) (most_v o.factors) o.factors)) others.1 in
     grind arith

@@ -1,14 +1,16 @@
 -- Components whose factors can be upsampled have a way to upsample them, and no others.
 use Rattle.std.proofs.Common.{rules, ◌≡◌, ◌⊎◌, inl, inr, ℕ, ◌%◌, ◌||◌, Bool, true, false, List, []}
-use Rattle.std.proofs.Common.{◌∷◌, Option, Some, None, Ok, refl, sym, ap, if◌then◌else◌, true≢false}
+use Rattle.std.proofs.Common.{◌∷◌, Option, Some, None, Ok, refl, sym, if◌then◌else◌, true≢false}
 use Rattle.std.proofs.lemmas.Bool.{eqb-true, eq-eqb, and_from as and-true, or_left}
 use Rattle.std.specs.List.{AllByRecursion}
+use Rattle.jpeg_segments.specs.Checks.{gathered}
 use Rattle.jpeg_segments.specs.Frame.{Component, Factors}
 use Rattle.jpeg_pixels.specs.declared.upsampler.UpsampleRule.{UpsampleRule}
 use Rattle.jpeg_pixels.specs.declared.upsampler.UpsampleRule.TheVariants.{H1V1, H2V1, H1V2, H2V2}
-use Rattle.jpeg_pixels.specs.Pictures.{Source, source_by, source_of, sources_by}
+use Rattle.jpeg_pixels.specs.Pictures.{Source, source_of}
 use Rattle.jpeg_pixels.specs.Upsampling.{rule_of}
 use Rattle.jpeg_streams.specs.AcceptedFrames.{IsNear}
+use Rattle.jpeg_pixels.proofs.SourceLists.{source_by}
 use Rattle.jpeg_streams.proofs.ReadTurns.{bind-ok, err-ok, then-ok}
 
 -- ---- a rule by its tests
@@ -41,15 +43,15 @@ rule-some most_h most_v width height c u = search (rules, pick-some, or_left, an
 
 pub sources-some : (most_h most_v width height : ℕ) (cs : List Component)
     → AllByRecursion (λ c. Upsampled most_h most_v width height c.factors) cs
-    → (sources : List Source) × (sources_by most_h most_v width height cs ≡ Ok sources)
-unfolding sources_by
+    → (sources : List Source) × (gathered (source_of most_h most_v width height) cs ≡ Ok sources)
+unfolding gathered
 sources-some most_h most_v width height [] u = ([], refl)
 sources-some most_h most_v width height (c ∷ cs) u =
     let r = rule-some most_h most_v width height c.factors u.0 in
     let others = sources-some most_h most_v width height cs u.1 in (
       _,
-      then-ok (source_of most_h most_v width height c) _ _ _ (ap (source_by c) r.1)
-          (then-ok (sources_by most_h most_v width height cs) _ others.0 _ others.1 refl),
+      then-ok (source_of most_h most_v width height c) _ (source_by c r.0) _ (rw r.1 refl)
+          (then-ok (gathered (source_of most_h most_v width height) cs) _ others.0 _ others.1 refl),
     )
 
 -- ---- and back
@@ -60,9 +62,9 @@ either true b e = inl refl
 either false b e = inr e
 
 pub sources-back : (most_h most_v width height : ℕ) (cs : List Component) (sources : List Source)
-    → sources_by most_h most_v width height cs ≡ Ok sources
+    → gathered (source_of most_h most_v width height) cs ≡ Ok sources
     → AllByRecursion (λ c. Upsampled most_h most_v width height c.factors) cs
-unfolding sources_by rule_of
+unfolding gathered rule_of
 sources-back most_h most_v width height [] sources e = tt
 sources-back most_h most_v width height (c ∷ cs) sources e =
     search (rules, bind-ok, eqb-true, err-ok, sources-back most_h most_v width height cs)

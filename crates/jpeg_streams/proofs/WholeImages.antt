@@ -3,7 +3,8 @@ use Rattle.std.proofs.Common.{rules, ◌≡◌, ℕ, suc, ◌+◌, ◌/◌, ◌^
 use Rattle.std.proofs.Common.{negsuc, neg_ℤ, ◌*ℤ◌, Option, Some, refl, ap, arith}
 use Rattle.std.proofs.lemmas.Grind.{common_steps}
 use Rattle.std.proofs.lemmas.Int.{ints}
-use Rattle.std.specs.List.{AllByRecursion, range_with_len}
+use Rattle.std.specs.List.{AllByRecursion, enumerate_from, range_with_len}
+use Rattle.jpeg_segments.specs.Checks.{gathered}
 use Rattle.jpeg_segments.specs.Frame.{Frame, Component}
 use Rattle.jpeg_streams.specs.declared.settings.Settings.{Settings}
 use Rattle.jpeg_bits.specs.Passes.{Block}
@@ -17,9 +18,13 @@ use Rattle.jpeg_streams.specs.Stream.{sized_to}
 use Rattle.jpeg_streams.specs.ScanSegments.{is_progressive}
 use Rattle.jpeg_streams.specs.Found.{Found}
 use Rattle.jpeg_streams.specs.WrittenScans.{Coefficients, IsComplete}
-use Rattle.jpeg_streams.specs.ArrayPictures.{as_sent, plane_of_blocks, planes_of_blocks, picture_of_blocks}
+use Rattle.jpeg_streams.specs.ArrayPictures.{as_sent, picture_of_blocks}
 use Rattle.jpeg_streams.specs.ArrayPictures.{picture_of_array, meaning_of_array}
+use Rattle.jpeg_streams.specs.FoundPictures.{picture_by}
+use Rattle.jpeg_streams.specs.Rasters.{plane_of_blocks}
+use Rattle.jpeg_bits.specs.Reading.{◌>>=◌}
 use Rattle.jpeg_streams.proofs.BroughtLevels.{after-length}
+use Rattle.jpeg_streams.proofs.LimitedPictures.{array_plane, limited-same}
 use Rattle.jpeg_streams.specs.WrittenImages.{Writes, closed, segment, scan, WritesImage}
 use Rattle.jpeg_streams.specs.WholeImages.{whole_meaning, AllComplete}
 use Rattle.jpeg_streams.proofs.ReadTurns.{same-frame}
@@ -63,8 +68,9 @@ planes-whole : (said : Found) (array : Coefficients) (levels : ℕ → Levels) (
     Component)
     → AllByRecursion (λ k. IsComplete (levels k)) (range_with_len index (length cs))
     → ((k row column : ℕ) → length (array k row column).acs ≡ length (levels k).acs)
-    → planes_of_blocks said (as_sent array levels) index cs ≡ planes_of_blocks said array index cs
-unfolding planes_of_blocks plane_of_blocks
+    → gathered (array_plane said (as_sent array levels)) (enumerate_from index cs)
+    ≡ gathered (array_plane said array) (enumerate_from index cs)
+unfolding gathered plane_of_blocks
 planes-whole said array levels index [] done h = refl
 planes-whole said array levels index (c ∷ cs) done h =
     search (
@@ -81,7 +87,10 @@ picture-whole : (settings : Settings) (said : Found) (array : Coefficients) (lev
     → ((k row column : ℕ) → length (array k row column).acs ≡ length (levels k).acs)
     → picture_of_array settings said array levels ≡ picture_of_blocks settings said array
 unfolding picture_of_blocks
-picture-whole settings said array levels frame e done h = search (rules, planes-whole)
+picture-whole settings said array levels frame e done h =
+    limited-same settings said said frame frame _ _ e e refl
+    (ap (λ o. o >>= (λ planes. picture_by settings said.metadata frame frame.components planes))
+    (planes-whole said array levels 0 frame.components done h))
 
 -- ---- the levels of a stream
 

@@ -1,19 +1,18 @@
 -- Fronts of streams, and streams that mean one picture.
-use Rattle.std.proofs.Common.{rules, ◌≡◌, ℕ, ◌+◌, ◌*◌, Bool, true, false, cond, List, [], ◌∷◌, ◌++◌}
-use Rattle.std.proofs.Common.{map, length, nat_lt, Some, None, Result, Ok, Err, refl, sym, ap, ◌∙◌}
-use Rattle.std.proofs.Common.{◌/◌, ◌%◌}
+use Rattle.std.proofs.Common.{rules, ◌≡◌, ℕ, ◌+◌, Bool, true, false, List, [], ◌∷◌, ◌++◌, map, Some}
+use Rattle.std.proofs.Common.{None, Result, Ok, Err, refl, sym, ap, ◌∙◌, ◌/◌, ◌%◌}
 use Rattle.std.proofs.Common.{subst, true≢false}
-use Rattle.std.specs.List.{AllByRecursion}
+use Rattle.std.specs.List.{AllByRecursion, enumerate_from}
 use Rattle.std.specs.Prelude.{slice_get, slice_index_or}
-use Rattle.jpeg_bits.specs.Reading.{Fault, Malformed, ◌>>=◌}
+use Rattle.jpeg_bits.specs.Reading.{Fault, ◌>>=◌}
 use Rattle.jpeg_segments.specs.Frame.{Component, Frame}
 use Rattle.jpeg_segments.specs.ScanHeaders.{scan_payload, scan_written}
 use Rattle.jpeg_segments.specs.WrittenSegments.{marker_code, payload_of, with_length}
-use Rattle.jpeg_streams.specs.ArrayPictures.{picture_of_array, picture_of_blocks, planes_of_blocks}
+use Rattle.jpeg_streams.specs.ArrayPictures.{picture_of_array, picture_of_blocks}
 use Rattle.jpeg_streams.specs.declared.settings.Settings.{Settings}
 use Rattle.jpeg_streams.specs.Levels.{Is8Bit, Levels, nothing_sent}
 use Rattle.jpeg_streams.specs.SaidSegments.{found_after}
-use Rattle.jpeg_segments.specs.Checks.{needed}
+use Rattle.jpeg_segments.specs.Checks.{gathered}
 use Rattle.jpeg_streams.specs.ScanSegments.{Coding, is_progressive, pass_of}
 use Rattle.jpeg_streams.specs.Found.{nothing_found, Found}
 use Rattle.jpeg_streams.specs.Stream.{Told, told_of}
@@ -23,8 +22,10 @@ use Rattle.jpeg_streams.specs.WrittenImages.{closed, scan as then_scan, segment 
 use Rattle.jpeg_streams.specs.WrittenParts.{AgreeOnOwn, HaveSamePicture, nothing, picture_meant_by, scan, segment}
 use Rattle.jpeg_streams.specs.WrittenParts.{WritesFront}
 use Rattle.jpeg_streams.specs.WrittenScans.{Coefficients, HasTable, levels_after}
-use Rattle.jpeg_streams.proofs.Apart.{at-all, got-at}
-use Rattle.jpeg_streams.proofs.ReadTurns.{codings-each, frame-kept, same-frame, scan-tail, segment-tail, then-ok}
+use Rattle.jpeg_streams.proofs.Apart.{at-all, get-at}
+use Rattle.jpeg_streams.proofs.ReadTurns.{codings-each, frame-kept, same-frame, scan-tail}
+use Rattle.jpeg_streams.proofs.ReadTurns.{segment-tail}
+use Rattle.jpeg_streams.proofs.LimitedPictures.{array_plane, limited-same}
 use Rattle.jpeg_streams.proofs.WholeImages.{whole-is}
 use Rattle.jpeg_streams.proofs.WrittenPictures.{stream-means}
 use Rattle.jpeg_bits.proofs.BandSteps.{bind_same}
@@ -69,7 +70,7 @@ front-closed array front said levels frame f framed progressive tables = record 
 abbrev all_of : Told → List ℕ → List ℕ → Result ((Told × List ℕ) × List ℕ) Fault
 all_of told rest p = Ok ((told, p), rest)
 
-picture-alone : (o : Result (List ℕ) Fault) (told : Told) (rest : List ℕ)
+pub picture-alone : (o : Result (List ℕ) Fault) (told : Told) (rest : List ℕ)
     → ((o >>= all_of told rest) >>= (λ m. Ok m.0.1)) ≡ o
 picture-alone (Ok p) told rest = refl
 picture-alone (Err e) told rest = refl
@@ -79,8 +80,8 @@ picture-alone (Err e) told rest = refl
 same-planes : (a b : Found) (array : Coefficients) (index : ℕ) (cs : List Component)
     → AllByRecursion (λ c. slice_index_or a.quantization c.factors.quantization None
     ≡ slice_index_or b.quantization c.factors.quantization None) cs
-    → planes_of_blocks a array index cs ≡ planes_of_blocks b array index cs
-unfolding planes_of_blocks
+    → gathered (array_plane a array) (enumerate_from index cs) ≡ gathered (array_plane b array) (enumerate_from index cs)
+unfolding gathered
 same-planes a b array index [] h = refl
 same-planes a b array index (c ∷ cs) h = search (
   rules,
@@ -89,24 +90,12 @@ same-planes a b array index (c ∷ cs) h = search (
       1) cs h.1,
 )
 
--- the picture of an array in a frame
-picture_in_frame : Settings → Coefficients → Found → Frame → Result (List ℕ) Fault
-picture_in_frame settings array said f =
-    cond (nat_lt settings.limit (length f.components * (f.output_width * f.output_height))) (Err Malformed)
-    (planes_of_blocks said array 0 f.components >>=
-    (λ (planes : List (List ℕ)). picture_by settings said.metadata f f.components planes))
-
-framed-picture : (settings : Settings) (array : Coefficients) (said : Found) (f : Frame) → said.frame ≡ Some f
-    → picture_of_blocks settings said array ≡ picture_in_frame settings array said f
-unfolding picture_of_blocks picture_in_frame
-framed-picture settings array said f e = then-ok (needed said.frame) _ f _ (ap needed e) refl
-
 pub same-picture : (settings : Settings) (array : Coefficients) (a b : Found) → HaveSamePicture a b
     → picture_of_blocks settings a array ≡ picture_of_blocks settings b array
-unfolding picture_in_frame picture_by
+unfolding picture_of_blocks picture_by
 same-picture settings array a b h =
-    framed-picture settings array a h.frame_a h.is_a ∙ (search (rules, bind_same, same-planes))
-    ∙ sym (framed-picture settings array b h.frame_b h.is_b)
+    limited-same settings a b h.frame_a h.frame_b _ _ h.is_a h.is_b (search rules)
+    (search (rules, bind_same, same-planes))
 
 whole-picture : (settings : Settings) (array : Coefficients) (bytes rest : List ℕ) (final : Found) (last : ℕ → Levels)
     (frame : Frame)
@@ -159,7 +148,7 @@ also-writes a b said final levels last scanned bytes frame
       in_range = written.in_range;
       is_own = λ s k got own. written.is_own s k got own
           ∙ alike k.index (s.index / k.component.blocks_wide) (s.index % k.component.blocks_wide) k.component
-          (at-all Here s.slot codings k here (got-at s.slot codings k got)) own.row own.column;
+          (at-all Here s.slot codings k here (get-at s.slot codings k got)) own.row own.column;
       coded = written.coded;
     })
     (also-writes a b said final levels_1 last true more frame w e agree)

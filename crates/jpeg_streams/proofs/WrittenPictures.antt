@@ -1,14 +1,15 @@
 -- The picture of a written stream is that of its array, cut at the levels that were sent.
 use Rattle.std.proofs.Common.{rules, ◌≡◌, ◌&&◌, Bool, true, false, List, Some, None, Result, refl, subst, arith}
-use Rattle.std.proofs.Common.{ℕ, nat_lt, length, get_or, slice_index, slice_index_or, is_some, Option, true≢false, if◌then◌else◌}
-use Rattle.std.proofs.Common.{suc, ◌+◌, ◌*◌, ◌/◌, ◌%◌, ◌<◌, ◌≤◌, [], ◌∷◌, map, ℤ, ◌≢◌, Ok, Err, sym, ap, ap₂, ◌∙◌, ◌++◌}
+use Rattle.std.proofs.Common.{ℕ, length, get_or, slice_index, slice_index_or, is_some, Option}
+use Rattle.std.proofs.Common.{true≢false, suc, ◌+◌, ◌*◌, ◌/◌, ◌%◌, ◌<◌, ◌≤◌, [], ◌∷◌, map, ℤ, ◌≢◌}
+use Rattle.std.proofs.Common.{Ok, sym, ap, ap₂, ◌∙◌, ◌++◌}
 use Rattle.std.proofs.lemmas.Grind.{common_steps}
 use Rattle.std.proofs.Math.Nat.{div-lt_iff_lt-mul, mul_comm, div-mul-le_self}
 use Rattle.std.proofs.lemmas.Nat.{div-mul-add, mod-mul-add}
-use Rattle.std.proofs.lemmas.Bool.{eq-eqb, le-ltb}
+use Rattle.std.proofs.lemmas.Bool.{eq-eqb}
 use Rattle.std.proofs.lemmas.List.FromFn.{get_or-map-range_with_len, length-map-range_with_len}
-use Rattle.std.specs.List.{AllByRecursion, range_with_len, list_all}
-use Rattle.jpeg_bits.specs.Reading.{Fault, Malformed, ◌>>=◌}
+use Rattle.std.specs.List.{AllByRecursion, enumerate_from, range_with_len, list_all}
+use Rattle.jpeg_bits.specs.Reading.{Fault, ◌>>=◌}
 use Rattle.jpeg_bits.specs.declared.color_transform.ColorTransform.{ColorTransform}
 use Rattle.jpeg_pixels.specs.Colour.{conversion_of}
 use Rattle.jpeg_pixels.specs.declared.upsampler.ColorConvert.{ColorConvert}
@@ -22,11 +23,13 @@ use Rattle.jpeg_streams.specs.Order.{grid_of}
 use Rattle.jpeg_streams.specs.Scans.{Arrays}
 use Rattle.jpeg_pixels.specs.Scaled.{sample_at}
 use Rattle.jpeg_pixels.specs.Planes.{plane_sample, plane_of}
-use Rattle.jpeg_segments.specs.Checks.{needed}
-use Rattle.jpeg_streams.specs.FoundPictures.{planes_from, plane_at_end, picture_of, blocks_picture}
+use Rattle.jpeg_segments.specs.Checks.{gathered, needed}
+use Rattle.jpeg_streams.specs.FoundPictures.{plane_at_end, picture_of, picture_by_process, blocks_picture}
 use Rattle.jpeg_streams.specs.FoundPictures.{picture_by, picture_in}
-use Rattle.jpeg_streams.specs.ScanSegments.{plane_by, is_progressive}
+use Rattle.jpeg_streams.specs.Rasters.{plane_by, plane_of_blocks}
+use Rattle.jpeg_streams.specs.ScanSegments.{is_progressive}
 use Rattle.jpeg_streams.specs.Found.{Found, Metadata, nothing_found}
+use Rattle.jpeg_segments.specs.declared.parser.CodingProcess.{CodingProcess}
 use Rattle.jpeg_segments.specs.declared.parser.CodingProcess.TheVariants.{Lossless}
 use Rattle.jpeg_streams.specs.Stream.{rest_at, meaning, start_at, segments_at, told_of, walk}
 use Rattle.jpeg_streams.specs.declared.before.Before.TheVariants.{Elsewhere}
@@ -34,7 +37,6 @@ use Rattle.jpeg_streams.specs.Levels.{Levels, Is8Bit, cut}
 use Rattle.jpeg_streams.proofs.FinishedIndices.{is_level_0}
 use Rattle.jpeg_streams.specs.WrittenScans.{Coefficients, HasTable, IsComplete}
 use Rattle.jpeg_streams.specs.ArrayPictures.{HasTransform, IsTransformOf, TakesPicture}
-use Rattle.jpeg_streams.specs.ArrayPictures.{plane_of_blocks, planes_of_blocks}
 use Rattle.jpeg_streams.specs.ArrayPictures.{as_sent, picture_of_blocks}
 use Rattle.jpeg_streams.specs.ArrayPictures.{picture_of_array}
 use Rattle.jpeg_streams.specs.WrittenImages.{WritesImage}
@@ -44,6 +46,7 @@ use Rattle.jpeg_streams.proofs.Apart.{at-all}
 use Rattle.jpeg_streams.proofs.ReadStates.{reading, is_whole}
 use Rattle.jpeg_streams.proofs.BroughtLevels.{Made, Shaped, kept-arrays}
 use Rattle.jpeg_streams.proofs.ReadTurns.{segments-walked, then-ok}
+use Rattle.jpeg_streams.proofs.LimitedPictures.{array_plane, limited-ok, limited-same}
 use Rattle.jpeg_streams.proofs.FrameShapes.{below-ceiling, accepted-sources}
 use Rattle.jpeg_streams.proofs.ReadStreams.{Ended, scans-read, stream-read}
 use Rattle.jpeg_streams.proofs.InsidePictures.{SamePlane, AllAlike, image-same, cropped-same}
@@ -125,21 +128,21 @@ pub record PlaneAtEnd (found : Found) (f : Frame) (array : Coefficients) (l : Le
   pub is_table : slice_index_or found.quantization c.factors.quantization None ≡ Some table
   pub blocks : List Block
   pub holds : HoldsOwn (grid_of c) (array k) l blocks
-  pub is : plane_at_end found f k c ≡ Ok (plane_by c table blocks)
+  pub is : plane_at_end found f (k, c) ≡ Ok (plane_by c table blocks)
 
 some-there : {A : Type 0} (o : Option A) → is_some o ≡ true → (x : A) × (o ≡ Some x)
 some-there None e = absurd (true≢false (sym e))
 some-there (Some x) e = (x, refl)
 
 end-decided : (found : Found) (f : Frame) (k : ℕ) (c : Component) (plane : List ℕ)
-    → slice_index_or found.planes k None ≡ Some plane → plane_at_end found f k c ≡ Ok plane
+    → slice_index_or found.planes k None ≡ Some plane → plane_at_end found f (k, c) ≡ Ok plane
 unfolding plane_at_end
 end-decided found f k c plane e = rw (e, plane_at_end) refl
 
 end-kept : (found : Found) (f : Frame) (k : ℕ) (c : Component) (table : List ℕ)
     → slice_index_or found.planes k None ≡ None → is_progressive f.process ≡ true → found.scanned ≡ true
     → slice_index_or found.quantization c.factors.quantization None ≡ Some table
-    → plane_at_end found f k c ≡ Ok (plane_by c table (get_or found.kept k []))
+    → plane_at_end found f (k, c) ≡ Ok (plane_by c table (get_or found.kept k []))
 unfolding plane_at_end
 end-kept found f k c table n p s t = search (rules, then-ok)
 
@@ -183,15 +186,15 @@ module _ (f : Frame) (array : Coefficients) (final : Found) (last : ℕ → Leve
   record BothPlanes (index : ℕ) (components : List Component) : Type 0 where
     ours : List (List ℕ)
     theirs : List (List ℕ)
-    ours_are : planes_from found f index components ≡ Ok ours
-    theirs_are : planes_of_blocks final (as_sent array last) index components ≡ Ok theirs
+    ours_are : gathered (plane_at_end found f) (enumerate_from index components) ≡ Ok ours
+    theirs_are : gathered (array_plane final (as_sent array last)) (enumerate_from index components) ≡ Ok theirs
     alike : AllAlike components ours theirs
 
   planes-end : (scaled : (k : ℕ) (c : Component) → At k f.components c → 0 < c.scale) (index : ℕ)
       (components : List Component)
       → ((j : ℕ) (c : Component) → At j components c → At (index + j) f.components c) → BothPlanes
       index components
-  unfolding planes_from planes_of_blocks
+  unfolding gathered
   planes-end scaled index [] within = record {
     ours = [];
     theirs = [];
@@ -211,18 +214,24 @@ module _ (f : Frame) (array : Coefficients) (final : Found) (last : ℕ → Leve
       record {
         ours = plane_by c e.table e.blocks ∷ others.ours;
         theirs = plane_of_blocks c e.table (as_sent array last index) ∷ others.theirs;
-        ours_are = then-ok (plane_at_end found f index c) _ (plane_by c e.table e.blocks) _ e.is
-            (then-ok (planes_from found f (index + 1) more) _ others.ours _ others.ours_are refl);
-        theirs_are = then-ok (needed (slice_index_or final.quantization c.factors.quantization None)) _ e.table _
-            (ap needed e.is_table)
-            (then-ok (planes_of_blocks final (as_sent array last) (index + 1) more) _ others.theirs
-            _ others.theirs_are refl);
+        ours_are = then-ok (plane_at_end found f (index, c)) _ (plane_by c e.table e.blocks) _ e.is
+            (then-ok (gathered (plane_at_end found f) (enumerate_from (index + 1) more)) _ others.ours _
+            others.ours_are refl);
+        theirs_are = then-ok (array_plane final (as_sent array last) (index, c)) _
+            (plane_of_blocks c e.table (as_sent array last index)) _ (then-ok (needed _) _ e.table _
+            (ap needed e.is_table) refl)
+            (then-ok (gathered (array_plane final (as_sent array last)) (enumerate_from (index + 1) more)) _
+            others.theirs _ others.theirs_are refl);
         alike = (
           plane-same f c e.table (last index) (array index) e.blocks (scaled index c t)
               (shape.fits index c t) e.holds,
           others.alike,
         );
       }
+
+  both-planes : BothPlanes 0 f.components
+  both-planes = planes-end (scale-made f shape.made) 0 f.components
+      (λ j c t. let start : 0 + j ≡ j = omega arith in subst (λ (n : ℕ). At n f.components c) (sym start) t)
 
 -- ---- the picture
 
@@ -237,36 +246,25 @@ picture-by-same settings m f components ps qs e made alike = search (rules, imag
 
 -- ---- the meaning
 
-found-picture : (settings : Settings) (found : Found) (f : Frame) (planes : List (List ℕ)) → f.process ≢ Lossless
-    → found.frame ≡ Some f → planes_from found f 0 f.components ≡ Ok planes
-    → picture_of settings found
-    ≡ (if nat_lt settings.limit
-    (length f.components * (f.output_width * f.output_height)) then Err Malformed else picture_by settings
-    found.metadata f f.components planes)
-unfolding picture_of blocks_picture
-found-picture settings found f planes n e p = search (rules, then-ok)
-
-blocks-picture : (settings : Settings) (w : Found) (blocks : Coefficients) (f : Frame) (planes : List (List ℕ))
-    → w.frame ≡ Some f → planes_of_blocks w blocks 0 f.components ≡ Ok planes
-    → picture_of_blocks settings w blocks
-    ≡ (if nat_lt settings.limit
-    (length f.components * (f.output_width * f.output_height)) then Err Malformed else picture_by settings w.metadata
-    f f.components planes)
-unfolding picture_of_blocks
-blocks-picture settings w blocks f planes e p = search (rules, then-ok)
+lossy-picture : (settings : Settings) (all : Found) (f : Frame) (p : CodingProcess) → p ≢ Lossless
+    → picture_by_process p settings all f ≡ blocks_picture settings all f
+lossy-picture settings all f Lossless n = absurd (n refl)
+lossy-picture settings all f p n = refl
 
 pub pictures-same : (settings : Settings) (f : Frame) (array : Coefficients) (final : Found) (last : ℕ → Levels)
     → Shaped f → (end : Ended f array final last)
     → picture_of settings (reading final true end.kept end.finished end.planes)
     ≡ picture_of_array settings final array last
+unfolding picture_of picture_of_blocks blocks_picture
 pictures-same settings f array final last shape end =
-    let b = planes-end f array final last shape end (scale-made f shape.made) 0 f.components
-    (λ j c t. let start : 0 + j ≡ j = omega arith in subst (λ (n : ℕ). At n f.components c) (sym start) t) in
-    found-picture settings (reading final true end.kept end.finished end.planes) f b.ours
-    shape.lossy end.frame_is
-    b.ours_are
-    ∙ (search (rules, picture-by-same))
-    ∙ sym (blocks-picture settings final (as_sent array last) f b.theirs end.frame_is b.theirs_are)
+    let all = reading final true end.kept end.finished end.planes in
+    let b = both-planes f array final last shape end in
+    limited-same settings all final f f _ _ end.frame_is end.frame_is refl
+    (lossy-picture settings all f f.process shape.lossy
+    ∙ then-ok (gathered (plane_at_end all f) (enumerate_from 0 f.components)) _ b.ours _ b.ours_are
+    (picture-by-same settings final.metadata f f.components b.ours b.theirs refl shape.made b.alike)
+    ∙ sym (then-ok (gathered (array_plane final (as_sent array last)) (enumerate_from 0 f.components)) _ b.theirs _
+    b.theirs_are refl))
 
 pub rest-by : (settings : Settings) (found all : Found) (bytes rest : List ℕ)
     → walk (suc (length bytes)) false Elsewhere found None bytes ≡ (all, Ok rest)
@@ -324,18 +322,18 @@ pub pictures-taken : (settings : Settings) (array : Coefficients) (final : Found
     → sources_of f.components f.output_width f.output_height ≡ Ok sources → TakesPicture settings
     final
     → (picture : List ℕ) × (picture_of_array settings final array last ≡ Ok picture)
+unfolding picture_of_blocks
 pictures-taken settings array final last f sources shape end is takes =
     let same : takes.frame ≡ f = cc in
-    let b = planes-end f array final last shape end (scale-made f shape.made) 0 f.components
-    (λ j c t. let start : 0 + j ≡ j = omega arith in subst (λ (n : ℕ). At n f.components c) (sym start) t) in
+    let b = both-planes f array final last shape end in
     let limit = subst (λ (g : Frame). length g.components * (g.output_width * g.output_height) ≤ settings.limit) same
     takes.limit in
     let picture = picture-there settings final f f.components b.ours b.theirs sources
     (subst (λ (g : Frame). HasTransform settings final g.components) same takes.transform) is b.alike in (
       picture.0,
-      blocks-picture settings final (as_sent array last) f b.theirs end.frame_is b.theirs_are
-          ∙ (rw (le-ltb settings.limit (length f.components * (f.output_width * f.output_height)) limit) refl)
-          ∙ picture.1,
+      limited-ok settings final f _ picture.0 end.frame_is limit
+          (then-ok (gathered (array_plane final (as_sent array last)) (enumerate_from 0 f.components)) _ b.theirs _
+          b.theirs_are picture.1),
     )
 
 -- A written stream whose picture is taken means that picture.

@@ -1,48 +1,30 @@
 -- The picture of the coefficients of an image, as far as their bits were sent (T.81, A.3.3, G.1).
-use Rattle.std.specs.Prelude.{◌≡◌, ℕ, ◌+◌, ◌*◌, ◌≤◌, List, [], ◌∷◌, length, slice_index_or}
-use Rattle.std.specs.Prelude.{Some, None, Result, Ok, Err, nat_lt, if◌then◌else◌}
-use Rattle.jpeg_bits.specs.Passes.{Block, listed}
-use Rattle.jpeg_bits.specs.Reading.{Outcome, Fault, Malformed, ◌>>=◌}
+use Rattle.std.specs.Prelude.{◌≡◌, ℕ, ◌*◌, ◌≤◌, List, [], ◌∷◌, length, slice_index_or}
+use Rattle.std.specs.Prelude.{Some, None, Result, Ok}
+use Rattle.std.specs.List.{enumerate_from}
+use Rattle.jpeg_bits.specs.Reading.{Outcome, Fault, ◌>>=◌}
 use Rattle.jpeg_bits.specs.declared.color_transform.ColorTransform.{ColorTransform}
 use Rattle.jpeg_bits.specs.declared.color_transform.ColorTransform.TheVariants as transforms
 use Rattle.jpeg_segments.specs.Frame.{Component, Frame}
-use Rattle.jpeg_pixels.specs.Planes.{plane_of}
-use Rattle.jpeg_bits.specs.Zigzag.{coefficients_in_block_order, values_in_block_order}
 use Rattle.jpeg_streams.specs.ColourChoice.{identifiers_of, transform_of}
 use Rattle.jpeg_streams.specs.declared.settings.Settings.{Settings}
 use Rattle.jpeg_streams.specs.Levels.{Levels, cut}
-use Rattle.jpeg_segments.specs.Checks.{needed}
+use Rattle.jpeg_segments.specs.Checks.{needed, gathered}
 use Rattle.jpeg_streams.specs.Stream.{Told, told_of}
-use Rattle.jpeg_streams.specs.FoundPictures.{picture_by}
+use Rattle.jpeg_streams.specs.FoundPictures.{limited, picture_by}
+use Rattle.jpeg_streams.specs.Rasters.{plane_of_blocks}
 use Rattle.jpeg_streams.specs.Found.{Found}
 use Rattle.jpeg_streams.specs.WrittenScans.{Coefficients}
 
 -- ---- the picture
 
--- The plane of a component: each block is dequantized and transformed.
-unfoldable pub plane_of_blocks : Component → List ℕ → (ℕ → ℕ → Block) → List ℕ
-plane_of_blocks c table blocks =
-    plane_of c.scale (values_in_block_order table) c.blocks_wide c.blocks_high
-    (λ row column. coefficients_in_block_order (listed (blocks row column)))
-
--- the planes of some components, from an index in the frame on, by the tables that were said
-unfoldable pub planes_of_blocks :
-    Found → Coefficients → ℕ → List Component → Result (List (List ℕ)) Fault
-planes_of_blocks said blocks index [] = Ok []
-planes_of_blocks said blocks index (c ∷ more) =
-    needed (slice_index_or said.quantization c.factors.quantization None) >>= (λ table.
-    planes_of_blocks said blocks (index + 1) more >>= (λ others.
-    Ok (plane_of_blocks c table (blocks index) ∷ others)))
-
--- The picture of an image's blocks, where it is within the limit: that of their planes, by
--- upsampling and the conversion of colours.
+-- The picture of an image's blocks, where it is within the limit: that of their planes, by the
+-- tables that were said, by upsampling and the conversion of colours.
 unfoldable pub picture_of_blocks : Settings → Found → Coefficients → Result (List ℕ) Fault
-picture_of_blocks settings said blocks = do
-  f ← needed said.frame
-  if nat_lt settings.limit (length f.components * (f.output_width * f.output_height))
-      then Err Malformed else (do
-        planes ← planes_of_blocks said blocks 0 f.components
-        picture_by settings said.metadata f f.components planes)
+picture_of_blocks settings said blocks = limited settings said (λ frame.
+    gathered (λ c. needed (slice_index_or said.quantization c.1.factors.quantization None)
+    >>= (λ table. Ok (plane_of_blocks c.1 table (blocks c.0)))) (enumerate_from 0 frame.components)
+    >>= (λ planes. picture_by settings said.metadata frame frame.components planes))
 
 -- the blocks of an image, cut at the bits that were sent
 abbrev pub as_sent : Coefficients → (ℕ → Levels) → Coefficients

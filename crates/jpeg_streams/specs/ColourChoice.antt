@@ -1,6 +1,6 @@
 -- The colour transform of a frame of three or four components (JFIF, and Adobe's segment).
 use Rattle.std.specs.Prelude.{ℕ, ◌==◌, ◌&&◌, List, [], ◌∷◌, map, length, Bool, false, Option, Some}
-use Rattle.std.specs.Prelude.{None, if◌then◌else◌}
+use Rattle.std.specs.Prelude.{None, if◌then◌else◌, unwrap_or}
 use Rattle.jpeg_bits.specs.declared.color_transform.ColorTransform.{ColorTransform}
 use Rattle.jpeg_bits.specs.declared.color_transform.ColorTransform.TheVariants.{RGB, YCbCr, CMYK}
 use Rattle.jpeg_bits.specs.declared.color_transform.ColorTransform.TheVariants.{YCCK, JcsBgYcc}
@@ -33,15 +33,11 @@ by_adobe is_three (Some adobe.Unknown) = if is_three then RGB else CMYK
 by_adobe is_three (Some adobe.YCbCr) = YCbCr
 by_adobe is_three (Some adobe.YCCK) = YCCK
 
-abbrev pub or_else : Option ColorTransform → ColorTransform → ColorTransform
-or_else (Some transform) other = transform
-or_else None other = other
-
 -- What a caller sets goes first; then the identifiers of three components; then that JFIF was
 -- named, for three; then Adobe's segment.
 unfoldable pub transform_of : Option ColorTransform → List ℕ → Bool → Option AdobeColorTransform
     → ColorTransform
 transform_of set identifiers jfif adobe_transform =
     let is_three = length identifiers == 3 in
-    or_else set (or_else (by_identifiers identifiers) (if is_three && jfif then YCbCr
+    unwrap_or set (unwrap_or (by_identifiers identifiers) (if is_three && jfif then YCbCr
     else by_adobe is_three adobe_transform))

@@ -6,7 +6,8 @@ use Rattle.jpeg_bits.specs.Passes.{Block}
 use Rattle.jpeg_segments.specs.Frame.{Frame, Component}
 use Rattle.jpeg_streams.specs.Scans.{Arrays}
 use Rattle.jpeg_segments.specs.Checks.{needed}
-use Rattle.jpeg_streams.specs.ScanSegments.{plane_by, is_progressive}
+use Rattle.jpeg_streams.specs.Rasters.{plane_by}
+use Rattle.jpeg_streams.specs.ScanSegments.{is_progressive}
 use Rattle.jpeg_streams.specs.Found.{Found}
 
 -- the blocks at an index, where blocks are kept

@@ -1,14 +1,13 @@
 -- Scans of a lossless frame (T.81, A.2 and Annex H).
-use Rattle.std.specs.Prelude.{ℕ, ◌+◌, List, [], ◌∷◌, map, slice_get, slice_index_or, zip, Option}
-use Rattle.std.specs.Prelude.{Some, None, Result, Ok, slice_set, fold}
+use Rattle.std.specs.Prelude.{ℕ, List, [], ◌∷◌, map, slice_get, slice_index_or, zip, Option, Some}
+use Rattle.std.specs.Prelude.{None, Result, Ok, slice_set, fold}
 use Rattle.jpeg_bits.specs.Reading.{Fault, ◌>>=◌}
 use Rattle.jpeg_bits.specs.Codes.{Table}
 use Rattle.jpeg_bits.specs.declared.scan.Predictor.{Predictor}
-use Rattle.jpeg_segments.specs.Frame.{Frame, Component, ceiling}
+use Rattle.jpeg_segments.specs.Frame.{Frame, Component, ceiling, most_across, most_down}
 use Rattle.jpeg_lossless.specs.Prediction.{start_of}
 use Rattle.jpeg_lossless.specs.Differences.{Part}
 use Rattle.jpeg_lossless.specs.Scans.{Way}
-use Rattle.jpeg_lossless.specs.Pictures.{most_across, most_down}
 use Rattle.jpeg_segments.specs.Checks.{needed, gathered}
 
 -- ---- MCUs
@@ -22,11 +21,11 @@ pub record LosslessCoding : Type 0 where
 -- The MCUs of a scan, across and down: of a component alone, its samples.
 unfoldable pub mcus_across : Frame → List LosslessCoding → ℕ
 mcus_across frame (k ∷ []) = k.component.width
-mcus_across frame codings = ceiling frame.width (most_across frame)
+mcus_across frame codings = ceiling frame.width (most_across frame.components)
 
 unfoldable pub mcus_down : Frame → List LosslessCoding → ℕ
 mcus_down frame (k ∷ []) = k.component.height
-mcus_down frame codings = ceiling frame.height (most_down frame)
+mcus_down frame codings = ceiling frame.height (most_down frame.components)
 
 -- what an MCU has of a component: its factors, or one sample where it is alone
 abbrev pub part_of : ℕ → ℕ → LosslessCoding → Part
@@ -68,11 +67,8 @@ lossless_codings tables frame indices dc_destinations =
     gathered (λ s. lossless_coding tables frame s.0 s.1) (zip indices dc_destinations)
 
 -- the tables at some destinations
-unfoldable pub tables_in : List (Option Table) → List ℕ → Result (List Table) Fault
-tables_in tables [] = Ok []
-tables_in tables (d ∷ dc_destinations) =
-    needed (slice_index_or tables d None) >>= (λ table.
-    tables_in tables dc_destinations >>= (λ others. Ok (table ∷ others)))
+abbrev pub tables_in : List (Option Table) → List ℕ → Result (List Table) Fault
+tables_in tables = gathered (λ d. needed (slice_index_or tables d None))
 
 -- ---- samples
 
@@ -81,11 +77,3 @@ unfoldable pub with_samples :
     List ℕ → List (List ℕ) → List (Option (List ℕ)) → List (Option (List ℕ))
 with_samples indices planes samples =
     fold (λ samples x. slice_set samples x.0 (Some x.1)) samples (zip indices planes)
-
--- the samples at the indices of some components, from an index on, each of which has to be there
-unfoldable pub samples_from :
-    List (Option (List ℕ)) → ℕ → List Component → Result (List (List ℕ)) Fault
-samples_from samples index [] = Ok []
-samples_from samples index (c ∷ more) =
-    needed (slice_index_or samples index None) >>= (λ plane.
-    samples_from samples (index + 1) more >>= (λ others. Ok (plane ∷ others)))

@@ -1,8 +1,8 @@
 -- Scans of samples, and their picture, where all components have the same sampling factors.
 use Rattle.std.specs.Prelude.{◌≡◌, ℕ, List, length, map}
 use Rattle.std.specs.List.{AllByRecursion, concat, range_with_len}
-use Rattle.jpeg_segments.specs.Frame.{Frame}
-use Rattle.jpeg_lossless.specs.Pictures.{most_across, most_down, sample_bytes}
+use Rattle.jpeg_segments.specs.Frame.{Frame, most_across, most_down}
+use Rattle.jpeg_lossless.specs.Pictures.{sample_bytes}
 use Rattle.jpeg_lossless.specs.Positions.{at_position}
 use Rattle.jpeg_lossless.specs.Prediction.{start_of}
 use Rattle.jpeg_lossless.specs.Scans.{Way}
@@ -14,7 +14,7 @@ use Rattle.jpeg_streams.specs.WrittenLossless.{Samples}
 abbrev pub HasEqualFactors : Frame → Type 0
 HasEqualFactors frame =
     AllByRecursion
-    (λ c. (c.factors.horizontal ≡ most_across frame) × (c.factors.vertical ≡ most_down frame))
+    (λ c. (c.factors.horizontal ≡ most_across frame.components) × (c.factors.vertical ≡ most_down frame.components))
     frame.components
 
 -- The bytes of a pixel: of each component the sample in its column and line.

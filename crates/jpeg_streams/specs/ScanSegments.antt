@@ -16,15 +16,12 @@ use Rattle.jpeg_bits.specs.declared.codes.HuffmanTableClass.TheVariants as class
 use Rattle.jpeg_bits.specs.declared.marker.Marker.{Marker}
 use Rattle.jpeg_bits.specs.declared.marker.Marker.TheVariants.{RST}
 use Rattle.jpeg_segments.specs.declared.parser.CodingProcess.{CodingProcess}
-use Rattle.jpeg_segments.specs.declared.parser.CodingProcess.TheVariants.{DctSequential}
 use Rattle.jpeg_segments.specs.declared.parser.CodingProcess.TheVariants.{DctProgressive, Lossless}
 use Rattle.jpeg_segments.specs.Frame.{Frame, Component}
 use Rattle.jpeg_segments.specs.ScanHeader.{Scan, sos_at}
 use Rattle.jpeg_segments.specs.HuffmanTables.{Tables}
-use Rattle.jpeg_bits.specs.Zigzag.{values_in_block_order}
-use Rattle.jpeg_pixels.specs.Planes.{plane_of}
 use Rattle.jpeg_bits.specs.Passes.{Pass, Via, Block}
-use Rattle.jpeg_streams.specs.Rasters.{in_raster}
+use Rattle.jpeg_streams.specs.Rasters.{plane_by}
 use Rattle.jpeg_streams.specs.Order.{spots_of, mcu_size}
 use Rattle.jpeg_streams.specs.Scans.{Arrays, zero_arrays, no_table, arrays_at}
 use Rattle.jpeg_lossless.specs.Scans.{scan_at}
@@ -112,13 +109,6 @@ scan_arrays found frame scan codings bytes =
     (map (λ c. get_or (arrays_before found frame) c.index []) codings) bytes
 
 -- ---- after a scan
-
--- The samples of a component by its quantization table in zigzag order and its blocks, those of all
--- MCUs in raster order.
-unfoldable pub plane_by : Component → List ℕ → List Block → List ℕ
-plane_by c quantization blocks =
-    plane_of c.scale (values_in_block_order quantization) c.blocks_wide c.blocks_high
-    (in_raster c.blocks_wide blocks)
 
 -- A pass at level 0 finishes its indices.
 unfoldable pub finished_by : Pass → List Bool → List Bool

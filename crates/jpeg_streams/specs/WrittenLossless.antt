@@ -1,10 +1,10 @@
 -- Lossless streams as a writer emits them for samples (T.81, B.2.1 and Annex H). Nothing here
 -- reads bytes.
-use Rattle.std.specs.Prelude.{◌≡◌, true, ℕ, suc, ◌+◌, ◌*◌, ◌/◌, ◌≤◌, List, [], ◌∷◌, ◌++◌, length}
-use Rattle.std.specs.Prelude.{map, Ok, Some, take}
-use Rattle.std.specs.List.{AllByRecursion, concat, range_with_len}
+use Rattle.std.specs.Prelude.{◌≡◌, ℕ, suc, ◌*◌, ◌≤◌, List, [], ◌∷◌, ◌++◌, length}
+use Rattle.std.specs.Prelude.{map, Ok, Some, take, true}
+use Rattle.std.specs.List.{AllByRecursion, range_with_len}
 use Rattle.jpeg_segments.specs.declared.parser.CodingProcess.TheVariants.{Lossless}
-use Rattle.jpeg_segments.specs.Frame.{Component, Frame}
+use Rattle.jpeg_segments.specs.Frame.{Frame}
 use Rattle.jpeg_segments.specs.ScanHeader.{predictor_by}
 use Rattle.jpeg_segments.specs.ScanHeaders.{IsScan, ScanHeader, scan_payload, scan_written}
 use Rattle.jpeg_segments.specs.ScanHeaders.{selectors_in}
@@ -12,7 +12,7 @@ use Rattle.jpeg_segments.specs.WrittenSegments.{marker_code, Header}
 use Rattle.jpeg_segments.specs.WrittenSegments.{payload_of}
 use Rattle.jpeg_segments.specs.WrittenSegments.{Segment, with_length}
 use Rattle.jpeg_lossless.specs.Differences.{Part}
-use Rattle.jpeg_lossless.specs.Pictures.{most_across, most_down, sample_bytes}
+use Rattle.jpeg_lossless.specs.Pictures.{picture_by_samples}
 use Rattle.jpeg_lossless.specs.Positions.{at_position}
 use Rattle.jpeg_lossless.specs.Scans.{rows_of_interval}
 use Rattle.jpeg_lossless.specs.Written.{WritesIntervals}
@@ -110,24 +110,9 @@ pub record WritesSamples (samples : Samples) (bytes : List ℕ) (final : Found) 
 
 -- ---- its picture
 
--- The bytes of pixel (x, y): of each component, from an index on, the sample that its factors name.
-unfoldable pub pixel_from : Frame → Samples → ℕ → ℕ → ℕ → List Component → List ℕ
-pixel_from frame samples y x index [] = []
-pixel_from frame samples y x index (c ∷ more) =
-    sample_bytes frame.precision
-    (at_position (samples index) (x * c.factors.horizontal / most_across frame)
-    (y * c.factors.vertical / most_down frame))
-    ++ pixel_from frame samples y x (index + 1) more
-
-abbrev pub samples_line : Frame → Samples → ℕ → List ℕ
-samples_line frame samples y =
-    concat (map (λ x. pixel_from frame samples y x 0 frame.components)
-    (range_with_len 0 frame.width))
-
 -- The picture of samples: its pixels, line by line.
 unfoldable pub picture_of_samples : Frame → Samples → List ℕ
-picture_of_samples frame samples =
-    concat (map (samples_line frame samples) (range_with_len 0 frame.height))
+picture_of_samples frame samples = picture_by_samples frame (λ c. at_position (samples c.0))
 
 -- The picture of a frame is within a limit on its samples.
 pub record IsWithinLimit (limit : ℕ) (final : Found) (frame : Frame) : Type 0 where

@@ -1,9 +1,8 @@
 use Rattle.std.proofs.Common.{◌≡◌, ◌∙◌, ap, ap₂, sym, arith, get_or, map, rules, List}
 use Rattle.std.proofs.lemmas.List.{length-map}
-use Rattle.jpeg_segments.specs.Frame.{Component, ceiling, greatest}
+use Rattle.jpeg_segments.specs.Frame.{Component, ceiling, greatest, most_down}
 use Rattle.jpeg_segments.specs.FrameView.{component_in, factors_in, frame_in}
 use Rattle.jpeg_segments.specs.declared.parser.Component.{Component as Given}
-use Rattle.jpeg_lossless.specs.Pictures.{most_down}
 use Rattle.jpeg_decoder.specs.LosslessParts.{no_component}
 use Rattle.jpeg_decoder.proofs.LosslessReads.{alone, component-at, factors-seen, not-alone}
 use Rattle.jpeg_decoder.proofs.lossless_scans.mcus_of.Goals as goal
@@ -29,7 +28,7 @@ pub returns-clause-high : goal.returns-clause-high
 returns-clause-high c =
     let frame = frame_in c.args.frame.now in
     let cs = c.args.frame.now.components.items in
-    let most : c.greatest_of-horizontal.result.1 ≡ most_down frame =
+    let most : c.greatest_of-horizontal.result.1 ≡ most_down frame.components =
     c.greatest_of-horizontal.ensures.vertical
     ∙ ap (λ (l : List Given). greatest (λ f. f.vertical) (map factors_in l)) c.deref.ensures.value
     ∙ ap (greatest (λ f. f.vertical)) (factors-seen cs) in

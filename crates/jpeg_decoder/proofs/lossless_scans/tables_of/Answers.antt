@@ -1,15 +1,12 @@
-use Rattle.std.proofs.Common.{◌≡◌, ◌∷◌, ◌++◌, [], None, Some, ap, ◌∙◌, drop, get_or, map, rules}
+use Rattle.std.proofs.Common.{◌≡◌, ◌∷◌, ◌++◌, [], None, Some, ap, ◌∙◌, get_or, map, rules}
 use Rattle.std.specs.Prelude.{slice_index_or}
 use Rattle.std.proofs.lemmas.List.{map-append}
 use Rattle.std.proofs.lemmas.Result.{err_from_is_err_and}
 use Rattle.jpeg_bits.specs.Reading.{Malformed}
-use Rattle.jpeg_streams.specs.LosslessScans.{tables_in}
 use Rattle.jpeg_segments.specs.Checks.{needed}
-use Rattle.jpeg_decoder.proofs.LosslessReads.{no-tables, tables-from}
-use Rattle.jpeg_decoder.proofs.ReadLists.{no-more, one-more, one-refused}
+use Rattle.jpeg_segments.proofs.Gathered.{gathers-all, gathers-err, gathers-more, gathers-none}
 use Rattle.jpeg_decoder.proofs.SlotCodings.{format-refuses}
 use Rattle.jpeg_decoder.proofs.lossless_scans.tables_of.Goals as goal
-use Rattle.std.proofs.lemmas.Grind.{common_steps}
 use Rattle.std.proofs.Common.{arith}
 
 pub returns-in_err-needed : goal.returns-in_err-needed
@@ -20,11 +17,9 @@ returns-in_err-needed c =
     let unset : slice_index_or ts c.index-destination.result.now None ≡ None = search rules in
     let p = err_from_is_err_and c.from_residual-in_err-needed.result c.from_residual-in_err-needed.ensures.1 in
     rw (p.1, p.2) (format-refuses c.in_err-needed.field-0.0 _ c.in_err-needed.ensures.1
-    (one-refused (λ i. tables_in ts (drop i ds)) c.loop-slot.slot
-    (needed (slice_index_or ts c.index-destination.result.now None)) Malformed
-    (map (λ t. t.now) c.loop-slot.tables.items) _
-    (tables-from ts ds c.loop-slot.slot c.index-destination.result.now (search rules) at) (ap needed unset)
-    c.loop-slot.invariant))
+    (gathers-err (λ d. needed (slice_index_or ts d None)) ds c.loop-slot.slot c.index-destination.result.now
+    Malformed (map (λ t. t.now) c.loop-slot.tables.items) (search rules)
+    (rw (← at) (ap needed unset)) c.loop-slot.invariant))
 
 pub loop-slot-preserved : goal.loop-slot-preserved
 loop-slot-preserved c =
@@ -35,10 +30,12 @@ loop-slot-preserved c =
     let at : c.index-destination.result.now ≡ get_or ds c.loop-slot.slot c.index-destination.result.now = search rules in
     let set : slice_index_or ts c.index-destination.result.now None ≡ Some table.now = search rules in
     let pushed : c.push.new.self.items ≡ old ++ table ∷ [] = search rules in
-    one-more (λ i. tables_in ts (drop i ds)) c.loop-slot.slot
-    (needed (slice_index_or ts c.index-destination.result.now None)) table.now (map (λ t. t.now) old) _ _
-    (tables-from ts ds c.loop-slot.slot c.index-destination.result.now (search rules) at) (ap needed set)
+    gathers-more (λ d. needed (slice_index_or ts d None)) ds c.loop-slot.slot c.index-destination.result.now
+    table.now (map (λ t. t.now) old) _ (search rules) (rw (← at) (ap needed set))
     (ap (map (λ t. t.now)) pushed ∙ map-append (λ t. t.now) old (table ∷ [])) c.loop-slot.invariant
 
+pub loop-slot-init : goal.loop-slot-init
+loop-slot-init c = search (rules, gathers-none)
+
 pub returns : goal.returns
-returns c = grind (arith, common_steps, no-more, no-tables)
+returns c = search (rules, arith, gathers-all)

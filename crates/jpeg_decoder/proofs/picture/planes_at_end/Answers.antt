@@ -1,11 +1,12 @@
 use Rattle.std.proofs.lemmas.Grind.{common_steps}
-use Rattle.std.proofs.Common.{◌≡◌, ◌<◌, ◌∷◌, ◌++◌, [], drop, get_or, map, rules, arith, refl, sym, ap}
+use Rattle.std.proofs.Common.{◌≡◌, ◌<◌, ◌∷◌, ◌++◌, [], get_or, map, rules, arith, refl, sym, ap}
 use Rattle.std.proofs.Common.{◌∙◌, length}
 use Rattle.std.proofs.lemmas.List.{length-map, map-append}
+use Rattle.std.proofs.lemmas.List.FromFn.{length-enumerate_from}
+use Rattle.std.specs.List.{enumerate_from}
 use Rattle.std.proofs.lemmas.Grind.{drop_more_same}
 use Rattle.std.proofs.lemmas.Result.{err_from_is_err_and}
-use Rattle.jpeg_bits.proofs.Loops.{Names-through}
-use Rattle.jpeg_streams.specs.FoundPictures.{plane_at_end, planes_from}
+use Rattle.jpeg_streams.specs.FoundPictures.{plane_at_end}
 use Rattle.jpeg_segments.specs.FrameView.{component_in, frame_in}
 use Rattle.jpeg_decoder.specs.Scanning.{arrays_in, blocks_in}
 use Rattle.jpeg_decoder.specs.Seen.{found_in}
@@ -13,9 +14,9 @@ use Rattle.jpeg_decoder.specs.Steps.{with_decoded}
 use Rattle.jpeg_decoder.proofs.EndedPlanes.{mapped-or, none-left, reached-four}
 use Rattle.jpeg_decoder.proofs.EndedPlanes.{reached-kept, reached-scale, reached-plane}
 use Rattle.jpeg_decoder.proofs.EndedPlanes.{reached-blocks, reached-end}
-use Rattle.jpeg_decoder.proofs.EndedPlanes.{no-planes, planes-after, whole-there, whole-all}
+use Rattle.jpeg_decoder.proofs.EndedPlanes.{whole-there, whole-all}
 use Rattle.jpeg_lossless.proofs.RowLoops.{mapped-within}
-use Rattle.jpeg_decoder.proofs.ReadLists.{no-more, one-more, one-refused}
+use Rattle.jpeg_segments.proofs.Gathered.{gathers-all, gathers-more, gathers-none, gathers-refused, numbered}
 use Rattle.jpeg_decoder.proofs.picture.planes_at_end.Goals.{After-index}
 use Rattle.jpeg_decoder.proofs.picture.planes_at_end.Goals as goal
 
@@ -84,13 +85,11 @@ returns-in_err-plane_at_end-clause-planes c =
     c.from_residual-in_err-plane_at_end.ensures.1 in
     rw (p.1, p.2) (
       c.in_err-plane_at_end.ensures.plane.0,
-      Names-through _ _ _ (λ f h. one-refused (λ i. planes_from found frame i (drop i
-          frame.components)) index
-          (plane_at_end found frame index component) f (map (λ v. v.items)
-          c.loop-index.planes.items) _
-          (planes-after found frame index component (inside at) (seen at)) (end ∙ h)
-          c.loop-index.invariant.given)
-          c.in_err-plane_at_end.ensures.plane.1,
+      gathers-refused (plane_at_end found frame) (enumerate_from 0 frame.components) index (0, component) _
+          (map (λ v. v.items) c.loop-index.planes.items)
+          (rw (length-enumerate_from 0 frame.components) (inside at))
+          (rw (numbered frame.components index component component (inside at) (seen at), end)
+          c.in_err-plane_at_end.ensures.plane.1) c.loop-index.invariant.given,
     )
 
 pub loop-index-preserved : goal.loop-index-preserved
@@ -118,25 +117,27 @@ loop-index-preserved c =
       kept = c.take_kept-kept.ensures.left ∙ drop_more_same kept (arrays_in
           c.args.decoded.now.kept.items) index
           c.loop-index.invariant.kept;
-      given = one-more (λ i. planes_from found frame i (drop i frame.components)) index
-          (plane_at_end found frame index component) plane.items front _ _
-          (planes-after found frame index component (inside at) (seen at)) (end ∙
-          c.in_ok-plane_at_end.ensures.plane) joined
-          c.loop-index.invariant.given;
+      given = gathers-more (plane_at_end found frame) (enumerate_from 0 frame.components) index (0, component)
+          plane.items front _ (rw (length-enumerate_from 0 frame.components) (inside at))
+          (ap (plane_at_end found frame) (numbered frame.components index component component (inside at) (seen at))
+          ∙ end ∙ c.in_ok-plane_at_end.ensures.plane) joined c.loop-index.invariant.given;
       whole = whole-there frame.components index component front _ plane.items (inside at) (seen
           at) c.loop-index.invariant.whole
           c.in_ok-plane_at_end.ensures.whole joined;
       count = search rules;
     }
 
+pub loop-index-init : goal.loop-index-init
+loop-index-init c = search (rules, gathers-none)
+
 pub returns-clause-planes : goal.returns-clause-planes
 returns-clause-planes c =
-    let found = with_decoded (found_in c.args.state.now) c.args.decoded.now in
-    let frame = frame_in c.args.frame.now in
-    no-more (λ i. planes_from found frame i (drop i frame.components)) c.loop-index.index _ _
-    (no-planes found frame c.loop-index.index
-    (none-left component_in c.args.frame.now.components.items c.loop-index.index (omega arith)))
-    c.loop-index.invariant.given
+    let cs = c.args.frame.now.components.items in
+    gathers-all _ _ c.loop-index.index _ (omega (
+      arith,
+      length-enumerate_from 0 (map component_in cs),
+      length-map cs component_in,
+    )) c.loop-index.invariant.given
 
 pub returns-clause-whole : goal.returns-clause-whole
 returns-clause-whole c =

@@ -1,18 +1,19 @@
-use Rattle.std.proofs.lemmas.Grind.{common_steps}
-use Rattle.std.proofs.Common.{◌≡◌, ◌<◌, ◌∷◌, ◌++◌, ◌∙◌, [], None, Some, ap, sym, arith, drop, get_or, map, rules}
+use Rattle.std.proofs.Common.{◌≡◌, ◌<◌, ◌∷◌, ◌++◌, ◌∙◌, [], None, Some, ap, refl, sym, arith, get_or, map, rules}
 use Rattle.std.specs.Prelude.{option_map, slice_index_or}
 use Rattle.std.proofs.lemmas.List.{length-map, map-append}
+use Rattle.std.proofs.lemmas.List.FromFn.{length-enumerate_from}
+use Rattle.std.specs.List.{enumerate_from}
 use Rattle.std.proofs.lemmas.Grind.{drop_more_same}
 use Rattle.std.proofs.lemmas.Result.{err_from_is_err_and}
 use Rattle.jpeg_bits.specs.Reading.{Malformed}
-use Rattle.jpeg_streams.specs.LosslessScans.{samples_from}
 use Rattle.jpeg_segments.specs.Checks.{needed}
-use Rattle.jpeg_segments.specs.FrameView.{component_in, frame_in}
+use Rattle.jpeg_segments.specs.FrameView.{component_in}
 use Rattle.jpeg_decoder.specs.PlanesView.{planes_in}
 use Rattle.jpeg_decoder.proofs.EndedPlanes.{mapped-or, planes-kept, same-at}
-use Rattle.jpeg_decoder.proofs.LosslessReads.{no-samples, samples-after}
+use Rattle.jpeg_decoder.proofs.LosslessReads.{sample_plane}
 use Rattle.jpeg_lossless.proofs.RowLoops.{mapped-within}
-use Rattle.jpeg_decoder.proofs.ReadLists.{no-more, one-more, one-refused}
+use Rattle.jpeg_decoder.specs.LosslessParts.{no_component}
+use Rattle.jpeg_segments.proofs.Gathered.{gathers-all, gathers-err, gathers-more, gathers-none, numbered}
 use Rattle.jpeg_decoder.proofs.SlotCodings.{format-refuses}
 use Rattle.jpeg_decoder.proofs.picture.samples_at_end.Goals as goal
 
@@ -36,11 +37,11 @@ returns-in_err-needed-clause-planes c =
     none in
     let p = err_from_is_err_and c.from_residual-in_err-needed.result c.from_residual-in_err-needed.ensures.1 in
     rw (p.1, p.2) (format-refuses c.in_err-needed.field-0.0 _ c.in_err-needed.ensures.1
-    (one-refused (λ i. samples_from samples i (drop i (frame_in c.args.frame.now).components))
-    l.index
-    (needed (slice_index_or samples l.index None)) Malformed (map (λ v. v.items) l.planes.items) _
-    (samples-after samples (frame_in c.args.frame.now).components l.index within) (ap needed unset)
-    l.invariant.given))
+    (gathers-err (sample_plane samples) (enumerate_from 0 (map component_in cs)) l.index (0, no_component)
+    Malformed (map (λ v. v.items) l.planes.items)
+    (rw (length-enumerate_from 0 (map component_in cs)) within)
+    (ap (sample_plane samples) (numbered (map component_in cs) l.index no_component _ within refl)
+    ∙ ap needed unset) l.invariant.given))
 
 pub loop-index-preserved : goal.loop-index-preserved
 loop-index-preserved c =
@@ -69,19 +70,21 @@ loop-index-preserved c =
       left = planes-kept l.decoded.samples l.index _ ∙ drop_more_same (planes_in l.decoded.samples)
           samples l.index
           l.invariant.left;
-      given = grind (arith, common_steps, one-more, samples-after);
+      given = gathers-more (sample_plane samples) (enumerate_from 0 (map component_in cs)) l.index
+          (0, no_component) plane.items front _ (rw (length-enumerate_from 0 (map component_in cs)) within)
+          (ap (sample_plane samples) (numbered (map component_in cs) l.index no_component _ within refl)
+          ∙ ap needed set) joined l.invariant.given;
       count = search rules;
     }
 
+pub loop-index-init : goal.loop-index-init
+loop-index-init c = search (rules, gathers-none)
+
 pub returns-clause-planes : goal.returns-clause-planes
 returns-clause-planes c =
-    let l = c.loop-index in
-    let samples = planes_in c.args.decoded.now.samples in
-    let cs = (frame_in c.args.frame.now).components in
-    no-more (λ i. samples_from samples i (drop i cs)) l.index (map (λ v. v.items) l.planes.items) _
-    (no-samples samples cs l.index (omega (
+    let cs = c.args.frame.now.components.items in
+    gathers-all _ _ c.loop-index.index _ (omega (
       arith,
-      length-map c.args.frame.now.components.items
-          component_in,
-    )))
-    l.invariant.given
+      length-enumerate_from 0 (map component_in cs),
+      length-map cs component_in,
+    )) c.loop-index.invariant.given

@@ -44,14 +44,11 @@ compute_image_lossless-requires c =
 
 pub returns-clause-meant : goal.returns-clause-meant
 returns-clause-meant c =
-    let planes = map (λ v. v.items) c.in_ok-planes.planes.items in
     picture-given (λ v. v.items) _ _ _ (picture-made _ _ _ c.in_ok-planes.ensures.planes)
     c.compute_image_lossless.ensures.pixels c.compute_image_lossless.ensures.err
 
 pub returns-clause-size : goal.returns-clause-size
 returns-clause-size c =
     let frame = frame_in c.args.frame.now in
-    let planes = map (λ v. v.items) c.in_ok-planes.planes.items in
     if-samples_size (λ v. v.items) _ _ _ (c.requires.sound.frames frame c.requires.frame) c.requires.process
-    (samples-whole _ _ _ (c.requires.sound.samples frame c.requires.frame) c.in_ok-planes.ensures.planes)
     c.compute_image_lossless.ensures.pixels

@@ -9,7 +9,8 @@ use Rattle.jpeg_segments.specs.FrameView.{component_in, frame_in}
 use Rattle.jpeg_segments.specs.declared.parser.Component.{Component}
 use Rattle.jpeg_lossless.specs.Pictures.{ArePlanesOf, AreWide, Layer, Reaches, layer_of, layers_of, lines_across}
 use Rattle.jpeg_lossless.proofs.FilledLines.{wide-at, wide-set}
-use Rattle.jpeg_lossless.proofs.ImageLoops.{IsPixelOf, greatest-some, layers_none, layers_step, pixels-at, planes-count}
+use Rattle.jpeg_segments.proofs.FrameLemmas.{greatest-some}
+use Rattle.jpeg_lossless.proofs.ImageLoops.{IsPixelOf, layers_none, layers_step, pixels-at, planes-count}
 use Rattle.jpeg_lossless.proofs.RowLoops.{mapped-at, mapped-within}
 use Rattle.jpeg_lossless.proofs.Sizes.{written-back}
 use Rattle.jpeg_lossless.proofs.StretchedLines.{factor_most, line_inside, line_reaches, lines_more, lines_none}

@@ -1,10 +1,10 @@
 use Rattle.std.proofs.Common.{◌≡◌, ◌*◌, ◌∙◌, ap, arith, length, map, rules, sym, List, ℕ}
-use Rattle.jpeg_segments.specs.Frame.{Frame}
+use Rattle.jpeg_segments.specs.Frame.{Frame, most_across, most_down}
 use Rattle.jpeg_segments.specs.FrameView.{frame_in}
 use Rattle.jpeg_lossless.specs.Pictures.{layers_of, lossless_picture}
-use Rattle.jpeg_lossless.specs.Pictures.{most_across, most_down, sample_picture}
+use Rattle.jpeg_lossless.specs.Pictures.{sample_picture}
 use Rattle.jpeg_lossless.proofs.FilledLines.{across-wide, all-pieces, no-pieces, piece-fits}
-use Rattle.jpeg_lossless.proofs.ImageLoops.{picture-begun, picture-grown}
+use Rattle.jpeg_lossless.proofs.ImageLoops.{picture-begun, picture-grown, picture-layers, planes-count}
 use Rattle.jpeg_lossless.proofs.StretchedLines.{from-none, line_of_lines, lines_long}
 use Rattle.jpeg_lossless.proofs.picture.write_sampled.Goals as goal
 use Rattle.std.proofs.lemmas.Grind.{common_steps}
@@ -27,12 +27,11 @@ write_line-requires-clause-long c = grind (arith, common_steps, from-none, lines
 pub loop-y-preserved : goal.loop-y-preserved
 loop-y-preserved c = grind (arith, common_steps, across-wide, line_of_lines, picture-grown)
 
-whole : (frame : Frame) (planes : List (List ℕ)) (h v high : ℕ) → h ≡ most_across frame → v ≡ most_down frame → high
-    ≡ frame.height → sample_picture frame.precision h v frame.width high (layers_of
-    frame.components planes)
+whole : (frame : Frame) (planes : List (List ℕ)) (h v high : ℕ) → h ≡ most_across frame.components
+    → v ≡ most_down frame.components → high ≡ frame.height → length planes ≡ length frame.components
+    → sample_picture frame.precision h v frame.width high (layers_of frame.components planes)
     ≡ lossless_picture frame planes
-unfolding lossless_picture
-whole frame planes h v high e f g = search rules
+whole frame planes h v high e f g n = search (rules, picture-layers)
 
 pub returns : goal.returns
 returns c =
@@ -42,4 +41,4 @@ returns c =
     (c.loop-y.auto.image ∙ c.requires.room ∙ ap (λ n. high * n) (sym c.size_of_line-line.ensures.size))
     (c.loop-y.invariant.image
     ∙ whole (frame_in c.args.frame.now) (map (λ v. v.items) c.args.planes.now) c.args.horizontal c.args.vertical
-    c.loop-y.y c.requires.horizontal c.requires.vertical end)
+    c.loop-y.y c.requires.horizontal c.requires.vertical end (planes-count _ _ c.requires.whole))

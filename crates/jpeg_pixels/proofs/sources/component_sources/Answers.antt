@@ -1,19 +1,18 @@
-use Rattle.std.proofs.Common.{◌≡◌, List, length, map, arith, subst}
-use Rattle.std.proofs.Common.{Result, rules}
-use Rattle.std.proofs.Math.ListN.{drop_of_length-le}
+use Rattle.std.proofs.Common.{◌≡◌, length, map, refl, arith, subst, rules}
 use Rattle.std.proofs.Math.ListN as lists
 use Rattle.std.proofs.lemmas.List.{map-append, length-map}
 use Rattle.std.proofs.lemmas.Result.{err_from_is_err_and}
-use Rattle.jpeg_bits.specs.Reading.{Fault, Names}
-use Rattle.jpeg_segments.specs.FrameView.{component_in}
-use Rattle.jpeg_pixels.specs.Pictures.{Source, sources_by}
 use Rattle.jpeg_segments.specs.Frame.{HasSampling}
-use Rattle.jpeg_pixels.proofs.SourceLists.{next-component, sources-start, sources-more, sources-end, sources-err, factors-at}
+use Rattle.jpeg_segments.specs.FrameView.{component_in}
+use Rattle.jpeg_segments.proofs.Gathered.{gathers-none, gathers-more, gathers-refused, gathers-all}
 use Rattle.jpeg_segments.proofs.ScaleLemmas.{none}
+use Rattle.jpeg_pixels.specs.Pictures.{source_of}
+use Rattle.jpeg_pixels.specs.PicturesView.{source_in}
+use Rattle.jpeg_pixels.proofs.SourceLists.{factors-at}
 use Rattle.jpeg_pixels.proofs.sources.component_sources.Goals as goal
 
 pub loop-component-init : goal.loop-component-init
-loop-component-init c = search (rules, sources-start)
+loop-component-init c = search (rules, gathers-none)
 
 pub component_source-requires : goal.component_source-requires
 component_source-requires c =
@@ -25,20 +24,35 @@ component_source-requires c =
 
 pub loop-component-preserved : goal.loop-component-preserved
 loop-component-preserved c =
-    let so_far = next-component _ _ _ _ c.args.components.now _ _ _ c.loop-component-test.true
-    c.loop-component.invariant in
-    rw (c.in_ok-push.ensures.items, map-append)
-    (sources-more _ _ _ _ _ _ _ _ _ c.in_ok-source.ensures so_far)
+    let components = c.args.components.now in
+    let index = c.loop-component.component-index in
+    let count : length (map component_in components) ≡ length components = length-map components component_in in
+    gathers-more (source_of c.greatest_horizontal-greatest_h.result c.greatest_vertical-greatest_v.result
+    c.args.output_width c.args.output_height) (map component_in components) index (component_in none)
+    (source_in c.in_ok-source.source) (map source_in c.loop-component.sources.items) _ (omega arith)
+    (rw (lists.get_or-map component_in components index none) c.in_ok-source.ensures)
+    (rw (c.in_ok-push.ensures.items, map-append) refl) c.loop-component.invariant
 
 pub returns-in_err-source : goal.returns-in_err-source
 returns-in_err-source c =
-    let so_far = next-component _ _ _ _ c.args.components.now _ _ _ c.loop-component-test.true
-    c.loop-component.invariant in
+    let components = c.args.components.now in
+    let index = c.loop-component.component-index in
+    let h = c.greatest_horizontal-greatest_h in
+    let v = c.greatest_vertical-greatest_v in
+    let count : length (map component_in components) ≡ length components = length-map components component_in in
     let p = err_from_is_err_and c.from_residual-in_err-source.result c.from_residual-in_err-source.ensures.1 in
-    let names = sources-err _ _ _ _ _ _ _ _ _ c.in_err-source.ensures so_far in
-    rw (p.1, p.2) (subst (λ (o : Result (List Source) Fault). Names c.in_err-source.field-0.0 o)
-    (λ i. sources_by (c.greatest_horizontal-greatest_h.ensures i) (c.greatest_vertical-greatest_v.ensures i)
-    c.args.output_width c.args.output_height (map component_in c.args.components.now)) names)
+    rw (p.1, p.2, ← h.ensures, ← v.ensures) (gathers-refused (source_of h.result v.result
+    c.args.output_width c.args.output_height) (map component_in components) index (component_in none)
+    c.in_err-source.field-0.0 (map source_in c.loop-component.sources.items) (omega arith)
+    (rw (lists.get_or-map component_in components index none) c.in_err-source.ensures)
+    c.loop-component.invariant)
 
 pub returns : goal.returns
-returns c = search (rules, drop_of_length-le, sources-end)
+returns c =
+    let components = c.args.components.now in
+    let h = c.greatest_horizontal-greatest_h in
+    let v = c.greatest_vertical-greatest_v in
+    let count : length (map component_in components) ≡ length components = length-map components component_in in
+    rw (← h.ensures, ← v.ensures) (gathers-all (source_of h.result v.result c.args.output_width
+    c.args.output_height) (map component_in components) c.loop-component.component-index _ (omega arith)
+    c.loop-component.invariant)

@@ -1,13 +1,11 @@
 use Rattle.std.proofs.Common.{◌≡◌, ◌≤◌, map, max, drop}
-use Rattle.jpeg_segments.specs.Frame.{greatest}
+use Rattle.jpeg_segments.specs.Frame.{most_across}
 use Rattle.jpeg_segments.specs.FrameView.{component_in}
-use Rattle.jpeg_pixels.specs.Pictures.{all_factors}
 use Rattle.jpeg_pixels.proofs.sources.greatest_horizontal.Given as goal
 
 abbrev pub invariant-loop-component : goal.invariant-loop-component
 invariant-loop-component l = record {
   some : 1 ≤ l.most;
-  same : max l.most (greatest (λ f. f.horizontal)
-      (all_factors (map component_in (drop l.component-index l.components))))
-      ≡ greatest (λ f. f.horizontal) (all_factors (map component_in l.components));
+  same : max l.most (most_across (map component_in (drop l.component-index l.components)))
+      ≡ most_across (map component_in l.components);
 }
