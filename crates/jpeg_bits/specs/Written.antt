@@ -18,9 +18,11 @@ use Rattle.std.specs.Prelude.{
   false,
 }
 use Rattle.std.specs.Prelude.{List, [], ◌∷◌, ◌++◌, replicate, length, slice_index}
-use Rattle.std.specs.Prelude.{ℤ, pos, negsuc, unsigned_abs}
+use Rattle.std.specs.Prelude.{ℤ, pos, negsuc, unsigned_abs, Some}
 use Rattle.jpeg_bits.specs.Codes.{Table, code_lengths, code_value}
 use Rattle.jpeg_bits.specs.Entropy.{bits_of}
+use Rattle.jpeg_bits.specs.Marker.{marker_of}
+use Rattle.jpeg_bits.specs.declared.marker.Marker.{Marker}
 
 -- the bit of 0 or 1
 abbrev pub bit : ℕ → Bool
@@ -68,6 +70,10 @@ stuffed (b ∷ bytes) =
 -- A marker after any number of fill bytes FF, by its second byte, and then more (B.1.1.2).
 abbrev pub marker : ℕ → ℕ → List ℕ → List ℕ
 marker fill code rest = 0xFF ∷ (replicate fill 0xFF ++ code ∷ rest)
+
+-- FF and this byte make the marker
+pub record IsMarker (code : ℕ) (m : Marker) : Type 0 where
+  pub is : marker_of code ≡ Some m
 
 unfoldable pub bits_of_bytes : List ℕ → List Bool
 bits_of_bytes [] = []
