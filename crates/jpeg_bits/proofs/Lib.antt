@@ -9,6 +9,7 @@ pub mod Symbols
 pub mod Filled
 pub mod Calls
 pub mod WrittenBits
+pub mod ReadIntervals
 pub mod WrittenIntervals
 pub mod Reservoirs
 pub mod ShortLemmas

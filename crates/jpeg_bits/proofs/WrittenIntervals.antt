@@ -1,7 +1,7 @@
 -- Intervals that were written are read again, by whatever reads their bits.
 use Rattle.std.proofs.Common.{rules, ◌≡◌, ◌≢◌, ℕ, zero, suc, ◌+◌, ◌%◌, ◌<◌, ◌≤◌, Bool, true, false, List}
 use Rattle.std.proofs.Common.{[], ◌∷◌, ◌++◌, length, take, drop, map, replicate, Option, Some, None, Ok, refl, sym}
-use Rattle.std.proofs.Common.{ap, ap₂, ◌∙◌, arith, eqb, length-append, length-drop, append_assoc, append-nil, subst}
+use Rattle.std.proofs.Common.{ap, ap₂, ◌∙◌, arith, eqb, length-append, length-drop, append_assoc, append-nil, subst, take-append-drop}
 use Rattle.std.proofs.lemmas.Bool.{eq-eqb, eqb-true}
 use Rattle.std.proofs.lemmas.Bool.Decides.{nat_tests}
 use Rattle.std.proofs.lemmas.Grind.{common_steps}
@@ -19,6 +19,7 @@ use Rattle.jpeg_bits.specs.Written.WritesIntervals.{last, another}
 use Rattle.jpeg_bits.specs.declared.ahead.DataEnd.TheVariants as ends
 use Rattle.jpeg_bits.specs.declared.marker.Marker.{Marker}
 use Rattle.jpeg_bits.specs.declared.marker.Marker.TheVariants as markers
+use Rattle.jpeg_bits.proofs.ReadIntervals.{all-drop, all-take}
 use Rattle.jpeg_bits.proofs.WrittenBits.{takes-bind, takes-gives, takes-map}
 
 -- ---- things one after the other
@@ -162,14 +163,6 @@ next-interval read k now next more bytes rest after first others m e f = search 
 
 -- ---- groups
 
-pub all-take : {A : Type 0} (Q : A → Type 0) (n : ℕ) (xs : List A) → AllByRecursion Q xs → AllByRecursion Q (take n xs)
-all-take Q (suc n) (x ∷ xs) h = (h.0, all-take Q n xs h.1)
-all-take Q n xs h = tt
-
-pub all-drop : {A : Type 0} (Q : A → Type 0) (n : ℕ) (xs : List A) → AllByRecursion Q xs → AllByRecursion Q (drop n xs)
-all-drop Q (suc n) (x ∷ xs) h = all-drop Q n xs h.1
-all-drop Q n xs h = search rules
-
 groups-map : {A B : Type 0} (f : A → B) (turns n : ℕ) (xs : List A)
     → map (map f) (groups turns n xs) ≡ groups turns n (map f xs)
 unfolding groups
@@ -186,6 +179,21 @@ pub others-map : {A B : Type 0} (f : A → B) (n : ℕ) (xs : List A)
 others-map f zero xs = refl
 others-map {A} {B} f (suc n) xs = grind (arith, common_steps, groups-map, drop-map, length-map)
 
+groups-joined : {A : Type 0} (turns n : ℕ) (xs : List A) → length xs ≤ turns
+    → flat_map (λ (g : List A). g) (groups turns (suc n) xs) ≡ xs
+unfolding groups
+groups-joined (suc turns) n (x ∷ xs) h =
+    let few : length (drop (suc n) (x ∷ xs)) ≤ turns = omega (arith, length-drop (suc n) (x ∷ xs)) in
+    let more = groups-joined turns n (drop (suc n) (x ∷ xs)) few in
+    grind (arith, common_steps, take-append-drop, more)
+groups-joined turns n xs h = search rules
+
+-- the groups of a list are the list, one after the other
+pub all-groups : {A : Type 0} (n : ℕ) (xs : List A)
+    → first_group n xs ++ flat_map (λ (g : List A). g) (other_groups n xs) ≡ xs
+all-groups zero xs = append-nil xs
+all-groups (suc n) xs = search (rules, groups-joined, length-drop, take-append-drop)
+
 groups-all : {A : Type 0} (Q : A → Type 0) (turns n : ℕ) (xs : List A) → AllByRecursion Q xs
     → AllByRecursion (AllByRecursion Q) (groups turns n xs)
 unfolding groups
@@ -193,12 +201,12 @@ groups-all Q (suc turns) n (x ∷ xs) h =
     (all-take Q n (x ∷ xs) h, groups-all Q turns n (drop n (x ∷ xs)) (all-drop Q n (x ∷ xs) h))
 groups-all Q turns n xs h = search rules
 
-first-all : {A : Type 0} (Q : A → Type 0) (n : ℕ) (xs : List A) → AllByRecursion Q xs
+pub first-all : {A : Type 0} (Q : A → Type 0) (n : ℕ) (xs : List A) → AllByRecursion Q xs
     → AllByRecursion Q (first_group n xs)
 first-all Q zero xs h = h
 first-all Q (suc n) xs h = all-take Q (suc n) xs h
 
-others-all : {A : Type 0} (Q : A → Type 0) (n : ℕ) (xs : List A) → AllByRecursion Q xs
+pub others-all : {A : Type 0} (Q : A → Type 0) (n : ℕ) (xs : List A) → AllByRecursion Q xs
     → AllByRecursion (AllByRecursion Q) (other_groups n xs)
 others-all Q zero xs h = tt
 others-all Q (suc n) xs h = groups-all Q (length xs) (suc n) (drop (suc n) xs) (all-drop Q (suc n) xs h)
@@ -218,7 +226,7 @@ module _ {X A B C : Type 0} (read : List A → Reads (List C)) (writes : List B 
       (reads-interval (read (map f xs)) (writes (map g xs)) (h xs) (λ bits. takes xs bits all) bytes fill code m rest is
       w)
   reads-intervals k xs (next ∷ more) bytes all others (another k' fill' now next' more' first after w ws) =
-      (search (rules, append_assoc, marker-append))
+      (search (rules, append_assoc))
       ∙ next-interval read k (map f xs) (map f next) (map (map f) more) _ (after ++ marker fill code rest) rest _ _
       (Some m)
       (reads-interval (read (map f xs)) (writes (map g xs)) (h xs) (λ bits. takes xs bits all) first fill'
