@@ -1,5 +1,5 @@
 -- What holds of all that is read, thing by thing and interval by interval.
-use Rattle.std.proofs.Common.{rules, ◌≡◌, ℕ, suc, Bool, true, false, List, [], ◌∷◌, ◌++◌, length, take, drop, Result, Ok, Err, refl}
+use Rattle.std.proofs.Common.{rules, ◌≡◌, ℕ, zero, suc, Bool, true, false, List, [], ◌∷◌, ◌++◌, length, map, take, drop, replicate, Result, Ok, Err, refl}
 use Rattle.std.proofs.Common.{Option, ap, arith}
 use Rattle.std.proofs.lemmas.Bool.Decides.{nat_tests}
 use Rattle.std.proofs.lemmas.Grind.{common_steps}
@@ -23,6 +23,15 @@ pub all-append : {A : Type 0} (Q : A → Type 0) (xs ys : List A) → AllByRecur
     → AllByRecursion Q (xs ++ ys)
 all-append Q [] ys h k = k
 all-append Q (x ∷ xs) ys h k = (h.0, all-append Q xs ys h.1 k)
+
+pub all-again : {A : Type 0} (Q : A → Type 0) (n : ℕ) (x : A) → Q x → AllByRecursion Q (replicate n x)
+all-again Q zero x h = tt
+all-again Q (suc n) x h = (h, all-again Q n x h)
+
+pub all-mapped : {A B : Type 0} (Q : B → Type 0) (f : A → B) (xs : List A) → AllByRecursion Q (map f xs)
+    → AllByRecursion (λ x. Q (f x)) xs
+all-mapped Q f [] h = tt
+all-mapped Q f (x ∷ xs) h = (h.0, all-mapped Q f xs h.1)
 
 -- ---- what is read
 
