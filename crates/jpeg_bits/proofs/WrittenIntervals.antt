@@ -6,6 +6,7 @@ use Rattle.std.proofs.lemmas.Bool.{eq-eqb, eqb-true}
 use Rattle.std.proofs.lemmas.Bool.Decides.{nat_tests}
 use Rattle.std.proofs.lemmas.Grind.{common_steps}
 use Rattle.std.proofs.lemmas.List.{drop-map, length-map, length-replicate, take-map}
+use Rattle.std.proofs.lemmas.List.Folds.{flat_map-map}
 use Rattle.std.specs.List.{AllByRecursion, flat_map}
 use Rattle.jpeg_bits.specs.Entropy.{Text, Ending, Found, add_byte, bits_of, filled_end, marker_by, no_bits}
 use Rattle.jpeg_bits.specs.Entropy.{text_ahead, text_at}
@@ -193,6 +194,14 @@ pub all-groups : {A : Type 0} (n : ℕ) (xs : List A)
     → first_group n xs ++ flat_map (λ (g : List A). g) (other_groups n xs) ≡ xs
 all-groups zero xs = append-nil xs
 all-groups (suc n) xs = search (rules, groups-joined, length-drop, take-append-drop)
+
+pub groups-of-map : {A B : Type 0} (f : A → B) (n : ℕ) (xs : List A)
+    → map f (first_group n xs) ++ flat_map (map f) (other_groups n xs) ≡ map f xs
+groups-of-map {A} {B} f n xs =
+    ap₂ (λ (a b : List B). a ++ b) (first-map f n xs)
+    (sym (flat_map-map (λ (g : List B). g) (map f) (other_groups n xs))
+    ∙ ap (flat_map (λ (g : List B). g)) (others-map f n xs))
+    ∙ all-groups n (map f xs)
 
 groups-all : {A : Type 0} (Q : A → Type 0) (turns n : ℕ) (xs : List A) → AllByRecursion Q xs
     → AllByRecursion (AllByRecursion Q) (groups turns n xs)

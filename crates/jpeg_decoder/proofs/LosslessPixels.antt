@@ -19,7 +19,7 @@ use Rattle.jpeg_streams.specs.SaidSegments.{found_after}
 use Rattle.jpeg_streams.proofs.LosslessFrames.{IsShaped}
 use Rattle.jpeg_streams.proofs.LosslessSizes.{IsMade, made-reaches, some-across, some-down}
 use Rattle.jpeg_streams.proofs.PaddingUnseen.{drop-next, mapped-same}
-use Rattle.jpeg_streams.proofs.OwnSpots.{all-append}
+use Rattle.jpeg_bits.proofs.ReadIntervals.{all-append}
 use Rattle.jpeg_decoder.proofs.WrittenLosslessStreams.{IsSaid, all-in, drawn, final-framed, nothing-said, samples-meant}
 use Rattle.jpeg_decoder.proofs.WrittenLosslessStreams.{samples-sized, segment-said, some-same}
 use Rattle.jpeg_decoder.proofs.WrittenSamples.{HasSize, SizedAt, indices_of, planes_for, scan-sized}

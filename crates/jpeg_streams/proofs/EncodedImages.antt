@@ -34,7 +34,7 @@ use Rattle.jpeg_streams.specs.Segments.{accepted, updated}
 use Rattle.jpeg_streams.specs.Found.{nothing_found, Found}
 use Rattle.jpeg_streams.specs.WorkedImages.{IsWhollyWritten}
 use Rattle.jpeg_bits.specs.Written.{marker}
-use Rattle.jpeg_streams.specs.WrittenData.WritesIntervals.{last as last_interval}
+use Rattle.jpeg_bits.specs.Written.WritesIntervals.{last as last_interval}
 use Rattle.jpeg_streams.specs.WrittenImages.{closed, scan, segment, Writes}
 use Rattle.jpeg_streams.specs.WrittenScans.{block_for, Coefficients, grid_at, HasTable, IsComplete}
 use Rattle.jpeg_streams.specs.WrittenScans.{IsLegalScan, levels_after, index_at, WritesScan}
@@ -44,7 +44,7 @@ use Rattle.jpeg_streams.proofs.TestedParts.{one-quantizes, table-by, table_of_on
 use Rattle.jpeg_streams.proofs.EncodedBlocks.{ac_pass, dc_pass, Each, each-ac, each-dc, each-whole, flat_table}
 use Rattle.jpeg_streams.proofs.EncodedBlocks.{HasFlatAc, HasFlatDc, interval-written, IsFlat}
 use Rattle.jpeg_streams.proofs.WholeImages.{floor-whole, toward-whole}
-use Rattle.jpeg_streams.proofs.OwnSpots.{all-append}
+use Rattle.jpeg_bits.proofs.ReadIntervals.{all-append}
 use Rattle.jpeg_streams.proofs.ReadTurns.{then-ok}
 
 -- ---- what is written

@@ -37,7 +37,7 @@ use Rattle.jpeg_streams.proofs.WrittenRefinements.{takes-refinement}
 takes-category : (d : ℤ) (s : ℕ) → IsCategory d s → ReadsJust (category_number s) (bits_for d s) d
 unfolding low_bits
 takes-category d zero cat = search (rules, takes-as, abs-zero, takes-gives)
-takes-category d (suc t) cat = search (rules, nat_tests, takes-signed)
+takes-category d (suc t) cat = search (rules, nat_tests, takes-signed d (suc t) cat)
 
 takes-listed : (k s : ℕ) (bits : List Bool) (d : ℤ) → k ≡ s → s ≤ 11 → ReadsJust (category_number s) bits d
     → ReadsJust (elim (nat_le k 11) as (λ _. Reads ℤ) [ true ↦ category_number k | false ↦ refused ]) bits d
