@@ -1,5 +1,6 @@
 -- What an answer unfolds, besides the definitions of all streams, to compute those of lossless ones on a literal.
 use Rattle.std.specs.Prelude.{⊤}
+use Rattle.jpeg_bits.specs.Readers.{each}
 use Rattle.jpeg_lossless.specs.Differences as differences
 use Rattle.jpeg_lossless.specs.Pictures as pictures
 use Rattle.jpeg_lossless.specs.Prediction as prediction
@@ -12,14 +13,10 @@ use Rattle.jpeg_streams.specs.LosslessScans.{samples_from, with_samples}
 use Rattle.jpeg_streams.specs.ScanSegments.{lossless_scan}
 
 unfoldable pub lossless_on_literals : ⊤
-unfolding differences.sample_difference differences.differences differences.lines_in
-    differences.mcu_tables
-    differences.row_tables differences.difference_rows differences.strand differences.strands
-    frame_payload huffman_bytes lossless_coding
-    lossless_codings lossless_scan mcus_across mcus_down parts_of pictures.layers_of pictures.lossless_picture
-    pictures.sample_picture prediction.first_line prediction.line_below prediction.line_rest
-    prediction.lines_below
-    prediction.residue samples_from samples_picture scans.all_above scans.line_interval
-    scans.line_intervals
+unfolding differences.interval_rows differences.lines_in differences.mcu_tables differences.row_tables
+    differences.sample_difference differences.strand differences.strands each frame_payload huffman_bytes
+    lossless_coding lossless_codings lossless_scan mcus_across mcus_down parts_of pictures.layers_of
+    pictures.lossless_picture pictures.sample_picture prediction.first_line prediction.line_below
+    prediction.line_rest prediction.lines_below prediction.residue samples_from samples_picture
     scan_payload scans.lines_by_component scans.planes_of scans.scan_at with_samples
 lossless_on_literals = tt
