@@ -10,6 +10,8 @@ pub mod Symbols
 pub mod Filled
 pub mod Calls
 pub mod WrittenBits
+pub mod ReadIntervals
+pub mod WrittenIntervals
 pub mod Reservoirs
 pub mod ShortLemmas
 pub mod ShortRuns

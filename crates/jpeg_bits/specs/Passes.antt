@@ -80,6 +80,10 @@ block_from p dc ac predictor run old =
     band_part p ac (band_of p old.acs) run >>= (λ b.
     gives (record { dc = d.0; acs = with_band p old.acs b.0 }, d.1, b.1)))
 
+-- each component's predictor at the start of an interval
+abbrev pub predictors_at_start : List ℤ
+predictors_at_start = replicate 4 (pos 0)
+
 -- The blocks after the pass; the predictors of the components and the run go from block to block.
 unfoldable pub blocks_of : Pass → List ℤ → ℕ → List (Via × Block) → Reads (List Block)
 blocks_of p predictors run [] = gives []

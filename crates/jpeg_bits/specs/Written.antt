@@ -5,6 +5,7 @@ use Rattle.std.specs.Prelude.{
   ℕ,
   zero,
   suc,
+  ◌+◌,
   ◌-◌,
   ◌/◌,
   ◌%◌,
@@ -17,9 +18,11 @@ use Rattle.std.specs.Prelude.{
   false,
 }
 use Rattle.std.specs.Prelude.{List, [], ◌∷◌, ◌++◌, replicate, length, slice_index}
-use Rattle.std.specs.Prelude.{ℤ, pos, negsuc, unsigned_abs}
+use Rattle.std.specs.Prelude.{ℤ, pos, negsuc, unsigned_abs, Some}
 use Rattle.jpeg_bits.specs.Codes.{Table, code_lengths, code_value}
 use Rattle.jpeg_bits.specs.Entropy.{bits_of}
+use Rattle.jpeg_bits.specs.Marker.{marker_of}
+use Rattle.jpeg_bits.specs.declared.marker.Marker.{Marker}
 
 -- the bit of 0 or 1
 abbrev pub bit : ℕ → Bool
@@ -68,6 +71,38 @@ stuffed (b ∷ bytes) =
 abbrev pub marker : ℕ → ℕ → List ℕ → List ℕ
 marker fill code rest = 0xFF ∷ (replicate fill 0xFF ++ code ∷ rest)
 
+-- FF and this byte make the marker
+pub record IsMarker (code : ℕ) (m : Marker) : Type 0 where
+  pub is : marker_of code ≡ Some m
+
 unfoldable pub bits_of_bytes : List ℕ → List Bool
 bits_of_bytes [] = []
 bits_of_bytes (b ∷ bytes) = bits_of b ++ bits_of_bytes bytes
+
+-- the bits of some things, one after the other
+pub data WritesEach {A : Type 0} (writes : A → List Bool → Type 0) : List A → List Bool → Type 0 where
+  none : WritesEach writes [] []
+  one : (x : A) (xs : List A) (bits more : List Bool)
+      → writes x bits → WritesEach writes xs more → WritesEach writes (x ∷ xs) (bits ++ more)
+
+-- ---- intervals (E.1.4)
+
+-- The bytes of a restart interval: its bits, and at most 7 more of any value, up to a whole byte.
+pub record WritesInterval (writes : List Bool → Type 0) (bytes : List ℕ) : Type 0 where
+  pub bits : List Bool
+  pub filling : List Bool
+  pub data_bytes : List ℕ
+  pub coded : writes bits
+  pub is_short : length filling ≤ 7
+  pub whole : bits_of_bytes data_bytes ≡ bits ++ filling
+  pub has_bytes : stuffed data_bytes ≡ bytes
+
+-- The bytes of one interval and more, from number k on: after interval k, and before the next,
+-- stands the marker RSTm with m = k mod 8.
+pub data WritesIntervals {A : Type 0} (writes : A → List Bool → Type 0)
+    : ℕ → A → List A → List ℕ → Type 0 where
+  last : (k : ℕ) (one : A) (bytes : List ℕ)
+      → WritesInterval (writes one) bytes → WritesIntervals writes k one [] bytes
+  another : (k fill : ℕ) (one next : A) (more : List A) (bytes others : List ℕ)
+      → WritesInterval (writes one) bytes → WritesIntervals writes (suc k) next more others
+      → WritesIntervals writes k one (next ∷ more) (bytes ++ marker fill (0xD0 + k % 8) others)

@@ -85,7 +85,7 @@ pub struct Carried {
 
 impl Carried {
     ghost use Rattle.std.specs.Prelude.{◌≡◌};
-    ghost use Rattle.jpeg_bits.specs.Intervals.{predictors_at_start};
+    ghost use Rattle.jpeg_bits.specs.Passes.{predictors_at_start};
 
     /// Gives what the first block of an interval starts with: no prediction and no run.
     pub fn at_start() -> Carried

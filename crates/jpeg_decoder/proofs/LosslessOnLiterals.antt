@@ -1,5 +1,6 @@
 -- What an answer unfolds, besides the definitions of all streams, to compute those of lossless ones on a literal.
 use Rattle.std.specs.Prelude.{⊤}
+use Rattle.jpeg_bits.specs.Readers.{each}
 use Rattle.jpeg_lossless.specs.Differences as differences
 use Rattle.jpeg_lossless.specs.Pictures as pictures
 use Rattle.jpeg_lossless.specs.Prediction as prediction
@@ -12,14 +13,11 @@ use Rattle.jpeg_streams.specs.LosslessScans.{with_samples}
 use Rattle.jpeg_streams.specs.ScanSegments.{lossless_scan}
 
 unfoldable pub lossless_on_literals : ⊤
-unfolding differences.sample_difference differences.differences differences.lines_in
-    differences.mcu_tables
-    differences.row_tables differences.difference_rows differences.strand differences.strands
-    frame_payload huffman_bytes lossless_coding
-    lossless_codings lossless_scan mcus_across mcus_down parts_of pictures.lossless_picture
-    pictures.picture_by_samples pictures.pixel_of prediction.first_line prediction.line_below prediction.line_rest
-    prediction.lines_below
-    prediction.residue samples_picture scans.all_above scans.line_interval
-    scans.line_intervals
+unfolding each prediction.first_line frame_payload huffman_bytes differences.interval_rows
+    prediction.line_below prediction.line_rest prediction.lines_below differences.lines_in
+    lossless_coding lossless_codings pictures.lossless_picture lossless_scan differences.mcu_tables
+    mcus_across mcus_down parts_of pictures.picture_by_samples pictures.pixel_of prediction.residue
+    differences.row_tables differences.sample_difference samples_picture differences.strand
+    differences.strands
     scan_payload scans.lines_by_component scans.planes_of scans.scan_at with_samples
 lossless_on_literals = tt

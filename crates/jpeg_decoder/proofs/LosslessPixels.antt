@@ -22,7 +22,7 @@ use Rattle.jpeg_streams.proofs.LimitedPictures.{limited-ok, limited-same}
 use Rattle.jpeg_streams.proofs.LosslessFrames.{IsShaped}
 use Rattle.jpeg_streams.proofs.PaddingUnseen.{pictures-by}
 use Rattle.jpeg_streams.proofs.Apart.{get-at}
-use Rattle.jpeg_streams.proofs.OwnSpots.{all-append, at-within, in-below}
+use Rattle.jpeg_streams.proofs.OwnSpots.{at-within, in-below}
 use Rattle.jpeg_decoder.proofs.WrittenLosslessStreams.{IsSaid, all-in, final-framed, nothing-said}
 use Rattle.jpeg_decoder.proofs.WrittenLosslessStreams.{segment-said, some-same, AreKept}
 use Rattle.jpeg_decoder.proofs.WrittenLosslessStreams.{final-lossless, header-read, rest-ends}
@@ -33,6 +33,7 @@ use Rattle.jpeg_streams.proofs.WrittenFrameScans.{in-all}
 use Rattle.jpeg_streams.proofs.WrittenPictures.{rest-by}
 use Rattle.jpeg_decoder.proofs.LosslessReads.{sample_plane}
 use Rattle.jpeg_decoder.proofs.ReadLists.{at-flat}
+use Rattle.jpeg_bits.proofs.ReadIntervals.{all-append}
 use Rattle.std.proofs.lemmas.Grind.{common_steps}
 
 -- ---- sizes

@@ -2,7 +2,7 @@
 use Rattle.std.proofs.Common.{rules}
 use Rattle.std.proofs.Common.{◌≡◌, ℕ, zero, suc, ◌*◌, ◌<◌, Bool, true, false}
 use Rattle.std.proofs.Common.{List, [], ◌∷◌, ◌++◌, map, length, replicate, take, Option, Some, None}
-use Rattle.std.proofs.Common.{Ok, refl, ap, ◌∙◌, subst, arith}
+use Rattle.std.proofs.Common.{Ok, refl, ap, ◌∙◌, subst, arith, sym}
 use Rattle.std.specs.List.{AllByRecursion, concat}
 use Rattle.std.specs.Prelude.{slice_get, slice_index_or}
 use Rattle.std.proofs.lemmas.Bool.{le-leb, eq-eqb, or_right}
@@ -27,11 +27,11 @@ use Rattle.jpeg_lossless.specs.Codings.{IsCovered}
 use Rattle.jpeg_lossless.specs.Differences.{Part, mcu_tables, row_tables}
 use Rattle.jpeg_lossless.specs.Positions.{AreEven}
 use Rattle.jpeg_lossless.specs.SampleDifferences.{AreLines, AreSamples}
-use Rattle.jpeg_lossless.specs.Scans.{is_of_rows, is_one_interval, planes_of}
-use Rattle.jpeg_lossless.specs.Scans.{rows_of_interval, scan_at, shifted}
+use Rattle.jpeg_lossless.specs.Scans.{lines_by_component, planes_of, rows_of_interval, scan_at, shifted}
 use Rattle.jpeg_lossless.specs.Written.{AreTables}
 use Rattle.jpeg_bits.specs.Written.{marker}
-use Rattle.jpeg_lossless.proofs.ReadBack.{reads-scan, written-lines}
+use Rattle.jpeg_bits.proofs.ReadIntervals.{all-again, all-append}
+use Rattle.jpeg_lossless.proofs.ReadBack.{grouped, reads-scan, written-lines}
 use Rattle.jpeg_lossless.proofs.Sizes.{covered-within}
 use Rattle.jpeg_lossless.proofs.WholeScans.{HaveLines}
 use Rattle.jpeg_streams.specs.LosslessScans.{LosslessCoding, lossless_coding, lossless_codings, mcus_across, mcus_down}
@@ -40,34 +40,17 @@ use Rattle.jpeg_segments.specs.Checks.{needed}
 use Rattle.jpeg_streams.specs.ScanSegments.{lossless_scan, scan_before, scan_segment}
 use Rattle.jpeg_streams.specs.Segments.{Turn}
 use Rattle.jpeg_streams.specs.Found.{Found}
-use Rattle.jpeg_streams.specs.WrittenLossless.{HoldSamples, IsInterval, Samples}
+use Rattle.jpeg_streams.specs.WrittenLossless.{HoldSamples, Samples}
 use Rattle.jpeg_streams.specs.WrittenLossless.{WritesSamplesScan, said_after_scan}
 use Rattle.jpeg_streams.proofs.ReadTurns.{IsEnd, bind-ok, needed-some, ok-same, then-ok}
 use Rattle.jpeg_streams.proofs.LosslessFrames.{IsShaped}
-use Rattle.jpeg_streams.proofs.LosslessSizes.{IsMade, across-some, all-at, all-covered, down-some}
+use Rattle.jpeg_streams.proofs.LosslessSizes.{IsMade, all-at, all-covered}
 use Rattle.jpeg_streams.proofs.SaidTables.{HasTables, table-there}
 use Rattle.std.proofs.lemmas.Grind.{common_steps}
 
 -- what was said, with the samples that scans have given
 abbrev pub and_samples : Found → List (Option (List ℕ)) → Found
 and_samples said samples = record said { samples = samples }
-
--- ---- restart intervals
-
--- an interval of whole rows
-record IsOfRows (wide high restart : ℕ) : Type 0 where
-  is : is_of_rows wide high restart ≡ true
-  some : 0 < rows_of_interval wide high restart
-
-by-one : (wide high restart : ℕ) → 0 < high → is_one_interval wide high restart ≡ true → IsOfRows wide high restart
-by-one wide high restart h e = record { is = rw e refl; some = rw (e, rows_of_interval) h }
-
-by-rows : (wide high n : ℕ) → 0 < wide → 0 < high → (b : Bool) → is_one_interval wide high (suc n * wide) ≡ b
-    → IsOfRows wide high (suc n * wide)
-by-rows wide high n w h b e = grind (arith, common_steps, by-one, mod-mul-add, div-mul-add, eq-eqb)
-
-of-rows : (wide high restart : ℕ) → 0 < wide → 0 < high → IsInterval wide high restart → IsOfRows wide high restart
-of-rows wide high restart w h h0 = grind (arith, common_steps, by-one, by-rows, or_right, le-leb)
 
 -- ---- the lines of a component
 
@@ -145,26 +128,20 @@ parts-are (k ∷ j ∷ codings) = several (k ∷ j ∷ codings)
 
 -- ---- tables
 
-tables-append : (a b : List Table) → AreTables a → AreTables b → AreTables (a ++ b)
-tables-append [] b h g = g
-tables-append (t ∷ a) b h g = (h.0, tables-append a b h.1 g)
-
-tables-again : (n : ℕ) (t : Table) → IsTable t → AreTables (replicate n t)
-tables-again zero t h = tt
-tables-again (suc n) t h = (h, tables-again n t h)
-
 parts-tables : (codings : List LosslessCoding) (parts : List Part) → AreParts codings parts
     → AllByRecursion (λ k. IsTable k.table) codings → AreTables (mcu_tables parts)
 unfolding mcu_tables
 parts-tables [] [] are h = tt
 parts-tables (k ∷ codings) (p ∷ parts) are h =
-    grind (arith, common_steps, tables-append, tables-again, parts-tables codings parts are.1 h.1)
+    all-append IsTable (replicate (p.down * p.across) p.table) (mcu_tables parts)
+    (all-again IsTable (p.down * p.across) p.table (subst IsTable (sym are.0.table) h.0))
+    (parts-tables codings parts are.1 h.1)
 parts-tables _ _ are h = absurd are
 
 all-tables : (n : ℕ) (tables : List Table) → AreTables tables → AreTables (row_tables n tables)
 unfolding row_tables
 all-tables zero tables h = tt
-all-tables (suc n) tables h = tables-append tables (row_tables n tables) h (all-tables n tables h)
+all-tables (suc n) tables h = all-append IsTable tables (row_tables n tables) h (all-tables n tables h)
 
 -- ---- samples
 
@@ -214,15 +191,13 @@ data-read said frame h samples bytes rest fill code m w is all makes =
     let found = codings-found said frame h.choices w.codings is.made all w.coded in
     let parts = parts-are w.codings in
     let cover = all-covered frame w.codings found.made in
-    let r = of-rows wide high said.restart (across-some frame w.codings is.wide found.made)
-    (down-some frame w.codings is.high found.made) w.interval in
+    let n = rows_of_interval wide high said.restart in
     let tables = all-tables wide (mcu_tables way.parts) (parts-tables w.codings way.parts parts found.tables) in
-    let have = written-lines way (rows_of_interval wide high said.restart) high w.lines bytes r.some tables
-    (covered-within wide high way.parts cover) w.written in
-    let are = samples-are samples frame.components wide high w.codings way.parts w.lines parts found.stand
-    cover have w.kept in (
-      reads-scan way high said.restart 0 w.lines bytes fill code m rest r.is r.some tables
-          (record { is = makes }) w.written
+    let have = written-lines way high n w.rows (covered-within wide high way.parts cover) w.tables in
+    let are = samples-are samples frame.components wide high w.codings way.parts
+    (lines_by_component way 0 way.parts (grouped n w.rows)) parts found.stand cover have w.kept in (
+      reads-scan way high said.restart 0 w.rows bytes fill code m rest w.interval (record { is = makes }) tables
+          w.tables w.written
           ∙ ap (λ (l : List (List ℕ)). Ok ((l, Some m), rest)) are.0,
       found.indices,
       are.1,

@@ -68,8 +68,8 @@ pub fn lossless_padding_is_not_seen()
     // So an interval whose differences are others in padding alone has the same planes.
     ensures scanned { (w : Way) (point : ℕ) (a b : List (List ℕ)) →
         DifferInPadding w 0 w.parts a b →
-        planes_of point w.parts (lines_by_component w 0 w.parts a)
-        ≡ planes_of point w.parts (lines_by_component w 0 w.parts b) }
+        planes_of point w.parts (lines_by_component w 0 w.parts (a ∷ []))
+        ≡ planes_of point w.parts (lines_by_component w 0 w.parts (b ∷ [])) }
 
     // A pixel takes a sample inside.
     ensures taken { (h : FrameHeader) (index x y : ℕ) (c : Component) →

@@ -2,15 +2,17 @@
 use Rattle.std.proofs.Common.{rules, ◌≡◌, ℕ, suc, ◌%◌, ◌≤◌, Bool, true, false, List, [], ◌∷◌, ◌++◌, length}
 use Rattle.std.proofs.Common.{drop, refl, sym, ap, ap₂, ◌∙◌, subst, arith, Ok, Err, Option, Some}
 use Rattle.std.proofs.lemmas.Bool.{le-leb, eqb-true, false≢true}
+use Rattle.std.specs.Prelude.{if◌then◌else◌}
 use Rattle.jpeg_bits.specs.Reading.{End, Fault, Malformed, Outcome, ◌>>=◌}
 use Rattle.jpeg_bits.specs.Entropy.{Broken, Text, advance, fresh, marker_from, text_ahead, text_at, upcoming}
 use Rattle.jpeg_bits.specs.Ends.{end_after}
-use Rattle.jpeg_bits.specs.Intervals.{after_restart, interval, intervals, is_restart, predictors_at_start}
-use Rattle.jpeg_bits.specs.Passes.{Block, Pass, Via}
+use Rattle.jpeg_bits.specs.Intervals.{interval, intervals, is_restart}
+use Rattle.jpeg_bits.specs.Passes.{Block, Pass, Via, blocks_of, predictors_at_start}
 use Rattle.jpeg_bits.specs.declared.marker.Marker.{Marker}
 use Rattle.jpeg_bits.specs.declared.marker.Marker.TheVariants.{RST}
 use Rattle.jpeg_bits.proofs.EndLemmas.{ends-so}
-use Rattle.jpeg_streams.proofs.InTurn.{IsLongAfter, blocks_before, interval-long}
+use Rattle.jpeg_bits.proofs.ReadIntervals.{Holds}
+use Rattle.jpeg_streams.proofs.InTurn.{interval-long}
 use Rattle.jpeg_evidence.specs.Strict.{alone, IntervalFits, IntervalsFit, IsInterval, IsIntervals, numbers_read, others_read}
 use Rattle.jpeg_evidence.specs.Strict.IntervalsFit.{last, another}
 use Rattle.jpeg_streams.proofs.TakenTexts.{blocks-takes}
@@ -19,7 +21,8 @@ use Rattle.jpeg_evidence.proofs.TakenScans.{another-interval, last-interval}
 
 -- An interval that fits is read, up to its marker.
 pub interval-read : (p : Pass) (turns : List (Via × Block)) (bytes rest : List ℕ) (m : Marker)
-    → (w : IntervalFits p turns bytes m rest) → interval p turns bytes ≡ Ok ((w.blocks, Some m), rest)
+    → (w : IntervalFits p turns bytes m rest)
+    → interval (blocks_of p predictors_at_start 0 turns) bytes ≡ Ok ((w.blocks, Some m), rest)
 unfolding interval text_ahead upcoming end_after
 interval-read p turns bytes rest m w =
     let t = text_at bytes in
@@ -84,22 +87,21 @@ scan-parts a b m n r s h = (
   ap rest-of h,
 )
 
-after-first : (k : ℕ) (first blocks : List Block) (m n : Marker) (rest : List ℕ)
-    (others : Outcome (List Block × Option Marker))
-    → ◌≡◌ {A = Outcome (List Block × Option Marker)}
-    (elim (is_restart k (Some m)) as (λ _. Outcome (List Block × Option Marker)) [
-      | true ↦ blocks_before first others
-      | false ↦ Err Malformed
-    ]) (Ok ((blocks, Some n), rest))
-    → AfterFirst k first blocks m n rest others
-after-first k first blocks m n rest others h = go (is_restart k (Some m)) refl others h
+-- what an interval and the others after it give, where it ends with RST k
+abbrev with_others : ℕ → (List ℕ → Outcome (List Block × Option Marker)) → (List Block × Option Marker) × List ℕ
+    → Outcome (List Block × Option Marker)
+with_others k others r =
+    if is_restart k r.0.1 then (others r.1 >>= λ s. Ok ((r.0.0 ++ s.0.0, s.0.1), s.1)) else Err Malformed
+
+after-first : (k : ℕ) (first blocks : List Block) (m n : Marker) (bytes rest : List ℕ)
+    (others : List ℕ → Outcome (List Block × Option Marker))
+    → with_others k others ((first, Some m), bytes) ≡ Ok ((blocks, Some n), rest)
+    → AfterFirst k first blocks m n rest (others bytes)
+after-first k first blocks m n bytes rest others h = go (is_restart k (Some m)) refl (others bytes) h
   where
     go : (b : Bool) → is_restart k (Some m) ≡ b → (o : Outcome (List Block × Option Marker))
         → ◌≡◌ {A = Outcome (List Block × Option Marker)}
-        (elim b as (λ _. Outcome (List Block × Option Marker)) [
-          | true ↦ blocks_before first o
-          | false ↦ Err Malformed
-        ]) (Ok ((blocks, Some n), rest))
+        (if b then (o >>= λ s. Ok ((first ++ s.0.0, s.0.1), s.1)) else Err Malformed) (Ok ((blocks, Some n), rest))
         → AfterFirst k first blocks m n rest o
     go true e (Ok r) h =
         let q = scan-parts (first ++ r.0.0) blocks r.0.1 (Some n) r.1 rest h in
@@ -122,7 +124,7 @@ drop-front (x ∷ xs) ys n h = grind (arith, drop-front xs ys)
 -- The intervals of a scan that are read, and fit, are written for the blocks read.
 pub scan-written : (p : Pass) (k : ℕ) (turns : List (Via × Block)) (more : List (List (Via × Block)))
     (bytes rest : List ℕ) (blocks : List Block) (m : Marker) → IntervalsFit p turns more bytes
-    → intervals p k turns more bytes ≡ Ok ((blocks, Some m), rest)
+    → intervals (blocks_of p predictors_at_start 0) k turns more bytes ≡ Ok ((blocks, Some m), rest)
     → IsIntervals p k (numbers_read p turns blocks) (others_read p turns more blocks) bytes m rest
 unfolding intervals others_read
 scan-written p k turns more bytes rest blocks m (last turns' bytes' rest' m' w) h =
@@ -135,10 +137,11 @@ scan-written p k turns more bytes rest blocks m (last turns' bytes' rest' m' w) 
     (interval-written p turns bytes rest' m' w))))
 scan-written p k turns more bytes rest blocks m (another turns' following others bytes' after m' w fits) h =
     let is = interval-read p turns bytes after m' w in
-    let a = after-first k w.blocks blocks m' m rest (intervals p (suc k) following others after)
-    (sym (ap (λ o. o >>= after_restart ◌++◌ k (intervals p (suc k) following others)) is) ∙ h) in
+    let further = intervals (blocks_of p predictors_at_start 0) (suc k) following others in
+    let a = after-first k w.blocks blocks m' m after rest further
+    (sym (ap (λ o. o >>= with_others k further) is) ∙ h) in
     let long : length w.blocks ≡ length turns
-    = subst (λ o. IsLongAfter (length turns) o) is (interval-long p turns bytes) in
+    = subst (Holds (λ (s : List Block × Option Marker). length s.0 ≡ length turns)) is (interval-long p turns bytes) in
     let first : IsInterval p (numbers_read p turns blocks) bytes (RST (k % 8)) after
     = subst (λ (n : Marker). IsInterval p (numbers_read p turns blocks) bytes n after) a.restart
     (subst (λ (l : List (Via × Block)). IsInterval p l bytes m' after)

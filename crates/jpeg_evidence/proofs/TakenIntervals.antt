@@ -2,8 +2,7 @@
 use Rattle.std.proofs.Common.{arith}
 use Rattle.std.proofs.Common.{◌≡◌, ℕ, List, ◌≤◌, length, Ok}
 use Rattle.jpeg_bits.specs.Entropy.{Text, Found, text_at}
-use Rattle.jpeg_bits.specs.Intervals.{predictors_at_start}
-use Rattle.jpeg_bits.specs.Passes.{Block, Pass, Via, blocks_of}
+use Rattle.jpeg_bits.specs.Passes.{Block, Pass, Via, blocks_of, predictors_at_start}
 use Rattle.jpeg_bits.specs.declared.marker.Marker.{Marker}
 use Rattle.jpeg_streams.specs.WrittenData.{WritesBlocks}
 use Rattle.jpeg_evidence.specs.Strict.{alone, BlocksFit, IsCut, IsInterval, numbers_read}

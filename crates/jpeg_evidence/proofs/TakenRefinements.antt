@@ -18,7 +18,7 @@ use Rattle.jpeg_streams.specs.Levels.{toward_zero}
 use Rattle.jpeg_streams.specs.WrittenData.{is_old, count_unknown, NoneNew, corrections, sign_bit, WritesRefinement}
 use Rattle.jpeg_streams.specs.WrittenData.WritesRefinement.{refined, found, passed, none_left}
 use Rattle.jpeg_streams.proofs.SentBlocks.{scaled}
-use Rattle.jpeg_streams.proofs.CutLevels.{all-take, all-drop}
+use Rattle.jpeg_bits.proofs.ReadIntervals.{all-take, all-drop}
 use Rattle.jpeg_streams.proofs.WrittenBands.{scaled-zero}
 use Rattle.jpeg_streams.proofs.WrittenRefinements.{times-two_power, spread, neg-times, even-bit, even-bit_neg}
 use Rattle.jpeg_streams.proofs.WrittenRefinements.{corrections-zero, corrections-old, corrections-end, count-zero, count-old}

@@ -7,7 +7,7 @@ use Rattle.jpeg_bits.specs.Passes.{Block, Pass, Via}
 use Rattle.jpeg_bits.specs.Written.{marker}
 use Rattle.jpeg_bits.specs.declared.marker.Marker.{Marker}
 use Rattle.jpeg_bits.specs.declared.marker.Marker.TheVariants.{RST}
-use Rattle.jpeg_streams.specs.WrittenData.WritesIntervals.{last, another}
+use Rattle.jpeg_bits.specs.Written.WritesIntervals.{last, another}
 use Rattle.jpeg_evidence.specs.Strict.{IsInterval, IsIntervals}
 
 rst-code : (n k : ℕ) → marker_of n ≡ Some (RST k) → n ≡ 208 + k

@@ -7,11 +7,12 @@ use Rattle.std.specs.List.{AllByRecursion}
 use Rattle.jpeg_bits.specs.Refinement.{corrected, is_zero, through_zero}
 use Rattle.jpeg_bits.specs.Bands.{difference, token_from, wrapped}
 use Rattle.jpeg_streams.specs.Levels.{cut_by, floor_at, numbers_at, toward_zero}
-use Rattle.jpeg_streams.specs.WrittenData.{WritesBand, WritesInterval, WritesDifference}
-use Rattle.jpeg_streams.specs.WrittenData.{WritesAc, WritesDc, WritesIntervals, no_numbers}
+use Rattle.jpeg_streams.specs.WrittenData.{WritesBand, WritesDifference, WritesAc, WritesDc}
+use Rattle.jpeg_streams.specs.WrittenData.{no_numbers, WritesBlocks}
+use Rattle.jpeg_bits.specs.Written.{WritesInterval, WritesIntervals}
 use Rattle.jpeg_bits.specs.Passes.{Block, Pass, Via, band_of, block_from, blocks_of, dc_part}
 use Rattle.jpeg_bits.specs.Entropy.{Broken, Found, Text, bits_from, text_at}
-use Rattle.jpeg_bits.specs.Intervals.{predictors_at_start}
+use Rattle.jpeg_bits.specs.Passes.{predictors_at_start}
 use Rattle.jpeg_bits.specs.Marker.{marker_of}
 use Rattle.jpeg_bits.specs.Reading.{End}
 use Rattle.jpeg_bits.specs.Readers.{text}
@@ -198,7 +199,7 @@ pub record IsInterval (p : Pass) (turns : List (Via × Block)) (bytes : List ℕ
   pub code : ℕ
   pub parts : bytes ≡ front ++ marker fill code rest
   pub names : marker_of code ≡ Some m
-  pub written : WritesInterval p turns front
+  pub written : WritesInterval (WritesBlocks p predictors_at_start 0 turns) front
 
 -- A DC coefficient u at level al in its first scan: what is read, which goes round at 16 bits, and
 -- bits that are written for its difference from the predictor.
@@ -219,7 +220,7 @@ pub record IsIntervals (p : Pass) (k : ℕ) (turns : List (Via × Block)) (more 
   pub code : ℕ
   pub parts : bytes ≡ front ++ marker fill code rest
   pub names : marker_of code ≡ Some m
-  pub written : WritesIntervals p k turns more front
+  pub written : WritesIntervals (WritesBlocks p predictors_at_start 0) k turns more front
 
 -- ---- what is read of a scan
 

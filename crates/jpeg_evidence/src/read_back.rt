@@ -4,8 +4,9 @@ ghost use Rattle.std.specs.Prelude.{◌≡◌, ◌≤◌, ◌%◌, ◌∷◌, []
 ghost use Rattle.jpeg_bits.specs.Bands.{Band, difference, first_ac, first_dc, token_from};
 ghost use Rattle.jpeg_bits.specs.Codes.{IsTable, Table, symbol_from};
 ghost use Rattle.jpeg_bits.specs.Entropy.{Found, Text, bits_from, text_at};
-ghost use Rattle.jpeg_bits.specs.Intervals.{interval, intervals, predictors_at_start};
+ghost use Rattle.jpeg_bits.specs.Intervals.{interval, intervals};
 ghost use Rattle.jpeg_bits.specs.Passes.{Block, Pass, Via, block_from, blocks_of};
+ghost use Rattle.jpeg_bits.specs.Passes.{predictors_at_start};
 ghost use Rattle.jpeg_bits.specs.Readers.{signed_from};
 ghost use Rattle.jpeg_bits.specs.Written.{IsCoded};
 ghost use Rattle.jpeg_bits.specs.declared.marker.Marker.{Marker};
@@ -128,11 +129,13 @@ pub fn intervals_of_a_scan_are_written()
 pub fn scan_taken_is_written()
     ensures interval { (p : Pass) (turns : List (Via × Block)) (bytes rest : List ℕ) (m : Marker)
         → (fits : IntervalFits p turns bytes m rest)
-        → interval p turns bytes ≡ Ok ((fits.blocks, Some m), rest) }
+        → interval (blocks_of p predictors_at_start 0 turns) bytes
+        ≡ Ok ((fits.blocks, Some m), rest) }
     ensures written { (p : Pass) (k : ℕ) (turns : List (Via × Block))
         (more : List (List (Via × Block))) (bytes rest : List ℕ) (blocks : List Block) (m : Marker)
         → IntervalsFit p turns more bytes
-        → intervals p k turns more bytes ≡ Ok ((blocks, Some m), rest)
+        → intervals (blocks_of p predictors_at_start 0) k turns more bytes
+        ≡ Ok ((blocks, Some m), rest)
         → IsIntervals p k (numbers_read p turns blocks) (others_read p turns more blocks)
         bytes m rest }
 {}

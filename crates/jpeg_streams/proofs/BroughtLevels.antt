@@ -25,7 +25,7 @@ use Rattle.jpeg_streams.specs.Levels.{Levels, Is8Bit, IsLegal, sent_after, nothi
 use Rattle.jpeg_streams.specs.WrittenScans.{Coefficients, levels_of_one, levels_after, IsLegalScan, WritesScan}
 use Rattle.jpeg_streams.proofs.IndicesApart.{AreApart}
 use Rattle.jpeg_bits.specs.Written.{marker}
-use Rattle.jpeg_lossless.specs.Written.{IsMarker}
+use Rattle.jpeg_bits.specs.Written.{IsMarker}
 use Rattle.jpeg_streams.proofs.FinishedMarks.{IsBand, marks-start}
 use Rattle.jpeg_streams.proofs.OwnSpots.{At, at-get, Fits}
 use Rattle.jpeg_streams.proofs.WrittenFrameScans.{HoldsOwn, HasGood, SlotReady, SpotsSuit, dc_alone, one_component}

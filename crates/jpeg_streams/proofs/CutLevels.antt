@@ -10,6 +10,7 @@ use lib.Pow.{shr-shr}
 use Rattle.std.proofs.lemmas.Int.{ints, int_wrap_fits}
 use Rattle.std.proofs.lemmas.Bool.{eqb-true}
 use Rattle.std.specs.List.{AllByRecursion}
+use Rattle.jpeg_bits.proofs.ReadIntervals.{all-drop, all-take}
 use Rattle.jpeg_bits.specs.Bands.{wrapped}
 use Rattle.jpeg_bits.specs.Passes.{Pass, Block, band_of, with_band, before_band, band_size}
 use Rattle.jpeg_streams.specs.Levels.{floor_at, toward_zero, numbers_at, Levels, cut_by, cut_acs, cut, IsLegal}
@@ -110,14 +111,6 @@ pub all-map : {A B : Type 0} (Q : A → Type 0) (P : B → Type 0) (f : A → B)
     → AllByRecursion Q xs → AllByRecursion P (map f xs)
 all-map Q P f [] h all = tt
 all-map Q P f (x ∷ xs) h all = (h x all.0, all-map Q P f xs h all.1)
-
-pub all-take : {A : Type 0} (Q : A → Type 0) (n : ℕ) (xs : List A) → AllByRecursion Q xs → AllByRecursion Q (take n xs)
-all-take Q (suc n) (x ∷ xs) h = (h.0, all-take Q n xs h.1)
-all-take Q n xs h = tt
-
-pub all-drop : {A : Type 0} (Q : A → Type 0) (n : ℕ) (xs : List A) → AllByRecursion Q xs → AllByRecursion Q (drop n xs)
-all-drop Q (suc n) (x ∷ xs) h = all-drop Q n xs h.1
-all-drop Q n xs h = search rules
 
 pub all-same : (a : Option ℕ) (n : ℕ) → AllByRecursion (λ x. x ≡ a) (replicate n a)
 all-same a zero = tt

@@ -11,13 +11,13 @@ use Rattle.std.proofs.lemmas.List.FromFn.{get_or-range_with_len}
 use Rattle.std.specs.List.{AllByRecursion, range_with_len}
 use Rattle.jpeg_bits.specs.Codes.{lengths_from, Table}
 use Rattle.jpeg_bits.specs.Entropy.{bits_of}
-use Rattle.jpeg_bits.specs.Passes.{band_of, Block, Pass, Via, whole_pass}
+use Rattle.jpeg_bits.specs.Passes.{band_of, Block, Pass, predictors_at_start, Via, whole_pass}
 use Rattle.jpeg_bits.specs.Written.{code_bits, low_bits, bits_of_bytes, stuffed, IsCategory, IsCoded}
 use Rattle.jpeg_bits.specs.declared.codes.HuffmanTableClass.{HuffmanTableClass}
 use Rattle.jpeg_bits.specs.declared.codes.HuffmanTableClass.TheVariants as classes
 use Rattle.jpeg_streams.specs.Levels.{Is8Bit}
 use Rattle.jpeg_streams.specs.WrittenData.{no_numbers, WritesAc, WritesBand, WritesBlocks, WritesDc, WritesDifference}
-use Rattle.jpeg_streams.specs.WrittenData.{WritesInterval}
+use Rattle.jpeg_bits.specs.Written.{WritesInterval}
 use Rattle.jpeg_streams.specs.WrittenData.WritesAc.{first, no_band}
 use Rattle.jpeg_streams.specs.WrittenData.WritesBand.{ended, full, sixteen, value}
 use Rattle.jpeg_streams.specs.WrittenData.WritesBlocks.{block, done}
@@ -288,19 +288,25 @@ packed (a ∷ b ∷ c ∷ d ∷ e ∷ f ∷ g ∷ h ∷ more) =
     }
 packed bits = last-byte bits (omega arith) (omega arith)
 
+-- the bytes of these bits
+pub interval-packed : (writes : List Bool → Type 0) (bits : List Bool) → writes bits
+    → WritesInterval writes (stuffed (packed bits).bytes)
+interval-packed writes bits w =
+    let b = packed bits in
+    record {
+      bits = bits;
+      filling = b.filling;
+      data_bytes = b.bytes;
+      coded = w;
+      is_short = b.is_short;
+      whole = b.whole;
+      has_bytes = refl;
+    }
+
 pub interval-written : (p : Pass) (Good : Via × Block → Type 0) → Each p Good → (turns : List (Via × Block))
-    → AllByRecursion Good turns → (bytes : List ℕ) × WritesInterval p turns bytes
+    → AllByRecursion Good turns → (bytes : List ℕ) × WritesInterval (WritesBlocks p predictors_at_start 0 turns) bytes
 interval-written p Good each turns good =
-    let w = blocks-written p Good each (replicate 4 (pos 0)) turns start-ranged good in
-    let b = packed w.0 in (
-      stuffed b.bytes,
-      record {
-        bits = w.0;
-        filling = b.filling;
-        data_bytes = b.bytes;
-        coded = w.1;
-        is_short = b.is_short;
-        whole = b.whole;
-        has_bytes = refl;
-      },
+    let w = blocks-written p Good each predictors_at_start turns start-ranged good in (
+      _,
+      interval-packed (WritesBlocks p predictors_at_start 0 turns) w.0 w.1,
     )

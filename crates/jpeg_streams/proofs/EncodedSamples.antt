@@ -3,8 +3,10 @@ use Rattle.std.proofs.Math.Logic.{⊎_elim}
 use Rattle.std.proofs.Common.{rules, length, replicate, negsuc, unsigned_abs, subst, append_assoc, length-append}
 use Rattle.std.proofs.Common.{◌≡◌, ◌⊎◌, inl, ℕ, zero, Bool, true, List, ◌++◌, take, ◌≤ℤ◌, Some, None, Ok, refl, arith}
 use Rattle.std.proofs.Common.{inr, suc, ◌+◌, ◌-◌, ◌*◌, ◌^◌, ◌<◌, ◌≤◌, [], ◌∷◌, map, ℤ, pos, sym, ap, ap₂, ◌∙◌}
+use Rattle.std.proofs.Math.Nat.{zero-div, zero-mod}
 use Rattle.std.proofs.Math.Pow.{pow_mono}
 use Rattle.std.proofs.lemmas.Bool.{and_parts, cases_lt, eqb-true, ltb-true}
+use Rattle.std.proofs.lemmas.Bool.Decides.{nat_tests}
 use Rattle.std.proofs.lemmas.Int.{ints}
 use Rattle.std.proofs.lemmas.List.{append-nil, take_all}
 use Rattle.std.proofs.lemmas.List.FromFn.{get_or-range_with_len}
@@ -29,10 +31,10 @@ use Rattle.jpeg_lossless.specs.Differences.{Part, lines_in, mcu_tables, row_tabl
 use Rattle.jpeg_lossless.specs.Scans.{lines_by_component, rows_of_interval, Way}
 use Rattle.jpeg_lossless.specs.SampleDifferences.{AreLines, AreSamples, differences_below, differences_of}
 use Rattle.jpeg_lossless.specs.SampleDifferences.{first_differences, rest_differences}
-use Rattle.jpeg_lossless.specs.Written.{WritesSampleDifference, WritesSampleInterval, WritesRow, WritesRows}
-use Rattle.jpeg_lossless.specs.Written.WritesIntervals.{last}
-use Rattle.jpeg_lossless.specs.Written.WritesRow.{none, one}
-use Rattle.jpeg_lossless.specs.Written.WritesRows.{no_row, row}
+use Rattle.jpeg_lossless.specs.Written.{WritesRows, WritesSampleDifference}
+use Rattle.jpeg_bits.specs.Written.{WritesEach, WritesInterval, WritesIntervals}
+use Rattle.jpeg_bits.specs.Written.WritesEach.{none, one}
+use Rattle.jpeg_bits.specs.Written.WritesIntervals.{last}
 use Rattle.jpeg_lossless.proofs.Inverse.{all_back}
 use Rattle.jpeg_lossless.proofs.Residues.{residue_low, residue_neg, residue_small}
 use Rattle.jpeg_streams.specs.AcceptedFrames.{HasSamples}
@@ -43,13 +45,14 @@ use Rattle.jpeg_streams.specs.LosslessScans.{LosslessCoding, lossless_coding, lo
 use Rattle.jpeg_streams.specs.LosslessScans.{mcus_across, mcus_down, parts_of}
 use Rattle.jpeg_streams.specs.SaidSegments.{found_after}
 use Rattle.jpeg_streams.specs.Segments.{updated, accepted}
-use Rattle.jpeg_streams.specs.WrittenLossless.{HoldSamples, IsInterval, no_interval, own_lines}
+use Rattle.jpeg_streams.specs.WrittenLossless.{HoldSamples, own_lines}
 use Rattle.jpeg_streams.specs.WrittenLossless.{said_after_scan, Samples, Writes, WritesSamplesScan}
 use Rattle.jpeg_streams.specs.WrittenLossless.Writes.{closed, scan, segment}
 use Rattle.jpeg_streams.proofs.AcceptedSamples.{accepted-samples}
-use Rattle.jpeg_streams.proofs.EncodedBlocks.{category-at_most, packed}
-use Rattle.jpeg_streams.proofs.EncodedImages.{component_in, component-at, in-range, lone_header, lone-written}
-use Rattle.jpeg_streams.proofs.OwnSpots.{all-append}
+use Rattle.jpeg_streams.proofs.EncodedBlocks.{category-at_most, packed, interval-packed}
+use Rattle.jpeg_streams.proofs.EncodedImages.{component_in, component-at, in-range, lone_header}
+use Rattle.jpeg_streams.proofs.EncodedImages.{lone-written}
+use Rattle.jpeg_bits.proofs.ReadIntervals.{all-append}
 use Rattle.jpeg_streams.proofs.ReadTurns.{then-ok}
 use Rattle.jpeg_streams.proofs.TestedParts.{table-by}
 use Rattle.std.proofs.lemmas.Grind.{common_steps}
@@ -100,30 +103,47 @@ difference-written r h = ⊎_elim
 abbrev AreResidues : List ℕ → Type 0
 AreResidues rs = AllByRecursion (λ r. r < 65536) rs
 
+-- each difference beside its table
+abbrev pairs : List ℕ → List (Table × ℕ)
+pairs rs = map (λ r. (even_table, r)) rs
+
 row-written : (rs : List ℕ) → AreResidues rs
-    → (bits : List Bool) × WritesRow (row_tables (length rs) (even_table ∷ [])) rs bits
-unfolding row_tables
+    → (bits : List Bool) × WritesEach (λ x. WritesSampleDifference x.0 x.1) (pairs rs) bits
 row-written [] h = ([], none)
 row-written (r ∷ rs) h =
     let d = difference-written r h.0 in
     let more = row-written rs h.1 in
-    (_, one even_table (row_tables (length rs) (even_table ∷ [])) r rs d.0 more.0 d.1 more.1)
+    (_, one (even_table, r) (pairs rs) d.0 more.0 d.1 more.1)
 
 -- lines of n differences
 abbrev AreRows : ℕ → List (List ℕ) → Type 0
 AreRows n rows = AllByRecursion (λ rs. (length rs ≡ n) × AreResidues rs) rows
 
-rows-written : (n : ℕ) (rows : List (List ℕ)) → AreRows n rows
-    → (bits : List Bool) × WritesRows (row_tables n (even_table ∷ [])) rows bits
-rows-written n [] h = ([], no_row)
+rows-written : (n : ℕ) (rows : List (List ℕ)) → AreRows n rows → (bits : List Bool) × WritesRows (map pairs rows) bits
+rows-written n [] h = ([], none)
 rows-written n (rs ∷ rows) h =
     let first = row-written rs h.0.1 in
-    let more = rows-written n rows h.1 in (
-      _,
-      row rs rows first.0 more.0 (subst (λ (k : ℕ). WritesRow (row_tables k (even_table ∷ [])) rs first.0) h.0.0
-          first.1)
-          more.1,
-    )
+    let more = rows-written n rows h.1 in
+    (_, one (pairs rs) (map pairs rows) first.0 more.0 first.1 more.1)
+
+tables-of : (n : ℕ) (rs : List ℕ) → length rs ≡ n → map (λ x. x.0) (pairs rs) ≡ row_tables n (even_table ∷ [])
+unfolding row_tables
+tables-of zero [] e = refl
+tables-of (suc n) (r ∷ rs) e = ap (λ (l : List Table). even_table ∷ l) (tables-of n rs (omega arith))
+tables-of n rs e = absurd (omega arith)
+
+values-in : (rs : List ℕ) → map (λ x. x.1) (pairs rs) ≡ rs
+values-in [] = refl
+values-in (r ∷ rs) = ap (λ (l : List ℕ). r ∷ l) (values-in rs)
+
+values-of : (rows : List (List ℕ)) → map (map (λ x. x.1)) (map pairs rows) ≡ rows
+values-of [] = refl
+values-of (rs ∷ rows) = ap₂ (λ (l : List ℕ) (ls : List (List ℕ)). l ∷ ls) (values-in rs) (values-of rows)
+
+all-tables : (n : ℕ) (rows : List (List ℕ)) → AreRows n rows
+    → map (map (λ x. x.0)) (map pairs rows) ≡ replicate (length rows) (row_tables n (even_table ∷ []))
+all-tables n [] h = refl
+all-tables n (rs ∷ rows) h = search (rules, tables-of, all-tables n rows)
 
 -- ---- the differences of lines
 
@@ -256,24 +276,36 @@ abbrev lone_way : ℕ → ℕ → ℕ → Way
 lone_way start width height =
     record { wide = width; selection = Ra; start = start; parts = lone_part width height ∷ [] }
 
-interval-written : (start bound width height : ℕ) (lines : List (List ℕ)) → bound ≤ 65536 → length lines ≡ height
+-- its differences
+abbrev lone_rows : ℕ → List (List ℕ) → List (List ℕ)
+lone_rows start lines = differences_of Ra start [] lines
+
+interval-written : (start bound width height : ℕ) (lines : List (List ℕ)) → bound ≤ 65536
     → AllByRecursion (IsLineOf width bound) lines
-    → (bytes : List ℕ) × WritesSampleInterval (lone_way start width height) height (lines ∷ [])
-    bytes × AreBytes bytes
+    → (lines_by_component (lone_way start width height) 0 (lone_part width height ∷ []) (lone_rows start lines ∷ [])
+    ≡ lines ∷ [])
+    × (bytes : List ℕ) × WritesInterval (WritesRows (map pairs (lone_rows start lines))) bytes × AreBytes bytes
 unfolding mcu_tables lines_by_component
-interval-written start bound width height lines le e h =
-    let rows = differences_of Ra start [] lines in
+interval-written start bound width height lines le h =
+    let rows = lone_rows start lines in
     let are = below-rows Ra start width [] lines (inl refl) (are-wide bound width lines h) in
     let w = rows-written width rows are in
-    let b = packed w.0 in
-    grind (
-      arith,
-      rows-count Ra start [] lines,
-      lines-low bound width lines le h,
-      lines-whole width height rows are,
-      all_back,
+    let b = packed w.0 in (
+      grind (
+        arith,
+        common_steps,
+        append-nil,
+        lines-low bound width lines le h,
+        lines-whole width height rows are,
+        all_back,
+      ),
+      stuffed b.bytes,
+      interval-packed (WritesRows (map pairs rows)) w.0 w.1,
       stuffed-bytes b.bytes b.are_bytes,
     )
+
+no-restart : (wide high : ℕ) → rows_of_interval wide high 0 ≡ 0
+no-restart wide high = grind (arith, nat_tests, zero-div)
 
 -- ---- a scan of a component
 
@@ -294,7 +326,8 @@ data-written : (h : FrameHeader) (now : Found) (front more : List Factors) (c : 
     → AreLinesOf (2 ^ h.precision) (component_in h c) (samples (length front))
     → (bytes : List ℕ) × WritesSamplesScan now (frame_written 3 h) (header_of (length front) c)
     samples bytes × AreBytes bytes
-unfolding frame_of mcus_across mcus_down parts_of lossless_codings lossless_coding gathered scan_of HoldSamples
+unfolding HoldSamples frame_of gathered lossless_coding lossless_codings mcu_tables mcus_across
+    mcus_down parts_of scan_of
 data-written h now front more c samples ready e most are =
     let frame = frame_written 3 h in
     let k = coding h (length front) c in
@@ -303,23 +336,27 @@ data-written h now front more c samples ready e most are =
     let lines = samples (length front) in
     let bound : 2 ^ h.precision ≤ 2 ^ 16 = pow_mono {i = h.precision} {j = 16} most in
     let low : 2 ^ h.precision ≤ 65536 = omega (arith, bound) in
-    let w = interval-written (start_of h.precision 0) (2 ^ h.precision) wide high lines low are.counted are.lined in
-    let all : rows_of_interval wide high now.restart ≡ high = ap (rows_of_interval wide high) ready.restart in (
-      w.0,
+    let start = start_of h.precision 0 in
+    let w = interval-written start (2 ^ h.precision) wide high lines low are.lined in
+    let rows = lone_rows start lines in
+    let wides = are-wide (2 ^ h.precision) wide lines are.lined in
+    let are_rows = below-rows Ra start wide [] lines (inl refl) wides in
+    let n : rows_of_interval wide high now.restart ≡ 0
+    = ap (rows_of_interval wide high) ready.restart ∙ no-restart wide high in (
+      w.1,
       record {
         codings = k ∷ [];
         coded = let is = component-at 3 h front more c e in grind (arith, common_steps, then-ok);
         point = refl;
-        interval = subst (IsInterval wide high) (sym ready.restart) no_interval;
-        lines = lines ∷ [];
-        kept = (
-          own-whole wide high lines are.counted (are-wide (2 ^ h.precision) wide lines
-              are.lined),
-          tt,
-        );
-        written = last 0 high (lines ∷ []) w.0 (subst (λ (n : ℕ). high ≤ n) (sym all) (omega arith)) w.1;
+        interval = rw (ready.restart, zero-mod) refl;
+        rows = map pairs rows;
+        tables = all-tables wide rows are_rows
+            ∙ ap (λ (n : ℕ). replicate n (row_tables wide (even_table ∷ [])))
+            (rows-count Ra start [] lines ∙ are.counted);
+        kept = rw (n, values-of rows, w.0) (own-whole wide high lines are.counted wides, tt);
+        written = rw n (last 0 (map pairs rows) w.1 w.2);
       },
-      w.2,
+      w.3,
     )
 
 scan-bytes : (index : ℕ) (c : Factors) → c.identifier < 256 → AreBytes (with_length (scan_payload

@@ -4,7 +4,7 @@ use Rattle.std.proofs.Common.{replicate, length, Option, Some, None, refl, sym, 
 use Rattle.std.proofs.Common.{drop-drop, ◌==◌}
 use Rattle.std.proofs.lemmas.Grind.{common_steps}
 use Rattle.std.proofs.lemmas.Bool.{eqb-true, eq-eqb}
-use Rattle.jpeg_lossless.proofs.ReadBack.{not-equal}
+use Rattle.jpeg_bits.proofs.WrittenIntervals.{not-equal}
 use lib.ListN.{length-map}
 use Rattle.std.specs.List.{AllByRecursion}
 use Rattle.jpeg_bits.specs.Passes.{Pass, band_of, with_band, before_band, band_size}

@@ -1,15 +1,16 @@
 -- Blocks that are read one after the other, at spots apart, are read on the blocks as they were and put back.
 use Rattle.std.proofs.Common.{rules, Bool, true, false, List, length, get_or, Option, Result, subst, append-nil, arith}
-use Rattle.std.proofs.Common.{◌≡◌, inl, inr, ℕ, suc, [], ◌∷◌, ◌++◌, map, set, ℤ, pos, Ok, Err, refl, sym, ap, ◌∙◌}
+use Rattle.std.proofs.Common.{◌≡◌, inl, inr, ℕ, suc, [], ◌∷◌, ◌++◌, map, set, ℤ, pos, Ok, Err, refl, sym, ap, ap₂, ◌∙◌}
 use Rattle.std.specs.List.{flat_map}
+use Rattle.std.specs.Prelude.{if◌then◌else◌}
 use Rattle.jpeg_bits.specs.Reading as reading
 use Rattle.jpeg_bits.specs.Reading.{Outcome, Fault, Malformed}
 use Rattle.jpeg_bits.specs.Entropy.{Text, text_ahead, upcoming, fresh}
-use Rattle.jpeg_bits.specs.Readers.{read_on, gives}
+use Rattle.jpeg_bits.specs.Readers.{Reads, read_on, gives}
 use Rattle.jpeg_bits.specs.declared.marker.Marker.{Marker}
-use Rattle.jpeg_bits.specs.Passes.{Pass, Via, Block, block_from, blocks_of}
-use Rattle.jpeg_bits.specs.Intervals.{predictors_at_start, interval, intervals, is_restart}
-use Rattle.jpeg_bits.specs.Intervals.{after_restart}
+use Rattle.jpeg_bits.specs.Passes.{Pass, Via, Block, block_from, blocks_of, predictors_at_start}
+use Rattle.jpeg_bits.specs.Intervals.{interval, intervals, is_restart}
+use Rattle.jpeg_bits.proofs.ReadIntervals.{Holds}
 use Rattle.jpeg_streams.specs.Order.{Spot}
 use Rattle.jpeg_streams.specs.Scans.{Arrays, block_at, put_block, put_blocks, via_at, turns_of}
 use Rattle.jpeg_streams.specs.InTurn.{Reached, turn_from, turns_from, interval_from, next_interval, intervals_from}
@@ -116,38 +117,27 @@ in-turn p vias (s ∷ spots) arrays predictors run t apart inside =
 
 -- ---- intervals
 
-abbrev pub blocks_before : List Block → Outcome (List Block × Option Marker)
-    → Outcome (List Block × Option Marker)
-blocks_before blocks others = reading.◌>>=◌ others (λ s. Ok ((blocks ++ s.0.0, s.0.1), s.1))
-
 abbrev pub put_after : List Spot → Arrays → Outcome (List Block × Option Marker) → Outcome (Arrays × Option Marker)
 put_after spots arrays (Ok r) = Ok ((put_blocks spots r.0.0 arrays, r.0.1), r.1)
 put_after spots arrays (Err e) = Err e
 
 pub interval-in-turn : (p : Pass) (vias : List Via) (spots : List Spot) (arrays : Arrays) (bytes : List ℕ)
     → AreApart spots → ((q : Spot) → IsIn q spots → IsInside arrays q)
-    → interval_from p vias spots arrays bytes ≡ put_after spots arrays (interval p (turns_of vias spots (block_at arrays)) bytes)
+    → interval_from p vias spots arrays bytes ≡ put_after spots arrays (interval (blocks_of p predictors_at_start 0 (turns_of vias spots (block_at arrays))) bytes)
 unfolding interval_from interval upcoming text_ahead
 interval-in-turn p vias spots arrays bytes apart inside =
     grind (arith, in-turn p vias spots arrays predictors_at_start 0 (upcoming fresh bytes) apart inside)
 
-abbrev pub IsLong : ℕ → Result (List Block × Text) Fault → Type 0
-IsLong n (Ok r) = length r.0 ≡ n
-IsLong n (Err e) = Unit {0}
-
 -- as many blocks as turns
 pub blocks-long : (p : Pass) (turns : List (Via × Block)) (predictors : List ℤ) (run : ℕ) (t : Text)
-    → IsLong (length turns) (blocks_of p predictors run turns t)
+    → Holds (λ (l : List Block). length l ≡ length turns) (blocks_of p predictors run turns t)
 unfolding blocks_of
 blocks-long p [] predictors run t = refl
 blocks-long p (v ∷ turns) predictors run t = search (rules, blocks-long p turns)
 
-abbrev pub IsLongAfter : ℕ → Outcome (List Block × Option Marker) → Type 0
-IsLongAfter n (Ok r) = length r.0.0 ≡ n
-IsLongAfter n (Err e) = Unit {0}
-
 pub interval-long : (p : Pass) (turns : List (Via × Block)) (bytes : List ℕ)
-    → IsLongAfter (length turns) (interval p turns bytes)
+    → Holds (λ (s : List Block × Option Marker). length s.0 ≡ length turns)
+    (interval (blocks_of p predictors_at_start 0 turns) bytes)
 unfolding interval
 interval-long p turns bytes = search (rules, blocks-long)
 
@@ -171,76 +161,46 @@ same-groups vias [] arrays new h = refl
 same-groups vias (spots ∷ others) arrays new h =
     search (rules, same-turns, in-front, in-back, same-groups vias others arrays new)
 
+-- an interval, and the others after it
+followed : (k : ℕ) (spots after : List Spot) (arrays : Arrays) (o : Outcome (List Block × Option Marker))
+    (others : List ℕ → Outcome (List Block × Option Marker)) (more : Arrays → List ℕ → Outcome (Arrays × Option Marker))
+    → Holds (λ (s : List Block × Option Marker). length s.0 ≡ length spots) o
+    → ((blocks : List Block) (rest : List ℕ) → more (put_blocks spots blocks arrays) rest
+    ≡ put_after after (put_blocks spots blocks arrays) (others rest))
+    → reading.◌>>=◌ (put_after spots arrays o) (next_interval k more)
+    ≡ put_after (spots ++ after) arrays (reading.◌>>=◌ o (λ r. if is_restart k r.0.1
+    then (reading.◌>>=◌ (others r.1) (λ s. Ok ((r.0.0 ++ s.0.0, s.0.1), s.1))) else Err Malformed))
+followed k spots after arrays o others more h again = search (rules, again, put-both)
+
 -- intervals in turn are put back as all are
 pub intervals-in-turn : (p : Pass) (vias : List Via) (k : ℕ) (spots : List Spot) (others : List (List Spot))
     (arrays : Arrays) (bytes : List ℕ)
     → AreApart (spots ++ all_of others) → ((q : Spot) → IsIn q (spots ++ all_of others) → IsInside arrays q)
     → intervals_from p vias k spots others arrays bytes
     ≡ put_after (spots ++ all_of others) arrays
-    (intervals p k (turns_of vias spots (block_at arrays)) (all_turns vias arrays others) bytes)
+    (intervals (blocks_of p predictors_at_start 0) k (turns_of vias spots (block_at arrays)) (all_turns vias arrays others) bytes)
 unfolding intervals_from intervals
 intervals-in-turn p vias k spots [] arrays bytes apart inside =
     search (rules, interval-in-turn, apart-front, in-front, append-nil)
 intervals-in-turn p vias k spots (next ∷ more) arrays bytes apart inside =
     (search (rules, interval-in-turn, apart-front, in-front))
-    ∙ go (interval p (turns_of vias spots (block_at arrays)) bytes)
-    (search (rules, turns-long, interval-long))
+    ∙ followed k spots after arrays (interval (read (turns_of vias spots (block_at arrays))) bytes)
+    (intervals read (suc k) (turns_of vias next (block_at arrays)) (all_turns vias arrays more))
+    (intervals_from p vias (suc k) next more) (search (rules, turns-long, interval-long))
     (λ blocks rest. intervals-in-turn p vias (suc k) next more (put_blocks spots blocks arrays) rest
     (apart-back spots (all_of (next ∷ more)) apart)
-    (λ q t. inside-after spots blocks arrays q (inside q (in-back q spots (all_of (next ∷ more)) t))))
+    (λ q t. inside-after spots blocks arrays q (inside q (in-back q spots (all_of (next ∷ more)) t)))
+    ∙ ap₂ (λ (l : List (Via × Block)) (ls : List (List (Via × Block))).
+    put_after after (put_blocks spots blocks arrays) (intervals read (suc k) l ls rest))
+    (same-turns vias next arrays (put_blocks spots blocks arrays) (λ q t. kept blocks q (in-front q next (all_of more) t)))
+    (same-groups vias more arrays (put_blocks spots blocks arrays) (λ q t. kept blocks q (in-back q next (all_of more) t))))
   where
     after : List Spot
     after = all_of (next ∷ more)
 
+    read : List (Via × Block) → Reads (List Block)
+    read = blocks_of p predictors_at_start 0
+
     kept : (blocks : List Block) (q : Spot) → IsIn q after
         → block_at (put_blocks spots blocks arrays) q ≡ block_at arrays q
     kept blocks q t = search (rules, others-kept, in-back, apart-between)
-
-    both : (r : (List Block × Option Marker) × List ℕ) → length r.0.0 ≡ length spots
-        → (o : Outcome (List Block × Option Marker))
-        → put_after after (put_blocks spots r.0.0 arrays) o
-        ≡ put_after (spots ++ after) arrays (blocks_before r.0.0 o)
-    both r h (Ok s) = search (rules, put-both)
-    both r h (Err e) = refl
-
-    test : (r : (List Block × Option Marker) × List ℕ) → length r.0.0 ≡ length spots
-        → ((blocks : List Block) (rest : List ℕ)
-        → intervals_from p vias (suc k) next more (put_blocks spots blocks arrays) rest
-        ≡ put_after after (put_blocks spots blocks arrays)
-        (intervals p (suc k) (turns_of vias next (block_at (put_blocks spots blocks arrays)))
-        (all_turns vias (put_blocks spots blocks arrays) more) rest)) → (b : Bool)
-        → ◌≡◌ {A = Outcome (Arrays × Option Marker)}
-        (elim b [
-          | true ↦ intervals_from p vias (suc k) next more
-              (put_blocks spots r.0.0 arrays) r.1
-          | false ↦ Err Malformed
-        ])
-        (put_after (spots ++ after) arrays
-        (elim b [
-          | true ↦ blocks_before r.0.0
-              (intervals p (suc k) (turns_of vias next (block_at arrays)) (all_turns vias arrays more) r.1)
-          | false ↦ Err Malformed
-        ]))
-    test r h rec false = refl
-    test r h rec true =
-        let new = put_blocks spots r.0.0 arrays in
-        rec r.0.0 r.1
-        ∙ ap (λ (l : List (Via × Block)). put_after after new (intervals p (suc k) l (all_turns vias new more) r.1))
-        (same-turns vias next arrays new (λ q t. kept r.0.0 q (in-front q next (all_of more) t)))
-        ∙ ap (λ (l : List (List (Via × Block))). put_after after new
-        (intervals p (suc k) (turns_of vias next (block_at arrays)) l r.1))
-        (same-groups vias more arrays new (λ q t. kept r.0.0 q (in-back q next (all_of more) t)))
-        ∙ both r h (intervals p (suc k) (turns_of vias next (block_at arrays)) (all_turns vias arrays more) r.1)
-
-    go : (o : Outcome (List Block × Option Marker)) → IsLongAfter (length spots) o
-        → ((blocks : List Block) (rest : List ℕ)
-        → intervals_from p vias (suc k) next more (put_blocks spots blocks arrays) rest
-        ≡ put_after after (put_blocks spots blocks arrays)
-        (intervals p (suc k) (turns_of vias next (block_at (put_blocks spots blocks arrays)))
-        (all_turns vias (put_blocks spots blocks arrays) more) rest))
-        → reading.◌>>=◌ (put_after spots arrays o) (next_interval k (intervals_from p vias (suc k) next more))
-        ≡ put_after (spots ++ after) arrays
-        (reading.◌>>=◌ o (after_restart ◌++◌ k
-        (intervals p (suc k) (turns_of vias next (block_at arrays)) (all_turns vias arrays more))))
-    go (Ok r) h rec = test r h rec (is_restart k r.0.1)
-    go (Err e) h rec = refl

@@ -7,6 +7,7 @@ use Rattle.std.proofs.lemmas.Nat.{div-add-mod', div-mul-add, mod-mul-add}
 use Rattle.std.proofs.lemmas.Bool.Decides.{leb_tells, nat_tests}
 use Rattle.std.specs.List.{AllByRecursion, range_with_len, flat_map}
 use Rattle.jpeg_segments.specs.Frame.{Frame, Component}
+use Rattle.jpeg_bits.proofs.ReadIntervals.{all-append}
 use Rattle.jpeg_streams.specs.declared.grids.Grid.{Grid}
 use Rattle.jpeg_streams.specs.Order.{Spot, grid_of, own_spots, part_spots, mcu_spots, all_spots, spots_of}
 use Rattle.jpeg_streams.specs.WrittenScans.{IsOwn}
@@ -35,11 +36,6 @@ in-range k a (suc n) h lt = ⊎_elim (λ x. inl (omega arith))
 
 pub in-below : (k n : ℕ) → k < n → IsIn k (range_with_len 0 n)
 in-below k n h = in-range k 0 n (omega arith) (omega arith)
-
-pub all-append : {A : Type 0} (Q : A → Type 0) (xs ys : List A) → AllByRecursion Q xs → AllByRecursion Q ys
-    → AllByRecursion Q (xs ++ ys)
-all-append Q [] ys h k = k
-all-append Q (x ∷ xs) ys h k = (h.0, all-append Q xs ys h.1 k)
 
 -- over the numbers from a on
 pub all-flat : {B : Type 0} (Q : B → Type 0) (f : ℕ → List B) (a n : ℕ)

@@ -1,6 +1,6 @@
 -- No sample outside a component reaches one inside.
 use Rattle.std.proofs.Common.{rules, ◌≡◌, ℕ, suc, ◌+◌, ◌*◌, ◌/◌, ◌<◌, List, [], ◌∷◌, ◌++◌, map}
-use Rattle.std.proofs.Common.{drop, take, Some, slice_get, refl, ap, ap₂, arith}
+use Rattle.std.proofs.Common.{drop, take, Some, slice_get, refl, ap, ap₂, arith, append-nil}
 use Rattle.std.specs.List.{AllByRecursion, concat, enumerate_from}
 use Rattle.jpeg_bits.specs.declared.scan.Predictor.{Predictor}
 use Rattle.jpeg_segments.specs.Frame.{Component, Frame, frame_of, most_across, most_down}
@@ -33,12 +33,12 @@ own-predicted p selection start differences = search (rules, lines-short, top-na
 
 -- so planes do not show the differences of padding
 pub planes-same : (w : Way) (point from : ℕ) (parts : List Part) (a b : List (List ℕ))
-    → DifferInPadding w from parts a b → planes_of point parts (lines_by_component w from parts a)
-    ≡ planes_of point parts (lines_by_component w from parts b)
+    → DifferInPadding w from parts a b → planes_of point parts (lines_by_component w from parts (a ∷ []))
+    ≡ planes_of point parts (lines_by_component w from parts (b ∷ []))
 unfolding DifferInPadding lines_by_component planes_of
 planes-same w point from [] a b h = refl
 planes-same w point from (p ∷ parts) a b h =
-    search (rules, own-predicted, planes-same w point (from + p.down * p.across) parts a b h.1)
+    search (rules, append-nil, own-predicted, planes-same w point (from + p.down * p.across) parts a b h.1)
 
 -- ---- pixels
 

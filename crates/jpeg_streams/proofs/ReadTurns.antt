@@ -40,7 +40,7 @@ use Rattle.jpeg_streams.specs.WrittenScans.{Coefficients}
 use Rattle.jpeg_streams.specs.WrittenImages.{Writes, closed, segment, scan}
 use Rattle.jpeg_streams.specs.Levels.{Levels}
 use Rattle.jpeg_bits.specs.Written.{marker}
-use Rattle.jpeg_lossless.specs.Written.{IsMarker}
+use Rattle.jpeg_bits.specs.Written.{IsMarker}
 pub use Rattle.jpeg_segments.proofs.Codecs.{err-ok, ok-same, bind-ok}
 use Rattle.jpeg_streams.proofs.ReadStates.{reading}
 use Rattle.jpeg_streams.proofs.WrittenMarkers.{marker-append, marker_for, segment-marker}

@@ -108,6 +108,10 @@ unfolding each
 each-takes read [] h = gives-takes []
 each-takes read (x ∷ xs) h = search (rules, bind-takes, gives-takes, each-takes read xs h)
 
+pub if-takes : {A : Type 0} (b : Bool) (p q : Reads A) → TakesBits p → TakesBits q → TakesBits (if b then p else q)
+if-takes true p q x y = x
+if-takes false p q x y = y
+
 -- ---- bits and codes
 
 -- bits that are there can be taken whatever follows them

@@ -10,7 +10,6 @@ use Rattle.std.specs.List.{AllByRecursion, list_all}
 use Rattle.std.specs.Prelude.{nat_le, slice_get, ◌/◌, ◌%◌}
 use Rattle.jpeg_bits.proofs.Tables.{tested-exist}
 use Rattle.jpeg_bits.specs.Codes.{code_lengths, codes_exist}
-use Rattle.jpeg_bits.specs.Intervals.{predictors_at_start}
 use Rattle.jpeg_bits.specs.Passes.{band_of, Block, Pass, Via}
 use Rattle.jpeg_bits.specs.Written.{bits_of_bytes, IsCategory, stuffed}
 use Rattle.jpeg_segments.specs.Frame.{Factors, Frame, is_count, is_factor, is_lossless_number}
@@ -26,7 +25,7 @@ use Rattle.jpeg_streams.specs.Found.{Found}
 use Rattle.jpeg_streams.specs.Levels.{Is8Bit, IsLegal, Levels}
 use Rattle.jpeg_streams.specs.ScanSegments.{Coding, codings_of, pass_of}
 use Rattle.jpeg_streams.specs.WorkedImages.{in_column}
-use Rattle.jpeg_streams.specs.WrittenData.{WritesBlocks, WritesInterval}
+use Rattle.jpeg_bits.specs.Written.{WritesInterval}
 use Rattle.jpeg_streams.specs.Order.{Spot}
 use Rattle.jpeg_streams.specs.WrittenScans.{Coefficients, IsLegalScan}
 
@@ -185,9 +184,8 @@ range-in (b ∷ blocks) e (suc column) = range-in blocks (and_parts (is_8_bit b)
 range-in blocks e column = search (rules, range-by)
 
 -- the bits of an interval, and what is left of its last byte
-pub interval-by : (p : Pass) (turns : List (Via × Block)) (bits : List Bool) (data_bytes : List ℕ)
-    → WritesBlocks p predictors_at_start 0 turns bits
+pub interval-by : (writes : List Bool → Type 0) (bits : List Bool) (data_bytes : List ℕ) → writes bits
     → bits_of_bytes data_bytes ≡ bits ++ drop (length bits) (bits_of_bytes data_bytes)
     → nat_le (length (drop (length bits) (bits_of_bytes data_bytes))) 7 ≡ true
-    → WritesInterval p turns (stuffed data_bytes)
-interval-by p turns bits data_bytes coded whole short = search (rules, leb-true)
+    → WritesInterval writes (stuffed data_bytes)
+interval-by writes bits data_bytes coded whole short = search (rules, leb-true)

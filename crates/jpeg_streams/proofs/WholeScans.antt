@@ -6,19 +6,8 @@ use Rattle.jpeg_bits.specs.Intervals.{groups, first_group, other_groups}
 use Rattle.jpeg_streams.specs.Order.{Spot}
 use Rattle.jpeg_streams.specs.Scans.{Arrays, turns_of, arrays_at}
 use Rattle.jpeg_streams.specs.InTurn.{intervals_from, IsIn, AreApart, IsInside}
-use Rattle.jpeg_streams.proofs.InTurn.{all_of, intervals-in-turn}
-use Rattle.jpeg_streams.proofs.WrittenIntervals.{first-map, others-map}
-
-groups-whole : (turns n : ℕ) (xs : List Spot) → length xs ≤ turns → all_of (groups turns (suc n) xs) ≡ xs
-unfolding groups
-groups-whole (suc turns) n (x ∷ xs) h =
-    search (rules, length-drop, take-append-drop, groups-whole turns n (drop (suc n) (x ∷ xs)))
-groups-whole turns n xs h = search rules
-
--- the groups are the list
-pub whole-again : (n : ℕ) (xs : List Spot) → first_group n xs ++ all_of (other_groups n xs) ≡ xs
-whole-again zero xs = append-nil xs
-whole-again (suc n) xs = search (rules, groups-whole, length-drop, take-append-drop)
+use Rattle.jpeg_streams.proofs.InTurn.{intervals-in-turn}
+use Rattle.jpeg_bits.proofs.WrittenIntervals.{all-groups, first-map, others-map}
 
 -- A scan over spots that are apart and inside is its blocks in turn.
 pub scans-in-turn : (p : Pass) (n : ℕ) (vias : List Via) (spots : List Spot) (arrays : Arrays) (bytes : List ℕ)
@@ -27,4 +16,4 @@ pub scans-in-turn : (p : Pass) (n : ℕ) (vias : List Via) (spots : List Spot) (
     ≡ intervals_from p vias 0 (first_group n spots) (other_groups n spots) arrays bytes
 unfolding arrays_at turns_of
 scans-in-turn p n vias spots arrays bytes apart inside =
-    search (rules, whole-again, intervals-in-turn, first-map, others-map)
+    search (rules, all-groups n spots, intervals-in-turn, first-map, others-map)

@@ -15,7 +15,6 @@ use Rattle.jpeg_segments.specs.ScanHeader.{Selector, scan_of}
 use Rattle.jpeg_segments.specs.WrittenSegments.{FrameHeader, Segment, Quantization, Huffman, Interval, Header}
 use Rattle.jpeg_segments.specs.WrittenSegments.{frame_payload, huffman_bytes, quantization_bytes}
 use Rattle.jpeg_segments.specs.ScanHeaders.{ScanHeader, IsScan, scan_payload, scan_written}
-use Rattle.jpeg_segments.specs.Checks.{gathered}
 use Rattle.jpeg_pixels.specs.Upsampling.{rule_of}
 use Rattle.jpeg_streams.specs.Levels.{Levels, Is8Bit, nothing_sent}
 use Rattle.jpeg_streams.specs.Order.{all_spots, grid_of, mcu_size, mcu_spots, part_spots, spots_of}
@@ -26,12 +25,14 @@ use Rattle.jpeg_streams.specs.Scans.{turns_of}
 use Rattle.jpeg_streams.specs.Segments.{accepted, updated}
 use Rattle.jpeg_streams.specs.Found.{nothing_found, Found}
 use Rattle.jpeg_streams.specs.WorkedImages.{IsWhollyWritten, flat_block, colour_array, colour_bytes}
-use Rattle.jpeg_streams.specs.WrittenData.{WritesAc, WritesBlocks, WritesInterval, bits_for}
+use Rattle.jpeg_streams.specs.WrittenData.{WritesAc, WritesBlocks, bits_for}
+use Rattle.jpeg_bits.specs.Passes.{predictors_at_start}
+use Rattle.jpeg_bits.specs.Written.{WritesInterval}
 use Rattle.jpeg_streams.specs.WrittenData.WritesAc.{first}
 use Rattle.jpeg_streams.specs.WrittenData.WritesBand.{ended}
 use Rattle.jpeg_streams.specs.WrittenData.WritesBlocks.{done, block}
 use Rattle.jpeg_streams.specs.WrittenData.WritesDc.{whole}
-use Rattle.jpeg_streams.specs.WrittenData.WritesIntervals.{another, last}
+use Rattle.jpeg_bits.specs.Written.WritesIntervals.{another, last}
 use Rattle.jpeg_streams.specs.WrittenImages.{closed, scan, segment}
 use Rattle.jpeg_streams.specs.WrittenScans.{IsComplete, IsLegalScan, IsOwn, WritesScan, levels_after}
 use Rattle.jpeg_streams.proofs.CutLevels.{all-same}
@@ -139,15 +140,17 @@ flat-block predictors slot dc turns bits is more =
     (search (rules, category-by, dc-coded)))
     no-ac more
 
-intervals : WritesInterval (pass_of (scan_written the_frame the_header)) (mcu (pos 8) (negsuc 0) (negsuc 7) (pos 15))
-    (64 ∷ 195 ∷ 158 ∷ [])
-    × WritesInterval (pass_of (scan_written the_frame the_header)) (mcu (pos 9) (negsuc 0) (negsuc 8) (pos 12))
-    (72 ∷ 163 ∷ 24 ∷ [])
+abbrev Sends : List (Via × Block) → List ℕ → Type 0
+Sends turns bytes = WritesInterval (WritesBlocks (pass_of (scan_written the_frame the_header)) predictors_at_start 0
+    turns) bytes
+
+intervals : Sends (mcu (pos 8) (negsuc 0) (negsuc 7) (pos 15)) (64 ∷ 195 ∷ 158 ∷ [])
+    × Sends (mcu (pos 9) (negsuc 0) (negsuc 8) (pos 12)) (72 ∷ 163 ∷ 24 ∷ [])
 unfolding stuffed bits_of_bytes number_for low_bits
 intervals = (
-  interval-by _ _ _ (64 ∷ 195 ∷ 158 ∷ []) (flat-block _ 0 (pos 8) _ _ refl (flat-block _ 0 (negsuc 0) _ _ refl
+  interval-by _ _ (64 ∷ 195 ∷ 158 ∷ []) (flat-block _ 0 (pos 8) _ _ refl (flat-block _ 0 (negsuc 0) _ _ refl
       (flat-block _ 1 (negsuc 7) _ _ refl (flat-block _ 2 (pos 15) _ _ refl (done _))))) refl refl,
-  interval-by _ _ _ (72 ∷ 163 ∷ 24 ∷ []) (flat-block _ 0 (pos 9) _ _ refl (flat-block _ 0 (negsuc 0) _ _ refl
+  interval-by _ _ (72 ∷ 163 ∷ 24 ∷ []) (flat-block _ 0 (pos 9) _ _ refl (flat-block _ 0 (negsuc 0) _ _ refl
       (flat-block _ 1 (negsuc 8) _ _ refl (flat-block _ 2 (pos 12) _ _ refl (done _))))) refl refl,
 )
 

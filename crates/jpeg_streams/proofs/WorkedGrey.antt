@@ -10,7 +10,6 @@ use Rattle.jpeg_segments.specs.ScanHeader.{scan_of}
 use Rattle.jpeg_segments.specs.WrittenSegments.{FrameHeader, Header, Huffman, Quantization, Segment, quantization_bytes}
 use Rattle.jpeg_segments.specs.WrittenSegments.{frame_payload, huffman_bytes}
 use Rattle.jpeg_segments.specs.ScanHeaders.{ScanHeader, IsScan, scan_payload, scan_written}
-use Rattle.jpeg_segments.specs.Checks.{gathered}
 use Rattle.jpeg_pixels.specs.Upsampling.{rule_of}
 use Rattle.jpeg_streams.specs.Levels.{Levels, nothing_sent}
 use Rattle.jpeg_streams.specs.Order.{own_spots, spots_of, mcu_size}
@@ -27,7 +26,7 @@ use Rattle.jpeg_streams.specs.WrittenData.WritesAc.{no_band, first, first_run, a
 use Rattle.jpeg_streams.specs.WrittenData.WritesBand.{value, ended}
 use Rattle.jpeg_streams.specs.WrittenData.WritesBlocks.{done, block}
 use Rattle.jpeg_streams.specs.WrittenData.WritesDc.{other_band, whole, one_bit}
-use Rattle.jpeg_streams.specs.WrittenData.WritesIntervals.{last}
+use Rattle.jpeg_bits.specs.Written.WritesIntervals.{last}
 use Rattle.jpeg_streams.specs.WrittenData.WritesRefinement.{found, none_left}
 use Rattle.jpeg_streams.specs.WrittenImages.{closed, scan, segment}
 use Rattle.jpeg_streams.specs.WrittenScans.{IsLegalScan, WritesScan, levels_after}
@@ -125,7 +124,7 @@ sent = (
     sent = own_block dc_coding grey_array;
     in_range = search (rules, range-in);
     is_own = λ s c e own. lone-own dc_coding grey_array s c e;
-    coded = last 0 _ _ (interval-by _ _ _ (66 ∷ 79 ∷ [])
+    coded = last 0 _ _ (interval-by _ _ (66 ∷ 79 ∷ [])
         (block _ 0 0 _ _ _ (false ∷ true ∷ false ∷ false ∷ []) [] _ (pos 4)
         (whole (pos 4) (pos 0) _ refl refl
         (search (rules, category-by, codes.0)))
@@ -144,7 +143,7 @@ sent = (
     sent = own_block ac_coding grey_array;
     in_range = search (rules, range-in);
     is_own = λ s c e own. lone-own ac_coding grey_array s c e;
-    coded = last 0 _ _ (interval-by _ _ _ (99 ∷ 63 ∷ [])
+    coded = last 0 _ _ (interval-by _ _ (99 ∷ 63 ∷ [])
         (block _ 0 0 _ _ _ [] (false ∷ true ∷ true ∷ false ∷ []) _ (pos 0)
         (other_band (pos 4) (pos 0) (λ e. absurd (omega arith)))
         (first (pos 1) (replicate 62 (pos 0)) _ 0 refl (
@@ -165,7 +164,7 @@ sent = (
     sent = own_block dc_coding grey_array;
     in_range = search (rules, range-in);
     is_own = λ s c e own. lone-own dc_coding grey_array s c e;
-    coded = last 0 _ _ (interval-by _ _ _ (191 ∷ [])
+    coded = last 0 _ _ (interval-by _ _ (191 ∷ [])
         (block _ 0 0 _ _ _ (true ∷ []) [] _ (pos 0) (one_bit (pos 9) (pos 0) refl refl) (no_band 0)
         (block _ 0 0 _ _ _ (false ∷ []) [] _ (pos 0) (one_bit (negsuc 1) (pos 0) refl refl) (no_band 0)
         (block _ 0 0 _ _ _ (true ∷ []) [] _ (pos 0) (one_bit (pos 7) (pos 0) refl refl) (no_band 0)
@@ -175,7 +174,7 @@ sent = (
     sent = own_block ac_coding grey_array;
     in_range = search (rules, range-in);
     is_own = λ s c e own. lone-own ac_coding grey_array s c e;
-    coded = last 0 _ _ (interval-by _ _ _ (58 ∷ [])
+    coded = last 0 _ _ (interval-by _ _ (58 ∷ [])
         (block _ 0 2 _ _ _ [] (false ∷ false ∷ true ∷ true ∷ true ∷ false ∷ true ∷ []) _ (pos 0)
         (other_band (pos 9) (pos 0) (λ e. absurd (omega arith)))
         (again (pos 3) (negsuc 0 ∷ replicate 61 (pos 0)) _ 2 refl (

@@ -1,6 +1,7 @@
 -- The lossless streams that are worked by hand are written.
 use Rattle.std.proofs.Common.{rules, ◌≡◌, ℕ, zero, suc, ◌==◌, Bool, true, false, List, [], ◌∷◌, ◌++◌, length, drop}
 use Rattle.std.proofs.Common.{ℤ, ◌≤ℤ◌, replicate, flat_map, pos, negsuc, refl, sym, subst, arith}
+use Rattle.std.proofs.Common.{map}
 use Rattle.std.proofs.lemmas.Bool.{and_parts, eqb-true, leb-true}
 use Rattle.std.specs.List.{list_all}
 use Rattle.std.specs.Prelude.{nat_le}
@@ -13,13 +14,13 @@ use Rattle.jpeg_segments.specs.ScanHeaders.{IsScan}
 use Rattle.jpeg_segments.specs.WrittenSegments.{FrameHeader, Header, Interval, frame_written}
 use Rattle.jpeg_lossless.specs.Prediction.{residue, first_line, line_rest, line_below, lines_below}
 use Rattle.jpeg_lossless.specs.Differences.{mcu_tables, row_tables, strand, strands, lines_in}
-use Rattle.jpeg_lossless.specs.Scans.{all_above, lines_by_component, Way}
-use Rattle.jpeg_lossless.specs.Written.{bits_of_difference, WritesSampleDifference}
-use Rattle.jpeg_lossless.specs.Written.{WritesSampleInterval, WritesRow, WritesRows, none, one}
-use Rattle.jpeg_lossless.specs.Written.{no_row, row}
-use Rattle.jpeg_lossless.specs.Written.WritesIntervals.{another, last}
+use Rattle.jpeg_lossless.specs.Scans.{lines_by_component}
+use Rattle.jpeg_lossless.specs.Written.{bits_of_difference, WritesRows, WritesSampleDifference}
+use Rattle.jpeg_bits.specs.Intervals.{groups}
+use Rattle.jpeg_bits.specs.Written.{WritesEach, WritesInterval, WritesIntervals, marker}
+use Rattle.jpeg_bits.specs.Written.WritesEach.{none, one}
+use Rattle.jpeg_bits.specs.Written.WritesIntervals.{another, last}
 use Rattle.jpeg_lossless.specs.Worked.{small_table}
-use Rattle.jpeg_segments.specs.Checks.{gathered}
 use Rattle.jpeg_pixels.specs.Upsampling.{rule_of}
 use Rattle.jpeg_streams.specs.SaidSegments.{found_after}
 use Rattle.jpeg_streams.specs.Segments.{accepted, updated}
@@ -30,10 +31,10 @@ use Rattle.jpeg_streams.specs.WorkedSamples.{table_segment, twice_factors, third
 use Rattle.jpeg_streams.specs.WorkedSamples.{three_header, three_samples}
 use Rattle.jpeg_streams.specs.WrittenLossless.{HoldSamples}
 use Rattle.jpeg_streams.specs.WrittenLossless.{WritesSamplesScan, closed, said_after_scan}
-use Rattle.jpeg_streams.specs.WrittenLossless.{scan, segment, whole_rows}
+use Rattle.jpeg_streams.specs.WrittenLossless.{scan, segment}
 use Rattle.jpeg_streams.specs.LosslessScans.{LosslessCoding, lossless_coding, lossless_codings}
 use Rattle.jpeg_streams.specs.LosslessScans.{mcus_across, mcus_down, parts_of}
-use Rattle.jpeg_streams.proofs.TestedParts.{category-by, frame-by, is_category, scan-by, table-by}
+use Rattle.jpeg_streams.proofs.TestedParts.{category-by, frame-by, interval-by, is_category, scan-by, table-by}
 
 -- ---- what is said
 
@@ -98,36 +99,38 @@ small-written (suc zero) e =
     (record { index = 1; listed = omega arith; is_for = refl; has_bits = refl })
 small-written (suc (suc n)) e = search (rules, eqb-true, less)
 
+-- each difference beside its table
+abbrev pairs : List ℕ → List (Table × ℕ)
+pairs rs = map (λ r. (small_table, r)) rs
+
 row-written : (rs : List ℕ) → list_all is_small rs ≡ true
-    → WritesRow (replicate (length rs) small_table) rs (flat_map small_bits rs)
+    → WritesEach (λ x. WritesSampleDifference x.0 x.1) (pairs rs) (flat_map small_bits rs)
 row-written [] e = none
 row-written (r ∷ rs) e =
     let both = and_parts (is_small r) (list_all is_small rs) e in
-    one small_table (replicate (length rs) small_table) r rs (small_bits r) (flat_map small_bits rs)
-    (small-written r both.0) (row-written rs both.1)
+    one (small_table, r) (pairs rs) (small_bits r) (flat_map small_bits rs) (small-written r both.0)
+    (row-written rs both.1)
 
 abbrev row_bits : List ℕ → List Bool
 row_bits rs = flat_map small_bits rs ++ []
 
--- an interval of one row of MCUs
-row-interval : (w : Way) (rs data_bytes : List ℕ)
-    → row_tables w.wide (mcu_tables w.parts) ≡ replicate (length rs) small_table → list_all is_small rs ≡ true
-    → bits_of_bytes data_bytes ≡ row_bits rs ++ drop (length (row_bits rs)) (bits_of_bytes data_bytes)
-    → nat_le (length (drop (length (row_bits rs)) (bits_of_bytes data_bytes))) 7 ≡ true
-    → WritesSampleInterval w 1 (lines_by_component w 0 w.parts (rs ∷ [])) (stuffed data_bytes)
-row-interval w rs data_bytes tables small whole short = record {
-  rows = rs ∷ [];
-  bits = row_bits rs;
-  filling = drop (length (row_bits rs)) (bits_of_bytes data_bytes);
-  data_bytes = data_bytes;
-  count = refl;
-  placed = refl;
-  coded = subst (λ (ts : List Table). WritesRows ts (rs ∷ []) (row_bits rs)) (sym tables)
-      (row rs [] (flat_map small_bits rs) [] (row-written rs small) no_row);
-  is_short = leb-true (length (drop (length (row_bits rs)) (bits_of_bytes data_bytes))) 7 short;
-  whole = whole;
-  has_bytes = refl;
-}
+-- a row of MCUs, and the bytes of an interval of it before 00 follows each FF
+abbrev IsSent : List ℕ → List ℕ → Type 0
+IsSent rs data_bytes = (list_all is_small rs ≡ true)
+    × (bits_of_bytes data_bytes ≡ row_bits rs ++ drop (length (row_bits rs)) (bits_of_bytes data_bytes))
+    × (nat_le (length (drop (length (row_bits rs)) (bits_of_bytes data_bytes))) 7 ≡ true)
+
+interval-sent : (rs data_bytes : List ℕ) → IsSent rs data_bytes
+    → WritesInterval (WritesRows (pairs rs ∷ [])) (stuffed data_bytes)
+interval-sent rs data_bytes is =
+    interval-by (WritesRows (pairs rs ∷ [])) (row_bits rs) data_bytes
+    (one (pairs rs) [] (flat_map small_bits rs) [] (row-written rs is.0) none) is.1 is.2
+
+-- two rows, each an interval
+rows-sent : (a b first second : List ℕ) → IsSent a first → IsSent b second
+    → WritesIntervals WritesRows 0 (pairs a ∷ []) ((pairs b ∷ []) ∷ []) (stuffed first ++ marker 0 0xD0 (stuffed second))
+rows-sent a b first second is are =
+    another 0 0 (pairs a ∷ []) (pairs b ∷ []) [] _ _ (interval-sent a first is) (last 1 _ _ (interval-sent b second are))
 
 -- ---- factors of 1
 
@@ -146,31 +149,27 @@ three-scans : WritesSamplesScan (said three_header) (frame_by three_header) thir
 unfolding frame_of component_of nothing_found updated three_samples lossless_codings lossless_coding gathered scan_of HoldSamples mcus_across mcus_down
     parts_of mcu_tables row_tables strand strands
     lines_in lines_by_component first_line line_rest line_below lines_below residue stuffed
-    bits_of_bytes all_above
+    bits_of_bytes groups
 three-scans = (
   record {
     codings = coding 3 2 ∷ [];
     coded = refl;
     point = refl;
-    interval = whole_rows 0;
-    lines = _;
+    interval = refl;
+    rows = pairs (0 ∷ 1 ∷ []) ∷ pairs (0 ∷ 0 ∷ []) ∷ [];
+    tables = refl;
     kept = (refl, tt);
-    written = another 0 0 2 _ _ _ _ (omega arith)
-        (row-interval _ (0 ∷ 1 ∷ []) (0x5F ∷ []) refl refl refl refl)
-        (last 1 1 _ _ (omega arith)
-        (row-interval _ (0 ∷ 0 ∷ []) (0x3F ∷ []) refl refl refl refl));
+    written = rows-sent (0 ∷ 1 ∷ []) (0 ∷ 0 ∷ []) (0x5F ∷ []) (0x3F ∷ []) (refl, refl, refl) (refl, refl, refl);
   },
   record {
     codings = coding 1 0 ∷ coding 2 1 ∷ [];
     coded = refl;
     point = refl;
-    interval = whole_rows 0;
-    lines = _;
+    interval = refl;
+    rows = pairs (1 ∷ 0 ∷ 0 ∷ 0 ∷ []) ∷ pairs (0 ∷ 1 ∷ 0 ∷ 65535 ∷ []) ∷ [];
+    tables = refl;
     kept = (refl, (refl, tt));
-    written = another 0 0 2 _ _ _ _ (omega arith)
-        (row-interval _ (1 ∷ 0 ∷ 0 ∷ 0 ∷ []) (0xA3 ∷ []) refl refl refl refl)
-        (last 1 1 _ _ (omega arith)
-        (row-interval _ (0 ∷ 1 ∷ 0 ∷ 65535 ∷ []) (0x54 ∷ []) refl refl refl refl));
+    written = rows-sent (1 ∷ 0 ∷ 0 ∷ 0 ∷ []) (0 ∷ 1 ∷ 0 ∷ 65535 ∷ []) (0xA3 ∷ []) (0x54 ∷ []) (refl, refl, refl) (refl, refl, refl);
   },
 )
 
@@ -209,33 +208,27 @@ padded-scans : WritesSamplesScan (said padded_header) (frame_by padded_header) p
 unfolding frame_of component_of nothing_found updated padded_samples lossless_codings lossless_coding gathered scan_of HoldSamples mcus_across mcus_down
     parts_of mcu_tables row_tables strand strands
     lines_in lines_by_component first_line line_rest line_below lines_below residue stuffed
-    bits_of_bytes all_above
+    bits_of_bytes groups
 padded-scans = (
   record {
     codings = coding_by (twice_factors 1) 0 ∷ coding_by (plain_factors 2) 1 ∷ [];
     coded = refl;
     point = refl;
-    interval = whole_rows 0;
-    lines = _;
+    interval = refl;
+    rows = pairs (1 ∷ 0 ∷ 65535 ∷ 0 ∷ 0 ∷ 65535 ∷ 65535 ∷ 1 ∷ 1 ∷ 1 ∷ []) ∷ pairs (0 ∷ 65535 ∷ 65535 ∷ 1 ∷ 65535 ∷ 0 ∷ 0 ∷ 0 ∷ 65535 ∷ 0 ∷ []) ∷ [];
+    tables = refl;
     kept = (refl, (refl, tt));
-    written = another 0 0 2 _ _ _ _ (omega arith)
-        (row-interval _ (1 ∷ 0 ∷ 65535 ∷ 0 ∷ 0 ∷ 65535 ∷ 65535 ∷ 1 ∷ 1 ∷ 1 ∷ []) (0xA8 ∷ 0x49 ∷ 0x6D ∷ [])
-        refl refl refl refl)
-        (last 1 1 _ _ (omega arith)
-        (row-interval _ (0 ∷ 65535 ∷ 65535 ∷ 1 ∷ 65535 ∷ 0 ∷ 0 ∷ 0 ∷ 65535 ∷ 0 ∷ []) (0x49 ∷ 0x60 ∷ 0x8F ∷ [])
-        refl refl refl refl));
+    written = rows-sent (1 ∷ 0 ∷ 65535 ∷ 0 ∷ 0 ∷ 65535 ∷ 65535 ∷ 1 ∷ 1 ∷ 1 ∷ []) (0 ∷ 65535 ∷ 65535 ∷ 1 ∷ 65535 ∷ 0 ∷ 0 ∷ 0 ∷ 65535 ∷ 0 ∷ []) (0xA8 ∷ 0x49 ∷ 0x6D ∷ []) (0x49 ∷ 0x60 ∷ 0x8F ∷ []) (refl, refl, refl) (refl, refl, refl);
   },
   record {
     codings = coding_by (plain_factors 3) 2 ∷ [];
     coded = refl;
     point = refl;
-    interval = whole_rows 0;
-    lines = _;
+    interval = refl;
+    rows = pairs (65535 ∷ 0 ∷ []) ∷ pairs (1 ∷ 65535 ∷ []) ∷ [];
+    tables = refl;
     kept = (refl, tt);
-    written = another 0 0 2 _ _ _ _ (omega arith)
-        (row-interval _ (65535 ∷ 0 ∷ []) (0x8F ∷ []) refl refl refl refl)
-        (last 1 1 _ _ (omega arith)
-        (row-interval _ (1 ∷ 65535 ∷ []) (0xB3 ∷ []) refl refl refl refl));
+    written = rows-sent (65535 ∷ 0 ∷ []) (1 ∷ 65535 ∷ []) (0x8F ∷ []) (0xB3 ∷ []) (refl, refl, refl) (refl, refl, refl);
   },
 )
 

@@ -3,16 +3,15 @@ use Rattle.std.proofs.Common.{rules, ◌≡◌, ℕ, List, [], ◌∷◌, ◌++�
 use Rattle.std.specs.List.{AllByRecursion}
 use Rattle.jpeg_bits.specs.Reading.{Outcome, ◌>>=◌}
 use Rattle.jpeg_bits.specs.declared.marker.Marker.{Marker}
-use Rattle.jpeg_bits.specs.Passes.{Pass, Via, Block}
+use Rattle.jpeg_bits.specs.Passes.{Pass, Via, Block, blocks_of, predictors_at_start}
 use Rattle.jpeg_bits.specs.Intervals.{intervals, first_group, other_groups}
 use Rattle.jpeg_streams.specs.Order.{Spot}
 use Rattle.jpeg_streams.specs.Scans.{Arrays, block_at, put_blocks, via_at, turns_of, arrays_at}
-use Rattle.jpeg_streams.specs.WrittenData.{WritesIntervals}
-use Rattle.jpeg_bits.specs.Written.{marker}
+use Rattle.jpeg_streams.specs.WrittenData.{WritesBlocks}
+use Rattle.jpeg_bits.specs.Written.{marker, IsMarker, WritesIntervals}
 use Rattle.jpeg_streams.proofs.SentBlocks.{after_pass, reads_of, numbers_of}
-use Rattle.jpeg_lossless.specs.Written.{IsMarker}
 use Rattle.jpeg_streams.proofs.WrittenBlocks.{IsReady}
-use Rattle.jpeg_streams.proofs.WrittenIntervals.{reads-groups}
+use Rattle.jpeg_streams.proofs.WrittenIntervals.{reads-scan}
 
 pub map-map_any : {A B C : Type 0} (f : A → B) (g : B → C) (xs : List A) → map g (map f xs) ≡ map (λ x. g (f x)) xs
 map-map_any f g [] = refl
@@ -44,7 +43,7 @@ turns-are vias spots arrays u = map-map_any (turn_with vias arrays u) (λ (t : V
 pub reads-arrays : (p : Pass) (n : ℕ) (vias : List Via) (spots : List Spot) (arrays : Arrays) (u : Spot → Block)
     (bytes : List ℕ) (fill code : ℕ) (m : Marker) (rest : List ℕ)
     → AllByRecursion (IsReadyAt p vias arrays u) spots → IsMarker code m
-    → WritesIntervals p 0 (first_group n (turns_of vias spots u))
+    → WritesIntervals (WritesBlocks p predictors_at_start 0) 0 (first_group n (turns_of vias spots u))
     (other_groups n (turns_of vias spots u)) bytes
     → arrays_at p n vias spots arrays (bytes ++ marker fill code rest)
     ≡ Ok ((put_blocks spots (map (λ s. after_pass p (block_at arrays s) (u s)) spots) arrays, Some m), rest)
@@ -54,11 +53,11 @@ reads-arrays p n vias spots arrays u bytes fill code m rest ready h w =
     let turns = map (turn_with vias arrays u) spots in
     let news : numbers_of turns ≡ turns_of vias spots u =
     map-map_any (turn_with vias arrays u) (λ (t : Via × Block × Block). (t.0, t.2)) spots in
-    let written = subst (λ (x : List (Via × Block)). WritesIntervals p 0 (first_group n x) (other_groups n x) bytes)
+    let written = subst (λ (x : List (Via × Block)). WritesIntervals (WritesBlocks p predictors_at_start 0) 0 (first_group n x) (other_groups n x) bytes)
     (sym news) w in
     (refl)
-    ∙ ap (λ (x : List (Via × Block)). intervals p 0 (first_group n x)
+    ∙ ap (λ (x : List (Via × Block)). intervals (blocks_of p predictors_at_start 0) 0 (first_group n x)
     (other_groups n x) all >>= put_back spots arrays) (sym (turns-are vias spots arrays u))
     ∙ ap (λ (o : Outcome (List Block × Option Marker)). o >>= put_back spots arrays)
-    (reads-groups p n turns bytes fill code m rest (ready-turns p vias arrays u spots ready) h written)
+    (reads-scan p n turns bytes fill code m rest (ready-turns p vias arrays u spots ready) h written)
     ∙ (search (rules, map-map_any))

@@ -111,7 +111,7 @@ band-value table al r (suc t) (suc m) u code more bits run good range nz cat cod
     = search (rules, scaled, append_assoc, map-no_numbers) in
     let token = takes-token table al m (r + k) r (suc t) code (bits_for u (suc t)) bits (Value r u) _ good coded
     (category-small al u (suc t) range cat)
-    (λ room size e. (grind (arith, lt-ltb 0 (suc t) (omega arith), lt-ltb r room (omega arith), takes-signed u t cat)))
+    (λ room size e. (grind (arith, lt-ltb 0 (suc t) (omega arith), lt-ltb r room (omega arith), takes-signed u (suc t) cat)))
     (after-value al (first_ac table al m) coefficients r u bits (map (scaled al) more, run)
     (scaled-fits al u range) w) in
     grind (arith, scaled al, takes-as)

@@ -38,7 +38,7 @@ use Rattle.jpeg_streams.proofs.WrittenRefinements.{takes-refinement}
 takes-category : (d : ℤ) (s : ℕ) → IsCategory d s → ReadsJust (signed_from s) (bits_for d s) d
 unfolding low_bits
 takes-category d zero cat = search (rules, abs-zero, no-number)
-takes-category d (suc t) cat = search (rules, nat_tests, takes-signed)
+takes-category d (suc t) cat = search (rules, nat_tests, takes-signed d (suc t) cat)
 
 takes-listed : (k s : ℕ) (bits : List Bool) (d : ℤ) → k ≡ s → s ≤ 11 → ReadsJust (signed_from s) bits d
     → ReadsJust (if nat_le k 11 then signed_from k else refused) bits d

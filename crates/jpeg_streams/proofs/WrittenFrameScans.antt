@@ -19,7 +19,7 @@ use Rattle.jpeg_streams.specs.Levels.{Levels, Is8Bit, numbers_at, cut, nothing_s
 use Rattle.jpeg_bits.specs.Written.{marker}
 use Rattle.jpeg_streams.specs.WrittenScans.{Coefficients, IsOwn, WritesScan}
 use Rattle.jpeg_streams.proofs.SentBlocks.{Suits, after_pass}
-use Rattle.jpeg_lossless.specs.Written.{IsMarker}
+use Rattle.jpeg_bits.specs.Written.{IsMarker}
 use Rattle.jpeg_streams.proofs.CutLevels.{suits-cut, cut-after, all-same, cut-unsent, floor-range, floor-fits}
 use Rattle.jpeg_streams.proofs.WrittenArrays.{IsReadyAt, reads-arrays}
 use Rattle.jpeg_streams.proofs.Put.{reaches}

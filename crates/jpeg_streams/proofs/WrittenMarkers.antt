@@ -7,7 +7,7 @@ use Rattle.jpeg_segments.specs.Frame.{Frame}
 use Rattle.jpeg_segments.specs.WrittenSegments.{Segment, Quantization, Huffman, Interval, Application, Comment, Header}
 use Rattle.jpeg_segments.specs.WrittenSegments.{application_parts, marker_code, MayStand}
 use Rattle.jpeg_segments.proofs.ApplicationParts.{few-numbers}
-pub use Rattle.jpeg_lossless.proofs.ReadBack.{marker-append}
+pub use Rattle.jpeg_bits.proofs.WrittenIntervals.{marker-append}
 
 abbrev pub marker_for : Segment → Marker
 marker_for (Quantization ts) = DQT

@@ -7,8 +7,8 @@ use Rattle.jpeg_bits.specs.Reading.{Outcome, Malformed}
 use Rattle.jpeg_bits.specs.Entropy.{upcoming, fresh, marker_from}
 use Rattle.jpeg_bits.specs.Readers.{Reads, ◌>>=◌, gives}
 use Rattle.jpeg_bits.specs.declared.marker.Marker.{Marker}
-use Rattle.jpeg_bits.specs.Passes.{Pass, Via, block_from}
-use Rattle.jpeg_bits.specs.Intervals.{predictors_at_start, is_restart}
+use Rattle.jpeg_bits.specs.Passes.{Pass, Via, block_from, predictors_at_start}
+use Rattle.jpeg_bits.specs.Intervals.{is_restart}
 use Rattle.jpeg_segments.specs.Frame.{Frame, Component}
 use Rattle.jpeg_streams.specs.Order.{Spot, grid_of}
 use Rattle.jpeg_streams.specs.Scans.{Arrays, block_at, put_block, via_at}

@@ -6,7 +6,7 @@ use Rattle.jpeg_bits.specs.declared.codes.HuffmanTableClass.{HuffmanTableClass}
 use Rattle.jpeg_bits.specs.declared.codes.HuffmanTableClass.TheVariants as classes
 use Rattle.jpeg_bits.specs.declared.marker.Marker.{Marker}
 use Rattle.jpeg_segments.specs.Frame.{Component}
-use Rattle.jpeg_bits.specs.Passes.{Pass, Via, Block, zero_block}
+use Rattle.jpeg_bits.specs.Passes.{Pass, Via, Block, blocks_of, predictors_at_start, zero_block}
 use Rattle.jpeg_bits.specs.Intervals.{intervals, first_group, other_groups}
 use Rattle.jpeg_streams.specs.Order.{Spot}
 
@@ -54,5 +54,6 @@ unfoldable pub arrays_at : Pass → ℕ → List Via → List Spot → Arrays �
     → Outcome (Arrays × Option Marker)
 arrays_at p n vias spots arrays bytes =
     let turns = turns_of vias spots (block_at arrays) in do
-      r ← intervals p 0 (first_group n turns) (other_groups n turns) bytes
+      r ← intervals (blocks_of p predictors_at_start 0) 0 (first_group n turns)
+          (other_groups n turns) bytes
       Ok ((put_blocks spots r.0.0 arrays, r.0.1), r.1)

@@ -5,7 +5,6 @@ use Rattle.std.specs.Prelude.{Bool, true, false, List, [], ◌∷◌, ◌++◌, 
 use Rattle.std.specs.Prelude.{length, ℤ, pos, negsuc, ◌-ℤ◌, unsigned_abs, nat_le, not, map, filter}
 use Rattle.std.specs.List.{AllByRecursion}
 use Rattle.jpeg_bits.specs.Codes.{Table}
-use Rattle.jpeg_bits.specs.Intervals.{predictors_at_start}
 use Rattle.jpeg_bits.specs.Passes.{Pass, Via, Block, band_of}
 use Rattle.jpeg_bits.specs.Written.{bits_of_bytes, marker, stuffed, number_for, IsCategory, IsCoded}
 use Rattle.jpeg_bits.specs.Written.{bit, low_bits}
@@ -134,27 +133,3 @@ pub data WritesBlocks (p : Pass) : List ℤ → ℕ → List (Via × Block) → 
       → WritesAc p via.ac (band_of p u.acs) run ac after
       → WritesBlocks p (set predictors via.component next) after turns bits
       → WritesBlocks p predictors run ((via, u) ∷ turns) (dc ++ (ac ++ bits))
-
--- ---- bytes (B.1.1.5)
-
--- The bytes of a restart interval: its bits, from predictions of 0 and no run, and at most 7 more
--- of any value, up to a whole byte.
-pub record WritesInterval (p : Pass) (turns : List (Via × Block)) (bytes : List ℕ) : Type 0 where
-  pub bits : List Bool
-  pub filling : List Bool
-  pub data_bytes : List ℕ
-  pub coded : WritesBlocks p predictors_at_start 0 turns bits
-  pub is_short : length filling ≤ 7
-  pub whole : bits_of_bytes data_bytes ≡ bits ++ filling
-  pub has_bytes : stuffed data_bytes ≡ bytes
-
--- The bytes of some intervals, from number k on: after interval k, and before the next, stands the
--- marker RSTm with m = k mod 8.
-pub data WritesIntervals (p : Pass) :
-    ℕ → List (Via × Block) → List (List (Via × Block)) → List ℕ → Type 0 where
-  last : (k : ℕ) (turns : List (Via × Block)) (bytes : List ℕ)
-      → WritesInterval p turns bytes → WritesIntervals p k turns [] bytes
-  another : (k fill : ℕ) (turns next : List (Via × Block)) (more : List (List (Via × Block)))
-      (bytes others : List ℕ)
-      → WritesInterval p turns bytes → WritesIntervals p (suc k) next more others
-      → WritesIntervals p k turns (next ∷ more) (bytes ++ marker fill (0xD0 + k % 8) others)

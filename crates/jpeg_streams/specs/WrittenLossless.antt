@@ -14,10 +14,13 @@ use Rattle.jpeg_segments.specs.WrittenSegments.{Segment, with_length}
 use Rattle.jpeg_lossless.specs.Differences.{Part}
 use Rattle.jpeg_lossless.specs.Pictures.{picture_by_samples}
 use Rattle.jpeg_lossless.specs.Positions.{at_position}
-use Rattle.jpeg_lossless.specs.Scans.{rows_of_interval}
-use Rattle.jpeg_lossless.specs.Written.{WritesIntervals}
-use Rattle.jpeg_bits.specs.Written.{marker}
+use Rattle.jpeg_lossless.specs.Scans.{is_of_rows, lines_by_component, rows_of_interval}
+use Rattle.jpeg_lossless.specs.Scans.{scan_tables}
+use Rattle.jpeg_lossless.specs.Written.{WritesRows}
+use Rattle.jpeg_bits.specs.Codes.{Table}
 use Rattle.jpeg_bits.specs.DefaultTables.{names}
+use Rattle.jpeg_bits.specs.Intervals.{first_group, other_groups}
+use Rattle.jpeg_bits.specs.Written.{marker, WritesIntervals}
 use Rattle.jpeg_streams.specs.LosslessScans.{LosslessCoding, lossless_codings, mcus_across}
 use Rattle.jpeg_streams.specs.LosslessScans.{mcus_down, parts_of, way_of}
 use Rattle.jpeg_streams.specs.SaidSegments.{found_after, Stands}
@@ -39,12 +42,6 @@ StandsInLossless said s = Stands said s × IsLossless s
 
 -- ---- a scan
 
--- A restart interval is none, some whole rows of MCUs, or at least the whole scan.
-pub data IsInterval (wide high : ℕ) : ℕ → Type 0 where
-  no_interval : IsInterval wide high 0
-  whole_rows : (n : ℕ) → IsInterval wide high (suc n * wide)
-  whole_scan : (n : ℕ) → wide * high ≤ n → IsInterval wide high n
-
 -- the lines of a component in the MCUs of a scan, without padding
 abbrev pub own_lines : Part → List (List ℕ) → List (List ℕ)
 own_lines p lines = map (take p.width) (take p.height lines)
@@ -58,8 +55,8 @@ HoldSamples samples (k ∷ codings) (p ∷ parts) (lines ∷ more) =
     (own_lines p lines ≡ samples k.index) × HoldSamples samples codings parts more
 HoldSamples samples _ _ _ = ⊥
 
--- The data of a scan: the samples of its components, by the tables in force, without a point
--- transform.
+-- The data of a scan: differences that give the samples of its components with their predictions,
+-- each by its table in force, in whole rows of MCUs, without a point transform.
 pub record WritesSamplesScan (said : Found) (frame : Frame) (h : ScanHeader) (samples : Samples)
     (bytes : List ℕ) : Type 0 where
   pub codings : List LosslessCoding
@@ -67,12 +64,21 @@ pub record WritesSamplesScan (said : Found) (frame : Frame) (h : ScanHeader) (sa
       let scan = scan_written frame h in
       lossless_codings said.huffman.dc frame scan.components scan.dc_destinations ≡ Ok codings
   pub point : h.low ≡ 0
-  pub interval : IsInterval (mcus_across frame codings) (mcus_down frame codings) said.restart
-  pub lines : List (List (List ℕ))
-  pub kept : HoldSamples samples codings (parts_of codings) lines
-  pub written : WritesIntervals (way_of frame (predictor_by h.first) 0 codings)
-      (rows_of_interval (mcus_across frame codings) (mcus_down frame codings) said.restart) 0
-      (mcus_down frame codings) lines bytes
+  pub interval :
+      is_of_rows (mcus_across frame codings) (mcus_down frame codings) said.restart ≡ true
+  pub rows : List (List (Table × ℕ))
+  pub tables : map (map (λ x. x.0)) rows
+      ≡ scan_tables (way_of frame (predictor_by h.first) 0 codings) (mcus_down frame codings)
+  pub kept :
+      let w = way_of frame (predictor_by h.first) 0 codings in
+      let n = rows_of_interval w.wide (mcus_down frame codings) said.restart in
+      let values = map (map (λ x. x.1)) rows in
+      HoldSamples samples codings w.parts
+      (lines_by_component w 0 w.parts (first_group n values ∷ other_groups n values))
+  pub written :
+      let n = rows_of_interval (mcus_across frame codings) (mcus_down frame codings)
+          said.restart in
+      WritesIntervals WritesRows 0 (first_group n rows) (other_groups n rows) bytes
 
 -- ---- a stream
 

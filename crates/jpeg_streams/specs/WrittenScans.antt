@@ -4,7 +4,7 @@ use Rattle.std.specs.Prelude.{◌≡◌, ℕ, ◌*◌, ◌/◌, ◌%◌, ◌==�
 use Rattle.std.specs.Prelude.{slice_get, slice_index_or, Some, None, IsSome, Ok}
 use Rattle.std.specs.List.{AllByRecursion}
 use Rattle.jpeg_bits.specs.Intervals.{first_group, other_groups}
-use Rattle.jpeg_bits.specs.Passes.{Pass, Block}
+use Rattle.jpeg_bits.specs.Passes.{Pass, Block, predictors_at_start}
 use Rattle.jpeg_segments.specs.Frame.{Frame, Component}
 use Rattle.jpeg_segments.specs.ScanHeader.{Scan}
 use Rattle.jpeg_streams.specs.declared.grids.Grid.{Grid}
@@ -13,7 +13,8 @@ use Rattle.jpeg_streams.specs.Order.{Spot, grid_of, mcu_size, spots_of}
 use Rattle.jpeg_streams.specs.Scans.{turns_of}
 use Rattle.jpeg_streams.specs.ScanSegments.{Coding, codings_of, components_of, pass_of, vias_from}
 use Rattle.jpeg_streams.specs.Found.{Found}
-use Rattle.jpeg_streams.specs.WrittenData.{WritesIntervals}
+use Rattle.jpeg_bits.specs.Written.{WritesIntervals}
+use Rattle.jpeg_streams.specs.WrittenData.{WritesBlocks}
 
 -- ---- the coefficients of an image
 
@@ -43,7 +44,8 @@ pub record WritesScan (frame : Frame) (restart : ℕ) (p : Pass) (codings : List
       let n = restart * mcu_size (components_of codings) in
       let spots = spots_of frame (components_of codings) in
       let turns = turns_of (vias_from 0 codings) spots (λ s. numbers_at p.al (sent s)) in
-      WritesIntervals p 0 (first_group n turns) (other_groups n turns) bytes
+      WritesIntervals (WritesBlocks p predictors_at_start 0) 0 (first_group n turns)
+      (other_groups n turns) bytes
 
 -- ---- tables in force
 

@@ -1,12 +1,13 @@
 use Rattle.jpeg_bits.specs.Marker.{marker_of}
 use Rattle.jpeg_bits.specs.Entropy.{ending_at, text_ahead, text_at, bits_from, extended}
-use Rattle.jpeg_bits.specs.Readers.{signed_from}
+use Rattle.jpeg_bits.specs.Readers.{signed_from, each}
 use Rattle.jpeg_bits.specs.Codes.{lengths_from, code_value, begins, code_from, code_in}
 use Rattle.jpeg_bits.specs.Codes.{symbol_from}
 use Rattle.jpeg_lossless.specs.Prediction.{residue, first_line, line_rest, line_below, lines_below}
-use Rattle.jpeg_lossless.specs.Differences.{sample_difference, differences, mcu_tables, row_tables}
-use Rattle.jpeg_lossless.specs.Differences.{difference_rows, strand, strands, lines_in}
-use Rattle.jpeg_lossless.specs.Scans.{lines_by_component, line_interval, all_above, line_intervals}
+use Rattle.jpeg_bits.specs.Intervals.{groups, interval, intervals}
+use Rattle.jpeg_lossless.specs.Differences.{sample_difference, mcu_tables, row_tables, interval_rows}
+use Rattle.jpeg_lossless.specs.Differences.{strand, strands, lines_in}
+use Rattle.jpeg_lossless.specs.Scans.{lines_by_component}
 use Rattle.jpeg_lossless.specs.Scans.{planes_of, scan_at}
 use Rattle.jpeg_lossless.specs.Pictures.{sample_picture}
 use Rattle.jpeg_lossless.proofs.laws.known_interleaved_scans.Goals as goal
@@ -16,7 +17,6 @@ use Rattle.std.proofs.Common.{arith}
 pub returns : goal.returns
 unfolding marker_of ending_at text_ahead text_at bits_from extended signed_from lengths_from code_value begins
     code_from code_in symbol_from residue first_line line_rest line_below lines_below sample_difference
-    differences mcu_tables row_tables
-    difference_rows strand strands lines_in lines_by_component line_interval all_above
-    line_intervals planes_of scan_at sample_picture
+    each mcu_tables row_tables interval_rows groups interval intervals strand strands lines_in
+    lines_by_component planes_of scan_at sample_picture
 returns c = grind (arith, common_steps)
