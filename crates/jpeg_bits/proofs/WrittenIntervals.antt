@@ -8,7 +8,7 @@ use Rattle.std.proofs.lemmas.Grind.{common_steps}
 use Rattle.std.proofs.lemmas.List.{drop-map, length-map, length-replicate, take-map}
 use Rattle.std.proofs.lemmas.List.Folds.{flat_map-map}
 use Rattle.std.specs.List.{AllByRecursion, flat_map}
-use Rattle.jpeg_bits.specs.Entropy.{Text, Ending, Found, add_byte, bits_of, filled_end, marker_by, no_bits}
+use Rattle.jpeg_bits.specs.Entropy.{Text, Ending, Found, add_byte, bits_of, ending_at, marker_by, no_bits}
 use Rattle.jpeg_bits.specs.Entropy.{text_ahead, text_at}
 use Rattle.jpeg_bits.specs.Intervals.{first_group, groups, interval, intervals, other_groups}
 use Rattle.jpeg_bits.specs.Marker.{marker_of}
@@ -17,7 +17,6 @@ use Rattle.jpeg_bits.specs.Written.{IsMarker, WritesEach, WritesInterval, Writes
 use Rattle.jpeg_bits.specs.Written.{marker, stuffed}
 use Rattle.jpeg_bits.specs.Written.WritesEach.{none, one}
 use Rattle.jpeg_bits.specs.Written.WritesIntervals.{last, another}
-use Rattle.jpeg_bits.specs.declared.ahead.DataEnd.TheVariants as ends
 use Rattle.jpeg_bits.specs.declared.marker.Marker.{Marker}
 use Rattle.jpeg_bits.specs.declared.marker.Marker.TheVariants as markers
 use Rattle.jpeg_bits.proofs.ReadIntervals.{all-drop, all-take}
@@ -54,8 +53,8 @@ unfolding marker_of
 no-zero code m h = not-equal code 0 (λ e. none-some m (sym (ap marker_of e) ∙ h.is))
 
 filled : (fill code : ℕ) (m : Marker) (rest : List ℕ) → IsMarker code m
-    → filled_end (replicate fill 0xFF ++ code ∷ rest) ≡ (ends.Marker m, rest)
-unfolding filled_end
+    → ending_at (replicate fill 0xFF ++ code ∷ rest) ≡ Found m rest
+unfolding ending_at
 filled zero code m rest h = rw (no-fill code m h, h.is) refl
 filled (suc fill) code m rest h = filled fill code m rest h
 
