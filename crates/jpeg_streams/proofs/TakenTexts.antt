@@ -97,20 +97,11 @@ pub if-takes : {A : Type 0} (b : Bool) (p q : Reads A) → TakesBits p → Takes
 if-takes true p q x y = x
 if-takes false p q x y = y
 
-pub elim-takes : {A : Type 0} (b : Bool) (p q : Reads A) → TakesBits p → TakesBits q
-    → TakesBits (elim b as (λ _. Reads A) [ true ↦ p | false ↦ q ])
-elim-takes true p q x y = x
-elim-takes false p q x y = y
-
-each-takes : {A B : Type 0} (read : A → Reads B) (xs : List A) → ((x : A) → TakesBits (read x))
+pub each-takes : {A B : Type 0} (read : A → Reads B) (xs : List A) → ((x : A) → TakesBits (read x))
     → TakesBits (each read xs)
 unfolding each
 each-takes read [] h = gives-takes []
 each-takes read (x ∷ xs) h = search (rules, bind-takes, gives-takes, each-takes read xs h)
-
-pub if-takes : {A : Type 0} (b : Bool) (p q : Reads A) → TakesBits p → TakesBits q → TakesBits (if b then p else q)
-if-takes true p q x y = x
-if-takes false p q x y = y
 
 -- ---- bits and codes
 
