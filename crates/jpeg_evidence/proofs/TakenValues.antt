@@ -1,13 +1,13 @@
 -- The bits that were taken of a value and of a DC difference are those that are written for it.
 use Rattle.std.proofs.Common.{◌≡◌, ℕ, zero, suc, ◌-◌, ◌^◌, ◌<◌, ◌≤◌, Bool, true, false, List, []}
-use Rattle.std.proofs.Common.{refl, sym, ap, ◌∙◌, arith, if◌then◌else◌, pow_pos, pow-suc, Ok, leb, eqb, nat_le}
+use Rattle.std.proofs.Common.{refl, sym, ap, ◌∙◌, arith, if◌then◌else◌, pow_pos, pow-suc, Ok, leb, nat_le}
 use Rattle.std.proofs.Common.{ℤ, pos, negsuc, ◌-ℤ◌}
 use Rattle.std.proofs.lemmas.Int.{ints}
-use Rattle.std.proofs.lemmas.Bool.{cases_lt, ltb-true, ltb-false, eqb-true}
+use Rattle.std.proofs.lemmas.Bool.{cases_lt, ltb-true, ltb-false}
 use Rattle.std.proofs.Math.Pow.{pow_mono}
 use Rattle.jpeg_bits.specs.Reading.{Malformed}
 use Rattle.jpeg_bits.specs.Entropy.{Text, bits_from, extended}
-use Rattle.jpeg_bits.specs.Readers.{Reads, gives, refused, signed_from}
+use Rattle.jpeg_bits.specs.Readers.{Reads, refused, signed_from}
 use Rattle.jpeg_bits.specs.Codes.{Table, IsTable, symbol_from}
 use Rattle.jpeg_bits.specs.Bands.{difference}
 use Rattle.jpeg_bits.proofs.Fast.{no-number}
