@@ -16,7 +16,7 @@ use Rattle.jpeg_streams.specs.WrittenData.{WritesDifference}
 use Rattle.jpeg_evidence.specs.Strict.{alone, IsCut, IsNumber, IsValue}
 use Rattle.jpeg_evidence.proofs.TakenBits.{number-taken, symbol-taken, cut-map, gives-taken, map-taken}
 use Rattle.jpeg_streams.proofs.TakenTexts.{no-error}
-use Rattle.jpeg_evidence.proofs.TakenBits.{bind-cut}
+use Rattle.jpeg_evidence.proofs.TakenBits.{bind-cut, if-read}
 
 -- ---- signed numbers
 
@@ -67,11 +67,8 @@ category-taken (suc s) bits u t e = value-taken s bits u t e
 
 listed-taken : (s : ℕ) (bits : List Bool) (u : ℤ) (t : Text)
     → (if nat_le s 11 then signed_from s else refused) (alone bits) ≡ Ok (u, t) → IsCut (IsValue s u) bits t
-listed-taken s bits u t e = go (leb s 11) e
-  where
-    go : (b : Bool) → (if b then signed_from s else refused) (alone bits) ≡ Ok (u, t) → IsCut (IsValue s u) bits t
-    go true k = category-taken s bits u t k
-    go false k = absurd (no-error Malformed (u, t) k)
+listed-taken s bits u t e =
+    if-read (leb s 11) _ _ _ _ e (λ h k. category-taken s bits u t k) (λ h k. absurd (no-error Malformed (u, t) k))
 
 -- The bits that were taken of a DC difference are those that a writer emits for it.
 pub difference-taken : (table : Table) (bits : List Bool) (u : ℤ) (t : Text) → IsTable table
