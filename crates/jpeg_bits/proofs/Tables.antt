@@ -2,12 +2,11 @@
 use Rattle.std.proofs.Common.{◌≡◌, ℕ, zero, suc, ◌+◌, ◌-◌, ◌*◌, ◌^◌, ◌<◌, ◌≤◌, Bool, true, false, cond, List, [], ◌∷◌}
 use Rattle.std.proofs.Common.{◌++◌, length, take, drop, get_or, replicate, slice_index, sum_by, Option, Some, refl, sym}
 use Rattle.std.proofs.Common.{ap, ◌∙◌, subst, length-append, length-take, length-drop, mul_assoc, arith, pow-suc}
-use Rattle.std.proofs.Common.{pow-add, le_refl, ◌&&◌}
+use Rattle.std.proofs.Common.{pow-add, le_refl}
 use Rattle.std.proofs.Math.Nat.{add-mul, one-mul, zero-mul, mul-le-mul_right}
 use Rattle.std.proofs.Math.Seq.{take-add}
 use Rattle.std.specs.Option.{option_map}
-use Rattle.std.proofs.lemmas.Bool.{eq-eqb, eqb-true, cases_lt, lt-ltb, ltb-true, false≢true}
-use Rattle.std.proofs.Math.Logic.{⊎_elim}
+use Rattle.std.proofs.lemmas.Bool.{eq-eqb, eqb-true, cases_lt, lt-ltb, ltb-true}
 use Rattle.std.proofs.lemmas.List.{take-append-le, take_all, drop_at, take-take, get_or-take, length-replicate}
 use Rattle.std.proofs.lemmas.List.Sums.{sum_by-append, sum_by_more, sum_by-take-le}
 use Rattle.jpeg_bits.specs.Codes.{Table, code_lengths, lengths_from, code_value, HasCodes, codes_exist}

@@ -1,7 +1,7 @@
 -- The coefficients of a block in entropy-coded bits (T.81, F.2.2 and G.1.2): tokens, and the band
 -- that they fill.
 use Rattle.std.specs.Prelude.{ℕ, zero, suc, ◌<◌, ◌+◌, ◌-◌, ◌/◌, ◌%◌, ◌^◌, ◌==◌, nat_le, nat_lt}
-use Rattle.std.specs.Prelude.{true, false, List, [], ◌∷◌, ◌++◌, length, take, drop, ℤ, pos, ◌+ℤ◌}
+use Rattle.std.specs.Prelude.{List, [], ◌∷◌, ◌++◌, length, take, drop, ℤ, pos, ◌+ℤ◌}
 use Rattle.std.specs.Prelude.{◌*ℤ◌, if◌then◌else◌}
 use Rattle.std.specs.Int.{int_wrap, w16}
 use Rattle.jpeg_bits.specs.Entropy.{bits_from}

@@ -1,5 +1,5 @@
 -- Huffman codes (T.81, Annex C), and the code that begins some bits.
-use Rattle.std.specs.Prelude.{◌≡◌, ℕ, zero, suc, ◌+◌, ◌-◌, ◌^◌, ◌<◌, List, [], ◌∷◌, ◌++◌, length}
+use Rattle.std.specs.Prelude.{◌≡◌, ℕ, ◌+◌, ◌-◌, ◌^◌, ◌<◌, List, [], ◌∷◌, ◌++◌, length}
 use Rattle.std.specs.Prelude.{take, replicate, Bool, true, false, Option, Some, None, Result, Ok}
 use Rattle.std.specs.Prelude.{Err, ◌==◌, if◌then◌else◌, sum_by, slice_index, ◌/◌, ◌%◌, ◌&&◌, nat_lt}
 use Rattle.std.specs.Prelude.{nat_le, ℤ}

@@ -2,7 +2,7 @@
 use Rattle.std.proofs.Common.{rules}
 use Rattle.std.proofs.Common.{◌≡◌, ℕ, zero, suc, ◌+◌, ◌*◌, ◌/◌, ◌%◌, ◌^◌, ◌<◌, ◌≤◌, Bool, true, false, cond}
 use Rattle.std.proofs.Common.{List, [], ◌∷◌, ◌++◌, length, take, replicate, refl, sym, ap, ◌∙◌, subst, arith}
-use Rattle.std.proofs.Common.{take-append-drop, length-take, pow-suc, mul_assoc, Ok, Err, slice_index}
+use Rattle.std.proofs.Common.{take-append-drop, length-take, pow-suc, mul_assoc, Ok, Err, Result, if◌then◌else◌, slice_index}
 use Rattle.std.proofs.Common.{Option, Some, None, leb}
 use lib.Arith.{digits_div}
 use Rattle.std.proofs.Math.Nat.{add-mul, zero-mul, one-mul}
@@ -117,6 +117,12 @@ pub gives-taken : {A : Type 0} (P : A → List Bool → Type 0) (x y : A) (bits 
 gives-taken {A} P x y bits t h e =
     let q = ok-parts x y (alone bits) t e in
     cut-none (P y) bits t q.1 (subst (λ (v : A). P v []) q.0 h)
+
+-- by one of two readers
+pub if-read : {A C : Type 0} (b : Bool) (p q : Reads A) (s : Text) (o : Result (A × Text) Fault)
+    → (if b then p else q) s ≡ o → (b ≡ true → p s ≡ o → C) → (b ≡ false → q s ≡ o → C) → C
+if-read true p q s o e f g = f refl e
+if-read false p q s o e f g = g refl e
 
 -- what is told of what was read
 pub map-taken : {A B : Type 0} (p : Reads A) (f : A → B) (P : A → List Bool → Type 0) (Q : B → List Bool → Type 0)

@@ -21,7 +21,7 @@ use Rattle.jpeg_streams.proofs.CutLevels.{band-map}
 use Rattle.jpeg_evidence.specs.Strict.{alone, IsCut, HasByteSymbols, TokensFit, IsBlock}
 use Rattle.jpeg_evidence.specs.Strict.{BlockFits, HasTables}
 use Rattle.jpeg_evidence.proofs.TakenBits.{bind-cut, gives-taken, map-parts, map-taken, cut-map, Both}
-use Rattle.jpeg_evidence.proofs.TakenBits.{number-taken}
+use Rattle.jpeg_evidence.proofs.TakenBits.{if-read, number-taken}
 use Rattle.jpeg_evidence.proofs.TakenRefinements.{IsKept, IsCorrected, IsRefined, alike-long}
 use Rattle.jpeg_evidence.proofs.TakenRefinements.{alike-none, one-bit}
 use Rattle.jpeg_evidence.proofs.TakenRefinements.{corrected-taken, refined-taken}
@@ -211,33 +211,24 @@ pub band-taken-part : (p : Pass) (table : Table) (band : List ℤ) (run : ℕ) (
 unfolding band_part
 band-taken-part p table [] run bits y t tables unsent fits sent pieces e =
     gives-taken (IsRead p table [] run) ([], run) y bits t (record { long = refl; written = no_band run }) e
-band-taken-part p table (x ∷ band) zero bits y t tables unsent fits sent pieces e = go p.is_first refl e
-  where
-    go : (b : Bool) → p.is_first ≡ b
-        → (if b then first_ac table p.al (length (x ∷ band)) (x ∷ band)
-        else refined_ac table p.al (length (x ∷ band)) (x ∷ band)) (alone bits) ≡ Ok (y, t) → IsCut (IsRead p table (x ∷ band) 0 y) bits t
-    go true f k =
-        let n = length (x ∷ band) in
-        let is = tables (omega arith) in
-        subst (λ (l : List ℤ). IsCut (IsRead p table l 0 y) bits t) (sym (unsent f))
-        (new-band p table n bits y t f (omega arith) is.0 is.1 (fits f refl)
-        (ap (λ (l : List ℤ). first_ac table p.al n l (alone bits)) (sym (unsent f)) ∙ k))
-    go false f k = grind (arith, old-band)
-band-taken-part p table (x ∷ band) (suc run) bits y t tables unsent fits sent pieces e = go p.is_first refl e
-  where
-    here : p.is_first ≡ true → IsRead p table (x ∷ band) (suc run) (x ∷ band, run) []
-    here f = record {
+band-taken-part p table (x ∷ band) zero bits y t tables unsent fits sent pieces e =
+    if-read p.is_first _ _ _ _ e
+    (λ f k.
+    let n = length (x ∷ band) in
+    let is = tables (omega arith) in
+    subst (λ (l : List ℤ). IsCut (IsRead p table l 0 y) bits t) (sym (unsent f))
+    (new-band p table n bits y t f (omega arith) is.0 is.1 (fits f refl)
+    (ap (λ (l : List ℤ). first_ac table p.al n l (alone bits)) (sym (unsent f)) ∙ k)))
+    (λ f k. grind (arith, old-band))
+band-taken-part p table (x ∷ band) (suc run) bits y t tables unsent fits sent pieces e =
+    if-read p.is_first _ _ _ _ e
+    (λ f k. gives-taken (IsRead p table (x ∷ band) (suc run)) (x ∷ band, run) y bits t (record {
       long = refl;
       written = subst (λ (l : List ℤ). WritesAc p table l (suc run) [] run)
           (sym (ap (map (toward_zero p.al)) (unsent f) ∙ zeros-toward p.al (length (x ∷ band))))
           (first_run (length band) run f);
-    }
-
-    go : (b : Bool) → p.is_first ≡ b
-        → (if b then gives (x ∷ band, run)
-        else corrected p.al (x ∷ band) >>= (λ all. gives (all, run))) (alone bits) ≡ Ok (y, t) → IsCut (IsRead p table (x ∷ band) (suc run) y) bits t
-    go true f k = gives-taken (IsRead p table (x ∷ band) (suc run)) (x ∷ band, run) y bits t (here f) k
-    go false f k = run-band p table (x ∷ band) run bits y t f (omega arith) (sent f) k
+    }) k)
+    (λ f k. run-band p table (x ∷ band) run bits y t f (omega arith) (sent f) k)
 
 -- ---- blocks
 

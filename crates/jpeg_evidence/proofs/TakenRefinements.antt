@@ -28,7 +28,7 @@ use Rattle.jpeg_evidence.specs.Strict.{PiecesFit}
 use Rattle.jpeg_evidence.specs.Strict.PiecesFit.{covered, new, zeros, last}
 use Rattle.jpeg_evidence.proofs.TakenBits.{number-taken, symbol-taken, after-read, bind-cut, map-parts}
 use Rattle.jpeg_streams.proofs.TakenTexts.{bind-parts, ok-parts, no-error}
-use Rattle.jpeg_evidence.proofs.TakenBits.{cut-map, cut-none, cut-both, gives-taken, Both}
+use Rattle.jpeg_evidence.proofs.TakenBits.{if-read, cut-map, cut-none, cut-both, gives-taken, Both}
 use Rattle.jpeg_evidence.proofs.TakenBands.{run-small}
 
 -- ---- a place
@@ -168,17 +168,18 @@ one-bit b own is = grind arith
 one-taken : (al : ℕ) (z : ℤ) (bits : List Bool) (w : ℤ) (t : Text) → IsKept al z
     → corrected_from al z (alone bits) ≡ Ok (w, t) → IsCut (IsOne al z w) bits t
 unfolding corrected_from
-one-taken al z bits w t kept e = go (is_zero z) refl e
+one-taken al z bits w t kept e = if-read (is_zero z) _ _ _ _ e here other
   where
-    go : (a : Bool) → is_zero z ≡ a
-        → (if a then gives z else bits_from 1 >>= (λ b. corrected_by al z b)) (alone bits) ≡ Ok (w, t) → IsCut (IsOne al z w) bits t
-    go true h k = gives-taken (IsOne al z) z w bits t (record {
+    here : is_zero z ≡ true → gives z (alone bits) ≡ Ok (w, t) → IsCut (IsOne al z w) bits t
+    here h k = gives-taken (IsOne al z) z w bits t (record {
       u = pos 0;
       are = scaled-zero al ∙ sym (zero-is z h);
       alike = nothing h refl;
       bits = λ us. corrections-zero us;
     }) k
-    go false h k =
+    other : is_zero z ≡ false → (bits_from 1 >>= (λ b. corrected_by al z b)) (alone bits) ≡ Ok (w, t)
+        → IsCut (IsOne al z w) bits t
+    other h k =
         let c = bind-cut (bits_from 1) (λ (b : ℕ). corrected_by al z b) bits t w (IsNumber 1)
         (λ (b : ℕ) (own : List Bool). IsOld al w b × (own ≡ [])) k
         (λ b u f. number-taken 1 bits b u f)
@@ -396,20 +397,12 @@ last-taken : (al r : ℕ) (others : List ℤ → Reads Band) (zs : List ℤ) (bi
     → AllByRecursion (IsKept al) zs → refined_piece al others zs r 0 (alone bits) ≡ Ok (y, t)
     → (e : ℕ) × (ws : List ℤ) × ((ws, 2 ^ r - 1 + e) ≡ y) × IsCut (Both (IsNumber r e) (IsCorrected al zs ws)) bits t
 unfolding refined_piece
-last-taken al r others zs bits y t ne kept e = go (eqb r 15) refl e
-  where
-    go : (b : Bool) → eqb r 15 ≡ b
-        → (if b then corrected al (take (through_zero 15 zs) zs) >>= (λ front.
-        others (drop (through_zero 15 zs) zs) >>= (λ more. gives (before_more front more)))
-        else bits_from r >>= (λ e. corrected al zs >>= (λ all. gives (all, 2 ^ r - 1 + e)))) (alone bits) ≡ Ok (y, t)
-        → (e : ℕ) × (ws : List ℤ) × ((ws, 2 ^ r - 1 + e) ≡ y)
-        × IsCut (Both (IsNumber r e) (IsCorrected al zs ws)) bits t
-    go true h k = absurd (ne (eqb-true r 15 h))
-    go false h k =
-        let f : ℕ → Reads Band = λ e. corrected al zs >>= (λ all. gives (all, 2 ^ r - 1 + e)) in
-        let p = bind-parts (bits_from r) f (alone bits) t y k in
-        let c = number-taken r bits p.0 p.1 p.2 in
-        grind (arith, map-parts, cut-both, corrected-taken)
+last-taken al r others zs bits y t ne kept e =
+    if-read (eqb r 15) _ _ _ _ e (λ h k. absurd (ne (eqb-true r 15 h))) (λ h k.
+    let f : ℕ → Reads Band = λ e. corrected al zs >>= (λ all. gives (all, 2 ^ r - 1 + e)) in
+    let p = bind-parts (bits_from r) f (alone bits) t y k in
+    let c = number-taken r bits p.0 p.1 p.2 in
+    grind (arith, map-parts, cut-both, corrected-taken))
 
 -- what follows a symbol that was read
 after-symbol : (table : Table) (al n r s : ℕ) (z : ℤ) (zs : List ℤ) (bits one : List Bool) (y : Band) (t : Text) → s ≤ 15

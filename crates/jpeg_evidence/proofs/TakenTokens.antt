@@ -12,40 +12,33 @@ use Rattle.jpeg_bits.specs.declared.tokens.Token.TheVariants.{Value, Sixteen, Re
 use Rattle.jpeg_evidence.specs.Strict.{alone, IsCut, IsNumber, IsValue, Follows, IsToken}
 use Rattle.jpeg_evidence.specs.Strict.Follows.{value, sixteen, ended, overlong}
 use Rattle.jpeg_evidence.proofs.TakenBits.{number-taken, code-taken, cut-map, gives-taken, map-taken}
-use Rattle.jpeg_evidence.proofs.TakenBits.{bind-cut}
+use Rattle.jpeg_evidence.proofs.TakenBits.{bind-cut, if-read}
 use Rattle.jpeg_evidence.proofs.TakenValues.{value-taken}
 
 -- a token without a value
 plain-taken : (room size r : ℕ) (bits : List Bool) (x : Token) (t : Text) → token_at room size r 0 (alone bits)
     ≡ Ok (x, t) → IsCut (Follows r 0 x) bits t
 unfolding token_at
-plain-taken room size r bits x t e = go (eqb r 15) refl e
-  where
-    go : (b : Bool) → eqb r 15 ≡ b
-        → (if b then gives Sixteen else bits_from r >>= (λ e. gives (Rest (2 ^ r - 1 + e)))) (alone bits) ≡ Ok (x, t) → IsCut (Follows r 0 x) bits t
-    go true h k = gives-taken (Follows r 0) Sixteen x bits t (sixteen r (eqb-true r 15 h)) k
-    go false h k =
-        map-taken (bits_from r) (λ (n : ℕ). Rest (2 ^ r - 1 + n)) (IsNumber r) (Follows r 0) bits t x
-        (λ n. number-taken r bits n t) (λ n own is. ended r n own (eqb-false r 15 h) is) k
+plain-taken room size r bits x t e =
+    if-read (eqb r 15) _ _ _ _ e
+    (λ h k. gives-taken (Follows r 0) Sixteen x bits t (sixteen r (eqb-true r 15 h)) k)
+    (λ h k. map-taken (bits_from r) (λ (n : ℕ). Rest (2 ^ r - 1 + n)) (IsNumber r) (Follows r 0) bits t x
+    (λ n. number-taken r bits n t) (λ n own is. ended r n own (eqb-false r 15 h) is) k)
 
 -- a token with a value
 valued-taken : (room size r s : ℕ) (bits : List Bool) (x : Token) (t : Text) → token_at room size r (suc s) (alone bits)
     ≡ Ok (x, t) → IsCut (Follows r (suc s) x) bits t
 unfolding token_at
-valued-taken room size r s bits x t e = go (ltb 0 (suc s)) refl (ltb r room) (leb (size + suc s) 8) e
-  where
-    go : (a : Bool) → ltb 0 (suc s) ≡ a → (b c : Bool)
-        → (if a then (if b then signed_from (suc s) >>= (λ v. gives (Value r v))
-        else (if c then signed_from (suc s) >>= (λ v. gives Overlong) else gives Overlong))
-        else (if eqb r 15 then gives Sixteen else bits_from r >>= (λ e. gives (Rest (2 ^ r - 1 + e))))) (alone bits) ≡ Ok (x, t) → IsCut (Follows r (suc s) x) bits t
-    go true h true c k =
-        map-taken (signed_from (suc s)) (λ (v : ℤ). Value r v) (IsValue (suc s)) (Follows r (suc s)) bits t x
-        (λ v. value-taken s bits v t) (λ v own is. value r s v own is) k
-    go true h false true k =
-        map-taken (signed_from (suc s)) (λ (v : ℤ). Overlong) (IsValue (suc s)) (Follows r (suc s)) bits t x
-        (λ v. value-taken s bits v t) (λ v own is. overlong r s own) k
-    go true h false false k = gives-taken (Follows r (suc s)) Overlong x bits t (overlong r s []) k
-    go false h b c k = let z = ltb-false 0 (suc s) h in absurd (omega (arith, z))
+valued-taken room size r s bits x t e =
+    if-read (ltb 0 (suc s)) _ _ _ _ e
+    (λ a k. if-read (ltb r room) _ _ _ _ k
+    (λ b l. map-taken (signed_from (suc s)) (λ (v : ℤ). Value r v) (IsValue (suc s)) (Follows r (suc s)) bits t x
+    (λ v. value-taken s bits v t) (λ v own is. value r s v own is) l)
+    (λ b l. if-read (leb (size + suc s) 8) _ _ _ _ l
+    (λ c m. map-taken (signed_from (suc s)) (λ (v : ℤ). Overlong) (IsValue (suc s)) (Follows r (suc s)) bits t x
+    (λ v. value-taken s bits v t) (λ v own is. overlong r s own) m)
+    (λ c m. gives-taken (Follows r (suc s)) Overlong x bits t (overlong r s []) m)))
+    (λ a k. absurd (let z = ltb-false 0 (suc s) a in omega (arith, z)))
 
 pub piece-taken : (room size r s : ℕ) (bits : List Bool) (x : Token) (t : Text) → token_at room size r s (alone bits)
     ≡ Ok (x, t) → IsCut (Follows r s x) bits t

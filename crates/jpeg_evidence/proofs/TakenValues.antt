@@ -1,13 +1,13 @@
 -- The bits that were taken of a value and of a DC difference are those that are written for it.
 use Rattle.std.proofs.Common.{◌≡◌, ℕ, zero, suc, ◌-◌, ◌^◌, ◌<◌, ◌≤◌, Bool, true, false, List, []}
-use Rattle.std.proofs.Common.{refl, sym, ap, ◌∙◌, arith, if◌then◌else◌, pow_pos, pow-suc, Ok, leb, eqb, nat_le}
+use Rattle.std.proofs.Common.{refl, sym, ap, ◌∙◌, arith, if◌then◌else◌, pow_pos, pow-suc, Ok, leb, nat_le}
 use Rattle.std.proofs.Common.{ℤ, pos, negsuc, ◌-ℤ◌}
 use Rattle.std.proofs.lemmas.Int.{ints}
-use Rattle.std.proofs.lemmas.Bool.{cases_lt, ltb-true, ltb-false, eqb-true}
+use Rattle.std.proofs.lemmas.Bool.{cases_lt, ltb-true, ltb-false}
 use Rattle.std.proofs.Math.Pow.{pow_mono}
 use Rattle.jpeg_bits.specs.Reading.{Malformed}
 use Rattle.jpeg_bits.specs.Entropy.{Text, bits_from, extended}
-use Rattle.jpeg_bits.specs.Readers.{Reads, gives, refused, signed_from}
+use Rattle.jpeg_bits.specs.Readers.{Reads, refused, signed_from}
 use Rattle.jpeg_bits.specs.Codes.{Table, IsTable, symbol_from}
 use Rattle.jpeg_bits.specs.Bands.{difference}
 use Rattle.jpeg_bits.proofs.Fast.{no-number}
@@ -16,7 +16,7 @@ use Rattle.jpeg_streams.specs.WrittenData.{WritesDifference}
 use Rattle.jpeg_evidence.specs.Strict.{alone, IsCut, IsNumber, IsValue}
 use Rattle.jpeg_evidence.proofs.TakenBits.{number-taken, symbol-taken, cut-map, gives-taken, map-taken}
 use Rattle.jpeg_streams.proofs.TakenTexts.{no-error}
-use Rattle.jpeg_evidence.proofs.TakenBits.{bind-cut}
+use Rattle.jpeg_evidence.proofs.TakenBits.{bind-cut, if-read}
 
 -- ---- signed numbers
 
@@ -67,11 +67,8 @@ category-taken (suc s) bits u t e = value-taken s bits u t e
 
 listed-taken : (s : ℕ) (bits : List Bool) (u : ℤ) (t : Text)
     → (if nat_le s 11 then signed_from s else refused) (alone bits) ≡ Ok (u, t) → IsCut (IsValue s u) bits t
-listed-taken s bits u t e = go (leb s 11) e
-  where
-    go : (b : Bool) → (if b then signed_from s else refused) (alone bits) ≡ Ok (u, t) → IsCut (IsValue s u) bits t
-    go true k = category-taken s bits u t k
-    go false k = absurd (no-error Malformed (u, t) k)
+listed-taken s bits u t e =
+    if-read (leb s 11) _ _ _ _ e (λ h k. category-taken s bits u t k) (λ h k. absurd (no-error Malformed (u, t) k))
 
 -- The bits that were taken of a DC difference are those that a writer emits for it.
 pub difference-taken : (table : Table) (bits : List Bool) (u : ℤ) (t : Text) → IsTable table

@@ -57,8 +57,8 @@ pub fn cosines_are_cosines()
     ensures first { cosine 0 ≡ pos unit }
     ensures middle { cosine 8 ≡ pos 0 }
     ensures last { cosine 16 ≡ neg_ℤ (pos unit) }
-    ensures falls {
-        list_all (λ m. is_positive (cosine m -ℤ cosine (suc m))) (range_with_len 0 16) ≡ true }
+    ensures falls { list_all (λ m. is_positive (cosine m -ℤ cosine (suc m)))
+        (range_with_len 0 16) ≡ true }
     ensures added { list_all (λ i. list_all (adds i) (range_with_len 0 17)) (range_with_len 0 17)
         ≡ true }
 {}

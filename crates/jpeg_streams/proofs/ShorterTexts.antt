@@ -1,5 +1,5 @@
 -- What entropy-coded bits leave.
-use Rattle.std.proofs.Common.{rules, ◌≤◌, ◌<◌, ℕ, zero, suc, List, [], ◌∷◌, ◌++◌, drop, replicate, Result, Ok, Err}
+use Rattle.std.proofs.Common.{rules, ◌<◌, ℕ, zero, suc, List, [], ◌∷◌, ◌++◌, drop, replicate, Result, Ok, Err}
 use Rattle.std.proofs.Common.{Bool, true, false, length, arith, ◌≡◌, refl, sym, subst}
 use Rattle.std.specs.Prelude.{◌==◌, if◌then◌else◌}
 use Rattle.jpeg_bits.specs.Reading as reading

@@ -191,9 +191,7 @@ signed-takes n = search (rules, bind-takes, bits-takes, gives-takes)
 
 difference-takes : (table : Table) → TakesBits (difference table)
 unfolding difference
-difference-takes table =
-    bind-takes (symbol_from table) _ (symbol-takes table) (λ s.
-    if-takes (nat_le s 11) (signed_from s) refused (signed-takes s) (refused-takes ℤ))
+difference-takes table = search (rules, bind-takes, symbol-takes, if-takes, signed-takes, refused-takes)
 
 first_dc-takes : (table : Table) (al : ℕ) (predictor : ℤ) → TakesBits (first_dc table al predictor)
 unfolding first_dc
@@ -201,9 +199,7 @@ first_dc-takes table al predictor = search (rules, bind-takes, difference-takes,
 
 token_at-takes : (room size r s : ℕ) → TakesBits (token_at room size r s)
 unfolding token_at
-token_at-takes room size r s = if-takes (nat_lt 0 s) _ _
-    (grind (arith, common_steps, if-takes, bind-takes, signed-takes, gives-takes))
-    (search (rules, if-takes, gives-takes, bind-takes, bits-takes))
+token_at-takes room size r s = search (rules, if-takes, bind-takes, signed-takes, bits-takes, gives-takes)
 
 after-takes : (al : ℕ) (others : List ℤ → Reads Band) (rest : List ℤ)
     → ((rest : List ℤ) → TakesBits (others rest)) → (token : Token) → TakesBits (after_token al others rest token)
@@ -218,15 +214,12 @@ first_ac-takes table al n rest = search (rules, gives-takes, refused-takes)
 
 dc-takes : (p : Pass) (dc : Table) (z predictor : ℤ) → TakesBits (dc_part p dc z predictor)
 unfolding dc_part
-dc-takes p dc z predictor = if-takes (p.ss == 0) _ _
-    (if-takes p.is_first _ _ (first_dc-takes dc p.al predictor)
-    (bind-takes (bits_from 1) _ (bits-takes 1) (λ b. gives-takes _)))
-    (gives-takes _)
+dc-takes p dc z predictor = search (rules, if-takes, first_dc-takes, bind-takes, bits-takes, gives-takes)
 
 -- ---- refinements
 
 moved-takes : (al : ℕ) (z : ℤ) (b : ℕ) → TakesBits (corrected_by al z b)
-moved-takes al z b = grind (arith, common_steps, if-takes, gives-takes, refused-takes)
+moved-takes al z b = search (rules, if-takes, gives-takes, refused-takes)
 
 corrected-takes : (al : ℕ) (band : List ℤ) → TakesBits (corrected al band)
 unfolding corrected
@@ -235,9 +228,8 @@ corrected-takes al band = search (rules, each-takes, bind-takes, if-takes, gives
 piece-takes : (al : ℕ) (others : List ℤ → Reads Band) (rest : List ℤ)
     → ((rest : List ℤ) → TakesBits (others rest)) → (r s : ℕ) → TakesBits (refined_piece al others rest r s)
 unfolding refined_piece
-piece-takes al others rest h r zero = if-takes (r == 15) _ _
-    (search (rules, bind-takes, corrected-takes, gives-takes))
-    (search (rules, bind-takes, bits-takes, corrected-takes, gives-takes))
+piece-takes al others rest h r zero =
+    search (rules, if-takes, bind-takes, bits-takes, corrected-takes, gives-takes)
 piece-takes al others rest h r (suc zero) =
     search (rules, bind-takes, bits-takes, corrected-takes, gives-takes)
 piece-takes al others rest h r (suc (suc s)) = refused-takes Band
@@ -254,9 +246,7 @@ band-takes : (p : Pass) (ac : Table) (band : List ℤ) (run : ℕ) → TakesBits
 unfolding band_part
 band-takes p ac [] run = gives-takes _
 band-takes p ac (x ∷ band) zero = search (rules, if-takes, first_ac-takes, refined_ac-takes)
-band-takes p ac (x ∷ band) (suc run) =
-    if-takes p.is_first _ _ (gives-takes _) (bind-takes (corrected p.al (x ∷ band)) _
-    (corrected-takes p.al (x ∷ band)) (λ all. gives-takes _))
+band-takes p ac (x ∷ band) (suc run) = search (rules, if-takes, gives-takes, bind-takes, corrected-takes)
 
 block-takes : (p : Pass) (dc ac : Table) (predictor : ℤ) (run : ℕ) (old : Block)
     → TakesBits (block_from p dc ac predictor run old)
