@@ -1,6 +1,6 @@
 -- Intervals that were written are read again, by whatever reads their bits.
 use Rattle.std.proofs.Common.{rules, ◌≡◌, ◌≢◌, ℕ, zero, suc, ◌+◌, ◌%◌, ◌<◌, ◌≤◌, Bool, true, false, List}
-use Rattle.std.proofs.Common.{[], ◌∷◌, ◌++◌, length, take, drop, map, replicate, Option, Some, None, Ok, refl, sym}
+use Rattle.std.proofs.Common.{[], ◌∷◌, ◌++◌, length, drop, map, replicate, Option, Some, None, Ok, refl, sym}
 use Rattle.std.proofs.Common.{ap, ap₂, ◌∙◌, arith, eqb, length-append, length-drop, append_assoc, append-nil, subst, take-append-drop}
 use Rattle.std.proofs.lemmas.Bool.{eq-eqb, eqb-true}
 use Rattle.std.proofs.lemmas.Bool.Decides.{nat_tests}

@@ -31,7 +31,7 @@ use Rattle.jpeg_lossless.specs.Scans.{lines_by_component, rows_of_interval, Way}
 use Rattle.jpeg_lossless.specs.SampleDifferences.{AreLines, AreSamples, differences_below, differences_of}
 use Rattle.jpeg_lossless.specs.SampleDifferences.{first_differences, rest_differences}
 use Rattle.jpeg_lossless.specs.Written.{WritesRows, WritesSampleDifference}
-use Rattle.jpeg_bits.specs.Written.{WritesEach, WritesInterval, WritesIntervals}
+use Rattle.jpeg_bits.specs.Written.{WritesEach, WritesInterval}
 use Rattle.jpeg_bits.specs.Written.WritesEach.{none, one}
 use Rattle.jpeg_bits.specs.Written.WritesIntervals.{last}
 use Rattle.jpeg_lossless.proofs.Inverse.{all_back}

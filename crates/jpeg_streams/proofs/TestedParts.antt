@@ -10,7 +10,7 @@ use Rattle.std.specs.List.{AllByRecursion, list_all}
 use Rattle.std.specs.Prelude.{nat_le}
 use Rattle.jpeg_bits.proofs.Tables.{tested-exist}
 use Rattle.jpeg_bits.specs.Codes.{code_lengths, codes_exist}
-use Rattle.jpeg_bits.specs.Passes.{band_of, Block, Pass, Via}
+use Rattle.jpeg_bits.specs.Passes.{band_of, Block, Pass}
 use Rattle.jpeg_bits.specs.Written.{bits_of_bytes, IsCategory, stuffed}
 use Rattle.jpeg_segments.specs.Frame.{Factors, Frame, is_count, is_factor, is_lossless_number}
 use Rattle.jpeg_segments.specs.Frame.{is_destination, is_precision}

@@ -1,6 +1,6 @@
 -- Lossless streams as a writer emits them for samples (T.81, B.2.1 and Annex H). Nothing here
 -- reads bytes.
-use Rattle.std.specs.Prelude.{◌≡◌, true, ℕ, suc, ◌+◌, ◌*◌, ◌/◌, ◌≤◌, List, [], ◌∷◌, ◌++◌, length}
+use Rattle.std.specs.Prelude.{◌≡◌, true, ℕ, ◌+◌, ◌*◌, ◌/◌, ◌≤◌, List, [], ◌∷◌, ◌++◌, length}
 use Rattle.std.specs.Prelude.{map, Ok, Some, take}
 use Rattle.std.specs.List.{AllByRecursion, concat, range_with_len}
 use Rattle.jpeg_segments.specs.declared.parser.CodingProcess.TheVariants.{Lossless}
@@ -21,7 +21,7 @@ use Rattle.jpeg_bits.specs.Intervals.{first_group, other_groups}
 use Rattle.jpeg_bits.specs.Written.{marker, WritesIntervals}
 use Rattle.jpeg_streams.specs.InTurn.{IsIn}
 use Rattle.jpeg_streams.specs.LosslessScans.{LosslessCoding, lossless_codings, mcus_across}
-use Rattle.jpeg_streams.specs.LosslessScans.{mcus_down, parts_of, way_of}
+use Rattle.jpeg_streams.specs.LosslessScans.{mcus_down, way_of}
 use Rattle.jpeg_streams.specs.SaidSegments.{found_after, Stands}
 use Rattle.jpeg_streams.specs.Found.{nothing_found, Found}
 
