@@ -8,7 +8,8 @@ use Rattle.std.proofs.Math.Pow.{pow_mono}
 use Rattle.std.proofs.lemmas.Bool.{and_parts, cases_lt, eqb-true, ltb-true}
 use Rattle.std.proofs.lemmas.Bool.Decides.{nat_tests}
 use Rattle.std.proofs.lemmas.Int.{ints}
-use Rattle.std.proofs.lemmas.List.{append-nil, take_all}
+use Rattle.std.proofs.lemmas.List.{append-nil, map-id, take_all}
+use Rattle.std.proofs.lemmas.Simd.{map-map}
 use Rattle.std.proofs.lemmas.List.FromFn.{get_or-range_with_len}
 use lib.ListN.{length-map}
 use Rattle.std.specs.List.{AllByRecursion, list_all, range_with_len}
@@ -131,13 +132,9 @@ tables-of zero [] e = refl
 tables-of (suc n) (r ∷ rs) e = ap (λ (l : List Table). even_table ∷ l) (tables-of n rs (omega arith))
 tables-of n rs e = absurd (omega arith)
 
-values-in : (rs : List ℕ) → map (λ x. x.1) (pairs rs) ≡ rs
-values-in [] = refl
-values-in (r ∷ rs) = ap (λ (l : List ℕ). r ∷ l) (values-in rs)
-
 values-of : (rows : List (List ℕ)) → map (map (λ x. x.1)) (map pairs rows) ≡ rows
 values-of [] = refl
-values-of (rs ∷ rows) = ap₂ (λ (l : List ℕ) (ls : List (List ℕ)). l ∷ ls) (values-in rs) (values-of rows)
+values-of (rs ∷ rows) = search (rules, map-map, map-id, values-of rows)
 
 all-tables : (n : ℕ) (rows : List (List ℕ)) → AreRows n rows
     → map (map (λ x. x.0)) (map pairs rows) ≡ replicate (length rows) (row_tables n (even_table ∷ []))

@@ -6,13 +6,13 @@ use Rattle.jpeg_lossless.specs.Differences.{interval_rows, sample_difference}
 use Rattle.jpeg_lossless.specs.Scans.{Way, scan_at}
 use Rattle.jpeg_streams.proofs.Shorter.{below_steps, LeavesBelow}
 use Rattle.jpeg_streams.proofs.ShorterScans.{intervals-below}
-use Rattle.jpeg_streams.proofs.TakenTexts.{TakesBits, bind-takes, gives-takes, if-takes, refused-takes}
+use Rattle.jpeg_streams.proofs.TakenTexts.{TakesBits, bind-takes, elim-takes, gives-takes, refused-takes}
 use Rattle.jpeg_streams.proofs.TakenTexts.{signed-takes, symbol-takes}
 
 difference-takes : (table : Table) → TakesBits (sample_difference table)
 unfolding sample_difference
 difference-takes table =
-    search (rules, bind-takes, symbol-takes, if-takes, signed-takes, gives-takes, refused-takes ℕ)
+    search (rules, bind-takes, symbol-takes, elim-takes, signed-takes, gives-takes, refused-takes ℕ)
 
 each-takes : {A B : Type 0} (read : A → Reads B) → ((x : A) → TakesBits (read x)) → (xs : List A)
     → TakesBits (each read xs)

@@ -97,10 +97,6 @@ pub elim-takes : {A : Type 0} (b : Bool) (p q : Reads A) → TakesBits p → Tak
 elim-takes true p q x y = x
 elim-takes false p q x y = y
 
-pub if-takes : {A : Type 0} (b : Bool) (p q : Reads A) → TakesBits p → TakesBits q → TakesBits (if b then p else q)
-if-takes true p q x y = x
-if-takes false p q x y = y
-
 -- ---- bits and codes
 
 -- bits that are there can be taken whatever follows them

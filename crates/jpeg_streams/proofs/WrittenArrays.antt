@@ -1,5 +1,6 @@
 -- A scan that was written is read at each of its spots.
 use Rattle.std.proofs.Common.{rules, ◌≡◌, ℕ, List, [], ◌∷◌, ◌++◌, map, Option, Some, Ok, refl, sym, ap, ◌∙◌, subst}
+use Rattle.std.proofs.lemmas.Simd.{map-map}
 use Rattle.std.specs.List.{AllByRecursion}
 use Rattle.jpeg_bits.specs.Reading.{Outcome, ◌>>=◌}
 use Rattle.jpeg_bits.specs.declared.marker.Marker.{Marker}
@@ -13,10 +14,6 @@ use Rattle.jpeg_streams.specs.WrittenScans.{written_turns}
 use Rattle.jpeg_streams.proofs.SentBlocks.{after_pass, reads_of, numbers_of}
 use Rattle.jpeg_streams.proofs.WrittenBlocks.{IsReady}
 use Rattle.jpeg_streams.proofs.WrittenIntervals.{reads-scan}
-
-pub map-map_any : {A B C : Type 0} (f : A → B) (g : B → C) (xs : List A) → map g (map f xs) ≡ map (λ x. g (f x)) xs
-map-map_any f g [] = refl
-map-map_any f g (x ∷ xs) = ap (λ l. g (f x) ∷ l) (map-map_any f g xs)
 
 -- a block's way, what is held of it, and its numbers at the level of the pass
 abbrev pub turn_with : List Via → Arrays → (Spot → Block) → Spot → Via × Block × Block
@@ -38,7 +35,7 @@ put_back spots arrays r = Ok ((put_blocks spots r.0.0 arrays, r.0.1), r.1)
 turns-are : (vias : List Via) (spots : List Spot) (arrays : Arrays) (u : Spot → Block)
     → reads_of (map (turn_with vias arrays u) spots) ≡ turns_of vias spots arrays
 unfolding turns_of
-turns-are vias spots arrays u = map-map_any (turn_with vias arrays u) (λ (t : Via × Block × Block). (t.0, t.1)) spots
+turns-are vias spots arrays u = map-map (λ (t : Via × Block × Block). (t.0, t.1)) (turn_with vias arrays u) spots
 
 -- A scan that was written is read as the blocks after the pass, put back at their spots.
 pub reads-arrays : (p : Pass) (n : ℕ) (vias : List Via) (spots : List Spot) (arrays : Arrays) (u : Spot → Block)
@@ -53,12 +50,11 @@ reads-arrays p n vias spots arrays u bytes fill code m rest ready h w =
     let all = bytes ++ marker fill code rest in
     let turns = map (turn_with vias arrays u) spots in
     let news : numbers_of turns ≡ written_turns vias spots u =
-    map-map_any (turn_with vias arrays u) (λ (t : Via × Block × Block). (t.0, t.2)) spots in
+    map-map (λ (t : Via × Block × Block). (t.0, t.2)) (turn_with vias arrays u) spots in
     let written = subst (λ (x : List (Via × Block)). WritesIntervals (WritesBlocks p predictors_at_start 0) 0 (first_group n x) (other_groups n x) bytes)
     (sym news) w in
-    (refl)
-    ∙ ap (λ (x : List (Via × Block)). intervals (blocks_of p predictors_at_start 0) 0 (first_group n x)
+    ap (λ (x : List (Via × Block)). intervals (blocks_of p predictors_at_start 0) 0 (first_group n x)
     (other_groups n x) all >>= put_back spots arrays) (sym (turns-are vias spots arrays u))
     ∙ ap (λ (o : Outcome (List Block × Option Marker)). o >>= put_back spots arrays)
     (reads-scan p n turns bytes fill code m rest (ready-turns p vias arrays u spots ready) h written)
-    ∙ (search (rules, map-map_any))
+    ∙ (search (rules, map-map))

@@ -5,6 +5,7 @@ use Rattle.std.proofs.lemmas.Grind.{common_steps}
 use Rattle.std.proofs.Math.Nat.{div-lt_iff_lt-mul}
 use Rattle.std.specs.List.{AllByRecursion}
 use lib.ListN.{length-map}
+use Rattle.std.proofs.lemmas.Simd.{map-map}
 use Rattle.jpeg_bits.specs.Codes.{code_lengths, lengths_from}
 use Rattle.jpeg_bits.specs.declared.codes.HuffmanTableClass.{HuffmanTableClass}
 use Rattle.jpeg_bits.specs.declared.marker.Marker.{Marker}
@@ -21,7 +22,7 @@ use Rattle.jpeg_streams.specs.WrittenScans.{Coefficients, IsOwn, grid_at, Writes
 use Rattle.jpeg_streams.proofs.SentBlocks.{Suits, after_pass}
 use Rattle.jpeg_bits.specs.Written.{IsMarker}
 use Rattle.jpeg_streams.proofs.CutLevels.{suits-cut, cut-after, all-same, cut-unsent, floor-range, floor-fits}
-use Rattle.jpeg_streams.proofs.WrittenArrays.{IsReadyAt, reads-arrays, map-map_any}
+use Rattle.jpeg_streams.proofs.WrittenArrays.{IsReadyAt, reads-arrays}
 use Rattle.jpeg_streams.proofs.Put.{reaches}
 use Rattle.jpeg_streams.specs.InTurn.{IsIn, IsInside}
 use Rattle.jpeg_streams.proofs.OwnSpots.{At, at-within, at-get, IsOwnSpot, own-only, Fits, covered}
@@ -109,7 +110,7 @@ array-at before codings k j h = at-get (λ (c : Coding). get_or before c.index [
 
 pub grid-at : (codings : List Coding) (k : Coding) (j : ℕ) → At j codings k
     → grid_at (components_of codings) j ≡ grid_of k.component
-grid-at codings k j h = search (rules, map-map_any, at-get)
+grid-at codings k j h = search (rules, map-map, at-get)
 
 pub all-in : {A : Type 0} (Q : A → Type 0) (xs : List A) → ((x : A) → IsIn x xs → Q x) → AllByRecursion Q xs
 all-in Q [] h = tt

@@ -76,7 +76,7 @@ pub record WritesSamplesScan (said : Found) (frame : Frame) (h : ScanHeader) (sa
       (lines_by_component w 0 w.parts (first_group n values ∷ other_groups n values))
   pub written :
       let n = rows_of_interval (mcus_across frame codings) (mcus_down frame codings)
-          said.restart in
+      said.restart in
       WritesIntervals WritesRows 0 (first_group n rows) (other_groups n rows) bytes
 
 -- ---- a stream
