@@ -26,6 +26,11 @@ pub all-again : {A : Type 0} (Q : A → Type 0) (n : ℕ) (x : A) → Q x → Al
 all-again Q zero x h = tt
 all-again Q (suc n) x h = (h, all-again Q n x h)
 
+pub all-map : {A B : Type 0} (Q : A → Type 0) (P : B → Type 0) (f : A → B) (xs : List A) → ((x : A) → Q x → P (f x))
+    → AllByRecursion Q xs → AllByRecursion P (map f xs)
+all-map Q P f [] h all = tt
+all-map Q P f (x ∷ xs) h all = (h x all.0, all-map Q P f xs h all.1)
+
 pub all-mapped : {A B : Type 0} (Q : B → Type 0) (f : A → B) (xs : List A) → AllByRecursion Q (map f xs)
     → AllByRecursion (λ x. Q (f x)) xs
 all-mapped Q f [] h = tt

@@ -39,12 +39,12 @@ use Rattle.jpeg_streams.specs.WrittenImages.{closed, scan, segment, Writes}
 use Rattle.jpeg_streams.specs.WrittenScans.{block_for, Coefficients, grid_at, HasTable, IsComplete}
 use Rattle.jpeg_streams.specs.WrittenScans.{IsLegalScan, levels_after, index_at, WritesScan}
 use Rattle.jpeg_streams.specs.WrittenScans.{written_turns}
-use Rattle.jpeg_streams.proofs.CutLevels.{all-same, all-map}
+use Rattle.jpeg_streams.proofs.CutLevels.{all-same}
 use Rattle.jpeg_streams.proofs.TestedParts.{one-quantizes, table-by, table_of_one}
 use Rattle.jpeg_streams.proofs.EncodedBlocks.{ac_pass, dc_pass, Each, each-ac, each-dc, each-whole, flat_table}
 use Rattle.jpeg_streams.proofs.EncodedBlocks.{HasFlatAc, HasFlatDc, interval-written, IsFlat}
 use Rattle.jpeg_streams.proofs.WholeImages.{floor-whole, toward-whole}
-use Rattle.jpeg_bits.proofs.ReadIntervals.{all-append}
+use Rattle.jpeg_bits.proofs.ReadIntervals.{all-append, all-map}
 use Rattle.jpeg_streams.proofs.ReadTurns.{then-ok}
 
 -- ---- what is written
