@@ -265,45 +265,10 @@ tested-bytes : (bytes : List ℕ) → list_all (λ b. nat_lt b 256) bytes ≡ tr
 tested-bytes [] h = tt
 tested-bytes (b ∷ bytes) h = search (rules, and_parts, ltb-true, tested-bytes bytes)
 
--- ---- the interval
-
--- how a component alone is coded
-abbrev lone_way : ℕ → ℕ → ℕ → Way
-lone_way start width height =
-    record { wide = width; selection = Ra; start = start; parts = lone_part width height ∷ [] }
-
--- its differences
-abbrev lone_rows : ℕ → List (List ℕ) → List (List ℕ)
-lone_rows start lines = differences_of Ra start [] lines
-
-interval-written : (start bound width height : ℕ) (lines : List (List ℕ)) → bound ≤ 65536
-    → AllByRecursion (IsLineOf width bound) lines
-    → (lines_by_component (lone_way start width height) 0 (lone_part width height ∷ []) (lone_rows start lines ∷ [])
-    ≡ lines ∷ [])
-    × (bytes : List ℕ) × WritesInterval (WritesRows (map pairs (lone_rows start lines))) bytes × AreBytes bytes
-unfolding mcu_tables lines_by_component
-interval-written start bound width height lines le h =
-    let rows = lone_rows start lines in
-    let are = below-rows Ra start width [] lines (inl refl) (are-wide bound width lines h) in
-    let w = rows-written width rows are in
-    let b = packed w.0 in (
-      grind (
-        arith,
-        common_steps,
-        append-nil,
-        lines-low bound width lines le h,
-        lines-whole width height rows are,
-        all_back,
-      ),
-      stuffed b.bytes,
-      interval-packed (WritesRows (map pairs rows)) w.0 w.1,
-      stuffed-bytes b.bytes b.are_bytes,
-    )
+-- ---- a scan of a component
 
 no-restart : (wide high : ℕ) → rows_of_interval wide high 0 ≡ 0
 no-restart wide high = grind (arith, nat_tests, zero-div)
-
--- ---- a scan of a component
 
 abbrev coding : FrameHeader → ℕ → Factors → LosslessCoding
 coding h index c = record { index = index; component = component_in h c; table = even_table }
@@ -327,7 +292,7 @@ data-written : (h : FrameHeader) (now : Found) (front more : List Factors) (c : 
     → AreLinesOf (2 ^ h.precision) (component_in h c) (samples (length front))
     → (bytes : List ℕ) × WritesSamplesScan now (frame_written 3 h) (header_of (length front) c)
     samples bytes × AreBytes bytes
-unfolding frame_of mcus_across mcus_down mcu_tables parts_of lossless_codings lossless_coding scan_of HoldSamples
+unfolding frame_of lines_by_component mcus_across mcus_down mcu_tables parts_of lossless_codings lossless_coding scan_of HoldSamples
 data-written h now front more c samples ready e most are =
     let frame = frame_written 3 h in
     let k = coding h (length front) c in
@@ -337,13 +302,16 @@ data-written h now front more c samples ready e most are =
     let bound : 2 ^ h.precision ≤ 2 ^ 16 = pow_mono {i = h.precision} {j = 16} most in
     let low : 2 ^ h.precision ≤ 65536 = omega (arith, bound) in
     let start = start_of h.precision 0 in
-    let w = interval-written start (2 ^ h.precision) wide high lines low are.lined in
-    let rows = lone_rows start lines in
+    let rows = differences_of Ra start [] lines in
     let wides = are-wide (2 ^ h.precision) wide lines are.lined in
     let are_rows = below-rows Ra start wide [] lines (inl refl) wides in
+    let w = rows-written wide rows are_rows in
+    let b = packed w.0 in
+    let whole = lines-whole wide high rows are_rows in
+    let back = all_back Ra start wide lines (lines-low (2 ^ h.precision) wide lines low are.lined) in
     let n : rows_of_interval wide high now.restart ≡ 0
     = ap (rows_of_interval wide high) ready.restart ∙ no-restart wide high in (
-      w.1,
+      stuffed b.bytes,
       record {
         codings = k ∷ [];
         coded = let is = component-at h front more c e in grind (arith, common_steps, then-ok);
@@ -353,10 +321,10 @@ data-written h now front more c samples ready e most are =
         tables = all-tables wide rows are_rows
             ∙ ap (λ (n : ℕ). replicate n (row_tables wide (even_table ∷ [])))
             (rows-count Ra start [] lines ∙ are.counted);
-        kept = rw (n, values-of rows, w.0) (own-whole wide high lines are.counted wides, tt);
-        written = rw n (last 0 (map pairs rows) w.1 w.2);
+        kept = rw (n, values-of rows, append-nil, whole, back) (own-whole wide high lines are.counted wides, tt);
+        written = rw n (last 0 (map pairs rows) _ (interval-packed (WritesRows (map pairs rows)) w.0 w.1));
       },
-      w.3,
+      stuffed-bytes b.bytes b.are_bytes,
     )
 
 scan-bytes : (index : ℕ) (c : Factors) → c.identifier < 256 → AreBytes (with_length (scan_payload
