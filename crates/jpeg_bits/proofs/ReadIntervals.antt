@@ -1,12 +1,10 @@
 -- What holds of all that is read, thing by thing and interval by interval.
-use Rattle.std.proofs.Common.{rules, ◌≡◌, ℕ, zero, suc, Bool, true, false, List, [], ◌∷◌, ◌++◌, length, map, take, drop, replicate, Result, Ok, Err, refl}
-use Rattle.std.proofs.Common.{Option, ap, arith}
-use Rattle.std.proofs.lemmas.Bool.Decides.{nat_tests}
-use Rattle.std.proofs.lemmas.Grind.{common_steps}
+use Rattle.std.proofs.Common.{rules, ◌≡◌, ℕ, zero, suc, List, [], ◌∷◌, ◌++◌, length, map, take, drop, replicate, Result, Ok, Err, refl}
+use Rattle.std.proofs.Common.{Option}
 use Rattle.std.specs.List.{AllByRecursion}
 use Rattle.jpeg_bits.specs.Entropy.{Text}
 use Rattle.jpeg_bits.specs.Intervals.{interval, intervals}
-use Rattle.jpeg_bits.specs.Reading.{Fault, Outcome, ◌>>=◌}
+use Rattle.jpeg_bits.specs.Reading.{Fault}
 use Rattle.jpeg_bits.specs.Readers.{Reads, each}
 
 -- ---- lists
@@ -27,6 +25,11 @@ all-append Q (x ∷ xs) ys h k = (h.0, all-append Q xs ys h.1 k)
 pub all-again : {A : Type 0} (Q : A → Type 0) (n : ℕ) (x : A) → Q x → AllByRecursion Q (replicate n x)
 all-again Q zero x h = tt
 all-again Q (suc n) x h = (h, all-again Q n x h)
+
+pub all-map : {A B : Type 0} (Q : A → Type 0) (P : B → Type 0) (f : A → B) (xs : List A) → ((x : A) → Q x → P (f x))
+    → AllByRecursion Q xs → AllByRecursion P (map f xs)
+all-map Q P f [] h all = tt
+all-map Q P f (x ∷ xs) h all = (h x all.0, all-map Q P f xs h all.1)
 
 pub all-mapped : {A B : Type 0} (Q : B → Type 0) (f : A → B) (xs : List A) → AllByRecursion Q (map f xs)
     → AllByRecursion (λ x. Q (f x)) xs

@@ -1,6 +1,6 @@
 -- Intervals that were written are read again, by whatever reads their bits.
 use Rattle.std.proofs.Common.{rules, ◌≡◌, ◌≢◌, ℕ, zero, suc, ◌+◌, ◌%◌, ◌<◌, ◌≤◌, Bool, true, false, List}
-use Rattle.std.proofs.Common.{[], ◌∷◌, ◌++◌, length, take, drop, map, replicate, Option, Some, None, Ok, refl, sym}
+use Rattle.std.proofs.Common.{[], ◌∷◌, ◌++◌, length, drop, map, replicate, Option, Some, None, Ok, refl, sym}
 use Rattle.std.proofs.Common.{ap, ap₂, ◌∙◌, arith, eqb, length-append, length-drop, append_assoc, append-nil, subst, take-append-drop}
 use Rattle.std.proofs.lemmas.Bool.{eq-eqb, eqb-true}
 use Rattle.std.proofs.lemmas.Bool.Decides.{nat_tests}
@@ -223,7 +223,7 @@ others-all Q (suc n) xs h = groups-all Q (length xs) (suc n) (drop (suc n) xs) (
 module _ {X A B C : Type 0} (read : List A → Reads (List C)) (writes : List B → List Bool → Type 0) (f : X → A)
     (g : X → B) (h : List X → List C) (P : X → Type 0)
     (takes : (xs : List X) (bits : List Bool) → AllByRecursion P xs → writes (map g xs) bits
-      → ReadsJust (read (map f xs)) bits (h xs))
+    → ReadsJust (read (map f xs)) bits (h xs))
     (fill code : ℕ) (m : Marker) (rest : List ℕ) (is : IsMarker code m) where
   reads-intervals : (k : ℕ) (xs : List X) (more : List (List X)) (bytes : List ℕ) → AllByRecursion P xs
       → AllByRecursion (AllByRecursion P) more → WritesIntervals writes k (map g xs) (map (map g) more) bytes

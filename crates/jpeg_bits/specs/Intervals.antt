@@ -1,5 +1,5 @@
 -- The intervals of a scan in bytes (T.81, E.2.4 and F.1.2.3).
-use Rattle.std.specs.Prelude.{ℕ, zero, suc, ◌%◌, ◌==◌, Bool, true, false, List, [], ◌∷◌, ◌++◌}
+use Rattle.std.specs.Prelude.{ℕ, zero, suc, ◌%◌, ◌==◌, Bool, false, List, [], ◌∷◌, ◌++◌}
 use Rattle.std.specs.Prelude.{if◌then◌else◌, length, take, drop, Option, Some, Ok, Err}
 use Rattle.jpeg_bits.specs.Reading.{Outcome, Malformed, ◌>>=◌}
 use Rattle.jpeg_bits.specs.Entropy.{marker_from, text_ahead}

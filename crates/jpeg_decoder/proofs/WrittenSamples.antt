@@ -1,13 +1,11 @@
 -- A lossless scan that is written is read as its samples.
 use Rattle.std.proofs.Common.{rules}
-use Rattle.std.proofs.Common.{◌≡◌, ℕ, zero, suc, ◌*◌, ◌<◌, Bool, true, false}
-use Rattle.std.proofs.Common.{List, [], ◌∷◌, ◌++◌, map, length, replicate, take, Option, Some, None}
-use Rattle.std.proofs.Common.{Ok, refl, ap, ◌∙◌, subst, arith, sym}
+use Rattle.std.proofs.Common.{◌≡◌, ℕ, zero, suc, ◌*◌, false, List, [], ◌∷◌, ◌++◌, map, length}
+use Rattle.std.proofs.Common.{replicate, take, Option, Some, None, Ok, refl, ap, ◌∙◌, subst, arith}
+use Rattle.std.proofs.Common.{sym}
 use Rattle.std.specs.List.{AllByRecursion, concat}
 use Rattle.std.specs.Prelude.{slice_get, slice_index_or}
-use Rattle.std.proofs.lemmas.Bool.{le-leb, eq-eqb, or_right}
 use Rattle.std.proofs.lemmas.List.{length-map, length-take-le, map-append}
-use Rattle.std.proofs.lemmas.Nat.{div-mul-add, mod-mul-add}
 use Rattle.jpeg_bits.specs.Codes.{IsTable, Table}
 use Rattle.jpeg_bits.specs.Marker.{marker_of}
 use Rattle.jpeg_bits.specs.Reading.{Outcome}

@@ -8,7 +8,7 @@ ghost use Rattle.std.proofs.Props.{props};
 ghost use Rattle.jpeg_lossless.specs.Rows.{planes_after_rows};
 ghost use Rattle.jpeg_lossless.specs.PlanesRead.{planes_interval, planes_intervals, planes_scan};
 ghost use Rattle.jpeg_lossless.specs.PlanesRead.{AreGrown, IsWithinMcus, counted_rows, cut_planes};
-ghost use Rattle.jpeg_lossless.specs.Scans.{is_of_rows};
+ghost use Rattle.jpeg_lossless.specs.Scans.{is_of_rows, rows_of_interval};
 ghost use Rattle.jpeg_bits.specs.Intervals.{is_restart};
 ghost use Rattle.jpeg_lossless.specs.Scans.{shifted, scan_at};
 ghost use Rattle.jpeg_lossless.specs.Codings.{AreWholeSamples, IsCovered, part_in, way_by};
@@ -51,7 +51,8 @@ fn rows_of_interval(coding: Coding) -> Option<u16>
     requires wide { 0 < coding.wide }
     requires high { 0 < coding.high }
     ensures some { IfSome result
-        (λ n. (n ≡ counted_rows coding.wide coding.high coding.restart_interval) × (0 < n)
+        (λ n. (n ≡ counted_rows coding.high
+        (rows_of_interval coding.wide coding.high coding.restart_interval)) × (0 < n)
         × (is_of_rows coding.wide coding.high coding.restart_interval ≡ true)) }
     ensures none { IfNone result
         (is_of_rows coding.wide coding.high coding.restart_interval ≡ false) }

@@ -10,7 +10,7 @@ use lib.Pow.{shr-shr}
 use Rattle.std.proofs.lemmas.Int.{ints, int_wrap_fits}
 use Rattle.std.proofs.lemmas.Bool.{eqb-true}
 use Rattle.std.specs.List.{AllByRecursion}
-use Rattle.jpeg_bits.proofs.ReadIntervals.{all-drop, all-take}
+use Rattle.jpeg_bits.proofs.ReadIntervals.{all-again, all-drop, all-map, all-take}
 use Rattle.jpeg_bits.specs.Bands.{wrapped}
 use Rattle.jpeg_bits.specs.Passes.{Pass, Block, band_of, with_band, before_band, band_size}
 use Rattle.jpeg_streams.specs.Levels.{floor_at, toward_zero, numbers_at, Levels, cut_by, cut_acs, cut, IsLegal}
@@ -107,14 +107,8 @@ around-band p cs = (search (rules, drop-drop))
     ∙ ap (λ (l : List ℤ). take (before_band p) cs ++ l) (take-append-drop (band_size p) (drop (before_band p) cs))
     ∙ take-append-drop (before_band p) cs
 
-pub all-map : {A B : Type 0} (Q : A → Type 0) (P : B → Type 0) (f : A → B) (xs : List A) → ((x : A) → Q x → P (f x))
-    → AllByRecursion Q xs → AllByRecursion P (map f xs)
-all-map Q P f [] h all = tt
-all-map Q P f (x ∷ xs) h all = (h x all.0, all-map Q P f xs h all.1)
-
 pub all-same : (a : Option ℕ) (n : ℕ) → AllByRecursion (λ x. x ≡ a) (replicate n a)
-all-same a zero = tt
-all-same a (suc n) = (refl, all-same a n)
+all-same a n = all-again (λ x. x ≡ a) n a refl
 
 -- ---- a scan
 

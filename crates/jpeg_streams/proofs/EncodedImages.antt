@@ -37,13 +37,15 @@ use Rattle.jpeg_streams.specs.WorkedImages.{IsWhollyWritten}
 use Rattle.jpeg_bits.specs.Written.{marker}
 use Rattle.jpeg_bits.specs.Written.WritesIntervals.{last as last_interval}
 use Rattle.jpeg_streams.specs.WrittenImages.{closed, scan, segment, Writes}
-use Rattle.jpeg_streams.specs.WrittenScans.{Coefficients, HasTable, IsComplete, IsLegalScan, levels_after, WritesScan}
-use Rattle.jpeg_streams.proofs.CutLevels.{all-same, all-map}
-use Rattle.jpeg_streams.proofs.TestedParts.{lone-own, one-quantizes, own_block, table-by, table_of_one}
+use Rattle.jpeg_streams.specs.WrittenScans.{Coefficients, HasTable, IsComplete, IsLegalScan}
+use Rattle.jpeg_streams.specs.WrittenScans.{levels_after, WritesScan}
+use Rattle.jpeg_streams.proofs.CutLevels.{all-same}
+use Rattle.jpeg_streams.proofs.TestedParts.{lone-own, one-quantizes, own_block, table-by}
+use Rattle.jpeg_streams.proofs.TestedParts.{table_of_one}
 use Rattle.jpeg_streams.proofs.EncodedBlocks.{ac_pass, dc_pass, Each, each-ac, each-dc, each-whole, flat_table}
 use Rattle.jpeg_streams.proofs.EncodedBlocks.{HasFlatAc, HasFlatDc, interval-written, IsFlat}
 use Rattle.jpeg_streams.proofs.WholeImages.{floor-whole, toward-whole}
-use Rattle.jpeg_bits.proofs.ReadIntervals.{all-append}
+use Rattle.jpeg_bits.proofs.ReadIntervals.{all-append, all-map}
 use Rattle.jpeg_streams.proofs.ReadTurns.{then-ok}
 
 -- ---- what is written

@@ -8,7 +8,8 @@ use Rattle.std.proofs.Math.Pow.{pow_mono}
 use Rattle.std.proofs.lemmas.Bool.{and_parts, cases_lt, eqb-true, ltb-true}
 use Rattle.std.proofs.lemmas.Bool.Decides.{nat_tests}
 use Rattle.std.proofs.lemmas.Int.{ints}
-use Rattle.std.proofs.lemmas.List.{append-nil, take_all}
+use Rattle.std.proofs.lemmas.List.{append-nil, map-id, take_all}
+use Rattle.std.proofs.lemmas.Simd.{map-map}
 use Rattle.std.proofs.lemmas.List.FromFn.{get_or-range_with_len}
 use lib.ListN.{length-map}
 use Rattle.std.specs.List.{AllByRecursion, list_all, range_with_len}
@@ -32,7 +33,7 @@ use Rattle.jpeg_lossless.specs.Scans.{lines_by_component, rows_of_interval, Way}
 use Rattle.jpeg_lossless.specs.SampleDifferences.{AreLines, AreSamples, differences_below, differences_of}
 use Rattle.jpeg_lossless.specs.SampleDifferences.{first_differences, rest_differences}
 use Rattle.jpeg_lossless.specs.Written.{WritesRows, WritesSampleDifference}
-use Rattle.jpeg_bits.specs.Written.{WritesEach, WritesInterval, WritesIntervals}
+use Rattle.jpeg_bits.specs.Written.{WritesEach, WritesInterval}
 use Rattle.jpeg_bits.specs.Written.WritesEach.{none, one}
 use Rattle.jpeg_bits.specs.Written.WritesIntervals.{last}
 use Rattle.jpeg_lossless.proofs.Inverse.{all_back}
@@ -132,13 +133,9 @@ tables-of zero [] e = refl
 tables-of (suc n) (r ∷ rs) e = ap (λ (l : List Table). even_table ∷ l) (tables-of n rs (omega arith))
 tables-of n rs e = absurd (omega arith)
 
-values-in : (rs : List ℕ) → map (λ x. x.1) (pairs rs) ≡ rs
-values-in [] = refl
-values-in (r ∷ rs) = ap (λ (l : List ℕ). r ∷ l) (values-in rs)
-
 values-of : (rows : List (List ℕ)) → map (map (λ x. x.1)) (map pairs rows) ≡ rows
 values-of [] = refl
-values-of (rs ∷ rows) = ap₂ (λ (l : List ℕ) (ls : List (List ℕ)). l ∷ ls) (values-in rs) (values-of rows)
+values-of (rs ∷ rows) = search (rules, map-map, map-id, values-of rows)
 
 all-tables : (n : ℕ) (rows : List (List ℕ)) → AreRows n rows
     → map (map (λ x. x.0)) (map pairs rows) ≡ replicate (length rows) (row_tables n (even_table ∷ []))
@@ -269,45 +266,10 @@ tested-bytes : (bytes : List ℕ) → list_all (λ b. nat_lt b 256) bytes ≡ tr
 tested-bytes [] h = tt
 tested-bytes (b ∷ bytes) h = search (rules, and_parts, ltb-true, tested-bytes bytes)
 
--- ---- the interval
-
--- how a component alone is coded
-abbrev lone_way : ℕ → ℕ → ℕ → Way
-lone_way start width height =
-    record { wide = width; selection = Ra; start = start; parts = lone_part width height ∷ [] }
-
--- its differences
-abbrev lone_rows : ℕ → List (List ℕ) → List (List ℕ)
-lone_rows start lines = differences_of Ra start [] lines
-
-interval-written : (start bound width height : ℕ) (lines : List (List ℕ)) → bound ≤ 65536
-    → AllByRecursion (IsLineOf width bound) lines
-    → (lines_by_component (lone_way start width height) 0 (lone_part width height ∷ []) (lone_rows start lines ∷ [])
-    ≡ lines ∷ [])
-    × (bytes : List ℕ) × WritesInterval (WritesRows (map pairs (lone_rows start lines))) bytes × AreBytes bytes
-unfolding mcu_tables lines_by_component
-interval-written start bound width height lines le h =
-    let rows = lone_rows start lines in
-    let are = below-rows Ra start width [] lines (inl refl) (are-wide bound width lines h) in
-    let w = rows-written width rows are in
-    let b = packed w.0 in (
-      grind (
-        arith,
-        common_steps,
-        append-nil,
-        lines-low bound width lines le h,
-        lines-whole width height rows are,
-        all_back,
-      ),
-      stuffed b.bytes,
-      interval-packed (WritesRows (map pairs rows)) w.0 w.1,
-      stuffed-bytes b.bytes b.are_bytes,
-    )
+-- ---- a scan of a component
 
 no-restart : (wide high : ℕ) → rows_of_interval wide high 0 ≡ 0
 no-restart wide high = grind (arith, nat_tests, zero-div)
-
--- ---- a scan of a component
 
 abbrev coding : FrameHeader → ℕ → Factors → LosslessCoding
 coding h index c = record { index = index; component = component_in h c; table = even_table }
@@ -326,8 +288,8 @@ data-written : (h : FrameHeader) (now : Found) (front more : List Factors) (c : 
     → AreLinesOf (2 ^ h.precision) (component_in h c) (samples (length front))
     → (bytes : List ℕ) × WritesSamplesScan now (frame_written 3 h) (header_of (length front) c)
     samples bytes × AreBytes bytes
-unfolding HoldSamples frame_of gathered lossless_coding lossless_codings mcu_tables mcus_across
-    mcus_down parts_of scan_of
+unfolding HoldSamples frame_of gathered lines_by_component lossless_coding lossless_codings
+    mcu_tables mcus_across mcus_down parts_of scan_of
 data-written h now front more c samples ready e most are =
     let frame = frame_written 3 h in
     let k = coding h (length front) c in
@@ -337,13 +299,16 @@ data-written h now front more c samples ready e most are =
     let bound : 2 ^ h.precision ≤ 2 ^ 16 = pow_mono {i = h.precision} {j = 16} most in
     let low : 2 ^ h.precision ≤ 65536 = omega (arith, bound) in
     let start = start_of h.precision 0 in
-    let w = interval-written start (2 ^ h.precision) wide high lines low are.lined in
-    let rows = lone_rows start lines in
+    let rows = differences_of Ra start [] lines in
     let wides = are-wide (2 ^ h.precision) wide lines are.lined in
     let are_rows = below-rows Ra start wide [] lines (inl refl) wides in
+    let w = rows-written wide rows are_rows in
+    let b = packed w.0 in
+    let whole = lines-whole wide high rows are_rows in
+    let back = all_back Ra start wide lines (lines-low (2 ^ h.precision) wide lines low are.lined) in
     let n : rows_of_interval wide high now.restart ≡ 0
     = ap (rows_of_interval wide high) ready.restart ∙ no-restart wide high in (
-      w.1,
+      stuffed b.bytes,
       record {
         codings = k ∷ [];
         coded = let is = component-at 3 h front more c e in grind (arith, common_steps, then-ok);
@@ -353,10 +318,10 @@ data-written h now front more c samples ready e most are =
         tables = all-tables wide rows are_rows
             ∙ ap (λ (n : ℕ). replicate n (row_tables wide (even_table ∷ [])))
             (rows-count Ra start [] lines ∙ are.counted);
-        kept = rw (n, values-of rows, w.0) (own-whole wide high lines are.counted wides, tt);
-        written = rw n (last 0 (map pairs rows) w.1 w.2);
+        kept = rw (n, values-of rows, append-nil, whole, back) (own-whole wide high lines are.counted wides, tt);
+        written = rw n (last 0 (map pairs rows) _ (interval-packed (WritesRows (map pairs rows)) w.0 w.1));
       },
-      w.3,
+      stuffed-bytes b.bytes b.are_bytes,
     )
 
 scan-bytes : (index : ℕ) (c : Factors) → c.identifier < 256 → AreBytes (with_length (scan_payload

@@ -1,5 +1,5 @@
 -- Blocks that are read one after the other, at spots apart, are read on the blocks as they were and put back.
-use Rattle.std.proofs.Common.{rules, Bool, true, false, List, length, get_or, Option, Result, subst, append-nil, arith}
+use Rattle.std.proofs.Common.{rules, List, length, get_or, Option, Result, subst, append-nil, arith}
 use Rattle.std.proofs.Common.{◌≡◌, inl, inr, ℕ, suc, [], ◌∷◌, ◌++◌, map, set, ℤ, pos, Ok, Err, refl, sym, ap, ap₂, ◌∙◌}
 use Rattle.std.specs.List.{flat_map}
 use Rattle.std.specs.Prelude.{if◌then◌else◌}

@@ -8,9 +8,10 @@ use Rattle.std.proofs.lemmas.Bool.Decides.{nat_tests}
 use Rattle.std.proofs.lemmas.Int.{ints}
 use Rattle.std.specs.List.{AllByRecursion, list_all}
 use Rattle.std.specs.Prelude.{nat_le, slice_get, ◌/◌, ◌%◌}
+use Rattle.jpeg_bits.proofs.ReadIntervals.{all-again}
 use Rattle.jpeg_bits.proofs.Tables.{tested-exist}
 use Rattle.jpeg_bits.specs.Codes.{code_lengths, codes_exist}
-use Rattle.jpeg_bits.specs.Passes.{band_of, Block, Pass, Via}
+use Rattle.jpeg_bits.specs.Passes.{band_of, Block, Pass}
 use Rattle.jpeg_bits.specs.Written.{bits_of_bytes, IsCategory, stuffed}
 use Rattle.jpeg_segments.specs.Frame.{Factors, Frame, is_count, is_factor, is_lossless_number}
 use Rattle.jpeg_segments.specs.Frame.{is_destination, is_precision}
@@ -57,16 +58,12 @@ at-is (Some a) n e = ap (λ (k : ℕ). Some k) (eqb-true a n e)
 
 -- ---- segments
 
-some-of : (n v : ℕ) → 0 < v → AllByRecursion (λ x. 0 < x) (replicate n v)
-some-of zero v h = tt
-some-of (suc n) v h = (h, some-of n v h)
-
 -- a quantization table of one value
 abbrev pub table_of_one : ℕ → ℕ → QuantizationTable
 table_of_one index v = record { precision = 0; destination = index; values = replicate 64 v }
 
 pub one-quantizes : (index v : ℕ) → index ≤ 3 → 0 < v → IsQuantizationTable (table_of_one index v)
-one-quantizes index v h k = search (rules, some-of)
+one-quantizes index v h k = search (rules, all-again)
 
 abbrev is_table : DefinedTable → Bool
 is_table t =

@@ -1,8 +1,7 @@
 -- A scan is its blocks one after the other, interval by interval.
-use Rattle.std.proofs.Common.{rules, ◌≡◌, ℕ, zero, suc, ◌≤◌, List, ◌∷◌, ◌++◌, drop, length}
-use Rattle.std.proofs.Common.{append-nil, length-drop, take-append-drop}
+use Rattle.std.proofs.Common.{rules, ◌≡◌, ℕ, List}
 use Rattle.jpeg_bits.specs.Passes.{Pass, Via}
-use Rattle.jpeg_bits.specs.Intervals.{groups, first_group, other_groups}
+use Rattle.jpeg_bits.specs.Intervals.{first_group, other_groups}
 use Rattle.jpeg_streams.specs.Order.{Spot}
 use Rattle.jpeg_streams.specs.Scans.{Arrays, turns_of, arrays_at}
 use Rattle.jpeg_streams.specs.InTurn.{intervals_from, IsIn, AreApart, IsInside}

@@ -1,6 +1,8 @@
 -- A scan that was written is read at each of its spots.
 use Rattle.std.proofs.Common.{rules, ◌≡◌, ℕ, List, [], ◌∷◌, ◌++◌, map, Option, Some, Ok, refl, sym, ap, ◌∙◌, subst}
+use Rattle.std.proofs.lemmas.Simd.{map-map}
 use Rattle.std.specs.List.{AllByRecursion}
+use Rattle.jpeg_bits.proofs.ReadIntervals.{all-map}
 use Rattle.jpeg_bits.specs.Reading.{Outcome, ◌>>=◌}
 use Rattle.jpeg_bits.specs.declared.marker.Marker.{Marker}
 use Rattle.jpeg_bits.specs.Passes.{Pass, Via, Block, blocks_of, predictors_at_start}
@@ -13,10 +15,6 @@ use Rattle.jpeg_streams.proofs.SentBlocks.{after_pass, reads_of, numbers_of}
 use Rattle.jpeg_streams.proofs.WrittenBlocks.{IsReady}
 use Rattle.jpeg_streams.proofs.WrittenIntervals.{reads-scan}
 
-pub map-map_any : {A B C : Type 0} (f : A → B) (g : B → C) (xs : List A) → map g (map f xs) ≡ map (λ x. g (f x)) xs
-map-map_any f g [] = refl
-map-map_any f g (x ∷ xs) = ap (λ l. g (f x) ∷ l) (map-map_any f g xs)
-
 -- a block's way, what is held of it, and its numbers at the level of the pass
 abbrev pub turn_with : List Via → Arrays → (Spot → Block) → Spot → Via × Block × Block
 turn_with vias arrays u s = (via_at vias s.slot, block_at arrays s, u s)
@@ -25,19 +23,8 @@ turn_with vias arrays u s = (via_at vias s.slot, block_at arrays s, u s)
 pub record IsReadyAt (p : Pass) (vias : List Via) (arrays : Arrays) (u : Spot → Block) (s : Spot) : Type 0 where
   pub at : IsReady p (turn_with vias arrays u s)
 
-ready-turns : (p : Pass) (vias : List Via) (arrays : Arrays) (u : Spot → Block) (spots : List Spot)
-    → AllByRecursion (IsReadyAt p vias arrays u) spots
-    → AllByRecursion (IsReady p) (map (turn_with vias arrays u) spots)
-ready-turns p vias arrays u [] h = tt
-ready-turns p vias arrays u (s ∷ spots) h = (h.0.at, ready-turns p vias arrays u spots h.1)
-
 abbrev pub put_back : List Spot → Arrays → (List Block × Option Marker) × List ℕ → Outcome (Arrays × Option Marker)
 put_back spots arrays r = Ok ((put_blocks spots r.0.0 arrays, r.0.1), r.1)
-
-turns-are : (vias : List Via) (spots : List Spot) (arrays : Arrays) (u : Spot → Block)
-    → reads_of (map (turn_with vias arrays u) spots) ≡ turns_of vias spots (block_at arrays)
-unfolding turns_of
-turns-are vias spots arrays u = map-map_any (turn_with vias arrays u) (λ (t : Via × Block × Block). (t.0, t.1)) spots
 
 -- A scan that was written is read as the blocks after the pass, put back at their spots.
 pub reads-arrays : (p : Pass) (n : ℕ) (vias : List Via) (spots : List Spot) (arrays : Arrays) (u : Spot → Block)
@@ -49,15 +36,7 @@ pub reads-arrays : (p : Pass) (n : ℕ) (vias : List Via) (spots : List Spot) (a
     ≡ Ok ((put_blocks spots (map (λ s. after_pass p (block_at arrays s) (u s)) spots) arrays, Some m), rest)
 unfolding arrays_at turns_of
 reads-arrays p n vias spots arrays u bytes fill code m rest ready h w =
-    let all = bytes ++ marker fill code rest in
-    let turns = map (turn_with vias arrays u) spots in
-    let news : numbers_of turns ≡ turns_of vias spots u =
-    map-map_any (turn_with vias arrays u) (λ (t : Via × Block × Block). (t.0, t.2)) spots in
-    let written = subst (λ (x : List (Via × Block)). WritesIntervals (WritesBlocks p predictors_at_start 0) 0 (first_group n x) (other_groups n x) bytes)
-    (sym news) w in
-    (refl)
-    ∙ ap (λ (x : List (Via × Block)). intervals (blocks_of p predictors_at_start 0) 0 (first_group n x)
-    (other_groups n x) all >>= put_back spots arrays) (sym (turns-are vias spots arrays u))
-    ∙ ap (λ (o : Outcome (List Block × Option Marker)). o >>= put_back spots arrays)
-    (reads-scan p n turns bytes fill code m rest (ready-turns p vias arrays u spots ready) h written)
-    ∙ (search (rules, map-map_any))
+    ap (λ (o : Outcome (List Block × Option Marker)). o >>= put_back spots arrays)
+    (rw (map-map, map-map) at (reads-scan p n (map (turn_with vias arrays u) spots) bytes fill code m rest
+    (all-map (IsReadyAt p vias arrays u) (IsReady p) (turn_with vias arrays u) spots (λ s is. is.at) ready) h
+    (rw (map-map) w)))

@@ -1,7 +1,7 @@
 -- Lossless streams as a writer emits them for samples (T.81, B.2.1 and Annex H). Nothing here
 -- reads bytes.
-use Rattle.std.specs.Prelude.{◌≡◌, ℕ, suc, ◌*◌, ◌≤◌, List, [], ◌∷◌, ◌++◌, length}
-use Rattle.std.specs.Prelude.{map, Ok, Some, take, true}
+use Rattle.std.specs.Prelude.{◌≡◌, ℕ, ◌*◌, ◌≤◌, List, [], ◌∷◌, ◌++◌, length, map, Ok, Some, take}
+use Rattle.std.specs.Prelude.{true}
 use Rattle.std.specs.List.{AllByRecursion, range_with_len}
 use Rattle.jpeg_segments.specs.declared.parser.CodingProcess.TheVariants.{Lossless}
 use Rattle.jpeg_segments.specs.Frame.{Frame}
@@ -22,7 +22,7 @@ use Rattle.jpeg_bits.specs.DefaultTables.{names}
 use Rattle.jpeg_bits.specs.Intervals.{first_group, other_groups}
 use Rattle.jpeg_bits.specs.Written.{marker, WritesIntervals}
 use Rattle.jpeg_streams.specs.LosslessScans.{LosslessCoding, lossless_codings, mcus_across}
-use Rattle.jpeg_streams.specs.LosslessScans.{mcus_down, parts_of, way_of}
+use Rattle.jpeg_streams.specs.LosslessScans.{mcus_down, way_of}
 use Rattle.jpeg_streams.specs.SaidSegments.{found_after, Stands}
 use Rattle.jpeg_streams.specs.Found.{nothing_found, Found}
 
@@ -77,7 +77,7 @@ pub record WritesSamplesScan (said : Found) (frame : Frame) (h : ScanHeader) (sa
       (lines_by_component w 0 w.parts (first_group n values ∷ other_groups n values))
   pub written :
       let n = rows_of_interval (mcus_across frame codings) (mcus_down frame codings)
-          said.restart in
+      said.restart in
       WritesIntervals WritesRows 0 (first_group n rows) (other_groups n rows) bytes
 
 -- ---- a stream
