@@ -182,7 +182,7 @@ greatest-alike f n P each some c (d ∷ more) here all =
 sources-plain : (h v width height : ℕ) (cs : List Component)
     → AllByRecursion (λ c. (c.factors.horizontal ≡ h) × (c.factors.vertical ≡ v)) cs
     → results (source_of h v width height) cs ≡ Ok (map plain cs)
-unfolding rule_of results
+unfolding rule_of results source_of
 sources-plain h v width height [] all = refl
 sources-plain h v width height (c ∷ more) all =
     let rest = sources-plain h v width height more all.1 in

@@ -31,6 +31,7 @@ pub source-rule : (most_h most_v width height : ℕ) (c : Component) (s : Source
     → (rule : UpsampleRule)
     × (rule_of c.factors.horizontal c.factors.vertical most_h most_v width height ≡ Some rule)
     × (source_by c rule ≡ s)
+unfolding source_of
 source-rule most_h most_v width height c s e =
     go (rule_of c.factors.horizontal c.factors.vertical most_h most_v width height) e
   where
