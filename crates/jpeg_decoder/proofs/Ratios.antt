@@ -19,7 +19,7 @@ one c rule others h e = grind (arith, common_steps)
 
 never-end : (h v width height : ℕ) (components : List Component)
     → gathered (source_of h v width height) components ≡ Err End → ⊥
-unfolding gathered
+unfolding gathered source_of
 never-end h v width height [] e = cc
 never-end h v width height (c ∷ more) e = grind (arith, common_steps, one, never-end h v width height more)
 

@@ -44,7 +44,7 @@ rule-some most_h most_v width height c u = search (rules, pick-some, or_left, an
 pub sources-some : (most_h most_v width height : ℕ) (cs : List Component)
     → AllByRecursion (λ c. Upsampled most_h most_v width height c.factors) cs
     → (sources : List Source) × (gathered (source_of most_h most_v width height) cs ≡ Ok sources)
-unfolding gathered
+unfolding gathered source_of
 sources-some most_h most_v width height [] u = ([], refl)
 sources-some most_h most_v width height (c ∷ cs) u =
     let r = rule-some most_h most_v width height c.factors u.0 in
@@ -64,7 +64,7 @@ either false b e = inr e
 pub sources-back : (most_h most_v width height : ℕ) (cs : List Component) (sources : List Source)
     → gathered (source_of most_h most_v width height) cs ≡ Ok sources
     → AllByRecursion (λ c. Upsampled most_h most_v width height c.factors) cs
-unfolding gathered rule_of
+unfolding gathered rule_of source_of
 sources-back most_h most_v width height [] sources e = tt
 sources-back most_h most_v width height (c ∷ cs) sources e =
     search (rules, bind-ok, eqb-true, err-ok, sources-back most_h most_v width height cs)

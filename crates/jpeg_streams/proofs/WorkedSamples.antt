@@ -18,6 +18,7 @@ use Rattle.jpeg_lossless.specs.Written.{WritesSampleInterval, WritesRow, WritesR
 use Rattle.jpeg_lossless.specs.Written.{no_row, row}
 use Rattle.jpeg_lossless.specs.Written.WritesIntervals.{another, last}
 use Rattle.jpeg_lossless.specs.Worked.{small_table}
+use Rattle.jpeg_pixels.specs.Pictures.{source_of}
 use Rattle.jpeg_segments.specs.Checks.{gathered}
 use Rattle.jpeg_pixels.specs.Upsampling.{rule_of}
 use Rattle.jpeg_streams.specs.SaidSegments.{found_after}
@@ -174,7 +175,7 @@ three-scans = (
 )
 
 pub three-written : AreWritten three_samples three_bytes
-unfolding nothing_found frame_of codes_exist lengths_from code_value accepted component_of gathered rule_of
+unfolding nothing_found frame_of codes_exist lengths_from code_value accepted component_of gathered rule_of source_of
 three-written = record {
   final = scanned three_header;
   written = record {
@@ -241,7 +242,7 @@ padded-scans = (
 )
 
 pub padding-written : AreWritten padded_samples padded_bytes
-unfolding nothing_found frame_of codes_exist lengths_from code_value accepted component_of gathered rule_of
+unfolding nothing_found frame_of codes_exist lengths_from code_value accepted component_of gathered rule_of source_of
 padding-written = record {
   final = scanned padded_header;
   written = record {

@@ -1,4 +1,4 @@
-use Rattle.std.proofs.Common.{◌≡◌, length, map, refl, arith, subst, rules}
+use Rattle.std.proofs.Common.{◌≡◌, length, map, arith, subst, rules}
 use Rattle.std.proofs.lemmas.Grind.{common_steps}
 use Rattle.std.proofs.Math.ListN as lists
 use Rattle.std.proofs.lemmas.List.{map-append, length-map}
@@ -7,8 +7,6 @@ use Rattle.jpeg_segments.specs.Frame.{HasSampling}
 use Rattle.jpeg_segments.specs.FrameView.{component_in}
 use Rattle.jpeg_segments.proofs.Gathered.{gathers-none, gathers-more, gathers-refused, gathers-all}
 use Rattle.jpeg_segments.proofs.ScaleLemmas.{none}
-use Rattle.jpeg_pixels.specs.Pictures.{source_of}
-use Rattle.jpeg_pixels.specs.PicturesView.{source_in}
 use Rattle.jpeg_pixels.proofs.SourceLists.{factors-at}
 use Rattle.jpeg_pixels.proofs.sources.component_sources.Goals as goal
 
