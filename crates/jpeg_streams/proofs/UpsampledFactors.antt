@@ -10,7 +10,7 @@ use Rattle.jpeg_pixels.specs.declared.upsampler.UpsampleRule.TheVariants.{H1V1, 
 use Rattle.jpeg_pixels.specs.Pictures.{Source, source_of}
 use Rattle.jpeg_pixels.specs.Upsampling.{rule_of}
 use Rattle.jpeg_streams.specs.AcceptedFrames.{IsNear}
-use Rattle.jpeg_pixels.proofs.SourceLists.{source_by}
+use Rattle.jpeg_pixels.proofs.SourceLists.{source_with}
 use Rattle.jpeg_streams.proofs.ReadTurns.{bind-ok, err-ok, then-ok}
 
 -- ---- a rule by its tests
@@ -50,7 +50,7 @@ sources-some most_h most_v width height (c ∷ cs) u =
     let r = rule-some most_h most_v width height c.factors u.0 in
     let others = sources-some most_h most_v width height cs u.1 in (
       _,
-      then-ok (source_of most_h most_v width height c) _ (source_by c r.0) _ (rw r.1 refl)
+      then-ok (source_of most_h most_v width height c) _ (source_with c r.0) _ (rw r.1 refl)
           (then-ok (gathered (source_of most_h most_v width height) cs) _ others.0 _ others.1 refl),
     )
 
