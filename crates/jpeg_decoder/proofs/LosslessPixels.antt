@@ -1,4 +1,4 @@
--- The picture of samples that are written is their pixels.
+-- Lossless streams that are written mean the picture of their samples, and keep their size.
 use Rattle.std.proofs.Common.{◌≡◌, ℕ, suc, ◌+◌, ◌*◌, true, List, [], ◌∷◌, ◌++◌, length, length-append, replicate}
 use Rattle.std.proofs.Common.{Option, Result, Ok, Some, None, refl, sym, ap, ◌∙◌, slice_index, subst, arith}
 use Rattle.std.specs.List.{AllByRecursion, concat, enumerate_from, range_with_len}

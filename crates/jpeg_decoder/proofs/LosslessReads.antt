@@ -17,8 +17,8 @@ use Rattle.jpeg_bits.specs.Stream.{Stream}
 use Rattle.jpeg_bits.specs.declared.error.Error.{Error}
 use Rattle.jpeg_bits.specs.declared.marker.Marker.{Marker}
 use Rattle.jpeg_bits.proofs.Loops.{Continues, Continues-err, Names-through, bind_at, bind_err}
-use Rattle.jpeg_segments.specs.Frame.{Component, Factors, Frame, ceiling, most_across, most_down}
-use Rattle.jpeg_segments.specs.FrameView.{component_in, factors_in}
+use Rattle.jpeg_segments.specs.Frame.{Component, Frame, ceiling, most_across, most_down}
+use Rattle.jpeg_segments.specs.FrameView.{component_in}
 use Rattle.jpeg_segments.specs.declared.parser.Component as declared
 use Rattle.jpeg_segments.specs.ScanHeader.{Scan}
 use Rattle.jpeg_segments.specs.declared.parser.CodingProcess.TheVariants.{Lossless}
@@ -160,10 +160,6 @@ codings-made frame cs (k ∷ codings) (p ∷ indices) (t ∷ ts) made h = (
 codings-made frame cs _ _ _ made h = absurd h
 
 -- ---- MCUs by places
-
-pub factors-seen : (cs : List declared.Component) → map factors_in cs ≡ map (λ c. c.factors) (map component_in cs)
-factors-seen [] = refl
-factors-seen (c ∷ cs) = ap (λ (l : List Factors). factors_in c ∷ l) (factors-seen cs)
 
 pub component-at : (cs : List declared.Component) (index : ℕ) (r : declared.Component) → index <
     length cs

@@ -14,6 +14,7 @@ use Rattle.jpeg_bits.specs.Zigzag.{coefficients_in_block_order, values_in_block_
 use Rattle.jpeg_bits.specs.Zigzag.{zigzag_indices}
 use Rattle.jpeg_pixels.specs.Colour.{blue_of, colour_of, conversion_of, green_of, line_bytes, red_of}
 use Rattle.jpeg_pixels.specs.Pictures.{image_of, lines_of, converted_picture, picture_line}
+use Rattle.jpeg_pixels.specs.Pictures.{source_of}
 use Rattle.jpeg_pixels.specs.Planes.{cropped, plane_of}
 use Rattle.jpeg_pixels.specs.Samples.{basis, column_value, dequantized, is_flat_column, sample, transformed}
 use Rattle.jpeg_pixels.specs.Scaled.{column_of_4, even_part, odd_part, sample_at, sample_of_1, sample_of_2}
@@ -59,8 +60,8 @@ unfolding accepted adobe_at after_restarts after_scan all_spots app_at applicati
     tables.defined_codes_at tables.dht_at red_of refined_ac refined_piece rest_at rule_of sample
     sample_at sample_of_1 sample_of_2 sample_of_4 scale_for scan_arrays scan_of scan_segment
     segment_at segments_at selector_at selectors_from signed_from size_at sized_meaning skip_at
-    sof_at sos_at spots_of start_at symbol_from tables.tables_from tables_of text_ahead text_at
-    through_zero times token_at token_from transform_of transformed turn_at turns_of updated
+    sof_at sos_at source_of spots_of start_at symbol_from tables.tables_from tables_of text_ahead
+    text_at through_zero times token_at token_from transform_of transformed turn_at turns_of updated
     upsampled quantization.value_at values_in_block_order vias_from walk with_arrays with_blocks
     with_last with_plane zero_arrays zero_block zigzag_indices
 jpeg_on_literals = tt

@@ -15,7 +15,8 @@ through : (x factor most : ℕ) → 0 < most → factor ≡ most → x * factor 
 through x factor most h e = grind (arith, common_steps, div-mul-add)
 
 pixel-plain : (frame : Frame) (samples : Samples) (y x index : ℕ) (cs : List Component)
-    → AllByRecursion (λ c. (c.factors.horizontal ≡ most_across frame.components) × (c.factors.vertical ≡ most_down frame.components)) cs
+    → AllByRecursion (λ c. (c.factors.horizontal ≡ most_across frame.components)
+    × (c.factors.vertical ≡ most_down frame.components)) cs
     → concat (map (component_bytes frame (λ c. at_position (samples c.0)) y x) (enumerate_from index cs))
     ≡ concat (map (λ k. sample_bytes frame.precision (at_position (samples k) x y)) (range_with_len
     index (length cs)))

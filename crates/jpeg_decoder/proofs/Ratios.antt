@@ -8,18 +8,18 @@ use Rattle.jpeg_segments.specs.Checks.{gathered}
 use Rattle.jpeg_segments.specs.Frame.{Component}
 use Rattle.jpeg_pixels.specs.declared.upsampler.UpsampleRule.{UpsampleRule}
 use Rattle.jpeg_pixels.specs.Pictures.{Source, source_of, sources_of}
-use Rattle.jpeg_pixels.proofs.SourceLists.{source_by}
+use Rattle.jpeg_pixels.proofs.SourceLists.{source_with}
 use Rattle.jpeg_decoder.specs.Steps.{IsRefusal}
 use Rattle.std.proofs.lemmas.Grind.{common_steps}
 
 one : (c : Component) (rule : Option UpsampleRule) (others : Result (List Source) Fault) → (others ≡ Err End → ⊥)
-    → ((ok_or rule (Lacks NonIntegerSubsamplingRatio) >>= λ (r : UpsampleRule). Ok (source_by c r))
+    → ((ok_or rule (Lacks NonIntegerSubsamplingRatio) >>= λ (r : UpsampleRule). Ok (source_with c r))
     >>= λ (s : Source). (others >>= λ (rest : List Source). Ok (s ∷ rest))) ≡ Err End → ⊥
 one c rule others h e = grind (arith, common_steps)
 
 never-end : (h v width height : ℕ) (components : List Component)
     → gathered (source_of h v width height) components ≡ Err End → ⊥
-unfolding gathered
+unfolding gathered source_of
 never-end h v width height [] e = cc
 never-end h v width height (c ∷ more) e = grind (arith, common_steps, one, never-end h v width height more)
 

@@ -1,4 +1,4 @@
--- Lossless streams that are written give their samples, and keep their size.
+-- Lossless streams that are written, as they are read turn by turn.
 use Rattle.std.proofs.Common.{◌≡◌, ℕ, zero, suc, ◌+◌, ◌<◌, Bool, true, false, List, [], ◌∷◌, ◌++◌}
 use Rattle.std.proofs.Common.{length, replicate, set, get_or, Option, Some, None, Ok, refl, sym, ap}
 use Rattle.std.proofs.Common.{◌∙◌, ◌==◌, subst, arith, length-append, length-set, rules}
@@ -14,7 +14,6 @@ use Rattle.jpeg_segments.specs.Frame.{Frame}
 use Rattle.jpeg_segments.specs.ScanHeaders.{ScanHeader, scan_payload, IsScan}
 use Rattle.jpeg_segments.specs.WrittenSegments.{with_length, Segment}
 use Rattle.jpeg_segments.specs.WrittenSegments.{Header, marker_code, payload_of, frame_written}
-use Rattle.jpeg_segments.proofs.Fields.{kept}
 use Rattle.jpeg_segments.proofs.HeaderRules.{header-rules}
 use Rattle.jpeg_segments.specs.ScanHeader.{scan_of}
 use Rattle.std.proofs.lemmas.List.Elements.{recursion_from_All}

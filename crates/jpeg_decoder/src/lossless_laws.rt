@@ -99,7 +99,8 @@ pub fn equal_factors_mean_nothing()
     ensures together { (h : FrameHeader) (selection : Predictor) (point : ℕ)
         (codings : List LosslessCoding) →
         IsFrameHeader 3 h → HasEqualFactors (frame_written 3 h) →
-        most_across (frame_written 3 h).components ≡ 1 → most_down (frame_written 3 h).components ≡ 1 →
+        most_across (frame_written 3 h).components ≡ 1 →
+        most_down (frame_written 3 h).components ≡ 1 →
         AllByRecursion (λ k. IsIn k.component (frame_written 3 h).components) codings →
         (way_of (frame_written 3 h) selection point codings
         ≡ plain_way (frame_written 3 h) selection point codings)

@@ -77,8 +77,8 @@ row-at own row width y plane k h = simp (get_or-drop, get_or-take)
 
 pub own_line : (frame : Frame) (c : Component) (plane : List ℕ) (y n : ℕ) → IsPixelOf frame c plane
     → n ≤ frame.width
-    → stretched (take c.width (drop (y * c.factors.vertical / most_down frame.components * c.width) plane)) c.factors.horizontal
-    (most_across frame.components) n
+    → stretched (take c.width (drop (y * c.factors.vertical / most_down frame.components * c.width) plane))
+    c.factors.horizontal (most_across frame.components) n
     ≡ map (λ x. layer_sample (most_across frame.components) (most_down frame.components) (layer_of c plane) x y)
     (range_with_len 0 n)
 own_line frame c plane y zero is h = refl
@@ -102,9 +102,10 @@ pub line_inside : (frame : Frame) (c : Component) (plane slice : List ℕ) (y v 
     → slice ≡ plane → IsPixelOf frame c plane → y < frame.height
     → y * c.factors.vertical / v * c.width + c.width ≤ length slice
 line_inside frame c plane slice y v e f is h =
-    let row = inside y frame.height c.factors.vertical (most_down frame.components) c.height h is.sampling.vertical_some
-    (greatest-some (λ f. f.vertical) (map (λ c. c.factors) frame.components)) is.reaches.down in
-    let same : y * c.factors.vertical / v * c.width ≡ y * c.factors.vertical / most_down frame.components * c.width = search rules in
+    let row = inside y frame.height c.factors.vertical (most_down frame.components) c.height h
+    is.sampling.vertical_some (greatest-some (λ f. f.vertical) (map (λ c. c.factors) frame.components)) is.reaches.down in
+    let same : y * c.factors.vertical / v * c.width ≡ y * c.factors.vertical / most_down frame.components * c.width
+    = search rules in
     search (rules, within)
 
 pub line_reaches : (frame : Frame) (c : Component) (plane slice own : List ℕ) (y h v width : ℕ)

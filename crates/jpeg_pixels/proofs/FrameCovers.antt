@@ -11,7 +11,7 @@ use Rattle.jpeg_segments.proofs.ScaleLemmas.{factors-back}
 use Rattle.jpeg_pixels.specs.declared.upsampler.UpsampleRule.{UpsampleRule}
 use Rattle.jpeg_pixels.specs.Upsampling.{across, down, rule_of}
 use Rattle.jpeg_pixels.specs.Pictures.{AllCover, AreWhole, Covers, HaveRoom, Source, source_of, sources_of}
-use Rattle.jpeg_pixels.proofs.SourceLists.{source_by, source-rule}
+use Rattle.jpeg_pixels.proofs.SourceLists.{source_with, source-rule}
 use Rattle.jpeg_pixels.proofs.RuleRatios.{in-blocks as in-blocks-at, reach-full, room-of, rule-ratios, some-ceiling}
 
 -- ---- components
@@ -27,7 +27,7 @@ covers : (width height most_h most_v : ℕ) (f : Factors) (rule : UpsampleRule) 
     → rule_of f.horizontal f.vertical most_h most_v width height ≡ Some rule
     → (ceiling (height * f.vertical) most_v - 1) * ((ceiling width (8 * most_h) * f.horizontal) * 8)
     + ceiling (width * f.horizontal) most_h ≤ length plane
-    → Covers (source_by (component_of width height most_h most_v f) rule) plane width height
+    → Covers (source_with (component_of width height most_h most_v f) rule) plane width height
 unfolding component_of
 covers width height most_h most_v f rule plane some_width some_height range h_most v_most chosen room =
     let h = range.horizontal_some in

@@ -29,7 +29,7 @@ use Rattle.jpeg_pixels.specs.declared.upsampler.UpsampleRule.TheVariants.{H1V1}
 use Rattle.jpeg_pixels.specs.declared.joint_planes.JointShape.{JointShape}
 use Rattle.jpeg_pixels.specs.declared.upsampler.ColorConvert.{ColorConvert}
 use Rattle.jpeg_pixels.proofs.ComponentLines.{line_by_samples}
-use Rattle.jpeg_pixels.proofs.SourceLists.{source_by}
+use Rattle.jpeg_pixels.proofs.SourceLists.{source_with}
 use Rattle.jpeg_pixels.proofs.WholePictures.{image-is}
 
 -- ---- lines one after the other
@@ -168,7 +168,7 @@ lines-fit height row lines start count size line long whole first some is e full
 
 -- the samples of a component are those of the picture
 abbrev plain : Component → Source
-plain c = source_by c H1V1
+plain c = source_with c H1V1
 
 -- the greatest factor is the one that all have
 greatest-alike : (f : Factors → ℕ) (n : ℕ) (P : Component → Type 0)
@@ -182,7 +182,7 @@ greatest-alike f n P each some c (d ∷ more) here all =
 sources-plain : (h v width height : ℕ) (cs : List Component)
     → AllByRecursion (λ c. (c.factors.horizontal ≡ h) × (c.factors.vertical ≡ v)) cs
     → results (source_of h v width height) cs ≡ Ok (map plain cs)
-unfolding rule_of results
+unfolding rule_of results source_of
 sources-plain h v width height [] all = refl
 sources-plain h v width height (c ∷ more) all =
     let rest = sources-plain h v width height more all.1 in

@@ -22,20 +22,21 @@ factors-at (d ∷ more) zero c all h = all.0
 factors-at (d ∷ more) (suc k) c all h = factors-at more k c all.1 (omega arith)
 
 -- a component's samples by their rule
-abbrev pub source_by : Component → UpsampleRule → Source
-source_by c rule = record { rule = rule; width = c.width; height = c.height; stride = c.blocks_wide * c.scale }
+abbrev pub source_with : Component → UpsampleRule → Source
+source_with c rule = record { rule = rule; width = c.width; height = c.height; stride = c.blocks_wide * c.scale }
 
 -- A component that is upsampled has a rule.
 pub source-rule : (most_h most_v width height : ℕ) (c : Component) (s : Source)
     → source_of most_h most_v width height c ≡ Ok s
     → (rule : UpsampleRule)
     × (rule_of c.factors.horizontal c.factors.vertical most_h most_v width height ≡ Some rule)
-    × (source_by c rule ≡ s)
+    × (source_with c rule ≡ s)
+unfolding source_of
 source-rule most_h most_v width height c s e =
     go (rule_of c.factors.horizontal c.factors.vertical most_h most_v width height) e
   where
     go : (o : Option UpsampleRule)
-        → (ok_or o (Lacks NonIntegerSubsamplingRatio) >>= (λ rule. Ok (source_by c rule))) ≡ Ok s
-        → (rule : UpsampleRule) × (o ≡ Some rule) × (source_by c rule ≡ s)
+        → (ok_or o (Lacks NonIntegerSubsamplingRatio) >>= (λ rule. Ok (source_with c rule))) ≡ Ok s
+        → (rule : UpsampleRule) × (o ≡ Some rule) × (source_with c rule ≡ s)
     go None e = absurd (cc)
     go (Some rule) e = (rule, refl, ok-same _ s e)

@@ -22,7 +22,7 @@ pub record Source : Type 0 where
 
 -- how a component is upsampled in a picture of this width and height, in a frame of these greatest
 -- factors
-abbrev pub source_of : ℕ → ℕ → ℕ → ℕ → Component → Result Source Fault
+unfoldable pub source_of : ℕ → ℕ → ℕ → ℕ → Component → Result Source Fault
 source_of most_h most_v width height c = do
   rule ← ok_or (rule_of c.factors.horizontal c.factors.vertical most_h most_v width height)
       (Lacks NonIntegerSubsamplingRatio)

@@ -50,6 +50,7 @@ fn choose_rule(
 }
 
 // How one component is upsampled.
+#[tactic(auto, unfolding(crate::specs::Pictures::source_of))]
 fn component_source(
     component: &Component,
     greatest_h: u8,

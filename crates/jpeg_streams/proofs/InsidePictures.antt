@@ -93,7 +93,7 @@ AllAlike (c ∷ more) (p ∷ ps) (q ∷ qs) = SamePlane (c.blocks_wide * c.scale
 sources-same : (a b width height : ℕ) (components : List Component) (sources : List Source) (ps qs : List (List ℕ))
     → gathered (source_of a b width height) components ≡ Ok sources → AllAlike components ps qs
     → AllSame sources ps qs
-unfolding gathered
+unfolding gathered source_of
 sources-same a b width height (c ∷ more) sources (p ∷ ps) (q ∷ qs) e h =
     search (rules, bind-ok, err-ok, sources-same a b width height more)
 sources-same a b width height components sources ps qs e h = search (rules, ok-same)

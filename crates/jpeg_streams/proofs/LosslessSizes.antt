@@ -37,8 +37,8 @@ some-across frame = greatest-some (λ f. f.horizontal) (map (λ c. c.factors) fr
 pub some-down : (frame : Frame) → 0 < most_down frame.components
 some-down frame = greatest-some (λ f. f.vertical) (map (λ c. c.factors) frame.components)
 
-all-made : (frame : Frame) (mh mv : ℕ) (cs : List Factors) → most_across frame.components ≡ mh → most_down frame.components ≡ mv
-    → AllByRecursion IsInRange cs
+all-made : (frame : Frame) (mh mv : ℕ) (cs : List Factors) → most_across frame.components ≡ mh
+    → most_down frame.components ≡ mv → AllByRecursion IsInRange cs
     → AllByRecursion (IsMade frame) (map (component_of frame.width frame.height mh mv) cs)
 unfolding component_of
 all-made frame mh mv [] a d h = tt
@@ -86,7 +86,8 @@ pub made-covered : (frame : Frame) (c : Component) → IsMade frame c
 made-covered frame c is = search (rules, covered, some-across, some-down)
 
 all-among : (frame : Frame) (codings : List LosslessCoding) → AllByRecursion (λ k. IsMade frame k.component) codings
-    → AllByRecursion (IsCovered (ceiling frame.width (most_across frame.components)) (ceiling frame.height (most_down frame.components)))
+    → AllByRecursion (IsCovered (ceiling frame.width (most_across frame.components))
+    (ceiling frame.height (most_down frame.components)))
     (map (λ k. part_of k.component.factors.horizontal k.component.factors.vertical k) codings)
 all-among frame [] h = tt
 all-among frame (k ∷ codings) h = search (rules, made-covered, all-among frame codings h.1)

@@ -26,7 +26,8 @@ record IsFull (frame : Frame) (c : Component) : Type 0 where
   down : c.factors.vertical ≡ most_down frame.components
 
 all-full : (frame : Frame) (cs : List Component) → AllByRecursion (IsMade frame) cs
-    → AllByRecursion (λ c. (c.factors.horizontal ≡ most_across frame.components) × (c.factors.vertical ≡ most_down frame.components)) cs
+    → AllByRecursion (λ c. (c.factors.horizontal ≡ most_across frame.components)
+    × (c.factors.vertical ≡ most_down frame.components)) cs
     → AllByRecursion (IsFull frame) cs
 all-full frame [] made same = tt
 all-full frame (c ∷ cs) made same =
@@ -63,8 +64,8 @@ unfolding mcus_across mcus_down parts_of
 way-alone h selection point k is same in_frame = search (rules, header-full)
 
 -- components of a scan where the greatest factors are 1
-parts-plain : (frame : Frame) (codings : List LosslessCoding) → most_across frame.components ≡ 1 → most_down frame.components ≡ 1
-    → AllByRecursion (λ k. IsFull frame k.component) codings
+parts-plain : (frame : Frame) (codings : List LosslessCoding) → most_across frame.components ≡ 1
+    → most_down frame.components ≡ 1 → AllByRecursion (λ k. IsFull frame k.component) codings
     → map (λ k. part_of k.component.factors.horizontal k.component.factors.vertical k) codings
     ≡ map (λ k. part_at k.table 1 1 frame.width frame.height) codings
 parts-plain frame [] a d all = refl
@@ -79,7 +80,8 @@ codings-full h (k ∷ codings) is same all = search (rules, header-full, codings
 
 pub way-together : (h : FrameHeader) (selection : Predictor) (point : ℕ) (codings : List
     LosslessCoding) → IsFrameHeader 3 h
-    → HasEqualFactors (frame_written 3 h) → most_across (frame_written 3 h).components ≡ 1 → most_down (frame_written 3 h).components ≡ 1
+    → HasEqualFactors (frame_written 3 h) → most_across (frame_written 3 h).components ≡ 1
+    → most_down (frame_written 3 h).components ≡ 1
     → AllByRecursion (λ k. IsIn k.component (frame_written 3 h).components) codings
     → (way_of (frame_written 3 h) selection point codings ≡ plain_way (frame_written 3 h) selection point codings)
     × (mcus_down (frame_written 3 h) codings ≡ (frame_written 3 h).height)

@@ -10,7 +10,7 @@ use Rattle.jpeg_pixels.specs.declared.upsampler.UpsampleRule.TheVariants.{H1V1, 
 use Rattle.jpeg_pixels.specs.Pictures.{Source, source_of}
 use Rattle.jpeg_pixels.specs.Upsampling.{rule_of}
 use Rattle.jpeg_streams.specs.AcceptedFrames.{IsNear}
-use Rattle.jpeg_pixels.proofs.SourceLists.{source_by}
+use Rattle.jpeg_pixels.proofs.SourceLists.{source_with}
 use Rattle.jpeg_streams.proofs.ReadTurns.{bind-ok, err-ok, then-ok}
 
 -- ---- a rule by its tests
@@ -44,13 +44,13 @@ rule-some most_h most_v width height c u = search (rules, pick-some, or_left, an
 pub sources-some : (most_h most_v width height : ℕ) (cs : List Component)
     → AllByRecursion (λ c. Upsampled most_h most_v width height c.factors) cs
     → (sources : List Source) × (gathered (source_of most_h most_v width height) cs ≡ Ok sources)
-unfolding gathered
+unfolding gathered source_of
 sources-some most_h most_v width height [] u = ([], refl)
 sources-some most_h most_v width height (c ∷ cs) u =
     let r = rule-some most_h most_v width height c.factors u.0 in
     let others = sources-some most_h most_v width height cs u.1 in (
       _,
-      then-ok (source_of most_h most_v width height c) _ (source_by c r.0) _ (rw r.1 refl)
+      then-ok (source_of most_h most_v width height c) _ (source_with c r.0) _ (rw r.1 refl)
           (then-ok (gathered (source_of most_h most_v width height) cs) _ others.0 _ others.1 refl),
     )
 
@@ -64,7 +64,7 @@ either false b e = inr e
 pub sources-back : (most_h most_v width height : ℕ) (cs : List Component) (sources : List Source)
     → gathered (source_of most_h most_v width height) cs ≡ Ok sources
     → AllByRecursion (λ c. Upsampled most_h most_v width height c.factors) cs
-unfolding gathered rule_of
+unfolding gathered rule_of source_of
 sources-back most_h most_v width height [] sources e = tt
 sources-back most_h most_v width height (c ∷ cs) sources e =
     search (rules, bind-ok, eqb-true, err-ok, sources-back most_h most_v width height cs)

@@ -15,6 +15,7 @@ use Rattle.jpeg_segments.specs.ScanHeader.{Selector, scan_of}
 use Rattle.jpeg_segments.specs.WrittenSegments.{FrameHeader, Segment, Quantization, Huffman, Interval, Header}
 use Rattle.jpeg_segments.specs.WrittenSegments.{frame_payload, huffman_bytes, quantization_bytes}
 use Rattle.jpeg_segments.specs.ScanHeaders.{ScanHeader, IsScan, scan_payload, scan_written}
+use Rattle.jpeg_pixels.specs.Pictures.{source_of}
 use Rattle.jpeg_pixels.specs.Upsampling.{rule_of}
 use Rattle.jpeg_streams.specs.Levels.{Levels, Is8Bit, nothing_sent}
 use Rattle.jpeg_streams.specs.Order.{all_spots, grid_of, mcu_size, mcu_spots, part_spots, spots_of}
@@ -198,7 +199,7 @@ legal = scan-legal said the_frame (λ k. nothing_sent) the_header codings refl r
 
 pub colour-written : IsWhollyWritten colour_array colour_bytes
 unfolding nothing_found frame_of component_of quantization_bytes frame_payload huffman_bytes scan_payload updated
-    codes_exist lengths_from code_value levels_after pass_of scan_of accepted gathered rule_of
+    codes_exist lengths_from code_value levels_after pass_of scan_of accepted gathered rule_of source_of
 colour-written =
     let whole : IsComplete (sent 0) = record { dc = refl; acs = all-same (Some 0) 63 } in
     record {

@@ -10,6 +10,7 @@ use Rattle.jpeg_segments.specs.ScanHeader.{scan_of}
 use Rattle.jpeg_segments.specs.WrittenSegments.{FrameHeader, Header, Huffman, Quantization, Segment, quantization_bytes}
 use Rattle.jpeg_segments.specs.WrittenSegments.{frame_payload, huffman_bytes}
 use Rattle.jpeg_segments.specs.ScanHeaders.{ScanHeader, IsScan, scan_payload, scan_written}
+use Rattle.jpeg_pixels.specs.Pictures.{source_of}
 use Rattle.jpeg_pixels.specs.Upsampling.{rule_of}
 use Rattle.jpeg_streams.specs.Levels.{Levels, nothing_sent}
 use Rattle.jpeg_streams.specs.Order.{own_spots, spots_of, mcu_size}
@@ -232,7 +233,7 @@ legal = search (rules, scan-legal)
 
 pub grey-written : IsWhollyWritten grey_array grey_bytes
 unfolding nothing_found frame_of component_of quantization_bytes frame_payload huffman_bytes scan_payload updated
-    codes_exist lengths_from code_value levels_after pass_of scan_of accepted gathered rule_of
+    codes_exist lengths_from code_value levels_after pass_of scan_of accepted gathered rule_of source_of
 grey-written = record {
   final = said;
   last = sent_4;

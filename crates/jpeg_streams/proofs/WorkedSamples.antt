@@ -20,6 +20,7 @@ use Rattle.jpeg_bits.specs.Written.{WritesEach, WritesInterval, WritesIntervals,
 use Rattle.jpeg_bits.specs.Written.WritesEach.{none, one}
 use Rattle.jpeg_bits.specs.Written.WritesIntervals.{another, last}
 use Rattle.jpeg_lossless.specs.Worked.{small_table}
+use Rattle.jpeg_pixels.specs.Pictures.{source_of}
 use Rattle.jpeg_pixels.specs.Upsampling.{rule_of}
 use Rattle.jpeg_streams.specs.SaidSegments.{found_after}
 use Rattle.jpeg_streams.specs.Segments.{accepted, updated}
@@ -173,7 +174,7 @@ three-scans = (
 )
 
 pub three-written : AreWritten three_samples three_bytes
-unfolding nothing_found frame_of codes_exist lengths_from code_value accepted component_of gathered rule_of
+unfolding nothing_found frame_of codes_exist lengths_from code_value accepted component_of gathered rule_of source_of
 three-written = record {
   final = scanned three_header;
   written = record {
@@ -232,7 +233,7 @@ padded-scans = (
 )
 
 pub padding-written : AreWritten padded_samples padded_bytes
-unfolding nothing_found frame_of codes_exist lengths_from code_value accepted component_of gathered rule_of
+unfolding nothing_found frame_of codes_exist lengths_from code_value accepted component_of gathered rule_of source_of
 padding-written = record {
   final = scanned padded_header;
   written = record {

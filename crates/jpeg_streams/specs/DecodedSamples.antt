@@ -8,10 +8,10 @@ use Rattle.jpeg_streams.specs.FoundPictures.{limited}
 use Rattle.jpeg_streams.specs.WrittenLossless.{picture_of_samples, Samples}
 use Rattle.jpeg_streams.specs.WrittenLossless.{WritesSamples}
 
--- A call on a decoder whose source has a lossless stream that is written for samples: where it gives
--- pixels, they are the picture of the samples, at full size whatever size was asked for, and what
--- follows the image is left. Where the limit takes that picture, an error is that memory is out, or
--- the reader's own.
+-- A call on a decoder whose source has a lossless stream that is written for samples: where it
+-- gives pixels, they are the picture of the samples, at full size whatever size was asked for, and
+-- what follows the image is left. Where the limit takes that picture, an error is that memory is
+-- out, or the reader's own.
 abbrev pub DecodesSamples :
     {X : Type 0} → (X → List ℕ) → Decoding → Result X Error → Decoding → Type 0
 DecodesSamples bytes_of old result new =

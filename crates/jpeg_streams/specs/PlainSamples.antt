@@ -14,8 +14,8 @@ use Rattle.jpeg_streams.specs.WrittenLossless.{Samples}
 abbrev pub HasEqualFactors : Frame → Type 0
 HasEqualFactors frame =
     AllByRecursion
-    (λ c. (c.factors.horizontal ≡ most_across frame.components) × (c.factors.vertical ≡ most_down frame.components))
-    frame.components
+    (λ c. (c.factors.horizontal ≡ most_across frame.components)
+    × (c.factors.vertical ≡ most_down frame.components)) frame.components
 
 -- The bytes of a pixel: of each component the sample in its column and line.
 abbrev pub plain_pixel : ℕ → ℕ → Samples → ℕ → ℕ → List ℕ

@@ -3,8 +3,9 @@ use Rattle.std.proofs.lemmas.List.{length-map}
 use Rattle.jpeg_segments.specs.Frame.{Component, ceiling, greatest, most_down}
 use Rattle.jpeg_segments.specs.FrameView.{component_in, factors_in, frame_in}
 use Rattle.jpeg_segments.specs.declared.parser.Component.{Component as Given}
+use Rattle.jpeg_segments.proofs.ScaleLemmas.{factors-seen}
 use Rattle.jpeg_decoder.specs.LosslessParts.{no_component}
-use Rattle.jpeg_decoder.proofs.LosslessReads.{alone, component-at, factors-seen, not-alone}
+use Rattle.jpeg_decoder.proofs.LosslessReads.{alone, component-at, not-alone}
 use Rattle.jpeg_decoder.proofs.lossless_scans.mcus_of.Goals as goal
 use Rattle.std.proofs.lemmas.Grind.{common_steps}
 
@@ -31,6 +32,6 @@ returns-clause-high c =
     let most : c.greatest_of-horizontal.result.1 ≡ most_down frame.components =
     c.greatest_of-horizontal.ensures.vertical
     ∙ ap (λ (l : List Given). greatest (λ f. f.vertical) (map factors_in l)) c.deref.ensures.value
-    ∙ ap (greatest (λ f. f.vertical)) (factors-seen cs) in
+    ∙ ap (greatest (λ f. f.vertical)) (sym (factors-seen cs)) in
     c.ceiling-high.ensures ∙ ap₂ ceiling c.from-3.ensures (c.from-4.ensures ∙ most)
     ∙ sym (not-alone frame c.args.indices.now (search rules)).1

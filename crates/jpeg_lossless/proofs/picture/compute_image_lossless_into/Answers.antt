@@ -1,19 +1,16 @@
-use Rattle.std.proofs.Common.{[], ◌∷◌, refl, ◌≡◌, ap, map, List, ℕ, rules, arith}
+use Rattle.std.proofs.Common.{◌≡◌, map, List, ℕ, rules, arith}
 use Rattle.jpeg_segments.specs.Frame.{Factors, greatest}
 use Rattle.jpeg_segments.specs.FrameView.{component_in, factors_in}
 use Rattle.jpeg_segments.specs.declared.parser.Component.{Component as Given}
+use Rattle.jpeg_segments.proofs.ScaleLemmas.{factors-seen}
 use Rattle.jpeg_lossless.proofs.ImageLoops.{picture-plain, plain-long}
 use Rattle.jpeg_lossless.proofs.picture.compute_image_lossless_into.Goals as goal
 use Rattle.std.proofs.lemmas.Grind.{common_steps}
 
-seen : (cs : List Given) → map factors_in cs ≡ map (λ c. c.factors) (map component_in cs)
-seen [] = refl
-seen (c ∷ cs) = ap (λ (l : List Factors). factors_in c ∷ l) (seen cs)
-
 -- the greatest factor, as it is found in the components that are given
 most : (f : Factors → ℕ) (n : ℕ) (seen_in cs : List Given) → n ≡ greatest f (map factors_in seen_in) → seen_in ≡ cs → n
     ≡ greatest f (map (λ c. c.factors) (map component_in cs))
-most f n seen_in cs is same = search (rules, seen)
+most f n seen_in cs is same = search (rules, factors-seen)
 
 pub write_sampled-requires-clause-horizontal : goal.write_sampled-requires-clause-horizontal
 write_sampled-requires-clause-horizontal c = search (rules, most)

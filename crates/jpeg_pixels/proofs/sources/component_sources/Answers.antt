@@ -1,4 +1,5 @@
-use Rattle.std.proofs.Common.{◌≡◌, length, map, refl, arith, subst, rules}
+use Rattle.std.proofs.Common.{◌≡◌, length, map, arith, subst, rules}
+use Rattle.std.proofs.lemmas.Grind.{common_steps}
 use Rattle.std.proofs.Math.ListN as lists
 use Rattle.std.proofs.lemmas.List.{map-append, length-map}
 use Rattle.std.proofs.lemmas.Result.{err_from_is_err_and}
@@ -6,8 +7,6 @@ use Rattle.jpeg_segments.specs.Frame.{HasSampling}
 use Rattle.jpeg_segments.specs.FrameView.{component_in}
 use Rattle.jpeg_segments.proofs.Gathered.{gathers-none, gathers-more, gathers-refused, gathers-all}
 use Rattle.jpeg_segments.proofs.ScaleLemmas.{none}
-use Rattle.jpeg_pixels.specs.Pictures.{source_of}
-use Rattle.jpeg_pixels.specs.PicturesView.{source_in}
 use Rattle.jpeg_pixels.proofs.SourceLists.{factors-at}
 use Rattle.jpeg_pixels.proofs.sources.component_sources.Goals as goal
 
@@ -24,35 +23,14 @@ component_source-requires c =
 
 pub loop-component-preserved : goal.loop-component-preserved
 loop-component-preserved c =
-    let components = c.args.components.now in
-    let index = c.loop-component.component-index in
-    let count : length (map component_in components) ≡ length components = length-map components component_in in
-    gathers-more (source_of c.greatest_horizontal-greatest_h.result c.greatest_vertical-greatest_v.result
-    c.args.output_width c.args.output_height) (map component_in components) index (component_in none)
-    (source_in c.in_ok-source.source) (map source_in c.loop-component.sources.items) _ (omega arith)
-    (rw (lists.get_or-map component_in components index none) c.in_ok-source.ensures)
-    (rw (c.in_ok-push.ensures.items, map-append) refl) c.loop-component.invariant
+    let at = lists.get_or-map component_in c.args.components.now c.loop-component.component-index none in
+    grind (arith, common_steps, gathers-more, length-map, map-append)
 
 pub returns-in_err-source : goal.returns-in_err-source
 returns-in_err-source c =
-    let components = c.args.components.now in
-    let index = c.loop-component.component-index in
-    let h = c.greatest_horizontal-greatest_h in
-    let v = c.greatest_vertical-greatest_v in
-    let count : length (map component_in components) ≡ length components = length-map components component_in in
+    let at = lists.get_or-map component_in c.args.components.now c.loop-component.component-index none in
     let p = err_from_is_err_and c.from_residual-in_err-source.result c.from_residual-in_err-source.ensures.1 in
-    rw (p.1, p.2, ← h.ensures, ← v.ensures) (gathers-refused (source_of h.result v.result
-    c.args.output_width c.args.output_height) (map component_in components) index (component_in none)
-    c.in_err-source.field-0.0 (map source_in c.loop-component.sources.items) (omega arith)
-    (rw (lists.get_or-map component_in components index none) c.in_err-source.ensures)
-    c.loop-component.invariant)
+    grind (arith, common_steps, gathers-refused, length-map)
 
 pub returns : goal.returns
-returns c =
-    let components = c.args.components.now in
-    let h = c.greatest_horizontal-greatest_h in
-    let v = c.greatest_vertical-greatest_v in
-    let count : length (map component_in components) ≡ length components = length-map components component_in in
-    rw (← h.ensures, ← v.ensures) (gathers-all (source_of h.result v.result c.args.output_width
-    c.args.output_height) (map component_in components) c.loop-component.component-index _ (omega arith)
-    c.loop-component.invariant)
+returns c = grind (arith, common_steps, gathers-all, length-map)
