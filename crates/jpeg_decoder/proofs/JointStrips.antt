@@ -26,7 +26,7 @@ use Rattle.jpeg_streams.specs.InTurn.{Fits}
 use Rattle.jpeg_streams.specs.Scans.{Arrays}
 use Rattle.jpeg_streams.specs.ScanSegments.{Coding}
 use Rattle.jpeg_streams.proofs.Apart.{at-all}
-use Rattle.jpeg_streams.proofs.ScanArrays.{first-at}
+use Rattle.jpeg_streams.proofs.ReadTurns.{first-drop}
 use Rattle.jpeg_decoder.specs.GrowingView.{IsJointOf, IsOfShape}
 use Rattle.jpeg_decoder.specs.PlanesView.{IsFullJoint}
 use Rattle.jpeg_decoder.specs.Scanning.{components_in}
@@ -194,7 +194,7 @@ shaped : (frame : Frame) (shape : JointShape) (cs : List Coded) → shape.rows �
 shaped frame shape [] rows lines strides fits of = tt
 shaped frame shape (c ∷ cs) rows lines strides fits of =
     let k = component_in c.component.now in
-    let at = first-at c.index frame.components k of.0 in (
+    let at = first-drop c.index frame.components k of.0 in (
       record {
         lines = at-all _ c.index frame.components k lines at;
         stride = at-all _ c.index frame.components k strides at;

@@ -33,7 +33,8 @@ use Rattle.jpeg_streams.proofs.Apart.{At, zeros-sized}
 use Rattle.jpeg_decoder.proofs.BlocksBefore.{plane_by-length}
 use Rattle.jpeg_decoder.proofs.PlacedCodings.{coded-components}
 use Rattle.jpeg_decoder.proofs.PutLoops.{Held, blocks-are}
-use Rattle.jpeg_streams.proofs.ScanArrays.{IsOf, first-at, zeros-of}
+use Rattle.jpeg_streams.proofs.ReadTurns.{first-drop}
+use Rattle.jpeg_streams.proofs.ScanArrays.{IsOf, zeros-of}
 use Rattle.std.proofs.lemmas.Grind.{common_steps}
 use Rattle.std.proofs.Common.{rules}
 
@@ -47,7 +48,7 @@ vias-same slot (c ∷ cs) = grind (arith, common_steps, vias-same (slot + 1) cs)
 pub of-frame : (frame : Frame) (codings : List Coding) → AllByRecursion (IsCodingOf frame) codings
     → AllByRecursion (IsOf frame) codings
 of-frame frame [] h = tt
-of-frame frame (c ∷ codings) h = grind (arith, common_steps, first-at, of-frame frame codings h.1)
+of-frame frame (c ∷ codings) h = grind (arith, common_steps, first-drop, of-frame frame codings h.1)
 
 pub arrays-by-sizes : (cs : List Component) (old new : List Held) → AreArrays cs (arrays_in old)
     → sizes_of new ≡ sizes_of old → AreArrays cs (arrays_in new)
@@ -369,7 +370,7 @@ coded-within-kept frame cs kept of a k d h = at cs of k d h
         → (get_or cs k d).index < length kept
     at [] of k d h = absurd (omega arith)
     at (c ∷ cs) of zero d h = long frame.components kept a c.index (coding_in c).component
-        (first-at c.index frame.components (coding_in c).component of.0)
+        (first-drop c.index frame.components (coding_in c).component of.0)
     at (c ∷ cs) of (suc k) d h = at cs of.1 k d (omega arith)
 
 -- places that rise are apart

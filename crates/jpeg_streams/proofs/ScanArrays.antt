@@ -13,7 +13,6 @@ use Rattle.jpeg_streams.specs.Order.{spots_of, mcu_size}
 use Rattle.jpeg_streams.specs.Scans.{Arrays, zero_arrays}
 use Rattle.jpeg_streams.specs.InTurn.{Fits, AreArrays, scan_from}
 use Rattle.jpeg_streams.specs.McuRows.{scan_by_rows}
-use Rattle.jpeg_streams.specs.Needed.{first_of}
 use Rattle.jpeg_streams.specs.ScanSegments.{Coding, pass_of, vias_from, codings_of, put_arrays, is_progressive}
 use Rattle.jpeg_streams.specs.ScanSegments.{arrays_before, codings_from, component_coding, scan_arrays}
 use Rattle.jpeg_streams.specs.Found.{Found}
@@ -21,17 +20,13 @@ use Rattle.jpeg_streams.proofs.Apart.{At, at-all, sized, zeros-sized}
 use Rattle.jpeg_streams.proofs.CountedScans.{frame-scans}
 use Rattle.jpeg_streams.proofs.McuRows.{scans-by-rows}
 use Rattle.jpeg_streams.proofs.BroughtLevels.{zero-at as zeros-at}
+use Rattle.jpeg_streams.proofs.ReadTurns.{first-drop}
 
 -- ---- codings
 
 -- a coding is of a component of the frame
 pub record IsOf (frame : Frame) (c : Coding) : Type 0 where
   pub here : At c.index frame.components c.component
-
-pub first-at : (index : ℕ) (cs : List Component) (c : Component)
-    → ◌≡◌ {A = Option Component} (first_of (drop index cs)) (Some c) → At index cs c
-first-at (suc index) (d ∷ cs) c e = first-at index cs c e
-first-at index cs c e = search rules
 
 abbrev pub AllOf : Frame → Result (List Coding) Fault → Type 0
 AllOf frame (Ok codings) = AllByRecursion (IsOf frame) codings
@@ -42,7 +37,7 @@ codings-from : (found : Found) (frame : Frame) (p : Pass) (tables : Tables) (ind
     → AllOf frame (codings_from found frame p tables indices dcs acs)
 unfolding codings_from component_coding
 codings-from found frame p tables (index ∷ indices) (d ∷ dcs) (a ∷ acs) =
-    search (rules, first-at, codings-from found frame p tables indices dcs acs)
+    search (rules, first-drop, codings-from found frame p tables indices dcs acs)
 codings-from found frame p tables indices dcs acs = tt
 
 pub codings-are-of : (found : Found) (frame : Frame) (scan : Scan) → AllOf frame (codings_of found frame scan)
