@@ -13,7 +13,7 @@ use Rattle.jpeg_decoder.specs.PlanesView.{or_joint}
 use Rattle.jpeg_decoder.specs.Steps.{coding_in, is_wanted, marks_after, with_planes}
 use Rattle.jpeg_decoder.proofs.JointDecided.{or-nothing}
 use Rattle.jpeg_decoder.proofs.DecidedPlanes.{its_plane_set}
-use Rattle.jpeg_decoder.proofs.PutLoops.{none-left, planes-none, seen-at}
+use Rattle.jpeg_decoder.proofs.PutLoops.{none-left, seen-at}
 
 -- one pass finishes all coefficients
 pub all-marked : (p : Pass) (marks new : List Bool) → length marks ≡ 64 → new ≡ finished_by p marks
@@ -80,10 +80,10 @@ module _ (p : Pass) (cs : List Coded) (planes : List (List ℕ))
   pub joint-done : (i : ℕ) (found : Found) → i ≡ length cs
       → record found { planes = or_joint (replicate 4 None) planes }
       ≡ with_planes p (drop i (map coding_in cs)) (drop i planes) (record found { planes = laid i })
+  unfolding with_planes
   joint-done i found e =
       ap (λ (l : List (List ℕ)). record found { planes = or_joint (replicate 4 None) l })
       (sym (take_all i planes (omega (arith, count, e))))
       ∙ sym (ap (λ (ks : List Coding).
       with_planes p ks (drop i planes) (record found { planes = laid i }))
-      (ap (λ (k : ℕ). drop k (map coding_in cs)) e ∙ none-left coding_in cs)
-      ∙ planes-none p (drop i planes) (record found { planes = laid i }))
+      (ap (λ (k : ℕ). drop k (map coding_in cs)) e ∙ none-left coding_in cs))

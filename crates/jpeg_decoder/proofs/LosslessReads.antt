@@ -359,17 +359,6 @@ samples-sound found next frame indices planes sound e lossless whole is = grind 
 
 -- ---- where samples are put
 
-with-more : (p : ℕ) (indices : List ℕ) (plane : List ℕ) (planes : List (List ℕ)) (samples : List
-    (Option (List ℕ)))
-    → with_samples (p ∷ indices)
-    (plane ∷ planes) samples ≡ with_samples indices planes (slice_set samples p (Some plane))
-unfolding with_samples
-with-more p indices plane planes samples = refl
-
-with-none : (planes : List (List ℕ)) (samples : List (Option (List ℕ))) → with_samples [] planes samples ≡ samples
-unfolding with_samples
-with-none planes samples = refl
-
 -- a slot more
 pub put-step : (indices : List ℕ) (i : ℕ) (planes : List (Vec ℕ Global)) (empty plane : Vec ℕ
     Global)
@@ -380,14 +369,16 @@ pub put-step : (indices : List ℕ) (i : ℕ) (planes : List (Vec ℕ Global)) (
     (planes_in (slice_set before (slice_index_or indices i 0) (Some plane)))
     ≡ with_samples (drop i indices) (drop i (map (λ (v : Vec ℕ Global). v.items) planes))
     (planes_in before)
+unfolding with_samples
 put-step indices i planes empty plane before h e is =
-    grind (arith, common_steps, seen-at, map-set, drop-set-lt, with-more, drop_more)
+    grind (arith, common_steps, seen-at, map-set, drop-set-lt, drop_more)
 
 -- all slots
 pub put-all : (indices : List ℕ) (i : ℕ) (planes : List (List ℕ)) (samples whole : List (Option
     (List ℕ)))
     → length indices ≤ i → with_samples (drop i indices) planes samples ≡ whole → samples ≡ whole
-put-all indices i planes samples whole h w = grind (arith, common_steps, with-none, drop_all)
+unfolding with_samples
+put-all indices i planes samples whole h w = grind (arith, common_steps, drop_all)
 
 -- ---- samples at the end of an image
 

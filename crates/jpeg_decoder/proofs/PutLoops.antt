@@ -33,12 +33,6 @@ pub none-left : {A B : Type 0} (f : A → B) (xs : List A) → drop (length xs) 
 none-left f [] = refl
 none-left f (x ∷ xs) = none-left f xs
 
--- ---- planes
-
-pub planes-none : (p : Pass) (planes : List (List ℕ)) (found : Found) → with_planes p [] planes found ≡ found
-unfolding with_planes
-planes-none p planes found = refl
-
 -- ---- blocks
 
 pub blocks-are : (p : Pass) (c : Coding) (blocks : List Block) (found : Found)
@@ -47,18 +41,10 @@ pub blocks-are : (p : Pass) (c : Coding) (blocks : List Block) (found : Found)
 unfolding with_blocks with_plane with_its_plane decided_planes
 blocks-are p c blocks found = refl
 
-pub arrays-none : (p : Pass) (arrays : Arrays) (found : Found) → with_arrays p [] arrays found ≡ found
-unfolding with_arrays
-arrays-none p arrays found = refl
-
 -- ---- held blocks
 
 abbrev pub Held : Type 0
 Held = Vec (List ℤ) Global
-
-pub put-none : (arrays kept : Arrays) → put_arrays [] arrays kept ≡ kept
-unfolding put_arrays
-put-none arrays kept = refl
 
 -- one component more: where its blocks are taken from is empty afterwards
 pub put-step : (cs : List Coded) (i : ℕ) (d : Coded) (arrays kept : List Held) (empty blocks : Held)

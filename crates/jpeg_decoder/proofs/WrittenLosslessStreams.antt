@@ -2,7 +2,8 @@
 use Rattle.std.proofs.Common.{◌≡◌, ℕ, zero, suc, ◌+◌, ◌<◌, Bool, true, false, List, [], ◌∷◌, ◌++◌}
 use Rattle.std.proofs.Common.{length, replicate, set, get_or, Option, Some, None, Ok, refl, sym, ap}
 use Rattle.std.proofs.Common.{◌∙◌, ◌==◌, subst, arith, length-append, length-set, rules}
-use Rattle.std.proofs.lemmas.Bool.{eqb-true}
+use Rattle.std.proofs.lemmas.Bool.Decides.{eqb_tells}
+use Rattle.std.proofs.Math.Logic.{⊎_elim}
 use Rattle.std.proofs.lemmas.List.{get_or-set_same}
 use Rattle.std.specs.Prelude.{is_some, slice_index_or, slice_set}
 use Rattle.std.specs.List.{AllByRecursion, concat, range_with_len}
@@ -120,11 +121,8 @@ blocks-after samples indices decided sent h g = search (rules, kept-append, with
 
 one-kept : (P : ℕ → Type 0) (k : ℕ) (sent : List ℕ) → AllByRecursion P sent → names sent k ≡ true → P k
 one-kept P k [] h e = absurd (let n : ⊥ = cc in n)
-one-kept P k (x ∷ sent) h e = go (x == k) refl (one-kept P k sent h.1)
-  where
-    go : (b : Bool) → (x == k) ≡ b → (names sent k ≡ true → P k) → P k
-    go true t more = subst P (eqb-true x k t) h.0
-    go false t more = more (rw t at e)
+one-kept P k (x ∷ sent) h e =
+    ⊎_elim (λ t. subst P t.1 h.0) (λ t. one-kept P k sent h.1 (rw t.0 at e)) (eqb_tells x k)
 
 pub all-in : (P : ℕ → Type 0) (ks sent : List ℕ) → AllByRecursion P sent → AllByRecursion (λ k. names sent k ≡ true) ks
     → AllByRecursion P ks

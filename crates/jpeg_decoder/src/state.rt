@@ -261,8 +261,8 @@ impl State {
         number: u8,
         before: Before,
     ) -> Result<Step>
-        ensures reads { Answers (turn_of self.now) (segment_at (RST number) before (found_in self.now))
-            source.old result source.new }
+        ensures reads { Answers (turn_of self.now)
+            (segment_at (RST number) before (found_in self.now)) source.old result source.new }
         ensures steps { IsStep (found_in self.now) result (found_in self.now) }
     {
         match before {
@@ -362,7 +362,8 @@ fn marker_or_next<R: Read + Drop>(
     source: &mut Source<R>,
     met: Option<Marker>,
 ) -> Result<Marker>
-    ensures answers { Answers (λ m. m) (λ bytes. found_or met bytes (next_marker bytes)) source.old result source.new }
+    ensures answers { Answers (λ m. m) (λ bytes. found_or met bytes (next_marker bytes))
+        source.old result source.new }
     ensures short { met ≡ None → IsShort source.old }
 {
     match met {

@@ -1,7 +1,7 @@
 -- The parts of a profile.
 use Rattle.std.proofs.Common.{rules, ◌≡◌, ◌+◌, ◌<◌, ◌≤◌, ℕ, zero, suc, List, [], ◌∷◌, ◌++◌, Option, Some, None, refl}
-use Rattle.std.proofs.Common.{length, map, arith}
-use Rattle.std.proofs.lemmas.Grind.{common_steps, flat_map-append}
+use Rattle.std.proofs.Common.{length, map, append_assoc, arith}
+use Rattle.std.proofs.lemmas.Grind.{common_steps}
 use Rattle.std.proofs.lemmas.List.{append-nil}
 use Rattle.std.specs.Prelude.{◌==◌, filter_map, flat_map, option_map}
 use Rattle.std.specs.List.{cons_option, find, range_with_len}
@@ -28,36 +28,33 @@ pub record Joins (all : List Chunk) (index : ℕ) (bytes : List ℕ) : Type 0 wh
   pub count : length (parts_to all index) ≡ index
   pub joined : flat_map (λ (c : Chunk). c.bytes) (parts_to all index) ≡ bytes
 
-module _ {X : Type 0} (h : ℕ → Option X) where
-  one-more : (a n j : ℕ) → a + n ≡ j → filter_map h (range_with_len a (n + 1))
-      ≡ filter_map h (range_with_len a n) ++ cons_option (h j) []
-  one-more a zero j e = search rules
-  one-more a (suc n) j e = search (rules, one-more (a + 1) n j)
+module _ {X : Type 0} (h : ℕ → Option X) (f : X → List ℕ) where
+  abbrev found : ℕ → ℕ → List X
+  found a n = filter_map h (range_with_len a n)
 
-  no-more : (a n : ℕ) → length (filter_map h (range_with_len a n)) ≤ n
+  one-more : (a n j : ℕ) (more : List ℕ) → a + n ≡ j → option_map f (h j) ≡ Some more
+      → (length (found a (n + 1)) ≡ length (found a n) + 1)
+      × (flat_map f (found a (n + 1)) ≡ flat_map f (found a n) ++ more)
+  one-more a zero j more e is = grind (arith, common_steps, append-nil)
+  one-more a (suc n) j more e is = search (rules, arith, append_assoc, one-more (a + 1) n j more)
+
+  no-more : (a n : ℕ) → length (found a n) ≤ n
   no-more a zero = omega arith
   no-more a (suc n) = search (rules, no-more (a + 1) n)
 
-  missing : (a n i j : ℕ) → i < n → a + i ≡ j → h j ≡ None → length (filter_map h (range_with_len a n)) < n
+  missing : (a n i j : ℕ) → i < n → a + i ≡ j → option_map f (h j) ≡ None → length (found a n) < n
   missing a zero i j lt e is = absurd (omega arith)
-  missing a (suc n) zero j lt e is = search (rules, no-more (a + 1) n)
+  missing a (suc n) zero j lt e is = grind (arith, no-more (a + 1) n)
   missing a (suc n) (suc i) j lt e is = search (rules, missing (a + 1) n i j)
 
 pub joins-more : (all : List Chunk) (index : ℕ) (bytes more : List ℕ) → part (index + 1) all ≡ Some more
     → Joins all index bytes → Joins all (index + 1) (bytes ++ more)
-joins-more all index bytes more is h = go (find (λ (c : Chunk). c.number == index + 1) all)
-    (one-more (λ (k : ℕ). find (λ (c : Chunk). c.number == k) all) 1 index (index + 1) (omega arith)) is
-  where
-    go : (o : Option Chunk) → parts_to all (index + 1) ≡ parts_to all index ++ cons_option o []
-        → option_map (λ (c : Chunk). c.bytes) o ≡ Some more → Joins all (index + 1) (bytes ++ more)
-    go None e is = absurd (let n : ⊥ = cc in n)
-    go (Some c) e is = grind (arith, common_steps, flat_map-append, append-nil)
+joins-more all index bytes more is h =
+    let e = one-more (λ k. find (λ (c : Chunk). c.number == k) all) (λ (c : Chunk). c.bytes) 1 index (index + 1) more
+    (omega arith) is in
+    record { count = cc; joined = cc }
 
 pub joins-missing : (all : List Chunk) (count index : ℕ) → index < count → part (index + 1) all ≡ None
     → length (parts_to all count) < count
-joins-missing all count index lt is =
-    missing (λ (k : ℕ). find (λ (c : Chunk). c.number == k) all) 1 count index (index + 1) lt (omega arith) (none _ is)
-  where
-    none : (o : Option Chunk) → option_map (λ (c : Chunk). c.bytes) o ≡ None → o ≡ None
-    none None e = refl
-    none (Some c) e = absurd (let n : ⊥ = cc in n)
+joins-missing all count index lt is = missing (λ k. find (λ (c : Chunk). c.number == k) all) (λ (c : Chunk). c.bytes) 1
+    count index (index + 1) lt (omega arith) is

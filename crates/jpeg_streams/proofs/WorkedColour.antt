@@ -81,27 +81,24 @@ codings = coding 0 (factors 82 2) ∷ coding 1 (factors 71 1) ∷ coding 2 (fact
 
 -- ---- blocks
 
+abbrev coding_at : ℕ → Coding
+coding_at slot = get_or codings slot (coding 2 (factors 66 1))
+
 abbrev block_for : ℕ → ℕ → Block
-block_for slot index =
-    own_block (get_or codings slot (coding 2 (factors 66 1))) colour_array (record { slot = slot; index = index })
+block_for slot index = own_block (coding_at slot) colour_array (record { slot = slot; index = index })
 
 -- The fourth block of the first component is padding.
 sent_at : ℕ → ℕ → Block
 sent_at zero (suc (suc (suc zero))) = flat_block (negsuc 0)
 sent_at slot index = block_for slot index
 
-own-sent : (slot index : ℕ) → IsOwn (grid_of (get_or codings slot (coding 2 (factors 66 1))).component) index
-    → sent_at slot index ≡ block_for slot index
+own-sent : (slot index : ℕ) → IsOwn (grid_of (coding_at slot).component) index → sent_at slot index ≡ block_for slot index
 unfolding sent_at component_of
 own-sent slot index own = search rules
 
-for-range : (slot index : ℕ) → Is8Bit (block_for slot index)
-for-range slot index = search (rules, range-in)
-
 sent-range : (slot index : ℕ) → Is8Bit (sent_at slot index)
 unfolding sent_at
-sent-range zero zero = for-range 0 0
-sent-range slot index = search (rules, for-range, range-by)
+sent-range slot index = search (rules, range-in, range-by)
 
 -- ---- codes
 

@@ -22,7 +22,8 @@ put_block s b arrays = set arrays s.slot (set (get_or arrays s.slot []) s.index 
 
 -- blocks put at their spots, one after the other
 unfoldable pub put_blocks : List Spot → List Block → Arrays → Arrays
-put_blocks spots blocks arrays = fold (λ arrays x. put_block x.0 x.1 arrays) arrays (zip spots blocks)
+put_blocks spots blocks arrays =
+    fold (λ arrays x. put_block x.0 x.1 arrays) arrays (zip spots blocks)
 
 -- the blocks of a component in which nothing was read yet
 abbrev pub zero_of : Component → List Block

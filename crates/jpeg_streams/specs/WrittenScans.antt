@@ -39,7 +39,8 @@ pub record WritesScan (frame : Frame) (restart : ℕ) (p : Pass) (codings : List
   pub in_range : (s : Spot) → Is8Bit (sent s)
   pub is_own : (s : Spot) (c : Coding)
       → slice_get codings s.slot ≡ Some c → IsOwn (grid_of c.component) s.index
-      → sent s ≡ array c.index (s.index / c.component.blocks_wide) (s.index % c.component.blocks_wide)
+      → sent s ≡ array c.index (s.index / c.component.blocks_wide)
+      (s.index % c.component.blocks_wide)
   pub coded :
       let n = restart * mcu_size (components_of codings) in
       let spots = spots_of frame (components_of codings) in

@@ -1,4 +1,4 @@
-use Rattle.std.proofs.Common.{◌≤◌, ◌<◌, map, length, arith, subst}
+use Rattle.std.proofs.Common.{◌≤◌, map, arith, subst}
 use Rattle.std.proofs.lemmas.Grind.{common_steps}
 use Rattle.std.proofs.lemmas.List.{length-map}
 use Rattle.std.proofs.lemmas.List.Sums.{sum_by_more}
@@ -6,7 +6,6 @@ use Rattle.jpeg_segments.specs.Frame.{Component}
 use Rattle.jpeg_segments.specs.FrameView.{component_in}
 use Rattle.jpeg_lossless.proofs.RowLoops.{mapped-at}
 use Rattle.jpeg_pixels.proofs.SourceLists.{factors-at}
-use Rattle.jpeg_decoder.specs.Bytes.{coefficient_bytes, plane_bytes}
 use Rattle.jpeg_decoder.proofs.memory.component_bytes.Goals as goal
 
 -- A block has at most 8 samples a side.

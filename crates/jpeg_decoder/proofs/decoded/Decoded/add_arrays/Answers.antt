@@ -4,7 +4,8 @@ use Rattle.jpeg_bits.specs.BlockView.{to_block, pass_in}
 use Rattle.jpeg_decoder.specs.Scanning.{blocks_in}
 use Rattle.jpeg_decoder.specs.Steps.{coding_in, with_decoded, with_its_plane}
 use Rattle.jpeg_streams.specs.Rasters.{plane_by}
-use Rattle.jpeg_decoder.proofs.PutLoops.{arrays-step, none-left, arrays-none, sized-at, long-at}
+use Rattle.jpeg_decoder.proofs.PutLoops.{arrays-step, none-left, sized-at, long-at}
+use Rattle.jpeg_streams.specs.ScanSegments.{with_arrays}
 use Rattle.jpeg_decoder.proofs.decoded.Decoded.add_arrays.Goals as goal
 use Rattle.std.proofs.lemmas.Grind.{common_steps}
 
@@ -41,4 +42,5 @@ loop-slot-preserved c =
     }
 
 pub returns-clause-planes : goal.returns-clause-planes
-returns-clause-planes c = grind (arith, common_steps, none-left, arrays-none)
+unfolding with_arrays
+returns-clause-planes c = grind (arith, common_steps, none-left)

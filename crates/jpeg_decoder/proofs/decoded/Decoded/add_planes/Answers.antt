@@ -1,8 +1,8 @@
 use Rattle.std.proofs.Common.{◌≡◌, ◌∙◌, ap, rules, get_or, arith}
 use Rattle.jpeg_decoder.specs.declared.scan.Coded.{Coded}
 use Rattle.jpeg_bits.specs.BlockView.{pass_in}
-use Rattle.jpeg_decoder.specs.Steps.{with_decoded, with_its_plane}
-use Rattle.jpeg_decoder.proofs.PutLoops.{planes-step, none-left, planes-none}
+use Rattle.jpeg_decoder.specs.Steps.{with_decoded, with_its_plane, with_planes}
+use Rattle.jpeg_decoder.proofs.PutLoops.{planes-step, none-left}
 use Rattle.jpeg_decoder.proofs.decoded.Decoded.add_planes.Goals as goal
 use Rattle.std.proofs.lemmas.Grind.{common_steps}
 
@@ -28,4 +28,5 @@ loop-slot-preserved c =
     }
 
 pub returns-clause-planes : goal.returns-clause-planes
-returns-clause-planes c = grind (arith, common_steps, none-left, planes-none)
+unfolding with_planes
+returns-clause-planes c = grind (arith, common_steps, none-left)
