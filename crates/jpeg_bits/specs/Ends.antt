@@ -11,10 +11,7 @@ after_bytes zero bytes = bytes
 after_bytes (suc n) [] = []
 after_bytes (suc n) (b ∷ []) = []
 after_bytes (suc n) (b ∷ c ∷ bytes) =
-    elim (b == 0xFF) [
-      | true ↦ after_bytes n bytes
-      | false ↦ after_bytes n (c ∷ bytes)
-    ]
+    elim (b == 0xFF) [ true ↦ after_bytes n bytes | false ↦ after_bytes n (c ∷ bytes) ]
 
 -- the end that is met: its marker and the bytes after it, or its fault
 abbrev pub met : Ending → Outcome (Option Marker)

@@ -36,11 +36,7 @@ no_bits e = record { bits = []; following = []; ending = e }
 -- a byte in front of a text, where rest stands after the byte
 abbrev pub add_byte : ℕ → List ℕ → Text → Text
 add_byte b rest t =
-    record {
-      bits = bits_of b ++ t.bits;
-      following = replicate 8 rest ++ t.following;
-      ending = t.ending;
-    }
+    record t { bits = bits_of b ++ t.bits; following = replicate 8 rest ++ t.following }
 
 -- the end that a byte after FF makes, where rest stands after it
 abbrev pub ended_by : Option Marker → List ℕ → Ending

@@ -27,7 +27,6 @@ use Rattle.jpeg_streams.specs.Scans.{Arrays}
 use Rattle.jpeg_streams.specs.ScanSegments.{Coding}
 use Rattle.jpeg_streams.proofs.Apart.{at-all}
 use Rattle.jpeg_streams.proofs.Apart.{get-at}
-use Rattle.jpeg_streams.proofs.ReadTurns.{first-drop}
 use Rattle.jpeg_decoder.specs.GrowingView.{IsJointOf, IsOfShape}
 use Rattle.jpeg_decoder.specs.PlanesView.{IsFullJoint}
 use Rattle.jpeg_decoder.specs.Scanning.{components_in}

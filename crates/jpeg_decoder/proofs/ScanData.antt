@@ -36,7 +36,6 @@ use Rattle.jpeg_decoder.proofs.PlacedCodings.{coded-components}
 use Rattle.jpeg_decoder.proofs.PutLoops.{Held, blocks-are}
 use Rattle.jpeg_streams.proofs.Apart.{get-at}
 use Rattle.jpeg_streams.proofs.ScanArrays.{IsOf, zeros-of}
-use Rattle.jpeg_streams.proofs.ReadTurns.{first-drop}
 use Rattle.std.proofs.lemmas.Grind.{common_steps}
 use Rattle.std.proofs.Common.{rules}
 

@@ -25,8 +25,7 @@ picture_size f =
 -- those of the picture of a frame of blocks, by what `info` says of it
 abbrev pub HasBytes : CodingProcess → ImageInfo → List ℕ → Type 0
 HasBytes Lossless info pixels = Unit {0}
-HasBytes _ info pixels =
-    length pixels ≡ info.width * info.height * bytes_a_pixel info.pixel_format
+HasBytes _ info pixels = length pixels ≡ info.width * info.height * bytes_a_pixel info.pixel_format
 
 -- A picture has the bytes that its frame says, and one of blocks those that its format says.
 abbrev pub IsWhole : Option Frame → List ℕ → Type 0

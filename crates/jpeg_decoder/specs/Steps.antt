@@ -50,12 +50,7 @@ use Rattle.jpeg_decoder.specs.PlanesView.{planes_in}
 
 abbrev pub turn_of : State → Step → Turn
 turn_of s step =
-    record {
-      found = found_in s;
-      before = step.before;
-      met = step.met;
-      ended = step.ended;
-    }
+    record { found = found_in s; before = step.before; met = step.met; ended = step.ended }
 
 -- What a segment does to what was found before it, beside what it says. A refusal changes nothing
 -- that a caller is told; an image ends with a frame; a frame that was read stays; and what holds

@@ -23,8 +23,7 @@ joint_plane shape samples slot =
     + i % strip_size shape))) (range_with_len 0 (length samples / shape.count))
 
 unfoldable pub joint_planes : JointShape → List ℕ → List (List ℕ)
-joint_planes shape samples =
-    map (joint_plane shape samples) (range_with_len 0 shape.count)
+joint_planes shape samples = map (joint_plane shape samples) (range_with_len 0 shape.count)
 
 -- a line of each strip of a row of MCUs, as far as the picture goes
 unfoldable pub strip_lines : JointShape → ℕ → List ℕ → ℕ → List (List ℕ)

@@ -56,8 +56,7 @@ is_zero_at coefficients column k =
 
 -- below the first row, each coefficient of the column is 0
 unfoldable pub is_flat_column : List ℤ → ℕ → Bool
-is_flat_column coefficients column =
-    list_all (is_zero_at coefficients column) (range_with_len 0 7)
+is_flat_column coefficients column = list_all (is_zero_at coefficients column) (range_with_len 0 7)
 
 -- the columns are transformed first: the value at this row of the column
 unfoldable pub column_value : List ℤ → List ℕ → ℕ → ℕ → ℤ

@@ -45,13 +45,8 @@ defined_codes_at greatest left bytes = do
     _ ← check (nat_lt 0 n && (nat_le n 256 && nat_le (17 + n) left))
     symbols ← times n next_byte counts.1
     _ ← check (codes_exist (code_lengths counts.0))
-    Ok (
-      record {
-        destination = b.0 % 16;
-        table = record { class = class_of (b.0 / 16); counts = counts.0; symbols = symbols.0 };
-      },
-      symbols.1,
-    )
+    let table = record { class = class_of (b.0 / 16); counts = counts.0; symbols = symbols.0 } in
+      Ok (record { destination = b.0 % 16; table = table }, symbols.1)
 
 -- the tables with one more
 abbrev pub with_table : Tables → DefinedTable → Tables

@@ -71,11 +71,7 @@ destinations_at frame index bytes = do
       if nat_lt (greatest_destination (Some frame.is_baseline)) (destinations.0 % 16) then Err Malformed
       else
       Ok (
-        record {
-          component = index;
-          dc = destinations.0 / 16;
-          ac = destinations.0 % 16;
-        },
+        record { component = index; dc = destinations.0 / 16; ac = destinations.0 % 16 },
         destinations.1,
       ))
 

@@ -43,8 +43,7 @@ frame_at scale frame =
 -- A frame whose picture is to be at least so wide or so high. A lossless frame keeps its size.
 abbrev pub sized_by : CodingProcess → ℕ → ℕ → Frame → Frame
 sized_by Lossless width height frame = frame
-sized_by _ width height frame =
-    frame_at (scale_for frame.width frame.height width height) frame
+sized_by _ width height frame = frame_at (scale_for frame.width frame.height width height) frame
 
 abbrev pub sized : ℕ → ℕ → Frame → Frame
 sized width height frame = sized_by frame.process width height frame

@@ -183,7 +183,6 @@ pub record IsScanOf (frame : Frame) (s : Scan) : Type 0 where
   pub ac_length : length s.ac_destinations ≡ length s.components
   pub ac_destinations : All (λ d. d ≤ 3) s.ac_destinations
   pub coded : IsBandOf frame.process s.first s.after s.high s.low
-  pub legal :
-      is_band frame.process (length s.components) s.first (s.after - 1) s.high s.low ≡ true
+  pub legal : is_band frame.process (length s.components) s.first (s.after - 1) s.high s.low ≡ true
   pub below : s.low < frame.precision
   pub same_point : s.point_transform ≡ s.low

@@ -60,5 +60,4 @@ pub record IsScan (frame : Frame) (h : ScanHeader) : Type 0 where
 
 -- the scan that a header gives
 abbrev pub scan_written : Frame → ScanHeader → Scan
-scan_written frame h =
-    scan_of frame (selectors_in h) h.first h.last (nibbles h.high h.low)
+scan_written frame h = scan_of frame (selectors_in h) h.first h.last (nibbles h.high h.low)

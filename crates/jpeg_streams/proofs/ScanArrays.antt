@@ -19,7 +19,7 @@ use Rattle.jpeg_streams.proofs.Apart.{At, at-all, get-at, sized, zeros-sized}
 use Rattle.jpeg_streams.proofs.CountedScans.{frame-scans}
 use Rattle.jpeg_streams.proofs.McuRows.{scans-by-rows}
 use Rattle.jpeg_streams.proofs.BroughtLevels.{zero-at as zeros-at}
-use Rattle.jpeg_streams.proofs.ReadTurns.{codings-each, first-drop}
+use Rattle.jpeg_streams.proofs.ReadTurns.{codings-each}
 
 -- ---- codings
 

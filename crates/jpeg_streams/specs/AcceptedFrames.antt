@@ -21,8 +21,7 @@ IsUpsampled h c =
 -- A frame of 8 bits, with one, three or four components that can be upsampled.
 pub record HasPicture (h : FrameHeader) : Type 0 where
   pub precise : h.precision ≡ 8
-  pub counted :
-      (length h.components ≡ 1) ⊎ ((length h.components ≡ 3) ⊎ (length h.components ≡ 4))
+  pub counted : (length h.components ≡ 1) ⊎ ((length h.components ≡ 3) ⊎ (length h.components ≡ 4))
   pub upsampled : AllByRecursion (IsUpsampled h) h.components
 
 -- A frame header SOF3 of 2 to 16 bits, with one, three or four components that can be upsampled.
@@ -30,6 +29,5 @@ pub record HasSamples (number : ℕ) (h : FrameHeader) : Type 0 where
   pub lossless : number ≡ 3
   pub least : 2 ≤ h.precision
   pub most : h.precision ≤ 16
-  pub counted :
-      (length h.components ≡ 1) ⊎ ((length h.components ≡ 3) ⊎ (length h.components ≡ 4))
+  pub counted : (length h.components ≡ 1) ⊎ ((length h.components ≡ 3) ⊎ (length h.components ≡ 4))
   pub upsampled : AllByRecursion (IsUpsampled h) h.components

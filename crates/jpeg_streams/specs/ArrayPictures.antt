@@ -31,8 +31,7 @@ abbrev pub as_sent : Coefficients → (ℕ → Levels) → Coefficients
 as_sent array levels = λ index row column. cut (levels index) (array index row column)
 
 -- the picture of the coefficients of an image, as far as their bits were sent
-abbrev pub picture_of_array :
-    Settings → Found → Coefficients → (ℕ → Levels) → Result (List ℕ) Fault
+abbrev pub picture_of_array : Settings → Found → Coefficients → (ℕ → Levels) → Result (List ℕ) Fault
 picture_of_array settings said array levels = picture_of_blocks settings said (as_sent array levels)
 
 -- The meaning of a stream that says this and sends these levels: what a caller is given, the
@@ -69,6 +68,5 @@ HasTransform settings w (c ∷ d ∷ more) =
 pub record TakesPicture (settings : Settings) (w : Found) : Type 0 where
   pub frame : Frame
   pub is_said : w.frame ≡ Some frame
-  pub limit :
-      length frame.components * (frame.output_width * frame.output_height) ≤ settings.limit
+  pub limit : length frame.components * (frame.output_width * frame.output_height) ≤ settings.limit
   pub transform : HasTransform settings w frame.components

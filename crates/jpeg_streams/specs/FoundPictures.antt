@@ -66,8 +66,7 @@ picture_by_process Lossless settings found frame = samples_picture found frame
 picture_by_process _ settings found frame = blocks_picture settings found frame
 
 -- a picture of the frame that was found, where it is within the limit of the settings
-unfoldable pub limited
-    : Settings → Found → (Frame → Result (List ℕ) Fault) → Result (List ℕ) Fault
+unfoldable pub limited : Settings → Found → (Frame → Result (List ℕ) Fault) → Result (List ℕ) Fault
 limited settings found picture = do
   frame ← needed found.frame
   if nat_lt settings.limit (length frame.components * (frame.output_width * frame.output_height))

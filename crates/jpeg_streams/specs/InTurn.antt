@@ -50,10 +50,7 @@ interval_from p vias spots arrays bytes =
 abbrev pub next_interval : ℕ → (Arrays → List ℕ → Outcome (Arrays × Option Marker))
     → (Arrays × Option Marker) × List ℕ → Outcome (Arrays × Option Marker)
 next_interval k others r =
-    elim (is_restart k r.0.1) [
-      | true ↦ others r.0.0 r.1
-      | false ↦ Err Malformed
-    ]
+    elim (is_restart k r.0.1) [ true ↦ others r.0.0 r.1 | false ↦ Err Malformed ]
 
 -- one interval and more, between which RST stand in turn from number k on
 unfoldable pub intervals_from : Pass → List Via → ℕ → List Spot → List (List Spot) → Arrays → List ℕ

@@ -65,8 +65,7 @@ pub record IsLegal (p : Pass) (l : Levels) : Type 0 where
   pub dc_sent : p.ss ≡ 0 → p.is_first ≡ false → l.dc ≡ Some (suc p.al)
   pub dc_before : p.ss ≢ 0 → l.dc ≢ None
   pub acs_unsent : p.is_first ≡ true → AllByRecursion (λ x. x ≡ None) (band_of p l.acs)
-  pub acs_sent :
-      p.is_first ≡ false → AllByRecursion (λ x. x ≡ Some (suc p.al)) (band_of p l.acs)
+  pub acs_sent : p.is_first ≡ false → AllByRecursion (λ x. x ≡ Some (suc p.al)) (band_of p l.acs)
 
 -- The levels after the scan.
 abbrev pub sent_after : Pass → Levels → Levels

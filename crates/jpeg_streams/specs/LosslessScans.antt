@@ -29,13 +29,9 @@ mcus_down frame codings = ceiling frame.height (most_down frame.components)
 
 -- what an MCU has of a component: its factors, or one sample where it is alone
 abbrev pub part_of : ℕ → ℕ → LosslessCoding → Part
-part_of across down k = record {
-  table = k.table;
-  across = across;
-  down = down;
-  width = k.component.width;
-  height = k.component.height;
-}
+part_of across down k =
+    let c = k.component in
+    record { table = k.table; across = across; down = down; width = c.width; height = c.height }
 
 unfoldable pub parts_of : List LosslessCoding → List Part
 parts_of (k ∷ []) = part_of 1 1 k ∷ []
@@ -53,8 +49,7 @@ way_of frame predictor point codings = record {
 -- ---- tables
 
 -- the component at an index, with the table in force for its differences
-unfoldable pub lossless_coding :
-    List (Option Table) → Frame → ℕ → ℕ → Result LosslessCoding Fault
+unfoldable pub lossless_coding : List (Option Table) → Frame → ℕ → ℕ → Result LosslessCoding Fault
 lossless_coding tables frame index dc_destination = do
   component ← needed (slice_get frame.components index)
   table ← needed (slice_index_or tables dc_destination None)

@@ -31,11 +31,9 @@ own_spots g =
 
 -- The block in row v and column h of a component's part of the MCU in a row and a column.
 abbrev pub part_spot : ℕ → ℕ → ℕ → Component → ℕ → ℕ → Spot
-part_spot row column slot c v h = record {
-  slot = slot;
-  index =
-      (row * c.factors.vertical + v) * c.blocks_wide + (column * c.factors.horizontal + h);
-}
+part_spot row column slot c v h =
+    let line = (row * c.factors.vertical + v) * c.blocks_wide in
+    record { slot = slot; index = line + (column * c.factors.horizontal + h) }
 
 -- The part of a component in an MCU: as many rows as its vertical sampling factor, each of as many
 -- blocks as its horizontal one (A.2.3).

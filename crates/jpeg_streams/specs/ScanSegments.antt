@@ -151,10 +151,8 @@ blocks_after found frame codings arrays = if is_progressive frame.process
 
 unfoldable pub after_scan : Found → Frame → Scan → List Coding → Arrays → Found
 after_scan found frame scan codings arrays =
-    with_arrays (pass_of scan) codings arrays (record found {
-      scanned = true;
-      kept = blocks_after found frame codings arrays;
-    })
+    let kept = blocks_after found frame codings arrays in
+    with_arrays (pass_of scan) codings arrays (record found { scanned = true; kept = kept })
 
 -- The marker after a scan, where restart markers at its end are passed over, fewer than this many.
 unfoldable pub after_restarts : ℕ → Option Marker → List ℕ → Outcome (Option Marker)
@@ -188,11 +186,8 @@ scan_samples found frame scan codings bytes =
 -- The last scan of a component decides its samples.
 abbrev pub after_samples : Found → List LosslessCoding → List (List ℕ) → Found
 after_samples found codings planes =
-    record found {
-      scanned = true;
-      samples = with_samples (map (λ k. k.index) codings) planes
-          found.samples;
-    }
+    let samples = with_samples (map (λ k. k.index) codings) planes found.samples in
+    record found { scanned = true; samples = samples }
 
 -- A lossless scan. It has no quantization tables, and no default tables.
 unfoldable pub lossless_scan : Found → Frame → Scan → List ℕ → Outcome Turn

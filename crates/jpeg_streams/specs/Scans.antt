@@ -3,7 +3,7 @@ use Rattle.std.specs.Prelude.{ℕ, ◌*◌, List, [], fold, map, set, get_or, re
 use Rattle.jpeg_bits.specs.Reading.{Outcome, ◌>>=◌}
 use Rattle.jpeg_bits.specs.Codes.{Table}
 use Rattle.jpeg_bits.specs.declared.codes.HuffmanTableClass.{HuffmanTableClass}
-use Rattle.jpeg_bits.specs.declared.codes.HuffmanTableClass.TheVariants as classes
+use Rattle.jpeg_bits.specs.declared.codes.HuffmanTableClass.TheVariants.{DC, AC}
 use Rattle.jpeg_bits.specs.declared.marker.Marker.{Marker}
 use Rattle.jpeg_segments.specs.Frame.{Component}
 use Rattle.jpeg_bits.specs.Passes.{Pass, Via, Block, blocks_of, predictors_at_start, zero_block}
@@ -39,11 +39,8 @@ no_table class = record { class = class; counts = replicate 16 0; symbols = [] }
 
 -- how a block of a slot is coded, by the ways of the scan's slots
 abbrev pub via_at : List Via → ℕ → Via
-via_at vias slot = get_or vias slot (record {
-  component = slot;
-  dc = no_table classes.DC;
-  ac = no_table classes.AC;
-})
+via_at vias slot =
+    get_or vias slot (record { component = slot; dc = no_table DC; ac = no_table AC })
 
 -- the blocks at the spots, and how each is coded
 unfoldable pub turns_of : List Via → List Spot → (Spot → Block) → List (Via × Block)

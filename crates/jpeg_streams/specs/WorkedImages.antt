@@ -54,8 +54,7 @@ grey_bytes =
 
 -- a line of its picture, by the samples of the first block
 abbrev pub grey_line : List ℕ → List ℕ
-grey_line front =
-    front ++ (118 ∷ 119 ∷ 121 ∷ 123 ∷ 125 ∷ 127 ∷ 129 ∷ 130 ∷ [] ++ replicate 8 142)
+grey_line front = front ++ (118 ∷ 119 ∷ 121 ∷ 123 ∷ 125 ∷ 127 ∷ 129 ∷ 130 ∷ [] ++ replicate 8 142)
 
 abbrev pub grey_picture : List ℕ
 grey_picture =

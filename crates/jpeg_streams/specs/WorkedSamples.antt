@@ -76,8 +76,7 @@ three_picture = 129 ∷ 128 ∷ 128 ∷ 129 ∷ 128 ∷ 129 ∷ 128 ∷ 129 ∷ 
 -- Of three lines of three pixels the first component has a sample each, and the others are half as
 -- wide and high.
 unfoldable pub padded_samples : Samples
-padded_samples zero =
-    (129 ∷ 129 ∷ 128 ∷ []) ∷ (128 ∷ 129 ∷ 129 ∷ []) ∷ (128 ∷ 127 ∷ 127 ∷ []) ∷ []
+padded_samples zero = (129 ∷ 129 ∷ 128 ∷ []) ∷ (128 ∷ 129 ∷ 129 ∷ []) ∷ (128 ∷ 127 ∷ 127 ∷ []) ∷ []
 padded_samples (suc zero) = (128 ∷ 129 ∷ []) ∷ (127 ∷ 127 ∷ []) ∷ []
 padded_samples (suc (suc k)) = (127 ∷ 127 ∷ []) ∷ (129 ∷ 128 ∷ []) ∷ []
 
