@@ -56,8 +56,8 @@ adobe_name = codes "Adobe" ++ 0 ∷ []
 
 -- the part of an ICC profile in a payload
 abbrev pub chunk_of : List ℕ → Chunk
-chunk_of data =
-    record { number = slice_index data 12; count = slice_index data 13; bytes = drop 14 data }
+chunk_of bytes =
+    record { number = slice_index bytes 12; count = slice_index bytes 13; bytes = drop 14 bytes }
 
 -- What a payload says, by the number n of the marker APPn: the data of Exif, XMP and Photoshop is
 -- the rest, and a part of an ICC profile has at least one byte.

@@ -40,13 +40,13 @@ unfoldable pub defined_codes_at : ℕ → ℕ → List ℕ → Outcome DefinedTa
 defined_codes_at greatest left bytes = do
   b ← next_byte bytes
   _ ← check (nat_le (b.0 / 16) 1 && nat_le (b.0 % 16) greatest)
-  counts ← times 16 next_byte b.1
-  let n = sum counts.0 in do
+  c ← times 16 next_byte b.1
+  let n = sum c.0 in do
     _ ← check (nat_lt 0 n && (nat_le n 256 && nat_le (17 + n) left))
-    symbols ← times n next_byte counts.1
-    _ ← check (codes_exist (code_lengths counts.0))
-    let table = record { class = class_of (b.0 / 16); counts = counts.0; symbols = symbols.0 } in
-      Ok (record { destination = b.0 % 16; table = table }, symbols.1)
+    s ← times n next_byte c.1
+    _ ← check (codes_exist (code_lengths c.0))
+    let table : Table = record { class = class_of (b.0 / 16); counts = c.0; symbols = s.0 } in
+      Ok (record { destination = b.0 % 16; table = table }, s.1)
 
 -- the tables with one more
 abbrev pub with_table : Tables → DefinedTable → Tables
