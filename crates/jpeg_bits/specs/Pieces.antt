@@ -37,17 +37,18 @@ unfoldable pub corrected_from : ℕ → ℤ → Reads ℤ
 corrected_from al z =
     if is_zero z then gives z else (λ t. read_on (corrected_by al z) (bits_from 1 t))
 
--- A token, and its sign bit or the bits of its run.
+-- A token of run r and size s, and its sign bit or the bits of its run.
+abbrev pub refinement_by : ℕ → ℕ → ℕ → Text → Result (Refinement × Text) Fault
+refinement_by al r s t = if s == 0 then (if r == 15 then Ok (Zeros, t) else (do
+  e ← run_from r t
+  Ok (End e.0, e.1)))
+    else (if s == 1 then (do
+      sign ← bits_from 1 t
+      Ok (New r (new_number al sign.0), sign.1))
+    else Err Malformed)
+
 unfoldable pub refinement_from : Table → ℕ → Text → Result (Refinement × Text) Fault
-refinement_from table al t = do
-  c ← symbol_from table t
-  if c.0 % 16 == 0 then (if c.0 / 16 == 15 then Ok (Zeros, c.1) else (do
-    e ← run_from (c.0 / 16) c.1
-    Ok (End e.0, e.1)))
-      else (if c.0 % 16 == 1 then (do
-        sign ← bits_from 1 c.1
-        Ok (New (c.0 / 16) (new_number al sign.0), sign.1))
-      else Err Malformed)
+refinement_from table al t = symbol_from table t >>= λ c. refinement_by al (c.0 / 16) (c.0 % 16) c.1
 
 -- The piece of a token; `others` reads what is after it.
 unfoldable pub refined_piece_at : ℕ → ReadsBand → List ℤ → Refinement → Text

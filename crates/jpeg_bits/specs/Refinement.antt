@@ -56,15 +56,16 @@ with_last x numbers = set numbers (length numbers - 1) x
 -- through zero number r, counted from 0, the last of which becomes a new number; those through the
 -- sixteenth zero; or the rest.
 unfoldable pub refined_piece : ℕ → (List ℤ → Reads Band) → List ℤ → ℕ → ℕ → Reads Band
-refined_piece al others rest r zero =
+refined_piece al others rest r s =
+    if s == 0 then (
     if r == 15 then corrected al (take (through_zero 15 rest) rest) >>= (λ front.
     others (drop (through_zero 15 rest) rest) >>= (λ more. gives (before_more front more)))
-    else bits_from r >>= (λ e. corrected al rest >>= (λ all. gives (all, 2 ^ r - 1 + e)))
-refined_piece al others rest r (suc zero) =
-    bits_from 1 >>= (λ sign. corrected al (take (through_zero r rest) rest) >>= (λ front.
+    else bits_from r >>= (λ e. corrected al rest >>= (λ all. gives (all, 2 ^ r - 1 + e))))
+    else (if s == 1 then bits_from 1 >>= (λ sign.
+    corrected al (take (through_zero r rest) rest) >>= (λ front.
     others (drop (through_zero r rest) rest)
     >>= (λ more. gives (before_more (with_last (new_number al sign) front) more))))
-refined_piece al others rest r (suc (suc s)) = refused
+    else refused)
 
 -- The rest of a band, of at most n coefficients, cut into pieces, one a token.
 unfoldable pub refined_ac : Table → ℕ → ℕ → List ℤ → Reads Band

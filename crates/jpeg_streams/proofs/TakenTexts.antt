@@ -228,11 +228,8 @@ corrected-takes al band = search (rules, each-takes, bind-takes, if-takes, gives
 piece-takes : (al : ℕ) (others : List ℤ → Reads Band) (rest : List ℤ)
     → ((rest : List ℤ) → TakesBits (others rest)) → (r s : ℕ) → TakesBits (refined_piece al others rest r s)
 unfolding refined_piece
-piece-takes al others rest h r zero =
-    search (rules, if-takes, bind-takes, bits-takes, corrected-takes, gives-takes)
-piece-takes al others rest h r (suc zero) =
-    search (rules, bind-takes, bits-takes, corrected-takes, gives-takes)
-piece-takes al others rest h r (suc (suc s)) = refused-takes Band
+piece-takes al others rest h r s =
+    search (rules, if-takes, bind-takes, bits-takes, corrected-takes, gives-takes, refused-takes) depth 8
 
 refined_ac-takes : (table : Table) (al n : ℕ) (rest : List ℤ) → TakesBits (refined_ac table al n rest)
 unfolding refined_ac
