@@ -29,11 +29,11 @@ use Rattle.jpeg_segments.specs.WrittenSegments.{Header, Huffman, IsFrameHeader, 
 use Rattle.jpeg_segments.specs.WrittenSegments.{payload_of, with_length, u16_bytes}
 use Rattle.jpeg_lossless.specs.Prediction.{residue, start_of}
 use Rattle.jpeg_lossless.specs.Differences.{Part, lines_in, mcu_tables, row_tables, strand, strands}
-use Rattle.jpeg_lossless.specs.Scans.{lines_by_component, rows_of_interval, Way}
+use Rattle.jpeg_lossless.specs.Scans.{lines_by_component, rows_of_interval}
 use Rattle.jpeg_lossless.specs.SampleDifferences.{AreLines, AreSamples, differences_below, differences_of}
 use Rattle.jpeg_lossless.specs.SampleDifferences.{first_differences, rest_differences}
 use Rattle.jpeg_lossless.specs.Written.{WritesRows, WritesSampleDifference}
-use Rattle.jpeg_bits.specs.Written.{WritesEach, WritesInterval}
+use Rattle.jpeg_bits.specs.Written.{WritesEach}
 use Rattle.jpeg_bits.specs.Written.WritesEach.{none, one}
 use Rattle.jpeg_bits.specs.Written.WritesIntervals.{last}
 use Rattle.jpeg_lossless.proofs.Inverse.{all_back}

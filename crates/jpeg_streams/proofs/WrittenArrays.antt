@@ -1,17 +1,17 @@
 -- A scan that was written is read at each of its spots.
-use Rattle.std.proofs.Common.{rules, ◌≡◌, ℕ, List, [], ◌∷◌, ◌++◌, map, Option, Some, Ok, refl, sym, ap, ◌∙◌, subst}
+use Rattle.std.proofs.Common.{◌≡◌, ℕ, List, ◌++◌, map, Option, Some, Ok, ap}
 use Rattle.std.proofs.lemmas.Simd.{map-map}
 use Rattle.std.specs.List.{AllByRecursion}
 use Rattle.jpeg_bits.proofs.ReadIntervals.{all-map}
 use Rattle.jpeg_bits.specs.Reading.{Outcome, ◌>>=◌}
 use Rattle.jpeg_bits.specs.declared.marker.Marker.{Marker}
-use Rattle.jpeg_bits.specs.Passes.{Pass, Via, Block, blocks_of, predictors_at_start}
-use Rattle.jpeg_bits.specs.Intervals.{intervals, first_group, other_groups}
+use Rattle.jpeg_bits.specs.Passes.{Pass, Via, Block, predictors_at_start}
+use Rattle.jpeg_bits.specs.Intervals.{first_group, other_groups}
 use Rattle.jpeg_streams.specs.Order.{Spot}
 use Rattle.jpeg_streams.specs.Scans.{Arrays, block_at, put_blocks, via_at, turns_of, arrays_at}
 use Rattle.jpeg_streams.specs.WrittenData.{WritesBlocks}
 use Rattle.jpeg_bits.specs.Written.{marker, IsMarker, WritesIntervals}
-use Rattle.jpeg_streams.proofs.SentBlocks.{after_pass, reads_of, numbers_of}
+use Rattle.jpeg_streams.proofs.SentBlocks.{after_pass}
 use Rattle.jpeg_streams.proofs.WrittenBlocks.{IsReady}
 use Rattle.jpeg_streams.proofs.WrittenIntervals.{reads-scan}
 
