@@ -7,13 +7,13 @@ use Rattle.jpeg_lossless.specs.Scans.{Way, scan_at}
 use Rattle.jpeg_streams.proofs.Shorter.{below_steps, LeavesBelow}
 use Rattle.jpeg_streams.proofs.ShorterScans.{intervals-below}
 use Rattle.jpeg_streams.proofs.TakenTexts.{TakesBits, bind-takes, each-takes, gives-takes}
-use Rattle.jpeg_streams.proofs.TakenTexts.{refused-takes, elim-takes}
+use Rattle.jpeg_streams.proofs.TakenTexts.{refused-takes, if-takes}
 use Rattle.jpeg_streams.proofs.TakenTexts.{signed-takes, symbol-takes}
 
 difference-takes : (table : Table) → TakesBits (sample_difference table)
 unfolding sample_difference
 difference-takes table =
-    search (rules, bind-takes, symbol-takes, elim-takes, signed-takes, gives-takes, refused-takes ℕ)
+    search (rules, bind-takes, symbol-takes, if-takes, signed-takes, gives-takes, refused-takes ℕ)
 
 rows-take : (rows : List (List Table)) → TakesBits (interval_rows rows)
 unfolding interval_rows

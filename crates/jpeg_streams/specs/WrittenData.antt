@@ -2,7 +2,7 @@
 -- coding leaves a choice, as how far a run of blocks goes, each choice is one that may be written.
 use Rattle.std.specs.Prelude.{◌≡◌, ◌≢◌, ℕ, suc, ◌+◌, ◌-◌, ◌*◌, ◌%◌, ◌^◌, ◌<◌, ◌≤◌}
 use Rattle.std.specs.Prelude.{Bool, true, false, List, [], ◌∷◌, ◌++◌, replicate, get_or, set}
-use Rattle.std.specs.Prelude.{ℤ, pos, negsuc, ◌-ℤ◌, unsigned_abs, nat_le, not, map, filter}
+use Rattle.std.specs.Prelude.{length, ℤ, pos, negsuc, ◌-ℤ◌, unsigned_abs, nat_le, not, map, filter}
 use Rattle.std.specs.List.{AllByRecursion}
 use Rattle.jpeg_bits.specs.Codes.{Table}
 use Rattle.jpeg_bits.specs.Passes.{Pass, Via, Block, band_of}
