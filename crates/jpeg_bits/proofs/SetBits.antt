@@ -34,7 +34,7 @@ pub or_none : (al : ℕ) (z : ℤ) (b : ℕ) → b ≡ 0 → or_bit al z b ≡ z
 or_none al z b e = grind arith
 
 pub or_kept : (al : ℕ) (z : ℤ) (b : ℕ) → (bit_of al z == 0) ≡ false → or_bit al z b ≡ z
-or_kept al z b e = ap (λ (t : Bool). elim t as (λ _. ℤ) [ true ↦ z +ℤ pos (b * 2 ^ al) | false ↦ z ]) e
+or_kept al z b e = rw (e, or_bit) refl
 
 after : (n k : ℕ) → n < 32768 → k < 32768 → FitsSigned w16 (negsuc n +ℤ pos k)
 after n k h i = grind (arith, cases_lt)

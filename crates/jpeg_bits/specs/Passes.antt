@@ -53,7 +53,7 @@ with_band p acs band = take (before_band p) acs ++ (band ++ drop (before_band p 
 
 -- a number with a bit put to it as its bit al, where that is not set yet
 abbrev pub or_bit : ℕ → ℤ → ℕ → ℤ
-or_bit al z b = elim (bit_of al z == 0) [ true ↦ z +ℤ pos (b * 2 ^ al) | false ↦ z ]
+or_bit al z b = if bit_of al z == 0 then z +ℤ pos (b * 2 ^ al) else z
 
 -- The DC coefficient and the next predictor. A refinement has one bit.
 unfoldable pub dc_part : Pass → Table → ℤ → ℤ → Reads (ℤ × ℤ)

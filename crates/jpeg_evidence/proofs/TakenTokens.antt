@@ -1,9 +1,9 @@
 -- The bits that were taken of a token are those that are written for it.
-use Rattle.std.proofs.Common.{◌≡◌, ℕ, zero, suc, ◌+◌, ◌-◌, ◌/◌, ◌%◌, ◌^◌, Bool, true, false, List, []}
-use Rattle.std.proofs.Common.{refl, arith, Ok, leb, ltb, eqb, ℤ, if◌then◌else◌}
+use Rattle.std.proofs.Common.{◌≡◌, ℕ, zero, suc, ◌+◌, ◌-◌, ◌/◌, ◌%◌, ◌^◌, Bool, List, []}
+use Rattle.std.proofs.Common.{arith, Ok, leb, ltb, eqb, ℤ}
 use Rattle.std.proofs.lemmas.Bool.{ltb-false, eqb-true, eqb-false}
 use Rattle.jpeg_bits.specs.Entropy.{Text, bits_from}
-use Rattle.jpeg_bits.specs.Readers.{Reads, gives, signed_from, ◌>>=◌}
+use Rattle.jpeg_bits.specs.Readers.{Reads, signed_from}
 use Rattle.jpeg_bits.specs.Codes.{Table, IsTable, code_from}
 use Rattle.jpeg_bits.specs.Bands.{token_at, token_from}
 use Rattle.jpeg_bits.specs.Written.{IsCoded}

@@ -9,8 +9,6 @@ use Rattle.jpeg_bits.specs.Entropy.{advance, bits_from, has_bits, number_of, Bro
 use Rattle.jpeg_bits.specs.Readers.{Reads, each, read_on, gives, refused, signed_from, text, ◌>>=◌}
 use Rattle.jpeg_bits.specs.Codes.{Table, code_by, code_from, code_in, code_lengths, next_16}
 use Rattle.jpeg_bits.specs.Codes.{symbol_from}
-use Rattle.std.specs.Prelude.{◌==◌, nat_lt}
-use Rattle.std.proofs.lemmas.Grind.{common_steps}
 use Rattle.jpeg_bits.specs.Bands.{Band, after_token, difference, first_ac, first_dc, token_at, token_from}
 use Rattle.jpeg_bits.specs.Refinement.{corrected, corrected_by, refined_ac, refined_piece}
 use Rattle.jpeg_bits.specs.Passes.{Block, Pass, Via, band_part, block_from, blocks_of, dc_part}

@@ -1,7 +1,7 @@
 -- What successive approximation sends of a block, and which scans may follow (T.81, G.1.1 and
 -- G.1.2). A level is a point transform Al: at level a, the bits above the a lowest are sent.
 use Rattle.std.specs.Prelude.{◌≡◌, ◌≢◌, ℕ, suc, ◌/◌, ◌^◌, ◌≤◌, ◌==◌, true, false}
-use Rattle.std.specs.Prelude.{List, map, length, replicate, zip, Option, Some, None}
+use Rattle.std.specs.Prelude.{List, map, length, replicate, zip, Option, Some, None, if◌then◌else◌}
 use Rattle.std.specs.Prelude.{ℤ, pos, negsuc, neg_ℤ, ◌*ℤ◌, ◌≤ℤ◌, unsigned_abs}
 use Rattle.std.specs.List.{AllByRecursion}
 use Rattle.jpeg_bits.specs.Passes.{Pass, Block, band_of, with_band}
@@ -70,6 +70,6 @@ pub record IsLegal (p : Pass) (l : Levels) : Type 0 where
 -- The levels after the scan.
 abbrev pub sent_after : Pass → Levels → Levels
 sent_after p l = record {
-  dc = elim (p.ss == 0) as (λ _. Option ℕ) [ true ↦ Some p.al | false ↦ l.dc ];
+  dc = if p.ss == 0 then Some p.al else l.dc;
   acs = with_band p l.acs (replicate (length (band_of p l.acs)) (Some p.al));
 }
