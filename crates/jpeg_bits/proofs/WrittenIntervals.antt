@@ -1,7 +1,7 @@
 -- Intervals that were written are read again, by whatever reads their bits.
-use Rattle.std.proofs.Common.{rules, ◌≡◌, ◌≢◌, ℕ, zero, suc, ◌+◌, ◌%◌, ◌<◌, ◌≤◌, Bool, true, false, List}
+use Rattle.std.proofs.Common.{rules, ◌≡◌, ◌≢◌, ℕ, zero, suc, ◌+◌, ◌%◌, ◌<◌, ◌≤◌, Bool, false, List}
 use Rattle.std.proofs.Common.{[], ◌∷◌, ◌++◌, length, drop, map, replicate, Option, Some, None, Ok, refl, sym}
-use Rattle.std.proofs.Common.{ap, ap₂, ◌∙◌, arith, eqb, length-append, length-drop, append_assoc, append-nil, subst, take-append-drop}
+use Rattle.std.proofs.Common.{ap, ap₂, ◌∙◌, arith, eqb, length-append, length-drop, append_assoc, append-nil, take-append-drop}
 use Rattle.std.proofs.lemmas.Bool.{eq-eqb, eqb-true}
 use Rattle.std.proofs.lemmas.Bool.Decides.{nat_tests}
 use Rattle.std.proofs.lemmas.Grind.{common_steps}
@@ -93,19 +93,8 @@ module _ (fill code : ℕ) (m : Marker) (rest : List ℕ) (h : IsMarker code m) 
   stuffed-text [] =
       rw (marker-text fill code m rest h)
       (record { bits_are = refl; ends_so = refl; following_are = refl })
-  stuffed-text (b ∷ bytes) = go (eqb b 0xFF) refl (stuffed-text bytes)
-    where
-      go : (t : Bool) → eqb b 0xFF ≡ t → AreTheirBits bytes → AreTheirBits (b ∷ bytes)
-      go true e is =
-          let more = stuffed bytes ++ marker fill code rest in
-          rw (e, stuffed, stuffed-byte more, eqb-true b 0xFF e)
-          (text-byte 255 more (text_at more) (bits_of_bytes bytes) (Found m rest) is)
-      go false e is =
-          let more = stuffed bytes ++ marker fill code rest in
-          let some : 0 < length more
-          = omega (arith, length-append (stuffed bytes) (marker fill code rest)) in
-          rw (e, stuffed, plain-text b more e some)
-          (text-byte b more (text_at more) (bits_of_bytes bytes) (Found m rest) is)
+  stuffed-text (b ∷ bytes) =
+      search (rules, stuffed-byte, plain-text, text-byte, length-append, eqb-true, stuffed-text bytes)
 
 end-met : (following : List (List ℕ)) (m : Marker) (rest : List ℕ) → length following ≡ 0
     → marker_by following (Found m rest) ≡ Ok (Some m, rest)
@@ -205,8 +194,7 @@ groups-of-map {A} {B} f n xs =
 groups-all : {A : Type 0} (Q : A → Type 0) (turns n : ℕ) (xs : List A) → AllByRecursion Q xs
     → AllByRecursion (AllByRecursion Q) (groups turns n xs)
 unfolding groups
-groups-all Q (suc turns) n (x ∷ xs) h =
-    (all-take Q n (x ∷ xs) h, groups-all Q turns n (drop n (x ∷ xs)) (all-drop Q n (x ∷ xs) h))
+groups-all Q (suc turns) n (x ∷ xs) h = search (rules, all-take, all-drop, groups-all Q turns n)
 groups-all Q turns n xs h = search rules
 
 pub first-all : {A : Type 0} (Q : A → Type 0) (n : ℕ) (xs : List A) → AllByRecursion Q xs
@@ -247,11 +235,6 @@ module _ {X A B C : Type 0} (read : List A → Reads (List C)) (writes : List B 
       → intervals read 0 (first_group n (map f xs)) (other_groups n (map f xs)) (bytes ++ marker fill code rest)
       ≡ Ok ((h (first_group n xs) ++ flat_map h (other_groups n xs), Some m), rest)
   reads-groups n xs bytes all w =
-      let written = subst (λ (l : List B). WritesIntervals writes 0 l (map (map g) (other_groups n xs)) bytes)
-      (sym (first-map g n xs)) (search (rules, others-map)) in
-      cc (
-        first-map f n xs,
-        others-map f n xs,
-        reads-intervals 0 (first_group n xs) (other_groups n xs) bytes (first-all P n xs all) (others-all P n xs all)
-            written,
-      )
+      rw (← first-map f n xs, ← others-map f n xs)
+      (reads-intervals 0 (first_group n xs) (other_groups n xs) bytes (first-all P n xs all) (others-all P n xs all)
+      (rw (first-map g n xs, others-map g n xs) w))
