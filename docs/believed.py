@@ -32,7 +32,7 @@ LAWS = {
 STREAMS = {
     "known_streams": """jpeg_bits Reading Marker Entropy Readers Codes Bands Passes Intervals,
         jpeg_segments Checks Quantization HuffmanTables Frame ScanHeader, jpeg_pixels Samples Planes,
-        jpeg_streams Order Scans Rasters Needed Found Segments ScanSegments FoundPictures Stream""",
+        jpeg_streams Order Scans Rasters Found Segments ScanSegments FoundPictures Stream""",
     "known_scans": """jpeg_bits Refinement, jpeg_segments Scales, jpeg_pixels Scaled Upsampling
         Pictures, jpeg_streams Order Scans ColourChoice""",
     "known_images": "jpeg_bits Refinement, jpeg_pixels Upsampling Pictures",

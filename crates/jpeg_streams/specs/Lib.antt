@@ -2,7 +2,6 @@
 pub mod Order
 pub mod Scans
 pub mod Rasters
-pub mod Needed
 pub mod LosslessScans
 pub mod ColourChoice
 pub mod Found
