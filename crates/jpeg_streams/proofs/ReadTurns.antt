@@ -35,9 +35,6 @@ use Rattle.jpeg_streams.specs.SaidSegments.{Stands, found_after}
 use Rattle.jpeg_streams.specs.Stream.{segment_at, segments_at, end_segment, turn_at, walk}
 use Rattle.jpeg_bits.specs.declared.codes.HuffmanTableClass.TheVariants as classes
 use Rattle.jpeg_segments.specs.declared.parser.CodingProcess.TheVariants.{Lossless}
-use Rattle.jpeg_streams.specs.WrittenScans.{Coefficients}
-use Rattle.jpeg_streams.specs.WrittenImages.{Writes, closed, segment, scan}
-use Rattle.jpeg_streams.specs.Levels.{Levels}
 use Rattle.jpeg_bits.specs.Written.{marker}
 use Rattle.jpeg_lossless.specs.Written.{IsMarker}
 pub use Rattle.jpeg_segments.proofs.Codecs.{err-ok, ok-same, bind-ok}
@@ -137,7 +134,7 @@ scan-turn before found rest = refl
 abbrev pub IsEnd : Marker → Type 0
 IsEnd m = (turns : ℕ) (bytes : List ℕ) → after_restarts (suc turns) (Some m) bytes ≡ Ok (Some m, bytes)
 
-pub record Starts (bytes : List ℕ) : Type 0 where
+pub record Begins (bytes : List ℕ) : Type 0 where
   pub fill : ℕ
   pub code : ℕ
   pub m : Marker
@@ -147,16 +144,16 @@ pub record Starts (bytes : List ℕ) : Type 0 where
   pub ends : IsEnd m
 
 pub segment-starts : (frame : Option Frame) (fill : ℕ) (s : Segment) (more : List ℕ) → MayStand frame s
-    → Starts (marker fill (marker_code s) (with_length (payload_of s) ++ more))
+    → Begins (marker fill (marker_code s) (with_length (payload_of s) ++ more))
 unfolding after_restarts
 segment-starts frame fill s more may = grind (arith, common_steps, segment-marker)
 
-pub scan-starts : (fill : ℕ) (after : List ℕ) → Starts (marker fill 218 after)
+pub scan-starts : (fill : ℕ) (after : List ℕ) → Begins (marker fill 218 after)
 unfolding marker_of after_restarts
 scan-starts fill after =
     record { fill = fill; code = 218; m = SOS; after = after; is = refl; makes = refl; ends = λ turns bytes. refl }
 
-pub end-starts : (fill : ℕ) (after : List ℕ) → Starts (marker fill 217 after)
+pub end-starts : (fill : ℕ) (after : List ℕ) → Begins (marker fill 217 after)
 unfolding marker_of after_restarts
 end-starts fill after =
     record { fill = fill; code = 217; m = EOI; after = after; is = refl; makes = refl; ends = λ turns bytes. refl }
@@ -235,30 +232,6 @@ is-other said frame s e may = grind (arith, common_steps, frame-or, some-none)
 
 pub same-frame : (a b : Frame) (o : Option Frame) → o ≡ Some a → o ≡ Some b → a ≡ b
 same-frame a b o e f = let s : ◌≡◌ {A = Option Frame} (Some a) (Some b) = sym e ∙ f in cc
-
--- a frame that is said stays to the end
-pub frame-kept : (array : Coefficients) (said final : Found) (levels last : ℕ → Levels) (scanned : Bool)
-    (bytes : List ℕ) (f : Frame)
-    → Writes array said levels scanned bytes final last → said.frame ≡ Some f → final.frame ≡ Some f
-frame-kept array said final levels last scanned bytes f (closed said' levels' g fill framed tables complete) e = e
-frame-kept array said final levels last scanned bytes f
-    (segment said' final' levels' last' scanned' fill s more may dct follows w) e =
-    frame-kept array (found_after said s) final levels last scanned more f w
-    (frame-stays said s (is-other said f s e may) ∙ e)
-frame-kept array said final levels last scanned bytes f
-    (scan said' final' levels' last' scanned' g fill h codings data_bytes more framed is legal written w) e =
-    search (rules, frame-kept array said final _ last true more f w e)
-
-pub writes-starts : (array : Coefficients) (said final : Found) (levels last : ℕ → Levels) (scanned : Bool)
-    (bytes : List ℕ) → Writes array said levels scanned bytes final last → Starts bytes
-writes-starts array said final levels last scanned bytes (closed said' levels' f fill framed tables complete) =
-    end-starts fill []
-writes-starts array said final levels last scanned bytes
-    (segment said' final' levels' last' scanned' fill s more may dct follows w) =
-    search (rules, segment-starts)
-writes-starts array said final levels last scanned bytes
-    (scan said' final' levels' last' scanned' f fill h codings data_bytes more framed is legal written w) =
-    search (rules, scan-starts)
 
 -- ---- the tables of a scan
 

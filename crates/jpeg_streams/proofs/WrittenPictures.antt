@@ -26,10 +26,9 @@ use Rattle.jpeg_segments.specs.Checks.{needed}
 use Rattle.jpeg_streams.specs.FoundPictures.{planes_from, plane_at_end, picture_of, blocks_picture}
 use Rattle.jpeg_streams.specs.FoundPictures.{picture_by, picture_in}
 use Rattle.jpeg_streams.specs.ScanSegments.{plane_by, is_progressive}
-use Rattle.jpeg_streams.specs.Found.{Found, Metadata, nothing_found}
+use Rattle.jpeg_streams.specs.Found.{Found, Metadata}
 use Rattle.jpeg_segments.specs.declared.parser.CodingProcess.TheVariants.{Lossless}
-use Rattle.jpeg_streams.specs.Stream.{rest_at, meaning, start_at, segments_at, told_of, walk}
-use Rattle.jpeg_streams.specs.declared.before.Before.TheVariants.{Elsewhere}
+use Rattle.jpeg_streams.specs.Stream.{meaning, told_of}
 use Rattle.jpeg_streams.specs.Levels.{Levels, Is8Bit, cut}
 use Rattle.jpeg_streams.proofs.FinishedIndices.{is_level_0}
 use Rattle.jpeg_streams.specs.WrittenScans.{Coefficients, HasTable, IsComplete}
@@ -41,11 +40,11 @@ use Rattle.jpeg_streams.specs.WrittenImages.{WritesImage}
 use Rattle.jpeg_streams.proofs.OwnSpots.{At, at-within, Fits, in-below}
 use Rattle.jpeg_streams.proofs.WrittenFrameScans.{HoldsOwn, in-all}
 use Rattle.jpeg_streams.proofs.Apart.{at-all}
-use Rattle.jpeg_streams.proofs.ReadStates.{reading, is_whole}
+use Rattle.jpeg_streams.proofs.ReadStates.{is_whole}
 use Rattle.jpeg_streams.proofs.BroughtLevels.{Made, Shaped, kept-arrays}
-use Rattle.jpeg_streams.proofs.ReadTurns.{segments-walked, then-ok}
-use Rattle.jpeg_streams.proofs.FrameShapes.{below-ceiling, accepted-sources}
-use Rattle.jpeg_streams.proofs.ReadStreams.{Ended, scans-read, stream-read}
+use Rattle.jpeg_streams.proofs.ReadTurns.{then-ok}
+use Rattle.jpeg_streams.proofs.FrameShapes.{below-ceiling}
+use Rattle.jpeg_streams.proofs.ReadStreams.{Brought, Ended, image-ended, image-walked, IsDrawn, with_brought}
 use Rattle.jpeg_streams.proofs.InsidePictures.{SamePlane, AllAlike, image-same, cropped-same}
 
 -- ---- one plane
@@ -140,9 +139,9 @@ unfolding plane_at_end
 end-kept found f k c table n p s t = search (rules, then-ok)
 
 module _ (f : Frame) (array : Coefficients) (final : Found) (last : ℕ → Levels) (shape : Shaped f)
-    (end : Ended f array final last) where
+    (x : Brought) (end : Ended f array final last x) where
   abbrev found : Found
-  found = reading final true end.kept end.finished end.planes
+  found = with_brought final x
 
   plane-end : (k : ℕ) (c : Component) → At k f.components c → PlaneAtEnd found f array (last k) k c
   plane-end k c t = go (is_whole (last k)) refl (is_progressive f.process) refl
@@ -164,11 +163,10 @@ module _ (f : Frame) (array : Coefficients) (final : Found) (last : ℕ → Leve
           record {
             table = q.table;
             is_table = q.is;
-            blocks = get_or end.kept k [];
+            blocks = get_or x.0 k [];
             holds = subst (λ (a : Arrays). HoldsOwn (grid_of c) (array k) (last k) (get_or a k []))
-                (kept-arrays final end.kept end.finished end.planes f g) ((end.framed.kept g).each
-                k c t);
-            is = end-kept found f k c q.table n g refl q.is;
+                (kept-arrays final x.0 x.1 x.2 f g) ((end.framed.kept g).each k c t);
+            is = end-kept found f k c q.table n g end.scanned q.is;
           }
       go false e false g =
           let all = in-all (λ (j : ℕ). IsComplete (last j)) (range_with_len 0 (length f.components)) k (end.complete g)
@@ -252,24 +250,14 @@ unfolding picture_of_blocks
 blocks-picture settings w blocks f planes e p = search (rules, then-ok)
 
 pub pictures-same : (settings : Settings) (f : Frame) (array : Coefficients) (final : Found) (last : ℕ → Levels)
-    → Shaped f → (end : Ended f array final last)
-    → picture_of settings (reading final true end.kept end.finished end.planes)
-    ≡ picture_of_array settings final array last
-pictures-same settings f array final last shape end =
-    let b = planes-end f array final last shape end (scale-made f shape.made) 0 f.components
+    (x : Brought) → Shaped f → Ended f array final last x
+    → picture_of settings (with_brought final x) ≡ picture_of_array settings final array last
+pictures-same settings f array final last x shape end =
+    let b = planes-end f array final last shape x end (scale-made f shape.made) 0 f.components
     (λ j c t. let start : 0 + j ≡ j = omega arith in subst (λ (n : ℕ). At n f.components c) (sym start) t) in
-    found-picture settings (reading final true end.kept end.finished end.planes) f b.ours
-    shape.lossy end.frame_is
-    b.ours_are
+    found-picture settings (with_brought final x) f b.ours shape.lossy end.frame_is b.ours_are
     ∙ (search (rules, picture-by-same))
     ∙ sym (blocks-picture settings final (as_sent array last) f b.theirs end.frame_is b.theirs_are)
-
-pub rest-by : (settings : Settings) (found all : Found) (bytes rest : List ℕ)
-    → walk (suc (length bytes)) false Elsewhere found None bytes ≡ (all, Ok rest)
-    → rest_at settings found bytes ≡ (picture_of settings all >>= (λ picture. Ok ((told_of all, picture), rest)))
-unfolding rest_at
-rest-by settings found all bytes rest e =
-    then-ok (segments_at false Elsewhere found None bytes) _ (all, rest) _ (segments-walked _ _ _ _ _ _ e) refl
 
 -- The meaning of a written stream is the picture of its array, cut at the levels that were sent.
 pub stream-means : (settings : Settings) (array : Coefficients) (bytes rest : List ℕ) (final : Found)
@@ -278,15 +266,11 @@ pub stream-means : (settings : Settings) (array : Coefficients) (bytes rest : Li
     last
     → meaning settings (bytes ++ rest)
     ≡ (picture_of_array settings final array last >>= (λ picture. Ok ((told_of final, picture), rest)))
-unfolding meaning
 stream-means settings array bytes rest final last range w =
-    let r = stream-read array rest bytes final last w in
-    let s = scans-read array rest final last _ _ range r.header in
-    let all = reading final true s.end.kept s.end.finished s.end.planes in
-    (then-ok (start_at (bytes ++ rest)) _ (tt, r.rest) _ r.starts refl)
-    ∙ rest-by settings nothing_found all r.rest rest s.is
-    ∙ ap (λ (o : Result (List ℕ) Fault). o >>= (λ (picture : List ℕ). Ok ((told_of final, picture), rest)))
-    (pictures-same settings r.header.frame array final last r.header.shape s.end)
+    let r = image-walked array range bytes rest final last settings w in
+    r.1 ∙ ap (λ (o : Result (List ℕ) Fault). o >>= (λ (picture : List ℕ). Ok ((told_of final, picture), rest)))
+    (pictures-same settings r.0.frame array final last r.0.brought (r.0.said.shaped r.0.frame r.0.framed).0
+    (image-ended array final last r.0))
 
 -- ---- there is a picture
 
@@ -316,18 +300,16 @@ picture-there settings w f components ours planes sources t e h = absurd h
 
 -- The picture of an array that is taken.
 pub pictures-taken : (settings : Settings) (array : Coefficients) (final : Found) (last : ℕ → Levels) (f : Frame)
-    (sources : List Source) → Shaped f → Ended f array final last
-    → sources_of f.components f.output_width f.output_height ≡ Ok sources → TakesPicture settings
-    final
-    → (picture : List ℕ) × (picture_of_array settings final array last ≡ Ok picture)
-pictures-taken settings array final last f sources shape end is takes =
+    (x : Brought) → IsDrawn f → Ended f array final last x
+    → TakesPicture settings final → (picture : List ℕ) × (picture_of_array settings final array last ≡ Ok picture)
+pictures-taken settings array final last f x drawn end takes =
     let same : takes.frame ≡ f = cc in
-    let b = planes-end f array final last shape end (scale-made f shape.made) 0 f.components
+    let b = planes-end f array final last drawn.0 x end (scale-made f drawn.0.made) 0 f.components
     (λ j c t. let start : 0 + j ≡ j = omega arith in subst (λ (n : ℕ). At n f.components c) (sym start) t) in
     let limit = subst (λ (g : Frame). length g.components * (g.output_width * g.output_height) ≤ settings.limit) same
     takes.limit in
-    let picture = picture-there settings final f f.components b.ours b.theirs sources
-    (subst (λ (g : Frame). HasTransform settings final g.components) same takes.transform) is b.alike in (
+    let picture = picture-there settings final f f.components b.ours b.theirs drawn.1.0
+    (subst (λ (g : Frame). HasTransform settings final g.components) same takes.transform) drawn.1.1 b.alike in (
       picture.0,
       blocks-picture settings final (as_sent array last) f b.theirs end.frame_is b.theirs_are
           ∙ (rw (le-ltb settings.limit (length f.components * (f.output_width * f.output_height)) limit) refl)
@@ -342,11 +324,9 @@ pub taken-means : (settings : Settings) (array : Coefficients) (bytes rest : Lis
     → (picture : List ℕ) × (picture_of_array settings final array last ≡ Ok picture)
     × (meaning settings (bytes ++ rest) ≡ Ok ((told_of final, picture), rest))
 taken-means settings array bytes rest final last range w takes =
-    let r = stream-read array rest bytes final last w in
-    let f = r.header.frame in
-    let s = scans-read array rest final last _ _ range r.header in
-    let sources = accepted-sources f f r.header.is_accepted in
-    let p = pictures-taken settings array final last f sources.0 r.header.shape s.end sources.1 takes in (
+    let r = (image-walked array range bytes rest final last settings w).0 in
+    let p = pictures-taken settings array final last r.frame r.brought (r.said.shaped r.frame r.framed)
+    (image-ended array final last r) takes in (
       p.0,
       p.1,
       stream-means settings array bytes rest final last range w
