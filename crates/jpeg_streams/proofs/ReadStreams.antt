@@ -2,7 +2,7 @@
 use Rattle.std.proofs.Common.{rules, ◌≡◌, ℕ, ◌≤◌, Bool, true, false, List, [], ◌++◌, length, replicate, Option, Some, None, Ok}
 use Rattle.std.proofs.Common.{refl, sym, ap, ◌∙◌, subst, true≢false}
 use Rattle.std.specs.List.{AllByRecursion}
-use Rattle.jpeg_bits.specs.Reading.{◌>>=◌}
+use Rattle.jpeg_bits.specs.Reading.{Outcome, ◌>>=◌}
 use Rattle.jpeg_bits.specs.Written.{marker}
 use Rattle.jpeg_pixels.specs.Pictures.{Source, sources_of}
 use Rattle.jpeg_segments.specs.Frame.{Component, Frame}
@@ -15,7 +15,7 @@ use Rattle.jpeg_streams.specs.Levels.{Is8Bit, Levels, nothing_sent}
 use Rattle.jpeg_streams.specs.SaidSegments.{found_after, Stands}
 use Rattle.jpeg_streams.specs.Scans.{Arrays}
 use Rattle.jpeg_streams.specs.ScanSegments.{arrays_before, is_progressive, scan_before}
-use Rattle.jpeg_streams.specs.Stream.{meaning, told_of}
+use Rattle.jpeg_streams.specs.Stream.{meaning, Told, told_of}
 use Rattle.jpeg_streams.specs.WholeImages.{AllComplete}
 use Rattle.jpeg_streams.specs.WrittenImages.{MayStandInImage, WritesImage, WritesImageScan}
 use Rattle.jpeg_streams.specs.WrittenScans.{Coefficients, HasTable}
@@ -90,12 +90,16 @@ abbrev pub IsDrawn : Frame → Type 0
 IsDrawn f = Shaped f
     × ((sources : List Source) × (sources_of f.components f.output_width f.output_height ≡ Ok sources))
 
-drawn-said : (said : Found) (number : ℕ) (h : FrameHeader) → Stands said (Header number h)
+pub plain-said : (said : Found) (number : ℕ) (h : FrameHeader) → Stands said (Header number h)
+    → Plain (frame_written number h)
+plain-said said number h stands = search (rules, all-ranged)
+
+pub drawn-said : (said : Found) (number : ℕ) (h : FrameHeader) → Stands said (Header number h)
     → MayStandInImage said (Header number h) → IsDrawn (frame_written number h)
 drawn-said said number h stands few =
-    let f = frame_written number h in
-    let plain : Plain f = search (rules, all-ranged) in (
-      all-shaped f plain (frame-lossy number h.precision h.width h.height h.components few) stands.1,
+    let f = frame_written number h in (
+      all-shaped f (plain-said said number h stands) (frame-lossy number h.precision h.width h.height h.components few)
+          stands.1,
       accepted-sources f f stands.1,
     )
 
@@ -182,13 +186,16 @@ image-ended array final last r =
 
 -- ---- the whole
 
-pub image-walked : (array : Coefficients) → ((index row column : ℕ) → Is8Bit (array index row column))
-    → (bytes tail : List ℕ) (final : Found) (last : ℕ → Levels) (settings : Settings)
-    → WritesImage array bytes final last
-    → (r : ReadTo IsDrawn (Holds array) MayEndImage final last)
-    × (meaning settings (bytes ++ tail)
-    ≡ (picture_of settings (with_brought final r.brought) >>= (λ picture. Ok ((told_of final, picture), tail))))
+-- This is what the end of a stream means.
+abbrev pub IsMeant : Settings → Coefficients → Found → (ℕ → Levels) → List ℕ → Outcome (Told × List ℕ) → Type 0
+IsMeant settings array final last tail meant =
+    (r : ReadTo IsDrawn (Holds array) MayEndImage final last)
+    × (meant ≡ (picture_of settings (with_brought final r.brought) >>= (λ picture. Ok ((told_of final, picture), tail))))
+
+pub image-walked : (settings : Settings) (array : Coefficients) (bytes tail : List ℕ) (final : Found) (last : ℕ → Levels)
+    → ((index row column : ℕ) → Is8Bit (array index row column)) → WritesImage array bytes final last
+    → IsMeant settings array final last tail (meaning settings (bytes ++ tail))
 unfolding nothing_found
-image-walked array range bytes tail final last settings w =
+image-walked settings array bytes tail final last range w =
     stream-read MayEndImage (image-read array range) tail (λ k. nothing_sent) last bytes final nothing_brought settings w
     refl (holds-nothing array nothing_found refl)

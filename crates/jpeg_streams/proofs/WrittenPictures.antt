@@ -8,7 +8,7 @@ use Rattle.std.proofs.lemmas.Nat.{div-mul-add, mod-mul-add}
 use Rattle.std.proofs.lemmas.Bool.{eq-eqb, le-ltb}
 use Rattle.std.proofs.lemmas.List.FromFn.{get_or-map-range_with_len, length-map-range_with_len}
 use Rattle.std.specs.List.{AllByRecursion, range_with_len, list_all}
-use Rattle.jpeg_bits.specs.Reading.{Fault, Malformed, ◌>>=◌}
+use Rattle.jpeg_bits.specs.Reading.{Fault, Malformed, Outcome, ◌>>=◌}
 use Rattle.jpeg_bits.specs.declared.color_transform.ColorTransform.{ColorTransform}
 use Rattle.jpeg_pixels.specs.Colour.{conversion_of}
 use Rattle.jpeg_pixels.specs.declared.upsampler.ColorConvert.{ColorConvert}
@@ -28,23 +28,23 @@ use Rattle.jpeg_streams.specs.FoundPictures.{picture_by, picture_in}
 use Rattle.jpeg_streams.specs.ScanSegments.{plane_by, is_progressive}
 use Rattle.jpeg_streams.specs.Found.{Found, Metadata}
 use Rattle.jpeg_segments.specs.declared.parser.CodingProcess.TheVariants.{Lossless}
-use Rattle.jpeg_streams.specs.Stream.{meaning, told_of}
+use Rattle.jpeg_streams.specs.Stream.{meaning, Told, told_of}
 use Rattle.jpeg_streams.specs.Levels.{Levels, Is8Bit, cut}
 use Rattle.jpeg_streams.proofs.FinishedIndices.{is_level_0}
 use Rattle.jpeg_streams.specs.WrittenScans.{Coefficients, HasTable, IsComplete}
 use Rattle.jpeg_streams.specs.ArrayPictures.{HasTransform, IsTransformOf, TakesPicture}
 use Rattle.jpeg_streams.specs.ArrayPictures.{plane_of_blocks, planes_of_blocks}
 use Rattle.jpeg_streams.specs.ArrayPictures.{as_sent, picture_of_blocks}
-use Rattle.jpeg_streams.specs.ArrayPictures.{picture_of_array}
+use Rattle.jpeg_streams.specs.ArrayPictures.{meaning_of_array, picture_of_array}
 use Rattle.jpeg_streams.specs.WrittenImages.{WritesImage}
 use Rattle.jpeg_streams.proofs.OwnSpots.{At, at-within, Fits, in-below}
 use Rattle.jpeg_streams.proofs.WrittenFrameScans.{HoldsOwn, in-all}
 use Rattle.jpeg_streams.proofs.Apart.{at-all}
 use Rattle.jpeg_streams.proofs.ReadStates.{is_whole}
 use Rattle.jpeg_streams.proofs.BroughtLevels.{Made, Shaped, kept-arrays}
-use Rattle.jpeg_streams.proofs.ReadTurns.{then-ok}
+use Rattle.jpeg_streams.proofs.ReadTurns.{same-frame, then-ok}
 use Rattle.jpeg_streams.proofs.FrameShapes.{below-ceiling}
-use Rattle.jpeg_streams.proofs.ReadStreams.{Brought, Ended, image-ended, image-walked, IsDrawn, with_brought}
+use Rattle.jpeg_streams.proofs.ReadStreams.{Brought, Ended, image-ended, image-walked, IsMeant, with_brought}
 use Rattle.jpeg_streams.proofs.InsidePictures.{SamePlane, AllAlike, image-same, cropped-same}
 
 -- ---- one plane
@@ -259,18 +259,22 @@ pictures-same settings f array final last x shape end =
     ∙ (search (rules, picture-by-same))
     ∙ sym (blocks-picture settings final (as_sent array last) f b.theirs end.frame_is b.theirs_are)
 
--- The meaning of a written stream is the picture of its array, cut at the levels that were sent.
+-- What the end of a stream means is the picture of its array, cut at the levels that were sent.
+pub pictured : (settings : Settings) (array : Coefficients) (final : Found) (last : ℕ → Levels) (tail : List ℕ)
+    (meant : Outcome (Told × List ℕ)) → IsMeant settings array final last tail meant
+    → meant ≡ meaning_of_array settings final array last tail
+pictured settings array final last tail meant r =
+    r.1 ∙ ap (λ (o : Result (List ℕ) Fault). o >>= (λ (picture : List ℕ). Ok ((told_of final, picture), tail)))
+    (pictures-same settings r.0.frame array final last r.0.brought (r.0.said.shaped r.0.frame r.0.framed).0
+    (image-ended array final last r.0))
+
 pub stream-means : (settings : Settings) (array : Coefficients) (bytes rest : List ℕ) (final : Found)
     (last : ℕ → Levels)
     → ((index row column : ℕ) → Is8Bit (array index row column)) → WritesImage array bytes final
     last
-    → meaning settings (bytes ++ rest)
-    ≡ (picture_of_array settings final array last >>= (λ picture. Ok ((told_of final, picture), rest)))
+    → meaning settings (bytes ++ rest) ≡ meaning_of_array settings final array last rest
 stream-means settings array bytes rest final last range w =
-    let r = image-walked array range bytes rest final last settings w in
-    r.1 ∙ ap (λ (o : Result (List ℕ) Fault). o >>= (λ (picture : List ℕ). Ok ((told_of final, picture), rest)))
-    (pictures-same settings r.0.frame array final last r.0.brought (r.0.said.shaped r.0.frame r.0.framed).0
-    (image-ended array final last r.0))
+    pictured settings array final last rest _ (image-walked settings array bytes rest final last range w)
 
 -- ---- there is a picture
 
@@ -298,22 +302,28 @@ picture-there settings w f (c ∷ d ∷ more) ours planes sources t e h =
     ))
 picture-there settings w f components ours planes sources t e h = absurd h
 
--- The picture of an array that is taken.
-pub pictures-taken : (settings : Settings) (array : Coefficients) (final : Found) (last : ℕ → Levels) (f : Frame)
-    (x : Brought) → IsDrawn f → Ended f array final last x
-    → TakesPicture settings final → (picture : List ℕ) × (picture_of_array settings final array last ≡ Ok picture)
-pictures-taken settings array final last f x drawn end takes =
-    let same : takes.frame ≡ f = cc in
-    let b = planes-end f array final last drawn.0 x end (scale-made f drawn.0.made) 0 f.components
+-- One that is taken is there.
+pub taken : (settings : Settings) (array : Coefficients) (final : Found) (last : ℕ → Levels) (tail : List ℕ)
+    (meant : Outcome (Told × List ℕ)) → IsMeant settings array final last tail meant → TakesPicture settings final
+    → (picture : List ℕ) × (picture_of_array settings final array last ≡ Ok picture)
+    × (meant ≡ Ok ((told_of final, picture), tail))
+taken settings array final last tail meant r takes =
+    let f = r.0.frame in
+    let drawn = r.0.said.shaped f r.0.framed in
+    let same : takes.frame ≡ f = same-frame takes.frame f final.frame takes.is_said r.0.framed in
+    let b = planes-end f array final last drawn.0 r.0.brought (image-ended array final last r.0)
+    (scale-made f drawn.0.made) 0 f.components
     (λ j c t. let start : 0 + j ≡ j = omega arith in subst (λ (n : ℕ). At n f.components c) (sym start) t) in
     let limit = subst (λ (g : Frame). length g.components * (g.output_width * g.output_height) ≤ settings.limit) same
     takes.limit in
     let picture = picture-there settings final f f.components b.ours b.theirs drawn.1.0
-    (subst (λ (g : Frame). HasTransform settings final g.components) same takes.transform) drawn.1.1 b.alike in (
+    (subst (λ (g : Frame). HasTransform settings final g.components) same takes.transform) drawn.1.1 b.alike in
+    let is = blocks-picture settings final (as_sent array last) f b.theirs r.0.framed b.theirs_are
+    ∙ (rw (le-ltb settings.limit (length f.components * (f.output_width * f.output_height)) limit) refl) ∙ picture.1 in (
       picture.0,
-      blocks-picture settings final (as_sent array last) f b.theirs end.frame_is b.theirs_are
-          ∙ (rw (le-ltb settings.limit (length f.components * (f.output_width * f.output_height)) limit) refl)
-          ∙ picture.1,
+      is,
+      pictured settings array final last tail meant r
+          ∙ then-ok (picture_of_array settings final array last) _ picture.0 _ is refl,
     )
 
 -- A written stream whose picture is taken means that picture.
@@ -323,12 +333,5 @@ pub taken-means : (settings : Settings) (array : Coefficients) (bytes rest : Lis
     → TakesPicture settings final
     → (picture : List ℕ) × (picture_of_array settings final array last ≡ Ok picture)
     × (meaning settings (bytes ++ rest) ≡ Ok ((told_of final, picture), rest))
-taken-means settings array bytes rest final last range w takes =
-    let r = (image-walked array range bytes rest final last settings w).0 in
-    let p = pictures-taken settings array final last r.frame r.brought (r.said.shaped r.frame r.framed)
-    (image-ended array final last r) takes in (
-      p.0,
-      p.1,
-      stream-means settings array bytes rest final last range w
-          ∙ then-ok (picture_of_array settings final array last) _ p.0 _ p.1 refl,
-    )
+taken-means settings array bytes rest final last range w =
+    taken settings array final last rest _ (image-walked settings array bytes rest final last range w)
