@@ -29,7 +29,7 @@ use Rattle.jpeg_streams.specs.WrittenData.WritesBand.{ended}
 use Rattle.jpeg_streams.specs.WrittenData.WritesBlocks.{done, block}
 use Rattle.jpeg_streams.specs.WrittenData.WritesDc.{whole}
 use Rattle.jpeg_streams.specs.WrittenData.WritesIntervals.{another, last}
-use Rattle.jpeg_streams.specs.WrittenImages.{closed, scan, segment}
+use Rattle.jpeg_streams.specs.WrittenStreams.{end, scan, segment}
 use Rattle.jpeg_streams.specs.WrittenScans.{IsComplete, IsLegalScan, IsOwn, WritesScan, block_for, grid_at}
 use Rattle.jpeg_streams.specs.WrittenScans.{levels_after}
 use Rattle.jpeg_streams.proofs.CutLevels.{all-same}
@@ -174,6 +174,9 @@ said_2 = found_after (found_after said_1 (Header 0 header)) (segment_of (table c
 abbrev said : Found
 said = found_after (found_after said_2 (segment_of (table classes.AC 0))) (Interval 1)
 
+abbrev scanned : Found
+scanned = record said { scanned = true }
+
 abbrev sent : ℕ → Levels
 sent = levels_after (pass_of (scan_written the_frame the_header)) (0 ∷ 1 ∷ 2 ∷ []) (λ k. nothing_sent)
 
@@ -190,25 +193,29 @@ unfolding nothing_found frame_of component_of quantization_bytes frame_payload h
 colour-written =
     let whole : IsComplete (sent 0) = record { dc = refl; acs = all-same (Some 0) 63 } in
     record {
-      final = said;
+      final = scanned;
       last = sent;
       frame = the_frame;
       written = record {
         after = _;
         starts = refl;
         written =
-            segment nothing_found said _ sent false 0 (Quantization (table_of_one 0 16 ∷ [])) _
-            ((one-quantizes 0 16 (omega arith) (omega arith), tt), tt) tt (λ e. absurd (true≢false (sym e))) (
-            segment said_1 said _ sent false 0 (Header 0 header) _ ((refl, frame-by 0 header refl), refl)
-            (omega arith) (λ e. absurd (true≢false (sym e))) (
-            segment _ said _ sent false 0 (segment_of (table classes.DC 4)) _
-            ((table-by _ _ (omega arith) refl, tt), tt) tt (λ e. tt) (
-            segment said_2 said _ sent false 0 (segment_of (table classes.AC 0)) _
-            ((table-by _ _ (omega arith) refl, tt), tt) tt (λ e. tt) (
-            segment _ said _ sent false 0 (Interval 1) _ (tt, tt) tt (λ e. tt) (
-            scan said said _ sent false the_frame 0 the_header codings scan_bytes _ refl scan-is legal data-written (
-            closed said sent the_frame 0 refl (search rules)
-            (λ e. (whole, (whole, (whole, tt))))))))));
+            segment nothing_found scanned _ sent 0 (Quantization (table_of_one 0 16 ∷ [])) _
+            ((one-quantizes 0 16 (omega arith) (omega arith), tt), tt) refl (
+            segment said_1 scanned _ sent 0 (Header 0 header) _ ((refl, frame-by 0 header refl), refl) (omega arith) (
+            segment _ scanned _ sent 0 (segment_of (table classes.DC 4)) _ ((table-by _ _ (omega arith) refl, tt), tt) tt (
+            segment said_2 scanned _ sent 0 (segment_of (table classes.AC 0)) _
+            ((table-by _ _ (omega arith) refl, tt), tt) tt (
+            segment _ scanned _ sent 0 (Interval 1) _ (tt, tt) tt (
+            scan said scanned _ sent sent the_frame 0 the_header scan_bytes _ refl scan-is
+            (record { codings = codings; legal = legal; written = data-written; sent = refl }) (
+            end scanned sent _ (record {
+              frame = the_frame;
+              fill = 0;
+              is_said = refl;
+              ended = (refl, search rules, λ e. (whole, (whole, (whole, tt))));
+              closed = refl;
+            })))))));
       };
       framed = refl;
       complete = (whole, (whole, (whole, tt)));
