@@ -12,48 +12,41 @@ use Rattle.jpeg_streams.specs.declared.settings.Settings.{Settings}
 use Rattle.jpeg_streams.specs.Needed.{first_of}
 use Rattle.jpeg_streams.specs.Stream.{meaning, sized_meaning, told_of}
 use Rattle.jpeg_streams.specs.Found.{nothing_found, Found}
-use Rattle.jpeg_streams.specs.WrittenLossless.{IsWithinLimit, Samples, Writes, WritesSamples}
-use Rattle.jpeg_streams.specs.WrittenLossless.{closed}
-use Rattle.jpeg_streams.specs.WrittenLossless.{picture_of_samples, pixel_from, said_after_scan, scan, segment}
-use Rattle.jpeg_streams.specs.SaidSegments.{found_after}
+use Rattle.jpeg_streams.specs.InTurn.{IsIn}
+use Rattle.jpeg_streams.specs.WrittenLossless.{IsLossless, IsWithinLimit, picture_of_samples, pixel_from, Samples, WritesSamples}
 use Rattle.jpeg_streams.proofs.LosslessFrames.{IsShaped}
 use Rattle.jpeg_streams.proofs.LosslessSizes.{IsMade, made-reaches, some-across, some-down}
 use Rattle.jpeg_streams.proofs.PaddingUnseen.{drop-next, mapped-same}
 use Rattle.jpeg_streams.proofs.OwnSpots.{all-append}
-use Rattle.jpeg_decoder.proofs.WrittenLosslessStreams.{IsSaid, all-in, drawn, final-framed, nothing-said, samples-meant}
-use Rattle.jpeg_decoder.proofs.WrittenLosslessStreams.{samples-sized, segment-said, some-same}
+use Rattle.jpeg_streams.proofs.ReadTurns.{same-frame}
+use Rattle.jpeg_streams.proofs.WalkedStreams.{ends-so, IsSaid, keeps, nothing-said, segment-said}
+use Rattle.jpeg_decoder.proofs.WrittenLosslessStreams.{all-in, drawn, header-said, samples-meant, samples-walked}
+use Rattle.jpeg_decoder.proofs.WrittenLosslessStreams.{sized-walked}
 use Rattle.jpeg_decoder.proofs.WrittenSamples.{HasSize, SizedAt, indices_of, planes_for, scan-sized}
 use Rattle.std.proofs.lemmas.Grind.{common_steps}
 
 -- ---- sizes
 
-sent-sized : (samples : Samples) (frame : Frame) (said : Found) (sent bytes : List ℕ) (final : Found)
-    → Writes samples said sent bytes final → IsSaid said → final.frame ≡ Some frame
-    → AllByRecursion (SizedAt samples frame.components) sent
-    → AllByRecursion (SizedAt samples frame.components) (range_with_len 0 (length frame.components))
-sent-sized samples frame said sent bytes final (closed said' sent' f fill framed lossless all) is e h =
-    grind (arith, common_steps, all-in, some-same)
-sent-sized samples frame said sent bytes final (segment said' final' sent' fill s more may w) is e h =
-    sent-sized samples frame (found_after said s) sent more final w (segment-said said s may is) e h
-sent-sized samples frame said sent bytes final (scan said' final' sent' f fill h' data_bytes more framed lossless header
-    data_of w) is e h =
-    let same = some-same f frame (sym (final-framed samples f (said_after_scan said) _ more final w framed) ∙ e) in
-    sent-sized samples frame (said_after_scan said) _ more final w (record { tables = is.tables; shaped = is.shaped }) e
-    (all-append (SizedAt samples frame.components) (indices_of h'.choices) sent
-    (subst (λ (g : Frame). AllByRecursion (SizedAt samples g.components) (indices_of h'.choices))
-    same
-    (scan-sized said f h' samples data_bytes (is.shaped f framed) is.tables data_of)) h)
+-- The frame has some size, and the samples that are sent have the sizes of its components.
+sizes-kept : (samples : Samples) (bytes : List ℕ) (final : Found) (frame : Frame) → (w : WritesSamples samples bytes final)
+    → final.frame ≡ Some frame → IsSaid IsShaped final × AllByRecursion (SizedAt samples frame.components) w.sent
+sizes-kept samples bytes final frame w e =
+    keeps (λ now sent. IsSaid IsShaped now × AllByRecursion (SizedAt samples frame.components) sent) nothing_found final []
+    w.sent w.written.after
+    (λ now sent s stands may h. (segment-said (λ y z. IsLossless z) IsShaped header-said now s stands may h.0, h.1))
+    (λ now sent next f header data_bytes framed last x h. (
+      record { tables = h.0.tables; shaped = h.0.shaped },
+      subst (AllByRecursion (SizedAt samples frame.components)) x.2
+          (all-append (SizedAt samples frame.components) (indices_of header.choices) sent
+          (subst (λ (g : Frame). AllByRecursion (SizedAt samples g.components) (indices_of header.choices))
+          (same-frame f frame final.frame last e)
+          (scan-sized now f header samples data_bytes (h.0.shaped f framed) h.0.tables x.1)) h.1),
+    ))
+    w.written.written (nothing-said IsShaped, tt)
 
--- the frame at the end is one that was said
-pub final-shaped : (samples : Samples) (frame : Frame) (said : Found) (sent bytes : List ℕ) (final : Found)
-    → Writes samples said sent bytes final → IsSaid said → final.frame ≡ Some frame → IsShaped frame
-final-shaped samples frame said sent bytes final (closed said' sent' f fill framed lossless all) is e = is.shaped frame e
-final-shaped samples frame said sent bytes final (segment said' final' sent' fill s more may w) is e =
-    final-shaped samples frame (found_after said s) sent more final w (segment-said said s may is) e
-final-shaped samples frame said sent bytes final (scan said' final' sent' f fill h' data_bytes more framed lossless
-    header data_of w) is e =
-    final-shaped samples frame (said_after_scan said) _ more final w
-    (record { tables = is.tables; shaped = is.shaped }) e
+pub final-shaped : (samples : Samples) (bytes : List ℕ) (final : Found) (frame : Frame) → WritesSamples samples bytes final
+    → final.frame ≡ Some frame → IsShaped frame
+final-shaped samples bytes final frame w e = (sizes-kept samples bytes final frame w e).0.shaped frame e
 
 -- each component, from a place on, has samples of its size
 AreAll : Frame → Samples → ℕ → List Component → Type 0
@@ -104,10 +97,13 @@ shown : (samples : Samples) (bytes : List ℕ) (final : Found) (frame : Frame) �
     → final.frame ≡ Some frame
     → drawn frame samples ≡ picture_of_samples frame samples
 shown samples bytes final frame w e =
-    let sized = sent-sized samples frame nothing_found [] w.after final w.written nothing-said e tt in
-    let is = final-shaped samples frame nothing_found [] w.after final w.written nothing-said e in
-    samples-shown frame samples (from-indices frame samples frame.components 0 frame.components
-    refl is.made sized)
+    let c = (ends-so nothing_found final [] w.sent w.written.after w.written.written).1 in
+    let kept = sizes-kept samples bytes final frame w e in
+    samples-shown frame samples (from-indices frame samples frame.components 0 frame.components refl
+    (kept.0.shaped frame e).made
+    (all-in (SizedAt samples frame.components) _ w.sent kept.1
+    (subst (λ (f : Frame). AllByRecursion (λ k. IsIn k w.sent) (range_with_len 0 (length f.components)))
+    (same-frame c.frame frame final.frame c.is_said e) c.ended.1)))
 
 -- ---- the whole
 
@@ -115,7 +111,8 @@ pub lossless-means : (settings : Settings) (samples : Samples) (bytes rest : Lis
     → WritesSamples samples bytes final → IsWithinLimit settings.limit final frame
     → meaning settings (bytes ++ rest) ≡ Ok ((told_of final, picture_of_samples frame samples), rest)
 lossless-means settings samples bytes rest final frame w within =
-    samples-meant settings samples bytes rest final frame w within.is_said within.limited
+    samples-meant settings samples final w.sent rest frame _ (samples-walked settings samples bytes rest final w)
+    within.is_said within.limited
     ∙ ap (λ (l : List ℕ). Ok ((told_of final, l), rest)) (shown samples bytes final frame w within.is_said)
 
 pub lossless-sized : (width height : ℕ) (settings : Settings) (samples : Samples) (bytes rest : List ℕ)
@@ -123,5 +120,6 @@ pub lossless-sized : (width height : ℕ) (settings : Settings) (samples : Sampl
     → WritesSamples samples bytes final → IsWithinLimit settings.limit final frame
     → sized_meaning width height settings (bytes ++ rest) ≡ Ok ((told_of final, picture_of_samples frame samples), rest)
 lossless-sized width height settings samples bytes rest final frame w within =
-    samples-sized width height settings samples bytes rest final frame w within.is_said within.limited
+    samples-meant settings samples final w.sent rest frame _
+    (sized-walked width height settings samples bytes rest final w) within.is_said within.limited
     ∙ ap (λ (l : List ℕ). Ok ((told_of final, l), rest)) (shown samples bytes final frame w within.is_said)

@@ -6,24 +6,19 @@ use lib.ListN.{length-map}
 use Rattle.jpeg_bits.specs.Reading.{◌>>=◌}
 use Rattle.jpeg_segments.specs.Frame.{Frame}
 use Rattle.jpeg_streams.specs.declared.settings.Settings.{Settings}
-use Rattle.jpeg_streams.specs.Found.{Found, nothing_found}
+use Rattle.jpeg_streams.specs.Found.{Found}
 use Rattle.jpeg_streams.specs.FrameSamples.{sampling_of, ShowAlike}
 use Rattle.jpeg_streams.specs.WrittenLossless.{Samples, WritesSamples}
 use Rattle.jpeg_streams.specs.WrittenParts.{picture_meant_by}
 use Rattle.jpeg_streams.proofs.LosslessFrames.{IsShaped}
 use Rattle.jpeg_streams.proofs.SamplesAlike.{pictures-alike}
 use Rattle.jpeg_decoder.proofs.LosslessPixels.{final-shaped, lossless-means}
-use Rattle.jpeg_decoder.proofs.WrittenLosslessStreams.{nothing-said, samples-refused}
+use Rattle.jpeg_decoder.proofs.WrittenLosslessStreams.{samples-refused}
 use Rattle.std.proofs.lemmas.Grind.{common_steps}
 
 -- how many samples a frame's picture has
 abbrev count_of : Frame → ℕ
 count_of frame = length frame.components * (frame.output_width * frame.output_height)
-
-shaped : (samples : Samples) (bytes : List ℕ) (final : Found) (frame : Frame) → WritesSamples samples bytes final
-    → final.frame ≡ Some frame → IsShaped frame
-shaped samples bytes final frame w e =
-    final-shaped samples frame nothing_found [] w.after final w.written nothing-said e
 
 counts-same : (f g : Frame) → IsShaped f → IsShaped g → f.width ≡ g.width → f.height ≡ g.height
     → map sampling_of f.components ≡ map sampling_of g.components → count_of f ≡ count_of g
@@ -36,8 +31,8 @@ samples-alike settings samples first second rest others a b u v same =
     go (cases_lt settings.limit (count_of same.frame_a))
   where
     counts : count_of same.frame_a ≡ count_of same.frame_b
-    counts = counts-same same.frame_a same.frame_b (shaped samples first a same.frame_a u same.is_a)
-        (shaped samples second b same.frame_b v same.is_b) same.width same.height same.factors
+    counts = counts-same same.frame_a same.frame_b (final-shaped samples first a same.frame_a u same.is_a)
+        (final-shaped samples second b same.frame_b v same.is_b) same.width same.height same.factors
 
     go : (settings.limit < count_of same.frame_a) ⊎ (count_of same.frame_a ≤ settings.limit)
         → picture_meant_by settings (first ++ rest) ≡ picture_meant_by settings (second ++ others)

@@ -39,10 +39,10 @@ use Rattle.jpeg_streams.specs.LosslessScans.{part_of, parts_of, way_of, with_sam
 use Rattle.jpeg_segments.specs.Checks.{needed}
 use Rattle.jpeg_streams.specs.Needed.{first_of}
 use Rattle.jpeg_streams.specs.ScanSegments.{lossless_scan, scan_before, scan_segment}
-use Rattle.jpeg_streams.specs.Segments.{Turn}
 use Rattle.jpeg_streams.specs.Found.{Found}
 use Rattle.jpeg_streams.specs.WrittenLossless.{HoldSamples, IsInterval, Samples}
-use Rattle.jpeg_streams.specs.WrittenLossless.{WritesSamplesScan, said_after_scan}
+use Rattle.jpeg_streams.specs.WrittenLossless.{WritesSamplesScan}
+use Rattle.jpeg_streams.proofs.WalkedStreams.{scan_to}
 use Rattle.jpeg_streams.proofs.ReadTurns.{IsEnd, bind-ok, needed-some, ok-same, then-ok}
 use Rattle.jpeg_streams.proofs.LosslessFrames.{IsShaped}
 use Rattle.jpeg_streams.proofs.LosslessSizes.{IsMade, across-some, all-at, all-covered, down-some}
@@ -254,16 +254,6 @@ pub components-of : (frame : Frame) (choices : List Choice)
 components-of frame [] = refl
 components-of frame (c ∷ choices) = ap (λ (l : List ℕ). c.component ∷ l) (components-of frame choices)
 
--- what a scan leads to
-abbrev pub turn_after : Found → List ℕ → Samples → List (Option (List ℕ)) → Marker → Turn
-turn_after said indices samples decided m = record {
-  found = and_samples (said_after_scan said) (with_samples indices (planes_for samples indices)
-      decided);
-  before = scan_before said;
-  met = Some m;
-  ended = false;
-}
-
 abbrev by : Found → Frame → List LosslessCoding → List ℕ → Predictor → ℕ → Outcome (List (List ℕ) × Option Marker)
 by said frame codings bytes predictor point =
     scan_at (way_of frame predictor point codings) (mcus_down frame codings) said.restart point bytes
@@ -275,7 +265,8 @@ pub scan-read : (said : Found) (decided : List (Option (List ℕ))) (frame : Fra
     → frame.process ≡ Lossless → IsShaped frame → HasTables said.huffman → marker_of code ≡ Some m → IsEnd m
     → scan_segment (and_samples said decided) (with_length (scan_payload h) ++ (bytes ++ marker
     fill code rest))
-    ≡ Ok (turn_after said (indices_of h.choices) samples decided m, rest)
+    ≡ scan_to (and_samples (record said { scanned = true })
+    (with_samples (indices_of h.choices) (planes_for samples (indices_of h.choices)) decided)) (scan_before said) m rest
 unfolding scan_segment lossless_scan scan_of
 scan-read said decided frame h samples bytes rest fill code m w framed scan lossless is tables makes end =
     let r = data-read said frame h samples bytes rest fill code m w is tables makes in

@@ -10,7 +10,6 @@ use Rattle.jpeg_segments.specs.ScanHeaders.{IsScan, ScanHeader, scan_written}
 use Rattle.jpeg_segments.specs.WrittenSegments.{frame_written, FrameHeader, Header, Quantization, Segment}
 use Rattle.jpeg_segments.proofs.HeaderSegments.{sos-read}
 use Rattle.jpeg_streams.specs.Found.{Found, none_finished, nothing_found}
-use Rattle.jpeg_streams.specs.FoundPictures.{picture_of}
 use Rattle.jpeg_streams.specs.Levels.{Is8Bit, Levels, nothing_sent}
 use Rattle.jpeg_streams.specs.SaidSegments.{found_after, Stands}
 use Rattle.jpeg_streams.specs.Scans.{Arrays}
@@ -26,7 +25,7 @@ use Rattle.jpeg_streams.proofs.ReadStates.{PlaneSo}
 use Rattle.jpeg_streams.proofs.ReadTurns.{codings-same, frame-stays, IsOther, is-other, same-frame, scan-by}
 use Rattle.jpeg_streams.proofs.ScanFacts.{header-facts}
 use Rattle.jpeg_streams.proofs.TablesInForce.{codings-good}
-use Rattle.jpeg_streams.proofs.WalkedStreams.{FindsScan, IsRead, IsSaid, ReadTo, scanned-stays, scan_to, stream-read}
+use Rattle.jpeg_streams.proofs.WalkedStreams.{FindsScan, IsMeant, IsRead, IsSaid, ReadTo, scanned-stays, scan_to, stream-read}
 use Rattle.jpeg_streams.specs.declared.settings.Settings.{Settings}
 
 -- ---- what scans bring
@@ -186,15 +185,13 @@ image-ended array final last r =
 
 -- ---- the whole
 
--- This is what the end of a stream means.
-abbrev pub IsMeant : Settings → Coefficients → Found → (ℕ → Levels) → List ℕ → Outcome (Told × List ℕ) → Type 0
-IsMeant settings array final last tail meant =
-    (r : ReadTo IsDrawn (Holds array) MayEndImage final last)
-    × (meant ≡ (picture_of settings (with_brought final r.brought) >>= (λ picture. Ok ((told_of final, picture), tail))))
+abbrev pub ImageMeant : Settings → Coefficients → Found → (ℕ → Levels) → List ℕ → Outcome (Told × List ℕ) → Type 0
+ImageMeant settings array final last tail meant =
+    IsMeant IsDrawn with_brought (Holds array) MayEndImage settings final last tail meant
 
 pub image-walked : (settings : Settings) (array : Coefficients) (bytes tail : List ℕ) (final : Found) (last : ℕ → Levels)
     → ((index row column : ℕ) → Is8Bit (array index row column)) → WritesImage array bytes final last
-    → IsMeant settings array final last tail (meaning settings (bytes ++ tail))
+    → ImageMeant settings array final last tail (meaning settings (bytes ++ tail))
 unfolding nothing_found
 image-walked settings array bytes tail final last range w =
     stream-read MayEndImage (image-read array range) tail (λ k. nothing_sent) last bytes final nothing_brought settings w

@@ -24,7 +24,7 @@ use Rattle.jpeg_streams.proofs.FrameShapes.{Plain, plain-size}
 use Rattle.jpeg_streams.proofs.ScaledSizes.{scaled_component, most_h, most_v, frame-components}
 use Rattle.jpeg_streams.proofs.ScaledScans.{own-same, Alike, Alikes, none, one_more, SameFrame, length-same, at_frame}
 use Rattle.jpeg_streams.proofs.ScaledScans.{scans-alike}
-use Rattle.jpeg_streams.proofs.ReadStreams.{drawn-said, holds-nothing, image-read, IsDrawn, IsMeant, MayEndImage}
+use Rattle.jpeg_streams.proofs.ReadStreams.{drawn-said, holds-nothing, image-read, IsDrawn, ImageMeant, MayEndImage}
 use Rattle.jpeg_streams.proofs.ReadStreams.{nothing_brought, plain-said, with_brought}
 use Rattle.jpeg_streams.proofs.WalkedStreams.{frame-kept, header-read, reads-on, rest-by, some-same}
 use Rattle.jpeg_streams.proofs.WrittenPictures.{pictured, taken}
@@ -88,7 +88,7 @@ sized-is width height f n = go f.process refl
 image-sized : (width height : ℕ) (settings : Settings) (array : Coefficients) (bytes tail : List ℕ) (final : Found)
     (last : ℕ → Levels)
     → ((index row column : ℕ) → Is8Bit (array index row column)) → WritesImage array bytes final last
-    → IsMeant settings array (sized_to width height final) last tail (sized_meaning width height settings (bytes ++ tail))
+    → ImageMeant settings array (sized_to width height final) last tail (sized_meaning width height settings (bytes ++ tail))
 unfolding sized_meaning nothing_found
 image-sized width height settings array bytes tail final last range w =
     let r = header-read MayEndImage (image-read array range) tail (λ k. nothing_sent) last bytes final nothing_brought w
@@ -113,7 +113,7 @@ image-sized width height settings array bytes tail final last range w =
     (scans-alike array f g said final (λ k. nothing_sent) last h.left same refl h.written)
     (record { tables = h.said.tables; shaped = λ x q. subst IsDrawn (some-same g x q) drawn })
     (holds-nothing array (at_frame said g) h.unscanned) (stands-here left) (omega arith) in
-    subst (λ (x : Found). IsMeant settings array x last tail (sized_meaning width height settings (bytes ++ tail)))
+    subst (λ (x : Found). ImageMeant settings array x last tail (sized_meaning width height settings (bytes ++ tail)))
     (ap (λ (o : Option Frame). record final { frame = option_map (sized width height) o }) (sym kept)) (
       e.0,
       then-ok (header_at (bytes ++ tail)) _ (with_brought said nothing_brought, left) _ r.1

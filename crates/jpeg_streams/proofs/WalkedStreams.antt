@@ -16,7 +16,7 @@ use Rattle.jpeg_streams.specs.FoundPictures.{picture_of}
 use Rattle.jpeg_streams.specs.SaidSegments.{found_after, Stands}
 use Rattle.jpeg_streams.specs.ScanSegments.{scan_segment}
 use Rattle.jpeg_streams.specs.Segments.{onward, Turn}
-use Rattle.jpeg_streams.specs.Stream.{header_at, meaning, rest_at, segments_at, start_at, told_of, turn_at, walk}
+use Rattle.jpeg_streams.specs.Stream.{header_at, meaning, rest_at, segments_at, start_at, Told, told_of, turn_at, walk}
 use Rattle.jpeg_streams.specs.WrittenStreams.{Closes, end, scan, segment, Starts, Writes}
 use Rattle.jpeg_streams.specs.declared.before.Before.{Before}
 use Rattle.jpeg_streams.specs.declared.before.Before.TheVariants.{Elsewhere}
@@ -98,15 +98,16 @@ nothing-said P = record { tables = no-tables; shaped = λ f e. absurd (let n : �
 pub some-same : (a b : Frame) → ◌≡◌ {A = Option Frame} (Some a) (Some b) → a ≡ b
 some-same a b e = cc
 
-pub segment-said : (P : Frame → Type 0) (said : Found) (s : Segment) → Stands said s
-    → ((number : ℕ) (h : FrameHeader) → s ≡ Header number h → P (frame_written number h))
-    → IsSaid P said → IsSaid P (found_after said s)
-segment-said P said s stands h is = record {
+pub segment-said : (may : Found → Segment → Type 0) (P : Frame → Type 0)
+    → ((said : Found) (number : ℕ) (h : FrameHeader) → Stands said (Header number h) → may said (Header number h)
+    → P (frame_written number h))
+    → (said : Found) (s : Segment) → Stands said s → may said s → IsSaid P said → IsSaid P (found_after said s)
+segment-said may P shaped said s stands allowed is = record {
   tables = segment-tables said s stands.0 is.tables;
   shaped = λ f e. frame-or s
-      (λ number header of. subst P
-      (some-same (frame_written number header) f (ap (λ (x : Segment). (found_after said x).frame) (sym of) ∙ e))
-      (h number header of))
+      (λ number h of. subst P
+      (some-same (frame_written number h) f (ap (λ (x : Segment). (found_after said x).frame) (sym of) ∙ e))
+      (shaped said number h (subst (Stands said) of stands) (subst (may said) of allowed)))
       (λ other. is.shaped f (sym (frame-stays said s other) ∙ e));
 }
 
@@ -159,6 +160,15 @@ pub record ReadTo {Sent Brought : Type 0} (P : Frame → Type 0)
   pub frame : Frame
   pub framed : final.frame ≡ Some frame
   pub ended : may_end final last frame
+
+-- A meaning is that of the end.
+abbrev pub IsMeant : {Sent Brought : Type 0} → (Frame → Type 0) → (Found → Brought → Found)
+    → (Found → Sent → Brought → Type 0) → (Found → Sent → Frame → Type 0) → Settings → Found → Sent → List ℕ
+    → Outcome (Told × List ℕ) → Type 0
+IsMeant P beside Held may_end settings final last tail meant =
+    (r : ReadTo P Held may_end final last)
+    × (meant ≡ (picture_of settings (beside final r.brought)
+    >>= (λ picture. Ok ((told_of (beside final r.brought), picture), tail))))
 
 -- What is found up to the frame, and the stream after it.
 pub record Headed {Sent : Type 0} (may : Found → Segment → Type 0)
@@ -223,8 +233,7 @@ module _ {Sent Brought : Type 0} {may : Found → Segment → Type 0}
   reads-on said final sent last bytes x (suc turns) before met all
       (segment said' final' sent' last' fill s more stands allowed w) is held at room =
       let r = reads-on (found_after said s) final sent last more x turns Elsewhere None (more ++ tail) w
-      (segment-said P said s stands (λ number h e. k.shaped said number h (subst (Stands said) e stands)
-      (subst (may said) e allowed)) is) (k.holds said sent x s stands allowed held) (stands-here (more ++ tail))
+      (segment-said may P k.shaped said s stands allowed is) (k.holds said sent x s stands allowed held) (stands-here (more ++ tail))
       (marker-longer fill (marker_code s) turns (with_length (payload_of s)) more room) in
       (r.0, segment-next said x s false turns fill before met all more stands refl at ∙ r.1)
   reads-on said final sent last bytes x (suc turns) before met all
@@ -267,8 +276,7 @@ module _ {Sent Brought : Type 0} {may : Found → Segment → Type 0}
       let shorter = marker-longer fill (marker_code s) turns (with_length (payload_of s)) more room in
       let step = segment-next said x s true turns fill Elsewhere None _ more stands
       (ap is_some (k.frame_beside said x ∙ e)) (stands-here _) in
-      let now = segment-said P said s stands (λ number h of. k.shaped said number h (subst (Stands said) of stands)
-      (subst (may said) of allowed)) is in
+      let now = segment-said may P k.shaped said s stands allowed is in
       frame-or s
       (λ number h of. (
         record {
@@ -299,10 +307,7 @@ module _ {Sent Brought : Type 0} {may : Found → Segment → Type 0}
 
   pub stream-read : (sent last : Sent) (bytes : List ℕ) (final : Found) (x : Brought) (settings : Settings)
       → Whole sent bytes final last → beside nothing_found x ≡ nothing_found → Held nothing_found sent x
-      → (r : ReadTo P Held may_end final last)
-      × (meaning settings (bytes ++ tail)
-      ≡ (picture_of settings (beside final r.brought)
-      >>= (λ picture. Ok ((told_of (beside final r.brought), picture), tail))))
+      → IsMeant P beside Held may_end settings final last tail (meaning settings (bytes ++ tail))
   unfolding meaning start_at
   stream-read sent last bytes final x settings w e held =
       let long = length-append w.after tail in

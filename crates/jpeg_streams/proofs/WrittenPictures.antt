@@ -44,7 +44,7 @@ use Rattle.jpeg_streams.proofs.ReadStates.{is_whole}
 use Rattle.jpeg_streams.proofs.BroughtLevels.{Made, Shaped, kept-arrays}
 use Rattle.jpeg_streams.proofs.ReadTurns.{same-frame, then-ok}
 use Rattle.jpeg_streams.proofs.FrameShapes.{below-ceiling}
-use Rattle.jpeg_streams.proofs.ReadStreams.{Brought, Ended, image-ended, image-walked, IsMeant, with_brought}
+use Rattle.jpeg_streams.proofs.ReadStreams.{Brought, Ended, image-ended, image-walked, ImageMeant, with_brought}
 use Rattle.jpeg_streams.proofs.InsidePictures.{SamePlane, AllAlike, image-same, cropped-same}
 
 -- ---- one plane
@@ -261,7 +261,7 @@ pictures-same settings f array final last x shape end =
 
 -- What the end of a stream means is the picture of its array, cut at the levels that were sent.
 pub pictured : (settings : Settings) (array : Coefficients) (final : Found) (last : ℕ → Levels) (tail : List ℕ)
-    (meant : Outcome (Told × List ℕ)) → IsMeant settings array final last tail meant
+    (meant : Outcome (Told × List ℕ)) → ImageMeant settings array final last tail meant
     → meant ≡ meaning_of_array settings final array last tail
 pictured settings array final last tail meant r =
     r.1 ∙ ap (λ (o : Result (List ℕ) Fault). o >>= (λ (picture : List ℕ). Ok ((told_of final, picture), tail)))
@@ -304,7 +304,7 @@ picture-there settings w f components ours planes sources t e h = absurd h
 
 -- One that is taken is there.
 pub taken : (settings : Settings) (array : Coefficients) (final : Found) (last : ℕ → Levels) (tail : List ℕ)
-    (meant : Outcome (Told × List ℕ)) → IsMeant settings array final last tail meant → TakesPicture settings final
+    (meant : Outcome (Told × List ℕ)) → ImageMeant settings array final last tail meant → TakesPicture settings final
     → (picture : List ℕ) × (picture_of_array settings final array last ≡ Ok picture)
     × (meant ≡ Ok ((told_of final, picture), tail))
 taken settings array final last tail meant r takes =
