@@ -22,7 +22,6 @@ use Rattle.jpeg_lossless.specs.Pictures.{lossless_picture}
 use Rattle.jpeg_streams.specs.SaidSegments.{found_after, Stands}
 use Rattle.jpeg_streams.specs.Found.{nothing_found, Found}
 use Rattle.jpeg_streams.specs.Stream.{header_at, rest_at, meaning, sized_meaning, sized_to, Told, told_of}
-use Rattle.jpeg_streams.specs.ScanSegments.{scan_before}
 use Rattle.jpeg_streams.specs.FoundPictures.{picture_of, samples_picture}
 use Rattle.jpeg_streams.specs.WrittenLossless.{IsLossless, Samples, SendsSamples, WritesSamples}
 use Rattle.jpeg_streams.specs.InTurn.{IsIn}
@@ -154,7 +153,6 @@ scan-found samples said sent next decided f h bytes is framed header x held =
             (blocks-after samples indices decided sent (all-below (length f.components) (length decided) indices
             (omega (arith, few, four)) (indices-below f h header)) held.kept);
       };
-      before = scan_before said;
       found = λ fill code m left makes ends. scan-read said decided f h samples bytes left fill code m x.1 framed header
           x.0 shaped is.tables makes ends;
     }

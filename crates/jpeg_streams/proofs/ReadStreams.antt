@@ -136,7 +136,6 @@ module _ (array : Coefficients) (range : (index row column : ℕ) → Is8Bit (ar
                 (subst (λ (l : ℕ → Levels). Framed said f array l true b.kept b.finished b.planes) w.sent b.framed),
           );
         };
-        before = scan_before said;
         found = λ fill code m left makes ends.
             scan-by (with_brought said x) f s w.codings b.arrays m _ (bytes ++ marker fill code left) left shape.lossy e
             (sos-read f h (bytes ++ marker fill code left) scan)

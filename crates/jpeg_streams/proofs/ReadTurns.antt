@@ -97,6 +97,15 @@ segments-walked header before f met all w e = ap walked_to e
 
 -- ---- the turn of a marker
 
+-- a marker and what is written after it, and the bytes after the end of the image
+pub segment-tail : (fill code : ℕ) (bytes more tail : List ℕ)
+    → marker fill code (bytes ++ more) ++ tail ≡ marker fill code (bytes ++ (more ++ tail))
+segment-tail fill code bytes more tail = search (rules, marker-append, append_assoc)
+
+pub scan-tail : (fill code : ℕ) (header bytes more tail : List ℕ)
+    → marker fill code (header ++ (bytes ++ more)) ++ tail ≡ marker fill code (header ++ (bytes ++ (more ++ tail)))
+scan-tail fill code header bytes more tail = search (rules, segment-tail, append_assoc)
+
 -- the turn of a marker and what stands after it
 pub marker-turn : (before : Before) (found : Found) (fill code : ℕ) (m : Marker) (rest : List ℕ)
     → marker_of code ≡ Some m → turn_at before found None (marker fill code rest) ≡ segment_at m before found rest
@@ -115,18 +124,22 @@ pub stands-met : (fill code : ℕ) (m : Marker) (rest : List ℕ) → marker_of 
 unfolding turn_at
 stands-met fill code m rest h = grind (arith, common_steps, marker-turn)
 
-pub end-turn : (before : Before) (found : Found) (rest : List ℕ) → is_some found.frame ≡ true
-    → segment_at EOI before found rest ≡ Ok (
+pub end-turn : (before : Before) (found : Found) (fill : ℕ) (rest : List ℕ) → is_some found.frame ≡ true
+    → turn_at before found None (marker fill 217 [] ++ rest) ≡ Ok (
       record { found = found; before = Elsewhere; met = None; ended = true },
       rest,
     )
-unfolding segment_at end_segment
-end-turn before found rest some = kept (is_some found.frame) _ (Err Malformed) some
+unfolding marker_of segment_at end_segment
+end-turn before found fill rest some = ap (turn_at before found None) (marker-append fill 217 [] rest)
+    ∙ marker-turn before found fill 217 EOI rest refl ∙ kept (is_some found.frame) _ (Err Malformed) some
 
-pub scan-turn : (before : Before) (found : Found) (rest : List ℕ)
-    → segment_at SOS before found rest ≡ scan_segment found rest
-unfolding segment_at
-scan-turn before found rest = refl
+pub scan-turn : (before : Before) (found : Found) (fill : ℕ) (header bytes more rest : List ℕ)
+    → turn_at before found None (marker fill 218 (header ++ (bytes ++ more)) ++ rest)
+    ≡ scan_segment found (header ++ (bytes ++ (more ++ rest)))
+unfolding marker_of segment_at
+scan-turn before found fill header bytes more rest =
+    ap (turn_at before found None) (scan-tail fill 218 header bytes more rest)
+    ∙ marker-turn before found fill 218 SOS (header ++ (bytes ++ (more ++ rest))) refl
 
 -- ---- what begins with a marker
 
@@ -143,29 +156,10 @@ pub record Begins (bytes : List ℕ) : Type 0 where
   pub makes : marker_of code ≡ Some m
   pub ends : IsEnd m
 
-pub segment-starts : (frame : Option Frame) (fill : ℕ) (s : Segment) (more : List ℕ) → MayStand frame s
-    → Begins (marker fill (marker_code s) (with_length (payload_of s) ++ more))
+pub segment-begins : (frame : Option Frame) (fill : ℕ) (s : Segment) (more rest : List ℕ) → MayStand frame s
+    → Begins (marker fill (marker_code s) more ++ rest)
 unfolding after_restarts
-segment-starts frame fill s more may = grind (arith, common_steps, segment-marker)
-
-pub scan-starts : (fill : ℕ) (after : List ℕ) → Begins (marker fill 218 after)
-unfolding marker_of after_restarts
-scan-starts fill after =
-    record { fill = fill; code = 218; m = SOS; after = after; is = refl; makes = refl; ends = λ turns bytes. refl }
-
-pub end-starts : (fill : ℕ) (after : List ℕ) → Begins (marker fill 217 after)
-unfolding marker_of after_restarts
-end-starts fill after =
-    record { fill = fill; code = 217; m = EOI; after = after; is = refl; makes = refl; ends = λ turns bytes. refl }
-
--- a marker and what is written after it, and the bytes after the end of the image
-pub segment-tail : (fill code : ℕ) (bytes more tail : List ℕ)
-    → marker fill code (bytes ++ more) ++ tail ≡ marker fill code (bytes ++ (more ++ tail))
-segment-tail fill code bytes more tail = search (rules, marker-append, append_assoc)
-
-pub scan-tail : (fill code : ℕ) (header bytes more tail : List ℕ)
-    → marker fill code (header ++ (bytes ++ more)) ++ tail ≡ marker fill code (header ++ (bytes ++ (more ++ tail)))
-scan-tail fill code header bytes more tail = search (rules, segment-tail, append_assoc)
+segment-begins frame fill s more rest may = grind (arith, common_steps, marker-append, segment-marker)
 
 pub marker-longer : (fill code n : ℕ) (bytes more : List ℕ) → length (marker fill code (bytes ++ more)) < suc n
     → length more < n
@@ -200,18 +194,16 @@ pub frame-turn : (before : Before) (found : Found) (number : ℕ) (h : FrameHead
 unfolding segment_at frame_segment
 frame-turn before found number h rest may ok = grind (arith, common_steps, not-refused, read-on, sof-read)
 
--- The turn of a segment that stands, where what else was found is kept beside what it says.
-pub segment-turn : (before : Before) (now next : Found) (s : Segment) (met : Option Marker) (all : List ℕ) (fill : ℕ)
-    (more tail : List ℕ) → Stands now s → found_after now s ≡ next
+-- the turn of a segment that stands
+pub segment-turn : (before : Before) (now : Found) (s : Segment) (met : Option Marker) (all : List ℕ) (fill : ℕ)
+    (more tail : List ℕ) → Stands now s
     → StandsAt met all (marker fill (marker_code s) (with_length (payload_of s) ++ more) ++ tail)
-    → turn_at before now met all ≡ Ok (onward next, more ++ tail)
-segment-turn before now next s met all fill more tail may is at =
+    → turn_at before now met all ≡ Ok (onward (found_after now s), more ++ tail)
+segment-turn before now s met all fill more tail may at =
     at.turn before now
     ∙ ap (turn_at before now None) (segment-tail fill (marker_code s) (with_length (payload_of s)) more tail)
     ∙ marker-turn before now fill (marker_code s) (marker_for s) (with_length (payload_of s) ++ (more ++ tail))
-    (segment-marker now.frame s may.0)
-    ∙ subst (λ (f : Found). segment_at (marker_for s) before now (with_length (payload_of s) ++ (more ++ tail))
-    ≡ Ok (onward f, more ++ tail)) is (search (rules, segment-read, frame-turn))
+    (segment-marker now.frame s may.0) ∙ (search (rules, segment-read, frame-turn))
 
 pub frame-stays : (said : Found) (s : Segment) → IsOther s → (found_after said s).frame ≡ said.frame
 frame-stays said (Header number h) other = absurd other

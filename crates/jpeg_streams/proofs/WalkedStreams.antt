@@ -14,17 +14,17 @@ use Rattle.jpeg_segments.specs.WrittenSegments.{MayStand, Segment, with_length}
 use Rattle.jpeg_streams.specs.Found.{Found, nothing_found}
 use Rattle.jpeg_streams.specs.FoundPictures.{picture_of}
 use Rattle.jpeg_streams.specs.SaidSegments.{found_after, Stands}
-use Rattle.jpeg_streams.specs.ScanSegments.{scan_segment}
+use Rattle.jpeg_streams.specs.ScanSegments.{after_restarts, scan_before, scan_segment}
 use Rattle.jpeg_streams.specs.Segments.{onward, Turn}
 use Rattle.jpeg_streams.specs.Stream.{header_at, meaning, rest_at, segments_at, start_at, Told, told_of, turn_at, walk}
 use Rattle.jpeg_streams.specs.WrittenStreams.{Closes, end, scan, segment, Starts, Writes}
 use Rattle.jpeg_streams.specs.declared.before.Before.{Before}
 use Rattle.jpeg_streams.specs.declared.before.Before.TheVariants.{Elsewhere}
 use Rattle.jpeg_streams.specs.declared.settings.Settings.{Settings}
-use Rattle.jpeg_streams.proofs.ReadTurns.{Begins, end-starts, end-turn, frame-or, frame-stays, is-other, IsEnd, marker-longer}
-use Rattle.jpeg_streams.proofs.ReadTurns.{marker-turn, scan-longer, scan-starts, scan-tail, scan-turn, segment-starts}
-use Rattle.jpeg_streams.proofs.ReadTurns.{segment-tail, segment-turn, segments-walked, some-none, stands-here, stands-met}
-use Rattle.jpeg_streams.proofs.ReadTurns.{StandsAt, then-ok, walk-end, walk-on, walk-stop, Walked}
+use Rattle.jpeg_streams.proofs.ReadTurns.{Begins, end-turn, frame-stays, is-other, IsEnd, marker-longer, scan-longer}
+use Rattle.jpeg_streams.proofs.ReadTurns.{scan-tail, scan-turn, segment-begins, segment-tail, segment-turn}
+use Rattle.jpeg_streams.proofs.ReadTurns.{segments-walked, some-none, stands-here, stands-met, StandsAt, then-ok}
+use Rattle.jpeg_streams.proofs.ReadTurns.{walk-end, walk-on, walk-stop}
 use Rattle.jpeg_streams.proofs.SaidTables.{HasTables, no-tables, segment-tables}
 use Rattle.jpeg_streams.proofs.WrittenMarkers.{marker-append}
 
@@ -102,14 +102,12 @@ pub segment-said : (may : Found → Segment → Type 0) (P : Frame → Type 0)
     → ((said : Found) (number : ℕ) (h : FrameHeader) → Stands said (Header number h) → may said (Header number h)
     → P (frame_written number h))
     → (said : Found) (s : Segment) → Stands said s → may said s → IsSaid P said → IsSaid P (found_after said s)
-segment-said may P shaped said s stands allowed is = record {
-  tables = segment-tables said s stands.0 is.tables;
-  shaped = λ f e. frame-or s
-      (λ number h of. subst P
-      (some-same (frame_written number h) f (ap (λ (x : Segment). (found_after said x).frame) (sym of) ∙ e))
-      (shaped said number h (subst (Stands said) of stands) (subst (may said) of allowed)))
-      (λ other. is.shaped f (sym (frame-stays said s other) ∙ e));
+segment-said may P shaped said (Header number h) stands allowed is = record {
+  tables = is.tables;
+  shaped = λ f e. subst P (some-same (frame_written number h) f e) (shaped said number h stands allowed);
 }
+segment-said may P shaped said s stands allowed is =
+    record { tables = segment-tables said s stands.0 is.tables; shaped = is.shaped }
 
 -- ---- the turns of a stream
 
@@ -129,10 +127,9 @@ pub record FindsScan {Sent Brought : Type 0} (beside : Found → Brought → Fou
     (said : Found) (next : Sent) (x : Brought) (h : ScanHeader) (bytes : List ℕ) : Type 0 where
   pub brought : Brought
   pub held : Held (record said { scanned = true }) next brought
-  pub before : Before
   pub found : (fill code : ℕ) (m : Marker) (left : List ℕ) → marker_of code ≡ Some m → IsEnd m
       → scan_segment (beside said x) (with_length (scan_payload h) ++ (bytes ++ marker fill code left))
-      ≡ scan_to (beside (record said { scanned = true }) brought) before m left
+      ≡ scan_to (beside (record said { scanned = true }) brought) (scan_before said) m left
 
 -- How a kind of stream is read: `beside` puts what scans bring beside what is said, and `Held` says what
 -- was brought where so much was said and sent.
@@ -195,12 +192,30 @@ module _ {Sent Brought : Type 0} {may : Found → Segment → Type 0}
   abbrev Rest : Found → Sent → List ℕ → Found → Sent → Type 0
   Rest = Writes may scans (λ said sent. Closes (may_end said sent) said)
 
-  rest-begins : (said final : Found) (sent last : Sent) (bytes : List ℕ) → Rest said sent bytes final last → Begins bytes
-  rest-begins said final sent last bytes (end said' sent' bytes' c) = subst Begins (sym c.closed) (end-starts c.fill [])
+  rest-begins : (said final : Found) (sent last : Sent) (bytes : List ℕ) → Rest said sent bytes final last
+      → Begins (bytes ++ tail)
+  unfolding marker_of after_restarts
+  rest-begins said final sent last bytes (end said' sent' bytes' c) = record {
+    fill = c.fill;
+    code = 217;
+    m = EOI;
+    after = tail;
+    is = ap (λ (l : List ℕ). l ++ tail) c.closed ∙ marker-append c.fill 217 [] tail;
+    makes = refl;
+    ends = λ turns bytes. refl;
+  }
   rest-begins said final sent last bytes (segment said' final' sent' last' fill s more stands allowed w) =
-      segment-starts said.frame fill s more stands.0
+      segment-begins said.frame fill s (with_length (payload_of s) ++ more) tail stands.0
   rest-begins said final sent last bytes (scan said' final' sent' next last' f fill h data_bytes more framed is sends w) =
-      scan-starts fill (with_length (scan_payload h) ++ (data_bytes ++ more))
+      record {
+        fill = fill;
+        code = 218;
+        m = SOS;
+        after = _;
+        is = marker-append fill 218 _ tail;
+        makes = refl;
+        ends = λ turns bytes. refl;
+      }
 
   segment-next : (said : Found) (x : Brought) (s : Segment) (header : Bool) (turns fill : ℕ) (before : Before)
       (met : Option Marker) (all more : List ℕ) → Stands said s → (header && is_some (beside said x).frame) ≡ false
@@ -209,16 +224,15 @@ module _ {Sent Brought : Type 0} {may : Found → Segment → Type 0}
       ≡ walk turns header Elsewhere (beside (found_after said s) x) None (more ++ tail)
   segment-next said x s header turns fill before met all more stands goes_on at =
       walk-on turns header before (beside said x) met all (more ++ tail) (onward (beside (found_after said s) x)) goes_on
-      (segment-turn before (beside said x) _ s met all fill more tail
-      (subst (λ (o : Option Frame). MayStand o s) (sym (k.frame_beside said x)) stands.0, stands.1) (k.said_beside said x s) at)
-      refl
+      (segment-turn before (beside said x) s met all fill more tail
+      (subst (λ (o : Option Frame). MayStand o s) (sym (k.frame_beside said x)) stands.0, stands.1) at
+      ∙ ap (λ (f : Found). Ok (onward f, more ++ tail)) (k.said_beside said x s)) refl
 
   pub reads-on : (said final : Found) (sent last : Sent) (bytes : List ℕ) (x : Brought) (turns : ℕ) (before : Before)
       (met : Option Marker) (all : List ℕ) → Rest said sent bytes final last → IsSaid P said → Held said sent x
       → StandsAt met all (bytes ++ tail) → length bytes < turns
       → (r : ReadTo P Held may_end final last)
       × (walk turns false before (beside said x) met all ≡ (beside final r.brought, Ok tail))
-  unfolding marker_of
   reads-on said final sent last bytes x zero before met all w is held at room = absurd (omega arith)
   reads-on said final sent last bytes x (suc turns) before met all (end said' sent' bytes' c) is held at room =
       let now = beside said x in (
@@ -226,9 +240,7 @@ module _ {Sent Brought : Type 0} {may : Found → Segment → Type 0}
         walk-end turns false before now met all tail
             (record { found = now; before = Elsewhere; met = None; ended = true }) refl
             (at.turn before now ∙ ap (λ (l : List ℕ). turn_at before now None (l ++ tail)) c.closed
-            ∙ ap (turn_at before now None) (marker-append c.fill 217 [] tail)
-            ∙ marker-turn before now c.fill 217 EOI tail refl
-            ∙ end-turn before now tail (ap is_some (k.frame_beside said x ∙ c.is_said))) refl,
+            ∙ end-turn before now c.fill tail (ap is_some (k.frame_beside said x ∙ c.is_said))) refl,
       )
   reads-on said final sent last bytes x (suc turns) before met all
       (segment said' final' sent' last' fill s more stands allowed w) is held at room =
@@ -242,21 +254,16 @@ module _ {Sent Brought : Type 0} {may : Found → Segment → Type 0}
       let now = beside said x in
       let b = k.reads said sent next x f h data_bytes is framed is_scan sends held in
       let n = rest-begins (record said { scanned = true }) final next last more w in
-      let left = n.after ++ tail in
-      let there : more ++ tail ≡ marker n.fill n.code left = ap (λ (l : List ℕ). l ++ tail) n.is
-      ∙ marker-append n.fill n.code n.after tail in
-      let r = reads-on (record said { scanned = true }) final next last more b.brought turns b.before (Some n.m) left w
+      let r = reads-on (record said { scanned = true }) final next last more b.brought turns (scan_before said) (Some n.m) n.after w
       (record { tables = is.tables; shaped = is.shaped }) b.held
-      (subst (StandsAt (Some n.m) left) (sym there) (stands-met n.fill n.code n.m left n.makes))
+      (subst (StandsAt (Some n.m) n.after) (sym n.is) (stands-met n.fill n.code n.m n.after n.makes))
       (scan-longer fill 218 turns header data_bytes more room) in
       (
         r.0,
-        walk-on turns false before now met all left _ refl (at.turn before now
-            ∙ ap (turn_at before now None) (scan-tail fill 218 header data_bytes more tail
-            ∙ ap (λ (l : List ℕ). marker fill 218 (header ++ (data_bytes ++ l))) there)
-            ∙ marker-turn before now fill 218 SOS (header ++ (data_bytes ++ marker n.fill n.code left)) refl
-            ∙ scan-turn before now (header ++ (data_bytes ++ marker n.fill n.code left))
-            ∙ b.found n.fill n.code n.m left n.makes n.ends) refl ∙ r.1,
+        walk-on turns false before now met all n.after _ refl
+            (at.turn before now ∙ scan-turn before now fill header data_bytes more tail
+            ∙ ap (λ (l : List ℕ). scan_segment now (header ++ (data_bytes ++ l))) n.is
+            ∙ b.found n.fill n.code n.m n.after n.makes n.ends) refl ∙ r.1,
       )
 
   reads-header : (said final : Found) (sent last : Sent) (bytes : List ℕ) (x : Brought) (turns : ℕ)
@@ -272,32 +279,33 @@ module _ {Sent Brought : Type 0} {may : Found → Segment → Type 0}
       (scan said' final' sent' next last' f fill h data_bytes more framed is_scan sends w) is e u room =
       some-none f said.frame framed e
   reads-header said final sent last bytes x (suc turns)
+      (segment said' final' sent' last' fill (Header number h) more stands allowed w) is e u room = (
+    record {
+      between = said;
+      number = number;
+      header = h;
+      stands = stands;
+      allowed = allowed;
+      unscanned = u;
+      said = segment-said may P k.shaped said (Header number h) stands allowed is;
+      left = more;
+      written = w;
+    },
+    segment-next said x (Header number h) true turns fill Elsewhere None _ more stands
+        (ap is_some (k.frame_beside said x ∙ e)) (stands-here _)
+        ∙ walk-stop turns true Elsewhere _ None (more ++ tail)
+        (let l = marker-longer fill _ turns (with_length (payload_of (Header number h))) more room in omega arith)
+        (ap is_some (k.frame_beside (found_after said (Header number h)) x)),
+  )
+  reads-header said final sent last bytes x (suc turns)
       (segment said' final' sent' last' fill s more stands allowed w) is e u room =
-      let shorter = marker-longer fill (marker_code s) turns (with_length (payload_of s)) more room in
-      let step = segment-next said x s true turns fill Elsewhere None _ more stands
-      (ap is_some (k.frame_beside said x ∙ e)) (stands-here _) in
-      let now = segment-said may P k.shaped said s stands allowed is in
-      frame-or s
-      (λ number h of. (
-        record {
-          between = said;
-          number = number;
-          header = h;
-          stands = subst (Stands said) of stands;
-          allowed = subst (may said) of allowed;
-          unscanned = u;
-          said = subst (λ (y : Segment). IsSaid P (found_after said y)) of now;
-          left = more;
-          written = subst (λ (y : Segment). Rest (found_after said y) sent more final last) of w;
-        },
-        step ∙ walk-stop turns true Elsewhere _ None (more ++ tail) (omega arith)
-            (ap is_some (k.frame_beside _ x ∙ ap (λ (y : Segment). (found_after said y).frame) of))
-            ∙ ap (λ (y : Segment). (beside (found_after said y) x, Ok (more ++ tail))) of,
-      ))
-      (λ other.
-      let r = reads-header (found_after said s) final sent last more x turns w now (frame-stays said s other ∙ e)
-      (scanned-stays said s ∙ u) shorter in
-      (r.0, step ∙ r.1))
+      let r = reads-header (found_after said s) final sent last more x turns w
+      (segment-said may P k.shaped said s stands allowed is) e u
+      (marker-longer fill (marker_code s) turns (with_length (payload_of s)) more room) in (
+        r.0,
+        segment-next said x s true turns fill Elsewhere None _ more stands (ap is_some (k.frame_beside said x ∙ e))
+            (stands-here _) ∙ r.1,
+      )
 
   -- ---- the whole
 
