@@ -1,8 +1,8 @@
 -- A stream that is written for the coefficients of an image is read up to its end.
-use Rattle.std.proofs.Common.{rules, ◌≡◌, ℕ, ◌≤◌, Bool, true, false, List, [], ◌++◌, length, replicate, Option, Some, None, Ok}
+use Rattle.std.proofs.Common.{rules, ◌≡◌, ℕ, Bool, true, false, List, [], ◌++◌, length, replicate, Option, Some, None, Ok}
 use Rattle.std.proofs.Common.{refl, sym, ap, ◌∙◌, subst, true≢false}
 use Rattle.std.specs.List.{AllByRecursion}
-use Rattle.jpeg_bits.specs.Reading.{Outcome, ◌>>=◌}
+use Rattle.jpeg_bits.specs.Reading.{Outcome}
 use Rattle.jpeg_bits.specs.Written.{marker}
 use Rattle.jpeg_pixels.specs.Pictures.{Source, sources_of}
 use Rattle.jpeg_segments.specs.Frame.{Component, Frame}
@@ -14,7 +14,7 @@ use Rattle.jpeg_streams.specs.Levels.{Is8Bit, Levels, nothing_sent}
 use Rattle.jpeg_streams.specs.SaidSegments.{found_after, Stands}
 use Rattle.jpeg_streams.specs.Scans.{Arrays}
 use Rattle.jpeg_streams.specs.ScanSegments.{arrays_before, is_progressive, scan_before}
-use Rattle.jpeg_streams.specs.Stream.{meaning, Told, told_of}
+use Rattle.jpeg_streams.specs.Stream.{meaning, Told}
 use Rattle.jpeg_streams.specs.WholeImages.{AllComplete}
 use Rattle.jpeg_streams.specs.WrittenImages.{MayStandInImage, WritesImage, WritesImageScan}
 use Rattle.jpeg_streams.specs.WrittenScans.{Coefficients, HasTable}
@@ -22,33 +22,33 @@ use Rattle.jpeg_streams.proofs.BroughtLevels.{Framed, framed-start, scan-brings,
 use Rattle.jpeg_streams.proofs.FrameShapes.{accepted-sources, all-shaped, frame-lossy, Plain}
 use Rattle.jpeg_streams.proofs.LosslessFrames.{all-ranged}
 use Rattle.jpeg_streams.proofs.ReadStates.{PlaneSo}
-use Rattle.jpeg_streams.proofs.ReadTurns.{codings-same, frame-stays, IsOther, is-other, same-frame, scan-by}
+use Rattle.jpeg_streams.proofs.ReadTurns.{codings-same, same-frame, scan-by, some-none}
 use Rattle.jpeg_streams.proofs.ScanFacts.{header-facts}
 use Rattle.jpeg_streams.proofs.TablesInForce.{codings-good}
-use Rattle.jpeg_streams.proofs.WalkedStreams.{FindsScan, IsMeant, IsRead, IsSaid, ReadTo, scanned-stays, scan_to, stream-read}
+use Rattle.jpeg_streams.proofs.WalkedStreams.{FindsScan, IsMeant, IsRead, IsSaid, ReadTo, scan_to, stream-read}
 use Rattle.jpeg_streams.specs.declared.settings.Settings.{Settings}
 
 -- ---- what scans bring
 
 -- blocks that are kept, finished indices and decided planes
-abbrev pub Brought : Type 0
-Brought = Arrays × List (List Bool) × List (Option (List ℕ))
+abbrev pub Progress : Type 0
+Progress = Arrays × List (List Bool) × List (Option (List ℕ))
 
-abbrev pub nothing_brought : Brought
-nothing_brought = ([], replicate 4 none_finished, replicate 4 None)
+abbrev pub no_progress : Progress
+no_progress = ([], replicate 4 none_finished, replicate 4 None)
 
-abbrev pub with_brought : Found → Brought → Found
-with_brought w x = record w { kept = x.0; finished = x.1; planes = x.2 }
+abbrev pub with_progress : Found → Progress → Found
+with_progress w x = record w { kept = x.0; finished = x.1; planes = x.2 }
 
 -- Nothing before the first scan, and then what the levels say.
-pub record Holds (array : Coefficients) (said : Found) (levels : ℕ → Levels) (x : Brought) : Type 0 where
+pub record Holds (array : Coefficients) (said : Found) (levels : ℕ → Levels) (x : Progress) : Type 0 where
   pub fresh : said.scanned ≡ false
-      → (x ≡ nothing_brought) × ◌≡◌ {A = ℕ → Levels} levels (λ k. nothing_sent)
+      → (x ≡ no_progress) × ◌≡◌ {A = ℕ → Levels} levels (λ k. nothing_sent)
   pub framed : said.scanned ≡ true
       → (f : Frame) × (said.frame ≡ Some f) × Framed said f array levels true x.0 x.1 x.2
 
 pub holds-nothing : (array : Coefficients) (said : Found) → said.scanned ≡ false
-    → Holds array said (λ k. nothing_sent) nothing_brought
+    → Holds array said (λ k. nothing_sent) no_progress
 holds-nothing array said e = record { fresh = λ g. (refl, refl); framed = λ g. absurd (true≢false (sym g ∙ e)) }
 
 -- ---- a segment between scans
@@ -58,28 +58,25 @@ plane-same : (w next : Found) (array : Coefficients) (l : Levels) (pl : List (Op
     → PlaneSo w array l pl k c → PlaneSo next array l pl k c
 plane-same w next array l pl k c e p = search rules
 
-framed-same : (w next : Found) (f : Frame) (array : Coefficients) (levels : ℕ → Levels) (x : Brought)
+framed-same : (w next : Found) (f : Frame) (array : Coefficients) (levels : ℕ → Levels) (x : Progress)
     → next.quantization ≡ w.quantization → Framed w f array levels true x.0 x.1 x.2
     → Framed next f array levels true x.0 x.1 x.2
 unfolding arrays_before
 framed-same w next f array levels x e fr = search (rules, plane-same)
 
-framed-next : (w : Found) (s : Segment) (f : Frame) (array : Coefficients) (levels : ℕ → Levels) (x : Brought)
-    → MayStandInImage w s → IsOther s → w.scanned ≡ true → Framed w f array levels true x.0 x.1 x.2
-    → Framed (found_after w s) f array levels true x.0 x.1 x.2
-framed-next w (Quantization ts) f array levels x may other e fr = absurd (true≢false (sym e ∙ may))
-framed-next w (Header number h) f array levels x may other e fr = absurd other
-framed-next w s f array levels x may other e fr = framed-same w (found_after w s) f array levels x refl fr
-
-holds-next : (array : Coefficients) (said : Found) (levels : ℕ → Levels) (x : Brought) (s : Segment) → Stands said s
+holds-next : (array : Coefficients) (said : Found) (levels : ℕ → Levels) (x : Progress) (s : Segment) → Stands said s
     → MayStandInImage said s → Holds array said levels x → Holds array (found_after said s) levels x
+holds-next array said levels x (Quantization ts) stands may held =
+    record { fresh = held.fresh; framed = λ e. absurd (true≢false (sym e ∙ may)) }
+holds-next array said levels x (Header number h) stands may held = record {
+  fresh = held.fresh;
+  framed = λ e. some-none (held.framed e).0 said.frame (held.framed e).1 stands.0.0;
+}
 holds-next array said levels x s stands may held = record {
-  fresh = λ e. held.fresh (sym (scanned-stays said s) ∙ e);
+  fresh = held.fresh;
   framed = λ e.
-      let scanned = sym (scanned-stays said s) ∙ e in
-      let h = held.framed scanned in
-      let other = is-other said h.0 s h.1 stands in
-      (h.0, frame-stays said s other ∙ h.1, framed-next said s h.0 array levels x may other scanned h.2);
+      let h = held.framed e in
+      (h.0, h.1, framed-same said (found_after said s) h.0 array levels x refl h.2);
 }
 
 -- ---- a scan
@@ -103,7 +100,7 @@ drawn-said said number h stands few =
     )
 
 module _ (array : Coefficients) (range : (index row column : ℕ) → Is8Bit (array index row column)) where
-  framed-now : (said : Found) (levels : ℕ → Levels) (x : Brought) (f : Frame) → Holds array said levels x
+  framed-now : (said : Found) (levels : ℕ → Levels) (x : Progress) (f : Frame) → Holds array said levels x
       → said.frame ≡ Some f → Framed said f array levels said.scanned x.0 x.1 x.2
   framed-now said levels x f held e = go said.scanned refl
     where
@@ -111,14 +108,14 @@ module _ (array : Coefficients) (range : (index row column : ℕ) → Is8Bit (ar
       go false g =
           let n = held.fresh g in
           subst (λ (l : ℕ → Levels). Framed said f array l false x.0 x.1 x.2) (sym n.1)
-          (framed-start said f array x.0 x.1 x.2 range (ap (λ (y : Brought). y.1) n.0) (ap (λ (y : Brought). y.2) n.0))
+          (framed-start said f array x.0 x.1 x.2 range (ap (λ (y : Progress). y.1) n.0) (ap (λ (y : Progress). y.2) n.0))
       go true g =
           let h = held.framed g in
           subst (λ (y : Frame). Framed said y array levels true x.0 x.1 x.2) (same-frame h.0 f said.frame h.1 e) h.2
 
-  scan-found : (said : Found) (levels next : ℕ → Levels) (x : Brought) (f : Frame) (h : ScanHeader) (bytes : List ℕ)
+  scan-found : (said : Found) (levels next : ℕ → Levels) (x : Progress) (f : Frame) (h : ScanHeader) (bytes : List ℕ)
       → IsSaid IsDrawn said → said.frame ≡ Some f → IsScan f h → WritesImageScan array said levels f h bytes next
-      → Holds array said levels x → FindsScan with_brought (Holds array) said next x h bytes
+      → Holds array said levels x → FindsScan with_progress (Holds array) said next x h bytes
   scan-found said levels next x f h bytes is e scan w held =
       let s = scan_written f h in
       let shape = (is.shaped f e).0 in
@@ -137,14 +134,14 @@ module _ (array : Coefficients) (range : (index row column : ℕ) → Is8Bit (ar
           );
         };
         found = λ fill code m left makes ends.
-            scan-by (with_brought said x) f s w.codings b.arrays m _ (bytes ++ marker fill code left) left shape.lossy e
+            scan-by (with_progress said x) f s w.codings b.arrays m _ (bytes ++ marker fill code left) left shape.lossy e
             (sos-read f h (bytes ++ marker fill code left) scan)
             (codings-same said said.scanned x.0 x.1 x.2 f s ∙ w.legal.are_in_force)
             (b.read fill code m left (record { is = makes })) (ends (length left) left)
             ∙ ap (λ (y : Found). scan_to y (scan_before said) m left) b.after;
       }
 
-  pub image-read : IsRead MayStandInImage (WritesImageScan array) IsDrawn with_brought (Holds array)
+  pub image-read : IsRead MayStandInImage (WritesImageScan array) IsDrawn with_progress (Holds array)
   image-read = record {
     frame_beside = λ said x. refl;
     said_beside = λ said x s. search rules;
@@ -161,37 +158,19 @@ MayEndImage said levels frame =
     (said.scanned ≡ true) × AllByRecursion (HasTable said) frame.components
     × (is_progressive frame.process ≡ false → AllComplete frame levels)
 
--- What scans have brought by the end of the image: the blocks and planes of the last levels.
-pub record Ended (f : Frame) (array : Coefficients) (final : Found) (last : ℕ → Levels) (x : Brought) : Type 0 where
-  pub framed : Framed final f array last true x.0 x.1 x.2
-  pub frame_is : final.frame ≡ Some f
-  pub scanned : final.scanned ≡ true
-  pub tables : AllByRecursion (HasTable final) f.components
-  pub complete : is_progressive f.process ≡ false → AllComplete f last
-
-pub image-ended : (array : Coefficients) (final : Found) (last : ℕ → Levels)
-    → (r : ReadTo IsDrawn (Holds array) MayEndImage final last) → Ended r.frame array final last r.brought
-image-ended array final last r =
-    let h = r.held.framed r.ended.0 in
-    record {
-      framed = subst (λ (f : Frame). Framed final f array last true r.brought.0 r.brought.1 r.brought.2)
-          (same-frame h.0 r.frame final.frame h.1 r.framed) h.2;
-      frame_is = r.framed;
-      scanned = r.ended.0;
-      tables = r.ended.1;
-      complete = r.ended.2;
-    }
-
 -- ---- the whole
+
+abbrev pub ReadImage : Coefficients → Found → (ℕ → Levels) → Type 0
+ReadImage array final last = ReadTo IsDrawn (Holds array) MayEndImage final last
 
 abbrev pub ImageMeant : Settings → Coefficients → Found → (ℕ → Levels) → List ℕ → Outcome (Told × List ℕ) → Type 0
 ImageMeant settings array final last tail meant =
-    IsMeant IsDrawn with_brought (Holds array) MayEndImage settings final last tail meant
+    IsMeant IsDrawn with_progress (Holds array) MayEndImage settings final last tail meant
 
 pub image-walked : (settings : Settings) (array : Coefficients) (bytes tail : List ℕ) (final : Found) (last : ℕ → Levels)
     → ((index row column : ℕ) → Is8Bit (array index row column)) → WritesImage array bytes final last
     → ImageMeant settings array final last tail (meaning settings (bytes ++ tail))
 unfolding nothing_found
 image-walked settings array bytes tail final last range w =
-    stream-read MayEndImage (image-read array range) tail (λ k. nothing_sent) last bytes final nothing_brought settings w
+    stream-read MayEndImage (image-read array range) tail (λ k. nothing_sent) last bytes final no_progress settings w
     refl (holds-nothing array nothing_found refl)

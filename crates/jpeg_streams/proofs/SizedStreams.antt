@@ -1,7 +1,7 @@
 -- A written stream, read at a scale.
 use Rattle.std.proofs.lemmas.Grind.{common_steps}
-use Rattle.std.proofs.Common.{rules, ◌≡◌, ◌≢◌, ℕ, zero, suc, ◌<◌, ◌≤◌, true, false, List, [], ◌∷◌, ◌++◌, map, length}
-use Rattle.std.proofs.Common.{option_map, Option, None, Result, Ok, refl, sym, ap, ◌∙◌, subst, arith}
+use Rattle.std.proofs.Common.{rules, ◌≡◌, ◌≢◌, ℕ, zero, suc, ◌<◌, ◌≤◌, List, [], ◌∷◌, ◌++◌, map, length}
+use Rattle.std.proofs.Common.{option_map, Option, None, Ok, refl, sym, ap, ◌∙◌, subst, arith}
 use Rattle.std.proofs.Common.{length-append}
 use Rattle.jpeg_segments.specs.declared.parser.CodingProcess.{CodingProcess}
 use Rattle.jpeg_segments.specs.declared.parser.CodingProcess.TheVariants.{DctSequential, DctProgressive, Lossless}
@@ -25,7 +25,7 @@ use Rattle.jpeg_streams.proofs.ScaledSizes.{scaled_component, most_h, most_v, fr
 use Rattle.jpeg_streams.proofs.ScaledScans.{own-same, Alike, Alikes, none, one_more, SameFrame, length-same, at_frame}
 use Rattle.jpeg_streams.proofs.ScaledScans.{scans-alike}
 use Rattle.jpeg_streams.proofs.ReadStreams.{drawn-said, holds-nothing, image-read, IsDrawn, ImageMeant, MayEndImage}
-use Rattle.jpeg_streams.proofs.ReadStreams.{nothing_brought, plain-said, with_brought}
+use Rattle.jpeg_streams.proofs.ReadStreams.{no_progress, plain-said, with_progress}
 use Rattle.jpeg_streams.proofs.WalkedStreams.{frame-kept, header-read, reads-on, rest-by, some-same}
 use Rattle.jpeg_streams.proofs.WrittenPictures.{pictured, taken}
 use Rattle.jpeg_streams.proofs.ScaledSources.{frame-sources}
@@ -91,7 +91,7 @@ image-sized : (width height : ℕ) (settings : Settings) (array : Coefficients) 
     → ImageMeant settings array (sized_to width height final) last tail (sized_meaning width height settings (bytes ++ tail))
 unfolding sized_meaning nothing_found
 image-sized width height settings array bytes tail final last range w =
-    let r = header-read MayEndImage (image-read array range) tail (λ k. nothing_sent) last bytes final nothing_brought w
+    let r = header-read MayEndImage (image-read array range) tail (λ k. nothing_sent) last bytes final no_progress w
     refl in
     let h = r.0 in
     let said = found_after h.between (Header h.number h.header) in
@@ -109,15 +109,15 @@ image-sized width height settings array bytes tail final last range w =
     let left = h.left ++ tail in
     let lefts = length-append h.left tail in
     let e = reads-on MayEndImage (image-read array range) tail (at_frame said g) (at_frame final g) (λ k. nothing_sent) last
-    h.left nothing_brought (suc (length left)) Elsewhere None left
+    h.left no_progress (suc (length left)) Elsewhere None left
     (scans-alike array f g said final (λ k. nothing_sent) last h.left same refl h.written)
     (record { tables = h.said.tables; shaped = λ x q. subst IsDrawn (some-same g x q) drawn })
     (holds-nothing array (at_frame said g) h.unscanned) (stands-here left) (omega arith) in
     subst (λ (x : Found). ImageMeant settings array x last tail (sized_meaning width height settings (bytes ++ tail)))
     (ap (λ (o : Option Frame). record final { frame = option_map (sized width height) o }) (sym kept)) (
       e.0,
-      then-ok (header_at (bytes ++ tail)) _ (with_brought said nothing_brought, left) _ r.1
-          (rest-by settings (with_brought (at_frame said g) nothing_brought) _ left tail e.1),
+      then-ok (header_at (bytes ++ tail)) _ (with_progress said no_progress, left) _ r.1
+          (rest-by settings (with_progress (at_frame said g) no_progress) _ left tail e.1),
     )
 
 -- The meaning at a scale is the picture of the array at that scale.

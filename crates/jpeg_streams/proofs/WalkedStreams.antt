@@ -1,7 +1,6 @@
 -- Written streams of any kind: what stays through one, and that it is read turn by turn.
-use Rattle.std.proofs.lemmas.Grind.{common_steps}
-use Rattle.std.proofs.Common.{rules, ◌≡◌, ◌&&◌, ℕ, zero, suc, ◌<◌, Bool, true, false, List, [], ◌∷◌, ◌++◌, length, is_some}
-use Rattle.std.proofs.Common.{Option, Some, None, Result, Ok, refl, sym, ap, ◌∙◌, subst, arith, length-append}
+use Rattle.std.proofs.Common.{rules, ◌≡◌, ◌&&◌, ℕ, zero, suc, ◌<◌, Bool, true, false, List, [], ◌++◌, length, is_some}
+use Rattle.std.proofs.Common.{Option, Some, None, Ok, refl, sym, ap, ◌∙◌, subst, arith, length-append}
 use Rattle.jpeg_bits.specs.Marker.{marker_of}
 use Rattle.jpeg_bits.specs.Reading.{Outcome, ◌>>=◌}
 use Rattle.jpeg_bits.specs.Written.{marker}
@@ -182,9 +181,6 @@ pub record Headed {Sent : Type 0} (may : Found → Segment → Type 0)
   pub written : Writes may scans (λ now x. Closes (may_end now x) now) (found_after between (Header number header)) sent
       left final last
 
-pub scanned-stays : (said : Found) (s : Segment) → (found_after said s).scanned ≡ said.scanned
-scanned-stays said s = search rules
-
 module _ {Sent Brought : Type 0} {may : Found → Segment → Type 0}
     {scans : Found → Sent → Frame → ScanHeader → List ℕ → Sent → Type 0} {P : Frame → Type 0}
     {beside : Found → Brought → Found} {Held : Found → Sent → Brought → Type 0}
@@ -257,8 +253,7 @@ module _ {Sent Brought : Type 0} {may : Found → Segment → Type 0}
       let r = reads-on (record said { scanned = true }) final next last more b.brought turns (scan_before said) (Some n.m) n.after w
       (record { tables = is.tables; shaped = is.shaped }) b.held
       (subst (StandsAt (Some n.m) n.after) (sym n.is) (stands-met n.fill n.code n.m n.after n.makes))
-      (scan-longer fill 218 turns header data_bytes more room) in
-      (
+      (scan-longer fill 218 turns header data_bytes more room) in (
         r.0,
         walk-on turns false before now met all n.after _ refl
             (at.turn before now ∙ scan-turn before now fill header data_bytes more tail
@@ -280,23 +275,23 @@ module _ {Sent Brought : Type 0} {may : Found → Segment → Type 0}
       some-none f said.frame framed e
   reads-header said final sent last bytes x (suc turns)
       (segment said' final' sent' last' fill (Header number h) more stands allowed w) is e u room = (
-    record {
-      between = said;
-      number = number;
-      header = h;
-      stands = stands;
-      allowed = allowed;
-      unscanned = u;
-      said = segment-said may P k.shaped said (Header number h) stands allowed is;
-      left = more;
-      written = w;
-    },
-    segment-next said x (Header number h) true turns fill Elsewhere None _ more stands
-        (ap is_some (k.frame_beside said x ∙ e)) (stands-here _)
-        ∙ walk-stop turns true Elsewhere _ None (more ++ tail)
-        (let l = marker-longer fill _ turns (with_length (payload_of (Header number h))) more room in omega arith)
-        (ap is_some (k.frame_beside (found_after said (Header number h)) x)),
-  )
+        record {
+          between = said;
+          number = number;
+          header = h;
+          stands = stands;
+          allowed = allowed;
+          unscanned = u;
+          said = segment-said may P k.shaped said (Header number h) stands allowed is;
+          left = more;
+          written = w;
+        },
+        segment-next said x (Header number h) true turns fill Elsewhere None _ more stands
+            (ap is_some (k.frame_beside said x ∙ e)) (stands-here _)
+            ∙ walk-stop turns true Elsewhere _ None (more ++ tail)
+            (let l = marker-longer fill _ turns (with_length (payload_of (Header number h))) more room in omega arith)
+            (ap is_some (k.frame_beside (found_after said (Header number h)) x)),
+      )
   reads-header said final sent last bytes x (suc turns)
       (segment said' final' sent' last' fill s more stands allowed w) is e u room =
       let r = reads-header (found_after said s) final sent last more x turns w

@@ -1,6 +1,6 @@
 -- A sequential stream of three components, with padding and a restart, worked by hand, is one that is written.
 use Rattle.std.proofs.Common.{rules, ◌≡◌, ℕ, zero, suc, ◌*◌, ◌+◌, Bool, true, false, List, [], ◌∷◌, ◌++◌}
-use Rattle.std.proofs.Common.{replicate, ℤ, pos, negsuc, ◌-ℤ◌, Some, refl, sym, arith, true≢false}
+use Rattle.std.proofs.Common.{replicate, ℤ, pos, negsuc, ◌-ℤ◌, Some, refl, arith}
 use Rattle.std.specs.Prelude.{get_or, set}
 use Rattle.jpeg_bits.specs.Codes.{Table, lengths_from, code_value, codes_exist}
 use Rattle.jpeg_bits.specs.Intervals.{groups}

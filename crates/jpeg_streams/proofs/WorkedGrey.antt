@@ -1,6 +1,6 @@
 -- A progressive stream of three blocks, worked by hand, is one that is written.
 use Rattle.std.proofs.Common.{rules, ℕ, zero, suc, ◌*◌, ◌+◌, true, false, List, [], ◌∷◌, replicate, pos, negsuc, Some}
-use Rattle.std.proofs.Common.{refl, sym, arith, true≢false}
+use Rattle.std.proofs.Common.{refl, arith, true≢false}
 use Rattle.jpeg_bits.specs.Codes.{Table, lengths_from, code_value, codes_exist}
 use Rattle.jpeg_bits.specs.Written.{low_bits, bits_of_bytes, IsCoded, stuffed, number_for}
 use Rattle.jpeg_bits.specs.declared.codes.HuffmanTableClass.TheVariants as classes

@@ -1,6 +1,6 @@
 -- Fronts of streams, and streams that mean one picture.
-use Rattle.std.proofs.Common.{rules, ◌≡◌, ◌⊎◌, inl, ℕ, zero, suc, ◌+◌, ◌*◌, Bool, true, false, cond, List, []}
-use Rattle.std.proofs.Common.{◌∷◌, ◌++◌, map, drop, length, nat_lt, Some, None, Result, Ok, Err, refl, sym, ap, ◌∙◌}
+use Rattle.std.proofs.Common.{rules, ◌≡◌, ◌⊎◌, inl, ℕ, zero, suc, ◌+◌, ◌*◌, true, cond, List, []}
+use Rattle.std.proofs.Common.{◌∷◌, ◌++◌, drop, length, nat_lt, Some, None, Result, Ok, Err, refl, sym, ap, ◌∙◌}
 use Rattle.std.proofs.Common.{subst, true≢false}
 use Rattle.std.specs.List.{AllByRecursion}
 use Rattle.std.specs.Prelude.{slice_index_or}
@@ -23,7 +23,7 @@ use Rattle.jpeg_streams.specs.WholeImages.{AllComplete}
 use Rattle.jpeg_streams.specs.WrittenImages.{ClosesImage, WritesImage, WritesPart}
 use Rattle.jpeg_streams.specs.WrittenParts.{AgreeOnOwn, HaveSamePicture, picture_meant_by, WritesFront}
 use Rattle.jpeg_streams.specs.WrittenStreams.{end, scan, segment}
-use Rattle.jpeg_streams.specs.WrittenScans.{Coefficients, grid_at, HasTable, levels_after}
+use Rattle.jpeg_streams.specs.WrittenScans.{Coefficients, grid_at, HasTable}
 use Rattle.jpeg_streams.specs.WrittenScans.{no_grid, index_at}
 use Rattle.jpeg_streams.proofs.ReadTurns.{codings-each, same-frame, then-ok}
 use Rattle.jpeg_streams.proofs.WalkedStreams.{frame-kept, front-append}

@@ -41,10 +41,10 @@ use Rattle.jpeg_streams.proofs.OwnSpots.{At, at-within, Fits, in-below}
 use Rattle.jpeg_streams.proofs.WrittenFrameScans.{HoldsOwn, in-all}
 use Rattle.jpeg_streams.proofs.Apart.{at-all}
 use Rattle.jpeg_streams.proofs.ReadStates.{is_whole}
-use Rattle.jpeg_streams.proofs.BroughtLevels.{Made, Shaped, kept-arrays}
+use Rattle.jpeg_streams.proofs.BroughtLevels.{Framed, Made, Shaped, kept-arrays}
 use Rattle.jpeg_streams.proofs.ReadTurns.{same-frame, then-ok}
 use Rattle.jpeg_streams.proofs.FrameShapes.{below-ceiling}
-use Rattle.jpeg_streams.proofs.ReadStreams.{Brought, Ended, image-ended, image-walked, ImageMeant, with_brought}
+use Rattle.jpeg_streams.proofs.ReadStreams.{image-walked, ImageMeant, Progress, ReadImage, with_progress}
 use Rattle.jpeg_streams.proofs.InsidePictures.{SamePlane, AllAlike, image-same, cropped-same}
 
 -- ---- one plane
@@ -138,10 +138,23 @@ end-kept : (found : Found) (f : Frame) (k : ℕ) (c : Component) (table : List �
 unfolding plane_at_end
 end-kept found f k c table n p s t = search (rules, then-ok)
 
-module _ (f : Frame) (array : Coefficients) (final : Found) (last : ℕ → Levels) (shape : Shaped f)
-    (x : Brought) (end : Ended f array final last x) where
+module _ (array : Coefficients) (final : Found) (last : ℕ → Levels) (r : ReadImage array final last) where
+  abbrev f : Frame
+  f = r.frame
+
+  abbrev x : Progress
+  x = r.brought
+
   abbrev found : Found
-  found = with_brought final x
+  found = with_progress final x
+
+  shape : Shaped f
+  shape = (r.said.shaped f r.framed).0
+
+  framed : Framed final f array last true x.0 x.1 x.2
+  framed =
+      let h = r.held.framed r.ended.0 in
+      subst (λ (g : Frame). Framed final g array last true x.0 x.1 x.2) (same-frame h.0 f final.frame h.1 r.framed) h.2
 
   plane-end : (k : ℕ) (c : Component) → At k f.components c → PlaneAtEnd found f array (last k) k c
   plane-end k c t = go (is_whole (last k)) refl (is_progressive f.process) refl
@@ -149,7 +162,7 @@ module _ (f : Frame) (array : Coefficients) (final : Found) (last : ℕ → Leve
       go : (b : Bool) → is_whole (last k) ≡ b → (p : Bool) → is_progressive f.process ≡ p
           → PlaneAtEnd found f array (last k) k c
       go true e p g =
-          let o = (end.framed.marked.planes k c t).decided e in
+          let o = (framed.marked.planes k c t).decided e in
           record {
             table = o.table;
             is_table = o.is_table;
@@ -158,18 +171,18 @@ module _ (f : Frame) (array : Coefficients) (final : Found) (last : ℕ → Leve
             is = end-decided found f k c (plane_by c o.table o.blocks) o.plane;
           }
       go false e true g =
-          let n = (end.framed.marked.planes k c t).undecided e in
-          let q = at-all (HasTable final) k f.components c end.tables t in
+          let n = (framed.marked.planes k c t).undecided e in
+          let q = at-all (HasTable final) k f.components c r.ended.1 t in
           record {
             table = q.table;
             is_table = q.is;
             blocks = get_or x.0 k [];
             holds = subst (λ (a : Arrays). HoldsOwn (grid_of c) (array k) (last k) (get_or a k []))
-                (kept-arrays final x.0 x.1 x.2 f g) ((end.framed.kept g).each k c t);
-            is = end-kept found f k c q.table n g end.scanned q.is;
+                (kept-arrays final x.0 x.1 x.2 f g) ((framed.kept g).each k c t);
+            is = end-kept found f k c q.table n g r.ended.0 q.is;
           }
       go false e false g =
-          let all = in-all (λ (j : ℕ). IsComplete (last j)) (range_with_len 0 (length f.components)) k (end.complete g)
+          let all = in-all (λ (j : ℕ). IsComplete (last j)) (range_with_len 0 (length f.components)) k (r.ended.2 g)
           (in-below k (length f.components) (at-within k f.components c t)) in
           absurd (true≢false (sym (complete-whole (last k) all) ∙ e))
 
@@ -181,12 +194,11 @@ module _ (f : Frame) (array : Coefficients) (final : Found) (last : ℕ → Leve
     theirs_are : planes_of_blocks final (as_sent array last) index components ≡ Ok theirs
     alike : AllAlike components ours theirs
 
-  planes-end : (scaled : (k : ℕ) (c : Component) → At k f.components c → 0 < c.scale) (index : ℕ)
-      (components : List Component)
+  planes-end : (index : ℕ) (components : List Component)
       → ((j : ℕ) (c : Component) → At j components c → At (index + j) f.components c) → BothPlanes
       index components
   unfolding planes_from planes_of_blocks
-  planes-end scaled index [] within = record {
+  planes-end index [] within = record {
     ours = [];
     theirs = [];
     ours_are = refl;
@@ -194,12 +206,12 @@ module _ (f : Frame) (array : Coefficients) (final : Found) (last : ℕ → Leve
         = refl;
     alike = tt;
   }
-  planes-end scaled index (c ∷ more) within =
+  planes-end index (c ∷ more) within =
       let start : index + 0 ≡ index = omega arith in
       let t : At index f.components c = subst (λ (n : ℕ). At n f.components c) start (within 0 c
       refl) in
       let e = plane-end index c t in
-      let others = planes-end scaled (index + 1) more
+      let others = planes-end (index + 1) more
       (λ j d u. let next : index + suc j ≡ (index + 1) + j = omega arith in
       subst (λ (n : ℕ). At n f.components d) next (within (suc j) d u)) in
       record {
@@ -212,11 +224,15 @@ module _ (f : Frame) (array : Coefficients) (final : Found) (last : ℕ → Leve
             (then-ok (planes_of_blocks final (as_sent array last) (index + 1) more) _ others.theirs
             _ others.theirs_are refl);
         alike = (
-          plane-same f c e.table (last index) (array index) e.blocks (scaled index c t)
+          plane-same f c e.table (last index) (array index) e.blocks (scale-made f shape.made index c t)
               (shape.fits index c t) e.holds,
           others.alike,
         );
       }
+
+  both-planes : BothPlanes 0 f.components
+  both-planes = planes-end 0 f.components
+      (λ j c t. let start : 0 + j ≡ j = omega arith in subst (λ (n : ℕ). At n f.components c) (sym start) t)
 
 -- ---- the picture
 
@@ -249,15 +265,15 @@ blocks-picture : (settings : Settings) (w : Found) (blocks : Coefficients) (f : 
 unfolding picture_of_blocks
 blocks-picture settings w blocks f planes e p = search (rules, then-ok)
 
-pub pictures-same : (settings : Settings) (f : Frame) (array : Coefficients) (final : Found) (last : ℕ → Levels)
-    (x : Brought) → Shaped f → Ended f array final last x
-    → picture_of settings (with_brought final x) ≡ picture_of_array settings final array last
-pictures-same settings f array final last x shape end =
-    let b = planes-end f array final last shape x end (scale-made f shape.made) 0 f.components
-    (λ j c t. let start : 0 + j ≡ j = omega arith in subst (λ (n : ℕ). At n f.components c) (sym start) t) in
-    found-picture settings (with_brought final x) f b.ours shape.lossy end.frame_is b.ours_are
+pictures-same : (settings : Settings) (array : Coefficients) (final : Found) (last : ℕ → Levels)
+    → (r : ReadImage array final last)
+    → picture_of settings (with_progress final r.brought) ≡ picture_of_array settings final array last
+pictures-same settings array final last r =
+    let made = (shape array final last r).made in
+    let b = both-planes array final last r in
+    found-picture settings (with_progress final r.brought) r.frame b.ours (shape array final last r).lossy r.framed b.ours_are
     ∙ (search (rules, picture-by-same))
-    ∙ sym (blocks-picture settings final (as_sent array last) f b.theirs end.frame_is b.theirs_are)
+    ∙ sym (blocks-picture settings final (as_sent array last) r.frame b.theirs r.framed b.theirs_are)
 
 -- What the end of a stream means is the picture of its array, cut at the levels that were sent.
 pub pictured : (settings : Settings) (array : Coefficients) (final : Found) (last : ℕ → Levels) (tail : List ℕ)
@@ -265,8 +281,7 @@ pub pictured : (settings : Settings) (array : Coefficients) (final : Found) (las
     → meant ≡ meaning_of_array settings final array last tail
 pictured settings array final last tail meant r =
     r.1 ∙ ap (λ (o : Result (List ℕ) Fault). o >>= (λ (picture : List ℕ). Ok ((told_of final, picture), tail)))
-    (pictures-same settings r.0.frame array final last r.0.brought (r.0.said.shaped r.0.frame r.0.framed).0
-    (image-ended array final last r.0))
+    (pictures-same settings array final last r.0)
 
 pub stream-means : (settings : Settings) (array : Coefficients) (bytes rest : List ℕ) (final : Found)
     (last : ℕ → Levels)
@@ -309,15 +324,13 @@ pub taken : (settings : Settings) (array : Coefficients) (final : Found) (last :
     × (meant ≡ Ok ((told_of final, picture), tail))
 taken settings array final last tail meant r takes =
     let f = r.0.frame in
-    let drawn = r.0.said.shaped f r.0.framed in
+    let sources = (r.0.said.shaped f r.0.framed).1 in
     let same : takes.frame ≡ f = same-frame takes.frame f final.frame takes.is_said r.0.framed in
-    let b = planes-end f array final last drawn.0 r.0.brought (image-ended array final last r.0)
-    (scale-made f drawn.0.made) 0 f.components
-    (λ j c t. let start : 0 + j ≡ j = omega arith in subst (λ (n : ℕ). At n f.components c) (sym start) t) in
+    let b = both-planes array final last r.0 in
     let limit = subst (λ (g : Frame). length g.components * (g.output_width * g.output_height) ≤ settings.limit) same
     takes.limit in
-    let picture = picture-there settings final f f.components b.ours b.theirs drawn.1.0
-    (subst (λ (g : Frame). HasTransform settings final g.components) same takes.transform) drawn.1.1 b.alike in
+    let picture = picture-there settings final f f.components b.ours b.theirs sources.0
+    (subst (λ (g : Frame). HasTransform settings final g.components) same takes.transform) sources.1 b.alike in
     let is = blocks-picture settings final (as_sent array last) f b.theirs r.0.framed b.theirs_are
     ∙ (rw (le-ltb settings.limit (length f.components * (f.output_width * f.output_height)) limit) refl) ∙ picture.1 in (
       picture.0,
