@@ -169,30 +169,21 @@ pub scan-longer : (fill code n : ℕ) (header bytes more : List ℕ)
     → length (marker fill code (header ++ (bytes ++ more))) < suc n → length more < n
 scan-longer fill code n header bytes more h = grind (arith, common_steps, length-append)
 
--- ---- segments other than a frame
+-- ---- segments
 
-abbrev pub IsOther : Segment → Type 0
-IsOther (Header number h) = ⊥
-IsOther _ = Unit {0}
-
--- such a segment is read, whatever was found before it
-pub segment-read : (before : Before) (found : Found) (s : Segment) (rest : List ℕ) → MayStand found.frame s → IsOther s
+-- A segment that stands is read, whatever was found before it.
+segment-read : (before : Before) (found : Found) (s : Segment) (rest : List ℕ) → Stands found s
     → segment_at (marker_for s) before found (with_length (payload_of s) ++ rest) ≡ Ok (
       onward
           (found_after found s),
       rest,
     )
-unfolding segment_at quantization_segment huffman_segment restart_segment application_segment skipped_segment
-segment-read before found s rest may other =
+unfolding segment_at frame_segment quantization_segment huffman_segment restart_segment application_segment
+    skipped_segment
+segment-read before found (Header number h) rest stands =
+    grind (arith, common_steps, not-refused, read-on, sof-read)
+segment-read before found s rest stands =
     search (rules, read-on, dqt-read, dht-read, dri-read, app-read, sized-read, skip-read)
-
--- a frame that is accepted is read, where none was
-pub frame-turn : (before : Before) (found : Found) (number : ℕ) (h : FrameHeader) (rest : List ℕ)
-    → MayStand found.frame (Header number h) → accepted (frame_written number h) ≡ Ok (frame_written number h)
-    → segment_at (SOF number) before found (with_length (payload_of (Header number h)) ++ rest)
-    ≡ Ok (onward (found_after found (Header number h)), rest)
-unfolding segment_at frame_segment
-frame-turn before found number h rest may ok = grind (arith, common_steps, not-refused, read-on, sof-read)
 
 -- the turn of a segment that stands
 pub segment-turn : (before : Before) (now : Found) (s : Segment) (met : Option Marker) (all : List ℕ) (fill : ℕ)
@@ -203,24 +194,10 @@ segment-turn before now s met all fill more tail may at =
     at.turn before now
     ∙ ap (turn_at before now None) (segment-tail fill (marker_code s) (with_length (payload_of s)) more tail)
     ∙ marker-turn before now fill (marker_code s) (marker_for s) (with_length (payload_of s) ++ (more ++ tail))
-    (segment-marker now.frame s may.0) ∙ (search (rules, segment-read, frame-turn))
-
-pub frame-stays : (said : Found) (s : Segment) → IsOther s → (found_after said s).frame ≡ said.frame
-frame-stays said (Header number h) other = absurd other
-frame-stays said s other = refl
-
--- a frame, or none
-pub frame-or : {P : Type 0} (s : Segment) → ((number : ℕ) (h : FrameHeader) → s ≡ Header number h → P)
-    → (IsOther s → P) → P
-frame-or (Header number h) f g = f number h refl
-frame-or s f g = g tt
+    (segment-marker now.frame s may.0) ∙ segment-read before now s (more ++ tail) may
 
 pub some-none : {P : Type 0} (f : Frame) (o : Option Frame) → o ≡ Some f → o ≡ None → P
 some-none f o e g = absurd (let n : ⊥ = cc in n)
-
--- after the frame stands no other
-pub is-other : (said : Found) (frame : Frame) (s : Segment) → said.frame ≡ Some frame → Stands said s → IsOther s
-is-other said frame s e may = grind (arith, common_steps, frame-or, some-none)
 
 pub same-frame : (a b : Frame) (o : Option Frame) → o ≡ Some a → o ≡ Some b → a ≡ b
 same-frame a b o e f = let s : ◌≡◌ {A = Option Frame} (Some a) (Some b) = sym e ∙ f in cc

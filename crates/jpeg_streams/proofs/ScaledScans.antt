@@ -21,12 +21,12 @@ use Rattle.jpeg_streams.specs.ScanSegments.{pass_of, tables_of}
 use Rattle.jpeg_streams.specs.Found.{Found}
 use Rattle.jpeg_streams.specs.WrittenScans.{Coefficients, written_turns, WritesScan}
 use Rattle.jpeg_streams.specs.WrittenScans.{HasTable, IsLegalScan}
-use Rattle.jpeg_streams.specs.WrittenImages.{ClosesImage, MayStandInImage, WritesImageScan, WritesPart}
+use Rattle.jpeg_streams.specs.WrittenImages.{ClosesImage, WritesImageScan, WritesPart}
 use Rattle.jpeg_streams.specs.WrittenStreams.{end, scan, segment}
 use Rattle.jpeg_streams.specs.SaidSegments.{Stands, found_after}
-use Rattle.jpeg_segments.specs.WrittenSegments.{Segment}
+use Rattle.jpeg_segments.specs.WrittenSegments.{Header, Segment}
 use Rattle.jpeg_streams.proofs.FrameShapes.{below-ceiling}
-use Rattle.jpeg_streams.proofs.ReadTurns.{bind-ok, coding-is, frame-stays, is-other, ok-same, same-frame, some-none, then-ok}
+use Rattle.jpeg_streams.proofs.ReadTurns.{bind-ok, coding-is, ok-same, same-frame, some-none, then-ok}
 
 -- ---- the same number
 
@@ -249,10 +249,9 @@ legal-alike : (p : Pass) (levels : ℕ → Levels) (ks ls : List Coding) → Cod
 legal-alike p levels ks ls none h = tt
 legal-alike p levels ks ls (one_more k l ks' ls' a more) h = search (rules, legal-alike p levels ks' ls' more h.1)
 
-segment-alike : (w : Found) (s : Segment) (f g : Frame) → SameFrame f g → w.frame ≡ Some f → Stands w s → MayStandInImage w s
-    → Stands (at_frame w g) s × MayStandInImage (at_frame w g) s
-    × (found_after (at_frame w g) s ≡ at_frame (found_after w s) g)
-segment-alike w s f g same e stands may = search (rules, some-none)
+stands-alike : (w : Found) (s : Segment) (f g : Frame) → SameFrame f g → w.frame ≡ Some f → Stands w s
+    → Stands (at_frame w g) s
+stands-alike w s f g same e stands = search (rules, some-none)
 
 tables-there : (w : Found) (g : Frame) (cs ds : List Component) → Alikes cs ds → AllByRecursion (HasTable w) cs
     → AllByRecursion (HasTable (at_frame w g)) ds
@@ -282,12 +281,11 @@ scan-other array f g w levels next h bytes same x =
 pub scans-alike : (array : Coefficients) (f g : Frame) (w final : Found) (levels last : ℕ → Levels) (bytes : List ℕ)
     → SameFrame f g → w.frame ≡ Some f → WritesPart array ClosesImage w levels bytes final last
     → WritesPart array ClosesImage (at_frame w g) levels bytes (at_frame final g) last
+scans-alike array f g w final levels last bytes same e
+    (segment w' final' levels' last' fill (Header number h) more stands may r) = some-none f w.frame e stands.0.0
 scans-alike array f g w final levels last bytes same e (segment w' final' levels' last' fill s more stands may r) =
-    let alike = segment-alike w s f g same e stands may in
-    segment (at_frame w g) (at_frame final g) levels last fill s more alike.0 alike.1
-    (subst (λ (x : Found). WritesPart array ClosesImage x levels more (at_frame final g) last) (sym alike.2)
-    (scans-alike array f g (found_after w s) final levels last more same
-    (frame-stays w s (is-other w f s e stands) ∙ e) r))
+    segment (at_frame w g) (at_frame final g) levels last fill s more (stands-alike w s f g same e stands) may
+    (scans-alike array f g (found_after w s) final levels last more same e r)
 scans-alike array f g w final levels last bytes same e
     (scan w' final' levels' next last' frame fill h payload more framed is x r) =
     let is_same = subst (λ (y : Frame). SameFrame y g) (same-frame f frame w.frame e framed) same in

@@ -20,7 +20,7 @@ use Rattle.jpeg_streams.specs.WrittenStreams.{Closes, end, scan, segment, Starts
 use Rattle.jpeg_streams.specs.declared.before.Before.{Before}
 use Rattle.jpeg_streams.specs.declared.before.Before.TheVariants.{Elsewhere}
 use Rattle.jpeg_streams.specs.declared.settings.Settings.{Settings}
-use Rattle.jpeg_streams.proofs.ReadTurns.{Begins, end-turn, frame-stays, is-other, IsEnd, marker-longer, scan-longer}
+use Rattle.jpeg_streams.proofs.ReadTurns.{Begins, end-turn, IsEnd, marker-longer, scan-longer}
 use Rattle.jpeg_streams.proofs.ReadTurns.{scan-tail, scan-turn, segment-begins, segment-tail, segment-turn}
 use Rattle.jpeg_streams.proofs.ReadTurns.{segments-walked, some-none, stands-here, stands-met, StandsAt, then-ok}
 use Rattle.jpeg_streams.proofs.ReadTurns.{walk-end, walk-on, walk-stop}
@@ -35,8 +35,11 @@ module _ {Sent : Type 0} {may : Found → Segment → Type 0}
   pub frame-kept : (said final : Found) (sent last : Sent) (bytes : List ℕ) (f : Frame)
       → Writes may scans ends said sent bytes final last → said.frame ≡ Some f → final.frame ≡ Some f
   frame-kept said final sent last bytes f (end said' sent' bytes' ended) e = e
+  frame-kept said final sent last bytes f
+      (segment said' final' sent' last' fill (Header number h) more stands allowed w) e =
+      some-none f said.frame e stands.0.0
   frame-kept said final sent last bytes f (segment said' final' sent' last' fill s more stands allowed w) e =
-      frame-kept (found_after said s) final sent last more f w (frame-stays said s (is-other said f s e stands) ∙ e)
+      frame-kept (found_after said s) final sent last more f w e
   frame-kept said final sent last bytes f (scan said' final' sent' next last' g fill h data_bytes more framed is sends w)
       e = frame-kept (record said { scanned = true }) final next last more f w e
 
