@@ -25,10 +25,10 @@ use Rattle.jpeg_streams.specs.Stream.{header_at, rest_at, meaning, sized_meaning
 use Rattle.jpeg_streams.specs.FoundPictures.{picture_of, samples_picture}
 use Rattle.jpeg_streams.specs.WrittenLossless.{IsLossless, Samples, SendsSamples, WritesSamples}
 use Rattle.jpeg_streams.specs.InTurn.{IsIn}
-use Rattle.jpeg_streams.proofs.ReadTurns.{stands-here, then-ok}
+use Rattle.jpeg_streams.proofs.ReadTurns.{same-frame, stands-here, then-ok}
 use Rattle.jpeg_streams.proofs.LosslessFrames.{IsShaped, header-shaped}
 use Rattle.jpeg_streams.proofs.WalkedStreams.{FindsScan, frame-kept, header-read, IsMeant, IsRead, IsSaid, reads-on}
-use Rattle.jpeg_streams.proofs.WalkedStreams.{rest-by, some-same, stream-read}
+use Rattle.jpeg_streams.proofs.WalkedStreams.{rest-by, stream-read}
 use Rattle.jpeg_decoder.proofs.WrittenSamples.{and_samples, components-of, indices_of, planes_for}
 use Rattle.jpeg_decoder.proofs.WrittenSamples.{scan-read}
 use Rattle.jpeg_decoder.proofs.LosslessReads.{all-below}
@@ -248,7 +248,7 @@ sized-walked width height settings samples bytes rest final w =
     Elsewhere None left r.0.written r.0.said (record { four = refl; kept = tt }) (stands-here left) (omega arith) in
     let kept = frame-kept said final [] w.sent r.0.left _ r.0.written refl in
     let lossless = subst (λ (f : Frame). f.process ≡ Lossless)
-    (some-same e.0.frame _ (sym e.0.framed ∙ kept)) e.0.ended.0 in (
+    (same-frame e.0.frame _ final.frame e.0.framed kept) e.0.ended.0 in (
       e.0,
       then-ok (header_at (bytes ++ rest)) _ (and_samples said decided, left) _ r.1
           (ap (λ (f : Found). rest_at settings f left)
@@ -262,7 +262,7 @@ pub samples-meant : (settings : Settings) (samples : Samples) (final : Found) (s
     → final.frame ≡ Some frame → length frame.components * (frame.output_width * frame.output_height) ≤ settings.limit
     → meant ≡ Ok ((told_of final, drawn frame samples), rest)
 samples-meant settings samples final sent rest frame meant r framed within =
-    let same : r.0.frame ≡ frame = some-same r.0.frame frame (sym r.0.framed ∙ framed) in
+    let same : r.0.frame ≡ frame = same-frame r.0.frame frame final.frame r.0.framed framed in
     let kept = subst (λ (f : Frame). AreKept samples r.0.brought (range_with_len 0 (length f.components))) same
     (all-in _ _ sent r.0.held.kept r.0.ended.1) in
     let lossless = subst (λ (f : Frame). f.process ≡ Lossless) same r.0.ended.0 in

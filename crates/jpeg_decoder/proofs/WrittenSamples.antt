@@ -38,11 +38,10 @@ use Rattle.jpeg_streams.specs.LosslessScans.{LosslessCoding, lossless_coding, lo
 use Rattle.jpeg_streams.specs.LosslessScans.{part_of, parts_of, way_of, with_samples}
 use Rattle.jpeg_segments.specs.Checks.{needed}
 use Rattle.jpeg_streams.specs.Needed.{first_of}
-use Rattle.jpeg_streams.specs.ScanSegments.{lossless_scan, scan_before, scan_segment}
+use Rattle.jpeg_streams.specs.ScanSegments.{lossless_scan, scan_segment, scan_turn}
 use Rattle.jpeg_streams.specs.Found.{Found}
 use Rattle.jpeg_streams.specs.WrittenLossless.{HoldSamples, IsInterval, Samples}
 use Rattle.jpeg_streams.specs.WrittenLossless.{WritesSamplesScan}
-use Rattle.jpeg_streams.proofs.WalkedStreams.{scan_to}
 use Rattle.jpeg_streams.proofs.ReadTurns.{IsEnd, bind-ok, needed-some, ok-same, then-ok}
 use Rattle.jpeg_streams.proofs.LosslessFrames.{IsShaped}
 use Rattle.jpeg_streams.proofs.LosslessSizes.{IsMade, across-some, all-at, all-covered, down-some}
@@ -265,8 +264,11 @@ pub scan-read : (said : Found) (decided : List (Option (List ℕ))) (frame : Fra
     → frame.process ≡ Lossless → IsShaped frame → HasTables said.huffman → marker_of code ≡ Some m → IsEnd m
     → scan_segment (and_samples said decided) (with_length (scan_payload h) ++ (bytes ++ marker
     fill code rest))
-    ≡ scan_to (and_samples (record said { scanned = true })
-    (with_samples (indices_of h.choices) (planes_for samples (indices_of h.choices)) decided)) (scan_before said) m rest
+    ≡ Ok (
+      scan_turn said (and_samples (record said { scanned = true })
+          (with_samples (indices_of h.choices) (planes_for samples (indices_of h.choices)) decided)) (Some m),
+      rest,
+    )
 unfolding scan_segment lossless_scan scan_of
 scan-read said decided frame h samples bytes rest fill code m w framed scan lossless is tables makes end =
     let r = data-read said frame h samples bytes rest fill code m w is tables makes in

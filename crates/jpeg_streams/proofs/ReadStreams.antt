@@ -13,7 +13,7 @@ use Rattle.jpeg_streams.specs.Found.{Found, none_finished, nothing_found}
 use Rattle.jpeg_streams.specs.Levels.{Is8Bit, Levels, nothing_sent}
 use Rattle.jpeg_streams.specs.SaidSegments.{found_after, Stands}
 use Rattle.jpeg_streams.specs.Scans.{Arrays}
-use Rattle.jpeg_streams.specs.ScanSegments.{arrays_before, is_progressive, scan_before}
+use Rattle.jpeg_streams.specs.ScanSegments.{arrays_before, is_progressive, scan_turn}
 use Rattle.jpeg_streams.specs.Stream.{meaning, Told}
 use Rattle.jpeg_streams.specs.WholeImages.{AllComplete}
 use Rattle.jpeg_streams.specs.WrittenImages.{MayStandInImage, WritesImage, WritesImageScan}
@@ -25,7 +25,7 @@ use Rattle.jpeg_streams.proofs.ReadStates.{PlaneSo}
 use Rattle.jpeg_streams.proofs.ReadTurns.{codings-same, same-frame, scan-by, some-none}
 use Rattle.jpeg_streams.proofs.ScanFacts.{header-facts}
 use Rattle.jpeg_streams.proofs.TablesInForce.{codings-good}
-use Rattle.jpeg_streams.proofs.WalkedStreams.{FindsScan, IsMeant, IsRead, IsSaid, ReadTo, scan_to, stream-read}
+use Rattle.jpeg_streams.proofs.WalkedStreams.{FindsScan, IsMeant, IsRead, IsSaid, ReadTo, stream-read}
 use Rattle.jpeg_streams.specs.declared.settings.Settings.{Settings}
 
 -- ---- what scans bring
@@ -138,7 +138,7 @@ module _ (array : Coefficients) (range : (index row column : ℕ) → Is8Bit (ar
             (sos-read f h (bytes ++ marker fill code left) scan)
             (codings-same said said.scanned x.0 x.1 x.2 f s ∙ w.legal.are_in_force)
             (b.read fill code m left (record { is = makes })) (ends (length left) left)
-            ∙ ap (λ (y : Found). scan_to y (scan_before said) m left) b.after;
+            ∙ ap (λ (y : Found). Ok (scan_turn said y (Some m), left)) b.after;
       }
 
   pub image-read : IsRead MayStandInImage (WritesImageScan array) IsDrawn with_progress (Holds array)

@@ -26,7 +26,7 @@ use Rattle.jpeg_streams.specs.Scans.{Arrays}
 use Rattle.jpeg_segments.specs.Checks.{needed}
 use Rattle.jpeg_streams.specs.Needed.{first_of}
 use Rattle.jpeg_streams.specs.ScanSegments.{component_coding, needed_if, Coding, tables_of, after_restarts, after_scan}
-use Rattle.jpeg_streams.specs.ScanSegments.{scan_arrays, codings_of, codings_from, scan_segment, scan_before}
+use Rattle.jpeg_streams.specs.ScanSegments.{scan_arrays, codings_of, codings_from, scan_segment, scan_turn}
 use Rattle.jpeg_streams.specs.ScanSegments.{blocks_scan}
 use Rattle.jpeg_streams.specs.Segments.{onward, Turn, application_segment, restart_segment, huffman_segment}
 use Rattle.jpeg_streams.specs.Segments.{quantization_segment, skipped_segment, frame_segment, accepted}
@@ -265,15 +265,6 @@ pub scan-by : (found : Found) (frame : Frame) (s : Scan) (codings : List Coding)
     → found.frame ≡ Some frame → sos_at frame bytes ≡ Ok (s, data_bytes) → codings_of found frame s ≡ Ok codings
     → scan_arrays found frame s codings data_bytes ≡ Ok ((arrays, Some m), more)
     → after_restarts (suc (length more)) (Some m) more ≡ Ok (Some m, more)
-    → scan_segment found bytes
-    ≡ Ok (
-      record {
-        found = after_scan found frame s codings arrays;
-        before = scan_before found;
-        met = Some m;
-        ended = false;
-      },
-      more,
-    )
+    → scan_segment found bytes ≡ Ok (scan_turn found (after_scan found frame s codings arrays) (Some m), more)
 unfolding scan_segment blocks_scan
 scan-by found frame s codings arrays m bytes data_bytes more n a b c d e = search (rules, then-ok)

@@ -18,7 +18,7 @@ use Rattle.jpeg_streams.specs.WrittenScans.{Coefficients}
 use Rattle.jpeg_streams.specs.WrittenImages.{WritesImage}
 use Rattle.jpeg_streams.specs.ArrayPictures.{meaning_of_array, picture_of_array, TakesPicture}
 use Rattle.jpeg_streams.proofs.OwnSpots.{At}
-use Rattle.jpeg_streams.proofs.ReadTurns.{stands-here, then-ok}
+use Rattle.jpeg_streams.proofs.ReadTurns.{same-frame as one-frame, stands-here, then-ok}
 use Rattle.jpeg_streams.proofs.BroughtLevels.{Shaped}
 use Rattle.jpeg_streams.proofs.FrameShapes.{Plain, plain-size}
 use Rattle.jpeg_streams.proofs.ScaledSizes.{scaled_component, most_h, most_v, frame-components}
@@ -26,7 +26,7 @@ use Rattle.jpeg_streams.proofs.ScaledScans.{own-same, Alike, Alikes, none, one_m
 use Rattle.jpeg_streams.proofs.ScaledScans.{scans-alike}
 use Rattle.jpeg_streams.proofs.ReadStreams.{drawn-said, holds-nothing, image-read, IsDrawn, ImageMeant, MayEndImage}
 use Rattle.jpeg_streams.proofs.ReadStreams.{no_progress, plain-said, with_progress}
-use Rattle.jpeg_streams.proofs.WalkedStreams.{frame-kept, header-read, reads-on, rest-by, some-same}
+use Rattle.jpeg_streams.proofs.WalkedStreams.{frame-kept, header-read, reads-on, rest-by}
 use Rattle.jpeg_streams.proofs.WrittenPictures.{pictured, taken}
 use Rattle.jpeg_streams.proofs.ScaledSources.{frame-sources}
 use Rattle.jpeg_streams.proofs.Soundness.{scale-bounds}
@@ -111,7 +111,7 @@ image-sized width height settings array bytes tail final last range w =
     let e = reads-on MayEndImage (image-read array range) tail (at_frame said g) (at_frame final g) (λ k. nothing_sent) last
     h.left no_progress (suc (length left)) Elsewhere None left
     (scans-alike array f g said final (λ k. nothing_sent) last h.left same refl h.written)
-    (record { tables = h.said.tables; shaped = λ x q. subst IsDrawn (some-same g x q) drawn })
+    (record { tables = h.said.tables; shaped = λ x q. subst IsDrawn (one-frame g x _ refl q) drawn })
     (holds-nothing array (at_frame said g) h.unscanned) (stands-here left) (omega arith) in
     subst (λ (x : Found). ImageMeant settings array x last tail (sized_meaning width height settings (bytes ++ tail)))
     (ap (λ (o : Option Frame). record final { frame = option_map (sized width height) o }) (sym kept)) (

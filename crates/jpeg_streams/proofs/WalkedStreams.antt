@@ -13,7 +13,7 @@ use Rattle.jpeg_segments.specs.WrittenSegments.{MayStand, Segment, with_length}
 use Rattle.jpeg_streams.specs.Found.{Found, nothing_found}
 use Rattle.jpeg_streams.specs.FoundPictures.{picture_of}
 use Rattle.jpeg_streams.specs.SaidSegments.{found_after, Stands}
-use Rattle.jpeg_streams.specs.ScanSegments.{after_restarts, scan_before, scan_segment}
+use Rattle.jpeg_streams.specs.ScanSegments.{after_restarts, scan_before, scan_segment, scan_turn}
 use Rattle.jpeg_streams.specs.Segments.{onward, Turn}
 use Rattle.jpeg_streams.specs.Stream.{header_at, meaning, rest_at, segments_at, start_at, Told, told_of, turn_at, walk}
 use Rattle.jpeg_streams.specs.WrittenStreams.{Closes, end, scan, segment, Starts, Writes}
@@ -22,7 +22,7 @@ use Rattle.jpeg_streams.specs.declared.before.Before.TheVariants.{Elsewhere}
 use Rattle.jpeg_streams.specs.declared.settings.Settings.{Settings}
 use Rattle.jpeg_streams.proofs.ReadTurns.{Begins, end-turn, IsEnd, marker-longer, scan-longer}
 use Rattle.jpeg_streams.proofs.ReadTurns.{scan-tail, scan-turn, segment-begins, segment-tail, segment-turn}
-use Rattle.jpeg_streams.proofs.ReadTurns.{segments-walked, some-none, stands-here, stands-met, StandsAt, then-ok}
+use Rattle.jpeg_streams.proofs.ReadTurns.{same-frame, segments-walked, some-none, stands-here, stands-met, StandsAt, then-ok}
 use Rattle.jpeg_streams.proofs.ReadTurns.{walk-end, walk-on, walk-stop}
 use Rattle.jpeg_streams.proofs.SaidTables.{HasTables, no-tables, segment-tables}
 use Rattle.jpeg_streams.proofs.WrittenMarkers.{marker-append}
@@ -97,16 +97,13 @@ pub nothing-said : (P : Frame → Type 0) → IsSaid P nothing_found
 unfolding nothing_found
 nothing-said P = record { tables = no-tables; shaped = λ f e. absurd (let n : ⊥ = cc in n) }
 
-pub some-same : (a b : Frame) → ◌≡◌ {A = Option Frame} (Some a) (Some b) → a ≡ b
-some-same a b e = cc
-
 pub segment-said : (may : Found → Segment → Type 0) (P : Frame → Type 0)
     → ((said : Found) (number : ℕ) (h : FrameHeader) → Stands said (Header number h) → may said (Header number h)
     → P (frame_written number h))
     → (said : Found) (s : Segment) → Stands said s → may said s → IsSaid P said → IsSaid P (found_after said s)
 segment-said may P shaped said (Header number h) stands allowed is = record {
   tables = is.tables;
-  shaped = λ f e. subst P (some-same (frame_written number h) f e) (shaped said number h stands allowed);
+  shaped = λ f e. subst P (same-frame (frame_written number h) f (Some (frame_written number h)) refl e) (shaped said number h stands allowed);
 }
 segment-said may P shaped said s stands allowed is =
     record { tables = segment-tables said s stands.0 is.tables; shaped = is.shaped }
@@ -120,10 +117,6 @@ unfolding rest_at
 rest-by settings found all bytes rest e =
     then-ok (segments_at false Elsewhere found None bytes) _ (all, rest) _ (segments-walked _ _ _ _ _ _ e) refl
 
--- what a scan leads to
-abbrev pub scan_to : Found → Before → Marker → List ℕ → Outcome Turn
-scan_to found before m left = Ok (record { found = found; before = before; met = Some m; ended = false }, left)
-
 -- What is kept of the scans beside what is said, and what scans find.
 pub record FindsScan {Sent Brought : Type 0} (beside : Found → Brought → Found) (Held : Found → Sent → Brought → Type 0)
     (said : Found) (next : Sent) (x : Brought) (h : ScanHeader) (bytes : List ℕ) : Type 0 where
@@ -131,7 +124,7 @@ pub record FindsScan {Sent Brought : Type 0} (beside : Found → Brought → Fou
   pub held : Held (record said { scanned = true }) next brought
   pub found : (fill code : ℕ) (m : Marker) (left : List ℕ) → marker_of code ≡ Some m → IsEnd m
       → scan_segment (beside said x) (with_length (scan_payload h) ++ (bytes ++ marker fill code left))
-      ≡ scan_to (beside (record said { scanned = true }) brought) (scan_before said) m left
+      ≡ Ok (scan_turn said (beside (record said { scanned = true }) brought) (Some m), left)
 
 -- How a kind of stream is read: `beside` puts what scans bring beside what is said, and `Held` says what
 -- was brought where so much was said and sent.
