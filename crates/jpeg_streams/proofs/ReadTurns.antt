@@ -165,10 +165,6 @@ pub marker-longer : (fill code n : ℕ) (bytes more : List ℕ) → length (mark
     → length more < n
 marker-longer fill code n bytes more h = grind (arith, common_steps, length-append)
 
-pub scan-longer : (fill code n : ℕ) (header bytes more : List ℕ)
-    → length (marker fill code (header ++ (bytes ++ more))) < suc n → length more < n
-scan-longer fill code n header bytes more h = grind (arith, common_steps, length-append)
-
 -- ---- segments
 
 -- A segment that stands is read, whatever was found before it.

@@ -20,7 +20,7 @@ use Rattle.jpeg_streams.specs.WrittenStreams.{Closes, end, scan, segment, Starts
 use Rattle.jpeg_streams.specs.declared.before.Before.{Before}
 use Rattle.jpeg_streams.specs.declared.before.Before.TheVariants.{Elsewhere}
 use Rattle.jpeg_streams.specs.declared.settings.Settings.{Settings}
-use Rattle.jpeg_streams.proofs.ReadTurns.{Begins, end-turn, IsEnd, marker-longer, scan-longer}
+use Rattle.jpeg_streams.proofs.ReadTurns.{Begins, end-turn, IsEnd, marker-longer}
 use Rattle.jpeg_streams.proofs.ReadTurns.{scan-tail, scan-turn, segment-begins, segment-tail, segment-turn}
 use Rattle.jpeg_streams.proofs.ReadTurns.{same-frame, segments-walked, some-none, stands-here, stands-met, StandsAt, then-ok}
 use Rattle.jpeg_streams.proofs.ReadTurns.{walk-end, walk-on, walk-stop}
@@ -249,7 +249,8 @@ module _ {Sent Brought : Type 0} {may : Found → Segment → Type 0}
       let r = reads-on (record said { scanned = true }) final next last more b.brought turns (scan_before said) (Some n.m) n.after w
       (record { tables = is.tables; shaped = is.shaped }) b.held
       (subst (StandsAt (Some n.m) n.after) (sym n.is) (stands-met n.fill n.code n.m n.after n.makes))
-      (scan-longer fill 218 turns header data_bytes more room) in (
+      (let l = marker-longer fill 218 turns header (data_bytes ++ more) room in let k = length-append data_bytes more in
+      omega arith) in (
         r.0,
         walk-on turns false before now met all n.after _ refl
             (at.turn before now ∙ scan-turn before now fill header data_bytes more tail
