@@ -19,7 +19,7 @@ use Rattle.jpeg_streams.proofs.LosslessSizes.{IsMade, made-reaches, some-across,
 use Rattle.jpeg_streams.proofs.PaddingUnseen.{drop-next, mapped-same}
 use Rattle.jpeg_streams.proofs.OwnSpots.{all-append}
 use Rattle.jpeg_streams.proofs.ReadTurns.{same-frame}
-use Rattle.jpeg_streams.proofs.WalkedStreams.{ends-so, IsSaid, keeps, nothing-said, segment-said}
+use Rattle.jpeg_streams.proofs.WalkedStreams.{IsSaid, keeps, nothing-said, segment-said}
 use Rattle.jpeg_decoder.proofs.WrittenLosslessStreams.{all-in, drawn, header-said, samples-meant, samples-walked}
 use Rattle.jpeg_decoder.proofs.WrittenLosslessStreams.{sized-walked}
 use Rattle.jpeg_decoder.proofs.WrittenSamples.{HasSize, SizedAt, indices_of, planes_for, scan-sized}
@@ -27,12 +27,13 @@ use Rattle.std.proofs.lemmas.Grind.{common_steps}
 
 -- ---- sizes
 
--- The frame has some size, and the samples that are sent have the sizes of its components.
-sizes-kept : (samples : Samples) (bytes : List ℕ) (final : Found) (frame : Frame) → (w : WritesSamples samples bytes final)
-    → final.frame ≡ Some frame → IsSaid IsShaped final × AllByRecursion (SizedAt samples frame.components) w.sent
+-- The frame has some size, and the samples have the sizes of its components.
+pub sizes-kept : (samples : Samples) (bytes : List ℕ) (final : Found) (frame : Frame) → WritesSamples samples bytes final
+    → final.frame ≡ Some frame → IsShaped frame
+    × AllByRecursion (SizedAt samples frame.components) (range_with_len 0 (length frame.components))
 sizes-kept samples bytes final frame w e =
-    keeps (λ now sent. IsSaid IsShaped now × AllByRecursion (SizedAt samples frame.components) sent) nothing_found final []
-    w.sent w.written.after
+    let r = keeps (λ now sent. IsSaid IsShaped now × AllByRecursion (SizedAt samples frame.components) sent) nothing_found
+    final [] w.sent w.written.after
     (λ now sent s stands may h. (segment-said (λ y z. IsLossless z) IsShaped header-said now s stands may h.0, h.1))
     (λ now sent next f header data_bytes framed last x h. (
       record { tables = h.0.tables; shaped = h.0.shaped },
@@ -42,11 +43,12 @@ sizes-kept samples bytes final frame w e =
           (same-frame f frame final.frame last e)
           (scan-sized now f header samples data_bytes (h.0.shaped f framed) h.0.tables x.1)) h.1),
     ))
-    w.written.written (nothing-said IsShaped, tt)
-
-pub final-shaped : (samples : Samples) (bytes : List ℕ) (final : Found) (frame : Frame) → WritesSamples samples bytes final
-    → final.frame ≡ Some frame → IsShaped frame
-final-shaped samples bytes final frame w e = (sizes-kept samples bytes final frame w e).0.shaped frame e
+    w.written.written (nothing-said IsShaped, tt) in (
+      r.0.0.shaped frame e,
+      all-in (SizedAt samples frame.components) _ w.sent r.0.1
+          (subst (λ (f : Frame). AllByRecursion (λ k. IsIn k w.sent) (range_with_len 0 (length f.components)))
+          (same-frame r.2.frame frame final.frame r.2.is_said e) r.2.ended.1),
+    )
 
 -- each component, from a place on, has samples of its size
 AreAll : Frame → Samples → ℕ → List Component → Type 0
@@ -97,13 +99,8 @@ shown : (samples : Samples) (bytes : List ℕ) (final : Found) (frame : Frame) �
     → final.frame ≡ Some frame
     → drawn frame samples ≡ picture_of_samples frame samples
 shown samples bytes final frame w e =
-    let c = (ends-so nothing_found final [] w.sent w.written.after w.written.written).1 in
-    let kept = sizes-kept samples bytes final frame w e in
-    samples-shown frame samples (from-indices frame samples frame.components 0 frame.components refl
-    (kept.0.shaped frame e).made
-    (all-in (SizedAt samples frame.components) _ w.sent kept.1
-    (subst (λ (f : Frame). AllByRecursion (λ k. IsIn k w.sent) (range_with_len 0 (length f.components)))
-    (same-frame c.frame frame final.frame c.is_said e) c.ended.1)))
+    let r = sizes-kept samples bytes final frame w e in
+    samples-shown frame samples (from-indices frame samples frame.components 0 frame.components refl r.0.made r.1)
 
 -- ---- the whole
 

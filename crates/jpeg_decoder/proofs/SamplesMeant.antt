@@ -12,7 +12,7 @@ use Rattle.jpeg_streams.specs.WrittenLossless.{Samples, WritesSamples}
 use Rattle.jpeg_streams.specs.WrittenParts.{picture_meant_by}
 use Rattle.jpeg_streams.proofs.LosslessFrames.{IsShaped}
 use Rattle.jpeg_streams.proofs.SamplesAlike.{pictures-alike}
-use Rattle.jpeg_decoder.proofs.LosslessPixels.{final-shaped, lossless-means}
+use Rattle.jpeg_decoder.proofs.LosslessPixels.{lossless-means, sizes-kept}
 use Rattle.jpeg_decoder.proofs.WrittenLosslessStreams.{samples-refused}
 use Rattle.std.proofs.lemmas.Grind.{common_steps}
 
@@ -31,8 +31,8 @@ samples-alike settings samples first second rest others a b u v same =
     go (cases_lt settings.limit (count_of same.frame_a))
   where
     counts : count_of same.frame_a ≡ count_of same.frame_b
-    counts = counts-same same.frame_a same.frame_b (final-shaped samples first a same.frame_a u same.is_a)
-        (final-shaped samples second b same.frame_b v same.is_b) same.width same.height same.factors
+    counts = counts-same same.frame_a same.frame_b (sizes-kept samples first a same.frame_a u same.is_a).0
+        (sizes-kept samples second b same.frame_b v same.is_b).0 same.width same.height same.factors
 
     go : (settings.limit < count_of same.frame_a) ⊎ (count_of same.frame_a ≤ settings.limit)
         → picture_meant_by settings (first ++ rest) ≡ picture_meant_by settings (second ++ others)

@@ -44,6 +44,7 @@ use Rattle.jpeg_streams.proofs.CutLevels.{all-same, all-map}
 use Rattle.jpeg_streams.proofs.TestedParts.{one-quantizes, table-by, table_of_one}
 use Rattle.jpeg_streams.proofs.EncodedBlocks.{ac_pass, dc_pass, Each, each-ac, each-dc, each-whole, flat_table}
 use Rattle.jpeg_streams.proofs.EncodedBlocks.{HasFlatAc, HasFlatDc, interval-written, IsFlat}
+use Rattle.jpeg_streams.proofs.WalkedStreams.{closes}
 use Rattle.jpeg_streams.proofs.WholeImages.{floor-whole, toward-whole}
 use Rattle.jpeg_streams.proofs.OwnSpots.{all-append}
 use Rattle.jpeg_streams.proofs.ReadTurns.{then-ok}
@@ -344,18 +345,12 @@ end-written number h array front levels scanned le are e s is =
       levels,
       subst (λ (b : Bool). WritesPart array ClosesImage (said number h b) levels (marker 0 217 []) (said number h true) levels)
           (sym is)
-          (end (said number h true) levels (marker 0 217 []) (record {
-            frame = frame_written number h;
-            fill = 0;
-            is_said = refl;
-            ended = (
-              refl,
-              have-tables number h [] h.components le are,
-              λ x. in-range (λ k. IsComplete (levels k)) 0 (length (frame_written number h).components)
-                  (λ j low lt. all j (omega arith)),
-            );
-            closed = refl;
-          })),
+          (end (said number h true) levels _ (closes (said number h true) (frame_written number h) 0 refl (
+            refl,
+            have-tables number h [] h.components le are,
+            λ x. in-range (λ k. IsComplete (levels k)) 0 (length (frame_written number h).components)
+                (λ j low lt. all j (omega arith)),
+          ))),
       all,
     )
 

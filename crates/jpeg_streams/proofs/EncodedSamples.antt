@@ -52,6 +52,7 @@ use Rattle.jpeg_streams.proofs.EncodedImages.{component_in, first-is, in-range, 
 use Rattle.jpeg_streams.proofs.OwnSpots.{all-append}
 use Rattle.jpeg_streams.proofs.ReadTurns.{then-ok}
 use Rattle.jpeg_streams.proofs.TestedParts.{table-by}
+use Rattle.jpeg_streams.proofs.WalkedStreams.{closes}
 use Rattle.std.proofs.lemmas.Grind.{common_steps}
 
 -- ---- the table
@@ -361,13 +362,7 @@ scans-written h samples [] front now sent p all ready e are sends =
       now,
       (
         sent,
-        end now sent (marker 0 217 []) (record {
-          frame = frame_written 3 h;
-          fill = 0;
-          is_said = ready.framed;
-          ended = (refl, search (rules, in-range));
-          closed = refl;
-        }),
+        end now sent _ (closes now (frame_written 3 h) 0 ready.framed (refl, search (rules, in-range))),
       ),
       ready.framed,
       λ fits. (omega arith, (omega arith, tt)),

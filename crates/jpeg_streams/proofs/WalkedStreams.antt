@@ -27,6 +27,11 @@ use Rattle.jpeg_streams.proofs.ReadTurns.{walk-end, walk-on, walk-stop}
 use Rattle.jpeg_streams.proofs.SaidTables.{HasTables, no-tables, segment-tables}
 use Rattle.jpeg_streams.proofs.WrittenMarkers.{marker-append}
 
+-- EOI
+pub closes : {may_end : Frame → Type 0} (said : Found) (f : Frame) (fill : ℕ) → said.frame ≡ Some f → may_end f
+    → Closes may_end said (marker fill 217 [])
+closes said f fill e ended = record { frame = f; fill = fill; is_said = e; ended = ended; closed = refl }
+
 -- ---- what stays
 
 module _ {Sent : Type 0} {may : Found → Segment → Type 0}
@@ -48,8 +53,9 @@ module _ {Sent : Type 0} {may : Found → Segment → Type 0}
       → ((now : Found) (x : Sent) (s : Segment) → Stands now s → may now s → P now x → P (found_after now s) x)
       → ((now : Found) (x next : Sent) (f : Frame) (h : ScanHeader) (data_bytes : List ℕ) → now.frame ≡ Some f
       → final.frame ≡ Some f → scans now x f h data_bytes next → P now x → P (record now { scanned = true }) next)
-      → Writes may scans ends said sent bytes final last → P said sent → P final last
-  keeps P said final sent last bytes one other (end said' sent' bytes' ended) p = p
+      → Writes may scans ends said sent bytes final last → P said sent
+      → P final last × (left : List ℕ) × ends final last left
+  keeps P said final sent last bytes one other (end said' sent' bytes' ended) p = (p, bytes, ended)
   keeps P said final sent last bytes one other (segment said' final' sent' last' fill s more stands allowed w) p =
       keeps P (found_after said s) final sent last more one other w (one said sent s stands allowed p)
   keeps P said final sent last bytes one other
@@ -57,15 +63,6 @@ module _ {Sent : Type 0} {may : Found → Segment → Type 0}
       keeps P (record said { scanned = true }) final next last more one other w
       (other said sent next f h data_bytes framed
       (frame-kept (record said { scanned = true }) final next last more f w framed) sends p)
-
-  -- the end
-  pub ends-so : (said final : Found) (sent last : Sent) (bytes : List ℕ)
-      → Writes may scans ends said sent bytes final last → (left : List ℕ) × ends final last left
-  ends-so said final sent last bytes (end said' sent' bytes' ended) = (bytes, ended)
-  ends-so said final sent last bytes (segment said' final' sent' last' fill s more stands allowed w) =
-      ends-so (found_after said s) final sent last more w
-  ends-so said final sent last bytes (scan said' final' sent' next last' f fill h data_bytes more framed is sends w) =
-      ends-so (record said { scanned = true }) final next last more w
 
   -- a front, and what follows it
   pub front-append : (said next final : Found) (sent reached last : Sent) (front more : List ℕ)

@@ -23,7 +23,7 @@ use Rattle.jpeg_streams.proofs.BroughtLevels.{after-length}
 use Rattle.jpeg_streams.specs.WrittenImages.{WritesImage}
 use Rattle.jpeg_streams.specs.WholeImages.{whole_meaning, AllComplete}
 use Rattle.jpeg_streams.proofs.ReadTurns.{same-frame}
-use Rattle.jpeg_streams.proofs.WalkedStreams.{ends-so, keeps}
+use Rattle.jpeg_streams.proofs.WalkedStreams.{keeps}
 use Rattle.jpeg_bits.proofs.BandSteps.{bind_same}
 use Rattle.jpeg_streams.proofs.Apart.{map-same}
 
@@ -89,11 +89,11 @@ picture-whole settings said array levels frame e done h = search (rules, planes-
 levels-sized : (array : Coefficients) (bytes : List ℕ) (final : Found) (last : ℕ → Levels)
     → WritesImage array bytes final last → (k : ℕ) → length (last k).acs ≡ 63
 levels-sized array bytes final last w =
-    keeps (λ said levels. (k : ℕ) → length (levels k).acs ≡ 63) nothing_found final (λ k. nothing_sent) last w.after
+    (keeps (λ said levels. (k : ℕ) → length (levels k).acs ≡ 63) nothing_found final (λ k. nothing_sent) last w.after
     (λ now levels s stands may h. h)
     (λ now levels next f h data_bytes e framed x sized. subst (λ (l : ℕ → Levels). (k : ℕ) → length (l k).acs ≡ 63) x.sent
     (after-length _ _ levels sized))
-    w.written (λ k. refl)
+    w.written (λ k. refl)).0
 
 pub whole-is : (settings : Settings) (array : Coefficients) (bytes tail : List ℕ) (final : Found) (last : ℕ → Levels)
     (frame : Frame) → ((index row column : ℕ) → Is8Bit (array index row column))
@@ -106,7 +106,8 @@ pub sequential-whole : (array : Coefficients) (bytes : List ℕ) (final : Found)
     → WritesImage array bytes final last → final.frame ≡ Some frame
     → is_progressive frame.process ≡ false → AllComplete frame last
 sequential-whole array bytes final last frame w e n =
-    let c = (ends-so nothing_found final (λ k. nothing_sent) last w.after w.written).1 in
+    let c = (keeps (λ said levels. Unit {0}) nothing_found final (λ k. nothing_sent) last w.after (λ now x s a b p. tt)
+    (λ now x next f h data_bytes a b q p. tt) w.written tt).2 in
     let same = same-frame c.frame frame final.frame c.is_said e in
     subst (λ (f : Frame). AllComplete f last) same
     (c.ended.2 (subst (λ (f : Frame). is_progressive f.process ≡ false) (sym same) n))

@@ -34,6 +34,7 @@ use Rattle.jpeg_streams.specs.WrittenScans.{IsComplete, IsLegalScan, IsOwn, Writ
 use Rattle.jpeg_streams.specs.WrittenScans.{levels_after}
 use Rattle.jpeg_streams.proofs.CutLevels.{all-same}
 use Rattle.jpeg_streams.proofs.TestedParts.{category-by, frame-by, interval-by, is_category, one-quantizes, range-by}
+use Rattle.jpeg_streams.proofs.WalkedStreams.{closes}
 use Rattle.jpeg_streams.proofs.TestedParts.{range-in, scan-by, scan-legal, table-by, table_of_one}
 
 -- ---- what is written
@@ -209,13 +210,8 @@ colour-written =
             segment _ scanned _ sent 0 (Interval 1) _ (tt, tt) tt (
             scan said scanned _ sent sent the_frame 0 the_header scan_bytes _ refl scan-is
             (record { codings = codings; legal = legal; written = data-written; sent = refl }) (
-            end scanned sent _ (record {
-              frame = the_frame;
-              fill = 0;
-              is_said = refl;
-              ended = (refl, search rules, λ e. (whole, (whole, (whole, tt))));
-              closed = refl;
-            })))))));
+            end scanned sent _ (closes scanned the_frame 0 refl
+            (refl, search rules, λ e. (whole, (whole, (whole, tt)))))))))));
       };
       framed = refl;
       complete = (whole, (whole, (whole, tt)));

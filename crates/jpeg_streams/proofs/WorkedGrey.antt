@@ -31,6 +31,7 @@ use Rattle.jpeg_streams.specs.WrittenStreams.{end, scan, segment}
 use Rattle.jpeg_streams.specs.WrittenScans.{block_for, IsLegalScan, WritesScan, levels_after}
 use Rattle.jpeg_streams.proofs.CutLevels.{all-same}
 use Rattle.jpeg_streams.proofs.TestedParts.{category-by, frame-by, interval-by, one-quantizes, range-in, scan-by}
+use Rattle.jpeg_streams.proofs.WalkedStreams.{closes}
 use Rattle.jpeg_streams.proofs.TestedParts.{scan-legal, table-by, table_of_one}
 
 -- ---- what is written
@@ -255,13 +256,8 @@ grey-written = record {
         (record { codings = dc_codings; legal = legal.2; written = sent.2; sent = refl }) (
         scan scanned scanned sent_3 sent_4 sent_4 the_frame 0 header_4 _ _ refl scans-are.3
         (record { codings = ac_codings; legal = legal.3; written = sent.3; sent = refl }) (
-        end scanned sent_4 _ (record {
-          frame = the_frame;
-          fill = 0;
-          is_said = refl;
-          ended = (refl, (record { table = replicate 64 16; is = refl }, tt), λ e. absurd (true≢false e));
-          closed = refl;
-        })))))))));
+        end scanned sent_4 _ (closes scanned the_frame 0 refl
+        (refl, (record { table = replicate 64 16; is = refl }, tt), λ e. absurd (true≢false e)))))))))));
   };
   framed = refl;
   complete = (record { dc = refl; acs = all-same (Some 0) 63 }, tt);

@@ -31,6 +31,7 @@ use Rattle.jpeg_streams.specs.WrittenLossless.{HoldSamples, whole_rows, WritesSa
 use Rattle.jpeg_streams.specs.WrittenStreams.{end, scan, segment}
 use Rattle.jpeg_streams.specs.LosslessScans.{LosslessCoding, lossless_coding, lossless_codings}
 use Rattle.jpeg_streams.specs.LosslessScans.{mcus_across, mcus_down, parts_of}
+use Rattle.jpeg_streams.proofs.WalkedStreams.{closes}
 use Rattle.jpeg_streams.proofs.TestedParts.{category-by, frame-by, is_category, scan-by, table-by}
 
 -- ---- what is said
@@ -188,13 +189,8 @@ three-written = record {
           scan (said three_header) _ [] _ _ _ 0 third_scan third_data _ refl are-scans.0 (refl, three-scans.0, refl) (
           scan (scanned three_header) _ (2 ∷ []) _ _ _ 0 other_scan other_data _ refl are-scans.1
           (refl, three-scans.1, refl) (
-          end (scanned three_header) (0 ∷ 1 ∷ 2 ∷ []) _ (record {
-            frame = frame_by three_header;
-            fill = 0;
-            is_said = refl;
-            ended = (refl, (inl refl, (inr (inl refl), (inr (inr (inl refl)), tt))));
-            closed = refl;
-          }))))));
+          end (scanned three_header) (0 ∷ 1 ∷ 2 ∷ []) _ (closes (scanned three_header) (frame_by three_header) 0 refl
+          (refl, (inl refl, (inr (inl refl), (inr (inr (inl refl)), tt))))))))));
     };
   };
 }
@@ -262,13 +258,8 @@ padding-written = record {
           scan (said padded_header) _ [] _ _ _ 0 padded_scan padded_data _ refl are-scans.2 (refl, padded-scans.0, refl) (
           scan (scanned padded_header) _ (0 ∷ 1 ∷ []) _ _ _ 0 lone_scan lone_data _ refl are-scans.3
           (refl, padded-scans.1, refl) (
-          end (scanned padded_header) (2 ∷ 0 ∷ 1 ∷ []) _ (record {
-            frame = frame_by padded_header;
-            fill = 0;
-            is_said = refl;
-            ended = (refl, (inr (inl refl), (inr (inr (inl refl)), (inl refl, tt))));
-            closed = refl;
-          }))))));
+          end (scanned padded_header) (2 ∷ 0 ∷ 1 ∷ []) _ (closes (scanned padded_header) (frame_by padded_header) 0 refl
+          (refl, (inr (inl refl), (inr (inr (inl refl)), (inl refl, tt))))))))));
     };
   };
 }

@@ -26,7 +26,7 @@ use Rattle.jpeg_streams.specs.WrittenStreams.{end, scan, segment}
 use Rattle.jpeg_streams.specs.WrittenScans.{Coefficients, grid_at, HasTable}
 use Rattle.jpeg_streams.specs.WrittenScans.{no_grid, index_at}
 use Rattle.jpeg_streams.proofs.ReadTurns.{codings-each, same-frame, then-ok}
-use Rattle.jpeg_streams.proofs.WalkedStreams.{frame-kept, front-append}
+use Rattle.jpeg_streams.proofs.WalkedStreams.{closes, frame-kept, front-append}
 use Rattle.jpeg_streams.proofs.WholeImages.{whole-is}
 use Rattle.jpeg_streams.proofs.WrittenPictures.{stream-means}
 use Rattle.jpeg_bits.proofs.BandSteps.{bind_same}
@@ -41,13 +41,8 @@ front-closed array front said levels frame f scanned framed progressive tables =
   after = front ++ (255 ∷ 217 ∷ []);
   starts = refl;
   written = front-append nothing_found said said (λ k. nothing_sent) levels levels front (255 ∷ 217 ∷ []) f
-      (end said levels (255 ∷ 217 ∷ []) (record {
-        frame = frame;
-        fill = 0;
-        is_said = framed;
-        ended = (scanned, tables, λ e. absurd (true≢false (sym progressive ∙ e)));
-        closed = refl;
-      }));
+      (end said levels (255 ∷ 217 ∷ [])
+      (closes said frame 0 framed (scanned, tables, λ e. absurd (true≢false (sym progressive ∙ e)))));
 }
 
 -- ---- the picture alone
