@@ -1,6 +1,6 @@
 -- The picture of samples that are written is their pixels.
 use Rattle.std.proofs.Common.{◌≡◌, ℕ, suc, ◌+◌, ◌<◌, List, [], ◌∷◌, ◌++◌, drop, length}
-use Rattle.std.proofs.Common.{Ok, Some, refl, sym, ap, ◌∙◌, subst, arith}
+use Rattle.std.proofs.Common.{Ok, Some, refl, ap, ◌∙◌, subst, arith}
 use Rattle.std.specs.List.{AllByRecursion, range_with_len}
 use Rattle.jpeg_segments.specs.Frame.{Component, Frame}
 use Rattle.jpeg_lossless.specs.Pictures.{layers_of, lossless_picture, most_across, most_down}

@@ -1,6 +1,6 @@
 -- A lossless scan that is written is read as its samples.
 use Rattle.std.proofs.Common.{rules}
-use Rattle.std.proofs.Common.{◌≡◌, ℕ, zero, suc, ◌*◌, ◌<◌, Bool, true, false}
+use Rattle.std.proofs.Common.{◌≡◌, ℕ, zero, suc, ◌*◌, ◌<◌, Bool, true}
 use Rattle.std.proofs.Common.{List, [], ◌∷◌, ◌++◌, drop, map, length, replicate, take, Option, Some, None}
 use Rattle.std.proofs.Common.{Ok, refl, ap, ◌∙◌, subst, arith}
 use Rattle.std.specs.List.{AllByRecursion, concat}

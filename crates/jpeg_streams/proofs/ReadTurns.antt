@@ -8,12 +8,12 @@ use Rattle.std.specs.List.{AllByRecursion}
 use Rattle.jpeg_bits.specs.Reading.{Fault, Malformed, Outcome, ◌>>=◌}
 use Rattle.jpeg_bits.specs.Marker.{marker_of, next_marker}
 use Rattle.jpeg_bits.specs.declared.marker.Marker.{Marker}
-use Rattle.jpeg_bits.specs.declared.marker.Marker.TheVariants.{EOI, SOF, SOS}
+use Rattle.jpeg_bits.specs.declared.marker.Marker.TheVariants.{EOI, SOS}
 use Rattle.jpeg_segments.specs.Frame.{Frame}
 use Rattle.jpeg_segments.specs.ScanHeader.{Scan, sos_at}
 use Rattle.jpeg_segments.specs.HuffmanTables.{Tables}
-use Rattle.jpeg_segments.specs.WrittenSegments.{with_length, Segment, Header, FrameHeader, MayStand}
-use Rattle.jpeg_segments.specs.WrittenSegments.{marker_code, frame_written, payload_of}
+use Rattle.jpeg_segments.specs.WrittenSegments.{with_length, Segment, Header, MayStand}
+use Rattle.jpeg_segments.specs.WrittenSegments.{marker_code, payload_of}
 use Rattle.jpeg_segments.proofs.Fields.{kept, not-refused, read-on, sized-read, skip-read}
 use Rattle.jpeg_segments.proofs.TableSegments.{dqt-read, dht-read}
 use Rattle.jpeg_segments.proofs.OtherSegments.{dri-read}
@@ -29,7 +29,7 @@ use Rattle.jpeg_streams.specs.ScanSegments.{component_coding, needed_if, Coding,
 use Rattle.jpeg_streams.specs.ScanSegments.{scan_arrays, codings_of, codings_from, scan_segment, scan_turn}
 use Rattle.jpeg_streams.specs.ScanSegments.{blocks_scan}
 use Rattle.jpeg_streams.specs.Segments.{onward, Turn, application_segment, restart_segment, huffman_segment}
-use Rattle.jpeg_streams.specs.Segments.{quantization_segment, skipped_segment, frame_segment, accepted}
+use Rattle.jpeg_streams.specs.Segments.{quantization_segment, skipped_segment, frame_segment}
 use Rattle.jpeg_streams.specs.Found.{Found}
 use Rattle.jpeg_streams.specs.SaidSegments.{Stands, found_after}
 use Rattle.jpeg_streams.specs.Stream.{segment_at, segments_at, end_segment, turn_at, walk}

@@ -1,5 +1,5 @@
 -- Written streams of any kind: what stays through one, and that it is read turn by turn.
-use Rattle.std.proofs.Common.{rules, ◌≡◌, ◌&&◌, ℕ, zero, suc, ◌<◌, Bool, true, false, List, [], ◌++◌, length, is_some}
+use Rattle.std.proofs.Common.{◌≡◌, ◌&&◌, ℕ, zero, suc, ◌<◌, Bool, true, false, List, [], ◌++◌, length, is_some}
 use Rattle.std.proofs.Common.{Option, Some, None, Ok, refl, sym, ap, ◌∙◌, subst, arith, length-append}
 use Rattle.jpeg_bits.specs.Marker.{marker_of}
 use Rattle.jpeg_bits.specs.Reading.{Outcome, ◌>>=◌}
@@ -14,7 +14,7 @@ use Rattle.jpeg_streams.specs.Found.{Found, nothing_found}
 use Rattle.jpeg_streams.specs.FoundPictures.{picture_of}
 use Rattle.jpeg_streams.specs.SaidSegments.{found_after, Stands}
 use Rattle.jpeg_streams.specs.ScanSegments.{after_restarts, scan_before, scan_segment, scan_turn}
-use Rattle.jpeg_streams.specs.Segments.{onward, Turn}
+use Rattle.jpeg_streams.specs.Segments.{onward}
 use Rattle.jpeg_streams.specs.Stream.{header_at, meaning, rest_at, segments_at, start_at, Told, told_of, turn_at, walk}
 use Rattle.jpeg_streams.specs.WrittenStreams.{Closes, end, scan, segment, Starts, Writes}
 use Rattle.jpeg_streams.specs.declared.before.Before.{Before}
