@@ -13,7 +13,8 @@ use Rattle.jpeg_streams.specs.Needed.{first_of}
 use Rattle.jpeg_streams.specs.Stream.{meaning, sized_meaning, told_of}
 use Rattle.jpeg_streams.specs.Found.{nothing_found, Found}
 use Rattle.jpeg_streams.specs.InTurn.{IsIn}
-use Rattle.jpeg_streams.specs.WrittenLossless.{IsLossless, IsWithinLimit, picture_of_samples, pixel_from, Samples, WritesSamples}
+use Rattle.jpeg_streams.specs.WrittenLossless.{IsLossless, IsWithinLimit, picture_of_samples, pixel_from, Samples}
+use Rattle.jpeg_streams.specs.WrittenLossless.{WritesSamples}
 use Rattle.jpeg_streams.proofs.LosslessFrames.{IsShaped}
 use Rattle.jpeg_streams.proofs.LosslessSizes.{IsMade, made-reaches, some-across, some-down}
 use Rattle.jpeg_streams.proofs.PaddingUnseen.{drop-next, mapped-same}
@@ -28,12 +29,12 @@ use Rattle.std.proofs.lemmas.Grind.{common_steps}
 -- ---- sizes
 
 -- The frame has some size, and the samples have the sizes of its components.
-pub sizes-kept : (samples : Samples) (bytes : List ℕ) (final : Found) (frame : Frame) → WritesSamples samples bytes final
-    → final.frame ≡ Some frame → IsShaped frame
+pub sizes-kept : (samples : Samples) (bytes : List ℕ) (final : Found) (frame : Frame)
+    → WritesSamples samples bytes final → final.frame ≡ Some frame → IsShaped frame
     × AllByRecursion (SizedAt samples frame.components) (range_with_len 0 (length frame.components))
 sizes-kept samples bytes final frame w e =
-    let r = keeps (λ now sent. IsSaid IsShaped now × AllByRecursion (SizedAt samples frame.components) sent) nothing_found
-    final [] w.sent w.written.after
+    let r = keeps (λ now sent. IsSaid IsShaped now × AllByRecursion (SizedAt samples frame.components) sent)
+    nothing_found final [] w.sent w.written.after
     (λ now sent s stands may h. (segment-said (λ y z. IsLossless z) IsShaped header-said now s stands may h.0, h.1))
     (λ now sent next f header data_bytes framed last x h. (
       record { tables = h.0.tables; shaped = h.0.shaped },

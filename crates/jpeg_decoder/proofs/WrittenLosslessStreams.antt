@@ -226,8 +226,8 @@ pub samples-walked : (settings : Settings) (samples : Samples) (bytes rest : Lis
     → AreMeant settings samples final w.sent rest (meaning settings (bytes ++ rest))
 unfolding nothing_found
 samples-walked settings samples bytes rest final w =
-    stream-read MayEndSamples (samples-read samples) rest [] w.sent bytes final (replicate 4 None) settings w.written refl
-    (record { four = refl; kept = tt })
+    stream-read MayEndSamples (samples-read samples) rest [] w.sent bytes final (replicate 4 None) settings w.written
+    refl (record { four = refl; kept = tt })
 
 -- lossless frames keep their size
 keeps-size : (width height : ℕ) (found : Found) (frame : Frame) → found.frame ≡ Some frame

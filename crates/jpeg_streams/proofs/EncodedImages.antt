@@ -271,7 +271,8 @@ tables_now kind number h scanned index c = tables_of (said number h scanned) (sc
 codings-are : (kind : Kind) (number : ℕ) (h : FrameHeader) (scanned : Bool) (front more : List Factors) (c : Factors)
     → h.components ≡ front ++ c ∷ more → c.quantization ≤ 3
     → codings_from (said number h scanned) (frame_written number h) (pass_for kind)
-    (tables_now kind number h scanned (length front) c) (length front ∷ []) (0 ∷ []) (0 ∷ []) ≡ Ok (coding kind h (length front) c ∷ [])
+    (tables_now kind number h scanned (length front) c) (length front ∷ []) (0 ∷ []) (0 ∷ [])
+    ≡ Ok (coding kind h (length front) c ∷ [])
 unfolding codings_from component_coding frame_of component_of tables_of nothing_found updated
 codings-are kind number h scanned front more c e le =
     let at : first_of (drop (length front) (frame_written number h).components) ≡ Some (component_in h c)
@@ -343,8 +344,8 @@ end-written number h array front levels scanned le are e s is =
     let size : length (frame_written number h).components ≡ length h.components = length-map h.components _ in (
       marker 0 217 [],
       levels,
-      subst (λ (b : Bool). WritesPart array ClosesImage (said number h b) levels (marker 0 217 []) (said number h true) levels)
-          (sym is)
+      subst (λ (b : Bool). WritesPart array ClosesImage (said number h b) levels (marker 0 217 [])
+          (said number h true) levels) (sym is)
           (end (said number h true) levels _ (closes (said number h true) (frame_written number h) 0 refl (
             refl,
             have-tables number h [] h.components le are,

@@ -43,8 +43,8 @@ use Rattle.jpeg_streams.specs.LosslessScans.{mcus_across, mcus_down, parts_of}
 use Rattle.jpeg_streams.specs.Needed.{first_of}
 use Rattle.jpeg_streams.specs.SaidSegments.{found_after}
 use Rattle.jpeg_streams.specs.Segments.{updated, accepted}
-use Rattle.jpeg_streams.specs.WrittenLossless.{ClosesSamples, HoldSamples, IsInterval, IsLossless, no_interval, own_lines}
-use Rattle.jpeg_streams.specs.WrittenLossless.{Samples, SendsSamples, WritesSamplesScan}
+use Rattle.jpeg_streams.specs.WrittenLossless.{ClosesSamples, HoldSamples, IsInterval, IsLossless, no_interval}
+use Rattle.jpeg_streams.specs.WrittenLossless.{own_lines, Samples, SendsSamples, WritesSamplesScan}
 use Rattle.jpeg_streams.specs.WrittenStreams.{end, scan, segment, Writes}
 use Rattle.jpeg_streams.proofs.AcceptedSamples.{accepted-samples}
 use Rattle.jpeg_streams.proofs.EncodedBlocks.{category-at_most, packed}

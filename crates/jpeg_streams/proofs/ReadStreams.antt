@@ -1,6 +1,6 @@
 -- A stream that is written for the coefficients of an image is read up to its end.
-use Rattle.std.proofs.Common.{rules, ◌≡◌, ℕ, Bool, true, false, List, [], ◌++◌, length, replicate, Option, Some, None, Ok}
-use Rattle.std.proofs.Common.{refl, sym, ap, ◌∙◌, subst, true≢false}
+use Rattle.std.proofs.Common.{rules, ◌≡◌, ℕ, Bool, true, false, List, [], ◌++◌, length, replicate, Option, Some}
+use Rattle.std.proofs.Common.{None, Ok, refl, sym, ap, ◌∙◌, subst, true≢false}
 use Rattle.std.specs.List.{AllByRecursion}
 use Rattle.jpeg_bits.specs.Reading.{Outcome}
 use Rattle.jpeg_bits.specs.Written.{marker}
@@ -108,7 +108,8 @@ module _ (array : Coefficients) (range : (index row column : ℕ) → Is8Bit (ar
       go false g =
           let n = held.fresh g in
           subst (λ (l : ℕ → Levels). Framed said f array l false x.0 x.1 x.2) (sym n.1)
-          (framed-start said f array x.0 x.1 x.2 range (ap (λ (y : Progress). y.1) n.0) (ap (λ (y : Progress). y.2) n.0))
+          (framed-start said f array x.0 x.1 x.2 range (ap (λ (y : Progress). y.1) n.0)
+          (ap (λ (y : Progress). y.2) n.0))
       go true g =
           let h = held.framed g in
           subst (λ (y : Frame). Framed said y array levels true x.0 x.1 x.2) (same-frame h.0 f said.frame h.1 e) h.2
@@ -134,8 +135,8 @@ module _ (array : Coefficients) (range : (index row column : ℕ) → Is8Bit (ar
           );
         };
         found = λ fill code m left makes ends.
-            scan-by (with_progress said x) f s w.codings b.arrays m _ (bytes ++ marker fill code left) left shape.lossy e
-            (sos-read f h (bytes ++ marker fill code left) scan)
+            scan-by (with_progress said x) f s w.codings b.arrays m _ (bytes ++ marker fill code left) left
+            shape.lossy e (sos-read f h (bytes ++ marker fill code left) scan)
             (codings-same said said.scanned x.0 x.1 x.2 f s ∙ w.legal.are_in_force)
             (b.read fill code m left (record { is = makes })) (ends (length left) left)
             ∙ ap (λ (y : Found). Ok (scan_turn said y (Some m), left)) b.after;
@@ -167,7 +168,8 @@ abbrev pub ImageMeant : Settings → Coefficients → Found → (ℕ → Levels)
 ImageMeant settings array final last tail meant =
     IsMeant IsDrawn with_progress (Holds array) MayEndImage settings final last tail meant
 
-pub image-walked : (settings : Settings) (array : Coefficients) (bytes tail : List ℕ) (final : Found) (last : ℕ → Levels)
+pub image-walked : (settings : Settings) (array : Coefficients) (bytes tail : List ℕ) (final : Found)
+    (last : ℕ → Levels)
     → ((index row column : ℕ) → Is8Bit (array index row column)) → WritesImage array bytes final last
     → ImageMeant settings array final last tail (meaning settings (bytes ++ tail))
 unfolding nothing_found

@@ -266,8 +266,8 @@ unfolding codings_of tables_of
 scan-other array f g w levels next h bytes same x =
     let s = scan_written f h in
     let alike : scan_written g h ≡ s = written-same f g h same in
-    let o = codings-alike w f g same (pass_of s) (tables_of w s) s.components s.dc_destinations s.ac_destinations x.codings
-    x.legal.are_in_force in
+    let o = codings-alike w f g same (pass_of s) (tables_of w s) s.components s.dc_destinations s.ac_destinations
+    x.codings x.legal.are_in_force in
     let legal : IsLegalScan (at_frame w g) g levels s o.0 =
     grind (arith, legal-alike (pass_of s) levels x.codings o.0 o.2 x.legal.legal) in
     record {

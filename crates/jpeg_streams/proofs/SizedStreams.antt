@@ -88,7 +88,8 @@ sized-is width height f n = go f.process refl
 image-sized : (width height : ℕ) (settings : Settings) (array : Coefficients) (bytes tail : List ℕ) (final : Found)
     (last : ℕ → Levels)
     → ((index row column : ℕ) → Is8Bit (array index row column)) → WritesImage array bytes final last
-    → ImageMeant settings array (sized_to width height final) last tail (sized_meaning width height settings (bytes ++ tail))
+    → ImageMeant settings array (sized_to width height final) last tail
+    (sized_meaning width height settings (bytes ++ tail))
 unfolding sized_meaning nothing_found
 image-sized width height settings array bytes tail final last range w =
     let r = header-read MayEndImage (image-read array range) tail (λ k. nothing_sent) last bytes final no_progress w
@@ -108,8 +109,8 @@ image-sized width height settings array bytes tail final last range w =
     let kept = frame-kept said final (λ k. nothing_sent) last h.left f h.written refl in
     let left = h.left ++ tail in
     let lefts = length-append h.left tail in
-    let e = reads-on MayEndImage (image-read array range) tail (at_frame said g) (at_frame final g) (λ k. nothing_sent) last
-    h.left no_progress (suc (length left)) Elsewhere None left
+    let e = reads-on MayEndImage (image-read array range) tail (at_frame said g) (at_frame final g) (λ k. nothing_sent)
+    last h.left no_progress (suc (length left)) Elsewhere None left
     (scans-alike array f g said final (λ k. nothing_sent) last h.left same refl h.written)
     (record { tables = h.said.tables; shaped = λ x q. subst IsDrawn (one-frame g x _ refl q) drawn })
     (holds-nothing array (at_frame said g) h.unscanned) (stands-here left) (omega arith) in

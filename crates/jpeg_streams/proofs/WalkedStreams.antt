@@ -22,8 +22,8 @@ use Rattle.jpeg_streams.specs.declared.before.Before.TheVariants.{Elsewhere}
 use Rattle.jpeg_streams.specs.declared.settings.Settings.{Settings}
 use Rattle.jpeg_streams.proofs.ReadTurns.{Begins, end-turn, IsEnd, marker-longer}
 use Rattle.jpeg_streams.proofs.ReadTurns.{scan-tail, scan-turn, segment-begins, segment-tail, segment-turn}
-use Rattle.jpeg_streams.proofs.ReadTurns.{same-frame, segments-walked, some-none, stands-here, stands-met, StandsAt, then-ok}
-use Rattle.jpeg_streams.proofs.ReadTurns.{walk-end, walk-on, walk-stop}
+use Rattle.jpeg_streams.proofs.ReadTurns.{same-frame, segments-walked, some-none, stands-here, stands-met, StandsAt}
+use Rattle.jpeg_streams.proofs.ReadTurns.{then-ok, walk-end, walk-on, walk-stop}
 use Rattle.jpeg_streams.proofs.SaidTables.{HasTables, no-tables, segment-tables}
 use Rattle.jpeg_streams.proofs.WrittenMarkers.{marker-append}
 
@@ -100,7 +100,7 @@ pub segment-said : (may : Found → Segment → Type 0) (P : Frame → Type 0)
     → (said : Found) (s : Segment) → Stands said s → may said s → IsSaid P said → IsSaid P (found_after said s)
 segment-said may P shaped said (Header number h) stands allowed is = record {
   tables = is.tables;
-  shaped = λ f e. subst P (same-frame (frame_written number h) f (Some (frame_written number h)) refl e) (shaped said number h stands allowed);
+  shaped = λ f e. subst P (same-frame (frame_written number h) f _ refl e) (shaped said number h stands allowed);
 }
 segment-said may P shaped said s stands allowed is =
     record { tables = segment-tables said s stands.0 is.tables; shaped = is.shaped }
@@ -234,8 +234,8 @@ module _ {Sent Brought : Type 0} {may : Found → Segment → Type 0}
   reads-on said final sent last bytes x (suc turns) before met all
       (segment said' final' sent' last' fill s more stands allowed w) is held at room =
       let r = reads-on (found_after said s) final sent last more x turns Elsewhere None (more ++ tail) w
-      (segment-said may P k.shaped said s stands allowed is) (k.holds said sent x s stands allowed held) (stands-here (more ++ tail))
-      (marker-longer fill (marker_code s) turns (with_length (payload_of s)) more room) in
+      (segment-said may P k.shaped said s stands allowed is) (k.holds said sent x s stands allowed held)
+      (stands-here (more ++ tail)) (marker-longer fill (marker_code s) turns (with_length (payload_of s)) more room) in
       (r.0, segment-next said x s false turns fill before met all more stands refl at ∙ r.1)
   reads-on said final sent last bytes x (suc turns) before met all
       (scan said' final' sent' next last' f fill h data_bytes more framed is_scan sends w) is held at room =
@@ -243,7 +243,8 @@ module _ {Sent Brought : Type 0} {may : Found → Segment → Type 0}
       let now = beside said x in
       let b = k.reads said sent next x f h data_bytes is framed is_scan sends held in
       let n = rest-begins (record said { scanned = true }) final next last more w in
-      let r = reads-on (record said { scanned = true }) final next last more b.brought turns (scan_before said) (Some n.m) n.after w
+      let r = reads-on (record said { scanned = true }) final next last more b.brought turns (scan_before said) (Some n.m)
+      n.after w
       (record { tables = is.tables; shaped = is.shaped }) b.held
       (subst (StandsAt (Some n.m) n.after) (sym n.is) (stands-met n.fill n.code n.m n.after n.makes))
       (let l = marker-longer fill 218 turns header (data_bytes ++ more) room in let k = length-append data_bytes more in
@@ -312,8 +313,8 @@ module _ {Sent Brought : Type 0} {may : Found → Segment → Type 0}
       (w.after ++ tail) w.written (nothing-said P) held (stands-here (w.after ++ tail)) (omega arith) in (
         r.0,
         ap (λ (l : List ℕ). meaning settings (l ++ tail)) w.starts
-            ∙ rest-by settings nothing_found _ (w.after ++ tail) tail
-            (ap (λ (f : Found). walk (suc (length (w.after ++ tail))) false Elsewhere f None (w.after ++ tail)) (sym e) ∙ r.1),
+            ∙ ap (λ (f : Found). rest_at settings f (w.after ++ tail)) (sym e)
+            ∙ rest-by settings (beside nothing_found x) _ (w.after ++ tail) tail r.1,
       )
 
   pub header-read : (sent last : Sent) (bytes : List ℕ) (final : Found) (x : Brought)
@@ -327,6 +328,6 @@ module _ {Sent Brought : Type 0} {may : Found → Segment → Type 0}
       (nothing-said P) refl refl (omega arith) in (
         r.0,
         ap (λ (l : List ℕ). header_at (l ++ tail)) w.starts
-            ∙ segments-walked _ _ _ _ _ _
-            (ap (λ (f : Found). walk (suc (length (w.after ++ tail))) true Elsewhere f None (w.after ++ tail)) (sym e) ∙ r.1),
+            ∙ ap (λ (f : Found). segments_at true Elsewhere f None (w.after ++ tail)) (sym e)
+            ∙ segments-walked _ _ _ _ _ _ r.1,
       )

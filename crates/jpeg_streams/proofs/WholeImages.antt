@@ -91,8 +91,8 @@ levels-sized : (array : Coefficients) (bytes : List ℕ) (final : Found) (last :
 levels-sized array bytes final last w =
     (keeps (λ said levels. (k : ℕ) → length (levels k).acs ≡ 63) nothing_found final (λ k. nothing_sent) last w.after
     (λ now levels s stands may h. h)
-    (λ now levels next f h data_bytes e framed x sized. subst (λ (l : ℕ → Levels). (k : ℕ) → length (l k).acs ≡ 63) x.sent
-    (after-length _ _ levels sized))
+    (λ now levels next f h data_bytes e framed x sized.
+    subst (λ (l : ℕ → Levels). (k : ℕ) → length (l k).acs ≡ 63) x.sent (after-length _ _ levels sized))
     w.written (λ k. refl)).0
 
 pub whole-is : (settings : Settings) (array : Coefficients) (bytes tail : List ℕ) (final : Found) (last : ℕ → Levels)

@@ -271,7 +271,8 @@ pictures-same : (settings : Settings) (array : Coefficients) (final : Found) (la
 pictures-same settings array final last r =
     let made = (shape array final last r).made in
     let b = both-planes array final last r in
-    found-picture settings (with_progress final r.brought) r.frame b.ours (shape array final last r).lossy r.framed b.ours_are
+    found-picture settings (with_progress final r.brought) r.frame b.ours (shape array final last r).lossy r.framed
+    b.ours_are
     ∙ (search (rules, picture-by-same))
     ∙ sym (blocks-picture settings final (as_sent array last) r.frame b.theirs r.framed b.theirs_are)
 
@@ -332,7 +333,8 @@ taken settings array final last tail meant r takes =
     let picture = picture-there settings final f f.components b.ours b.theirs sources.0
     (subst (λ (g : Frame). HasTransform settings final g.components) same takes.transform) sources.1 b.alike in
     let is = blocks-picture settings final (as_sent array last) f b.theirs r.0.framed b.theirs_are
-    ∙ (rw (le-ltb settings.limit (length f.components * (f.output_width * f.output_height)) limit) refl) ∙ picture.1 in (
+    ∙ (rw (le-ltb settings.limit (length f.components * (f.output_width * f.output_height)) limit) refl)
+    ∙ picture.1 in (
       picture.0,
       is,
       pictured settings array final last tail meant r
