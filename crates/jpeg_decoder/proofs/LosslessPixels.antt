@@ -21,7 +21,7 @@ use Rattle.jpeg_streams.proofs.PaddingUnseen.{drop-next, mapped-same}
 use Rattle.jpeg_streams.proofs.OwnSpots.{all-append}
 use Rattle.jpeg_streams.proofs.ReadTurns.{same-frame}
 use Rattle.jpeg_streams.proofs.WalkedStreams.{IsSaid, keeps, nothing-said, segment-said}
-use Rattle.jpeg_decoder.proofs.WrittenLosslessStreams.{all-in, drawn, header-said, samples-meant, samples-walked}
+use Rattle.jpeg_decoder.proofs.WrittenLosslessStreams.{all-in, drawn, header-said, IsSampled, samples-meant, samples-walked}
 use Rattle.jpeg_decoder.proofs.WrittenLosslessStreams.{sized-walked}
 use Rattle.jpeg_decoder.proofs.WrittenSamples.{HasSize, SizedAt, indices_of, planes_for, scan-sized}
 use Rattle.std.proofs.lemmas.Grind.{common_steps}
@@ -33,19 +33,19 @@ pub sizes-kept : (samples : Samples) (bytes : List ℕ) (final : Found) (frame :
     → WritesSamples samples bytes final → final.frame ≡ Some frame → IsShaped frame
     × AllByRecursion (SizedAt samples frame.components) (range_with_len 0 (length frame.components))
 sizes-kept samples bytes final frame w e =
-    let r = keeps (λ now sent. IsSaid IsShaped now × AllByRecursion (SizedAt samples frame.components) sent)
+    let r = keeps (λ now sent. IsSaid IsSampled now × AllByRecursion (SizedAt samples frame.components) sent)
     nothing_found final [] w.sent w.written.after
-    (λ now sent s stands may h. (segment-said (λ y z. IsLossless z) IsShaped header-said now s stands may h.0, h.1))
+    (λ now sent s stands may h. (segment-said (λ y z. IsLossless z) IsSampled header-said now s stands may h.0, h.1))
     (λ now sent next f header data_bytes framed last x h. (
       record { tables = h.0.tables; shaped = h.0.shaped },
       subst (AllByRecursion (SizedAt samples frame.components)) x.2
           (all-append (SizedAt samples frame.components) (indices_of header.choices) sent
           (subst (λ (g : Frame). AllByRecursion (SizedAt samples g.components) (indices_of header.choices))
           (same-frame f frame final.frame last e)
-          (scan-sized now f header samples data_bytes (h.0.shaped f framed) h.0.tables x.1)) h.1),
+          (scan-sized now f header samples data_bytes (h.0.shaped f framed).0 h.0.tables x.1)) h.1),
     ))
-    w.written.written (nothing-said IsShaped, tt) in (
-      r.0.0.shaped frame e,
+    w.written.written (nothing-said IsSampled, tt) in (
+      (r.0.0.shaped frame e).0,
       all-in (SizedAt samples frame.components) _ w.sent r.0.1
           (subst (λ (f : Frame). AllByRecursion (λ k. IsIn k w.sent) (range_with_len 0 (length f.components)))
           (same-frame r.2.frame frame final.frame r.2.is_said e) r.2.ended.1),

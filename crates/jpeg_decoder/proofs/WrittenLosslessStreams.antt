@@ -8,7 +8,7 @@ use Rattle.std.specs.Prelude.{slice_index_or, slice_set}
 use Rattle.std.specs.List.{AllByRecursion, concat, range_with_len}
 use Rattle.jpeg_bits.specs.Reading.{Fault, Malformed, Outcome, ◌>>=◌}
 use Rattle.jpeg_segments.specs.declared.parser.CodingProcess.TheVariants.{Lossless}
-use Rattle.jpeg_segments.specs.Frame.{Frame, Component}
+use Rattle.jpeg_segments.specs.Frame.{Frame, Component, frame_of}
 use Rattle.jpeg_segments.specs.ScanHeaders.{ScanHeader, IsScan}
 use Rattle.jpeg_segments.specs.WrittenSegments.{FrameHeader, frame_written, Header}
 use Rattle.jpeg_segments.proofs.Fields.{not-refused, kept}
@@ -27,7 +27,7 @@ use Rattle.jpeg_streams.specs.WrittenLossless.{IsLossless, Samples, SendsSamples
 use Rattle.jpeg_streams.specs.InTurn.{IsIn}
 use Rattle.jpeg_streams.proofs.ReadTurns.{same-frame, stands-here, then-ok}
 use Rattle.jpeg_streams.proofs.LosslessFrames.{IsShaped, header-shaped}
-use Rattle.jpeg_streams.proofs.WalkedStreams.{FindsScan, frame-kept, header-read, IsMeant, IsRead, IsSaid, reads-on}
+use Rattle.jpeg_streams.proofs.WalkedStreams.{FindsScan, header-read, IsMeant, IsRead, IsSaid, reads-on}
 use Rattle.jpeg_streams.proofs.WalkedStreams.{rest-by, stream-read}
 use Rattle.jpeg_decoder.proofs.WrittenSamples.{and_samples, components-of, indices_of, planes_for}
 use Rattle.jpeg_decoder.proofs.WrittenSamples.{scan-read}
@@ -136,13 +136,23 @@ indices-below frame h is = grind (
   header-rules,
 )
 
+-- a lossless frame of some size
+abbrev pub IsSampled : Frame → Type 0
+IsSampled f = IsShaped f × (f.process ≡ Lossless)
+
+pub header-said : (said : Found) (number : ℕ) (h : FrameHeader) → Stands said (Header number h)
+    → IsLossless (Header number h) → IsSampled (frame_written number h)
+unfolding frame_of
+header-said said number h stands is =
+    (header-shaped number h stands.0.1 stands.1, ap (λ (n : ℕ). (frame_written n h).process) is)
+
 scan-found : (samples : Samples) (said : Found) (sent next : List ℕ) (decided : List (Option (List ℕ))) (f : Frame)
-    (h : ScanHeader) (bytes : List ℕ) → IsSaid IsShaped said → said.frame ≡ Some f → IsScan f h
+    (h : ScanHeader) (bytes : List ℕ) → IsSaid IsSampled said → said.frame ≡ Some f → IsScan f h
     → SendsSamples samples said sent f h bytes next → Holds samples said sent decided
     → FindsScan and_samples (Holds samples) said next decided h bytes
 scan-found samples said sent next decided f h bytes is framed header x held =
-    let shaped = is.shaped f framed in
-    let few = shaped.few in
+    let frame = is.shaped f framed in
+    let few = frame.0.few in
     let four = held.four in
     let indices = indices_of h.choices in
     record {
@@ -154,15 +164,11 @@ scan-found samples said sent next decided f h bytes is framed header x held =
             (omega (arith, few, four)) (indices-below f h header)) held.kept);
       };
       found = λ fill code m left makes ends. scan-read said decided f h samples bytes left fill code m x.1 framed header
-          x.0 shaped is.tables makes ends;
+          frame.1 frame.0 is.tables makes ends;
     }
 
-pub header-said : (said : Found) (number : ℕ) (h : FrameHeader) → Stands said (Header number h)
-    → IsLossless (Header number h) → IsShaped (frame_written number h)
-header-said said number h stands may = header-shaped number h stands.0.1 stands.1
-
 samples-read : (samples : Samples)
-    → IsRead (λ said s. IsLossless s) (SendsSamples samples) IsShaped and_samples (Holds samples)
+    → IsRead (λ said s. IsLossless s) (SendsSamples samples) IsSampled and_samples (Holds samples)
 samples-read samples = record {
   frame_beside = λ said x. refl;
   said_beside = λ said x s. search rules;
@@ -178,7 +184,7 @@ MayEndSamples said sent frame =
 
 abbrev pub AreMeant : Settings → Samples → Found → List ℕ → List ℕ → Outcome (Told × List ℕ) → Type 0
 AreMeant settings samples final sent tail meant =
-    IsMeant IsShaped and_samples (Holds samples) MayEndSamples settings final sent tail meant
+    IsMeant IsSampled and_samples (Holds samples) MayEndSamples settings final sent tail meant
 
 -- ---- the picture
 
@@ -245,14 +251,11 @@ sized-walked width height settings samples bytes rest final w =
     let left = r.0.left ++ rest in
     let long = length-append r.0.left rest in
     let e = reads-on MayEndSamples (samples-read samples) rest said final [] w.sent r.0.left decided (suc (length left))
-    Elsewhere None left r.0.written r.0.said (record { four = refl; kept = tt }) (stands-here left) (omega arith) in
-    let kept = frame-kept said final [] w.sent r.0.left _ r.0.written refl in
-    let lossless = subst (λ (f : Frame). f.process ≡ Lossless)
-    (same-frame e.0.frame _ final.frame e.0.framed kept) e.0.ended.0 in (
+    Elsewhere None left r.0.written r.0.said (record { four = refl; kept = tt }) (stands-here left) (omega arith) in (
       e.0,
       then-ok (header_at (bytes ++ rest)) _ (and_samples said decided, left) _ r.1
           (ap (λ (f : Found). rest_at settings f left)
-          (keeps-size width height (and_samples said decided) _ refl lossless)
+          (keeps-size width height (and_samples said decided) _ refl (r.0.said.shaped _ refl).1)
           ∙ rest-by settings (and_samples said decided) _ left rest e.1),
     )
 
@@ -265,9 +268,8 @@ samples-meant settings samples final sent rest frame meant r framed within =
     let same : r.0.frame ≡ frame = same-frame r.0.frame frame final.frame r.0.framed framed in
     let kept = subst (λ (f : Frame). AreKept samples r.0.brought (range_with_len 0 (length f.components))) same
     (all-in _ _ sent r.0.held.kept r.0.ended.1) in
-    let lossless = subst (λ (f : Frame). f.process ≡ Lossless) same r.0.ended.0 in
     r.1 ∙ then-ok (picture_of settings (and_samples final r.0.brought)) _ (drawn frame samples) _
-    (picture-there settings (and_samples final r.0.brought) samples frame framed lossless within kept) refl
+    (picture-there settings (and_samples final r.0.brought) samples frame framed (r.0.said.shaped frame framed).1 within kept) refl
 
 -- One that is beyond the limit is refused.
 pub samples-refused : (settings : Settings) (samples : Samples) (bytes rest : List ℕ) (final : Found) (frame : Frame)
