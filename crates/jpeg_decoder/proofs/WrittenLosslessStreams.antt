@@ -15,7 +15,6 @@ use Rattle.jpeg_segments.proofs.Fields.{not-refused, kept}
 use Rattle.jpeg_segments.proofs.HeaderRules.{header-rules}
 use Rattle.jpeg_segments.specs.ScanHeader.{scan_of}
 use Rattle.std.proofs.lemmas.List.Elements.{recursion_from_All}
-use Rattle.jpeg_streams.specs.declared.before.Before.TheVariants.{Elsewhere}
 use Rattle.jpeg_streams.specs.declared.settings.Settings.{Settings}
 use Rattle.jpeg_streams.specs.LosslessScans.{samples_from, with_samples}
 use Rattle.jpeg_lossless.specs.Pictures.{lossless_picture}
@@ -25,10 +24,10 @@ use Rattle.jpeg_streams.specs.Stream.{header_at, rest_at, meaning, sized_meaning
 use Rattle.jpeg_streams.specs.FoundPictures.{picture_of, samples_picture}
 use Rattle.jpeg_streams.specs.WrittenLossless.{IsLossless, Samples, SendsSamples, WritesSamples}
 use Rattle.jpeg_streams.specs.InTurn.{IsIn}
-use Rattle.jpeg_streams.proofs.ReadTurns.{same-frame, stands-here, then-ok}
+use Rattle.jpeg_streams.proofs.ReadTurns.{same-frame, then-ok}
 use Rattle.jpeg_streams.proofs.LosslessFrames.{IsShaped, header-shaped}
-use Rattle.jpeg_streams.proofs.WalkedStreams.{FindsScan, header-read, IsMeant, IsRead, IsSaid, reads-on}
-use Rattle.jpeg_streams.proofs.WalkedStreams.{rest-by, stream-read}
+use Rattle.jpeg_streams.proofs.WalkedStreams.{FindsScan, header-read, IsMeant, IsRead, IsSaid, stream-read}
+use Rattle.jpeg_decoder.proofs.HeaderThenRest.{header-means}
 use Rattle.jpeg_decoder.proofs.WrittenSamples.{and_samples, components-of, indices_of, planes_for}
 use Rattle.jpeg_decoder.proofs.WrittenSamples.{scan-read}
 use Rattle.jpeg_decoder.proofs.LosslessReads.{all-below}
@@ -245,18 +244,14 @@ pub sized-walked : (width height : ℕ) (settings : Settings) (samples : Samples
     → AreMeant settings samples final w.sent rest (sized_meaning width height settings (bytes ++ rest))
 unfolding sized_meaning nothing_found
 sized-walked width height settings samples bytes rest final w =
-    let decided : List (Option (List ℕ)) = replicate 4 None in
-    let r = header-read MayEndSamples (samples-read samples) rest [] w.sent bytes final decided w.written refl in
-    let said = found_after r.0.between (Header r.0.number r.0.header) in
+    let r = header-read MayEndSamples (samples-read samples) rest [] w.sent bytes final (replicate 4 None) w.written refl in
+    let header = and_samples (found_after r.0.between (Header r.0.number r.0.header)) (replicate 4 None) in
     let left = r.0.left ++ rest in
-    let long = length-append r.0.left rest in
-    let e = reads-on MayEndSamples (samples-read samples) rest said final [] w.sent r.0.left decided (suc (length left))
-    Elsewhere None left r.0.written r.0.said (record { four = refl; kept = tt }) (stands-here left) (omega arith) in (
-      e.0,
-      then-ok (header_at (bytes ++ rest)) _ (and_samples said decided, left) _ r.1
-          (ap (λ (f : Found). rest_at settings f left)
-          (keeps-size width height (and_samples said decided) _ refl (r.0.said.shaped _ refl).1)
-          ∙ rest-by settings (and_samples said decided) _ left rest e.1),
+    let all = samples-walked settings samples bytes rest final w in (
+      all.0,
+      then-ok (header_at (bytes ++ rest)) _ (header, left) _ r.1
+          (ap (λ (f : Found). rest_at settings f left) (keeps-size width height header _ refl (r.0.said.shaped _ refl).1)
+          ∙ sym (header-means settings header (bytes ++ rest) left r.1) ∙ all.1),
     )
 
 -- A stream that was written for samples means their picture, and what stands after it is left.

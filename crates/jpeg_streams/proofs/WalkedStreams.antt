@@ -114,7 +114,7 @@ unfolding rest_at
 rest-by settings found all bytes rest e =
     then-ok (segments_at false Elsewhere found None bytes) _ (all, rest) _ (segments-walked _ _ _ _ _ _ e) refl
 
--- What is kept of the scans beside what is said, and what scans find.
+-- A scan is read, up to the marker after it: what it brings, and what is found.
 pub record FindsScan {Sent Brought : Type 0} (beside : Found → Brought → Found) (Held : Found → Sent → Brought → Type 0)
     (said : Found) (next : Sent) (x : Brought) (h : ScanHeader) (bytes : List ℕ) : Type 0 where
   pub brought : Brought
@@ -123,8 +123,8 @@ pub record FindsScan {Sent Brought : Type 0} (beside : Found → Brought → Fou
       → scan_segment (beside said x) (with_length (scan_payload h) ++ (bytes ++ marker fill code left))
       ≡ Ok (scan_turn said (beside (record said { scanned = true }) brought) (Some m), left)
 
--- How a kind of stream is read: `beside` puts what scans bring beside what is said, and `Held` says what
--- was brought where so much was said and sent.
+-- How a kind of stream is read: `beside` puts what scans bring beside what is said, and `Held` says
+-- what was brought where so much was said and sent. `P` holds of the frames.
 pub record IsRead {Sent Brought : Type 0} (may : Found → Segment → Type 0)
     (scans : Found → Sent → Frame → ScanHeader → List ℕ → Sent → Type 0) (P : Frame → Type 0)
     (beside : Found → Brought → Found) (Held : Found → Sent → Brought → Type 0) : Type 0 where
@@ -150,7 +150,7 @@ pub record ReadTo {Sent Brought : Type 0} (P : Frame → Type 0)
   pub framed : final.frame ≡ Some frame
   pub ended : may_end final last frame
 
--- A meaning is that of the end.
+-- This is meant by what is found at the end of a stream.
 abbrev pub IsMeant : {Sent Brought : Type 0} → (Frame → Type 0) → (Found → Brought → Found)
     → (Found → Sent → Brought → Type 0) → (Found → Sent → Frame → Type 0) → Settings → Found → Sent → List ℕ
     → Outcome (Told × List ℕ) → Type 0

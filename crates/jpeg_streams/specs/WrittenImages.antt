@@ -12,8 +12,8 @@ use Rattle.jpeg_streams.specs.WrittenScans.{Coefficients, HasTable, IsComplete, 
 use Rattle.jpeg_streams.specs.WrittenScans.{levels_after, WritesScan}
 use Rattle.jpeg_streams.specs.WrittenStreams.{Closes, Starts, Writes}
 
--- Frame headers are SOF0, SOF1 or SOF2, the processes by DCT and Huffman codes; and after a scan comes
--- no quantization table.
+-- Frame headers are SOF0, SOF1 or SOF2, the processes by DCT and Huffman codes; and after a scan
+-- comes no quantization table.
 abbrev pub MayStandInImage : Found → Segment → Type 0
 MayStandInImage said (Quantization ts) = said.scanned ≡ false
 MayStandInImage said (Header number h) = number ≤ 2

@@ -1,4 +1,4 @@
--- Streams as a writer emits them, segment by segment and scan by scan (T.81, B.2.1), of whatever kind.
+-- Streams of any kind as a writer emits them, segment by segment and scan by scan (T.81, B.2.1).
 -- Nothing here reads bytes.
 use Rattle.std.specs.Prelude.{◌≡◌, ℕ, true, List, [], ◌∷◌, ◌++◌, Some}
 use Rattle.jpeg_bits.specs.Written.{marker}
@@ -10,8 +10,8 @@ use Rattle.jpeg_streams.specs.SaidSegments.{Stands, found_after}
 
 -- Segments and scans up to an end: what was said and what scans have sent before them, their bytes,
 -- and the same at the end. By the kind of the stream, `may` says which segments may stand where so
--- much was said, `scans` what the data of a scan are and what is sent after it, and `ends` which bytes
--- the end has.
+-- much was said, `scans` what the data of a scan are and what is sent after it, and `ends` which
+-- bytes the end has.
 pub data Writes {Sent : Type 0} (may : Found → Segment → Type 0)
     (scans : Found → Sent → Frame → ScanHeader → List ℕ → Sent → Type 0)
     (ends : Found → Sent → List ℕ → Type 0)
