@@ -12,7 +12,7 @@ use Rattle.jpeg_bits.specs.declared.marker.Marker.TheVariants.{EOI, SOS}
 use Rattle.jpeg_segments.specs.Frame.{Frame}
 use Rattle.jpeg_segments.specs.ScanHeader.{Scan, sos_at}
 use Rattle.jpeg_segments.specs.HuffmanTables.{Tables}
-use Rattle.jpeg_segments.specs.WrittenSegments.{with_length, Segment, Header, MayStand}
+use Rattle.jpeg_segments.specs.WrittenSegments.{with_length, Segment, Header}
 use Rattle.jpeg_segments.specs.WrittenSegments.{marker_code, payload_of}
 use Rattle.jpeg_segments.proofs.Fields.{kept, not-refused, read-on, sized-read, skip-read}
 use Rattle.jpeg_segments.proofs.TableSegments.{dqt-read, dht-read}
@@ -156,10 +156,13 @@ pub record Begins (bytes : List ℕ) : Type 0 where
   pub makes : marker_of code ≡ Some m
   pub ends : IsEnd m
 
-pub segment-begins : (frame : Option Frame) (fill : ℕ) (s : Segment) (more rest : List ℕ) → MayStand frame s
-    → Begins (marker fill (marker_code s) more ++ rest)
+pub marker-begins : (fill code : ℕ) (m : Marker) (after rest : List ℕ) → marker_of code ≡ Some m → IsEnd m
+    → Begins (marker fill code after ++ rest)
+marker-begins fill code m after rest makes ends = grind (arith, common_steps, marker-append)
+
+pub segment-ends : (s : Segment) → IsEnd (marker_for s)
 unfolding after_restarts
-segment-begins frame fill s more rest may = grind (arith, common_steps, marker-append, segment-marker)
+segment-ends s turns bytes = search rules
 
 pub marker-longer : (fill code n : ℕ) (bytes more : List ℕ) → length (marker fill code (bytes ++ more)) < suc n
     → length more < n

@@ -21,11 +21,11 @@ use Rattle.jpeg_streams.specs.declared.before.Before.{Before}
 use Rattle.jpeg_streams.specs.declared.before.Before.TheVariants.{Elsewhere}
 use Rattle.jpeg_streams.specs.declared.settings.Settings.{Settings}
 use Rattle.jpeg_streams.proofs.ReadTurns.{Begins, end-turn, IsEnd, marker-longer}
-use Rattle.jpeg_streams.proofs.ReadTurns.{scan-tail, scan-turn, segment-begins, segment-tail, segment-turn}
+use Rattle.jpeg_streams.proofs.ReadTurns.{scan-tail, scan-turn, marker-begins, segment-ends, segment-tail, segment-turn}
 use Rattle.jpeg_streams.proofs.ReadTurns.{same-frame, segments-walked, some-none, stands-here, stands-met, StandsAt}
 use Rattle.jpeg_streams.proofs.ReadTurns.{then-ok, walk-end, walk-on, walk-stop}
 use Rattle.jpeg_streams.proofs.SaidTables.{HasTables, no-tables, segment-tables}
-use Rattle.jpeg_streams.proofs.WrittenMarkers.{marker-append}
+use Rattle.jpeg_streams.proofs.WrittenMarkers.{marker_for, segment-marker}
 
 -- EOI
 pub closes : {may_end : Frame → Type 0} (said : Found) (f : Frame) (fill : ℕ) → said.frame ≡ Some f → may_end f
@@ -184,27 +184,13 @@ module _ {Sent Brought : Type 0} {may : Found → Segment → Type 0}
   rest-begins : (said final : Found) (sent last : Sent) (bytes : List ℕ) → Rest said sent bytes final last
       → Begins (bytes ++ tail)
   unfolding marker_of after_restarts
-  rest-begins said final sent last bytes (end said' sent' bytes' c) = record {
-    fill = c.fill;
-    code = 217;
-    m = EOI;
-    after = tail;
-    is = ap (λ (l : List ℕ). l ++ tail) c.closed ∙ marker-append c.fill 217 [] tail;
-    makes = refl;
-    ends = λ turns bytes. refl;
-  }
+  rest-begins said final sent last bytes (end said' sent' bytes' c) = subst (λ (l : List ℕ). Begins (l ++ tail))
+      (sym c.closed) (marker-begins c.fill 217 EOI [] tail refl (λ turns bytes. refl))
   rest-begins said final sent last bytes (segment said' final' sent' last' fill s more stands allowed w) =
-      segment-begins said.frame fill s (with_length (payload_of s) ++ more) tail stands.0
+      marker-begins fill (marker_code s) (marker_for s) (with_length (payload_of s) ++ more) tail
+      (segment-marker said.frame s stands.0) (segment-ends s)
   rest-begins said final sent last bytes (scan said' final' sent' next last' f fill h data_bytes more framed is sends w) =
-      record {
-        fill = fill;
-        code = 218;
-        m = SOS;
-        after = _;
-        is = marker-append fill 218 _ tail;
-        makes = refl;
-        ends = λ turns bytes. refl;
-      }
+      marker-begins fill 218 SOS _ tail refl (λ turns bytes. refl)
 
   segment-next : (said : Found) (x : Brought) (s : Segment) (header : Bool) (turns fill : ℕ) (before : Before)
       (met : Option Marker) (all more : List ℕ) → Stands said s → (header && is_some (beside said x).frame) ≡ false

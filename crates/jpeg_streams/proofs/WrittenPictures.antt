@@ -318,7 +318,7 @@ picture-there settings w f (c ∷ d ∷ more) ours planes sources t e h =
     ))
 picture-there settings w f components ours planes sources t e h = absurd h
 
--- One that is taken is there.
+-- Where the settings take the picture, there is one.
 pub taken : (settings : Settings) (array : Coefficients) (final : Found) (last : ℕ → Levels) (tail : List ℕ)
     (meant : Outcome (Told × List ℕ)) → ImageMeant settings array final last tail meant → TakesPicture settings final
     → (picture : List ℕ) × (picture_of_array settings final array last ≡ Ok picture)
