@@ -1,5 +1,5 @@
 -- Lossless streams that are written mean the picture of their samples, and keep their size.
-use Rattle.std.proofs.Common.{◌≡◌, ℕ, suc, ◌+◌, ◌*◌, true, List, [], ◌∷◌, ◌++◌, length, Option, Result, Ok}
+use Rattle.std.proofs.Common.{◌≡◌, ℕ, ◌+◌, ◌*◌, true, List, [], ◌∷◌, ◌++◌, length, Option, Result, Ok}
 use Rattle.std.proofs.Common.{Some, refl, ap, ◌∙◌, slice_index, subst, arith}
 use Rattle.std.specs.List.{AllByRecursion, concat, enumerate_from, range_with_len}
 use Rattle.std.proofs.lemmas.List.FromFn.{get_or-map-range_with_len}

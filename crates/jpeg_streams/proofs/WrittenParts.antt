@@ -12,7 +12,7 @@ use Rattle.jpeg_streams.specs.declared.settings.Settings.{Settings}
 use Rattle.jpeg_streams.specs.Levels.{Is8Bit, Levels, nothing_sent}
 use Rattle.jpeg_streams.specs.SaidSegments.{found_after}
 use Rattle.jpeg_segments.specs.Checks.{gathered}
-use Rattle.jpeg_streams.specs.ScanSegments.{Coding, is_progressive, pass_of}
+use Rattle.jpeg_streams.specs.ScanSegments.{Coding, is_progressive}
 use Rattle.jpeg_streams.specs.Found.{nothing_found, Found}
 use Rattle.jpeg_streams.specs.Stream.{Told, told_of}
 use Rattle.jpeg_streams.specs.FoundPictures.{picture_by}
