@@ -41,7 +41,8 @@ STREAMS = {
     "known_applications": "jpeg_bits DefaultTables, jpeg_segments Application",
     "laws::known_interleaved_scans": "jpeg_lossless Prediction Differences Scans",
     "headline::worked_images_are_written": """jpeg_bits Written, jpeg_segments WrittenSegments
-        ScanHeaders, jpeg_streams Levels WrittenData WrittenScans SaidSegments WrittenImages""",
+        ScanHeaders, jpeg_streams Levels WrittenData WrittenScans SaidSegments WrittenStreams
+        WrittenImages""",
     "lossless_laws::worked_samples_are_written": """jpeg_lossless Written, jpeg_streams
         LosslessScans WrittenLossless""",
 }

@@ -1,5 +1,4 @@
 -- Planes that are decided, of which those of like components share one buffer.
-use Rattle.std.proofs.lemmas.Grind.{common_steps}
 use Rattle.std.proofs.Common.{◌≡◌, ◌∙◌, ◌<◌, ◌≤◌, ℕ, zero, suc, List, [], ◌∷◌, Option, Some, None}
 use Rattle.std.proofs.Common.{ap, arith, drop, get_or, is_some, length, map, refl, replicate, set}
 use Rattle.std.proofs.Common.{true}

@@ -7,7 +7,6 @@ use Rattle.std.specs.declared.alloc.Global.{Global}
 use Rattle.std.specs.declared.vec.Vec.{Vec}
 use Rattle.jpeg_bits.specs.Passes.{Pass, Block}
 use Rattle.jpeg_decoder.specs.declared.scan.Coded.{Coded}
-use Rattle.jpeg_streams.specs.Scans.{Arrays}
 use Rattle.jpeg_decoder.specs.Scanning.{arrays_in, blocks_in, components_in}
 use Rattle.jpeg_decoder.specs.Steps.{coding_in, with_its_plane, with_planes}
 use Rattle.jpeg_streams.specs.Rasters.{plane_by}

@@ -1,10 +1,10 @@
 -- Lossless streams for the same samples mean the same picture.
-use Rattle.std.proofs.Common.{◌≡◌, ℕ, ◌*◌, List, [], ◌++◌, map, length, Ok, Some, sym, ap, ◌∙◌, arith}
+use Rattle.std.proofs.Common.{◌≡◌, ℕ, ◌*◌, List, ◌++◌, map, length, Ok, sym, ap, ◌∙◌, arith}
 use lib.ListN.{length-map}
 use Rattle.jpeg_bits.specs.Reading.{◌>>=◌}
 use Rattle.jpeg_segments.specs.Frame.{Frame}
 use Rattle.jpeg_streams.specs.declared.settings.Settings.{Settings}
-use Rattle.jpeg_streams.specs.Found.{Found, nothing_found}
+use Rattle.jpeg_streams.specs.Found.{Found}
 use Rattle.jpeg_streams.specs.FoundPictures.{limited}
 use Rattle.jpeg_streams.specs.FrameSamples.{sampling_of, ShowAlike}
 use Rattle.jpeg_streams.specs.Stream.{told_of}
@@ -14,18 +14,12 @@ use Rattle.jpeg_streams.proofs.LimitedPictures.{limited-same}
 use Rattle.jpeg_streams.proofs.LosslessFrames.{IsShaped}
 use Rattle.jpeg_streams.proofs.SamplesAlike.{pictures-alike}
 use Rattle.jpeg_streams.proofs.WrittenParts.{picture-alone}
-use Rattle.jpeg_decoder.proofs.LosslessPixels.{final-shaped, lossless-means}
-use Rattle.jpeg_decoder.proofs.WrittenLosslessStreams.{nothing-said}
+use Rattle.jpeg_decoder.proofs.LosslessPixels.{lossless-means, sizes-kept}
 use Rattle.std.proofs.lemmas.Grind.{common_steps}
 
 -- how many samples a frame's picture has
 abbrev count_of : Frame → ℕ
 count_of frame = length frame.components * (frame.output_width * frame.output_height)
-
-shaped : (samples : Samples) (bytes : List ℕ) (final : Found) (frame : Frame) → WritesSamples samples bytes final
-    → final.frame ≡ Some frame → IsShaped frame
-shaped samples bytes final frame w e =
-    final-shaped samples frame nothing_found [] w.after final w.written nothing-said e
 
 counts-same : (f g : Frame) → IsShaped f → IsShaped g → f.width ≡ g.width → f.height ≡ g.height
     → map sampling_of f.components ≡ map sampling_of g.components → count_of f ≡ count_of g
@@ -45,8 +39,8 @@ pub samples-alike : (settings : Settings) (samples : Samples) (first second rest
 samples-alike settings samples first second rest others a b u v same =
     meant settings samples first rest a u
     ∙ limited-same settings a b same.frame_a same.frame_b _ _ same.is_a same.is_b
-    (counts-same same.frame_a same.frame_b (shaped samples first a same.frame_a u same.is_a)
-    (shaped samples second b same.frame_b v same.is_b) same.width same.height same.factors)
+    (counts-same same.frame_a same.frame_b (sizes-kept samples first a same.frame_a u same.is_a).0
+    (sizes-kept samples second b same.frame_b v same.is_b).0 same.width same.height same.factors)
     (ap (λ (l : List ℕ). Ok l) (pictures-alike same.frame_a same.frame_b samples same.precision same.width same.height
     same.factors))
     ∙ sym (meant settings samples second others b v)

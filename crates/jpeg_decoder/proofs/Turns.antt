@@ -1,8 +1,7 @@
 -- The segments of a stream, a turn at a time.
-use Rattle.std.proofs.Common.{rules}
 use Rattle.std.proofs.Common.{◌≡◌, ◌≤◌, ◌<◌, ℕ, suc, List, Result, Ok, Err, Bool, true, false, Option, Some, None}
 use Rattle.std.proofs.Common.{refl, ap, ◌∙◌, length, arith}
-use Rattle.std.specs.Prelude.{if◌then◌else◌, ◌&&◌, is_some, option_map}
+use Rattle.std.specs.Prelude.{if◌then◌else◌, ◌&&◌, is_some}
 use Rattle.std.proofs.Math.Bool.{cond}
 use Rattle.jpeg_bits.specs.Reading.{Outcome, Fault, ◌>>=◌, length_at, skip_at}
 use Rattle.jpeg_bits.specs.Marker.{next_marker}

@@ -1,49 +1,34 @@
--- Lossless streams that are written, as they are read turn by turn.
-use Rattle.std.proofs.Common.{◌≡◌, ℕ, zero, suc, ◌+◌, ◌<◌, Bool, true, false, List, [], ◌∷◌, ◌++◌}
-use Rattle.std.proofs.Common.{length, replicate, set, get_or, Option, Some, None, Ok, refl, sym, ap}
-use Rattle.std.proofs.Common.{◌∙◌, ◌==◌, subst, arith, length-append, length-set, rules}
-use Rattle.std.proofs.lemmas.Bool.Decides.{eqb_tells}
+-- Lossless streams that are written give their samples, and keep their size.
+use Rattle.std.proofs.Common.{◌≡◌, ℕ, zero, suc, ◌<◌, true, List, [], ◌∷◌, ◌++◌, length, replicate}
+use Rattle.std.proofs.Common.{set, get_or, Option, Some, None, refl, sym, ap, ◌∙◌, subst, arith}
+use Rattle.std.proofs.Common.{length-set, rules}
 use Rattle.std.proofs.Math.Logic.{⊎_elim}
-use Rattle.std.proofs.lemmas.List.{get_or-set_same}
-use Rattle.std.specs.Prelude.{is_some, slice_index_or, slice_set}
-use Rattle.std.specs.List.{AllByRecursion, concat, range_with_len}
-use Rattle.jpeg_bits.specs.Marker.{marker_of}
-use Rattle.jpeg_bits.specs.declared.marker.Marker.{Marker}
-use Rattle.jpeg_bits.specs.declared.marker.Marker.TheVariants.{EOI, SOS}
-use Rattle.jpeg_segments.specs.declared.parser.CodingProcess.TheVariants.{Lossless}
-use Rattle.jpeg_segments.specs.Frame.{Frame}
-use Rattle.jpeg_segments.specs.ScanHeaders.{ScanHeader, scan_payload, IsScan}
-use Rattle.jpeg_segments.specs.WrittenSegments.{with_length, Segment}
-use Rattle.jpeg_segments.specs.WrittenSegments.{Header, marker_code, payload_of, frame_written}
-use Rattle.jpeg_segments.proofs.HeaderRules.{header-rules}
-use Rattle.jpeg_segments.specs.ScanHeader.{scan_of}
-use Rattle.std.proofs.lemmas.List.Elements.{recursion_from_All}
-use Rattle.jpeg_bits.specs.Written.{marker}
-use Rattle.jpeg_streams.specs.declared.before.Before.{Before}
-use Rattle.jpeg_streams.specs.declared.before.Before.TheVariants.{Elsewhere}
-use Rattle.jpeg_streams.specs.LosslessScans.{with_samples}
-use Rattle.jpeg_streams.specs.SaidSegments.{found_after}
-use Rattle.jpeg_streams.specs.Segments.{onward}
-use Rattle.jpeg_streams.specs.Found.{nothing_found, Found}
-use Rattle.jpeg_streams.specs.Stream.{turn_at, walk}
-use Rattle.jpeg_streams.specs.ScanSegments.{scan_before}
-use Rattle.jpeg_streams.specs.WrittenLossless.{Samples, StandsInLossless, Writes}
-use Rattle.jpeg_streams.specs.WrittenLossless.{WritesSamplesScan, closed}
-use Rattle.jpeg_bits.specs.DefaultTables.{names}
-use Rattle.jpeg_streams.specs.WrittenLossless.{said_after_scan, scan, segment}
-use Rattle.jpeg_streams.proofs.ReadTurns.{frame-or, scan-tail, some-none}
-use Rattle.jpeg_streams.proofs.ReadTurns.{walk-end, walk-on, walk-stop, frame-stays, is-other}
-use Rattle.jpeg_streams.proofs.ReadTurns.{segment-turn}
-use Rattle.jpeg_streams.proofs.ReadTurns.{marker-turn, StandsAt, stands-here, stands-met, end-turn, scan-turn, Starts}
-use Rattle.jpeg_streams.proofs.ReadTurns.{segment-starts, scan-starts, end-starts, marker-longer, scan-longer}
-use Rattle.jpeg_streams.proofs.LosslessFrames.{IsShaped, header-shaped}
-use Rattle.jpeg_streams.proofs.SaidTables.{HasTables, no-tables, segment-tables}
-use Rattle.jpeg_streams.proofs.WrittenMarkers.{marker-append}
-use Rattle.jpeg_decoder.proofs.WrittenSamples.{and_samples, indices_of, planes_for}
-use Rattle.jpeg_decoder.proofs.WrittenSamples.{scan-read}
-use Rattle.jpeg_decoder.proofs.WrittenSamples.{turn_after}
-use Rattle.jpeg_decoder.proofs.LosslessReads.{all-below}
+use Rattle.std.proofs.lemmas.Bool.Decides.{eqb_tells}
 use Rattle.std.proofs.lemmas.Grind.{common_steps}
+use Rattle.std.proofs.lemmas.List.{get_or-set_same}
+use Rattle.std.proofs.lemmas.List.Elements.{recursion_from_All}
+use Rattle.std.specs.Prelude.{slice_index_or, slice_set}
+use Rattle.std.specs.List.{AllByRecursion, concat, range_with_len}
+use Rattle.jpeg_bits.specs.DefaultTables.{names}
+use Rattle.jpeg_bits.specs.Reading.{Outcome}
+use Rattle.jpeg_segments.specs.declared.parser.CodingProcess.TheVariants.{Lossless}
+use Rattle.jpeg_segments.specs.Frame.{Frame, frame_of}
+use Rattle.jpeg_segments.specs.ScanHeader.{scan_of}
+use Rattle.jpeg_segments.specs.ScanHeaders.{ScanHeader, IsScan}
+use Rattle.jpeg_segments.specs.WrittenSegments.{FrameHeader, frame_written, Header}
+use Rattle.jpeg_segments.proofs.HeaderRules.{header-rules}
+use Rattle.jpeg_streams.specs.declared.settings.Settings.{Settings}
+use Rattle.jpeg_streams.specs.LosslessScans.{with_samples}
+use Rattle.jpeg_streams.specs.SaidSegments.{found_after, Stands}
+use Rattle.jpeg_streams.specs.Found.{nothing_found, Found}
+use Rattle.jpeg_streams.specs.Stream.{header_at, rest_at, meaning, sized_meaning, sized_to, Told}
+use Rattle.jpeg_streams.specs.WrittenLossless.{IsLossless, Samples, SendsSamples, WritesSamples}
+use Rattle.jpeg_streams.proofs.ReadTurns.{then-ok}
+use Rattle.jpeg_streams.proofs.LosslessFrames.{IsShaped, header-shaped}
+use Rattle.jpeg_streams.proofs.WalkedStreams.{FindsScan, header-read, IsMeant, IsRead, IsSaid, stream-read}
+use Rattle.jpeg_decoder.proofs.HeaderThenRest.{header-means}
+use Rattle.jpeg_decoder.proofs.WrittenSamples.{and_samples, indices_of, planes_for, scan-read}
+use Rattle.jpeg_decoder.proofs.LosslessReads.{all-below}
 
 -- ---- samples that are decided
 
@@ -129,274 +114,94 @@ pub all-in : (P : ℕ → Type 0) (ks sent : List ℕ) → AllByRecursion P sent
 all-in P [] sent h e = tt
 all-in P (k ∷ ks) sent h e = (one-kept P k sent h e.0, all-in P ks sent h e.1)
 
--- ---- segments
+-- ---- scans
 
-said-beside : (said : Found) (decided : List (Option (List ℕ))) (s : Segment)
-    → found_after (and_samples said decided) s ≡ and_samples (found_after said s) decided
-said-beside said decided s = search rules
-
--- ---- what begins with a marker
-
-starts : (samples : Samples) (said : Found) (sent bytes : List ℕ) (final : Found)
-    → Writes samples said sent bytes final → Starts bytes
-starts samples said sent bytes final (closed said' sent' frame fill framed lossless all) = end-starts fill []
-starts samples said sent bytes final (segment said' final' sent' fill s more may w) =
-    segment-starts said.frame fill s more may.0.0
-starts samples said sent bytes final (scan said' final' sent' frame fill h data_bytes more framed lossless is data_of
-    w) =
-    scan-starts fill (with_length (scan_payload h) ++ (data_bytes ++ more))
-
--- ---- what is kept
-
--- what was said by written segments: tables that exist, and a frame of some size
-pub record IsSaid (said : Found) : Type 0 where
-  pub tables : HasTables said.huffman
-  pub shaped : (frame : Frame) → said.frame ≡ Some frame → IsShaped frame
-
-pub nothing-said : IsSaid nothing_found
-unfolding nothing_found
-nothing-said = record { tables = no-tables; shaped = λ frame e. absurd (let n : ⊥ = cc in n) }
-
-pub some-same : (a b : Frame) → ◌≡◌ {A = Option Frame} (Some a) (Some b) → a ≡ b
-some-same a b e = cc
-
-segment-shaped : (said : Found) (s : Segment) → StandsInLossless said s → IsSaid said → (frame : Frame)
-    → (found_after said s).frame ≡ Some frame → IsShaped frame
-segment-shaped said (Header number header) may h frame e =
-    grind (arith, common_steps, some-same, header-shaped)
-segment-shaped said _ may h frame e = h.shaped frame e
-
-pub segment-said : (said : Found) (s : Segment) → StandsInLossless said s → IsSaid said → IsSaid (found_after said s)
-segment-said said s may h = search (rules, segment-tables, segment-shaped)
-
--- ---- the rest of a stream
-
--- what is found by the end: all samples, of a size
-pub record Ends (samples : Samples) (turns : ℕ) (before : Before) (said final : Found) (decided : List (Option (List ℕ)))
-    (met : Option Marker) (all rest : List ℕ) : Type 0 where
-  pub last : List (Option (List ℕ))
-  pub is : walk turns false before (and_samples said decided) met all ≡ (and_samples final last, Ok rest)
-  pub frame : Frame
-  pub framed : final.frame ≡ Some frame
-  pub lossless : frame.process ≡ Lossless
-  pub kept : AreKept samples last (range_with_len 0 (length frame.components))
-
-after-turn : (samples : Samples) (turns : ℕ) (before next : Before) (said between final : Found)
-    (decided others : List (Option (List ℕ))) (met after : Option Marker) (all left rest : List ℕ)
-    → walk (suc turns) false before (and_samples said decided) met all ≡ walk turns false next
-    (and_samples between others) after left
-    → Ends samples turns next between final others after left rest
-    → Ends samples (suc turns) before said final decided met all rest
-after-turn samples turns before next said between final decided others met after all left rest e f =
-    record {
-      last = f.last;
-      is = e ∙ f.is;
-      frame = f.frame;
-      framed = f.framed;
-      lossless =
-          f.lossless;
-      kept = f.kept;
-    }
-
-abbrev Reads : Samples → List ℕ → ℕ → Found → Found → List ℕ → List ℕ → Type 0
-Reads samples rest turns said final sent bytes =
-    (before : Before) (decided : List (Option (List ℕ))) (met : Option Marker) (all : List ℕ) → IsSaid said
-    → length decided ≡ 4 → AreKept samples decided sent → StandsAt met all (bytes ++ rest)
-    → Ends samples turns before said final decided met all rest
-
-closed-read : (samples : Samples) (rest : List ℕ) (turns : ℕ) (said : Found) (sent : List ℕ) (frame : Frame)
-    (fill : ℕ) → said.frame ≡ Some frame → frame.process ≡ Lossless
-    → AllByRecursion (λ k. names sent k ≡ true) (range_with_len 0 (length frame.components))
-    → Reads samples rest (suc turns) said said sent (marker fill 217 [])
-unfolding marker_of
-closed-read samples rest turns said sent frame fill framed lossless sends before decided met all is
-    four kept stands =
-    record {
-      last = decided;
-      is = walk-end turns false before (and_samples said decided) met all rest (record {
-        found = and_samples said decided;
-        before = Elsewhere;
-        met = None;
-        ended = true;
-      })
-          refl (stands.turn before (and_samples said decided) ∙ ap (turn_at before (and_samples said decided) None)
-          (marker-append fill 217 [] rest)
-          ∙ marker-turn before (and_samples said decided) fill 217 EOI rest refl
-          ∙ end-turn before (and_samples said decided) rest (ap is_some framed)) refl;
-      frame = frame;
-      framed = framed;
-      lossless = lossless;
-      kept = grind (arith, common_steps, all-in);
-    }
-
-segment-next : (samples : Samples) (rest : List ℕ) (turns : ℕ) (said final : Found) (sent : List ℕ) (fill : ℕ)
-    (s : Segment) (more : List ℕ) → StandsInLossless said s
-    → Reads samples rest turns (found_after said s) final sent more
-    → Reads samples rest (suc turns) said final sent (marker fill (marker_code s) (with_length
-    (payload_of s) ++ more))
-segment-next samples rest turns said final sent fill s more may again before decided met all is
-    four kept stands =
-    after-turn samples turns before Elsewhere said (found_after said s) final decided decided met None all
-    (more ++ rest) rest
-    (walk-on turns false before (and_samples said decided) met all (more ++ rest)
-    (onward (and_samples (found_after said s) decided)) refl
-    (segment-turn before (and_samples said decided) _ s met all fill more rest may.0 (said-beside said decided s) stands)
-    refl)
-    (again Elsewhere decided None (more ++ rest) (segment-said said s may is) four kept
-    (stands-here (more ++ rest)))
+-- what is decided where scans have had these components
+pub record Holds (samples : Samples) (said : Found) (sent : List ℕ) (decided : List (Option (List ℕ))) : Type 0 where
+  four : length decided ≡ 4
+  pub kept : AreKept samples decided sent
 
 indices-below : (frame : Frame) (h : ScanHeader) → IsScan frame h
     → AllByRecursion (λ k. k < length frame.components) (indices_of h.choices)
 unfolding scan_of
 indices-below frame h is = recursion_from_All _ _ (header-rules frame h is).components
 
-scan-next : (samples : Samples) (rest : List ℕ) (turns : ℕ) (said final : Found) (sent : List ℕ) (frame : Frame)
-    (fill : ℕ) (h : ScanHeader) (data_bytes more : List ℕ)
-    → said.frame ≡ Some frame → frame.process ≡ Lossless → IsScan frame h
-    → WritesSamplesScan said frame h samples data_bytes → Starts more
-    → Reads samples rest turns (said_after_scan said) final (indices_of h.choices ++ sent) more
-    → Reads samples rest (suc turns) said final sent (marker fill 218 (with_length (scan_payload h)
-    ++ (data_bytes ++ more)))
-unfolding marker_of
-scan-next samples rest turns said final sent frame fill h data_bytes more framed lossless header w s again before
-    decided met all is four kept stands =
-    let shaped = is.shaped frame framed in
-    let few = shaped.few in
+-- a lossless frame of some size
+abbrev pub IsSampled : Frame → Type 0
+IsSampled f = IsShaped f × (f.process ≡ Lossless)
+
+pub header-said : (said : Found) (number : ℕ) (h : FrameHeader) → Stands said (Header number h)
+    → IsLossless (Header number h) → IsSampled (frame_written number h)
+unfolding frame_of
+header-said said number h stands is =
+    (header-shaped number h stands.0.1 stands.1, ap (λ (n : ℕ). (frame_written n h).process) is)
+
+scan-found : (samples : Samples) (said : Found) (sent next : List ℕ) (decided : List (Option (List ℕ))) (f : Frame)
+    (h : ScanHeader) (bytes : List ℕ) → IsSaid IsSampled said → said.frame ≡ Some f → IsScan f h
+    → SendsSamples samples said sent f h bytes next → Holds samples said sent decided
+    → FindsScan and_samples (Holds samples) said next decided h bytes
+scan-found samples said sent next decided f h bytes is framed header x held =
+    let frame = is.shaped f framed in
+    let few = frame.0.few in
+    let four = held.four in
     let indices = indices_of h.choices in
-    let next = with_samples indices (planes_for samples indices) decided in
-    let left = s.after ++ rest in
-    let there : more ++ rest ≡ marker s.fill s.code left = ap (λ (l : List ℕ). l ++ rest) s.is
-    ∙ marker-append s.fill s.code s.after rest in
-    after-turn samples turns before (scan_before said) said (said_after_scan said) final decided next met (Some s.m) all
-    left rest
-    (walk-on turns false before (and_samples said decided) met all left (turn_after said indices samples
-    decided s.m) refl
-    (stands.turn before (and_samples said decided)
-    ∙ ap (turn_at before (and_samples said decided) None) (scan-tail fill 218 (with_length
-    (scan_payload h)) data_bytes more
-    rest ∙ ap (λ (l : List ℕ). marker fill 218 (with_length (scan_payload h) ++ (data_bytes ++ l)))
-    there)
-    ∙ marker-turn before (and_samples said decided) fill 218 SOS (with_length (scan_payload h)
-    ++ (data_bytes ++ marker s.fill s.code left)) refl
-    ∙ scan-turn before (and_samples said decided) (with_length (scan_payload h) ++ (data_bytes ++
-    marker s.fill s.code left))
-    ∙ scan-read said decided frame h samples data_bytes left s.fill s.code s.m w framed header lossless shaped is.tables
-    s.makes s.ends) refl)
-    (again (scan_before said) next (Some s.m) left (record { tables = is.tables; shaped = is.shaped })
-    (with-length samples indices decided ∙ four)
-    (blocks-after samples indices decided sent (all-below (length frame.components) (length
-    decided) indices (omega (
-      arith,
-      few,
-      four,
-    )) (indices-below frame h header)) kept)
-    (subst (StandsAt (Some s.m) left) (sym there) (stands-met s.fill s.code s.m left s.makes)))
-
-stream-read : (samples : Samples) (rest : List ℕ) (turns : ℕ) (said : Found) (sent bytes : List ℕ) (final : Found)
-    → Writes samples said sent bytes final → length bytes < turns → Reads samples rest turns said final sent bytes
-stream-read samples rest zero said sent bytes final w h = absurd (omega arith)
-stream-read samples rest (suc turns) said sent bytes final (closed said' sent' frame fill framed lossless all) h =
-    closed-read samples rest turns said sent frame fill framed lossless all
-stream-read samples rest (suc turns) said sent bytes final (segment said' final' sent' fill s more may w) h =
-    segment-next samples rest turns said final sent fill s more may
-    (stream-read samples rest turns (found_after said s) sent more final w (marker-longer fill
-    (marker_code s) turns
-    (with_length (payload_of s)) more h))
-stream-read samples rest (suc turns) said sent bytes final (scan said' final' sent' frame fill h' data_bytes more framed
-    lossless is data_of w) h =
-    scan-next samples rest turns said final sent frame fill h' data_bytes more framed lossless is data_of
-    (starts samples (said_after_scan said) (indices_of h'.choices ++ sent) more final w)
-    (stream-read samples rest turns (said_after_scan said) (indices_of h'.choices ++ sent) more
-    final w
-    (scan-longer fill 218 turns (with_length (scan_payload h')) data_bytes more h))
-
--- the rest of a stream up to its end
-pub rest-ends : (samples : Samples) (bytes rest : List ℕ) (said final : Found) → Writes samples said [] bytes final
-    → IsSaid said
-    → Ends samples (suc (length (bytes ++ rest))) Elsewhere said final (replicate 4 None) None (bytes ++ rest) rest
-rest-ends samples bytes rest said final w is =
-    let long = length-append bytes rest in
-    stream-read samples rest (suc (length (bytes ++ rest))) said [] bytes final w (omega (arith, long))
-    Elsewhere (replicate 4 None) None (bytes ++ rest) is refl tt (stands-here (bytes ++ rest))
-
--- ---- the frame
-
-pub final-framed : (samples : Samples) (frame : Frame) (said : Found) (sent bytes : List ℕ) (final : Found)
-    → Writes samples said sent bytes final → said.frame ≡ Some frame → final.frame ≡ Some frame
-final-framed samples frame said sent bytes final (closed said' sent' f fill framed lossless all) e = e
-final-framed samples frame said sent bytes final (segment said' final' sent' fill s more may w) e =
-    final-framed samples frame (found_after said s) sent more final w (frame-stays said s (is-other said frame s e may.0) ∙ e)
-final-framed samples frame said sent bytes final (scan said' final' sent' f fill h data_bytes more framed lossless is
-    data_of w) e =
-    final-framed samples frame (said_after_scan said) _ more final w e
-
-pub final-lossless : (samples : Samples) (frame : Frame) (said : Found) (sent bytes : List ℕ) (final : Found)
-    → Writes samples said sent bytes final → final.frame ≡ Some frame → frame.process ≡ Lossless
-final-lossless samples frame said sent bytes final (closed said' sent' f fill framed lossless all) e =
-    subst (λ (g : Frame). g.process ≡ Lossless) (some-same f frame (sym framed ∙ e)) lossless
-final-lossless samples frame said sent bytes final (segment said' final' sent' fill s more may w) e =
-    final-lossless samples frame (found_after said s) sent more final w e
-final-lossless samples frame said sent bytes final (scan said' final' sent' f fill h data_bytes more framed lossless is
-    data_of w) e =
-    final-lossless samples frame (said_after_scan said) _ more final w e
-
--- ---- the header
-
--- what is found up to the frame
-pub record Headed (samples : Samples) (turns : ℕ) (before : Before) (said final : Found) (decided : List (Option (List ℕ)))
-    (sent bytes rest : List ℕ) : Type 0 where
-  pub between : Found
-  pub frame : Frame
-  pub after : List ℕ
-  pub framed : between.frame ≡ Some frame
-  pub written : Writes samples between sent after final
-  pub is_said : IsSaid between
-  pub is : walk turns true before (and_samples said decided) None (bytes ++ rest)
-      ≡ (and_samples between decided, Ok (after ++ rest))
-
-pub header-read : (samples : Samples) (rest : List ℕ) (decided : List (Option (List ℕ))) (turns : ℕ) (before : Before)
-    (said : Found) (sent bytes : List ℕ) (final : Found)
-    → Writes samples said sent bytes final → length bytes < turns → IsSaid said → said.frame ≡ None
-    → Headed samples turns before said final decided sent bytes rest
-header-read samples rest decided zero before said sent bytes final w l is e = absurd (omega arith)
-header-read samples rest decided (suc turns) before said sent bytes final (closed said' sent' f fill framed lossless
-    all) l is e = some-none f said.frame framed e
-header-read samples rest decided (suc turns) before said sent bytes final (scan said' final' sent' f fill h data_bytes
-    more framed lossless header data_of w) l is e = some-none f said.frame framed e
-header-read samples rest decided (suc turns) before said sent bytes final (segment said' final' sent' fill s more may w)
-    l is e =
-    let shorter = marker-longer fill (marker_code s) turns (with_length (payload_of s)) more l in
-    let next = segment-said said s may is in
-    let step : walk (suc turns) true before (and_samples said decided) None
-    (marker fill (marker_code s) (with_length (payload_of s) ++ more) ++ rest)
-    ≡ walk turns true Elsewhere (and_samples (found_after said s) decided) None (more ++ rest)
-    = walk-on turns true before (and_samples said decided) None (marker fill (marker_code s)
-    (with_length (payload_of s) ++ more)
-    ++ rest) (more ++ rest) (onward (and_samples (found_after said s) decided)) (ap is_some e)
-    (segment-turn before (and_samples said decided) _ s None _ fill more rest may.0 (said-beside said decided s)
-    (stands-here _)) refl in
-    frame-or s
-    (λ number h f.
-    let framed : (found_after said s).frame ≡ Some (frame_written number h) =
-    ap (λ (x : Segment). (found_after said x).frame) f in
     record {
-      between = found_after said s;
-      frame = frame_written number h;
-      after = more;
-      framed = framed;
-      written = w;
-      is_said = next;
-      is = grind (arith, common_steps, walk-stop, and_samples);
-    })
-    (λ other.
-    let r = header-read samples rest decided turns Elsewhere (found_after said s) sent more final w shorter next
-    (frame-stays said s other ∙ e) in
-    record {
-      between = r.between;
-      frame = r.frame;
-      after = r.after;
-      framed = r.framed;
-      written = r.written;
-      is_said = r.is_said;
-      is = step ∙ r.is;
-    })
+      brought = with_samples indices (planes_for samples indices) decided;
+      held = record {
+        four = with-length samples indices decided ∙ four;
+        kept = subst (AreKept samples (with_samples indices (planes_for samples indices) decided)) x.1
+            (blocks-after samples indices decided sent (all-below (length f.components) (length decided) indices
+            (omega (arith, few, four)) (indices-below f h header)) held.kept);
+      };
+      found = λ fill code m left makes ends. scan-read said decided f h samples bytes left fill code m x.0 framed header
+          frame.1 frame.0 is.tables makes ends;
+    }
+
+samples-read : (samples : Samples)
+    → IsRead (λ said s. IsLossless s) (SendsSamples samples) IsSampled and_samples (Holds samples)
+samples-read samples = record {
+  frame_beside = λ said x. refl;
+  said_beside = λ said x s. search rules;
+  shaped = header-said;
+  holds = λ said sent x s stands may held. record { four = held.four; kept = held.kept };
+  reads = scan-found samples;
+}
+
+-- where a stream of samples may end
+abbrev pub MayEndSamples : Found → List ℕ → Frame → Type 0
+MayEndSamples said sent frame =
+    AllByRecursion (λ k. names sent k ≡ true) (range_with_len 0 (length frame.components))
+
+abbrev pub AreMeant : Settings → Samples → Found → List ℕ → List ℕ → Outcome (Told × List ℕ) → Type 0
+AreMeant settings samples final sent tail meant =
+    IsMeant IsSampled and_samples (Holds samples) MayEndSamples settings final sent tail meant
+
+-- ---- the whole
+
+pub samples-walked : (settings : Settings) (samples : Samples) (bytes rest : List ℕ) (final : Found)
+    → (w : WritesSamples samples bytes final)
+    → AreMeant settings samples final w.sent rest (meaning settings (bytes ++ rest))
+unfolding nothing_found
+samples-walked settings samples bytes rest final w =
+    stream-read MayEndSamples (samples-read samples) rest [] w.sent bytes final (replicate 4 None) settings w.written
+    refl (record { four = refl; kept = tt })
+
+-- lossless frames keep their size
+keeps-size : (width height : ℕ) (found : Found) (frame : Frame) → found.frame ≡ Some frame
+    → frame.process ≡ Lossless → sized_to width height found ≡ found
+keeps-size width height found frame framed lossless = grind (arith, common_steps)
+
+pub sized-walked : (width height : ℕ) (settings : Settings) (samples : Samples) (bytes rest : List ℕ) (final : Found)
+    → (w : WritesSamples samples bytes final)
+    → AreMeant settings samples final w.sent rest (sized_meaning width height settings (bytes ++ rest))
+unfolding sized_meaning nothing_found
+sized-walked width height settings samples bytes rest final w =
+    let r = header-read MayEndSamples (samples-read samples) rest [] w.sent bytes final (replicate 4 None) w.written refl in
+    let header = and_samples (found_after r.0.between (Header r.0.number r.0.header)) (replicate 4 None) in
+    let left = r.0.left ++ rest in
+    let all = samples-walked settings samples bytes rest final w in (
+      all.0,
+      then-ok (header_at (bytes ++ rest)) _ (header, left) _ r.1
+          (ap (λ (f : Found). rest_at settings f left) (keeps-size width height header _ refl (r.0.said.shaped _ refl).1)
+          ∙ sym (header-means settings header (bytes ++ rest) left r.1) ∙ all.1),
+    )

@@ -1,8 +1,6 @@
 -- A lossless scan that is written is read as its samples.
-use Rattle.std.proofs.Common.{rules}
-use Rattle.std.proofs.Common.{◌≡◌, ℕ, zero, suc, ◌*◌, false, List, [], ◌∷◌, ◌++◌, map, length}
-use Rattle.std.proofs.Common.{replicate, take, Option, Some, None, Ok, refl, ap, ◌∙◌, subst, arith}
-use Rattle.std.proofs.Common.{sym}
+use Rattle.std.proofs.Common.{rules, ◌≡◌, ℕ, zero, suc, ◌*◌, true, List, [], ◌∷◌, ◌++◌, map, length, replicate}
+use Rattle.std.proofs.Common.{take, Option, Some, None, Ok, refl, ap, ◌∙◌, subst, arith, sym}
 use Rattle.std.specs.List.{AllByRecursion, concat}
 use Rattle.std.specs.Prelude.{slice_get, slice_index_or}
 use Rattle.std.proofs.lemmas.List.{length-map, length-take-le, map-append}
@@ -35,11 +33,9 @@ use Rattle.jpeg_lossless.proofs.WholeScans.{HaveLines}
 use Rattle.jpeg_streams.specs.LosslessScans.{LosslessCoding, lossless_coding, lossless_codings, mcus_across, mcus_down}
 use Rattle.jpeg_streams.specs.LosslessScans.{part_of, parts_of, way_of, with_samples}
 use Rattle.jpeg_segments.specs.Checks.{needed}
-use Rattle.jpeg_streams.specs.ScanSegments.{lossless_scan, scan_before, scan_segment}
-use Rattle.jpeg_streams.specs.Segments.{Turn}
+use Rattle.jpeg_streams.specs.ScanSegments.{lossless_scan, scan_segment, scan_turn}
 use Rattle.jpeg_streams.specs.Found.{Found}
-use Rattle.jpeg_streams.specs.WrittenLossless.{HoldSamples, Samples}
-use Rattle.jpeg_streams.specs.WrittenLossless.{WritesSamplesScan, said_after_scan}
+use Rattle.jpeg_streams.specs.WrittenLossless.{HoldSamples, Samples, WritesSamplesScan}
 use Rattle.jpeg_streams.proofs.ReadTurns.{IsEnd, bind-ok, needed-some, ok-same, then-ok}
 use Rattle.jpeg_streams.proofs.LosslessFrames.{IsShaped}
 use Rattle.jpeg_streams.proofs.LosslessSizes.{IsMade, all-at, all-covered}
@@ -220,16 +216,6 @@ predictor-of : (frame : Frame) (h : ScanHeader) → frame.process ≡ Lossless
 unfolding scan_of
 predictor-of frame h e = ap (λ (p : CodingProcess). predictor_of p h.first) e
 
--- what a scan leads to
-abbrev pub turn_after : Found → List ℕ → Samples → List (Option (List ℕ)) → Marker → Turn
-turn_after said indices samples decided m = record {
-  found = and_samples (said_after_scan said) (with_samples indices (planes_for samples indices)
-      decided);
-  before = scan_before said;
-  met = Some m;
-  ended = false;
-}
-
 abbrev by : Found → Frame → List LosslessCoding → List ℕ → Predictor → ℕ → Outcome (List (List ℕ) × Option Marker)
 by said frame codings bytes predictor point =
     scan_at (way_of frame predictor point codings) (mcus_down frame codings) said.restart point bytes
@@ -241,7 +227,11 @@ pub scan-read : (said : Found) (decided : List (Option (List ℕ))) (frame : Fra
     → frame.process ≡ Lossless → IsShaped frame → HasTables said.huffman → marker_of code ≡ Some m → IsEnd m
     → scan_segment (and_samples said decided) (with_length (scan_payload h) ++ (bytes ++ marker
     fill code rest))
-    ≡ Ok (turn_after said (indices_of h.choices) samples decided m, rest)
+    ≡ Ok (
+      scan_turn said (and_samples (record said { scanned = true })
+          (with_samples (indices_of h.choices) (planes_for samples (indices_of h.choices)) decided)) (Some m),
+      rest,
+    )
 unfolding scan_segment lossless_scan scan_of
 scan-read said decided frame h samples bytes rest fill code m w framed scan lossless is tables makes end =
     let r = data-read said frame h samples bytes rest fill code m w is tables makes in

@@ -19,7 +19,7 @@ ghost use Rattle.jpeg_streams.specs.Found.{Found, nothing_found};
 ghost use Rattle.jpeg_streams.specs.WholeImages.{AllComplete, whole_meaning};
 ghost use Rattle.jpeg_streams.specs.WorkedImages.{IsWhollyWritten, grey_array, grey_bytes};
 ghost use Rattle.jpeg_streams.specs.WorkedImages.{colour_array, colour_bytes};
-ghost use Rattle.jpeg_streams.specs.WrittenImages.{Writes, WritesImage};
+ghost use Rattle.jpeg_streams.specs.WrittenImages.{ClosesImage, WritesImage, WritesPart};
 ghost use Rattle.jpeg_streams.specs.WrittenParts.{AgreeOnOwn, HaveSamePicture, WritesFront};
 ghost use Rattle.jpeg_streams.specs.WrittenParts.{picture_meant_by};
 ghost use Rattle.jpeg_streams.specs.WrittenScans.{Coefficients, HasTable, IsComplete};
@@ -146,20 +146,20 @@ pub fn padding_is_not_seen()
 pub fn progressive_images_may_end_early()
     ensures written { (array : Coefficients) (front more : List ℕ) (said final : Found)
         (levels last : ℕ → Levels) →
-        WritesFront array nothing_found (λ k. nothing_sent) false front said levels true →
-        Writes array said levels true more final last →
+        WritesFront array nothing_found (λ k. nothing_sent) front said levels →
+        WritesPart array ClosesImage said levels more final last →
         WritesImage array (255 ∷ 216 ∷ (front ++ more)) final last }
     ensures closed { (array : Coefficients) (front : List ℕ) (said : Found) (levels : ℕ → Levels)
         (frame : Frame) →
-        WritesFront array nothing_found (λ k. nothing_sent) false front said levels true →
-        said.frame ≡ Some frame → is_progressive frame.process ≡ true →
+        WritesFront array nothing_found (λ k. nothing_sent) front said levels →
+        said.scanned ≡ true → said.frame ≡ Some frame → is_progressive frame.process ≡ true →
         AllByRecursion (HasTable said) frame.components →
         WritesImage array (255 ∷ 216 ∷ (front ++ (255 ∷ 217 ∷ []))) said levels }
     ensures pictured { (settings : Settings) (array : Coefficients) (front rest : List ℕ)
         (said : Found) (levels : ℕ → Levels) (frame : Frame) →
         ((index row column : ℕ) → Is8Bit (array index row column)) →
-        WritesFront array nothing_found (λ k. nothing_sent) false front said levels true →
-        said.frame ≡ Some frame → is_progressive frame.process ≡ true →
+        WritesFront array nothing_found (λ k. nothing_sent) front said levels →
+        said.scanned ≡ true → said.frame ≡ Some frame → is_progressive frame.process ≡ true →
         AllByRecursion (HasTable said) frame.components →
         meaning settings ((255 ∷ 216 ∷ (front ++ (255 ∷ 217 ∷ []))) ++ rest)
         ≡ meaning_of_array settings said array levels rest }

@@ -3,7 +3,7 @@ use Rattle.std.proofs.Math.Logic.{⊎_elim}
 use Rattle.std.proofs.Common.{rules, ◌≡◌, ◌≢◌, ℕ, zero, suc, ◌+◌, ◌/◌, ◌%◌, ◌<◌, ◌≤◌, ◌==◌}
 use Rattle.std.proofs.Common.{not, Bool, true, false, List, [], ◌∷◌, ◌++◌, map, length, replicate, flat_map, ℤ}
 use Rattle.std.proofs.Common.{Some, None, Ok, refl, sym, ap, ap₂, ◌∙◌, subst, append_assoc, length-append, arith}
-use Rattle.std.proofs.Common.{true≢false, leb-true}
+use Rattle.std.proofs.Common.{leb-true}
 use Rattle.std.proofs.lemmas.Grind.{common_steps}
 use Rattle.std.proofs.lemmas.Bool.{cases_lt, eq-eqb, ne_eqb, lt-ltb, or_parts as or-false}
 use Rattle.std.proofs.lemmas.Bool.Decides.{nat_tests}
@@ -36,14 +36,16 @@ use Rattle.jpeg_streams.specs.Found.{nothing_found, Found}
 use Rattle.jpeg_streams.specs.WorkedImages.{IsWhollyWritten}
 use Rattle.jpeg_bits.specs.Written.{marker}
 use Rattle.jpeg_bits.specs.Written.WritesIntervals.{last as last_interval}
-use Rattle.jpeg_streams.specs.WrittenImages.{closed, scan, segment, Writes}
+use Rattle.jpeg_streams.specs.WrittenImages.{ClosesImage, WritesPart}
 use Rattle.jpeg_streams.specs.WrittenScans.{Coefficients, HasTable, IsComplete, IsLegalScan}
 use Rattle.jpeg_streams.specs.WrittenScans.{levels_after, WritesScan}
 use Rattle.jpeg_streams.proofs.CutLevels.{all-same}
 use Rattle.jpeg_streams.proofs.TestedParts.{lone-own, one-quantizes, own_block, table-by}
 use Rattle.jpeg_streams.proofs.TestedParts.{table_of_one}
+use Rattle.jpeg_streams.specs.WrittenStreams.{end, scan, segment}
 use Rattle.jpeg_streams.proofs.EncodedBlocks.{ac_pass, dc_pass, Each, each-ac, each-dc, each-whole, flat_table}
 use Rattle.jpeg_streams.proofs.EncodedBlocks.{HasFlatAc, HasFlatDc, interval-written, IsFlat}
+use Rattle.jpeg_streams.proofs.WalkedStreams.{closes}
 use Rattle.jpeg_streams.proofs.WholeImages.{floor-whole, toward-whole}
 use Rattle.jpeg_bits.proofs.ReadIntervals.{all-append, all-map}
 use Rattle.jpeg_streams.proofs.ReadTurns.{then-ok}
@@ -65,8 +67,8 @@ said_1 = found_after nothing_found (Quantization all_ones)
 abbrev said_2 : ℕ → FrameHeader → Found
 said_2 number h = found_after said_1 (Header number h)
 
-abbrev said : ℕ → FrameHeader → Found
-said number h = found_after (said_2 number h) (Huffman flat_tables)
+abbrev said : ℕ → FrameHeader → Bool → Found
+said number h scanned = record (found_after (said_2 number h) (Huffman flat_tables)) { scanned = scanned }
 
 abbrev pub component_in : FrameHeader → Factors → Component
 component_in h c = component_of h.width h.height (greatest (λ f. f.horizontal) h.components)
@@ -256,10 +258,10 @@ lone-written from to number h front more c band some e new = record {
 
 -- ---- tables in force
 
-table-at : (number : ℕ) (h : FrameHeader) (index : ℕ) → index ≤ 3
-    → slice_index_or (said number h).quantization index None ≡ Some (replicate 64 1)
+table-at : (number : ℕ) (h : FrameHeader) (scanned : Bool) (index : ℕ) → index ≤ 3
+    → slice_index_or (said number h scanned).quantization index None ≡ Some (replicate 64 1)
 unfolding nothing_found updated
-table-at number h index le = search rules
+table-at number h scanned index le = search rules
 
 index-low : (number index : ℕ) → number ≤ 2 → is_destination (is_lossless_number number) index ≡
     true → index ≤ 3
@@ -269,27 +271,27 @@ index-low number index le e = leb-true index 3 e
 abbrev scan_for : Kind → ℕ → FrameHeader → ℕ → Factors → Scan
 scan_for kind number h index c = scan_written (frame_written number h) (header_of kind index c)
 
-abbrev tables_now : Kind → ℕ → FrameHeader → ℕ → Factors → Tables
-tables_now kind number h index c = tables_of (said number h) (scan_for kind number h index c)
+abbrev tables_now : Kind → ℕ → FrameHeader → Bool → ℕ → Factors → Tables
+tables_now kind number h scanned index c = tables_of (said number h scanned) (scan_for kind number h index c)
 
-codings-are : (kind : Kind) (number : ℕ) (h : FrameHeader) (front more : List Factors) (c : Factors)
+codings-are : (kind : Kind) (number : ℕ) (h : FrameHeader) (scanned : Bool) (front more : List Factors) (c : Factors)
     → h.components ≡ front ++ c ∷ more → c.quantization ≤ 3
-    → gathered (λ (s : ℕ × (ℕ × ℕ)). component_coding (said number h) (frame_written number h) (pass_for kind)
-    (tables_now kind number h (length front) c) s.0 s.1.0 s.1.1) ((length front, (0, 0)) ∷ [])
+    → gathered (λ (s : ℕ × (ℕ × ℕ)). component_coding (said number h scanned) (frame_written number h) (pass_for kind)
+    (tables_now kind number h scanned (length front) c) s.0 s.1.0 s.1.1) ((length front, (0, 0)) ∷ [])
     ≡ Ok (coding kind h (length front) c ∷ [])
 unfolding gathered component_coding frame_of component_of tables_of nothing_found updated
-codings-are kind number h front more c e le =
+codings-are kind number h scanned front more c e le =
     let at = component-at number h front more c e in
     search (rules, then-ok, table-at)
 
-scan-legal : (kind : Kind) (number : ℕ) (h : FrameHeader) (front more : List Factors) (c : Factors)
+scan-legal : (kind : Kind) (number : ℕ) (h : FrameHeader) (scanned : Bool) (front more : List Factors) (c : Factors)
     (levels : ℕ → Levels) → Fits kind number
     → h.components ≡ front ++ c ∷ more → c.quantization ≤ 3 → levels (length front) ≡ before kind
-    → IsLegalScan (said number h) (frame_written number h) levels (scan_for kind number h (length front) c)
-    (coding kind h (length front) c ∷ [])
+    → IsLegalScan (said number h scanned) (frame_written number h) levels
+    (scan_for kind number h (length front) c) (coding kind h (length front) c ∷ [])
 unfolding codings_of scan_of
-scan-legal kind number h front more c levels fits e low was =
-    grind (arith, pass-is kind number h (length front) c fits, codings-are kind number h front more c e low)
+scan-legal kind number h scanned front more c levels fits e low was =
+    grind (arith, pass-is kind number h (length front) c fits, codings-are kind number h scanned front more c e low)
 
 -- ---- what is sent
 
@@ -305,12 +307,12 @@ unfolding levels_after
 after-other p index k levels ne = search (rules, ne_eqb)
 
 have-tables : (number : ℕ) (h : FrameHeader) (front cs : List Factors) → number ≤ 2 → AreComponents number front cs
-    → AllByRecursion (HasTable (said number h)) (map (component_in h) cs)
+    → AllByRecursion (HasTable (said number h true)) (map (component_in h) cs)
 unfolding AreComponents component_of
 have-tables number h front [] le a = tt
 have-tables number h front (c ∷ cs) le a = grind (
   arith,
-  table-at number h c.quantization (index-low number c.quantization le a.0.placed),
+  table-at number h true c.quantization (index-low number c.quantization le a.0.placed),
   have-tables number h (front ++ c ∷ []) cs le a.1,
 )
 
@@ -323,7 +325,8 @@ in-range P a (suc n) all =
 
 abbrev Sends : ℕ → FrameHeader → Coefficients → (ℕ → Levels) → Bool → Type 0
 Sends number h array levels scanned =
-    (bytes : List ℕ) × (last : ℕ → Levels) × Writes array (said number h) levels scanned bytes (said number h) last
+    (bytes : List ℕ) × (last : ℕ → Levels)
+    × WritesPart array ClosesImage (said number h scanned) levels bytes (said number h true) last
     × ((j : ℕ) → j < length h.components → IsComplete (last j))
 
 -- what was sent of the components in front, and of none after them
@@ -346,10 +349,14 @@ end-written number h array front levels scanned le are e s is =
     let size : length (frame_written number h).components ≡ length h.components = length-map h.components _ in (
       marker 0 217 [],
       levels,
-      subst (λ (b : Bool). Writes array (said number h) levels b (marker 0 217 []) (said number h) levels) (sym is)
-          (closed (said number h) levels (frame_written number h) 0 refl (have-tables number h [] h.components le are)
-          (λ x. in-range (λ k. IsComplete (levels k)) 0 (length (frame_written number h).components)
-          (λ j low lt. all j (omega arith)))),
+      subst (λ (b : Bool). WritesPart array ClosesImage (said number h b) levels (marker 0 217 [])
+          (said number h true) levels) (sym is)
+          (end (said number h true) levels _ (closes (said number h true) (frame_written number h) 0 refl (
+            refl,
+            have-tables number h [] h.components le are,
+            λ x. in-range (λ k. IsComplete (levels k)) 0 (length (frame_written number h).components)
+                (λ j low lt. all j (omega arith)),
+          ))),
       all,
     )
 
@@ -359,10 +366,10 @@ one-scan : (kind : Kind) (number : ℕ) (h : FrameHeader) (array : Coefficients)
     (scanned : Bool) (bytes : List ℕ) → Fits kind number → number ≤ 2 → IsFrameHeader number h
     → ((k row column : ℕ) → Is8Bit (array k row column))
     → h.components ≡ front ++ c ∷ more → IsComponent number front c → levels (length front) ≡ before kind
-    → Writes array (said number h)
-    (levels_after (pass_of (scan_for kind number h (length front) c)) (length front ∷ []) levels) true bytes
-    (said number h) last
-    → (all : List ℕ) × Writes array (said number h) levels scanned all (said number h) last
+    → WritesPart array ClosesImage (said number h true)
+    (levels_after (pass_of (scan_for kind number h (length front) c)) (length front ∷ []) levels) bytes
+    (said number h true) last
+    → (all : List ℕ) × WritesPart array ClosesImage (said number h scanned) levels all (said number h true) last
 unfolding nothing_found
 one-scan kind number h array front more c levels last scanned bytes fits le p range e is was w =
     let f = frame_written number h in
@@ -371,12 +378,13 @@ one-scan kind number h array front more c levels last scanned bytes fits le p ra
     let d = data-written kind f h (length front) c array range in
     let coded : WritesScan f 0 (pass_of (scan_written f head)) ks array d.0 =
     search (rules, pass-is) in
-    let legal = scan-legal kind number h front more c levels fits e
+    let legal = scan-legal kind number h scanned front more c levels fits e
     (index-low number c.quantization le is.placed) was in (
       marker 0 218 (with_length (scan_payload head) ++ (d.0 ++ bytes)),
-      scan (said number h) (said number h) levels last scanned f 0 head ks d.0 bytes refl
+      scan (said number h scanned) (said number h true) levels _ last f 0 head d.0 bytes refl
           (lone-written (from_for kind) (to_for kind) number h front more c (kind-is kind number h (length front) c fits).1
-          (search (rules, nat_tests)) e is.is_new) legal coded w,
+          (search (rules, nat_tests)) e is.is_new)
+          (record { codings = ks; legal = legal; written = coded; sent = refl }) w,
     )
 
 -- The scans of a component: what was sent after them, and they stand before what is written then.
@@ -385,8 +393,9 @@ Steps number h array =
     (front more : List Factors) (c : Factors) (levels : ℕ → Levels) (scanned : Bool) → h.components ≡ front ++ c ∷ more
     → IsComponent number front c → HasSent levels (length front)
     → (now : ℕ → Levels) × HasSent now (length front + 1)
-    × ((bytes : List ℕ) (last : ℕ → Levels) → Writes array (said number h) now true bytes (said number h) last
-    → (all : List ℕ) × Writes array (said number h) levels scanned all (said number h) last)
+    × ((bytes : List ℕ) (last : ℕ → Levels)
+    → WritesPart array ClosesImage (said number h true) now bytes (said number h true) last
+    → (all : List ℕ) × WritesPart array ClosesImage (said number h scanned) levels all (said number h true) last)
 
 whole-after : (p : Pass) (index : ℕ) (levels : ℕ → Levels) → p ≡ whole_pass → levels index ≡
     nothing_sent
@@ -477,21 +486,19 @@ image-written number h array le is ok range =
     let size : length (frame_written number h).components ≡ length h.components = length-map h.components _ in (
       255 ∷ 216 ∷ front_bytes number h r.0,
       record {
-        final = said number h;
+        final = said number h true;
         last = r.1;
         frame = frame_written number h;
         written = record {
           after = front_bytes number h r.0;
           starts = refl;
           written =
-              segment nothing_found (said number h) (λ k. nothing_sent) r.1 false 0 (Quantization all_ones) _ (search (rules, one-quantizes))
-              tt
-              (λ x. absurd (true≢false (sym x))) (
-              segment said_1 (said number h) (λ k. nothing_sent) r.1 false 0 (Header number h) _ ((refl, is), ok)
-              (omega arith)
-              (λ x. absurd (true≢false (sym x))) (
-              segment (said_2 number h) (said number h) (λ k. nothing_sent) r.1 false 0 (Huffman flat_tables) _
-              ((table-by _ _ (omega arith) refl, (table-by _ _ (omega arith) refl, tt)), tt) tt (λ x. tt) r.2));
+              segment nothing_found (said number h true) (λ k. nothing_sent) r.1 0 (Quantization all_ones) _
+              (search (rules, one-quantizes)) refl (
+              segment said_1 (said number h true) (λ k. nothing_sent) r.1 0 (Header number h) _ ((refl, is), ok)
+              (omega arith) (
+              segment (said_2 number h) (said number h true) (λ k. nothing_sent) r.1 0 (Huffman flat_tables) _
+              ((table-by _ _ (omega arith) refl, (table-by _ _ (omega arith) refl, tt)), tt) tt r.2));
         };
         framed = refl;
         complete = in-range (λ k. IsComplete (r.1 k)) 0 _ (λ j low lt. r.3 j (omega arith));

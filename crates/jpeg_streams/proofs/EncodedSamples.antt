@@ -46,9 +46,9 @@ use Rattle.jpeg_streams.specs.LosslessScans.{LosslessCoding, lossless_coding, lo
 use Rattle.jpeg_streams.specs.LosslessScans.{mcus_across, mcus_down, parts_of}
 use Rattle.jpeg_streams.specs.SaidSegments.{found_after}
 use Rattle.jpeg_streams.specs.Segments.{updated, accepted}
-use Rattle.jpeg_streams.specs.WrittenLossless.{HoldSamples, own_lines}
-use Rattle.jpeg_streams.specs.WrittenLossless.{said_after_scan, Samples, Writes, WritesSamplesScan}
-use Rattle.jpeg_streams.specs.WrittenLossless.Writes.{closed, scan, segment}
+use Rattle.jpeg_streams.specs.WrittenLossless.{HoldSamples, own_lines, Samples, WritesSamplesScan}
+use Rattle.jpeg_streams.specs.WrittenLossless.{ClosesSamples, IsLossless, SendsSamples}
+use Rattle.jpeg_streams.specs.WrittenStreams.{end, scan, segment, Writes}
 use Rattle.jpeg_streams.proofs.AcceptedSamples.{accepted-samples}
 use Rattle.jpeg_streams.proofs.EncodedBlocks.{category-at_most, packed, interval-packed}
 use Rattle.jpeg_streams.proofs.EncodedImages.{component_in, component-at, in-range, lone_header}
@@ -56,6 +56,7 @@ use Rattle.jpeg_streams.proofs.EncodedImages.{lone-written}
 use Rattle.jpeg_bits.proofs.ReadIntervals.{all-append}
 use Rattle.jpeg_streams.proofs.ReadTurns.{then-ok}
 use Rattle.jpeg_streams.proofs.TestedParts.{table-by}
+use Rattle.jpeg_streams.proofs.WalkedStreams.{closes}
 use Rattle.std.proofs.lemmas.Grind.{common_steps}
 
 -- ---- the table
@@ -333,7 +334,8 @@ scan-bytes index c h = search (rules, sized-bytes)
 
 abbrev Sends : FrameHeader → Samples → Found → List ℕ → Type 0
 Sends h samples now sent =
-    (bytes : List ℕ) × (final : Found) × Writes samples now sent bytes final
+    (bytes : List ℕ) × (final : Found)
+    × ((last : List ℕ) × Writes (λ said s. IsLossless s) (SendsSamples samples) ClosesSamples now sent bytes final last)
     × (final.frame ≡ Some (frame_written 3 h)) × (FitsFields h → AreBytes bytes)
 
 one-identified : (cs front more : List Factors) (c : Factors) → cs ≡ front ++ c ∷ more
@@ -355,8 +357,10 @@ scans-written h samples [] front now sent p all ready e are sends =
     let count : length h.components ≡ length front = ap length (e ∙ append-nil front) in (
       marker 0 217 [],
       now,
-      closed now sent (frame_written 3 h) 0 ready.framed refl
-          (search (rules, in-range)),
+      (
+        sent,
+        end now sent _ (closes now (frame_written 3 h) 0 ready.framed (search (rules, in-range))),
+      ),
       ready.framed,
       λ fits. (omega arith, (omega arith, tt)),
     )
@@ -365,15 +369,19 @@ scans-written h samples (c ∷ more) front now sent p all ready e are sends =
     let d = data-written h now front more c samples ready e p.most
     (all index (component_in h c) (component-at 3 h front more c e)) in
     let size : index + 1 ≡ length (front ++ c ∷ []) = sym (length-append front (c ∷ [])) in
-    let rest = scans-written h samples more (front ++ c ∷ []) (said_after_scan now) (index ∷ sent)
+    let rest = scans-written h samples more (front ++ c ∷ []) (record now { scanned = true }) (index ∷ sent)
     p all
     (record { framed = ready.framed; tabled = ready.tabled; restart = ready.restart })
     (e ∙ sym (append_assoc front (c ∷ []) more)) are.1
     (search (rules, cases_lt)) in (
       marker 0 218 (with_length (scan_payload (header_of index c)) ++ (d.0 ++ rest.0)),
       rest.1,
-      scan now rest.1 sent (frame_written 3 h) 0 (header_of index c) d.0 rest.0 ready.framed refl
-          (lone-written 1 0 3 h front more c refl (let q = p.least in omega arith) e are.0.is_new) d.1 rest.2,
+      (
+        rest.2.0,
+        scan now rest.1 sent (index ∷ sent) rest.2.0 (frame_written 3 h) 0 (header_of index c) d.0 rest.0 ready.framed
+            (lone-written 1 0 3 h front more c refl (let q = p.least in omega arith) e are.0.is_new)
+            (d.1, refl) rest.2.1,
+      ),
       rest.3,
       λ fits. marked-bytes 218 (with_length (scan_payload (header_of index c)) ++ (d.0 ++ rest.0))
           (omega arith)
@@ -413,10 +421,14 @@ samples-written h samples is ok all =
       record {
         final = r.1;
         written = record {
-          after = front_bytes h r.0;
-          starts = refl;
-          written = segment nothing_found r.1 [] 0 (Header 3 h) _ (((refl, is), ok), refl) (
-              segment (said_1 h) r.1 [] 0 (Huffman even_tables) _ (((table-by _ _ (omega arith) refl, tt), tt), tt) r.2);
+          sent = r.2.0;
+          written = record {
+            after = front_bytes h r.0;
+            starts = refl;
+            written = segment nothing_found r.1 [] r.2.0 0 (Header 3 h) _ ((refl, is), ok) refl (
+                segment (said_1 h) r.1 [] r.2.0 0 (Huffman even_tables) _ ((table-by _ _ (omega arith) refl, tt), tt) tt
+                r.2.1);
+          };
         };
         framed = r.3;
         are_bytes = λ fits. (

@@ -40,6 +40,7 @@ pub mod BroughtLevels
 pub mod FrameShapes
 pub mod ScanFacts
 pub mod TablesInForce
+pub mod WalkedStreams
 pub mod ReadStreams
 pub mod LimitedPictures
 pub mod InsidePictures

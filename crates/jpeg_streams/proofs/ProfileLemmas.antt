@@ -4,7 +4,7 @@ use Rattle.std.proofs.Common.{length, map, append_assoc, arith}
 use Rattle.std.proofs.lemmas.Grind.{common_steps}
 use Rattle.std.proofs.lemmas.List.{append-nil}
 use Rattle.std.specs.Prelude.{◌==◌, filter_map, flat_map, option_map}
-use Rattle.std.specs.List.{cons_option, find, range_with_len}
+use Rattle.std.specs.List.{find, range_with_len}
 use Rattle.jpeg_segments.specs.declared.parser.IccChunk.{IccChunk}
 use Rattle.jpeg_segments.specs.Application.{Chunk}
 use Rattle.jpeg_segments.specs.FrameView.{chunk_in}

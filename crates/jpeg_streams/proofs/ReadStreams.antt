@@ -1,45 +1,55 @@
--- A written stream is read up to its end.
-use Rattle.std.proofs.lemmas.Grind.{common_steps}
-use Rattle.std.proofs.Common.{rules, ◌≡◌, ℕ, zero, suc, ◌<◌, ◌≤◌, Bool, true, false, List, [], ◌++◌, length}
-use Rattle.std.proofs.Common.{replicate, is_some, Option, Some, None, Ok, refl, sym, ap, ◌∙◌, subst, arith, true≢false}
-use Rattle.std.proofs.Common.{length-append}
+-- A stream that is written for the coefficients of an image is read up to its end.
+use Rattle.std.proofs.Common.{rules, ◌≡◌, ℕ, Bool, true, false, List, [], ◌++◌, length, replicate, Option, Some}
+use Rattle.std.proofs.Common.{None, Ok, refl, sym, ap, ◌∙◌, subst, true≢false}
 use Rattle.std.specs.List.{AllByRecursion}
-use Rattle.jpeg_bits.specs.Marker.{marker_of}
-use Rattle.jpeg_bits.specs.declared.marker.Marker.{Marker}
-use Rattle.jpeg_bits.specs.declared.marker.Marker.TheVariants.{EOI, SOS}
-use Rattle.jpeg_segments.specs.Frame.{Frame, Component}
-use Rattle.jpeg_streams.specs.declared.before.Before.{Before}
-use Rattle.jpeg_streams.specs.declared.before.Before.TheVariants.{Elsewhere}
-use Rattle.jpeg_streams.specs.Scans.{Arrays}
-use Rattle.jpeg_streams.specs.ScanSegments.{Coding, is_progressive, scan_before, arrays_before, pass_of}
-use Rattle.jpeg_streams.specs.Segments.{accepted, onward}
-use Rattle.jpeg_streams.specs.SaidSegments.{Stands, found_after}
-use Rattle.jpeg_streams.specs.Found.{nothing_found, none_finished, Found}
-use Rattle.jpeg_streams.specs.Stream.{start_at, turn_at, walk}
-use Rattle.jpeg_streams.specs.Levels.{Levels, Is8Bit, nothing_sent}
+use Rattle.jpeg_bits.specs.Reading.{Outcome}
 use Rattle.jpeg_bits.specs.Written.{marker}
-use Rattle.jpeg_streams.specs.WrittenScans.{Coefficients, levels_after, IsLegalScan, HasTable, WritesScan}
-use Rattle.jpeg_streams.specs.WholeImages.{AllComplete}
-use Rattle.jpeg_streams.specs.WrittenImages.{Writes, closed, segment, scan, WritesImage, MayFollow, IsDctSegment}
-use Rattle.jpeg_streams.proofs.ReadStates.{reading, PlaneSo, indices_of}
-use Rattle.jpeg_streams.proofs.ReadTurns.{StandsAt, stands-here, stands-met, Walked, walk-stop}
-use Rattle.jpeg_streams.proofs.ReadTurns.{walk-end, walk-on, scan-by, codings-same, end-turn}
-use Rattle.jpeg_streams.proofs.ReadTurns.{scan-turn, marker-turn, scan-tail, marker-longer}
-use Rattle.jpeg_streams.proofs.ReadTurns.{scan-longer, segment-turn}
-use Rattle.jpeg_streams.proofs.ReadTurns.{writes-starts, frame-or, frame-stays, is-other, same-frame, some-none}
-use Rattle.jpeg_segments.specs.ScanHeaders.{IsScan, ScanHeader, scan_payload, scan_written}
-use Rattle.jpeg_segments.specs.WrittenSegments.{with_length, Segment, Quantization, Huffman}
-use Rattle.jpeg_segments.specs.WrittenSegments.{Interval, Application, Comment}
-use Rattle.jpeg_segments.specs.WrittenSegments.{Header, FrameHeader, marker_code, payload_of}
-use Rattle.jpeg_segments.specs.WrittenSegments.{frame_written}
+use Rattle.jpeg_pixels.specs.Pictures.{Source, sources_of}
+use Rattle.jpeg_segments.specs.Frame.{Component, Frame}
+use Rattle.jpeg_segments.specs.ScanHeaders.{IsScan, ScanHeader, scan_written}
+use Rattle.jpeg_segments.specs.WrittenSegments.{frame_written, FrameHeader, Header, Quantization, Segment}
 use Rattle.jpeg_segments.proofs.HeaderSegments.{sos-read}
-use Rattle.jpeg_streams.proofs.ScanFacts.{header-facts}
-use Rattle.jpeg_streams.proofs.TablesInForce.{tables-start, codings-good}
-use Rattle.jpeg_streams.proofs.SaidTables.{HasTables, segment-tables}
-use Rattle.jpeg_streams.proofs.BroughtLevels.{Shaped, Framed, framed-start, scan-brings}
-use Rattle.jpeg_streams.proofs.FrameShapes.{Plain, all-shaped, frame-lossy}
+use Rattle.jpeg_streams.specs.Found.{Found, none_finished, nothing_found}
+use Rattle.jpeg_streams.specs.Levels.{Is8Bit, Levels, nothing_sent}
+use Rattle.jpeg_streams.specs.SaidSegments.{found_after, Stands}
+use Rattle.jpeg_streams.specs.Scans.{Arrays}
+use Rattle.jpeg_streams.specs.ScanSegments.{arrays_before, is_progressive, scan_turn}
+use Rattle.jpeg_streams.specs.Stream.{meaning, Told}
+use Rattle.jpeg_streams.specs.WholeImages.{AllComplete}
+use Rattle.jpeg_streams.specs.WrittenImages.{MayStandInImage, WritesImage, WritesImageScan}
+use Rattle.jpeg_streams.specs.WrittenScans.{Coefficients, HasTable}
+use Rattle.jpeg_streams.proofs.BroughtLevels.{Framed, framed-start, scan-brings, Shaped}
+use Rattle.jpeg_streams.proofs.FrameShapes.{accepted-sources, all-shaped, frame-lossy, Plain}
 use Rattle.jpeg_streams.proofs.LosslessFrames.{all-ranged}
-use Rattle.jpeg_streams.proofs.WrittenMarkers.{marker-append}
+use Rattle.jpeg_streams.proofs.ReadStates.{PlaneSo}
+use Rattle.jpeg_streams.proofs.ReadTurns.{codings-same, same-frame, scan-by, some-none}
+use Rattle.jpeg_streams.proofs.ScanFacts.{header-facts}
+use Rattle.jpeg_streams.proofs.TablesInForce.{codings-good}
+use Rattle.jpeg_streams.proofs.WalkedStreams.{FindsScan, IsMeant, IsRead, IsSaid, ReadTo, stream-read}
+use Rattle.jpeg_streams.specs.declared.settings.Settings.{Settings}
+
+-- ---- what scans bring
+
+-- blocks that are kept, finished indices and decided planes
+abbrev pub Progress : Type 0
+Progress = Arrays × List (List Bool) × List (Option (List ℕ))
+
+abbrev pub no_progress : Progress
+no_progress = ([], replicate 4 none_finished, replicate 4 None)
+
+abbrev pub with_progress : Found → Progress → Found
+with_progress w x = record w { kept = x.0; finished = x.1; planes = x.2 }
+
+-- Nothing before the first scan, and then what the levels say.
+pub record Holds (array : Coefficients) (said : Found) (levels : ℕ → Levels) (x : Progress) : Type 0 where
+  pub fresh : said.scanned ≡ false
+      → (x ≡ no_progress) × ◌≡◌ {A = ℕ → Levels} levels (λ k. nothing_sent)
+  pub framed : said.scanned ≡ true
+      → (f : Frame) × (said.frame ≡ Some f) × Framed said f array levels true x.0 x.1 x.2
+
+pub holds-nothing : (array : Coefficients) (said : Found) → said.scanned ≡ false
+    → Holds array said (λ k. nothing_sent) no_progress
+holds-nothing array said e = record { fresh = λ g. (refl, refl); framed = λ g. absurd (true≢false (sym g ∙ e)) }
 
 -- ---- a segment between scans
 
@@ -48,265 +58,121 @@ plane-same : (w next : Found) (array : Coefficients) (l : Levels) (pl : List (Op
     → PlaneSo w array l pl k c → PlaneSo next array l pl k c
 plane-same w next array l pl k c e p = search rules
 
-plane-unscanned : (w next : Found) (array : Coefficients) (l : Levels) (pl : List (Option (List ℕ))) (k : ℕ)
-    (c : Component) → l ≡ nothing_sent → PlaneSo w array l pl k c → PlaneSo next array l pl k c
-plane-unscanned w next array l pl k c e p = search rules
-
-framed-by : (w next : Found) (f : Frame) (array : Coefficients) (levels : ℕ → Levels) (sc : Bool) (h : Arrays)
-    (fi : List (List Bool)) (pl : List (Option (List ℕ)))
-    → ((k : ℕ) (c : Component) → PlaneSo w array (levels k) pl k c → PlaneSo next array (levels k) pl k c)
-    → Framed w f array levels sc h fi pl → Framed next f array levels sc h fi pl
+framed-same : (w next : Found) (f : Frame) (array : Coefficients) (levels : ℕ → Levels) (x : Progress)
+    → next.quantization ≡ w.quantization → Framed w f array levels true x.0 x.1 x.2
+    → Framed next f array levels true x.0 x.1 x.2
 unfolding arrays_before
-framed-by w next f array levels sc h fi pl g fr = search rules
+framed-same w next f array levels x e fr = search (rules, plane-same)
 
-framed-same : (w next : Found) (f : Frame) (array : Coefficients) (levels : ℕ → Levels) (sc : Bool) (h : Arrays)
-    (fi : List (List Bool)) (pl : List (Option (List ℕ))) → next.quantization ≡ w.quantization
-    → Framed w f array levels sc h fi pl → Framed next f array levels sc h fi pl
-framed-same w next f array levels sc h fi pl e fr = search (rules, framed-by, plane-same)
+holds-next : (array : Coefficients) (said : Found) (levels : ℕ → Levels) (x : Progress) (s : Segment) → Stands said s
+    → MayStandInImage said s → Holds array said levels x → Holds array (found_after said s) levels x
+holds-next array said levels x (Quantization ts) stands may held =
+    record { fresh = held.fresh; framed = λ e. absurd (true≢false (sym e ∙ may)) }
+holds-next array said levels x (Header number h) stands may held = record {
+  fresh = held.fresh;
+  framed = λ e. some-none (held.framed e).0 said.frame (held.framed e).1 stands.0.0;
+}
+holds-next array said levels x s stands may held = record {
+  fresh = held.fresh;
+  framed = λ e.
+      let h = held.framed e in
+      (h.0, h.1, framed-same said (found_after said s) h.0 array levels x refl h.2);
+}
 
-framed-next : (w : Found) (s : Segment) (f : Frame) (array : Coefficients) (levels : ℕ → Levels) (sc : Bool)
-    (h : Arrays) (fi : List (List Bool)) (pl : List (Option (List ℕ)))
-    → (sc ≡ true → MayFollow s) → (sc ≡ false → (k : ℕ) → levels k ≡ nothing_sent)
-    → Framed w f array levels sc h fi pl → Framed (found_after w s) f array levels sc h fi pl
-framed-next w (Quantization ts) f array levels sc h fi pl follows none fr = go sc refl
-  where
-    go : (b : Bool) → sc ≡ b → Framed (found_after w (Quantization ts)) f array levels sc h fi pl
-    go true e = absurd (follows e)
-    go false e = search (rules, framed-by, plane-unscanned)
-framed-next w (Huffman ts) f array levels sc h fi pl follows none fr = search (rules, framed-same)
-framed-next w (Interval n) f array levels sc h fi pl follows none fr = search (rules, framed-same)
-framed-next w (Application d) f array levels sc h fi pl follows none fr = search (rules, framed-same)
-framed-next w (Comment payload) f array levels sc h fi pl follows none fr = fr
-framed-next w (Header number header) f array levels sc h fi pl follows none fr = search (rules, framed-same)
+-- ---- a scan
 
--- ---- from the frame on
+-- a frame of known shape, whose components have ways to be upsampled
+abbrev pub IsDrawn : Frame → Type 0
+IsDrawn f = Shaped f
+    × ((sources : List Source) × (sources_of f.components f.output_width f.output_height ≡ Ok sources))
 
--- What scans have brought by the end of the image: the blocks and planes of the last levels.
-pub record Ended (f : Frame) (array : Coefficients) (final : Found) (last : ℕ → Levels) : Type 0 where
-  pub kept : Arrays
-  pub finished : List (List Bool)
-  pub planes : List (Option (List ℕ))
-  pub framed : Framed final f array last true kept finished planes
-  pub frame_is : final.frame ≡ Some f
-  pub tables : AllByRecursion (HasTable final) f.components
-  pub complete : is_progressive f.process ≡ false → AllComplete f last
+pub plain-said : (said : Found) (number : ℕ) (h : FrameHeader) → Stands said (Header number h)
+    → Plain (frame_written number h)
+plain-said said number h stands = search (rules, all-ranged)
 
--- What is found at the end.
-pub record ReadTo (f : Frame) (array : Coefficients) (tail : List ℕ) (final : Found) (last : ℕ → Levels)
-    (found : Walked) : Type 0 where
-  pub end : Ended f array final last
-  pub is : found ≡ (reading final true end.kept end.finished end.planes, Ok tail)
+pub drawn-said : (said : Found) (number : ℕ) (h : FrameHeader) → Stands said (Header number h)
+    → MayStandInImage said (Header number h) → IsDrawn (frame_written number h)
+drawn-said said number h stands few =
+    let f = frame_written number h in (
+      all-shaped f (plain-said said number h stands) (frame-lossy number h.precision h.width h.height h.components few)
+          stands.1,
+      accepted-sources f f stands.1,
+    )
 
--- the same end, of what leads to it
--- a scan of this frame, and what follows it
-abbrev ScanOf : Coefficients → Found → (ℕ → Levels) → Found → (ℕ → Levels) → ScanHeader → List Coding → List ℕ
-    → List ℕ → Frame → Type 0
-ScanOf array w levels final last head codings bytes more f =
-    IsScan f head × IsLegalScan w f levels (scan_written f head) codings
-    × WritesScan f w.restart (pass_of (scan_written f head)) codings array bytes
-    × Writes array w (levels_after (pass_of (scan_written f head)) (indices_of codings) levels)
-    true more final last
+module _ (array : Coefficients) (range : (index row column : ℕ) → Is8Bit (array index row column)) where
+  framed-now : (said : Found) (levels : ℕ → Levels) (x : Progress) (f : Frame) → Holds array said levels x
+      → said.frame ≡ Some f → Framed said f array levels said.scanned x.0 x.1 x.2
+  framed-now said levels x f held e = go said.scanned refl
+    where
+      go : (b : Bool) → said.scanned ≡ b → Framed said f array levels b x.0 x.1 x.2
+      go false g =
+          let n = held.fresh g in
+          subst (λ (l : ℕ → Levels). Framed said f array l false x.0 x.1 x.2) (sym n.1)
+          (framed-start said f array x.0 x.1 x.2 range (ap (λ (y : Progress). y.1) n.0)
+          (ap (λ (y : Progress). y.2) n.0))
+      go true g =
+          let h = held.framed g in
+          subst (λ (y : Frame). Framed said y array levels true x.0 x.1 x.2) (same-frame h.0 f said.frame h.1 e) h.2
 
-abbrev pub nothing_finished : List (List Bool)
-nothing_finished = replicate 4 none_finished
-
-abbrev pub no_planes : List (Option (List ℕ))
-no_planes = replicate 4 None
-
--- what was said, where nothing was read of the picture
-abbrev pub unread : Found → Found
-unread w = reading w false [] nothing_finished no_planes
-
-said-beside : (w : Found) (s : Segment) (sc : Bool) (h : Arrays) (fi : List (List Bool)) (pl : List (Option (List ℕ)))
-    → found_after (reading w sc h fi pl) s ≡ reading (found_after w s) sc h fi pl
-said-beside w s sc h fi pl = search rules
-
--- What is found up to the frame, and what stands after it, where whoever wants more goes on.
-pub record ReadHeader (array : Coefficients) (tail : List ℕ) (final : Found) (last : ℕ → Levels)
-    (header whole : Walked) : Type 0 where
-  pub said : Found
-  pub frame : Frame
-  pub framed : said.frame ≡ Some frame
-  pub plain : Plain frame
-  pub is_accepted : accepted frame ≡ Ok frame
-  pub shape : Shaped frame
-  pub good : HasTables said.huffman
-  pub more : List ℕ
-  pub written : Writes array said (λ k. nothing_sent) false more final last
-  pub is : header ≡ (unread said, Ok (more ++ tail))
-  pub turns : ℕ
-  pub room : length more < turns
-  pub goes_on : whole ≡ walk turns false Elsewhere (unread said) None (more ++ tail)
-
-module _ (array : Coefficients) (tail : List ℕ) (final : Found) (last : ℕ → Levels) where
-  pub read-to : (f : Frame) (one other : Walked) → one ≡ other
-      → ReadTo f array tail final last other → ReadTo f array tail final last one
-  read-to f one other e r = record { end = r.end; is = e ∙ r.is }
-
-  pub reads-scans : (f : Frame) (w : Found) (levels : ℕ → Levels)
-      (sc : Bool) (bytes : List ℕ) (h : Arrays) (fi : List (List Bool)) (pl : List (Option (List ℕ)))
-      (turns : ℕ) (bf : Before) (met : Option Marker) (all : List ℕ)
-      → ((index row column : ℕ) → Is8Bit (array index row column)) → Shaped f → HasTables w.huffman
-      → w.frame ≡ Some f → (sc ≡ false → (k : ℕ) → levels k ≡ nothing_sent)
-      → Framed w f array levels sc h fi pl → Writes array w levels sc bytes final last
-      → StandsAt met all (bytes ++ tail) → length bytes < turns
-      → ReadTo f array tail final last (walk turns false bf (reading w sc h fi pl) met all)
-  unfolding marker_of
-  reads-scans f w levels sc bytes h fi pl zero bf met all range shape good e none fr r at room =
-      absurd (omega arith)
-  reads-scans f w levels sc bytes h fi pl (suc turns) bf met all range shape good e none fr
-      (segment w' final' levels' last' sc' fill s more may dct follows r) at room =
-      let other = is-other w f s e may in
-      read-to f _ _
-      (walk-on turns false bf (reading w sc h fi pl) met all (more ++ tail) (onward (reading (found_after w s) sc h fi pl))
-      refl (segment-turn bf (reading w sc h fi pl) _ s met all fill more tail may (said-beside w s sc h fi pl) at) refl)
-      (reads-scans f (found_after w s) levels sc more h fi pl turns Elsewhere None (more ++ tail)
-      range shape (segment-tables w s may.0 good) (frame-stays w s other ∙ e) none
-      (framed-next w s f array levels sc h fi pl follows none fr) r (stands-here (more ++ tail))
-      (marker-longer fill (marker_code s) turns (with_length (payload_of s)) more room))
-  reads-scans f w levels sc bytes h fi pl (suc turns) bf met all range shape good e none fr
-      (scan w' final' levels' last' sc' frame fill head codings payload more framed is l x r) at room =
-      let header = with_length (scan_payload head) in
-      let of = subst (ScanOf array w levels final last head codings payload more)
-      (same-frame frame f w.frame framed e) (is, l, x, r) in
-      let s = scan_written f head in
-      let now = reading w sc h fi pl in
-      let b = scan-brings w f array levels sc h fi pl s codings payload range shape fr
-      (header-facts f head of.0 shape.lossy) (codings-good w f s codings good of.1.are_in_force) of.1 of.2 in
-      let next = writes-starts array w final _ last true more of.3 in
-      let left = next.after ++ tail in
-      let there : more ++ tail ≡ marker next.fill next.code left = ap (λ (l : List ℕ). l ++ tail) next.is
-      ∙ marker-append next.fill next.code next.after tail in
-      let turn = scan-by now f s codings b.arrays next.m (header ++ (payload ++ marker next.fill next.code left))
-      (payload ++ marker next.fill next.code left) left shape.lossy e
-      (sos-read f head (payload ++ marker next.fill next.code left) of.0)
-      (codings-same w sc h fi pl f s ∙ of.1.are_in_force)
-      (b.read next.fill next.code next.m left (record { is = next.makes })) (next.ends (length left) left) in
-      read-to f _ _ (walk-on turns false bf now met all left _ refl (at.turn bf now
-      ∙ ap (turn_at bf now None) (scan-tail fill 218 header payload more tail
-      ∙ ap (λ (l : List ℕ). marker fill 218 (header ++ (payload ++ l))) there)
-      ∙ marker-turn bf now fill 218 SOS (header ++ (payload ++ marker next.fill next.code left)) refl
-      ∙ scan-turn bf now (header ++ (payload ++ marker next.fill next.code left)) ∙ turn) refl
-      ∙ ap (λ (x : Found). walk turns false (scan_before now) x (Some next.m) left) b.after)
-      (reads-scans f w
-      (levels_after (pass_of s) (indices_of codings) levels) true more b.kept b.finished b.planes
-      turns
-      (scan_before now) (Some next.m) left
-      range shape good e (λ g. absurd (true≢false g)) b.framed of.3
-      (subst (StandsAt (Some next.m) left) (sym there) (stands-met next.fill next.code next.m left next.makes))
-      (scan-longer fill 218 turns header payload more room))
-  reads-scans f w levels sc bytes h fi pl (suc turns) bf met all range shape good e none fr
-      (closed w' levels' frame fill framed t c) at room =
-      let now = reading w true h fi pl in
-      let same = same-frame frame f w.frame framed e in
+  scan-found : (said : Found) (levels next : ℕ → Levels) (x : Progress) (f : Frame) (h : ScanHeader) (bytes : List ℕ)
+      → IsSaid IsDrawn said → said.frame ≡ Some f → IsScan f h → WritesImageScan array said levels f h bytes next
+      → Holds array said levels x → FindsScan with_progress (Holds array) said next x h bytes
+  scan-found said levels next x f h bytes is e scan w held =
+      let s = scan_written f h in
+      let shape = (is.shaped f e).0 in
+      let b = scan-brings said f array levels said.scanned x.0 x.1 x.2 s w.codings bytes range shape
+      (framed-now said levels x f held e) (header-facts f h scan shape.lossy)
+      (codings-good said f s w.codings is.tables w.legal.are_in_force) w.legal w.written in
       record {
-        end = record {
-          kept = h;
-          finished = fi;
-          planes = pl;
-          framed = fr;
-          frame_is = e;
-          tables = subst (λ (x : Frame). AllByRecursion (HasTable w) x.components) same t;
-          complete = subst (λ (x : Frame). is_progressive x.process ≡ false → AllComplete x levels) same c;
+        brought = (b.kept, b.finished, b.planes);
+        held = record {
+          fresh = λ g. absurd (true≢false g);
+          framed = λ g. (
+            f,
+            e,
+            framed-same said _ f array next (b.kept, b.finished, b.planes) refl
+                (subst (λ (l : ℕ → Levels). Framed said f array l true b.kept b.finished b.planes) w.sent b.framed),
+          );
         };
-        is = walk-end turns false bf now met all tail
-            (record { found = now; before = Elsewhere; met = None; ended = true }) refl (at.turn bf now ∙ ap (turn_at bf now None) (marker-append fill 217 [] tail)
-            ∙ marker-turn bf now fill 217 EOI tail refl ∙ end-turn bf now tail (ap is_some e)) refl;
+        found = λ fill code m left makes ends.
+            scan-by (with_progress said x) f s w.codings b.arrays m _ (bytes ++ marker fill code left) left
+            shape.lossy e (sos-read f h (bytes ++ marker fill code left) scan)
+            (codings-same said said.scanned x.0 x.1 x.2 f s ∙ w.legal.are_in_force)
+            (b.read fill code m left (record { is = makes })) (ends (length left) left)
+            ∙ ap (λ (y : Found). Ok (scan_turn said y (Some m), left)) b.after;
       }
 
-  -- ---- up to the frame
+  pub image-read : IsRead MayStandInImage (WritesImageScan array) IsDrawn with_progress (Holds array)
+  image-read = record {
+    frame_beside = λ said x. refl;
+    said_beside = λ said x s. search rules;
+    shaped = drawn-said;
+    holds = holds-next array;
+    reads = scan-found;
+  }
 
-  header-by : (one two header whole : Walked) → one ≡ header → two ≡ whole
-      → ReadHeader array tail final last header whole → ReadHeader array tail final last one two
-  header-by one two header whole e g r = grind (arith, common_steps)
+-- ---- the end
 
-  frame-header : (w : Found) (turns : ℕ) (s : Segment)
-      (number : ℕ) (h : FrameHeader) (more : List ℕ) → s ≡ Header number h → HasTables w.huffman
-      → Stands w s → IsDctSegment s
-      → Writes array (found_after w s) (λ k. nothing_sent) false more final last
-      → length more < turns → ReadHeader array tail final last
-      (walk turns true Elsewhere (unread (found_after w s)) None (more ++ tail))
-      (walk turns false Elsewhere (unread (found_after w s)) None (more ++ tail))
-  frame-header w turns s number h more e good may dct r room =
-      let may_be = subst (Stands w) e may in
-      let few : number ≤ 2 = subst IsDctSegment e dct in
-      let plain : Plain (frame_written number h) = search (rules, all-ranged) in
-      let framed : (found_after w s).frame ≡ Some (frame_written number h) =
-      ap (λ (x : Segment). (found_after w x).frame) e in
-      record {
-        said = found_after w s;
-        frame = frame_written number h;
-        framed = framed;
-        plain = plain;
-        is_accepted = may_be.1;
-        shape = all-shaped (frame_written number h) plain
-            (frame-lossy number h.precision h.width h.height h.components few) may_be.1;
-        good = segment-tables w s may.0 good;
-        more = more;
-        written = r;
-        is = walk-stop turns true Elsewhere (unread (found_after w s)) None (more ++ tail) (omega arith) (ap is_some framed);
-        turns = turns;
-        room = room;
-        goes_on = refl;
-      }
-
-  reads-header : (w : Found) (levels : ℕ → Levels) (sc : Bool) (bytes : List ℕ) (turns : ℕ)
-      → HasTables w.huffman → w.frame ≡ None → ◌≡◌ {A = ℕ → Levels} (λ k. nothing_sent) levels
-      → false ≡ sc → Writes array w levels sc bytes final last → length bytes < turns
-      → ReadHeader array tail final last
-      (walk turns true Elsewhere (unread w) None (bytes ++ tail))
-      (walk turns false Elsewhere (unread w) None (bytes ++ tail))
-  reads-header w levels sc bytes zero good none fresh unscanned r room = absurd (omega arith)
-  reads-header w levels sc bytes (suc turns) good none fresh unscanned
-      (segment w' final' levels' last' sc' fill s more may dct follows r) room =
-      let all = marker fill (marker_code s) (with_length (payload_of s) ++ more) ++ tail in
-      let next = onward (unread (found_after w s)) in
-      let shorter = marker-longer fill (marker_code s) turns (with_length (payload_of s)) more room
-      in
-      let turn = segment-turn Elsewhere (unread w) (unread (found_after w s)) s None all fill more tail may
-      (said-beside w s false [] nothing_finished no_planes) (stands-here all) in
-      header-by _ _ _ _
-      (walk-on turns true Elsewhere (unread w) None all (more ++ tail) next (ap is_some none) turn refl)
-      (walk-on turns false Elsewhere (unread w) None all (more ++ tail) next refl turn refl) (frame-or s
-      (λ number h is. frame-header w turns s number h more is good may dct
-      (subst (λ (x : Bool). Writes array (found_after w s) (λ k. nothing_sent) x more final last) (sym unscanned)
-      (subst (λ (l : ℕ → Levels). Writes array (found_after w s) l sc more final last) (sym fresh) r)) shorter)
-      (λ other. reads-header (found_after w s) levels sc more turns
-      (segment-tables w s may.0 good) (frame-stays w s other ∙ none) fresh unscanned r shorter))
-  reads-header w levels sc bytes (suc turns) good none fresh unscanned
-      (scan w' final' levels' last' sc' frame fill head codings payload more framed is l x r) room =
-      search (rules, some-none)
-  reads-header w levels sc bytes (suc turns) good none fresh unscanned
-      (closed w' levels' frame fill framed t c) room = some-none frame w.frame framed none
+-- where an image may end
+abbrev pub MayEndImage : Found → (ℕ → Levels) → Frame → Type 0
+MayEndImage said levels frame =
+    (said.scanned ≡ true) × AllByRecursion (HasTable said) frame.components
+    × (is_progressive frame.process ≡ false → AllComplete frame levels)
 
 -- ---- the whole
 
-pub no-frame : nothing_found.frame ≡ None
+abbrev pub ReadImage : Coefficients → Found → (ℕ → Levels) → Type 0
+ReadImage array final last = ReadTo IsDrawn (Holds array) MayEndImage final last
+
+abbrev pub ImageMeant : Settings → Coefficients → Found → (ℕ → Levels) → List ℕ → Outcome (Told × List ℕ) → Type 0
+ImageMeant settings array final last tail meant =
+    IsMeant IsDrawn with_progress (Holds array) MayEndImage settings final last tail meant
+
+pub image-walked : (settings : Settings) (array : Coefficients) (bytes tail : List ℕ) (final : Found)
+    (last : ℕ → Levels)
+    → ((index row column : ℕ) → Is8Bit (array index row column)) → WritesImage array bytes final last
+    → ImageMeant settings array final last tail (meaning settings (bytes ++ tail))
 unfolding nothing_found
-no-frame = refl
-
--- What a written stream is read as, after its first two bytes.
-pub record ReadStream (array : Coefficients) (tail bytes : List ℕ) (final : Found) (last : ℕ → Levels) : Type 0 where
-  pub rest : List ℕ
-  pub starts : start_at bytes ≡ Ok (tt, rest)
-  pub header : ReadHeader array tail final last (walk (suc (length rest)) true Elsewhere nothing_found None rest)
-      (walk (suc (length rest)) false Elsewhere nothing_found None rest)
-
-pub stream-read : (array : Coefficients) (tail bytes : List ℕ) (final : Found) (last : ℕ → Levels)
-    → WritesImage array bytes final last → ReadStream array tail (bytes ++ tail) final last
-unfolding nothing_found start_at
-stream-read array tail bytes final last w =
-    let sizes = length-append w.after tail in
-    record {
-      rest = w.after ++ tail;
-      starts = ap (λ (l : List ℕ). start_at (l ++ tail)) w.starts;
-      header = reads-header array tail final last nothing_found (λ k. nothing_sent) false w.after
-          (suc (length (w.after ++ tail))) tables-start refl refl refl w.written (omega arith);
-    }
-
--- the scans of a stream whose header was read
-pub scans-read : (array : Coefficients) (tail : List ℕ) (final : Found) (last : ℕ → Levels) (header whole : Walked)
-    → ((index row column : ℕ) → Is8Bit (array index row column))
-    → (r : ReadHeader array tail final last header whole) → ReadTo r.frame array tail final last whole
-scans-read array tail final last header whole range r =
-    search (rules, read-to, reads-scans, framed-start, stands-here)
+image-walked settings array bytes tail final last range w =
+    stream-read MayEndImage (image-read array range) tail (λ k. nothing_sent) last bytes final no_progress settings w
+    refl (holds-nothing array nothing_found refl)

@@ -11,12 +11,12 @@ use Rattle.std.specs.List.{AllByRecursion}
 use Rattle.jpeg_bits.specs.Reading.{Fault, Malformed, Outcome, ◌>>=◌}
 use Rattle.jpeg_bits.specs.Marker.{marker_of, next_marker}
 use Rattle.jpeg_bits.specs.declared.marker.Marker.{Marker}
-use Rattle.jpeg_bits.specs.declared.marker.Marker.TheVariants.{EOI, SOF, SOS}
+use Rattle.jpeg_bits.specs.declared.marker.Marker.TheVariants.{EOI, SOS}
 use Rattle.jpeg_segments.specs.Frame.{Frame}
 use Rattle.jpeg_segments.specs.ScanHeader.{Scan, sos_at}
 use Rattle.jpeg_segments.specs.HuffmanTables.{Tables}
-use Rattle.jpeg_segments.specs.WrittenSegments.{with_length, Segment, Header, FrameHeader, MayStand}
-use Rattle.jpeg_segments.specs.WrittenSegments.{marker_code, frame_written, payload_of}
+use Rattle.jpeg_segments.specs.WrittenSegments.{with_length, Segment, Header}
+use Rattle.jpeg_segments.specs.WrittenSegments.{marker_code, payload_of}
 use Rattle.jpeg_segments.proofs.Fields.{kept, not-refused, read-on, sized-read, skip-read}
 use Rattle.jpeg_segments.proofs.TableSegments.{dqt-read, dht-read}
 use Rattle.jpeg_segments.proofs.OtherSegments.{dri-read}
@@ -28,17 +28,14 @@ use Rattle.jpeg_bits.specs.Passes.{Pass}
 use Rattle.jpeg_streams.specs.Scans.{Arrays}
 use Rattle.jpeg_segments.specs.Checks.{gathered, needed}
 use Rattle.jpeg_streams.specs.ScanSegments.{component_coding, needed_if, Coding, tables_of, after_restarts, after_scan}
-use Rattle.jpeg_streams.specs.ScanSegments.{scan_arrays, codings_of, scan_segment, scan_before}
-use Rattle.jpeg_streams.specs.ScanSegments.{blocks_scan, pass_of}
-use Rattle.jpeg_streams.specs.Segments.{onward, Turn, frame_segment, accepted}
+use Rattle.jpeg_streams.specs.ScanSegments.{scan_arrays, codings_of, scan_segment, blocks_scan}
+use Rattle.jpeg_streams.specs.ScanSegments.{pass_of, scan_turn}
+use Rattle.jpeg_streams.specs.Segments.{onward, Turn, frame_segment}
 use Rattle.jpeg_streams.specs.Found.{Found}
 use Rattle.jpeg_streams.specs.SaidSegments.{Stands, found_after}
 use Rattle.jpeg_streams.specs.Stream.{segment_at, segments_at, end_segment, turn_at, walk}
 use Rattle.jpeg_bits.specs.declared.codes.HuffmanTableClass.TheVariants as classes
 use Rattle.jpeg_segments.specs.declared.parser.CodingProcess.TheVariants.{Lossless}
-use Rattle.jpeg_streams.specs.WrittenScans.{Coefficients}
-use Rattle.jpeg_streams.specs.WrittenImages.{Writes, closed, segment, scan}
-use Rattle.jpeg_streams.specs.Levels.{Levels}
 use Rattle.jpeg_bits.specs.Written.{marker}
 use Rattle.jpeg_bits.specs.Written.{IsMarker}
 pub use Rattle.jpeg_segments.proofs.Codecs.{err-ok, ok-same, bind-ok}
@@ -100,6 +97,15 @@ segments-walked header before f met all w e = ap walked_to e
 
 -- ---- the turn of a marker
 
+-- a marker and what is written after it, and the bytes after the end of the image
+pub segment-tail : (fill code : ℕ) (bytes more tail : List ℕ)
+    → marker fill code (bytes ++ more) ++ tail ≡ marker fill code (bytes ++ (more ++ tail))
+segment-tail fill code bytes more tail = search (rules, marker-append, append_assoc)
+
+pub scan-tail : (fill code : ℕ) (header bytes more tail : List ℕ)
+    → marker fill code (header ++ (bytes ++ more)) ++ tail ≡ marker fill code (header ++ (bytes ++ (more ++ tail)))
+scan-tail fill code header bytes more tail = search (rules, segment-tail, append_assoc)
+
 -- the turn of a marker and what stands after it
 pub marker-turn : (before : Before) (found : Found) (fill code : ℕ) (m : Marker) (rest : List ℕ)
     → marker_of code ≡ Some m → turn_at before found None (marker fill code rest) ≡ segment_at m before found rest
@@ -118,18 +124,22 @@ pub stands-met : (fill code : ℕ) (m : Marker) (rest : List ℕ) → marker_of 
 unfolding turn_at
 stands-met fill code m rest h = grind (arith, common_steps, marker-turn)
 
-pub end-turn : (before : Before) (found : Found) (rest : List ℕ) → is_some found.frame ≡ true
-    → segment_at EOI before found rest ≡ Ok (
+pub end-turn : (before : Before) (found : Found) (fill : ℕ) (rest : List ℕ) → is_some found.frame ≡ true
+    → turn_at before found None (marker fill 217 [] ++ rest) ≡ Ok (
       record { found = found; before = Elsewhere; met = None; ended = true },
       rest,
     )
-unfolding segment_at end_segment
-end-turn before found rest some = kept (is_some found.frame) _ (Err Malformed) some
+unfolding marker_of segment_at end_segment
+end-turn before found fill rest some = ap (turn_at before found None) (marker-append fill 217 [] rest)
+    ∙ marker-turn before found fill 217 EOI rest refl ∙ kept (is_some found.frame) _ (Err Malformed) some
 
-pub scan-turn : (before : Before) (found : Found) (rest : List ℕ)
-    → segment_at SOS before found rest ≡ scan_segment found rest
-unfolding segment_at
-scan-turn before found rest = refl
+pub scan-turn : (before : Before) (found : Found) (fill : ℕ) (header bytes more rest : List ℕ)
+    → turn_at before found None (marker fill 218 (header ++ (bytes ++ more)) ++ rest)
+    ≡ scan_segment found (header ++ (bytes ++ (more ++ rest)))
+unfolding marker_of segment_at
+scan-turn before found fill header bytes more rest =
+    ap (turn_at before found None) (scan-tail fill 218 header bytes more rest)
+    ∙ marker-turn before found fill 218 SOS (header ++ (bytes ++ (more ++ rest))) refl
 
 -- ---- what begins with a marker
 
@@ -137,7 +147,7 @@ scan-turn before found rest = refl
 abbrev pub IsEnd : Marker → Type 0
 IsEnd m = (turns : ℕ) (bytes : List ℕ) → after_restarts (suc turns) (Some m) bytes ≡ Ok (Some m, bytes)
 
-pub record Starts (bytes : List ℕ) : Type 0 where
+pub record Begins (bytes : List ℕ) : Type 0 where
   pub fill : ℕ
   pub code : ℕ
   pub m : Marker
@@ -146,119 +156,49 @@ pub record Starts (bytes : List ℕ) : Type 0 where
   pub makes : marker_of code ≡ Some m
   pub ends : IsEnd m
 
-pub segment-starts : (frame : Option Frame) (fill : ℕ) (s : Segment) (more : List ℕ) → MayStand frame s
-    → Starts (marker fill (marker_code s) (with_length (payload_of s) ++ more))
+pub marker-begins : (fill code : ℕ) (m : Marker) (after rest : List ℕ) → marker_of code ≡ Some m → IsEnd m
+    → Begins (marker fill code after ++ rest)
+marker-begins fill code m after rest makes ends = grind (arith, common_steps, marker-append)
+
+pub segment-ends : (s : Segment) → IsEnd (marker_for s)
 unfolding after_restarts
-segment-starts frame fill s more may = grind (arith, common_steps, segment-marker)
-
-pub scan-starts : (fill : ℕ) (after : List ℕ) → Starts (marker fill 218 after)
-unfolding marker_of after_restarts
-scan-starts fill after =
-    record { fill = fill; code = 218; m = SOS; after = after; is = refl; makes = refl; ends = λ turns bytes. refl }
-
-pub end-starts : (fill : ℕ) (after : List ℕ) → Starts (marker fill 217 after)
-unfolding marker_of after_restarts
-end-starts fill after =
-    record { fill = fill; code = 217; m = EOI; after = after; is = refl; makes = refl; ends = λ turns bytes. refl }
-
--- a marker and what is written after it, and the bytes after the end of the image
-pub segment-tail : (fill code : ℕ) (bytes more tail : List ℕ)
-    → marker fill code (bytes ++ more) ++ tail ≡ marker fill code (bytes ++ (more ++ tail))
-segment-tail fill code bytes more tail = search (rules, marker-append, append_assoc)
-
-pub scan-tail : (fill code : ℕ) (header bytes more tail : List ℕ)
-    → marker fill code (header ++ (bytes ++ more)) ++ tail ≡ marker fill code (header ++ (bytes ++ (more ++ tail)))
-scan-tail fill code header bytes more tail = search (rules, segment-tail, append_assoc)
+segment-ends s turns bytes = search rules
 
 pub marker-longer : (fill code n : ℕ) (bytes more : List ℕ) → length (marker fill code (bytes ++ more)) < suc n
     → length more < n
 marker-longer fill code n bytes more h = grind (arith, common_steps, length-append)
 
-pub scan-longer : (fill code n : ℕ) (header bytes more : List ℕ)
-    → length (marker fill code (header ++ (bytes ++ more))) < suc n → length more < n
-scan-longer fill code n header bytes more h = grind (arith, common_steps, length-append)
+-- ---- segments
 
--- ---- segments other than a frame
-
-abbrev pub IsOther : Segment → Type 0
-IsOther (Header number h) = ⊥
-IsOther _ = Unit {0}
-
--- such a segment is read, whatever was found before it
-pub segment-read : (before : Before) (found : Found) (s : Segment) (rest : List ℕ) → MayStand found.frame s → IsOther s
+-- A segment that stands is read, whatever was found before it.
+segment-read : (before : Before) (found : Found) (s : Segment) (rest : List ℕ) → Stands found s
     → segment_at (marker_for s) before found (with_length (payload_of s) ++ rest) ≡ Ok (
       onward
           (found_after found s),
       rest,
     )
-unfolding segment_at
-segment-read before found s rest may other =
+unfolding segment_at frame_segment
+segment-read before found (Header number h) rest stands =
+    grind (arith, common_steps, not-refused, read-on, sof-read)
+segment-read before found s rest stands =
     search (rules, read-on, dqt-read, dht-read, dri-read, app-read, sized-read, skip-read)
 
--- a frame that is accepted is read, where none was
-pub frame-turn : (before : Before) (found : Found) (number : ℕ) (h : FrameHeader) (rest : List ℕ)
-    → MayStand found.frame (Header number h) → accepted (frame_written number h) ≡ Ok (frame_written number h)
-    → segment_at (SOF number) before found (with_length (payload_of (Header number h)) ++ rest)
-    ≡ Ok (onward (found_after found (Header number h)), rest)
-unfolding segment_at frame_segment
-frame-turn before found number h rest may ok = grind (arith, common_steps, not-refused, read-on, sof-read)
-
--- The turn of a segment that stands, where what else was found is kept beside what it says.
-pub segment-turn : (before : Before) (now next : Found) (s : Segment) (met : Option Marker) (all : List ℕ) (fill : ℕ)
-    (more tail : List ℕ) → Stands now s → found_after now s ≡ next
+-- the turn of a segment that stands
+pub segment-turn : (before : Before) (now : Found) (s : Segment) (met : Option Marker) (all : List ℕ) (fill : ℕ)
+    (more tail : List ℕ) → Stands now s
     → StandsAt met all (marker fill (marker_code s) (with_length (payload_of s) ++ more) ++ tail)
-    → turn_at before now met all ≡ Ok (onward next, more ++ tail)
-segment-turn before now next s met all fill more tail may is at =
+    → turn_at before now met all ≡ Ok (onward (found_after now s), more ++ tail)
+segment-turn before now s met all fill more tail may at =
     at.turn before now
     ∙ ap (turn_at before now None) (segment-tail fill (marker_code s) (with_length (payload_of s)) more tail)
     ∙ marker-turn before now fill (marker_code s) (marker_for s) (with_length (payload_of s) ++ (more ++ tail))
-    (segment-marker now.frame s may.0)
-    ∙ subst (λ (f : Found). segment_at (marker_for s) before now (with_length (payload_of s) ++ (more ++ tail))
-    ≡ Ok (onward f, more ++ tail)) is (search (rules, segment-read, frame-turn))
-
-pub frame-stays : (said : Found) (s : Segment) → IsOther s → (found_after said s).frame ≡ said.frame
-frame-stays said (Header number h) other = absurd other
-frame-stays said s other = refl
-
--- a frame, or none
-pub frame-or : {P : Type 0} (s : Segment) → ((number : ℕ) (h : FrameHeader) → s ≡ Header number h → P)
-    → (IsOther s → P) → P
-frame-or (Header number h) f g = f number h refl
-frame-or s f g = g tt
+    (segment-marker now.frame s may.0) ∙ segment-read before now s (more ++ tail) may
 
 pub some-none : {P : Type 0} (f : Frame) (o : Option Frame) → o ≡ Some f → o ≡ None → P
 some-none f o e g = absurd (let n : ⊥ = cc in n)
 
--- after the frame stands no other
-pub is-other : (said : Found) (frame : Frame) (s : Segment) → said.frame ≡ Some frame → Stands said s → IsOther s
-is-other said frame s e may = grind (arith, common_steps, frame-or, some-none)
-
 pub same-frame : (a b : Frame) (o : Option Frame) → o ≡ Some a → o ≡ Some b → a ≡ b
 same-frame a b o e f = let s : ◌≡◌ {A = Option Frame} (Some a) (Some b) = sym e ∙ f in cc
-
--- a frame that is said stays to the end
-pub frame-kept : (array : Coefficients) (said final : Found) (levels last : ℕ → Levels) (scanned : Bool)
-    (bytes : List ℕ) (f : Frame)
-    → Writes array said levels scanned bytes final last → said.frame ≡ Some f → final.frame ≡ Some f
-frame-kept array said final levels last scanned bytes f (closed said' levels' g fill framed tables complete) e = e
-frame-kept array said final levels last scanned bytes f
-    (segment said' final' levels' last' scanned' fill s more may dct follows w) e =
-    frame-kept array (found_after said s) final levels last scanned more f w
-    (frame-stays said s (is-other said f s e may) ∙ e)
-frame-kept array said final levels last scanned bytes f
-    (scan said' final' levels' last' scanned' g fill h codings data_bytes more framed is legal written w) e =
-    search (rules, frame-kept array said final _ last true more f w e)
-
-pub writes-starts : (array : Coefficients) (said final : Found) (levels last : ℕ → Levels) (scanned : Bool)
-    (bytes : List ℕ) → Writes array said levels scanned bytes final last → Starts bytes
-writes-starts array said final levels last scanned bytes (closed said' levels' f fill framed tables complete) =
-    end-starts fill []
-writes-starts array said final levels last scanned bytes
-    (segment said' final' levels' last' scanned' fill s more may dct follows w) =
-    search (rules, segment-starts)
-writes-starts array said final levels last scanned bytes
-    (scan said' final' levels' last' scanned' f fill h codings data_bytes more framed is legal written w) =
-    search (rules, scan-starts)
 
 -- ---- the tables of a scan
 
@@ -332,15 +272,6 @@ pub scan-by : (found : Found) (frame : Frame) (s : Scan) (codings : List Coding)
     → found.frame ≡ Some frame → sos_at frame bytes ≡ Ok (s, data_bytes) → codings_of found frame s ≡ Ok codings
     → scan_arrays found frame s codings data_bytes ≡ Ok ((arrays, Some m), more)
     → after_restarts (suc (length more)) (Some m) more ≡ Ok (Some m, more)
-    → scan_segment found bytes
-    ≡ Ok (
-      record {
-        found = after_scan found frame s codings arrays;
-        before = scan_before found;
-        met = Some m;
-        ended = false;
-      },
-      more,
-    )
+    → scan_segment found bytes ≡ Ok (scan_turn found (after_scan found frame s codings arrays) (Some m), more)
 unfolding scan_segment blocks_scan
 scan-by found frame s codings arrays m bytes data_bytes more n a b c d e = search (rules, then-ok)

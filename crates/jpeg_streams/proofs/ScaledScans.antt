@@ -9,7 +9,7 @@ use Rattle.std.proofs.lemmas.List.Sums.{sum-map, sum_by-cons}
 use Rattle.jpeg_segments.specs.Frame.{Frame, Component, Factors, ceiling}
 use Rattle.jpeg_segments.specs.Checks.{gathered}
 use Rattle.jpeg_segments.specs.ScanHeader.{Selector, index_of, blocks_by, scan_of}
-use Rattle.jpeg_segments.specs.ScanHeaders.{AreChoices, IsScan, ScanHeader, scan_payload, scan_written}
+use Rattle.jpeg_segments.specs.ScanHeaders.{AreChoices, IsScan, ScanHeader, scan_written}
 use Rattle.jpeg_segments.proofs.ScanLemmas.{position-map}
 use Rattle.jpeg_bits.specs.Passes.{Pass, Via}
 use Rattle.jpeg_streams.specs.Order.{Spot, grid_of, part_spots, mcu_spots, all_spots, spots_of, mcu_size}
@@ -20,14 +20,14 @@ use Rattle.jpeg_streams.specs.ScanSegments.{pass_of, tables_of}
 use Rattle.jpeg_streams.specs.Scans.{turns_of}
 use Rattle.jpeg_streams.specs.Found.{Found}
 use Rattle.jpeg_streams.specs.declared.grids.Grid.{Grid}
-use Rattle.jpeg_streams.specs.WrittenScans.{Coefficients, IsOwn, WritesScan, levels_after}
+use Rattle.jpeg_streams.specs.WrittenScans.{Coefficients, IsOwn, WritesScan}
 use Rattle.jpeg_streams.specs.WrittenScans.{HasTable, IsLegalScan}
-use Rattle.jpeg_streams.specs.WrittenImages.{Writes, closed, segment, scan}
+use Rattle.jpeg_streams.specs.WrittenImages.{ClosesImage, WritesImageScan, WritesPart}
+use Rattle.jpeg_streams.specs.WrittenStreams.{end, scan, segment}
 use Rattle.jpeg_streams.specs.SaidSegments.{Stands, found_after}
-use Rattle.jpeg_segments.specs.WrittenSegments.{with_length, Segment}
-use Rattle.jpeg_bits.specs.Written.{marker}
+use Rattle.jpeg_segments.specs.WrittenSegments.{Header, Segment}
 use Rattle.jpeg_streams.proofs.FrameShapes.{below-ceiling}
-use Rattle.jpeg_streams.proofs.ReadTurns.{bind-ok, coding-is, frame-stays, is-other, ok-same, same-frame, some-none, then-ok}
+use Rattle.jpeg_streams.proofs.ReadTurns.{bind-ok, coding-is, ok-same, same-frame, some-none, then-ok}
 
 -- ---- the same number
 
@@ -258,9 +258,9 @@ legal-alike : (p : Pass) (levels : ℕ → Levels) (ks ls : List Coding) → Cod
 legal-alike p levels ks ls none h = tt
 legal-alike p levels ks ls (one_more k l ks' ls' a more) h = search (rules, legal-alike p levels ks' ls' more h.1)
 
-segment-alike : (w : Found) (s : Segment) (f g : Frame) → SameFrame f g → w.frame ≡ Some f → Stands w s
-    → Stands (at_frame w g) s × (found_after (at_frame w g) s ≡ at_frame (found_after w s) g)
-segment-alike w s f g same e may = search (rules, some-none)
+stands-alike : (w : Found) (s : Segment) (f g : Frame) → SameFrame f g → w.frame ≡ Some f → Stands w s
+    → Stands (at_frame w g) s
+stands-alike w s f g same e stands = search (rules, some-none)
 
 tables-there : (w : Found) (g : Frame) (cs ds : List Component) → Alikes cs ds → AllByRecursion (HasTable w) cs
     → AllByRecursion (HasTable (at_frame w g)) ds
@@ -268,44 +268,48 @@ tables-there w g cs ds none h = tt
 tables-there w g cs ds (one_more c d cs' ds' a more) h = search (rules, tables-there w g cs' ds' more h.1)
 
 -- a scan is written for a frame with the same blocks too
-scan-other : (array : Coefficients) (f g : Frame) (w final : Found) (levels last : ℕ → Levels) (sc : Bool)
-    (fill : ℕ) (h : ScanHeader) (codings : List Coding) (bytes more : List ℕ) → SameFrame f g
-    → IsScan f h → IsLegalScan w f levels (scan_written f h) codings
-    → WritesScan f w.restart (pass_of (scan_written f h)) codings array bytes
-    → Writes array (at_frame w g) (levels_after (pass_of (scan_written f h)) (map (λ c. c.index)
-    codings) levels) true
-    more (at_frame final g) last
-    → Writes array (at_frame w g) levels sc (marker fill 218 (with_length (scan_payload h) ++
-    (bytes ++ more)))
-    (at_frame final g) last
+scan-other : (array : Coefficients) (f g : Frame) (w : Found) (levels next : ℕ → Levels) (h : ScanHeader)
+    (bytes : List ℕ) → SameFrame f g → WritesImageScan array w levels f h bytes next
+    → WritesImageScan array (at_frame w g) levels g h bytes next
 unfolding codings_of tables_of
-scan-other array f g w final levels last sc fill h codings bytes more same is l x r =
+scan-other array f g w levels next h bytes same x =
     let s = scan_written f h in
     let alike : scan_written g h ≡ s = written-same f g h same in
-    let o = codings-alike w f g same (pass_of s) (tables_of w s) _ codings l.are_in_force in
-    let indices = indices-alike codings o.0 o.2 in
+    let o = codings-alike w f g same (pass_of s) (tables_of w s) _ x.codings x.legal.are_in_force in
     let legal : IsLegalScan (at_frame w g) g levels s o.0 =
-    grind (arith, legal-alike (pass_of s) levels codings o.0 o.2 l.legal) in
-    scan (at_frame w g) (at_frame final g) levels last sc g fill h o.0 bytes more refl (scan-same f g h same is)
-    (rw alike legal) (rw alike (scan-alike f g w.restart (pass_of s) codings o.0 array bytes same o.2 x))
-    (rw (alike, indices) r)
+    grind (arith, legal-alike (pass_of s) levels x.codings o.0 o.2 x.legal.legal) in
+    record {
+      codings = o.0;
+      legal = rw alike legal;
+      written = rw alike (scan-alike f g w.restart (pass_of s) x.codings o.0 array bytes same o.2 x.written);
+      sent = rw (alike, indices-alike x.codings o.0 o.2) x.sent;
+    }
 
 -- A stream that was written for a frame is written for one with the same blocks.
-pub scans-alike : (array : Coefficients) (f g : Frame) (w final : Found) (levels last : ℕ → Levels)
-    (sc : Bool) (bytes : List ℕ) → SameFrame f g → w.frame ≡ Some f
-    → Writes array w levels sc bytes final last
-    → Writes array (at_frame w g) levels sc bytes (at_frame final g) last
-scans-alike array f g w final levels last sc bytes same e
-    (segment w' final' levels' last' sc' fill s more may dct follows r) =
-    let alike = segment-alike w s f g same e may in
-    segment (at_frame w g) (at_frame final g) levels last sc fill s more alike.0 dct follows
-    (subst (λ (x : Found). Writes array x levels sc more (at_frame final g) last) (sym alike.1)
-    (scans-alike array f g (found_after w s) final levels last sc more same
-    (frame-stays w s (is-other w f s e may) ∙ e) r))
-scans-alike array f g w final levels last sc bytes same e
-    (scan w' final' levels' last' sc' frame fill h codings payload more framed is l x r) =
-    search (rules, same-frame, scan-other, scans-alike array f g w final _ last true more same e r)
-scans-alike array f g w final levels last sc bytes same e (closed w' levels' frame fill framed t c) =
+pub scans-alike : (array : Coefficients) (f g : Frame) (w final : Found) (levels last : ℕ → Levels) (bytes : List ℕ)
+    → SameFrame f g → w.frame ≡ Some f → WritesPart array ClosesImage w levels bytes final last
+    → WritesPart array ClosesImage (at_frame w g) levels bytes (at_frame final g) last
+scans-alike array f g w final levels last bytes same e
+    (segment w' final' levels' last' fill (Header number h) more stands may r) = some-none f w.frame e stands.0.0
+scans-alike array f g w final levels last bytes same e (segment w' final' levels' last' fill s more stands may r) =
+    segment (at_frame w g) (at_frame final g) levels last fill s more (stands-alike w s f g same e stands) may
+    (scans-alike array f g (found_after w s) final levels last more same e r)
+scans-alike array f g w final levels last bytes same e
+    (scan w' final' levels' next last' frame fill h payload more framed is x r) =
     let is_same = subst (λ (y : Frame). SameFrame y g) (same-frame f frame w.frame e framed) same in
-    closed (at_frame w g) levels g fill refl (tables-there w g frame.components g.components is_same.components t)
-    (search (rules, length-same))
+    scan (at_frame w g) (at_frame final g) levels next last g fill h payload more refl (scan-same frame g h is_same is)
+    (scan-other array frame g w levels next h payload is_same x)
+    (scans-alike array f g (record w { scanned = true }) final next last more same e r)
+scans-alike array f g w final levels last bytes same e (end w' levels' bytes' c) =
+    let is_same = subst (λ (y : Frame). SameFrame y g) (same-frame f c.frame w.frame e c.is_said) same in
+    end (at_frame w g) levels bytes (record {
+      frame = g;
+      fill = c.fill;
+      is_said = refl;
+      ended = (
+        c.ended.0,
+        tables-there w g c.frame.components g.components is_same.components c.ended.1,
+        search (rules, length-same),
+      );
+      closed = c.closed;
+    })

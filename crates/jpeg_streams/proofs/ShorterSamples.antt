@@ -1,7 +1,6 @@
 -- What a lossless scan leaves.
-use Rattle.std.proofs.Common.{rules, ◌<◌, ℕ, List, [], ◌∷◌, length}
+use Rattle.std.proofs.Common.{rules, ◌<◌, ℕ, List, length}
 use Rattle.jpeg_bits.specs.Codes.{Table}
-use Rattle.jpeg_bits.specs.Readers.{Reads, each}
 use Rattle.jpeg_lossless.specs.Differences.{interval_rows, sample_difference}
 use Rattle.jpeg_lossless.specs.Scans.{Way, scan_at}
 use Rattle.jpeg_streams.proofs.Shorter.{below_steps, LeavesBelow}

@@ -1,37 +1,36 @@
 -- A written stream, read at a scale.
 use Rattle.std.proofs.lemmas.Grind.{common_steps}
-use Rattle.std.proofs.Common.{rules, ◌≡◌, ◌≢◌, ℕ, zero, suc, ◌<◌, ◌≤◌, true, false, List, [], ◌∷◌, ◌++◌, map, length}
-use Rattle.std.proofs.Common.{option_map, Option, None, Result, Ok, refl, sym, ap, ◌∙◌, subst, arith}
+use Rattle.std.proofs.Common.{rules, ◌≡◌, ◌≢◌, ℕ, zero, suc, ◌<◌, ◌≤◌, List, [], ◌∷◌, ◌++◌, map, length}
+use Rattle.std.proofs.Common.{option_map, Option, None, Ok, refl, sym, ap, ◌∙◌, subst, arith}
 use Rattle.std.proofs.Common.{length-append}
-use Rattle.jpeg_bits.specs.Reading.{Fault, ◌>>=◌}
 use Rattle.jpeg_segments.specs.declared.parser.CodingProcess.{CodingProcess}
 use Rattle.jpeg_segments.specs.declared.parser.CodingProcess.TheVariants.{DctSequential, DctProgressive, Lossless}
 use Rattle.jpeg_segments.specs.Frame.{Frame, Component, Factors}
+use Rattle.jpeg_segments.specs.WrittenSegments.{frame_written, Header}
 use Rattle.jpeg_streams.specs.declared.before.Before.TheVariants.{Elsewhere}
 use Rattle.jpeg_streams.specs.declared.settings.Settings.{Settings}
 use Rattle.jpeg_segments.specs.Scales.{frame_at, scale_for, sized}
-use Rattle.jpeg_streams.specs.Stream.{start_at, header_at, sized_to, walk}
-use Rattle.jpeg_streams.specs.Stream.{sized_meaning, told_of}
-use Rattle.jpeg_streams.specs.Found.{Found}
+use Rattle.jpeg_streams.specs.Stream.{header_at, sized_meaning, sized_to, told_of}
+use Rattle.jpeg_streams.specs.Found.{Found, nothing_found}
+use Rattle.jpeg_streams.specs.SaidSegments.{found_after}
 use Rattle.jpeg_streams.specs.Levels.{Levels, Is8Bit, nothing_sent}
 use Rattle.jpeg_streams.specs.WrittenScans.{Coefficients}
 use Rattle.jpeg_streams.specs.WrittenImages.{WritesImage}
 use Rattle.jpeg_streams.specs.ArrayPictures.{meaning_of_array, picture_of_array, TakesPicture}
 use Rattle.jpeg_streams.proofs.OwnSpots.{At}
-use Rattle.jpeg_streams.proofs.ReadStates.{reading}
-use Rattle.jpeg_streams.proofs.ReadTurns.{frame-kept, segments-walked, stands-here, then-ok}
-use Rattle.jpeg_streams.proofs.BroughtLevels.{Shaped, framed-start}
-use Rattle.jpeg_streams.proofs.FrameShapes.{Plain, plain-size, accepted-sources}
+use Rattle.jpeg_streams.proofs.ReadTurns.{same-frame as one-frame, stands-here, then-ok}
+use Rattle.jpeg_streams.proofs.BroughtLevels.{Shaped}
+use Rattle.jpeg_streams.proofs.FrameShapes.{Plain, plain-size}
 use Rattle.jpeg_streams.proofs.ScaledSizes.{scaled_component, most_h, most_v, frame-components}
 use Rattle.jpeg_streams.proofs.ScaledScans.{own-same, Alike, Alikes, none, one_more, SameFrame, length-same, at_frame}
 use Rattle.jpeg_streams.proofs.ScaledScans.{scans-alike}
-use Rattle.jpeg_streams.proofs.ReadStreams.{nothing_finished, no_planes, read-to, reads-scans, ReadTo, stream-read}
-use Rattle.jpeg_streams.proofs.ReadStreams.{unread}
-use Rattle.jpeg_streams.proofs.WrittenPictures.{pictures-same, rest-by, pictures-taken}
+use Rattle.jpeg_streams.proofs.ReadStreams.{drawn-said, holds-nothing, image-read, IsDrawn, ImageMeant, MayEndImage}
+use Rattle.jpeg_streams.proofs.ReadStreams.{no_progress, plain-said, with_progress}
+use Rattle.jpeg_streams.proofs.WalkedStreams.{frame-kept, header-read, reads-on, rest-by}
+use Rattle.jpeg_streams.proofs.WrittenPictures.{pictured, taken}
 use Rattle.jpeg_streams.proofs.ScaledSources.{frame-sources}
 use Rattle.jpeg_streams.proofs.Soundness.{scale-bounds}
 use Rattle.jpeg_segments.proofs.ScaleLemmas.{scale_for_is_scale}
-use Rattle.jpeg_pixels.specs.Pictures.{Source, sources_of}
 use Rattle.jpeg_segments.proofs.FrameLemmas.{greatest-some}
 
 -- ---- frames at a scale
@@ -86,57 +85,41 @@ sized-is width height f n = go f.process refl
 -- ---- the meaning
 
 -- What a written stream is read as at a scale.
-record ReadAt (width height : ℕ) (array : Coefficients) (tail bytes : List ℕ) (final : Found)
-    (last : ℕ → Levels) : Type 0 where
-  header : Found
-  left : List ℕ
-  frame : Frame
-  sources : List Source
-  is : header_at bytes ≡ Ok (header, left)
-  shape : Shaped frame
-  sized_is : sized_to width height final ≡ at_frame final frame
-  sources_are : sources_of frame.components frame.output_width frame.output_height ≡ Ok sources
-  read : ReadTo frame array tail (at_frame final frame) last
-      (walk (suc (length left)) false Elsewhere (sized_to width height header) None left)
-
-read-at : (width height : ℕ) (array : Coefficients) (tail bytes : List ℕ) (final : Found) (last : ℕ → Levels)
-    → ((index row column : ℕ) → Is8Bit (array index row column)) → WritesImage array bytes final
-    last
-    → ReadAt width height array tail (bytes ++ tail) final last
-unfolding header_at
-read-at width height array tail bytes final last range w =
-    let r = stream-read array tail bytes final last w in
-    let h = r.header in
-    let f = h.frame in
+image-sized : (width height : ℕ) (settings : Settings) (array : Coefficients) (bytes tail : List ℕ) (final : Found)
+    (last : ℕ → Levels)
+    → ((index row column : ℕ) → Is8Bit (array index row column)) → WritesImage array bytes final last
+    → ImageMeant settings array (sized_to width height final) last tail
+    (sized_meaning width height settings (bytes ++ tail))
+unfolding sized_meaning nothing_found
+image-sized width height settings array bytes tail final last range w =
+    let r = header-read MayEndImage (image-read array range) tail (λ k. nothing_sent) last bytes final no_progress w
+    refl in
+    let h = r.0 in
+    let said = found_after h.between (Header h.number h.header) in
+    let f = frame_written h.number h.header in
+    let plain = plain-said h.between h.number h.header h.stands in
+    let first = drawn-said h.between h.number h.header h.stands h.allowed in
     let g = sized width height f in
-    let size = sized-is width height f h.shape.lossy in
-    let same : SameFrame f g = subst (SameFrame f) (sym size.2) (same-frame f size.0 h.plain size.1) in
-    let shape : Shaped g = subst Shaped (sym size.2) (shaped-at f size.0 h.plain size.1 h.shape) in
-    let first = accepted-sources f f h.is_accepted in
-    let there = frame-sources f size.0 first.0 h.plain size.1 size.3 first.1 in
-    let kept = frame-kept array h.said final (λ k. nothing_sent) last false h.more f h.written h.framed in
-    let left = h.more ++ tail in
-    let lefts = length-append h.more tail in
-    let now : sized_to width height (unread h.said) ≡ unread (at_frame h.said g) =
-    ap (λ (o : Option Frame). record (unread h.said) { frame = option_map (sized width height) o }) h.framed in
-    record {
-      header = unread h.said;
-      left = left;
-      frame = g;
-      sources = there.0;
-      is = then-ok (start_at (bytes ++ tail)) _ (tt, r.rest) _ r.starts (segments-walked _ _ _ _ _ _ h.is);
-      shape = shape;
-      sized_is = ap (λ (o : Option Frame). record final { frame = option_map (sized width height) o }) kept;
-      sources_are = subst (λ (x : Frame). sources_of x.components x.output_width x.output_height ≡ Ok there.0)
-          (sym size.2) there.1;
-      read = read-to array tail (at_frame final g) last g _ _
-          (ap (λ (x : Found). walk (suc (length left)) false Elsewhere x None left) now)
-          (reads-scans array tail (at_frame final g) last g (at_frame h.said g) (λ k. nothing_sent) false h.more []
-          nothing_finished no_planes (suc (length left)) Elsewhere None left range shape h.good refl (λ e k. refl)
-          (framed-start (at_frame h.said g) g array [] nothing_finished no_planes range refl refl)
-          (scans-alike array f g h.said final (λ k. nothing_sent) last false h.more same h.framed h.written)
-          (stands-here left) (omega arith));
-    }
+    let size = sized-is width height f first.0.lossy in
+    let same : SameFrame f g = subst (SameFrame f) (sym size.2) (same-frame f size.0 plain size.1) in
+    let drawn : IsDrawn g = subst IsDrawn (sym size.2) (
+      shaped-at f size.0 plain size.1 first.0,
+      frame-sources f size.0 first.1.0 plain size.1 size.3 first.1.1,
+    ) in
+    let kept = frame-kept said final (λ k. nothing_sent) last h.left f h.written refl in
+    let left = h.left ++ tail in
+    let lefts = length-append h.left tail in
+    let e = reads-on MayEndImage (image-read array range) tail (at_frame said g) (at_frame final g) (λ k. nothing_sent)
+    last h.left no_progress (suc (length left)) Elsewhere None left
+    (scans-alike array f g said final (λ k. nothing_sent) last h.left same refl h.written)
+    (record { tables = h.said.tables; shaped = λ x q. subst IsDrawn (one-frame g x _ refl q) drawn })
+    (holds-nothing array (at_frame said g) h.unscanned) (stands-here left) (omega arith) in
+    subst (λ (x : Found). ImageMeant settings array x last tail (sized_meaning width height settings (bytes ++ tail)))
+    (ap (λ (o : Option Frame). record final { frame = option_map (sized width height) o }) (sym kept)) (
+      e.0,
+      then-ok (header_at (bytes ++ tail)) _ (with_progress said no_progress, left) _ r.1
+          (rest-by settings (with_progress (at_frame said g) no_progress) _ left tail e.1),
+    )
 
 -- The meaning at a scale is the picture of the array at that scale.
 pub stream-means_sized : (width height : ℕ) (settings : Settings) (array : Coefficients) (bytes rest : List ℕ)
@@ -145,18 +128,9 @@ pub stream-means_sized : (width height : ℕ) (settings : Settings) (array : Coe
     last
     → sized_meaning width height settings (bytes ++ rest)
     ≡ meaning_of_array settings (sized_to width height final) array last rest
-unfolding sized_meaning
 stream-means_sized width height settings array bytes rest final last range w =
-    let r = read-at width height array rest bytes final last range w in
-    let end = r.read.end in
-    let known = at_frame final r.frame in
-    (then-ok (header_at (bytes ++ rest)) _ (r.header, r.left) _ r.is refl)
-    ∙ rest-by settings (sized_to width height r.header) (reading known true end.kept end.finished
-    end.planes) r.left rest
-    r.read.is
-    ∙ ap (λ (o : Result (List ℕ) Fault). o >>= (λ (picture : List ℕ). Ok ((told_of known, picture), rest)))
-    (pictures-same settings r.frame array known last r.shape end)
-    ∙ ap (λ (x : Found). meaning_of_array settings x array last rest) (sym r.sized_is)
+    pictured settings array (sized_to width height final) last rest _
+    (image-sized width height settings array bytes rest final last range w)
 
 -- A written stream whose picture is taken means one at each scale.
 pub sized-taken : (width height : ℕ) (settings : Settings) (array : Coefficients) (bytes rest : List ℕ)
@@ -167,13 +141,6 @@ pub sized-taken : (width height : ℕ) (settings : Settings) (array : Coefficien
     → (picture : List ℕ) × (picture_of_array settings (sized_to width height final) array last ≡ Ok picture)
     × (sized_meaning width height settings (bytes ++ rest)
     ≡ Ok ((told_of (sized_to width height final), picture), rest))
-sized-taken width height settings array bytes rest final last range w takes =
-    let r = read-at width height array rest bytes final last range w in
-    let p = pictures-taken settings array (at_frame final r.frame) last r.frame r.sources r.shape r.read.end
-    r.sources_are (subst (TakesPicture settings) r.sized_is takes) in
-    let q = ap (λ (x : Found). picture_of_array settings x array last) r.sized_is ∙ p.1 in (
-      p.0,
-      q,
-      stream-means_sized width height settings array bytes rest final last range w
-          ∙ then-ok (picture_of_array settings (sized_to width height final) array last) _ p.0 _ q refl,
-    )
+sized-taken width height settings array bytes rest final last range w =
+    taken settings array (sized_to width height final) last rest _
+    (image-sized width height settings array bytes rest final last range w)

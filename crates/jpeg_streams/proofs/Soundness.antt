@@ -22,7 +22,6 @@ use Rattle.jpeg_streams.specs.Sound.{AreSampled, HasDecodedFrame, IsUnread, IsDe
 use Rattle.jpeg_streams.proofs.Apart.{zeros-sized}
 use Rattle.jpeg_streams.proofs.FrameFits.{scaled-frames-fit}
 use Rattle.jpeg_streams.proofs.ScaledCovers.{frames-have-sources}
-use Rattle.jpeg_streams.proofs.ReadStreams.{no-frame as no-frame-yet}
 use borrow.Author.Tests.{not-false}
 pub use Rattle.jpeg_streams.proofs.FrameShapes.{accepted-facts, count-few}
 
@@ -127,7 +126,8 @@ unfolding nothing_found
 sound-nothing found e = search rules
 
 pub nothing-framed : (found : Found) → found ≡ nothing_found → found.frame ≡ None
-nothing-framed found e = ap (λ (f : Found). f.frame) e ∙ no-frame-yet
+unfolding nothing_found
+nothing-framed found e = ap (λ (f : Found). f.frame) e
 
 -- ---- frames at a scale
 

@@ -10,14 +10,10 @@ use Rattle.jpeg_segments.specs.Frame.{Frame}
 use Rattle.jpeg_segments.specs.ScanHeader.{Scan}
 use Rattle.jpeg_streams.specs.Scans.{no_table}
 use Rattle.jpeg_streams.specs.ScanSegments.{Coding, codings_of, needed_if, tables_of}
-use Rattle.jpeg_streams.specs.Found.{Found, nothing_found}
+use Rattle.jpeg_streams.specs.Found.{Found}
 use Rattle.jpeg_streams.proofs.ReadTurns.{codings-each, needed-some, ok-same}
-use Rattle.jpeg_streams.proofs.SaidTables.{HasTables, IsTableOrNone, no-tables, table-there}
+use Rattle.jpeg_streams.proofs.SaidTables.{HasTables, IsTableOrNone, table-there}
 use Rattle.jpeg_streams.proofs.WrittenFrameScans.{no-codes}
-
-pub tables-start : HasTables nothing_found.huffman
-unfolding nothing_found
-tables-start = no-tables
 
 good-defaults : (one two : Table) (indices : List ℕ) (l : List (Option Table)) → IsTable one →
     IsTable two

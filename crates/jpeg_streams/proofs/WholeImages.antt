@@ -1,6 +1,6 @@
 -- Where all is sent, the picture is that of the array itself.
-use Rattle.std.proofs.Common.{rules, ◌≡◌, ℕ, suc, ◌+◌, ◌/◌, ◌^◌, Bool, true, false, List, [], ◌∷◌, length, ℤ, pos}
-use Rattle.std.proofs.Common.{negsuc, neg_ℤ, ◌*ℤ◌, Option, Some, refl, ap, arith}
+use Rattle.std.proofs.Common.{rules, ◌≡◌, ℕ, suc, ◌+◌, ◌/◌, ◌^◌, false, List, [], ◌∷◌, length, ℤ, pos}
+use Rattle.std.proofs.Common.{negsuc, neg_ℤ, ◌*ℤ◌, Option, Some, refl, sym, ap, subst, arith}
 use Rattle.std.proofs.lemmas.Grind.{common_steps}
 use Rattle.std.proofs.lemmas.Int.{ints}
 use Rattle.std.specs.List.{AllByRecursion, enumerate_from, range_with_len}
@@ -9,14 +9,14 @@ use Rattle.jpeg_segments.specs.Frame.{Frame, Component}
 use Rattle.jpeg_streams.specs.declared.settings.Settings.{Settings}
 use Rattle.jpeg_bits.specs.Passes.{Block}
 use Rattle.jpeg_pixels.specs.Planes.{plane_of}
-use Rattle.jpeg_streams.specs.Levels.{Levels, Is8Bit, cut, cut_acs, floor_at, toward_zero}
+use Rattle.jpeg_streams.specs.Levels.{Levels, Is8Bit, cut, cut_acs, floor_at, nothing_sent, toward_zero}
 use lib.ListN.{length-map}
 use Rattle.jpeg_segments.specs.declared.parser.CodingProcess.{CodingProcess}
 use Rattle.jpeg_segments.specs.declared.parser.CodingProcess.TheVariants.{DctSequential}
 use Rattle.jpeg_segments.specs.Scales.{frame_at, sized_by}
 use Rattle.jpeg_streams.specs.Stream.{sized_to}
 use Rattle.jpeg_streams.specs.ScanSegments.{is_progressive}
-use Rattle.jpeg_streams.specs.Found.{Found}
+use Rattle.jpeg_streams.specs.Found.{Found, nothing_found}
 use Rattle.jpeg_streams.specs.WrittenScans.{Coefficients, IsComplete}
 use Rattle.jpeg_streams.specs.ArrayPictures.{as_sent, picture_of_blocks}
 use Rattle.jpeg_streams.specs.ArrayPictures.{picture_of_array, meaning_of_array}
@@ -25,9 +25,10 @@ use Rattle.jpeg_streams.specs.Rasters.{plane_of_blocks}
 use Rattle.jpeg_bits.specs.Reading.{◌>>=◌}
 use Rattle.jpeg_streams.proofs.BroughtLevels.{after-length}
 use Rattle.jpeg_streams.proofs.LimitedPictures.{array_plane, limited-same}
-use Rattle.jpeg_streams.specs.WrittenImages.{Writes, closed, segment, scan, WritesImage}
+use Rattle.jpeg_streams.specs.WrittenImages.{WritesImage}
 use Rattle.jpeg_streams.specs.WholeImages.{whole_meaning, AllComplete}
 use Rattle.jpeg_streams.proofs.ReadTurns.{same-frame}
+use Rattle.jpeg_streams.proofs.WalkedStreams.{keeps}
 use Rattle.jpeg_bits.proofs.BandSteps.{bind_same}
 use Rattle.jpeg_streams.proofs.Apart.{map-same}
 
@@ -94,40 +95,31 @@ picture-whole settings said array levels frame e done h =
 
 -- ---- the levels of a stream
 
-levels-sized : (array : Coefficients) (said final : Found) (levels last : ℕ → Levels) (scanned : Bool)
-    (bytes : List ℕ) → Writes array said levels scanned bytes final last
-    → ((k : ℕ) → length (levels k).acs ≡ 63) → (k : ℕ) → length (last k).acs ≡ 63
-levels-sized array said final levels last scanned bytes (closed said' levels' f fill framed tables complete) h = h
-levels-sized array said final levels last scanned bytes
-    (segment said' final' levels' last' scanned' fill s more may dct follows w) h =
-    search (rules, levels-sized array _ final levels last scanned more w h)
-levels-sized array said final levels last scanned bytes
-    (scan said' final' levels' last' scanned' f fill header ks data_bytes more framed is legal written w) h =
-    levels-sized array said final _ last true more w (after-length _ _ levels h)
-
--- a sequential stream has all
-sequential-complete : (array : Coefficients) (said final : Found) (levels last : ℕ → Levels) (scanned : Bool)
-    (bytes : List ℕ) (frame : Frame) → Writes array said levels scanned bytes final last
-    → final.frame ≡ Some frame → is_progressive frame.process ≡ false → AllComplete frame last
-sequential-complete array said final levels last scanned bytes frame
-    (closed said' levels' f fill framed tables complete) e n = search (rules, same-frame)
-sequential-complete array said final levels last scanned bytes frame
-    (segment said' final' levels' last' scanned' fill s more may dct follows w) e n =
-    search (rules, sequential-complete array _ final levels last scanned more frame w e n)
-sequential-complete array said final levels last scanned bytes frame
-    (scan said' final' levels' last' scanned' f fill header ks data_bytes more framed is legal written w) e n =
-    search (rules, sequential-complete array said final _ last true more frame w e n)
+levels-sized : (array : Coefficients) (bytes : List ℕ) (final : Found) (last : ℕ → Levels)
+    → WritesImage array bytes final last → (k : ℕ) → length (last k).acs ≡ 63
+levels-sized array bytes final last w =
+    (keeps (λ said levels. (k : ℕ) → length (levels k).acs ≡ 63) nothing_found final (λ k. nothing_sent) last w.after
+    (λ now levels s stands may h. h)
+    (λ now levels next f h data_bytes e framed x sized.
+    subst (λ (l : ℕ → Levels). (k : ℕ) → length (l k).acs ≡ 63) x.sent (after-length _ _ levels sized))
+    w.written (λ k. refl)).0
 
 pub whole-is : (settings : Settings) (array : Coefficients) (bytes tail : List ℕ) (final : Found) (last : ℕ → Levels)
     (frame : Frame) → ((index row column : ℕ) → Is8Bit (array index row column))
     → WritesImage array bytes final last → final.frame ≡ Some frame → AllComplete frame last
     → meaning_of_array settings final array last tail ≡ whole_meaning settings final array tail
-whole-is settings array bytes tail final last frame range w e done = search (rules, levels-sized, picture-whole)
+whole-is settings array bytes tail final last frame range w e done =
+    let sized = levels-sized array bytes final last w in search (rules, sized, picture-whole)
 
 pub sequential-whole : (array : Coefficients) (bytes : List ℕ) (final : Found) (last : ℕ → Levels) (frame : Frame)
     → WritesImage array bytes final last → final.frame ≡ Some frame
     → is_progressive frame.process ≡ false → AllComplete frame last
-sequential-whole array bytes final last frame w e n = search (rules, sequential-complete)
+sequential-whole array bytes final last frame w e n =
+    let c = (keeps (λ said levels. Unit {0}) nothing_found final (λ k. nothing_sent) last w.after (λ now x s a b p. tt)
+    (λ now x next f h data_bytes a b q p. tt) w.written tt).2 in
+    let same = same-frame c.frame frame final.frame c.is_said e in
+    subst (λ (f : Frame). AllComplete f last) same
+    (c.ended.2 (subst (λ (f : Frame). is_progressive f.process ≡ false) (sym same) n))
 
 -- ---- at a scale
 
@@ -144,4 +136,4 @@ pub sized-whole : (width height : ℕ) (settings : Settings) (array : Coefficien
     → meaning_of_array settings (sized_to width height final) array last tail
     ≡ whole_meaning settings (sized_to width height final) array tail
 sized-whole width height settings array bytes tail final last frame range w e done =
-    search (rules, levels-sized, sized-count, picture-whole)
+    let levels = levels-sized array bytes final last w in search (rules, levels, sized-count, picture-whole)

@@ -1,6 +1,6 @@
 -- A sequential stream of three components, with padding and a restart, worked by hand, is one that is written.
 use Rattle.std.proofs.Common.{rules, ◌≡◌, ℕ, zero, suc, ◌*◌, ◌+◌, Bool, true, false, List, [], ◌∷◌, ◌++◌}
-use Rattle.std.proofs.Common.{replicate, ℤ, pos, negsuc, ◌-ℤ◌, Some, refl, sym, subst, arith, true≢false}
+use Rattle.std.proofs.Common.{replicate, ℤ, pos, negsuc, ◌-ℤ◌, Some, refl, subst, arith}
 use Rattle.std.proofs.lemmas.Option.{get_or_from_slice_get}
 use Rattle.std.specs.Prelude.{get_or, set}
 use Rattle.jpeg_bits.specs.Codes.{Table, lengths_from, code_value, codes_exist}
@@ -34,11 +34,14 @@ use Rattle.jpeg_streams.specs.WrittenData.WritesBand.{ended}
 use Rattle.jpeg_streams.specs.WrittenData.WritesBlocks.{done, block}
 use Rattle.jpeg_streams.specs.WrittenData.WritesDc.{whole}
 use Rattle.jpeg_bits.specs.Written.WritesIntervals.{another, last}
-use Rattle.jpeg_streams.specs.WrittenImages.{closed, scan, segment}
-use Rattle.jpeg_streams.specs.WrittenScans.{IsComplete, IsLegalScan, IsOwn, WritesScan, levels_after}
+use Rattle.jpeg_streams.specs.WrittenScans.{IsComplete, IsLegalScan, IsOwn, WritesScan}
+use Rattle.jpeg_streams.specs.WrittenScans.{levels_after}
+use Rattle.jpeg_streams.specs.WrittenStreams.{end, scan, segment}
 use Rattle.jpeg_streams.proofs.CutLevels.{all-same}
 use Rattle.jpeg_streams.proofs.TestedParts.{category-by, frame-by, interval-by, is_category, one-quantizes, range-by}
-use Rattle.jpeg_streams.proofs.TestedParts.{own_block, range-in, scan-by, scan-legal, table-by, table_of_one}
+use Rattle.jpeg_streams.proofs.TestedParts.{own_block, range-in, scan-by, scan-legal, table-by}
+use Rattle.jpeg_streams.proofs.TestedParts.{table_of_one}
+use Rattle.jpeg_streams.proofs.WalkedStreams.{closes}
 
 -- ---- what is written
 
@@ -184,6 +187,9 @@ said_2 = found_after (found_after said_1 (Header 0 header)) (segment_of (table c
 abbrev said : Found
 said = found_after (found_after said_2 (segment_of (table classes.AC 0))) (Interval 1)
 
+abbrev scanned : Found
+scanned = record said { scanned = true }
+
 abbrev sent : ℕ → Levels
 sent = levels_after (pass_of (scan_written the_frame the_header)) (0 ∷ 1 ∷ 2 ∷ []) (λ k. nothing_sent)
 
@@ -200,25 +206,24 @@ unfolding nothing_found frame_of component_of quantization_bytes frame_payload h
 colour-written =
     let whole : IsComplete (sent 0) = record { dc = refl; acs = all-same (Some 0) 63 } in
     record {
-      final = said;
+      final = scanned;
       last = sent;
       frame = the_frame;
       written = record {
         after = _;
         starts = refl;
         written =
-            segment nothing_found said _ sent false 0 (Quantization (table_of_one 0 16 ∷ [])) _
-            ((one-quantizes 0 16 (omega arith) (omega arith), tt), tt) tt (λ e. absurd (true≢false (sym e))) (
-            segment said_1 said _ sent false 0 (Header 0 header) _ ((refl, frame-by 0 header refl), refl)
-            (omega arith) (λ e. absurd (true≢false (sym e))) (
-            segment _ said _ sent false 0 (segment_of (table classes.DC 4)) _
-            ((table-by _ _ (omega arith) refl, tt), tt) tt (λ e. tt) (
-            segment said_2 said _ sent false 0 (segment_of (table classes.AC 0)) _
-            ((table-by _ _ (omega arith) refl, tt), tt) tt (λ e. tt) (
-            segment _ said _ sent false 0 (Interval 1) _ (tt, tt) tt (λ e. tt) (
-            scan said said _ sent false the_frame 0 the_header codings scan_bytes _ refl scan-is legal data-written (
-            closed said sent the_frame 0 refl (search rules)
-            (λ e. (whole, (whole, (whole, tt))))))))));
+            segment nothing_found scanned _ sent 0 (Quantization (table_of_one 0 16 ∷ [])) _
+            ((one-quantizes 0 16 (omega arith) (omega arith), tt), tt) refl (
+            segment said_1 scanned _ sent 0 (Header 0 header) _ ((refl, frame-by 0 header refl), refl) (omega arith) (
+            segment _ scanned _ sent 0 (segment_of (table classes.DC 4)) _ ((table-by _ _ (omega arith) refl, tt), tt) tt (
+            segment said_2 scanned _ sent 0 (segment_of (table classes.AC 0)) _
+            ((table-by _ _ (omega arith) refl, tt), tt) tt (
+            segment _ scanned _ sent 0 (Interval 1) _ (tt, tt) tt (
+            scan said scanned _ sent sent the_frame 0 the_header scan_bytes _ refl scan-is
+            (record { codings = codings; legal = legal; written = data-written; sent = refl }) (
+            end scanned sent _ (closes scanned the_frame 0 refl
+            (refl, search rules, λ e. (whole, (whole, (whole, tt)))))))))));
       };
       framed = refl;
       complete = (whole, (whole, (whole, tt)));

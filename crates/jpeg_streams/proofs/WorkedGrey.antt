@@ -1,6 +1,6 @@
 -- A progressive stream of three blocks, worked by hand, is one that is written.
 use Rattle.std.proofs.Common.{rules, ℕ, zero, suc, ◌*◌, ◌+◌, true, false, List, [], ◌∷◌, replicate, pos, negsuc, Some}
-use Rattle.std.proofs.Common.{refl, sym, arith, true≢false}
+use Rattle.std.proofs.Common.{refl, arith, true≢false}
 use Rattle.jpeg_bits.specs.Codes.{Table, lengths_from, code_value, codes_exist}
 use Rattle.jpeg_bits.specs.Written.{low_bits, bits_of_bytes, IsCoded, stuffed, number_for}
 use Rattle.jpeg_bits.specs.declared.codes.HuffmanTableClass.TheVariants as classes
@@ -29,11 +29,13 @@ use Rattle.jpeg_streams.specs.WrittenData.WritesBlocks.{done, block}
 use Rattle.jpeg_streams.specs.WrittenData.WritesDc.{other_band, whole, one_bit}
 use Rattle.jpeg_bits.specs.Written.WritesIntervals.{last}
 use Rattle.jpeg_streams.specs.WrittenData.WritesRefinement.{found, none_left}
-use Rattle.jpeg_streams.specs.WrittenImages.{closed, scan, segment}
 use Rattle.jpeg_streams.specs.WrittenScans.{IsLegalScan, WritesScan, levels_after}
+use Rattle.jpeg_streams.specs.WrittenStreams.{end, scan, segment}
 use Rattle.jpeg_streams.proofs.CutLevels.{all-same}
-use Rattle.jpeg_streams.proofs.TestedParts.{category-by, frame-by, interval-by, lone-own, one-quantizes, own_block, range-in}
-use Rattle.jpeg_streams.proofs.TestedParts.{scan-by, scan-legal, table-by, table_of_one}
+use Rattle.jpeg_streams.proofs.TestedParts.{category-by, frame-by, interval-by, lone-own}
+use Rattle.jpeg_streams.proofs.TestedParts.{one-quantizes, own_block, range-in, scan-by, scan-legal}
+use Rattle.jpeg_streams.proofs.TestedParts.{table-by, table_of_one}
+use Rattle.jpeg_streams.proofs.WalkedStreams.{closes}
 
 -- ---- what is written
 
@@ -220,11 +222,14 @@ sent_3 = after header_3 sent_2
 abbrev sent_4 : ℕ → Levels
 sent_4 = after header_4 sent_3
 
-abbrev Legal : ScanHeader → List Coding → (ℕ → Levels) → Type 0
-Legal h ks levels = IsLegalScan said the_frame levels (scan_written the_frame h) ks
+abbrev scanned : Found
+scanned = record said { scanned = true }
 
-legal : Legal header_1 (dc_coding ∷ []) (λ k. nothing_sent) × Legal header_2 (ac_coding ∷ []) sent_1
-    × Legal header_3 (dc_coding ∷ []) sent_2 × Legal header_4 (ac_coding ∷ []) sent_3
+abbrev Legal : Found → ScanHeader → List Coding → (ℕ → Levels) → Type 0
+Legal now h ks levels = IsLegalScan now the_frame levels (scan_written the_frame h) ks
+
+legal : Legal said header_1 (dc_coding ∷ []) (λ k. nothing_sent) × Legal scanned header_2 (ac_coding ∷ []) sent_1
+    × Legal scanned header_3 (dc_coding ∷ []) sent_2 × Legal scanned header_4 (ac_coding ∷ []) sent_3
 unfolding nothing_found updated frame_of component_of scan_of pass_of tables_of levels_after codings_of gathered
     component_coding
 legal = search (rules, scan-legal)
@@ -235,26 +240,27 @@ pub grey-written : IsWhollyWritten grey_array grey_bytes
 unfolding nothing_found frame_of component_of quantization_bytes frame_payload huffman_bytes scan_payload updated
     codes_exist lengths_from code_value levels_after pass_of scan_of accepted gathered rule_of source_of
 grey-written = record {
-  final = said;
+  final = scanned;
   last = sent_4;
   frame = the_frame;
   written = record {
     after = _;
     starts = refl;
-    written = segment nothing_found said _ sent_4 false 0 (Quantization (table_of_one 0 16 ∷ [])) _
-        ((one-quantizes 0 16 (omega arith) (omega arith), tt), tt) tt (λ e. absurd (true≢false (sym e))) (
-        segment said_1 said _ sent_4 false 0 (Header 2 header) _ ((refl, frame-by 2 header refl), refl)
-        (omega arith) (λ e. absurd (true≢false (sym e))) (
-        segment _ said _ sent_4 false 0 (segment_of dc_table) _ ((table-by _ _ (omega arith) refl, tt), tt) tt
-        (λ e. tt) (
-        segment _ said _ sent_4 false 0 (segment_of ac_table) _ ((table-by _ _ (omega arith) refl, tt), tt) tt
-        (λ e. tt) (
-        scan said said _ sent_4 false the_frame 0 header_1 (dc_coding ∷ []) _ _ refl scans-are.0 legal.0 sent.0 (
-        scan said said sent_1 sent_4 true the_frame 0 header_2 (ac_coding ∷ []) _ _ refl scans-are.1 legal.1 sent.1 (
-        scan said said sent_2 sent_4 true the_frame 0 header_3 (dc_coding ∷ []) _ _ refl scans-are.2 legal.2 sent.2 (
-        scan said said sent_3 sent_4 true the_frame 0 header_4 (ac_coding ∷ []) _ _ refl scans-are.3 legal.3 sent.3 (
-        closed said sent_4 the_frame 0 refl (refl, tt)
-        (λ e. absurd (true≢false e))))))))));
+    written = segment nothing_found scanned _ sent_4 0 (Quantization (table_of_one 0 16 ∷ [])) _
+        ((one-quantizes 0 16 (omega arith) (omega arith), tt), tt) refl (
+        segment said_1 scanned _ sent_4 0 (Header 2 header) _ ((refl, frame-by 2 header refl), refl) (omega arith) (
+        segment _ scanned _ sent_4 0 (segment_of dc_table) _ ((table-by _ _ (omega arith) refl, tt), tt) tt (
+        segment _ scanned _ sent_4 0 (segment_of ac_table) _ ((table-by _ _ (omega arith) refl, tt), tt) tt (
+        scan said scanned _ sent_1 sent_4 the_frame 0 header_1 _ _ refl scans-are.0
+        (record { codings = dc_coding ∷ []; legal = legal.0; written = sent.0; sent = refl }) (
+        scan scanned scanned sent_1 sent_2 sent_4 the_frame 0 header_2 _ _ refl scans-are.1
+        (record { codings = ac_coding ∷ []; legal = legal.1; written = sent.1; sent = refl }) (
+        scan scanned scanned sent_2 sent_3 sent_4 the_frame 0 header_3 _ _ refl scans-are.2
+        (record { codings = dc_coding ∷ []; legal = legal.2; written = sent.2; sent = refl }) (
+        scan scanned scanned sent_3 sent_4 sent_4 the_frame 0 header_4 _ _ refl scans-are.3
+        (record { codings = ac_coding ∷ []; legal = legal.3; written = sent.3; sent = refl }) (
+        end scanned sent_4 _ (closes scanned the_frame 0 refl
+        (refl, (refl, tt), λ e. absurd (true≢false e)))))))))));
   };
   framed = refl;
   complete = (record { dc = refl; acs = all-same (Some 0) 63 }, tt);

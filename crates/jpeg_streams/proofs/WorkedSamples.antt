@@ -29,12 +29,13 @@ use Rattle.jpeg_streams.specs.WorkedSamples.{AreWritten, lone_data, lone_scan, o
 use Rattle.jpeg_streams.specs.WorkedSamples.{padded_data, padded_header, padded_samples, padded_scan, plain_factors}
 use Rattle.jpeg_streams.specs.WorkedSamples.{table_segment, twice_factors, third_data, third_scan, three_bytes}
 use Rattle.jpeg_streams.specs.WorkedSamples.{three_header, three_samples}
-use Rattle.jpeg_streams.specs.WrittenLossless.{HoldSamples}
-use Rattle.jpeg_streams.specs.WrittenLossless.{WritesSamplesScan, closed, said_after_scan}
-use Rattle.jpeg_streams.specs.WrittenLossless.{scan, segment}
+use Rattle.jpeg_streams.specs.WrittenLossless.{HoldSamples, WritesSamplesScan}
+use Rattle.jpeg_streams.specs.WrittenStreams.{end, scan, segment}
 use Rattle.jpeg_streams.specs.LosslessScans.{LosslessCoding, lossless_coding, lossless_codings}
 use Rattle.jpeg_streams.specs.LosslessScans.{mcus_across, mcus_down, parts_of}
-use Rattle.jpeg_streams.proofs.TestedParts.{category-by, frame-by, interval-by, is_category, scan-by, table-by}
+use Rattle.jpeg_streams.proofs.TestedParts.{category-by, frame-by, interval-by, is_category}
+use Rattle.jpeg_streams.proofs.TestedParts.{scan-by, table-by}
+use Rattle.jpeg_streams.proofs.WalkedStreams.{closes}
 
 -- ---- what is said
 
@@ -48,7 +49,7 @@ abbrev said : FrameHeader → Found
 said h = found_after (tabled h) (Interval 2)
 
 abbrev scanned : FrameHeader → Found
-scanned h = said_after_scan (said h)
+scanned h = record (said h) { scanned = true }
 
 abbrev frame_by : FrameHeader → Frame
 frame_by h = frame_written 3 h
@@ -178,16 +179,20 @@ unfolding nothing_found frame_of codes_exist lengths_from code_value accepted co
 three-written = record {
   final = scanned three_header;
   written = record {
-    after = _;
-    starts = refl;
-    written =
-        segment nothing_found _ [] 0 (Header 3 three_header) _ (((refl, frame-by 3 three_header refl), refl), refl) (
-        segment (framed three_header) _ [] 0 table_segment _ (((table-by _ _ (omega arith) refl, tt), tt), tt) (
-        segment (tabled three_header) _ [] 1 (Interval 2) _ ((tt, tt), tt) (
-        scan (said three_header) _ [] _ 0 third_scan third_data _ refl refl are-scans.0 three-scans.0 (
-        scan (scanned three_header) _ (2 ∷ []) _ 0 other_scan other_data _ refl refl are-scans.1 three-scans.1 (
-        closed (scanned three_header) (0 ∷ 1 ∷ 2 ∷ []) (frame_by three_header) 0 refl refl
-        (refl, (refl, (refl, tt))))))));
+    sent = 0 ∷ 1 ∷ 2 ∷ [];
+    written = record {
+      after = _;
+      starts = refl;
+      written =
+          segment nothing_found _ [] _ 0 (Header 3 three_header) _ ((refl, frame-by 3 three_header refl), refl) refl (
+          segment (framed three_header) _ [] _ 0 table_segment _ ((table-by _ _ (omega arith) refl, tt), tt) tt (
+          segment (tabled three_header) _ [] _ 1 (Interval 2) _ (tt, tt) tt (
+          scan (said three_header) _ [] _ _ _ 0 third_scan third_data _ refl are-scans.0 (three-scans.0, refl) (
+          scan (scanned three_header) _ (2 ∷ []) _ _ _ 0 other_scan other_data _ refl are-scans.1
+          (three-scans.1, refl) (
+          end (scanned three_header) (0 ∷ 1 ∷ 2 ∷ []) _ (closes (scanned three_header) (frame_by three_header) 0 refl
+          (refl, (refl, (refl, tt)))))))));
+    };
   };
 }
 
@@ -237,16 +242,19 @@ unfolding nothing_found frame_of codes_exist lengths_from code_value accepted co
 padding-written = record {
   final = scanned padded_header;
   written = record {
-    after = _;
-    starts = refl;
-    written =
-        segment nothing_found _ [] 0 (Header 3 padded_header) _ (((refl, frame-by 3 padded_header refl), refl), refl)
-        (
-        segment (framed padded_header) _ [] 0 table_segment _ (((table-by _ _ (omega arith) refl, tt), tt), tt) (
-        segment (tabled padded_header) _ [] 0 (Interval 2) _ ((tt, tt), tt) (
-        scan (said padded_header) _ [] _ 0 padded_scan padded_data _ refl refl are-scans.2 padded-scans.0 (
-        scan (scanned padded_header) _ (0 ∷ 1 ∷ []) _ 0 lone_scan lone_data _ refl refl are-scans.3 padded-scans.1 (
-        closed (scanned padded_header) (2 ∷ 0 ∷ 1 ∷ []) (frame_by padded_header) 0 refl refl
-        (refl, (refl, (refl, tt))))))));
+    sent = 2 ∷ 0 ∷ 1 ∷ [];
+    written = record {
+      after = _;
+      starts = refl;
+      written =
+          segment nothing_found _ [] _ 0 (Header 3 padded_header) _ ((refl, frame-by 3 padded_header refl), refl) refl (
+          segment (framed padded_header) _ [] _ 0 table_segment _ ((table-by _ _ (omega arith) refl, tt), tt) tt (
+          segment (tabled padded_header) _ [] _ 0 (Interval 2) _ (tt, tt) tt (
+          scan (said padded_header) _ [] _ _ _ 0 padded_scan padded_data _ refl are-scans.2 (padded-scans.0, refl) (
+          scan (scanned padded_header) _ (0 ∷ 1 ∷ []) _ _ _ 0 lone_scan lone_data _ refl are-scans.3
+          (padded-scans.1, refl) (
+          end (scanned padded_header) (2 ∷ 0 ∷ 1 ∷ []) _ (closes (scanned padded_header) (frame_by padded_header) 0 refl
+          (refl, (refl, (refl, tt)))))))));
+    };
   };
 }

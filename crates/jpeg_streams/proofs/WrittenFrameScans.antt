@@ -5,7 +5,6 @@ use Rattle.std.proofs.lemmas.Grind.{common_steps}
 use Rattle.std.proofs.Math.Nat.{div-lt_iff_lt-mul}
 use Rattle.std.specs.List.{AllByRecursion}
 use lib.ListN.{length-map}
-use Rattle.std.proofs.lemmas.Simd.{map-map}
 use Rattle.jpeg_bits.specs.Codes.{code_lengths, lengths_from}
 use Rattle.jpeg_bits.specs.declared.codes.HuffmanTableClass.{HuffmanTableClass}
 use Rattle.jpeg_bits.specs.declared.marker.Marker.{Marker}

@@ -1,68 +1,47 @@
 -- Fronts of streams, and streams that mean one picture.
-use Rattle.std.proofs.Common.{rules, ◌≡◌, ℕ, ◌+◌, Bool, true, false, List, [], ◌∷◌, ◌++◌, map, Some}
-use Rattle.std.proofs.Common.{None, Result, Ok, Err, refl, sym, ap, ◌∙◌, ◌/◌, ◌%◌}
+use Rattle.std.proofs.Common.{rules, ◌≡◌, ℕ, ◌+◌, true, List, [], ◌∷◌, ◌++◌, Some, None, Result, Ok}
+use Rattle.std.proofs.Common.{Err, refl, sym, ap, ◌∙◌, ◌/◌, ◌%◌}
 use Rattle.std.proofs.Common.{subst, true≢false}
 use Rattle.std.specs.List.{AllByRecursion, enumerate_from}
 use Rattle.std.specs.Prelude.{slice_get, slice_index_or}
 use Rattle.jpeg_bits.specs.Reading.{Fault, ◌>>=◌}
 use Rattle.jpeg_segments.specs.Frame.{Component, Frame}
-use Rattle.jpeg_segments.specs.ScanHeaders.{scan_payload, scan_written}
-use Rattle.jpeg_segments.specs.WrittenSegments.{marker_code, payload_of, with_length}
+use Rattle.jpeg_segments.specs.ScanHeaders.{scan_written}
 use Rattle.jpeg_streams.specs.ArrayPictures.{picture_of_array, picture_of_blocks}
 use Rattle.jpeg_streams.specs.declared.settings.Settings.{Settings}
 use Rattle.jpeg_streams.specs.Levels.{Is8Bit, Levels, nothing_sent}
 use Rattle.jpeg_streams.specs.SaidSegments.{found_after}
 use Rattle.jpeg_segments.specs.Checks.{gathered}
-use Rattle.jpeg_streams.specs.ScanSegments.{Coding, is_progressive, pass_of}
+use Rattle.jpeg_streams.specs.ScanSegments.{Coding, is_progressive}
 use Rattle.jpeg_streams.specs.Found.{nothing_found, Found}
 use Rattle.jpeg_streams.specs.Stream.{Told, told_of}
 use Rattle.jpeg_streams.specs.FoundPictures.{picture_by}
 use Rattle.jpeg_streams.specs.WholeImages.{AllComplete}
-use Rattle.jpeg_streams.specs.WrittenImages.{closed, scan as then_scan, segment as then_segment, Writes, WritesImage}
-use Rattle.jpeg_streams.specs.WrittenParts.{AgreeOnOwn, HaveSamePicture, nothing, picture_meant_by, scan, segment}
+use Rattle.jpeg_streams.specs.WrittenImages.{WritesImage, ClosesImage, WritesPart}
+use Rattle.jpeg_streams.specs.WrittenParts.{AgreeOnOwn, HaveSamePicture, picture_meant_by}
 use Rattle.jpeg_streams.specs.WrittenParts.{WritesFront}
-use Rattle.jpeg_streams.specs.WrittenScans.{Coefficients, HasTable, levels_after}
+use Rattle.jpeg_streams.specs.WrittenScans.{Coefficients, HasTable}
 use Rattle.jpeg_streams.proofs.Apart.{at-all, get-at}
-use Rattle.jpeg_streams.proofs.ReadTurns.{codings-each, frame-kept, same-frame, scan-tail}
-use Rattle.jpeg_streams.proofs.ReadTurns.{segment-tail}
+use Rattle.jpeg_streams.proofs.ReadTurns.{codings-each, same-frame}
 use Rattle.jpeg_streams.proofs.LimitedPictures.{array_plane, limited-same}
+use Rattle.jpeg_streams.specs.WrittenStreams.{end, scan, segment}
+use Rattle.jpeg_streams.proofs.WalkedStreams.{closes, frame-kept, front-append}
 use Rattle.jpeg_streams.proofs.WholeImages.{whole-is}
 use Rattle.jpeg_streams.proofs.WrittenPictures.{stream-means}
 use Rattle.jpeg_bits.proofs.BandSteps.{bind_same}
 
 -- ---- fronts
 
-pub front-append : (array : Coefficients) (said next final : Found) (levels reached last : ℕ → Levels)
-    (scanned after : Bool) (front more : List ℕ)
-    → WritesFront array said levels scanned front next reached after → Writes array next reached after more final last
-    → Writes array said levels scanned (front ++ more) final last
-front-append array said next final levels reached last scanned after front more (nothing said' levels' scanned') w = w
-front-append array said next final levels reached last scanned after front more
-    (segment said' next' levels' reached' scanned' after' fill s others stands dct follows f) w =
-    subst (λ (l : List ℕ). Writes array said levels scanned l final last)
-    (sym (segment-tail fill (marker_code s) (with_length (payload_of s)) others more))
-    (then_segment said final levels last scanned fill s (others ++ more) stands dct follows
-    (front-append array (found_after said s) next final levels reached last scanned after others more f w))
-front-append array said next final levels reached last scanned after front more
-    (scan said' next' levels' reached' scanned' after' frame fill h codings data_bytes others framed is legal written
-    f) w = subst (λ (l : List ℕ). Writes array said levels scanned l final last)
-    (sym (scan-tail fill 218 (with_length (scan_payload h)) data_bytes others more))
-    (then_scan said final levels last scanned frame fill h codings data_bytes (others ++ more) framed is legal written
-    (front-append array said next final
-    (levels_after (pass_of (scan_written frame h)) (map (λ c. c.index) codings) levels) reached
-    last true after others
-    more f w))
-
 pub front-closed : (array : Coefficients) (front : List ℕ) (said : Found) (levels : ℕ → Levels) (frame : Frame)
-    → WritesFront array nothing_found (λ k. nothing_sent) false front said levels true → said.frame ≡ Some frame
-    → is_progressive frame.process ≡ true → AllByRecursion (HasTable said) frame.components
+    → WritesFront array nothing_found (λ k. nothing_sent) front said levels → said.scanned ≡ true
+    → said.frame ≡ Some frame → is_progressive frame.process ≡ true → AllByRecursion (HasTable said) frame.components
     → WritesImage array (255 ∷ 216 ∷ (front ++ (255 ∷ 217 ∷ []))) said levels
-front-closed array front said levels frame f framed progressive tables = record {
+front-closed array front said levels frame f scanned framed progressive tables = record {
   after = front ++ (255 ∷ 217 ∷ []);
   starts = refl;
-  written = front-append array nothing_found said said (λ k. nothing_sent) levels levels false true front
-      (255 ∷ 217 ∷ []) f
-      (closed said levels frame 0 framed tables (λ e. absurd (true≢false (sym progressive ∙ e))));
+  written = front-append nothing_found said said (λ k. nothing_sent) levels levels front (255 ∷ 217 ∷ []) f
+      (end said levels (255 ∷ 217 ∷ [])
+      (closes said frame 0 framed (scanned, tables, λ e. absurd (true≢false (sym progressive ∙ e)))));
 }
 
 -- ---- the picture alone
@@ -122,36 +101,37 @@ one-picture settings array first second rest others a b last_a last_b range w x 
 
 -- ---- padding
 
-also-writes : (a b : Coefficients) (said final : Found) (levels last : ℕ → Levels) (scanned : Bool) (bytes : List ℕ)
-    (frame : Frame)
-    → Writes a said levels scanned bytes final last → final.frame ≡ Some frame → AgreeOnOwn frame a b
-    → Writes b said levels scanned bytes final last
-also-writes a b said final levels last scanned bytes frame
-    (closed said' levels' g fill framed tables complete) e agree = closed said levels g fill framed tables complete
-also-writes a b said final levels last scanned bytes frame
-    (then_segment said' final' levels' last' scanned' fill s more may dct follows w) e agree =
-    then_segment said final levels last scanned fill s more may dct follows
-    (also-writes a b (found_after said s) final levels last scanned more frame w e agree)
-also-writes a b said final levels last scanned bytes frame
-    (then_scan said' final' levels' last' scanned' f fill h codings data_bytes more framed is legal written w) e
+also-writes : (a b : Coefficients) (said final : Found) (levels last : ℕ → Levels) (bytes : List ℕ) (frame : Frame)
+    → WritesPart a ClosesImage said levels bytes final last → final.frame ≡ Some frame → AgreeOnOwn frame a b
+    → WritesPart b ClosesImage said levels bytes final last
+also-writes a b said final levels last bytes frame (end said' levels' bytes' c) e agree = end said levels bytes c
+also-writes a b said final levels last bytes frame (segment said' final' levels' last' fill s more stands may w) e
     agree =
-    let p = pass_of (scan_written f h) in
-    let levels_1 = levels_after p (map (λ c. c.index) codings) levels in
+    segment said final levels last fill s more stands may
+    (also-writes a b (found_after said s) final levels last more frame w e agree)
+also-writes a b said final levels last bytes frame
+    (scan said' final' levels' next last' f fill h data_bytes more framed is x w) e agree =
     let same : f ≡ frame =
-    same-frame f frame final.frame (frame-kept a said final levels_1 last true more f w framed) e in
+    same-frame f frame final.frame (frame-kept (record said { scanned = true }) final next last more f w framed) e in
     let alike : AgreeOnOwn f a b = subst (λ (x : Frame). AgreeOnOwn x a b) (sym same) agree in
     let Here : Coding → Type 0 = λ k. slice_get f.components k.index ≡ Some k.component in
-    let here = codings-each Here said f (scan_written f h) codings legal.are_in_force (λ index d a k is. is.component) in
-    then_scan said final levels last scanned f fill h codings data_bytes more framed is legal
+    let here = codings-each Here said f (scan_written f h) x.codings x.legal.are_in_force
+    (λ index d a k is. is.component) in
+    scan said final levels next last f fill h data_bytes more framed is
     (record {
-      sent = written.sent;
-      in_range = written.in_range;
-      is_own = λ s k got own. written.is_own s k got own
-          ∙ alike k.index (s.index / k.component.blocks_wide) (s.index % k.component.blocks_wide) k.component
-          (at-all Here s.slot codings k here (get-at s.slot codings k got)) own.row own.column;
-      coded = written.coded;
+      codings = x.codings;
+      legal = x.legal;
+      written = record {
+        sent = x.written.sent;
+        in_range = x.written.in_range;
+        is_own = λ s k got own. x.written.is_own s k got own
+            ∙ alike k.index (s.index / k.component.blocks_wide) (s.index % k.component.blocks_wide) k.component
+            (at-all Here s.slot x.codings k here (get-at s.slot x.codings k got)) own.row own.column;
+        coded = x.written.coded;
+      };
+      sent = x.sent;
     })
-    (also-writes a b said final levels_1 last true more frame w e agree)
+    (also-writes a b (record said { scanned = true }) final next last more frame w e agree)
 
 pub also-written : (a b : Coefficients) (bytes : List ℕ) (final : Found) (last : ℕ → Levels) (frame : Frame)
     → WritesImage a bytes final last → final.frame ≡ Some frame → AgreeOnOwn frame a b → WritesImage b bytes final last

@@ -9,7 +9,7 @@ use Rattle.std.proofs.lemmas.Nat.{div-mul-add, mod-mul-add}
 use Rattle.std.proofs.lemmas.Bool.{eq-eqb}
 use Rattle.std.proofs.lemmas.List.FromFn.{get_or-map-range_with_len, length-map-range_with_len}
 use Rattle.std.specs.List.{AllByRecursion, enumerate_from, range_with_len, list_all}
-use Rattle.jpeg_bits.specs.Reading.{Fault, ◌>>=◌}
+use Rattle.jpeg_bits.specs.Reading.{Fault, ◌>>=◌, Outcome}
 use Rattle.jpeg_bits.specs.declared.color_transform.ColorTransform.{ColorTransform}
 use Rattle.jpeg_pixels.specs.Colour.{conversion_of}
 use Rattle.jpeg_pixels.specs.declared.upsampler.ColorConvert.{ColorConvert}
@@ -28,27 +28,27 @@ use Rattle.jpeg_streams.specs.FoundPictures.{plane_at_end, picture_of, picture_b
 use Rattle.jpeg_streams.specs.FoundPictures.{picture_by, picture_in}
 use Rattle.jpeg_streams.specs.Rasters.{plane_by, plane_of_blocks}
 use Rattle.jpeg_streams.specs.ScanSegments.{is_progressive}
-use Rattle.jpeg_streams.specs.Found.{Found, Metadata, nothing_found}
+use Rattle.jpeg_streams.specs.Found.{Found, Metadata}
 use Rattle.jpeg_segments.specs.declared.parser.CodingProcess.{CodingProcess}
 use Rattle.jpeg_segments.specs.declared.parser.CodingProcess.TheVariants.{Lossless}
-use Rattle.jpeg_streams.specs.Stream.{rest_at, meaning, start_at, segments_at, told_of, walk}
-use Rattle.jpeg_streams.specs.declared.before.Before.TheVariants.{Elsewhere}
+use Rattle.jpeg_streams.specs.Stream.{meaning, Told, told_of}
 use Rattle.jpeg_streams.specs.Levels.{Levels, Is8Bit, cut}
 use Rattle.jpeg_streams.proofs.FinishedIndices.{is_level_0}
 use Rattle.jpeg_streams.specs.WrittenScans.{Coefficients, HasTable, IsComplete}
 use Rattle.jpeg_streams.specs.ArrayPictures.{HasTransform, IsTransformOf, TakesPicture}
 use Rattle.jpeg_streams.specs.ArrayPictures.{as_sent, picture_of_blocks}
-use Rattle.jpeg_streams.specs.ArrayPictures.{picture_of_array}
+use Rattle.jpeg_streams.specs.ArrayPictures.{meaning_of_array, picture_of_array}
 use Rattle.jpeg_streams.specs.WrittenImages.{WritesImage}
 use Rattle.jpeg_streams.proofs.OwnSpots.{At, at-within, Fits, in-below}
 use Rattle.jpeg_streams.proofs.WrittenFrameScans.{HoldsOwn, in-all}
 use Rattle.jpeg_streams.proofs.Apart.{at-all}
-use Rattle.jpeg_streams.proofs.ReadStates.{reading, is_whole}
-use Rattle.jpeg_streams.proofs.BroughtLevels.{Made, Shaped, kept-arrays}
-use Rattle.jpeg_streams.proofs.ReadTurns.{segments-walked, then-ok}
+use Rattle.jpeg_streams.proofs.ReadStates.{is_whole}
+use Rattle.jpeg_streams.proofs.BroughtLevels.{Made, Shaped, kept-arrays, Framed}
+use Rattle.jpeg_streams.proofs.ReadTurns.{then-ok, same-frame}
 use Rattle.jpeg_streams.proofs.LimitedPictures.{array_plane, limited-ok, limited-same}
-use Rattle.jpeg_streams.proofs.FrameShapes.{below-ceiling, accepted-sources}
-use Rattle.jpeg_streams.proofs.ReadStreams.{Ended, scans-read, stream-read}
+use Rattle.jpeg_streams.proofs.FrameShapes.{below-ceiling}
+use Rattle.jpeg_streams.proofs.ReadStreams.{image-walked, ImageMeant, Progress, ReadImage}
+use Rattle.jpeg_streams.proofs.ReadStreams.{with_progress}
 use Rattle.jpeg_streams.proofs.InsidePictures.{SamePlane, AllAlike, image-same, cropped-same}
 
 -- ---- one plane
@@ -146,10 +146,23 @@ end-kept : (found : Found) (f : Frame) (k : ℕ) (c : Component) (table : List �
 unfolding plane_at_end
 end-kept found f k c table n p s t = search (rules, then-ok)
 
-module _ (f : Frame) (array : Coefficients) (final : Found) (last : ℕ → Levels) (shape : Shaped f)
-    (end : Ended f array final last) where
+module _ (array : Coefficients) (final : Found) (last : ℕ → Levels) (r : ReadImage array final last) where
+  abbrev f : Frame
+  f = r.frame
+
+  abbrev x : Progress
+  x = r.brought
+
   abbrev found : Found
-  found = reading final true end.kept end.finished end.planes
+  found = with_progress final x
+
+  shape : Shaped f
+  shape = (r.said.shaped f r.framed).0
+
+  framed : Framed final f array last true x.0 x.1 x.2
+  framed =
+      let h = r.held.framed r.ended.0 in
+      subst (λ (g : Frame). Framed final g array last true x.0 x.1 x.2) (same-frame h.0 f final.frame h.1 r.framed) h.2
 
   plane-end : (k : ℕ) (c : Component) → At k f.components c → PlaneAtEnd found f array (last k) k c
   plane-end k c t = go (is_whole (last k)) refl (is_progressive f.process) refl
@@ -157,7 +170,7 @@ module _ (f : Frame) (array : Coefficients) (final : Found) (last : ℕ → Leve
       go : (b : Bool) → is_whole (last k) ≡ b → (p : Bool) → is_progressive f.process ≡ p
           → PlaneAtEnd found f array (last k) k c
       go true e p g =
-          let o = (end.framed.marked.planes k c t).decided e in
+          let o = (framed.marked.planes k c t).decided e in
           record {
             table = o.table;
             is_table = o.is_table;
@@ -166,19 +179,18 @@ module _ (f : Frame) (array : Coefficients) (final : Found) (last : ℕ → Leve
             is = end-decided found f k c (plane_by c o.table o.blocks) o.plane;
           }
       go false e true g =
-          let n = (end.framed.marked.planes k c t).undecided e in
-          let q = some-there _ (at-all (HasTable final) k f.components c end.tables t) in
+          let n = (framed.marked.planes k c t).undecided e in
+          let q = some-there _ (at-all (HasTable final) k f.components c r.ended.1 t) in
           record {
             table = q.0;
             is_table = q.1;
-            blocks = get_or end.kept k [];
+            blocks = get_or x.0 k [];
             holds = subst (λ (a : Arrays). HoldsOwn (grid_of c) (array k) (last k) (get_or a k []))
-                (kept-arrays final end.kept end.finished end.planes f g) ((end.framed.kept g).each
-                k c t);
-            is = end-kept found f k c q.0 n g refl q.1;
+                (kept-arrays final x.0 x.1 x.2 f g) ((framed.kept g).each k c t);
+            is = end-kept found f k c q.0 n g r.ended.0 q.1;
           }
       go false e false g =
-          let all = in-all (λ (j : ℕ). IsComplete (last j)) (range_with_len 0 (length f.components)) k (end.complete g)
+          let all = in-all (λ (j : ℕ). IsComplete (last j)) (range_with_len 0 (length f.components)) k (r.ended.2 g)
           (in-below k (length f.components) (at-within k f.components c t)) in
           absurd (true≢false (sym (complete-whole (last k) all) ∙ e))
 
@@ -190,12 +202,11 @@ module _ (f : Frame) (array : Coefficients) (final : Found) (last : ℕ → Leve
     theirs_are : gathered (array_plane final (as_sent array last)) (enumerate_from index components) ≡ Ok theirs
     alike : AllAlike components ours theirs
 
-  planes-end : (scaled : (k : ℕ) (c : Component) → At k f.components c → 0 < c.scale) (index : ℕ)
-      (components : List Component)
+  planes-end : (index : ℕ) (components : List Component)
       → ((j : ℕ) (c : Component) → At j components c → At (index + j) f.components c) → BothPlanes
       index components
   unfolding gathered
-  planes-end scaled index [] within = record {
+  planes-end index [] within = record {
     ours = [];
     theirs = [];
     ours_are = refl;
@@ -203,12 +214,12 @@ module _ (f : Frame) (array : Coefficients) (final : Found) (last : ℕ → Leve
         = refl;
     alike = tt;
   }
-  planes-end scaled index (c ∷ more) within =
+  planes-end index (c ∷ more) within =
       let start : index + 0 ≡ index = omega arith in
       let t : At index f.components c = subst (λ (n : ℕ). At n f.components c) start (within 0 c
       refl) in
       let e = plane-end index c t in
-      let others = planes-end scaled (index + 1) more
+      let others = planes-end (index + 1) more
       (λ j d u. let next : index + suc j ≡ (index + 1) + j = omega arith in
       subst (λ (n : ℕ). At n f.components d) next (within (suc j) d u)) in
       record {
@@ -223,14 +234,14 @@ module _ (f : Frame) (array : Coefficients) (final : Found) (last : ℕ → Leve
             (then-ok (gathered (array_plane final (as_sent array last)) (enumerate_from (index + 1) more)) _
             others.theirs _ others.theirs_are refl);
         alike = (
-          plane-same f c e.table (last index) (array index) e.blocks (scaled index c t)
+          plane-same f c e.table (last index) (array index) e.blocks (scale-made f shape.made index c t)
               (shape.fits index c t) e.holds,
           others.alike,
         );
       }
 
   both-planes : BothPlanes 0 f.components
-  both-planes = planes-end (scale-made f shape.made) 0 f.components
+  both-planes = planes-end 0 f.components
       (λ j c t. let start : 0 + j ≡ j = omega arith in subst (λ (n : ℕ). At n f.components c) (sym start) t)
 
 -- ---- the picture
@@ -251,44 +262,37 @@ lossy-picture : (settings : Settings) (all : Found) (f : Frame) (p : CodingProce
 lossy-picture settings all f Lossless n = absurd (n refl)
 lossy-picture settings all f p n = refl
 
-pub pictures-same : (settings : Settings) (f : Frame) (array : Coefficients) (final : Found) (last : ℕ → Levels)
-    → Shaped f → (end : Ended f array final last)
-    → picture_of settings (reading final true end.kept end.finished end.planes)
-    ≡ picture_of_array settings final array last
+pictures-same : (settings : Settings) (array : Coefficients) (final : Found) (last : ℕ → Levels)
+    → (r : ReadImage array final last)
+    → picture_of settings (with_progress final r.brought) ≡ picture_of_array settings final array last
 unfolding picture_of picture_of_blocks blocks_picture
-pictures-same settings f array final last shape end =
-    let all = reading final true end.kept end.finished end.planes in
-    let b = both-planes f array final last shape end in
-    limited-same settings all final f f _ _ end.frame_is end.frame_is refl
-    (lossy-picture settings all f f.process shape.lossy
+pictures-same settings array final last r =
+    let f = r.frame in
+    let all = with_progress final r.brought in
+    let is = shape array final last r in
+    let b = both-planes array final last r in
+    limited-same settings all final f f _ _ r.framed r.framed refl
+    (lossy-picture settings all f f.process is.lossy
     ∙ then-ok (gathered (plane_at_end all f) (enumerate_from 0 f.components)) _ b.ours _ b.ours_are
-    (picture-by-same settings final.metadata f f.components b.ours b.theirs refl shape.made b.alike)
+    (picture-by-same settings final.metadata f f.components b.ours b.theirs refl is.made b.alike)
     ∙ sym (then-ok (gathered (array_plane final (as_sent array last)) (enumerate_from 0 f.components)) _ b.theirs _
     b.theirs_are refl))
 
-pub rest-by : (settings : Settings) (found all : Found) (bytes rest : List ℕ)
-    → walk (suc (length bytes)) false Elsewhere found None bytes ≡ (all, Ok rest)
-    → rest_at settings found bytes ≡ (picture_of settings all >>= (λ picture. Ok ((told_of all, picture), rest)))
-unfolding rest_at
-rest-by settings found all bytes rest e =
-    then-ok (segments_at false Elsewhere found None bytes) _ (all, rest) _ (segments-walked _ _ _ _ _ _ e) refl
+-- What the end of a stream means is the picture of its array, cut at the levels that were sent.
+pub pictured : (settings : Settings) (array : Coefficients) (final : Found) (last : ℕ → Levels) (tail : List ℕ)
+    (meant : Outcome (Told × List ℕ)) → ImageMeant settings array final last tail meant
+    → meant ≡ meaning_of_array settings final array last tail
+pictured settings array final last tail meant r =
+    r.1 ∙ ap (λ (o : Result (List ℕ) Fault). o >>= (λ (picture : List ℕ). Ok ((told_of final, picture), tail)))
+    (pictures-same settings array final last r.0)
 
--- The meaning of a written stream is the picture of its array, cut at the levels that were sent.
 pub stream-means : (settings : Settings) (array : Coefficients) (bytes rest : List ℕ) (final : Found)
     (last : ℕ → Levels)
     → ((index row column : ℕ) → Is8Bit (array index row column)) → WritesImage array bytes final
     last
-    → meaning settings (bytes ++ rest)
-    ≡ (picture_of_array settings final array last >>= (λ picture. Ok ((told_of final, picture), rest)))
-unfolding meaning
+    → meaning settings (bytes ++ rest) ≡ meaning_of_array settings final array last rest
 stream-means settings array bytes rest final last range w =
-    let r = stream-read array rest bytes final last w in
-    let s = scans-read array rest final last _ _ range r.header in
-    let all = reading final true s.end.kept s.end.finished s.end.planes in
-    (then-ok (start_at (bytes ++ rest)) _ (tt, r.rest) _ r.starts refl)
-    ∙ rest-by settings nothing_found all r.rest rest s.is
-    ∙ ap (λ (o : Result (List ℕ) Fault). o >>= (λ (picture : List ℕ). Ok ((told_of final, picture), rest)))
-    (pictures-same settings r.header.frame array final last r.header.shape s.end)
+    pictured settings array final last rest _ (image-walked settings array bytes rest final last range w)
 
 -- ---- there is a picture
 
@@ -316,24 +320,28 @@ picture-there settings w f (c ∷ d ∷ more) ours planes sources t e h =
     ))
 picture-there settings w f components ours planes sources t e h = absurd h
 
--- The picture of an array that is taken.
-pub pictures-taken : (settings : Settings) (array : Coefficients) (final : Found) (last : ℕ → Levels) (f : Frame)
-    (sources : List Source) → Shaped f → Ended f array final last
-    → sources_of f.components f.output_width f.output_height ≡ Ok sources → TakesPicture settings
-    final
+-- Where the settings take the picture, there is one.
+pub taken : (settings : Settings) (array : Coefficients) (final : Found) (last : ℕ → Levels) (tail : List ℕ)
+    (meant : Outcome (Told × List ℕ)) → ImageMeant settings array final last tail meant → TakesPicture settings final
     → (picture : List ℕ) × (picture_of_array settings final array last ≡ Ok picture)
+    × (meant ≡ Ok ((told_of final, picture), tail))
 unfolding picture_of_blocks
-pictures-taken settings array final last f sources shape end is takes =
-    let same : takes.frame ≡ f = cc in
-    let b = both-planes f array final last shape end in
+taken settings array final last tail meant r takes =
+    let f = r.0.frame in
+    let sources = (r.0.said.shaped f r.0.framed).1 in
+    let same : takes.frame ≡ f = same-frame takes.frame f final.frame takes.is_said r.0.framed in
+    let b = both-planes array final last r.0 in
     let limit = subst (λ (g : Frame). length g.components * (g.output_width * g.output_height) ≤ settings.limit) same
     takes.limit in
-    let picture = picture-there settings final f f.components b.ours b.theirs sources
-    (subst (λ (g : Frame). HasTransform settings final g.components) same takes.transform) is b.alike in (
+    let picture = picture-there settings final f f.components b.ours b.theirs sources.0
+    (subst (λ (g : Frame). HasTransform settings final g.components) same takes.transform) sources.1 b.alike in
+    let is = limited-ok settings final f _ picture.0 r.0.framed limit
+    (then-ok (gathered (array_plane final (as_sent array last)) (enumerate_from 0 f.components)) _ b.theirs _
+    b.theirs_are picture.1) in (
       picture.0,
-      limited-ok settings final f _ picture.0 end.frame_is limit
-          (then-ok (gathered (array_plane final (as_sent array last)) (enumerate_from 0 f.components)) _ b.theirs _
-          b.theirs_are picture.1),
+      is,
+      pictured settings array final last tail meant r
+          ∙ then-ok (picture_of_array settings final array last) _ picture.0 _ is refl,
     )
 
 -- A written stream whose picture is taken means that picture.
@@ -343,14 +351,5 @@ pub taken-means : (settings : Settings) (array : Coefficients) (bytes rest : Lis
     → TakesPicture settings final
     → (picture : List ℕ) × (picture_of_array settings final array last ≡ Ok picture)
     × (meaning settings (bytes ++ rest) ≡ Ok ((told_of final, picture), rest))
-taken-means settings array bytes rest final last range w takes =
-    let r = stream-read array rest bytes final last w in
-    let f = r.header.frame in
-    let s = scans-read array rest final last _ _ range r.header in
-    let sources = accepted-sources f f r.header.is_accepted in
-    let p = pictures-taken settings array final last f sources.0 r.header.shape s.end sources.1 takes in (
-      p.0,
-      p.1,
-      stream-means settings array bytes rest final last range w
-          ∙ then-ok (picture_of_array settings final array last) _ p.0 _ p.1 refl,
-    )
+taken-means settings array bytes rest final last range w =
+    taken settings array final last rest _ (image-walked settings array bytes rest final last range w)

@@ -19,6 +19,7 @@ pub mod Levels
 pub mod WrittenData
 pub mod WrittenScans
 pub mod SaidSegments
+pub mod WrittenStreams
 pub mod WrittenImages
 pub mod ArrayPictures
 pub mod WholeImages

@@ -1,29 +1,24 @@
 -- Lossless streams as a writer emits them for samples (T.81, B.2.1 and Annex H). Nothing here
 -- reads bytes.
-use Rattle.std.specs.Prelude.{◌≡◌, ℕ, ◌*◌, ◌≤◌, List, [], ◌∷◌, ◌++◌, length, map, Ok, Some, take}
-use Rattle.std.specs.Prelude.{true}
+use Rattle.std.specs.Prelude.{◌≡◌, ℕ, ◌*◌, ◌≤◌, true, List, [], ◌∷◌, ◌++◌, length, map, Ok, Some}
+use Rattle.std.specs.Prelude.{take}
 use Rattle.std.specs.List.{AllByRecursion, range_with_len}
-use Rattle.jpeg_segments.specs.declared.parser.CodingProcess.TheVariants.{Lossless}
 use Rattle.jpeg_segments.specs.Frame.{Frame}
 use Rattle.jpeg_segments.specs.ScanHeader.{predictor_by}
-use Rattle.jpeg_segments.specs.ScanHeaders.{IsScan, ScanHeader, scan_payload, scan_written}
-use Rattle.jpeg_segments.specs.ScanHeaders.{selectors_in}
-use Rattle.jpeg_segments.specs.WrittenSegments.{marker_code, Header}
-use Rattle.jpeg_segments.specs.WrittenSegments.{payload_of}
-use Rattle.jpeg_segments.specs.WrittenSegments.{Segment, with_length}
+use Rattle.jpeg_segments.specs.ScanHeaders.{ScanHeader, scan_written, selectors_in}
+use Rattle.jpeg_segments.specs.WrittenSegments.{Header, Segment}
 use Rattle.jpeg_lossless.specs.Differences.{Part}
 use Rattle.jpeg_lossless.specs.Pictures.{picture_by_samples}
 use Rattle.jpeg_lossless.specs.Positions.{at_position}
-use Rattle.jpeg_lossless.specs.Scans.{is_of_rows, lines_by_component, rows_of_interval}
-use Rattle.jpeg_lossless.specs.Scans.{scan_tables}
+use Rattle.jpeg_lossless.specs.Scans.{is_of_rows, lines_by_component, rows_of_interval, scan_tables}
 use Rattle.jpeg_lossless.specs.Written.{WritesRows}
 use Rattle.jpeg_bits.specs.Codes.{Table}
 use Rattle.jpeg_bits.specs.DefaultTables.{names}
 use Rattle.jpeg_bits.specs.Intervals.{first_group, other_groups}
-use Rattle.jpeg_bits.specs.Written.{marker, WritesIntervals}
+use Rattle.jpeg_bits.specs.Written.{WritesIntervals}
 use Rattle.jpeg_streams.specs.LosslessScans.{LosslessCoding, lossless_codings, mcus_across}
 use Rattle.jpeg_streams.specs.LosslessScans.{mcus_down, way_of}
-use Rattle.jpeg_streams.specs.SaidSegments.{found_after, Stands}
+use Rattle.jpeg_streams.specs.WrittenStreams.{Closes, Starts, Writes}
 use Rattle.jpeg_streams.specs.Found.{nothing_found, Found}
 
 -- By its index in the frame, a component's lines of samples.
@@ -35,10 +30,6 @@ Samples = ℕ → List (List ℕ)
 abbrev pub IsLossless : Segment → Type 0
 IsLossless (Header number h) = number ≡ 3
 IsLossless _ = Unit {0}
-
--- The segment keeps its rules where so much is known.
-abbrev pub StandsInLossless : Found → Segment → Type 0
-StandsInLossless said s = Stands said s × IsLossless s
 
 -- ---- a scan
 
@@ -82,37 +73,24 @@ pub record WritesSamplesScan (said : Found) (frame : Frame) (h : ScanHeader) (sa
 
 -- ---- a stream
 
--- what is known after a scan
-abbrev pub said_after_scan : Found → Found
-said_after_scan said = record said { scanned = true }
+-- A scan, and the components that scans have had after it, by their indices in the frame.
+abbrev pub SendsSamples : Samples → Found → List ℕ → Frame → ScanHeader → List ℕ → List ℕ → Type 0
+SendsSamples samples said sent frame h bytes next =
+    WritesSamplesScan said frame h samples bytes
+    × (map (λ s. s.component) (selectors_in h) ++ sent ≡ next)
 
--- The rest of a stream, from a marker to the end of the image: what was said before it, and the
--- components that scans have had, by their indices; its bytes; and what is said at the end, where
--- scans have had all components.
-pub data Writes (samples : Samples) : Found → List ℕ → List ℕ → Found → Type 0 where
-  closed : (said : Found) (sent : List ℕ) (frame : Frame) (fill : ℕ)
-      → said.frame ≡ Some frame → frame.process ≡ Lossless
-      → AllByRecursion (λ k. names sent k ≡ true) (range_with_len 0 (length frame.components))
-      → Writes samples said sent (marker fill 217 []) said
-  segment : (said final : Found) (sent : List ℕ) (fill : ℕ) (s : Segment) (more : List ℕ)
-      → StandsInLossless said s → Writes samples (found_after said s) sent more final
-      → Writes samples said sent (marker fill (marker_code s) (with_length (payload_of s) ++ more))
-      final
-  scan : (said final : Found) (sent : List ℕ) (frame : Frame) (fill : ℕ) (h : ScanHeader)
-      (data_bytes more : List ℕ)
-      → said.frame ≡ Some frame → frame.process ≡ Lossless → IsScan frame h
-      → WritesSamplesScan said frame h samples data_bytes
-      → Writes samples (said_after_scan said) (map (λ s. s.component) (selectors_in h) ++ sent) more
-      final
-      → Writes samples said sent
-      (marker fill 218 (with_length (scan_payload h) ++ (data_bytes ++ more))) final
+-- The end of a lossless image: scans have had all components.
+abbrev pub ClosesSamples : Found → List ℕ → List ℕ → Type 0
+ClosesSamples said sent bytes =
+    Closes (λ frame. AllByRecursion (λ k. names sent k ≡ true)
+    (range_with_len 0 (length frame.components))) said bytes
 
 -- A stream for samples: SOI, and then segments and scans up to EOI. `final` is what is said at its
--- end.
+-- end, and `sent` the components that scans have had.
 pub record WritesSamples (samples : Samples) (bytes : List ℕ) (final : Found) : Type 0 where
-  pub after : List ℕ
-  pub starts : bytes ≡ 255 ∷ 216 ∷ after
-  pub written : Writes samples nothing_found [] after final
+  pub sent : List ℕ
+  pub written : Starts (λ after. Writes (λ said s. IsLossless s) (SendsSamples samples)
+      ClosesSamples nothing_found [] after final sent) bytes
 
 -- ---- its picture
 

@@ -1,46 +1,24 @@
 -- Streams that are written as far as some segment or scan, and streams that mean one picture.
-use Rattle.std.specs.Prelude.{◌≡◌, ℕ, ◌<◌, Bool, true, List, [], ◌++◌, map}
-use Rattle.std.specs.Prelude.{Some, None, slice_get, slice_index_or, Result, Ok}
+use Rattle.std.specs.Prelude.{◌≡◌, ℕ, ◌<◌, List, [], Some, None, slice_get, slice_index_or, Result}
+use Rattle.std.specs.Prelude.{Ok}
 use Rattle.std.specs.List.{AllByRecursion}
 use Rattle.jpeg_bits.specs.Reading.{Fault, ◌>>=◌}
 use Rattle.jpeg_segments.specs.Frame.{Component, Frame}
-use Rattle.jpeg_segments.specs.ScanHeaders.{IsScan, ScanHeader, scan_payload, scan_written}
-use Rattle.jpeg_segments.specs.WrittenSegments.{marker_code, payload_of, Segment, with_length}
 use Rattle.jpeg_streams.specs.Levels.{Levels}
 use Rattle.jpeg_streams.specs.Order.{grid_of}
-use Rattle.jpeg_streams.specs.SaidSegments.{found_after, Stands}
 use Rattle.jpeg_streams.specs.Stream.{meaning}
-use Rattle.jpeg_streams.specs.ScanSegments.{Coding, pass_of}
 use Rattle.jpeg_streams.specs.Found.{Found}
-use Rattle.jpeg_bits.specs.Written.{marker}
-use Rattle.jpeg_streams.specs.WrittenImages.{IsDctSegment, MayFollow}
-use Rattle.jpeg_streams.specs.WrittenScans.{Coefficients, IsLegalScan, levels_after, WritesScan}
+use Rattle.jpeg_streams.specs.WrittenImages.{WritesPart}
+use Rattle.jpeg_streams.specs.WrittenScans.{Coefficients}
 use Rattle.jpeg_streams.specs.declared.settings.Settings.{Settings}
 
 -- ---- fronts of a stream
 
 -- Some segments and scans that follow one another: what was said before them, the levels that were
--- sent and whether a scan was; their bytes; and the same after them.
-pub data WritesFront (array : Coefficients) :
-    Found → (ℕ → Levels) → Bool → List ℕ → Found → (ℕ → Levels) → Bool → Type 0 where
-  nothing : (said : Found) (levels : ℕ → Levels) (scanned : Bool)
-      → WritesFront array said levels scanned [] said levels scanned
-  segment : (said next : Found) (levels reached : ℕ → Levels) (scanned after : Bool) (fill : ℕ)
-      (s : Segment) (more : List ℕ)
-      → Stands said s → IsDctSegment s → (scanned ≡ true → MayFollow s)
-      → WritesFront array (found_after said s) levels scanned more next reached after
-      → WritesFront array said levels scanned
-      (marker fill (marker_code s) (with_length (payload_of s) ++ more)) next reached after
-  scan : (said next : Found) (levels reached : ℕ → Levels) (scanned after : Bool) (frame : Frame)
-      (fill : ℕ) (h : ScanHeader) (codings : List Coding) (data_bytes more : List ℕ)
-      → said.frame ≡ Some frame → IsScan frame h
-      → IsLegalScan said frame levels (scan_written frame h) codings
-      → WritesScan frame said.restart (pass_of (scan_written frame h)) codings array data_bytes
-      → WritesFront array said
-      (levels_after (pass_of (scan_written frame h)) (map (λ c. c.index) codings) levels) true
-      more next reached after
-      → WritesFront array said levels scanned
-      (marker fill 218 (with_length (scan_payload h) ++ (data_bytes ++ more))) next reached after
+-- sent; their bytes; and the same after them.
+abbrev pub WritesFront : Coefficients →
+    Found → (ℕ → Levels) → List ℕ → Found → (ℕ → Levels) → Type 0
+WritesFront array = WritesPart array (λ said levels bytes. bytes ≡ [])
 
 -- ---- pictures that are the same
 
