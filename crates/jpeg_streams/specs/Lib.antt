@@ -38,7 +38,7 @@ pub mod Sound
 pub mod Worked
 pub mod WorkedImages
 pub mod WorkedSamples
--- the code's own words: `Decoder` reaches `IsIn` and `AreArrays` of these
+-- the code's own words: laws on lossless streams reach `IsIn` of these
 pub mod InTurn
 -- the code's own words: the clauses of `Decoder`, `run` and `report` reach none of these
 pub mod McuRows
