@@ -1,12 +1,11 @@
 -- Laws of the samples.
-use Rattle.std.proofs.Common.{◌≡◌, ℕ, ◌<◌, ◌≤◌, List, get_or, ℤ, pos, negsuc, ◌+ℤ◌, ◌*ℤ◌}
-use Rattle.std.proofs.Common.{arith, true, unsigned_abs, rules}
+use Rattle.std.proofs.Common.{◌≡◌, ℕ, ◌<◌, ◌≤◌, List, get_or, ℤ, pos, negsuc, ◌+ℤ◌, ◌*ℤ◌, arith, true, unsigned_abs}
+use Rattle.std.proofs.Common.{rules}
 use Rattle.std.proofs.Math.Logic.{⊎_elim}
 use Rattle.std.proofs.lemmas.Bool.{cases_lt}
 use Rattle.std.proofs.lemmas.Int.{int_wrap_fits}
 use Rattle.std.specs.Int.{int_shr}
-use Rattle.jpeg_pixels.specs.Samples.{is_flat_column, is_zero_at, dequantized, sample, clamped}
-use Rattle.jpeg_pixels.specs.Samples.{HasFirstOnly}
+use Rattle.jpeg_pixels.specs.Samples.{is_flat_column, is_zero_at, dequantized, sample, clamped, HasFirstOnly}
 use Rattle.jpeg_bits.proofs.Ranges.{all_pass}
 use Rattle.jpeg_pixels.proofs.Columns.{flat_value}
 use Rattle.jpeg_pixels.proofs.Sums.{transformed_one}

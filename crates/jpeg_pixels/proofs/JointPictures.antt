@@ -5,8 +5,7 @@ use Rattle.std.proofs.Common.{arith, rules, length-drop, length-take}
 use Rattle.std.proofs.Math.Nat.{add-mul, lt_of_mul-lt-mul_left, mod-lt, mul_assoc}
 use Rattle.std.proofs.Math.Nat.{mul-div_cancel_left, mul-le-mul, mul-le-mul_left, mul-le-mul_right}
 use Rattle.std.proofs.lemmas.Bool.{eq-eqb}
-use Rattle.std.proofs.lemmas.List.{drop-drop, get_or-drop, length-take-le, places}
-use Rattle.std.proofs.lemmas.List.{take-append-drop}
+use Rattle.std.proofs.lemmas.List.{drop-drop, get_or-drop, length-take-le, places, take-append-drop}
 use Rattle.std.proofs.lemmas.List.Folds.{concat-append}
 use Rattle.std.proofs.lemmas.List.FromFn.{fill_by_all, get_or-map-range_with_len}
 use Rattle.std.proofs.lemmas.List.FromFn.{length-map-range_with_len, take-map-range_with_len}
@@ -22,8 +21,8 @@ use Rattle.jpeg_pixels.specs.Colour.{conversion_of, line_bytes}
 use Rattle.jpeg_pixels.specs.JointPlanes.{AreAlike, IsShapeOf, converted, gathered, joint_bytes}
 use Rattle.jpeg_pixels.specs.JointPlanes.{joint_plane, joint_planes, joint_row_size, strip_lines}
 use Rattle.jpeg_pixels.specs.JointPlanes.{strip_size, strips_at}
-use Rattle.jpeg_pixels.specs.Pictures.{Source, image_of, line_of, lines_of}
-use Rattle.jpeg_pixels.specs.Pictures.{converted_picture, picture_line, source_of, sources_of}
+use Rattle.jpeg_pixels.specs.Pictures.{Source, image_of, line_of, lines_of, converted_picture}
+use Rattle.jpeg_pixels.specs.Pictures.{picture_line, source_of, sources_of}
 use Rattle.jpeg_pixels.specs.Upsampling.{rule_of, upsampled}
 use Rattle.jpeg_pixels.specs.declared.upsampler.UpsampleRule.TheVariants.{H1V1}
 use Rattle.jpeg_pixels.specs.declared.joint_planes.JointShape.{JointShape}

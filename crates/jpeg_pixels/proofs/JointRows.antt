@@ -13,8 +13,7 @@ use Rattle.std.proofs.Math.Seq.{drop-append-add, take-append_seam}
 use Rattle.std.specs.List.{range_with_len, concat}
 use borrow.Rule.Slice.PartMut.{put_mid}
 use Rattle.jpeg_pixels.specs.JointPlanes.{HaveWidth, gathered, joint_plane, joint_row_size}
-use Rattle.jpeg_pixels.specs.JointPlanes.{strip_lines}
-use Rattle.jpeg_pixels.specs.JointPlanes.{strip_size}
+use Rattle.jpeg_pixels.specs.JointPlanes.{strip_lines, strip_size}
 use Rattle.jpeg_pixels.specs.declared.joint_planes.JointShape.{JointShape}
 use Rattle.jpeg_pixels.proofs.ComponentLines.{take-put}
 use Rattle.jpeg_pixels.proofs.JoinedLines.{AreLong-more, joined-length}

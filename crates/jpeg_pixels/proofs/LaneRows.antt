@@ -1,6 +1,6 @@
 -- Rows of lanes, by their numbers.
-use Rattle.std.proofs.Common.{◌≡◌, ℕ, ◌<◌, List, map, length, get_or, ℤ, pos, ◌+ℤ◌, ◌*ℤ◌, refl, sym}
-use Rattle.std.proofs.Common.{ap, ◌∙◌, replicate, FitsSigned, of_z, to_z, cond, eqb, true, false, Bool, lit<}
+use Rattle.std.proofs.Common.{◌≡◌, ℕ, ◌<◌, List, map, length, get_or, ℤ, pos, ◌+ℤ◌, ◌*ℤ◌, refl, sym, ap, ◌∙◌, replicate}
+use Rattle.std.proofs.Common.{FitsSigned, of_z, to_z, cond, eqb, true, false, Bool, lit<, arith, rules}
 use Rattle.std.specs.Int.{w32, int_shr, int_wrap}
 use Rattle.std.proofs.lemmas.List.FromFn.{fill_by_all}
 use lib.Lanes.{zip2, sel_l, top}
@@ -11,11 +11,10 @@ use Rattle.jpeg_pixels.specs.Samples.{dequantized, transformed, column_value, is
 use Rattle.jpeg_pixels.proofs.Sums.{transformed_same}
 pub use Rattle.jpeg_pixels.proofs.Sums.{eight_cases}
 use Rattle.jpeg_pixels.proofs.Columns.{flat_value, other_value}
-use Rattle.jpeg_pixels.proofs.LaneSums.{AreLanes, lane-lanes, lanes_same, lanes_read}
-use Rattle.jpeg_pixels.proofs.LaneSums.{lanes_read_fitting, lanes_given, lane_wrapped}
+use Rattle.jpeg_pixels.proofs.LaneSums.{AreLanes, lane-lanes, lanes_same, lanes_read, lanes_read_fitting, lanes_given}
+use Rattle.jpeg_pixels.proofs.LaneSums.{lane_wrapped}
 use Rattle.jpeg_pixels.proofs.LaneChoice.{settled_is}
 use Rattle.std.proofs.lemmas.Grind.{common_steps}
-use Rattle.std.proofs.Common.{arith, rules}
 
 pub lane_at_is : (rows : Rows) (f : ℕ → ℕ → ℤ) → HasNumbers rows f → (k j : ℕ) → k < 8 → j < 8
     → lane_at rows k j ≡ f k j

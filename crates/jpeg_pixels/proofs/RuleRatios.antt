@@ -1,7 +1,6 @@
 -- How many outputs a sample stands for by the rule of its component, and that samples reach the last output.
-use Rattle.std.proofs.Common.{◌≡◌, ◌≤◌, ◌<◌, ℕ, zero, suc, ◌+◌, ◌-◌, ◌*◌, ◌/◌, Bool, true, false, Option}
-use Rattle.std.proofs.Common.{Some, None, rules}
-use Rattle.std.proofs.Common.{◌⊎◌, inl, inr, refl, ap, sym, ◌∙◌, subst, arith}
+use Rattle.std.proofs.Common.{◌≡◌, ◌≤◌, ◌<◌, ℕ, zero, suc, ◌+◌, ◌-◌, ◌*◌, ◌/◌, Bool, true, false, Option, Some, None}
+use Rattle.std.proofs.Common.{rules, ◌⊎◌, inl, inr, refl, ap, sym, ◌∙◌, subst, arith}
 use Rattle.std.specs.Prelude.{◌==◌, ◌&&◌, ◌||◌, if◌then◌else◌}
 use Rattle.std.proofs.Math.Nat.{add-mul, div-add-mod, mul_assoc, mul_comm, le_of_mul-le-mul_left, mul-le-mul}
 use Rattle.std.proofs.Math.Nat.{mul-le-mul_right}

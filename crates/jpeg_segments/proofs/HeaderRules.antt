@@ -1,19 +1,16 @@
 -- A scan header that is written keeps the rules of scans.
 use Rattle.std.proofs.lemmas.List.{length-map}
-use Rattle.std.proofs.Common.{◌≡◌, ℕ, ◌+◌, true, List, [], ◌∷◌, map}
-use Rattle.std.proofs.Common.{All, arith, rules}
+use Rattle.std.proofs.Common.{◌≡◌, ℕ, ◌+◌, true, List, [], ◌∷◌, map, All, arith, rules}
 use Rattle.std.proofs.lemmas.Bool.{ltb-true}
 use Rattle.std.proofs.lemmas.Bool.Decides.{nat_tests}
 use Rattle.std.proofs.lemmas.List.Elements.{All-nil}
 use Rattle.std.proofs.lemmas.List.Quantifiers.{position-Some}
 use Rattle.jpeg_segments.specs.declared.parser.CodingProcess.{CodingProcess}
 use Rattle.jpeg_segments.specs.Frame.{Frame}
-use Rattle.jpeg_segments.specs.ScanHeader.{is_band, after_of, scan_of, IsBandOf, IsRising}
-use Rattle.jpeg_segments.specs.ScanHeader.{IsSelectorOf, Selector}
+use Rattle.jpeg_segments.specs.ScanHeader.{is_band, after_of, scan_of, IsBandOf, IsRising, IsSelectorOf, Selector}
 use Rattle.jpeg_segments.specs.ScanHeader.{IsScanOf}
 use Rattle.jpeg_segments.proofs.ScanLemmas.{is-scan, legal-again}
-use Rattle.jpeg_segments.specs.ScanHeaders.{ScanHeader, IsChoice, AreChoices}
-use Rattle.jpeg_segments.specs.ScanHeaders.{IsScan, scan_written}
+use Rattle.jpeg_segments.specs.ScanHeaders.{ScanHeader, IsChoice, AreChoices, IsScan, scan_written}
 use Rattle.jpeg_segments.proofs.Fields.{nibbles-high, nibbles-low}
 use Rattle.std.proofs.lemmas.Grind.{common_steps}
 

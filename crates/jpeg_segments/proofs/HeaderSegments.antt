@@ -1,30 +1,26 @@
 -- Frame headers and scan headers: exactly what is written is read.
 use Rattle.std.proofs.lemmas.Bool.Decides.{nat_tests}
 use Rattle.std.proofs.lemmas.List.{length-map}
-use Rattle.std.proofs.Common.{◌≡◌, ℕ, zero, suc, ◌≤◌, ◌<◌, ◌+◌, ◌*◌, ◌/◌, ◌%◌, Bool, false}
-use Rattle.std.proofs.Common.{List, [], ◌∷◌, ◌++◌, map, length, length-append, append-nil, append_assoc}
-use Rattle.std.proofs.Common.{Some, Ok, refl, sym, ap, ap₂, ◌∙◌, arith, eqb, leb, ltb, rules}
+use Rattle.std.proofs.Common.{◌≡◌, ℕ, zero, suc, ◌≤◌, ◌<◌, ◌+◌, ◌*◌, ◌/◌, ◌%◌, Bool, false, List, [], ◌∷◌, ◌++◌, map}
+use Rattle.std.proofs.Common.{length, length-append, append-nil, append_assoc, Some, Ok, refl, sym, ap, ap₂, ◌∙◌, arith}
+use Rattle.std.proofs.Common.{eqb, leb, ltb, rules}
 use Rattle.std.proofs.lemmas.Bool.{ne_eqb, eqb-false}
 use Rattle.std.specs.Prelude.{flat_map, not, ◌&&◌}
 use Rattle.jpeg_bits.specs.Reading.{Malformed, Lacks, ◌>>=◌}
 use Rattle.jpeg_bits.specs.declared.error.UnsupportedFeature.TheVariants.{DNL}
-use Rattle.jpeg_segments.specs.Frame.{Factors, Frame, frame_of, is_factor, is_destination}
-use Rattle.jpeg_segments.specs.Frame.{is_lossless_number, is_taken, is_precision, is_count}
-use Rattle.jpeg_segments.specs.Frame.{factors_at, components_from, size_at, sof_at}
+use Rattle.jpeg_segments.specs.Frame.{Factors, Frame, frame_of, is_factor, is_destination, is_lossless_number, is_taken}
+use Rattle.jpeg_segments.specs.Frame.{is_precision, is_count, factors_at, components_from, size_at, sof_at}
 use Rattle.jpeg_segments.specs.Checks.{check}
 use Rattle.jpeg_segments.specs.HuffmanTables.{greatest_destination}
-use Rattle.jpeg_segments.specs.ScanHeader.{Selector, index_of}
-use Rattle.jpeg_segments.specs.ScanHeader.{selector_at, selectors_from, is_mcu, is_band, scan_of, band_at}
-use Rattle.jpeg_segments.specs.ScanHeader.{count_at, sos_at}
-use Rattle.jpeg_segments.specs.WrittenSegments.{u16_bytes, with_length, nibbles, FrameHeader}
-use Rattle.jpeg_segments.specs.WrittenSegments.{factors_bytes}
-use Rattle.jpeg_segments.specs.WrittenSegments.{frame_payload, IsComponent, AreComponents}
-use Rattle.jpeg_segments.specs.WrittenSegments.{IsFrameHeader, frame_written}
-use Rattle.jpeg_segments.specs.ScanHeaders.{ScanHeader, choice_bytes, scan_payload, selectors_in}
-use Rattle.jpeg_segments.specs.ScanHeaders.{IsChoice, AreChoices, IsScan, scan_written}
+use Rattle.jpeg_segments.specs.ScanHeader.{Selector, index_of, selector_at, selectors_from, is_mcu, is_band, scan_of}
+use Rattle.jpeg_segments.specs.ScanHeader.{band_at, count_at, sos_at}
+use Rattle.jpeg_segments.specs.WrittenSegments.{u16_bytes, with_length, nibbles, FrameHeader, factors_bytes}
+use Rattle.jpeg_segments.specs.WrittenSegments.{frame_payload, IsComponent, AreComponents, IsFrameHeader, frame_written}
+use Rattle.jpeg_segments.specs.ScanHeaders.{ScanHeader, choice_bytes, scan_payload, selectors_in, IsChoice, AreChoices}
+use Rattle.jpeg_segments.specs.ScanHeaders.{IsScan, scan_written}
 use Rattle.jpeg_segments.proofs.Fields.{nibbles-high, nibbles-low}
-use Rattle.jpeg_segments.proofs.Codecs.{Codec, bind, ends, check-unless, checked, present, done, remap}
-use Rattle.jpeg_segments.proofs.Codecs.{namely, nil, cons, byte, u16, length-field}
+use Rattle.jpeg_segments.proofs.Codecs.{Codec, bind, ends, check-unless, checked, present, done, remap, namely, nil}
+use Rattle.jpeg_segments.proofs.Codecs.{cons, byte, u16, length-field}
 use Rattle.std.proofs.lemmas.Grind.{common_steps}
 
 -- ---- frame headers

@@ -1,13 +1,13 @@
 -- Frames at scales.
 use Rattle.std.proofs.lemmas.Simd.{map-map}
-use Rattle.std.proofs.Common.{◌≡◌, ◌≤◌, ◌<◌, ℕ, zero, suc, ◌+◌, ◌*◌, List, [], ◌∷◌, map, length, get_or, set}
-use Rattle.std.proofs.Common.{true, All, refl, ap, sym, ◌∙◌, arith, rules}
+use Rattle.std.proofs.Common.{◌≡◌, ◌≤◌, ◌<◌, ℕ, zero, suc, ◌+◌, ◌*◌, List, [], ◌∷◌, map, length, get_or, set, true, All}
+use Rattle.std.proofs.Common.{refl, ap, sym, ◌∙◌, arith, rules}
 use Rattle.std.proofs.lemmas.Bool.{eqb-true}
 use Rattle.std.proofs.lemmas.List.{length-map, map-set, get_or-map}
 use Rattle.std.proofs.lemmas.List.Elements.{All-get_or, All-nil}
 use Rattle.jpeg_segments.specs.declared.parser.Component.{Component as Seen}
-use Rattle.jpeg_segments.specs.Frame.{AllHaveSampling, Component, Factors, Frame, IsFrame, IsInRange}
-use Rattle.jpeg_segments.specs.Frame.{ceiling, component_of, frame_of, greatest}
+use Rattle.jpeg_segments.specs.Frame.{AllHaveSampling, Component, Factors, Frame, IsFrame, IsInRange, ceiling}
+use Rattle.jpeg_segments.specs.Frame.{component_of, frame_of, greatest}
 use Rattle.jpeg_segments.specs.FrameView.{component_in, factors_in}
 use Rattle.jpeg_segments.specs.Scales.{IsSizedFrame, component_at, frame_at, is_scale, scale_for}
 use Rattle.jpeg_segments.proofs.Ceilings.{ceiling-eights}

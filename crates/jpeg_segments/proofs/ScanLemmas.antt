@@ -1,7 +1,7 @@
 -- Steps of the parser of scan headers.
-use Rattle.std.proofs.Common.{All, sym, true, ◌∙◌, ◌≡◌, ◌≤◌, ℕ, zero, suc, ◌+◌, ◌-◌, ◌*◌, ◌<◌, Bool, not, cond}
-use Rattle.std.proofs.Common.{List, [], ◌∷◌, ◌++◌, map, length, refl, ap, subst, arith, get_or, nat_le, sum_by}
-use Rattle.std.proofs.Common.{append-nil, append_assoc, rules}
+use Rattle.std.proofs.Common.{All, sym, true, ◌∙◌, ◌≡◌, ◌≤◌, ℕ, zero, suc, ◌+◌, ◌-◌, ◌*◌, ◌<◌, Bool, not, cond, List}
+use Rattle.std.proofs.Common.{[], ◌∷◌, ◌++◌, map, length, refl, ap, subst, arith, get_or, nat_le, sum_by, append-nil}
+use Rattle.std.proofs.Common.{append_assoc, rules}
 use Rattle.std.specs.List.{position, position_or_len}
 use Rattle.std.proofs.lemmas.List.{length-map}
 use Rattle.std.proofs.lemmas.List.Elements.{All-head, All-map, All-tail, All-weaker}
@@ -15,8 +15,7 @@ use Rattle.jpeg_segments.specs.declared.scan_header.Selector.{Selector as Read}
 use Rattle.jpeg_segments.specs.Frame as frames
 use Rattle.jpeg_segments.specs.FrameView.{component_in, selector_of}
 use Rattle.jpeg_segments.specs.Parts.{HasBlocks}
-use Rattle.jpeg_segments.specs.ScanHeader.{IsBandOf, after_of, is_band, is_mcu, IsRising, IsScanOf}
-use Rattle.jpeg_segments.specs.ScanHeader.{IsSelectorOf, Scan}
+use Rattle.jpeg_segments.specs.ScanHeader.{IsBandOf, after_of, is_band, is_mcu, IsRising, IsScanOf, IsSelectorOf, Scan}
 use Rattle.jpeg_segments.specs.ScanHeader.{Selector, blocks_by, selector_at, selectors_from}
 use Rattle.std.proofs.lemmas.Grind.{common_steps}
 use Rattle.std.proofs.lemmas.Bool.Decides.{nat_tests}

@@ -1,7 +1,6 @@
-use Rattle.std.proofs.Common.{ℕ, List, [], ◌∷◌, All, arith, rules}
+use Rattle.std.proofs.Common.{List, [], ◌∷◌, All, arith, rules}
 use Rattle.std.proofs.lemmas.List.Elements.{All-cons, All-nil}
 use Rattle.jpeg_segments.specs.Frame.{Factors, IsInRange, component_of, frame_of}
-use Rattle.jpeg_segments.specs.FrameView.{component_in}
 use Rattle.jpeg_pixels.specs.Pictures.{HaveRoom}
 use Rattle.jpeg_pixels.proofs.FramesOfFactors.{by_factors, are-covered, have-factors}
 use Rattle.jpeg_pixels.proofs.color_tests.picture_of_halves.Goals as goal
