@@ -44,10 +44,8 @@ component number front = remap (bind _ byte (λ (i : ℕ). checked (not (is_take
     (grind (arith, common_steps, nat_tests)) refl
     (ap (λ (k : ℕ). x.0 ∷ k ∷ x.1.1 ∷ []) (omega arith)))
     (λ c is.
-    let high : nibbles c.horizontal c.vertical / 16 ≡ c.horizontal = search (rules, nibbles-high) in
-    let low : nibbles c.horizontal c.vertical % 16 ≡ c.vertical = search (rules, nibbles-low) in
     namely (c.identifier, (nibbles c.horizontal c.vertical, c.quantization))
-    (rw (high, low) (grind (arith, common_steps, nat_tests))) (rw (high, low)) refl)
+    (grind (arith, common_steps, nat_tests)) (grind (arith, common_steps)) refl)
 
 -- n components after those in `front`
 abbrev Follow : ℕ → ℕ → List Factors → List Factors → Type 0
@@ -147,10 +145,8 @@ choice frame least = remap (bind _ byte (λ (i : ℕ).
     (grind (arith, common_steps, nat_tests)) refl (ap (λ (k : ℕ). x.0 ∷ k ∷ []) (omega arith)))
     (λ c is.
     let small = greatest-small frame.is_baseline in
-    let high : nibbles c.1.dc c.1.ac / 16 ≡ c.1.dc = search (rules, nibbles-high) in
-    let low : nibbles c.1.dc c.1.ac % 16 ≡ c.1.ac = search (rules, nibbles-low) in
     namely (c.0, (c.1.component, nibbles c.1.dc c.1.ac))
-    (rw (high, low) (grind (arith, common_steps, nat_tests))) (rw (high, low)) refl)
+    (grind (arith, common_steps, nat_tests)) (grind (arith, common_steps)) refl)
 
 -- n components, the first of which stands at least at this place
 abbrev Choose : Frame → ℕ → ℕ → List (ℕ × Selector) → Type 0

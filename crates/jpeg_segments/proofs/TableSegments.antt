@@ -1,7 +1,7 @@
 -- Segments of tables: exactly what is written is read.
 use Rattle.std.proofs.Common.{◌≡◌, ℕ, zero, suc, ◌≤◌, ◌<◌, ◌+◌, ◌-◌, ◌*◌, ◌/◌, ◌%◌, Bool, true, false, cond, List, []}
-use Rattle.std.proofs.Common.{◌∷◌, ◌++◌, length, set, length-append, Option, Some, Ok, Err, refl, sym, ap, ◌∙◌, arith}
-use Rattle.std.proofs.Common.{eqb, leb, ltb, fold, rules}
+use Rattle.std.proofs.Common.{◌∷◌, ◌++◌, length, set, length-append, Option, Some, Ok, Err, refl, sym, ap, arith, eqb}
+use Rattle.std.proofs.Common.{leb, ltb, fold, rules}
 use Rattle.std.proofs.lemmas.Bool.{ltb-false, ltb-true, eq-eqb, eqb-true, eqb-false}
 use Rattle.std.specs.Prelude.{◌&&◌, flat_map, sum}
 use Rattle.std.specs.List.{AllByRecursion, list_all}
