@@ -116,16 +116,12 @@ transform-of (suc (suc (suc n))) h = absurd (false≢true h)
 
 icc-written : (bytes : List ℕ) → 14 < length bytes → begins_with bytes icc_name ≡ true
     → icc_name ++ get_or bytes 12 0 ∷ get_or bytes 13 0 ∷ drop 14 bytes ≡ bytes
-icc-written bytes long f =
-    grind (arith, common_steps, next-byte bytes 13, next-byte bytes 12, named-as bytes icc_name f)
+icc-written bytes long f = grind (arith, common_steps, next-byte, named-as, icc_name)
 
 adobe-written : (bytes : List ℕ) → 11 < length bytes → begins_with bytes adobe_name ≡ true
     → adobe_name ++ (take 5 (drop 6 bytes) ++ get_or bytes 11 0 ∷ drop 12 bytes) ≡ bytes
 adobe-written bytes long f =
-    ap (λ (l : List ℕ). adobe_name ++ (take 5 (drop 6 bytes) ++ l))
-    (next-byte bytes 11 long ∙ sym (drop-drop 5 6 bytes))
-    ∙ ap (λ (l : List ℕ). adobe_name ++ l) (take-append-drop 5 (drop 6 bytes))
-    ∙ named-as bytes adobe_name f
+    grind (arith, common_steps, ℕ, adobe_name, next-byte, drop-drop, take-append-drop, named-as)
 
 either : {A : Type 0} (b : Bool) → (b ≡ true → A) → (b ≡ false → A) → A
 either true if_true if_false = if_true refl
