@@ -1,4 +1,5 @@
 -- The picture of planes in one room: row of MCUs by row of MCUs.
+use Rattle.std.proofs.lemmas.Grind.{common_steps}
 use Rattle.std.proofs.Common.{◌≡◌, ℕ, ◌+◌, ◌-◌, ◌*◌, ◌/◌, ◌%◌, ◌<◌, ◌≤◌, List, [], ◌∷◌, ◌++◌}
 use Rattle.std.proofs.Common.{length, map, min, take, drop, get_or, ap, ◌∙◌, sym, refl, subst, Ok}
 use Rattle.std.proofs.Common.{arith, rules, length-drop, length-take}
@@ -60,8 +61,7 @@ pub strips-inside : (shape : JointShape) (row first size long whole : ℕ)
     → first ≡ joint_row_size shape → size ≡ joint_row_size shape → row < shape.rows → long ≡ whole
     → whole ≡ shape.rows * joint_row_size shape → row * first + size ≤ long
 strips-inside shape row first size long whole e f lt g is =
-    rw (e, f, g, is) (row_fits row (joint_row_size shape) shape.rows (joint_row_size shape) lt
-    (omega arith))
+    grind (arith, common_steps, row_fits, joint_row_size)
 
 -- and the samples have all of them
 strips-long : (shape : JointShape) (samples : List ℕ) (row : ℕ) → row < shape.rows
@@ -84,10 +84,7 @@ pub all-written : (convert : ColorConvert) (shape : JointShape) (width : ℕ) (s
     → AreWritten convert shape width samples height row out
     → take (height * (shape.count * width)) out ≡ joint_bytes convert shape width samples height
 all-written convert shape width samples height row out high end is =
-    let all : min height (row * shape.lines) ≡ height =
-    omega (arith, mul-le-mul_right shape.lines end) in
-    subst (λ (n : ℕ). take (n * (shape.count * width)) out
-    ≡ joint_bytes convert shape width samples n) all is
+    grind (arith, common_steps, mul-le-mul_right, ℕ, joint_bytes)
 
 -- The lines of a row of MCUs are written after those above it. They are made of the strips that are
 -- read, which are those of the samples.

@@ -61,14 +61,7 @@ pub shifted_lanes : (v : List ℤ) (s : ℕ) (g : ℕ → ℤ) → v ≡ lanes (
     ≡ lanes (λ j. int_shr (int_wrap w32 (g j)) s)
 unfolding lanes
 shifted_lanes v s g e =
-    let indices = range_with_len 0 8 in
-    let bits = ap (map (of_z w32)) e ∙ map-map (of_z w32) (λ j. int_wrap w32 (g j)) indices in
-    ap (map (to_z w32)) (zip2_of_maps (λ a b. of_z w32 (int_shr (to_z w32 a) b)) (λ j. of_z w32 (int_wrap w32 (g j)))
-    (λ _. s) indices bits (splat_is_map indices 8 s (length-range_with_len 0 8)))
-    ∙ map-map (to_z w32) (λ j. of_z w32 (int_shr (to_z w32 (of_z w32 (int_wrap w32 (g j)))) s))
-    indices
-    ∙ (λ i. map (λ j. shifted_back (to_z w32 (of_z w32 (int_wrap w32 (g j)))) s (g j)
-    (to_z-of_z w32 (int_wrap w32 (g j)) (SFits-int_wrap w32 (g j))) i) indices)
+    grind (arith, common_steps, range_with_len, map-map, zip2_of_maps, splat_is_map, length-range_with_len, shifted_back, to_z-of_z, SFits-int_wrap)
 
 -- ---- the columns
 

@@ -60,13 +60,8 @@ first_corner plane width height = search (rules, alike_twice, at_indices, far_fi
 
 pub last_corner : (plane : ℕ → ℕ → ℕ) (width height : ℕ) → 1 ≤ width → 1 ≤ height →
     upsampled H2V2 plane width height (2 * width - 1) (2 * height - 1) ≡ plane (width - 1) (height - 1)
-last_corner plane width height wide high = search (
-  rules,
-  alike_twice,
-  at_indices,
-  far_last,
-  near_last,
-)
+last_corner plane width height wide high =
+    grind (arith, common_steps, alike_twice, at_indices, far_last, near_last)
 
 -- three parts of one sum of two lines and one of the same sum
 alike_sums : (a : ℕ) → (3 * a + a + 8) / 16 ≡ (a + 2) / 4
@@ -78,13 +73,8 @@ first_column plane width height row = search (rules, alike_sums, at_indices, far
 
 pub last_column : (plane : ℕ → ℕ → ℕ) (width height row : ℕ) → 1 ≤ width
     → upsampled H2V2 plane width height (2 * width - 1) row ≡ (line_sum plane height row (width - 1) + 2) / 4
-last_column plane width height row wide = search (
-  rules,
-  alike_sums,
-  at_indices,
-  far_last,
-  near_last,
-)
+last_column plane width height row wide =
+    grind (arith, common_steps, alike_sums, at_indices, far_last, near_last)
 
 -- two lines alike are one line
 one_line : (a b : ℕ) → (3 * (3 * a + a) + (3 * b + b) + 8) / 16 ≡ blended a b
