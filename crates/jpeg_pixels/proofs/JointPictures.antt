@@ -60,8 +60,7 @@ lines-more height row lines = omega (arith, add-mul)
 pub strips-inside : (shape : JointShape) (row first size long whole : ℕ)
     → first ≡ joint_row_size shape → size ≡ joint_row_size shape → row < shape.rows → long ≡ whole
     → whole ≡ shape.rows * joint_row_size shape → row * first + size ≤ long
-strips-inside shape row first size long whole e f lt g is =
-    grind (arith, common_steps, row_fits, joint_row_size)
+strips-inside shape row first size long whole e f lt g is = search (rules, row_fits, joint_row_size)
 
 -- and the samples have all of them
 strips-long : (shape : JointShape) (samples : List ℕ) (row : ℕ) → row < shape.rows
