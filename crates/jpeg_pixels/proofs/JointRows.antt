@@ -1,4 +1,5 @@
 -- Rows of MCUs whose strips are in one room: their lines, joined, and the plane of a component.
+use Rattle.std.proofs.lemmas.Slice.{take-put_mid}
 use Rattle.std.proofs.lemmas.Grind.{common_steps}
 use Rattle.std.proofs.Common.{◌≡◌, ℕ, zero, suc, ◌+◌, ◌-◌, ◌*◌, ◌/◌, ◌%◌, ◌<◌, ◌≤◌, List, [], ◌∷◌}
 use Rattle.std.proofs.Common.{◌++◌, length, get_or, map, take, drop, ap, sym, ◌∙◌, slice_index}
@@ -16,7 +17,6 @@ use borrow.Rule.Slice.PartMut.{put_mid}
 use Rattle.jpeg_pixels.specs.JointPlanes.{HaveWidth, gathered, joint_plane, joint_row_size}
 use Rattle.jpeg_pixels.specs.JointPlanes.{strip_lines, strip_size}
 use Rattle.jpeg_pixels.specs.declared.joint_planes.JointShape.{JointShape}
-use Rattle.jpeg_pixels.proofs.ComponentLines.{take-put}
 use Rattle.jpeg_pixels.proofs.JoinedLines.{AreLong-more, joined-length}
 
 -- the lists that a function gives for the first numbers, one after the other
@@ -36,7 +36,7 @@ pub joined-put : (f : ℕ → List ℕ) (n all line size k : ℕ) (now new : Lis
     → take (n * line) now ≡ joined f n
     → take ((n + 1) * line) (put_mid (n * line) k now new) ≡ joined f (n + 1)
 joined-put f n all line size k now new h same room long is before =
-    grind (arith, common_steps, row_fits, joined-more, take-put)
+    grind (arith, common_steps, row_fits, joined-more, take-put_mid)
 
 -- one of several lines of one length, by its number
 joined-part : (n : ℕ) (lines : List (List ℕ)) (k : ℕ) → HaveWidth n lines → k < length lines

@@ -1,5 +1,5 @@
 use Rattle.std.proofs.lemmas.Grind.{common_steps}
-use Rattle.std.proofs.Common.{◌∙◌, arith, rules}
+use Rattle.std.proofs.Common.{arith, rules}
 use Rattle.jpeg_pixels.specs.JointPlanes.{strip_size}
 use Rattle.jpeg_pixels.proofs.JointRows.{part-fits, samples-all, samples-more}
 use Rattle.jpeg_pixels.proofs.joint_planes.JointPlanes.plane.Goals as goal
