@@ -89,7 +89,7 @@ sum_size f e (suc n) h =
 -- the magnitudes of a row of the matrix add up to at most 30610
 row_size : (row : ℕ) → row < 8 → sizes_below (λ k. unsigned_abs (basis row k) * 1095) 8 ≤ 33517950
 unfolding basis
-row_size = search (rules, eight_cases, unsigned_abs, lit≤)
+row_size = search (rules, eight_cases, lit≤)
 
 small_sum : (s : ℕ → ℤ) → ((k : ℕ) → k < 8 → unsigned_abs (s k) ≤ 1095) → (row : ℕ) → row < 8
     → unsigned_abs (transformed s row) ≤ 33517950

@@ -19,10 +19,7 @@ upsample_and_interleave_row-requires-clause-planes c = search (rules, sources-co
 pub upsample_and_interleave_row-requires-clause-cover : goal.upsample_and_interleave_row-requires-clause-cover
 unfolding frame_of component_of HaveRoom
 upsample_and_interleave_row-requires-clause-cover c =
-    cover-lower c.in_ok-upsampler.upsampler _ 3 (c.args.row + 1) 2 (omega arith)
-    (are-covered 3 2 (by_factors 2 2 ∷ by_factors 1 1 ∷ by_factors 1 1 ∷ []) _ _
-    (cc) (search (rules, All-cons, All-nil)) (omega arith) (omega arith) (search rules)
-    _ c.in_ok-upsampler.ensures)
+    search (rules, cover-lower, are-covered 3 2 (by_factors 2 2 ∷ by_factors 1 1 ∷ by_factors 1 1 ∷ []), All-cons, All-nil)
 
 pub upsample_and_interleave_row-requires-clause-fits : goal.upsample_and_interleave_row-requires-clause-fits
 upsample_and_interleave_row-requires-clause-fits c =

@@ -13,5 +13,4 @@ compute_image_rows-requires-clause-factors c = grind (arith, common_steps)
 pub compute_image_rows-requires-clause-cover : goal.compute_image_rows-requires-clause-cover
 unfolding frame_of component_of HaveRoom
 compute_image_rows-requires-clause-cover c =
-    are-covered 70 1 (by_factors 1 1 ∷ by_factors 1 1 ∷ by_factors 1 1 ∷ by_factors 1 1 ∷ []) _ _
-    (cc) (search (rules, All-cons, All-nil)) (omega arith) (omega arith) (search rules)
+    search (rules, are-covered 70 1 (by_factors 1 1 ∷ by_factors 1 1 ∷ by_factors 1 1 ∷ by_factors 1 1 ∷ []), All-cons, All-nil)

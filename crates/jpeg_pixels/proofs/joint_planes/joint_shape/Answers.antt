@@ -1,6 +1,6 @@
 use Rattle.std.proofs.Common.{◌≡◌, ◌*◌, List, [], ◌∷◌, map, All, Some, sym, subst, arith, rules}
 use Rattle.std.specs.List.{AllByRecursion, slice_get}
-use Rattle.std.proofs.lemmas.List.Elements.{All-map, All-weaker, recursion_from_All}
+use Rattle.std.proofs.lemmas.List.Elements.{All-map, recursion_from_All}
 use Rattle.std.proofs.lemmas.List.{length-map}
 use Rattle.std.proofs.lemmas.Nat.{mul-le}
 use Rattle.jpeg_segments.specs.Frame as frames
@@ -24,7 +24,7 @@ each-like : (P : frames.Component → Type 0) (components : List Component) (fir
     → ((c : Component) → IsLike first c → P (component_in c)) → All (IsLike first) components
     → AllByRecursion P (map component_in components)
 each-like P components first of all =
-    search (rules, recursion_from_All, component_in, All-map, All-weaker)
+    search (rules, recursion_from_All, All-map)
 
 pub overflow_mul-shape : goal.overflow_mul-shape
 overflow_mul-shape c = search (rules, sampled, mul-le)
