@@ -1,13 +1,14 @@
 -- The lines of the components of a picture.
+use Rattle.std.proofs.lemmas.Slice.{take-put_mid}
 use Rattle.std.proofs.lemmas.Grind.{common_steps}
-use Rattle.std.proofs.Common.{◌≡◌, ℕ, zero, suc, ◌+◌, ◌*◌, ◌<◌, ◌≤◌, List, [], ◌∷◌, ◌++◌, length, get_or, slice_index}
-use Rattle.std.proofs.Common.{take, ap₂, ◌∙◌, arith, length-take, add-one, subst, rules}
+use Rattle.std.proofs.Common.{◌≡◌, ℕ, zero, suc, ◌+◌, ◌*◌, ◌<◌, ◌≤◌, List, [], ◌∷◌, length, get_or, slice_index}
+use Rattle.std.proofs.Common.{take, ap₂, ◌∙◌, arith, add-one, subst, rules}
 use Rattle.std.specs.Prelude.{zip}
 use Rattle.std.proofs.lemmas.List.{append-nil, get_or-map, length-map}
 use Rattle.std.proofs.lemmas.Slice.Zip.{get_or-zip, length-zip}
 use Rattle.std.proofs.lemmas.List.FromFn.{length-map-range_with_len, fill_by_all}
 use Rattle.std.proofs.lemmas.List.Folds.{concat-append}
-use Rattle.std.proofs.Math.Seq.{take-suc, take-append-add, take-append_seam}
+use Rattle.std.proofs.Math.Seq.{take-suc}
 use Rattle.std.specs.List.{concat}
 use borrow.Rule.Slice.PartMut.{put_mid}
 use Rattle.jpeg_pixels.specs.Upsampling.{upsampled}
@@ -65,11 +66,6 @@ lines_of-long (s ∷ sources) [] width row e = absurd (omega arith)
 lines_of-long (s ∷ sources) (p ∷ planes) width row e =
     search (rules, get_or, length-map-range_with_len, slice_index, lines_of-long sources planes width row (omega arith))
 
--- a part written after the first a places
-pub take-put : (a n k : ℕ) (xs ys : List ℕ) → a ≤ length xs → length ys ≡ n
-    → take (a + n) (put_mid a k xs ys) ≡ take a xs ++ ys
-take-put a n k xs ys le e = grind (arith, common_steps, length-take, take-append-add, take-append_seam)
-
 -- one more line after the first lines
 pub lines-more : (all : List (List ℕ)) (index width k : ℕ) (now new : List ℕ) → index < length all
     → index * width ≤ length now → length new ≡ width
@@ -77,7 +73,7 @@ pub lines-more : (all : List (List ℕ)) (index width k : ℕ) (now new : List �
     → take (index * width) now ≡ concat (take index all)
     → take ((index + 1) * width) (put_mid (index * width) k now new) ≡ concat (take (index + 1) all)
 lines-more all index width k now new h room long is before =
-    grind (arith, common_steps, add-one, append-nil, concat-append, get_or, take-put, take-suc)
+    grind (arith, common_steps, add-one, append-nil, concat-append, get_or, take-put_mid, take-suc)
 
 -- a line by its samples
 pub line_by_samples : (s : Source) (plane : List ℕ) (width row : ℕ) (new : List ℕ) → length new ≡ width

@@ -1,7 +1,7 @@
 -- Blocks whose coefficients outside the top left 4x4 corner are 0.
-use Rattle.std.proofs.Common.{◌≡◌, ℕ, ◌+◌, ◌*◌, ◌<◌, ◌≤◌, suc, List, length, get_or, ℤ, pos, ◌*ℤ◌, sym}
-use Rattle.std.proofs.Common.{ap, ◌∙◌, map, FitsSigned, of_z, arith, true, ◌==◌, unsigned_abs, eqb}
-use Rattle.std.proofs.Common.{cond, replicate, ◌%◌, ◌-◌, ◌++◌, ◌∷◌, [], nat_eq, lit≤, lit<, rules}
+use Rattle.std.proofs.Common.{◌≡◌, ℕ, ◌+◌, ◌*◌, ◌<◌, ◌≤◌, suc, List, length, get_or, ℤ, pos, ◌*ℤ◌, sym, ap, ◌∙◌, map}
+use Rattle.std.proofs.Common.{FitsSigned, of_z, arith, true, ◌==◌, unsigned_abs, eqb, cond, replicate, ◌%◌, ◌-◌, ◌++◌}
+use Rattle.std.proofs.Common.{◌∷◌, [], nat_eq, lit≤, lit<, rules}
 use Rattle.std.proofs.lemmas.Int.{ints, int_wrap_fits}
 use Rattle.std.proofs.lemmas.Simd.{bitmask_splat, bit_mask_l, map-map, get_or-chunk, length-chunk}
 use Rattle.std.proofs.lemmas.Bool.{and_parts, eqb-true}

@@ -1,12 +1,11 @@
 -- Laws of the samples.
-use Rattle.std.proofs.Common.{◌≡◌, ℕ, ◌<◌, ◌≤◌, List, get_or, ℤ, pos, negsuc, ◌+ℤ◌, ◌*ℤ◌}
-use Rattle.std.proofs.Common.{arith, true, unsigned_abs, rules}
+use Rattle.std.proofs.Common.{◌*◌, ◌+◌, ◌≡◌, ℕ, ◌<◌, ◌≤◌, List, get_or, ℤ, pos, negsuc, ◌+ℤ◌, ◌*ℤ◌, arith, true, unsigned_abs}
+use Rattle.std.proofs.Common.{rules}
 use Rattle.std.proofs.Math.Logic.{⊎_elim}
 use Rattle.std.proofs.lemmas.Bool.{cases_lt}
 use Rattle.std.proofs.lemmas.Int.{int_wrap_fits}
 use Rattle.std.specs.Int.{int_shr}
-use Rattle.jpeg_pixels.specs.Samples.{is_flat_column, is_zero_at, dequantized, sample, clamped}
-use Rattle.jpeg_pixels.specs.Samples.{HasFirstOnly}
+use Rattle.jpeg_pixels.specs.Samples.{is_flat_column, is_zero_at, dequantized, sample, clamped, HasFirstOnly}
 use Rattle.jpeg_bits.proofs.Ranges.{all_pass}
 use Rattle.jpeg_pixels.proofs.Columns.{flat_value}
 use Rattle.jpeg_pixels.proofs.Sums.{transformed_one}
@@ -21,30 +20,17 @@ is_flat : (coefficients : List ℤ) (column : ℕ) → HasFirstOnly coefficients
     → is_flat_column coefficients column ≡ true
 is_flat coefficients column first h = search (rules, all_flat, unsigned_abs)
 
-no_product : (coefficients : List ℤ) (quantization : List ℕ) (column : ℕ) → HasFirstOnly coefficients → 0 < column
-    → column < 8 → dequantized coefficients quantization 0 column ≡ pos 0
+-- each product but the first is 0
+pub no_product : (coefficients : List ℤ) (quantization : List ℕ) (row column : ℕ) → HasFirstOnly coefficients
+    → 0 < row * 8 + column → row * 8 + column < 64 → dequantized coefficients quantization row column ≡ pos 0
 unfolding dequantized
-no_product coefficients quantization column first some h = search (rules, get_or)
-
-abbrev top : ℤ → ℕ
-top z = clamped (int_shr z 17)
-
-abbrev low : ℤ → ℕ
-low z = clamped (int_shr z 3 +ℤ pos 128)
-
-above : (n : ℕ) → n < 4 → top (pos 4096 *ℤ (pos 4 *ℤ negsuc n) +ℤ pos 16842752) ≡ low (negsuc n +ℤ pos 4)
-above n s = search rules
-
-middle : (n : ℕ) → 4 ≤ n → n < 1028 → top (pos 4096 *ℤ (pos 4 *ℤ negsuc n) +ℤ pos 16842752) ≡ low (negsuc n +ℤ pos 4)
-middle n s l = search rules
-
-below : (n : ℕ) → 1028 ≤ n → top (pos 4096 *ℤ (pos 4 *ℤ negsuc n) +ℤ pos 16842752) ≡ low (negsuc n +ℤ pos 4)
-below n l = search rules
+no_product coefficients quantization row column first some h = search (rules, get_or)
 
 pub scaled : (p : ℤ) → clamped (int_shr (pos 4096 *ℤ (pos 4 *ℤ p) +ℤ pos 16842752) 17) ≡ clamped (int_shr (p +ℤ pos 4) 3
     +ℤ pos 128)
 scaled (pos n) = omega arith
-scaled (negsuc n) = ⊎_elim (above n) (λ s. ⊎_elim (middle n s) (below n) (cases_lt n 1028)) (cases_lt n 4)
+scaled (negsuc n) = ⊎_elim (λ (s : n < 4). search rules) (λ (s : 4 ≤ n).
+    ⊎_elim (λ (l : n < 1028). search rules) (λ (l : 1028 ≤ n). search rules) (cases_lt n 1028)) (cases_lt n 4)
 
 pub sample_first_only : (coefficients : List ℤ) (quantization : List ℕ) (x y : ℕ) → HasFirstOnly coefficients → x < 8
     → y < 8 → unsigned_abs (dequantized coefficients quantization 0 0) ≤ 65536

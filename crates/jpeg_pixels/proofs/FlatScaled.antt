@@ -1,6 +1,5 @@
 -- Blocks of one coefficient, the first, at less than full size.
-use Rattle.std.proofs.Common.{◌≡◌, ℕ, ◌+◌, ◌*◌, ◌<◌, ◌≤◌, List, get_or, ℤ, pos, negsuc, ◌+ℤ◌}
-use Rattle.std.proofs.Common.{◌*ℤ◌, unsigned_abs, rules}
+use Rattle.std.proofs.Common.{◌≡◌, ℕ, ◌<◌, ◌≤◌, List, ℤ, pos, negsuc, ◌+ℤ◌, ◌*ℤ◌, unsigned_abs, rules}
 use Rattle.std.proofs.Common.{refl, sym, ap, ◌∙◌, arith, FitsSigned, lit<}
 use Rattle.std.proofs.lemmas.Bool.{cases_lt}
 use Rattle.std.proofs.lemmas.Int.{ints, int_wrap_fits}
@@ -10,14 +9,8 @@ use Rattle.jpeg_pixels.specs.Scaled.{even_part, odd_part, column_by, signed, col
 use Rattle.jpeg_pixels.specs.Scaled.{sample_of_1}
 use Rattle.jpeg_pixels.specs.SmallBlocks.{four}
 use Rattle.jpeg_pixels.proofs.Fours.{column_by_same, row_sum, row_by_same}
-use Rattle.jpeg_pixels.proofs.FlatBlocks.{scaled}
+use Rattle.jpeg_pixels.proofs.FlatBlocks.{no_product, scaled}
 use Rattle.std.proofs.lemmas.Bool.Decides.{nat_tests}
-
--- each other product is 0
-no_product : (coefficients : List ℤ) (quantization : List ℕ) (row column : ℕ) → HasFirstOnly coefficients
-    → 0 < row * 8 + column → row * 8 + column < 64 → dequantized coefficients quantization row column ≡ pos 0
-unfolding dequantized
-no_product coefficients quantization row column first some h = search (rules, get_or)
 
 -- a column of one number
 column_one : (v : ℤ) (row : ℕ) → row < 4 → column_by (four v (pos 0) (pos 0) (pos 0)) row ≡ int_wrap w32 (pos 4 *ℤ v)

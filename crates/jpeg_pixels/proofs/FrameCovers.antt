@@ -1,6 +1,6 @@
 -- The planes of a frame's components cover its picture.
-use Rattle.std.proofs.Common.{◌≡◌, ◌≤◌, ◌<◌, ℕ, ◌+◌, ◌-◌, ◌*◌, List, [], ◌∷◌, length, map, Some}
-use Rattle.std.proofs.Common.{Ok, All, subst, arith, rules}
+use Rattle.std.proofs.Common.{◌≡◌, ◌≤◌, ◌<◌, ℕ, ◌+◌, ◌-◌, ◌*◌, List, [], ◌∷◌, length, map, Some, Ok, All, subst, arith}
+use Rattle.std.proofs.Common.{rules}
 use Rattle.std.proofs.Math.Nat.{le-mul_of_pos_right}
 use Rattle.std.proofs.lemmas.List.Elements.{All-cons, All-head, All-nil, All-tail}
 use Rattle.jpeg_segments.specs.Checks.{gathered}
@@ -22,16 +22,29 @@ in-blocks width h m some =
     subst (λ (n : ℕ). n ≤ (ceiling width (8 * m) * h) * 8) (ceiling-eights (width * h) m some)
     (in-blocks-at 8 width h m some)
 
+-- factors in their range, of which these are the greatest
+record Fits (most_h most_v : ℕ) (f : Factors) : Type 0 where
+  range : IsInRange f
+  across : f.horizontal ≤ most_h
+  down : f.vertical ≤ most_v
+
+all-fit : (h v : ℕ) (xs : List Factors) → All IsInRange xs → greatest (λ f. f.horizontal) xs ≤ h
+    → greatest (λ f. f.vertical) xs ≤ v → All (Fits h v) xs
+all-fit h v [] range across down = All-nil (Fits h v)
+all-fit h v (x ∷ xs) range across down = All-cons (Fits h v) x xs
+    (record { range = All-head IsInRange x xs range; across = omega arith; down = omega arith })
+    (all-fit h v xs (All-tail IsInRange x xs range) (omega arith) (omega arith))
+
 covers : (width height most_h most_v : ℕ) (f : Factors) (rule : UpsampleRule) (plane : List ℕ) → 0 < width → 0 < height
-    → IsInRange f → f.horizontal ≤ most_h → f.vertical ≤ most_v
+    → Fits most_h most_v f
     → rule_of f.horizontal f.vertical most_h most_v width height ≡ Some rule
     → (ceiling (height * f.vertical) most_v - 1) * ((ceiling width (8 * most_h) * f.horizontal) * 8)
     + ceiling (width * f.horizontal) most_h ≤ length plane
     → Covers (source_with (component_of width height most_h most_v f) rule) plane width height
 unfolding component_of
-covers width height most_h most_v f rule plane some_width some_height range h_most v_most chosen room =
-    let h = range.horizontal_some in
-    let v = range.vertical_some in
+covers width height most_h most_v f rule plane some_width some_height fits chosen room =
+    let h = fits.range.horizontal_some in
+    let v = fits.range.vertical_some in
     let ratios = rule-ratios f.horizontal f.vertical most_h most_v width height rule (omega arith) (omega arith) chosen
     in
     let grows : width ≤ width * f.horizontal = le-mul_of_pos_right width h in
@@ -46,33 +59,25 @@ covers width height most_h most_v f rule plane some_width some_height range h_mo
 
 -- ---- lists
 
--- the greatest number is at least each
-greatest-all : (f : Factors → ℕ) (m : ℕ) (xs : List Factors) → greatest f xs ≤ m → All (λ c. f c ≤ m) xs
-greatest-all f m [] h = All-nil (λ c. f c ≤ m)
-greatest-all f m (x ∷ xs) h = All-cons (λ c. f c ≤ m) x xs (omega arith) (greatest-all f m xs (omega arith))
-
 all-cover : (width height h v : ℕ) (xs : List Factors) (planes : List (List ℕ)) (sources : List Source) → 0 < width
-    → 0 < height → All IsInRange xs → All (λ f. f.horizontal ≤ h) xs → All (λ f. f.vertical ≤ v) xs
+    → 0 < height → All (Fits h v) xs
     → HaveRoom (map (component_of width height h v) xs) planes
     → gathered (source_of h v width height) (map (component_of width height h v) xs) ≡ Ok sources
     → AllCover sources planes width height
 unfolding component_of gathered HaveRoom AllCover
-all-cover width height h v [] planes sources some_width some_height range across_most down_most room is =
+all-cover width height h v [] planes sources some_width some_height fits room is =
     subst (λ (l : List Source). AllCover l planes width height) (ok-same [] sources is) tt
-all-cover width height h v (x ∷ xs) [] sources some_width some_height range across_most down_most room is = absurd room
-all-cover width height h v (x ∷ xs) (plane ∷ planes) sources some_width some_height range across_most down_most room
-    is =
+all-cover width height h v (x ∷ xs) [] sources some_width some_height fits room is = absurd room
+all-cover width height h v (x ∷ xs) (plane ∷ planes) sources some_width some_height fits room is =
     let one = bind-ok (source_of h v width height (component_of width height h v x)) _ sources is in
     let rest = bind-ok (gathered (source_of h v width height) (map (component_of width height h v) xs)) _ sources
     one.2 in
     let chosen = source-rule h v width height (component_of width height h v x) one.0 one.1 in
     subst (λ (l : List Source). AllCover l (plane ∷ planes) width height) (ok-same _ sources rest.2) (
       subst (λ (s : Source). Covers s plane width height) chosen.2
-          (covers width height h v x chosen.0 plane some_width some_height (All-head IsInRange x xs range)
-          (All-head (λ f. f.horizontal ≤ h) x xs across_most) (All-head (λ f. f.vertical ≤ v) x xs down_most)
+          (covers width height h v x chosen.0 plane some_width some_height (All-head (Fits h v) x xs fits)
           chosen.1 room.0),
-      all-cover width height h v xs planes rest.0 some_width some_height (All-tail IsInRange x xs range)
-          (All-tail (λ f. f.horizontal ≤ h) x xs across_most) (All-tail (λ f. f.vertical ≤ v) x xs down_most)
+      all-cover width height h v xs planes rest.0 some_width some_height (All-tail (Fits h v) x xs fits)
           room.1 rest.1,
     )
 
@@ -88,8 +93,8 @@ frames-are-covered number precision width height factors planes sources range so
     let v = greatest (λ f. f.vertical) factors in
     let back : map (λ c. c.factors) (map (component_of width height h v) factors) ≡ factors =
     search (rules, factors-back) in
-    all-cover width height h v factors planes sources some_width some_height range
-    (greatest-all (λ f. f.horizontal) h factors (omega arith)) (greatest-all (λ f. f.vertical) v factors (omega arith))
+    all-cover width height h v factors planes sources some_width some_height
+    (all-fit h v factors range (omega arith) (omega arith))
     room
     (subst (λ (l : List Factors). gathered (source_of (greatest (λ f. f.horizontal) l) (greatest (λ f. f.vertical) l)
     width height) (map (component_of width height h v) factors) ≡ Ok sources) back is)
@@ -97,26 +102,20 @@ frames-are-covered number precision width height factors planes sources range so
 -- ---- planes of all blocks
 
 have-room : (width height h v : ℕ) (xs : List Factors) (planes : List (List ℕ)) → 0 < width → 0 < height
-    → All IsInRange xs → All (λ f. f.horizontal ≤ h) xs → All (λ f. f.vertical ≤ v) xs
-    → AreWhole (map (component_of width height h v) xs) planes
+    → All (Fits h v) xs → AreWhole (map (component_of width height h v) xs) planes
     → HaveRoom (map (component_of width height h v) xs) planes
 unfolding component_of HaveRoom AreWhole
-have-room width height h v [] planes some_width some_height range across_most down_most whole = tt
-have-room width height h v (x ∷ xs) [] some_width some_height range across_most down_most whole = absurd whole
-have-room width height h v (x ∷ xs) (plane ∷ planes) some_width some_height range across_most down_most whole =
-    let here : IsInRange x = All-head IsInRange x xs range in
-    let across_here : x.horizontal ≤ h = All-head (λ f. f.horizontal ≤ h) x xs across_most in
-    let down_here : x.vertical ≤ v = All-head (λ f. f.vertical ≤ v) x xs down_most in
-    let v_some : 0 < v = omega (arith, here.vertical_some, down_here) in
-    let grows : height ≤ height * x.vertical = le-mul_of_pos_right height here.vertical_some in
-    let lines_some = some-ceiling (height * x.vertical) v (omega (arith, grows, some_height)) v_some in
-    let h_some : 0 < h = omega (arith, here.horizontal_some, across_here) in
-    let columns_inside = in-blocks width x.horizontal h h_some in
-    let lines_inside = in-blocks height x.vertical v v_some in (
+have-room width height h v [] planes some_width some_height fits whole = tt
+have-room width height h v (x ∷ xs) [] some_width some_height fits whole = absurd whole
+have-room width height h v (x ∷ xs) (plane ∷ planes) some_width some_height fits whole =
+    let here : Fits h v x = All-head (Fits h v) x xs fits in
+    let grows : height ≤ height * x.vertical = le-mul_of_pos_right height here.range.vertical_some in
+    let lines_some = some-ceiling (height * x.vertical) v (omega arith) (omega arith) in
+    let columns_inside = in-blocks width x.horizontal h (omega arith) in
+    let lines_inside = in-blocks height x.vertical v (omega arith) in (
       rw whole.0 (room-of (ceiling (width * x.horizontal) h) (ceiling (height * x.vertical) v) _ _ lines_some
           columns_inside lines_inside),
-      have-room width height h v xs planes some_width some_height (All-tail IsInRange x xs range)
-          (All-tail (λ f. f.horizontal ≤ h) x xs across_most) (All-tail (λ f. f.vertical ≤ v) x xs down_most) whole.1,
+      have-room width height h v xs planes some_width some_height (All-tail (Fits h v) x xs fits) whole.1,
     )
 
 pub whole-planes-have-room : (number precision width height : ℕ) (factors : List Factors) (planes : List (List ℕ))
@@ -125,4 +124,4 @@ pub whole-planes-have-room : (number precision width height : ℕ) (factors : Li
     → HaveRoom (frame_of number precision width height factors).components planes
 unfolding frame_of
 whole-planes-have-room number precision width height factors planes range some_width some_height whole =
-    search (rules, greatest-all, have-room)
+    search (rules, all-fit, have-room)

@@ -1,12 +1,12 @@
 -- The picture of planes in one room: row of MCUs by row of MCUs.
+use Rattle.std.proofs.lemmas.Grind.{common_steps}
 use Rattle.std.proofs.Common.{◌≡◌, ℕ, ◌+◌, ◌-◌, ◌*◌, ◌/◌, ◌%◌, ◌<◌, ◌≤◌, List, [], ◌∷◌, ◌++◌}
-use Rattle.std.proofs.Common.{length, map, min, take, drop, get_or, ap, ◌∙◌, sym, refl, subst, Ok}
+use Rattle.std.proofs.Common.{length, map, min, take, drop, get_or, ap, ◌∙◌, sym, refl, Ok}
 use Rattle.std.proofs.Common.{arith, rules, length-drop, length-take}
 use Rattle.std.proofs.Math.Nat.{add-mul, lt_of_mul-lt-mul_left, mod-lt, mul_assoc}
 use Rattle.std.proofs.Math.Nat.{mul-div_cancel_left, mul-le-mul, mul-le-mul_left, mul-le-mul_right}
 use Rattle.std.proofs.lemmas.Bool.{eq-eqb}
-use Rattle.std.proofs.lemmas.List.{drop-drop, get_or-drop, length-take-le, places}
-use Rattle.std.proofs.lemmas.List.{take-append-drop}
+use Rattle.std.proofs.lemmas.List.{drop-drop, get_or-drop, length-take-le, places, take-append-drop}
 use Rattle.std.proofs.lemmas.List.Folds.{concat-append}
 use Rattle.std.proofs.lemmas.List.FromFn.{fill_by_all, get_or-map-range_with_len}
 use Rattle.std.proofs.lemmas.List.FromFn.{length-map-range_with_len, take-map-range_with_len}
@@ -22,8 +22,8 @@ use Rattle.jpeg_pixels.specs.Colour.{conversion_of, line_bytes}
 use Rattle.jpeg_pixels.specs.JointPlanes.{AreAlike, IsShapeOf, converted, gathered, joint_bytes}
 use Rattle.jpeg_pixels.specs.JointPlanes.{joint_plane, joint_planes, joint_row_size, strip_lines}
 use Rattle.jpeg_pixels.specs.JointPlanes.{strip_size, strips_at}
-use Rattle.jpeg_pixels.specs.Pictures.{Source, image_of, line_of, lines_of}
-use Rattle.jpeg_pixels.specs.Pictures.{converted_picture, picture_line, source_of, sources_of}
+use Rattle.jpeg_pixels.specs.Pictures.{Source, image_of, line_of, lines_of, converted_picture}
+use Rattle.jpeg_pixels.specs.Pictures.{picture_line, source_of, sources_of}
 use Rattle.jpeg_pixels.specs.Upsampling.{rule_of, upsampled}
 use Rattle.jpeg_pixels.specs.declared.upsampler.UpsampleRule.TheVariants.{H1V1}
 use Rattle.jpeg_pixels.specs.declared.joint_planes.JointShape.{JointShape}
@@ -60,9 +60,7 @@ lines-more height row lines = omega (arith, add-mul)
 pub strips-inside : (shape : JointShape) (row first size long whole : ℕ)
     → first ≡ joint_row_size shape → size ≡ joint_row_size shape → row < shape.rows → long ≡ whole
     → whole ≡ shape.rows * joint_row_size shape → row * first + size ≤ long
-strips-inside shape row first size long whole e f lt g is =
-    rw (e, f, g, is) (row_fits row (joint_row_size shape) shape.rows (joint_row_size shape) lt
-    (omega arith))
+strips-inside shape row first size long whole e f lt g is = search (rules, row_fits, joint_row_size)
 
 -- and the samples have all of them
 strips-long : (shape : JointShape) (samples : List ℕ) (row : ℕ) → row < shape.rows
@@ -85,10 +83,7 @@ pub all-written : (convert : ColorConvert) (shape : JointShape) (width : ℕ) (s
     → AreWritten convert shape width samples height row out
     → take (height * (shape.count * width)) out ≡ joint_bytes convert shape width samples height
 all-written convert shape width samples height row out high end is =
-    let all : min height (row * shape.lines) ≡ height =
-    omega (arith, mul-le-mul_right shape.lines end) in
-    subst (λ (n : ℕ). take (n * (shape.count * width)) out
-    ≡ joint_bytes convert shape width samples n) all is
+    grind (arith, common_steps, mul-le-mul_right, ℕ, joint_bytes)
 
 -- The lines of a row of MCUs are written after those above it. They are made of the strips that are
 -- read, which are those of the samples.

@@ -1,4 +1,6 @@
 -- Rows of MCUs whose strips are in one room: their lines, joined, and the plane of a component.
+use Rattle.std.proofs.lemmas.Slice.{take-put_mid}
+use Rattle.std.proofs.lemmas.Grind.{common_steps}
 use Rattle.std.proofs.Common.{◌≡◌, ℕ, zero, suc, ◌+◌, ◌-◌, ◌*◌, ◌/◌, ◌%◌, ◌<◌, ◌≤◌, List, [], ◌∷◌}
 use Rattle.std.proofs.Common.{◌++◌, length, get_or, map, take, drop, ap, sym, ◌∙◌, slice_index}
 use Rattle.std.proofs.Common.{length-append, length-take, length-drop, arith, rules}
@@ -13,10 +15,8 @@ use Rattle.std.proofs.Math.Seq.{drop-append-add, take-append_seam}
 use Rattle.std.specs.List.{range_with_len, concat}
 use borrow.Rule.Slice.PartMut.{put_mid}
 use Rattle.jpeg_pixels.specs.JointPlanes.{HaveWidth, gathered, joint_plane, joint_row_size}
-use Rattle.jpeg_pixels.specs.JointPlanes.{strip_lines}
-use Rattle.jpeg_pixels.specs.JointPlanes.{strip_size}
+use Rattle.jpeg_pixels.specs.JointPlanes.{strip_lines, strip_size}
 use Rattle.jpeg_pixels.specs.declared.joint_planes.JointShape.{JointShape}
-use Rattle.jpeg_pixels.proofs.ComponentLines.{take-put}
 use Rattle.jpeg_pixels.proofs.JoinedLines.{AreLong-more, joined-length}
 
 -- the lists that a function gives for the first numbers, one after the other
@@ -36,8 +36,7 @@ pub joined-put : (f : ℕ → List ℕ) (n all line size k : ℕ) (now new : Lis
     → take (n * line) now ≡ joined f n
     → take ((n + 1) * line) (put_mid (n * line) k now new) ≡ joined f (n + 1)
 joined-put f n all line size k now new h same room long is before =
-    let fits = row_fits n line all size h (omega arith) in
-    search (rules, joined-more, take-put)
+    grind (arith, common_steps, row_fits, joined-more, take-put_mid)
 
 -- one of several lines of one length, by its number
 joined-part : (n : ℕ) (lines : List (List ℕ)) (k : ℕ) → HaveWidth n lines → k < length lines
@@ -56,9 +55,7 @@ joined-part n (l ∷ lines) (suc k) long h =
 -- a part of a row is within the rows
 pub part-fits : (row rows part parts size : ℕ) → row < rows → part < parts
     → row * (parts * size) + part * size + size ≤ rows * (parts * size)
-part-fits row rows part parts size h lt =
-    let inner = row_fits part size parts size lt (omega arith) in
-    omega (arith, row_fits row (parts * size) rows (parts * size) h (omega arith))
+part-fits row rows part parts size h lt = grind (arith, common_steps, row_fits)
 
 -- the part of a line that a strip has
 abbrev pub strip_line : JointShape → ℕ → List ℕ → ℕ → ℕ → List ℕ
@@ -69,22 +66,15 @@ strip_line shape width strips line slot =
 pub strip_lines-count : (shape : JointShape) (width : ℕ) (strips : List ℕ) (line : ℕ)
     → length (strip_lines shape width strips line) ≡ shape.count
 unfolding strip_lines
-strip_lines-count shape width strips line =
-    length-map-range_with_len (strip_line shape width strips line) 0 shape.count
+strip_lines-count shape width strips line = grind (arith, common_steps, length-map-range_with_len)
 
 -- each is as wide as the picture
 pub strip_lines-long : (shape : JointShape) (width : ℕ) (strips : List ℕ) (line : ℕ)
     → line < shape.lines → width ≤ shape.stride → length strips ≡ joint_row_size shape
     → HaveWidth width (strip_lines shape width strips line)
 unfolding strip_lines
-strip_lines-long shape width strips line lt wide long = record {
-  each = λ k h.
-      let f = strip_line shape width strips line in
-      let slot : k < shape.count = omega (arith, length-map-range_with_len f 0 shape.count) in
-      let fits = part-fits k shape.count line shape.lines shape.stride slot lt in
-      ap length (get_or-map-range_with_len f 0 shape.count k k [] slot (omega arith))
-      ∙ simp (length-take, length-drop) (omega (arith, fits));
-}
+strip_lines-long shape width strips line lt wide long =
+    grind (arith, common_steps, length-map-range_with_len, part-fits, get_or-map-range_with_len, length-take, length-drop)
 
 -- a line of those that were gathered
 pub gathered-line : (shape : JointShape) (width : ℕ) (strips given : List ℕ) (count line size : ℕ)

@@ -1,6 +1,6 @@
 -- Rows of lanes, by their numbers.
-use Rattle.std.proofs.Common.{◌≡◌, ℕ, ◌<◌, List, map, length, get_or, ℤ, pos, ◌+ℤ◌, ◌*ℤ◌, refl, sym}
-use Rattle.std.proofs.Common.{ap, ◌∙◌, replicate, FitsSigned, of_z, to_z, cond, eqb, true, false, Bool, lit<}
+use Rattle.std.proofs.Common.{◌≡◌, ℕ, ◌<◌, List, map, length, get_or, ℤ, pos, ◌+ℤ◌, ◌*ℤ◌, refl, sym, ap, ◌∙◌, replicate}
+use Rattle.std.proofs.Common.{FitsSigned, of_z, to_z, cond, eqb, true, false, Bool, lit<, arith, rules}
 use Rattle.std.specs.Int.{w32, int_shr, int_wrap}
 use Rattle.std.proofs.lemmas.List.FromFn.{fill_by_all}
 use lib.Lanes.{zip2, sel_l, top}
@@ -11,11 +11,10 @@ use Rattle.jpeg_pixels.specs.Samples.{dequantized, transformed, column_value, is
 use Rattle.jpeg_pixels.proofs.Sums.{transformed_same}
 pub use Rattle.jpeg_pixels.proofs.Sums.{eight_cases}
 use Rattle.jpeg_pixels.proofs.Columns.{flat_value, other_value}
-use Rattle.jpeg_pixels.proofs.LaneSums.{AreLanes, lane-lanes, lanes_same, lanes_read}
-use Rattle.jpeg_pixels.proofs.LaneSums.{lanes_read_fitting, lanes_given, lane_wrapped}
+use Rattle.jpeg_pixels.proofs.LaneSums.{AreLanes, lane-lanes, lanes_same, lanes_read, lanes_read_fitting, lanes_given}
+use Rattle.jpeg_pixels.proofs.LaneSums.{lane_wrapped}
 use Rattle.jpeg_pixels.proofs.LaneChoice.{settled_is}
 use Rattle.std.proofs.lemmas.Grind.{common_steps}
-use Rattle.std.proofs.Common.{arith, rules}
 
 pub lane_at_is : (rows : Rows) (f : ℕ → ℕ → ℤ) → HasNumbers rows f → (k j : ℕ) → k < 8 → j < 8
     → lane_at rows k j ≡ f k j
@@ -68,22 +67,12 @@ turned_numbers rows turned f e t = grind (arith, common_steps, column_is, lit<)
 pub sums_numbers : (turned rows : Rows) (f : ℕ → ℕ → ℤ) → HasNumbers turned (λ k j. f j k)
     → HasNumbers rows (λ y x. int_wrap w32 (transformed (λ k. lane_at turned k y) x +ℤ pos 16842752))
     → HasNumbers rows (λ y x. int_wrap w32 (transformed (f y) x +ℤ pos 16842752))
-sums_numbers turned rows f numbers sums = record {
-  r0 = sums.r0 ∙ row 0 (lit< tt);
-  r1 = sums.r1 ∙ row 1 (lit< tt);
-  r2 = sums.r2 ∙ row 2 (lit< tt);
-  r3 = sums.r3 ∙ row 3 (lit< tt);
-  r4 = sums.r4 ∙ row 4 (lit< tt);
-  r5 = sums.r5 ∙ row 5 (lit< tt);
-  r6 = sums.r6 ∙ row 6 (lit< tt);
-  r7 = sums.r7 ∙ row 7 (lit< tt);
-}
-  where
-    row : (y : ℕ) → y < 8 → lanes (λ x. int_wrap w32 (transformed (λ k. lane_at turned k y) x +ℤ pos 16842752))
-        ≡ lanes (λ x. int_wrap w32 (transformed (f y) x +ℤ pos 16842752))
-    row y h = lanes_same _ _ (λ x _. ap (λ z. int_wrap w32 (z +ℤ pos 16842752))
-        (transformed_same (λ k. lane_at turned k y) (f y) x
-        (λ k hk. lane_at_is turned (λ k j. f j k) numbers k y hk h)))
+sums_numbers turned rows f numbers sums =
+    let row = λ (y : ℕ) (h : y < 8). lanes_same (λ x. int_wrap w32 (transformed (λ k. lane_at turned k y) x +ℤ pos 16842752))
+    (λ x. int_wrap w32 (transformed (f y) x +ℤ pos 16842752)) (λ x _. ap (λ z. int_wrap w32 (z +ℤ pos 16842752))
+    (transformed_same (λ k. lane_at turned k y) (f y) x
+    (λ k hk. lane_at_is turned (λ k j. f j k) numbers k y hk h))) in
+    grind (arith, row, lit<)
 
 pub own_lanes : (v : List ℤ) → length v ≡ 8 → v ≡ lanes (λ j. lane v j)
 unfolding lanes

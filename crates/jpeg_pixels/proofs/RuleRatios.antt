@@ -1,15 +1,14 @@
 -- How many outputs a sample stands for by the rule of its component, and that samples reach the last output.
-use Rattle.std.proofs.Common.{◌≡◌, ◌≤◌, ◌<◌, ℕ, zero, suc, ◌+◌, ◌-◌, ◌*◌, ◌/◌, Bool, true, false, Option}
-use Rattle.std.proofs.Common.{Some, None, rules}
-use Rattle.std.proofs.Common.{◌⊎◌, inl, inr, refl, ap, sym, ◌∙◌, subst, arith}
-use Rattle.std.specs.Prelude.{◌==◌, ◌&&◌, ◌||◌, if◌then◌else◌}
+use Rattle.std.proofs.lemmas.Bool.Decides.{nat_tests}
+use Rattle.std.proofs.Common.{◌≡◌, ◌≤◌, ◌<◌, ℕ, zero, suc, ◌+◌, ◌-◌, ◌*◌, ◌/◌, true, Some}
+use Rattle.std.proofs.Common.{rules, ◌⊎◌, inl, inr, ap, sym, ◌∙◌, subst, arith}
+use Rattle.std.specs.Prelude.{◌==◌, ◌||◌}
 use Rattle.std.proofs.Math.Nat.{add-mul, div-add-mod, mul_assoc, mul_comm, le_of_mul-le-mul_left, mul-le-mul}
 use Rattle.std.proofs.Math.Nat.{mul-le-mul_right}
-use Rattle.std.proofs.lemmas.Bool.{and_parts, eqb-true}
+use Rattle.std.proofs.lemmas.Bool.{eqb-true}
 use Rattle.jpeg_segments.specs.Frame.{ceiling}
 use Rattle.jpeg_segments.proofs.Ceilings.{ceiling-eights, ceiling-low, ceiling-le}
 use Rattle.jpeg_pixels.specs.declared.upsampler.UpsampleRule.{UpsampleRule}
-use Rattle.jpeg_pixels.specs.declared.upsampler.UpsampleRule.TheVariants.{H1V1, H2V1, H1V2, H2V2, Generic}
 use Rattle.jpeg_pixels.specs.Upsampling.{across, divides, down, rule_of}
 
 -- ---- samples at a scale
@@ -85,15 +84,6 @@ reach-full size factor most k hs hf hm r =
 
 -- ---- rules
 
-one-rule : (a b : UpsampleRule) → ◌≡◌ {A = Option UpsampleRule} (Some a) (Some b) → a ≡ b
-one-rule a b e = cc
-
--- what holds of each rule that is chosen holds of the one that is
-chosen : (P : UpsampleRule → Type 0) (test : Bool) (rule other : UpsampleRule) (rest : Option UpsampleRule)
-    → (test ≡ true → P other) → (rest ≡ Some rule → P rule) → (if test then Some other else rest) ≡ Some rule → P rule
-chosen P true rule other rest first others e = subst P (one-rule other rule e) (first refl)
-chosen P false rule other rest first others e = others e
-
 ratio-1 : (h m n : ℕ) → (h == m || n == 1) ≡ true → Ratio h m n 1
 ratio-1 h m n = search (rules, eqb-true)
 
@@ -107,27 +97,7 @@ pub record Ratios (h v mh mv width height : ℕ) (rule : UpsampleRule) : Type 0 
   pub columns : Ratio h mh width (across rule)
   pub lines : Ratio v mv height (down rule)
 
-no-rule : (rule : UpsampleRule) → ◌≡◌ {A = Option UpsampleRule} None (Some rule) → ⊥
-no-rule rule e = cc
-
 pub rule-ratios : (h v mh mv width height : ℕ) (rule : UpsampleRule) → 0 < mh → 0 < mv
     → rule_of h v mh mv width height ≡ Some rule → Ratios h v mh mv width height rule
 unfolding rule_of
-rule-ratios h v mh mv width height rule sh sv =
-    let h1 = h == mh || width == 1 in
-    let v1 = v == mv || height == 1 in
-    let h2 = 2 * h == mh in
-    let v2 = 2 * v == mv in
-    let P = Ratios h v mh mv width height in
-    chosen P (h1 && v1) rule H1V1 _
-    (λ e. let p = and_parts h1 v1 e in record { columns = ratio-1 h mh width p.0; lines = ratio-1 v mv height p.1 })
-    (chosen P (h2 && v1) rule H2V1 _
-    (λ e. let p = and_parts h2 v1 e in record { columns = ratio-2 h mh width p.0; lines = ratio-1 v mv height p.1 })
-    (chosen P (h1 && v2) rule H1V2 _
-    (λ e. let p = and_parts h1 v2 e in record { columns = ratio-1 h mh width p.0; lines = ratio-2 v mv height p.1 })
-    (chosen P (h2 && v2) rule H2V2 _
-    (λ e. let p = and_parts h2 v2 e in record { columns = ratio-2 h mh width p.0; lines = ratio-2 v mv height p.1 })
-    (chosen P (divides h mh && divides v mv) rule (Generic (mh / h) (mv / v)) None
-    (λ e. let p = and_parts (divides h mh) (divides v mv) e in
-    record { columns = ratio-any h mh width sh p.0; lines = ratio-any v mv height sv p.1 })
-    (λ e. absurd (no-rule rule e))))))
+rule-ratios h v mh mv width height rule sh sv is = grind (arith, nat_tests, ratio-1, ratio-2, ratio-any)

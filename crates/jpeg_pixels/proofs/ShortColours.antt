@@ -1,6 +1,7 @@
 -- Colours by products of 16 bits.
-use Rattle.std.proofs.Common.{◌≡◌, ℕ, ◌+◌, ◌*◌, ◌^◌, ◌<◌, ℤ, pos, negsuc, ◌+ℤ◌, ◌-ℤ◌, ◌*ℤ◌}
-use Rattle.std.proofs.Common.{refl, ap, ◌∙◌, arith, Bool, true, ◌==◌, unsigned_abs, rules}
+use Rattle.std.proofs.lemmas.Grind.{common_steps}
+use Rattle.std.proofs.Common.{◌≡◌, ℕ, ◌+◌, ◌*◌, ◌^◌, ◌<◌, ℤ, pos, negsuc, ◌+ℤ◌, ◌-ℤ◌, ◌*ℤ◌, refl}
+use Rattle.std.proofs.Common.{ap, ◌∙◌, arith, Bool, true, ◌==◌, unsigned_abs, rules}
 use Rattle.std.proofs.lemmas.Int.{ints}
 use Rattle.std.proofs.lemmas.Bool.{cases_lt}
 use Rattle.std.specs.Int.{int_shr}
@@ -55,7 +56,4 @@ blue_by_short y cb h = ap clamped (by_short 1858077 29033 refl y cb h)
 pub green_by_sum : (y cb cr : ℕ) → green_of y cb cr ≡ clamped (pos y +ℤ int_shr
     (pos 524288 -ℤ pos 360857 *ℤ centred_of cb -ℤ pos 748830 *ℤ centred_of cr) 20)
 unfolding green_of
-green_by_sum y cb cr =
-    ap clamped (shifted y
-    (pos 524288 -ℤ pos 360857 *ℤ centred_of cb -ℤ pos 748830 *ℤ centred_of cr) _
-    (omega (arith, ints)))
+green_by_sum y cb cr = grind (arith, ints, common_steps, clamped, shifted, centred_of)

@@ -1,12 +1,11 @@
 -- Lanes of signed numbers, as they are computed, chosen and read.
-use Rattle.std.proofs.Common.{◌≡◌, ℕ, ◌+◌, ◌-◌, ◌*◌, ◌%◌, ◌/◌, ◌^◌, ◌<◌, ◌≤◌, List, map, length, get_or, ℤ, pos}
-use Rattle.std.proofs.Common.{negsuc, ◌+ℤ◌, ◌-ℤ◌, ◌*ℤ◌, ◌≤ℤ◌, ◌<ℤ◌, refl, ◌∙◌, replicate, FitsSigned}
-use Rattle.std.proofs.Common.{of_z, to_z, arith}
-use Rattle.std.proofs.Common.{Bool, true, false, not, cond, unsigned_abs, nat_eq, min, max, subst, rules}
+use Rattle.std.proofs.Common.{◌≡◌, ℕ, ◌+◌, ◌-◌, ◌*◌, ◌%◌, ◌/◌, ◌^◌, ◌<◌, ◌≤◌, List, map, length, get_or, ℤ, pos, negsuc}
+use Rattle.std.proofs.Common.{◌+ℤ◌, ◌-ℤ◌, ◌*ℤ◌, ◌≤ℤ◌, ◌<ℤ◌, refl, ◌∙◌, replicate, FitsSigned, of_z, to_z, arith, Bool}
+use Rattle.std.proofs.Common.{true, false, not, cond, unsigned_abs, nat_eq, min, max, subst, rules}
 use Rattle.std.proofs.lemmas.Simd.{zip2_of_maps, splat_is_map, map-map, tops_compared}
 use Rattle.std.proofs.lemmas.List.FromFn.{length-range_with_len}
-use Rattle.std.proofs.lemmas.Int.{ints, to_z-of_z, int_wrap_fits, wrapping_add_is, by_lt_z}
-use Rattle.std.proofs.lemmas.Int.{wrapping_sub_is, wrapping_mul_is}
+use Rattle.std.proofs.lemmas.Int.{ints, to_z-of_z, int_wrap_fits, wrapping_add_is, by_lt_z, wrapping_sub_is}
+use Rattle.std.proofs.lemmas.Int.{wrapping_mul_is}
 use Rattle.std.proofs.Math.Nat.{div-le_self}
 use Rattle.std.specs.Int.{Width, w16, w32, int_wrap}
 use Rattle.std.specs.Int.Signed.{lt_z, le_z}

@@ -1,7 +1,7 @@
 -- The two passes of the transform in lanes of 16 bits, and why they are exact.
-use Rattle.std.proofs.Common.{◌≡◌, ℕ, ◌+◌, ◌*◌, ◌/◌, ◌<◌, ◌≤◌, List, map, ℤ, pos, negsuc, subst}
-use Rattle.std.proofs.Common.{◌+ℤ◌, ◌*ℤ◌, refl, sym, ap, ◌∙◌, replicate, FitsSigned, of_z, to_z, arith, rules}
-use Rattle.std.proofs.Common.{Bool, true, false, unsigned_abs, lit<, lit≤, max, zero, suc}
+use Rattle.std.proofs.Common.{◌≡◌, ℕ, ◌+◌, ◌*◌, ◌/◌, ◌<◌, ◌≤◌, List, map, ℤ, pos, negsuc, subst, ◌+ℤ◌, ◌*ℤ◌, refl, sym}
+use Rattle.std.proofs.Common.{ap, ◌∙◌, replicate, FitsSigned, of_z, to_z, arith, rules, Bool, true, false, unsigned_abs}
+use Rattle.std.proofs.Common.{lit<, lit≤, max, zero, suc}
 use Rattle.std.proofs.lemmas.Simd.{zip2_of_maps, splat_is_map, map-map}
 use Rattle.std.proofs.lemmas.List.FromFn.{length-range_with_len}
 use Rattle.std.proofs.lemmas.Int.{ints, to_z-of_z, SFits-int_wrap, int_wrap_fits, unsigned_abs-mul}
@@ -13,8 +13,7 @@ use lib.Lanes.{zip2}
 use Rattle.jpeg_pixels.specs.declared.short_block.Shorts.{Shorts}
 use Rattle.jpeg_pixels.specs.Lanes.{lanes}
 use Rattle.jpeg_pixels.specs.Samples.{transformed, basis, sum_below, dequantized, column_value, is_flat_column}
-use Rattle.jpeg_pixels.specs.ShortRows.{HasShorts, HasShortZeros, HasShortProducts, line_value}
-use Rattle.jpeg_pixels.specs.ShortRows.{short_column_of}
+use Rattle.jpeg_pixels.specs.ShortRows.{HasShorts, HasShortZeros, HasShortProducts, line_value, short_column_of}
 use Rattle.jpeg_pixels.specs.ShortRows.{short_lane_at}
 use Rattle.jpeg_pixels.proofs.Columns.{other_value}
 use Rattle.jpeg_pixels.proofs.LaneRows.{eight_cases}
@@ -62,14 +61,7 @@ pub shifted_lanes : (v : List ℤ) (s : ℕ) (g : ℕ → ℤ) → v ≡ lanes (
     ≡ lanes (λ j. int_shr (int_wrap w32 (g j)) s)
 unfolding lanes
 shifted_lanes v s g e =
-    let indices = range_with_len 0 8 in
-    let bits = ap (map (of_z w32)) e ∙ map-map (of_z w32) (λ j. int_wrap w32 (g j)) indices in
-    ap (map (to_z w32)) (zip2_of_maps (λ a b. of_z w32 (int_shr (to_z w32 a) b)) (λ j. of_z w32 (int_wrap w32 (g j)))
-    (λ _. s) indices bits (splat_is_map indices 8 s (length-range_with_len 0 8)))
-    ∙ map-map (to_z w32) (λ j. of_z w32 (int_shr (to_z w32 (of_z w32 (int_wrap w32 (g j)))) s))
-    indices
-    ∙ (λ i. map (λ j. shifted_back (to_z w32 (of_z w32 (int_wrap w32 (g j)))) s (g j)
-    (to_z-of_z w32 (int_wrap w32 (g j)) (SFits-int_wrap w32 (g j))) i) indices)
+    grind (arith, common_steps, range_with_len, map-map, zip2_of_maps, splat_is_map, length-range_with_len, shifted_back, to_z-of_z, SFits-int_wrap)
 
 -- ---- the columns
 
@@ -97,7 +89,7 @@ sum_size f e (suc n) h =
 -- the magnitudes of a row of the matrix add up to at most 30610
 row_size : (row : ℕ) → row < 8 → sizes_below (λ k. unsigned_abs (basis row k) * 1095) 8 ≤ 33517950
 unfolding basis
-row_size = search (rules, eight_cases, unsigned_abs, lit≤)
+row_size = search (rules, eight_cases, lit≤)
 
 small_sum : (s : ℕ → ℤ) → ((k : ℕ) → k < 8 → unsigned_abs (s k) ≤ 1095) → (row : ℕ) → row < 8
     → unsigned_abs (transformed s row) ≤ 33517950

@@ -1,26 +1,16 @@
 -- Samples at the ends of a component.
 use Rattle.std.proofs.lemmas.Grind.{common_steps}
-use Rattle.std.proofs.Common.{rules, ◌≡◌, ℕ, ◌+◌, ◌-◌, ◌*◌, ◌/◌, ◌<◌, ◌≤◌, arith, ap, ◌∙◌}
+use Rattle.std.proofs.Common.{◌≡◌, ℕ, ◌+◌, ◌-◌, ◌*◌, ◌/◌, ◌<◌, ◌≤◌, arith, ap, ◌∙◌}
 use Rattle.std.proofs.lemmas.Bool.{cases_eq}
 use Rattle.std.proofs.lemmas.Nat.{div-mul-add}
-use Rattle.jpeg_pixels.specs.Upsampling.{across, down, blended, far_index, line_sum, upsampled}
+use Rattle.jpeg_pixels.specs.Upsampling.{across, down, far_index, line_sum, upsampled}
 use Rattle.jpeg_pixels.specs.declared.upsampler.UpsampleRule.{UpsampleRule}
 use Rattle.jpeg_pixels.specs.declared.upsampler.UpsampleRule.TheVariants.{H1V1, H2V1, H1V2, H2V2, Generic}
 use Rattle.jpeg_pixels.proofs.UpsampledRows.{far_even, far_odd}
 
-alike : (a : ℕ) → blended a a ≡ a
-alike a = omega arith
-
--- three parts of one line and one of the same line, then three parts of one sum and one of the same sum
-alike_twice : (a : ℕ) → (3 * (3 * a + a) + (3 * a + a) + 8) / 16 ≡ a
-alike_twice a = omega arith
-
 -- the nearer and the farther place at the ends
 far_first : (count : ℕ) → far_index count 0 ≡ 0
 far_first count = far_even count 0 (omega arith) ∙ omega arith
-
-near_last : (count : ℕ) → 1 ≤ count → (2 * count - 1) / 2 ≡ count - 1
-near_last count some = omega arith
 
 far_last : (count : ℕ) → 1 ≤ count → far_index count (2 * count - 1) ≡ count - 1
 far_last count some = far_odd count (2 * count - 1) (omega arith) ∙ omega arith
@@ -36,16 +26,16 @@ first_across plane width height row = omega (arith, far_first)
 pub last_across : (plane : ℕ → ℕ → ℕ) (width height row : ℕ) → 1 ≤ width
     → upsampled H2V1 plane width height (2 * width - 1) row ≡ plane (width - 1) row
 unfolding upsampled
-last_across plane width height row some = search (rules, far_last, near_last)
+last_across plane width height row some = grind (arith, common_steps, far_last)
 
 pub first_down : (plane : ℕ → ℕ → ℕ) (width height x : ℕ) → upsampled H1V2 plane width height x 0 ≡ plane x 0
 unfolding upsampled
-first_down plane width height x = ap (λ f. blended (plane x 0) (plane x f)) (far_first height) ∙ alike (plane x 0)
+first_down plane width height x = omega (arith, far_first)
 
 pub last_down : (plane : ℕ → ℕ → ℕ) (width height x : ℕ) → 1 ≤ height
     → upsampled H1V2 plane width height x (2 * height - 1) ≡ plane x (height - 1)
 unfolding upsampled
-last_down plane width height x some = search (rules, far_last, near_last)
+last_down plane width height x some = grind (arith, common_steps, far_last)
 
 -- a sample of H2V2 by the four places that it is blended from
 at_indices : (plane : ℕ → ℕ → ℕ) (width height x row near far upper lower : ℕ) → x / 2 ≡ near →
@@ -56,44 +46,26 @@ unfolding upsampled
 at_indices plane width height x row near far upper lower a b c d = cc
 
 pub first_corner : (plane : ℕ → ℕ → ℕ) (width height : ℕ) → upsampled H2V2 plane width height 0 0 ≡ plane 0 0
-first_corner plane width height = search (rules, alike_twice, at_indices, far_first)
+first_corner plane width height = grind (arith, common_steps, at_indices, far_first)
 
 pub last_corner : (plane : ℕ → ℕ → ℕ) (width height : ℕ) → 1 ≤ width → 1 ≤ height →
     upsampled H2V2 plane width height (2 * width - 1) (2 * height - 1) ≡ plane (width - 1) (height - 1)
-last_corner plane width height wide high = search (
-  rules,
-  alike_twice,
-  at_indices,
-  far_last,
-  near_last,
-)
-
--- three parts of one sum of two lines and one of the same sum
-alike_sums : (a : ℕ) → (3 * a + a + 8) / 16 ≡ (a + 2) / 4
-alike_sums a = omega arith
+last_corner plane width height wide high =
+    grind (arith, common_steps, at_indices, far_last)
 
 pub first_column : (plane : ℕ → ℕ → ℕ) (width height row : ℕ) → upsampled H2V2 plane width height 0 row
     ≡ (line_sum plane height row 0 + 2) / 4
-first_column plane width height row = search (rules, alike_sums, at_indices, far_first)
+first_column plane width height row = grind (arith, common_steps, at_indices, far_first)
 
 pub last_column : (plane : ℕ → ℕ → ℕ) (width height row : ℕ) → 1 ≤ width
     → upsampled H2V2 plane width height (2 * width - 1) row ≡ (line_sum plane height row (width - 1) + 2) / 4
-last_column plane width height row wide = search (
-  rules,
-  alike_sums,
-  at_indices,
-  far_last,
-  near_last,
-)
-
--- two lines alike are one line
-one_line : (a b : ℕ) → (3 * (3 * a + a) + (3 * b + b) + 8) / 16 ≡ blended a b
-one_line a b = omega arith
+last_column plane width height row wide =
+    grind (arith, common_steps, at_indices, far_last)
 
 pub first_line : (plane : ℕ → ℕ → ℕ) (width height x : ℕ) → upsampled H2V2 plane width height x 0 ≡ upsampled H2V1 plane
     width height x 0
 unfolding upsampled
-first_line plane width height x = grind (arith, common_steps, at_indices, far_first, one_line)
+first_line plane width height x = grind (arith, common_steps, at_indices, far_first)
 
 pub repeated : (plane : ℕ → ℕ → ℕ) (width height h v i j k l : ℕ) → k < h → l < v
     → upsampled (Generic h v) plane width height (i * h + k) (j * v + l) ≡ plane i j
@@ -105,9 +77,9 @@ pub alone : (rule : UpsampleRule) (plane : ℕ → ℕ → ℕ) (x row : ℕ) �
     → upsampled rule plane 1 1 x row ≡ plane 0 0
 unfolding upsampled
 alone H1V1 plane x row hx hr = let a : x ≡ 0 = omega arith in let b : row ≡ 0 = omega arith in λ i. plane (a i) (b i)
-alone H2V1 plane x row hx hr = grind (arith, common_steps, far_alone, alike)
-alone H1V2 plane x row hx hr = grind (arith, common_steps, far_alone, alike)
-alone H2V2 plane x row hx hr = search (rules, at_indices, far_alone, alike_twice)
+alone H2V1 plane x row hx hr = grind (arith, common_steps, far_alone)
+alone H1V2 plane x row hx hr = grind (arith, common_steps, far_alone)
+alone H2V2 plane x row hx hr = grind (arith, common_steps, at_indices, far_alone)
 alone (Generic h v) plane x row hx hr =
     let a : x / h ≡ 0 = ap (λ n. n / h) (let e : x ≡ 0 * h + x = omega arith in e) ∙ div-mul-add 0 h x hx in
     let b : row / v ≡ 0 = ap (λ n. n / v) (let e : row ≡ 0 * v + row = omega arith in e) ∙ div-mul-add 0 v row hr in

@@ -1,8 +1,7 @@
 -- A picture is its lines from above.
 use Rattle.std.proofs.lemmas.Grind.{common_steps}
-use Rattle.std.proofs.Common.{◌≡◌, ℕ, ◌+◌, ◌==◌, List, [], ◌∷◌, ◌++◌, length, map, ap}
-use Rattle.std.proofs.Common.{◌∙◌, refl, arith, take, length-drop, ◌-◌, Vec, Global, MatchResult, Result, Ok, Err}
-use Rattle.std.proofs.Common.{if◌then◌else◌, rules}
+use Rattle.std.proofs.Common.{◌≡◌, ℕ, ◌+◌, ◌==◌, List, [], ◌∷◌, ◌++◌, length, map, ap, ◌∙◌, refl, arith, take}
+use Rattle.std.proofs.Common.{length-drop, ◌-◌, Vec, Global, MatchResult, Result, Ok, Err, if◌then◌else◌, rules}
 use Rattle.std.specs.Prelude.{IfErr, OnOk}
 use Rattle.std.proofs.lemmas.List.{append-nil, take-append-drop}
 use Rattle.std.proofs.Math.ListN.{drop_of_length-le}
@@ -19,8 +18,7 @@ use Rattle.jpeg_bits.specs.declared.color_transform.ColorTransform.{ColorTransfo
 use Rattle.jpeg_segments.specs.Frame.{Component}
 use Rattle.jpeg_pixels.specs.declared.upsampler.ColorConvert.{ColorConvert}
 use Rattle.jpeg_pixels.specs.Colour.{conversion_of}
-use Rattle.jpeg_pixels.specs.Pictures.{Source, sources_of, picture_line, converted_picture}
-use Rattle.jpeg_pixels.specs.Pictures.{image_of}
+use Rattle.jpeg_pixels.specs.Pictures.{Source, sources_of, picture_line, converted_picture, image_of}
 use Rattle.jpeg_pixels.specs.PicturesView.{IsFor}
 use Rattle.jpeg_segments.proofs.Gathered.{gathered-length}
 

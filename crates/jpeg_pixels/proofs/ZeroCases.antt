@@ -1,12 +1,10 @@
 -- Rows and columns of which all but the first number is 0.
-use Rattle.std.proofs.Common.{◌≡◌, ℕ, zero, suc, ◌<◌, List, ℤ, pos, neg_ℤ, ◌+ℤ◌, ◌*ℤ◌, ◌≤ℤ◌, ◌<ℤ◌}
-use Rattle.std.proofs.Common.{true, ◌==◌, unsigned_abs, rules}
-use Rattle.std.proofs.Common.{arith, get_or}
+use Rattle.std.proofs.Common.{◌≡◌, ℕ, zero, suc, ◌<◌, List, ℤ, pos, neg_ℤ, ◌+ℤ◌, ◌*ℤ◌, ◌≤ℤ◌, ◌<ℤ◌, true, ◌==◌}
+use Rattle.std.proofs.Common.{unsigned_abs, rules, arith, get_or}
 use Rattle.std.proofs.lemmas.Bool.{eqb-true}
 use Rattle.std.proofs.lemmas.Int.{ints, int_wrap_fits}
 use Rattle.std.specs.Int.{w32, int_shr, int_wrap}
-use Rattle.jpeg_pixels.specs.Samples.{is_flat_column, dequantized, transformed, column_value}
-use Rattle.jpeg_pixels.specs.Samples.{sample, clamped}
+use Rattle.jpeg_pixels.specs.Samples.{is_flat_column, dequantized, transformed, column_value, sample, clamped}
 use Rattle.jpeg_bits.proofs.Ranges.{each_passes}
 use Rattle.jpeg_pixels.proofs.Columns.{flat_value}
 use Rattle.jpeg_pixels.proofs.Sums.{transformed_one}

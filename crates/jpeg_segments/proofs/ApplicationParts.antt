@@ -1,19 +1,19 @@
 -- Application data by their parameters: what is read of them, and which data they are.
-use Rattle.std.proofs.Common.{◌≡◌, ℕ, zero, suc, ◌+◌, ◌≤◌, ◌<◌, Bool, true, false, List, [], ◌∷◌, ◌++◌, length}
-use Rattle.std.proofs.Common.{take, drop, get_or, Option, None, Some, Ok, refl, sym, ap, ap₂, ◌∙◌, arith, eqb, ltb}
-use Rattle.std.proofs.Common.{◌||◌, cond, ◌&&◌, take-append-drop, length-drop, length-take}
+use Rattle.std.proofs.Common.{◌≡◌, ℕ, zero, suc, ◌+◌, ◌≤◌, ◌<◌, Bool, true, false, List, [], ◌∷◌, ◌++◌, length, take}
+use Rattle.std.proofs.Common.{drop, get_or, Option, None, Some, Ok, refl, sym, ap, ap₂, ◌∙◌, arith, eqb, ltb, ◌||◌}
+use Rattle.std.proofs.Common.{cond, ◌&&◌, take-append-drop, length-drop, length-take}
 use Rattle.std.proofs.lemmas.Bool.{lt-ltb, and_parts, eqb-true, ltb-true, false≢true}
 use Rattle.std.proofs.lemmas.Bool.Decides.{Decides-eqb, nat_tests}
 use Rattle.std.proofs.lemmas.List.{drop_more, drop-drop}
 use Rattle.std.proofs.lemmas.Slice.Eq.{starts_is}
 use Rattle.std.proofs.lemmas.Grind.{common_steps}
 use Rattle.std.specs.Prelude.{is_some, option_map}
-use Rattle.jpeg_segments.specs.Application.{Application, Adobe, application_by, begins_with, chunk_of}
-use Rattle.jpeg_segments.specs.Application.{adobe_name, transform_by, app_at, jfif_name, avi1_name}
-use Rattle.jpeg_segments.specs.Application.{exif_name, xmp_name, icc_name, photoshop_name}
-use Rattle.jpeg_segments.specs.WrittenSegments.{ApplicationData, OfJfif, OfAvi1, OfExif, OfXmp, OfIcc}
-use Rattle.jpeg_segments.specs.WrittenSegments.{OfPhotoshop, OfAdobe, OfOther, application_parts}
-use Rattle.jpeg_segments.specs.WrittenSegments.{IsApplicationData, is_known, transform_byte, with_length}
+use Rattle.jpeg_segments.specs.Application.{Application, Adobe, application_by, begins_with, chunk_of, adobe_name}
+use Rattle.jpeg_segments.specs.Application.{transform_by, app_at, jfif_name, avi1_name, exif_name, xmp_name, icc_name}
+use Rattle.jpeg_segments.specs.Application.{photoshop_name}
+use Rattle.jpeg_segments.specs.WrittenSegments.{ApplicationData, OfJfif, OfAvi1, OfExif, OfXmp, OfIcc, OfPhotoshop}
+use Rattle.jpeg_segments.specs.WrittenSegments.{OfAdobe, OfOther, application_parts, IsApplicationData, is_known}
+use Rattle.jpeg_segments.specs.WrittenSegments.{transform_byte, with_length}
 use Rattle.jpeg_segments.specs.declared.parser.AdobeColorTransform.{AdobeColorTransform}
 use Rattle.jpeg_segments.specs.declared.parser.AdobeColorTransform.TheVariants as transforms
 use Rattle.jpeg_segments.proofs.Codecs.{AreBytes}
@@ -116,72 +116,53 @@ transform-of (suc (suc (suc n))) h = absurd (false≢true h)
 
 icc-written : (bytes : List ℕ) → 14 < length bytes → begins_with bytes icc_name ≡ true
     → icc_name ++ get_or bytes 12 0 ∷ get_or bytes 13 0 ∷ drop 14 bytes ≡ bytes
-icc-written bytes long f = ap (λ (l : List ℕ). icc_name ++ get_or bytes 12 0 ∷ l) (next-byte bytes 13 (omega (arith, long)))
-    ∙ ap (λ (l : List ℕ). icc_name ++ l) (next-byte bytes 12 (omega (arith, long)))
-    ∙ named-as bytes icc_name f
+icc-written bytes long f = grind (arith, common_steps, next-byte, named-as, icc_name)
 
 adobe-written : (bytes : List ℕ) → 11 < length bytes → begins_with bytes adobe_name ≡ true
     → adobe_name ++ (take 5 (drop 6 bytes) ++ get_or bytes 11 0 ∷ drop 12 bytes) ≡ bytes
 adobe-written bytes long f =
-    ap (λ (l : List ℕ). adobe_name ++ (take 5 (drop 6 bytes) ++ l))
-    (next-byte bytes 11 long ∙ sym (drop-drop 5 6 bytes))
-    ∙ ap (λ (l : List ℕ). adobe_name ++ l) (take-append-drop 5 (drop 6 bytes))
-    ∙ named-as bytes adobe_name f
+    grind (arith, common_steps, ℕ, adobe_name, next-byte, drop-drop, take-append-drop, named-as)
+
+either : {A : Type 0} (b : Bool) → (b ≡ true → A) → (b ≡ false → A) → A
+either true if_true if_false = if_true refl
+either false if_true if_false = if_false refl
 
 of-number : (number : ℕ) (bytes : List ℕ) → number ≤ 15 → Names number bytes → IsOf number bytes
-of-number number bytes few named = go (eqb number 0 && begins_with bytes jfif_name) refl
-    (eqb number 0 && begins_with bytes avi1_name) refl (eqb number 1 && begins_with bytes exif_name) refl
-    (eqb number 1 && begins_with bytes xmp_name) refl
-    (eqb number 2 && (ltb 14 (length bytes) && begins_with bytes icc_name)) refl
-    (eqb number 13 && begins_with bytes photoshop_name) refl (is_adobe number bytes) refl
+of-number number bytes few named =
+    either (eqb number 0 && begins_with bytes jfif_name)
+    (as-named 0 jfif_name (OfJfif (drop 5 bytes)) tt refl refl) (λ a.
+    either (eqb number 0 && begins_with bytes avi1_name)
+    (as-named 0 avi1_name (OfAvi1 (drop 5 bytes)) tt refl refl) (λ b.
+    either (eqb number 1 && begins_with bytes exif_name)
+    (as-named 1 exif_name (OfExif (drop 6 bytes)) tt refl refl) (λ c.
+    either (eqb number 1 && begins_with bytes xmp_name)
+    (as-named 1 xmp_name (OfXmp (drop 29 bytes)) tt refl refl) (λ d.
+    either (eqb number 13 && begins_with bytes photoshop_name)
+    (as-named 13 photoshop_name (OfPhotoshop (drop 14 bytes)) tt refl refl) (λ e.
+    either (eqb number 2 && (ltb 14 (length bytes) && begins_with bytes icc_name)) of-icc (λ f.
+    either (is_adobe number bytes) of-adobe (λ g. record {
+      value = OfOther number bytes;
+      valid = (few, grind (arith, common_steps, nat_tests));
+      numbered = refl;
+      written = refl;
+    })))))))
   where
-    as-named : (n : ℕ) (name : List ℕ) → (eqb number n && begins_with bytes name) ≡ true
-        → (n ≡ number) × (name ++ drop (length name) bytes ≡ bytes)
-    as-named n name h =
+    as-named : (n : ℕ) (name : List ℕ) (d : ApplicationData) → IsApplicationData d
+        → (application_parts d).0 ≡ n → (application_parts d).1 ≡ name ++ drop (length name) bytes
+        → (eqb number n && begins_with bytes name) ≡ true → IsOf number bytes
+    as-named n name d valid numbered written h =
         let p = and_parts _ _ h in
-        (sym (eqb-true number n p.0), named-as bytes name p.1)
+        record {
+          value = d;
+          valid = valid;
+          numbered = numbered ∙ sym (eqb-true number n p.0);
+          written = written ∙ named-as bytes name p.1;
+        }
 
-    go : (p : Bool) → (eqb number 0 && begins_with bytes jfif_name) ≡ p
-        → (q : Bool) → (eqb number 0 && begins_with bytes avi1_name) ≡ q
-        → (r : Bool) → (eqb number 1 && begins_with bytes exif_name) ≡ r
-        → (s : Bool) → (eqb number 1 && begins_with bytes xmp_name) ≡ s
-        → (t : Bool) → (eqb number 2 && (ltb 14 (length bytes) && begins_with bytes icc_name)) ≡ t
-        → (u : Bool) → (eqb number 13 && begins_with bytes photoshop_name) ≡ u
-        → (v : Bool) → is_adobe number bytes ≡ v → IsOf number bytes
-    go true a q b r c s d t e u f v g =
-        let n = as-named 0 jfif_name a in
-        record {
-          value = OfJfif (drop 5 bytes);
-          valid = tt;
-          numbered = n.0;
-          written = n.1;
-        }
-    go false a true b r c s d t e u f v g =
-        let n = as-named 0 avi1_name b in
-        record {
-          value = OfAvi1 (drop 5 bytes);
-          valid = tt;
-          numbered = n.0;
-          written = n.1;
-        }
-    go false a false b true c s d t e u f v g =
-        let n = as-named 1 exif_name c in
-        record {
-          value = OfExif (drop 6 bytes);
-          valid = tt;
-          numbered = n.0;
-          written = n.1;
-        }
-    go false a false b false c true d t e u f v g =
-        let n = as-named 1 xmp_name d in
-        record {
-          value = OfXmp (drop 29 bytes);
-          valid = tt;
-          numbered = n.0;
-          written = n.1;
-        }
-    go false a false b false c false d true e u f v g =
-        let p = and_parts _ _ e in
+    of-icc : (eqb number 2 && (ltb 14 (length bytes) && begins_with bytes icc_name)) ≡ true
+        → IsOf number bytes
+    of-icc h =
+        let p = and_parts _ _ h in
         let q = and_parts _ _ p.1 in
         let long : 14 < length bytes = ltb-true 14 (length bytes) q.0 in
         record {
@@ -190,32 +171,19 @@ of-number number bytes few named = go (eqb number 0 && begins_with bytes jfif_na
           numbered = sym (eqb-true number 2 p.0);
           written = icc-written bytes long q.1;
         }
-    go false a false b false c false d false e true f v g =
-        let n = as-named 13 photoshop_name f in
-        record {
-          value = OfPhotoshop (drop 14 bytes);
-          valid = tt;
-          numbered = n.0;
-          written = n.1;
-        }
-    go false a false b false c false d false e false f true g =
-        let p = and_parts _ _ g in
+
+    of-adobe : is_adobe number bytes ≡ true → IsOf number bytes
+    of-adobe h =
+        let p = and_parts _ _ h in
         let q = and_parts _ _ p.1 in
         let long : 11 < length bytes = ltb-true 11 (length bytes) q.0 in
-        let t = transform-of (get_or bytes 11 0) (named g) in
+        let t = transform-of (get_or bytes 11 0) (named h) in
         record {
           value = OfAdobe (take 5 (drop 6 bytes)) t.0 (drop 12 bytes);
           valid = omega (arith, long, length-drop 6 bytes, length-take 5 (drop 6 bytes));
           numbered = sym (eqb-true number 14 p.0);
           written = ap (λ (n : ℕ). adobe_name ++ (take 5 (drop 6 bytes) ++ n ∷ drop 12 bytes)) t.1
               ∙ adobe-written bytes long q.1;
-        }
-    go false a false b false c false d false e false f false g =
-        record {
-          value = OfOther number bytes;
-          valid = (few, grind (arith, common_steps, nat_tests));
-          numbered = refl;
-          written = refl;
         }
 
 pub app-only : (number : ℕ) (bytes rest : List ℕ) (said : Option Application) → number ≤ 15

@@ -1,13 +1,12 @@
 -- What is written, and what reads it: the two directions at once.
 use Rattle.std.proofs.lemmas.Bool.Decides.{nat_tests}
-use Rattle.std.proofs.Common.{◌≡◌, ℕ, zero, suc, ◌<◌, ◌≤◌, ◌+◌, ◌-◌, Bool, true}
-use Rattle.std.proofs.Common.{false, cond, List, [], ◌∷◌, ◌++◌, length, Option, Some, None, Result, Ok, Err, refl, sym}
-use Rattle.std.proofs.Common.{ap, ◌∙◌, subst, append_assoc, append-nil, arith, ltb, rules}
+use Rattle.std.proofs.Common.{◌≡◌, ℕ, zero, suc, ◌<◌, ◌≤◌, ◌+◌, ◌-◌, Bool, true, false, cond, List, [], ◌∷◌, ◌++◌}
+use Rattle.std.proofs.Common.{length, Option, Some, None, Result, Ok, Err, refl, sym, ap, ◌∙◌, subst, append_assoc}
+use Rattle.std.proofs.Common.{append-nil, arith, ltb, rules}
 use Rattle.std.proofs.lemmas.Bool.{ltb-false, le-ltb}
 use Rattle.std.specs.Prelude.{flat_map}
 use Rattle.std.specs.List.{AllByRecursion}
-use Rattle.jpeg_bits.specs.Reading.{Outcome, Fault, Malformed, ◌>>=◌, next_byte, next_u16}
-use Rattle.jpeg_bits.specs.Reading.{length_at, times}
+use Rattle.jpeg_bits.specs.Reading.{Outcome, Fault, Malformed, ◌>>=◌, next_byte, next_u16, length_at, times}
 use Rattle.jpeg_segments.specs.Checks.{check, needed}
 use Rattle.jpeg_segments.specs.WrittenSegments.{u16_bytes, with_length}
 use Rattle.jpeg_segments.proofs.Fields.{read-on, u16-read}

@@ -1,6 +1,6 @@
 -- Fields that were written are read again.
-use Rattle.std.proofs.Common.{◌≡◌, ℕ, ◌<◌, ◌+◌, ◌*◌, ◌/◌, ◌%◌, Bool, true, false, cond, List, ◌++◌}
-use Rattle.std.proofs.Common.{length, Ok, refl, ap, ◌∙◌, arith}
+use Rattle.std.proofs.Common.{◌≡◌, ℕ, ◌<◌, ◌+◌, ◌*◌, ◌/◌, ◌%◌, Bool, true, false, cond, List, ◌++◌, length, Ok, refl}
+use Rattle.std.proofs.Common.{ap, ◌∙◌, arith}
 use Rattle.std.proofs.lemmas.Bool.{le-ltb}
 use Rattle.jpeg_bits.specs.Reading.{Outcome, ◌>>=◌, next_u16, length_at, skip_at}
 use Rattle.jpeg_segments.specs.WrittenSegments.{u16_bytes, with_length, nibbles}

@@ -1,7 +1,7 @@
 -- Results that are gathered in a loop.
 use Rattle.std.proofs.lemmas.Grind.{common_steps}
-use Rattle.std.proofs.Common.{◌≡◌, ◌≤◌, ◌<◌, ◌+◌, ◌∙◌, ℕ, suc, List, [], ◌∷◌, ◌++◌}
-use Rattle.std.proofs.Common.{Result, Ok, Err, refl, sym, ap, arith, drop, get_or, length}
+use Rattle.std.proofs.Common.{◌≡◌, ◌≤◌, ◌<◌, ◌+◌, ◌∙◌, ℕ, suc, List, [], ◌∷◌, ◌++◌, Result, Ok, Err, refl, sym, ap}
+use Rattle.std.proofs.Common.{arith, drop, get_or, length}
 use Rattle.std.proofs.Math.ListN.{drop_of_length-le}
 use Rattle.std.proofs.lemmas.List.{append_assoc, append-nil, drop_more}
 use Rattle.std.proofs.lemmas.List.FromFn.{get_or-enumerate_from}
@@ -72,8 +72,7 @@ gathers-refused f xs i d e front h n g =
 pub gathers-all : {A B : Type 0} (f : A → Result B Fault) (xs : List A) (i : ℕ) (front : List B)
     → length xs ≤ i → Gathers f xs i front → gathered f xs ≡ Ok front
 unfolding gathered
-gathers-all f xs i front h g =
-    grind (arith, common_steps, append-nil, drop_of_length-le xs h)
+gathers-all f xs i front h g = grind (arith, common_steps, append-nil, drop_of_length-le)
 
 -- as many results as elements
 pub gathered-length : {A B : Type 0} (f : A → Result B Fault) (xs : List A) (ys : List B)
@@ -88,6 +87,4 @@ gathered-length f (x ∷ xs) ys e =
 -- an element beside its index
 pub numbered : {A : Type 0} (xs : List A) (i : ℕ) (d x : A) → i < length xs → x ≡ get_or xs i d
     → get_or (enumerate_from 0 xs) i (0, d) ≡ (i, x)
-numbered xs i d x h e =
-    let start : 0 + i ≡ i = omega arith in
-    get_or-enumerate_from 0 xs i (0, d) h ∙ (λ j. (start j, sym e j))
+numbered xs i d x h e = grind (arith, common_steps, get_or-enumerate_from)

@@ -1,25 +1,15 @@
 -- A scan header that is written keeps the rules of scans.
 use Rattle.std.proofs.lemmas.List.{length-map}
-use Rattle.std.proofs.Common.{◌≡◌, ℕ, ◌+◌, true, List, [], ◌∷◌, map}
-use Rattle.std.proofs.Common.{All, arith, rules}
+use Rattle.std.proofs.Common.{ℕ, ◌+◌, List, [], ◌∷◌, map, All, arith, rules}
 use Rattle.std.proofs.lemmas.Bool.{ltb-true}
-use Rattle.std.proofs.lemmas.Bool.Decides.{nat_tests}
 use Rattle.std.proofs.lemmas.List.Elements.{All-nil}
 use Rattle.std.proofs.lemmas.List.Quantifiers.{position-Some}
-use Rattle.jpeg_segments.specs.declared.parser.CodingProcess.{CodingProcess}
 use Rattle.jpeg_segments.specs.Frame.{Frame}
-use Rattle.jpeg_segments.specs.ScanHeader.{is_band, after_of, scan_of, IsBandOf, IsRising}
-use Rattle.jpeg_segments.specs.ScanHeader.{IsSelectorOf, Selector}
-use Rattle.jpeg_segments.specs.ScanHeader.{IsScanOf}
-use Rattle.jpeg_segments.proofs.ScanLemmas.{is-scan, legal-again}
-use Rattle.jpeg_segments.specs.ScanHeaders.{ScanHeader, IsChoice, AreChoices}
-use Rattle.jpeg_segments.specs.ScanHeaders.{IsScan, scan_written}
+use Rattle.jpeg_segments.specs.ScanHeader.{IsRising, IsSelectorOf, Selector, IsScanOf}
+use Rattle.jpeg_segments.proofs.ScanLemmas.{is-scan}
+use Rattle.jpeg_segments.specs.ScanHeaders.{ScanHeader, IsChoice, AreChoices, IsScan, scan_written}
 use Rattle.jpeg_segments.proofs.Fields.{nibbles-high, nibbles-low}
 use Rattle.std.proofs.lemmas.Grind.{common_steps}
-
-coded-by : (p : CodingProcess) (count first last high low : ℕ) → is_band p count first last high low ≡ true
-    → IsBandOf p first (after_of p last) high low
-coded-by p count first last high low h1 = grind (arith, nat_tests)
 
 choice-selects : (frame : Frame) (least : ℕ) (c : ℕ × Selector) → IsChoice frame least c → IsSelectorOf frame c.1
 choice-selects frame least c is = grind (arith, common_steps, position-Some)
@@ -37,6 +27,5 @@ all-rise frame least [] all = tt
 all-rise frame least (c ∷ cs) all = search (rules, all-rise frame (c.1.component + 1) cs all.1)
 
 pub header-rules : (frame : Frame) (h : ScanHeader) → IsScan frame h → IsScanOf frame (scan_written frame h)
-unfolding scan_of
 header-rules frame h is =
-    search (rules, length-map, nibbles-high, nibbles-low, coded-by, legal-again, is-scan, all-select, all-rise, ltb-true)
+    search (rules, length-map, nibbles-high, nibbles-low, is-scan, all-select, all-rise, ltb-true)

@@ -1,30 +1,26 @@
 -- Frame headers and scan headers: exactly what is written is read.
 use Rattle.std.proofs.lemmas.Bool.Decides.{nat_tests}
 use Rattle.std.proofs.lemmas.List.{length-map}
-use Rattle.std.proofs.Common.{◌≡◌, ℕ, zero, suc, ◌≤◌, ◌<◌, ◌+◌, ◌*◌, ◌/◌, ◌%◌, Bool, false}
-use Rattle.std.proofs.Common.{List, [], ◌∷◌, ◌++◌, map, length, length-append, append-nil, append_assoc}
-use Rattle.std.proofs.Common.{Some, Ok, refl, sym, ap, ap₂, ◌∙◌, arith, eqb, leb, ltb, rules}
+use Rattle.std.proofs.Common.{◌≡◌, ℕ, zero, suc, ◌≤◌, ◌<◌, ◌+◌, ◌*◌, ◌/◌, ◌%◌, Bool, false, List, [], ◌∷◌, ◌++◌, map}
+use Rattle.std.proofs.Common.{length, length-append, append-nil, append_assoc, Some, Ok, refl, sym, ap, ap₂, ◌∙◌, arith}
+use Rattle.std.proofs.Common.{eqb, leb, ltb, rules}
 use Rattle.std.proofs.lemmas.Bool.{ne_eqb, eqb-false}
 use Rattle.std.specs.Prelude.{flat_map, not, ◌&&◌}
 use Rattle.jpeg_bits.specs.Reading.{Malformed, Lacks, ◌>>=◌}
 use Rattle.jpeg_bits.specs.declared.error.UnsupportedFeature.TheVariants.{DNL}
-use Rattle.jpeg_segments.specs.Frame.{Factors, Frame, frame_of, is_factor, is_destination}
-use Rattle.jpeg_segments.specs.Frame.{is_lossless_number, is_taken, is_precision, is_count}
-use Rattle.jpeg_segments.specs.Frame.{factors_at, components_from, size_at, sof_at}
+use Rattle.jpeg_segments.specs.Frame.{Factors, Frame, frame_of, is_factor, is_destination, is_lossless_number, is_taken}
+use Rattle.jpeg_segments.specs.Frame.{is_precision, is_count, factors_at, components_from, size_at, sof_at}
 use Rattle.jpeg_segments.specs.Checks.{check}
 use Rattle.jpeg_segments.specs.HuffmanTables.{greatest_destination}
-use Rattle.jpeg_segments.specs.ScanHeader.{Selector, index_of}
-use Rattle.jpeg_segments.specs.ScanHeader.{selector_at, selectors_from, is_mcu, is_band, scan_of, band_at}
-use Rattle.jpeg_segments.specs.ScanHeader.{count_at, sos_at}
-use Rattle.jpeg_segments.specs.WrittenSegments.{u16_bytes, with_length, nibbles, FrameHeader}
-use Rattle.jpeg_segments.specs.WrittenSegments.{factors_bytes}
-use Rattle.jpeg_segments.specs.WrittenSegments.{frame_payload, IsComponent, AreComponents}
-use Rattle.jpeg_segments.specs.WrittenSegments.{IsFrameHeader, frame_written}
-use Rattle.jpeg_segments.specs.ScanHeaders.{ScanHeader, choice_bytes, scan_payload, selectors_in}
-use Rattle.jpeg_segments.specs.ScanHeaders.{IsChoice, AreChoices, IsScan, scan_written}
+use Rattle.jpeg_segments.specs.ScanHeader.{Selector, index_of, selector_at, selectors_from, is_mcu, is_band, scan_of}
+use Rattle.jpeg_segments.specs.ScanHeader.{band_at, count_at, sos_at}
+use Rattle.jpeg_segments.specs.WrittenSegments.{u16_bytes, with_length, nibbles, FrameHeader, factors_bytes}
+use Rattle.jpeg_segments.specs.WrittenSegments.{frame_payload, IsComponent, AreComponents, IsFrameHeader, frame_written}
+use Rattle.jpeg_segments.specs.ScanHeaders.{ScanHeader, choice_bytes, scan_payload, selectors_in, IsChoice, AreChoices}
+use Rattle.jpeg_segments.specs.ScanHeaders.{IsScan, scan_written}
 use Rattle.jpeg_segments.proofs.Fields.{nibbles-high, nibbles-low}
-use Rattle.jpeg_segments.proofs.Codecs.{Codec, bind, ends, check-unless, checked, present, done, remap}
-use Rattle.jpeg_segments.proofs.Codecs.{namely, nil, cons, byte, u16, length-field}
+use Rattle.jpeg_segments.proofs.Codecs.{Codec, bind, ends, check-unless, checked, present, done, remap, namely, nil}
+use Rattle.jpeg_segments.proofs.Codecs.{cons, byte, u16, length-field}
 use Rattle.std.proofs.lemmas.Grind.{common_steps}
 
 -- ---- frame headers
@@ -48,10 +44,8 @@ component number front = remap (bind _ byte (λ (i : ℕ). checked (not (is_take
     (grind (arith, common_steps, nat_tests)) refl
     (ap (λ (k : ℕ). x.0 ∷ k ∷ x.1.1 ∷ []) (omega arith)))
     (λ c is.
-    let high : nibbles c.horizontal c.vertical / 16 ≡ c.horizontal = search (rules, nibbles-high) in
-    let low : nibbles c.horizontal c.vertical % 16 ≡ c.vertical = search (rules, nibbles-low) in
     namely (c.identifier, (nibbles c.horizontal c.vertical, c.quantization))
-    (rw (high, low) (grind (arith, common_steps, nat_tests))) (rw (high, low)) refl)
+    (grind (arith, common_steps, nat_tests)) (grind (arith, common_steps)) refl)
 
 -- n components after those in `front`
 abbrev Follow : ℕ → ℕ → List Factors → List Factors → Type 0
@@ -151,10 +145,8 @@ choice frame least = remap (bind _ byte (λ (i : ℕ).
     (grind (arith, common_steps, nat_tests)) refl (ap (λ (k : ℕ). x.0 ∷ k ∷ []) (omega arith)))
     (λ c is.
     let small = greatest-small frame.is_baseline in
-    let high : nibbles c.1.dc c.1.ac / 16 ≡ c.1.dc = search (rules, nibbles-high) in
-    let low : nibbles c.1.dc c.1.ac % 16 ≡ c.1.ac = search (rules, nibbles-low) in
     namely (c.0, (c.1.component, nibbles c.1.dc c.1.ac))
-    (rw (high, low) (grind (arith, common_steps, nat_tests))) (rw (high, low)) refl)
+    (grind (arith, common_steps, nat_tests)) (grind (arith, common_steps)) refl)
 
 -- n components, the first of which stands at least at this place
 abbrev Choose : Frame → ℕ → ℕ → List (ℕ × Selector) → Type 0

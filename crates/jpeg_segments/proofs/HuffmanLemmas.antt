@@ -3,16 +3,13 @@ use Rattle.std.proofs.Common.{◌≡◌, ℕ, ◌-◌, ◌<◌, ◌≤◌, Bool,
 use Rattle.std.proofs.lemmas.Bool.Decides.{nat_tests}
 use Rattle.std.specs.Prelude.{if◌then◌else◌, sum, IfOk, IfErr}
 use Rattle.jpeg_bits.specs.Stream.{Stream}
-use Rattle.jpeg_bits.specs.Reading.{Fault, Malformed, Answers, MayFail, Names, NamesFormat, ◌>>=◌, times}
-use Rattle.jpeg_bits.specs.Reading.{next_byte}
+use Rattle.jpeg_bits.specs.Reading.{Fault, Malformed, Answers, MayFail, Names, NamesFormat, ◌>>=◌, times, next_byte}
 use Rattle.jpeg_bits.specs.Codes.{Table, HasCodes, RefusesCodes, codes_exist, code_lengths}
 use Rattle.jpeg_bits.specs.declared.codes.HuffmanTableClass.{HuffmanTableClass}
 use Rattle.jpeg_bits.specs.declared.error.Error.{Error}
 use Rattle.jpeg_bits.proofs.Loops.{still_known}
 use Rattle.jpeg_bits.proofs.Tables.{exist-tested, tested-exist}
-use Rattle.jpeg_segments.specs.HuffmanTables.{Tables, DefinedTable, size_of, with_table}
-use Rattle.jpeg_segments.specs.HuffmanTables.{tables_from}
-use Rattle.jpeg_segments.specs.HuffmanTables.{defined_codes_at}
+use Rattle.jpeg_segments.specs.HuffmanTables.{Tables, DefinedTable, size_of, with_table, tables_from, defined_codes_at}
 use Rattle.jpeg_segments.specs.Parts.{symbols_at}
 use Rattle.std.proofs.lemmas.Grind.{common_steps}
 

@@ -1,7 +1,7 @@
 -- Restart intervals and application data: exactly what is written is read.
-use Rattle.std.proofs.Common.{◌≡◌, ℕ, ◌≤◌, ◌+◌, ◌-◌, Bool, true, false, cond, List, ◌++◌, ◌&&◌, length, take}
-use Rattle.std.proofs.Common.{drop, get_or, length-take, length-drop, length-append, take-append-drop}
-use Rattle.std.proofs.Common.{Option, Some, None, Ok, refl, sym, ap, ◌∙◌, arith, eqb, leb, ltb, rules}
+use Rattle.std.proofs.Common.{◌≡◌, ℕ, ◌≤◌, ◌+◌, ◌-◌, Bool, true, false, cond, List, ◌++◌, ◌&&◌, length, take, drop}
+use Rattle.std.proofs.Common.{get_or, length-take, length-drop, length-append, take-append-drop, Option, Some, None, Ok}
+use Rattle.std.proofs.Common.{refl, sym, ap, ◌∙◌, arith, eqb, leb, ltb, rules}
 use Rattle.std.proofs.lemmas.Bool.{lt-ltb, eqb-true, false≢true}
 use Rattle.std.proofs.lemmas.Bool.Decides.{nat_tests}
 use Rattle.std.proofs.lemmas.List.{take-append-le, take_all, get_or_append_left}
@@ -13,8 +13,8 @@ use Rattle.jpeg_segments.specs.Application.{begins_with, dri_at, passed_over, tr
 use Rattle.jpeg_segments.specs.Checks.{needed}
 use Rattle.jpeg_segments.specs.WrittenSegments.{u16_bytes, with_length}
 use Rattle.jpeg_segments.proofs.ApplicationLemmas.{read-skipped}
-use Rattle.jpeg_segments.proofs.Codecs.{Codec, bind, ends, check-if, choose, done, remap, namely, same}
-use Rattle.jpeg_segments.proofs.Codecs.{refused, u16, many, segment, length-field}
+use Rattle.jpeg_segments.proofs.Codecs.{Codec, bind, ends, check-if, choose, done, remap, namely, same, refused, u16}
+use Rattle.jpeg_segments.proofs.Codecs.{many, segment, length-field}
 
 pub dri : Codec dri_at (λ (n : ℕ). n) (λ (n : ℕ). with_length (u16_bytes n)) (λ (n : ℕ). Unit {0})
 unfolding dri_at

@@ -7,11 +7,10 @@ use Rattle.std.specs.List.{list_all, list_any}
 use Rattle.std.specs.Prelude.{◌==◌, ◌∷◌, nat_lt, if◌then◌else◌}
 use Rattle.jpeg_bits.specs.Reading.{Malformed, ◌>>=◌, next_byte}
 use Rattle.jpeg_segments.specs.Checks.{needed}
-use Rattle.jpeg_segments.specs.Frame.{Factors, Frame, components_from, factors_at, frame_of}
-use Rattle.jpeg_segments.specs.Frame.{is_lossless_number, is_taken, sof_at}
+use Rattle.jpeg_segments.specs.Frame.{Factors, Frame, components_from, factors_at, frame_of, is_lossless_number}
+use Rattle.jpeg_segments.specs.Frame.{is_taken, sof_at}
 use Rattle.jpeg_segments.specs.HuffmanTables.{class_of, defined_codes_at}
-use Rattle.jpeg_segments.specs.Parts.{codes_at, destinations_at, head_at, parameters_at}
-use Rattle.jpeg_segments.specs.Parts.{symbols_at, table_at}
+use Rattle.jpeg_segments.specs.Parts.{codes_at, destinations_at, head_at, parameters_at, symbols_at, table_at}
 use Rattle.jpeg_segments.specs.Quantization.{defined_table_at, table_size}
 use Rattle.jpeg_segments.specs.ScanHeader.{index_of, selector_at}
 

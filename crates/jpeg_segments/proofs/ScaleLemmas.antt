@@ -1,13 +1,16 @@
 -- Frames at scales.
+use Rattle.std.proofs.Common.{take, drop, length-take, ◌++◌, ◌-◌}
+use Rattle.std.proofs.lemmas.List.{get_or-append_right, get_or-drop}
+use Rattle.std.proofs.lemmas.List.Edits.{map_over_more}
 use Rattle.std.proofs.lemmas.Simd.{map-map}
-use Rattle.std.proofs.Common.{◌≡◌, ◌≤◌, ◌<◌, ℕ, zero, suc, ◌+◌, ◌*◌, List, [], ◌∷◌, map, length, get_or, set}
-use Rattle.std.proofs.Common.{true, All, refl, ap, sym, ◌∙◌, arith, rules}
+use Rattle.std.proofs.Common.{◌≡◌, ◌≤◌, ◌<◌, ℕ, ◌+◌, ◌*◌, List, [], ◌∷◌, map, length, get_or, set, true, All}
+use Rattle.std.proofs.Common.{refl, ap, sym, ◌∙◌, arith, rules}
 use Rattle.std.proofs.lemmas.Bool.{eqb-true}
 use Rattle.std.proofs.lemmas.List.{length-map, map-set, get_or-map}
 use Rattle.std.proofs.lemmas.List.Elements.{All-get_or, All-nil}
 use Rattle.jpeg_segments.specs.declared.parser.Component.{Component as Seen}
-use Rattle.jpeg_segments.specs.Frame.{AllHaveSampling, Component, Factors, Frame, IsFrame, IsInRange}
-use Rattle.jpeg_segments.specs.Frame.{ceiling, component_of, frame_of, greatest}
+use Rattle.jpeg_segments.specs.Frame.{AllHaveSampling, Component, Factors, Frame, IsFrame, IsInRange, ceiling}
+use Rattle.jpeg_segments.specs.Frame.{component_of, frame_of, greatest}
 use Rattle.jpeg_segments.specs.FrameView.{component_in, factors_in}
 use Rattle.jpeg_segments.specs.Scales.{IsSizedFrame, component_at, frame_at, is_scale, scale_for}
 use Rattle.jpeg_segments.proofs.Ceilings.{ceiling-eights}
@@ -25,38 +28,6 @@ unfolding AllHaveSampling
 seen-in-range [] h = All-nil IsInRange
 seen-in-range (x ∷ xs) h = search (rules, seen-in-range xs h.1)
 
--- ---- the first ones of a list changed
-
-unfoldable pub changed : (Component → Component) → ℕ → List Component → List Component
-changed f n [] = []
-changed f zero (x ∷ xs) = x ∷ xs
-changed f (suc n) (x ∷ xs) = f x ∷ changed f n xs
-
-pub changed-none : (f : Component → Component) (xs : List Component) → changed f 0 xs ≡ xs
-unfolding changed
-changed-none f [] = refl
-changed-none f (x ∷ xs) = refl
-
-pub changed-at : (f : Component → Component) (i : ℕ) (xs : List Component) (d : Component) → i < length xs
-    → get_or (changed f i xs) i d ≡ get_or xs i d
-unfolding changed
-changed-at f i [] d h = absurd (omega arith)
-changed-at f zero (x ∷ xs) d h = refl
-changed-at f (suc i) (x ∷ xs) d h = changed-at f i xs d (omega arith)
-
-pub changed-more : (f : Component → Component) (i : ℕ) (xs : List Component) (d : Component) → i < length xs
-    → set (changed f i xs) i (f (get_or xs i d)) ≡ changed f (suc i) xs
-unfolding changed
-changed-more f i [] d h = absurd (omega arith)
-changed-more f zero (x ∷ xs) d h = ap (λ l. f x ∷ l) (sym (changed-none f xs))
-changed-more f (suc i) (x ∷ xs) d h = ap (λ l. f x ∷ l) (changed-more f i xs d (omega arith))
-
-pub changed-all : (f : Component → Component) (n : ℕ) (xs : List Component) → length xs ≤ n → changed f n xs ≡ map f xs
-unfolding changed
-changed-all f n [] h = refl
-changed-all f zero (x ∷ xs) h = absurd (omega arith)
-changed-all f (suc n) (x ∷ xs) h = ap (λ l. f x ∷ l) (changed-all f n xs (omega arith))
-
 -- ---- the same of components as code has them
 
 -- what stands after all components
@@ -71,44 +42,39 @@ none = record {
   block_size = record { width = 0; height = 0 };
 }
 
--- a component that is not changed yet
+-- A component that is not changed yet: the first i of the old ones are.
 pub seen-at : (f : Component → Component) (i : ℕ) (old new : List Seen)
-    → map component_in new ≡ changed f i (map component_in old) → i < length old → length new ≡ length old
+    → map component_in new ≡ map f (take i (map component_in old)) ++ drop i (map component_in old)
+    → i < length old → length new ≡ length old
     → component_in (get_or new i none) ≡ component_in (get_or old i none)
 seen-at f i old new e h same =
-    let within : i < length (map component_in old) = rw (length-map old component_in) h in
-    sym (get_or-map component_in new i none (component_in none) (omega arith))
-    ∙ (ap (λ l. get_or l i (component_in none)) e
-    ∙ (changed-at f i (map component_in old) (component_in none) within
-    ∙ get_or-map component_in old i none (component_in none) h))
+    let d = component_in none in
+    let front = map f (take i (map component_in old)) in
+    let count : length front ≡ i = search (rules, length-map, length-take) in
+    sym (get_or-map component_in new i none d (omega arith)) ∙ ap (λ l. get_or l i d) e
+    ∙ get_or-append_right front (drop i (map component_in old)) i i d count (omega arith)
+    ∙ get_or-drop i (map component_in old) (i - i) d ∙ ap (λ n. get_or (map component_in old) n d) (omega arith)
+    ∙ get_or-map component_in old i none d h
 
-pub across-at : (f : Component → Component) (m i : ℕ) (old new : List Seen)
-    → map component_in new ≡ changed f i (map component_in old) → i < length old → length new ≡ length old
-    → All (λ c. c.horizontal_sampling_factor ≤ m) old → (get_or new i none).horizontal_sampling_factor ≤ m
-across-at f m i old new e h same all =
-    let k : (get_or new i none).horizontal_sampling_factor ≡ (get_or old i none).horizontal_sampling_factor =
-    search (rules, seen-at) in
-    rw k (All-get_or (λ c. c.horizontal_sampling_factor ≤ m) old i none h all)
-
-pub down-at : (f : Component → Component) (m i : ℕ) (old new : List Seen)
-    → map component_in new ≡ changed f i (map component_in old) → i < length old → length new ≡ length old
-    → All (λ c. c.vertical_sampling_factor ≤ m) old → (get_or new i none).vertical_sampling_factor ≤ m
-down-at f m i old new e h same all =
-    let k : (get_or new i none).vertical_sampling_factor ≡ (get_or old i none).vertical_sampling_factor =
-    search (rules, seen-at) in
-    rw k (All-get_or (λ c. c.vertical_sampling_factor ≤ m) old i none h all)
+-- a factor of it is as small as the old ones
+pub factor-at : (factor : Component → ℕ) (f : Component → Component) (m i : ℕ) (old new : List Seen)
+    → map component_in new ≡ map f (take i (map component_in old)) ++ drop i (map component_in old)
+    → i < length old → length new ≡ length old
+    → All (λ c. factor (component_in c) ≤ m) old → factor (component_in (get_or new i none)) ≤ m
+factor-at factor f m i old new e h same all =
+    rw (seen-at f i old new e h same) (All-get_or (λ c. factor (component_in c) ≤ m) old i none h all)
 
 -- one more is changed
 pub seen-more : (f : Component → Component) (i : ℕ) (old new : List Seen) (x : Seen)
-    → map component_in new ≡ changed f i (map component_in old) → i < length old → length new ≡ length old
+    → map component_in new ≡ map f (take i (map component_in old)) ++ drop i (map component_in old)
+    → i < length old → length new ≡ length old
     → component_in x ≡ f (component_in (get_or new i none))
-    → map component_in (set new i x) ≡ changed f (i + 1) (map component_in old)
+    → map component_in (set new i x)
+    ≡ map f (take (i + 1) (map component_in old)) ++ drop (i + 1) (map component_in old)
 seen-more f i old new x e h same made =
-    let within : i < length (map component_in old) = rw (length-map old component_in) h in
-    let next : i + 1 ≡ suc i = omega arith in
-    let was : component_in (get_or new i none) ≡ get_or (map component_in old) i (component_in none)
-    = seen-at f i old new e h same ∙ sym (get_or-map component_in old i none (component_in none) h) in
-    search (rules, map-set, changed-more)
+    map-set component_in new i x ∙ ap (set (map component_in new) i) made
+    ∙ map_over_more f (map component_in old) (map component_in new) i _
+    (omega (arith, length-map old component_in)) e (sym (get_or-map component_in new i none _ (omega arith)))
 
 -- ---- scales
 

@@ -1,6 +1,6 @@
 -- Steps of the parser of scan headers.
-use Rattle.std.proofs.Common.{All, sym, true, ◌∙◌, ◌≡◌, ◌≤◌, ℕ, zero, suc, ◌+◌, ◌-◌, ◌*◌, ◌<◌, Bool, not, cond}
-use Rattle.std.proofs.Common.{List, [], ◌∷◌, ◌++◌, map, length, refl, ap, subst, arith, get_or, nat_le, sum_by}
+use Rattle.std.proofs.Common.{All, sym, true, ◌∙◌, ◌≡◌, ◌≤◌, ℕ, zero, suc, ◌+◌, ◌-◌, ◌*◌, ◌/◌, ◌%◌, ◌<◌, Bool, not}
+use Rattle.std.proofs.Common.{cond, List, [], ◌∷◌, ◌++◌, map, length, refl, ap, subst, arith, get_or, nat_le, sum_by}
 use Rattle.std.proofs.Common.{append-nil, append_assoc, rules}
 use Rattle.std.specs.List.{position, position_or_len}
 use Rattle.std.proofs.lemmas.List.{length-map}
@@ -15,9 +15,8 @@ use Rattle.jpeg_segments.specs.declared.scan_header.Selector.{Selector as Read}
 use Rattle.jpeg_segments.specs.Frame as frames
 use Rattle.jpeg_segments.specs.FrameView.{component_in, selector_of}
 use Rattle.jpeg_segments.specs.Parts.{HasBlocks}
-use Rattle.jpeg_segments.specs.ScanHeader.{IsBandOf, after_of, is_band, is_mcu, IsRising, IsScanOf}
-use Rattle.jpeg_segments.specs.ScanHeader.{IsSelectorOf, Scan}
-use Rattle.jpeg_segments.specs.ScanHeader.{Selector, blocks_by, selector_at, selectors_from}
+use Rattle.jpeg_segments.specs.ScanHeader.{IsBandOf, after_of, is_band, is_mcu, IsRising, IsScanOf, IsSelectorOf}
+use Rattle.jpeg_segments.specs.ScanHeader.{Selector, blocks_by, scan_of, selector_at, selectors_from}
 use Rattle.std.proofs.lemmas.Grind.{common_steps}
 use Rattle.std.proofs.lemmas.Bool.Decides.{nat_tests}
 
@@ -54,7 +53,7 @@ all-of : (P : Selector → Type 0) (Q : ℕ → Type 0) (field : Selector → �
 all-of P Q field f xs h = All-map Q field xs (All-weaker P (λ s. Q (field s)) f xs h)
 
 -- a band that a header may name passes the rules by the places that it stands for
-pub legal-again : (p : CodingProcess) (count first last high low : ℕ) → is_band p count first last high low ≡ true
+legal-again : (p : CodingProcess) (count first last high low : ℕ) → is_band p count first last high low ≡ true
     → is_band p count first (after_of p last - 1) high low ≡ true
 legal-again p count first last high low h1 = grind (arith, nat_tests)
 
@@ -94,32 +93,31 @@ pub rises-all : (front : List ℕ) (least : ℕ) → RisesTo front least → IsR
 unfolding IsRising
 rises-all front least rises = subst (IsRising 0) (append-nil front) (rises [] tt)
 
-pub is-scan : (frame : frames.Frame) (xs : List Selector) (s : Scan) → 1 ≤ length xs → length xs ≤ 4
+coded-by : (p : CodingProcess) (count first last high low : ℕ) → is_band p count first last high low ≡ true
+    → IsBandOf p first (after_of p last) high low
+coded-by p count first last high low h1 = grind (arith, nat_tests)
+
+pub is-scan : (frame : frames.Frame) (xs : List Selector) (first last levels : ℕ) → 1 ≤ length xs → length xs ≤ 4
     → All (IsSelectorOf frame) xs
     → IsRising 0 (map (λ x. x.component) xs) → is_mcu frame xs ≡ true
-    → s.components ≡ map (λ x. x.component) xs → s.dc_destinations ≡ map (λ x. x.dc) xs →
-    s.ac_destinations ≡ map (λ x. x.ac) xs
-    → IsBandOf frame.process s.first s.after s.high s.low
-    → is_band frame.process (length xs) s.first (s.after - 1) s.high s.low ≡ true
-    → s.low < frame.precision → s.point_transform ≡ s.low → IsScanOf frame s
-is-scan frame xs s some most indices rising mcu components dc ac coded legal below same_point =
-    let count : length s.components ≡ length xs = ap length components ∙ length-map xs (λ x. x.component) in
+    → is_band frame.process (length xs) first last (levels / 16) (levels % 16) ≡ true
+    → levels % 16 < frame.precision → IsScanOf frame (scan_of frame xs first last levels)
+unfolding scan_of
+is-scan frame xs first last levels some most indices rising mcu band below =
+    let count = length-map xs (λ x. x.component) in
     record {
       some = rw count some;
       most = rw count most;
-      components = rw components
-          (all-of (IsSelectorOf frame) (λ n. n < length frame.components) (λ x. x.component) (λ x p. p.component) xs
-          indices);
-      rising = rw components rising;
+      components = all-of (IsSelectorOf frame) (λ n. n < length frame.components) (λ x. x.component)
+          (λ x p. p.component) xs indices;
+      rising = rising;
       few_blocks = search (rules, blocks-by, few);
-      dc_length = (ap length dc ∙ length-map xs (λ x. x.dc)) ∙ sym count;
-      dc_destinations = rw dc (all-of (IsSelectorOf frame) (λ n. n ≤ 3) (λ x. x.dc) (λ x p. p.dc)
-          xs indices);
-      ac_length = (ap length ac ∙ length-map xs (λ x. x.ac)) ∙ sym count;
-      ac_destinations = rw ac (all-of (IsSelectorOf frame) (λ n. n ≤ 3) (λ x. x.ac) (λ x p. p.ac)
-          xs indices);
-      coded = coded;
-      legal = rw count legal;
+      dc_length = length-map xs (λ x. x.dc) ∙ sym count;
+      dc_destinations = all-of (IsSelectorOf frame) (λ n. n ≤ 3) (λ x. x.dc) (λ x p. p.dc) xs indices;
+      ac_length = length-map xs (λ x. x.ac) ∙ sym count;
+      ac_destinations = all-of (IsSelectorOf frame) (λ n. n ≤ 3) (λ x. x.ac) (λ x p. p.ac) xs indices;
+      coded = coded-by frame.process (length xs) first last _ _ band;
+      legal = rw count (legal-again frame.process (length xs) first last _ _ band);
       below = below;
-      same_point = same_point;
+      same_point = refl;
     }

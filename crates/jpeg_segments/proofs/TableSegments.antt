@@ -1,9 +1,8 @@
 -- Segments of tables: exactly what is written is read.
-use Rattle.std.proofs.Common.{◌≡◌, ℕ, zero, suc, ◌≤◌, ◌<◌, ◌+◌, ◌-◌, ◌*◌, ◌/◌, ◌%◌, Bool, true}
-use Rattle.std.proofs.Common.{false, cond, List, [], ◌∷◌, ◌++◌, length, set, length-append, Option}
-use Rattle.std.proofs.Common.{Some, Ok, Err, refl, sym, ap, ◌∙◌, arith, eqb, leb, ltb, fold, rules}
-use Rattle.std.proofs.lemmas.Bool.{ltb-false, ltb-true, eq-eqb, eqb-true}
-use Rattle.std.proofs.lemmas.Bool.{eqb-false}
+use Rattle.std.proofs.Common.{◌≡◌, ℕ, zero, suc, ◌≤◌, ◌<◌, ◌+◌, ◌-◌, ◌*◌, ◌/◌, ◌%◌, Bool, true, false, cond, List, []}
+use Rattle.std.proofs.Common.{◌∷◌, ◌++◌, length, set, length-append, Option, Some, Ok, Err, refl, sym, ap, arith, eqb}
+use Rattle.std.proofs.Common.{leb, ltb, fold, rules}
+use Rattle.std.proofs.lemmas.Bool.{ltb-false, ltb-true, eq-eqb, eqb-true, eqb-false}
 use Rattle.std.specs.Prelude.{◌&&◌, flat_map, sum}
 use Rattle.std.specs.List.{AllByRecursion, list_all}
 use Rattle.jpeg_bits.specs.Reading.{Malformed}
@@ -11,19 +10,15 @@ use Rattle.jpeg_bits.specs.Codes.{Table, code_lengths, codes_exist}
 use Rattle.jpeg_bits.specs.declared.codes.HuffmanTableClass.{HuffmanTableClass}
 use Rattle.jpeg_bits.proofs.Tables.{exist-tested, tested-exist}
 use Rattle.jpeg_segments.specs.Quantization as quantization
-use Rattle.jpeg_segments.specs.Quantization.{value_at, table_size, defined_table_at}
-use Rattle.jpeg_segments.specs.Quantization.{dqt_at}
-use Rattle.jpeg_segments.specs.HuffmanTables.{Tables, DefinedTable, size_of, class_of, no_tables}
-use Rattle.jpeg_segments.specs.HuffmanTables.{with_table, greatest_destination}
-use Rattle.jpeg_segments.specs.HuffmanTables.{defined_codes_at, tables_from, dht_at}
-use Rattle.jpeg_segments.specs.WrittenSegments.{u16_bytes, with_length, nibbles, QuantizationTable}
-use Rattle.jpeg_segments.specs.WrittenSegments.{IsQuantizationTable, value_bytes, quantization_bytes}
-use Rattle.jpeg_segments.specs.WrittenSegments.{quantization_tables, IsHuffmanTable, class_number}
-use Rattle.jpeg_segments.specs.WrittenSegments.{huffman_bytes, huffman_tables}
+use Rattle.jpeg_segments.specs.Quantization.{value_at, table_size, defined_table_at, dqt_at}
+use Rattle.jpeg_segments.specs.HuffmanTables.{Tables, DefinedTable, size_of, class_of, no_tables, with_table}
+use Rattle.jpeg_segments.specs.HuffmanTables.{greatest_destination, defined_codes_at, tables_from, dht_at}
+use Rattle.jpeg_segments.specs.WrittenSegments.{u16_bytes, with_length, nibbles, QuantizationTable, IsQuantizationTable}
+use Rattle.jpeg_segments.specs.WrittenSegments.{value_bytes, quantization_bytes, quantization_tables, IsHuffmanTable}
+use Rattle.jpeg_segments.specs.WrittenSegments.{class_number, huffman_bytes, huffman_tables}
 use Rattle.jpeg_segments.proofs.Fields.{nibbles-high, nibbles-low}
-use Rattle.jpeg_segments.proofs.Codecs.{Codec, bind, ends, check-if, checked, choose, done, refused}
-use Rattle.jpeg_segments.proofs.Codecs.{remap, namely, nil, cons, byte, u16, several, many}
-use Rattle.jpeg_segments.proofs.Codecs.{units, segment, outcome}
+use Rattle.jpeg_segments.proofs.Codecs.{Codec, bind, ends, check-if, checked, choose, done, refused, remap, namely, nil}
+use Rattle.jpeg_segments.proofs.Codecs.{cons, byte, u16, several, many, units, segment, outcome}
 use Rattle.std.specs.Bool.{Decides}
 use Rattle.std.proofs.lemmas.Grind.{common_steps}
 use Rattle.std.proofs.lemmas.Bool.Decides.{Decides-and, Decides-ltb, nat_tests}
@@ -81,10 +76,6 @@ abbrev with_values : quantization.QuantizationTables → QuantizationTable →
     quantization.QuantizationTables
 with_values tables t = set tables t.destination (Some t.values)
 
-joined : (t : QuantizationTable) (ts : List QuantizationTable) → length (flat_map quantization_bytes (t ∷ ts))
-    ≡ length (quantization_bytes t) + length (flat_map quantization_bytes ts)
-joined t ts = length-append (quantization_bytes t) (flat_map quantization_bytes ts)
-
 -- these tables take `left` bytes
 abbrev FillTables : ℕ → List QuantizationTable → Type 0
 FillTables left ts = AllByRecursion IsQuantizationTable ts × (length (flat_map quantization_bytes ts) ≡ left)
@@ -92,7 +83,7 @@ FillTables left ts = AllByRecursion IsQuantizationTable ts × (length (flat_map 
 no-tables : (left : ℕ) (old : quantization.QuantizationTables) → left ≡ 0
     → Codec (outcome old) (fold with_values old) (flat_map quantization_bytes) (FillTables left)
 no-tables left old z = nil _ old _ _ refl (tt, sym z)
-    (λ t ts is. omega (arith, z, is.1, table-length t is.0.0, joined t ts))
+    (λ t ts is. omega (arith, z, is.1, table-length t is.0.0, length-append {A = ℕ}))
 
 tables : (most left : ℕ) (old : quantization.QuantizationTables) → left ≤ most → Codec
     (quantization.quantization_from most left old)
@@ -108,11 +99,11 @@ tables (suc most) left old le = choose (eqb left 0) (λ z. no-tables left old (e
     (placed left) (λ (t : QuantizationTable).
     tables most (left - table_size t.precision) (with_values old t) (omega (arith, le))))
     (λ t ts. refl)
-    (λ t ts is. ((is.0.0, is.1.0), joined t ts ∙ omega (arith, table-length t is.0.0, is.0.1, is.1.1)))
+    (λ t ts is. ((is.0.0, is.1.0), omega (arith, table-length t is.0.0, is.0.1, is.1.1, length-append {A = ℕ})))
     (λ is. eqb-false left 0 z (sym is.1))
     (λ t ts is.
     let size = table-length t is.0.0 in
-    let both = joined t ts in
+    let both = length-append (quantization_bytes t) (flat_map quantization_bytes ts) in
     search rules))
 
 pub dqt : Codec dqt_at quantization_tables
@@ -178,11 +169,6 @@ codes-length : (most : ℕ) (t : DefinedTable) → IsHuffmanTable most t → len
 unfolding huffman_bytes
 codes-length most t is = grind (arith, common_steps, length-append)
 
-codes-joined : (t : DefinedTable) (ts : List DefinedTable) → length (flat_map huffman_bytes (t ∷
-    ts))
-    ≡ length (huffman_bytes t) + length (flat_map huffman_bytes ts)
-codes-joined t ts = length-append (huffman_bytes t) (flat_map huffman_bytes ts)
-
 -- these tables take `left` bytes
 abbrev FillCodes : ℕ → ℕ → List DefinedTable → Type 0
 FillCodes most left ts = AllByRecursion (IsHuffmanTable most) ts × (length (flat_map huffman_bytes ts) ≡ left)
@@ -197,7 +183,7 @@ no-codes most left old few = choose (eqb left 0)
     too-long : (t : DefinedTable) (ts : List DefinedTable) → FillCodes most left (t ∷ ts) → ⊥
     too-long t ts is =
         let some = is.0.0.some in
-        omega (arith, is.1, codes-length most t is.0.0, codes-joined t ts)
+        omega (arith, is.1, codes-length most t is.0.0, length-append {A = ℕ})
 
     go : (left ≡ 0 → ⊥) → (ts : List DefinedTable) → FillCodes most left ts → ⊥
     go n [] is = n (sym is.1)
@@ -213,11 +199,11 @@ all-codes (suc turns) most left old few le = choose (ltb 17 left)
     (defined_codes most left few) (λ (t : DefinedTable).
     all-codes turns most (left - size_of t) (with_table old t) few (omega (arith, le))))
     (λ t ts. refl)
-    (λ t ts is. ((is.0.0, is.1.0), codes-joined t ts ∙ omega (arith, codes-length most t is.0.0, is.0.1, is.1.1)))
+    (λ t ts is. ((is.0.0, is.1.0), omega (arith, codes-length most t is.0.0, is.0.1, is.1.1, length-append {A = ℕ})))
     (λ is. let some : 17 < left = ltb-true 17 left z in omega (arith, some, is.1))
     (λ t ts is.
     let size = codes-length most t is.0.0 in
-    let both = codes-joined t ts in
+    let both = length-append (huffman_bytes t) (flat_map huffman_bytes ts) in
     search rules))
     (λ z. no-codes most left old (ltb-false 17 left z))
 

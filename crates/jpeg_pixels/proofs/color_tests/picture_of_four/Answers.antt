@@ -1,30 +1,16 @@
-use Rattle.std.proofs.Common.{ℕ, List, [], ◌∷◌, All, arith, rules}
+use Rattle.std.proofs.Common.{[], ◌∷◌, arith, rules}
+use Rattle.std.proofs.lemmas.Grind.{common_steps}
 use Rattle.std.proofs.lemmas.List.Elements.{All-cons, All-nil}
-use Rattle.jpeg_segments.specs.Frame.{Factors, IsInRange, component_of, frame_of}
-use Rattle.jpeg_segments.specs.FrameView.{component_in}
+use Rattle.jpeg_segments.specs.Frame.{AllHaveSampling, component_of, frame_of}
 use Rattle.jpeg_pixels.specs.Pictures.{HaveRoom}
-use Rattle.jpeg_pixels.proofs.FramesOfFactors.{by_factors, are-covered, have-factors}
+use Rattle.jpeg_pixels.proofs.FramesOfFactors.{are-covered, by_factors}
 use Rattle.jpeg_pixels.proofs.color_tests.picture_of_four.Goals as goal
 
-abbrev factors : List Factors
-factors = by_factors 1 1 ∷ by_factors 1 1 ∷ by_factors 1 1 ∷ by_factors 1 1 ∷ []
-
-are-factors : All IsInRange factors
-are-factors = search (rules, All-cons, All-nil)
-
 pub compute_image_rows-requires-clause-factors : goal.compute_image_rows-requires-clause-factors
-unfolding frame_of component_of
-compute_image_rows-requires-clause-factors c =
-    have-factors 1 1 factors _ (λ i. c.component-one.ensures i
-    ∷ c.component-two.ensures i ∷ c.component-three.ensures i ∷ c.component-four.ensures i ∷ []) are-factors
+unfolding AllHaveSampling
+compute_image_rows-requires-clause-factors c = grind (arith, common_steps)
 
 pub compute_image_rows-requires-clause-cover : goal.compute_image_rows-requires-clause-cover
 unfolding frame_of component_of HaveRoom
 compute_image_rows-requires-clause-cover c =
-    are-covered 1 1 factors _
-    (c.args.first.items ∷ c.args.second.items ∷ c.args.third.items ∷ c.args.fourth.items ∷ [])
-    (λ i. c.component-one.ensures i ∷ c.component-two.ensures i ∷ c.component-three.ensures i
-    ∷ c.component-four.ensures i ∷ []) are-factors (omega arith) (omega arith) (
-      omega arith,
-      (omega arith, (omega arith, (omega arith, tt))),
-    )
+    search (rules, are-covered 1 1 (by_factors 1 1 ∷ by_factors 1 1 ∷ by_factors 1 1 ∷ by_factors 1 1 ∷ []), All-cons, All-nil)

@@ -1,4 +1,5 @@
-use Rattle.std.proofs.Common.{◌≡◌, rules}
+use Rattle.std.proofs.Common.{arith}
+use Rattle.std.proofs.lemmas.Grind.{common_steps}
 use Rattle.jpeg_pixels.specs.Scaled.{sample_at}
 use Rattle.jpeg_pixels.proofs.idct.dequantize_and_idct_block.Goals as goal
 
@@ -16,6 +17,4 @@ returns-in-2 c = rw c.in-2.is c.dequantize_and_idct_block_2x2.ensures
 
 pub returns-in_default : goal.returns-in_default
 unfolding sample_at
-returns-in_default c =
-    let is : c.args.scale ≡ 1 = search rules in
-    rw is c.dequantize_and_idct_block_1x1.ensures
+returns-in_default c = grind (arith, common_steps)

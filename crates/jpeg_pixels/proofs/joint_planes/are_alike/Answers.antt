@@ -1,4 +1,4 @@
-use Rattle.std.proofs.Common.{sym}
+use Rattle.std.proofs.Common.{rules}
 use Rattle.std.proofs.lemmas.List.{take_all}
 use Rattle.std.proofs.lemmas.List.Elements.{All-more, All-same}
 use Rattle.jpeg_pixels.specs.JointPlanes.{IsLike}
@@ -10,6 +10,4 @@ loop-component-preserved c =
     c.loop-component-test.true c.loop-component.invariant (c.is_like.ensures c.if-not-is_like.false)
 
 pub returns : goal.returns
-returns c = λ is. All-same (IsLike c.args.first.now) c.args.components.now _
-    (sym (take_all c.loop-component.component-index c.args.components.now
-    c.loop-component-test.false)) c.loop-component.invariant
+returns c = search (rules, All-same, take_all)

@@ -1,6 +1,6 @@
 use Rattle.std.proofs.Common.{◌≡◌, ◌*◌, List, [], ◌∷◌, map, All, Some, sym, subst, arith, rules}
 use Rattle.std.specs.List.{AllByRecursion, slice_get}
-use Rattle.std.proofs.lemmas.List.Elements.{All-map, All-weaker, recursion_from_All}
+use Rattle.std.proofs.lemmas.List.Elements.{All-map, recursion_from_All}
 use Rattle.std.proofs.lemmas.List.{length-map}
 use Rattle.std.proofs.lemmas.Nat.{mul-le}
 use Rattle.jpeg_segments.specs.Frame as frames
@@ -23,25 +23,17 @@ sampled (c ∷ more) first all is =
 each-like : (P : frames.Component → Type 0) (components : List Component) (first : Component)
     → ((c : Component) → IsLike first c → P (component_in c)) → All (IsLike first) components
     → AllByRecursion P (map component_in components)
-each-like P components first of all = recursion_from_All P (map component_in components)
-    (All-map P component_in components
-    (All-weaker (IsLike first) (λ c. P (component_in c)) of components all))
+each-like P components first of all =
+    search (rules, recursion_from_All, All-map)
 
 pub overflow_mul-shape : goal.overflow_mul-shape
-overflow_mul-shape c =
-    let some = sampled c.args.components.now _ c.requires c.in_ok-first.ensures.value in
-    omega (arith, mul-le c.from.result _ 65535 8 (omega arith) some.scale_most)
+overflow_mul-shape c = search (rules, sampled, mul-le)
 
 pub overflow_mul-shape-2 : goal.overflow_mul-shape-2
-overflow_mul-shape-2 c =
-    let some = sampled c.args.components.now _ c.requires c.in_ok-first.ensures.value in
-    omega (arith, mul-le c.from-2.result _ 4 8 (omega arith) some.scale_most)
+overflow_mul-shape-2 c = search (rules, sampled, mul-le)
 
 pub overflow_mul-is_high : goal.overflow_mul-is_high
-overflow_mul-is_high c =
-    let some = sampled c.args.components.now _ c.requires c.in_ok-first.ensures.value in
-    let high = mul-le c.from-2.result _ 4 8 (omega arith) some.scale_most in
-    omega (arith, mul-le c.from-3.result _ 65535 32 (omega arith) high)
+overflow_mul-is_high c = search (rules, sampled, mul-le)
 
 pub returns-then-is_high-clause-shape : goal.returns-then-is_high-clause-shape
 returns-then-is_high-clause-shape c =

@@ -1,6 +1,5 @@
 use Rattle.std.proofs.lemmas.Grind.{common_steps}
-use Rattle.std.proofs.Common.{arith, length-append, length-take}
-use Rattle.std.proofs.Common.{length-drop, rules}
+use Rattle.std.proofs.Common.{arith, length-append, length-take, length-drop, rules}
 use Rattle.std.proofs.lemmas.List.{with_items_is}
 use borrow.Rule.Slice.PartMut.{put_mid}
 use Rattle.jpeg_pixels.proofs.ComponentLines.{cover-lower}

@@ -4,8 +4,7 @@ use Rattle.std.specs.Int.{w16, w32}
 use Rattle.jpeg_pixels.specs.Lanes.{lane}
 use Rattle.jpeg_pixels.proofs.LaneSums.{lanes_fit, lanes_same}
 use Rattle.jpeg_pixels.proofs.LaneRows.{own_lanes}
-use Rattle.jpeg_pixels.proofs.ShortLanes.{signed_read, signed_cast, each_signed, clamped_lanes}
-use Rattle.jpeg_pixels.proofs.ShortLanes.{kept_fits, kept_same}
+use Rattle.jpeg_pixels.proofs.ShortLanes.{signed_read, signed_cast, each_signed, clamped_lanes, kept_fits, kept_same}
 use Rattle.jpeg_pixels.proofs.short_block.narrowed.Goals as goal
 
 pub overflow_cast-result : goal.overflow_cast-result

@@ -1,3 +1,4 @@
+use Rattle.std.proofs.lemmas.Grind.{common_steps}
 use Rattle.std.proofs.Common.{◌≡◌, ◌++◌, ◌∷◌, [], List, Vec, Global, map, arith, rules}
 use Rattle.std.proofs.lemmas.List.{map-append}
 use Rattle.std.proofs.lemmas.List.Elements.{All-push}
@@ -35,6 +36,4 @@ returns-in_err-factors-clause-answers g c = search (rules, err_from_is_err_and, 
 
 pub returns-clause-answers : goal.returns-clause-answers
 unfolding components_from
-returns-clause-answers g c =
-    let z : c.loop-left.left ≡ 0 = omega (arith, c.loop-left-test.false) in
-    search rules
+returns-clause-answers g c = grind (arith, common_steps)

@@ -1,7 +1,6 @@
 use Rattle.std.proofs.Common.{◌-◌, ◌∙◌, sym, arith, Vec, Global, Option, rules}
 use Rattle.std.proofs.lemmas.Result.{err_from_is_err_and}
-use Rattle.jpeg_segments.specs.HuffmanTables.{Tables, DefinedTable, dht_at, defined_codes_at}
-use Rattle.jpeg_segments.specs.HuffmanTables.{tables_from}
+use Rattle.jpeg_segments.specs.HuffmanTables.{Tables, DefinedTable, dht_at, defined_codes_at, tables_from}
 use Rattle.jpeg_segments.specs.declared.huffman_tables.DefinedTable.{DefinedTable as Read}
 use Rattle.jpeg_bits.specs.Codes.{Table}
 use Rattle.jpeg_bits.proofs.Loops.{Continues-ok, bind_at, bind_err}

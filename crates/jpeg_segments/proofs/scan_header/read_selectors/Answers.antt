@@ -1,5 +1,6 @@
-use Rattle.std.proofs.Common.{◌≡◌, ◌+◌, ◌++◌, ◌∷◌, [], List, Vec, Global, length, length-append, map, ap, ◌∙◌}
-use Rattle.std.proofs.Common.{arith, rules}
+use Rattle.std.proofs.lemmas.Grind.{common_steps}
+use Rattle.std.proofs.Common.{◌≡◌, ◌+◌, ◌++◌, ◌∷◌, [], List, Vec, Global, length, length-append, map, ap, ◌∙◌, arith}
+use Rattle.std.proofs.Common.{rules}
 use Rattle.std.proofs.lemmas.List.{map-append}
 use Rattle.std.proofs.lemmas.List.Elements.{All-push}
 use Rattle.std.proofs.lemmas.Result.{err_from_is_err_and}
@@ -43,10 +44,7 @@ returns-in_err-selector-clause-answers g c = search (rules, err_from_is_err_and,
 
 pub returns-clause-answers : goal.returns-clause-answers
 unfolding selectors_from
-returns-clause-answers g c =
-    let frame = frame_in c.args.frame.now in
-    let z : c.loop-left.left ≡ 0 = omega (arith, c.loop-left-test.false) in
-    search rules
+returns-clause-answers g c = grind (arith, common_steps, frame_in)
 
 pub returns-clause-rising : goal.returns-clause-rising
 returns-clause-rising g c = search (rules, rises-all)

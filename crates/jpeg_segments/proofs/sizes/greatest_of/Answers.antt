@@ -27,11 +27,7 @@ pub returns-clause-most_vertical : goal.returns-clause-most_vertical
 returns-clause-most_vertical c = grind (arith, common_steps, take_all, greatest-most, seen-in-range)
 
 pub returns-clause-covers_horizontal : goal.returns-clause-covers_horizontal
-returns-clause-covers_horizontal c =
-    greatest-after factors_in (λ f. f.horizontal) _ _ c.args.components.now c.loop-component.invariant.horizontal
-    c.loop-component-test.false
+returns-clause-covers_horizontal c = search (rules, greatest-after)
 
 pub returns-clause-covers_vertical : goal.returns-clause-covers_vertical
-returns-clause-covers_vertical c =
-    greatest-after factors_in (λ f. f.vertical) _ _ c.args.components.now c.loop-component.invariant.vertical
-    c.loop-component-test.false
+returns-clause-covers_vertical c = search (rules, greatest-after)

@@ -6,12 +6,7 @@ use Rattle.jpeg_pixels.proofs.joint_planes.JointPicture.gather_line.Goals as goa
 
 pub slice_bounds-copy_from_slice-end-in-loop-slot :
     goal.slice_bounds-copy_from_slice-end-in-loop-slot
-slice_bounds-copy_from_slice-end-in-loop-slot c =
-    let shape = c.args.self.now.shape in
-    let fits = part-fits c.loop-slot.slot shape.count c.args.line shape.lines shape.stride
-    c.loop-slot-test.true c.requires.line in
-    let same = rw (← c.requires.strips, ← c.strip_size.ensures) at fits in
-    omega (arith, same)
+slice_bounds-copy_from_slice-end-in-loop-slot c = search (rules, part-fits)
 
 pub loop-slot-preserved : goal.loop-slot-preserved
 loop-slot-preserved c =

@@ -1,8 +1,7 @@
 use Rattle.std.proofs.Common.{ℕ, arith, rules, refl, length-drop, length-take}
 use Rattle.std.proofs.lemmas.List.{take_all}
 use Rattle.jpeg_pixels.specs.JointPlanes.{joint_bytes}
-use Rattle.jpeg_pixels.proofs.JointPictures.{all-written, lines-fit, row-written}
-use Rattle.jpeg_pixels.proofs.JointPictures.{strips-inside}
+use Rattle.jpeg_pixels.proofs.JointPictures.{all-written, lines-fit, row-written, strips-inside}
 use Rattle.jpeg_pixels.proofs.joint_planes.JointPicture.write.Goals as goal
 
 pub loop-row-init : goal.loop-row-init

@@ -1,8 +1,8 @@
 use Rattle.std.proofs.Common.{ℕ, ◌+◌, ◌*◌, ◌≤◌, length, arith, rules, ◌∙◌, length-drop, length-take}
 use borrow.Rule.Slice.PartMut.{same_len_mid}
 use Rattle.jpeg_pixels.specs.JointPlanes.{joint_bytes}
-use Rattle.jpeg_pixels.proofs.JointPictures.{all-written, lines-end, row-written}
-use Rattle.jpeg_pixels.proofs.JointPictures.{strips-inside, unread-more}
+use Rattle.jpeg_pixels.proofs.JointPictures.{all-written, lines-end, row-written, strips-inside}
+use Rattle.jpeg_pixels.proofs.JointPictures.{unread-more}
 use Rattle.jpeg_pixels.proofs.joint_planes.JointPicture.write_in_place.Goals as goal
 
 pub loop-row-init : goal.loop-row-init

@@ -1,4 +1,5 @@
-use Rattle.std.proofs.Common.{◌∙◌, arith, rules}
+use Rattle.std.proofs.lemmas.Grind.{common_steps}
+use Rattle.std.proofs.Common.{arith, rules}
 use Rattle.jpeg_pixels.specs.JointPlanes.{strip_size}
 use Rattle.jpeg_pixels.proofs.JointRows.{part-fits, samples-all, samples-more}
 use Rattle.jpeg_pixels.proofs.joint_planes.JointPlanes.plane.Goals as goal
@@ -12,11 +13,7 @@ slice_bounds-extend_from_slice-end c =
     omega (arith, same)
 
 pub loop-row-preserved : goal.loop-row-preserved
-loop-row-preserved c = c.in_ok-extend_from_slice.ensures.items
-    ∙ samples-more c.args.self.now.shape c.args.self.now.samples.items c.deref.result.now
-    c.loop-row.plane.items c.args.slot c.loop-row.row c.strip_size-size.result c.row_size.result
-    c.loop-row-test.true c.requires.slot c.requires.full c.strip_size-size.ensures
-    c.row_size.ensures c.deref.ensures.value c.loop-row.invariant
+loop-row-preserved c = grind (arith, common_steps, samples-more)
 
 pub returns : goal.returns
 returns c = search (rules, samples-all)

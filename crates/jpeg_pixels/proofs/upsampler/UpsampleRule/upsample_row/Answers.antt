@@ -1,5 +1,5 @@
-use Rattle.std.proofs.Common.{ℕ, ◌+◌, ◌*◌, ◌/◌, ◌≤◌, ◌∙◌, arith, ap, subst, slice_index, get_or, length}
-use Rattle.std.proofs.Common.{length-take, rules}
+use Rattle.std.proofs.Common.{ℕ, ◌+◌, ◌*◌, ◌/◌, ◌≤◌, ◌∙◌, arith, ap, subst, slice_index, get_or, length, length-take}
+use Rattle.std.proofs.Common.{rules}
 use Rattle.std.specs.Int.{div_ceil}
 use Rattle.jpeg_pixels.specs.Upsampling.{across}
 use Rattle.jpeg_pixels.proofs.UpsampledRows.{in_front, as_h1v1, as_h2v1, as_h1v2, as_h2v2, as_generic, repeated_within}
