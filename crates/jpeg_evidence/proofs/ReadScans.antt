@@ -16,15 +16,15 @@ use Rattle.jpeg_streams.proofs.InTurn.{interval-long}
 use Rattle.jpeg_evidence.specs.Strict.{alone, IntervalFits, IntervalsFit, IsInterval, IsIntervals, numbers_read, others_read}
 use Rattle.jpeg_evidence.specs.Strict.IntervalsFit.{last, another}
 use Rattle.jpeg_streams.proofs.TakenTexts.{blocks-takes}
-use Rattle.jpeg_evidence.proofs.TakenIntervals.{interval-of-taken}
-use Rattle.jpeg_evidence.proofs.TakenScans.{another-interval, last-interval}
+use Rattle.jpeg_evidence.proofs.TakenIntervals.{interval_of_taken}
+use Rattle.jpeg_evidence.proofs.TakenScans.{another_interval, last_interval}
 
 -- An interval that fits is read, up to its marker.
-pub interval-read : (p : Pass) (turns : List (Via × Block)) (bytes rest : List ℕ) (m : Marker)
+pub interval_read : (p : Pass) (turns : List (Via × Block)) (bytes rest : List ℕ) (m : Marker)
     → (w : IntervalFits p turns bytes m rest)
     → interval (blocks_of p predictors_at_start 0 turns) bytes ≡ Ok ((w.blocks, Some m), rest)
 unfolding interval text_ahead upcoming end_after
-interval-read p turns bytes rest m w =
+interval_read p turns bytes rest m w =
     let t = text_at bytes in
     let r = (blocks-takes p predictors_at_start 0 turns).taken t.bits [] (Broken End) w.blocks (alone w.left)
     w.are_read in
@@ -40,7 +40,7 @@ interval-read p turns bytes rest m w =
 pub interval-written : (p : Pass) (turns : List (Via × Block)) (bytes rest : List ℕ) (m : Marker)
     → (w : IntervalFits p turns bytes m rest) → IsInterval p (numbers_read p turns w.blocks) bytes m rest
 interval-written p turns bytes rest m w =
-    interval-of-taken p turns bytes rest m w.blocks (alone w.left) w.ends w.fit w.are_read w.is_short
+    interval_of_taken p turns bytes rest m w.blocks (alone w.left) w.ends w.fit w.are_read w.is_short
 
 -- ---- blocks of several intervals
 
@@ -122,21 +122,21 @@ drop-front [] ys n h = search (rules, h)
 drop-front (x ∷ xs) ys n h = grind (arith, drop-front xs ys)
 
 -- The intervals of a scan that are read, and fit, are written for the blocks read.
-pub scan-written : (p : Pass) (k : ℕ) (turns : List (Via × Block)) (more : List (List (Via × Block)))
+pub scan_written : (p : Pass) (k : ℕ) (turns : List (Via × Block)) (more : List (List (Via × Block)))
     (bytes rest : List ℕ) (blocks : List Block) (m : Marker) → IntervalsFit p turns more bytes
     → intervals (blocks_of p predictors_at_start 0) k turns more bytes ≡ Ok ((blocks, Some m), rest)
     → IsIntervals p k (numbers_read p turns blocks) (others_read p turns more blocks) bytes m rest
 unfolding intervals others_read
-scan-written p k turns more bytes rest blocks m (last turns' bytes' rest' m' w) h =
+scan_written p k turns more bytes rest blocks m (last turns' bytes' rest' m' w) h =
     let q = scan-parts w.blocks blocks (Some m') (Some m) rest' rest
-    (sym (interval-read p turns bytes rest' m' w) ∙ h) in
-    last-interval p k (numbers_read p turns blocks) bytes rest m
+    (sym (interval_read p turns bytes rest' m' w) ∙ h) in
+    last_interval p k (numbers_read p turns blocks) bytes rest m
     (subst (λ (l : List Block). IsInterval p (numbers_read p turns l) bytes m rest) q.0
     (subst (λ (n : Marker). IsInterval p (numbers_read p turns w.blocks) bytes n rest) (some-is m' m q.1)
     (subst (λ (r : List ℕ). IsInterval p (numbers_read p turns w.blocks) bytes m' r) q.2
     (interval-written p turns bytes rest' m' w))))
-scan-written p k turns more bytes rest blocks m (another turns' following others bytes' after m' w fits) h =
-    let is = interval-read p turns bytes after m' w in
+scan_written p k turns more bytes rest blocks m (another turns' following others bytes' after m' w fits) h =
+    let is = interval_read p turns bytes after m' w in
     let further = intervals (blocks_of p predictors_at_start 0) (suc k) following others in
     let a = after-first k w.blocks blocks m' m after rest further
     (sym (ap (λ o. o >>= with_others k further) is) ∙ h) in
@@ -149,6 +149,6 @@ scan-written p k turns more bytes rest blocks m (another turns' following others
     (interval-written p turns bytes after m' w)) in
     let rest-blocks : a.more ≡ drop (length turns) blocks
     = sym (drop-front w.blocks a.more (length turns) long) ∙ ap (drop (length turns)) a.together in
-    another-interval p k (numbers_read p turns blocks) _ _ bytes after rest m first
+    another_interval p k (numbers_read p turns blocks) _ _ bytes after rest m first
     (subst (λ (l : List Block). IsIntervals p (suc k) (numbers_read p following l) (others_read p following others l) after m rest)
-    rest-blocks (scan-written p (suc k) following others after rest a.more m fits a.are_read))
+    rest-blocks (scan_written p (suc k) following others after rest a.more m fits a.are_read))

@@ -19,7 +19,7 @@ use Rattle.jpeg_evidence.specs.Strict.{HasByteSymbols, IsBand}
 use Rattle.jpeg_evidence.specs.Strict.Follows.{value, sixteen, ended}
 use Rattle.jpeg_evidence.specs.Strict.TokensFit.{filled, token}
 use Rattle.jpeg_evidence.proofs.TakenBits.{after-read, gives-taken, map-taken, cut-map, cut-both, Both}
-use Rattle.jpeg_evidence.proofs.TakenTokens.{token-taken}
+use Rattle.jpeg_evidence.proofs.TakenTokens.{token_taken}
 
 of-value : (r s k : ℕ) (u : ℤ) (own : List Bool) → Follows r s (Value k u) own → (r ≡ k) × (0 < s) × IsValue s u own
 of-value r s k u own (value r' s' u' own' is) = (refl, omega arith, is)
@@ -150,12 +150,12 @@ long-taken table al (suc n) room bits y t is bytes (token k x bits' more h f w) 
     (λ z j. long-taken table al n (room_after (suc k) x) more z t is bytes w small j) rest in
     cut-map (Both (IsToken table x) (IsAfter table al (suc k) x y)) (IsLong table al (suc k) y) bits t
     (λ own b. subst (λ (l : List Bool). IsLong table al (suc k) y l) b.whole (b.second b.front b.first))
-    (cut-both (IsToken table x) (IsAfter table al (suc k) x y) bits more t (token-taken table (suc k) bits x (alone more) is h) d)
+    (cut-both (IsToken table x) (IsAfter table al (suc k) x y) bits more t (token_taken table (suc k) bits x (alone more) is h) d)
 
 -- The bits that were taken of a band whose tokens fit are written for it.
-pub band-taken : (table : Table) (al n room : ℕ) (bits : List Bool) (y : Band) (t : Text) → IsTable table
+pub band_taken : (table : Table) (al n room : ℕ) (bits : List Bool) (y : Band) (t : Text) → IsTable table
     → HasByteSymbols table → TokensFit table al room bits → room ≤ n
     → first_ac table al n (no_numbers room) (alone bits) ≡ Ok (y, t) → IsCut (IsBand table al y.0 y.1) bits t
-band-taken table al n room bits y t is bytes fits le e =
+band_taken table al n room bits y t is bytes fits le e =
     cut-map (IsLong table al room y) (IsBand table al y.0 y.1) bits t (λ own b. b.band)
     (long-taken table al n room bits y t is bytes fits le e)

@@ -145,10 +145,10 @@ front-number n bits le = bits-of-length n (take n bits) (omega (arith, length-ta
 -- ---- numbers
 
 -- The bits that were taken of a number are its bits.
-pub number-taken : (n : ℕ) (bits : List Bool) (v : ℕ) (t : Text) → bits_from n (alone bits) ≡ Ok (v, t)
+pub number_taken : (n : ℕ) (bits : List Bool) (v : ℕ) (t : Text) → bits_from n (alone bits) ≡ Ok (v, t)
     → IsCut (IsNumber n v) bits t
 unfolding bits_from
-number-taken n bits v t e = go (leb n (length bits)) refl e
+number_taken n bits v t e = go (leb n (length bits)) refl e
   where
     go : (b : Bool) → leb n (length bits) ≡ b
         → outcomes.◌>>=◌ {B = ℕ × Text} (cond b (Ok tt) (Err End)) (λ (x : Unit {0}).
@@ -221,6 +221,6 @@ code-taken table bits c t is e = go (code_in (code_lengths table.counts) (next_1
     go (Some x) h k = kept x h (leb x.1 (length bits)) refl k
 
 -- The same of a symbol.
-pub symbol-taken : (table : Table) (bits : List Bool) (symbol : ℕ) (t : Text) → IsTable table
+pub symbol_taken : (table : Table) (bits : List Bool) (symbol : ℕ) (t : Text) → IsTable table
     → symbol_from table (alone bits) ≡ Ok (symbol, t) → IsCut (IsCoded table symbol) bits t
-symbol-taken table bits symbol t is e = grind (arith, map-parts, symbol-code, code-taken)
+symbol_taken table bits symbol t is e = grind (arith, map-parts, symbol-code, code-taken)

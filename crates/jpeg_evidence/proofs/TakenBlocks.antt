@@ -21,11 +21,11 @@ use Rattle.jpeg_streams.proofs.CutLevels.{band-map}
 use Rattle.jpeg_evidence.specs.Strict.{alone, IsCut, HasByteSymbols, TokensFit, IsBlock}
 use Rattle.jpeg_evidence.specs.Strict.{BlockFits, HasTables}
 use Rattle.jpeg_evidence.proofs.TakenBits.{bind-cut, gives-taken, map-parts, map-taken, cut-map, Both}
-use Rattle.jpeg_evidence.proofs.TakenBits.{if-read, number-taken}
+use Rattle.jpeg_evidence.proofs.TakenBits.{if-read, number_taken}
 use Rattle.jpeg_evidence.proofs.TakenRefinements.{IsKept, IsCorrected, IsRefined, alike-long}
 use Rattle.jpeg_evidence.proofs.TakenRefinements.{alike-none, one-bit}
 use Rattle.jpeg_evidence.proofs.TakenRefinements.{corrected-taken, refined-taken}
-use Rattle.jpeg_evidence.proofs.TakenValues.{difference-taken}
+use Rattle.jpeg_evidence.proofs.TakenValues.{difference_taken}
 use Rattle.std.proofs.Common.{ap₂, negsuc}
 use Rattle.std.specs.List.{AllByRecursion}
 use Rattle.jpeg_bits.specs.Written.{bit}
@@ -60,7 +60,7 @@ dc-first p table predictor bits y t s f is fits e =
     let r = map-parts (difference table)
     (λ (d : ℤ). (wrapped (scaled al (wrapped (predictor +ℤ d))), wrapped (predictor +ℤ d))) (alone bits) t y e in
     let d = r.0 in
-    let c = difference-taken table bits d t is r.1 in
+    let c = difference_taken table bits d t is r.1 in
     let read : difference table (alone bits) ≡ Ok (d, alone t.bits) = r.1 ∙ ap (λ (u : Text). Ok (d, u)) c.rest in
     let u = predictor +ℤ d in
     let range : InRange al u = record { within = fits d t.bits read } in
@@ -101,7 +101,7 @@ dc-again : (p : Pass) (table : Table) (z predictor : ℤ) (bits : List Bool) (y 
 dc-again p table z predictor bits y t s f kept e =
     let al = p.al in
     map-taken (bits_from 1) (λ (b : ℕ). (or_bit al z b, predictor)) (IsNumber 1) (WritesRead p table predictor) bits t y
-    (λ b. number-taken 1 bits b t)
+    (λ b. number_taken 1 bits b t)
     (λ b own w.
     let u = pushed (floor_at (suc al) z) b in
     let number : u ≡ floor_at al (or_bit al z b)
@@ -271,11 +271,11 @@ parts-taken p via predictor run old bits r t dc band e =
     bits t (joined p via predictor run old r c.0) c.1
 
 -- The bits that were taken of a block are written for it.
-pub block-taken : (p : Pass) (via : Via) (predictor : ℤ) (run : ℕ) (old : Block) (bits : List Bool)
+pub block_taken : (p : Pass) (via : Via) (predictor : ℤ) (run : ℕ) (old : Block) (bits : List Bool)
     (r : Block × ℤ × ℕ) (t : Text) → HasTables p via → BlockFits p via predictor run old bits
     → block_from p via.dc via.ac predictor run old (alone bits) ≡ Ok (r, t)
     → IsCut (IsBlock p via predictor run r) bits t
-block-taken p via predictor run old bits r t tables fits e =
+block_taken p via predictor run old bits r t tables fits e =
     parts-taken p via predictor run old bits r t
     (λ d u k. dc-taken-part p via.dc old.dc predictor bits d u tables.dc_is fits.dc_fits fits.dc_sent k)
     (grind (arith, band-taken-part, some-band))

@@ -26,7 +26,7 @@ use Rattle.jpeg_streams.proofs.WrittenRefinements.{with_last-end, new-scaled, ma
 use Rattle.jpeg_evidence.specs.Strict.{alone, IsCut, IsNumber, HasByteSymbols, count_zeros}
 use Rattle.jpeg_evidence.specs.Strict.{PiecesFit}
 use Rattle.jpeg_evidence.specs.Strict.PiecesFit.{covered, new, zeros, last}
-use Rattle.jpeg_evidence.proofs.TakenBits.{number-taken, symbol-taken, after-read, bind-cut, map-parts}
+use Rattle.jpeg_evidence.proofs.TakenBits.{number_taken, symbol_taken, after-read, bind-cut, map-parts}
 use Rattle.jpeg_streams.proofs.TakenTexts.{bind-parts, ok-parts, no-error}
 use Rattle.jpeg_evidence.proofs.TakenBits.{if-read, cut-map, cut-none, cut-both, gives-taken, Both}
 use Rattle.jpeg_evidence.proofs.TakenBands.{run-small}
@@ -182,9 +182,9 @@ one-taken al z bits w t kept e = if-read (is_zero z) _ _ _ _ e here other
     other h k =
         let c = bind-cut (bits_from 1) (λ (b : ℕ). corrected_by al z b) bits t w (IsNumber 1)
         (λ (b : ℕ) (own : List Bool). IsOld al w b × (own ≡ [])) k
-        (λ b u f. number-taken 1 bits b u f)
+        (λ b u f. number_taken 1 bits b u f)
         (λ b more f g.
-        let small : b < 2 = (number-taken 1 bits b (alone more) f).holds.below in
+        let small : b < 2 = (number_taken 1 bits b (alone more) f).holds.below in
         let r = old-index al z b w (alone more) t kept h small g in
         cut-none (λ (own : List Bool). IsOld al w b × (own ≡ [])) more t r.1 (r.0, refl)) in
         cut-map (Both (IsNumber 1 c.0) (λ (own : List Bool). IsOld al w c.0 × (own ≡ []))) (IsOne al z w) bits t
@@ -401,7 +401,7 @@ last-taken al r others zs bits y t ne kept e =
     if-read (eqb r 15) _ _ _ _ e (λ h k. absurd (ne (eqb-true r 15 h))) (λ h k.
     let f : ℕ → Reads Band = λ e. corrected al zs >>= (λ all. gives (all, 2 ^ r - 1 + e)) in
     let p = bind-parts (bits_from r) f (alone bits) t y k in
-    let c = number-taken r bits p.0 p.1 p.2 in
+    let c = number_taken r bits p.0 p.1 p.2 in
     grind (arith, map-parts, cut-both, corrected-taken))
 
 -- what follows a symbol that was read
@@ -449,8 +449,8 @@ refined-taken table al (suc n) zs bits y t is bytes kept (new r sign z rest fron
     cut-map (Both A (Both B (Both C D))) (IsRefined table al (z ∷ rest) y) bits t
     (λ own p. subst (λ (v : Band). IsRefined table al (z ∷ rest) v own) m.2
     (found-both table al r sign (z ∷ rest) front m.0 own bytes small p))
-    (cut-both A (Both B (Both C D)) bits one t (symbol-taken table bits (16 * r + 1) (alone one) is h)
-    (cut-both B (Both C D) one two t (number-taken 1 one sign (alone two) h1)
+    (cut-both A (Both B (Both C D)) bits one t (symbol_taken table bits (16 * r + 1) (alone one) is h)
+    (cut-both B (Both C D) one two t (number_taken 1 one sign (alone two) h1)
     (cut-both C D two more t
     (corrected-taken al (take k (z ∷ rest)) two front (alone more) (all-take (IsKept al) k (z ∷
     rest) kept) h2)
@@ -474,7 +474,7 @@ refined-taken table al (suc n) zs bits y t is bytes kept (zeros z rest front bit
     cut-map (Both A (Both C D)) (IsRefined table al (z ∷ rest) y) bits t
     (λ own p. subst (λ (v : Band). IsRefined table al (z ∷ rest) v own) m.2
     (passed-both table al (z ∷ rest) front m.0 own small p))
-    (cut-both A (Both C D) bits one t (symbol-taken table bits (16 * 15 + 0) (alone one) is h)
+    (cut-both A (Both C D) bits one t (symbol_taken table bits (16 * 15 + 0) (alone one) is h)
     (cut-both C D one more t
     (corrected-taken al (take k (z ∷ rest)) one front (alone more) (all-take (IsKept al) k (z ∷
     rest) kept) h2)
@@ -491,4 +491,4 @@ refined-taken table al (suc n) zs bits y t is bytes kept (last r z rest bits' on
     cut-map (Both A B) (IsRefined table al (z ∷ rest) y) bits t
     (λ own p. subst (λ (v : Band). IsRefined table al (z ∷ rest) v own) k.2
     (last-both table al r k.0 (z ∷ rest) k.1 own bytes ne (omega arith) p))
-    (cut-both A B bits one t (symbol-taken table bits (16 * r + 0) (alone one) is h) k.3)
+    (cut-both A B bits one t (symbol_taken table bits (16 * r + 0) (alone one) is h) k.3)
