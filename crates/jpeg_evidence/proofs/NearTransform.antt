@@ -1,4 +1,5 @@
 -- The transform is near the exact one.
+use Rattle.std.proofs.lemmas.Grind.{common_steps}
 use Rattle.std.proofs.Common.{rules}
 use Rattle.std.proofs.Common.{◌≡◌, ℕ, ◌+◌, ◌*◌, ◌<◌, ◌≤◌, List, ℤ, pos, neg_ℤ, ◌+ℤ◌, ◌-ℤ◌, ◌*ℤ◌}
 use Rattle.std.proofs.Common.{◌≤ℤ◌, ◌<ℤ◌, Bool, refl, arith, unsigned_abs, le_trans}
@@ -74,8 +75,7 @@ module _ (coefficients : List ℤ) (quantization : List ℕ) where
   column_near : (row column : ℕ) → row < 8 → column < 8 → AreSmall →
       unsigned_abs (pos 1024 *ℤ column_value coefficients quantization row column -ℤ column_sum row column) ≤ 512
   column_near row column h l small =
-      rw (column_of row column (is_flat_column coefficients column) h refl (small column 0 l (omega arith)))
-      (rounded_column (column_sum row column) (column_sum_at_most row column h l small))
+      grind (arith, common_steps, column_of, rounded_column, column_sum_at_most)
 
   row_at_most : (x y : ℕ) → x < 8 → y < 8 → AreSmall
       → unsigned_abs (transformed (column_value coefficients quantization y) x) ≤ 1873974810
@@ -89,8 +89,7 @@ module _ (coefficients : List ℤ) (quantization : List ℕ) where
       unsigned_abs (pos 131072 *ℤ (unclamped coefficients quantization x y -ℤ pos 128)
       -ℤ transformed (column_value coefficients quantization y) x) ≤ 65536
   unfolding unclamped
-  row_near x y hx hy small =
-      rounded_row (transformed (column_value coefficients quantization y) x) (row_at_most x y hx hy small)
+  row_near x y hx hy small = grind (arith, common_steps, rounded_row, row_at_most)
 
   columns_near : (x y : ℕ) → x < 8 → y < 8 → AreSmall →
       unsigned_abs (pos 1024 *ℤ transformed (column_value coefficients quantization y) x

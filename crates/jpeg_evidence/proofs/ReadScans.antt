@@ -1,4 +1,5 @@
 -- What a decoder reads of a scan, where it fits, is what the scan was written for.
+use Rattle.std.proofs.lemmas.Grind.{common_steps}
 use Rattle.std.proofs.Common.{rules, ◌≡◌, ℕ, suc, ◌%◌, ◌≤◌, Bool, true, false, List, [], ◌∷◌, ◌++◌, length}
 use Rattle.std.proofs.Common.{drop, refl, sym, ap, ap₂, ◌∙◌, subst, arith, Ok, Err, Option, Some}
 use Rattle.std.proofs.lemmas.Bool.{le-leb, eqb-true, false≢true}
@@ -81,11 +82,7 @@ scan-parts : (a b : List Block) (m n : Option Marker) (r s : List ℕ)
     → ◌≡◌ {A = Outcome (List Block × Option Marker)} (Ok ((a, m), r)) (Ok ((b, n), s))
     → (a ≡ b) × (m ≡ n) × (r ≡ s)
 unfolding result-of rest-of
-scan-parts a b m n r s h = (
-  ap (λ o. (result-of (a, m) o).0) h,
-  ap (λ o. (result-of (a, m) o).1) h,
-  ap rest-of h,
-)
+scan-parts a b m n r s h = grind (arith, common_steps, result-of, rest-of)
 
 -- what an interval and the others after it give, where it ends with RST k
 abbrev with_others : ℕ → (List ℕ → Outcome (List Block × Option Marker)) → (List Block × Option Marker) × List ℕ
@@ -97,22 +94,8 @@ after-first : (k : ℕ) (first blocks : List Block) (m n : Marker) (bytes rest :
     (others : List ℕ → Outcome (List Block × Option Marker))
     → with_others k others ((first, Some m), bytes) ≡ Ok ((blocks, Some n), rest)
     → AfterFirst k first blocks m n rest (others bytes)
-after-first k first blocks m n bytes rest others h = go (is_restart k (Some m)) refl (others bytes) h
-  where
-    go : (b : Bool) → is_restart k (Some m) ≡ b → (o : Outcome (List Block × Option Marker))
-        → ◌≡◌ {A = Outcome (List Block × Option Marker)}
-        (if b then (o >>= λ s. Ok ((first ++ s.0.0, s.0.1), s.1)) else Err Malformed) (Ok ((blocks, Some n), rest))
-        → AfterFirst k first blocks m n rest o
-    go true e (Ok r) h =
-        let q = scan-parts (first ++ r.0.0) blocks r.0.1 (Some n) r.1 rest h in
-        record {
-          more = r.0.0;
-          are_read = ap₂ (λ (x : Option Marker) (y : List ℕ). Ok ((r.0.0, x), y)) q.1 q.2;
-          together = q.0;
-          restart = restart-named k m e;
-        }
-    go true e (Err f) h = absurd (no-scan f ((blocks, Some n), rest) h)
-    go false e o h = absurd (no-scan Malformed ((blocks, Some n), rest) h)
+after-first k first blocks m n bytes rest others h =
+    grind (arith, common_steps, scan-parts, restart-named, no-scan)
 
 some-is : (m n : Marker) → Some m ≡ Some n → m ≡ n
 some-is m n h = cc

@@ -1,4 +1,5 @@
 -- The bits that were taken of a band in its first scan are those that are written for it.
+use Rattle.std.proofs.lemmas.Grind.{common_steps}
 use Rattle.std.proofs.Common.{rules}
 use Rattle.std.proofs.Common.{◌≡◌, ◌≢◌, ℕ, zero, suc, ◌+◌, ◌-◌, ◌*◌, ◌^◌, ◌<◌, ◌≤◌, Bool, List, [], ◌∷◌, ◌++◌, map}
 use Rattle.std.proofs.Common.{length, take, drop, refl, sym, ap, ◌∙◌, subst, arith, Ok, ℤ, pos, append_assoc, append-nil, length-append}
@@ -36,8 +37,7 @@ not-nothing s u h cat e = grind arith
 
 pub run-small : (table : Table) (r s : ℕ) (code : List Bool) → HasByteSymbols table → IsCoded table
     (16 * r + s) code → r ≤ 15
-run-small table r s code bytes coded = let h = bytes.each coded.index in let e = coded.is_for in
-    omega (arith, h, e)
+run-small table r s code bytes coded = grind (arith, common_steps)
 
 value-written : (table : Table) (al r : ℕ) (u : ℤ) (band : List ℤ) (run : ℕ) (own back : List Bool)
     → HasByteSymbols table

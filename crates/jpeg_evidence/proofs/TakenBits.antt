@@ -1,4 +1,5 @@
 -- The bits that were taken are those of what was read of them.
+use Rattle.std.proofs.lemmas.Grind.{common_steps}
 use Rattle.std.proofs.Common.{rules}
 use Rattle.std.proofs.Common.{◌≡◌, ℕ, zero, suc, ◌+◌, ◌*◌, ◌/◌, ◌%◌, ◌^◌, ◌<◌, ◌≤◌, Bool, true, false, cond}
 use Rattle.std.proofs.Common.{List, [], ◌∷◌, ◌++◌, length, take, replicate, refl, sym, ap, ◌∙◌, subst, arith}
@@ -53,11 +54,7 @@ pub bits-back : (bs : List Bool) → low_bits (length bs) (number_of bs) ≡ bs
 unfolding low_bits
 bits-back [] = refl
 bits-back (b ∷ bs) =
-    let c : ℕ = cond b 1 0 in
-    let l = length bs in
-    let e = number-more b bs in
-    let high : number_of (b ∷ bs) / 2 ^ l ≡ c = ap (λ (x : ℕ). x / 2 ^ l) e ∙ digits_div c (number-below bs) in
-    grind (arith, bit-back, low_bits-high, bits-back bs)
+    grind (arith, common_steps, number-more, digits_div, number-below, bit-back, low_bits-high, bits-back bs)
 
 pub bits-of-length : (n : ℕ) (bs : List Bool) → length bs ≡ n → (low_bits n (number_of bs) ≡ bs) × (number_of bs < 2 ^ n)
 bits-of-length n bs h = grind (arith, bits-back, number-below)
@@ -114,9 +111,7 @@ bind-cut {A} {B} p f bits t y P Q e first second =
 -- what is told with no bits
 pub gives-taken : {A : Type 0} (P : A → List Bool → Type 0) (x y : A) (bits : List Bool) (t : Text) → P x []
     → gives x (alone bits) ≡ Ok (y, t) → IsCut (P y) bits t
-gives-taken {A} P x y bits t h e =
-    let q = ok-parts x y (alone bits) t e in
-    cut-none (P y) bits t q.1 (subst (λ (v : A). P v []) q.0 h)
+gives-taken {A} P x y bits t h e = grind (arith, common_steps, ok-parts, cut-none)
 
 -- by one of two readers
 pub if-read : {A C : Type 0} (b : Bool) (p q : Reads A) (s : Text) (o : Result (A × Text) Fault)
@@ -178,13 +173,8 @@ none-is a e = cc
 
 test-found : (test : ℕ → Bool) (a n i : ℕ) → first_from test a n ≡ Some i → (test i ≡ true) × (i < a + n)
 test-found test a zero i e = absurd (none-is i e)
-test-found test a (suc n) i e = go (test a) refl (test-found test (a + 1) n i) e
-  where
-    go : (b : Bool) → test a ≡ b → (first_from test (a + 1) n ≡ Some i → (test i ≡ true) × (i < a + 1 + n))
-        → cond b (Some a) (first_from test (a + 1) n) ≡ Some i → (test i ≡ true)
-        × (i < a + suc n)
-    go true h more k = grind (arith, some-is)
-    go false h more k = let r = more k in (r.0, omega (arith, r.1))
+test-found test a (suc n) i e =
+    grind (arith, common_steps, first_from, some-is, test-found test (a + 1) n i)
 
 code-index : (lens : List ℕ) (bits : List Bool) (c : ℕ × ℕ) → code_in lens bits ≡ Some c
     → (c.0 < length lens) × (c.1 ≡ slice_index lens c.0)

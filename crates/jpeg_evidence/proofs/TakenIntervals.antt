@@ -1,4 +1,5 @@
 -- An interval whose bits are written for its blocks, with at most 7 bits after them, is written.
+use Rattle.std.proofs.lemmas.Grind.{common_steps}
 use Rattle.std.proofs.Common.{arith}
 use Rattle.std.proofs.Common.{◌≡◌, ℕ, List, ◌≤◌, length, Ok}
 use Rattle.jpeg_bits.specs.Entropy.{Text, Found, text_at}

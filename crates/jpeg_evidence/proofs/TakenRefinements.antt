@@ -1,4 +1,5 @@
 -- The bits that were taken of a band in a refinement are those that are written for it.
+use Rattle.std.proofs.lemmas.Grind.{common_steps}
 use Rattle.std.proofs.Common.{◌≡◌, ◌≢◌, ℕ, zero, suc, ◌+◌, ◌-◌, ◌*◌, ◌/◌, ◌%◌, ◌^◌, ◌<◌, ◌≤◌}
 use Rattle.std.proofs.Common.{Bool, true, false, List, [], ◌∷◌, ◌++◌, map, length, take, drop, refl, sym, ap, ap₂, ◌∙◌}
 use Rattle.std.proofs.Common.{subst, arith, Ok, eqb, ℤ, pos, negsuc, neg_ℤ, unsigned_abs}
@@ -79,12 +80,9 @@ moves al z w s t even e = grind (arith, eq-eqb, ok-parts, no-error)
 corrected-pos : (al m k b : ℕ) (w : ℤ) (s t : Text) → 0 < m → m * 2 ^ suc al ≡ k → b < 2
     → corrected_by al (pos k) b s ≡ Ok (w, t) → IsOld al w b × (s ≡ t)
 corrected-pos al m k zero w s t some h small e =
-    let q = ok-parts (pos k) w s t e in
-    (old-pos al m 0 w some small (ap pos (sym (kept-sum al m) ∙ h) ∙ q.0), q.1)
+    grind (arith, common_steps, ok-parts, old-pos, kept-sum)
 corrected-pos al m k (suc zero) w s t some h small e =
-    let q = moves al (pos k) w s t (ap (λ (x : ℕ). bit_of al (pos x)) (sym h) ∙ even-bit al m) e in
-    let sum : (2 * m + 1) * 2 ^ al ≡ k + 2 ^ al = omega (arith, moved-sum al m, h) in
-    (old-pos al m 1 w some small (ap pos sum ∙ q.0), q.1)
+    grind (arith, common_steps, moves, even-bit, moved-sum, old-pos)
 corrected-pos al m k b w s t some h small e = absurd (omega arith)
 
 corrected-neg : (al m k b : ℕ) (w : ℤ) (s t : Text) → 0 < m → m * 2 ^ suc al ≡ suc k → b < 2
@@ -209,8 +207,7 @@ pub corrected-taken : (al : ℕ) (zs : List ℤ) (bits : List Bool) (ws : List �
     → AllByRecursion (IsKept al) zs → corrected al zs (alone bits) ≡ Ok (ws, t)
     → IsCut (IsCorrected al zs ws) bits t
 unfolding corrected corrected_from each
-corrected-taken al [] bits ws t kept e =
-    gives-taken (IsCorrected al []) [] ws bits t (nil-corrected al) e
+corrected-taken al [] bits ws t kept e = grind (arith, common_steps, gives-taken, nil-corrected)
 corrected-taken al (z ∷ zs) bits ws t kept e =
     let f : ℤ → Reads (List ℤ) = λ w. corrected al zs >>= (λ others. gives (w ∷ others)) in
     let k = bind-parts (corrected_from al z) f (alone bits) t ws e in

@@ -1,4 +1,5 @@
 -- Intervals that are written one after the other are those of a scan.
+use Rattle.std.proofs.lemmas.Grind.{common_steps}
 use Rattle.std.proofs.Common.{◌≡◌, ℕ, suc, ◌+◌, ◌%◌, List, [], ◌∷◌, ◌++◌, replicate}
 use Rattle.std.proofs.Common.{sym, ap, arith, append_assoc, Some}
 use Rattle.std.proofs.lemmas.Bool.Decides.{nat_tests}
@@ -19,8 +20,7 @@ pub last_interval : (p : Pass) (k : ℕ) (turns : List (Via × Block)) (bytes re
 last_interval p k turns bytes rest m w = grind (arith, last)
 
 after-marker : (fill code : ℕ) (front more : List ℕ) → marker fill code (front ++ more) ≡ marker fill code front ++ more
-after-marker fill code front more =
-    ap (λ (l : List ℕ). 0xFF ∷ l) (sym (append_assoc (replicate fill 0xFF) (code ∷ front) more))
+after-marker fill code front more = grind (arith, common_steps, append_assoc)
 
 pub another_interval : (p : Pass) (k : ℕ) (turns next : List (Via × Block)) (more : List (List (Via × Block)))
     (bytes others rest : List ℕ) (m : Marker) → IsInterval p turns bytes (RST (k % 8)) others

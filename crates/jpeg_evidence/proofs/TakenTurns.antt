@@ -1,4 +1,6 @@
 -- The bits that were taken of the blocks of an interval are those that are written for them.
+use Rattle.std.proofs.lemmas.Grind.{common_steps}
+use Rattle.std.proofs.Common.{arith}
 use Rattle.std.proofs.Common.{◌≡◌, ℕ, Bool, List, [], ◌∷◌, ◌++◌, sym, ap, ◌∙◌, subst, Ok, ℤ, pos, get_or}
 use Rattle.std.proofs.Common.{set, append_assoc}
 use Rattle.jpeg_bits.specs.Entropy.{Text}
@@ -52,8 +54,7 @@ pub blocks_taken : (p : Pass) (predictors : List ℤ) (run : ℕ) (turns : List 
     → IsCut (WritesBlocks p predictors run (numbers_read p turns blocks)) bits t
 unfolding blocks_of
 blocks_taken p predictors run turns bits blocks left (finished predictors' bits') e =
-    gives-taken (λ (l : List Block). WritesBlocks p predictors 0 (numbers_read p [] l)) [] blocks bits left
-    (none-written p predictors) e
+    grind (arith, common_steps, gives-taken, none-written)
 blocks_taken p predictors run turns bits blocks left (next predictors' run' t turns' bits' more r h tables fits w) e =
     let before = get_or predictors t.0.component (pos 0) in
     let after : Block × ℤ × ℕ → Reads (List Block) = λ r.

@@ -1,4 +1,5 @@
 -- The bits that were taken of a value and of a DC difference are those that are written for it.
+use Rattle.std.proofs.lemmas.Grind.{common_steps}
 use Rattle.std.proofs.Common.{◌≡◌, ℕ, zero, suc, ◌-◌, ◌^◌, ◌<◌, ◌≤◌, Bool, List, []}
 use Rattle.std.proofs.Common.{refl, sym, ap, ◌∙◌, arith, if◌then◌else◌, pow_pos, pow-suc, Ok, leb, nat_le}
 use Rattle.std.proofs.Common.{ℤ, pos, negsuc, ◌-ℤ◌}
@@ -61,8 +62,7 @@ none-of-zero = record { category = record { holds = omega arith; is_least = λ t
 
 category-taken : (s : ℕ) (bits : List Bool) (u : ℤ) (t : Text) → signed_from s (alone bits) ≡ Ok (u, t)
     → IsCut (IsValue s u) bits t
-category-taken zero bits u t e =
-    gives-taken (IsValue 0) (pos 0) u bits t none-of-zero (sym (no-number (alone bits)) ∙ e)
+category-taken zero bits u t e = grind (arith, common_steps, gives-taken, none-of-zero, no-number)
 category-taken (suc s) bits u t e = value_taken s bits u t e
 
 listed-taken : (s : ℕ) (bits : List Bool) (u : ℤ) (t : Text)
