@@ -146,5 +146,4 @@ less k h = omega arith
 pub within_one : (coefficients : List ℤ) (quantization : List ℕ) (x y : ℕ) → x < 8 → y < 8
     → squares (dequantized coefficients quantization) ≤ℤ pos (1119 * 1119)
     → distance coefficients quantization x y < whole
-within_one coefficients quantization x y hx hy h =
-    less (distance coefficients quantization x y) (near coefficients quantization 1119 x y (omega arith) hx hy h)
+within_one coefficients quantization x y hx hy h = search (rules, less, near)

@@ -40,8 +40,7 @@ interval_read p turns bytes rest m w =
 
 pub interval-written : (p : Pass) (turns : List (Via × Block)) (bytes rest : List ℕ) (m : Marker)
     → (w : IntervalFits p turns bytes m rest) → IsInterval p (numbers_read p turns w.blocks) bytes m rest
-interval-written p turns bytes rest m w =
-    interval_of_taken p turns bytes rest m w.blocks (alone w.left) w.ends w.fit w.are_read w.is_short
+interval-written p turns bytes rest m w = search (rules, interval_of_taken)
 
 -- ---- blocks of several intervals
 

@@ -1,4 +1,5 @@
 -- An interval whose bits are written for its blocks, with at most 7 bits after them, is written.
+use Rattle.std.proofs.Common.{rules}
 use Rattle.std.proofs.lemmas.Grind.{common_steps}
 use Rattle.std.proofs.Common.{arith}
 use Rattle.std.proofs.Common.{◌≡◌, ℕ, List, ◌≤◌, length, Ok}
@@ -25,5 +26,4 @@ pub interval_of_taken : (p : Pass) (turns : List (Via × Block)) (bytes rest : L
     → blocks_of p predictors_at_start 0 turns (alone (text_at bytes).bits) ≡ Ok (blocks, left)
     → length left.bits ≤ 7 → IsInterval p (numbers_read p turns blocks) bytes m rest
 interval_of_taken p turns bytes rest m blocks left e fits h short =
-    interval_taken p (numbers_read p turns blocks) bytes rest m left e
-    (blocks_taken p predictors_at_start 0 turns (text_at bytes).bits blocks left fits h) short
+    search (rules, interval_taken, blocks_taken)

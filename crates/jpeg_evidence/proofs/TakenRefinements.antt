@@ -1,4 +1,5 @@
 -- The bits that were taken of a band in a refinement are those that are written for it.
+use Rattle.std.proofs.Common.{rules}
 use Rattle.std.proofs.lemmas.Grind.{common_steps}
 use Rattle.std.proofs.Common.{◌≡◌, ◌≢◌, ℕ, zero, suc, ◌+◌, ◌-◌, ◌*◌, ◌/◌, ◌%◌, ◌^◌, ◌<◌, ◌≤◌}
 use Rattle.std.proofs.Common.{Bool, true, false, List, [], ◌∷◌, ◌++◌, map, length, take, drop, refl, sym, ap, ap₂, ◌∙◌}
@@ -281,16 +282,14 @@ Ends zs = (r : ℕ) (us : List ℤ) → r < count_zeros zs → Alike us (take (t
 ends-zeros : (z : ℤ) (zs us : List ℤ) (r : ℕ) → is_zero z ≡ true → Ends zs → suc r < count_zeros (z ∷ zs)
     → Alike us (z ∷ take (through_zero r zs) zs) → EndsWithZero (suc r) us
 ends-zeros z zs [] r h more small a = absurd a
-ends-zeros z zs (u ∷ us) r h more small (nothing k e, b) =
-    zero-after r u us e (more r us (let c = count-here z zs h in omega (arith, c, small)) b)
+ends-zeros z zs (u ∷ us) r h more small (nothing k e, b) = search (rules, zero-after, count-here)
 ends-zeros z zs (u ∷ us) r h more small (an_old k o, b) = cc
 
 ends-old : (z : ℤ) (zs us : List ℤ) (r : ℕ) → is_zero z ≡ false → Ends zs → r < count_zeros (z ∷ zs)
     → Alike us (z ∷ take (through_zero r zs) zs) → EndsWithZero r us
 ends-old z zs [] r h more small a = absurd a
 ends-old z zs (u ∷ us) r h more small (nothing k e, b) = cc
-ends-old z zs (u ∷ us) r h more small (an_old k o, b) =
-    old-after r u us o (more r us (let c = count-past z zs h in omega (arith, c, small)) b)
+ends-old z zs (u ∷ us) r h more small (an_old k o, b) = search (rules, old-after, count-past)
 
 ends-step : (z : ℤ) (zs us : List ℤ) (r : ℕ) (b : Bool) → is_zero z ≡ b → Ends zs → r < count_zeros (z ∷ zs)
     → Alike us (take (through_zero r (z ∷ zs)) (z ∷ zs)) → EndsWithZero r us

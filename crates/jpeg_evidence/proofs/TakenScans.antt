@@ -1,4 +1,5 @@
 -- Intervals that are written one after the other are those of a scan.
+use Rattle.std.proofs.Common.{rules}
 use Rattle.std.proofs.lemmas.Grind.{common_steps}
 use Rattle.std.proofs.Common.{◌≡◌, ℕ, suc, ◌+◌, ◌%◌, List, [], ◌∷◌, ◌++◌, replicate}
 use Rattle.std.proofs.Common.{sym, ap, arith, append_assoc, Some}
