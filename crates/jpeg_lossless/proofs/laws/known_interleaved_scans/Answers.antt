@@ -1,3 +1,4 @@
+use Rattle.std.proofs.Common.{rules}
 use Rattle.jpeg_bits.specs.Marker.{marker_of}
 use Rattle.jpeg_bits.specs.Entropy.{ending_at, text_ahead, text_at, bits_from, extended}
 use Rattle.jpeg_bits.specs.Readers.{signed_from, each}

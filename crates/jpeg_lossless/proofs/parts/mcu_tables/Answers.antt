@@ -1,3 +1,5 @@
+use Rattle.std.proofs.lemmas.Grind.{common_steps}
+use Rattle.std.proofs.Common.{arith}
 use Rattle.std.proofs.Common.{◌≡◌, ◌+◌, ◌*◌, ◌++◌, ◌∙◌, ap, ap₂, sym, map, drop, List, ℕ, replicate}
 use Rattle.std.proofs.Common.{append_assoc, append-nil, rules}
 use Rattle.std.proofs.lemmas.List.{length-map}

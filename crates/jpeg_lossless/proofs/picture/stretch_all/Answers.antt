@@ -1,3 +1,4 @@
+use Rattle.std.proofs.lemmas.Grind.{common_steps}
 use Rattle.std.proofs.Common.{◌≡◌, ◌<◌, ◌+◌, ◌∷◌, ◌∙◌, ap, sym, arith, drop, length, length-set}
 use Rattle.std.specs.Vec.{with_items}
 use Rattle.std.proofs.Common.{map, rules, List, ℕ}

@@ -1,3 +1,4 @@
+use Rattle.std.proofs.lemmas.Grind.{common_steps}
 use Rattle.std.proofs.Common.{◌≡◌, ◌<◌, ◌*◌, ◌∙◌, ap, ap₂, sym, arith, map, take}
 use Rattle.std.proofs.Common.{length, length-set, List, ℕ, slice_index_or, rules}
 use Rattle.std.proofs.Math.ListN as lists

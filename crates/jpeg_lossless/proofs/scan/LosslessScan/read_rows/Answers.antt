@@ -1,3 +1,4 @@
+use Rattle.std.proofs.lemmas.Grind.{common_steps}
 use Rattle.std.proofs.Common.{◌≡◌, ◌-◌, Bool, ◌∙◌, ap, ap₂, sym, map, length, ℕ, List}
 use Rattle.std.proofs.Common.{Vec, Global, take, drop, ◌++◌, true, false, arith, rules}
 use Rattle.std.proofs.lemmas.List.{length-map}
