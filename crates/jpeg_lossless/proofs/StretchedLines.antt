@@ -181,3 +181,5 @@ line_of_lines precision h v width y (suc n) layers k =
     (ap (bytes_at precision lines) (from-none n) ∙ pixel-of precision h v width y n layers (omega arith))
     ∙ sym (line-grown precision h v n layers y)
     ∙ ap (λ (m : ℕ). sample_line precision h v m layers y) (sym s)
+
+pub ruleset sampled_lines = (from-none, lines_long, line_of_lines)

@@ -23,6 +23,3 @@ loop-left-init c =
     ∙ ap (λ (l : List Table). front ++ l) (sym (tables_open (map part_in parts) i (part_in r)
     (mapped-within part_in parts i c.loop-i-test.true) (mapped-at part_in parts i r c.index-parts-i.is)))
     ∙ c.loop-i.invariant
-
-pub returns : goal.returns
-returns c = search (rules, append-nil, length-map, tables_none)

@@ -22,6 +22,3 @@ loop-x-preserved c =
       line = stretched_step a.own.now (take l.x l.line) _ a.factor a.most l.x l.column l.rest l.invariant.column
           l.invariant.line (take_more_set l.line l.x _ (omega (arith, l.auto.line, c.loop-x-test.true)));
     }
-
-pub returns : goal.returns
-returns c = grind (arith, common_steps, take_all)

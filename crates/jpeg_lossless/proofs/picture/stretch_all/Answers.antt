@@ -121,6 +121,3 @@ loop-i-preserved c =
     lines_more a.horizontal a.vertical frame.width a.y (layer_of (component_in r) p.items) rest
     ∙ ap (λ (l : List ℕ). l ∷ across rest) (sym (written ∙ made)) in
     search (rules, length-set, map-set, wide-set, lines_step)
-
-pub returns-clause-lines : goal.returns-clause-lines
-returns-clause-lines c = search (rules, append-nil, layers_none, length-map, lines_none, take_all)

@@ -9,9 +9,6 @@ use Rattle.jpeg_lossless.proofs.StretchedLines.{from-none, line_of_lines, lines_
 use Rattle.jpeg_lossless.proofs.picture.write_sampled.Goals as goal
 use Rattle.std.proofs.lemmas.Grind.{common_steps}
 
-pub loop-y-init : goal.loop-y-init
-loop-y-init c = search (rules, no-pieces, picture-begun)
-
 pub slice_bounds-output-end : goal.slice_bounds-output-end
 slice_bounds-output-end c =
     let high = c.args.frame.now.image_size.height in
@@ -20,12 +17,6 @@ slice_bounds-output-end c =
     (c.loop-y.auto.image ∙ c.requires.room ∙ ap (λ n. high * n) (sym c.size_of_line-line.ensures.size)) in
     let same : c.from.result * line ≡ c.loop-y.y * line = ap (λ n. n * line) c.from.ensures in
     omega (arith, room, same)
-
-pub write_line-requires-clause-long : goal.write_line-requires-clause-long
-write_line-requires-clause-long c = grind (arith, common_steps, from-none, lines_long)
-
-pub loop-y-preserved : goal.loop-y-preserved
-loop-y-preserved c = grind (arith, common_steps, across-wide, line_of_lines, picture-grown)
 
 whole : (frame : Frame) (planes : List (List ℕ)) (h v high : ℕ) → h ≡ most_across frame.components
     → v ≡ most_down frame.components → high ≡ frame.height → length planes ≡ length frame.components

@@ -5,6 +5,3 @@ use Rattle.std.proofs.lemmas.Grind.{common_steps}
 
 pub loop-left-preserved : goal.loop-left-preserved
 loop-left-preserved c = search (rules, several_step)
-
-pub returns : goal.returns
-returns c = grind (arith, common_steps, pick_none)

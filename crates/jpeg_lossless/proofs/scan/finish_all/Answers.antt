@@ -32,6 +32,3 @@ loop-i-preserved c =
     let whole : map (λ v. v.items) (lists.set c.loop-i.planes i c.finish.new.plane) ≡ lists.set old i new
     = map-set (λ v. v.items) c.loop-i.planes i c.finish.new.plane in
     search (rules, length-set, cut_step)
-
-pub returns-clause-planes : goal.returns-clause-planes
-returns-clause-planes c = search (rules, cut_none, length-map)

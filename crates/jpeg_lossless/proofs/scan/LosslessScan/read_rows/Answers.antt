@@ -76,6 +76,3 @@ loop-left-preserved g c =
           (sym listed) ∙ h))
           c.loop-left.invariant.reads c.in_ok-read_row.ensures.reads;
     }
-
-pub returns-clause-reads : goal.returns-clause-reads
-returns-clause-reads g c = search (rules, planes_none)
