@@ -1,6 +1,4 @@
 -- How far the products of the transform's matrix are from those of cosines, computed.
-use Rattle.std.proofs.Common.{rules}
-use Rattle.std.proofs.lemmas.Grind.{common_steps}
 use Rattle.std.proofs.Common.{◌≡◌, ℕ, ◌*◌, ◌<◌, ◌≤◌, ℤ, pos, ◌-ℤ◌, ◌*ℤ◌, ◌≤ℤ◌}
 use Rattle.std.proofs.Common.{Bool, true, refl, arith, unsigned_abs, nat_le}
 use Rattle.std.proofs.lemmas.Bool.{leb-true}

@@ -1,12 +1,11 @@
 -- The transform is near the exact one.
 use Rattle.std.proofs.lemmas.Grind.{common_steps}
-use Rattle.std.proofs.Common.{rules}
-use Rattle.std.proofs.Common.{◌≡◌, ℕ, ◌+◌, ◌*◌, ◌<◌, ◌≤◌, List, ℤ, pos, neg_ℤ, ◌+ℤ◌, ◌-ℤ◌, ◌*ℤ◌}
-use Rattle.std.proofs.Common.{◌≤ℤ◌, ◌<ℤ◌, Bool, refl, arith, unsigned_abs, le_trans}
+use Rattle.std.proofs.Common.{rules, ◌≡◌, ℕ, ◌+◌, ◌*◌, ◌<◌, ◌≤◌, List, ℤ, pos, neg_ℤ, ◌+ℤ◌, ◌-ℤ◌}
+use Rattle.std.proofs.Common.{◌*ℤ◌, ◌≤ℤ◌, ◌<ℤ◌, Bool, arith, unsigned_abs, le_trans}
 use Rattle.std.proofs.Common.{mul-le-mul_left}
 use Rattle.std.proofs.lemmas.Int.{ints, int_wrap_fits}
 use Rattle.std.specs.Int.{w32, int_shr, int_wrap}
-use Rattle.jpeg_pixels.specs.Samples.{sum_below, basis, transformed, dequantized, is_flat_column, column_value}
+use Rattle.jpeg_pixels.specs.Samples.{clamped, sample, sum_below, basis, transformed, dequantized, is_flat_column, column_value}
 use Rattle.jpeg_pixels.proofs.ZeroCases.{zero_column}
 use Rattle.jpeg_evidence.specs.Exact.{exact_sum, squares, unclamped, whole, distance}
 use Rattle.jpeg_evidence.proofs.Sums.{drifted, bounded, each_at_most, products_of_rows, within_product}
@@ -147,3 +146,10 @@ pub within_one : (coefficients : List ℤ) (quantization : List ℕ) (x y : ℕ)
     → squares (dequantized coefficients quantization) ≤ℤ pos (1119 * 1119)
     → distance coefficients quantization x y < whole
 within_one coefficients quantization x y hx hy h = search (rules, less, near)
+
+pub clamps : (coefficients : List ℤ) (quantization : List ℕ) (x y : ℕ)
+    → sample coefficients quantization x y ≡ clamped (unclamped coefficients quantization x y)
+unfolding sample unclamped
+clamps coefficients quantization x y = refl
+
+pub ruleset nearness = (clamps, near, within_one)

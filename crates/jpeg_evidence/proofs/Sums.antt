@@ -1,9 +1,7 @@
 -- Sums of products: how large they are at most.
-use Rattle.std.proofs.lemmas.Grind.{common_steps}
-use Rattle.std.proofs.Common.{rules}
-use Rattle.std.proofs.Common.{◌≡◌, ℕ, zero, suc, ◌+◌, ◌*◌, ◌<◌, ◌≤◌, ℤ, pos, negsuc, neg_ℤ, ◌+ℤ◌, ◌-ℤ◌, ◌*ℤ◌, ◌≤ℤ◌}
-use Rattle.std.proofs.Common.{refl, subst, one-mul, mul-add, mul_comm, zero-lt-suc, arith, mul-le-mul, mul-le-mul_left}
-use Rattle.std.proofs.Common.{unsigned_abs}
+use Rattle.std.proofs.Common.{rules, ◌≡◌, ℕ, zero, suc, ◌+◌, ◌*◌, ◌<◌, ◌≤◌, ℤ, pos, negsuc, neg_ℤ}
+use Rattle.std.proofs.Common.{◌+ℤ◌, ◌-ℤ◌, ◌*ℤ◌, ◌≤ℤ◌, refl, subst, one-mul, mul-add, mul_comm}
+use Rattle.std.proofs.Common.{zero-lt-suc, arith, mul-le-mul, mul-le-mul_left, unsigned_abs}
 use Rattle.std.proofs.Math.Logic.{⊎_elim}
 use Rattle.std.proofs.Math.Nat.{le_of_mul-le-mul_left, mul-pos}
 use Rattle.std.proofs.Math.IntN.{*ℤ-zero}

@@ -15,8 +15,7 @@ use Rattle.jpeg_streams.specs.WrittenData.WritesBand.{full, value as a_value, si
 use Rattle.jpeg_streams.proofs.SentBlocks.{scaled, InRange}
 use Rattle.jpeg_streams.proofs.WrittenBands.{map-no_numbers, scaled-fits}
 use Rattle.jpeg_evidence.specs.Strict.{alone, IsCut, IsNumber, IsValue, Follows, IsToken}
-use Rattle.jpeg_evidence.specs.Strict.{IsTokenWithin, room_after, TokensFit}
-use Rattle.jpeg_evidence.specs.Strict.{HasByteSymbols, IsBand}
+use Rattle.jpeg_evidence.specs.Strict.{IsTokenWithin, room_after, TokensFit, HasByteSymbols, IsBand}
 use Rattle.jpeg_evidence.specs.Strict.Follows.{value, sixteen, ended}
 use Rattle.jpeg_evidence.specs.Strict.TokensFit.{filled, token}
 use Rattle.jpeg_evidence.proofs.TakenBits.{after-read, gives-taken, map-taken, cut-map, cut-both, Both}

@@ -1,17 +1,16 @@
 -- The bits that were taken are those of what was read of them.
 use Rattle.std.proofs.lemmas.Grind.{common_steps}
-use Rattle.std.proofs.Common.{rules}
-use Rattle.std.proofs.Common.{◌≡◌, ℕ, zero, suc, ◌+◌, ◌*◌, ◌/◌, ◌%◌, ◌^◌, ◌<◌, ◌≤◌, Bool, true, false, cond}
-use Rattle.std.proofs.Common.{List, [], ◌∷◌, ◌++◌, length, take, replicate, refl, sym, ap, ◌∙◌, subst, arith}
-use Rattle.std.proofs.Common.{take-append-drop, length-take, pow-suc, mul_assoc, Ok, Err, Result, if◌then◌else◌, slice_index}
-use Rattle.std.proofs.Common.{Option, Some, None, leb}
+use Rattle.std.proofs.Common.{rules, ◌≡◌, ℕ, zero, suc, ◌+◌, ◌*◌, ◌%◌, ◌^◌, ◌<◌, ◌≤◌, Bool, true}
+use Rattle.std.proofs.Common.{false, cond, List, [], ◌∷◌, ◌++◌, length, take, replicate, refl, sym}
+use Rattle.std.proofs.Common.{ap, ◌∙◌, subst, arith, take-append-drop, length-take, pow-suc}
+use Rattle.std.proofs.Common.{mul_assoc, Ok, Err, Result, if◌then◌else◌, slice_index, Option, Some}
+use Rattle.std.proofs.Common.{None, leb, append_assoc}
 use lib.Arith.{digits_div}
 use Rattle.std.proofs.Math.Nat.{add-mul, zero-mul, one-mul}
 use Rattle.std.proofs.lemmas.Bool.{leb-true, eqb-true}
-use Rattle.std.proofs.lemmas.List.{take-append-le}
-use Rattle.std.proofs.Common.{append_assoc}
+use Rattle.std.proofs.lemmas.List.{take-append-le, take-take}
 use Rattle.std.proofs.Math.Seq.{drop-nil}
-use Rattle.jpeg_bits.specs.Reading.{Fault, End}
+use Rattle.jpeg_bits.specs.Reading.{Fault, End, Malformed}
 use Rattle.jpeg_bits.specs.Reading as outcomes
 use Rattle.jpeg_bits.specs.Entropy.{bits_from, number_of, Text, advance}
 use Rattle.jpeg_bits.specs.Readers.{Reads, gives, ◌>>=◌}
@@ -19,10 +18,8 @@ use Rattle.jpeg_bits.proofs.CodeLemmas.{first_from}
 use Rattle.jpeg_bits.specs.Codes.{Table, IsTable, code_from, code_in, code_value, begins, code_lengths}
 use Rattle.jpeg_bits.specs.Codes.{next_16, code_by, symbol_from}
 use Rattle.jpeg_bits.proofs.BufferedBits.{if_buffered}
-use Rattle.jpeg_bits.specs.Reading.{Malformed}
 use Rattle.jpeg_bits.specs.Written.{bit, low_bits, IsCoded}
 use Rattle.jpeg_bits.proofs.Tables.{rising-at, all-rising, symbol-code}
-use Rattle.std.proofs.lemmas.List.{take-take}
 use Rattle.jpeg_bits.proofs.WrittenBits.{number_onto}
 use Rattle.jpeg_bits.proofs.Reservoirs.{low_bits-high}
 use Rattle.jpeg_streams.proofs.TakenTexts.{bind-parts, no-error, ok-parts}

@@ -1,8 +1,7 @@
 -- The bits that were taken of a block are those that are written for it.
-use Rattle.std.proofs.lemmas.Grind.{common_steps}
-use Rattle.std.proofs.Common.{rules, ◌≡◌, ℕ, zero, suc, ◌+◌, ◌-◌, ◌*◌, ◌^◌, ◌<◌, Bool, true, false, List, []}
-use Rattle.std.proofs.Common.{◌∷◌, map, length, refl, sym, ap, ◌∙◌, subst, arith, Ok, ℤ, pos}
-use Rattle.std.proofs.Common.{◌+ℤ◌, ◌-ℤ◌, unsigned_abs, le_refl, append-nil}
+use Rattle.std.proofs.Common.{rules, ◌≡◌, ℕ, zero, suc, ◌+◌, ◌-◌, ◌*◌, ◌^◌, ◌<◌, Bool, true, false}
+use Rattle.std.proofs.Common.{List, [], ◌∷◌, map, length, refl, sym, ap, ◌∙◌, subst, arith, Ok, ℤ}
+use Rattle.std.proofs.Common.{pos, ◌+ℤ◌, ◌-ℤ◌, unsigned_abs, le_refl, append-nil, ap₂, negsuc}
 use Rattle.std.proofs.lemmas.Bool.{eqb-true, eqb-false}
 use Rattle.std.proofs.lemmas.Int.{ints, int_wrap_fits}
 use Rattle.std.proofs.lemmas.List.{length-map, length-replicate}
@@ -14,28 +13,24 @@ use Rattle.jpeg_bits.specs.Refinement.{corrected, refined_ac}
 use Rattle.jpeg_bits.specs.Passes.{Block, Pass, Via, band_of, with_band, or_bit, dc_part, band_part, block_from}
 use Rattle.jpeg_streams.specs.Levels.{floor_at, toward_zero}
 use Rattle.jpeg_streams.specs.WrittenData.{no_numbers, WritesAc, WritesBand, WritesDc}
-use Rattle.jpeg_streams.specs.WrittenData.WritesDc.{other_band, whole as a_whole}
+use Rattle.jpeg_streams.specs.WrittenData.{NoneNew, corrections, low_bit, WritesRefinement}
+use Rattle.jpeg_streams.specs.WrittenData.WritesDc.{other_band, whole as a_whole, one_bit}
 use Rattle.jpeg_streams.specs.WrittenData.WritesAc.{no_band, first as a_first, first_run}
-use Rattle.jpeg_streams.proofs.SentBlocks.{scaled, InRange}
+use Rattle.jpeg_streams.specs.WrittenData.WritesAc.{again as a_refinement, again_run}
+use Rattle.jpeg_streams.proofs.SentBlocks.{scaled, InRange, dc_kept, floor_half}
 use Rattle.jpeg_streams.proofs.WrittenBands.{map-no_numbers, scaled-fits, range-below, mag-le}
 use Rattle.jpeg_streams.proofs.CutLevels.{band-map}
-use Rattle.jpeg_evidence.specs.Strict.{alone, IsCut, HasByteSymbols, TokensFit, IsBlock}
-use Rattle.jpeg_evidence.specs.Strict.{BlockFits, HasTables}
+use Rattle.jpeg_evidence.specs.Strict.{alone, IsCut, HasByteSymbols, TokensFit, IsBlock, BlockFits}
+use Rattle.jpeg_evidence.specs.Strict.{HasTables, IsNumber, PiecesFit}
 use Rattle.jpeg_evidence.proofs.TakenBits.{bind-cut, gives-taken, map-parts, map-taken, cut-map, Both}
 use Rattle.jpeg_evidence.proofs.TakenBits.{if-read, number_taken}
 use Rattle.jpeg_evidence.proofs.TakenRefinements.{IsKept, IsCorrected, IsRefined, alike-long}
 use Rattle.jpeg_evidence.proofs.TakenRefinements.{alike-none, one-bit}
 use Rattle.jpeg_evidence.proofs.TakenRefinements.{corrected-taken, refined-taken}
 use Rattle.jpeg_evidence.proofs.TakenValues.{difference_taken}
-use Rattle.std.proofs.Common.{ap₂, negsuc}
 use Rattle.std.specs.List.{AllByRecursion}
 use Rattle.jpeg_bits.specs.Written.{bit}
-use Rattle.jpeg_streams.specs.WrittenData.{NoneNew, corrections, low_bit, WritesRefinement}
-use Rattle.jpeg_streams.specs.WrittenData.WritesDc.{one_bit}
-use Rattle.jpeg_streams.specs.WrittenData.WritesAc.{again as a_refinement, again_run}
-use Rattle.jpeg_streams.proofs.SentBlocks.{dc_kept, floor_half}
 use Rattle.jpeg_streams.proofs.WrittenBlocks.{dc-refined}
-use Rattle.jpeg_evidence.specs.Strict.{IsNumber, PiecesFit}
 use Rattle.jpeg_evidence.proofs.TakenBands.{IsLong, long-taken}
 use Rattle.jpeg_evidence.proofs.TakenLevels.{floor-scaled, all-toward, band-put, some-band}
 

@@ -1,9 +1,6 @@
 -- Bytes whose text ends with a marker are stuffed bytes of its bits, and the marker.
-use Rattle.std.proofs.Common.{rules}
-use Rattle.std.proofs.lemmas.Grind.{common_steps}
-use Rattle.std.proofs.Common.{arith}
-use Rattle.std.proofs.Common.{◌≡◌, ℕ, zero, suc, Bool, true, false, cond, List, [], ◌∷◌, ◌++◌, replicate, refl, sym}
-use Rattle.std.proofs.Common.{ap, ap₂, ◌∙◌, eqb, Option, Some}
+use Rattle.std.proofs.Common.{arith, ◌≡◌, ℕ, zero, suc, Bool, true, false, cond, List, [], ◌∷◌}
+use Rattle.std.proofs.Common.{◌++◌, replicate, refl, sym, ap, ap₂, ◌∙◌, eqb, Option, Some}
 use Rattle.std.proofs.lemmas.Bool.{eqb-true}
 use Rattle.jpeg_bits.specs.Reading.{End, Fault}
 use Rattle.jpeg_bits.specs.Entropy.{Ending, Found, Broken, bits_of, text_at, add_byte, no_bits, ended_by, ending_at}

@@ -1,6 +1,4 @@
 -- The bits that were taken of a DC coefficient in its first scan are those that are written for it.
-use Rattle.std.proofs.Common.{rules}
-use Rattle.std.proofs.lemmas.Grind.{common_steps}
 use Rattle.std.proofs.Common.{◌≡◌, ℕ, ◌^◌, Bool, List, arith, Ok, ℤ, pos, ◌+ℤ◌, ◌*ℤ◌}
 use Rattle.jpeg_bits.specs.Entropy.{Text}
 use Rattle.jpeg_bits.specs.Codes.{Table, IsTable}

@@ -1,8 +1,5 @@
 -- An interval whose bits are written for its blocks, with at most 7 bits after them, is written.
-use Rattle.std.proofs.Common.{rules}
-use Rattle.std.proofs.lemmas.Grind.{common_steps}
-use Rattle.std.proofs.Common.{arith}
-use Rattle.std.proofs.Common.{◌≡◌, ℕ, List, ◌≤◌, length, Ok}
+use Rattle.std.proofs.Common.{rules, arith, ◌≡◌, ℕ, List, ◌≤◌, length, Ok}
 use Rattle.jpeg_bits.specs.Entropy.{Text, Found, text_at}
 use Rattle.jpeg_bits.specs.Passes.{Block, Pass, Via, blocks_of, predictors_at_start}
 use Rattle.jpeg_bits.specs.declared.marker.Marker.{Marker}

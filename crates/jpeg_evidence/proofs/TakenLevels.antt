@@ -1,6 +1,4 @@
 -- A coefficient's number at the level that it was read at, and the band of a block after a pass.
-use Rattle.std.proofs.Common.{rules}
-use Rattle.std.proofs.lemmas.Grind.{common_steps}
 use Rattle.std.proofs.Common.{◌≡◌, ℕ, suc, ◌+◌, ◌*◌, ◌/◌, ◌^◌, ◌<◌, ◌≤◌, List, [], ◌∷◌, ◌++◌, map, length}
 use Rattle.std.proofs.Common.{take, drop, refl, sym, ap, ap₂, ◌∙◌, arith, ℤ, pow_pos}
 use Rattle.std.proofs.Common.{length-take, length-drop, add-zero, append-nil, ◌≢◌}

@@ -1,10 +1,10 @@
 -- The bits that were taken of a band in a refinement are those that are written for it.
 use Rattle.std.proofs.Common.{rules}
-use Rattle.std.proofs.lemmas.Grind.{common_steps}
 use Rattle.std.proofs.Common.{◌≡◌, ◌≢◌, ℕ, zero, suc, ◌+◌, ◌-◌, ◌*◌, ◌/◌, ◌%◌, ◌^◌, ◌<◌, ◌≤◌}
 use Rattle.std.proofs.Common.{Bool, true, false, List, [], ◌∷◌, ◌++◌, map, length, take, drop, refl, sym, ap, ap₂, ◌∙◌}
 use Rattle.std.proofs.Common.{subst, arith, Ok, eqb, ℤ, pos, negsuc, neg_ℤ, unsigned_abs}
 use Rattle.std.proofs.Common.{append_assoc, append-nil, length-append, length-take, length-drop, leb}
+use Rattle.std.proofs.lemmas.Grind.{common_steps}
 use Rattle.std.proofs.Math.Nat.{zero-mul, one-mul}
 use Rattle.std.proofs.lemmas.Bool.{eqb-true, eq-eqb, le-leb}
 use Rattle.std.specs.List.{AllByRecursion}
@@ -29,8 +29,8 @@ use Rattle.jpeg_evidence.specs.Strict.{alone, IsCut, IsNumber, HasByteSymbols, c
 use Rattle.jpeg_evidence.specs.Strict.{PiecesFit}
 use Rattle.jpeg_evidence.specs.Strict.PiecesFit.{covered, new, zeros, last}
 use Rattle.jpeg_evidence.proofs.TakenBits.{number_taken, symbol_taken, after-read, bind-cut, map-parts}
-use Rattle.jpeg_streams.proofs.TakenTexts.{bind-parts, ok-parts, no-error}
 use Rattle.jpeg_evidence.proofs.TakenBits.{if-read, cut-map, cut-none, cut-both, gives-taken, Both}
+use Rattle.jpeg_streams.proofs.TakenTexts.{bind-parts, ok-parts, no-error}
 use Rattle.jpeg_evidence.proofs.TakenBands.{run-small}
 
 -- ---- a place
@@ -176,6 +176,7 @@ one-taken al z bits w t kept e = if-read (is_zero z) _ _ _ _ e here other
       alike = nothing h refl;
       bits = λ us. corrections-zero us;
     }) k
+
     other : is_zero z ≡ false → (bits_from 1 >>= (λ b. corrected_by al z b)) (alone bits) ≡ Ok (w, t)
         → IsCut (IsOne al z w) bits t
     other h k =

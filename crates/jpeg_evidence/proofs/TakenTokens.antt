@@ -1,6 +1,4 @@
 -- The bits that were taken of a token are those that are written for it.
-use Rattle.std.proofs.Common.{rules}
-use Rattle.std.proofs.lemmas.Grind.{common_steps}
 use Rattle.std.proofs.Common.{◌≡◌, ℕ, zero, suc, ◌+◌, ◌-◌, ◌/◌, ◌%◌, ◌^◌, Bool, List, []}
 use Rattle.std.proofs.Common.{arith, Ok, leb, ltb, eqb, ℤ}
 use Rattle.std.proofs.lemmas.Bool.{ltb-false, eqb-true, eqb-false}

@@ -67,7 +67,7 @@ pub fn cosines_are_cosines()
 
 /// The matrix of the inverse transform is that of the cosine transform (T.81, A.3.3), each entry
 /// within 2 of 4096 sqrt 2 times its cosine.
-#[tactic(auto, unfolding(jpeg_pixels::specs::Samples::basis, crate::specs::Cosines::cosine, crate::specs::Cosines::is_entry, crate::specs::Cosines::are_entries))]
+#[tactic(auto, unfolding(crate::proofs::OnLiterals::matrix_on_literals))]
 pub fn matrix_is_of_cosines()
     ensures { are_entries ≡ true }
 {}
@@ -77,7 +77,7 @@ pub fn matrix_is_of_cosines()
 /// to a sample is within (617000 + 342 n) / 10^6 of A.3.3's. So it is less than 1 away where they
 /// add up to at most 1119^2. (Those of a block of 8-bit samples add up to at most 1024^2 before
 /// they are quantized, by Parseval's equation.)
-#[tactic(auto, unfolding(jpeg_pixels::specs::Samples::sample, crate::specs::Exact::unclamped), using(crate::proofs::NearTransform::near, crate::proofs::NearTransform::within_one))]
+#[tactic(auto, using(crate::proofs::NearTransform::nearness))]
 pub fn transform_is_near()
     ensures clamped { (coefficients : List ℤ) (quantization : List ℕ) (x y : ℕ) →
         sample coefficients quantization x y ≡ clamped (unclamped coefficients quantization x y) }
@@ -97,14 +97,14 @@ pub fn files_mean_their_picture()
 {}
 
 /// A lossless file of `dcmcjpeg` means the samples that it was given.
-#[tactic(auto, unfolding(jpeg_decoder::proofs::OnLiterals::jpeg_on_literals, jpeg_decoder::proofs::LosslessOnLiterals::lossless_on_literals))]
+#[tactic(auto, unfolding(crate::proofs::OnLiterals::files_on_literals))]
 pub fn lossless_file_means_its_samples()
     ensures { picture_meant lossless_file ≡ Ok samples_of_file }
 {}
 
 /// The table of a lossless scan's component is that of Td, not of Ta (T.81, B.2.3): with the table
 /// and Td at 1, the file means the same.
-#[tactic(auto, unfolding(jpeg_decoder::proofs::OnLiterals::jpeg_on_literals, jpeg_decoder::proofs::LosslessOnLiterals::lossless_on_literals))]
+#[tactic(auto, unfolding(crate::proofs::OnLiterals::files_on_literals))]
 pub fn lossless_tables_are_by_td()
     ensures { picture_meant file_of_table_1 ≡ Ok samples_of_file }
 {}

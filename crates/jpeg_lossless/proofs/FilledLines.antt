@@ -63,6 +63,6 @@ unfolding AreWide lines_across
 across-wide h v width y [] = tt
 across-wide h v width y (l ∷ layers) = (length-map-range_with_len _ 0 width, across-wide h v width y layers)
 
-pub ruleset pieces = (no-pieces, piece-fits, pieces-more, all-pieces)
+pub ruleset pieces = (no-pieces, piece-fits, pieces-more, all-pieces, common_steps)
 
-pub ruleset wide_lines = (wide-none, wide-more, across-wide)
+pub ruleset wide_lines = (wide-none, wide-more, common_steps)

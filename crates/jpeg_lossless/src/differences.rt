@@ -48,7 +48,7 @@ fn take_difference<R: Read + Drop>(
 /// Appends the differences of an MCU to those of a row. On an error stores it in `refusal` and
 /// returns false.
 #[inline(always)]
-#[tactic(auto, using(crate::proofs::DifferenceLoops::row_rules, std::proofs::lemmas::Grind::common_steps))]
+#[tactic(auto, using(crate::proofs::DifferenceLoops::row_rules))]
 fn take_mcu<R: Read + Drop>(
     alloc: Global,
     decoder: &mut HuffmanDecoder,

@@ -1,7 +1,4 @@
 -- computed on the bytes of the files
-use Rattle.std.proofs.Common.{rules}
-use Rattle.std.proofs.lemmas.Grind.{common_steps}
-use Rattle.std.proofs.Common.{arith}
 use Rattle.std.proofs.Common.{refl}
 use Rattle.jpeg_decoder.proofs.OnLiterals.{jpeg_on_literals}
 use Rattle.jpeg_evidence.proofs.files_mean_their_picture.Goals as goal

@@ -1,6 +1,3 @@
-use Rattle.std.proofs.Common.{rules}
-use Rattle.std.proofs.lemmas.Grind.{common_steps}
-use Rattle.std.proofs.Common.{arith}
 use Rattle.jpeg_evidence.proofs.TakenBits.{number_taken}
 use Rattle.jpeg_evidence.proofs.TakenValues.{value_taken}
 use Rattle.jpeg_evidence.proofs.read_back.bits_taken_are_written.Goals as goal

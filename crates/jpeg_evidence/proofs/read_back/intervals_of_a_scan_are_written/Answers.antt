@@ -1,6 +1,3 @@
-use Rattle.std.proofs.Common.{rules}
-use Rattle.std.proofs.lemmas.Grind.{common_steps}
-use Rattle.std.proofs.Common.{arith}
 use Rattle.jpeg_evidence.proofs.TakenScans.{another_interval}
 use Rattle.jpeg_evidence.proofs.read_back.intervals_of_a_scan_are_written.Goals as goal
 

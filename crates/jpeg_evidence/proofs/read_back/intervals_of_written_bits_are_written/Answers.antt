@@ -1,6 +1,3 @@
-use Rattle.std.proofs.Common.{rules}
-use Rattle.std.proofs.lemmas.Grind.{common_steps}
-use Rattle.std.proofs.Common.{arith}
 use Rattle.jpeg_evidence.proofs.TakenIntervals.{interval_taken}
 use Rattle.jpeg_evidence.proofs.read_back.intervals_of_written_bits_are_written.Goals as goal
 

@@ -1,6 +1,3 @@
-use Rattle.std.proofs.Common.{rules}
-use Rattle.std.proofs.lemmas.Grind.{common_steps}
-use Rattle.std.proofs.Common.{arith}
 use Rattle.jpeg_evidence.proofs.ReadScans.{interval_read}
 use Rattle.jpeg_evidence.proofs.read_back.scan_taken_is_written.Goals as goal
 

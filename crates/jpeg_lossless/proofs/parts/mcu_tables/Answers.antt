@@ -1,12 +1,9 @@
-use Rattle.std.proofs.lemmas.Grind.{common_steps}
-use Rattle.std.proofs.Common.{arith}
 use Rattle.std.proofs.Common.{◌≡◌, ◌+◌, ◌*◌, ◌++◌, ◌∙◌, ap, ap₂, sym, map, drop, List, ℕ, replicate}
-use Rattle.std.proofs.Common.{append_assoc, append-nil, rules}
-use Rattle.std.proofs.lemmas.List.{length-map}
+use Rattle.std.proofs.Common.{append_assoc}
 use Rattle.jpeg_bits.specs.Codes.{Table}
 use Rattle.jpeg_lossless.specs.Codings.{part_in}
 use Rattle.jpeg_lossless.specs.Differences.{mcu_tables}
-use Rattle.jpeg_lossless.proofs.RowLoops.{mapped-at, mapped-within, tables_none, tables_open}
+use Rattle.jpeg_lossless.proofs.RowLoops.{mapped-at, mapped-within, tables_open}
 use Rattle.jpeg_lossless.proofs.parts.mcu_tables.Goals as goal
 
 pub loop-left-init : goal.loop-left-init

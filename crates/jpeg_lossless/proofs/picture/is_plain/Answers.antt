@@ -1,5 +1,3 @@
-use Rattle.std.proofs.lemmas.Grind.{common_steps}
-use Rattle.std.proofs.Common.{arith}
 use Rattle.std.proofs.Common.{◌≡◌, ◌<◌, ◌∙◌, length, map, rules}
 use Rattle.std.specs.Prelude.{slice_index_or}
 use Rattle.jpeg_segments.specs.FrameView.{component_in, frame_in}

@@ -1,6 +1,3 @@
-use Rattle.std.proofs.Common.{rules}
-use Rattle.std.proofs.lemmas.Grind.{common_steps}
-use Rattle.std.proofs.Common.{arith}
 use Rattle.std.proofs.Common.{◌≡◌, take}
 use Rattle.jpeg_lossless.proofs.StretchedLines.{IsColumn, stretched}
 use Rattle.jpeg_lossless.proofs.picture.stretch.Given as goal

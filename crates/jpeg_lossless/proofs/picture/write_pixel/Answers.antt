@@ -1,11 +1,9 @@
-use Rattle.std.proofs.lemmas.Grind.{common_steps}
 use Rattle.std.proofs.Common.{◌≡◌, ◌≤◌, ◌<◌, ◌+◌, ap, arith, map, rules}
 use Rattle.std.proofs.Common.{length, List, ℕ, slice_index_or, Vec, Global}
 use Rattle.std.proofs.Math.ListN as lists
-use Rattle.std.proofs.lemmas.List.{length-map, take_all}
+use Rattle.std.proofs.lemmas.List.{length-map}
 use Rattle.jpeg_lossless.specs.Pictures.{AreLong}
-use Rattle.jpeg_lossless.proofs.FilledLines.{all-pieces, no-pieces, pieces-more}
-use Rattle.jpeg_lossless.proofs.ImageLoops.{bytes-none, bytes-more, long-at}
+use Rattle.jpeg_lossless.proofs.ImageLoops.{long-at}
 use Rattle.jpeg_lossless.proofs.picture.write_pixel.Goals as goal
 
 inside-plane : (at i : ℕ) (planes : List (Vec ℕ Global)) (r : Vec ℕ Global) (slice : List ℕ)

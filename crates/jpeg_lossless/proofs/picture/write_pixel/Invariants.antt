@@ -1,6 +1,3 @@
-use Rattle.std.proofs.Common.{rules}
-use Rattle.std.proofs.lemmas.Grind.{common_steps}
-use Rattle.std.proofs.Common.{arith}
 use Rattle.std.proofs.Common.{◌≡◌, ◌*◌, map, take}
 use Rattle.jpeg_lossless.specs.Pictures.{bytes_at}
 use Rattle.jpeg_lossless.proofs.picture.write_pixel.Given as goal

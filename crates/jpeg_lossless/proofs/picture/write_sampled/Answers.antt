@@ -1,13 +1,10 @@
 use Rattle.std.proofs.Common.{◌≡◌, ◌*◌, ◌∙◌, ap, arith, length, map, rules, sym, List, ℕ}
 use Rattle.jpeg_segments.specs.Frame.{Frame, most_across, most_down}
 use Rattle.jpeg_segments.specs.FrameView.{frame_in}
-use Rattle.jpeg_lossless.specs.Pictures.{layers_of, lossless_picture}
-use Rattle.jpeg_lossless.specs.Pictures.{sample_picture}
-use Rattle.jpeg_lossless.proofs.FilledLines.{across-wide, all-pieces, no-pieces, piece-fits}
-use Rattle.jpeg_lossless.proofs.ImageLoops.{picture-begun, picture-grown, picture-layers, planes-count}
-use Rattle.jpeg_lossless.proofs.StretchedLines.{from-none, line_of_lines, lines_long}
+use Rattle.jpeg_lossless.specs.Pictures.{layers_of, lossless_picture, sample_picture}
+use Rattle.jpeg_lossless.proofs.FilledLines.{all-pieces, piece-fits}
+use Rattle.jpeg_lossless.proofs.ImageLoops.{picture-layers, planes-count}
 use Rattle.jpeg_lossless.proofs.picture.write_sampled.Goals as goal
-use Rattle.std.proofs.lemmas.Grind.{common_steps}
 
 pub slice_bounds-output-end : goal.slice_bounds-output-end
 slice_bounds-output-end c =

@@ -1,6 +1,3 @@
-use Rattle.std.proofs.Common.{rules}
-use Rattle.std.proofs.lemmas.Grind.{common_steps}
-use Rattle.std.proofs.Common.{arith}
 use Rattle.std.proofs.Common.{◌≡◌, length, map}
 use Rattle.jpeg_lossless.specs.Pictures.{AreWide}
 use Rattle.jpeg_lossless.proofs.picture.zero_lines.Given as goal

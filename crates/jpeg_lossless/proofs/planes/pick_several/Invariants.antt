@@ -1,6 +1,3 @@
-use Rattle.std.proofs.Common.{rules}
-use Rattle.std.proofs.lemmas.Grind.{common_steps}
-use Rattle.std.proofs.Common.{arith}
 use Rattle.std.proofs.Common.{◌≡◌, ◌≤◌, ◌*◌, ◌++◌, length}
 use Rattle.jpeg_lossless.specs.Differences.{strand}
 use Rattle.jpeg_lossless.proofs.planes.pick_several.Given as goal

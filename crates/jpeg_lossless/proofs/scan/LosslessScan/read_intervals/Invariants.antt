@@ -1,6 +1,3 @@
-use Rattle.std.proofs.Common.{rules}
-use Rattle.std.proofs.lemmas.Grind.{common_steps}
-use Rattle.std.proofs.Common.{arith}
 use Rattle.std.proofs.Common.{◌≡◌, ◌≤◌, ◌+◌, ◌-◌, ℕ, map, length}
 use Rattle.jpeg_lossless.specs.Codings.{part_in, way_by}
 use Rattle.jpeg_bits.proofs.Loops.{Continues}

@@ -1,4 +1,3 @@
-use Rattle.std.proofs.lemmas.Grind.{common_steps}
 use Rattle.std.proofs.Common.{◌≡◌, ◌-◌, Bool, ◌∙◌, ap, ap₂, sym, map, length, ℕ, List}
 use Rattle.std.proofs.Common.{Vec, Global, take, drop, ◌++◌, true, false, arith, rules}
 use Rattle.std.proofs.lemmas.List.{length-map}
@@ -10,7 +9,7 @@ use Rattle.jpeg_lossless.specs.Scans.{samples_an_mcu}
 use Rattle.jpeg_bits.specs.Codes.{Table}
 use Rattle.jpeg_bits.specs.declared.scan.Predictor.{Predictor}
 use Rattle.jpeg_lossless.proofs.Leaves.{Leaves-step, Leaves-refused}
-use Rattle.jpeg_lossless.proofs.PlaneLoops.{planes_more, planes_refused, planes_none}
+use Rattle.jpeg_lossless.proofs.PlaneLoops.{planes_more, planes_refused}
 use Rattle.jpeg_lossless.proofs.Sizes.{grown-as, one-row, written-back}
 use Rattle.jpeg_lossless.proofs.scan.LosslessScan.read_rows.Goals as goal
 
