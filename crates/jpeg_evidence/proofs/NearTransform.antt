@@ -14,20 +14,13 @@ use Rattle.jpeg_evidence.proofs.Errors.{size_of_row, error, squared_errors, grea
 
 -- ---- the shifts round
 
-shifted_column : (z t : ℤ) → z ≡ t +ℤ pos 512 → unsigned_abs (pos 1024 *ℤ int_shr z 10 -ℤ t) ≤ 512
-shifted_column x t e = grind arith
-
-shifted_row : (z r : ℤ) → z ≡ r +ℤ pos 16842752
-    → unsigned_abs (pos 131072 *ℤ (int_shr z 17 -ℤ pos 128) -ℤ r) ≤ 65536
-shifted_row x r e = grind arith
-
 rounded_column : (t : ℤ) → unsigned_abs t ≤ 62689280
     → unsigned_abs (pos 1024 *ℤ int_shr (int_wrap w32 (t +ℤ pos 512)) 10 -ℤ t) ≤ 512
-rounded_column t h = grind (arith, int_wrap_fits, shifted_column)
+rounded_column t h = grind (arith, int_wrap_fits)
 
 rounded_row : (r : ℤ) → unsigned_abs r ≤ 1873974810
     → unsigned_abs (pos 131072 *ℤ (int_shr (int_wrap w32 (r +ℤ pos 16842752)) 17 -ℤ pos 128) -ℤ r) ≤ 65536
-rounded_row r h = grind (arith, int_wrap_fits, shifted_row)
+rounded_row r h = grind (arith, int_wrap_fits)
 
 -- ---- no sum is too large
 
@@ -38,9 +31,6 @@ transform_at_most : (m : ℕ) (s : ℕ → ℤ) (index : ℕ) → index < 8 → 
 unfolding transformed
 transform_at_most m s index h small =
     le_trans (bounded m (basis index) s 8 small) (mul-le-mul_left m (size_of_row index h))
-
-not_large : (z : ℤ) → unsigned_abs z ≤ 2048 → (neg_ℤ (pos 524288) ≤ℤ z) × (z <ℤ pos 524288)
-not_large z h = omega (arith, ints)
 
 value_at_most : (w t : ℤ) → unsigned_abs (pos 1024 *ℤ w -ℤ t) ≤ 512 → unsigned_abs t ≤ 62689280
     → unsigned_abs w ≤ 61221
@@ -56,7 +46,7 @@ module _ (coefficients : List ℤ) (quantization : List ℕ) where
       → unsigned_abs (dequantized coefficients quantization 0 column) ≤ 2048
       → column_value coefficients quantization row column ≡ general_value row column
   unfolding column_value
-  column_of row column x h flat small = grind (arith, not_large, zero_column)
+  column_of row column x h flat small = grind (arith, ints, zero_column)
 
   -- the sums of a column
   abbrev column_sum : ℕ → ℕ → ℤ

@@ -43,15 +43,12 @@ number-below [] = omega arith
 number-below (true ∷ bs) = search (rules, number-more, pow-suc, one-mul, number-below bs)
 number-below (false ∷ bs) = grind (arith, number-more, pow-suc, zero-mul, number-below bs)
 
-bit-back : (b : Bool) → bit (cond b 1 0 % 2) ≡ b
-bit-back x = grind arith
-
 -- bits are the low bits of their number
 pub bits-back : (bs : List Bool) → low_bits (length bs) (number_of bs) ≡ bs
 unfolding low_bits
 bits-back [] = refl
 bits-back (b ∷ bs) =
-    grind (arith, common_steps, number-more, digits_div, number-below, bit-back, low_bits-high, bits-back bs)
+    grind (arith, common_steps, number-more, digits_div, number-below, low_bits-high, bits-back bs)
 
 pub bits-of-length : (n : ℕ) (bs : List Bool) → length bs ≡ n → (low_bits n (number_of bs) ≡ bs) × (number_of bs < 2 ^ n)
 bits-of-length n bs h = grind (arith, bits-back, number-below)

@@ -21,14 +21,6 @@ use Rattle.jpeg_streams.proofs.TakenTexts.{no-error}
 
 -- ---- signed numbers
 
--- a number in s bits, the highest of which says that it is positive, has the category s
-high-number : (v s : ℕ) → 2 ^ s ≤ v → v < 2 ^ suc s → IsCategory (pos v) (suc s)
-high-number v s low top = grind (arith, cases_lt, pow_mono)
-
-number-high : (v s : ℕ) → 0 < v → number_for (pos v) s ≡ v
-unfolding number_for
-number-high x s h = grind arith
-
 low-number : (n s : ℕ) → 2 ^ s ≤ suc n → suc n < 2 ^ suc s → IsCategory (negsuc n) (suc s)
 low-number n s low top = grind (arith, cases_lt, pow_mono)
 
@@ -41,7 +33,7 @@ IsBack u s v = IsCategory u s × (number_for u s ≡ v)
 extended-back : (v s : ℕ) → v < 2 ^ suc s → IsBack (extended v (suc s)) (suc s) v
 unfolding extended number_for
 extended-back v s top =
-    grind (arith, ltb-true, pow-suc, low-extended, low-number, ltb-false, pow_pos, high-number, number-high)
+    grind (arith, ltb-true, pow-suc, low-extended, low-number, ltb-false, pow_pos, cases_lt, pow_mono)
 
 -- The bits that were taken of a value are its bits, and their number is its category.
 pub value_taken : (s : ℕ) (bits : List Bool) (u : ℤ) (t : Text) → signed_from (suc s) (alone bits) ≡ Ok (u, t)
