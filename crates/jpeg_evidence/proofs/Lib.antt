@@ -15,3 +15,4 @@ pub mod TakenTurns
 pub mod TakenRefinements
 pub mod TakenScans
 pub mod ReadScans
+pub mod OnLiterals

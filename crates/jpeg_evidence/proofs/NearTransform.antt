@@ -1,11 +1,11 @@
 -- The transform is near the exact one.
-use Rattle.std.proofs.Common.{rules}
-use Rattle.std.proofs.Common.{◌≡◌, ℕ, ◌+◌, ◌*◌, ◌<◌, ◌≤◌, List, ℤ, pos, neg_ℤ, ◌+ℤ◌, ◌-ℤ◌, ◌*ℤ◌}
-use Rattle.std.proofs.Common.{◌≤ℤ◌, ◌<ℤ◌, Bool, refl, arith, unsigned_abs, le_trans}
+use Rattle.std.proofs.lemmas.Grind.{common_steps}
+use Rattle.std.proofs.Common.{rules, ◌≡◌, ℕ, ◌+◌, ◌*◌, ◌<◌, ◌≤◌, List, ℤ, pos, neg_ℤ, ◌+ℤ◌, ◌-ℤ◌}
+use Rattle.std.proofs.Common.{refl, ◌*ℤ◌, ◌≤ℤ◌, ◌<ℤ◌, Bool, arith, unsigned_abs, le_trans}
 use Rattle.std.proofs.Common.{mul-le-mul_left}
 use Rattle.std.proofs.lemmas.Int.{ints, int_wrap_fits}
 use Rattle.std.specs.Int.{w32, int_shr, int_wrap}
-use Rattle.jpeg_pixels.specs.Samples.{sum_below, basis, transformed, dequantized, is_flat_column, column_value}
+use Rattle.jpeg_pixels.specs.Samples.{clamped, sample, sum_below, basis, transformed, dequantized, is_flat_column, column_value}
 use Rattle.jpeg_pixels.proofs.ZeroCases.{zero_column}
 use Rattle.jpeg_evidence.specs.Exact.{exact_sum, squares, unclamped, whole, distance}
 use Rattle.jpeg_evidence.proofs.Sums.{drifted, bounded, each_at_most, products_of_rows, within_product}
@@ -14,20 +14,13 @@ use Rattle.jpeg_evidence.proofs.Errors.{size_of_row, error, squared_errors, grea
 
 -- ---- the shifts round
 
-shifted_column : (z t : ℤ) → z ≡ t +ℤ pos 512 → unsigned_abs (pos 1024 *ℤ int_shr z 10 -ℤ t) ≤ 512
-shifted_column x t e = grind arith
-
-shifted_row : (z r : ℤ) → z ≡ r +ℤ pos 16842752
-    → unsigned_abs (pos 131072 *ℤ (int_shr z 17 -ℤ pos 128) -ℤ r) ≤ 65536
-shifted_row x r e = grind arith
-
 rounded_column : (t : ℤ) → unsigned_abs t ≤ 62689280
     → unsigned_abs (pos 1024 *ℤ int_shr (int_wrap w32 (t +ℤ pos 512)) 10 -ℤ t) ≤ 512
-rounded_column t h = grind (arith, int_wrap_fits, shifted_column)
+rounded_column t h = grind (arith, int_wrap_fits)
 
 rounded_row : (r : ℤ) → unsigned_abs r ≤ 1873974810
     → unsigned_abs (pos 131072 *ℤ (int_shr (int_wrap w32 (r +ℤ pos 16842752)) 17 -ℤ pos 128) -ℤ r) ≤ 65536
-rounded_row r h = grind (arith, int_wrap_fits, shifted_row)
+rounded_row r h = grind (arith, int_wrap_fits)
 
 -- ---- no sum is too large
 
@@ -38,9 +31,6 @@ transform_at_most : (m : ℕ) (s : ℕ → ℤ) (index : ℕ) → index < 8 → 
 unfolding transformed
 transform_at_most m s index h small =
     le_trans (bounded m (basis index) s 8 small) (mul-le-mul_left m (size_of_row index h))
-
-not_large : (z : ℤ) → unsigned_abs z ≤ 2048 → (neg_ℤ (pos 524288) ≤ℤ z) × (z <ℤ pos 524288)
-not_large z h = omega (arith, ints)
 
 value_at_most : (w t : ℤ) → unsigned_abs (pos 1024 *ℤ w -ℤ t) ≤ 512 → unsigned_abs t ≤ 62689280
     → unsigned_abs w ≤ 61221
@@ -56,7 +46,7 @@ module _ (coefficients : List ℤ) (quantization : List ℕ) where
       → unsigned_abs (dequantized coefficients quantization 0 column) ≤ 2048
       → column_value coefficients quantization row column ≡ general_value row column
   unfolding column_value
-  column_of row column x h flat small = grind (arith, not_large, zero_column)
+  column_of row column x h flat small = grind (arith, ints, zero_column)
 
   -- the sums of a column
   abbrev column_sum : ℕ → ℕ → ℤ
@@ -74,8 +64,7 @@ module _ (coefficients : List ℤ) (quantization : List ℕ) where
   column_near : (row column : ℕ) → row < 8 → column < 8 → AreSmall →
       unsigned_abs (pos 1024 *ℤ column_value coefficients quantization row column -ℤ column_sum row column) ≤ 512
   column_near row column h l small =
-      rw (column_of row column (is_flat_column coefficients column) h refl (small column 0 l (omega arith)))
-      (rounded_column (column_sum row column) (column_sum_at_most row column h l small))
+      grind (arith, common_steps, column_of, rounded_column, column_sum_at_most)
 
   row_at_most : (x y : ℕ) → x < 8 → y < 8 → AreSmall
       → unsigned_abs (transformed (column_value coefficients quantization y) x) ≤ 1873974810
@@ -89,8 +78,7 @@ module _ (coefficients : List ℤ) (quantization : List ℕ) where
       unsigned_abs (pos 131072 *ℤ (unclamped coefficients quantization x y -ℤ pos 128)
       -ℤ transformed (column_value coefficients quantization y) x) ≤ 65536
   unfolding unclamped
-  row_near x y hx hy small =
-      rounded_row (transformed (column_value coefficients quantization y) x) (row_at_most x y hx hy small)
+  row_near x y hx hy small = grind (arith, common_steps, rounded_row, row_at_most)
 
   columns_near : (x y : ℕ) → x < 8 → y < 8 → AreSmall →
       unsigned_abs (pos 1024 *ℤ transformed (column_value coefficients quantization y) x
@@ -147,5 +135,11 @@ less k h = omega arith
 pub within_one : (coefficients : List ℤ) (quantization : List ℕ) (x y : ℕ) → x < 8 → y < 8
     → squares (dequantized coefficients quantization) ≤ℤ pos (1119 * 1119)
     → distance coefficients quantization x y < whole
-within_one coefficients quantization x y hx hy h =
-    less (distance coefficients quantization x y) (near coefficients quantization 1119 x y (omega arith) hx hy h)
+within_one coefficients quantization x y hx hy h = search (rules, less, near)
+
+pub clamps : (coefficients : List ℤ) (quantization : List ℕ) (x y : ℕ)
+    → sample coefficients quantization x y ≡ clamped (unclamped coefficients quantization x y)
+unfolding sample unclamped
+clamps coefficients quantization x y = refl
+
+pub ruleset nearness = (clamps, near, within_one)

@@ -1,6 +1,7 @@
 -- What a decoder reads of a scan, where it fits, is what the scan was written for.
-use Rattle.std.proofs.Common.{rules, ◌≡◌, ℕ, suc, ◌%◌, ◌≤◌, Bool, true, false, List, [], ◌∷◌, ◌++◌, length}
-use Rattle.std.proofs.Common.{drop, refl, sym, ap, ap₂, ◌∙◌, subst, arith, Ok, Err, Option, Some}
+use Rattle.std.proofs.lemmas.Grind.{common_steps}
+use Rattle.std.proofs.Common.{rules, ◌≡◌, ℕ, suc, ◌%◌, ◌≤◌, Bool, true, List, [], ◌∷◌, ◌++◌, length}
+use Rattle.std.proofs.Common.{drop, refl, sym, ap, ◌∙◌, subst, arith, Ok, Err, Option, Some}
 use Rattle.std.proofs.lemmas.Bool.{le-leb, eqb-true, false≢true}
 use Rattle.std.specs.Prelude.{if◌then◌else◌}
 use Rattle.jpeg_bits.specs.Reading.{End, Fault, Malformed, Outcome, ◌>>=◌}
@@ -16,15 +17,15 @@ use Rattle.jpeg_streams.proofs.InTurn.{interval-long}
 use Rattle.jpeg_evidence.specs.Strict.{alone, IntervalFits, IntervalsFit, IsInterval, IsIntervals, numbers_read, others_read}
 use Rattle.jpeg_evidence.specs.Strict.IntervalsFit.{last, another}
 use Rattle.jpeg_streams.proofs.TakenTexts.{blocks-takes}
-use Rattle.jpeg_evidence.proofs.TakenIntervals.{interval-of-taken}
-use Rattle.jpeg_evidence.proofs.TakenScans.{another-interval, last-interval}
+use Rattle.jpeg_evidence.proofs.TakenIntervals.{interval_of_taken}
+use Rattle.jpeg_evidence.proofs.TakenScans.{another_interval, last_interval}
 
 -- An interval that fits is read, up to its marker.
-pub interval-read : (p : Pass) (turns : List (Via × Block)) (bytes rest : List ℕ) (m : Marker)
+pub interval_read : (p : Pass) (turns : List (Via × Block)) (bytes rest : List ℕ) (m : Marker)
     → (w : IntervalFits p turns bytes m rest)
     → interval (blocks_of p predictors_at_start 0 turns) bytes ≡ Ok ((w.blocks, Some m), rest)
 unfolding interval text_ahead upcoming end_after
-interval-read p turns bytes rest m w =
+interval_read p turns bytes rest m w =
     let t = text_at bytes in
     let r = (blocks-takes p predictors_at_start 0 turns).taken t.bits [] (Broken End) w.blocks (alone w.left)
     w.are_read in
@@ -39,8 +40,7 @@ interval-read p turns bytes rest m w =
 
 pub interval-written : (p : Pass) (turns : List (Via × Block)) (bytes rest : List ℕ) (m : Marker)
     → (w : IntervalFits p turns bytes m rest) → IsInterval p (numbers_read p turns w.blocks) bytes m rest
-interval-written p turns bytes rest m w =
-    interval-of-taken p turns bytes rest m w.blocks (alone w.left) w.ends w.fit w.are_read w.is_short
+interval-written p turns bytes rest m w = search (rules, interval_of_taken)
 
 -- ---- blocks of several intervals
 
@@ -81,11 +81,7 @@ scan-parts : (a b : List Block) (m n : Option Marker) (r s : List ℕ)
     → ◌≡◌ {A = Outcome (List Block × Option Marker)} (Ok ((a, m), r)) (Ok ((b, n), s))
     → (a ≡ b) × (m ≡ n) × (r ≡ s)
 unfolding result-of rest-of
-scan-parts a b m n r s h = (
-  ap (λ o. (result-of (a, m) o).0) h,
-  ap (λ o. (result-of (a, m) o).1) h,
-  ap rest-of h,
-)
+scan-parts a b m n r s h = grind (arith, common_steps, result-of, rest-of)
 
 -- what an interval and the others after it give, where it ends with RST k
 abbrev with_others : ℕ → (List ℕ → Outcome (List Block × Option Marker)) → (List Block × Option Marker) × List ℕ
@@ -97,22 +93,8 @@ after-first : (k : ℕ) (first blocks : List Block) (m n : Marker) (bytes rest :
     (others : List ℕ → Outcome (List Block × Option Marker))
     → with_others k others ((first, Some m), bytes) ≡ Ok ((blocks, Some n), rest)
     → AfterFirst k first blocks m n rest (others bytes)
-after-first k first blocks m n bytes rest others h = go (is_restart k (Some m)) refl (others bytes) h
-  where
-    go : (b : Bool) → is_restart k (Some m) ≡ b → (o : Outcome (List Block × Option Marker))
-        → ◌≡◌ {A = Outcome (List Block × Option Marker)}
-        (if b then (o >>= λ s. Ok ((first ++ s.0.0, s.0.1), s.1)) else Err Malformed) (Ok ((blocks, Some n), rest))
-        → AfterFirst k first blocks m n rest o
-    go true e (Ok r) h =
-        let q = scan-parts (first ++ r.0.0) blocks r.0.1 (Some n) r.1 rest h in
-        record {
-          more = r.0.0;
-          are_read = ap₂ (λ (x : Option Marker) (y : List ℕ). Ok ((r.0.0, x), y)) q.1 q.2;
-          together = q.0;
-          restart = restart-named k m e;
-        }
-    go true e (Err f) h = absurd (no-scan f ((blocks, Some n), rest) h)
-    go false e o h = absurd (no-scan Malformed ((blocks, Some n), rest) h)
+after-first k first blocks m n bytes rest others h =
+    grind (arith, common_steps, scan-parts, restart-named, no-scan)
 
 some-is : (m n : Marker) → Some m ≡ Some n → m ≡ n
 some-is m n h = cc
@@ -122,21 +104,21 @@ drop-front [] ys n h = search (rules, h)
 drop-front (x ∷ xs) ys n h = grind (arith, drop-front xs ys)
 
 -- The intervals of a scan that are read, and fit, are written for the blocks read.
-pub scan-written : (p : Pass) (k : ℕ) (turns : List (Via × Block)) (more : List (List (Via × Block)))
+pub scan_written : (p : Pass) (k : ℕ) (turns : List (Via × Block)) (more : List (List (Via × Block)))
     (bytes rest : List ℕ) (blocks : List Block) (m : Marker) → IntervalsFit p turns more bytes
     → intervals (blocks_of p predictors_at_start 0) k turns more bytes ≡ Ok ((blocks, Some m), rest)
     → IsIntervals p k (numbers_read p turns blocks) (others_read p turns more blocks) bytes m rest
 unfolding intervals others_read
-scan-written p k turns more bytes rest blocks m (last turns' bytes' rest' m' w) h =
+scan_written p k turns more bytes rest blocks m (last turns' bytes' rest' m' w) h =
     let q = scan-parts w.blocks blocks (Some m') (Some m) rest' rest
-    (sym (interval-read p turns bytes rest' m' w) ∙ h) in
-    last-interval p k (numbers_read p turns blocks) bytes rest m
+    (sym (interval_read p turns bytes rest' m' w) ∙ h) in
+    last_interval p k (numbers_read p turns blocks) bytes rest m
     (subst (λ (l : List Block). IsInterval p (numbers_read p turns l) bytes m rest) q.0
     (subst (λ (n : Marker). IsInterval p (numbers_read p turns w.blocks) bytes n rest) (some-is m' m q.1)
     (subst (λ (r : List ℕ). IsInterval p (numbers_read p turns w.blocks) bytes m' r) q.2
     (interval-written p turns bytes rest' m' w))))
-scan-written p k turns more bytes rest blocks m (another turns' following others bytes' after m' w fits) h =
-    let is = interval-read p turns bytes after m' w in
+scan_written p k turns more bytes rest blocks m (another turns' following others bytes' after m' w fits) h =
+    let is = interval_read p turns bytes after m' w in
     let further = intervals (blocks_of p predictors_at_start 0) (suc k) following others in
     let a = after-first k w.blocks blocks m' m after rest further
     (sym (ap (λ o. o >>= with_others k further) is) ∙ h) in
@@ -149,6 +131,6 @@ scan-written p k turns more bytes rest blocks m (another turns' following others
     (interval-written p turns bytes after m' w)) in
     let rest-blocks : a.more ≡ drop (length turns) blocks
     = sym (drop-front w.blocks a.more (length turns) long) ∙ ap (drop (length turns)) a.together in
-    another-interval p k (numbers_read p turns blocks) _ _ bytes after rest m first
+    another_interval p k (numbers_read p turns blocks) _ _ bytes after rest m first
     (subst (λ (l : List Block). IsIntervals p (suc k) (numbers_read p following l) (others_read p following others l) after m rest)
-    rest-blocks (scan-written p (suc k) following others after rest a.more m fits a.are_read))
+    rest-blocks (scan_written p (suc k) following others after rest a.more m fits a.are_read))

@@ -1,8 +1,7 @@
 -- Sums of products: how large they are at most.
-use Rattle.std.proofs.Common.{rules}
-use Rattle.std.proofs.Common.{◌≡◌, ℕ, zero, suc, ◌+◌, ◌*◌, ◌<◌, ◌≤◌, ℤ, pos, negsuc, neg_ℤ, ◌+ℤ◌, ◌-ℤ◌, ◌*ℤ◌, ◌≤ℤ◌}
-use Rattle.std.proofs.Common.{refl, subst, one-mul, mul-add, mul_comm, zero-lt-suc, arith, mul-le-mul, mul-le-mul_left}
-use Rattle.std.proofs.Common.{unsigned_abs}
+use Rattle.std.proofs.Common.{rules, ◌≡◌, ℕ, zero, suc, ◌+◌, ◌*◌, ◌<◌, ◌≤◌, ℤ, pos, negsuc, neg_ℤ}
+use Rattle.std.proofs.Common.{◌+ℤ◌, ◌-ℤ◌, ◌*ℤ◌, ◌≤ℤ◌, refl, subst, one-mul, mul-add, mul_comm}
+use Rattle.std.proofs.Common.{zero-lt-suc, arith, mul-le-mul, mul-le-mul_left, unsigned_abs}
 use Rattle.std.proofs.Math.Logic.{⊎_elim}
 use Rattle.std.proofs.Math.Nat.{le_of_mul-le-mul_left, mul-pos}
 use Rattle.std.proofs.Math.IntN.{*ℤ-zero}
@@ -55,8 +54,7 @@ products_of_rows a b e d m (suc n) =
     (products_of_rows a b e d m n) (products a b (e n) (d n) m)
 
 product_at_most : (m : ℕ) (f g : ℤ) → unsigned_abs g ≤ m → unsigned_abs (f *ℤ g) ≤ m * unsigned_abs f
-product_at_most m f g h =
-    rw (unsigned_abs-mul f g, mul_comm m (unsigned_abs f)) (mul-le-mul_left (unsigned_abs f) h)
+product_at_most m f g h = search (rules, unsigned_abs-mul, mul_comm, unsigned_abs, mul-le-mul_left)
 
 drifted_more : (s t v w x z : ℤ) (p q r : ℕ) → unsigned_abs (s -ℤ t) ≤ p → unsigned_abs z ≤ q → z ≡ v -ℤ w
     → x ≡ s +ℤ v → r ≡ p + q → unsigned_abs (x -ℤ (t +ℤ w)) ≤ r
@@ -82,9 +80,7 @@ none_back z m h = omega (arith, ints)
 
 pub bounded : (m : ℕ) (f g : ℕ → ℤ) (n : ℕ) → ((k : ℕ) → k < n → unsigned_abs (g k) ≤ m)
     → unsigned_abs (sum_below (λ k. f k *ℤ g k) n) ≤ m * size_below f n
-bounded m f g n small =
-    none_back (sum_below (λ k. f k *ℤ g k) n) (m * size_below f n)
-    (drifted (pos 0) m f g g n (λ k l. none_of (g k) m (small k l)))
+bounded m f g n small = search (rules, none_back, drifted, none_of)
 
 left_of : (z s t : ℤ) → z ≤ℤ s → pos 0 ≤ℤ t → z ≤ℤ (s +ℤ t)
 left_of z s t h g = omega (arith, ints)

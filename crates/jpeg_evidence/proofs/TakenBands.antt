@@ -1,4 +1,5 @@
 -- The bits that were taken of a band in its first scan are those that are written for it.
+use Rattle.std.proofs.lemmas.Grind.{common_steps}
 use Rattle.std.proofs.Common.{rules}
 use Rattle.std.proofs.Common.{◌≡◌, ◌≢◌, ℕ, zero, suc, ◌+◌, ◌-◌, ◌*◌, ◌^◌, ◌<◌, ◌≤◌, Bool, List, [], ◌∷◌, ◌++◌, map}
 use Rattle.std.proofs.Common.{length, take, drop, refl, sym, ap, ◌∙◌, subst, arith, Ok, ℤ, pos, append_assoc, append-nil, length-append}
@@ -14,12 +15,11 @@ use Rattle.jpeg_streams.specs.WrittenData.WritesBand.{full, value as a_value, si
 use Rattle.jpeg_streams.proofs.SentBlocks.{scaled, InRange}
 use Rattle.jpeg_streams.proofs.WrittenBands.{map-no_numbers, scaled-fits}
 use Rattle.jpeg_evidence.specs.Strict.{alone, IsCut, IsNumber, IsValue, Follows, IsToken}
-use Rattle.jpeg_evidence.specs.Strict.{IsTokenWithin, room_after, TokensFit}
-use Rattle.jpeg_evidence.specs.Strict.{HasByteSymbols, IsBand}
+use Rattle.jpeg_evidence.specs.Strict.{IsTokenWithin, room_after, TokensFit, HasByteSymbols, IsBand}
 use Rattle.jpeg_evidence.specs.Strict.Follows.{value, sixteen, ended}
 use Rattle.jpeg_evidence.specs.Strict.TokensFit.{filled, token}
 use Rattle.jpeg_evidence.proofs.TakenBits.{after-read, gives-taken, map-taken, cut-map, cut-both, Both}
-use Rattle.jpeg_evidence.proofs.TakenTokens.{token-taken}
+use Rattle.jpeg_evidence.proofs.TakenTokens.{token_taken}
 
 of-value : (r s k : ℕ) (u : ℤ) (own : List Bool) → Follows r s (Value k u) own → (r ≡ k) × (0 < s) × IsValue s u own
 of-value r s k u own (value r' s' u' own' is) = (refl, omega arith, is)
@@ -36,8 +36,7 @@ not-nothing s u h cat e = grind arith
 
 pub run-small : (table : Table) (r s : ℕ) (code : List Bool) → HasByteSymbols table → IsCoded table
     (16 * r + s) code → r ≤ 15
-run-small table r s code bytes coded = let h = bytes.each coded.index in let e = coded.is_for in
-    omega (arith, h, e)
+run-small table r s code bytes coded = grind (arith, common_steps)
 
 value-written : (table : Table) (al r : ℕ) (u : ℤ) (band : List ℤ) (run : ℕ) (own back : List Bool)
     → HasByteSymbols table
@@ -150,12 +149,12 @@ long-taken table al (suc n) room bits y t is bytes (token k x bits' more h f w) 
     (λ z j. long-taken table al n (room_after (suc k) x) more z t is bytes w small j) rest in
     cut-map (Both (IsToken table x) (IsAfter table al (suc k) x y)) (IsLong table al (suc k) y) bits t
     (λ own b. subst (λ (l : List Bool). IsLong table al (suc k) y l) b.whole (b.second b.front b.first))
-    (cut-both (IsToken table x) (IsAfter table al (suc k) x y) bits more t (token-taken table (suc k) bits x (alone more) is h) d)
+    (cut-both (IsToken table x) (IsAfter table al (suc k) x y) bits more t (token_taken table (suc k) bits x (alone more) is h) d)
 
 -- The bits that were taken of a band whose tokens fit are written for it.
-pub band-taken : (table : Table) (al n room : ℕ) (bits : List Bool) (y : Band) (t : Text) → IsTable table
+pub band_taken : (table : Table) (al n room : ℕ) (bits : List Bool) (y : Band) (t : Text) → IsTable table
     → HasByteSymbols table → TokensFit table al room bits → room ≤ n
     → first_ac table al n (no_numbers room) (alone bits) ≡ Ok (y, t) → IsCut (IsBand table al y.0 y.1) bits t
-band-taken table al n room bits y t is bytes fits le e =
+band_taken table al n room bits y t is bytes fits le e =
     cut-map (IsLong table al room y) (IsBand table al y.0 y.1) bits t (λ own b. b.band)
     (long-taken table al n room bits y t is bytes fits le e)

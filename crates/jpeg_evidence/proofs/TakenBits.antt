@@ -1,16 +1,16 @@
 -- The bits that were taken are those of what was read of them.
-use Rattle.std.proofs.Common.{rules}
-use Rattle.std.proofs.Common.{◌≡◌, ℕ, zero, suc, ◌+◌, ◌*◌, ◌/◌, ◌%◌, ◌^◌, ◌<◌, ◌≤◌, Bool, true, false, cond}
-use Rattle.std.proofs.Common.{List, [], ◌∷◌, ◌++◌, length, take, replicate, refl, sym, ap, ◌∙◌, subst, arith}
-use Rattle.std.proofs.Common.{take-append-drop, length-take, pow-suc, mul_assoc, Ok, Err, Result, if◌then◌else◌, slice_index}
-use Rattle.std.proofs.Common.{Option, Some, None, leb}
+use Rattle.std.proofs.lemmas.Grind.{common_steps}
+use Rattle.std.proofs.Common.{rules, ◌≡◌, ℕ, zero, suc, ◌+◌, ◌*◌, ◌%◌, ◌^◌, ◌<◌, ◌≤◌, Bool, true}
+use Rattle.std.proofs.Common.{false, cond, List, [], ◌∷◌, ◌++◌, length, take, replicate, refl, sym}
+use Rattle.std.proofs.Common.{ap, ◌∙◌, subst, arith, take-append-drop, length-take, pow-suc}
+use Rattle.std.proofs.Common.{mul_assoc, Ok, Err, Result, if◌then◌else◌, slice_index, Option, Some}
+use Rattle.std.proofs.Common.{None, leb, append_assoc}
 use lib.Arith.{digits_div}
 use Rattle.std.proofs.Math.Nat.{add-mul, zero-mul, one-mul}
 use Rattle.std.proofs.lemmas.Bool.{leb-true, eqb-true}
-use Rattle.std.proofs.lemmas.List.{take-append-le}
-use Rattle.std.proofs.Common.{append_assoc}
+use Rattle.std.proofs.lemmas.List.{take-append-le, take-take}
 use Rattle.std.proofs.Math.Seq.{drop-nil}
-use Rattle.jpeg_bits.specs.Reading.{Fault, End}
+use Rattle.jpeg_bits.specs.Reading.{Fault, End, Malformed}
 use Rattle.jpeg_bits.specs.Reading as outcomes
 use Rattle.jpeg_bits.specs.Entropy.{bits_from, number_of, Text, advance}
 use Rattle.jpeg_bits.specs.Readers.{Reads, gives, ◌>>=◌}
@@ -18,10 +18,8 @@ use Rattle.jpeg_bits.proofs.CodeLemmas.{first_from}
 use Rattle.jpeg_bits.specs.Codes.{Table, IsTable, code_from, code_in, code_value, begins, code_lengths}
 use Rattle.jpeg_bits.specs.Codes.{next_16, code_by, symbol_from}
 use Rattle.jpeg_bits.proofs.BufferedBits.{if_buffered}
-use Rattle.jpeg_bits.specs.Reading.{Malformed}
 use Rattle.jpeg_bits.specs.Written.{bit, low_bits, IsCoded}
 use Rattle.jpeg_bits.proofs.Tables.{rising-at, all-rising, symbol-code}
-use Rattle.std.proofs.lemmas.List.{take-take}
 use Rattle.jpeg_bits.proofs.WrittenBits.{number_onto}
 use Rattle.jpeg_bits.proofs.Reservoirs.{low_bits-high}
 use Rattle.jpeg_streams.proofs.TakenTexts.{bind-parts, no-error, ok-parts}
@@ -45,19 +43,12 @@ number-below [] = omega arith
 number-below (true ∷ bs) = search (rules, number-more, pow-suc, one-mul, number-below bs)
 number-below (false ∷ bs) = grind (arith, number-more, pow-suc, zero-mul, number-below bs)
 
-bit-back : (b : Bool) → bit (cond b 1 0 % 2) ≡ b
-bit-back x = grind arith
-
 -- bits are the low bits of their number
 pub bits-back : (bs : List Bool) → low_bits (length bs) (number_of bs) ≡ bs
 unfolding low_bits
 bits-back [] = refl
 bits-back (b ∷ bs) =
-    let c : ℕ = cond b 1 0 in
-    let l = length bs in
-    let e = number-more b bs in
-    let high : number_of (b ∷ bs) / 2 ^ l ≡ c = ap (λ (x : ℕ). x / 2 ^ l) e ∙ digits_div c (number-below bs) in
-    grind (arith, bit-back, low_bits-high, bits-back bs)
+    grind (arith, common_steps, number-more, digits_div, number-below, low_bits-high, bits-back bs)
 
 pub bits-of-length : (n : ℕ) (bs : List Bool) → length bs ≡ n → (low_bits n (number_of bs) ≡ bs) × (number_of bs < 2 ^ n)
 bits-of-length n bs h = grind (arith, bits-back, number-below)
@@ -114,9 +105,7 @@ bind-cut {A} {B} p f bits t y P Q e first second =
 -- what is told with no bits
 pub gives-taken : {A : Type 0} (P : A → List Bool → Type 0) (x y : A) (bits : List Bool) (t : Text) → P x []
     → gives x (alone bits) ≡ Ok (y, t) → IsCut (P y) bits t
-gives-taken {A} P x y bits t h e =
-    let q = ok-parts x y (alone bits) t e in
-    cut-none (P y) bits t q.1 (subst (λ (v : A). P v []) q.0 h)
+gives-taken {A} P x y bits t h e = grind (arith, common_steps, ok-parts, cut-none)
 
 -- by one of two readers
 pub if-read : {A C : Type 0} (b : Bool) (p q : Reads A) (s : Text) (o : Result (A × Text) Fault)
@@ -145,10 +134,10 @@ front-number n bits le = bits-of-length n (take n bits) (omega (arith, length-ta
 -- ---- numbers
 
 -- The bits that were taken of a number are its bits.
-pub number-taken : (n : ℕ) (bits : List Bool) (v : ℕ) (t : Text) → bits_from n (alone bits) ≡ Ok (v, t)
+pub number_taken : (n : ℕ) (bits : List Bool) (v : ℕ) (t : Text) → bits_from n (alone bits) ≡ Ok (v, t)
     → IsCut (IsNumber n v) bits t
 unfolding bits_from
-number-taken n bits v t e = go (leb n (length bits)) refl e
+number_taken n bits v t e = go (leb n (length bits)) refl e
   where
     go : (b : Bool) → leb n (length bits) ≡ b
         → outcomes.◌>>=◌ {B = ℕ × Text} (cond b (Ok tt) (Err End)) (λ (x : Unit {0}).
@@ -178,13 +167,8 @@ none-is a e = cc
 
 test-found : (test : ℕ → Bool) (a n i : ℕ) → first_from test a n ≡ Some i → (test i ≡ true) × (i < a + n)
 test-found test a zero i e = absurd (none-is i e)
-test-found test a (suc n) i e = go (test a) refl (test-found test (a + 1) n i) e
-  where
-    go : (b : Bool) → test a ≡ b → (first_from test (a + 1) n ≡ Some i → (test i ≡ true) × (i < a + 1 + n))
-        → cond b (Some a) (first_from test (a + 1) n) ≡ Some i → (test i ≡ true)
-        × (i < a + suc n)
-    go true h more k = grind (arith, some-is)
-    go false h more k = let r = more k in (r.0, omega (arith, r.1))
+test-found test a (suc n) i e =
+    grind (arith, common_steps, first_from, some-is, test-found test (a + 1) n i)
 
 code-index : (lens : List ℕ) (bits : List Bool) (c : ℕ × ℕ) → code_in lens bits ≡ Some c
     → (c.0 < length lens) × (c.1 ≡ slice_index lens c.0)
@@ -221,6 +205,6 @@ code-taken table bits c t is e = go (code_in (code_lengths table.counts) (next_1
     go (Some x) h k = kept x h (leb x.1 (length bits)) refl k
 
 -- The same of a symbol.
-pub symbol-taken : (table : Table) (bits : List Bool) (symbol : ℕ) (t : Text) → IsTable table
+pub symbol_taken : (table : Table) (bits : List Bool) (symbol : ℕ) (t : Text) → IsTable table
     → symbol_from table (alone bits) ≡ Ok (symbol, t) → IsCut (IsCoded table symbol) bits t
-symbol-taken table bits symbol t is e = grind (arith, map-parts, symbol-code, code-taken)
+symbol_taken table bits symbol t is e = grind (arith, map-parts, symbol-code, code-taken)

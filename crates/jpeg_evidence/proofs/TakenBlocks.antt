@@ -1,7 +1,7 @@
 -- The bits that were taken of a block are those that are written for it.
-use Rattle.std.proofs.Common.{rules, ◌≡◌, ℕ, zero, suc, ◌+◌, ◌-◌, ◌*◌, ◌^◌, ◌<◌, Bool, true, false, List, []}
-use Rattle.std.proofs.Common.{◌∷◌, map, length, refl, sym, ap, ◌∙◌, subst, arith, Ok, ℤ, pos}
-use Rattle.std.proofs.Common.{◌+ℤ◌, ◌-ℤ◌, unsigned_abs, le_refl, append-nil}
+use Rattle.std.proofs.Common.{rules, ◌≡◌, ℕ, zero, suc, ◌+◌, ◌-◌, ◌*◌, ◌^◌, ◌<◌, Bool, true, false}
+use Rattle.std.proofs.Common.{List, [], ◌∷◌, map, length, refl, sym, ap, ◌∙◌, subst, arith, Ok, ℤ}
+use Rattle.std.proofs.Common.{pos, ◌+ℤ◌, ◌-ℤ◌, unsigned_abs, le_refl, append-nil, ap₂, negsuc}
 use Rattle.std.proofs.lemmas.Bool.{eqb-true, eqb-false}
 use Rattle.std.proofs.lemmas.Int.{ints, int_wrap_fits}
 use Rattle.std.proofs.lemmas.List.{length-map, length-replicate}
@@ -13,28 +13,24 @@ use Rattle.jpeg_bits.specs.Refinement.{corrected, refined_ac}
 use Rattle.jpeg_bits.specs.Passes.{Block, Pass, Via, band_of, with_band, or_bit, dc_part, band_part, block_from}
 use Rattle.jpeg_streams.specs.Levels.{floor_at, toward_zero}
 use Rattle.jpeg_streams.specs.WrittenData.{no_numbers, WritesAc, WritesBand, WritesDc}
-use Rattle.jpeg_streams.specs.WrittenData.WritesDc.{other_band, whole as a_whole}
+use Rattle.jpeg_streams.specs.WrittenData.{NoneNew, corrections, low_bit, WritesRefinement}
+use Rattle.jpeg_streams.specs.WrittenData.WritesDc.{other_band, whole as a_whole, one_bit}
 use Rattle.jpeg_streams.specs.WrittenData.WritesAc.{no_band, first as a_first, first_run}
-use Rattle.jpeg_streams.proofs.SentBlocks.{scaled, InRange}
+use Rattle.jpeg_streams.specs.WrittenData.WritesAc.{again as a_refinement, again_run}
+use Rattle.jpeg_streams.proofs.SentBlocks.{scaled, InRange, dc_kept, floor_half}
 use Rattle.jpeg_streams.proofs.WrittenBands.{map-no_numbers, scaled-fits, range-below, mag-le}
 use Rattle.jpeg_streams.proofs.CutLevels.{band-map}
-use Rattle.jpeg_evidence.specs.Strict.{alone, IsCut, HasByteSymbols, TokensFit, IsBlock}
-use Rattle.jpeg_evidence.specs.Strict.{BlockFits, HasTables}
+use Rattle.jpeg_evidence.specs.Strict.{alone, IsCut, HasByteSymbols, TokensFit, IsBlock, BlockFits}
+use Rattle.jpeg_evidence.specs.Strict.{HasTables, IsNumber, PiecesFit}
 use Rattle.jpeg_evidence.proofs.TakenBits.{bind-cut, gives-taken, map-parts, map-taken, cut-map, Both}
-use Rattle.jpeg_evidence.proofs.TakenBits.{if-read, number-taken}
+use Rattle.jpeg_evidence.proofs.TakenBits.{if-read, number_taken}
 use Rattle.jpeg_evidence.proofs.TakenRefinements.{IsKept, IsCorrected, IsRefined, alike-long}
 use Rattle.jpeg_evidence.proofs.TakenRefinements.{alike-none, one-bit}
 use Rattle.jpeg_evidence.proofs.TakenRefinements.{corrected-taken, refined-taken}
-use Rattle.jpeg_evidence.proofs.TakenValues.{difference-taken}
-use Rattle.std.proofs.Common.{ap₂, negsuc}
+use Rattle.jpeg_evidence.proofs.TakenValues.{difference_taken}
 use Rattle.std.specs.List.{AllByRecursion}
 use Rattle.jpeg_bits.specs.Written.{bit}
-use Rattle.jpeg_streams.specs.WrittenData.{NoneNew, corrections, low_bit, WritesRefinement}
-use Rattle.jpeg_streams.specs.WrittenData.WritesDc.{one_bit}
-use Rattle.jpeg_streams.specs.WrittenData.WritesAc.{again as a_refinement, again_run}
-use Rattle.jpeg_streams.proofs.SentBlocks.{dc_kept, floor_half}
 use Rattle.jpeg_streams.proofs.WrittenBlocks.{dc-refined}
-use Rattle.jpeg_evidence.specs.Strict.{IsNumber, PiecesFit}
 use Rattle.jpeg_evidence.proofs.TakenBands.{IsLong, long-taken}
 use Rattle.jpeg_evidence.proofs.TakenLevels.{floor-scaled, all-toward, band-put, some-band}
 
@@ -60,7 +56,7 @@ dc-first p table predictor bits y t s f is fits e =
     let r = map-parts (difference table)
     (λ (d : ℤ). (wrapped (scaled al (wrapped (predictor +ℤ d))), wrapped (predictor +ℤ d))) (alone bits) t y e in
     let d = r.0 in
-    let c = difference-taken table bits d t is r.1 in
+    let c = difference_taken table bits d t is r.1 in
     let read : difference table (alone bits) ≡ Ok (d, alone t.bits) = r.1 ∙ ap (λ (u : Text). Ok (d, u)) c.rest in
     let u = predictor +ℤ d in
     let range : InRange al u = record { within = fits d t.bits read } in
@@ -101,7 +97,7 @@ dc-again : (p : Pass) (table : Table) (z predictor : ℤ) (bits : List Bool) (y 
 dc-again p table z predictor bits y t s f kept e =
     let al = p.al in
     map-taken (bits_from 1) (λ (b : ℕ). (or_bit al z b, predictor)) (IsNumber 1) (WritesRead p table predictor) bits t y
-    (λ b. number-taken 1 bits b t)
+    (λ b. number_taken 1 bits b t)
     (λ b own w.
     let u = pushed (floor_at (suc al) z) b in
     let number : u ≡ floor_at al (or_bit al z b)
@@ -271,11 +267,11 @@ parts-taken p via predictor run old bits r t dc band e =
     bits t (joined p via predictor run old r c.0) c.1
 
 -- The bits that were taken of a block are written for it.
-pub block-taken : (p : Pass) (via : Via) (predictor : ℤ) (run : ℕ) (old : Block) (bits : List Bool)
+pub block_taken : (p : Pass) (via : Via) (predictor : ℤ) (run : ℕ) (old : Block) (bits : List Bool)
     (r : Block × ℤ × ℕ) (t : Text) → HasTables p via → BlockFits p via predictor run old bits
     → block_from p via.dc via.ac predictor run old (alone bits) ≡ Ok (r, t)
     → IsCut (IsBlock p via predictor run r) bits t
-block-taken p via predictor run old bits r t tables fits e =
+block_taken p via predictor run old bits r t tables fits e =
     parts-taken p via predictor run old bits r t
     (λ d u k. dc-taken-part p via.dc old.dc predictor bits d u tables.dc_is fits.dc_fits fits.dc_sent k)
     (grind (arith, band-taken-part, some-band))

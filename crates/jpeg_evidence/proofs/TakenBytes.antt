@@ -1,7 +1,6 @@
 -- Bytes whose text ends with a marker are stuffed bytes of its bits, and the marker.
-use Rattle.std.proofs.Common.{arith}
-use Rattle.std.proofs.Common.{◌≡◌, ℕ, zero, suc, Bool, true, false, cond, List, [], ◌∷◌, ◌++◌, replicate, refl, sym}
-use Rattle.std.proofs.Common.{ap, ap₂, ◌∙◌, eqb, Option, Some}
+use Rattle.std.proofs.Common.{arith, ◌≡◌, ℕ, zero, suc, Bool, true, false, cond, List, [], ◌∷◌}
+use Rattle.std.proofs.Common.{◌++◌, replicate, refl, sym, ap, ap₂, ◌∙◌, eqb, Option, Some}
 use Rattle.std.proofs.lemmas.Bool.{eqb-true}
 use Rattle.jpeg_bits.specs.Reading.{End, Fault}
 use Rattle.jpeg_bits.specs.Entropy.{Ending, Found, Broken, bits_of, text_at, add_byte, no_bits, ended_by, ending_at}
@@ -36,13 +35,13 @@ filled-back (c ∷ bytes) rest m e = go (eqb c 255) refl (filled-back bytes rest
         (zero, c, ap (λ (xs : List ℕ). c ∷ xs) r.1, r.0)
 
 -- The bytes of data are its bits' bytes, stuffed, and the marker after them.
-pub bytes-back : (bytes rest : List ℕ) (m : Marker) → (text_at bytes).ending ≡ Found m rest
+pub bytes_back : (bytes rest : List ℕ) (m : Marker) → (text_at bytes).ending ≡ Found m rest
     → IsData bytes (text_at bytes).bits m rest
 unfolding text_at stuffed bits_of_bytes
-bytes-back [] rest m e = absurd (not-broken End m rest e)
-bytes-back (b ∷ []) rest m e = grind (arith, not-broken)
-bytes-back (b ∷ c ∷ more) rest m e =
-    go (eqb b 255) refl (eqb c 0) refl (bytes-back more rest m) (bytes-back (c ∷ more) rest m) e
+bytes_back [] rest m e = absurd (not-broken End m rest e)
+bytes_back (b ∷ []) rest m e = grind (arith, not-broken)
+bytes_back (b ∷ c ∷ more) rest m e =
+    go (eqb b 255) refl (eqb c 0) refl (bytes_back more rest m) (bytes_back (c ∷ more) rest m) e
   where
     go : (x : Bool) → eqb b 255 ≡ x → (y : Bool) → eqb c 0 ≡ y
         → ((text_at more).ending ≡ Found m rest → IsData more (text_at more).bits m rest)

@@ -18,11 +18,8 @@ one-more n p = grind (arith, add-mul, one-mul)
 exact-div : (n al : ℕ) → n * 2 ^ al / 2 ^ al ≡ n
 exact-div n al = ap (λ (x : ℕ). x / 2 ^ al) (sym (add-zero (n * 2 ^ al))) ∙ digits_div n (pow_pos al)
 
-below-div : (k n al : ℕ) → suc n * 2 ^ al ≡ suc k → k / 2 ^ al ≡ n
-below-div k n al e = grind (arith, pow_pos, one-more)
-
 pub floor-scaled : (al : ℕ) (u : ℤ) → floor_at al (scaled al u) ≡ u
-floor-scaled al x = grind (arith, exact-div, pow_pos, one-more, below-div)
+floor-scaled al x = grind (arith, exact-div, pow_pos, one-more)
 
 pub toward-scaled : (al : ℕ) (u : ℤ) → toward_zero al (scaled al u) ≡ u
 toward-scaled al x = grind (arith, exact-div, pow_pos, one-more)

@@ -1,8 +1,10 @@
 -- The bits that were taken of a band in a refinement are those that are written for it.
+use Rattle.std.proofs.Common.{rules}
 use Rattle.std.proofs.Common.{◌≡◌, ◌≢◌, ℕ, zero, suc, ◌+◌, ◌-◌, ◌*◌, ◌/◌, ◌%◌, ◌^◌, ◌<◌, ◌≤◌}
 use Rattle.std.proofs.Common.{Bool, true, false, List, [], ◌∷◌, ◌++◌, map, length, take, drop, refl, sym, ap, ap₂, ◌∙◌}
 use Rattle.std.proofs.Common.{subst, arith, Ok, eqb, ℤ, pos, negsuc, neg_ℤ, unsigned_abs}
 use Rattle.std.proofs.Common.{append_assoc, append-nil, length-append, length-take, length-drop, leb}
+use Rattle.std.proofs.lemmas.Grind.{common_steps}
 use Rattle.std.proofs.Math.Nat.{zero-mul, one-mul}
 use Rattle.std.proofs.lemmas.Bool.{eqb-true, eq-eqb, le-leb}
 use Rattle.std.specs.List.{AllByRecursion}
@@ -26,9 +28,9 @@ use Rattle.jpeg_streams.proofs.WrittenRefinements.{with_last-end, new-scaled, ma
 use Rattle.jpeg_evidence.specs.Strict.{alone, IsCut, IsNumber, HasByteSymbols, count_zeros}
 use Rattle.jpeg_evidence.specs.Strict.{PiecesFit}
 use Rattle.jpeg_evidence.specs.Strict.PiecesFit.{covered, new, zeros, last}
-use Rattle.jpeg_evidence.proofs.TakenBits.{number-taken, symbol-taken, after-read, bind-cut, map-parts}
-use Rattle.jpeg_streams.proofs.TakenTexts.{bind-parts, ok-parts, no-error}
+use Rattle.jpeg_evidence.proofs.TakenBits.{number_taken, symbol_taken, after-read, bind-cut, map-parts}
 use Rattle.jpeg_evidence.proofs.TakenBits.{if-read, cut-map, cut-none, cut-both, gives-taken, Both}
+use Rattle.jpeg_streams.proofs.TakenTexts.{bind-parts, ok-parts, no-error}
 use Rattle.jpeg_evidence.proofs.TakenBands.{run-small}
 
 -- ---- a place
@@ -79,12 +81,9 @@ moves al z w s t even e = grind (arith, eq-eqb, ok-parts, no-error)
 corrected-pos : (al m k b : ℕ) (w : ℤ) (s t : Text) → 0 < m → m * 2 ^ suc al ≡ k → b < 2
     → corrected_by al (pos k) b s ≡ Ok (w, t) → IsOld al w b × (s ≡ t)
 corrected-pos al m k zero w s t some h small e =
-    let q = ok-parts (pos k) w s t e in
-    (old-pos al m 0 w some small (ap pos (sym (kept-sum al m) ∙ h) ∙ q.0), q.1)
+    grind (arith, common_steps, ok-parts, old-pos, kept-sum)
 corrected-pos al m k (suc zero) w s t some h small e =
-    let q = moves al (pos k) w s t (ap (λ (x : ℕ). bit_of al (pos x)) (sym h) ∙ even-bit al m) e in
-    let sum : (2 * m + 1) * 2 ^ al ≡ k + 2 ^ al = omega (arith, moved-sum al m, h) in
-    (old-pos al m 1 w some small (ap pos sum ∙ q.0), q.1)
+    grind (arith, common_steps, moves, even-bit, moved-sum, old-pos)
 corrected-pos al m k b w s t some h small e = absurd (omega arith)
 
 corrected-neg : (al m k b : ℕ) (w : ℤ) (s t : Text) → 0 < m → m * 2 ^ suc al ≡ suc k → b < 2
@@ -177,14 +176,15 @@ one-taken al z bits w t kept e = if-read (is_zero z) _ _ _ _ e here other
       alike = nothing h refl;
       bits = λ us. corrections-zero us;
     }) k
+
     other : is_zero z ≡ false → (bits_from 1 >>= (λ b. corrected_by al z b)) (alone bits) ≡ Ok (w, t)
         → IsCut (IsOne al z w) bits t
     other h k =
         let c = bind-cut (bits_from 1) (λ (b : ℕ). corrected_by al z b) bits t w (IsNumber 1)
         (λ (b : ℕ) (own : List Bool). IsOld al w b × (own ≡ [])) k
-        (λ b u f. number-taken 1 bits b u f)
+        (λ b u f. number_taken 1 bits b u f)
         (λ b more f g.
-        let small : b < 2 = (number-taken 1 bits b (alone more) f).holds.below in
+        let small : b < 2 = (number_taken 1 bits b (alone more) f).holds.below in
         let r = old-index al z b w (alone more) t kept h small g in
         cut-none (λ (own : List Bool). IsOld al w b × (own ≡ [])) more t r.1 (r.0, refl)) in
         cut-map (Both (IsNumber 1 c.0) (λ (own : List Bool). IsOld al w c.0 × (own ≡ []))) (IsOne al z w) bits t
@@ -209,8 +209,7 @@ pub corrected-taken : (al : ℕ) (zs : List ℤ) (bits : List Bool) (ws : List �
     → AllByRecursion (IsKept al) zs → corrected al zs (alone bits) ≡ Ok (ws, t)
     → IsCut (IsCorrected al zs ws) bits t
 unfolding corrected corrected_from each
-corrected-taken al [] bits ws t kept e =
-    gives-taken (IsCorrected al []) [] ws bits t (nil-corrected al) e
+corrected-taken al [] bits ws t kept e = grind (arith, common_steps, gives-taken, nil-corrected)
 corrected-taken al (z ∷ zs) bits ws t kept e =
     let f : ℤ → Reads (List ℤ) = λ w. corrected al zs >>= (λ others. gives (w ∷ others)) in
     let k = bind-parts (corrected_from al z) f (alone bits) t ws e in
@@ -284,16 +283,14 @@ Ends zs = (r : ℕ) (us : List ℤ) → r < count_zeros zs → Alike us (take (t
 ends-zeros : (z : ℤ) (zs us : List ℤ) (r : ℕ) → is_zero z ≡ true → Ends zs → suc r < count_zeros (z ∷ zs)
     → Alike us (z ∷ take (through_zero r zs) zs) → EndsWithZero (suc r) us
 ends-zeros z zs [] r h more small a = absurd a
-ends-zeros z zs (u ∷ us) r h more small (nothing k e, b) =
-    zero-after r u us e (more r us (let c = count-here z zs h in omega (arith, c, small)) b)
+ends-zeros z zs (u ∷ us) r h more small (nothing k e, b) = search (rules, zero-after, count-here)
 ends-zeros z zs (u ∷ us) r h more small (an_old k o, b) = cc
 
 ends-old : (z : ℤ) (zs us : List ℤ) (r : ℕ) → is_zero z ≡ false → Ends zs → r < count_zeros (z ∷ zs)
     → Alike us (z ∷ take (through_zero r zs) zs) → EndsWithZero r us
 ends-old z zs [] r h more small a = absurd a
 ends-old z zs (u ∷ us) r h more small (nothing k e, b) = cc
-ends-old z zs (u ∷ us) r h more small (an_old k o, b) =
-    old-after r u us o (more r us (let c = count-past z zs h in omega (arith, c, small)) b)
+ends-old z zs (u ∷ us) r h more small (an_old k o, b) = search (rules, old-after, count-past)
 
 ends-step : (z : ℤ) (zs us : List ℤ) (r : ℕ) (b : Bool) → is_zero z ≡ b → Ends zs → r < count_zeros (z ∷ zs)
     → Alike us (take (through_zero r (z ∷ zs)) (z ∷ zs)) → EndsWithZero r us
@@ -401,7 +398,7 @@ last-taken al r others zs bits y t ne kept e =
     if-read (eqb r 15) _ _ _ _ e (λ h k. absurd (ne (eqb-true r 15 h))) (λ h k.
     let f : ℕ → Reads Band = λ e. corrected al zs >>= (λ all. gives (all, 2 ^ r - 1 + e)) in
     let p = bind-parts (bits_from r) f (alone bits) t y k in
-    let c = number-taken r bits p.0 p.1 p.2 in
+    let c = number_taken r bits p.0 p.1 p.2 in
     grind (arith, map-parts, cut-both, corrected-taken))
 
 -- what follows a symbol that was read
@@ -449,8 +446,8 @@ refined-taken table al (suc n) zs bits y t is bytes kept (new r sign z rest fron
     cut-map (Both A (Both B (Both C D))) (IsRefined table al (z ∷ rest) y) bits t
     (λ own p. subst (λ (v : Band). IsRefined table al (z ∷ rest) v own) m.2
     (found-both table al r sign (z ∷ rest) front m.0 own bytes small p))
-    (cut-both A (Both B (Both C D)) bits one t (symbol-taken table bits (16 * r + 1) (alone one) is h)
-    (cut-both B (Both C D) one two t (number-taken 1 one sign (alone two) h1)
+    (cut-both A (Both B (Both C D)) bits one t (symbol_taken table bits (16 * r + 1) (alone one) is h)
+    (cut-both B (Both C D) one two t (number_taken 1 one sign (alone two) h1)
     (cut-both C D two more t
     (corrected-taken al (take k (z ∷ rest)) two front (alone more) (all-take (IsKept al) k (z ∷
     rest) kept) h2)
@@ -474,7 +471,7 @@ refined-taken table al (suc n) zs bits y t is bytes kept (zeros z rest front bit
     cut-map (Both A (Both C D)) (IsRefined table al (z ∷ rest) y) bits t
     (λ own p. subst (λ (v : Band). IsRefined table al (z ∷ rest) v own) m.2
     (passed-both table al (z ∷ rest) front m.0 own small p))
-    (cut-both A (Both C D) bits one t (symbol-taken table bits (16 * 15 + 0) (alone one) is h)
+    (cut-both A (Both C D) bits one t (symbol_taken table bits (16 * 15 + 0) (alone one) is h)
     (cut-both C D one more t
     (corrected-taken al (take k (z ∷ rest)) one front (alone more) (all-take (IsKept al) k (z ∷
     rest) kept) h2)
@@ -491,4 +488,4 @@ refined-taken table al (suc n) zs bits y t is bytes kept (last r z rest bits' on
     cut-map (Both A B) (IsRefined table al (z ∷ rest) y) bits t
     (λ own p. subst (λ (v : Band). IsRefined table al (z ∷ rest) v own) k.2
     (last-both table al r k.0 (z ∷ rest) k.1 own bytes ne (omega arith) p))
-    (cut-both A B bits one t (symbol-taken table bits (16 * r + 0) (alone one) is h) k.3)
+    (cut-both A B bits one t (symbol_taken table bits (16 * r + 0) (alone one) is h) k.3)

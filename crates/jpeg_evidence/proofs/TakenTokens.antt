@@ -11,9 +11,9 @@ use Rattle.jpeg_bits.specs.declared.tokens.Token.{Token}
 use Rattle.jpeg_bits.specs.declared.tokens.Token.TheVariants.{Value, Sixteen, Rest, Overlong}
 use Rattle.jpeg_evidence.specs.Strict.{alone, IsCut, IsNumber, IsValue, Follows, IsToken}
 use Rattle.jpeg_evidence.specs.Strict.Follows.{value, sixteen, ended, overlong}
-use Rattle.jpeg_evidence.proofs.TakenBits.{number-taken, code-taken, cut-map, gives-taken, map-taken}
+use Rattle.jpeg_evidence.proofs.TakenBits.{number_taken, code-taken, cut-map, gives-taken, map-taken}
 use Rattle.jpeg_evidence.proofs.TakenBits.{bind-cut, if-read}
-use Rattle.jpeg_evidence.proofs.TakenValues.{value-taken}
+use Rattle.jpeg_evidence.proofs.TakenValues.{value_taken}
 
 -- a token without a value
 plain-taken : (room size r : ℕ) (bits : List Bool) (x : Token) (t : Text) → token_at room size r 0 (alone bits)
@@ -23,7 +23,7 @@ plain-taken room size r bits x t e =
     if-read (eqb r 15) _ _ _ _ e
     (λ h k. gives-taken (Follows r 0) Sixteen x bits t (sixteen r (eqb-true r 15 h)) k)
     (λ h k. map-taken (bits_from r) (λ (n : ℕ). Rest (2 ^ r - 1 + n)) (IsNumber r) (Follows r 0) bits t x
-    (λ n. number-taken r bits n t) (λ n own is. ended r n own (eqb-false r 15 h) is) k)
+    (λ n. number_taken r bits n t) (λ n own is. ended r n own (eqb-false r 15 h) is) k)
 
 -- a token with a value
 valued-taken : (room size r s : ℕ) (bits : List Bool) (x : Token) (t : Text) → token_at room size r (suc s) (alone bits)
@@ -33,10 +33,10 @@ valued-taken room size r s bits x t e =
     if-read (ltb 0 (suc s)) _ _ _ _ e
     (λ a k. if-read (ltb r room) _ _ _ _ k
     (λ b l. map-taken (signed_from (suc s)) (λ (v : ℤ). Value r v) (IsValue (suc s)) (Follows r (suc s)) bits t x
-    (λ v. value-taken s bits v t) (λ v own is. value r s v own is) l)
+    (λ v. value_taken s bits v t) (λ v own is. value r s v own is) l)
     (λ b l. if-read (leb (size + suc s) 8) _ _ _ _ l
     (λ c m. map-taken (signed_from (suc s)) (λ (v : ℤ). Overlong) (IsValue (suc s)) (Follows r (suc s)) bits t x
-    (λ v. value-taken s bits v t) (λ v own is. overlong r s own) m)
+    (λ v. value_taken s bits v t) (λ v own is. overlong r s own) m)
     (λ c m. gives-taken (Follows r (suc s)) Overlong x bits t (overlong r s []) m)))
     (λ a k. absurd (let z = ltb-false 0 (suc s) a in omega (arith, z)))
 
@@ -46,10 +46,10 @@ piece-taken room size r zero bits x t e = plain-taken room size r bits x t e
 piece-taken room size r (suc s) bits x t e = valued-taken room size r s bits x t e
 
 -- The bits that were taken of a token are a code for its run and size, and the bits after it.
-pub token-taken : (table : Table) (room : ℕ) (bits : List Bool) (x : Token) (t : Text) → IsTable table
+pub token_taken : (table : Table) (room : ℕ) (bits : List Bool) (x : Token) (t : Text) → IsTable table
     → token_from table room (alone bits) ≡ Ok (x, t) → IsCut (IsToken table x) bits t
 unfolding token_from
-token-taken table room bits x t is e =
+token_taken table room bits x t is e =
     let f : ℕ × ℕ → Reads Token = λ c. token_at room c.0 (c.1 / 16) (c.1 % 16) in
     let r = bind-cut (code_from table) f bits t x (λ (c : ℕ × ℕ). IsCoded table c.1)
     (λ (c : ℕ × ℕ). Follows (c.1 / 16) (c.1 % 16) x) e

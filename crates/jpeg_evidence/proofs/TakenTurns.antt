@@ -1,6 +1,7 @@
 -- The bits that were taken of the blocks of an interval are those that are written for them.
-use Rattle.std.proofs.Common.{◌≡◌, ℕ, Bool, List, [], ◌∷◌, ◌++◌, sym, ap, ◌∙◌, subst, Ok, ℤ, pos, get_or}
-use Rattle.std.proofs.Common.{set, append_assoc}
+use Rattle.std.proofs.Common.{arith, ◌≡◌, ℕ, Bool, List, [], ◌∷◌, ◌++◌, sym, ap, ◌∙◌, subst, Ok, ℤ}
+use Rattle.std.proofs.Common.{pos, get_or, set, append_assoc}
+use Rattle.std.proofs.lemmas.Grind.{common_steps}
 use Rattle.jpeg_bits.specs.Entropy.{Text}
 use Rattle.jpeg_bits.specs.Readers.{Reads, gives, ◌>>=◌}
 use Rattle.jpeg_bits.specs.Passes.{Block, Pass, Via, block_from, blocks_of}
@@ -10,7 +11,7 @@ use Rattle.jpeg_streams.specs.WrittenData.WritesBlocks.{done, block}
 use Rattle.jpeg_evidence.specs.Strict.{alone, IsCut, IsBlock, BlocksFit, numbers_read}
 use Rattle.jpeg_evidence.specs.Strict.BlocksFit.{finished, next}
 use Rattle.jpeg_evidence.proofs.TakenBits.{after-read, map-parts, gives-taken, cut-map, cut-both, Both}
-use Rattle.jpeg_evidence.proofs.TakenBlocks.{block-taken}
+use Rattle.jpeg_evidence.proofs.TakenBlocks.{block_taken}
 
 -- a block and those after it
 block-first : (p : Pass) (predictors : List ℤ) (run : ℕ) (t : Via × Block) (turns : List (Via × Block))
@@ -46,15 +47,14 @@ unfolding numbers_read
 none-written p predictors = done predictors
 
 -- The bits that were taken of blocks are written for them.
-pub blocks-taken : (p : Pass) (predictors : List ℤ) (run : ℕ) (turns : List (Via × Block)) (bits : List Bool)
+pub blocks_taken : (p : Pass) (predictors : List ℤ) (run : ℕ) (turns : List (Via × Block)) (bits : List Bool)
     (blocks : List Block) (t : Text) → BlocksFit p predictors run turns bits
     → blocks_of p predictors run turns (alone bits) ≡ Ok (blocks, t)
     → IsCut (WritesBlocks p predictors run (numbers_read p turns blocks)) bits t
 unfolding blocks_of
-blocks-taken p predictors run turns bits blocks left (finished predictors' bits') e =
-    gives-taken (λ (l : List Block). WritesBlocks p predictors 0 (numbers_read p [] l)) [] blocks bits left
-    (none-written p predictors) e
-blocks-taken p predictors run turns bits blocks left (next predictors' run' t turns' bits' more r h tables fits w) e =
+blocks_taken p predictors run turns bits blocks left (finished predictors' bits') e =
+    grind (arith, common_steps, gives-taken, none-written)
+blocks_taken p predictors run turns bits blocks left (next predictors' run' t turns' bits' more r h tables fits w) e =
     let before = get_or predictors t.0.component (pos 0) in
     let after : Block × ℤ × ℕ → Reads (List Block) = λ r.
     blocks_of p (set predictors t.0.component r.1) r.2 turns' >>= (λ l. gives (r.0 ∷ l)) in
@@ -62,5 +62,5 @@ blocks-taken p predictors run turns bits blocks left (next predictors' run' t tu
     let m = map-parts (blocks_of p (set predictors t.0.component r.1) r.2 turns') (λ (l : List Block). r.0 ∷ l)
     (alone more) left blocks rest in
     step p predictors run t turns' r m.0 blocks bits more left m.2
-    (block-taken p t.0 before run t.1 bits r (alone more) tables fits h)
-    (blocks-taken p (set predictors t.0.component r.1) r.2 turns' more m.0 left w m.1)
+    (block_taken p t.0 before run t.1 bits r (alone more) tables fits h)
+    (blocks_taken p (set predictors t.0.component r.1) r.2 turns' more m.0 left w m.1)

@@ -1,7 +1,8 @@
 -- The bits that were taken of a value and of a DC difference are those that are written for it.
 use Rattle.std.proofs.Common.{◌≡◌, ℕ, zero, suc, ◌-◌, ◌^◌, ◌<◌, ◌≤◌, Bool, List, []}
-use Rattle.std.proofs.Common.{refl, sym, ap, ◌∙◌, arith, if◌then◌else◌, pow_pos, pow-suc, Ok, leb, nat_le}
+use Rattle.std.proofs.Common.{refl, ap, ◌∙◌, arith, if◌then◌else◌, pow_pos, pow-suc, Ok, leb, nat_le}
 use Rattle.std.proofs.Common.{ℤ, pos, negsuc, ◌-ℤ◌}
+use Rattle.std.proofs.lemmas.Grind.{common_steps}
 use Rattle.std.proofs.lemmas.Int.{ints}
 use Rattle.std.proofs.lemmas.Bool.{cases_lt, ltb-true, ltb-false}
 use Rattle.std.proofs.Math.Pow.{pow_mono}
@@ -14,19 +15,11 @@ use Rattle.jpeg_bits.proofs.Fast.{no-number}
 use Rattle.jpeg_bits.specs.Written.{low_bits, IsCoded, IsCategory, number_for}
 use Rattle.jpeg_streams.specs.WrittenData.{WritesDifference}
 use Rattle.jpeg_evidence.specs.Strict.{alone, IsCut, IsNumber, IsValue}
-use Rattle.jpeg_evidence.proofs.TakenBits.{number-taken, symbol-taken, cut-map, gives-taken, map-taken}
-use Rattle.jpeg_streams.proofs.TakenTexts.{no-error}
+use Rattle.jpeg_evidence.proofs.TakenBits.{number_taken, symbol_taken, cut-map, gives-taken, map-taken}
 use Rattle.jpeg_evidence.proofs.TakenBits.{bind-cut, if-read}
+use Rattle.jpeg_streams.proofs.TakenTexts.{no-error}
 
 -- ---- signed numbers
-
--- a number in s bits, the highest of which says that it is positive, has the category s
-high-number : (v s : ℕ) → 2 ^ s ≤ v → v < 2 ^ suc s → IsCategory (pos v) (suc s)
-high-number v s low top = grind (arith, cases_lt, pow_mono)
-
-number-high : (v s : ℕ) → 0 < v → number_for (pos v) s ≡ v
-unfolding number_for
-number-high x s h = grind arith
 
 low-number : (n s : ℕ) → 2 ^ s ≤ suc n → suc n < 2 ^ suc s → IsCategory (negsuc n) (suc s)
 low-number n s low top = grind (arith, cases_lt, pow_mono)
@@ -40,15 +33,15 @@ IsBack u s v = IsCategory u s × (number_for u s ≡ v)
 extended-back : (v s : ℕ) → v < 2 ^ suc s → IsBack (extended v (suc s)) (suc s) v
 unfolding extended number_for
 extended-back v s top =
-    grind (arith, ltb-true, pow-suc, low-extended, low-number, ltb-false, pow_pos, high-number, number-high)
+    grind (arith, ltb-true, pow-suc, low-extended, low-number, ltb-false, pow_pos, cases_lt, pow_mono)
 
 -- The bits that were taken of a value are its bits, and their number is its category.
-pub value-taken : (s : ℕ) (bits : List Bool) (u : ℤ) (t : Text) → signed_from (suc s) (alone bits) ≡ Ok (u, t)
+pub value_taken : (s : ℕ) (bits : List Bool) (u : ℤ) (t : Text) → signed_from (suc s) (alone bits) ≡ Ok (u, t)
     → IsCut (IsValue (suc s) u) bits t
 unfolding signed_from
-value-taken s bits u t e =
+value_taken s bits u t e =
     map-taken (bits_from (suc s)) (λ (v : ℕ). extended v (suc s)) (IsNumber (suc s)) (IsValue (suc s)) bits t u
-    (λ v. number-taken (suc s) bits v t)
+    (λ v. number_taken (suc s) bits v t)
     (λ v own is.
     let back = extended-back v s is.below in
     record { category = back.0; are = ap (low_bits (suc s)) back.1 ∙ is.are }) e
@@ -61,9 +54,8 @@ none-of-zero = record { category = record { holds = omega arith; is_least = λ t
 
 category-taken : (s : ℕ) (bits : List Bool) (u : ℤ) (t : Text) → signed_from s (alone bits) ≡ Ok (u, t)
     → IsCut (IsValue s u) bits t
-category-taken zero bits u t e =
-    gives-taken (IsValue 0) (pos 0) u bits t none-of-zero (sym (no-number (alone bits)) ∙ e)
-category-taken (suc s) bits u t e = value-taken s bits u t e
+category-taken zero bits u t e = grind (arith, common_steps, gives-taken, none-of-zero, no-number)
+category-taken (suc s) bits u t e = value_taken s bits u t e
 
 listed-taken : (s : ℕ) (bits : List Bool) (u : ℤ) (t : Text)
     → (if nat_le s 11 then signed_from s else refused) (alone bits) ≡ Ok (u, t) → IsCut (IsValue s u) bits t
@@ -71,12 +63,12 @@ listed-taken s bits u t e =
     if-read (leb s 11) _ _ _ _ e (λ h k. category-taken s bits u t k) (λ h k. absurd (no-error Malformed (u, t) k))
 
 -- The bits that were taken of a DC difference are those that a writer emits for it.
-pub difference-taken : (table : Table) (bits : List Bool) (u : ℤ) (t : Text) → IsTable table
+pub difference_taken : (table : Table) (bits : List Bool) (u : ℤ) (t : Text) → IsTable table
     → difference table (alone bits) ≡ Ok (u, t) → IsCut (WritesDifference table u) bits t
 unfolding difference
-difference-taken table bits u t is e =
+difference_taken table bits u t is e =
     let f : ℕ → Reads ℤ = λ s. if nat_le s 11 then signed_from s else refused in
     let r = bind-cut (symbol_from table) f bits t u (IsCoded table) (λ s. IsValue s u) e
-    (λ s left k. symbol-taken table bits s left is k)
+    (λ s left k. symbol_taken table bits s left is k)
     (λ s more h k. listed-taken s more u t k) in
     grind (arith, cut-map)

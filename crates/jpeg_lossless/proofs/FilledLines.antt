@@ -62,3 +62,7 @@ pub across-wide : (h v width y : ℕ) (layers : List Layer) → AreWide width (l
 unfolding AreWide lines_across
 across-wide h v width y [] = tt
 across-wide h v width y (l ∷ layers) = (length-map-range_with_len _ 0 width, across-wide h v width y layers)
+
+pub ruleset pieces = (no-pieces, piece-fits, pieces-more, all-pieces, common_steps)
+
+pub ruleset wide_lines = (wide-none, wide-more, common_steps)

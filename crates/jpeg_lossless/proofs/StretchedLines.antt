@@ -1,4 +1,5 @@
 -- Steps of the loops over the lines of a picture in which components have factors of their own.
+use Rattle.jpeg_lossless.proofs.FilledLines.{pieces, across-wide}
 use Rattle.std.proofs.Common.{◌≡◌, ℕ, zero, suc, ◌+◌, ◌*◌, ◌/◌, ◌<◌, ◌≤◌, List, [], ◌∷◌, ◌++◌}
 use Rattle.std.proofs.Common.{length, take, drop, map, set, slice_index, slice_index_or, arith, refl, ap, ap₂, sym}
 use Rattle.std.proofs.Common.{◌∙◌, append_assoc, length-drop, length-take, rules}
@@ -11,9 +12,8 @@ use Rattle.std.specs.List.{range_with_len}
 use Rattle.jpeg_segments.specs.Frame.{Component, Frame, greatest, most_across, most_down}
 use Rattle.jpeg_segments.proofs.FrameLemmas.{greatest-some}
 use Rattle.jpeg_lossless.specs.Pictures.{AreLong, Layer, bytes_at, layer_of, sample_line, line_from}
-use Rattle.jpeg_lossless.specs.Pictures.{lines_across}
-use Rattle.jpeg_lossless.specs.Pictures.{layer_sample, sample_pixel}
-use Rattle.jpeg_lossless.proofs.ImageLoops.{IsPixelOf, at-most, inside, line-begun, line-grown}
+use Rattle.jpeg_lossless.specs.Pictures.{lines_across, layer_sample, sample_pixel}
+use Rattle.jpeg_lossless.proofs.ImageLoops.{picture_steps, layers_none, IsPixelOf, at-most, inside, line-begun, line-grown}
 use Rattle.jpeg_lossless.proofs.ImageLoops.{line-more, line-none, through, within}
 use Rattle.std.proofs.lemmas.Grind.{common_steps}
 
@@ -181,3 +181,7 @@ line_of_lines precision h v width y (suc n) layers k =
     (ap (bytes_at precision lines) (from-none n) ∙ pixel-of precision h v width y n layers (omega arith))
     ∙ sym (line-grown precision h v n layers y)
     ∙ ap (λ (m : ℕ). sample_line precision h v m layers y) (sym s)
+
+pub ruleset sampled_lines = (pieces, across-wide, picture_steps, from-none, lines_long, line_of_lines)
+
+pub ruleset no_lines = (layers_none, lines_none, common_steps)

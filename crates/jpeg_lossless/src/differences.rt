@@ -48,6 +48,7 @@ fn take_difference<R: Read + Drop>(
 /// Appends the differences of an MCU to those of a row. On an error stores it in `refusal` and
 /// returns false.
 #[inline(always)]
+#[tactic(auto, using(crate::proofs::DifferenceLoops::row_rules))]
 fn take_mcu<R: Read + Drop>(
     alloc: Global,
     decoder: &mut HuffmanDecoder,
@@ -77,6 +78,7 @@ fn take_mcu<R: Read + Drop>(
 
 /// Reads the differences of a row of `count` MCUs into `row`, replacing its contents. An MCU has
 /// one for each of the tables.
+#[tactic(auto, using(crate::proofs::DifferenceLoops::row_rules))]
 pub(crate) fn read_row<R: Read + Drop>(
     alloc: Global,
     decoder: &mut HuffmanDecoder,

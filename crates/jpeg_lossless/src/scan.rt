@@ -107,6 +107,7 @@ impl LosslessScan {
     ghost use Rattle.jpeg_lossless.specs.PlanesRead.{AreGrown, IsWithinMcus};
 
     /// Reads `count` rows of MCUs, and appends their samples to the planes.
+    #[tactic(auto, using(crate::proofs::PlaneLoops::planes_none))]
     fn read_rows<R: Read + Drop>(
         &mut self,
         decoder: &mut HuffmanDecoder,
@@ -176,6 +177,7 @@ impl LosslessScan {
 
     /// Reads the intervals of a scan, each of `rows` rows of MCUs and the last of those that are
     /// left, and returns the marker after them, if it was read.
+    #[tactic(auto, using(crate::proofs::PlaneLoops::after_none, crate::proofs::PlaneLoops::interval_last))]
     fn read_intervals<R: Read + Drop>(
         &mut self,
         source: &mut Source<R>,
@@ -248,6 +250,7 @@ fn finish(plane: &mut Vec<u16>, size: usize, point_transform: u8)
 }
 
 /// Finishes the plane of each part.
+#[tactic(auto, using(crate::proofs::RowLoops::cut_none, std::proofs::lemmas::Grind::common_steps))]
 fn finish_all(planes: &mut [Vec<u16>], parts: &[Part<'_>], point_transform: u8)
     requires point { point_transform < 16 }
     requires count { length planes.old ≡ length parts.now }
@@ -263,7 +266,7 @@ fn finish_all(planes: &mut [Vec<u16>], parts: &[Part<'_>], point_transform: u8)
 }
 
 /// Reads a scan as `read_scan` does, row by row.
-#[tactic(auto, unfolding(crate::specs::PlanesRead::planes_scan))]
+#[tactic(auto, unfolding(crate::specs::PlanesRead::planes_scan), using(crate::proofs::Sizes::scan_rules))]
 fn read_planes<R: Read + Drop>(
     alloc: Global,
     source: &mut Source<R>,
@@ -314,6 +317,7 @@ fn read_planes<R: Read + Drop>(
 /// category is above 16, FF 00 stands where a marker is expected, or an interval does not end with
 /// the restart marker that is due. It is `Io` where the bytes end or a read fails, and
 /// `OutOfMemory` where no memory is left.
+#[tactic(auto, using(crate::proofs::Sizes::scan_rules))]
 pub fn read_scan<R: Read + Drop>(
     alloc: Global,
     source: &mut Source<R>,

@@ -1,10 +1,9 @@
 use Rattle.std.proofs.Common.{◌≡◌, ◌+◌, ◌*◌, ◌++◌, ◌∙◌, ap, ap₂, sym, map, drop, List, ℕ, replicate}
-use Rattle.std.proofs.Common.{append_assoc, append-nil, rules}
-use Rattle.std.proofs.lemmas.List.{length-map}
+use Rattle.std.proofs.Common.{append_assoc}
 use Rattle.jpeg_bits.specs.Codes.{Table}
 use Rattle.jpeg_lossless.specs.Codings.{part_in}
 use Rattle.jpeg_lossless.specs.Differences.{mcu_tables}
-use Rattle.jpeg_lossless.proofs.RowLoops.{mapped-at, mapped-within, tables_none, tables_open}
+use Rattle.jpeg_lossless.proofs.RowLoops.{mapped-at, mapped-within, tables_open}
 use Rattle.jpeg_lossless.proofs.parts.mcu_tables.Goals as goal
 
 pub loop-left-init : goal.loop-left-init
@@ -21,6 +20,3 @@ loop-left-init c =
     ∙ ap (λ (l : List Table). front ++ l) (sym (tables_open (map part_in parts) i (part_in r)
     (mapped-within part_in parts i c.loop-i-test.true) (mapped-at part_in parts i r c.index-parts-i.is)))
     ∙ c.loop-i.invariant
-
-pub returns : goal.returns
-returns c = search (rules, append-nil, length-map, tables_none)

@@ -1,10 +1,8 @@
-use Rattle.std.proofs.Common.{rules}
-use Rattle.std.proofs.Common.{◌∙◌, arith, length, take}
-use Rattle.std.proofs.lemmas.List.{take_all, take_more_set}
+use Rattle.std.proofs.Common.{rules, ◌∙◌, arith, length, take}
+use Rattle.std.proofs.lemmas.List.{take_more_set}
 use Rattle.jpeg_lossless.proofs.StretchedLines.{copied_whole, next_column, same_column, stretched_step}
 use Rattle.jpeg_lossless.proofs.picture.stretch.Goals.{then-rest-from, else-rest-from}
 use Rattle.jpeg_lossless.proofs.picture.stretch.Goals as goal
-use Rattle.std.proofs.lemmas.Grind.{common_steps}
 
 pub returns-then-factor-most : goal.returns-then-factor-most
 returns-then-factor-most c =
@@ -22,6 +20,3 @@ loop-x-preserved c =
       line = stretched_step a.own.now (take l.x l.line) _ a.factor a.most l.x l.column l.rest l.invariant.column
           l.invariant.line (take_more_set l.line l.x _ (omega (arith, l.auto.line, c.loop-x-test.true)));
     }
-
-pub returns : goal.returns
-returns c = grind (arith, common_steps, take_all)

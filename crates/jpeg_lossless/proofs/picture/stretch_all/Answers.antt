@@ -1,8 +1,7 @@
 use Rattle.std.proofs.Common.{◌≡◌, ◌<◌, ◌+◌, ◌∷◌, ◌∙◌, ap, sym, arith, drop, length, length-set}
+use Rattle.std.proofs.Common.{map, rules, List, ℕ, slice_index_or, Vec, Global}
 use Rattle.std.specs.Vec.{with_items}
-use Rattle.std.proofs.Common.{map, rules, List, ℕ}
-use Rattle.std.proofs.Common.{append-nil, slice_index_or, Vec, Global}
-use Rattle.std.proofs.lemmas.List.{length-map, map-set, take_all}
+use Rattle.std.proofs.lemmas.List.{length-map, map-set}
 use Rattle.std.specs.List.{AllByRecursion}
 use Rattle.jpeg_segments.specs.Frame.{AllHaveSampling, Frame}
 use Rattle.jpeg_segments.specs.FrameView.{component_in, frame_in}
@@ -10,10 +9,10 @@ use Rattle.jpeg_segments.specs.declared.parser.Component.{Component}
 use Rattle.jpeg_lossless.specs.Pictures.{ArePlanesOf, AreWide, Layer, Reaches, layer_of, layers_of, lines_across}
 use Rattle.jpeg_lossless.proofs.FilledLines.{wide-at, wide-set}
 use Rattle.jpeg_segments.proofs.FrameLemmas.{greatest-some}
-use Rattle.jpeg_lossless.proofs.ImageLoops.{IsPixelOf, layers_none, layers_step, pixels-at, planes-count}
+use Rattle.jpeg_lossless.proofs.ImageLoops.{IsPixelOf, layers_step, pixels-at, planes-count}
 use Rattle.jpeg_lossless.proofs.RowLoops.{mapped-at, mapped-within}
 use Rattle.jpeg_lossless.proofs.Sizes.{written-back}
-use Rattle.jpeg_lossless.proofs.StretchedLines.{factor_most, line_inside, line_reaches, lines_more, lines_none}
+use Rattle.jpeg_lossless.proofs.StretchedLines.{factor_most, line_inside, line_reaches, lines_more}
 use Rattle.jpeg_lossless.proofs.StretchedLines.{lines_step, own_samples}
 use Rattle.jpeg_lossless.proofs.picture.stretch_all.Goals as goal
 
@@ -120,6 +119,3 @@ loop-i-preserved c =
     lines_more a.horizontal a.vertical frame.width a.y (layer_of (component_in r) p.items) rest
     ∙ ap (λ (l : List ℕ). l ∷ across rest) (sym (written ∙ made)) in
     search (rules, length-set, map-set, wide-set, lines_step)
-
-pub returns-clause-lines : goal.returns-clause-lines
-returns-clause-lines c = search (rules, append-nil, layers_none, length-map, lines_none, take_all)

@@ -1,15 +1,10 @@
-use Rattle.std.proofs.lemmas.Grind.{common_steps}
 use Rattle.std.proofs.Common.{◌≡◌, ◌≤◌, ◌<◌, ◌+◌, ap, arith, map, rules}
 use Rattle.std.proofs.Common.{length, List, ℕ, slice_index_or, Vec, Global}
 use Rattle.std.proofs.Math.ListN as lists
-use Rattle.std.proofs.lemmas.List.{length-map, take_all}
+use Rattle.std.proofs.lemmas.List.{length-map}
 use Rattle.jpeg_lossless.specs.Pictures.{AreLong}
-use Rattle.jpeg_lossless.proofs.FilledLines.{all-pieces, no-pieces, pieces-more}
-use Rattle.jpeg_lossless.proofs.ImageLoops.{bytes-none, bytes-more, long-at}
+use Rattle.jpeg_lossless.proofs.ImageLoops.{long-at}
 use Rattle.jpeg_lossless.proofs.picture.write_pixel.Goals as goal
-
-pub loop-i-init : goal.loop-i-init
-loop-i-init c = search (rules, no-pieces, bytes-none)
 
 inside-plane : (at i : ℕ) (planes : List (Vec ℕ Global)) (r : Vec ℕ Global) (slice : List ℕ)
     → AreLong (at + 1) (map (λ v. v.items) planes) → i < length planes → r ≡ slice_index_or planes i r
@@ -27,9 +22,3 @@ bounds-plane-at c = search (rules, inside-plane)
 
 pub offset_bounds-plane-at : goal.offset_bounds-plane-at
 offset_bounds-plane-at c = search (rules, inside-plane)
-
-pub loop-i-preserved : goal.loop-i-preserved
-loop-i-preserved c = grind (arith, common_steps, bytes-more, pieces-more)
-
-pub returns : goal.returns
-returns c = grind (arith, common_steps, all-pieces, take_all, length-map)

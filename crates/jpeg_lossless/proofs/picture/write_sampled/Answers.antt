@@ -1,16 +1,10 @@
 use Rattle.std.proofs.Common.{◌≡◌, ◌*◌, ◌∙◌, ap, arith, length, map, rules, sym, List, ℕ}
 use Rattle.jpeg_segments.specs.Frame.{Frame, most_across, most_down}
 use Rattle.jpeg_segments.specs.FrameView.{frame_in}
-use Rattle.jpeg_lossless.specs.Pictures.{layers_of, lossless_picture}
-use Rattle.jpeg_lossless.specs.Pictures.{sample_picture}
-use Rattle.jpeg_lossless.proofs.FilledLines.{across-wide, all-pieces, no-pieces, piece-fits}
-use Rattle.jpeg_lossless.proofs.ImageLoops.{picture-begun, picture-grown, picture-layers, planes-count}
-use Rattle.jpeg_lossless.proofs.StretchedLines.{from-none, line_of_lines, lines_long}
+use Rattle.jpeg_lossless.specs.Pictures.{layers_of, lossless_picture, sample_picture}
+use Rattle.jpeg_lossless.proofs.FilledLines.{all-pieces, piece-fits}
+use Rattle.jpeg_lossless.proofs.ImageLoops.{picture-layers, planes-count}
 use Rattle.jpeg_lossless.proofs.picture.write_sampled.Goals as goal
-use Rattle.std.proofs.lemmas.Grind.{common_steps}
-
-pub loop-y-init : goal.loop-y-init
-loop-y-init c = search (rules, no-pieces, picture-begun)
 
 pub slice_bounds-output-end : goal.slice_bounds-output-end
 slice_bounds-output-end c =
@@ -20,12 +14,6 @@ slice_bounds-output-end c =
     (c.loop-y.auto.image ∙ c.requires.room ∙ ap (λ n. high * n) (sym c.size_of_line-line.ensures.size)) in
     let same : c.from.result * line ≡ c.loop-y.y * line = ap (λ n. n * line) c.from.ensures in
     omega (arith, room, same)
-
-pub write_line-requires-clause-long : goal.write_line-requires-clause-long
-write_line-requires-clause-long c = grind (arith, common_steps, from-none, lines_long)
-
-pub loop-y-preserved : goal.loop-y-preserved
-loop-y-preserved c = grind (arith, common_steps, across-wide, line_of_lines, picture-grown)
 
 whole : (frame : Frame) (planes : List (List ℕ)) (h v high : ℕ) → h ≡ most_across frame.components
     → v ≡ most_down frame.components → high ≡ frame.height → length planes ≡ length frame.components

@@ -1,10 +1,6 @@
-use Rattle.std.proofs.Common.{arith, rules}
-use Rattle.jpeg_lossless.proofs.RowLoops.{several_step, pick_none}
+use Rattle.std.proofs.Common.{rules}
+use Rattle.jpeg_lossless.proofs.RowLoops.{several_step}
 use Rattle.jpeg_lossless.proofs.planes.pick_several.Goals as goal
-use Rattle.std.proofs.lemmas.Grind.{common_steps}
 
 pub loop-left-preserved : goal.loop-left-preserved
 loop-left-preserved c = search (rules, several_step)
-
-pub returns : goal.returns
-returns c = grind (arith, common_steps, pick_none)

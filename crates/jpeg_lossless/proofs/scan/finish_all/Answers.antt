@@ -1,10 +1,10 @@
 use Rattle.std.proofs.Common.{◌≡◌, ◌<◌, ◌*◌, ◌∙◌, ap, ap₂, sym, arith, map, take}
 use Rattle.std.proofs.Common.{length, length-set, List, ℕ, slice_index_or, rules}
 use Rattle.std.proofs.Math.ListN as lists
-use Rattle.std.proofs.lemmas.List.{length-map, map-set}
+use Rattle.std.proofs.lemmas.List.{map-set}
 use Rattle.jpeg_lossless.specs.Codings.{part_in}
 use Rattle.jpeg_lossless.specs.Scans.{shifted}
-use Rattle.jpeg_lossless.proofs.RowLoops.{cut_step, cut_none, mapped-at, mapped-within}
+use Rattle.jpeg_lossless.proofs.RowLoops.{cut_step, mapped-at, mapped-within}
 use Rattle.jpeg_lossless.proofs.scan.finish_all.Goals as goal
 
 pub loop-i-preserved : goal.loop-i-preserved
@@ -31,6 +31,3 @@ loop-i-preserved c =
     let whole : map (λ v. v.items) (lists.set c.loop-i.planes i c.finish.new.plane) ≡ lists.set old i new
     = map-set (λ v. v.items) c.loop-i.planes i c.finish.new.plane in
     search (rules, length-set, cut_step)
-
-pub returns-clause-planes : goal.returns-clause-planes
-returns-clause-planes c = search (rules, cut_none, length-map)

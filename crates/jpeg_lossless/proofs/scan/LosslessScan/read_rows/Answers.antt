@@ -9,7 +9,7 @@ use Rattle.jpeg_lossless.specs.Scans.{samples_an_mcu}
 use Rattle.jpeg_bits.specs.Codes.{Table}
 use Rattle.jpeg_bits.specs.declared.scan.Predictor.{Predictor}
 use Rattle.jpeg_lossless.proofs.Leaves.{Leaves-step, Leaves-refused}
-use Rattle.jpeg_lossless.proofs.PlaneLoops.{planes_more, planes_refused, planes_none}
+use Rattle.jpeg_lossless.proofs.PlaneLoops.{planes_more, planes_refused}
 use Rattle.jpeg_lossless.proofs.Sizes.{grown-as, one-row, written-back}
 use Rattle.jpeg_lossless.proofs.scan.LosslessScan.read_rows.Goals as goal
 
@@ -75,6 +75,3 @@ loop-left-preserved g c =
           (sym listed) ∙ h))
           c.loop-left.invariant.reads c.in_ok-read_row.ensures.reads;
     }
-
-pub returns-clause-reads : goal.returns-clause-reads
-returns-clause-reads g c = search (rules, planes_none)
