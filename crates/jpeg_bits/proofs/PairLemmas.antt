@@ -2,15 +2,14 @@
 use Rattle.std.proofs.lemmas.Bool.{false≢true}
 use Rattle.std.proofs.lemmas.Bool.Decides.{nat_tests}
 use Rattle.std.proofs.Common.{◌≡◌, ℕ, ℤ, zero, suc, ◌+◌, ◌-◌, ◌*◌, ◌%◌, ◌^◌, ◌<◌, ◌≤◌, nat_lt, ◌==◌, ◌||◌, Bool, true}
-use Rattle.std.proofs.Common.{false, List, [], ◌∷◌, ◌++◌, length, drop, replicate, get_or, set, pos, ◌*ℤ◌, Option, Some, None}
-use Rattle.std.proofs.Common.{if◌then◌else◌, Ok, refl, sym, ap, ◌∙◌, subst, arith, length-set, is_ok}
+use Rattle.std.proofs.Common.{false, List, [], ◌∷◌, ◌++◌, length, drop, replicate, get_or, set, pos, ◌*ℤ◌, Option}
+use Rattle.std.proofs.Common.{Some, None, if◌then◌else◌, Ok, refl, sym, ap, ◌∙◌, subst, arith, length-set, is_ok}
 use Rattle.jpeg_bits.specs.Entropy.{Ahead, Takes, upcoming, IsFilled, has_buffered, same_text}
 use Rattle.jpeg_bits.specs.Stream.{Stream}
 use Rattle.jpeg_bits.specs.Codes.{Table}
-use Rattle.jpeg_bits.specs.ShortCodes.{symbol_in, short_value_by, short_value_of, next_bits, packed}
-use Rattle.jpeg_bits.specs.ShortCodes.{HoldsWideValues}
-use Rattle.jpeg_bits.specs.Pairs.{ShortValue, no_pair, one_value, two_values, pair_by, value_in, pair_of}
-use Rattle.jpeg_bits.specs.Pairs.{IsPairOf, IsWithinPassed}
+use Rattle.jpeg_bits.specs.ShortCodes.{symbol_in, short_value_by, short_value_of, next_bits, packed, HoldsWideValues}
+use Rattle.jpeg_bits.specs.Pairs.{ShortValue, no_pair, one_value, two_values, pair_by, value_in, pair_of, IsPairOf}
+use Rattle.jpeg_bits.specs.Pairs.{IsWithinPassed}
 use Rattle.jpeg_bits.specs.Written.{low_bits}
 use Rattle.jpeg_bits.specs.Readers.{Reads}
 use Rattle.jpeg_bits.specs.Bands.{Band, wrapped, token_from}

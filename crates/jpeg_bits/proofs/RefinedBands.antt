@@ -1,9 +1,9 @@
 -- Bands of a refinement: what is left after some places.
-use Rattle.std.proofs.Common.{is_ok, ◌≡◌, ℕ, zero, suc, ◌+◌, ◌-◌, ◌<◌, ◌≤◌, List, [], ◌∷◌, ◌++◌, length, take, drop}
-use Rattle.std.proofs.Common.{set, ℤ, Result, Ok, Err, refl, sym, ap, ◌∙◌, arith, append_assoc, length-drop}
-use Rattle.std.proofs.Common.{length-take, length-append, length-set, le_refl}
-use Rattle.std.proofs.lemmas.List.{drop_all, take_all, append-nil, take-append-le, drop-append-le, length-take-le}
-use Rattle.std.proofs.lemmas.List.{set-append_left, set-append_right}
+use Rattle.std.proofs.Common.{is_ok, ◌≡◌, ℕ, zero, suc, ◌+◌, ◌-◌, ◌<◌, ◌≤◌, List, [], ◌∷◌, ◌++◌, length}
+use Rattle.std.proofs.Common.{take, drop, set, ℤ, Result, Ok, Err, refl, sym, ap, ◌∙◌, arith}
+use Rattle.std.proofs.Common.{append_assoc, length-drop, length-take, length-append, length-set, le_refl}
+use Rattle.std.proofs.lemmas.List.{drop_all, take_all, append-nil, take-append-le, drop-append-le}
+use Rattle.std.proofs.lemmas.List.{length-take-le, set-append_left, set-append_right}
 use Rattle.std.proofs.lemmas.Bool.{false≢true}
 use Rattle.jpeg_bits.specs.Reading.{Fault, ◌>>=◌}
 use Rattle.jpeg_bits.specs.Entropy.{Text}
@@ -11,9 +11,8 @@ use Rattle.jpeg_bits.specs.Codes.{Table}
 use Rattle.jpeg_bits.specs.declared.refinement.Refinement.{Refinement}
 use Rattle.jpeg_bits.specs.declared.refinement.Refinement.TheVariants.{Zeros, New, End}
 use Rattle.jpeg_bits.specs.Bands.{Band}
-use Rattle.jpeg_bits.specs.Pieces.{ReadsBand, before, corrected_from, refinement_from}
-use Rattle.jpeg_bits.specs.Pieces.{refined_piece_at, refined_ac_at}
-use Rattle.jpeg_bits.specs.Pieces.{refined_band_from, piece_from}
+use Rattle.jpeg_bits.specs.Pieces.{ReadsBand, before, corrected_from, refinement_from, refined_piece_at}
+use Rattle.jpeg_bits.specs.Pieces.{refined_ac_at, refined_band_from, piece_from}
 use Rattle.jpeg_bits.specs.Readers.{each, gives, read_on}
 use Rattle.jpeg_bits.specs.Refinement.{corrected, through_zero, with_last}
 use Rattle.jpeg_bits.proofs.BandSteps.{bind_same, before-before}

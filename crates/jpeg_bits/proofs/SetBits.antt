@@ -4,8 +4,8 @@ use Rattle.std.proofs.lemmas.Bool.{eqb-true, cases_lt}
 use Rattle.std.proofs.lemmas.Int.{int_wrap_fits}
 use Rattle.std.specs.Int.{int_wrap, cast_unsigned}
 use Rattle.jpeg_bits.specs.Passes.{or_bit}
-use Rattle.std.proofs.Common.{Bool, true, false, ◌==◌, ◌+ℤ◌, ◌≡◌, ℕ, suc, ◌+◌, ◌-◌, ◌*◌, ◌/◌, ◌%◌, ◌^◌, ◌<◌, ◌≤◌, ℤ}
-use Rattle.std.proofs.Common.{pos, negsuc, refl, ap, ◌∙◌, arith, w16, FitsSigned}
+use Rattle.std.proofs.Common.{true, false, ◌==◌, ◌+ℤ◌, ◌≡◌, ℕ, suc, ◌+◌, ◌-◌, ◌/◌, ◌%◌, ◌^◌, ◌<◌}
+use Rattle.std.proofs.Common.{◌≤◌, ℤ, pos, negsuc, refl, ap, ◌∙◌, arith, w16, FitsSigned}
 use Rattle.jpeg_bits.specs.Refinement.{bit_of}
 
 -- a number to 13, one by one

@@ -1,20 +1,17 @@
 -- Symbols and short values of bits that are held.
-use Rattle.std.proofs.Common.{arith, ◌≡◌, ℕ, ℤ, ◌≤◌, Bool, true, List, drop, length, Option, Some, None, Result, Ok}
-use Rattle.std.proofs.Common.{Err, refl, sym, ap, ◌∙◌, is_ok, get_or}
+use Rattle.std.proofs.Common.{arith, ◌≡◌, ℕ, ℤ, ◌≤◌, Bool, true, List, drop, length, Option, Some, None, Result}
+use Rattle.std.proofs.Common.{Ok, Err, refl, sym, ap, ◌∙◌, is_ok, get_or}
 use Rattle.std.proofs.lemmas.Bool.{false≢true}
 use Rattle.jpeg_bits.specs.Stream.{Stream}
 use Rattle.jpeg_bits.specs.Reading.{Fault, ◌>>=◌ as ◌>>r=◌, Names, NamesFormat}
 use Rattle.jpeg_bits.specs.Entropy.{Ahead, Takes, upcoming_by, upcoming, has_buffered, IsFilled}
-use Rattle.jpeg_bits.specs.Codes.{Table, code_in, code_lengths, next_16, symbol_from, fast_from}
-use Rattle.jpeg_bits.specs.Codes.{code_from}
-use Rattle.jpeg_bits.proofs.BufferedBits.{if_buffered}
+use Rattle.jpeg_bits.specs.Codes.{Table, code_in, code_lengths, next_16, symbol_from, fast_from, code_from}
+use Rattle.jpeg_bits.proofs.BufferedBits.{if_buffered, ok_unit, MayFail-same}
 use Rattle.jpeg_bits.specs.ShortCodes.{symbol_in, short_value_of, next_bits}
 use Rattle.jpeg_bits.specs.declared.error.Error.{Error}
 use Rattle.jpeg_bits.specs.declared.ahead.DataEnd.{DataEnd}
 use Rattle.jpeg_bits.proofs.Loops.{Names-through, bind_err, still_known}
-use Rattle.jpeg_bits.proofs.BufferedBits.{ok_unit, MayFail-same}
-use Rattle.jpeg_bits.proofs.Symbols.{code_from-buffered, code_from-none, names_format}
-use Rattle.jpeg_bits.proofs.Symbols.{may_fail_format}
+use Rattle.jpeg_bits.proofs.Symbols.{code_from-buffered, code_from-none, names_format, may_fail_format}
 use Rattle.jpeg_bits.proofs.ShortLemmas.{fast-none, fast-some}
 use Rattle.jpeg_bits.proofs.Tables.{symbol-code}
 

@@ -1,9 +1,9 @@
 -- A band of a first pass that is passed over, token by token or several at once.
 use Rattle.std.proofs.lemmas.Grind.{common_steps}
 use Rattle.std.proofs.lemmas.Bool.Decides.{nat_tests}
-use Rattle.std.proofs.Common.{◌≡◌, ℕ, ℤ, zero, suc, ◌+◌, ◌-◌, ◌*◌, ◌/◌, ◌%◌, ◌^◌, ◌<◌, ◌≤◌, Bool, true, false, List, []}
-use Rattle.std.proofs.Common.{◌∷◌, ◌++◌, length, take, drop, replicate, get_or, pos, ◌*ℤ◌, Some, Result, Ok}
-use Rattle.std.proofs.Common.{Err, is_ok, refl, sym, ap, ◌∙◌, subst, arith, length-append, length-drop, length-take, ltb}
+use Rattle.std.proofs.Common.{◌≡◌, ℕ, ℤ, zero, suc, ◌+◌, ◌-◌, ◌*◌, ◌/◌, ◌%◌, ◌^◌, ◌<◌, ◌≤◌, Bool, true, false, List}
+use Rattle.std.proofs.Common.{[], ◌∷◌, ◌++◌, length, take, drop, replicate, get_or, pos, ◌*ℤ◌, Some, Result, Ok, Err}
+use Rattle.std.proofs.Common.{is_ok, refl, sym, ap, ◌∙◌, subst, arith, length-append, length-drop, length-take, ltb}
 use Rattle.std.proofs.Common.{inl, inr, pow_pos, set, get_or-set_other, get_or-set_same}
 use Rattle.std.proofs.lemmas.Bool.{lt-ltb, false≢true, cases_lt}
 use Rattle.std.proofs.lemmas.List.{take-take}
@@ -11,17 +11,16 @@ use Rattle.std.proofs.Math.Nat.{div-add-mod'}
 use Rattle.jpeg_bits.proofs.Reservoirs.{low_bits-append, low_bits-zeros, low_bits-take, low_bits-drop, low_bits-high}
 use Rattle.jpeg_bits.proofs.Reservoirs.{same_zeros}
 use Rattle.jpeg_bits.proofs.Fast.{both-buffered}
-use Rattle.jpeg_bits.proofs.WideTokens.{none-left, value-within, advanced, buffered-then}
-use Rattle.jpeg_bits.proofs.WideTokens.{token-seen}
+use Rattle.jpeg_bits.proofs.WideTokens.{none-left, value-within, advanced, buffered-then, token-seen}
 use Rattle.jpeg_bits.specs.Reading.{Fault}
 use Rattle.jpeg_bits.specs.Entropy.{Text, advance, has_bits, bits_from}
 use Rattle.jpeg_bits.specs.Codes.{Table, next_16, code_from}
 use Rattle.jpeg_bits.specs.ShortCodes.{symbol_in, next_bits}
 use Rattle.jpeg_bits.specs.Readers.{Reads, read_on, gives, signed_from}
 use Rattle.jpeg_bits.specs.Written.{low_bits}
-use Rattle.jpeg_bits.specs.Bands.{Band, IsWithinRoom, before_more, wrapped, after_token, first_ac, token_at, token_from}
-use Rattle.jpeg_bits.specs.Skips.{run_after, run_within, run_of, no_skip, IsSkip}
-use Rattle.jpeg_bits.specs.Skips.{PassesOver}
+use Rattle.jpeg_bits.specs.Bands.{Band, IsWithinRoom, before_more, wrapped, after_token, first_ac, token_at}
+use Rattle.jpeg_bits.specs.Bands.{token_from}
+use Rattle.jpeg_bits.specs.Skips.{run_after, run_within, run_of, no_skip, IsSkip, PassesOver}
 use Rattle.jpeg_bits.specs.declared.tokens.Token.{Token}
 use Rattle.jpeg_bits.specs.declared.tokens.Token.TheVariants.{Value, Sixteen, Rest, Overlong}
 

@@ -1,13 +1,12 @@
 -- The next token: a value within the room that the next 11 bits begin with, or by its code.
 use Rattle.std.proofs.lemmas.Grind.{common_steps}
 use Rattle.std.proofs.lemmas.Bool.Decides.{nat_tests}
-use Rattle.std.proofs.Common.{◌≡◌, ℕ, ℤ, ◌+◌, ◌-◌, ◌/◌, ◌%◌, ◌^◌, ◌<◌, ◌≤◌, Bool, true, false, List, [], ◌++◌, length}
-use Rattle.std.proofs.Common.{take, drop, replicate, get_or, Option, Some, None, Result, Ok, Err, refl, sym, ap, ◌∙◌}
-use Rattle.std.proofs.Common.{arith, is_some, ltb, append_assoc, append-nil, length-drop}
+use Rattle.std.proofs.Common.{◌≡◌, ℕ, ℤ, ◌+◌, ◌-◌, ◌/◌, ◌%◌, ◌^◌, ◌<◌, ◌≤◌, Bool, true, false, List, [], ◌++◌}
+use Rattle.std.proofs.Common.{length, take, drop, replicate, get_or, Option, Some, None, Result, Ok, Err, refl}
+use Rattle.std.proofs.Common.{sym, ap, ◌∙◌, arith, is_some, ltb, append_assoc, append-nil, length-drop}
 use Rattle.std.proofs.lemmas.Bool.{lt-ltb, false≢true}
 use Rattle.std.proofs.lemmas.List.{take-take, take-append-le, drop-append-le, drop-drop}
-use Rattle.jpeg_bits.specs.Entropy.{Text, Ahead, upcoming_by, upcoming, IsFilled, has_buffered}
-use Rattle.jpeg_bits.specs.Entropy.{Takes, advance}
+use Rattle.jpeg_bits.specs.Entropy.{Text, Ahead, upcoming_by, upcoming, IsFilled, has_buffered, Takes, advance}
 use Rattle.jpeg_bits.specs.Entropy.{has_bits, bits_from, number_of, extended}
 use Rattle.jpeg_bits.specs.Stream.{Stream}
 use Rattle.jpeg_bits.specs.declared.codes.HuffmanTableClass.{HuffmanTableClass}
@@ -22,8 +21,8 @@ use Rattle.jpeg_bits.specs.declared.tokens.Token.TheVariants.{Value, Rest}
 use Rattle.jpeg_bits.proofs.BufferedBits.{has_bits-buffered, advance-buffered, filled-less}
 use Rattle.jpeg_bits.proofs.Fast.{no-bits, both-buffered}
 use Rattle.jpeg_bits.proofs.Reservoirs.{same_zeros}
-use Rattle.jpeg_bits.proofs.ShortLemmas.{IsShort, short_some, size_of, all_short, at_most, short_agree, value-bits}
-use Rattle.jpeg_bits.proofs.ShortLemmas.{length-next_bits, next-buffered}
+use Rattle.jpeg_bits.proofs.ShortLemmas.{IsShort, short_some, size_of, all_short, at_most, short_agree}
+use Rattle.jpeg_bits.proofs.ShortLemmas.{value-bits, length-next_bits, next-buffered}
 use Rattle.jpeg_bits.proofs.Tables.{all-rising}
 
 -- a value within the room

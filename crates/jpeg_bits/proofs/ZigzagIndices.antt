@@ -1,14 +1,13 @@
 -- The places of the zigzag order.
-use Rattle.std.proofs.Common.{◌≡◌, ℕ, ◌<◌, List, ◌∷◌, length, get_or, map, set, drop, ℤ, pos, refl, sym, ap, ◌∙◌, arith}
-use Rattle.std.proofs.Common.{true, length-set}
+use Rattle.std.proofs.Common.{◌≡◌, ℕ, ◌<◌, List, ◌∷◌, length, get_or, map, set, drop, ℤ, pos, refl, sym, ap}
+use Rattle.std.proofs.Common.{◌∙◌, arith, true, length-set}
 use Rattle.std.proofs.lemmas.List.{ext_get_or, get_or-map, length-map, get_or-set_same, get_or-set_other}
 use Rattle.std.proofs.lemmas.List.Folds.{list_all_at}
 use Rattle.std.proofs.lemmas.List.FromFn.{get_or-range_with_len}
 use Rattle.std.proofs.lemmas.Bool.{cases_eq, cases_lt, ltb-true, false_from_ne_true, false≢true}
 use Rattle.std.proofs.Math.Dec.{ltb}
 use Rattle.std.specs.List.{list_all, range_with_len}
-use Rattle.jpeg_bits.specs.Zigzag.{zigzag, zigzag_indices, coefficients_in_zigzag}
-use Rattle.jpeg_bits.specs.Zigzag.{coefficients_in_block_order}
+use Rattle.jpeg_bits.specs.Zigzag.{zigzag, zigzag_indices, coefficients_in_zigzag, coefficients_in_block_order}
 
 length_zigzag : length zigzag ≡ 64
 length_zigzag = refl

@@ -1,26 +1,18 @@
-use Rattle.std.proofs.Common.{◌≡◌, ◌<◌, List, ℤ, pos, length, get_or, set, slice_index_or, rules, refl, sym, subst, Err, Bool}
-use Rattle.std.proofs.Common.{false}
+use Rattle.std.proofs.Common.{◌≡◌, ◌<◌, List, ℤ, pos, length, get_or, set, slice_index_or, rules}
+use Rattle.std.proofs.Common.{refl, sym, subst, Bool, false}
 use Rattle.std.proofs.lemmas.List.{get_or-set_same, set-get_or}
 use Rattle.jpeg_bits.specs.Entropy.{Takes, upcoming}
 use Rattle.jpeg_bits.specs.Passes.{band_part, block_from}
 use Rattle.jpeg_bits.specs.BlockView.{to_block, dc_in, pass_in}
 use Rattle.jpeg_bits.specs.ZigzagParts.{band_in, KeepsOthers}
-use Rattle.jpeg_bits.specs.Refusals.{kept_refusal, outcome_of}
+use Rattle.jpeg_bits.specs.Refusals.{outcome_of}
 use Rattle.jpeg_bits.proofs.BlockParts.{dc_step, dc_refused, dc_kept, block_read}
 use Rattle.jpeg_bits.specs.Skips.{kept, kept_from}
 use Rattle.jpeg_bits.proofs.DcAlone.{Takes-map, dc-alone-read, dc-read, keep}
 use Rattle.jpeg_bits.proofs.blocks.take_block.Goals as goal
 
 pub returns-then-not-read_dc-clause-block : goal.returns-then-not-read_dc-clause-block
-returns-then-not-read_dc-clause-block g c =
-    let a = c.args in
-    let k = a.coding.now in
-    let predictor = get_or a.carried.now.predictors k.slot (pos 0) in
-    Takes-map (keep k.keeps_ac) (λ (u : Unit {0}). (to_block a.block.now, predictor, a.carried.now.run))
-    (block_from (pass_in k.pass) k.dc_table.now k.ac_table.now predictor a.carried.now.run (to_block a.block.now))
-    a.decoder.now c.read_dc.new.buffered a.source.now c.read_dc.new.source (Err (kept_refusal
-    c.read_dc.new.refusal))
-    (search (rules, dc_refused))
+returns-then-not-read_dc-clause-block g c = search (rules, Takes-map, keep, dc_refused)
 
 pub returns-clause-block : goal.returns-clause-block
 returns-clause-block g c =

@@ -1,11 +1,10 @@
-use Rattle.std.proofs.Common.{◌+◌, ◌-◌, ◌<◌, ◌∙◌, length, length-set, get_or, set, refl, FitsSigned, w16, rules, arith}
+use Rattle.std.proofs.Common.{◌+◌, ◌-◌, ◌<◌, ◌∙◌, length, length-set, get_or, set, refl, FitsSigned, w16, rules}
+use Rattle.std.proofs.Common.{arith}
 use Rattle.std.proofs.lemmas.Int.{to_z-of_z}
 use Rattle.jpeg_bits.specs.Bands.{first_ac}
 use Rattle.jpeg_bits.specs.BlockView.{pass_in}
 use Rattle.jpeg_bits.specs.ZigzagParts.{band_start, band_end, band_in}
-use Rattle.jpeg_bits.proofs.BlockLoop.{index-value, index-sixteen, index-all, index-last}
-use Rattle.jpeg_bits.proofs.BlockLoop.{index-refused}
-use Rattle.jpeg_bits.proofs.BlockLoop.{index-none}
+use Rattle.jpeg_bits.proofs.BlockLoop.{index-value, index-sixteen, index-all, index-last, index-refused, index-none}
 use Rattle.jpeg_bits.proofs.PairLemmas.{pair-seen, index-pair}
 use Rattle.jpeg_bits.specs.ShortCodes.{next_bits}
 use Rattle.jpeg_bits.specs.Zigzag.{zigzag}

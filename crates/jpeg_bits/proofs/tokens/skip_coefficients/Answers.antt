@@ -1,52 +1,19 @@
-use Rattle.std.proofs.Common.{◌+◌, ◌-◌, subst, sym, arith, ℕ, refl}
-use Rattle.jpeg_bits.specs.Refusals.{kept_refusal}
+use Rattle.std.proofs.Common.{rules, ◌+◌, ◌-◌, subst, sym, arith, ℕ}
 use Rattle.jpeg_bits.specs.Skips.{run_of}
 use Rattle.jpeg_bits.specs.declared.tokens.Token.TheVariants.{Value, Sixteen}
 use Rattle.jpeg_bits.proofs.BandLoop.{Leaves}
-use Rattle.jpeg_bits.proofs.SkipLoop.{skip-all, skip-over, skip-overlong, skip-refused, skip-rest, skip-to-end}
-use Rattle.jpeg_bits.proofs.SkipLoop.{skip-token}
+use Rattle.jpeg_bits.proofs.SkipLoop.{skip-all, skip-over, skip-overlong, skip-refused, skip-rest}
+use Rattle.jpeg_bits.proofs.SkipLoop.{skip-to-end, skip-token}
 use Rattle.jpeg_bits.proofs.tokens.skip_coefficients.Goals as goal
 
 pub returns-then-is_last-clause-run : goal.returns-then-is_last-clause-run
-returns-then-is_last-clause-run g c =
-    let a = c.args in
-    let l = c.loop-left in
-    let s = c.skip_ahead-bits.result in
-    skip-to-end a.table.now a.room l.left a.buffered.now l.buffered c.fill.new.self c.skip.new.self
-    a.source.now l.source
-    c.fill.new.source c.fill.new.source l.invariant.text c.if-not-fill.ensures.holds s.0 s.1
-    c.from-count.result
-    c.from-passed.result s.2 c.from-count.ensures c.from-passed.ensures (c.if-not-fill.ensures.full
-    refl)
-    c.skip_ahead-bits.ensures c.if-passed-left.true l.invariant.most c.if-has.ensures c.skip.ensures.bits
-    c.skip.ensures.met c.if-is_last.true
+returns-then-is_last-clause-run g c = search (rules, skip-to-end)
 
 pub loop-left-preserved-then-has : goal.loop-left-preserved-then-has
-loop-left-preserved-then-has g c =
-    let a = c.args in
-    let l = c.loop-left in
-    let s = c.skip_ahead-bits.result in
-    record {
-      most = omega (arith, l.invariant.most);
-      text = skip-over a.table.now a.room l.left a.buffered.now l.buffered c.fill.new.self
-          c.skip.new.self a.source.now l.source
-          c.fill.new.source c.fill.new.source l.invariant.text c.if-not-fill.ensures.holds s.0 s.1
-          c.from-count.result
-          c.from-passed.result s.2 c.from-count.ensures c.from-passed.ensures
-          (c.if-not-fill.ensures.full refl)
-          c.skip_ahead-bits.ensures c.if-passed-left.true l.invariant.most c.if-has.ensures c.skip.ensures.bits
-          c.skip.ensures.met c.if-is_last.false;
-    }
+loop-left-preserved-then-has g c = search (rules, skip-over)
 
 pub returns-in_default-clause-run : goal.returns-in_default-clause-run
-returns-in_default-clause-run g c =
-    let a = c.args in
-    let l = c.loop-left in
-    skip-refused a.table.now a.room l.left a.buffered.now l.buffered c.fill.new.self
-    c.read_token.new.buffered a.source.now l.source
-    c.fill.new.source c.read_token.new.source l.invariant.text c.if-not-fill.ensures.holds
-    c.loop-left-test.true
-    (kept_refusal c.read_token.new.refusal) c.in_default.ensures.token
+returns-in_default-clause-run g c = search (rules, skip-refused)
 
 pub loop-left-preserved-in-Value : goal.loop-left-preserved-in-Value
 loop-left-preserved-in-Value g c =
@@ -89,18 +56,7 @@ returns-in-Rest-clause-run g c =
     c.in-Rest.run' (rw c.in-Rest.is at c.in-Some.ensures.token)
 
 pub returns-in-Overlong-clause-run : goal.returns-in-Overlong-clause-run
-returns-in-Overlong-clause-run g c =
-    let a = c.args in
-    let l = c.loop-left in
-    skip-overlong a.table.now a.room l.left a.buffered.now l.buffered c.fill.new.self
-    c.read_token.new.buffered a.source.now
-    l.source c.fill.new.source c.read_token.new.source l.invariant.text c.if-not-fill.ensures.holds
-    c.loop-left-test.true (rw c.in-Overlong.is at c.in-Some.ensures.token)
+returns-in-Overlong-clause-run g c = search (rules, skip-overlong)
 
 pub returns-clause-run : goal.returns-clause-run
-returns-clause-run g c =
-    let a = c.args in
-    let l = c.loop-left in
-    skip-all a.table.now a.room l.left a.buffered.now l.buffered a.source.now l.source (omega
-    (arith, c.loop-left-test.false))
-    l.invariant.text
+returns-clause-run g c = search (rules, skip-all)

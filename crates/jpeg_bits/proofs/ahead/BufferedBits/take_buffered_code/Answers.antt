@@ -1,15 +1,11 @@
-use Rattle.std.proofs.Common.{arith}
-use Rattle.std.proofs.Common.{ap, ◌∙◌, sym}
+use Rattle.std.proofs.Common.{rules, arith, ap, ◌∙◌, sym}
 use Rattle.jpeg_bits.specs.Entropy.{Ahead}
 use Rattle.jpeg_bits.specs.Refusals.{kept_refusal}
 use Rattle.jpeg_bits.proofs.ShortSymbols.{Code-buffered, Code-none, Code-refused}
 use Rattle.jpeg_bits.proofs.ahead.BufferedBits.take_buffered_code.Goals as goal
 
 pub returns-in_default-clause-code : goal.returns-in_default-clause-code
-returns-in_default-clause-code c = λ source.
-    Code-none c.args.table.now c.args.self.now source (kept_refusal c.set_no_code.new.refusal)
-    c.requires
-    (sym c.in_default.ensures.symbol) c.set_no_code.ensures.names
+returns-in_default-clause-code c = search (rules, Code-none)
 
 pub returns-then-not-has-clause-code : goal.returns-then-not-has-clause-code
 returns-then-not-has-clause-code c =

@@ -1,5 +1,4 @@
-use Rattle.std.proofs.Common.{arith}
-use Rattle.std.proofs.Common.{refl, ap, ◌∙◌, sym}
+use Rattle.std.proofs.Common.{arith, refl, ap, ◌∙◌, sym}
 use Rattle.jpeg_bits.specs.Entropy.{Ahead}
 use Rattle.jpeg_bits.proofs.BufferedBits.{Takes-buffered, Takes-refused, MayFail-same}
 use Rattle.jpeg_bits.specs.Refusals.{kept_refusal}

@@ -1,5 +1,4 @@
-use Rattle.std.proofs.Common.{arith}
-use Rattle.std.proofs.Common.{Ok}
+use Rattle.std.proofs.Common.{arith, Ok}
 use Rattle.jpeg_bits.specs.Codes.{symbol_from}
 use Rattle.jpeg_bits.proofs.Calls.{Takes-ahead}
 use Rattle.jpeg_bits.proofs.ShortSymbols.{Symbol-of-code, Symbol-no-code}
