@@ -106,61 +106,65 @@ piece_at p block k zeros t = piece_from p.al zeros (rest_in p k block) t
 abbrev pub to_piece : Pass → ℕ → List ℤ → ℕ → ℕ × List ℤ
 to_piece p k new next = (next - k, rest_in p k new)
 
-module _ (table : Table) (p : Pass) (whole : Reads Band) (a b d : Ahead) (old cur mid : Stream) (block : List ℤ)
-    (k end : ℕ) (is : IsPass p) (e : end ≡ band_end p) (from : band_start p ≤ k) (lt : k < end) where
+-- the band of a block, as it is read
+abbrev pub refined_from : Table → Pass → List ℤ → Reads Band
+refined_from table p first = refined_band_from table p.al (band_in p first)
+
+module _ (table : Table) (p : Pass) (first : List ℤ) (a b d : Ahead) (old cur mid : Stream) (block : List ℤ)
+    (k end : ℕ) (is : IsPass p) (e : end ≡ band_end p) (from : band_start p ≤ k) (lt : k < end)
+    (h : Leaves (refined_from table p first) a old (refined_at table p block k) b cur) where
   before : k < band_end p
   before = omega arith
 
-  pub token-refused : {X : Type 0} (view : X → Band) (x : Error) → Leaves whole a old (refined_at table p block k) b cur
-      → Takes (λ (t : Refinement). t) (refinement_from table p.al) b cur (Err x) d mid
-      → Takes view whole a old (Err x) d mid
-  token-refused view x h q =
-      Leaves-err view (λ (t : Refinement). t) whole (refined_at table p block k) (refinement_from table p.al) a b d old
-      cur mid x (λ t f h. no-token-at table p block k t t is from before f h) h q
+  pub token-refused : (x : Error) → Takes (λ (t : Refinement). t) (refinement_from table p.al) b cur (Err x) d mid
+      → Takes (λ (run : ℕ). (band_in p block, run)) (refined_from table p first) a old (Err x) d mid
+  token-refused x q =
+      Leaves-err (λ (run : ℕ). (band_in p block, run)) (λ (t : Refinement). t) (refined_from table p first)
+      (refined_at table p block k) (refinement_from table p.al) a b d old cur mid x
+      (λ t f h. no-token-at table p block k t t is from before f h) h q
 
   -- a token is read, and then the piece that it asks for
-  module _ (f : Ahead) (new : Stream) (x : Refinement) (h : Leaves whole a old (refined_at table p block k) b cur)
-      (q : Takes (λ (t : Refinement). t) (refinement_from table p.al) b cur (Ok x) d mid) (next : ℕ) (blk : List ℤ)
-    where
-      after-token : Leaves whole a old (step_at table p block k x) d mid
-      after-token =
-          Leaves-ok (λ (t : Refinement). t) whole (refined_at table p block k) (step_at table p block k x)
-          (refinement_from table p.al) a b d old cur mid x (λ t u h. token-at table p block k t u is from
-          before x h) h q
+  module _ (f : Ahead) (new : Stream) (x : Refinement)
+      (q : Takes (λ (t : Refinement). t) (refinement_from table p.al) b cur (Ok x) d mid) where
+    after-token : Leaves (refined_from table p first) a old (step_at table p block k x) d mid
+    after-token =
+        Leaves-ok (λ (t : Refinement). t) (refined_from table p first) (refined_at table p block k)
+        (step_at table p block k x) (refinement_from table p.al) a b d old cur mid x
+        (λ t u h. token-at table p block k t u is from before x h) h q
 
-      pub piece-refused : {X : Type 0} (view : X → Band) (all : ℕ) (y : Error) → end - k ≤ all
-          → Takes (to_piece p k blk) (piece_at p block k (zeros_of all x)) d mid (Err y) f new
-          → Takes view whole a old (Err y) f new
-      piece-refused view all y few r =
-          Leaves-err view (to_piece p k blk) whole (step_at table p block k x) (piece_at p block k
-          (zeros_of all x)) a d f
-          old mid new y (λ t g h. refused-at table p block k t t is from before all x g (omega arith) h) after-token r
+    pub piece-refused : (zeros : ℕ) (y : Error) → zeros_of (end - k) x ≡ zeros
+        → Takes (to_piece p k block) (piece_at p block k zeros) d mid (Err y) f new
+        → Takes (λ (run : ℕ). (band_in p block, run)) (refined_from table p first) a old (Err y) f new
+    piece-refused zeros y same r =
+        Leaves-err (λ (run : ℕ). (band_in p block, run)) (to_piece p k block) (refined_from table p first)
+        (step_at table p block k x) (piece_at p block k zeros) a d f old mid new y
+        (λ t g h. refused-at table p block k t t is from before (end - k) x g (omega arith) (rw same h)) after-token r
 
-      pub zeros-read : IsKeptAround k (band_end p) block blk → k ≤ next → x ≡ Zeros
-          → Takes (to_piece p k blk) (piece_at p block k 15) d mid (Ok next) f new
-          → Leaves whole a old (refined_at table p blk next) f new
-      zeros-read others after z r =
-          Leaves-ok (to_piece p k blk) whole (step_at table p block k x) (refined_at table p blk next)
-          (piece_at p block k 15) a d f old mid new next (grind (arith, zeros-at, before)) after-token r
+    module _ (next : ℕ) (blk : List ℤ) (others : IsKeptAround k (band_end p) block blk) where
+      pub zeros-read : k ≤ next → x ≡ Zeros → Takes (to_piece p k blk) (piece_at p block k 15) d mid (Ok next) f new
+          → Leaves (refined_from table p first) a old (refined_at table p blk next) f new
+      zeros-read after z r =
+          Leaves-ok (to_piece p k blk) (refined_from table p first) (step_at table p block k x)
+          (refined_at table p blk next) (piece_at p block k 15) a d f old mid new next (grind (arith, zeros-at, before))
+          after-token r
 
-      pub new-read : (r : ℕ) (v : ℤ) → IsKeptAround k (band_end p) block blk → length blk ≡ 64 → k < next
-          → next ≤ band_end p → x ≡ New r v
-          → Takes (to_piece p k blk) (piece_at p block k r) d mid (Ok next) f new
-          → Leaves whole a old (refined_at table p (set blk (get_or zigzag (next - 1) 0) v) next) f new
-      new-read r v others n after within z m =
-          Leaves-ok (to_piece p k blk) whole (step_at table p block k x)
-          (refined_at table p (set blk (get_or zigzag (next - 1) 0) v) next)
-          (piece_at p block k r) a d f old mid new next
+      pub new-read : (zeros r : ℕ) (v : ℤ) → zeros ≡ r → length blk ≡ 64 → k < next → next ≤ band_end p → x ≡ New r v
+          → Takes (to_piece p k blk) (piece_at p block k zeros) d mid (Ok next) f new
+          → Leaves (refined_from table p first) a old (refined_at table p (set blk (get_or zigzag (next - 1) 0) v) next)
+          f new
+      new-read zeros r v same n after within z m =
+          Leaves-ok (to_piece p k blk) (refined_from table p first) (step_at table p block k x)
+          (refined_at table p (set blk (get_or zigzag (next - 1) 0) v) next) (piece_at p block k zeros) a d f old mid new next
           (λ t u h. ap (λ (x : Refinement). step_at table p block k x t) z
-          ∙ new-at table p block k t u is from before next blk r v others n after within h) after-token m
+          ∙ new-at table p block k t u is from before next blk r v others n after within (rw (← same) h)) after-token m
 
-      pub end-read : {X : Type 0} (view : X → Band) (y : X) (run all : ℕ) → view y ≡ (band_in p blk, run)
-          → IsKeptAround k (band_end p) block blk → end - k ≤ all → x ≡ End run
-          → Takes (to_piece p k blk) (piece_at p block k all) d mid (Ok next) f new → Takes view whole a old
-          (Ok y) f new
-      end-read view y run all w others few z m =
-          Leaves-ok (to_piece p k blk) whole (step_at table p block k x) (λ (t : Text). Ok (view y, t))
-          (piece_at p block k all) a d f old mid new next (grind (arith, end-at, before)) after-token m
+      pub end-read : (run : ℕ) → x ≡ End run
+          → Takes (to_piece p k blk) (piece_at p block k (end - k)) d mid (Ok next) f new
+          → Takes (λ (run : ℕ). (band_in p blk, run)) (refined_from table p first) a old (Ok run) f new
+      end-read run z m =
+          Leaves-ok (to_piece p k blk) (refined_from table p first) (step_at table p block k x)
+          (λ (t : Text). Ok ((band_in p blk, run), t)) (piece_at p block k (end - k)) a d f old mid new next
+          (grind (arith, end-at, before)) after-token m
 
 -- a piece that is the whole band
 whole-in : (p : Pass) (block : List ℤ) (start zeros : ℕ) (t : Text) → IsPass p → start ≡ band_start p

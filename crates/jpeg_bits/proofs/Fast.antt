@@ -3,7 +3,7 @@ use Rattle.std.proofs.Common.{◌≡◌, ◌⊎◌, inl, inr, ℕ, ◌+◌, ◌-
 use Rattle.std.proofs.Common.{◌++◌, take, drop, replicate, slice_index, ℤ, pos, Option, Some, None, Result, Ok, Err}
 use Rattle.std.proofs.Common.{refl, sym, ap, ◌∙◌, arith, length-drop}
 use Rattle.std.proofs.lemmas.Bool.{le-leb, lt-leb, lt-ltb, cases_lt, false≢true}
-use Rattle.jpeg_bits.specs.Reading.{Fault}
+use Rattle.jpeg_bits.specs.Reading.{Fault, ◌>>=◌ as ◌>>r=◌}
 use Rattle.jpeg_bits.specs.Entropy.{Text, Ending, has_bits, bits_from, advance, number_of, extended}
 use Rattle.jpeg_bits.specs.Codes.{Table, code_in, code_lengths, next_16, symbol_from, is_ac, short_token, after_code}
 use Rattle.jpeg_bits.specs.Codes.{short_code_by, short_code_from, short_value, fast_from, code_by, code_from}

@@ -154,15 +154,15 @@ module _ (table : Table) (counted : length table.counts ≡ 16) (d : Ahead) (fil
   )
 
   -- The values of a pair are written, and its bits are taken.
-  module _ (p : Pass) (whole : Reads Band) (a b : Ahead) (old cur : Stream) (block : List ℤ) (at end : ℕ)
+  module _ (p : Pass) (first : List ℤ) (a b : Ahead) (old cur : Stream) (block : List ℤ) (at end : ℕ)
       (pass : IsPass p) (last : end ≡ band_end p) (from : band_start p ≤ at) (long : length block ≡ 64)
-      (before : IsAtIndex table p whole a old block at b cur)
+      (before : IsAtIndex table p first a old block at b cur)
       (buffered : Takes (λ (u : Unit {0}). 0) same_text b cur (Ok tt) d mid) where
     pub index-pair : (pair : Pair) → Seen table (next_bits 11 d.bits) pair → at + pair.passed ≤ end
         → true ≡ is_ok (has_buffered pair.bits d.bits d.met) → (e : Ahead) → e.bits ≡ drop
         pair.bits d.bits → e.met ≡ d.met
         → (x y : ℤ) → x ≡ wrapped (pair.first *ℤ pos (2 ^ p.al)) → y ≡ wrapped (pair.second *ℤ pos (2 ^ p.al))
-        → IsAtIndex table p whole a old (set (set block (get_or zigzag (at + pair.run) 0) x)
+        → IsAtIndex table p first a old (set (set block (get_or zigzag (at + pair.run) 0) x)
         (get_or zigzag (at + pair.next) 0) y) (at + pair.passed) e mid
     index-pair _ (One v r n is) room ok e bits met x y value same =
         let again : y ≡ x = same ∙ sym value in
@@ -170,10 +170,10 @@ module _ (table : Table) (counted : length table.counts ≡ 16) (d : Ahead) (fil
         let i = get_or zigzag (at + r) 0 in
         let written : set (set block i x) i y ≡ set block i x
         = ap (set (set block i x) i) again ∙ set-twice block i x in
-        rw (written, next) (index-value table p whole a b d e old cur mid mid block at end pass
+        rw (written, next) (index-value table p first a b d e old cur mid mid block at end pass
         last from (omega arith)
-        before buffered r v x long (omega arith) value (Takes-first (end - at) v r n e is (ok_unit _ (sym ok))
-        (omega arith) bits met))
+        before buffered (Value r v) r v x long (omega arith) value (Takes-first (end - at) v r n e is (ok_unit _ (sym ok))
+        (omega arith) bits met) refl)
     index-pair _ (Two v r n w q m few is then-is) room ok e bits met x y value other =
         let enough = ok_unit _ (sym ok) in
         let c : Ahead = record { bits = drop n d.bits; met = d.met } in
@@ -181,11 +181,11 @@ module _ (table : Table) (counted : length table.counts ≡ 16) (d : Ahead) (fil
         let at' = at + r + 1 in
         let index : at + (r + 1 + q) ≡ at' + q = omega arith in
         let next : at + (r + q + 2) ≡ at' + q + 1 = omega arith in
-        let one = index-value table p whole a b d c old cur mid mid block at end pass last from
+        let one = index-value table p first a b d c old cur mid mid block at end pass last from
         (omega arith) before
-        buffered r v x long (omega arith) value (Takes-first (end - at) v r n c is
-        (fewer-buffered n (n + m) d.bits d.met (omega arith) enough) (omega arith) refl refl) in
-        rw (index, next) (index-value table p whole a c c e old mid mid mid (set block i x) at' end
+        buffered (Value r v) r v x long (omega arith) value (Takes-first (end - at) v r n c is
+        (fewer-buffered n (n + m) d.bits d.met (omega arith) enough) (omega arith) refl refl) refl in
+        rw (index, next) (index-value table p first a c c e old mid mid mid (set block i x) at' end
         pass last
-        (omega arith) (omega arith) one (refl, λ known. (known, refl)) q w y (length-set block i x ∙ long) (omega arith)
-        other (Takes-second (end - at') n w q m e few then-is enough (omega arith) bits met))
+        (omega arith) (omega arith) one (refl, λ known. (known, refl)) (Value q w) q w y (length-set block i x ∙ long)
+        (omega arith) other (Takes-second (end - at') n w q m e few then-is enough (omega arith) bits met) refl)

@@ -127,9 +127,6 @@ ok_of d (Err e) = d
 abbrev pieced : ℕ → List ℤ → List ℤ × Text → Walk
 pieced n rest front = Ok ((n, front.0 ++ drop n rest), front.1)
 
-abbrev ended : ℕ → List ℤ × Text → Result (Band × Text) Fault
-ended run all = Ok ((all.0, run), all.1)
-
 length_short : (n : ℕ) (xs : List ℤ) → n ≤ length xs → length (take n xs) ≡ n
 length_short n xs h = length-take-le n xs h
 

@@ -230,11 +230,6 @@ module _ (table : Table) (counted : length table.counts ≡ 16) (bits : List Boo
         ∙ none-left room' size r s v none end)
         ∙ ap (λ (w : Text). Ok (0, w)) (advanced used size t ∙ ap (λ (k : ℕ). advance k t) same)
 
--- no token yet
-pub skip-start : (table : Table) (bits : List Bool) → PassesOver table bits (0, 0, false)
-skip-start table bits room lt most t b =
-    let e : room ≡ room - 0 = omega arith in ap (λ (k : ℕ). run_of table k t) e
-
 -- none at all
 pub skip-none : (table : Table) (bits : List Bool) → IsSkip table bits no_skip
 skip-none table bits = record {

@@ -52,17 +52,10 @@ module _ (table : Table) (room left : ℕ) (a b d e : Ahead) (old cur mid new : 
       (token_from table left) a d e old mid new k
       (λ t u is. run-token table left t some ∙ ap (read_on (run_after (run_of table) left)) is) text-buffered h
 
-  pub skip-rest : 0 < left → (run : ℕ) → Takes (λ (k : Token). k) (token_from table left) d mid (Ok (Rest run)) e new
-      → Takes (λ (run : ℕ). run) (run_of table room) a old (Ok run) e new
-  skip-rest some run h =
-      Leaves-end (λ (run : ℕ). run) (run_of table room) (gives run) a e old new run (λ t. refl)
-      (skip-token some (Rest run) h)
-
   pub skip-overlong : 0 < left → Takes (λ (k : Token). k) (token_from table left) d mid (Ok Overlong) e new
       → Takes (λ (run : ℕ). run) (run_of table room) a old (Ok 0) e new
   skip-overlong some h =
-      Leaves-end (λ (run : ℕ). run) (run_of table room) (gives 0) a e old new 0 (λ t. refl)
-      (skip-token some Overlong h)
+      skip-token some Overlong h
 
   -- several tokens at once
   module _ (n passed count over : ℕ) (last : Bool) (counted : count ≡ n) (is : over ≡ passed)
@@ -120,5 +113,5 @@ pub skip-all : (table : Table) (room left : ℕ) (a b : Ahead) (old new : Stream
     → Leaves (run_of table room) a old (run_of table left) b new
     → Takes (λ (run : ℕ). run) (run_of table room) a old (Ok 0) b new
 skip-all table room left a b old new none p =
-    Leaves-end (λ (run : ℕ). run) (run_of table room) (run_of table left) a b old new 0
+    Leaves-end (run_of table room) (run_of table left) a b old new 0
     (λ t. ap (λ (k : ℕ). run_of table k t) none ∙ run-none table t) p

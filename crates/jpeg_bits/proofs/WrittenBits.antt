@@ -80,8 +80,3 @@ takes-map p f bits x h = record { read = λ rest following e. rw (h.read rest fo
 pub takes-as : {A : Type 0} (p : Reads A) (bits more : List Bool) (x y : A) → bits ≡ more → x ≡ y → ReadsJust p bits x
     → ReadsJust p more y
 takes-as {A} p bits more x y e f h = grind arith
-
--- no bits are read as 0
-pub signed_none : (t : Text) → signed_from 0 t ≡ Ok (pos 0, t)
-unfolding signed_from bits_from extended
-signed_none t = grind (arith, common_steps, nat_tests)

@@ -6,7 +6,7 @@ use Rattle.jpeg_bits.specs.Entropy.{Text, upcoming}
 use Rattle.jpeg_bits.specs.Pieces.{piece_from, corrected_from}
 use Rattle.jpeg_bits.specs.BlockView.{pass_in}
 use Rattle.jpeg_bits.specs.ZigzagParts.{band_end, rest_in}
-use Rattle.jpeg_bits.proofs.BandSteps.{Leaves-ok, Leaves-err}
+use Rattle.jpeg_bits.proofs.BandSteps.{Leaves-ok, Leaves-err, Leaves-end}
 use Rattle.jpeg_bits.proofs.BlockWalks.{walk_at, at-start, at-end, at-value, at-refused}
 use Rattle.jpeg_bits.proofs.Masks.{gap-zeros, at-skips, at-gap, at-last-gap, marks-set, marks-later}
 use Rattle.jpeg_bits.proofs.ZigzagParts.{kept-same, kept-set}
@@ -21,23 +21,18 @@ returns-then-left-gap-clause-within g c = grind (arith, common_steps)
 
 pub returns-then-left-gap-clause-piece : goal.returns-then-left-gap-clause-piece
 returns-then-left-gap-clause-piece g c =
-    let p = pass_in c.args.piece.pass in
+    let a = c.args.piece in
+    let end = band_end (pass_in a.pass) in
     let l = c.loop-index in
-    let end = c.band_end-end.ensures in
+    let is = c.band_end-end.ensures in
     let last = c.requires.pass.end in
     let gap = c.zeros_from-gap.result in
-    let inside = c.zeros_from-gap.ensures.within in (
-      l.invariant.walk.0,
-      λ k. let at = l.invariant.walk.1 k in (
-        at.0,
-        at.1
-            ∙ at-gap p.al c.args.piece.from (band_end p) l.block (omega (arith, last)) gap l.left l.index
-            (upcoming l.buffered l.source.bytes) l.invariant.after (omega (arith, end, inside))
-            c.if-left-gap.true
-            (gap-zeros c.args.mask l.index gap l.block (omega (arith, end, last, inside)) l.invariant.marks
-            c.zeros_from-gap.ensures.zeros),
-      ),
-    )
+    let inside = c.zeros_from-gap.ensures.within in
+    Leaves-end (piece_from a.pass.al a.zeros (rest_in (pass_in a.pass) a.from c.args.block.now)) _ c.args.buffered.now _
+    c.args.source.now l.source _
+    (λ t. at-gap a.pass.al a.from end l.block (omega arith) gap l.left l.index t l.invariant.after (omega arith)
+    c.if-left-gap.true (gap-zeros c.args.mask l.index gap l.block (omega arith) l.invariant.marks
+    c.zeros_from-gap.ensures.zeros)) l.invariant.walk
 
 pub returns-then-left-gap-clause-mask : goal.returns-then-left-gap-clause-mask
 returns-then-left-gap-clause-mask g c = grind (arith, common_steps, marks-later)
@@ -47,24 +42,20 @@ returns-then-index-end-clause-within g c = grind (arith, common_steps)
 
 pub returns-then-index-end-clause-piece : goal.returns-then-index-end-clause-piece
 returns-then-index-end-clause-piece g c =
-    let p = pass_in c.args.piece.pass in
+    let a = c.args.piece in
+    let end = band_end (pass_in a.pass) in
     let l = c.loop-index in
-    let end = c.band_end-end.ensures in
+    let is = c.band_end-end.ensures in
     let last = c.requires.pass.end in
     let gap = c.zeros_from-gap.result in
     let inside = c.zeros_from-gap.ensures.within in
-    rw end (
-      l.invariant.walk.0,
-      λ k. let at = l.invariant.walk.1 k in (
-        at.0,
-        at.1
-            ∙ at-last-gap p.al c.args.piece.from (band_end p) l.block (omega (arith, last)) gap l.left l.index
-            (upcoming l.buffered l.source.bytes) l.invariant.after (c.if-index-end.true ∙ end)
-            (omega (arith, c.if-left-gap.false))
-            (gap-zeros c.args.mask l.index gap l.block (omega (arith, end, last, inside)) l.invariant.marks
-            c.zeros_from-gap.ensures.zeros),
-      ),
-    )
+    let met = c.if-index-end.true in
+    let few = c.if-left-gap.false in
+    rw is (Leaves-end (piece_from a.pass.al a.zeros (rest_in (pass_in a.pass) a.from c.args.block.now)) _ c.args.buffered.now _
+    c.args.source.now l.source _
+    (λ t. at-last-gap a.pass.al a.from end l.block (omega arith) gap l.left l.index t l.invariant.after (omega arith)
+    (omega arith) (gap-zeros c.args.mask l.index gap l.block (omega arith) l.invariant.marks
+    c.zeros_from-gap.ensures.zeros)) l.invariant.walk)
 
 pub returns-then-index-end-clause-mask : goal.returns-then-index-end-clause-mask
 returns-then-index-end-clause-mask g c = grind (arith, common_steps, marks-later)
