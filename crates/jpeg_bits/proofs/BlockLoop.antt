@@ -38,7 +38,7 @@ module _ (table : Table) (p : Pass) (first : List ℤ) (a b m d : Ahead) (old cu
         before.0,
         before.1,
         Leaves-buffered (band_from table p first) (after_front (take n (band_in p block)) (first_ac table p.al before.0
-            (drop n (band_in p block)))) a b m old cur mid before.2 buffered,
+            (drop n (band_in p block)))) a b _ old cur _ before.2 buffered,
       )
 
   abbrev index : ℕ
@@ -65,15 +65,15 @@ module _ (table : Table) (p : Pass) (first : List ℤ) (a b m d : Ahead) (old cu
       let next : at + r + 1 - band_start p ≡ index + r + 1 = omega arith in
       let here' : at + r - band_start p ≡ index + r = omega arith in
       let put : band_in p (set block (get_or zigzag (at + r) 0) w) ≡ set (band_in p block) (index + r) w =
-      part-set (band_start p) (band_end p) (at + r) block w n (omega arith) (omega arith) (omega arith)
+      part-set _ _ _ _ _ n (omega arith) (omega arith) (omega arith)
       ∙ ap (λ (k : ℕ). set (band_in p block) k w) here' in
-      rw (next, put) (IsAt-value table p.al (band_from table p first) a m d old mid new (band_in p block) index within
-      here r v w (omega (arith, room)) same (token (Ok (Value r v)) (rw here-is at q)))
+      rw (next, put) (IsAt-value _ _ (band_from table p first) a _ _ old _ _ _ _ within
+      here _ _ _ (omega (arith, room)) same (token (Ok (Value r v)) (rw here-is at q)))
 
   pub index-sixteen : (k : Token) → Gives (Ok k) → k ≡ Sixteen → IsAtIndex table p first a old block (at + 16) d new
   index-sixteen k q here-is =
       let next : at + 16 - band_start p ≡ index + 16 = omega arith in
-      rw next (IsAt-sixteen table p.al (band_from table p first) a m d old mid new (band_in p block) index within here
+      rw next (IsAt-sixteen _ _ (band_from table p first) a _ _ old _ _ _ _ within here
       (token (Ok Sixteen) (rw here-is at q)))
 
   pub index-all : end - at ≤ 16 → (k : Token) → Gives (Ok k) → k ≡ Sixteen → IsAtIndex table p first a old block end d new
@@ -81,20 +81,20 @@ module _ (table : Table) (p : Pass) (first : List ℤ) (a b m d : Ahead) (old cu
       let all = band-length p block is in
       let order = is.order in
       let next : end - band_start p ≡ length (band_in p block) = omega arith in
-      rw next (IsAt-all table p.al (band_from table p first) a m d old mid new (band_in p block) index within here
+      rw next (IsAt-all _ _ (band_from table p first) a _ _ old _ _ _ _ within here
       (omega (arith, room)) (token (Ok Sixteen) (rw here-is at q)))
 
   pub index-last : (k : Token) (run : ℕ) → Gives (Ok k) → IsLast k run
       → Takes (λ (run : ℕ). (band_in p block, run)) (band_from table p first) a old (Ok run) d new
   index-last k run q last =
-      IsAt-last table p.al (band_from table p first) a m d old mid new (band_in p block) index within here k run last
+      IsAt-last _ p.al (band_from table p first) a _ _ old _ _ _ _ within here _ _ last
       (token (Ok k) q)
 
   pub index-refused : (x : Error) → Gives (Err x) → Takes (λ (run : ℕ). (band_in p block, run))
       (band_from table p first) a old (Err x) d new
   index-refused x q =
-      IsAt-refused table p.al (band_from table p first) a m d old mid new (band_in p block) index within here
-      (λ (run : ℕ). (band_in p block, run)) x (token (Err x) q)
+      IsAt-refused _ p.al (band_from table p first) a _ d old _ new _ _ within here
+      (λ (run : ℕ). (band_in p block, run)) _ (token (Err x) q)
 
 pub index-none : (table : Table) (p : Pass) (first : List ℤ) (a b : Ahead) (old new : Stream)
     (block : List ℤ)

@@ -72,8 +72,8 @@ module _ (table : Table) (p : Pass) (block : List ℤ) (k : ℕ) (t u : Text) (i
       → piece_from p.al 15 (rest_in p k block) t ≡ Ok ((next - k, rest_in p k new), u)
       → step_at table p block k Zeros t ≡ refined_at table p new next u
   zeros-at next new others after h =
-      zeros_step table p.al (k - band_start p) (next - k) (band_in p block) (band_in p new) (rest_in p k block)
-      (rest_in p k new) t u (omega (arith, inside)) rest (put new others) h
+      zeros_step _ _ _ (next - k) _ _ (rest_in p k block)
+      _ _ _ (omega (arith, inside)) rest (put new others) h
       ∙ ap (λ (i : ℕ). refined_left table p.al (band_in p new) i u) (omega arith)
 
   pub new-at : (next : ℕ) (new : List ℤ) (r : ℕ) (v : ℤ) → IsKeptAround k (band_end p) block new → length new ≡ 64
@@ -86,9 +86,9 @@ module _ (table : Table) (p : Pass) (block : List ℤ) (k : ℕ) (t u : Text) (i
       let written : set (band_in p new) (k - band_start p + (next - k) - 1) v
       ≡ band_in p (set new (get_or zigzag (next - 1) 0) v)
       = ap (λ (i : ℕ). set (band_in p new) i v) at
-      ∙ sym (part-set (band_start p) (band_end p) (next - 1) new v n (omega arith) (omega arith) (omega arith)) in
-      new_step table p.al (k - band_start p) (next - k) (band_in p block) (band_in p new) (rest_in p k block)
-      (rest_in p k new) t u (omega (arith, inside)) rest (put new others) r v (omega arith) h
+      ∙ sym (part-set _ _ (next - 1) _ _ n (omega arith) (omega arith) (omega arith)) in
+      new_step _ _ _ (next - k) _ _ (rest_in p k block)
+      _ _ _ (omega (arith, inside)) rest (put new others) _ _ (omega arith) h
       ∙ ap (λ (xs : List ℤ). refined_left table p.al xs (k - band_start p + (next - k)) u) written
       ∙ ap (λ (i : ℕ). refined_left table p.al (band_in p (set new (get_or zigzag (next - 1) 0) v)) i u) (omega arith)
 
@@ -120,8 +120,8 @@ module _ (table : Table) (p : Pass) (first : List ℤ) (a b d : Ahead) (old cur 
       → Takes (λ (run : ℕ). (band_in p block, run)) (refined_from table p first) a old (Err x) d mid
   token-refused x q =
       Leaves-err (λ (run : ℕ). (band_in p block, run)) (λ (t : Refinement). t) (refined_from table p first)
-      (refined_at table p block k) (refinement_from table p.al) a b d old cur mid x
-      (λ t f h. no-token-at table p block k t t is from before f h) h q
+      (refined_at table p block k) (refinement_from table p.al) a b d old cur mid _
+      (λ t f h. no-token-at table p block k t t is from before _ h) h q
 
   -- a token is read, and then the piece that it asks for
   module _ (f : Ahead) (new : Stream) (x : Refinement)
@@ -184,7 +184,7 @@ band-corrected p block new start zeros a b old cur (Some next) refusal done is s
       q.0,
       λ known. let at = q.1 known in (
         at.0,
-        whole-in p block start zeros (upcoming a old.bytes) is s z
+        whole-in p _ _ _ _ is s z
             ∙ ap (λ (o : Result ((ℕ × List ℤ) × Text) Fault). o >>= λ (w : (ℕ × List ℤ) × Text). Ok (w.0.1, w.1)) at.1
             ∙ ap (λ (k : ℕ). Ok (rest_in p k new, upcoming b cur.bytes)) s,
       ),
@@ -192,8 +192,8 @@ band-corrected p block new start zeros a b old cur (Some next) refusal done is s
 band-corrected p block new start zeros a b old cur None refusal done is s z e q =
     rw e (Leaves-err (λ (u : Unit {0}). band_in p new) (to_piece p start new) (corrected p.al
     (band_in p block))
-    (corrected p.al (band_in p block)) (piece_at p block start zeros) a a b old old cur
-    (kept_refusal refusal)
+    (corrected p.al (band_in p block)) (piece_at p block start zeros) _ a b _ old cur
+    _
     (λ t f h. whole-in p block start zeros t is s z
     ∙ ap (λ (o : Result ((ℕ × List ℤ) × Text) Fault). o >>= λ (w : (ℕ × List ℤ) × Text). Ok (w.0.1, w.1)) h)
     (Leaves-whole (corrected p.al (band_in p block)) a old) q)

@@ -126,7 +126,7 @@ module _ (table : Table) (room : ℕ) (ac : is_ac table.class ≡ true) (t : Tex
       → (a ≡ true → nat_le (c.1 + slice_index table.symbols c.0 % 16) 8 ≡ false)
       → by_code room (code_by table t (Some c)) ≡ by_look table room (short_code_by table t (Some c))
   at-slow c hs none a ha long =
-      at-long room c.1 (slice_index table.symbols c.0) (advance c.1 t) a ha long (has_bits c.1 t.bits t.ending)
+      at-long _ _ _ _ a ha long _
       ∙ sym (ap (read_on (λ (k : ℕ). slow_token room (k / 16) (k % 16))) hs)
       ∙ sym (ap (λ k. by_look table room (after_code c.1 t k)) none)
 
@@ -136,7 +136,7 @@ module _ (table : Table) (room : ℕ) (ac : is_ac table.class ≡ true) (t : Tex
   at-code c hs true true ha hb =
       let symbol = slice_index table.symbols c.0 in
       let short : short_token table c ≡ Some (symbol / 16, symbol % 16) = rw (ac, ha, hb) refl in
-      at-short table room c.1 symbol t ha hb (has_bits (c.1 + symbol % 16) t.bits t.ending) refl
+      at-short table room c.1 symbol t ha hb _ refl
       ∙ sym (ap (λ k. by_look table room (after_code c.1 t k)) short)
   at-code c hs true false ha hb = at-slow c hs (rw (ac, ha, hb) refl) true ha (λ e. hb)
   at-code c hs false b ha hb = at-slow c hs (rw (ac, ha) refl) false ha (λ e. absurd (false≢true e))

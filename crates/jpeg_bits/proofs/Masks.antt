@@ -175,7 +175,7 @@ pub gap-values : (mask index gap : ℕ) (block : List ℤ) → mask < 2 ^ 64 →
     → coefficient_at i block ≡ pos 0 → ⊥
 gap-values mask index gap block fits within m zeros i after before =
     let e : i ≡ index + (i - index) = omega arith in
-    m.values i after (omega arith) (set-in mask i fits (omega arith) (ap (bit_at (bit_not w64 mask)) e
+    m.values i after (omega arith) (set-in _ _ fits (omega arith) (ap (bit_at (bit_not w64 mask)) e
     ∙ zeros (i - index) (omega arith)))
 
 -- a bit that isn't set begins a gap
@@ -214,8 +214,8 @@ module _ (al from end : ℕ) (block : List ℤ) (within : end ≤ 64) where
       → ((i : ℕ) → k ≤ i → i < k + gap → coefficient_at i block ≡ pos 0)
       → walk_at al r from end block k t ≡ Ok ((k + r + 1 - from, zigzag_part from end block), t)
   at-gap gap r k t after inside few zeros =
-      at-skips r r k t after (omega arith) (omega arith) (λ i later before. zeros i later (omega arith))
-      ∙ at-stop al (r - r) from end (k + r) (get_or zigzag (k + r) 0) block within (omega arith) (omega arith) refl t
+      at-skips _ _ _ _ after (omega arith) (omega arith) (λ i later before. zeros i later (omega arith))
+      ∙ at-stop _ _ _ _ _ _ _ within (omega arith) (omega arith) refl _
       (zeros (k + r) (omega arith) (omega arith)) (omega arith)
 
   -- the band ends with the gap

@@ -11,8 +11,7 @@ use Rattle.jpeg_bits.specs.ShortCodes.{symbol_in, short_value_by, short_value_of
 use Rattle.jpeg_bits.specs.Pairs.{ShortValue, no_pair, one_value, two_values, pair_by, value_in, pair_of, IsPairOf}
 use Rattle.jpeg_bits.specs.Pairs.{IsWithinPassed}
 use Rattle.jpeg_bits.specs.Written.{low_bits}
-use Rattle.jpeg_bits.specs.Readers.{Reads}
-use Rattle.jpeg_bits.specs.Bands.{Band, wrapped, token_from}
+use Rattle.jpeg_bits.specs.Bands.{wrapped, token_from}
 use Rattle.jpeg_bits.specs.Passes.{Pass}
 use Rattle.jpeg_bits.specs.Zigzag.{zigzag}
 use Rattle.jpeg_bits.specs.BlockView.{IsPass}
@@ -38,7 +37,7 @@ unfolding pair_of
 pair-at table values b j holds size lt few is =
     let v = get_or values b (packed None) in
     let next = holds j (omega arith)
-    ∙ ap (value_in table) (bits-after 11 11 v.2 v.2 b j few refl is) in
+    ∙ ap (value_in table) (bits-after _ _ _ _ _ _ few refl is) in
     ap (pair_by v) next
     ∙ ap (λ (v : ShortValue). pair_by v (value_in table (drop v.2 (low_bits 11 b) ++ replicate v.2 false)))
     (holds b (omega arith))
@@ -72,7 +71,7 @@ unfolding pair_of pair_by
 pair-small table bits p is =
     let v = value_in table bits in
     let w = value_in table (drop v.2 bits ++ replicate v.2 false) in
-    subst IsWithinPassed (sym is) (small-by (v.2 == 0) ((w.2 == 0) || nat_lt 11 (v.2 + w.2)) v w
+    subst IsWithinPassed (sym is) (small-by _ ((w.2 == 0) || nat_lt 11 (v.2 + w.2)) _ _
     (few-in table.class bits (symbol_in table (bits ++ replicate 5 false))) (few-both v.2 w.2))
 
 -- what is found: one value, or two
@@ -109,7 +108,7 @@ module _ (table : Table) (bits : List Bool) where
           → Seen table bits (entry_by o)
       go None e some = absurd (omega (arith, some))
       go (Some (v, r, n)) e some =
-          seen-by v r n e (short_value_of 11 table (drop n bits ++ replicate n false)) refl (n == 0) _ refl some
+          seen-by _ _ _ e _ refl (n == 0) _ refl some
 
 -- ---- how they are read
 
@@ -131,7 +130,7 @@ module _ (table : Table) (counted : length table.counts ≡ 16) (d : Ahead) (fil
     refl,
     λ known. (
       known,
-      wide-taken table room d e mid.bytes v r n counted filled is within enough bits
+      wide-taken _ _ _ _ _ _ _ n counted filled is within enough bits
           met,
     ),
   )
@@ -148,7 +147,7 @@ module _ (table : Table) (counted : length table.counts ≡ 16) (d : Ahead) (fil
     refl,
     λ known. (
       known,
-      rw (bits, met) (value-buffered table room d.bits d.met mid.bytes n (replicate n false) w q m counted filled few
+      rw (bits, met) (value-buffered _ _ d.bits d.met mid.bytes n (replicate n false) _ _ m counted filled few
           enough within is),
     ),
   )

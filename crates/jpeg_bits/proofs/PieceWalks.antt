@@ -76,11 +76,11 @@ unfolding walk_from through_zero
 piece_walk al r [] t = piece_zero al [] t
 piece_walk al r (z ∷ numbers) t =
     by_bool (is_zero z) (λ e. by_bool (r == 0)
-    (λ n. rw (e, n, through_zero, walk_from) (walk_ends al z numbers t e))
-    (λ n. rw (e, n, through_zero, walk_from) (walk_over al (through_zero (r - 1) numbers) z numbers t
-    (walk_from al (r - 1) numbers t) e (piece_walk al (r - 1) numbers t))))
-    (λ e. rw (e, through_zero, walk_from) (walk_value_at al (through_zero r numbers) z numbers t
-    (walk_from al r numbers) (λ t. piece_walk al r numbers t)))
+    (λ n. rw (e, n, through_zero, walk_from) (walk_ends _ _ _ _ e))
+    (λ n. rw (e, n, through_zero, walk_from) (walk_over _ _ _ _ _
+    _ e (piece_walk al (r - 1) numbers t))))
+    (λ e. rw (e, through_zero, walk_from) (walk_value_at _ _ _ _ _
+    _ (λ t. piece_walk al r numbers t)))
 
 abbrev pub after : ℕ → List ℤ → (ℕ × List ℤ) × Text → Walk
 after i front w = Ok ((i + w.0.0, front ++ w.0.1), w.1)
@@ -151,8 +151,8 @@ pub walk_value : (al r : ℕ) (cur : List ℤ) (i : ℕ) (t : Text) → i < leng
 unfolding walk_left
 walk_value al r cur i t h e =
     let z = get_or cur i (pos 0) in
-    ap (λ (ys : List ℤ). walk_from al r ys t >>= λ w. after i (take i cur) w) (from_here cur i z h refl)
-    ∙ ap (λ o. o >>= λ w. after i (take i cur) w) (walk_nonzero al r z (drop (i + 1) cur) t (not_zero z e))
+    ap (λ (ys : List ℤ). walk_from al r ys t >>= λ w. after i (take i cur) w) (from_here cur i _ h refl)
+    ∙ ap (λ o. o >>= λ w. after i (take i cur) w) (walk_nonzero _ _ _ _ _ (not_zero z e))
     ∙ bind_bind (corrected_from al z t) (λ (f : ℤ × Text). one_more f.0 (walk_from al r (drop (i +
     1) cur) f.1)) i
     (take i cur)

@@ -66,7 +66,7 @@ pub front_bits : (word count n : ℕ) → count ≤ 64 → n ≤ 64 → HasZeros
 front_bits word count n h g z =
     let l = length-low_bits count (word / 2 ^ (64 - count)) in
     let e : 64 ≡ n + (64 - n) = omega arith in
-    same_zeros (buffered_bits word count) n n (64 - count) (omega (arith, l)) (omega (arith, l))
+    same_zeros _ _ _ _ (omega (arith, l)) (omega (arith, l))
     ∙ ap (take n) (sym (whole_word word count h z) ∙ ap (λ (k : ℕ). low_bits k word) e)
     ∙ low_bits-take n (64 - n) word
 

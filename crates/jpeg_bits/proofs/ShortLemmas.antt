@@ -88,7 +88,7 @@ value_seen n table x y bits counted same =
     let lens = code_lengths table.counts in
     sym (short_enough n table.class bits table.symbols (code_in lens x))
     ∙ ap (λ (o : Option (ℕ × ℕ)). short_value_by n table.class bits (named table.symbols o))
-    (short_agree n lens (all-rising table.counts counted) x y same)
+    (short_agree n _ (all-rising table.counts counted) x y same)
     ∙ short_enough n table.class bits table.symbols (code_in lens y)
 
 -- ---- tables
@@ -107,7 +107,7 @@ length_set xs i v n h = length-set xs i v ∙ h
 pub byte_padded : (b : ℕ) → low_bits 16 (b * 256) ≡ low_bits 8 b ++ replicate 8 false
 byte_padded b =
     let e : b * 256 ≡ b * 2 ^ 8 + 0 = omega arith in
-    ap (low_bits 16) e ∙ low_bits-append 8 8 b 0 (omega arith)
+    ap (low_bits 16) e ∙ low_bits-append _ _ _ _ (omega arith)
     ∙ ap (λ (l : List Bool). low_bits 8 b ++ l) (low_bits-zeros 8)
 
 front_of : (n k : ℕ) (bits : List Bool) → length bits ≡ n → take n (bits ++ replicate k false) ≡ bits
@@ -119,7 +119,7 @@ pub short_of_16 : (counts : List ℕ) (bits : ℕ) → length counts ≡ 16
     ≡ short_only (code_in (code_lengths counts) (low_bits 16 bits))
 short_of_16 counts bits h =
     let eight = low_bits 8 (bits / 256) in
-    short_agree 8 (code_lengths counts) (all-rising counts h) (eight ++ replicate 8 false) (low_bits 16 bits)
+    short_agree _ _ (all-rising counts h) _ _
     (front_of 8 8 eight (length-low_bits 8 (bits / 256)) ∙ sym (low_bits-take 8 8 bits))
 
 short_named : (symbols : List ℕ) (o : Option (ℕ × ℕ)) (p : ℕ × ℕ) → named symbols (short_only o) ≡ Some p
@@ -311,7 +311,7 @@ value_number n bits l s h =
 pub eleven_padded : (b : ℕ) → low_bits 16 (b * 32) ≡ low_bits 11 b ++ replicate 5 false
 eleven_padded b =
     let e : b * 32 ≡ b * 2 ^ 5 + 0 = omega arith in
-    ap (low_bits 16) e ∙ low_bits-append 11 5 b 0 (omega arith)
+    ap (low_bits 16) e ∙ low_bits-append _ _ _ _ (omega arith)
     ∙ ap (λ (l : List Bool). low_bits 11 b ++ l) (low_bits-zeros 5)
 
 -- the zeros and the bits of a packed value are few

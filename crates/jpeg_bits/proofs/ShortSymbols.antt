@@ -48,7 +48,7 @@ Code-buffered table b d source symbol size f le e ok eb em = (
   refl,
   λ known. (
     known,
-    code_from-named table b.bits b.met source.bytes symbol size f le e
+    code_from-named _ b.bits b.met source.bytes symbol size f le e
         ∙ ap (if_buffered (size, symbol) (upcoming_by (drop size b.bits) b.met source.bytes))
         (ok_unit _ ok)
         ∙ sym (ap (λ bs. Ok ((size, symbol), upcoming_by bs d.met source.bytes)) eb
@@ -63,7 +63,7 @@ pub Code-refused : (table : Table) (b : Ahead) (source : Stream) (symbol size : 
 unfolding upcoming
 Code-refused table b source symbol size e f le h want = (
   MayFail-same e (has_buffered size b.bits b.met) source.failed want,
-  λ known _. Names-through e _ _ (λ g x. code_from-named table b.bits b.met source.bytes symbol size f le h
+  λ known _. Names-through _ _ _ (λ g x. code_from-named _ b.bits b.met source.bytes symbol size f le h
       ∙ ap (if_buffered (size, symbol) (upcoming_by (drop size b.bits) b.met source.bytes)) x) want,
   λ known gone. still_known e _ known gone,
 )
@@ -90,7 +90,7 @@ pub fast-taken : (table : Table) (b d : Ahead) (bytes : List ℕ) (v : ℤ) (r n
     → fast_from table (upcoming b bytes) ≡ Ok (Some (v, r), upcoming d bytes)
 unfolding upcoming
 fast-taken table b d bytes v r n counted f e ok eb em =
-    fast-some table b.bits b.met bytes f counted v r n e
+    fast-some _ b.bits b.met bytes f counted v r n e
     ∙ ap (λ (o : Result (Unit {0}) Fault). o >>r= λ (u : Unit {0}). Ok (
       Some (v, r),
       upcoming_by (drop n b.bits) b.met bytes,

@@ -75,7 +75,7 @@ token-within table room t k u h = go (code_from table t) h
     go : (o : Result ((ℕ × ℕ) × Text) Fault)
         → read_on (λ (c : ℕ × ℕ). token_at room c.0 (c.1 / 16) (c.1 % 16)) o ≡ Ok (k, u) → IsWithinRoom room k
     go (Err e) h = absurd (false≢true (ap is_ok h))
-    go (Ok (c, v)) h = within-at room c.0 (c.1 / 16) (c.1 % 16) v (ltb (c.1 / 16) room) refl k u h
+    go (Ok (c, v)) h = within-at _ _ _ _ _ _ refl _ _ h
 
 abbrev pub measured : Band → Reads (ℕ × ℕ)
 measured b = gives (length b.0, b.1)
@@ -150,7 +150,7 @@ bits-after n w used k b rest h size e =
     = ap (low_bits m) (sym (div-add-mod' b (2 ^ m))) ∙ low_bits-high m (b / 2 ^ m) (b % 2 ^ m) in
     ap (low_bits w) e ∙ sym (ap (low_bits w) whole ∙ low_bits-high w (x / 2 ^ w) (x % 2 ^ w))
     ∙ ap (low_bits w) none ∙ ap (λ (j : ℕ). low_bits j (x + 0)) all
-    ∙ low_bits-append m k b 0 (pow_pos k)
+    ∙ low_bits-append _ _ _ _ (pow_pos k)
     ∙ ap (λ (l : List Bool). low_bits m b ++ l) (low_bits-zeros k)
     ∙ ap (λ (l : List Bool). l ++ replicate k false) (low ∙ sym (low_bits-drop used m b)
     ∙ ap (λ (j : ℕ). drop used (low_bits j b)) (sym split))
@@ -165,8 +165,8 @@ value-passed : (others : ℕ → Reads ℕ) (room size r s : ℕ) (t : Text) →
     → has_bits s t.bits t.ending ≡ Ok tt
     → read_on (run_after others room) (token_at room size r s t) ≡ others (room - (r + 1)) (advance s t)
 value-passed others room size r s t some within buffered =
-    ap (read_on (run_after others room)) (value-within room size r s t (lt-ltb 0 s some) (lt-ltb r room within))
-    ∙ signed-passed others room r s t buffered
+    ap (read_on (run_after others room)) (value-within _ _ _ _ _ (lt-ltb 0 s some) (lt-ltb r room within))
+    ∙ signed-passed others room _ _ _ buffered
 
 sixteen-passed : (others : ℕ → Reads ℕ) (room size r s : ℕ) (t : Text) → s ≡ 0 → r ≡ 15
     → read_on (run_after others room) (token_at room size r s t) ≡ others (room - (r + 1)) (advance s t)

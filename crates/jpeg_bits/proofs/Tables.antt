@@ -179,7 +179,7 @@ begins-own counts i rest h all within =
     let own = low_bits s v in
     let long = length-low_bits s v in
     let zeros = replicate 16 false in
-    let small : s ≤ 16 = (rising-at 1 16 lens i (all-rising counts h) within).1 in
+    let small : s ≤ 16 = (rising-at _ _ _ _ (all-rising counts h) within).1 in
     let first : take s (next_16 (own ++ rest)) ≡ own
     = take-take s 16 ((own ++ rest) ++ zeros) small
     ∙ take-append-le s (own ++ rest) zeros (omega (arith, length-append own rest))
@@ -197,8 +197,8 @@ code-read table i h all within = record {
       let own = code_bits table i in
       let long : length own ≡ s = length-low_bits s (code_value lens i) in
       let t = text (own ++ rest) indices e in
-      let found = finds 1 16 lens (all-rising table.counts h) (next_16 (own ++ rest)) (enough-bits (own ++ rest)) i
-      within (begins-own table.counts i rest h all within) in
+      let found = finds _ _ _ (all-rising table.counts h) _ (enough-bits (own ++ rest)) _
+      within (begins-own _ _ _ h all within) in
       ap (code_by table t) found ∙ rw (
         has_enough s (own ++ rest) e (omega (arith, length-append own rest)),
         drop_at own rest s long,

@@ -137,7 +137,7 @@ module _ (table : Table) (room : ℕ) (t : Text) (used : ℕ) (more : List Bool)
           → short_value_by 11 table.class (drop used (next_bits 11 t.bits) ++ more) (named table.symbols o)
           ≡ Some (v, r, n) → token_from table room (advance used t) ≡ Ok (Value r v, advance (used + n) t)
       go None e w = absurd (false≢true (ap is_some w))
-      go (Some c) e w = at-value c e (short_some 11 table c (drop used (next_bits 11 t.bits) ++ more) v r n w)
+      go (Some c) e w = at-value c e (short_some _ _ _ _ _ _ _ w)
 
 -- the next bits of a text are seen from those that are buffered
 pub front-text : (n : ℕ) (bits : List Bool) (met : Option DataEnd) (bytes : List ℕ) → n ≤ 16 → IsFilled n bits met

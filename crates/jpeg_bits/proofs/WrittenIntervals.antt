@@ -236,5 +236,5 @@ module _ {X A B C : Type 0} (read : List A → Reads (List C)) (writes : List B 
       ≡ Ok ((h (first_group n xs) ++ flat_map h (other_groups n xs), Some m), rest)
   reads-groups n xs bytes all w =
       rw (← first-map f n xs, ← others-map f n xs)
-      (reads-intervals 0 (first_group n xs) (other_groups n xs) bytes (first-all P n xs all) (others-all P n xs all)
+      (reads-intervals _ _ _ _ (first-all P n xs all) (others-all P n xs all)
       (rw (first-map g n xs, others-map g n xs) w))

@@ -1,10 +1,10 @@
-use Rattle.std.proofs.Common.{◌≡◌, ◌+ℤ◌, ◌*ℤ◌, ◌^◌, ◌<◌, pos, length, set, FitsSigned, sym, ap, ◌∙◌, w16, rules, arith}
+use Rattle.std.proofs.Common.{◌≡◌, ◌+ℤ◌, ◌*ℤ◌, ◌^◌, ◌<◌, pos, length, set, FitsSigned, sym, ap, ◌∙◌}
+use Rattle.std.proofs.Common.{w16, rules, arith}
 use Rattle.std.proofs.lemmas.Int.{to_z-of_z}
 use Rattle.std.proofs.lemmas.List.{get_or-set_same}
-use Rattle.jpeg_bits.specs.Entropy.{upcoming}
 use Rattle.jpeg_bits.specs.Bands.{wrapped}
 use Rattle.jpeg_bits.specs.Passes.{or_bit}
-use Rattle.jpeg_bits.specs.BlockView.{pass_in, dc_in}
+use Rattle.jpeg_bits.specs.BlockView.{dc_in}
 use Rattle.jpeg_bits.proofs.BlockParts.{dc_first, dc_refined}
 use Rattle.jpeg_bits.proofs.SetBits.{or_none}
 use Rattle.jpeg_bits.proofs.blocks.read_dc.Goals as goal
@@ -25,7 +25,7 @@ returns-then-pass-clause-part g c =
     rw (s, s) at c.shifted.ensures in
     let some : 0 < length block = rw c.told-block (omega arith) in
     let put : dc_in (set block 0 c.shifted.result) ≡ c.shifted.result =
-    get_or-set_same block 0 c.shifted.result (pos 0) some in
+    get_or-set_same block 0 _ (pos 0) some in
     let d = c.in-Some.ensures.difference in
     rw (s, v, put) (
       d.0,
@@ -45,7 +45,7 @@ returns-then-bit-gt0-clause-part g c =
     (rw q at c.with_bit.ensures) ∙ ap (or_bit k.pass.al (dc_in block)) one in
     let some : 0 < length block = rw c.told-block (omega arith) in
     let put : dc_in (set block 0 c.with_bit.result) ≡ c.with_bit.result =
-    get_or-set_same block 0 c.with_bit.result (pos 0) some in
+    get_or-set_same block 0 _ (pos 0) some in
     let b = c.in-Some-take_number.ensures.bits in
     rw (v, put)
     (b.0, λ known. ((b.1 known).0, dc_refined _ _ _ _ _ _ _ _ (omega arith) c.if-pass.false is (b.1 known).1))

@@ -1,13 +1,11 @@
-use Rattle.std.proofs.Common.{◌≡◌, ◌<◌, List, ℤ, pos, length, get_or, set, slice_index_or, rules}
-use Rattle.std.proofs.Common.{refl, sym, subst, Bool, false}
+use Rattle.std.proofs.Common.{◌≡◌, List, ℤ, pos, length, get_or, set, rules, refl, sym, subst, false}
 use Rattle.std.proofs.lemmas.List.{get_or-set_same, set-get_or}
-use Rattle.jpeg_bits.specs.Entropy.{Takes, upcoming}
+use Rattle.jpeg_bits.specs.Entropy.{Takes}
 use Rattle.jpeg_bits.specs.Passes.{band_part, block_from}
 use Rattle.jpeg_bits.specs.BlockView.{to_block, dc_in, pass_in}
 use Rattle.jpeg_bits.specs.ZigzagParts.{band_in, KeepsOthers}
 use Rattle.jpeg_bits.specs.Refusals.{outcome_of}
 use Rattle.jpeg_bits.proofs.BlockParts.{dc_step, dc_refused, dc_kept, block_read}
-use Rattle.jpeg_bits.specs.Skips.{kept, kept_from}
 use Rattle.jpeg_bits.proofs.DcAlone.{Takes-map, dc-alone-read, dc-read, keep}
 use Rattle.jpeg_bits.proofs.blocks.take_block.Goals as goal
 

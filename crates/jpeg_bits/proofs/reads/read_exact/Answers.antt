@@ -16,7 +16,7 @@ returns-then-count-eq0-clause-answers g c =
     let inv = c.loop-filled.invariant in
     let some : 0 < length c.read.new.buffer = search rules in
     let less : c.loop-filled.filled < length c.args.buffer.now = search rules in
-    filled-short c.args.source.now c.loop-filled.source c.read.new.self _ _ _ c.loop-filled.buffer c.read.new.buffer _
+    filled-short _ c.loop-filled.source c.read.new.self _ _ _ c.loop-filled.buffer c.read.new.buffer _
     inv.long less c.if-count-eq0.true some inv.read
     c.in_ok-count.ensures.some c.end_of_bytes.ensures
 
@@ -26,7 +26,7 @@ loop-filled-preserved g c =
     record {
       long = search rules;
       within = search rules;
-      read = filled-more c.args.source.now c.loop-filled.source c.read.new.self _ _ _ c.loop-filled.buffer c.read.new.buffer inv.within inv.read
+      read = filled-more _ c.loop-filled.source c.read.new.self _ _ _ c.loop-filled.buffer c.read.new.buffer inv.within inv.read
           c.in_ok-count.ensures.some;
     }
 

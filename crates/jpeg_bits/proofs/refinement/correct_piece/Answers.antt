@@ -1,8 +1,8 @@
-use Rattle.std.proofs.Common.{◌≡◌, ◌-◌, ◌+◌, ◌<◌, ◌≤◌, ℤ, ℕ, pos, get_or, length-set, ◌∙◌, ap, sym, w16, SFits, arith}
-use Rattle.std.proofs.Common.{rules}
+use Rattle.std.proofs.Common.{◌≡◌, ◌-◌, ◌+◌, ◌<◌, ◌≤◌, ℤ, ℕ, pos, get_or, length-set, ◌∙◌, ap, sym}
+use Rattle.std.proofs.Common.{w16, SFits, arith, rules}
 use Rattle.std.proofs.lemmas.Int.{to_z-of_z}
 use Rattle.std.specs.Int.{cast_signed, cast_unsigned}
-use Rattle.jpeg_bits.specs.Entropy.{Text, upcoming}
+use Rattle.jpeg_bits.specs.Entropy.{Text}
 use Rattle.jpeg_bits.specs.Pieces.{piece_from, corrected_from}
 use Rattle.jpeg_bits.specs.BlockView.{pass_in}
 use Rattle.jpeg_bits.specs.ZigzagParts.{band_end, rest_in}
@@ -10,8 +10,8 @@ use Rattle.jpeg_bits.proofs.BandSteps.{Leaves-ok, Leaves-err, Leaves-end}
 use Rattle.jpeg_bits.proofs.BlockWalks.{walk_at, at-start, at-end, at-value, at-refused}
 use Rattle.jpeg_bits.proofs.Masks.{gap-zeros, at-skips, at-gap, at-last-gap, marks-set, marks-later}
 use Rattle.jpeg_bits.proofs.ZigzagParts.{kept-same, kept-set}
-use Rattle.jpeg_bits.proofs.refinement.correct_piece.Goals as goal
 use Rattle.std.proofs.lemmas.Grind.{common_steps}
+use Rattle.jpeg_bits.proofs.refinement.correct_piece.Goals as goal
 
 pub loop-index-init : goal.loop-index-init
 loop-index-init g c = grind (arith, common_steps, at-start, kept-same)

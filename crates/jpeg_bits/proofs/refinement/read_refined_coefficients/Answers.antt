@@ -1,13 +1,10 @@
-use Rattle.std.proofs.Common.{◌≡◌, ◌-◌, ◌<◌, ◌≤◌, ℕ, length, length-set, ◌∙◌, refl, sym, w16, arith, rules}
+use Rattle.std.proofs.Common.{◌≡◌, ◌-◌, ◌<◌, ◌≤◌, length, length-set, ◌∙◌, refl, sym, w16, arith, rules}
 use Rattle.std.proofs.lemmas.Int.{to_z-of_z}
 use Rattle.std.specs.Int.{cast_signed, cast_unsigned}
-use Rattle.jpeg_bits.specs.Entropy.{upcoming}
-use Rattle.jpeg_bits.specs.declared.refinement.Refinement.TheVariants.{Zeros, New, End}
-use Rattle.jpeg_bits.specs.Pieces.{refined_band_from}
 use Rattle.jpeg_bits.specs.BlockView.{pass_in}
-use Rattle.jpeg_bits.specs.ZigzagParts.{band_start, band_end, band_in, KeepsOthers}
-use Rattle.jpeg_bits.proofs.BlockRefinement.{from-start, at-last, token-refused, piece-refused, zeros-read, new-read}
-use Rattle.jpeg_bits.proofs.BlockRefinement.{end-read, refined_from}
+use Rattle.jpeg_bits.specs.ZigzagParts.{band_end, KeepsOthers}
+use Rattle.jpeg_bits.proofs.BlockRefinement.{from-start, at-last, token-refused, piece-refused}
+use Rattle.jpeg_bits.proofs.BlockRefinement.{zeros-read, new-read, end-read, refined_from}
 use Rattle.jpeg_bits.proofs.RefinedBands.{zeros_of}
 use Rattle.jpeg_bits.proofs.BandSteps.{Leaves-end}
 use Rattle.jpeg_bits.proofs.Masks.{marks-later, marks-set}
@@ -109,4 +106,4 @@ returns-clause-reads g c =
     let stop = c.loop-index-test.false in
     let last : band_end (pass_in c.args.pass) ≤ c.loop-index.index = omega arith in
     Leaves-end (refined_from c.args.table.now (pass_in c.args.pass) c.args.block.now) _ c.args.buffered.now _
-    c.args.source.now c.loop-index.source _ (λ t. at-last c.args.table.now (pass_in c.args.pass) c.loop-index.block _ t c.requires last) c.loop-index.invariant.rest
+    c.args.source.now _ _ (λ t. at-last c.args.table.now (pass_in c.args.pass) _ _ _ c.requires last) c.loop-index.invariant.rest

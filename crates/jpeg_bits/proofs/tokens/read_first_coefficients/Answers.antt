@@ -1,19 +1,15 @@
-use Rattle.std.proofs.Common.{◌+◌, ◌-◌, ◌<◌, ◌≤◌, ◌∙◌, length, length-set, get_or, set, refl, FitsSigned, w16, rules}
-use Rattle.std.proofs.Common.{arith}
+use Rattle.std.proofs.Common.{◌+◌, ◌-◌, ◌<◌, ◌≤◌, ◌∙◌, length-set, refl, FitsSigned, w16, rules, arith}
 use Rattle.std.proofs.lemmas.Int.{to_z-of_z}
-use Rattle.jpeg_bits.specs.BlockView.{pass_in}
-use Rattle.jpeg_bits.specs.ZigzagParts.{band_start, band_end, band_in}
 use Rattle.jpeg_bits.proofs.BlockLoop.{index-value, index-sixteen, index-all, index-last, index-refused, index-none}
 use Rattle.jpeg_bits.proofs.PairLemmas.{pair-seen, index-pair}
 use Rattle.jpeg_bits.specs.ShortCodes.{next_bits}
-use Rattle.jpeg_bits.specs.Zigzag.{zigzag}
 use Rattle.jpeg_bits.proofs.ZigzagParts.{kept-set}
 use Rattle.jpeg_bits.proofs.tokens.read_first_coefficients.Goals as goal
 
 pub returns-in_default-clause-band : goal.returns-in_default-clause-band
 returns-in_default-clause-band g c =
     let l = c.loop-at in
-    index-refused _ _ _ _ _ _ c.read_token.new.buffered c.args.source.now l.source c.fill.new.source c.read_token.new.source _ _ _
+    index-refused _ _ _ _ _ _ c.read_token.new.buffered _ l.source c.fill.new.source c.read_token.new.source _ _ _
     c.requires.pass c.band_end-end.ensures l.invariant.from c.loop-at-test.true l.invariant.text
     c.if-not-fill.ensures.holds _ c.in_default.ensures.token
 
@@ -47,7 +43,7 @@ loop-at-preserved-then-end-at-gt16 g c =
       len = c.loop-at.invariant.len;
       from = omega arith;
       within = omega arith;
-      text = index-sixteen _ _ _ _ _ _ _ c.args.source.now c.loop-at.source c.fill.new.source c.read_token.new.source _ _ _
+      text = index-sixteen _ _ _ _ _ _ _ _ c.loop-at.source c.fill.new.source _ _ _ _
           c.requires.pass c.band_end-end.ensures c.loop-at.invariant.from c.loop-at-test.true c.loop-at.invariant.text
           c.if-not-fill.ensures.holds _ c.in-Some.ensures.token c.in-Sixteen.is;
       others = c.loop-at.invariant.others;

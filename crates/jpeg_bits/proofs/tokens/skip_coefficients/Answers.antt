@@ -1,9 +1,5 @@
-use Rattle.std.proofs.Common.{rules, ◌+◌, ◌-◌, subst, sym, arith, ℕ}
-use Rattle.jpeg_bits.specs.Skips.{run_of}
-use Rattle.jpeg_bits.specs.declared.tokens.Token.TheVariants.{Value, Sixteen}
-use Rattle.jpeg_bits.proofs.BandLoop.{Leaves}
-use Rattle.jpeg_bits.proofs.SkipLoop.{skip-all, skip-over, skip-overlong, skip-refused}
-use Rattle.jpeg_bits.proofs.SkipLoop.{skip-to-end, skip-token}
+use Rattle.std.proofs.Common.{rules}
+use Rattle.jpeg_bits.proofs.SkipLoop.{skip-all, skip-over, skip-overlong, skip-refused, skip-to-end, skip-token}
 use Rattle.jpeg_bits.proofs.tokens.skip_coefficients.Goals as goal
 
 pub returns-then-is_last-clause-run : goal.returns-then-is_last-clause-run

@@ -18,7 +18,7 @@ pub returns-in-None-clause-fills : goal.returns-in-None-clause-fills
 returns-in-None-clause-fills g c =
     let s = c.loop-buffered.buffered in
     let b : Ahead = record { bits = s.bits; met = s.met } in
-    Holds-refused (Unit {0}) c.args.self.now b c.args.source.now c.loop-buffered.source
+    Holds-refused (Unit {0}) _ b _ c.loop-buffered.source
     c.next_piece.new.source s.bits s.met
-    (kept_refusal c.next_piece.new.refusal)
+    _
     c.loop-buffered.invariant.text c.in-None.ensures.answers

@@ -28,7 +28,7 @@ invariant_of-self c =
     let small : b < 256 = omega (arith, c.from.ensures, c.ranges.byte.fits) in
     let few = few (goal.at.invariant_of-self c).After-self in
     subst (λ (k : ℕ). IsReservoir (s.word + k) (s.count + 8)) (sym (byte_shifted s.count b few small))
-    (omega arith, byte_fits s.word s.count b few i.2 i.1 small, byte_zeros s.word s.count b few i.2)
+    (omega arith, byte_fits _ _ _ few i.2 i.1 small, byte_zeros _ _ _ few i.2)
 
 pub returns : goal.returns
 returns c =
