@@ -87,8 +87,7 @@ module _ (table : Table) (p : Pass) (first : List ℤ) (a b m d : Ahead) (old cu
   pub index-last : (k : Token) (run : ℕ) → Gives (Ok k) → IsLast k run
       → Takes (λ (run : ℕ). (band_in p block, run)) (band_from table p first) a old (Ok run) d new
   index-last k run q last =
-      IsAt-last _ p.al (band_from table p first) a _ _ old _ _ _ _ within here _ _ last
-      (token (Ok k) q)
+      IsAt-last _ p.al (band_from table p first) a _ _ old _ _ _ _ within here _ _ last (token (Ok k) q)
 
   pub index-refused : (x : Error) → Gives (Err x) → Takes (λ (run : ℕ). (band_in p block, run))
       (band_from table p first) a old (Err x) d new

@@ -69,8 +69,7 @@ pub no_indices : (ss se : ℕ) (block : List ℤ) → ss ≤ se → se ≤ 63 �
     → length (zigzag_part (ss - 1 + 1) (se + 1) block) ≡ 0
 no_indices ss se block order end none = omega (
   arith,
-  part-length (ss - 1 + 1) (se + 1) block
-      (omega arith),
+  part-length (ss - 1 + 1) (se + 1) block (omega arith),
 )
 
 pub some_indices : (ss se : ℕ) (block : List ℤ) → ss ≤ se → se ≤ 63 → (se ≡ 0 → ⊥)

@@ -191,9 +191,7 @@ band-corrected p block new start zeros a b old cur (Some next) refusal done is s
     )
 band-corrected p block new start zeros a b old cur None refusal done is s z e q =
     rw e (Leaves-err (λ (u : Unit {0}). band_in p new) (to_piece p start new) (corrected p.al
-    (band_in p block))
-    (corrected p.al (band_in p block)) (piece_at p block start zeros) _ a b _ old cur
-    _
+    (band_in p block)) (corrected p.al (band_in p block)) (piece_at p block start zeros) _ a b _ old cur _
     (λ t f h. whole-in p block start zeros t is s z
     ∙ ap (λ (o : Result ((ℕ × List ℤ) × Text) Fault). o >>= λ (w : (ℕ × List ℤ) × Text). Ok (w.0.1, w.1)) h)
     (Leaves-whole (corrected p.al (band_in p block)) a old) q)

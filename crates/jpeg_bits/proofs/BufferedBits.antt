@@ -130,11 +130,9 @@ pub Takes-end : (u : Unit {0}) (a b : Ahead) (old new : Stream) (met : Option Da
     (marker_at_end met) r
     → Takes (λ (x : Unit {0}). 0) same_text a old (Ok u) b new
     → Answers (λ (m : Option Marker). m) (λ bytes. marker_from (upcoming a bytes)) old r new
-Takes-end u a b old new met (Ok m) h e g p = Takes-marker u a b old new m h (ap marker_at_end e ∙
-    g) p
+Takes-end u a b old new met (Ok m) h e g p = Takes-marker u a b old new m h (ap marker_at_end e ∙ g) p
 Takes-end u a b old new met (Err e) h is g p =
-    Takes-no_marker u a b old new e h (rw is g) (MayFail-same e (marker_at_end b.met) new.failed
-    (rw is g)) p
+    Takes-no_marker u a b old new e h (rw is g) (MayFail-same e (marker_at_end b.met) new.failed (rw is g)) p
 
 -- after a marker zeros come without end
 pub none_buffered : (bits : List Bool) (m : Marker) (bytes : List ℕ) → length bits ≡ 0

@@ -47,8 +47,7 @@ Takes-given {X} {Y} whole read a d old new x outcome (Some y) refusal step p g =
 Takes-given {X} {Y} whole read a d old new x outcome None refusal step p g = (
   fails _ outcome _ _ p.0 g,
   λ k known. let at = p.1 k in
-      Names-through _ _ _ (λ f h. step _ _ at.1 ∙ ap (given (upcoming d
-      new.bytes)) h) g,
+      Names-through _ _ _ (λ f h. step _ _ at.1 ∙ ap (given (upcoming d new.bytes)) h) g,
   λ k known. absurd (false≢true (sym known ∙ (p.1 k).0)),
 )
 

@@ -88,8 +88,7 @@ turn-alone : (p : Pass) (ac : Table) (run : ℕ) (acs : List ℤ) (d : ℤ × �
     gives (record { dc = d.0; acs = with_band p acs b.0 }, d.1, b.1)) (band_part p ac (band_of p acs) run t))
     ≡ dc_turn p ac run acs d t
 turn-alone p ac run acs d t f =
-    turn-measured p _ _ _ _
-    _ refl (band-measured _ _ _ _ _ f)
+    turn-measured p _ _ _ _ _ refl (band-measured _ _ _ _ _ f)
 
 -- of a block in a first pass DC alone is read by DC alone, and by how many the others are
 pub block-alone : (p : Pass) (dc ac : Table) (predictor : ℤ) (run : ℕ) (b : Block) (t : Text) → p.is_first ≡ true

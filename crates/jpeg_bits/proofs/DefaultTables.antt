@@ -88,5 +88,4 @@ all-done whole ts same = absurd (omega arith)
 
 pub done : (l r : Table) (destinations : List ℕ) (ts : List (Option Table))
     → AreBetween ts (with_defaults l r destinations ts) (with_defaults l r destinations ts)
-done l r destinations ts = all-done (with_defaults l r destinations ts) ts (same-length l r
-    destinations ts)
+done l r destinations ts = all-done (with_defaults l r destinations ts) ts (same-length l r destinations ts)

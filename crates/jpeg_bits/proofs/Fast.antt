@@ -115,8 +115,7 @@ symbol_in_code o = read_on (λ (c : ℕ × ℕ). gives c.1) o
 -- a code of another symbol
 at-long : (room n symbol : ℕ) (t : Text) (a : Bool) → nat_lt 0 (symbol % 16) ≡ a
     → (a ≡ true → nat_le (n + symbol % 16) 8 ≡ false) → (o : Result (Unit {0}) Fault)
-    → by_code room (if_buffered (n, symbol) t o) ≡ read_on (λ (c : ℕ). slow_token room (c / 16) (c
-    % 16))
+    → by_code room (if_buffered (n, symbol) t o) ≡ read_on (λ (c : ℕ). slow_token room (c / 16) (c % 16))
     (symbol_in_code (if_buffered (n, symbol) t o))
 at-long room n symbol t a e long o = grind (arith, slow-same)
 

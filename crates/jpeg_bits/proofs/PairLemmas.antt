@@ -130,8 +130,7 @@ module _ (table : Table) (counted : length table.counts ≡ 16) (d : Ahead) (fil
     refl,
     λ known. (
       known,
-      wide-taken _ _ _ _ _ _ _ n counted filled is within enough bits
-          met,
+      wide-taken _ _ _ _ _ _ _ n counted filled is within enough bits met,
     ),
   )
 
@@ -184,7 +183,6 @@ module _ (table : Table) (counted : length table.counts ≡ 16) (d : Ahead) (fil
         (omega arith) before
         buffered (Value r v) r v x long (omega arith) value (Takes-first (end - at) v r n c is
         (fewer-buffered n (n + m) d.bits d.met (omega arith) enough) (omega arith) refl refl) refl in
-        rw (index, next) (index-value table p first a c c e old mid mid mid (set block i x) at' end
-        pass last
+        rw (index, next) (index-value table p first a c c e old mid mid mid (set block i x) at' end pass last
         (omega arith) (omega arith) one (refl, λ known. (known, refl)) (Value q w) q w y (length-set block i x ∙ long)
         (omega arith) other (Takes-second (end - at') n w q m e few then-is enough (omega arith) bits met) refl)

@@ -65,8 +65,7 @@ refined-fuel table al (suc n) (suc m) (x ∷ rest) t h k =
 -- a band is its first piece and then a band
 band-step : (table : Table) (al : ℕ) (rest : List ℤ) (t : Text) → 0 < length rest
     → refined_band_from table al rest t ≡ (refinement_from table al t >>= λ (k : Refinement ×
-    Text). refined_piece_at al
-    (refined_band_from table al) rest k.0 k.1)
+    Text). refined_piece_at al (refined_band_from table al) rest k.0 k.1)
 unfolding refined_band_from refined_ac_at
 band-step table al rest t h = grind (arith, bind_same, piece-same, length-drop, refined-fuel, le_refl)
 
@@ -77,8 +76,7 @@ refined_left table al band i t = before (take i band) (refined_band_from table a
 -- what a token at place i makes of the band
 unfoldable pub refined_step : Table → ℕ → List ℤ → ℕ → Refinement → Text → Result (Band × Text) Fault
 refined_step table al band i k t = before (take i band) (refined_piece_at al (refined_band_from
-    table al) (drop i band) k
-    t)
+    table al) (drop i band) k t)
 
 bind_before : (a : List ℤ) (r : Result (Refinement × Text) Fault) (f : Refinement × Text → Result (Band × Text) Fault)
     → before a (r >>= f) ≡ (r >>= λ (k : Refinement × Text). before a (f k))

@@ -45,5 +45,4 @@ unfolding refined_ac_at defined.refined_ac refinement_from
 refined-same table al n [] t = refl
 refined-same table al zero (x ∷ rest) t = refl
 refined-same table al (suc n) (x ∷ rest) t =
-    token-on _ _ _ (x ∷ rest) _
-    (refined-same table al n)
+    token-on _ _ _ (x ∷ rest) _ (refined-same table al n)

@@ -97,8 +97,7 @@ module _ (word count byte : ℕ) (few : count ≤ 56) (z : HasZerosAfter word co
   byte_zeros = grind (arith, with_byte, mul-mod_left)
 
   pub byte_buffered : byte < 256 → buffered_bits (word + byte * 2 ^ (56 - count)) (count + 8) ≡
-      buffered_bits word count ++ bits_of
-      byte
+      buffered_bits word count ++ bits_of byte
   byte_buffered small = grind (arith, with_byte, shl-shr, low_bits-append, byte_bits)
 
   pub byte_fits : word < 2 ^ 64 → byte < 256 → word + byte * 2 ^ (56 - count) < 2 ^ 64

@@ -277,8 +277,7 @@ module _ (table : Table) (bits : List Bool) (met : Option DataEnd) (bytes : List
 
   -- a short token, and how many bits it takes
   pub fast-some : (v : ℤ) (r n : ℕ) → short_value_of 8 table (next_bits 8 bits) ≡ Some (v, r, n)
-      → fast_from table (upcoming_by bits met bytes) ≡ (has_buffered n bits met >>= λ (u : Unit
-      {0}). Ok (
+      → fast_from table (upcoming_by bits met bytes) ≡ (has_buffered n bits met >>= λ (u : Unit {0}). Ok (
         Some (v, r),
         upcoming_by (drop n bits) met bytes,
       ))

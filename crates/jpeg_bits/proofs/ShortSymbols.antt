@@ -33,8 +33,7 @@ no_code_of table bits h = grind (arith, false≢true)
 code_from-named : (table : Table) (bits : List Bool) (met : Option DataEnd) (bytes : List ℕ) (symbol size : ℕ)
     → IsFilled 16 bits met → size ≤ 16 → symbol_in table (next_16 bits) ≡ Some (symbol, size)
     → code_from table (upcoming_by bits met bytes)
-    ≡ if_buffered (size, symbol) (upcoming_by (drop size bits) met bytes) (has_buffered size bits
-    met)
+    ≡ if_buffered (size, symbol) (upcoming_by (drop size bits) met bytes) (has_buffered size bits met)
 code_from-named table bits met bytes symbol size f le e = grind (arith, code_of, code_from-buffered)
 
 pub Code-buffered : (table : Table) (b d : Ahead) (source : Stream) (symbol size : ℕ) → IsFilled 16
@@ -49,8 +48,7 @@ Code-buffered table b d source symbol size f le e ok eb em = (
   λ known. (
     known,
     code_from-named _ b.bits b.met source.bytes symbol size f le e
-        ∙ ap (if_buffered (size, symbol) (upcoming_by (drop size b.bits) b.met source.bytes))
-        (ok_unit _ ok)
+        ∙ ap (if_buffered (size, symbol) (upcoming_by (drop size b.bits) b.met source.bytes)) (ok_unit _ ok)
         ∙ sym (ap (λ bs. Ok ((size, symbol), upcoming_by bs d.met source.bytes)) eb
         ∙ ap (λ m. Ok ((size, symbol), upcoming_by (drop size b.bits) m source.bytes)) em),
   ),

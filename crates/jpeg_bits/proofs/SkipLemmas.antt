@@ -109,8 +109,7 @@ first-measured table al (suc n) (x ∷ rest) t =
         let lt : r < length (x ∷ rest) = within (Value r v) u refl in
         let front = take r (x ∷ rest) ++ wrapped (v *ℤ pos (2 ^ al)) ∷ [] in
         let left = length-drop (r + 1) (x ∷ rest) in
-        let long : length front + length (drop (r + 1) (x ∷ rest)) ≡ length (x ∷ rest)
-        = omega (
+        let long : length front + length (drop (r + 1) (x ∷ rest)) ≡ length (x ∷ rest) = omega (
           arith,
           left,
           length-append (take r (x ∷ rest)) (wrapped (v *ℤ pos (2 ^ al)) ∷ []),
@@ -196,8 +195,7 @@ module _ (table : Table) (counted : length table.counts ≡ 16) (bits : List Boo
         = ap (λ (w : Text). has_bits s w.bits w.ending) (advanced used size t) ∙ buffered-then
         (used + size) s t buffered in
         let step : read_on (run_after (run_of table) room') (token_at room' size r s v)
-        ≡ run_of table (room' - (r + 1)) (advance s v)
-        = elim (cases_lt 0 s) [
+        ≡ run_of table (room' - (r + 1)) (advance s v) = elim (cases_lt 0 s) [
           | inl some ↦ value-passed (run_of table) room' size r s v some (omega arith) next
           | inr none ↦ sixteen-passed (run_of table) room' size r s v (omega arith) (all (omega arith))
         ] in

@@ -41,21 +41,18 @@ module _ (table : Table) (room left : ℕ) (a b d e : Ahead) (old cur mid new : 
   pub skip-refused : 0 < left → (x : Error) → Takes (λ (k : Token). k) (token_from table left) d mid (Err x) e new
       → Takes (λ (run : ℕ). run) (run_of table room) a old (Err x) e new
   skip-refused some x h =
-      Leaves-err (λ (run : ℕ). run) (λ (k : Token). k) (run_of table room) _ _
-      a d e old mid new _
+      Leaves-err (λ (run : ℕ). run) (λ (k : Token). k) (run_of table room) _ _ a d e old mid new _
       (λ t f is. run-token table left t some ∙ ap (read_on (run_after (run_of table) left)) is) text-buffered h
 
   pub skip-token : 0 < left → (k : Token) → Takes (λ (k : Token). k) (token_from table left) d mid (Ok k) e new
       → Leaves (run_of table room) a old (run_after (run_of table) left k) e new
   skip-token some k h =
-      Leaves-ok (λ (k : Token). k) (run_of table room) _ _
-      _ a d _ old mid _ _
+      Leaves-ok (λ (k : Token). k) (run_of table room) _ _ _ a d _ old mid _ _
       (λ t u is. run-token table left t some ∙ ap (read_on (run_after (run_of table) left)) is) text-buffered h
 
   pub skip-overlong : 0 < left → Takes (λ (k : Token). k) (token_from table left) d mid (Ok Overlong) e new
       → Takes (λ (run : ℕ). run) (run_of table room) a old (Ok 0) e new
-  skip-overlong some h =
-      skip-token some Overlong h
+  skip-overlong some h = skip-token some Overlong h
 
   -- several tokens at once
   module _ (n passed count over : ℕ) (last : Bool) (counted : count ≡ n) (is : over ≡ passed)
@@ -76,8 +73,7 @@ module _ (table : Table) (room left : ℕ) (a b d e : Ahead) (old cur mid new : 
     next-text : (bytes : List ℕ) → advance n (upcoming d bytes) ≡ upcoming e bytes
     unfolding upcoming
     next-text bytes =
-        advance-buffered n d.bits d.met bytes
-        (filled-less n 16 d.bits d.met (omega (arith, skip.few)) filled)
+        advance-buffered n d.bits d.met bytes (filled-less n 16 d.bits d.met (omega (arith, skip.few)) filled)
         ∙ ap (λ (k : ℕ). upcoming_by (drop k d.bits) d.met bytes) (sym counted)
         ∙ sym (ap (λ (l : List Bool). upcoming_by l e.met bytes) bits
         ∙ ap (λ (m : Option DataEnd). upcoming_by (drop count d.bits) m bytes) met)

@@ -180,8 +180,7 @@ begins-own counts i rest h all within =
     let long = length-low_bits s v in
     let zeros = replicate 16 false in
     let small : s ≤ 16 = (rising-at _ _ _ _ (all-rising counts h) within).1 in
-    let first : take s (next_16 (own ++ rest)) ≡ own
-    = take-take s 16 ((own ++ rest) ++ zeros) small
+    let first : take s (next_16 (own ++ rest)) ≡ own = take-take s 16 ((own ++ rest) ++ zeros) small
     ∙ take-append-le s (own ++ rest) zeros (omega (arith, length-append own rest))
     ∙ take-append-le s own rest (omega arith) ∙ take_all s own (omega arith) in
     eq-eqb _ _ (ap number_of first ∙ number_of-low_bits s v (all i within))

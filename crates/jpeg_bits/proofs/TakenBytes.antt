@@ -14,8 +14,7 @@ consumes-front is_none x buffered inner new h = grind arith
 -- the byte is put into a place for one
 pub takes-front : (is_none : Bool) (buffered buf : List ℕ) (inner new : Option (List ℕ)) → 0 <
     length buffered → length buf ≡ 1
-    → DropsConsumable (if is_none then None else prepend_known buffered inner) new (Some (length
-    buffered)) 1
+    → DropsConsumable (if is_none then None else prepend_known buffered inner) new (Some (length buffered)) 1
     → Consumes (if is_none then None else prepend_known buffered inner) new
     (take 1 (slice_set buf 0 (slice_index_or buffered 0 0)))
 takes-front z (x ∷ buffered) (b ∷ []) inner new some one h = consumes-front z x buffered inner new h

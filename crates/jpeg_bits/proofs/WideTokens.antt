@@ -118,8 +118,7 @@ module _ (table : Table) (room : ℕ) (t : Text) (used : ℕ) (more : List Bool)
       = ap (λ (i : ℕ). has_bits i t.bits t.ending) (omega (arith, k.all)) ∙ buffered in
       let next = buffered-then (used + c.1) s t all in
       let seen = token-seen table counted 11 (omega arith) xs (length-next_bits 11 t.bits) used (more ++ zeros) symbol
-      c.1 found room t refl (omega (arith, k.all)) (both-buffered (used + c.1) s t.bits t.ending
-      all) in
+      c.1 found room t refl (omega (arith, k.all)) (both-buffered (used + c.1) s t.bits t.ending all) in
       let bits = seen-bits t.bits more used c.1 s (omega (arith, k.all)) in
       let value = k.value in
       let run = k.run in
@@ -158,14 +157,12 @@ value-buffered table room bits met bytes used more v r n counted filled le buffe
     let t = upcoming_by bits met bytes in
     let less : (k : ℕ) → k ≤ 11 → IsFilled k bits met
     = λ k few. filled-less k 16 bits met (omega (arith, few)) filled in
-    ap (token_from table room) (sym (advance-buffered used bits met bytes (less used (omega
-    arith))))
+    ap (token_from table room) (sym (advance-buffered used bits met bytes (less used (omega arith))))
     ∙ value-seen table room t used more v r n counted le (has_bits-buffered (used + n) bits met
     bytes (less (used + n) le)
     ∙ buffered) within (ap (λ (xs : List Bool). short_value_of 11 table (drop used xs ++ more))
     (front-text 11 bits met bytes (omega arith) (less 11 (omega arith))) ∙ is)
-    ∙ ap (λ (w : Text). Ok (Value r v, w)) (advance-buffered (used + n) bits met bytes (less (used
-    + n) le))
+    ∙ ap (λ (w : Text). Ok (Value r v, w)) (advance-buffered (used + n) bits met bytes (less (used + n) le))
 
 -- a value that is found takes at most the bits that are looked at
 few-bits : (most : ℕ) (class : HuffmanTableClass) (bits : List Bool) (o : Option (ℕ × ℕ)) (v : ℤ) (r n : ℕ)

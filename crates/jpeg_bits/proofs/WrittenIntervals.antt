@@ -109,8 +109,7 @@ unfolding interval text_ahead
 in-text read bytes rest m bits filling x h is short =
     let following = drop 56 (text_at bytes).following in
     let read_all = h.read filling following (Found m rest) in
-    let left : length (drop (length bits) following) ≡ 0
-    = omega (
+    let left : length (drop (length bits) following) ≡ 0 = omega (
       arith,
       length-drop (length bits) following,
       length-drop 56 (text_at bytes).following,

@@ -5,8 +5,7 @@ use Rattle.jpeg_bits.proofs.reads.read_exact.Goals as goal
 use Rattle.std.proofs.lemmas.Grind.{common_steps}
 
 pub returns-in_err-count-clause-answers : goal.returns-in_err-count-clause-answers
-returns-in_err-count-clause-answers g c =
-    grind (arith, common_steps, err_from_is_err_and, filled-err)
+returns-in_err-count-clause-answers g c = grind (arith, common_steps, err_from_is_err_and, filled-err)
 
 pub returns-in_err-count-clause-room : goal.returns-in_err-count-clause-room
 returns-in_err-count-clause-room g c = grind (arith, common_steps, err_from_is_err_and, filled-room)
@@ -17,8 +16,7 @@ returns-then-count-eq0-clause-answers g c =
     let some : 0 < length c.read.new.buffer = search rules in
     let less : c.loop-filled.filled < length c.args.buffer.now = search rules in
     filled-short _ c.loop-filled.source c.read.new.self _ _ _ c.loop-filled.buffer c.read.new.buffer _
-    inv.long less c.if-count-eq0.true some inv.read
-    c.in_ok-count.ensures.some c.end_of_bytes.ensures
+    inv.long less c.if-count-eq0.true some inv.read c.in_ok-count.ensures.some c.end_of_bytes.ensures
 
 pub loop-filled-preserved : goal.loop-filled-preserved
 loop-filled-preserved g c =

@@ -88,10 +88,8 @@ returns-in_default-clause-piece g c =
     (piece_from p.al a.zeros (rest_in p a.from c.args.block.now))
     (walk_at p.al l.left a.from (band_end p) l.block l.index)
     (corrected_from p.al (cast_signed w16 (cast_unsigned w16 x))) c.args.buffered.now l.buffered
-    c.correct.new.buffered
-    c.args.source.now l.source c.correct.new.source _
-    (λ t f e. skips t ∙ at-refused p.al (l.left - gap) a.from (band_end p) next
-    c.index_of-at.result l.block
+    c.correct.new.buffered c.args.source.now l.source c.correct.new.source _
+    (λ t f e. skips t ∙ at-refused p.al (l.left - gap) a.from (band_end p) next c.index_of-at.result l.block
     (omega (arith, last)) after before is (cast_signed w16 (cast_unsigned w16 x)) t f some s e)
     l.invariant.walk c.in_default.ensures.index)
 

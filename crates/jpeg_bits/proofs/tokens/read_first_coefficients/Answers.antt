@@ -30,8 +30,7 @@ loop-at-preserved-in-Value g c =
       within = omega arith;
       text = index-value _ _ _ _ _ _ _ c.args.source.now l.source c.fill.new.source c.read_token.new.source _ _ _
           c.requires.pass c.band_end-end.ensures l.invariant.from c.loop-at-test.true l.invariant.text
-          c.if-not-fill.ensures.holds _ _ _ _ l.invariant.len room is
-          c.in-Some.ensures.token c.in-Value.is;
+          c.if-not-fill.ensures.holds _ _ _ _ l.invariant.len room is c.in-Some.ensures.token c.in-Value.is;
       others = kept-set _ _ (l.at + c.in-Value.run') _ _ _ l.invariant.len (omega arith) (omega arith) (omega arith) l.invariant.others;
     }
 

@@ -18,7 +18,5 @@ pub returns-in-None-clause-fills : goal.returns-in-None-clause-fills
 returns-in-None-clause-fills g c =
     let s = c.loop-buffered.buffered in
     let b : Ahead = record { bits = s.bits; met = s.met } in
-    Holds-refused (Unit {0}) _ b _ c.loop-buffered.source
-    c.next_piece.new.source s.bits s.met
-    _
+    Holds-refused (Unit {0}) _ b _ c.loop-buffered.source c.next_piece.new.source s.bits s.met _
     c.loop-buffered.invariant.text c.in-None.ensures.answers

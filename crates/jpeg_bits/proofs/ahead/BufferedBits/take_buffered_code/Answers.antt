@@ -12,9 +12,7 @@ returns-then-not-has-clause-code c =
     let n = rw c.from-count.ensures at (rw (ap (λ (a : Ahead). a.met) c.self.view_is) at
     (c.set_fault.ensures.names c.from-count.result c.args.self.now.bits) (sym c.has.ensures ∙
     c.if-not-has.true)) in
-    λ source. Code-refused _ _ _ _ _
-    _ c.requires c.in-Some.ensures.within (sym
-    c.in-Some.ensures.symbol) n
+    λ source. Code-refused _ _ _ _ _ _ c.requires c.in-Some.ensures.within (sym c.in-Some.ensures.symbol) n
 
 pub returns-clause-code : goal.returns-clause-code
 returns-clause-code c =

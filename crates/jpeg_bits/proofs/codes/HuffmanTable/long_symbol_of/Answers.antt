@@ -29,8 +29,7 @@ pub index-requires : goal.index-requires
 index-requires c = grind (arith, common_steps, index_within)
 
 pub returns-then-number-row-clause-symbol : goal.returns-then-number-row-clause-symbol
-returns-then-number-row-clause-symbol c =
-    grind (arith, common_steps, row_found, index_within, get_or_default)
+returns-then-number-row-clause-symbol c = grind (arith, common_steps, row_found, index_within, get_or_default)
 
 pub loop-i-preserved : goal.loop-i-preserved
 loop-i-preserved c = grind (arith, common_steps, above_more, row_missed)
