@@ -31,9 +31,10 @@ pub Leaves-err : {X Y Z W : Type 0} (v : X → Y) (view : Z → W) (whole rest :
 Leaves-err v view whole rest read a b d old cur new e through p q = grind arith
 
 -- the end of the whole
-pub Leaves-end : {Y : Type 0} (whole rest : Text → Result (Y × Text) Fault) (a b : Ahead) (old new : Stream) (y : Y)
-    → ((t : Text) → rest t ≡ Ok (y, t)) → Leaves whole a old rest b new → Takes (λ (y : Y). y) whole a old (Ok y) b new
-Leaves-end whole rest a b old new y e p = (p.0, λ k. let at = p.1 k in (at.0, at.1 ∙ e _))
+pub Leaves-end : {X Y : Type 0} (v : X → Y) (whole rest : Text → Result (Y × Text) Fault) (a b : Ahead)
+    (old new : Stream) (x : X)
+    → ((t : Text) → rest t ≡ Ok (v x, t)) → Leaves whole a old rest b new → Takes v whole a old (Ok x) b new
+Leaves-end v whole rest a b old new x e p = (p.0, λ k. let at = p.1 k in (at.0, at.1 ∙ e _))
 
 pub Leaves-whole : {Y : Type 0} (whole : Text → Result (Y × Text) Fault) (a : Ahead) (old : Stream)
     → Leaves whole a old whole a old

@@ -109,5 +109,5 @@ pub skip-all : (table : Table) (room left : ℕ) (a b : Ahead) (old new : Stream
     → Leaves (run_of table room) a old (run_of table left) b new
     → Takes (λ (run : ℕ). run) (run_of table room) a old (Ok 0) b new
 skip-all table room left a b old new none p =
-    Leaves-end (run_of table room) _ a _ old _ _
+    Leaves-end (λ (run : ℕ). run) (run_of table room) _ a _ old _ _
     (λ t. ap (λ (k : ℕ). run_of table k t) none ∙ run-none table t) p

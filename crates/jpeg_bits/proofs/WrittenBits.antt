@@ -1,15 +1,15 @@
 -- What is read of bits that were written.
 use Rattle.std.proofs.lemmas.Grind.{common_steps}
 use Rattle.std.proofs.lemmas.Bool.Decides.{nat_tests}
-use Rattle.std.proofs.Common.{◌≡◌, ℕ, zero, suc, ◌+◌, ◌*◌, ◌/◌, ◌%◌, ◌^◌, ◌<◌, Bool, false, cond, List, [], ◌∷◌}
-use Rattle.std.proofs.Common.{◌++◌, length, take, drop, replicate, fold, refl, ap, ◌∙◌, subst, append_assoc}
-use Rattle.std.proofs.Common.{length-append, mul_assoc, arith, pow_pos, pow-suc, mod-eq_of_lt}
+use Rattle.std.proofs.Common.{◌≡◌, ℕ, zero, suc, ◌+◌, ◌*◌, ◌/◌, ◌%◌, ◌^◌, ◌<◌, Bool, false, cond, List, [], ◌∷◌, ◌++◌}
+use Rattle.std.proofs.Common.{length, take, drop, replicate, fold, refl, ap, ◌∙◌, subst, append_assoc, length-append, pos, Ok}
+use Rattle.std.proofs.Common.{mul_assoc, arith, pow_pos, pow-suc, mod-eq_of_lt}
 use Rattle.std.proofs.Math.Arith.{mod-mul}
 use Rattle.std.proofs.Math.Nat.{mod-one, add-mul}
 use Rattle.std.proofs.lemmas.List.{take-append-le, take_all, drop_at, drop-drop}
-use Rattle.jpeg_bits.specs.Entropy.{bits_from, number_of}
+use Rattle.jpeg_bits.specs.Entropy.{Text, bits_from, extended, number_of}
 use Rattle.jpeg_bits.proofs.BufferedBits.{has_enough}
-use Rattle.jpeg_bits.specs.Readers.{Reads, ◌>>=◌, gives, ReadsJust}
+use Rattle.jpeg_bits.specs.Readers.{Reads, ◌>>=◌, gives, ReadsJust, signed_from}
 use Rattle.jpeg_bits.specs.Written.{bit, low_bits}
 
 pub takes-gives : {A : Type 0} (x : A) → ReadsJust (gives x) [] x
@@ -42,7 +42,7 @@ unfolding low_bits
 onto-bits zero a v = omega (arith, mod-one v)
 onto-bits (suc n) a v =
     let e : (2 * a + v / 2 ^ n % 2) * 2 ^ n + v % 2 ^ n ≡ a * 2 ^ suc n + v % 2 ^ suc n =
-    carry _ _ _ _ _ _ (pow-suc 2 n) (low_bits-mod n v) in grind (arith, common_steps, nat_tests, bit-value, onto-bits n (2 * a + v / 2 ^ n % 2) v)
+    carry a (v / 2 ^ n % 2) (2 ^ n) (v % 2 ^ n) _ _ (pow-suc 2 n) (low_bits-mod n v) in grind (arith, common_steps, nat_tests, bit-value, onto-bits n (2 * a + v / 2 ^ n % 2) v)
 
 pub number_of-low_bits : (n v : ℕ) → v < 2 ^ n → number_of (low_bits n v) ≡ v
 number_of-low_bits n v h = onto-bits n 0 v ∙ omega (arith, mod-eq_of_lt h)
@@ -80,3 +80,8 @@ takes-map p f bits x h = record { read = λ rest following e. rw (h.read rest fo
 pub takes-as : {A : Type 0} (p : Reads A) (bits more : List Bool) (x y : A) → bits ≡ more → x ≡ y → ReadsJust p bits x
     → ReadsJust p more y
 takes-as {A} p bits more x y e f h = grind arith
+
+-- no bits are read as 0
+pub signed_none : (t : Text) → signed_from 0 t ≡ Ok (pos 0, t)
+unfolding signed_from bits_from extended
+signed_none t = grind (arith, common_steps, nat_tests)

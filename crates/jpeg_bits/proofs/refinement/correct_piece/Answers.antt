@@ -1,3 +1,4 @@
+use Rattle.std.proofs.Common.{List}
 use Rattle.std.proofs.Common.{◌≡◌, ◌-◌, ◌+◌, ◌<◌, ◌≤◌, ℤ, ℕ, pos, get_or, length-set, ◌∙◌, ap, sym}
 use Rattle.std.proofs.Common.{w16, SFits, arith, rules}
 use Rattle.std.proofs.lemmas.Int.{to_z-of_z}
@@ -28,8 +29,8 @@ returns-then-left-gap-clause-piece g c =
     let last = c.requires.pass.end in
     let gap = c.zeros_from-gap.result in
     let inside = c.zeros_from-gap.ensures.within in
-    Leaves-end (piece_from a.pass.al a.zeros (rest_in (pass_in a.pass) a.from c.args.block.now)) _ c.args.buffered.now _
-    c.args.source.now l.source _
+    Leaves-end (λ (y : ℕ × List ℤ). y) (piece_from a.pass.al a.zeros (rest_in (pass_in a.pass) a.from c.args.block.now))
+    _ c.args.buffered.now _ c.args.source.now l.source _
     (λ t. at-gap a.pass.al a.from end l.block (omega arith) gap l.left l.index t l.invariant.after (omega arith)
     c.if-left-gap.true (gap-zeros c.args.mask l.index gap l.block (omega arith) l.invariant.marks
     c.zeros_from-gap.ensures.zeros)) l.invariant.walk
@@ -51,8 +52,8 @@ returns-then-index-end-clause-piece g c =
     let inside = c.zeros_from-gap.ensures.within in
     let met = c.if-index-end.true in
     let few = c.if-left-gap.false in
-    rw is (Leaves-end (piece_from a.pass.al a.zeros (rest_in (pass_in a.pass) a.from c.args.block.now)) _ c.args.buffered.now _
-    c.args.source.now l.source _
+    rw is (Leaves-end (λ (y : ℕ × List ℤ). y) (piece_from a.pass.al a.zeros (rest_in (pass_in a.pass) a.from c.args.block.now))
+    _ c.args.buffered.now _ c.args.source.now l.source _
     (λ t. at-last-gap a.pass.al a.from end l.block (omega arith) gap l.left l.index t l.invariant.after (omega arith)
     (omega arith) (gap-zeros c.args.mask l.index gap l.block (omega arith) l.invariant.marks
     c.zeros_from-gap.ensures.zeros)) l.invariant.walk)

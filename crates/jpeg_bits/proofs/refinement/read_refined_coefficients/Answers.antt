@@ -1,3 +1,4 @@
+use Rattle.jpeg_bits.specs.Bands.{Band}
 use Rattle.std.proofs.Common.{◌≡◌, ◌-◌, ◌<◌, ◌≤◌, length, length-set, ◌∙◌, refl, sym, w16, arith, rules}
 use Rattle.std.proofs.lemmas.Int.{to_z-of_z}
 use Rattle.std.specs.Int.{cast_signed, cast_unsigned}
@@ -105,5 +106,5 @@ returns-clause-reads g c =
     let end = c.band_end-end.ensures in
     let stop = c.loop-index-test.false in
     let last : band_end (pass_in c.args.pass) ≤ c.loop-index.index = omega arith in
-    Leaves-end (refined_from c.args.table.now (pass_in c.args.pass) c.args.block.now) _ c.args.buffered.now _
-    c.args.source.now _ _ (λ t. at-last c.args.table.now (pass_in c.args.pass) _ _ _ c.requires last) c.loop-index.invariant.rest
+    Leaves-end (λ (y : Band). y) (refined_from c.args.table.now (pass_in c.args.pass) c.args.block.now) _
+    c.args.buffered.now _ c.args.source.now _ _ (λ t. at-last c.args.table.now (pass_in c.args.pass) _ _ _ c.requires last) c.loop-index.invariant.rest
