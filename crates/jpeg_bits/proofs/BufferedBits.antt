@@ -144,8 +144,8 @@ none_buffered bits m bytes e = grind arith
 abbrev pub GivesZero : List Bool → Option DataEnd → List ℕ → Type 0
 GivesZero bits met bytes = bits_from 1 (upcoming_by bits met bytes) ≡ Ok (0, upcoming_by bits met bytes)
 
-pub zero-next : (a b : Ahead) (bytes : List ℕ) → b ≡ a → length b.bits ≡ 0
+pub zero_next : (a b : Ahead) (bytes : List ℕ) → b ≡ a → length b.bits ≡ 0
     → ((bits : List Bool) (bytes : List ℕ) → length bits ≡ 0 → GivesZero bits b.met bytes)
     → bits_from 1 (upcoming a bytes) ≡ Ok (0, upcoming a bytes)
 unfolding upcoming
-zero-next a b bytes e none h = subst (λ (a : Ahead). GivesZero a.bits a.met bytes) e (h b.bits bytes none)
+zero_next a b bytes e none h = subst (λ (a : Ahead). GivesZero a.bits a.met bytes) e (h b.bits bytes none)

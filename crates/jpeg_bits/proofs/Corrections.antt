@@ -1,6 +1,6 @@
 -- A number that isn't 0, and its correction bit.
 use Rattle.std.proofs.Common.{◌≡◌, ℕ, ◌*◌, ◌<◌, ◌≤◌, Bool, false, ℤ, Option, Some, None, Result, Ok}
-use Rattle.std.proofs.Common.{refl, sym, ap, ◌∙◌, arith, w16, FitsSigned}
+use Rattle.std.proofs.Common.{refl, sym, ap, ◌∙◌, arith, w16, FitsSigned, pow_mono}
 use Rattle.std.proofs.lemmas.Bool.{false≢true, lt-ltb, ne_eqb}
 use Rattle.jpeg_bits.specs.Stream.{Stream}
 use Rattle.jpeg_bits.specs.Reading.{Fault, ◌>>=◌, Names, MayFail, Gives}
@@ -11,10 +11,11 @@ use Rattle.jpeg_bits.specs.Pieces.{corrected_from, moved_within, distance_of}
 use Rattle.jpeg_bits.specs.declared.error.Error.{Error}
 use Rattle.jpeg_bits.proofs.Loops.{Names-through}
 use Rattle.jpeg_bits.proofs.PieceWalks.{by_bool}
+use Rattle.jpeg_bits.proofs.SetBits.{unsigned_bit}
 
 -- at most the unit of the highest level
-pub small-distance : (b l p : ℕ) → b < 2 → l < 2 → p ≤ 8192 → b * l * p ≤ 8192
-small-distance b l p h k m = grind arith
+pub small_distance : (b l p : ℕ) → b < 2 → l < 2 → p ≤ 8192 → b * l * p ≤ 8192
+small_distance b l p h k m = grind arith
 
 -- a number that isn't moved
 stays : (z : ℤ) (n : ℕ) → FitsSigned w16 z → n ≡ 0 → moved_within n z ≡ Ok z
@@ -56,3 +57,5 @@ pub index-kept : (al : ℕ) (z : ℤ) (t : Text) → bits_from 1 t ≡ Ok (0, t)
     Ok (z, t)
 unfolding corrected_from
 index-kept al z t e = by_bool (is_zero z) (λ zero. rw zero refl) (λ some. rw (some, e) refl)
+
+pub ruleset distances = (pow_mono, unsigned_bit, small_distance)

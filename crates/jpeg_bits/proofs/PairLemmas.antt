@@ -23,7 +23,7 @@ use Rattle.jpeg_bits.specs.declared.tokens.Token.TheVariants.{Value}
 use Rattle.jpeg_bits.proofs.BlockLoop.{IsAtIndex, index-value}
 use Rattle.jpeg_bits.proofs.BufferedBits.{ok_unit}
 use Rattle.jpeg_bits.proofs.ShortLemmas.{fewer-buffered}
-use Rattle.jpeg_bits.proofs.SkipLemmas.{bits-after}
+use Rattle.jpeg_bits.proofs.SkipLemmas.{bits_after}
 use Rattle.jpeg_bits.proofs.WideTokens.{value-buffered, wide-taken}
 
 -- ---- the look-up table
@@ -37,7 +37,7 @@ unfolding pair_of
 pair-at table values b j holds size lt few is =
     let v = get_or values b (packed None) in
     let next = holds j (omega arith)
-    ∙ ap (value_in table) (bits-after _ _ _ _ _ _ few refl is) in
+    ∙ ap (value_in table) (bits_after _ _ _ _ _ _ few refl is) in
     ap (pair_by v) next
     ∙ ap (λ (v : ShortValue). pair_by v (value_in table (drop v.2 (low_bits 11 b) ++ replicate v.2 false)))
     (holds b (omega arith))

@@ -23,7 +23,7 @@ use Rattle.jpeg_bits.specs.declared.codes.HuffmanTableClass.{HuffmanTableClass}
 use Rattle.jpeg_bits.specs.declared.ahead.DataEnd.{DataEnd}
 use Rattle.std.proofs.Math.Nat.{mod-lt}
 use Rattle.jpeg_bits.proofs.CodeLemmas.{first_from}
-use Rattle.jpeg_bits.proofs.WrittenBits.{length-low_bits, number_of-low_bits}
+use Rattle.jpeg_bits.proofs.WrittenBits.{length_low_bits, number_of-low_bits}
 use Rattle.jpeg_bits.proofs.Reservoirs.{low_bits-append, low_bits-zeros, low_bits-take, low_bits-drop}
 use Rattle.jpeg_bits.proofs.Reservoirs.{same_zeros, front_small}
 use Rattle.jpeg_bits.proofs.Tables.{IsRising, ordered, all-rising}
@@ -120,7 +120,7 @@ pub short_of_16 : (counts : List ℕ) (bits : ℕ) → length counts ≡ 16
 short_of_16 counts bits h =
     let eight = low_bits 8 (bits / 256) in
     short_agree _ _ (all-rising counts h) _ _
-    (front_of 8 8 eight (length-low_bits 8 (bits / 256)) ∙ sym (low_bits-take 8 8 bits))
+    (front_of 8 8 eight (length_low_bits 8 (bits / 256)) ∙ sym (low_bits-take 8 8 bits))
 
 short_named : (symbols : List ℕ) (o : Option (ℕ × ℕ)) (p : ℕ × ℕ) → named symbols (short_only o) ≡ Some p
     → named symbols o ≡ Some p
@@ -161,9 +161,9 @@ pub length-next_bits : (n : ℕ) (bits : List Bool) → length (next_bits n bits
 length-next_bits n bits = grind (arith, length-take, length-append, length-replicate)
 
 -- the first 11 of the next 16 bits
-pub eleven-front : (number : ℕ) (bits : List Bool) → low_bits 16 number ≡ next_16 bits
+pub eleven_front : (number : ℕ) (bits : List Bool) → low_bits 16 number ≡ next_16 bits
     → low_bits 11 (number / 32) ≡ next_bits 11 bits
-eleven-front number bits e =
+eleven_front number bits e =
     sym (low_bits-take 11 5 number) ∙ ap (take 11) e ∙ take-take 11 16 (bits ++ replicate 16 false) (omega arith)
     ∙ same_zeros bits 11 16 11 (omega arith) (omega arith)
 

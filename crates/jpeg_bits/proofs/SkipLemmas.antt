@@ -11,7 +11,7 @@ use Rattle.std.proofs.Math.Nat.{div-add-mod'}
 use Rattle.jpeg_bits.proofs.Reservoirs.{low_bits-append, low_bits-zeros, low_bits-take, low_bits-drop, low_bits-high}
 use Rattle.jpeg_bits.proofs.Reservoirs.{same_zeros}
 use Rattle.jpeg_bits.proofs.Fast.{both-buffered}
-use Rattle.jpeg_bits.proofs.WideTokens.{none-left, value-within, advanced, buffered-then, token-seen}
+use Rattle.jpeg_bits.proofs.WideTokens.{none_left, value-within, advanced, buffered-then, token-seen}
 use Rattle.jpeg_bits.specs.Reading.{Fault}
 use Rattle.jpeg_bits.specs.Entropy.{Text, advance, has_bits, bits_from}
 use Rattle.jpeg_bits.specs.Codes.{Table, next_16, code_from}
@@ -136,9 +136,9 @@ first-measured table al (suc n) (x ∷ rest) t =
 -- ---- the tokens that 12 bits begin with
 
 -- Some bits after the first of n, with zeros after them, are the low ones of their number, moved.
-pub bits-after : (n w used k b rest : ℕ) → used ≤ n → n + k ≡ w + used → rest ≡ b * 2 ^ k % 2 ^ w
+pub bits_after : (n w used k b rest : ℕ) → used ≤ n → n + k ≡ w + used → rest ≡ b * 2 ^ k % 2 ^ w
     → low_bits w rest ≡ drop used (low_bits n b) ++ replicate k false
-bits-after n w used k b rest h size e =
+bits_after n w used k b rest h size e =
     let m = n - used in
     let x = b * 2 ^ k in
     let whole : x ≡ x / 2 ^ w * 2 ^ w + x % 2 ^ w = sym (div-add-mod' x (2 ^ w)) in
@@ -225,7 +225,7 @@ module _ (table : Table) (counted : length table.counts ≡ 16) (bits : List Boo
         ∙ run-token table room' u (omega arith)
         ∙ ap (read_on (run_after (run_of table) room')) (token-seen table counted 12 (omega arith) bits long used
         (replicate (4 + used) false) symbol size found room' t b.0 (omega (arith, is)) here
-        ∙ none-left room' size r s v none end)
+        ∙ none_left room' size r s v none end)
         ∙ ap (λ (w : Text). Ok (0, w)) (advanced used size t ∙ ap (λ (k : ℕ). advance k t) same)
 
 -- none at all
@@ -236,9 +236,9 @@ skip-none table bits = record {
   passes = λ room lt most t b. absurd (omega (arith, lt, most));
 }
 
-pub twelve-front : (number : ℕ) (bits : List Bool) → low_bits 16 number ≡ next_16 bits
+pub twelve_front : (number : ℕ) (bits : List Bool) → low_bits 16 number ≡ next_16 bits
     → low_bits 12 (number / 16) ≡ next_bits 12 bits
-twelve-front number bits e =
+twelve_front number bits e =
     sym (low_bits-take 12 4 number) ∙ ap (take 12) e ∙ take-take 12 16 (bits ++ replicate 16 false) (omega arith)
     ∙ same_zeros bits 12 16 12 (omega arith) (omega arith)
 

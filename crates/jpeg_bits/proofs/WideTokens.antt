@@ -36,8 +36,8 @@ none-here : (room size : ℕ) (t : Text) → token_at room size 0 0 t ≡ Ok (Re
 unfolding token_at
 none-here room size t = ap (read_on (λ (e : ℕ). gives (Rest (2 ^ 0 - 1 + e)))) (no-bits t)
 
-pub none-left : (room size r s : ℕ) (t : Text) → s ≡ 0 → r ≡ 0 → token_at room size r s t ≡ Ok (Rest 0, t)
-none-left room size r s t none zero = rw (none, zero) (none-here room size t)
+pub none_left : (room size r s : ℕ) (t : Text) → s ≡ 0 → r ≡ 0 → token_at room size r s t ≡ Ok (Rest 0, t)
+none_left room size r s t none zero = rw (none, zero) (none-here room size t)
 
 -- Bits are passed in two steps.
 pub advanced : (m n : ℕ) (t : Text) → advance n (advance m t) ≡ advance (m + n) t

@@ -55,6 +55,7 @@ impl Bits {
     }
 
     #[inline(always)]
+    #[tactic(auto, using(crate::proofs::WrittenBits::length_low_bits))]
     pub(crate) fn len(&self) -> usize
         ensures count { result ≡ length self.now }
         ensures most { result ≤ 64 }
@@ -101,6 +102,7 @@ impl Bits {
 
     /// Drops the first `count` bits, or all where fewer are buffered.
     #[inline(always)]
+    #[tactic(auto, using(crate::proofs::Reservoirs::rests))]
     pub(crate) fn skip(&mut self, count: usize)
         requires { count ≤ 16 }
         ensures { self.new ≡ drop count self.old }

@@ -2,7 +2,7 @@ use Rattle.std.proofs.Common.{◌≡◌, rules, refl, ◌∙◌, ◌%◌, ◌+�
 use Rattle.std.proofs.lemmas.Bool.{false≢true}
 use Rattle.jpeg_bits.specs.ShortCodes.{symbol_in}
 use Rattle.jpeg_bits.specs.Written.{low_bits}
-use Rattle.jpeg_bits.proofs.WrittenBits.{length-low_bits}
+use Rattle.jpeg_bits.proofs.WrittenBits.{length_low_bits}
 use Rattle.jpeg_bits.proofs.SkipLemmas.{skip-last, skip-more}
 use Rattle.jpeg_bits.proofs.codes.HuffmanTable.skip_in.Goals as goal
 
@@ -20,9 +20,9 @@ returns-then-run-eq0 c =
     record {
       few = c.if-used-count-gt12.false;
       some = λ e. absurd (false≢true (sym e));
-      passes = skip-last table counted bits (length-low_bits 12 c.args.bits) used symbol n found (n + symbol % 16)
+      passes = skip-last table counted bits (length_low_bits 12 c.args.bits) used symbol n found (n + symbol % 16)
           c.loop.passed refl c.if-used-count-gt12.false none c.if-run-eq0.true c.loop.invariant.over;
     }
 
 pub loop-preserved : goal.loop-preserved
-loop-preserved c = search (rules, skip-more, length-low_bits)
+loop-preserved c = search (rules, skip-more, length_low_bits)
