@@ -1,6 +1,6 @@
 -- Bands of a refinement, by the zigzag places of a block in block order.
-use Rattle.std.proofs.Common.{◌≡◌, ℕ, ◌+◌, ◌-◌, ◌<◌, ◌≤◌, List, ◌++◌, length, get_or, set, take, drop, ℤ, Result, Ok}
-use Rattle.std.proofs.Common.{Err, Option, Some, None, is_some, Bool, sym, ap, ◌∙◌, arith}
+use Rattle.std.proofs.Common.{◌≡◌, ℕ, ◌+◌, ◌-◌, ◌<◌, ◌≤◌, List, ◌++◌, length, get_or, set, take, drop, ℤ}
+use Rattle.std.proofs.Common.{Result, Ok, Err, Option, Some, None, is_some, Bool, sym, ap, ◌∙◌, arith}
 use Rattle.jpeg_bits.specs.Stream.{Stream}
 use Rattle.jpeg_bits.specs.Reading.{Fault, ◌>>=◌}
 use Rattle.jpeg_bits.specs.Entropy.{Text, Ahead, Takes, upcoming}
@@ -10,7 +10,7 @@ use Rattle.jpeg_bits.specs.Passes.{Pass}
 use Rattle.jpeg_bits.specs.Refinement.{corrected}
 use Rattle.jpeg_bits.specs.Pieces.{piece_from, refinement_from, refined_band_from}
 use Rattle.jpeg_bits.specs.Readers.{Reads}
-use Rattle.jpeg_bits.specs.Refusals.{answer_of, outcome_of, kept_refusal}
+use Rattle.jpeg_bits.specs.Refusals.{answer_of, outcome_of}
 use Rattle.jpeg_bits.specs.declared.error.Error.{Error}
 use Rattle.jpeg_bits.specs.declared.refinement.Refinement.{Refinement}
 use Rattle.jpeg_bits.specs.declared.refinement.Refinement.TheVariants.{Zeros, New, End}
@@ -19,9 +19,9 @@ use Rattle.jpeg_bits.specs.BlockView.{IsPass}
 use Rattle.jpeg_bits.specs.ZigzagParts.{band_start, band_end, band_in, rest_in, IsKeptAround}
 use Rattle.jpeg_bits.proofs.BandLoop.{Leaves}
 use Rattle.jpeg_bits.proofs.BandSteps.{Leaves-ok, Leaves-err, Leaves-whole}
-use Rattle.jpeg_bits.proofs.RefinedBands.{refined_left, refined_step, refined_more, refined_token, refined_none}
-use Rattle.jpeg_bits.proofs.RefinedBands.{refined_all, zeros_of, step_refused, zeros_step, new_step, end_step}
-use Rattle.jpeg_bits.proofs.RefinedBands.{whole_piece}
+use Rattle.jpeg_bits.proofs.RefinedBands.{refined_left, refined_step, refined_more, refined_token}
+use Rattle.jpeg_bits.proofs.RefinedBands.{refined_none, refined_all, zeros_of, step_refused, zeros_step}
+use Rattle.jpeg_bits.proofs.RefinedBands.{new_step, end_step, whole_piece}
 use Rattle.jpeg_bits.proofs.ZigzagParts.{band-length, part-length, part-rest, part-put, part-set}
 
 -- what the band from zigzag place k on gives, after what stands before it

@@ -4,7 +4,7 @@ use Rattle.std.proofs.Common.{refl, sym, ap, ◌∙◌, arith, w16, FitsSigned, 
 use Rattle.std.proofs.lemmas.Bool.{false≢true, lt-ltb, ne_eqb}
 use Rattle.jpeg_bits.specs.Stream.{Stream}
 use Rattle.jpeg_bits.specs.Reading.{Fault, ◌>>=◌, Names, MayFail, Gives}
-use Rattle.jpeg_bits.specs.Refusals.{answer_of, kept_refusal}
+use Rattle.jpeg_bits.specs.Refusals.{answer_of}
 use Rattle.jpeg_bits.specs.Refinement.{is_zero}
 use Rattle.jpeg_bits.specs.Entropy.{Text, Ahead, Takes, bits_from, upcoming}
 use Rattle.jpeg_bits.specs.Pieces.{corrected_from, moved_within, distance_of}

@@ -362,6 +362,7 @@ impl BufferedBits {
     /// the value after it take at most 8 bits together (T.81, F.2.2.2), or none within. A refusal
     /// is stored in `refusal`, and none is returned.
     #[inline(always)]
+    #[tactic(auto, using(crate::proofs::Rules::fast))]
     pub(crate) fn take_short_value<R: Read + Drop>(
         &mut self,
         source: &mut Source<R>,

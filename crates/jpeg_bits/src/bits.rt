@@ -75,6 +75,7 @@ impl Bits {
 
     /// Returns the first `count` bits, with zeros after them, as a number.
     #[inline(always)]
+    #[tactic(auto, using(crate::proofs::Rules::fronts))]
     pub(crate) fn front(&self, count: usize) -> u16
         requires some { 1 ≤ count }
         requires most { count ≤ 16 }
@@ -112,6 +113,7 @@ impl Bits {
     }
 }
 
+#[tactic(auto, using(std::proofs::Common::pow_mono))]
 pub(crate) fn power_of_two(exponent: u8) -> u16
     requires { exponent ≤ 14 }
     ensures value { result ≡ 2 ^ exponent }

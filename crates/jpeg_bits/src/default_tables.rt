@@ -140,6 +140,7 @@ fn fill_both(
 /// stay as they are. The lists have a table for each destination, DC and AC.
 ///
 /// The only error is `OutOfMemory`; destinations that were filled before it stay filled.
+#[tactic(auto, using(crate::proofs::Rules::defaults))]
 pub fn fill_default_mjpeg_tables(
     alloc: Global,
     scan: &ScanInfo,

@@ -196,6 +196,7 @@ fn mask_of(block: [i16; 64]) -> u64
 /// Counts the zeros from a zigzag index on, before the next coefficient that isn't 0 or the end of
 /// the band.
 #[inline(always)]
+#[tactic(auto, using(crate::proofs::Rules::gaps))]
 fn zeros_from(mask: u64, index: usize, end: usize) -> usize
     requires some { index < end }
     requires most { end ≤ 64 }
@@ -229,6 +230,7 @@ struct BandPiece {
 /// are 0: the block stays as it is.
 #[cold]
 #[inline(never)]
+#[tactic(auto, using(crate::proofs::Rules::pieces))]
 fn pass_piece(piece: BandPiece, mask: u64) -> usize
     requires pass { IsPass (pass_in piece.pass) }
     requires from { piece.from ≤ band_end (pass_in piece.pass) }
@@ -262,6 +264,7 @@ fn pass_piece(piece: BandPiece, mask: u64) -> usize
 /// Corrects a piece of the band of a block with this mask, going from one coefficient that isn't 0
 /// to the next. Gives the index after it.
 #[inline(always)]
+#[tactic(auto, using(crate::proofs::Rules::pieces))]
 fn correct_piece<R: Read + Drop>(
     buffered: &mut BufferedBits,
     source: &mut Source<R>,

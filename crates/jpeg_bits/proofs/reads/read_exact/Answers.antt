@@ -4,12 +4,6 @@ use Rattle.jpeg_bits.proofs.Filled.{filled-more, filled-all, filled-short, fille
 use Rattle.jpeg_bits.proofs.reads.read_exact.Goals as goal
 use Rattle.std.proofs.lemmas.Grind.{common_steps}
 
-pub returns-in_err-count-clause-answers : goal.returns-in_err-count-clause-answers
-returns-in_err-count-clause-answers g c = grind (arith, common_steps, err_from_is_err_and, filled-err)
-
-pub returns-in_err-count-clause-room : goal.returns-in_err-count-clause-room
-returns-in_err-count-clause-room g c = grind (arith, common_steps, err_from_is_err_and, filled-room)
-
 pub returns-then-count-eq0-clause-answers : goal.returns-then-count-eq0-clause-answers
 returns-then-count-eq0-clause-answers g c =
     let inv = c.loop-filled.invariant in
@@ -27,6 +21,3 @@ loop-filled-preserved g c =
       read = filled-more _ c.loop-filled.source c.read.new.self _ _ _ c.loop-filled.buffer c.read.new.buffer inv.within inv.read
           c.in_ok-count.ensures.some;
     }
-
-pub returns-clause-answers : goal.returns-clause-answers
-returns-clause-answers g c = grind (arith, common_steps, filled-all)

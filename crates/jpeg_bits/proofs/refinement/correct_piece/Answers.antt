@@ -14,12 +14,6 @@ use Rattle.jpeg_bits.proofs.ZigzagParts.{kept-same, kept-set}
 use Rattle.std.proofs.lemmas.Grind.{common_steps}
 use Rattle.jpeg_bits.proofs.refinement.correct_piece.Goals as goal
 
-pub loop-index-init : goal.loop-index-init
-loop-index-init g c = grind (arith, common_steps, at-start, kept-same)
-
-pub returns-then-left-gap-clause-within : goal.returns-then-left-gap-clause-within
-returns-then-left-gap-clause-within g c = grind (arith, common_steps)
-
 pub returns-then-left-gap-clause-piece : goal.returns-then-left-gap-clause-piece
 returns-then-left-gap-clause-piece g c =
     let a = c.args.piece in
@@ -34,12 +28,6 @@ returns-then-left-gap-clause-piece g c =
     (λ t. at-gap a.pass.al a.from end l.block (omega arith) gap l.left l.index t l.invariant.after (omega arith)
     c.if-left-gap.true (gap-zeros c.args.mask l.index gap l.block (omega arith) l.invariant.marks
     c.zeros_from-gap.ensures.zeros)) l.invariant.walk
-
-pub returns-then-left-gap-clause-mask : goal.returns-then-left-gap-clause-mask
-returns-then-left-gap-clause-mask g c = grind (arith, common_steps, marks-later)
-
-pub returns-then-index-end-clause-within : goal.returns-then-index-end-clause-within
-returns-then-index-end-clause-within g c = grind (arith, common_steps)
 
 pub returns-then-index-end-clause-piece : goal.returns-then-index-end-clause-piece
 returns-then-index-end-clause-piece g c =
@@ -57,9 +45,6 @@ returns-then-index-end-clause-piece g c =
     (λ t. at-last-gap a.pass.al a.from end l.block (omega arith) gap l.left l.index t l.invariant.after (omega arith)
     (omega arith) (gap-zeros c.args.mask l.index gap l.block (omega arith) l.invariant.marks
     c.zeros_from-gap.ensures.zeros)) l.invariant.walk)
-
-pub returns-then-index-end-clause-mask : goal.returns-then-index-end-clause-mask
-returns-then-index-end-clause-mask g c = grind (arith, common_steps, marks-later)
 
 -- at the coefficient after the gap
 pub returns-in_default-clause-piece : goal.returns-in_default-clause-piece
@@ -129,6 +114,3 @@ loop-index-preserved g c =
           (omega (arith, last, before))
           (marks-later c.args.mask l.index (next + 1) l.block (omega arith) l.invariant.marks));
     }
-
-pub returns-clause-piece : goal.returns-clause-piece
-returns-clause-piece g c = grind (arith, common_steps, at-end)

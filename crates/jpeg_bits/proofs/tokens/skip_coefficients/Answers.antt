@@ -8,9 +8,6 @@ returns-then-is_last-clause-run g c = search (rules, skip-to-end)
 pub loop-left-preserved-then-has : goal.loop-left-preserved-then-has
 loop-left-preserved-then-has g c = search (rules, skip-over)
 
-pub returns-in_default-clause-run : goal.returns-in_default-clause-run
-returns-in_default-clause-run g c = search (rules, skip-refused)
-
 pub loop-left-preserved-in-Value : goal.loop-left-preserved-in-Value
 loop-left-preserved-in-Value g c =
     let token = rw c.in-Value.is at c.in-Some.ensures.token in
@@ -28,9 +25,3 @@ returns-in-Rest-clause-run g c =
     rw c.in-Rest.is at (skip-token c.args.table.now c.args.room _ c.args.buffered.now _ _ _ c.args.source.now _
     c.fill.new.source _ c.loop-left.invariant.text c.if-not-fill.ensures.holds c.loop-left-test.true _
     c.in-Some.ensures.token)
-
-pub returns-in-Overlong-clause-run : goal.returns-in-Overlong-clause-run
-returns-in-Overlong-clause-run g c = search (rules, skip-overlong)
-
-pub returns-clause-run : goal.returns-clause-run
-returns-clause-run g c = search (rules, skip-all)

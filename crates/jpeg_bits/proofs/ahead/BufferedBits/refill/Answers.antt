@@ -1,6 +1,5 @@
 use Rattle.std.proofs.Common.{arith}
 use Rattle.jpeg_bits.specs.Entropy.{Ahead}
-use Rattle.jpeg_bits.specs.Refusals.{kept_refusal}
 use Rattle.jpeg_bits.proofs.Texts.{none_from, within_byte, Holds-byte, Holds-end, Holds-refused}
 use Rattle.jpeg_bits.proofs.ahead.BufferedBits.refill.Goals as goal
 

@@ -1,6 +1,5 @@
 use Rattle.std.proofs.Common.{rules, arith, ap, ◌∙◌, sym}
 use Rattle.jpeg_bits.specs.Entropy.{Ahead}
-use Rattle.jpeg_bits.specs.Refusals.{kept_refusal}
 use Rattle.jpeg_bits.proofs.ShortSymbols.{Code-buffered, Code-none, Code-refused}
 use Rattle.jpeg_bits.proofs.ahead.BufferedBits.take_buffered_code.Goals as goal
 
