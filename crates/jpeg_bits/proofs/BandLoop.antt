@@ -56,13 +56,11 @@ module _ (table : Table) (al : ℕ) (whole : Reads Band) (a b d : Ahead) (old cu
 
     -- what a token leaves to read
     step : (k : Token) → Gives (Ok k)
-        → Leaves whole a old (after_front front (after_token al (first_ac table al n) numbers k)) d
-        new
+        → Leaves whole a old (after_front front (after_token al (first_ac table al n) numbers k)) d new
     step k q = grind (arith, first_ac-token)
 
     pub Leaves-value : (r : ℕ) (v : ℤ) → Gives (Ok (Value r v))
-        → Leaves whole a old (after_front (front ++ (take r numbers ++ wrapped (v *ℤ pos (2 ^ al))
-        ∷ []))
+        → Leaves whole a old (after_front (front ++ (take r numbers ++ wrapped (v *ℤ pos (2 ^ al)) ∷ []))
         (first_ac table al n (drop (r + 1) numbers))) d new
     Leaves-value r v q =
         let s = step (Value r v) q in grind (arith, common_steps, nat_tests, joined)

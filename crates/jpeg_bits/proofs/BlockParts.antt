@@ -69,8 +69,7 @@ pub no_indices : (ss se : ℕ) (block : List ℤ) → ss ≤ se → se ≤ 63 �
     → length (zigzag_part (ss - 1 + 1) (se + 1) block) ≡ 0
 no_indices ss se block order end none = omega (
   arith,
-  part-length (ss - 1 + 1) (se + 1) block
-      (omega arith),
+  part-length (ss - 1 + 1) (se + 1) block (omega arith),
 )
 
 pub some_indices : (ss se : ℕ) (block : List ℤ) → ss ≤ se → se ≤ 63 → (se ≡ 0 → ⊥)
@@ -185,7 +184,7 @@ pub block_put : (p : Pass) (block new : List ℤ) (y : ℤ) → length block ≡
     → KeepsOthers p (set block 0 y) new
     → to_block new ≡ record { dc = y; acs = with_band p (to_block block).acs (band_in p new) }
 block_put p block new y n is others =
-    band-put p (set block 0 y) new is others
+    band-put p _ _ is others
     ∙ ap (λ (b : Block). record { dc = b.dc; acs = with_band p b.acs (band_in p new) }) (dc-put block y n)
 
 -- the band is read, after DC

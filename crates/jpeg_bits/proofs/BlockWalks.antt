@@ -53,10 +53,9 @@ module _ (al r from end k index : ℕ) (block : List ℤ) (within : end ≤ 64) 
       → x ≡ get_or block index (pos 0) → y ≡ z → corrected_from al x t ≡ Ok (z, u)
       → walk_at al r from end block k t ≡ walk_at al r from end (set block index y) (k + 1) u
   at-value x y z t u n some read written h =
-      value_step al r (zigzag_part from end block) (k - from) x y z t u inside (λ e. some (sym same ∙ e))
-      (read ∙ sym same) written h
+      value_step _ _ _ _ x _ z _ _ inside (λ e. some (sym same ∙ e)) (read ∙ sym same) written h
       ∙ ap (λ (xs : List ℤ). walk_left al r xs (k - from + 1) u) (sym (ap (λ (i : ℕ). zigzag_part from end
-      (set block i y)) is ∙ part-set from end k block y n after lt within))
+      (set block i y)) is ∙ part-set _ _ _ _ _ n after lt within))
       ∙ ap (λ (i : ℕ). walk_left al r (zigzag_part from end (set block index y)) i u) next
 
   pub at-refused : (x : ℤ) (t : Text) (f : Fault) → (get_or block index (pos 0) ≡ pos 0 → ⊥)

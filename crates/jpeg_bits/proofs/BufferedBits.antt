@@ -130,11 +130,9 @@ pub Takes-end : (u : Unit {0}) (a b : Ahead) (old new : Stream) (met : Option Da
     (marker_at_end met) r
     → Takes (λ (x : Unit {0}). 0) same_text a old (Ok u) b new
     → Answers (λ (m : Option Marker). m) (λ bytes. marker_from (upcoming a bytes)) old r new
-Takes-end u a b old new met (Ok m) h e g p = Takes-marker u a b old new m h (ap marker_at_end e ∙
-    g) p
+Takes-end u a b old new met (Ok m) h e g p = Takes-marker u a b old new m h (ap marker_at_end e ∙ g) p
 Takes-end u a b old new met (Err e) h is g p =
-    Takes-no_marker u a b old new e h (rw is g) (MayFail-same e (marker_at_end b.met) new.failed
-    (rw is g)) p
+    Takes-no_marker u a b old new e h (rw is g) (MayFail-same e (marker_at_end b.met) new.failed (rw is g)) p
 
 -- after a marker zeros come without end
 pub none_buffered : (bits : List Bool) (m : Marker) (bytes : List ℕ) → length bits ≡ 0
@@ -146,8 +144,8 @@ none_buffered bits m bytes e = grind arith
 abbrev pub GivesZero : List Bool → Option DataEnd → List ℕ → Type 0
 GivesZero bits met bytes = bits_from 1 (upcoming_by bits met bytes) ≡ Ok (0, upcoming_by bits met bytes)
 
-pub zero-next : (a b : Ahead) (bytes : List ℕ) → b ≡ a → length b.bits ≡ 0
+pub zero_next : (a b : Ahead) (bytes : List ℕ) → b ≡ a → length b.bits ≡ 0
     → ((bits : List Bool) (bytes : List ℕ) → length bits ≡ 0 → GivesZero bits b.met bytes)
     → bits_from 1 (upcoming a bytes) ≡ Ok (0, upcoming a bytes)
 unfolding upcoming
-zero-next a b bytes e none h = subst (λ (a : Ahead). GivesZero a.bits a.met bytes) e (h b.bits bytes none)
+zero_next a b bytes e none h = subst (λ (a : Ahead). GivesZero a.bits a.met bytes) e (h b.bits bytes none)

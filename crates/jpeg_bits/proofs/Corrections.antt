@@ -1,20 +1,21 @@
 -- A number that isn't 0, and its correction bit.
 use Rattle.std.proofs.Common.{◌≡◌, ℕ, ◌*◌, ◌<◌, ◌≤◌, Bool, false, ℤ, Option, Some, None, Result, Ok}
-use Rattle.std.proofs.Common.{refl, sym, ap, ◌∙◌, arith, w16, FitsSigned}
+use Rattle.std.proofs.Common.{refl, sym, ap, ◌∙◌, arith, w16, FitsSigned, pow_mono}
 use Rattle.std.proofs.lemmas.Bool.{false≢true, lt-ltb, ne_eqb}
 use Rattle.jpeg_bits.specs.Stream.{Stream}
 use Rattle.jpeg_bits.specs.Reading.{Fault, ◌>>=◌, Names, MayFail, Gives}
-use Rattle.jpeg_bits.specs.Refusals.{answer_of, kept_refusal}
+use Rattle.jpeg_bits.specs.Refusals.{answer_of}
 use Rattle.jpeg_bits.specs.Refinement.{is_zero}
 use Rattle.jpeg_bits.specs.Entropy.{Text, Ahead, Takes, bits_from, upcoming}
 use Rattle.jpeg_bits.specs.Pieces.{corrected_from, moved_within, distance_of}
 use Rattle.jpeg_bits.specs.declared.error.Error.{Error}
 use Rattle.jpeg_bits.proofs.Loops.{Names-through}
 use Rattle.jpeg_bits.proofs.PieceWalks.{by_bool}
+use Rattle.jpeg_bits.proofs.SetBits.{unsigned_bit}
 
 -- at most the unit of the highest level
-pub small-distance : (b l p : ℕ) → b < 2 → l < 2 → p ≤ 8192 → b * l * p ≤ 8192
-small-distance b l p h k m = grind arith
+pub small_distance : (b l p : ℕ) → b < 2 → l < 2 → p ≤ 8192 → b * l * p ≤ 8192
+small_distance b l p h k m = grind arith
 
 -- a number that isn't moved
 stays : (z : ℤ) (n : ℕ) → FitsSigned w16 z → n ≡ 0 → moved_within n z ≡ Ok z
@@ -45,10 +46,9 @@ Takes-given {X} {Y} whole read a d old new x outcome (Some y) refusal step p g =
   λ k. let at = p.1 k in (at.0, step _ _ at.1 ∙ ap (given (upcoming d new.bytes)) g),
 )
 Takes-given {X} {Y} whole read a d old new x outcome None refusal step p g = (
-  fails (kept_refusal refusal) outcome old.failed new.failed p.0 g,
+  fails _ outcome _ _ p.0 g,
   λ k known. let at = p.1 k in
-      Names-through (kept_refusal refusal) outcome _ (λ f h. step _ _ at.1 ∙ ap (given (upcoming d
-      new.bytes)) h) g,
+      Names-through _ _ _ (λ f h. step _ _ at.1 ∙ ap (given (upcoming d new.bytes)) h) g,
   λ k known. absurd (false≢true (sym known ∙ (p.1 k).0)),
 )
 
@@ -57,3 +57,5 @@ pub index-kept : (al : ℕ) (z : ℤ) (t : Text) → bits_from 1 t ≡ Ok (0, t)
     Ok (z, t)
 unfolding corrected_from
 index-kept al z t e = by_bool (is_zero z) (λ zero. rw zero refl) (λ some. rw (some, e) refl)
+
+pub ruleset distances = (pow_mono, unsigned_bit, small_distance)

@@ -31,7 +31,7 @@ Takes-map {X} {Y} {Z} f view read a b old new (Ok x) h = (
 )
 Takes-map {X} {Y} {Z} f view read a b old new (Err e) h = (
   h.0,
-  (λ known still. Names-through e (read (upcoming a old.bytes)) (read_on (λ (y : Y). gives (f y))
+  (λ known still. Names-through _ _ (read_on (λ (y : Y). gives (f y))
       (read (upcoming a old.bytes))) (λ g is. ap (read_on (λ (y : Y). gives (f y))) is) (h.1 known still)),
   h.2,
 )
@@ -88,8 +88,7 @@ turn-alone : (p : Pass) (ac : Table) (run : ℕ) (acs : List ℤ) (d : ℤ × �
     gives (record { dc = d.0; acs = with_band p acs b.0 }, d.1, b.1)) (band_part p ac (band_of p acs) run t))
     ≡ dc_turn p ac run acs d t
 turn-alone p ac run acs d t f =
-    turn-measured p acs d (length (band_of p acs)) (band_part p ac (band_of p acs) run t)
-    (run_part ac (length (band_of p acs)) run t) refl (band-measured p ac (band_of p acs) run t f)
+    turn-measured p _ _ _ _ _ refl (band-measured _ _ _ _ _ f)
 
 -- of a block in a first pass DC alone is read by DC alone, and by how many the others are
 pub block-alone : (p : Pass) (dc ac : Table) (predictor : ℤ) (run : ℕ) (b : Block) (t : Text) → p.is_first ≡ true
@@ -103,7 +102,7 @@ block-alone p dc ac predictor run b t f = go (dc_part p dc b.dc predictor t)
         gives (record { dc = d.0; acs = with_band p b.acs x.0 }, d.1, x.1)) (band_part p ac (band_of p b.acs) run u)) o)
         ≡ read_on (dc_turn p ac run b.acs) o
     go (Err e) = refl
-    go (Ok (d, u)) = turn-alone p ac run b.acs d u f
+    go (Ok (d, u)) = turn-alone _ _ _ _ _ _ f
 
 -- ---- the call
 
@@ -120,7 +119,7 @@ module _ (p : Pass) (dc ac : Table) (predictor : ℤ) (run : ℕ) (block : List 
     λ known.
         let at = h.1 known in (
           at.0,
-          block-alone p dc ac predictor run (to_block block) (upcoming a old.bytes) f
+          block-alone _ _ _ _ _ _ _ f
               ∙ ap (read_on (dc_turn p ac run (to_block block).acs)) at.1,
         ),
   )
@@ -172,9 +171,9 @@ pub blocks-alike : (p : Pass) (dc ac : Table) (predictor : ℤ) (run : ℕ) (b c
     → read_on (kept_turn false) (block_from p dc ac predictor run b t)
     ≡ read_on (kept_turn false) (block_from p dc ac predictor run c t)
 blocks-alike p dc ac predictor run b c t f e =
-    block-alone p dc ac predictor run b t f
+    block-alone _ _ _ _ _ _ _ f
     ∙ go (ap (λ (x : Block). x.dc) e) (ap (λ (x : Block). x.acs) e)
-    ∙ sym (block-alone p dc ac predictor run c t f)
+    ∙ sym (block-alone _ _ _ _ _ _ _ f)
   where
     long : (xs : List ℤ) → length (zeros_of xs) ≡ length xs
     long xs = grind (arith, length-map)

@@ -1,4 +1,5 @@
 -- The default tables have codes, and how places are filled.
+use Rattle.std.proofs.lemmas.Result.{err_from_is_err_and}
 use Rattle.std.proofs.Common.{rules, ◌≡◌, ◌≤◌, Bool, ℕ, List, [], ◌∷◌, length, get_or, set, true, Option, inl, inr}
 use Rattle.std.proofs.Common.{refl, arith}
 use Rattle.jpeg_bits.specs.Codes.{Table, HasCodes, RefusesCodes, code_lengths, code_value, codes_exist, lengths_from}
@@ -9,8 +10,8 @@ use Rattle.jpeg_bits.specs.declared.error.Error.TheVariants as errors
 use Rattle.jpeg_bits.proofs.Tables.{tested-exist}
 
 -- where the codes exist, a table is refused for lack of memory alone
-pub only-memory : (e : Error) (lengths : List ℕ) → RefusesCodes e lengths → HasCodes lengths → e ≡ errors.OutOfMemory
-only-memory e lengths refused exist = grind arith
+pub only_memory : (e : Error) (lengths : List ℕ) → RefusesCodes e lengths → HasCodes lengths → e ≡ errors.OutOfMemory
+only_memory e lengths refused exist = grind arith
 
 exists : (counts : List ℕ) → codes_exist (code_lengths counts) ≡ true → HasCodes (code_lengths counts)
 exists counts e = tested-exist (code_lengths counts) e
@@ -38,13 +39,13 @@ unfolding AreBetween
 all-same [] = tt
 all-same (t ∷ ts) = (inl refl, all-same ts)
 
-pub both-filled : (l r : Table) (destinations : List ℕ) (ts : List (Option Table)) (n m : Bool) (d
+pub both_filled : (l r : Table) (destinations : List ℕ) (ts : List (Option Table)) (n m : Bool) (d
     e a b : Option Table)
     → 2 ≤ length ts
     → n ≡ names destinations 0 → m ≡ names destinations 1 → a ≡ filled l n (get_or ts 0 d)
     → b ≡ filled r m (get_or (set ts 0 a) 1 e)
     → set (set ts 0 a) 1 b ≡ with_defaults l r destinations ts
-both-filled l r destinations ts n m d e a b two is_n is_m first second = grind arith
+both_filled l r destinations ts n m d e a b two is_n is_m first second = grind arith
 
 as-it-was : (whole : List (Option Table)) (ts : List (Option Table)) → length whole ≡ length ts → AreBetween ts whole ts
 unfolding AreBetween
@@ -52,20 +53,20 @@ as-it-was [] [] same = tt
 as-it-was (w ∷ whole) (t ∷ ts) same = (inl refl, as-it-was whole ts (omega arith))
 as-it-was whole ts same = absurd (omega arith)
 
-pub first-refused : (l r : Table) (destinations : List ℕ) (ts : List (Option Table)) (d a : Option
+pub first_refused : (l r : Table) (destinations : List ℕ) (ts : List (Option Table)) (d a : Option
     Table) → 2 ≤ length ts
     → a ≡ get_or ts 0 d → AreBetween ts (with_defaults l r destinations ts) (set ts 0 a)
 unfolding AreBetween
-first-refused l r destinations ts d a two first = grind (arith, all-same)
+first_refused l r destinations ts d a two first = grind (arith, all-same)
 
-pub second-refused : (l r : Table) (destinations : List ℕ) (ts : List (Option Table)) (n m : Bool)
+pub second_refused : (l r : Table) (destinations : List ℕ) (ts : List (Option Table)) (n m : Bool)
     (d e a b : Option Table)
     → 2 ≤ length ts
     → n ≡ names destinations 0 → m ≡ names destinations 1 → a ≡ filled l n (get_or ts 0 d) → b ≡
     get_or (set ts 0 a) 1 e
     → AreBetween ts (with_defaults l r destinations ts) (set (set ts 0 a) 1 b)
 unfolding AreBetween
-second-refused l r destinations ts n m d e a b two is_n is_m first second = grind (arith, all-same)
+second_refused l r destinations ts n m d e a b two is_n is_m first second = grind (arith, all-same)
 
 same-length : (l r : Table) (destinations : List ℕ) (ts : List (Option Table)) → length
     (with_defaults l r destinations ts)
@@ -88,5 +89,6 @@ all-done whole ts same = absurd (omega arith)
 
 pub done : (l r : Table) (destinations : List ℕ) (ts : List (Option Table))
     → AreBetween ts (with_defaults l r destinations ts) (with_defaults l r destinations ts)
-done l r destinations ts = all-done (with_defaults l r destinations ts) ts (same-length l r
-    destinations ts)
+done l r destinations ts = all-done (with_defaults l r destinations ts) ts (same-length l r destinations ts)
+
+pub ruleset refusals = (err_from_is_err_and, only_memory, both_filled, first_refused, second_refused)

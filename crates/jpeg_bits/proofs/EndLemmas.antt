@@ -38,8 +38,7 @@ add-placed bytes rest b t step h = record {
         let z : i / 8 ≡ 0 = omega arith in
         get_or_append_left (replicate 8 rest) t.following [] i (omega (
           arith,
-          length-replicate 8
-              rest,
+          length-replicate 8 rest,
         ))
         ∙ get_or-replicate 8 i rest [] low
         ∙ sym (ap (λ (n : ℕ). after_bytes (suc n) bytes) z ∙ step 0)
@@ -47,8 +46,7 @@ add-placed bytes rest b t step h = record {
         let j = i - 8 in
         let e : i ≡ 8 + j = omega arith in
         let d : i / 8 ≡ suc (j / 8) = omega arith in
-        ap (λ (k : ℕ). get_or (replicate 8 rest ++ t.following) k []) e ∙ get_or-after 8 j rest []
-        t.following
+        ap (λ (k : ℕ). get_or (replicate 8 rest ++ t.following) k []) e ∙ get_or-after 8 j rest [] t.following
         ∙ h.each j (omega (arith, length-append (bits_of b) t.bits))
         ∙ sym (ap (λ (n : ℕ). after_bytes (suc n) bytes) d ∙ step (suc (j / 8)))
   ];
@@ -101,8 +99,7 @@ ends-so k bytes = go (cases_lt 56 (length (drop k t.bits)))
     t = text_at bytes
 
     go : (56 < length (drop k (text_at bytes).bits)) ⊎ (length (drop k (text_at bytes).bits) ≤ 56)
-        → marker_by (drop k (drop 56 (text_at bytes).following)) (text_at bytes).ending ≡ end_after
-        k bytes
+        → marker_by (drop k (drop 56 (text_at bytes).following)) (text_at bytes).ending ≡ end_after k bytes
         (drop k (text_at bytes).bits) (text_at bytes).ending
     go (inr few) =
         let t = text_at bytes in

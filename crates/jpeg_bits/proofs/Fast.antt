@@ -1,15 +1,13 @@
 -- A token that is looked up is the token that is defined.
 use Rattle.std.proofs.Common.{◌≡◌, ◌⊎◌, inl, inr, ℕ, ◌+◌, ◌-◌, ◌/◌, ◌%◌, ◌^◌, nat_lt, nat_le, Bool, true, false, List}
-use Rattle.std.proofs.Common.{◌++◌, take, drop, replicate, slice_index, ℤ, pos, Option, Some, None, Result, Ok, Err, refl}
-use Rattle.std.proofs.Common.{sym, ap, ◌∙◌, arith, length-drop}
+use Rattle.std.proofs.Common.{◌++◌, take, drop, replicate, slice_index, ℤ, pos, Option, Some, None, Result, Ok, Err}
+use Rattle.std.proofs.Common.{refl, sym, ap, ◌∙◌, arith, length-drop}
 use Rattle.std.proofs.lemmas.Bool.{le-leb, lt-leb, lt-ltb, cases_lt, false≢true}
 use Rattle.jpeg_bits.specs.Reading.{Fault, ◌>>=◌ as ◌>>r=◌}
 use Rattle.jpeg_bits.specs.Entropy.{Text, Ending, has_bits, bits_from, advance, number_of, extended}
-use Rattle.jpeg_bits.specs.Codes.{Table, code_in, code_lengths, next_16, symbol_from, is_ac, short_token}
-use Rattle.jpeg_bits.specs.Codes.{after_code, short_code_by, short_code_from, short_value}
-use Rattle.jpeg_bits.specs.Codes.{fast_from, code_by}
+use Rattle.jpeg_bits.specs.Codes.{Table, code_in, code_lengths, next_16, symbol_from, is_ac, short_token, after_code}
+use Rattle.jpeg_bits.specs.Codes.{short_code_by, short_code_from, short_value, fast_from, code_by, code_from}
 use Rattle.jpeg_bits.proofs.BufferedBits.{if_buffered}
-use Rattle.jpeg_bits.specs.Codes.{code_from}
 use Rattle.jpeg_bits.specs.Readers.{Reads, ◌>>=◌, gives, read_on, signed_from}
 use Rattle.jpeg_bits.specs.Bands.{difference, token_at, token_from}
 use Rattle.jpeg_bits.specs.Lookups.{value_token, slow_token, fast_or, looked_up}
@@ -117,8 +115,7 @@ symbol_in_code o = read_on (λ (c : ℕ × ℕ). gives c.1) o
 -- a code of another symbol
 at-long : (room n symbol : ℕ) (t : Text) (a : Bool) → nat_lt 0 (symbol % 16) ≡ a
     → (a ≡ true → nat_le (n + symbol % 16) 8 ≡ false) → (o : Result (Unit {0}) Fault)
-    → by_code room (if_buffered (n, symbol) t o) ≡ read_on (λ (c : ℕ). slow_token room (c / 16) (c
-    % 16))
+    → by_code room (if_buffered (n, symbol) t o) ≡ read_on (λ (c : ℕ). slow_token room (c / 16) (c % 16))
     (symbol_in_code (if_buffered (n, symbol) t o))
 at-long room n symbol t a e long o = grind (arith, slow-same)
 
@@ -128,7 +125,7 @@ module _ (table : Table) (room : ℕ) (ac : is_ac table.class ≡ true) (t : Tex
       → (a ≡ true → nat_le (c.1 + slice_index table.symbols c.0 % 16) 8 ≡ false)
       → by_code room (code_by table t (Some c)) ≡ by_look table room (short_code_by table t (Some c))
   at-slow c hs none a ha long =
-      at-long room c.1 (slice_index table.symbols c.0) (advance c.1 t) a ha long (has_bits c.1 t.bits t.ending)
+      at-long _ _ _ _ a ha long _
       ∙ sym (ap (read_on (λ (k : ℕ). slow_token room (k / 16) (k % 16))) hs)
       ∙ sym (ap (λ k. by_look table room (after_code c.1 t k)) none)
 
@@ -138,7 +135,7 @@ module _ (table : Table) (room : ℕ) (ac : is_ac table.class ≡ true) (t : Tex
   at-code c hs true true ha hb =
       let symbol = slice_index table.symbols c.0 in
       let short : short_token table c ≡ Some (symbol / 16, symbol % 16) = rw (ac, ha, hb) refl in
-      at-short table room c.1 symbol t ha hb (has_bits (c.1 + symbol % 16) t.bits t.ending) refl
+      at-short table room c.1 symbol t ha hb _ refl
       ∙ sym (ap (λ k. by_look table room (after_code c.1 t k)) short)
   at-code c hs true false ha hb = at-slow c hs (rw (ac, ha, hb) refl) true ha (λ e. hb)
   at-code c hs false b ha hb = at-slow c hs (rw (ac, ha) refl) false ha (λ e. absurd (false≢true e))

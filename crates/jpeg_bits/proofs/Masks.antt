@@ -24,12 +24,12 @@ use Rattle.jpeg_bits.proofs.Corrections.{index-kept}
 use Rattle.jpeg_bits.proofs.ZigzagParts.{part-get, part-set}
 
 -- each coefficient fits, by what its type says
-pub block-fits : (xs : List ℤ) (us : List Val) → shadow (each ℤ (SInt w16).own_val xs us) → (k : ℕ)
+pub block_fits : (xs : List ℤ) (us : List Val) → shadow (each ℤ (SInt w16).own_val xs us) → (k : ℕ)
     → FitsSigned w16 (get_or xs k (pos 0))
-block-fits [] us p k = record { sfits = lit< tt }
-block-fits (x ∷ xs) [] p k = absurd p
-block-fits (x ∷ xs) (u ∷ us) p zero = record { sfits = p.0.1 }
-block-fits (x ∷ xs) (u ∷ us) p (suc k) = block-fits xs us p.1 k
+block_fits [] us p k = record { sfits = lit< tt }
+block_fits (x ∷ xs) [] p k = absurd p
+block_fits (x ∷ xs) (u ∷ us) p zero = record { sfits = p.0.1 }
+block_fits (x ∷ xs) (u ∷ us) p (suc k) = block_fits xs us p.1 k
 
 -- ---- the zeros before the next bit that is set
 
@@ -44,12 +44,12 @@ set-at : (n : ℕ) → n < 2 ^ 64 → count_trailing_zeros 64 n < 64 → bit_at 
 set-at zero fits lt = absurd (let e = trailing_of_zero 64 in omega (arith, e))
 set-at (suc n) fits lt = (bit_at-trailing_zeros w64 (suc n) (omega arith) fits).1
 
-pub clear-from : (m i k : ℕ) → m / 2 ^ i < 2 ^ 64 → k < count_trailing_zeros 64 (m / 2 ^ i) → bit_at m (i + k) ≡ 0
-clear-from m i k fits lt = sym (shifted m i k) ∙ clear-before (m / 2 ^ i) k fits lt
+pub clear_from : (m i k : ℕ) → m / 2 ^ i < 2 ^ 64 → k < count_trailing_zeros 64 (m / 2 ^ i) → bit_at m (i + k) ≡ 0
+clear_from m i k fits lt = sym (shifted m i k) ∙ clear-before (m / 2 ^ i) k fits lt
 
-pub set-after : (m i : ℕ) → m / 2 ^ i < 2 ^ 64 → count_trailing_zeros 64 (m / 2 ^ i) < 64
+pub set_after : (m i : ℕ) → m / 2 ^ i < 2 ^ 64 → count_trailing_zeros 64 (m / 2 ^ i) < 64
     → bit_at m (i + count_trailing_zeros 64 (m / 2 ^ i)) ≡ 1
-set-after m i fits lt = sym (shifted m i (count_trailing_zeros 64 (m / 2 ^ i))) ∙ set-at (m / 2 ^ i) fits lt
+set_after m i fits lt = sym (shifted m i (count_trailing_zeros 64 (m / 2 ^ i))) ∙ set-at (m / 2 ^ i) fits lt
 
 -- ---- which lanes aren't 0
 
@@ -80,9 +80,9 @@ marked-all (z ∷ zs) f =
     ap (λ (n : ℕ). n ∷ chosen (length zs) (map (λ (x : ℕ). differ x 0) (residues zs))) (marked-is z (f 0))
     ∙ ap (λ (ns : List ℕ). marked z ∷ ns) (marked-all zs (λ k. f (suc k)))
 
-pub marked-lanes : (zs : List ℤ) → length zs ≡ 64 → ((k : ℕ) → FitsSigned w16 (get_or zs k (pos 0)))
+pub marked_lanes : (zs : List ℤ) → length zs ≡ 64 → ((k : ℕ) → FitsSigned w16 (get_or zs k (pos 0)))
     → chosen 64 (map (top 15) (compared 65535 (residues (take 64 zs)))) ≡ map marked zs
-marked-lanes zs n f =
+marked_lanes zs n f =
     ap (λ (ys : List ℤ). chosen 64 (map (top 15) (compared 65535 (residues ys)))) (take_all 64 zs (omega (arith, n)))
     ∙ ap (chosen 64) (tops_compared w16 differ (residues zs) (replicate 64 0)
     ∙ zip2_splat differ (residues zs) 64 0 (length-map zs (cast_unsigned w16) ∙ n))
@@ -175,7 +175,7 @@ pub gap-values : (mask index gap : ℕ) (block : List ℤ) → mask < 2 ^ 64 →
     → coefficient_at i block ≡ pos 0 → ⊥
 gap-values mask index gap block fits within m zeros i after before =
     let e : i ≡ index + (i - index) = omega arith in
-    m.values i after (omega arith) (set-in mask i fits (omega arith) (ap (bit_at (bit_not w64 mask)) e
+    m.values i after (omega arith) (set-in _ _ fits (omega arith) (ap (bit_at (bit_not w64 mask)) e
     ∙ zeros (i - index) (omega arith)))
 
 -- a bit that isn't set begins a gap
@@ -214,8 +214,8 @@ module _ (al from end : ℕ) (block : List ℤ) (within : end ≤ 64) where
       → ((i : ℕ) → k ≤ i → i < k + gap → coefficient_at i block ≡ pos 0)
       → walk_at al r from end block k t ≡ Ok ((k + r + 1 - from, zigzag_part from end block), t)
   at-gap gap r k t after inside few zeros =
-      at-skips r r k t after (omega arith) (omega arith) (λ i later before. zeros i later (omega arith))
-      ∙ at-stop al (r - r) from end (k + r) (get_or zigzag (k + r) 0) block within (omega arith) (omega arith) refl t
+      at-skips _ _ _ _ after (omega arith) (omega arith) (λ i later before. zeros i later (omega arith))
+      ∙ at-stop _ _ _ _ _ _ _ within (omega arith) (omega arith) refl _
       (zeros (k + r) (omega arith) (omega arith)) (omega arith)
 
   -- the band ends with the gap

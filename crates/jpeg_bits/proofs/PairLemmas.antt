@@ -2,18 +2,16 @@
 use Rattle.std.proofs.lemmas.Bool.{false≢true}
 use Rattle.std.proofs.lemmas.Bool.Decides.{nat_tests}
 use Rattle.std.proofs.Common.{◌≡◌, ℕ, ℤ, zero, suc, ◌+◌, ◌-◌, ◌*◌, ◌%◌, ◌^◌, ◌<◌, ◌≤◌, nat_lt, ◌==◌, ◌||◌, Bool, true}
-use Rattle.std.proofs.Common.{false, List, [], ◌∷◌, ◌++◌, length, drop, replicate, get_or, set, pos, ◌*ℤ◌, Option, Some, None}
-use Rattle.std.proofs.Common.{if◌then◌else◌, Ok, refl, sym, ap, ◌∙◌, subst, arith, length-set, is_ok}
+use Rattle.std.proofs.Common.{false, List, [], ◌∷◌, ◌++◌, length, drop, replicate, get_or, set, pos, ◌*ℤ◌, Option}
+use Rattle.std.proofs.Common.{Some, None, if◌then◌else◌, Ok, refl, sym, ap, ◌∙◌, subst, arith, length-set, is_ok}
 use Rattle.jpeg_bits.specs.Entropy.{Ahead, Takes, upcoming, IsFilled, has_buffered, same_text}
 use Rattle.jpeg_bits.specs.Stream.{Stream}
 use Rattle.jpeg_bits.specs.Codes.{Table}
-use Rattle.jpeg_bits.specs.ShortCodes.{symbol_in, short_value_by, short_value_of, next_bits, packed}
-use Rattle.jpeg_bits.specs.ShortCodes.{HoldsWideValues}
-use Rattle.jpeg_bits.specs.Pairs.{ShortValue, no_pair, one_value, two_values, pair_by, value_in, pair_of}
-use Rattle.jpeg_bits.specs.Pairs.{IsPairOf, IsWithinPassed}
+use Rattle.jpeg_bits.specs.ShortCodes.{symbol_in, short_value_by, short_value_of, next_bits, packed, HoldsWideValues}
+use Rattle.jpeg_bits.specs.Pairs.{ShortValue, no_pair, one_value, two_values, pair_by, value_in, pair_of, IsPairOf}
+use Rattle.jpeg_bits.specs.Pairs.{IsWithinPassed}
 use Rattle.jpeg_bits.specs.Written.{low_bits}
-use Rattle.jpeg_bits.specs.Readers.{Reads}
-use Rattle.jpeg_bits.specs.Bands.{Band, wrapped, token_from}
+use Rattle.jpeg_bits.specs.Bands.{wrapped, token_from}
 use Rattle.jpeg_bits.specs.Passes.{Pass}
 use Rattle.jpeg_bits.specs.Zigzag.{zigzag}
 use Rattle.jpeg_bits.specs.BlockView.{IsPass}
@@ -25,7 +23,7 @@ use Rattle.jpeg_bits.specs.declared.tokens.Token.TheVariants.{Value}
 use Rattle.jpeg_bits.proofs.BlockLoop.{IsAtIndex, index-value}
 use Rattle.jpeg_bits.proofs.BufferedBits.{ok_unit}
 use Rattle.jpeg_bits.proofs.ShortLemmas.{fewer-buffered}
-use Rattle.jpeg_bits.proofs.SkipLemmas.{bits-after}
+use Rattle.jpeg_bits.proofs.SkipLemmas.{bits_after}
 use Rattle.jpeg_bits.proofs.WideTokens.{value-buffered, wide-taken}
 
 -- ---- the look-up table
@@ -39,7 +37,7 @@ unfolding pair_of
 pair-at table values b j holds size lt few is =
     let v = get_or values b (packed None) in
     let next = holds j (omega arith)
-    ∙ ap (value_in table) (bits-after 11 11 v.2 v.2 b j few refl is) in
+    ∙ ap (value_in table) (bits_after _ _ _ _ _ _ few refl is) in
     ap (pair_by v) next
     ∙ ap (λ (v : ShortValue). pair_by v (value_in table (drop v.2 (low_bits 11 b) ++ replicate v.2 false)))
     (holds b (omega arith))
@@ -73,7 +71,7 @@ unfolding pair_of pair_by
 pair-small table bits p is =
     let v = value_in table bits in
     let w = value_in table (drop v.2 bits ++ replicate v.2 false) in
-    subst IsWithinPassed (sym is) (small-by (v.2 == 0) ((w.2 == 0) || nat_lt 11 (v.2 + w.2)) v w
+    subst IsWithinPassed (sym is) (small-by _ ((w.2 == 0) || nat_lt 11 (v.2 + w.2)) _ _
     (few-in table.class bits (symbol_in table (bits ++ replicate 5 false))) (few-both v.2 w.2))
 
 -- what is found: one value, or two
@@ -110,7 +108,7 @@ module _ (table : Table) (bits : List Bool) where
           → Seen table bits (entry_by o)
       go None e some = absurd (omega (arith, some))
       go (Some (v, r, n)) e some =
-          seen-by v r n e (short_value_of 11 table (drop n bits ++ replicate n false)) refl (n == 0) _ refl some
+          seen-by _ _ _ e _ refl (n == 0) _ refl some
 
 -- ---- how they are read
 
@@ -132,8 +130,7 @@ module _ (table : Table) (counted : length table.counts ≡ 16) (d : Ahead) (fil
     refl,
     λ known. (
       known,
-      wide-taken table room d e mid.bytes v r n counted filled is within enough bits
-          met,
+      wide-taken _ _ _ _ _ _ _ n counted filled is within enough bits met,
     ),
   )
 
@@ -149,21 +146,21 @@ module _ (table : Table) (counted : length table.counts ≡ 16) (d : Ahead) (fil
     refl,
     λ known. (
       known,
-      rw (bits, met) (value-buffered table room d.bits d.met mid.bytes n (replicate n false) w q m counted filled few
+      rw (bits, met) (value-buffered _ _ d.bits d.met mid.bytes n (replicate n false) _ _ m counted filled few
           enough within is),
     ),
   )
 
   -- The values of a pair are written, and its bits are taken.
-  module _ (p : Pass) (whole : Reads Band) (a b : Ahead) (old cur : Stream) (block : List ℤ) (at end : ℕ)
+  module _ (p : Pass) (first : List ℤ) (a b : Ahead) (old cur : Stream) (block : List ℤ) (at end : ℕ)
       (pass : IsPass p) (last : end ≡ band_end p) (from : band_start p ≤ at) (long : length block ≡ 64)
-      (before : IsAtIndex table p whole a old block at b cur)
+      (before : IsAtIndex table p first a old block at b cur)
       (buffered : Takes (λ (u : Unit {0}). 0) same_text b cur (Ok tt) d mid) where
     pub index-pair : (pair : Pair) → Seen table (next_bits 11 d.bits) pair → at + pair.passed ≤ end
         → true ≡ is_ok (has_buffered pair.bits d.bits d.met) → (e : Ahead) → e.bits ≡ drop
         pair.bits d.bits → e.met ≡ d.met
         → (x y : ℤ) → x ≡ wrapped (pair.first *ℤ pos (2 ^ p.al)) → y ≡ wrapped (pair.second *ℤ pos (2 ^ p.al))
-        → IsAtIndex table p whole a old (set (set block (get_or zigzag (at + pair.run) 0) x)
+        → IsAtIndex table p first a old (set (set block (get_or zigzag (at + pair.run) 0) x)
         (get_or zigzag (at + pair.next) 0) y) (at + pair.passed) e mid
     index-pair _ (One v r n is) room ok e bits met x y value same =
         let again : y ≡ x = same ∙ sym value in
@@ -171,10 +168,10 @@ module _ (table : Table) (counted : length table.counts ≡ 16) (d : Ahead) (fil
         let i = get_or zigzag (at + r) 0 in
         let written : set (set block i x) i y ≡ set block i x
         = ap (set (set block i x) i) again ∙ set-twice block i x in
-        rw (written, next) (index-value table p whole a b d e old cur mid mid block at end pass
+        rw (written, next) (index-value table p first a b d e old cur mid mid block at end pass
         last from (omega arith)
-        before buffered r v x long (omega arith) value (Takes-first (end - at) v r n e is (ok_unit _ (sym ok))
-        (omega arith) bits met))
+        before buffered (Value r v) r v x long (omega arith) value (Takes-first (end - at) v r n e is (ok_unit _ (sym ok))
+        (omega arith) bits met) refl)
     index-pair _ (Two v r n w q m few is then-is) room ok e bits met x y value other =
         let enough = ok_unit _ (sym ok) in
         let c : Ahead = record { bits = drop n d.bits; met = d.met } in
@@ -182,11 +179,10 @@ module _ (table : Table) (counted : length table.counts ≡ 16) (d : Ahead) (fil
         let at' = at + r + 1 in
         let index : at + (r + 1 + q) ≡ at' + q = omega arith in
         let next : at + (r + q + 2) ≡ at' + q + 1 = omega arith in
-        let one = index-value table p whole a b d c old cur mid mid block at end pass last from
+        let one = index-value table p first a b d c old cur mid mid block at end pass last from
         (omega arith) before
-        buffered r v x long (omega arith) value (Takes-first (end - at) v r n c is
-        (fewer-buffered n (n + m) d.bits d.met (omega arith) enough) (omega arith) refl refl) in
-        rw (index, next) (index-value table p whole a c c e old mid mid mid (set block i x) at' end
-        pass last
-        (omega arith) (omega arith) one (refl, λ known. (known, refl)) q w y (length-set block i x ∙ long) (omega arith)
-        other (Takes-second (end - at') n w q m e few then-is enough (omega arith) bits met))
+        buffered (Value r v) r v x long (omega arith) value (Takes-first (end - at) v r n c is
+        (fewer-buffered n (n + m) d.bits d.met (omega arith) enough) (omega arith) refl refl) refl in
+        rw (index, next) (index-value table p first a c c e old mid mid mid (set block i x) at' end pass last
+        (omega arith) (omega arith) one (refl, λ known. (known, refl)) (Value q w) q w y (length-set block i x ∙ long)
+        (omega arith) other (Takes-second (end - at') n w q m e few then-is enough (omega arith) bits met) refl)

@@ -75,12 +75,9 @@ pub piece_walk : (al r : ℕ) (rest : List ℤ) (t : Text) → piece_of al (thro
 unfolding walk_from through_zero
 piece_walk al r [] t = piece_zero al [] t
 piece_walk al r (z ∷ numbers) t =
-    by_bool (is_zero z) (λ e. by_bool (r == 0)
-    (λ n. rw (e, n, through_zero, walk_from) (walk_ends al z numbers t e))
-    (λ n. rw (e, n, through_zero, walk_from) (walk_over al (through_zero (r - 1) numbers) z numbers t
-    (walk_from al (r - 1) numbers t) e (piece_walk al (r - 1) numbers t))))
-    (λ e. rw (e, through_zero, walk_from) (walk_value_at al (through_zero r numbers) z numbers t
-    (walk_from al r numbers) (λ t. piece_walk al r numbers t)))
+    by_bool (is_zero z) (λ e. by_bool (r == 0) (λ n. rw (e, n, through_zero, walk_from) (walk_ends _ _ _ _ e))
+    (λ n. rw (e, n, through_zero, walk_from) (walk_over _ _ _ _ _ _ e (piece_walk al (r - 1) numbers t))))
+    (λ e. rw (e, through_zero, walk_from) (walk_value_at _ _ _ _ _ _ (λ t. piece_walk al r numbers t)))
 
 abbrev pub after : ℕ → List ℤ → (ℕ × List ℤ) × Text → Walk
 after i front w = Ok ((i + w.0.0, front ++ w.0.1), w.1)
@@ -151,18 +148,16 @@ pub walk_value : (al r : ℕ) (cur : List ℤ) (i : ℕ) (t : Text) → i < leng
 unfolding walk_left
 walk_value al r cur i t h e =
     let z = get_or cur i (pos 0) in
-    ap (λ (ys : List ℤ). walk_from al r ys t >>= λ w. after i (take i cur) w) (from_here cur i z h refl)
-    ∙ ap (λ o. o >>= λ w. after i (take i cur) w) (walk_nonzero al r z (drop (i + 1) cur) t (not_zero z e))
+    ap (λ (ys : List ℤ). walk_from al r ys t >>= λ w. after i (take i cur) w) (from_here cur i _ h refl)
+    ∙ ap (λ o. o >>= λ w. after i (take i cur) w) (walk_nonzero _ _ _ _ _ (not_zero z e))
     ∙ bind_bind (corrected_from al z t) (λ (f : ℤ × Text). one_more f.0 (walk_from al r (drop (i +
-    1) cur) f.1)) i
-    (take i cur)
+    1) cur) f.1)) i (take i cur)
     ∙ bind_same (corrected_from al z t) _ _ (grind (arith, more_left, take_more_set, drop-set-lt))
 
 -- a step at a place that isn't zero, which is read as y
 pub value_step : (al r : ℕ) (cur : List ℤ) (i : ℕ) (x y z : ℤ) (t u : Text) → i < length cur
     → (get_or cur i (pos 0) ≡ pos 0 → ⊥) → x ≡ get_or cur i (pos 0) → y ≡ z
-    → corrected_from al x t ≡ Ok (z, u) → walk_left al r cur i t ≡ walk_left al r (set cur i y) (i
-    + 1) u
+    → corrected_from al x t ≡ Ok (z, u) → walk_left al r cur i t ≡ walk_left al r (set cur i y) (i + 1) u
 value_step al r cur i x y z t u h e p q o = grind (arith, walk_value)
 
 pub value_refused : (al r : ℕ) (cur : List ℤ) (i : ℕ) (x : ℤ) (t : Text) (f : Fault) → i < length cur

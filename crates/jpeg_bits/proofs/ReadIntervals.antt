@@ -61,7 +61,6 @@ pub intervals-hold : {A B : Type 0} (Q : A → Type 0) (P : B → Type 0) (read 
     (bytes : List ℕ) → Q now → AllByRecursion Q more
     → Holds (λ (s : List B × Option _). AllByRecursion P s.0) (intervals read k now more bytes)
 unfolding interval intervals
-intervals-hold Q P read holds k now [] bytes h all =
-    search (rules, holds)
+intervals-hold Q P read holds k now [] bytes h all = search (rules, holds)
 intervals-hold Q P read holds k now (next ∷ more) bytes h all =
     search (rules, all-append, holds, intervals-hold Q P read holds (suc k) next more)

@@ -1,9 +1,9 @@
 -- Bands of a refinement: what is left after some places.
-use Rattle.std.proofs.Common.{is_ok, ◌≡◌, ℕ, zero, suc, ◌+◌, ◌-◌, ◌<◌, ◌≤◌, List, [], ◌∷◌, ◌++◌, length, take, drop}
-use Rattle.std.proofs.Common.{set, ℤ, Result, Ok, Err, refl, sym, ap, ◌∙◌, arith, append_assoc, length-drop}
-use Rattle.std.proofs.Common.{length-take, length-append, length-set, le_refl}
-use Rattle.std.proofs.lemmas.List.{drop_all, take_all, append-nil, take-append-le, drop-append-le, length-take-le}
-use Rattle.std.proofs.lemmas.List.{set-append_left, set-append_right}
+use Rattle.std.proofs.Common.{is_ok, ◌≡◌, ℕ, zero, suc, ◌+◌, ◌-◌, ◌<◌, ◌≤◌, List, [], ◌∷◌, ◌++◌, length}
+use Rattle.std.proofs.Common.{take, drop, set, ℤ, Result, Ok, Err, refl, sym, ap, ◌∙◌, arith}
+use Rattle.std.proofs.Common.{append_assoc, length-drop, length-take, length-append, length-set, le_refl}
+use Rattle.std.proofs.lemmas.List.{drop_all, take_all, append-nil, take-append-le, drop-append-le}
+use Rattle.std.proofs.lemmas.List.{length-take-le, set-append_left, set-append_right}
 use Rattle.std.proofs.lemmas.Bool.{false≢true}
 use Rattle.jpeg_bits.specs.Reading.{Fault, ◌>>=◌}
 use Rattle.jpeg_bits.specs.Entropy.{Text}
@@ -11,9 +11,8 @@ use Rattle.jpeg_bits.specs.Codes.{Table}
 use Rattle.jpeg_bits.specs.declared.refinement.Refinement.{Refinement}
 use Rattle.jpeg_bits.specs.declared.refinement.Refinement.TheVariants.{Zeros, New, End}
 use Rattle.jpeg_bits.specs.Bands.{Band}
-use Rattle.jpeg_bits.specs.Pieces.{ReadsBand, before, corrected_from, refinement_from}
-use Rattle.jpeg_bits.specs.Pieces.{refined_piece_at, refined_ac_at}
-use Rattle.jpeg_bits.specs.Pieces.{refined_band_from, piece_from}
+use Rattle.jpeg_bits.specs.Pieces.{ReadsBand, before, corrected_from, refinement_from, refined_piece_at}
+use Rattle.jpeg_bits.specs.Pieces.{refined_ac_at, refined_band_from, piece_from}
 use Rattle.jpeg_bits.specs.Readers.{each, gives, read_on}
 use Rattle.jpeg_bits.specs.Refinement.{corrected, through_zero, with_last}
 use Rattle.jpeg_bits.proofs.BandSteps.{bind_same, before-before}
@@ -66,8 +65,7 @@ refined-fuel table al (suc n) (suc m) (x ∷ rest) t h k =
 -- a band is its first piece and then a band
 band-step : (table : Table) (al : ℕ) (rest : List ℤ) (t : Text) → 0 < length rest
     → refined_band_from table al rest t ≡ (refinement_from table al t >>= λ (k : Refinement ×
-    Text). refined_piece_at al
-    (refined_band_from table al) rest k.0 k.1)
+    Text). refined_piece_at al (refined_band_from table al) rest k.0 k.1)
 unfolding refined_band_from refined_ac_at
 band-step table al rest t h = grind (arith, bind_same, piece-same, length-drop, refined-fuel, le_refl)
 
@@ -78,8 +76,7 @@ refined_left table al band i t = before (take i band) (refined_band_from table a
 -- what a token at place i makes of the band
 unfoldable pub refined_step : Table → ℕ → List ℤ → ℕ → Refinement → Text → Result (Band × Text) Fault
 refined_step table al band i k t = before (take i band) (refined_piece_at al (refined_band_from
-    table al) (drop i band) k
-    t)
+    table al) (drop i band) k t)
 
 bind_before : (a : List ℤ) (r : Result (Refinement × Text) Fault) (f : Refinement × Text → Result (Band × Text) Fault)
     → before a (r >>= f) ≡ (r >>= λ (k : Refinement × Text). before a (f k))
@@ -127,9 +124,6 @@ ok_of d (Err e) = d
 
 abbrev pieced : ℕ → List ℤ → List ℤ × Text → Walk
 pieced n rest front = Ok ((n, front.0 ++ drop n rest), front.1)
-
-abbrev ended : ℕ → List ℤ × Text → Result (Band × Text) Fault
-ended run all = Ok ((all.0, run), all.1)
 
 length_short : (n : ℕ) (xs : List ℤ) → n ≤ length xs → length (take n xs) ≡ n
 length_short n xs h = length-take-le n xs h

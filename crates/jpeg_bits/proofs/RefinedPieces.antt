@@ -1,15 +1,13 @@
 -- A refinement of a band by its tokens is the one of the definition.
-use Rattle.std.proofs.Common.{◌≡◌, ℕ, zero, suc, ◌-◌, ◌/◌, ◌%◌, List}
-use Rattle.std.proofs.Common.{[], ◌∷◌, drop, ℤ, Result, Ok, Err, refl, arith}
+use Rattle.std.proofs.Common.{◌≡◌, ℕ, zero, suc, ◌/◌, ◌%◌, List, [], ◌∷◌, drop, ℤ, Result, Ok, Err, refl, arith}
 use Rattle.jpeg_bits.specs.Reading.{Fault, ◌>>=◌}
 use Rattle.jpeg_bits.specs.Entropy.{Text}
-use Rattle.jpeg_bits.specs.Codes.{Table, symbol_from}
+use Rattle.jpeg_bits.specs.Codes.{Table}
 use Rattle.jpeg_bits.specs.Readers.{Reads, read_on, gives}
 use Rattle.jpeg_bits.specs.Bands.{Band, before_more}
-use Rattle.jpeg_bits.specs.Refinement as defined
-use Rattle.jpeg_bits.specs.Pieces.{before, run_from, refinement_by, refinement_from}
-use Rattle.jpeg_bits.specs.Pieces.{refined_piece_at, refined_ac_at}
+use Rattle.jpeg_bits.specs.Pieces.{before, run_from, refinement_by, refinement_from, refined_piece_at, refined_ac_at}
 use Rattle.jpeg_bits.specs.declared.refinement.Refinement.{Refinement}
+use Rattle.jpeg_bits.specs.Refinement as defined
 
 before-same : (front : List ℤ) (o : Result (Band × Text) Fault)
     → before front o ≡ read_on (λ (more : Band). gives (before_more front more)) o
@@ -47,5 +45,4 @@ unfolding refined_ac_at defined.refined_ac refinement_from
 refined-same table al n [] t = refl
 refined-same table al zero (x ∷ rest) t = refl
 refined-same table al (suc n) (x ∷ rest) t =
-    token-on al (refined_ac_at table al n) (defined.refined_ac table al n) (x ∷ rest) (symbol_from table t)
-    (refined-same table al n)
+    token-on _ _ _ (x ∷ rest) _ (refined-same table al n)

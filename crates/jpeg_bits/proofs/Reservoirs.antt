@@ -13,7 +13,7 @@ use Rattle.std.proofs.lemmas.Bool.{cases_lt}
 use Rattle.jpeg_bits.specs.Written.{low_bits}
 use Rattle.jpeg_bits.specs.Entropy.{bits_of, number_of}
 use Rattle.jpeg_bits.specs.Reservoir.{buffered_bits, HasZerosAfter}
-use Rattle.jpeg_bits.proofs.WrittenBits.{number_of-low_bits, length-low_bits}
+use Rattle.jpeg_bits.proofs.WrittenBits.{number_of-low_bits, length_low_bits}
 
 -- bits above the low ones do not count
 pub low_bits-high : (n a y : ℕ) → low_bits n (a * 2 ^ n + y) ≡ low_bits n y
@@ -37,10 +37,10 @@ low_bits-split n m x = ap (low_bits (n + m)) (sym (div-add-mod' x (2 ^ m)))
     ∙ low_bits-append n m (x / 2 ^ m) (x % 2 ^ m) (mod-lt x (pow_pos m))
 
 pub low_bits-take : (n m x : ℕ) → take n (low_bits (n + m) x) ≡ low_bits n (x / 2 ^ m)
-low_bits-take n m x = grind (arith, length-low_bits, low_bits-split, take-append-le, take_all)
+low_bits-take n m x = grind (arith, length_low_bits, low_bits-split, take-append-le, take_all)
 
 pub low_bits-drop : (n m x : ℕ) → drop n (low_bits (n + m) x) ≡ low_bits m (x % 2 ^ m)
-low_bits-drop n m x = grind (arith, low_bits-split, drop_at, length-low_bits)
+low_bits-drop n m x = grind (arith, low_bits-split, drop_at, length_low_bits)
 
 pub low_bits-zeros : (n : ℕ) → low_bits n 0 ≡ replicate n false
 unfolding low_bits
@@ -64,9 +64,9 @@ whole_word word count h z =
 pub front_bits : (word count n : ℕ) → count ≤ 64 → n ≤ 64 → HasZerosAfter word count
     → take n (buffered_bits word count ++ replicate n false) ≡ low_bits n (word / 2 ^ (64 - n))
 front_bits word count n h g z =
-    let l = length-low_bits count (word / 2 ^ (64 - count)) in
+    let l = length_low_bits count (word / 2 ^ (64 - count)) in
     let e : 64 ≡ n + (64 - n) = omega arith in
-    same_zeros (buffered_bits word count) n n (64 - count) (omega (arith, l)) (omega (arith, l))
+    same_zeros _ _ _ _ (omega (arith, l)) (omega (arith, l))
     ∙ ap (take n) (sym (whole_word word count h z) ∙ ap (λ (k : ℕ). low_bits k word) e)
     ∙ low_bits-take n (64 - n) word
 
@@ -97,8 +97,7 @@ module _ (word count byte : ℕ) (few : count ≤ 56) (z : HasZerosAfter word co
   byte_zeros = grind (arith, with_byte, mul-mod_left)
 
   pub byte_buffered : byte < 256 → buffered_bits (word + byte * 2 ^ (56 - count)) (count + 8) ≡
-      buffered_bits word count ++ bits_of
-      byte
+      buffered_bits word count ++ bits_of byte
   byte_buffered small = grind (arith, with_byte, shl-shr, low_bits-append, byte_bits)
 
   pub byte_fits : word < 2 ^ 64 → byte < 256 → word + byte * 2 ^ (56 - count) < 2 ^ 64
@@ -159,7 +158,7 @@ module _ (word count n : ℕ) (few : count ≤ 64) (z : HasZerosAfter word count
             ap (λ (v : ℕ). low_bits m (v / 2 ^ (64 - m))) (shifted le) ∙ ap (low_bits m) (shl-shr (q % 2 ^ m) (64 - m))
             ∙ sym (ap (λ (i : ℕ). drop n (low_bits i q)) e ∙ low_bits-drop n m q)
         | inl lt ↦
-            grind (arith, drop_all, length-low_bits)
+            grind (arith, drop_all, length_low_bits)
       ]
 
 pub none_buffered : (word : ℕ) → buffered_bits word 0 ≡ []
@@ -182,3 +181,5 @@ pub prefix_number : (bits l : ℕ) → bits < 2 ^ 16 → l < 16
 prefix_number bits l h lt =
     let e : 16 ≡ l + 1 + (15 - l) = omega arith in
     let p : 2 ^ 16 ≡ 2 ^ (l + 1 + (15 - l)) = ap (λ (k : ℕ). 2 ^ k) e in grind (arith, common_steps, nat_tests, low_bits-take, number_of-low_bits, front_small)
+
+pub ruleset rests = (word_fits, rest_zeros, rest_buffered)

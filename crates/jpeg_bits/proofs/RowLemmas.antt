@@ -19,8 +19,7 @@ pub value-more : (counts : List ℕ) (i : ℕ) → i < length counts → value_a
 value-more counts i lt = fold_more (λ (v c : ℕ). 2 * v + c) 0 counts i 0 lt
 
 pub index-more : (counts : List ℕ) (i : ℕ) → i < length counts → sum (take (i + 1) counts) ≡ sum
-    (take i counts)
-    + get_or counts i 0
+    (take i counts) + get_or counts i 0
 index-more counts i lt = sum_by_more (λ (x : ℕ). x) counts i 0 lt
 
 pub tried-at : (counts : List ℕ) (i : ℕ) → i ≤ length counts
@@ -29,8 +28,7 @@ tried-at counts zero h = Tried-none counts
 tried-at counts (suc i) h =
     let lens = code_lengths counts in
     let lt : i < length counts = omega arith in
-    let t = Tried-more lens counts i (sum (take i counts)) (value_after counts i) lt
-    (tried-at counts i (omega arith)) in
+    let t = Tried-more _ _ _ _ _ lt (tried-at counts i (omega arith)) in
     subst (λ (k : ℕ). Tried lens counts k (sum (take k counts)) (value_after counts k)) (add-one i)
     (grind (arith, index-more, value-more))
 
@@ -67,22 +65,19 @@ module _ (counts : List ℕ) (rows : List Row) (bits i : ℕ) (counted : length 
   index_within h =
       let e = ap (λ (r : Row). r.first) (holds i lt) in
       let p = ap (λ (r : Row). r.index) (holds i lt) in
-      let w = zigzag_within (code_lengths counts) counts i (sum (take i counts)) (value_after
-      counts i) within
-      (tried-at counts i (omega arith)) (bits / 2 ^ (15 - i) - 2 * value_after counts i) (few_below h) in
+      let w = zigzag_within _ _ _ _ (value_after counts i) within
+      (tried-at counts i (omega arith)) _ (few_below h) in
       omega (arith, e, p, w)
 
   pub row_found : bits / 2 ^ (15 - i) < (get_or rows i no_row).end → NoneYet counts bits i
       → code_in (code_lengths counts) (low_bits 16 bits) ≡ Some (
-        (get_or rows i no_row).index
-            + (bits / 2 ^ (15 - i) - (get_or rows i no_row).first),
+        (get_or rows i no_row).index + (bits / 2 ^ (15 - i) - (get_or rows i no_row).first),
         i + 1,
       )
   row_found h none =
       let e = ap (λ (r : Row). r.first) (holds i lt) in
       let f = first_le in
-      code_found (code_lengths counts) counts i (sum (take i counts)) (value_after counts i) within
-      (tried-at counts i (omega arith)) (low_bits 16 bits) (bits / 2 ^ (15 - i)) (prefix_number bits i fits lt)
+      code_found _ _ _ _ _ within (tried-at counts i (omega arith)) _ _ (prefix_number bits i fits lt)
       (omega (arith, e, f)) (few_below h) none
       ∙ ap (λ (r : Row). Some (r.index + (bits / 2 ^ (15 - i) - r.first), i + 1)) (sym (holds i lt))
 
@@ -92,8 +87,7 @@ module _ (counts : List ℕ) (rows : List Row) (bits i : ℕ) (counted : length 
       let e = ap (λ (r : Row). r.end) (holds i lt) in
       let v = value-more counts i within in
       subst (NoneBefore (code_lengths counts) (low_bits 16 bits)) (sym (index-more counts i within))
-      (code_missed (code_lengths counts) counts i (sum (take i counts)) (value_after counts i) within
-      (tried-at counts i (omega arith)) (low_bits 16 bits) (bits / 2 ^ (15 - i)) (prefix_number bits i fits lt)
+      (code_missed _ _ _ _ _ within (tried-at counts i (omega arith)) _ _ (prefix_number bits i fits lt)
       (λ g. omega (arith, e, v, h)) none)
 
   pub above_more : (get_or rows i no_row).end ≤ bits / 2 ^ (15 - i)
@@ -125,8 +119,7 @@ none_found counts bits i counted h g none = code_none (code_lengths counts) coun
 
 pub same_row : (a b c d e f : ℕ) → a ≡ d → b ≡ e → c ≡ f → ◌≡◌ {A = Row} (record {
   end = a;
-  first =
-      b;
+  first = b;
   index = c;
 })
     (record { end = d; first = e; index = f })

@@ -1,5 +1,70 @@
--- Lemmas that answers share.
+-- Lemmas that the proofs of functions use, by what they are about.
+use Rattle.std.proofs.Common.{div-le_self, pow_mono}
+use Rattle.std.proofs.lemmas.Grind.{common_steps}
+use Rattle.std.proofs.lemmas.Result.{err_from_is_err_and}
+use Rattle.std.proofs.lemmas.List.{get_or_default}
+use Rattle.jpeg_bits.proofs.BlockWalks.{at-start, at-end}
+use Rattle.jpeg_bits.proofs.CodeLemmas.{length-lengths_from}
+use Rattle.jpeg_bits.proofs.Filled.{skip-refused as bytes-refused, skip-goes, skip-none, filled-err, filled-room, filled-all}
+use Rattle.jpeg_bits.proofs.Masks.{clear_from, set_after, marks-later, gap-some}
+use Rattle.jpeg_bits.proofs.Reservoirs.{front_number, front_below}
+use Rattle.jpeg_bits.proofs.RowLemmas.{first_le, index_within, row_found, row_missed, above_more, none_found}
+use Rattle.jpeg_bits.proofs.SkipLoop.{skip-refused, skip-overlong, skip-all}
+use Rattle.jpeg_bits.proofs.ZigzagParts.{kept-same}
 use Rattle.jpeg_bits.proofs.BufferedBits.{filled-less, filled-long}
+use Rattle.std.proofs.lemmas.Int.{wraps}
+use Rattle.jpeg_bits.proofs.ShortRuns.{run-most, run-same}
+use Rattle.jpeg_bits.proofs.Tables.{exist-tested, tested-exist, good-table, takes-symbol}
+use Rattle.jpeg_bits.proofs.MarkerLemmas.{is-found, only-found, none-found, none-there}
+use Rattle.jpeg_bits.proofs.Sources.{rests_trans, rests_keeps, reads_some, reads_after}
+use Rattle.jpeg_bits.proofs.DefaultTables.{luminance-dc-codes, chrominance-dc-codes, luminance-ac-codes, chrominance-ac-codes, untouched, done}
+use Rattle.jpeg_bits.proofs.ShortSymbols.{fast-not, fast-refused, fast-taken}
+use Rattle.jpeg_bits.proofs.ShortLemmas.{value_below, value_number}
 
 -- when enough bits are held
 pub ruleset filled = (filled-less, filled-long)
+
+-- `read_exact`
+pub ruleset exact = (err_from_is_err_and, filled-err, filled-room, filled-all)
+
+-- `skip_by`
+pub ruleset passed = (common_steps, err_from_is_err_and, bytes-refused, skip-goes, skip-none)
+
+-- a code that is longer than 8 bits, in the rows of codes
+pub ruleset rows = (first_le, index_within, row_found, row_missed, above_more, none_found, get_or_default)
+
+-- zeros of a mask
+pub ruleset gaps = (div-le_self, clear_from, set_after)
+
+-- a piece of a band that is walked by its mask
+pub ruleset pieces = (at-start, at-end, kept-same, marks-later, gap-some)
+
+-- a band that is passed over
+pub ruleset runs = (skip-refused, skip-overlong, skip-all)
+
+-- codes as they are built
+pub ruleset lengths = (length-lengths_from)
+
+-- the front of a reservoir
+pub ruleset fronts = (front_number, front_below, pow_mono)
+
+-- a run of codes
+pub ruleset ends = (run-most, run-same)
+
+-- the laws of codes
+pub ruleset codes = (exist-tested, tested-exist, good-table, takes-symbol)
+
+-- the laws of markers
+pub ruleset markers = (is-found, only-found, none-found, none-there)
+
+-- what a read leaves
+pub ruleset rests = (rests_trans, rests_keeps, reads_after, reads_some)
+
+-- the default tables
+pub ruleset defaults = (luminance-dc-codes, chrominance-dc-codes, luminance-ac-codes, chrominance-ac-codes, untouched, done, err_from_is_err_and)
+
+-- a short value
+pub ruleset fast = (wraps, fast-not, fast-refused, fast-taken)
+
+-- a value of some bits
+pub ruleset values = (wraps, value_below, value_number)

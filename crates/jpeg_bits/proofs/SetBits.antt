@@ -4,8 +4,8 @@ use Rattle.std.proofs.lemmas.Bool.{eqb-true, cases_lt}
 use Rattle.std.proofs.lemmas.Int.{int_wrap_fits}
 use Rattle.std.specs.Int.{int_wrap, cast_unsigned}
 use Rattle.jpeg_bits.specs.Passes.{or_bit}
-use Rattle.std.proofs.Common.{Bool, true, false, ◌==◌, ◌+ℤ◌, ◌≡◌, ℕ, suc, ◌+◌, ◌-◌, ◌*◌, ◌/◌, ◌%◌, ◌^◌, ◌<◌, ◌≤◌, ℤ}
-use Rattle.std.proofs.Common.{pos, negsuc, refl, ap, ◌∙◌, arith, w16, FitsSigned}
+use Rattle.std.proofs.Common.{true, false, ◌==◌, ◌+ℤ◌, ◌≡◌, ℕ, suc, ◌+◌, ◌-◌, ◌/◌, ◌%◌, ◌^◌, ◌<◌}
+use Rattle.std.proofs.Common.{◌≤◌, ℤ, pos, negsuc, refl, ap, ◌∙◌, arith, w16, FitsSigned}
 use Rattle.jpeg_bits.specs.Refinement.{bit_of}
 
 -- a number to 13, one by one
@@ -18,9 +18,9 @@ negative n f = by_level (λ al. (65535 - n) / 2 ^ al % 2 ≡ 1 - n / 2 ^ al % 2)
     (omega arith) (omega arith) (omega arith) (omega arith) (omega arith) (omega arith) (omega arith) (omega arith)
     (omega arith) (omega arith) (omega arith)
 
-pub unsigned-bit : (al : ℕ) (z : ℤ) → al ≤ 13 → FitsSigned w16 z → cast_unsigned w16 z / 2 ^ al % 2 ≡ bit_of al z
-unsigned-bit al (pos n) h f = refl
-unsigned-bit al (negsuc n) h f = let s = f.sfits in let e : 65536 - suc n ≡ 65535 - n =
+pub unsigned_bit : (al : ℕ) (z : ℤ) → al ≤ 13 → FitsSigned w16 z → cast_unsigned w16 z / 2 ^ al % 2 ≡ bit_of al z
+unsigned_bit al (pos n) h f = refl
+unsigned_bit al (negsuc n) h f = let s = f.sfits in let e : 65536 - suc n ≡ 65535 - n =
     omega arith in ap (λ (k : ℕ). k / 2 ^ al % 2) e ∙ negative n (omega arith) al h
 
 set-below : (n : ℕ) → n < 32768 → (al : ℕ) → al ≤ 13 → n / 2 ^ al % 2 ≡ 0 → n + 2 ^ al < 32768
@@ -45,3 +45,5 @@ set-fits al z h f e = grind (arith, set-below, pow_mono, after)
 pub or_set : (al : ℕ) (z : ℤ) (b : ℕ) → al ≤ 13 → FitsSigned w16 z → (bit_of al z == 0) ≡ true → b ≡ 1
     → int_wrap w16 (z +ℤ pos (2 ^ al)) ≡ or_bit al z b
 or_set al z b h f t e = grind (arith, int_wrap_fits, set-fits, eqb-true)
+
+pub ruleset or_rules = (or_set, or_kept)

@@ -1,36 +1,33 @@
 -- Short codes and values.
 use Rattle.std.proofs.lemmas.Grind.{common_steps}
-use Rattle.std.proofs.Common.{◌≡◌, length-set, set, below_more, get_or-set_other, get_or-set_same, ℕ, ℤ, zero, suc}
-use Rattle.std.proofs.Common.{◌+◌, ◌-◌, ◌*◌, ◌/◌, ◌%◌, ◌^◌, ◌<◌, ◌≤◌, Bool, true, false, cond, eqb, leb, ltb, ◌&&◌}
-use Rattle.std.proofs.Common.{List, [], ◌∷◌, ◌++◌, length, take, drop, get_or, replicate, Option, Some, None, Ok, refl}
-use Rattle.std.proofs.Common.{sym, ap, ◌∙◌, arith, inl, inr, length-append, length-take, length-drop, IfSome, is_some}
-use Rattle.std.proofs.Common.{pow_pos}
+use Rattle.std.proofs.Common.{◌≡◌, length-set, set, below_more, get_or-set_other, get_or-set_same, ℕ, ℤ, zero}
+use Rattle.std.proofs.Common.{suc, ◌+◌, ◌-◌, ◌*◌, ◌/◌, ◌%◌, ◌^◌, ◌<◌, ◌≤◌, Bool, true, false, cond, eqb, leb}
+use Rattle.std.proofs.Common.{ltb, ◌&&◌, List, [], ◌∷◌, ◌++◌, length, take, drop, get_or, replicate, Option}
+use Rattle.std.proofs.Common.{Some, None, Ok, refl, sym, ap, ◌∙◌, arith, inl, inr, length-append, length-take}
+use Rattle.std.proofs.Common.{length-drop, IfSome, is_some, pow_pos}
 use Rattle.std.specs.Option.{option_map}
 use Rattle.std.proofs.Math.Seq.{drop-nil}
-use Rattle.std.proofs.lemmas.List.{take-take, take-append-le, take_all, take-replicate, drop-replicate, drop-take}
-use Rattle.std.proofs.lemmas.List.{drop-drop, length-replicate}
+use Rattle.std.proofs.lemmas.List.{take-take, take-append-le, take_all, take-replicate, drop-replicate}
+use Rattle.std.proofs.lemmas.List.{drop-take, drop-drop, length-replicate}
 use Rattle.std.proofs.lemmas.Bool.{cases_lt, false≢true}
 use Rattle.std.proofs.lemmas.Bool.Decides.{nat_tests}
 use Rattle.jpeg_bits.specs.Reading.{◌>>=◌}
-use Rattle.jpeg_bits.specs.Entropy.{number_of, extended, upcoming_by, has_buffered, IsFilled}
-use Rattle.jpeg_bits.specs.Entropy.{text_at}
+use Rattle.jpeg_bits.specs.Entropy.{number_of, extended, upcoming_by, has_buffered, IsFilled, text_at}
 use Rattle.jpeg_bits.specs.Readers.{read_on, signed_from}
 use Rattle.jpeg_bits.specs.Written.{low_bits}
-use Rattle.jpeg_bits.specs.Codes.{Table, code_in, code_lengths, code_value, begins, next_16, is_ac}
-use Rattle.jpeg_bits.specs.Codes.{short_token, after_code, short_code_by, short_code_from, short_value}
-use Rattle.jpeg_bits.specs.Codes.{fast_from}
+use Rattle.jpeg_bits.specs.Codes.{Table, code_in, code_lengths, code_value, begins, next_16, is_ac, short_token}
+use Rattle.jpeg_bits.specs.Codes.{after_code, short_code_by, short_code_from, short_value, fast_from}
 use Rattle.jpeg_bits.specs.ShortCodes.{named, symbol_in, short_only, short_code, short_value_by, short_value_of}
 use Rattle.jpeg_bits.specs.ShortCodes.{next_bits, packed}
 use Rattle.jpeg_bits.specs.declared.codes.HuffmanTableClass.{HuffmanTableClass}
 use Rattle.jpeg_bits.specs.declared.ahead.DataEnd.{DataEnd}
 use Rattle.std.proofs.Math.Nat.{mod-lt}
 use Rattle.jpeg_bits.proofs.CodeLemmas.{first_from}
-use Rattle.jpeg_bits.proofs.WrittenBits.{length-low_bits, number_of-low_bits}
-use Rattle.jpeg_bits.proofs.Reservoirs.{low_bits-append, low_bits-zeros, low_bits-take, low_bits-drop, same_zeros}
-use Rattle.jpeg_bits.proofs.Reservoirs.{front_small}
+use Rattle.jpeg_bits.proofs.WrittenBits.{length_low_bits, number_of-low_bits}
+use Rattle.jpeg_bits.proofs.Reservoirs.{low_bits-append, low_bits-zeros, low_bits-take, low_bits-drop}
+use Rattle.jpeg_bits.proofs.Reservoirs.{same_zeros, front_small}
 use Rattle.jpeg_bits.proofs.Tables.{IsRising, ordered, all-rising}
-use Rattle.jpeg_bits.proofs.BufferedBits.{has_bits-buffered, advance-buffered, bits_from-buffered}
-use Rattle.jpeg_bits.proofs.BufferedBits.{filled-less}
+use Rattle.jpeg_bits.proofs.BufferedBits.{has_bits-buffered, advance-buffered, bits_from-buffered, filled-less}
 
 -- ---- which code of at most n bits begins the bits is seen from the first n
 
@@ -91,7 +88,7 @@ value_seen n table x y bits counted same =
     let lens = code_lengths table.counts in
     sym (short_enough n table.class bits table.symbols (code_in lens x))
     ∙ ap (λ (o : Option (ℕ × ℕ)). short_value_by n table.class bits (named table.symbols o))
-    (short_agree n lens (all-rising table.counts counted) x y same)
+    (short_agree n _ (all-rising table.counts counted) x y same)
     ∙ short_enough n table.class bits table.symbols (code_in lens y)
 
 -- ---- tables
@@ -110,7 +107,7 @@ length_set xs i v n h = length-set xs i v ∙ h
 pub byte_padded : (b : ℕ) → low_bits 16 (b * 256) ≡ low_bits 8 b ++ replicate 8 false
 byte_padded b =
     let e : b * 256 ≡ b * 2 ^ 8 + 0 = omega arith in
-    ap (low_bits 16) e ∙ low_bits-append 8 8 b 0 (omega arith)
+    ap (low_bits 16) e ∙ low_bits-append _ _ _ _ (omega arith)
     ∙ ap (λ (l : List Bool). low_bits 8 b ++ l) (low_bits-zeros 8)
 
 front_of : (n k : ℕ) (bits : List Bool) → length bits ≡ n → take n (bits ++ replicate k false) ≡ bits
@@ -122,8 +119,8 @@ pub short_of_16 : (counts : List ℕ) (bits : ℕ) → length counts ≡ 16
     ≡ short_only (code_in (code_lengths counts) (low_bits 16 bits))
 short_of_16 counts bits h =
     let eight = low_bits 8 (bits / 256) in
-    short_agree 8 (code_lengths counts) (all-rising counts h) (eight ++ replicate 8 false) (low_bits 16 bits)
-    (front_of 8 8 eight (length-low_bits 8 (bits / 256)) ∙ sym (low_bits-take 8 8 bits))
+    short_agree _ _ (all-rising counts h) _ _
+    (front_of 8 8 eight (length_low_bits 8 (bits / 256)) ∙ sym (low_bits-take 8 8 bits))
 
 short_named : (symbols : List ℕ) (o : Option (ℕ × ℕ)) (p : ℕ × ℕ) → named symbols (short_only o) ≡ Some p
     → named symbols o ≡ Some p
@@ -164,9 +161,9 @@ pub length-next_bits : (n : ℕ) (bits : List Bool) → length (next_bits n bits
 length-next_bits n bits = grind (arith, length-take, length-append, length-replicate)
 
 -- the first 11 of the next 16 bits
-pub eleven-front : (number : ℕ) (bits : List Bool) → low_bits 16 number ≡ next_16 bits
+pub eleven_front : (number : ℕ) (bits : List Bool) → low_bits 16 number ≡ next_16 bits
     → low_bits 11 (number / 32) ≡ next_bits 11 bits
-eleven-front number bits e =
+eleven_front number bits e =
     sym (low_bits-take 11 5 number) ∙ ap (take 11) e ∙ take-take 11 16 (bits ++ replicate 16 false) (omega arith)
     ∙ same_zeros bits 11 16 11 (omega arith) (omega arith)
 
@@ -280,8 +277,7 @@ module _ (table : Table) (bits : List Bool) (met : Option DataEnd) (bytes : List
 
   -- a short token, and how many bits it takes
   pub fast-some : (v : ℤ) (r n : ℕ) → short_value_of 8 table (next_bits 8 bits) ≡ Some (v, r, n)
-      → fast_from table (upcoming_by bits met bytes) ≡ (has_buffered n bits met >>= λ (u : Unit
-      {0}). Ok (
+      → fast_from table (upcoming_by bits met bytes) ≡ (has_buffered n bits met >>= λ (u : Unit {0}). Ok (
         Some (v, r),
         upcoming_by (drop n bits) met bytes,
       ))
@@ -314,7 +310,7 @@ value_number n bits l s h =
 pub eleven_padded : (b : ℕ) → low_bits 16 (b * 32) ≡ low_bits 11 b ++ replicate 5 false
 eleven_padded b =
     let e : b * 32 ≡ b * 2 ^ 5 + 0 = omega arith in
-    ap (low_bits 16) e ∙ low_bits-append 11 5 b 0 (omega arith)
+    ap (low_bits 16) e ∙ low_bits-append _ _ _ _ (omega arith)
     ∙ ap (λ (l : List Bool). low_bits 11 b ++ l) (low_bits-zeros 5)
 
 -- the zeros and the bits of a packed value are few

@@ -10,7 +10,7 @@ use Rattle.jpeg_bits.specs.ShortCodes.{named, short_only, short_code, IsRun}
 use Rattle.jpeg_bits.proofs.Reservoirs.{low_bits-take, front_small}
 use Rattle.jpeg_bits.proofs.ShortLemmas.{at_most, short_agree}
 use Rattle.jpeg_bits.proofs.Tables.{all-rising}
-use Rattle.jpeg_bits.proofs.WrittenBits.{length-low_bits}
+use Rattle.jpeg_bits.proofs.WrittenBits.{length_low_bits}
 
 -- a code of l bits begins all bits that have its first l bits
 same-code : (symbols : List ℕ) (l v : ℕ) (x y : Option (ℕ × ℕ)) → at_most l x ≡ at_most l y
@@ -24,7 +24,7 @@ pub same-run : (counts symbols : List ℕ) (first b v l : ℕ) → length counts
 same-run counts symbols first b v l counted few e h =
     let z = replicate 8 false in
     let whole : l + (8 - l) ≡ 8 = omega arith in
-    grind (arith, take-append-le, length-low_bits, low_bits-take, same-code, short_agree, all-rising)
+    grind (arith, take-append-le, length_low_bits, low_bits-take, same-code, short_agree, all-rising)
 
 -- a run of bytes
 pub run-entry : (counts symbols : List ℕ) (first end b : ℕ) (code : Option (ℕ × ℕ)) → length counts ≡ 16

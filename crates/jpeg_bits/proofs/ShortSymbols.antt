@@ -1,20 +1,17 @@
 -- Symbols and short values of bits that are held.
-use Rattle.std.proofs.Common.{arith, ◌≡◌, ℕ, ℤ, ◌≤◌, Bool, true, List, drop, length, Option, Some, None, Result, Ok}
-use Rattle.std.proofs.Common.{Err, refl, sym, ap, ◌∙◌, is_ok, get_or}
+use Rattle.std.proofs.Common.{arith, ◌≡◌, ℕ, ℤ, ◌≤◌, Bool, true, List, drop, length, Option, Some, None, Result}
+use Rattle.std.proofs.Common.{Ok, Err, refl, sym, ap, ◌∙◌, is_ok, get_or}
 use Rattle.std.proofs.lemmas.Bool.{false≢true}
 use Rattle.jpeg_bits.specs.Stream.{Stream}
 use Rattle.jpeg_bits.specs.Reading.{Fault, ◌>>=◌ as ◌>>r=◌, Names, NamesFormat}
 use Rattle.jpeg_bits.specs.Entropy.{Ahead, Takes, upcoming_by, upcoming, has_buffered, IsFilled}
-use Rattle.jpeg_bits.specs.Codes.{Table, code_in, code_lengths, next_16, symbol_from, fast_from}
-use Rattle.jpeg_bits.specs.Codes.{code_from}
-use Rattle.jpeg_bits.proofs.BufferedBits.{if_buffered}
+use Rattle.jpeg_bits.specs.Codes.{Table, code_in, code_lengths, next_16, symbol_from, fast_from, code_from}
+use Rattle.jpeg_bits.proofs.BufferedBits.{if_buffered, ok_unit, MayFail-same}
 use Rattle.jpeg_bits.specs.ShortCodes.{symbol_in, short_value_of, next_bits}
 use Rattle.jpeg_bits.specs.declared.error.Error.{Error}
 use Rattle.jpeg_bits.specs.declared.ahead.DataEnd.{DataEnd}
 use Rattle.jpeg_bits.proofs.Loops.{Names-through, bind_err, still_known}
-use Rattle.jpeg_bits.proofs.BufferedBits.{ok_unit, MayFail-same}
-use Rattle.jpeg_bits.proofs.Symbols.{code_from-buffered, code_from-none, names_format}
-use Rattle.jpeg_bits.proofs.Symbols.{may_fail_format}
+use Rattle.jpeg_bits.proofs.Symbols.{code_from-buffered, code_from-none, names_format, may_fail_format}
 use Rattle.jpeg_bits.proofs.ShortLemmas.{fast-none, fast-some}
 use Rattle.jpeg_bits.proofs.Tables.{symbol-code}
 
@@ -36,8 +33,7 @@ no_code_of table bits h = grind (arith, false≢true)
 code_from-named : (table : Table) (bits : List Bool) (met : Option DataEnd) (bytes : List ℕ) (symbol size : ℕ)
     → IsFilled 16 bits met → size ≤ 16 → symbol_in table (next_16 bits) ≡ Some (symbol, size)
     → code_from table (upcoming_by bits met bytes)
-    ≡ if_buffered (size, symbol) (upcoming_by (drop size bits) met bytes) (has_buffered size bits
-    met)
+    ≡ if_buffered (size, symbol) (upcoming_by (drop size bits) met bytes) (has_buffered size bits met)
 code_from-named table bits met bytes symbol size f le e = grind (arith, code_of, code_from-buffered)
 
 pub Code-buffered : (table : Table) (b d : Ahead) (source : Stream) (symbol size : ℕ) → IsFilled 16
@@ -51,9 +47,8 @@ Code-buffered table b d source symbol size f le e ok eb em = (
   refl,
   λ known. (
     known,
-    code_from-named table b.bits b.met source.bytes symbol size f le e
-        ∙ ap (if_buffered (size, symbol) (upcoming_by (drop size b.bits) b.met source.bytes))
-        (ok_unit _ ok)
+    code_from-named _ b.bits b.met source.bytes symbol size f le e
+        ∙ ap (if_buffered (size, symbol) (upcoming_by (drop size b.bits) b.met source.bytes)) (ok_unit _ ok)
         ∙ sym (ap (λ bs. Ok ((size, symbol), upcoming_by bs d.met source.bytes)) eb
         ∙ ap (λ m. Ok ((size, symbol), upcoming_by (drop size b.bits) m source.bytes)) em),
   ),
@@ -66,7 +61,7 @@ pub Code-refused : (table : Table) (b : Ahead) (source : Stream) (symbol size : 
 unfolding upcoming
 Code-refused table b source symbol size e f le h want = (
   MayFail-same e (has_buffered size b.bits b.met) source.failed want,
-  λ known _. Names-through e _ _ (λ g x. code_from-named table b.bits b.met source.bytes symbol size f le h
+  λ known _. Names-through _ _ _ (λ g x. code_from-named _ b.bits b.met source.bytes symbol size f le h
       ∙ ap (if_buffered (size, symbol) (upcoming_by (drop size b.bits) b.met source.bytes)) x) want,
   λ known gone. still_known e _ known gone,
 )
@@ -93,7 +88,7 @@ pub fast-taken : (table : Table) (b d : Ahead) (bytes : List ℕ) (v : ℤ) (r n
     → fast_from table (upcoming b bytes) ≡ Ok (Some (v, r), upcoming d bytes)
 unfolding upcoming
 fast-taken table b d bytes v r n counted f e ok eb em =
-    fast-some table b.bits b.met bytes f counted v r n e
+    fast-some _ b.bits b.met bytes f counted v r n e
     ∙ ap (λ (o : Result (Unit {0}) Fault). o >>r= λ (u : Unit {0}). Ok (
       Some (v, r),
       upcoming_by (drop n b.bits) b.met bytes,

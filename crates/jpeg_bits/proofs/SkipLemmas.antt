@@ -1,9 +1,9 @@
 -- A band of a first pass that is passed over, token by token or several at once.
 use Rattle.std.proofs.lemmas.Grind.{common_steps}
 use Rattle.std.proofs.lemmas.Bool.Decides.{nat_tests}
-use Rattle.std.proofs.Common.{◌≡◌, ℕ, ℤ, zero, suc, ◌+◌, ◌-◌, ◌*◌, ◌/◌, ◌%◌, ◌^◌, ◌<◌, ◌≤◌, Bool, true, false, List, []}
-use Rattle.std.proofs.Common.{◌∷◌, ◌++◌, length, take, drop, replicate, get_or, pos, ◌*ℤ◌, Some, Result, Ok}
-use Rattle.std.proofs.Common.{Err, is_ok, refl, sym, ap, ◌∙◌, subst, arith, length-append, length-drop, length-take, ltb}
+use Rattle.std.proofs.Common.{◌≡◌, ℕ, ℤ, zero, suc, ◌+◌, ◌-◌, ◌*◌, ◌/◌, ◌%◌, ◌^◌, ◌<◌, ◌≤◌, Bool, true, false, List}
+use Rattle.std.proofs.Common.{[], ◌∷◌, ◌++◌, length, take, drop, replicate, get_or, pos, ◌*ℤ◌, Some, Result, Ok, Err}
+use Rattle.std.proofs.Common.{is_ok, refl, sym, ap, ◌∙◌, subst, arith, length-append, length-drop, length-take, ltb}
 use Rattle.std.proofs.Common.{inl, inr, pow_pos, set, get_or-set_other, get_or-set_same}
 use Rattle.std.proofs.lemmas.Bool.{lt-ltb, false≢true, cases_lt}
 use Rattle.std.proofs.lemmas.List.{take-take}
@@ -11,17 +11,16 @@ use Rattle.std.proofs.Math.Nat.{div-add-mod'}
 use Rattle.jpeg_bits.proofs.Reservoirs.{low_bits-append, low_bits-zeros, low_bits-take, low_bits-drop, low_bits-high}
 use Rattle.jpeg_bits.proofs.Reservoirs.{same_zeros}
 use Rattle.jpeg_bits.proofs.Fast.{both-buffered}
-use Rattle.jpeg_bits.proofs.WideTokens.{none-left, value-within, advanced, buffered-then}
-use Rattle.jpeg_bits.proofs.WideTokens.{token-seen}
+use Rattle.jpeg_bits.proofs.WideTokens.{none_left, value-within, advanced, buffered-then, token-seen}
 use Rattle.jpeg_bits.specs.Reading.{Fault}
 use Rattle.jpeg_bits.specs.Entropy.{Text, advance, has_bits, bits_from}
 use Rattle.jpeg_bits.specs.Codes.{Table, next_16, code_from}
 use Rattle.jpeg_bits.specs.ShortCodes.{symbol_in, next_bits}
 use Rattle.jpeg_bits.specs.Readers.{Reads, read_on, gives, signed_from}
 use Rattle.jpeg_bits.specs.Written.{low_bits}
-use Rattle.jpeg_bits.specs.Bands.{Band, IsWithinRoom, before_more, wrapped, after_token, first_ac, token_at, token_from}
-use Rattle.jpeg_bits.specs.Skips.{run_after, run_within, run_of, no_skip, IsSkip}
-use Rattle.jpeg_bits.specs.Skips.{PassesOver}
+use Rattle.jpeg_bits.specs.Bands.{Band, IsWithinRoom, before_more, wrapped, after_token, first_ac, token_at}
+use Rattle.jpeg_bits.specs.Bands.{token_from}
+use Rattle.jpeg_bits.specs.Skips.{run_after, run_within, run_of, no_skip, IsSkip, PassesOver}
 use Rattle.jpeg_bits.specs.declared.tokens.Token.{Token}
 use Rattle.jpeg_bits.specs.declared.tokens.Token.TheVariants.{Value, Sixteen, Rest, Overlong}
 
@@ -76,7 +75,7 @@ token-within table room t k u h = go (code_from table t) h
     go : (o : Result ((ℕ × ℕ) × Text) Fault)
         → read_on (λ (c : ℕ × ℕ). token_at room c.0 (c.1 / 16) (c.1 % 16)) o ≡ Ok (k, u) → IsWithinRoom room k
     go (Err e) h = absurd (false≢true (ap is_ok h))
-    go (Ok (c, v)) h = within-at room c.0 (c.1 / 16) (c.1 % 16) v (ltb (c.1 / 16) room) refl k u h
+    go (Ok (c, v)) h = within-at _ _ _ _ _ _ refl _ _ h
 
 abbrev pub measured : Band → Reads (ℕ × ℕ)
 measured b = gives (length b.0, b.1)
@@ -110,8 +109,7 @@ first-measured table al (suc n) (x ∷ rest) t =
         let lt : r < length (x ∷ rest) = within (Value r v) u refl in
         let front = take r (x ∷ rest) ++ wrapped (v *ℤ pos (2 ^ al)) ∷ [] in
         let left = length-drop (r + 1) (x ∷ rest) in
-        let long : length front + length (drop (r + 1) (x ∷ rest)) ≡ length (x ∷ rest)
-        = omega (
+        let long : length front + length (drop (r + 1) (x ∷ rest)) ≡ length (x ∷ rest) = omega (
           arith,
           left,
           length-append (take r (x ∷ rest)) (wrapped (v *ℤ pos (2 ^ al)) ∷ []),
@@ -138,9 +136,9 @@ first-measured table al (suc n) (x ∷ rest) t =
 -- ---- the tokens that 12 bits begin with
 
 -- Some bits after the first of n, with zeros after them, are the low ones of their number, moved.
-pub bits-after : (n w used k b rest : ℕ) → used ≤ n → n + k ≡ w + used → rest ≡ b * 2 ^ k % 2 ^ w
+pub bits_after : (n w used k b rest : ℕ) → used ≤ n → n + k ≡ w + used → rest ≡ b * 2 ^ k % 2 ^ w
     → low_bits w rest ≡ drop used (low_bits n b) ++ replicate k false
-bits-after n w used k b rest h size e =
+bits_after n w used k b rest h size e =
     let m = n - used in
     let x = b * 2 ^ k in
     let whole : x ≡ x / 2 ^ w * 2 ^ w + x % 2 ^ w = sym (div-add-mod' x (2 ^ w)) in
@@ -151,7 +149,7 @@ bits-after n w used k b rest h size e =
     = ap (low_bits m) (sym (div-add-mod' b (2 ^ m))) ∙ low_bits-high m (b / 2 ^ m) (b % 2 ^ m) in
     ap (low_bits w) e ∙ sym (ap (low_bits w) whole ∙ low_bits-high w (x / 2 ^ w) (x % 2 ^ w))
     ∙ ap (low_bits w) none ∙ ap (λ (j : ℕ). low_bits j (x + 0)) all
-    ∙ low_bits-append m k b 0 (pow_pos k)
+    ∙ low_bits-append _ _ _ _ (pow_pos k)
     ∙ ap (λ (l : List Bool). low_bits m b ++ l) (low_bits-zeros k)
     ∙ ap (λ (l : List Bool). l ++ replicate k false) (low ∙ sym (low_bits-drop used m b)
     ∙ ap (λ (j : ℕ). drop used (low_bits j b)) (sym split))
@@ -166,8 +164,8 @@ value-passed : (others : ℕ → Reads ℕ) (room size r s : ℕ) (t : Text) →
     → has_bits s t.bits t.ending ≡ Ok tt
     → read_on (run_after others room) (token_at room size r s t) ≡ others (room - (r + 1)) (advance s t)
 value-passed others room size r s t some within buffered =
-    ap (read_on (run_after others room)) (value-within room size r s t (lt-ltb 0 s some) (lt-ltb r room within))
-    ∙ signed-passed others room r s t buffered
+    ap (read_on (run_after others room)) (value-within _ _ _ _ _ (lt-ltb 0 s some) (lt-ltb r room within))
+    ∙ signed-passed others room _ _ _ buffered
 
 sixteen-passed : (others : ℕ → Reads ℕ) (room size r s : ℕ) (t : Text) → s ≡ 0 → r ≡ 15
     → read_on (run_after others room) (token_at room size r s t) ≡ others (room - (r + 1)) (advance s t)
@@ -197,8 +195,7 @@ module _ (table : Table) (counted : length table.counts ≡ 16) (bits : List Boo
         = ap (λ (w : Text). has_bits s w.bits w.ending) (advanced used size t) ∙ buffered-then
         (used + size) s t buffered in
         let step : read_on (run_after (run_of table) room') (token_at room' size r s v)
-        ≡ run_of table (room' - (r + 1)) (advance s v)
-        = elim (cases_lt 0 s) [
+        ≡ run_of table (room' - (r + 1)) (advance s v) = elim (cases_lt 0 s) [
           | inl some ↦ value-passed (run_of table) room' size r s v some (omega arith) next
           | inr none ↦ sixteen-passed (run_of table) room' size r s v (omega arith) (all (omega arith))
         ] in
@@ -228,13 +225,8 @@ module _ (table : Table) (counted : length table.counts ≡ 16) (bits : List Boo
         ∙ run-token table room' u (omega arith)
         ∙ ap (read_on (run_after (run_of table) room')) (token-seen table counted 12 (omega arith) bits long used
         (replicate (4 + used) false) symbol size found room' t b.0 (omega (arith, is)) here
-        ∙ none-left room' size r s v none end)
+        ∙ none_left room' size r s v none end)
         ∙ ap (λ (w : Text). Ok (0, w)) (advanced used size t ∙ ap (λ (k : ℕ). advance k t) same)
-
--- no token yet
-pub skip-start : (table : Table) (bits : List Bool) → PassesOver table bits (0, 0, false)
-skip-start table bits room lt most t b =
-    let e : room ≡ room - 0 = omega arith in ap (λ (k : ℕ). run_of table k t) e
 
 -- none at all
 pub skip-none : (table : Table) (bits : List Bool) → IsSkip table bits no_skip
@@ -244,9 +236,9 @@ skip-none table bits = record {
   passes = λ room lt most t b. absurd (omega (arith, lt, most));
 }
 
-pub twelve-front : (number : ℕ) (bits : List Bool) → low_bits 16 number ≡ next_16 bits
+pub twelve_front : (number : ℕ) (bits : List Bool) → low_bits 16 number ≡ next_16 bits
     → low_bits 12 (number / 16) ≡ next_bits 12 bits
-twelve-front number bits e =
+twelve_front number bits e =
     sym (low_bits-take 12 4 number) ∙ ap (take 12) e ∙ take-take 12 16 (bits ++ replicate 16 false) (omega arith)
     ∙ same_zeros bits 12 16 12 (omega arith) (omega arith)
 

@@ -1,12 +1,12 @@
 -- Steps of the loop that passes over the tokens of a band.
-use Rattle.std.proofs.Common.{◌≡◌, ℕ, ◌-◌, ◌<◌, ◌≤◌, Bool, true, false, List, drop, Ok, Err, refl, ap, ◌∙◌}
-use Rattle.std.proofs.Common.{arith, is_ok, sym, Option}
+use Rattle.std.proofs.Common.{◌≡◌, ℕ, ◌-◌, ◌<◌, ◌≤◌, Bool, true, false, List, drop, Ok, Err, ap}
+use Rattle.std.proofs.Common.{◌∙◌, arith, is_ok, sym, Option}
 use Rattle.jpeg_bits.specs.Stream.{Stream}
 use Rattle.jpeg_bits.specs.Entropy.{Text, Ahead, Takes, advance, upcoming_by, upcoming, same_text}
 use Rattle.jpeg_bits.specs.Entropy.{has_buffered, IsFilled}
 use Rattle.jpeg_bits.specs.Codes.{Table}
 use Rattle.jpeg_bits.specs.ShortCodes.{next_bits}
-use Rattle.jpeg_bits.specs.Readers.{read_on, gives}
+use Rattle.jpeg_bits.specs.Readers.{read_on}
 use Rattle.jpeg_bits.specs.Bands.{token_from}
 use Rattle.jpeg_bits.specs.Skips.{run_after, run_of, after_skip, IsSkip}
 use Rattle.jpeg_bits.specs.declared.error.Error.{Error}
@@ -17,7 +17,7 @@ use Rattle.jpeg_bits.proofs.BandSteps.{Leaves-ok, Leaves-err, Leaves-end, Leaves
 use Rattle.jpeg_bits.proofs.BufferedBits.{has_bits-buffered, advance-buffered, filled-less, ok_unit}
 use Rattle.jpeg_bits.proofs.SkipLemmas.{run-token, run-none}
 use Rattle.jpeg_bits.proofs.WideTokens.{front-text}
-use Rattle.jpeg_bits.specs.declared.tokens.Token.TheVariants.{Rest, Overlong}
+use Rattle.jpeg_bits.specs.declared.tokens.Token.TheVariants.{Overlong}
 
 after-buffered : (table : Table) (left n passed : ℕ) (last : Bool) (bits : List Bool) (met : Option
     DataEnd)
@@ -41,28 +41,18 @@ module _ (table : Table) (room left : ℕ) (a b d e : Ahead) (old cur mid new : 
   pub skip-refused : 0 < left → (x : Error) → Takes (λ (k : Token). k) (token_from table left) d mid (Err x) e new
       → Takes (λ (run : ℕ). run) (run_of table room) a old (Err x) e new
   skip-refused some x h =
-      Leaves-err (λ (run : ℕ). run) (λ (k : Token). k) (run_of table room) (run_of table left) (token_from table left)
-      a d e old mid new x
+      Leaves-err (λ (run : ℕ). run) (λ (k : Token). k) (run_of table room) _ _ a d e old mid new _
       (λ t f is. run-token table left t some ∙ ap (read_on (run_after (run_of table) left)) is) text-buffered h
 
   pub skip-token : 0 < left → (k : Token) → Takes (λ (k : Token). k) (token_from table left) d mid (Ok k) e new
       → Leaves (run_of table room) a old (run_after (run_of table) left k) e new
   skip-token some k h =
-      Leaves-ok (λ (k : Token). k) (run_of table room) (run_of table left) (run_after (run_of table) left k)
-      (token_from table left) a d e old mid new k
+      Leaves-ok (λ (k : Token). k) (run_of table room) _ _ _ a d _ old mid _ _
       (λ t u is. run-token table left t some ∙ ap (read_on (run_after (run_of table) left)) is) text-buffered h
-
-  pub skip-rest : 0 < left → (run : ℕ) → Takes (λ (k : Token). k) (token_from table left) d mid (Ok (Rest run)) e new
-      → Takes (λ (run : ℕ). run) (run_of table room) a old (Ok run) e new
-  skip-rest some run h =
-      Leaves-end (λ (run : ℕ). run) (run_of table room) (gives run) a e old new run (λ t. refl)
-      (skip-token some (Rest run) h)
 
   pub skip-overlong : 0 < left → Takes (λ (k : Token). k) (token_from table left) d mid (Ok Overlong) e new
       → Takes (λ (run : ℕ). run) (run_of table room) a old (Ok 0) e new
-  skip-overlong some h =
-      Leaves-end (λ (run : ℕ). run) (run_of table room) (gives 0) a e old new 0 (λ t. refl)
-      (skip-token some Overlong h)
+  skip-overlong some h = skip-token some Overlong h
 
   -- several tokens at once
   module _ (n passed count over : ℕ) (last : Bool) (counted : count ≡ n) (is : over ≡ passed)
@@ -83,8 +73,7 @@ module _ (table : Table) (room left : ℕ) (a b d e : Ahead) (old cur mid new : 
     next-text : (bytes : List ℕ) → advance n (upcoming d bytes) ≡ upcoming e bytes
     unfolding upcoming
     next-text bytes =
-        advance-buffered n d.bits d.met bytes
-        (filled-less n 16 d.bits d.met (omega (arith, skip.few)) filled)
+        advance-buffered n d.bits d.met bytes (filled-less n 16 d.bits d.met (omega (arith, skip.few)) filled)
         ∙ ap (λ (k : ℕ). upcoming_by (drop k d.bits) d.met bytes) (sym counted)
         ∙ sym (ap (λ (l : List Bool). upcoming_by l e.met bytes) bits
         ∙ ap (λ (m : Option DataEnd). upcoming_by (drop count d.bits) m bytes) met)
@@ -120,5 +109,5 @@ pub skip-all : (table : Table) (room left : ℕ) (a b : Ahead) (old new : Stream
     → Leaves (run_of table room) a old (run_of table left) b new
     → Takes (λ (run : ℕ). run) (run_of table room) a old (Ok 0) b new
 skip-all table room left a b old new none p =
-    Leaves-end (λ (run : ℕ). run) (run_of table room) (run_of table left) a b old new 0
+    Leaves-end (λ (run : ℕ). run) (run_of table room) _ a _ old _ _
     (λ t. ap (λ (k : ℕ). run_of table k t) none ∙ run-none table t) p

@@ -17,7 +17,7 @@ use Rattle.jpeg_bits.proofs.Ranges.{all_pass, each_passes}
 use Rattle.jpeg_bits.proofs.BufferedBits.{has_enough, bit_le}
 use Rattle.jpeg_bits.specs.Readers.{read_on, gives, text, ReadsJust}
 use Rattle.jpeg_bits.specs.Written.{low_bits, code_size, code_bits}
-use Rattle.jpeg_bits.proofs.WrittenBits.{number_of-low_bits, length-low_bits, number_onto}
+use Rattle.jpeg_bits.proofs.WrittenBits.{number_of-low_bits, length_low_bits, number_onto}
 
 -- each code of the table is read as itself
 pub record IsGood (table : Table) : Type 0 where
@@ -177,11 +177,10 @@ begins-own counts i rest h all within =
     let s = get_or lens i 0 in
     let v = code_value lens i in
     let own = low_bits s v in
-    let long = length-low_bits s v in
+    let long = length_low_bits s v in
     let zeros = replicate 16 false in
-    let small : s ≤ 16 = (rising-at 1 16 lens i (all-rising counts h) within).1 in
-    let first : take s (next_16 (own ++ rest)) ≡ own
-    = take-take s 16 ((own ++ rest) ++ zeros) small
+    let small : s ≤ 16 = (rising-at _ _ _ _ (all-rising counts h) within).1 in
+    let first : take s (next_16 (own ++ rest)) ≡ own = take-take s 16 ((own ++ rest) ++ zeros) small
     ∙ take-append-le s (own ++ rest) zeros (omega (arith, length-append own rest))
     ∙ take-append-le s own rest (omega arith) ∙ take_all s own (omega arith) in
     eq-eqb _ _ (ap number_of first ∙ number_of-low_bits s v (all i within))
@@ -195,10 +194,10 @@ code-read table i h all within = record {
       let lens = code_lengths table.counts in
       let s = get_or lens i 0 in
       let own = code_bits table i in
-      let long : length own ≡ s = length-low_bits s (code_value lens i) in
+      let long : length own ≡ s = length_low_bits s (code_value lens i) in
       let t = text (own ++ rest) indices e in
-      let found = finds 1 16 lens (all-rising table.counts h) (next_16 (own ++ rest)) (enough-bits (own ++ rest)) i
-      within (begins-own table.counts i rest h all within) in
+      let found = finds _ _ _ (all-rising table.counts h) _ (enough-bits (own ++ rest)) _
+      within (begins-own _ _ _ h all within) in
       ap (code_by table t) found ∙ rw (
         has_enough s (own ++ rest) e (omega (arith, length-append own rest)),
         drop_at own rest s long,

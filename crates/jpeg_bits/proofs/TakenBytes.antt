@@ -12,17 +12,16 @@ pub consumes-front : (is_none : Bool) (x : ℕ) (buffered : List ℕ) (inner new
 consumes-front is_none x buffered inner new h = grind arith
 
 -- the byte is put into a place for one
-pub takes-front : (is_none : Bool) (buffered buf : List ℕ) (inner new : Option (List ℕ)) → 0 <
+pub takes_front : (is_none : Bool) (buffered buf : List ℕ) (inner new : Option (List ℕ)) → 0 <
     length buffered → length buf ≡ 1
-    → DropsConsumable (if is_none then None else prepend_known buffered inner) new (Some (length
-    buffered)) 1
+    → DropsConsumable (if is_none then None else prepend_known buffered inner) new (Some (length buffered)) 1
     → Consumes (if is_none then None else prepend_known buffered inner) new
     (take 1 (slice_set buf 0 (slice_index_or buffered 0 0)))
-takes-front z (x ∷ buffered) (b ∷ []) inner new some one h = consumes-front z x buffered inner new h
-takes-front z buffered buf inner new some one h = absurd (omega (arith, some, one))
+takes_front z (x ∷ buffered) (b ∷ []) inner new some one h = consumes-front z x buffered inner new h
+takes_front z buffered buf inner new some one h = absurd (omega (arith, some, one))
 
 -- the first of some bytes, and the others
-pub takes-first : (bytes buf : List ℕ) → 0 < length bytes → length buf ≡ 1
+pub takes_first : (bytes buf : List ℕ) → 0 < length bytes → length buf ≡ 1
     → bytes ≡ take 1 (slice_set buf 0 (slice_index_or bytes 0 0)) ++ take (length bytes - 1) (drop 1 bytes)
-takes-first (x ∷ bytes) (b ∷ []) some one = grind (arith, take_all)
-takes-first bytes buf some one = absurd (omega (arith, some, one))
+takes_first (x ∷ bytes) (b ∷ []) some one = grind (arith, take_all)
+takes_first bytes buf some one = absurd (omega (arith, some, one))

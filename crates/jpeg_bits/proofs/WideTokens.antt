@@ -1,13 +1,12 @@
 -- The next token: a value within the room that the next 11 bits begin with, or by its code.
 use Rattle.std.proofs.lemmas.Grind.{common_steps}
 use Rattle.std.proofs.lemmas.Bool.Decides.{nat_tests}
-use Rattle.std.proofs.Common.{◌≡◌, ℕ, ℤ, ◌+◌, ◌-◌, ◌/◌, ◌%◌, ◌^◌, ◌<◌, ◌≤◌, Bool, true, false, List, [], ◌++◌, length}
-use Rattle.std.proofs.Common.{take, drop, replicate, get_or, Option, Some, None, Result, Ok, Err, refl, sym, ap, ◌∙◌}
-use Rattle.std.proofs.Common.{arith, is_some, ltb, append_assoc, append-nil, length-drop}
+use Rattle.std.proofs.Common.{◌≡◌, ℕ, ℤ, ◌+◌, ◌-◌, ◌/◌, ◌%◌, ◌^◌, ◌<◌, ◌≤◌, Bool, true, false, List, [], ◌++◌}
+use Rattle.std.proofs.Common.{length, take, drop, replicate, get_or, Option, Some, None, Result, Ok, Err, refl}
+use Rattle.std.proofs.Common.{sym, ap, ◌∙◌, arith, is_some, ltb, append_assoc, append-nil, length-drop}
 use Rattle.std.proofs.lemmas.Bool.{lt-ltb, false≢true}
 use Rattle.std.proofs.lemmas.List.{take-take, take-append-le, drop-append-le, drop-drop}
-use Rattle.jpeg_bits.specs.Entropy.{Text, Ahead, upcoming_by, upcoming, IsFilled, has_buffered}
-use Rattle.jpeg_bits.specs.Entropy.{Takes, advance}
+use Rattle.jpeg_bits.specs.Entropy.{Text, Ahead, upcoming_by, upcoming, IsFilled, has_buffered, Takes, advance}
 use Rattle.jpeg_bits.specs.Entropy.{has_bits, bits_from, number_of, extended}
 use Rattle.jpeg_bits.specs.Stream.{Stream}
 use Rattle.jpeg_bits.specs.declared.codes.HuffmanTableClass.{HuffmanTableClass}
@@ -22,8 +21,8 @@ use Rattle.jpeg_bits.specs.declared.tokens.Token.TheVariants.{Value, Rest}
 use Rattle.jpeg_bits.proofs.BufferedBits.{has_bits-buffered, advance-buffered, filled-less}
 use Rattle.jpeg_bits.proofs.Fast.{no-bits, both-buffered}
 use Rattle.jpeg_bits.proofs.Reservoirs.{same_zeros}
-use Rattle.jpeg_bits.proofs.ShortLemmas.{IsShort, short_some, size_of, all_short, at_most, short_agree, value-bits}
-use Rattle.jpeg_bits.proofs.ShortLemmas.{length-next_bits, next-buffered}
+use Rattle.jpeg_bits.proofs.ShortLemmas.{IsShort, short_some, size_of, all_short, at_most, short_agree}
+use Rattle.jpeg_bits.proofs.ShortLemmas.{value-bits, length-next_bits, next-buffered}
 use Rattle.jpeg_bits.proofs.Tables.{all-rising}
 
 -- a value within the room
@@ -37,8 +36,8 @@ none-here : (room size : ℕ) (t : Text) → token_at room size 0 0 t ≡ Ok (Re
 unfolding token_at
 none-here room size t = ap (read_on (λ (e : ℕ). gives (Rest (2 ^ 0 - 1 + e)))) (no-bits t)
 
-pub none-left : (room size r s : ℕ) (t : Text) → s ≡ 0 → r ≡ 0 → token_at room size r s t ≡ Ok (Rest 0, t)
-none-left room size r s t none zero = rw (none, zero) (none-here room size t)
+pub none_left : (room size r s : ℕ) (t : Text) → s ≡ 0 → r ≡ 0 → token_at room size r s t ≡ Ok (Rest 0, t)
+none_left room size r s t none zero = rw (none, zero) (none-here room size t)
 
 -- Bits are passed in two steps.
 pub advanced : (m n : ℕ) (t : Text) → advance n (advance m t) ≡ advance (m + n) t
@@ -119,8 +118,7 @@ module _ (table : Table) (room : ℕ) (t : Text) (used : ℕ) (more : List Bool)
       = ap (λ (i : ℕ). has_bits i t.bits t.ending) (omega (arith, k.all)) ∙ buffered in
       let next = buffered-then (used + c.1) s t all in
       let seen = token-seen table counted 11 (omega arith) xs (length-next_bits 11 t.bits) used (more ++ zeros) symbol
-      c.1 found room t refl (omega (arith, k.all)) (both-buffered (used + c.1) s t.bits t.ending
-      all) in
+      c.1 found room t refl (omega (arith, k.all)) (both-buffered (used + c.1) s t.bits t.ending all) in
       let bits = seen-bits t.bits more used c.1 s (omega (arith, k.all)) in
       let value = k.value in
       let run = k.run in
@@ -138,7 +136,7 @@ module _ (table : Table) (room : ℕ) (t : Text) (used : ℕ) (more : List Bool)
           → short_value_by 11 table.class (drop used (next_bits 11 t.bits) ++ more) (named table.symbols o)
           ≡ Some (v, r, n) → token_from table room (advance used t) ≡ Ok (Value r v, advance (used + n) t)
       go None e w = absurd (false≢true (ap is_some w))
-      go (Some c) e w = at-value c e (short_some 11 table c (drop used (next_bits 11 t.bits) ++ more) v r n w)
+      go (Some c) e w = at-value c e (short_some _ _ _ _ _ _ _ w)
 
 -- the next bits of a text are seen from those that are buffered
 pub front-text : (n : ℕ) (bits : List Bool) (met : Option DataEnd) (bytes : List ℕ) → n ≤ 16 → IsFilled n bits met
@@ -159,14 +157,12 @@ value-buffered table room bits met bytes used more v r n counted filled le buffe
     let t = upcoming_by bits met bytes in
     let less : (k : ℕ) → k ≤ 11 → IsFilled k bits met
     = λ k few. filled-less k 16 bits met (omega (arith, few)) filled in
-    ap (token_from table room) (sym (advance-buffered used bits met bytes (less used (omega
-    arith))))
+    ap (token_from table room) (sym (advance-buffered used bits met bytes (less used (omega arith))))
     ∙ value-seen table room t used more v r n counted le (has_bits-buffered (used + n) bits met
     bytes (less (used + n) le)
     ∙ buffered) within (ap (λ (xs : List Bool). short_value_of 11 table (drop used xs ++ more))
     (front-text 11 bits met bytes (omega arith) (less 11 (omega arith))) ∙ is)
-    ∙ ap (λ (w : Text). Ok (Value r v, w)) (advance-buffered (used + n) bits met bytes (less (used
-    + n) le))
+    ∙ ap (λ (w : Text). Ok (Value r v, w)) (advance-buffered (used + n) bits met bytes (less (used + n) le))
 
 -- a value that is found takes at most the bits that are looked at
 few-bits : (most : ℕ) (class : HuffmanTableClass) (bits : List Bool) (o : Option (ℕ × ℕ)) (v : ℤ) (r n : ℕ)

@@ -47,10 +47,10 @@ onto-bits (suc n) a v =
 pub number_of-low_bits : (n v : ℕ) → v < 2 ^ n → number_of (low_bits n v) ≡ v
 number_of-low_bits n v h = onto-bits n 0 v ∙ omega (arith, mod-eq_of_lt h)
 
-pub length-low_bits : (n v : ℕ) → length (low_bits n v) ≡ n
+pub length_low_bits : (n v : ℕ) → length (low_bits n v) ≡ n
 unfolding low_bits
-length-low_bits zero v = refl
-length-low_bits (suc n) v = ap suc (length-low_bits n v)
+length_low_bits zero v = refl
+length_low_bits (suc n) v = ap suc (length_low_bits n v)
 
 -- the first n bits of a text that begins with n
 pub front : (n : ℕ) (bits rest : List Bool) → length bits ≡ n → take n ((bits ++ rest) ++ replicate n false) ≡ bits
@@ -64,7 +64,7 @@ takes-bits n bits h = grind (arith, has_enough, length-append, front, drop_at)
 pub takes-number : (n v : ℕ) → v < 2 ^ n → ReadsJust (bits_from n) (low_bits n v) v
 takes-number n v h =
     subst (λ (x : ℕ). ReadsJust (bits_from n) (low_bits n v) x) (number_of-low_bits n v h)
-    (takes-bits n (low_bits n v) (length-low_bits n v))
+    (takes-bits n (low_bits n v) (length_low_bits n v))
 
 pub one-bit : (b : ℕ) → b < 2 → number_of (bit b ∷ []) ≡ b
 one-bit b h = omega (arith, bit-value b h)

@@ -109,8 +109,7 @@ unfolding interval text_ahead
 in-text read bytes rest m bits filling x h is short =
     let following = drop 56 (text_at bytes).following in
     let read_all = h.read filling following (Found m rest) in
-    let left : length (drop (length bits) following) ≡ 0
-    = omega (
+    let left : length (drop (length bits) following) ≡ 0 = omega (
       arith,
       length-drop (length bits) following,
       length-drop 56 (text_at bytes).following,
@@ -236,5 +235,5 @@ module _ {X A B C : Type 0} (read : List A → Reads (List C)) (writes : List B 
       ≡ Ok ((h (first_group n xs) ++ flat_map h (other_groups n xs), Some m), rest)
   reads-groups n xs bytes all w =
       rw (← first-map f n xs, ← others-map f n xs)
-      (reads-intervals 0 (first_group n xs) (other_groups n xs) bytes (first-all P n xs all) (others-all P n xs all)
+      (reads-intervals _ _ _ _ (first-all P n xs all) (others-all P n xs all)
       (rw (first-map g n xs, others-map g n xs) w))

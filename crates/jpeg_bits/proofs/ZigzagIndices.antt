@@ -1,14 +1,13 @@
 -- The places of the zigzag order.
-use Rattle.std.proofs.Common.{◌≡◌, ℕ, ◌<◌, List, ◌∷◌, length, get_or, map, set, drop, ℤ, pos, refl, sym, ap, ◌∙◌, arith}
-use Rattle.std.proofs.Common.{true, length-set}
+use Rattle.std.proofs.Common.{◌≡◌, ℕ, ◌<◌, List, ◌∷◌, length, get_or, map, set, drop, ℤ, pos, refl, sym, ap}
+use Rattle.std.proofs.Common.{◌∙◌, arith, true, length-set}
 use Rattle.std.proofs.lemmas.List.{ext_get_or, get_or-map, length-map, get_or-set_same, get_or-set_other}
 use Rattle.std.proofs.lemmas.List.Folds.{list_all_at}
 use Rattle.std.proofs.lemmas.List.FromFn.{get_or-range_with_len}
 use Rattle.std.proofs.lemmas.Bool.{cases_eq, cases_lt, ltb-true, false_from_ne_true, false≢true}
 use Rattle.std.proofs.Math.Dec.{ltb}
 use Rattle.std.specs.List.{list_all, range_with_len}
-use Rattle.jpeg_bits.specs.Zigzag.{zigzag, zigzag_indices, coefficients_in_zigzag}
-use Rattle.jpeg_bits.specs.Zigzag.{coefficients_in_block_order}
+use Rattle.jpeg_bits.specs.Zigzag.{zigzag, zigzag_indices, coefficients_in_zigzag, coefficients_in_block_order}
 
 length_zigzag : length zigzag ≡ 64
 length_zigzag = refl
@@ -44,8 +43,7 @@ indices-zigzag k h =
       arith,
       length_zigzag,
     )))
-    ∙ ap (λ (xs : List ℕ). get_or xs k 0) zigzag_then_indices ∙ get_or-range_with_len 0 64 k 0 h ∙
-    omega arith
+    ∙ ap (λ (xs : List ℕ). get_or xs k 0) zigzag_then_indices ∙ get_or-range_with_len 0 64 k 0 h ∙ omega arith
 
 pub zigzag-indices : (k : ℕ) → k < 64 → get_or zigzag (get_or zigzag_indices k 0) 0 ≡ k
 zigzag-indices k h =
@@ -53,8 +51,7 @@ zigzag-indices k h =
       arith,
       length_indices,
     )))
-    ∙ ap (λ (xs : List ℕ). get_or xs k 0) indices_then_zigzag ∙ get_or-range_with_len 0 64 k 0 h ∙
-    omega arith
+    ∙ ap (λ (xs : List ℕ). get_or xs k 0) indices_then_zigzag ∙ get_or-range_with_len 0 64 k 0 h ∙ omega arith
 
 pub length-in_zigzag : (l : List ℤ) → length (coefficients_in_zigzag l) ≡ 64
 unfolding coefficients_in_zigzag
@@ -62,8 +59,7 @@ length-in_zigzag l = length-map zigzag (λ index. get_or l index (pos 0)) ∙ le
 
 pub length-in_block_order : (l : List ℤ) → length (coefficients_in_block_order l) ≡ 64
 unfolding coefficients_in_block_order
-length-in_block_order l = length-map zigzag_indices (λ index. get_or l index (pos 0)) ∙
-    length_indices
+length-in_block_order l = length-map zigzag_indices (λ index. get_or l index (pos 0)) ∙ length_indices
 
 -- a coefficient is read at its place in the block
 pub get_or-in_zigzag : (l : List ℤ) (k : ℕ) (d : ℤ) → k < 64
@@ -107,8 +103,7 @@ pub block_order-of-zigzag : (l : List ℤ) → length l ≡ 64
     → coefficients_in_block_order (coefficients_in_zigzag l) ≡ l
 block_order-of-zigzag l n =
     ext_get_or (pos 0) (coefficients_in_block_order (coefficients_in_zigzag l)) l
-    (length-in_block_order (coefficients_in_zigzag l) ∙ sym n)
-    (grind (
+    (length-in_block_order (coefficients_in_zigzag l) ∙ sym n) (grind (
       arith,
       length-in_block_order,
       get_or-in_block_order,

@@ -31,7 +31,7 @@ unfolding zigzag_part
 part-set start end k block v n from before within =
     let z = coefficients_in_zigzag block in
     let at : k ≡ start + (k - start) = omega arith in
-    ap (λ (xs : List ℤ). take (end - start) (drop start xs)) (in_zigzag-set block k v n (omega arith)
+    ap (λ (xs : List ℤ). take (end - start) (drop start xs)) (in_zigzag-set _ _ _ n (omega arith)
     ∙ ap (λ (i : ℕ). set z i v) at)
     ∙ ap (take (end - start)) (drop-set-add start z (k - start) v)
     ∙ take-set-lt (end - start) (drop start z) (k - start) v (omega arith)
@@ -77,9 +77,9 @@ pub part-put : (start from end : ℕ) (block new : List ℤ) → start ≤ from 
     → zigzag_part start end new ≡ take (from - start) (zigzag_part start end block) ++ zigzag_part from end new
 part-put start from end block new after within k =
     sym (take-append-drop (from - start) (zigzag_part start end new))
-    ∙ ap (λ (xs : List ℤ). xs ++ drop (from - start) (zigzag_part start end new)) (part-front start from end new after
-    within ∙ ap (drop start) k.front ∙ sym (part-front start from end block after within))
-    ∙ ap (λ (xs : List ℤ). take (from - start) (zigzag_part start end block) ++ xs) (part-rest start from end new after
+    ∙ ap (λ (xs : List ℤ). xs ++ drop (from - start) (zigzag_part start end new)) (part-front _ _ _ _ after
+    within ∙ ap (drop start) k.front ∙ sym (part-front _ _ _ _ after within))
+    ∙ ap (λ (xs : List ℤ). take (from - start) (zigzag_part start end block) ++ xs) (part-rest _ _ _ _ after
     within)
 
 -- ---- the band of a pass

@@ -243,6 +243,7 @@ impl BufferedBits {
 
     /// Returns whether a marker was reached and no bit is buffered: zeros come then without end.
     #[inline(always)]
+    #[tactic(auto, using(crate::proofs::BufferedBits::zero_next))]
     pub(crate) fn is_past_marker(&self) -> bool
         ensures { result ≡ true → (bytes : List ℕ) → bits_from 1 (upcoming self.now bytes)
             ≡ Ok (0, upcoming self.now bytes) }
@@ -361,6 +362,7 @@ impl BufferedBits {
     /// the value after it take at most 8 bits together (T.81, F.2.2.2), or none within. A refusal
     /// is stored in `refusal`, and none is returned.
     #[inline(always)]
+    #[tactic(auto, using(crate::proofs::Rules::fast))]
     pub(crate) fn take_short_value<R: Read + Drop>(
         &mut self,
         source: &mut Source<R>,
@@ -433,6 +435,7 @@ impl BufferedBits {
 
     /// As `short_value`, where they are at most 11, and the table for them is filled.
     #[inline(always)]
+    #[tactic(auto, using(crate::proofs::ShortLemmas::eleven_front))]
     pub(crate) fn wide_value(&self, table: &HuffmanTable) -> Option<(i16, u8, u8)>
         ensures value { IfSome result (λ t. short_value_of 11 table.now
             (next_bits 11 self.now.bits) ≡ Some t) }
@@ -445,6 +448,7 @@ impl BufferedBits {
     /// Returns the tokens that the buffered bits begin with: how many bits they take, how many
     /// coefficients they stand for, and whether the last is the end of the band.
     #[inline(always)]
+    #[tactic(auto, using(crate::proofs::SkipLemmas::twelve_front))]
     pub(crate) fn skip_ahead(&self, table: &HuffmanTable) -> (u8, u8, bool)
         ensures { IsSkip table.now (next_bits 12 self.now.bits) result }
     {
@@ -454,6 +458,7 @@ impl BufferedBits {
     /// Returns the values that the buffered bits begin with, one or two, where the table for them
     /// is filled.
     #[inline(always)]
+    #[tactic(auto, using(crate::proofs::ShortLemmas::eleven_front))]
     pub(crate) fn next_pair(&self, table: &HuffmanTable) -> Pair
         ensures pair { IsPairOf table.now (next_bits 11 self.now.bits) result }
         ensures small { IsWithinPassed result }

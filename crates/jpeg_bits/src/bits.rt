@@ -55,6 +55,7 @@ impl Bits {
     }
 
     #[inline(always)]
+    #[tactic(auto, using(crate::proofs::WrittenBits::length_low_bits))]
     pub(crate) fn len(&self) -> usize
         ensures count { result ≡ length self.now }
         ensures most { result ≤ 64 }
@@ -74,6 +75,7 @@ impl Bits {
 
     /// Returns the first `count` bits, with zeros after them, as a number.
     #[inline(always)]
+    #[tactic(auto, using(crate::proofs::Rules::fronts))]
     pub(crate) fn front(&self, count: usize) -> u16
         requires some { 1 ≤ count }
         requires most { count ≤ 16 }
@@ -101,6 +103,7 @@ impl Bits {
 
     /// Drops the first `count` bits, or all where fewer are buffered.
     #[inline(always)]
+    #[tactic(auto, using(crate::proofs::Reservoirs::rests))]
     pub(crate) fn skip(&mut self, count: usize)
         requires { count ≤ 16 }
         ensures { self.new ≡ drop count self.old }
@@ -110,6 +113,7 @@ impl Bits {
     }
 }
 
+#[tactic(auto, using(std::proofs::Common::pow_mono))]
 pub(crate) fn power_of_two(exponent: u8) -> u16
     requires { exponent ≤ 14 }
     ensures value { result ≡ 2 ^ exponent }

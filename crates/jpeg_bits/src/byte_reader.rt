@@ -26,6 +26,7 @@ impl<R: Read + Drop> Read for ByteReader<R> {
     ghost remaining = { λ r. reader_remaining R.remaining r.inner };
 
     #[inline(always)]
+    #[tactic(auto, using(crate::proofs::TakenBytes::takes_front))]
     fn read(&mut self, buf: &mut [u8]) -> Result<usize> {
         if buf.len() == 1 {
             let ahead = self.inner.buffer();

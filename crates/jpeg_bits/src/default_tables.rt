@@ -69,6 +69,7 @@ struct Listed<'a> {
 }
 
 /// Puts the table of these codes at a destination that is named and unset.
+#[tactic(auto, using(crate::proofs::DefaultTables::refusals))]
 fn fill(
     alloc: Global,
     table: &mut Option<HuffmanTable>,
@@ -93,6 +94,7 @@ fn fill(
 
 /// Fills destinations 0 and 1, where they are named and unset, with the tables of luminance and of
 /// chrominance.
+#[tactic(auto, using(crate::proofs::DefaultTables::refusals))]
 fn fill_both(
     alloc: Global,
     tables: &mut [Option<HuffmanTable>],
@@ -138,6 +140,7 @@ fn fill_both(
 /// stay as they are. The lists have a table for each destination, DC and AC.
 ///
 /// The only error is `OutOfMemory`; destinations that were filled before it stay filled.
+#[tactic(auto, using(crate::proofs::Rules::defaults))]
 pub fn fill_default_mjpeg_tables(
     alloc: Global,
     scan: &ScanInfo,

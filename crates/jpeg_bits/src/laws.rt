@@ -24,6 +24,7 @@ pub fn numbers_are_read()
 {}
 
 /// Each symbol of a table that exists is read of the bits of its code, and nothing else.
+#[tactic(auto, using(crate::proofs::Rules::codes))]
 pub fn codes_are_read()
     ensures { (table : Table) (i : ℕ) → IsTable table → i < length (code_lengths table.counts) →
         ReadsJust (symbol_from table) (code_bits table i) (slice_index table.symbols i) }
@@ -49,6 +50,7 @@ pub fn intervals_end()
 {}
 
 /// Returns whether the codes of a table exist can be computed.
+#[tactic(auto, using(crate::proofs::Rules::codes))]
 pub fn codes_exist_or_not()
     ensures exist { (lengths : List ℕ) → HasCodes lengths → codes_exist lengths ≡ true }
     ensures tested { (lengths : List ℕ) → codes_exist lengths ≡ true → HasCodes lengths }
@@ -57,6 +59,7 @@ pub fn codes_exist_or_not()
 /// The next marker is at the least index where a byte 255 and the byte after it make a marker
 /// (T.81, B.1.1.2), and what is read on is all after both. Where they make one at no index, the
 /// bytes end first.
+#[tactic(auto, using(crate::proofs::Rules::markers))]
 pub fn next_markers_are_first()
     ensures found { (bytes : List ℕ) (i : ℕ) (m : Marker) (rest : List ℕ)
         → IsNextMarker bytes i m rest →

@@ -56,6 +56,7 @@ pub fn read_length<R: Read + Drop>(alloc: Global, source: &mut Source<R>) -> Res
 
 /// Fills the buffer with the next bytes, in as many reads as the reader takes for it. Errors are
 /// those of `read_u8`; what the buffer holds is then unspecified.
+#[tactic(auto, using(crate::proofs::Rules::exact))]
 pub fn read_exact<R: Read + Drop>(
     alloc: Global,
     source: &mut Source<R>,
@@ -94,6 +95,7 @@ pub fn read_bytes<R: Read + Drop>(
 }
 
 /// Skips `count` bytes, as many at once as the buffer has room for. Errors are those of `read_u8`.
+#[tactic(auto, using(crate::proofs::Rules::passed))]
 fn skip_by<R: Read + Drop>(
     alloc: Global,
     source: &mut Source<R>,

@@ -41,6 +41,7 @@ pub enum Refinement {
 
 /// 2 to the point transform.
 #[inline]
+#[tactic(auto, using(std::proofs::Common::pow_mono, std::proofs::lemmas::Int::to_z_pos))]
 pub(crate) fn unit(al: u8) -> i16
     requires { al ≤ 13 }
     ensures { result ≡ pos (2 ^ al) }
@@ -50,6 +51,7 @@ pub(crate) fn unit(al: u8) -> i16
 
 /// Returns whether bit `al` of a number's two's complement isn't set.
 #[inline]
+#[tactic(auto, using(std::proofs::lemmas::Int::wraps, crate::proofs::SetBits::unsigned_bit))]
 pub(crate) fn lacks_bit(value: i16, al: u8) -> bool
     requires { al ≤ 13 }
     ensures { result ≡ (bit_of al value == 0) }
@@ -83,6 +85,7 @@ fn read_run<R: Read + Drop>(
 /// Returns how far a correction bit moves a number that isn't 0: by the unit of the point
 /// transform, where the bit is set and the number's own isn't.
 #[inline(always)]
+#[tactic(auto, using(std::proofs::lemmas::Int::wraps, crate::proofs::Corrections::distances))]
 fn distance(value: i16, al: u8, bit: u16) -> u16
     requires level { al ≤ 13 }
     requires bit { bit < 2 }
@@ -142,6 +145,7 @@ fn correct<R: Read + Drop>(
 
 /// Marks the coefficients of a block that aren't 0 by 1, and the others by 0.
 #[inline(always)]
+#[tactic(auto, using(crate::proofs::Masks::marked_lanes, crate::proofs::Masks::block_fits))]
 fn marked(block: [i16; 64]) -> u16x64
     ensures { result ≡ map marked block }
 {
@@ -192,6 +196,7 @@ fn mask_of(block: [i16; 64]) -> u64
 /// Counts the zeros from a zigzag index on, before the next coefficient that isn't 0 or the end of
 /// the band.
 #[inline(always)]
+#[tactic(auto, using(crate::proofs::Rules::gaps))]
 fn zeros_from(mask: u64, index: usize, end: usize) -> usize
     requires some { index < end }
     requires most { end ≤ 64 }
@@ -225,6 +230,7 @@ struct BandPiece {
 /// are 0: the block stays as it is.
 #[cold]
 #[inline(never)]
+#[tactic(auto, using(crate::proofs::Rules::pieces))]
 fn pass_piece(piece: BandPiece, mask: u64) -> usize
     requires pass { IsPass (pass_in piece.pass) }
     requires from { piece.from ≤ band_end (pass_in piece.pass) }
@@ -258,6 +264,7 @@ fn pass_piece(piece: BandPiece, mask: u64) -> usize
 /// Corrects a piece of the band of a block with this mask, going from one coefficient that isn't 0
 /// to the next. Gives the index after it.
 #[inline(always)]
+#[tactic(auto, using(crate::proofs::Rules::pieces))]
 fn correct_piece<R: Read + Drop>(
     buffered: &mut BufferedBits,
     source: &mut Source<R>,

@@ -59,6 +59,7 @@ pub(crate) fn read_difference<R: Read + Drop>(
 
 /// Returns a sum modulo 2^16.
 #[inline]
+#[tactic(auto, using(std::proofs::lemmas::Int::wraps))]
 pub(crate) fn wrapped_sum(a: i16, b: i16) -> i16
     ensures { result ≡ wrapped (a +ℤ b) }
 {
@@ -67,6 +68,7 @@ pub(crate) fn wrapped_sum(a: i16, b: i16) -> i16
 
 /// 2 to an exponent.
 #[inline]
+#[tactic(auto, using(std::proofs::Common::pow_mono, std::proofs::Common::pow_pos))]
 pub(crate) fn power_of_two(exponent: u8) -> u16
     requires { exponent ≤ 14 }
     ensures value { result ≡ 2 ^ exponent }
@@ -79,7 +81,7 @@ pub(crate) fn power_of_two(exponent: u8) -> u16
 /// Returns the token of a code, by its length and its symbol. A refusal is stored in `refusal`, and
 /// none is returned.
 #[inline(always)]
-#[tactic(auto, unfolding(crate::specs::Bands::token_at))]
+#[tactic(auto, using(crate::proofs::WideTokens::none_left), unfolding(crate::specs::Bands::token_at))]
 fn read_token_of<R: Read + Drop>(
     buffered: &mut BufferedBits,
     source: &mut Source<R>,
@@ -251,6 +253,7 @@ pub(crate) fn read_first_band<R: Read + Drop>(
 /// Reads the band of a block in a first pass, of `room` coefficients, of which nothing is kept but
 /// the blocks of the run that follows. A refusal is stored in `refusal`, and none is returned.
 #[inline(always)]
+#[tactic(auto, using(crate::proofs::Rules::runs))]
 fn skip_coefficients<R: Read + Drop>(
     buffered: &mut BufferedBits,
     source: &mut Source<R>,

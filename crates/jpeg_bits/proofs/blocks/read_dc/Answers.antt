@@ -1,10 +1,10 @@
-use Rattle.std.proofs.Common.{◌≡◌, ◌+ℤ◌, ◌*ℤ◌, ◌^◌, ◌<◌, pos, length, set, FitsSigned, sym, ap, ◌∙◌, w16, rules, arith}
+use Rattle.std.proofs.Common.{◌≡◌, ◌+ℤ◌, ◌*ℤ◌, ◌^◌, ◌<◌, pos, length, set, FitsSigned, sym, ap, ◌∙◌}
+use Rattle.std.proofs.Common.{w16, rules, arith}
 use Rattle.std.proofs.lemmas.Int.{to_z-of_z}
 use Rattle.std.proofs.lemmas.List.{get_or-set_same}
-use Rattle.jpeg_bits.specs.Entropy.{upcoming}
 use Rattle.jpeg_bits.specs.Bands.{wrapped}
 use Rattle.jpeg_bits.specs.Passes.{or_bit}
-use Rattle.jpeg_bits.specs.BlockView.{pass_in, dc_in}
+use Rattle.jpeg_bits.specs.BlockView.{dc_in}
 use Rattle.jpeg_bits.proofs.BlockParts.{dc_first, dc_refined}
 use Rattle.jpeg_bits.proofs.SetBits.{or_none}
 use Rattle.jpeg_bits.proofs.blocks.read_dc.Goals as goal
@@ -18,27 +18,18 @@ returns-then-pass-clause-part g c =
     let predictor : FitsSigned w16 c.args.predictor.now = search rules in
     let q = to_z-of_z w16 c.args.predictor.now predictor in
     let fits : FitsSigned w16 c.in-Some.difference = search rules in
-    let d = to_z-of_z w16 c.in-Some.difference fits in
+    let added = to_z-of_z w16 c.in-Some.difference fits in
     let sum : c.wrapped_sum.result ≡ wrapped (c.args.predictor.now +ℤ c.in-Some.difference) =
-    rw (q, d) at c.wrapped_sum.ensures in
+    rw (q, added) at c.wrapped_sum.ensures in
     let value : c.shifted.result ≡ wrapped (c.wrapped_sum.result *ℤ pos (2 ^ k.pass.al)) =
     rw (s, s) at c.shifted.ensures in
     let some : 0 < length block = rw c.told-block (omega arith) in
     let put : dc_in (set block 0 c.shifted.result) ≡ c.shifted.result =
-    get_or-set_same block 0 c.shifted.result (pos 0) some in
+    get_or-set_same block 0 _ (pos 0) some in
+    let d = c.in-Some.ensures.difference in
     rw (s, v, put) (
-      c.in-Some.ensures.difference.0,
-      λ known.
-          let at = c.in-Some.ensures.difference.1 known in (
-            at.0,
-            dc_first (pass_in k.pass) k.dc_table.now (dc_in block) c.args.predictor.now c.in-Some.difference
-                c.wrapped_sum.result c.shifted.result (upcoming c.args.buffered.now
-                c.args.source.now.bytes)
-                (upcoming c.read_difference.new.buffered c.read_difference.new.source.bytes) (omega
-                arith) c.if-pass.true
-                sum
-                value at.1,
-          ),
+      d.0,
+      λ known. ((d.1 known).0, dc_first _ _ _ _ _ _ _ _ _ (omega arith) c.if-pass.true sum value (d.1 known).1),
     )
 
 pub returns-then-bit-gt0-clause-part : goal.returns-then-bit-gt0-clause-part
@@ -54,30 +45,14 @@ returns-then-bit-gt0-clause-part g c =
     (rw q at c.with_bit.ensures) ∙ ap (or_bit k.pass.al (dc_in block)) one in
     let some : 0 < length block = rw c.told-block (omega arith) in
     let put : dc_in (set block 0 c.with_bit.result) ≡ c.with_bit.result =
-    get_or-set_same block 0 c.with_bit.result (pos 0) some in
-    rw (v, put) (
-      c.in-Some-take_number.ensures.bits.0,
-      λ known.
-          let at = c.in-Some-take_number.ensures.bits.1 known in (
-            at.0,
-            dc_refined (pass_in k.pass) k.dc_table.now (dc_in block) c.args.predictor.now c.with_bit.result
-                c.in-Some-take_number.bit (upcoming c.args.buffered.now c.args.source.now.bytes)
-                (upcoming c.take_number.new.self c.take_number.new.source.bytes) (omega arith) c.if-pass.false is at.1,
-          ),
-    )
+    get_or-set_same block 0 _ (pos 0) some in
+    let b = c.in-Some-take_number.ensures.bits in
+    rw (v, put)
+    (b.0, λ known. ((b.1 known).0, dc_refined _ _ _ _ _ _ _ _ (omega arith) c.if-pass.false is (b.1 known).1))
 
 pub returns-else-bit-gt0-clause-part : goal.returns-else-bit-gt0-clause-part
 returns-else-bit-gt0-clause-part g c =
-    let k = c.args.coding.now in
-    let block = c.args.block.now in
-    let none : c.in-Some-take_number.bit ≡ 0 = omega (arith, c.if-bit-gt0.false) in (
-      c.in-Some-take_number.ensures.bits.0,
-      λ known.
-          let at = c.in-Some-take_number.ensures.bits.1 known in (
-            at.0,
-            dc_refined (pass_in k.pass) k.dc_table.now (dc_in block) c.args.predictor.now (dc_in block)
-                c.in-Some-take_number.bit (upcoming c.args.buffered.now c.args.source.now.bytes)
-                (upcoming c.take_number.new.self c.take_number.new.source.bytes) (omega arith) c.if-pass.false
-                (sym (or_none k.pass.al (dc_in block) c.in-Some-take_number.bit none)) at.1,
-          ),
-    )
+    let none : c.in-Some-take_number.bit ≡ 0 = omega (arith, c.if-bit-gt0.false) in
+    let same = sym (or_none c.args.coding.now.pass.al (dc_in c.args.block.now) c.in-Some-take_number.bit none) in
+    let b = c.in-Some-take_number.ensures.bits in
+    (b.0, λ known. ((b.1 known).0, dc_refined _ _ _ _ _ _ _ _ (omega arith) c.if-pass.false same (b.1 known).1))

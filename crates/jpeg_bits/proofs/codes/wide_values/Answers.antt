@@ -34,10 +34,8 @@ loop-index-preserved c =
           (λ (k : ℕ). packed (short_value_of 11
           (record { class = AC; counts = t.counts.now; symbols = t.values.now }) (low_bits 11 k)))
           (omega (arith, i.whole, c.loop-index-test.true)) i.filled entry;
-      small = set-holds (λ (k : ℕ) (v : ℤ × ℕ × ℕ). (v.1 ≤ 15) × (v.2 ≤ 11))
-          c.loop-index.tokens.items b
-          c.packed.result (packed None) (omega (arith, i.whole, c.loop-index-test.true)) i.small
-          (subst
+      small = set-holds (λ (k : ℕ) (v : ℤ × ℕ × ℕ). (v.1 ≤ 15) × (v.2 ≤ 11)) c.loop-index.tokens.items b
+          c.packed.result (packed None) (omega (arith, i.whole, c.loop-index-test.true)) i.small (subst
           (λ (v : ℤ × ℕ × ℕ). (v.1 ≤ 15) × (v.2 ≤ 11)) (sym c.packed.ensures)
           (small_packed c.short_value.result c.short_value.ensures.run c.short_value.ensures.within));
       within = c.code_of-code.ensures.within;

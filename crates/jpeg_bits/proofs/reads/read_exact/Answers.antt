@@ -4,21 +4,13 @@ use Rattle.jpeg_bits.proofs.Filled.{filled-more, filled-all, filled-short, fille
 use Rattle.jpeg_bits.proofs.reads.read_exact.Goals as goal
 use Rattle.std.proofs.lemmas.Grind.{common_steps}
 
-pub returns-in_err-count-clause-answers : goal.returns-in_err-count-clause-answers
-returns-in_err-count-clause-answers g c =
-    grind (arith, common_steps, err_from_is_err_and, filled-err)
-
-pub returns-in_err-count-clause-room : goal.returns-in_err-count-clause-room
-returns-in_err-count-clause-room g c = grind (arith, common_steps, err_from_is_err_and, filled-room)
-
 pub returns-then-count-eq0-clause-answers : goal.returns-then-count-eq0-clause-answers
 returns-then-count-eq0-clause-answers g c =
     let inv = c.loop-filled.invariant in
     let some : 0 < length c.read.new.buffer = search rules in
     let less : c.loop-filled.filled < length c.args.buffer.now = search rules in
-    filled-short c.args.source.now c.loop-filled.source c.read.new.self _ _ _ c.loop-filled.buffer c.read.new.buffer _
-    inv.long less c.if-count-eq0.true some inv.read
-    c.in_ok-count.ensures.some c.end_of_bytes.ensures
+    filled-short _ c.loop-filled.source c.read.new.self _ _ _ c.loop-filled.buffer c.read.new.buffer _
+    inv.long less c.if-count-eq0.true some inv.read c.in_ok-count.ensures.some c.end_of_bytes.ensures
 
 pub loop-filled-preserved : goal.loop-filled-preserved
 loop-filled-preserved g c =
@@ -26,9 +18,6 @@ loop-filled-preserved g c =
     record {
       long = search rules;
       within = search rules;
-      read = filled-more c.args.source.now c.loop-filled.source c.read.new.self _ _ _ c.loop-filled.buffer c.read.new.buffer inv.within inv.read
+      read = filled-more _ c.loop-filled.source c.read.new.self _ _ _ c.loop-filled.buffer c.read.new.buffer inv.within inv.read
           c.in_ok-count.ensures.some;
     }
-
-pub returns-clause-answers : goal.returns-clause-answers
-returns-clause-answers g c = grind (arith, common_steps, filled-all)

@@ -1,73 +1,50 @@
-use Rattle.std.proofs.Common.{◌≡◌, ◌-◌, ◌+◌, ◌<◌, ◌≤◌, ℤ, ℕ, pos, get_or, length-set, ◌∙◌, ap, sym, w16, SFits, arith}
-use Rattle.std.proofs.Common.{rules}
+use Rattle.std.proofs.Common.{List}
+use Rattle.std.proofs.Common.{◌≡◌, ◌-◌, ◌+◌, ◌<◌, ◌≤◌, ℤ, ℕ, pos, get_or, length-set, ◌∙◌, ap, sym}
+use Rattle.std.proofs.Common.{w16, SFits, arith, rules}
 use Rattle.std.proofs.lemmas.Int.{to_z-of_z}
 use Rattle.std.specs.Int.{cast_signed, cast_unsigned}
-use Rattle.jpeg_bits.specs.Entropy.{Text, upcoming}
+use Rattle.jpeg_bits.specs.Entropy.{Text}
 use Rattle.jpeg_bits.specs.Pieces.{piece_from, corrected_from}
 use Rattle.jpeg_bits.specs.BlockView.{pass_in}
 use Rattle.jpeg_bits.specs.ZigzagParts.{band_end, rest_in}
-use Rattle.jpeg_bits.proofs.BandSteps.{Leaves-ok, Leaves-err}
+use Rattle.jpeg_bits.proofs.BandSteps.{Leaves-ok, Leaves-err, Leaves-end}
 use Rattle.jpeg_bits.proofs.BlockWalks.{walk_at, at-start, at-end, at-value, at-refused}
 use Rattle.jpeg_bits.proofs.Masks.{gap-zeros, at-skips, at-gap, at-last-gap, marks-set, marks-later}
 use Rattle.jpeg_bits.proofs.ZigzagParts.{kept-same, kept-set}
-use Rattle.jpeg_bits.proofs.refinement.correct_piece.Goals as goal
 use Rattle.std.proofs.lemmas.Grind.{common_steps}
-
-pub loop-index-init : goal.loop-index-init
-loop-index-init g c = grind (arith, common_steps, at-start, kept-same)
-
-pub returns-then-left-gap-clause-within : goal.returns-then-left-gap-clause-within
-returns-then-left-gap-clause-within g c = grind (arith, common_steps)
+use Rattle.jpeg_bits.proofs.refinement.correct_piece.Goals as goal
 
 pub returns-then-left-gap-clause-piece : goal.returns-then-left-gap-clause-piece
 returns-then-left-gap-clause-piece g c =
-    let p = pass_in c.args.piece.pass in
+    let a = c.args.piece in
+    let end = band_end (pass_in a.pass) in
     let l = c.loop-index in
-    let end = c.band_end-end.ensures in
-    let last = c.requires.pass.end in
-    let gap = c.zeros_from-gap.result in
-    let inside = c.zeros_from-gap.ensures.within in (
-      l.invariant.walk.0,
-      λ k. let at = l.invariant.walk.1 k in (
-        at.0,
-        at.1
-            ∙ at-gap p.al c.args.piece.from (band_end p) l.block (omega (arith, last)) gap l.left l.index
-            (upcoming l.buffered l.source.bytes) l.invariant.after (omega (arith, end, inside))
-            c.if-left-gap.true
-            (gap-zeros c.args.mask l.index gap l.block (omega (arith, end, last, inside)) l.invariant.marks
-            c.zeros_from-gap.ensures.zeros),
-      ),
-    )
-
-pub returns-then-left-gap-clause-mask : goal.returns-then-left-gap-clause-mask
-returns-then-left-gap-clause-mask g c = grind (arith, common_steps, marks-later)
-
-pub returns-then-index-end-clause-within : goal.returns-then-index-end-clause-within
-returns-then-index-end-clause-within g c = grind (arith, common_steps)
-
-pub returns-then-index-end-clause-piece : goal.returns-then-index-end-clause-piece
-returns-then-index-end-clause-piece g c =
-    let p = pass_in c.args.piece.pass in
-    let l = c.loop-index in
-    let end = c.band_end-end.ensures in
+    let is = c.band_end-end.ensures in
     let last = c.requires.pass.end in
     let gap = c.zeros_from-gap.result in
     let inside = c.zeros_from-gap.ensures.within in
-    rw end (
-      l.invariant.walk.0,
-      λ k. let at = l.invariant.walk.1 k in (
-        at.0,
-        at.1
-            ∙ at-last-gap p.al c.args.piece.from (band_end p) l.block (omega (arith, last)) gap l.left l.index
-            (upcoming l.buffered l.source.bytes) l.invariant.after (c.if-index-end.true ∙ end)
-            (omega (arith, c.if-left-gap.false))
-            (gap-zeros c.args.mask l.index gap l.block (omega (arith, end, last, inside)) l.invariant.marks
-            c.zeros_from-gap.ensures.zeros),
-      ),
-    )
+    Leaves-end (λ (y : ℕ × List ℤ). y) (piece_from a.pass.al a.zeros (rest_in (pass_in a.pass) a.from c.args.block.now))
+    _ c.args.buffered.now _ c.args.source.now l.source _
+    (λ t. at-gap a.pass.al a.from end l.block (omega arith) gap l.left l.index t l.invariant.after (omega arith)
+    c.if-left-gap.true (gap-zeros c.args.mask l.index gap l.block (omega arith) l.invariant.marks
+    c.zeros_from-gap.ensures.zeros)) l.invariant.walk
 
-pub returns-then-index-end-clause-mask : goal.returns-then-index-end-clause-mask
-returns-then-index-end-clause-mask g c = grind (arith, common_steps, marks-later)
+pub returns-then-index-end-clause-piece : goal.returns-then-index-end-clause-piece
+returns-then-index-end-clause-piece g c =
+    let a = c.args.piece in
+    let end = band_end (pass_in a.pass) in
+    let l = c.loop-index in
+    let is = c.band_end-end.ensures in
+    let last = c.requires.pass.end in
+    let gap = c.zeros_from-gap.result in
+    let inside = c.zeros_from-gap.ensures.within in
+    let met = c.if-index-end.true in
+    let few = c.if-left-gap.false in
+    rw is (Leaves-end (λ (y : ℕ × List ℤ). y) (piece_from a.pass.al a.zeros (rest_in (pass_in a.pass) a.from c.args.block.now))
+    _ c.args.buffered.now _ c.args.source.now l.source _
+    (λ t. at-last-gap a.pass.al a.from end l.block (omega arith) gap l.left l.index t l.invariant.after (omega arith)
+    (omega arith) (gap-zeros c.args.mask l.index gap l.block (omega arith) l.invariant.marks
+    c.zeros_from-gap.ensures.zeros)) l.invariant.walk)
 
 -- at the coefficient after the gap
 pub returns-in_default-clause-piece : goal.returns-in_default-clause-piece
@@ -97,10 +74,8 @@ returns-in_default-clause-piece g c =
     (piece_from p.al a.zeros (rest_in p a.from c.args.block.now))
     (walk_at p.al l.left a.from (band_end p) l.block l.index)
     (corrected_from p.al (cast_signed w16 (cast_unsigned w16 x))) c.args.buffered.now l.buffered
-    c.correct.new.buffered
-    c.args.source.now l.source c.correct.new.source _
-    (λ t f e. skips t ∙ at-refused p.al (l.left - gap) a.from (band_end p) next
-    c.index_of-at.result l.block
+    c.correct.new.buffered c.args.source.now l.source c.correct.new.source _
+    (λ t f e. skips t ∙ at-refused p.al (l.left - gap) a.from (band_end p) next c.index_of-at.result l.block
     (omega (arith, last)) after before is (cast_signed w16 (cast_unsigned w16 x)) t f some s e)
     l.invariant.walk c.in_default.ensures.index)
 
@@ -139,6 +114,3 @@ loop-index-preserved g c =
           (omega (arith, last, before))
           (marks-later c.args.mask l.index (next + 1) l.block (omega arith) l.invariant.marks));
     }
-
-pub returns-clause-piece : goal.returns-clause-piece
-returns-clause-piece g c = grind (arith, common_steps, at-end)

@@ -6,9 +6,6 @@ use Rattle.jpeg_bits.proofs.Masks.{gap-zeros, gap-values, gap-some, at-skips, at
 use Rattle.jpeg_bits.proofs.refinement.pass_piece.Goals as goal
 use Rattle.std.proofs.lemmas.Grind.{common_steps}
 
-pub loop-index-init : goal.loop-index-init
-loop-index-init c = grind (arith, common_steps, at-start)
-
 pub returns-then-index-end-clause-piece : goal.returns-then-index-end-clause-piece
 returns-then-index-end-clause-piece c block t long marks zeros =
     let a = c.args.piece in
@@ -24,12 +21,6 @@ returns-then-index-end-clause-piece c block t long marks zeros =
     (marks-later c.args.mask a.from l.index block l.invariant.after marks) c.zeros_from-index.ensures.zeros) zeros
     ∙ at-end p.al l.left a.from (band_end p) (l.index + kept) block t (omega (arith, last))
     (c.if-index-end.true ∙ end))
-
-pub returns-then-left-gap-clause-after : goal.returns-then-left-gap-clause-after
-returns-then-left-gap-clause-after c = omega (arith, c.loop-index.invariant.after)
-
-pub returns-then-left-gap-clause-some : goal.returns-then-left-gap-clause-some
-returns-then-left-gap-clause-some c h = omega (arith, c.loop-index.invariant.after)
 
 pub returns-then-left-gap-clause-piece : goal.returns-then-left-gap-clause-piece
 returns-then-left-gap-clause-piece c block t long marks zeros =
@@ -51,9 +42,6 @@ returns-then-left-gap-clause-piece c block t long marks zeros =
     (gap-zeros c.args.mask (l.index + kept) gap block (omega (arith, end, last, inside))
     (marks-later c.args.mask a.from (l.index + kept) block (omega (arith, l.invariant.after)) marks)
     c.zeros_from-gap.ensures.zeros)
-
-pub loop-index-smaller : goal.loop-index-smaller
-loop-index-smaller c = grind (arith, common_steps, gap-some)
 
 pub loop-index-preserved : goal.loop-index-preserved
 loop-index-preserved c =
@@ -81,6 +69,3 @@ loop-index-preserved c =
           (marks-later c.args.mask a.from (l.index + kept) block (omega (arith, l.invariant.after)) marks)
           c.zeros_from-gap.ensures.zeros);
     }
-
-pub returns-clause-piece : goal.returns-clause-piece
-returns-clause-piece c block t long marks zeros = grind (arith, common_steps, at-end)

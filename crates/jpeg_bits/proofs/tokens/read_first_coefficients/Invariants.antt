@@ -12,8 +12,7 @@ invariant-loop-at g l = record {
   within : l.at ≤ band_end (pass_in l.fn.pass);
   text : IsAt l.fn.table l.fn.pass.al (first_ac l.fn.table l.fn.pass.al (length (band_in (pass_in l.fn.pass)
       l.fn.block)) (band_in (pass_in l.fn.pass) l.fn.block)) l.fn.buffered l.fn.source (band_in
-      (pass_in l.fn.pass) l.block)
-      (l.at - band_start (pass_in l.fn.pass)) l.buffered l.source;
+      (pass_in l.fn.pass) l.block) (l.at - band_start (pass_in l.fn.pass)) l.buffered l.source;
   others : KeepsOthers (pass_in l.fn.pass) l.fn.block l.block;
 }
 

@@ -1,106 +1,27 @@
-use Rattle.std.proofs.Common.{◌+◌, ◌-◌, subst, sym, arith, ℕ, refl}
-use Rattle.jpeg_bits.specs.Refusals.{kept_refusal}
-use Rattle.jpeg_bits.specs.Skips.{run_of}
-use Rattle.jpeg_bits.specs.declared.tokens.Token.TheVariants.{Value, Sixteen}
-use Rattle.jpeg_bits.proofs.BandLoop.{Leaves}
-use Rattle.jpeg_bits.proofs.SkipLoop.{skip-all, skip-over, skip-overlong, skip-refused, skip-rest, skip-to-end}
-use Rattle.jpeg_bits.proofs.SkipLoop.{skip-token}
+use Rattle.std.proofs.Common.{rules}
+use Rattle.jpeg_bits.proofs.SkipLoop.{skip-all, skip-over, skip-overlong, skip-refused, skip-to-end, skip-token}
 use Rattle.jpeg_bits.proofs.tokens.skip_coefficients.Goals as goal
 
 pub returns-then-is_last-clause-run : goal.returns-then-is_last-clause-run
-returns-then-is_last-clause-run g c =
-    let a = c.args in
-    let l = c.loop-left in
-    let s = c.skip_ahead-bits.result in
-    skip-to-end a.table.now a.room l.left a.buffered.now l.buffered c.fill.new.self c.skip.new.self
-    a.source.now l.source
-    c.fill.new.source c.fill.new.source l.invariant.text c.if-not-fill.ensures.holds s.0 s.1
-    c.from-count.result
-    c.from-passed.result s.2 c.from-count.ensures c.from-passed.ensures (c.if-not-fill.ensures.full
-    refl)
-    c.skip_ahead-bits.ensures c.if-passed-left.true l.invariant.most c.if-has.ensures c.skip.ensures.bits
-    c.skip.ensures.met c.if-is_last.true
+returns-then-is_last-clause-run g c = search (rules, skip-to-end)
 
 pub loop-left-preserved-then-has : goal.loop-left-preserved-then-has
-loop-left-preserved-then-has g c =
-    let a = c.args in
-    let l = c.loop-left in
-    let s = c.skip_ahead-bits.result in
-    record {
-      most = omega (arith, l.invariant.most);
-      text = skip-over a.table.now a.room l.left a.buffered.now l.buffered c.fill.new.self
-          c.skip.new.self a.source.now l.source
-          c.fill.new.source c.fill.new.source l.invariant.text c.if-not-fill.ensures.holds s.0 s.1
-          c.from-count.result
-          c.from-passed.result s.2 c.from-count.ensures c.from-passed.ensures
-          (c.if-not-fill.ensures.full refl)
-          c.skip_ahead-bits.ensures c.if-passed-left.true l.invariant.most c.if-has.ensures c.skip.ensures.bits
-          c.skip.ensures.met c.if-is_last.false;
-    }
-
-pub returns-in_default-clause-run : goal.returns-in_default-clause-run
-returns-in_default-clause-run g c =
-    let a = c.args in
-    let l = c.loop-left in
-    skip-refused a.table.now a.room l.left a.buffered.now l.buffered c.fill.new.self
-    c.read_token.new.buffered a.source.now l.source
-    c.fill.new.source c.read_token.new.source l.invariant.text c.if-not-fill.ensures.holds
-    c.loop-left-test.true
-    (kept_refusal c.read_token.new.refusal) c.in_default.ensures.token
+loop-left-preserved-then-has g c = search (rules, skip-over)
 
 pub loop-left-preserved-in-Value : goal.loop-left-preserved-in-Value
 loop-left-preserved-in-Value g c =
-    let a = c.args in
-    let l = c.loop-left in
-    record {
-      most = omega (arith, l.invariant.most);
-      text = subst (λ (k : ℕ). Leaves (run_of a.table.now a.room) a.buffered.now a.source.now
-          (run_of a.table.now (l.left - (k + 1))) c.read_token.new.buffered
-          c.read_token.new.source) (sym c.from.ensures)
-          (skip-token a.table.now a.room l.left a.buffered.now l.buffered c.fill.new.self
-          c.read_token.new.buffered a.source.now
-          l.source c.fill.new.source c.read_token.new.source l.invariant.text
-          c.if-not-fill.ensures.holds
-          c.loop-left-test.true (Value c.in-Value.run' c.in-Value.field-1)
-          (rw c.in-Value.is at c.in-Some.ensures.token));
-    }
+    let token = rw c.in-Value.is at c.in-Some.ensures.token in
+    let after = skip-token c.args.table.now c.args.room _ c.args.buffered.now _ _ _ c.args.source.now _ c.fill.new.source _
+    c.loop-left.invariant.text c.if-not-fill.ensures.holds c.loop-left-test.true _ token in search rules
 
 pub loop-left-preserved : goal.loop-left-preserved
 loop-left-preserved g c =
-    let a = c.args in
-    let l = c.loop-left in
-    rw c.saturating_sub-left.ensures record {
-      most = omega (arith, l.invariant.most);
-      text = skip-token a.table.now a.room l.left a.buffered.now l.buffered c.fill.new.self
-          c.read_token.new.buffered a.source.now
-          l.source c.fill.new.source c.read_token.new.source l.invariant.text
-          c.if-not-fill.ensures.holds
-          c.loop-left-test.true Sixteen (rw c.in-Sixteen.is at c.in-Some.ensures.token);
-    }
+    let token = rw c.in-Sixteen.is at c.in-Some.ensures.token in
+    let after = skip-token c.args.table.now c.args.room _ c.args.buffered.now _ _ _ c.args.source.now _ c.fill.new.source _
+    c.loop-left.invariant.text c.if-not-fill.ensures.holds c.loop-left-test.true _ token in search rules
 
 pub returns-in-Rest-clause-run : goal.returns-in-Rest-clause-run
 returns-in-Rest-clause-run g c =
-    let a = c.args in
-    let l = c.loop-left in
-    skip-rest a.table.now a.room l.left a.buffered.now l.buffered c.fill.new.self
-    c.read_token.new.buffered a.source.now l.source
-    c.fill.new.source c.read_token.new.source l.invariant.text c.if-not-fill.ensures.holds
-    c.loop-left-test.true
-    c.in-Rest.run' (rw c.in-Rest.is at c.in-Some.ensures.token)
-
-pub returns-in-Overlong-clause-run : goal.returns-in-Overlong-clause-run
-returns-in-Overlong-clause-run g c =
-    let a = c.args in
-    let l = c.loop-left in
-    skip-overlong a.table.now a.room l.left a.buffered.now l.buffered c.fill.new.self
-    c.read_token.new.buffered a.source.now
-    l.source c.fill.new.source c.read_token.new.source l.invariant.text c.if-not-fill.ensures.holds
-    c.loop-left-test.true (rw c.in-Overlong.is at c.in-Some.ensures.token)
-
-pub returns-clause-run : goal.returns-clause-run
-returns-clause-run g c =
-    let a = c.args in
-    let l = c.loop-left in
-    skip-all a.table.now a.room l.left a.buffered.now l.buffered a.source.now l.source (omega
-    (arith, c.loop-left-test.false))
-    l.invariant.text
+    rw c.in-Rest.is at (skip-token c.args.table.now c.args.room _ c.args.buffered.now _ _ _ c.args.source.now _
+    c.fill.new.source _ c.loop-left.invariant.text c.if-not-fill.ensures.holds c.loop-left-test.true _
+    c.in-Some.ensures.token)

@@ -1,6 +1,5 @@
 use Rattle.std.proofs.Common.{arith}
 use Rattle.jpeg_bits.specs.Entropy.{Ahead}
-use Rattle.jpeg_bits.specs.Refusals.{kept_refusal}
 use Rattle.jpeg_bits.proofs.Texts.{none_from, within_byte, Holds-byte, Holds-end, Holds-refused}
 use Rattle.jpeg_bits.proofs.ahead.BufferedBits.refill.Goals as goal
 
@@ -18,7 +17,5 @@ pub returns-in-None-clause-fills : goal.returns-in-None-clause-fills
 returns-in-None-clause-fills g c =
     let s = c.loop-buffered.buffered in
     let b : Ahead = record { bits = s.bits; met = s.met } in
-    Holds-refused (Unit {0}) c.args.self.now b c.args.source.now c.loop-buffered.source
-    c.next_piece.new.source s.bits s.met
-    (kept_refusal c.next_piece.new.refusal)
+    Holds-refused (Unit {0}) _ b _ c.loop-buffered.source c.next_piece.new.source s.bits s.met _
     c.loop-buffered.invariant.text c.in-None.ensures.answers

@@ -1,24 +1,17 @@
-use Rattle.std.proofs.Common.{arith}
-use Rattle.std.proofs.Common.{ap, ◌∙◌, sym}
+use Rattle.std.proofs.Common.{rules, arith, ap, ◌∙◌, sym}
 use Rattle.jpeg_bits.specs.Entropy.{Ahead}
-use Rattle.jpeg_bits.specs.Refusals.{kept_refusal}
 use Rattle.jpeg_bits.proofs.ShortSymbols.{Code-buffered, Code-none, Code-refused}
 use Rattle.jpeg_bits.proofs.ahead.BufferedBits.take_buffered_code.Goals as goal
 
 pub returns-in_default-clause-code : goal.returns-in_default-clause-code
-returns-in_default-clause-code c = λ source.
-    Code-none c.args.table.now c.args.self.now source (kept_refusal c.set_no_code.new.refusal)
-    c.requires
-    (sym c.in_default.ensures.symbol) c.set_no_code.ensures.names
+returns-in_default-clause-code c = search (rules, Code-none)
 
 pub returns-then-not-has-clause-code : goal.returns-then-not-has-clause-code
 returns-then-not-has-clause-code c =
     let n = rw c.from-count.ensures at (rw (ap (λ (a : Ahead). a.met) c.self.view_is) at
     (c.set_fault.ensures.names c.from-count.result c.args.self.now.bits) (sym c.has.ensures ∙
     c.if-not-has.true)) in
-    λ source. Code-refused c.args.table.now c.args.self.now source c.in-Some.symbol c.in-Some.length
-    (kept_refusal c.set_fault.new.refusal) c.requires c.in-Some.ensures.within (sym
-    c.in-Some.ensures.symbol) n
+    λ source. Code-refused _ _ _ _ _ _ c.requires c.in-Some.ensures.within (sym c.in-Some.ensures.symbol) n
 
 pub returns-clause-code : goal.returns-clause-code
 returns-clause-code c =

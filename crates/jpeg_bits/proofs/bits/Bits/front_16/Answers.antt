@@ -6,4 +6,4 @@ use Rattle.jpeg_bits.proofs.bits.Bits.front_16.Goals as goal
 pub returns : goal.returns
 returns c =
     let s = c.self.inside in
-    sym (front_bits s.word s.count 16 c.self.invariant.0 (omega arith) c.self.invariant.2) ∙ ap next_16 c.self.view_is
+    sym (front_bits _ _ _ c.self.invariant.0 (omega arith) c.self.invariant.2) ∙ ap next_16 c.self.view_is

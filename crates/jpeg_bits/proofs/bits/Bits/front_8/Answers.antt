@@ -6,5 +6,5 @@ use Rattle.jpeg_bits.proofs.bits.Bits.front_8.Goals as goal
 pub returns : goal.returns
 returns c =
     let s = c.self.inside in
-    sym (front_bits s.word s.count 8 c.self.invariant.0 (omega arith) c.self.invariant.2)
+    sym (front_bits _ _ _ c.self.invariant.0 (omega arith) c.self.invariant.2)
     ∙ ap (next_bits 8) c.self.view_is

@@ -1,13 +1,13 @@
 use Rattle.std.proofs.Common.{◌≤◌, ◌<◌, ◌+◌, ℕ, arith, sym, subst}
 use Rattle.jpeg_bits.specs.Reservoir.{IsReservoir}
-use Rattle.jpeg_bits.proofs.WrittenBits.{length-low_bits}
+use Rattle.jpeg_bits.proofs.WrittenBits.{length_low_bits}
 use Rattle.jpeg_bits.proofs.Reservoirs.{byte_zeros, byte_buffered, byte_fits, byte_shifted}
 use Rattle.jpeg_bits.proofs.bits.Bits.push.Goals as goal
 use Rattle.jpeg_bits.proofs.bits.Bits.push.Goals.{After-self}
 use Rattle.std.proofs.lemmas.Grind.{common_steps}
 
 few : (c : After-self) → c.self.inside.count ≤ 56
-few c = grind (arith, common_steps, length-low_bits)
+few c = grind (arith, common_steps, length_low_bits)
 
 pub overflow_sub-self : goal.overflow_sub-self
 overflow_sub-self c = few c
@@ -28,7 +28,7 @@ invariant_of-self c =
     let small : b < 256 = omega (arith, c.from.ensures, c.ranges.byte.fits) in
     let few = few (goal.at.invariant_of-self c).After-self in
     subst (λ (k : ℕ). IsReservoir (s.word + k) (s.count + 8)) (sym (byte_shifted s.count b few small))
-    (omega arith, byte_fits s.word s.count b few i.2 i.1 small, byte_zeros s.word s.count b few i.2)
+    (omega arith, byte_fits _ _ _ few i.2 i.1 small, byte_zeros _ _ _ few i.2)
 
 pub returns : goal.returns
 returns c =

@@ -18,22 +18,3 @@ loop-i-init c =
     let passed = rows_passed s.counts s.rows c.args.bits 8 i.0 i.2 c.ranges.bits.fits (omega arith) none 8
     (omega arith) in
     record { above = passed.0; none = passed.1 }
-
-pub overflow_sub-index : goal.overflow_sub-index
-overflow_sub-index c = grind (arith, common_steps, first_le)
-
-pub overflow_add-index : goal.overflow_add-index
-overflow_add-index c = grind (arith, common_steps, index_within)
-
-pub index-requires : goal.index-requires
-index-requires c = grind (arith, common_steps, index_within)
-
-pub returns-then-number-row-clause-symbol : goal.returns-then-number-row-clause-symbol
-returns-then-number-row-clause-symbol c =
-    grind (arith, common_steps, row_found, index_within, get_or_default)
-
-pub loop-i-preserved : goal.loop-i-preserved
-loop-i-preserved c = grind (arith, common_steps, above_more, row_missed)
-
-pub returns-clause-symbol : goal.returns-clause-symbol
-returns-clause-symbol c = grind (arith, common_steps, none_found)

@@ -1,8 +1,8 @@
-use Rattle.std.proofs.Common.{◌≡◌, ◌<◌, rules, refl, ◌∙◌, ◌%◌, ◌+◌, ◌++◌, sym, ap, arith, Some, drop, replicate, false}
+use Rattle.std.proofs.Common.{◌≡◌, rules, refl, ◌∙◌, ◌%◌, ◌+◌, ◌++◌, sym, ap, Some, drop, replicate, false}
 use Rattle.std.proofs.lemmas.Bool.{false≢true}
 use Rattle.jpeg_bits.specs.ShortCodes.{symbol_in}
 use Rattle.jpeg_bits.specs.Written.{low_bits}
-use Rattle.jpeg_bits.proofs.WrittenBits.{length-low_bits}
+use Rattle.jpeg_bits.proofs.WrittenBits.{length_low_bits}
 use Rattle.jpeg_bits.proofs.SkipLemmas.{skip-last, skip-more}
 use Rattle.jpeg_bits.proofs.codes.HuffmanTable.skip_in.Goals as goal
 
@@ -20,25 +20,9 @@ returns-then-run-eq0 c =
     record {
       few = c.if-used-count-gt12.false;
       some = λ e. absurd (false≢true (sym e));
-      passes = skip-last table counted bits (length-low_bits 12 c.args.bits) used symbol n found (n + symbol % 16)
+      passes = skip-last table counted bits (length_low_bits 12 c.args.bits) used symbol n found (n + symbol % 16)
           c.loop.passed refl c.if-used-count-gt12.false none c.if-run-eq0.true c.loop.invariant.over;
     }
 
 pub loop-preserved : goal.loop-preserved
-loop-preserved c =
-    let table = c.args.self.now in
-    let bits = low_bits 12 c.args.bits in
-    let used = c.loop.used in
-    let n = c.in-Some.length in
-    let symbol = c.in-Some.symbol in
-    let counted = c.symbol_of.ensures.counted in
-    let found : symbol_in table (drop used bits ++ replicate (4 + used) false) ≡ Some (symbol, n)
-    = ap (symbol_in table) (sym c.bits_after.ensures) ∙ sym c.in-Some.ensures.symbol in
-    let fits : c.in-Some.symbol < 256 = search rules in
-    record {
-      within = c.if-used-count-gt12.false;
-      small = omega (arith, fits, c.loop.invariant.small);
-      over = skip-more table counted bits (length-low_bits 12 c.args.bits) used symbol n found (n + symbol % 16)
-          c.loop.passed refl c.if-used-count-gt12.false (c.if-not-has_room.ensures.some refl)
-          c.loop.invariant.over;
-    }
+loop-preserved c = search (rules, skip-more, length_low_bits)

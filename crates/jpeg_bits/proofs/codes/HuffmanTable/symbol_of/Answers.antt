@@ -11,6 +11,5 @@ returns-in-Some-Some-clause-symbol c =
     let i = c.self.invariant in
     let table : Table = record { class = s.class; counts = s.counts; symbols = s.values.items } in
     let at : get_or s.codes.items (c.args.bits / 256) None ≡ Some c.in-Some-Some.code = search rules in
-    sym (symbol_found table c.args.bits c.in-Some-Some.code i.0
-    (sym (i.3 (c.args.bits / 256) (omega (arith, c.ranges.bits.fits))) ∙ at))
+    sym (symbol_found table _ _ i.0 (sym (i.3 (c.args.bits / 256) (omega (arith, c.ranges.bits.fits))) ∙ at))
     ∙ ap (λ (t : Table). symbol_in t (low_bits 16 c.args.bits)) c.self.view_is
