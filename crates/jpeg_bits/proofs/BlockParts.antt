@@ -195,4 +195,5 @@ pub block_read : (p : Pass) (ac : Table) (value next : ℤ) (run more : ℕ) (bl
     → Takes (λ (u : Unit {0}). (band_in p blk, more)) (band_part p ac (band_in p (set block 0 value)) run) b cur
     (outcome_of done refusal) d new
     → Takes (λ (u : Unit {0}). (to_block blk, next, more)) whole a old (outcome_of done refusal) d new
-block_read p ac value next run more block blk whole a b d old cur new refusal done n is others h q = grind (arith, band_step, block_part, block_put, band_fails)
+block_read p ac value next run more block blk whole a b d old cur new refusal done n is others h q =
+    grind (arith, band_step, block_part, block_put, band_fails)

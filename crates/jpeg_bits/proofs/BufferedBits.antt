@@ -1,21 +1,21 @@
 -- Taking bits that are held.
-use Rattle.std.proofs.Common.{◌≡◌, ℕ, ◌+◌, ◌-◌, ◌*◌, ◌^◌, ◌≤◌, Bool, true, false, cond, List, [], ◌++◌, length, take}
-use Rattle.std.proofs.Common.{drop, replicate, Option, Some, Result, Ok, Err, sym, ap, ◌∙◌, arith, length-append}
-use Rattle.std.proofs.Common.{length-drop, add-one, pow-suc, is_ok, subst}
+use Rattle.std.proofs.Common.{◌≡◌, ℕ, ◌+◌, ◌-◌, ◌*◌, ◌^◌, ◌≤◌, Bool, true, false, cond, List, [], ◌++◌, length}
+use Rattle.std.proofs.Common.{take, drop, replicate, Option, Some, Result, Ok, Err, sym, ap, ◌∙◌, arith}
+use Rattle.std.proofs.Common.{length-append, length-drop, add-one, pow-suc, is_ok, subst}
 use Rattle.std.proofs.Math.Seq.{drop-nil}
 use Rattle.std.proofs.lemmas.List.{length-replicate, drop-drop, drop-replicate, drop-append-le, take-append-le}
 use Rattle.jpeg_bits.specs.Reading.{Fault, ◌>>=◌, Names, MayFail, Answers, Gives}
-use Rattle.jpeg_bits.specs.Entropy.{Ending, Text, upcoming_by, upcoming, bits_from, has_bits, number_of, advance, IsFilled}
-use Rattle.jpeg_bits.specs.Entropy.{Ahead, Takes, same_text, IsWithin, has_buffered, ending_of}
-use Rattle.jpeg_bits.specs.Entropy.{marker_at_end, marker_from}
+use Rattle.jpeg_bits.specs.Entropy.{Ending, Text, upcoming_by, upcoming, bits_from, has_bits, number_of}
+use Rattle.jpeg_bits.specs.Entropy.{advance, IsFilled, Ahead, Takes, same_text, IsWithin, has_buffered}
+use Rattle.jpeg_bits.specs.Entropy.{ending_of, marker_at_end, marker_from}
 use Rattle.jpeg_bits.specs.Stream.{Stream}
 use Rattle.jpeg_bits.specs.declared.ahead.DataEnd.{DataEnd}
-use Rattle.jpeg_bits.specs.declared.ahead.DataEnd.TheVariants as ends
 use Rattle.std.proofs.lemmas.Bool.{false≢true}
 use Rattle.jpeg_bits.specs.declared.error.Error.{Error}
 use Rattle.jpeg_bits.proofs.Loops.{bind_err, still_known}
 use Rattle.jpeg_bits.proofs.Texts.{same, none_left, second_ok, Takes-marker, Takes-no_marker}
 use Rattle.jpeg_bits.specs.declared.marker.Marker.{Marker}
+use Rattle.jpeg_bits.specs.declared.ahead.DataEnd.TheVariants as ends
 
 -- a value and the text after it, where the bits of it can be taken
 abbrev pub if_buffered : {A : Type 0} → A → Text → Result (Unit {0}) Fault → Result (A × Text) Fault

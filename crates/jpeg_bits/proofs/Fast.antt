@@ -120,7 +120,8 @@ at-long : (room n symbol : ℕ) (t : Text) (a : Bool) → nat_lt 0 (symbol % 16)
 at-long room n symbol t a e long o = grind (arith, slow-same)
 
 module _ (table : Table) (room : ℕ) (ac : is_ac table.class ≡ true) (t : Text) where
-  at-slow : (c : ℕ × ℕ) → symbol_from table t ≡ symbol_in_code (code_by table t (Some c)) → short_token table c ≡ None → (a : Bool)
+  at-slow : (c : ℕ × ℕ) → symbol_from table t ≡ symbol_in_code (code_by table t (Some c))
+      → short_token table c ≡ None → (a : Bool)
       → nat_lt 0 (slice_index table.symbols c.0 % 16) ≡ a
       → (a ≡ true → nat_le (c.1 + slice_index table.symbols c.0 % 16) 8 ≡ false)
       → by_code room (code_by table t (Some c)) ≡ by_look table room (short_code_by table t (Some c))

@@ -213,7 +213,17 @@ module _ (table : Table) (al i n : ℕ) (band nb rest ys : List ℤ) (t u : Text
           let more = drop (through_zero r (drop i band)) (drop i band) in
           let j = length_short i band le in
           let k : length (take i band ++ front) ≡ i + n = front_length front ∙ omega arith in
-          grind (arith, append_assoc, set-append_left, set_last, front_length, with_last-length, before-before, take_front, drop_front)
+          grind (
+            arith,
+            append_assoc,
+            set-append_left,
+            set_last,
+            front_length,
+            with_last-length,
+            before-before,
+            take_front,
+            drop_front,
+          )
 
   pub end_step : (run all : ℕ) → length rest ≤ all → piece_from al all rest t ≡ Ok ((n, ys), u)
       → refined_step table al band i (End run) t ≡ Ok ((nb, run), u)

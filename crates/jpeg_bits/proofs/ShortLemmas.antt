@@ -49,7 +49,8 @@ short_from n lens o = at_most n (option_map (λ i. (i, get_or lens i 0)) o)
 long_only : (n : ℕ) (lens : List ℕ) (test : ℕ → Bool) (i k : ℕ)
     → ((j : ℕ) → i ≤ j → j < i + k → n < get_or lens j 0) → short_from n lens (first_from test i k) ≡ None
 long_only n lens test i zero h = refl
-long_only n lens test i (suc k) h = grind (arith, long_only n lens test (i + 1) k (λ j a b. h j (omega arith) (omega arith)))
+long_only n lens test i (suc k) h =
+    grind (arith, long_only n lens test (i + 1) k (λ j a b. h j (omega arith) (omega arith)))
 
 module _ (n : ℕ) (lens : List ℕ) (rising : IsRising 1 16 lens) (x y : List Bool) (same : take n x ≡ take n y) where
   agree_from : (i k : ℕ) → i + k ≤ length lens → short_from n lens (first_from (begins lens x) i k)
@@ -127,7 +128,8 @@ short_named : (symbols : List ℕ) (o : Option (ℕ × ℕ)) (p : ℕ × ℕ) �
 short_named symbols o p h = grind (arith, false≢true)
 
 -- whether a code is short is seen with its symbol too
-pub short-of-named : (symbols : List ℕ) (o : Option (ℕ × ℕ)) → short_only (named symbols o) ≡ named symbols (short_only o)
+pub short-of-named : (symbols : List ℕ) (o : Option (ℕ × ℕ))
+    → short_only (named symbols o) ≡ named symbols (short_only o)
 short-of-named symbols o = grind arith
 
 -- a short code that stands at the place of the first 8 bits is that of the bits
@@ -304,7 +306,15 @@ pub value_number : (n bits l s : ℕ) → l + s ≤ n → bits % 2 ^ (n - l) / 2
 value_number n bits l s h =
     let m = n - l in
     let e : n ≡ l + m = omega arith in
-    let f : m ≡ s + (m - s) = omega arith in grind (arith, common_steps, nat_tests, low_bits-drop, low_bits-take, number_of-low_bits, value_below)
+    let f : m ≡ s + (m - s) = omega arith in grind (
+      arith,
+      common_steps,
+      nat_tests,
+      low_bits-drop,
+      low_bits-take,
+      number_of-low_bits,
+      value_below,
+    )
 
 -- 11 bits with zeros after them
 pub eleven_padded : (b : ℕ) → low_bits 16 (b * 32) ≡ low_bits 11 b ++ replicate 5 false

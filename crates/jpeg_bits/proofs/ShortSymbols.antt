@@ -70,7 +70,14 @@ pub Code-none : (table : Table) (b : Ahead) (source : Stream) (e : Error) → Is
     → symbol_in table (next_16 b.bits) ≡ None → NamesFormat e
     → Takes (λ (c : ℕ × ℕ). c) (code_from table) b source (Err e) b source
 unfolding upcoming
-Code-none table b source e f h format = grind (arith, may_fail_format, names_format, code_from-none, no_code_of, still_known)
+Code-none table b source e f h format = grind (
+  arith,
+  may_fail_format,
+  names_format,
+  code_from-none,
+  no_code_of,
+  still_known,
+)
 
 pub Symbol-of-code : (table : Table) (b d : Ahead) (source : Stream) (c : ℕ × ℕ)
     → Takes (λ (c : ℕ × ℕ). c) (code_from table) b source (Ok c) d source
