@@ -67,10 +67,7 @@ band_refused p table band run t fault f some h e = grind (arith, corrected-part)
 -- a pass has no band where it is of DC alone
 pub no_indices : (ss se : ℕ) (block : List ℤ) → ss ≤ se → se ≤ 63 → se ≡ 0
     → length (zigzag_part (ss - 1 + 1) (se + 1) block) ≡ 0
-no_indices ss se block order end none = omega (
-  arith,
-  part-length (ss - 1 + 1) (se + 1) block (omega arith),
-)
+no_indices ss se block order end none = omega (arith, part-length (ss - 1 + 1) (se + 1) block (omega arith))
 
 pub some_indices : (ss se : ℕ) (block : List ℤ) → ss ≤ se → se ≤ 63 → (se ≡ 0 → ⊥)
     → 0 < length (zigzag_part (ss - 1 + 1) (se + 1) block)

@@ -37,15 +37,8 @@ after n l x ys h =
 pub advance-buffered : (n : ℕ) (bits : List Bool) (met : Option DataEnd) (bytes : List ℕ) →
     IsFilled n bits met
     → advance n (upcoming_by bits met bytes) ≡ upcoming_by (drop n bits) met bytes
-advance-buffered n bits met bytes h = grind (
-  arith,
-  drop-append-le,
-  after,
-  length-drop,
-  same,
-  none_left,
-  drop-nil,
-)
+advance-buffered n bits met bytes h =
+    grind (arith, drop-append-le, after, length-drop, same, none_left, drop-nil)
 
 has_bits-same : (n : ℕ) (bits : List Bool) (end : DataEnd) (bytes : List ℕ) → has_bits n bits (ending_of end bytes)
     ≡ has_bits n bits (ending_of end [])
@@ -72,12 +65,7 @@ pub bits_from-buffered : (n : ℕ) (bits : List Bool) (met : Option DataEnd) (by
     → bits_from n (upcoming_by bits met bytes) ≡ (has_buffered n bits met
     >>= λ (u : Unit {0}). Ok (number_of (take n (bits ++ replicate n false)), upcoming_by (drop n bits) met bytes))
 unfolding bits_from
-bits_from-buffered n bits met bytes h = grind (
-  arith,
-  has_bits-buffered,
-  front-buffered,
-  advance-buffered,
-)
+bits_from-buffered n bits met bytes h = grind (arith, has_bits-buffered, front-buffered, advance-buffered)
 
 pub Takes-buffered : (n : ℕ) (u : Unit {0}) (a b c : Ahead) (old new : Stream) (x : ℕ) → IsFilled n
     b.bits b.met
@@ -85,27 +73,15 @@ pub Takes-buffered : (n : ℕ) (u : Unit {0}) (a b c : Ahead) (old new : Stream)
     → x ≡ number_of (take n (b.bits ++ replicate n false)) → c.bits ≡ drop n b.bits → c.met ≡ b.met
     → Takes (λ (x : Unit {0}). 0) same_text a old (Ok u) b new → Takes (λ (x : ℕ). x) (bits_from n) a old (Ok x) c new
 unfolding upcoming
-Takes-buffered n u a b c old new x h ok ex eb em p = grind (
-  arith,
-  same,
-  second_ok,
-  bits_from-buffered,
-  ok_unit,
-)
+Takes-buffered n u a b c old new x h ok ex eb em p = grind (arith, same, second_ok, bits_from-buffered, ok_unit)
 
 -- a refusal for want of bits fails no source
 pub Takes-refused : (n : ℕ) (u : Unit {0}) (a b c : Ahead) (old new : Stream) (e : Error) → IsFilled n b.bits b.met
     → Names e (has_buffered n b.bits b.met) → MayFail e new.failed new.failed
     → Takes (λ (x : Unit {0}). 0) same_text a old (Ok u) b new → Takes (λ (x : ℕ). x) (bits_from n) a old (Err e) c new
 unfolding upcoming
-Takes-refused n u a b c old new e h want f p = grind (
-  arith,
-  same,
-  second_ok,
-  bits_from-buffered,
-  bind_err,
-  still_known,
-)
+Takes-refused n u a b c old new e h want f p =
+    grind (arith, same, second_ok, bits_from-buffered, bind_err, still_known)
 
 pub MayFail-same : {Y : Type 0} (e : Error) (o : Result Y Fault) (b : Bool) → Names e o → MayFail e b b
 MayFail-same e o b n = grind arith

@@ -95,10 +95,8 @@ module _ (table : Table) (room n symbol : ℕ) (t : Text) (some : nat_lt 0 (symb
 
   pub at-short : (o : Result (Unit {0}) Fault) → has_bits (n + symbol % 16) t.bits t.ending ≡ o
       → by_code room (if_buffered (n, symbol) (advance n t) (has_bits n t.bits t.ending))
-      ≡ by_look table room (◌>>r=◌ {B = Option (ℕ × ℕ) × Text} o (λ (u : Unit {0}). Ok (
-        Some (symbol / 16, symbol % 16),
-        advance n t,
-      )))
+      ≡ by_look table room (◌>>r=◌ {B = Option (ℕ × ℕ) × Text} o (λ (u : Unit {0}).
+      Ok (Some (symbol / 16, symbol % 16), advance n t)))
   at-short (Ok u) h = grind (arith, both-buffered, at-value, value-look)
   at-short (Err f) h =
       elim (not-buffered n (symbol % 16) t.bits t.ending f h) [

@@ -25,24 +25,16 @@ through_zero_pos r z following = grind (arith, by_bool)
 through_zero_le : (r : ℕ) (numbers : List ℤ) → through_zero r numbers ≤ length numbers
 unfolding through_zero
 through_zero_le r [] = omega arith
-through_zero_le r (z ∷ numbers) = grind (
-  arith,
-  by_bool,
-  through_zero_le r numbers,
-  through_zero_le (r - 1) numbers,
-)
+through_zero_le r (z ∷ numbers) =
+    grind (arith, by_bool, through_zero_le r numbers, through_zero_le (r - 1) numbers)
 
 -- where there are too few zeros the piece is all places
 pub through_all : (r : ℕ) (numbers : List ℤ) → length numbers ≤ r → through_zero r numbers ≡ length
     numbers
 unfolding through_zero
 through_all r [] h = refl
-through_all r (z ∷ numbers) h = grind (
-  arith,
-  by_bool,
-  through_all (r - 1) numbers (omega arith),
-  through_all r numbers (omega arith),
-)
+through_all r (z ∷ numbers) h =
+    grind (arith, by_bool, through_all (r - 1) numbers (omega arith), through_all r numbers (omega arith))
 
 piece-same : (al : ℕ) (f g : ReadsBand) (x : ℤ) (numbers : List ℤ) (k : Refinement) (t : Text)
     → ((j : ℕ) (t : Text) → 0 < j → f (drop j (x ∷ numbers)) t ≡ g (drop j (x ∷ numbers)) t)
