@@ -78,7 +78,8 @@ module _ (table : Table) (al : ℕ) (whole : Reads Band) (a b d : Ahead) (old cu
     Leaves-last (Rest n) run last q = let s = step (Rest n) q in rw last s
     Leaves-last Overlong run last q = let s = step Overlong q in rw last s
 
-    pub Leaves-refused : {X : Type 0} (view : X → Band) (e : Error) → Gives (Err e) → Takes view whole a old (Err e) d new
+    pub Leaves-refused : {X : Type 0} (view : X → Band) (e : Error) → Gives (Err e)
+        → Takes view whole a old (Err e) d new
     Leaves-refused view e q = grind (arith, first_ac-token)
 
 -- a band is written up to a place, and what is left is read with some turns
@@ -169,7 +170,8 @@ module _ (table : Table) (al : ℕ) (whole : Reads Band) (a b d : Ahead) (old cu
       (token-of (Ok k) q) in
       rw whole-band at s
 
-  pub IsAt-refused : {X : Type 0} (view : X → Band) (e : Error) → Gives-here (Err e) → Takes view whole a old (Err e) d new
+  pub IsAt-refused : {X : Type 0} (view : X → Band) (e : Error) → Gives-here (Err e)
+      → Takes view whole a old (Err e) d new
   IsAt-refused view e q =
       let m = parts in
       Leaves-refused table al whole a b d old cur new (take at band) m.n m.x m.rest m.text view e (token-of (Err e) q)

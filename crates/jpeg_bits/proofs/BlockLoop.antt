@@ -76,7 +76,8 @@ module _ (table : Table) (p : Pass) (first : List ℤ) (a b m d : Ahead) (old cu
       rw next (IsAt-sixteen _ _ (band_from table p first) a _ _ old _ _ _ _ within here
       (token (Ok Sixteen) (rw here-is at q)))
 
-  pub index-all : end - at ≤ 16 → (k : Token) → Gives (Ok k) → k ≡ Sixteen → IsAtIndex table p first a old block end d new
+  pub index-all : end - at ≤ 16 → (k : Token) → Gives (Ok k) → k ≡ Sixteen
+      → IsAtIndex table p first a old block end d new
   index-all few k q here-is =
       let all = band-length p block is in
       let order = is.order in

@@ -67,10 +67,7 @@ band_refused p table band run t fault f some h e = grind (arith, corrected-part)
 -- a pass has no band where it is of DC alone
 pub no_indices : (ss se : ℕ) (block : List ℤ) → ss ≤ se → se ≤ 63 → se ≡ 0
     → length (zigzag_part (ss - 1 + 1) (se + 1) block) ≡ 0
-no_indices ss se block order end none = omega (
-  arith,
-  part-length (ss - 1 + 1) (se + 1) block (omega arith),
-)
+no_indices ss se block order end none = omega (arith, part-length (ss - 1 + 1) (se + 1) block (omega arith))
 
 pub some_indices : (ss se : ℕ) (block : List ℤ) → ss ≤ se → se ≤ 63 → (se ≡ 0 → ⊥)
     → 0 < length (zigzag_part (ss - 1 + 1) (se + 1) block)
@@ -195,4 +192,5 @@ pub block_read : (p : Pass) (ac : Table) (value next : ℤ) (run more : ℕ) (bl
     → Takes (λ (u : Unit {0}). (band_in p blk, more)) (band_part p ac (band_in p (set block 0 value)) run) b cur
     (outcome_of done refusal) d new
     → Takes (λ (u : Unit {0}). (to_block blk, next, more)) whole a old (outcome_of done refusal) d new
-block_read p ac value next run more block blk whole a b d old cur new refusal done n is others h q = grind (arith, band_step, block_part, block_put, band_fails)
+block_read p ac value next run more block blk whole a b d old cur new refusal done n is others h q =
+    grind (arith, band_step, block_part, block_put, band_fails)

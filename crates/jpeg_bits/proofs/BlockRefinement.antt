@@ -154,7 +154,8 @@ module _ (table : Table) (p : Pass) (first : List ℤ) (a b d : Ahead) (old cur 
           f new
       new-read zeros r v same n after within z m =
           Leaves-ok (to_piece p k blk) (refined_from table p first) (step_at table p block k x)
-          (refined_at table p (set blk (get_or zigzag (next - 1) 0) v) next) (piece_at p block k zeros) a d f old mid new next
+          (refined_at table p (set blk (get_or zigzag (next - 1) 0) v) next) (piece_at p block k zeros) a d f
+          old mid new next
           (λ t u h. ap (λ (x : Refinement). step_at table p block k x t) z
           ∙ new-at table p block k t u is from before next blk r v others n after within (rw (← same) h)) after-token m
 

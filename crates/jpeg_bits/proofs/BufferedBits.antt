@@ -1,21 +1,21 @@
 -- Taking bits that are held.
-use Rattle.std.proofs.Common.{◌≡◌, ℕ, ◌+◌, ◌-◌, ◌*◌, ◌^◌, ◌≤◌, Bool, true, false, cond, List, [], ◌++◌, length, take}
-use Rattle.std.proofs.Common.{drop, replicate, Option, Some, Result, Ok, Err, sym, ap, ◌∙◌, arith, length-append}
-use Rattle.std.proofs.Common.{length-drop, add-one, pow-suc, is_ok, subst}
+use Rattle.std.proofs.Common.{◌≡◌, ℕ, ◌+◌, ◌-◌, ◌*◌, ◌^◌, ◌≤◌, Bool, true, false, cond, List, [], ◌++◌, length}
+use Rattle.std.proofs.Common.{take, drop, replicate, Option, Some, Result, Ok, Err, sym, ap, ◌∙◌, arith}
+use Rattle.std.proofs.Common.{length-append, length-drop, add-one, pow-suc, is_ok, subst}
 use Rattle.std.proofs.Math.Seq.{drop-nil}
 use Rattle.std.proofs.lemmas.List.{length-replicate, drop-drop, drop-replicate, drop-append-le, take-append-le}
 use Rattle.jpeg_bits.specs.Reading.{Fault, ◌>>=◌, Names, MayFail, Answers, Gives}
-use Rattle.jpeg_bits.specs.Entropy.{Ending, Text, upcoming_by, upcoming, bits_from, has_bits, number_of, advance, IsFilled}
-use Rattle.jpeg_bits.specs.Entropy.{Ahead, Takes, same_text, IsWithin, has_buffered, ending_of}
-use Rattle.jpeg_bits.specs.Entropy.{marker_at_end, marker_from}
+use Rattle.jpeg_bits.specs.Entropy.{Ending, Text, upcoming_by, upcoming, bits_from, has_bits, number_of}
+use Rattle.jpeg_bits.specs.Entropy.{advance, IsFilled, Ahead, Takes, same_text, IsWithin, has_buffered}
+use Rattle.jpeg_bits.specs.Entropy.{ending_of, marker_at_end, marker_from}
 use Rattle.jpeg_bits.specs.Stream.{Stream}
 use Rattle.jpeg_bits.specs.declared.ahead.DataEnd.{DataEnd}
-use Rattle.jpeg_bits.specs.declared.ahead.DataEnd.TheVariants as ends
 use Rattle.std.proofs.lemmas.Bool.{false≢true}
 use Rattle.jpeg_bits.specs.declared.error.Error.{Error}
 use Rattle.jpeg_bits.proofs.Loops.{bind_err, still_known}
 use Rattle.jpeg_bits.proofs.Texts.{same, none_left, second_ok, Takes-marker, Takes-no_marker}
 use Rattle.jpeg_bits.specs.declared.marker.Marker.{Marker}
+use Rattle.jpeg_bits.specs.declared.ahead.DataEnd.TheVariants as ends
 
 -- a value and the text after it, where the bits of it can be taken
 abbrev pub if_buffered : {A : Type 0} → A → Text → Result (Unit {0}) Fault → Result (A × Text) Fault
@@ -37,15 +37,8 @@ after n l x ys h =
 pub advance-buffered : (n : ℕ) (bits : List Bool) (met : Option DataEnd) (bytes : List ℕ) →
     IsFilled n bits met
     → advance n (upcoming_by bits met bytes) ≡ upcoming_by (drop n bits) met bytes
-advance-buffered n bits met bytes h = grind (
-  arith,
-  drop-append-le,
-  after,
-  length-drop,
-  same,
-  none_left,
-  drop-nil,
-)
+advance-buffered n bits met bytes h =
+    grind (arith, drop-append-le, after, length-drop, same, none_left, drop-nil)
 
 has_bits-same : (n : ℕ) (bits : List Bool) (end : DataEnd) (bytes : List ℕ) → has_bits n bits (ending_of end bytes)
     ≡ has_bits n bits (ending_of end [])
@@ -72,12 +65,7 @@ pub bits_from-buffered : (n : ℕ) (bits : List Bool) (met : Option DataEnd) (by
     → bits_from n (upcoming_by bits met bytes) ≡ (has_buffered n bits met
     >>= λ (u : Unit {0}). Ok (number_of (take n (bits ++ replicate n false)), upcoming_by (drop n bits) met bytes))
 unfolding bits_from
-bits_from-buffered n bits met bytes h = grind (
-  arith,
-  has_bits-buffered,
-  front-buffered,
-  advance-buffered,
-)
+bits_from-buffered n bits met bytes h = grind (arith, has_bits-buffered, front-buffered, advance-buffered)
 
 pub Takes-buffered : (n : ℕ) (u : Unit {0}) (a b c : Ahead) (old new : Stream) (x : ℕ) → IsFilled n
     b.bits b.met
@@ -85,27 +73,15 @@ pub Takes-buffered : (n : ℕ) (u : Unit {0}) (a b c : Ahead) (old new : Stream)
     → x ≡ number_of (take n (b.bits ++ replicate n false)) → c.bits ≡ drop n b.bits → c.met ≡ b.met
     → Takes (λ (x : Unit {0}). 0) same_text a old (Ok u) b new → Takes (λ (x : ℕ). x) (bits_from n) a old (Ok x) c new
 unfolding upcoming
-Takes-buffered n u a b c old new x h ok ex eb em p = grind (
-  arith,
-  same,
-  second_ok,
-  bits_from-buffered,
-  ok_unit,
-)
+Takes-buffered n u a b c old new x h ok ex eb em p = grind (arith, same, second_ok, bits_from-buffered, ok_unit)
 
 -- a refusal for want of bits fails no source
 pub Takes-refused : (n : ℕ) (u : Unit {0}) (a b c : Ahead) (old new : Stream) (e : Error) → IsFilled n b.bits b.met
     → Names e (has_buffered n b.bits b.met) → MayFail e new.failed new.failed
     → Takes (λ (x : Unit {0}). 0) same_text a old (Ok u) b new → Takes (λ (x : ℕ). x) (bits_from n) a old (Err e) c new
 unfolding upcoming
-Takes-refused n u a b c old new e h want f p = grind (
-  arith,
-  same,
-  second_ok,
-  bits_from-buffered,
-  bind_err,
-  still_known,
-)
+Takes-refused n u a b c old new e h want f p =
+    grind (arith, same, second_ok, bits_from-buffered, bind_err, still_known)
 
 pub MayFail-same : {Y : Type 0} (e : Error) (o : Result Y Fault) (b : Bool) → Names e o → MayFail e b b
 MayFail-same e o b n = grind arith

@@ -1,7 +1,7 @@
 -- Blocks of a first pass of which DC alone is kept.
-use Rattle.std.proofs.Common.{◌≡◌, ℕ, ℤ, zero, suc, ◌+◌, Bool, true, false, List, [], ◌∷◌, ◌++◌, length, take, drop, map, pos}
-use Rattle.std.proofs.Common.{set, Result, Ok, Err, refl, sym, ap, ap₂, subst, ◌∙◌, arith, length-append, length-take, length-drop}
-use Rattle.std.proofs.Common.{Option}
+use Rattle.std.proofs.Common.{◌≡◌, ℕ, ℤ, zero, suc, ◌+◌, Bool, true, false, List, [], ◌∷◌, ◌++◌, length}
+use Rattle.std.proofs.Common.{take, drop, map, pos, set, Result, Ok, Err, refl, sym, ap, ap₂, subst, ◌∙◌}
+use Rattle.std.proofs.Common.{arith, length-append, length-take, length-drop, Option}
 use Rattle.std.proofs.lemmas.List.{length-map}
 use Rattle.std.proofs.lemmas.Bool.{false≢true}
 use Rattle.jpeg_bits.specs.Reading.{Fault}
@@ -10,7 +10,8 @@ use Rattle.jpeg_bits.specs.Entropy.{Text, Ahead, Takes, upcoming}
 use Rattle.jpeg_bits.specs.Codes.{Table}
 use Rattle.jpeg_bits.specs.Readers.{Reads, read_on, gives}
 use Rattle.jpeg_bits.specs.Bands.{Band}
-use Rattle.jpeg_bits.specs.Passes.{Pass, Block, band_of, before_band, band_size, with_band, dc_part, band_part, block_from}
+use Rattle.jpeg_bits.specs.Passes.{Pass, Block, band_of, before_band, band_size, with_band, dc_part}
+use Rattle.jpeg_bits.specs.Passes.{band_part, block_from}
 use Rattle.jpeg_bits.specs.Refusals.{outcome_of}
 use Rattle.jpeg_bits.specs.BlockView.{to_block, IsPass}
 use Rattle.jpeg_bits.specs.Skips.{run_of, run_part, dc_alone, kept, kept_turn}
@@ -163,7 +164,8 @@ module _ (p : Pass) (dc ac : Table) (predictor : ℤ) (run : ℕ) (block : List 
           refused_after (λ (u : Unit {0}). (kept false (to_block (set block 0 value)), next, more))
           (λ (u : Unit {0}). more) whole (dc_turn p ac run acs (value, next))
           (run_part ac (length (band_of p acs)) run) a b d old cur new e
-          (λ t fault is'. ap (read_on (λ (k : ℕ). gives (record { dc = value; acs = zeros_of acs }, next, k))) is') left q
+          (λ t fault is'. ap (read_on (λ (k : ℕ). gives (record { dc = value; acs = zeros_of acs }, next, k)))
+          is') left q
 
 -- a block of the same DC, and of as many others, is read alike
 pub blocks-alike : (p : Pass) (dc ac : Table) (predictor : ℤ) (run : ℕ) (b c : Block) (t : Text) → p.is_first ≡ true

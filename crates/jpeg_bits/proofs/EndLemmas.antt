@@ -36,10 +36,7 @@ add-placed bytes rest b t step h = record {
   each = λ i lt. elim (cases_lt i 8) [
     | inl low ↦
         let z : i / 8 ≡ 0 = omega arith in
-        get_or_append_left (replicate 8 rest) t.following [] i (omega (
-          arith,
-          length-replicate 8 rest,
-        ))
+        get_or_append_left (replicate 8 rest) t.following [] i (omega (arith, length-replicate 8 rest))
         ∙ get_or-replicate 8 i rest [] low
         ∙ sym (ap (λ (n : ℕ). after_bytes (suc n) bytes) z ∙ step 0)
     | inr high ↦

@@ -95,10 +95,8 @@ module _ (table : Table) (room n symbol : ℕ) (t : Text) (some : nat_lt 0 (symb
 
   pub at-short : (o : Result (Unit {0}) Fault) → has_bits (n + symbol % 16) t.bits t.ending ≡ o
       → by_code room (if_buffered (n, symbol) (advance n t) (has_bits n t.bits t.ending))
-      ≡ by_look table room (◌>>r=◌ {B = Option (ℕ × ℕ) × Text} o (λ (u : Unit {0}). Ok (
-        Some (symbol / 16, symbol % 16),
-        advance n t,
-      )))
+      ≡ by_look table room (◌>>r=◌ {B = Option (ℕ × ℕ) × Text} o (λ (u : Unit {0}).
+      Ok (Some (symbol / 16, symbol % 16), advance n t)))
   at-short (Ok u) h = grind (arith, both-buffered, at-value, value-look)
   at-short (Err f) h =
       elim (not-buffered n (symbol % 16) t.bits t.ending f h) [
@@ -120,7 +118,8 @@ at-long : (room n symbol : ℕ) (t : Text) (a : Bool) → nat_lt 0 (symbol % 16)
 at-long room n symbol t a e long o = grind (arith, slow-same)
 
 module _ (table : Table) (room : ℕ) (ac : is_ac table.class ≡ true) (t : Text) where
-  at-slow : (c : ℕ × ℕ) → symbol_from table t ≡ symbol_in_code (code_by table t (Some c)) → short_token table c ≡ None → (a : Bool)
+  at-slow : (c : ℕ × ℕ) → symbol_from table t ≡ symbol_in_code (code_by table t (Some c))
+      → short_token table c ≡ None → (a : Bool)
       → nat_lt 0 (slice_index table.symbols c.0 % 16) ≡ a
       → (a ≡ true → nat_le (c.1 + slice_index table.symbols c.0 % 16) 8 ≡ false)
       → by_code room (code_by table t (Some c)) ≡ by_look table room (short_code_by table t (Some c))

@@ -14,7 +14,8 @@ use Rattle.jpeg_bits.proofs.Loops.{bind_at, bind_err}
 pub bytes-read : (bytes rest : List ℕ) → times (length bytes) next_byte (bytes ++ rest) ≡ Ok (bytes, rest)
 unfolding times
 bytes-read [] rest = refl
-bytes-read (b ∷ bytes) rest = bind_at _ (times (length bytes) next_byte (bytes ++ rest)) (bytes, rest) (bytes-read bytes rest)
+bytes-read (b ∷ bytes) rest = bind_at _ (times (length bytes) next_byte (bytes ++ rest)) (bytes, rest)
+    (bytes-read bytes rest)
 
 bytes-end : (bytes : List ℕ) (n : ℕ) → length bytes < n → times n next_byte bytes ≡ Err End
 unfolding times
@@ -48,7 +49,8 @@ pub filled-short : (old cur new : Stream) (at count n : ℕ) (items part : List 
     → length items ≡ n → at < n → count ≡ 0 → 0 < length part → HasFilled old (take at items) cur
     → ReadsSome cur (Ok count) part new → NamesEnd e
     → Answers (λ (u : Unit {0}). items) (times n next_byte) old (Err e) new
-filled-short old cur new at count n items part e long less none some p r named = grind (arith, append-nil, length-take-le, bytes-end, false≢true)
+filled-short old cur new at count n items part e long less none some p r named =
+    grind (arith, append-nil, length-take-le, bytes-end, false≢true)
 
 -- a read is refused
 pub filled-err : (n : ℕ) (old cur new : Stream) (front part : List ℕ) (e : Error) → HasFilled old front cur

@@ -170,7 +170,8 @@ module _ (table : Table) (counted : length table.counts ≡ 16) (d : Ahead) (fil
         = ap (set (set block i x) i) again ∙ set-twice block i x in
         rw (written, next) (index-value table p first a b d e old cur mid mid block at end pass
         last from (omega arith)
-        before buffered (Value r v) r v x long (omega arith) value (Takes-first (end - at) v r n e is (ok_unit _ (sym ok))
+        before buffered (Value r v) r v x long (omega arith) value
+        (Takes-first (end - at) v r n e is (ok_unit _ (sym ok))
         (omega arith) bits met) refl)
     index-pair _ (Two v r n w q m few is then-is) room ok e bits met x y value other =
         let enough = ok_unit _ (sym ok) in

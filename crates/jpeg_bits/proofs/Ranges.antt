@@ -7,10 +7,7 @@ pub all_pass : (p : ℕ → Bool) (a n : ℕ) → ((k : ℕ) → a ≤ k → k <
     → list_all p (range_with_len a n) ≡ true
 all_pass p a zero h = refl
 all_pass p a (suc n) h =
-    rw (
-      h a (omega arith) (omega arith),
-      all_pass p (a + 1) n (λ k l m. h k (omega arith) (omega arith)),
-    ) refl
+    rw (h a (omega arith) (omega arith), all_pass p (a + 1) n (λ k l m. h k (omega arith) (omega arith))) refl
 
 pub each_passes : (p : ℕ → Bool) (a n k : ℕ) → list_all p (range_with_len a n) ≡ true → a ≤ k → k < a + n
     → p k ≡ true

@@ -25,24 +25,16 @@ through_zero_pos r z following = grind (arith, by_bool)
 through_zero_le : (r : ℕ) (numbers : List ℤ) → through_zero r numbers ≤ length numbers
 unfolding through_zero
 through_zero_le r [] = omega arith
-through_zero_le r (z ∷ numbers) = grind (
-  arith,
-  by_bool,
-  through_zero_le r numbers,
-  through_zero_le (r - 1) numbers,
-)
+through_zero_le r (z ∷ numbers) =
+    grind (arith, by_bool, through_zero_le r numbers, through_zero_le (r - 1) numbers)
 
 -- where there are too few zeros the piece is all places
 pub through_all : (r : ℕ) (numbers : List ℤ) → length numbers ≤ r → through_zero r numbers ≡ length
     numbers
 unfolding through_zero
 through_all r [] h = refl
-through_all r (z ∷ numbers) h = grind (
-  arith,
-  by_bool,
-  through_all (r - 1) numbers (omega arith),
-  through_all r numbers (omega arith),
-)
+through_all r (z ∷ numbers) h =
+    grind (arith, by_bool, through_all (r - 1) numbers (omega arith), through_all r numbers (omega arith))
 
 piece-same : (al : ℕ) (f g : ReadsBand) (x : ℤ) (numbers : List ℤ) (k : Refinement) (t : Text)
     → ((j : ℕ) (t : Text) → 0 < j → f (drop j (x ∷ numbers)) t ≡ g (drop j (x ∷ numbers)) t)
@@ -213,7 +205,17 @@ module _ (table : Table) (al i n : ℕ) (band nb rest ys : List ℤ) (t u : Text
           let more = drop (through_zero r (drop i band)) (drop i band) in
           let j = length_short i band le in
           let k : length (take i band ++ front) ≡ i + n = front_length front ∙ omega arith in
-          grind (arith, append_assoc, set-append_left, set_last, front_length, with_last-length, before-before, take_front, drop_front)
+          grind (
+            arith,
+            append_assoc,
+            set-append_left,
+            set_last,
+            front_length,
+            with_last-length,
+            before-before,
+            take_front,
+            drop_front,
+          )
 
   pub end_step : (run all : ℕ) → length rest ≤ all → piece_from al all rest t ≡ Ok ((n, ys), u)
       → refined_step table al band i (End run) t ≡ Ok ((nb, run), u)

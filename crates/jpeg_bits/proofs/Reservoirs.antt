@@ -30,7 +30,8 @@ low_bits-append (suc a) b x y h =
     let t : a + b ≡ b + a = omega arith in
     let q : v / 2 ^ (a + b) ≡ x / 2 ^ a
     = ap (λ (n : ℕ). v / 2 ^ n) t ∙ ap (λ (d : ℕ). v / d) (pow-add 2 b a) ∙ sym (div-div-eq-div-mul v (2 ^ b) (2 ^ a))
-    ∙ ap (λ (k : ℕ). k / 2 ^ a) (div-mul-add x (2 ^ b) y h) in grind (arith, common_steps, nat_tests, low_bits-append a b x y h)
+    ∙ ap (λ (k : ℕ). k / 2 ^ a) (div-mul-add x (2 ^ b) y h) in
+    grind (arith, common_steps, nat_tests, low_bits-append a b x y h)
 
 pub low_bits-split : (n m x : ℕ) → low_bits (n + m) x ≡ low_bits n (x / 2 ^ m) ++ low_bits m (x % 2 ^ m)
 low_bits-split n m x = ap (low_bits (n + m)) (sym (div-add-mod' x (2 ^ m)))
@@ -180,6 +181,7 @@ pub prefix_number : (bits l : ℕ) → bits < 2 ^ 16 → l < 16
     → bits / 2 ^ (15 - l) ≡ number_of (take (l + 1) (low_bits 16 bits))
 prefix_number bits l h lt =
     let e : 16 ≡ l + 1 + (15 - l) = omega arith in
-    let p : 2 ^ 16 ≡ 2 ^ (l + 1 + (15 - l)) = ap (λ (k : ℕ). 2 ^ k) e in grind (arith, common_steps, nat_tests, low_bits-take, number_of-low_bits, front_small)
+    let p : 2 ^ 16 ≡ 2 ^ (l + 1 + (15 - l)) = ap (λ (k : ℕ). 2 ^ k) e in
+    grind (arith, common_steps, nat_tests, low_bits-take, number_of-low_bits, front_small)
 
 pub ruleset rests = (word_fits, rest_zeros, rest_buffered)

@@ -132,7 +132,15 @@ pub passed-none : (counts : List ℕ) (rows : List Row) (bits : ℕ) → length 
     → bits < 2 ^ 16 → (i : ℕ) → i ≤ 16 → ArePassed rows i bits
     → (value_after counts i ≤ bits / 2 ^ (16 - i)) × NoneYet counts bits i
 passed-none counts rows bits counted holds fits zero h passed = grind arith
-passed-none counts rows bits counted holds fits (suc i) h passed = grind (arith, add-one, above_more, row_missed, passed-none counts rows bits counted holds fits i (omega arith) (λ j lt. passed j (omega arith)))
+passed-none counts rows bits counted holds fits (suc i) h passed =
+    grind (
+      arith,
+      add-one,
+      above_more,
+      row_missed,
+      passed-none counts rows bits counted holds fits i
+          (omega arith) (λ j lt. passed j (omega arith)),
+    )
 
 -- they stay passed for greater bits
 pub still-passed : (rows : List Row) (n bits more : ℕ) → bits ≤ more → ArePassed rows n bits → ArePassed rows n more

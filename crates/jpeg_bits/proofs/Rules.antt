@@ -5,7 +5,8 @@ use Rattle.std.proofs.lemmas.Result.{err_from_is_err_and}
 use Rattle.std.proofs.lemmas.List.{get_or_default}
 use Rattle.jpeg_bits.proofs.BlockWalks.{at-start, at-end}
 use Rattle.jpeg_bits.proofs.CodeLemmas.{length-lengths_from}
-use Rattle.jpeg_bits.proofs.Filled.{skip-refused as bytes-refused, skip-goes, skip-none, filled-err, filled-room, filled-all}
+use Rattle.jpeg_bits.proofs.Filled.{skip-refused as bytes-refused, skip-goes, skip-none, filled-err}
+use Rattle.jpeg_bits.proofs.Filled.{filled-room, filled-all}
 use Rattle.jpeg_bits.proofs.Masks.{clear_from, set_after, marks-later, gap-some}
 use Rattle.jpeg_bits.proofs.Reservoirs.{front_number, front_below}
 use Rattle.jpeg_bits.proofs.RowLemmas.{first_le, index_within, row_found, row_missed, above_more, none_found}
@@ -17,8 +18,10 @@ use Rattle.jpeg_bits.proofs.ShortRuns.{run-most, run-same}
 use Rattle.jpeg_bits.proofs.Tables.{exist-tested, tested-exist, good-table, takes-symbol}
 use Rattle.jpeg_bits.proofs.MarkerLemmas.{is-found, only-found, none-found, none-there}
 use Rattle.jpeg_bits.proofs.Sources.{rests_trans, rests_keeps, reads_some, reads_after}
-use Rattle.jpeg_bits.proofs.DefaultTables.{luminance-dc-codes, chrominance-dc-codes, luminance-ac-codes, chrominance-ac-codes, untouched, done}
+use Rattle.jpeg_bits.proofs.DefaultTables.{luminance-dc-codes, chrominance-dc-codes, luminance-ac-codes}
+use Rattle.jpeg_bits.proofs.DefaultTables.{chrominance-ac-codes, untouched, done}
 use Rattle.jpeg_bits.proofs.ShortSymbols.{fast-not, fast-refused, fast-taken}
+use Rattle.jpeg_bits.proofs.TakenBytes.{takes-first}
 use Rattle.jpeg_bits.proofs.ShortLemmas.{value_below, value_number}
 
 -- when enough bits are held
@@ -61,10 +64,21 @@ pub ruleset markers = (is-found, only-found, none-found, none-there)
 pub ruleset rests = (rests_trans, rests_keeps, reads_after, reads_some)
 
 -- the default tables
-pub ruleset defaults = (luminance-dc-codes, chrominance-dc-codes, luminance-ac-codes, chrominance-ac-codes, untouched, done, err_from_is_err_and)
+pub ruleset defaults = (
+  luminance-dc-codes,
+  chrominance-dc-codes,
+  luminance-ac-codes,
+  chrominance-ac-codes,
+  untouched,
+  done,
+  err_from_is_err_and,
+)
 
 -- a short value
 pub ruleset fast = (wraps, fast-not, fast-refused, fast-taken)
 
 -- a value of some bits
 pub ruleset values = (wraps, value_below, value_number)
+
+-- what is read of a slice
+pub ruleset taken = (takes-first)

@@ -49,7 +49,8 @@ short_from n lens o = at_most n (option_map (λ i. (i, get_or lens i 0)) o)
 long_only : (n : ℕ) (lens : List ℕ) (test : ℕ → Bool) (i k : ℕ)
     → ((j : ℕ) → i ≤ j → j < i + k → n < get_or lens j 0) → short_from n lens (first_from test i k) ≡ None
 long_only n lens test i zero h = refl
-long_only n lens test i (suc k) h = grind (arith, long_only n lens test (i + 1) k (λ j a b. h j (omega arith) (omega arith)))
+long_only n lens test i (suc k) h =
+    grind (arith, long_only n lens test (i + 1) k (λ j a b. h j (omega arith) (omega arith)))
 
 module _ (n : ℕ) (lens : List ℕ) (rising : IsRising 1 16 lens) (x y : List Bool) (same : take n x ≡ take n y) where
   agree_from : (i k : ℕ) → i + k ≤ length lens → short_from n lens (first_from (begins lens x) i k)
@@ -127,7 +128,8 @@ short_named : (symbols : List ℕ) (o : Option (ℕ × ℕ)) (p : ℕ × ℕ) �
 short_named symbols o p h = grind (arith, false≢true)
 
 -- whether a code is short is seen with its symbol too
-pub short-of-named : (symbols : List ℕ) (o : Option (ℕ × ℕ)) → short_only (named symbols o) ≡ named symbols (short_only o)
+pub short-of-named : (symbols : List ℕ) (o : Option (ℕ × ℕ))
+    → short_only (named symbols o) ≡ named symbols (short_only o)
 short-of-named symbols o = grind arith
 
 -- a short code that stands at the place of the first 8 bits is that of the bits
@@ -240,14 +242,8 @@ module _ (most : ℕ) (table : Table) (bits : List Bool) (met : Option DataEnd) 
       → signed_from s (upcoming_by (drop l bits) met bytes)
       ≡ Ok (extended (number_of (take s (drop l (next_bits most bits)))) s, upcoming_by (drop (l + s) bits) met bytes)
   unfolding signed_from
-  value-read l s le buffered = grind (
-    arith,
-    filled-rest,
-    drop-drop,
-    bits_from-buffered,
-    both-buffered,
-    value-bits,
-  )
+  value-read l s le buffered =
+      grind (arith, filled-rest, drop-drop, bits_from-buffered, both-buffered, value-bits)
 
 module _ (table : Table) (bits : List Bool) (met : Option DataEnd) (bytes : List ℕ) (filled : IsFilled 8 bits met)
     (counted : length table.counts ≡ 16) where
@@ -258,29 +254,23 @@ module _ (table : Table) (bits : List Bool) (met : Option DataEnd) (bytes : List
   token-text c v r n k = grind (arith, filled-less, has_bits-buffered, advance-buffered, value-read)
 
   -- no short token
-  pub fast-none : short_value_of 8 table (next_bits 8 bits) ≡ None → fast_from table (upcoming_by bits met bytes) ≡ Ok (
-    None,
-    upcoming_by bits met bytes,
-  )
+  pub fast-none : short_value_of 8 table (next_bits 8 bits) ≡ None → fast_from table (upcoming_by bits met bytes) ≡
+      Ok (None, upcoming_by bits met bytes)
   unfolding fast_from short_code_from
   fast-none e = go (code_in (code_lengths table.counts) (next_16 (upcoming_by bits met bytes).bits))
       (sym (value-text 8 table bits met bytes (omega arith) filled counted) ∙ e)
     where
       go : (o : Option (ℕ × ℕ)) → short_value_by 8 table.class (next_bits 8 bits) (named table.symbols o) ≡ None
-          → read_on short_value (short_code_by table (upcoming_by bits met bytes) o) ≡ Ok (
-            None,
-            upcoming_by bits met bytes,
-          )
+          → read_on short_value (short_code_by table (upcoming_by bits met bytes) o) ≡
+          Ok (None, upcoming_by bits met bytes)
       go None n = refl
       go (Some c) n = ap (λ (r : Option (ℕ × ℕ)). read_on short_value (after_code c.1 (upcoming_by bits met bytes) r))
           (token_none table c (next_bits 8 bits) n)
 
   -- a short token, and how many bits it takes
   pub fast-some : (v : ℤ) (r n : ℕ) → short_value_of 8 table (next_bits 8 bits) ≡ Some (v, r, n)
-      → fast_from table (upcoming_by bits met bytes) ≡ (has_buffered n bits met >>= λ (u : Unit {0}). Ok (
-        Some (v, r),
-        upcoming_by (drop n bits) met bytes,
-      ))
+      → fast_from table (upcoming_by bits met bytes) ≡ (has_buffered n bits met >>= λ (u : Unit {0}).
+      Ok (Some (v, r), upcoming_by (drop n bits) met bytes))
   unfolding fast_from short_code_from
   fast-some v r n e = go (code_in (code_lengths table.counts) (next_16 (upcoming_by bits met bytes).bits))
       (sym (value-text 8 table bits met bytes (omega arith) filled counted) ∙ e)
@@ -304,7 +294,8 @@ pub value_number : (n bits l s : ℕ) → l + s ≤ n → bits % 2 ^ (n - l) / 2
 value_number n bits l s h =
     let m = n - l in
     let e : n ≡ l + m = omega arith in
-    let f : m ≡ s + (m - s) = omega arith in grind (arith, common_steps, nat_tests, low_bits-drop, low_bits-take, number_of-low_bits, value_below)
+    let f : m ≡ s + (m - s) = omega arith in
+    grind (arith, common_steps, nat_tests, low_bits-drop, low_bits-take, number_of-low_bits, value_below)
 
 -- 11 bits with zeros after them
 pub eleven_padded : (b : ℕ) → low_bits 16 (b * 32) ≡ low_bits 11 b ++ replicate 5 false

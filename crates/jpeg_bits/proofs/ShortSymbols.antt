@@ -70,7 +70,8 @@ pub Code-none : (table : Table) (b : Ahead) (source : Stream) (e : Error) → Is
     → symbol_in table (next_16 b.bits) ≡ None → NamesFormat e
     → Takes (λ (c : ℕ × ℕ). c) (code_from table) b source (Err e) b source
 unfolding upcoming
-Code-none table b source e f h format = grind (arith, may_fail_format, names_format, code_from-none, no_code_of, still_known)
+Code-none table b source e f h format =
+    grind (arith, may_fail_format, names_format, code_from-none, no_code_of, still_known)
 
 pub Symbol-of-code : (table : Table) (b d : Ahead) (source : Stream) (c : ℕ × ℕ)
     → Takes (λ (c : ℕ × ℕ). c) (code_from table) b source (Ok c) d source
@@ -89,10 +90,8 @@ pub fast-taken : (table : Table) (b d : Ahead) (bytes : List ℕ) (v : ℤ) (r n
 unfolding upcoming
 fast-taken table b d bytes v r n counted f e ok eb em =
     fast-some _ b.bits b.met bytes f counted v r n e
-    ∙ ap (λ (o : Result (Unit {0}) Fault). o >>r= λ (u : Unit {0}). Ok (
-      Some (v, r),
-      upcoming_by (drop n b.bits) b.met bytes,
-    )) (ok_unit _ ok)
+    ∙ ap (λ (o : Result (Unit {0}) Fault). o >>r= λ (u : Unit {0}).
+    Ok (Some (v, r), upcoming_by (drop n b.bits) b.met bytes)) (ok_unit _ ok)
     ∙ sym (ap (λ bs. Ok (Some (v, r), upcoming_by bs d.met bytes)) eb
     ∙ ap (λ m. Ok (Some (v, r), upcoming_by (drop n b.bits) m bytes)) em)
 

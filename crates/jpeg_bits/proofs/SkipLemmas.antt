@@ -90,7 +90,8 @@ measured-after front n m o p h k = grind (arith, common_steps, length-append, fa
 
 -- a band keeps its length, and its run is read without its coefficients
 pub first-measured : (table : Table) (al n : ℕ) (band : List ℤ) (t : Text)
-    → read_on measured (first_ac table al n band t) ≡ read_on (of_length (length band)) (run_within table n (length band) t)
+    → read_on measured (first_ac table al n band t) ≡ read_on (of_length (length band))
+    (run_within table n (length band) t)
 unfolding first_ac run_within
 first-measured table al n [] t = refl
 first-measured table al zero (x ∷ rest) t = refl
@@ -173,7 +174,8 @@ unfolding token_at
 sixteen-passed others room size r s t none all = rw (none, all) refl
 
 module _ (table : Table) (counted : length table.counts ≡ 16) (bits : List Bool) (long : length bits ≡ 12)
-    (used symbol size : ℕ) (found : symbol_in table (drop used bits ++ replicate (4 + used) false) ≡ Some (symbol, size))
+    (used symbol size : ℕ) (found : symbol_in table (drop used bits ++ replicate (4 + used) false) ≡ Some
+    (symbol, size))
   where
     abbrev s : ℕ
     s = symbol % 16

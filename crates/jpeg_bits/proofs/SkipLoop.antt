@@ -63,11 +63,7 @@ module _ (table : Table) (room left : ℕ) (a b d e : Ahead) (old cur mid new : 
         → run_of table left (upcoming d bytes) ≡ after_skip table left (n, passed, last) (upcoming d bytes)
     unfolding upcoming
     after-text bytes =
-        after-buffered table left n passed last d.bits d.met bytes filled skip (omega (
-          arith,
-          lt,
-          is,
-        )) most
+        after-buffered table left n passed last d.bits d.met bytes filled skip (omega (arith, lt, is)) most
         (ap (λ (k : ℕ). is_ok (has_buffered k d.bits d.met)) (sym counted) ∙ sym ok)
 
     next-text : (bytes : List ℕ) → advance n (upcoming d bytes) ≡ upcoming e bytes

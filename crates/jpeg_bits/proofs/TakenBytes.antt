@@ -21,7 +21,7 @@ takes_front z (x ∷ buffered) (b ∷ []) inner new some one h = consumes-front 
 takes_front z buffered buf inner new some one h = absurd (omega (arith, some, one))
 
 -- the first of some bytes, and the others
-pub takes_first : (bytes buf : List ℕ) → 0 < length bytes → length buf ≡ 1
+pub takes-first : (bytes buf : List ℕ) → 0 < length bytes → length buf ≡ 1
     → bytes ≡ take 1 (slice_set buf 0 (slice_index_or bytes 0 0)) ++ take (length bytes - 1) (drop 1 bytes)
-takes_first (x ∷ bytes) (b ∷ []) some one = grind (arith, take_all)
-takes_first bytes buf some one = absurd (omega (arith, some, one))
+takes-first (x ∷ bytes) (b ∷ []) some one = grind (arith, take_all)
+takes-first bytes buf some one = absurd (omega (arith, some, one))

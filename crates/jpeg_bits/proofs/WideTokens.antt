@@ -52,12 +52,7 @@ buffered-then n s t h = grind (arith, common_steps, nat_tests, false≢true, len
 seen-code : (table : Table) (n symbol size : ℕ) (u : Text) (o p : Option (ℕ × ℕ))
     → named table.symbols o ≡ Some (symbol, size) → at_most n o ≡ at_most n p → size ≤ n
     → has_bits size u.bits u.ending ≡ Ok tt → code_by table u p ≡ Ok ((size, symbol), advance size u)
-seen-code table n symbol size u o p is same le buffered = grind (
-  arith,
-  common_steps,
-  nat_tests,
-  false≢true,
-)
+seen-code table n symbol size u o p is same le buffered = grind (arith, common_steps, nat_tests, false≢true)
 
 module _ (table : Table) (counted : length table.counts ≡ 16) (most : ℕ) (few : most ≤ 16) (bits : List Bool)
     (long : length bits ≡ most) (used : ℕ) (more : List Bool) (symbol size : ℕ)

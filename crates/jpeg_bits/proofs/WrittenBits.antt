@@ -1,9 +1,9 @@
 -- What is read of bits that were written.
 use Rattle.std.proofs.lemmas.Grind.{common_steps}
 use Rattle.std.proofs.lemmas.Bool.Decides.{nat_tests}
-use Rattle.std.proofs.Common.{◌≡◌, ℕ, zero, suc, ◌+◌, ◌*◌, ◌/◌, ◌%◌, ◌^◌, ◌<◌, Bool, false, cond, List, [], ◌∷◌, ◌++◌}
-use Rattle.std.proofs.Common.{length, take, drop, replicate, fold, refl, ap, ◌∙◌, subst, append_assoc, length-append, pos, Ok}
-use Rattle.std.proofs.Common.{mul_assoc, arith, pow_pos, pow-suc, mod-eq_of_lt}
+use Rattle.std.proofs.Common.{◌≡◌, ℕ, zero, suc, ◌+◌, ◌*◌, ◌/◌, ◌%◌, ◌^◌, ◌<◌, Bool, false, cond, List, [], ◌∷◌}
+use Rattle.std.proofs.Common.{◌++◌, length, take, drop, replicate, fold, refl, ap, ◌∙◌, subst, append_assoc}
+use Rattle.std.proofs.Common.{length-append, pos, Ok, mul_assoc, arith, pow_pos, pow-suc, mod-eq_of_lt}
 use Rattle.std.proofs.Math.Arith.{mod-mul}
 use Rattle.std.proofs.Math.Nat.{mod-one, add-mul}
 use Rattle.std.proofs.lemmas.List.{take-append-le, take_all, drop_at, drop-drop}
@@ -42,7 +42,8 @@ unfolding low_bits
 onto-bits zero a v = omega (arith, mod-one v)
 onto-bits (suc n) a v =
     let e : (2 * a + v / 2 ^ n % 2) * 2 ^ n + v % 2 ^ n ≡ a * 2 ^ suc n + v % 2 ^ suc n =
-    carry a (v / 2 ^ n % 2) (2 ^ n) (v % 2 ^ n) _ _ (pow-suc 2 n) (low_bits-mod n v) in grind (arith, common_steps, nat_tests, bit-value, onto-bits n (2 * a + v / 2 ^ n % 2) v)
+    carry a (v / 2 ^ n % 2) (2 ^ n) (v % 2 ^ n) _ _ (pow-suc 2 n) (low_bits-mod n v) in grind
+    (arith, common_steps, nat_tests, bit-value, onto-bits n (2 * a + v / 2 ^ n % 2) v)
 
 pub number_of-low_bits : (n v : ℕ) → v < 2 ^ n → number_of (low_bits n v) ≡ v
 number_of-low_bits n v h = onto-bits n 0 v ∙ omega (arith, mod-eq_of_lt h)

@@ -1,7 +1,7 @@
 -- Intervals that were written are read again, by whatever reads their bits.
-use Rattle.std.proofs.Common.{rules, ◌≡◌, ◌≢◌, ℕ, zero, suc, ◌+◌, ◌%◌, ◌<◌, ◌≤◌, Bool, false, List}
-use Rattle.std.proofs.Common.{[], ◌∷◌, ◌++◌, length, drop, map, replicate, Option, Some, None, Ok, refl, sym}
-use Rattle.std.proofs.Common.{ap, ap₂, ◌∙◌, arith, eqb, length-append, length-drop, append_assoc, append-nil, take-append-drop}
+use Rattle.std.proofs.Common.{rules, ◌≡◌, ◌≢◌, ℕ, zero, suc, ◌+◌, ◌%◌, ◌<◌, ◌≤◌, Bool, false, List, [], ◌∷◌, ◌++◌}
+use Rattle.std.proofs.Common.{length, drop, map, replicate, Option, Some, None, Ok, refl, sym, ap, ap₂, ◌∙◌, arith}
+use Rattle.std.proofs.Common.{eqb, length-append, length-drop, append_assoc, append-nil, take-append-drop}
 use Rattle.std.proofs.lemmas.Bool.{eq-eqb, eqb-true}
 use Rattle.std.proofs.lemmas.Bool.Decides.{nat_tests}
 use Rattle.std.proofs.lemmas.Grind.{common_steps}
@@ -13,14 +13,14 @@ use Rattle.jpeg_bits.specs.Entropy.{text_ahead, text_at}
 use Rattle.jpeg_bits.specs.Intervals.{first_group, groups, interval, intervals, other_groups}
 use Rattle.jpeg_bits.specs.Marker.{marker_of}
 use Rattle.jpeg_bits.specs.Readers.{Reads, ReadsJust, each}
-use Rattle.jpeg_bits.specs.Written.{IsMarker, WritesEach, WritesInterval, WritesIntervals, bits_of_bytes}
-use Rattle.jpeg_bits.specs.Written.{marker, stuffed}
+use Rattle.jpeg_bits.specs.Written.{IsMarker, WritesEach, WritesInterval, WritesIntervals, bits_of_bytes, marker}
+use Rattle.jpeg_bits.specs.Written.{stuffed}
 use Rattle.jpeg_bits.specs.Written.WritesEach.{none, one}
 use Rattle.jpeg_bits.specs.Written.WritesIntervals.{last, another}
 use Rattle.jpeg_bits.specs.declared.marker.Marker.{Marker}
-use Rattle.jpeg_bits.specs.declared.marker.Marker.TheVariants as markers
 use Rattle.jpeg_bits.proofs.ReadIntervals.{all-drop, all-take}
 use Rattle.jpeg_bits.proofs.WrittenBits.{takes-bind, takes-gives, takes-map}
+use Rattle.jpeg_bits.specs.declared.marker.Marker.TheVariants as markers
 
 -- ---- things one after the other
 
@@ -138,7 +138,8 @@ rst n h = grind (arith, nat_tests)
 rst-marker : (k : ℕ) → IsMarker (0xD0 + k % 8) (markers.RST (k % 8))
 rst-marker k = record { is = rst (k % 8) (omega arith) }
 
-pub marker-append : (fill code : ℕ) (rest more : List ℕ) → marker fill code rest ++ more ≡ marker fill code (rest ++ more)
+pub marker-append : (fill code : ℕ) (rest more : List ℕ)
+    → marker fill code rest ++ more ≡ marker fill code (rest ++ more)
 marker-append fill code rest more = simp (append_assoc)
 
 pub next-interval : {A B : Type 0} (read : A → Reads (List B)) (k : ℕ) (now next : A) (more : List A)

@@ -39,18 +39,12 @@ indices_then_zigzag = refl
 -- the two tables are inverse to one another
 pub indices-zigzag : (k : ℕ) → k < 64 → get_or zigzag_indices (get_or zigzag k 0) 0 ≡ k
 indices-zigzag k h =
-    sym (get_or-map (λ index. get_or zigzag_indices index 0) zigzag k 0 0 (omega (
-      arith,
-      length_zigzag,
-    )))
+    sym (get_or-map (λ index. get_or zigzag_indices index 0) zigzag k 0 0 (omega (arith, length_zigzag)))
     ∙ ap (λ (xs : List ℕ). get_or xs k 0) zigzag_then_indices ∙ get_or-range_with_len 0 64 k 0 h ∙ omega arith
 
 pub zigzag-indices : (k : ℕ) → k < 64 → get_or zigzag (get_or zigzag_indices k 0) 0 ≡ k
 zigzag-indices k h =
-    sym (get_or-map (λ index. get_or zigzag index 0) zigzag_indices k 0 0 (omega (
-      arith,
-      length_indices,
-    )))
+    sym (get_or-map (λ index. get_or zigzag index 0) zigzag_indices k 0 0 (omega (arith, length_indices)))
     ∙ ap (λ (xs : List ℕ). get_or xs k 0) indices_then_zigzag ∙ get_or-range_with_len 0 64 k 0 h ∙ omega arith
 
 pub length-in_zigzag : (l : List ℤ) → length (coefficients_in_zigzag l) ≡ 64

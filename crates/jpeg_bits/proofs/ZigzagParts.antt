@@ -22,7 +22,8 @@ pub part-get : (start end k : ℕ) (block : List ℤ) (d : ℤ) → start ≤ k 
 unfolding zigzag_part
 part-get start end k block d from before within =
     let z = coefficients_in_zigzag block in
-    let at : start + (k - start) ≡ k = omega arith in grind (arith, common_steps, nat_tests, get_or-take, get_or-drop, get_or-in_zigzag)
+    let at : start + (k - start) ≡ k = omega arith in
+    grind (arith, common_steps, nat_tests, get_or-take, get_or-drop, get_or-in_zigzag)
 
 -- and as it is written
 pub part-set : (start end k : ℕ) (block : List ℤ) (v : ℤ) → length block ≡ 64 → start ≤ k → k < end → end ≤ 64

@@ -28,7 +28,7 @@ impl<'a> Read for SliceReader<'a> {
     ghost remaining = { λ r. Some r.bytes.now };
 
     #[inline(always)]
-    #[tactic(auto, using(crate::proofs::TakenBytes::takes_first))]
+    #[tactic(auto, using(crate::proofs::Rules::taken))]
     fn read(&mut self, buf: &mut [u8]) -> Result<usize>
         ensures bound { ReadsAtMost result buf.new }
         ensures bytes { ReadConsumes (Some self.old.bytes.now) (Some self.new.bytes.now) result

@@ -28,9 +28,11 @@ returns-clause-block g c =
     let four : length predictors ≡ 4 = search rules in
     let same = get_or-set_same predictors slot c.read_dc.new.predictor (pos 0) (rw four k.within) in
     let q = rw c.decoder.view_is at c.if-not-read_dc.ensures.part in
-    rw same (Takes-map (keep k.keeps_ac) (λ (u : Unit {0}). (to_block c.read_band-2.new.block, c.read_dc.new.predictor, c.read_band-2.new.run))
+    rw same (Takes-map (keep k.keeps_ac)
+    (λ (u : Unit {0}). (to_block c.read_band-2.new.block, c.read_dc.new.predictor, c.read_band-2.new.run))
     read a.decoder.now _ a.source.now c.read_band-2.new.source _
-    (block_read p k.ac_table.now y _ a.carried.now.run _ block _ read a.decoder.now _ _ a.source.now c.read_dc.new.source
+    (block_read p k.ac_table.now y _ a.carried.now.run _ block _ read a.decoder.now _ _ a.source.now
+    c.read_dc.new.source
     c.read_band-2.new.source c.read_band-2.new.refusal c.read_band-2.result n k.legal
     (subst (λ (b : List ℤ). KeepsOthers p b c.read_band-2.new.block) put c.read_band-2.ensures.others)
     (q.0, λ known. ((q.1 known).0, dc_step _ _ _ _ _ _ _ _ _ _ _ refl (q.1 known).1))
@@ -49,9 +51,11 @@ returns-then-coding-gt0-clause-block g c =
     let read = block_from p k.dc_table.now k.ac_table.now predictor a.carried.now.run (to_block block) in
     let n : length block ≡ 64 = search rules in
     let same = set-get_or block 0 (pos 0) in
-    Takes-map (keep k.keeps_ac) (λ (u : Unit {0}). (to_block c.read_band.new.block, predictor, c.read_band.new.run)) read
+    Takes-map (keep k.keeps_ac)
+    (λ (u : Unit {0}). (to_block c.read_band.new.block, predictor, c.read_band.new.run)) read
     a.decoder.now _ a.source.now c.read_band.new.source _
-    (block_read p k.ac_table.now (dc_in block) predictor a.carried.now.run _ block c.read_band.new.block read a.decoder.now a.decoder.now _
+    (block_read p k.ac_table.now (dc_in block) predictor a.carried.now.run _ block c.read_band.new.block read
+    a.decoder.now a.decoder.now _
     a.source.now a.source.now c.read_band.new.source c.read_band.new.refusal c.read_band.result n k.legal
     (rw same c.read_band.ensures.others)
     (refl, λ known. (known, dc_step _ _ _ _ _ _ _ _ _ _ _ refl (dc_kept _ _ _ _ _ c.if-coding-gt0.true)))
@@ -77,7 +81,8 @@ returns-then-not-coding-clause-block g c =
     let read = block_from p k.dc_table.now k.ac_table.now predictor run (to_block block) in
     let q = rw c.decoder.view_is at c.if-not-read_dc.ensures.part in
     let done = outcome_of c.skip_band.result c.skip_band.new.refusal in
-    let alone = dc-alone-read p k.dc_table.now k.ac_table.now predictor run block (k.first off) n y next _ a.decoder.now _ _
+    let alone = dc-alone-read p k.dc_table.now k.ac_table.now predictor run block (k.first off) n y next _
+    a.decoder.now _ _
     a.source.now c.read_dc.new.source c.skip_band.new.source c.skip_band.new.refusal c.skip_band.result k.legal
     (dc-read _ _ _ _ _ _ (k.first off) n _ _ _ _ _ _ q) c.skip_band.ensures.band in
     rw (same, put, off) alone

@@ -1,8 +1,6 @@
-use Rattle.std.proofs.Common.{◌<◌, length, rules, arith}
-use Rattle.std.proofs.lemmas.Result.{err_from_is_err_and}
-use Rattle.jpeg_bits.proofs.Filled.{filled-more, filled-all, filled-short, filled-err, filled-room}
+use Rattle.std.proofs.Common.{◌<◌, length, rules}
+use Rattle.jpeg_bits.proofs.Filled.{filled-more, filled-short}
 use Rattle.jpeg_bits.proofs.reads.read_exact.Goals as goal
-use Rattle.std.proofs.lemmas.Grind.{common_steps}
 
 pub returns-then-count-eq0-clause-answers : goal.returns-then-count-eq0-clause-answers
 returns-then-count-eq0-clause-answers g c =
@@ -18,6 +16,7 @@ loop-filled-preserved g c =
     record {
       long = search rules;
       within = search rules;
-      read = filled-more _ c.loop-filled.source c.read.new.self _ _ _ c.loop-filled.buffer c.read.new.buffer inv.within inv.read
+      read = filled-more _ c.loop-filled.source c.read.new.self _ _ _ c.loop-filled.buffer c.read.new.buffer
+          inv.within inv.read
           c.in_ok-count.ensures.some;
     }

@@ -1,6 +1,5 @@
-use Rattle.std.proofs.Common.{List}
-use Rattle.std.proofs.Common.{◌≡◌, ◌-◌, ◌+◌, ◌<◌, ◌≤◌, ℤ, ℕ, pos, get_or, length-set, ◌∙◌, ap, sym}
-use Rattle.std.proofs.Common.{w16, SFits, arith, rules}
+use Rattle.std.proofs.Common.{List, ◌≡◌, ◌-◌, ◌+◌, ◌<◌, ◌≤◌, ℤ, ℕ, pos, get_or, length-set, ◌∙◌, ap}
+use Rattle.std.proofs.Common.{sym, w16, SFits, arith, rules}
 use Rattle.std.proofs.lemmas.Int.{to_z-of_z}
 use Rattle.std.specs.Int.{cast_signed, cast_unsigned}
 use Rattle.jpeg_bits.specs.Entropy.{Text}
@@ -8,10 +7,9 @@ use Rattle.jpeg_bits.specs.Pieces.{piece_from, corrected_from}
 use Rattle.jpeg_bits.specs.BlockView.{pass_in}
 use Rattle.jpeg_bits.specs.ZigzagParts.{band_end, rest_in}
 use Rattle.jpeg_bits.proofs.BandSteps.{Leaves-ok, Leaves-err, Leaves-end}
-use Rattle.jpeg_bits.proofs.BlockWalks.{walk_at, at-start, at-end, at-value, at-refused}
+use Rattle.jpeg_bits.proofs.BlockWalks.{walk_at, at-value, at-refused}
 use Rattle.jpeg_bits.proofs.Masks.{gap-zeros, at-skips, at-gap, at-last-gap, marks-set, marks-later}
-use Rattle.jpeg_bits.proofs.ZigzagParts.{kept-same, kept-set}
-use Rattle.std.proofs.lemmas.Grind.{common_steps}
+use Rattle.jpeg_bits.proofs.ZigzagParts.{kept-set}
 use Rattle.jpeg_bits.proofs.refinement.correct_piece.Goals as goal
 
 pub returns-then-left-gap-clause-piece : goal.returns-then-left-gap-clause-piece
@@ -40,7 +38,8 @@ returns-then-index-end-clause-piece g c =
     let inside = c.zeros_from-gap.ensures.within in
     let met = c.if-index-end.true in
     let few = c.if-left-gap.false in
-    rw is (Leaves-end (λ (y : ℕ × List ℤ). y) (piece_from a.pass.al a.zeros (rest_in (pass_in a.pass) a.from c.args.block.now))
+    rw is (Leaves-end (λ (y : ℕ × List ℤ). y)
+    (piece_from a.pass.al a.zeros (rest_in (pass_in a.pass) a.from c.args.block.now))
     _ c.args.buffered.now _ c.args.source.now l.source _
     (λ t. at-last-gap a.pass.al a.from end l.block (omega arith) gap l.left l.index t l.invariant.after (omega arith)
     (omega arith) (gap-zeros c.args.mask l.index gap l.block (omega arith) l.invariant.marks

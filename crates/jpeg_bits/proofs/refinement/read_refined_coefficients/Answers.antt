@@ -68,13 +68,15 @@ loop-index-preserved g c =
     let most : next ≤ band_end (pass_in c.args.pass) = within.1 in
     let n : length c.correct_piece-in-New.new.block ≡ 64 = search rules in
     let v : cast_signed w16 (cast_unsigned w16 c.in-New.value) ≡ c.in-New.value = to_z-of_z w16 _ (search rules) in
-    let kept : KeepsOthers (pass_in c.args.pass) c.args.block.now c.correct_piece-in-New.new.block = search (rules, kept-rest) in
+    let kept : KeepsOthers (pass_in c.args.pass) c.args.block.now c.correct_piece-in-New.new.block =
+    search (rules, kept-rest) in
     rw (v, c.index_of.ensures.value) record {
       len = length-set _ _ _ ∙ n;
       from = omega arith;
       within = most;
       rest = new-read _ _ _ _ _ _ c.args.source.now c.loop-index.source c.read_refinement.new.source _ _ _ c.requires
-          c.band_end-end.ensures c.loop-index.invariant.from c.loop-index-test.true c.loop-index.invariant.rest _ c.correct_piece-in-New.new.source _
+          c.band_end-end.ensures c.loop-index.invariant.from c.loop-index-test.true c.loop-index.invariant.rest
+          _ c.correct_piece-in-New.new.source _
           c.in-Some.ensures.token _ _
           c.in-Some-correct_piece-2.ensures.others _ _ _ c.from-zeros.ensures n more most c.in-New.is
           c.in-Some-correct_piece-2.ensures.piece;
@@ -85,7 +87,8 @@ loop-index-preserved g c =
 pub returns-in-Some-correct_piece-3-clause-reads : goal.returns-in-Some-correct_piece-3-clause-reads
 returns-in-Some-correct_piece-3-clause-reads g c =
     end-read _ _ _ _ _ _ c.args.source.now c.loop-index.source c.read_refinement.new.source _ _ _ c.requires
-    c.band_end-end.ensures c.loop-index.invariant.from c.loop-index-test.true c.loop-index.invariant.rest _ c.correct_piece-in-End.new.source _
+    c.band_end-end.ensures c.loop-index.invariant.from c.loop-index-test.true c.loop-index.invariant.rest _
+    c.correct_piece-in-End.new.source _
     c.in-Some.ensures.token _ _ c.in-Some-correct_piece-3.ensures.others _ c.in-End.is
     c.in-Some-correct_piece-3.ensures.piece
 
@@ -107,4 +110,5 @@ returns-clause-reads g c =
     let stop = c.loop-index-test.false in
     let last : band_end (pass_in c.args.pass) ≤ c.loop-index.index = omega arith in
     Leaves-end (λ (y : Band). y) (refined_from c.args.table.now (pass_in c.args.pass) c.args.block.now) _
-    c.args.buffered.now _ c.args.source.now _ _ (λ t. at-last c.args.table.now (pass_in c.args.pass) _ _ _ c.requires last) c.loop-index.invariant.rest
+    c.args.buffered.now _ c.args.source.now _ _ (λ t. at-last c.args.table.now (pass_in c.args.pass) _ _ _
+    c.requires last) c.loop-index.invariant.rest

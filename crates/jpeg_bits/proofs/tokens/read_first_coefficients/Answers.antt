@@ -31,7 +31,8 @@ loop-at-preserved-in-Value g c =
       text = index-value _ _ _ _ _ _ _ c.args.source.now l.source c.fill.new.source c.read_token.new.source _ _ _
           c.requires.pass c.band_end-end.ensures l.invariant.from c.loop-at-test.true l.invariant.text
           c.if-not-fill.ensures.holds _ _ _ _ l.invariant.len room is c.in-Some.ensures.token c.in-Value.is;
-      others = kept-set _ _ (l.at + c.in-Value.run') _ _ _ l.invariant.len (omega arith) (omega arith) (omega arith) l.invariant.others;
+      others = kept-set _ _ (l.at + c.in-Value.run') _ _ _ l.invariant.len (omega arith) (omega arith)
+          (omega arith) l.invariant.others;
     }
 
 pub loop-at-preserved-then-end-at-gt16 : goal.loop-at-preserved-then-end-at-gt16
@@ -117,5 +118,6 @@ loop-at-preserved-then-has g c =
           c.if-not-fill.ensures.holds pair seen room enough c.skip.new.self taken c.skip.ensures.met _ _ value value';
       others = kept-set _ _ (l.at + pair.next) _ _ _
           (length-set _ _ _ ∙ l.invariant.len) (omega arith) (omega arith) (omega arith)
-          (kept-set _ _ (l.at + pair.run) _ _ _ l.invariant.len (omega arith) (omega arith) (omega arith) l.invariant.others);
+          (kept-set _ _ (l.at + pair.run) _ _ _ l.invariant.len (omega arith) (omega arith) (omega arith)
+          l.invariant.others);
     }

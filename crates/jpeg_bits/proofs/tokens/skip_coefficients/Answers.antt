@@ -1,5 +1,5 @@
 use Rattle.std.proofs.Common.{rules}
-use Rattle.jpeg_bits.proofs.SkipLoop.{skip-all, skip-over, skip-overlong, skip-refused, skip-to-end, skip-token}
+use Rattle.jpeg_bits.proofs.SkipLoop.{skip-over, skip-to-end, skip-token}
 use Rattle.jpeg_bits.proofs.tokens.skip_coefficients.Goals as goal
 
 pub returns-then-is_last-clause-run : goal.returns-then-is_last-clause-run
@@ -11,13 +11,15 @@ loop-left-preserved-then-has g c = search (rules, skip-over)
 pub loop-left-preserved-in-Value : goal.loop-left-preserved-in-Value
 loop-left-preserved-in-Value g c =
     let token = rw c.in-Value.is at c.in-Some.ensures.token in
-    let after = skip-token c.args.table.now c.args.room _ c.args.buffered.now _ _ _ c.args.source.now _ c.fill.new.source _
+    let after = skip-token c.args.table.now c.args.room _ c.args.buffered.now _ _ _ c.args.source.now _
+    c.fill.new.source _
     c.loop-left.invariant.text c.if-not-fill.ensures.holds c.loop-left-test.true _ token in search rules
 
 pub loop-left-preserved : goal.loop-left-preserved
 loop-left-preserved g c =
     let token = rw c.in-Sixteen.is at c.in-Some.ensures.token in
-    let after = skip-token c.args.table.now c.args.room _ c.args.buffered.now _ _ _ c.args.source.now _ c.fill.new.source _
+    let after = skip-token c.args.table.now c.args.room _ c.args.buffered.now _ _ _ c.args.source.now _
+    c.fill.new.source _
     c.loop-left.invariant.text c.if-not-fill.ensures.holds c.loop-left-test.true _ token in search rules
 
 pub returns-in-Rest-clause-run : goal.returns-in-Rest-clause-run

@@ -1,13 +1,10 @@
 use Rattle.std.proofs.Common.{◌∙◌, ◌/◌, ap, arith}
-use Rattle.std.proofs.lemmas.List.{get_or_default}
 use Rattle.jpeg_bits.specs.Codes.{Table}
 use Rattle.jpeg_bits.specs.Written.{low_bits}
 use Rattle.jpeg_bits.specs.ShortCodes.{short_code}
-use Rattle.jpeg_bits.proofs.RowLemmas.{first_le, index_within, row_found, row_missed, above_more, rows_passed}
-use Rattle.jpeg_bits.proofs.RowLemmas.{none_found}
+use Rattle.jpeg_bits.proofs.RowLemmas.{rows_passed}
 use Rattle.jpeg_bits.proofs.ShortLemmas.{none_short}
 use Rattle.jpeg_bits.proofs.codes.HuffmanTable.long_symbol_of.Goals as goal
-use Rattle.std.proofs.lemmas.Grind.{common_steps}
 
 pub loop-i-init : goal.loop-i-init
 loop-i-init c =
