@@ -1,8 +1,8 @@
 -- The picture of planes in one room: row of MCUs by row of MCUs.
 use Rattle.std.proofs.lemmas.Grind.{common_steps}
 use Rattle.std.proofs.Common.{◌≡◌, ℕ, ◌+◌, ◌-◌, ◌*◌, ◌/◌, ◌%◌, ◌<◌, ◌≤◌, List, [], ◌∷◌, ◌++◌}
-use Rattle.std.proofs.Common.{length, map, min, take, drop, get_or, ap, ◌∙◌, sym, refl, Ok}
-use Rattle.std.proofs.Common.{arith, rules, length-drop, length-take}
+use Rattle.std.proofs.Common.{length, map, min, take, drop, get_or, ap, ◌∙◌, sym, refl, Ok, arith}
+use Rattle.std.proofs.Common.{rules, length-drop, length-take}
 use Rattle.std.proofs.Math.Nat.{add-mul, lt_of_mul-lt-mul_left, mod-lt, mul_assoc}
 use Rattle.std.proofs.Math.Nat.{mul-div_cancel_left, mul-le-mul, mul-le-mul_left, mul-le-mul_right}
 use Rattle.std.proofs.lemmas.Bool.{eq-eqb}
