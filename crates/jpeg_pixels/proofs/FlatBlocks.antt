@@ -1,6 +1,6 @@
 -- Laws of the samples.
-use Rattle.std.proofs.Common.{◌*◌, ◌+◌, ◌≡◌, ℕ, ◌<◌, ◌≤◌, List, get_or, ℤ, pos, negsuc, ◌+ℤ◌, ◌*ℤ◌, arith, true, unsigned_abs}
-use Rattle.std.proofs.Common.{rules}
+use Rattle.std.proofs.Common.{◌*◌, ◌+◌, ◌≡◌, ℕ, ◌<◌, ◌≤◌, List, get_or, ℤ, pos, negsuc, ◌+ℤ◌, ◌*ℤ◌, arith, true}
+use Rattle.std.proofs.Common.{unsigned_abs, rules}
 use Rattle.std.proofs.Math.Logic.{⊎_elim}
 use Rattle.std.proofs.lemmas.Bool.{cases_lt}
 use Rattle.std.proofs.lemmas.Int.{int_wrap_fits}

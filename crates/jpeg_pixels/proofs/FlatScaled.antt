@@ -1,6 +1,6 @@
 -- Blocks of one coefficient, the first, at less than full size.
-use Rattle.std.proofs.Common.{◌≡◌, ℕ, ◌<◌, ◌≤◌, List, ℤ, pos, negsuc, ◌+ℤ◌, ◌*ℤ◌, unsigned_abs, rules}
-use Rattle.std.proofs.Common.{refl, sym, ap, ◌∙◌, arith, FitsSigned, lit<}
+use Rattle.std.proofs.Common.{◌≡◌, ℕ, ◌<◌, ◌≤◌, List, ℤ, pos, negsuc, ◌+ℤ◌, ◌*ℤ◌, unsigned_abs, rules, refl, sym, ap}
+use Rattle.std.proofs.Common.{◌∙◌, arith, FitsSigned, lit<}
 use Rattle.std.proofs.lemmas.Bool.{cases_lt}
 use Rattle.std.proofs.lemmas.Int.{ints, int_wrap_fits}
 use Rattle.std.specs.Int.{w32, int_shr, int_wrap}

@@ -1,8 +1,8 @@
 -- The picture of planes in one room: row of MCUs by row of MCUs.
 use Rattle.std.proofs.lemmas.Grind.{common_steps}
 use Rattle.std.proofs.Common.{◌≡◌, ℕ, ◌+◌, ◌-◌, ◌*◌, ◌/◌, ◌%◌, ◌<◌, ◌≤◌, List, [], ◌∷◌, ◌++◌}
-use Rattle.std.proofs.Common.{length, map, min, take, drop, get_or, ap, ◌∙◌, sym, refl, Ok}
-use Rattle.std.proofs.Common.{arith, rules, length-drop, length-take}
+use Rattle.std.proofs.Common.{length, map, min, take, drop, get_or, ap, ◌∙◌, sym, refl, Ok, arith}
+use Rattle.std.proofs.Common.{rules, length-drop, length-take}
 use Rattle.std.proofs.Math.Nat.{add-mul, lt_of_mul-lt-mul_left, mod-lt, mul_assoc}
 use Rattle.std.proofs.Math.Nat.{mul-div_cancel_left, mul-le-mul, mul-le-mul_left, mul-le-mul_right}
 use Rattle.std.proofs.lemmas.Bool.{eq-eqb}
@@ -60,7 +60,7 @@ lines-more height row lines = omega (arith, add-mul)
 pub strips-inside : (shape : JointShape) (row first size long whole : ℕ)
     → first ≡ joint_row_size shape → size ≡ joint_row_size shape → row < shape.rows → long ≡ whole
     → whole ≡ shape.rows * joint_row_size shape → row * first + size ≤ long
-strips-inside shape row first size long whole e f lt g is = search (rules, row_fits, joint_row_size)
+strips-inside shape row first size long whole e f lt g is = search (rules, row_fits)
 
 -- and the samples have all of them
 strips-long : (shape : JointShape) (samples : List ℕ) (row : ℕ) → row < shape.rows
@@ -83,7 +83,7 @@ pub all-written : (convert : ColorConvert) (shape : JointShape) (width : ℕ) (s
     → AreWritten convert shape width samples height row out
     → take (height * (shape.count * width)) out ≡ joint_bytes convert shape width samples height
 all-written convert shape width samples height row out high end is =
-    grind (arith, common_steps, mul-le-mul_right, ℕ, joint_bytes)
+    grind (arith, common_steps, mul-le-mul_right)
 
 -- The lines of a row of MCUs are written after those above it. They are made of the strips that are
 -- read, which are those of the samples.

@@ -56,4 +56,4 @@ blue_by_short y cb h = ap clamped (by_short 1858077 29033 refl y cb h)
 pub green_by_sum : (y cb cr : ℕ) → green_of y cb cr ≡ clamped (pos y +ℤ int_shr
     (pos 524288 -ℤ pos 360857 *ℤ centred_of cb -ℤ pos 748830 *ℤ centred_of cr) 20)
 unfolding green_of
-green_by_sum y cb cr = grind (arith, ints, common_steps, clamped, shifted, centred_of)
+green_by_sum y cb cr = grind (arith, ints, common_steps, shifted)

@@ -121,7 +121,7 @@ icc-written bytes long f = grind (arith, common_steps, next-byte, named-as, icc_
 adobe-written : (bytes : List ℕ) → 11 < length bytes → begins_with bytes adobe_name ≡ true
     → adobe_name ++ (take 5 (drop 6 bytes) ++ get_or bytes 11 0 ∷ drop 12 bytes) ≡ bytes
 adobe-written bytes long f =
-    grind (arith, common_steps, ℕ, adobe_name, next-byte, drop-drop, take-append-drop, named-as)
+    grind (arith, common_steps, next-byte, drop-drop, take-append-drop, named-as)
 
 either : {A : Type 0} (b : Bool) → (b ≡ true → A) → (b ≡ false → A) → A
 either true if_true if_false = if_true refl

@@ -1,12 +1,10 @@
 -- Frames at scales.
-use Rattle.std.proofs.Common.{take, drop, length-take, ◌++◌, ◌-◌}
-use Rattle.std.proofs.lemmas.List.{get_or-append_right, get_or-drop}
+use Rattle.std.proofs.Common.{take, drop, length-take, ◌++◌, ◌-◌, ◌≡◌, ◌≤◌, ◌<◌, ℕ, ◌+◌, ◌*◌, List, [], ◌∷◌, map}
+use Rattle.std.proofs.Common.{length, get_or, set, true, All, refl, ap, sym, ◌∙◌, arith, rules}
+use Rattle.std.proofs.lemmas.List.{get_or-append_right, get_or-drop, length-map, map-set, get_or-map}
 use Rattle.std.proofs.lemmas.List.Edits.{map_over_more}
 use Rattle.std.proofs.lemmas.Simd.{map-map}
-use Rattle.std.proofs.Common.{◌≡◌, ◌≤◌, ◌<◌, ℕ, ◌+◌, ◌*◌, List, [], ◌∷◌, map, length, get_or, set, true, All}
-use Rattle.std.proofs.Common.{refl, ap, sym, ◌∙◌, arith, rules}
 use Rattle.std.proofs.lemmas.Bool.{eqb-true}
-use Rattle.std.proofs.lemmas.List.{length-map, map-set, get_or-map}
 use Rattle.std.proofs.lemmas.List.Elements.{All-get_or, All-nil}
 use Rattle.jpeg_segments.specs.declared.parser.Component.{Component as Seen}
 use Rattle.jpeg_segments.specs.Frame.{AllHaveSampling, Component, Factors, Frame, IsFrame, IsInRange, ceiling}

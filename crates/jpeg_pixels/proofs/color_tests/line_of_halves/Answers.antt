@@ -1,4 +1,4 @@
-use Rattle.std.proofs.Common.{◌+◌, [], ◌∷◌, subst, arith, rules}
+use Rattle.std.proofs.Common.{[], ◌∷◌, subst, arith, rules}
 use Rattle.std.proofs.lemmas.Grind.{common_steps}
 use Rattle.std.proofs.lemmas.List.Elements.{All-cons, All-nil}
 use Rattle.jpeg_segments.specs.Frame.{AllHaveSampling, component_of, frame_of}

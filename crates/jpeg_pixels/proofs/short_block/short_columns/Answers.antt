@@ -1,5 +1,4 @@
-use Rattle.std.proofs.Common.{rules}
-use Rattle.std.proofs.Common.{lit<}
+use Rattle.std.proofs.Common.{rules, lit<}
 use Rattle.jpeg_pixels.specs.Samples.{column_value}
 use Rattle.jpeg_pixels.proofs.ShortPasses.{value_fits, value_row}
 use Rattle.jpeg_pixels.proofs.short_block.short_columns.Goals as goal
@@ -8,5 +7,5 @@ pub returns : goal.returns
 returns c coefficients quantization within numbers =
     let f = column_value coefficients quantization in
     c.transpose_shorts.ensures f (c.narrowed_rows.ensures f
-    (λ row column. value_fits coefficients quantization within row column) 
+    (λ row column. value_fits coefficients quantization within row column)
     (search (rules, lit<, value_row coefficients quantization within c.args.inputs numbers)))
