@@ -29,41 +29,22 @@ first-at a [] x h = absurd (omega arith)
 first-at a (d ∷ ds) zero h = refl
 first-at a (d ∷ ds) (suc x) h = first-at (sample_by (pos a) d) ds x (omega arith)
 
-at-top-left : (selection : Predictor) (start : ℕ) (a b c : ℤ) → prediction selection start 0 0 a b c ≡ pos start
-unfolding prediction
-at-top-left selection start a b c = refl
-
-at-top : (selection : Predictor) (start x : ℕ) (a b c : ℤ) → prediction selection start (suc x) 0 a b c ≡ a
-unfolding prediction
-at-top selection start x a b c = search rules
-
-at-left : (selection : Predictor) (start y : ℕ) (a b c : ℤ) → prediction selection start 0 (suc y) a b c ≡ b
-unfolding prediction
-at-left selection start y a b c = search rules
-
-at-else : (selection : Predictor) (start x y : ℕ) (a b c : ℤ) → prediction selection start (suc x) (suc y) a b c
-    ≡ selected selection a b c
-unfolding prediction
-at-else selection start x y a b c = search rules
-
-less-one : (n : ℕ) → n ≡ suc n - 1
-less-one n = omega arith
-
 -- a line below another
 below-at : (selection : Predictor) (start : ℕ) (above ds : List ℕ) (x y : ℕ) → length above ≡ length ds → x < length ds
     → slice_index (line_below selection start above ds) x
     ≡ sample_by (prediction selection start x (suc y)
     (pos (slice_index (line_below selection start above ds) (x - 1))) (pos (slice_index above x))
     (pos (slice_index above (x - 1)))) (slice_index ds x)
-unfolding line_below
-below-at selection start above ds x y h1 h2 = grind (arith, nat_tests, at-left, at-else, rest-at)
+unfolding line_below prediction
+below-at selection start above ds x y h1 h2 = grind (arith, nat_tests, rest-at)
 
 top-at : (selection : Predictor) (start : ℕ) (ds : List ℕ) (x : ℕ) (b c : ℤ) → x < length ds
     → slice_index (line_below selection start [] ds) x
     ≡ sample_by (prediction selection start x 0 (pos (slice_index (line_below selection start [] ds) (x - 1))) b
     c) (slice_index ds x)
-unfolding line_below
-top-at selection start ds x b c h1 = grind (arith, common_steps, nat_tests, at-top-left, first-at, at-top, less-one)
+unfolding line_below prediction
+top-at selection start ds x b c h1 =
+    grind (arith, common_steps, nat_tests, first-at)
 
 -- lines below one; with that one in front, the line above line y is at y
 lines-at : (selection : Predictor) (start n : ℕ) (above : List ℕ) (ds : List (List ℕ)) (x y k : ℕ)
@@ -85,4 +66,4 @@ pub predicted_at : (selection : Predictor) (start n : ℕ) (ds : List (List ℕ)
 unfolding lines_below AreEven
 predicted_at selection start n [] x y e h w = absurd (omega arith)
 predicted_at selection start n (d ∷ ds) x zero e h w = top-at selection start d x _ _ (omega (arith, e.0))
-predicted_at selection start n (d ∷ ds) x (suc y) e h w = search (rules, length-top, less-one, lines-at)
+predicted_at selection start n (d ∷ ds) x (suc y) e h w = search (rules, length-top, lines-at)

@@ -13,7 +13,7 @@ use Rattle.jpeg_segments.specs.Frame.{Component, Frame, greatest, most_across, m
 use Rattle.jpeg_segments.proofs.FrameLemmas.{greatest-some}
 use Rattle.jpeg_lossless.specs.Pictures.{AreLong, Layer, bytes_at, layer_of, sample_line, line_from}
 use Rattle.jpeg_lossless.specs.Pictures.{lines_across, layer_sample, sample_pixel}
-use Rattle.jpeg_lossless.proofs.ImageLoops.{picture_steps, layers_none, IsPixelOf, at-most, inside, line-begun, line-grown}
+use Rattle.jpeg_lossless.proofs.ImageLoops.{picture_steps, layers_none, IsPixelOf, at-most, inside, line-grown}
 use Rattle.jpeg_lossless.proofs.ImageLoops.{line-more, line-none, through, within}
 use Rattle.std.proofs.lemmas.Grind.{common_steps}
 
@@ -171,7 +171,7 @@ from-none n = omega arith
 pub line_of_lines : (precision h v width y n : ℕ) (layers : List Layer) → n ≤ width
     → line_from precision (lines_across h v width layers y) 0 n ≡ sample_line precision h v n
     layers y
-line_of_lines precision h v width y zero layers k = search (rules, line-none, line-begun)
+line_of_lines precision h v width y zero layers k = search (rules, line-none)
 line_of_lines precision h v width y (suc n) layers k =
     let s : suc n ≡ n + 1 = omega arith in
     let lines = lines_across h v width layers y in

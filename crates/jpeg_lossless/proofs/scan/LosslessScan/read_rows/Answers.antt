@@ -10,7 +10,7 @@ use Rattle.jpeg_bits.specs.Codes.{Table}
 use Rattle.jpeg_bits.specs.declared.scan.Predictor.{Predictor}
 use Rattle.jpeg_lossless.proofs.Leaves.{Leaves-step, Leaves-refused}
 use Rattle.jpeg_lossless.proofs.PlaneLoops.{planes_more, planes_refused}
-use Rattle.jpeg_lossless.proofs.Sizes.{grown-as, one-row, written-back}
+use Rattle.jpeg_lossless.proofs.Sizes.{grown-as, written-back}
 use Rattle.jpeg_lossless.proofs.scan.LosslessScan.read_rows.Goals as goal
 
 pub returns-in_err-read_row-clause-reads : goal.returns-in_err-read_row-clause-reads
@@ -63,7 +63,7 @@ loop-left-preserved g c =
       count = ap length buffered ∙ c.add_row.ensures.count ∙ ap length back ∙
           c.loop-left.invariant.count;
       left = omega (arith, c.loop-left.invariant.left);
-      long = search (rules, grown-as, one-row);
+      long = search (rules, grown-as);
       reads = Leaves-step (planes_after_rows v true c.args.count (map (λ v. v.items) c.args.self.now.planes.items))
           (planes_after_rows v first c.loop-left.left planes) (planes_after_rows v false (c.loop-left.left - 1) next)
           (differences (row_tables c.from-wide.result tables))
