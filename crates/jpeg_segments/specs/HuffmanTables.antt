@@ -46,7 +46,7 @@ defined_codes_at greatest left bytes = do
     s ← times n next_byte c.1
     _ ← check (codes_exist (code_lengths c.0))
     let table : Table = record { class = class_of (b.0 / 16); counts = c.0; symbols = s.0 } in
-      Ok (record { destination = b.0 % 16; table = table }, s.1)
+        Ok (record { destination = b.0 % 16; table = table }, s.1)
 
 -- the tables with one more
 abbrev pub with_table : Tables → DefinedTable → Tables
