@@ -1,8 +1,7 @@
 -- The transform is near the exact one.
 use Rattle.std.proofs.lemmas.Grind.{common_steps}
-use Rattle.std.proofs.Common.{rules, ◌≡◌, ℕ, ◌+◌, ◌*◌, ◌<◌, ◌≤◌, List, ℤ, pos, neg_ℤ, ◌+ℤ◌, ◌-ℤ◌}
-use Rattle.std.proofs.Common.{refl, ◌*ℤ◌, ◌≤ℤ◌, ◌<ℤ◌, Bool, arith, unsigned_abs, le_trans}
-use Rattle.std.proofs.Common.{mul-le-mul_left}
+use Rattle.std.proofs.Common.{rules, ◌≡◌, ℕ, ◌+◌, ◌*◌, ◌<◌, ◌≤◌, List, ℤ, pos, ◌+ℤ◌, ◌-ℤ◌, refl}
+use Rattle.std.proofs.Common.{◌*ℤ◌, ◌≤ℤ◌, Bool, arith, unsigned_abs, le_trans, mul-le-mul_left}
 use Rattle.std.proofs.lemmas.Int.{ints, int_wrap_fits}
 use Rattle.std.specs.Int.{w32, int_shr, int_wrap}
 use Rattle.jpeg_pixels.specs.Samples.{clamped, sample, sum_below, basis, transformed, dequantized, is_flat_column, column_value}

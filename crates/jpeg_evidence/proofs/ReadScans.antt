@@ -4,7 +4,7 @@ use Rattle.std.proofs.Common.{rules, ◌≡◌, ℕ, suc, ◌%◌, ◌≤◌, Bo
 use Rattle.std.proofs.Common.{drop, refl, sym, ap, ◌∙◌, subst, arith, Ok, Err, Option, Some}
 use Rattle.std.proofs.lemmas.Bool.{le-leb, eqb-true, false≢true}
 use Rattle.std.specs.Prelude.{if◌then◌else◌}
-use Rattle.jpeg_bits.specs.Reading.{End, Fault, Malformed, Outcome, ◌>>=◌}
+use Rattle.jpeg_bits.specs.Reading.{End, Malformed, Outcome, ◌>>=◌}
 use Rattle.jpeg_bits.specs.Entropy.{Broken, Text, advance, fresh, marker_from, text_ahead, text_at, upcoming}
 use Rattle.jpeg_bits.specs.Ends.{end_after}
 use Rattle.jpeg_bits.specs.Intervals.{interval, intervals, is_restart}
@@ -57,10 +57,6 @@ restart-named : (k : ℕ) (m : Marker) → is_restart k (Some m) ≡ true → m 
 restart-named k (RST n) h = ap RST (eqb-true n (k % 8) h)
 restart-named k m h = absurd (false≢true h)
 
-no-scan : (f : Fault) (r : (List Block × Option Marker) × List ℕ)
-    → ◌≡◌ {A = Outcome (List Block × Option Marker)} (Err f) (Ok r) → ⊥
-no-scan f r h = cc
-
 -- what is after the first interval, where it ended with this marker
 record AfterFirst (k : ℕ) (first blocks : List Block) (m n : Marker) (rest : List ℕ)
     (others : Outcome (List Block × Option Marker)) : Type 0 where
@@ -94,7 +90,7 @@ after-first : (k : ℕ) (first blocks : List Block) (m n : Marker) (bytes rest :
     → with_others k others ((first, Some m), bytes) ≡ Ok ((blocks, Some n), rest)
     → AfterFirst k first blocks m n rest (others bytes)
 after-first k first blocks m n bytes rest others h =
-    grind (arith, common_steps, scan-parts, restart-named, no-scan)
+    grind (arith, common_steps, scan-parts, restart-named)
 
 some-is : (m n : Marker) → Some m ≡ Some n → m ≡ n
 some-is m n h = cc

@@ -7,7 +7,7 @@ use Rattle.std.proofs.lemmas.List.{take-replicate, drop-replicate, length-replic
 use Rattle.jpeg_bits.specs.Entropy.{Text}
 use Rattle.jpeg_bits.specs.Codes.{Table, IsTable}
 use Rattle.jpeg_bits.specs.Bands.{Band, before_more, wrapped, token_from, after_token, first_ac}
-use Rattle.jpeg_bits.specs.Written.{IsCategory, IsCoded}
+use Rattle.jpeg_bits.specs.Written.{IsCoded}
 use Rattle.jpeg_bits.specs.declared.tokens.Token.{Token}
 use Rattle.jpeg_bits.specs.declared.tokens.Token.TheVariants.{Value, Sixteen, Rest, Overlong}
 use Rattle.jpeg_streams.specs.WrittenData.{no_numbers, WritesBand}
@@ -31,9 +31,6 @@ of-rest : (r s run : ℕ) (own : List Bool) → Follows r s (Rest run) own
     → (r ≢ 15) × (s ≡ 0) × (e : ℕ) × (run ≡ 2 ^ r - 1 + e) × IsNumber r e own
 of-rest r s run own (ended r' e own' n is) = (n, refl, e, refl, is)
 
-not-nothing : (s : ℕ) (u : ℤ) → 0 < s → IsCategory u s → u ≢ pos 0
-not-nothing s u h cat e = grind arith
-
 pub run-small : (table : Table) (r s : ℕ) (code : List Bool) → HasByteSymbols table → IsCoded table
     (16 * r + s) code → r ≤ 15
 run-small table r s code bytes coded = grind (arith, common_steps)
@@ -47,7 +44,7 @@ value-written table al r u band run own back bytes range w b =
     let coded = subst (λ (k : ℕ). IsCoded table (16 * k + w.s) w.code) f.0 w.coded in
     let cat = f.2.category in
     let front = map-no_numbers al r (u ∷ b.numbers) in
-    grind (arith, scaled-fits, append_assoc, a_value, run-small, not-nothing)
+    grind (arith, scaled-fits, append_assoc, a_value, run-small)
 
 sixteen-written : (table : Table) (al : ℕ) (band : List ℤ) (run : ℕ) (own back : List Bool)
     → IsToken table Sixteen own → IsBand table al band run back

@@ -1,6 +1,6 @@
 -- The bits that were taken are those of what was read of them.
 use Rattle.std.proofs.lemmas.Grind.{common_steps}
-use Rattle.std.proofs.Common.{rules, ◌≡◌, ℕ, zero, suc, ◌+◌, ◌*◌, ◌%◌, ◌^◌, ◌<◌, ◌≤◌, Bool, true}
+use Rattle.std.proofs.Common.{rules, ◌≡◌, ℕ, zero, suc, ◌+◌, ◌*◌, ◌^◌, ◌<◌, ◌≤◌, Bool, true}
 use Rattle.std.proofs.Common.{false, cond, List, [], ◌∷◌, ◌++◌, length, take, replicate, refl, sym}
 use Rattle.std.proofs.Common.{ap, ◌∙◌, subst, arith, take-append-drop, length-take, pow-suc}
 use Rattle.std.proofs.Common.{mul_assoc, Ok, Err, Result, if◌then◌else◌, slice_index, Option, Some}
@@ -18,7 +18,7 @@ use Rattle.jpeg_bits.proofs.CodeLemmas.{first_from}
 use Rattle.jpeg_bits.specs.Codes.{Table, IsTable, code_from, code_in, code_value, begins, code_lengths}
 use Rattle.jpeg_bits.specs.Codes.{next_16, code_by, symbol_from}
 use Rattle.jpeg_bits.proofs.BufferedBits.{if_buffered}
-use Rattle.jpeg_bits.specs.Written.{bit, low_bits, IsCoded}
+use Rattle.jpeg_bits.specs.Written.{low_bits, IsCoded}
 use Rattle.jpeg_bits.proofs.Tables.{rising-at, all-rising, symbol-code}
 use Rattle.jpeg_bits.proofs.WrittenBits.{number_onto}
 use Rattle.jpeg_bits.proofs.Reservoirs.{low_bits-high}

@@ -1,4 +1,5 @@
 -- The bits that were taken of a block are those that are written for it.
+use Rattle.std.proofs.Common.{length-take}
 use Rattle.std.proofs.Common.{rules, ◌≡◌, ℕ, zero, suc, ◌+◌, ◌-◌, ◌*◌, ◌^◌, ◌<◌, Bool, true, false}
 use Rattle.std.proofs.Common.{List, [], ◌∷◌, map, length, refl, sym, ap, ◌∙◌, subst, arith, Ok, ℤ}
 use Rattle.std.proofs.Common.{pos, ◌+ℤ◌, ◌-ℤ◌, unsigned_abs, le_refl, append-nil, ap₂, negsuc}
@@ -32,7 +33,7 @@ use Rattle.std.specs.List.{AllByRecursion}
 use Rattle.jpeg_bits.specs.Written.{bit}
 use Rattle.jpeg_streams.proofs.WrittenBlocks.{dc-refined}
 use Rattle.jpeg_evidence.proofs.TakenBands.{IsLong, long-taken}
-use Rattle.jpeg_evidence.proofs.TakenLevels.{floor-scaled, all-toward, band-put, some-band}
+use Rattle.jpeg_evidence.proofs.TakenLevels.{floor-scaled, all-toward, band-put}
 
 -- ---- DC
 
@@ -274,5 +275,5 @@ pub block_taken : (p : Pass) (via : Via) (predictor : ℤ) (run : ℕ) (old : Bl
 block_taken p via predictor run old bits r t tables fits e =
     parts-taken p via predictor run old bits r t
     (λ d u k. dc-taken-part p via.dc old.dc predictor bits d u tables.dc_is fits.dc_fits fits.dc_sent k)
-    (grind (arith, band-taken-part, some-band))
+    (grind (arith, band-taken-part, length-take))
     e

@@ -1,7 +1,7 @@
 -- A coefficient's number at the level that it was read at, and the band of a block after a pass.
-use Rattle.std.proofs.Common.{◌≡◌, ℕ, suc, ◌+◌, ◌*◌, ◌/◌, ◌^◌, ◌<◌, ◌≤◌, List, [], ◌∷◌, ◌++◌, map, length}
+use Rattle.std.proofs.Common.{◌≡◌, ℕ, ◌+◌, ◌*◌, ◌/◌, ◌^◌, ◌<◌, ◌≤◌, List, [], ◌∷◌, ◌++◌, map, length}
 use Rattle.std.proofs.Common.{take, drop, refl, sym, ap, ap₂, ◌∙◌, arith, ℤ, pow_pos}
-use Rattle.std.proofs.Common.{length-take, length-drop, add-zero, append-nil, ◌≢◌}
+use Rattle.std.proofs.Common.{length-take, length-drop, add-zero, append-nil}
 use lib.Arith.{digits_div}
 use Rattle.std.proofs.Math.Nat.{add-mul, one-mul}
 use Rattle.std.proofs.lemmas.Bool.{cases_lt}
@@ -12,17 +12,14 @@ use Rattle.jpeg_streams.proofs.SentBlocks.{scaled}
 
 -- ---- numbers
 
-one-more : (n p : ℕ) → suc n * p ≡ n * p + p
-one-more n p = grind (arith, add-mul, one-mul)
-
 exact-div : (n al : ℕ) → n * 2 ^ al / 2 ^ al ≡ n
 exact-div n al = ap (λ (x : ℕ). x / 2 ^ al) (sym (add-zero (n * 2 ^ al))) ∙ digits_div n (pow_pos al)
 
 pub floor-scaled : (al : ℕ) (u : ℤ) → floor_at al (scaled al u) ≡ u
-floor-scaled al x = grind (arith, exact-div, pow_pos, one-more)
+floor-scaled al x = grind (arith, exact-div, pow_pos, add-mul, one-mul)
 
 pub toward-scaled : (al : ℕ) (u : ℤ) → toward_zero al (scaled al u) ≡ u
-toward-scaled al x = grind (arith, exact-div, pow_pos, one-more)
+toward-scaled al x = grind (arith, exact-div, pow_pos, add-mul, one-mul)
 
 pub all-toward : (al : ℕ) (us : List ℤ) → map (toward_zero al) (map (scaled al) us) ≡ us
 all-toward al [] = refl
@@ -47,7 +44,3 @@ put-at b s acs band h =
 pub band-put : (p : Pass) (acs band : List ℤ) → length band ≡ length (band_of p acs)
     → band_of p (with_band p acs band) ≡ band
 band-put p acs band h = put-at (before_band p) (band_size p) acs band h
-
--- a pass that ends with DC has no band
-pub some-band : (p : Pass) (acs : List ℤ) → 0 < length (band_of p acs) → p.se ≢ 0
-some-band p acs h e = grind (arith, length-take)

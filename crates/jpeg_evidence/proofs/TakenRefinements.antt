@@ -255,14 +255,6 @@ old-after r u us o w = record {
   none = (not-one u o, w.none);
 }
 
-count-here : (z : ℤ) (zs : List ℤ) → is_zero z ≡ true → count_zeros (z ∷ zs) ≡ suc (count_zeros zs)
-unfolding count_zeros
-count-here z zs h = rw (h, count_zeros) refl
-
-count-past : (z : ℤ) (zs : List ℤ) → is_zero z ≡ false → count_zeros (z ∷ zs) ≡ count_zeros zs
-unfolding count_zeros
-count-past z zs h = rw (h, count_zeros) refl
-
 through-here : (z : ℤ) (zs : List ℤ) → z ≡ pos 0 → through_zero 0 (z ∷ zs) ≡ 1
 unfolding through_zero
 through-here z zs e = ap (λ (x : ℤ). through_zero 0 (x ∷ zs)) e
@@ -282,15 +274,17 @@ Ends zs = (r : ℕ) (us : List ℤ) → r < count_zeros zs → Alike us (take (t
 
 ends-zeros : (z : ℤ) (zs us : List ℤ) (r : ℕ) → is_zero z ≡ true → Ends zs → suc r < count_zeros (z ∷ zs)
     → Alike us (z ∷ take (through_zero r zs) zs) → EndsWithZero (suc r) us
+unfolding count_zeros
 ends-zeros z zs [] r h more small a = absurd a
-ends-zeros z zs (u ∷ us) r h more small (nothing k e, b) = search (rules, zero-after, count-here)
+ends-zeros z zs (u ∷ us) r h more small (nothing k e, b) = search (rules, zero-after, h, count_zeros)
 ends-zeros z zs (u ∷ us) r h more small (an_old k o, b) = cc
 
 ends-old : (z : ℤ) (zs us : List ℤ) (r : ℕ) → is_zero z ≡ false → Ends zs → r < count_zeros (z ∷ zs)
     → Alike us (z ∷ take (through_zero r zs) zs) → EndsWithZero r us
+unfolding count_zeros
 ends-old z zs [] r h more small a = absurd a
 ends-old z zs (u ∷ us) r h more small (nothing k e, b) = cc
-ends-old z zs (u ∷ us) r h more small (an_old k o, b) = search (rules, old-after, count-past)
+ends-old z zs (u ∷ us) r h more small (an_old k o, b) = search (rules, old-after, h, count_zeros)
 
 ends-step : (z : ℤ) (zs us : List ℤ) (r : ℕ) (b : Bool) → is_zero z ≡ b → Ends zs → r < count_zeros (z ∷ zs)
     → Alike us (take (through_zero r (z ∷ zs)) (z ∷ zs)) → EndsWithZero r us

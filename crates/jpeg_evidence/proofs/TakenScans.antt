@@ -18,9 +18,6 @@ pub last_interval : (p : Pass) (k : ℕ) (turns : List (Via × Block)) (bytes re
     → IsInterval p turns bytes m rest → IsIntervals p k turns [] bytes m rest
 last_interval p k turns bytes rest m w = grind (arith, last)
 
-after-marker : (fill code : ℕ) (front more : List ℕ) → marker fill code (front ++ more) ≡ marker fill code front ++ more
-after-marker fill code front more = grind (arith, common_steps, append_assoc)
-
 pub another_interval : (p : Pass) (k : ℕ) (turns next : List (Via × Block)) (more : List (List (Via × Block)))
     (bytes others rest : List ℕ) (m : Marker) → IsInterval p turns bytes (RST (k % 8)) others
     → IsIntervals p (suc k) next more others m rest → IsIntervals p k turns (next ∷ more) bytes m rest
@@ -30,7 +27,7 @@ another_interval p k turns next more bytes others rest m w o =
       front = w.front ++ marker w.fill (0xD0 + k % 8) o.front;
       fill = o.fill;
       code = o.code;
-      parts = grind (arith, after-marker, append_assoc);
+      parts = grind (arith, common_steps, append_assoc);
       names = o.names;
       written = another k w.fill turns next more w.front o.front w.written o.written;
     }

@@ -1,5 +1,5 @@
 -- The bits that were taken of a value and of a DC difference are those that are written for it.
-use Rattle.std.proofs.Common.{◌≡◌, ℕ, zero, suc, ◌-◌, ◌^◌, ◌<◌, ◌≤◌, Bool, List, []}
+use Rattle.std.proofs.Common.{◌≡◌, ℕ, zero, suc, ◌-◌, ◌^◌, ◌<◌, Bool, List, []}
 use Rattle.std.proofs.Common.{refl, ap, ◌∙◌, arith, if◌then◌else◌, pow_pos, pow-suc, Ok, leb, nat_le}
 use Rattle.std.proofs.Common.{ℤ, pos, negsuc, ◌-ℤ◌}
 use Rattle.std.proofs.lemmas.Grind.{common_steps}
@@ -21,9 +21,6 @@ use Rattle.jpeg_streams.proofs.TakenTexts.{no-error}
 
 -- ---- signed numbers
 
-low-number : (n s : ℕ) → 2 ^ s ≤ suc n → suc n < 2 ^ suc s → IsCategory (negsuc n) (suc s)
-low-number n s low top = grind (arith, cases_lt, pow_mono)
-
 low-extended : (v s : ℕ) → v < 2 ^ s → pos v -ℤ pos (2 ^ suc s - 1) ≡ negsuc (2 ^ suc s - 2 - v)
 low-extended v s h = let p = pow-suc 2 s in omega (arith, ints, p, h)
 
@@ -33,7 +30,7 @@ IsBack u s v = IsCategory u s × (number_for u s ≡ v)
 extended-back : (v s : ℕ) → v < 2 ^ suc s → IsBack (extended v (suc s)) (suc s) v
 unfolding extended number_for
 extended-back v s top =
-    grind (arith, ltb-true, pow-suc, low-extended, low-number, ltb-false, pow_pos, cases_lt, pow_mono)
+    grind (arith, ltb-true, pow-suc, low-extended, ltb-false, pow_pos, cases_lt, pow_mono)
 
 -- The bits that were taken of a value are its bits, and their number is its category.
 pub value_taken : (s : ℕ) (bits : List Bool) (u : ℤ) (t : Text) → signed_from (suc s) (alone bits) ≡ Ok (u, t)
