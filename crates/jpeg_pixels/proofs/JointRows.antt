@@ -71,7 +71,7 @@ pub strip_lines-long : (shape : JointShape) (width : ℕ) (strips : List ℕ) (l
     → HaveWidth width (strip_lines shape width strips line)
 unfolding strip_lines
 strip_lines-long shape width strips line lt wide long =
-    grind (arith, common_steps, length-map-range_with_len, part-fits, get_or-map-range_with_len, length-take, length-drop)
+    grind (arith, common_steps, length-map-range_with_len, part-fits, get_or-map-range_with_len)
 
 -- a line of those that were gathered
 pub gathered-line : (shape : JointShape) (width : ℕ) (strips given : List ℕ) (count line size : ℕ)

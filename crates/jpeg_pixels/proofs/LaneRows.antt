@@ -68,7 +68,8 @@ pub sums_numbers : (turned rows : Rows) (f : ℕ → ℕ → ℤ) → HasNumbers
     → HasNumbers rows (λ y x. int_wrap w32 (transformed (λ k. lane_at turned k y) x +ℤ pos 16842752))
     → HasNumbers rows (λ y x. int_wrap w32 (transformed (f y) x +ℤ pos 16842752))
 sums_numbers turned rows f numbers sums =
-    let row = λ (y : ℕ) (h : y < 8). lanes_same (λ x. int_wrap w32 (transformed (λ k. lane_at turned k y) x +ℤ pos 16842752))
+    let row = λ (y : ℕ) (h : y < 8). lanes_same
+    (λ x. int_wrap w32 (transformed (λ k. lane_at turned k y) x +ℤ pos 16842752))
     (λ x. int_wrap w32 (transformed (f y) x +ℤ pos 16842752)) (λ x _. ap (λ z. int_wrap w32 (z +ℤ pos 16842752))
     (transformed_same (λ k. lane_at turned k y) (f y) x
     (λ k hk. lane_at_is turned (λ k j. f j k) numbers k y hk h))) in

@@ -61,7 +61,7 @@ pub shifted_lanes : (v : List ℤ) (s : ℕ) (g : ℕ → ℤ) → v ≡ lanes (
     ≡ lanes (λ j. int_shr (int_wrap w32 (g j)) s)
 unfolding lanes
 shifted_lanes v s g e =
-    grind (arith, common_steps, map-map, zip2_of_maps, splat_is_map, length-range_with_len, shifted_back, to_z-of_z, SFits-int_wrap)
+    grind (arith, common_steps, map-map, zip2_of_maps, splat_is_map, shifted_back, to_z-of_z, SFits-int_wrap)
 
 -- ---- the columns
 

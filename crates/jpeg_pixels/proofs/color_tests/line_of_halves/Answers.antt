@@ -19,7 +19,8 @@ upsample_and_interleave_row-requires-clause-planes c = search (rules, sources-co
 pub upsample_and_interleave_row-requires-clause-cover : goal.upsample_and_interleave_row-requires-clause-cover
 unfolding frame_of component_of HaveRoom
 upsample_and_interleave_row-requires-clause-cover c =
-    search (rules, cover-lower, are-covered 3 2 (by_factors 2 2 ∷ by_factors 1 1 ∷ by_factors 1 1 ∷ []), All-cons, All-nil)
+    let factors = by_factors 2 2 ∷ by_factors 1 1 ∷ by_factors 1 1 ∷ [] in
+    search (rules, cover-lower, are-covered 3 2 factors, All-cons, All-nil)
 
 pub upsample_and_interleave_row-requires-clause-fits : goal.upsample_and_interleave_row-requires-clause-fits
 upsample_and_interleave_row-requires-clause-fits c =

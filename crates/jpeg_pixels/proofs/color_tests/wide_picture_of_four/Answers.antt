@@ -13,4 +13,5 @@ compute_image_rows-requires-clause-factors c = grind (arith, common_steps)
 pub compute_image_rows-requires-clause-cover : goal.compute_image_rows-requires-clause-cover
 unfolding frame_of component_of HaveRoom
 compute_image_rows-requires-clause-cover c =
-    search (rules, are-covered 70 1 (by_factors 1 1 ∷ by_factors 1 1 ∷ by_factors 1 1 ∷ by_factors 1 1 ∷ []), All-cons, All-nil)
+    let factors = by_factors 1 1 ∷ by_factors 1 1 ∷ by_factors 1 1 ∷ by_factors 1 1 ∷ [] in
+    search (rules, are-covered 70 1 factors, All-cons, All-nil)
