@@ -31,7 +31,7 @@ end_segment found bytes = if is_some found.frame
     then Ok (record (onward found) { ended = true }, bytes) else Err Malformed
 
 -- After a marker. A restart marker after a scan is ignored, once, and a DNL segment after the first
--- scan would give the height. SOI, TEM, RES, JPG and JPGn have no place here.
+-- scan would give the height. SOI, TEM, RES, JPG and JPGn are refused here.
 unfoldable pub segment_at : Marker → Before → Found → List ℕ → Outcome Turn
 segment_at (SOF number) before found bytes = frame_segment number found bytes
 segment_at DQT before found bytes =
