@@ -37,7 +37,7 @@ means_at (AtLeast width height) settings bytes = sized_meaning width height sett
 
 sized-begins : (width height : ℕ) (settings : Settings) (found : Found) (bytes rest : List ℕ)
     → header_at bytes ≡ Ok (found, rest)
-    → sized_meaning width height settings bytes ≡ rest_at settings (at_size (AtLeast width height) found) rest
+    → sized_meaning width height settings bytes ≡ rest_at settings (with_said (at_size (AtLeast width height)) found) rest
 unfolding sized_meaning
 sized-begins width height settings found bytes rest e = then-ok (header_at bytes) _ (found, rest) _ e refl
 
@@ -51,9 +51,9 @@ left-means size settings bytes stage found left o h e = grind (arith, common_ste
 no-refusal : {P Y : Type 0} (o : Result Y Fault) (y : Y) (f : Fault) → o ≡ Ok y → o ≡ Err f → P
 no-refusal o y f e h = absurd (false≢true (ap is_ok (sym h ∙ e)))
 
-pub gives : {X : Type 0} (bytes_of : X → List ℕ) (o : Result (List ℕ) Fault) (rest : List ℕ) (final : Found)
+pub gives : {X : Type 0} (bytes_of : X → List ℕ) (o : Result (List ℕ) Fault) (rest : List ℕ) (final : Said)
     (new : Decoding) (read : List ℕ → Outcome (Told × List ℕ)) (old : Stream) (result : Result X Error)
-    → Answers (λ x. (told_of new.found, bytes_of x)) read old result new.source
+    → Answers (λ x. (told_of new.found.said, bytes_of x)) read old result new.source
     → read old.bytes ≡ (o >>= (λ picture. Ok ((told_of final, picture), rest))) → old.known ≡ true
     → MatchResult result (λ x. GivesPicture o rest final (bytes_of x) new)
     (λ e. IsOk o → FailsOutside e new.source)
@@ -62,7 +62,7 @@ gives bytes_of (Ok picture) rest final new read old result answers means known =
 gives bytes_of (Err f) rest final new read old result answers means known =
     grind (arith, common_steps, err-ok)
 
-means-array : (size : Size) (settings : Settings) (array : Coefficients) (image rest : List ℕ) (final : Found)
+means-array : (size : Size) (settings : Settings) (array : Coefficients) (image rest : List ℕ) (final : Said)
     (last : ℕ → Levels)
     → ((index row column : ℕ) → Is8Bit (array index row column)) → WritesImage array image final
     last
@@ -72,7 +72,7 @@ means-array (AtLeast width height) = stream-means_sized width height
 
 pub decodes-images : {X : Type 0} (bytes_of : X → List ℕ) (old new : Decoding) (result : Result X Error)
     → (IsReading old.stage
-    → Answers (λ x. (told_of new.found, bytes_of x))
+    → Answers (λ x. (told_of new.found.said, bytes_of x))
     (ahead old.stage old.settings old.found) old.source result new.source)
     → DecodesImages bytes_of old result new
 decodes-images bytes_of old new result answers size array image rest final last range w has known =

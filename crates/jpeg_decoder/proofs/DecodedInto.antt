@@ -145,12 +145,12 @@ refused-at : {X : Type 0} (bytes_of : X → List ℕ) (stage : Progress) (old mi
     → MovesToHeader {X = Unit {0}} stage mid.stage (Err e)
     → (stage ≡ Fresh → Answers (λ (u : Unit {0}). mid.found) header_at old.source (Err e) mid.source)
     → (stage ≡ Fresh → OnTold {X = Unit {0}} old.source mid.source (Err e)
-    (told_of mid.found ≡ told_ahead true stage old.found old.source.bytes))
+    (told_of mid.found.said ≡ told_ahead true stage old.found old.source.bytes))
     → (stage ≡ Fresh → old.source.known ≡ true
-    → IsOfTurns (λ n. turns_ahead n true stage old.found old.source.bytes) (told_of mid.found))
-    → HasRead bytes_of (told_of mid.found) (record old { stage = stage }) (Err e) mid.source
+    → IsOfTurns (λ n. turns_ahead n true stage old.found old.source.bytes) (told_of mid.found.said))
+    → HasRead bytes_of (told_of mid.found.said) (record old { stage = stage }) (Err e) mid.source
 refused-at bytes_of Fresh old mid e moves answers tells turns = record {
-  reads = λ _. answers-err (λ (u : Unit {0}). mid.found) (λ x. (told_of mid.found, bytes_of x)) header_at
+  reads = λ _. answers-err (λ (u : Unit {0}). mid.found) (λ x. (told_of mid.found.said, bytes_of x)) header_at
       (ahead Fresh old.settings old.found) old.source mid.source e
       (λ fault is. header-lacks old.settings old.source.bytes fault is) (answers refl);
   told_is = λ _ k l. refused-and e _ _ _ (λ p q. p ∙ q) (tells refl k l)
@@ -162,16 +162,16 @@ refused-at bytes_of HeaderRead old mid e moves answers tells turns = absurd (fal
 refused-at bytes_of _ old mid e moves answers tells turns = none-read bytes_of _ _ _ _ (λ n. n)
 
 pub into-refused : {X : Type 0} (bytes_of : X → List ℕ) (told : Told) (old mid seen : Decoding) (e : Error)
-    → seen ≡ mid → told ≡ told_of seen.found → MovesToHeader {X = Unit {0}} old.stage mid.stage (Err e)
+    → seen ≡ mid → told ≡ told_of seen.found.said → MovesToHeader {X = Unit {0}} old.stage mid.stage (Err e)
     → (old.stage ≡ Fresh → Answers (λ (u : Unit {0}). mid.found) header_at old.source (Err e) mid.source)
     → (old.stage ≡ Fresh → OnTold {X = Unit {0}} old.source mid.source (Err e)
-    (told_of mid.found ≡ told_ahead true old.stage old.found old.source.bytes))
+    (told_of mid.found.said ≡ told_ahead true old.stage old.found old.source.bytes))
     → (old.stage ≡ Fresh → old.source.known ≡ true
-    → IsOfTurns (λ n. turns_ahead n true old.stage old.found old.source.bytes) (told_of mid.found))
+    → IsOfTurns (λ n. turns_ahead n true old.stage old.found old.source.bytes) (told_of mid.found.said))
     → HasRead bytes_of told old (Err e) seen.source
 into-refused bytes_of told old mid seen e view is moves answers tells turns =
     subst (λ (t : Told). HasRead bytes_of t old (Err e) seen.source) (sym is)
-    (subst (λ (d : Decoding). HasRead bytes_of (told_of d.found) old (Err e) d.source) (sym view)
+    (subst (λ (d : Decoding). HasRead bytes_of (told_of d.found.said) old (Err e) d.source) (sym view)
     (refused-at bytes_of old.stage old mid e moves answers tells turns))
 
 -- the front of the caller's memory

@@ -13,7 +13,7 @@ use Rattle.jpeg_streams.specs.declared.settings.Settings.{Settings}
 use Rattle.jpeg_decoder.proofs.DecodedImages.{gives, left-means, left-reading, means_at}
 use Rattle.jpeg_decoder.proofs.LosslessPixels.{lossless-means, lossless-sized}
 
-means-samples : (size : Size) (settings : Settings) (samples : Samples) (image rest : List ℕ) (final : Found)
+means-samples : (size : Size) (settings : Settings) (samples : Samples) (image rest : List ℕ) (final : Said)
     → WritesSamples samples image final
     → means_at size settings (image ++ rest)
     ≡ (limited settings final (λ f. Ok (picture_of_samples f samples))
@@ -23,7 +23,7 @@ means-samples (AtLeast width height) = lossless-sized width height
 
 pub decodes-samples : {X : Type 0} (bytes_of : X → List ℕ) (old new : Decoding) (result : Result X Error)
     → (IsReading old.stage
-    → Answers (λ x. (told_of new.found, bytes_of x))
+    → Answers (λ x. (told_of new.found.said, bytes_of x))
     (ahead old.stage old.settings old.found) old.source result new.source)
     → DecodesSamples bytes_of old result new
 decodes-samples bytes_of old new result answers size samples image rest final w has known =

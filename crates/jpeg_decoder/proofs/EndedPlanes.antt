@@ -133,14 +133,14 @@ element P (c ∷ cs) (suc i) d p h = element P cs i d p.1 (omega arith)
 
 -- ---- at a place of what was found
 
-pub reached-four : (found : Found) (frame : Frame) (index : ℕ) → IsSound found → found.frame ≡ Some
+pub reached-four : (found : Found) (frame : Frame) (index : ℕ) → IsSound found → found.said.frame ≡ Some
     frame
     → index < length frame.components → index < 4
 reached-four found frame index s f h =
     let few = count-few (length frame.components) (decoded-count frame (s.frames frame f)) in omega (arith, few.1, h)
 
 pub reached-kept : (found : Found) (frame : Frame) (index : ℕ) (kept : Arrays) → IsSound found
-    → found.frame ≡ Some frame → index < length frame.components → drop index kept ≡ drop index
+    → found.said.frame ≡ Some frame → index < length frame.components → drop index kept ≡ drop index
     found.kept
     → is_kept found frame ≡ true → index < length kept
 reached-kept found frame index kept s f h e b = search (
@@ -154,7 +154,7 @@ reached-kept found frame index kept s f h e b = search (
 pub reached-plane : (found : Found) (frame : Frame) (index : ℕ) (c : Component) (planes : List
     (Option (List ℕ)))
     (o : Option (List ℕ)) → IsSound found
-    → found.frame ≡ Some frame → index < length frame.components → c ≡ get_or frame.components
+    → found.said.frame ≡ Some frame → index < length frame.components → c ≡ get_or frame.components
     index c
     → drop index planes ≡ drop index found.planes → o ≡ get_or planes index None → IsPlaneOf c o
 reached-plane found frame index c planes o s f h e left is =
@@ -170,7 +170,7 @@ blocks-same b kept old index e = grind (arith, common_steps, same-at)
 pub reached-blocks : (found : Found) (frame : Frame) (index : ℕ) (c : Component) (kept : Arrays) (b
     : Bool)
     (o : Option (List Block)) → IsSound found
-    → found.frame ≡ Some frame → index < length frame.components → c ≡ get_or frame.components
+    → found.said.frame ≡ Some frame → index < length frame.components → c ≡ get_or frame.components
     index c
     → drop index kept ≡ drop index found.kept → b ≡ is_kept found frame → o ≡ blocks_if b kept index
     → AreBlocksOf c o
@@ -188,7 +188,7 @@ pub reached-end : (found : Found) (frame : Frame) (index : ℕ) (c : Component) 
     (Option (List ℕ)))
     (kept : Arrays) (table : Option (List ℕ)) (plane : Option (List ℕ)) (b : Bool) (blocks : Option
     (List Block))
-    → table ≡ slice_index_or found.quantization c.factors.quantization None
+    → table ≡ slice_index_or found.said.quantization c.factors.quantization None
     → drop index planes ≡ drop index found.planes → plane ≡ get_or planes index None
     → drop index kept ≡ drop index found.kept → b ≡ is_kept found frame → blocks ≡ blocks_if b kept
     index
@@ -198,7 +198,7 @@ reached-end found frame index c planes kept table plane b blocks t left is kept_
     grind (arith, common_steps, same-at, blocks-same)
 
 pub reached-scale : (found : Found) (frame : Frame) (index : ℕ) (c : Component) → IsSound found
-    → found.frame ≡ Some frame → index < length frame.components → c ≡ get_or frame.components
+    → found.said.frame ≡ Some frame → index < length frame.components → c ≡ get_or frame.components
     index c
     → IsScale c.scale
 reached-scale found frame index c s f h e =

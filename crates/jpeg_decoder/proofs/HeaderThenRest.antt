@@ -33,7 +33,7 @@ follows-next n (next, Ok rest) whole others e h = (
 follows-next n (next, Err fault) whole others e h = e n ∙ h
 
 walk-begun : (n : ℕ) (header : Bool) (found : Found) (bytes : List ℕ) (t : Turn × List ℕ)
-    → (header && is_some found.frame) ≡ false → turn_at Elsewhere found None bytes ≡ Ok t → IsElsewhere t
+    → (header && is_some found.said.frame) ≡ false → turn_at Elsewhere found None bytes ≡ Ok t → IsElsewhere t
     → walk (suc n) header Elsewhere found None bytes ≡ walk n header Elsewhere t.0.found None t.1
 walk-begun n header found bytes t none is s =
     walk-on n header Elsewhere found None bytes t.1 t.0 none is s.0 ∙ rw (s.1.0, s.1.1) refl
@@ -45,7 +45,7 @@ FollowsAt n found bytes =
 follows-turn : (n : ℕ) (found : Found) (bytes : List ℕ)
     → ((t : Turn × List ℕ) → FollowsAt n t.0.found t.1) → FollowsAt (suc n) found bytes
 unfolding Follows FollowsAt
-follows-turn n found bytes others = go (is_some found.frame) refl (turn_at Elsewhere found None bytes) refl
+follows-turn n found bytes others = go (is_some found.said.frame) refl (turn_at Elsewhere found None bytes) refl
   where
     whole : ℕ → Walked
     whole k = walk k false Elsewhere found None bytes
@@ -54,7 +54,7 @@ follows-turn n found bytes others = go (is_some found.frame) refl (turn_at Elsew
         → Follows (suc n) (walk (suc n) true Elsewhere found None bytes) whole
     at w e h = subst (λ (v : Walked). Follows (suc n) v whole) (sym e) h
 
-    go : (b : Bool) → is_some found.frame ≡ b → (r : Outcome Turn) → turn_at Elsewhere found None bytes ≡ r
+    go : (b : Bool) → is_some found.said.frame ≡ b → (r : Outcome Turn) → turn_at Elsewhere found None bytes ≡ r
         → FollowsAt (suc n) found bytes
     go true e r q = at (found, Ok bytes) (walk-stop (suc n) true Elsewhere found None bytes (omega arith) e)
         (0, λ k. let none : 0 + k ≡ k = omega arith in ap whole none)
@@ -120,7 +120,7 @@ pub header-told : (found : Found) (bytes rest : List ℕ) → header_at bytes �
     → told_by_turns (suc (length bytes)) false bytes ≡ told_in_turns (suc (length rest)) false found rest
 header-told found bytes rest e =
     let g = goes-on found bytes rest e in
-    told-start false bytes g.start g.starts ∙ ap (λ (w : Walked). told_of w.0) g.whole
+    told-start false bytes g.start g.starts ∙ ap (λ (w : Walked). told_of w.0.said) g.whole
 
 pub header-turns : (found : Found) (bytes rest : List ℕ) (told : Told) → header_at bytes ≡ Ok (found, rest)
     → IsOfTurns (λ n. told_in_turns n false found rest) told
@@ -130,7 +130,7 @@ header-turns found bytes rest told e of =
     let g = goes-on found bytes rest e in (
       g.turns + of.0,
       of.1 ∙ sym (turns-start (g.turns + of.0) false bytes g.start g.starts
-          ∙ ap (λ (w : Walked). told_of w.0) (g.after of.0)),
+          ∙ ap (λ (w : Walked). told_of w.0.said) (g.after of.0)),
     )
 
 -- ---- where the header is refused
@@ -188,6 +188,6 @@ header-turns_lacking bytes told of = go (start_at bytes) refl
     go (Ok start) q =
         let s = said-by _ _ _ (follows of.0 nothing_found start.1) in (
           s.0,
-          of.1 ∙ turns-start of.0 true bytes start.1 q ∙ ap (λ (f : Found). told_of f) s.1
+          of.1 ∙ turns-start of.0 true bytes start.1 q ∙ ap (λ (f : Found). told_of f.said) s.1
               ∙ sym (turns-start s.0 false bytes start.1 q),
         )

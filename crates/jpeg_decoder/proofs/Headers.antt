@@ -27,15 +27,15 @@ begins-then b fault x p = grind (arith, common_steps, on-err)
 onward-begins : (bytes : List ℕ) (r : Outcome Turn) → On (IsOnward (length bytes)) r → On IsElsewhere r
 onward-begins bytes r h = on-weaker (IsOnward (length bytes)) IsElsewhere r (λ x k. k.0) h
 
-scan-begins : (found : Found) (bytes : List ℕ) → is_some found.frame ≡ false → On IsElsewhere (scan_segment found bytes)
+scan-begins : (found : Found) (bytes : List ℕ) → is_some found.said.frame ≡ false → On IsElsewhere (scan_segment found bytes)
 unfolding scan_segment
-scan-begins found bytes none = begins-needed found.frame _ none
+scan-begins found bytes none = begins-needed found.said.frame _ none
 
-end-begins : (found : Found) (bytes : List ℕ) → is_some found.frame ≡ false → On IsElsewhere (end_segment found bytes)
+end-begins : (found : Found) (bytes : List ℕ) → is_some found.said.frame ≡ false → On IsElsewhere (end_segment found bytes)
 unfolding end_segment
-end-begins found bytes none = begins-then (is_some found.frame) _ _ none
+end-begins found bytes none = begins-then (is_some found.said.frame) _ _ none
 
-segment-begins : (m : Marker) (found : Found) (bytes : List ℕ) → is_some found.frame ≡ false
+segment-begins : (m : Marker) (found : Found) (bytes : List ℕ) → is_some found.said.frame ≡ false
     → On IsElsewhere (segment_at m Elsewhere found bytes)
 unfolding segment_at
 segment-begins (SOF number) found bytes none =
@@ -54,7 +54,7 @@ segment-begins COM found bytes none =
     onward-begins bytes _ (skipped-goes (length bytes) found bytes (omega arith))
 segment-begins _ found bytes none = on-err IsElsewhere _
 
-pub turn-begins : (found : Found) (bytes : List ℕ) → is_some found.frame ≡ false
+pub turn-begins : (found : Found) (bytes : List ℕ) → is_some found.said.frame ≡ false
     → On IsElsewhere (turn_at Elsewhere found None bytes)
 unfolding turn_at
 turn-begins found bytes none = on-needs IsElsewhere (next_marker bytes) _ (λ m. segment-begins m.0 found m.1 none)

@@ -73,7 +73,7 @@ joint-there joint few k index h i =
     grind (arith, common_steps)
 
 module _ (found : Found) (frame : Frame) (width height : ℕ) (joint : JointPlanes)
-    (sound : IsSound found) (is : found.frame ≡ Some frame)
+    (sound : IsSound found) (is : found.said.frame ≡ Some frame)
     (shape : IsShapeOf frame.components width height joint.shape) (decided : found.planes
     ≡ or_joint (replicate 4 None) (joint_planes joint.shape joint.samples.items)) where
   abbrev planes : List (List ℕ)
@@ -92,7 +92,7 @@ module _ (found : Found) (frame : Frame) (width height : ℕ) (joint : JointPlan
   -- The picture is that of the planes in the room.
   pub joint-meant : (settings : Settings)
       → blocks_picture settings found frame
-      ≡ picture_by settings found.metadata frame frame.components planes
+      ≡ picture_by settings found.said.metadata frame frame.components planes
   unfolding blocks_picture
   joint-meant settings =
       rw (all-there found frame 0 frame.components planes joint-length there) refl

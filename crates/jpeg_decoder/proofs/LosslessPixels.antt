@@ -23,23 +23,23 @@ use Rattle.jpeg_streams.proofs.LosslessFrames.{IsShaped}
 use Rattle.jpeg_streams.proofs.OwnSpots.{at-within, in-below}
 use Rattle.jpeg_streams.proofs.PaddingUnseen.{pictures-by}
 use Rattle.jpeg_streams.proofs.ReadTurns.{same-frame, then-ok}
-use Rattle.jpeg_streams.proofs.WalkedStreams.{IsSaid, keeps, nothing-said, segment-said}
+use Rattle.jpeg_streams.proofs.WalkedStreams.{beside, IsSaid, keeps, nothing-said, segment-said}
 use Rattle.jpeg_streams.proofs.WrittenFrameScans.{in-all}
 use Rattle.jpeg_decoder.proofs.LosslessReads.{sample_plane}
 use Rattle.jpeg_decoder.proofs.ReadLists.{at-flat}
 use Rattle.jpeg_decoder.proofs.WrittenLosslessStreams.{all-in, AreKept, AreMeant, header-said, IsSampled}
 use Rattle.jpeg_decoder.proofs.WrittenLosslessStreams.{samples-walked, sized-walked}
-use Rattle.jpeg_decoder.proofs.WrittenSamples.{and_samples, indices_of, planes_for, scan-sized, SizedAt}
+use Rattle.jpeg_decoder.proofs.WrittenSamples.{bring_samples, indices_of, planes_for, scan-sized, SizedAt}
 
 -- ---- sizes
 
 -- The frame has some size, and the samples have the sizes of its components.
-pub sizes-kept : (samples : Samples) (bytes : List ℕ) (final : Found) (frame : Frame)
+pub sizes-kept : (samples : Samples) (bytes : List ℕ) (final : Said) (frame : Frame)
     → WritesSamples samples bytes final → final.frame ≡ Some frame → IsShaped frame
     × AllByRecursion (SizedAt samples frame.components) (range_with_len 0 (length frame.components))
 sizes-kept samples bytes final frame w e =
     let r = keeps (λ now sent. IsSaid IsSampled now × AllByRecursion (SizedAt samples frame.components) sent)
-    nothing_found final [] w.sent w.written.after
+    nothing_said final [] w.sent w.written.after
     (λ now sent s stands may h. (segment-said (λ y z. IsLossless z) IsSampled header-said now s stands may h.0, h.1))
     (λ now sent next f header data_bytes framed last x h. (
       record { tables = h.0.tables; shaped = h.0.shaped },
@@ -85,21 +85,21 @@ planes-shown samples frame shaped sized =
     ∙ at-flat c.width x (samples index) y size.even (omega (arith, size.count)) hx)
 
 -- what a caller is given of a picture
-abbrev given : Found → List ℕ → List ℕ → Outcome (Told × List ℕ)
-given found rest picture = Ok ((told_of found, picture), rest)
+abbrev given : Said → List ℕ → List ℕ → Outcome (Told × List ℕ)
+given said rest picture = Ok ((told_of said, picture), rest)
 
 -- What the end of a stream means is the picture of its samples where the limit takes it.
-samples-meant : (settings : Settings) (samples : Samples) (bytes rest : List ℕ) (final : Found)
+samples-meant : (settings : Settings) (samples : Samples) (bytes rest : List ℕ) (final : Said)
     (meant : Outcome (Told × List ℕ)) → (w : WritesSamples samples bytes final)
     → AreMeant settings samples final w.sent rest meant
     → meant ≡ (limited settings final (λ f. Ok (picture_of_samples f samples)) >>= given final rest)
 unfolding picture_of samples_picture
 samples-meant settings samples bytes rest final meant w r =
     let f = r.0.frame in
-    let found = and_samples final r.0.brought in
+    let found = beside bring_samples final r.0.brought in
     let size = sizes-kept samples bytes final f w r.0.framed in
     r.1 ∙ ap (λ (o : Result (List ℕ) Fault). o >>= given final rest)
-    (limited-same settings found final f f _ _ r.0.framed r.0.framed refl
+    (limited-same settings final final f f _ _ r.0.framed r.0.framed refl
     (ap (λ (p : CodingProcess). picture_by_process p settings found f) (r.0.said.shaped f r.0.framed).1
     ∙ then-ok (gathered (sample_plane found.samples) (enumerate_from 0 f.components)) _ _ _
     (planes-there found.samples samples 0 f.components (all-in _ _ w.sent r.0.held.kept r.0.ended))
@@ -109,7 +109,7 @@ samples-meant settings samples bytes rest final meant w r =
 
 -- A stream that is written for samples means their picture where the limit takes it, and what
 -- follows it is left.
-pub lossless-means : (settings : Settings) (samples : Samples) (bytes rest : List ℕ) (final : Found)
+pub lossless-means : (settings : Settings) (samples : Samples) (bytes rest : List ℕ) (final : Said)
     → WritesSamples samples bytes final
     → meaning settings (bytes ++ rest)
     ≡ (limited settings final (λ f. Ok (picture_of_samples f samples)) >>= given final rest)
@@ -117,7 +117,7 @@ lossless-means settings samples bytes rest final w =
     samples-meant settings samples bytes rest final _ w (samples-walked settings samples bytes rest final w)
 
 pub lossless-sized : (width height : ℕ) (settings : Settings) (samples : Samples) (bytes rest : List ℕ)
-    (final : Found) → WritesSamples samples bytes final
+    (final : Said) → WritesSamples samples bytes final
     → sized_meaning width height settings (bytes ++ rest)
     ≡ (limited settings final (λ f. Ok (picture_of_samples f samples)) >>= given final rest)
 lossless-sized width height settings samples bytes rest final w =
@@ -125,7 +125,7 @@ lossless-sized width height settings samples bytes rest final w =
     (sized-walked width height settings samples bytes rest final w)
 
 -- within the limit
-pub limit-takes : (settings : Settings) (samples : Samples) (rest : List ℕ) (final : Found) (frame : Frame)
+pub limit-takes : (settings : Settings) (samples : Samples) (rest : List ℕ) (final : Said) (frame : Frame)
     → IsWithinLimit settings.limit final frame
     → (limited settings final (λ f. Ok (picture_of_samples f samples)) >>= given final rest)
     ≡ Ok ((told_of final, picture_of_samples frame samples), rest)

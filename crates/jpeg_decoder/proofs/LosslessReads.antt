@@ -246,7 +246,7 @@ pub begun : (whole : List ℕ → Outcome (Found × Option Marker)) (old : Strea
 begun whole old = (refl, λ k. (k, refl))
 
 pub samples-lacking : (found : Found) (frame : Frame) (scan : Scan) (bytes : List ℕ) (f : Fault)
-    → lossless_codings found.huffman.dc frame scan.components scan.dc_destinations ≡ Err f
+    → lossless_codings found.said.huffman.dc frame scan.components scan.dc_destinations ≡ Err f
     → samples_read found frame scan bytes ≡ Err f
 unfolding samples_read
 samples-lacking found frame scan bytes f e = bind_err _ _ f e
@@ -258,7 +258,7 @@ after_planes found codings r =
     after_all r.0.1 r.1 >>= (λ (met : Option Marker × List ℕ). Ok ((after_samples found codings r.0.0, met.0), met.1))
 
 samples-then : (found : Found) (frame : Frame) (scan : Scan) (codings : List LosslessCoding) (bytes : List ℕ)
-    → lossless_codings found.huffman.dc frame scan.components scan.dc_destinations ≡ Ok codings
+    → lossless_codings found.said.huffman.dc frame scan.components scan.dc_destinations ≡ Ok codings
     → samples_read found frame scan bytes ≡ (scan_samples found frame scan codings bytes >>= after_planes found codings)
 unfolding samples_read
 samples-then found frame scan codings bytes e = then-ok _ _ codings _ e refl
@@ -269,7 +269,7 @@ pub samples-fail : {X Z : Type 0} (v : X → Found × Option Marker) (view : Z �
     (frame : Frame) (scan : Scan) (codings : List LosslessCoding) (read : List ℕ
     → Outcome (List (List ℕ) × Option Marker))
     (old new : Stream) (e : Error)
-    → lossless_codings found.huffman.dc frame scan.components scan.dc_destinations ≡ Ok codings
+    → lossless_codings found.said.huffman.dc frame scan.components scan.dc_destinations ≡ Ok codings
     → scan_samples found frame scan codings ≡ read
     → Answers view read old (Err e) new → Answers v (samples_read found frame scan) old (Err e) new
 samples-fail v view found frame scan codings read old new e c is =
@@ -283,7 +283,7 @@ samples-fail v view found frame scan codings read old new e c is =
 pub samples-end : (found next : Found) (frame : Frame) (scan : Scan) (codings : List LosslessCoding)
     (read : List ℕ → Outcome (List (List ℕ) × Option Marker)) (planes : List (List ℕ)) (met : Option Marker)
     (old mid new : Stream) (r : Result (Option Marker) Error)
-    → lossless_codings found.huffman.dc frame scan.components scan.dc_destinations ≡ Ok codings
+    → lossless_codings found.said.huffman.dc frame scan.components scan.dc_destinations ≡ Ok codings
     → scan_samples found frame scan codings ≡ read → next ≡ after_samples found codings planes
     → HasRead read old (planes, met) mid → Answers (λ (m : Option Marker). m) (after_all met) mid r new
     → Answers (λ (m : Option Marker). (next, m)) (samples_read found frame scan) old r new
@@ -335,7 +335,7 @@ with-sampled is_alone cs _ ts _ samples w h = h
 -- The samples of a scan are those of its components.
 pub scan-sampled : (is_alone : Bool) (found : Found) (frame : Frame) (indices : List ℕ) (ts : List
     Table)
-    (planes : List (List ℕ)) → IsSound found → found.frame ≡ Some frame
+    (planes : List (List ℕ)) → IsSound found → found.said.frame ≡ Some frame
     → AreWholeSamples (parts_at is_alone frame.components indices ts) planes
     → AreSampled frame.components (with_samples indices planes found.samples)
 scan-sampled is_alone found frame indices ts planes sound e w = grind (
@@ -346,9 +346,9 @@ scan-sampled is_alone found frame indices ts planes sound e w = grind (
 
 -- A lossless scan leaves a sound state.
 pub samples-sound : (found next : Found) (frame : Frame) (indices : List ℕ) (planes : List (List ℕ))
-    → IsSound found → found.frame ≡ Some frame → frame.process ≡ Lossless
+    → IsSound found → found.said.frame ≡ Some frame → frame.process ≡ Lossless
     → AreSampled frame.components (with_samples indices planes found.samples)
-    → next ≡ record found { scanned = true; samples = with_samples indices planes found.samples } →
+    → next ≡ record (once_scanned found) { samples = with_samples indices planes found.samples } →
     IsSound next
 unfolding arrays_before
 samples-sound found next frame indices planes sound e lossless whole is = grind (
@@ -427,7 +427,7 @@ on-ok r p = grind (arith, common_steps)
 
 -- The samples of a scan by how it is coded.
 pub coded-by : (found : Found) (frame : Frame) (scan : Scan) (ts : List Table)
-    (a : AreCodings found.huffman.dc frame scan.components scan.dc_destinations ts) (k : Coding)
+    (a : AreCodings found.said.huffman.dc frame scan.components scan.dc_destinations ts) (k : Coding)
     (parts : List Part)
     → k ≡ record {
       wide = mcus_wide frame scan.components;
@@ -435,7 +435,7 @@ pub coded-by : (found : Found) (frame : Frame) (scan : Scan) (ts : List Table)
       precision = frame.precision;
       predictor = scan.predictor;
       point_transform = scan.point_transform;
-      restart_interval = found.restart;
+      restart_interval = found.said.restart;
     }
     → parts ≡ parts_at (length scan.components == 1) frame.components scan.components ts
     → scan_samples found frame scan a.codings
@@ -446,8 +446,8 @@ coded-by found frame scan ts a k parts e is = grind (arith, common_steps, mcus-a
 pub put-made : (base : Found) (old new : Decoded) (samples : List (Option (List ℕ))) → new.kept ≡
     old.kept
     → new.finished ≡ old.finished → new.planes ≡ old.planes → planes_in new.samples ≡ samples
-    → ◌≡◌ {A = Found} (record (with_decoded base new) { scanned = true })
-    (record (with_decoded base old) { scanned = true; samples = samples })
+    → ◌≡◌ {A = Found} (once_scanned (with_decoded base new))
+    (record (once_scanned (with_decoded base old)) { samples = samples })
 put-made base old new samples h f p s = grind (arith, common_steps)
 
 -- as many tables as places

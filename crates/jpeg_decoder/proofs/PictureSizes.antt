@@ -126,8 +126,8 @@ whole-by f pixels p dct long = go f.process refl
     go x e = let b = eqb-true f.precision 8 (eight x e) in (by-frame f pixels b long, by-info f pixels p b long)
 
 pub whole-if : (found : Found) (frame : Option Frame) (n : ℕ) (pixels : List ℕ) → HasDecodedFrame found
-    → found.frame ≡ frame → IfSome frame (λ f. n ≡ picture_size f) → length pixels ≡ n
-    → IsWhole found.frame pixels
+    → found.said.frame ≡ frame → IfSome frame (λ f. n ≡ picture_size f) → length pixels ≡ n
+    → IsWhole found.said.frame pixels
 whole-if found frame n pixels p same size long = grind (
   arith,
   common_steps,
@@ -149,9 +149,9 @@ if-size items E settings m f planes result p w n h dct = grind (arith, common_st
 by-format : (n precision : ℕ) → is_decoded_count n ≡ true → n ≡ samples_a_pixel (format_of n precision)
 by-format n precision h = grind (arith, common_steps, decoded-counts)
 
-pub counted : (found : Found) → HasDecodedFrame found → IsCounted found.frame
+pub counted : (found : Found) → HasDecodedFrame found → IsCounted found.said.frame
 counted found p = grind (arith, common_steps, by-format, decoded-count)
 
 pub if-counted : {X : Type 0} (found : Found) (result : Result X Error) → OnOk result (HasDecodedFrame found)
-    → IfOk result (λ x. IsCounted found.frame)
+    → IfOk result (λ x. IsCounted found.said.frame)
 if-counted found result p = grind (arith, common_steps, counted)

@@ -28,12 +28,6 @@ use Rattle.jpeg_streams.proofs.ReadTurns.{codings-each, codings-indices}
 use Rattle.jpeg_segments.proofs.ScaleLemmas.{sized_frames_have_factors}
 use Rattle.jpeg_streams.proofs.Soundness.{count-few, decoded-count, decoded-fits, decoded-sized}
 
--- What scans have given changes no table in force.
-pub codings-kept : (found : Found) (d : Decoded) (frame : Frame) (header : headers.Scan)
-    → codings_of (with_decoded found d) frame header ≡ codings_of found frame header
-unfolding codings_of component_coding tables_of
-codings-kept found d frame header = refl
-
 -- ---- the pass of a scan
 
 is-pass : (process : CodingProcess) (s : headers.Scan) → IsDct process
@@ -104,14 +98,14 @@ rising-at _ least h = tt
 
 -- A scan with the tables in force for its header is ready to be read.
 pub ready : (found : Found) (frame : Frame) (header : headers.Scan) (scan : Scan) → IsDecodedFrame frame
-    → IsScanOf frame header → scan.restart_interval ≡ found.restart
-    → codings_of found frame header ≡ Ok (map coding_in scan.components.items)
+    → IsScanOf frame header → scan.restart_interval ≡ found.said.restart
+    → codings_of found.said frame header ≡ Ok (map coding_in scan.components.items)
     → length scan.components.items ≡ length header.components
     → IsReadable frame found scan
 ready found frame header scan decoded legal restart codings count =
     let cs = scan.components.items in
-    let indices = codings-indices found frame header (map coding_in cs) legal.dc_length legal.ac_length codings in
-    let are = codings-each (IsCodingOf frame) found frame header (map coding_in cs) codings
+    let indices = codings-indices found.said frame header (map coding_in cs) legal.dc_length legal.ac_length codings in
+    let are = codings-each (IsCodingOf frame) found.said frame header (map coding_in cs) codings
     (λ index d a k is. is.component) in
     let few = (count-few (length frame.components) (decoded-count frame decoded)).1 in
     record {

@@ -26,7 +26,7 @@ counts-same : (f g : Frame) → IsShaped f → IsShaped g → f.width ≡ g.widt
 counts-same f g p q w h e = grind (arith, common_steps, length-map)
 
 -- the picture that a stream for samples means
-meant : (settings : Settings) (samples : Samples) (bytes rest : List ℕ) (final : Found)
+meant : (settings : Settings) (samples : Samples) (bytes rest : List ℕ) (final : Said)
     → WritesSamples samples bytes final
     → picture_meant_by settings (bytes ++ rest) ≡ limited settings final (λ f. Ok (picture_of_samples f samples))
 meant settings samples bytes rest final w =

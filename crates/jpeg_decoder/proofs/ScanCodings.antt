@@ -10,7 +10,7 @@ use Rattle.jpeg_segments.specs.Checks.{gathered}
 use Rattle.jpeg_segments.specs.ScanHeader.{Scan}
 use Rattle.jpeg_decoder.specs.declared.scan.Coded.{Coded}
 use Rattle.jpeg_streams.specs.ScanSegments.{codings_of, component_coding, Coding, tables_of, pass_of}
-use Rattle.jpeg_streams.specs.Found.{Found}
+use Rattle.jpeg_streams.specs.Found.{Said}
 use Rattle.jpeg_decoder.specs.Steps.{coding_in, coding_in_slot}
 use Rattle.std.proofs.lemmas.Grind.{common_steps}
 
@@ -23,22 +23,22 @@ front xs (Err e) = Err e
 abbrev pub named : Scan → List (ℕ × (ℕ × ℕ))
 named scan = zip scan.components (zip scan.dc_destinations scan.ac_destinations)
 
-abbrev pub coding_by : Found → Frame → Scan → ℕ × (ℕ × ℕ) → Result Coding Fault
-coding_by found frame scan s = component_coding found frame (pass_of scan) (tables_of found scan) s.0 s.1.0 s.1.1
+abbrev pub coding_by : Said → Frame → Scan → ℕ × (ℕ × ℕ) → Result Coding Fault
+coding_by said frame scan s = component_coding said frame (pass_of scan) (tables_of said scan) s.0 s.1.0 s.1.1
 
 -- those of the slots that are left
-abbrev pub codings_left : Found → Frame → Scan → ℕ → Result (List Coding) Fault
-codings_left found frame scan slot =
-    gathered (coding_by found frame scan) (drop slot (named scan))
+abbrev pub codings_left : Said → Frame → Scan → ℕ → Result (List Coding) Fault
+codings_left said frame scan slot =
+    gathered (coding_by said frame scan) (drop slot (named scan))
 
-one-more : (found : Found) (frame : Frame) (scan : Scan) (slot : ℕ)
+one-more : (said : Said) (frame : Frame) (scan : Scan) (slot : ℕ)
     → slot < length scan.components → length scan.dc_destinations ≡ length scan.components
     → length scan.ac_destinations ≡ length scan.components
-    → codings_left found frame scan slot
-    ≡ (coding_in_slot found frame scan slot >>= (λ c.
-    codings_left found frame scan (slot + 1) >>= (λ others. Ok (c ∷ others))))
+    → codings_left said frame scan slot
+    ≡ (coding_in_slot said frame scan slot >>= (λ c.
+    codings_left said frame scan (slot + 1) >>= (λ others. Ok (c ∷ others))))
 unfolding gathered
-one-more found frame scan slot h d a =
+one-more said frame scan slot h d a =
     let ds = zip scan.dc_destinations scan.ac_destinations in
     let two : slot < length ds = omega (arith, length-zip scan.dc_destinations scan.ac_destinations) in
     let all : slot < length (named scan) = omega (arith, length-zip scan.components ds) in
@@ -48,28 +48,28 @@ one-more found frame scan slot h d a =
     rw (drop_more {X = ℕ × (ℕ × ℕ)} (named scan) slot (0, (0, 0)) all, at) refl
 
 -- a slot more
-pub codings-more : (found : Found) (frame : Frame) (scan : Scan) (slot : ℕ) (xs : List Coded) (c : Coded)
+pub codings-more : (said : Said) (frame : Frame) (scan : Scan) (slot : ℕ) (xs : List Coded) (c : Coded)
     → slot < length scan.components → length scan.dc_destinations ≡ length scan.components
     → length scan.ac_destinations ≡ length scan.components
-    → codings_of found frame scan ≡ front (map coding_in xs) (codings_left found frame scan slot)
-    → coding_in_slot found frame scan slot ≡ Ok (coding_in c)
-    → codings_of found frame scan
-    ≡ front (map coding_in (xs ++ c ∷ [])) (codings_left found frame scan (slot + 1))
-codings-more found frame scan slot xs c h d a w e = grind (arith, common_steps, one-more, append_assoc, map-append)
+    → codings_of said frame scan ≡ front (map coding_in xs) (codings_left said frame scan slot)
+    → coding_in_slot said frame scan slot ≡ Ok (coding_in c)
+    → codings_of said frame scan
+    ≡ front (map coding_in (xs ++ c ∷ [])) (codings_left said frame scan (slot + 1))
+codings-more said frame scan slot xs c h d a w e = grind (arith, common_steps, one-more, append_assoc, map-append)
 
 -- a slot that is refused
-pub codings-fail : (found : Found) (frame : Frame) (scan : Scan) (slot : ℕ) (xs : List Coded) (f : Fault)
+pub codings-fail : (said : Said) (frame : Frame) (scan : Scan) (slot : ℕ) (xs : List Coded) (f : Fault)
     → slot < length scan.components → length scan.dc_destinations ≡ length scan.components
     → length scan.ac_destinations ≡ length scan.components
-    → codings_of found frame scan ≡ front (map coding_in xs) (codings_left found frame scan slot)
-    → coding_in_slot found frame scan slot ≡ Err f
-    → codings_of found frame scan ≡ Err f
-codings-fail found frame scan slot xs f h d a w e = grind (arith, common_steps, one-more)
+    → codings_of said frame scan ≡ front (map coding_in xs) (codings_left said frame scan slot)
+    → coding_in_slot said frame scan slot ≡ Err f
+    → codings_of said frame scan ≡ Err f
+codings-fail said frame scan slot xs f h d a w e = grind (arith, common_steps, one-more)
 
 -- all slots
-pub codings-all : (found : Found) (frame : Frame) (scan : Scan) (slot : ℕ) (xs : List Coded)
+pub codings-all : (said : Said) (frame : Frame) (scan : Scan) (slot : ℕ) (xs : List Coded)
     → length scan.components ≤ slot
-    → codings_of found frame scan ≡ front (map coding_in xs) (codings_left found frame scan slot)
-    → codings_of found frame scan ≡ Ok (map coding_in xs)
+    → codings_of said frame scan ≡ front (map coding_in xs) (codings_left said frame scan slot)
+    → codings_of said frame scan ≡ Ok (map coding_in xs)
 unfolding gathered
-codings-all found frame scan slot xs h w = grind (arith, common_steps, length-zip, drop_all, append-nil)
+codings-all said frame scan slot xs h w = grind (arith, common_steps, length-zip, drop_all, append-nil)

@@ -84,15 +84,14 @@ arrays-by-planes p _ _ found = refl
 -- the blocks at their places, of those of the frame
 abbrev pub read_at : Found → Frame → Pass → List Coding → Arrays → List ℕ → Outcome (Arrays × Option Marker)
 read_at f frame p codings arrays bytes =
-    arrays_at p (f.restart * mcu_size (components_of codings)) (vias_from 0 codings)
+    arrays_at p (f.said.restart * mcu_size (components_of codings)) (vias_from 0 codings)
     (spots_of frame (components_of codings)) arrays bytes
 
 abbrev after_read : Found → Frame → Pass → List Coding → (Arrays × Option Marker) × List ℕ
     → Outcome (Found × Option Marker)
 after_read f frame p codings r = Ok (
   (
-    with_arrays p codings r.0.0 (record f {
-      scanned = true;
+    with_arrays p codings r.0.0 (record (once_scanned f) {
       kept = blocks_after f frame codings r.0.0;
     }),
     r.0.1,
@@ -132,8 +131,7 @@ pub data-kept : (f : Found) (frame : Frame) (p : Pass) (codings : List Coding) (
     → scan_data f frame p codings bytes
     ≡ Ok (
       (
-        record f {
-          scanned = true;
+        record (once_scanned f) {
           kept = kept;
           finished = two.finished;
           planes = two.planes;
@@ -149,28 +147,25 @@ data-kept f frame p codings arrays met bytes rest one two kept e r added fin pl 
     ∙ ap (λ (x : Found). answer x) same
   where
     base : Found
-    base = record f { scanned = true }
+    base = once_scanned f
 
     answer : Found → Outcome (Found × Option Marker)
     answer x = Ok ((x, met), rest)
 
-    same : with_arrays p codings arrays (record f {
-      scanned = true;
+    same : with_arrays p codings arrays (record (once_scanned f) {
       kept = blocks_after f frame
           codings arrays;
     })
-        ≡ record f {
-          scanned = true;
+        ≡ record (once_scanned f) {
           kept = kept;
           finished = two.finished;
           planes = two.planes;
           samples = planes_in two.samples;
         }
     same =
-        ap (λ (x : Arrays). with_arrays p codings arrays (record f { scanned = true; kept = x }))
+        ap (λ (x : Arrays). with_arrays p codings arrays (record (once_scanned f) { kept = x }))
         (kept-progressive f frame codings arrays e ∙ sym h)
-        ∙ (λ i. with_arrays p codings arrays (record f {
-          scanned = true;
+        ∙ (λ i. with_arrays p codings arrays (record (once_scanned f) {
           kept = kept;
           finished = sym fin i;
           planes = sym pl i;
@@ -206,33 +201,31 @@ planes-are n frame p codings vias bytes = refl
 pub data-planes : (f : Found) (frame : Frame) (p : Pass) (codings : List Coding) (planes : List (List ℕ))
     (met : Option Marker) (bytes rest : List ℕ) (one two : Decoded)
     → is_progressive frame.process ≡ false → AllByRecursion (IsOf frame) codings
-    → planes_at p f.restart (vias_from 0 codings) frame codings bytes ≡ Ok ((planes, met), rest)
+    → planes_at p f.said.restart (vias_from 0 codings) frame codings bytes ≡ Ok ((planes, met), rest)
     → ((base : Found) → with_decoded base two ≡ with_planes p codings planes (with_decoded base one))
     → one.finished ≡ f.finished → one.planes ≡ f.planes → planes_in one.samples ≡ f.samples
     → arrays_in one.kept.items ≡ []
-    → scan_data f frame p codings bytes ≡ Ok ((record (with_decoded f two) { scanned = true }, met), rest)
+    → scan_data f frame p codings bytes ≡ Ok ((once_scanned (with_decoded f two), met), rest)
 data-planes f frame p codings planes met bytes rest one two e of r added fin pl sa none =
     data-is f frame p codings bytes
     ∙ ap (λ (a : Arrays). read_at f frame p codings a bytes >>= after_read f frame p codings)
     (zeros-read f frame codings e of)
     ∙ go (read_at f frame p codings (zero_arrays (components_of codings)) bytes)
-    (sym (planes-are f.restart frame p codings (vias_from 0 codings) bytes) ∙ r)
+    (sym (planes-are f.said.restart frame p codings (vias_from 0 codings) bytes) ∙ r)
   where
     base : Found
-    base = record f { scanned = true }
+    base = once_scanned f
 
     made : (arrays : Arrays) → planes_by codings arrays ≡ planes
-        → with_arrays p codings arrays (record f {
-          scanned = true;
+        → with_arrays p codings arrays (record (once_scanned f) {
           kept = blocks_after f frame
               codings arrays;
         })
-        ≡ record (with_decoded f two) { scanned = true }
+        ≡ once_scanned (with_decoded f two)
     made arrays q =
-        ap (λ (x : Arrays). with_arrays p codings arrays (record f { scanned = true; kept = x }))
+        ap (λ (x : Arrays). with_arrays p codings arrays (record (once_scanned f) { kept = x }))
         (kept-sequential f frame codings arrays e ∙ sym none)
-        ∙ (λ i. with_arrays p codings arrays (record f {
-          scanned = true;
+        ∙ (λ i. with_arrays p codings arrays (record (once_scanned f) {
           kept = arrays_in one.kept.items;
           finished = sym fin i;
           planes = sym pl i;
@@ -243,7 +236,7 @@ data-planes f frame p codings planes met bytes rest one two e of r added fin pl 
         ∙ sym (added base)
 
     go : (o : Outcome (Arrays × Option Marker)) → (o >>= planes_after codings) ≡ Ok ((planes, met), rest)
-        → (o >>= after_read f frame p codings) ≡ Ok ((record (with_decoded f two) { scanned = true }, met), rest)
+        → (o >>= after_read f frame p codings) ≡ Ok ((once_scanned (with_decoded f two), met), rest)
     go (Err fault) h = absurd (cc)
     go (Ok x) h =
         let j : ((planes_by codings x.0.0, x.0.1), x.1) ≡ ((planes, met), rest) = ok-same _ _ h in
@@ -253,14 +246,14 @@ data-planes f frame p codings planes met bytes rest one two e of r added fin pl 
 pub data-planes-refused : (f : Found) (frame : Frame) (p : Pass) (codings : List Coding) (bytes : List ℕ)
     (fault : Fault)
     → is_progressive frame.process ≡ false → AllByRecursion (IsOf frame) codings
-    → planes_at p f.restart (vias_from 0 codings) frame codings bytes ≡ Err fault
+    → planes_at p f.said.restart (vias_from 0 codings) frame codings bytes ≡ Err fault
     → scan_data f frame p codings bytes ≡ Err fault
 data-planes-refused f frame p codings bytes fault e of r =
     data-is f frame p codings bytes
     ∙ ap (λ (a : Arrays). read_at f frame p codings a bytes >>= after_read f frame p codings)
     (zeros-read f frame codings e of)
     ∙ go (read_at f frame p codings (zero_arrays (components_of codings)) bytes)
-    (sym (planes-are f.restart frame p codings (vias_from 0 codings) bytes) ∙ r)
+    (sym (planes-are f.said.restart frame p codings (vias_from 0 codings) bytes) ∙ r)
   where
     go : (o : Outcome (Arrays × Option Marker)) → (o >>= planes_after codings) ≡ Err fault
         → (o >>= after_read f frame p codings) ≡ Err fault
@@ -346,7 +339,7 @@ other-arrays c more blocks arrays h = h.1
 
 -- the blocks are read as the code reads them
 pub read-as : (f : Found) (frame : Frame) (p : Pass) (cs : List Coded) (n : ℕ) (arrays : Arrays) (bytes : List ℕ)
-    → n ≡ f.restart
+    → n ≡ f.said.restart
     → read_at f frame p (map coding_in cs) arrays bytes ≡ arrays_at p (n * mcu_size (components_in cs)) (vias_in 0 cs)
     (spots_of frame (components_in cs)) arrays bytes
 read-as f frame p cs n arrays bytes e = grind (arith, common_steps, vias-same, coded-components)
@@ -389,14 +382,14 @@ rising-codings (c ∷ d ∷ cs) h = (λ n. below c.index d cs h.0 h.1 n, rising-
 
 -- ---- what is held after a scan
 
-before-kept : (f : Found) (frame : Frame) → is_progressive frame.process ≡ true → f.scanned ≡ true
+before-kept : (f : Found) (frame : Frame) → is_progressive frame.process ≡ true → f.said.scanned ≡ true
     → arrays_before f frame ≡ f.kept
 unfolding arrays_before
 before-kept f frame e s = rw (e, s) refl
 
 pub kept-afterwards : {X E : Type 0} (r : Result X E) (f : Found) (frame : Frame) → is_progressive
     frame.process ≡ true
-    → f.scanned ≡ true
+    → f.said.scanned ≡ true
     → OnOk r (AreArrays frame.components f.kept) → OnOk r (AreArrays frame.components
     (arrays_before f frame))
 kept-afterwards r f frame e s h = grind (arith, common_steps, before-kept)

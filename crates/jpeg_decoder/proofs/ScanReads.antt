@@ -25,7 +25,6 @@ use Rattle.jpeg_decoder.specs.Steps.{with_decoded}
 use Rattle.jpeg_decoder.specs.declared.decoded.Decoded.{Decoded}
 use Rattle.jpeg_decoder.specs.declared.state.State.{State}
 use Rattle.jpeg_decoder.specs.declared.state.Step.{Step}
-use Rattle.jpeg_decoder.proofs.ReadableScans.{codings-kept}
 use Rattle.jpeg_decoder.proofs.SlotCodings.{format-refuses}
 use Rattle.jpeg_streams.specs.InTurn.{AreArrays}
 use Rattle.jpeg_segments.specs.Checks.{needed}
@@ -53,7 +52,7 @@ last-step view v whole rest read old cur new r ok err p q = grind (arith, common
 -- a scan of blocks: what is found after it, and the marker after it and its restart markers
 unfoldable pub blocks_read : Found → Frame → Scan → List ℕ → Outcome (Found × Option Marker)
 blocks_read found frame scan bytes = do
-  codings ← codings_of found frame scan
+  codings ← codings_of found.said frame scan
   r ← scan_data found frame (pass_of scan) codings bytes
   met ← after_all r.0.1 r.1
   Ok ((r.0.0, met.0), met.1)
@@ -68,7 +67,7 @@ read_by Lossless found frame scan bytes = samples_read found frame scan bytes
 -- a scan by what was found before it
 unfoldable pub scan_read : Found → List ℕ → Outcome (Found × Option Marker)
 scan_read found bytes = do
-  frame ← needed found.frame
+  frame ← needed found.said.frame
   scan ← sos_at frame bytes
   read_by frame.process found frame scan.0 scan.1
 
@@ -85,15 +84,15 @@ after_codings found frame p codings bytes = scan_data found frame p codings byte
 -- after the header
 abbrev pub after_header : Found → Frame → Scan → List ℕ → Outcome (Found × Option Marker)
 after_header found frame scan bytes =
-    codings_of found frame scan >>= (λ (codings : List Coding). after_codings found frame (pass_of scan) codings
+    codings_of found.said frame scan >>= (λ (codings : List Coding). after_codings found frame (pass_of scan) codings
     bytes)
 
 pub codings-refused : (found : Found) (frame : Frame) (scan : Scan) (bytes : List ℕ) (f : Fault)
-    → codings_of found frame scan ≡ Err f → after_header found frame scan bytes ≡ Err f
+    → codings_of found.said frame scan ≡ Err f → after_header found frame scan bytes ≡ Err f
 codings-refused found frame scan bytes f e = grind (arith, common_steps, bind_err)
 
 codings-read : (found : Found) (frame : Frame) (scan : Scan) (p : Pass) (codings : List Coding) (bytes : List ℕ)
-    → codings_of found frame scan ≡ Ok codings → p ≡ pass_of scan
+    → codings_of found.said frame scan ≡ Ok codings → p ≡ pass_of scan
     → after_header found frame scan bytes ≡ after_codings found frame p codings bytes
 codings-read found frame scan p codings bytes e is = grind (arith, common_steps, bind_at)
 
@@ -111,25 +110,25 @@ is-dct p h = grind (arith, common_steps)
 
 -- A scan of blocks has its tables after its header.
 pub header-read : (found : Found) (frame : Frame) (scan : Scan) (old new : Stream)
-    → found.frame ≡ Some frame → (frame.process ≡ Lossless → ⊥) → HasRead (sos_at frame) old scan new
+    → found.said.frame ≡ Some frame → (frame.process ≡ Lossless → ⊥) → HasRead (sos_at frame) old scan new
     → Continues (scan_read found) old (after_header found frame scan) new
 unfolding scan_read blocks_read
 header-read found frame scan old new e process has = grind (arith, common_steps, bind_at)
 
 -- A lossless scan has its samples after its header.
 pub samples-begun : (found : Found) (frame : Frame) (scan : Scan) (old new : Stream)
-    → found.frame ≡ Some frame → frame.process ≡ Lossless → HasRead (sos_at frame) old scan new
+    → found.said.frame ≡ Some frame → frame.process ≡ Lossless → HasRead (sos_at frame) old scan new
     → Continues (scan_read found) old (samples_read found frame scan) new
 unfolding scan_read
 samples-begun found frame scan old new e process has = grind (arith, common_steps, bind_at, by-samples)
 
 -- A scan without a frame is refused.
 pub frame-refused : {X : Type 0} (view : X → Found × Option Marker) (found : Found) (s : Stream) (e : Error)
-    → found.frame ≡ None → NamesFormat e → Answers view (scan_read found) s (Err e) s
+    → found.said.frame ≡ None → NamesFormat e → Answers view (scan_read found) s (Err e) s
 unfolding scan_read
 frame-refused view found s e lacking names = grind (arith, common_steps, format-refuses, refused, bind_err)
 
-pub header-refused : (found : Found) (frame : Frame) (bytes : List ℕ) (f : Fault) → found.frame ≡ Some frame
+pub header-refused : (found : Found) (frame : Frame) (bytes : List ℕ) (f : Fault) → found.said.frame ≡ Some frame
     → sos_at frame bytes ≡ Err f → scan_read found bytes ≡ Err f
 unfolding scan_read
 header-refused found frame bytes f e h = grind (arith, common_steps, bind_at, bind_err)
@@ -137,7 +136,7 @@ header-refused found frame bytes f e h = grind (arith, common_steps, bind_at, bi
 data-begun : (whole : List ℕ → Outcome (Found × Option Marker)) (found : Found) (frame : Frame) (scan : Scan)
     (p : Pass)
     (codings : List Coding) (old new : Stream)
-    → codings_of found frame scan ≡ Ok codings → p ≡ pass_of scan
+    → codings_of found.said frame scan ≡ Ok codings → p ≡ pass_of scan
     → Continues whole old (after_header found frame scan) new
     → Continues whole old (after_codings found frame p codings) new
 data-begun whole found frame scan p codings old new e is begun =
@@ -145,11 +144,11 @@ data-begun whole found frame scan p codings old new e is begun =
 
 -- A scan of blocks has its data after its header, where tables are in force.
 pub blocks-begun : (base : Found) (d : Decoded) (frame : Frame) (scan : Scan) (p : Pass) (codings : List Coding)
-    (old new : Stream) → base.frame ≡ Some frame → (frame.process ≡ Lossless → ⊥)
-    → HasRead (sos_at frame) old scan new → codings_of base frame scan ≡ Ok codings → p ≡ pass_of scan
+    (old new : Stream) → base.said.frame ≡ Some frame → (frame.process ≡ Lossless → ⊥)
+    → HasRead (sos_at frame) old scan new → codings_of base.said frame scan ≡ Ok codings → p ≡ pass_of scan
     → Continues (scan_read (with_decoded base d)) old (after_codings (with_decoded base d) frame p codings) new
 blocks-begun base d frame scan p codings old new e process has in_force is =
-    search (rules, arith, data-begun, codings-kept, header-read)
+    search (rules, arith, data-begun, header-read)
 
 -- The restart markers after the data are passed over, and the scan is read.
 pub scan-ends : (whole rest : List ℕ → Outcome (Found × Option Marker)) (next : Found) (met : Option Marker)
@@ -224,8 +223,8 @@ none-some : (f : Frame) → None ≡ Some f → ⊥
 none-some f h = cc
 
 -- A scan of blocks leaves a sound state.
-pub blocks-sound : (found next : Found) (frame : Frame) → IsSound found → found.frame ≡ Some frame
-    → next.frame ≡ found.frame → AreArrays frame.components (arrays_before next frame)
+pub blocks-sound : (found next : Found) (frame : Frame) → IsSound found → found.said.frame ≡ Some frame
+    → next.said.frame ≡ found.said.frame → AreArrays frame.components (arrays_before next frame)
     → (ArePlanes frame.components found.planes → ArePlanes frame.components next.planes)
     → next.samples ≡ found.samples → IsSound next
 blocks-sound found next frame sound e stays kept planes samples = grind (
@@ -236,6 +235,6 @@ blocks-sound found next frame sound e stays kept planes samples = grind (
 )
 
 -- A scan is a step, which keeps the frame.
-pub scan-steps : (old next : Found) (frame : Frame) (step : Step) → old.frame ≡ Some frame → next.frame ≡ old.frame
+pub scan-steps : (old next : Found) (frame : Frame) (step : Step) → old.said.frame ≡ Some frame → next.said.frame ≡ old.said.frame
     → IsSound next → IsStep old (Ok step) next
 scan-steps old next frame step e stays sound = grind (arith, common_steps, none-some)

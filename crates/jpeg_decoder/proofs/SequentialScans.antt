@@ -22,7 +22,7 @@ use Rattle.jpeg_decoder.proofs.ScanData.{data-planes, data-planes-refused, of-fr
 use Rattle.jpeg_decoder.proofs.StripScans.{Planes, scan-by-rows}
 use Rattle.std.proofs.lemmas.Grind.{common_steps}
 
-module _ (said : Found) (before : Decoded) (frame : Frame) (scan : Scan) (bytes : List ℕ)
+module _ (said : Said) (before : Decoded) (frame : Frame) (scan : Scan) (bytes : List ℕ)
     (process : is_progressive frame.process ≡ false) (ready : IsReadable frame said scan) where
   abbrev f : Found
   f = with_decoded said before
@@ -39,7 +39,7 @@ module _ (said : Found) (before : Decoded) (frame : Frame) (scan : Scan) (bytes 
   abbrev by_rows : Planes → Outcome (Planes × Option Marker)
   by_rows start = planes_by_rows p (vias_in 0 cs) scan.restart_interval frame codings start bytes
 
-  at-once : planes_at p f.restart (vias_from 0 codings) frame codings bytes ≡ by_rows (no_samples codings)
+  at-once : planes_at p f.said.restart (vias_from 0 codings) frame codings bytes ≡ by_rows (no_samples codings)
   at-once =
       sym (ap (λ (k : ℕ). planes_at p k (vias_from 0 codings) frame codings bytes) ready.restart)
       ∙ ap (λ (v : List Via). planes_at p scan.restart_interval v frame codings bytes) (vias-same 0 cs)
@@ -59,7 +59,7 @@ module _ (said : Found) (before : Decoded) (frame : Frame) (scan : Scan) (bytes 
       (none : arrays_in one.kept.items ≡ []) where
     pub read-data : (made : Planes) → by_rows (no_samples codings) ≡ Ok ((made, met), rest)
         → ((base : Found) → with_decoded base two ≡ with_planes p codings made (with_decoded base one))
-        → scan_data f frame p codings bytes ≡ Ok ((record (with_decoded f two) { scanned = true }, met), rest)
+        → scan_data f frame p codings bytes ≡ Ok ((once_scanned (with_decoded f two), met), rest)
     read-data made h added = data-planes f frame p codings made met bytes rest one two process
         (of-frame frame codings ready.of_frame) (at-once ∙ h) added finished planes samples none
 
@@ -67,7 +67,7 @@ module _ (said : Found) (before : Decoded) (frame : Frame) (scan : Scan) (bytes 
         → by_rows [] ≡ Ok ((qs, met), rest)
         → ((base : Found) → with_decoded base two
         ≡ with_planes p codings (no_samples codings) (with_decoded base one))
-        → scan_data f frame p codings bytes ≡ Ok ((record (with_decoded f two) { scanned = true }, met), rest)
+        → scan_data f frame p codings bytes ≡ Ok ((once_scanned (with_decoded f two), met), rest)
     again-data qs decided h added =
         let r = again-read p (vias_in 0 cs) scan.restart_interval frame codings bytes qs met rest h in
         read-data r.planes r.read (λ base.

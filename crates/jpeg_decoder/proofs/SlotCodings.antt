@@ -24,7 +24,7 @@ use Rattle.jpeg_decoder.specs.declared.state.State.{State}
 use Rattle.jpeg_streams.specs.Scans.{no_table}
 use Rattle.jpeg_segments.specs.Checks.{needed}
 use Rattle.jpeg_streams.specs.ScanSegments.{component_coding, needed_if, tables_of, pass_of}
-use Rattle.jpeg_streams.specs.Found.{Found}
+use Rattle.jpeg_streams.specs.Found.{Said}
 use Rattle.jpeg_decoder.specs.Seen.{found_in}
 use Rattle.jpeg_decoder.specs.Steps.{IsRefusal, IsSpareOf, coding_in_slot, in_force, or_spare, table_if}
 use Rattle.std.proofs.lemmas.Bool.{and_parts}
@@ -52,13 +52,13 @@ forced-by : (b : Bool) (l c : Table) (destinations : List ℕ) (tables : List (O
 forced-by b l c destinations tables destination e = grind (arith, common_steps, none-at, or-none)
 
 -- The tables in force are those that were read, or else the spare ones.
-pub forced-dc : (found : Found) (scan : Scan) (spare : Spare) (destination : ℕ) → IsSpareOf found
+pub forced-dc : (said : Said) (scan : Scan) (spare : Spare) (destination : ℕ) → IsSpareOf said
     scan spare
-    → length found.huffman.dc ≡ 4
-    → get_or (tables_of found scan).dc destination None ≡ in_force found.huffman.dc spare.dc.items
+    → length said.huffman.dc ≡ 4
+    → get_or (tables_of said scan).dc destination None ≡ in_force said.huffman.dc spare.dc.items
     destination
 unfolding tables_of
-forced-dc found scan spare destination s e = search (rules, forced-by)
+forced-dc said scan spare destination s e = search (rules, forced-by)
 
 -- ---- the class of an AC table in force
 
@@ -80,12 +80,12 @@ if-ac : (needs : Bool) (o : Option Table) (t : Table) → IsAc o → table_if ne
     → t.class ≡ classes.AC
 if-ac needs o t h e = grind (arith, common_steps)
 
-pub class-in-force : (found : Found) (scan : Scan) (spare : Spare) (needs : Bool) (destination : ℕ)
+pub class-in-force : (said : Said) (scan : Scan) (spare : Spare) (needs : Bool) (destination : ℕ)
     (t : Table)
-    → IsSpareOf found scan spare → all_ac found.huffman.ac ≡ true
-    → table_if needs spare.no_ac (in_force found.huffman.ac spare.ac.items destination) ≡ Ok t →
+    → IsSpareOf said scan spare → all_ac said.huffman.ac ≡ true
+    → table_if needs spare.no_ac (in_force said.huffman.ac spare.ac.items destination) ≡ Ok t →
     t.class ≡ classes.AC
-class-in-force found scan spare needs destination t s a e = grind (
+class-in-force said scan spare needs destination t s a e = grind (
   arith,
   common_steps,
   if-ac,
@@ -100,31 +100,31 @@ needed-either : (needs : Bool) (class : HuffmanTableClass) (o : Option Table)
 needed-either needs class o = grind (arith, common_steps)
 
 -- the table that is needed of the component in a slot
-abbrev pub dc_of : Found → Scan → Spare → ℕ → Result Table Fault
-dc_of found scan spare destination = table_if (scan.first == 0) spare.no_dc (in_force
-    found.huffman.dc spare.dc.items destination)
+abbrev pub dc_of : Said → Scan → Spare → ℕ → Result Table Fault
+dc_of said scan spare destination = table_if (scan.first == 0) spare.no_dc (in_force
+    said.huffman.dc spare.dc.items destination)
 
-abbrev pub ac_of : Found → Scan → Spare → ℕ → Result Table Fault
-ac_of found scan spare destination = table_if (nat_lt 1 scan.after) spare.no_ac (in_force
-    found.huffman.ac spare.ac.items destination)
+abbrev pub ac_of : Said → Scan → Spare → ℕ → Result Table Fault
+ac_of said scan spare destination = table_if (nat_lt 1 scan.after) spare.no_ac (in_force
+    said.huffman.ac spare.ac.items destination)
 
-dc-needed : (found : Found) (scan : Scan) (spare : Spare) (destination : ℕ) → IsSpareOf found scan
+dc-needed : (said : Said) (scan : Scan) (spare : Spare) (destination : ℕ) → IsSpareOf said scan
     spare
-    → length found.huffman.dc ≡ 4
-    → needed_if ((pass_of scan).ss == 0) classes.DC (get_or (tables_of found scan).dc destination
+    → length said.huffman.dc ≡ 4
+    → needed_if ((pass_of scan).ss == 0) classes.DC (get_or (tables_of said scan).dc destination
     None)
-    ≡ dc_of found scan spare destination
+    ≡ dc_of said scan spare destination
 unfolding pass_of
-dc-needed found scan spare destination s e = grind (arith, common_steps, forced-dc, needed-either)
+dc-needed said scan spare destination s e = grind (arith, common_steps, forced-dc, needed-either)
 
-ac-needed : (found : Found) (scan : Scan) (spare : Spare) (destination : ℕ) → IsSpareOf found scan
+ac-needed : (said : Said) (scan : Scan) (spare : Spare) (destination : ℕ) → IsSpareOf said scan
     spare
-    → length found.huffman.ac ≡ 4
-    → needed_if (nat_lt 0 (pass_of scan).se) classes.AC (get_or (tables_of found scan).ac
+    → length said.huffman.ac ≡ 4
+    → needed_if (nat_lt 0 (pass_of scan).se) classes.AC (get_or (tables_of said scan).ac
     destination None)
-    ≡ ac_of found scan spare destination
+    ≡ ac_of said scan spare destination
 unfolding pass_of tables_of
-ac-needed found scan spare destination s e = grind (
+ac-needed said scan spare destination s e = grind (
   arith,
   common_steps,
   forced-by,
@@ -133,18 +133,18 @@ ac-needed found scan spare destination s e = grind (
 )
 
 -- what is there of the component in a slot, as the header names it
-pub record HasComponent (found : Found) (frame : Frame) (scan : Scan) (spare : Spare) (slot index : ℕ)
+pub record HasComponent (said : Said) (frame : Frame) (scan : Scan) (spare : Spare) (slot index : ℕ)
     (c : Component) : Type 0 where
-  pub stands_in : IsSpareOf found scan spare
+  pub stands_in : IsSpareOf said scan spare
   pub is_named : index ≡ get_or scan.components slot 0
   pub component : slice_get frame.components index ≡ Some c
 
-at-quantization : {found : Found} {frame : Frame} {scan : Scan} {spare : Spare} {slot index :
+at-quantization : {said : Said} {frame : Frame} {scan : Scan} {spare : Spare} {slot index :
     ℕ} {c : Component}
     (p : Pass) (tables : Tables) (d a : ℕ)
-    → HasComponent found frame scan spare slot index c
-    → component_coding found frame p tables (get_or scan.components slot 0) d a
-    ≡ (needed (get_or found.quantization c.factors.quantization None) >>= (λ q.
+    → HasComponent said frame scan spare slot index c
+    → component_coding said frame p tables (get_or scan.components slot 0) d a
+    ≡ (needed (get_or said.quantization c.factors.quantization None) >>= (λ q.
     needed_if (p.ss == 0) classes.DC (get_or tables.dc d None) >>= (λ dc.
     needed_if (nat_lt 0 p.se) classes.AC (get_or tables.ac a None) >>= (λ ac.
     Ok (record {
@@ -159,56 +159,56 @@ unfolding component_coding
 at-quantization p tables d a h = let e = h.component in rw (← h.is_named, e) refl
 
 -- A quantization table that is unset.
-pub fails-quantization : (found : Found) (frame : Frame) (scan : Scan) (spare : Spare) (slot
+pub fails-quantization : (said : Said) (frame : Frame) (scan : Scan) (spare : Spare) (slot
     index : ℕ)
-    (c : Component) → HasComponent found frame scan spare slot index c
-    → get_or found.quantization c.factors.quantization None ≡ None
-    → coding_in_slot found frame scan slot ≡ Err Malformed
+    (c : Component) → HasComponent said frame scan spare slot index c
+    → get_or said.quantization c.factors.quantization None ≡ None
+    → coding_in_slot said frame scan slot ≡ Err Malformed
 unfolding component_coding
-fails-quantization found frame scan spare slot index c h q = search (rules, at-quantization)
+fails-quantization said frame scan spare slot index c h q = search (rules, at-quantization)
 
 -- A DC table that is needed and unset.
-pub fails-dc : (found : Found) (frame : Frame) (scan : Scan) (spare : Spare) (slot index : ℕ)
+pub fails-dc : (said : Said) (frame : Frame) (scan : Scan) (spare : Spare) (slot index : ℕ)
     (c : Component)
-    → HasComponent found frame scan spare slot index c
-    → (q : List ℕ) → get_or found.quantization c.factors.quantization None ≡ Some q
-    → length found.huffman.dc ≡ 4 → (f : Fault) → dc_of found scan spare (get_or
+    → HasComponent said frame scan spare slot index c
+    → (q : List ℕ) → get_or said.quantization c.factors.quantization None ≡ Some q
+    → length said.huffman.dc ≡ 4 → (f : Fault) → dc_of said scan spare (get_or
     scan.dc_destinations slot 0) ≡ Err f
-    → coding_in_slot found frame scan slot ≡ Err f
-fails-dc found frame scan spare slot index c h q e m f d =
-    let dc = dc-needed found scan spare (get_or scan.dc_destinations slot 0) h.stands_in m ∙ d in
-    at-quantization (pass_of scan) (tables_of found scan) (get_or scan.dc_destinations slot 0)
+    → coding_in_slot said frame scan slot ≡ Err f
+fails-dc said frame scan spare slot index c h q e m f d =
+    let dc = dc-needed said scan spare (get_or scan.dc_destinations slot 0) h.stands_in m ∙ d in
+    at-quantization (pass_of scan) (tables_of said scan) (get_or scan.dc_destinations slot 0)
     (get_or scan.ac_destinations slot 0) h ∙ (rw (e, dc) refl)
 
 -- An AC table that is needed and unset.
-pub fails-ac : (found : Found) (frame : Frame) (scan : Scan) (spare : Spare) (slot index : ℕ)
+pub fails-ac : (said : Said) (frame : Frame) (scan : Scan) (spare : Spare) (slot index : ℕ)
     (c : Component)
-    → HasComponent found frame scan spare slot index c
-    → (q : List ℕ) → get_or found.quantization c.factors.quantization None ≡ Some q
-    → length found.huffman.dc ≡ 4 → length found.huffman.ac ≡ 4 → (dc : Table)
-    → dc_of found scan spare (get_or scan.dc_destinations slot 0) ≡ Ok dc
-    → (f : Fault) → ac_of found scan spare (get_or scan.ac_destinations slot 0) ≡ Err f
-    → coding_in_slot found frame scan slot ≡ Err f
-fails-ac found frame scan spare slot index c h q e m n dc d f a =
-    let one = dc-needed found scan spare (get_or scan.dc_destinations slot 0) h.stands_in m ∙ d in
-    let two = ac-needed found scan spare (get_or scan.ac_destinations slot 0) h.stands_in n ∙ a in
-    at-quantization (pass_of scan) (tables_of found scan) (get_or scan.dc_destinations slot 0)
+    → HasComponent said frame scan spare slot index c
+    → (q : List ℕ) → get_or said.quantization c.factors.quantization None ≡ Some q
+    → length said.huffman.dc ≡ 4 → length said.huffman.ac ≡ 4 → (dc : Table)
+    → dc_of said scan spare (get_or scan.dc_destinations slot 0) ≡ Ok dc
+    → (f : Fault) → ac_of said scan spare (get_or scan.ac_destinations slot 0) ≡ Err f
+    → coding_in_slot said frame scan slot ≡ Err f
+fails-ac said frame scan spare slot index c h q e m n dc d f a =
+    let one = dc-needed said scan spare (get_or scan.dc_destinations slot 0) h.stands_in m ∙ d in
+    let two = ac-needed said scan spare (get_or scan.ac_destinations slot 0) h.stands_in n ∙ a in
+    at-quantization (pass_of scan) (tables_of said scan) (get_or scan.dc_destinations slot 0)
     (get_or scan.ac_destinations slot 0) h ∙ (rw (e, one, two) refl)
 
 -- All that is needed is there.
-pub gives-coding : (found : Found) (frame : Frame) (scan : Scan) (spare : Spare) (slot index
+pub gives-coding : (said : Said) (frame : Frame) (scan : Scan) (spare : Spare) (slot index
     : ℕ) (c : Component)
-    → HasComponent found frame scan spare slot index c
-    → (q : List ℕ) → get_or found.quantization c.factors.quantization None ≡ Some q
-    → length found.huffman.dc ≡ 4 → length found.huffman.ac ≡ 4 → (dc ac : Table)
-    → dc_of found scan spare (get_or scan.dc_destinations slot 0) ≡ Ok dc
-    → ac_of found scan spare (get_or scan.ac_destinations slot 0) ≡ Ok ac
-    → coding_in_slot found frame scan slot
+    → HasComponent said frame scan spare slot index c
+    → (q : List ℕ) → get_or said.quantization c.factors.quantization None ≡ Some q
+    → length said.huffman.dc ≡ 4 → length said.huffman.ac ≡ 4 → (dc ac : Table)
+    → dc_of said scan spare (get_or scan.dc_destinations slot 0) ≡ Ok dc
+    → ac_of said scan spare (get_or scan.ac_destinations slot 0) ≡ Ok ac
+    → coding_in_slot said frame scan slot
     ≡ Ok (record { index = index; component = c; quantization = q; dc = dc; ac = ac })
-gives-coding found frame scan spare slot index c h q e m n dc ac d a =
-    let one = dc-needed found scan spare (get_or scan.dc_destinations slot 0) h.stands_in m ∙ d in
-    let two = ac-needed found scan spare (get_or scan.ac_destinations slot 0) h.stands_in n ∙ a in
-    at-quantization (pass_of scan) (tables_of found scan) (get_or scan.dc_destinations slot 0)
+gives-coding said frame scan spare slot index c h q e m n dc ac d a =
+    let one = dc-needed said scan spare (get_or scan.dc_destinations slot 0) h.stands_in m ∙ d in
+    let two = ac-needed said scan spare (get_or scan.ac_destinations slot 0) h.stands_in n ∙ a in
+    at-quantization (pass_of scan) (tables_of said scan) (get_or scan.dc_destinations slot 0)
     (get_or scan.ac_destinations slot 0) h ∙ (rw (e, one, two, ← h.is_named) refl)
 
 -- the component at a place

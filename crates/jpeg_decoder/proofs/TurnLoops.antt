@@ -28,7 +28,7 @@ pub record IsWalked (header : Bool) (found : Found) (old : Stream) (turns : ℕ)
 -- one more turn
 pub walked-on : (header : Bool) (found : Found) (old : Stream) (turns : ℕ) (before : Before) (now : Found)
     (met : Option Marker) (cur new : Stream) (t : Turn) → IsWalked header found old turns before now met cur
-    → (header && is_some now.frame) ≡ false → t.ended ≡ false
+    → (header && is_some now.said.frame) ≡ false → t.ended ≡ false
     → (new.failed ≡ cur.failed) × (cur.known ≡ true → (new.known ≡ true)
     × (turn_at before now met cur.bytes ≡ Ok (t, new.bytes)))
     → IsWalked header found old (turns + 1) t.before t.found t.met new
@@ -65,7 +65,7 @@ walked-whole {old = old} {turns = turns} end w is k = walk-left w k ∙ is (leng
 -- a refusal of a turn
 pub walked-err : {X : Type 0} (view : X → Turn) (header : Bool) (found : Found) (old : Stream) (turns : ℕ)
     (before : Before) (now : Found) (met : Option Marker) (cur new : Stream) (left : Found) (e : Error)
-    → IsWalked header found old turns before now met cur → (header && is_some now.frame) ≡ false
+    → IsWalked header found old turns before now met cur → (header && is_some now.said.frame) ≡ false
     → Answers view (turn_at before now met) cur (Err e) new
     → Answers (λ (u : Unit {0}). left) (segments_at header Elsewhere found None) old (Err e) new
 walked-err {X} view header found old turns before now met cur new left e w none a =

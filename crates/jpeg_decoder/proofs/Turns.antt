@@ -100,7 +100,7 @@ pub frame-goes : (limit number : ℕ) (found : Found) (bytes : List ℕ) → len
     → On (IsOnward limit) (frame_segment number found bytes)
 unfolding frame_segment
 frame-goes limit number found bytes h =
-    on-else (IsOnward limit) (is_some found.frame) _ _ (
+    on-else (IsOnward limit) (is_some found.said.frame) _ _ (
     on-bind (IsOnward limit) limit (sof_at number bytes) _ (sof-below limit number bytes h) (λ f p.
     on-needs (IsOnward limit) (accepted f.0) _ (λ decoded. on-onward limit _ f.1 p)))
 
@@ -135,7 +135,7 @@ blocks-go : (limit : ℕ) (found : Found) (frame : Frame) (scan : Scan) (bytes :
     → On (Below limit) (blocks_scan found frame scan bytes)
 unfolding blocks_scan scan_arrays
 blocks-go limit found frame scan bytes p =
-    on-needs (Below limit) (codings_of found frame scan) _ (λ codings.
+    on-needs (Below limit) (codings_of found.said frame scan) _ (λ codings.
     on-bind (Below limit) limit (scan_arrays found frame scan codings bytes) _ (arrays-below limit _ _ _ _ _ bytes p)
     (λ read q.
     goes-passes limit (after_restarts (suc (length read.1)) read.0.1 read.1) _ (after-passes limit read.0.1 read.1 q)
@@ -146,7 +146,7 @@ samples-go : (limit : ℕ) (found : Found) (frame : Frame) (scan : Scan) (bytes 
     → On (Below limit) (lossless_scan found frame scan bytes)
 unfolding lossless_scan
 samples-go limit found frame scan bytes p =
-    on-needs (Below limit) (lossless_codings found.huffman.dc frame scan.components
+    on-needs (Below limit) (lossless_codings found.said.huffman.dc frame scan.components
     scan.dc_destinations) _ (λ codings.
     on-bind (Below limit) limit (scan_samples found frame scan codings bytes) _ (samples-below limit _ _ _ _ bytes p)
     (λ read q.
@@ -163,7 +163,7 @@ scan-goes : (limit : ℕ) (found : Found) (bytes : List ℕ) → length bytes �
     → On (Below limit) (scan_segment found bytes)
 unfolding scan_segment
 scan-goes limit found bytes h =
-    on-needs (Below limit) (needed found.frame) _ (λ frame.
+    on-needs (Below limit) (needed found.said.frame) _ (λ frame.
     on-bind (Below limit) limit (sos_at frame bytes) _ (sos-below limit frame bytes h) (λ scan p.
     process-goes limit frame.process found frame scan.0 scan.1 p))
 
@@ -222,7 +222,7 @@ pub turns-enough : (m n : ℕ) (header : Bool) (before : Before) (found : Found)
     → walk m header before found met bytes ≡ walk n header before found met bytes
 unfolding walk
 turns-enough (suc m) (suc n) header before found met bytes none p q =
-    cond-same (header && is_some found.frame) _ _ _ (λ _.
+    cond-same (header && is_some found.said.frame) _ _ _ (λ _.
     turn-same (turn_at before found met bytes) _ _ _ (λ t is.
     cond-same t.0.ended _ _ _ (λ on.
     let took = turn-takes before found met bytes t none is on in
@@ -242,7 +242,7 @@ pub told-start : (header : Bool) (bytes rest : List ℕ) → start_at bytes ≡ 
 told-start header bytes rest e =
     let few : length rest < suc (length bytes) = below-at _ _ _ (start-below bytes) e in
     turns-start (suc (length bytes)) header bytes rest e
-    ∙ ap (λ (w : Walked). told_of w.0)
+    ∙ ap (λ (w : Walked). told_of w.0.said)
     (turns-enough (suc (length bytes)) (suc (length rest)) header Elsewhere nothing_found None rest refl few (omega arith))
 
 -- While a header is read on, the frame is not read yet.

@@ -19,15 +19,15 @@ use Rattle.jpeg_segments.specs.WrittenSegments.{FrameHeader, frame_written, Head
 use Rattle.jpeg_segments.proofs.HeaderRules.{header-rules}
 use Rattle.jpeg_streams.specs.declared.settings.Settings.{Settings}
 use Rattle.jpeg_streams.specs.LosslessScans.{with_samples}
-use Rattle.jpeg_streams.specs.SaidSegments.{found_after, Stands}
+use Rattle.jpeg_streams.specs.SaidSegments.{said_after, Stands}
 use Rattle.jpeg_streams.specs.Found.{nothing_found, Found}
 use Rattle.jpeg_streams.specs.Stream.{header_at, rest_at, meaning, sized_meaning, sized_to, Told}
 use Rattle.jpeg_streams.specs.WrittenLossless.{IsLossless, Samples, SendsSamples, WritesSamples}
 use Rattle.jpeg_streams.proofs.ReadTurns.{then-ok}
 use Rattle.jpeg_streams.proofs.LosslessFrames.{IsShaped, header-shaped}
-use Rattle.jpeg_streams.proofs.WalkedStreams.{FindsScan, header-read, IsMeant, IsRead, IsSaid, stream-read}
+use Rattle.jpeg_streams.proofs.WalkedStreams.{beside, FindsScan, header-read, IsMeant, IsRead, IsSaid, stream-read}
 use Rattle.jpeg_decoder.proofs.HeaderThenRest.{header-means}
-use Rattle.jpeg_decoder.proofs.WrittenSamples.{and_samples, indices_of, planes_for, scan-read}
+use Rattle.jpeg_decoder.proofs.WrittenSamples.{bring_samples, indices_of, planes_for, scan-read}
 use Rattle.jpeg_decoder.proofs.LosslessReads.{all-below}
 
 -- ---- samples that are decided
@@ -117,7 +117,7 @@ all-in P (k ∷ ks) sent h e = (one-kept P k sent h e.0, all-in P ks sent h e.1)
 -- ---- scans
 
 -- what is decided where scans have had these components
-pub record Holds (samples : Samples) (said : Found) (sent : List ℕ) (decided : List (Option (List ℕ))) : Type 0 where
+pub record Holds (samples : Samples) (said : Said) (sent : List ℕ) (decided : List (Option (List ℕ))) : Type 0 where
   four : length decided ≡ 4
   pub kept : AreKept samples decided sent
 
@@ -130,16 +130,16 @@ indices-below frame h is = recursion_from_All _ _ (header-rules frame h is).comp
 abbrev pub IsSampled : Frame → Type 0
 IsSampled f = IsShaped f × (f.process ≡ Lossless)
 
-pub header-said : (said : Found) (number : ℕ) (h : FrameHeader) → Stands said (Header number h)
+pub header-said : (said : Said) (number : ℕ) (h : FrameHeader) → Stands said (Header number h)
     → IsLossless (Header number h) → IsSampled (frame_written number h)
 unfolding frame_of
 header-said said number h stands is =
     (header-shaped number h stands.0.1 stands.1, ap (λ (n : ℕ). (frame_written n h).process) is)
 
-scan-found : (samples : Samples) (said : Found) (sent next : List ℕ) (decided : List (Option (List ℕ))) (f : Frame)
+scan-found : (samples : Samples) (said : Said) (sent next : List ℕ) (decided : List (Option (List ℕ))) (f : Frame)
     (h : ScanHeader) (bytes : List ℕ) → IsSaid IsSampled said → said.frame ≡ Some f → IsScan f h
     → SendsSamples samples said sent f h bytes next → Holds samples said sent decided
-    → FindsScan and_samples (Holds samples) said next decided h bytes
+    → FindsScan bring_samples (Holds samples) said next decided h bytes
 scan-found samples said sent next decided f h bytes is framed header x held =
     let frame = is.shaped f framed in
     let few = frame.0.few in
@@ -158,50 +158,49 @@ scan-found samples said sent next decided f h bytes is framed header x held =
     }
 
 samples-read : (samples : Samples)
-    → IsRead (λ said s. IsLossless s) (SendsSamples samples) IsSampled and_samples (Holds samples)
+    → IsRead (λ said s. IsLossless s) (SendsSamples samples) IsSampled bring_samples (Holds samples)
 samples-read samples = record {
-  frame_beside = λ said x. refl;
-  said_beside = λ said x s. search rules;
   shaped = header-said;
   holds = λ said sent x s stands may held. record { four = held.four; kept = held.kept };
   reads = scan-found samples;
 }
 
 -- where a stream of samples may end
-abbrev pub MayEndSamples : Found → List ℕ → Frame → Type 0
+abbrev pub MayEndSamples : Said → List ℕ → Frame → Type 0
 MayEndSamples said sent frame =
     AllByRecursion (λ k. names sent k ≡ true) (range_with_len 0 (length frame.components))
 
-abbrev pub AreMeant : Settings → Samples → Found → List ℕ → List ℕ → Outcome (Told × List ℕ) → Type 0
+abbrev pub AreMeant : Settings → Samples → Said → List ℕ → List ℕ → Outcome (Told × List ℕ) → Type 0
 AreMeant settings samples final sent tail meant =
-    IsMeant IsSampled and_samples (Holds samples) MayEndSamples settings final sent tail meant
+    IsMeant IsSampled bring_samples (Holds samples) MayEndSamples settings final sent tail meant
 
 -- ---- the whole
 
-pub samples-walked : (settings : Settings) (samples : Samples) (bytes rest : List ℕ) (final : Found)
+pub samples-walked : (settings : Settings) (samples : Samples) (bytes rest : List ℕ) (final : Said)
     → (w : WritesSamples samples bytes final)
     → AreMeant settings samples final w.sent rest (meaning settings (bytes ++ rest))
-unfolding nothing_found
+unfolding nothing_found nothing_said
 samples-walked settings samples bytes rest final w =
     stream-read MayEndSamples (samples-read samples) rest [] w.sent bytes final (replicate 4 None) settings w.written
     refl (record { four = refl; kept = tt })
 
 -- lossless frames keep their size
-keeps-size : (width height : ℕ) (found : Found) (frame : Frame) → found.frame ≡ Some frame
-    → frame.process ≡ Lossless → sized_to width height found ≡ found
-keeps-size width height found frame framed lossless = grind (arith, common_steps)
+keeps-size : (width height : ℕ) (said : Said) (frame : Frame) → said.frame ≡ Some frame
+    → frame.process ≡ Lossless → sized_to width height said ≡ said
+keeps-size width height said frame framed lossless = grind (arith, common_steps)
 
-pub sized-walked : (width height : ℕ) (settings : Settings) (samples : Samples) (bytes rest : List ℕ) (final : Found)
+pub sized-walked : (width height : ℕ) (settings : Settings) (samples : Samples) (bytes rest : List ℕ) (final : Said)
     → (w : WritesSamples samples bytes final)
     → AreMeant settings samples final w.sent rest (sized_meaning width height settings (bytes ++ rest))
-unfolding sized_meaning nothing_found
+unfolding sized_meaning nothing_found nothing_said
 sized-walked width height settings samples bytes rest final w =
     let r = header-read MayEndSamples (samples-read samples) rest [] w.sent bytes final (replicate 4 None) w.written refl in
-    let header = and_samples (found_after r.0.between (Header r.0.number r.0.header)) (replicate 4 None) in
+    let said = said_after r.0.between (Header r.0.number r.0.header) in
+    let header = beside bring_samples said (replicate 4 None) in
     let left = r.0.left ++ rest in
     let all = samples-walked settings samples bytes rest final w in (
       all.0,
       then-ok (header_at (bytes ++ rest)) _ (header, left) _ r.1
-          (ap (λ (f : Found). rest_at settings f left) (keeps-size width height header _ refl (r.0.said.shaped _ refl).1)
+          (ap (λ (s : Said). rest_at settings (beside bring_samples s (replicate 4 None)) left) (keeps-size width height said _ refl (r.0.said.shaped _ refl).1)
           ∙ sym (header-means settings header (bytes ++ rest) left r.1) ∙ all.1),
     )

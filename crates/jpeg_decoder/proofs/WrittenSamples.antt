@@ -42,9 +42,9 @@ use Rattle.jpeg_streams.proofs.LosslessSizes.{IsMade, all-at, all-covered}
 use Rattle.jpeg_streams.proofs.SaidTables.{HasTables, table-there}
 use Rattle.std.proofs.lemmas.Grind.{common_steps}
 
--- what was said, with the samples that scans have given
-abbrev pub and_samples : Found → List (Option (List ℕ)) → Found
-and_samples said samples = record said { samples = samples }
+-- the samples that scans have given
+abbrev pub bring_samples : List (Option (List ℕ)) → Found
+bring_samples samples = record nothing_found { samples = samples }
 
 -- ---- the lines of a component
 
@@ -82,7 +82,7 @@ record AreFound (frame : Frame) (choices : List (ℕ × Selector)) (codings : Li
   made : AllByRecursion (λ k. IsMade frame k.component) codings
   tables : AllByRecursion (λ k. IsTable k.table) codings
 
-codings-found : (said : Found) (frame : Frame) (choices : List (ℕ × Selector)) (codings : List LosslessCoding)
+codings-found : (said : Said) (frame : Frame) (choices : List (ℕ × Selector)) (codings : List LosslessCoding)
     → AllByRecursion (IsMade frame) frame.components → HasTables said.huffman
     → lossless_codings said.huffman.dc frame (indices_of choices) (map (λ s. s.dc) (map (λ c. c.1) choices))
     ≡ Ok codings → AreFound frame choices codings
@@ -168,7 +168,7 @@ samples-are samples all wide high _ _ _ are stand cover have hold = absurd hold
 -- ---- the data
 
 -- The scan of data and a marker after it; the samples have their sizes.
-data-read : (said : Found) (frame : Frame) (h : ScanHeader) (samples : Samples) (bytes rest : List ℕ)
+data-read : (said : Said) (frame : Frame) (h : ScanHeader) (samples : Samples) (bytes rest : List ℕ)
     (fill code : ℕ) (m : Marker)
     (w : WritesSamplesScan said frame h samples bytes) → IsShaped frame → HasTables said.huffman →
     marker_of code ≡ Some m
@@ -197,7 +197,7 @@ data-read said frame h samples bytes rest fill code m w is all makes =
       are.1,
     )
 
-pub scan-sized : (said : Found) (frame : Frame) (h : ScanHeader) (samples : Samples) (bytes : List ℕ)
+pub scan-sized : (said : Said) (frame : Frame) (h : ScanHeader) (samples : Samples) (bytes : List ℕ)
     → IsShaped frame → HasTables said.huffman → WritesSamplesScan said frame h samples bytes
     → AllByRecursion (SizedAt samples frame.components) (indices_of h.choices)
 unfolding marker_of
@@ -216,19 +216,19 @@ predictor-of : (frame : Frame) (h : ScanHeader) → frame.process ≡ Lossless
 unfolding scan_of
 predictor-of frame h e = ap (λ (p : CodingProcess). predictor_of p h.first) e
 
-abbrev by : Found → Frame → List LosslessCoding → List ℕ → Predictor → ℕ → Outcome (List (List ℕ) × Option Marker)
+abbrev by : Said → Frame → List LosslessCoding → List ℕ → Predictor → ℕ → Outcome (List (List ℕ) × Option Marker)
 by said frame codings bytes predictor point =
     scan_at (way_of frame predictor point codings) (mcus_down frame codings) said.restart point bytes
 
-pub scan-read : (said : Found) (decided : List (Option (List ℕ))) (frame : Frame) (h : ScanHeader)
+pub scan-read : (said : Said) (decided : List (Option (List ℕ))) (frame : Frame) (h : ScanHeader)
     (samples : Samples) (bytes rest : List ℕ)
     (fill code : ℕ) (m : Marker) → WritesSamplesScan said frame h samples bytes → said.frame ≡ Some
     frame → IsScan frame h
     → frame.process ≡ Lossless → IsShaped frame → HasTables said.huffman → marker_of code ≡ Some m → IsEnd m
-    → scan_segment (and_samples said decided) (with_length (scan_payload h) ++ (bytes ++ marker
+    → scan_segment (beside bring_samples said decided) (with_length (scan_payload h) ++ (bytes ++ marker
     fill code rest))
     ≡ Ok (
-      scan_turn said (and_samples (record said { scanned = true })
+      scan_turn (beside bring_samples said decided) (beside bring_samples (record said { scanned = true })
           (with_samples (indices_of h.choices) (planes_for samples (indices_of h.choices)) decided)) (Some m),
       rest,
     )

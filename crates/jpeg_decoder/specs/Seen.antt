@@ -5,7 +5,7 @@ use Rattle.jpeg_decoder.specs.declared.state.State.{State}
 use Rattle.jpeg_decoder.specs.declared.metadata.Metadata as declared
 use Rattle.jpeg_decoder.specs.PlanesView.{planes_in}
 use Rattle.jpeg_decoder.specs.Scanning.{arrays_in}
-use Rattle.jpeg_streams.specs.Found.{Found, Metadata}
+use Rattle.jpeg_streams.specs.Found.{Found, Metadata, Said}
 use Rattle.std.specs.declared.alloc.Global.{Global}
 use Rattle.std.specs.declared.vec.Vec.{Vec}
 
@@ -23,14 +23,19 @@ metadata_in m = record {
   icc = map chunk_in m.icc.items;
 }
 
-abbrev pub found_in : State → Found
-found_in s = record {
+abbrev pub said_in : State → Said
+said_in s = record {
   frame = option_map frame_in s.frame;
   quantization = s.quantization;
   huffman = record { dc = s.dc_tables; ac = s.ac_tables };
   restart = s.restart_interval;
   scanned = s.scanned;
   metadata = metadata_in s.metadata;
+}
+
+abbrev pub found_in : State → Found
+found_in s = record {
+  said = said_in s;
   kept = arrays_in s.decoded.kept.items;
   finished = s.decoded.finished;
   planes = s.decoded.planes;

@@ -35,10 +35,10 @@ use Rattle.jpeg_bits.specs.declared.codes.HuffmanTableClass.TheVariants as class
 use Rattle.jpeg_segments.specs.Checks.{needed}
 use Rattle.jpeg_streams.specs.ScanSegments.{component_coding, components_of, Coding, tables_of}
 use Rattle.jpeg_streams.specs.ScanSegments.{pass_of, after_restarts, finished_by}
-use Rattle.jpeg_streams.specs.ScanSegments.{blocks_after, with_arrays, decided, arrays_before}
+use Rattle.jpeg_streams.specs.ScanSegments.{blocks_after, with_arrays, decided, arrays_before, once_scanned}
 use Rattle.jpeg_streams.specs.ScanSegments.{vias_from, after_samples, scan_samples}
 use Rattle.jpeg_streams.specs.Segments.{Turn}
-use Rattle.jpeg_streams.specs.Found.{Found, none_finished}
+use Rattle.jpeg_streams.specs.Found.{Found, none_finished, Said}
 use Rattle.jpeg_streams.specs.LosslessScans.{lossless_codings}
 use Rattle.jpeg_streams.specs.Sound.{IsSound, IsUnread}
 use Rattle.jpeg_streams.specs.Stream.{told_of}
@@ -56,11 +56,11 @@ turn_of s step =
 -- that a caller is told; an image ends with a frame; a frame that was read stays; and what holds
 -- between segments still does.
 pub record IsStep (old : Found) (result : Result Step Error) (new : Found) : Type 0 where
-  pub kept : OnErr result (told_of new ≡ told_of old)
-  pub framed : IfOk result (λ s. s.ended ≡ true → is_some new.frame ≡ true)
-  pub stays : is_some old.frame ≡ true → new.frame ≡ old.frame
+  pub kept : OnErr result (told_of new.said ≡ told_of old.said)
+  pub framed : IfOk result (λ s. s.ended ≡ true → is_some new.said.frame ≡ true)
+  pub stays : is_some old.said.frame ≡ true → new.said.frame ≡ old.said.frame
   pub sound : IsSound old → OnOk result (IsSound new)
-  pub unread : old.frame ≡ None → IsUnread old → OnOk result (IsUnread new)
+  pub unread : old.said.frame ≡ None → IsUnread old → OnOk result (IsUnread new)
 
 -- ---- after a scan
 
@@ -114,16 +114,16 @@ abbrev pub HasScale : Component → Type 0
 HasScale c = is_scale c.scale ≡ true
 
 -- the component in a slot of a scan
-abbrev pub coding_in_slot : Found → Frame → headers.Scan → ℕ → Result Coding Fault
-coding_in_slot found frame scan slot =
-    component_coding found frame (pass_of scan) (tables_of found scan)
+abbrev pub coding_in_slot : Said → Frame → headers.Scan → ℕ → Result Coding Fault
+coding_in_slot said frame scan slot =
+    component_coding said frame (pass_of scan) (tables_of said scan)
     (get_or scan.components slot 0)
     (get_or scan.dc_destinations slot 0) (get_or scan.ac_destinations slot 0)
 
 -- The spare tables of a scan: the default ones by what was said, and those without codes.
-pub record IsSpareOf (found : Found) (scan : headers.Scan) (spare : Spare) : Type 0 where
-  pub dc : spare.dc.items ≡ default_dc found.metadata.avi1 scan.dc_destinations
-  pub ac : spare.ac.items ≡ default_ac found.metadata.avi1 scan.ac_destinations
+pub record IsSpareOf (said : Said) (scan : headers.Scan) (spare : Spare) : Type 0 where
+  pub dc : spare.dc.items ≡ default_dc said.metadata.avi1 scan.dc_destinations
+  pub ac : spare.ac.items ≡ default_ac said.metadata.avi1 scan.ac_destinations
   pub no_dc : spare.no_dc ≡ no_table classes.DC
   pub no_ac : spare.no_ac ≡ no_table classes.AC
 
@@ -173,13 +173,12 @@ blocks_at codings kept = map (λ c. get_or kept c.index []) codings
 unfoldable pub scan_data : Found → Frame → Pass → List Coding → List ℕ
     → Outcome (Found × Option Marker)
 scan_data found frame p codings bytes = do
-  r ← arrays_at p (found.restart * mcu_size (components_of codings)) (vias_from 0 codings)
+  r ← arrays_at p (found.said.restart * mcu_size (components_of codings)) (vias_from 0 codings)
       (spots_of frame (components_of codings))
       (blocks_at codings (arrays_before found frame)) bytes
   Ok (
     (
-      with_arrays p codings r.0.0 (record found {
-        scanned = true;
+      with_arrays p codings r.0.0 (record (once_scanned found) {
         kept = blocks_after found frame codings r.0.0;
       }),
       r.0.1,
@@ -203,7 +202,7 @@ IsCodingOf frame c = slice_get frame.components c.index ≡ Some c.component
 
 -- What a scan of a frame needs to be read, by what was found before.
 pub record IsReadable (frame : Frame) (found : Found) (scan : Scan) : Type 0 where
-  pub restart : scan.restart_interval ≡ found.restart
+  pub restart : scan.restart_interval ≡ found.said.restart
   pub some : 1 ≤ length scan.components.items
   pub indices : All HasIndex scan.components.items
   pub fits : AllByRecursion (Fits frame) (components_in scan.components.items)
@@ -245,7 +244,7 @@ IsDct Lossless = ⊥
 unfoldable pub samples_read : Found → Frame → headers.Scan → List ℕ
     → Outcome (Found × Option Marker)
 samples_read found frame scan bytes = do
-  codings ← lossless_codings found.huffman.dc frame scan.components scan.dc_destinations
+  codings ← lossless_codings found.said.huffman.dc frame scan.components scan.dc_destinations
   r ← scan_samples found frame scan codings bytes
   met ← after_all r.0.1 r.1
   Ok ((after_samples found codings r.0.0, met.0), met.1)

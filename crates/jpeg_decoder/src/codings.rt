@@ -222,13 +222,13 @@ fn coding_of<'a>(
     requires slot { slot < length (scan_in header.now).components }
     requires legal { IsScanOf (frame_in frame.now) (scan_in header.now) }
     requires scales { AllByRecursion HasScale (frame_in frame.now).components }
-    requires spare { IsSpareOf (found_in state.now) (scan_in header.now) spare.now }
-    ensures coding { let found = found_in state.now in
+    requires spare { IsSpareOf (said_in state.now) (scan_in header.now) spare.now }
+    ensures coding { let said = said_in state.now in
         let frame = frame_in frame.now in
         let scan = scan_in header.now in
         MatchResult result
-        (λ c. coding_in_slot found frame scan slot ≡ Ok (coding_in c))
-        (λ e. IsRefusal e × Names e (coding_in_slot found frame scan slot)) }
+        (λ c. coding_in_slot said frame scan slot ≡ Ok (coding_in c))
+        (λ e. IsRefusal e × Names e (coding_in_slot said frame scan slot)) }
 {
     let index = header.component_indices[slot];
     let component = frame.components.get(index);
@@ -269,13 +269,13 @@ pub fn codings_of<'a>(
 ) -> Result<Vec<Coded<'a>>>
     requires legal { IsScanOf (frame_in frame.now) (scan_in header.now) }
     requires scales { AllByRecursion HasScale (frame_in frame.now).components }
-    requires spare { IsSpareOf (found_in state.now) (scan_in header.now) spare.now }
-    ensures codings { let found = found_in state.now in
+    requires spare { IsSpareOf (said_in state.now) (scan_in header.now) spare.now }
+    ensures codings { let said = said_in state.now in
         let frame = frame_in frame.now in
         let scan = scan_in header.now in
         MatchResult result
-        (λ v. codings_of found frame scan ≡ Ok (map coding_in v.items))
-        (λ e. IsRefusal e × Names e (codings_of found frame scan)) }
+        (λ v. codings_of said frame scan ≡ Ok (map coding_in v.items))
+        (λ e. IsRefusal e × Names e (codings_of said frame scan)) }
     ensures count { IfOk result (λ v. length v.items ≡ length (scan_in header.now).components) }
 {
     let mut codings = Vec::with_capacity(alloc, header.component_indices.len())?;

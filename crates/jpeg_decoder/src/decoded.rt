@@ -451,7 +451,7 @@ impl Decoded {
         requires kept { AreArrays (frame_in frame.now).components
             (arrays_before (with_decoded (found_in state.now) self.old) (frame_in frame.now)) }
         ensures data { Answers (λ m.
-            (record (with_decoded (found_in state.now) self.new) { scanned = true }, m))
+            (once_scanned (with_decoded (found_in state.now) self.new), m))
             (scan_data (with_decoded (found_in state.now) self.old) (frame_in frame.now)
             (pass_in scan.now.pass) (map coding_in scan.now.components.items))
             source.old result source.new }
@@ -501,7 +501,7 @@ impl Decoded {
         requires decided { All (λ c. is_some (slice_index_or self.now.planes
             c.index None) ≡ true) scan.now.components.items }
         ensures data { Answers (λ m.
-            (record (with_decoded (found_in state.now) self.new) { scanned = true }, m))
+            (once_scanned (with_decoded (found_in state.now) self.new), m))
             (scan_data (with_decoded (found_in state.now) self.old) (frame_in frame.now)
             (pass_in scan.now.pass) (map coding_in scan.now.components.items))
             source.old result source.new }
@@ -536,12 +536,12 @@ impl Decoded {
         requires kept { AreArrays (frame_in frame.now).components
             (arrays_before (with_decoded (found_in state.now) self.old) (frame_in frame.now)) }
         ensures data { Answers (λ m.
-            (record (with_decoded (found_in state.now) self.new) { scanned = true }, m))
+            (once_scanned (with_decoded (found_in state.now) self.new), m))
             (scan_data (with_decoded (found_in state.now) self.old) (frame_in frame.now)
             (pass_in scan.now.pass) (map coding_in scan.now.components.items))
             source.old result source.new }
         ensures kept { OnOk result (AreArrays (frame_in frame.now).components
-            (arrays_before (record (with_decoded (found_in state.now) self.new) { scanned = true })
+            (arrays_before (once_scanned (with_decoded (found_in state.now) self.new))
             (frame_in frame.now))) }
         ensures planes { ArePlanes (frame_in frame.now).components self.old.planes
             → OnOk result (ArePlanes (frame_in frame.now).components self.new.planes) }

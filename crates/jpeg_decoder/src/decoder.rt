@@ -99,9 +99,9 @@ fn size_frame(frame: &mut FrameInfo, width: u16, height: u16) -> (u16, u16)
 #[tactic(auto, using(jpeg_streams::proofs::Soundness::scaled_rules))]
 fn scale_state(state: &mut State, width: u16, height: u16) -> Option<(u16, u16)>
     requires frames { HasDecodedFrame (found_in state.old) }
-    ensures found { found_in state.new ≡ sized_to width height (found_in state.old) }
-    ensures none { IfNone result ((found_in state.old).frame ≡ None) }
-    ensures size { IfSome result (λ size. IfSome (found_in state.new).frame (λ f. (f.output_width
+    ensures found { found_in state.new ≡ with_said (sized_to width height) (found_in state.old) }
+    ensures none { IfNone result ((found_in state.old).said.frame ≡ None) }
+    ensures size { IfSome result (λ size. IfSome (found_in state.new).said.frame (λ f. (f.output_width
         ≡ size.0) × (f.output_height ≡ size.1))) }
     ensures frames { HasDecodedFrame (found_in state.new) }
     ensures sound { IsSound (found_in state.old) → IsUnread (found_in state.old)
@@ -115,12 +115,12 @@ fn scale_state(state: &mut State, width: u16, height: u16) -> Option<(u16, u16)>
 
 /// Returns how many bytes the picture takes, where so many are enough for it, and else `Internal`.
 fn size_within(state: &State, room: usize) -> Result<usize>
-    requires framed { is_some (found_in state.now).frame ≡ true }
+    requires framed { is_some (found_in state.now).said.frame ≡ true }
     requires frames { HasDecodedFrame (found_in state.now) }
-    ensures size { IfOk result (λ n. IfSome (found_in state.now).frame (λ f. n ≡ picture_size f)) }
+    ensures size { IfOk result (λ n. IfSome (found_in state.now).said.frame (λ f. n ≡ picture_size f)) }
     ensures room { IfOk result (λ n. n ≤ room) }
-    ensures has_room { OnOk result (HasRoom (found_in state.now).frame room) }
-    ensures short { OnErr result (HasRoom (found_in state.now).frame room → ⊥) }
+    ensures has_room { OnOk result (HasRoom (found_in state.now).said.frame room) }
+    ensures short { OnErr result (HasRoom (found_in state.now).said.frame room → ⊥) }
     ensures err { IfErr result IsInternal }
 {
     let Some(frame) = &state.frame else {
@@ -135,7 +135,7 @@ fn size_within(state: &State, room: usize) -> Result<usize>
 
 /// Drops what scans have given.
 fn drop_decoded(state: &mut State, alloc: Global)
-    ensures told { told_of (found_in state.new) ≡ told_of (found_in state.old) }
+    ensures told { told_of (found_in state.new).said ≡ told_of (found_in state.old).said }
     ensures emptied { ((found_in state.new).kept ≡ [])
         × ((found_in state.new).planes ≡ replicate 4 None)
         × ((found_in state.new).samples ≡ replicate 4 None) }
@@ -180,7 +180,7 @@ impl<R: Read + Drop> Model for Decoder<R> {
     // A fresh decoder has found nothing. One whose header was read has a frame, which is decoded;
     // and until it is decoded no scan was read.
     ghost invariant = { λ d. (d.progress ≡ Fresh → found_in d.state ≡ nothing_found)
-        × (HasHeader d.progress → is_some (found_in d.state).frame ≡ true)
+        × (HasHeader d.progress → is_some (found_in d.state).said.frame ≡ true)
         × (HasHeader d.progress → HasDecodedFrame (found_in d.state))
         × (d.progress ≡ HeaderRead → IsSound (found_in d.state)
         × IsUnread (found_in d.state)) };
@@ -212,7 +212,7 @@ impl<R: Read + Drop> Decoder<R> {
 
     /// Returns the size and the format of the picture, once a frame was accepted, in every state.
     pub fn info(&self) -> Option<ImageInfo>
-        ensures { result ≡ option_map info_of self.now.found.frame }
+        ensures { result ≡ option_map info_of self.now.found.said.frame }
     {
         self.state.frame.as_ref().map(|frame| info_of(frame))
     }
@@ -225,7 +225,7 @@ impl<R: Read + Drop> Decoder<R> {
     /// samples of that many bytes each. `PixelFormat::pixel_bytes` knows nothing of it for three or
     /// four components.
     pub fn precision(&self) -> Option<u8>
-        ensures { result ≡ option_map (λ f. f.precision) self.now.found.frame }
+        ensures { result ≡ option_map (λ f. f.precision) self.now.found.said.frame }
     {
         self.state.frame.as_ref().map(|frame| frame.precision)
     }
@@ -247,7 +247,7 @@ impl<R: Read + Drop> Decoder<R> {
     /// isn't.
     pub fn decoding_bytes(&self) -> Option<DecodingBytes>
         ensures header { HasHeader self.now.stage
-            → result ≡ option_map decoding_bytes self.now.found.frame }
+            → result ≡ option_map decoding_bytes self.now.found.said.frame }
         ensures none { (HasHeader self.now.stage → ⊥) → result ≡ None }
     {
         match self.progress {
@@ -293,7 +293,7 @@ impl<R: Read + Drop> Decoder<R> {
 
     /// Returns the last Exif data that was read. It does so in every state.
     pub fn exif_data(&self) -> Option<&[u8]>
-        ensures { option_copied result ≡ self.now.found.metadata.exif }
+        ensures { option_copied result ≡ self.now.found.said.metadata.exif }
     {
         self.state
             .metadata
@@ -304,7 +304,7 @@ impl<R: Read + Drop> Decoder<R> {
 
     /// Returns the last XMP data that was read. It does so in every state.
     pub fn xmp_data(&self) -> Option<&[u8]>
-        ensures { option_copied result ≡ self.now.found.metadata.xmp }
+        ensures { option_copied result ≡ self.now.found.said.metadata.xmp }
     {
         self.state
             .metadata
@@ -317,7 +317,7 @@ impl<R: Read + Drop> Decoder<R> {
     /// error is `OutOfMemory`.
     pub fn icc_profile(&self) -> Result<Option<Vec<u8>>>
         ensures { MatchResult result (λ o. option_map (λ v. v.items) o
-            ≡ profile_of self.now.found.metadata.icc) (λ e. e ≡ OutOfMemory) }
+            ≡ profile_of self.now.found.said.metadata.icc) (λ e. e ≡ OutOfMemory) }
     {
         profile(self.alloc, self.state.metadata.icc.as_slice())
     }
@@ -333,14 +333,14 @@ impl<R: Read + Drop> Decoder<R> {
         ensures reads { self.old.stage ≡ Fresh → Answers (λ _. self.new.found) header_at
             self.old.source result self.new.source }
         ensures told { self.old.stage ≡ Fresh → OnTold self.old.source self.new.source result
-            (told_of self.new.found ≡ told_ahead true self.old.stage self.old.found
+            (told_of self.new.found.said ≡ told_ahead true self.old.stage self.old.found
             self.old.source.bytes) }
         ensures turns { self.old.stage ≡ Fresh → self.old.source.known ≡ true
             → IsOfTurns (λ n. turns_ahead n true self.old.stage self.old.found
-            self.old.source.bytes) (told_of self.new.found) }
+            self.old.source.bytes) (told_of self.new.found.said) }
         ensures settings { self.new.settings ≡ self.old.settings }
         ensures still { (self.old.stage ≡ Fresh → ⊥) → self.new ≡ self.old }
-        ensures framed { IfOk result (λ _. is_some self.new.found.frame ≡ true) }
+        ensures framed { IfOk result (λ _. is_some self.new.found.said.frame ≡ true) }
     {
         let result = match self.progress {
             Progress::Fresh => read_header(self.alloc, &mut self.source, &mut self.state),
@@ -364,18 +364,18 @@ impl<R: Read + Drop> Decoder<R> {
             (sized_header_at requested_width requested_height) self.old.source result
             self.new.source }
         ensures told { self.old.stage ≡ Fresh → OnToldRefusal self.old.source self.new.source result
-            (told_of self.new.found ≡ told_ahead true self.old.stage self.old.found
+            (told_of self.new.found.said ≡ told_ahead true self.old.stage self.old.found
             self.old.source.bytes) }
         ensures turns { self.old.stage ≡ Fresh → self.old.source.known ≡ true
             → OnErr result (IsOfTurns (λ n. turns_ahead n true self.old.stage self.old.found
-            self.old.source.bytes) (told_of self.new.found)) }
+            self.old.source.bytes) (told_of self.new.found.said)) }
         ensures scaled { (self.old.stage ≡ Fresh → ⊥)
             → OnOk result (self.new ≡ record self.old
-            { found = sized_to requested_width requested_height self.old.found }) }
+            { found = with_said (sized_to requested_width requested_height) self.old.found }) }
         ensures still { (self.old.stage ≡ Fresh → ⊥) → OnErr result (self.new ≡ self.old) }
-        ensures size { IfOk result (λ size. IfSome self.new.found.frame (λ f. (f.output_width
+        ensures size { IfOk result (λ size. IfSome self.new.found.said.frame (λ f. (f.output_width
             ≡ size.0) × (f.output_height ≡ size.1))) }
-        ensures framed { IfOk result (λ _. is_some self.new.found.frame ≡ true) }
+        ensures framed { IfOk result (λ _. is_some self.new.found.said.frame ≡ true) }
         ensures settings { self.new.settings ≡ self.old.settings }
     {
         self.read_info()?;
@@ -403,7 +403,7 @@ impl<R: Read + Drop> Decoder<R> {
         ensures stage { MovesToEnd self.old.stage self.new.stage result }
 
         // For any bytes, the answer is what they mean by T.81, or the name of their fault.
-        ensures reads { IsReading self.old.stage → Answers (λ v. (told_of self.new.found, v.items))
+        ensures reads { IsReading self.old.stage → Answers (λ v. (told_of self.new.found.said, v.items))
             (ahead self.old.stage self.old.settings self.old.found) self.old.source result
             self.new.source }
 
@@ -415,13 +415,13 @@ impl<R: Read + Drop> Decoder<R> {
 
         // A caller is then given what the segments up to the end or the fault have said.
         ensures told { IsReading self.old.stage → OnTold self.old.source self.new.source result
-            (told_of self.new.found ≡ told_ahead false self.old.stage self.old.found
+            (told_of self.new.found.said ≡ told_ahead false self.old.stage self.old.found
             self.old.source.bytes) }
 
         // The same after `OutOfMemory` or a failed read, of some first segments, each whole.
         ensures turns { IsReading self.old.stage → self.old.source.known ≡ true
             → IsOfTurns (λ n. turns_ahead n false self.old.stage self.old.found
-            self.old.source.bytes) (told_of self.new.found) }
+            self.old.source.bytes) (told_of self.new.found.said) }
 
         // No blocks, planes or samples are kept.
         ensures emptied { IsReading self.old.stage → (self.new.found.kept ≡ [])
@@ -435,17 +435,17 @@ impl<R: Read + Drop> Decoder<R> {
         ensures still { (IsReading self.old.stage → ⊥) → self.new ≡ self.old }
 
         // The frame that `read_info` read stays.
-        ensures stays { self.old.stage ≡ HeaderRead → self.new.found.frame ≡ self.old.found.frame }
+        ensures stays { self.old.stage ≡ HeaderRead → self.new.found.said.frame ≡ self.old.found.said.frame }
 
         // After an Ok there is a frame, so that `info` answers.
-        ensures framed { IfOk result (λ _. is_some self.new.found.frame ≡ true) }
+        ensures framed { IfOk result (λ _. is_some self.new.found.said.frame ≡ true) }
 
         // The picture has one sample of each component for each pixel, of one byte or two by the
         // frame's precision; of blocks, so many bytes as `pixel_bytes` says.
-        ensures size { IfOk result (λ v. IsWhole self.new.found.frame v.items) }
+        ensures size { IfOk result (λ v. IsWhole self.new.found.said.frame v.items) }
 
         // There are as many samples as the format of `info` says.
-        ensures counted { IfOk result (λ _. IsCounted self.new.found.frame) }
+        ensures counted { IfOk result (λ _. IsCounted self.new.found.said.frame) }
     {
         let header = match self.progress {
             Progress::Fresh | Progress::HeaderRead => self.read_info(),
@@ -471,32 +471,32 @@ impl<R: Read + Drop> Decoder<R> {
     /// `pixels` is as it was.
     pub fn decode_into(&mut self, pixels: &mut [u8]) -> Result<usize>
         // Where there is room for the picture, all is as for `decode`.
-        ensures stage { HasRoom self.new.found.frame (length pixels.old)
+        ensures stage { HasRoom self.new.found.said.frame (length pixels.old)
             → MovesToEnd self.old.stage self.new.stage result }
-        ensures reads { HasRoom self.new.found.frame (length pixels.old)
-            → IsReading self.old.stage → Answers (λ n. (told_of self.new.found, take n pixels.new))
+        ensures reads { HasRoom self.new.found.said.frame (length pixels.old)
+            → IsReading self.old.stage → Answers (λ n. (told_of self.new.found.said, take n pixels.new))
             (ahead self.old.stage self.old.settings self.old.found) self.old.source result
             self.new.source }
-        ensures images { HasRoom self.new.found.frame (length pixels.old)
+        ensures images { HasRoom self.new.found.said.frame (length pixels.old)
             → DecodesImages (λ n. take n pixels.new) self.old result self.new }
-        ensures samples { HasRoom self.new.found.frame (length pixels.old)
+        ensures samples { HasRoom self.new.found.said.frame (length pixels.old)
             → DecodesSamples (λ n. take n pixels.new) self.old result self.new }
-        ensures told { HasRoom self.new.found.frame (length pixels.old)
+        ensures told { HasRoom self.new.found.said.frame (length pixels.old)
             → IsReading self.old.stage → OnTold self.old.source self.new.source result
-            (told_of self.new.found ≡ told_ahead false self.old.stage self.old.found
+            (told_of self.new.found.said ≡ told_ahead false self.old.stage self.old.found
             self.old.source.bytes) }
-        ensures turns { HasRoom self.new.found.frame (length pixels.old)
+        ensures turns { HasRoom self.new.found.said.frame (length pixels.old)
             → IsReading self.old.stage → self.old.source.known ≡ true
             → IsOfTurns (λ n. turns_ahead n false self.old.stage self.old.found
-            self.old.source.bytes) (told_of self.new.found) }
-        ensures emptied { HasRoom self.new.found.frame (length pixels.old)
+            self.old.source.bytes) (told_of self.new.found.said) }
+        ensures emptied { HasRoom self.new.found.said.frame (length pixels.old)
             → IsReading self.old.stage → (self.new.found.kept ≡ [])
             × (self.new.found.planes ≡ replicate 4 None)
             × (self.new.found.samples ≡ replicate 4 None) }
 
         // Where there is none, it is a refusal, and the decoder is as after `read_info`.
         ensures short { IsReading self.old.stage
-            → (HasRoom self.new.found.frame (length pixels.old) → ⊥)
+            → (HasRoom self.new.found.said.frame (length pixels.old) → ⊥)
             → ReadsHeaderAlone self.old result self.new }
 
         // What follows the picture stays, and after an error all does.
@@ -510,16 +510,16 @@ impl<R: Read + Drop> Decoder<R> {
         ensures still { (IsReading self.old.stage → ⊥) → self.new ≡ self.old }
 
         // The frame that `read_info` read stays.
-        ensures stays { self.old.stage ≡ HeaderRead → self.new.found.frame ≡ self.old.found.frame }
+        ensures stays { self.old.stage ≡ HeaderRead → self.new.found.said.frame ≡ self.old.found.said.frame }
 
         // After an Ok there is a frame, so that `info` answers.
-        ensures framed { IfOk result (λ _. is_some self.new.found.frame ≡ true) }
+        ensures framed { IfOk result (λ _. is_some self.new.found.said.frame ≡ true) }
 
         // The picture has as many bytes as the frame says, and the memory has them.
-        ensures size { IfOk result (λ n. IsWhole self.new.found.frame (take n pixels.new)) }
+        ensures size { IfOk result (λ n. IsWhole self.new.found.said.frame (take n pixels.new)) }
 
         // There are as many samples as the format of `info` says.
-        ensures counted { IfOk result (λ _. IsCounted self.new.found.frame) }
+        ensures counted { IfOk result (λ _. IsCounted self.new.found.said.frame) }
     {
         match self.progress {
             Progress::Fresh | Progress::HeaderRead => {}

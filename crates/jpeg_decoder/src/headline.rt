@@ -29,7 +29,7 @@ ghost use Rattle.jpeg_streams.specs.declared.settings.Settings.{Settings};
 /// coefficients, cut at the bits that were sent. The stream may be sequential or progressive, under
 /// any legal script, and a progressive one may end after any scan. What follows the image is left.
 pub fn images_are_read()
-    ensures { (settings : Settings) (array : Coefficients) (bytes rest : List ℕ) (final : Found)
+    ensures { (settings : Settings) (array : Coefficients) (bytes rest : List ℕ) (final : Said)
         (last : ℕ → Levels) →
         ((index row column : ℕ) → Is8Bit (array index row column)) →
         WritesImage array bytes final last →
@@ -39,7 +39,7 @@ pub fn images_are_read()
 /// Read at a scale, it means the picture of those coefficients at that scale.
 pub fn images_are_read_at_scales()
     ensures { (width height : ℕ) (settings : Settings) (array : Coefficients)
-        (bytes rest : List ℕ) (final : Found) (last : ℕ → Levels) →
+        (bytes rest : List ℕ) (final : Said) (last : ℕ → Levels) →
         ((index row column : ℕ) → Is8Bit (array index row column)) →
         WritesImage array bytes final last →
         sized_meaning width height settings (bytes ++ rest)
@@ -50,13 +50,13 @@ pub fn images_are_read_at_scales()
 /// themselves, at every scale.
 pub fn complete_images_are_whole()
     ensures whole { (settings : Settings) (array : Coefficients) (bytes rest : List ℕ)
-        (final : Found) (last : ℕ → Levels) (frame : Frame) →
+        (final : Said) (last : ℕ → Levels) (frame : Frame) →
         ((index row column : ℕ) → Is8Bit (array index row column)) →
         WritesImage array bytes final last →
         final.frame ≡ Some frame → AllComplete frame last →
         meaning settings (bytes ++ rest) ≡ whole_meaning settings final array rest }
     ensures sized { (width height : ℕ) (settings : Settings) (array : Coefficients)
-        (bytes rest : List ℕ) (final : Found) (last : ℕ → Levels) (frame : Frame) →
+        (bytes rest : List ℕ) (final : Said) (last : ℕ → Levels) (frame : Frame) →
         ((index row column : ℕ) → Is8Bit (array index row column)) →
         WritesImage array bytes final last →
         final.frame ≡ Some frame → AllComplete frame last →
@@ -66,7 +66,7 @@ pub fn complete_images_are_whole()
 
 /// A sequential stream sends every bit of each coefficient.
 pub fn sequential_images_are_complete()
-    ensures { (array : Coefficients) (bytes : List ℕ) (final : Found) (last : ℕ → Levels)
+    ensures { (array : Coefficients) (bytes : List ℕ) (final : Said) (last : ℕ → Levels)
         (frame : Frame) →
         WritesImage array bytes final last →
         final.frame ≡ Some frame → is_progressive frame.process ≡ false →
@@ -77,14 +77,14 @@ pub fn sequential_images_are_complete()
 /// every scale.
 pub fn images_have_pictures()
     ensures plain { (settings : Settings) (array : Coefficients) (bytes rest : List ℕ)
-        (final : Found) (last : ℕ → Levels) →
+        (final : Said) (last : ℕ → Levels) →
         ((index row column : ℕ) → Is8Bit (array index row column)) →
         WritesImage array bytes final last → TakesPicture settings final →
         (picture : List ℕ) × (picture_of_array settings final array last ≡ Ok picture)
         × (meaning settings (bytes ++ rest)
         ≡ Ok (record { 0 = record { 0 = told_of final; 1 = picture }; 1 = rest })) }
     ensures sized { (width height : ℕ) (settings : Settings) (array : Coefficients)
-        (bytes rest : List ℕ) (final : Found) (last : ℕ → Levels) →
+        (bytes rest : List ℕ) (final : Said) (last : ℕ → Levels) →
         ((index row column : ℕ) → Is8Bit (array index row column)) →
         WritesImage array bytes final last → TakesPicture settings (sized_to width height final) →
         (picture : List ℕ)
@@ -98,7 +98,7 @@ pub fn images_have_pictures()
 
 /// Where the default settings take the picture, the program prints it after its size and format.
 pub fn images_are_printed()
-    ensures { (array : Coefficients) (image rest picture : List ℕ) (final : Found)
+    ensures { (array : Coefficients) (image rest picture : List ℕ) (final : Said)
         (last : ℕ → Levels) →
         ((index row column : ℕ) → Is8Bit (array index row column)) →
         WritesImage array image final last →
@@ -118,7 +118,7 @@ pub fn complete_blocks_are_whole()
 /// the same size, components, quantization tables and choice of colours.
 pub fn pictures_are_of_coefficients()
     ensures { (settings : Settings) (array : Coefficients) (first second rest others : List ℕ)
-        (a b : Found) (last_a last_b : ℕ → Levels) →
+        (a b : Said) (last_a last_b : ℕ → Levels) →
         ((index row column : ℕ) → Is8Bit (array index row column)) →
         WritesImage array first a last_a → WritesImage array second b last_b →
         (same : HaveSamePicture a b) →
@@ -129,11 +129,11 @@ pub fn pictures_are_of_coefficients()
 /// A stream for an array is one for each array that has the same blocks without padding, and their
 /// pictures are the same: no sample comes of padding.
 pub fn padding_is_not_seen()
-    ensures written { (a b : Coefficients) (bytes : List ℕ) (final : Found) (last : ℕ → Levels)
+    ensures written { (a b : Coefficients) (bytes : List ℕ) (final : Said) (last : ℕ → Levels)
         (frame : Frame) →
         WritesImage a bytes final last → final.frame ≡ Some frame → AgreeOnOwn frame a b →
         WritesImage b bytes final last }
-    ensures pictured { (settings : Settings) (a b : Coefficients) (bytes : List ℕ) (final : Found)
+    ensures pictured { (settings : Settings) (a b : Coefficients) (bytes : List ℕ) (final : Said)
         (last : ℕ → Levels) (frame : Frame) →
         ((index row column : ℕ) → Is8Bit (a index row column)) →
         ((index row column : ℕ) → Is8Bit (b index row column)) →
@@ -144,19 +144,19 @@ pub fn padding_is_not_seen()
 /// A progressive stream may be cut after any of its scans and closed: it then means the picture of
 /// the coefficients, cut at the bits that were sent so far.
 pub fn progressive_images_may_end_early()
-    ensures written { (array : Coefficients) (front more : List ℕ) (said final : Found)
+    ensures written { (array : Coefficients) (front more : List ℕ) (said final : Said)
         (levels last : ℕ → Levels) →
         WritesFront array nothing_found (λ k. nothing_sent) front said levels →
         WritesPart array ClosesImage said levels more final last →
         WritesImage array (255 ∷ 216 ∷ (front ++ more)) final last }
-    ensures closed { (array : Coefficients) (front : List ℕ) (said : Found) (levels : ℕ → Levels)
+    ensures closed { (array : Coefficients) (front : List ℕ) (said : Said) (levels : ℕ → Levels)
         (frame : Frame) →
         WritesFront array nothing_found (λ k. nothing_sent) front said levels →
         said.scanned ≡ true → said.frame ≡ Some frame → is_progressive frame.process ≡ true →
         AllByRecursion (HasTable said) frame.components →
         WritesImage array (255 ∷ 216 ∷ (front ++ (255 ∷ 217 ∷ []))) said levels }
     ensures pictured { (settings : Settings) (array : Coefficients) (front rest : List ℕ)
-        (said : Found) (levels : ℕ → Levels) (frame : Frame) →
+        (said : Said) (levels : ℕ → Levels) (frame : Frame) →
         ((index row column : ℕ) → Is8Bit (array index row column)) →
         WritesFront array nothing_found (λ k. nothing_sent) front said levels →
         said.scanned ≡ true → said.frame ≡ Some frame → is_progressive frame.process ≡ true →

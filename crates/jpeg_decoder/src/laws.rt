@@ -118,18 +118,18 @@ pub fn scans_of_frames()
     ensures sequential { (found : Found) (frame : Frame) (scan : Scan) (c : Coding)
         (codings : List Coding) (bytes : List ℕ) →
         is_progressive frame.process ≡ false → AllByRecursion (Fits frame) frame.components →
-        codings_of found frame scan ≡ Ok (c ∷ codings) →
+        codings_of found.said frame scan ≡ Ok (c ∷ codings) →
         scan_arrays found frame scan (c ∷ codings) bytes
-        ≡ scan_by_rows (pass_of scan) (vias_from 0 (c ∷ codings)) found.restart frame
+        ≡ scan_by_rows (pass_of scan) (vias_from 0 (c ∷ codings)) found.said.restart frame
         (map (λ c. c.component) (c ∷ codings)) bytes }
     ensures progressive { (found : Found) (frame : Frame) (scan : Scan) (c : Coding)
         (codings : List Coding) (bytes : List ℕ) →
         AreArrays frame.components (arrays_before found frame) →
         AllByRecursion (Fits frame) frame.components →
-        codings_of found frame scan ≡ Ok (c ∷ codings) →
+        codings_of found.said frame scan ≡ Ok (c ∷ codings) →
         scan_arrays found frame scan (c ∷ codings) bytes
         ≡ scan_from (pass_of scan) (vias_from 0 (c ∷ codings))
-        (found.restart * mcu_size (map (λ c. c.component) (c ∷ codings)))
+        (found.said.restart * mcu_size (map (λ c. c.component) (c ∷ codings)))
         (spots_of frame (map (λ c. c.component) (c ∷ codings)))
         (map (λ c. get_or (arrays_before found frame) c.index []) (c ∷ codings)) bytes }
 {}
@@ -146,7 +146,7 @@ pub fn planes_grow_by_strips()
 /// Of two sizes that are asked for the last counts: a frame at a scale, brought to another, is the
 /// frame at that one.
 pub fn last_sizes_count()
-    ensures { (width height other_width other_height : ℕ) (found : Found) →
-        sized_to width height (sized_to other_width other_height found)
-        ≡ sized_to width height found }
+    ensures { (width height other_width other_height : ℕ) (said : Said) →
+        sized_to width height (sized_to other_width other_height said)
+        ≡ sized_to width height said }
 {}

@@ -31,7 +31,7 @@ ghost use Rattle.jpeg_streams.specs.WrittenParts.{picture_meant_by};
 /// segments and fill bytes, sampling factors, scans of any components in any order, selections,
 /// codes and padding, and restart intervals of whole rows of MCUs. What follows the image is left.
 pub fn lossless_streams_are_read()
-    ensures { (settings : Settings) (samples : Samples) (image rest : List ℕ) (final : Found)
+    ensures { (settings : Settings) (samples : Samples) (image rest : List ℕ) (final : Said)
         (frame : Frame) →
         WritesSamples samples image final → IsWithinLimit settings.limit final frame →
         meaning settings (image ++ rest)
@@ -41,7 +41,7 @@ pub fn lossless_streams_are_read()
 /// It keeps its size, whatever size is asked for.
 pub fn lossless_streams_keep_their_size()
     ensures { (width height : ℕ) (settings : Settings) (samples : Samples) (image rest : List ℕ)
-        (final : Found) (frame : Frame) →
+        (final : Said) (frame : Frame) →
         WritesSamples samples image final → IsWithinLimit settings.limit final frame →
         sized_meaning width height settings (image ++ rest)
         ≡ Ok ((told_of final, picture_of_samples frame samples), rest) }
@@ -52,7 +52,7 @@ pub fn lossless_streams_keep_their_size()
 /// headers give the same precision, size and sampling factors.
 pub fn lossless_pictures_are_of_samples()
     ensures { (settings : Settings) (samples : Samples) (first second rest others : List ℕ)
-        (a b : Found) →
+        (a b : Said) →
         WritesSamples samples first a → WritesSamples samples second b → ShowAlike a b →
         picture_meant_by settings (first ++ rest) ≡ picture_meant_by settings (second ++ others) }
 {}

@@ -156,15 +156,15 @@ pub fn read_lossless_scan<R: Read + Drop>(
     decoded: &mut Decoded,
 ) -> Result<Option<Marker>>
     requires sound { IsSound (with_decoded (found_in state.now) decoded.old) }
-    requires frame { (found_in state.now).frame ≡ Some (frame_in frame.now) }
+    requires frame { (found_in state.now).said.frame ≡ Some (frame_in frame.now) }
     requires process { (frame_in frame.now).process ≡ Lossless }
     requires legal { IsScanOf (frame_in frame.now) (scan_in header.now) }
     ensures reads { let found = found_in state.now in
-        Answers (λ m. (record (with_decoded found decoded.new) { scanned = true }, m))
+        Answers (λ m. (once_scanned (with_decoded found decoded.new), m))
         (samples_read (with_decoded found decoded.old) (frame_in frame.now)
         (scan_in header.now)) source.old result source.new }
     ensures sound { let found = found_in state.now in
-        OnOk result (IsSound (record (with_decoded found decoded.new) { scanned = true })) }
+        OnOk result (IsSound (once_scanned (with_decoded found decoded.new))) }
 {
     let tables = tables_of(alloc, state, frame, header)?;
     let parts = parts_of(alloc, frame, &header.component_indices, &tables)?;

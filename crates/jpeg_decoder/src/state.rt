@@ -232,7 +232,7 @@ impl State {
     /// if one was reached.
     pub fn end_scan(&mut self, decoded: Decoded, met: Option<Marker>) -> Step
         ensures { turn_of self.new result ≡ record {
-          found = record (with_decoded (found_in self.old) decoded) { scanned = true };
+          found = once_scanned (with_decoded (found_in self.old) decoded);
           before = scan_before (found_in self.old);
           met = met;
           ended = false;
@@ -310,7 +310,7 @@ impl State {
 
     /// Returns whether the frame was read, where the header is wanted alone.
     fn is_read_for(&self, header: bool) -> bool
-        ensures { result ≡ (header && is_some (found_in self.now).frame) }
+        ensures { result ≡ (header && is_some (found_in self.now).said.frame) }
     {
         header && self.frame.is_some()
     }
@@ -326,17 +326,17 @@ impl State {
         requires sound { IsSound (found_in self.old) }
         ensures reads { Answers (λ _. found_in self.new)
             (segments_at header Elsewhere (found_in self.old) None) source.old result source.new }
-        ensures told { OnTold source.old source.new result (told_of (found_in self.new)
+        ensures told { OnTold source.old source.new result (told_of (found_in self.new).said
             ≡ told_in_turns (suc (length source.old.bytes)) header (found_in self.old)
             source.old.bytes) }
         ensures turns { source.old.known ≡ true → IsOfTurns
             (λ n. told_in_turns n header (found_in self.old) source.old.bytes)
-            (told_of (found_in self.new)) }
-        ensures framed { IfOk result (λ _. is_some (found_in self.new).frame ≡ true) }
-        ensures stays { is_some (found_in self.old).frame ≡ true → (found_in self.new).frame
-            ≡ (found_in self.old).frame }
+            (told_of (found_in self.new).said) }
+        ensures framed { IfOk result (λ _. is_some (found_in self.new).said.frame ≡ true) }
+        ensures stays { is_some (found_in self.old).said.frame ≡ true → (found_in self.new).said.frame
+            ≡ (found_in self.old).said.frame }
         ensures sound { IsSound (found_in self.old) → OnOk result (IsSound (found_in self.new)) }
-        ensures unread { header ≡ true → (found_in self.old).frame ≡ None
+        ensures unread { header ≡ true → (found_in self.old).said.frame ≡ None
             → OnOk result (IsUnread (found_in self.new)) }
     {
         let mut before = Before::Elsewhere;

@@ -49,7 +49,7 @@ sized-header width height bytes rest found e = then-ok (header_at bytes) _ (foun
 -- at that scale.
 pub picture-at-scale-some : (scale : Scale) (bytes rest left : List ℕ) (found : Found) (told : Told) (pixels : List ℕ)
     (full info : ImageInfo) (precision : ℕ)
-    → header_at bytes ≡ Ok (found, rest) → option_map info_of found.frame ≡ Some full
+    → header_at bytes ≡ Ok (found, rest) → option_map info_of found.said.frame ≡ Some full
     → rest_at default_settings (sized_to (requested_width scale full) (requested_height scale full) found) rest
     ≡ Ok ((told, pixels), left)
     → option_map info_of told.frame ≡ Some info → option_map (λ f. f.precision) told.frame ≡ Some precision
@@ -62,6 +62,6 @@ picture-at-scale-some scale bytes rest left found told pixels full info precisio
 
 -- what a header says of the picture
 pub header-info-some : (bytes rest : List ℕ) (found : Found) (full : ImageInfo) → header_at bytes ≡ Ok (found, rest)
-    → option_map info_of found.frame ≡ Some full → header_info bytes ≡ Some full
+    → option_map info_of found.said.frame ≡ Some full → header_info bytes ≡ Some full
 unfolding header_info
 header-info-some bytes rest found full header hf = rw (header_info, header) hf

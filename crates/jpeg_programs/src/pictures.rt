@@ -70,11 +70,11 @@ fn requested_size(info: ImageInfo, scale: Scale) -> Dimensions
 /// Decodes the picture of a decoder, at the scale that was set.
 pub fn decode_picture<R: Read + Drop>(decoder: &mut Decoder<R>) -> Result<Picture>
     ensures reads { IsReading decoder.old.stage → Answers
-        (λ p. (told_of decoder.new.found, p.pixels.items))
+        (λ p. (told_of decoder.new.found.said, p.pixels.items))
         (ahead decoder.old.stage decoder.old.settings decoder.old.found) decoder.old.source result
         decoder.new.source }
-    ensures info { IfOk result (λ p. option_map info_of decoder.new.found.frame ≡ Some p.info) }
-    ensures precision { IfOk result (λ p. option_map (λ f. f.precision) decoder.new.found.frame
+    ensures info { IfOk result (λ p. option_map info_of decoder.new.found.said.frame ≡ Some p.info) }
+    ensures precision { IfOk result (λ p. option_map (λ f. f.precision) decoder.new.found.said.frame
         ≡ Some p.precision) }
 {
     let pixels = decoder.decode()?;

@@ -20,7 +20,7 @@ use Rattle.jpeg_streams.specs.Scans.{Arrays, zero_arrays}
 use Rattle.jpeg_streams.specs.ScanSegments.{arrays_before, Coding, pass_of, is_progressive}
 use Rattle.jpeg_streams.specs.ScanSegments.{after_scan, blocks_after}
 use Rattle.jpeg_streams.specs.ScanSegments.{put_arrays, scan_arrays}
-use Rattle.jpeg_streams.specs.Found.{none_finished, Found}
+use Rattle.jpeg_streams.specs.Found.{none_finished, Found, Said}
 use Rattle.jpeg_streams.specs.Levels.{Levels, Is8Bit, IsLegal, sent_after, nothing_sent}
 use Rattle.jpeg_streams.specs.WrittenScans.{Coefficients, levels_of_one, levels_after, IsLegalScan, WritesScan}
 use Rattle.jpeg_streams.proofs.IndicesApart.{AreApart}
@@ -75,7 +75,7 @@ pub record Shaped (f : Frame) : Type 0 where
   pub lossy : f.process ≢ Lossless
 
 -- what is held, finished and decided after some scans
-pub record Framed (w : Found) (f : Frame) (array : Coefficients) (levels : ℕ → Levels) (sc : Bool) (h : Arrays)
+pub record Framed (w : Said) (f : Frame) (array : Coefficients) (levels : ℕ → Levels) (sc : Bool) (h : Arrays)
     (fi : List (List Bool)) (pl : List (Option (List ℕ))) : Type 0 where
   pub marked : Marked w f array levels fi pl
   pub sized : (k : ℕ) → length (levels k).acs ≡ 63
@@ -106,7 +106,7 @@ pub zero-holds : (array : ℕ → ℕ → Block) (c : Component) → ((row colum
 zero-holds array c range = search (rules, length-replicate, get-replicate, cut-nothing)
 
 -- before the first scan
-pub framed-start : (w : Found) (f : Frame) (array : Coefficients) (h : Arrays) (fi : List (List Bool))
+pub framed-start : (w : Said) (f : Frame) (array : Coefficients) (h : Arrays) (fi : List (List Bool))
     (pl : List (Option (List ℕ))) → ((nth row column : ℕ) → Is8Bit (array nth row column))
     → fi ≡ replicate 4 none_finished → pl ≡ replicate 4 None → Framed w f array (λ k. nothing_sent) false h fi pl
 unfolding arrays_before zero_arrays
@@ -182,7 +182,7 @@ sequential-arrays : (found : Found) (f : Frame) → is_progressive f.process ≡
 unfolding arrays_before
 sequential-arrays found f e = rw (e, arrays_before) refl
 
-pub kept-arrays : (w : Found) (h : Arrays) (fi : List (List Bool)) (pl : List (Option (List ℕ))) (f
+pub kept-arrays : (w : Said) (h : Arrays) (fi : List (List Bool)) (pl : List (Option (List ℕ))) (f
     : Frame)
     → is_progressive f.process ≡ true → arrays_before (reading w true h fi pl) f ≡ h
 unfolding arrays_before
@@ -194,11 +194,11 @@ blocks-after_is : (found : Found) (f : Frame) (codings : List Coding) (arrays : 
 blocks-after_is found f codings arrays e = rw (e, blocks_after) refl
 
 -- a coding is of a component of the frame, with its quantization table
-record CodingFacts (w : Found) (frame : Frame) (k : Coding) : Type 0 where
+record CodingFacts (w : Said) (frame : Frame) (k : Coding) : Type 0 where
   at : At k.index frame.components k.component
   table : slice_index_or w.quantization k.component.factors.quantization None ≡ Some k.quantization
 
-all-done : (w : Found) (f : Frame) (p : Pass) (array : Coefficients) (levels : ℕ → Levels) (codings : List Coding)
+all-done : (w : Said) (f : Frame) (p : Pass) (array : Coefficients) (levels : ℕ → Levels) (codings : List Coding)
     (arrays : Arrays) → length arrays ≡ length codings → ((k : Coding) (j : ℕ) → At j codings k
     → HoldsOwn (grid_of k.component) (array k.index) (sent_after p (levels k.index)) (get_or arrays j
     []))
@@ -220,7 +220,7 @@ all-done w f p array levels (k ∷ codings) (b ∷ arrays) n holds facts legal s
 all-done w f p array levels codings arrays n holds facts legal sized = absurd (omega arith)
 
 -- the components of the scan are ready, where their blocks are held
-all-ready : (w : Found) (f : Frame) (p : Pass) (array : Coefficients) (levels : ℕ → Levels) (before : Arrays)
+all-ready : (w : Said) (f : Frame) (p : Pass) (array : Coefficients) (levels : ℕ → Levels) (before : Arrays)
     (codings : List Coding) → Shaped f
     → ((k : Coding) → CodingFacts w f k → IsLegal p (levels k.index)
     → HoldsOwn (grid_of k.component) (array k.index) (levels k.index) (get_or before k.index []))
@@ -233,7 +233,7 @@ all-ready w f p array levels before (k ∷ codings) shape holds facts legal size
     search (rules, all-ready w f p array levels before codings shape holds facts.1 legal.1 sized)
 
 -- what a scan was read as
-pub record Scanned (w : Found) (f : Frame) (array : Coefficients) (levels : ℕ → Levels) (sc : Bool) (h : Arrays)
+pub record Scanned (w : Said) (f : Frame) (array : Coefficients) (levels : ℕ → Levels) (sc : Bool) (h : Arrays)
     (fi : List (List Bool)) (pl : List (Option (List ℕ))) (s : Scan)
     (codings : List Coding) (bytes : List ℕ) : Type 0 where
   pub arrays : Arrays
@@ -247,7 +247,7 @@ pub record Scanned (w : Found) (f : Frame) (array : Coefficients) (levels : ℕ 
   pub framed : Framed w f array (levels_after (pass_of s) (indices_of codings) levels) true kept
       finished planes
 
-module _ (w : Found) (f : Frame) (array : Coefficients) (levels : ℕ → Levels) (sc : Bool) (h : Arrays)
+module _ (w : Said) (f : Frame) (array : Coefficients) (levels : ℕ → Levels) (sc : Bool) (h : Arrays)
     (fi : List (List Bool)) (pl : List (Option (List ℕ))) (s : Scan)
     (codings : List Coding) (bytes : List ℕ) (range : (nth row column : ℕ) → Is8Bit (array nth row
     column))

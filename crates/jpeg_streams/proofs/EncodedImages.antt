@@ -27,12 +27,12 @@ use Rattle.jpeg_segments.specs.WrittenSegments.{QuantizationTable, with_length}
 use Rattle.jpeg_streams.specs.declared.grids.Grid.{Grid}
 use Rattle.jpeg_streams.specs.Levels.{Is8Bit, Levels, sent_after, nothing_sent, numbers_at}
 use Rattle.jpeg_streams.specs.Order.{grid_of, mcu_size, own_spots, Spot, spots_of}
-use Rattle.jpeg_streams.specs.SaidSegments.{found_after}
+use Rattle.jpeg_streams.specs.SaidSegments.{said_after}
 use Rattle.jpeg_streams.specs.Scans.{no_table, via_at, turns_of}
 use Rattle.jpeg_streams.specs.ScanSegments.{vias_from, Coding, codings_of, component_coding}
 use Rattle.jpeg_streams.specs.ScanSegments.{pass_of, tables_of}
 use Rattle.jpeg_streams.specs.Segments.{accepted, updated}
-use Rattle.jpeg_streams.specs.Found.{nothing_found, Found}
+use Rattle.jpeg_streams.specs.Found.{nothing_said, Said}
 use Rattle.jpeg_streams.specs.WorkedImages.{IsWhollyWritten}
 use Rattle.jpeg_bits.specs.Written.{marker}
 use Rattle.jpeg_bits.specs.Written.WritesIntervals.{last as last_interval}
@@ -61,14 +61,14 @@ flat_tables = record { destination = 0; table = flat_table classes.DC } ∷ reco
   table = flat_table classes.AC;
 } ∷ []
 
-abbrev said_1 : Found
-said_1 = found_after nothing_found (Quantization all_ones)
+abbrev said_1 : Said
+said_1 = said_after nothing_said (Quantization all_ones)
 
-abbrev said_2 : ℕ → FrameHeader → Found
-said_2 number h = found_after said_1 (Header number h)
+abbrev said_2 : ℕ → FrameHeader → Said
+said_2 number h = said_after said_1 (Header number h)
 
-abbrev said : ℕ → FrameHeader → Bool → Found
-said number h scanned = record (found_after (said_2 number h) (Huffman flat_tables)) { scanned = scanned }
+abbrev said : ℕ → FrameHeader → Bool → Said
+said number h scanned = record (said_after (said_2 number h) (Huffman flat_tables)) { scanned = scanned }
 
 abbrev pub component_in : FrameHeader → Factors → Component
 component_in h c = component_of h.width h.height (greatest (λ f. f.horizontal) h.components)
@@ -260,7 +260,7 @@ lone-written from to number h front more c band some e new = record {
 
 table-at : (number : ℕ) (h : FrameHeader) (scanned : Bool) (index : ℕ) → index ≤ 3
     → slice_index_or (said number h scanned).quantization index None ≡ Some (replicate 64 1)
-unfolding nothing_found updated
+unfolding nothing_said updated
 table-at number h scanned index le = search rules
 
 index-low : (number index : ℕ) → number ≤ 2 → is_destination (is_lossless_number number) index ≡
@@ -279,7 +279,7 @@ codings-are : (kind : Kind) (number : ℕ) (h : FrameHeader) (scanned : Bool) (f
     → gathered (λ (s : ℕ × (ℕ × ℕ)). component_coding (said number h scanned) (frame_written number h) (pass_for kind)
     (tables_now kind number h scanned (length front) c) s.0 s.1.0 s.1.1) ((length front, (0, 0)) ∷ [])
     ≡ Ok (coding kind h (length front) c ∷ [])
-unfolding gathered component_coding frame_of component_of tables_of nothing_found updated
+unfolding gathered component_coding frame_of component_of tables_of nothing_said updated
 codings-are kind number h scanned front more c e le =
     let at = component-at number h front more c e in
     search (rules, then-ok, table-at)
@@ -370,7 +370,7 @@ one-scan : (kind : Kind) (number : ℕ) (h : FrameHeader) (array : Coefficients)
     (levels_after (pass_of (scan_for kind number h (length front) c)) (length front ∷ []) levels) bytes
     (said number h true) last
     → (all : List ℕ) × WritesPart array ClosesImage (said number h scanned) levels all (said number h true) last
-unfolding nothing_found
+unfolding nothing_said
 one-scan kind number h array front more c levels last scanned bytes fits le p range e is was w =
     let f = frame_written number h in
     let head = header_of kind (length front) c in
@@ -478,7 +478,7 @@ pub image-written : (number : ℕ) (h : FrameHeader) (array : Coefficients) → 
     IsFrameHeader number h → accepted (frame_written number h) ≡ Ok (frame_written number h)
     → ((index row column : ℕ) → Is8Bit (array index row column)) → (bytes : List ℕ) ×
     IsWhollyWritten array bytes
-unfolding nothing_found frame_of codes_exist lengths_from code_value
+unfolding nothing_said frame_of codes_exist lengths_from code_value
 image-written number h array le is ok range =
     let r = scans-written number h array h.components []
     (λ k. nothing_sent) false le (each-steps number h array le is range) is.components refl is.components
@@ -493,7 +493,7 @@ image-written number h array le is ok range =
           after = front_bytes number h r.0;
           starts = refl;
           written =
-              segment nothing_found (said number h true) (λ k. nothing_sent) r.1 0 (Quantization all_ones) _
+              segment nothing_said (said number h true) (λ k. nothing_sent) r.1 0 (Quantization all_ones) _
               (search (rules, one-quantizes)) refl (
               segment said_1 (said number h true) (λ k. nothing_sent) r.1 0 (Header number h) _ ((refl, is), ok)
               (omega arith) (

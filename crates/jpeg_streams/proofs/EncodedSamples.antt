@@ -39,12 +39,12 @@ use Rattle.jpeg_bits.specs.Written.WritesIntervals.{last}
 use Rattle.jpeg_lossless.proofs.Inverse.{all_back}
 use Rattle.jpeg_lossless.proofs.Residues.{residue_low, residue_neg, residue_small}
 use Rattle.jpeg_streams.specs.AcceptedFrames.{HasSamples}
-use Rattle.jpeg_streams.specs.Found.{Found, nothing_found}
+use Rattle.jpeg_streams.specs.Found.{Said, nothing_said}
 use Rattle.jpeg_streams.specs.FrameSamples.{AreBytes, AreLinesOf, AreSamplesOf, AreWrittenIn, FitsFields, IsLineOf}
 use Rattle.jpeg_bits.specs.DefaultTables.{names}
 use Rattle.jpeg_streams.specs.LosslessScans.{LosslessCoding, lossless_coding, lossless_codings}
 use Rattle.jpeg_streams.specs.LosslessScans.{mcus_across, mcus_down, parts_of}
-use Rattle.jpeg_streams.specs.SaidSegments.{found_after}
+use Rattle.jpeg_streams.specs.SaidSegments.{said_after}
 use Rattle.jpeg_streams.specs.Segments.{updated, accepted}
 use Rattle.jpeg_streams.specs.WrittenLossless.{HoldSamples, own_lines, Samples, WritesSamplesScan}
 use Rattle.jpeg_streams.specs.WrittenLossless.{ClosesSamples, IsLossless, SendsSamples}
@@ -279,12 +279,12 @@ abbrev header_of : ℕ → Factors → ScanHeader
 header_of index c = lone_header 1 0 index c
 
 -- what is said before a scan
-record IsReady (h : FrameHeader) (now : Found) : Type 0 where
+record IsReady (h : FrameHeader) (now : Said) : Type 0 where
   framed : now.frame ≡ Some (frame_written 3 h)
   tabled : slice_index_or now.huffman.dc 0 None ≡ Some even_table
   restart : now.restart ≡ 0
 
-data-written : (h : FrameHeader) (now : Found) (front more : List Factors) (c : Factors) (samples : Samples)
+data-written : (h : FrameHeader) (now : Said) (front more : List Factors) (c : Factors) (samples : Samples)
     → IsReady h now → h.components ≡ front ++ c ∷ more → h.precision ≤ 16
     → AreLinesOf (2 ^ h.precision) (component_in h c) (samples (length front))
     → (bytes : List ℕ) × WritesSamplesScan now (frame_written 3 h) (header_of (length front) c)
@@ -332,9 +332,9 @@ scan-bytes index c h = search (rules, sized-bytes)
 
 -- ---- the stream
 
-abbrev Sends : FrameHeader → Samples → Found → List ℕ → Type 0
+abbrev Sends : FrameHeader → Samples → Said → List ℕ → Type 0
 Sends h samples now sent =
-    (bytes : List ℕ) × (final : Found)
+    (bytes : List ℕ) × (final : Said)
     × ((last : List ℕ) × Writes (λ said s. IsLossless s) (SendsSamples samples) ClosesSamples now sent bytes final last)
     × (final.frame ≡ Some (frame_written 3 h)) × (FitsFields h → AreBytes bytes)
 
@@ -347,7 +347,7 @@ one-identified cs front more c e all =
     go [] h = h.0
     go (x ∷ xs) h = go xs h.1
 
-scans-written : (h : FrameHeader) (samples : Samples) (more front : List Factors) (now : Found) (sent : List ℕ)
+scans-written : (h : FrameHeader) (samples : Samples) (more front : List Factors) (now : Said) (sent : List ℕ)
     → HasSamples 3 h → AreSamplesOf (frame_written 3 h) samples → IsReady h now
     → h.components ≡ front ++ more → AreComponents 3 front more → ((j : ℕ) → j < length front → names sent j ≡ true)
     → Sends h samples now sent
@@ -394,14 +394,14 @@ scans-written h samples (c ∷ more) front now sent p all ready e are sends =
 abbrev even_tables : List DefinedTable
 even_tables = record { destination = 0; table = even_table } ∷ []
 
-abbrev said_1 : FrameHeader → Found
-said_1 h = found_after nothing_found (Header 3 h)
+abbrev said_1 : FrameHeader → Said
+said_1 h = said_after nothing_said (Header 3 h)
 
-abbrev said : FrameHeader → Found
-said h = found_after (said_1 h) (Huffman even_tables)
+abbrev said : FrameHeader → Said
+said h = said_after (said_1 h) (Huffman even_tables)
 
 said-ready : (h : FrameHeader) → IsReady h (said h)
-unfolding nothing_found updated
+unfolding nothing_said updated
 said-ready h = record { framed = refl; tabled = refl; restart = refl }
 
 abbrev front_bytes : FrameHeader → List ℕ → List ℕ
@@ -412,7 +412,7 @@ front_bytes h more =
 pub samples-written : (h : FrameHeader) (samples : Samples) → IsFrameHeader 3 h
     → accepted (frame_written 3 h) ≡ Ok (frame_written 3 h)
     → AreSamplesOf (frame_written 3 h) samples → (bytes : List ℕ) × AreWrittenIn h samples bytes
-unfolding nothing_found frame_of codes_exist lengths_from code_value huffman_bytes frame_payload
+unfolding nothing_said frame_of codes_exist lengths_from code_value huffman_bytes frame_payload
 samples-written h samples is ok all =
     let p = accepted-samples h ok in
     let r = scans-written h samples h.components [] (said h) [] p all (said-ready h) refl is.components
@@ -425,7 +425,7 @@ samples-written h samples is ok all =
           written = record {
             after = front_bytes h r.0;
             starts = refl;
-            written = segment nothing_found r.1 [] r.2.0 0 (Header 3 h) _ ((refl, is), ok) refl (
+            written = segment nothing_said r.1 [] r.2.0 0 (Header 3 h) _ ((refl, is), ok) refl (
                 segment (said_1 h) r.1 [] r.2.0 0 (Huffman even_tables) _ ((table-by _ _ (omega arith) refl, tt), tt) tt
                 r.2.1);
           };

@@ -7,14 +7,14 @@ use Rattle.jpeg_bits.specs.Reading.{Fault, Malformed, ◌>>=◌}
 use Rattle.jpeg_segments.specs.Checks.{needed}
 use Rattle.jpeg_segments.specs.Frame.{Component, Frame}
 use Rattle.jpeg_streams.specs.declared.settings.Settings.{Settings}
-use Rattle.jpeg_streams.specs.Found.{Found}
+use Rattle.jpeg_streams.specs.Found.{Said}
 use Rattle.jpeg_streams.specs.FoundPictures.{limited}
 use Rattle.jpeg_streams.specs.Rasters.{plane_of_blocks}
 use Rattle.jpeg_streams.specs.WrittenScans.{Coefficients}
 use Rattle.jpeg_streams.proofs.ReadTurns.{then-ok}
 
 -- the plane of a component with its index in the frame, by the tables that were said
-abbrev pub array_plane : Found → Coefficients → ℕ × Component → Result (List ℕ) Fault
+abbrev pub array_plane : Said → Coefficients → ℕ × Component → Result (List ℕ) Fault
 array_plane said blocks c =
     needed (slice_index_or said.quantization c.1.factors.quantization None)
     >>= (λ table. Ok (plane_of_blocks c.1 table (blocks c.0)))
@@ -23,13 +23,13 @@ array_plane said blocks c =
 abbrev samples_of : Frame → ℕ
 samples_of f = length f.components * (f.output_width * f.output_height)
 
-framed : (settings : Settings) (w : Found) (f : Frame) (p : Frame → Result (List ℕ) Fault)
+framed : (settings : Settings) (w : Said) (f : Frame) (p : Frame → Result (List ℕ) Fault)
     → w.frame ≡ Some f
     → limited settings w p ≡ (if nat_lt settings.limit (samples_of f) then Err Malformed else p f)
 unfolding limited
 framed settings w f p e = then-ok (needed w.frame) _ f _ (ap needed e) refl
 
-pub limited-same : (settings : Settings) (a b : Found) (f g : Frame) (p q : Frame → Result (List ℕ) Fault)
+pub limited-same : (settings : Settings) (a b : Said) (f g : Frame) (p q : Frame → Result (List ℕ) Fault)
     → a.frame ≡ Some f → b.frame ≡ Some g → samples_of f ≡ samples_of g → p f ≡ q g
     → limited settings a p ≡ limited settings b q
 limited-same settings a b f g p q is_a is_b size same =
@@ -37,7 +37,7 @@ limited-same settings a b f g p q is_a is_b size same =
     ∙ ap₂ (λ (n : ℕ) (o : Result (List ℕ) Fault). if nat_lt settings.limit n then Err Malformed else o) size same
     ∙ sym (framed settings b g q is_b)
 
-pub limited-ok : (settings : Settings) (w : Found) (f : Frame) (p : Frame → Result (List ℕ) Fault) (x : List ℕ)
+pub limited-ok : (settings : Settings) (w : Said) (f : Frame) (p : Frame → Result (List ℕ) Fault) (x : List ℕ)
     → w.frame ≡ Some f → samples_of f ≤ settings.limit → p f ≡ Ok x → limited settings w p ≡ Ok x
 limited-ok settings w f p x is within e =
     framed settings w f p is ∙ rw (le-ltb settings.limit (samples_of f) within) e

@@ -9,7 +9,7 @@ use Rattle.jpeg_streams.specs.Output.{default_settings, header_line_of, output_o
 use Rattle.jpeg_streams.specs.Output.{Tells}
 use Rattle.jpeg_streams.specs.PrintedImages.{Prints, PrintsImages}
 use Rattle.jpeg_streams.specs.Pixels.{info_of}
-use Rattle.jpeg_streams.specs.Found.{Found}
+use Rattle.jpeg_streams.specs.Found.{Said}
 use Rattle.jpeg_streams.specs.Stream.{told_of}
 use Rattle.jpeg_streams.specs.WrittenImages.{WritesImage}
 use Rattle.jpeg_streams.specs.WrittenScans.{Coefficients}
@@ -18,7 +18,7 @@ use Rattle.jpeg_streams.proofs.ReadTurns.{then-ok}
 use Rattle.jpeg_streams.proofs.WrittenPictures.{stream-means}
 
 -- what is written for a stream of an image
-pub image-output : (array : Coefficients) (image rest picture : List ℕ) (final : Found) (last : ℕ → Levels)
+pub image-output : (array : Coefficients) (image rest picture : List ℕ) (final : Said) (last : ℕ → Levels)
     → ((index row column : ℕ) → Is8Bit (array index row column)) → WritesImage array image final
     last
     → picture_of_array default_settings final array last ≡ Ok picture

@@ -1,7 +1,7 @@
 -- What a decoder holds after the scans of a written stream.
 use Rattle.std.proofs.lemmas.Grind.{common_steps}
 use Rattle.std.proofs.Common.{rules, ◌≡◌, ◌≢◌, ◌⊎◌, inl, inr, ℕ, zero, suc, ◌-◌, ◌<◌, ◌≤◌, Bool, true, false, List, []}
-use Rattle.std.proofs.Common.{◌∷◌, map, length, take, drop, get_or, set, slice_index_or, Option, Some, None, refl}
+use Rattle.std.proofs.Common.{◌∷◌, replicate, map, length, take, drop, get_or, set, slice_index_or, Option, Some, None, refl}
 use Rattle.std.proofs.Common.{ap, ◌∙◌, arith, length-set, get_or-set_same, get_or-set_other}
 use Rattle.std.proofs.lemmas.Bool.{eq-eqb}
 use Rattle.std.proofs.lemmas.Bool.Decides.{leb_tells}
@@ -16,7 +16,7 @@ use Rattle.jpeg_streams.specs.Scans.{Arrays}
 use Rattle.jpeg_streams.specs.Rasters.{plane_by}
 use Rattle.jpeg_streams.specs.ScanSegments.{with_plane, decided, finished_by, Coding, put_arrays, with_arrays}
 use Rattle.jpeg_streams.specs.ScanSegments.{with_blocks}
-use Rattle.jpeg_streams.specs.Found.{none_finished, Found}
+use Rattle.jpeg_streams.specs.Found.{none_finished, Found, Said}
 use Rattle.jpeg_streams.specs.Levels.{Levels, IsLegal, sent_after}
 use Rattle.jpeg_streams.proofs.FinishedIndices.{is_level_0, dc-open}
 use Rattle.jpeg_streams.specs.WrittenScans.{Coefficients, levels_of_one, levels_after}
@@ -28,14 +28,20 @@ use Rattle.jpeg_streams.proofs.WrittenFrameScans.{HoldsOwn}
 use Rattle.jpeg_streams.proofs.Apart.{at-one}
 
 -- what was said, with what scans have brought
-abbrev pub reading : Found → Bool → Arrays → List (List Bool) → List (Option (List ℕ)) → Found
-reading w s h fi pl = record w { scanned = s; kept = h; finished = fi; planes = pl }
+abbrev pub reading : Said → Bool → Arrays → List (List Bool) → List (Option (List ℕ)) → Found
+reading w s h fi pl = record {
+  said = record w { scanned = s };
+  kept = h;
+  finished = fi;
+  planes = pl;
+  samples = replicate 4 None;
+}
 
 abbrev pub is_whole : Levels → Bool
 is_whole l = list_all (λ mark. mark) (marks_of l)
 
 -- the plane of a component is decided, of its own blocks
-pub record HasPlane (w : Found) (array : Coefficients) (l : Levels) (pl : List (Option (List ℕ))) (k : ℕ)
+pub record HasPlane (w : Said) (array : Coefficients) (l : Levels) (pl : List (Option (List ℕ))) (k : ℕ)
     (c : Component) : Type 0 where
   pub table : List ℕ
   pub is_table : slice_index_or w.quantization c.factors.quantization None ≡ Some table
@@ -43,13 +49,13 @@ pub record HasPlane (w : Found) (array : Coefficients) (l : Levels) (pl : List (
   pub holds : HoldsOwn (grid_of c) (array k) l blocks
   pub plane : slice_index_or pl k None ≡ Some (plane_by c table blocks)
 
-pub record PlaneSo (w : Found) (array : Coefficients) (l : Levels) (pl : List (Option (List ℕ))) (k : ℕ)
+pub record PlaneSo (w : Said) (array : Coefficients) (l : Levels) (pl : List (Option (List ℕ))) (k : ℕ)
     (c : Component) : Type 0 where
   pub decided : is_whole l ≡ true → HasPlane w array l pl k c
   pub undecided : is_whole l ≡ false → slice_index_or pl k None ≡ None
 
 -- the marks and the planes are those of the levels
-pub record Marked (w : Found) (frame : Frame) (array : Coefficients) (levels : ℕ → Levels) (fi : List (List Bool))
+pub record Marked (w : Said) (frame : Frame) (array : Coefficients) (levels : ℕ → Levels) (fi : List (List Bool))
     (pl : List (Option (List ℕ))) : Type 0 where
   pub fi_count : length fi ≡ 4
   pub pl_count : length pl ≡ 4
@@ -110,7 +116,7 @@ legal-open p l legal band h = go p.ss refl
 -- ---- one component of a scan
 
 -- a component of the scan, and its blocks after it
-pub record CodingDone (w : Found) (frame : Frame) (p : Pass) (array : Coefficients) (levels : ℕ → Levels) (k : Coding)
+pub record CodingDone (w : Said) (frame : Frame) (p : Pass) (array : Coefficients) (levels : ℕ → Levels) (k : Coding)
     (blocks : List Block) : Type 0 where
   pub at : At k.index frame.components k.component
   pub table : slice_index_or w.quantization k.component.factors.quantization None ≡ Some k.quantization
@@ -139,7 +145,7 @@ plane-other : (k : Coding) (blocks : List Block) (marks : List Bool) (pl : List 
     → slice_index_or (with_plane k blocks marks pl) j None ≡ slice_index_or pl j None
 plane-other k blocks marks pl j n = search (rules, plane-yes, get_or-set_other, plane-no)
 
-module _ (w : Found) (frame : Frame) (p : Pass) (array : Coefficients) (levels : ℕ → Levels) (k : Coding)
+module _ (w : Said) (frame : Frame) (p : Pass) (array : Coefficients) (levels : ℕ → Levels) (k : Coding)
     (blocks : List Block) (fi : List (List Bool)) (pl : List (Option (List ℕ)))
     (few : length frame.components ≤ 4) (band : IsBand p) (done : CodingDone w frame p array levels k blocks)
     (before : Marked w frame array levels fi pl) where
@@ -202,7 +208,7 @@ module _ (w : Found) (frame : Frame) (p : Pass) (array : Coefficients) (levels :
 
 -- ---- all components of a scan
 
-abbrev pub AllDone : Found → Frame → Pass → Coefficients → (ℕ → Levels) → List Coding → Arrays → Type 0
+abbrev pub AllDone : Said → Frame → Pass → Coefficients → (ℕ → Levels) → List Coding → Arrays → Type 0
 AllDone w frame p array levels [] [] = Unit {0}
 AllDone w frame p array levels [] (b ∷ arrays) = ⊥
 AllDone w frame p array levels (k ∷ codings) [] = ⊥
@@ -213,7 +219,7 @@ abbrev pub indices_of : List Coding → List ℕ
 indices_of codings = map (λ c. c.index) codings
 
 -- the others are as they were
-pub done-others : (w : Found) (frame : Frame) (p : Pass) (array : Coefficients) (levels : ℕ →
+pub done-others : (w : Said) (frame : Frame) (p : Pass) (array : Coefficients) (levels : ℕ →
     Levels) (index : ℕ)
     (codings : List Coding) (arrays : Arrays)
     → IsAbsent index (indices_of codings) → AllDone w frame p array levels codings arrays
@@ -223,7 +229,7 @@ done-others w frame p array levels index (k ∷ codings) (b ∷ arrays) apart h 
 done-others w frame p array levels index codings arrays apart h = search rules
 
 -- What scans have brought, after the components of one.
-pub record Brought (w : Found) (frame : Frame) (p : Pass) (array : Coefficients) (levels : ℕ → Levels)
+pub record Brought (w : Said) (frame : Frame) (p : Pass) (array : Coefficients) (levels : ℕ → Levels)
     (codings : List Coding) (arrays : Arrays) (s : Bool) (h : Arrays)
     (fi : List (List Bool)) (pl : List (Option (List ℕ))) : Type 0 where
   pub finished : List (List Bool)
@@ -231,7 +237,7 @@ pub record Brought (w : Found) (frame : Frame) (p : Pass) (array : Coefficients)
   pub is : with_arrays p codings arrays (reading w s h fi pl) ≡ reading w s h finished planes
   pub marked : Marked w frame array (levels_after p (indices_of codings) levels) finished planes
 
-pub brings : (w : Found) (frame : Frame) (p : Pass) (array : Coefficients) (levels : ℕ → Levels)
+pub brings : (w : Said) (frame : Frame) (p : Pass) (array : Coefficients) (levels : ℕ → Levels)
     (codings : List Coding) (arrays : Arrays) (s : Bool) (h : Arrays)
     (fi : List (List Bool)) (pl : List (Option (List ℕ))) → length frame.components ≤ 4 → IsBand p
     → AreApart (indices_of codings)
@@ -257,7 +263,7 @@ pub record AllKept (frame : Frame) (array : Coefficients) (levels : ℕ → Leve
   pub each : (k : ℕ) (c : Component) → At k frame.components c
       → HoldsOwn (grid_of c) (array k) (levels k) (get_or arrays k [])
 
-pub blocks-after : (w : Found) (frame : Frame) (p : Pass) (array : Coefficients) (levels : ℕ →
+pub blocks-after : (w : Said) (frame : Frame) (p : Pass) (array : Coefficients) (levels : ℕ →
     Levels)
     (codings : List Coding) (arrays kept : Arrays) → AreApart (indices_of codings)
     → AllDone w frame p array levels codings arrays → AllKept frame array levels kept

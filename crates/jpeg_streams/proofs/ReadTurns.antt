@@ -31,8 +31,8 @@ use Rattle.jpeg_streams.specs.ScanSegments.{component_coding, needed_if, Coding,
 use Rattle.jpeg_streams.specs.ScanSegments.{scan_arrays, codings_of, scan_segment, blocks_scan}
 use Rattle.jpeg_streams.specs.ScanSegments.{pass_of, scan_turn}
 use Rattle.jpeg_streams.specs.Segments.{onward, Turn, frame_segment}
-use Rattle.jpeg_streams.specs.Found.{Found}
-use Rattle.jpeg_streams.specs.SaidSegments.{Stands, found_after}
+use Rattle.jpeg_streams.specs.Found.{Found, Said}
+use Rattle.jpeg_streams.specs.SaidSegments.{Stands, said_after}
 use Rattle.jpeg_streams.specs.Stream.{segment_at, segments_at, end_segment, turn_at, walk}
 use Rattle.jpeg_bits.specs.declared.codes.HuffmanTableClass.TheVariants as classes
 use Rattle.jpeg_segments.specs.declared.parser.CodingProcess.TheVariants.{Lossless}
@@ -63,25 +63,25 @@ abbrev pub Walked : Type 0
 Walked = Found × Result (List ℕ) Fault
 
 pub walk-stop : (turns : ℕ) (header : Bool) (before : Before) (f : Found) (met : Option Marker) (all : List ℕ)
-    → 0 < turns → (header && is_some f.frame) ≡ true → walk turns header before f met all ≡ (f, Ok all)
+    → 0 < turns → (header && is_some f.said.frame) ≡ true → walk turns header before f met all ≡ (f, Ok all)
 unfolding walk
 walk-stop zero header before f met all h e = absurd (omega arith)
 walk-stop (suc turns) header before f met all h e = rw e refl
 
 pub walk-refused : (turns : ℕ) (header : Bool) (before : Before) (f : Found) (met : Option Marker) (all : List ℕ)
-    (fault : Fault) → (header && is_some f.frame) ≡ false → turn_at before f met all ≡ Err fault
+    (fault : Fault) → (header && is_some f.said.frame) ≡ false → turn_at before f met all ≡ Err fault
     → walk (suc turns) header before f met all ≡ (f, Err fault)
 unfolding walk
 walk-refused turns header before f met all fault n e = rw (n, e) refl
 
 pub walk-end : (turns : ℕ) (header : Bool) (before : Before) (f : Found) (met : Option Marker) (all rest : List ℕ)
-    (t : Turn) → (header && is_some f.frame) ≡ false → turn_at before f met all ≡ Ok (t, rest) → t.ended ≡ true
+    (t : Turn) → (header && is_some f.said.frame) ≡ false → turn_at before f met all ≡ Ok (t, rest) → t.ended ≡ true
     → walk (suc turns) header before f met all ≡ (t.found, Ok rest)
 unfolding walk
 walk-end turns header before f met all rest t n e g = rw (n, e, g) refl
 
 pub walk-on : (turns : ℕ) (header : Bool) (before : Before) (f : Found) (met : Option Marker) (all rest : List ℕ)
-    (t : Turn) → (header && is_some f.frame) ≡ false → turn_at before f met all ≡ Ok (t, rest) → t.ended ≡ false
+    (t : Turn) → (header && is_some f.said.frame) ≡ false → turn_at before f met all ≡ Ok (t, rest) → t.ended ≡ false
     → walk (suc turns) header before f met all ≡ walk turns header t.before t.found t.met rest
 unfolding walk
 walk-on turns header before f met all rest t n e g = rw (n, e, g) refl
@@ -124,14 +124,14 @@ pub stands-met : (fill code : ℕ) (m : Marker) (rest : List ℕ) → marker_of 
 unfolding turn_at
 stands-met fill code m rest h = grind (arith, common_steps, marker-turn)
 
-pub end-turn : (before : Before) (found : Found) (fill : ℕ) (rest : List ℕ) → is_some found.frame ≡ true
+pub end-turn : (before : Before) (found : Found) (fill : ℕ) (rest : List ℕ) → is_some found.said.frame ≡ true
     → turn_at before found None (marker fill 217 [] ++ rest) ≡ Ok (
       record { found = found; before = Elsewhere; met = None; ended = true },
       rest,
     )
 unfolding marker_of segment_at end_segment
 end-turn before found fill rest some = ap (turn_at before found None) (marker-append fill 217 [] rest)
-    ∙ marker-turn before found fill 217 EOI rest refl ∙ kept (is_some found.frame) _ (Err Malformed) some
+    ∙ marker-turn before found fill 217 EOI rest refl ∙ kept (is_some found.said.frame) _ (Err Malformed) some
 
 pub scan-turn : (before : Before) (found : Found) (fill : ℕ) (header bytes more rest : List ℕ)
     → turn_at before found None (marker fill 218 (header ++ (bytes ++ more)) ++ rest)
@@ -171,12 +171,9 @@ marker-longer fill code n bytes more h = grind (arith, common_steps, length-appe
 -- ---- segments
 
 -- A segment that stands is read, whatever was found before it.
-segment-read : (before : Before) (found : Found) (s : Segment) (rest : List ℕ) → Stands found s
-    → segment_at (marker_for s) before found (with_length (payload_of s) ++ rest) ≡ Ok (
-      onward
-          (found_after found s),
-      rest,
-    )
+segment-read : (before : Before) (found : Found) (s : Segment) (rest : List ℕ) → Stands found.said s
+    → segment_at (marker_for s) before found (with_length (payload_of s) ++ rest)
+    ≡ Ok (onward (record found { said = said_after found.said s }), rest)
 unfolding segment_at frame_segment
 segment-read before found (Header number h) rest stands =
     grind (arith, common_steps, not-refused, read-on, sof-read)
@@ -185,14 +182,14 @@ segment-read before found s rest stands =
 
 -- the turn of a segment that stands
 pub segment-turn : (before : Before) (now : Found) (s : Segment) (met : Option Marker) (all : List ℕ) (fill : ℕ)
-    (more tail : List ℕ) → Stands now s
+    (more tail : List ℕ) → Stands now.said s
     → StandsAt met all (marker fill (marker_code s) (with_length (payload_of s) ++ more) ++ tail)
-    → turn_at before now met all ≡ Ok (onward (found_after now s), more ++ tail)
+    → turn_at before now met all ≡ Ok (onward (record now { said = said_after now.said s }), more ++ tail)
 segment-turn before now s met all fill more tail may at =
     at.turn before now
     ∙ ap (turn_at before now None) (segment-tail fill (marker_code s) (with_length (payload_of s)) more tail)
     ∙ marker-turn before now fill (marker_code s) (marker_for s) (with_length (payload_of s) ++ (more ++ tail))
-    (segment-marker now.frame s may.0) ∙ segment-read before now s (more ++ tail) may
+    (segment-marker now.said.frame s may.0) ∙ segment-read before now s (more ++ tail) may
 
 pub some-none : {P : Type 0} (f : Frame) (o : Option Frame) → o ≡ Some f → o ≡ None → P
 some-none f o e g = absurd (let n : ⊥ = cc in n)
@@ -207,14 +204,14 @@ needed-some None x e = search rules
 needed-some (Some y) x e = cc
 
 -- What is found for a component of a scan, by its index in the frame and the destinations of its tables.
-pub record IsCoding (w : Found) (frame : Frame) (p : Pass) (tables : Tables) (index d a : ℕ) (k : Coding) : Type 0 where
+pub record IsCoding (w : Said) (frame : Frame) (p : Pass) (tables : Tables) (index d a : ℕ) (k : Coding) : Type 0 where
   pub stands : k.index ≡ index
   pub component : slice_get frame.components k.index ≡ Some k.component
   pub quantization : slice_index_or w.quantization k.component.factors.quantization None ≡ Some k.quantization
   pub dc : needed_if (p.ss == 0) classes.DC (slice_index_or tables.dc d None) ≡ Ok k.dc
   pub ac : needed_if (nat_lt 0 p.se) classes.AC (slice_index_or tables.ac a None) ≡ Ok k.ac
 
-pub coding-is : (w : Found) (frame : Frame) (p : Pass) (tables : Tables) (index d a : ℕ) (k : Coding)
+pub coding-is : (w : Said) (frame : Frame) (p : Pass) (tables : Tables) (index d a : ℕ) (k : Coding)
     → component_coding w frame p tables index d a ≡ Ok k → IsCoding w frame p tables index d a k
 unfolding component_coding
 coding-is w frame p tables index d a k e = search (rules, bind-ok, ok-same, needed-some)
@@ -242,7 +239,7 @@ gathered-map g k f (x ∷ xs) ys e h =
     ∙ ap₂ (λ (c : _) (l : List _). c ∷ l) (h x one.0 one.1) (gathered-map g k f xs more.0 more.1 h)
 
 -- what holds of each coding of a scan
-pub codings-each : (P : Coding → Type 0) (w : Found) (frame : Frame) (s : Scan) (codings : List Coding)
+pub codings-each : (P : Coding → Type 0) (w : Said) (frame : Frame) (s : Scan) (codings : List Coding)
     → codings_of w frame s ≡ Ok codings
     → ((index d a : ℕ) (k : Coding) → IsCoding w frame (pass_of s) (tables_of w s) index d a k → P k)
     → AllByRecursion P codings
@@ -250,7 +247,7 @@ unfolding codings_of
 codings-each P w frame s codings e h = gathered-each P _ _ codings e (λ x k is.
     h x.0 x.1.0 x.1.1 k (coding-is w frame (pass_of s) (tables_of w s) x.0 x.1.0 x.1.1 k is))
 
-pub codings-indices : (w : Found) (frame : Frame) (s : Scan) (codings : List Coding)
+pub codings-indices : (w : Said) (frame : Frame) (s : Scan) (codings : List Coding)
     → length s.dc_destinations ≡ length s.components → length s.ac_destinations ≡ length s.components
     → codings_of w frame s ≡ Ok codings → map (λ c. c.index) codings ≡ s.components
 unfolding codings_of
@@ -260,16 +257,11 @@ codings-indices w frame s codings h g e =
     ∙ keys_of-zip s.components (zip s.dc_destinations s.ac_destinations)
     (omega (arith, h, g, length-zip s.dc_destinations s.ac_destinations))
 
-pub codings-same : (w : Found) (sc : Bool) (h : Arrays) (fi : List (List Bool)) (pl : List (Option (List ℕ)))
-    (frame : Frame) (s : Scan) → codings_of (reading w sc h fi pl) frame s ≡ codings_of w frame s
-unfolding codings_of component_coding tables_of
-codings-same w sc h fi pl frame s = refl
-
 -- ---- a scan
 
 pub scan-by : (found : Found) (frame : Frame) (s : Scan) (codings : List Coding) (arrays : Arrays) (m : Marker)
     (bytes data_bytes more : List ℕ) → frame.process ≢ Lossless
-    → found.frame ≡ Some frame → sos_at frame bytes ≡ Ok (s, data_bytes) → codings_of found frame s ≡ Ok codings
+    → found.said.frame ≡ Some frame → sos_at frame bytes ≡ Ok (s, data_bytes) → codings_of found.said frame s ≡ Ok codings
     → scan_arrays found frame s codings data_bytes ≡ Ok ((arrays, Some m), more)
     → after_restarts (suc (length more)) (Some m) more ≡ Ok (Some m, more)
     → scan_segment found bytes ≡ Ok (scan_turn found (after_scan found frame s codings arrays) (Some m), more)

@@ -5,9 +5,9 @@ use Rattle.std.specs.Prelude.{slice_index_or}
 use Rattle.jpeg_bits.specs.Codes.{Table, IsTable}
 use Rattle.jpeg_segments.specs.HuffmanTables.{Tables, DefinedTable, no_tables, with_table}
 use Rattle.jpeg_streams.specs.Segments.{updated}
-use Rattle.jpeg_streams.specs.Found.{Found}
+use Rattle.jpeg_streams.specs.Found.{Said}
 use Rattle.jpeg_segments.specs.WrittenSegments.{Segment, Huffman, IsHuffmanTable, MayStand}
-use Rattle.jpeg_streams.specs.SaidSegments.{found_after}
+use Rattle.jpeg_streams.specs.SaidSegments.{said_after}
 
 abbrev pub IsTableOrNone : Option Table → Type 0
 IsTableOrNone None = Unit {0}
@@ -41,8 +41,8 @@ tables-all most tables (t ∷ ts) h all = tables-all most (with_table tables t) 
 pub no-tables : HasTables no_tables
 no-tables = record { dc = (tt, (tt, (tt, (tt, tt)))); ac = (tt, (tt, (tt, (tt, tt)))) }
 
-pub segment-tables : (found : Found) (s : Segment) → MayStand found.frame s → HasTables found.huffman
-    → HasTables (found_after found s).huffman
+pub segment-tables : (found : Said) (s : Segment) → MayStand found.frame s → HasTables found.huffman
+    → HasTables (said_after found s).huffman
 segment-tables found (Huffman ts) may h = search (rules, updated-all, tables-all, no-tables)
 segment-tables found s may h = h
 

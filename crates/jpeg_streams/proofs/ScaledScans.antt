@@ -18,13 +18,13 @@ use Rattle.jpeg_streams.specs.Levels.{Levels, IsLegal, numbers_at}
 use Rattle.jpeg_streams.specs.ScanSegments.{vias_from, Coding, codings_of, component_coding, components_of}
 use Rattle.jpeg_streams.specs.ScanSegments.{pass_of, tables_of}
 use Rattle.jpeg_streams.specs.Scans.{turns_of}
-use Rattle.jpeg_streams.specs.Found.{Found}
+use Rattle.jpeg_streams.specs.Found.{Said}
 use Rattle.jpeg_streams.specs.declared.grids.Grid.{Grid}
 use Rattle.jpeg_streams.specs.WrittenScans.{Coefficients, IsOwn, WritesScan}
 use Rattle.jpeg_streams.specs.WrittenScans.{HasTable, IsLegalScan}
 use Rattle.jpeg_streams.specs.WrittenImages.{ClosesImage, WritesImageScan, WritesPart}
 use Rattle.jpeg_streams.specs.WrittenStreams.{end, scan, segment}
-use Rattle.jpeg_streams.specs.SaidSegments.{Stands, found_after}
+use Rattle.jpeg_streams.specs.SaidSegments.{Stands, said_after}
 use Rattle.jpeg_segments.specs.WrittenSegments.{Header, Segment}
 use Rattle.jpeg_streams.proofs.FrameShapes.{below-ceiling}
 use Rattle.jpeg_streams.proofs.ReadTurns.{bind-ok, coding-is, ok-same, same-frame, some-none, then-ok}
@@ -163,7 +163,7 @@ pub data CodingsAlike : List Coding → List Coding → Type 0 where
   one_more : (k l : Coding) (ks ls : List Coding) → CodingAlike k l → CodingsAlike ks ls
       → CodingsAlike (k ∷ ks) (l ∷ ls)
 
-abbrev pub at_frame : Found → Frame → Found
+abbrev pub at_frame : Said → Frame → Said
 at_frame w g = record w { frame = Some g }
 
 first-alike : (n : ℕ) (cs ds : List Component) (c : Component) → Alikes cs ds → slice_get cs n ≡ Some c
@@ -173,7 +173,7 @@ first-alike zero cs ds c (one_more x y cs' ds' h more) e = search rules
 first-alike (suc n) cs ds c none e = search rules
 first-alike (suc n) cs ds c (one_more x y cs' ds' h more) e = first-alike n cs' ds' c more e
 
-coding-alike : (w : Found) (f g : Frame) → SameFrame f g → (p : Pass) (tables : Tables) (index d a : ℕ) (k : Coding)
+coding-alike : (w : Said) (f g : Frame) → SameFrame f g → (p : Pass) (tables : Tables) (index d a : ℕ) (k : Coding)
     → component_coding w f p tables index d a ≡ Ok k
     → (l : Coding) × (component_coding (at_frame w g) g p tables index d a ≡ Ok l) × CodingAlike k l
 unfolding component_coding
@@ -188,7 +188,7 @@ coding-alike w f g same p tables index d a k e =
       record { index = refl; component = other.2; dc = refl; ac = refl },
     )
 
-codings-alike : (w : Found) (f g : Frame) → SameFrame f g
+codings-alike : (w : Said) (f g : Frame) → SameFrame f g
     → (p : Pass) (tables : Tables) (xs : List (ℕ × (ℕ × ℕ))) (codings : List Coding)
     → gathered (λ x. component_coding w f p tables x.0 x.1.0 x.1.1) xs ≡ Ok codings
     → (others : List Coding)
@@ -258,17 +258,17 @@ legal-alike : (p : Pass) (levels : ℕ → Levels) (ks ls : List Coding) → Cod
 legal-alike p levels ks ls none h = tt
 legal-alike p levels ks ls (one_more k l ks' ls' a more) h = search (rules, legal-alike p levels ks' ls' more h.1)
 
-stands-alike : (w : Found) (s : Segment) (f g : Frame) → SameFrame f g → w.frame ≡ Some f → Stands w s
+stands-alike : (w : Said) (s : Segment) (f g : Frame) → SameFrame f g → w.frame ≡ Some f → Stands w s
     → Stands (at_frame w g) s
 stands-alike w s f g same e stands = search (rules, some-none)
 
-tables-there : (w : Found) (g : Frame) (cs ds : List Component) → Alikes cs ds → AllByRecursion (HasTable w) cs
+tables-there : (w : Said) (g : Frame) (cs ds : List Component) → Alikes cs ds → AllByRecursion (HasTable w) cs
     → AllByRecursion (HasTable (at_frame w g)) ds
 tables-there w g cs ds none h = tt
 tables-there w g cs ds (one_more c d cs' ds' a more) h = search (rules, tables-there w g cs' ds' more h.1)
 
 -- a scan is written for a frame with the same blocks too
-scan-other : (array : Coefficients) (f g : Frame) (w : Found) (levels next : ℕ → Levels) (h : ScanHeader)
+scan-other : (array : Coefficients) (f g : Frame) (w : Said) (levels next : ℕ → Levels) (h : ScanHeader)
     (bytes : List ℕ) → SameFrame f g → WritesImageScan array w levels f h bytes next
     → WritesImageScan array (at_frame w g) levels g h bytes next
 unfolding codings_of tables_of
@@ -286,14 +286,14 @@ scan-other array f g w levels next h bytes same x =
     }
 
 -- A stream that was written for a frame is written for one with the same blocks.
-pub scans-alike : (array : Coefficients) (f g : Frame) (w final : Found) (levels last : ℕ → Levels) (bytes : List ℕ)
+pub scans-alike : (array : Coefficients) (f g : Frame) (w final : Said) (levels last : ℕ → Levels) (bytes : List ℕ)
     → SameFrame f g → w.frame ≡ Some f → WritesPart array ClosesImage w levels bytes final last
     → WritesPart array ClosesImage (at_frame w g) levels bytes (at_frame final g) last
 scans-alike array f g w final levels last bytes same e
     (segment w' final' levels' last' fill (Header number h) more stands may r) = some-none f w.frame e stands.0.0
 scans-alike array f g w final levels last bytes same e (segment w' final' levels' last' fill s more stands may r) =
     segment (at_frame w g) (at_frame final g) levels last fill s more (stands-alike w s f g same e stands) may
-    (scans-alike array f g (found_after w s) final levels last more same e r)
+    (scans-alike array f g (said_after w s) final levels last more same e r)
 scans-alike array f g w final levels last bytes same e
     (scan w' final' levels' next last' frame fill h payload more framed is x r) =
     let is_same = subst (λ (y : Frame). SameFrame y g) (same-frame f frame w.frame e framed) same in

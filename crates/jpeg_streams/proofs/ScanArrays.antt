@@ -31,11 +31,11 @@ abbrev pub AllOf : Frame → Result (List Coding) Fault → Type 0
 AllOf frame (Ok codings) = AllByRecursion (IsOf frame) codings
 AllOf frame (Err e) = Unit {0}
 
-pub codings-are-of : (found : Found) (frame : Frame) (scan : Scan) → AllOf frame (codings_of found frame scan)
-codings-are-of found frame scan = go (codings_of found frame scan) refl
+pub codings-are-of : (found : Found) (frame : Frame) (scan : Scan) → AllOf frame (codings_of found.said frame scan)
+codings-are-of found frame scan = go (codings_of found.said frame scan) refl
   where
-    go : (r : Result (List Coding) Fault) → codings_of found frame scan ≡ r → AllOf frame r
-    go (Ok codings) e = codings-each (IsOf frame) found frame scan codings e
+    go : (r : Result (List Coding) Fault) → codings_of found.said frame scan ≡ r → AllOf frame r
+    go (Ok codings) e = codings-each (IsOf frame) found.said frame scan codings e
         (λ index d a k is. record { here = get-at k.index frame.components k.component is.component })
     go (Err f) e = tt
 
@@ -99,32 +99,32 @@ pub sequential-scan : (found : Found) (frame : Frame) (scan : Scan) (c : Coding)
     (bytes : List ℕ)
     → is_progressive frame.process ≡ false → AllByRecursion (Fits frame) frame.components
     → AllByRecursion (IsOf frame) (c ∷ codings) → scan_arrays found frame scan (c ∷ codings) bytes
-    ≡ scan_by_rows (pass_of scan) (vias_from 0 (c ∷ codings)) found.restart frame (components_of (c ∷ codings)) bytes
+    ≡ scan_by_rows (pass_of scan) (vias_from 0 (c ∷ codings)) found.said.restart frame (components_of (c ∷ codings)) bytes
 unfolding scan_arrays arrays_before
 sequential-scan found frame scan c codings bytes process fits of =
     let all = c ∷ codings in
     let cs = components_of all in
     let fit = fits-of frame all fits of in
-    let start : (if is_progressive frame.process && found.scanned then found.kept else zero_arrays
+    let start : (if is_progressive frame.process && found.said.scanned then found.kept else zero_arrays
     frame.components)
     ≡ zero_arrays frame.components
     = search rules in
     (grind (arith, zeros-of frame all of))
-    ∙ frame-scans frame cs (pass_of scan) (vias_from 0 all) (found.restart * mcu_size cs) (zero_arrays cs) bytes fit
+    ∙ frame-scans frame cs (pass_of scan) (vias_from 0 all) (found.said.restart * mcu_size cs) (zero_arrays cs) bytes fit
     (zeros-sized cs)
-    ∙ scans-by-rows frame c.component (components_of codings) (pass_of scan) (vias_from 0 all) found.restart bytes fit
+    ∙ scans-by-rows frame c.component (components_of codings) (pass_of scan) (vias_from 0 all) found.said.restart bytes fit
 
 -- A scan of a progressive frame is its blocks one after the other, each read on what is held of it.
 pub progressive-scan : (found : Found) (frame : Frame) (scan : Scan) (c : Coding) (codings : List Coding)
     (bytes : List ℕ)
     → AreArrays frame.components (arrays_before found frame) → AllByRecursion (Fits frame) frame.components
     → AllByRecursion (IsOf frame) (c ∷ codings) → scan_arrays found frame scan (c ∷ codings) bytes
-    ≡ scan_from (pass_of scan) (vias_from 0 (c ∷ codings)) (found.restart * mcu_size (components_of (c ∷ codings)))
+    ≡ scan_from (pass_of scan) (vias_from 0 (c ∷ codings)) (found.said.restart * mcu_size (components_of (c ∷ codings)))
     (spots_of frame (components_of (c ∷ codings)))
     (arrays_of (c ∷ codings) (arrays_before found frame)) bytes
 unfolding scan_arrays
 progressive-scan found frame scan c codings bytes kept fits of = rw (
-    frame-scans frame (components_of (c ∷ codings)) (pass_of scan) (vias_from 0 (c ∷ codings)) (found.restart *
+    frame-scans frame (components_of (c ∷ codings)) (pass_of scan) (vias_from 0 (c ∷ codings)) (found.said.restart *
     mcu_size (components_of (c ∷ codings))) (arrays_of (c ∷ codings) (arrays_before found frame)) bytes (fits-of frame
     (c ∷ codings) fits of) (arrays-sized frame (c ∷ codings) (arrays_before found frame) kept of))
     refl

@@ -11,8 +11,8 @@ use Rattle.jpeg_streams.specs.declared.before.Before.TheVariants.{Elsewhere}
 use Rattle.jpeg_streams.specs.declared.settings.Settings.{Settings}
 use Rattle.jpeg_segments.specs.Scales.{frame_at, scale_for, sized}
 use Rattle.jpeg_streams.specs.Stream.{header_at, sized_meaning, sized_to, told_of}
-use Rattle.jpeg_streams.specs.Found.{Found, nothing_found}
-use Rattle.jpeg_streams.specs.SaidSegments.{found_after}
+use Rattle.jpeg_streams.specs.Found.{nothing_found, nothing_said, Said}
+use Rattle.jpeg_streams.specs.SaidSegments.{said_after}
 use Rattle.jpeg_streams.specs.Levels.{Levels, Is8Bit, nothing_sent}
 use Rattle.jpeg_streams.specs.WrittenScans.{Coefficients}
 use Rattle.jpeg_streams.specs.WrittenImages.{WritesImage}
@@ -25,8 +25,8 @@ use Rattle.jpeg_streams.proofs.ScaledSizes.{scaled_component, most_h, most_v, fr
 use Rattle.jpeg_streams.proofs.ScaledScans.{own-same, Alike, Alikes, none, one_more, SameFrame, length-same, at_frame}
 use Rattle.jpeg_streams.proofs.ScaledScans.{scans-alike}
 use Rattle.jpeg_streams.proofs.ReadStreams.{drawn-said, holds-nothing, image-read, IsDrawn, ImageMeant, MayEndImage}
-use Rattle.jpeg_streams.proofs.ReadStreams.{no_progress, plain-said, with_progress}
-use Rattle.jpeg_streams.proofs.WalkedStreams.{frame-kept, header-read, reads-on, rest-by}
+use Rattle.jpeg_streams.proofs.ReadStreams.{bring, no_progress, plain-said}
+use Rattle.jpeg_streams.proofs.WalkedStreams.{beside, frame-kept, header-read, reads-on, rest-by}
 use Rattle.jpeg_streams.proofs.WrittenPictures.{pictured, taken}
 use Rattle.jpeg_streams.proofs.ScaledSources.{frame-sources}
 use Rattle.jpeg_streams.proofs.Soundness.{scale-bounds}
@@ -85,17 +85,17 @@ sized-is width height f n = go f.process refl
 -- ---- the meaning
 
 -- What a written stream is read as at a scale.
-image-sized : (width height : ℕ) (settings : Settings) (array : Coefficients) (bytes tail : List ℕ) (final : Found)
+image-sized : (width height : ℕ) (settings : Settings) (array : Coefficients) (bytes tail : List ℕ) (final : Said)
     (last : ℕ → Levels)
     → ((index row column : ℕ) → Is8Bit (array index row column)) → WritesImage array bytes final last
     → ImageMeant settings array (sized_to width height final) last tail
     (sized_meaning width height settings (bytes ++ tail))
-unfolding sized_meaning nothing_found
+unfolding sized_meaning nothing_found nothing_said
 image-sized width height settings array bytes tail final last range w =
     let r = header-read MayEndImage (image-read array range) tail (λ k. nothing_sent) last bytes final no_progress w
     refl in
     let h = r.0 in
-    let said = found_after h.between (Header h.number h.header) in
+    let said = said_after h.between (Header h.number h.header) in
     let f = frame_written h.number h.header in
     let plain = plain-said h.between h.number h.header h.stands in
     let first = drawn-said h.between h.number h.header h.stands h.allowed in
@@ -114,16 +114,16 @@ image-sized width height settings array bytes tail final last range w =
     (scans-alike array f g said final (λ k. nothing_sent) last h.left same refl h.written)
     (record { tables = h.said.tables; shaped = λ x q. subst IsDrawn (one-frame g x _ refl q) drawn })
     (holds-nothing array (at_frame said g) h.unscanned) (stands-here left) (omega arith) in
-    subst (λ (x : Found). ImageMeant settings array x last tail (sized_meaning width height settings (bytes ++ tail)))
+    subst (λ (x : Said). ImageMeant settings array x last tail (sized_meaning width height settings (bytes ++ tail)))
     (ap (λ (o : Option Frame). record final { frame = option_map (sized width height) o }) (sym kept)) (
       e.0,
-      then-ok (header_at (bytes ++ tail)) _ (with_progress said no_progress, left) _ r.1
-          (rest-by settings (with_progress (at_frame said g) no_progress) _ left tail e.1),
+      then-ok (header_at (bytes ++ tail)) _ (beside bring said no_progress, left) _ r.1
+          (rest-by settings (beside bring (at_frame said g) no_progress) _ left tail e.1),
     )
 
 -- The meaning at a scale is the picture of the array at that scale.
 pub stream-means_sized : (width height : ℕ) (settings : Settings) (array : Coefficients) (bytes rest : List ℕ)
-    (final : Found) (last : ℕ → Levels)
+    (final : Said) (last : ℕ → Levels)
     → ((index row column : ℕ) → Is8Bit (array index row column)) → WritesImage array bytes final
     last
     → sized_meaning width height settings (bytes ++ rest)
@@ -134,7 +134,7 @@ stream-means_sized width height settings array bytes rest final last range w =
 
 -- A written stream whose picture is taken means one at each scale.
 pub sized-taken : (width height : ℕ) (settings : Settings) (array : Coefficients) (bytes rest : List ℕ)
-    (final : Found) (last : ℕ → Levels)
+    (final : Said) (last : ℕ → Levels)
     → ((index row column : ℕ) → Is8Bit (array index row column)) → WritesImage array bytes final
     last
     → TakesPicture settings (sized_to width height final)

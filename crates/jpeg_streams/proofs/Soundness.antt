@@ -16,7 +16,7 @@ use Rattle.jpeg_pixels.specs.Pictures.{Source, HasSources, sources_of}
 use Rattle.jpeg_streams.specs.InTurn.{Fits, AreArrays}
 use Rattle.jpeg_streams.specs.Stream.{sized_to}
 use Rattle.jpeg_streams.specs.Segments.{accepted, is_decoded_count, is_decoded_precision}
-use Rattle.jpeg_streams.specs.Found.{nothing_found, Found}
+use Rattle.jpeg_streams.specs.Found.{nothing_found, nothing_said, Found, with_said}
 use Rattle.jpeg_streams.specs.ScanSegments.{arrays_before}
 use Rattle.jpeg_streams.specs.Sound.{AreSampled, HasDecodedFrame, IsUnread, IsDecodedFrame, ArePlanes, IsSound}
 use Rattle.jpeg_streams.proofs.Apart.{zeros-sized}
@@ -80,7 +80,7 @@ decoded-scaled s f e full p = search (rules, scaled_again)
 
 -- ---- states
 
-pub sound_kept : (old new : Found) → IsSound old → new.frame ≡ old.frame → new.scanned ≡ old.scanned
+pub sound_kept : (old new : Found) → IsSound old → new.said.frame ≡ old.said.frame → new.said.scanned ≡ old.said.scanned
     → new.kept ≡ old.kept → new.planes ≡ old.planes → new.samples ≡ old.samples → IsSound new
 unfolding arrays_before
 sound_kept old new p a b c d s = record {
@@ -104,9 +104,9 @@ no-samples zero (c ∷ cs) h = absurd (omega arith)
 no-samples (suc n) (c ∷ cs) h = (tt, no-samples n cs (omega arith))
 
 -- a frame after which nothing was read yet
-pub sound-frame : (found : Found) (f : Frame) → IsDecodedFrame f → found.scanned ≡ false
+pub sound-frame : (found : Found) (f : Frame) → IsDecodedFrame f → found.said.scanned ≡ false
     → found.planes ≡ replicate 4 None
-    → found.samples ≡ replicate 4 None → IsSound (record found { frame = Some f })
+    → found.samples ≡ replicate 4 None → IsSound (with_said (λ said. record said { frame = Some f }) found)
 unfolding arrays_before
 sound-frame found f p e n s = grind (
   arith,
@@ -115,19 +115,19 @@ sound-frame found f p e n s = grind (
   no-samples 4 f.components (count-few (length f.components) (decoded-count f p)).1,
 )
 
-pub sound-framed : (found : Found) (f : Frame) → IsSound found → is_some found.frame ≡ false → IsFrame f
-    → accepted f ≡ Ok f → IsSound (record found { frame = Some f })
+pub sound-framed : (found : Found) (f : Frame) → IsSound found → is_some found.said.frame ≡ false → IsFrame f
+    → accepted f ≡ Ok f → IsSound (with_said (λ said. record said { frame = Some f }) found)
 sound-framed found f p e q a = search (rules, sound-frame, decoded-read)
 
 -- ---- the start of a stream
 
 pub sound-nothing : (found : Found) → found ≡ nothing_found → IsSound found
-unfolding nothing_found
+unfolding nothing_found nothing_said
 sound-nothing found e = search rules
 
-pub nothing-framed : (found : Found) → found ≡ nothing_found → found.frame ≡ None
-unfolding nothing_found
-nothing-framed found e = ap (λ (f : Found). f.frame) e
+pub nothing-framed : (found : Found) → found ≡ nothing_found → found.said.frame ≡ None
+unfolding nothing_found nothing_said
+nothing-framed found e = ap (λ (f : Found). f.said.frame) e
 
 -- ---- frames at a scale
 
@@ -142,11 +142,11 @@ decoded-asked width height f p = go f.process refl
     go DctProgressive e = at (λ l. cc)
     go Lossless e = p
 
-pub frames_scaled : (width height : ℕ) (old new : Found) → new ≡ sized_to width height old → HasDecodedFrame old
+pub frames_scaled : (width height : ℕ) (old new : Found) → new ≡ with_said (sized_to width height) old → HasDecodedFrame old
     → HasDecodedFrame new
 frames_scaled width height old new e h = search (rules, decoded-asked)
 
-pub sound_scaled : (width height : ℕ) (old new : Found) → new ≡ sized_to width height old → IsSound old → IsUnread old
+pub sound_scaled : (width height : ℕ) (old new : Found) → new ≡ with_said (sized_to width height) old → IsSound old → IsUnread old
     → IsSound new
 sound_scaled width height old new e p u = search (rules, sound-frame, decoded-asked)
 

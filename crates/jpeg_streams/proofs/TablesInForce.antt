@@ -10,7 +10,7 @@ use Rattle.jpeg_segments.specs.Frame.{Frame}
 use Rattle.jpeg_segments.specs.ScanHeader.{Scan}
 use Rattle.jpeg_streams.specs.Scans.{no_table}
 use Rattle.jpeg_streams.specs.ScanSegments.{Coding, codings_of, needed_if, tables_of}
-use Rattle.jpeg_streams.specs.Found.{Found}
+use Rattle.jpeg_streams.specs.Found.{Said}
 use Rattle.jpeg_streams.proofs.ReadTurns.{codings-each, needed-some, ok-same}
 use Rattle.jpeg_streams.proofs.SaidTables.{HasTables, IsTableOrNone, table-there}
 use Rattle.jpeg_streams.proofs.WrittenFrameScans.{no-codes}
@@ -32,7 +32,7 @@ needed-good false class l i t h e = subst IsTable (ok-same (no_table class) t e)
 })
 
 -- The tables of a scan exist.
-pub codings-good : (w : Found) (f : Frame) (s : Scan) (codings : List Coding) → HasTables w.huffman
+pub codings-good : (w : Said) (f : Frame) (s : Scan) (codings : List Coding) → HasTables w.huffman
     → codings_of w f s ≡ Ok codings → AllByRecursion (λ c. IsTable c.dc × IsTable c.ac) codings
 unfolding tables_of
 codings-good w f s codings h e =

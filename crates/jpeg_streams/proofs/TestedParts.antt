@@ -22,7 +22,7 @@ use Rattle.jpeg_segments.specs.ScanHeaders.{AreChoices, IsScan, ScanHeader, scan
 use Rattle.jpeg_segments.specs.WrittenSegments.{AreComponents, FrameHeader, IsFrameHeader}
 use Rattle.jpeg_segments.specs.WrittenSegments.{IsHuffmanTable}
 use Rattle.jpeg_segments.specs.WrittenSegments.{IsQuantizationTable, QuantizationTable}
-use Rattle.jpeg_streams.specs.Found.{Found}
+use Rattle.jpeg_streams.specs.Found.{Said}
 use Rattle.jpeg_streams.specs.Levels.{Is8Bit, IsLegal, Levels}
 use Rattle.jpeg_streams.specs.ScanSegments.{Coding, codings_of, pass_of}
 use Rattle.jpeg_streams.specs.WorkedImages.{in_column}
@@ -152,7 +152,7 @@ legal-by p l e =
     search (rules, and_parts, leb-true, none-is, eq-eqb, at-is, some-is, ne_eqb, all-by)
 
 -- a scan whose codings are found
-pub scan-legal : (w : Found) (frame : Frame) (levels : ℕ → Levels) (h : ScanHeader) (codings : List Coding)
+pub scan-legal : (w : Said) (frame : Frame) (levels : ℕ → Levels) (h : ScanHeader) (codings : List Coding)
     → codings_of w frame (scan_written frame h) ≡ Ok codings
     → list_all (λ c. is_legal (pass_of (scan_written frame h)) (levels c.index)) codings ≡ true
     → IsLegalScan w frame levels (scan_written frame h) codings

@@ -6,10 +6,10 @@ use Rattle.jpeg_streams.specs.States.{OnTold}
 use Rattle.jpeg_bits.specs.Reading.{Fault}
 use Rattle.jpeg_streams.specs.Stream.{told_of, start_at, walk}
 use Rattle.jpeg_streams.specs.Reported.{told_by_turns, told_in_turns}
-use Rattle.jpeg_streams.specs.Found.{nothing_found}
+use Rattle.jpeg_streams.specs.Found.{nothing_found, nothing_said}
 
 pub turns-no_start : (n : ℕ) (header : Bool) (bytes : List ℕ) (fault : Fault) → start_at bytes ≡ Err fault
-    → told_by_turns n header bytes ≡ told_of nothing_found
+    → told_by_turns n header bytes ≡ told_of nothing_said
 unfolding told_by_turns
 turns-no_start n header bytes fault h = rw (h, told_by_turns) refl
 
@@ -18,7 +18,7 @@ pub turns-start : (n : ℕ) (header : Bool) (bytes rest : List ℕ) → start_at
 unfolding told_by_turns
 turns-start n header bytes rest h = rw (h, told_by_turns) refl
 
-pub turns-none : (header : Bool) (bytes : List ℕ) → told_by_turns 0 header bytes ≡ told_of nothing_found
+pub turns-none : (header : Bool) (bytes : List ℕ) → told_by_turns 0 header bytes ≡ told_of nothing_said
 unfolding told_by_turns walk nothing_found
 turns-none header bytes = search rules
 

@@ -16,7 +16,7 @@ use Rattle.jpeg_segments.specs.declared.parser.CodingProcess.TheVariants.{DctSeq
 use Rattle.jpeg_segments.specs.Scales.{frame_at, sized_by}
 use Rattle.jpeg_streams.specs.Stream.{sized_to}
 use Rattle.jpeg_streams.specs.ScanSegments.{is_progressive}
-use Rattle.jpeg_streams.specs.Found.{Found, nothing_found}
+use Rattle.jpeg_streams.specs.Found.{nothing_said, Said}
 use Rattle.jpeg_streams.specs.WrittenScans.{Coefficients, IsComplete}
 use Rattle.jpeg_streams.specs.ArrayPictures.{as_sent, picture_of_blocks}
 use Rattle.jpeg_streams.specs.ArrayPictures.{picture_of_array, meaning_of_array}
@@ -65,7 +65,7 @@ plane-same : (scale : ℕ) (table : List ℕ) (wide high : ℕ) (f g : ℕ → �
 unfolding plane_of
 plane-same scale table wide high f g h = grind (arith, common_steps, map-same)
 
-planes-whole : (said : Found) (array : Coefficients) (levels : ℕ → Levels) (index : ℕ) (cs : List
+planes-whole : (said : Said) (array : Coefficients) (levels : ℕ → Levels) (index : ℕ) (cs : List
     Component)
     → AllByRecursion (λ k. IsComplete (levels k)) (range_with_len index (length cs))
     → ((k row column : ℕ) → length (array k row column).acs ≡ length (levels k).acs)
@@ -83,7 +83,7 @@ planes-whole said array levels index (c ∷ cs) done h =
           done.1 h,
     )
 
-picture-whole : (settings : Settings) (said : Found) (array : Coefficients) (levels : ℕ → Levels) (frame : Frame)
+picture-whole : (settings : Settings) (said : Said) (array : Coefficients) (levels : ℕ → Levels) (frame : Frame)
     → said.frame ≡ Some frame → AllComplete frame levels
     → ((k row column : ℕ) → length (array k row column).acs ≡ length (levels k).acs)
     → picture_of_array settings said array levels ≡ picture_of_blocks settings said array
@@ -95,27 +95,27 @@ picture-whole settings said array levels frame e done h =
 
 -- ---- the levels of a stream
 
-levels-sized : (array : Coefficients) (bytes : List ℕ) (final : Found) (last : ℕ → Levels)
+levels-sized : (array : Coefficients) (bytes : List ℕ) (final : Said) (last : ℕ → Levels)
     → WritesImage array bytes final last → (k : ℕ) → length (last k).acs ≡ 63
 levels-sized array bytes final last w =
-    (keeps (λ said levels. (k : ℕ) → length (levels k).acs ≡ 63) nothing_found final (λ k. nothing_sent) last w.after
+    (keeps (λ said levels. (k : ℕ) → length (levels k).acs ≡ 63) nothing_said final (λ k. nothing_sent) last w.after
     (λ now levels s stands may h. h)
     (λ now levels next f h data_bytes e framed x sized.
     subst (λ (l : ℕ → Levels). (k : ℕ) → length (l k).acs ≡ 63) x.sent (after-length _ _ levels sized))
     w.written (λ k. refl)).0
 
-pub whole-is : (settings : Settings) (array : Coefficients) (bytes tail : List ℕ) (final : Found) (last : ℕ → Levels)
+pub whole-is : (settings : Settings) (array : Coefficients) (bytes tail : List ℕ) (final : Said) (last : ℕ → Levels)
     (frame : Frame) → ((index row column : ℕ) → Is8Bit (array index row column))
     → WritesImage array bytes final last → final.frame ≡ Some frame → AllComplete frame last
     → meaning_of_array settings final array last tail ≡ whole_meaning settings final array tail
 whole-is settings array bytes tail final last frame range w e done =
     let sized = levels-sized array bytes final last w in search (rules, sized, picture-whole)
 
-pub sequential-whole : (array : Coefficients) (bytes : List ℕ) (final : Found) (last : ℕ → Levels) (frame : Frame)
+pub sequential-whole : (array : Coefficients) (bytes : List ℕ) (final : Said) (last : ℕ → Levels) (frame : Frame)
     → WritesImage array bytes final last → final.frame ≡ Some frame
     → is_progressive frame.process ≡ false → AllComplete frame last
 sequential-whole array bytes final last frame w e n =
-    let c = (keeps (λ said levels. Unit {0}) nothing_found final (λ k. nothing_sent) last w.after (λ now x s a b p. tt)
+    let c = (keeps (λ said levels. Unit {0}) nothing_said final (λ k. nothing_sent) last w.after (λ now x s a b p. tt)
     (λ now x next f h data_bytes a b q p. tt) w.written tt).2 in
     let same = same-frame c.frame frame final.frame c.is_said e in
     subst (λ (f : Frame). AllComplete f last) same
@@ -130,7 +130,7 @@ sized-count width height DctSequential frame = length-map frame.components _
 sized-count width height p frame = search (rules, length-map)
 
 pub sized-whole : (width height : ℕ) (settings : Settings) (array : Coefficients) (bytes tail : List ℕ)
-    (final : Found) (last : ℕ → Levels) (frame : Frame) → ((index row column : ℕ) → Is8Bit (array
+    (final : Said) (last : ℕ → Levels) (frame : Frame) → ((index row column : ℕ) → Is8Bit (array
     index row column))
     → WritesImage array bytes final last → final.frame ≡ Some frame → AllComplete frame last
     → meaning_of_array settings (sized_to width height final) array last tail

@@ -19,12 +19,12 @@ use Rattle.jpeg_pixels.specs.Pictures.{source_of}
 use Rattle.jpeg_pixels.specs.Upsampling.{rule_of}
 use Rattle.jpeg_streams.specs.Levels.{Levels, Is8Bit, nothing_sent}
 use Rattle.jpeg_streams.specs.Order.{all_spots, grid_of, mcu_size, mcu_spots, part_spots, spots_of}
-use Rattle.jpeg_streams.specs.SaidSegments.{found_after}
+use Rattle.jpeg_streams.specs.SaidSegments.{said_after}
 use Rattle.jpeg_streams.specs.ScanSegments.{Coding, codings_of, component_coding, pass_of}
 use Rattle.jpeg_streams.specs.ScanSegments.{tables_of, vias_from}
 use Rattle.jpeg_streams.specs.Scans.{turns_of}
 use Rattle.jpeg_streams.specs.Segments.{accepted, updated}
-use Rattle.jpeg_streams.specs.Found.{nothing_found, Found}
+use Rattle.jpeg_streams.specs.Found.{nothing_said, Said}
 use Rattle.jpeg_streams.specs.WorkedImages.{IsWhollyWritten, flat_block, colour_array, colour_bytes}
 use Rattle.jpeg_streams.specs.WrittenData.{WritesAc, WritesBlocks, bits_for}
 use Rattle.jpeg_bits.specs.Passes.{predictors_at_start}
@@ -178,30 +178,30 @@ scan-is : IsScan the_frame the_header
 unfolding frame_of component_of
 scan-is = scan-by the_frame the_header refl
 
-abbrev said_1 : Found
-said_1 = found_after nothing_found (Quantization (table_of_one 0 16 ∷ []))
+abbrev said_1 : Said
+said_1 = said_after nothing_said (Quantization (table_of_one 0 16 ∷ []))
 
-abbrev said_2 : Found
-said_2 = found_after (found_after said_1 (Header 0 header)) (segment_of (table classes.DC 4))
+abbrev said_2 : Said
+said_2 = said_after (said_after said_1 (Header 0 header)) (segment_of (table classes.DC 4))
 
-abbrev said : Found
-said = found_after (found_after said_2 (segment_of (table classes.AC 0))) (Interval 1)
+abbrev said : Said
+said = said_after (said_after said_2 (segment_of (table classes.AC 0))) (Interval 1)
 
-abbrev scanned : Found
+abbrev scanned : Said
 scanned = record said { scanned = true }
 
 abbrev sent : ℕ → Levels
 sent = levels_after (pass_of (scan_written the_frame the_header)) (0 ∷ 1 ∷ 2 ∷ []) (λ k. nothing_sent)
 
 legal : IsLegalScan said the_frame (λ k. nothing_sent) (scan_written the_frame the_header) codings
-unfolding nothing_found updated frame_of component_of scan_of pass_of tables_of codings_of gathered
+unfolding nothing_said updated frame_of component_of scan_of pass_of tables_of codings_of gathered
     component_coding
 legal = scan-legal said the_frame (λ k. nothing_sent) the_header codings refl refl
 
 -- ---- the stream
 
 pub colour-written : IsWhollyWritten colour_array colour_bytes
-unfolding nothing_found frame_of component_of quantization_bytes frame_payload huffman_bytes scan_payload updated
+unfolding nothing_said frame_of component_of quantization_bytes frame_payload huffman_bytes scan_payload updated
     codes_exist lengths_from code_value levels_after pass_of scan_of accepted gathered rule_of source_of
 colour-written =
     let whole : IsComplete (sent 0) = record { dc = refl; acs = all-same (Some 0) 63 } in
@@ -213,7 +213,7 @@ colour-written =
         after = _;
         starts = refl;
         written =
-            segment nothing_found scanned _ sent 0 (Quantization (table_of_one 0 16 ∷ [])) _
+            segment nothing_said scanned _ sent 0 (Quantization (table_of_one 0 16 ∷ [])) _
             ((one-quantizes 0 16 (omega arith) (omega arith), tt), tt) refl (
             segment said_1 scanned _ sent 0 (Header 0 header) _ ((refl, frame-by 0 header refl), refl) (omega arith) (
             segment _ scanned _ sent 0 (segment_of (table classes.DC 4)) _ ((table-by _ _ (omega arith) refl, tt), tt) tt (

@@ -14,12 +14,12 @@ use Rattle.jpeg_pixels.specs.Pictures.{source_of}
 use Rattle.jpeg_pixels.specs.Upsampling.{rule_of}
 use Rattle.jpeg_streams.specs.Levels.{Levels, nothing_sent}
 use Rattle.jpeg_streams.specs.Order.{own_spots, spots_of, mcu_size}
-use Rattle.jpeg_streams.specs.SaidSegments.{found_after}
+use Rattle.jpeg_streams.specs.SaidSegments.{said_after}
 use Rattle.jpeg_streams.specs.Scans.{no_table, turns_of}
 use Rattle.jpeg_streams.specs.ScanSegments.{Coding, codings_of, component_coding, pass_of}
 use Rattle.jpeg_streams.specs.ScanSegments.{tables_of}
 use Rattle.jpeg_streams.specs.ScanSegments.{vias_from}
-use Rattle.jpeg_streams.specs.Found.{nothing_found, Found}
+use Rattle.jpeg_streams.specs.Found.{nothing_said, Said}
 use Rattle.jpeg_streams.specs.Segments.{accepted, updated}
 use Rattle.jpeg_streams.specs.WorkedImages.{IsWhollyWritten, grey_array, grey_bytes}
 use Rattle.jpeg_streams.specs.WrittenData.{NoneNew, corrections, count_unknown}
@@ -201,11 +201,11 @@ scans-are : IsScan the_frame header_1 × IsScan the_frame header_2 × IsScan the
 unfolding frame_of component_of
 scans-are = search (rules, scan-by)
 
-abbrev said_1 : Found
-said_1 = found_after nothing_found (Quantization (table_of_one 0 16 ∷ []))
+abbrev said_1 : Said
+said_1 = said_after nothing_said (Quantization (table_of_one 0 16 ∷ []))
 
-abbrev said : Found
-said = found_after (found_after (found_after said_1 (Header 2 header)) (segment_of dc_table)) (segment_of ac_table)
+abbrev said : Said
+said = said_after (said_after (said_after said_1 (Header 2 header)) (segment_of dc_table)) (segment_of ac_table)
 
 abbrev after : ScanHeader → (ℕ → Levels) → ℕ → Levels
 after h levels = levels_after (pass_of (scan_written the_frame h)) (0 ∷ []) levels
@@ -222,22 +222,22 @@ sent_3 = after header_3 sent_2
 abbrev sent_4 : ℕ → Levels
 sent_4 = after header_4 sent_3
 
-abbrev scanned : Found
+abbrev scanned : Said
 scanned = record said { scanned = true }
 
-abbrev Legal : Found → ScanHeader → List Coding → (ℕ → Levels) → Type 0
+abbrev Legal : Said → ScanHeader → List Coding → (ℕ → Levels) → Type 0
 Legal now h ks levels = IsLegalScan now the_frame levels (scan_written the_frame h) ks
 
 legal : Legal said header_1 (dc_coding ∷ []) (λ k. nothing_sent) × Legal scanned header_2 (ac_coding ∷ []) sent_1
     × Legal scanned header_3 (dc_coding ∷ []) sent_2 × Legal scanned header_4 (ac_coding ∷ []) sent_3
-unfolding nothing_found updated frame_of component_of scan_of pass_of tables_of levels_after codings_of gathered
+unfolding nothing_said updated frame_of component_of scan_of pass_of tables_of levels_after codings_of gathered
     component_coding
 legal = search (rules, scan-legal)
 
 -- ---- the stream
 
 pub grey-written : IsWhollyWritten grey_array grey_bytes
-unfolding nothing_found frame_of component_of quantization_bytes frame_payload huffman_bytes scan_payload updated
+unfolding nothing_said frame_of component_of quantization_bytes frame_payload huffman_bytes scan_payload updated
     codes_exist lengths_from code_value levels_after pass_of scan_of accepted gathered rule_of source_of
 grey-written = record {
   final = scanned;
@@ -246,7 +246,7 @@ grey-written = record {
   written = record {
     after = _;
     starts = refl;
-    written = segment nothing_found scanned _ sent_4 0 (Quantization (table_of_one 0 16 ∷ [])) _
+    written = segment nothing_said scanned _ sent_4 0 (Quantization (table_of_one 0 16 ∷ [])) _
         ((one-quantizes 0 16 (omega arith) (omega arith), tt), tt) refl (
         segment said_1 scanned _ sent_4 0 (Header 2 header) _ ((refl, frame-by 2 header refl), refl) (omega arith) (
         segment _ scanned _ sent_4 0 (segment_of dc_table) _ ((table-by _ _ (omega arith) refl, tt), tt) tt (

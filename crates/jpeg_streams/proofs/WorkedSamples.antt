@@ -22,9 +22,9 @@ use Rattle.jpeg_bits.specs.Written.WritesIntervals.{another, last}
 use Rattle.jpeg_lossless.specs.Worked.{small_table}
 use Rattle.jpeg_pixels.specs.Pictures.{source_of}
 use Rattle.jpeg_pixels.specs.Upsampling.{rule_of}
-use Rattle.jpeg_streams.specs.SaidSegments.{found_after}
+use Rattle.jpeg_streams.specs.SaidSegments.{said_after}
 use Rattle.jpeg_streams.specs.Segments.{accepted, updated}
-use Rattle.jpeg_streams.specs.Found.{nothing_found, Found}
+use Rattle.jpeg_streams.specs.Found.{nothing_said, Said}
 use Rattle.jpeg_streams.specs.WorkedSamples.{AreWritten, lone_data, lone_scan, other_data, other_scan, padded_bytes}
 use Rattle.jpeg_streams.specs.WorkedSamples.{padded_data, padded_header, padded_samples, padded_scan, plain_factors}
 use Rattle.jpeg_streams.specs.WorkedSamples.{table_segment, twice_factors, third_data, third_scan, three_bytes}
@@ -39,16 +39,16 @@ use Rattle.jpeg_streams.proofs.WalkedStreams.{closes}
 
 -- ---- what is said
 
-abbrev framed : FrameHeader → Found
-framed h = found_after nothing_found (Header 3 h)
+abbrev framed : FrameHeader → Said
+framed h = said_after nothing_said (Header 3 h)
 
-abbrev tabled : FrameHeader → Found
-tabled h = found_after (framed h) table_segment
+abbrev tabled : FrameHeader → Said
+tabled h = said_after (framed h) table_segment
 
-abbrev said : FrameHeader → Found
-said h = found_after (tabled h) (Interval 2)
+abbrev said : FrameHeader → Said
+said h = said_after (tabled h) (Interval 2)
 
-abbrev scanned : FrameHeader → Found
+abbrev scanned : FrameHeader → Said
 scanned h = record (said h) { scanned = true }
 
 abbrev frame_by : FrameHeader → Frame
@@ -147,7 +147,7 @@ three-scans : WritesSamplesScan (said three_header) (frame_by three_header) thir
     three_samples third_data
     × WritesSamplesScan (scanned three_header) (frame_by three_header) other_scan three_samples
     other_data
-unfolding frame_of component_of nothing_found updated three_samples lossless_codings lossless_coding gathered scan_of HoldSamples mcus_across mcus_down
+unfolding frame_of component_of nothing_said updated three_samples lossless_codings lossless_coding gathered scan_of HoldSamples mcus_across mcus_down
     parts_of mcu_tables row_tables strand strands
     lines_in lines_by_component first_line line_rest line_below lines_below residue stuffed
     bits_of_bytes groups
@@ -175,7 +175,7 @@ three-scans = (
 )
 
 pub three-written : AreWritten three_samples three_bytes
-unfolding nothing_found frame_of codes_exist lengths_from code_value accepted component_of gathered rule_of source_of
+unfolding nothing_said frame_of codes_exist lengths_from code_value accepted component_of gathered rule_of source_of
 three-written = record {
   final = scanned three_header;
   written = record {
@@ -184,7 +184,7 @@ three-written = record {
       after = _;
       starts = refl;
       written =
-          segment nothing_found _ [] _ 0 (Header 3 three_header) _ ((refl, frame-by 3 three_header refl), refl) refl (
+          segment nothing_said _ [] _ 0 (Header 3 three_header) _ ((refl, frame-by 3 three_header refl), refl) refl (
           segment (framed three_header) _ [] _ 0 table_segment _ ((table-by _ _ (omega arith) refl, tt), tt) tt (
           segment (tabled three_header) _ [] _ 1 (Interval 2) _ (tt, tt) tt (
           scan (said three_header) _ [] _ _ _ 0 third_scan third_data _ refl are-scans.0 (three-scans.0, refl) (
@@ -210,7 +210,7 @@ padded-scans : WritesSamplesScan (said padded_header) (frame_by padded_header) p
     padded_samples padded_data
     × WritesSamplesScan (scanned padded_header) (frame_by padded_header) lone_scan padded_samples
     lone_data
-unfolding frame_of component_of nothing_found updated padded_samples lossless_codings lossless_coding gathered scan_of HoldSamples mcus_across mcus_down
+unfolding frame_of component_of nothing_said updated padded_samples lossless_codings lossless_coding gathered scan_of HoldSamples mcus_across mcus_down
     parts_of mcu_tables row_tables strand strands
     lines_in lines_by_component first_line line_rest line_below lines_below residue stuffed
     bits_of_bytes groups
@@ -238,7 +238,7 @@ padded-scans = (
 )
 
 pub padding-written : AreWritten padded_samples padded_bytes
-unfolding nothing_found frame_of codes_exist lengths_from code_value accepted component_of gathered rule_of source_of
+unfolding nothing_said frame_of codes_exist lengths_from code_value accepted component_of gathered rule_of source_of
 padding-written = record {
   final = scanned padded_header;
   written = record {
@@ -247,7 +247,7 @@ padding-written = record {
       after = _;
       starts = refl;
       written =
-          segment nothing_found _ [] _ 0 (Header 3 padded_header) _ ((refl, frame-by 3 padded_header refl), refl) refl (
+          segment nothing_said _ [] _ 0 (Header 3 padded_header) _ ((refl, frame-by 3 padded_header refl), refl) refl (
           segment (framed padded_header) _ [] _ 0 table_segment _ ((table-by _ _ (omega arith) refl, tt), tt) tt (
           segment (tabled padded_header) _ [] _ 0 (Interval 2) _ (tt, tt) tt (
           scan (said padded_header) _ [] _ _ _ 0 padded_scan padded_data _ refl are-scans.2 (padded-scans.0, refl) (

@@ -10,10 +10,10 @@ use Rattle.jpeg_segments.specs.ScanHeaders.{scan_written}
 use Rattle.jpeg_streams.specs.ArrayPictures.{picture_of_array, picture_of_blocks}
 use Rattle.jpeg_streams.specs.declared.settings.Settings.{Settings}
 use Rattle.jpeg_streams.specs.Levels.{Is8Bit, Levels, nothing_sent}
-use Rattle.jpeg_streams.specs.SaidSegments.{found_after}
+use Rattle.jpeg_streams.specs.SaidSegments.{said_after}
 use Rattle.jpeg_segments.specs.Checks.{gathered}
 use Rattle.jpeg_streams.specs.ScanSegments.{Coding, is_progressive}
-use Rattle.jpeg_streams.specs.Found.{nothing_found, Found}
+use Rattle.jpeg_streams.specs.Found.{nothing_said, Said}
 use Rattle.jpeg_streams.specs.Stream.{Told, told_of}
 use Rattle.jpeg_streams.specs.FoundPictures.{picture_by}
 use Rattle.jpeg_streams.specs.WholeImages.{AllComplete}
@@ -32,14 +32,14 @@ use Rattle.jpeg_bits.proofs.BandSteps.{bind_same}
 
 -- ---- fronts
 
-pub front-closed : (array : Coefficients) (front : List ℕ) (said : Found) (levels : ℕ → Levels) (frame : Frame)
-    → WritesFront array nothing_found (λ k. nothing_sent) front said levels → said.scanned ≡ true
+pub front-closed : (array : Coefficients) (front : List ℕ) (said : Said) (levels : ℕ → Levels) (frame : Frame)
+    → WritesFront array nothing_said (λ k. nothing_sent) front said levels → said.scanned ≡ true
     → said.frame ≡ Some frame → is_progressive frame.process ≡ true → AllByRecursion (HasTable said) frame.components
     → WritesImage array (255 ∷ 216 ∷ (front ++ (255 ∷ 217 ∷ []))) said levels
 front-closed array front said levels frame f scanned framed progressive tables = record {
   after = front ++ (255 ∷ 217 ∷ []);
   starts = refl;
-  written = front-append nothing_found said said (λ k. nothing_sent) levels levels front (255 ∷ 217 ∷ []) f
+  written = front-append nothing_said said said (λ k. nothing_sent) levels levels front (255 ∷ 217 ∷ []) f
       (end said levels (255 ∷ 217 ∷ [])
       (closes said frame 0 framed (scanned, tables, λ e. absurd (true≢false (sym progressive ∙ e)))));
 }
@@ -56,7 +56,7 @@ picture-alone (Err e) told rest = refl
 
 -- ---- what is said of one picture
 
-same-planes : (a b : Found) (array : Coefficients) (index : ℕ) (cs : List Component)
+same-planes : (a b : Said) (array : Coefficients) (index : ℕ) (cs : List Component)
     → AllByRecursion (λ c. slice_index_or a.quantization c.factors.quantization None
     ≡ slice_index_or b.quantization c.factors.quantization None) cs
     → gathered (array_plane a array) (enumerate_from index cs) ≡ gathered (array_plane b array) (enumerate_from index cs)
@@ -69,14 +69,14 @@ same-planes a b array index (c ∷ cs) h = search (
       1) cs h.1,
 )
 
-pub same-picture : (settings : Settings) (array : Coefficients) (a b : Found) → HaveSamePicture a b
+pub same-picture : (settings : Settings) (array : Coefficients) (a b : Said) → HaveSamePicture a b
     → picture_of_blocks settings a array ≡ picture_of_blocks settings b array
 unfolding picture_of_blocks picture_by
 same-picture settings array a b h =
     limited-same settings a b h.frame_a h.frame_b _ _ h.is_a h.is_b (search rules)
     (search (rules, bind_same, same-planes))
 
-whole-picture : (settings : Settings) (array : Coefficients) (bytes rest : List ℕ) (final : Found) (last : ℕ → Levels)
+whole-picture : (settings : Settings) (array : Coefficients) (bytes rest : List ℕ) (final : Said) (last : ℕ → Levels)
     (frame : Frame)
     → ((index row column : ℕ) → Is8Bit (array index row column)) → WritesImage array bytes final
     last
@@ -88,7 +88,7 @@ whole-picture settings array bytes rest final last frame range w e done =
     ∙ whole-is settings array bytes rest final last frame range w e done)
     ∙ picture-alone (picture_of_blocks settings final array) (told_of final) rest
 
-pub one-picture : (settings : Settings) (array : Coefficients) (first second rest others : List ℕ) (a b : Found)
+pub one-picture : (settings : Settings) (array : Coefficients) (first second rest others : List ℕ) (a b : Said)
     (last_a last_b : ℕ → Levels)
     → ((index row column : ℕ) → Is8Bit (array index row column)) → WritesImage array first a last_a
     → WritesImage array second b last_b
@@ -101,14 +101,14 @@ one-picture settings array first second rest others a b last_a last_b range w x 
 
 -- ---- padding
 
-also-writes : (a b : Coefficients) (said final : Found) (levels last : ℕ → Levels) (bytes : List ℕ) (frame : Frame)
+also-writes : (a b : Coefficients) (said final : Said) (levels last : ℕ → Levels) (bytes : List ℕ) (frame : Frame)
     → WritesPart a ClosesImage said levels bytes final last → final.frame ≡ Some frame → AgreeOnOwn frame a b
     → WritesPart b ClosesImage said levels bytes final last
 also-writes a b said final levels last bytes frame (end said' levels' bytes' c) e agree = end said levels bytes c
 also-writes a b said final levels last bytes frame (segment said' final' levels' last' fill s more stands may w) e
     agree =
     segment said final levels last fill s more stands may
-    (also-writes a b (found_after said s) final levels last more frame w e agree)
+    (also-writes a b (said_after said s) final levels last more frame w e agree)
 also-writes a b said final levels last bytes frame
     (scan said' final' levels' next last' f fill h data_bytes more framed is x w) e agree =
     let same : f ≡ frame =
@@ -133,11 +133,11 @@ also-writes a b said final levels last bytes frame
     })
     (also-writes a b (record said { scanned = true }) final next last more frame w e agree)
 
-pub also-written : (a b : Coefficients) (bytes : List ℕ) (final : Found) (last : ℕ → Levels) (frame : Frame)
+pub also-written : (a b : Coefficients) (bytes : List ℕ) (final : Said) (last : ℕ → Levels) (frame : Frame)
     → WritesImage a bytes final last → final.frame ≡ Some frame → AgreeOnOwn frame a b → WritesImage b bytes final last
 also-written a b bytes final last frame w e agree = search (rules, also-writes)
 
-array-picture : (settings : Settings) (array : Coefficients) (bytes : List ℕ) (final : Found) (last : ℕ → Levels)
+array-picture : (settings : Settings) (array : Coefficients) (bytes : List ℕ) (final : Said) (last : ℕ → Levels)
     → ((index row column : ℕ) → Is8Bit (array index row column)) → WritesImage array bytes final
     last
     → picture_meant_by settings (bytes ++ []) ≡ picture_of_array settings final array last
@@ -145,7 +145,7 @@ array-picture settings array bytes final last range w = ap (λ o. o >>= (λ m. O
     (search (rules, stream-means))
     ∙ picture-alone (picture_of_array settings final array last) (told_of final) []
 
-pub unseen-padding : (settings : Settings) (a b : Coefficients) (bytes : List ℕ) (final : Found) (last : ℕ → Levels)
+pub unseen-padding : (settings : Settings) (a b : Coefficients) (bytes : List ℕ) (final : Said) (last : ℕ → Levels)
     (frame : Frame)
     → ((index row column : ℕ) → Is8Bit (a index row column)) → ((index row column : ℕ) → Is8Bit (b
     index row column))

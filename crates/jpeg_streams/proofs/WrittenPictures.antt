@@ -28,7 +28,7 @@ use Rattle.jpeg_streams.specs.FoundPictures.{plane_at_end, picture_of, picture_b
 use Rattle.jpeg_streams.specs.FoundPictures.{picture_by, picture_in}
 use Rattle.jpeg_streams.specs.Rasters.{plane_by, plane_of_blocks}
 use Rattle.jpeg_streams.specs.ScanSegments.{is_progressive}
-use Rattle.jpeg_streams.specs.Found.{Found, Metadata}
+use Rattle.jpeg_streams.specs.Found.{Found, Metadata, Said}
 use Rattle.jpeg_segments.specs.declared.parser.CodingProcess.{CodingProcess}
 use Rattle.jpeg_segments.specs.declared.parser.CodingProcess.TheVariants.{Lossless}
 use Rattle.jpeg_streams.specs.Stream.{meaning, Told, told_of}
@@ -47,8 +47,8 @@ use Rattle.jpeg_streams.proofs.BroughtLevels.{Made, Shaped, kept-arrays, Framed}
 use Rattle.jpeg_streams.proofs.ReadTurns.{then-ok, same-frame}
 use Rattle.jpeg_streams.proofs.LimitedPictures.{array_plane, limited-ok, limited-same}
 use Rattle.jpeg_streams.proofs.FrameShapes.{below-ceiling}
-use Rattle.jpeg_streams.proofs.ReadStreams.{image-walked, ImageMeant, Progress, ReadImage}
-use Rattle.jpeg_streams.proofs.ReadStreams.{with_progress}
+use Rattle.jpeg_streams.proofs.ReadStreams.{bring, image-walked, ImageMeant, Progress, ReadImage}
+use Rattle.jpeg_streams.proofs.WalkedStreams.{beside}
 use Rattle.jpeg_streams.proofs.InsidePictures.{SamePlane, AllAlike, image-same, cropped-same}
 
 -- ---- one plane
@@ -125,7 +125,7 @@ complete-whole l h = ap₂ (λ (a b : Bool). a && b) (ap is_level_0 h.dc) (all-w
 pub record PlaneAtEnd (found : Found) (f : Frame) (array : Coefficients) (l : Levels) (k : ℕ)
     (c : Component) : Type 0 where
   pub table : List ℕ
-  pub is_table : slice_index_or found.quantization c.factors.quantization None ≡ Some table
+  pub is_table : slice_index_or found.said.quantization c.factors.quantization None ≡ Some table
   pub blocks : List Block
   pub holds : HoldsOwn (grid_of c) (array k) l blocks
   pub is : plane_at_end found f (k, c) ≡ Ok (plane_by c table blocks)
@@ -140,13 +140,13 @@ unfolding plane_at_end
 end-decided found f k c plane e = rw (e, plane_at_end) refl
 
 end-kept : (found : Found) (f : Frame) (k : ℕ) (c : Component) (table : List ℕ)
-    → slice_index_or found.planes k None ≡ None → is_progressive f.process ≡ true → found.scanned ≡ true
-    → slice_index_or found.quantization c.factors.quantization None ≡ Some table
+    → slice_index_or found.planes k None ≡ None → is_progressive f.process ≡ true → found.said.scanned ≡ true
+    → slice_index_or found.said.quantization c.factors.quantization None ≡ Some table
     → plane_at_end found f (k, c) ≡ Ok (plane_by c table (get_or found.kept k []))
 unfolding plane_at_end
 end-kept found f k c table n p s t = search (rules, then-ok)
 
-module _ (array : Coefficients) (final : Found) (last : ℕ → Levels) (r : ReadImage array final last) where
+module _ (array : Coefficients) (final : Said) (last : ℕ → Levels) (r : ReadImage array final last) where
   abbrev f : Frame
   f = r.frame
 
@@ -154,7 +154,7 @@ module _ (array : Coefficients) (final : Found) (last : ℕ → Levels) (r : Rea
   x = r.brought
 
   abbrev found : Found
-  found = with_progress final x
+  found = beside bring final x
 
   shape : Shaped f
   shape = (r.said.shaped f r.framed).0
@@ -262,16 +262,16 @@ lossy-picture : (settings : Settings) (all : Found) (f : Frame) (p : CodingProce
 lossy-picture settings all f Lossless n = absurd (n refl)
 lossy-picture settings all f p n = refl
 
-pictures-same : (settings : Settings) (array : Coefficients) (final : Found) (last : ℕ → Levels)
+pictures-same : (settings : Settings) (array : Coefficients) (final : Said) (last : ℕ → Levels)
     → (r : ReadImage array final last)
-    → picture_of settings (with_progress final r.brought) ≡ picture_of_array settings final array last
+    → picture_of settings (beside bring final r.brought) ≡ picture_of_array settings final array last
 unfolding picture_of picture_of_blocks blocks_picture
 pictures-same settings array final last r =
     let f = r.frame in
-    let all = with_progress final r.brought in
+    let all = beside bring final r.brought in
     let is = shape array final last r in
     let b = both-planes array final last r in
-    limited-same settings all final f f _ _ r.framed r.framed refl
+    limited-same settings final final f f _ _ r.framed r.framed refl
     (lossy-picture settings all f f.process is.lossy
     ∙ then-ok (gathered (plane_at_end all f) (enumerate_from 0 f.components)) _ b.ours _ b.ours_are
     (picture-by-same settings final.metadata f f.components b.ours b.theirs refl is.made b.alike)
@@ -279,14 +279,14 @@ pictures-same settings array final last r =
     b.theirs_are refl))
 
 -- What the end of a stream means is the picture of its array, cut at the levels that were sent.
-pub pictured : (settings : Settings) (array : Coefficients) (final : Found) (last : ℕ → Levels) (tail : List ℕ)
+pub pictured : (settings : Settings) (array : Coefficients) (final : Said) (last : ℕ → Levels) (tail : List ℕ)
     (meant : Outcome (Told × List ℕ)) → ImageMeant settings array final last tail meant
     → meant ≡ meaning_of_array settings final array last tail
 pictured settings array final last tail meant r =
     r.1 ∙ ap (λ (o : Result (List ℕ) Fault). o >>= (λ (picture : List ℕ). Ok ((told_of final, picture), tail)))
     (pictures-same settings array final last r.0)
 
-pub stream-means : (settings : Settings) (array : Coefficients) (bytes rest : List ℕ) (final : Found)
+pub stream-means : (settings : Settings) (array : Coefficients) (bytes rest : List ℕ) (final : Said)
     (last : ℕ → Levels)
     → ((index row column : ℕ) → Is8Bit (array index row column)) → WritesImage array bytes final
     last
@@ -305,7 +305,7 @@ conversion-there : (count : ℕ) (t : ColorTransform) → IsTransformOf count t
 unfolding conversion_of
 conversion-there count t h = search (rules, eq-eqb)
 
-picture-there : (settings : Settings) (w : Found) (f : Frame) (components : List Component)
+picture-there : (settings : Settings) (w : Said) (f : Frame) (components : List Component)
     (ours planes : List (List ℕ)) (sources : List Source) → HasTransform settings w components
     → sources_of components f.output_width f.output_height ≡ Ok sources → AllAlike components ours planes
     → (picture : List ℕ) × (picture_by settings w.metadata f components planes ≡ Ok picture)
@@ -321,7 +321,7 @@ picture-there settings w f (c ∷ d ∷ more) ours planes sources t e h =
 picture-there settings w f components ours planes sources t e h = absurd h
 
 -- Where the settings take the picture, there is one.
-pub taken : (settings : Settings) (array : Coefficients) (final : Found) (last : ℕ → Levels) (tail : List ℕ)
+pub taken : (settings : Settings) (array : Coefficients) (final : Said) (last : ℕ → Levels) (tail : List ℕ)
     (meant : Outcome (Told × List ℕ)) → ImageMeant settings array final last tail meant → TakesPicture settings final
     → (picture : List ℕ) × (picture_of_array settings final array last ≡ Ok picture)
     × (meant ≡ Ok ((told_of final, picture), tail))
@@ -345,7 +345,7 @@ taken settings array final last tail meant r takes =
     )
 
 -- A written stream whose picture is taken means that picture.
-pub taken-means : (settings : Settings) (array : Coefficients) (bytes rest : List ℕ) (final : Found) (last : ℕ → Levels)
+pub taken-means : (settings : Settings) (array : Coefficients) (bytes rest : List ℕ) (final : Said) (last : ℕ → Levels)
     → ((index row column : ℕ) → Is8Bit (array index row column)) → WritesImage array bytes final
     last
     → TakesPicture settings final

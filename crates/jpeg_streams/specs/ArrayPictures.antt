@@ -13,14 +13,14 @@ use Rattle.jpeg_segments.specs.Checks.{needed, gathered}
 use Rattle.jpeg_streams.specs.Stream.{Told, told_of}
 use Rattle.jpeg_streams.specs.FoundPictures.{limited, picture_by}
 use Rattle.jpeg_streams.specs.Rasters.{plane_of_blocks}
-use Rattle.jpeg_streams.specs.Found.{Found}
+use Rattle.jpeg_streams.specs.Found.{Said}
 use Rattle.jpeg_streams.specs.WrittenScans.{Coefficients}
 
 -- ---- the picture
 
 -- The picture of an image's blocks, where it is within the limit: that of their planes, by the
 -- tables that were said, by upsampling and the conversion of colours.
-unfoldable pub picture_of_blocks : Settings → Found → Coefficients → Result (List ℕ) Fault
+unfoldable pub picture_of_blocks : Settings → Said → Coefficients → Result (List ℕ) Fault
 picture_of_blocks settings said blocks = limited settings said (λ frame.
     gathered (λ c. needed (slice_index_or said.quantization c.1.factors.quantization None)
     >>= (λ table. Ok (plane_of_blocks c.1 table (blocks c.0)))) (enumerate_from 0 frame.components)
@@ -31,13 +31,13 @@ abbrev pub as_sent : Coefficients → (ℕ → Levels) → Coefficients
 as_sent array levels = λ index row column. cut (levels index) (array index row column)
 
 -- the picture of the coefficients of an image, as far as their bits were sent
-abbrev pub picture_of_array : Settings → Found → Coefficients → (ℕ → Levels) → Result (List ℕ) Fault
+abbrev pub picture_of_array : Settings → Said → Coefficients → (ℕ → Levels) → Result (List ℕ) Fault
 picture_of_array settings said array levels = picture_of_blocks settings said (as_sent array levels)
 
 -- The meaning of a stream that says this and sends these levels: what a caller is given, the
 -- picture, and the bytes after the image.
 abbrev pub meaning_of_array :
-    Settings → Found → Coefficients → (ℕ → Levels) → List ℕ → Outcome (Told × List ℕ)
+    Settings → Said → Coefficients → (ℕ → Levels) → List ℕ → Outcome (Told × List ℕ)
 meaning_of_array settings w array levels tail =
     picture_of_array settings w array levels >>= (λ picture. Ok ((told_of w, picture), tail))
 
@@ -55,7 +55,7 @@ IsTransformOf count _ = ⊥
 
 -- A picture of several components can have the transform that is set, or else that its segments and
 -- the components' identifiers say.
-abbrev pub HasTransform : Settings → Found → List Component → Type 0
+abbrev pub HasTransform : Settings → Said → List Component → Type 0
 HasTransform settings w [] = ⊥
 HasTransform settings w (c ∷ []) = Unit {0}
 HasTransform settings w (c ∷ d ∷ more) =
@@ -65,7 +65,7 @@ HasTransform settings w (c ∷ d ∷ more) =
 
 -- The settings take the picture of the frame that was said: its bytes are within the limit, and its
 -- components can have the colour transform.
-pub record TakesPicture (settings : Settings) (w : Found) : Type 0 where
+pub record TakesPicture (settings : Settings) (w : Said) : Type 0 where
   pub frame : Frame
   pub is_said : w.frame ≡ Some frame
   pub limit : length frame.components * (frame.output_width * frame.output_height) ≤ settings.limit

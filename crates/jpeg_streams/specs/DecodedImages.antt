@@ -10,7 +10,7 @@ use Rattle.jpeg_streams.specs.States.{Decoding}
 use Rattle.jpeg_streams.specs.declared.progress.Progress.{Progress}
 use Rattle.jpeg_streams.specs.declared.progress.Progress.TheVariants.{Fresh, HeaderRead}
 use Rattle.jpeg_streams.specs.Stream.{header_at, sized_to, told_of}
-use Rattle.jpeg_streams.specs.Found.{Found}
+use Rattle.jpeg_streams.specs.Found.{Found, Said, with_said}
 use Rattle.jpeg_streams.specs.WrittenImages.{WritesImage}
 use Rattle.jpeg_streams.specs.WrittenScans.{Coefficients}
 
@@ -21,26 +21,26 @@ pub data Size : Type 0 where
   FullSize : Size
   AtLeast : ℕ → ℕ → Size
 
--- what was found, where the picture is to have a size
-abbrev pub at_size : Size → Found → Found
-at_size FullSize found = found
-at_size (AtLeast width height) found = sized_to width height found
+-- what was said, where the picture is to have a size
+abbrev pub at_size : Size → Said → Said
+at_size FullSize said = said
+at_size (AtLeast width height) said = sized_to width height said
 
 -- A decoder has a stream left: all of it, and then the picture is of full size; or what follows its
 -- header, which was found, and then its frame may be at a scale.
 abbrev pub HasLeft : Size → List ℕ → Progress → Found → List ℕ → Type 0
 HasLeft FullSize bytes Fresh found left = left ≡ bytes
 HasLeft size bytes HeaderRead found left =
-    (header : Found) × (header_at bytes ≡ Ok (header, left)) × (found ≡ at_size size header)
+    (header : Found) × (header_at bytes ≡ Ok (header, left)) × (found ≡ with_said (at_size size) header)
 HasLeft _ bytes _ found left = ⊥
 
 -- ---- what is given
 
 -- The picture is given, `final` is what a caller is given, and the bytes after the image are left.
-pub record GivesPicture (picture : Result (List ℕ) Fault) (rest : List ℕ) (final : Found)
+pub record GivesPicture (picture : Result (List ℕ) Fault) (rest : List ℕ) (final : Said)
     (given : List ℕ) (new : Decoding) : Type 0 where
   pub pixels : picture ≡ Ok given
-  pub told : told_of new.found ≡ told_of final
+  pub told : told_of new.found.said ≡ told_of final
   pub left : new.source.bytes ≡ rest
   pub known : new.source.known ≡ true
 
@@ -56,7 +56,7 @@ pub record FailsOutside (e : Error) (source : Stream) : Type 0 where
 abbrev pub DecodesImages :
     {X : Type 0} → (X → List ℕ) → Decoding → Result X Error → Decoding → Type 0
 DecodesImages bytes_of old result new =
-    (size : Size) (array : Coefficients) (image rest : List ℕ) (final : Found)
+    (size : Size) (array : Coefficients) (image rest : List ℕ) (final : Said)
     (last : ℕ → Levels) →
     ((index row column : ℕ) → Is8Bit (array index row column)) →
     WritesImage array image final last →

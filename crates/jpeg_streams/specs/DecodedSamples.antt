@@ -3,7 +3,7 @@ use Rattle.std.specs.Prelude.{◌≡◌, ℕ, ◌++◌, List, true, Result, Ok, 
 use Rattle.jpeg_bits.specs.declared.error.Error.{Error}
 use Rattle.jpeg_streams.specs.DecodedImages.{FailsOutside, GivesPicture, HasLeft, Size}
 use Rattle.jpeg_streams.specs.States.{Decoding}
-use Rattle.jpeg_streams.specs.Found.{Found}
+use Rattle.jpeg_streams.specs.Found.{Said}
 use Rattle.jpeg_streams.specs.FoundPictures.{limited}
 use Rattle.jpeg_streams.specs.WrittenLossless.{picture_of_samples, Samples}
 use Rattle.jpeg_streams.specs.WrittenLossless.{WritesSamples}
@@ -15,7 +15,7 @@ use Rattle.jpeg_streams.specs.WrittenLossless.{WritesSamples}
 abbrev pub DecodesSamples :
     {X : Type 0} → (X → List ℕ) → Decoding → Result X Error → Decoding → Type 0
 DecodesSamples bytes_of old result new =
-    (size : Size) (samples : Samples) (image rest : List ℕ) (final : Found) →
+    (size : Size) (samples : Samples) (image rest : List ℕ) (final : Said) →
     WritesSamples samples image final →
     HasLeft size (image ++ rest) old.stage old.found old.source.bytes →
     old.source.known ≡ true →

@@ -17,7 +17,7 @@ blocks_if false kept index = None
 
 -- whether a frame has blocks that are kept
 abbrev pub is_kept : Found → Frame → Bool
-is_kept found frame = is_progressive frame.process && found.scanned
+is_kept found frame = is_progressive frame.process && found.said.scanned
 
 -- The plane that is decided, or else that of the blocks that are kept, by the quantization table.
 abbrev pub plane_or : Component → Option (List ℕ) → Option (List ℕ) → Option (List Block)

@@ -32,22 +32,41 @@ no_metadata =
       icc = [];
     }
 
--- What the segments and scans so far have said: the frame; the tables in force, by their destinations;
--- the restart interval; whether a scan was read; the metadata; and by the components' indices in the
--- frame the blocks that are kept between the scans of a progressive frame, which of the 64 indices
--- of a block are finished, and the planes that are decided. Quantization tables stand in zigzag
--- order. By the components' indices in a lossless frame, their samples.
-pub record Found : Type 0 where
+-- What the segments of a stream have said so far: the frame; the tables in force, by their
+-- destinations, those of quantization in zigzag order; the restart interval; whether there was a
+-- scan; and the metadata.
+pub record Said : Type 0 where
   pub frame : Option Frame
   pub quantization : List (Option (List ℕ))
   pub huffman : Tables
   pub restart : ℕ
   pub scanned : Bool
   pub metadata : Metadata
+
+unfoldable pub nothing_said : Said
+nothing_said = record {
+  frame = None;
+  quantization = replicate 4 None;
+  huffman = no_tables;
+  restart = 0;
+  scanned = false;
+  metadata = no_metadata;
+}
+
+-- What was found in a stream so far: what was said, and what scans have brought, by the components'
+-- indices in the frame. In a progressive frame these are the blocks that are kept between scans,
+-- which of the 64 indices of a block are finished, and the planes that are decided; in a lossless
+-- frame its samples.
+pub record Found : Type 0 where
+  pub said : Said
   pub kept : Arrays
   pub finished : List (List Bool)
   pub planes : List (Option (List ℕ))
   pub samples : List (Option (List ℕ))
+
+-- what was found, where what was said changes so
+abbrev pub with_said : (Said → Said) → Found → Found
+with_said change found = record found { said = change found.said }
 
 -- no index of a block is finished
 abbrev pub none_finished : List Bool
@@ -55,12 +74,7 @@ none_finished = replicate 64 false
 
 unfoldable pub nothing_found : Found
 nothing_found = record {
-  frame = None;
-  quantization = replicate 4 None;
-  huffman = no_tables;
-  restart = 0;
-  scanned = false;
-  metadata = no_metadata;
+  said = nothing_said;
   kept = [];
   finished = replicate 4 none_finished;
   planes = replicate 4 None;

@@ -15,7 +15,7 @@ use Rattle.jpeg_lossless.specs.Pictures.{lossless_picture}
 use Rattle.std.specs.List.{enumerate_from}
 use Rattle.jpeg_segments.specs.Checks.{check, needed, gathered}
 use Rattle.jpeg_streams.specs.declared.settings.Settings.{Settings}
-use Rattle.jpeg_streams.specs.Found.{Metadata, Found}
+use Rattle.jpeg_streams.specs.Found.{Metadata, Found, Said}
 use Rattle.jpeg_streams.specs.Rasters.{plane_by}
 use Rattle.jpeg_streams.specs.ScanSegments.{is_progressive}
 
@@ -27,8 +27,8 @@ plane_at_end found frame c =
     elim (slice_index_or found.planes c.0 None) [
       | Some plane ↦ Ok plane
       | None ↦ do
-        _ ← check (is_progressive frame.process && found.scanned)
-        table ← needed (slice_index_or found.quantization c.1.factors.quantization None)
+        _ ← check (is_progressive frame.process && found.said.scanned)
+        table ← needed (slice_index_or found.said.quantization c.1.factors.quantization None)
         Ok (plane_by c.1 table (get_or found.kept c.0 []))
     ]
 
@@ -52,7 +52,7 @@ picture_by settings m frame components planes =
 unfoldable pub blocks_picture : Settings → Found → Frame → Result (List ℕ) Fault
 blocks_picture settings found frame = do
   planes ← gathered (plane_at_end found frame) (enumerate_from 0 frame.components)
-  picture_by settings found.metadata frame frame.components planes
+  picture_by settings found.said.metadata frame frame.components planes
 
 -- The picture of a lossless frame.
 unfoldable pub samples_picture : Found → Frame → Result (List ℕ) Fault
@@ -65,14 +65,14 @@ abbrev pub picture_by_process : CodingProcess → Settings → Found → Frame �
 picture_by_process Lossless settings found frame = samples_picture found frame
 picture_by_process _ settings found frame = blocks_picture settings found frame
 
--- a picture of the frame that was found, where it is within the limit of the settings
-unfoldable pub limited : Settings → Found → (Frame → Result (List ℕ) Fault) → Result (List ℕ) Fault
-limited settings found picture = do
-  frame ← needed found.frame
+-- a picture of the frame that was said, where it is within the limit of the settings
+unfoldable pub limited : Settings → Said → (Frame → Result (List ℕ) Fault) → Result (List ℕ) Fault
+limited settings said picture = do
+  frame ← needed said.frame
   if nat_lt settings.limit (length frame.components * (frame.output_width * frame.output_height))
       then Err Malformed else picture frame
 
 -- The picture of what was found: within the limit, of planes that are there.
 unfoldable pub picture_of : Settings → Found → Result (List ℕ) Fault
-picture_of settings found = limited settings found (λ frame. picture_by_process frame.process
+picture_of settings found = limited settings found.said (λ frame. picture_by_process frame.process
     settings found frame)

@@ -7,7 +7,7 @@ use Rattle.jpeg_segments.specs.WrittenSegments.{FrameHeader, frame_written}
 use Rattle.jpeg_lossless.specs.Differences.{Part, lines_in}
 use Rattle.jpeg_lossless.specs.Positions.{at_position}
 use Rattle.jpeg_lossless.specs.Scans.{Way, samples_an_mcu}
-use Rattle.jpeg_streams.specs.Found.{Found}
+use Rattle.jpeg_streams.specs.Found.{Said}
 use Rattle.jpeg_streams.specs.WrittenLossless.{own_lines, Samples, WritesSamples}
 
 -- ---- samples of each size
@@ -38,7 +38,7 @@ AreBytes numbers = AllByRecursion (λ b. b < 256) numbers
 
 -- They are a stream for these samples, in a frame with this header, and bytes where it fits.
 pub record AreWrittenIn (h : FrameHeader) (samples : Samples) (bytes : List ℕ) : Type 0 where
-  pub final : Found
+  pub final : Said
   pub written : WritesSamples samples bytes final
   pub framed : final.frame ≡ Some (frame_written 3 h)
   pub are_bytes : FitsFields h → AreBytes bytes
@@ -67,7 +67,7 @@ abbrev pub sampling_of : Component → ℕ × ℕ
 sampling_of c = (c.factors.horizontal, c.factors.vertical)
 
 -- What is said shows samples alike: in a frame of the same precision, size and sampling factors.
-pub record ShowAlike (a b : Found) : Type 0 where
+pub record ShowAlike (a b : Said) : Type 0 where
   pub frame_a : Frame
   pub frame_b : Frame
   pub is_a : a.frame ≡ Some frame_a

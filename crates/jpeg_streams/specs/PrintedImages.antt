@@ -7,7 +7,7 @@ use Rattle.jpeg_streams.specs.Levels.{Is8Bit, Levels}
 use Rattle.jpeg_streams.specs.Output.{default_settings, header_line_of, IsOutsideOrMemory}
 use Rattle.jpeg_streams.specs.Output.{TakesBeginning, Tells}
 use Rattle.jpeg_streams.specs.Pixels.{info_of}
-use Rattle.jpeg_streams.specs.Found.{Found}
+use Rattle.jpeg_streams.specs.Found.{Said}
 use Rattle.jpeg_streams.specs.WrittenImages.{WritesImage}
 use Rattle.jpeg_streams.specs.WrittenScans.{Coefficients}
 
@@ -26,7 +26,7 @@ Prints text old result new =
 abbrev pub PrintsImages : {X : Type 0} →
     Option (List ℕ) → Option (List ℕ) → Result X Error → Option (List ℕ) → Type 0
 PrintsImages remaining old result new =
-    (array : Coefficients) (image rest picture : List ℕ) (final : Found) (last : ℕ → Levels) →
+    (array : Coefficients) (image rest picture : List ℕ) (final : Said) (last : ℕ → Levels) →
     ((index row column : ℕ) → Is8Bit (array index row column)) →
     WritesImage array image final last →
     picture_of_array default_settings final array last ≡ Ok picture →

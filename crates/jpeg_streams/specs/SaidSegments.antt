@@ -5,7 +5,7 @@ use Rattle.jpeg_segments.specs.WrittenSegments.{frame_written}
 use Rattle.jpeg_segments.specs.WrittenSegments.{Header, Huffman, huffman_tables, Interval, MayStand}
 use Rattle.jpeg_segments.specs.WrittenSegments.{Quantization, quantization_tables, Segment}
 use Rattle.jpeg_streams.specs.Segments.{accepted, updated, with_application, with_huffman}
-use Rattle.jpeg_streams.specs.Found.{Found}
+use Rattle.jpeg_streams.specs.Found.{Said}
 
 -- A header of a frame that is decoded.
 abbrev pub IsDecoded : Segment → Type 0
@@ -13,17 +13,17 @@ IsDecoded (Header number h) = accepted (frame_written number h) ≡ Ok (frame_wr
 IsDecoded _ = Unit {0}
 
 -- The segment keeps its rules where so much is known.
-abbrev pub Stands : Found → Segment → Type 0
+abbrev pub Stands : Said → Segment → Type 0
 Stands said s = MayStand said.frame s × IsDecoded s
 
--- What is known after it: tables take the places of earlier ones (B.2.4).
-abbrev pub found_after : Found → Segment → Found
-found_after said (Quantization ts) =
+-- What is said after it: tables take the places of earlier ones (B.2.4).
+abbrev pub said_after : Said → Segment → Said
+said_after said (Quantization ts) =
     record said { quantization = updated said.quantization (quantization_tables ts) }
-found_after said (Huffman ts) =
+said_after said (Huffman ts) =
     record said { huffman = with_huffman said.huffman (huffman_tables ts) }
-found_after said (Interval n) = record said { restart = n }
-found_after said (Application d) =
+said_after said (Interval n) = record said { restart = n }
+said_after said (Application d) =
     record said { metadata = with_application said.metadata (application_parts d).2 }
-found_after said (Comment payload) = said
-found_after said (Header number h) = record said { frame = Some (frame_written number h) }
+said_after said (Comment payload) = said
+said_after said (Header number h) = record said { frame = Some (frame_written number h) }

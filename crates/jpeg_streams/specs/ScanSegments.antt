@@ -30,7 +30,7 @@ use Rattle.jpeg_streams.specs.LosslessScans.{mcus_down, way_of, with_samples}
 use Rattle.jpeg_segments.specs.Checks.{needed, gathered}
 use Rattle.jpeg_streams.specs.declared.before.Before.{Before}
 use Rattle.jpeg_streams.specs.declared.before.Before.TheVariants.{FirstScan, LaterScan}
-use Rattle.jpeg_streams.specs.Found.{Found, none_finished}
+use Rattle.jpeg_streams.specs.Found.{Found, none_finished, Said, with_said}
 use Rattle.jpeg_streams.specs.Segments.{Turn, onward}
 
 -- ---- scans
@@ -46,12 +46,12 @@ pass_of scan =
 
 -- The Huffman tables in force for a scan. In a frame of an MJPEG stream the default ones stand in
 -- the unset destinations that the scan names.
-unfoldable pub tables_of : Found → Scan → Tables
-tables_of found scan =
-    if found.metadata.avi1 then record {
-      dc = with_defaults luminance_dc chrominance_dc scan.dc_destinations found.huffman.dc;
-      ac = with_defaults luminance_ac chrominance_ac scan.ac_destinations found.huffman.ac;
-    } else found.huffman
+unfoldable pub tables_of : Said → Scan → Tables
+tables_of said scan =
+    if said.metadata.avi1 then record {
+      dc = with_defaults luminance_dc chrominance_dc scan.dc_destinations said.huffman.dc;
+      ac = with_defaults luminance_ac chrominance_ac scan.ac_destinations said.huffman.ac;
+    } else said.huffman
 
 -- A component of a scan: its index in the frame, the component, its quantization table, and its
 -- Huffman tables.
@@ -72,19 +72,19 @@ needed_if false class table = Ok (no_table class)
 
 -- The quantization table is needed, a table for DC where the pass has DC, also in a refinement, and
 -- one for AC where it has AC.
-unfoldable pub component_coding : Found → Frame → Pass → Tables → ℕ → ℕ → ℕ → Result Coding Fault
-component_coding found frame p tables index dc_destination ac_destination = do
+unfoldable pub component_coding : Said → Frame → Pass → Tables → ℕ → ℕ → ℕ → Result Coding Fault
+component_coding said frame p tables index dc_destination ac_destination = do
   component ← needed (slice_get frame.components index)
-  table ← needed (slice_index_or found.quantization component.factors.quantization None)
+  table ← needed (slice_index_or said.quantization component.factors.quantization None)
   dc ← needed_if (p.ss == 0) classes.DC (slice_index_or tables.dc dc_destination None)
   ac ← needed_if (nat_lt 0 p.se) classes.AC (slice_index_or tables.ac ac_destination None)
   Ok (record { index = index; component = component; quantization = table; dc = dc; ac = ac })
 
 -- those of a scan's components, with the destinations of their tables
-unfoldable pub codings_of : Found → Frame → Scan → Result (List Coding) Fault
-codings_of found frame scan =
+unfoldable pub codings_of : Said → Frame → Scan → Result (List Coding) Fault
+codings_of said frame scan =
     gathered
-    (λ s. component_coding found frame (pass_of scan) (tables_of found scan) s.0 s.1.0 s.1.1)
+    (λ s. component_coding said frame (pass_of scan) (tables_of said scan) s.0 s.1.0 s.1.1)
     (zip scan.components (zip scan.dc_destinations scan.ac_destinations))
 
 -- how the blocks of each component of a scan are coded, from a slot on
@@ -96,7 +96,7 @@ vias_from slot (c ∷ more) = record { component = slot; dc = c.dc; ac = c.ac } 
 -- The blocks of a frame's components before a scan: in a progressive frame those kept, and in a
 -- sequential one zeros.
 unfoldable pub arrays_before : Found → Frame → Arrays
-arrays_before found frame = if is_progressive frame.process && found.scanned then found.kept
+arrays_before found frame = if is_progressive frame.process && found.said.scanned then found.kept
     else zero_arrays frame.components
 
 -- The blocks of the scan's components after it, and the marker after it, if it is met.
@@ -104,7 +104,7 @@ unfoldable pub scan_arrays : Found → Frame → Scan → List Coding → List �
     → Outcome (Arrays × Option Marker)
 scan_arrays found frame scan codings bytes =
     let components = map (λ c. c.component) codings in
-    arrays_at (pass_of scan) (found.restart * mcu_size components) (vias_from 0 codings)
+    arrays_at (pass_of scan) (found.said.restart * mcu_size components) (vias_from 0 codings)
     (spots_of frame components)
     (map (λ c. get_or (arrays_before found frame) c.index []) codings) bytes
 
@@ -149,10 +149,14 @@ abbrev pub blocks_after : Found → Frame → List Coding → Arrays → Arrays
 blocks_after found frame codings arrays = if is_progressive frame.process
     then put_arrays codings arrays (arrays_before found frame) else []
 
+-- what was found, where a scan was read
+abbrev pub once_scanned : Found → Found
+once_scanned found = with_said (λ said. record said { scanned = true }) found
+
 unfoldable pub after_scan : Found → Frame → Scan → List Coding → Arrays → Found
 after_scan found frame scan codings arrays =
     let kept = blocks_after found frame codings arrays in
-    with_arrays (pass_of scan) codings arrays (record found { scanned = true; kept = kept })
+    with_arrays (pass_of scan) codings arrays (record (once_scanned found) { kept = kept })
 
 -- The marker after a scan, where restart markers at its end are passed over, fewer than this many.
 unfoldable pub after_restarts : ℕ → Option Marker → List ℕ → Outcome (Option Marker)
@@ -162,7 +166,7 @@ after_restarts (suc turns) (Some (RST n)) bytes =
 after_restarts (suc turns) met bytes = Ok (met, bytes)
 
 abbrev pub scan_before : Found → Before
-scan_before found = if found.scanned then LaterScan else FirstScan
+scan_before found = if found.said.scanned then LaterScan else FirstScan
 
 -- what a scan leads to: what is found after it, and the marker after it, if it is met
 abbrev pub scan_turn : Found → Found → Option Marker → Turn
@@ -171,7 +175,7 @@ scan_turn found after met = record (onward after) { before = scan_before found; 
 -- A scan of blocks.
 unfoldable pub blocks_scan : Found → Frame → Scan → List ℕ → Outcome Turn
 blocks_scan found frame scan bytes = do
-  codings ← codings_of found frame scan
+  codings ← codings_of found.said frame scan
   read ← scan_arrays found frame scan codings bytes
   met ← after_restarts (suc (length read.1)) read.0.1 read.1
   Ok (scan_turn found (after_scan found frame scan codings read.0.0) met.0, met.1)
@@ -181,18 +185,18 @@ abbrev pub scan_samples : Found → Frame → Scan → List LosslessCoding → L
     → Outcome (List (List ℕ) × Option Marker)
 scan_samples found frame scan codings bytes =
     scan_at (way_of frame scan.predictor scan.point_transform codings) (mcus_down frame codings)
-    found.restart scan.point_transform bytes
+    found.said.restart scan.point_transform bytes
 
 -- The last scan of a component decides its samples.
 abbrev pub after_samples : Found → List LosslessCoding → List (List ℕ) → Found
 after_samples found codings planes =
     let samples = with_samples (map (λ k. k.index) codings) planes found.samples in
-    record found { scanned = true; samples = samples }
+    record (once_scanned found) { samples = samples }
 
 -- A lossless scan. It has no quantization tables, and no default tables.
 unfoldable pub lossless_scan : Found → Frame → Scan → List ℕ → Outcome Turn
 lossless_scan found frame scan bytes = do
-  codings ← lossless_codings found.huffman.dc frame scan.components scan.dc_destinations
+  codings ← lossless_codings found.said.huffman.dc frame scan.components scan.dc_destinations
   read ← scan_samples found frame scan codings bytes
   met ← after_restarts (suc (length read.1)) read.0.1 read.1
   Ok (scan_turn found (after_samples found codings read.0.0) met.0, met.1)
@@ -203,6 +207,6 @@ scan_by _ found frame scan bytes = blocks_scan found frame scan bytes
 
 unfoldable pub scan_segment : Found → List ℕ → Outcome Turn
 scan_segment found bytes = do
-  frame ← needed found.frame
+  frame ← needed found.said.frame
   scan ← sos_at frame bytes
   scan_by frame.process found frame scan.0 scan.1

@@ -22,7 +22,7 @@ use Rattle.jpeg_segments.specs.Application.{Psir, app_at, dri_at}
 use Rattle.jpeg_pixels.specs.Pictures.{sources_of}
 use Rattle.jpeg_streams.specs.declared.before.Before.{Before}
 use Rattle.jpeg_streams.specs.declared.before.Before.TheVariants.{Elsewhere}
-use Rattle.jpeg_streams.specs.Found.{Metadata, Found}
+use Rattle.jpeg_streams.specs.Found.{Metadata, Found, Said, with_said}
 
 -- What a segment leads to: the state, what stands before the next marker, that marker, if it is met
 -- already, and whether the image has ended.
@@ -73,10 +73,10 @@ accepted frame =
 -- A frame, of which there is one.
 unfoldable pub frame_segment : ℕ → Found → List ℕ → Outcome Turn
 frame_segment number found bytes =
-    if is_some found.frame then Err (Lacks features.Hierarchical) else (do
+    if is_some found.said.frame then Err (Lacks features.Hierarchical) else (do
       frame ← sof_at number bytes
       decoded ← accepted frame.0
-      Ok (onward (record found { frame = Some decoded }), frame.1))
+      Ok (onward (with_said (λ said. record said { frame = Some decoded }) found), frame.1))
 
 -- the metadata after what a segment of an application says
 abbrev pub with_application : Metadata → Option Application → Metadata
@@ -89,28 +89,31 @@ with_application m (Some (Exif bytes)) = record m { exif = Some bytes }
 with_application m (Some (Xmp bytes)) = record m { xmp = Some bytes }
 with_application m (Some (Psir bytes)) = record m { psir = Some bytes }
 
--- A segment whose parameters are read so, and what is found after it by them.
-abbrev pub says : {A : Type 0} → (List ℕ → Outcome A) → (A → Found) → List ℕ → Outcome Turn
-says read found_by bytes = read bytes >>= (λ r. Ok (onward (found_by r.0), r.1))
+-- A segment whose parameters are read so, and how what was said changes by them.
+abbrev pub says : {A : Type 0} → (List ℕ → Outcome A) → (A → Said → Said) → Found → List ℕ
+    → Outcome Turn
+says read change found bytes =
+    read bytes >>= (λ r. Ok (onward (with_said (change r.0) found), r.1))
 
 -- ---- as the functions of the code read them
 
 abbrev pub quantization_segment : Found → List ℕ → Outcome Turn
 quantization_segment found =
-    says dqt_at (λ t. record found { quantization = updated found.quantization t })
+    says dqt_at (λ t said. record said { quantization = updated said.quantization t }) found
 
 abbrev pub huffman_segment : Found → List ℕ → Outcome Turn
 huffman_segment found =
-    says (dht_at (option_map (λ f. f.is_baseline) found.frame))
-    (λ t. record found { huffman = with_huffman found.huffman t })
+    says (dht_at (option_map (λ f. f.is_baseline) found.said.frame))
+    (λ t said. record said { huffman = with_huffman said.huffman t }) found
 
 abbrev pub restart_segment : Found → List ℕ → Outcome Turn
-restart_segment found = says dri_at (λ n. record found { restart = n })
+restart_segment found = says dri_at (λ n said. record said { restart = n }) found
 
 abbrev pub application_segment : ℕ → Found → List ℕ → Outcome Turn
 application_segment number found =
-    says (app_at number) (λ a. record found { metadata = with_application found.metadata a })
+    says (app_at number)
+    (λ a said. record said { metadata = with_application said.metadata a }) found
 
 -- a segment that is passed over
 abbrev pub skipped_segment : Found → List ℕ → Outcome Turn
-skipped_segment found bytes = length_at bytes >>= (λ n. says (skip_at n.0) (λ _. found) n.1)
+skipped_segment found bytes = length_at bytes >>= (λ n. says (skip_at n.0) (λ _ said. said) found n.1)

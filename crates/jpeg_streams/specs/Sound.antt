@@ -35,7 +35,7 @@ ArePlanes (c ∷ more) (plane ∷ planes) = IsPlaneOf c plane × ArePlanes more 
 -- No scan was read yet, and no plane is decided.
 abbrev pub IsUnread : Found → Type 0
 IsUnread found =
-    (found.scanned ≡ false) × (found.planes ≡ replicate 4 None) × (found.samples ≡ replicate 4 None)
+    (found.said.scanned ≡ false) × (found.planes ≡ replicate 4 None) × (found.samples ≡ replicate 4 None)
 
 -- the samples of a component, as many as it has
 abbrev pub IsSampled : Component → Option (List ℕ) → Type 0
@@ -51,14 +51,14 @@ AreSampled (c ∷ more) (s ∷ samples) = IsSampled c s × AreSampled more sampl
 -- Where a frame was read it is one that is decoded, and the blocks that are kept and the planes
 -- that are decided are of its components, and so are the samples. Before the frame no scan was read.
 pub record IsSound (found : Found) : Type 0 where
-  pub frames : (frame : Frame) → found.frame ≡ Some frame → IsDecodedFrame frame
-  pub kept : (frame : Frame) → found.frame ≡ Some frame
+  pub frames : (frame : Frame) → found.said.frame ≡ Some frame → IsDecodedFrame frame
+  pub kept : (frame : Frame) → found.said.frame ≡ Some frame
       → AreArrays frame.components (arrays_before found frame)
-  pub planes : (frame : Frame) → found.frame ≡ Some frame → ArePlanes frame.components found.planes
-  pub samples : (frame : Frame) → found.frame ≡ Some frame
+  pub planes : (frame : Frame) → found.said.frame ≡ Some frame → ArePlanes frame.components found.planes
+  pub samples : (frame : Frame) → found.said.frame ≡ Some frame
       → AreSampled frame.components found.samples
-  pub unread : found.frame ≡ None → IsUnread found
+  pub unread : found.said.frame ≡ None → IsUnread found
 
 -- The frame, where one was read, is one that is decoded.
 abbrev pub HasDecodedFrame : Found → Type 0
-HasDecodedFrame found = (frame : Frame) → found.frame ≡ Some frame → IsDecodedFrame frame
+HasDecodedFrame found = (frame : Frame) → found.said.frame ≡ Some frame → IsDecodedFrame frame

@@ -68,7 +68,7 @@ ahead _ settings found bytes = rest_at settings found bytes
 abbrev pub turns_ahead : ℕ → Bool → Progress → Found → List ℕ → Told
 turns_ahead turns header Fresh found bytes = told_by_turns turns header bytes
 turns_ahead turns header HeaderRead found bytes = told_in_turns turns header found bytes
-turns_ahead turns header _ found bytes = told_of found
+turns_ahead turns header _ found bytes = told_of found.said
 
 -- What has been said by the end, or the refusal, of what lies ahead: there are fewer turns than
 -- bytes.

@@ -19,7 +19,7 @@ use Rattle.jpeg_segments.specs.Scales.{sized}
 use Rattle.jpeg_streams.specs.declared.settings.Settings.{Settings}
 use Rattle.jpeg_streams.specs.declared.before.Before.{Before}
 use Rattle.jpeg_streams.specs.declared.before.Before.TheVariants.{FirstScan, Elsewhere}
-use Rattle.jpeg_streams.specs.Found.{Metadata, Found, nothing_found}
+use Rattle.jpeg_streams.specs.Found.{Metadata, Found, nothing_found, Said, with_said}
 use Rattle.jpeg_streams.specs.Segments.{Turn, onward, frame_segment, says, updated}
 use Rattle.jpeg_streams.specs.Segments.{with_application, with_huffman}
 use Rattle.jpeg_streams.specs.ScanSegments.{scan_segment}
@@ -27,7 +27,7 @@ use Rattle.jpeg_streams.specs.FoundPictures.{picture_of}
 
 -- the end of the image, which needs a frame
 unfoldable pub end_segment : Found → List ℕ → Outcome Turn
-end_segment found bytes = if is_some found.frame
+end_segment found bytes = if is_some found.said.frame
     then Ok (record (onward found) { ended = true }, bytes) else Err Malformed
 
 -- After a marker. A restart marker after a scan is ignored, once, and a DNL segment after the first
@@ -35,16 +35,18 @@ end_segment found bytes = if is_some found.frame
 unfoldable pub segment_at : Marker → Before → Found → List ℕ → Outcome Turn
 segment_at (SOF number) before found bytes = frame_segment number found bytes
 segment_at DQT before found bytes =
-    says dqt_at (λ t. record found { quantization = updated found.quantization t }) bytes
+    says dqt_at (λ t said. record said { quantization = updated said.quantization t }) found bytes
 segment_at DHT before found bytes =
-    says (dht_at (option_map (λ f. f.is_baseline) found.frame))
-    (λ t. record found { huffman = with_huffman found.huffman t }) bytes
+    says (dht_at (option_map (λ f. f.is_baseline) found.said.frame))
+    (λ t said. record said { huffman = with_huffman said.huffman t }) found bytes
 segment_at SOS before found bytes = scan_segment found bytes
 segment_at EOI before found bytes = end_segment found bytes
-segment_at DRI before found bytes = says dri_at (λ n. record found { restart = n }) bytes
+segment_at DRI before found bytes = says dri_at (λ n said. record said { restart = n }) found bytes
 segment_at (APP number) before found bytes =
-    says (app_at number) (λ a. record found { metadata = with_application found.metadata a }) bytes
-segment_at COM before found bytes = length_at bytes >>= (λ n. says (skip_at n.0) (λ _. found) n.1)
+    says (app_at number) (λ a said. record said { metadata = with_application said.metadata a })
+    found bytes
+segment_at COM before found bytes =
+    length_at bytes >>= (λ n. says (skip_at n.0) (λ _ said. said) found n.1)
 segment_at (RST n) Elsewhere found bytes = Err Malformed
 segment_at (RST n) _ found bytes = Ok (onward found, bytes)
 segment_at DNL FirstScan found bytes = Err (Lacks features.DNL)
@@ -66,7 +68,7 @@ unfoldable pub walk : ℕ → Bool → Before → Found → Option Marker → Li
     → Found × Result (List ℕ) Fault
 walk zero header before found met bytes = (found, Err End)
 walk (suc turns) header before found met bytes =
-    if header && is_some found.frame then (found, Ok bytes) else
+    if header && is_some found.said.frame then (found, Ok bytes) else
     elim (turn_at before found met bytes) [
       | Err fault ↦ (found, Err fault)
       | Ok t ↦ if t.0.ended then (t.0.found, Ok t.1) else walk turns header t.0.before t.0.found
@@ -98,15 +100,15 @@ pub record Told : Type 0 where
   pub frame : Option Frame
   pub metadata : Metadata
 
-abbrev pub told_of : Found → Told
-told_of found = record { frame = found.frame; metadata = found.metadata }
+abbrev pub told_of : Said → Told
+told_of said = record { frame = said.frame; metadata = said.metadata }
 
 -- The rest of a stream after its start or its header: what a caller is given, and its picture.
 unfoldable pub rest_at : Settings → Found → List ℕ → Outcome (Told × List ℕ)
 rest_at settings found bytes = do
   all ← segments_at false Elsewhere found None bytes
   picture ← picture_of settings all.0
-  Ok ((told_of all.0, picture), all.1)
+  Ok ((told_of all.0.said, picture), all.1)
 
 -- The meaning of a stream: what a caller is given, and its picture.
 unfoldable pub meaning : Settings → List ℕ → Outcome (Told × List ℕ)
@@ -114,18 +116,18 @@ meaning settings bytes = do
   start ← start_at bytes
   rest_at settings nothing_found start.1
 
--- what was found, where the picture is to be at least so wide or so high
-abbrev pub sized_to : ℕ → ℕ → Found → Found
-sized_to width height found = record found { frame = option_map (sized width height) found.frame }
+-- what was said, where the picture is to be at least so wide or so high
+abbrev pub sized_to : ℕ → ℕ → Said → Said
+sized_to width height said = record said { frame = option_map (sized width height) said.frame }
 
 -- The header of a stream whose picture is to be at least so wide or so high.
 unfoldable pub sized_header_at : ℕ → ℕ → List ℕ → Outcome Found
 sized_header_at width height bytes = do
   header ← header_at bytes
-  Ok (sized_to width height header.0, header.1)
+  Ok (with_said (sized_to width height) header.0, header.1)
 
 -- The meaning of a stream whose picture is to be at least so wide or so high.
 unfoldable pub sized_meaning : ℕ → ℕ → Settings → List ℕ → Outcome (Told × List ℕ)
 sized_meaning width height settings bytes = do
   header ← header_at bytes
-  rest_at settings (sized_to width height header.0) header.1
+  rest_at settings (with_said (sized_to width height) header.0) header.1

@@ -7,7 +7,7 @@ use Rattle.jpeg_streams.specs.declared.settings.Settings.{Settings}
 use Rattle.jpeg_streams.specs.ArrayPictures.{picture_of_blocks}
 use Rattle.jpeg_streams.specs.Levels.{Levels}
 use Rattle.jpeg_streams.specs.Stream.{Told, told_of}
-use Rattle.jpeg_streams.specs.Found.{Found}
+use Rattle.jpeg_streams.specs.Found.{Said}
 use Rattle.jpeg_streams.specs.WrittenScans.{Coefficients, IsComplete}
 
 -- Every bit of each coefficient of a frame was sent.
@@ -17,6 +17,6 @@ AllComplete frame levels =
 
 -- The meaning of a stream that says this: what a caller is given, the picture, and the
 -- bytes after the image.
-abbrev pub whole_meaning : Settings → Found → Coefficients → List ℕ → Outcome (Told × List ℕ)
+abbrev pub whole_meaning : Settings → Said → Coefficients → List ℕ → Outcome (Told × List ℕ)
 whole_meaning settings said array tail =
     picture_of_blocks settings said array >>= (λ picture. Ok ((told_of said, picture), tail))

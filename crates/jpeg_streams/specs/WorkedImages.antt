@@ -5,7 +5,7 @@ use Rattle.std.specs.List.{concat}
 use Rattle.jpeg_bits.specs.Passes.{Block}
 use Rattle.jpeg_segments.specs.Frame.{Frame}
 use Rattle.jpeg_streams.specs.Levels.{Levels}
-use Rattle.jpeg_streams.specs.Found.{Found}
+use Rattle.jpeg_streams.specs.Found.{Said}
 use Rattle.jpeg_streams.specs.WholeImages.{AllComplete}
 use Rattle.jpeg_streams.specs.Worked.{colour_frame, eight_times, grey_frame, image_with, one_code}
 use Rattle.jpeg_streams.specs.Worked.{quantization_of, restart_interval, scan_text, scan_of_three}
@@ -14,7 +14,7 @@ use Rattle.jpeg_streams.specs.WrittenScans.{Coefficients}
 
 -- The bytes are a stream for the array, and every bit of its coefficients is sent.
 pub record IsWhollyWritten (array : Coefficients) (bytes : List ℕ) : Type 0 where
-  pub final : Found
+  pub final : Said
   pub last : ℕ → Levels
   pub frame : Frame
   pub written : WritesImage array bytes final last

@@ -8,7 +8,7 @@ use Rattle.jpeg_segments.specs.WrittenSegments.{FrameHeader, Header, Huffman, In
 use Rattle.jpeg_segments.specs.WrittenSegments.{Segment, with_length}
 use Rattle.jpeg_lossless.specs.Worked.{small_table}
 use Rattle.jpeg_bits.specs.Written.{marker}
-use Rattle.jpeg_streams.specs.Found.{Found}
+use Rattle.jpeg_streams.specs.Found.{Said}
 use Rattle.jpeg_streams.specs.WrittenLossless.{Samples, WritesSamples}
 
 -- ---- factors of 1
@@ -140,5 +140,5 @@ padded_picture =
 
 -- It is a stream for these samples.
 pub record AreWritten (samples : Samples) (bytes : List ℕ) : Type 0 where
-  pub final : Found
+  pub final : Said
   pub written : WritesSamples samples bytes final

@@ -7,20 +7,20 @@ use Rattle.jpeg_segments.specs.ScanHeaders.{ScanHeader, scan_written}
 use Rattle.jpeg_segments.specs.WrittenSegments.{Header, Quantization, Segment}
 use Rattle.jpeg_streams.specs.Levels.{Levels, nothing_sent}
 use Rattle.jpeg_streams.specs.ScanSegments.{Coding, pass_of, is_progressive}
-use Rattle.jpeg_streams.specs.Found.{nothing_found, Found}
+use Rattle.jpeg_streams.specs.Found.{nothing_said, Said}
 use Rattle.jpeg_streams.specs.WrittenScans.{Coefficients, HasTable, IsComplete, IsLegalScan}
 use Rattle.jpeg_streams.specs.WrittenScans.{levels_after, WritesScan}
 use Rattle.jpeg_streams.specs.WrittenStreams.{Closes, Starts, Writes}
 
 -- Frame headers are SOF0, SOF1 or SOF2, the processes by DCT and Huffman codes; and after a scan
 -- comes no quantization table.
-abbrev pub MayStandInImage : Found → Segment → Type 0
+abbrev pub MayStandInImage : Said → Segment → Type 0
 MayStandInImage said (Quantization ts) = said.scanned ≡ false
 MayStandInImage said (Header number h) = number ≤ 2
 MayStandInImage said _ = Unit {0}
 
 -- A scan that may be sent where these levels were, and the levels after it.
-pub record WritesImageScan (array : Coefficients) (said : Found) (levels : ℕ → Levels)
+pub record WritesImageScan (array : Coefficients) (said : Said) (levels : ℕ → Levels)
     (frame : Frame) (h : ScanHeader) (bytes : List ℕ) (next : ℕ → Levels) : Type 0 where
   pub codings : List Coding
   pub legal : IsLegalScan said frame levels (scan_written frame h) codings
@@ -30,7 +30,7 @@ pub record WritesImageScan (array : Coefficients) (said : Found) (levels : ℕ �
 
 -- The end of an image: after a scan, where each component has its quantization table and, in a
 -- sequential frame, every bit was sent.
-abbrev pub ClosesImage : Found → (ℕ → Levels) → List ℕ → Type 0
+abbrev pub ClosesImage : Said → (ℕ → Levels) → List ℕ → Type 0
 ClosesImage said levels bytes =
     Closes (λ frame. (said.scanned ≡ true) × AllByRecursion (HasTable said) frame.components
     × (is_progressive frame.process ≡ false →
@@ -38,13 +38,13 @@ ClosesImage said levels bytes =
     said bytes
 
 -- Segments and scans of an image, up to an end.
-abbrev pub WritesPart : Coefficients → (Found → (ℕ → Levels) → List ℕ → Type 0)
-    → Found → (ℕ → Levels) → List ℕ → Found → (ℕ → Levels) → Type 0
+abbrev pub WritesPart : Coefficients → (Said → (ℕ → Levels) → List ℕ → Type 0)
+    → Said → (ℕ → Levels) → List ℕ → Said → (ℕ → Levels) → Type 0
 WritesPart array ends = Writes MayStandInImage (WritesImageScan array) ends
 
 -- A stream for an array: SOI, and then segments and scans up to EOI. `final` is what is said at its
 -- end, and `last` what was sent of each coefficient.
-abbrev pub WritesImage : Coefficients → List ℕ → Found → (ℕ → Levels) → Type 0
+abbrev pub WritesImage : Coefficients → List ℕ → Said → (ℕ → Levels) → Type 0
 WritesImage array bytes final last =
-    Starts (λ after. WritesPart array ClosesImage nothing_found (λ k. nothing_sent) after final last)
+    Starts (λ after. WritesPart array ClosesImage nothing_said (λ k. nothing_sent) after final last)
     bytes

@@ -19,7 +19,7 @@ use Rattle.jpeg_bits.specs.Written.{WritesIntervals}
 use Rattle.jpeg_streams.specs.LosslessScans.{LosslessCoding, lossless_codings, mcus_across}
 use Rattle.jpeg_streams.specs.LosslessScans.{mcus_down, way_of}
 use Rattle.jpeg_streams.specs.WrittenStreams.{Closes, Starts, Writes}
-use Rattle.jpeg_streams.specs.Found.{nothing_found, Found}
+use Rattle.jpeg_streams.specs.Found.{nothing_said, Said}
 
 -- By its index in the frame, a component's lines of samples.
 abbrev pub Samples : Type 0
@@ -48,7 +48,7 @@ HoldSamples samples _ _ _ = ⊥
 
 -- The data of a scan: differences that give the samples of its components with their predictions,
 -- each by its table in force, in whole rows of MCUs, without a point transform.
-pub record WritesSamplesScan (said : Found) (frame : Frame) (h : ScanHeader) (samples : Samples)
+pub record WritesSamplesScan (said : Said) (frame : Frame) (h : ScanHeader) (samples : Samples)
     (bytes : List ℕ) : Type 0 where
   pub codings : List LosslessCoding
   pub coded :
@@ -74,23 +74,23 @@ pub record WritesSamplesScan (said : Found) (frame : Frame) (h : ScanHeader) (sa
 -- ---- a stream
 
 -- A scan, and the components that scans have had after it, by their indices in the frame.
-abbrev pub SendsSamples : Samples → Found → List ℕ → Frame → ScanHeader → List ℕ → List ℕ → Type 0
+abbrev pub SendsSamples : Samples → Said → List ℕ → Frame → ScanHeader → List ℕ → List ℕ → Type 0
 SendsSamples samples said sent frame h bytes next =
     WritesSamplesScan said frame h samples bytes
     × (map (λ s. s.component) (selectors_in h) ++ sent ≡ next)
 
 -- The end of a lossless image: scans have had all components.
-abbrev pub ClosesSamples : Found → List ℕ → List ℕ → Type 0
+abbrev pub ClosesSamples : Said → List ℕ → List ℕ → Type 0
 ClosesSamples said sent bytes =
     Closes (λ frame. AllByRecursion (λ k. names sent k ≡ true)
     (range_with_len 0 (length frame.components))) said bytes
 
 -- A stream for samples: SOI, and then segments and scans up to EOI. `final` is what is said at its
 -- end, and `sent` the components that scans have had.
-pub record WritesSamples (samples : Samples) (bytes : List ℕ) (final : Found) : Type 0 where
+pub record WritesSamples (samples : Samples) (bytes : List ℕ) (final : Said) : Type 0 where
   pub sent : List ℕ
   pub written : Starts (λ after. Writes (λ said s. IsLossless s) (SendsSamples samples)
-      ClosesSamples nothing_found [] after final sent) bytes
+      ClosesSamples nothing_said [] after final sent) bytes
 
 -- ---- its picture
 
@@ -99,6 +99,6 @@ unfoldable pub picture_of_samples : Frame → Samples → List ℕ
 picture_of_samples frame samples = picture_by_samples frame (λ c. at_position (samples c.0))
 
 -- The picture of a frame is within a limit on its samples.
-pub record IsWithinLimit (limit : ℕ) (final : Found) (frame : Frame) : Type 0 where
+pub record IsWithinLimit (limit : ℕ) (final : Said) (frame : Frame) : Type 0 where
   pub is_said : final.frame ≡ Some frame
   pub limited : length frame.components * (frame.output_width * frame.output_height) ≤ limit

@@ -7,7 +7,7 @@ use Rattle.jpeg_segments.specs.Frame.{Component, Frame}
 use Rattle.jpeg_streams.specs.Levels.{Levels}
 use Rattle.jpeg_streams.specs.Order.{grid_of}
 use Rattle.jpeg_streams.specs.Stream.{meaning}
-use Rattle.jpeg_streams.specs.Found.{Found}
+use Rattle.jpeg_streams.specs.Found.{Said}
 use Rattle.jpeg_streams.specs.WrittenImages.{WritesPart}
 use Rattle.jpeg_streams.specs.WrittenScans.{Coefficients}
 use Rattle.jpeg_streams.specs.declared.settings.Settings.{Settings}
@@ -17,7 +17,7 @@ use Rattle.jpeg_streams.specs.declared.settings.Settings.{Settings}
 -- Some segments and scans that follow one another: what was said before them, the levels that were
 -- sent; their bytes; and the same after them.
 abbrev pub WritesFront : Coefficients →
-    Found → (ℕ → Levels) → List ℕ → Found → (ℕ → Levels) → Type 0
+    Said → (ℕ → Levels) → List ℕ → Said → (ℕ → Levels) → Type 0
 WritesFront array = WritesPart array (λ said levels bytes. bytes ≡ [])
 
 -- ---- pictures that are the same
@@ -28,7 +28,7 @@ picture_meant_by settings bytes = meaning settings bytes >>= (λ m. Ok m.0.1)
 
 -- What is said gives the same picture: the same size, the same components with the same
 -- quantization tables, and the same choice of colours. The processes and all else may differ.
-pub record HaveSamePicture (a b : Found) : Type 0 where
+pub record HaveSamePicture (a b : Said) : Type 0 where
   pub frame_a : Frame
   pub frame_b : Frame
   pub is_a : a.frame ≡ Some frame_a

@@ -12,7 +12,7 @@ use Rattle.jpeg_streams.specs.Levels.{Is8Bit, IsLegal, Levels, sent_after, numbe
 use Rattle.jpeg_streams.specs.Order.{Spot, grid_of, mcu_size, spots_of}
 use Rattle.jpeg_streams.specs.Scans.{turns_of}
 use Rattle.jpeg_streams.specs.ScanSegments.{Coding, codings_of, components_of, pass_of, vias_from}
-use Rattle.jpeg_streams.specs.Found.{Found}
+use Rattle.jpeg_streams.specs.Found.{Said}
 use Rattle.jpeg_bits.specs.Written.{WritesIntervals}
 use Rattle.jpeg_streams.specs.WrittenData.{WritesBlocks}
 
@@ -51,7 +51,7 @@ pub record WritesScan (frame : Frame) (restart : ℕ) (p : Pass) (codings : List
 -- ---- tables in force
 
 -- a component has its quantization table
-abbrev pub HasTable : Found → Component → Type 0
+abbrev pub HasTable : Said → Component → Type 0
 HasTable w c = IsSome (slice_index_or w.quantization c.factors.quantization None)
 
 -- ---- scripts (G.1.1.1)
@@ -68,7 +68,7 @@ levels_after p (index ∷ indices) levels = levels_after p indices (levels_of_on
 
 -- A scan may be sent where these levels were: its tables are defined, and each of its components
 -- allows it.
-pub record IsLegalScan (w : Found) (frame : Frame) (levels : ℕ → Levels) (scan : Scan)
+pub record IsLegalScan (w : Said) (frame : Frame) (levels : ℕ → Levels) (scan : Scan)
     (codings : List Coding) : Type 0 where
   pub are_in_force : codings_of w frame scan ≡ Ok codings
   pub legal : AllByRecursion (λ c. IsLegal (pass_of scan) (levels c.index)) codings

@@ -33,7 +33,7 @@ pub fn picture_of(alloc: Global, bytes: &[u8]) -> Result<Vec<u8>>
         ≡ Ok ((told, pixels.items), rest))) }
 
     // Where the bytes are written for the coefficients of an image, it is their picture.
-    ensures images { (array : Coefficients) (image rest : List ℕ) (final : Found)
+    ensures images { (array : Coefficients) (image rest : List ℕ) (final : Said)
         (last : ℕ → Levels) → ((index row column : ℕ) → Is8Bit (array index row column)) →
         WritesImage array image final last →
         bytes.now ≡ image ++ rest → length bytes.now < 2 ^ 64 →

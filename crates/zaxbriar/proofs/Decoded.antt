@@ -46,8 +46,8 @@ samples-count o info precision lines old new samples h same i p whole counted =
     (ap (λ (f : Option Frame). option_map (λ f. f.precision) f) same ∙ p))
 
 pub decodes-of : (lines : Lines) (old new : Decoding) (samples before after : List ℕ) → old.stage ≡ HeaderRead
-    → new.found.frame ≡ old.found.frame
-    → (IsReading old.stage → Answers {X = Unit {0}} (λ u. (told_of new.found, samples))
+    → new.found.said.frame ≡ old.found.said.frame
+    → (IsReading old.stage → Answers {X = Unit {0}} (λ u. (told_of new.found.said, samples))
     (ahead old.stage old.settings old.found) old.source (Ok tt) new.source)
     → DecodesImages {X = Unit {0}} (λ u. samples) old (Ok tt) new
     → after ≡ laid_out (layout_line lines.conversion lines.width) (lines.width * lines.stored)
@@ -56,7 +56,7 @@ pub decodes-of : (lines : Lines) (old new : Decoding) (samples before after : Li
 decodes-of lines old new samples before after s frame reads images pixels = record {
   samples = samples;
   frame = frame;
-  reads = subst (λ (t : Progress). IsReading t → Answers {X = Unit {0}} (λ u. (told_of new.found, samples))
+  reads = subst (λ (t : Progress). IsReading t → Answers {X = Unit {0}} (λ u. (told_of new.found.said, samples))
       (ahead t old.settings old.found) old.source (Ok tt) new.source) s reads tt;
   images = images;
   pixels = pixels;

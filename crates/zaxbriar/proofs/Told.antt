@@ -49,9 +49,9 @@ arranged-of o info precision samples old new picture lines decoding orientation 
 pub described-of : (o : Options) (bytes rest : List ℕ) (header found : Found) (info : ImageInfo) (precision : ℕ)
     (decoding : DecodingBytes) (lines : Lines) (orientation : ℕ) (picture : Picture)
     → header_at bytes ≡ Ok (header, rest) → found ≡ at_size (size_wanted o) header
-    → option_map info_of found.frame ≡ Some info → option_map (λ f. f.precision) found.frame ≡ Some precision
-    → option_map decoding_bytes found.frame ≡ Some decoding → HasLines o info precision lines
-    → orientation ≡ orientation_by found.metadata.exif
+    → option_map info_of found.said.frame ≡ Some info → option_map (λ f. f.precision) found.said.frame ≡ Some precision
+    → option_map decoding_bytes found.said.frame ≡ Some decoding → HasLines o info precision lines
+    → orientation ≡ orientation_by found.said.metadata.exif
     → picture ≡ described_picture o.layout info precision lines decoding.peak orientation 0
     → Describes o bytes picture
 described-of o bytes rest header found info precision decoding lines orientation picture r s i p d h n e = grind arith

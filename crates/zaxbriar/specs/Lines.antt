@@ -99,8 +99,8 @@ pub record Arranged (o : Options) (info : ImageInfo) (precision : ℕ) (samples 
 -- memory.
 pub record Decodes (lines : Lines) (old new : Decoding) (before after : List ℕ) : Type 0 where
   pub samples : List ℕ
-  pub frame : new.found.frame ≡ old.found.frame
-  pub reads : Answers {X = Unit {0}} (λ u. (told_of new.found, samples))
+  pub frame : new.found.said.frame ≡ old.found.said.frame
+  pub reads : Answers {X = Unit {0}} (λ u. (told_of new.found.said, samples))
       (rest_at old.settings old.found) old.source (Ok tt) new.source
   pub images : DecodesImages {X = Unit {0}} (λ u. samples) old (Ok tt) new
   pub pixels : after ≡ laid_out (layout_line lines.conversion lines.width) (lines.width *

@@ -54,10 +54,10 @@ fn decode_lines<R: Read + Drop>(
     pixels: &mut [u8],
 ) -> std::result::Result<(), Refusal>
     requires read { decoder.old.stage ≡ HeaderRead }
-    requires info { option_map info_of decoder.old.found.frame ≡ Some header.info }
-    requires precision { option_map (λ f. f.precision) decoder.old.found.frame
+    requires info { option_map info_of decoder.old.found.said.frame ≡ Some header.info }
+    requires precision { option_map (λ f. f.precision) decoder.old.found.said.frame
         ≡ Some header.precision }
-    requires bytes { option_map decoding_bytes decoder.old.found.frame
+    requires bytes { option_map decoding_bytes decoder.old.found.said.frame
         ≡ Some header.decoding_bytes }
     requires lines { (options : Options) × HasLines options header.info header.precision lines }
     requires room { size_of_lines lines.stride lines.row_bytes lines.height ≤ length pixels.old }
@@ -94,7 +94,7 @@ pub fn decode_into<R: Read + Drop>(
     ensures means { (bytes : List ℕ) → Tells (R.remaining reader.old) bytes
         → OnOk result (Shows options.now bytes pixels.old pixels.new picture.new) }
     ensures images { (bytes : List ℕ) → Tells (R.remaining reader.old) bytes →
-        (array : Coefficients) (image rest : List ℕ) (final : Found) (last : ℕ → Levels) →
+        (array : Coefficients) (image rest : List ℕ) (final : Said) (last : ℕ → Levels) →
         ((index row column : ℕ) → Is8Bit (array index row column)) →
         WritesImage array image final last →
         bytes ≡ image ++ rest →

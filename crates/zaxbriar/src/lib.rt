@@ -78,7 +78,7 @@ pub extern "C" fn zaxbriar_checked_decode(
 
     // Where the bytes are written for the coefficients of an image, it is their picture.
     ensures images { result ≡ 0 → length jpeg.now < 2 ^ 64 →
-        (array : Coefficients) (image rest : List ℕ) (final : Found) (last : ℕ → Levels) →
+        (array : Coefficients) (image rest : List ℕ) (final : Said) (last : ℕ → Levels) →
         ((index row column : ℕ) → Is8Bit (array index row column)) →
         WritesImage array image final last →
         jpeg.now ≡ image ++ rest →

@@ -44,9 +44,9 @@ fn copy_profile<R: Read + Drop>(
     count: &mut u64,
 ) -> Result<u32>
     ensures copied { IfOk result (λ code. code ≡ 0
-        → IsCopied (metadata_of 3 decoder.now.found.metadata) buffer.old buffer.new count.new) }
+        → IsCopied (metadata_of 3 decoder.now.found.said.metadata) buffer.old buffer.new count.new) }
     ensures none { IfOk result (λ code. code ≡ 7
-        → metadata_of 3 decoder.now.found.metadata ≡ None) }
+        → metadata_of 3 decoder.now.found.said.metadata ≡ None) }
     ensures own { IfOk result (λ code. code < 4 → code ≡ 0) }
     ensures kept { IfOk result (λ code. (code ≡ 0 → ⊥) → buffer.new ≡ buffer.old) }
     ensures failed { OnErr result (buffer.new ≡ buffer.old) }
@@ -65,9 +65,9 @@ fn copy_kind<R: Read + Drop>(
     count: &mut u64,
 ) -> Result<u32>
     ensures copied { IfOk result (λ code. code ≡ 0
-        → IsCopied (metadata_of kind decoder.now.found.metadata) buffer.old buffer.new count.new) }
+        → IsCopied (metadata_of kind decoder.now.found.said.metadata) buffer.old buffer.new count.new) }
     ensures none { IfOk result (λ code. code ≡ 7
-        → metadata_of kind decoder.now.found.metadata ≡ None) }
+        → metadata_of kind decoder.now.found.said.metadata ≡ None) }
     ensures own { IfOk result (λ code. code < 4 → code ≡ 0) }
     ensures kept { IfOk result (λ code. (code ≡ 0 → ⊥) → buffer.new ≡ buffer.old) }
     ensures failed { OnErr result (buffer.new ≡ buffer.old) }
@@ -84,7 +84,7 @@ fn copy_kind<R: Read + Drop>(
 /// no data in it. Where memory or the reader fails, that number is the error.
 fn read_told<R: Read + Drop>(decoder: &mut Decoder<R>) -> std::result::Result<u32, u32>
     requires fresh { decoder.old.stage ≡ Fresh }
-    ensures told { decoder.old.source.known ≡ true → OnOk result (told_of decoder.new.found
+    ensures told { decoder.old.source.known ≡ true → OnOk result (told_of decoder.new.found.said
         ≡ told_by_turns (suc (length decoder.old.source.bytes)) true decoder.old.source.bytes) }
     ensures named { decoder.old.source.known ≡ true
         → IfOk result (λ code. IsNamed code (header_at decoder.old.source.bytes)) }

@@ -6,7 +6,7 @@ use Rattle.picture_in_memory.proofs.described_picture_of.Goals as goal
 
 pub returns-clause-size : goal.returns-clause-size
 returns-clause-size c =
-    picture_is_counted c.decode.new.self.found.frame c.unwrap-info.result c.unwrap-precision.result
+    picture_is_counted c.decode.new.self.found.said.frame c.unwrap-info.result c.unwrap-precision.result
     c.in_ok-pixels.pixels.items c.in_ok-pixels.ensures.size c.in_ok-pixels.ensures.counted
     (sym c.info.ensures ∙ c.unwrap-info.ensures) (sym c.precision.ensures ∙ c.unwrap-precision.ensures)
 
@@ -18,7 +18,7 @@ returns-clause-means c few =
     let same = known_bytes_are_told (Some bytes) bytes tells in
     let reads = rw (c.in_ok-decoder.ensures.ok, c.new.ensures) at c.in_ok-pixels.ensures.reads in
     let whole = ((reads tt).1 known).1 in (
-      told_of c.decode.new.self.found,
+      told_of c.decode.new.self.found.said,
       c.decode.new.self.source.bytes,
       rw same at whole,
       sym c.info.ensures ∙ c.unwrap-info.ensures,

@@ -18,7 +18,7 @@ read-whole : {X : Type 0} (told : Told) (bytes_of : X → List ℕ) (read : List
 read-whole told bytes_of read old new (Ok x) a k = (told, new.bytes, (a.1 k).1)
 read-whole told bytes_of read old new (Err e) a k = tt
 
-given : {X : Type 0} (bytes_of : X → List ℕ) (picture : Result (List ℕ) Fault) (rest : List ℕ) (final : Found)
+given : {X : Type 0} (bytes_of : X → List ℕ) (picture : Result (List ℕ) Fault) (rest : List ℕ) (final : Said)
     (new : Decoding) (r : Result X Error)
     → MatchResult r (λ x. GivesPicture picture rest final (bytes_of x) new)
     (λ e. IsOk picture → FailsOutside e new.source)
@@ -35,7 +35,7 @@ returns-clause-means c few =
     let same = known_bytes_are_told (Some bytes) bytes tells in
     let whole : IfOk c.decode.result (λ x. (t : Told) × (rest : List ℕ)
     × (meaning default_settings (stream_of (Some bytes) false false).bytes ≡ Ok ((t, x.items), rest)))
-    = read-whole (told_of c.decode.new.self.found) (λ v. v.items) (meaning default_settings)
+    = read-whole (told_of c.decode.new.self.found.said) (λ v. v.items) (meaning default_settings)
     (stream_of (Some bytes) false false)
     c.decode.new.self.source c.decode.result (reads tt) known in
     rw same at whole

@@ -5,7 +5,7 @@ use Rattle.std.specs.Prelude.{◌==◌, nat_lt}
 use Rattle.jpeg_bits.specs.Reading.{Fault}
 use Rattle.jpeg_bits.proofs.Loops.{Names-through}
 use Rattle.jpeg_segments.specs.FrameView.{frame_in, scan_in}
-use Rattle.jpeg_decoder.specs.Seen.{found_in}
+use Rattle.jpeg_decoder.specs.Seen.{said_in}
 use Rattle.jpeg_decoder.specs.Steps.{table_if}
 use Rattle.jpeg_decoder.proofs.SlotCodings.{class-in-force, fails-quantization, fails-dc, fails-ac, gives-coding}
 use Rattle.jpeg_decoder.proofs.SlotCodings.{is-there, is-dc, is-ac, format-refuses}
@@ -24,7 +24,7 @@ returns-in_err-quantization c =
     component
     c.requires.spare c.requires.slot c.index-index.ensures (search rules) at in
     let unset : get_or state.quantization component.quantization_table_index None ≡ None = search rules in
-    let e = fails-quantization (found_in state) (frame_in c.args.frame.now) (scan_in header) spare c.args.slot _ _ is
+    let e = fails-quantization (said_in state) (frame_in c.args.frame.now) (scan_in header) spare c.args.slot _ _ is
     unset in
     let p = err_from_is_err_and c.from_residual-in_err-quantization.result
     c.from_residual-in_err-quantization.ensures.1 in
@@ -45,7 +45,7 @@ returns-in_err-dc c =
     ≡ Some c.in_ok-quantization.quantization.now = search rules in
     let dc_four : length state.dc_tables ≡ 4 = omega arith in
     let dc_within : c.args.slot < length header.dc_table_indices.items = omega arith in
-    let fails = fails-dc (found_in state) (frame_in c.args.frame.now) (scan_in header) spare c.args.slot _ _ is _ set
+    let fails = fails-dc (said_in state) (frame_in c.args.frame.now) (scan_in header) spare c.args.slot _ _ is _ set
     dc_four in
     let through = λ (f : Fault) (e : table_if (header.spectral_selection.start == 0) spare.no_dc
     (option_copied c.table_in_force-dc.result) ≡ Err f).
@@ -75,7 +75,7 @@ returns-in_err-ac c =
     let ac_within : c.args.slot < length header.ac_table_indices.items = omega arith in
     let dc = is-dc state header spare c.args.slot c.index-dc_destination.result.now (option_copied c.table_in_force-dc.result)
     (Ok c.in_ok-dc.dc.now) dc_within c.index-dc_destination.ensures (rw c.deref-2.ensures.value at c.table_in_force-dc.ensures) c.in_ok-dc.ensures in
-    let fails = fails-ac (found_in state) (frame_in c.args.frame.now) (scan_in header) spare c.args.slot _ _ is _ set
+    let fails = fails-ac (said_in state) (frame_in c.args.frame.now) (scan_in header) spare c.args.slot _ _ is _ set
     dc_four ac_four _ dc in
     let through = λ (f : Fault) (e : table_if (nat_lt 1 header.spectral_selection.end) spare.no_ac
     (option_copied c.table_in_force-ac.result) ≡ Err f).
@@ -108,7 +108,7 @@ returns c =
     let ac = is-ac state header spare c.args.slot c.index-ac_destination.result.now (option_copied c.table_in_force-ac.result)
     (Ok c.in_ok-ac.ac.now) ac_within c.index-ac_destination.ensures (rw c.deref-3.ensures.value at c.table_in_force-ac.ensures) c.in_ok-ac.ensures in
     record {
-      coding = gives-coding (found_in state) (frame_in c.args.frame.now) (scan_in header) spare c.args.slot _ _ is _ set
+      coding = gives-coding (said_in state) (frame_in c.args.frame.now) (scan_in header) spare c.args.slot _ _ is _ set
           dc_four ac_four _ _ dc ac;
     }
 
@@ -119,7 +119,7 @@ invariant_of-result c =
     let at : component ≡ get_or c.args.frame.now.components.items c.index-index.result.now
     component = search rules in
     record {
-      class = class-in-force (found_in c.args.state.now) (scan_in c.args.header.now) c.args.spare.now _
+      class = class-in-force (said_in c.args.state.now) (scan_in c.args.header.now) c.args.spare.now _
           c.index-ac_destination.result.now _ c.requires.spare c.args.state.now.ac_classes forced;
       scale = scale-at c.args.frame.now.components.items c.index-index.result.now component (search
           rules) at

@@ -8,5 +8,5 @@ pub picture_bytes-size-requires : goal.picture_bytes-size-requires
 picture_bytes-size-requires c =
     let frame = frame_in c.in-Some.frame in
     let found = found_in c.args.state.now in
-    let is : found.frame ≡ Some frame = search rules in
+    let is : found.said.frame ≡ Some frame = search rules in
     (count-few (length frame.components) (decoded-count frame (c.requires.frames frame is))).1

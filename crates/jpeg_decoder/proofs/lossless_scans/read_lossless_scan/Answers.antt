@@ -32,7 +32,7 @@ use Rattle.std.proofs.Common.{arith}
 
 -- the components of the scan, with their tables
 coded : (g : given.Over) (c : After-deref-2 g) → let scan = scan_in c.args.header.now in
-    AreCodings (found_in c.args.state.now).huffman.dc (frame_in c.args.frame.now) scan.components
+    AreCodings (found_in c.args.state.now).said.huffman.dc (frame_in c.args.frame.now) scan.components
     scan.dc_destinations
     (map (λ t. t.now) c.in_ok-tables.tables.items)
 coded g c = grind (arith, common_steps, codings-by-tables, recursion_from_All)
@@ -59,9 +59,8 @@ mcus g c =
 -- the planes of their samples
 placed : (g : given.Over) (c : After-put_samples g)
     → let found = with_decoded (found_in c.args.state.now) c.args.decoded.now in
-    ◌≡◌ {A = Found} (record (with_decoded (found_in c.args.state.now) c.put_samples.new.self) { scanned = true })
-    (record found {
-      scanned = true;
+    ◌≡◌ {A = Found} (once_scanned (with_decoded (found_in c.args.state.now) c.put_samples.new.self))
+    (record (once_scanned found) {
       samples = with_samples (scan_in c.args.header.now).components (map (λ v. v.items) c.in_ok-planes.planes.items) found.samples;
     })
 placed g c = grind (arith, common_steps, put-made)
@@ -79,7 +78,7 @@ returns-in_err-tables-clause-reads g c =
     (begun (samples_read found frame header) c.args.source.now) c.in_err-tables.ensures.0
     c.in_err-tables.ensures.1
     (λ f h. samples-lacking found frame header c.args.source.now.bytes f
-    (codings-lacking found.huffman.dc frame header.components header.dc_destinations f indices
+    (codings-lacking found.said.huffman.dc frame header.components header.dc_destinations f indices
     c.requires.legal.dc_length h)))
 
 pub parts_of-requires-clause-count : goal.parts_of-requires-clause-count
@@ -152,13 +151,12 @@ returns-clause-reads g c =
     let at = goal.at.returns-clause-reads g c in
     let a = coded g at.After-deref-2 in
     let planes = map (λ v. v.items) c.in_ok-planes.planes.items in
-    samples-end found (record (with_decoded (found_in c.args.state.now) c.put_samples.new.self) { scanned = true })
+    samples-end found (once_scanned (with_decoded (found_in c.args.state.now) c.put_samples.new.self))
     frame header a.codings _ planes c.in_ok-planes.met
     c.args.source.now c.read_scan.new.source c.pass_restarts.new.source c.pass_restarts.result a.are
     (coded-by found frame header _ a _ _ c.coding_of-coding.ensures (made g at.After-deref-3))
     (placed g at.After-put_samples
-    ∙ ap (λ (l : List ℕ). record found {
-      scanned = true;
+    ∙ ap (λ (l : List ℕ). record (once_scanned found) {
       samples = with_samples l planes
           found.samples;
     }) (sym a.indices_are))
@@ -170,7 +168,7 @@ returns-clause-sound g c =
     let frame = frame_in c.args.frame.now in
     let header = scan_in c.args.header.now in
     let at = goal.at.returns-clause-sound g c in
-    let next = record (with_decoded (found_in c.args.state.now) c.put_samples.new.self) { scanned = true } in
+    let next = once_scanned (with_decoded (found_in c.args.state.now) c.put_samples.new.self) in
     let planes = map (λ v. v.items) c.in_ok-planes.planes.items in
     on-ok c.pass_restarts.result (samples-sound found next frame header.components planes c.requires.sound
     c.requires.frame c.requires.process

@@ -61,9 +61,9 @@ printed g c bytes tells =
     let same = known_bytes_are_told (g.R.Read.remaining c.args.reader) bytes tells in
     let here = reads tt in
     let all = rw same at (here.1 known).1 in
-    let text : string_bytes c.in_ok-line.line ≡ header_line_of (option_map info_of c.decode.new.self.found.frame) =
+    let text : string_bytes c.in_ok-line.line ≡ header_line_of (option_map info_of c.decode.new.self.found.said.frame) =
     c.in_ok-line.ensures ∙ ap header_line_of c.info.ensures in
-    output-some bytes c.decode.new.self.source.bytes (told_of c.decode.new.self.found) c.in_ok-pixels.pixels.items all
+    output-some bytes c.decode.new.self.source.bytes (told_of c.decode.new.self.found.said) c.in_ok-pixels.pixels.items all
     ∙ ap (λ xs. Some (xs ++ c.in_ok-pixels.pixels.items)) (sym text)
 
 pub returns-clause-ok : goal.returns-clause-ok

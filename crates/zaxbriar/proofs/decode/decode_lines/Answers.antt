@@ -9,7 +9,7 @@ pub returns-then-header-pixels-clause-decodes : goal.returns-then-header-pixels-
 returns-then-header-pixels-clause-decodes g c =
     let lines = c.args.lines in
     let frame = c.decode_into.ensures.stays c.requires.read in
-    let room = has-room c.args.decoder.now.found.frame c.decode_into.new.self.found.frame c.args.header.decoding_bytes
+    let room = has-room c.args.decoder.now.found.said.frame c.decode_into.new.self.found.said.frame c.args.header.decoding_bytes
     (length c.args.pixels.now) frame c.requires.bytes (omega (arith, c.if-header-pixels.true)) in
     let plain = c.is_as_decoded.ensures c.if-is_as_decoded.true in
     elim c.match-decode_into.branch [
@@ -20,7 +20,7 @@ returns-then-header-pixels-clause-decodes g c =
           (row-of c.requires.lines.0 c.args.header.info c.args.header.precision lines c.requires.lines.1) plain.1
           c.decode_into.auto.pixels w.in-Ok.ensures.rest
           (samples-count c.requires.lines.0 c.args.header.info c.args.header.precision lines
-          c.args.decoder.now.found.frame c.decode_into.new.self.found.frame _ c.requires.lines.1 frame c.requires.info
+          c.args.decoder.now.found.said.frame c.decode_into.new.self.found.said.frame _ c.requires.lines.1 frame c.requires.info
           c.requires.precision w.in-Ok.ensures.size w.in-Ok.ensures.counted)))
       | in-Err w ↦ rw w.result-is tt
     ]
@@ -28,7 +28,7 @@ returns-then-header-pixels-clause-decodes g c =
 pub returns-then-header-pixels-clause-named : goal.returns-then-header-pixels-clause-named
 returns-then-header-pixels-clause-named g c =
     let frame = c.decode_into.ensures.stays c.requires.read in
-    let room = has-room c.args.decoder.now.found.frame c.decode_into.new.self.found.frame c.args.header.decoding_bytes
+    let room = has-room c.args.decoder.now.found.said.frame c.decode_into.new.self.found.said.frame c.args.header.decoding_bytes
     (length c.args.pixels.now) frame c.requires.bytes (omega (arith, c.if-header-pixels.true)) in
     elim c.match-decode_into.branch [
       | in-Ok w ↦ rw w.result-is (λ known. tt)
@@ -42,7 +42,7 @@ returns-then-header-pixels-clause-named g c =
 pub put_lines-requires-clause-samples : goal.put_lines-requires-clause-samples
 put_lines-requires-clause-samples g c =
     rw c.deref.ensures.value (samples-count c.requires.lines.0 c.args.header.info c.args.header.precision c.args.lines
-    c.args.decoder.now.found.frame c.decode.new.self.found.frame c.in-Ok-decode.samples.items c.requires.lines.1
+    c.args.decoder.now.found.said.frame c.decode.new.self.found.said.frame c.in-Ok-decode.samples.items c.requires.lines.1
     (c.in-Ok-decode.ensures.stays c.requires.read) c.requires.info c.requires.precision c.in-Ok-decode.ensures.size
     c.in-Ok-decode.ensures.counted)
 

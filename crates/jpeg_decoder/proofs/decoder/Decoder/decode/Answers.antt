@@ -29,7 +29,7 @@ left g c = record {
 }
 
 refused : (g : given.Over) (c : goal.After-drop_decoded g)
-    → HasRead (λ (v : Vec ℕ Global). v.items) (told_of (found_in c.drop_decoded.new.state)) c.args.self.now (Err c.in-Err.e)
+    → HasRead (λ (v : Vec ℕ Global). v.items) (told_of (found_in c.drop_decoded.new.state).said) c.args.self.now (Err c.in-Err.e)
     c.self-2.inside.source
 refused g c =
     into-refused (λ v. v.items) _ c.args.self.now c.read_info-header.new.self _ c.in-Err.e c.self-2.view_is
@@ -64,7 +64,7 @@ ended g c = record {
 }
 
 done : (g : given.Over) (c : goal.After-self-1 g)
-    → HasRead (λ v. v.items) (told_of (found_in c.read_rest-result.new.state)) c.args.self.now c.read_rest-result.result
+    → HasRead (λ v. v.items) (told_of (found_in c.read_rest-result.new.state).said) c.args.self.now c.read_rest-result.result
     c.read_rest-result.new.source
 done g c =
     into (λ v. v.items) _ c.args.self.now _ c.read_rest-result.new.source c.read_rest-result.result
@@ -95,11 +95,11 @@ returns-clause-counted g c =
 
 -- what holds between calls
 abbrev Holds : Progress → Found → Type 0
-Holds stage found = (stage ≡ Fresh → found ≡ nothing_found) × (HasHeader stage → is_some found.frame ≡ true)
+Holds stage found = (stage ≡ Fresh → found ≡ nothing_found) × (HasHeader stage → is_some found.said.frame ≡ true)
     × (HasHeader stage → HasDecodedFrame found) × (stage ≡ HeaderRead → IsSound found × IsUnread found)
 
 holds : {X : Type 0} (found : Found) (r : Result X Error) (b : Bool) (p : Progress) → b ≡ is_ok r
-    → p ≡ (if b then Finished else Failed) → IfOk r (λ _. is_some found.frame ≡ true)
+    → p ≡ (if b then Finished else Failed) → IfOk r (λ _. is_some found.said.frame ≡ true)
     → OnOk r (HasDecodedFrame found) → Holds p found
 holds found (Ok x) b p e q framed frames = rw (q, e) (search rules)
 holds found (Err x) b p e q framed frames = rw (q, e) (search rules)

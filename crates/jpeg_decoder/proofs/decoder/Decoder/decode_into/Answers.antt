@@ -25,7 +25,7 @@ left g c = record {
 }
 
 refused : (g : given.Over) (c : goal.After-drop_decoded g)
-    → HasRead (λ (n : ℕ). []) (told_of (found_in c.drop_decoded.new.state)) c.args.self.now (Err c.in-Err.e)
+    → HasRead (λ (n : ℕ). []) (told_of (found_in c.drop_decoded.new.state).said) c.args.self.now (Err c.in-Err.e)
     c.self-2.inside.source
 refused g c =
     into-refused (λ (n : ℕ). []) _ c.args.self.now c.read_info.new.self _ c.in-Err.e c.self-2.view_is
@@ -61,7 +61,7 @@ stopped g c = record {
 
 unread : (g : given.Over) (c : goal.After-from_residual-in_err-written g) (e : Error)
     → c.read_rest_into-written.result ≡ Err e
-    → HasRead (λ (n : ℕ). []) (told_of (found_in c.read_rest_into-written.new.state)) c.args.self.now (Err e)
+    → HasRead (λ (n : ℕ). []) (told_of (found_in c.read_rest_into-written.new.state).said) c.args.self.now (Err e)
     c.read_rest_into-written.new.source
 unread g c e is =
     into-err (λ (n : ℕ). []) _ c.args.self.now _ _ _ c.read_rest_into-written.result e
@@ -117,7 +117,7 @@ front g c =
 
 done : (g : given.Over) (c : goal.In_ok-written g)
     → HasRead (λ n. take n (c.read_rest_into-written.new.pixels ++ drop c.in_ok-size.size c.args.pixels.now))
-    (told_of (found_in c.read_rest_into-written.new.state)) c.args.self.now (Ok c.in_ok-size.size)
+    (told_of (found_in c.read_rest_into-written.new.state).said) c.args.self.now (Ok c.in_ok-size.size)
     c.read_rest_into-written.new.source
 done g c =
     into-ok (λ n. take n (c.read_rest_into-written.new.pixels ++ drop c.in_ok-size.size c.args.pixels.now)) _

@@ -10,7 +10,7 @@ pub decoding_bytes-requires-clause-few : goal.decoding_bytes-requires-clause-few
 decoding_bytes-requires-clause-few g c =
     let frame = frame_in c.in_ok-frame-in-HeaderRead.frame.now in
     let found = found_in c.self.inside.state in
-    let is : found.frame ≡ Some frame = search rules in
+    let is : found.said.frame ≡ Some frame = search rules in
     let decoded : HasDecodedFrame found = search rules in
     (count-few (length frame.components) (decoded-count frame (decoded frame is))).1
 
@@ -18,6 +18,6 @@ pub decoding_bytes-requires-clause-sampling : goal.decoding_bytes-requires-claus
 decoding_bytes-requires-clause-sampling g c =
     let frame = frame_in c.in_ok-frame-in-HeaderRead.frame.now in
     let found = found_in c.self.inside.state in
-    let is : found.frame ≡ Some frame = search rules in
+    let is : found.said.frame ≡ Some frame = search rules in
     let decoded : HasDecodedFrame found = search rules in
     decoded-factors frame (decoded frame is)

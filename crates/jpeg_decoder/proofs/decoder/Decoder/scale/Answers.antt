@@ -20,7 +20,7 @@ pub returns-clause-reads : goal.returns-clause-reads
 returns-clause-reads g c =
     let w = c.args.requested_width in
     let h = c.args.requested_height in
-    let e : found_in c.scale_state.new.state ≡ sized_to w h c.read_info.new.self.found = search rules in
+    let e : found_in c.scale_state.new.state ≡ with_said (sized_to w h) c.read_info.new.self.found = search rules in
     let s : c.self.inside.source ≡ c.read_info.new.self.source = search rules in
     elim c.match-scale_state.branch [
       | in-Some x ↦ rw x.result-is (λ fresh.

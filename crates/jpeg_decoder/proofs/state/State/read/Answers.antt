@@ -31,14 +31,14 @@ returns-in_err-step-clause-told g c =
     let walked = c.loop.invariant.walked in
     rw (p.1, p.2) (λ k known. told-err _ (turn_at c.loop.before (found_in c.loop.self) c.loop.met c.loop.source.bytes) _
     (c.in_err-step.ensures.reads.1 (walked.known k) known)
-    (λ f h. c.in_err-step.ensures.steps.kept ∙ ap (λ (w : Walked). told_of w.0) (sym (walked-whole _ walked
+    (λ f h. c.in_err-step.ensures.steps.kept ∙ ap (λ (w : Walked). told_of w.0.said) (sym (walked-whole _ walked
     (λ n. walk-refused n _ _ _ _ _ f (sym c.if-is_read_for.ensures) h) k))))
 
 pub returns-in_err-step-clause-turns : goal.returns-in_err-step-clause-turns
 unfolding IsOfTurns walk
 returns-in_err-step-clause-turns g c k = (
   c.loop.counter + 0,
-  c.in_err-step.ensures.steps.kept ∙ ap (λ (w : Walked). told_of w.0) (sym (c.loop.invariant.walked.walks k 0)),
+  c.in_err-step.ensures.steps.kept ∙ ap (λ (w : Walked). told_of w.0.said) (sym (c.loop.invariant.walked.walks k 0)),
 )
 
 -- ---- a header that is read
@@ -55,11 +55,11 @@ returns-then-is_read_for-clause-reads g c =
     (walked.failed, λ k. (walked.known k, segments-walked _ _ _ _ _ _ (stopped g c k)))
 
 pub returns-then-is_read_for-clause-told : goal.returns-then-is_read_for-clause-told
-returns-then-is_read_for-clause-told g c k = ap (λ (w : Walked). told_of w.0) (sym (stopped g c k))
+returns-then-is_read_for-clause-told g c k = ap (λ (w : Walked). told_of w.0.said) (sym (stopped g c k))
 
 pub returns-then-is_read_for-clause-turns : goal.returns-then-is_read_for-clause-turns
 unfolding IsOfTurns
-returns-then-is_read_for-clause-turns g c k = (_, ap (λ (w : Walked). told_of w.0) (sym (stopped g c k)))
+returns-then-is_read_for-clause-turns g c k = (_, ap (λ (w : Walked). told_of w.0.said) (sym (stopped g c k)))
 
 -- ---- the end of the image
 
@@ -78,17 +78,17 @@ returns-then-step-clause-reads g c =
     (read.0 ∙ walked.failed, λ k. ((read.1 (walked.known k)).0, segments-walked _ _ _ _ _ _ (ended g c k)))
 
 pub returns-then-step-clause-told : goal.returns-then-step-clause-told
-returns-then-step-clause-told g c k = ap (λ (w : Walked). told_of w.0) (sym (ended g c k))
+returns-then-step-clause-told g c k = ap (λ (w : Walked). told_of w.0.said) (sym (ended g c k))
 
 pub returns-then-step-clause-turns : goal.returns-then-step-clause-turns
 unfolding IsOfTurns
-returns-then-step-clause-turns g c k = (_, ap (λ (w : Walked). told_of w.0) (sym (ended g c k)))
+returns-then-step-clause-turns g c k = (_, ap (λ (w : Walked). told_of w.0.said) (sym (ended g c k)))
 
 -- ---- the frame
 
-stays-on : (mid new old : State) → (found_in mid).frame ≡ (found_in old).frame → (is_some (found_in mid).frame ≡ true
-    → (found_in new).frame ≡ (found_in mid).frame) → is_some (found_in old).frame ≡ true
-    → (found_in new).frame ≡ (found_in old).frame
+stays-on : (mid new old : State) → (found_in mid).said.frame ≡ (found_in old).said.frame → (is_some (found_in mid).said.frame ≡ true
+    → (found_in new).said.frame ≡ (found_in mid).said.frame) → is_some (found_in old).said.frame ≡ true
+    → (found_in new).said.frame ≡ (found_in old).said.frame
 stays-on mid new old a step h = step (ap (λ (f : Option Frame). is_some f) a ∙ h) ∙ a
 
 pub returns-then-is_read_for-clause-stays : goal.returns-then-is_read_for-clause-stays
@@ -125,7 +125,7 @@ loop-preserved g c =
       stays = λ h. stays-on c.loop.self c.read_turn.new.self c.args.self.now (c.loop.invariant.stays h)
           c.in_ok-step.ensures.steps.stays h;
       sound = c.in_ok-step.ensures.steps.sound c.loop.invariant.sound;
-      unread = λ h e. c.in_ok-step.ensures.steps.unread (not-framed c.args.header found.frame
+      unread = λ h e. c.in_ok-step.ensures.steps.unread (not-framed c.args.header found.said.frame
           (sym c.if-is_read_for.ensures) h) (c.loop.invariant.unread h e);
       first = λ e. absurd (omega arith);
     }

@@ -9,8 +9,8 @@ abbrev pub invariant-loop : goal.invariant-loop
 invariant-loop g l = record {
   walked : IsWalked l.fn.header (found_in l.fn.self) l.fn.source l.counter l.before (found_in l.self) l.met l.source;
   short : 0 < l.counter → IsShort l.fn.source;
-  stays : is_some (found_in l.fn.self).frame ≡ true → (found_in l.self).frame ≡ (found_in l.fn.self).frame;
+  stays : is_some (found_in l.fn.self).said.frame ≡ true → (found_in l.self).said.frame ≡ (found_in l.fn.self).said.frame;
   sound : IsSound (found_in l.self);
-  unread : l.fn.header ≡ true → (found_in l.fn.self).frame ≡ None → IsUnread (found_in l.self);
+  unread : l.fn.header ≡ true → (found_in l.fn.self).said.frame ≡ None → IsUnread (found_in l.self);
   first : l.counter ≡ 0 → (l.met ≡ None) × (l.source ≡ l.fn.source);
 }
