@@ -13,7 +13,7 @@ use Rattle.jpeg_streams.specs.Levels.{Is8Bit, Levels}
 use Rattle.jpeg_streams.specs.declared.progress.Progress.{Progress}
 use Rattle.jpeg_streams.specs.States.{Decoding, IsReading, ahead}
 use Rattle.jpeg_streams.specs.Stream.{Told, header_at, meaning, rest_at, sized_meaning, told_of}
-use Rattle.jpeg_streams.specs.Found.{Found}
+use Rattle.jpeg_streams.specs.Found.{Found, with_said, Said}
 use Rattle.jpeg_streams.specs.WrittenImages.{WritesImage}
 use Rattle.jpeg_streams.specs.WrittenScans.{Coefficients}
 use Rattle.jpeg_streams.specs.declared.settings.Settings.{Settings}

@@ -7,7 +7,7 @@ use Rattle.jpeg_streams.specs.DecodedSamples.{DecodesSamples}
 use Rattle.jpeg_streams.specs.FoundPictures.{limited}
 use Rattle.jpeg_streams.specs.States.{Decoding, IsReading, ahead}
 use Rattle.jpeg_streams.specs.Stream.{told_of}
-use Rattle.jpeg_streams.specs.Found.{Found}
+use Rattle.jpeg_streams.specs.Found.{Said}
 use Rattle.jpeg_streams.specs.WrittenLossless.{picture_of_samples, Samples, WritesSamples}
 use Rattle.jpeg_streams.specs.declared.settings.Settings.{Settings}
 use Rattle.jpeg_decoder.proofs.DecodedImages.{gives, left-means, left-reading, means_at}

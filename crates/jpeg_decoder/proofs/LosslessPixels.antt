@@ -12,7 +12,7 @@ use Rattle.jpeg_segments.specs.Frame.{Component, Frame}
 use Rattle.jpeg_segments.specs.declared.parser.CodingProcess.{CodingProcess}
 use Rattle.jpeg_lossless.specs.Pictures.{lossless_picture}
 use Rattle.jpeg_streams.specs.declared.settings.Settings.{Settings}
-use Rattle.jpeg_streams.specs.Found.{nothing_found, Found}
+use Rattle.jpeg_streams.specs.Found.{nothing_said, Said}
 use Rattle.jpeg_streams.specs.FoundPictures.{limited, picture_by_process, picture_of, samples_picture}
 use Rattle.jpeg_streams.specs.Stream.{meaning, sized_meaning, Told, told_of}
 use Rattle.jpeg_streams.specs.WrittenLossless.{IsLossless, IsWithinLimit, picture_of_samples, Samples}

@@ -35,7 +35,7 @@ use Rattle.jpeg_decoder.specs.declared.decoded.Decoded.{Decoded}
 use Rattle.jpeg_streams.specs.Sound.{AreSampled, IsDecodedFrame, IsSound}
 use Rattle.jpeg_decoder.specs.Steps.{IsRefusal, after_all, samples_read, with_decoded}
 use Rattle.jpeg_streams.specs.FoundPictures.{samples_picture}
-use Rattle.jpeg_streams.specs.ScanSegments.{after_samples, arrays_before, scan_samples}
+use Rattle.jpeg_streams.specs.ScanSegments.{after_samples, arrays_before, scan_samples, once_scanned}
 use Rattle.jpeg_streams.specs.Found.{Found}
 use Rattle.jpeg_streams.proofs.ReadTurns.{bind-ok, needed-some, ok-same, then-ok}
 use Rattle.jpeg_streams.proofs.LosslessSizes.{IsMade, across-some, all-at, all-covered, decoded-made, down-some}

@@ -27,7 +27,7 @@ use Rattle.jpeg_segments.specs.Frame.{sof_at}
 use Rattle.jpeg_segments.specs.Scales.{component_at, frame_at, scale_for}
 use Rattle.jpeg_segments.specs.ScanHeader.{band_at, count_at, scan_of, selector_at, selectors_from, sos_at}
 use Rattle.jpeg_streams.specs.ColourChoice.{by_identifiers, transform_of}
-use Rattle.jpeg_streams.specs.Found.{nothing_found}
+use Rattle.jpeg_streams.specs.Found.{nothing_found, nothing_said}
 use Rattle.jpeg_streams.specs.FoundPictures.{blocks_picture, picture_by, picture_of, plane_at_end}
 use Rattle.jpeg_streams.specs.FoundPictures.{limited}
 use Rattle.jpeg_streams.specs.Rasters.{plane_by, plane_of_blocks}
@@ -54,7 +54,7 @@ unfolding accepted adobe_at after_restarts after_scan all_spots app_at applicati
     factors_at finished_by first_ac first_dc frame_at frame_of frame_segment gathered green_of
     groups header_at image_of int_wrap interval intervals is_flat_column length_at lengths_from
     limited line_bytes lines_of marker_of mcu_size mcu_spots meaning next_marker next_u16
-    nothing_found odd_part own_spots part_spots pass_of picture_by picture_line picture_of
+    nothing_found nothing_said odd_part own_spots part_spots pass_of picture_by picture_line picture_of
     plane_at_end plane_by plane_of plane_of_blocks put_arrays put_blocks
     quantization.defined_table_at quantization.dqt_at quantization.quantization_from
     tables.defined_codes_at tables.dht_at red_of refined_ac refined_piece rest_at rule_of sample

@@ -4,7 +4,7 @@ use lib.ListN.{length-map}
 use Rattle.jpeg_bits.specs.Reading.{◌>>=◌}
 use Rattle.jpeg_segments.specs.Frame.{Frame}
 use Rattle.jpeg_streams.specs.declared.settings.Settings.{Settings}
-use Rattle.jpeg_streams.specs.Found.{Found}
+use Rattle.jpeg_streams.specs.Found.{Said}
 use Rattle.jpeg_streams.specs.FoundPictures.{limited}
 use Rattle.jpeg_streams.specs.FrameSamples.{sampling_of, ShowAlike}
 use Rattle.jpeg_streams.specs.Stream.{told_of}
@@ -33,7 +33,7 @@ meant settings samples bytes rest final w =
     ap (λ o. o >>= (λ m. Ok m.0.1)) (lossless-means settings samples bytes rest final w)
     ∙ picture-alone _ (told_of final) rest
 
-pub samples-alike : (settings : Settings) (samples : Samples) (first second rest others : List ℕ) (a b : Found)
+pub samples-alike : (settings : Settings) (samples : Samples) (first second rest others : List ℕ) (a b : Said)
     → WritesSamples samples first a → WritesSamples samples second b → ShowAlike a b
     → picture_meant_by settings (first ++ rest) ≡ picture_meant_by settings (second ++ others)
 samples-alike settings samples first second rest others a b u v same =

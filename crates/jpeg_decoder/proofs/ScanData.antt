@@ -23,7 +23,7 @@ use Rattle.jpeg_decoder.specs.PlanesView.{planes_in}
 use Rattle.jpeg_streams.specs.Sound.{IsPlaneOf, ArePlanes}
 use Rattle.jpeg_decoder.specs.Steps.{blocks_at, coding_in, decided_planes, scan_data}
 use Rattle.jpeg_streams.specs.Rasters.{plane_by}
-use Rattle.jpeg_streams.specs.ScanSegments.{components_of, blocks_after, arrays_before}
+use Rattle.jpeg_streams.specs.ScanSegments.{components_of, blocks_after, arrays_before, once_scanned}
 use Rattle.jpeg_streams.specs.ScanSegments.{Coding}
 use Rattle.jpeg_streams.specs.ScanSegments.{is_progressive, put_arrays, with_arrays, with_blocks, vias_from}
 use Rattle.jpeg_decoder.specs.Steps.{with_decoded, with_its_plane, with_planes, IsCodingOf, AreRising}

@@ -9,7 +9,7 @@ use Rattle.jpeg_bits.specs.Passes.{Pass, Via}
 use Rattle.jpeg_bits.specs.BlockView.{pass_in}
 use Rattle.jpeg_segments.specs.Frame.{Frame}
 use Rattle.jpeg_streams.specs.Found.{Found}
-use Rattle.jpeg_streams.specs.ScanSegments.{Coding, is_progressive, vias_from}
+use Rattle.jpeg_streams.specs.ScanSegments.{Coding, is_progressive, vias_from, once_scanned}
 use Rattle.jpeg_decoder.specs.Scanning.{arrays_in, vias_in}
 use Rattle.jpeg_decoder.specs.PlanesView.{planes_in}
 use Rattle.jpeg_decoder.specs.Steps.{IsReadable, coding_in, scan_data, with_decoded, with_planes}
@@ -22,10 +22,10 @@ use Rattle.jpeg_decoder.proofs.ScanData.{data-planes, data-planes-refused, of-fr
 use Rattle.jpeg_decoder.proofs.StripScans.{Planes, scan-by-rows}
 use Rattle.std.proofs.lemmas.Grind.{common_steps}
 
-module _ (said : Said) (before : Decoded) (frame : Frame) (scan : Scan) (bytes : List ℕ)
-    (process : is_progressive frame.process ≡ false) (ready : IsReadable frame said scan) where
+module _ (found : Found) (before : Decoded) (frame : Frame) (scan : Scan) (bytes : List ℕ)
+    (process : is_progressive frame.process ≡ false) (ready : IsReadable frame found scan) where
   abbrev f : Found
-  f = with_decoded said before
+  f = with_decoded found before
 
   abbrev p : Pass
   p = pass_in scan.pass

@@ -25,7 +25,7 @@ use Rattle.jpeg_streams.specs.Scans.{no_table}
 use Rattle.jpeg_segments.specs.Checks.{needed}
 use Rattle.jpeg_streams.specs.ScanSegments.{component_coding, needed_if, tables_of, pass_of}
 use Rattle.jpeg_streams.specs.Found.{Said}
-use Rattle.jpeg_decoder.specs.Seen.{found_in}
+use Rattle.jpeg_decoder.specs.Seen.{said_in}
 use Rattle.jpeg_decoder.specs.Steps.{IsRefusal, IsSpareOf, coding_in_slot, in_force, or_spare, table_if}
 use Rattle.std.proofs.lemmas.Bool.{and_parts}
 use Rattle.std.proofs.Common.{rules}
@@ -220,11 +220,11 @@ component-at f xs i d h = slice_get-map f xs i ∙ ap (option_map f) (slice_get-
 pub is-there : (state : State) (frame : FrameInfo) (header : ScanInfo) (spare : Spare) (slot
     index : ℕ)
     (c : declared.Component)
-    → IsSpareOf (found_in state) (scan_in header) spare → slot < length header.component_indices.items
+    → IsSpareOf (said_in state) (scan_in header) spare → slot < length header.component_indices.items
     → index ≡ get_or header.component_indices.items slot index → index < length
     frame.components.items
     → c ≡ get_or frame.components.items index c
-    → HasComponent (found_in state) (frame_in frame) (scan_in header) spare slot index
+    → HasComponent (said_in state) (frame_in frame) (scan_in header) spare slot index
     (component_in c)
 is-there state frame header spare slot index c s h p l e = search (
   rules,
@@ -241,7 +241,7 @@ pub is-dc : (state : State) (header : ScanInfo) (spare : Spare) (slot destinatio
     header.dc_table_indices.items slot destination
     → o ≡ in_force state.dc_tables spare.dc.items destination
     → table_if (header.spectral_selection.start == 0) spare.no_dc o ≡ r
-    → dc_of (found_in state) (scan_in header) spare (get_or header.dc_table_indices.items slot 0) ≡ r
+    → dc_of (said_in state) (scan_in header) spare (get_or header.dc_table_indices.items slot 0) ≡ r
 is-dc state header spare slot destination o r h p e t = grind (
   arith,
   common_steps,
@@ -255,7 +255,7 @@ pub is-ac : (state : State) (header : ScanInfo) (spare : Spare) (slot destinatio
     header.ac_table_indices.items slot destination
     → o ≡ in_force state.ac_tables spare.ac.items destination
     → table_if (nat_lt 1 header.spectral_selection.end) spare.no_ac o ≡ r
-    → ac_of (found_in state) (scan_in header) spare (get_or header.ac_table_indices.items slot 0) ≡ r
+    → ac_of (said_in state) (scan_in header) spare (get_or header.ac_table_indices.items slot 0) ≡ r
 is-ac state header spare slot destination o r h p e t = grind (
   arith,
   common_steps,

@@ -20,7 +20,7 @@ use Rattle.jpeg_segments.proofs.HeaderRules.{header-rules}
 use Rattle.jpeg_streams.specs.declared.settings.Settings.{Settings}
 use Rattle.jpeg_streams.specs.LosslessScans.{with_samples}
 use Rattle.jpeg_streams.specs.SaidSegments.{said_after, Stands}
-use Rattle.jpeg_streams.specs.Found.{nothing_found, Found}
+use Rattle.jpeg_streams.specs.Found.{nothing_found, nothing_said, Said}
 use Rattle.jpeg_streams.specs.Stream.{header_at, rest_at, meaning, sized_meaning, sized_to, Told}
 use Rattle.jpeg_streams.specs.WrittenLossless.{IsLossless, Samples, SendsSamples, WritesSamples}
 use Rattle.jpeg_streams.proofs.ReadTurns.{then-ok}

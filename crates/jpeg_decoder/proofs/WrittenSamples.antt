@@ -4,6 +4,7 @@ use Rattle.std.proofs.Common.{take, Option, Some, None, Ok, refl, ap, ◌∙◌,
 use Rattle.std.specs.List.{AllByRecursion, concat}
 use Rattle.std.specs.Prelude.{slice_get, slice_index_or}
 use Rattle.std.proofs.lemmas.List.{length-map, length-take-le, map-append}
+use Rattle.jpeg_streams.proofs.WalkedStreams.{beside}
 use Rattle.jpeg_bits.specs.Codes.{IsTable, Table}
 use Rattle.jpeg_bits.specs.Marker.{marker_of}
 use Rattle.jpeg_bits.specs.Reading.{Outcome}
@@ -34,7 +35,7 @@ use Rattle.jpeg_streams.specs.LosslessScans.{LosslessCoding, lossless_coding, lo
 use Rattle.jpeg_streams.specs.LosslessScans.{part_of, parts_of, way_of, with_samples}
 use Rattle.jpeg_segments.specs.Checks.{needed}
 use Rattle.jpeg_streams.specs.ScanSegments.{lossless_scan, scan_segment, scan_turn}
-use Rattle.jpeg_streams.specs.Found.{Found}
+use Rattle.jpeg_streams.specs.Found.{Found, Said, nothing_found}
 use Rattle.jpeg_streams.specs.WrittenLossless.{HoldSamples, Samples, WritesSamplesScan}
 use Rattle.jpeg_streams.proofs.ReadTurns.{IsEnd, bind-ok, needed-some, ok-same, then-ok}
 use Rattle.jpeg_streams.proofs.LosslessFrames.{IsShaped}

@@ -9,7 +9,7 @@ ghost use Rattle.jpeg_bits.specs.declared.codes.HuffmanTableClass.TheVariants.{D
 ghost use Rattle.jpeg_segments.specs.FrameView.{frame_in, scan_in};
 ghost use Rattle.jpeg_segments.specs.ScanHeader.{IsScanOf};
 ghost use Rattle.jpeg_streams.specs.Scans.{no_table};
-ghost use Rattle.jpeg_decoder.specs.Seen.{found_in};
+ghost use Rattle.jpeg_decoder.specs.Seen.{said_in};
 ghost use Rattle.jpeg_decoder.specs.Steps.{IsRefusal, IsSpareOf, coding_in};
 ghost use Rattle.jpeg_decoder.specs.Steps.{coding_in_slot, default_dc, default_ac, in_force};
 ghost use Rattle.jpeg_decoder.specs.Steps.{HasScale, table_if};

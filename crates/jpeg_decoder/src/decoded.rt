@@ -193,7 +193,8 @@ impl Decoded {
     ghost use Rattle.jpeg_decoder.specs.Steps.{coding_in, HasIndex, IsReadable, is_wanted};
     ghost use Rattle.jpeg_decoder.specs.Steps.{marks_after, scan_data, with_decoded};
     ghost use Rattle.jpeg_decoder.specs.Steps.{with_its_plane, with_planes};
-    ghost use Rattle.jpeg_streams.specs.ScanSegments.{arrays_before, is_progressive, with_arrays};
+    ghost use Rattle.jpeg_streams.specs.ScanSegments.{arrays_before, is_progressive, once_scanned};
+    ghost use Rattle.jpeg_streams.specs.ScanSegments.{with_arrays};
     ghost use Rattle.jpeg_streams.specs.Rasters.{plane_by};
     ghost use Rattle.jpeg_streams.specs.Found.{Found, none_finished};
     ghost use Rattle.jpeg_pixels.specs.JointPlanes.{joint_planes};

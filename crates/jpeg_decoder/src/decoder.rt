@@ -5,7 +5,7 @@ ghost use Rattle.jpeg_bits.specs.Reading.{Answers};
 ghost use Rattle.jpeg_bits.specs.Stream.{stream_of};
 ghost use Rattle.jpeg_bits.specs.declared.error.Error.TheVariants.{OutOfMemory};
 ghost use Rattle.jpeg_streams.specs.Stream.{header_at, sized_header_at, sized_to, told_of};
-ghost use Rattle.jpeg_streams.specs.Found.{nothing_found};
+ghost use Rattle.jpeg_streams.specs.Found.{nothing_found, with_said};
 ghost use Rattle.jpeg_streams.specs.Reported.{IsOfTurns};
 ghost use Rattle.jpeg_streams.specs.States.{Decoding, MovesToHeader, MovesToEnd, IsReading, ahead};
 ghost use Rattle.jpeg_streams.specs.States.{told_ahead, turns_ahead, OnTold, OnToldRefusal};

@@ -15,7 +15,7 @@ ghost use Rattle.jpeg_streams.specs.ArrayPictures.{TakesPicture};
 ghost use Rattle.jpeg_streams.specs.Levels.{Is8Bit, Levels, cut, nothing_sent};
 ghost use Rattle.jpeg_streams.specs.Stream.{meaning, sized_meaning, sized_to, told_of};
 ghost use Rattle.jpeg_streams.specs.ScanSegments.{is_progressive};
-ghost use Rattle.jpeg_streams.specs.Found.{Found, nothing_found};
+ghost use Rattle.jpeg_streams.specs.Found.{nothing_said, Said};
 ghost use Rattle.jpeg_streams.specs.WholeImages.{AllComplete, whole_meaning};
 ghost use Rattle.jpeg_streams.specs.WorkedImages.{IsWhollyWritten, grey_array, grey_bytes};
 ghost use Rattle.jpeg_streams.specs.WorkedImages.{colour_array, colour_bytes};
@@ -146,19 +146,19 @@ pub fn padding_is_not_seen()
 pub fn progressive_images_may_end_early()
     ensures written { (array : Coefficients) (front more : List ℕ) (said final : Said)
         (levels last : ℕ → Levels) →
-        WritesFront array nothing_found (λ k. nothing_sent) front said levels →
+        WritesFront array nothing_said (λ k. nothing_sent) front said levels →
         WritesPart array ClosesImage said levels more final last →
         WritesImage array (255 ∷ 216 ∷ (front ++ more)) final last }
     ensures closed { (array : Coefficients) (front : List ℕ) (said : Said) (levels : ℕ → Levels)
         (frame : Frame) →
-        WritesFront array nothing_found (λ k. nothing_sent) front said levels →
+        WritesFront array nothing_said (λ k. nothing_sent) front said levels →
         said.scanned ≡ true → said.frame ≡ Some frame → is_progressive frame.process ≡ true →
         AllByRecursion (HasTable said) frame.components →
         WritesImage array (255 ∷ 216 ∷ (front ++ (255 ∷ 217 ∷ []))) said levels }
     ensures pictured { (settings : Settings) (array : Coefficients) (front rest : List ℕ)
         (said : Said) (levels : ℕ → Levels) (frame : Frame) →
         ((index row column : ℕ) → Is8Bit (array index row column)) →
-        WritesFront array nothing_found (λ k. nothing_sent) front said levels →
+        WritesFront array nothing_said (λ k. nothing_sent) front said levels →
         said.scanned ≡ true → said.frame ≡ Some frame → is_progressive frame.process ≡ true →
         AllByRecursion (HasTable said) frame.components →
         meaning settings ((255 ∷ 216 ∷ (front ++ (255 ∷ 217 ∷ []))) ++ rest)

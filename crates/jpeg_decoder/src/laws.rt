@@ -21,7 +21,7 @@ ghost use Rattle.jpeg_streams.specs.Rasters.{ordered, in_raster};
 ghost use Rattle.jpeg_streams.specs.Stream.{header_at, rest_at, meaning, sized_to};
 ghost use Rattle.jpeg_streams.specs.ScanSegments.{Coding, vias_from, codings_of, pass_of};
 ghost use Rattle.jpeg_streams.specs.ScanSegments.{is_progressive, scan_arrays, arrays_before};
-ghost use Rattle.jpeg_streams.specs.Found.{Found};
+ghost use Rattle.jpeg_streams.specs.Found.{Found, Said};
 ghost use Rattle.jpeg_streams.specs.declared.settings.Settings.{Settings};
 ghost use Rattle.jpeg_decoder.specs.Walk.{members_from, own_member, raster, spots_at};
 

@@ -15,7 +15,7 @@ ghost use Rattle.jpeg_streams.specs.LosslessScans.{LosslessCoding, mcus_down, wa
 ghost use Rattle.jpeg_streams.specs.AcceptedFrames.{HasSamples};
 ghost use Rattle.jpeg_streams.specs.Segments.{accepted};
 ghost use Rattle.jpeg_streams.specs.Stream.{meaning, sized_meaning, told_of};
-ghost use Rattle.jpeg_streams.specs.Found.{Found};
+ghost use Rattle.jpeg_streams.specs.Found.{Said};
 ghost use Rattle.jpeg_streams.specs.FrameSamples.{AgreeInside, AreSamplesOf, AreWrittenIn};
 ghost use Rattle.jpeg_streams.specs.FrameSamples.{DifferInPadding, ShowAlike};
 ghost use Rattle.jpeg_streams.specs.PlainSamples.{HasEqualFactors, plain_picture, plain_way};

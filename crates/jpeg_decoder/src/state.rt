@@ -73,7 +73,7 @@ impl State {
     ghost use Rattle.jpeg_streams.specs.Segments.{restart_segment, huffman_segment};
     ghost use Rattle.jpeg_streams.specs.Segments.{skipped_segment, application_segment};
     ghost use Rattle.jpeg_streams.specs.Found.{nothing_found};
-    ghost use Rattle.jpeg_streams.specs.ScanSegments.{scan_before};
+    ghost use Rattle.jpeg_streams.specs.ScanSegments.{once_scanned, scan_before};
     ghost use Rattle.jpeg_streams.specs.Stream.{end_segment, segment_at, turn_at};
     ghost use Rattle.jpeg_streams.specs.Stream.{segments_at, told_of};
     ghost use Rattle.jpeg_streams.specs.Reported.{IsOfTurns, told_in_turns};
@@ -84,7 +84,7 @@ impl State {
     ghost use Rattle.jpeg_streams.specs.declared.before.Before.TheVariants.{Elsewhere};
 
     /// Makes the state at the start of a stream.
-    #[tactic(auto, unfolding(jpeg_streams::specs::Found::nothing_found))]
+    #[tactic(auto, unfolding(jpeg_streams::specs::Found::nothing_found, jpeg_streams::specs::Found::nothing_said))]
     pub fn new(alloc: Global) -> State
         ensures { found_in result ≡ nothing_found }
     {

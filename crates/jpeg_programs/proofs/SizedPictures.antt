@@ -3,7 +3,7 @@ use Rattle.std.proofs.Common.{◌≡◌, ◌∙◌, ℕ, List, Ok, Option, Some,
 use Rattle.jpeg_streams.specs.Output.{default_settings}
 use Rattle.jpeg_streams.specs.Pixels.{info_of}
 use Rattle.jpeg_streams.specs.Stream.{Told, header_at, rest_at, sized_header_at, sized_meaning, sized_to}
-use Rattle.jpeg_streams.specs.Found.{Found}
+use Rattle.jpeg_streams.specs.Found.{Found, with_said}
 use Rattle.jpeg_streams.proofs.ReadTurns.{bind-ok, ok-same, then-ok}
 use Rattle.jpeg_streams.specs.declared.images.ImageInfo.{ImageInfo}
 use Rattle.jpeg_programs.specs.ScaledPictures.{decoded, header_info, picture_at, picture_at_scale}
@@ -18,7 +18,7 @@ sized-rest : (width height : ℕ) (bytes rest : List ℕ) (found : Found) → si
 unfolding sized_header_at sized_meaning
 sized-rest width height bytes rest found e =
     let s = bind-ok (header_at bytes) _ (found, rest) e in
-    let same = ok-same (sized_to width height s.0.0, s.0.1) (found, rest) s.2 in
+    let same = ok-same (with_said (sized_to width height) s.0.0, s.0.1) (found, rest) s.2 in
     then-ok (header_at bytes) _ s.0 _ s.1 (ap (λ (p : Found × List ℕ). rest_at default_settings p.0 p.1) same)
 
 -- what is said of a frame and its precision are those of a picture
@@ -41,7 +41,7 @@ picture-some width height bytes rest left found told pixels info precision heade
     (of_frame told.frame info_of (λ f. f.precision) pixels info precision hi hp)
 
 sized-header : (width height : ℕ) (bytes rest : List ℕ) (found : Found) → header_at bytes ≡ Ok (found, rest)
-    → sized_header_at width height bytes ≡ Ok (sized_to width height found, rest)
+    → sized_header_at width height bytes ≡ Ok (with_said (sized_to width height) found, rest)
 unfolding sized_header_at
 sized-header width height bytes rest found e = then-ok (header_at bytes) _ (found, rest) _ e refl
 
@@ -50,14 +50,14 @@ sized-header width height bytes rest found e = then-ok (header_at bytes) _ (foun
 pub picture-at-scale-some : (scale : Scale) (bytes rest left : List ℕ) (found : Found) (told : Told) (pixels : List ℕ)
     (full info : ImageInfo) (precision : ℕ)
     → header_at bytes ≡ Ok (found, rest) → option_map info_of found.said.frame ≡ Some full
-    → rest_at default_settings (sized_to (requested_width scale full) (requested_height scale full) found) rest
+    → rest_at default_settings (with_said (sized_to (requested_width scale full) (requested_height scale full)) found) rest
     ≡ Ok ((told, pixels), left)
     → option_map info_of told.frame ≡ Some info → option_map (λ f. f.precision) told.frame ≡ Some precision
     → picture_at_scale scale bytes ≡ Some (decoded info precision pixels)
 unfolding picture_at_scale header_info
 picture-at-scale-some scale bytes rest left found told pixels full info precision header hf picture hi hp =
     rw (picture_at_scale, header_info, header, hf) (picture-some (requested_width scale full) (requested_height scale full)
-    bytes rest left (sized_to (requested_width scale full) (requested_height scale full) found) told pixels info precision
+    bytes rest left (with_said (sized_to (requested_width scale full) (requested_height scale full)) found) told pixels info precision
     (sized-header (requested_width scale full) (requested_height scale full) bytes rest found header) picture hi hp)
 
 -- what a header says of the picture

@@ -29,7 +29,7 @@ picture_at width height bytes = elim (sized_meaning width height default_setting
 -- what a stream's header says of its picture at full size
 unfoldable pub header_info : List ℕ → Option ImageInfo
 header_info bytes = elim (header_at bytes) [
-  | Ok header ↦ option_map info_of header.0.frame
+  | Ok header ↦ option_map info_of header.0.said.frame
   | Err fault ↦ None
 ]
 

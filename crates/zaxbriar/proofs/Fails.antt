@@ -5,7 +5,7 @@ use Rattle.jpeg_bits.specs.Reading.{Answers, Fault, IsGivenUp, Names, Outcome}
 use Rattle.jpeg_bits.specs.Stream.{Stream}
 use Rattle.jpeg_bits.specs.declared.error.Error.{Error}
 use Rattle.jpeg_streams.specs.DecodedImages.{at_size}
-use Rattle.jpeg_streams.specs.Found.{Found}
+use Rattle.jpeg_streams.specs.Found.{Found, with_said}
 use Rattle.jpeg_streams.specs.Stream.{header_at, rest_at}
 use Rattle.jpeg_streams.specs.Output.{Tells}
 use Rattle.jpeg_streams.proofs.ReadTurns.{then-ok}
@@ -45,7 +45,7 @@ pub stands : {X Y : Type 0} (view : X → Y) (read : List ℕ → Outcome Y) (ol
 stands view read old new e x s a o = grind (arith, names)
 
 pub means-rest : (o : Options) (bytes rest : List ℕ) (header : Found) → header_at bytes ≡ Ok (header, rest)
-    → meaning_by o bytes ≡ rest_at (settings_of o) (at_size (size_wanted o) header) rest
+    → meaning_by o bytes ≡ rest_at (settings_of o) (with_said (at_size (size_wanted o)) header) rest
 unfolding meaning_by
 means-rest o bytes rest header h = then-ok (header_at bytes) _ (header, rest) _ h refl
 

@@ -10,7 +10,7 @@ use Rattle.zaxbriar.specs.Faults.{status_of}
 use Rattle.zaxbriar.specs.Layouts.{laid_out, layout_line}
 use Rattle.zaxbriar.specs.Lines.{Arranged, HasLines, described_picture, stored_bytes}
 use Rattle.zaxbriar.specs.Meanings.{Describes, Shows, ShowsSamples, orientation_by, size_wanted}
-use Rattle.jpeg_streams.specs.Found.{Found}
+use Rattle.jpeg_streams.specs.Found.{Found, with_said}
 use Rattle.jpeg_streams.specs.DecodedImages.{at_size}
 use Rattle.jpeg_streams.specs.Pixels.{info_of}
 use Rattle.jpeg_streams.specs.Stream.{header_at}
@@ -48,7 +48,7 @@ arranged-of o info precision samples old new picture lines decoding orientation 
 
 pub described-of : (o : Options) (bytes rest : List ℕ) (header found : Found) (info : ImageInfo) (precision : ℕ)
     (decoding : DecodingBytes) (lines : Lines) (orientation : ℕ) (picture : Picture)
-    → header_at bytes ≡ Ok (header, rest) → found ≡ at_size (size_wanted o) header
+    → header_at bytes ≡ Ok (header, rest) → found ≡ with_said (at_size (size_wanted o)) header
     → option_map info_of found.said.frame ≡ Some info → option_map (λ f. f.precision) found.said.frame ≡ Some precision
     → option_map decoding_bytes found.said.frame ≡ Some decoding → HasLines o info precision lines
     → orientation ≡ orientation_by found.said.metadata.exif

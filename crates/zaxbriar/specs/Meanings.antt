@@ -5,7 +5,7 @@ use Rattle.jpeg_bits.specs.Reading.{Outcome, ◌>>=◌}
 use Rattle.jpeg_bits.specs.declared.color_transform.ColorTransform.{ColorTransform}
 use Rattle.jpeg_bits.specs.declared.color_transform.ColorTransform.TheVariants as transforms
 use Rattle.jpeg_streams.specs.DecodedImages.{Size, FullSize, AtLeast, at_size}
-use Rattle.jpeg_streams.specs.Found.{Found}
+use Rattle.jpeg_streams.specs.Found.{Found, with_said}
 use Rattle.jpeg_streams.specs.States.{Decoding}
 use Rattle.jpeg_streams.specs.declared.progress.Progress.TheVariants.{HeaderRead}
 use Rattle.jpeg_streams.specs.Pixels.{info_of}
@@ -45,7 +45,7 @@ size_wanted o = if o.min_width == 0 && o.min_height == 0 then FullSize
 unfoldable pub meaning_by : Options → List ℕ → Outcome (Told × List ℕ)
 meaning_by o bytes = do
   header ← header_at bytes
-  rest_at (settings_of o) (at_size (size_wanted o) header.0) header.1
+  rest_at (settings_of o) (with_said (at_size (size_wanted o)) header.0) header.1
 
 -- A decoder of known bytes has read their header, and its picture is to have the size of the
 -- options.
@@ -54,7 +54,7 @@ pub record ReadsHeader (o : Options) (old new : Decoding) : Type 0 where
   pub settings : new.settings ≡ settings_of o
   pub reads : old.source.known ≡ true → (new.source.known ≡ true) × ((header : Found)
       × (header_at old.source.bytes ≡ Ok (header, new.source.bytes))
-      × (new.found ≡ at_size (size_wanted o) header))
+      × (new.found ≡ with_said (at_size (size_wanted o)) header))
 
 -- the orientation that Exif data say, and 1, upright, where they say none
 abbrev pub or_upright : Option ℕ → ℕ
@@ -74,14 +74,15 @@ pub record Describes (o : Options) (bytes : List ℕ) (picture : Picture) : Type
   pub decoding : DecodingBytes
   pub conversion : Conversion
   pub reads : header_at bytes ≡ Ok (header, rest)
-  pub info_is : option_map info_of (at_size (size_wanted o) header).frame ≡ Some info
-  pub precision_is : option_map (λ f. f.precision) (at_size (size_wanted o) header).frame
+  pub info_is : option_map info_of (at_size (size_wanted o) header.said).frame ≡ Some info
+  pub precision_is : option_map (λ f. f.precision) (at_size (size_wanted o) header.said).frame
       ≡ Some precision
-  pub decoding_is : option_map decoding_bytes (at_size (size_wanted o) header).frame ≡ Some decoding
+  pub decoding_is : option_map decoding_bytes (at_size (size_wanted o) header.said).frame
+      ≡ Some decoding
   pub conversion_is : conversion_to o.layout info.pixel_format precision ≡ Some conversion
   pub picture_is : picture ≡ described_picture o.layout info precision
       (lines_by o.stride info precision conversion) decoding.peak
-      (orientation_by (at_size (size_wanted o) header).metadata.exif) 0
+      (orientation_by (at_size (size_wanted o) header.said).metadata.exif) 0
 
 -- The picture of a stream is in the caller's memory.
 pub record Shows (o : Options) (bytes old new : List ℕ) (picture : Picture) : Type 0 where

@@ -10,7 +10,7 @@ ghost use Rattle.jpeg_bits.specs.Reading.{Malformed, Lacks, End};
 ghost use Rattle.jpeg_bits.specs.declared.error.UnsupportedFeature.{UnsupportedFeature};
 ghost use Rattle.jpeg_streams.specs.ArrayPictures.{picture_of_array};
 ghost use Rattle.jpeg_streams.specs.DecodedImages.{at_size};
-ghost use Rattle.jpeg_streams.specs.Found.{Found};
+ghost use Rattle.jpeg_streams.specs.Found.{Said};
 ghost use Rattle.jpeg_streams.specs.Levels.{Is8Bit, Levels};
 ghost use Rattle.jpeg_streams.specs.Stream.{header_at};
 ghost use Rattle.jpeg_streams.specs.WrittenImages.{WritesImage};

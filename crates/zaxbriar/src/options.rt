@@ -1,6 +1,7 @@
 //! How a stream is to be decoded.
 ghost use Rattle.std.specs.Prelude.{◌≡◌, IsOk, OnOk, true};
 ghost use Rattle.jpeg_streams.specs.DecodedImages.{at_size};
+ghost use Rattle.jpeg_streams.specs.Found.{with_said};
 ghost use Rattle.jpeg_streams.specs.Output.{default_settings};
 ghost use Rattle.jpeg_streams.specs.declared.progress.Progress.TheVariants.{HeaderRead};
 ghost use Rattle.zaxbriar.specs.Meanings.{settings_of, size_wanted, transform_number};
@@ -68,7 +69,7 @@ pub fn apply<R: Read + Drop>(decoder: &mut Decoder<R>, options: &Options)
 pub fn apply_size<R: Read + Drop>(decoder: &mut Decoder<R>, options: &Options) -> Result<()>
     requires read { decoder.old.stage ≡ HeaderRead }
     ensures sized { OnOk result (decoder.new ≡ record decoder.old
-        { found = at_size (size_wanted options.now) decoder.old.found }) }
+        { found = with_said (at_size (size_wanted options.now)) decoder.old.found }) }
     ensures ok { IsOk result }
 {
     if options.min_width != 0 || options.min_height != 0 {

@@ -7,7 +7,7 @@ use Rattle.jpeg_streams.specs.DecodedImages.{FailsOutside, FullSize, GivesPictur
 use Rattle.jpeg_streams.specs.Output.{Tells, default_settings}
 use Rattle.jpeg_streams.specs.States.{Decoding}
 use Rattle.jpeg_streams.specs.Stream.{Told, meaning, told_of}
-use Rattle.jpeg_streams.specs.Found.{Found}
+use Rattle.jpeg_streams.specs.Found.{Said}
 use Rattle.jpeg_decoder.proofs.Callers.{bytes_are_known, known_bytes_are_told}
 use Rattle.picture_in_memory.proofs.picture_of.Goals as goal
 

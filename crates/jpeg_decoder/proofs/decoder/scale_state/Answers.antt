@@ -1,4 +1,5 @@
 use Rattle.std.proofs.Common.{Some, rules}
+use Rattle.jpeg_streams.specs.Found.{with_said}
 use Rattle.jpeg_segments.specs.FrameView.{frame_in}
 use Rattle.jpeg_decoder.specs.Seen.{found_in}
 use Rattle.jpeg_streams.proofs.Soundness.{frames_scaled, sound_scaled}

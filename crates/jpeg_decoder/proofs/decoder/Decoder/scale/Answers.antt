@@ -1,5 +1,6 @@
 use Rattle.std.proofs.Common.{◌≡◌, rules, ℕ}
 use Rattle.std.proofs.lemmas.Result.{err_from_is_err_and}
+use Rattle.jpeg_streams.specs.Found.{with_said}
 use Rattle.jpeg_decoder.specs.Seen.{found_in}
 use Rattle.jpeg_streams.specs.Stream.{header_at, sized_header_at, sized_to}
 use Rattle.jpeg_decoder.proofs.ScanData.{answers-err}
