@@ -21,13 +21,13 @@ returns-clause-means g c bytes tells =
     let decodes = c.in_ok-decode_lines.ensures.decodes in
     let second = (rw (read.settings, facts.1.2) at decodes.reads).1 facts.0 in
     record {
-      told = told_of c.decode_lines.new.decoder.found;
+      told = told_of c.decode_lines.new.decoder.found.said;
       samples = decodes.samples;
       rest = c.decode_lines.new.decoder.source.bytes;
       info = header.info;
       precision = header.precision;
       means = joined c.args.options.now bytes c.read_header.new.decoder.source.bytes
-          c.decode_lines.new.decoder.source.bytes facts.1.0 (told_of c.decode_lines.new.decoder.found) decodes.samples
+          c.decode_lines.new.decoder.source.bytes facts.1.0 (told_of c.decode_lines.new.decoder.found.said) decodes.samples
           (rw same at facts.1.1) second.1;
       info_is = ap (λ f. option_map info_of f) decodes.frame ∙ c.in_ok-header.ensures.info;
       precision_is = ap (λ f. option_map (λ f. f.precision) f) decodes.frame ∙ c.in_ok-header.ensures.precision;

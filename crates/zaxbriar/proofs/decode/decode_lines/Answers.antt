@@ -33,7 +33,7 @@ returns-then-header-pixels-clause-named g c =
     elim c.match-decode_into.branch [
       | in-Ok w ↦ rw w.result-is (λ known. tt)
       | in-Err w ↦ rw w.result-is (λ known. named-rest (λ (n : ℕ). (
-        told_of c.decode_into.new.self.found,
+        told_of c.decode_into.new.self.found.said,
         take n c.decode_into.new.pixels,
       )) c.args.decoder.now c.decode_into.new.self _ _ c.requires.read
           w.refusal_of.ensures (w.in-Err.ensures.reads room) known)
