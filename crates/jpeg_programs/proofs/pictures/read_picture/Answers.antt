@@ -24,7 +24,7 @@ returns-clause-picture g c bytes tells =
     let picture = (rw (stage2, settings2, found2, source2, size.width, size.height) at c.in_ok-picture.ensures.reads) tt in
     let second = picture.1 first.0 in
     picture-at-scale-some c.scale-scale.result bytes c.read_info.new.self.source.bytes
-    c.decode_picture.new.decoder.source.bytes c.read_info.new.self.found (told_of c.decode_picture.new.decoder.found)
+    c.decode_picture.new.decoder.source.bytes c.read_info.new.self.found (told_of c.decode_picture.new.decoder.found.said)
     c.in_ok-picture.picture.pixels.items c.unwrap-full.result c.in_ok-picture.picture.info
     c.in_ok-picture.picture.precision (rw same at first.1) (sym c.info.ensures ∙ c.unwrap-full.ensures) second.1
     c.in_ok-picture.ensures.info c.in_ok-picture.ensures.precision
