@@ -72,4 +72,3 @@ pub mod EncodedSamples
 pub mod PaddingUnseen
 pub mod SamplesAlike
 pub mod PlainScans
-pub mod TakenTexts
