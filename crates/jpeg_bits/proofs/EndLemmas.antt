@@ -140,8 +140,8 @@ ahead read bytes = read (upcoming fresh bytes) >>= λ r. marker_from r.1 >>= λ 
 
 -- An interval is read as it is read ahead.
 pub ahead-so : {A : Type 0} (read : Reads A) (bytes : List ℕ) → TakesBits read → interval read bytes ≡ ahead read bytes
-unfolding interval upcoming
-ahead-so {A} read bytes h = go (h.taken t.bits t.ending)
+unfolding TakesBits interval upcoming
+ahead-so {A} read bytes h = go (h t.bits t.ending)
   where
     t : Text
     t = text_at bytes

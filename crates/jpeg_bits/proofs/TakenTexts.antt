@@ -29,13 +29,14 @@ pub data Taken {A : Type 0} (p : Reads A) (bits : List Bool) (e : Ending) : Type
       → p (text bits ps f) ≡ Ok (x, text (drop n bits) (drop n ps) f)) → Taken p bits e
   failed : (g : Fault) → ((ps : List (List ℕ)) → p (text bits ps e) ≡ Err g) → Taken p bits e
 
-pub record TakesBits {A : Type 0} (p : Reads A) : Type 0 where
-  pub taken : (bits : List Bool) (e : Ending) → Taken p bits e
+unfoldable pub TakesBits : {A : Type 0} → Reads A → Type 0
+TakesBits p = (bits : List Bool) (e : Ending) → Taken p bits e
 
 then-taken : {A B : Type 0} (p : Reads A) (f : A → Reads B) → ((x : A) → TakesBits (f x)) → (bits : List Bool)
     (e : Ending) → Taken p bits e → Taken (p >>= f) bits e
+unfolding TakesBits
 then-taken {A} {B} p f each bits e (failed g is) = failed g (λ ps. ap (read_on f) (is ps))
-then-taken {A} {B} p f each bits e (gave n x is) = go ((each x).taken (drop n bits) e)
+then-taken {A} {B} p f each bits e (gave n x is) = go (each x (drop n bits) e)
   where
     go : Taken (f x) (drop n bits) e → Taken (p >>= f) bits e
     go (failed g fails) = failed g (λ ps. ap (read_on f) (is e ps (inl refl)) ∙ fails (drop n ps))
@@ -44,13 +45,16 @@ then-taken {A} {B} p f each bits e (gave n x is) = go ((each x).taken (drop n bi
 
 pub bind-takes : {A B : Type 0} (p : Reads A) (f : A → Reads B) → TakesBits p → ((x : A) → TakesBits (f x))
     → TakesBits (p >>= f)
-bind-takes p f h each = record { taken = λ bits e. then-taken p f each bits e (h.taken bits e) }
+unfolding TakesBits
+bind-takes p f h each = λ bits e. then-taken p f each bits e (h bits e)
 
 pub gives-takes : {A : Type 0} (x : A) → TakesBits (gives x)
-gives-takes x = record { taken = λ bits e. gave 0 x (λ f ps c. refl) }
+unfolding TakesBits
+gives-takes x = λ bits e. gave 0 x (λ f ps c. refl)
 
 pub refused-takes : (A : Type 0) → TakesBits {A = A} refused
-refused-takes A = record { taken = λ bits e. failed Malformed (λ ps. refl) }
+unfolding TakesBits
+refused-takes A = λ bits e. failed Malformed (λ ps. refl)
 
 pub if-takes : {A : Type 0} (b : Bool) (p q : Reads A) → TakesBits p → TakesBits q
     → TakesBits (if b then p else q)
@@ -61,8 +65,7 @@ pub each-takes : {A B : Type 0} (read : A → Reads B) (xs : List A) → ((x : A
     → TakesBits (each read xs)
 unfolding each
 each-takes read [] h = gives-takes []
-each-takes read (x ∷ xs) h =
-    bind-takes (read x) _ (h x) (λ y. bind-takes (each read xs) _ (each-takes read xs h) (λ ys. gives-takes (y ∷ ys)))
+each-takes read (x ∷ xs) h = search (rules, bind-takes, gives-takes, each-takes read xs h)
 
 -- ---- bits and codes
 
@@ -85,14 +88,12 @@ taken-n p n x bits e is = go (has_bits n bits e) refl
     go (Err g) h = failed g (λ ps. is e ps ∙ ap (takes_bits n x (text bits ps e)) h)
 
 bits-takes : (n : ℕ) → TakesBits (bits_from n)
-unfolding bits_from
-bits-takes n = record {
-  taken = λ bits e. taken-n (bits_from n) n (number_of (take n (bits ++ replicate n false))) bits e (λ f ps. refl);
-}
+unfolding TakesBits bits_from
+bits-takes n bits e = taken-n (bits_from n) n (number_of (take n (bits ++ replicate n false))) bits e (λ f ps. refl)
 
 code-takes : (table : Table) → TakesBits (code_from table)
-unfolding code_from
-code-takes table = record { taken = λ bits e. go bits e (code_in (code_lengths table.counts) (next_16 bits)) refl }
+unfolding TakesBits code_from
+code-takes table = λ bits e. go bits e (code_in (code_lengths table.counts) (next_16 bits)) refl
   where
     go : (bits : List Bool) (e : Ending) (o : Option (ℕ × ℕ))
         → code_in (code_lengths table.counts) (next_16 bits) ≡ o → Taken (code_from table) bits e
