@@ -1,6 +1,5 @@
 -- What a scan leaves.
-use Rattle.std.proofs.Common.{rules, arith, ◌<◌, ◌≤◌, ℕ, zero, suc, Bool, List, [], ◌∷◌, length}
-use Rattle.std.proofs.lemmas.Grind.{common_steps}
+use Rattle.std.proofs.Common.{rules, arith, ◌<◌, ◌≤◌, ℕ, suc, Bool, List, [], ◌∷◌, length}
 use Rattle.jpeg_bits.specs.Entropy.{Broken, Ending, Found, ending_at, text_at}
 use Rattle.jpeg_bits.specs.Intervals.{after_bytes, end_after, interval, intervals}
 use Rattle.jpeg_bits.specs.Passes.{Pass, Via}
