@@ -1,7 +1,7 @@
 -- Where reading goes on after an interval, as it is defined and as it is read ahead.
-use Rattle.std.proofs.Common.{◌≡◌, ◌⊎◌, inl, inr, ℕ, zero, suc, ◌+◌, ◌-◌, ◌/◌, ◌<◌, ◌≤◌, Bool, true, false, cond, List, Option, Ok}
+use Rattle.std.proofs.Common.{◌≡◌, ◌⊎◌, inl, inr, ℕ, zero, suc, ◌+◌, ◌-◌, ◌/◌, ◌<◌, ◌≤◌, Bool, true, false, cond, List}
 use Rattle.std.proofs.Common.{[], ◌∷◌, ◌++◌, length, drop, get_or, replicate, refl, sym, ap, ◌∙◌, arith, eqb}
-use Rattle.std.proofs.Common.{length-append, length-drop}
+use Rattle.std.proofs.Common.{length-append, length-drop, Ok, Option}
 use Rattle.std.proofs.lemmas.List.{length-replicate, drop-drop, drop_more, get_or_append_left, get_or-replicate}
 use Rattle.std.proofs.lemmas.Bool.{le-leb, lt-leb, cases_lt}
 use Rattle.jpeg_bits.specs.Reading.{Outcome, End, ◌>>=◌}
@@ -110,14 +110,8 @@ ends-so k bytes = go (cases_lt 56 (length (drop k t.bits)))
     go (inr few) =
         let t = text_at bytes in
         let is = placed bytes in
-        let none : length (drop k (drop 56 t.following)) ≡ 0 = omega (
-          arith,
-          length-drop k (drop 56 t.following),
-          length-drop 56 t.following,
-          length-drop k t.bits,
-          is.sized,
-        ) in
-        rw (end-met k bytes (drop k t.bits) t.ending few) (none-follow (drop k (drop 56 t.following)) t.ending none)
+        let cut = length-drop 56 t.following in
+        grind (arith, end-met, none-follow, length-drop k (drop 56 t.following), cut, length-drop k t.bits, is.sized)
     go (inl many) =
         let t = text_at bytes in
         let is = placed bytes in

@@ -1,11 +1,11 @@
 -- What a decoder reads of a scan, where it fits, is what the scan was written for.
 use Rattle.std.proofs.lemmas.Grind.{common_steps}
-use Rattle.std.proofs.Common.{rules, ◌≡◌, ℕ, suc, ◌%◌, ◌≤◌, true, List, [], ◌∷◌, ◌++◌, length}
+use Rattle.std.proofs.Common.{rules, ◌≡◌, ℕ, suc, ◌%◌, true, List, [], ◌∷◌, ◌++◌, length}
 use Rattle.std.proofs.Common.{drop, inl, inr, refl, sym, ap, ◌∙◌, subst, arith, Ok, Err, Option, Some}
 use Rattle.std.proofs.lemmas.Bool.{eqb-true, false≢true}
 use Rattle.std.specs.Prelude.{if◌then◌else◌}
 use Rattle.jpeg_bits.specs.Reading.{End, Malformed, Outcome, ◌>>=◌}
-use Rattle.jpeg_bits.specs.Entropy.{Broken, Text, text_at}
+use Rattle.jpeg_bits.specs.Entropy.{Broken, text_at}
 use Rattle.jpeg_bits.specs.Intervals.{interval, intervals, is_restart}
 use Rattle.jpeg_bits.specs.Passes.{Block, Pass, Via, blocks_of, predictors_at_start}
 use Rattle.jpeg_bits.specs.declared.marker.Marker.{Marker}
@@ -34,11 +34,8 @@ interval_read p turns bytes rest m w =
     go (failed g fails) = absurd (no-error g (w.blocks, alone w.left) (sym (fails []) ∙ w.are_read))
     go (gave n x is) =
         let t = text_at bytes in
-        let q = ok-parts x w.blocks _ (alone w.left) (sym (is (Broken End) [] (inl refl)) ∙ w.are_read) in
-        let all = is t.ending t.following (inr refl) in
-        let left : drop n t.bits ≡ w.left = ap (λ (u : Text). u.bits) q.1 in
-        let few : length w.left ≤ 56 = let s = w.is_short in omega arith in
-        grind (arith, all, q.0, left, w.ends, end-met)
+        let same = ok-parts x w.blocks _ (alone w.left) (sym (is (Broken End) [] (inl refl)) ∙ w.are_read) in
+        grind (arith, is t.ending t.following (inr refl), same, w.is_short, w.ends, end-met)
 
 pub interval-written : (p : Pass) (turns : List (Via × Block)) (bytes rest : List ℕ) (m : Marker)
     → (w : IntervalFits p turns bytes m rest) → IsInterval p (numbers_read p turns w.blocks) bytes m rest
