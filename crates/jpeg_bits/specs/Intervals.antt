@@ -1,4 +1,4 @@
--- The intervals of a scan in bytes, and where each ends (T.81, E.2.4 and F.1.2.3).
+-- The intervals of a scan in bytes (T.81, E.2.4 and F.1.2.3).
 use Rattle.std.specs.Prelude.{ℕ, zero, suc, ◌+◌, ◌-◌, ◌/◌, ◌%◌, ◌==◌, nat_le, Bool, true, false}
 use Rattle.std.specs.Prelude.{if◌then◌else◌, List, [], ◌∷◌, ◌++◌, length, take, drop}
 use Rattle.std.specs.Prelude.{Option, Some, None, Ok, Err}
@@ -22,7 +22,8 @@ met (Found m rest) = Ok (Some m, rest)
 met (Broken f) = Err f
 
 -- Where k bits were taken of a text and these are left: the end, where at most 56 bits are left
--- before it. Else reading goes on after the bytes that hold the bits taken and 57 more.
+-- before it. Else reading goes on after the bytes that hold the bits taken and 57 more. T.81 doesn't
+-- say how far data may be read ahead: this rule is this project's own.
 unfoldable pub end_after : ℕ → List ℕ → List Bool → Ending → Outcome (Option Marker)
 end_after k bytes left e =
     elim (nat_le (length left) 56) [
