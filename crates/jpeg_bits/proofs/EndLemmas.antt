@@ -1,13 +1,17 @@
--- Where reading goes on after an interval.
+-- Where reading goes on after an interval, as it is defined and as it is read ahead.
 use Rattle.std.proofs.Common.{◌≡◌, ◌⊎◌, inl, inr, ℕ, zero, suc, ◌+◌, ◌-◌, ◌/◌, ◌<◌, ◌≤◌, Bool, true, false, cond, List}
 use Rattle.std.proofs.Common.{[], ◌∷◌, ◌++◌, length, drop, get_or, replicate, refl, sym, ap, ◌∙◌, arith, eqb}
-use Rattle.std.proofs.Common.{length-append, length-drop}
+use Rattle.std.proofs.Common.{length-append, length-drop, Ok, Option}
 use Rattle.std.proofs.lemmas.List.{length-replicate, drop-drop, drop_more, get_or_append_left, get_or-replicate}
 use Rattle.std.proofs.lemmas.Bool.{le-leb, lt-leb, cases_lt}
-use Rattle.jpeg_bits.specs.Reading.{End}
+use Rattle.jpeg_bits.specs.Reading.{Outcome, End, ◌>>=◌}
 use Rattle.jpeg_bits.specs.Entropy.{Text, Ending, Broken, bits_of, text_at, add_byte, no_bits, ending_at}
 use Rattle.jpeg_bits.specs.Entropy.{upcoming, fresh, advance, marker_from, marker_by}
-use Rattle.jpeg_bits.specs.Ends.{after_bytes, met, end_after}
+use Rattle.jpeg_bits.specs.Intervals.{after_bytes, met, end_after, interval}
+use Rattle.jpeg_bits.specs.Readers.{Reads}
+use Rattle.jpeg_bits.specs.declared.marker.Marker.{Marker}
+use Rattle.jpeg_bits.proofs.TakenTexts.{Taken, TakesBits}
+use Rattle.jpeg_bits.proofs.TakenTexts.Taken.{gave, failed}
 
 -- Each bit of a text has the place after the byte that has it.
 pub record IsPlaced (bytes : List ℕ) (t : Text) : Type 0 where
@@ -81,9 +85,14 @@ placed (b ∷ c ∷ rest) = go (eqb b 255) refl (eqb c 0) (placed rest) (placed 
     go true e false h k = none-placed (b ∷ c ∷ rest) (ending_at (c ∷ rest))
     go false e y h k = add-placed (b ∷ c ∷ rest) (c ∷ rest) b (text_at (c ∷ rest)) (plain-step b c rest e) k
 
-marker-met : (following : List (List ℕ)) (e : Ending) → length following ≡ 0 → marker_by following
-    e ≡ met e
-marker-met following e h = grind arith
+-- the end is met where at most 56 bits are left
+pub end-met : (k : ℕ) (bytes : List ℕ) (left : List Bool) (e : Ending) → length left ≤ 56
+    → end_after k bytes left e ≡ met e
+unfolding end_after
+end-met k bytes left e few = rw (le-leb (length left) 56 few, end_after) refl
+
+none-follow : (following : List (List ℕ)) (e : Ending) → length following ≡ 0 → marker_by following e ≡ met e
+none-follow following e h = grind arith
 
 -- After k bits of the text that begins with bytes, the end is met where at most 56 bits are left, and otherwise
 -- reading goes on after the bytes of the bits taken and 57 more.
@@ -101,15 +110,8 @@ ends-so k bytes = go (cases_lt 56 (length (drop k t.bits)))
     go (inr few) =
         let t = text_at bytes in
         let is = placed bytes in
-        let none : length (drop k (drop 56 t.following)) ≡ 0 = omega (
-          arith,
-          length-drop k (drop 56 t.following),
-          length-drop 56 t.following,
-          length-drop k t.bits,
-          is.sized,
-        ) in
-        rw (le-leb (length (drop k t.bits)) 56 few, end_after) (marker-met (drop k (drop 56
-        t.following)) t.ending none)
+        let cut = length-drop 56 t.following in
+        grind (arith, end-met, none-follow, length-drop k (drop 56 t.following), cut, length-drop k t.bits, is.sized)
     go (inl many) =
         let t = text_at bytes in
         let is = placed bytes in
@@ -120,3 +122,28 @@ ends-so k bytes = go (cases_lt 56 (length (drop k t.bits)))
         = drop-drop k 56 t.following ∙ ap (λ (n : ℕ). drop n t.following) order
         ∙ drop_more t.following (k + 56) [] (omega (arith, is.sized)) in
         grind (arith, lt-leb)
+
+-- Bits beyond the last don't count: after a marker zeros come without end.
+ends-within : (n : ℕ) (bits : List Bool) (bytes : List ℕ) (e : Ending)
+    → end_after (length bits - length (drop n bits)) bytes (drop n bits) e ≡ end_after n bytes (drop n bits) e
+ends-within n bits bytes e = grind (arith, cases_lt n (length bits), length-drop n bits, end-met)
+
+-- what is read of a text that begins with some bytes, and the marker after it
+abbrev pub ahead : {A : Type 0} → Reads A → List ℕ → Outcome (A × Option Marker)
+ahead read bytes = read (upcoming fresh bytes) >>= λ r. marker_from r.1 >>= λ m. Ok ((r.0, m.0), m.1)
+
+-- An interval is read as it is read ahead.
+pub ahead-so : {A : Type 0} (read : Reads A) (bytes : List ℕ) → TakesBits read → interval read bytes ≡ ahead read bytes
+unfolding TakesBits interval upcoming
+ahead-so {A} read bytes h = go (h t.bits t.ending)
+  where
+    t : Text
+    t = text_at bytes
+
+    go : Taken read (text_at bytes).bits (text_at bytes).ending → interval read bytes ≡ ahead read bytes
+    go (failed g fails) = grind (arith, fails)
+    go (gave n x is) =
+        let t = text_at bytes in
+        let first = is t.ending t.following (inl refl) in
+        let again = is t.ending (drop 56 t.following) (inl refl) in
+        grind (arith, first, again, ends-within n t.bits bytes, ends-so n bytes)

@@ -20,6 +20,7 @@ pub mod ShortSymbols
 pub mod WideTokens
 pub mod SkipLemmas
 pub mod Tables
+pub mod TakenTexts
 pub mod EndLemmas
 pub mod MarkerLemmas
 pub mod Rules

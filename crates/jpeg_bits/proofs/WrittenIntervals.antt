@@ -5,11 +5,10 @@ use Rattle.std.proofs.Common.{eqb, length-append, length-drop, append_assoc, app
 use Rattle.std.proofs.lemmas.Bool.{eq-eqb, eqb-true}
 use Rattle.std.proofs.lemmas.Bool.Decides.{nat_tests}
 use Rattle.std.proofs.lemmas.Grind.{common_steps}
-use Rattle.std.proofs.lemmas.List.{drop-map, length-map, length-replicate, take-map}
+use Rattle.std.proofs.lemmas.List.{drop-map, length-map, take-map}
 use Rattle.std.proofs.lemmas.List.Folds.{flat_map-map}
 use Rattle.std.specs.List.{AllByRecursion, flat_map}
-use Rattle.jpeg_bits.specs.Entropy.{Text, Ending, Found, add_byte, bits_of, ending_at, marker_by, no_bits}
-use Rattle.jpeg_bits.specs.Entropy.{text_ahead, text_at}
+use Rattle.jpeg_bits.specs.Entropy.{Text, Ending, Found, add_byte, bits_of, ending_at, no_bits, text_at}
 use Rattle.jpeg_bits.specs.Intervals.{first_group, groups, interval, intervals, other_groups}
 use Rattle.jpeg_bits.specs.Marker.{marker_of}
 use Rattle.jpeg_bits.specs.Readers.{Reads, ReadsJust, each}
@@ -18,6 +17,7 @@ use Rattle.jpeg_bits.specs.Written.{stuffed}
 use Rattle.jpeg_bits.specs.Written.WritesEach.{none, one}
 use Rattle.jpeg_bits.specs.Written.WritesIntervals.{last, another}
 use Rattle.jpeg_bits.specs.declared.marker.Marker.{Marker}
+use Rattle.jpeg_bits.proofs.EndLemmas.{end-met}
 use Rattle.jpeg_bits.proofs.ReadIntervals.{all-drop, all-take}
 use Rattle.jpeg_bits.proofs.WrittenBits.{takes-bind, takes-gives, takes-map}
 use Rattle.jpeg_bits.specs.declared.marker.Marker.TheVariants as markers
@@ -63,15 +63,14 @@ marker-text : (fill code : ℕ) (m : Marker) (rest : List ℕ) → IsMarker code
 unfolding text_at
 marker-text fill code m rest h1 = grind (arith, common_steps, nat_tests, no-zero, filled)
 
--- A text with these bits and this end; each bit has its place.
+-- a text with these bits and this end
 record IsText (t : Text) (bits : List Bool) (e : Ending) : Type 0 where
   bits_are : t.bits ≡ bits
   ends_so : t.ending ≡ e
-  following_are : length t.following ≡ length bits
 
 text-byte : (b : ℕ) (rest : List ℕ) (t : Text) (bits : List Bool) (e : Ending) → IsText t bits e
     → IsText (add_byte b rest t) (bits_of b ++ bits) e
-text-byte b rest t bits e h = grind (arith, common_steps, length-append, length-replicate)
+text-byte b rest t bits e h = grind (arith, common_steps)
 
 -- a byte other than FF in front
 plain-text : (b : ℕ) (rest : List ℕ) → eqb b 255 ≡ false → 0 < length rest
@@ -92,32 +91,19 @@ module _ (fill code : ℕ) (m : Marker) (rest : List ℕ) (h : IsMarker code m) 
   unfolding stuffed bits_of_bytes
   stuffed-text [] =
       rw (marker-text fill code m rest h)
-      (record { bits_are = refl; ends_so = refl; following_are = refl })
+      (record { bits_are = refl; ends_so = refl })
   stuffed-text (b ∷ bytes) =
       search (rules, stuffed-byte, plain-text, text-byte, length-append, eqb-true, stuffed-text bytes)
-
-end-met : (following : List (List ℕ)) (m : Marker) (rest : List ℕ) → length following ≡ 0
-    → marker_by following (Found m rest) ≡ Ok (Some m, rest)
-end-met following m rest h1 = grind (arith, common_steps, nat_tests)
 
 -- ---- an interval
 
 in-text : {A : Type 0} (read : Reads A) (bytes rest : List ℕ) (m : Marker) (bits filling : List Bool) (x : A)
     → ReadsJust read bits x → IsText (text_at bytes) (bits ++ filling) (Found m rest) → length filling ≤ 56
     → interval read bytes ≡ Ok ((x, Some m), rest)
-unfolding interval text_ahead
+unfolding interval
 in-text read bytes rest m bits filling x h is short =
-    let following = drop 56 (text_at bytes).following in
-    let read_all = h.read filling following (Found m rest) in
-    let left : length (drop (length bits) following) ≡ 0 = omega (
-      arith,
-      length-drop (length bits) following,
-      length-drop 56 (text_at bytes).following,
-      is.following_are,
-      length-append bits filling,
-      ap length is.bits_are,
-    ) in
-    cc (end-met (drop (length bits) following) m rest left)
+    let read_all = h.read filling (text_at bytes).following (Found m rest) in
+    rw (is.bits_are, is.ends_so, read_all, end-met _ bytes filling (Found m rest) short) refl
 
 -- An interval that was written is read, up to the marker.
 pub reads-interval : {A : Type 0} (read : Reads A) (writes : List Bool → Type 0) (x : A)

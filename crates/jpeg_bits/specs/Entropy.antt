@@ -57,11 +57,6 @@ text_at (b ∷ c ∷ rest) =
     else no_bits (ending_at (c ∷ rest)))
     else add_byte b (c ∷ rest) (text_at (c ∷ rest))
 
--- The text of an interval as it is read. Bytes are taken up to 56 bits ahead, so what follows is
--- given of the bits from the 57th on: only there can reading go on before the end is met.
-unfoldable pub text_ahead : List ℕ → Text
-text_ahead bytes = record (text_at bytes) { following = drop 56 (text_at bytes).following }
-
 -- the text after its first n bits
 abbrev pub advance : ℕ → Text → Text
 advance n t = record { bits = drop n t.bits; following = drop n t.following; ending = t.ending }
@@ -80,16 +75,6 @@ unfoldable pub bits_from : ℕ → Text → Result (ℕ × Text) Fault
 bits_from n t = do
   _ ← has_bits n t.bits t.ending
   Ok (number_of (take n (t.bits ++ replicate n false)), advance n t)
-
--- The end is met where at most 56 bits are left. Otherwise reading goes on after the byte that has
--- the 57th.
-abbrev pub marker_by : List (List ℕ) → Ending → Outcome (Option Marker)
-marker_by (rest ∷ rests) e = Ok (None, rest)
-marker_by [] (Found m rest) = Ok (Some m, rest)
-marker_by [] (Broken f) = Err f
-
-abbrev pub marker_from : Text → Outcome (Option Marker)
-marker_from t = marker_by t.following t.ending
 
 -- ---- a text that is partly buffered, which the meaning doesn't speak of
 
@@ -119,7 +104,9 @@ pub record Ahead : Type 0 where
 abbrev pub fresh : Ahead
 fresh = record { bits = []; met = None }
 
--- The text that buffered bits, a marker that was met and the bytes after them stand for.
+-- The text that buffered bits, a marker that was met and the bytes after them stand for. Up to 56
+-- bits are read ahead, so what follows is given of the bits from the 57th on: only there can reading
+-- go on before the end is met.
 abbrev pub upcoming_by : List Bool → Option DataEnd → List ℕ → Text
 upcoming_by bits None bytes =
     record {
@@ -137,6 +124,15 @@ upcoming_by bits (Some e) bytes =
 -- the text that a decoder and the bytes after it stand for
 unfoldable pub upcoming : Ahead → List ℕ → Text
 upcoming a bytes = upcoming_by a.bits a.met bytes
+
+-- the end, where it is met, and otherwise what reading goes on with
+abbrev pub marker_by : List (List ℕ) → Ending → Outcome (Option Marker)
+marker_by (rest ∷ rests) e = Ok (None, rest)
+marker_by [] (Found m rest) = Ok (Some m, rest)
+marker_by [] (Broken f) = Err f
+
+abbrev pub marker_from : Text → Outcome (Option Marker)
+marker_from t = marker_by t.following t.ending
 
 -- A call on a decoder and a source, from a and old to b and new, answered what reading the text
 -- that they stand for gives.

@@ -1,17 +1,42 @@
 -- The intervals of a scan in bytes (T.81, E.2.4 and F.1.2.3).
-use Rattle.std.specs.Prelude.{ℕ, zero, suc, ◌%◌, ◌==◌, Bool, false, List, [], ◌∷◌, ◌++◌}
-use Rattle.std.specs.Prelude.{if◌then◌else◌, length, take, drop, Option, Some, Ok, Err}
+use Rattle.std.specs.Prelude.{ℕ, zero, suc, ◌+◌, ◌-◌, ◌/◌, ◌%◌, ◌==◌, nat_le, Bool, true, false}
+use Rattle.std.specs.Prelude.{if◌then◌else◌, List, [], ◌∷◌, ◌++◌, length, take, drop}
+use Rattle.std.specs.Prelude.{Option, Some, None, Ok, Err}
 use Rattle.jpeg_bits.specs.Reading.{Outcome, Malformed, ◌>>=◌}
-use Rattle.jpeg_bits.specs.Entropy.{marker_from, text_ahead}
+use Rattle.jpeg_bits.specs.Entropy.{Ending, Found, Broken, text_at}
 use Rattle.jpeg_bits.specs.Readers.{Reads}
 use Rattle.jpeg_bits.specs.declared.marker.Marker.{Marker}
 use Rattle.jpeg_bits.specs.declared.marker.Marker.TheVariants as markers
 
+-- the bytes after the first n that stuffing leaves
+unfoldable pub after_bytes : ℕ → List ℕ → List ℕ
+after_bytes zero bytes = bytes
+after_bytes (suc n) [] = []
+after_bytes (suc n) (b ∷ []) = []
+after_bytes (suc n) (b ∷ c ∷ bytes) =
+    elim (b == 0xFF) [ true ↦ after_bytes n bytes | false ↦ after_bytes n (c ∷ bytes) ]
+
+-- the end that is met: its marker and the bytes after it, or its fault
+abbrev pub met : Ending → Outcome (Option Marker)
+met (Found m rest) = Ok (Some m, rest)
+met (Broken f) = Err f
+
+-- Where k bits were taken of a text and these are left: the end, where at most 56 bits are left
+-- before it. Else reading goes on after the bytes that hold the bits taken and 57 more. T.81 doesn't
+-- say how far data may be read ahead: this rule is this project's own.
+unfoldable pub end_after : ℕ → List ℕ → List Bool → Ending → Outcome (Option Marker)
+end_after k bytes left e =
+    elim (nat_le (length left) 56) [
+      | true ↦ met e
+      | false ↦ Ok (None, after_bytes ((k + 57 + 7) / 8) bytes)
+    ]
+
 -- What is read of the interval that begins these bytes, and the marker after it, if it is met.
 unfoldable pub interval : {A : Type 0} → Reads A → List ℕ → Outcome (A × Option Marker)
 interval read bytes = do
-  r ← read (text_ahead bytes)
-  m ← marker_from r.1
+  r ← read (text_at bytes)
+  m ← end_after (length (text_at bytes).bits - length r.1.bits) bytes r.1.bits
+      (text_at bytes).ending
   Ok ((r.0, m.0), m.1)
 
 -- whether a marker is RST with number k modulo 8

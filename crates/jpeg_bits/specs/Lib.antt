@@ -15,7 +15,6 @@ pub mod Intervals
 pub mod Written
 -- what the laws say
 pub mod NextMarker
-pub mod Ends
 -- what a caller sees of a block
 pub mod BlockView
 -- the code's own words: the clauses of `Decoder`, `run` and `report` reach none of these

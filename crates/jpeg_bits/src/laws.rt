@@ -8,7 +8,7 @@ ghost use Rattle.jpeg_bits.specs.Codes.{Table, IsTable, HasCodes, codes_exist, c
 ghost use Rattle.jpeg_bits.specs.Codes.{code_in, begins, symbol_from};
 ghost use Rattle.jpeg_bits.specs.Written.{low_bits, code_bits};
 ghost use Rattle.jpeg_bits.specs.Readers.{ReadsJust};
-ghost use Rattle.jpeg_bits.specs.Ends.{end_after};
+ghost use Rattle.jpeg_bits.specs.Intervals.{end_after};
 ghost use Rattle.jpeg_bits.specs.Reading.{Fault, End};
 ghost use Rattle.jpeg_bits.specs.Marker.{next_marker};
 ghost use Rattle.jpeg_bits.specs.NextMarker.{IsNextMarker, HasNoMarker};

@@ -3,8 +3,8 @@ use Rattle.std.specs.Prelude.{⊤}
 use Rattle.jpeg_bits.specs.Bands.{difference, first_ac, first_dc, token_at, token_from}
 use Rattle.jpeg_bits.specs.Codes.{begins, code_from, code_in, code_value, codes_exist}
 use Rattle.jpeg_bits.specs.Codes.{lengths_from, symbol_from}
-use Rattle.jpeg_bits.specs.Entropy.{bits_from, ending_at, extended, text_ahead, text_at}
-use Rattle.jpeg_bits.specs.Intervals.{groups, interval, intervals}
+use Rattle.jpeg_bits.specs.Entropy.{bits_from, ending_at, extended, text_at}
+use Rattle.jpeg_bits.specs.Intervals.{after_bytes, end_after, groups, interval, intervals}
 use Rattle.jpeg_bits.specs.Marker.{marker_of, next_marker}
 use Rattle.jpeg_bits.specs.Passes.{band_part, block_from, blocks_of, dc_part, zero_block}
 use Rattle.jpeg_bits.specs.Readers.{each, signed_from}
@@ -60,8 +60,8 @@ unfolding accepted adobe_at after_restarts after_scan all_spots app_at applicati
     tables.defined_codes_at tables.dht_at red_of refined_ac refined_piece rest_at rule_of sample
     sample_at sample_of_1 sample_of_2 sample_of_4 scale_for scan_arrays scan_of scan_segment
     segment_at segments_at selector_at selectors_from signed_from size_at sized_meaning skip_at
-    sof_at sos_at source_of spots_of start_at symbol_from tables.tables_from tables_of text_ahead
+    sof_at sos_at source_of spots_of start_at symbol_from tables.tables_from tables_of
     text_at through_zero times token_at token_from transform_of transformed turn_at turns_of updated
     upsampled quantization.value_at values_in_block_order vias_from walk with_arrays with_blocks
-    with_last with_plane zero_arrays zero_block zigzag_indices
+    with_last with_plane zero_arrays zero_block zigzag_indices after_bytes end_after
 jpeg_on_literals = tt

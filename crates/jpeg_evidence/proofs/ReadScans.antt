@@ -1,22 +1,23 @@
 -- What a decoder reads of a scan, where it fits, is what the scan was written for.
 use Rattle.std.proofs.lemmas.Grind.{common_steps}
-use Rattle.std.proofs.Common.{rules, ◌≡◌, ℕ, suc, ◌%◌, ◌≤◌, Bool, true, List, [], ◌∷◌, ◌++◌, length}
-use Rattle.std.proofs.Common.{drop, refl, sym, ap, ◌∙◌, subst, arith, Ok, Err, Option, Some}
-use Rattle.std.proofs.lemmas.Bool.{le-leb, eqb-true, false≢true}
+use Rattle.std.proofs.Common.{rules, ◌≡◌, ℕ, suc, ◌%◌, true, List, [], ◌∷◌, ◌++◌, length}
+use Rattle.std.proofs.Common.{drop, inl, inr, refl, sym, ap, ◌∙◌, subst, arith, Ok, Err, Option, Some}
+use Rattle.std.proofs.lemmas.Bool.{eqb-true, false≢true}
 use Rattle.std.specs.Prelude.{if◌then◌else◌}
 use Rattle.jpeg_bits.specs.Reading.{End, Malformed, Outcome, ◌>>=◌}
-use Rattle.jpeg_bits.specs.Entropy.{Broken, Text, advance, fresh, marker_from, text_ahead, text_at, upcoming}
-use Rattle.jpeg_bits.specs.Ends.{end_after}
+use Rattle.jpeg_bits.specs.Entropy.{Broken, text_at}
 use Rattle.jpeg_bits.specs.Intervals.{interval, intervals, is_restart}
 use Rattle.jpeg_bits.specs.Passes.{Block, Pass, Via, blocks_of, predictors_at_start}
 use Rattle.jpeg_bits.specs.declared.marker.Marker.{Marker}
 use Rattle.jpeg_bits.specs.declared.marker.Marker.TheVariants.{RST}
-use Rattle.jpeg_bits.proofs.EndLemmas.{ends-so}
+use Rattle.jpeg_bits.proofs.EndLemmas.{end-met}
 use Rattle.jpeg_bits.proofs.ReadIntervals.{Holds}
 use Rattle.jpeg_streams.proofs.InTurn.{interval-long}
 use Rattle.jpeg_evidence.specs.Strict.{alone, IntervalFits, IntervalsFit, IsInterval, IsIntervals, numbers_read, others_read}
 use Rattle.jpeg_evidence.specs.Strict.IntervalsFit.{last, another}
-use Rattle.jpeg_streams.proofs.TakenTexts.{blocks-takes}
+use Rattle.jpeg_bits.proofs.TakenTexts.{Taken, TakesBits, blocks-takes}
+use Rattle.jpeg_bits.proofs.TakenTexts.Taken.{gave, failed}
+use Rattle.jpeg_evidence.proofs.TakenBits.{no-error, ok-parts}
 use Rattle.jpeg_evidence.proofs.TakenIntervals.{interval_of_taken}
 use Rattle.jpeg_evidence.proofs.TakenScans.{another_interval, last_interval}
 
@@ -24,19 +25,17 @@ use Rattle.jpeg_evidence.proofs.TakenScans.{another_interval, last_interval}
 pub interval_read : (p : Pass) (turns : List (Via × Block)) (bytes rest : List ℕ) (m : Marker)
     → (w : IntervalFits p turns bytes m rest)
     → interval (blocks_of p predictors_at_start 0 turns) bytes ≡ Ok ((w.blocks, Some m), rest)
-unfolding interval text_ahead upcoming end_after
+unfolding interval TakesBits
 interval_read p turns bytes rest m w =
-    let t = text_at bytes in
-    let r = (blocks-takes p predictors_at_start 0 turns).taken t.bits [] (Broken End) w.blocks (alone w.left)
-    w.are_read in
-    let left : w.left ≡ drop r.n t.bits = ap (λ (u : Text). u.bits) r.left_is in
-    let few : length (drop r.n t.bits) ≤ 56
-    = let s : length (drop r.n t.bits) ≤ 7 = subst (λ (l : List Bool). length l ≤ 7) left w.is_short in omega arith in
-    let met : marker_from (advance r.n (upcoming fresh bytes)) ≡ Ok (Some m, rest)
-    = ends-so r.n bytes ∙ rw (le-leb (length (drop r.n t.bits)) 56 few, w.ends, end_after) refl in
-    ap (λ o. o >>= (λ x. marker_from x.1 >>= (λ m. Ok ((x.0, m.0), m.1)))) (r.anywhere refl (drop
-    56 t.following) t.ending)
-    ∙ ap (λ o. o >>= (λ m. Ok ((w.blocks, m.0), m.1))) met
+    go (blocks-takes p predictors_at_start 0 turns (text_at bytes).bits (Broken End))
+  where
+    go : Taken (blocks_of p predictors_at_start 0 turns) (text_at bytes).bits (Broken End)
+        → interval (blocks_of p predictors_at_start 0 turns) bytes ≡ Ok ((w.blocks, Some m), rest)
+    go (failed g fails) = absurd (no-error g (w.blocks, alone w.left) (sym (fails []) ∙ w.are_read))
+    go (gave n x is) =
+        let t = text_at bytes in
+        let same = ok-parts x w.blocks _ (alone w.left) (sym (is (Broken End) [] (inl refl)) ∙ w.are_read) in
+        grind (arith, is t.ending t.following (inr refl), same, w.is_short, w.ends, end-met)
 
 pub interval-written : (p : Pass) (turns : List (Via × Block)) (bytes rest : List ℕ) (m : Marker)
     → (w : IntervalFits p turns bytes m rest) → IsInterval p (numbers_read p turns w.blocks) bytes m rest

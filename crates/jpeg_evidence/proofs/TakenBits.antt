@@ -22,7 +22,6 @@ use Rattle.jpeg_bits.specs.Written.{low_bits, IsCoded}
 use Rattle.jpeg_bits.proofs.Tables.{rising-at, all-rising, symbol-code}
 use Rattle.jpeg_bits.proofs.WrittenBits.{number_onto}
 use Rattle.jpeg_bits.proofs.Reservoirs.{low_bits-high}
-use Rattle.jpeg_streams.proofs.TakenTexts.{bind-parts, no-error, ok-parts}
 use Rattle.jpeg_evidence.specs.Strict.{alone, IsCut, IsNumber}
 
 number-split : (a : ℕ) (bs : List Bool) → number_onto a bs ≡ a * 2 ^ length bs + number_of bs
@@ -54,6 +53,23 @@ pub bits-of-length : (n : ℕ) (bs : List Bool) → length bs ≡ n → (low_bit
 bits-of-length n bs h = grind (arith, bits-back, number-below)
 
 -- ---- what was read
+
+result-of : {A : Type 0} → A × Text → Result (A × Text) Fault → A × Text
+result-of d (Ok x) = x
+result-of d (Err e) = d
+
+pub ok-parts : {A : Type 0} (a b : A) (t u : Text) → ◌≡◌ {A = Result (A × Text) Fault} (Ok (a, t)) (Ok (b, u))
+    → (a ≡ b) × (t ≡ u)
+unfolding result-of
+ok-parts {A} a b t u e = (ap (λ o. (result-of (a, t) o).0) e, ap (λ o. (result-of (a, t) o).1) e)
+
+pub no-error : {A : Type 0} (f : Fault) (x : A × Text) → ◌≡◌ {A = Result (A × Text) Fault} (Err f) (Ok x) → ⊥
+no-error f x e = cc
+
+pub bind-parts : {A B : Type 0} (p : Reads A) (f : A → Reads B) (s t : Text) (y : B)
+    → (p >>= f) s ≡ Ok (y, t)
+    → (a : A) × (u : Text) × (p s ≡ Ok (a, u)) × (f a u ≡ Ok (y, t))
+bind-parts {A} {B} p f s t y e = grind (arith, no-error)
 
 -- what follows what was read
 pub after-read : {A B : Type 0} (p : Reads A) (f : A → Reads B) (a : A) (s u t : Text) (y : B) → p s ≡ Ok (a, u)

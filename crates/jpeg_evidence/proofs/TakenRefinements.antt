@@ -30,7 +30,7 @@ use Rattle.jpeg_evidence.specs.Strict.{PiecesFit}
 use Rattle.jpeg_evidence.specs.Strict.PiecesFit.{covered, new, zeros, last}
 use Rattle.jpeg_evidence.proofs.TakenBits.{number_taken, symbol_taken, after-read, bind-cut, map-parts}
 use Rattle.jpeg_evidence.proofs.TakenBits.{if-read, cut-map, cut-none, cut-both, gives-taken, Both}
-use Rattle.jpeg_streams.proofs.TakenTexts.{bind-parts, ok-parts, no-error}
+use Rattle.jpeg_evidence.proofs.TakenBits.{bind-parts, ok-parts, no-error}
 use Rattle.jpeg_evidence.proofs.TakenBands.{run-small}
 
 -- ---- a place

@@ -16,8 +16,7 @@ use Rattle.jpeg_bits.specs.Written.{low_bits, IsCoded, IsCategory, number_for}
 use Rattle.jpeg_streams.specs.WrittenData.{WritesDifference}
 use Rattle.jpeg_evidence.specs.Strict.{alone, IsCut, IsNumber, IsValue}
 use Rattle.jpeg_evidence.proofs.TakenBits.{number_taken, symbol_taken, cut-map, gives-taken, map-taken}
-use Rattle.jpeg_evidence.proofs.TakenBits.{bind-cut, if-read}
-use Rattle.jpeg_streams.proofs.TakenTexts.{no-error}
+use Rattle.jpeg_evidence.proofs.TakenBits.{bind-cut, if-read, no-error}
 
 -- ---- signed numbers
 

@@ -5,12 +5,14 @@ use Rattle.std.specs.List.{flat_map}
 use Rattle.std.specs.Prelude.{if◌then◌else◌}
 use Rattle.jpeg_bits.specs.Reading as reading
 use Rattle.jpeg_bits.specs.Reading.{Outcome, Fault, Malformed}
-use Rattle.jpeg_bits.specs.Entropy.{Text, text_ahead, upcoming, fresh}
+use Rattle.jpeg_bits.specs.Entropy.{Text, upcoming, fresh}
 use Rattle.jpeg_bits.specs.Readers.{Reads, read_on, gives}
 use Rattle.jpeg_bits.specs.declared.marker.Marker.{Marker}
 use Rattle.jpeg_bits.specs.Passes.{Pass, Via, Block, block_from, blocks_of, predictors_at_start}
 use Rattle.jpeg_bits.specs.Intervals.{interval, intervals, is_restart}
+use Rattle.jpeg_bits.proofs.EndLemmas.{ahead-so}
 use Rattle.jpeg_bits.proofs.ReadIntervals.{Holds}
+use Rattle.jpeg_bits.proofs.TakenTexts.{blocks-takes}
 use Rattle.jpeg_streams.specs.Order.{Spot}
 use Rattle.jpeg_streams.specs.Scans.{Arrays, block_at, put_block, put_blocks, via_at, turns_of}
 use Rattle.jpeg_streams.specs.InTurn.{Reached, turn_from, turns_from, interval_from, next_interval, intervals_from}
@@ -124,9 +126,11 @@ put_after spots arrays (Err e) = Err e
 pub interval-in-turn : (p : Pass) (vias : List Via) (spots : List Spot) (arrays : Arrays) (bytes : List ℕ)
     → AreApart spots → ((q : Spot) → IsIn q spots → IsInside arrays q)
     → interval_from p vias spots arrays bytes ≡ put_after spots arrays (interval (blocks_of p predictors_at_start 0 (turns_of vias spots (block_at arrays))) bytes)
-unfolding interval_from interval upcoming text_ahead
+unfolding interval_from
 interval-in-turn p vias spots arrays bytes apart inside =
-    grind (arith, in-turn p vias spots arrays predictors_at_start 0 (upcoming fresh bytes) apart inside)
+    let turns = turns_of vias spots (block_at arrays) in
+    let ahead = ahead-so (blocks_of p predictors_at_start 0 turns) bytes (blocks-takes p predictors_at_start 0 turns) in
+    grind (arith, ahead, in-turn p vias spots arrays predictors_at_start 0 (upcoming fresh bytes) apart inside)
 
 -- as many blocks as turns
 pub blocks-long : (p : Pass) (turns : List (Via × Block)) (predictors : List ℤ) (run : ℕ) (t : Text)

@@ -4,7 +4,6 @@ pub mod OutputLemmas
 pub mod Updates
 pub mod Shorter
 pub mod ShorterSegments
-pub mod ShorterTexts
 pub mod ShorterScans
 pub mod SegmentParts
 pub mod ProfileLemmas
@@ -72,4 +71,3 @@ pub mod EncodedSamples
 pub mod PaddingUnseen
 pub mod SamplesAlike
 pub mod PlainScans
-pub mod TakenTexts
