@@ -105,8 +105,8 @@ abbrev pub fresh : Ahead
 fresh = record { bits = []; met = None }
 
 -- The text that buffered bits, a marker that was met and the bytes after them stand for. Up to 56
--- bits are read ahead, so what follows is given of the bits from the 57th on: only there can reading
--- go on before the end is met.
+-- bits are read ahead, so what follows is given of the bits from the 57th on: only there can
+-- reading go on before the end is met.
 abbrev pub upcoming_by : List Bool → Option DataEnd → List ℕ → Text
 upcoming_by bits None bytes =
     record {

@@ -22,8 +22,8 @@ met (Found m rest) = Ok (Some m, rest)
 met (Broken f) = Err f
 
 -- Where k bits were taken of a text and these are left: the end, where at most 56 bits are left
--- before it. Else reading goes on after the bytes that hold the bits taken and 57 more. T.81 doesn't
--- say how far data may be read ahead: this rule is this project's own.
+-- before it. Else reading goes on after the bytes that have the bits taken and 57 more. T.81
+-- doesn't say how far data may be read ahead: this rule is this project's own.
 unfoldable pub end_after : ℕ → List ℕ → List Bool → Ending → Outcome (Option Marker)
 end_after k bytes left e =
     elim (nat_le (length left) 56) [

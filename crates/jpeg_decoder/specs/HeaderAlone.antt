@@ -23,5 +23,6 @@ pub record ReadsHeaderAlone {X : Type 0} (old : Decoding) (result : Result X Err
   pub told : old.stage ≡ Fresh → OnTold old.source new.source header
       (told_of new.found.said ≡ told_ahead true old.stage old.found old.source.bytes)
   pub turns : old.stage ≡ Fresh → old.source.known ≡ true
-      → IsOfTurns (λ n. turns_ahead n true old.stage old.found old.source.bytes) (told_of new.found.said)
+      → IsOfTurns (λ n. turns_ahead n true old.stage old.found old.source.bytes)
+      (told_of new.found.said)
   pub still : (old.stage ≡ Fresh → ⊥) → new ≡ old

@@ -35,7 +35,8 @@ use Rattle.jpeg_bits.specs.declared.codes.HuffmanTableClass.TheVariants as class
 use Rattle.jpeg_segments.specs.Checks.{needed}
 use Rattle.jpeg_streams.specs.ScanSegments.{component_coding, components_of, Coding, tables_of}
 use Rattle.jpeg_streams.specs.ScanSegments.{pass_of, after_restarts, finished_by}
-use Rattle.jpeg_streams.specs.ScanSegments.{blocks_after, with_arrays, decided, arrays_before, once_scanned}
+use Rattle.jpeg_streams.specs.ScanSegments.{blocks_after, with_arrays, decided, arrays_before}
+use Rattle.jpeg_streams.specs.ScanSegments.{once_scanned}
 use Rattle.jpeg_streams.specs.ScanSegments.{vias_from, after_samples, scan_samples}
 use Rattle.jpeg_streams.specs.Segments.{Turn}
 use Rattle.jpeg_streams.specs.Found.{Found, none_finished, Said}

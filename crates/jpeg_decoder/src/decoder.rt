@@ -12,7 +12,7 @@ ghost use Rattle.jpeg_streams.specs.States.{told_ahead, turns_ahead, OnTold, OnT
 ghost use Rattle.jpeg_streams.specs.States.{HasHeader};
 ghost use Rattle.jpeg_streams.specs.DecodedImages.{DecodesImages};
 ghost use Rattle.jpeg_streams.specs.DecodedSamples.{DecodesSamples};
-ghost use Rattle.jpeg_decoder.specs.Seen.{found_in};
+ghost use Rattle.jpeg_decoder.specs.Seen.{found_in, said_in};
 ghost use Rattle.jpeg_decoder.specs.Bytes.{HasRoom, IsCounted, IsWhole, decoding_bytes};
 ghost use Rattle.jpeg_decoder.specs.Bytes.{picture_size};
 ghost use Rattle.jpeg_decoder.specs.HeaderAlone.{ReadsHeaderAlone};
@@ -100,8 +100,8 @@ fn size_frame(frame: &mut FrameInfo, width: u16, height: u16) -> (u16, u16)
 fn scale_state(state: &mut State, width: u16, height: u16) -> Option<(u16, u16)>
     requires frames { HasDecodedFrame (found_in state.old) }
     ensures found { found_in state.new ≡ with_said (sized_to width height) (found_in state.old) }
-    ensures none { IfNone result ((found_in state.old).said.frame ≡ None) }
-    ensures size { IfSome result (λ size. IfSome (found_in state.new).said.frame (λ f. (f.output_width
+    ensures none { IfNone result ((said_in state.old).frame ≡ None) }
+    ensures size { IfSome result (λ size. IfSome (said_in state.new).frame (λ f. (f.output_width
         ≡ size.0) × (f.output_height ≡ size.1))) }
     ensures frames { HasDecodedFrame (found_in state.new) }
     ensures sound { IsSound (found_in state.old) → IsUnread (found_in state.old)
@@ -115,12 +115,12 @@ fn scale_state(state: &mut State, width: u16, height: u16) -> Option<(u16, u16)>
 
 /// Returns how many bytes the picture takes, where so many are enough for it, and else `Internal`.
 fn size_within(state: &State, room: usize) -> Result<usize>
-    requires framed { is_some (found_in state.now).said.frame ≡ true }
+    requires framed { is_some (said_in state.now).frame ≡ true }
     requires frames { HasDecodedFrame (found_in state.now) }
-    ensures size { IfOk result (λ n. IfSome (found_in state.now).said.frame (λ f. n ≡ picture_size f)) }
+    ensures size { IfOk result (λ n. IfSome (said_in state.now).frame (λ f. n ≡ picture_size f)) }
     ensures room { IfOk result (λ n. n ≤ room) }
-    ensures has_room { OnOk result (HasRoom (found_in state.now).said.frame room) }
-    ensures short { OnErr result (HasRoom (found_in state.now).said.frame room → ⊥) }
+    ensures has_room { OnOk result (HasRoom (said_in state.now).frame room) }
+    ensures short { OnErr result (HasRoom (said_in state.now).frame room → ⊥) }
     ensures err { IfErr result IsInternal }
 {
     let Some(frame) = &state.frame else {
@@ -135,7 +135,7 @@ fn size_within(state: &State, room: usize) -> Result<usize>
 
 /// Drops what scans have given.
 fn drop_decoded(state: &mut State, alloc: Global)
-    ensures told { told_of (found_in state.new).said ≡ told_of (found_in state.old).said }
+    ensures told { told_of (said_in state.new) ≡ told_of (said_in state.old) }
     ensures emptied { ((found_in state.new).kept ≡ [])
         × ((found_in state.new).planes ≡ replicate 4 None)
         × ((found_in state.new).samples ≡ replicate 4 None) }
@@ -166,7 +166,7 @@ impl<R: Read + Drop> Model for Decoder<R> {
     ghost use Rattle.jpeg_streams.specs.States.{Decoding, HasHeader};
     ghost use Rattle.jpeg_streams.specs.declared.progress.Progress.TheVariants.{Fresh, HeaderRead};
     ghost use Rattle.jpeg_streams.specs.Found.{nothing_found};
-    ghost use Rattle.jpeg_decoder.specs.Seen.{found_in};
+    ghost use Rattle.jpeg_decoder.specs.Seen.{found_in, said_in};
 
     ghost Value = { Decoding };
 
@@ -180,7 +180,7 @@ impl<R: Read + Drop> Model for Decoder<R> {
     // A fresh decoder has found nothing. One whose header was read has a frame, which is decoded;
     // and until it is decoded no scan was read.
     ghost invariant = { λ d. (d.progress ≡ Fresh → found_in d.state ≡ nothing_found)
-        × (HasHeader d.progress → is_some (found_in d.state).said.frame ≡ true)
+        × (HasHeader d.progress → is_some (said_in d.state).frame ≡ true)
         × (HasHeader d.progress → HasDecodedFrame (found_in d.state))
         × (d.progress ≡ HeaderRead → IsSound (found_in d.state)
         × IsUnread (found_in d.state)) };
@@ -403,7 +403,8 @@ impl<R: Read + Drop> Decoder<R> {
         ensures stage { MovesToEnd self.old.stage self.new.stage result }
 
         // For any bytes, the answer is what they mean by T.81, or the name of their fault.
-        ensures reads { IsReading self.old.stage → Answers (λ v. (told_of self.new.found.said, v.items))
+        ensures reads { IsReading self.old.stage
+            → Answers (λ v. (told_of self.new.found.said, v.items))
             (ahead self.old.stage self.old.settings self.old.found) self.old.source result
             self.new.source }
 
@@ -435,7 +436,8 @@ impl<R: Read + Drop> Decoder<R> {
         ensures still { (IsReading self.old.stage → ⊥) → self.new ≡ self.old }
 
         // The frame that `read_info` read stays.
-        ensures stays { self.old.stage ≡ HeaderRead → self.new.found.said.frame ≡ self.old.found.said.frame }
+        ensures stays { self.old.stage ≡ HeaderRead
+            → self.new.found.said.frame ≡ self.old.found.said.frame }
 
         // After an Ok there is a frame, so that `info` answers.
         ensures framed { IfOk result (λ _. is_some self.new.found.said.frame ≡ true) }
@@ -474,7 +476,8 @@ impl<R: Read + Drop> Decoder<R> {
         ensures stage { HasRoom self.new.found.said.frame (length pixels.old)
             → MovesToEnd self.old.stage self.new.stage result }
         ensures reads { HasRoom self.new.found.said.frame (length pixels.old)
-            → IsReading self.old.stage → Answers (λ n. (told_of self.new.found.said, take n pixels.new))
+            → IsReading self.old.stage
+            → Answers (λ n. (told_of self.new.found.said, take n pixels.new))
             (ahead self.old.stage self.old.settings self.old.found) self.old.source result
             self.new.source }
         ensures images { HasRoom self.new.found.said.frame (length pixels.old)
@@ -510,7 +513,8 @@ impl<R: Read + Drop> Decoder<R> {
         ensures still { (IsReading self.old.stage → ⊥) → self.new ≡ self.old }
 
         // The frame that `read_info` read stays.
-        ensures stays { self.old.stage ≡ HeaderRead → self.new.found.said.frame ≡ self.old.found.said.frame }
+        ensures stays { self.old.stage ≡ HeaderRead
+            → self.new.found.said.frame ≡ self.old.found.said.frame }
 
         // After an Ok there is a frame, so that `info` answers.
         ensures framed { IfOk result (λ _. is_some self.new.found.said.frame ≡ true) }

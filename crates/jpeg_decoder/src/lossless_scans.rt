@@ -7,7 +7,7 @@ ghost use Rattle.jpeg_segments.specs.FrameView.{component_in, frame_in, scan_in}
 ghost use Rattle.jpeg_segments.specs.ScanHeader.{IsScanOf};
 ghost use Rattle.jpeg_segments.specs.declared.parser.CodingProcess.TheVariants.{Lossless};
 ghost use Rattle.jpeg_streams.specs.LosslessScans.{tables_in};
-ghost use Rattle.jpeg_decoder.specs.Seen.{found_in};
+ghost use Rattle.jpeg_decoder.specs.Seen.{found_in, said_in};
 ghost use Rattle.jpeg_streams.specs.ScanSegments.{once_scanned};
 ghost use Rattle.jpeg_streams.specs.Sound.{IsSound};
 ghost use Rattle.jpeg_decoder.specs.Steps.{IsRefusal, samples_read, with_decoded};
@@ -157,7 +157,7 @@ pub fn read_lossless_scan<R: Read + Drop>(
     decoded: &mut Decoded,
 ) -> Result<Option<Marker>>
     requires sound { IsSound (with_decoded (found_in state.now) decoded.old) }
-    requires frame { (found_in state.now).said.frame ≡ Some (frame_in frame.now) }
+    requires frame { (said_in state.now).frame ≡ Some (frame_in frame.now) }
     requires process { (frame_in frame.now).process ≡ Lossless }
     requires legal { IsScanOf (frame_in frame.now) (scan_in header.now) }
     ensures reads { let found = found_in state.now in

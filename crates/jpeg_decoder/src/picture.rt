@@ -16,7 +16,7 @@ ghost use Rattle.jpeg_streams.specs.EndPlanes.{AreBlocksOf, blocks_if, is_kept, 
 ghost use Rattle.jpeg_segments.specs.declared.parser.CodingProcess.TheVariants.{Lossless};
 ghost use Rattle.jpeg_segments.specs.Checks.{gathered, needed};
 ghost use Rattle.jpeg_decoder.specs.Scanning.{arrays_in, blocks_in};
-ghost use Rattle.jpeg_decoder.specs.Seen.{found_in, metadata_in};
+ghost use Rattle.jpeg_decoder.specs.Seen.{found_in, metadata_in, said_in};
 ghost use Rattle.jpeg_decoder.specs.PlanesView.{planes_in};
 ghost use Rattle.jpeg_streams.specs.Sound.{IsDecodedFrame, IsPlaneOf, IsSound, HasDecodedFrame};
 ghost use Rattle.jpeg_streams.specs.Sound.{IsUnread};
@@ -153,7 +153,7 @@ fn planes_at_end(
     decoded: &mut Decoded,
 ) -> Result<Vec<Vec<u8>>>
     requires sound { IsSound (with_decoded (found_in state.now) decoded.old) }
-    requires frame { (found_in state.now).said.frame ≡ Some (frame_in frame.now) }
+    requires frame { (said_in state.now).frame ≡ Some (frame_in frame.now) }
     ensures planes { let expected = gathered (plane_at_end
         (with_decoded (found_in state.now) decoded.old) (frame_in frame.now))
         (enumerate_from 0 (frame_in frame.now).components) in
@@ -344,7 +344,7 @@ fn blocks_picture(
     settings: Settings,
 ) -> Result<Vec<u8>>
     requires sound { IsSound (with_decoded (found_in state.now) decoded.old) }
-    requires frame { (found_in state.now).said.frame ≡ Some (frame_in frame.now) }
+    requires frame { (said_in state.now).frame ≡ Some (frame_in frame.now) }
     ensures meant { let expected = blocks_picture settings (with_decoded (found_in state.now) decoded.old)
         (frame_in frame.now) in
         MatchResult result (λ v. expected ≡ Ok v.items) (λ e. IsRefusal e × Names e expected) }
@@ -370,7 +370,7 @@ fn write_blocks(
     pixels: &mut [u8],
 ) -> Result<()>
     requires sound { IsSound (with_decoded (found_in state.now) decoded.old) }
-    requires frame { (found_in state.now).said.frame ≡ Some (frame_in frame.now) }
+    requires frame { (said_in state.now).frame ≡ Some (frame_in frame.now) }
     requires process { (frame_in frame.now).process ≡ Lossless → ⊥ }
     requires room { length pixels.old ≡ picture_size (frame_in frame.now) }
     ensures meant { let expected = blocks_picture settings (with_decoded (found_in state.now) decoded.old)
@@ -413,7 +413,7 @@ fn samples_picture(
     decoded: &mut Decoded,
 ) -> Result<Vec<u8>>
     requires sound { IsSound (with_decoded (found_in state.now) decoded.old) }
-    requires frame { (found_in state.now).said.frame ≡ Some (frame_in frame.now) }
+    requires frame { (said_in state.now).frame ≡ Some (frame_in frame.now) }
     requires process { (frame_in frame.now).process ≡ Lossless }
     ensures meant { let expected =
         samples_picture (with_decoded (found_in state.now) decoded.old) (frame_in frame.now) in
@@ -435,7 +435,7 @@ fn write_samples(
     pixels: &mut [u8],
 ) -> Result<()>
     requires sound { IsSound (with_decoded (found_in state.now) decoded.old) }
-    requires frame { (found_in state.now).said.frame ≡ Some (frame_in frame.now) }
+    requires frame { (said_in state.now).frame ≡ Some (frame_in frame.now) }
     requires process { (frame_in frame.now).process ≡ Lossless }
     requires room { length pixels.old ≡ picture_size (frame_in frame.now) }
     ensures meant { let expected =
@@ -472,7 +472,7 @@ fn picture(
     requires sound { IsSound (with_decoded (found_in state.now) decoded.old) }
     ensures meant { let expected = picture_of settings (with_decoded (found_in state.now) decoded.old) in
         MatchResult result (λ v. expected ≡ Ok v.items) (λ e. IsRefusal e × Names e expected) }
-    ensures size { IfOk result (λ v. IsWhole (found_in state.now).said.frame v.items) }
+    ensures size { IfOk result (λ v. IsWhole (said_in state.now).frame v.items) }
 {
     let frame = needed(alloc, state.frame.as_ref(), Missing::Frame(Marker::EOI))?;
     if !is_within(
@@ -501,7 +501,7 @@ fn write_picture(
     pixels: &mut [u8],
 ) -> Result<()>
     requires sound { IsSound (with_decoded (found_in state.now) decoded.old) }
-    requires room { IfSome (found_in state.now).said.frame (λ f. length pixels.old ≡ picture_size f) }
+    requires room { IfSome (said_in state.now).frame (λ f. length pixels.old ≡ picture_size f) }
     ensures meant { let expected = picture_of settings (with_decoded (found_in state.now) decoded.old) in
         MatchResult result (λ u. expected ≡ Ok pixels.new) (λ e. IsRefusal e × Names e expected) }
     ensures unwritten { OnErr result (pixels.new ≡ pixels.old) }
@@ -531,11 +531,11 @@ pub fn read_header<R: Read + Drop>(
 ) -> Result<()>
     requires { found_in state.old ≡ nothing_found }
     ensures reads { Answers (λ _. found_in state.new) header_at source.old result source.new }
-    ensures told { OnTold source.old source.new result (told_of (found_in state.new).said
+    ensures told { OnTold source.old source.new result (told_of (said_in state.new)
         ≡ told_by_turns (suc (length source.old.bytes)) true source.old.bytes) }
     ensures turns { source.old.known ≡ true → IsOfTurns (λ n. told_by_turns n true source.old.bytes)
-        (told_of (found_in state.new).said) }
-    ensures framed { IfOk result (λ _. is_some (found_in state.new).said.frame ≡ true) }
+        (told_of (said_in state.new)) }
+    ensures framed { IfOk result (λ _. is_some (said_in state.new).frame ≡ true) }
     ensures sound { OnOk result (IsSound (found_in state.new)) }
     ensures unread { OnOk result (IsUnread (found_in state.new)) }
 {
@@ -553,19 +553,19 @@ pub fn read_rest<R: Read + Drop>(
     settings: Settings,
 ) -> Result<Vec<u8>>
     requires sound { IsSound (found_in state.old) }
-    ensures reads { Answers (λ v. (told_of (found_in state.new).said, v.items))
+    ensures reads { Answers (λ v. (told_of (said_in state.new), v.items))
         (rest_at settings (found_in state.old)) source.old result source.new }
-    ensures told { OnTold source.old source.new result (told_of (found_in state.new).said
+    ensures told { OnTold source.old source.new result (told_of (said_in state.new)
         ≡ told_in_turns (suc (length source.old.bytes)) false (found_in state.old)
         source.old.bytes) }
     ensures turns { source.old.known ≡ true → IsOfTurns
         (λ n. told_in_turns n false (found_in state.old) source.old.bytes)
-        (told_of (found_in state.new).said) }
-    ensures framed { IfOk result (λ _. is_some (found_in state.new).said.frame ≡ true) }
-    ensures stays { is_some (found_in state.old).said.frame ≡ true → (found_in state.new).said.frame
-        ≡ (found_in state.old).said.frame }
+        (told_of (said_in state.new)) }
+    ensures framed { IfOk result (λ _. is_some (said_in state.new).frame ≡ true) }
+    ensures stays { is_some (said_in state.old).frame ≡ true → (said_in state.new).frame
+        ≡ (said_in state.old).frame }
     ensures frames { OnOk result (HasDecodedFrame (found_in state.new)) }
-    ensures size { IfOk result (λ v. IsWhole (found_in state.new).said.frame v.items) }
+    ensures size { IfOk result (λ v. IsWhole (said_in state.new).frame v.items) }
     ensures emptied { ((found_in state.new).kept ≡ [])
         × ((found_in state.new).planes ≡ replicate 4 None)
         × ((found_in state.new).samples ≡ replicate 4 None) }
@@ -587,17 +587,17 @@ pub fn read_rest_into<R: Read + Drop>(
     pixels: &mut [u8],
 ) -> Result<()>
     requires sound { IsSound (found_in state.old) }
-    requires framed { is_some (found_in state.old).said.frame ≡ true }
-    requires room { IfSome (found_in state.old).said.frame (λ f. length pixels.old ≡ picture_size f) }
-    ensures reads { Answers (λ u. (told_of (found_in state.new).said, pixels.new))
+    requires framed { is_some (said_in state.old).frame ≡ true }
+    requires room { IfSome (said_in state.old).frame (λ f. length pixels.old ≡ picture_size f) }
+    ensures reads { Answers (λ u. (told_of (said_in state.new), pixels.new))
         (rest_at settings (found_in state.old)) source.old result source.new }
-    ensures told { OnTold source.old source.new result (told_of (found_in state.new).said
+    ensures told { OnTold source.old source.new result (told_of (said_in state.new)
         ≡ told_in_turns (suc (length source.old.bytes)) false (found_in state.old)
         source.old.bytes) }
     ensures turns { source.old.known ≡ true → IsOfTurns
         (λ n. told_in_turns n false (found_in state.old) source.old.bytes)
-        (told_of (found_in state.new).said) }
-    ensures stays { (found_in state.new).said.frame ≡ (found_in state.old).said.frame }
+        (told_of (said_in state.new)) }
+    ensures stays { (said_in state.new).frame ≡ (said_in state.old).frame }
     ensures frames { OnOk result (HasDecodedFrame (found_in state.new)) }
     ensures unwritten { OnErr result (pixels.new ≡ pixels.old) }
     ensures emptied { ((found_in state.new).kept ≡ [])

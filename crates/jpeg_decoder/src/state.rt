@@ -78,7 +78,7 @@ impl State {
     ghost use Rattle.jpeg_streams.specs.Stream.{segments_at, told_of};
     ghost use Rattle.jpeg_streams.specs.Reported.{IsOfTurns, told_in_turns};
     ghost use Rattle.jpeg_streams.specs.States.{OnTold};
-    ghost use Rattle.jpeg_decoder.specs.Seen.{found_in};
+    ghost use Rattle.jpeg_decoder.specs.Seen.{found_in, said_in};
     ghost use Rattle.jpeg_decoder.specs.Steps.{IsStep, turn_of, with_decoded};
     ghost use Rattle.jpeg_streams.specs.Sound.{IsSound, IsUnread};
     ghost use Rattle.jpeg_streams.specs.declared.before.Before.TheVariants.{Elsewhere};
@@ -310,7 +310,7 @@ impl State {
 
     /// Returns whether the frame was read, where the header is wanted alone.
     fn is_read_for(&self, header: bool) -> bool
-        ensures { result ≡ (header && is_some (found_in self.now).said.frame) }
+        ensures { result ≡ (header && is_some (said_in self.now).frame) }
     {
         header && self.frame.is_some()
     }
@@ -326,17 +326,17 @@ impl State {
         requires sound { IsSound (found_in self.old) }
         ensures reads { Answers (λ _. found_in self.new)
             (segments_at header Elsewhere (found_in self.old) None) source.old result source.new }
-        ensures told { OnTold source.old source.new result (told_of (found_in self.new).said
+        ensures told { OnTold source.old source.new result (told_of (said_in self.new)
             ≡ told_in_turns (suc (length source.old.bytes)) header (found_in self.old)
             source.old.bytes) }
         ensures turns { source.old.known ≡ true → IsOfTurns
             (λ n. told_in_turns n header (found_in self.old) source.old.bytes)
-            (told_of (found_in self.new).said) }
-        ensures framed { IfOk result (λ _. is_some (found_in self.new).said.frame ≡ true) }
-        ensures stays { is_some (found_in self.old).said.frame ≡ true → (found_in self.new).said.frame
-            ≡ (found_in self.old).said.frame }
+            (told_of (said_in self.new)) }
+        ensures framed { IfOk result (λ _. is_some (said_in self.new).frame ≡ true) }
+        ensures stays { is_some (said_in self.old).frame ≡ true → (said_in self.new).frame
+            ≡ (said_in self.old).frame }
         ensures sound { IsSound (found_in self.old) → OnOk result (IsSound (found_in self.new)) }
-        ensures unread { header ≡ true → (found_in self.old).said.frame ≡ None
+        ensures unread { header ≡ true → (said_in self.old).frame ≡ None
             → OnOk result (IsUnread (found_in self.new)) }
     {
         let mut before = Before::Elsewhere;

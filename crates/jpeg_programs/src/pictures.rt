@@ -73,7 +73,8 @@ pub fn decode_picture<R: Read + Drop>(decoder: &mut Decoder<R>) -> Result<Pictur
         (λ p. (told_of decoder.new.found.said, p.pixels.items))
         (ahead decoder.old.stage decoder.old.settings decoder.old.found) decoder.old.source result
         decoder.new.source }
-    ensures info { IfOk result (λ p. option_map info_of decoder.new.found.said.frame ≡ Some p.info) }
+    ensures info { IfOk result
+        (λ p. option_map info_of decoder.new.found.said.frame ≡ Some p.info) }
     ensures precision { IfOk result (λ p. option_map (λ f. f.precision) decoder.new.found.said.frame
         ≡ Some p.precision) }
 {

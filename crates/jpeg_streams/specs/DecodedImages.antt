@@ -31,7 +31,8 @@ at_size (AtLeast width height) said = sized_to width height said
 abbrev pub HasLeft : Size → List ℕ → Progress → Found → List ℕ → Type 0
 HasLeft FullSize bytes Fresh found left = left ≡ bytes
 HasLeft size bytes HeaderRead found left =
-    (header : Found) × (header_at bytes ≡ Ok (header, left)) × (found ≡ with_said (at_size size) header)
+    (header : Found) × (header_at bytes ≡ Ok (header, left))
+    × (found ≡ with_said (at_size size) header)
 HasLeft _ bytes _ found left = ⊥
 
 -- ---- what is given

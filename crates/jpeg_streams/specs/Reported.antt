@@ -6,7 +6,8 @@ use Rattle.jpeg_streams.specs.Stream.{start_at, Told, told_of, walk}
 
 -- what the first turns of a header, or of the rest of a stream, have said
 abbrev pub told_in_turns : ℕ → Bool → Found → List ℕ → Told
-told_in_turns turns header found bytes = told_of (walk turns header Elsewhere found None bytes).0.said
+told_in_turns turns header found bytes =
+    told_of (walk turns header Elsewhere found None bytes).0.said
 
 -- what the first turns of a stream have said
 unfoldable pub told_by_turns : ℕ → Bool → List ℕ → Told

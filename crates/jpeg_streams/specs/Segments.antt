@@ -116,4 +116,5 @@ application_segment number found =
 
 -- a segment that is passed over
 abbrev pub skipped_segment : Found → List ℕ → Outcome Turn
-skipped_segment found bytes = length_at bytes >>= (λ n. says (skip_at n.0) (λ _ said. said) found n.1)
+skipped_segment found bytes =
+    length_at bytes >>= (λ n. says (skip_at n.0) (λ _ said. said) found n.1)

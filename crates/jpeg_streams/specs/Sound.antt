@@ -35,7 +35,8 @@ ArePlanes (c ∷ more) (plane ∷ planes) = IsPlaneOf c plane × ArePlanes more 
 -- No scan was read yet, and no plane is decided.
 abbrev pub IsUnread : Found → Type 0
 IsUnread found =
-    (found.said.scanned ≡ false) × (found.planes ≡ replicate 4 None) × (found.samples ≡ replicate 4 None)
+    (found.said.scanned ≡ false) × (found.planes ≡ replicate 4 None)
+    × (found.samples ≡ replicate 4 None)
 
 -- the samples of a component, as many as it has
 abbrev pub IsSampled : Component → Option (List ℕ) → Type 0
@@ -54,7 +55,8 @@ pub record IsSound (found : Found) : Type 0 where
   pub frames : (frame : Frame) → found.said.frame ≡ Some frame → IsDecodedFrame frame
   pub kept : (frame : Frame) → found.said.frame ≡ Some frame
       → AreArrays frame.components (arrays_before found frame)
-  pub planes : (frame : Frame) → found.said.frame ≡ Some frame → ArePlanes frame.components found.planes
+  pub planes : (frame : Frame) → found.said.frame ≡ Some frame
+      → ArePlanes frame.components found.planes
   pub samples : (frame : Frame) → found.said.frame ≡ Some frame
       → AreSampled frame.components found.samples
   pub unread : found.said.frame ≡ None → IsUnread found

@@ -51,7 +51,8 @@ pub fn read_header<R: Read + Drop>(
     ensures reads { OnOk result (ReadsHeader options.now decoder.old decoder.new) }
     ensures named { decoder.old.source.known ≡ true
         → IfErr result (IsFault (header_at decoder.old.source.bytes)) }
-    ensures info { IfOk result (λ h. option_map info_of decoder.new.found.said.frame ≡ Some h.info) }
+    ensures info { IfOk result
+        (λ h. option_map info_of decoder.new.found.said.frame ≡ Some h.info) }
     ensures precision { IfOk result (λ h. option_map (λ f. f.precision) decoder.new.found.said.frame
         ≡ Some h.precision) }
     ensures oriented { IfOk result (λ h. h.orientation

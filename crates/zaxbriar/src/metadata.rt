@@ -44,7 +44,8 @@ fn copy_profile<R: Read + Drop>(
     count: &mut u64,
 ) -> Result<u32>
     ensures copied { IfOk result (λ code. code ≡ 0
-        → IsCopied (metadata_of 3 decoder.now.found.said.metadata) buffer.old buffer.new count.new) }
+        → IsCopied (metadata_of 3 decoder.now.found.said.metadata) buffer.old buffer.new
+        count.new) }
     ensures none { IfOk result (λ code. code ≡ 7
         → metadata_of 3 decoder.now.found.said.metadata ≡ None) }
     ensures own { IfOk result (λ code. code < 4 → code ≡ 0) }
@@ -65,7 +66,8 @@ fn copy_kind<R: Read + Drop>(
     count: &mut u64,
 ) -> Result<u32>
     ensures copied { IfOk result (λ code. code ≡ 0
-        → IsCopied (metadata_of kind decoder.now.found.said.metadata) buffer.old buffer.new count.new) }
+        → IsCopied (metadata_of kind decoder.now.found.said.metadata) buffer.old buffer.new
+        count.new) }
     ensures none { IfOk result (λ code. code ≡ 7
         → metadata_of kind decoder.now.found.said.metadata ≡ None) }
     ensures own { IfOk result (λ code. code < 4 → code ≡ 0) }
