@@ -1,4 +1,5 @@
 -- Application data by their parameters: what is read of them, and which data they are.
+use Rattle.std.proofs.Common.{rules}
 use Rattle.std.proofs.Common.{◌≡◌, ℕ, zero, suc, ◌+◌, ◌≤◌, ◌<◌, Bool, true, false, List, [], ◌∷◌, ◌++◌, length, take}
 use Rattle.std.proofs.Common.{drop, get_or, Option, None, Some, Ok, refl, sym, ap, ap₂, ◌∙◌, arith, eqb, ltb, ◌||◌}
 use Rattle.std.proofs.Common.{cond, ◌&&◌, take-append-drop, length-drop, length-take}
@@ -59,29 +60,15 @@ is-said (OfAvi1 more) is = record { named = λ e. absurd (let n : ⊥ = cc in n)
 is-said (OfExif bytes) is = record { named = λ e. absurd (let n : ⊥ = cc in n); says = refl }
 is-said (OfXmp bytes) is = record { named = λ e. absurd (let n : ⊥ = cc in n); says = refl }
 is-said (OfPhotoshop bytes) is = record { named = λ e. absurd (let n : ⊥ = cc in n); says = refl }
-is-said (OfIcc chunk) is = go chunk.number chunk.count chunk.bytes is
-  where
-    go : (n m : ℕ) (bytes : List ℕ) → 1 ≤ length bytes
-        → IsSaid (OfIcc (record { number = n; count = m; bytes = bytes }))
-    go n m [] h = absurd (omega (arith, h))
-    go n m (x ∷ xs) h =
-        let few : 14 < length (icc_name ++ n ∷ m ∷ x ∷ xs) = omega arith in
-        record { named = λ e. absurd (let n : ⊥ = cc in n); says = rw (lt-ltb 14 _ few) refl }
+is-said (OfIcc chunk) is = search (rules, lt-ltb)
 is-said (OfAdobe [] t more) is = absurd (let n : ⊥ = cc in n)
 is-said (OfAdobe (a ∷ []) t more) is = absurd (let n : ⊥ = cc in n)
 is-said (OfAdobe (a ∷ b ∷ []) t more) is = absurd (let n : ⊥ = cc in n)
 is-said (OfAdobe (a ∷ b ∷ c ∷ []) t more) is = absurd (let n : ⊥ = cc in n)
 is-said (OfAdobe (a ∷ b ∷ c ∷ d ∷ []) t more) is = absurd (let n : ⊥ = cc in n)
 is-said (OfAdobe (a ∷ b ∷ c ∷ d ∷ e ∷ f ∷ flags) t more) is = absurd (omega (arith, is))
-is-said (OfAdobe (a ∷ b ∷ c ∷ d ∷ e ∷ []) t more) is =
-    let many : 11 < length (adobe_name ++ (a ∷ b ∷ c ∷ d ∷ e ∷ transform_byte t ∷ more)) = omega arith in
-    record {
-      named = λ _. ap is_some (transform-read t);
-      says = rw (lt-ltb 11 _ many) (ap (option_map Adobe) (transform-read t));
-    }
-is-said (OfOther number bytes) is =
-    let u = unknown number bytes is.1 in
-    record { named = λ q. absurd (false≢true (sym u.other ∙ q)); says = rw u.other u.says }
+is-said (OfAdobe (a ∷ b ∷ c ∷ d ∷ e ∷ []) t more) is = search (rules, transform-read, lt-ltb)
+is-said (OfOther number bytes) is = search (rules, unknown, false≢true)
 
 pub app-read : (d : ApplicationData) (rest : List ℕ) → IsApplicationData d
     → app_at (application_parts d).0 (with_length (application_parts d).1 ++ rest) ≡ Ok ((application_parts d).2, rest)
@@ -120,8 +107,7 @@ icc-written bytes long f = grind (arith, common_steps, next-byte, named-as, icc_
 
 adobe-written : (bytes : List ℕ) → 11 < length bytes → begins_with bytes adobe_name ≡ true
     → adobe_name ++ (take 5 (drop 6 bytes) ++ get_or bytes 11 0 ∷ drop 12 bytes) ≡ bytes
-adobe-written bytes long f =
-    grind (arith, common_steps, next-byte, drop-drop, take-append-drop, named-as)
+adobe-written bytes long f = search (rules, next-byte, drop-drop, take-append-drop, named-as)
 
 either : {A : Type 0} (b : Bool) → (b ≡ true → A) → (b ≡ false → A) → A
 either true if_true if_false = if_true refl

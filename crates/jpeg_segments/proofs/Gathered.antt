@@ -1,4 +1,5 @@
 -- Results that are gathered in a loop.
+use Rattle.std.proofs.Common.{rules}
 use Rattle.std.proofs.lemmas.Grind.{common_steps}
 use Rattle.std.proofs.Common.{◌≡◌, ◌≤◌, ◌<◌, ◌+◌, ◌∙◌, ℕ, suc, List, [], ◌∷◌, ◌++◌, Result, Ok, Err, refl, sym, ap}
 use Rattle.std.proofs.Common.{arith, drop, get_or, length}
@@ -65,8 +66,7 @@ gathers-err f xs i d e front h is g =
 pub gathers-refused : {A B : Type 0} (f : A → Result B Fault) (xs : List A) (i : ℕ) (d : A)
     (e : Error) (front : List B) → i < length xs → Names e (f (get_or xs i d))
     → Gathers f xs i front → Names e (gathered f xs)
-gathers-refused f xs i d e front h n g =
-    Names-through e (f (get_or xs i d)) (gathered f xs) (λ b is. gathers-err f xs i d b front h is g) n
+gathers-refused f xs i d e front h n g = search (rules, get_or, gathers-err)
 
 -- all of them
 pub gathers-all : {A B : Type 0} (f : A → Result B Fault) (xs : List A) (i : ℕ) (front : List B)

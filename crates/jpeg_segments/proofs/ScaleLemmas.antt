@@ -69,10 +69,7 @@ pub seen-more : (f : Component → Component) (i : ℕ) (old new : List Seen) (x
     → component_in x ≡ f (component_in (get_or new i none))
     → map component_in (set new i x)
     ≡ map f (take (i + 1) (map component_in old)) ++ drop (i + 1) (map component_in old)
-seen-more f i old new x e h same made =
-    map-set component_in new i x ∙ ap (set (map component_in new) i) made
-    ∙ map_over_more f (map component_in old) (map component_in new) i _
-    (omega (arith, length-map old component_in)) e (sym (get_or-map component_in new i none _ (omega arith)))
+seen-more f i old new x e h same made = search (rules, map-set, map_over_more, length-map, get_or-map)
 
 -- ---- scales
 
