@@ -2,10 +2,11 @@
 use Rattle.std.proofs.lemmas.Grind.{common_steps}
 use Rattle.std.proofs.Common.{rules}
 use Rattle.std.proofs.Common.{◌≡◌, ◌≢◌, ℕ, zero, suc, ◌+◌, ◌-◌, ◌*◌, ◌^◌, ◌<◌, ◌≤◌, Bool, List, [], ◌∷◌, ◌++◌, map}
-use Rattle.std.proofs.Common.{length, take, drop, refl, sym, ap, ◌∙◌, subst, arith, Ok, ℤ, pos, append_assoc, append-nil, length-append}
+use Rattle.std.proofs.Common.{length, take, drop, refl, sym, ap, ap₂, ◌∙◌, subst, arith, Ok, ℤ, pos, append_assoc, append-nil, length-append}
 use Rattle.std.proofs.lemmas.List.{take-replicate, drop-replicate, length-replicate}
 use Rattle.jpeg_bits.specs.Entropy.{Text}
 use Rattle.jpeg_bits.specs.Codes.{Table, IsTable}
+use Rattle.jpeg_bits.specs.Readers.{gives, ◌>>=◌}
 use Rattle.jpeg_bits.specs.Bands.{Band, before_more, wrapped, token_from, after_token, first_ac}
 use Rattle.jpeg_bits.specs.Written.{IsCoded}
 use Rattle.jpeg_bits.specs.declared.tokens.Token.{Token}
@@ -18,7 +19,7 @@ use Rattle.jpeg_evidence.specs.Strict.{alone, IsCut, IsNumber, IsValue, Follows,
 use Rattle.jpeg_evidence.specs.Strict.{IsTokenWithin, room_after, TokensFit, HasByteSymbols, IsBand}
 use Rattle.jpeg_evidence.specs.Strict.Follows.{value, sixteen, ended}
 use Rattle.jpeg_evidence.specs.Strict.TokensFit.{filled, token}
-use Rattle.jpeg_evidence.proofs.TakenBits.{after-read, gives-taken, map-taken, cut-map, cut-both, Both}
+use Rattle.jpeg_evidence.proofs.TakenBits.{after-read, gives-taken, map-taken, cut-map, cut-then, After}
 use Rattle.jpeg_evidence.proofs.TakenTokens.{token_taken}
 
 of-value : (r s k : ℕ) (u : ℤ) (own : List Bool) → Follows r s (Value k u) own → (r ≡ k) × (0 < s) × IsValue s u own
@@ -86,7 +87,7 @@ pub record IsLong (table : Table) (al room : ℕ) (y : Band) (own : List Bool) :
 
 -- what is written for a token and for what was read after it
 abbrev IsAfter : Table → ℕ → ℕ → Token → Band → List Bool → Type 0
-IsAfter table al room x y back = (own : List Bool) → IsToken table x own → IsLong table al room y (own ++ back)
+IsAfter table al room x y = After (IsToken table x) (IsLong table al room y)
 
 step : (table : Table) (al n room : ℕ) (x : Token) (more : List Bool) (y : Band) (t : Text) →
     HasByteSymbols table
@@ -96,62 +97,43 @@ step : (table : Table) (al n room : ℕ) (x : Token) (more : List Bool) (y : Ban
     → after_token al (first_ac table al n) (no_numbers (suc room)) x (alone more) ≡ Ok (y, t)
     → IsCut (IsAfter table al (suc room) x y) more t
 step table al n room (Value r u) more y t bytes fits others e =
-    let following = no_numbers (suc room) in
-    let small = fits.0 in
-    let front : take r following ≡ no_numbers r = take-replicate r (suc room) (pos 0) (omega
-    (arith, small)) in
-    let back : drop (r + 1) following ≡ no_numbers (suc room - (r + 1)) = drop-replicate (r + 1)
-    (suc room) (pos 0) in
-    map-taken (first_ac table al n (drop (r + 1) following))
-    (λ (m : Band). before_more (take r following ++ wrapped (scaled al u) ∷ []) m) (IsLong table al
-    (suc room - (r + 1)))
-    (IsAfter table al (suc room) (Value r u)) more t y
-    (λ z j. others z (ap (λ (l : List ℤ). first_ac table al n l (alone more)) (sym back) ∙ j))
-    (grind (arith, value-written, length-append, length-replicate)) e
+    let low : r ≤ suc room = (let small = fits.0 in omega (arith, small)) in
+    map-taken (first_ac table al n (no_numbers (suc room - (r + 1))))
+    (λ (m : Band). before_more (no_numbers r ++ wrapped (scaled al u) ∷ []) m) (IsLong table al (suc room - (r + 1)))
+    (IsAfter table al (suc room) (Value r u)) others
+    (grind (arith, value-written, length-append, length-replicate))
+    (rw (take-replicate r (suc room) (pos 0) low, drop-replicate (r + 1) (suc room) (pos 0)) at e)
 step table al n room Sixteen more y t bytes fits others e =
-    let following = no_numbers (suc room) in
-    let front : take 16 following ≡ no_numbers 16 = take-replicate 16 (suc room) (pos 0) fits in
-    let back : drop 16 following ≡ no_numbers (suc room - 16) = drop-replicate 16 (suc room) (pos
-    0) in
-    map-taken (first_ac table al n (drop 16 following)) (λ (m : Band). before_more (take 16
-    following) m)
-    (IsLong table al (suc room - 16)) (IsAfter table al (suc room) Sixteen) more t y
-    (λ z j. others z (ap (λ (l : List ℤ). first_ac table al n l (alone more)) (sym back) ∙ j))
-    (λ z own b first w. subst (λ (l : List ℤ). IsLong table al (suc room) (before_more l z) (first ++ own)) (sym front)
-    (search (rules, sixteen-written, length-append, length-replicate))) e
+    map-taken (first_ac table al n (no_numbers (suc room - 16))) (λ (m : Band). before_more (no_numbers 16) m)
+    (IsLong table al (suc room - 16)) (IsAfter table al (suc room) Sixteen) others
+    (λ z own b first w. search (rules, sixteen-written, length-append, length-replicate))
+    (ap₂ (λ (f d : List ℤ). (first_ac table al n d >>= (λ (m : Band). gives (before_more f m))) (alone more))
+    (sym (take-replicate 16 (suc room) (pos 0) fits)) (sym (drop-replicate 16 (suc room) (pos 0))) ∙ e)
 step table al n room (Rest run) more y t bytes fits others e = grind (arith, gives-taken, append-nil, rest-written, length-replicate)
 step table al n room Overlong more y t bytes fits others e = absurd fits
 
-pub after-small : (k n : ℕ) (x : Token) → suc k ≤ suc n → room_after (suc k) x ≤ n
+after-small : (k n : ℕ) (x : Token) → suc k ≤ suc n → room_after (suc k) x ≤ n
 after-small k n x h = grind arith
 
 -- The bits that were taken of a band whose tokens fit are written for it, and it has all its places.
-pub long-taken : (table : Table) (al n room : ℕ) (bits : List Bool) (y : Band) (t : Text) → IsTable table
+pub long-taken : {table : Table} {al n room : ℕ} {bits : List Bool} {y : Band} {t : Text} → IsTable table
     → HasByteSymbols table → TokensFit table al room bits → room ≤ n
     → first_ac table al n (no_numbers room) (alone bits) ≡ Ok (y, t) → IsCut (IsLong table al room y) bits t
 unfolding first_ac
-long-taken table al n room bits y t is bytes (filled bits') le e =
-    gives-taken (IsLong table al 0) ([], 0) y bits t
+long-taken {table} {al} is bytes (filled bits') le e =
+    gives-taken (IsLong table al 0)
     (record { band = record { numbers = []; are = refl; written = full }; long = refl }) e
-long-taken table al zero room bits y t is bytes (token k x bits' more h f w) le e = absurd (omega arith)
-long-taken table al (suc n) room bits y t is bytes (token k x bits' more h f w) le e =
-    let following = no_numbers (suc k) in
-    let long : length following ≡ suc k = length-replicate (suc k) (pos 0) in
-    let after = after_token al (first_ac table al n) following in
-    let rest = after-read (token_from table (length following)) after x (alone bits) (alone more) t
-    y
-    (ap (λ (j : ℕ). token_from table j (alone bits)) long ∙ h) e in
-    let small : room_after (suc k) x ≤ n = after-small k n x le in
-    let d = step table al n k x more y t bytes f
-    (λ z j. long-taken table al n (room_after (suc k) x) more z t is bytes w small j) rest in
-    cut-map (Both (IsToken table x) (IsAfter table al (suc k) x y)) (IsLong table al (suc k) y) bits t
-    (λ own b. subst (λ (l : List Bool). IsLong table al (suc k) y l) b.whole (b.second b.front b.first))
-    (cut-both (IsToken table x) (IsAfter table al (suc k) x y) bits more t (token_taken table (suc k) bits x (alone more) is h) d)
+long-taken {n = zero} is bytes (token k x bits' more h f w) le e = absurd (omega arith)
+long-taken {table} {al} {n = suc n} {y = y} {t = t} is bytes (token k x bits' more h f w) le e =
+    let long : length (no_numbers (suc k)) ≡ suc k = length-replicate (suc k) (pos 0) in
+    let rest = after-read (token_from table (suc k)) (after_token al (first_ac table al n) (no_numbers (suc k))) h
+    (rw long at e) in
+    cut-then (token_taken (suc k) is h)
+    (step table al n k x more y t bytes f (λ z. long-taken {n = n} is bytes w (after-small k n x le)) rest)
 
 -- The bits that were taken of a band whose tokens fit are written for it.
 pub band_taken : (table : Table) (al n room : ℕ) (bits : List Bool) (y : Band) (t : Text) → IsTable table
     → HasByteSymbols table → TokensFit table al room bits → room ≤ n
     → first_ac table al n (no_numbers room) (alone bits) ≡ Ok (y, t) → IsCut (IsBand table al y.0 y.1) bits t
 band_taken table al n room bits y t is bytes fits le e =
-    cut-map (IsLong table al room y) (IsBand table al y.0 y.1) bits t (λ own b. b.band)
-    (long-taken table al n room bits y t is bytes fits le e)
+    cut-map {P = IsLong table al room y} (λ own b. b.band) (long-taken is bytes fits le e)

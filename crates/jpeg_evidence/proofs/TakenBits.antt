@@ -56,74 +56,65 @@ bits-of-length n bs h = grind (arith, bits-back, number-below)
 -- ---- what was read
 
 -- what follows what was read
-pub after-read : {A B : Type 0} (p : Reads A) (f : A → Reads B) (a : A) (s u t : Text) (y : B) → p s ≡ Ok (a, u)
+pub after-read : {A B : Type 0} {s u t : Text} {y : B} {a : A} (p : Reads A) (f : A → Reads B) → p s ≡ Ok (a, u)
     → (p >>= f) s ≡ Ok (y, t) → f a u ≡ Ok (y, t)
-after-read {A} {B} p f a s u t y h e = rw h at e
+after-read p f h e = rw h at e
 
-pub map-parts : {A B : Type 0} (p : Reads A) (f : A → B) (s t : Text) (y : B)
+pub map-parts : {A B : Type 0} {s t : Text} {y : B} (p : Reads A) (f : A → B)
     → (p >>= (λ a. gives (f a))) s ≡ Ok (y, t) → (a : A) × (p s ≡ Ok (a, t)) × (f a ≡ y)
-map-parts {A} {B} p f s t y e = grind (arith, bind-parts, ok-parts)
+map-parts p f e = grind (arith, bind-parts, ok-parts)
 
--- Bits in two parts, of which P and Q hold.
-pub record Both (P Q : List Bool → Type 0) (own : List Bool) : Type 0 where
-  pub front : List Bool
-  pub back : List Bool
-  pub whole : front ++ back ≡ own
-  pub first : P front
-  pub second : Q back
-
-pub cut-map : (P Q : List Bool → Type 0) (bits : List Bool) (t : Text) → ((own : List Bool) → P own → Q own)
+pub cut-map : {P Q : List Bool → Type 0} {bits : List Bool} {t : Text} → ((own : List Bool) → P own → Q own)
     → IsCut P bits t → IsCut Q bits t
-cut-map P Q bits t f c = record { own = c.own; parts = c.parts; rest = c.rest; holds = f c.own c.holds }
+cut-map f c = record { own = c.own; parts = c.parts; rest = c.rest; holds = f c.own c.holds }
 
-pub cut-none : (P : List Bool → Type 0) (bits : List Bool) (t : Text) → alone bits ≡ t → P [] → IsCut P bits t
-cut-none P bits t e h = grind arith
+-- what Q says of bits after those of which P holds
+abbrev pub After : (List Bool → Type 0) → (List Bool → Type 0) → List Bool → Type 0
+After P Q back = (own : List Bool) → P own → Q (own ++ back)
 
-pub cut-both : (P Q : List Bool → Type 0) (bits more : List Bool) (t : Text) → IsCut P bits (alone more)
-    → IsCut Q more t → IsCut (Both P Q) bits t
-cut-both P Q bits more t c d = record {
+pub cut-then : {P Q : List Bool → Type 0} {bits more : List Bool} {t : Text} → IsCut P bits (alone more)
+    → IsCut (After P Q) more t → IsCut Q bits t
+cut-then {t = t} c d = record {
   own = c.own ++ d.own;
   parts = c.parts ∙ ap (λ (l : List Bool). c.own ++ l) d.parts ∙ sym (append_assoc c.own d.own t.bits);
   rest = d.rest;
-  holds = record { front = c.own; back = d.own; whole = refl; first = c.holds; second = d.holds };
+  holds = d.holds c.own c.holds;
 }
 
 -- what was read in two steps, each of the bits that the other leaves
-pub bind-cut : {A B : Type 0} (p : Reads A) (f : A → Reads B) (bits : List Bool) (t : Text) (y : B)
-    (P Q : A → List Bool → Type 0) → (p >>= f) (alone bits) ≡ Ok (y, t)
+pub bind-cut : {A B : Type 0} {bits : List Bool} {t : Text} {y : B} {Q : List Bool → Type 0} (p : Reads A)
+    (f : A → Reads B) (P : A → List Bool → Type 0)
     → ((a : A) (u : Text) → p (alone bits) ≡ Ok (a, u) → IsCut (P a) bits u)
     → ((a : A) (more : List Bool) → p (alone bits) ≡ Ok (a, alone more) → f a (alone more) ≡ Ok (y, t)
-    → IsCut (Q a) more t)
-    → (a : A) × IsCut (Both (P a) (Q a)) bits t
-bind-cut {A} {B} p f bits t y P Q e first second =
-    let r = bind-parts p f (alone bits) t y e in
-    let a = r.0 in
-    let u = r.1 in
-    let c = first a u r.2 in
-    grind (arith, cut-both)
+    → IsCut (After (P a) Q) more t) → (p >>= f) (alone bits) ≡ Ok (y, t) → IsCut Q bits t
+bind-cut p f P first second e =
+    let r = bind-parts p f _ _ _ e in
+    let c = first r.0 r.1 r.2 in
+    cut-then (rw c.rest at c) (second r.0 r.1.bits (rw c.rest at r.2) (rw c.rest at r.3))
 
 -- what is told with no bits
-pub gives-taken : {A : Type 0} (P : A → List Bool → Type 0) (x y : A) (bits : List Bool) (t : Text) → P x []
+pub gives-taken : {A : Type 0} {x y : A} {bits : List Bool} {t : Text} (P : A → List Bool → Type 0) → P x []
     → gives x (alone bits) ≡ Ok (y, t) → IsCut (P y) bits t
-gives-taken {A} P x y bits t h e = grind (arith, common_steps, ok-parts, cut-none)
+gives-taken P h e = grind (arith, common_steps, ok-parts)
 
 -- by one of two readers
-pub if-read : {A C : Type 0} (b : Bool) (p q : Reads A) (s : Text) (o : Result (A × Text) Fault)
+pub if-read : {A C : Type 0} {s : Text} {o : Result (A × Text) Fault} (b : Bool) (p q : Reads A)
     → (if b then p else q) s ≡ o → (b ≡ true → p s ≡ o → C) → (b ≡ false → q s ≡ o → C) → C
-if-read true p q s o e f g = f refl e
-if-read false p q s o e f g = g refl e
+if-read true p q e f g = f refl e
+if-read false p q e f g = g refl e
 
 -- what is told of what was read
-pub map-taken : {A B : Type 0} (p : Reads A) (f : A → B) (P : A → List Bool → Type 0) (Q : B → List Bool → Type 0)
-    (bits : List Bool) (t : Text) (y : B) → ((a : A) → p (alone bits) ≡ Ok (a, t) → IsCut (P a) bits t)
+pub map-taken : {A B : Type 0} {bits : List Bool} {t : Text} {y : B} (p : Reads A) (f : A → B)
+    (P : A → List Bool → Type 0) (Q : B → List Bool → Type 0)
+    → ((a : A) → p (alone bits) ≡ Ok (a, t) → IsCut (P a) bits t)
     → ((a : A) (own : List Bool) → P a own → Q (f a) own)
     → (p >>= (λ a. gives (f a))) (alone bits) ≡ Ok (y, t) → IsCut (Q y) bits t
-map-taken {A} {B} p f P Q bits t y taken told e =
-    let m = map-parts p f (alone bits) t y e in
-    cut-map (P m.0) (Q y) bits t (λ own w. subst (λ (v : B). Q v own) m.2 (told m.0 own w)) (taken m.0 m.1)
+map-taken p f P Q taken told e =
+    let m = map-parts p f e in
+    rw m.2 at (cut-map (told m.0) (taken m.0 m.1))
 
 -- the first n bits, of at least so many
-pub cut-front : (P : List Bool → Type 0) (n : ℕ) (bits : List Bool) (t : Text) → advance n (alone bits) ≡ t
+cut-front : (P : List Bool → Type 0) (n : ℕ) (bits : List Bool) (t : Text) → advance n (alone bits) ≡ t
     → P (take n bits) → IsCut P bits t
 cut-front P n bits t e h = grind (arith, drop-nil, take-append-drop)
 
@@ -134,10 +125,10 @@ front-number n bits le = bits-of-length n (take n bits) (omega (arith, length-ta
 -- ---- numbers
 
 -- The bits that were taken of a number are its bits.
-pub number_taken : (n : ℕ) (bits : List Bool) (v : ℕ) (t : Text) → bits_from n (alone bits) ≡ Ok (v, t)
+pub number_taken : {n v : ℕ} {bits : List Bool} {t : Text} → bits_from n (alone bits) ≡ Ok (v, t)
     → IsCut (IsNumber n v) bits t
 unfolding bits_from
-number_taken n bits v t e = go (leb n (length bits)) refl e
+number_taken {n} {v} {bits} {t} e = go (leb n (length bits)) refl e
   where
     go : (b : Bool) → leb n (length bits) ≡ b
         → outcomes.◌>>=◌ {B = ℕ × Text} (cond b (Ok tt) (Err End)) (λ (x : Unit {0}).
@@ -154,13 +145,8 @@ number_taken n bits v t e = go (leb n (length bits)) refl e
 
 -- ---- codes
 
-some-or : {A : Type 0} → A → Option A → A
-some-or d None = d
-some-or d (Some x) = x
-
 some-is : {A : Type 0} (a b : A) → ◌≡◌ {A = Option A} (Some a) (Some b) → a ≡ b
-unfolding some-or
-some-is {A} a b e = ap (some-or a) e
+some-is a b e = cc
 
 none-is : {A : Type 0} (a : A) → ◌≡◌ {A = Option A} None (Some a) → ⊥
 none-is a e = cc
@@ -177,10 +163,10 @@ unfolding code_in begins
 code-index lens bits c e = grind (arith, none-is, some-is, test-found, eqb-true)
 
 -- The bits that were taken of a code are those of a code for its symbol.
-pub code-taken : (table : Table) (bits : List Bool) (c : ℕ × ℕ) (t : Text) → IsTable table
+pub code-taken : {table : Table} {bits : List Bool} {c : ℕ × ℕ} {t : Text} → IsTable table
     → code_from table (alone bits) ≡ Ok (c, t) → IsCut (IsCoded table c.1) bits t
 unfolding code_from
-code-taken table bits c t is e = go (code_in (code_lengths table.counts) (next_16 bits)) refl e
+code-taken {table} {bits} {c} {t} is e = go (code_in (code_lengths table.counts) (next_16 bits)) refl e
   where
     kept : (x : ℕ × ℕ) → code_in (code_lengths table.counts) (next_16 bits) ≡ Some x → (b : Bool)
         → leb x.1 (length bits) ≡ b
@@ -205,6 +191,6 @@ code-taken table bits c t is e = go (code_in (code_lengths table.counts) (next_1
     go (Some x) h k = kept x h (leb x.1 (length bits)) refl k
 
 -- The same of a symbol.
-pub symbol_taken : (table : Table) (bits : List Bool) (symbol : ℕ) (t : Text) → IsTable table
+pub symbol_taken : {table : Table} {bits : List Bool} {symbol : ℕ} {t : Text} → IsTable table
     → symbol_from table (alone bits) ≡ Ok (symbol, t) → IsCut (IsCoded table symbol) bits t
-symbol_taken table bits symbol t is e = grind (arith, map-parts, symbol-code, code-taken)
+symbol_taken is e = grind (arith, map-parts, symbol-code, code-taken)
