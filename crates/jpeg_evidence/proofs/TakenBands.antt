@@ -1,8 +1,8 @@
 -- The bits that were taken of a band in its first scan are those that are written for it.
 use Rattle.std.proofs.lemmas.Grind.{common_steps}
-use Rattle.std.proofs.Common.{rules}
-use Rattle.std.proofs.Common.{◌≡◌, ◌≢◌, ℕ, zero, suc, ◌+◌, ◌-◌, ◌*◌, ◌^◌, ◌<◌, ◌≤◌, Bool, List, [], ◌∷◌, ◌++◌, map}
-use Rattle.std.proofs.Common.{length, take, drop, refl, sym, ap, ap₂, ◌∙◌, subst, arith, Ok, ℤ, pos, append_assoc, append-nil, length-append}
+use Rattle.std.proofs.Common.{rules, ◌≡◌, ◌≢◌, ℕ, zero, suc, ◌+◌, ◌-◌, ◌*◌, ◌^◌, ◌<◌, ◌≤◌, Bool, List, [], ◌∷◌}
+use Rattle.std.proofs.Common.{◌++◌, map, length, refl, sym, ap, ap₂, ◌∙◌, subst, arith, Ok, ℤ, pos, append_assoc}
+use Rattle.std.proofs.Common.{append-nil, length-append}
 use Rattle.std.proofs.lemmas.List.{take-replicate, drop-replicate, length-replicate}
 use Rattle.jpeg_bits.specs.Entropy.{Text}
 use Rattle.jpeg_bits.specs.Codes.{Table, IsTable}
@@ -15,8 +15,8 @@ use Rattle.jpeg_streams.specs.WrittenData.{no_numbers, WritesBand}
 use Rattle.jpeg_streams.specs.WrittenData.WritesBand.{full, value as a_value, sixteen as a_sixteen, ended as an_end}
 use Rattle.jpeg_streams.proofs.SentBlocks.{scaled, InRange}
 use Rattle.jpeg_streams.proofs.WrittenBands.{map-no_numbers, scaled-fits}
-use Rattle.jpeg_evidence.specs.Strict.{alone, IsCut, IsNumber, IsValue, Follows, IsToken}
-use Rattle.jpeg_evidence.specs.Strict.{IsTokenWithin, room_after, TokensFit, HasByteSymbols, IsBand}
+use Rattle.jpeg_evidence.specs.Strict.{alone, IsCut, IsNumber, IsValue, Follows, IsToken, IsTokenWithin, room_after}
+use Rattle.jpeg_evidence.specs.Strict.{TokensFit, HasByteSymbols, IsBand}
 use Rattle.jpeg_evidence.specs.Strict.Follows.{value, sixteen, ended}
 use Rattle.jpeg_evidence.specs.Strict.TokensFit.{filled, token}
 use Rattle.jpeg_evidence.proofs.TakenBits.{after-read, gives-taken, map-taken, cut-map, cut-then, After}

@@ -1,10 +1,9 @@
 -- The bits that were taken are those of what was read of them.
 use Rattle.std.proofs.lemmas.Grind.{common_steps}
-use Rattle.std.proofs.Common.{rules, ◌≡◌, ℕ, zero, suc, ◌+◌, ◌*◌, ◌^◌, ◌<◌, ◌≤◌, Bool, true}
-use Rattle.std.proofs.Common.{false, cond, List, [], ◌∷◌, ◌++◌, length, take, replicate, refl, sym}
-use Rattle.std.proofs.Common.{ap, ◌∙◌, subst, arith, take-append-drop, length-take, pow-suc}
-use Rattle.std.proofs.Common.{mul_assoc, Ok, Err, Result, if◌then◌else◌, slice_index, Option, Some}
-use Rattle.std.proofs.Common.{None, leb, append_assoc}
+use Rattle.std.proofs.Common.{rules, ◌≡◌, ℕ, zero, suc, ◌+◌, ◌*◌, ◌^◌, ◌<◌, ◌≤◌, Bool, true, false, cond, List, []}
+use Rattle.std.proofs.Common.{◌∷◌, ◌++◌, length, take, replicate, refl, sym, ap, ◌∙◌, arith, take-append-drop}
+use Rattle.std.proofs.Common.{length-take, pow-suc, mul_assoc, Ok, Err, Result, if◌then◌else◌, slice_index, Option}
+use Rattle.std.proofs.Common.{Some, None, leb, append_assoc}
 use lib.Arith.{digits_div}
 use Rattle.std.proofs.Math.Nat.{add-mul, zero-mul, one-mul}
 use Rattle.std.proofs.lemmas.Bool.{leb-true, eqb-true}
@@ -15,8 +14,8 @@ use Rattle.jpeg_bits.specs.Reading as outcomes
 use Rattle.jpeg_bits.specs.Entropy.{bits_from, number_of, Text, advance}
 use Rattle.jpeg_bits.specs.Readers.{Reads, gives, ◌>>=◌}
 use Rattle.jpeg_bits.proofs.CodeLemmas.{first_from}
-use Rattle.jpeg_bits.specs.Codes.{Table, IsTable, code_from, code_in, code_value, begins, code_lengths}
-use Rattle.jpeg_bits.specs.Codes.{next_16, code_by, symbol_from}
+use Rattle.jpeg_bits.specs.Codes.{Table, IsTable, code_from, code_in, code_value, begins, code_lengths, next_16}
+use Rattle.jpeg_bits.specs.Codes.{code_by, symbol_from}
 use Rattle.jpeg_bits.proofs.BufferedBits.{if_buffered}
 use Rattle.jpeg_bits.specs.Written.{low_bits, IsCoded}
 use Rattle.jpeg_bits.proofs.Tables.{rising-at, all-rising, symbol-code}

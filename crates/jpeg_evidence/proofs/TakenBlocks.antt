@@ -1,30 +1,29 @@
 -- The bits that were taken of a block are those that are written for it.
-use Rattle.std.proofs.Common.{length-take}
-use Rattle.std.proofs.Common.{rules, ◌≡◌, ℕ, zero, suc, ◌+◌, ◌-◌, ◌*◌, ◌^◌, ◌<◌, Bool, true, false}
-use Rattle.std.proofs.Common.{List, [], ◌∷◌, ◌++◌, map, length, refl, sym, ap, ◌∙◌, subst, arith, Ok, ℤ}
-use Rattle.std.proofs.Common.{pos, ◌+ℤ◌, ◌-ℤ◌, unsigned_abs, le_refl, append-nil, ap₂, negsuc}
+use Rattle.std.proofs.Common.{length-take, rules, ◌≡◌, ℕ, zero, suc, ◌+◌, ◌-◌, ◌*◌, ◌^◌, ◌<◌, Bool, true, false}
+use Rattle.std.proofs.Common.{List, [], ◌∷◌, ◌++◌, map, length, refl, sym, ap, ◌∙◌, subst, arith, Ok, ℤ, pos, ◌+ℤ◌}
+use Rattle.std.proofs.Common.{◌-ℤ◌, unsigned_abs, le_refl, append-nil, ap₂, negsuc}
 use Rattle.std.proofs.lemmas.Bool.{eqb-true, eqb-false}
 use Rattle.std.proofs.lemmas.Int.{ints, int_wrap_fits}
 use Rattle.std.proofs.lemmas.List.{length-map, length-replicate}
 use Rattle.jpeg_bits.specs.Entropy.{Text, bits_from}
 use Rattle.jpeg_bits.specs.Codes.{Table, IsTable}
-use Rattle.jpeg_bits.specs.Readers.{Reads, gives, ◌>>=◌}
+use Rattle.jpeg_bits.specs.Readers.{gives, ◌>>=◌}
 use Rattle.jpeg_bits.specs.Bands.{Band, difference, first_dc, wrapped, first_ac}
 use Rattle.jpeg_bits.specs.Refinement.{corrected, refined_ac}
 use Rattle.jpeg_bits.specs.Passes.{Block, Pass, Via, band_of, with_band, or_bit, dc_part, band_part, block_from}
 use Rattle.jpeg_streams.specs.Levels.{floor_at, toward_zero}
-use Rattle.jpeg_streams.specs.WrittenData.{no_numbers, WritesAc, WritesBand, WritesDc, WritesDifference}
-use Rattle.jpeg_streams.specs.WrittenData.{NoneNew, corrections, low_bit, WritesRefinement}
+use Rattle.jpeg_streams.specs.WrittenData.{no_numbers, WritesAc, WritesBand, WritesDc, WritesDifference, NoneNew}
+use Rattle.jpeg_streams.specs.WrittenData.{corrections, low_bit, WritesRefinement}
 use Rattle.jpeg_streams.specs.WrittenData.WritesDc.{other_band, whole as a_whole, one_bit}
-use Rattle.jpeg_streams.specs.WrittenData.WritesAc.{no_band, first as a_first, first_run}
-use Rattle.jpeg_streams.specs.WrittenData.WritesAc.{again as a_refinement, again_run}
+use Rattle.jpeg_streams.specs.WrittenData.WritesAc.{no_band, first as a_first, first_run, again as a_refinement}
+use Rattle.jpeg_streams.specs.WrittenData.WritesAc.{again_run}
 use Rattle.jpeg_streams.proofs.SentBlocks.{scaled, InRange, dc_kept, floor_half}
 use Rattle.jpeg_streams.proofs.WrittenBands.{map-no_numbers, scaled-fits, range-below, mag-le}
 use Rattle.jpeg_streams.proofs.CutLevels.{band-map}
-use Rattle.jpeg_evidence.specs.Strict.{alone, IsCut, HasByteSymbols, TokensFit, IsBlock, BlockFits}
-use Rattle.jpeg_evidence.specs.Strict.{HasTables, IsNumber, PiecesFit}
-use Rattle.jpeg_evidence.proofs.TakenBits.{bind-cut, gives-taken, map-parts, map-taken, cut-map, After}
-use Rattle.jpeg_evidence.proofs.TakenBits.{if-read, number_taken}
+use Rattle.jpeg_evidence.specs.Strict.{alone, IsCut, HasByteSymbols, TokensFit, IsBlock, BlockFits, HasTables}
+use Rattle.jpeg_evidence.specs.Strict.{IsNumber, PiecesFit}
+use Rattle.jpeg_evidence.proofs.TakenBits.{bind-cut, gives-taken, map-parts, map-taken, cut-map, After, if-read}
+use Rattle.jpeg_evidence.proofs.TakenBits.{number_taken}
 use Rattle.jpeg_evidence.proofs.TakenRefinements.{IsKept, IsCorrected, IsRefined, alike-long, one-bit}
 use Rattle.jpeg_evidence.proofs.TakenRefinements.{corrected-taken, refined-taken}
 use Rattle.jpeg_evidence.proofs.TakenValues.{difference_taken}

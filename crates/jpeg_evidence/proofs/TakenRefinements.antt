@@ -1,8 +1,7 @@
 -- The bits that were taken of a band in a refinement are those that are written for it.
-use Rattle.std.proofs.Common.{rules}
-use Rattle.std.proofs.Common.{◌≡◌, ◌≢◌, ℕ, zero, suc, ◌+◌, ◌-◌, ◌*◌, ◌/◌, ◌%◌, ◌^◌, ◌<◌, ◌≤◌}
-use Rattle.std.proofs.Common.{Bool, true, false, List, [], ◌∷◌, ◌++◌, map, length, take, drop, refl, sym, ap, ap₂, ◌∙◌}
-use Rattle.std.proofs.Common.{subst, arith, cond, if◌then◌else◌, Ok, eqb, ℤ, pos, negsuc, neg_ℤ, unsigned_abs}
+use Rattle.std.proofs.Common.{rules, ◌≡◌, ◌≢◌, ℕ, zero, suc, ◌+◌, ◌-◌, ◌*◌, ◌/◌, ◌%◌, ◌^◌, ◌<◌, ◌≤◌, Bool, true}
+use Rattle.std.proofs.Common.{false, List, [], ◌∷◌, ◌++◌, map, length, take, drop, refl, sym, ap, ap₂, ◌∙◌, subst}
+use Rattle.std.proofs.Common.{arith, cond, if◌then◌else◌, Ok, eqb, ℤ, pos, negsuc, neg_ℤ, unsigned_abs}
 use Rattle.std.proofs.Common.{append_assoc, append-nil, length-append, length-take, length-drop, leb}
 use Rattle.std.proofs.lemmas.Grind.{common_steps}
 use Rattle.std.proofs.lemmas.List.{length-map}
@@ -12,10 +11,9 @@ use Rattle.std.specs.List.{AllByRecursion}
 use Rattle.jpeg_bits.specs.Entropy.{Text, bits_from}
 use Rattle.jpeg_bits.specs.Codes.{Table, IsTable, symbol_from}
 use Rattle.jpeg_bits.specs.Readers.{Reads, each, gives, ◌>>=◌}
-use Rattle.jpeg_bits.specs.Pieces.{corrected_from}
 use Rattle.jpeg_bits.specs.Bands.{Band, before_more}
-use Rattle.jpeg_bits.specs.Refinement.{is_zero, bit_of, moved, corrected_by, corrected, through_zero}
-use Rattle.jpeg_bits.specs.Refinement.{new_number, with_last, refined_piece, refined_ac}
+use Rattle.jpeg_bits.specs.Refinement.{is_zero, bit_of, moved, corrected_by, corrected, through_zero, new_number}
+use Rattle.jpeg_bits.specs.Refinement.{with_last, refined_piece, refined_ac}
 use Rattle.jpeg_bits.specs.Written.{bit, low_bits, IsCoded}
 use Rattle.jpeg_streams.specs.Levels.{toward_zero}
 use Rattle.jpeg_streams.specs.WrittenData.{is_old, count_unknown, NoneNew, corrections, sign_bit, WritesRefinement}
@@ -23,15 +21,15 @@ use Rattle.jpeg_streams.specs.WrittenData.WritesRefinement.{refined, found, pass
 use Rattle.jpeg_streams.proofs.SentBlocks.{scaled}
 use Rattle.jpeg_bits.proofs.ReadIntervals.{all-take, all-drop}
 use Rattle.jpeg_streams.proofs.WrittenBands.{scaled-zero}
-use Rattle.jpeg_streams.proofs.WrittenRefinements.{nothing_or_old, times-two_power, spread, neg-times, even-bit, even-bit_neg}
-use Rattle.jpeg_streams.proofs.WrittenRefinements.{corrections-zero, corrections-old, corrections-end, count-zero, count-old}
-use Rattle.jpeg_streams.proofs.WrittenRefinements.{with_last-end, new-scaled, map-scaled, through-zero, through-other}
-use Rattle.jpeg_evidence.specs.Strict.{alone, IsCut, IsNumber, HasByteSymbols, count_zeros}
-use Rattle.jpeg_evidence.specs.Strict.{PiecesFit}
+use Rattle.jpeg_streams.proofs.WrittenRefinements.{nothing_or_old, times-two_power, spread, neg-times, even-bit}
+use Rattle.jpeg_streams.proofs.WrittenRefinements.{even-bit_neg, corrections-zero, corrections-old, corrections-end}
+use Rattle.jpeg_streams.proofs.WrittenRefinements.{count-zero, count-old, with_last-end, new-scaled, map-scaled}
+use Rattle.jpeg_streams.proofs.WrittenRefinements.{through-zero, through-other}
+use Rattle.jpeg_evidence.specs.Strict.{alone, IsCut, IsNumber, HasByteSymbols, count_zeros, PiecesFit}
 use Rattle.jpeg_evidence.specs.Strict.PiecesFit.{covered, new, zeros, last}
-use Rattle.jpeg_evidence.proofs.TakenBits.{number_taken, symbol_taken, after-read, bind-cut, map-taken}
-use Rattle.jpeg_evidence.proofs.TakenBits.{if-read, cut-then, gives-taken, After}
-use Rattle.jpeg_streams.proofs.TakenTexts.{bind-parts, ok-parts, no-error}
+use Rattle.jpeg_evidence.proofs.TakenBits.{number_taken, symbol_taken, after-read, bind-cut, map-taken, if-read}
+use Rattle.jpeg_evidence.proofs.TakenBits.{cut-then, gives-taken, After}
+use Rattle.jpeg_streams.proofs.TakenTexts.{ok-parts, no-error}
 use Rattle.jpeg_evidence.proofs.TakenBands.{run-small}
 
 -- ---- a place

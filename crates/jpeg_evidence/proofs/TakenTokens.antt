@@ -1,18 +1,18 @@
 -- The bits that were taken of a token are those that are written for it.
-use Rattle.std.proofs.Common.{◌≡◌, ℕ, zero, suc, ◌+◌, ◌-◌, ◌/◌, ◌%◌, ◌^◌, Bool, List, []}
-use Rattle.std.proofs.Common.{arith, Ok, leb, ltb, eqb, ℤ}
+use Rattle.std.proofs.Common.{◌≡◌, ℕ, zero, suc, ◌+◌, ◌-◌, ◌/◌, ◌%◌, ◌^◌, Bool, List, [], arith, Ok, leb, ltb, eqb}
+use Rattle.std.proofs.Common.{ℤ}
 use Rattle.std.proofs.lemmas.Bool.{ltb-false, eqb-true, eqb-false}
 use Rattle.jpeg_bits.specs.Entropy.{Text, bits_from}
-use Rattle.jpeg_bits.specs.Readers.{Reads, signed_from}
+use Rattle.jpeg_bits.specs.Readers.{signed_from}
 use Rattle.jpeg_bits.specs.Codes.{Table, IsTable, code_from}
 use Rattle.jpeg_bits.specs.Bands.{token_at, token_from}
 use Rattle.jpeg_bits.specs.Written.{IsCoded}
 use Rattle.jpeg_bits.specs.declared.tokens.Token.{Token}
-use Rattle.jpeg_bits.specs.declared.tokens.Token.TheVariants.{Value, Sixteen, Rest, Overlong}
+use Rattle.jpeg_bits.specs.declared.tokens.Token.TheVariants.{Value, Rest, Overlong}
 use Rattle.jpeg_evidence.specs.Strict.{alone, IsCut, IsNumber, IsValue, Follows, IsToken}
 use Rattle.jpeg_evidence.specs.Strict.Follows.{value, sixteen, ended, overlong}
-use Rattle.jpeg_evidence.proofs.TakenBits.{number_taken, code-taken, cut-map, gives-taken, map-taken}
-use Rattle.jpeg_evidence.proofs.TakenBits.{bind-cut, if-read}
+use Rattle.jpeg_evidence.proofs.TakenBits.{number_taken, code-taken, cut-map, gives-taken, map-taken, bind-cut}
+use Rattle.jpeg_evidence.proofs.TakenBits.{if-read}
 use Rattle.jpeg_evidence.proofs.TakenValues.{value_taken}
 
 -- a token without a value

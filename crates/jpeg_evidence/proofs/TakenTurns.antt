@@ -1,9 +1,8 @@
 -- The bits that were taken of the blocks of an interval are those that are written for them.
-use Rattle.std.proofs.Common.{arith, ◌≡◌, ℕ, Bool, List, [], ◌∷◌, ◌++◌, sym, ap, ◌∙◌, subst, Ok, ℤ}
-use Rattle.std.proofs.Common.{pos, get_or, set, append_assoc}
+use Rattle.std.proofs.Common.{arith, ◌≡◌, ℕ, Bool, List, [], ◌∷◌, ◌++◌, Ok, ℤ, pos, get_or, set, append_assoc}
 use Rattle.std.proofs.lemmas.Grind.{common_steps}
 use Rattle.jpeg_bits.specs.Entropy.{Text}
-use Rattle.jpeg_bits.specs.Readers.{Reads, gives, ◌>>=◌}
+use Rattle.jpeg_bits.specs.Readers.{gives, ◌>>=◌}
 use Rattle.jpeg_bits.specs.Passes.{Block, Pass, Via, block_from, blocks_of}
 use Rattle.jpeg_streams.specs.Levels.{numbers_at}
 use Rattle.jpeg_streams.specs.WrittenData.{WritesBlocks}

@@ -1,22 +1,21 @@
 -- The bits that were taken of a value and of a DC difference are those that are written for it.
-use Rattle.std.proofs.Common.{◌≡◌, ℕ, zero, suc, ◌-◌, ◌^◌, ◌<◌, Bool, List, []}
-use Rattle.std.proofs.Common.{refl, ap, ◌∙◌, arith, if◌then◌else◌, pow_pos, pow-suc, Ok, leb, nat_le}
-use Rattle.std.proofs.Common.{ℤ, pos, negsuc, ◌-ℤ◌}
+use Rattle.std.proofs.Common.{◌≡◌, ℕ, zero, suc, ◌-◌, ◌^◌, ◌<◌, Bool, List, [], refl, ap, ◌∙◌, arith, if◌then◌else◌}
+use Rattle.std.proofs.Common.{pow_pos, pow-suc, Ok, leb, nat_le, ℤ, pos, negsuc, ◌-ℤ◌}
 use Rattle.std.proofs.lemmas.Grind.{common_steps}
 use Rattle.std.proofs.lemmas.Int.{ints}
 use Rattle.std.proofs.lemmas.Bool.{cases_lt, ltb-true, ltb-false}
 use Rattle.std.proofs.Math.Pow.{pow_mono}
 use Rattle.jpeg_bits.specs.Reading.{Malformed}
 use Rattle.jpeg_bits.specs.Entropy.{Text, bits_from, extended}
-use Rattle.jpeg_bits.specs.Readers.{Reads, refused, signed_from}
+use Rattle.jpeg_bits.specs.Readers.{refused, signed_from}
 use Rattle.jpeg_bits.specs.Codes.{Table, IsTable, symbol_from}
 use Rattle.jpeg_bits.specs.Bands.{difference}
 use Rattle.jpeg_bits.proofs.Fast.{no-number}
 use Rattle.jpeg_bits.specs.Written.{low_bits, IsCoded, IsCategory, number_for}
 use Rattle.jpeg_streams.specs.WrittenData.{WritesDifference}
 use Rattle.jpeg_evidence.specs.Strict.{alone, IsCut, IsNumber, IsValue}
-use Rattle.jpeg_evidence.proofs.TakenBits.{number_taken, symbol_taken, cut-map, gives-taken, map-taken}
-use Rattle.jpeg_evidence.proofs.TakenBits.{bind-cut, if-read}
+use Rattle.jpeg_evidence.proofs.TakenBits.{number_taken, symbol_taken, cut-map, gives-taken, map-taken, bind-cut}
+use Rattle.jpeg_evidence.proofs.TakenBits.{if-read}
 use Rattle.jpeg_streams.proofs.TakenTexts.{no-error}
 
 -- ---- signed numbers
