@@ -89,8 +89,7 @@ after-first : (k : ℕ) (first blocks : List Block) (m n : Marker) (bytes rest :
     (others : List ℕ → Outcome (List Block × Option Marker))
     → with_others k others ((first, Some m), bytes) ≡ Ok ((blocks, Some n), rest)
     → AfterFirst k first blocks m n rest (others bytes)
-after-first k first blocks m n bytes rest others h =
-    grind (arith, common_steps, scan-parts, restart-named)
+after-first k first blocks m n bytes rest others h = search (rules, scan-parts, restart-named)
 
 some-is : (m n : Marker) → Some m ≡ Some n → m ≡ n
 some-is m n h = cc

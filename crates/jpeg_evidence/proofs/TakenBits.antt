@@ -46,8 +46,7 @@ number-below (false ∷ bs) = grind (arith, number-more, pow-suc, zero-mul, numb
 pub bits-back : (bs : List Bool) → low_bits (length bs) (number_of bs) ≡ bs
 unfolding low_bits
 bits-back [] = refl
-bits-back (b ∷ bs) =
-    grind (arith, common_steps, number-more, digits_div, number-below, low_bits-high, bits-back bs)
+bits-back (b ∷ bs) = search (rules, number-more, digits_div, number-below, low_bits-high, bits-back bs)
 
 pub bits-of-length : (n : ℕ) (bs : List Bool) → length bs ≡ n → (low_bits n (number_of bs) ≡ bs) × (number_of bs < 2 ^ n)
 bits-of-length n bs h = grind (arith, bits-back, number-below)
@@ -73,12 +72,7 @@ After P Q back = (own : List Bool) → P own → Q (own ++ back)
 
 pub cut-then : {P Q : List Bool → Type 0} {bits more : List Bool} {t : Text} → IsCut P bits (alone more)
     → IsCut (After P Q) more t → IsCut Q bits t
-cut-then {t = t} c d = record {
-  own = c.own ++ d.own;
-  parts = c.parts ∙ ap (λ (l : List Bool). c.own ++ l) d.parts ∙ sym (append_assoc c.own d.own t.bits);
-  rest = d.rest;
-  holds = d.holds c.own c.holds;
-}
+cut-then c d = search (rules, append_assoc)
 
 -- what was read in two steps, each of the bits that the other leaves
 pub bind-cut : {A B : Type 0} {bits : List Bool} {t : Text} {y : B} {Q : List Bool → Type 0} (p : Reads A)
@@ -152,8 +146,7 @@ none-is a e = cc
 
 test-found : (test : ℕ → Bool) (a n i : ℕ) → first_from test a n ≡ Some i → (test i ≡ true) × (i < a + n)
 test-found test a zero i e = absurd (none-is i e)
-test-found test a (suc n) i e =
-    grind (arith, common_steps, first_from, some-is, test-found test (a + 1) n i)
+test-found test a (suc n) i e = search (rules, first_from, some-is, test-found test (a + 1) n i)
 
 code-index : (lens : List ℕ) (bits : List Bool) (c : ℕ × ℕ) → code_in lens bits ≡ Some c
     → (c.0 < length lens) × (c.1 ≡ slice_index lens c.0)

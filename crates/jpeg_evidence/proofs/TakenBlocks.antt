@@ -46,26 +46,29 @@ DcFits p table predictor bits = (d : ℤ) (more : List Bool) → difference tabl
 fits-itself : (u : ℤ) → unsigned_abs u < 2 ^ 15 → wrapped u ≡ u
 fits-itself u h = search (rules, int_wrap_fits, mag-le)
 
+first-written : (p : Pass) (table : Table) (predictor d : ℤ) (own : List Bool) → p.ss ≡ 0 → p.is_first ≡ true
+    → InRange p.al (predictor +ℤ d) → WritesDifference table d own
+    → WritesRead p table predictor (wrapped (scaled p.al (wrapped (predictor +ℤ d))), wrapped (predictor +ℤ d)) own
+first-written p table predictor d own s f range w =
+    let u = predictor +ℤ d in
+    let same : u -ℤ predictor ≡ d = omega (arith, ints) in
+    rw (fits-itself u (range-below p.al u range), scaled-fits p.al u range, floor-scaled p.al u)
+    (a_whole u predictor own s f (rw same w))
+
 dc-first : (p : Pass) (table : Table) (predictor : ℤ) (bits : List Bool) (y : ℤ × ℤ) (t : Text) → p.ss ≡ 0
     → p.is_first ≡ true → IsTable table → DcFits p table predictor bits
     → first_dc table p.al predictor (alone bits) ≡ Ok (y, t) → IsCut (WritesRead p table predictor y) bits t
 unfolding first_dc
-dc-first p table predictor bits y t s f is fits e =
-    let al = p.al in
-    let r = map-parts (difference table)
-    (λ (d : ℤ). (wrapped (scaled al (wrapped (predictor +ℤ d))), wrapped (predictor +ℤ d))) e in
-    let d = r.0 in
-    let c : IsCut (WritesDifference table d) bits t = difference_taken is r.1 in
-    let u = predictor +ℤ d in
-    let range : InRange al u = record { within = fits d t.bits (r.1 ∙ ap (λ (u : Text). Ok (d, u)) c.rest) } in
-    let plain : wrapped u ≡ u = fits-itself u (range-below al u range) in
-    let next : u ≡ y.1 = sym plain ∙ ap (λ (v : ℤ × ℤ). v.1) r.2 in
-    let kept : scaled al u ≡ y.0
-    = sym (scaled-fits al u range) ∙ ap (λ (x : ℤ). wrapped (scaled al x)) (sym plain)
-    ∙ ap (λ (v : ℤ × ℤ). v.0) r.2 in
-    let number : u ≡ floor_at al y.0 = sym (floor-scaled al u) ∙ ap (floor_at al) kept in
-    let same : d ≡ u -ℤ predictor = omega (arith, ints) in
-    grind (arith, cut-map, a_whole)
+dc-first p table predictor bits y t s f is fits =
+    map-taken (difference table)
+    (λ (d : ℤ). (wrapped (scaled p.al (wrapped (predictor +ℤ d))), wrapped (predictor +ℤ d)))
+    (λ (d : ℤ) (own : List Bool). InRange p.al (predictor +ℤ d) × WritesDifference table d own)
+    (WritesRead p table predictor)
+    (λ d k.
+    let c : IsCut (WritesDifference table d) bits t = difference_taken is k in
+    let range = fits d t.bits (k ∙ ap (λ (u : Text). Ok (d, u)) c.rest) in
+    cut-map (λ own w. (record { within = range }, w)) c)
+    (λ d own w. first-written p table predictor d own s f w.0 w.1)
 
 -- a number of the level above, with its bit
 pushed : ℤ → ℕ → ℤ
@@ -156,10 +159,7 @@ written-run p table (u ∷ us) run f some none = again_run u us run f none
 old-read : (p : Pass) (table : Table) (zs numbers : List ℤ) (run : ℕ) (y : Band) (own : List Bool)
     → map (scaled p.al) numbers ≡ y.0 → length numbers ≡ length zs → WritesAc p table numbers run own y.1
     → IsRead p table zs run y own
-old-read p table zs numbers run y own are long w = record {
-  long = ap (λ (l : List ℤ). length l) (sym are) ∙ length-map numbers (scaled p.al) ∙ long;
-  written = rw (← are, all-toward) w;
-}
+old-read p table zs numbers run y own are long w = search (rules, length-map, all-toward)
 
 old-band : (p : Pass) (table : Table) (zs : List ℤ) (bits : List Bool) (y : Band) (t : Text) → p.is_first ≡ false
     → 0 < length zs → IsTable table → HasByteSymbols table → AllByRecursion (IsKept p.al) zs →

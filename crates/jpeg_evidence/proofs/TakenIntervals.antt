@@ -22,5 +22,4 @@ pub interval_of_taken : (p : Pass) (turns : List (Via × Block)) (bytes rest : L
     → BlocksFit p predictors_at_start 0 turns (text_at bytes).bits
     → blocks_of p predictors_at_start 0 turns (alone (text_at bytes).bits) ≡ Ok (blocks, left)
     → length left.bits ≤ 7 → IsInterval p (numbers_read p turns blocks) bytes m rest
-interval_of_taken p turns bytes rest m blocks left e fits h short =
-    search (rules, interval_taken, blocks_taken)
+interval_of_taken p turns bytes rest m blocks left e fits h short = search (rules, interval_taken, blocks_taken)

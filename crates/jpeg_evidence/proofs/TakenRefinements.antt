@@ -44,85 +44,54 @@ abs-neg x = grind arith
 zero-is : (z : ℤ) → is_zero z ≡ true → z ≡ pos 0
 zero-is x h = grind arith
 
-moved-sum : (al m : ℕ) → m * 2 ^ suc al + 2 ^ al ≡ (2 * m + 1) * 2 ^ al
-moved-sum al m = omega (arith, times-two_power m al, spread m 1 (2 ^ al), one-mul (2 ^ al))
+sum : (al m b : ℕ) → (2 * m + b) * 2 ^ al ≡ m * 2 ^ suc al + b * 2 ^ al
+sum al m b = omega (arith, times-two_power m al, spread m b (2 ^ al))
 
-kept-sum : (al m : ℕ) → m * 2 ^ suc al ≡ (2 * m + 0) * 2 ^ al
-kept-sum al m = omega (arith, times-two_power m al, spread m 0 (2 ^ al), zero-mul (2 ^ al))
-
--- the number of an old place after its correction bit
-record IsOld (al : ℕ) (w : ℤ) (b : ℕ) : Type 0 where
-  u : ℤ
-  are : scaled al u ≡ w
-  old : is_old u ≡ true
-  low : unsigned_abs u % 2 ≡ b
-
-old-pos : (al m b : ℕ) (w : ℤ) → 0 < m → b < 2 → pos ((2 * m + b) * 2 ^ al) ≡ w → IsOld al w b
-old-pos al m b w some small e = record {
-  u = pos (2 * m + b);
-  are = e;
-  old = le-leb 2 (2 * m + b) (omega arith);
-  low = omega arith;
-}
-
-old-neg : (al m b : ℕ) (w : ℤ) → 0 < m → b < 2 → neg_ℤ (pos ((2 * m + b) * 2 ^ al)) ≡ w → IsOld al w b
-old-neg al m b w some small e =
-    let size = abs-neg (2 * m + b) in
-    record {
-      u = neg_ℤ (pos (2 * m + b));
-      are = neg-times (2 * m + b) (2 ^ al) ∙ e;
-      old = ap (λ (x : ℕ). leb 2 x) size ∙ le-leb 2 (2 * m + b) (omega arith);
-      low = ap (λ (x : ℕ). x % 2) size ∙ (let r : (2 * m + b) % 2 ≡ b = omega arith in r);
-    }
-
--- a place that isn't zero is moved where its bit is set
-moves : (al : ℕ) (z w : ℤ) (s t : Text) → bit_of al z ≡ 0 → corrected_by al z 1 s ≡ Ok (w, t)
-    → (moved (2 ^ al) z ≡ w) × (s ≡ t)
-moves al z w s t even e = grind (arith, eq-eqb, ok-parts, no-error)
-
-corrected-pos : (al m k b : ℕ) (w : ℤ) (s t : Text) → 0 < m → m * 2 ^ suc al ≡ k → b < 2
-    → corrected_by al (pos k) b s ≡ Ok (w, t) → IsOld al w b × (s ≡ t)
-corrected-pos al m k zero w s t some h small e =
-    grind (arith, common_steps, ok-parts, old-pos, kept-sum)
-corrected-pos al m k (suc zero) w s t some h small e =
-    grind (arith, common_steps, moves, even-bit, moved-sum, old-pos)
-corrected-pos al m k b w s t some h small e = absurd (omega arith)
-
-corrected-neg : (al m k b : ℕ) (w : ℤ) (s t : Text) → 0 < m → m * 2 ^ suc al ≡ suc k → b < 2
-    → corrected_by al (negsuc k) b s ≡ Ok (w, t) → IsOld al w b × (s ≡ t)
-corrected-neg al m k zero w s t some h small e =
-    let q = ok-parts (negsuc k) w s t e in
-    (old-neg al m 0 w some small (ap (λ (x : ℕ). neg_ℤ (pos x)) (sym (kept-sum al m) ∙ h) ∙ q.0), q.1)
-corrected-neg al m k (suc zero) w s t some h small e =
-    let q = moves al (negsuc k) w s t (even-bit_neg al m k some h) e in
-    let sum : (2 * m + 1) * 2 ^ al ≡ suc (k + 2 ^ al) = omega (arith, moved-sum al m, h) in
-    (old-neg al m 1 w some small (ap (λ (x : ℕ). neg_ℤ (pos x)) sum ∙ q.0), q.1)
-corrected-neg al m k b w s t some h small e = absurd (omega arith)
-
-not-none : (al m k : ℕ) → m * 2 ^ suc al ≡ suc k → 0 < m
-not-none al x k h = grind (arith, zero-mul)
-
-old-index : (al : ℕ) (z : ℤ) (b : ℕ) (w : ℤ) (s t : Text) → IsKept al z → is_zero z ≡ false → b < 2
-    → corrected_by al z b s ≡ Ok (w, t) → IsOld al w b × (s ≡ t)
-old-index al (pos zero) b w s t kept old small e = cc
-old-index al (pos (suc k)) b w s t kept old small e =
-    let m = suc k / 2 ^ suc al in
-    let h : m * 2 ^ suc al ≡ suc k = ap unsigned_abs kept in
-    corrected-pos al m (suc k) b w s t (not-none al m k h) h small e
-old-index al (negsuc k) b w s t kept old small e =
-    let m = suc k / 2 ^ suc al in
-    let h : m * 2 ^ suc al ≡ suc k
-    = sym (abs-neg (m * 2 ^ suc al)) ∙ ap unsigned_abs (sym (neg-times m (2 ^ suc al)) ∙ kept) in
-    corrected-neg al m k b w s t (not-none al m k h) h small e
-
--- ---- places
-
--- the bits of an old place that was corrected
+-- the number of an old place after its correction, and the bit of that
 record HasBit (al : ℕ) (w : ℤ) (own : List Bool) : Type 0 where
   u : ℤ
   are : scaled al u ≡ w
   old : is_old u ≡ true
   low : bit (unsigned_abs u % 2) ∷ [] ≡ own
+
+has-bit : (al m b : ℕ) (u w : ℤ) → 0 < m → b < 2 → unsigned_abs u ≡ 2 * m + b → scaled al u ≡ w
+    → HasBit al w (bit b ∷ [])
+has-bit al m b u w some small size are = record {
+  u = u;
+  are = are;
+  old = rw size (le-leb 2 (2 * m + b) (omega arith));
+  low = let r : unsigned_abs u % 2 ≡ b = omega arith in ap (λ (k : ℕ). bit k ∷ []) r;
+}
+
+-- a place that isn't zero is moved where its bit is set
+moves : (al : ℕ) (z : ℤ) (b : ℕ) (w : ℤ) (s t : Text) → b < 2 → bit_of al z ≡ 0 → corrected_by al z b s ≡ Ok (w, t)
+    → (moved (b * 2 ^ al) z ≡ w) × (s ≡ t)
+moves al z zero w s t small even e = grind (arith, zero-mul, ok-parts)
+moves al z (suc zero) w s t small even e = grind (arith, eq-eqb, one-mul, ok-parts, no-error)
+moves al z b w s t small even e = absurd (omega arith)
+
+not-none : (al m k : ℕ) → m * 2 ^ suc al ≡ suc k → 0 < m
+not-none al x k h = grind (arith, zero-mul)
+
+old-index : (al : ℕ) (z : ℤ) (b : ℕ) (w : ℤ) (s t : Text) → IsKept al z → is_zero z ≡ false → b < 2
+    → corrected_by al z b s ≡ Ok (w, t) → HasBit al w (bit b ∷ []) × (s ≡ t)
+old-index al (pos zero) b w s t kept old small e = cc
+old-index al (pos (suc k)) b w s t kept old small e =
+    let m = suc k / 2 ^ suc al in
+    let h : m * 2 ^ suc al ≡ suc k = ap unsigned_abs kept in
+    let q = moves al (pos (suc k)) b w s t small (subst (λ (n : ℕ). bit_of al (pos n) ≡ 0) h (even-bit al m)) e in
+    let n : (2 * m + b) * 2 ^ al ≡ suc k + b * 2 ^ al = omega (arith, sum al m b, h) in
+    (has-bit al m b (pos (2 * m + b)) w (not-none al m k h) small refl (ap (λ (x : ℕ). pos x) n ∙ q.0), q.1)
+old-index al (negsuc k) b w s t kept old small e =
+    let m = suc k / 2 ^ suc al in
+    let h : m * 2 ^ suc al ≡ suc k
+    = sym (abs-neg (m * 2 ^ suc al)) ∙ ap unsigned_abs (sym (neg-times m (2 ^ suc al)) ∙ kept) in
+    let q = moves al (negsuc k) b w s t small (even-bit_neg al m k (not-none al m k h) h) e in
+    let n : (2 * m + b) * 2 ^ al ≡ suc (k + b * 2 ^ al) = omega (arith, sum al m b, h) in
+    (has-bit al m b (neg_ℤ (pos (2 * m + b))) w (not-none al m k h) small (abs-neg (2 * m + b))
+    (neg-times (2 * m + b) (2 ^ al) ∙ ap (λ (x : ℕ). neg_ℤ (pos x)) n ∙ q.0), q.1)
+
+-- ---- places
 
 pub one-bit : (b : ℕ) (own : List Bool) → IsNumber 1 b own → bit b ∷ [] ≡ own
 unfolding low_bits
@@ -133,16 +102,10 @@ bit-taken : (al : ℕ) (z : ℤ) (bits : List Bool) (w : ℤ) (t : Text) → IsK
 bit-taken al z bits w t kept h =
     bind-cut (bits_from 1) (λ (b : ℕ). corrected_by al z b) (IsNumber 1) (λ b u. number_taken)
     (λ b more f g.
-    let small : b < 2 = (let is : IsCut (IsNumber 1 b) bits (alone more) = number_taken f in is.holds.below) in
-    let r = old-index al z b w (alone more) t kept h small g in
-    let o = r.0 in
-    gives-taken (λ (w : ℤ). After (IsNumber 1 b) (HasBit al w))
-    (λ own is. record {
-      u = o.u;
-      are = o.are;
-      old = o.old;
-      low = ap (λ (k : ℕ). bit k ∷ []) o.low ∙ one-bit b own is ∙ sym (append-nil own);
-    }) (ap (λ (u : Text). Ok (w, u)) r.1))
+    let is : IsCut (IsNumber 1 b) bits (alone more) = number_taken f in
+    let r = old-index al z b w (alone more) t kept h is.holds.below g in
+    gives-taken (λ (w : ℤ). After (IsNumber 1 b) (HasBit al w)) (λ own is. rw (← one-bit b own is) r.0)
+    (ap (λ (u : Text). Ok (w, u)) r.1))
 
 -- Numbers after their correction bits, at a level, and the bits. They are 0 where what was held is.
 pub record IsCorrected (al : ℕ) (zs ws : List ℤ) (own : List Bool) : Type 0 where
