@@ -1,17 +1,16 @@
 -- Application data by their parameters: what is read of them, and which data they are.
-use Rattle.std.proofs.Common.{rules}
-use Rattle.std.proofs.Common.{◌≡◌, ℕ, zero, suc, ◌+◌, ◌≤◌, ◌<◌, Bool, true, false, List, [], ◌∷◌, ◌++◌, length, take}
-use Rattle.std.proofs.Common.{drop, get_or, Option, None, Some, Ok, refl, sym, ap, ap₂, ◌∙◌, arith, eqb, ltb, ◌||◌}
-use Rattle.std.proofs.Common.{cond, ◌&&◌, take-append-drop, length-drop, length-take}
+use Rattle.std.proofs.Common.{rules, ◌≡◌, ℕ, zero, suc, ◌+◌, ◌≤◌, ◌<◌, Bool, true, false, List, [], ◌∷◌, ◌++◌}
+use Rattle.std.proofs.Common.{length, take, drop, get_or, Option, None, Some, Ok, refl, sym, ap, ap₂, ◌∙◌, arith}
+use Rattle.std.proofs.Common.{eqb, ltb, ◌||◌, cond, ◌&&◌, take-append-drop, length-drop, length-take}
 use Rattle.std.proofs.lemmas.Bool.{lt-ltb, and_parts, eqb-true, ltb-true, false≢true}
 use Rattle.std.proofs.lemmas.Bool.Decides.{Decides-eqb, nat_tests}
 use Rattle.std.proofs.lemmas.List.{drop_more, drop-drop}
 use Rattle.std.proofs.lemmas.Slice.Eq.{starts_is}
 use Rattle.std.proofs.lemmas.Grind.{common_steps}
-use Rattle.std.specs.Prelude.{is_some, option_map}
-use Rattle.jpeg_segments.specs.Application.{Application, Adobe, application_by, begins_with, chunk_of, adobe_name}
-use Rattle.jpeg_segments.specs.Application.{transform_by, app_at, jfif_name, avi1_name, exif_name, xmp_name, icc_name}
-use Rattle.jpeg_segments.specs.Application.{photoshop_name}
+use Rattle.std.specs.Prelude.{is_some}
+use Rattle.jpeg_segments.specs.Application.{Application, application_by, begins_with, chunk_of, adobe_name}
+use Rattle.jpeg_segments.specs.Application.{transform_by, app_at, jfif_name, avi1_name, exif_name, xmp_name}
+use Rattle.jpeg_segments.specs.Application.{icc_name, photoshop_name}
 use Rattle.jpeg_segments.specs.WrittenSegments.{ApplicationData, OfJfif, OfAvi1, OfExif, OfXmp, OfIcc, OfPhotoshop}
 use Rattle.jpeg_segments.specs.WrittenSegments.{OfAdobe, OfOther, application_parts, IsApplicationData, is_known}
 use Rattle.jpeg_segments.specs.WrittenSegments.{transform_byte, with_length}
