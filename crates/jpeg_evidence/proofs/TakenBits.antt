@@ -6,7 +6,8 @@ use Rattle.std.proofs.Common.{length-take, pow-suc, mul_assoc, Ok, Err, Result, 
 use Rattle.std.proofs.Common.{Some, None, leb, append_assoc}
 use lib.Arith.{digits_div}
 use Rattle.std.proofs.Math.Nat.{add-mul, zero-mul, one-mul}
-use Rattle.std.proofs.lemmas.Bool.{leb-true, eqb-true}
+use Rattle.std.proofs.lemmas.Bool.{eqb-true}
+use Rattle.std.proofs.lemmas.Bool.Decides.{nat_tests}
 use Rattle.std.proofs.lemmas.List.{take-append-le, take-take}
 use Rattle.std.proofs.Math.Seq.{drop-nil}
 use Rattle.jpeg_bits.specs.Reading.{Fault, End, Malformed}
@@ -117,24 +118,22 @@ front-number n bits le = bits-of-length n (take n bits) (omega (arith, length-ta
 
 -- ---- numbers
 
+-- the bits are there, and what was told of them
+bits-there : {A : Type 0} (n : ℕ) (x y : A) (bits : List Bool) (t : Text)
+    → outcomes.◌>>=◌ {B = A × Text} (cond (leb n (length bits)) (Ok tt) (Err End)) (λ (u : Unit {0}).
+    Ok (x, advance n (alone bits))) ≡ Ok (y, t) → (n ≤ length bits) × (x ≡ y) × (advance n (alone bits) ≡ t)
+bits-there n x y bits t e = grind (arith, nat_tests, ok-parts, no-error)
+
 -- The bits that were taken of a number are its bits.
 pub number_taken : {n v : ℕ} {bits : List Bool} {t : Text} → bits_from n (alone bits) ≡ Ok (v, t)
     → IsCut (IsNumber n v) bits t
 unfolding bits_from
-number_taken {n} {v} {bits} {t} e = go (leb n (length bits)) refl e
-  where
-    go : (b : Bool) → leb n (length bits) ≡ b
-        → outcomes.◌>>=◌ {B = ℕ × Text} (cond b (Ok tt) (Err End)) (λ (x : Unit {0}).
-        Ok (number_of (take n (bits ++ replicate n false)), advance n (alone bits))) ≡ Ok (v, t)
-        → IsCut (IsNumber n v) bits t
-    go false h k = absurd (no-error End (v, t) k)
-    go true h k =
-        let q = ok-parts (number_of (take n (bits ++ replicate n false))) v (advance n (alone bits)) t k in
-        let le : n ≤ length bits = leb-true n (length bits) h in
-        let front : take n (bits ++ replicate n false) ≡ take n bits = take-append-le n bits (replicate n false) le in
-        let is = front-number n bits le in
-        let value : number_of (take n bits) ≡ v = ap number_of (sym front) ∙ q.0 in
-        cut-front (IsNumber n v) n bits t q.1 (grind arith)
+number_taken {n} {v} {bits} {t} e =
+    let q = bits-there n (number_of (take n (bits ++ replicate n false))) v bits t e in
+    let front : take n (bits ++ replicate n false) ≡ take n bits = take-append-le n bits (replicate n false) q.0 in
+    let is = front-number n bits q.0 in
+    let value : number_of (take n bits) ≡ v = ap number_of (sym front) ∙ q.1 in
+    cut-front (IsNumber n v) n bits t q.2 (grind arith)
 
 -- ---- codes
 
@@ -160,27 +159,18 @@ pub code-taken : {table : Table} {bits : List Bool} {c : ℕ × ℕ} {t : Text} 
 unfolding code_from
 code-taken {table} {bits} {c} {t} is e = go (code_in (code_lengths table.counts) (next_16 bits)) refl e
   where
-    kept : (x : ℕ × ℕ) → code_in (code_lengths table.counts) (next_16 bits) ≡ Some x → (b : Bool)
-        → leb x.1 (length bits) ≡ b
-        → if_buffered (x.1, slice_index table.symbols x.0) (advance x.1 (alone bits)) (cond b (Ok tt)
-        (Err End)) ≡ Ok (c, t)
-        → IsCut (IsCoded table c.1) bits t
-    kept x h false k l = absurd (no-error End (c, t) l)
-    kept x h true k l =
+    go : (o : Option (ℕ × ℕ)) → code_in (code_lengths table.counts) (next_16 bits) ≡ o
+        → code_by table (alone bits) o ≡ Ok (c, t) → IsCut (IsCoded table c.1) bits t
+    go None h k = absurd (no-error Malformed (c, t) k)
+    go (Some x) h k =
         let lens = code_lengths table.counts in
-        let le : x.1 ≤ length bits = leb-true x.1 (length bits) k in
-        let q = ok-parts (x.1, slice_index table.symbols x.0) c (advance x.1 (alone bits)) t l in
+        let q = bits-there x.1 (x.1, slice_index table.symbols x.0) c bits t k in
         let index = code-index lens (next_16 bits) x h in
         let top = (rising-at 1 16 lens x.0 (all-rising table.counts is.counted) index.0).1 in
         let small : x.1 ≤ 16 = omega (arith, top, index.1) in
         let front : take x.1 (next_16 bits) ≡ take x.1 bits
-        = take-take x.1 16 (bits ++ replicate 16 false) small ∙ take-append-le x.1 bits (replicate 16 false) le in
+        = take-take x.1 16 (bits ++ replicate 16 false) small ∙ take-append-le x.1 bits (replicate 16 false) q.0 in
         grind (arith, front-number, cut-front)
-
-    go : (o : Option (ℕ × ℕ)) → code_in (code_lengths table.counts) (next_16 bits) ≡ o
-        → code_by table (alone bits) o ≡ Ok (c, t) → IsCut (IsCoded table c.1) bits t
-    go None h k = absurd (no-error Malformed (c, t) k)
-    go (Some x) h k = kept x h (leb x.1 (length bits)) refl k
 
 -- The same of a symbol.
 pub symbol_taken : {table : Table} {bits : List Bool} {symbol : ℕ} {t : Text} → IsTable table

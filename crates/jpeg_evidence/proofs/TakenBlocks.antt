@@ -101,11 +101,9 @@ dc-again p table z predictor bits y t s f kept e =
     (λ b. number_taken)
     (λ b own w.
     let u = pushed (floor_at (suc al) z) b in
-    let number : u ≡ floor_at al (or_bit al z b)
-    = sym (floor-scaled al u) ∙ ap (floor_at al) (sym (pushed-or al b z w.below kept)) in
-    let own_is : bit (low_bit u) ∷ [] ≡ own
-    = ap (λ (x : ℕ). bit x ∷ []) (pushed-low (floor_at (suc al) z) b w.below) ∙ one-bit b own w in
-    rw (← number, ← own_is) (one_bit u predictor s f)) e
+    let one : WritesDc p table u predictor (bit (low_bit u) ∷ []) predictor = one_bit u predictor s f in
+    rw (pushed-or al b z w.below kept, floor-scaled al u, ← one-bit b own w)
+    (rw (pushed-low (floor_at (suc al) z) b w.below) at one)) e
 
 pub dc-taken-part : (p : Pass) (table : Table) (z predictor : ℤ) (bits : List Bool) (y : ℤ × ℤ) (t : Text)
     → (p.ss ≡ 0 → p.is_first ≡ true → IsTable table)
