@@ -1,7 +1,6 @@
 -- What a decoder reads of a scan, where it fits, is what the scan was written for.
-use Rattle.std.proofs.lemmas.Grind.{common_steps}
-use Rattle.std.proofs.Common.{rules, ◌≡◌, ℕ, suc, ◌%◌, ◌≤◌, Bool, true, List, [], ◌∷◌, ◌++◌, length}
-use Rattle.std.proofs.Common.{drop, refl, sym, ap, ◌∙◌, subst, arith, Ok, Err, Option, Some}
+use Rattle.std.proofs.Common.{rules, ◌≡◌, ℕ, suc, ◌%◌, ◌≤◌, Bool, true, List, [], ◌∷◌, ◌++◌, length, drop, refl}
+use Rattle.std.proofs.Common.{sym, ap, ◌∙◌, subst, arith, Ok, Err, Option, Some}
 use Rattle.std.proofs.lemmas.Bool.{le-leb, eqb-true, false≢true}
 use Rattle.std.specs.Prelude.{if◌then◌else◌}
 use Rattle.std.proofs.lemmas.List.{drop_at}
@@ -16,7 +15,8 @@ use Rattle.jpeg_bits.specs.declared.marker.Marker.TheVariants.{RST}
 use Rattle.jpeg_bits.proofs.EndLemmas.{ends-so}
 use Rattle.jpeg_bits.proofs.ReadIntervals.{Holds}
 use Rattle.jpeg_streams.proofs.InTurn.{interval-long}
-use Rattle.jpeg_evidence.specs.Strict.{alone, IntervalFits, IntervalsFit, IsInterval, IsIntervals, numbers_read, others_read}
+use Rattle.jpeg_evidence.specs.Strict.{alone, IntervalFits, IntervalsFit, IsInterval, IsIntervals, numbers_read}
+use Rattle.jpeg_evidence.specs.Strict.{others_read}
 use Rattle.jpeg_evidence.specs.Strict.IntervalsFit.{last, another}
 use Rattle.jpeg_streams.proofs.TakenTexts.{blocks-takes}
 use Rattle.jpeg_evidence.proofs.TakenIntervals.{interval_of_taken}
@@ -70,9 +70,7 @@ record AfterFirst (k : ℕ) (first blocks : List Block) (m n : Marker) (rest : L
 scan-parts : (a b : List Block) (m n : Option Marker) (r s : List ℕ)
     → ◌≡◌ {A = Outcome (List Block × Option Marker)} (Ok ((a, m), r)) (Ok ((b, n), s))
     → (a ≡ b) × (m ≡ n) × (r ≡ s)
-scan-parts a b m n r s h =
-    let e = ok-same ((a, m), r) ((b, n), s) h in
-    (ap (λ x. x.0.0) e, ap (λ x. x.0.1) e, ap (λ x. x.1) e)
+scan-parts a b m n r s h = search (rules, ok-same)
 
 -- what an interval and the others after it give, where it ends with RST k
 abbrev with_others : ℕ → (List ℕ → Outcome (List Block × Option Marker)) → (List Block × Option Marker) × List ℕ

@@ -11,7 +11,7 @@ use Rattle.jpeg_bits.specs.Bands.{Band, before_more, wrapped, token_from, after_
 use Rattle.jpeg_bits.specs.Written.{IsCoded}
 use Rattle.jpeg_bits.specs.declared.tokens.Token.{Token}
 use Rattle.jpeg_bits.specs.declared.tokens.Token.TheVariants.{Value, Sixteen, Rest, Overlong}
-use Rattle.jpeg_streams.specs.WrittenData.{no_numbers, WritesBand}
+use Rattle.jpeg_streams.specs.WrittenData.{no_numbers}
 use Rattle.jpeg_streams.specs.WrittenData.WritesBand.{full, value as a_value, sixteen as a_sixteen, ended as an_end}
 use Rattle.jpeg_streams.proofs.SentBlocks.{scaled, InRange}
 use Rattle.jpeg_streams.proofs.WrittenBands.{map-no_numbers, scaled-fits}
@@ -52,33 +52,23 @@ sixteen-written : (table : Table) (al : ℕ) (band : List ℤ) (run : ℕ) (own 
     → IsBand table al (no_numbers 16 ++ band) run (own ++ back)
 sixteen-written table al band run own back w b =
     let f = of-sixteen w.r w.s w.after w.follows in
-    let symbol : 16 * w.r + w.s ≡ 16 * 15 + 0 = omega (arith, f.0, f.1) in
-    let coded = subst (λ (k : ℕ). IsCoded table k w.code) symbol w.coded in
     let same : w.code ≡ own = sym (append-nil w.code) ∙ ap (λ (l : List Bool). w.code ++ l) (sym f.2) ∙ w.whole in
+    let coded : IsCoded table (16 * 15 + 0) own = grind arith in
     record {
       numbers = no_numbers 16 ++ b.numbers;
       are = map-no_numbers al 16 b.numbers ∙ ap (λ (l : List ℤ). no_numbers 16 ++ l) b.are;
-      written = subst (λ (l : List Bool). WritesBand table (no_numbers 16 ++ b.numbers) (l ++ back) run) same
-          (a_sixteen w.code b.numbers back run coded b.written);
+      written = a_sixteen own b.numbers back run coded b.written;
     }
 
 rest-written : (table : Table) (al room run : ℕ) (own : List Bool) → HasByteSymbols table → IsToken
     table (Rest run) own
     → IsBand table al (no_numbers (suc room)) run own
-rest-written table al room run own bytes w =
-    let f = of-rest w.r w.s run w.after w.follows in
-    let e = f.2 in
-    let is = f.4 in
-    let coded = subst (λ (k : ℕ). IsCoded table (16 * w.r + k) w.code) f.1 w.coded in
-    let small = run-small table w.r 0 w.code bytes coded in
-    let ne = f.0 in
-    let low : w.r ≤ 14 = omega (arith, small, ne) in
-    record {
-      numbers = no_numbers (suc room);
-      are = ap (map (scaled al)) (sym (append-nil (no_numbers (suc room)))) ∙ map-no_numbers al (suc room) []
-          ∙ append-nil (no_numbers (suc room));
-      written = grind (arith, an_end);
-    }
+rest-written table al room run own bytes w = record {
+  numbers = no_numbers (suc room);
+  are = ap (map (scaled al)) (sym (append-nil (no_numbers (suc room)))) ∙ map-no_numbers al (suc room) []
+      ∙ append-nil (no_numbers (suc room));
+  written = grind (arith, an_end, of-rest, run-small);
+}
 
 -- a band of so many places
 pub record IsLong (table : Table) (al room : ℕ) (y : Band) (own : List Bool) : Type 0 where
@@ -120,9 +110,7 @@ pub long-taken : {table : Table} {al n room : ℕ} {bits : List Bool} {y : Band}
     → HasByteSymbols table → TokensFit table al room bits → room ≤ n
     → first_ac table al n (no_numbers room) (alone bits) ≡ Ok (y, t) → IsCut (IsLong table al room y) bits t
 unfolding first_ac
-long-taken {table} {al} is bytes (filled bits') le e =
-    gives-taken (IsLong table al 0)
-    (record { band = record { numbers = []; are = refl; written = full }; long = refl }) e
+long-taken {table} {al} is bytes (filled bits') le e = search (rules, gives-taken, full)
 long-taken {n = zero} is bytes (token k x bits' more h f w) le e = absurd (omega arith)
 long-taken {table} {al} {n = suc n} {y = y} {t = t} is bytes (token k x bits' more h f w) le e =
     let long : length (no_numbers (suc k)) ≡ suc k = length-replicate (suc k) (pos 0) in

@@ -17,7 +17,6 @@ use Rattle.jpeg_bits.specs.Readers.{Reads, gives, ◌>>=◌}
 use Rattle.jpeg_bits.proofs.CodeLemmas.{first_from}
 use Rattle.jpeg_bits.specs.Codes.{Table, IsTable, code_from, code_in, code_value, begins, code_lengths, next_16}
 use Rattle.jpeg_bits.specs.Codes.{code_by, symbol_from}
-use Rattle.jpeg_bits.proofs.BufferedBits.{if_buffered}
 use Rattle.jpeg_bits.specs.Written.{low_bits, IsCoded}
 use Rattle.jpeg_bits.proofs.Tables.{rising-at, all-rising, symbol-code}
 use Rattle.jpeg_bits.proofs.WrittenBits.{number_onto}

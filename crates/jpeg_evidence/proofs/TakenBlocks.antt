@@ -1,9 +1,9 @@
 -- The bits that were taken of a block are those that are written for it.
 use Rattle.std.proofs.Common.{length-take, rules, ◌≡◌, ℕ, zero, suc, ◌+◌, ◌-◌, ◌*◌, ◌^◌, ◌<◌, Bool, true, false}
 use Rattle.std.proofs.Common.{List, [], ◌∷◌, ◌++◌, map, length, refl, sym, ap, ◌∙◌, subst, arith, Ok, ℤ, pos, ◌+ℤ◌}
-use Rattle.std.proofs.Common.{◌-ℤ◌, unsigned_abs, le_refl, append-nil, ap₂, negsuc}
+use Rattle.std.proofs.Common.{unsigned_abs, le_refl, append-nil, ap₂, negsuc}
 use Rattle.std.proofs.lemmas.Bool.{eqb-true, eqb-false}
-use Rattle.std.proofs.lemmas.Int.{ints, int_wrap_fits}
+use Rattle.std.proofs.lemmas.Int.{int_wrap_fits}
 use Rattle.std.proofs.lemmas.List.{length-map, length-replicate}
 use Rattle.jpeg_bits.specs.Entropy.{Text, bits_from}
 use Rattle.jpeg_bits.specs.Codes.{Table, IsTable}
@@ -22,8 +22,7 @@ use Rattle.jpeg_streams.proofs.WrittenBands.{map-no_numbers, scaled-fits, range-
 use Rattle.jpeg_streams.proofs.CutLevels.{band-map}
 use Rattle.jpeg_evidence.specs.Strict.{alone, IsCut, HasByteSymbols, TokensFit, IsBlock, BlockFits, HasTables}
 use Rattle.jpeg_evidence.specs.Strict.{IsNumber, PiecesFit}
-use Rattle.jpeg_evidence.proofs.TakenBits.{bind-cut, gives-taken, map-parts, map-taken, cut-map, After, if-read}
-use Rattle.jpeg_evidence.proofs.TakenBits.{number_taken}
+use Rattle.jpeg_evidence.proofs.TakenBits.{bind-cut, gives-taken, map-taken, cut-map, After, if-read, number_taken}
 use Rattle.jpeg_evidence.proofs.TakenRefinements.{IsKept, IsCorrected, IsRefined, alike-long, one-bit}
 use Rattle.jpeg_evidence.proofs.TakenRefinements.{corrected-taken, refined-taken}
 use Rattle.jpeg_evidence.proofs.TakenValues.{difference_taken}
@@ -50,10 +49,7 @@ first-written : (p : Pass) (table : Table) (predictor d : ℤ) (own : List Bool)
     → InRange p.al (predictor +ℤ d) → WritesDifference table d own
     → WritesRead p table predictor (wrapped (scaled p.al (wrapped (predictor +ℤ d))), wrapped (predictor +ℤ d)) own
 first-written p table predictor d own s f range w =
-    let u = predictor +ℤ d in
-    let same : u -ℤ predictor ≡ d = omega (arith, ints) in
-    rw (fits-itself u (range-below p.al u range), scaled-fits p.al u range, floor-scaled p.al u)
-    (a_whole u predictor own s f (rw same w))
+    search (rules, fits-itself, range-below, scaled-fits, floor-scaled, a_whole)
 
 dc-first : (p : Pass) (table : Table) (predictor : ℤ) (bits : List Bool) (y : ℤ × ℤ) (t : Text) → p.ss ≡ 0
     → p.is_first ≡ true → IsTable table → DcFits p table predictor bits
@@ -188,8 +184,7 @@ pub band-taken-part : (p : Pass) (table : Table) (band : List ℤ) (run : ℕ) (
     → (p.is_first ≡ false → run ≡ 0 → PiecesFit table p.al band bits)
     → band_part p table band run (alone bits) ≡ Ok (y, t) → IsCut (IsRead p table band run y) bits t
 unfolding band_part
-band-taken-part p table [] run bits y t tables unsent fits sent pieces e =
-    gives-taken (IsRead p table [] run) (record { long = refl; written = no_band run }) e
+band-taken-part p table [] run bits y t tables unsent fits sent pieces e = search (rules, gives-taken, no_band)
 band-taken-part p table (x ∷ band) zero bits y t tables unsent fits sent pieces e =
     if-read p.is_first _ _ e
     (λ f k.

@@ -2,8 +2,7 @@
 use Rattle.std.proofs.Common.{rules, ◌≡◌, ◌≢◌, ℕ, zero, suc, ◌+◌, ◌-◌, ◌*◌, ◌/◌, ◌%◌, ◌^◌, ◌<◌, ◌≤◌, Bool, true}
 use Rattle.std.proofs.Common.{false, List, [], ◌∷◌, ◌++◌, map, length, take, drop, refl, sym, ap, ap₂, ◌∙◌, subst}
 use Rattle.std.proofs.Common.{arith, cond, if◌then◌else◌, Ok, eqb, ℤ, pos, negsuc, neg_ℤ, unsigned_abs}
-use Rattle.std.proofs.Common.{append_assoc, append-nil, length-append, length-take, length-drop, leb}
-use Rattle.std.proofs.lemmas.Grind.{common_steps}
+use Rattle.std.proofs.Common.{append_assoc, length-append, length-take, length-drop, leb}
 use Rattle.std.proofs.lemmas.List.{length-map}
 use Rattle.std.proofs.Math.Nat.{zero-mul, one-mul}
 use Rattle.std.proofs.lemmas.Bool.{eqb-true, eq-eqb, le-leb}
@@ -56,12 +55,7 @@ record HasBit (al : ℕ) (w : ℤ) (own : List Bool) : Type 0 where
 
 has-bit : (al m b : ℕ) (u w : ℤ) → 0 < m → b < 2 → unsigned_abs u ≡ 2 * m + b → scaled al u ≡ w
     → HasBit al w (bit b ∷ [])
-has-bit al m b u w some small size are = record {
-  u = u;
-  are = are;
-  old = rw size (le-leb 2 (2 * m + b) (omega arith));
-  low = let r : unsigned_abs u % 2 ≡ b = omega arith in ap (λ (k : ℕ). bit k ∷ []) r;
-}
+has-bit al m b u w some small size are = search (rules, le-leb, unsigned_abs)
 
 -- a place that isn't zero is moved where its bit is set
 moves : (al : ℕ) (z : ℤ) (b : ℕ) (w : ℤ) (s t : Text) → b < 2 → bit_of al z ≡ 0 → corrected_by al z b s ≡ Ok (w, t)
@@ -315,8 +309,7 @@ pub refined-taken : {table : Table} {al n : ℕ} {bits : List Bool} {y : Band} {
     → HasByteSymbols table → AllByRecursion (IsKept al) zs → PiecesFit table al zs bits → length zs ≤ n
     → refined_ac table al n zs (alone bits) ≡ Ok (y, t) → IsCut (IsRefined table al zs y) bits t
 unfolding refined_ac refined_piece
-refined-taken {table} {al} zs is bytes kept (covered bits') le e =
-    gives-taken (IsRefined table al []) (record { numbers = []; are = refl; long = refl; written = refined }) e
+refined-taken {table} {al} zs is bytes kept (covered bits') le e = search (rules, gives-taken, refined)
 refined-taken {n = zero} zs is bytes kept (new r sign z rest front bits' one two more h small h1 h2 w) le e =
     absurd (omega arith)
 refined-taken {table} {al} {n = suc n} {bits} {t = t} zs is bytes kept (new r sign z rest front bits' one two more h small h1 h2 w) le e =
