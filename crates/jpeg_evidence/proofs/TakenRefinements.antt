@@ -1,15 +1,16 @@
 -- The bits that were taken of a band in a refinement are those that are written for it.
 use Rattle.std.proofs.Common.{rules, ◌≡◌, ◌≢◌, ℕ, zero, suc, ◌+◌, ◌-◌, ◌*◌, ◌/◌, ◌%◌, ◌^◌, ◌<◌, ◌≤◌, Bool, true}
 use Rattle.std.proofs.Common.{false, List, [], ◌∷◌, ◌++◌, map, length, take, drop, refl, sym, ap, ap₂, ◌∙◌, subst}
-use Rattle.std.proofs.Common.{arith, cond, if◌then◌else◌, Ok, eqb, ℤ, pos, negsuc, neg_ℤ, unsigned_abs}
-use Rattle.std.proofs.Common.{append_assoc, length-append, length-take, length-drop, leb}
+use Rattle.std.proofs.Common.{arith, cond, Ok, eqb, ℤ, pos, negsuc, neg_ℤ, unsigned_abs, append_assoc}
+use Rattle.std.proofs.Common.{length-append, length-take, length-drop}
 use Rattle.std.proofs.lemmas.List.{length-map}
 use Rattle.std.proofs.Math.Nat.{zero-mul, one-mul}
 use Rattle.std.proofs.lemmas.Bool.{eqb-true, eq-eqb, le-leb}
 use Rattle.std.specs.List.{AllByRecursion}
 use Rattle.jpeg_bits.specs.Entropy.{Text, bits_from}
 use Rattle.jpeg_bits.specs.Codes.{Table, IsTable, symbol_from}
-use Rattle.jpeg_bits.specs.Readers.{Reads, each, gives, ◌>>=◌}
+use Rattle.jpeg_bits.specs.Readers.{each, gives, ◌>>=◌}
+use Rattle.jpeg_bits.specs.Pieces.{corrected_from}
 use Rattle.jpeg_bits.specs.Bands.{Band, before_more}
 use Rattle.jpeg_bits.specs.Refinement.{is_zero, bit_of, moved, corrected_by, corrected, through_zero, new_number}
 use Rattle.jpeg_bits.specs.Refinement.{with_last, refined_piece, refined_ac}
@@ -21,9 +22,9 @@ use Rattle.jpeg_streams.proofs.SentBlocks.{scaled}
 use Rattle.jpeg_bits.proofs.ReadIntervals.{all-take, all-drop}
 use Rattle.jpeg_streams.proofs.WrittenBands.{scaled-zero}
 use Rattle.jpeg_streams.proofs.WrittenRefinements.{nothing_or_old, times-two_power, spread, neg-times, even-bit}
-use Rattle.jpeg_streams.proofs.WrittenRefinements.{even-bit_neg, corrections-zero, corrections-old, corrections-end}
-use Rattle.jpeg_streams.proofs.WrittenRefinements.{count-zero, count-old, with_last-end, new-scaled, map-scaled}
-use Rattle.jpeg_streams.proofs.WrittenRefinements.{through-zero, through-other}
+use Rattle.jpeg_streams.proofs.WrittenRefinements.{even-bit_neg, corrections-old, corrections-end, count-zero}
+use Rattle.jpeg_streams.proofs.WrittenRefinements.{count-old, with_last-end, new-scaled, map-scaled, through-zero}
+use Rattle.jpeg_streams.proofs.WrittenRefinements.{through-other}
 use Rattle.jpeg_evidence.specs.Strict.{alone, IsCut, IsNumber, HasByteSymbols, count_zeros, PiecesFit}
 use Rattle.jpeg_evidence.specs.Strict.PiecesFit.{covered, new, zeros, last}
 use Rattle.jpeg_evidence.proofs.TakenBits.{number_taken, symbol_taken, after-read, bind-cut, map-taken, if-read}
@@ -46,16 +47,21 @@ zero-is x h = grind arith
 sum : (al m b : ℕ) → (2 * m + b) * 2 ^ al ≡ m * 2 ^ suc al + b * 2 ^ al
 sum al m b = omega (arith, times-two_power m al, spread m b (2 ^ al))
 
--- the number of an old place after its correction, and the bit of that
-record HasBit (al : ℕ) (w : ℤ) (own : List Bool) : Type 0 where
+-- the number of a place after its correction, and the bit of that; it is 0 where what was held is
+record IsOne (al : ℕ) (z w : ℤ) (own : List Bool) : Type 0 where
   u : ℤ
   are : scaled al u ≡ w
-  old : is_old u ≡ true
-  low : bit (unsigned_abs u % 2) ∷ [] ≡ own
+  alike : is_zero u ≡ is_zero z
+  known : unsigned_abs u ≢ 1
+  bits : corrections (u ∷ []) ≡ own
 
-has-bit : (al m b : ℕ) (u w : ℤ) → 0 < m → b < 2 → unsigned_abs u ≡ 2 * m + b → scaled al u ≡ w
-    → HasBit al w (bit b ∷ [])
-has-bit al m b u w some small size are = search (rules, le-leb, unsigned_abs)
+old-other : (u : ℤ) → is_old u ≡ true → is_zero u ≡ false
+old-other u h = grind arith
+
+old-one : (al m b : ℕ) (z u w : ℤ) → is_zero z ≡ false → 0 < m → b < 2 → unsigned_abs u ≡ 2 * m + b → scaled al u ≡ w
+    → IsOne al z w (bit b ∷ [])
+unfolding corrections
+old-one al m b z u w other some small size are = search (rules, le-leb, unsigned_abs, old-other, corrections-old)
 
 -- a place that isn't zero is moved where its bit is set
 moves : (al : ℕ) (z : ℤ) (b : ℕ) (w : ℤ) (s t : Text) → b < 2 → bit_of al z ≡ 0 → corrected_by al z b s ≡ Ok (w, t)
@@ -68,21 +74,21 @@ not-none : (al m k : ℕ) → m * 2 ^ suc al ≡ suc k → 0 < m
 not-none al x k h = grind (arith, zero-mul)
 
 old-index : (al : ℕ) (z : ℤ) (b : ℕ) (w : ℤ) (s t : Text) → IsKept al z → is_zero z ≡ false → b < 2
-    → corrected_by al z b s ≡ Ok (w, t) → HasBit al w (bit b ∷ []) × (s ≡ t)
+    → corrected_by al z b s ≡ Ok (w, t) → IsOne al z w (bit b ∷ []) × (s ≡ t)
 old-index al (pos zero) b w s t kept old small e = cc
 old-index al (pos (suc k)) b w s t kept old small e =
     let m = suc k / 2 ^ suc al in
     let h : m * 2 ^ suc al ≡ suc k = ap unsigned_abs kept in
     let q = moves al (pos (suc k)) b w s t small (subst (λ (n : ℕ). bit_of al (pos n) ≡ 0) h (even-bit al m)) e in
     let n : (2 * m + b) * 2 ^ al ≡ suc k + b * 2 ^ al = omega (arith, sum al m b, h) in
-    (has-bit al m b (pos (2 * m + b)) w (not-none al m k h) small refl (ap (λ (x : ℕ). pos x) n ∙ q.0), q.1)
+    (old-one al m b (pos (suc k)) (pos (2 * m + b)) w old (not-none al m k h) small refl (ap (λ (x : ℕ). pos x) n ∙ q.0), q.1)
 old-index al (negsuc k) b w s t kept old small e =
     let m = suc k / 2 ^ suc al in
     let h : m * 2 ^ suc al ≡ suc k
     = sym (abs-neg (m * 2 ^ suc al)) ∙ ap unsigned_abs (sym (neg-times m (2 ^ suc al)) ∙ kept) in
     let q = moves al (negsuc k) b w s t small (even-bit_neg al m k (not-none al m k h) h) e in
     let n : (2 * m + b) * 2 ^ al ≡ suc (k + b * 2 ^ al) = omega (arith, sum al m b, h) in
-    (has-bit al m b (neg_ℤ (pos (2 * m + b))) w (not-none al m k h) small (abs-neg (2 * m + b))
+    (old-one al m b (negsuc k) (neg_ℤ (pos (2 * m + b))) w old (not-none al m k h) small (abs-neg (2 * m + b))
     (neg-times (2 * m + b) (2 ^ al) ∙ ap (λ (x : ℕ). neg_ℤ (pos x)) n ∙ q.0), q.1)
 
 -- ---- places
@@ -91,15 +97,23 @@ pub one-bit : (b : ℕ) (own : List Bool) → IsNumber 1 b own → bit b ∷ [] 
 unfolding low_bits
 one-bit b own is = grind arith
 
-bit-taken : (al : ℕ) (z : ℤ) (bits : List Bool) (w : ℤ) (t : Text) → IsKept al z → is_zero z ≡ false
-    → (bits_from 1 >>= (λ b. corrected_by al z b)) (alone bits) ≡ Ok (w, t) → IsCut (HasBit al w) bits t
-bit-taken al z bits w t kept h =
-    bind-cut (bits_from 1) (λ (b : ℕ). corrected_by al z b) (IsNumber 1) (λ b u. number_taken)
+one-taken : (al : ℕ) (z : ℤ) (bits : List Bool) (w : ℤ) (t : Text) → IsKept al z
+    → corrected_from al z (alone bits) ≡ Ok (w, t) → IsCut (IsOne al z w) bits t
+unfolding corrected_from corrections
+one-taken al z bits w t kept e = if-read (is_zero z) _ _ e
+    (λ h. gives-taken (IsOne al z) (record {
+      u = pos 0;
+      are = scaled-zero al ∙ sym (zero-is z h);
+      alike = sym h;
+      known = λ e. omega (arith, e);
+      bits = refl;
+    }))
+    (λ h. bind-cut (bits_from 1) (λ (b : ℕ). corrected_by al z b) (IsNumber 1) (λ b u. number_taken)
     (λ b more f g.
     let is : IsCut (IsNumber 1 b) bits (alone more) = number_taken f in
     let r = old-index al z b w (alone more) t kept h is.holds.below g in
-    gives-taken (λ (w : ℤ). After (IsNumber 1 b) (HasBit al w)) (λ own is. rw (← one-bit b own is) r.0)
-    (ap (λ (u : Text). Ok (w, u)) r.1))
+    gives-taken (λ (w : ℤ). After (IsNumber 1 b) (IsOne al z w)) (λ own is. rw (← one-bit b own is) r.0)
+    (ap (λ (u : Text). Ok (w, u)) r.1)))
 
 -- Numbers after their correction bits, at a level, and the bits. They are 0 where what was held is.
 pub record IsCorrected (al : ℕ) (zs ws : List ℤ) (own : List Bool) : Type 0 where
@@ -112,32 +126,19 @@ pub record IsCorrected (al : ℕ) (zs ws : List ℤ) (own : List Bool) : Type 0 
 pub alike-long : (us zs : List ℤ) → map is_zero us ≡ map is_zero zs → length us ≡ length zs
 alike-long us zs h = grind (arith, length-map)
 
-not-one : (u : ℤ) → is_old u ≡ true → unsigned_abs u ≢ 1
-not-one u o e = let f : leb 2 1 ≡ true = ap (λ (x : ℕ). leb 2 x) (sym e) ∙ o in cc
+corrections-cons : (u : ℤ) (us : List ℤ) → corrections (u ∷ us) ≡ corrections (u ∷ []) ++ corrections us
+unfolding corrections
+corrections-cons u us = grind arith
 
-old-other : (u : ℤ) → is_old u ≡ true → is_zero u ≡ false
-old-other u h = grind arith
-
-zero-first : (al : ℕ) (z : ℤ) (zs ws : List ℤ) (own : List Bool) → is_zero z ≡ true → IsCorrected al zs ws own
-    → IsCorrected al (z ∷ zs) (z ∷ ws) own
-unfolding NoneNew
-zero-first al z zs ws own h c = record {
-  us = pos 0 ∷ c.us;
-  are = ap₂ (λ (x : ℤ) (xs : List ℤ). x ∷ xs) (scaled-zero al ∙ sym (zero-is z h)) c.are;
-  alike = ap₂ (λ (x : Bool) (xs : List Bool). x ∷ xs) (sym h) c.alike;
-  none = ((λ e. absurd (omega arith)), c.none);
-  bits = corrections-zero c.us ∙ c.bits;
-}
-
-old-first : (al : ℕ) (z w : ℤ) (zs ws : List ℤ) (front own : List Bool) → is_zero z ≡ false → HasBit al w front
+one-first : (al : ℕ) (z w : ℤ) (zs ws : List ℤ) (front own : List Bool) → IsOne al z w front
     → IsCorrected al zs ws own → IsCorrected al (z ∷ zs) (w ∷ ws) (front ++ own)
 unfolding NoneNew
-old-first al z w zs ws front own h o c = record {
+one-first al z w zs ws front own o c = record {
   us = o.u ∷ c.us;
   are = ap₂ (λ (x : ℤ) (xs : List ℤ). x ∷ xs) o.are c.are;
-  alike = ap₂ (λ (x : Bool) (xs : List Bool). x ∷ xs) (old-other o.u o.old ∙ sym h) c.alike;
-  none = (not-one o.u o.old, c.none);
-  bits = corrections-old o.u c.us o.old ∙ ap₂ (λ (x y : List Bool). x ++ y) o.low c.bits;
+  alike = ap₂ (λ (x : Bool) (xs : List Bool). x ∷ xs) o.alike c.alike;
+  none = (o.known, c.none);
+  bits = corrections-cons o.u c.us ∙ ap₂ (λ (x y : List Bool). x ++ y) o.bits c.bits;
 }
 
 none-corrected : (al : ℕ) → IsCorrected al [] [] []
@@ -148,25 +149,14 @@ none-corrected al = record { us = []; are = refl; alike = refl; none = tt; bits 
 pub corrected-taken : {al : ℕ} {bits : List Bool} {ws : List ℤ} {t : Text} (zs : List ℤ)
     → AllByRecursion (IsKept al) zs → corrected al zs (alone bits) ≡ Ok (ws, t)
     → IsCut (IsCorrected al zs ws) bits t
-unfolding corrected each
+unfolding corrected corrected_from each
 corrected-taken {al} [] kept e = gives-taken (IsCorrected al []) (none-corrected al) e
 corrected-taken {al} {bits} {ws} {t} (z ∷ zs) kept e =
-    go (is_zero z) refl (λ bits ws. corrected-taken {bits = bits} zs kept.1) e
-  where
-    others : ℤ → Reads (List ℤ)
-    others w = corrected al zs >>= (λ more. gives (w ∷ more))
-
-    go : (b : Bool) → is_zero z ≡ b
-        → ((bits : List Bool) (ws : List ℤ) → corrected al zs (alone bits) ≡ Ok (ws, t) → IsCut (IsCorrected al zs ws) bits t)
-        → ((if b then gives z else bits_from 1 >>= (λ b. corrected_by al z b)) >>= others) (alone bits) ≡ Ok (ws, t)
-        → IsCut (IsCorrected al (z ∷ zs) ws) bits t
-    go true h again k = map-taken (corrected al zs) (λ (more : List ℤ). z ∷ more) (IsCorrected al zs) (IsCorrected al (z ∷ zs))
-        (again bits) (λ ws own. zero-first al z zs ws own h) k
-    go false h again k = bind-cut (bits_from 1 >>= (λ b. corrected_by al z b)) others (HasBit al)
-        (λ w u. bit-taken al z bits w u kept.0 h)
-        (λ w more f. map-taken (corrected al zs) (λ (more : List ℤ). w ∷ more) (IsCorrected al zs)
-        (λ (l : List ℤ). After (HasBit al w) (IsCorrected al (z ∷ zs) l))
-        (again more) (λ ws own c front o. old-first al z w zs ws front own h o c)) k
+    bind-cut (corrected_from al z) (λ (w : ℤ). corrected al zs >>= (λ more. gives (w ∷ more))) (IsOne al z)
+    (λ w u. one-taken al z bits w u kept.0)
+    (λ w more f. map-taken (corrected al zs) (λ (l : List ℤ). w ∷ l) (IsCorrected al zs)
+    (λ (l : List ℤ). After (IsOne al z w) (IsCorrected al (z ∷ zs) l))
+    (λ ws. corrected-taken {bits = more} zs kept.1) (λ ws own c front o. one-first al z w zs ws front own o c)) e
 
 -- ---- pieces
 
