@@ -42,14 +42,11 @@ abbrev DcFits : Pass → Table → ℤ → List Bool → Type 0
 DcFits p table predictor bits = (d : ℤ) (more : List Bool) → difference table (alone bits) ≡ Ok (d, alone more)
     → unsigned_abs (predictor +ℤ d) * 2 ^ p.al < 2 ^ 15
 
-fits-itself : (u : ℤ) → unsigned_abs u < 2 ^ 15 → wrapped u ≡ u
-fits-itself u h = search (rules, int_wrap_fits, mag-le)
-
 first-written : (p : Pass) (table : Table) (predictor d : ℤ) (own : List Bool) → p.ss ≡ 0 → p.is_first ≡ true
     → InRange p.al (predictor +ℤ d) → WritesDifference table d own
     → WritesRead p table predictor (wrapped (scaled p.al (wrapped (predictor +ℤ d))), wrapped (predictor +ℤ d)) own
 first-written p table predictor d own s f range w =
-    search (rules, fits-itself, range-below, scaled-fits, floor-scaled, a_whole)
+    search (rules, int_wrap_fits, mag-le, range-below, scaled-fits, floor-scaled, a_whole)
 
 dc-first : (p : Pass) (table : Table) (predictor : ℤ) (bits : List Bool) (y : ℤ × ℤ) (t : Text) → p.ss ≡ 0
     → p.is_first ≡ true → IsTable table → DcFits p table predictor bits

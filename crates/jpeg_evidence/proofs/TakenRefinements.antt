@@ -1,8 +1,8 @@
 -- The bits that were taken of a band in a refinement are those that are written for it.
-use Rattle.std.proofs.Common.{rules, ◌≡◌, ◌≢◌, ℕ, zero, suc, ◌+◌, ◌-◌, ◌*◌, ◌/◌, ◌%◌, ◌^◌, ◌<◌, ◌≤◌, Bool, true}
-use Rattle.std.proofs.Common.{false, List, [], ◌∷◌, ◌++◌, map, length, take, drop, refl, sym, ap, ap₂, ◌∙◌, subst}
-use Rattle.std.proofs.Common.{arith, cond, Ok, eqb, ℤ, pos, negsuc, neg_ℤ, unsigned_abs, append_assoc}
-use Rattle.std.proofs.Common.{length-append, length-take, length-drop}
+use Rattle.std.proofs.Common.{rules, ◌≡◌, ◌≢◌, ℕ, zero, suc, ◌+◌, ◌-◌, ◌*◌, ◌/◌, ◌^◌, ◌<◌, ◌≤◌, Bool, true, false}
+use Rattle.std.proofs.Common.{List, [], ◌∷◌, ◌++◌, map, length, take, drop, refl, sym, ap, ap₂, ◌∙◌, subst, arith}
+use Rattle.std.proofs.Common.{cond, Ok, eqb, ℤ, pos, negsuc, neg_ℤ, unsigned_abs, append_assoc, length-append}
+use Rattle.std.proofs.Common.{length-take, length-drop}
 use Rattle.std.proofs.lemmas.List.{length-map}
 use Rattle.std.proofs.Math.Nat.{zero-mul, one-mul}
 use Rattle.std.proofs.lemmas.Bool.{eqb-true, eq-eqb, le-leb}
@@ -141,16 +141,13 @@ one-first al z w zs ws front own o c = record {
   bits = corrections-cons o.u c.us ∙ ap₂ (λ (x y : List Bool). x ++ y) o.bits c.bits;
 }
 
-none-corrected : (al : ℕ) → IsCorrected al [] [] []
-unfolding corrections NoneNew
-none-corrected al = record { us = []; are = refl; alike = refl; none = tt; bits = refl }
-
 -- The bits that were taken of corrections are the correction bits of the old places.
 pub corrected-taken : {al : ℕ} {bits : List Bool} {ws : List ℤ} {t : Text} (zs : List ℤ)
     → AllByRecursion (IsKept al) zs → corrected al zs (alone bits) ≡ Ok (ws, t)
     → IsCut (IsCorrected al zs ws) bits t
-unfolding corrected corrected_from each
-corrected-taken {al} [] kept e = gives-taken (IsCorrected al []) (none-corrected al) e
+unfolding corrected corrected_from each corrections NoneNew
+corrected-taken {al} [] kept e =
+    gives-taken (IsCorrected al []) (record { us = []; are = refl; alike = refl; none = tt; bits = refl }) e
 corrected-taken {al} {bits} {ws} {t} (z ∷ zs) kept e =
     bind-cut (corrected_from al z) (λ (w : ℤ). corrected al zs >>= (λ more. gives (w ∷ more))) (IsOne al z)
     (λ w u. one-taken al z bits w u kept.0)

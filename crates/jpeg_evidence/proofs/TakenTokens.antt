@@ -15,20 +15,15 @@ use Rattle.jpeg_evidence.proofs.TakenBits.{number_taken, code-taken, cut-map, gi
 use Rattle.jpeg_evidence.proofs.TakenBits.{if-read}
 use Rattle.jpeg_evidence.proofs.TakenValues.{value_taken}
 
--- a token without a value
-plain-taken : (room size r : ℕ) {bits : List Bool} {x : Token} {t : Text} → token_at room size r 0 (alone bits)
-    ≡ Ok (x, t) → IsCut (Follows r 0 x) bits t
+-- what follows a token's code
+piece-taken : (room size r s : ℕ) (bits : List Bool) (x : Token) (t : Text) → token_at room size r s (alone bits)
+    ≡ Ok (x, t) → IsCut (Follows r s x) bits t
 unfolding token_at
-plain-taken room size r e =
+piece-taken room size r zero bits x t e =
     if-read (eqb r 15) _ _ e (λ h. gives-taken (Follows r 0) (sixteen r (eqb-true r 15 h)))
     (λ h. map-taken (bits_from r) (λ (n : ℕ). Rest (2 ^ r - 1 + n)) (IsNumber r) (Follows r 0) (λ n. number_taken)
     (λ n own. ended r n own (eqb-false r 15 h)))
-
--- a token with a value
-valued-taken : (room size r s : ℕ) {bits : List Bool} {x : Token} {t : Text}
-    → token_at room size r (suc s) (alone bits) ≡ Ok (x, t) → IsCut (Follows r (suc s) x) bits t
-unfolding token_at
-valued-taken room size r s e =
+piece-taken room size r (suc s) bits x t e =
     if-read (ltb 0 (suc s)) _ _ e
     (λ a k. if-read (ltb r room) _ _ k
     (λ b. map-taken (signed_from (suc s)) (λ (v : ℤ). Value r v) (IsValue (suc s)) (Follows r (suc s))
@@ -38,11 +33,6 @@ valued-taken room size r s e =
     (λ v. value_taken) (λ v own is. overlong r s own))
     (λ c. gives-taken (Follows r (suc s)) (overlong r s []))))
     (λ a k. absurd (let z = ltb-false 0 (suc s) a in omega (arith, z)))
-
-piece-taken : (room size r s : ℕ) (bits : List Bool) (x : Token) (t : Text) → token_at room size r s (alone bits)
-    ≡ Ok (x, t) → IsCut (Follows r s x) bits t
-piece-taken room size r zero bits x t e = plain-taken room size r e
-piece-taken room size r (suc s) bits x t e = valued-taken room size r s e
 
 -- The bits that were taken of a token are a code for its run and size, and the bits after it.
 pub token_taken : {table : Table} (room : ℕ) {bits : List Bool} {x : Token} {t : Text} → IsTable table
