@@ -168,17 +168,6 @@ zero-front : (us : List ℤ) → us ≡ pos 0 ∷ [] → EndsWithZero 0 us
 unfolding count_unknown NoneNew
 zero-front us e = record { front = []; parts = e; count = refl; none = tt }
 
--- one more in front
-front-more : (u : ℤ) (us : List ℤ) (r : ℕ) → unsigned_abs u ≢ 1 → EndsWithZero r us
-    → EndsWithZero (cond (is_zero u) (suc r) r) (u ∷ us)
-unfolding NoneNew
-front-more u us r known w = record {
-  front = u ∷ w.front;
-  parts = ap (λ (xs : List ℤ). u ∷ xs) w.parts;
-  count = grind (arith, count-zero, count-old, nothing_or_old, old-other, w.count);
-  none = (known, w.none);
-}
-
 through-here : (z : ℤ) (zs : List ℤ) → z ≡ pos 0 → through_zero 0 (z ∷ zs) ≡ 1
 unfolding through_zero
 through-here z zs e = ap (λ (x : ℤ). through_zero 0 (x ∷ zs)) e
@@ -197,7 +186,16 @@ ends-more : (z : ℤ) (zs us : List ℤ) (r : ℕ) → Ends zs → r < count_zer
     → EndsWithZero (cond (is_zero z) (suc r) r) us
 unfolding NoneNew
 ends-more z zs [] r ends h a none = cc
-ends-more z zs (u ∷ us) r ends h a none = search (rules, front-more)
+ends-more z zs (u ∷ us) r ends h a none =
+    let head : is_zero u ≡ is_zero z = cc in
+    let w = ends r us h (let e : map is_zero us ≡ map is_zero (take (through_zero r zs) zs) = cc in e) none.1 in
+    let front = w.front in
+    record {
+      front = u ∷ front;
+      parts = ap (λ (xs : List ℤ). u ∷ xs) w.parts;
+      count = rw (← head) (grind (arith, count-zero, count-old, nothing_or_old, old-other, w.count));
+      none = (none.0, w.none);
+    }
 
 ends-step : (z : ℤ) (zs us : List ℤ) (r : ℕ) (b : Bool) → is_zero z ≡ b → Ends zs → r < count_zeros (z ∷ zs)
     → map is_zero us ≡ map is_zero (take (through_zero r (z ∷ zs)) (z ∷ zs)) → NoneNew us → EndsWithZero r us
