@@ -22,9 +22,7 @@ use Rattle.jpeg_segments.proofs.OtherSegments.{Names, app, is_adobe, said_by}
 -- ---- what is read of them
 
 transform-read : (t : AdobeColorTransform) → transform_by (transform_byte t) ≡ Some t
-transform-read transforms.Unknown = refl
-transform-read transforms.YCbCr = refl
-transform-read transforms.YCCK = refl
+transform-read t = grind arith
 
 -- other data are not Adobe's, and say nothing
 record IsUnknown (number : ℕ) (bytes : List ℕ) : Type 0 where
@@ -187,11 +185,4 @@ app-only number bytes rest said few all e =
 
 -- there are sixteen markers APPn
 pub few-numbers : (d : ApplicationData) → IsApplicationData d → (application_parts d).0 ≤ 15
-few-numbers (OfJfif more) is = omega arith
-few-numbers (OfAvi1 more) is = omega arith
-few-numbers (OfExif bytes) is = omega arith
-few-numbers (OfXmp bytes) is = omega arith
-few-numbers (OfIcc chunk) is = omega arith
-few-numbers (OfPhotoshop bytes) is = omega arith
-few-numbers (OfAdobe flags transform more) is = omega arith
-few-numbers (OfOther number bytes) is = is.0
+few-numbers d is = grind arith
