@@ -88,8 +88,9 @@ old-index al (negsuc k) b w s t kept old small e =
     = sym (abs-neg (m * 2 ^ suc al)) ∙ ap unsigned_abs (sym (neg-times m (2 ^ suc al)) ∙ kept) in
     let q = moves al (negsuc k) b w s t small (even-bit_neg al m k (not-none al m k h) h) e in
     let n : (2 * m + b) * 2 ^ al ≡ suc (k + b * 2 ^ al) = omega (arith, sum al m b, h) in
-    (old-one al m b (negsuc k) (neg_ℤ (pos (2 * m + b))) w old (not-none al m k h) small (abs-neg (2 * m + b))
-    (neg-times (2 * m + b) (2 ^ al) ∙ ap (λ (x : ℕ). neg_ℤ (pos x)) n ∙ q.0), q.1)
+    let one = old-one al m b (negsuc k) (neg_ℤ (pos (2 * m + b))) w old (not-none al m k h) small (abs-neg (2 * m + b))
+    (neg-times (2 * m + b) (2 ^ al) ∙ ap (λ (x : ℕ). neg_ℤ (pos x)) n ∙ q.0) in
+    (one, q.1)
 
 -- ---- places
 
