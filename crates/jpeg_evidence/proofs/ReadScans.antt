@@ -19,8 +19,7 @@ use Rattle.jpeg_evidence.specs.Strict.{alone, IntervalFits, IntervalsFit, IsInte
 use Rattle.jpeg_evidence.specs.Strict.{others_read}
 use Rattle.jpeg_evidence.specs.Strict.IntervalsFit.{last, another}
 use Rattle.jpeg_streams.proofs.TakenTexts.{blocks-takes}
-use Rattle.jpeg_evidence.proofs.TakenIntervals.{interval_of_taken}
-use Rattle.jpeg_evidence.proofs.TakenScans.{another_interval, last_interval}
+use Rattle.jpeg_evidence.proofs.TakenScans.{another_interval, interval_of_taken, last_interval}
 
 -- An interval that fits is read, up to its marker.
 pub interval_read : (p : Pass) (turns : List (Via × Block)) (bytes rest : List ℕ) (m : Marker)

@@ -1,6 +1,6 @@
 -- The bits that were taken of a value and of a DC difference are those that are written for it.
 use Rattle.std.proofs.Common.{◌≡◌, ℕ, zero, suc, ◌-◌, ◌^◌, ◌<◌, Bool, List, [], refl, ap, ◌∙◌, arith, if◌then◌else◌}
-use Rattle.std.proofs.Common.{pow_pos, pow-suc, Ok, leb, nat_le, ℤ, pos, negsuc, ◌-ℤ◌}
+use Rattle.std.proofs.Common.{pow_pos, pow-suc, Ok, leb, nat_le, ℤ, pos, negsuc, ◌+ℤ◌, ◌-ℤ◌, ◌*ℤ◌}
 use Rattle.std.proofs.lemmas.Grind.{common_steps}
 use Rattle.std.proofs.lemmas.Int.{ints}
 use Rattle.std.proofs.lemmas.Bool.{cases_lt, ltb-true, ltb-false}
@@ -9,11 +9,11 @@ use Rattle.jpeg_bits.specs.Reading.{Malformed}
 use Rattle.jpeg_bits.specs.Entropy.{Text, bits_from, extended}
 use Rattle.jpeg_bits.specs.Readers.{refused, signed_from}
 use Rattle.jpeg_bits.specs.Codes.{Table, IsTable, symbol_from}
-use Rattle.jpeg_bits.specs.Bands.{difference}
+use Rattle.jpeg_bits.specs.Bands.{difference, first_dc, wrapped}
 use Rattle.jpeg_bits.proofs.Fast.{no-number}
 use Rattle.jpeg_bits.specs.Written.{low_bits, IsCoded, IsCategory, number_for}
 use Rattle.jpeg_streams.specs.WrittenData.{WritesDifference}
-use Rattle.jpeg_evidence.specs.Strict.{alone, IsCut, IsNumber, IsValue}
+use Rattle.jpeg_evidence.specs.Strict.{alone, IsCut, IsDc, IsNumber, IsValue}
 use Rattle.jpeg_evidence.proofs.TakenBits.{number_taken, symbol_taken, cut-map, gives-taken, map-taken, bind-cut}
 use Rattle.jpeg_evidence.proofs.TakenBits.{if-read}
 use Rattle.jpeg_streams.proofs.TakenTexts.{no-error}
@@ -61,3 +61,11 @@ difference_taken {table} {u = u} {t = t} is e =
     (λ s left. symbol_taken is)
     (λ s more h k. cut-map {P = IsValue s u} (grind arith)
     (if-read (leb s 11) _ _ k (λ h. category-taken s more u t) (λ h k. absurd (no-error Malformed (u, t) k)))) e
+
+-- The same of a DC coefficient in its first scan, by its difference.
+pub dc_taken : (table : Table) (al : ℕ) (predictor : ℤ) (bits : List Bool) (y : ℤ × ℤ) (t : Text) → IsTable table
+    → first_dc table al predictor (alone bits) ≡ Ok (y, t) → IsCut (IsDc table al predictor y) bits t
+unfolding first_dc
+dc_taken table al predictor bits y t is e =
+    map-taken (difference table) (λ (d : ℤ). (wrapped (wrapped (predictor +ℤ d) *ℤ pos (2 ^ al)), wrapped (predictor +ℤ d)))
+    (WritesDifference table) (IsDc table al predictor) (λ d. difference_taken is) (grind arith) e
