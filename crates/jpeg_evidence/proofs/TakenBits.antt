@@ -37,19 +37,16 @@ number-more b bs =
     let z : 2 * 0 + cond b 1 0 ≡ cond b 1 0 = omega arith in
     ap (λ (x : ℕ). number_onto x bs) z ∙ number-split (cond b 1 0) bs
 
-pub number-below : (bs : List Bool) → number_of bs < 2 ^ length bs
+number-below : (bs : List Bool) → number_of bs < 2 ^ length bs
 number-below [] = omega arith
 number-below (true ∷ bs) = search (rules, number-more, pow-suc, one-mul, number-below bs)
 number-below (false ∷ bs) = grind (arith, number-more, pow-suc, zero-mul, number-below bs)
 
 -- bits are the low bits of their number
-pub bits-back : (bs : List Bool) → low_bits (length bs) (number_of bs) ≡ bs
+bits-back : (bs : List Bool) → low_bits (length bs) (number_of bs) ≡ bs
 unfolding low_bits
 bits-back [] = refl
 bits-back (b ∷ bs) = search (rules, number-more, digits_div, number-below, low_bits-high, bits-back bs)
-
-pub bits-of-length : (n : ℕ) (bs : List Bool) → length bs ≡ n → (low_bits n (number_of bs) ≡ bs) × (number_of bs < 2 ^ n)
-bits-of-length n bs h = grind (arith, bits-back, number-below)
 
 -- ---- what was read
 
@@ -113,7 +110,9 @@ cut-front P n bits t e h = grind (arith, drop-nil, take-append-drop)
 
 front-number : (n : ℕ) (bits : List Bool) → n ≤ length bits
     → (low_bits n (number_of (take n bits)) ≡ take n bits) × (number_of (take n bits) < 2 ^ n)
-front-number n bits le = bits-of-length n (take n bits) (omega (arith, length-take n bits))
+front-number n bits le =
+    let size : length (take n bits) ≡ n = omega (arith, length-take n bits) in
+    grind (arith, bits-back, number-below)
 
 -- ---- numbers
 
