@@ -42,11 +42,8 @@ are_small : list_all is_small_at (range_with_len 0 8) ≡ true
 unfolding squared_errors error weight cosine basis
 are_small = refl
 
-at_most_of : (z : ℤ) (n : ℕ) → unsigned_abs z ≤ n → z ≤ℤ pos n
-at_most_of z n h = omega (arith, ints)
-
 pub errors_at_most : (x y : ℕ) → x < 8 → y < 8 → squared_errors x y ≤ℤ pos (greatest * greatest)
 errors_at_most x y hx hy =
-    at_most_of (squared_errors x y) (greatest * greatest)
-    (leb-true (unsigned_abs (squared_errors x y)) (greatest * greatest)
-    (each_passes (is_small x) 0 8 y (each_passes is_small_at 0 8 x are_small (omega arith) hx) (omega arith) hy))
+    let small = leb-true (unsigned_abs (squared_errors x y)) (greatest * greatest)
+    (each_passes (is_small x) 0 8 y (each_passes is_small_at 0 8 x are_small (omega arith) hx) (omega arith) hy) in
+    omega (arith, ints)

@@ -7,8 +7,6 @@ pub mod TakenValues
 pub mod TakenBytes
 pub mod TakenTokens
 pub mod TakenBands
-pub mod TakenIntervals
-pub mod TakenDc
 pub mod TakenLevels
 pub mod TakenBlocks
 pub mod TakenTurns

@@ -62,8 +62,7 @@ module _ (coefficients : List ℤ) (quantization : List ℕ) where
 
   column_near : (row column : ℕ) → row < 8 → column < 8 → AreSmall →
       unsigned_abs (pos 1024 *ℤ column_value coefficients quantization row column -ℤ column_sum row column) ≤ 512
-  column_near row column h l small =
-      grind (arith, common_steps, column_of, rounded_column, column_sum_at_most)
+  column_near row column h l small = grind (arith, column_of, rounded_column, column_sum_at_most)
 
   row_at_most : (x y : ℕ) → x < 8 → y < 8 → AreSmall
       → unsigned_abs (transformed (column_value coefficients quantization y) x) ≤ 1873974810

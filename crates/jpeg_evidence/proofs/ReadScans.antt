@@ -1,9 +1,10 @@
 -- What a decoder reads of a scan, where it fits, is what the scan was written for.
-use Rattle.std.proofs.lemmas.Grind.{common_steps}
-use Rattle.std.proofs.Common.{rules, ◌≡◌, ℕ, suc, ◌%◌, true, List, [], ◌∷◌, ◌++◌, length}
-use Rattle.std.proofs.Common.{drop, inl, inr, refl, sym, ap, ◌∙◌, subst, arith, Ok, Err, Option, Some}
+use Rattle.std.proofs.Common.{rules, ◌≡◌, ℕ, suc, ◌%◌, true, List, [], ◌∷◌, ◌++◌, length, drop, inl}
+use Rattle.std.proofs.Common.{inr, refl, sym, ap, ◌∙◌, subst, arith, Ok, Err, Option, Some}
 use Rattle.std.proofs.lemmas.Bool.{eqb-true, false≢true}
 use Rattle.std.specs.Prelude.{if◌then◌else◌}
+use Rattle.std.proofs.lemmas.List.{drop_at}
+use Rattle.jpeg_segments.proofs.Codecs.{ok-same}
 use Rattle.jpeg_bits.specs.Reading.{End, Malformed, Outcome, ◌>>=◌}
 use Rattle.jpeg_bits.specs.Entropy.{Broken, text_at}
 use Rattle.jpeg_bits.specs.Intervals.{interval, intervals, is_restart}
@@ -13,13 +14,13 @@ use Rattle.jpeg_bits.specs.declared.marker.Marker.TheVariants.{RST}
 use Rattle.jpeg_bits.proofs.EndLemmas.{end-met}
 use Rattle.jpeg_bits.proofs.ReadIntervals.{Holds}
 use Rattle.jpeg_streams.proofs.InTurn.{interval-long}
-use Rattle.jpeg_evidence.specs.Strict.{alone, IntervalFits, IntervalsFit, IsInterval, IsIntervals, numbers_read, others_read}
+use Rattle.jpeg_evidence.specs.Strict.{alone, IntervalFits, IntervalsFit, IsInterval, IsIntervals, numbers_read}
+use Rattle.jpeg_evidence.specs.Strict.{others_read}
 use Rattle.jpeg_evidence.specs.Strict.IntervalsFit.{last, another}
 use Rattle.jpeg_bits.proofs.TakenTexts.{Taken, TakesBits, blocks-takes}
 use Rattle.jpeg_bits.proofs.TakenTexts.Taken.{gave, failed}
 use Rattle.jpeg_evidence.proofs.TakenBits.{no-error, ok-parts}
-use Rattle.jpeg_evidence.proofs.TakenIntervals.{interval_of_taken}
-use Rattle.jpeg_evidence.proofs.TakenScans.{another_interval, last_interval}
+use Rattle.jpeg_evidence.proofs.TakenScans.{another_interval, last_interval, interval_of_taken}
 
 -- An interval that fits is read, up to its marker.
 pub interval_read : (p : Pass) (turns : List (Via × Block)) (bytes rest : List ℕ) (m : Marker)
@@ -64,19 +65,10 @@ record AfterFirst (k : ℕ) (first blocks : List Block) (m n : Marker) (rest : L
   together : first ++ more ≡ blocks
   restart : m ≡ RST (k % 8)
 
-result-of : List Block × Option Marker → Outcome (List Block × Option Marker) → List Block × Option Marker
-result-of d (Ok r) = r.0
-result-of d (Err f) = d
-
-rest-of : Outcome (List Block × Option Marker) → List ℕ
-rest-of (Ok r) = r.1
-rest-of (Err f) = []
-
 scan-parts : (a b : List Block) (m n : Option Marker) (r s : List ℕ)
     → ◌≡◌ {A = Outcome (List Block × Option Marker)} (Ok ((a, m), r)) (Ok ((b, n), s))
     → (a ≡ b) × (m ≡ n) × (r ≡ s)
-unfolding result-of rest-of
-scan-parts a b m n r s h = grind (arith, common_steps, result-of, rest-of)
+scan-parts a b m n r s h = search (rules, ok-same)
 
 -- what an interval and the others after it give, where it ends with RST k
 abbrev with_others : ℕ → (List ℕ → Outcome (List Block × Option Marker)) → (List Block × Option Marker) × List ℕ
@@ -88,15 +80,10 @@ after-first : (k : ℕ) (first blocks : List Block) (m n : Marker) (bytes rest :
     (others : List ℕ → Outcome (List Block × Option Marker))
     → with_others k others ((first, Some m), bytes) ≡ Ok ((blocks, Some n), rest)
     → AfterFirst k first blocks m n rest (others bytes)
-after-first k first blocks m n bytes rest others h =
-    grind (arith, common_steps, scan-parts, restart-named)
+after-first k first blocks m n bytes rest others h = search (rules, scan-parts, restart-named)
 
 some-is : (m n : Marker) → Some m ≡ Some n → m ≡ n
 some-is m n h = cc
-
-drop-front : {A : Type 0} (xs ys : List A) (n : ℕ) → length xs ≡ n → drop n (xs ++ ys) ≡ ys
-drop-front [] ys n h = search (rules, h)
-drop-front (x ∷ xs) ys n h = grind (arith, drop-front xs ys)
 
 -- The intervals of a scan that are read, and fit, are written for the blocks read.
 pub scan_written : (p : Pass) (k : ℕ) (turns : List (Via × Block)) (more : List (List (Via × Block)))
@@ -108,10 +95,7 @@ scan_written p k turns more bytes rest blocks m (last turns' bytes' rest' m' w) 
     let q = scan-parts w.blocks blocks (Some m') (Some m) rest' rest
     (sym (interval_read p turns bytes rest' m' w) ∙ h) in
     last_interval p k (numbers_read p turns blocks) bytes rest m
-    (subst (λ (l : List Block). IsInterval p (numbers_read p turns l) bytes m rest) q.0
-    (subst (λ (n : Marker). IsInterval p (numbers_read p turns w.blocks) bytes n rest) (some-is m' m q.1)
-    (subst (λ (r : List ℕ). IsInterval p (numbers_read p turns w.blocks) bytes m' r) q.2
-    (interval-written p turns bytes rest' m' w))))
+    (rw (q.0, some-is m' m q.1, q.2) at (interval-written p turns bytes rest' m' w))
 scan_written p k turns more bytes rest blocks m (another turns' following others bytes' after m' w fits) h =
     let is = interval_read p turns bytes after m' w in
     let further = intervals (blocks_of p predictors_at_start 0) (suc k) following others in
@@ -120,12 +104,9 @@ scan_written p k turns more bytes rest blocks m (another turns' following others
     let long : length w.blocks ≡ length turns
     = subst (Holds (λ (s : List Block × Option Marker). length s.0 ≡ length turns)) is (interval-long p turns bytes) in
     let first : IsInterval p (numbers_read p turns blocks) bytes (RST (k % 8)) after
-    = subst (λ (n : Marker). IsInterval p (numbers_read p turns blocks) bytes n after) a.restart
-    (subst (λ (l : List (Via × Block)). IsInterval p l bytes m' after)
-    (sym (numbers-front p turns w.blocks a.more long) ∙ ap (numbers_read p turns) a.together)
-    (interval-written p turns bytes after m' w)) in
+    = rw (← numbers-front p turns w.blocks a.more long, a.together, a.restart) at (interval-written p turns bytes after m' w) in
     let rest-blocks : a.more ≡ drop (length turns) blocks
-    = sym (drop-front w.blocks a.more (length turns) long) ∙ ap (drop (length turns)) a.together in
+    = sym (drop_at w.blocks a.more (length turns) long) ∙ ap (drop (length turns)) a.together in
     another_interval p k (numbers_read p turns blocks) _ _ bytes after rest m first
     (subst (λ (l : List Block). IsIntervals p (suc k) (numbers_read p following l) (others_read p following others l) after m rest)
     rest-blocks (scan_written p (suc k) following others after rest a.more m fits a.are_read))

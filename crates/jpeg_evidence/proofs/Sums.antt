@@ -35,23 +35,18 @@ pair a b e d =
     twice_at_most ((a *ℤ e -ℤ b *ℤ d) *ℤ (a *ℤ e -ℤ b *ℤ d)) (a *ℤ b *ℤ (e *ℤ d))
     (a *ℤ a *ℤ (e *ℤ e) +ℤ b *ℤ b *ℤ (d *ℤ d)) (square_is (a *ℤ e -ℤ b *ℤ d)) (square_of_difference a b e d)
 
-products : (a b : ℤ) (e d : ℕ → ℤ) (n : ℕ)
-    → (pos 2 *ℤ (a *ℤ b *ℤ sum_below (λ k. e k *ℤ d k) n))
-    ≤ℤ (a *ℤ a *ℤ sum_below (λ k. e k *ℤ e k) n +ℤ b *ℤ b *ℤ sum_below (λ k. d k *ℤ d k) n)
-products a b e d zero = simp *ℤ-zero (omega (arith, ints))
-products a b e d (suc n) = grind (arith, more_products, pair, products a b e d n)
+-- so for sums of such products
+summed : (a b : ℤ) (s x y : ℕ → ℤ) (n : ℕ)
+    → ((k : ℕ) → (pos 2 *ℤ (a *ℤ b *ℤ s k)) ≤ℤ (a *ℤ a *ℤ x k +ℤ b *ℤ b *ℤ y k))
+    → (pos 2 *ℤ (a *ℤ b *ℤ sum_below s n)) ≤ℤ (a *ℤ a *ℤ sum_below x n +ℤ b *ℤ b *ℤ sum_below y n)
+summed a b s x y zero each = simp *ℤ-zero (omega (arith, ints))
+summed a b s x y (suc n) each = grind (arith, more_products, summed a b s x y n each)
 
--- the same of sums of sums
 pub products_of_rows : (a b : ℤ) (e d : ℕ → ℕ → ℤ) (m n : ℕ)
     → (pos 2 *ℤ (a *ℤ b *ℤ sum_below (λ u. sum_below (λ v. e u v *ℤ d u v) m) n))
     ≤ℤ (a *ℤ a *ℤ sum_below (λ u. sum_below (λ v. e u v *ℤ e u v) m) n
     +ℤ b *ℤ b *ℤ sum_below (λ u. sum_below (λ v. d u v *ℤ d u v) m) n)
-products_of_rows a b e d m zero = simp *ℤ-zero (omega (arith, ints))
-products_of_rows a b e d m (suc n) =
-    more_products a b (sum_below (λ u. sum_below (λ v. e u v *ℤ d u v) m) n)
-    (sum_below (λ u. sum_below (λ v. e u v *ℤ e u v) m) n) (sum_below (λ u. sum_below (λ v. d u v *ℤ d u v) m) n)
-    (sum_below (λ v. e n v *ℤ d n v) m) (sum_below (λ v. e n v *ℤ e n v) m) (sum_below (λ v. d n v *ℤ d n v) m)
-    (products_of_rows a b e d m n) (products a b (e n) (d n) m)
+products_of_rows a b e d m n = grind (arith, summed, pair)
 
 product_at_most : (m : ℕ) (f g : ℤ) → unsigned_abs g ≤ m → unsigned_abs (f *ℤ g) ≤ m * unsigned_abs f
 product_at_most m f g h = search (rules, unsigned_abs-mul, mul_comm, unsigned_abs, mul-le-mul_left)

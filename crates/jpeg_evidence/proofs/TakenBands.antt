@@ -1,24 +1,25 @@
 -- The bits that were taken of a band in its first scan are those that are written for it.
 use Rattle.std.proofs.lemmas.Grind.{common_steps}
-use Rattle.std.proofs.Common.{rules}
-use Rattle.std.proofs.Common.{◌≡◌, ◌≢◌, ℕ, zero, suc, ◌+◌, ◌-◌, ◌*◌, ◌^◌, ◌<◌, ◌≤◌, Bool, List, [], ◌∷◌, ◌++◌, map}
-use Rattle.std.proofs.Common.{length, take, drop, refl, sym, ap, ◌∙◌, subst, arith, Ok, ℤ, pos, append_assoc, append-nil, length-append}
+use Rattle.std.proofs.Common.{rules, ◌≡◌, ◌≢◌, ℕ, zero, suc, ◌+◌, ◌-◌, ◌*◌, ◌^◌, ◌<◌, ◌≤◌, Bool, List, [], ◌∷◌}
+use Rattle.std.proofs.Common.{◌++◌, map, length, refl, sym, ap, ap₂, ◌∙◌, subst, arith, Ok, ℤ, pos, append_assoc}
+use Rattle.std.proofs.Common.{append-nil, length-append}
 use Rattle.std.proofs.lemmas.List.{take-replicate, drop-replicate, length-replicate}
 use Rattle.jpeg_bits.specs.Entropy.{Text}
 use Rattle.jpeg_bits.specs.Codes.{Table, IsTable}
+use Rattle.jpeg_bits.specs.Readers.{gives, ◌>>=◌}
 use Rattle.jpeg_bits.specs.Bands.{Band, before_more, wrapped, token_from, after_token, first_ac}
 use Rattle.jpeg_bits.specs.Written.{IsCoded}
 use Rattle.jpeg_bits.specs.declared.tokens.Token.{Token}
 use Rattle.jpeg_bits.specs.declared.tokens.Token.TheVariants.{Value, Sixteen, Rest, Overlong}
-use Rattle.jpeg_streams.specs.WrittenData.{no_numbers, WritesBand}
+use Rattle.jpeg_streams.specs.WrittenData.{no_numbers}
 use Rattle.jpeg_streams.specs.WrittenData.WritesBand.{full, value as a_value, sixteen as a_sixteen, ended as an_end}
 use Rattle.jpeg_streams.proofs.SentBlocks.{scaled, InRange}
 use Rattle.jpeg_streams.proofs.WrittenBands.{map-no_numbers, scaled-fits}
-use Rattle.jpeg_evidence.specs.Strict.{alone, IsCut, IsNumber, IsValue, Follows, IsToken}
-use Rattle.jpeg_evidence.specs.Strict.{IsTokenWithin, room_after, TokensFit, HasByteSymbols, IsBand}
+use Rattle.jpeg_evidence.specs.Strict.{alone, IsCut, IsNumber, IsValue, Follows, IsToken, IsTokenWithin, room_after}
+use Rattle.jpeg_evidence.specs.Strict.{TokensFit, HasByteSymbols, IsBand}
 use Rattle.jpeg_evidence.specs.Strict.Follows.{value, sixteen, ended}
 use Rattle.jpeg_evidence.specs.Strict.TokensFit.{filled, token}
-use Rattle.jpeg_evidence.proofs.TakenBits.{after-read, gives-taken, map-taken, cut-map, cut-both, Both}
+use Rattle.jpeg_evidence.proofs.TakenBits.{after-read, gives-taken, map-taken, cut-map, cut-then, After}
 use Rattle.jpeg_evidence.proofs.TakenTokens.{token_taken}
 
 of-value : (r s k : ℕ) (u : ℤ) (own : List Bool) → Follows r s (Value k u) own → (r ≡ k) × (0 < s) × IsValue s u own
@@ -51,33 +52,23 @@ sixteen-written : (table : Table) (al : ℕ) (band : List ℤ) (run : ℕ) (own 
     → IsBand table al (no_numbers 16 ++ band) run (own ++ back)
 sixteen-written table al band run own back w b =
     let f = of-sixteen w.r w.s w.after w.follows in
-    let symbol : 16 * w.r + w.s ≡ 16 * 15 + 0 = omega (arith, f.0, f.1) in
-    let coded = subst (λ (k : ℕ). IsCoded table k w.code) symbol w.coded in
     let same : w.code ≡ own = sym (append-nil w.code) ∙ ap (λ (l : List Bool). w.code ++ l) (sym f.2) ∙ w.whole in
+    let coded : IsCoded table (16 * 15 + 0) own = grind arith in
     record {
       numbers = no_numbers 16 ++ b.numbers;
       are = map-no_numbers al 16 b.numbers ∙ ap (λ (l : List ℤ). no_numbers 16 ++ l) b.are;
-      written = subst (λ (l : List Bool). WritesBand table (no_numbers 16 ++ b.numbers) (l ++ back) run) same
-          (a_sixteen w.code b.numbers back run coded b.written);
+      written = a_sixteen own b.numbers back run coded b.written;
     }
 
 rest-written : (table : Table) (al room run : ℕ) (own : List Bool) → HasByteSymbols table → IsToken
     table (Rest run) own
     → IsBand table al (no_numbers (suc room)) run own
-rest-written table al room run own bytes w =
-    let f = of-rest w.r w.s run w.after w.follows in
-    let e = f.2 in
-    let is = f.4 in
-    let coded = subst (λ (k : ℕ). IsCoded table (16 * w.r + k) w.code) f.1 w.coded in
-    let small = run-small table w.r 0 w.code bytes coded in
-    let ne = f.0 in
-    let low : w.r ≤ 14 = omega (arith, small, ne) in
-    record {
-      numbers = no_numbers (suc room);
-      are = ap (map (scaled al)) (sym (append-nil (no_numbers (suc room)))) ∙ map-no_numbers al (suc room) []
-          ∙ append-nil (no_numbers (suc room));
-      written = grind (arith, an_end);
-    }
+rest-written table al room run own bytes w = record {
+  numbers = no_numbers (suc room);
+  are = ap (map (scaled al)) (sym (append-nil (no_numbers (suc room)))) ∙ map-no_numbers al (suc room) []
+      ∙ append-nil (no_numbers (suc room));
+  written = grind (arith, an_end, of-rest, run-small);
+}
 
 -- a band of so many places
 pub record IsLong (table : Table) (al room : ℕ) (y : Band) (own : List Bool) : Type 0 where
@@ -86,7 +77,7 @@ pub record IsLong (table : Table) (al room : ℕ) (y : Band) (own : List Bool) :
 
 -- what is written for a token and for what was read after it
 abbrev IsAfter : Table → ℕ → ℕ → Token → Band → List Bool → Type 0
-IsAfter table al room x y back = (own : List Bool) → IsToken table x own → IsLong table al room y (own ++ back)
+IsAfter table al room x y = After (IsToken table x) (IsLong table al room y)
 
 step : (table : Table) (al n room : ℕ) (x : Token) (more : List Bool) (y : Band) (t : Text) →
     HasByteSymbols table
@@ -96,62 +87,41 @@ step : (table : Table) (al n room : ℕ) (x : Token) (more : List Bool) (y : Ban
     → after_token al (first_ac table al n) (no_numbers (suc room)) x (alone more) ≡ Ok (y, t)
     → IsCut (IsAfter table al (suc room) x y) more t
 step table al n room (Value r u) more y t bytes fits others e =
-    let following = no_numbers (suc room) in
-    let small = fits.0 in
-    let front : take r following ≡ no_numbers r = take-replicate r (suc room) (pos 0) (omega
-    (arith, small)) in
-    let back : drop (r + 1) following ≡ no_numbers (suc room - (r + 1)) = drop-replicate (r + 1)
-    (suc room) (pos 0) in
-    map-taken (first_ac table al n (drop (r + 1) following))
-    (λ (m : Band). before_more (take r following ++ wrapped (scaled al u) ∷ []) m) (IsLong table al
-    (suc room - (r + 1)))
-    (IsAfter table al (suc room) (Value r u)) more t y
-    (λ z j. others z (ap (λ (l : List ℤ). first_ac table al n l (alone more)) (sym back) ∙ j))
-    (grind (arith, value-written, length-append, length-replicate)) e
+    let low : r ≤ suc room = (let small = fits.0 in omega (arith, small)) in
+    map-taken (first_ac table al n (no_numbers (suc room - (r + 1))))
+    (λ (m : Band). before_more (no_numbers r ++ wrapped (scaled al u) ∷ []) m) (IsLong table al (suc room - (r + 1)))
+    (IsAfter table al (suc room) (Value r u)) others
+    (grind (arith, value-written, length-append, length-replicate))
+    (rw (take-replicate r (suc room) (pos 0) low, drop-replicate (r + 1) (suc room) (pos 0)) at e)
 step table al n room Sixteen more y t bytes fits others e =
-    let following = no_numbers (suc room) in
-    let front : take 16 following ≡ no_numbers 16 = take-replicate 16 (suc room) (pos 0) fits in
-    let back : drop 16 following ≡ no_numbers (suc room - 16) = drop-replicate 16 (suc room) (pos
-    0) in
-    map-taken (first_ac table al n (drop 16 following)) (λ (m : Band). before_more (take 16
-    following) m)
-    (IsLong table al (suc room - 16)) (IsAfter table al (suc room) Sixteen) more t y
-    (λ z j. others z (ap (λ (l : List ℤ). first_ac table al n l (alone more)) (sym back) ∙ j))
-    (λ z own b first w. subst (λ (l : List ℤ). IsLong table al (suc room) (before_more l z) (first ++ own)) (sym front)
-    (search (rules, sixteen-written, length-append, length-replicate))) e
+    map-taken (first_ac table al n (no_numbers (suc room - 16))) (λ (m : Band). before_more (no_numbers 16) m)
+    (IsLong table al (suc room - 16)) (IsAfter table al (suc room) Sixteen) others
+    (λ z own b first w. search (rules, sixteen-written, length-append, length-replicate))
+    (ap₂ (λ (f d : List ℤ). (first_ac table al n d >>= (λ (m : Band). gives (before_more f m))) (alone more))
+    (sym (take-replicate 16 (suc room) (pos 0) fits)) (sym (drop-replicate 16 (suc room) (pos 0))) ∙ e)
 step table al n room (Rest run) more y t bytes fits others e = grind (arith, gives-taken, append-nil, rest-written, length-replicate)
 step table al n room Overlong more y t bytes fits others e = absurd fits
 
-pub after-small : (k n : ℕ) (x : Token) → suc k ≤ suc n → room_after (suc k) x ≤ n
+after-small : (k n : ℕ) (x : Token) → suc k ≤ suc n → room_after (suc k) x ≤ n
 after-small k n x h = grind arith
 
 -- The bits that were taken of a band whose tokens fit are written for it, and it has all its places.
-pub long-taken : (table : Table) (al n room : ℕ) (bits : List Bool) (y : Band) (t : Text) → IsTable table
+pub long-taken : {table : Table} {al n room : ℕ} {bits : List Bool} {y : Band} {t : Text} → IsTable table
     → HasByteSymbols table → TokensFit table al room bits → room ≤ n
     → first_ac table al n (no_numbers room) (alone bits) ≡ Ok (y, t) → IsCut (IsLong table al room y) bits t
 unfolding first_ac
-long-taken table al n room bits y t is bytes (filled bits') le e =
-    gives-taken (IsLong table al 0) ([], 0) y bits t
-    (record { band = record { numbers = []; are = refl; written = full }; long = refl }) e
-long-taken table al zero room bits y t is bytes (token k x bits' more h f w) le e = absurd (omega arith)
-long-taken table al (suc n) room bits y t is bytes (token k x bits' more h f w) le e =
-    let following = no_numbers (suc k) in
-    let long : length following ≡ suc k = length-replicate (suc k) (pos 0) in
-    let after = after_token al (first_ac table al n) following in
-    let rest = after-read (token_from table (length following)) after x (alone bits) (alone more) t
-    y
-    (ap (λ (j : ℕ). token_from table j (alone bits)) long ∙ h) e in
-    let small : room_after (suc k) x ≤ n = after-small k n x le in
-    let d = step table al n k x more y t bytes f
-    (λ z j. long-taken table al n (room_after (suc k) x) more z t is bytes w small j) rest in
-    cut-map (Both (IsToken table x) (IsAfter table al (suc k) x y)) (IsLong table al (suc k) y) bits t
-    (λ own b. subst (λ (l : List Bool). IsLong table al (suc k) y l) b.whole (b.second b.front b.first))
-    (cut-both (IsToken table x) (IsAfter table al (suc k) x y) bits more t (token_taken table (suc k) bits x (alone more) is h) d)
+long-taken {table} {al} is bytes (filled bits') le e = search (rules, gives-taken, full)
+long-taken {n = zero} is bytes (token k x bits' more h f w) le e = absurd (omega arith)
+long-taken {table} {al} {n = suc n} {y = y} {t = t} is bytes (token k x bits' more h f w) le e =
+    let long : length (no_numbers (suc k)) ≡ suc k = length-replicate (suc k) (pos 0) in
+    let rest = after-read (token_from table (suc k)) (after_token al (first_ac table al n) (no_numbers (suc k))) h
+    (rw long at e) in
+    cut-then (token_taken (suc k) is h)
+    (step table al n k x more y t bytes f (λ z. long-taken {n = n} is bytes w (after-small k n x le)) rest)
 
 -- The bits that were taken of a band whose tokens fit are written for it.
 pub band_taken : (table : Table) (al n room : ℕ) (bits : List Bool) (y : Band) (t : Text) → IsTable table
     → HasByteSymbols table → TokensFit table al room bits → room ≤ n
     → first_ac table al n (no_numbers room) (alone bits) ≡ Ok (y, t) → IsCut (IsBand table al y.0 y.1) bits t
 band_taken table al n room bits y t is bytes fits le e =
-    cut-map (IsLong table al room y) (IsBand table al y.0 y.1) bits t (λ own b. b.band)
-    (long-taken table al n room bits y t is bytes fits le e)
+    cut-map {P = IsLong table al room y} (λ own b. b.band) (long-taken is bytes fits le e)

@@ -1,13 +1,13 @@
 -- The bits that were taken are those of what was read of them.
 use Rattle.std.proofs.lemmas.Grind.{common_steps}
-use Rattle.std.proofs.Common.{rules, ◌≡◌, ℕ, zero, suc, ◌+◌, ◌*◌, ◌^◌, ◌<◌, ◌≤◌, Bool, true}
-use Rattle.std.proofs.Common.{false, cond, List, [], ◌∷◌, ◌++◌, length, take, replicate, refl, sym}
-use Rattle.std.proofs.Common.{ap, ◌∙◌, subst, arith, take-append-drop, length-take, pow-suc}
-use Rattle.std.proofs.Common.{mul_assoc, Ok, Err, Result, if◌then◌else◌, slice_index, Option, Some}
-use Rattle.std.proofs.Common.{None, leb, append_assoc}
+use Rattle.std.proofs.Common.{rules, ◌≡◌, ℕ, zero, suc, ◌+◌, ◌*◌, ◌^◌, ◌<◌, ◌≤◌, Bool, true, false, cond, List, []}
+use Rattle.std.proofs.Common.{◌∷◌, ◌++◌, length, take, replicate, refl, sym, ap, ◌∙◌, arith, take-append-drop}
+use Rattle.std.proofs.Common.{length-take, pow-suc, mul_assoc, Ok, Err, Result, if◌then◌else◌, slice_index, Option}
+use Rattle.std.proofs.Common.{Some, None, leb, append_assoc}
 use lib.Arith.{digits_div}
 use Rattle.std.proofs.Math.Nat.{add-mul, zero-mul, one-mul}
-use Rattle.std.proofs.lemmas.Bool.{leb-true, eqb-true}
+use Rattle.std.proofs.lemmas.Bool.{eqb-true}
+use Rattle.std.proofs.lemmas.Bool.Decides.{nat_tests}
 use Rattle.std.proofs.lemmas.List.{take-append-le, take-take}
 use Rattle.std.proofs.Math.Seq.{drop-nil}
 use Rattle.jpeg_bits.specs.Reading.{Fault, End, Malformed}
@@ -15,9 +15,8 @@ use Rattle.jpeg_bits.specs.Reading as outcomes
 use Rattle.jpeg_bits.specs.Entropy.{bits_from, number_of, Text, advance}
 use Rattle.jpeg_bits.specs.Readers.{Reads, gives, ◌>>=◌}
 use Rattle.jpeg_bits.proofs.CodeLemmas.{first_from}
-use Rattle.jpeg_bits.specs.Codes.{Table, IsTable, code_from, code_in, code_value, begins, code_lengths}
-use Rattle.jpeg_bits.specs.Codes.{next_16, code_by, symbol_from}
-use Rattle.jpeg_bits.proofs.BufferedBits.{if_buffered}
+use Rattle.jpeg_bits.specs.Codes.{Table, IsTable, code_from, code_in, code_value, begins, code_lengths, next_16}
+use Rattle.jpeg_bits.specs.Codes.{code_by, symbol_from}
 use Rattle.jpeg_bits.specs.Written.{low_bits, IsCoded}
 use Rattle.jpeg_bits.proofs.Tables.{rising-at, all-rising, symbol-code}
 use Rattle.jpeg_bits.proofs.WrittenBits.{number_onto}
@@ -37,20 +36,16 @@ number-more b bs =
     let z : 2 * 0 + cond b 1 0 ≡ cond b 1 0 = omega arith in
     ap (λ (x : ℕ). number_onto x bs) z ∙ number-split (cond b 1 0) bs
 
-pub number-below : (bs : List Bool) → number_of bs < 2 ^ length bs
+number-below : (bs : List Bool) → number_of bs < 2 ^ length bs
 number-below [] = omega arith
 number-below (true ∷ bs) = search (rules, number-more, pow-suc, one-mul, number-below bs)
 number-below (false ∷ bs) = grind (arith, number-more, pow-suc, zero-mul, number-below bs)
 
 -- bits are the low bits of their number
-pub bits-back : (bs : List Bool) → low_bits (length bs) (number_of bs) ≡ bs
+bits-back : (bs : List Bool) → low_bits (length bs) (number_of bs) ≡ bs
 unfolding low_bits
 bits-back [] = refl
-bits-back (b ∷ bs) =
-    grind (arith, common_steps, number-more, digits_div, number-below, low_bits-high, bits-back bs)
-
-pub bits-of-length : (n : ℕ) (bs : List Bool) → length bs ≡ n → (low_bits n (number_of bs) ≡ bs) × (number_of bs < 2 ^ n)
-bits-of-length n bs h = grind (arith, bits-back, number-below)
+bits-back (b ∷ bs) = search (rules, number-more, digits_div, number-below, low_bits-high, bits-back bs)
 
 -- ---- what was read
 
@@ -72,119 +67,99 @@ pub bind-parts : {A B : Type 0} (p : Reads A) (f : A → Reads B) (s t : Text) (
 bind-parts {A} {B} p f s t y e = grind (arith, no-error)
 
 -- what follows what was read
-pub after-read : {A B : Type 0} (p : Reads A) (f : A → Reads B) (a : A) (s u t : Text) (y : B) → p s ≡ Ok (a, u)
+pub after-read : {A B : Type 0} {s u t : Text} {y : B} {a : A} (p : Reads A) (f : A → Reads B) → p s ≡ Ok (a, u)
     → (p >>= f) s ≡ Ok (y, t) → f a u ≡ Ok (y, t)
-after-read {A} {B} p f a s u t y h e = rw h at e
+after-read p f h e = rw h at e
 
-pub map-parts : {A B : Type 0} (p : Reads A) (f : A → B) (s t : Text) (y : B)
+pub map-parts : {A B : Type 0} {s t : Text} {y : B} (p : Reads A) (f : A → B)
     → (p >>= (λ a. gives (f a))) s ≡ Ok (y, t) → (a : A) × (p s ≡ Ok (a, t)) × (f a ≡ y)
-map-parts {A} {B} p f s t y e = grind (arith, bind-parts, ok-parts)
+map-parts p f e = grind (arith, bind-parts, ok-parts)
 
--- Bits in two parts, of which P and Q hold.
-pub record Both (P Q : List Bool → Type 0) (own : List Bool) : Type 0 where
-  pub front : List Bool
-  pub back : List Bool
-  pub whole : front ++ back ≡ own
-  pub first : P front
-  pub second : Q back
-
-pub cut-map : (P Q : List Bool → Type 0) (bits : List Bool) (t : Text) → ((own : List Bool) → P own → Q own)
+pub cut-map : {P Q : List Bool → Type 0} {bits : List Bool} {t : Text} → ((own : List Bool) → P own → Q own)
     → IsCut P bits t → IsCut Q bits t
-cut-map P Q bits t f c = record { own = c.own; parts = c.parts; rest = c.rest; holds = f c.own c.holds }
+cut-map f c = record { own = c.own; parts = c.parts; rest = c.rest; holds = f c.own c.holds }
 
-pub cut-none : (P : List Bool → Type 0) (bits : List Bool) (t : Text) → alone bits ≡ t → P [] → IsCut P bits t
-cut-none P bits t e h = grind arith
+-- what Q says of bits after those of which P holds
+abbrev pub After : (List Bool → Type 0) → (List Bool → Type 0) → List Bool → Type 0
+After P Q back = (own : List Bool) → P own → Q (own ++ back)
 
-pub cut-both : (P Q : List Bool → Type 0) (bits more : List Bool) (t : Text) → IsCut P bits (alone more)
-    → IsCut Q more t → IsCut (Both P Q) bits t
-cut-both P Q bits more t c d = record {
-  own = c.own ++ d.own;
-  parts = c.parts ∙ ap (λ (l : List Bool). c.own ++ l) d.parts ∙ sym (append_assoc c.own d.own t.bits);
-  rest = d.rest;
-  holds = record { front = c.own; back = d.own; whole = refl; first = c.holds; second = d.holds };
-}
+pub cut-then : {P Q : List Bool → Type 0} {bits more : List Bool} {t : Text} → IsCut P bits (alone more)
+    → IsCut (After P Q) more t → IsCut Q bits t
+cut-then c d = search (rules, append_assoc)
 
 -- what was read in two steps, each of the bits that the other leaves
-pub bind-cut : {A B : Type 0} (p : Reads A) (f : A → Reads B) (bits : List Bool) (t : Text) (y : B)
-    (P Q : A → List Bool → Type 0) → (p >>= f) (alone bits) ≡ Ok (y, t)
+pub bind-cut : {A B : Type 0} {bits : List Bool} {t : Text} {y : B} {Q : List Bool → Type 0} (p : Reads A)
+    (f : A → Reads B) (P : A → List Bool → Type 0)
     → ((a : A) (u : Text) → p (alone bits) ≡ Ok (a, u) → IsCut (P a) bits u)
     → ((a : A) (more : List Bool) → p (alone bits) ≡ Ok (a, alone more) → f a (alone more) ≡ Ok (y, t)
-    → IsCut (Q a) more t)
-    → (a : A) × IsCut (Both (P a) (Q a)) bits t
-bind-cut {A} {B} p f bits t y P Q e first second =
-    let r = bind-parts p f (alone bits) t y e in
-    let a = r.0 in
-    let u = r.1 in
-    let c = first a u r.2 in
-    grind (arith, cut-both)
+    → IsCut (After (P a) Q) more t) → (p >>= f) (alone bits) ≡ Ok (y, t) → IsCut Q bits t
+bind-cut p f P first second e =
+    let r = bind-parts p f _ _ _ e in
+    let c = first r.0 r.1 r.2 in
+    cut-then (rw c.rest at c) (second r.0 r.1.bits (rw c.rest at r.2) (rw c.rest at r.3))
 
 -- what is told with no bits
-pub gives-taken : {A : Type 0} (P : A → List Bool → Type 0) (x y : A) (bits : List Bool) (t : Text) → P x []
+pub gives-taken : {A : Type 0} {x y : A} {bits : List Bool} {t : Text} (P : A → List Bool → Type 0) → P x []
     → gives x (alone bits) ≡ Ok (y, t) → IsCut (P y) bits t
-gives-taken {A} P x y bits t h e = grind (arith, common_steps, ok-parts, cut-none)
+gives-taken P h e = grind (arith, common_steps, ok-parts)
 
 -- by one of two readers
-pub if-read : {A C : Type 0} (b : Bool) (p q : Reads A) (s : Text) (o : Result (A × Text) Fault)
+pub if-read : {A C : Type 0} {s : Text} {o : Result (A × Text) Fault} (b : Bool) (p q : Reads A)
     → (if b then p else q) s ≡ o → (b ≡ true → p s ≡ o → C) → (b ≡ false → q s ≡ o → C) → C
-if-read true p q s o e f g = f refl e
-if-read false p q s o e f g = g refl e
+if-read true p q e f g = f refl e
+if-read false p q e f g = g refl e
 
 -- what is told of what was read
-pub map-taken : {A B : Type 0} (p : Reads A) (f : A → B) (P : A → List Bool → Type 0) (Q : B → List Bool → Type 0)
-    (bits : List Bool) (t : Text) (y : B) → ((a : A) → p (alone bits) ≡ Ok (a, t) → IsCut (P a) bits t)
+pub map-taken : {A B : Type 0} {bits : List Bool} {t : Text} {y : B} (p : Reads A) (f : A → B)
+    (P : A → List Bool → Type 0) (Q : B → List Bool → Type 0)
+    → ((a : A) → p (alone bits) ≡ Ok (a, t) → IsCut (P a) bits t)
     → ((a : A) (own : List Bool) → P a own → Q (f a) own)
     → (p >>= (λ a. gives (f a))) (alone bits) ≡ Ok (y, t) → IsCut (Q y) bits t
-map-taken {A} {B} p f P Q bits t y taken told e =
-    let m = map-parts p f (alone bits) t y e in
-    cut-map (P m.0) (Q y) bits t (λ own w. subst (λ (v : B). Q v own) m.2 (told m.0 own w)) (taken m.0 m.1)
+map-taken p f P Q taken told e =
+    let m = map-parts p f e in
+    rw m.2 at (cut-map (told m.0) (taken m.0 m.1))
 
 -- the first n bits, of at least so many
-pub cut-front : (P : List Bool → Type 0) (n : ℕ) (bits : List Bool) (t : Text) → advance n (alone bits) ≡ t
+cut-front : (P : List Bool → Type 0) (n : ℕ) (bits : List Bool) (t : Text) → advance n (alone bits) ≡ t
     → P (take n bits) → IsCut P bits t
 cut-front P n bits t e h = grind (arith, drop-nil, take-append-drop)
 
 front-number : (n : ℕ) (bits : List Bool) → n ≤ length bits
     → (low_bits n (number_of (take n bits)) ≡ take n bits) × (number_of (take n bits) < 2 ^ n)
-front-number n bits le = bits-of-length n (take n bits) (omega (arith, length-take n bits))
+front-number n bits le =
+    let size : length (take n bits) ≡ n = omega (arith, length-take n bits) in
+    grind (arith, bits-back, number-below)
 
 -- ---- numbers
 
+-- the bits are there, and what was told of them
+bits-there : {A : Type 0} (n : ℕ) (x y : A) (bits : List Bool) (t : Text)
+    → outcomes.◌>>=◌ {B = A × Text} (cond (leb n (length bits)) (Ok tt) (Err End)) (λ (u : Unit {0}).
+    Ok (x, advance n (alone bits))) ≡ Ok (y, t) → (n ≤ length bits) × (x ≡ y) × (advance n (alone bits) ≡ t)
+bits-there n x y bits t e = grind (arith, nat_tests, ok-parts, no-error)
+
 -- The bits that were taken of a number are its bits.
-pub number_taken : (n : ℕ) (bits : List Bool) (v : ℕ) (t : Text) → bits_from n (alone bits) ≡ Ok (v, t)
+pub number_taken : {n v : ℕ} {bits : List Bool} {t : Text} → bits_from n (alone bits) ≡ Ok (v, t)
     → IsCut (IsNumber n v) bits t
 unfolding bits_from
-number_taken n bits v t e = go (leb n (length bits)) refl e
-  where
-    go : (b : Bool) → leb n (length bits) ≡ b
-        → outcomes.◌>>=◌ {B = ℕ × Text} (cond b (Ok tt) (Err End)) (λ (x : Unit {0}).
-        Ok (number_of (take n (bits ++ replicate n false)), advance n (alone bits))) ≡ Ok (v, t)
-        → IsCut (IsNumber n v) bits t
-    go false h k = absurd (no-error End (v, t) k)
-    go true h k =
-        let q = ok-parts (number_of (take n (bits ++ replicate n false))) v (advance n (alone bits)) t k in
-        let le : n ≤ length bits = leb-true n (length bits) h in
-        let front : take n (bits ++ replicate n false) ≡ take n bits = take-append-le n bits (replicate n false) le in
-        let is = front-number n bits le in
-        let value : number_of (take n bits) ≡ v = ap number_of (sym front) ∙ q.0 in
-        cut-front (IsNumber n v) n bits t q.1 (grind arith)
+number_taken {n} {v} {bits} {t} e =
+    let q = bits-there n (number_of (take n (bits ++ replicate n false))) v bits t e in
+    let front : take n (bits ++ replicate n false) ≡ take n bits = take-append-le n bits (replicate n false) q.0 in
+    let is = front-number n bits q.0 in
+    let value : number_of (take n bits) ≡ v = ap number_of (sym front) ∙ q.1 in
+    cut-front (IsNumber n v) n bits t q.2 (grind arith)
 
 -- ---- codes
 
-some-or : {A : Type 0} → A → Option A → A
-some-or d None = d
-some-or d (Some x) = x
-
 some-is : {A : Type 0} (a b : A) → ◌≡◌ {A = Option A} (Some a) (Some b) → a ≡ b
-unfolding some-or
-some-is {A} a b e = ap (some-or a) e
+some-is a b e = cc
 
 none-is : {A : Type 0} (a : A) → ◌≡◌ {A = Option A} None (Some a) → ⊥
 none-is a e = cc
 
 test-found : (test : ℕ → Bool) (a n i : ℕ) → first_from test a n ≡ Some i → (test i ≡ true) × (i < a + n)
 test-found test a zero i e = absurd (none-is i e)
-test-found test a (suc n) i e =
-    grind (arith, common_steps, first_from, some-is, test-found test (a + 1) n i)
+test-found test a (suc n) i e = search (rules, first_from, some-is, test-found test (a + 1) n i)
 
 code-index : (lens : List ℕ) (bits : List Bool) (c : ℕ × ℕ) → code_in lens bits ≡ Some c
     → (c.0 < length lens) × (c.1 ≡ slice_index lens c.0)
@@ -193,34 +168,25 @@ unfolding code_in begins
 code-index lens bits c e = grind (arith, none-is, some-is, test-found, eqb-true)
 
 -- The bits that were taken of a code are those of a code for its symbol.
-pub code-taken : (table : Table) (bits : List Bool) (c : ℕ × ℕ) (t : Text) → IsTable table
+pub code-taken : {table : Table} {bits : List Bool} {c : ℕ × ℕ} {t : Text} → IsTable table
     → code_from table (alone bits) ≡ Ok (c, t) → IsCut (IsCoded table c.1) bits t
 unfolding code_from
-code-taken table bits c t is e = go (code_in (code_lengths table.counts) (next_16 bits)) refl e
+code-taken {table} {bits} {c} {t} is e = go (code_in (code_lengths table.counts) (next_16 bits)) refl e
   where
-    kept : (x : ℕ × ℕ) → code_in (code_lengths table.counts) (next_16 bits) ≡ Some x → (b : Bool)
-        → leb x.1 (length bits) ≡ b
-        → if_buffered (x.1, slice_index table.symbols x.0) (advance x.1 (alone bits)) (cond b (Ok tt)
-        (Err End)) ≡ Ok (c, t)
-        → IsCut (IsCoded table c.1) bits t
-    kept x h false k l = absurd (no-error End (c, t) l)
-    kept x h true k l =
+    go : (o : Option (ℕ × ℕ)) → code_in (code_lengths table.counts) (next_16 bits) ≡ o
+        → code_by table (alone bits) o ≡ Ok (c, t) → IsCut (IsCoded table c.1) bits t
+    go None h k = absurd (no-error Malformed (c, t) k)
+    go (Some x) h k =
         let lens = code_lengths table.counts in
-        let le : x.1 ≤ length bits = leb-true x.1 (length bits) k in
-        let q = ok-parts (x.1, slice_index table.symbols x.0) c (advance x.1 (alone bits)) t l in
+        let q = bits-there x.1 (x.1, slice_index table.symbols x.0) c bits t k in
         let index = code-index lens (next_16 bits) x h in
         let top = (rising-at 1 16 lens x.0 (all-rising table.counts is.counted) index.0).1 in
         let small : x.1 ≤ 16 = omega (arith, top, index.1) in
         let front : take x.1 (next_16 bits) ≡ take x.1 bits
-        = take-take x.1 16 (bits ++ replicate 16 false) small ∙ take-append-le x.1 bits (replicate 16 false) le in
+        = take-take x.1 16 (bits ++ replicate 16 false) small ∙ take-append-le x.1 bits (replicate 16 false) q.0 in
         grind (arith, front-number, cut-front)
 
-    go : (o : Option (ℕ × ℕ)) → code_in (code_lengths table.counts) (next_16 bits) ≡ o
-        → code_by table (alone bits) o ≡ Ok (c, t) → IsCut (IsCoded table c.1) bits t
-    go None h k = absurd (no-error Malformed (c, t) k)
-    go (Some x) h k = kept x h (leb x.1 (length bits)) refl k
-
 -- The same of a symbol.
-pub symbol_taken : (table : Table) (bits : List Bool) (symbol : ℕ) (t : Text) → IsTable table
+pub symbol_taken : {table : Table} {bits : List Bool} {symbol : ℕ} {t : Text} → IsTable table
     → symbol_from table (alone bits) ≡ Ok (symbol, t) → IsCut (IsCoded table symbol) bits t
-symbol_taken table bits symbol t is e = grind (arith, map-parts, symbol-code, code-taken)
+symbol_taken is e = grind (arith, map-parts, symbol-code, code-taken)

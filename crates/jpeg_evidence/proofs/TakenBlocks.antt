@@ -1,32 +1,29 @@
 -- The bits that were taken of a block are those that are written for it.
-use Rattle.std.proofs.Common.{length-take}
-use Rattle.std.proofs.Common.{rules, ◌≡◌, ℕ, zero, suc, ◌+◌, ◌-◌, ◌*◌, ◌^◌, ◌<◌, Bool, true, false}
-use Rattle.std.proofs.Common.{List, [], ◌∷◌, map, length, refl, sym, ap, ◌∙◌, subst, arith, Ok, ℤ}
-use Rattle.std.proofs.Common.{pos, ◌+ℤ◌, ◌-ℤ◌, unsigned_abs, le_refl, append-nil, ap₂, negsuc}
+use Rattle.std.proofs.Common.{length-take, rules, ◌≡◌, ℕ, zero, suc, ◌+◌, ◌-◌, ◌*◌, ◌^◌, ◌<◌, Bool, true, false}
+use Rattle.std.proofs.Common.{List, [], ◌∷◌, ◌++◌, map, length, refl, sym, ap, ◌∙◌, subst, arith, Ok, ℤ, pos, ◌+ℤ◌}
+use Rattle.std.proofs.Common.{unsigned_abs, le_refl, append-nil, ap₂, negsuc}
 use Rattle.std.proofs.lemmas.Bool.{eqb-true, eqb-false}
-use Rattle.std.proofs.lemmas.Int.{ints, int_wrap_fits}
+use Rattle.std.proofs.lemmas.Int.{int_wrap_fits}
 use Rattle.std.proofs.lemmas.List.{length-map, length-replicate}
 use Rattle.jpeg_bits.specs.Entropy.{Text, bits_from}
 use Rattle.jpeg_bits.specs.Codes.{Table, IsTable}
-use Rattle.jpeg_bits.specs.Readers.{Reads, gives, ◌>>=◌}
+use Rattle.jpeg_bits.specs.Readers.{gives, ◌>>=◌}
 use Rattle.jpeg_bits.specs.Bands.{Band, difference, first_dc, wrapped, first_ac}
 use Rattle.jpeg_bits.specs.Refinement.{corrected, refined_ac}
 use Rattle.jpeg_bits.specs.Passes.{Block, Pass, Via, band_of, with_band, or_bit, dc_part, band_part, block_from}
 use Rattle.jpeg_streams.specs.Levels.{floor_at, toward_zero}
-use Rattle.jpeg_streams.specs.WrittenData.{no_numbers, WritesAc, WritesBand, WritesDc}
-use Rattle.jpeg_streams.specs.WrittenData.{NoneNew, corrections, low_bit, WritesRefinement}
+use Rattle.jpeg_streams.specs.WrittenData.{no_numbers, WritesAc, WritesBand, WritesDc, WritesDifference, NoneNew}
+use Rattle.jpeg_streams.specs.WrittenData.{corrections, low_bit, WritesRefinement}
 use Rattle.jpeg_streams.specs.WrittenData.WritesDc.{other_band, whole as a_whole, one_bit}
-use Rattle.jpeg_streams.specs.WrittenData.WritesAc.{no_band, first as a_first, first_run}
-use Rattle.jpeg_streams.specs.WrittenData.WritesAc.{again as a_refinement, again_run}
+use Rattle.jpeg_streams.specs.WrittenData.WritesAc.{no_band, first as a_first, first_run, again as a_refinement}
+use Rattle.jpeg_streams.specs.WrittenData.WritesAc.{again_run}
 use Rattle.jpeg_streams.proofs.SentBlocks.{scaled, InRange, dc_kept, floor_half}
 use Rattle.jpeg_streams.proofs.WrittenBands.{map-no_numbers, scaled-fits, range-below, mag-le}
 use Rattle.jpeg_streams.proofs.CutLevels.{band-map}
-use Rattle.jpeg_evidence.specs.Strict.{alone, IsCut, HasByteSymbols, TokensFit, IsBlock, BlockFits}
-use Rattle.jpeg_evidence.specs.Strict.{HasTables, IsNumber, PiecesFit}
-use Rattle.jpeg_evidence.proofs.TakenBits.{bind-cut, gives-taken, map-parts, map-taken, cut-map, Both}
-use Rattle.jpeg_evidence.proofs.TakenBits.{if-read, number_taken}
-use Rattle.jpeg_evidence.proofs.TakenRefinements.{IsKept, IsCorrected, IsRefined, alike-long}
-use Rattle.jpeg_evidence.proofs.TakenRefinements.{alike-none, one-bit}
+use Rattle.jpeg_evidence.specs.Strict.{alone, IsCut, HasByteSymbols, TokensFit, IsBlock, BlockFits, HasTables}
+use Rattle.jpeg_evidence.specs.Strict.{IsNumber, PiecesFit}
+use Rattle.jpeg_evidence.proofs.TakenBits.{bind-cut, gives-taken, map-taken, cut-map, After, if-read, number_taken}
+use Rattle.jpeg_evidence.proofs.TakenRefinements.{IsKept, IsCorrected, IsRefined, alike-long, one-bit}
 use Rattle.jpeg_evidence.proofs.TakenRefinements.{corrected-taken, refined-taken}
 use Rattle.jpeg_evidence.proofs.TakenValues.{difference_taken}
 use Rattle.std.specs.List.{AllByRecursion}
@@ -45,30 +42,26 @@ abbrev DcFits : Pass → Table → ℤ → List Bool → Type 0
 DcFits p table predictor bits = (d : ℤ) (more : List Bool) → difference table (alone bits) ≡ Ok (d, alone more)
     → unsigned_abs (predictor +ℤ d) * 2 ^ p.al < 2 ^ 15
 
-fits-itself : (u : ℤ) → unsigned_abs u < 2 ^ 15 → wrapped u ≡ u
-fits-itself u h = search (rules, int_wrap_fits, mag-le)
+first-written : (p : Pass) (table : Table) (predictor d : ℤ) (own : List Bool) → p.ss ≡ 0 → p.is_first ≡ true
+    → InRange p.al (predictor +ℤ d) → WritesDifference table d own
+    → WritesRead p table predictor (wrapped (scaled p.al (wrapped (predictor +ℤ d))), wrapped (predictor +ℤ d)) own
+first-written p table predictor d own s f range w =
+    search (rules, int_wrap_fits, mag-le, range-below, scaled-fits, floor-scaled, a_whole)
 
 dc-first : (p : Pass) (table : Table) (predictor : ℤ) (bits : List Bool) (y : ℤ × ℤ) (t : Text) → p.ss ≡ 0
     → p.is_first ≡ true → IsTable table → DcFits p table predictor bits
     → first_dc table p.al predictor (alone bits) ≡ Ok (y, t) → IsCut (WritesRead p table predictor y) bits t
 unfolding first_dc
-dc-first p table predictor bits y t s f is fits e =
-    let al = p.al in
-    let r = map-parts (difference table)
-    (λ (d : ℤ). (wrapped (scaled al (wrapped (predictor +ℤ d))), wrapped (predictor +ℤ d))) (alone bits) t y e in
-    let d = r.0 in
-    let c = difference_taken table bits d t is r.1 in
-    let read : difference table (alone bits) ≡ Ok (d, alone t.bits) = r.1 ∙ ap (λ (u : Text). Ok (d, u)) c.rest in
-    let u = predictor +ℤ d in
-    let range : InRange al u = record { within = fits d t.bits read } in
-    let plain : wrapped u ≡ u = fits-itself u (range-below al u range) in
-    let next : u ≡ y.1 = sym plain ∙ ap (λ (v : ℤ × ℤ). v.1) r.2 in
-    let kept : scaled al u ≡ y.0
-    = sym (scaled-fits al u range) ∙ ap (λ (x : ℤ). wrapped (scaled al x)) (sym plain)
-    ∙ ap (λ (v : ℤ × ℤ). v.0) r.2 in
-    let number : u ≡ floor_at al y.0 = sym (floor-scaled al u) ∙ ap (floor_at al) kept in
-    let same : d ≡ u -ℤ predictor = omega (arith, ints) in
-    grind (arith, cut-map, a_whole)
+dc-first p table predictor bits y t s f is fits =
+    map-taken (difference table)
+    (λ (d : ℤ). (wrapped (scaled p.al (wrapped (predictor +ℤ d))), wrapped (predictor +ℤ d)))
+    (λ (d : ℤ) (own : List Bool). InRange p.al (predictor +ℤ d) × WritesDifference table d own)
+    (WritesRead p table predictor)
+    (λ d k.
+    let c : IsCut (WritesDifference table d) bits t = difference_taken is k in
+    let range = fits d t.bits (k ∙ ap (λ (u : Text). Ok (d, u)) c.rest) in
+    cut-map (λ own w. (record { within = range }, w)) c)
+    (λ d own w. first-written p table predictor d own s f w.0 w.1)
 
 -- a number of the level above, with its bit
 pushed : ℤ → ℕ → ℤ
@@ -97,16 +90,13 @@ dc-again : (p : Pass) (table : Table) (z predictor : ℤ) (bits : List Bool) (y 
     → IsCut (WritesRead p table predictor y) bits t
 dc-again p table z predictor bits y t s f kept e =
     let al = p.al in
-    map-taken (bits_from 1) (λ (b : ℕ). (or_bit al z b, predictor)) (IsNumber 1) (WritesRead p table predictor) bits t y
-    (λ b. number_taken 1 bits b t)
+    map-taken (bits_from 1) (λ (b : ℕ). (or_bit al z b, predictor)) (IsNumber 1) (WritesRead p table predictor)
+    (λ b. number_taken)
     (λ b own w.
     let u = pushed (floor_at (suc al) z) b in
-    let number : u ≡ floor_at al (or_bit al z b)
-    = sym (floor-scaled al u) ∙ ap (floor_at al) (sym (pushed-or al b z w.below kept)) in
-    let own_is : bit (low_bit u) ∷ [] ≡ own
-    = ap (λ (x : ℕ). bit x ∷ []) (pushed-low (floor_at (suc al) z) b w.below) ∙ one-bit b own w in
-    subst (λ (x : ℤ). WritesDc p table x predictor own predictor) number
-    (subst (λ (l : List Bool). WritesDc p table u predictor l predictor) own_is (one_bit u predictor s f))) e
+    let one : WritesDc p table u predictor (bit (low_bit u) ∷ []) predictor = one_bit u predictor s f in
+    rw (pushed-or al b z w.below kept, floor-scaled al u, ← one-bit b own w)
+    (rw (pushed-low (floor_at (suc al) z) b w.below) at one)) e
 
 pub dc-taken-part : (p : Pass) (table : Table) (z predictor : ℤ) (bits : List Bool) (y : ℤ × ℤ) (t : Text)
     → (p.ss ≡ 0 → p.is_first ≡ true → IsTable table)
@@ -143,14 +133,8 @@ new-band : (p : Pass) (table : Table) (k : ℕ) (bits : List Bool) (y : Band) (t
     → first_ac table p.al k (no_numbers k) (alone bits) ≡ Ok (y, t)
     → IsCut (IsRead p table (no_numbers k) 0 y) bits t
 new-band p table k bits y t f some is bytes fits e =
-    let al = p.al in
-    cut-map (IsLong table al k y) (IsRead p table (no_numbers k) 0 y) bits t
-    (grind (arith, all-toward, length-map, length-replicate, written-first))
-    (long-taken table al k k bits y t is bytes fits (le_refl k) e)
-
--- numbers of a level are those of what was read
-level-numbers : (al : ℕ) (numbers ws : List ℤ) → map (scaled al) numbers ≡ ws → numbers ≡ map (toward_zero al) ws
-level-numbers al numbers ws e = sym (all-toward al numbers) ∙ ap (map (toward_zero al)) e
+    cut-map {P = IsLong table p.al k y} (grind (arith, all-toward, length-map, length-replicate, written-first))
+    (long-taken is bytes fits (le_refl k) e)
 
 written-again : (p : Pass) (table : Table) (numbers : List ℤ) (own : List Bool) (run : ℕ) → p.is_first ≡ false
     → 0 < length numbers → WritesRefinement table numbers own run → WritesAc p table numbers 0 own run
@@ -162,42 +146,33 @@ written-run : (p : Pass) (table : Table) (numbers : List ℤ) (run : ℕ) → p.
 written-run p table [] run f some none = absurd (omega arith)
 written-run p table (u ∷ us) run f some none = again_run u us run f none
 
+-- a band of numbers that were held at the level above, in their places
+old-read : (p : Pass) (table : Table) (zs numbers : List ℤ) (run : ℕ) (y : Band) (own : List Bool)
+    → map (scaled p.al) numbers ≡ y.0 → length numbers ≡ length zs → WritesAc p table numbers run own y.1
+    → IsRead p table zs run y own
+old-read p table zs numbers run y own are long w = search (rules, length-map, all-toward)
+
 old-band : (p : Pass) (table : Table) (zs : List ℤ) (bits : List Bool) (y : Band) (t : Text) → p.is_first ≡ false
     → 0 < length zs → IsTable table → HasByteSymbols table → AllByRecursion (IsKept p.al) zs →
     PiecesFit table p.al zs bits
     → refined_ac table p.al (length zs) zs (alone bits) ≡ Ok (y, t) → IsCut (IsRead p table zs 0 y) bits t
 old-band p table zs bits y t f some is bytes kept fits e =
-    let al = p.al in
-    cut-map (IsRefined table al zs y) (IsRead p table zs 0 y) bits t
-    (λ own w.
-    let size : length (map (scaled al) w.numbers) ≡ length w.numbers = length-map w.numbers (scaled al) in
-    let sizes : length (map (scaled al) w.numbers) ≡ length y.0 = ap (λ (l : List ℤ). length l) w.are in
+    cut-map {P = IsRefined table p.al zs y} (λ own w.
     let long = w.long in
-    record {
-      long = omega (arith, size, sizes, long);
-      written = subst (λ (l : List ℤ). WritesAc p table l 0 own y.1) (level-numbers al w.numbers y.0 w.are)
-          (written-again p table w.numbers own y.1 f (omega (arith, some, long)) w.written);
-    })
-    (refined-taken table al (length zs) zs bits y t is bytes kept fits (le_refl (length zs)) e)
+    old-read p table zs w.numbers 0 y own w.are long (written-again p table w.numbers own y.1 f (omega (arith, some, long)) w.written))
+    (refined-taken zs is bytes kept fits (le_refl (length zs)) e)
 
 run-band : (p : Pass) (table : Table) (zs : List ℤ) (run : ℕ) (bits : List Bool) (y : Band) (t : Text)
     → p.is_first ≡ false → 0 < length zs → AllByRecursion (IsKept p.al) zs
     → (corrected p.al zs >>= (λ all. gives (all, run))) (alone bits) ≡ Ok (y, t)
     → IsCut (IsRead p table zs (suc run) y) bits t
 run-band p table zs run bits y t f some kept e =
-    let al = p.al in
-    map-taken (corrected al zs) (λ (all : List ℤ). (all, run)) (IsCorrected al zs) (IsRead p table zs (suc run)) bits t y
-    (λ ws. corrected-taken al zs bits ws t kept)
+    map-taken (corrected p.al zs) (λ (all : List ℤ). (all, run)) (IsCorrected p.al zs) (IsRead p table zs (suc run))
+    (λ ws. corrected-taken zs kept)
     (λ ws own w.
-    let size : length (map (scaled al) w.us) ≡ length w.us = length-map w.us (scaled al) in
-    let sizes : length (map (scaled al) w.us) ≡ length ws = ap (λ (l : List ℤ). length l) w.are in
     let long = alike-long w.us zs w.alike in
-    record {
-      long = omega (arith, size, sizes, long);
-      written = subst (λ (l : List ℤ). WritesAc p table l (suc run) own run) (level-numbers al w.us ws w.are)
-          (subst (λ (l : List Bool). WritesAc p table w.us (suc run) l run) w.bits
-          (written-run p table w.us run f (omega (arith, some, long)) (alike-none w.us zs w.alike)));
-    }) e
+    old-read p table zs w.us (suc run) (ws, run) own w.are long
+    (rw (← w.bits) (written-run p table w.us run f (omega (arith, some, long)) w.none))) e
 
 pub band-taken-part : (p : Pass) (table : Table) (band : List ℤ) (run : ℕ) (bits : List Bool) (y : Band) (t : Text)
     → Tabled table band → (p.is_first ≡ true → band ≡ no_numbers (length band))
@@ -206,10 +181,9 @@ pub band-taken-part : (p : Pass) (table : Table) (band : List ℤ) (run : ℕ) (
     → (p.is_first ≡ false → run ≡ 0 → PiecesFit table p.al band bits)
     → band_part p table band run (alone bits) ≡ Ok (y, t) → IsCut (IsRead p table band run y) bits t
 unfolding band_part
-band-taken-part p table [] run bits y t tables unsent fits sent pieces e =
-    gives-taken (IsRead p table [] run) ([], run) y bits t (record { long = refl; written = no_band run }) e
+band-taken-part p table [] run bits y t tables unsent fits sent pieces e = search (rules, gives-taken, no_band)
 band-taken-part p table (x ∷ band) zero bits y t tables unsent fits sent pieces e =
-    if-read p.is_first _ _ _ _ e
+    if-read p.is_first _ _ e
     (λ f k.
     let n = length (x ∷ band) in
     let is = tables (omega arith) in
@@ -218,13 +192,13 @@ band-taken-part p table (x ∷ band) zero bits y t tables unsent fits sent piece
     (ap (λ (l : List ℤ). first_ac table p.al n l (alone bits)) (sym (unsent f)) ∙ k)))
     (λ f k. grind (arith, old-band))
 band-taken-part p table (x ∷ band) (suc run) bits y t tables unsent fits sent pieces e =
-    if-read p.is_first _ _ _ _ e
-    (λ f k. gives-taken (IsRead p table (x ∷ band) (suc run)) (x ∷ band, run) y bits t (record {
+    if-read p.is_first _ _ e
+    (λ f. gives-taken (IsRead p table (x ∷ band) (suc run)) (record {
       long = refl;
       written = subst (λ (l : List ℤ). WritesAc p table l (suc run) [] run)
           (sym (ap (map (toward_zero p.al)) (unsent f) ∙ zeros-toward p.al (length (x ∷ band))))
           (first_run (length band) run f);
-    }) k)
+    }))
     (λ f k. run-band p table (x ∷ band) run bits y t f (omega arith) (sent f) k)
 
 -- ---- blocks
@@ -232,48 +206,24 @@ band-taken-part p table (x ∷ band) (suc run) bits y t tables unsent fits sent 
 abbrev result : Pass → Block → ℤ × ℤ → Band → Block × ℤ × ℕ
 result p old d b = (record { dc = d.0; acs = with_band p old.acs b.0 }, d.1, b.1)
 
--- what was read after DC, and its bits
-record IsRest (p : Pass) (table : Table) (run : ℕ) (old : Block) (r : Block × ℤ × ℕ) (d : ℤ × ℤ) (own : List Bool)
-    : Type 0 where
-  y : Band
-  same : result p old d y ≡ r
-  band : IsRead p table (band_of p old.acs) run y own
-
-joined : (p : Pass) (via : Via) (predictor : ℤ) (run : ℕ) (old : Block) (r : Block × ℤ × ℕ) (d : ℤ × ℤ)
-    (own : List Bool)
-    → Both (WritesRead p via.dc predictor d) (IsRest p via.ac run old r d) own → IsBlock p via predictor run r own
-joined p via predictor run old r d own w = grind (arith, band-map, band-put)
-
--- a block is taken where its two parts are
-pub parts-taken : (p : Pass) (via : Via) (predictor : ℤ) (run : ℕ) (old : Block) (bits : List Bool)
-    (r : Block × ℤ × ℕ) (t : Text)
-    → ((d : ℤ × ℤ) (u : Text) → dc_part p via.dc old.dc predictor (alone bits) ≡ Ok (d, u)
-    → IsCut (WritesRead p via.dc predictor d) bits u)
-    → ((d : ℤ × ℤ) (more : List Bool) → dc_part p via.dc old.dc predictor (alone bits) ≡ Ok (d, alone more) → (y : Band)
-    → band_part p via.ac (band_of p old.acs) run (alone more) ≡ Ok (y, t)
-    → IsCut (IsRead p via.ac (band_of p old.acs) run y) more t)
-    → block_from p via.dc via.ac predictor run old (alone bits) ≡ Ok (r, t)
-    → IsCut (IsBlock p via predictor run r) bits t
-unfolding block_from
-parts-taken p via predictor run old bits r t dc band e =
-    let others = band_part p via.ac (band_of p old.acs) run in
-    let f : ℤ × ℤ → Reads (Block × ℤ × ℕ) = λ d. others >>= (λ b. gives (result p old d b)) in
-    let c = bind-cut (dc_part p via.dc old.dc predictor) f bits t r (WritesRead p via.dc predictor)
-    (IsRest p via.ac run old r) e dc
-    (λ d more h k.
-    let m = map-parts others (λ (b : Band). result p old d b) (alone more) t r k in
-    cut-map (IsRead p via.ac (band_of p old.acs) run m.0) (IsRest p via.ac run old r d) more t
-    (λ own w. record { y = m.0; same = m.2; band = w }) (band d more h m.0 m.1)) in
-    cut-map (Both (WritesRead p via.dc predictor c.0) (IsRest p via.ac run old r c.0)) (IsBlock p via predictor run r)
-    bits t (joined p via predictor run old r c.0) c.1
+joined : (p : Pass) (via : Via) (predictor : ℤ) (run : ℕ) (old : Block) (d : ℤ × ℤ) (y : Band) (dc ac : List Bool)
+    → WritesRead p via.dc predictor d dc → IsRead p via.ac (band_of p old.acs) run y ac
+    → IsBlock p via predictor run (result p old d y) (dc ++ ac)
+joined p via predictor run old d y dc ac w b = grind (arith, band-map, band-put)
 
 -- The bits that were taken of a block are written for it.
 pub block_taken : (p : Pass) (via : Via) (predictor : ℤ) (run : ℕ) (old : Block) (bits : List Bool)
     (r : Block × ℤ × ℕ) (t : Text) → HasTables p via → BlockFits p via predictor run old bits
     → block_from p via.dc via.ac predictor run old (alone bits) ≡ Ok (r, t)
     → IsCut (IsBlock p via predictor run r) bits t
-block_taken p via predictor run old bits r t tables fits e =
-    parts-taken p via predictor run old bits r t
-    (λ d u k. dc-taken-part p via.dc old.dc predictor bits d u tables.dc_is fits.dc_fits fits.dc_sent k)
-    (grind (arith, band-taken-part, length-take))
-    e
+unfolding block_from
+block_taken p via predictor run old bits r t tables fits =
+    bind-cut (dc_part p via.dc old.dc predictor) (λ (d : ℤ × ℤ).
+    band_part p via.ac (band_of p old.acs) run >>= (λ b. gives (result p old d b))) (WritesRead p via.dc predictor)
+    (λ d u. dc-taken-part p via.dc old.dc predictor bits d u tables.dc_is fits.dc_fits fits.dc_sent)
+    (λ d more h. map-taken (band_part p via.ac (band_of p old.acs) run) (λ (b : Band). result p old d b)
+    (IsRead p via.ac (band_of p old.acs) run)
+    (λ (r : Block × ℤ × ℕ). After (WritesRead p via.dc predictor d) (IsBlock p via predictor run r))
+    (λ y. band-taken-part p via.ac (band_of p old.acs) run more y t (grind (arith, length-take)) fits.unsent
+    (λ f z. fits.tokens_fit f z d more h) fits.acs_sent (λ f z. fits.pieces_fit f z d more h))
+    (λ y ac b dc w. joined p via predictor run old d y dc ac w b))

@@ -1,11 +1,11 @@
 -- Bytes whose text ends with a marker are stuffed bytes of its bits, and the marker.
-use Rattle.std.proofs.Common.{arith, ◌≡◌, ℕ, zero, suc, Bool, true, false, cond, List, [], ◌∷◌}
-use Rattle.std.proofs.Common.{◌++◌, replicate, refl, sym, ap, ap₂, ◌∙◌, eqb, Option, Some}
+use Rattle.std.proofs.Common.{arith, ◌≡◌, ℕ, zero, suc, Bool, true, false, cond, List, [], ◌∷◌, ◌++◌, replicate}
+use Rattle.std.proofs.Common.{refl, ap, ap₂, eqb, Option, Some}
 use Rattle.std.proofs.lemmas.Bool.{eqb-true}
 use Rattle.jpeg_bits.specs.Reading.{End, Fault}
 use Rattle.jpeg_bits.specs.Entropy.{Ending, Found, Broken, bits_of, text_at, add_byte, no_bits, ended_by, ending_at}
 use Rattle.jpeg_bits.specs.Marker.{marker_of}
-use Rattle.jpeg_bits.specs.Written.{stuffed, marker, bits_of_bytes}
+use Rattle.jpeg_bits.specs.Written.{stuffed, bits_of_bytes}
 use Rattle.jpeg_bits.specs.declared.marker.Marker.{Marker}
 use Rattle.jpeg_evidence.specs.Strict.{IsData}
 
@@ -56,30 +56,21 @@ bytes_back (b ∷ c ∷ more) rest m e =
           data_bytes = 255 ∷ r.data_bytes;
           fill = r.fill;
           code = r.code;
-          parts = ap₂ (λ (x : ℕ) (xs : List ℕ). x ∷ xs) (eqb-true b 255 h)
-              (ap₂ (λ (x : ℕ) (xs : List ℕ). x ∷ xs) (eqb-true c 0 k) r.parts);
+          parts = rw (eqb-true b 255 h, eqb-true c 0 k) (ap (λ (xs : List ℕ). 255 ∷ 0 ∷ xs) r.parts);
           names = r.names;
           has_bits = ap (λ (l : List Bool). bits_of 255 ++ l) r.has_bits;
         }
     go true h false k first second f =
         let r = filled-back (c ∷ more) rest m f in
-        record {
-          data_bytes = [];
-          fill = r.0;
-          code = r.1;
-          parts = ap₂ (λ (x : ℕ) (xs : List ℕ). x ∷ xs) (eqb-true b 255 h) r.2;
-          names = r.3;
-          has_bits = refl;
-        }
+        let e = ap₂ (λ (x : ℕ) (xs : List ℕ). x ∷ xs) (eqb-true b 255 h) r.2 in
+        record { data_bytes = []; fill = r.0; code = r.1; parts = e; names = r.3; has_bits = refl }
     go false h y k first second f =
         let r = second f in
-        let plain : stuffed (b ∷ r.data_bytes) ≡ b ∷ stuffed r.data_bytes = rw (h, stuffed) refl in
         record {
           data_bytes = b ∷ r.data_bytes;
           fill = r.fill;
           code = r.code;
-          parts = ap (λ (xs : List ℕ). b ∷ xs) r.parts
-              ∙ sym (ap (λ (l : List ℕ). l ++ marker r.fill r.code rest) plain);
+          parts = rw (h, stuffed) (ap (λ (xs : List ℕ). b ∷ xs) r.parts);
           names = r.names;
           has_bits = ap (λ (l : List Bool). bits_of b ++ l) r.has_bits;
         }

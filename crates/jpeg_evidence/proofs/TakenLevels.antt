@@ -1,25 +1,20 @@
 -- A coefficient's number at the level that it was read at, and the band of a block after a pass.
-use Rattle.std.proofs.Common.{◌≡◌, ℕ, ◌+◌, ◌*◌, ◌/◌, ◌^◌, ◌<◌, ◌≤◌, List, [], ◌∷◌, ◌++◌, map, length}
-use Rattle.std.proofs.Common.{take, drop, refl, sym, ap, ap₂, ◌∙◌, arith, ℤ, pow_pos}
-use Rattle.std.proofs.Common.{length-take, length-drop, add-zero, append-nil}
-use lib.Arith.{digits_div}
-use Rattle.std.proofs.Math.Nat.{add-mul, one-mul}
+use Rattle.std.proofs.Common.{◌≡◌, ℕ, ◌<◌, ◌≤◌, List, [], ◌∷◌, ◌++◌, map, length, take, refl, ap₂, arith, ℤ}
+use Rattle.std.proofs.Common.{pow_pos, length-take, length-drop, append-nil}
+use Rattle.std.proofs.Math.Nat.{add-mul, mul-div_cancel, one-mul}
 use Rattle.std.proofs.lemmas.Bool.{cases_lt}
 use Rattle.std.proofs.lemmas.List.{take-append-le, take_all, drop_at, drop_all}
-use Rattle.jpeg_bits.specs.Passes.{Pass, band_of, with_band, before_band, band_size}
+use Rattle.jpeg_bits.specs.Passes.{Pass, band_of, with_band}
 use Rattle.jpeg_streams.specs.Levels.{floor_at, toward_zero}
 use Rattle.jpeg_streams.proofs.SentBlocks.{scaled}
 
 -- ---- numbers
 
-exact-div : (n al : ℕ) → n * 2 ^ al / 2 ^ al ≡ n
-exact-div n al = ap (λ (x : ℕ). x / 2 ^ al) (sym (add-zero (n * 2 ^ al))) ∙ digits_div n (pow_pos al)
-
 pub floor-scaled : (al : ℕ) (u : ℤ) → floor_at al (scaled al u) ≡ u
-floor-scaled al x = grind (arith, exact-div, pow_pos, add-mul, one-mul)
+floor-scaled al x = grind (arith, mul-div_cancel, pow_pos, add-mul, one-mul)
 
 pub toward-scaled : (al : ℕ) (u : ℤ) → toward_zero al (scaled al u) ≡ u
-toward-scaled al x = grind (arith, exact-div, pow_pos, add-mul, one-mul)
+toward-scaled al x = grind (arith, mul-div_cancel, pow_pos, add-mul, one-mul)
 
 pub all-toward : (al : ℕ) (us : List ℤ) → map (toward_zero al) (map (scaled al) us) ≡ us
 all-toward al [] = refl
@@ -35,12 +30,8 @@ put-front : (s : ℕ) (band rest : List ℤ) → length band ≤ s → (length b
     → take s (band ++ rest) ≡ band
 put-front s band rest h none = grind (arith, cases_lt, append-nil, take_all, take-append-le)
 
-put-at : (b s : ℕ) (acs band : List ℤ) → length band ≡ length (take s (drop b acs))
-    → take s (drop b (take b acs ++ (band ++ drop (b + s) acs))) ≡ band
-put-at b s acs band h =
-    grind (arith, cases_lt, length-take, length-drop, nil-of, drop_all, append-nil, drop_at, put-front)
-
 -- a list of the band's length that was put in its place
 pub band-put : (p : Pass) (acs band : List ℤ) → length band ≡ length (band_of p acs)
     → band_of p (with_band p acs band) ≡ band
-band-put p acs band h = put-at (before_band p) (band_size p) acs band h
+band-put p acs band h =
+    grind (arith, cases_lt, length-take, length-drop, nil-of, drop_all, append-nil, drop_at, put-front)

@@ -1,14 +1,37 @@
--- Intervals that are written one after the other are those of a scan.
-use Rattle.std.proofs.Common.{◌≡◌, ℕ, suc, ◌+◌, ◌%◌, List, [], ◌∷◌, ◌++◌, arith, append_assoc, Some}
+-- Intervals whose bits were taken are written, and those of a scan one after the other.
+use Rattle.std.proofs.Common.{◌≡◌, ℕ, suc, ◌+◌, ◌%◌, ◌≤◌, List, [], ◌∷◌, ◌++◌, length, arith, append_assoc, rules, Ok, Some}
 use Rattle.std.proofs.lemmas.Grind.{common_steps}
 use Rattle.std.proofs.lemmas.Bool.Decides.{nat_tests}
 use Rattle.jpeg_bits.specs.Marker.{marker_of}
-use Rattle.jpeg_bits.specs.Passes.{Block, Pass, Via}
+use Rattle.jpeg_bits.specs.Entropy.{Text, Found, text_at}
+use Rattle.jpeg_bits.specs.Passes.{Block, Pass, Via, blocks_of, predictors_at_start}
 use Rattle.jpeg_bits.specs.Written.{marker}
 use Rattle.jpeg_bits.specs.declared.marker.Marker.{Marker}
 use Rattle.jpeg_bits.specs.declared.marker.Marker.TheVariants.{RST}
 use Rattle.jpeg_bits.specs.Written.WritesIntervals.{last, another}
-use Rattle.jpeg_evidence.specs.Strict.{IsInterval, IsIntervals}
+use Rattle.jpeg_streams.specs.WrittenData.{WritesBlocks}
+use Rattle.jpeg_evidence.specs.Strict.{alone, BlocksFit, IsCut, IsInterval, IsIntervals, numbers_read}
+use Rattle.jpeg_evidence.proofs.TakenBytes.{bytes_back}
+use Rattle.jpeg_evidence.proofs.TakenTurns.{blocks_taken}
+
+-- An interval whose bits are written for its blocks, with at most 7 bits after them, is written.
+pub interval_taken : (p : Pass) (turns : List (Via × Block)) (bytes rest : List ℕ) (m : Marker) (left : Text)
+    → (text_at bytes).ending ≡ Found m rest
+    → IsCut (WritesBlocks p predictors_at_start 0 turns) (text_at bytes).bits left → length left.bits ≤ 7
+    → IsInterval p turns bytes m rest
+interval_taken p turns bytes rest m left e c short =
+    let d = bytes_back bytes rest m e in
+    grind arith
+
+-- An interval whose blocks were taken of its bits is written for them.
+pub interval_of_taken : (p : Pass) (turns : List (Via × Block)) (bytes rest : List ℕ) (m : Marker)
+    (blocks : List Block) (left : Text) → (text_at bytes).ending ≡ Found m rest
+    → BlocksFit p predictors_at_start 0 turns (text_at bytes).bits
+    → blocks_of p predictors_at_start 0 turns (alone (text_at bytes).bits) ≡ Ok (blocks, left)
+    → length left.bits ≤ 7 → IsInterval p (numbers_read p turns blocks) bytes m rest
+interval_of_taken p turns bytes rest m blocks left e fits h short = search (rules, interval_taken, blocks_taken)
+
+-- ---- intervals of a scan
 
 rst-code : (n k : ℕ) → marker_of n ≡ Some (RST k) → n ≡ 208 + k
 unfolding marker_of

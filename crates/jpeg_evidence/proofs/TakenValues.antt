@@ -1,22 +1,21 @@
 -- The bits that were taken of a value and of a DC difference are those that are written for it.
-use Rattle.std.proofs.Common.{◌≡◌, ℕ, zero, suc, ◌-◌, ◌^◌, ◌<◌, Bool, List, []}
-use Rattle.std.proofs.Common.{refl, ap, ◌∙◌, arith, if◌then◌else◌, pow_pos, pow-suc, Ok, leb, nat_le}
-use Rattle.std.proofs.Common.{ℤ, pos, negsuc, ◌-ℤ◌}
+use Rattle.std.proofs.Common.{◌≡◌, ℕ, zero, suc, ◌-◌, ◌^◌, ◌<◌, Bool, List, [], refl, ap, ◌∙◌, arith, if◌then◌else◌}
+use Rattle.std.proofs.Common.{pow_pos, pow-suc, Ok, leb, nat_le, ℤ, pos, negsuc, ◌+ℤ◌, ◌-ℤ◌, ◌*ℤ◌}
 use Rattle.std.proofs.lemmas.Grind.{common_steps}
 use Rattle.std.proofs.lemmas.Int.{ints}
 use Rattle.std.proofs.lemmas.Bool.{cases_lt, ltb-true, ltb-false}
 use Rattle.std.proofs.Math.Pow.{pow_mono}
 use Rattle.jpeg_bits.specs.Reading.{Malformed}
 use Rattle.jpeg_bits.specs.Entropy.{Text, bits_from, extended}
-use Rattle.jpeg_bits.specs.Readers.{Reads, refused, signed_from}
+use Rattle.jpeg_bits.specs.Readers.{refused, signed_from}
 use Rattle.jpeg_bits.specs.Codes.{Table, IsTable, symbol_from}
-use Rattle.jpeg_bits.specs.Bands.{difference}
+use Rattle.jpeg_bits.specs.Bands.{difference, first_dc, wrapped}
 use Rattle.jpeg_bits.proofs.Fast.{no-number}
 use Rattle.jpeg_bits.specs.Written.{low_bits, IsCoded, IsCategory, number_for}
 use Rattle.jpeg_streams.specs.WrittenData.{WritesDifference}
-use Rattle.jpeg_evidence.specs.Strict.{alone, IsCut, IsNumber, IsValue}
-use Rattle.jpeg_evidence.proofs.TakenBits.{number_taken, symbol_taken, cut-map, gives-taken, map-taken}
-use Rattle.jpeg_evidence.proofs.TakenBits.{bind-cut, if-read, no-error}
+use Rattle.jpeg_evidence.specs.Strict.{alone, IsCut, IsNumber, IsValue, IsDc}
+use Rattle.jpeg_evidence.proofs.TakenBits.{number_taken, symbol_taken, cut-map, gives-taken}
+use Rattle.jpeg_evidence.proofs.TakenBits.{map-taken, bind-cut, if-read, no-error}
 
 -- ---- signed numbers
 
@@ -32,13 +31,12 @@ extended-back v s top =
     grind (arith, ltb-true, pow-suc, low-extended, ltb-false, pow_pos, cases_lt, pow_mono)
 
 -- The bits that were taken of a value are its bits, and their number is its category.
-pub value_taken : (s : ℕ) (bits : List Bool) (u : ℤ) (t : Text) → signed_from (suc s) (alone bits) ≡ Ok (u, t)
+pub value_taken : {s : ℕ} {bits : List Bool} {u : ℤ} {t : Text} → signed_from (suc s) (alone bits) ≡ Ok (u, t)
     → IsCut (IsValue (suc s) u) bits t
 unfolding signed_from
-value_taken s bits u t e =
-    map-taken (bits_from (suc s)) (λ (v : ℕ). extended v (suc s)) (IsNumber (suc s)) (IsValue (suc s)) bits t u
-    (λ v. number_taken (suc s) bits v t)
-    (λ v own is.
+value_taken {s} e =
+    map-taken (bits_from (suc s)) (λ (v : ℕ). extended v (suc s)) (IsNumber (suc s)) (IsValue (suc s))
+    (λ v. number_taken) (λ v own is.
     let back = extended-back v s is.below in
     record { category = back.0; are = ap (low_bits (suc s)) back.1 ∙ is.are }) e
 
@@ -51,20 +49,22 @@ none-of-zero = record { category = record { holds = omega arith; is_least = λ t
 category-taken : (s : ℕ) (bits : List Bool) (u : ℤ) (t : Text) → signed_from s (alone bits) ≡ Ok (u, t)
     → IsCut (IsValue s u) bits t
 category-taken zero bits u t e = grind (arith, common_steps, gives-taken, none-of-zero, no-number)
-category-taken (suc s) bits u t e = value_taken s bits u t e
-
-listed-taken : (s : ℕ) (bits : List Bool) (u : ℤ) (t : Text)
-    → (if nat_le s 11 then signed_from s else refused) (alone bits) ≡ Ok (u, t) → IsCut (IsValue s u) bits t
-listed-taken s bits u t e =
-    if-read (leb s 11) _ _ _ _ e (λ h k. category-taken s bits u t k) (λ h k. absurd (no-error Malformed (u, t) k))
+category-taken (suc s) bits u t e = value_taken e
 
 -- The bits that were taken of a DC difference are those that a writer emits for it.
-pub difference_taken : (table : Table) (bits : List Bool) (u : ℤ) (t : Text) → IsTable table
+pub difference_taken : {table : Table} {bits : List Bool} {u : ℤ} {t : Text} → IsTable table
     → difference table (alone bits) ≡ Ok (u, t) → IsCut (WritesDifference table u) bits t
 unfolding difference
-difference_taken table bits u t is e =
-    let f : ℕ → Reads ℤ = λ s. if nat_le s 11 then signed_from s else refused in
-    let r = bind-cut (symbol_from table) f bits t u (IsCoded table) (λ s. IsValue s u) e
-    (λ s left k. symbol_taken table bits s left is k)
-    (λ s more h k. listed-taken s more u t k) in
-    grind (arith, cut-map)
+difference_taken {table} {u = u} {t = t} is e =
+    bind-cut (symbol_from table) (λ (s : ℕ). if nat_le s 11 then signed_from s else refused) (IsCoded table)
+    (λ s left. symbol_taken is)
+    (λ s more h k. cut-map {P = IsValue s u} (grind arith)
+    (if-read (leb s 11) _ _ k (λ h. category-taken s more u t) (λ h k. absurd (no-error Malformed (u, t) k)))) e
+
+-- The same of a DC coefficient in its first scan, by its difference.
+pub dc_taken : (table : Table) (al : ℕ) (predictor : ℤ) (bits : List Bool) (y : ℤ × ℤ) (t : Text) → IsTable table
+    → first_dc table al predictor (alone bits) ≡ Ok (y, t) → IsCut (IsDc table al predictor y) bits t
+unfolding first_dc
+dc_taken table al predictor bits y t is e =
+    map-taken (difference table) (λ (d : ℤ). (wrapped (wrapped (predictor +ℤ d) *ℤ pos (2 ^ al)), wrapped (predictor +ℤ d)))
+    (WritesDifference table) (IsDc table al predictor) (λ d. difference_taken is) (grind arith) e

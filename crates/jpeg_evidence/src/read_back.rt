@@ -45,7 +45,7 @@ pub fn data_up_to_a_marker_are_stuffed()
 
 /// A DC coefficient that is read in its first scan was written, by its difference from the
 /// predictor (T.81, F.1.2.1): what is read is the coefficient modulo 2 ^ 16.
-#[tactic(auto, using(crate::proofs::TakenDc::dc_taken))]
+#[tactic(auto, using(crate::proofs::TakenValues::dc_taken))]
 pub fn dc_taken_is_written()
     ensures { (table : Table) (al : ℕ) (predictor : ℤ) (bits : List Bool) (y : ℤ × ℤ) (left : Text)
         → IsTable table → first_dc table al predictor (alone bits) ≡ Ok (y, left)
@@ -109,7 +109,7 @@ pub fn intervals_of_written_bits_are_written()
 
 /// An interval up to a marker whose blocks are read of its bits was written where they fit and
 /// leave at most 7 bits (T.81, F.1.2.3 and B.1.1.5).
-#[tactic(auto, using(crate::proofs::TakenIntervals::interval_of_taken))]
+#[tactic(auto, using(crate::proofs::TakenScans::interval_of_taken))]
 pub fn interval_taken_is_written()
     ensures { (p : Pass) (turns : List (Via × Block)) (bytes rest : List ℕ) (m : Marker)
         (blocks : List Block) (left : Text) → (text_at bytes).ending ≡ Found m rest

@@ -43,8 +43,7 @@ top-at : (selection : Predictor) (start : ℕ) (ds : List ℕ) (x : ℕ) (b c : 
     ≡ sample_by (prediction selection start x 0 (pos (slice_index (line_below selection start [] ds) (x - 1))) b
     c) (slice_index ds x)
 unfolding line_below prediction
-top-at selection start ds x b c h1 =
-    grind (arith, common_steps, nat_tests, first-at)
+top-at selection start ds x b c h1 = search (rules, first-at)
 
 -- lines below one; with that one in front, the line above line y is at y
 lines-at : (selection : Predictor) (start n : ℕ) (above : List ℕ) (ds : List (List ℕ)) (x y k : ℕ)

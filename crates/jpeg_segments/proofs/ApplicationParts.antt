@@ -1,16 +1,16 @@
 -- Application data by their parameters: what is read of them, and which data they are.
-use Rattle.std.proofs.Common.{◌≡◌, ℕ, zero, suc, ◌+◌, ◌≤◌, ◌<◌, Bool, true, false, List, [], ◌∷◌, ◌++◌, length, take}
-use Rattle.std.proofs.Common.{drop, get_or, Option, None, Some, Ok, refl, sym, ap, ap₂, ◌∙◌, arith, eqb, ltb, ◌||◌}
-use Rattle.std.proofs.Common.{cond, ◌&&◌, take-append-drop, length-drop, length-take}
+use Rattle.std.proofs.Common.{rules, ◌≡◌, ℕ, zero, suc, ◌+◌, ◌≤◌, ◌<◌, Bool, true, false, List, [], ◌∷◌, ◌++◌}
+use Rattle.std.proofs.Common.{length, take, drop, get_or, Option, None, Some, Ok, refl, sym, ap, ap₂, ◌∙◌, arith}
+use Rattle.std.proofs.Common.{eqb, ltb, ◌||◌, cond, ◌&&◌, take-append-drop, length-drop, length-take}
 use Rattle.std.proofs.lemmas.Bool.{lt-ltb, and_parts, eqb-true, ltb-true, false≢true}
 use Rattle.std.proofs.lemmas.Bool.Decides.{Decides-eqb, nat_tests}
 use Rattle.std.proofs.lemmas.List.{drop_more, drop-drop}
 use Rattle.std.proofs.lemmas.Slice.Eq.{starts_is}
 use Rattle.std.proofs.lemmas.Grind.{common_steps}
-use Rattle.std.specs.Prelude.{is_some, option_map}
-use Rattle.jpeg_segments.specs.Application.{Application, Adobe, application_by, begins_with, chunk_of, adobe_name}
-use Rattle.jpeg_segments.specs.Application.{transform_by, app_at, jfif_name, avi1_name, exif_name, xmp_name, icc_name}
-use Rattle.jpeg_segments.specs.Application.{photoshop_name}
+use Rattle.std.specs.Prelude.{is_some}
+use Rattle.jpeg_segments.specs.Application.{Application, application_by, begins_with, chunk_of, adobe_name}
+use Rattle.jpeg_segments.specs.Application.{transform_by, app_at, jfif_name, avi1_name, exif_name, xmp_name}
+use Rattle.jpeg_segments.specs.Application.{icc_name, photoshop_name}
 use Rattle.jpeg_segments.specs.WrittenSegments.{ApplicationData, OfJfif, OfAvi1, OfExif, OfXmp, OfIcc, OfPhotoshop}
 use Rattle.jpeg_segments.specs.WrittenSegments.{OfAdobe, OfOther, application_parts, IsApplicationData, is_known}
 use Rattle.jpeg_segments.specs.WrittenSegments.{transform_byte, with_length}
@@ -22,9 +22,7 @@ use Rattle.jpeg_segments.proofs.OtherSegments.{Names, app, is_adobe, said_by}
 -- ---- what is read of them
 
 transform-read : (t : AdobeColorTransform) → transform_by (transform_byte t) ≡ Some t
-transform-read transforms.Unknown = refl
-transform-read transforms.YCbCr = refl
-transform-read transforms.YCCK = refl
+transform-read t = grind arith
 
 -- other data are not Adobe's, and say nothing
 record IsUnknown (number : ℕ) (bytes : List ℕ) : Type 0 where
@@ -59,29 +57,15 @@ is-said (OfAvi1 more) is = record { named = λ e. absurd (let n : ⊥ = cc in n)
 is-said (OfExif bytes) is = record { named = λ e. absurd (let n : ⊥ = cc in n); says = refl }
 is-said (OfXmp bytes) is = record { named = λ e. absurd (let n : ⊥ = cc in n); says = refl }
 is-said (OfPhotoshop bytes) is = record { named = λ e. absurd (let n : ⊥ = cc in n); says = refl }
-is-said (OfIcc chunk) is = go chunk.number chunk.count chunk.bytes is
-  where
-    go : (n m : ℕ) (bytes : List ℕ) → 1 ≤ length bytes
-        → IsSaid (OfIcc (record { number = n; count = m; bytes = bytes }))
-    go n m [] h = absurd (omega (arith, h))
-    go n m (x ∷ xs) h =
-        let few : 14 < length (icc_name ++ n ∷ m ∷ x ∷ xs) = omega arith in
-        record { named = λ e. absurd (let n : ⊥ = cc in n); says = rw (lt-ltb 14 _ few) refl }
+is-said (OfIcc chunk) is = search (rules, lt-ltb)
 is-said (OfAdobe [] t more) is = absurd (let n : ⊥ = cc in n)
 is-said (OfAdobe (a ∷ []) t more) is = absurd (let n : ⊥ = cc in n)
 is-said (OfAdobe (a ∷ b ∷ []) t more) is = absurd (let n : ⊥ = cc in n)
 is-said (OfAdobe (a ∷ b ∷ c ∷ []) t more) is = absurd (let n : ⊥ = cc in n)
 is-said (OfAdobe (a ∷ b ∷ c ∷ d ∷ []) t more) is = absurd (let n : ⊥ = cc in n)
 is-said (OfAdobe (a ∷ b ∷ c ∷ d ∷ e ∷ f ∷ flags) t more) is = absurd (omega (arith, is))
-is-said (OfAdobe (a ∷ b ∷ c ∷ d ∷ e ∷ []) t more) is =
-    let many : 11 < length (adobe_name ++ (a ∷ b ∷ c ∷ d ∷ e ∷ transform_byte t ∷ more)) = omega arith in
-    record {
-      named = λ _. ap is_some (transform-read t);
-      says = rw (lt-ltb 11 _ many) (ap (option_map Adobe) (transform-read t));
-    }
-is-said (OfOther number bytes) is =
-    let u = unknown number bytes is.1 in
-    record { named = λ q. absurd (false≢true (sym u.other ∙ q)); says = rw u.other u.says }
+is-said (OfAdobe (a ∷ b ∷ c ∷ d ∷ e ∷ []) t more) is = search (rules, transform-read, lt-ltb)
+is-said (OfOther number bytes) is = search (rules, unknown, false≢true)
 
 pub app-read : (d : ApplicationData) (rest : List ℕ) → IsApplicationData d
     → app_at (application_parts d).0 (with_length (application_parts d).1 ++ rest) ≡ Ok ((application_parts d).2, rest)
@@ -120,8 +104,7 @@ icc-written bytes long f = grind (arith, common_steps, next-byte, named-as, icc_
 
 adobe-written : (bytes : List ℕ) → 11 < length bytes → begins_with bytes adobe_name ≡ true
     → adobe_name ++ (take 5 (drop 6 bytes) ++ get_or bytes 11 0 ∷ drop 12 bytes) ≡ bytes
-adobe-written bytes long f =
-    grind (arith, common_steps, next-byte, drop-drop, take-append-drop, named-as)
+adobe-written bytes long f = search (rules, next-byte, drop-drop, take-append-drop, named-as)
 
 either : {A : Type 0} (b : Bool) → (b ≡ true → A) → (b ≡ false → A) → A
 either true if_true if_false = if_true refl
@@ -202,11 +185,4 @@ app-only number bytes rest said few all e =
 
 -- there are sixteen markers APPn
 pub few-numbers : (d : ApplicationData) → IsApplicationData d → (application_parts d).0 ≤ 15
-few-numbers (OfJfif more) is = omega arith
-few-numbers (OfAvi1 more) is = omega arith
-few-numbers (OfExif bytes) is = omega arith
-few-numbers (OfXmp bytes) is = omega arith
-few-numbers (OfIcc chunk) is = omega arith
-few-numbers (OfPhotoshop bytes) is = omega arith
-few-numbers (OfAdobe flags transform more) is = omega arith
-few-numbers (OfOther number bytes) is = is.0
+few-numbers d is = grind arith

@@ -138,10 +138,7 @@ remap {p = p} c to from = record {
 pub same : {A C : Type 0} {p : List ℕ → Outcome C} {view : A → C} {print : A → List ℕ}
     {Valid : A → Type 0} (q : List ℕ → Outcome C) → ((bytes : List ℕ) → q bytes ≡ p bytes)
     → Codec p view print Valid → Codec q view print Valid
-same {print = print} q e c = record {
-  reads = λ x rest is. e (print x ++ rest) ∙ c.reads x rest is;
-  only = λ bytes rest y all g. c.only bytes rest y all (sym (e bytes) ∙ g);
-}
+same {print = print} q e c = search rules
 
 abbrev pub refusal : {C : Type 0} → Fault → List ℕ → Outcome C
 refusal f bytes = Err f

@@ -75,3 +75,7 @@ pub list_any_map : {A B : Type 0} (f : A → B) (test : B → Bool) (xs : List A
     → list_any test (map f xs) ≡ list_any (λ x. test (f x)) xs
 list_any_map f test [] = refl
 list_any_map f test (x ∷ xs) = ap (λ b. test (f x) || b) (list_any_map f test xs)
+
+pub ruleset factor_rules = (take_all, greatest-some, greatest-most, greatest-after, common_steps)
+
+pub ruleset frame_rules = (all-in-range, common_steps)

@@ -1,12 +1,11 @@
 -- Results that are gathered in a loop.
+use Rattle.std.proofs.Common.{rules, ◌≡◌, ◌≤◌, ◌<◌, ◌+◌, ◌∙◌, ℕ, suc, List, [], ◌∷◌, ◌++◌, Result, Ok, Err, refl}
+use Rattle.std.proofs.Common.{sym, ap, arith, drop, get_or, length}
 use Rattle.std.proofs.lemmas.Grind.{common_steps}
-use Rattle.std.proofs.Common.{◌≡◌, ◌≤◌, ◌<◌, ◌+◌, ◌∙◌, ℕ, suc, List, [], ◌∷◌, ◌++◌, Result, Ok, Err, refl, sym, ap}
-use Rattle.std.proofs.Common.{arith, drop, get_or, length}
 use Rattle.std.proofs.Math.ListN.{drop_of_length-le}
 use Rattle.std.proofs.lemmas.List.{append_assoc, append-nil, drop_more}
 use Rattle.std.proofs.lemmas.List.FromFn.{get_or-enumerate_from}
 use Rattle.std.specs.List.{enumerate_from}
-use Rattle.jpeg_bits.proofs.Loops.{Names-through}
 use Rattle.jpeg_bits.specs.Reading.{Fault, Names, ◌>>=◌}
 use Rattle.jpeg_bits.specs.declared.error.Error.{Error}
 use Rattle.jpeg_segments.specs.Checks.{gathered}
@@ -65,8 +64,7 @@ gathers-err f xs i d e front h is g =
 pub gathers-refused : {A B : Type 0} (f : A → Result B Fault) (xs : List A) (i : ℕ) (d : A)
     (e : Error) (front : List B) → i < length xs → Names e (f (get_or xs i d))
     → Gathers f xs i front → Names e (gathered f xs)
-gathers-refused f xs i d e front h n g =
-    Names-through e (f (get_or xs i d)) (gathered f xs) (λ b is. gathers-err f xs i d b front h is g) n
+gathers-refused f xs i d e front h n g = search (rules, get_or, gathers-err)
 
 -- all of them
 pub gathers-all : {A B : Type 0} (f : A → Result B Fault) (xs : List A) (i : ℕ) (front : List B)

@@ -1,7 +1,7 @@
 -- Frame headers and scan headers: exactly what is written is read.
 use Rattle.std.proofs.lemmas.Bool.Decides.{nat_tests}
 use Rattle.std.proofs.lemmas.List.{length-map}
-use Rattle.std.proofs.Common.{◌≡◌, ℕ, zero, suc, ◌≤◌, ◌<◌, ◌+◌, ◌*◌, ◌/◌, ◌%◌, Bool, false, List, [], ◌∷◌, ◌++◌, map}
+use Rattle.std.proofs.Common.{◌≡◌, ℕ, zero, suc, ◌≤◌, ◌<◌, ◌+◌, ◌*◌, ◌/◌, ◌%◌, false, List, [], ◌∷◌, ◌++◌, map}
 use Rattle.std.proofs.Common.{length, length-append, append-nil, append_assoc, Some, Ok, refl, sym, ap, ap₂, ◌∙◌, arith}
 use Rattle.std.proofs.Common.{eqb, leb, ltb, rules}
 use Rattle.std.proofs.lemmas.Bool.{ne_eqb, eqb-false}
@@ -21,6 +21,7 @@ use Rattle.jpeg_segments.specs.ScanHeaders.{IsScan, scan_written}
 use Rattle.jpeg_segments.proofs.Fields.{nibbles-high, nibbles-low}
 use Rattle.jpeg_segments.proofs.Codecs.{Codec, bind, ends, check-unless, checked, present, done, remap, namely, nil}
 use Rattle.jpeg_segments.proofs.Codecs.{cons, byte, u16, length-field}
+use Rattle.jpeg_segments.proofs.TableSegments.{greatest-small}
 use Rattle.std.proofs.lemmas.Grind.{common_steps}
 
 -- ---- frame headers
@@ -129,9 +130,6 @@ sof-read number h rest is = (sof number is.numbered).reads h rest is
 abbrev selector : ℕ → ℕ → ℕ → Selector
 selector index dc ac = record { component = index; dc = dc; ac = ac }
 
-greatest-small : (b : Bool) → greatest_destination (Some b) ≤ 3
-greatest-small b = grind (arith, common_steps, nat_tests)
-
 choice : (frame : Frame) (least : ℕ)
     → Codec (selector_at frame least) (λ (c : ℕ × Selector). c.1) choice_bytes (IsChoice frame least)
 unfolding selector_at
@@ -144,7 +142,7 @@ choice frame least = remap (bind _ byte (λ (i : ℕ).
     (λ x is. namely (x.0, selector x.1.0 (x.1.1 / 16) (x.1.1 % 16))
     (grind (arith, common_steps, nat_tests)) refl (ap (λ (k : ℕ). x.0 ∷ k ∷ []) (omega arith)))
     (λ c is.
-    let small = greatest-small frame.is_baseline in
+    let small = greatest-small (Some frame.is_baseline) in
     namely (c.0, (c.1.component, nibbles c.1.dc c.1.ac))
     (grind (arith, common_steps, nat_tests)) (grind (arith, common_steps)) refl)
 

@@ -1,10 +1,11 @@
 -- Steps of the loop over quantization tables.
 use Rattle.std.proofs.lemmas.Grind.{common_steps}
-use Rattle.std.proofs.Common.{◌≡◌, ℕ, ◌-◌, ◌<◌, ◌≤◌, List, Ok, Some, arith, set}
+use Rattle.std.proofs.Common.{◌≡◌, ℕ, ◌-◌, ◌<◌, ◌≤◌, List, Ok, Some, arith, length-set, set}
+use Rattle.std.proofs.lemmas.Result.{err_from_is_err_and}
+use Rattle.jpeg_bits.proofs.Loops.{bind_at, bind_err}
 use Rattle.std.proofs.lemmas.Bool.Decides.{nat_tests}
 use Rattle.jpeg_bits.specs.Reading.{◌>>=◌}
-use Rattle.jpeg_segments.specs.Quantization.{QuantizationTables, quantization_from}
-use Rattle.jpeg_segments.specs.Quantization.{defined_table_at}
+use Rattle.jpeg_segments.specs.Quantization.{QuantizationTables, quantization_from, defined_table_at}
 
 pub tables_from-more : (most left : ℕ) (tables : QuantizationTables) (bytes : List ℕ) → 0 < left →
     left ≤ most
@@ -21,3 +22,5 @@ pub tables_from-none : (most : ℕ) (tables : QuantizationTables) (bytes : List 
     )
 unfolding quantization_from
 tables_from-none most tables bytes = grind (arith, common_steps, nat_tests)
+
+pub ruleset table_steps = (tables_from-more, length-set, bind_at, bind_err, err_from_is_err_and, common_steps)

@@ -2,6 +2,7 @@
 use Rattle.std.proofs.Common.{take, drop, length-take, ◌++◌, ◌-◌, ◌≡◌, ◌≤◌, ◌<◌, ℕ, ◌+◌, ◌*◌, List, [], ◌∷◌, map}
 use Rattle.std.proofs.Common.{length, get_or, set, true, All, refl, ap, sym, ◌∙◌, arith, rules}
 use Rattle.std.proofs.lemmas.List.{get_or-append_right, get_or-drop, length-map, map-set, get_or-map}
+use Rattle.std.proofs.lemmas.List.{append-nil, drop_all, take_all}
 use Rattle.std.proofs.lemmas.List.Edits.{map_over_more}
 use Rattle.std.proofs.lemmas.Simd.{map-map}
 use Rattle.std.proofs.lemmas.Bool.{eqb-true}
@@ -12,7 +13,7 @@ use Rattle.jpeg_segments.specs.Frame.{component_of, frame_of, greatest}
 use Rattle.jpeg_segments.specs.FrameView.{component_in, factors_in}
 use Rattle.jpeg_segments.specs.Scales.{IsSizedFrame, component_at, frame_at, is_scale, scale_for}
 use Rattle.jpeg_segments.proofs.Ceilings.{ceiling-eights}
-use Rattle.jpeg_segments.proofs.FrameLemmas.{all-in-range, greatest-some}
+use Rattle.jpeg_segments.proofs.FrameLemmas.{all-in-range, factor_rules, greatest-some}
 use Rattle.std.proofs.lemmas.Grind.{common_steps}
 
 -- ---- the greatest factors
@@ -69,10 +70,7 @@ pub seen-more : (f : Component → Component) (i : ℕ) (old new : List Seen) (x
     → component_in x ≡ f (component_in (get_or new i none))
     → map component_in (set new i x)
     ≡ map f (take (i + 1) (map component_in old)) ++ drop (i + 1) (map component_in old)
-seen-more f i old new x e h same made =
-    map-set component_in new i x ∙ ap (set (map component_in new) i) made
-    ∙ map_over_more f (map component_in old) (map component_in new) i _
-    (omega (arith, length-map old component_in)) e (sym (get_or-map component_in new i none _ (omega arith)))
+seen-more f i old new x e h same made = search (rules, map-set, map_over_more, length-map, get_or-map)
 
 -- ---- scales
 
@@ -177,3 +175,7 @@ pub scale_for_is_scale : (full_width full_height width height : ℕ)
     → is_scale (scale_for full_width full_height width height) ≡ true
 unfolding scale_for
 scale_for_is_scale full_width full_height width height = grind (arith, common_steps)
+
+pub ruleset seen_rules = (factor_rules, seen-in-range)
+
+pub ruleset component_rules = (seen-more, drop_all, take_all, append-nil, length-map, common_steps)

@@ -121,3 +121,5 @@ is-scan frame xs first last levels some most indices rising mcu band below =
       below = below;
       same_point = refl;
     }
+
+pub ruleset place_rules = (blocks-at, position-map)

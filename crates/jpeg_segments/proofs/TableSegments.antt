@@ -207,7 +207,7 @@ all-codes (suc turns) most left old few le = choose (ltb 17 left)
     search rules))
     (λ z. no-codes most left old (ltb-false 17 left z))
 
-greatest-small : (b : Option Bool) → greatest_destination b ≤ 3
+pub greatest-small : (b : Option Bool) → greatest_destination b ≤ 3
 greatest-small b = grind (arith, nat_tests)
 
 pub dht : (b : Option Bool)

@@ -292,7 +292,7 @@ fn read_components<R: Read + Drop>(
 }
 
 /// Returns a frame of these components.
-#[tactic(auto, unfolding(crate::specs::Frame::frame_of))]
+#[tactic(auto, unfolding(crate::specs::Frame::frame_of), using(crate::proofs::FrameLemmas::frame_rules))]
 fn frame_of(
     alloc: Global,
     number: u8,

@@ -67,6 +67,7 @@ fn position_of(components: &[Component], identifier: u8) -> Option<usize>
 }
 
 /// Returns the index of the component with this identifier.
+#[tactic(auto, using(crate::proofs::ScanLemmas::place_rules))]
 fn index_of(components: &[Component], identifier: u8) -> Option<usize>
     ensures index { result ≡ index_of (map component_in components.now) identifier }
     ensures within { IfSome result (λ i. i < length components.now) }
@@ -82,6 +83,7 @@ fn block_count(component: &Component) -> u16
 }
 
 /// Returns the number of blocks that the component at an index has in an MCU.
+#[tactic(auto, using(crate::proofs::ScanLemmas::place_rules))]
 fn blocks_by(components: &[Component], index: usize) -> u16
     requires { index < length components.now }
     ensures { result ≡ blocks_by (map component_in components.now) index }

@@ -89,6 +89,7 @@ fn greater(a: u8, b: u8) -> u8
 }
 
 /// Returns the greatest factors, across and down.
+#[tactic(auto, using(crate::proofs::FrameLemmas::factor_rules))]
 pub(crate) fn greatest_factors(components: &[Factors]) -> (u8, u8)
     requires { All IsInRange (map factors_of components.now) }
     ensures horizontal { result.0 ≡ greatest (λ c. c.horizontal) (map factors_of components.now) }
@@ -135,6 +136,7 @@ pub(crate) fn components_of(
 }
 
 /// Returns the greatest sampling factors of the components of a frame, across and down.
+#[tactic(auto, using(crate::proofs::ScaleLemmas::seen_rules))]
 pub fn greatest_of(components: &[Component]) -> (u8, u8)
     requires { AllHaveSampling (map component_in components.now) }
     ensures horizontal { result.0 ≡ greatest (λ f. f.horizontal) (map factors_in components.now) }
@@ -185,6 +187,7 @@ fn scale_component(
 }
 
 /// Sizes each component at a scale, in a frame of this size with these greatest factors.
+#[tactic(auto, using(crate::proofs::ScaleLemmas::component_rules))]
 fn scale_components(
     components: &mut [Component],
     size: Dimensions,

@@ -3,7 +3,7 @@ use Rattle.jpeg_evidence.proofs.TakenValues.{value_taken}
 use Rattle.jpeg_evidence.proofs.read_back.bits_taken_are_written.Goals as goal
 
 pub returns-clause-numbers : goal.returns-clause-numbers
-returns-clause-numbers c = number_taken
+returns-clause-numbers c = λ n bits v left. number_taken
 
 pub returns-clause-values : goal.returns-clause-values
-returns-clause-values c = value_taken
+returns-clause-values c = λ s bits u left. value_taken

@@ -1,5 +1,5 @@
-use Rattle.std.proofs.Common.{◌≡◌, ◌<◌, ◌*◌, ◌∙◌, ap, ap₂, sym, arith, map, take}
-use Rattle.std.proofs.Common.{length, length-set, List, ℕ, slice_index_or, rules}
+use Rattle.std.proofs.Common.{◌≡◌, ◌<◌, ◌*◌, ◌∙◌, ap, ap₂, arith, map, take, length, length-set, ℕ, slice_index_or}
+use Rattle.std.proofs.Common.{rules}
 use Rattle.std.proofs.Math.ListN as lists
 use Rattle.std.proofs.lemmas.List.{map-set}
 use Rattle.jpeg_lossless.specs.Codings.{part_in}
@@ -22,8 +22,8 @@ loop-i-preserved c =
     let within : i < length old = search (rules, mapped-within) in
     let there : slice_index_or parts i part ≡ part = mapped-at part_in c.args.parts.now i r c.index-parts-i.is in
     let same : plane.items ≡ was = ap (λ v. v.items) c.index-planes-i.is in
-    let here : slice_index_or old i was ≡ was = ap (λ (p : List ℕ). slice_index_or old i p) (sym same)
-    ∙ lists.get_or-map (λ v. v.items) c.loop-i.planes i plane in
+    let here : slice_index_or old i was ≡ was
+    = rw same at (mapped-at (λ v. v.items) c.loop-i.planes i plane c.index-planes-i.is) in
     let product : c.from.result * c.from-in-loop-i.result ≡ part.width * part.height
     = ap₂ (λ (x y : ℕ). x * y) c.from.ensures c.from-in-loop-i.ensures in
     let cut : new ≡ map (shifted point) (take (part.width * part.height) was)
