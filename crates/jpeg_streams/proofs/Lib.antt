@@ -52,6 +52,11 @@ pub mod ScaledSources
 pub mod SizedStreams
 pub mod WholeImages
 pub mod TestedParts
+pub mod TestedData
+pub mod TestedImages
+pub mod TestedSamples
+mod WrittenOnLiterals
+pub mod WorkedStreams
 pub mod WorkedGrey
 pub mod WorkedColour
 pub mod Soundness

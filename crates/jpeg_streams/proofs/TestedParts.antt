@@ -42,17 +42,17 @@ lone-own k array s c e = ap (λ (x : Coding). own_block x array s) (lone s.slot 
     lone zero e = cc
     lone (suc j) e = absurd (let n : ⊥ = cc in n)
 
-all-by : {A : Type 0} (test : A → Bool) (P : A → Type 0) → ((x : A) → test x ≡ true → P x)
+pub all-by : {A : Type 0} (test : A → Bool) (P : A → Type 0) → ((x : A) → test x ≡ true → P x)
     → (xs : List A) → list_all test xs ≡ true → AllByRecursion P xs
 all-by test P h [] e = tt
 all-by test P h (x ∷ xs) e =
     let both = and_parts (test x) (list_all test xs) e in (h x both.0, all-by test P h xs both.1)
 
-abbrev is_at : Option ℕ → ℕ → Bool
+abbrev pub is_at : Option ℕ → ℕ → Bool
 is_at None n = false
 is_at (Some a) n = a == n
 
-at-is : (o : Option ℕ) (n : ℕ) → is_at o n ≡ true → o ≡ Some n
+pub at-is : (o : Option ℕ) (n : ℕ) → is_at o n ≡ true → o ≡ Some n
 at-is None n e = absurd (true≢false (sym e))
 at-is (Some a) n e = ap (λ (k : ℕ). Some k) (eqb-true a n e)
 
@@ -62,10 +62,14 @@ at-is (Some a) n e = ap (λ (k : ℕ). Some k) (eqb-true a n e)
 abbrev pub table_of_one : ℕ → ℕ → QuantizationTable
 table_of_one index v = record { precision = 0; destination = index; values = replicate 64 v }
 
-pub one-quantizes : (index v : ℕ) → index ≤ 3 → 0 < v → IsQuantizationTable (table_of_one index v)
-one-quantizes index v h k = search (rules, all-again)
+abbrev pub is_quantization : QuantizationTable → Bool
+is_quantization t =
+    nat_le t.precision 1 && (nat_le t.destination 3 && (length t.values == 64 && list_all (nat_lt 0) t.values))
 
-abbrev is_table : DefinedTable → Bool
+pub quantizes-by : (t : QuantizationTable) → is_quantization t ≡ true → IsQuantizationTable t
+quantizes-by t e = search (rules, nat_tests, all-by, ltb-true)
+
+abbrev pub is_table : DefinedTable → Bool
 is_table t =
     length t.table.counts == 16 && (length t.table.symbols == sum t.table.counts && (nat_le 1 (sum t.table.counts)
     && (nat_le (sum t.table.counts) 256 && codes_exist (code_lengths t.table.counts))))
@@ -88,7 +92,7 @@ components-by number front [] e = tt
 components-by number front (c ∷ more) e =
     search (rules, nat_tests, components-by number (front ++ c ∷ []) more (grind (arith, nat_tests)))
 
-abbrev is_frame : ℕ → FrameHeader → Bool
+abbrev pub is_frame : ℕ → FrameHeader → Bool
 is_frame number h =
     nat_le number 3 && (is_precision number h.precision && (nat_lt 0 h.width && (nat_lt 0 h.height
     && (is_count number (length h.components) && are_components number [] h.components))))
@@ -113,7 +117,7 @@ choices-by frame least [] e = tt
 choices-by frame least (c ∷ more) e =
     search (rules, at-is, nat_tests, choices-by frame (c.1.component + 1) more (grind (arith, nat_tests)))
 
-abbrev is_scan : Frame → ScanHeader → Bool
+abbrev pub is_scan : Frame → ScanHeader → Bool
 is_scan frame h =
     nat_le 1 (length h.choices) && (nat_le (length h.choices) 4 && (are_choices frame 0 h.choices
     && (is_mcu frame (selectors_in h) && (nat_lt h.low 16 && (nat_lt h.low
@@ -135,11 +139,11 @@ abbrev dc_legal : Bool → Bool → ℕ → Option ℕ → Bool
 dc_legal true first al l = ac_legal first al l
 dc_legal false first al l = is_some l
 
-abbrev is_legal : Pass → Levels → Bool
+abbrev pub is_legal : Pass → Levels → Bool
 is_legal p l = nat_le p.al 7 && (dc_legal (p.ss == 0) p.is_first p.al l.dc
     && list_all (ac_legal p.is_first p.al) (band_of p l.acs))
 
-none-is : (o : Option ℕ) → not (is_some o) ≡ true → o ≡ None
+pub none-is : {A : Type 0} (o : Option A) → not (is_some o) ≡ true → o ≡ None
 none-is None e = refl
 none-is (Some a) e = absurd (true≢false (sym e))
 
@@ -168,7 +172,7 @@ pub category-by : (d : ℤ) (s : ℕ) → is_category d s ≡ true → IsCategor
 category-by d zero e = search (rules, eqb-true, unsigned_abs)
 category-by d (suc s) e = search (rules, and_parts, unsigned_abs, ltb-true, leb-true, cases_lt, pow-le-pow_right)
 
-abbrev is_8_bit : Block → Bool
+abbrev pub is_8_bit : Block → Bool
 is_8_bit b =
     length b.acs == 63 && (nat_le (unsigned_abs b.dc) 1023 && list_all (λ x. nat_le (unsigned_abs x) 1023) b.acs)
 

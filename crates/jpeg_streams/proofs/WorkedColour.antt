@@ -38,7 +38,7 @@ use Rattle.jpeg_streams.specs.WrittenScans.{IsComplete, IsLegalScan, IsOwn, Writ
 use Rattle.jpeg_streams.specs.WrittenScans.{levels_after}
 use Rattle.jpeg_streams.specs.WrittenStreams.{end, scan, segment}
 use Rattle.jpeg_streams.proofs.CutLevels.{all-same}
-use Rattle.jpeg_streams.proofs.TestedParts.{category-by, frame-by, interval-by, is_category, one-quantizes, range-by}
+use Rattle.jpeg_streams.proofs.TestedParts.{category-by, frame-by, interval-by, is_category, quantizes-by, range-by}
 use Rattle.jpeg_streams.proofs.TestedParts.{own_block, range-in, scan-by, scan-legal, table-by}
 use Rattle.jpeg_streams.proofs.TestedParts.{table_of_one}
 use Rattle.jpeg_streams.proofs.WalkedStreams.{closes}
@@ -214,7 +214,7 @@ colour-written =
         starts = refl;
         written =
             segment nothing_found scanned _ sent 0 (Quantization (table_of_one 0 16 ∷ [])) _
-            ((one-quantizes 0 16 (omega arith) (omega arith), tt), tt) refl (
+            ((quantizes-by (table_of_one 0 16) refl, tt), tt) refl (
             segment said_1 scanned _ sent 0 (Header 0 header) _ ((refl, frame-by 0 header refl), refl) (omega arith) (
             segment _ scanned _ sent 0 (segment_of (table classes.DC 4)) _ ((table-by _ _ (omega arith) refl, tt), tt) tt (
             segment said_2 scanned _ sent 0 (segment_of (table classes.AC 0)) _

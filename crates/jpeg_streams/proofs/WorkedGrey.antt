@@ -33,7 +33,7 @@ use Rattle.jpeg_streams.specs.WrittenScans.{IsLegalScan, WritesScan, levels_afte
 use Rattle.jpeg_streams.specs.WrittenStreams.{end, scan, segment}
 use Rattle.jpeg_streams.proofs.CutLevels.{all-same}
 use Rattle.jpeg_streams.proofs.TestedParts.{category-by, frame-by, interval-by, lone-own}
-use Rattle.jpeg_streams.proofs.TestedParts.{one-quantizes, own_block, range-in, scan-by, scan-legal}
+use Rattle.jpeg_streams.proofs.TestedParts.{quantizes-by, own_block, range-in, scan-by, scan-legal}
 use Rattle.jpeg_streams.proofs.TestedParts.{table-by, table_of_one}
 use Rattle.jpeg_streams.proofs.WalkedStreams.{closes}
 
@@ -247,7 +247,7 @@ grey-written = record {
     after = _;
     starts = refl;
     written = segment nothing_found scanned _ sent_4 0 (Quantization (table_of_one 0 16 ∷ [])) _
-        ((one-quantizes 0 16 (omega arith) (omega arith), tt), tt) refl (
+        ((quantizes-by (table_of_one 0 16) refl, tt), tt) refl (
         segment said_1 scanned _ sent_4 0 (Header 2 header) _ ((refl, frame-by 2 header refl), refl) (omega arith) (
         segment _ scanned _ sent_4 0 (segment_of dc_table) _ ((table-by _ _ (omega arith) refl, tt), tt) tt (
         segment _ scanned _ sent_4 0 (segment_of ac_table) _ ((table-by _ _ (omega arith) refl, tt), tt) tt (
