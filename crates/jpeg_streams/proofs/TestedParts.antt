@@ -7,7 +7,7 @@ use Rattle.std.proofs.lemmas.Bool.{and_parts, cases_lt, eq-eqb, eqb-true, leb-tr
 use Rattle.std.proofs.lemmas.Bool.Decides.{nat_tests}
 use Rattle.std.proofs.lemmas.Int.{ints}
 use Rattle.std.specs.List.{AllByRecursion, list_all}
-use Rattle.std.specs.Prelude.{nat_le, slice_get, ◌/◌, ◌%◌}
+use Rattle.std.specs.Prelude.{get_or, nat_le, slice_get, ◌/◌, ◌%◌}
 use Rattle.jpeg_bits.proofs.ReadIntervals.{all-again}
 use Rattle.jpeg_bits.proofs.Tables.{tested-exist}
 use Rattle.jpeg_bits.specs.Codes.{code_lengths, codes_exist}
@@ -29,6 +29,7 @@ use Rattle.jpeg_streams.specs.WorkedImages.{in_column}
 use Rattle.jpeg_bits.specs.Written.{WritesInterval}
 use Rattle.jpeg_streams.specs.Order.{Spot}
 use Rattle.jpeg_streams.specs.WrittenScans.{Coefficients, IsLegalScan}
+use Rattle.jpeg_streams.proofs.SaidTables.{get-all}
 
 -- the block of a spot, if it is of this component
 abbrev pub own_block : Coding → Coefficients → Spot → Block
@@ -179,10 +180,14 @@ is_8_bit b =
 pub range-by : (b : Block) → is_8_bit b ≡ true → Is8Bit b
 range-by b e = search (rules, unsigned_abs, nat_tests, ints, all-by, leb-true)
 
--- the blocks in the columns of a line
+-- the blocks of a line, and of some lines, and zeros beyond them
 pub range-in : (blocks : List Block) → list_all is_8_bit blocks ≡ true → (column : ℕ) → Is8Bit (in_column blocks column)
-range-in (b ∷ blocks) e (suc column) = range-in blocks (and_parts (is_8_bit b) _ e).1 column
-range-in blocks e column = search (rules, range-by)
+range-in blocks e column = get-all Is8Bit blocks column _ (all-by is_8_bit Is8Bit range-by blocks e) (range-by _ refl)
+
+pub lines-in : (lines : List (List Block)) → list_all (list_all is_8_bit) lines ≡ true → (row column : ℕ)
+    → Is8Bit (in_column (get_or lines row []) column)
+lines-in lines e row = get-all _ lines row [] (all-by _ (λ bs. (column : ℕ) → Is8Bit (in_column bs column)) range-in
+    lines e) (range-in [] refl)
 
 -- the bits of an interval, and what is left of its last byte
 pub interval-by : (writes : List Bool → Type 0) (bits : List Bool) (data_bytes : List ℕ) → writes bits

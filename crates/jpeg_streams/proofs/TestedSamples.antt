@@ -7,7 +7,7 @@ use Rattle.std.proofs.lemmas.Bool.{eqb-true}
 use Rattle.std.proofs.lemmas.Bool.Decides.{nat_tests}
 use Rattle.std.proofs.lemmas.Int.{ints}
 use Rattle.std.specs.Cmp.Lexicographic.{pointwise, same_text}
-use Rattle.std.specs.List.{concat, list_all, range_with_len}
+use Rattle.std.specs.List.{flat_map, list_all, range_with_len}
 use Rattle.std.specs.Prelude.{nat_eq, nat_le, ◌≤ℤ◌}
 use Rattle.jpeg_bits.specs.Codes.{Table}
 use Rattle.jpeg_bits.specs.DefaultTables.{names}
@@ -133,7 +133,7 @@ scan_of_samples samples said sent frame h bytes =
           let n = rows_of_interval w.wide (mcus_down frame codings.out) said.restart in
           let tables = scan_tables w (mcus_down frame codings.out) in do
             read ← known_ok (intervals interval_rows 0 (first_group n tables) (other_groups n tables) bytes)
-            rows ← tabled tables (concat read.out.0.0)
+            rows ← tabled tables (flat_map (λ interval. interval) read.out.0.0)
             kept ← holds_for samples codings.out w.parts (lines_by_component w 0 w.parts
                 (first_group n (map (map (λ x. x.1)) rows.out) ∷ other_groups n (map (map (λ x. x.1)) rows.out)))
             i ← intervals_for WritesRows rows_for 0 (first_group n rows.out) (other_groups n rows.out)
