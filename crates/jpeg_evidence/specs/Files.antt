@@ -184,11 +184,13 @@ red_of_files =
     ∷ block (pos 13) (pos 0 ∷ minus 4 ∷ minus 7 ∷ pos 0 ∷ pos 0 ∷ pos 0 ∷ pos 0 ∷ pos 0
     ∷ minus 1 ∷ []) ∷ []) ∷ []
 
+abbrev pub blocks_of_files : List (List (List Block))
+blocks_of_files = luma_of_files ∷ blue_of_files ∷ red_of_files ∷ []
+
 -- The block of a component in a row and a column. Beyond those in the file all are zeros.
 unfoldable pub coefficients_of_files : Coefficients
 coefficients_of_files index row column =
-    in_column (get_or (get_or (luma_of_files ∷ blue_of_files ∷ red_of_files ∷ []) index []) row [])
-    column
+    in_column (get_or (get_or blocks_of_files index []) row []) column
 
 -- ---- its Huffman tables
 

@@ -55,10 +55,8 @@ pub mod TestedParts
 pub mod TestedData
 pub mod TestedImages
 pub mod TestedSamples
-mod WrittenOnLiterals
+pub mod WrittenOnLiterals
 pub mod WorkedStreams
-pub mod WorkedGrey
-pub mod WorkedColour
 pub mod Soundness
 pub mod WrittenParts
 pub mod PicturedFrames
@@ -71,7 +69,6 @@ pub mod ShorterSamples
 pub mod SaidTables
 pub mod LosslessSizes
 pub mod LosslessFrames
-pub mod WorkedSamples
 pub mod AcceptedSamples
 pub mod EncodedSamples
 pub mod PaddingUnseen

@@ -151,7 +151,7 @@ module _ {Sent : Type 0} (may : Found → Segment → Type 0)
     (may_for : (said : Found) (s : Segment) → Option (may said s))
     (scan_for : (said : Found) (sent : Sent) (frame : Frame) (h : ScanHeader) → List ℕ
     → Option (Next (scans said sent frame h)))
-    (end_for : (said : Found) (sent : Sent) → Option (Made (ends said sent))) where
+    (end_for : (fill : ℕ) (said : Found) (sent : Sent) → Option (Made (ends said sent))) where
   -- At most n segments and scans, by the bytes that begin with them.
   abbrev pub stream_for : (n : ℕ) (said : Found) (sent : Sent) → List ℕ → Option (Stream may scans ends said sent)
   stream_for zero said sent bytes = None
@@ -163,7 +163,7 @@ module _ {Sent : Type 0} (may : Found → Segment → Type 0)
       let after = drop (u16_in rest 0) rest in
       elim (code == 217) [
         | true ↦ do
-          e ← end_for said sent
+          e ← end_for fill said sent
           Some (record { bytes = e.out; final = said; last = sent; written = end said sent e.out e.holds })
         | false ↦ elim (code == 218) [
           | true ↦ do
@@ -224,16 +224,16 @@ may_in_image said (Header number h) = do
   Some (leb-true _ _ is)
 may_in_image said s = Some tt
 
-abbrev end_of_image : (said : Found) (levels : ℕ → Levels) → Option (Made (ClosesImage said levels))
-end_of_image said levels = do
+abbrev end_of_image : (fill : ℕ) (said : Found) (levels : ℕ → Levels) → Option (Made (ClosesImage said levels))
+end_of_image fill said levels = do
   frame ← known said.frame
   scanned ← when said.scanned
   tables ← when (list_all (λ c. is_some (slice_index_or said.quantization c.factors.quantization None))
       frame.out.components)
   complete ← complete_for frame.out levels
   Some (record {
-    out = marker 0 217 [];
-    holds = closes said frame.out 0 frame.holds (scanned, all-by _ _ (λ c h. h) _ tables, λ _. complete);
+    out = marker fill 217 [];
+    holds = closes said frame.out fill frame.holds (scanned, all-by _ _ (λ c h. h) _ tables, λ _. complete);
   })
 
 module _ (array : Coefficients) (range : (index row column : ℕ) → Is8Bit (array index row column)) where

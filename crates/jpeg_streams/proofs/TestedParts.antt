@@ -1,7 +1,7 @@
 -- Tests that tell parts of a written stream, for streams that are known: each test computes.
 use Rattle.std.proofs.Common.{rules, ◌≡◌, ◌≢◌, ℕ, zero, suc, ◌+◌, ◌^◌, ◌<◌, ◌≤◌, ◌==◌, ◌&&◌, not, nat_lt, Bool, true}
 use Rattle.std.proofs.Common.{false, List, [], ◌∷◌, ◌++◌, length, drop, replicate, sum, Option, Some, None, Ok}
-use Rattle.std.proofs.Common.{is_some, ℤ, unsigned_abs, refl, sym, ap, arith, true≢false}
+use Rattle.std.proofs.Common.{is_some, ℤ, pos, unsigned_abs, refl, sym, ap, arith, true≢false}
 use Rattle.std.proofs.Math.Nat.{pow-le-pow_right}
 use Rattle.std.proofs.lemmas.Bool.{and_parts, cases_lt, eq-eqb, eqb-true, leb-true, ltb-true, ne_eqb}
 use Rattle.std.proofs.lemmas.Bool.Decides.{nat_tests}
@@ -25,7 +25,7 @@ use Rattle.jpeg_segments.specs.WrittenSegments.{IsQuantizationTable, Quantizatio
 use Rattle.jpeg_streams.specs.Found.{Found}
 use Rattle.jpeg_streams.specs.Levels.{Is8Bit, IsLegal, Levels}
 use Rattle.jpeg_streams.specs.ScanSegments.{Coding, codings_of, pass_of}
-use Rattle.jpeg_streams.specs.WorkedImages.{in_column}
+use Rattle.jpeg_streams.specs.WorkedImages.{flat_block, in_column}
 use Rattle.jpeg_bits.specs.Written.{WritesInterval}
 use Rattle.jpeg_streams.specs.Order.{Spot}
 use Rattle.jpeg_streams.specs.WrittenScans.{Coefficients, IsLegalScan}
@@ -180,14 +180,23 @@ is_8_bit b =
 pub range-by : (b : Block) → is_8_bit b ≡ true → Is8Bit b
 range-by b e = search (rules, unsigned_abs, nat_tests, ints, all-by, leb-true)
 
--- the blocks of a line, and of some lines, and zeros beyond them
+in-list : {A : Type 0} (P : A → Type 0) (test : A → Bool) (d : A) → ((x : A) → test x ≡ true → P x) → test d ≡ true
+    → (xs : List A) → list_all test xs ≡ true → (i : ℕ) → P (get_or xs i d)
+in-list P test d h is xs e i = get-all P xs i d (all-by test P h xs e) (h d is)
+
+-- the blocks in the columns of a line, of some lines, and of some components, with zeros beyond them
 pub range-in : (blocks : List Block) → list_all is_8_bit blocks ≡ true → (column : ℕ) → Is8Bit (in_column blocks column)
-range-in blocks e column = get-all Is8Bit blocks column _ (all-by is_8_bit Is8Bit range-by blocks e) (range-by _ refl)
+range-in = in-list Is8Bit is_8_bit (flat_block (pos 0)) range-by refl
 
 pub lines-in : (lines : List (List Block)) → list_all (list_all is_8_bit) lines ≡ true → (row column : ℕ)
     → Is8Bit (in_column (get_or lines row []) column)
-lines-in lines e row = get-all _ lines row [] (all-by _ (λ bs. (column : ℕ) → Is8Bit (in_column bs column)) range-in
-    lines e) (range-in [] refl)
+lines-in = in-list (λ line. (column : ℕ) → Is8Bit (in_column line column)) (list_all is_8_bit) [] range-in refl
+
+pub blocks-in : (blocks : List (List (List Block))) → list_all (list_all (list_all is_8_bit)) blocks ≡ true
+    → (index row column : ℕ) → Is8Bit (in_column (get_or (get_or blocks index []) row []) column)
+blocks-in =
+    in-list (λ lines. (row column : ℕ) → Is8Bit (in_column (get_or lines row []) column)) (list_all (list_all is_8_bit))
+    [] lines-in refl
 
 -- the bits of an interval, and what is left of its last byte
 pub interval-by : (writes : List Bool → Type 0) (bits : List Bool) (data_bytes : List ℕ) → writes bits

@@ -113,13 +113,13 @@ may_be_lossless said (Header number h) = do
   Some (eqb-true _ _ is)
 may_be_lossless said s = Some tt
 
-abbrev end_of_samples : (said : Found) (sent : List ℕ) → Option (Made (ClosesSamples said sent))
-end_of_samples said sent = do
+abbrev end_of_samples : (fill : ℕ) (said : Found) (sent : List ℕ) → Option (Made (ClosesSamples said sent))
+end_of_samples fill said sent = do
   frame ← known said.frame
   all ← when (list_all (names sent) (range_with_len 0 (length frame.out.components)))
   Some (record {
-    out = marker 0 217 [];
-    holds = closes said frame.out 0 frame.holds (all-by (names sent) _ (λ k h. h) _ all);
+    out = marker fill 217 [];
+    holds = closes said frame.out fill frame.holds (all-by (names sent) _ (λ k h. h) _ all);
   })
 
 abbrev scan_of_samples : (samples : Samples) (said : Found) (sent : List ℕ) (frame : Frame) (h : ScanHeader) → List ℕ
