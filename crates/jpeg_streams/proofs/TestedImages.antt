@@ -97,11 +97,14 @@ abbrev header_in : Frame → List ℕ → ScanHeader
 header_in frame payload =
     let n = 2 * byte_in payload 0 in
     record {
-      choices = map (λ c. (byte_in c 0, record {
-        component = unwrap_or (index_of frame.components (byte_in c 0)) 0;
-        dc = byte_in c 1 / 16;
-        ac = byte_in c 1 % 16;
-      })) (groups n 2 (take n (drop 1 payload)));
+      choices = map (λ c. (
+        byte_in c 0,
+        record {
+          component = unwrap_or (index_of frame.components (byte_in c 0)) 0;
+          dc = byte_in c 1 / 16;
+          ac = byte_in c 1 % 16;
+        },
+      )) (groups n 2 (take n (drop 1 payload)));
       first = byte_in payload (n + 1);
       last = byte_in payload (n + 2);
       high = byte_in payload (n + 3) / 16;

@@ -141,16 +141,19 @@ scan_of_samples samples said sent frame h bytes =
             Some (record {
               out = i.out;
               next = map (λ s. s.component) (selectors_in h) ++ sent;
-              holds = (record {
-                codings = codings.out;
-                coded = codings.holds;
-                point = eqb-true _ _ point;
-                interval = whole;
-                rows = rows.out;
-                tables = rows.holds;
-                kept = kept;
-                written = i.holds;
-              }, refl);
+              holds = (
+                record {
+                  codings = codings.out;
+                  coded = codings.holds;
+                  point = eqb-true _ _ point;
+                  interval = whole;
+                  rows = rows.out;
+                  tables = rows.holds;
+                  kept = kept;
+                  written = i.holds;
+                },
+                refl,
+              );
             })
 
 -- a stream for these samples
