@@ -55,7 +55,7 @@ pub mod TestedParts
 pub mod TestedData
 pub mod TestedImages
 pub mod TestedSamples
-pub mod WrittenOnLiterals
+pub mod OnLiterals
 pub mod WorkedStreams
 pub mod Soundness
 pub mod WrittenParts

@@ -2,9 +2,8 @@
 -- that they may be written, or nothing where a test fails. On literals all of them compute.
 use Rattle.std.proofs.Common.{rules, ◌≡◌, ◌≢◌, ℕ, zero, suc, ◌+◌, ◌-◌, ◌*◌, ◌%◌, ◌^◌, ◌<◌, ◌≤◌, ◌==◌, ◌&&◌, not, nat_lt}
 use Rattle.std.proofs.Common.{Bool, true, false, List, [], ◌∷◌, ◌++◌, length, replicate, map, Option, Some, None}
-use Rattle.std.proofs.Common.{ℤ, pos, ◌-ℤ◌, unsigned_abs, refl, sym, ap, arith, append_assoc}
+use Rattle.std.proofs.Common.{ℤ, pos, ◌-ℤ◌, unsigned_abs, refl, sym, ap, arith, append_assoc, subst}
 use Rattle.std.proofs.lemmas.Bool.{and_parts, eqb-false, eqb-true, false≢true, leb-true, ltb-true, not-true}
-use Rattle.std.proofs.lemmas.Grind.{replicate_next}
 use Rattle.std.specs.List.{find, list_all, position, range_with_len}
 use Rattle.std.specs.Option.{IsSome}
 use Rattle.std.specs.Prelude.{◌/◌, get_or, nat_le, set, slice_index}
@@ -39,16 +38,12 @@ abbrev pub given : {A : Type 0} → (o : Option A) → IsSome o → A
 given None is = absurd (false≢true is)
 given (Some x) is = x
 
--- something that was made, and that this holds of it
-pub record Made {B : Type 0} (P : B → Type 0) : Type 0 where
-  pub out : B
-  pub holds : P out
+-- something that was made and of which this holds; and with a state after it
+abbrev pub Made : {B : Type 0} → (B → Type 0) → Type 0
+Made {B} P = (b : B) × P b
 
--- the same, with a state after it
-pub record Next {B S : Type 0} (P : B → S → Type 0) : Type 0 where
-  pub out : B
-  pub next : S
-  pub holds : P out next
+abbrev pub Next : {B S : Type 0} → (B → S → Type 0) → Type 0
+Next {B} {S} P = (b : B) × (s : S) × P b s
 
 -- ---- codes and values
 
@@ -57,66 +52,60 @@ code_for table symbol = do
   i ← position (λ s. s == symbol) table.symbols
   listed ← when (nat_lt i (length (code_lengths table.counts)))
   is ← when (slice_index table.symbols i == symbol)
-  Some (record {
-    out = code_bits table i;
-    holds = record { index = i; listed = ltb-true _ _ listed; is_for = eqb-true _ _ is; has_bits = refl };
-  })
+  Some (code_bits table i,
+    record { index = i; listed = ltb-true _ _ listed; is_for = eqb-true _ _ is; has_bits = refl })
 
 -- the category of a value, and a code for the symbol that has it
-pub record Category (table : Table) (symbol_for : ℕ → ℕ) (u : ℤ) : Type 0 where
-  pub s : ℕ
-  pub is : IsCategory u s
-  pub code : Made (IsCoded table (symbol_for s))
-
-abbrev pub category_for : (table : Table) (symbol_for : ℕ → ℕ) (u : ℤ) → Option (Category table symbol_for u)
+abbrev pub category_for : (table : Table) (symbol_for : ℕ → ℕ) (u : ℤ)
+    → Option ((s : ℕ) × (code : List Bool) × IsCategory u s × IsCoded table (symbol_for s) code)
 category_for table symbol_for u = do
   s ← find (is_category u) (range_with_len 0 17)
   is ← when (is_category u s)
   code ← code_for table (symbol_for s)
-  Some (record { s = s; is = category-by u s is; code = code })
+  Some (s, code.0, category-by u s is, code.1)
 
-abbrev pub dc_by : (p : Pass) (here kind : Bool) → (p.ss == 0) ≡ here → p.is_first ≡ kind → (table : Table)
+abbrev dc_by : (p : Pass) (here kind : Bool) → (p.ss == 0) ≡ here → p.is_first ≡ kind → (table : Table)
     (u predictor : ℤ) → Option (Next (WritesDc p table u predictor))
-dc_by p false kind other is table u predictor =
-    Some (record { out = []; next = predictor; holds = other_band u predictor (eqb-false _ _ other) })
+dc_by p false kind other is table u predictor = Some ([], predictor, other_band u predictor (eqb-false _ _ other))
 dc_by p true false same is table u predictor =
-    Some (record {
-      out = bit (low_bit u) ∷ [];
-      next = predictor;
-      holds = one_bit u predictor (eqb-true _ _ same) is;
-    })
+    Some (bit (low_bit u) ∷ [], predictor, one_bit u predictor (eqb-true _ _ same) is)
 dc_by p true true same is table u predictor = do
   c ← category_for table (λ s. s) (u -ℤ predictor)
-  Some (record {
-    out = c.code.out ++ bits_for (u -ℤ predictor) c.s;
-    next = u;
-    holds = whole u predictor _ (eqb-true _ _ same) is
-        (record { s = c.s; code = c.code.out; category = c.is; coded = c.code.holds; has_bits = refl });
-  })
+  Some (c.1 ++ bits_for (u -ℤ predictor) c.0, u, whole u predictor _ (eqb-true _ _ same) is
+    (record { s = c.0; code = c.1; category = c.2; coded = c.3; has_bits = refl }))
 
 -- ---- bands
 
--- the end of a band, for a run of blocks
-pub record End (table : Table) : Type 0 where
-  pub r : ℕ
-  pub e : ℕ
-  pub small : r ≤ 14
-  pub below : e < 2 ^ r
-  pub code : Made (IsCoded table (16 * r + 0))
-
-abbrev pub end_for : (table : Table) (run : ℕ) → Option (End table)
+-- the end of a band, for a run of so many blocks more
+abbrev end_for : (table : Table) (run : ℕ)
+    → Option ((r : ℕ) × (e : ℕ) × (code : List Bool) × (r ≤ 14) × (e < 2 ^ r) × IsCoded table (16 * r + 0) code)
 end_for table run = do
   r ← find (λ r. nat_lt (run + 1) (2 ^ suc r)) (range_with_len 0 15)
   small ← when (nat_le r 14)
   below ← when (nat_lt (run + 1 - 2 ^ r) (2 ^ r))
   code ← code_for table (16 * r + 0)
-  Some (record {
-    r = r;
-    e = run + 1 - 2 ^ r;
-    small = leb-true _ _ small;
-    below = ltb-true _ _ below;
-    code = code;
-  })
+  Some (r, run + 1 - 2 ^ r, code.0, leb-true _ _ small, ltb-true _ _ below, code.1)
+
+-- The band that the numbers in front and others make, in a first scan or a refinement: by its end, where a code in front
+-- of it is done, and by what ends with a number and stands for those in front too.
+abbrev band_for : (Writes : List ℤ → List Bool → ℕ → Type 0) → Writes [] [] 0
+    → ((front : List ℤ) (u : ℤ) (us : List ℤ) → Option (Next (Writes (front ++ u ∷ us))))
+    → ((front : List ℤ) (u : ℤ) (us : List ℤ) → Option ((code : List Bool → List Bool)
+    × ((bits : List Bool) (run : ℕ) → Writes us bits run → Writes (front ++ u ∷ us) (code bits) run)))
+    → (front us : List ℤ) → Option (Next (Writes (front ++ us)))
+band_for Writes none end token [] [] = Some ([], 0, none)
+band_for Writes none end token (f ∷ front) [] = None
+band_for Writes none end token front (u ∷ us) = elim (end front u us) [
+  | Some e ↦ Some e
+  | None ↦ elim (token front u us) [
+    | Some t ↦ do
+      more ← band_for Writes none end token [] us
+      Some (t.0 more.0, more.1, t.1 more.0 more.1 more.2)
+    | None ↦ do
+      more ← band_for Writes none end token (front ++ u ∷ []) us
+      Some (more.0, more.1, subst (λ us. Writes us more.0 more.1) (append_assoc front (u ∷ []) us) more.2)
+  ]
+]
 
 zero-is : (u : ℤ) → is_zero u ≡ true → u ≡ pos 0
 zero-is (pos zero) e = refl
@@ -131,66 +120,44 @@ zeros-are (u ∷ us) e =
 pub no-zero : (u : ℤ) → not (is_zero u) ≡ true → u ≢ pos 0
 no-zero u e z = false≢true (rw z at e)
 
-pub all-ended : (table : Table) (n : ℕ) (u : ℤ) (us : List ℤ) (x : End table)
-    → (n == 0 && list_all is_zero (u ∷ us)) ≡ true
-    → WritesBand table (no_numbers n ++ u ∷ us) (x.code.out ++ low_bits x.r x.e) (2 ^ x.r - 1 + x.e)
-all-ended table n u us x e =
-    let both = and_parts (n == 0) _ e in
-    rw (eqb-true n 0 both.0)
-    (rw (sym (zeros-are (u ∷ us) both.1))
-    (ended (length us) x.r x.e x.code.out x.small x.below x.code.holds))
+pub zeros-in : (P : List ℤ → Type 0) (us : List ℤ) → list_all is_zero us ≡ true → P (no_numbers (length us)) → P us
+zeros-in P us e h = subst P (zeros-are us e) h
 
-pub sixteen-zeros : (table : Table) (n : ℕ) (u : ℤ) (us : List ℤ) (bits : List Bool) (run : ℕ)
-    (code : Made (IsCoded table (16 * 15 + 0))) → is_zero u ≡ true → (n == 15) ≡ true
-    → WritesBand table us bits run → WritesBand table (no_numbers n ++ u ∷ us) (code.out ++ bits) run
-sixteen-zeros table n u us bits run code z e w =
-    rw (zero-is u z, eqb-true n 15 e) (sixteen code.out us bits run code.holds w)
+pub sixteen-zeros : (table : Table) (front : List ℤ) (u : ℤ) (us : List ℤ) (bits : List Bool) (run : ℕ)
+    (code : Made (IsCoded table (16 * 15 + 0))) → list_all is_zero front ≡ true
+    → (is_zero u && length front == 15) ≡ true
+    → WritesBand table us bits run → WritesBand table (front ++ u ∷ us) (code.0 ++ bits) run
+sixteen-zeros table front u us bits run code zeros e w =
+    let both = and_parts (is_zero u) _ e in
+    rw (zero-is u both.0, sym (zeros-are front zeros), eqb-true _ 15 both.1) (sixteen code.0 us bits run code.1 w)
 
-pub one-zero : (table : Table) (n : ℕ) (u : ℤ) (us : List ℤ) (bits : List Bool) (run : ℕ) → is_zero u ≡ true
-    → WritesBand table (no_numbers (n + 1) ++ us) bits run → WritesBand table (no_numbers n ++ u ∷ us) bits run
-one-zero table n u us bits run z w = rw (zero-is u z, sym (append_assoc (no_numbers n) (pos 0 ∷ []) us)) (rw replicate_next at w)
+abbrev first_end : (table : Table) (run : ℕ) (front : List ℤ) (u : ℤ) (us : List ℤ)
+    → Option (Next (WritesBand table (front ++ u ∷ us)))
+first_end table run (f ∷ front) u us = None
+first_end table run [] u us = do
+  zeros ← when (list_all is_zero (u ∷ us))
+  x ← end_for table run
+  Some (x.2 ++ low_bits x.0 x.1, 2 ^ x.0 - 1 + x.1, zeros-in (λ us. WritesBand table us (x.2 ++ low_bits x.0 x.1) (2 ^ x.0 - 1 + x.1)) (u ∷ us) zeros
+    (ended (length us) x.0 x.1 x.2 x.3 x.4 x.5))
 
--- The band that n zeros and these numbers make: codes for sixteen zeros where another number comes after them.
-abbrev pub band_for : (table : Table) (run n : ℕ) (us : List ℤ) → Option (Next (WritesBand table (no_numbers n ++ us)))
-band_for table run zero [] = Some (record { out = []; next = 0; holds = full })
-band_for table run (suc n) [] = None
-band_for table run n (u ∷ us) = elim (when (n == 0 && list_all is_zero (u ∷ us))) [
-  | Some h ↦ do
-    x ← end_for table run
-    Some (record {
-      out = x.code.out ++ low_bits x.r x.e;
-      next = 2 ^ x.r - 1 + x.e;
-      holds = all-ended table n u us x h;
-    })
-  | None ↦ elim (when (is_zero u)) [
+abbrev first_token : (table : Table) (front : List ℤ) (u : ℤ) (us : List ℤ) → Option ((code : List Bool → List Bool)
+    × ((bits : List Bool) (run : ℕ) → WritesBand table us bits run → WritesBand table (front ++ u ∷ us) (code bits) run))
+first_token table front u us = do
+  zeros ← when (list_all is_zero front)
+  elim (when (not (is_zero u))) [
+    | Some some ↦ do
+      few ← when (nat_le (length front) 15)
+      c ← category_for table (λ s. 16 * length front + s) u
+      Some ((λ bits. c.1 ++ bits_for u c.0 ++ bits), λ bits run w. zeros-in
+        (λ zs. WritesBand table (zs ++ u ∷ us) (c.1 ++ bits_for u c.0 ++ bits) run) front zeros
+        (value (length front) c.0 u c.1 us bits run (leb-true _ _ few) (no-zero u some) c.2 c.3 w))
     | None ↦ do
-      some ← when (not (is_zero u))
-      few ← when (nat_le n 15)
-      c ← category_for table (λ s. 16 * n + s) u
-      more ← band_for table run 0 us
-      Some (record {
-        out = c.code.out ++ bits_for u c.s ++ more.out;
-        next = more.next;
-        holds = value n c.s u c.code.out us more.out more.next (leb-true _ _ few) (no-zero u some) c.is
-            c.code.holds more.holds;
-      })
-    | Some z ↦ elim (when (n == 15)) [
-      | None ↦ do
-        more ← band_for table run (n + 1) us
-        Some (record { out = more.out; next = more.next; holds = one-zero table n u us _ _ z more.holds })
-      | Some e ↦ do
-        code ← code_for table (16 * 15 + 0)
-        more ← band_for table run 0 us
-        Some (record {
-          out = code.out ++ more.out;
-          next = more.next;
-          holds = sixteen-zeros table n u us _ _ code z e more.holds;
-        })
-    ]
+      all ← when (is_zero u && length front == 15)
+      code ← code_for table (16 * 15 + 0)
+      Some ((λ bits. code.0 ++ bits), λ bits run w. sixteen-zeros table front u us bits run code zeros all w)
   ]
-]
 
--- ---- refinements
+-- ---- bands in refinements
 
 abbrev is_quiet : ℤ → Bool
 is_quiet u = not (unsigned_abs u == 1)
@@ -199,163 +166,127 @@ pub none-new : (us : List ℤ) → list_all is_quiet us ≡ true → NoneNew us
 unfolding NoneNew
 none-new us e = all-by is_quiet _ (λ u h. eqb-false _ _ (not-true _ h)) us e
 
-pub next-new : (table : Table) (front : List ℤ) (u : ℤ) (us : List ℤ) (bits : List Bool) (run : ℕ)
-    → WritesRefinement table ((front ++ u ∷ []) ++ us) bits run → WritesRefinement table (front ++ u ∷ us) bits run
-next-new table front u us bits run w = rw append_assoc at w
-
-pub none-left : (table : Table) (front : List ℤ) (u : ℤ) (us : List ℤ) (x : End table)
-    → (length front == 0 && list_all is_quiet (u ∷ us)) ≡ true
-    → WritesRefinement table (front ++ u ∷ us) (x.code.out ++ (low_bits x.r x.e ++ corrections (u ∷ us)))
-    (2 ^ x.r - 1 + x.e)
-none-left table [] u us x e =
-    none_left x.r x.e u us x.code.out x.small x.below (none-new (u ∷ us) e) x.code.holds
-none-left table (f ∷ front) u us x e = absurd (omega (arith, eqb-true (suc (length front)) 0 (and_parts (suc (length front) == 0) _ e).0))
-
 pub zero-passed : (table : Table) (front : List ℤ) (u : ℤ) (us : List ℤ) (bits : List Bool) (run : ℕ)
     (code : Made (IsCoded table (16 * 15 + 0))) → list_all is_quiet front ≡ true
     → (is_zero u && count_unknown front == 15) ≡ true → WritesRefinement table us bits run
-    → WritesRefinement table (front ++ u ∷ us) (code.out ++ (corrections front ++ bits)) run
+    → WritesRefinement table (front ++ u ∷ us) (code.0 ++ (corrections front ++ bits)) run
 zero-passed table front u us bits run code none e w =
     let both = and_parts (is_zero u) _ e in
-    rw (zero-is u both.0)
-    (passed front code.out us bits run (none-new front none) (eqb-true _ _ both.1) code.holds w)
+    rw (zero-is u both.0) (passed front code.0 us bits run (none-new front none) (eqb-true _ _ both.1) code.1 w)
 
--- The band that these numbers make, of which those in front are not new.
-abbrev pub refinement_for : (table : Table) (run : ℕ) (front us : List ℤ)
-    → Option (Next (WritesRefinement table (front ++ us)))
-refinement_for table run [] [] = Some (record { out = []; next = 0; holds = refined })
-refinement_for table run (f ∷ front) [] = None
-refinement_for table run front (u ∷ us) = elim (when (length front == 0 && list_all is_quiet (u ∷ us))) [
-  | Some h ↦ do
-    x ← end_for table run
-    Some (record {
-      out = x.code.out ++ (low_bits x.r x.e ++ corrections (u ∷ us));
-      next = 2 ^ x.r - 1 + x.e;
-      holds = none-left table front u us x h;
-    })
-  | None ↦ elim (when (unsigned_abs u == 1)) [
+abbrev refined_end : (table : Table) (run : ℕ) (front : List ℤ) (u : ℤ) (us : List ℤ)
+    → Option (Next (WritesRefinement table (front ++ u ∷ us)))
+refined_end table run (f ∷ front) u us = None
+refined_end table run [] u us = do
+  none ← when (list_all is_quiet (u ∷ us))
+  x ← end_for table run
+  Some (x.2 ++ (low_bits x.0 x.1 ++ corrections (u ∷ us)), 2 ^ x.0 - 1 + x.1,
+    none_left x.0 x.1 u us x.2 x.3 x.4 (none-new (u ∷ us) none) x.5)
+
+abbrev refined_token : (table : Table) (front : List ℤ) (u : ℤ) (us : List ℤ) → Option ((code : List Bool → List Bool)
+    × ((bits : List Bool) (run : ℕ) → WritesRefinement table us bits run
+    → WritesRefinement table (front ++ u ∷ us) (code bits) run))
+refined_token table front u us = do
+  none ← when (list_all is_quiet front)
+  elim (when (unsigned_abs u == 1)) [
     | Some new ↦ do
       few ← when (nat_le (count_unknown front) 15)
-      none ← when (list_all is_quiet front)
       code ← code_for table (16 * count_unknown front + 1)
-      more ← refinement_for table run [] us
-      Some (record {
-        out = code.out ++ (bit (sign_bit u) ∷ (corrections front ++ more.out));
-        next = more.next;
-        holds = found (count_unknown front) front u code.out us more.out more.next (leb-true _ _ few)
-            (none-new front none) refl (eqb-true _ _ new) code.holds more.holds;
-      })
-    | None ↦ elim (when (is_zero u && count_unknown front == 15)) [
-      | None ↦ do
-        more ← refinement_for table run (front ++ u ∷ []) us
-        Some (record { out = more.out; next = more.next; holds = next-new table front u us _ _ more.holds })
-      | Some e ↦ do
-        none ← when (list_all is_quiet front)
-        code ← code_for table (16 * 15 + 0)
-        more ← refinement_for table run [] us
-        Some (record {
-          out = code.out ++ (corrections front ++ more.out);
-          next = more.next;
-          holds = zero-passed table front u us _ _ code none e more.holds;
-        })
-    ]
+      Some ((λ bits. code.0 ++ (bit (sign_bit u) ∷ (corrections front ++ bits))), λ bits run w.
+        found (count_unknown front) front u code.0 us bits run (leb-true _ _ few) (none-new front none) refl
+        (eqb-true _ _ new) code.1 w)
+    | None ↦ do
+      all ← when (is_zero u && count_unknown front == 15)
+      code ← code_for table (16 * 15 + 0)
+      Some ((λ bits. code.0 ++ (corrections front ++ bits)), λ bits run w.
+        zero-passed table front u us bits run code none all w)
   ]
-]
 
 -- ---- blocks
 
-pub first-run : (p : Pass) (table : Table) (u : ℤ) (us : List ℤ) (run : ℕ) → p.is_first ≡ true
-    → list_all is_zero (u ∷ us) ≡ true → WritesAc p table (u ∷ us) (suc run) [] run
-first-run p table u us run is z = rw (sym (zeros-are (u ∷ us) z)) (first_run (length us) run is)
-
 -- A band that a run of blocks reaches, and where it ends early, how many blocks more the next run has.
-abbrev pub ac_by : (p : Pass) (kind : Bool) → p.is_first ≡ kind → (table : Table) (us : List ℤ) (run quiet : ℕ)
+abbrev ac_by : (p : Pass) (kind : Bool) → p.is_first ≡ kind → (table : Table) (us : List ℤ) (run more : ℕ)
     → Option (Next (WritesAc p table us run))
-ac_by p kind is table [] run quiet = Some (record { out = []; next = run; holds = no_band run })
-ac_by p true is table (u ∷ us) zero quiet = do
-  b ← band_for table quiet 0 (u ∷ us)
-  Some (record { out = b.out; next = b.next; holds = first u us b.out b.next is b.holds })
-ac_by p true is table (u ∷ us) (suc run) quiet = do
-  z ← when (list_all is_zero (u ∷ us))
-  Some (record { out = []; next = run; holds = first-run p table u us run is z })
-ac_by p false is table (u ∷ us) zero quiet = do
-  b ← refinement_for table quiet [] (u ∷ us)
-  Some (record { out = b.out; next = b.next; holds = again u us b.out b.next is b.holds })
-ac_by p false is table (u ∷ us) (suc run) quiet = do
+ac_by p kind is table [] run more = Some ([], run, no_band run)
+ac_by p true is table (u ∷ us) zero more = do
+  b ← band_for (WritesBand table) full (first_end table more) (first_token table) [] (u ∷ us)
+  Some (b.0, b.1, first u us b.0 b.1 is b.2)
+ac_by p true is table (u ∷ us) (suc run) more = do
+  zeros ← when (list_all is_zero (u ∷ us))
+  Some ([], run, zeros-in (λ us. WritesAc p table us (suc run) [] run) (u ∷ us) zeros
+    (first_run (length us) run is))
+ac_by p false is table (u ∷ us) zero more = do
+  b ← band_for (WritesRefinement table) refined (refined_end table more) (refined_token table) [] (u ∷ us)
+  Some (b.0, b.1, again u us b.0 b.1 is b.2)
+ac_by p false is table (u ∷ us) (suc run) more = do
   none ← when (list_all is_quiet (u ∷ us))
-  Some (record { out = corrections (u ∷ us); next = run; holds = again_run u us run is (none-new (u ∷ us) none) })
+  Some (corrections (u ∷ us), run, again_run u us run is (none-new (u ∷ us) none))
 
--- whether a band is one that a run may pass
-abbrev is_passed : Bool → List ℤ → Bool
-is_passed true us = list_all is_zero us
-is_passed false us = list_all is_quiet us
+-- whether a run may pass a number
+abbrev is_passed : Bool → ℤ → Bool
+is_passed true u = is_zero u
+is_passed false u = is_quiet u
 
--- how many of these blocks a run passes
-abbrev passed_by : Pass → List (Via × Block) → ℕ
-passed_by p [] = 0
-passed_by p (t ∷ turns) = elim (is_passed p.is_first (band_of p t.1.acs)) [ true ↦ suc (passed_by p turns) | false ↦ 0 ]
-
--- Blocks of a sequential scan are in no run.
+-- How many of these blocks a run passes. Those of a sequential scan are in no run.
 abbrev run_over : Pass → List (Via × Block) → ℕ
-run_over p turns = elim (p.ss == 0) [ true ↦ 0 | false ↦ passed_by p turns ]
+run_over p [] = 0
+run_over p (t ∷ turns) = elim (nat_lt 0 p.ss && list_all (is_passed p.is_first) (band_of p t.1.acs)) [
+  | true ↦ suc (run_over p turns)
+  | false ↦ 0
+]
 
 abbrev pub blocks_for : (p : Pass) (predictors : List ℤ) (run : ℕ) (turns : List (Via × Block))
     → Option (Made (WritesBlocks p predictors run turns))
-blocks_for p predictors zero [] = Some (record { out = []; holds = done predictors })
+blocks_for p predictors zero [] = Some ([], done predictors)
 blocks_for p predictors (suc run) [] = None
 blocks_for p predictors run (t ∷ turns) = do
   d ← dc_by p (p.ss == 0) p.is_first refl refl t.0.dc t.1.dc (get_or predictors t.0.component (pos 0))
   a ← ac_by p p.is_first refl t.0.ac (band_of p t.1.acs) run (run_over p turns)
-  more ← blocks_for p (set predictors t.0.component d.next) a.next turns
-  Some (record {
-    out = d.out ++ (a.out ++ more.out);
-    holds = block predictors run a.next t.0 t.1 turns d.out a.out more.out d.next d.holds a.holds more.holds;
-  })
+  more ← blocks_for p (set predictors t.0.component d.1) a.1 turns
+  Some (d.0 ++ (a.0 ++ more.0),
+    block predictors run a.1 t.0 t.1 turns d.0 a.0 more.0 d.1 d.2 a.2 more.1)
 
 -- ---- intervals
 
 -- what is left of some bits after others
 abbrev left_of : (own bits : List Bool) → Option (Made (λ left. bits ≡ own ++ left))
-left_of [] bits = Some (record { out = bits; holds = refl })
+left_of [] bits = Some (bits, refl)
 left_of (true ∷ own) (true ∷ bits) = do
   left ← left_of own bits
-  Some (record { out = left.out; holds = ap (λ (l : List Bool). true ∷ l) left.holds })
+  Some (left.0, ap (λ (l : List Bool). true ∷ l) left.1)
 left_of (false ∷ own) (false ∷ bits) = do
   left ← left_of own bits
-  Some (record { out = left.out; holds = ap (λ (l : List Bool). false ∷ l) left.holds })
+  Some (left.0, ap (λ (l : List Bool). false ∷ l) left.1)
 left_of own bits = None
 
 -- an interval of these bytes, before 00 follows each FF
-abbrev pub interval_for : (writes : List Bool → Type 0) → Made writes → (data_bytes : List ℕ)
+abbrev interval_for : (writes : List Bool → Type 0) → Made writes → (data_bytes : List ℕ)
     → Option (WritesInterval writes (stuffed data_bytes))
 interval_for writes w data_bytes = do
-  left ← left_of w.out (bits_of_bytes data_bytes)
-  short ← when (nat_le (length left.out) 7)
+  left ← left_of w.0 (bits_of_bytes data_bytes)
+  short ← when (nat_le (length left.0) 7)
   Some (record {
-    bits = w.out;
-    filling = left.out;
+    bits = w.0;
+    filling = left.0;
     data_bytes = data_bytes;
-    coded = w.holds;
+    coded = w.1;
     is_short = leb-true _ _ short;
-    whole = left.holds;
+    whole = left.1;
     has_bytes = refl;
   })
 
 abbrev pub intervals_for : {A : Type 0} (writes : A → List Bool → Type 0) → ((x : A) → Option (Made (writes x)))
     → (k : ℕ) (one : A) (more : List A) (intervals : List (List ℕ)) → Option (Made (WritesIntervals writes k one more))
-intervals_for writes write k one [] (bytes ∷ []) = do
+intervals_for writes write k one more [] = None
+intervals_for writes write k one [] (bytes ∷ others) = do
   bits ← write one
   i ← interval_for (writes one) bits bytes
-  Some (record { out = stuffed bytes; holds = last k one (stuffed bytes) i })
+  Some (stuffed bytes, last k one (stuffed bytes) i)
 intervals_for writes write k one (next ∷ more) (bytes ∷ others) = do
   bits ← write one
   i ← interval_for (writes one) bits bytes
   w ← intervals_for writes write (suc k) next more others
-  Some (record {
-    out = stuffed bytes ++ marker 0 (0xD0 + k % 8) w.out;
-    holds = another k 0 one next more (stuffed bytes) w.out i w.holds;
-  })
-intervals_for writes write k one more intervals = None
+  Some (stuffed bytes ++ marker 0 (0xD0 + k % 8) w.0, another k 0 one next more (stuffed bytes) w.0 i w.1)
 
 -- The data that bytes begin with, cut at each RSTm and without the 00 after each FF; and the bytes from the next marker
 -- on. These bytes stand in front, and perhaps an FF.

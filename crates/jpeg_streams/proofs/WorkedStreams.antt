@@ -17,7 +17,7 @@ use Rattle.jpeg_streams.proofs.TestedImages.{image_for}
 use Rattle.jpeg_streams.proofs.TestedParts.{lines-in, range-in}
 use Rattle.jpeg_streams.proofs.TestedSamples.{samples_for}
 use Rattle.jpeg_streams.proofs.WrittenParts.{also-written}
-use Rattle.jpeg_streams.proofs.WrittenOnLiterals.{samples_on_literals, written_on_literals}
+use Rattle.jpeg_streams.proofs.OnLiterals.{written_on_literals}
 
 pub grey-written : IsWhollyWritten grey_array grey_bytes
 unfolding written_on_literals
@@ -63,9 +63,9 @@ colour-written = given colour_for refl
 -- ---- lossless streams
 
 pub three-written : AreWritten three_samples three_bytes
-unfolding samples_on_literals three_samples
+unfolding written_on_literals three_samples
 three-written = given (samples_for three_samples three_bytes) refl
 
 pub padding-written : AreWritten padded_samples padded_bytes
-unfolding samples_on_literals padded_samples
+unfolding written_on_literals padded_samples
 padding-written = given (samples_for padded_samples padded_bytes) refl

@@ -2,10 +2,10 @@
 use Rattle.std.proofs.Common.{refl}
 use Rattle.jpeg_streams.proofs.TestedData.{given}
 use Rattle.jpeg_streams.proofs.TestedSamples.{samples_for}
-use Rattle.jpeg_streams.proofs.WrittenOnLiterals.{samples_on_literals}
+use Rattle.jpeg_streams.proofs.OnLiterals.{written_on_literals}
 use Rattle.jpeg_evidence.specs.Files.{lines_of_file, lossless_file}
 use Rattle.jpeg_evidence.proofs.lossless_file_is_written.Goals as goal
 
 pub returns : goal.returns
-unfolding samples_on_literals lines_of_file
+unfolding written_on_literals lines_of_file
 returns c = given (samples_for lines_of_file lossless_file) refl
