@@ -40,7 +40,7 @@ use Rattle.jpeg_streams.specs.WrittenImages.{ClosesImage, WritesPart}
 use Rattle.jpeg_streams.specs.WrittenScans.{Coefficients, HasTable, IsComplete, IsLegalScan}
 use Rattle.jpeg_streams.specs.WrittenScans.{levels_after, WritesScan}
 use Rattle.jpeg_streams.proofs.CutLevels.{all-same}
-use Rattle.jpeg_streams.proofs.TestedParts.{lone-own, quantizes-by, own_block, table-by}
+use Rattle.jpeg_streams.proofs.TestedParts.{lone-own, one-quantizes, own_block, table-by}
 use Rattle.jpeg_streams.proofs.TestedParts.{table_of_one}
 use Rattle.jpeg_streams.specs.WrittenStreams.{end, scan, segment}
 use Rattle.jpeg_streams.proofs.EncodedBlocks.{ac_pass, dc_pass, Each, each-ac, each-dc, each-whole, flat_table}
@@ -494,7 +494,7 @@ image-written number h array le is ok range =
           starts = refl;
           written =
               segment nothing_found (said number h true) (λ k. nothing_sent) r.1 0 (Quantization all_ones) _
-              (search (rules, quantizes-by)) refl (
+              (search (rules, one-quantizes)) refl (
               segment said_1 (said number h true) (λ k. nothing_sent) r.1 0 (Header number h) _ ((refl, is), ok)
               (omega arith) (
               segment (said_2 number h) (said number h true) (λ k. nothing_sent) r.1 0 (Huffman flat_tables) _

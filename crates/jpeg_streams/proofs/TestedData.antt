@@ -1,8 +1,8 @@
 -- What a writer emits for known numbers, tested as it is made: each function gives the bits or the bytes with the proof
 -- that they may be written, or nothing where a test fails. On literals all of them compute.
-use Rattle.std.proofs.Common.{rules, ◌≡◌, ◌≢◌, ℕ, zero, suc, ◌+◌, ◌-◌, ◌*◌, ◌%◌, ◌^◌, ◌<◌, ◌≤◌, ◌==◌, ◌&&◌, not, nat_lt}
-use Rattle.std.proofs.Common.{Bool, true, false, List, [], ◌∷◌, ◌++◌, length, replicate, map, Option, Some, None}
-use Rattle.std.proofs.Common.{ℤ, pos, ◌-ℤ◌, unsigned_abs, refl, sym, ap, arith, append_assoc, subst}
+use Rattle.std.proofs.Common.{◌≡◌, ◌≢◌, ℕ, zero, suc, ◌+◌, ◌-◌, ◌*◌, ◌%◌, ◌^◌, ◌<◌, ◌≤◌, ◌==◌, ◌&&◌, not, nat_lt}
+use Rattle.std.proofs.Common.{Bool, true, false, List, [], ◌∷◌, ◌++◌, length, Option, Some, None, ℤ, pos, ◌-ℤ◌}
+use Rattle.std.proofs.Common.{unsigned_abs, refl, sym, ap, append_assoc, subst}
 use Rattle.std.proofs.lemmas.Bool.{and_parts, eqb-false, eqb-true, false≢true, leb-true, ltb-true, not-true}
 use Rattle.std.specs.List.{find, list_all, position, range_with_len}
 use Rattle.std.specs.Option.{IsSome}
@@ -10,8 +10,8 @@ use Rattle.std.specs.Prelude.{◌/◌, get_or, nat_le, set, slice_index}
 use Rattle.jpeg_bits.specs.Codes.{Table, code_lengths}
 use Rattle.jpeg_bits.specs.Passes.{Block, Pass, Via, band_of}
 use Rattle.jpeg_bits.specs.Refinement.{is_zero}
-use Rattle.jpeg_bits.specs.Written.{IsCategory, IsCoded, WritesInterval, WritesIntervals, bit, bits_of_bytes, code_bits}
-use Rattle.jpeg_bits.specs.Written.{low_bits, marker, stuffed}
+use Rattle.jpeg_bits.specs.Written.{IsCategory, IsCoded, WritesInterval, WritesIntervals, bit, bits_of_bytes}
+use Rattle.jpeg_bits.specs.Written.{code_bits, low_bits, marker, stuffed}
 use Rattle.jpeg_bits.specs.Written.WritesIntervals.{another, last}
 use Rattle.jpeg_streams.specs.WrittenData.{NoneNew, WritesAc, WritesBand, WritesBlocks, WritesDc, WritesRefinement}
 use Rattle.jpeg_streams.specs.WrittenData.{bits_for, corrections, count_unknown, low_bit, no_numbers, sign_bit}
@@ -52,8 +52,10 @@ code_for table symbol = do
   i ← position (λ s. s == symbol) table.symbols
   listed ← when (nat_lt i (length (code_lengths table.counts)))
   is ← when (slice_index table.symbols i == symbol)
-  Some (code_bits table i,
-    record { index = i; listed = ltb-true _ _ listed; is_for = eqb-true _ _ is; has_bits = refl })
+  Some (
+    code_bits table i,
+    record { index = i; listed = ltb-true _ _ listed; is_for = eqb-true _ _ is; has_bits = refl },
+  )
 
 -- the category of a value, and a code for the symbol that has it
 abbrev pub category_for : (table : Table) (symbol_for : ℕ → ℕ) (u : ℤ)
@@ -71,8 +73,12 @@ dc_by p true false same is table u predictor =
     Some (bit (low_bit u) ∷ [], predictor, one_bit u predictor (eqb-true _ _ same) is)
 dc_by p true true same is table u predictor = do
   c ← category_for table (λ s. s) (u -ℤ predictor)
-  Some (c.1 ++ bits_for (u -ℤ predictor) c.0, u, whole u predictor _ (eqb-true _ _ same) is
-    (record { s = c.0; code = c.1; category = c.2; coded = c.3; has_bits = refl }))
+  Some (
+    c.1 ++ bits_for (u -ℤ predictor) c.0,
+    u,
+    whole u predictor _ (eqb-true _ _ same) is
+        (record { s = c.0; code = c.1; category = c.2; coded = c.3; has_bits = refl }),
+  )
 
 -- ---- bands
 
@@ -137,8 +143,12 @@ first_end table run (f ∷ front) u us = None
 first_end table run [] u us = do
   zeros ← when (list_all is_zero (u ∷ us))
   x ← end_for table run
-  Some (x.2 ++ low_bits x.0 x.1, 2 ^ x.0 - 1 + x.1, zeros-in (λ us. WritesBand table us (x.2 ++ low_bits x.0 x.1) (2 ^ x.0 - 1 + x.1)) (u ∷ us) zeros
-    (ended (length us) x.0 x.1 x.2 x.3 x.4 x.5))
+  Some (
+    x.2 ++ low_bits x.0 x.1,
+    2 ^ x.0 - 1 + x.1,
+    zeros-in (λ us. WritesBand table us (x.2 ++ low_bits x.0 x.1) (2 ^ x.0 - 1 + x.1)) (u ∷ us) zeros
+        (ended (length us) x.0 x.1 x.2 x.3 x.4 x.5),
+  )
 
 abbrev first_token : (table : Table) (front : List ℤ) (u : ℤ) (us : List ℤ) → Option ((code : List Bool → List Bool)
     × ((bits : List Bool) (run : ℕ) → WritesBand table us bits run → WritesBand table (front ++ u ∷ us) (code bits) run))
@@ -148,9 +158,12 @@ first_token table front u us = do
     | Some some ↦ do
       few ← when (nat_le (length front) 15)
       c ← category_for table (λ s. 16 * length front + s) u
-      Some ((λ bits. c.1 ++ bits_for u c.0 ++ bits), λ bits run w. zeros-in
-        (λ zs. WritesBand table (zs ++ u ∷ us) (c.1 ++ bits_for u c.0 ++ bits) run) front zeros
-        (value (length front) c.0 u c.1 us bits run (leb-true _ _ few) (no-zero u some) c.2 c.3 w))
+      Some (
+        (λ bits. c.1 ++ bits_for u c.0 ++ bits),
+        λ bits run w. zeros-in
+            (λ zs. WritesBand table (zs ++ u ∷ us) (c.1 ++ bits_for u c.0 ++ bits) run) front zeros
+            (value (length front) c.0 u c.1 us bits run (leb-true _ _ few) (no-zero u some) c.2 c.3 w),
+      )
     | None ↦ do
       all ← when (is_zero u && length front == 15)
       code ← code_for table (16 * 15 + 0)
@@ -180,8 +193,11 @@ refined_end table run (f ∷ front) u us = None
 refined_end table run [] u us = do
   none ← when (list_all is_quiet (u ∷ us))
   x ← end_for table run
-  Some (x.2 ++ (low_bits x.0 x.1 ++ corrections (u ∷ us)), 2 ^ x.0 - 1 + x.1,
-    none_left x.0 x.1 u us x.2 x.3 x.4 (none-new (u ∷ us) none) x.5)
+  Some (
+    x.2 ++ (low_bits x.0 x.1 ++ corrections (u ∷ us)),
+    2 ^ x.0 - 1 + x.1,
+    none_left x.0 x.1 u us x.2 x.3 x.4 (none-new (u ∷ us) none) x.5,
+  )
 
 abbrev refined_token : (table : Table) (front : List ℤ) (u : ℤ) (us : List ℤ) → Option ((code : List Bool → List Bool)
     × ((bits : List Bool) (run : ℕ) → WritesRefinement table us bits run
@@ -192,14 +208,20 @@ refined_token table front u us = do
     | Some new ↦ do
       few ← when (nat_le (count_unknown front) 15)
       code ← code_for table (16 * count_unknown front + 1)
-      Some ((λ bits. code.0 ++ (bit (sign_bit u) ∷ (corrections front ++ bits))), λ bits run w.
-        found (count_unknown front) front u code.0 us bits run (leb-true _ _ few) (none-new front none) refl
-        (eqb-true _ _ new) code.1 w)
+      Some (
+        (λ bits. code.0 ++ (bit (sign_bit u) ∷ (corrections front ++ bits))),
+        λ bits run w.
+            found (count_unknown front) front u code.0 us bits run (leb-true _ _ few) (none-new front none) refl
+            (eqb-true _ _ new) code.1 w,
+      )
     | None ↦ do
       all ← when (is_zero u && count_unknown front == 15)
       code ← code_for table (16 * 15 + 0)
-      Some ((λ bits. code.0 ++ (corrections front ++ bits)), λ bits run w.
-        zero-passed table front u us bits run code none all w)
+      Some (
+        (λ bits. code.0 ++ (corrections front ++ bits)),
+        λ bits run w.
+            zero-passed table front u us bits run code none all w,
+      )
   ]
 
 -- ---- blocks
@@ -213,8 +235,12 @@ ac_by p true is table (u ∷ us) zero more = do
   Some (b.0, b.1, first u us b.0 b.1 is b.2)
 ac_by p true is table (u ∷ us) (suc run) more = do
   zeros ← when (list_all is_zero (u ∷ us))
-  Some ([], run, zeros-in (λ us. WritesAc p table us (suc run) [] run) (u ∷ us) zeros
-    (first_run (length us) run is))
+  Some (
+    [],
+    run,
+    zeros-in (λ us. WritesAc p table us (suc run) [] run) (u ∷ us) zeros
+        (first_run (length us) run is),
+  )
 ac_by p false is table (u ∷ us) zero more = do
   b ← band_for (WritesRefinement table) refined (refined_end table more) (refined_token table) [] (u ∷ us)
   Some (b.0, b.1, again u us b.0 b.1 is b.2)
@@ -243,8 +269,10 @@ blocks_for p predictors run (t ∷ turns) = do
   d ← dc_by p (p.ss == 0) p.is_first refl refl t.0.dc t.1.dc (get_or predictors t.0.component (pos 0))
   a ← ac_by p p.is_first refl t.0.ac (band_of p t.1.acs) run (run_over p turns)
   more ← blocks_for p (set predictors t.0.component d.1) a.1 turns
-  Some (d.0 ++ (a.0 ++ more.0),
-    block predictors run a.1 t.0 t.1 turns d.0 a.0 more.0 d.1 d.2 a.2 more.1)
+  Some (
+    d.0 ++ (a.0 ++ more.0),
+    block predictors run a.1 t.0 t.1 turns d.0 a.0 more.0 d.1 d.2 a.2 more.1,
+  )
 
 -- ---- intervals
 

@@ -1,8 +1,8 @@
 -- Whole streams, tested as they are read. What is read of a segment was written, so that a segment proves itself; the data
 -- of scans are those that are written.
-use Rattle.std.proofs.Common.{rules, ◌≡◌, ℕ, zero, suc, ◌+◌, ◌-◌, ◌*◌, ◌<◌, ◌≤◌, ◌==◌, ◌&&◌, not, nat_lt, Bool, true, false}
-use Rattle.std.proofs.Common.{List, [], ◌∷◌, ◌++◌, length, drop, map, Option, Some, None, Ok, Err, Result, is_ok, is_some}
-use Rattle.std.proofs.Common.{option_map, refl, sym, ap, ◌∙◌, subst, arith}
+use Rattle.std.proofs.Common.{rules, ◌≡◌, ℕ, zero, suc, ◌+◌, ◌-◌, ◌*◌, ◌<◌, ◌==◌, ◌&&◌, not, nat_lt, Bool, true}
+use Rattle.std.proofs.Common.{false, List, [], ◌∷◌, ◌++◌, length, drop, map, Option, Some, None, Ok, Err, Result}
+use Rattle.std.proofs.Common.{is_ok, is_some, option_map, refl, sym, ap, ◌∙◌, subst, arith}
 use Rattle.std.proofs.lemmas.Bool.{and_parts, eqb-true, leb-true, ltb-true, not-true}
 use Rattle.std.proofs.lemmas.Bool.Decides.{nat_tests}
 use Rattle.std.proofs.lemmas.Grind.{common_steps}
@@ -81,30 +81,56 @@ part_for said code bytes all = elim (when (code == 219)) [
   | Some e ↦ do
     r ← known_ok (dqt_at bytes)
     let w = dqt.only bytes r.0.1 r.0.0 all r.1
-    Some (Quantization w.value, record said { quantization = updated said.quantization r.0.0 }, r.0.1, (w.valid, tt),
+    Some (
+      Quantization w.value,
+      record said { quantization = updated said.quantization r.0.0 },
+      r.0.1,
+      (w.valid, tt),
       sym (eqb-true code 219 e),
-      ap (λ ts. record said { quantization = updated said.quantization ts }) (sym w.made), w.is)
+      ap (λ ts. record said { quantization = updated said.quantization ts }) (sym w.made),
+      w.is,
+    )
   | None ↦ elim (when (code == 196)) [
     | Some e ↦ do
       let b = option_map (λ (f : Frame). f.is_baseline) said.frame
       r ← known_ok (dht_at b bytes)
       let w = (dht b).only bytes r.0.1 r.0.0 all r.1
-      Some (Huffman w.value, record said { huffman = with_huffman said.huffman r.0.0 }, r.0.1, (w.valid, tt),
-        sym (eqb-true code 196 e), ap (λ ts. record said { huffman = with_huffman said.huffman ts }) (sym w.made), w.is)
+      Some (
+        Huffman w.value,
+        record said { huffman = with_huffman said.huffman r.0.0 },
+        r.0.1,
+        (w.valid, tt),
+        sym (eqb-true code 196 e),
+        ap (λ ts. record said { huffman = with_huffman said.huffman ts }) (sym w.made),
+        w.is,
+      )
     | None ↦ elim (when (code == 221)) [
       | Some e ↦ do
         r ← known_ok (dri_at bytes)
         let w = dri.only bytes r.0.1 r.0.0 all r.1
-        Some (Interval w.value, record said { restart = r.0.0 }, r.0.1, (tt, tt), sym (eqb-true code 221 e),
-          ap (λ n. record said { restart = n }) (sym w.made), w.is)
+        Some (
+          Interval w.value,
+          record said { restart = r.0.0 },
+          r.0.1,
+          (tt, tt),
+          sym (eqb-true code 221 e),
+          ap (λ n. record said { restart = n }) (sym w.made),
+          w.is,
+        )
       | None ↦ elim (when (224 + (code - 224) == code)) [
         | Some e ↦ do
           few ← when (nat_le (code - 224) 15)
           r ← known_ok (app_at (code - 224) bytes)
           let w = app-only (code - 224) bytes r.0.1 r.0.0 (leb-true _ _ few) all r.1
-          Some (Application w.0, record said { metadata = with_application said.metadata r.0.0 }, r.0.1, (w.1, tt),
+          Some (
+            Application w.0,
+            record said { metadata = with_application said.metadata r.0.0 },
+            r.0.1,
+            (w.1, tt),
             ap (λ n. 224 + n) w.2 ∙ eqb-true _ code e,
-            ap (λ a. record said { metadata = with_application said.metadata a }) (sym w.3), w.4)
+            ap (λ a. record said { metadata = with_application said.metadata a }) (sym w.3),
+            w.4,
+          )
         | None ↦ do
           e ← when (192 + (code - 192) == code)
           few ← when (nat_le (code - 192) 3)
@@ -112,9 +138,15 @@ part_for said code bytes all = elim (when (code == 219)) [
           first ← when (not (is_some said.frame))
           taken ← when (is_ok (accepted r.0.0))
           let w = (sof (code - 192) (leb-true _ _ few)).only bytes r.0.1 r.0.0 all r.1
-          Some (Header (code - 192) w.value, record said { frame = Some r.0.0 }, r.0.1,
+          Some (
+            Header (code - 192) w.value,
+            record said { frame = Some r.0.0 },
+            r.0.1,
             ((none-is _ first, w.valid), subst (λ f. accepted f ≡ Ok f) w.made (accepted-same r.0.0 taken)),
-            eqb-true _ code e, ap (λ f. record said { frame = Some f }) (sym w.made), w.is)
+            eqb-true _ code e,
+            ap (λ f. record said { frame = Some f }) (sym w.made),
+            w.is,
+          )
       ]
     ]
   ]
@@ -165,8 +197,12 @@ module _ {Sent : Type 0} (may : Found → Segment → Type 0)
         let more = (intervals_in [] false r.0.1).1
         cut ← same_for r.0.1 (s.0 ++ more)
         w ← stream_for may_for scan_for end_for n (record said { scanned = true }) s.1 more
-        Some (w.0, w.1, at-scan said w.0 sent s.1 w.1 frame.0 fill code h.value bytes rest r.0.1 s.0 more frame.1 h.valid
-          s.2 e h.is cut marked w.2)
+        Some (
+          w.0,
+          w.1,
+          at-scan said w.0 sent s.1 w.1 frame.0 fill code h.value bytes rest r.0.1 s.0 more frame.1 h.valid
+              s.2 e h.is cut marked w.2,
+        )
       | None ↦ elim (same_for bytes (marker fill 217 [])) [
         | Some same ↦ do
           closed ← end_for said sent fill
@@ -175,8 +211,12 @@ module _ {Sent : Type 0} (may : Found → Segment → Type 0)
           p ← part_for said code rest all
           allowed ← may_for said p.0
           w ← stream_for may_for scan_for end_for n p.1 sent p.2
-          Some (w.0, w.1, at-segment said p.1 w.0 sent w.1 fill code bytes rest p.2 p.0 p.3 allowed p.4 p.5 p.6 marked
-            w.2)
+          Some (
+            w.0,
+            w.1,
+            at-segment said p.1 w.0 sent w.1 fill code bytes rest p.2 p.0 p.3 allowed p.4 p.5 p.6 marked
+                w.2,
+          )
       ]
     ]
 
@@ -246,13 +286,17 @@ module _ (array : Coefficients) (range : (index row column : ℕ) → Is8Bit (ar
         (λ s. numbers_at p.al (sent s))
     w ← intervals_for (WritesBlocks p predictors_at_start 0) (blocks_for p predictors_at_start 0) 0 (first_group n turns)
         (other_groups n turns) (intervals_in [] false bytes).0
-    Some (w.0, levels_after p (map (λ c. c.index) codings.0) levels, image-scan array said levels frame h x codings.0 w.0
-      made (record { are_in_force = codings.1; legal = legal }) (record {
-        sent = sent;
-        in_range = λ s. all-sent array range s (slice_get codings.0 s.slot);
-        is_own = λ s c e own. ap (sent_of array s) e;
-        coded = w.1;
-      }))
+    Some (
+      w.0,
+      levels_after p (map (λ c. c.index) codings.0) levels,
+      image-scan array said levels frame h x codings.0 w.0
+          made (record { are_in_force = codings.1; legal = legal }) (record {
+            sent = sent;
+            in_range = λ s. all-sent array range s (slice_get codings.0 s.slot);
+            is_own = λ s c e own. ap (sent_of array s) e;
+            coded = w.1;
+          }),
+    )
 
   -- a stream that is an image of the array, where each block is in range
   abbrev pub image_for : (bytes : List ℕ) → Option (IsWhollyWritten array bytes)

@@ -1,7 +1,7 @@
 -- Tests that tell parts of a written stream, for streams that are known: each test computes.
-use Rattle.std.proofs.Common.{rules, ◌≡◌, ◌≢◌, ℕ, zero, suc, ◌+◌, ◌^◌, ◌<◌, ◌≤◌, ◌==◌, ◌&&◌, not, nat_lt, Bool, true}
-use Rattle.std.proofs.Common.{false, List, [], ◌∷◌, ◌++◌, length, drop, replicate, sum, Option, Some, None, Ok}
-use Rattle.std.proofs.Common.{is_some, ℤ, pos, unsigned_abs, refl, sym, ap, arith, true≢false}
+use Rattle.std.proofs.Common.{rules, ◌≡◌, ◌≢◌, ℕ, zero, suc, ◌^◌, ◌<◌, ◌≤◌, ◌==◌, ◌&&◌, not, nat_lt, Bool, true}
+use Rattle.std.proofs.Common.{false, List, [], ◌∷◌, length, replicate, sum, Option, Some, None, is_some, ℤ, pos}
+use Rattle.std.proofs.Common.{unsigned_abs, refl, sym, ap, true≢false}
 use Rattle.std.proofs.Math.Nat.{pow-le-pow_right}
 use Rattle.std.proofs.lemmas.Bool.{and_parts, cases_lt, eq-eqb, eqb-true, leb-true, ltb-true, ne_eqb}
 use Rattle.std.proofs.lemmas.Bool.Decides.{nat_tests}
@@ -12,23 +12,14 @@ use Rattle.jpeg_bits.proofs.ReadIntervals.{all-again}
 use Rattle.jpeg_bits.proofs.Tables.{tested-exist}
 use Rattle.jpeg_bits.specs.Codes.{code_lengths, codes_exist}
 use Rattle.jpeg_bits.specs.Passes.{band_of, Block, Pass}
-use Rattle.jpeg_bits.specs.Written.{bits_of_bytes, IsCategory, stuffed}
-use Rattle.jpeg_segments.specs.Frame.{Factors, Frame, is_count, is_factor, is_lossless_number}
-use Rattle.jpeg_segments.specs.Frame.{is_destination, is_precision}
-use Rattle.jpeg_segments.specs.Frame.{is_taken}
-use Rattle.jpeg_segments.specs.HuffmanTables.{greatest_destination, DefinedTable}
-use Rattle.jpeg_segments.specs.ScanHeader.{Selector, is_band, is_mcu, index_of}
-use Rattle.jpeg_segments.specs.ScanHeaders.{AreChoices, IsScan, ScanHeader, scan_written, selectors_in}
-use Rattle.jpeg_segments.specs.WrittenSegments.{AreComponents, FrameHeader, IsFrameHeader}
-use Rattle.jpeg_segments.specs.WrittenSegments.{IsHuffmanTable}
-use Rattle.jpeg_segments.specs.WrittenSegments.{IsQuantizationTable, QuantizationTable}
-use Rattle.jpeg_streams.specs.Found.{Found}
+use Rattle.jpeg_bits.specs.Written.{IsCategory}
+use Rattle.jpeg_segments.specs.HuffmanTables.{DefinedTable}
+use Rattle.jpeg_segments.specs.WrittenSegments.{IsHuffmanTable, IsQuantizationTable, QuantizationTable}
 use Rattle.jpeg_streams.specs.Levels.{Is8Bit, IsLegal, Levels}
-use Rattle.jpeg_streams.specs.ScanSegments.{Coding, codings_of, pass_of}
+use Rattle.jpeg_streams.specs.ScanSegments.{Coding}
 use Rattle.jpeg_streams.specs.WorkedImages.{flat_block, in_column}
-use Rattle.jpeg_bits.specs.Written.{WritesInterval}
 use Rattle.jpeg_streams.specs.Order.{Spot}
-use Rattle.jpeg_streams.specs.WrittenScans.{Coefficients, IsLegalScan}
+use Rattle.jpeg_streams.specs.WrittenScans.{Coefficients}
 use Rattle.jpeg_streams.proofs.SaidTables.{get-all}
 
 -- the block of a spot, if it is of this component
@@ -63,14 +54,10 @@ at-is (Some a) n e = ap (λ (k : ℕ). Some k) (eqb-true a n e)
 abbrev pub table_of_one : ℕ → ℕ → QuantizationTable
 table_of_one index v = record { precision = 0; destination = index; values = replicate 64 v }
 
-abbrev pub is_quantization : QuantizationTable → Bool
-is_quantization t =
-    nat_le t.precision 1 && (nat_le t.destination 3 && (length t.values == 64 && list_all (nat_lt 0) t.values))
+pub one-quantizes : (index v : ℕ) → index ≤ 3 → 0 < v → IsQuantizationTable (table_of_one index v)
+one-quantizes index v h k = search (rules, all-again)
 
-pub quantizes-by : (t : QuantizationTable) → is_quantization t ≡ true → IsQuantizationTable t
-quantizes-by t e = search (rules, nat_tests, all-by, ltb-true)
-
-abbrev pub is_table : DefinedTable → Bool
+abbrev is_table : DefinedTable → Bool
 is_table t =
     length t.table.counts == 16 && (length t.table.symbols == sum t.table.counts && (nat_le 1 (sum t.table.counts)
     && (nat_le (sum t.table.counts) 256 && codes_exist (code_lengths t.table.counts))))
@@ -78,55 +65,6 @@ is_table t =
 pub table-by : (most : ℕ) (t : DefinedTable) → t.destination ≤ most → is_table t ≡ true →
     IsHuffmanTable most t
 table-by most t h e = search (rules, nat_tests, tested-exist)
-
-abbrev are_components : ℕ → List Factors → List Factors → Bool
-are_components number front [] = true
-are_components number front (c ∷ more) =
-    not (is_taken front c.identifier) && (is_factor c.horizontal && (is_factor c.vertical
-    && (is_destination (is_lossless_number number) c.quantization && are_components number (front
-    ++ c ∷ []) more)))
-
-components-by : (number : ℕ) (front cs : List Factors) → are_components number front cs ≡ true
-    → AreComponents number front cs
-unfolding AreComponents
-components-by number front [] e = tt
-components-by number front (c ∷ more) e =
-    search (rules, nat_tests, components-by number (front ++ c ∷ []) more (grind (arith, nat_tests)))
-
-abbrev pub is_frame : ℕ → FrameHeader → Bool
-is_frame number h =
-    nat_le number 3 && (is_precision number h.precision && (nat_lt 0 h.width && (nat_lt 0 h.height
-    && (is_count number (length h.components) && are_components number [] h.components))))
-
-pub frame-by : (number : ℕ) (h : FrameHeader) → is_frame number h ≡ true → IsFrameHeader number h
-frame-by number h e = search (rules, nat_tests, components-by)
-
--- ---- scan headers
-
-abbrev are_choices : Frame → ℕ → List (ℕ × Selector) → Bool
-are_choices frame least [] = true
-are_choices frame least (c ∷ more) =
-    is_at (index_of frame.components c.0) c.1.component && (nat_le least c.1.component
-    && (nat_le c.1.dc (greatest_destination (Some frame.is_baseline)) && (nat_le c.1.ac
-    (greatest_destination (Some frame.is_baseline))
-    && are_choices frame (c.1.component + 1) more)))
-
-choices-by : (frame : Frame) (least : ℕ) (cs : List (ℕ × Selector)) → are_choices frame least cs ≡ true
-    → AreChoices frame least cs
-unfolding AreChoices
-choices-by frame least [] e = tt
-choices-by frame least (c ∷ more) e =
-    search (rules, at-is, nat_tests, choices-by frame (c.1.component + 1) more (grind (arith, nat_tests)))
-
-abbrev pub is_scan : Frame → ScanHeader → Bool
-is_scan frame h =
-    nat_le 1 (length h.choices) && (nat_le (length h.choices) 4 && (are_choices frame 0 h.choices
-    && (is_mcu frame (selectors_in h) && (nat_lt h.low 16 && (nat_lt h.low
-    frame.precision
-    && is_band frame.process (length h.choices) h.first h.last h.high h.low)))))
-
-pub scan-by : (frame : Frame) (h : ScanHeader) → is_scan frame h ≡ true → IsScan frame h
-scan-by frame h e = search (rules, and_parts, leb-true, choices-by, ltb-true)
 
 -- ---- scripts
 
@@ -155,13 +93,6 @@ some-is (Some a) e f = cc
 pub legal-by : (p : Pass) (l : Levels) → is_legal p l ≡ true → IsLegal p l
 legal-by p l e =
     search (rules, and_parts, leb-true, none-is, eq-eqb, at-is, some-is, ne_eqb, all-by)
-
--- a scan whose codings are found
-pub scan-legal : (w : Found) (frame : Frame) (levels : ℕ → Levels) (h : ScanHeader) (codings : List Coding)
-    → codings_of w frame (scan_written frame h) ≡ Ok codings
-    → list_all (λ c. is_legal (pass_of (scan_written frame h)) (levels c.index)) codings ≡ true
-    → IsLegalScan w frame levels (scan_written frame h) codings
-scan-legal w frame levels h codings e legal = search (rules, all-by, legal-by)
 
 -- ---- data
 
@@ -197,10 +128,3 @@ pub blocks-in : (blocks : List (List (List Block))) → list_all (list_all (list
 blocks-in =
     in-list (λ lines. (row column : ℕ) → Is8Bit (in_column (get_or lines row []) column)) (list_all (list_all is_8_bit))
     [] lines-in refl
-
--- the bits of an interval, and what is left of its last byte
-pub interval-by : (writes : List Bool → Type 0) (bits : List Bool) (data_bytes : List ℕ) → writes bits
-    → bits_of_bytes data_bytes ≡ bits ++ drop (length bits) (bits_of_bytes data_bytes)
-    → nat_le (length (drop (length bits) (bits_of_bytes data_bytes))) 7 ≡ true
-    → WritesInterval writes (stuffed data_bytes)
-interval-by writes bits data_bytes coded whole short = search (rules, leb-true)

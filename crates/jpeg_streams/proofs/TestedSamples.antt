@@ -1,7 +1,7 @@
 -- Lossless streams, tested as they are read. The differences are those that are read of the bytes: what they give is
 -- compared with the samples.
-use Rattle.std.proofs.Common.{rules, ◌≡◌, ℕ, ◌+◌, ◌-◌, ◌*◌, ◌%◌, ◌<◌, ◌==◌, Bool, true, false, List, [], ◌∷◌, ◌++◌, length}
-use Rattle.std.proofs.Common.{drop, map, Option, Some, None, Ok, ℤ, pos, negsuc, refl, sym, ap, ap₂, arith}
+use Rattle.std.proofs.Common.{◌≡◌, ℕ, ◌+◌, ◌-◌, ◌*◌, ◌%◌, ◌==◌, Bool, true, false, List, [], ◌∷◌, ◌++◌, length, drop}
+use Rattle.std.proofs.Common.{map, Option, Some, None, Ok, ℤ, pos, negsuc, refl, sym, ap, ap₂, arith}
 use Rattle.std.proofs.lemmas.Bool.{eqb-true}
 use Rattle.std.proofs.lemmas.Bool.Decides.{nat_tests}
 use Rattle.std.proofs.lemmas.Int.{ints}
@@ -23,7 +23,8 @@ use Rattle.jpeg_lossless.specs.Written.{WritesRows, WritesSampleDifference, bits
 use Rattle.jpeg_streams.specs.Found.{Found, nothing_found}
 use Rattle.jpeg_streams.specs.LosslessScans.{LosslessCoding, lossless_codings, mcus_across, mcus_down, way_of}
 use Rattle.jpeg_streams.specs.WorkedSamples.{AreWritten}
-use Rattle.jpeg_streams.specs.WrittenLossless.{ClosesSamples, HoldSamples, IsLossless, Samples, SendsSamples, own_lines}
+use Rattle.jpeg_streams.specs.WrittenLossless.{ClosesSamples, HoldSamples, IsLossless, Samples, SendsSamples}
+use Rattle.jpeg_streams.specs.WrittenLossless.{own_lines}
 use Rattle.jpeg_streams.proofs.TestedData.{◌>>=◌, Made, Next, category_for, intervals_for, intervals_in, when}
 use Rattle.jpeg_streams.proofs.TestedImages.{all_for, known, known_ok, same_for, stream_for}
 use Rattle.jpeg_streams.proofs.WalkedStreams.{closes}
@@ -42,17 +43,20 @@ difference_for x = do
   c ← category_for x.0 (λ s. s) (signed x.1)
   is ← when (residue (signed x.1) == x.1)
   let range = signed-range x.1
-  Some (c.1 ++ bits_of_difference (signed x.1) c.0, record {
-    d = signed x.1;
-    s = c.0;
-    code = c.1;
-    is = eqb-true _ _ is;
-    low = range.0;
-    high = range.1;
-    category = c.2;
-    coded = c.3;
-    has_bits = refl;
-  })
+  Some (
+    c.1 ++ bits_of_difference (signed x.1) c.0,
+    record {
+      d = signed x.1;
+      s = c.0;
+      code = c.1;
+      is = eqb-true _ _ is;
+      low = range.0;
+      high = range.1;
+      category = c.2;
+      coded = c.3;
+      has_bits = refl;
+    },
+  )
 
 abbrev each_for : {A : Type 0} (writes : A → List Bool → Type 0) → ((x : A) → Option (Made (writes x))) → (xs : List A)
     → Option (Made (WritesEach writes xs))
@@ -160,8 +164,11 @@ scan_of_samples samples said sent frame h x made is bytes = do
   kept ← holds_for samples codings.0 w.parts
       (lines_by_component w 0 w.parts (intervals_of n (differences_in rows.0)))
   i ← intervals_for WritesRows rows_for 0 (first_group n rows.0) (other_groups n rows.0) (intervals_in [] false bytes).0
-  Some (i.0, x.components ++ sent,
-    samples-scan samples said sent frame h x i.0 codings.0 rows.0 made is (eqb-true _ _ point) codings.1 whole rows.1 kept i.1)
+  Some (
+    i.0,
+    x.components ++ sent,
+    samples-scan samples said sent frame h x i.0 codings.0 rows.0 made is (eqb-true _ _ point) codings.1 whole rows.1 kept i.1,
+  )
 
 -- a stream for these samples
 abbrev pub samples_for : (samples : Samples) (bytes : List ℕ) → Option (AreWritten samples bytes)

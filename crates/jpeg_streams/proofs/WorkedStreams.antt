@@ -1,11 +1,10 @@
 -- The streams that are worked by hand are written: their tests compute.
-use Rattle.std.proofs.Common.{◌≡◌, ℕ, zero, suc, ◌==◌, Bool, true, false, List, [], ◌∷◌, pos, negsuc, Option, Some, None}
+use Rattle.std.proofs.Common.{◌≡◌, zero, suc, ◌==◌, Bool, true, false, List, [], ◌∷◌, pos, negsuc, Option, Some, None}
 use Rattle.std.proofs.Common.{refl, arith}
 use Rattle.std.proofs.lemmas.Bool.{eqb-true}
 use Rattle.std.specs.Prelude.{drop, get_or, slice_get}
 use Rattle.jpeg_bits.specs.Passes.{Block}
 use Rattle.jpeg_segments.specs.Frame.{Component, Frame}
-use Rattle.jpeg_streams.specs.Levels.{Is8Bit}
 use Rattle.jpeg_streams.specs.Order.{grid_of}
 use Rattle.jpeg_streams.specs.WorkedImages.{IsWhollyWritten, colour_array, colour_blocks, colour_bytes, flat_block}
 use Rattle.jpeg_streams.specs.WorkedImages.{grey_array, grey_blocks, grey_bytes, in_column}
