@@ -53,8 +53,7 @@ pub mod SizedStreams
 pub mod WholeImages
 pub mod TestedParts
 pub mod TestedData
-pub mod TestedImages
-pub mod TestedSamples
+pub mod TestedStreams
 pub mod OnLiterals
 pub mod WorkedStreams
 pub mod Soundness

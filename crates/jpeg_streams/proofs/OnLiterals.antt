@@ -3,8 +3,7 @@
 use Rattle.std.specs.Prelude.{⊤}
 use Rattle.std.specs.Int.{int_wrap}
 use Rattle.jpeg_bits.specs.Bands.{difference, first_ac, first_dc, token_at, token_from}
-use Rattle.jpeg_bits.specs.Codes.{begins, code_from, code_in, code_value, codes_exist}
-use Rattle.jpeg_bits.specs.Codes.{lengths_from, symbol_from}
+use Rattle.jpeg_bits.specs.Codes.{begins, code_from, code_in, code_value, codes_exist, lengths_from, symbol_from}
 use Rattle.jpeg_bits.specs.Entropy.{bits_from, ending_at, extended, text_ahead, text_at}
 use Rattle.jpeg_bits.specs.Intervals.{groups, interval, intervals}
 use Rattle.jpeg_bits.specs.Marker.{marker_of, next_marker}
@@ -12,11 +11,9 @@ use Rattle.jpeg_bits.specs.Passes.{band_part, block_from, blocks_of, dc_part, ze
 use Rattle.jpeg_bits.specs.Readers.{each, signed_from}
 use Rattle.jpeg_bits.specs.Reading.{length_at, next_u16, skip_at, times}
 use Rattle.jpeg_bits.specs.Refinement.{corrected, refined_ac, refined_piece, through_zero, with_last}
-use Rattle.jpeg_bits.specs.Zigzag.{coefficients_in_block_order, values_in_block_order}
-use Rattle.jpeg_bits.specs.Zigzag.{zigzag_indices}
+use Rattle.jpeg_bits.specs.Zigzag.{coefficients_in_block_order, values_in_block_order, zigzag_indices}
 use Rattle.jpeg_pixels.specs.Colour.{blue_of, colour_of, conversion_of, green_of, line_bytes, red_of}
-use Rattle.jpeg_pixels.specs.Pictures.{image_of, lines_of, converted_picture, picture_line}
-use Rattle.jpeg_pixels.specs.Pictures.{source_of}
+use Rattle.jpeg_pixels.specs.Pictures.{image_of, lines_of, converted_picture, picture_line, source_of}
 use Rattle.jpeg_pixels.specs.Planes.{cropped, plane_of}
 use Rattle.jpeg_pixels.specs.Samples.{basis, column_value, dequantized, is_flat_column, sample, transformed}
 use Rattle.jpeg_pixels.specs.Scaled.{column_of_4, even_part, odd_part, sample_at, sample_of_1, sample_of_2}
@@ -24,41 +21,37 @@ use Rattle.jpeg_pixels.specs.Scaled.{sample_of_4}
 use Rattle.jpeg_pixels.specs.Upsampling.{rule_of, upsampled}
 use Rattle.jpeg_segments.specs.Application.{adobe_at, app_at, application_by, com_at, dri_at}
 use Rattle.jpeg_segments.specs.Checks.{gathered}
-use Rattle.jpeg_segments.specs.Frame.{component_of, components_from, factors_at, frame_of, size_at}
-use Rattle.jpeg_segments.specs.Frame.{sof_at}
+use Rattle.jpeg_segments.specs.Frame.{component_of, components_from, factors_at, frame_of, size_at, sof_at}
 use Rattle.jpeg_segments.specs.Scales.{component_at, frame_at, scale_for}
 use Rattle.jpeg_segments.specs.ScanHeader.{band_at, count_at, scan_of, selector_at, selectors_from, sos_at}
 use Rattle.jpeg_streams.specs.ColourChoice.{by_identifiers, transform_of}
 use Rattle.jpeg_streams.specs.Found.{nothing_found}
-use Rattle.jpeg_streams.specs.FoundPictures.{blocks_picture, picture_by, picture_of, plane_at_end}
-use Rattle.jpeg_streams.specs.FoundPictures.{limited}
+use Rattle.jpeg_streams.specs.FoundPictures.{blocks_picture, picture_by, picture_of, plane_at_end, limited}
+use Rattle.jpeg_streams.specs.FoundPictures.{samples_picture}
 use Rattle.jpeg_streams.specs.Rasters.{plane_by, plane_of_blocks}
 use Rattle.jpeg_streams.specs.Order.{all_spots, mcu_size, mcu_spots, own_spots, part_spots, spots_of}
-use Rattle.jpeg_streams.specs.ScanSegments.{after_restarts, after_scan, arrays_before, blocks_scan}
-use Rattle.jpeg_streams.specs.ScanSegments.{codings_of, component_coding, finished_by, pass_of}
-use Rattle.jpeg_streams.specs.ScanSegments.{put_arrays, scan_arrays, scan_segment, tables_of}
-use Rattle.jpeg_streams.specs.ScanSegments.{vias_from, with_arrays, with_blocks, with_plane}
+use Rattle.jpeg_streams.specs.ScanSegments.{after_restarts, after_scan, arrays_before, blocks_scan, codings_of}
+use Rattle.jpeg_streams.specs.ScanSegments.{component_coding, finished_by, pass_of, put_arrays, scan_arrays}
+use Rattle.jpeg_streams.specs.ScanSegments.{scan_segment, tables_of, vias_from, with_arrays, with_blocks, with_plane}
+use Rattle.jpeg_streams.specs.ScanSegments.{lossless_scan}
 use Rattle.jpeg_streams.specs.Scans.{arrays_at, put_blocks, turns_of, zero_arrays}
 use Rattle.jpeg_streams.specs.Segments.{accepted, frame_segment, updated}
 use Rattle.jpeg_streams.specs.Stream.{end_segment, header_at, meaning, rest_at, segment_at, segments_at}
 use Rattle.jpeg_streams.specs.Stream.{sized_meaning, start_at, turn_at, walk}
 use Rattle.jpeg_segments.specs.HuffmanTables as tables
 use Rattle.jpeg_segments.specs.Quantization as quantization
-use Rattle.jpeg_bits.specs.Readers.{each}
 use Rattle.jpeg_lossless.specs.Differences as differences
 use Rattle.jpeg_lossless.specs.Pictures as pictures
 use Rattle.jpeg_lossless.specs.Prediction as prediction
 use Rattle.jpeg_lossless.specs.Scans as scans
 use Rattle.jpeg_segments.specs.ScanHeaders.{scan_payload}
 use Rattle.jpeg_segments.specs.WrittenSegments.{frame_payload, huffman_bytes}
-use Rattle.jpeg_streams.specs.FoundPictures.{samples_picture}
 use Rattle.jpeg_streams.specs.LosslessScans.{lossless_coding, lossless_codings, mcus_across, mcus_down, parts_of}
 use Rattle.jpeg_streams.specs.LosslessScans.{with_samples}
-use Rattle.jpeg_streams.specs.ScanSegments.{lossless_scan}
 use Rattle.jpeg_bits.specs.Written.{bits_of_bytes, low_bits, number_for, stuffed}
 use Rattle.jpeg_streams.specs.WrittenData.{corrections, count_unknown}
 use Rattle.jpeg_streams.specs.WrittenScans.{levels_after}
-use Rattle.jpeg_streams.proofs.TestedSamples.{holds_for}
+use Rattle.jpeg_streams.proofs.TestedStreams.{holds_for}
 
 unfoldable pub streams_on_literals : ⊤
 unfolding accepted adobe_at after_restarts after_scan all_spots app_at application_by arrays_at

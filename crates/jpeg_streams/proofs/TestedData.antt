@@ -1,20 +1,19 @@
 -- What a writer emits for known numbers, tested as it is made: each function gives the bits or the bytes with the proof
 -- that they may be written, or nothing where a test fails. On literals all of them compute.
-use Rattle.std.proofs.Common.{◌≡◌, ◌≢◌, ℕ, zero, suc, ◌+◌, ◌-◌, ◌*◌, ◌%◌, ◌^◌, ◌<◌, ◌≤◌, ◌==◌, ◌&&◌, not, nat_lt}
-use Rattle.std.proofs.Common.{Bool, true, false, List, [], ◌∷◌, ◌++◌, length, Option, Some, None, ℤ, pos, ◌-ℤ◌}
-use Rattle.std.proofs.Common.{unsigned_abs, refl, sym, ap, append_assoc, subst}
+use Rattle.std.proofs.Common.{◌≡◌, ◌≢◌, ℕ, zero, suc, ◌+◌, ◌-◌, ◌*◌, ◌^◌, ◌<◌, ◌≤◌, ◌==◌, ◌&&◌, not, nat_lt, Bool}
+use Rattle.std.proofs.Common.{true, false, List, [], ◌∷◌, ◌++◌, length, Option, Some, None, ℤ, pos, ◌-ℤ◌}
+use Rattle.std.proofs.Common.{unsigned_abs, refl, sym, ap, append_assoc, subst, arith}
 use Rattle.std.proofs.lemmas.Bool.{and_parts, eqb-false, eqb-true, false≢true, leb-true, ltb-true, not-true}
-use Rattle.std.specs.List.{find, list_all, position, range_with_len}
+use Rattle.std.specs.List.{AllByRecursion, find, list_all, position, range_with_len}
 use Rattle.std.specs.Option.{IsSome}
 use Rattle.std.specs.Prelude.{◌/◌, get_or, nat_le, set, slice_index}
 use Rattle.jpeg_bits.specs.Codes.{Table, code_lengths}
 use Rattle.jpeg_bits.specs.Passes.{Block, Pass, Via, band_of}
 use Rattle.jpeg_bits.specs.Refinement.{is_zero}
-use Rattle.jpeg_bits.specs.Written.{IsCategory, IsCoded, WritesInterval, WritesIntervals, bit, bits_of_bytes}
-use Rattle.jpeg_bits.specs.Written.{code_bits, low_bits, marker, stuffed}
+use Rattle.jpeg_bits.specs.Written.{IsCategory, IsCoded, WritesInterval, WritesIntervals, bits_of_bytes, stuffed}
 use Rattle.jpeg_bits.specs.Written.WritesIntervals.{another, last}
 use Rattle.jpeg_streams.specs.WrittenData.{NoneNew, WritesAc, WritesBand, WritesBlocks, WritesDc, WritesRefinement}
-use Rattle.jpeg_streams.specs.WrittenData.{bits_for, corrections, count_unknown, low_bit, no_numbers, sign_bit}
+use Rattle.jpeg_streams.specs.WrittenData.{corrections, count_unknown, no_numbers}
 use Rattle.jpeg_streams.specs.WrittenData.WritesAc.{again, again_run, first, first_run, no_band}
 use Rattle.jpeg_streams.specs.WrittenData.WritesBand.{ended, full, sixteen, value}
 use Rattle.jpeg_streams.specs.WrittenData.WritesBlocks.{block, done}
@@ -38,6 +37,22 @@ abbrev pub given : {A : Type 0} → (o : Option A) → IsSome o → A
 given None is = absurd (false≢true is)
 given (Some x) is = x
 
+abbrev pub equal_for : (a b : ℕ) → Option (a ≡ b)
+equal_for a b = do
+  is ← when (a == b)
+  Some (eqb-true a b is)
+
+abbrev pub most_for : (a b : ℕ) → Option (a ≤ b)
+most_for a b = do
+  is ← when (nat_le a b)
+  Some (leb-true a b is)
+
+abbrev pub all_for : {A : Type 0} {P : A → Type 0} (test : A → Bool) → ((x : A) → test x ≡ true → P x) → (xs : List A)
+    → Option (AllByRecursion P xs)
+all_for {A} {P} test tells xs = do
+  is ← when (list_all test xs)
+  Some (all-by test P tells xs is)
+
 -- something that was made and of which this holds; and with a state after it
 abbrev pub Made : {B : Type 0} → (B → Type 0) → Type 0
 Made {B} P = (b : B) × P b
@@ -50,12 +65,9 @@ Next {B} {S} P = (b : B) × (s : S) × P b s
 abbrev pub code_for : (table : Table) (symbol : ℕ) → Option (Made (IsCoded table symbol))
 code_for table symbol = do
   i ← position (λ s. s == symbol) table.symbols
-  listed ← when (nat_lt i (length (code_lengths table.counts)))
-  is ← when (slice_index table.symbols i == symbol)
-  Some (
-    code_bits table i,
-    record { index = i; listed = ltb-true _ _ listed; is_for = eqb-true _ _ is; has_bits = refl },
-  )
+  listed ← most_for (i + 1) (length (code_lengths table.counts))
+  is ← equal_for (slice_index table.symbols i) symbol
+  Some (_, record { index = i; listed = omega arith; is_for = is; has_bits = refl })
 
 -- the category of a value, and a code for the symbol that has it
 abbrev pub category_for : (table : Table) (symbol_for : ℕ → ℕ) (u : ℤ)
@@ -68,14 +80,13 @@ category_for table symbol_for u = do
 
 abbrev dc_by : (p : Pass) (here kind : Bool) → (p.ss == 0) ≡ here → p.is_first ≡ kind → (table : Table)
     (u predictor : ℤ) → Option (Next (WritesDc p table u predictor))
-dc_by p false kind other is table u predictor = Some ([], predictor, other_band u predictor (eqb-false _ _ other))
-dc_by p true false same is table u predictor =
-    Some (bit (low_bit u) ∷ [], predictor, one_bit u predictor (eqb-true _ _ same) is)
+dc_by p false kind other is table u predictor = Some (_, _, other_band u predictor (eqb-false _ _ other))
+dc_by p true false same is table u predictor = Some (_, _, one_bit u predictor (eqb-true _ _ same) is)
 dc_by p true true same is table u predictor = do
   c ← category_for table (λ s. s) (u -ℤ predictor)
   Some (
-    c.1 ++ bits_for (u -ℤ predictor) c.0,
-    u,
+    _,
+    _,
     whole u predictor _ (eqb-true _ _ same) is
         (record { s = c.0; code = c.1; category = c.2; coded = c.3; has_bits = refl }),
   )
@@ -87,37 +98,44 @@ abbrev end_for : (table : Table) (run : ℕ)
     → Option ((r : ℕ) × (e : ℕ) × (code : List Bool) × (r ≤ 14) × (e < 2 ^ r) × IsCoded table (16 * r + 0) code)
 end_for table run = do
   r ← find (λ r. nat_lt (run + 1) (2 ^ suc r)) (range_with_len 0 15)
-  small ← when (nat_le r 14)
+  small ← most_for r 14
   below ← when (nat_lt (run + 1 - 2 ^ r) (2 ^ r))
   code ← code_for table (16 * r + 0)
-  Some (r, run + 1 - 2 ^ r, code.0, leb-true _ _ small, ltb-true _ _ below, code.1)
+  Some (r, run + 1 - 2 ^ r, code.0, small, ltb-true _ _ below, code.1)
 
--- The band that the numbers in front and others make, in a first scan or a refinement: by its end, where a code in front
--- of it is done, and by what ends with a number and stands for those in front too.
-abbrev band_for : (Writes : List ℤ → List Bool → ℕ → Type 0) → Writes [] [] 0
-    → ((front : List ℤ) (u : ℤ) (us : List ℤ) → Option (Next (Writes (front ++ u ∷ us))))
-    → ((front : List ℤ) (u : ℤ) (us : List ℤ) → Option ((code : List Bool → List Bool)
-    × ((bits : List Bool) (run : ℕ) → Writes us bits run → Writes (front ++ u ∷ us) (code bits) run)))
+-- What ends the band of the numbers in front and others, and the code that stands for those in front and one more, with
+-- what may follow it, where there is one.
+abbrev Ends : (List ℤ → List Bool → ℕ → Type 0) → Type 0
+Ends Writes = (front : List ℤ) (u : ℤ) (us : List ℤ) → Option (Next (Writes (front ++ u ∷ us)))
+
+abbrev Codes : (List ℤ → List Bool → ℕ → Type 0) → Type 0
+Codes Writes =
+    (front : List ℤ) (u : ℤ) (us : List ℤ) →
+    Option ((bits : List Bool) (run : ℕ) → Writes us bits run → Made (λ all. Writes (front ++ u ∷ us) all run))
+
+-- The band that the numbers in front and others make, in a first scan or a refinement.
+abbrev band_for : (Writes : List ℤ → List Bool → ℕ → Type 0) → Writes [] [] 0 → Ends Writes → Codes Writes
     → (front us : List ℤ) → Option (Next (Writes (front ++ us)))
-band_for Writes none end token [] [] = Some ([], 0, none)
-band_for Writes none end token (f ∷ front) [] = None
-band_for Writes none end token front (u ∷ us) = elim (end front u us) [
+band_for Writes none end code [] [] = Some (_, _, none)
+band_for Writes none end code (f ∷ front) [] = None
+band_for Writes none end code front (u ∷ us) = elim (end front u us) [
   | Some e ↦ Some e
-  | None ↦ elim (token front u us) [
-    | Some t ↦ do
-      more ← band_for Writes none end token [] us
-      Some (t.0 more.0, more.1, t.1 more.0 more.1 more.2)
+  | None ↦ elim (code front u us) [
+    | Some before ↦ do
+      more ← band_for Writes none end code [] us
+      let w = before more.0 more.1 more.2
+      Some (w.0, more.1, w.1)
     | None ↦ do
-      more ← band_for Writes none end token (front ++ u ∷ []) us
-      Some (more.0, more.1, subst (λ us. Writes us more.0 more.1) (append_assoc front (u ∷ []) us) more.2)
+      more ← band_for Writes none end code (front ++ u ∷ []) us
+      Some (_, _, subst (λ us. Writes us more.0 more.1) (append_assoc front (u ∷ []) us) more.2)
   ]
 ]
 
-zero-is : (u : ℤ) → is_zero u ≡ true → u ≡ pos 0
+pub zero-is : (u : ℤ) → is_zero u ≡ true → u ≡ pos 0
 zero-is (pos zero) e = refl
 zero-is u e = absurd (false≢true e)
 
-zeros-are : (us : List ℤ) → list_all is_zero us ≡ true → no_numbers (length us) ≡ us
+pub zeros-are : (us : List ℤ) → list_all is_zero us ≡ true → no_numbers (length us) ≡ us
 zeros-are [] e = refl
 zeros-are (u ∷ us) e =
     let both = and_parts (is_zero u) (list_all is_zero us) e in
@@ -126,48 +144,40 @@ zeros-are (u ∷ us) e =
 pub no-zero : (u : ℤ) → not (is_zero u) ≡ true → u ≢ pos 0
 no-zero u e z = false≢true (rw z at e)
 
-pub zeros-in : (P : List ℤ → Type 0) (us : List ℤ) → list_all is_zero us ≡ true → P (no_numbers (length us)) → P us
-zeros-in P us e h = subst P (zeros-are us e) h
+pub zeros-in : (W : List ℤ → List Bool → ℕ → Type 0) (us : List ℤ) → list_all is_zero us ≡ true → {bits : List Bool}
+    {run : ℕ} → W (no_numbers (length us)) bits run → W us bits run
+zeros-in W us zeros w = rw (zeros-are us zeros) at w
 
 pub sixteen-zeros : (table : Table) (front : List ℤ) (u : ℤ) (us : List ℤ) (bits : List Bool) (run : ℕ)
-    (code : Made (IsCoded table (16 * 15 + 0))) → list_all is_zero front ≡ true
-    → (is_zero u && length front == 15) ≡ true
+    (code : Made (IsCoded table (16 * 15 + 0))) → list_all is_zero front ≡ true → is_zero u ≡ true → length front ≡ 15
     → WritesBand table us bits run → WritesBand table (front ++ u ∷ us) (code.0 ++ bits) run
-sixteen-zeros table front u us bits run code zeros e w =
-    let both = and_parts (is_zero u) _ e in
-    rw (zero-is u both.0, sym (zeros-are front zeros), eqb-true _ 15 both.1) (sixteen code.0 us bits run code.1 w)
+sixteen-zeros table front u us bits run code zeros none many w =
+    rw (zero-is u none, sym (zeros-are front zeros), many) (sixteen code.0 us bits run code.1 w)
 
-abbrev first_end : (table : Table) (run : ℕ) (front : List ℤ) (u : ℤ) (us : List ℤ)
-    → Option (Next (WritesBand table (front ++ u ∷ us)))
+abbrev first_end : (table : Table) (run : ℕ) → Ends (WritesBand table)
 first_end table run (f ∷ front) u us = None
 first_end table run [] u us = do
   zeros ← when (list_all is_zero (u ∷ us))
   x ← end_for table run
-  Some (
-    x.2 ++ low_bits x.0 x.1,
-    2 ^ x.0 - 1 + x.1,
-    zeros-in (λ us. WritesBand table us (x.2 ++ low_bits x.0 x.1) (2 ^ x.0 - 1 + x.1)) (u ∷ us) zeros
-        (ended (length us) x.0 x.1 x.2 x.3 x.4 x.5),
-  )
+  Some (_, _, zeros-in (WritesBand table) (u ∷ us) zeros (ended (length us) x.0 x.1 x.2 x.3 x.4 x.5))
 
-abbrev first_token : (table : Table) (front : List ℤ) (u : ℤ) (us : List ℤ) → Option ((code : List Bool → List Bool)
-    × ((bits : List Bool) (run : ℕ) → WritesBand table us bits run → WritesBand table (front ++ u ∷ us) (code bits) run))
-first_token table front u us = do
+abbrev first_code : (table : Table) → Codes (WritesBand table)
+first_code table front u us = do
   zeros ← when (list_all is_zero front)
-  elim (when (not (is_zero u))) [
-    | Some some ↦ do
-      few ← when (nat_le (length front) 15)
-      c ← category_for table (λ s. 16 * length front + s) u
-      Some (
-        (λ bits. c.1 ++ bits_for u c.0 ++ bits),
-        λ bits run w. zeros-in
-            (λ zs. WritesBand table (zs ++ u ∷ us) (c.1 ++ bits_for u c.0 ++ bits) run) front zeros
-            (value (length front) c.0 u c.1 us bits run (leb-true _ _ few) (no-zero u some) c.2 c.3 w),
-      )
+  elim (when (is_zero u)) [
     | None ↦ do
-      all ← when (is_zero u && length front == 15)
+      some ← when (not (is_zero u))
+      few ← most_for (length front) 15
+      c ← category_for table (λ s. 16 * length front + s) u
+      Some (λ bits run w. (
+        _,
+        zeros-in (λ zs. WritesBand table (zs ++ u ∷ us)) front zeros
+            (value (length front) c.0 u c.1 us bits run few (no-zero u some) c.2 c.3 w),
+      ))
+    | Some none ↦ do
+      many ← equal_for (length front) 15
       code ← code_for table (16 * 15 + 0)
-      Some ((λ bits. code.0 ++ bits), λ bits run w. sixteen-zeros table front u us bits run code zeros all w)
+      Some (λ bits run w. (_, sixteen-zeros table front u us bits run code zeros none many w))
   ]
 
 -- ---- bands in refinements
@@ -179,49 +189,35 @@ pub none-new : (us : List ℤ) → list_all is_quiet us ≡ true → NoneNew us
 unfolding NoneNew
 none-new us e = all-by is_quiet _ (λ u h. eqb-false _ _ (not-true _ h)) us e
 
-pub zero-passed : (table : Table) (front : List ℤ) (u : ℤ) (us : List ℤ) (bits : List Bool) (run : ℕ)
-    (code : Made (IsCoded table (16 * 15 + 0))) → list_all is_quiet front ≡ true
-    → (is_zero u && count_unknown front == 15) ≡ true → WritesRefinement table us bits run
-    → WritesRefinement table (front ++ u ∷ us) (code.0 ++ (corrections front ++ bits)) run
-zero-passed table front u us bits run code none e w =
-    let both = and_parts (is_zero u) _ e in
-    rw (zero-is u both.0) (passed front code.0 us bits run (none-new front none) (eqb-true _ _ both.1) code.1 w)
+abbrev none_for : (us : List ℤ) → Option (NoneNew us)
+none_for us = do
+  none ← when (list_all is_quiet us)
+  Some (none-new us none)
 
-abbrev refined_end : (table : Table) (run : ℕ) (front : List ℤ) (u : ℤ) (us : List ℤ)
-    → Option (Next (WritesRefinement table (front ++ u ∷ us)))
+abbrev refined_end : (table : Table) (run : ℕ) → Ends (WritesRefinement table)
 refined_end table run (f ∷ front) u us = None
 refined_end table run [] u us = do
-  none ← when (list_all is_quiet (u ∷ us))
+  none ← none_for (u ∷ us)
   x ← end_for table run
-  Some (
-    x.2 ++ (low_bits x.0 x.1 ++ corrections (u ∷ us)),
-    2 ^ x.0 - 1 + x.1,
-    none_left x.0 x.1 u us x.2 x.3 x.4 (none-new (u ∷ us) none) x.5,
-  )
+  Some (_, _, none_left x.0 x.1 u us x.2 x.3 x.4 none x.5)
 
-abbrev refined_token : (table : Table) (front : List ℤ) (u : ℤ) (us : List ℤ) → Option ((code : List Bool → List Bool)
-    × ((bits : List Bool) (run : ℕ) → WritesRefinement table us bits run
-    → WritesRefinement table (front ++ u ∷ us) (code bits) run))
-refined_token table front u us = do
-  none ← when (list_all is_quiet front)
-  elim (when (unsigned_abs u == 1)) [
+abbrev refined_code : (table : Table) → Codes (WritesRefinement table)
+refined_code table front u us = do
+  none ← none_for front
+  elim (equal_for (unsigned_abs u) 1) [
     | Some new ↦ do
-      few ← when (nat_le (count_unknown front) 15)
+      few ← most_for (count_unknown front) 15
       code ← code_for table (16 * count_unknown front + 1)
-      Some (
-        (λ bits. code.0 ++ (bit (sign_bit u) ∷ (corrections front ++ bits))),
-        λ bits run w.
-            found (count_unknown front) front u code.0 us bits run (leb-true _ _ few) (none-new front none) refl
-            (eqb-true _ _ new) code.1 w,
-      )
+      Some (λ bits run w. (_, found (count_unknown front) front u code.0 us bits run few none refl new code.1 w))
     | None ↦ do
-      all ← when (is_zero u && count_unknown front == 15)
+      zeros ← when (is_zero u)
+      many ← equal_for (count_unknown front) 15
       code ← code_for table (16 * 15 + 0)
-      Some (
-        (λ bits. code.0 ++ (corrections front ++ bits)),
-        λ bits run w.
-            zero-passed table front u us bits run code none all w,
-      )
+      Some (λ bits run w. (
+        _,
+        subst (λ u. WritesRefinement table (front ++ u ∷ us) (code.0 ++ (corrections front ++ bits)) run) (sym (zero-is u zeros))
+            (passed front code.0 us bits run none many code.1 w),
+      ))
   ]
 
 -- ---- blocks
@@ -229,24 +225,19 @@ refined_token table front u us = do
 -- A band that a run of blocks reaches, and where it ends early, how many blocks more the next run has.
 abbrev ac_by : (p : Pass) (kind : Bool) → p.is_first ≡ kind → (table : Table) (us : List ℤ) (run more : ℕ)
     → Option (Next (WritesAc p table us run))
-ac_by p kind is table [] run more = Some ([], run, no_band run)
+ac_by p kind is table [] run more = Some (_, _, no_band run)
 ac_by p true is table (u ∷ us) zero more = do
-  b ← band_for (WritesBand table) full (first_end table more) (first_token table) [] (u ∷ us)
-  Some (b.0, b.1, first u us b.0 b.1 is b.2)
+  b ← band_for (WritesBand table) full (first_end table more) (first_code table) [] (u ∷ us)
+  Some (_, _, first u us b.0 b.1 is b.2)
 ac_by p true is table (u ∷ us) (suc run) more = do
   zeros ← when (list_all is_zero (u ∷ us))
-  Some (
-    [],
-    run,
-    zeros-in (λ us. WritesAc p table us (suc run) [] run) (u ∷ us) zeros
-        (first_run (length us) run is),
-  )
+  Some (_, _, zeros-in (λ us. WritesAc p table us (suc run)) (u ∷ us) zeros (first_run (length us) run is))
 ac_by p false is table (u ∷ us) zero more = do
-  b ← band_for (WritesRefinement table) refined (refined_end table more) (refined_token table) [] (u ∷ us)
-  Some (b.0, b.1, again u us b.0 b.1 is b.2)
+  b ← band_for (WritesRefinement table) refined (refined_end table more) (refined_code table) [] (u ∷ us)
+  Some (_, _, again u us b.0 b.1 is b.2)
 ac_by p false is table (u ∷ us) (suc run) more = do
-  none ← when (list_all is_quiet (u ∷ us))
-  Some (corrections (u ∷ us), run, again_run u us run is (none-new (u ∷ us) none))
+  none ← none_for (u ∷ us)
+  Some (_, _, again_run u us run is none)
 
 -- whether a run may pass a number
 abbrev is_passed : Bool → ℤ → Bool
@@ -263,16 +254,13 @@ run_over p (t ∷ turns) = elim (nat_lt 0 p.ss && list_all (is_passed p.is_first
 
 abbrev pub blocks_for : (p : Pass) (predictors : List ℤ) (run : ℕ) (turns : List (Via × Block))
     → Option (Made (WritesBlocks p predictors run turns))
-blocks_for p predictors zero [] = Some ([], done predictors)
+blocks_for p predictors zero [] = Some (_, done predictors)
 blocks_for p predictors (suc run) [] = None
 blocks_for p predictors run (t ∷ turns) = do
   d ← dc_by p (p.ss == 0) p.is_first refl refl t.0.dc t.1.dc (get_or predictors t.0.component (pos 0))
   a ← ac_by p p.is_first refl t.0.ac (band_of p t.1.acs) run (run_over p turns)
   more ← blocks_for p (set predictors t.0.component d.1) a.1 turns
-  Some (
-    d.0 ++ (a.0 ++ more.0),
-    block predictors run a.1 t.0 t.1 turns d.0 a.0 more.0 d.1 d.2 a.2 more.1,
-  )
+  Some (_, block predictors run a.1 t.0 t.1 turns d.0 a.0 more.0 d.1 d.2 a.2 more.1)
 
 -- ---- intervals
 
@@ -288,17 +276,18 @@ left_of (false ∷ own) (false ∷ bits) = do
 left_of own bits = None
 
 -- an interval of these bytes, before 00 follows each FF
-abbrev interval_for : (writes : List Bool → Type 0) → Made writes → (data_bytes : List ℕ)
+abbrev interval_for : (writes : List Bool → Type 0) → Option (Made writes) → (data_bytes : List ℕ)
     → Option (WritesInterval writes (stuffed data_bytes))
-interval_for writes w data_bytes = do
+interval_for writes o data_bytes = do
+  w ← o
   left ← left_of w.0 (bits_of_bytes data_bytes)
-  short ← when (nat_le (length left.0) 7)
+  short ← most_for (length left.0) 7
   Some (record {
     bits = w.0;
     filling = left.0;
     data_bytes = data_bytes;
     coded = w.1;
-    is_short = leb-true _ _ short;
+    is_short = short;
     whole = left.1;
     has_bytes = refl;
   })
@@ -307,14 +296,12 @@ abbrev pub intervals_for : {A : Type 0} (writes : A → List Bool → Type 0) �
     → (k : ℕ) (one : A) (more : List A) (intervals : List (List ℕ)) → Option (Made (WritesIntervals writes k one more))
 intervals_for writes write k one more [] = None
 intervals_for writes write k one [] (bytes ∷ others) = do
-  bits ← write one
-  i ← interval_for (writes one) bits bytes
-  Some (stuffed bytes, last k one (stuffed bytes) i)
-intervals_for writes write k one (next ∷ more) (bytes ∷ others) = do
-  bits ← write one
-  i ← interval_for (writes one) bits bytes
-  w ← intervals_for writes write (suc k) next more others
-  Some (stuffed bytes ++ marker 0 (0xD0 + k % 8) w.0, another k 0 one next more (stuffed bytes) w.0 i w.1)
+  i ← interval_for (writes one) (write one) bytes
+  Some (_, last k one (stuffed bytes) i)
+intervals_for writes write k one (following ∷ more) (bytes ∷ others) = do
+  i ← interval_for (writes one) (write one) bytes
+  w ← intervals_for writes write (suc k) following more others
+  Some (_, another k 0 one following more (stuffed bytes) w.0 i w.1)
 
 -- The data that bytes begin with, cut at each RSTm and without the 00 after each FF; and the bytes from the next marker
 -- on. These bytes stand in front, and perhaps an FF.

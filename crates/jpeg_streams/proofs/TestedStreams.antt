@@ -1,23 +1,23 @@
 -- Whole streams, tested as they are read. What is read of a segment was written, so that a segment proves itself; the data
 -- of scans are those that are written.
-use Rattle.std.proofs.Common.{rules, ◌≡◌, ℕ, zero, suc, ◌+◌, ◌-◌, ◌*◌, ◌<◌, ◌==◌, ◌&&◌, not, nat_lt, Bool, true}
-use Rattle.std.proofs.Common.{false, List, [], ◌∷◌, ◌++◌, length, drop, map, Option, Some, None, Ok, Err, Result}
-use Rattle.std.proofs.Common.{is_ok, is_some, option_map, refl, sym, ap, ◌∙◌, subst, arith}
-use Rattle.std.proofs.lemmas.Bool.{and_parts, eqb-true, leb-true, ltb-true, not-true}
+use Rattle.std.proofs.Common.{rules, ◌≡◌, ℕ, zero, suc, ◌+◌, ◌-◌, ◌*◌, ◌==◌, ◌&&◌, not, nat_lt, Bool, true, false}
+use Rattle.std.proofs.Common.{List, [], ◌∷◌, ◌++◌, length, drop, map, Option, Some, None, Ok, Err, Result, is_ok}
+use Rattle.std.proofs.Common.{is_some, option_map, refl, sym, ap, ◌∙◌, subst, arith, ◌%◌, ℤ, pos, negsuc, ap₂}
+use Rattle.std.proofs.lemmas.Bool.{and_parts, ltb-true, not-true}
 use Rattle.std.proofs.lemmas.Bool.Decides.{nat_tests}
 use Rattle.std.proofs.lemmas.Grind.{common_steps}
 use Rattle.std.specs.Cmp.Lexicographic.{pointwise, same_text}
-use Rattle.std.specs.List.{AllByRecursion, list_all, position_or_len, range_with_len}
-use Rattle.std.specs.Prelude.{nat_eq, nat_le, slice_get, slice_index, slice_index_or}
-use Rattle.jpeg_bits.specs.Intervals.{first_group, other_groups}
+use Rattle.std.specs.List.{list_all, position_or_len, range_with_len, flat_map}
+use Rattle.std.specs.Prelude.{nat_eq, nat_le, slice_get, slice_index, slice_index_or, ◌≤ℤ◌}
+use Rattle.jpeg_bits.specs.Intervals.{first_group, other_groups, intervals}
 use Rattle.jpeg_bits.specs.Passes.{Block, predictors_at_start}
 use Rattle.jpeg_bits.specs.Reading.{Fault}
-use Rattle.jpeg_bits.specs.Written.{marker}
-use Rattle.jpeg_segments.specs.Application.{app_at, dri_at}
+use Rattle.jpeg_bits.specs.Written.{marker, WritesEach, WritesIntervals}
+use Rattle.jpeg_segments.specs.Application.{Application as Says, app_at, dri_at}
 use Rattle.jpeg_segments.specs.Frame.{Frame, sof_at}
-use Rattle.jpeg_segments.specs.HuffmanTables.{dht_at}
+use Rattle.jpeg_segments.specs.HuffmanTables.{Tables, dht_at}
 use Rattle.jpeg_segments.specs.Quantization.{dqt_at}
-use Rattle.jpeg_segments.specs.ScanHeader.{Scan, sos_at}
+use Rattle.jpeg_segments.specs.ScanHeader.{Scan, sos_at, predictor_by, scan_of}
 use Rattle.jpeg_segments.specs.ScanHeaders.{IsScan, ScanHeader, scan_payload, scan_written}
 use Rattle.jpeg_segments.specs.WrittenSegments.{Application, Header, Huffman, Interval, Quantization, Segment}
 use Rattle.jpeg_segments.specs.WrittenSegments.{marker_code, payload_of, with_length}
@@ -40,8 +40,21 @@ use Rattle.jpeg_streams.specs.WrittenImages.{ClosesImage, MayStandInImage, Write
 use Rattle.jpeg_streams.specs.WrittenScans.{Coefficients, HasTable, IsComplete, IsLegalScan, WritesScan, levels_after}
 use Rattle.jpeg_streams.specs.WrittenStreams.{Writes, end, scan, segment}
 use Rattle.jpeg_streams.proofs.TestedData.{◌>>=◌, Made, Next, blocks_for, intervals_for, intervals_in, when}
+use Rattle.jpeg_streams.proofs.TestedData.{category_for, all_for, equal_for, most_for}
 use Rattle.jpeg_streams.proofs.TestedParts.{all-by, at-is, is_at, is_legal, legal-by, none-is, own_block}
 use Rattle.jpeg_streams.proofs.WalkedStreams.{closes}
+use Rattle.std.proofs.lemmas.Int.{ints}
+use Rattle.jpeg_bits.specs.Codes.{Table}
+use Rattle.jpeg_bits.specs.DefaultTables.{names}
+use Rattle.jpeg_bits.specs.Written.WritesEach.{none, one}
+use Rattle.jpeg_lossless.specs.Differences.{Part, interval_rows}
+use Rattle.jpeg_lossless.specs.Prediction.{residue}
+use Rattle.jpeg_lossless.specs.Scans.{is_of_rows, lines_by_component, rows_of_interval, scan_tables}
+use Rattle.jpeg_lossless.specs.Written.{WritesRows, WritesSampleDifference, bits_of_difference}
+use Rattle.jpeg_streams.specs.LosslessScans.{LosslessCoding, lossless_codings, mcus_across, mcus_down, way_of}
+use Rattle.jpeg_streams.specs.WorkedSamples.{AreWritten}
+use Rattle.jpeg_streams.specs.WrittenLossless.{ClosesSamples, HoldSamples, IsLossless, Samples, SendsSamples}
+use Rattle.jpeg_streams.specs.WrittenLossless.{own_lines}
 
 -- ---- what is there
 
@@ -52,12 +65,6 @@ known (Some x) = Some (x, refl)
 abbrev pub known_ok : {A : Type 0} → (o : Result A Fault) → Option (Made (λ x. o ≡ Ok x))
 known_ok (Err e) = None
 known_ok (Ok x) = Some (x, refl)
-
-abbrev pub all_for : {A : Type 0} {P : A → Type 0} (test : A → Bool) → ((x : A) → test x ≡ true → P x) → (xs : List A)
-    → Option (AllByRecursion P xs)
-all_for {A} {P} test tells xs = do
-  is ← when (list_all test xs)
-  Some (all-by test P tells xs is)
 
 abbrev pub same_for : (a b : List ℕ) → Option (a ≡ b)
 same_for a b = do
@@ -71,80 +78,55 @@ unfolding accepted
 accepted-same f e = grind (arith, common_steps, nat_tests)
 
 -- A segment of this marker code where so much was said, what is said after it, and the bytes after it.
-abbrev Part : Found → ℕ → List ℕ → Type 0
-Part said code bytes =
+abbrev Read : Found → ℕ → List ℕ → Type 0
+Read said code bytes =
     (s : Segment) × (next : Found) × (rest : List ℕ) × Stands said s × (marker_code s ≡ code)
     × (found_after said s ≡ next) × (bytes ≡ with_length (payload_of s) ++ rest)
 
-abbrev part_for : (said : Found) (code : ℕ) (bytes : List ℕ) → AreBytes bytes → Option (Part said code bytes)
-part_for said code bytes all = elim (when (code == 219)) [
+abbrev segment_for : (said : Found) (code : ℕ) (bytes : List ℕ) → AreBytes bytes → Option (Read said code bytes)
+segment_for said code bytes all = elim (equal_for 219 code) [
   | Some e ↦ do
     r ← known_ok (dqt_at bytes)
     let w = dqt.only bytes r.0.1 r.0.0 all r.1
-    Some (
-      Quantization w.value,
-      record said { quantization = updated said.quantization r.0.0 },
-      r.0.1,
-      (w.valid, tt),
-      sym (eqb-true code 219 e),
-      ap (λ ts. record said { quantization = updated said.quantization ts }) (sym w.made),
-      w.is,
-    )
-  | None ↦ elim (when (code == 196)) [
+    let after = λ (ts : List (Option (List ℕ))). record said { quantization = updated said.quantization ts }
+    Some (Quantization w.value, after r.0.0, r.0.1, (w.valid, tt), e, ap after (sym w.made), w.is)
+  | None ↦ elim (equal_for 196 code) [
     | Some e ↦ do
       let b = option_map (λ (f : Frame). f.is_baseline) said.frame
       r ← known_ok (dht_at b bytes)
       let w = (dht b).only bytes r.0.1 r.0.0 all r.1
-      Some (
-        Huffman w.value,
-        record said { huffman = with_huffman said.huffman r.0.0 },
-        r.0.1,
-        (w.valid, tt),
-        sym (eqb-true code 196 e),
-        ap (λ ts. record said { huffman = with_huffman said.huffman ts }) (sym w.made),
-        w.is,
-      )
-    | None ↦ elim (when (code == 221)) [
+      let after = λ (ts : Tables). record said { huffman = with_huffman said.huffman ts }
+      Some (Huffman w.value, after r.0.0, r.0.1, (w.valid, tt), e, ap after (sym w.made), w.is)
+    | None ↦ elim (equal_for 221 code) [
       | Some e ↦ do
         r ← known_ok (dri_at bytes)
         let w = dri.only bytes r.0.1 r.0.0 all r.1
-        Some (
-          Interval w.value,
-          record said { restart = r.0.0 },
-          r.0.1,
-          (tt, tt),
-          sym (eqb-true code 221 e),
-          ap (λ n. record said { restart = n }) (sym w.made),
-          w.is,
-        )
-      | None ↦ elim (when (224 + (code - 224) == code)) [
+        let after = λ (n : ℕ). record said { restart = n }
+        Some (Interval w.value, after r.0.0, r.0.1, (tt, tt), e, ap after (sym w.made), w.is)
+      | None ↦ elim (equal_for (224 + (code - 224)) code) [
         | Some e ↦ do
-          few ← when (nat_le (code - 224) 15)
+          few ← most_for (code - 224) 15
           r ← known_ok (app_at (code - 224) bytes)
-          let w = app-only (code - 224) bytes r.0.1 r.0.0 (leb-true _ _ few) all r.1
-          Some (
-            Application w.0,
-            record said { metadata = with_application said.metadata r.0.0 },
-            r.0.1,
-            (w.1, tt),
-            ap (λ n. 224 + n) w.2 ∙ eqb-true _ code e,
-            ap (λ a. record said { metadata = with_application said.metadata a }) (sym w.3),
-            w.4,
-          )
+          let w = app-only (code - 224) bytes r.0.1 r.0.0 few all r.1
+          let after = λ (a : Option Says). record said { metadata = with_application said.metadata a }
+          let numbered = ap (λ n. 224 + n) w.2 ∙ e
+          Some (Application w.0, after r.0.0, r.0.1, (w.1, tt), numbered, ap after (sym w.3), w.4)
         | None ↦ do
-          e ← when (192 + (code - 192) == code)
-          few ← when (nat_le (code - 192) 3)
+          e ← equal_for (192 + (code - 192)) code
+          few ← most_for (code - 192) 3
           r ← known_ok (sof_at (code - 192) bytes)
           first ← when (not (is_some said.frame))
           taken ← when (is_ok (accepted r.0.0))
-          let w = (sof (code - 192) (leb-true _ _ few)).only bytes r.0.1 r.0.0 all r.1
+          let w = (sof (code - 192) few).only bytes r.0.1 r.0.0 all r.1
+          let decoded = subst (λ f. accepted f ≡ Ok f) w.made (accepted-same r.0.0 taken)
+          let after = λ (f : Frame). record said { frame = Some f }
           Some (
             Header (code - 192) w.value,
-            record said { frame = Some r.0.0 },
+            after r.0.0,
             r.0.1,
-            ((none-is _ first, w.valid), subst (λ f. accepted f ≡ Ok f) w.made (accepted-same r.0.0 taken)),
-            eqb-true _ code e,
-            ap (λ f. record said { frame = Some f }) (sym w.made),
+            ((none-is _ first, w.valid), decoded),
+            e,
+            ap after (sym w.made),
             w.is,
           )
       ]
@@ -166,12 +148,12 @@ module _ {Sent : Type 0} (may : Found → Segment → Type 0)
 
   pub at-scan : (said final : Found) (sent next last : Sent) (frame : Frame) (fill code : ℕ) (h : ScanHeader)
       (bytes rest after data_bytes more : List ℕ) → said.frame ≡ Some frame → IsScan frame h
-      → scans said sent frame h data_bytes next → (code == 218) ≡ true
+      → scans said sent frame h data_bytes next → code ≡ 218
       → rest ≡ with_length (scan_payload h) ++ after → after ≡ data_bytes ++ more → bytes ≡ marker fill code rest
       → Writes may scans ends (record said { scanned = true }) next more final last
       → Writes may scans ends said sent bytes final last
   at-scan said final sent next last frame fill code h bytes rest after data_bytes more framed is x e whole cut marked w =
-      rw (marked, eqb-true code 218 e, whole, cut)
+      rw (marked, e, whole, cut)
       (scan said final sent next last frame fill h data_bytes more framed is x w)
 
   -- At most n segments and scans, and then the end.
@@ -186,9 +168,9 @@ module _ {Sent : Type 0} (may : Found → Segment → Type 0)
     let fill = position_or_len (λ b. not (b == 0xFF)) bytes - 1
     let code = slice_index bytes (fill + 1)
     let rest = drop (fill + 2) bytes
-    all ← all_for {P = λ b. b < 256} (λ b. nat_lt b 256) (λ b. ltb-true b 256) rest
+    all ← all_for (λ b. nat_lt b 256) (λ b. ltb-true b 256) rest
     marked ← same_for bytes (marker fill code rest)
-    elim (when (code == 218)) [
+    elim (equal_for code 218) [
       | Some e ↦ do
         frame ← known said.frame
         r ← known_ok (sos_at frame.0 rest)
@@ -208,7 +190,7 @@ module _ {Sent : Type 0} (may : Found → Segment → Type 0)
           closed ← end_for said sent fill
           Some (said, sent, end said sent bytes (subst (ends said sent) (sym same) closed))
         | None ↦ do
-          p ← part_for said code rest all
+          p ← segment_for said code rest all
           allowed ← may_for said p.0
           w ← stream_for may_for scan_for end_for n p.1 sent p.2
           Some (
@@ -246,9 +228,7 @@ abbrev may_in_image : (said : Found) (s : Segment) → Option (MayStandInImage s
 may_in_image said (Quantization ts) = do
   is ← when (not said.scanned)
   Some (not-true _ is)
-may_in_image said (Header number h) = do
-  is ← when (nat_le number 2)
-  Some (leb-true _ _ is)
+may_in_image said (Header number h) = most_for number 2
 may_in_image said s = Some tt
 
 abbrev end_of_image : (said : Found) (levels : ℕ → Levels) (fill : ℕ)
@@ -314,3 +294,153 @@ module _ (array : Coefficients) (range : (index row column : ℕ) → Is8Bit (ar
       framed = frame.1;
       complete = complete;
     })
+
+-- ---- differences of samples
+
+-- the number from -32767 to 32768 that a difference stands for
+abbrev signed : ℕ → ℤ
+signed r = elim (nat_le r 32768) [ true ↦ pos r | false ↦ negsuc (65535 - r) ]
+
+pub signed-range : (r : ℕ) → (negsuc 32766 ≤ℤ signed r) × (signed r ≤ℤ pos 32768)
+signed-range r = grind (arith, nat_tests, ints)
+
+abbrev difference_for : (x : Table × ℕ) → Option (Made (WritesSampleDifference x.0 x.1))
+difference_for x = do
+  c ← category_for x.0 (λ s. s) (signed x.1)
+  is ← equal_for (residue (signed x.1)) x.1
+  let range = signed-range x.1
+  Some (
+    c.1 ++ bits_of_difference (signed x.1) c.0,
+    record {
+      d = signed x.1;
+      s = c.0;
+      code = c.1;
+      is = is;
+      low = range.0;
+      high = range.1;
+      category = c.2;
+      coded = c.3;
+      has_bits = refl;
+    },
+  )
+
+abbrev each_for : {A : Type 0} (writes : A → List Bool → Type 0) → ((x : A) → Option (Made (writes x))) → (xs : List A)
+    → Option (Made (WritesEach writes xs))
+each_for writes write [] = Some ([], none)
+each_for writes write (x ∷ xs) = do
+  bits ← write x
+  more ← each_for writes write xs
+  Some (bits.0 ++ more.0, one x xs bits.0 more.0 bits.1 more.1)
+
+abbrev rows_for : (rows : List (List (Table × ℕ))) → Option (Made (WritesRows rows))
+rows_for rows = each_for _ (each_for _ difference_for) rows
+
+-- ---- rows of MCUs
+
+-- things of which f gives these keys, each by its own value
+abbrev paired : {A B V : Type 0} (f : B → A) → ((a : A) → V → Option (Made (λ b. f b ≡ a))) → (keys : List A) → List V
+    → Option (Made (λ bs. map f bs ≡ keys))
+paired f pair [] vs = Some ([], refl)
+paired f pair (a ∷ keys) [] = None
+paired f pair (a ∷ keys) (v ∷ vs) = do
+  b ← pair a v
+  more ← paired f pair keys vs
+  Some (b.0 ∷ more.0, ap₂ (λ x xs. x ∷ xs) b.1 more.1)
+
+abbrev differences_in : List (List (Table × ℕ)) → List (List ℕ)
+differences_in rows = map (map (λ (x : Table × ℕ). x.1)) rows
+
+abbrev same_lines : (a b : List (List ℕ)) → Option (a ≡ b)
+same_lines [] [] = Some refl
+same_lines (x ∷ a) (y ∷ b) = do
+  line ← same_for x y
+  more ← same_lines a b
+  Some (ap₂ (λ l ls. l ∷ ls) line more)
+same_lines a b = None
+
+unfoldable pub holds_for : (samples : Samples) (codings : List LosslessCoding) (parts : List Part)
+    (lines : List (List (List ℕ))) → Option (HoldSamples samples codings parts lines)
+unfolding HoldSamples
+holds_for samples [] [] [] = Some tt
+holds_for samples (k ∷ codings) (p ∷ parts) (lines ∷ more) = do
+  is ← same_lines (own_lines p lines) (samples k.index)
+  others ← holds_for samples codings parts more
+  Some (is, others)
+holds_for samples codings parts lines = None
+
+-- ---- lossless streams
+
+abbrev may_be_lossless : (said : Found) (s : Segment) → Option (IsLossless s)
+may_be_lossless said (Header number h) = equal_for number 3
+may_be_lossless said s = Some tt
+
+abbrev end_of_samples : (said : Found) (sent : List ℕ) (fill : ℕ) → Option (ClosesSamples said sent (marker fill 217 []))
+end_of_samples said sent fill = do
+  frame ← known said.frame
+  all ← all_for {P = λ k. names sent k ≡ true} (names sent) (λ k h. h) (range_with_len 0 (length frame.0.components))
+  Some (closes said frame.0 fill frame.1 all)
+
+-- what each interval has of some rows of MCUs
+abbrev intervals_of : {A : Type 0} → ℕ → List A → List (List A)
+intervals_of n rows = first_group n rows ∷ other_groups n rows
+
+-- A scan by what was read of its header.
+pub samples-scan : (samples : Samples) (said : Found) (sent : List ℕ) (frame : Frame) (h : ScanHeader) (x : Scan)
+    (bytes : List ℕ) (codings : List LosslessCoding) (rows : List (List (Table × ℕ))) → x ≡ scan_written frame h
+    → IsScan frame h → x.low ≡ 0
+    → lossless_codings said.huffman.dc frame x.components x.dc_destinations ≡ Ok codings
+    → is_of_rows (mcus_across frame codings) (mcus_down frame codings) said.restart ≡ true
+    → let w = way_of frame (predictor_by x.first) 0 codings in
+    let n = rows_of_interval w.wide (mcus_down frame codings) said.restart in
+    map (map (λ x. x.0)) rows ≡ scan_tables w (mcus_down frame codings)
+    → HoldSamples samples codings w.parts (lines_by_component w 0 w.parts (intervals_of n (differences_in rows)))
+    → WritesIntervals WritesRows 0 (first_group n rows) (other_groups n rows) bytes
+    → SendsSamples samples said sent frame h bytes (x.components ++ sent)
+unfolding scan_of
+samples-scan samples said sent frame h x bytes codings rows made is point coded whole tables kept written =
+    let narrow = is.narrow in
+    let low : x.low ≡ (16 * h.high + h.low) % 16 = ap (λ (x : Scan). x.low) made in (
+      record {
+        codings = codings;
+        coded = rw made at coded;
+        point = omega arith;
+        interval = whole;
+        rows = rows;
+        tables = tables;
+        kept = rw made at kept;
+        written = written;
+      },
+      ap (λ (x : Scan). x.components ++ sent) (sym made),
+    )
+
+abbrev scan_of_samples : (samples : Samples) (said : Found) (sent : List ℕ) (frame : Frame) (h : ScanHeader) (x : Scan)
+    → x ≡ scan_written frame h → IsScan frame h → List ℕ → Option (Next (SendsSamples samples said sent frame h))
+scan_of_samples samples said sent frame h x made is bytes = do
+  codings ← known_ok (lossless_codings said.huffman.dc frame x.components x.dc_destinations)
+  point ← equal_for x.low 0
+  whole ← when (is_of_rows (mcus_across frame codings.0) (mcus_down frame codings.0) said.restart)
+  let w = way_of frame (predictor_by x.first) 0 codings.0
+  let n = rows_of_interval w.wide (mcus_down frame codings.0) said.restart
+  let tables = scan_tables w (mcus_down frame codings.0)
+  r ← known_ok (intervals interval_rows 0 (first_group n tables) (other_groups n tables) bytes)
+  rows ← paired (map (λ (x : Table × ℕ). x.0)) (paired (λ (x : Table × ℕ). x.0) (λ t d. Some ((t, d), refl))) tables
+      (flat_map (λ interval. interval) r.0.0.0)
+  kept ← holds_for samples codings.0 w.parts
+      (lines_by_component w 0 w.parts (intervals_of n (differences_in rows.0)))
+  i ← intervals_for WritesRows rows_for 0 (first_group n rows.0) (other_groups n rows.0) (intervals_in [] false bytes).0
+  Some (
+    i.0,
+    x.components ++ sent,
+    samples-scan samples said sent frame h x i.0 codings.0 rows.0 made is point codings.1 whole rows.1 kept i.1,
+  )
+
+-- a stream for these samples
+abbrev pub samples_for : (samples : Samples) (bytes : List ℕ) → Option (AreWritten samples bytes)
+samples_for samples bytes = do
+  starts ← same_for bytes (255 ∷ 216 ∷ drop 2 bytes)
+  w ← stream_for (λ said s. IsLossless s) (SendsSamples samples) ClosesSamples may_be_lossless (scan_of_samples samples)
+      end_of_samples (length bytes) nothing_found [] (drop 2 bytes)
+  Some (record {
+    final = w.0;
+    written = record { sent = w.1; written = record { after = drop 2 bytes; starts = starts; written = w.2 } };
+  })
