@@ -51,7 +51,7 @@ use Rattle.jpeg_streams.specs.LosslessScans.{with_samples}
 use Rattle.jpeg_bits.specs.Written.{bits_of_bytes, low_bits, number_for, stuffed}
 use Rattle.jpeg_streams.specs.WrittenData.{corrections, count_unknown}
 use Rattle.jpeg_streams.specs.WrittenScans.{levels_after}
-use Rattle.jpeg_streams.proofs.TestedStreams.{holds_for}
+use Rattle.jpeg_streams.proofs.TestedStreams.{holds_for, scan_of_samples}
 
 unfoldable pub streams_on_literals : ⊤
 unfolding accepted adobe_at after_restarts after_scan all_spots app_at application_by arrays_at
@@ -87,5 +87,5 @@ samples_on_literals = tt
 
 unfoldable pub written_on_literals : ⊤
 unfolding streams_on_literals samples_on_literals bits_of_bytes corrections count_unknown holds_for levels_after low_bits
-    number_for stuffed
+    number_for scan_of_samples stuffed
 written_on_literals = tt

@@ -12,7 +12,7 @@ use Rattle.std.specs.Prelude.{nat_eq, nat_le, slice_get, slice_index, slice_inde
 use Rattle.jpeg_bits.specs.Intervals.{first_group, other_groups, intervals}
 use Rattle.jpeg_bits.specs.Passes.{Block, predictors_at_start}
 use Rattle.jpeg_bits.specs.Reading.{Fault}
-use Rattle.jpeg_bits.specs.Written.{marker, WritesEach, WritesIntervals}
+use Rattle.jpeg_bits.specs.Written.{marker, WritesEach}
 use Rattle.jpeg_segments.specs.Application.{Application as Says, app_at, dri_at}
 use Rattle.jpeg_segments.specs.Frame.{Frame, sof_at}
 use Rattle.jpeg_segments.specs.HuffmanTables.{Tables, dht_at}
@@ -50,7 +50,7 @@ use Rattle.jpeg_bits.specs.Written.WritesEach.{none, one}
 use Rattle.jpeg_lossless.specs.Differences.{Part, interval_rows}
 use Rattle.jpeg_lossless.specs.Prediction.{residue}
 use Rattle.jpeg_lossless.specs.Scans.{is_of_rows, lines_by_component, rows_of_interval, scan_tables}
-use Rattle.jpeg_lossless.specs.Written.{WritesRows, WritesSampleDifference, bits_of_difference}
+use Rattle.jpeg_lossless.specs.Written.{WritesRows, WritesSampleDifference}
 use Rattle.jpeg_streams.specs.LosslessScans.{LosslessCoding, lossless_codings, mcus_across, mcus_down, way_of}
 use Rattle.jpeg_streams.specs.WorkedSamples.{AreWritten}
 use Rattle.jpeg_streams.specs.WrittenLossless.{ClosesSamples, HoldSamples, IsLossless, Samples, SendsSamples}
@@ -120,15 +120,8 @@ segment_for said code bytes all = elim (equal_for 219 code) [
           let w = (sof (code - 192) few).only bytes r.0.1 r.0.0 all r.1
           let decoded = subst (λ f. accepted f ≡ Ok f) w.made (accepted-same r.0.0 taken)
           let after = λ (f : Frame). record said { frame = Some f }
-          Some (
-            Header (code - 192) w.value,
-            after r.0.0,
-            r.0.1,
-            ((none-is _ first, w.valid), decoded),
-            e,
-            ap after (sym w.made),
-            w.is,
-          )
+          let stands : Stands said (Header (code - 192) w.value) = ((none-is _ first, w.valid), decoded)
+          Some (Header (code - 192) w.value, after r.0.0, r.0.1, stands, e, ap after (sym w.made), w.is)
       ]
     ]
   ]
@@ -136,30 +129,18 @@ segment_for said code bytes all = elim (equal_for 219 code) [
 
 -- ---- streams
 
+-- a writer of scans that are read with these headers
+abbrev ScansBy : {Sent : Type 0} → (Frame → ScanHeader → List ℕ → Sent → Type 0) → Type 0
+ScansBy scans =
+    (frame : Frame) (h : ScanHeader) (x : Scan) → x ≡ scan_written frame h → IsScan frame h → List ℕ →
+    Option (Next (scans frame h))
+
 module _ {Sent : Type 0} (may : Found → Segment → Type 0)
     (scans : Found → Sent → Frame → ScanHeader → List ℕ → Sent → Type 0)
     (ends : Found → Sent → List ℕ → Type 0) where
-  pub at-segment : (said next final : Found) (sent last : Sent) (fill code : ℕ) (bytes rest more : List ℕ) (s : Segment)
-      → Stands said s → may said s → marker_code s ≡ code → found_after said s ≡ next
-      → rest ≡ with_length (payload_of s) ++ more → bytes ≡ marker fill code rest
-      → Writes may scans ends next sent more final last → Writes may scans ends said sent bytes final last
-  at-segment said next final sent last fill code bytes rest more s stands allowed numbered after whole marked w =
-      rw (marked, sym numbered, whole) (segment said final sent last fill s more stands allowed (rw (sym after) at w))
-
-  pub at-scan : (said final : Found) (sent next last : Sent) (frame : Frame) (fill code : ℕ) (h : ScanHeader)
-      (bytes rest after data_bytes more : List ℕ) → said.frame ≡ Some frame → IsScan frame h
-      → scans said sent frame h data_bytes next → code ≡ 218
-      → rest ≡ with_length (scan_payload h) ++ after → after ≡ data_bytes ++ more → bytes ≡ marker fill code rest
-      → Writes may scans ends (record said { scanned = true }) next more final last
-      → Writes may scans ends said sent bytes final last
-  at-scan said final sent next last frame fill code h bytes rest after data_bytes more framed is x e whole cut marked w =
-      rw (marked, e, whole, cut)
-      (scan said final sent next last frame fill h data_bytes more framed is x w)
-
   -- At most n segments and scans, and then the end.
   abbrev pub stream_for : ((said : Found) (s : Segment) → Option (may said s))
-      → ((said : Found) (sent : Sent) (frame : Frame) (h : ScanHeader) (x : Scan) → x ≡ scan_written frame h
-      → IsScan frame h → List ℕ → Option (Next (scans said sent frame h)))
+      → ((said : Found) (sent : Sent) → ScansBy (scans said sent))
       → ((said : Found) (sent : Sent) (fill : ℕ) → Option (ends said sent (marker fill 217 [])))
       → (n : ℕ) (said : Found) (sent : Sent) (bytes : List ℕ)
       → Option ((final : Found) × (last : Sent) × Writes may scans ends said sent bytes final last)
@@ -179,11 +160,12 @@ module _ {Sent : Type 0} (may : Found → Segment → Type 0)
         let more = (intervals_in [] false r.0.1).1
         cut ← same_for r.0.1 (s.0 ++ more)
         w ← stream_for may_for scan_for end_for n (record said { scanned = true }) s.1 more
+        let whole = marked ∙ ap₂ (marker fill) e (h.is ∙ ap (λ l. with_length (scan_payload h.value) ++ l) cut)
         Some (
-          w.0,
-          w.1,
-          at-scan said w.0 sent s.1 w.1 frame.0 fill code h.value bytes rest r.0.1 s.0 more frame.1 h.valid
-              s.2 e h.is cut marked w.2,
+          _,
+          _,
+          subst (λ bytes. Writes may scans ends said sent bytes w.0 w.1) (sym whole)
+              (scan said w.0 sent s.1 w.1 frame.0 fill h.value s.0 more frame.1 h.valid s.2 w.2),
         )
       | None ↦ elim (same_for bytes (marker fill 217 [])) [
         | Some same ↦ do
@@ -193,11 +175,13 @@ module _ {Sent : Type 0} (may : Found → Segment → Type 0)
           p ← segment_for said code rest all
           allowed ← may_for said p.0
           w ← stream_for may_for scan_for end_for n p.1 sent p.2
+          let whole = marked ∙ ap₂ (marker fill) (sym p.4) p.6
+          let after = subst (λ f. Writes may scans ends f sent p.2 w.0 w.1) (sym p.5) w.2
           Some (
-            w.0,
-            w.1,
-            at-segment said p.1 w.0 sent w.1 fill code bytes rest p.2 p.0 p.3 allowed p.4 p.5 p.6 marked
-                w.2,
+            _,
+            _,
+            subst (λ bytes. Writes may scans ends said sent bytes w.0 w.1) (sym whole)
+                (segment said w.0 sent w.1 fill p.0 p.2 p.3 allowed after),
           )
       ]
     ]
@@ -241,20 +225,8 @@ end_of_image said levels fill = do
   complete ← complete_for frame.0 levels
   Some (closes said frame.0 fill frame.1 (scanned, tables, λ _. complete))
 
-pub image-scan : (array : Coefficients) (said : Found) (levels : ℕ → Levels) (frame : Frame) (h : ScanHeader) (x : Scan)
-    (codings : List Coding) (bytes : List ℕ) → x ≡ scan_written frame h → IsLegalScan said frame levels x codings
-    → WritesScan frame said.restart (pass_of x) codings array bytes
-    → WritesImageScan array said levels frame h bytes (levels_after (pass_of x) (map (λ c. c.index) codings) levels)
-image-scan array said levels frame h x codings bytes e legal written = record {
-  codings = codings;
-  legal = subst (λ x. IsLegalScan said frame levels x codings) e legal;
-  written = subst (λ x. WritesScan frame said.restart (pass_of x) codings array bytes) e written;
-  sent = ap (λ x. levels_after (pass_of x) (map (λ c. c.index) codings) levels) (sym e);
-}
-
 module _ (array : Coefficients) (range : (index row column : ℕ) → Is8Bit (array index row column)) where
-  abbrev scan_of_image : (said : Found) (levels : ℕ → Levels) (frame : Frame) (h : ScanHeader) (x : Scan)
-      → x ≡ scan_written frame h → IsScan frame h → List ℕ → Option (Next (WritesImageScan array said levels frame h))
+  abbrev scan_of_image : (said : Found) (levels : ℕ → Levels) → ScansBy (WritesImageScan array said levels)
   scan_of_image said levels frame h x made is bytes = do
     let p = pass_of x
     codings ← known_ok (codings_of said frame x)
@@ -266,16 +238,22 @@ module _ (array : Coefficients) (range : (index row column : ℕ) → Is8Bit (ar
         (λ s. numbers_at p.al (sent s))
     w ← intervals_for (WritesBlocks p predictors_at_start 0) (blocks_for p predictors_at_start 0) 0 (first_group n turns)
         (other_groups n turns) (intervals_in [] false bytes).0
+    let written : WritesScan frame said.restart p codings.0 array w.0 = record {
+      sent = sent;
+      in_range = λ s. all-sent array range s (slice_get codings.0 s.slot);
+      is_own = λ s c e own. ap (sent_of array s) e;
+      coded = w.1;
+    }
     Some (
-      w.0,
+      _,
       levels_after p (map (λ c. c.index) codings.0) levels,
-      image-scan array said levels frame h x codings.0 w.0
-          made (record { are_in_force = codings.1; legal = legal }) (record {
-            sent = sent;
-            in_range = λ s. all-sent array range s (slice_get codings.0 s.slot);
-            is_own = λ s c e own. ap (sent_of array s) e;
-            coded = w.1;
-          }),
+      record {
+        codings = codings.0;
+        legal = subst (λ x. IsLegalScan said frame levels x codings.0) made
+            (record { are_in_force = codings.1; legal = legal });
+        written = subst (λ x. WritesScan frame said.restart (pass_of x) codings.0 array w.0) made written;
+        sent = ap (λ x. levels_after (pass_of x) (map (λ c. c.index) codings.0) levels) (sym made);
+      },
     )
 
   -- a stream that is an image of the array, where each block is in range
@@ -310,7 +288,7 @@ difference_for x = do
   is ← equal_for (residue (signed x.1)) x.1
   let range = signed-range x.1
   Some (
-    c.1 ++ bits_of_difference (signed x.1) c.0,
+    _,
     record {
       d = signed x.1;
       s = c.0;
@@ -347,9 +325,6 @@ paired f pair (a ∷ keys) (v ∷ vs) = do
   more ← paired f pair keys vs
   Some (b.0 ∷ more.0, ap₂ (λ x xs. x ∷ xs) b.1 more.1)
 
-abbrev differences_in : List (List (Table × ℕ)) → List (List ℕ)
-differences_in rows = map (map (λ (x : Table × ℕ). x.1)) rows
-
 abbrev same_lines : (a b : List (List ℕ)) → Option (a ≡ b)
 same_lines [] [] = Some refl
 same_lines (x ∷ a) (y ∷ b) = do
@@ -380,58 +355,47 @@ end_of_samples said sent fill = do
   all ← all_for {P = λ k. names sent k ≡ true} (names sent) (λ k h. h) (range_with_len 0 (length frame.0.components))
   Some (closes said frame.0 fill frame.1 all)
 
--- what each interval has of some rows of MCUs
-abbrev intervals_of : {A : Type 0} → ℕ → List A → List (List A)
-intervals_of n rows = first_group n rows ∷ other_groups n rows
-
--- A scan by what was read of its header.
-pub samples-scan : (samples : Samples) (said : Found) (sent : List ℕ) (frame : Frame) (h : ScanHeader) (x : Scan)
-    (bytes : List ℕ) (codings : List LosslessCoding) (rows : List (List (Table × ℕ))) → x ≡ scan_written frame h
-    → IsScan frame h → x.low ≡ 0
-    → lossless_codings said.huffman.dc frame x.components x.dc_destinations ≡ Ok codings
-    → is_of_rows (mcus_across frame codings) (mcus_down frame codings) said.restart ≡ true
-    → let w = way_of frame (predictor_by x.first) 0 codings in
-    let n = rows_of_interval w.wide (mcus_down frame codings) said.restart in
-    map (map (λ x. x.0)) rows ≡ scan_tables w (mcus_down frame codings)
-    → HoldSamples samples codings w.parts (lines_by_component w 0 w.parts (intervals_of n (differences_in rows)))
-    → WritesIntervals WritesRows 0 (first_group n rows) (other_groups n rows) bytes
-    → SendsSamples samples said sent frame h bytes (x.components ++ sent)
+pub no-point : (frame : Frame) (h : ScanHeader) (x : Scan) → x ≡ scan_written frame h → IsScan frame h → x.low ≡ 0
+    → h.low ≡ 0
 unfolding scan_of
-samples-scan samples said sent frame h x bytes codings rows made is point coded whole tables kept written =
+no-point frame h x made is low =
     let narrow = is.narrow in
-    let low : x.low ≡ (16 * h.high + h.low) % 16 = ap (λ (x : Scan). x.low) made in (
-      record {
-        codings = codings;
-        coded = rw made at coded;
-        point = omega arith;
-        interval = whole;
-        rows = rows;
-        tables = tables;
-        kept = rw made at kept;
-        written = written;
-      },
-      ap (λ (x : Scan). x.components ++ sent) (sym made),
-    )
+    let same : x.low ≡ (16 * h.high + h.low) % 16 = ap (λ (x : Scan). x.low) made in omega arith
 
-abbrev scan_of_samples : (samples : Samples) (said : Found) (sent : List ℕ) (frame : Frame) (h : ScanHeader) (x : Scan)
-    → x ≡ scan_written frame h → IsScan frame h → List ℕ → Option (Next (SendsSamples samples said sent frame h))
+unfoldable pub scan_of_samples : (samples : Samples) (said : Found) (sent : List ℕ)
+    → ScansBy (SendsSamples samples said sent)
+unfolding scan_of
 scan_of_samples samples said sent frame h x made is bytes = do
   codings ← known_ok (lossless_codings said.huffman.dc frame x.components x.dc_destinations)
   point ← equal_for x.low 0
   whole ← when (is_of_rows (mcus_across frame codings.0) (mcus_down frame codings.0) said.restart)
-  let w = way_of frame (predictor_by x.first) 0 codings.0
-  let n = rows_of_interval w.wide (mcus_down frame codings.0) said.restart
-  let tables = scan_tables w (mcus_down frame codings.0)
+  let way = λ (x : Scan). way_of frame (predictor_by x.first) 0 codings.0
+  let n = rows_of_interval (way x).wide (mcus_down frame codings.0) said.restart
+  let tables = scan_tables (way x) (mcus_down frame codings.0)
   r ← known_ok (intervals interval_rows 0 (first_group n tables) (other_groups n tables) bytes)
   rows ← paired (map (λ (x : Table × ℕ). x.0)) (paired (λ (x : Table × ℕ). x.0) (λ t d. Some ((t, d), refl))) tables
       (flat_map (λ interval. interval) r.0.0.0)
-  kept ← holds_for samples codings.0 w.parts
-      (lines_by_component w 0 w.parts (intervals_of n (differences_in rows.0)))
+  let values = map (map (λ (x : Table × ℕ). x.1)) rows.0
+  let lines = λ (x : Scan). lines_by_component (way x) 0 (way x).parts (first_group n values ∷ other_groups n values)
+  kept ← holds_for samples codings.0 (way x).parts (lines x)
   i ← intervals_for WritesRows rows_for 0 (first_group n rows.0) (other_groups n rows.0) (intervals_in [] false bytes).0
   Some (
-    i.0,
-    x.components ++ sent,
-    samples-scan samples said sent frame h x i.0 codings.0 rows.0 made is point codings.1 whole rows.1 kept i.1,
+    _,
+    _,
+    (
+      record {
+        codings = codings.0;
+        coded = subst (λ x. lossless_codings said.huffman.dc frame x.components x.dc_destinations ≡ Ok codings.0) made
+            codings.1;
+        point = no-point frame h x made is point;
+        interval = whole;
+        rows = rows.0;
+        tables = rows.1;
+        kept = subst (λ x. HoldSamples samples codings.0 (way x).parts (lines x)) made kept;
+        written = i.1;
+      },
+      ap (λ (x : Scan). x.components ++ sent) (sym made),
+    ),
   )
 
 -- a stream for these samples
