@@ -51,7 +51,6 @@ pub mod UpsampledFactors
 pub mod ScaledSources
 pub mod SizedStreams
 pub mod WholeImages
-pub mod TestedParts
 pub mod TestedData
 pub mod TestedStreams
 pub mod OnLiterals

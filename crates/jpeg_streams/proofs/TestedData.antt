@@ -2,8 +2,8 @@
 -- that they may be written, or nothing where a test fails. On literals all of them compute.
 use Rattle.std.proofs.Common.{◌≡◌, ◌≢◌, ℕ, zero, suc, ◌+◌, ◌-◌, ◌*◌, ◌^◌, ◌<◌, ◌≤◌, ◌==◌, ◌&&◌, not, nat_lt, Bool}
 use Rattle.std.proofs.Common.{true, false, List, [], ◌∷◌, ◌++◌, length, Option, Some, None, ℤ, pos, ◌-ℤ◌}
-use Rattle.std.proofs.Common.{unsigned_abs, refl, sym, ap, append_assoc, subst, arith}
-use Rattle.std.proofs.lemmas.Bool.{and_parts, eqb-false, eqb-true, false≢true, leb-true, ltb-true, not-true}
+use Rattle.std.proofs.Common.{unsigned_abs, refl, sym, ap, append_assoc, subst, arith, rules}
+use Rattle.std.proofs.lemmas.Bool.{and_parts, eqb-false, eqb-true, false≢true, leb-true, ltb-true, not-true, cases_lt}
 use Rattle.std.specs.List.{AllByRecursion, find, list_all, position, range_with_len}
 use Rattle.std.specs.Option.{IsSome}
 use Rattle.std.specs.Prelude.{◌/◌, get_or, nat_le, set, slice_index}
@@ -19,7 +19,7 @@ use Rattle.jpeg_streams.specs.WrittenData.WritesBand.{ended, full, sixteen, valu
 use Rattle.jpeg_streams.specs.WrittenData.WritesBlocks.{block, done}
 use Rattle.jpeg_streams.specs.WrittenData.WritesDc.{one_bit, other_band, whole}
 use Rattle.jpeg_streams.specs.WrittenData.WritesRefinement.{found, none_left, passed, refined}
-use Rattle.jpeg_streams.proofs.TestedParts.{all-by, category-by, is_category}
+use Rattle.std.proofs.Math.Nat.{pow-le-pow_right}
 
 -- ---- tests
 
@@ -47,6 +47,12 @@ most_for a b = do
   is ← when (nat_le a b)
   Some (leb-true a b is)
 
+pub all-by : {A : Type 0} (test : A → Bool) (P : A → Type 0) → ((x : A) → test x ≡ true → P x)
+    → (xs : List A) → list_all test xs ≡ true → AllByRecursion P xs
+all-by test P h [] e = tt
+all-by test P h (x ∷ xs) e =
+    let both = and_parts (test x) (list_all test xs) e in (h x both.0, all-by test P h xs both.1)
+
 abbrev pub all_for : {A : Type 0} {P : A → Type 0} (test : A → Bool) → ((x : A) → test x ≡ true → P x) → (xs : List A)
     → Option (AllByRecursion P xs)
 all_for {A} {P} test tells xs = do
@@ -61,6 +67,14 @@ abbrev pub Next : {B S : Type 0} → (B → S → Type 0) → Type 0
 Next {B} {S} P = (b : B) × (s : S) × P b s
 
 -- ---- codes and values
+
+abbrev pub is_category : ℤ → ℕ → Bool
+is_category d zero = unsigned_abs d == 0
+is_category d (suc s) = nat_le (2 ^ s) (unsigned_abs d) && nat_lt (unsigned_abs d) (2 ^ suc s)
+
+pub category-by : (d : ℤ) (s : ℕ) → is_category d s ≡ true → IsCategory d s
+category-by d zero e = search (rules, eqb-true, unsigned_abs)
+category-by d (suc s) e = search (rules, and_parts, unsigned_abs, ltb-true, leb-true, cases_lt, pow-le-pow_right)
 
 abbrev pub code_for : (table : Table) (symbol : ℕ) → Option (Made (IsCoded table symbol))
 code_for table symbol = do

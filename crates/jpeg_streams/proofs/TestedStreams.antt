@@ -2,15 +2,16 @@
 -- of scans are those that are written.
 use Rattle.std.proofs.Common.{rules, ◌≡◌, ℕ, zero, suc, ◌+◌, ◌-◌, ◌*◌, ◌==◌, ◌&&◌, not, nat_lt, Bool, true, false}
 use Rattle.std.proofs.Common.{List, [], ◌∷◌, ◌++◌, length, drop, map, Option, Some, None, Ok, Err, Result, is_ok}
-use Rattle.std.proofs.Common.{is_some, option_map, refl, sym, ap, ◌∙◌, subst, arith, ◌%◌, ℤ, pos, negsuc, ap₂}
-use Rattle.std.proofs.lemmas.Bool.{and_parts, ltb-true, not-true}
+use Rattle.std.proofs.Common.{is_some, option_map, refl, sym, ap, ◌∙◌, subst, arith, ◌%◌, ℤ, pos, negsuc, ap₂, ◌≢◌}
+use Rattle.std.proofs.Common.{◌≤◌, unsigned_abs, true≢false}
+use Rattle.std.proofs.lemmas.Bool.{and_parts, ltb-true, not-true, eq-eqb, eqb-true, leb-true, ne_eqb}
 use Rattle.std.proofs.lemmas.Bool.Decides.{nat_tests}
 use Rattle.std.proofs.lemmas.Grind.{common_steps}
 use Rattle.std.specs.Cmp.Lexicographic.{pointwise, same_text}
 use Rattle.std.specs.List.{list_all, position_or_len, range_with_len, flat_map}
-use Rattle.std.specs.Prelude.{nat_eq, nat_le, slice_get, slice_index, slice_index_or, ◌≤ℤ◌}
+use Rattle.std.specs.Prelude.{nat_eq, nat_le, slice_get, slice_index, slice_index_or, ◌≤ℤ◌, get_or, ◌/◌, ◌%◌}
 use Rattle.jpeg_bits.specs.Intervals.{first_group, other_groups, intervals}
-use Rattle.jpeg_bits.specs.Passes.{Block, predictors_at_start}
+use Rattle.jpeg_bits.specs.Passes.{Block, predictors_at_start, band_of, Pass}
 use Rattle.jpeg_bits.specs.Reading.{Fault}
 use Rattle.jpeg_bits.specs.Written.{marker, WritesEach}
 use Rattle.jpeg_segments.specs.Application.{Application as Says, app_at, dri_at}
@@ -34,17 +35,17 @@ use Rattle.jpeg_streams.specs.Scans.{turns_of}
 use Rattle.jpeg_streams.specs.ScanSegments.{Coding, codings_of, components_of, pass_of, vias_from}
 use Rattle.jpeg_streams.specs.Segments.{accepted, updated, with_application, with_huffman}
 use Rattle.jpeg_streams.specs.WholeImages.{AllComplete}
-use Rattle.jpeg_streams.specs.WorkedImages.{IsWhollyWritten}
+use Rattle.jpeg_streams.specs.WorkedImages.{IsWhollyWritten, flat_block, in_column}
 use Rattle.jpeg_streams.specs.WrittenData.{WritesBlocks}
 use Rattle.jpeg_streams.specs.WrittenImages.{ClosesImage, MayStandInImage, WritesImageScan}
 use Rattle.jpeg_streams.specs.WrittenScans.{Coefficients, HasTable, IsComplete, IsLegalScan, WritesScan, levels_after}
 use Rattle.jpeg_streams.specs.WrittenStreams.{Writes, end, scan, segment}
 use Rattle.jpeg_streams.proofs.TestedData.{◌>>=◌, Made, Next, blocks_for, intervals_for, intervals_in, when}
-use Rattle.jpeg_streams.proofs.TestedData.{category_for, all_for, equal_for, most_for}
-use Rattle.jpeg_streams.proofs.TestedParts.{all-by, at-is, is_at, is_legal, legal-by, none-is, own_block}
-use Rattle.jpeg_streams.proofs.WalkedStreams.{closes}
+use Rattle.jpeg_streams.proofs.TestedData.{category_for, all_for, equal_for, most_for, all-by}
 use Rattle.std.proofs.lemmas.Int.{ints}
 use Rattle.jpeg_bits.specs.Codes.{Table}
+use Rattle.jpeg_streams.proofs.SaidTables.{get-all}
+use Rattle.jpeg_streams.proofs.WalkedStreams.{closes}
 use Rattle.jpeg_bits.specs.DefaultTables.{names}
 use Rattle.jpeg_bits.specs.Written.WritesEach.{none, one}
 use Rattle.jpeg_lossless.specs.Differences.{Part, interval_rows}
@@ -72,6 +73,10 @@ same_for a b = do
   Some (same_text a b (sym is))
 
 -- ---- segments
+
+pub none-is : {A : Type 0} (o : Option A) → not (is_some o) ≡ true → o ≡ None
+none-is None e = refl
+none-is (Some a) e = absurd (true≢false (sym e))
 
 pub accepted-same : (f : Frame) → is_ok (accepted f) ≡ true → accepted f ≡ Ok f
 unfolding accepted
@@ -186,11 +191,68 @@ module _ {Sent : Type 0} (may : Found → Segment → Type 0)
       ]
     ]
 
+-- ---- what scans may send
+
+abbrev pub is_at : Option ℕ → ℕ → Bool
+is_at None n = false
+is_at (Some a) n = a == n
+
+pub at-is : (o : Option ℕ) (n : ℕ) → is_at o n ≡ true → o ≡ Some n
+at-is None n e = absurd (true≢false (sym e))
+at-is (Some a) n e = ap (λ (k : ℕ). Some k) (eqb-true a n e)
+
+-- by a first scan or a refinement at a level
+abbrev ac_legal : Bool → ℕ → Option ℕ → Bool
+ac_legal true al l = not (is_some l)
+ac_legal false al l = is_at l (suc al)
+
+-- where the scan has DC, and where not
+abbrev dc_legal : Bool → Bool → ℕ → Option ℕ → Bool
+dc_legal true first al l = ac_legal first al l
+dc_legal false first al l = is_some l
+
+abbrev pub is_legal : Pass → Levels → Bool
+is_legal p l = nat_le p.al 7 && (dc_legal (p.ss == 0) p.is_first p.al l.dc
+    && list_all (ac_legal p.is_first p.al) (band_of p l.acs))
+
+some-is : (o : Option ℕ) → is_some o ≡ true → o ≢ None
+some-is None e f = absurd (true≢false (sym e))
+some-is (Some a) e f = cc
+
+pub legal-by : (p : Pass) (l : Levels) → is_legal p l ≡ true → IsLegal p l
+legal-by p l e =
+    search (rules, and_parts, leb-true, none-is, eq-eqb, at-is, some-is, ne_eqb, all-by)
+
+abbrev pub is_8_bit : Block → Bool
+is_8_bit b =
+    length b.acs == 63 && (nat_le (unsigned_abs b.dc) 1023 && list_all (λ x. nat_le (unsigned_abs x) 1023) b.acs)
+
+pub range-by : (b : Block) → is_8_bit b ≡ true → Is8Bit b
+range-by b e = search (rules, unsigned_abs, nat_tests, ints, all-by, leb-true)
+
+in-list : {A : Type 0} (P : A → Type 0) (test : A → Bool) (d : A) → ((x : A) → test x ≡ true → P x) → test d ≡ true
+    → (xs : List A) → list_all test xs ≡ true → (i : ℕ) → P (get_or xs i d)
+in-list P test d h is xs e i = get-all P xs i d (all-by test P h xs e) (h d is)
+
+-- the blocks in the columns of a line, of some lines, and of some components, with zeros beyond them
+pub range-in : (blocks : List Block) → list_all is_8_bit blocks ≡ true → (column : ℕ) → Is8Bit (in_column blocks column)
+range-in = in-list Is8Bit is_8_bit (flat_block (pos 0)) range-by refl
+
+pub lines-in : (lines : List (List Block)) → list_all (list_all is_8_bit) lines ≡ true → (row column : ℕ)
+    → Is8Bit (in_column (get_or lines row []) column)
+lines-in = in-list (λ line. (column : ℕ) → Is8Bit (in_column line column)) (list_all is_8_bit) [] range-in refl
+
+pub blocks-in : (blocks : List (List (List Block))) → list_all (list_all (list_all is_8_bit)) blocks ≡ true
+    → (index row column : ℕ) → Is8Bit (in_column (get_or (get_or blocks index []) row []) column)
+blocks-in =
+    in-list (λ lines. (row column : ℕ) → Is8Bit (in_column (get_or lines row []) column)) (list_all (list_all is_8_bit))
+    [] lines-in refl
+
 -- ---- images
 
 abbrev sent_of : Coefficients → Spot → Option Coding → Block
 sent_of array s None = array 0 0 0
-sent_of array s (Some k) = own_block k array s
+sent_of array s (Some k) = array k.index (s.index / k.component.blocks_wide) (s.index % k.component.blocks_wide)
 
 pub all-sent : (array : Coefficients) → ((index row column : ℕ) → Is8Bit (array index row column)) → (s : Spot)
     (k : Option Coding) → Is8Bit (sent_of array s k)
