@@ -13,7 +13,7 @@ use Rattle.jpeg_bits.specs.Refinement.{is_zero}
 use Rattle.jpeg_bits.specs.Written.{IsCategory, IsCoded, WritesInterval, WritesIntervals, bits_of_bytes, stuffed}
 use Rattle.jpeg_bits.specs.Written.WritesIntervals.{another, last}
 use Rattle.jpeg_streams.specs.WrittenData.{NoneNew, WritesAc, WritesBand, WritesBlocks, WritesDc, WritesRefinement}
-use Rattle.jpeg_streams.specs.WrittenData.{corrections, count_unknown, no_numbers}
+use Rattle.jpeg_streams.specs.WrittenData.{count_unknown, no_numbers}
 use Rattle.jpeg_streams.specs.WrittenData.WritesAc.{again, again_run, first, first_run, no_band}
 use Rattle.jpeg_streams.specs.WrittenData.WritesBand.{ended, full, sixteen, value}
 use Rattle.jpeg_streams.specs.WrittenData.WritesBlocks.{block, done}
@@ -145,15 +145,10 @@ band_for Writes none end code front (u ∷ us) = elim (end front u us) [
   ]
 ]
 
-pub zero-is : (u : ℤ) → is_zero u ≡ true → u ≡ pos 0
-zero-is (pos zero) e = refl
-zero-is u e = absurd (false≢true e)
-
 pub zeros-are : (us : List ℤ) → list_all is_zero us ≡ true → no_numbers (length us) ≡ us
 zeros-are [] e = refl
-zeros-are (u ∷ us) e =
-    let both = and_parts (is_zero u) (list_all is_zero us) e in
-    rw (zero-is u both.0, zeros-are us both.1) refl
+zeros-are (pos zero ∷ us) e = ap (λ (zs : List ℤ). pos 0 ∷ zs) (zeros-are us e)
+zeros-are (u ∷ us) e = absurd (false≢true e)
 
 pub no-zero : (u : ℤ) → not (is_zero u) ≡ true → u ≢ pos 0
 no-zero u e z = false≢true (rw z at e)
@@ -162,11 +157,11 @@ pub zeros-in : (W : List ℤ → List Bool → ℕ → Type 0) (us : List ℤ) �
     {run : ℕ} → W (no_numbers (length us)) bits run → W us bits run
 zeros-in W us zeros w = rw (zeros-are us zeros) at w
 
-pub sixteen-zeros : (table : Table) (front : List ℤ) (u : ℤ) (us : List ℤ) (bits : List Bool) (run : ℕ)
-    (code : Made (IsCoded table (16 * 15 + 0))) → list_all is_zero front ≡ true → is_zero u ≡ true → length front ≡ 15
-    → WritesBand table us bits run → WritesBand table (front ++ u ∷ us) (code.0 ++ bits) run
-sixteen-zeros table front u us bits run code zeros none many w =
-    rw (zero-is u none, sym (zeros-are front zeros), many) (sixteen code.0 us bits run code.1 w)
+pub sixteen-zeros : (table : Table) (front us : List ℤ) (bits : List Bool) (run : ℕ)
+    (code : Made (IsCoded table (16 * 15 + 0))) → list_all is_zero front ≡ true → length front ≡ 15
+    → WritesBand table us bits run → WritesBand table (front ++ pos 0 ∷ us) (code.0 ++ bits) run
+sixteen-zeros table front us bits run code zeros many w =
+    rw (sym (zeros-are front zeros), many) (sixteen code.0 us bits run code.1 w)
 
 abbrev first_end : (table : Table) (run : ℕ) → Ends (WritesBand table)
 first_end table run (f ∷ front) u us = None
@@ -176,23 +171,21 @@ first_end table run [] u us = do
   Some (_, _, zeros-in (WritesBand table) (u ∷ us) zeros (ended (length us) x.0 x.1 x.2 x.3 x.4 x.5))
 
 abbrev first_code : (table : Table) → Codes (WritesBand table)
+first_code table front (pos zero) us = do
+  zeros ← when (list_all is_zero front)
+  many ← equal_for (length front) 15
+  code ← code_for table (16 * 15 + 0)
+  Some (λ bits run w. (_, sixteen-zeros table front us bits run code zeros many w))
 first_code table front u us = do
   zeros ← when (list_all is_zero front)
-  elim (when (is_zero u)) [
-    | None ↦ do
-      some ← when (not (is_zero u))
-      few ← most_for (length front) 15
-      c ← category_for table (λ s. 16 * length front + s) u
-      Some (λ bits run w. (
-        _,
-        zeros-in (λ zs. WritesBand table (zs ++ u ∷ us)) front zeros
-            (value (length front) c.0 u c.1 us bits run few (no-zero u some) c.2 c.3 w),
-      ))
-    | Some none ↦ do
-      many ← equal_for (length front) 15
-      code ← code_for table (16 * 15 + 0)
-      Some (λ bits run w. (_, sixteen-zeros table front u us bits run code zeros none many w))
-  ]
+  some ← when (not (is_zero u))
+  few ← most_for (length front) 15
+  c ← category_for table (λ s. 16 * length front + s) u
+  Some (λ bits run w. (
+    _,
+    zeros-in (λ zs. WritesBand table (zs ++ u ∷ us)) front zeros
+        (value (length front) c.0 u c.1 us bits run few (no-zero u some) c.2 c.3 w),
+  ))
 
 -- ---- bands in refinements
 
@@ -216,23 +209,17 @@ refined_end table run [] u us = do
   Some (_, _, none_left x.0 x.1 u us x.2 x.3 x.4 none x.5)
 
 abbrev refined_code : (table : Table) → Codes (WritesRefinement table)
+refined_code table front (pos zero) us = do
+  none ← none_for front
+  many ← equal_for (count_unknown front) 15
+  code ← code_for table (16 * 15 + 0)
+  Some (λ bits run w. (_, passed front code.0 us bits run none many code.1 w))
 refined_code table front u us = do
   none ← none_for front
-  elim (equal_for (unsigned_abs u) 1) [
-    | Some new ↦ do
-      few ← most_for (count_unknown front) 15
-      code ← code_for table (16 * count_unknown front + 1)
-      Some (λ bits run w. (_, found (count_unknown front) front u code.0 us bits run few none refl new code.1 w))
-    | None ↦ do
-      zeros ← when (is_zero u)
-      many ← equal_for (count_unknown front) 15
-      code ← code_for table (16 * 15 + 0)
-      Some (λ bits run w. (
-        _,
-        subst (λ u. WritesRefinement table (front ++ u ∷ us) (code.0 ++ (corrections front ++ bits)) run) (sym (zero-is u zeros))
-            (passed front code.0 us bits run none many code.1 w),
-      ))
-  ]
+  new ← equal_for (unsigned_abs u) 1
+  few ← most_for (count_unknown front) 15
+  code ← code_for table (16 * count_unknown front + 1)
+  Some (λ bits run w. (_, found (count_unknown front) front u code.0 us bits run few none refl new code.1 w))
 
 -- ---- blocks
 

@@ -166,12 +166,8 @@ module _ {Sent : Type 0} (may : Found → Segment → Type 0)
         cut ← same_for r.0.1 (s.0 ++ more)
         w ← stream_for may_for scan_for end_for n (record said { scanned = true }) s.1 more
         let whole = marked ∙ ap₂ (marker fill) e (h.is ∙ ap (λ l. with_length (scan_payload h.value) ++ l) cut)
-        Some (
-          _,
-          _,
-          subst (λ bytes. Writes may scans ends said sent bytes w.0 w.1) (sym whole)
-              (scan said w.0 sent s.1 w.1 frame.0 fill h.value s.0 more frame.1 h.valid s.2 w.2),
-        )
+        let written = scan said w.0 sent s.1 w.1 frame.0 fill h.value s.0 more frame.1 h.valid s.2 w.2
+        Some (_, _, subst (λ bytes. Writes may scans ends said sent bytes w.0 w.1) (sym whole) written)
       | None ↦ elim (same_for bytes (marker fill 217 [])) [
         | Some same ↦ do
           closed ← end_for said sent fill
@@ -182,12 +178,8 @@ module _ {Sent : Type 0} (may : Found → Segment → Type 0)
           w ← stream_for may_for scan_for end_for n p.1 sent p.2
           let whole = marked ∙ ap₂ (marker fill) (sym p.4) p.6
           let after = subst (λ f. Writes may scans ends f sent p.2 w.0 w.1) (sym p.5) w.2
-          Some (
-            _,
-            _,
-            subst (λ bytes. Writes may scans ends said sent bytes w.0 w.1) (sym whole)
-                (segment said w.0 sent w.1 fill p.0 p.2 p.3 allowed after),
-          )
+          let written = segment said w.0 sent w.1 fill p.0 p.2 p.3 allowed after
+          Some (_, _, subst (λ bytes. Writes may scans ends said sent bytes w.0 w.1) (sym whole) written)
       ]
     ]
 
@@ -306,17 +298,15 @@ module _ (array : Coefficients) (range : (index row column : ℕ) → Is8Bit (ar
       is_own = λ s c e own. ap (sent_of array s) e;
       coded = w.1;
     }
-    Some (
-      _,
-      levels_after p (map (λ c. c.index) codings.0) levels,
-      record {
-        codings = codings.0;
-        legal = subst (λ x. IsLegalScan said frame levels x codings.0) made
-            (record { are_in_force = codings.1; legal = legal });
-        written = subst (λ x. WritesScan frame said.restart (pass_of x) codings.0 array w.0) made written;
-        sent = ap (λ x. levels_after (pass_of x) (map (λ c. c.index) codings.0) levels) (sym made);
-      },
-    )
+    let after = λ (x : Scan). levels_after (pass_of x) (map (λ c. c.index) codings.0) levels
+    let scanned : WritesImageScan array said levels frame h w.0 (after x) = record {
+      codings = codings.0;
+      legal = subst (λ x. IsLegalScan said frame levels x codings.0) made
+          (record { are_in_force = codings.1; legal = legal });
+      written = subst (λ x. WritesScan frame said.restart (pass_of x) codings.0 array w.0) made written;
+      sent = ap after (sym made);
+    }
+    Some (_, _, scanned)
 
   -- a stream that is an image of the array, where each block is in range
   abbrev pub image_for : (bytes : List ℕ) → Option (IsWhollyWritten array bytes)
