@@ -12,18 +12,17 @@ use Rattle.std.specs.List.{list_all, position_or_len, range_with_len, flat_map}
 use Rattle.std.specs.Prelude.{nat_eq, nat_le, slice_get, slice_index, slice_index_or, ◌≤ℤ◌, get_or, ◌/◌, ◌%◌}
 use Rattle.jpeg_bits.specs.Intervals.{first_group, other_groups, intervals}
 use Rattle.jpeg_bits.specs.Passes.{Block, predictors_at_start, band_of, Pass}
-use Rattle.jpeg_bits.specs.Reading.{Fault}
+use Rattle.jpeg_bits.specs.Reading.{Fault, Outcome}
 use Rattle.jpeg_bits.specs.Written.{marker, WritesEach}
-use Rattle.jpeg_segments.specs.Application.{Application as Says, app_at, dri_at}
-use Rattle.jpeg_segments.specs.Frame.{Frame, sof_at}
-use Rattle.jpeg_segments.specs.HuffmanTables.{Tables, dht_at}
-use Rattle.jpeg_segments.specs.Quantization.{dqt_at}
-use Rattle.jpeg_segments.specs.ScanHeader.{Scan, sos_at, predictor_by, scan_of}
+use Rattle.jpeg_segments.specs.Application.{Application as Says, app_at}
+use Rattle.jpeg_segments.specs.Frame.{Frame}
+use Rattle.jpeg_segments.specs.HuffmanTables.{Tables}
+use Rattle.jpeg_segments.specs.ScanHeader.{Scan, predictor_by, scan_of}
 use Rattle.jpeg_segments.specs.ScanHeaders.{IsScan, ScanHeader, scan_payload, scan_written}
 use Rattle.jpeg_segments.specs.WrittenSegments.{Application, Header, Huffman, Interval, Quantization, Segment}
 use Rattle.jpeg_segments.specs.WrittenSegments.{marker_code, payload_of, with_length}
 use Rattle.jpeg_segments.proofs.ApplicationParts.{app-only}
-use Rattle.jpeg_segments.proofs.Codecs.{AreBytes}
+use Rattle.jpeg_segments.proofs.Codecs.{AreBytes, Codec, Written}
 use Rattle.jpeg_segments.proofs.HeaderSegments.{sof, sos}
 use Rattle.jpeg_segments.proofs.OtherSegments.{dri}
 use Rattle.jpeg_segments.proofs.TableSegments.{dht, dqt}
@@ -88,26 +87,30 @@ Read said code bytes =
     (s : Segment) × (next : Found) × (rest : List ℕ) × Stands said s × (marker_code s ≡ code)
     × (found_after said s ≡ next) × (bytes ≡ with_length (payload_of s) ++ rest)
 
+-- what bytes that were read were written for
+abbrev read_for : {A C : Type 0} {parse : List ℕ → Outcome C} {view : A → C} {print : A → List ℕ} {Valid : A → Type 0}
+    → Codec parse view print Valid → (bytes : List ℕ) → AreBytes bytes
+    → Option ((y : C) × (rest : List ℕ) × Written view print Valid bytes rest y)
+read_for {A} {C} {parse} codec bytes all = do
+  r ← known_ok (parse bytes)
+  Some (r.0.0, r.0.1, codec.only bytes r.0.1 r.0.0 all r.1)
+
 abbrev segment_for : (said : Found) (code : ℕ) (bytes : List ℕ) → AreBytes bytes → Option (Read said code bytes)
 segment_for said code bytes all = elim (equal_for 219 code) [
   | Some e ↦ do
-    r ← known_ok (dqt_at bytes)
-    let w = dqt.only bytes r.0.1 r.0.0 all r.1
+    r ← read_for dqt bytes all
     let after = λ (ts : List (Option (List ℕ))). record said { quantization = updated said.quantization ts }
-    Some (Quantization w.value, after r.0.0, r.0.1, (w.valid, tt), e, ap after (sym w.made), w.is)
+    Some (Quantization r.2.value, after r.0, r.1, (r.2.valid, tt), e, ap after (sym r.2.made), r.2.is)
   | None ↦ elim (equal_for 196 code) [
     | Some e ↦ do
-      let b = option_map (λ (f : Frame). f.is_baseline) said.frame
-      r ← known_ok (dht_at b bytes)
-      let w = (dht b).only bytes r.0.1 r.0.0 all r.1
+      r ← read_for (dht (option_map (λ (f : Frame). f.is_baseline) said.frame)) bytes all
       let after = λ (ts : Tables). record said { huffman = with_huffman said.huffman ts }
-      Some (Huffman w.value, after r.0.0, r.0.1, (w.valid, tt), e, ap after (sym w.made), w.is)
+      Some (Huffman r.2.value, after r.0, r.1, (r.2.valid, tt), e, ap after (sym r.2.made), r.2.is)
     | None ↦ elim (equal_for 221 code) [
       | Some e ↦ do
-        r ← known_ok (dri_at bytes)
-        let w = dri.only bytes r.0.1 r.0.0 all r.1
+        r ← read_for dri bytes all
         let after = λ (n : ℕ). record said { restart = n }
-        Some (Interval w.value, after r.0.0, r.0.1, (tt, tt), e, ap after (sym w.made), w.is)
+        Some (Interval r.2.value, after r.0, r.1, (tt, tt), e, ap after (sym r.2.made), r.2.is)
       | None ↦ elim (equal_for (224 + (code - 224)) code) [
         | Some e ↦ do
           few ← most_for (code - 224) 15
@@ -119,14 +122,13 @@ segment_for said code bytes all = elim (equal_for 219 code) [
         | None ↦ do
           e ← equal_for (192 + (code - 192)) code
           few ← most_for (code - 192) 3
-          r ← known_ok (sof_at (code - 192) bytes)
+          r ← read_for (sof (code - 192) few) bytes all
           first ← when (not (is_some said.frame))
-          taken ← when (is_ok (accepted r.0.0))
-          let w = (sof (code - 192) few).only bytes r.0.1 r.0.0 all r.1
-          let decoded = subst (λ f. accepted f ≡ Ok f) w.made (accepted-same r.0.0 taken)
+          taken ← when (is_ok (accepted r.0))
+          let decoded = subst (λ f. accepted f ≡ Ok f) r.2.made (accepted-same r.0 taken)
+          let stands : Stands said (Header (code - 192) r.2.value) = ((none-is _ first, r.2.valid), decoded)
           let after = λ (f : Frame). record said { frame = Some f }
-          let stands : Stands said (Header (code - 192) w.value) = ((none-is _ first, w.valid), decoded)
-          Some (Header (code - 192) w.value, after r.0.0, r.0.1, stands, e, ap after (sym w.made), w.is)
+          Some (Header (code - 192) r.2.value, after r.0, r.1, stands, e, ap after (sym r.2.made), r.2.is)
       ]
     ]
   ]
@@ -159,11 +161,11 @@ module _ {Sent : Type 0} (may : Found → Segment → Type 0)
     elim (equal_for code 218) [
       | Some e ↦ do
         frame ← known said.frame
-        r ← known_ok (sos_at frame.0 rest)
-        let h = (sos frame.0).only rest r.0.1 r.0.0 all r.1
-        s ← scan_for said sent frame.0 h.value r.0.0 h.made h.valid r.0.1
-        let more = (intervals_in [] false r.0.1).1
-        cut ← same_for r.0.1 (s.0 ++ more)
+        r ← read_for (sos frame.0) rest all
+        let h = r.2
+        s ← scan_for said sent frame.0 h.value r.0 h.made h.valid r.1
+        let more = (intervals_in [] false r.1).1
+        cut ← same_for r.1 (s.0 ++ more)
         w ← stream_for may_for scan_for end_for n (record said { scanned = true }) s.1 more
         let whole = marked ∙ ap₂ (marker fill) e (h.is ∙ ap (λ l. with_length (scan_payload h.value) ++ l) cut)
         let written = scan said w.0 sent s.1 w.1 frame.0 fill h.value s.0 more frame.1 h.valid s.2 w.2
@@ -242,14 +244,12 @@ blocks-in =
 
 -- ---- images
 
-abbrev sent_of : Coefficients → Spot → Option Coding → Block
-sent_of array s None = array 0 0 0
-sent_of array s (Some k) = array k.index (s.index / k.component.blocks_wide) (s.index % k.component.blocks_wide)
-
-pub all-sent : (array : Coefficients) → ((index row column : ℕ) → Is8Bit (array index row column)) → (s : Spot)
-    (k : Option Coding) → Is8Bit (sent_of array s k)
-all-sent array range s None = range 0 0 0
-all-sent array range s (Some k) = range _ _ _
+-- the block of a spot, where its component has this coding
+abbrev sent_of : (array : Coefficients) → ((index row column : ℕ) → Is8Bit (array index row column)) → Spot
+    → Option Coding → Made Is8Bit
+sent_of array range s None = (_, range 0 0 0)
+sent_of array range s (Some k) =
+    (_, range k.index (s.index / k.component.blocks_wide) (s.index % k.component.blocks_wide))
 
 abbrev is_complete : Levels → Bool
 is_complete l = is_at l.dc 0 && list_all (λ x. is_at x 0) l.acs
@@ -259,8 +259,7 @@ complete-by l e = search (rules, and_parts, at-is, all-by)
 
 abbrev complete_for : (frame : Frame) (levels : ℕ → Levels) → Option (AllComplete frame levels)
 complete_for frame levels =
-    all_for {P = λ k. IsComplete (levels k)} (λ k. is_complete (levels k)) (λ k. complete-by (levels k))
-    (range_with_len 0 (length frame.components))
+    all_for (λ k. is_complete (levels k)) (λ k. complete-by (levels k)) (range_with_len 0 (length frame.components))
 
 abbrev may_in_image : (said : Found) (s : Segment) → Option (MayStandInImage said s)
 may_in_image said (Quantization ts) = do
@@ -286,16 +285,16 @@ module _ (array : Coefficients) (range : (index row column : ℕ) → Is8Bit (ar
     codings ← known_ok (codings_of said frame x)
     legal ← all_for {P = λ c. IsLegal p (levels c.index)} (λ c. is_legal p (levels c.index))
         (λ c. legal-by p (levels c.index)) codings.0
-    let sent = λ (s : Spot). sent_of array s (slice_get codings.0 s.slot)
+    let sent = λ (s : Spot). sent_of array range s (slice_get codings.0 s.slot)
     let n = said.restart * mcu_size (components_of codings.0)
     let turns = turns_of (vias_from 0 codings.0) (spots_of frame (components_of codings.0))
-        (λ s. numbers_at p.al (sent s))
+        (λ s. numbers_at p.al (sent s).0)
     w ← intervals_for (WritesBlocks p predictors_at_start 0) (blocks_for p predictors_at_start 0) 0 (first_group n turns)
         (other_groups n turns) (intervals_in [] false bytes).0
     let written : WritesScan frame said.restart p codings.0 array w.0 = record {
-      sent = sent;
-      in_range = λ s. all-sent array range s (slice_get codings.0 s.slot);
-      is_own = λ s c e own. ap (sent_of array s) e;
+      sent = λ s. (sent s).0;
+      in_range = λ s. (sent s).1;
+      is_own = λ s c e own. ap (λ k. (sent_of array range s k).0) e;
       coded = w.1;
     }
     let after = λ (x : Scan). levels_after (pass_of x) (map (λ c. c.index) codings.0) levels
