@@ -1,9 +1,9 @@
 -- A file that cjpeg of libjpeg-turbo 2.1.5 wrote (quality 75, 4:2:0, 17 by 13 pixels, the Huffman
 -- tables of T.81, K.3 to K.6), what jpegtran -progressive made of it, and the picture that the
 -- original crate gives of both.
-use Rattle.std.specs.Prelude.{ℕ, ◌+◌, ◌-◌, ◌*◌, true, List, [], ◌∷◌, ◌++◌, length, map, replicate}
-use Rattle.std.specs.Prelude.{drop, get_or, set, slice_index, Option, Some, None, Result, Ok, Err, ℤ}
-use Rattle.std.specs.Prelude.{pos, neg_ℤ}
+use Rattle.std.specs.Prelude.{ℕ, ◌+◌, ◌-◌, ◌*◌, true, List, [], ◌∷◌, ◌++◌, length, map}
+use Rattle.std.specs.Prelude.{drop, get_or, set, slice_index, Option, Some, None, Result, Ok, Err}
+use Rattle.std.specs.Prelude.{ℤ, pos, neg_ℤ, replicate}
 use Rattle.std.specs.List.{flat_map, range_with_len}
 use Rattle.jpeg_bits.specs.Codes.{Table}
 use Rattle.jpeg_bits.specs.Passes.{Block}

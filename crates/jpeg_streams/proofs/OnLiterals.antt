@@ -86,6 +86,6 @@ unfolding each prediction.first_line frame_payload huffman_bytes differences.int
 samples_on_literals = tt
 
 unfoldable pub written_on_literals : ⊤
-unfolding streams_on_literals samples_on_literals bits_of_bytes corrections count_unknown holds_for levels_after low_bits
-    number_for scan_of_samples stuffed
+unfolding streams_on_literals samples_on_literals bits_of_bytes corrections count_unknown holds_for
+    levels_after low_bits number_for scan_of_samples stuffed
 written_on_literals = tt

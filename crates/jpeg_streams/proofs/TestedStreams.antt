@@ -1,5 +1,5 @@
--- Whole streams, tested as they are read. What is read of a segment was written, so that a segment proves itself; the data
--- of scans are those that are written.
+-- Whole streams, tested as they are read. What is read of a segment was written, so a segment proves itself. The data of
+-- scans are made from what is to be written, and compared.
 use Rattle.std.proofs.Common.{rules, ◌≡◌, ℕ, zero, suc, ◌+◌, ◌-◌, ◌*◌, ◌==◌, ◌&&◌, not, nat_lt, Bool, true, false}
 use Rattle.std.proofs.Common.{List, [], ◌∷◌, ◌++◌, length, drop, map, Option, Some, None, Ok, Err, Result, is_ok}
 use Rattle.std.proofs.Common.{is_some, option_map, refl, sym, ap, ◌∙◌, subst, arith, ◌%◌, ℤ, pos, negsuc, ap₂, ◌≢◌}
