@@ -2,11 +2,11 @@
 -- that they may be written, or nothing where a test fails. On literals all of them compute.
 use Rattle.std.proofs.Common.{◌≡◌, ◌≢◌, ℕ, zero, suc, ◌+◌, ◌-◌, ◌*◌, ◌^◌, ◌<◌, ◌≤◌, ◌==◌, ◌&&◌, not, nat_lt, Bool}
 use Rattle.std.proofs.Common.{true, false, List, [], ◌∷◌, ◌++◌, length, Option, Some, None, ℤ, pos, ◌-ℤ◌}
-use Rattle.std.proofs.Common.{unsigned_abs, refl, sym, ap, append_assoc, subst, arith, rules}
+use Rattle.std.proofs.Common.{unsigned_abs, refl, sym, ap, ap₂, append_assoc, subst, arith, rules}
 use Rattle.std.proofs.lemmas.Bool.{and_parts, eqb-false, eqb-true, false≢true, leb-true, ltb-true, not-true, cases_lt}
 use Rattle.std.specs.List.{AllByRecursion, find, list_all, position, range_with_len}
 use Rattle.std.specs.Option.{IsSome}
-use Rattle.std.specs.Prelude.{◌/◌, get_or, nat_le, set, slice_index}
+use Rattle.std.specs.Prelude.{◌/◌, drop, get_or, nat_le, set, slice_index}
 use Rattle.jpeg_bits.specs.Codes.{Table, code_lengths}
 use Rattle.jpeg_bits.specs.Passes.{Block, Pass, Via, band_of}
 use Rattle.jpeg_bits.specs.Refinement.{is_zero}
@@ -58,6 +58,14 @@ abbrev pub all_for : {A : Type 0} {P : A → Type 0} (test : A → Bool) → ((x
 all_for {A} {P} test tells xs = do
   is ← when (list_all test xs)
   Some (all-by test P tells xs is)
+
+abbrev pub same_for : {A : Type 0} → ((x y : A) → Option (x ≡ y)) → (xs ys : List A) → Option (xs ≡ ys)
+same_for same [] [] = Some refl
+same_for same (x ∷ xs) (y ∷ ys) = do
+  one ← same x y
+  more ← same_for same xs ys
+  Some (ap₂ (λ z zs. z ∷ zs) one more)
+same_for same xs ys = None
 
 -- something that was made and of which this holds; and with a state after it
 abbrev pub Made : {B : Type 0} → (B → Type 0) → Type 0
@@ -265,31 +273,26 @@ blocks_for p predictors run (t ∷ turns) = do
 
 -- ---- intervals
 
--- what is left of some bits after others
-abbrev left_of : (own bits : List Bool) → Option (Made (λ left. bits ≡ own ++ left))
-left_of [] bits = Some (bits, refl)
-left_of (true ∷ own) (true ∷ bits) = do
-  left ← left_of own bits
-  Some (left.0, ap (λ (l : List Bool). true ∷ l) left.1)
-left_of (false ∷ own) (false ∷ bits) = do
-  left ← left_of own bits
-  Some (left.0, ap (λ (l : List Bool). false ∷ l) left.1)
-left_of own bits = None
+abbrev same_bit : (x y : Bool) → Option (x ≡ y)
+same_bit true true = Some refl
+same_bit false false = Some refl
+same_bit x y = None
 
 -- an interval of these bytes, before 00 follows each FF
 abbrev interval_for : (writes : List Bool → Type 0) → Option (Made writes) → (data_bytes : List ℕ)
     → Option (WritesInterval writes (stuffed data_bytes))
 interval_for writes o data_bytes = do
   w ← o
-  left ← left_of w.0 (bits_of_bytes data_bytes)
-  short ← most_for (length left.0) 7
+  let filling = drop (length w.0) (bits_of_bytes data_bytes)
+  filled ← same_for same_bit (bits_of_bytes data_bytes) (w.0 ++ filling)
+  short ← most_for (length filling) 7
   Some (record {
     bits = w.0;
-    filling = left.0;
+    filling = filling;
     data_bytes = data_bytes;
     coded = w.1;
     is_short = short;
-    whole = left.1;
+    whole = filled;
     has_bytes = refl;
   })
 

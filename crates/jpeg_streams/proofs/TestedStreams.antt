@@ -7,9 +7,8 @@ use Rattle.std.proofs.Common.{◌≤◌, unsigned_abs, true≢false}
 use Rattle.std.proofs.lemmas.Bool.{and_parts, ltb-true, not-true, eq-eqb, eqb-true, leb-true, ne_eqb}
 use Rattle.std.proofs.lemmas.Bool.Decides.{nat_tests}
 use Rattle.std.proofs.lemmas.Grind.{common_steps}
-use Rattle.std.specs.Cmp.Lexicographic.{pointwise, same_text}
 use Rattle.std.specs.List.{list_all, position_or_len, range_with_len, flat_map}
-use Rattle.std.specs.Prelude.{nat_eq, nat_le, slice_get, slice_index, slice_index_or, ◌≤ℤ◌, get_or, ◌/◌, ◌%◌}
+use Rattle.std.specs.Prelude.{nat_le, slice_get, slice_index, slice_index_or, ◌≤ℤ◌, get_or, ◌/◌, ◌%◌}
 use Rattle.jpeg_bits.specs.Intervals.{first_group, other_groups, intervals}
 use Rattle.jpeg_bits.specs.Passes.{Block, predictors_at_start, band_of, Pass}
 use Rattle.jpeg_bits.specs.Reading.{Fault, Outcome}
@@ -39,7 +38,7 @@ use Rattle.jpeg_streams.specs.WrittenData.{WritesBlocks}
 use Rattle.jpeg_streams.specs.WrittenImages.{ClosesImage, MayStandInImage, WritesImageScan}
 use Rattle.jpeg_streams.specs.WrittenScans.{Coefficients, HasTable, IsComplete, IsLegalScan, WritesScan, levels_after}
 use Rattle.jpeg_streams.specs.WrittenStreams.{Writes, end, scan, segment}
-use Rattle.jpeg_streams.proofs.TestedData.{◌>>=◌, Made, Next, blocks_for, intervals_for, intervals_in, when}
+use Rattle.jpeg_streams.proofs.TestedData.{◌>>=◌, Made, Next, blocks_for, intervals_for, intervals_in, when, same_for}
 use Rattle.jpeg_streams.proofs.TestedData.{category_for, all_for, equal_for, most_for, all-by}
 use Rattle.std.proofs.lemmas.Int.{ints}
 use Rattle.jpeg_bits.specs.Codes.{Table}
@@ -66,10 +65,8 @@ abbrev pub known_ok : {A : Type 0} → (o : Result A Fault) → Option (Made (λ
 known_ok (Err e) = None
 known_ok (Ok x) = Some (x, refl)
 
-abbrev pub same_for : (a b : List ℕ) → Option (a ≡ b)
-same_for a b = do
-  is ← when (pointwise nat_eq a b)
-  Some (same_text a b (sym is))
+abbrev pub bytes_for : (a b : List ℕ) → Option (a ≡ b)
+bytes_for a b = same_for equal_for a b
 
 -- ---- segments
 
@@ -157,7 +154,7 @@ module _ {Sent : Type 0} (may : Found → Segment → Type 0)
     let code = slice_index bytes (fill + 1)
     let rest = drop (fill + 2) bytes
     all ← all_for (λ b. nat_lt b 256) (λ b. ltb-true b 256) rest
-    marked ← same_for bytes (marker fill code rest)
+    marked ← bytes_for bytes (marker fill code rest)
     elim (equal_for code 218) [
       | Some e ↦ do
         frame ← known said.frame
@@ -165,12 +162,12 @@ module _ {Sent : Type 0} (may : Found → Segment → Type 0)
         let h = r.2
         s ← scan_for said sent frame.0 h.value r.0 h.made h.valid r.1
         let more = (intervals_in [] false r.1).1
-        cut ← same_for r.1 (s.0 ++ more)
+        cut ← bytes_for r.1 (s.0 ++ more)
         w ← stream_for may_for scan_for end_for n (record said { scanned = true }) s.1 more
         let whole = marked ∙ ap₂ (marker fill) e (h.is ∙ ap (λ l. with_length (scan_payload h.value) ++ l) cut)
         let written = scan said w.0 sent s.1 w.1 frame.0 fill h.value s.0 more frame.1 h.valid s.2 w.2
         Some (_, _, subst (λ bytes. Writes may scans ends said sent bytes w.0 w.1) (sym whole) written)
-      | None ↦ elim (same_for bytes (marker fill 217 [])) [
+      | None ↦ elim (bytes_for bytes (marker fill 217 [])) [
         | Some same ↦ do
           closed ← end_for said sent fill
           Some (said, sent, end said sent bytes (subst (ends said sent) (sym same) closed))
@@ -310,7 +307,7 @@ module _ (array : Coefficients) (range : (index row column : ℕ) → Is8Bit (ar
   -- a stream that is an image of the array, where each block is in range
   abbrev pub image_for : (bytes : List ℕ) → Option (IsWhollyWritten array bytes)
   image_for bytes = do
-    starts ← same_for bytes (255 ∷ 216 ∷ drop 2 bytes)
+    starts ← bytes_for bytes (255 ∷ 216 ∷ drop 2 bytes)
     w ← stream_for MayStandInImage (WritesImageScan array) ClosesImage may_in_image scan_of_image end_of_image
         (length bytes) nothing_found (λ k. nothing_sent) (drop 2 bytes)
     frame ← known w.0.frame
@@ -376,20 +373,12 @@ paired f pair (a ∷ keys) (v ∷ vs) = do
   more ← paired f pair keys vs
   Some (b.0 ∷ more.0, ap₂ (λ x xs. x ∷ xs) b.1 more.1)
 
-abbrev same_lines : (a b : List (List ℕ)) → Option (a ≡ b)
-same_lines [] [] = Some refl
-same_lines (x ∷ a) (y ∷ b) = do
-  line ← same_for x y
-  more ← same_lines a b
-  Some (ap₂ (λ l ls. l ∷ ls) line more)
-same_lines a b = None
-
 unfoldable pub holds_for : (samples : Samples) (codings : List LosslessCoding) (parts : List Part)
     (lines : List (List (List ℕ))) → Option (HoldSamples samples codings parts lines)
 unfolding HoldSamples
 holds_for samples [] [] [] = Some tt
 holds_for samples (k ∷ codings) (p ∷ parts) (lines ∷ more) = do
-  is ← same_lines (own_lines p lines) (samples k.index)
+  is ← same_for bytes_for (own_lines p lines) (samples k.index)
   others ← holds_for samples codings parts more
   Some (is, others)
 holds_for samples codings parts lines = None
@@ -452,7 +441,7 @@ scan_of_samples samples said sent frame h x made is bytes = do
 -- a stream for these samples
 abbrev pub samples_for : (samples : Samples) (bytes : List ℕ) → Option (AreWritten samples bytes)
 samples_for samples bytes = do
-  starts ← same_for bytes (255 ∷ 216 ∷ drop 2 bytes)
+  starts ← bytes_for bytes (255 ∷ 216 ∷ drop 2 bytes)
   w ← stream_for (λ said s. IsLossless s) (SendsSamples samples) ClosesSamples may_be_lossless (scan_of_samples samples)
       end_of_samples (length bytes) nothing_found [] (drop 2 bytes)
   Some (record {
