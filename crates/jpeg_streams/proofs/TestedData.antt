@@ -13,7 +13,7 @@ use Rattle.jpeg_bits.specs.Refinement.{is_zero}
 use Rattle.jpeg_bits.specs.Written.{IsCategory, IsCoded, WritesInterval, WritesIntervals, bits_of_bytes, stuffed}
 use Rattle.jpeg_bits.specs.Written.WritesIntervals.{another, last}
 use Rattle.jpeg_streams.specs.WrittenData.{NoneNew, WritesAc, WritesBand, WritesBlocks, WritesDc, WritesRefinement}
-use Rattle.jpeg_streams.specs.WrittenData.{count_unknown, no_numbers}
+use Rattle.jpeg_streams.specs.WrittenData.{WritesDifference, bits_for, count_unknown, no_numbers}
 use Rattle.jpeg_streams.specs.WrittenData.WritesAc.{again, again_run, first, first_run, no_band}
 use Rattle.jpeg_streams.specs.WrittenData.WritesBand.{ended, full, sixteen, value}
 use Rattle.jpeg_streams.specs.WrittenData.WritesBlocks.{block, done}
@@ -106,12 +106,9 @@ dc_by p false kind other is table u predictor = Some (_, _, other_band u predict
 dc_by p true false same is table u predictor = Some (_, _, one_bit u predictor (eqb-true _ _ same) is)
 dc_by p true true same is table u predictor = do
   c ← category_for table (λ s. s) (u -ℤ predictor)
-  Some (
-    _,
-    _,
-    whole u predictor _ (eqb-true _ _ same) is
-        (record { s = c.0; code = c.1; category = c.2; coded = c.3; has_bits = refl }),
-  )
+  let d : WritesDifference table (u -ℤ predictor) (c.1 ++ bits_for (u -ℤ predictor) c.0) =
+      record { s = c.0; code = c.1; category = c.2; coded = c.3; has_bits = refl }
+  Some (_, _, whole u predictor _ (eqb-true _ _ same) is d)
 
 -- ---- bands
 

@@ -14,7 +14,7 @@ use Rattle.jpeg_bits.specs.Passes.{Block, predictors_at_start, band_of, Pass}
 use Rattle.jpeg_bits.specs.Reading.{Fault, Outcome}
 use Rattle.jpeg_bits.specs.Written.{marker, WritesEach}
 use Rattle.jpeg_segments.specs.Application.{Application as Says, app_at}
-use Rattle.jpeg_segments.specs.Frame.{Frame}
+use Rattle.jpeg_segments.specs.Frame.{Component, Frame}
 use Rattle.jpeg_segments.specs.HuffmanTables.{Tables}
 use Rattle.jpeg_segments.specs.ScanHeader.{Scan, predictor_by, scan_of}
 use Rattle.jpeg_segments.specs.ScanHeaders.{IsScan, ScanHeader, scan_payload, scan_written}
@@ -49,11 +49,11 @@ use Rattle.jpeg_bits.specs.Written.WritesEach.{none, one}
 use Rattle.jpeg_lossless.specs.Differences.{Part, interval_rows}
 use Rattle.jpeg_lossless.specs.Prediction.{residue}
 use Rattle.jpeg_lossless.specs.Scans.{is_of_rows, lines_by_component, rows_of_interval, scan_tables}
-use Rattle.jpeg_lossless.specs.Written.{WritesRows, WritesSampleDifference}
+use Rattle.jpeg_lossless.specs.Written.{WritesRows, WritesSampleDifference, bits_of_difference}
 use Rattle.jpeg_streams.specs.LosslessScans.{LosslessCoding, lossless_codings, mcus_across, mcus_down, way_of}
 use Rattle.jpeg_streams.specs.WorkedSamples.{AreWritten}
 use Rattle.jpeg_streams.specs.WrittenLossless.{ClosesSamples, HoldSamples, IsLossless, Samples, SendsSamples}
-use Rattle.jpeg_streams.specs.WrittenLossless.{own_lines}
+use Rattle.jpeg_streams.specs.WrittenLossless.{WritesSamplesScan, own_lines}
 
 -- ---- what is there
 
@@ -270,8 +270,8 @@ abbrev end_of_image : (said : Found) (levels : ℕ → Levels) (fill : ℕ)
 end_of_image said levels fill = do
   frame ← known said.frame
   scanned ← when said.scanned
-  tables ← all_for {P = HasTable said} (λ c. is_some (slice_index_or said.quantization c.factors.quantization None))
-      (λ c h. h) frame.0.components
+  let has = λ (c : Component). is_some (slice_index_or said.quantization c.factors.quantization None)
+  tables ← all_for {P = HasTable said} has (λ c h. h) frame.0.components
   complete ← complete_for frame.0 levels
   Some (closes said frame.0 fill frame.1 (scanned, tables, λ _. complete))
 
@@ -280,8 +280,7 @@ module _ (array : Coefficients) (range : (index row column : ℕ) → Is8Bit (ar
   scan_of_image said levels frame h x made is bytes = do
     let p = pass_of x
     codings ← known_ok (codings_of said frame x)
-    legal ← all_for {P = λ c. IsLegal p (levels c.index)} (λ c. is_legal p (levels c.index))
-        (λ c. legal-by p (levels c.index)) codings.0
+    legal ← all_for (λ c. is_legal p (levels c.index)) (λ c. legal-by p (levels c.index)) codings.0
     let sent = λ (s : Spot). sent_of array range s (slice_get codings.0 s.slot)
     let n = said.restart * mcu_size (components_of codings.0)
     let turns = turns_of (vias_from 0 codings.0) (spots_of frame (components_of codings.0))
@@ -335,20 +334,18 @@ difference_for x = do
   c ← category_for x.0 (λ s. s) (signed x.1)
   is ← equal_for (residue (signed x.1)) x.1
   let range = signed-range x.1
-  Some (
-    _,
-    record {
-      d = signed x.1;
-      s = c.0;
-      code = c.1;
-      is = is;
-      low = range.0;
-      high = range.1;
-      category = c.2;
-      coded = c.3;
-      has_bits = refl;
-    },
-  )
+  let written : WritesSampleDifference x.0 x.1 (c.1 ++ bits_of_difference (signed x.1) c.0) = record {
+    d = signed x.1;
+    s = c.0;
+    code = c.1;
+    is = is;
+    low = range.0;
+    high = range.1;
+    category = c.2;
+    coded = c.3;
+    has_bits = refl;
+  }
+  Some (_, written)
 
 abbrev each_for : {A : Type 0} (writes : A → List Bool → Type 0) → ((x : A) → Option (Made (writes x))) → (xs : List A)
     → Option (Made (WritesEach writes xs))
@@ -357,9 +354,6 @@ each_for writes write (x ∷ xs) = do
   bits ← write x
   more ← each_for writes write xs
   Some (bits.0 ++ more.0, one x xs bits.0 more.0 bits.1 more.1)
-
-abbrev rows_for : (rows : List (List (Table × ℕ))) → Option (Made (WritesRows rows))
-rows_for rows = each_for _ (each_for _ difference_for) rows
 
 -- ---- rows of MCUs
 
@@ -392,7 +386,7 @@ may_be_lossless said s = Some tt
 abbrev end_of_samples : (said : Found) (sent : List ℕ) (fill : ℕ) → Option (ClosesSamples said sent (marker fill 217 []))
 end_of_samples said sent fill = do
   frame ← known said.frame
-  all ← all_for {P = λ k. names sent k ≡ true} (names sent) (λ k h. h) (range_with_len 0 (length frame.0.components))
+  all ← all_for (names sent) (λ k h. h) (range_with_len 0 (length frame.0.components))
   Some (closes said frame.0 fill frame.1 all)
 
 pub no-point : (frame : Frame) (h : ScanHeader) (x : Scan) → x ≡ scan_written frame h → IsScan frame h → x.low ≡ 0
@@ -418,25 +412,20 @@ scan_of_samples samples said sent frame h x made is bytes = do
   let values = map (map (λ (x : Table × ℕ). x.1)) rows.0
   let lines = λ (x : Scan). lines_by_component (way x) 0 (way x).parts (first_group n values ∷ other_groups n values)
   kept ← holds_for samples codings.0 (way x).parts (lines x)
-  i ← intervals_for WritesRows rows_for 0 (first_group n rows.0) (other_groups n rows.0) (intervals_in [] false bytes).0
-  Some (
-    _,
-    _,
-    (
-      record {
-        codings = codings.0;
-        coded = subst (λ x. lossless_codings said.huffman.dc frame x.components x.dc_destinations ≡ Ok codings.0) made
-            codings.1;
-        point = no-point frame h x made is point;
-        interval = whole;
-        rows = rows.0;
-        tables = rows.1;
-        kept = subst (λ x. HoldSamples samples codings.0 (way x).parts (lines x)) made kept;
-        written = i.1;
-      },
-      ap (λ (x : Scan). x.components ++ sent) (sym made),
-    ),
-  )
+  i ← intervals_for WritesRows (each_for _ (each_for _ difference_for)) 0 (first_group n rows.0) (other_groups n rows.0)
+      (intervals_in [] false bytes).0
+  let scanned : WritesSamplesScan said frame h samples i.0 = record {
+    codings = codings.0;
+    coded = subst (λ x. lossless_codings said.huffman.dc frame x.components x.dc_destinations ≡ Ok codings.0) made
+        codings.1;
+    point = no-point frame h x made is point;
+    interval = whole;
+    rows = rows.0;
+    tables = rows.1;
+    kept = subst (λ x. HoldSamples samples codings.0 (way x).parts (lines x)) made kept;
+    written = i.1;
+  }
+  Some (_, _, (scanned, ap (λ (x : Scan). x.components ++ sent) (sym made)))
 
 -- a stream for these samples
 abbrev pub samples_for : (samples : Samples) (bytes : List ℕ) → Option (AreWritten samples bytes)
