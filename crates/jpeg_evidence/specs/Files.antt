@@ -1,12 +1,17 @@
 -- A file that cjpeg of libjpeg-turbo 2.1.5 wrote (quality 75, 4:2:0, 17 by 13 pixels, the Huffman
 -- tables of T.81, K.3 to K.6), what jpegtran -progressive made of it, and the picture that the
 -- original crate gives of both.
-use Rattle.std.specs.Prelude.{ℕ, true, List, [], ◌∷◌, ◌++◌, drop, set, Option, Some, None, Result, Ok}
-use Rattle.std.specs.Prelude.{Err}
-use Rattle.std.specs.List.{flat_map}
+use Rattle.std.specs.Prelude.{ℕ, ◌+◌, ◌-◌, ◌*◌, true, List, [], ◌∷◌, ◌++◌, length, map}
+use Rattle.std.specs.Prelude.{drop, get_or, set, slice_index, Option, Some, None, Result, Ok, Err}
+use Rattle.std.specs.Prelude.{ℤ, pos, neg_ℤ, replicate}
+use Rattle.std.specs.List.{flat_map, range_with_len}
 use Rattle.jpeg_bits.specs.Codes.{Table}
+use Rattle.jpeg_bits.specs.Passes.{Block}
 use Rattle.jpeg_bits.specs.Reading.{Fault}
 use Rattle.jpeg_segments.specs.HuffmanTables.{Tables, dht_at}
+use Rattle.jpeg_streams.specs.WorkedImages.{in_column}
+use Rattle.jpeg_streams.specs.WrittenLossless.{Samples}
+use Rattle.jpeg_streams.specs.WrittenScans.{Coefficients}
 
 abbrev pub sequential_file : List ℕ
 sequential_file =
@@ -132,6 +137,61 @@ picture_of_files =
     163 ∷ 31 ∷ 127 ∷ 183 ∷ 24 ∷ 158 ∷ 201 ∷ 26 ∷ 186 ∷ 215 ∷ 37 ∷ 205 ∷ 219 ∷ 61 ∷ 229 ∷ 224 ∷
     107 ∷ []
 
+-- ---- the coefficients of the first two
+
+abbrev minus : ℕ → ℤ
+minus n = neg_ℤ (pos n)
+
+-- a block of this DC whose AC coefficients begin so, with zeros after them
+abbrev block : ℤ → List ℤ → Block
+block dc front = record { dc = dc; acs = front ++ replicate (63 - length front) (pos 0) }
+
+-- Y, in two rows of four blocks. The last of each row is padding.
+abbrev luma_of_files : List (List Block)
+luma_of_files =
+    (block (pos 54) (minus 4 ∷ pos 11 ∷ minus 13 ∷ pos 14 ∷ minus 17 ∷ pos 0 ∷ minus 2 ∷ pos 2
+    ∷ pos 0 ∷ minus 2 ∷ pos 0 ∷ pos 2 ∷ pos 1 ∷ minus 1 ∷ [])
+    ∷ block (minus 17) (pos 32 ∷ minus 38 ∷ pos 0 ∷ pos 5 ∷ pos 10 ∷ pos 1 ∷ pos 5 ∷ minus 6
+    ∷ minus 1 ∷ pos 0 ∷ pos 0 ∷ minus 1 ∷ pos 0 ∷ pos 1 ∷ pos 0 ∷ pos 1 ∷ pos 0 ∷ pos 0
+    ∷ minus 1 ∷ [])
+    ∷ block (minus 39) (pos 0 ∷ minus 27 ∷ pos 7 ∷ pos 0 ∷ pos 0 ∷ pos 0 ∷ pos 0 ∷ pos 0
+    ∷ minus 2 ∷ pos 1 ∷ [])
+    ∷ block (minus 39) [] ∷ [])
+    ∷ (block (minus 32) (pos 8 ∷ pos 22 ∷ pos 10 ∷ minus 14 ∷ pos 6 ∷ pos 0 ∷ minus 3 ∷ minus 4
+    ∷ pos 3 ∷ pos 1 ∷ pos 0 ∷ minus 1 ∷ minus 1 ∷ pos 1 ∷ pos 0 ∷ pos 0 ∷ pos 0 ∷ pos 0 ∷ pos 0
+    ∷ pos 1 ∷ [])
+    ∷ block (pos 17) (minus 40 ∷ pos 10 ∷ pos 2 ∷ pos 19 ∷ pos 0 ∷ minus 1 ∷ minus 2 ∷ pos 7
+    ∷ minus 2 ∷ minus 1 ∷ pos 1 ∷ pos 0 ∷ pos 1 ∷ [])
+    ∷ block (pos 65) (pos 0 ∷ minus 28 ∷ minus 12 ∷ pos 0 ∷ pos 0 ∷ pos 0 ∷ pos 0 ∷ pos 0
+    ∷ minus 3 ∷ pos 0 ∷ pos 0 ∷ pos 0 ∷ pos 0 ∷ pos 0 ∷ pos 0 ∷ pos 0 ∷ pos 0 ∷ pos 0 ∷ pos 0
+    ∷ minus 1 ∷ [])
+    ∷ block (pos 65) [] ∷ []) ∷ []
+
+-- Cb
+abbrev blue_of_files : List (List Block)
+blue_of_files =
+    (block (pos 13) (pos 8 ∷ pos 3 ∷ minus 2 ∷ minus 29 ∷ minus 8 ∷ minus 2 ∷ pos 7 ∷ minus 2
+    ∷ minus 2 ∷ pos 0 ∷ pos 2 ∷ pos 1 ∷ pos 2 ∷ pos 0 ∷ pos 0 ∷ pos 0 ∷ minus 1 ∷ minus 1 ∷ [])
+    ∷ block (minus 6) (pos 0 ∷ pos 44 ∷ pos 14 ∷ pos 0 ∷ pos 0 ∷ pos 0 ∷ pos 0 ∷ pos 0 ∷ minus 7
+    ∷ minus 2 ∷ pos 0 ∷ pos 0 ∷ pos 0 ∷ pos 0 ∷ pos 0 ∷ pos 0 ∷ pos 0 ∷ pos 0 ∷ pos 0 ∷ pos 0
+    ∷ minus 1 ∷ []) ∷ []) ∷ []
+
+-- Cr
+abbrev red_of_files : List (List Block)
+red_of_files =
+    (block (minus 9) (pos 19 ∷ minus 2 ∷ pos 7 ∷ minus 1 ∷ pos 14 ∷ minus 1 ∷ minus 7 ∷ minus 7
+    ∷ pos 2 ∷ pos 0 ∷ pos 0 ∷ minus 4 ∷ minus 1 ∷ pos 0 ∷ pos 0 ∷ pos 0 ∷ pos 0 ∷ minus 1 ∷ [])
+    ∷ block (pos 13) (pos 0 ∷ minus 4 ∷ minus 7 ∷ pos 0 ∷ pos 0 ∷ pos 0 ∷ pos 0 ∷ pos 0
+    ∷ minus 1 ∷ []) ∷ []) ∷ []
+
+abbrev pub blocks_of_files : List (List (List Block))
+blocks_of_files = luma_of_files ∷ blue_of_files ∷ red_of_files ∷ []
+
+-- The block of a component in a row and a column. Beyond those in the file all are zeros.
+unfoldable pub coefficients_of_files : Coefficients
+coefficients_of_files index row column =
+    in_column (get_or (get_or blocks_of_files index []) row []) column
+
 -- ---- its Huffman tables
 
 abbrev pub listed_tables : Option Table → List Table
@@ -175,3 +235,9 @@ samples_of_file =
     61 ∷ 195 ∷ 99 ∷ 92 ∷ 175 ∷ 108 ∷ 127 ∷ 155 ∷ 117 ∷ 152 ∷ 135 ∷ 126 ∷ 182 ∷ 115 ∷ 135 ∷ 210 ∷
     95 ∷ 144 ∷ 40 ∷ 220 ∷ 90 ∷ 73 ∷ 200 ∷ 102 ∷ 103 ∷ 180 ∷ 114 ∷ 132 ∷ 160 ∷ 126 ∷ 162 ∷ 140 ∷
     138 ∷ 194 ∷ 120 ∷ 150 ∷ 225 ∷ 100 ∷ 162 ∷ []
+
+-- the same, line by line of each component
+unfoldable pub lines_of_file : Samples
+lines_of_file index =
+    map (λ row. map (λ column. slice_index samples_of_file (3 * (7 * row + column) + index))
+    (range_with_len 0 7)) (range_with_len 0 5)

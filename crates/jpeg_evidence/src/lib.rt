@@ -34,11 +34,13 @@ ghost use Rattle.jpeg_segments.specs.declared.parser.EntropyCoding.TheVariants a
 ghost use Rattle.jpeg_streams.specs.ColourChoice.{by_identifiers};
 ghost use Rattle.jpeg_streams.specs.Segments.{is_decoded_count, is_decoded_precision};
 ghost use Rattle.jpeg_streams.specs.Worked.{picture_meant};
+ghost use Rattle.jpeg_streams.specs.WorkedImages.{IsWhollyWritten};
+ghost use Rattle.jpeg_streams.specs.WorkedSamples.{AreWritten};
 ghost use Rattle.jpeg_evidence.specs.Cosines.{adds, are_entries, cosine, is_positive, unit};
 ghost use Rattle.jpeg_evidence.specs.Exact.{distance, squares, unclamped, whole};
 ghost use Rattle.jpeg_evidence.specs.Files.{file_of_table_1, lossless_file, picture_of_files};
 ghost use Rattle.jpeg_evidence.specs.Files.{progressive_file, samples_of_file, sequential_file};
-ghost use Rattle.jpeg_evidence.specs.Files.{file_tables};
+ghost use Rattle.jpeg_evidence.specs.Files.{coefficients_of_files, file_tables, lines_of_file};
 ghost use Rattle.jpeg_evidence.specs.Headers.{adobe_segment, f0_and_one, frame_numbers};
 ghost use Rattle.jpeg_evidence.specs.Headers.{progressive_grey};
 ghost use Rattle.jpeg_evidence.specs.Headers.{ones, table_of_f0};
@@ -100,6 +102,18 @@ pub fn files_mean_their_picture()
 #[tactic(auto, unfolding(crate::proofs::OnLiterals::files_on_literals))]
 pub fn lossless_file_means_its_samples()
     ensures { picture_meant lossless_file ≡ Ok samples_of_file }
+{}
+
+/// Both files are written for one array of coefficients: that of `cjpeg` as a sequential stream,
+/// and what `jpegtran` makes of it as a progressive one.
+pub fn files_are_written()
+    ensures sequential { IsWhollyWritten coefficients_of_files sequential_file }
+    ensures progressive { IsWhollyWritten coefficients_of_files progressive_file }
+{}
+
+/// The lossless file is written for the samples that it was given.
+pub fn lossless_file_is_written()
+    ensures { AreWritten lines_of_file lossless_file }
 {}
 
 /// The table of a lossless scan's component is that of Td, not of Ta (T.81, B.2.3): with the table

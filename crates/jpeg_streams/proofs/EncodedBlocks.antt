@@ -1,30 +1,43 @@
 -- Every block of 8-bit samples can be written, by tables in which each symbol has a code of 8 bits.
-use Rattle.std.proofs.Common.{rules, false, replicate, length, get_or, negsuc, unsigned_abs, subst, append_assoc, arith}
-use Rattle.std.proofs.Common.{◌≡◌, ◌≢◌, ◌⊎◌, inl, inr, zero, suc, ◌==◌, Bool, true, cond, List, ◌++◌, ◌-ℤ◌, ◌≤ℤ◌, refl}
-use Rattle.std.proofs.Common.{ℕ, ◌+◌, ◌-◌, ◌*◌, ◌/◌, ◌%◌, ◌^◌, ◌<◌, ◌≤◌, [], ◌∷◌, set, ℤ, pos, sym, ap, ap₂, ◌∙◌}
+use Rattle.std.proofs.Common.{rules, false, replicate, length, get_or, negsuc, unsigned_abs, subst, append_assoc}
+use Rattle.std.proofs.Common.{arith, ◌≡◌, ◌≢◌, ◌⊎◌, inl, inr, zero, suc, ◌==◌, Bool, true, cond, List, ◌++◌, ◌-ℤ◌}
+use Rattle.std.proofs.Common.{◌≤ℤ◌, refl, ℕ, ◌+◌, ◌-◌, ◌*◌, ◌/◌, ◌%◌, ◌^◌, ◌<◌, ◌≤◌, [], ◌∷◌, set, ℤ, pos, sym, ap}
+use Rattle.std.proofs.Common.{ap₂, ◌∙◌, length-append, ◌&&◌, sum}
 use Rattle.std.proofs.Math.Nat.{pow-le-pow_right}
 use Rattle.std.proofs.lemmas.Bool.{cases_lt, eq-eqb, ne_eqb}
 use Rattle.std.proofs.lemmas.Int.{ints}
-use Rattle.std.proofs.Common.{length-append}
 use Rattle.std.proofs.lemmas.List.{append-nil, length-replicate, replicate-append-replicate, take_all}
 use Rattle.std.proofs.lemmas.List.FromFn.{get_or-range_with_len}
 use Rattle.std.specs.List.{AllByRecursion, range_with_len}
-use Rattle.jpeg_bits.specs.Codes.{lengths_from, Table}
+use Rattle.jpeg_bits.specs.Codes.{lengths_from, Table, code_lengths, codes_exist}
 use Rattle.jpeg_bits.specs.Entropy.{bits_of}
 use Rattle.jpeg_bits.specs.Passes.{band_of, Block, Pass, predictors_at_start, Via, whole_pass}
-use Rattle.jpeg_bits.specs.Written.{code_bits, low_bits, bits_of_bytes, stuffed, IsCategory, IsCoded}
+use Rattle.jpeg_bits.specs.Written.{code_bits, low_bits, bits_of_bytes, stuffed, IsCategory, IsCoded, WritesInterval}
 use Rattle.jpeg_bits.specs.declared.codes.HuffmanTableClass.{HuffmanTableClass}
 use Rattle.jpeg_bits.specs.declared.codes.HuffmanTableClass.TheVariants as classes
 use Rattle.jpeg_streams.specs.Levels.{Is8Bit}
 use Rattle.jpeg_streams.specs.WrittenData.{no_numbers, WritesAc, WritesBand, WritesBlocks, WritesDc, WritesDifference}
-use Rattle.jpeg_bits.specs.Written.{WritesInterval}
 use Rattle.jpeg_streams.specs.WrittenData.WritesAc.{first, no_band}
 use Rattle.jpeg_streams.specs.WrittenData.WritesBand.{ended, full, sixteen, value}
 use Rattle.jpeg_streams.specs.WrittenData.WritesBlocks.{block, done}
 use Rattle.jpeg_streams.specs.WrittenData.WritesDc.{other_band, whole}
 use Rattle.jpeg_bits.proofs.BufferedBits.{bit_le as at-most-one}
+use Rattle.std.proofs.lemmas.Bool.Decides.{nat_tests}
+use Rattle.std.specs.Prelude.{nat_le}
+use Rattle.jpeg_bits.proofs.Tables.{tested-exist}
+use Rattle.jpeg_segments.specs.HuffmanTables.{DefinedTable}
+use Rattle.jpeg_segments.specs.WrittenSegments.{IsHuffmanTable}
 
 -- ---- tables
+
+abbrev is_table : DefinedTable → Bool
+is_table t =
+    length t.table.counts == 16 && (length t.table.symbols == sum t.table.counts && (nat_le 1 (sum t.table.counts)
+    && (nat_le (sum t.table.counts) 256 && codes_exist (code_lengths t.table.counts))))
+
+pub table-by : (most : ℕ) (t : DefinedTable) → t.destination ≤ most → is_table t ≡ true →
+    IsHuffmanTable most t
+table-by most t h e = search (rules, nat_tests, tested-exist)
 
 abbrev pub flat_counts : List ℕ
 flat_counts = replicate 7 0 ++ 255 ∷ replicate 8 0

@@ -23,7 +23,7 @@ use Rattle.jpeg_segments.specs.ScanHeader.{is_band, index_of, Scan, scan_of}
 use Rattle.jpeg_segments.specs.ScanHeaders.{AreChoices, IsScan, scan_payload, scan_written, ScanHeader}
 use Rattle.jpeg_segments.specs.WrittenSegments.{IsComponent, AreComponents, frame_written, FrameHeader, Header, Huffman}
 use Rattle.jpeg_segments.specs.WrittenSegments.{IsFrameHeader, payload_of, Quantization}
-use Rattle.jpeg_segments.specs.WrittenSegments.{QuantizationTable, with_length}
+use Rattle.jpeg_segments.specs.WrittenSegments.{IsQuantizationTable, QuantizationTable, with_length}
 use Rattle.jpeg_streams.specs.declared.grids.Grid.{Grid}
 use Rattle.jpeg_streams.specs.Levels.{Is8Bit, Levels, sent_after, nothing_sent, numbers_at}
 use Rattle.jpeg_streams.specs.Order.{grid_of, mcu_size, own_spots, Spot, spots_of}
@@ -40,17 +40,34 @@ use Rattle.jpeg_streams.specs.WrittenImages.{ClosesImage, WritesPart}
 use Rattle.jpeg_streams.specs.WrittenScans.{Coefficients, HasTable, IsComplete, IsLegalScan}
 use Rattle.jpeg_streams.specs.WrittenScans.{levels_after, WritesScan}
 use Rattle.jpeg_streams.proofs.CutLevels.{all-same}
-use Rattle.jpeg_streams.proofs.TestedParts.{lone-own, one-quantizes, own_block, table-by}
-use Rattle.jpeg_streams.proofs.TestedParts.{table_of_one}
 use Rattle.jpeg_streams.specs.WrittenStreams.{end, scan, segment}
 use Rattle.jpeg_streams.proofs.EncodedBlocks.{ac_pass, dc_pass, Each, each-ac, each-dc, each-whole, flat_table}
-use Rattle.jpeg_streams.proofs.EncodedBlocks.{HasFlatAc, HasFlatDc, interval-written, IsFlat}
+use Rattle.jpeg_streams.proofs.EncodedBlocks.{HasFlatAc, HasFlatDc, interval-written, IsFlat, table-by}
 use Rattle.jpeg_streams.proofs.WalkedStreams.{closes}
 use Rattle.jpeg_streams.proofs.WholeImages.{floor-whole, toward-whole}
-use Rattle.jpeg_bits.proofs.ReadIntervals.{all-append, all-map}
+use Rattle.jpeg_bits.proofs.ReadIntervals.{all-again, all-append, all-map}
 use Rattle.jpeg_streams.proofs.ReadTurns.{then-ok}
 
 -- ---- what is written
+
+-- the block of a spot, if it is of this component
+abbrev own_block : Coding → Coefficients → Spot → Block
+own_block k array s = array k.index (s.index / k.component.blocks_wide) (s.index % k.component.blocks_wide)
+
+lone-own : (k : Coding) (array : Coefficients) (s : Spot) (c : Coding) → slice_get (k ∷ []) s.slot ≡ Some c
+    → own_block k array s ≡ own_block c array s
+lone-own k array s c e = ap (λ (x : Coding). own_block x array s) (lone s.slot e)
+  where
+    lone : (j : ℕ) → slice_get (k ∷ []) j ≡ Some c → k ≡ c
+    lone zero e = cc
+    lone (suc j) e = absurd (let n : ⊥ = cc in n)
+
+-- a quantization table of one value
+abbrev table_of_one : ℕ → ℕ → QuantizationTable
+table_of_one index v = record { precision = 0; destination = index; values = replicate 64 v }
+
+one-quantizes : (index v : ℕ) → index ≤ 3 → 0 < v → IsQuantizationTable (table_of_one index v)
+one-quantizes index v h k = search (rules, all-again)
 
 abbrev all_ones : List QuantizationTable
 all_ones = table_of_one 0 1 ∷ table_of_one 1 1 ∷ table_of_one 2 1 ∷ table_of_one 3 1 ∷ []

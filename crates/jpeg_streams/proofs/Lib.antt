@@ -50,9 +50,10 @@ pub mod UpsampledFactors
 pub mod ScaledSources
 pub mod SizedStreams
 pub mod WholeImages
-pub mod TestedParts
-pub mod WorkedGrey
-pub mod WorkedColour
+pub mod TestedData
+pub mod TestedStreams
+pub mod OnLiterals
+pub mod WorkedStreams
 pub mod Soundness
 pub mod WrittenParts
 pub mod PicturedFrames
@@ -65,7 +66,6 @@ pub mod ShorterSamples
 pub mod SaidTables
 pub mod LosslessSizes
 pub mod LosslessFrames
-pub mod WorkedSamples
 pub mod AcceptedSamples
 pub mod EncodedSamples
 pub mod PaddingUnseen

@@ -22,7 +22,7 @@ set-all : {A : Type 0} (P : A → Type 0) (xs : List A) (i : ℕ) (x : A) → Al
 set-all P (y ∷ xs) (suc i) x all h = (all.0, set-all P xs i x all.1 h)
 set-all P xs i x all h = search rules
 
-get-all : {A : Type 0} (P : A → Type 0) (xs : List A) (i : ℕ) (d : A) → AllByRecursion P xs → P d → P (get_or xs i d)
+pub get-all : {A : Type 0} (P : A → Type 0) (xs : List A) (i : ℕ) (d : A) → AllByRecursion P xs → P d → P (get_or xs i d)
 get-all P (y ∷ xs) (suc i) d all h = get-all P xs i d all.1 h
 get-all P xs i d all h = search rules
 

@@ -1,4 +1,4 @@
-use Rattle.jpeg_streams.proofs.WorkedSamples.{padding-written, three-written}
+use Rattle.jpeg_streams.proofs.WorkedStreams.{padding-written, three-written}
 use Rattle.jpeg_decoder.proofs.lossless_laws.worked_samples_are_written.Goals as goal
 
 pub returns : goal.returns
