@@ -30,6 +30,7 @@ use Rattle.jpeg_pixels.specs.declared.joint_planes.JointShape.{JointShape}
 use Rattle.jpeg_pixels.specs.declared.upsampler.ColorConvert.{ColorConvert}
 use Rattle.jpeg_pixels.proofs.ComponentLines.{line_by_samples}
 use Rattle.jpeg_pixels.proofs.SourceLists.{source_with}
+use Rattle.jpeg_pixels.proofs.Sums.{range-split}
 use Rattle.jpeg_pixels.proofs.WholePictures.{image-is}
 
 -- ---- lines one after the other
@@ -39,15 +40,7 @@ lines-after : (f g : ℕ → List ℕ) (a n end : ℕ) → end ≡ a + n
     → ((k : ℕ) → k < n → f (a + k) ≡ g k)
     → concat (map f (range_with_len 0 end))
     ≡ concat (map f (range_with_len 0 a)) ++ concat (map g (range_with_len 0 n))
-lines-after f g a n end e same =
-    let all = map f (range_with_len 0 end) in
-    let long = length-map-range_with_len f 0 end in
-    let front = take-map-range_with_len f 0 end a (omega arith) in
-    let back = fill_by_all g (drop a all) n [] (omega (arith, length-drop a all)) (λ k h.
-    get_or-drop a all k []
-    ∙ get_or-map-range_with_len f 0 end (a + k) (a + k) [] (omega arith) (omega arith)
-    ∙ same k h) in
-    ap concat (sym (take-append-drop a all)) ∙ concat-append (take a all) (drop a all) ∙ cc
+lines-after f g a n end e same = rw (e, range-split f g a n same) (concat-append (map f (range_with_len 0 a)) (map g (range_with_len 0 n)))
 
 -- ---- rows of MCUs
 

@@ -1,5 +1,6 @@
 pub mod BlockRows
 pub mod LaneChoice
+pub mod Rules
 pub mod LaneRows
 pub mod LaneSums
 pub mod ShortColours
@@ -27,7 +28,6 @@ pub mod JoinedLines
 pub mod JointRows
 pub mod JointPictures
 pub mod LinesOfColour
-pub mod Pieces
 pub mod PlaneRows
 pub mod RowsOfBlocks
 pub mod SourceLists

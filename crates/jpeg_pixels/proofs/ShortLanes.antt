@@ -7,17 +7,20 @@ use Rattle.std.proofs.lemmas.List.FromFn.{length-range_with_len}
 use Rattle.std.proofs.lemmas.Int.{ints, to_z-of_z, int_wrap_fits, wrapping_add_is, by_lt_z, wrapping_sub_is}
 use Rattle.std.proofs.lemmas.Int.{wrapping_mul_is}
 use Rattle.std.proofs.Math.Nat.{div-le_self}
-use Rattle.std.specs.Int.{Width, w16, w32, int_wrap}
+use Rattle.std.specs.Int.{Width, w16, w32, int_shr, int_wrap}
 use Rattle.std.specs.Int.Signed.{lt_z, le_z}
 use Rattle.std.specs.List.{range_with_len}
 use lib.Lanes.{zip2, sel_l, top, chunk, Each1, mask_l}
-use mir.Val.{bits, hbits}
+use mir.Val.{Val, bits, hbits}
+use denote.Array.{each}
+use denote.Shadow.{shadow}
+use denote.Signed.{SInt}
 use borrow.Rule.Slice.PartMut.{mid_of}
 use Rattle.jpeg_pixels.specs.Lanes.{lanes, lane}
 use Rattle.jpeg_pixels.specs.ShortRows.{IsLimit}
 use Rattle.jpeg_pixels.proofs.LaneChoice.{sel_of_maps}
-use Rattle.jpeg_pixels.proofs.LaneRows.{own_lanes, kept_lanes}
-use Rattle.jpeg_pixels.proofs.LaneSums.{loaded, kept_shorts, lane-lanes}
+use Rattle.jpeg_pixels.proofs.LaneSums.{AreLanes, loaded, kept_halves, kept_words, lane-lanes, own_lanes}
+use Rattle.jpeg_pixels.proofs.Residues.{shifted_fits}
 use Rattle.std.proofs.lemmas.Grind.{common_steps}
 use Rattle.std.proofs.lemmas.Bool.Decides.{nat_tests}
 
@@ -27,10 +30,9 @@ pub record IsSigned (w : Width) (v : List ℕ) (f : ℕ → ℤ) : Type 0 where
   pub fits : (j : ℕ) → FitsSigned w (f j)
 
 -- a vector that is given
-pub signed_given : (w : Width) (v : List ℤ) → length v ≡ 8 → ((j : ℕ) → FitsSigned w (lane v j))
-    → IsSigned w (map (of_z w) v) (lane v)
+pub signed_given : {w : Width} {v : List ℤ} → AreLanes w v → IsSigned w (map (of_z w) v) (lane v)
 unfolding lanes
-signed_given w v e fits = grind (arith, common_steps, of_z, own_lanes, map-map)
+signed_given {w} {v} are = grind (arith, common_steps, of_z, own_lanes, map-map)
 
 -- eight elements of an array, from `at` on
 pub signed_loaded : (xs : List ℤ) (at : ℕ) → length xs ≡ 64 → at + 8 ≤ 64
@@ -47,23 +49,27 @@ pub signed_read : {w : Width} {v : List ℕ} {f : ℕ → ℤ} → IsSigned w v 
 unfolding lanes
 signed_read {w} {v} {f} s = grind (arith, common_steps, to_z-of_z)
 
--- a choice in each lane, by which of two numbers is less
-pub signed_chosen : {w : Width} {a b x y : List ℕ} {f g p q : ℕ → ℤ} → IsSigned w a f → IsSigned w b g
+-- the same numbers by other words
+signed_same : {w : Width} {v : List ℕ} {f g : ℕ → ℤ} → IsSigned w v f → ((j : ℕ) → f j ≡ g j) → IsSigned w v g
+signed_same {w} {v} {f} {g} s e = record {
+  is = s.is ∙ (λ i. map (λ j. of_z w (e j i)) (range_with_len 0 8));
+  fits = λ j. subst (FitsSigned w) (e j) (s.fits j);
+}
+
+-- a choice in each lane, by a test of the bits of two numbers
+pub signed_by : {w : Width} {a b x y : List ℕ} {f g p q : ℕ → ℤ} (t : ℕ → ℕ → Bool) → IsSigned w a f → IsSigned w b g
     → IsSigned w x p → IsSigned w y q
-    → IsSigned w (sel_l (map (top (hbits w)) (zip2 (λ m n. cond (lt_z (to_z w m) (to_z w n)) (2 ^ bits w - 1) 0) a b))
-    x y) (λ j. cond (lt_z (f j) (g j)) (p j) (q j))
-signed_chosen {w} {a} {b} {x} {y} {f} {g} {p} {q} sa sb sx sy =
+    → IsSigned w (sel_l (map (top (hbits w)) (zip2 (λ m n. cond (t m n) (2 ^ bits w - 1) 0) a b)) x y)
+    (λ j. cond (t (of_z w (f j)) (of_z w (g j))) (p j) (q j))
+signed_by {w} {a} {b} {x} {y} {f} {g} {p} {q} t sa sb sx sy =
     let indices = range_with_len 0 8 in
-    let test : ℕ → ℕ → Bool = λ m n. lt_z (to_z w m) (to_z w n) in
-    let mask = tops_compared w test a b
-    ∙ zip2_of_maps test (λ j. of_z w (f j)) (λ j. of_z w (g j)) indices sa.is sb.is
-    ∙ (λ i. map (λ j. lt_z (to_z-of_z w (f j) (sa.fits j) i) (to_z-of_z w (g j) (sb.fits j) i))
-    indices) in
+    let m : ℕ → Bool = λ j. t (of_z w (f j)) (of_z w (g j)) in
+    let mask = tops_compared w t a b ∙ zip2_of_maps t (λ j. of_z w (f j)) (λ j. of_z w (g j)) indices sa.is sb.is in
     record {
       is = (λ i. sel_l (mask i) (sx.is i) (sy.is i))
-          ∙ sel_of_maps (λ j. lt_z (f j) (g j)) (λ j. of_z w (p j)) (λ j. of_z w (q j)) indices
-          ∙ (λ i. map (λ j. either (lt_z (f j) (g j)) (p j) (q j) i) indices);
-      fits = λ j. chosen_fits (lt_z (f j) (g j)) (p j) (q j) (sx.fits j) (sy.fits j);
+          ∙ sel_of_maps m (λ j. of_z w (p j)) (λ j. of_z w (q j)) indices
+          ∙ (λ i. map (λ j. either (m j) (p j) (q j) i) indices);
+      fits = λ j. chosen_fits (m j) (p j) (q j) (sx.fits j) (sy.fits j);
     }
   where
     either : (t : Bool) (m n : ℤ) → cond t (of_z w m) (of_z w n) ≡ of_z w (cond t m n)
@@ -73,6 +79,21 @@ signed_chosen {w} {a} {b} {x} {y} {f} {g} {p} {q} sa sb sx sy =
     chosen_fits : (t : Bool) (m n : ℤ) → FitsSigned w m → FitsSigned w n → FitsSigned w (cond t m n)
     chosen_fits true m n fm fn = fm
     chosen_fits false m n fm fn = fn
+
+-- by which of two numbers is less
+pub signed_chosen : {w : Width} {a b x y : List ℕ} {f g p q : ℕ → ℤ} → IsSigned w a f → IsSigned w b g
+    → IsSigned w x p → IsSigned w y q
+    → IsSigned w (sel_l (map (top (hbits w)) (zip2 (λ m n. cond (lt_z (to_z w m) (to_z w n)) (2 ^ bits w - 1) 0) a b))
+    x y) (λ j. cond (lt_z (f j) (g j)) (p j) (q j))
+signed_chosen {w} {a} {b} {x} {y} {f} {g} {p} {q} sa sb sx sy =
+    signed_same (signed_by (λ m n. lt_z (to_z w m) (to_z w n)) sa sb sx sy) (λ j i.
+    cond (lt_z (to_z-of_z w (f j) (sa.fits j) i) (to_z-of_z w (g j) (sb.fits j) i)) (p j) (q j))
+
+-- a shift to the right
+pub signed_shr : {v : List ℕ} {f : ℕ → ℤ} (s : ℕ) → IsSigned w32 v f
+    → IsSigned w32 (zip2 (λ a b. of_z w32 (int_shr (to_z w32 a) b)) v (replicate 8 s)) (λ j. int_shr (f j) s)
+signed_shr {v} {f} s a =
+    grind (arith, common_steps, zip2_of_maps, splat_is_map, length-range_with_len, to_z-of_z, shifted_fits)
 
 -- what wrapping computes of two numbers in each lane
 wrapped_each : {v u : List ℕ} {f g : ℕ → ℤ} (op : ℕ → ℕ → ℕ) (z : ℤ → ℤ → ℤ)
@@ -134,15 +155,14 @@ pub product_exact : (z : ℤ) (q : ℕ) → unsigned_abs z ≤ 1095 / max q 1
 product_exact z q h = grind (arith, common_steps)
 
 -- a vector whose lanes are clamped to 16 bits
-pub clamped_lanes : (row : List ℤ) → length row ≡ 8 → ((j : ℕ) → FitsSigned w32 (lane row j))
-    → IsSigned w32 (sel_l (map (top 31) (zip2 (λ m n. cond (lt_z (to_z w32 m) (to_z w32 n)) 4294967295 0)
+pub clamped_lanes : (row : List ℤ) → AreLanes w32 row → IsSigned w32 (sel_l (map (top 31) (zip2 (λ m n. cond (lt_z (to_z w32 m) (to_z w32 n)) 4294967295 0)
     (sel_l (map (top 31) (zip2 (λ m n. cond (lt_z (to_z w32 m) (to_z w32 n)) 4294967295 0)
     (map (of_z w32) row) (replicate 8 4294934528))) (replicate 8 4294934528) (map (of_z w32) row))
     (replicate 8 32767)))
     (sel_l (map (top 31) (zip2 (λ m n. cond (lt_z (to_z w32 m) (to_z w32 n)) 4294967295 0)
     (map (of_z w32) row) (replicate 8 4294934528))) (replicate 8 4294934528) (map (of_z w32) row))
     (replicate 8 32767)) (λ j. kept (lane row j))
-clamped_lanes row long fits = search (rules, signed_given, signed_splat, signed_chosen)
+clamped_lanes row are = search (rules, signed_given, signed_splat, signed_chosen)
 
 -- where `simd_ge(0)` holds in each lane
 pub all_at_least : {v : List ℕ} {f : ℕ → ℤ} → IsSigned w16 v f
@@ -151,13 +171,12 @@ pub all_at_least : {v : List ℕ} {f : ℕ → ℤ} → IsSigned w16 v f
 all_at_least {v} {f} s full j h = search rules
 
 -- a row of a narrowed matrix
-pub narrowed_row : (row result : List ℤ) (f : ℕ → ℤ) → length row ≡ 8 → length result ≡ 8
-    → ((j : ℕ) → FitsSigned w32 (lane row j)) → ((j : ℕ) → FitsSigned w16 (lane result j))
-    → ((j : ℕ) → j < 8 → FitsSigned w16 (f j)) → row ≡ lanes f
+pub narrowed_row : (row result : List ℤ) (us ws : List Val) (f : ℕ → ℤ) → shadow (each ℤ (SInt w32).own_val row us)
+    → shadow (each ℤ (SInt w16).own_val result ws) → ((j : ℕ) → j < 8 → FitsSigned w16 (f j)) → row ≡ lanes f
     → (((j : ℕ) → j < 8 → FitsSigned w16 (lane (map (to_z w32) (map (of_z w32) row)) j))
     → result ≡ map (to_z w32) (map (of_z w32) row))
     → map (to_z w16) (map (of_z w16) result) ≡ lanes f
-narrowed_row row result f long eight wide narrow fits is told = search (rules, kept_lanes, kept_shorts, lane-lanes)
+narrowed_row row result us ws f wide narrow fits is told = search (rules, kept_words, kept_halves, lane-lanes)
 
 -- eight rows of eight make 64
 pub row_by_row : (P : ℕ → Type 0) → ((row j : ℕ) → row < 8 → j < 8 → P (row * 8 + j)) → (k : ℕ) → k < 64 → P k

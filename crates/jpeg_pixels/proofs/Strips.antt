@@ -1,7 +1,8 @@
 -- The lines of a row of blocks are written block by block.
-use Rattle.std.proofs.Common.{◌≡◌, ℕ, zero, suc, ◌+◌, ◌-◌, ◌*◌, ◌<◌, ◌≤◌, ◌/◌, ◌%◌, ℤ, List, length, get_or}
+use Rattle.std.proofs.Common.{◌≡◌, ℕ, zero, suc, ◌+◌, ◌-◌, ◌*◌, ◌<◌, ◌≤◌, ◌/◌, ◌%◌, ℤ, List, [], length, get_or}
 use Rattle.std.proofs.Common.{slice_index, slice_index_or, sym, ap, ◌∙◌, arith, rules}
 use Rattle.std.proofs.lemmas.List.FromFn.{fill_by_all}
+use Rattle.std.proofs.lemmas.List.{get_or_default}
 use Rattle.std.proofs.lemmas.Bool.{cases_lt}
 use Rattle.std.proofs.Math.Logic.{⊎_elim}
 use Rattle.std.proofs.Math.Nat.{mul_comm, mod-lt, mod-eq_of_lt, mul-le-mul_right, mul-add-div, mul-add-mod_self_left}
@@ -17,13 +18,8 @@ use Rattle.jpeg_pixels.proofs.PlaneRows.{some-left, line_lt}
 pub record HoldsSamples (lines stride columns : ℕ) (at : ℕ → ℕ → ℕ) (strip : List ℕ) : Type 0 where
   pub kept : (x y : ℕ) → x < columns → y < lines → slice_index strip (y * stride + x) ≡ at x y
 
--- the place of a block in a row
-pub block_has_room : (s column count room : ℕ) → 1 ≤ s → column < count → room ≡ s * s * count
-    → (s * column + s ≤ s * count) × (s * column ≤ room)
-block_has_room s column count room some h is = search (rules, mul-le-mul_right)
-
 -- one more block, written at the front of what begins at its first sample
-pub HoldsSamples-next : (s stride column k : ℕ) (at block_at : ℕ → ℕ → ℕ) (now new : List ℕ)
+HoldsSamples-next : (s stride column k : ℕ) (at block_at : ℕ → ℕ → ℕ) (now new : List ℕ)
     → s * column + s ≤ stride → s * column ≤ length now → k ≡ length now - s * column
     → ((x y : ℕ) → x < s → y < s → block_at x y ≡ at (s * column + x) y)
     → WritesBlock s s stride block_at (mid_of (s * column) k now) new
@@ -64,13 +60,28 @@ HoldsSamples-next s stride column k at block_at now new wide room whole same wri
         ∙ before.kept x (suc y) lt hy
 
 -- a block of a row is at its column
-pub block_in_row : (s : ℕ) (table : List ℕ) (blocks : List (List ℤ)) (column : ℕ) (block : List ℤ)
+block_in_row : (s : ℕ) (table : List ℕ) (blocks : List (List ℤ)) (column : ℕ) (block : List ℤ)
     → block ≡ slice_index_or blocks column zero_coefficients → (x y : ℕ) → x < s → y < s
     → sample_at s block table x y ≡ plane_sample s table (λ row index. slice_index_or blocks index
     zero_coefficients)
     (s * column + x) y
 block_in_row s table blocks column block is x y hx hy =
     search (rules, line_lt, mod-eq_of_lt, mul-add-div, mul-add-mod_self_left, slice_index_or)
+
+-- one more block of a row
+pub HoldsSamples-block : (s : ℕ) (table : List ℕ) (blocks : List (List ℤ)) (column k : ℕ) (now new : List ℕ) → 1 ≤ s
+    → column < length blocks → length now ≡ s * s * length blocks → k ≡ length now - s * column
+    → WritesBlock s s (s * length blocks) (sample_at s (slice_index_or blocks column []) table)
+    (mid_of (s * column) k now) new
+    → HoldsSamples s (s * length blocks) (s * column)
+    (plane_sample s table (λ row index. slice_index_or blocks index zero_coefficients)) now
+    → HoldsSamples s (s * length blocks) (s * (column + 1))
+    (plane_sample s table (λ row index. slice_index_or blocks index zero_coefficients)) (put_mid (s * column) k now new)
+HoldsSamples-block s table blocks column k now new some lt whole rest written before =
+    let room : (s * column + s ≤ s * length blocks) × (s * column ≤ length now) = search (rules, mul-le-mul_right) in
+    HoldsSamples-next s (s * length blocks) column k _ (sample_at s (slice_index_or blocks column []) table) now new
+    room.0 room.1 rest
+    (block_in_row s table blocks column _ (get_or_default blocks column [] zero_coefficients lt)) written before
 
 -- all columns
 pub HoldsSamples-all : (s : ℕ) (table : List ℕ) (blocks : List (List ℤ)) (strip : List ℕ)
