@@ -68,3 +68,5 @@ sum_down s m a d b e0 e1 e2 e3 = wrapped_eighths _ ∙ (λ i. eighths (e0 i +ℤ
 pub sum_across : (s : ℕ → ℕ → ℤ) (m a d b : ℤ) → m ≡ s 0 0 → a ≡ s 0 1 → d ≡ s 1 0 → b ≡ s 1 1
     → eighths (int_wrap w32 (m -ℤ a -ℤ (d -ℤ b))) ≡ scaled_sample s 1 1
 sum_across s m a d b e0 e1 e2 e3 = search (rules, neg_ℤ, wrapped_eighths)
+
+pub ruleset few = (four_samples, sum_across, sum_both, sum_down, sum_right)

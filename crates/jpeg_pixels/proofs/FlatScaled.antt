@@ -9,7 +9,7 @@ use Rattle.jpeg_pixels.specs.Scaled.{even_part, odd_part, column_by, signed, col
 use Rattle.jpeg_pixels.specs.Scaled.{sample_of_1}
 use Rattle.jpeg_pixels.specs.SmallBlocks.{four}
 use Rattle.jpeg_pixels.proofs.Fours.{column_by_same, row_sum, row_by_same}
-use Rattle.jpeg_pixels.proofs.FlatBlocks.{no_product, scaled}
+use Rattle.jpeg_pixels.proofs.FlatBlocks.{no_product, sample_first_only, scaled}
 use Rattle.std.proofs.lemmas.Bool.Decides.{nat_tests}
 
 -- a column of one number
@@ -80,3 +80,5 @@ pub quarter_first_only : (coefficients : List ℤ) (quantization : List ℕ) (x 
 unfolding sample_of_2
 quarter_first_only coefficients quantization x y first hx hy small =
     search (rules, int_wrap_fits, more_eighths, no_product, quarter_sum)
+
+pub ruleset flat = (sample_first_only, half_first_only, quarter_first_only, eighth_first_only)

@@ -1,7 +1,7 @@
 -- The transform of four numbers.
 use Rattle.std.proofs.Common.{◌≡◌, ℕ, ◌<◌, List, [], ◌∷◌, ℤ, pos, neg_ℤ, ◌+ℤ◌, ◌-ℤ◌, ◌*ℤ◌, slice_index_or, ap, ◌∙◌}
 use Rattle.std.proofs.Common.{arith, rules}
-use Rattle.std.proofs.lemmas.Int.{int_wrap-add_left}
+use Rattle.std.proofs.lemmas.Int.{int_wrap-add_left, to_z-of_z}
 use Rattle.std.specs.Int.{w32, int_wrap, int_shr}
 use Rattle.jpeg_pixels.specs.Scaled.{even_and_odd, even_part, odd_part, column_by}
 use Rattle.jpeg_pixels.specs.SmallBlocks.{four}
@@ -18,34 +18,6 @@ column_by_same s s0 s1 s2 s3 row e0 e1 e2 e3 = λ i. column_by (four (e0 i) (e1 
 entry_is : (xs : List ℤ) (f : ℕ → ℤ) (a b d e : ℤ) → xs ≡ a ∷ b ∷ d ∷ e ∷ [] → a ≡ f 0 → b ≡ f 1 → d ≡ f 2 → e ≡ f 3
     → (k : ℕ) → k < 4 → slice_index_or xs k (pos 0) ≡ f k
 entry_is xs f a b d e h1 h2 h3 h4 h5 k h6 = grind (arith, nat_tests, slice_index_or)
-
--- a sum and a difference, of which the first was wrapped
-sum_left : (x y a b : ℤ) → x ≡ int_wrap w32 a → y ≡ b → int_wrap w32 (x +ℤ y) ≡ int_wrap w32 (a +ℤ b)
-sum_left x y a b ex ey = (λ i. int_wrap w32 (ex i +ℤ ey i)) ∙ int_wrap-add_left w32 a b
-
-difference_left : (x y a b : ℤ) → x ≡ int_wrap w32 a → y ≡ b → int_wrap w32 (x -ℤ y) ≡ int_wrap w32 (a -ℤ b)
-difference_left x y a b ex ey = (λ i. int_wrap w32 (ex i -ℤ ey i)) ∙ int_wrap-add_left w32 a (neg_ℤ b)
-
--- what is rounded of a sum that was wrapped
-rounded_is : (t o z : ℤ) → o ≡ int_wrap w32 z → t ≡ int_shr (int_wrap w32 (o +ℤ pos 512)) 10 → t
-    ≡ int_shr (int_wrap w32 (z +ℤ pos 512)) 10
-rounded_is t o z eo et = search (rules, int_wrap-add_left)
-
--- what the four numbers of a column become
-pub column_is : (s0 s1 s2 s3 outer_even inner_even outer inner t u : ℤ) (xs : List ℤ)
-    → outer_even ≡ int_wrap w32 (pos 4 *ℤ (s0 +ℤ s2)) → inner_even ≡ int_wrap w32 (pos 4 *ℤ (s0 -ℤ s2))
-    → outer ≡ int_wrap w32 (pos 5352 *ℤ s1 +ℤ pos 2217 *ℤ s3) → inner ≡ int_wrap w32 (pos 2217 *ℤ s1 -ℤ pos 5350 *ℤ s3)
-    → t ≡ int_shr (int_wrap w32 (outer +ℤ pos 512)) 10 → u ≡ int_shr (int_wrap w32 (inner +ℤ pos 512)) 10
-    → xs ≡ int_wrap w32 (outer_even +ℤ t) ∷ int_wrap w32 (inner_even +ℤ u) ∷ int_wrap w32
-    (inner_even -ℤ u) ∷ int_wrap w32 (outer_even -ℤ t) ∷ []
-    → (row : ℕ) → row < 4 → slice_index_or xs row (pos 0) ≡ column_by (four s0 s1 s2 s3) row
-unfolding even_part odd_part
-column_is s0 s1 s2 s3 outer_even inner_even outer inner t u xs eo ei oo oi et eu is =
-    let t_is = rounded_is t outer _ oo et in
-    let u_is = rounded_is u inner _ oi eu in
-    entry_is xs (column_by (four s0 s1 s2 s3)) _ _ _ _ is
-    (sum_left outer_even t _ _ eo t_is) (sum_left inner_even u _ _ ei u_is)
-    (difference_left inner_even u _ _ ei u_is) (difference_left outer_even t _ _ eo t_is)
 
 -- a sum of a row, with its bias
 biased_is : (x y z : ℤ) → y ≡ int_wrap w32 z → x ≡ int_wrap w32 (pos 4096 *ℤ y +ℤ pos 16842752) → x
@@ -86,3 +58,5 @@ pub row_by_same : (s : ℕ → ℤ) (s0 s1 s2 s3 : ℤ) (x : ℕ) → s0 ≡ s 0
     → row_sum (four s0 s1 s2 s3) x ≡ row_sum s x
 unfolding even_part odd_part
 row_by_same s s0 s1 s2 s3 x e0 e1 e2 e3 = λ i. row_sum (four (e0 i) (e1 i) (e2 i) (e3 i)) x
+
+pub ruleset fours = (column_by_same, to_z-of_z)

@@ -125,3 +125,5 @@ pub whole-planes-have-room : (number precision width height : ℕ) (factors : Li
 unfolding frame_of
 whole-planes-have-room number precision width height factors planes range some_width some_height whole =
     search (rules, all-fit, have-room)
+
+pub ruleset frame_laws = (whole-planes-have-room, frames-are-covered)

@@ -76,3 +76,5 @@ pub row_fits : (p : Inside) (w : Work) (coefficients : List ℤ) → work_in p �
     → (p.written + p.scale * p.blocks_wide * (p.scale * p.rows) ≤ length p.samples.items) ×
     (length coefficients / 64 ≡ p.blocks_wide * p.rows)
 row_fits p w coefficients seen fits row = search (rules, length-take)
+
+pub ruleset growing = (common_steps, grown_fits, row_fits)

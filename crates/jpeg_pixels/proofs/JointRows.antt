@@ -143,3 +143,5 @@ samples-all shape samples slot lt long =
     let e : length samples ≡ shape.count * size = omega arith in
     ap (first_samples shape samples slot)
     (sym (ap (λ n. n / shape.count) e ∙ mul-div_cancel_left size some))
+
+pub ruleset strips = (common_steps, samples-more)

@@ -10,7 +10,7 @@ use Rattle.jpeg_pixels.specs.LaneRows.{lane_at, column_of, HasNumbers, IsTurned}
 use Rattle.jpeg_pixels.specs.Samples.{dequantized, transformed, column_value, is_flat_column}
 use Rattle.jpeg_pixels.proofs.Sums.{transformed_same}
 pub use Rattle.jpeg_pixels.proofs.Sums.{eight_cases}
-use Rattle.jpeg_pixels.proofs.LaneSums.{AreLanes, lane-lanes, lanes_same}
+use Rattle.jpeg_pixels.proofs.LaneSums.{AreLanes, kept_halves, kept_words, lane-lanes, lanes_same}
 use Rattle.jpeg_pixels.proofs.LaneChoice.{bits_zero}
 use Rattle.jpeg_pixels.proofs.ShortLanes.{IsSigned, signed_by, signed_given, signed_read, signed_shr, signed_splat}
 use Rattle.std.proofs.lemmas.Grind.{common_steps}
@@ -63,3 +63,6 @@ sums_numbers turned rows f numbers sums =
     (transformed_same (λ k. lane_at turned k y) (f y) x
     (λ k hk. lane_at_is turned (λ k j. f j k) numbers k y hk h))) in
     grind (arith, row, lit<)
+
+-- rows, read
+pub ruleset rows = (kept_words, kept_halves, eight_cases, lane-lanes)

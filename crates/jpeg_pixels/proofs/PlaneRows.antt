@@ -76,3 +76,5 @@ plane-more s table wide high block_at =
     let first : high + r ≡ high = omega arith in
     ap (λ n. block_at n c) first
     ∙ sym (get_or-map-range_with_len (block_at high) 0 wide c c zero_coefficients hc (omega arith)))))
+
+pub ruleset planes = (plane-none, plane-more, plane-joined, plane-same)

@@ -2,7 +2,7 @@
 use Rattle.std.proofs.lemmas.Grind.{common_steps}
 use Rattle.std.proofs.Common.{◌≡◌, ℕ, ◌+◌, ◌*◌, ◌^◌, ◌<◌, ℤ, pos, negsuc, ◌+ℤ◌, ◌-ℤ◌, ◌*ℤ◌, refl}
 use Rattle.std.proofs.Common.{ap, ◌∙◌, arith, Bool, true, ◌==◌, unsigned_abs, rules}
-use Rattle.std.proofs.lemmas.Int.{ints}
+use Rattle.std.proofs.lemmas.Int.{ints, to_z-of_z}
 use Rattle.std.proofs.lemmas.Bool.{cases_lt}
 use Rattle.std.specs.Int.{int_shr}
 use Rattle.std.specs.List.{list_all, range_with_len}
@@ -57,3 +57,5 @@ pub green_by_sum : (y cb cr : ℕ) → green_of y cb cr ≡ clamped (pos y +ℤ 
     (pos 524288 -ℤ pos 360857 *ℤ centred_of cb -ℤ pos 748830 *ℤ centred_of cr) 20)
 unfolding green_of
 green_by_sum y cb cr = grind (arith, ints, common_steps, shifted)
+
+pub ruleset short_colours = (red_by_short, blue_by_short, green_by_sum, to_z-of_z)

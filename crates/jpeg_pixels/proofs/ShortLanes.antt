@@ -188,3 +188,5 @@ row_by_row P each k h =
 pub limit_told : (z limit : ℤ) (q : ℕ) → limit ≡ pos (1095 / max q 1)
     → (IsLimit limit → pos (unsigned_abs z) ≤ℤ limit) → unsigned_abs z ≤ 1095 / max q 1
 limit_told z limit q e told = grind (arith, common_steps, unsigned_abs, div-le_self)
+
+pub ruleset narrow = (common_steps, narrowed_row)

@@ -84,3 +84,7 @@ alone (Generic h v) plane x row hx hr =
     let a : x / h ≡ 0 = ap (λ n. n / h) (let e : x ≡ 0 * h + x = omega arith in e) ∙ div-mul-add 0 h x hx in
     let b : row / v ≡ 0 = ap (λ n. n / v) (let e : row ≡ 0 * v + row = omega arith in e) ∙ div-mul-add 0 v row hr in
     λ i. plane (a i) (b i)
+
+pub ruleset firsts = (alone, first_across, first_down, first_corner, first_column, first_line)
+
+pub ruleset lasts = (last_across, last_down, last_corner, last_column, repeated)

@@ -110,3 +110,5 @@ pub spread_others : (xs ys was : List ℕ) (step first i v : ℕ) → first < st
     (x : ℕ) → x % step ≢ first → get_or ys x 0 ≡ get_or was x 0
 spread_others xs ys was step first i v some is before x between =
     grind (arith, common_steps, get_or, get_or-set_other, mod-mul-add)
+
+pub ruleset upsampled_rows = (as_h1v1, as_h2v1, as_h1v2, as_h2v2, in_front, length-take)

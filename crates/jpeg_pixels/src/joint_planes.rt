@@ -134,7 +134,7 @@ impl JointPlanes {
 
     /// Copies the plane of the component in a slot, once all rows were read. The only error is a
     /// refused allocation.
-    #[tactic(auto, using(crate::proofs::Rules::strips))]
+    #[tactic(auto, using(crate::proofs::JointRows::strips))]
     pub fn plane(&self, alloc: Global, slot: usize) -> std::result::Result<Vec<u8>, AllocError>
         requires small { HasFrameSizes self.now.shape }
         requires slot { slot < self.now.shape.count }
@@ -298,7 +298,7 @@ impl JointPicture {
 ///
 /// A transform that doesn't fit is `Format` or `Unsupported(ColorTransform(..))`, and a refused
 /// allocation `OutOfMemory`.
-#[tactic(auto, using(crate::proofs::Rules::joint_images))]
+#[tactic(auto, using(crate::proofs::Rules::images))]
 pub fn compute_joint_image(
     alloc: Global,
     components: &[Component],
@@ -338,7 +338,7 @@ pub fn compute_joint_image(
 /// Writes the picture of like components, whose planes are in one buffer, into memory that has
 /// exactly its bytes: the one that `compute_joint_image` returns, with its errors, after which
 /// nothing is written.
-#[tactic(auto, using(crate::proofs::Rules::joint_images))]
+#[tactic(auto, using(crate::proofs::Rules::images))]
 pub fn compute_joint_image_into(
     alloc: Global,
     components: &[Component],

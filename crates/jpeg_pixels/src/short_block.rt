@@ -171,7 +171,7 @@ fn narrowed(row: i32x8) -> i16x8
 }
 
 #[inline(always)]
-#[tactic(auto, using(crate::proofs::Rules::narrow))]
+#[tactic(auto, using(crate::proofs::ShortLanes::narrow))]
 fn narrowed_rows(rows: Rows) -> Shorts
     ensures { (f : ℕ → ℕ → ℤ) → ((k j : ℕ) → k < 8 → j < 8 → FitsSigned w16 (f k j))
         → HasNumbers rows f → HasShorts result f }
@@ -297,7 +297,7 @@ fn lines_within(coefficients: [i16; 64], table: &ShortTable) -> Shorts
 
 // The samples of the lines.
 #[inline(always)]
-#[tactic(auto, using(crate::proofs::Rules::shorts))]
+#[tactic(auto, using(crate::proofs::LaneRows::rows))]
 fn short_samples(lines: Shorts) -> [u8; 64]
     ensures { (f : ℕ → ℕ → ℤ) → HasShorts lines f
         → (x y : ℕ) → x < 8 → y < 8 → slice_index result (y * 8 + x) ≡ clamped (f y x) }
