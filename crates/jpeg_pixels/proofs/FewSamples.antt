@@ -1,6 +1,6 @@
 -- A few samples are written one by one.
-use Rattle.std.proofs.Common.{◌≡◌, ◌≢◌, ℕ, zero, suc, ◌+◌, ◌*◌, ◌<◌, ◌≤◌, ℤ, pos, neg_ℤ, ◌+ℤ◌, ◌-ℤ◌, List, length, set}
-use Rattle.std.proofs.Common.{get_or, slice_index, ap, ◌∙◌, arith, get_or-set_other, length-set, rules}
+use Rattle.std.proofs.Common.{◌≡◌, ◌≢◌, ℕ, zero, suc, ◌+◌, ◌*◌, ◌<◌, ◌≤◌, ℤ, pos, neg_ℤ, ◌+ℤ◌, ◌-ℤ◌, List, length}
+use Rattle.std.proofs.Common.{set, get_or, slice_index, ap, ◌∙◌, arith, get_or-set_other, length-set, rules}
 use Rattle.std.proofs.lemmas.Grind.{get_or-set_at}
 use Rattle.std.proofs.lemmas.Int.{int_wrap-add_left}
 use Rattle.std.specs.Int.{w32, int_wrap, int_shr}

@@ -1,16 +1,48 @@
--- Blocks of one coefficient, the first, at less than full size.
+-- Blocks of one coefficient, the first, at full size and at less.
 use Rattle.std.proofs.Common.{◌≡◌, ℕ, ◌<◌, ◌≤◌, List, ℤ, pos, negsuc, ◌+ℤ◌, ◌*ℤ◌, unsigned_abs, rules, refl, sym, ap}
-use Rattle.std.proofs.Common.{◌∙◌, arith, FitsSigned, lit<}
+use Rattle.std.proofs.Common.{◌∙◌, arith, FitsSigned, lit<, ◌*◌, ◌+◌, get_or, true}
 use Rattle.std.proofs.lemmas.Bool.{cases_lt}
 use Rattle.std.proofs.lemmas.Int.{ints, int_wrap_fits}
 use Rattle.std.specs.Int.{w32, int_shr, int_wrap}
-use Rattle.jpeg_pixels.specs.Samples.{dequantized, clamped, HasFirstOnly}
+use Rattle.jpeg_pixels.specs.Samples.{dequantized, clamped, HasFirstOnly, is_flat_column, is_zero_at, sample}
 use Rattle.jpeg_pixels.specs.Scaled.{even_part, odd_part, column_by, signed, column_of_4, sample_of_4, sample_of_2}
 use Rattle.jpeg_pixels.specs.Scaled.{sample_of_1}
 use Rattle.jpeg_pixels.specs.SmallBlocks.{four}
 use Rattle.jpeg_pixels.proofs.Fours.{column_by_same, row_sum, row_by_same}
-use Rattle.jpeg_pixels.proofs.FlatBlocks.{no_product, sample_first_only, scaled}
 use Rattle.std.proofs.lemmas.Bool.Decides.{nat_tests}
+use Rattle.std.proofs.Math.Logic.{⊎_elim}
+use Rattle.jpeg_bits.proofs.Ranges.{all_pass}
+use Rattle.jpeg_pixels.proofs.Sums.{flat_value, transformed_one}
+
+pub all_flat : (coefficients : List ℤ) (column : ℕ)
+    → ((k : ℕ) → k < 7 → is_zero_at coefficients column k ≡ true)
+    → is_flat_column coefficients column ≡ true
+unfolding is_flat_column
+all_flat coefficients column h = all_pass _ 0 7 (λ k l m. h k (omega arith))
+
+is_flat : (coefficients : List ℤ) (column : ℕ) → HasFirstOnly coefficients → column < 8
+    → is_flat_column coefficients column ≡ true
+is_flat coefficients column first h = search (rules, all_flat, unsigned_abs)
+
+-- each product but the first is 0
+pub no_product : (coefficients : List ℤ) (quantization : List ℕ) (row column : ℕ) → HasFirstOnly coefficients
+    → 0 < row * 8 + column → row * 8 + column < 64 → dequantized coefficients quantization row column ≡ pos 0
+unfolding dequantized
+no_product coefficients quantization row column first some h = search (rules, get_or)
+
+pub scaled : (p : ℤ) → clamped (int_shr (pos 4096 *ℤ (pos 4 *ℤ p) +ℤ pos 16842752) 17) ≡ clamped (int_shr (p +ℤ pos 4) 3
+    +ℤ pos 128)
+scaled (pos n) = omega arith
+scaled (negsuc n) = ⊎_elim (λ (s : n < 4). search rules) (λ (s : 4 ≤ n).
+    ⊎_elim (λ (l : n < 1028). search rules) (λ (l : 1028 ≤ n). search rules) (cases_lt n 1028)) (cases_lt n 4)
+
+pub sample_first_only : (coefficients : List ℤ) (quantization : List ℕ) (x y : ℕ) → HasFirstOnly coefficients → x < 8
+    → y < 8 → unsigned_abs (dequantized coefficients quantization 0 0) ≤ 65536
+    → sample coefficients quantization x y ≡ clamped (int_shr (dequantized coefficients quantization 0 0 +ℤ pos 4) 3
+    +ℤ pos 128)
+unfolding sample
+sample_first_only coefficients quantization x y first hx hy small =
+    search (rules, flat_value, int_wrap_fits, is_flat, no_product, transformed_one)
 
 -- a column of one number
 column_one : (v : ℤ) (row : ℕ) → row < 4 → column_by (four v (pos 0) (pos 0) (pos 0)) row ≡ int_wrap w32 (pos 4 *ℤ v)

@@ -1,7 +1,8 @@
 -- A plane that is being made, with one more row.
 use Rattle.std.proofs.lemmas.Grind.{common_steps}
 use Rattle.std.proofs.Common.{◌≡◌, ℕ, zero, suc, ◌+◌, ◌-◌, ◌*◌, ◌/◌, ◌<◌, ◌≤◌, ℤ, List, length, get_or, take, drop}
-use Rattle.std.proofs.Common.{replicate, slice_index_or, ap, ◌∙◌, arith, length-take, length-drop, length-append, rules}
+use Rattle.std.proofs.Common.{replicate, slice_index_or, ap, ◌∙◌, arith, length-take, length-drop, length-append}
+use Rattle.std.proofs.Common.{rules}
 use Rattle.std.proofs.Math.Seq.{drop-append-add, drop-append_seam}
 use Rattle.std.proofs.Math.Nat.{mul-le-mul_right}
 use Rattle.std.proofs.lemmas.List.{drop-replicate, with_items_is, drop-drop}
@@ -13,7 +14,7 @@ use Rattle.jpeg_pixels.specs.Workers.{Work, IsRowOf, block_in, grown}
 use Rattle.jpeg_pixels.specs.GrowingView.{work_in, IsGrowing}
 use Rattle.jpeg_pixels.specs.declared.growing_plane.GrowingPlane.TheInside.{Inside}
 use Rattle.jpeg_pixels.proofs.PlaneRows.{plane-same}
-use Rattle.jpeg_pixels.proofs.RowsOfBlocks.{take_next}
+use Rattle.jpeg_pixels.proofs.Strips.{take_next}
 
 -- the samples after a row was written after the first w
 put_length : (w size k : ℕ) (items strips : List ℕ) → k ≡ size → w + size ≤ length items → length strips ≡ size

@@ -1,6 +1,6 @@
 -- Rows of lanes, by their numbers.
-use Rattle.std.proofs.Common.{◌≡◌, ℕ, ◌<◌, List, map, ℤ, pos, ◌+ℤ◌, ◌*ℤ◌, refl, sym, ap, ◌∙◌, replicate}
-use Rattle.std.proofs.Common.{FitsSigned, of_z, to_z, cond, eqb, lit<, arith, rules}
+use Rattle.std.proofs.Common.{◌≡◌, ℕ, ◌<◌, List, map, ℤ, pos, ◌+ℤ◌, ◌*ℤ◌, refl, sym, ap, ◌∙◌, replicate, FitsSigned}
+use Rattle.std.proofs.Common.{of_z, to_z, cond, eqb, lit<, arith, rules}
 use Rattle.std.specs.Int.{w32, int_shr, int_wrap}
 use Rattle.std.proofs.lemmas.Int.{ints}
 use lib.Lanes.{zip2, sel_l, top}
@@ -8,10 +8,9 @@ use Rattle.jpeg_pixels.specs.declared.arch.Rows.{Rows}
 use Rattle.jpeg_pixels.specs.Lanes.{lanes, lane, lane_is_zero}
 use Rattle.jpeg_pixels.specs.LaneRows.{lane_at, column_of, HasNumbers, IsTurned}
 use Rattle.jpeg_pixels.specs.Samples.{dequantized, transformed, column_value, is_flat_column}
-use Rattle.jpeg_pixels.proofs.Sums.{transformed_same}
-pub use Rattle.jpeg_pixels.proofs.Sums.{eight_cases}
+use Rattle.jpeg_pixels.proofs.Sums.{eight_cases, transformed_same}
 use Rattle.jpeg_pixels.proofs.LaneSums.{AreLanes, kept_halves, kept_words, lane-lanes, lanes_same}
-use Rattle.jpeg_pixels.proofs.LaneChoice.{bits_zero}
+use Rattle.jpeg_pixels.proofs.Corners.{bits_zero}
 use Rattle.jpeg_pixels.proofs.ShortLanes.{IsSigned, signed_by, signed_given, signed_read, signed_shr, signed_splat}
 use Rattle.std.proofs.lemmas.Grind.{common_steps}
 

@@ -87,7 +87,17 @@ module _ (width : ℕ) (lines : List (List ℕ)) (out : List ℕ) (long : HaveWi
   unfolding line_bytes colour_of
   line-ycck four size red green blue black =
       by_pixels 4 width (λ x. colour_of converts.Ycck (samples lines x)) out (omega arith) (λ x. refl) size
-      (λ x k h lt. grind (arith, nat_tests, red x h, green x h, blue x h, black x h, sample 0 x h, sample 1 x h,
-      sample 2 x h, sample 3 x h))
+      (λ x k h lt. grind (
+        arith,
+        nat_tests,
+        red x h,
+        green x h,
+        blue x h,
+        black x h,
+        sample 0 x h,
+        sample 1 x h,
+        sample 2 x h,
+        sample 3 x h,
+      ))
 
 pub ruleset conversions = (line-none, line-rgb, line-ycbcr, line-cmyk, line-ycck)

@@ -1,15 +1,16 @@
--- Colours by products of 16 bits.
+-- Colours by products of 16 bits, and greys.
 use Rattle.std.proofs.lemmas.Grind.{common_steps}
-use Rattle.std.proofs.Common.{◌≡◌, ℕ, ◌+◌, ◌*◌, ◌^◌, ◌<◌, ℤ, pos, negsuc, ◌+ℤ◌, ◌-ℤ◌, ◌*ℤ◌, refl}
-use Rattle.std.proofs.Common.{ap, ◌∙◌, arith, Bool, true, ◌==◌, unsigned_abs, rules}
+use Rattle.std.proofs.Common.{◌≡◌, ℕ, ◌+◌, ◌*◌, ◌^◌, ◌<◌, ℤ, pos, negsuc, ◌+ℤ◌, ◌-ℤ◌, ◌*ℤ◌, refl, ap, ◌∙◌, arith}
+use Rattle.std.proofs.Common.{Bool, true, ◌==◌, unsigned_abs, rules, [], ◌∷◌}
 use Rattle.std.proofs.lemmas.Int.{ints, to_z-of_z}
 use Rattle.std.proofs.lemmas.Bool.{cases_lt}
 use Rattle.std.specs.Int.{int_shr}
 use Rattle.std.specs.List.{list_all, range_with_len}
 use Rattle.jpeg_bits.proofs.Ranges.{each_passes}
 use Rattle.jpeg_pixels.specs.Samples.{clamped}
-use Rattle.jpeg_pixels.specs.Colour.{centred_of, red_of, green_of, blue_of}
+use Rattle.jpeg_pixels.specs.Colour.{centred_of, red_of, green_of, blue_of, colour_of}
 use Rattle.jpeg_pixels.proofs.ZeroCases.{none_of}
+use Rattle.jpeg_pixels.specs.declared.upsampler.ColorConvert.TheVariants.{YCbCr}
 
 -- a brightness of y units may be added before a shift by 20 bits, or after it
 shifted : (y : ℕ) (z sum : ℤ) → sum ≡ pos (y * 2 ^ 20) +ℤ z
@@ -59,3 +60,11 @@ unfolding green_of
 green_by_sum y cb cr = grind (arith, ints, common_steps, shifted)
 
 pub ruleset short_colours = (red_by_short, blue_by_short, green_by_sum, to_z-of_z)
+
+pub grey : (y : ℕ) → y < 256 → colour_of YCbCr (y ∷ 128 ∷ 128 ∷ []) ≡ y ∷ y ∷ y ∷ []
+unfolding colour_of red_of green_of blue_of
+grey y h =
+    let red : red_of y 128 ≡ y = omega arith in
+    let green : green_of y 128 128 ≡ y = omega arith in
+    let blue : blue_of y 128 ≡ y = omega arith in
+    λ i. red i ∷ green i ∷ blue i ∷ []

@@ -1,7 +1,7 @@
 -- Lanes of signed numbers, as they are computed, chosen and read.
-use Rattle.std.proofs.Common.{◌≡◌, ℕ, ◌+◌, ◌-◌, ◌*◌, ◌%◌, ◌/◌, ◌^◌, ◌<◌, ◌≤◌, List, map, length, get_or, ℤ, pos, negsuc}
-use Rattle.std.proofs.Common.{◌+ℤ◌, ◌-ℤ◌, ◌*ℤ◌, ◌≤ℤ◌, ◌<ℤ◌, refl, ◌∙◌, replicate, FitsSigned, of_z, to_z, arith, Bool}
-use Rattle.std.proofs.Common.{true, false, not, cond, unsigned_abs, nat_eq, min, max, subst, rules}
+use Rattle.std.proofs.Common.{◌≡◌, ℕ, ◌+◌, ◌-◌, ◌*◌, ◌%◌, ◌/◌, ◌^◌, ◌<◌, ◌≤◌, List, map, length, get_or, ℤ, pos}
+use Rattle.std.proofs.Common.{negsuc, ◌+ℤ◌, ◌-ℤ◌, ◌*ℤ◌, ◌≤ℤ◌, ◌<ℤ◌, refl, ◌∙◌, replicate, FitsSigned, of_z, to_z}
+use Rattle.std.proofs.Common.{arith, Bool, true, false, not, cond, unsigned_abs, nat_eq, min, max, subst, rules}
 use Rattle.std.proofs.lemmas.Simd.{zip2_of_maps, splat_is_map, map-map, tops_compared}
 use Rattle.std.proofs.lemmas.List.FromFn.{length-range_with_len}
 use Rattle.std.proofs.lemmas.Int.{ints, to_z-of_z, int_wrap_fits, wrapping_add_is, by_lt_z, wrapping_sub_is}
@@ -18,7 +18,7 @@ use denote.Signed.{SInt}
 use borrow.Rule.Slice.PartMut.{mid_of}
 use Rattle.jpeg_pixels.specs.Lanes.{lanes, lane}
 use Rattle.jpeg_pixels.specs.ShortRows.{IsLimit}
-use Rattle.jpeg_pixels.proofs.LaneChoice.{sel_of_maps}
+use Rattle.jpeg_pixels.proofs.Corners.{sel_of_maps}
 use Rattle.jpeg_pixels.proofs.LaneSums.{AreLanes, loaded, kept_halves, kept_words, lane-lanes, own_lanes}
 use Rattle.jpeg_pixels.proofs.Residues.{shifted_fits}
 use Rattle.std.proofs.lemmas.Grind.{common_steps}

@@ -1,7 +1,7 @@
 -- The two passes of the transform in lanes of 16 bits, and why they are exact.
-use Rattle.std.proofs.Common.{◌≡◌, ℕ, ◌+◌, ◌*◌, ◌/◌, ◌<◌, ◌≤◌, List, map, ℤ, pos, negsuc, subst, ◌+ℤ◌, ◌*ℤ◌, refl, sym}
-use Rattle.std.proofs.Common.{ap, ◌∙◌, replicate, FitsSigned, of_z, to_z, arith, rules, Bool, true, false, unsigned_abs}
-use Rattle.std.proofs.Common.{lit<, lit≤, max, zero, suc}
+use Rattle.std.proofs.Common.{◌≡◌, ℕ, ◌+◌, ◌*◌, ◌/◌, ◌<◌, ◌≤◌, List, map, ℤ, pos, negsuc, subst, ◌+ℤ◌, ◌*ℤ◌, refl}
+use Rattle.std.proofs.Common.{sym, ap, ◌∙◌, replicate, FitsSigned, of_z, to_z, arith, rules, Bool, true, false}
+use Rattle.std.proofs.Common.{unsigned_abs, lit<, lit≤, max, zero, suc}
 use Rattle.std.proofs.lemmas.Simd.{zip2_of_maps, splat_is_map, map-map}
 use Rattle.std.proofs.lemmas.List.FromFn.{length-range_with_len}
 use Rattle.std.proofs.lemmas.Int.{ints, to_z-of_z, SFits-int_wrap, int_wrap_fits, unsigned_abs-mul}
@@ -15,11 +15,9 @@ use Rattle.jpeg_pixels.specs.Lanes.{lanes}
 use Rattle.jpeg_pixels.specs.Samples.{transformed, basis, sum_below, dequantized, column_value, is_flat_column}
 use Rattle.jpeg_pixels.specs.ShortRows.{HasShorts, HasShortZeros, HasShortProducts, line_value, short_column_of}
 use Rattle.jpeg_pixels.specs.ShortRows.{short_lane_at}
-use Rattle.jpeg_pixels.proofs.Columns.{other_value}
-use Rattle.jpeg_pixels.proofs.LaneRows.{eight_cases}
+use Rattle.jpeg_pixels.proofs.Sums.{other_value, transformed_same, eight_cases}
 use Rattle.jpeg_pixels.proofs.LaneSums.{lane-lanes, lanes_same}
 use Rattle.jpeg_pixels.proofs.Residues.{shifted_back}
-use Rattle.jpeg_pixels.proofs.Sums.{transformed_same}
 use Rattle.jpeg_pixels.proofs.ZeroCases.{zero_column}
 use Rattle.std.proofs.lemmas.Grind.{common_steps}
 

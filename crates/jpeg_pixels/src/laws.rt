@@ -151,7 +151,7 @@ pub fn known_blocks()
 {}
 
 /// Brightness without colour is grey: its red, green and blue are the brightness.
-#[tactic(auto, using(crate::proofs::Greys::grey))]
+#[tactic(auto, using(crate::proofs::ShortColours::grey))]
 pub fn grey_stays_grey()
     ensures { (y : ℕ) → y < 256 → colour_of YCbCr (y ∷ 128 ∷ 128 ∷ []) ≡ y ∷ y ∷ y ∷ [] }
 {}
@@ -171,7 +171,7 @@ pub fn known_colours()
 /// At its ends a component is not blended: a component of one sample is that sample everywhere, and
 /// the first and last samples of a row or a column are the component's own. Where it is made
 /// twice as wide and high, those of any row are blended from the two nearest lines alone.
-#[tactic(auto, using(crate::proofs::UpsampledEnds::firsts, crate::proofs::UpsampledEnds::lasts))]
+#[tactic(auto, using(crate::proofs::UpsampledRows::firsts, crate::proofs::UpsampledRows::lasts))]
 pub fn ends_are_kept()
     ensures alone { (rule : UpsampleRule) (plane : ℕ → ℕ → ℕ) (x row : ℕ) → x < across rule
         → row < down rule →

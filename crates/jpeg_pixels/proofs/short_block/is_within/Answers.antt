@@ -2,8 +2,9 @@ use Rattle.std.proofs.Common.{◌+◌, ◌*◌, ◌≤◌, ◌/◌, ℕ, ℤ, po
 use Rattle.std.specs.Prelude.{unsigned_abs, max}
 use Rattle.std.specs.Int.{w16}
 use Rattle.jpeg_pixels.proofs.LaneSums.{halves_are}
-use Rattle.jpeg_pixels.proofs.LaneRows.{eight_cases}
-use Rattle.jpeg_pixels.proofs.ShortLanes.{signed_given, signed_chosen, both_above, all_at_least, row_by_row, limit_told}
+use Rattle.jpeg_pixels.proofs.Sums.{eight_cases}
+use Rattle.jpeg_pixels.proofs.ShortLanes.{signed_given, signed_chosen, both_above, all_at_least, row_by_row}
+use Rattle.jpeg_pixels.proofs.ShortLanes.{limit_told}
 use Rattle.jpeg_pixels.proofs.short_block.is_within.Goals as goal
 
 pub returns : goal.returns

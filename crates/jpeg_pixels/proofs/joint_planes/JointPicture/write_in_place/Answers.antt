@@ -1,7 +1,6 @@
 use Rattle.std.proofs.Common.{ℕ, ◌+◌, ◌*◌, ◌≤◌, length, arith, rules, ◌∙◌, length-drop, length-take}
 use borrow.Rule.Slice.PartMut.{same_len_mid}
-use Rattle.jpeg_pixels.proofs.JointPictures.{lines-end, row-written}
-use Rattle.jpeg_pixels.proofs.JointPictures.{unread-more}
+use Rattle.jpeg_pixels.proofs.JointPictures.{lines-end, row-written, unread-more}
 use Rattle.jpeg_pixels.proofs.joint_planes.JointPicture.write_in_place.Goals as goal
 
 ends : (c : goal.After-min)
