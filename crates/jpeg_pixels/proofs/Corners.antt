@@ -188,12 +188,27 @@ pub corner_is : (coefficients : List ℤ) → ((j : ℕ) → FitsSigned w16 (get
     → IsInCorner coefficients
 corner_is coefficients fits tested = record {
   below = λ row column h h' l. let rows = lower column l in
-      grind (arith, nat_tests, none (32 + column) rows.first, none (40 + column) rows.second,
-      none (48 + column) rows.third, none (56 + column) rows.fourth);
+      grind (
+        arith,
+        nat_tests,
+        none (32 + column) rows.first,
+        none (40 + column) rows.second,
+        none (48 + column) rows.third,
+        none (56 + column) rows.fourth,
+      );
   right = λ row column h h' l. let rows = lower column l in let firsts = upper column h' l in
-      grind (arith, nat_tests, none (0 + column) firsts.first, none (8 + column) firsts.second,
-      none (16 + column) firsts.third, none (24 + column) firsts.fourth, none (32 + column) rows.first,
-      none (40 + column) rows.second, none (48 + column) rows.third, none (56 + column) rows.fourth);
+      grind (
+        arith,
+        nat_tests,
+        none (0 + column) firsts.first,
+        none (8 + column) firsts.second,
+        none (16 + column) firsts.third,
+        none (24 + column) firsts.fourth,
+        none (32 + column) rows.first,
+        none (40 + column) rows.second,
+        none (48 + column) rows.third,
+        none (56 + column) rows.fourth,
+      );
 }
   where
     none : (index : ℕ) → eqb (of_z w16 (get_or coefficients index (pos 0))) 0 ≡ true

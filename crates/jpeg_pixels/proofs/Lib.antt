@@ -1,15 +1,11 @@
-pub mod BlockRows
 pub mod Rules
 pub mod LaneRows
 pub mod LaneSums
 pub mod ShortColours
 pub mod ShortLanes
-pub mod ShortPasses
-pub mod MatrixRows
 pub mod Corners
 pub mod Residues
 pub mod Sums
-pub mod FewSamples
 pub mod FlatScaled
 pub mod Fours
 pub mod RuleRatios
@@ -20,7 +16,6 @@ pub mod CroppedLines
 pub mod GivenRows
 pub mod Growing
 pub mod JoinedLines
-pub mod JointRows
 pub mod JointPictures
 pub mod LinesOfColour
 pub mod PlaneRows

@@ -7,8 +7,7 @@ use Rattle.std.proofs.lemmas.List.Elements.{All-more, All-same}
 use Rattle.std.proofs.lemmas.Result.{err_from_is_err_and}
 use Rattle.jpeg_pixels.proofs.ComponentLines.{cover-lower, lines_of-length, lines_of-long}
 use Rattle.jpeg_pixels.proofs.JoinedLines.{all-lines, line-fits, lines-before, no-lines}
-use Rattle.jpeg_pixels.proofs.JointPictures.{all-written, strips-inside}
-use Rattle.jpeg_pixels.proofs.JointRows.{part-fits}
+use Rattle.jpeg_pixels.proofs.JointPictures.{all-written, strips-inside, part-fits}
 use Rattle.jpeg_pixels.proofs.WholePictures.{conversion-fits, image-no_conversion, image-no_sources, picture-more}
 use Rattle.jpeg_pixels.proofs.WholePictures.{picture-none, sources-count}
 use Rattle.jpeg_segments.proofs.Gathered.{gathers-all, gathers-none}

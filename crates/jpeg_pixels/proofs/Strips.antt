@@ -1,9 +1,10 @@
--- The lines of rows of blocks are written block by block, and row by row.
+-- A block is written row by row, and the lines of rows of blocks block by block.
 use Rattle.std.proofs.Common.{◌≡◌, ℕ, zero, suc, ◌+◌, ◌-◌, ◌*◌, ◌<◌, ◌≤◌, ◌/◌, ◌%◌, ℤ, List, [], length, get_or}
 use Rattle.std.proofs.Common.{slice_index, slice_index_or, sym, ap, ◌∙◌, arith, rules, ◌++◌, take, drop, map}
 use Rattle.std.proofs.Common.{length-take, length-drop}
 use Rattle.std.proofs.lemmas.List.FromFn.{fill_by_all, length-map-range_with_len, get_or-map-range_with_len}
-use Rattle.std.proofs.lemmas.List.{get_or_default, ext_get_or, get_or-take, get_or-drop}
+use Rattle.std.proofs.lemmas.List.{get_or_default, ext_get_or, get_or-take, get_or-drop, get_or-append-add}
+use Rattle.std.proofs.lemmas.List.{get_or_append_left, append-nil}
 use Rattle.std.proofs.lemmas.Bool.{cases_lt}
 use Rattle.std.proofs.Math.Logic.{⊎_elim}
 use Rattle.std.proofs.Math.Nat.{mul_comm, mod-lt, mod-eq_of_lt, mul-le-mul_right, mul-add-div, mul-add-mod_self_left}
@@ -12,11 +13,61 @@ use borrow.Rule.Slice.PartMut.{put_mid, mid_of}
 use Rattle.jpeg_pixels.specs.Scaled.{sample_at}
 use Rattle.jpeg_pixels.specs.Planes.{plane_of, plane_sample, strip_of, zero_coefficients}
 use Rattle.jpeg_pixels.specs.Blocks.{WritesBlock}
-use Rattle.jpeg_pixels.proofs.BlockRows.{put_tail_below, put_tail_at, tail_was}
 use Rattle.jpeg_pixels.proofs.PlaneRows.{some-left, line_lt, plane-more}
 use Rattle.std.proofs.lemmas.Grind.{common_steps}
-use Rattle.std.proofs.Math.Seq.{take-append_seam, take-append-add}
+use Rattle.std.proofs.Math.Seq.{take-append_seam, take-append-add, take-length}
 use Rattle.std.specs.List.{range_with_len}
+use Rattle.std.proofs.Math.ListN.{drop_of_length-le}
+
+-- a write to all from place a on: the places below a stay
+pub put_tail_below : (a k : ℕ) (xs ys : List ℕ) (i : ℕ) → a ≤ length xs → i < a
+    → get_or (put_mid a k xs ys) i 0 ≡ get_or xs i 0
+put_tail_below a k xs ys i le lt = search (rules, get_or-take, get_or_append_left, length-take)
+
+-- and from a on stands what was written
+pub put_tail_at : (a k : ℕ) (xs ys : List ℕ) (j : ℕ) → a ≤ length xs → k ≡ length xs - a
+    → get_or (put_mid a k xs ys) (a + j) 0 ≡ get_or ys j 0
+put_tail_at a k xs ys j le whole =
+    search (rules, append-nil, drop_of_length-le, get_or, get_or-append-add, length-drop, length-take)
+
+-- what was lent from place a on
+pub tail_was : (a k : ℕ) (xs : List ℕ) (j : ℕ) → k ≡ length xs - a → get_or (mid_of a k xs) j 0 ≡ get_or xs (a + j) 0
+tail_was a k xs j whole = grind (arith, common_steps, get_or, get_or-drop, length-drop, take-length)
+
+-- one more row, written at the front of what begins at its first place
+pub WritesBlock-next : (width y stride : ℕ) (sample_at : ℕ → ℕ → ℕ) (old now new : List ℕ) (k : ℕ) → width ≤ stride
+    → y * stride ≤ length now → k ≡ length now - y * stride
+    → ((x : ℕ) → x < width → slice_index new x ≡ sample_at x y)
+    → ((i : ℕ) → width ≤ i → slice_index new i ≡ slice_index (mid_of (y * stride) k now) i)
+    → WritesBlock width y stride sample_at old now
+    → WritesBlock width (y + 1) stride sample_at old (put_mid (y * stride) k now new)
+WritesBlock-next width y stride sample_at old now new k wide room whole written kept before = record {
+  inside = λ x r hx hr. by_row r hr
+      (λ lt. put_tail_below a k now new (r * stride + x) room (earlier r x lt (omega arith)) ∙ before.inside x r hx lt)
+      (λ e. ap (λ (m : ℕ). get_or (put_mid a k now new) (m * stride + x) 0) e ∙ put_tail_at a k now new x room whole
+      ∙ written x hx ∙ ap (sample_at x) (sym e));
+  right = λ x r hx hs hr. by_row r hr
+      (λ lt. put_tail_below a k now new (r * stride + x) room (earlier r x lt hs) ∙ before.right x r hx hs lt)
+      (λ e. ap (λ (m : ℕ). get_or (put_mid a k now new) (m * stride + x) 0) e ∙ put_tail_at a k now new x room whole
+      ∙ kept x hx ∙ tail_was a k now x whole
+      ∙ before.below (a + x) (omega arith) ∙ ap (λ (m : ℕ). get_or old (m * stride + x) 0) (sym e));
+  below = λ i hi.
+      let j = i - a in
+      let is : a + j ≡ i = omega arith in
+      let past : width ≤ j = omega arith in
+      ap (λ (m : ℕ). get_or (put_mid a k now new) m 0) (sym is) ∙ put_tail_at a k now new j room whole ∙ kept j past
+      ∙ tail_was a k now j whole
+      ∙ before.below (a + j) (omega arith) ∙ ap (λ (m : ℕ). get_or old m 0) is;
+}
+  where
+    a : ℕ
+    a = y * stride
+
+    earlier : (r x : ℕ) → r < y → x < stride → r * stride + x < y * stride
+    earlier r x lt hs = omega (arith, mul-le-mul_right stride lt)
+
+    by_row : {P : Type 0} (r : ℕ) → r < y + 1 → (r < y → P) → (r ≡ y → P) → P
+    by_row r hr f g = ⊎_elim f (λ le. g (omega arith)) (cases_lt r y)
 
 -- the first columns of samples of some lines
 pub record HoldsSamples (lines stride columns : ℕ) (at : ℕ → ℕ → ℕ) (strip : List ℕ) : Type 0 where

@@ -134,7 +134,7 @@ impl JointPlanes {
 
     /// Copies the plane of the component in a slot, once all rows were read. The only error is a
     /// refused allocation.
-    #[tactic(auto, using(crate::proofs::JointRows::strips))]
+    #[tactic(auto, using(crate::proofs::JointPictures::strips))]
     pub fn plane(&self, alloc: Global, slot: usize) -> std::result::Result<Vec<u8>, AllocError>
         requires small { HasFrameSizes self.now.shape }
         requires slot { slot < self.now.shape.count }

@@ -28,8 +28,13 @@ returns-then-is_zero-clause-inside c = λ x h.
     let fits : FitsSigned w32 first = search rules in
     let zeros = c.if-is_zero.ensures.0 refl in
     let none : (k : ℕ) → 0 < k → k < 8 → slice_index_or values k (pos 0) ≡ pos 0 = λ k some small.
-    grind (arith, common_steps, zeros (k - 1) (pos 0), get_or-take 7 (drop 1 values) (k - 1) (pos 0),
-    get_or-drop 1 values (k - 1) (pos 0)) in
+    grind (
+      arith,
+      common_steps,
+      zeros (k - 1) (pos 0),
+      get_or-take 7 (drop 1 values) (k - 1) (pos 0),
+      get_or-drop 1 values (k - 1) (pos 0),
+    ) in
     c.loop-x.invariant.0 x below ∙ c.sample_of-sample.ensures
     ∙ ap (λ z. clamped (int_shr z 17)) (wrapped_flat first 16842752 fits (lit< tt)
     ∙ ap (λ z. int_wrap w32 (z +ℤ pos 16842752)) (sym (transformed_one (λ k. slice_index_or values k (pos 0)) x h

@@ -2,7 +2,7 @@ use Rattle.std.proofs.Common.{◌≤◌, ◌*◌, ◌-◌, pos, length, slice_in
 use Rattle.std.proofs.Math.Nat.{mul-le-mul_right}
 use Rattle.std.proofs.lemmas.Int.{to_z-of_z}
 use Rattle.std.specs.Int.{w32, int_shr}
-use Rattle.jpeg_pixels.proofs.BlockRows.{WritesBlock-next}
+use Rattle.jpeg_pixels.proofs.Strips.{WritesBlock-next}
 use Rattle.jpeg_pixels.proofs.Fours.{row_by_same}
 use Rattle.jpeg_pixels.specs.Samples.{clamped}
 use Rattle.jpeg_pixels.specs.Scaled.{column_of_4, sample_of_4}

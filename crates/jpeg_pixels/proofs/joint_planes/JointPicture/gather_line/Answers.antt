@@ -1,5 +1,5 @@
 use Rattle.std.proofs.Common.{refl, arith, rules}
-use Rattle.jpeg_pixels.proofs.JointRows.{joined-put, strip_line}
+use Rattle.jpeg_pixels.proofs.JointPictures.{joined-put, strip_line}
 use Rattle.jpeg_pixels.proofs.joint_planes.JointPicture.gather_line.Goals as goal
 
 pub loop-slot-preserved : goal.loop-slot-preserved

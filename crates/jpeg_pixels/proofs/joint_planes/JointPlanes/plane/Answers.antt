@@ -1,6 +1,6 @@
 use Rattle.std.proofs.Common.{arith, rules}
 use Rattle.jpeg_pixels.specs.JointPlanes.{strip_size}
-use Rattle.jpeg_pixels.proofs.JointRows.{part-fits, samples-all}
+use Rattle.jpeg_pixels.proofs.JointPictures.{part-fits, samples-all}
 use Rattle.jpeg_pixels.proofs.joint_planes.JointPlanes.plane.Goals as goal
 
 pub slice_bounds-extend_from_slice-end : goal.slice_bounds-extend_from_slice-end
