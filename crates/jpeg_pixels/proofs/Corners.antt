@@ -4,11 +4,9 @@ use Rattle.std.proofs.Common.{FitsSigned, of_z, arith, true, ◌==◌, unsigned_
 use Rattle.std.proofs.Common.{◌∷◌, [], nat_eq, lit≤, lit<, rules, negsuc, refl, to_z, Bool, false, ◌&&◌}
 use Rattle.std.proofs.lemmas.Int.{ints, int_wrap_fits, to_z-of_z}
 use Rattle.std.proofs.lemmas.Simd.{bitmask_splat, bit_mask_l, map-map, get_or-chunk, length-chunk, zip2_of_maps}
-use Rattle.std.proofs.lemmas.Simd.{splat_is_map, tops_compared}
 use Rattle.std.proofs.lemmas.Bool.{and_parts, eqb-true}
 use Rattle.std.proofs.lemmas.List.FromFn.{fill_by_all, length-map-range_with_len, get_or-map-range_with_len}
-use Rattle.std.proofs.lemmas.List.FromFn.{length-range_with_len}
-use Rattle.std.specs.Int.{w16, w32, int_wrap, int_shr}
+use Rattle.std.specs.Int.{w16, w32, int_wrap}
 use Rattle.std.specs.Int.Bits.{bit_or}
 use lib.Lanes.{zip2, mask_l, top, pick_l, chunk, sel_l}
 use Rattle.jpeg_pixels.specs.declared.arch.Rows.{Rows}
@@ -23,10 +21,9 @@ use Rattle.std.proofs.lemmas.Bool.Decides.{eqb_tells, leb_tells, nat_tests}
 use Rattle.std.proofs.Math.Logic.{⊎_elim}
 use Rattle.std.specs.List.{range_with_len}
 use Rattle.std.proofs.Math.Bool.{and_assoc, and-true}
-use Rattle.std.specs.Prelude.{if◌then◌else◌}
 use Rattle.std.proofs.lemmas.Nat.{le_or_l}
 use borrow.Rule.Slice.PartMut.{mid_of}
-use Rattle.jpeg_pixels.specs.Lanes.{lanes, lane, lane_is_zero}
+use Rattle.jpeg_pixels.specs.Lanes.{lane_is_zero}
 
 pub sel_of_maps : {A : Type 0} (m : ℕ → Bool) (f g : ℕ → A) (indices : List ℕ)
     → sel_l (map m indices) (map f indices) (map g indices) ≡ map (λ j. cond (m j) (f j) (g j))

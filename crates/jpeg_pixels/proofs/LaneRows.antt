@@ -1,5 +1,5 @@
 -- Rows of lanes, by their numbers.
-use Rattle.std.proofs.Common.{◌≡◌, ℕ, ◌<◌, List, map, ℤ, pos, ◌+ℤ◌, ◌*ℤ◌, refl, sym, ap, ◌∙◌, replicate, FitsSigned}
+use Rattle.std.proofs.Common.{◌≡◌, ℕ, ◌<◌, List, map, ℤ, pos, ◌+ℤ◌, ◌*ℤ◌, refl, ap, ◌∙◌, replicate}
 use Rattle.std.proofs.Common.{of_z, to_z, cond, eqb, lit<, arith, rules}
 use Rattle.std.specs.Int.{w32, int_shr, int_wrap}
 use Rattle.std.proofs.lemmas.Int.{ints}

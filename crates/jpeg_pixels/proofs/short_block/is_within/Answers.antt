@@ -1,6 +1,5 @@
 use Rattle.std.proofs.Common.{◌+◌, ◌*◌, ◌≤◌, ◌/◌, ℕ, ℤ, pos, arith, rules, slice_index_or, slice_index}
 use Rattle.std.specs.Prelude.{unsigned_abs, max}
-use Rattle.std.specs.Int.{w16}
 use Rattle.jpeg_pixels.proofs.LaneSums.{halves_are}
 use Rattle.jpeg_pixels.proofs.Sums.{eight_cases}
 use Rattle.jpeg_pixels.proofs.ShortLanes.{signed_given, signed_chosen, both_above, all_at_least, row_by_row}
