@@ -44,9 +44,6 @@ bits_zero (negsuc n) f = apart (4294967296 - suc n) (omega (arith, f.sfits)) ∙
 pub or_zero : (a b : ℕ) → eqb (bit_or a b) 0 ≡ (eqb a 0 && eqb b 0)
 or_zero a b = grind (arith, nat_tests, apart, le_or_l)
 
-pub or_both : (a b : ℕ) {s t : Bool} → eqb a 0 ≡ s → eqb b 0 ≡ t → eqb (bit_or a b) 0 ≡ (s && t)
-or_both a b e f = or_zero a b ∙ (λ i. e i && f i)
-
 -- the bits of an `i16`, and an `i16` from its bits
 pub half_zero : (z : ℤ) → FitsSigned w16 z → eqb (of_z w16 z) 0 ≡ (unsigned_abs z == 0)
 half_zero (pos n) f = refl
@@ -102,10 +99,7 @@ below_is coefficients long fits v rows j h =
     ∙ ap (λ y. unsigned_abs y == 0) (get_or-map-range_with_len (λ i. to_z w32 (of_z w32 (to_z w16 (n i)))) 0 8 j j
     (pos 0) h (omega arith))
     ∙ read_zero (n j)
-    ∙ or_both _ (bits 56) (or_both _ (bits 48)
-    (or_both _ (bits 40) (or_both _ (bits 32) (or_both _ (bits 24) (or_both (bits 8) (bits 16) (z 8) (z 16)) (z 24))
-    (z 32)) (z 40)) (z 48)) (z 56)
-    ∙ simp (and_assoc, and-true)
+    ∙ simp (or_zero, z 8, z 16, z 24, z 32, z 40, z 48, z 56, and_assoc, and-true)
 
 -- rows whose last four have only zeros
 pub zero_rows : (rows : Rows) (f : ℕ → ℕ → ℤ) → HasNumbers rows f

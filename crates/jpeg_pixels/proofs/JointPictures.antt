@@ -6,8 +6,7 @@ use Rattle.std.proofs.Common.{slice_index, length-append}
 use Rattle.std.proofs.Math.Nat.{add-mul, lt_of_mul-lt-mul_left, mod-lt, mul_assoc, mul-div_cancel_left, mul-le-mul}
 use Rattle.std.proofs.Math.Nat.{mul-le-mul_left, mul-le-mul_right}
 use Rattle.std.proofs.lemmas.Bool.{eq-eqb}
-use Rattle.std.proofs.lemmas.List.{drop-drop, get_or-drop, length-take-le, places, append-nil}
-use Rattle.std.proofs.lemmas.List.{get_or-take}
+use Rattle.std.proofs.lemmas.List.{drop-drop, get_or-drop, length-take-le, places, append-nil, get_or-take}
 use Rattle.std.proofs.lemmas.List.Folds.{concat-append}
 use Rattle.std.proofs.lemmas.List.FromFn.{get_or-map-range_with_len, length-map-range_with_len}
 use Rattle.std.proofs.lemmas.List.FromFn.{map-range_with_len_more}

@@ -1,5 +1,4 @@
 pub mod Rules
-pub mod LaneRows
 pub mod LaneSums
 pub mod ShortColours
 pub mod ShortLanes
@@ -12,7 +11,6 @@ pub mod RuleRatios
 pub mod FrameCovers
 pub mod FramesOfFactors
 pub mod ComponentLines
-pub mod CroppedLines
 pub mod GivenRows
 pub mod Growing
 pub mod JoinedLines
@@ -24,4 +22,3 @@ pub mod Strips
 pub mod UpsampledRows
 pub mod WholePictures
 pub mod ZeroCases
-pub mod ZigzagIndices

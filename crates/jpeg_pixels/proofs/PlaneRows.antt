@@ -1,6 +1,6 @@
 -- A plane at a scale by its rows of blocks.
-use Rattle.std.proofs.Common.{◌≡◌, ℕ, zero, suc, ◌+◌, ◌*◌, ◌<◌, ◌/◌, ◌%◌, ℤ, List, [], ◌++◌, length, get_or}
-use Rattle.std.proofs.Common.{map, sym, ap, ◌∙◌, arith, rules}
+use Rattle.std.proofs.Common.{◌≡◌, ℕ, zero, suc, ◌+◌, ◌*◌, ◌<◌, ◌/◌, ◌%◌, ℤ, List, [], ◌++◌, length, get_or, map, sym}
+use Rattle.std.proofs.Common.{ap, ◌∙◌, arith, rules}
 use Rattle.std.proofs.lemmas.List.FromFn.{fill_by_all, length-map-range_with_len, get_or-map-range_with_len}
 use Rattle.std.proofs.Math.Nat.{mul_comm, mul-add, div-lt_iff_lt-mul, mod-lt, mul-add-div, mul-add-mod_self_left}
 use Rattle.std.specs.List.{range_with_len}

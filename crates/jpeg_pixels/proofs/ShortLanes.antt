@@ -1,8 +1,8 @@
--- Lanes of signed numbers, as they are computed, chosen and read, and the two passes in lanes of 16 bits.
+-- Lanes of signed numbers, as they are computed, chosen and read, rows of them, and the passes in 16 bits.
 use Rattle.std.proofs.Common.{◌≡◌, ℕ, ◌+◌, ◌-◌, ◌*◌, ◌%◌, ◌/◌, ◌^◌, ◌<◌, ◌≤◌, List, map, length, get_or, ℤ, pos}
 use Rattle.std.proofs.Common.{negsuc, ◌+ℤ◌, ◌-ℤ◌, ◌*ℤ◌, ◌≤ℤ◌, ◌<ℤ◌, refl, ◌∙◌, replicate, FitsSigned, of_z, to_z}
 use Rattle.std.proofs.Common.{arith, Bool, true, false, not, cond, unsigned_abs, nat_eq, min, max, subst, rules, sym}
-use Rattle.std.proofs.Common.{ap, lit<, lit≤, zero, suc}
+use Rattle.std.proofs.Common.{ap, lit<, lit≤, zero, suc, eqb}
 use Rattle.std.proofs.lemmas.Simd.{zip2_of_maps, splat_is_map, map-map, tops_compared}
 use Rattle.std.proofs.lemmas.List.FromFn.{length-range_with_len}
 use Rattle.std.proofs.lemmas.Int.{ints, to_z-of_z, int_wrap_fits, wrapping_add_is, by_lt_z, wrapping_sub_is}
@@ -17,10 +17,10 @@ use denote.Array.{each}
 use denote.Shadow.{shadow}
 use denote.Signed.{SInt}
 use borrow.Rule.Slice.PartMut.{mid_of}
-use Rattle.jpeg_pixels.specs.Lanes.{lanes, lane}
+use Rattle.jpeg_pixels.specs.Lanes.{lanes, lane, lane_is_zero}
 use Rattle.jpeg_pixels.specs.ShortRows.{IsLimit, HasShorts, HasShortZeros, HasShortProducts, line_value}
 use Rattle.jpeg_pixels.specs.ShortRows.{short_column_of, short_lane_at}
-use Rattle.jpeg_pixels.proofs.Corners.{sel_of_maps}
+use Rattle.jpeg_pixels.proofs.Corners.{sel_of_maps, bits_zero}
 use Rattle.jpeg_pixels.proofs.LaneSums.{AreLanes, loaded, kept_halves, kept_words, lane-lanes, own_lanes, lanes_same}
 use Rattle.jpeg_pixels.proofs.Residues.{shifted_fits, shifted_back}
 use Rattle.std.proofs.lemmas.Grind.{common_steps}
@@ -29,6 +29,8 @@ use Rattle.jpeg_pixels.specs.declared.short_block.Shorts.{Shorts}
 use Rattle.jpeg_pixels.specs.Samples.{transformed, basis, sum_below, dequantized, column_value, is_flat_column}
 use Rattle.jpeg_pixels.proofs.Sums.{other_value, transformed_same, eight_cases}
 use Rattle.jpeg_pixels.proofs.ZeroCases.{zero_column}
+use Rattle.jpeg_pixels.specs.declared.arch.Rows.{Rows}
+use Rattle.jpeg_pixels.specs.LaneRows.{lane_at, column_of, HasNumbers, IsTurned}
 
 -- in each of eight lanes stand the bits of a number of this width
 pub record IsSigned (w : Width) (v : List ℕ) (f : ℕ → ℤ) : Type 0 where
@@ -345,3 +347,55 @@ line_row f columns numbers x v e =
     ∙ lanes_same _ _ (λ y h.
     ap (λ z. int_shr (int_wrap w32 (z +ℤ pos 16842752)) 17) (transformed_same (λ k. short_lane_at columns k y) (f y) x
     (λ k hk. short_lane_is columns (λ column row. f row column) numbers k y hk h)))
+
+pub lane_at_is : (rows : Rows) (f : ℕ → ℕ → ℤ) → HasNumbers rows f → (k j : ℕ) → k < 8 → j < 8
+    → lane_at rows k j ≡ f k j
+lane_at_is rows f e k j hk hj = search (rules, eight_cases, lane-lanes)
+
+module _ (coefficients : List ℤ) (quantization : List ℕ) (rows : Rows) (flat below : List ℤ)
+    (is_flat : AreLanes w32 flat) (is_below : AreLanes w32 below)
+    (zero_where : (j : ℕ) → j < 8 → lane_is_zero below j ≡ is_flat_column coefficients j)
+    (flat_is : flat
+    ≡ lanes (λ j. int_wrap w32 (pos 4 *ℤ dequantized coefficients quantization 0 j)))
+    (products : HasNumbers rows (dequantized coefficients quantization)) where
+  -- a row of the columns' values, as the kernel chooses it
+  pub column_row : (row : ℕ) (sums : List ℤ) → AreLanes w32 sums
+      → sums ≡ lanes (λ j. int_wrap w32 (transformed (λ k. lane_at rows k j) row +ℤ pos 512))
+      → map (to_z w32) (sel_l (map (top 31) (zip2 (λ a b. cond (eqb a b) 4294967295 0)
+      (map (of_z w32) below)
+      (replicate 8 0))) (map (of_z w32) flat)
+      (zip2 (λ a b. of_z w32 (int_shr (to_z w32 a) b)) (map (of_z w32) sums) (replicate 8 10)))
+      ≡ lanes (λ j. column_value coefficients quantization row j)
+  unfolding column_value
+  column_row row sums is_sums sums_are =
+      let zeros : IsSigned w32 (replicate 8 0) (λ _. pos 0) = signed_splat w32 0 (pos 0) refl (omega (arith, ints)) in
+      signed_read (signed_by eqb (signed_given is_below) zeros (signed_given is_flat)
+      (signed_shr 10 (signed_given is_sums)))
+      ∙ lanes_same _ _ (λ j h.
+      let zero = bits_zero (lane below j) (is_below.fits j) ∙ zero_where j h in
+      let sum = lane-lanes sums _ sums_are j h ∙ ap (λ z. int_wrap w32 (z +ℤ pos 512))
+      (transformed_same _ _ row (λ k hk. lane_at_is rows _ products k j hk h)) in
+      λ i. cond (zero i) (lane-lanes flat _ flat_is j h i) (int_shr (sum i) 10))
+
+rows_column : (rows : Rows) (f : ℕ → ℕ → ℤ) → HasNumbers rows f → (k : ℕ) → k < 8 → column_of rows k ≡ lanes (λ j. f j k)
+unfolding lanes
+rows_column rows f e k h = search (rules, lane-lanes)
+
+pub turned_numbers : (rows turned : Rows) (f : ℕ → ℕ → ℤ) → HasNumbers rows f → IsTurned rows turned
+    → HasNumbers turned (λ k j. f j k)
+turned_numbers rows turned f e t = grind (arith, common_steps, rows_column, lit<)
+
+-- the sums of rows that stand turned, where their numbers are known
+pub sums_numbers : (turned rows : Rows) (f : ℕ → ℕ → ℤ) → HasNumbers turned (λ k j. f j k)
+    → HasNumbers rows (λ y x. int_wrap w32 (transformed (λ k. lane_at turned k y) x +ℤ pos 16842752))
+    → HasNumbers rows (λ y x. int_wrap w32 (transformed (f y) x +ℤ pos 16842752))
+sums_numbers turned rows f numbers sums =
+    let row = λ (y : ℕ) (h : y < 8). lanes_same
+    (λ x. int_wrap w32 (transformed (λ k. lane_at turned k y) x +ℤ pos 16842752))
+    (λ x. int_wrap w32 (transformed (f y) x +ℤ pos 16842752)) (λ x _. ap (λ z. int_wrap w32 (z +ℤ pos 16842752))
+    (transformed_same (λ k. lane_at turned k y) (f y) x
+    (λ k hk. lane_at_is turned (λ k j. f j k) numbers k y hk h))) in
+    grind (arith, row, lit<)
+
+-- rows, read
+pub ruleset rows = (kept_words, kept_halves, eight_cases, lane-lanes)

@@ -1,4 +1,4 @@
--- A block is written row by row, and the lines of rows of blocks block by block.
+-- A block is written row by row, the lines of rows of blocks block by block, and lines are moved together.
 use Rattle.std.proofs.Common.{◌≡◌, ℕ, zero, suc, ◌+◌, ◌-◌, ◌*◌, ◌<◌, ◌≤◌, ◌/◌, ◌%◌, ℤ, List, [], length, get_or}
 use Rattle.std.proofs.Common.{slice_index, slice_index_or, sym, ap, ◌∙◌, arith, rules, ◌++◌, take, drop, map}
 use Rattle.std.proofs.Common.{length-take, length-drop}
@@ -8,15 +8,15 @@ use Rattle.std.proofs.lemmas.List.{get_or_append_left, append-nil}
 use Rattle.std.proofs.lemmas.Bool.{cases_lt}
 use Rattle.std.proofs.Math.Logic.{⊎_elim}
 use Rattle.std.proofs.Math.Nat.{mul_comm, mod-lt, mod-eq_of_lt, mul-le-mul_right, mul-add-div, mul-add-mod_self_left}
-use Rattle.std.proofs.Math.Nat.{div-add-mod}
+use Rattle.std.proofs.Math.Nat.{div-add-mod, mul-le-mul_left, div-lt_iff_lt-mul}
 use borrow.Rule.Slice.PartMut.{put_mid, mid_of}
 use Rattle.jpeg_pixels.specs.Scaled.{sample_at}
-use Rattle.jpeg_pixels.specs.Planes.{plane_of, plane_sample, strip_of, zero_coefficients}
+use Rattle.jpeg_pixels.specs.Planes.{plane_of, plane_sample, strip_of, zero_coefficients, cropped}
 use Rattle.jpeg_pixels.specs.Blocks.{WritesBlock}
 use Rattle.jpeg_pixels.proofs.PlaneRows.{some-left, line_lt, plane-more}
 use Rattle.std.proofs.lemmas.Grind.{common_steps}
 use Rattle.std.proofs.Math.Seq.{take-append_seam, take-append-add, take-length}
-use Rattle.std.specs.List.{range_with_len}
+use Rattle.std.specs.List.{range_with_len, CopiedTo, SameBelow, SameFrom}
 use Rattle.std.proofs.Math.ListN.{drop_of_length-le}
 
 -- a write to all from place a on: the places below a stay
@@ -35,13 +35,13 @@ pub tail_was : (a k : ℕ) (xs : List ℕ) (j : ℕ) → k ≡ length xs - a →
 tail_was a k xs j whole = grind (arith, common_steps, get_or, get_or-drop, length-drop, take-length)
 
 -- one more row, written at the front of what begins at its first place
-pub WritesBlock-next : (width y stride : ℕ) (sample_at : ℕ → ℕ → ℕ) (old now new : List ℕ) (k : ℕ) → width ≤ stride
-    → y * stride ≤ length now → k ≡ length now - y * stride
+pub WritesBlock-next : (width last y stride : ℕ) (sample_at : ℕ → ℕ → ℕ) (old now new : List ℕ) (k : ℕ) → width ≤ stride
+    → y ≤ last → last * stride ≤ length now → k ≡ length now - y * stride
     → ((x : ℕ) → x < width → slice_index new x ≡ sample_at x y)
     → ((i : ℕ) → width ≤ i → slice_index new i ≡ slice_index (mid_of (y * stride) k now) i)
     → WritesBlock width y stride sample_at old now
     → WritesBlock width (y + 1) stride sample_at old (put_mid (y * stride) k now new)
-WritesBlock-next width y stride sample_at old now new k wide room whole written kept before = record {
+WritesBlock-next width last y stride sample_at old now new k wide low enough whole written kept before = record {
   inside = λ x r hx hr. by_row r hr
       (λ lt. put_tail_below a k now new (r * stride + x) room (earlier r x lt (omega arith)) ∙ before.inside x r hx lt)
       (λ e. ap (λ (m : ℕ). get_or (put_mid a k now new) (m * stride + x) 0) e ∙ put_tail_at a k now new x room whole
@@ -60,6 +60,9 @@ WritesBlock-next width y stride sample_at old now new k wide room whole written 
       ∙ before.below (a + j) (omega arith) ∙ ap (λ (m : ℕ). get_or old m 0) is;
 }
   where
+    room : y * stride ≤ length now
+    room = omega (arith, mul-le-mul_right stride low)
+
     a : ℕ
     a = y * stride
 
@@ -206,3 +209,57 @@ row_has_room s wide row rows room count h is e =
     (arith, mul-le-mul_right (s * s * wide) h) in
     let all : rows * (s * s * wide) ≡ room = omega arith in
     (omega (arith, lines, all), omega (arith, mul-le-mul_right wide h))
+
+-- one more line
+pub next_line : (stride width y end : ℕ) (old now new : List ℕ) → width ≤ stride → end ≡ y * stride + width
+    → CopiedTo now new (y * stride) (y * width) (end - y * stride) × SameBelow now new (y * width)
+    × SameFrom now new (y * width + (end - y * stride))
+    → ((r x : ℕ) → r < y → x < width → slice_index now (r * width + x) ≡ slice_index old (r * stride + x))
+    × ((i : ℕ) → y * width ≤ i → slice_index now i ≡ slice_index old i)
+    → ((r x : ℕ) → r < y + 1 → x < width → slice_index new (r * width + x) ≡ slice_index old (r * stride + x))
+    × ((i : ℕ) → (y + 1) * width ≤ i → slice_index new i ≡ slice_index old i)
+next_line stride width y end old now new narrow is copied before = (
+  λ r x hr hx. ⊎_elim (earlier r x hx) (λ le. here r x hx (omega arith)) (cases_lt r y),
+  λ i h. copied.2 i 0 (omega arith) ∙ before.1 i (omega arith),
+)
+  where
+    earlier : (r x : ℕ) → x < width → r < y → slice_index new (r * width + x) ≡ slice_index old (r * stride + x)
+    earlier r x hx lt = copied.1 (r * width + x) 0 (omega (arith, mul-le-mul_right width lt)) ∙ before.0 r x lt hx
+
+    here : (r x : ℕ) → x < width → r ≡ y → slice_index new (r * width + x) ≡ slice_index old (r * stride + x)
+    here r x hx e =
+        let from : y * stride + (y * width + x - y * width) ≡ y * stride + x = omega arith in
+        let after : y * width ≤ y * stride + x = omega (arith, mul-le-mul_left y narrow) in
+        ap (λ n. get_or new (n * width + x) 0) e
+        ∙ copied.0 (y * width + x) 0 (omega arith) (omega arith)
+        ∙ ap (λ i. get_or now i 0) from
+        ∙ before.1 (y * stride + x) after
+        ∙ ap (λ n. get_or old (n * stride + x) 0) (sym e)
+
+some_width : (width height i : ℕ) → i < width * height → 0 < width
+some_width zero height i h = absurd (omega arith)
+some_width (suc width) height i h = omega arith
+
+-- all lines, and nothing after them
+pub all_lines : (stride width height : ℕ) (old new : List ℕ) → width ≤ stride → height * stride ≤ length new
+    → ((y x : ℕ) → y < height → x < width → slice_index new (y * width + x) ≡ slice_index old (y * stride + x))
+    → take (width * height) new ≡ cropped stride width height old
+unfolding cropped
+all_lines stride width height old new narrow room each =
+    let turned : width * height ≡ height * width = mul_comm width height in
+    let enough : width * height ≤ length new = omega (arith, turned, mul-le-mul_left height narrow) in
+    fill_by_all (λ i. slice_index old (i / width * stride + i % width)) (take (width * height) new) (width * height) 0
+    (omega (arith, length-take {A = ℕ}))
+    (λ i h.
+    let some : 0 < width = some_width width height i h in
+    let after : i < height * width = omega (arith, turned) in
+    let line : i / width < height = (div-lt_iff_lt-mul {k = width} {x = i} {y = height} some).1 after in
+    let is : i / width * width + i % width ≡ i = (λ j. mul_comm (i / width) width j + i % width)
+    ∙ div-add-mod i width in
+    get_or-take (width * height) new i 0 h ∙ ap (λ n. get_or new n 0) (sym is)
+    ∙ each (i / width) (i % width) line (mod-lt i some))
+
+-- lines that stand together already
+pub same_lines : (stride width height : ℕ) (old : List ℕ) → width ≡ stride → height * stride ≤ length old
+    → take (width * height) old ≡ cropped stride width height old
+same_lines stride width height old e room = search (rules, all_lines, get_or)

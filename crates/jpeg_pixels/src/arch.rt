@@ -282,7 +282,7 @@ fn transform(coefficients: [i16; 64], quantization_table: &[u16; 64]) -> Rows
 }
 
 // The sums of the samples, before the last shift.
-#[tactic(auto, using(crate::proofs::LaneRows::rows))]
+#[tactic(auto, using(crate::proofs::ShortLanes::rows))]
 pub(crate) fn sums_of(coefficients: [i16; 64], quantization_table: &[u16; 64]) -> [[i32; 8]; 8]
     ensures { (y x : ℕ) → y < 8 → x < 8 → slice_index_or (slice_index_or result y []) x (pos 0)
         ≡ int_wrap w32 (transformed (column_value coefficients quantization_table.now y) x +ℤ pos

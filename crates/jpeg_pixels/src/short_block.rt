@@ -297,7 +297,7 @@ fn lines_within(coefficients: [i16; 64], table: &ShortTable) -> Shorts
 
 // The samples of the lines.
 #[inline(always)]
-#[tactic(auto, using(crate::proofs::LaneRows::rows))]
+#[tactic(auto, using(crate::proofs::ShortLanes::rows))]
 fn short_samples(lines: Shorts) -> [u8; 64]
     ensures { (f : ℕ → ℕ → ℤ) → HasShorts lines f
         → (x y : ℕ) → x < 8 → y < 8 → slice_index result (y * 8 + x) ≡ clamped (f y x) }
