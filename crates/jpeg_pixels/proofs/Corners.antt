@@ -13,7 +13,7 @@ use Rattle.jpeg_pixels.specs.declared.arch.Rows.{Rows}
 use Rattle.jpeg_pixels.specs.LaneRows.{HasNumbers, HasZeros, IsInCorner}
 use Rattle.jpeg_pixels.specs.Samples.{dequantized, column_value, is_flat_column}
 use Rattle.jpeg_pixels.proofs.Sums.{flat_value, eight_cases}
-use Rattle.jpeg_pixels.proofs.FlatScaled.{all_flat}
+use Rattle.jpeg_pixels.proofs.Fours.{all_flat}
 use Rattle.jpeg_pixels.proofs.LaneSums.{lanes_same, loaded}
 use Rattle.jpeg_pixels.proofs.ZeroCases.{none_of}
 use Rattle.std.proofs.lemmas.Grind.{common_steps}

@@ -13,8 +13,7 @@ use Rattle.jpeg_pixels.specs.Planes.{plane_of, zero_coefficients}
 use Rattle.jpeg_pixels.specs.Workers.{Work, IsRowOf, block_in, grown}
 use Rattle.jpeg_pixels.specs.GrowingView.{work_in, IsGrowing}
 use Rattle.jpeg_pixels.specs.declared.growing_plane.GrowingPlane.TheInside.{Inside}
-use Rattle.jpeg_pixels.proofs.PlaneRows.{plane-same}
-use Rattle.jpeg_pixels.proofs.Strips.{take_next}
+use Rattle.jpeg_pixels.proofs.PlaneRows.{plane-same, take_next}
 
 -- the samples after a row was written after the first w
 put_length : (w size k : ℕ) (items strips : List ℕ) → k ≡ size → w + size ≤ length items → length strips ≡ size

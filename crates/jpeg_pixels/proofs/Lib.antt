@@ -1,11 +1,8 @@
 pub mod Rules
 pub mod LaneSums
-pub mod ShortColours
 pub mod ShortLanes
 pub mod Corners
-pub mod Residues
 pub mod Sums
-pub mod FlatScaled
 pub mod Fours
 pub mod RuleRatios
 pub mod FrameCovers
@@ -18,7 +15,6 @@ pub mod JointPictures
 pub mod LinesOfColour
 pub mod PlaneRows
 pub mod SourceLists
-pub mod Strips
 pub mod UpsampledRows
 pub mod WholePictures
 pub mod ZeroCases

@@ -22,7 +22,7 @@ use Rattle.jpeg_pixels.specs.ShortRows.{IsLimit, HasShorts, HasShortZeros, HasSh
 use Rattle.jpeg_pixels.specs.ShortRows.{short_column_of, short_lane_at}
 use Rattle.jpeg_pixels.proofs.Corners.{sel_of_maps, bits_zero}
 use Rattle.jpeg_pixels.proofs.LaneSums.{AreLanes, loaded, kept_halves, kept_words, lane-lanes, own_lanes, lanes_same}
-use Rattle.jpeg_pixels.proofs.Residues.{shifted_fits, shifted_back}
+use Rattle.jpeg_pixels.proofs.LaneSums.{shifted_fits, shifted_back}
 use Rattle.std.proofs.lemmas.Grind.{common_steps}
 use Rattle.std.proofs.lemmas.Bool.Decides.{nat_tests}
 use Rattle.jpeg_pixels.specs.declared.short_block.Shorts.{Shorts}

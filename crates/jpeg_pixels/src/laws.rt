@@ -21,7 +21,7 @@ ghost use Rattle.jpeg_pixels.specs.declared.upsampler.UpsampleRule.TheVariants.{
 
 /// A block whose only coefficient is the first has the same sample everywhere, at each scale: its
 /// eighth and 128, rounded to the nearest, or at one sample a block rounded down.
-#[tactic(auto, using(crate::proofs::FlatScaled::flat))]
+#[tactic(auto, using(crate::proofs::Fours::flat))]
 pub fn flat_blocks_are_flat()
     ensures full { (coefficients : List ℤ) (quantization : List ℕ) (x y : ℕ) →
         HasFirstOnly coefficients → x < 8 → y < 8 →
@@ -151,7 +151,7 @@ pub fn known_blocks()
 {}
 
 /// Brightness without colour is grey: its red, green and blue are the brightness.
-#[tactic(auto, using(crate::proofs::ShortColours::grey))]
+#[tactic(auto, using(crate::proofs::LinesOfColour::grey))]
 pub fn grey_stays_grey()
     ensures { (y : ℕ) → y < 256 → colour_of YCbCr (y ∷ 128 ∷ 128 ∷ []) ≡ y ∷ y ∷ y ∷ [] }
 {}

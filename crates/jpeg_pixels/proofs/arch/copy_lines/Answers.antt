@@ -1,6 +1,6 @@
 use Rattle.std.proofs.Common.{◌*◌, ◌-◌, ◌+◌, drop, length, slice_index, arith, ◌∙◌}
 use Rattle.std.proofs.lemmas.List.{get_or-take, get_or-drop}
-use Rattle.jpeg_pixels.proofs.Strips.{WritesBlock-next}
+use Rattle.jpeg_pixels.proofs.PlaneRows.{WritesBlock-next}
 use Rattle.jpeg_pixels.proofs.arch.copy_lines.Goals as goal
 
 pub loop-y-preserved : goal.loop-y-preserved

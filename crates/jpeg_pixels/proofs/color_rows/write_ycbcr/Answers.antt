@@ -1,6 +1,6 @@
 use Rattle.std.proofs.Common.{ℕ, ◌-◌, ◌*◌, length, arith, refl}
 use Rattle.std.proofs.lemmas.Bool.{cases_lt}
-use Rattle.jpeg_pixels.proofs.Strips.{tail_was}
+use Rattle.jpeg_pixels.proofs.PlaneRows.{tail_was}
 use Rattle.jpeg_pixels.proofs.color_rows.write_ycbcr.Goals as goal
 
 pub returns : goal.returns

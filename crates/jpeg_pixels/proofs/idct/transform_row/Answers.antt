@@ -2,7 +2,7 @@ use Rattle.std.proofs.Common.{◌≡◌, ◌<◌, ℕ, pos, ◌+ℤ◌, slice_in
 use Rattle.std.proofs.Common.{◌-◌, get_or-set_other, lit<, drop}
 use Rattle.std.proofs.lemmas.List.{get_or-drop, get_or-take}
 use Rattle.std.proofs.lemmas.Grind.{common_steps}
-use Rattle.jpeg_pixels.proofs.Residues.{wrapped_flat}
+use Rattle.jpeg_pixels.proofs.LaneSums.{wrapped_flat}
 use Rattle.std.specs.Int.{w32, int_wrap, int_shr}
 use Rattle.std.proofs.lemmas.Int.{to_z-of_z}
 use Rattle.jpeg_pixels.proofs.Sums.{set_next, table_at, transformed_one}

@@ -1,6 +1,6 @@
 use Rattle.std.proofs.Common.{arith}
 use Rattle.jpeg_pixels.specs.Scaled.{sample_at}
-use Rattle.jpeg_pixels.proofs.Strips.{HoldsSamples-all, HoldsSamples-block}
+use Rattle.jpeg_pixels.proofs.PlaneRows.{HoldsSamples-all, HoldsSamples-block}
 use Rattle.jpeg_pixels.proofs.plane.write_long_strip.Goals as goal
 
 pub loop-column-preserved : goal.loop-column-preserved

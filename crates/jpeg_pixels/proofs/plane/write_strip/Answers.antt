@@ -1,5 +1,5 @@
 use Rattle.std.proofs.Common.{arith}
-use Rattle.jpeg_pixels.proofs.Strips.{HoldsSamples-all, HoldsSamples-block}
+use Rattle.jpeg_pixels.proofs.PlaneRows.{HoldsSamples-all, HoldsSamples-block}
 use Rattle.jpeg_pixels.proofs.plane.write_strip.Goals as goal
 
 pub loop-column-preserved : goal.loop-column-preserved

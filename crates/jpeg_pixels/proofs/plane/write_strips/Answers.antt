@@ -1,5 +1,5 @@
 use Rattle.std.proofs.Common.{length, arith}
-use Rattle.jpeg_pixels.proofs.Strips.{rows_next, row_has_room}
+use Rattle.jpeg_pixels.proofs.PlaneRows.{rows_next, row_has_room}
 use Rattle.jpeg_pixels.proofs.plane.write_strips.Goals as goal
 
 pub slice_bounds-write_strip-end : goal.slice_bounds-write_strip-end

@@ -1,7 +1,7 @@
 use Rattle.std.proofs.Common.{◌*◌, ◌-◌, pos, length, slice_index_or, arith, rules, ap, ◌∙◌}
 use Rattle.std.proofs.lemmas.Int.{to_z-of_z}
 use Rattle.std.specs.Int.{w32, int_shr}
-use Rattle.jpeg_pixels.proofs.Strips.{WritesBlock-next}
+use Rattle.jpeg_pixels.proofs.PlaneRows.{WritesBlock-next}
 use Rattle.jpeg_pixels.proofs.Fours.{row_by_same}
 use Rattle.jpeg_pixels.specs.Samples.{clamped}
 use Rattle.jpeg_pixels.specs.Scaled.{column_of_4, sample_of_4}
