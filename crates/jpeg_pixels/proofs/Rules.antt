@@ -15,15 +15,10 @@ use borrow.Rule.Slice.PartMut.{put_mid}
 
 pub ruleset alike = (All-more, All-same, take_all)
 
--- errors and what a conversion is for
-pub ruleset images = (
-  err_from_is_err_and,
-  image-no_conversion,
-  image-no_sources,
-  conversion-fits,
-  length-map,
-  sources-count,
-)
+-- what a picture asks of its conversion, and its errors
+pub ruleset images = (conversion-fits, err_from_is_err_and, length-map, sources-count)
+
+pub ruleset refusals = (image-no_conversion, image-no_sources)
 
 -- lines of a picture
 pub ruleset line = (length-map, lines_of-length, lines_of-long, take-length)

@@ -298,7 +298,7 @@ impl JointPicture {
 ///
 /// A transform that doesn't fit is `Format` or `Unsupported(ColorTransform(..))`, and a refused
 /// allocation `OutOfMemory`.
-#[tactic(auto, using(crate::proofs::Rules::images))]
+#[tactic(auto, using(crate::proofs::Rules::images, crate::proofs::Rules::refusals))]
 pub fn compute_joint_image(
     alloc: Global,
     components: &[Component],
@@ -338,7 +338,7 @@ pub fn compute_joint_image(
 /// Writes the picture of like components, whose planes are in one buffer, into memory that has
 /// exactly its bytes: the one that `compute_joint_image` returns, with its errors, after which
 /// nothing is written.
-#[tactic(auto, using(crate::proofs::Rules::images))]
+#[tactic(auto, using(crate::proofs::Rules::images, crate::proofs::Rules::refusals))]
 pub fn compute_joint_image_into(
     alloc: Global,
     components: &[Component],
