@@ -2,12 +2,12 @@
 use Rattle.std.proofs.Common.{◌≡◌, ℕ, ◌<◌, List, [], ◌∷◌, ℤ, pos, neg_ℤ, ◌+ℤ◌, ◌-ℤ◌, ◌*ℤ◌, slice_index_or, ap, ◌∙◌}
 use Rattle.std.proofs.Common.{arith, rules, ◌≢◌, zero, suc, ◌+◌, ◌*◌, ◌≤◌, length, set, get_or, slice_index}
 use Rattle.std.proofs.Common.{get_or-set_other, length-set, negsuc, unsigned_abs, refl, sym, FitsSigned, lit<, true}
-use Rattle.std.proofs.lemmas.Int.{int_wrap-add_left, to_z-of_z, ints, int_wrap_fits}
+use Rattle.std.proofs.lemmas.Int.{int_wrap-add_left, to_z-of_z, ints, int_wrap_fits, wraps}
 use Rattle.std.specs.Int.{w32, int_wrap, int_shr}
+use Rattle.jpeg_pixels.proofs.LaneSums.{wrapped_inside}
 use Rattle.jpeg_pixels.specs.Scaled.{even_and_odd, even_part, odd_part, column_by, scaled_sample, signed, column_of_4}
 use Rattle.jpeg_pixels.specs.Scaled.{sample_of_4, sample_of_2, sample_of_1}
 use Rattle.jpeg_pixels.specs.SmallBlocks.{four}
-use Rattle.jpeg_pixels.proofs.LaneSums.{wrapped_parts, wrapped_apart, wrapped_inside}
 use Rattle.std.proofs.lemmas.Bool.Decides.{nat_tests}
 use Rattle.std.proofs.lemmas.Grind.{get_or-set_at}
 use Rattle.jpeg_pixels.specs.Samples.{clamped, dequantized, HasFirstOnly, is_flat_column, is_zero_at, sample}
@@ -35,11 +35,11 @@ biased_is x y z ey ex = ex ∙ ap (λ v. int_wrap w32 (pos 4096 *ℤ v +ℤ pos 
     ∙ wrapped_inside (pos 4096) (pos 16842752) z
 
 both_sum : (x y a b : ℤ) → x ≡ int_wrap w32 a → y ≡ int_wrap w32 b → int_wrap w32 (x +ℤ y) ≡ int_wrap w32 (a +ℤ b)
-both_sum x y a b ex ey = (λ i. int_wrap w32 (ex i +ℤ ey i)) ∙ wrapped_parts a b
+both_sum x y a b ex ey = grind (arith, wraps)
 
 both_difference : (x y a b : ℤ) → x ≡ int_wrap w32 a → y ≡ int_wrap w32 b → int_wrap w32 (x -ℤ y)
     ≡ int_wrap w32 (a -ℤ b)
-both_difference x y a b ex ey = (λ i. int_wrap w32 (ex i -ℤ ey i)) ∙ wrapped_apart a b
+both_difference x y a b ex ey = grind (arith, wraps)
 
 -- a value of a row before the last shift
 abbrev pub row_sum : (ℕ → ℤ) → ℕ → ℤ

@@ -170,7 +170,8 @@ lines-after : (f g : ℕ → List ℕ) (a n end : ℕ) → end ≡ a + n
     → ((k : ℕ) → k < n → f (a + k) ≡ g k)
     → concat (map f (range_with_len 0 end))
     ≡ concat (map f (range_with_len 0 a)) ++ concat (map g (range_with_len 0 n))
-lines-after f g a n end e same = rw (e, range-split f g a n same) (concat-append (map f (range_with_len 0 a)) (map g (range_with_len 0 n)))
+lines-after f g a n end e same =
+    rw (e, range-split f g a n same) (concat-append (map f (range_with_len 0 a)) (map g (range_with_len 0 n)))
 
 -- ---- rows of MCUs
 

@@ -158,7 +158,11 @@ pub green_by_sum : (y cb cr : ℕ) → green_of y cb cr ≡ clamped (pos y +ℤ 
 unfolding green_of
 green_by_sum y cb cr = grind (arith, ints, common_steps, shifted)
 
-pub ruleset short_colours = (red_by_short, blue_by_short, green_by_sum, to_z-of_z)
+pub ruleset reds = (red_by_short, to_z-of_z)
+
+pub ruleset blues = (blue_by_short, to_z-of_z)
+
+pub ruleset greens = (green_by_sum, to_z-of_z)
 
 pub grey : (y : ℕ) → y < 256 → colour_of YCbCr (y ∷ 128 ∷ 128 ∷ []) ≡ y ∷ y ∷ y ∷ []
 unfolding colour_of red_of green_of blue_of

@@ -307,10 +307,6 @@ next_line stride width y end old now new narrow is copied before = (
         ∙ before.1 (y * stride + x) after
         ∙ ap (λ n. get_or old (n * stride + x) 0) (sym e)
 
-some_width : (width height i : ℕ) → i < width * height → 0 < width
-some_width zero height i h = absurd (omega arith)
-some_width (suc width) height i h = omega arith
-
 -- all lines, and nothing after them
 pub all_lines : (stride width height : ℕ) (old new : List ℕ) → width ≤ stride → height * stride ≤ length new
     → ((y x : ℕ) → y < height → x < width → slice_index new (y * width + x) ≡ slice_index old (y * stride + x))
@@ -322,7 +318,7 @@ all_lines stride width height old new narrow room each =
     fill_by_all (λ i. slice_index old (i / width * stride + i % width)) (take (width * height) new) (width * height) 0
     (omega (arith, length-take {A = ℕ}))
     (λ i h.
-    let some : 0 < width = some_width width height i h in
+    let some : 0 < width = some-left width height i h in
     let after : i < height * width = omega (arith, turned) in
     let line : i / width < height = (div-lt_iff_lt-mul {k = width} {x = i} {y = height} some).1 after in
     let is : i / width * width + i % width ≡ i = (λ j. mul_comm (i / width) width j + i % width)

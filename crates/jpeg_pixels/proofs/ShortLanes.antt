@@ -163,7 +163,8 @@ pub product_exact : (z : ℤ) (q : ℕ) → unsigned_abs z ≤ 1095 / max q 1
 product_exact z q h = grind (arith, common_steps)
 
 -- a vector whose lanes are clamped to 16 bits
-pub clamped_lanes : (row : List ℤ) → AreLanes w32 row → IsSigned w32 (sel_l (map (top 31) (zip2 (λ m n. cond (lt_z (to_z w32 m) (to_z w32 n)) 4294967295 0)
+pub clamped_lanes : (row : List ℤ) → AreLanes w32 row
+    → IsSigned w32 (sel_l (map (top 31) (zip2 (λ m n. cond (lt_z (to_z w32 m) (to_z w32 n)) 4294967295 0)
     (sel_l (map (top 31) (zip2 (λ m n. cond (lt_z (to_z w32 m) (to_z w32 n)) 4294967295 0)
     (map (of_z w32) row) (replicate 8 4294934528))) (replicate 8 4294934528) (map (of_z w32) row))
     (replicate 8 32767)))
@@ -377,7 +378,8 @@ module _ (coefficients : List ℤ) (quantization : List ℕ) (rows : Rows) (flat
       (transformed_same _ _ row (λ k hk. lane_at_is rows _ products k j hk h)) in
       λ i. cond (zero i) (lane-lanes flat _ flat_is j h i) (int_shr (sum i) 10))
 
-rows_column : (rows : Rows) (f : ℕ → ℕ → ℤ) → HasNumbers rows f → (k : ℕ) → k < 8 → column_of rows k ≡ lanes (λ j. f j k)
+rows_column : (rows : Rows) (f : ℕ → ℕ → ℤ) → HasNumbers rows f → (k : ℕ) → k < 8
+    → column_of rows k ≡ lanes (λ j. f j k)
 unfolding lanes
 rows_column rows f e k h = search (rules, lane-lanes)
 
