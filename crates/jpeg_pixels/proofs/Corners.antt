@@ -1,24 +1,105 @@
--- Blocks whose coefficients outside the top left 4x4 corner are 0.
+-- Which lanes are 0, and blocks whose coefficients outside the top left 4x4 corner are 0.
 use Rattle.std.proofs.Common.{◌≡◌, ℕ, ◌+◌, ◌*◌, ◌<◌, ◌≤◌, suc, List, length, get_or, ℤ, pos, ◌*ℤ◌, sym, ap, ◌∙◌, map}
 use Rattle.std.proofs.Common.{FitsSigned, of_z, arith, true, ◌==◌, unsigned_abs, eqb, cond, replicate, ◌%◌, ◌-◌, ◌++◌}
-use Rattle.std.proofs.Common.{◌∷◌, [], nat_eq, lit≤, lit<, rules}
-use Rattle.std.proofs.lemmas.Int.{ints, int_wrap_fits}
-use Rattle.std.proofs.lemmas.Simd.{bitmask_splat, bit_mask_l, map-map, get_or-chunk, length-chunk}
+use Rattle.std.proofs.Common.{◌∷◌, [], nat_eq, lit≤, lit<, rules, negsuc, refl, to_z, Bool, false, ◌&&◌}
+use Rattle.std.proofs.lemmas.Int.{ints, int_wrap_fits, to_z-of_z}
+use Rattle.std.proofs.lemmas.Simd.{bitmask_splat, bit_mask_l, map-map, get_or-chunk, length-chunk, zip2_of_maps}
 use Rattle.std.proofs.lemmas.Bool.{and_parts, eqb-true}
 use Rattle.std.proofs.lemmas.List.FromFn.{fill_by_all, length-map-range_with_len, get_or-map-range_with_len}
 use Rattle.std.specs.Int.{w16, w32, int_wrap}
 use Rattle.std.specs.Int.Bits.{bit_or}
-use lib.Lanes.{zip2, mask_l, top, pick_l, chunk}
+use lib.Lanes.{zip2, mask_l, top, pick_l, chunk, sel_l}
 use Rattle.jpeg_pixels.specs.declared.arch.Rows.{Rows}
 use Rattle.jpeg_pixels.specs.LaneRows.{HasNumbers, HasZeros, IsInCorner}
-use Rattle.jpeg_pixels.specs.Samples.{dequantized, column_value}
-use Rattle.jpeg_pixels.proofs.Columns.{flat_value}
-use Rattle.jpeg_pixels.proofs.FlatBlocks.{all_flat}
-use Rattle.jpeg_pixels.proofs.LaneSums.{lanes_same}
+use Rattle.jpeg_pixels.specs.Samples.{dequantized, column_value, is_flat_column}
+use Rattle.jpeg_pixels.proofs.Sums.{flat_value, eight_cases}
+use Rattle.jpeg_pixels.proofs.Fours.{all_flat}
+use Rattle.jpeg_pixels.proofs.LaneSums.{lanes_same, loaded}
 use Rattle.jpeg_pixels.proofs.ZeroCases.{none_of}
-use Rattle.jpeg_pixels.proofs.LaneRows.{eight_cases}
-use Rattle.jpeg_pixels.proofs.LaneChoice.{IsBits, bits_at, or_both, or_zero, half_zero}
 use Rattle.std.proofs.lemmas.Grind.{common_steps}
+use Rattle.std.proofs.lemmas.Bool.Decides.{eqb_tells, leb_tells, nat_tests}
+use Rattle.std.proofs.Math.Logic.{⊎_elim}
+use Rattle.std.specs.List.{range_with_len}
+use Rattle.std.proofs.Math.Bool.{and_assoc, and-true}
+use Rattle.std.proofs.lemmas.Nat.{le_or_l}
+use borrow.Rule.Slice.PartMut.{mid_of}
+use Rattle.jpeg_pixels.specs.Lanes.{lane_is_zero}
+
+pub sel_of_maps : {A : Type 0} (m : ℕ → Bool) (f g : ℕ → A) (indices : List ℕ)
+    → sel_l (map m indices) (map f indices) (map g indices) ≡ map (λ j. cond (m j) (f j) (g j))
+    indices
+sel_of_maps m f g [] = refl
+sel_of_maps m f g (x ∷ xs) = ap (λ l. cond (m x) (f x) (g x) ∷ l) (sel_of_maps m f g xs)
+
+apart : (a : ℕ) → 0 < a → eqb a 0 ≡ false
+apart a h = ⊎_elim (λ t. absurd (omega (arith, t.1))) (λ t. t.0) (eqb_tells a 0)
+
+-- a number's bits are 0 where it is 0
+pub bits_zero : (z : ℤ) → FitsSigned w32 z → eqb (of_z w32 z) 0 ≡ (unsigned_abs z == 0)
+bits_zero (pos n) f = refl
+bits_zero (negsuc n) f = apart (4294967296 - suc n) (omega (arith, f.sfits)) ∙ sym (apart (suc n) (omega arith))
+
+-- ---- which lanes are 0
+
+pub or_zero : (a b : ℕ) → eqb (bit_or a b) 0 ≡ (eqb a 0 && eqb b 0)
+or_zero a b = grind (arith, nat_tests, apart, le_or_l)
+
+-- the bits of an `i16`, and an `i16` from its bits
+pub half_zero : (z : ℤ) → FitsSigned w16 z → eqb (of_z w16 z) 0 ≡ (unsigned_abs z == 0)
+half_zero (pos n) f = refl
+half_zero (negsuc n) f = apart (65536 - suc n) (omega (arith, f.sfits)) ∙ sym (apart (suc n) (omega arith))
+
+half_fits : (n : ℕ) → FitsSigned w32 (to_z w16 n)
+half_fits n = omega (arith, ints)
+
+read_zero : (n : ℕ) → (unsigned_abs (to_z w32 (of_z w32 (to_z w16 n))) == 0) ≡ eqb n 0
+read_zero n = search (rules, half_fits, leb_tells, to_z, to_z-of_z, unsigned_abs)
+
+-- bits in each of the eight lanes
+pub record IsBits (v : List ℕ) (f : ℕ → ℕ) : Type 0 where
+  pub is : v ≡ map f (range_with_len 0 8)
+
+pub bits_or : {v w : List ℕ} {f g : ℕ → ℕ} → IsBits v f → IsBits w g
+    → IsBits (zip2 bit_or v w) (λ j. bit_or (f j) (g j))
+bits_or {v} {w} {f} {g} a b = record { is = zip2_of_maps bit_or f g (range_with_len 0 8) a.is b.is }
+
+-- the bits of a coefficient, from this place on
+abbrev pub bits_at : List ℤ → ℕ → ℕ → ℕ
+bits_at coefficients at j = of_z w16 (get_or coefficients (at + j) (pos 0))
+
+pub bits_of_halves : (coefficients : List ℤ) (at : ℕ) → length coefficients ≡ 64 → at + 8 ≤ 64
+    → IsBits (map (of_z w16) (chunk 0 8 (mid_of at (64 - at) coefficients)))
+    (bits_at coefficients at)
+bits_of_halves coefficients at e h = grind (arith, common_steps, of_z, loaded, map-map)
+
+-- the bits of the seven rows below the first
+abbrev pub bits_below : List ℤ → ℕ → ℕ
+bits_below coefficients j =
+    bit_or (bit_or (bit_or (bit_or (bit_or (bit_or
+    (bits_at coefficients 8 j) (bits_at coefficients 16 j)) (bits_at coefficients 24 j))
+    (bits_at coefficients 32 j)) (bits_at coefficients 40 j)) (bits_at coefficients 48 j))
+    (bits_at coefficients 56 j)
+
+-- the lanes of those rows, one of which is not 0
+pub below_is : (coefficients : List ℤ) → length coefficients ≡ 64
+    → ((j : ℕ) → FitsSigned w16 (get_or coefficients j (pos 0))) → (v : List ℕ)
+    → IsBits v (bits_below coefficients)
+    → (j : ℕ) → j < 8 → lane_is_zero (map (to_z w32) (map (λ a. of_z w32 (to_z w16 a)) v)) j ≡ is_flat_column
+    coefficients j
+unfolding is_flat_column
+below_is coefficients long fits v rows j h =
+    let n = bits_below coefficients in
+    let all = ap (λ (l : List ℕ). map (to_z w32) (map (λ a. of_z w32 (to_z w16 a)) l)) rows.is
+    ∙ ap (map (to_z w32)) (map-map (λ a. of_z w32 (to_z w16 a)) n (range_with_len 0 8))
+    ∙ map-map (to_z w32) (λ i. of_z w32 (to_z w16 (n i))) (range_with_len 0 8) in
+    let bits : ℕ → ℕ = λ k. bits_at coefficients k j in
+    let z : (k : ℕ) → eqb (bits k) 0 ≡ (unsigned_abs (get_or coefficients (k + j) (pos 0)) == 0) =
+    search (rules, half_zero) in
+    ap (λ (l : List ℤ). lane_is_zero l j) all
+    ∙ ap (λ y. unsigned_abs y == 0) (get_or-map-range_with_len (λ i. to_z w32 (of_z w32 (to_z w16 (n i)))) 0 8 j j
+    (pos 0) h (omega arith))
+    ∙ read_zero (n j)
+    ∙ simp (or_zero, z 8, z 16, z 24, z 32, z 40, z 48, z 56, and_assoc, and-true)
 
 -- rows whose last four have only zeros
 pub zero_rows : (rows : Rows) (f : ℕ → ℕ → ℤ) → HasNumbers rows f
@@ -97,16 +178,28 @@ pub corner_is : (coefficients : List ℤ) → ((j : ℕ) → FitsSigned w16 (get
     → ((j : ℕ) → j < 8 → eqb (bit_or (lower_bits coefficients j) (upper_bits coefficients (4 + j % 4))) 0 ≡ true)
     → IsInCorner coefficients
 corner_is coefficients fits tested = record {
-  below = λ row column h h' l. eight_cases (λ (i : ℕ). 4 ≤ i → get_or coefficients (i * 8 + column) (pos 0) ≡ pos 0)
-      (λ low. absurd (omega (arith, low))) (λ low. absurd (omega (arith, low))) (λ low. absurd (omega (arith, low)))
-      (λ low. absurd (omega (arith, low)))
-      (λ _. none (32 + column) (lower column l).first) (λ _. none (40 + column) (lower column l).second)
-      (λ _. none (48 + column) (lower column l).third) (λ _. none (56 + column) (lower column l).fourth) row h' h;
-  right = λ row column h h' l. eight_cases (λ (i : ℕ). get_or coefficients (i * 8 + column) (pos 0) ≡ pos 0)
-      (none (0 + column) (upper column h' l).first) (none (8 + column) (upper column h' l).second)
-      (none (16 + column) (upper column h' l).third) (none (24 + column) (upper column h' l).fourth)
-      (none (32 + column) (lower column l).first) (none (40 + column) (lower column l).second)
-      (none (48 + column) (lower column l).third) (none (56 + column) (lower column l).fourth) row h;
+  below = λ row column h h' l. let rows = lower column l in
+      grind (
+        arith,
+        nat_tests,
+        none (32 + column) rows.first,
+        none (40 + column) rows.second,
+        none (48 + column) rows.third,
+        none (56 + column) rows.fourth,
+      );
+  right = λ row column h h' l. let rows = lower column l in let firsts = upper column h' l in
+      grind (
+        arith,
+        nat_tests,
+        none (0 + column) firsts.first,
+        none (8 + column) firsts.second,
+        none (16 + column) firsts.third,
+        none (24 + column) firsts.fourth,
+        none (32 + column) rows.first,
+        none (40 + column) rows.second,
+        none (48 + column) rows.third,
+        none (56 + column) rows.fourth,
+      );
 }
   where
     none : (index : ℕ) → eqb (of_z w16 (get_or coefficients index (pos 0))) 0 ≡ true
@@ -129,21 +222,16 @@ pub corner_zero : (coefficients : List ℤ) → IsInCorner coefficients → (j :
     → eqb (bit_or (lower_bits coefficients j) (upper_bits coefficients (4 + j % 4))) 0 ≡ true
 corner_zero coefficients corner j h =
     let k : ℕ = 4 + j % 4 in
-    let right : (row : ℕ) → row < 8 → eqb (of_z w16 (get_or coefficients (row * 8 + k) (pos 0))) 0 ≡ true =
-    search (rules, none) in
-    let below : (row : ℕ) → 4 ≤ row → row < 8 → eqb (of_z w16 (get_or coefficients (row * 8 + j) (pos 0))) 0 ≡ true =
-    λ row low r. none _ (corner.below row j low r h) in
-    or_both (lower_bits coefficients j) (upper_bits coefficients k)
-    (four_zero (bits_at coefficients 32 j) (bits_at coefficients 40 j) (bits_at coefficients 48 j)
-    (bits_at coefficients 56 j) (below 4 (lit≤ tt) (lit< tt)) (below 5 (lit≤ tt) (lit< tt))
-    (below 6 (lit≤ tt) (lit< tt)) (below 7 (lit≤ tt) (lit< tt)))
-    (four_zero (bits_at coefficients 0 k) (bits_at coefficients 8 k) (bits_at coefficients 16 k)
-    (bits_at coefficients 24 k) (right 0 (lit< tt)) (right 1 (lit< tt)) (right 2 (lit< tt))
-    (right 3 (lit< tt)))
-  where
-    none : (z : ℤ) → z ≡ pos 0 → eqb (of_z w16 z) 0 ≡ true
-    none z e = ap (λ z. eqb (of_z w16 z) 0) e
-
-    four_zero : (a b c d : ℕ) → eqb a 0 ≡ true → eqb b 0 ≡ true → eqb c 0 ≡ true → eqb d 0 ≡ true
-        → eqb (bit_or (bit_or (bit_or a b) c) d) 0 ≡ true
-    four_zero a b c d ea eb ec ed = or_both (bit_or (bit_or a b) c) d (or_both (bit_or a b) c (or_both a b ea eb) ec) ed
+    let right : 4 ≤ k = omega arith in
+    let small : k < 8 = omega arith in
+    simp (
+      or_zero,
+      corner.below 4 j (lit≤ tt) (lit< tt) h,
+      corner.below 5 j (lit≤ tt) (lit< tt) h,
+      corner.below 6 j (lit≤ tt) (lit< tt) h,
+      corner.below 7 j (lit≤ tt) (lit< tt) h,
+      corner.right 0 k (lit< tt) right small,
+      corner.right 1 k (lit< tt) right small,
+      corner.right 2 k (lit< tt) right small,
+      corner.right 3 k (lit< tt) right small,
+    )

@@ -1,6 +1,6 @@
 -- The planes of a frame's components cover its picture.
-use Rattle.std.proofs.Common.{◌≡◌, ◌≤◌, ◌<◌, ℕ, ◌+◌, ◌-◌, ◌*◌, List, [], ◌∷◌, length, map, Some, Ok, All, subst, arith}
-use Rattle.std.proofs.Common.{rules}
+use Rattle.std.proofs.Common.{◌≡◌, ◌≤◌, ◌<◌, ℕ, ◌+◌, ◌-◌, ◌*◌, List, [], ◌∷◌, length, map, Some, Ok, All, subst}
+use Rattle.std.proofs.Common.{arith, rules}
 use Rattle.std.proofs.Math.Nat.{le-mul_of_pos_right}
 use Rattle.std.proofs.lemmas.List.Elements.{All-cons, All-head, All-nil, All-tail}
 use Rattle.jpeg_segments.specs.Checks.{gathered}
@@ -125,3 +125,5 @@ pub whole-planes-have-room : (number precision width height : ℕ) (factors : Li
 unfolding frame_of
 whole-planes-have-room number precision width height factors planes range some_width some_height whole =
     search (rules, all-fit, have-room)
+
+pub ruleset frame_laws = (whole-planes-have-room, frames-are-covered)

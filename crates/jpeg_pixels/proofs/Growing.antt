@@ -1,7 +1,8 @@
 -- A plane that is being made, with one more row.
 use Rattle.std.proofs.lemmas.Grind.{common_steps}
 use Rattle.std.proofs.Common.{◌≡◌, ℕ, zero, suc, ◌+◌, ◌-◌, ◌*◌, ◌/◌, ◌<◌, ◌≤◌, ℤ, List, length, get_or, take, drop}
-use Rattle.std.proofs.Common.{replicate, slice_index_or, ap, ◌∙◌, arith, length-take, length-drop, length-append, rules}
+use Rattle.std.proofs.Common.{replicate, slice_index_or, ap, ◌∙◌, arith, length-take, length-drop, length-append}
+use Rattle.std.proofs.Common.{rules}
 use Rattle.std.proofs.Math.Seq.{drop-append-add, drop-append_seam}
 use Rattle.std.proofs.Math.Nat.{mul-le-mul_right}
 use Rattle.std.proofs.lemmas.List.{drop-replicate, with_items_is, drop-drop}
@@ -12,8 +13,7 @@ use Rattle.jpeg_pixels.specs.Planes.{plane_of, zero_coefficients}
 use Rattle.jpeg_pixels.specs.Workers.{Work, IsRowOf, block_in, grown}
 use Rattle.jpeg_pixels.specs.GrowingView.{work_in, IsGrowing}
 use Rattle.jpeg_pixels.specs.declared.growing_plane.GrowingPlane.TheInside.{Inside}
-use Rattle.jpeg_pixels.proofs.PlaneRows.{plane-same}
-use Rattle.jpeg_pixels.proofs.RowsOfBlocks.{take_next}
+use Rattle.jpeg_pixels.proofs.PlaneRows.{plane-same, take_next}
 
 -- the samples after a row was written after the first w
 put_length : (w size k : ℕ) (items strips : List ℕ) → k ≡ size → w + size ≤ length items → length strips ≡ size
@@ -76,3 +76,5 @@ pub row_fits : (p : Inside) (w : Work) (coefficients : List ℤ) → work_in p �
     → (p.written + p.scale * p.blocks_wide * (p.scale * p.rows) ≤ length p.samples.items) ×
     (length coefficients / 64 ≡ p.blocks_wide * p.rows)
 row_fits p w coefficients seen fits row = search (rules, length-take)
+
+pub ruleset growing = (common_steps, grown_fits, row_fits)

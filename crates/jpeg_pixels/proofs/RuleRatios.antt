@@ -1,7 +1,7 @@
 -- How many outputs a sample stands for by the rule of its component, and that samples reach the last output.
 use Rattle.std.proofs.lemmas.Bool.Decides.{nat_tests}
 use Rattle.std.proofs.Common.{◌≡◌, ◌≤◌, ◌<◌, ℕ, zero, suc, ◌+◌, ◌-◌, ◌*◌, ◌/◌, true, Some, rules, ◌⊎◌, inl, inr, ap}
-use Rattle.std.proofs.Common.{sym, ◌∙◌, subst, arith}
+use Rattle.std.proofs.Common.{sym, subst, arith}
 use Rattle.std.specs.Prelude.{◌==◌, ◌||◌}
 use Rattle.std.proofs.Math.Nat.{add-mul, div-add-mod, mul_assoc, mul_comm, le_of_mul-le-mul_left, mul-le-mul}
 use Rattle.std.proofs.Math.Nat.{mul-le-mul_right}
@@ -65,11 +65,8 @@ reach-end size factor most s k hs hf hm ss r = go r.is
         let e0 = e.0 in omega arith
     go (inl e) =
         let low : size * factor * s ≤ (most * 8) * c = ceiling-low (size * factor * s) (most * 8) (omega arith) in
-        let p : (most * 8) * c ≡ factor * (8 * (k * c))
-        = ap (λ n. n * 8 * c) e ∙ (ap (λ n. n * c) (mul_assoc factor k 8 ∙ ap (λ n. factor * n) (mul_comm k 8))
-        ∙ (mul_assoc factor (8 * k) c ∙ ap (λ n. factor * n) (mul_assoc 8 k c))) in
-        let q : size * factor * s ≡ factor * (size * s) = ap (λ n. n * s) (mul_comm size factor)
-        ∙ mul_assoc factor size s in
+        let p : (most * 8) * c ≡ factor * (8 * (k * c)) = omega (arith, ap (λ n. n * 8 * c) e) in
+        let q : size * factor * s ≡ factor * (size * s) = omega arith in
         ceiling-le (size * s) 8 (k * c) (omega arith) (le_of_mul-le-mul_left (omega (arith, low, p, q)) hf)
 
 -- and at full size, which is scale 8

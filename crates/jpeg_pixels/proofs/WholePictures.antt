@@ -59,9 +59,6 @@ pub conversion-fits : (count : ℕ) (transform : ColorTransform) (convert : Colo
 unfolding conversion_of
 conversion-fits count transform convert h1 = grind (arith, nat_tests, by_count)
 
-abbrev as_bytes : List ℕ → Result (List ℕ) Fault
-as_bytes l = Ok l
-
 pub image-is : (components : List Component) (planes : List (List ℕ)) (width height : ℕ) (transform : ColorTransform)
     (convert : ColorConvert) (sources : List Source) (bytes : List ℕ)
     → conversion_of (length components) transform ≡ Ok convert → sources_of components width height ≡ Ok sources

@@ -6,8 +6,7 @@ use Rattle.std.proofs.lemmas.Int.{ints, int_wrap_fits}
 use Rattle.std.specs.Int.{w32, int_shr, int_wrap}
 use Rattle.jpeg_pixels.specs.Samples.{is_flat_column, dequantized, transformed, column_value, sample, clamped}
 use Rattle.jpeg_bits.proofs.Ranges.{each_passes}
-use Rattle.jpeg_pixels.proofs.Columns.{flat_value}
-use Rattle.jpeg_pixels.proofs.Sums.{transformed_one}
+use Rattle.jpeg_pixels.proofs.Sums.{flat_value, transformed_one}
 
 pub zero_row : (coefficients : List ℤ) (quantization : List ℕ) (x y : ℕ) → x < 8
     → ((k : ℕ) → 0 < k → k < 8 → column_value coefficients quantization y k ≡ pos 0)

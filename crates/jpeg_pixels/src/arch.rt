@@ -162,6 +162,7 @@ pub(crate) fn is_in_corner(coefficients: [i16; 64]) -> bool
 // Returns the rows, whose last four are 0, unchanged. The zeros written here are constants, so the
 // compiler drops the products with them, and the code that computes the rows they replace.
 #[inline(always)]
+#[tactic(auto, using(crate::proofs::LaneSums::kept_words), unfolding(crate::specs::Lanes::lanes))]
 fn with_zeros(rows: Rows) -> Rows
     requires { HasZeros rows }
     ensures { result ≡ rows }
@@ -201,6 +202,7 @@ fn flat_row(coefficients: [i16; 64], quantization_table: &[u16; 64]) -> i32x8
     products(coefficients, quantization_table, 0) << 2
 }
 
+#[tactic(auto, using(crate::proofs::LaneSums::kept_words), unfolding(crate::specs::Samples::dequantized))]
 fn dequantized_rows(coefficients: [i16; 64], quantization_table: &[u16; 64]) -> Rows
     ensures { HasNumbers result (dequantized coefficients quantization_table.now) }
 {
@@ -280,6 +282,7 @@ fn transform(coefficients: [i16; 64], quantization_table: &[u16; 64]) -> Rows
 }
 
 // The sums of the samples, before the last shift.
+#[tactic(auto, using(crate::proofs::ShortLanes::rows))]
 pub(crate) fn sums_of(coefficients: [i16; 64], quantization_table: &[u16; 64]) -> [[i32; 8]; 8]
     ensures { (y x : ℕ) → y < 8 → x < 8 → slice_index_or (slice_index_or result y []) x (pos 0)
         ≡ int_wrap w32 (transformed (column_value coefficients quantization_table.now y) x +ℤ pos

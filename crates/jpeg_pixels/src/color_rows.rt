@@ -35,6 +35,7 @@ fn added(y: u8, difference: i16) -> u8
     (i16::from(y) + difference).clamp(0, 255) as u8
 }
 
+#[tactic(auto, using(crate::proofs::LinesOfColour::reds))]
 fn red(y: u8, cr: u8) -> u8
     ensures { result ≡ red_of y cr }
 {
@@ -57,12 +58,14 @@ fn green_sum(cb: u8, cr: u8) -> i32
     coarse_green_sum(cb, cr) + (fine + (1 << 19))
 }
 
+#[tactic(auto, using(crate::proofs::LinesOfColour::greens))]
 fn green(y: u8, cb: u8, cr: u8) -> u8
     ensures { result ≡ green_of y cb cr }
 {
     added(y, (green_sum(cb, cr) >> 20) as i16)
 }
 
+#[tactic(auto, using(crate::proofs::LinesOfColour::blues))]
 fn blue(y: u8, cb: u8) -> u8
     ensures { result ≡ blue_of y cb }
 {

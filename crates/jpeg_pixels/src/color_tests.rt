@@ -45,6 +45,7 @@ fn component(horizontal: u8, vertical: u8, size: (u16, u16), block_size: (u16, u
 }
 
 // The picture of a line of two pixels.
+#[tactic(auto, unfolding(jpeg_segments::specs::Frame::AllHaveSampling))]
 fn picture_of_three(
     alloc: Global,
     first: Vec<u8>,
@@ -69,6 +70,7 @@ fn picture_of_three(
 }
 
 // The picture of one pixel.
+#[tactic(auto, unfolding(jpeg_segments::specs::Frame::AllHaveSampling))]
 fn picture_of_four(
     alloc: Global,
     first: Vec<u8>,
@@ -96,6 +98,7 @@ fn picture_of_four(
 }
 
 // The picture of 3x2 pixels whose colour differences have 2x1 samples.
+#[tactic(auto, unfolding(jpeg_segments::specs::Frame::AllHaveSampling))]
 fn picture_of_halves(alloc: Global, luma: Vec<u8>, cb: Vec<u8>, cr: Vec<u8>) -> Result<Vec<u8>>
     requires luma { length luma.items ≡ 19 }
     requires cb { length cb.items ≡ 2 }
@@ -114,6 +117,7 @@ fn picture_of_halves(alloc: Global, luma: Vec<u8>, cb: Vec<u8>, cr: Vec<u8>) -> 
 }
 
 // A line of the same picture, made alone.
+#[tactic(auto, unfolding(jpeg_segments::specs::Frame::AllHaveSampling))]
 fn line_of_halves(
     alloc: Global,
     luma: Vec<u8>,
@@ -140,6 +144,7 @@ fn line_of_halves(
 }
 
 // The picture of a line of seventy pixels.
+#[tactic(auto, unfolding(jpeg_segments::specs::Frame::AllHaveSampling))]
 fn wide_picture_of_four(
     alloc: Global,
     first: Vec<u8>,
@@ -168,6 +173,7 @@ fn wide_picture_of_four(
 
 // The unconverted picture of 6x4 pixels whose components are copied, made twice as wide, made twice
 // as high, and repeated twice across and four times down.
+#[tactic(auto, unfolding(jpeg_segments::specs::Frame::AllHaveSampling))]
 fn picture_of_each_rule(
     alloc: Global,
     copied: Vec<u8>,

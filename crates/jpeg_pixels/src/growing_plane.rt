@@ -67,6 +67,7 @@ impl GrowingPlane {
         })
     }
 
+    #[tactic(auto, using(crate::proofs::Growing::growing))]
     pub(crate) fn append(&mut self, coefficients: &[i16])
         requires { IsRowOf self.old coefficients.now }
         ensures { self.new ≡ grown coefficients.now self.old }

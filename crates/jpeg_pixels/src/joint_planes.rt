@@ -66,6 +66,7 @@ fn is_like(component: &Component, first: &Component) -> bool
 }
 
 // Returns whether all components are like the first one.
+#[tactic(auto, using(crate::proofs::Rules::alike))]
 fn are_alike(components: &[Component], first: &Component) -> bool
     ensures { result ≡ true → All (IsLike first.now) components.now }
 {
@@ -133,6 +134,7 @@ impl JointPlanes {
 
     /// Copies the plane of the component in a slot, once all rows were read. The only error is a
     /// refused allocation.
+    #[tactic(auto, using(crate::proofs::JointPictures::strips))]
     pub fn plane(&self, alloc: Global, slot: usize) -> std::result::Result<Vec<u8>, AllocError>
         requires small { HasFrameSizes self.now.shape }
         requires slot { slot < self.now.shape.count }
@@ -178,6 +180,7 @@ impl JointPicture {
     }
 
     // Copies a line of each strip of a row of MCUs, one after the other.
+    #[tactic(auto, using(crate::proofs::Rules::gathered_rows), unfolding(crate::specs::JointPlanes::strip_lines))]
     fn gather_line(&self, strips: &[u8], line: usize, lines: &mut [u8])
         requires line { line < self.now.shape.lines }
         requires strips { length strips.now ≡ joint_row_size self.now.shape }
@@ -194,6 +197,7 @@ impl JointPicture {
     }
 
     // Copies the first lines of the strips of a row of MCUs, line by line of the picture.
+    #[tactic(auto, using(crate::proofs::Rules::gathered_rows), unfolding(crate::specs::JointPlanes::gathered))]
     fn gather_row(&self, strips: &[u8], count: usize, lines: &mut [u8])
         requires count { count ≤ self.now.shape.lines }
         requires strips { length strips.now ≡ joint_row_size self.now.shape }
@@ -208,6 +212,7 @@ impl JointPicture {
     }
 
     // Writes the colours of the first lines of a row of MCUs.
+    #[tactic(auto, using(crate::proofs::Rules::gathered_rows), unfolding(crate::specs::JointPlanes::converted))]
     fn convert_row(&self, lines: &[u8], count: usize, output: &mut [u8])
         requires fits { IsFor self.now.shape.count self.now.color_convert }
         requires count { count ≤ self.now.shape.lines }
@@ -243,6 +248,7 @@ impl JointPicture {
 
     // Overwrites the strips with the lines of the picture. Those of a row of MCUs, which are no
     // longer than its strips, are copied to `lines` first.
+    #[tactic(auto, using(crate::proofs::Rules::written), unfolding(crate::specs::JointPlanes::joint_bytes))]
     fn write_in_place(&self, height: usize, lines: &mut [u8], room: &mut [u8])
         requires fits { IsFor self.now.shape.count self.now.color_convert }
         requires high { height ≤ self.now.shape.rows * self.now.shape.lines }
@@ -264,6 +270,7 @@ impl JointPicture {
     }
 
     // Writes the lines of the picture to other memory, a row of MCUs at a time through `lines`.
+    #[tactic(auto, using(crate::proofs::Rules::written), unfolding(crate::specs::JointPlanes::joint_bytes))]
     fn write(&self, height: usize, samples: &[u8], lines: &mut [u8], picture: &mut [u8])
         requires fits { IsFor self.now.shape.count self.now.color_convert }
         requires high { height ≤ self.now.shape.rows * self.now.shape.lines }
@@ -291,6 +298,7 @@ impl JointPicture {
 ///
 /// A transform that doesn't fit is `Format` or `Unsupported(ColorTransform(..))`, and a refused
 /// allocation `OutOfMemory`.
+#[tactic(auto, using(crate::proofs::Rules::images, crate::proofs::Rules::refusals))]
 pub fn compute_joint_image(
     alloc: Global,
     components: &[Component],
@@ -330,6 +338,7 @@ pub fn compute_joint_image(
 /// Writes the picture of like components, whose planes are in one buffer, into memory that has
 /// exactly its bytes: the one that `compute_joint_image` returns, with its errors, after which
 /// nothing is written.
+#[tactic(auto, using(crate::proofs::Rules::images, crate::proofs::Rules::refusals))]
 pub fn compute_joint_image_into(
     alloc: Global,
     components: &[Component],

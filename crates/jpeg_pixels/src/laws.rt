@@ -21,6 +21,7 @@ ghost use Rattle.jpeg_pixels.specs.declared.upsampler.UpsampleRule.TheVariants.{
 
 /// A block whose only coefficient is the first has the same sample everywhere, at each scale: its
 /// eighth and 128, rounded to the nearest, or at one sample a block rounded down.
+#[tactic(auto, using(crate::proofs::Fours::flat))]
 pub fn flat_blocks_are_flat()
     ensures full { (coefficients : List ℤ) (quantization : List ℕ) (x y : ℕ) →
         HasFirstOnly coefficients → x < 8 → y < 8 →
@@ -78,6 +79,7 @@ pub fn zigzag_indices_are_inverse()
 
 /// A plane is its rows of blocks, one after the other, at every scale. So is one that grows by some
 /// rows of blocks at a time.
+#[tactic(auto, using(crate::proofs::PlaneRows::planes))]
 pub fn planes_are_their_rows()
     ensures none { (scale : ℕ) (table : List ℕ) (wide : ℕ) (block_at : ℕ → ℕ → List ℤ) →
         plane_of scale table wide 0 block_at ≡ [] }
@@ -96,6 +98,7 @@ pub fn planes_are_their_rows()
 
 /// What is asked of planes can be had in each frame: planes of all blocks have room for the
 /// samples, and planes with that room cover the picture.
+#[tactic(auto, using(crate::proofs::FrameCovers::frame_laws))]
 pub fn frames_are_covered()
     ensures whole { (number precision width height : ℕ) (factors : List Factors)
         (planes : List (List ℕ)) → All IsInRange factors → 0 < width → 0 < height →
@@ -148,12 +151,13 @@ pub fn known_blocks()
 {}
 
 /// Brightness without colour is grey: its red, green and blue are the brightness.
-#[tactic(auto, using(crate::proofs::Greys::grey))]
+#[tactic(auto, using(crate::proofs::LinesOfColour::grey))]
 pub fn grey_stays_grey()
     ensures { (y : ℕ) → y < 256 → colour_of YCbCr (y ∷ 128 ∷ 128 ∷ []) ≡ y ∷ y ∷ y ∷ [] }
 {}
 
 /// The bytes of some pixels and of two lines, computed.
+#[tactic(auto, unfolding(crate::specs::Colour::red_of, crate::specs::Colour::green_of, crate::specs::Colour::blue_of, crate::specs::Colour::colour_of, crate::specs::Colour::line_bytes))]
 pub fn known_colours()
     ensures ycbcr { colour_of YCbCr (76 ∷ 85 ∷ 255 ∷ []) ≡ 254 ∷ 0 ∷ 0 ∷ [] }
     ensures cmyk { colour_of Cmyk (0 ∷ 10 ∷ 200 ∷ 255 ∷ []) ≡ 255 ∷ 245 ∷ 55 ∷ 0 ∷ [] }
@@ -167,6 +171,7 @@ pub fn known_colours()
 /// At its ends a component is not blended: a component of one sample is that sample everywhere, and
 /// the first and last samples of a row or a column are the component's own. Where it is made
 /// twice as wide and high, those of any row are blended from the two nearest lines alone.
+#[tactic(auto, using(crate::proofs::UpsampledRows::firsts, crate::proofs::UpsampledRows::lasts))]
 pub fn ends_are_kept()
     ensures alone { (rule : UpsampleRule) (plane : ℕ → ℕ → ℕ) (x row : ℕ) → x < across rule
         → row < down rule →

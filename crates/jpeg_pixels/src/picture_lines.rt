@@ -43,6 +43,7 @@ fn upsample_line(source: ComponentSource, plane: &[u8], row: usize, width: usize
 }
 
 // Writes a line of each component, each as wide as the picture, one after the other.
+#[tactic(auto, using(crate::proofs::Rules::line, std::proofs::lemmas::Grind::common_steps))]
 fn upsample_lines(components: &[ComponentSource], line: &Line<'_>, lines: &mut [u8])
     requires planes { length line.now.planes.now ≡ length components.now }
     requires cover { AllCover (map source_in components.now)
@@ -66,6 +67,7 @@ fn upsample_lines(components: &[ComponentSource], line: &Line<'_>, lines: &mut [
 }
 
 /// Writes a line of the picture, by those of its components, which follow one another.
+#[tactic(auto, using(crate::proofs::LinesOfColour::conversions))]
 pub(crate) fn convert_line(
     lines: &[u8],
     width: usize,
@@ -89,6 +91,7 @@ pub(crate) fn convert_line(
 }
 
 /// Writes a line of the picture. The lines of the components are put into the buffer `lines`.
+#[tactic(auto, using(crate::proofs::Rules::line), unfolding(crate::specs::Pictures::picture_line))]
 pub(crate) fn write_line(
     components: &[ComponentSource],
     line: &Line<'_>,
@@ -110,6 +113,7 @@ pub(crate) fn write_line(
 }
 
 /// The picture: its lines from above. The only error is that no memory is left.
+#[tactic(auto, using(crate::proofs::Rules::above, crate::proofs::Rules::pictures))]
 pub(crate) fn lines_from_above(
     alloc: Global,
     components: &[ComponentSource],
@@ -150,6 +154,7 @@ pub(crate) fn lines_from_above(
 
 /// Writes the picture: its lines from above. The lines of the components are put into the buffer
 /// `lines`.
+#[tactic(auto, using(crate::proofs::Rules::lines, crate::proofs::Rules::pictures))]
 pub(crate) fn write_lines(
     components: &[ComponentSource],
     planes: &[Vec<u8>],

@@ -36,6 +36,7 @@ pub fn append_row(
 }
 
 // Writes the samples of some rows of blocks, one after the other.
+#[tactic(auto, using(crate::proofs::PlaneRows::planes))]
 pub(crate) fn write_strips(
     scale: usize,
     strips: &mut [u8],

@@ -171,6 +171,7 @@ fn narrowed(row: i32x8) -> i16x8
 }
 
 #[inline(always)]
+#[tactic(auto, using(crate::proofs::ShortLanes::narrow))]
 fn narrowed_rows(rows: Rows) -> Shorts
     ensures { (f : ℕ → ℕ → ℤ) → ((k j : ℕ) → k < 8 → j < 8 → FitsSigned w16 (f k j))
         → HasNumbers rows f → HasShorts result f }
@@ -219,6 +220,7 @@ fn transpose_shorts(rows: Shorts) -> Shorts
 // Returns the rows unchanged, where their last four are 0. The zeros written here are constants, so the
 // compiler drops the products with them.
 #[inline(always)]
+#[tactic(auto, using(crate::proofs::LaneSums::kept_halves), unfolding(crate::specs::Lanes::lanes))]
 fn with_short_zeros(rows: Shorts) -> Shorts
     ensures { HasShortZeros rows → result ≡ rows }
 {
@@ -295,6 +297,7 @@ fn lines_within(coefficients: [i16; 64], table: &ShortTable) -> Shorts
 
 // The samples of the lines.
 #[inline(always)]
+#[tactic(auto, using(crate::proofs::ShortLanes::rows))]
 fn short_samples(lines: Shorts) -> [u8; 64]
     ensures { (f : ℕ → ℕ → ℤ) → HasShorts lines f
         → (x y : ℕ) → x < 8 → y < 8 → slice_index result (y * 8 + x) ≡ clamped (f y x) }
@@ -345,6 +348,7 @@ fn clamp_short(value: i16) -> u8
 }
 
 // The samples of a block, in lanes of 16 bits where it is within its limits.
+#[tactic(auto, unfolding(crate::specs::Samples::sample, crate::specs::ShortRows::line_value))]
 fn samples_of_block(
     coefficients: [i16; 64],
     quantization_table: &[u16; 64],

@@ -46,7 +46,7 @@ fn odd_sums(s1: i32, s3: i32) -> (i32, i32)
 }
 
 // A sum in 1024ths, rounded.
-#[tactic(auto, using(crate::proofs::Residues::shifted_back, crate::proofs::Residues::wrapped_more))]
+#[tactic(auto, using(crate::proofs::LaneSums::shifted_back, crate::proofs::LaneSums::wrapped_more))]
 fn rounded(sum: i32) -> i32
     ensures { result ≡ int_shr (int_wrap w32 (sum +ℤ pos 512)) 10 }
 {
@@ -54,7 +54,7 @@ fn rounded(sum: i32) -> i32
 }
 
 // A sum of whole numbers in fixed point, with the bias of a row.
-#[tactic(auto, using(crate::proofs::Residues::wrapped_flat))]
+#[tactic(auto, using(crate::proofs::LaneSums::wrapped_flat))]
 fn biased(sum: i32) -> i32
     ensures { result ≡ int_wrap w32 (pos 4096 *ℤ sum +ℤ pos 16842752) }
 {
@@ -62,7 +62,7 @@ fn biased(sum: i32) -> i32
 }
 
 // Four values by what the even and the odd numbers give for the outer and the inner ones.
-#[tactic(auto, using(crate::proofs::Residues::residue_bits, crate::proofs::Residues::wrapping))]
+#[tactic(auto, using(crate::proofs::LaneSums::residue_bits, crate::proofs::LaneSums::wrapping))]
 fn join(outer_even: i32, inner_even: i32, outer_odd: i32, inner_odd: i32) -> [i32; 4]
     ensures { result ≡ int_wrap w32 (outer_even +ℤ outer_odd)
         ∷ int_wrap w32 (inner_even +ℤ inner_odd)
@@ -91,6 +91,7 @@ fn column_values(s0: i32, s1: i32, s2: i32, s3: i32) -> [i32; 4]
     )
 }
 
+#[tactic(auto, using(crate::proofs::Fours::fours), unfolding(crate::specs::Scaled::column_of_4))]
 fn transform_column(
     coefficients: &[i16; 64],
     quantization_table: &[u16; 64],
@@ -164,7 +165,7 @@ pub fn dequantize_and_idct_block_4x4(
 }
 
 // The sample of a sum in eighths.
-#[tactic(auto, using(crate::proofs::Residues::shifted_back, crate::proofs::Residues::wrapped_more))]
+#[tactic(auto, using(crate::proofs::LaneSums::shifted_back, crate::proofs::LaneSums::wrapped_more))]
 fn sample_of_eighths(sum: i32) -> u8
     ensures { result ≡ clamped (int_shr (int_wrap w32 (sum +ℤ pos 1028)) 3) }
 {
@@ -178,6 +179,7 @@ fn sample_of_eighths(sum: i32) -> u8
 /// `8 * v + u`. The sample at `(x, y)` goes to byte `y * output_linestride + x` of the output,
 /// which has room for a line of `output_linestride` bytes and two bytes more. Its other bytes stay
 /// as they are. Sums that are too large for an `i32` wrap.
+#[tactic(auto, using(crate::proofs::Fours::few, crate::proofs::LaneSums::residue_bits, crate::proofs::LaneSums::wrapping), unfolding(crate::specs::Scaled::sample_of_2))]
 pub fn dequantize_and_idct_block_2x2(
     coefficients: &[i16; 64],
     quantization_table: &[u16; 64],

@@ -103,6 +103,7 @@ fn greatest_vertical(components: &[Component]) -> u8
 
 /// How each component is upsampled for a picture of this size. A component for which there is no
 /// rule is `Unsupported(NonIntegerSubsamplingRatio)`, and a refused allocation is `OutOfMemory`.
+#[tactic(auto, using(crate::proofs::Rules::sources))]
 pub(crate) fn component_sources(
     alloc: Global,
     components: &[Component],

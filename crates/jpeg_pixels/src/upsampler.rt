@@ -41,6 +41,7 @@ impl UpsampleRule {
     /// The component has `input_height` lines of `input_width` samples, and each line begins
     /// `row_stride` bytes after the beginning of the one above. The output is at most `across`
     /// times as wide as that.
+    #[tactic(auto, using(crate::proofs::UpsampledRows::upsampled_rows))]
     pub fn upsample_row(
         &self,
         input: &[u8],

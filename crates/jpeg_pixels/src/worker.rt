@@ -150,6 +150,7 @@ impl ImmediateWorker {
 /// A transform that doesn't fit is `Format` or `Unsupported(ColorTransform(..))`, a component for
 /// which there is no rule `Unsupported(NonIntegerSubsamplingRatio)`, and a refused allocation
 /// `OutOfMemory`.
+#[tactic(auto, using(crate::proofs::Rules::images, crate::proofs::Rules::refusals))]
 pub fn compute_image_rows(
     alloc: Global,
     components: &[Component],
@@ -181,6 +182,7 @@ pub fn compute_image_rows(
 
 /// Writes the picture of three or four components into memory that has exactly its bytes: the one
 /// that `compute_image_rows` returns, with its errors, after which nothing is written.
+#[tactic(auto, using(crate::proofs::Rules::images, crate::proofs::Rules::refusals))]
 pub fn compute_image_rows_into(
     alloc: Global,
     components: &[Component],

@@ -1,6 +1,6 @@
 use Rattle.std.proofs.Common.{rules}
 use Rattle.jpeg_pixels.proofs.LaneSums.{lanes_are}
-use Rattle.jpeg_pixels.proofs.LaneRows.{column_row}
+use Rattle.jpeg_pixels.proofs.ShortLanes.{column_row}
 use Rattle.jpeg_pixels.proofs.arch.transform_columns.Goals as goal
 
 pub returns : goal.returns

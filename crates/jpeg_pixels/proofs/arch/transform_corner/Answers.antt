@@ -1,6 +1,6 @@
 use Rattle.std.proofs.Common.{rules}
 use Rattle.jpeg_pixels.specs.Samples.{column_value}
-use Rattle.jpeg_pixels.proofs.LaneRows.{turned_numbers, sums_numbers}
+use Rattle.jpeg_pixels.proofs.ShortLanes.{turned_numbers, sums_numbers}
 use Rattle.jpeg_pixels.proofs.Corners.{zero_rows, no_product_below, no_value_right}
 use Rattle.jpeg_pixels.proofs.arch.transform_corner.Goals as goal
 

@@ -2,7 +2,7 @@ use Rattle.std.proofs.Common.{pos, ◌+ℤ◌}
 use Rattle.std.specs.Int.{w32, int_wrap}
 use Rattle.jpeg_pixels.specs.Samples.{transformed}
 use Rattle.jpeg_pixels.specs.LaneRows.{lane_at}
-use Rattle.jpeg_pixels.proofs.LaneRows.{turned_numbers}
+use Rattle.jpeg_pixels.proofs.ShortLanes.{turned_numbers}
 use Rattle.jpeg_pixels.proofs.arch.transform_rows.Goals as goal
 
 pub returns : goal.returns

@@ -1,5 +1,5 @@
 use Rattle.jpeg_pixels.specs.Samples.{column_value}
-use Rattle.jpeg_pixels.proofs.LaneRows.{turned_numbers, sums_numbers}
+use Rattle.jpeg_pixels.proofs.ShortLanes.{turned_numbers, sums_numbers}
 use Rattle.jpeg_pixels.proofs.arch.transform_whole.Goals as goal
 
 pub returns : goal.returns

@@ -1,42 +1,25 @@
-use Rattle.std.proofs.Common.{◌+◌, ◌-◌, ◌*◌, ◌/◌, ◌%◌, slice_index, arith, ℕ}
-use Rattle.jpeg_pixels.proofs.Pieces.{piece_joined}
+use Rattle.std.proofs.Common.{◌-◌, ◌*◌, ◌/◌, arith}
+use Rattle.std.proofs.lemmas.Bool.{cases_lt}
 use Rattle.jpeg_pixels.proofs.color_rows.write_cmyk.Goals as goal
 
 pub loop-piece-preserved : goal.loop-piece-preserved
 loop-piece-preserved c =
     let start = 64 * c.loop-piece.piece in
-    let was = c.loop-piece.invariant in
     let now = c.write_cmyk_piece.ensures in
-    let w = c.args.width in
-    let line : ℕ → ℕ = λ i. slice_index c.args.lines.now i in
-    let joined = piece_joined start 64 (64 * (c.loop-piece.piece + 1)) (4 * start)
-    c.loop-piece.output c.write_cmyk_piece.new.output (omega arith) now.before in
     record {
-      cyan = joined (λ x. 4 * x) (λ x. 255 - line x) (λ x h. omega arith) was.cyan now.cyan;
-      magenta = joined (λ x. 4 * x + 1) (λ x. 255 - line (w + x))
-          (λ x h. omega arith) was.magenta now.magenta;
-      yellow = joined (λ x. 4 * x + 2) (λ x. 255 - line (2 * w + x))
-          (λ x h. omega arith) was.yellow now.yellow;
-      black = joined (λ x. 4 * x + 3) (λ x. 255 - line (3 * w + x))
-          (λ x h. omega arith) was.black now.black;
+      cyan = λ x h. grind (arith, cases_lt x start, now.cyan (x - start));
+      magenta = λ x h. grind (arith, cases_lt x start, now.magenta (x - start));
+      yellow = λ x h. grind (arith, cases_lt x start, now.yellow (x - start));
+      black = λ x h. grind (arith, cases_lt x start, now.black (x - start));
     }
 
 pub returns : goal.returns
 returns c =
     let start = 64 * (c.args.width / 64) in
-    let was = c.loop-piece.invariant in
     let now = c.write_cmyk_piece-2.ensures in
-    let w = c.args.width in
-    let line : ℕ → ℕ = λ i. slice_index c.args.lines.now i in
-    let joined = piece_joined start (w % 64) w (4 * start)
-    c.loop-piece.output c.write_cmyk_piece-2.new.output (omega arith) now.before in
     record {
-      cyan = joined (λ x. 4 * x) (λ x. 255 - line x)
-          (λ x h. omega arith) (λ x h. was.cyan x (omega arith)) now.cyan;
-      magenta = joined (λ x. 4 * x + 1) (λ x. 255 - line (w + x))
-          (λ x h. omega arith) (λ x h. was.magenta x (omega arith)) now.magenta;
-      yellow = joined (λ x. 4 * x + 2) (λ x. 255 - line (2 * w + x))
-          (λ x h. omega arith) (λ x h. was.yellow x (omega arith)) now.yellow;
-      black = joined (λ x. 4 * x + 3) (λ x. 255 - line (3 * w + x))
-          (λ x h. omega arith) (λ x h. was.black x (omega arith)) now.black;
+      cyan = λ x h. grind (arith, cases_lt x start, now.cyan (x - start));
+      magenta = λ x h. grind (arith, cases_lt x start, now.magenta (x - start));
+      yellow = λ x h. grind (arith, cases_lt x start, now.yellow (x - start));
+      black = λ x h. grind (arith, cases_lt x start, now.black (x - start));
     }

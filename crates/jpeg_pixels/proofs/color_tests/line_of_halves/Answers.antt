@@ -1,17 +1,12 @@
-use Rattle.std.proofs.Common.{[], ◌∷◌, subst, arith, rules}
-use Rattle.std.proofs.lemmas.Grind.{common_steps}
+use Rattle.std.proofs.Common.{[], ◌∷◌, subst, rules}
 use Rattle.std.proofs.lemmas.List.Elements.{All-cons, All-nil}
-use Rattle.jpeg_segments.specs.Frame.{AllHaveSampling, component_of, frame_of}
+use Rattle.jpeg_segments.specs.Frame.{component_of, frame_of}
 use Rattle.jpeg_pixels.specs.Pictures.{HaveRoom}
 use Rattle.jpeg_pixels.specs.PicturesView.{IsFor}
 use Rattle.jpeg_pixels.proofs.ComponentLines.{cover-lower}
 use Rattle.jpeg_pixels.proofs.FramesOfFactors.{are-covered, by_factors}
 use Rattle.jpeg_pixels.proofs.WholePictures.{sources-count}
 use Rattle.jpeg_pixels.proofs.color_tests.line_of_halves.Goals as goal
-
-pub new-requires-clause-factors : goal.new-requires-clause-factors
-unfolding AllHaveSampling
-new-requires-clause-factors c = grind (arith, common_steps)
 
 pub upsample_and_interleave_row-requires-clause-planes : goal.upsample_and_interleave_row-requires-clause-planes
 upsample_and_interleave_row-requires-clause-planes c = search (rules, sources-count)

@@ -1,14 +1,9 @@
-use Rattle.std.proofs.Common.{[], ◌∷◌, arith, rules}
-use Rattle.std.proofs.lemmas.Grind.{common_steps}
+use Rattle.std.proofs.Common.{[], ◌∷◌, rules}
 use Rattle.std.proofs.lemmas.List.Elements.{All-cons, All-nil}
-use Rattle.jpeg_segments.specs.Frame.{AllHaveSampling, component_of, frame_of}
+use Rattle.jpeg_segments.specs.Frame.{component_of, frame_of}
 use Rattle.jpeg_pixels.specs.Pictures.{HaveRoom}
 use Rattle.jpeg_pixels.proofs.FramesOfFactors.{are-covered, by_factors}
 use Rattle.jpeg_pixels.proofs.color_tests.picture_of_three.Goals as goal
-
-pub compute_image_rows-requires-clause-factors : goal.compute_image_rows-requires-clause-factors
-unfolding AllHaveSampling
-compute_image_rows-requires-clause-factors c = grind (arith, common_steps)
 
 pub compute_image_rows-requires-clause-cover : goal.compute_image_rows-requires-clause-cover
 unfolding frame_of component_of HaveRoom

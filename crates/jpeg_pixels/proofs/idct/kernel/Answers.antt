@@ -1,7 +1,7 @@
 use Rattle.std.proofs.Common.{ℕ, rules, ap, ℤ, pos, List, slice_index_or, FitsSigned}
 use Rattle.std.proofs.lemmas.Int.{to_z-of_z}
 use Rattle.std.specs.Int.{w32}
-use Rattle.jpeg_pixels.proofs.MatrixRows.{butterfly_is}
+use Rattle.jpeg_pixels.proofs.LaneSums.{butterfly_is}
 use Rattle.jpeg_pixels.proofs.idct.kernel.Goals as goal
 
 pub returns : goal.returns

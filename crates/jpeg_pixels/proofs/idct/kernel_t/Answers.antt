@@ -1,6 +1,6 @@
 use Rattle.std.proofs.Common.{arith}
 use Rattle.std.proofs.lemmas.Int.{ints}
-use Rattle.jpeg_pixels.proofs.Residues.{residue_bits, wrapping, wrapped_list4}
+use Rattle.jpeg_pixels.proofs.LaneSums.{residue_bits, wrapping, wrapped_list4}
 use Rattle.jpeg_pixels.proofs.idct.kernel_t.Goals as goal
 
 pub returns : goal.returns

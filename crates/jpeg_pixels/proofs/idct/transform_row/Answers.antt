@@ -1,9 +1,8 @@
-use Rattle.std.proofs.Common.{◌≡◌, ◌<◌, ◌+◌, ℕ, ℤ, pos, ◌+ℤ◌, length, List, slice_index_or, arith, rules, FitsSigned}
-use Rattle.std.proofs.Common.{ap, ◌∙◌, sym, refl, ◌-◌, get_or-set_other, lit<, take, drop, length-drop}
-use Rattle.std.proofs.Math.Seq.{take-length}
-use Rattle.std.proofs.lemmas.List.{get_or-drop}
-use borrow.Rule.Slice.PartMut.{mid_of}
-use Rattle.jpeg_pixels.proofs.Residues.{wrapped_flat}
+use Rattle.std.proofs.Common.{◌≡◌, ◌<◌, ℕ, pos, ◌+ℤ◌, slice_index_or, arith, rules, FitsSigned, ap, ◌∙◌, sym, refl}
+use Rattle.std.proofs.Common.{◌-◌, get_or-set_other, lit<, drop}
+use Rattle.std.proofs.lemmas.List.{get_or-drop, get_or-take}
+use Rattle.std.proofs.lemmas.Grind.{common_steps}
+use Rattle.jpeg_pixels.proofs.LaneSums.{wrapped_flat}
 use Rattle.std.specs.Int.{w32, int_wrap, int_shr}
 use Rattle.std.proofs.lemmas.Int.{to_z-of_z}
 use Rattle.jpeg_pixels.proofs.Sums.{set_next, table_at, transformed_one}
@@ -29,19 +28,13 @@ returns-then-is_zero-clause-inside c = λ x h.
     let fits : FitsSigned w32 first = search rules in
     let zeros = c.if-is_zero.ensures.0 refl in
     let none : (k : ℕ) → 0 < k → k < 8 → slice_index_or values k (pos 0) ≡ pos 0 = λ k some small.
-    let seven : 7 ≡ length (drop 1 values) = omega (arith, length-drop {A = ℤ}, c.told-values) in
-    let part : mid_of 1 7 values ≡ drop 1 values = ap (λ (n : ℕ). take n (drop 1 values)) seven
-    ∙ take-length (drop 1 values) in
-    let at : 1 + (k - 1) ≡ k = omega arith in
-    let within : k - 1 < length (mid_of 1 7 values) = omega (
+    grind (
       arith,
-      ap length part,
-      length-drop {A = ℤ},
-      c.told-values,
+      common_steps,
+      zeros (k - 1) (pos 0),
+      get_or-take 7 (drop 1 values) (k - 1) (pos 0),
+      get_or-drop 1 values (k - 1) (pos 0),
     ) in
-    ap (λ (n : ℕ). slice_index_or values n (pos 0)) (sym at) ∙ sym (get_or-drop 1 values (k - 1) (pos 0))
-    ∙ ap (λ (l : List ℤ). slice_index_or l (k - 1) (pos 0)) (sym part)
-    ∙ zeros (k - 1) (pos 0) within in
     c.loop-x.invariant.0 x below ∙ c.sample_of-sample.ensures
     ∙ ap (λ z. clamped (int_shr z 17)) (wrapped_flat first 16842752 fits (lit< tt)
     ∙ ap (λ z. int_wrap w32 (z +ℤ pos 16842752)) (sym (transformed_one (λ k. slice_index_or values k (pos 0)) x h

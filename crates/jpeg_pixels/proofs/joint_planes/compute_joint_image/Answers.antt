@@ -1,18 +1,9 @@
-use Rattle.std.proofs.Common.{ap, ◌∙◌, rules}
+use Rattle.std.proofs.Common.{ap, ◌∙◌}
 use Rattle.std.proofs.lemmas.List.{length-map, with_items_is}
-use Rattle.std.proofs.lemmas.Result.{err_from_is_err_and}
 use Rattle.jpeg_segments.specs.FrameView.{component_in}
 use Rattle.jpeg_pixels.specs.Colour.{conversion_of}
 use Rattle.jpeg_pixels.proofs.JointPictures.{image-joint}
-use Rattle.jpeg_pixels.proofs.WholePictures.{conversion-fits, image-no_conversion}
 use Rattle.jpeg_pixels.proofs.joint_planes.compute_joint_image.Goals as goal
-
-pub returns-in_err-color_convert : goal.returns-in_err-color_convert
-returns-in_err-color_convert c =
-    search (rules, err_from_is_err_and, image-no_conversion, length-map)
-
-pub write_in_place-requires-clause-fits : goal.write_in_place-requires-clause-fits
-write_in_place-requires-clause-fits c = search (rules, conversion-fits, length-map)
 
 pub returns : goal.returns
 returns c =

@@ -1,18 +1,9 @@
-use Rattle.std.proofs.Common.{ap, ◌∙◌, rules}
+use Rattle.std.proofs.Common.{ap, ◌∙◌}
 use Rattle.std.proofs.lemmas.List.{length-map}
-use Rattle.std.proofs.lemmas.Result.{err_from_is_err_and}
 use Rattle.jpeg_segments.specs.FrameView.{component_in}
 use Rattle.jpeg_pixels.specs.Colour.{conversion_of}
 use Rattle.jpeg_pixels.proofs.JointPictures.{image-joint}
-use Rattle.jpeg_pixels.proofs.WholePictures.{conversion-fits, image-no_conversion}
 use Rattle.jpeg_pixels.proofs.joint_planes.compute_joint_image_into.Goals as goal
-
-pub returns-in_err-color_convert-clause-picture : goal.returns-in_err-color_convert-clause-picture
-returns-in_err-color_convert-clause-picture c =
-    search (rules, err_from_is_err_and, image-no_conversion, length-map)
-
-pub write-requires-clause-fits : goal.write-requires-clause-fits
-write-requires-clause-fits c = search (rules, conversion-fits, length-map)
 
 pub returns-clause-picture : goal.returns-clause-picture
 returns-clause-picture c =

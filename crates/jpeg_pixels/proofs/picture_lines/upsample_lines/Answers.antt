@@ -1,8 +1,6 @@
-use Rattle.std.proofs.lemmas.Grind.{common_steps}
 use Rattle.std.proofs.Common.{◌≡◌, ◌+◌, ◌*◌, ◌<◌, ◌≤◌, [], length, map, get_or, ap, sym, ◌∙◌, arith, rules}
 use Rattle.std.proofs.Math.Nat.{mul-le-mul_right}
 use Rattle.std.proofs.Math.ListN as lists
-use Rattle.std.proofs.Math.Seq.{take-length}
 use Rattle.std.proofs.lemmas.List.{get_or-map, length-map}
 use Rattle.jpeg_pixels.specs.declared.upsampler.ComponentSource.{ComponentSource}
 use Rattle.jpeg_pixels.specs.declared.upsampler.UpsampleRule.TheVariants.{H1V1}
@@ -53,6 +51,3 @@ loop-index-preserved c =
       lines_of-length sources (map (λ v. v.items) planes) width row counts,
     )) room
     (omega (arith, c.upsample_line.auto.line)) (c.upsample_line.ensures ∙ sym line) c.loop-index.invariant
-
-pub returns : goal.returns
-returns c = grind (arith, common_steps, length-map, lines_of-length, take-length)

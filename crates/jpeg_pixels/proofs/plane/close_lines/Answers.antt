@@ -1,4 +1,4 @@
-use Rattle.jpeg_pixels.proofs.CroppedLines.{next_line}
+use Rattle.jpeg_pixels.proofs.PlaneRows.{next_line}
 use Rattle.std.proofs.Common.{refl, ◌+◌, ◌*◌}
 use Rattle.jpeg_pixels.proofs.plane.close_lines.Goals as goal
 

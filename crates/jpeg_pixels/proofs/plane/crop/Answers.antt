@@ -1,6 +1,6 @@
 use Rattle.std.proofs.Common.{◌≡◌, ◌≤◌, ap, sym, ◌∙◌, ◌*◌, ◌+◌, List, ℕ, get_or, take, length, arith}
 use Rattle.std.proofs.lemmas.List.{with_items_is}
-use Rattle.jpeg_pixels.proofs.CroppedLines.{all_lines, same_lines}
+use Rattle.jpeg_pixels.proofs.PlaneRows.{all_lines, same_lines}
 use Rattle.jpeg_pixels.proofs.plane.crop.Goals as goal
 use Rattle.jpeg_pixels.proofs.plane.crop.Goals.{then-width-stride, else-width-stride}
 

@@ -1,6 +1,6 @@
 use Rattle.std.proofs.Common.{◌*◌, length, slice_index_or}
 use Rattle.jpeg_pixels.specs.Planes.{plane_sample, zero_coefficients}
-use Rattle.jpeg_pixels.proofs.Strips.{HoldsSamples}
+use Rattle.jpeg_pixels.proofs.PlaneRows.{HoldsSamples}
 use Rattle.jpeg_pixels.proofs.plane.write_strip.Given as goal
 
 abbrev pub invariant-loop-column : goal.invariant-loop-column

@@ -1,10 +1,6 @@
-use Rattle.std.proofs.Common.{length, arith, rules}
-use Rattle.jpeg_pixels.proofs.PlaneRows.{plane-none}
-use Rattle.jpeg_pixels.proofs.RowsOfBlocks.{rows_next, row_has_room}
+use Rattle.std.proofs.Common.{length, arith}
+use Rattle.jpeg_pixels.proofs.PlaneRows.{rows_next, row_has_room}
 use Rattle.jpeg_pixels.proofs.plane.write_strips.Goals as goal
-
-pub loop-row-init : goal.loop-row-init
-loop-row-init c = search (rules, plane-none)
 
 pub slice_bounds-write_strip-end : goal.slice_bounds-write_strip-end
 slice_bounds-write_strip-end c =

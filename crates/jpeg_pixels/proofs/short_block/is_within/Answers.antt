@@ -1,23 +1,23 @@
 use Rattle.std.proofs.Common.{◌+◌, ◌*◌, ◌≤◌, ◌/◌, ℕ, ℤ, pos, arith, rules, slice_index_or, slice_index}
 use Rattle.std.specs.Prelude.{unsigned_abs, max}
-use Rattle.std.specs.Int.{w16}
-use Rattle.jpeg_pixels.proofs.LaneSums.{halves_fit}
-use Rattle.jpeg_pixels.proofs.LaneRows.{eight_cases}
-use Rattle.jpeg_pixels.proofs.ShortLanes.{signed_given, signed_chosen, both_above, all_at_least, row_by_row, limit_told}
+use Rattle.jpeg_pixels.proofs.LaneSums.{halves_are}
+use Rattle.jpeg_pixels.proofs.Sums.{eight_cases}
+use Rattle.jpeg_pixels.proofs.ShortLanes.{signed_given, signed_chosen, both_above, all_at_least, row_by_row}
+use Rattle.jpeg_pixels.proofs.ShortLanes.{limit_told}
 use Rattle.jpeg_pixels.proofs.short_block.is_within.Goals as goal
 
 pub returns : goal.returns
 returns c quantization table full =
     let z : ℕ → ℤ = λ k. slice_index_or c.args.coefficients k (pos 0) in
     let Is : ℕ → Type 0 = λ k. unsigned_abs (z k) ≤ 1095 / max (slice_index quantization k) 1 in
-    let s0 = signed_given w16 c.slack.result (search rules) (halves_fit c.slack.result _ c.slack.type_inv.1.1) in
-    let s1 = signed_given w16 c.slack-2.result (search rules) (halves_fit c.slack-2.result _ c.slack-2.type_inv.1.1) in
-    let s2 = signed_given w16 c.slack-3.result (search rules) (halves_fit c.slack-3.result _ c.slack-3.type_inv.1.1) in
-    let s3 = signed_given w16 c.slack-4.result (search rules) (halves_fit c.slack-4.result _ c.slack-4.type_inv.1.1) in
-    let s4 = signed_given w16 c.slack-5.result (search rules) (halves_fit c.slack-5.result _ c.slack-5.type_inv.1.1) in
-    let s5 = signed_given w16 c.slack-6.result (search rules) (halves_fit c.slack-6.result _ c.slack-6.type_inv.1.1) in
-    let s6 = signed_given w16 c.slack-7.result (search rules) (halves_fit c.slack-7.result _ c.slack-7.type_inv.1.1) in
-    let s7 = signed_given w16 c.slack-8.result (search rules) (halves_fit c.slack-8.result _ c.slack-8.type_inv.1.1) in
+    let s0 = signed_given (halves_are c.slack.result _ (search rules) c.slack.type_inv.1.1) in
+    let s1 = signed_given (halves_are c.slack-2.result _ (search rules) c.slack-2.type_inv.1.1) in
+    let s2 = signed_given (halves_are c.slack-3.result _ (search rules) c.slack-3.type_inv.1.1) in
+    let s3 = signed_given (halves_are c.slack-4.result _ (search rules) c.slack-4.type_inv.1.1) in
+    let s4 = signed_given (halves_are c.slack-5.result _ (search rules) c.slack-5.type_inv.1.1) in
+    let s5 = signed_given (halves_are c.slack-6.result _ (search rules) c.slack-6.type_inv.1.1) in
+    let s6 = signed_given (halves_are c.slack-7.result _ (search rules) c.slack-7.type_inv.1.1) in
+    let s7 = signed_given (halves_are c.slack-8.result _ (search rules) c.slack-8.type_inv.1.1) in
     let m1 = signed_chosen s0 s1 s0 s1 in
     let m2 = signed_chosen m1 s2 m1 s2 in
     let m3 = signed_chosen m2 s3 m2 s3 in

@@ -2,7 +2,7 @@ use Rattle.std.proofs.Common.{subst, sym, arith}
 use Rattle.jpeg_pixels.specs.Samples.{column_value, dequantized}
 use Rattle.jpeg_pixels.specs.ShortRows.{HasShorts}
 use Rattle.jpeg_pixels.proofs.Corners.{no_product_below, no_value_right}
-use Rattle.jpeg_pixels.proofs.ShortPasses.{zero_shorts}
+use Rattle.jpeg_pixels.proofs.ShortLanes.{zero_shorts}
 use Rattle.jpeg_pixels.proofs.short_block.lines_within.Goals as goal
 use Rattle.std.proofs.lemmas.Grind.{common_steps}
 

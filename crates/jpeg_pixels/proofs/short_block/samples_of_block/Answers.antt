@@ -10,7 +10,3 @@ returns-then-is_within c =
     let within : HasShortProducts c.args.coefficients quantization = search rules in
     c.short_samples.ensures (line_value (column_value c.args.coefficients quantization))
     (c.lines_within.ensures quantization c.requires within)
-
-pub returns-else-is_within : goal.returns-else-is_within
-unfolding sample
-returns-else-is_within c = search rules

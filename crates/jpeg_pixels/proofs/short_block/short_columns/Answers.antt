@@ -1,6 +1,6 @@
 use Rattle.std.proofs.Common.{rules, lit<}
 use Rattle.jpeg_pixels.specs.Samples.{column_value}
-use Rattle.jpeg_pixels.proofs.ShortPasses.{value_fits, value_row}
+use Rattle.jpeg_pixels.proofs.ShortLanes.{value_fits, value_row}
 use Rattle.jpeg_pixels.proofs.short_block.short_columns.Goals as goal
 
 pub returns : goal.returns

@@ -1,5 +1,5 @@
 use Rattle.jpeg_pixels.specs.ShortRows.{line_value}
-use Rattle.jpeg_pixels.proofs.ShortPasses.{line_fits, line_row}
+use Rattle.jpeg_pixels.proofs.ShortLanes.{line_fits, line_row}
 use Rattle.jpeg_pixels.proofs.short_block.short_lines.Goals as goal
 
 pub returns : goal.returns

@@ -1,7 +1,7 @@
 use Rattle.std.proofs.Common.{◌+◌, ◌≤ℤ◌, pos, rules, subst}
 use Rattle.jpeg_pixels.proofs.LaneSums.{halves_fit, lane-lanes}
-use Rattle.jpeg_pixels.proofs.ShortLanes.{signed_loaded, signed_add, signed_sub, signed_chosen, signed_read, both_above}
-use Rattle.jpeg_pixels.proofs.ShortLanes.{within_limit}
+use Rattle.jpeg_pixels.proofs.ShortLanes.{signed_loaded, signed_add, signed_sub, signed_chosen, signed_read}
+use Rattle.jpeg_pixels.proofs.ShortLanes.{both_above, within_limit}
 use Rattle.jpeg_pixels.proofs.short_block.slack.Goals as goal
 
 pub returns : goal.returns

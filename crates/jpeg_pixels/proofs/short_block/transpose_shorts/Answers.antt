@@ -1,7 +1,7 @@
 use Rattle.std.proofs.Common.{rules, lit<}
 use Rattle.std.specs.Int.{w16}
 use Rattle.jpeg_pixels.proofs.LaneSums.{column_through, halves_are}
-use Rattle.jpeg_pixels.proofs.ShortPasses.{turned_shorts}
+use Rattle.jpeg_pixels.proofs.ShortLanes.{turned_shorts}
 use Rattle.jpeg_pixels.proofs.short_block.transpose_shorts.Goals as goal
 
 pub returns : goal.returns

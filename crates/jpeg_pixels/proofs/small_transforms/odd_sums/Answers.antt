@@ -1,4 +1,4 @@
-use Rattle.jpeg_pixels.proofs.Residues.{residue_bits, wrapping}
+use Rattle.jpeg_pixels.proofs.LaneSums.{residue_bits, wrapping}
 use Rattle.jpeg_pixels.proofs.small_transforms.odd_sums.Goals as goal
 use Rattle.std.proofs.Common.{rules}
 

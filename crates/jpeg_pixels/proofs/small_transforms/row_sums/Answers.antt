@@ -1,7 +1,7 @@
 use Rattle.std.proofs.Common.{rules, FitsSigned}
 use Rattle.std.specs.Int.{w32}
 use Rattle.std.proofs.lemmas.Int.{to_z-of_z}
-use Rattle.jpeg_pixels.proofs.Residues.{wrapped_sum, wrapped_difference}
+use Rattle.jpeg_pixels.proofs.LaneSums.{wrapped_sum, wrapped_difference}
 use Rattle.jpeg_pixels.proofs.Fours.{row_is}
 use Rattle.jpeg_pixels.proofs.small_transforms.row_sums.Goals as goal
 

@@ -1,17 +1,14 @@
-use Rattle.std.proofs.Common.{◌≡◌, length, map, arith, subst, rules}
+use Rattle.std.proofs.Common.{◌≡◌, length, map, arith, subst}
 use Rattle.std.proofs.lemmas.Grind.{common_steps}
 use Rattle.std.proofs.Math.ListN as lists
 use Rattle.std.proofs.lemmas.List.{map-append, length-map}
 use Rattle.std.proofs.lemmas.Result.{err_from_is_err_and}
 use Rattle.jpeg_segments.specs.Frame.{HasSampling}
 use Rattle.jpeg_segments.specs.FrameView.{component_in}
-use Rattle.jpeg_segments.proofs.Gathered.{gathers-none, gathers-more, gathers-refused, gathers-all}
+use Rattle.jpeg_segments.proofs.Gathered.{gathers-more, gathers-refused}
 use Rattle.jpeg_segments.proofs.ScaleLemmas.{none}
 use Rattle.jpeg_pixels.proofs.SourceLists.{factors-at}
 use Rattle.jpeg_pixels.proofs.sources.component_sources.Goals as goal
-
-pub loop-component-init : goal.loop-component-init
-loop-component-init c = search (rules, gathers-none)
 
 pub component_source-requires : goal.component_source-requires
 component_source-requires c =
@@ -31,6 +28,3 @@ returns-in_err-source c =
     let at = lists.get_or-map component_in c.args.components.now c.loop-component.component-index none in
     let p = err_from_is_err_and c.from_residual-in_err-source.result c.from_residual-in_err-source.ensures.1 in
     grind (arith, common_steps, gathers-refused, length-map)
-
-pub returns : goal.returns
-returns c = grind (arith, common_steps, gathers-all, length-map)

@@ -1,26 +1,9 @@
-use Rattle.std.proofs.Common.{map, ap, ◌∙◌, rules}
+use Rattle.std.proofs.Common.{map, ap, ◌∙◌}
 use Rattle.std.proofs.lemmas.List.{length-map}
-use Rattle.std.proofs.lemmas.Result.{err_from_is_err_and}
 use Rattle.jpeg_segments.specs.FrameView.{component_in}
 use Rattle.jpeg_pixels.specs.Colour.{conversion_of}
-use Rattle.jpeg_pixels.proofs.WholePictures.{conversion-fits, image-no_conversion, image-no_sources, image-answer}
-use Rattle.jpeg_pixels.proofs.WholePictures.{sources-count}
+use Rattle.jpeg_pixels.proofs.WholePictures.{image-answer}
 use Rattle.jpeg_pixels.proofs.worker.compute_image_rows.Goals as goal
-
-pub returns-in_err-color_convert : goal.returns-in_err-color_convert
-returns-in_err-color_convert c = search (rules, err_from_is_err_and, image-no_conversion, length-map)
-
-pub returns-in_err-upsampler : goal.returns-in_err-upsampler
-returns-in_err-upsampler c = search (rules, err_from_is_err_and, image-no_sources, length-map)
-
-pub picture-requires-clause-most : goal.picture-requires-clause-most
-picture-requires-clause-most c = search (rules, length-map, sources-count)
-
-pub picture-requires-clause-planes : goal.picture-requires-clause-planes
-picture-requires-clause-planes c = search (rules, length-map, sources-count)
-
-pub picture-requires-clause-fits : goal.picture-requires-clause-fits
-picture-requires-clause-fits c = search (rules, conversion-fits, length-map, sources-count)
 
 pub returns : goal.returns
 returns c =

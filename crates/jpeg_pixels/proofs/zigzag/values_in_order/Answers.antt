@@ -1,6 +1,6 @@
 use Rattle.std.proofs.Common.{slice_index, arith}
 use Rattle.jpeg_bits.specs.Zigzag.{values_in_block_order}
-use Rattle.jpeg_pixels.proofs.ZigzagIndices.{filled_by_indices}
+use Rattle.jpeg_pixels.proofs.Sums.{filled_by_indices}
 use Rattle.jpeg_pixels.proofs.zigzag.values_in_order.Goals as goal
 
 pub returns : goal.returns

@@ -1,4 +1,4 @@
-use Rattle.jpeg_pixels.proofs.ZigzagIndices.{index_lt}
+use Rattle.jpeg_pixels.proofs.Sums.{index_lt}
 use Rattle.jpeg_bits.specs.Zigzag.{zigzag_indices}
 use Rattle.jpeg_pixels.proofs.zigzag.zigzag_index.Goals as goal
 

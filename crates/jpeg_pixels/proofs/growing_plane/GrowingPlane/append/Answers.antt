@@ -1,10 +1,6 @@
-use Rattle.std.proofs.lemmas.Grind.{common_steps}
 use Rattle.std.proofs.Common.{◌+◌, ◌-◌, ◌*◌, ◌/◌, ◌∙◌, length, arith}
-use Rattle.jpeg_pixels.proofs.Growing.{grown_fits, grown_is, row_fits, row_of_chunks}
+use Rattle.jpeg_pixels.proofs.Growing.{grown_is, row_fits, row_of_chunks}
 use Rattle.jpeg_pixels.proofs.growing_plane.GrowingPlane.append.Goals as goal
-
-pub invariant_of-self : goal.invariant_of-self
-invariant_of-self c = grind (arith, common_steps, grown_fits, row_fits)
 
 pub returns : goal.returns
 returns c =

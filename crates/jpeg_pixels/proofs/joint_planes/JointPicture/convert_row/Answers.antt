@@ -1,14 +1,8 @@
 use Rattle.std.proofs.Common.{arith}
 use Rattle.jpeg_pixels.specs.Colour.{line_bytes}
 use Rattle.jpeg_pixels.specs.JointPlanes.{converted, strip_lines}
-use Rattle.jpeg_pixels.proofs.FilledLines.{no-lines}
-use Rattle.jpeg_pixels.proofs.JointRows.{gathered-line, joined-put, strip_lines-count}
-use Rattle.jpeg_pixels.proofs.JointRows.{strip_lines-long}
+use Rattle.jpeg_pixels.proofs.JointPictures.{gathered-line, joined-put, strip_lines-count, strip_lines-long}
 use Rattle.jpeg_pixels.proofs.joint_planes.JointPicture.convert_row.Goals as goal
-
-pub loop-line-init : goal.loop-line-init
-unfolding converted
-loop-line-init c = λ strips long is. no-lines c.line_size-size.result c.args.output.now
 
 pub loop-line-preserved : goal.loop-line-preserved
 unfolding converted

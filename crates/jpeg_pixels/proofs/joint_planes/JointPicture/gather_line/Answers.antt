@@ -1,12 +1,6 @@
 use Rattle.std.proofs.Common.{refl, arith, rules}
-use Rattle.std.proofs.lemmas.List.{take_all}
-use Rattle.jpeg_pixels.specs.JointPlanes.{strip_lines}
-use Rattle.jpeg_pixels.proofs.JointRows.{joined-put, part-fits, strip_line}
+use Rattle.jpeg_pixels.proofs.JointPictures.{joined-put, strip_line}
 use Rattle.jpeg_pixels.proofs.joint_planes.JointPicture.gather_line.Goals as goal
-
-pub slice_bounds-copy_from_slice-end-in-loop-slot :
-    goal.slice_bounds-copy_from_slice-end-in-loop-slot
-slice_bounds-copy_from_slice-end-in-loop-slot c = search (rules, part-fits)
 
 pub loop-slot-preserved : goal.loop-slot-preserved
 loop-slot-preserved c =
@@ -14,7 +8,3 @@ loop-slot-preserved c =
     joined-put (strip_line shape c.args.self.now.width c.args.strips.now c.args.line)
     c.loop-slot.slot _ c.args.self.now.width _ _ c.loop-slot.lines c.copy_from_slice.new.self
     c.loop-slot-test.true refl (omega arith) (omega arith) (search rules) c.loop-slot.invariant
-
-pub returns : goal.returns
-unfolding strip_lines
-returns c = search (rules, take_all)

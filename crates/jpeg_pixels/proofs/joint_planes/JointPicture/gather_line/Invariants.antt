@@ -1,5 +1,5 @@
 use Rattle.std.proofs.Common.{◌≡◌, ◌*◌, take}
-use Rattle.jpeg_pixels.proofs.JointRows.{joined, strip_line}
+use Rattle.jpeg_pixels.proofs.JointPictures.{joined, strip_line}
 use Rattle.jpeg_pixels.proofs.joint_planes.JointPicture.gather_line.Given as goal
 
 abbrev pub invariant-loop-slot : goal.invariant-loop-slot

@@ -1,13 +1,8 @@
-use Rattle.std.proofs.Common.{arith, rules}
+use Rattle.std.proofs.Common.{arith}
 use Rattle.std.specs.List.{concat}
 use Rattle.jpeg_pixels.specs.JointPlanes.{gathered, strip_lines}
-use Rattle.jpeg_pixels.proofs.FilledLines.{no-lines}
-use Rattle.jpeg_pixels.proofs.JointRows.{joined-put}
+use Rattle.jpeg_pixels.proofs.JointPictures.{joined-put}
 use Rattle.jpeg_pixels.proofs.joint_planes.JointPicture.gather_row.Goals as goal
-
-pub loop-line-init : goal.loop-line-init
-unfolding gathered
-loop-line-init c = search (rules, no-lines)
 
 pub loop-line-preserved : goal.loop-line-preserved
 unfolding gathered

@@ -1,16 +1,7 @@
 use Rattle.std.proofs.Common.{ℕ, ◌+◌, ◌*◌, ◌≤◌, length, arith, rules, ◌∙◌, length-drop, length-take}
 use borrow.Rule.Slice.PartMut.{same_len_mid}
-use Rattle.jpeg_pixels.specs.JointPlanes.{joint_bytes}
-use Rattle.jpeg_pixels.proofs.JointPictures.{all-written, lines-end, row-written, strips-inside}
-use Rattle.jpeg_pixels.proofs.JointPictures.{unread-more}
+use Rattle.jpeg_pixels.proofs.JointPictures.{lines-end, row-written, unread-more}
 use Rattle.jpeg_pixels.proofs.joint_planes.JointPicture.write_in_place.Goals as goal
-
-pub loop-row-init : goal.loop-row-init
-unfolding joint_bytes
-loop-row-init c = search rules
-
-pub slice_bounds-gather_row-end : goal.slice_bounds-gather_row-end
-slice_bounds-gather_row-end c = search (rules, strips-inside)
 
 ends : (c : goal.After-min)
     → c.min.result * c.line_size-size.result + c.lines_in-count.result * c.line_size-size.result
@@ -47,6 +38,3 @@ loop-row-preserved c =
           (omega arith) (omega arith) so_far.unread;
       long = same_len_mid _ _ c.loop-row.room c.convert_row.new.output part ∙ so_far.long;
     }
-
-pub returns : goal.returns
-returns c = search (rules, all-written)

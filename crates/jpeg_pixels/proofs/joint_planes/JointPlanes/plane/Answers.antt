@@ -1,7 +1,6 @@
-use Rattle.std.proofs.lemmas.Grind.{common_steps}
 use Rattle.std.proofs.Common.{arith, rules}
 use Rattle.jpeg_pixels.specs.JointPlanes.{strip_size}
-use Rattle.jpeg_pixels.proofs.JointRows.{part-fits, samples-all, samples-more}
+use Rattle.jpeg_pixels.proofs.JointPictures.{part-fits, samples-all}
 use Rattle.jpeg_pixels.proofs.joint_planes.JointPlanes.plane.Goals as goal
 
 pub slice_bounds-extend_from_slice-end : goal.slice_bounds-extend_from_slice-end
@@ -11,9 +10,6 @@ slice_bounds-extend_from_slice-end c =
     c.loop-row-test.true c.requires.slot in
     let same = rw (← c.requires.full, ← c.row_size.ensures, ← c.strip_size-size.ensures) at fits in
     omega (arith, same)
-
-pub loop-row-preserved : goal.loop-row-preserved
-loop-row-preserved c = grind (arith, common_steps, samples-more)
 
 pub returns : goal.returns
 returns c = search (rules, samples-all)

@@ -1,5 +1,5 @@
 use Rattle.std.proofs.Common.{◌≡◌, ◌*◌}
-use Rattle.jpeg_pixels.proofs.JointRows.{first_samples}
+use Rattle.jpeg_pixels.proofs.JointPictures.{first_samples}
 use Rattle.jpeg_pixels.proofs.joint_planes.JointPlanes.plane.Given as goal
 
 abbrev pub invariant-loop-row : goal.invariant-loop-row

@@ -1,22 +1,8 @@
-use Rattle.std.proofs.Common.{ℕ, ◌+◌, ◌*◌, ◌/◌, ◌≤◌, ◌∙◌, arith, ap, subst, slice_index, get_or, length, length-take}
-use Rattle.std.proofs.Common.{rules}
+use Rattle.std.proofs.Common.{ℕ, ◌+◌, ◌*◌, ◌/◌, ◌≤◌, ◌∙◌, arith, ap, subst, slice_index, length, length-take}
 use Rattle.std.specs.Int.{div_ceil}
 use Rattle.jpeg_pixels.specs.Upsampling.{across}
-use Rattle.jpeg_pixels.proofs.UpsampledRows.{in_front, as_h1v1, as_h2v1, as_h1v2, as_h2v2, as_generic, repeated_within}
-use Rattle.jpeg_pixels.proofs.UpsampledRows.{used_enough}
+use Rattle.jpeg_pixels.proofs.UpsampledRows.{in_front, as_generic, repeated_within, used_enough}
 use Rattle.jpeg_pixels.proofs.upsampler.UpsampleRule.upsample_row.Goals as goal
-
-pub returns-in-H1V1-clause-samples : goal.returns-in-H1V1-clause-samples
-returns-in-H1V1-clause-samples c = search (rules, as_h1v1, get_or, in_front, slice_index)
-
-pub returns-in-H2V1-clause-samples : goal.returns-in-H2V1-clause-samples
-returns-in-H2V1-clause-samples c = search (rules, as_h2v1, in_front, length-take, slice_index)
-
-pub returns-in-H1V2-clause-samples : goal.returns-in-H1V2-clause-samples
-returns-in-H1V2-clause-samples c = search (rules, as_h1v2, in_front, length-take, slice_index)
-
-pub returns-in-H2V2-clause-samples : goal.returns-in-H2V2-clause-samples
-returns-in-H2V2-clause-samples c = search (rules, as_h2v2, in_front, length-take, slice_index)
 
 pub line_at-line-requires-in-Generic : goal.line_at-line-requires-in-Generic
 line_at-line-requires-in-Generic c =

@@ -1,0 +1,37 @@
+-- Lemmas that the proofs of functions use, by what they are about.
+use Rattle.std.proofs.Common.{length-append, length-drop, length-take}
+use Rattle.std.proofs.Math.Seq.{take-length}
+use Rattle.std.proofs.lemmas.Grind.{common_steps}
+use Rattle.std.proofs.lemmas.List.{length-map, take_all, with_items_is}
+use Rattle.std.proofs.lemmas.List.Elements.{All-more, All-same}
+use Rattle.std.proofs.lemmas.Result.{err_from_is_err_and}
+use Rattle.jpeg_pixels.proofs.ComponentLines.{cover-lower, lines_of-length, lines_of-long}
+use Rattle.jpeg_pixels.proofs.JoinedLines.{all-lines, line-fits, lines-before, no-lines}
+use Rattle.jpeg_pixels.proofs.JointPictures.{all-written, strips-inside, part-fits}
+use Rattle.jpeg_pixels.proofs.WholePictures.{conversion-fits, image-no_conversion, image-no_sources, picture-more}
+use Rattle.jpeg_pixels.proofs.WholePictures.{picture-none, sources-count}
+use Rattle.jpeg_segments.proofs.Gathered.{gathers-all, gathers-none}
+use borrow.Rule.Slice.PartMut.{put_mid}
+
+pub ruleset alike = (All-more, All-same, take_all)
+
+-- what a picture asks of its conversion, and its errors
+pub ruleset images = (conversion-fits, err_from_is_err_and, length-map, sources-count)
+
+pub ruleset refusals = (image-no_conversion, image-no_sources)
+
+-- lines of a picture
+pub ruleset line = (length-map, lines_of-length, lines_of-long, take-length)
+
+pub ruleset lines = (common_steps, all-lines, line-fits, lines-before, no-lines)
+
+pub ruleset pictures = (cover-lower, picture-more, picture-none)
+
+pub ruleset above = (common_steps, length-append, length-drop, length-take, put_mid, with_items_is)
+
+-- strips of components alike
+pub ruleset gathered_rows = (no-lines, part-fits, take_all)
+
+pub ruleset written = (all-written, strips-inside, take_all)
+
+pub ruleset sources = (gathers-none, gathers-all, length-map)
