@@ -1,5 +1,4 @@
--- What is unfolded to compute the definitions of streams on a literal: those of any stream, of lossless ones, and of
--- written ones.
+-- What is unfolded to compute the definitions of streams on a literal: those of any stream, and of lossless ones.
 use Rattle.std.specs.Prelude.{⊤}
 use Rattle.std.specs.Int.{int_wrap}
 use Rattle.jpeg_bits.specs.Bands.{difference, first_ac, first_dc, token_at, token_from}
@@ -48,10 +47,6 @@ use Rattle.jpeg_segments.specs.ScanHeaders.{scan_payload}
 use Rattle.jpeg_segments.specs.WrittenSegments.{frame_payload, huffman_bytes}
 use Rattle.jpeg_streams.specs.LosslessScans.{lossless_coding, lossless_codings, mcus_across, mcus_down, parts_of}
 use Rattle.jpeg_streams.specs.LosslessScans.{with_samples}
-use Rattle.jpeg_bits.specs.Written.{bits_of_bytes, low_bits, number_for, stuffed}
-use Rattle.jpeg_streams.specs.WrittenData.{corrections, count_unknown}
-use Rattle.jpeg_streams.specs.WrittenScans.{levels_after}
-use Rattle.jpeg_streams.proofs.TestedStreams.{holds_for, scan_of_samples}
 
 unfoldable pub streams_on_literals : ⊤
 unfolding accepted adobe_at after_bytes after_restarts after_scan all_spots app_at application_by arrays_at
@@ -83,8 +78,3 @@ unfolding each prediction.first_line frame_payload huffman_bytes differences.int
     differences.strands
     scan_payload scans.lines_by_component scans.planes_of scans.scan_at with_samples
 samples_on_literals = tt
-
-unfoldable pub written_on_literals : ⊤
-unfolding streams_on_literals samples_on_literals bits_of_bytes corrections count_unknown holds_for
-    levels_after low_bits number_for scan_of_samples stuffed
-written_on_literals = tt

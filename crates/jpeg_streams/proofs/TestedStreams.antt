@@ -1,5 +1,9 @@
 -- Whole streams, tested as they are read. What is read of a segment was written, so a segment proves itself. The data of
 -- scans are made from what is to be written, and compared.
+use Rattle.std.specs.Prelude.{⊤}
+use Rattle.jpeg_bits.specs.Written.{bits_of_bytes, low_bits, number_for, stuffed}
+use Rattle.jpeg_streams.specs.WrittenData.{corrections, count_unknown}
+use Rattle.jpeg_streams.proofs.OnLiterals.{samples_on_literals, streams_on_literals}
 use Rattle.std.proofs.Common.{rules, ◌≡◌, ℕ, zero, suc, ◌+◌, ◌-◌, ◌*◌, ◌==◌, ◌&&◌, not, nat_lt, Bool, true, false}
 use Rattle.std.proofs.Common.{List, [], ◌∷◌, ◌++◌, length, drop, map, Option, Some, None, Ok, Err, Result, is_ok}
 use Rattle.std.proofs.Common.{is_some, option_map, refl, sym, ap, ◌∙◌, subst, arith, ◌%◌, ℤ, pos, negsuc, ap₂, ◌≢◌}
@@ -437,3 +441,9 @@ samples_for samples bytes = do
     final = w.0;
     written = record { sent = w.1; written = record { after = drop 2 bytes; starts = starts; written = w.2 } };
   })
+
+-- What is unfolded to compute that a literal is written.
+unfoldable pub written_on_literals : ⊤
+unfolding streams_on_literals samples_on_literals bits_of_bytes corrections count_unknown holds_for
+    levels_after low_bits number_for scan_of_samples stuffed
+written_on_literals = tt

@@ -12,9 +12,8 @@ use Rattle.jpeg_streams.specs.WorkedSamples.{AreWritten, padded_bytes, padded_sa
 use Rattle.jpeg_streams.specs.WrittenParts.{AgreeOnOwn}
 use Rattle.jpeg_streams.specs.WrittenScans.{Coefficients}
 use Rattle.jpeg_streams.proofs.TestedData.{◌>>=◌, given, when}
-use Rattle.jpeg_streams.proofs.TestedStreams.{image_for, samples_for, lines-in, range-in}
+use Rattle.jpeg_streams.proofs.TestedStreams.{image_for, samples_for, lines-in, range-in, written_on_literals}
 use Rattle.jpeg_streams.proofs.WrittenParts.{also-written}
-use Rattle.jpeg_streams.proofs.OnLiterals.{written_on_literals}
 
 pub grey-written : IsWhollyWritten grey_array grey_bytes
 unfolding written_on_literals
