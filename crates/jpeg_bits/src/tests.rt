@@ -253,7 +253,7 @@ fn read_coefficients(
 
 #[test]
 fn coefficients_in_block_order(rt: HostRuntime) -> Result<(), Fail> {
-    // The zigzag places 2, 3 and 4 are the places 8, 16 and 9 of the block.
+    // The zigzag indices 2, 3 and 4 are the indices 8, 16 and 9 of the block.
     let mut expected = [0i16; 64];
     let mut block = [0i16; 64];
     // Run 1 and the value 2, run 1 and the value -2, and the end.
@@ -280,7 +280,7 @@ const RUNS_AND_SIZES: [u8; 16] = [
     0x00, 0x17, 0x25, 0x26, 0x06, 0x16, 0x01, 0x32, 0x02, 0x11, 0x21, 0xf0, 0x30, 0x0a, 0x41, 0x51,
 ];
 
-/// Reads a block whose places 1 to `se` are read in a first pass.
+/// Reads a block whose coefficients 1 to `se` are read in a first pass.
 fn read_first(
     alloc: Global,
     decoder: &mut HuffmanDecoder,

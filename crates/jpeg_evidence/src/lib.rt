@@ -177,7 +177,7 @@ pub fn headers_are_of_tables()
     ensures counts { map is_decoded_count (0 ∷ 1 ∷ 2 ∷ 3 ∷ 4 ∷ 5 ∷ [])
         ≡ false ∷ true ∷ false ∷ true ∷ true ∷ false ∷ [] }
 
-    // Places of Huffman tables, and values of 16 bits in quantization tables.
+    // Destinations of Huffman tables, and values of 16 bits in quantization tables.
     ensures destinations { map (λ is_baseline. greatest_destination (Some is_baseline)) (true ∷ false ∷ [])
         ≡ 1 ∷ 3 ∷ [] }
     ensures wide { value_at true (1 ∷ 2 ∷ []) ≡ Ok (258, []) }

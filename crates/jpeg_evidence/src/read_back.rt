@@ -62,9 +62,9 @@ pub fn tokens_taken_are_written()
         → IsCut (IsToken table x) bits left }
 {}
 
-/// A band that is read in its first scan, where each token stands for places that the band has, was
-/// written: the bits that were taken are those that a writer may emit for the coefficients read at
-/// level al, and for the run of blocks after them (T.81, F.1.2.2 and G.1.2.2).
+/// A band that is read in its first scan, where each token stands for coefficients that the band
+/// has, was written: the bits that were taken are those that a writer may emit for the coefficients
+/// read at level al, and for the run of blocks after them (T.81, F.1.2.2 and G.1.2.2).
 #[tactic(auto, using(crate::proofs::TakenBands::band_taken))]
 pub fn bands_taken_are_written()
     ensures { (table : Table) (al n room : ℕ) (bits : List Bool) (y : Band) (left : Text)
@@ -75,8 +75,8 @@ pub fn bands_taken_are_written()
 
 /// A block that is read in a first pass or a refinement was written: the bits that were taken are
 /// those that a writer may emit for the block's numbers at the level of the pass (T.81, F.1.2 and
-/// G.1.2). It fits where no DC goes round at 16 bits, where each token stands for places that the
-/// band has, and where a refinement is of what was sent at the level above.
+/// G.1.2). It fits where no DC goes round at 16 bits, where each token stands for coefficients that
+/// the band has, and where a refinement is of what was sent at the level above.
 #[tactic(auto, using(crate::proofs::TakenBlocks::block_taken))]
 pub fn block_taken_is_written()
     ensures { (p : Pass) (via : Via) (predictor : ℤ) (run : ℕ) (old : Block) (bits : List Bool)

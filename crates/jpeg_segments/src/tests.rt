@@ -710,7 +710,7 @@ fn outcomes_of_lossless_scans(rt: HostRuntime) {
 
 #[test]
 fn quantization_tables(rt: HostRuntime) -> std::result::Result<(), Fail> {
-    // a table of bytes at place 1, then one of 16 bits a value at place 3
+    // a table of bytes at destination 1, then one of 16 bits a value at destination 3
     let mut bytes = [1u8; 196];
     bytes[0] = 0;
     bytes[1] = 196;

@@ -45,7 +45,7 @@ fn is_unwritten(pixels: &[u8]) -> bool {
     pixels.iter().all(|byte| *byte == BEFORE)
 }
 
-/// Returns whether a call was refused for want of room.
+/// Returns whether a call was refused for lack of room.
 fn is_short<T>(answer: &Result<T, Error>) -> bool {
     matches!(
         answer,
