@@ -8,7 +8,7 @@ use Rattle.std.proofs.lemmas.List.{length-map}
 use Rattle.jpeg_bits.specs.Stream.{Stream}
 use Rattle.jpeg_bits.specs.Reading.{Outcome, Fault, Answers, ◌>>=◌}
 use Rattle.jpeg_bits.specs.declared.error.Error.{Error}
-use Rattle.jpeg_bits.proofs.Loops.{Names-through}
+use Rattle.jpeg_bits.proofs.Loops.{Names-through, bind_at}
 use Rattle.jpeg_bits.specs.declared.marker.Marker.{Marker}
 use Rattle.jpeg_bits.specs.Passes.{Pass, Via, Block}
 use Rattle.jpeg_bits.specs.BlockView.{to_block}
@@ -58,9 +58,7 @@ arrays-by-sizes [] old new h e = tt
 arrays-by-sizes (c ∷ cs) [] new h e = absurd h
 arrays-by-sizes (c ∷ cs) (o ∷ old) [] h e = grind (arith, common_steps)
 arrays-by-sizes (c ∷ cs) (o ∷ old) (n ∷ new) h e =
-    let a : length n.items ≡ length o.items = ap (λ (l : List ℕ). get_or l 0 0) e in
-    let b : sizes_of new ≡ sizes_of old = ap (λ (l : List ℕ). drop 1 l) e in
-    (length-map n.items to_block ∙ a ∙ sym (length-map o.items to_block) ∙ h.0, arrays-by-sizes cs old new h.1 b)
+    grind (arith, common_steps, length-map, arrays-by-sizes cs old new h.1)
 
 -- ---- what scans give
 
@@ -119,6 +117,13 @@ pub before-sequential : (f : Found) (frame : Frame) → is_progressive frame.pro
 unfolding arrays_before
 before-sequential f frame e = rw e refl
 
+-- what was found, with other blocks
+same-found : (f : Found) (one : Decoded) (kept : Arrays)
+    → one.finished ≡ f.finished → one.planes ≡ f.planes → planes_in one.samples ≡ f.samples
+    → ◌≡◌ {A = Found} (record (with_decoded (once_scanned f) one) { kept = kept })
+    (record (once_scanned f) { kept = kept })
+same-found f one kept fin pl sa = grind (arith, common_steps)
+
 -- A scan of a progressive frame: of what is read and added, and of the blocks that are put back.
 pub data-kept : (f : Found) (frame : Frame) (p : Pass) (codings : List Coding) (arrays : Arrays)
     (met : Option Marker)
@@ -142,37 +147,10 @@ pub data-kept : (f : Found) (frame : Frame) (p : Pass) (codings : List Coding) (
       rest,
     )
 data-kept f frame p codings arrays met bytes rest one two kept e r added fin pl sa h =
-    data-is f frame p codings bytes
-    ∙ ap (λ (o : Outcome (Arrays × Option Marker)). o >>= after_read f frame p codings) r
-    ∙ ap (λ (x : Found). answer x) same
-  where
-    base : Found
-    base = once_scanned f
-
-    answer : Found → Outcome (Found × Option Marker)
-    answer x = Ok ((x, met), rest)
-
-    same : with_arrays p codings arrays (record (once_scanned f) {
-      kept = blocks_after f frame
-          codings arrays;
-    })
-        ≡ record (once_scanned f) {
-          kept = kept;
-          finished = two.finished;
-          planes = two.planes;
-          samples = planes_in two.samples;
-        }
-    same =
-        ap (λ (x : Arrays). with_arrays p codings arrays (record (once_scanned f) { kept = x }))
-        (kept-progressive f frame codings arrays e ∙ sym h)
-        ∙ (λ i. with_arrays p codings arrays (record (once_scanned f) {
-          kept = kept;
-          finished = sym fin i;
-          planes = sym pl i;
-          samples = sym sa i;
-        }))
-        ∙ sym (kept-kept p codings arrays (with_decoded base one) kept)
-        ∙ sym (ap (λ (x : Found). record x { kept = kept }) (added base))
+    let same = same-found f one kept fin pl sa in
+    let after = added (once_scanned f) in
+    let away = kept-kept p codings arrays (with_decoded (once_scanned f) one) kept in
+    grind (arith, common_steps, data-is, kept-progressive)
 
 pub data-kept-refused : (f : Found) (frame : Frame) (p : Pass) (codings : List Coding) (bytes :
     List ℕ) (fault : Fault)
@@ -207,41 +185,9 @@ pub data-planes : (f : Found) (frame : Frame) (p : Pass) (codings : List Coding)
     → arrays_in one.kept.items ≡ []
     → scan_data f frame p codings bytes ≡ Ok ((once_scanned (with_decoded f two), met), rest)
 data-planes f frame p codings planes met bytes rest one two e of r added fin pl sa none =
-    data-is f frame p codings bytes
-    ∙ ap (λ (a : Arrays). read_at f frame p codings a bytes >>= after_read f frame p codings)
-    (zeros-read f frame codings e of)
-    ∙ go (read_at f frame p codings (zero_arrays (components_of codings)) bytes)
-    (sym (planes-are f.said.restart frame p codings (vias_from 0 codings) bytes) ∙ r)
-  where
-    base : Found
-    base = once_scanned f
-
-    made : (arrays : Arrays) → planes_by codings arrays ≡ planes
-        → with_arrays p codings arrays (record (once_scanned f) {
-          kept = blocks_after f frame
-              codings arrays;
-        })
-        ≡ once_scanned (with_decoded f two)
-    made arrays q =
-        ap (λ (x : Arrays). with_arrays p codings arrays (record (once_scanned f) { kept = x }))
-        (kept-sequential f frame codings arrays e ∙ sym none)
-        ∙ (λ i. with_arrays p codings arrays (record (once_scanned f) {
-          kept = arrays_in one.kept.items;
-          finished = sym fin i;
-          planes = sym pl i;
-          samples = sym sa i;
-        }))
-        ∙ arrays-by-planes p codings arrays (with_decoded base one)
-        ∙ ap (λ (ps : List (List ℕ)). with_planes p codings ps (with_decoded base one)) q
-        ∙ sym (added base)
-
-    go : (o : Outcome (Arrays × Option Marker)) → (o >>= planes_after codings) ≡ Ok ((planes, met), rest)
-        → (o >>= after_read f frame p codings) ≡ Ok ((once_scanned (with_decoded f two), met), rest)
-    go (Err fault) h = absurd (cc)
-    go (Ok x) h =
-        let j : ((planes_by codings x.0.0, x.0.1), x.1) ≡ ((planes, met), rest) = ok-same _ _ h in
-        let is = made x.0.0 (ap (λ z. z.0.0) j) in
-        λ i. Ok ((is i, (j i).0.1), (j i).1)
+    let same = same-found f one [] fin pl sa in
+    let after = added (once_scanned f) in
+    grind (arith, common_steps, data-is, zeros-read, planes-are, kept-sequential, arrays-by-planes)
 
 pub data-planes-refused : (f : Found) (frame : Frame) (p : Pass) (codings : List Coding) (bytes : List ℕ)
     (fault : Fault)
@@ -249,16 +195,7 @@ pub data-planes-refused : (f : Found) (frame : Frame) (p : Pass) (codings : List
     → planes_at p f.said.restart (vias_from 0 codings) frame codings bytes ≡ Err fault
     → scan_data f frame p codings bytes ≡ Err fault
 data-planes-refused f frame p codings bytes fault e of r =
-    data-is f frame p codings bytes
-    ∙ ap (λ (a : Arrays). read_at f frame p codings a bytes >>= after_read f frame p codings)
-    (zeros-read f frame codings e of)
-    ∙ go (read_at f frame p codings (zero_arrays (components_of codings)) bytes)
-    (sym (planes-are f.said.restart frame p codings (vias_from 0 codings) bytes) ∙ r)
-  where
-    go : (o : Outcome (Arrays × Option Marker)) → (o >>= planes_after codings) ≡ Err fault
-        → (o >>= after_read f frame p codings) ≡ Err fault
-    go (Err g) h = cc
-    go (Ok x) h = absurd (cc)
+    grind (arith, common_steps, data-is, zeros-read, planes-are)
 
 -- ---- planes of all blocks
 
