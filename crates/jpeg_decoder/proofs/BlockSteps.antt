@@ -1,6 +1,6 @@
 -- Steps of the loop over the blocks of a scan.
 use Rattle.std.proofs.Common.{◌≡◌, ℕ, ◌+◌, ◌-◌, ◌%◌, ◌<◌, ◌==◌, ◌&&◌, nat_lt, Bool, true, false}
-use Rattle.std.proofs.Common.{List, ◌∷◌, Ok, Err, refl, ap, ◌∙◌, arith}
+use Rattle.std.proofs.Common.{List, ◌∷◌, Ok, Err, refl, ap, ◌∙◌, arith, []}
 use Rattle.std.proofs.lemmas.Bool.{lt-ltb, ne_eqb}
 use Rattle.jpeg_bits.specs.Reading.{Fault}
 use Rattle.jpeg_bits.specs.Entropy.{Text}

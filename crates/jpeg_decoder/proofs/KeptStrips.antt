@@ -1,7 +1,7 @@
 -- Strips of which what is kept of the blocks is enough: where a block gives one sample, it is of DC alone.
 use Rattle.std.proofs.Common.{◌≡◌, ℕ, suc, ◌+◌, ◌-◌, ◌*◌, ◌/◌, ◌%◌, ◌<◌, ◌++◌, Bool, true, false}
 use Rattle.std.proofs.Common.{List, ◌∷◌, map, length, get_or, drop, Result, Ok, Err, refl, sym, ap}
-use Rattle.std.proofs.Common.{ap₂, ◌∙◌, arith}
+use Rattle.std.proofs.Common.{ap₂, ◌∙◌, arith, []}
 use Rattle.std.specs.List.{AllByRecursion, All, range_with_len}
 use Rattle.jpeg_bits.specs.Reading.{Fault}
 use Rattle.jpeg_bits.specs.Entropy.{Text}

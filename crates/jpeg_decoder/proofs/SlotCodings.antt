@@ -1,7 +1,7 @@
 -- The coding of the component in a slot of a scan, by the tables in force.
 use Rattle.std.proofs.Common.{◌≡◌, ◌<◌, ℕ, zero, suc, List, ◌∷◌, Option, Some, None, Result, Ok}
 use Rattle.std.proofs.Common.{Err, Bool, true, refl, ap, ◌∙◌, length, get_or, map, replicate, arith}
-use Rattle.std.proofs.Common.{cond, rules}
+use Rattle.std.proofs.Common.{cond, rules, []}
 use Rattle.std.specs.Prelude.{◌==◌, nat_lt, option_map, slice_get}
 use Rattle.std.proofs.lemmas.Option.{slice_get-get_or, slice_get-map}
 use Rattle.std.proofs.lemmas.Bool.Decides.{nat_tests}
