@@ -40,7 +40,7 @@ use Rattle.jpeg_decoder.proofs.StripSteps.{length-samples}
 -- ---- numbers of samples
 
 turned : (k c s : ℕ) → k * (c * s) ≡ k * s * c
-turned k c s = ap (λ (n : ℕ). k * n) (mul_comm c s) ∙ sym (mul_assoc k s c)
+turned k c s = grind (arith, common_steps, mul_comm, mul_assoc)
 
 -- of k rows of c strips, those of one component
 one-of : (k c s n : ℕ) → 1 ≤ c → n ≡ k * (c * s) → n / c ≡ k * s
@@ -72,9 +72,7 @@ module _ (shape : JointShape) (samples : List ℕ) where
   plane-at : (slot i : ℕ) → i < length samples / shape.count
       → get_or (joint_plane shape samples slot) i 0 ≡ slice_index samples (index_of shape slot i)
   unfolding joint_plane
-  plane-at slot i h =
-      get_or-map-range_with_len (λ (j : ℕ). slice_index samples (index_of shape slot j)) 0
-      (length samples / shape.count) i i 0 h (omega arith)
+  plane-at slot i h = grind (arith, common_steps, get_or-map-range_with_len)
 
   pub planes-long : length (joint_planes shape samples) ≡ shape.count
   unfolding joint_planes
@@ -83,9 +81,7 @@ module _ (shape : JointShape) (samples : List ℕ) where
   planes-at : (slot : ℕ) → slot < shape.count
       → get_or (joint_planes shape samples) slot [] ≡ joint_plane shape samples slot
   unfolding joint_planes
-  planes-at slot h =
-      get_or-map-range_with_len (joint_plane shape samples) 0 shape.count slot slot [] h
-      (omega arith)
+  planes-at slot h = grind (arith, common_steps, get_or-map-range_with_len)
 
 -- planes without samples
 none-from : (shape : JointShape) (from : ℕ) (codings : List Coding)
@@ -98,8 +94,7 @@ none-from shape from (c ∷ codings) =
 none-joint : (shape : JointShape) (codings : List Coding) → shape.count ≡ length codings
     → joint_planes shape [] ≡ no_samples codings
 unfolding joint_planes
-none-joint shape codings e =
-    ap (λ (n : ℕ). map (joint_plane shape []) (range_with_len 0 n)) e ∙ none-from shape 0 codings
+none-joint shape codings e = grind (arith, common_steps, none-from)
 
 -- A plane, and after it its strip of these, which come after k rows.
 module _ (shape : JointShape) (samples : List ℕ) (strips : List (List ℕ)) (k slot : ℕ)
@@ -117,15 +112,11 @@ module _ (shape : JointShape) (samples : List ℕ) (strips : List (List ℕ)) (k
   grown-long : length grown / shape.count ≡ k * size + size
   grown-long =
       one-of (k + 1) shape.count size (length grown) (omega arith)
-      (length-append samples (concat strips)
-      ∙ ap (λ (n : ℕ). length samples + n)
-      (flat-length size strips even ∙ ap (λ (n : ℕ). n * size) count)
-      ∙ next-row k (joint_row_size shape) (length samples) whole)
+      (grind (arith, common_steps, length-append, flat-length, next-row))
       ∙ sym (next-row k size (k * size) refl)
 
   some-size : (s i : ℕ) → i < k * s + s → 0 < s
-  some-size zero i l = absurd (omega arith)
-  some-size (suc s) i l = omega arith
+  some-size s i l = grind (arith, common_steps)
 
   -- before the strip stands what stood there
   kept-at : (i : ℕ) → i < k * size
@@ -212,9 +203,7 @@ module _ (frame : Frame) (cs : List Coded) (seen : List Component) (joint : Join
   same = is.count ∙ sym count ∙ sym (length-map cs coding_in)
 
   pub none-started : joint_planes joint.shape joint.samples.items ≡ no_samples (map coding_in cs)
-  none-started =
-      ap₂ (λ (s : JointShape) (l : List ℕ). joint_planes s l) shape-is none
-      ∙ none-joint shape (map coding_in cs) same
+  none-started = grind (arith, common_steps, none-joint, same)
 
   pub joint-started : shape.rows ≡ frame.mcus_high
       → AllByRecursion (λ c. c.factors.vertical * c.scale ≡ shape.lines) seen
@@ -222,20 +211,14 @@ module _ (frame : Frame) (cs : List Coded) (seen : List Component) (joint : Join
       → AllByRecursion (IsCodingOf frame) (map coding_in cs)
       → IsJointOf (map coding_in cs) joint
   joint-started rows lines fits of =
-      let all = subst (λ (l : List Component).
-      AllByRecursion (λ c. c.factors.vertical * c.scale ≡ shape.lines) l
-      × AllByRecursion (λ c. c.blocks_wide * c.scale ≡ shape.stride) l) seen-is
-      (lines, is.alike.strides) in
-      let some = is.some in
       let row = joint_row_size joint.shape in
       let empty : 0 ≡ 0 / row * row = sym (ap (λ (n : ℕ). n * row) (zero-div row) ∙ omega arith) in
       record {
-        small = subst HasFrameSizes (sym shape-is) is.small;
-        count = ap (λ (s : JointShape). s.count) shape-is ∙ same;
-        some = subst (λ (s : JointShape). 1 ≤ s.count) (sym shape-is) (omega arith);
-        each = subst (λ (s : JointShape). AllByRecursion (IsOfShape s) (map coding_in cs))
-            (sym shape-is) (shaped frame shape cs rows all.0 all.1 fits of);
-        whole = subst (λ (l : List ℕ). length l ≡ length l / row * row) (sym none) empty;
+        small = grind (arith, common_steps);
+        count = grind (arith, common_steps, same);
+        some = grind (arith, common_steps);
+        each = grind (arith, common_steps, shaped);
+        whole = grind (arith, common_steps, empty);
       }
 
 -- after one row more
@@ -256,19 +239,12 @@ module _ (codings : List Coding) (arrays : Arrays) (joint : JointPlanes)
   room-grown new e =
       let shape = joint.shape in
       let samples = joint.samples.items in
-      let old = joint_planes shape samples in
       let old-long = planes-long shape samples ∙ is.count in
-      let new-long = planes-long shape new in
-      ext_get_or [] (joint_planes shape new) (with_strips codings arrays old)
-      (new-long ∙ is.count ∙ sym (strips-length codings arrays old kept old-long))
+      ext_get_or [] (joint_planes shape new) (with_strips codings arrays (joint_planes shape samples))
+      (planes-long shape new ∙ is.count ∙ sym (strips-length codings arrays (joint_planes shape samples) kept old-long))
       (λ slot lt.
-      let h : slot < shape.count = omega (arith, lt, new-long) in
-      planes-at shape new slot h
-      ∙ ap (λ (l : List ℕ). joint_plane shape l slot) e
-      ∙ plane-grown shape samples strips (length samples / joint_row_size shape) slot is.whole even
-      strips-count h
-      ∙ ap (λ (l : List ℕ). l ++ get_or strips slot []) (sym (planes-at shape samples slot h))
-      ∙ sym (strips-at codings arrays old slot kept old-long (omega (arith, h, is.count))))
+      let grown = plane-grown shape samples strips (length samples / joint_row_size shape) slot is.whole even strips-count in
+      grind (arith, common_steps, planes-long, planes-at, strips-at, grown))
 
   pub room-kept : (new : Vec ℕ Global) → new.items ≡ joint.samples.items ++ concat strips
       → IsJointOf codings (record joint { samples = new })
@@ -282,7 +258,7 @@ module _ (codings : List Coding) (arrays : Arrays) (joint : JointPlanes)
         count = is.count;
         some = is.some;
         each = is.each;
-        whole = more ∙ whole-rows old row is.whole ∙ ap (λ (n : ℕ). n / row * row) (sym more);
+        whole = grind (arith, common_steps, more, whole-rows);
       }
 
 -- after all rows
@@ -297,10 +273,9 @@ room-full (c ∷ cs) joint is sizes =
     let samples = joint.samples.items in
     let first = is.each.0 in
     let one : length samples / shape.count ≡ shape.rows * strip_size shape =
-    sym (plane-long shape samples 0)
-    ∙ ap (λ (l : List ℕ). length l) (sym (planes-at shape samples 0 is.some))
-    ∙ sym (get_or-map length (joint_planes shape samples) 0 [] 0
-    (omega (arith, planes-long shape samples, is.some)))
+    sym (get_or-map length (joint_planes shape samples) 0 [] 0
+    (omega (arith, planes-long shape samples, is.some))
+    ∙ grind (arith, common_steps, plane-long, planes-at))
     ∙ ap (λ (l : List ℕ). get_or l 0 0) sizes
     ∙ grind (arith, common_steps, mul_assoc) in
     let rows = length samples / joint_row_size shape in
