@@ -95,12 +95,7 @@ module _ (p : Pass) (vias : List Via) (n : ℕ) (frame : Frame) (codings : List 
 
   pub again-refused : (fault : Fault) → by_rows [] ≡ Err fault → by_rows (no_samples codings) ≡ Err fault
   unfolding AlikeEnds
-  again-refused fault h = go (by_rows (no_samples codings)) (by_rows []) alike-scans h
-    where
-      go : (o q : Outcome (Planes × Option Marker)) → AlikeEnds (length codings) o q → q ≡ Err fault → o ≡ Err fault
-      go (Ok r) (Ok q) k h = absurd cc
-      go (Err f) (Err g) k h = ap Err k ∙ h
-      go _ _ k h = absurd k
+  again-refused fault h = grind (arith, common_steps, alike-scans)
 
   -- the planes that would have been made
   pub record ReadAgain (met : Option Marker) (rest : List ℕ) : Type 0 where
@@ -153,12 +148,8 @@ pub planes-decided : (p : Pass) (codings : List Coding) (planes : Planes) (found
 unfolding with_planes finished_after
 planes-decided p [] [] found h e = refl
 planes-decided p (c ∷ codings) (x ∷ planes) found h e =
-    ap (with_planes p codings planes) (its-plane-decided p c.index x found h.0)
-    ∙ planes-decided p codings planes
-    (record found {
-      finished = slice_set found.finished c.index (marks_after p found.finished
-          c.index);
-    }) h.1 (omega arith)
+    grind (arith, common_steps, its-plane-decided,
+    planes-decided p codings planes (record found { finished = slice_set found.finished c.index (marks_after p found.finished c.index); }) h.1 (omega arith))
 planes-decided p _ _ found h e = absurd (omega arith)
 
 -- ---- a loop over the components

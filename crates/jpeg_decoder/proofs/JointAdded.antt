@@ -20,8 +20,7 @@ use Rattle.jpeg_decoder.proofs.PutLoops.{none-left, seen-at}
 pub all-marked : (p : Pass) (marks new : List Bool) → length marks ≡ 64 → new ≡ finished_by p marks
     → p ≡ whole_pass → list_all (λ mark. mark) new ≡ true
 unfolding finished_by
-all-marked p marks new e f is =
-    let none : drop 64 marks ≡ [] = drop_all 64 marks (omega (arith, e)) in rw (f, is, none) refl
+all-marked p marks new e f is = grind (arith, common_steps, drop_all)
 
 -- ---- planes, of which the first ones are there
 
@@ -38,8 +37,7 @@ or-next : (n : ℕ) (planes : List (List ℕ)) (plane : List ℕ) → length pla
     ≡ or_joint (replicate n None) (planes ++ plane ∷ [])
 unfolding or_joint
 or-next zero planes plane h = absurd (omega arith)
-or-next (suc n) [] plane h =
-    ap (λ (l : List (Option (List ℕ))). Some plane ∷ l) (sym (or-nothing (replicate n None)))
+or-next (suc n) [] plane h = grind (arith, common_steps, or-nothing)
 or-next (suc n) (x ∷ planes) plane h =
     ap (λ (l : List (Option (List ℕ))). Some x ∷ l) (or-next n planes plane (omega arith))
 

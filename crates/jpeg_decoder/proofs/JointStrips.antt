@@ -44,8 +44,7 @@ turned k c s = grind (arith, common_steps, mul_comm, mul_assoc)
 
 -- of k rows of c strips, those of one component
 one-of : (k c s n : ℕ) → 1 ≤ c → n ≡ k * (c * s) → n / c ≡ k * s
-one-of k c s n h e =
-    ap (λ (m : ℕ). m / c) (e ∙ turned k c s) ∙ mul-div_cancel (k * s) (omega arith)
+one-of k c s n h e = grind (arith, common_steps, turned, mul-div_cancel)
 
 next-row : (k r n : ℕ) → n ≡ k * r → n + r ≡ (k + 1) * r
 next-row k r n e = grind (arith, common_steps, add-mul)
@@ -53,9 +52,7 @@ next-row k r n e = grind (arith, common_steps, add-mul)
 -- whole rows, and one row more
 whole-rows : (n r : ℕ) → n ≡ n / r * r → n + r ≡ (n + r) / r * r
 whole-rows n zero e = omega arith
-whole-rows n (suc r) e =
-    next-row (n / suc r) (suc r) n e
-    ∙ ap (λ (m : ℕ). m * suc r) (sym (add-div_right n (omega arith)))
+whole-rows n (suc r) e = grind (arith, common_steps, next-row, add-div_right)
 
 -- ---- a plane
 
@@ -132,12 +129,7 @@ module _ (shape : JointShape) (samples : List ℕ) (strips : List (List ℕ)) (k
   strip-at : (j : ℕ) → j < size
       → slice_index grown (index_of shape slot (k * size + j)) ≡ get_or (get_or strips slot []) j 0
   strip-at j lt =
-      ap (λ (n : ℕ). slice_index grown n)
-      (ap₂ (λ (a b : ℕ). a * joint_row_size shape + (slot * size + b)) (div-mul-add k size j lt)
-      (mod-mul-add k size j lt)
-      ∙ ap (λ (n : ℕ). n + (slot * size + j)) (sym whole))
-      ∙ get_or-append-add samples (concat strips) (slot * size + j) 0
-      ∙ at-flat size j strips slot even (omega arith) lt
+      grind (arith, common_steps, div-mul-add, mod-mul-add, get_or-append-add, at-flat, even)
 
   plane-grown : joint_plane shape grown slot
       ≡ joint_plane shape samples slot ++ get_or strips slot []

@@ -35,18 +35,11 @@ unfolding zero_block
 none-alone = refl
 
 block-alone : (arrays : Arrays) (s : Spot) → block_at (kept_arrays false arrays) s ≡ dc_alone (block_at arrays s)
-block-alone arrays s =
-    ap₂ (λ (l : List Block) (d : Block). get_or l s.index d) (get_or-map (map dc_alone) arrays s.slot [])
-    (sym none-alone)
-    ∙ get_or-map dc_alone (get_or arrays s.slot []) s.index zero_block
+block-alone arrays s = grind (arith, common_steps, get_or-map, none-alone)
 
 put-alone : (arrays : Arrays) (s : Spot) (b : Block)
     → kept_arrays false (put_block s b arrays) ≡ put_block s (dc_alone b) (kept_arrays false arrays)
-put-alone arrays s b =
-    map-set (map dc_alone) arrays s.slot (set (get_or arrays s.slot []) s.index b)
-    ∙ ap (λ (l : List Block). set (kept_arrays false arrays) s.slot l)
-    (map-set dc_alone (get_or arrays s.slot []) s.index b
-    ∙ ap (λ (l : List Block). set l s.index (dc_alone b)) (sym (get_or-map (map dc_alone) arrays s.slot [])))
+put-alone arrays s b = grind (arith, common_steps, map-set, get_or-map)
 
 -- ---- a block
 
@@ -103,10 +96,7 @@ pub turn-alike : (keeps : Bool) (p : Pass) (vias : List Via) (s : Spot) (a b : R
     → (keeps ≡ false → p.is_first ≡ true) → kept_reached keeps a ≡ kept_reached keeps b
     → read_on (kept_read keeps) (turn_from p vias s a t) ≡ read_on (kept_read keeps) (turn_from p vias s b t)
 turn-alike true p vias s a b t first e = ap (λ (x : Reached). read_on (kept_read true) (turn_from p vias s x t)) e
-turn-alike false p vias s a b t first e =
-    turn-arrays p vias s a b.arrays t (first refl) (ap (λ (x : Reached). x.arrays) e)
-    ∙ ap (λ (x : Reached). read_on (kept_read false) (turn_from p vias s x t))
-    (ap (λ (x : Reached). record x { arrays = b.arrays }) e)
+turn-alike false p vias s a b t first e = grind (arith, common_steps, turn-arrays)
 
 -- ---- the next block
 
@@ -170,8 +160,7 @@ blocks-alike keeps p vias n (s ∷ spots) a b t first e =
 pub put-kept : (keeps : Bool) (s : Spot) (arrays : Arrays) (a b : Block) → kept keeps a ≡ kept keeps b
     → kept_arrays keeps (put_block s a arrays) ≡ kept_arrays keeps (put_block s b arrays)
 put-kept true s arrays a b e = ap (λ (x : Block). put_block s x arrays) e
-put-kept false s arrays a b e =
-    put-alone arrays s a ∙ ap (λ (x : Block). put_block s x (kept_arrays false arrays)) e ∙ sym (put-alone arrays s b)
+put-kept false s arrays a b e = grind (arith, common_steps, put-alone)
 
 -- what is left after the next block
 pub turn-kept-refused : (keeps : Bool) (o : Result ((Block × ℤ × ℕ) × Text) Fault) (f : Fault)

@@ -1,4 +1,5 @@
 -- Strips of which what is kept of the blocks is enough: where a block gives one sample, it is of DC alone.
+use Rattle.std.proofs.lemmas.Grind.{common_steps}
 use Rattle.std.proofs.Common.{◌≡◌, ℕ, suc, ◌+◌, ◌-◌, ◌*◌, ◌/◌, ◌%◌, ◌<◌, ◌++◌, Bool, true, false}
 use Rattle.std.proofs.Common.{List, ◌∷◌, map, length, get_or, drop, Result, Ok, Err, refl, sym, ap}
 use Rattle.std.proofs.Common.{ap₂, ◌∙◌, arith, []}
@@ -41,17 +42,7 @@ block-alike a b i e =
 samples-alike : (high : ℕ) (c : Coding) (a b : List Block) → c.component.scale ≡ 1 → map dc_alone a ≡ map dc_alone b
     → samples_of high c a ≡ samples_of high c b
 unfolding samples_of plane_of
-samples-alike high c a b one e =
-    let wide = c.component.blocks_wide in
-    let q = values_in_block_order c.quantization in
-    let at : (x y row column : ℕ) → sample_at 1 (in_raster wide a row column) q x y
-    ≡ sample_at 1 (in_raster wide b row column) q x y
-    = λ x y row column.
-    one-sample (get_or a (row * wide + column) zero_block) q x y
-    ∙ ap (λ (l : Block). sample_at 1 (ordered l) q x y) (block-alike a b (row * wide + column) e)
-    ∙ sym (one-sample (get_or b (row * wide + column) zero_block) q x y) in
-    rw one (map-same _ _ (range_with_len 0 (1 * wide * (1 * high)))
-    (λ i. at (i % (1 * wide) % 1) (i / (1 * wide) % 1) (i / (1 * wide) / 1) (i % (1 * wide) / 1)))
+samples-alike high c a b one e = grind (arith, common_steps, one-sample, block-alike, map-same)
 
 strips-alike : (codings : List Coding) (a b : Arrays) (planes : List (List ℕ))
     → AllByRecursion (λ c. c.component.scale ≡ 1) codings → kept_arrays false a ≡ kept_arrays false b

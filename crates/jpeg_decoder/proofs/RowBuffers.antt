@@ -73,8 +73,7 @@ module _ (cs : List Coded) (old : List Held) (sizes : sizes_of old ≡ row_sizes
   strips = strips_of codings (arrays_in old)
 
   old-long : length old ≡ length cs
-  old-long = sym (sizes-long old) ∙ ap (λ (l : List ℕ). length l) sizes
-      ∙ length-map cs (λ (c : Coded). down_in c * wide_in c)
+  old-long = grind (arith, common_steps, sizes-long, length-map)
 
   arrays-long : length (arrays_in old) ≡ length codings
   arrays-long = length-map old blocks_in ∙ old-long ∙ sym (length-map cs coding_in)
@@ -86,10 +85,7 @@ module _ (cs : List Coded) (old : List Held) (sizes : sizes_of old ≡ row_sizes
   pub row-size : (slot : ℕ) (c : Coded) (v : Held) → slot < length cs → c ≡ get_or cs slot c
       → v ≡ get_or old slot v → length v.items ≡ down_in c * wide_in c
   row-size slot c v h is kept =
-      sym (size-at old slot v (omega (arith, sizes-long old, old-long)) kept)
-      ∙ ap (λ (l : List ℕ). get_or l slot 0) sizes
-      ∙ get_or-map (λ (x : Coded). down_in x * wide_in x) cs slot c 0 h
-      ∙ sym (ap (λ (x : Coded). down_in x * wide_in x) is)
+      grind (arith, common_steps, size-at, sizes-long, old-long, get_or-map)
 
   -- and these are its samples
   strip-here : (slot : ℕ) (c : Coded) (v : Held) → slot < length cs → c ≡ get_or cs slot c
@@ -116,9 +112,7 @@ module _ (cs : List Coded) (old : List Held) (sizes : sizes_of old ≡ row_sizes
 
   pub room-all : (slot : ℕ) (start samples : List ℕ) → length cs ≤ slot
       → samples ≡ start ++ concat (take slot strips) → samples ≡ start ++ concat strips
-  room-all slot start samples h inv =
-      inv ∙ ap (λ (l : List (List ℕ)). start ++ concat l)
-      (take_all slot strips (omega (arith, strips-long)))
+  room-all slot start samples h inv = grind (arith, common_steps, take_all, strips-long)
 
 module _ (cs : List Coded) (old : List Held) (start : List Plane) (sizes : sizes_of old
     ≡ row_sizes cs) (long : length start ≡ length cs) where
@@ -129,16 +123,12 @@ module _ (cs : List Coded) (old : List Held) (start : List Plane) (sizes : sizes
   start-long = length-map start (λ (v : Plane). v.items) ∙ long ∙ sym (length-map cs coding_in)
 
   all-long : length all ≡ length (plane_lists start)
-  all-long = strips-length (map coding_in cs) (arrays_in old) (plane_lists start)
-      (arrays-long cs old sizes) start-long ∙ sym start-long
+  all-long = grind (arith, common_steps, strips-length, arrays-long, start-long)
 
   pub planes-long : (planes : List Plane) (slot : ℕ) → plane_lists planes ≡ patched slot all
       (plane_lists start)
       → length planes ≡ length cs
-  planes-long planes slot e =
-      sym (length-map planes (λ (v : Plane). v.items)) ∙ ap (λ (l : List (List ℕ)). length l) e
-      ∙ patched-length all (plane_lists start) slot all-long
-      ∙ length-map start (λ (v : Plane). v.items) ∙ long
+  planes-long planes slot e = grind (arith, common_steps, length-map, patched-length, all-long)
 
   pub planes-next : (planes : List Plane) (slot : ℕ) (c : Coded) (v : Held) (p q : Plane)
       → slot < length cs → c ≡ get_or cs slot c → v ≡ get_or old slot v

@@ -202,9 +202,7 @@ data-parts : (found : Found) (frame : Frame) (scan : Scan) (bytes : List ℕ) (c
     Ok (turn_of_scan found (after_scan found frame scan codings read.0.0) met.0, met.1))))
     ≡ (after_codings found frame (pass_of scan) codings bytes >>= scan_turn found)
 unfolding scan_arrays scan_data after_scan after_all
-data-parts found frame scan bytes codings =
-    through-made _ _ after_data _ (scan_turn found) (λ (r : (Arrays × Option Marker) × List ℕ).
-    through (after_restarts (suc (length r.1)) r.0.1 r.1) _ _ (scan_turn found) (λ met. refl))
+data-parts found frame scan bytes codings = grind (arith, common_steps, through-made, through)
 
 process-parts : (p : CodingProcess) (found : Found) (frame : Frame) (scan : Scan) (bytes : List ℕ)
     → scan_by p found frame scan bytes ≡ (read_by p found frame scan bytes >>= scan_turn found)
@@ -234,9 +232,7 @@ pub segment-refused : (v : Step → Turn) (s : State) (d : Decoded)
     → d ≡ s.decoded → found_in s ≡ at
     → ScanFails (with_decoded (found_in s) d) old e new → Answers v (scan_segment at) old r new
 segment-refused v s d at old new r e fails same is p =
-    let q = err_from_is_err_and r fails in
-    let there = taken-out s d at same is in
-    rw (q.1, q.2) (grind (arith, common_steps, scan-parts, bind_err))
+    grind (arith, common_steps, err_from_is_err_and, taken-out, scan-parts, bind_err)
 
 -- ---- what holds after a scan
 

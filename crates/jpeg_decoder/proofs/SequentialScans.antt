@@ -40,10 +40,7 @@ module _ (found : Found) (before : Decoded) (frame : Frame) (scan : Scan) (bytes
   by_rows start = planes_by_rows p (vias_in 0 cs) scan.restart_interval frame codings start bytes
 
   at-once : planes_at p f.said.restart (vias_from 0 codings) frame codings bytes ≡ by_rows (no_samples codings)
-  at-once =
-      sym (ap (λ (k : ℕ). planes_at p k (vias_from 0 codings) frame codings bytes) ready.restart)
-      ∙ ap (λ (v : List Via). planes_at p scan.restart_interval v frame codings bytes) (vias-same 0 cs)
-      ∙ scan-by-rows frame cs p scan.restart_interval (vias_in 0 cs) bytes ready.some ready.fits
+  at-once = grind (arith, common_steps, vias-same, scan-by-rows)
 
   pub read-refused : (fault : Fault) → by_rows (no_samples codings) ≡ Err fault
       → scan_data f frame p codings bytes ≡ Err fault
@@ -51,8 +48,7 @@ module _ (found : Found) (before : Decoded) (frame : Frame) (scan : Scan) (bytes
       (at-once ∙ h)
 
   pub again-refused-data : (fault : Fault) → by_rows [] ≡ Err fault → scan_data f frame p codings bytes ≡ Err fault
-  again-refused-data fault h = read-refused fault
-      (again-refused p (vias_in 0 cs) scan.restart_interval frame codings bytes fault h)
+  again-refused-data fault h = grind (arith, common_steps, read-refused, again-refused)
 
   module _ (met : Option Marker) (rest : List ℕ) (one two : Decoded) (finished : one.finished ≡ f.finished)
       (planes : one.planes ≡ f.planes) (samples : planes_in one.samples ≡ f.samples)

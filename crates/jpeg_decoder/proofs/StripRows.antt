@@ -102,8 +102,7 @@ pub strip-of : (codings : List Coding) (arrays : Arrays) (slot : ℕ) (c : Codin
     → get_or (strips_of codings arrays) slot []
     ≡ samples_of c.component.factors.vertical c (get_or arrays slot [])
 unfolding strips_of
-strip-of (d ∷ codings) (a ∷ arrays) zero c e h is =
-    ap (λ (x : Coding). samples_of x.component.factors.vertical x a) (sym is)
+strip-of (d ∷ codings) (a ∷ arrays) zero c e h is = grind (arith, common_steps)
 strip-of (d ∷ codings) (a ∷ arrays) (suc slot) c e h is =
     strip-of codings arrays slot c (omega arith) (omega arith) is
 strip-of _ _ slot c e h is = absurd (omega arith)
