@@ -152,11 +152,8 @@ codings-made : (frame : Frame) (cs : List Component) (codings : List LosslessCod
     → AllByRecursion (λ k. IsMade frame k.component) codings
 unfolding AreOf
 codings-made frame cs [] indices ts made h = tt
-codings-made frame cs (k ∷ codings) (p ∷ indices) (t ∷ ts) made h = (
-  all-at (IsMade frame) p cs k.component made h.0.0,
-  codings-made frame cs codings indices ts
-      made h.1,
-)
+codings-made frame cs (k ∷ codings) (p ∷ indices) (t ∷ ts) made h =
+    grind (arith, common_steps, all-at, codings-made frame cs codings indices ts made h.1)
 codings-made frame cs _ _ _ made h = absurd h
 
 -- ---- MCUs by places
@@ -315,11 +312,8 @@ unfolding AreSampled
 set-sampled [] samples index plane e h = tt
 set-sampled (c ∷ cs) [] index plane e h = absurd h
 set-sampled (c ∷ cs) (x ∷ samples) zero plane e h = (e, h.1)
-set-sampled (c ∷ cs) (x ∷ samples) (suc index) plane e h = (
-  h.0,
-  set-sampled cs samples index plane
-      e h.1,
-)
+set-sampled (c ∷ cs) (x ∷ samples) (suc index) plane e h =
+    grind (arith, common_steps, set-sampled cs samples index plane e h.1)
 
 with-sampled : (is_alone : Bool) (cs : List Component) (indices : List ℕ) (ts : List Table) (planes
     : List (List ℕ))
@@ -459,11 +453,7 @@ codings-count tables frame indices ds ts a = grind (arith, common_steps, length-
 pub all-below : (n m : ℕ) (indices : List ℕ) → n ≤ m → AllByRecursion (λ index. index < n) indices
     → AllByRecursion (λ index. index < m) indices
 all-below n m [] most h = tt
-all-below n m (p ∷ indices) most h = let first = h.0 in (
-  omega (arith, first, most),
-  all-below n m
-      indices most h.1,
-)
+all-below n m (p ∷ indices) most h = grind (arith, common_steps, all-below n m indices most h.1)
 
 -- Places of a frame's components are below 4.
 pub four-indices : (frame : Frame) (indices : List ℕ) → IsDecodedFrame frame

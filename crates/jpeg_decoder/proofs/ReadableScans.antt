@@ -64,8 +64,7 @@ each-at : (Q : Component → Type 0) (frame : Frame) (cs : List Coded)
     → AllByRecursion Q frame.components → AllByRecursion (IsCodingOf frame) (map coding_in cs)
     → AllByRecursion (λ c. Q (component_in c.component.now)) cs
 each-at Q frame [] h are = tt
-each-at Q frame (c ∷ cs) h are =
-    (all-at Q c.index frame.components (component_in c.component.now) h are.0, each-at Q frame cs h are.1)
+each-at Q frame (c ∷ cs) h are = grind (arith, common_steps, all-at, each-at Q frame cs h are.1)
 
 fits-at : (frame : Frame) (cs : List Coded) → AllByRecursion (λ c. Fits frame (component_in c.component.now)) cs
     → AllByRecursion (Fits frame) (components_in cs)
@@ -76,11 +75,7 @@ indices-at : (n : ℕ) (cs : List Coded) → n ≤ 4
     → AllByRecursion (λ index. index < n) (map (λ (c : Coding). c.index) (map coding_in cs))
     → AllByRecursion HasIndex cs
 indices-at n [] most h = tt
-indices-at n (c ∷ cs) most h = let first = h.0 in (
-  omega (arith, first, most),
-  indices-at n cs most
-      h.1,
-)
+indices-at n (c ∷ cs) most h = grind (arith, common_steps, indices-at n cs most h.1)
 
 rising-at : (codings : List Coding) (least : ℕ) → IsRising least (map (λ (c : Coding). c.index)
     codings)

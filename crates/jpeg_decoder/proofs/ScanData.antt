@@ -74,9 +74,8 @@ pub arrays-by-planes : (p : Pass) (codings : List Coding) (arrays : Arrays) (fou
     → with_arrays p codings arrays found ≡ with_planes p codings (planes_by codings arrays) found
 unfolding with_arrays with_planes planes_by
 arrays-by-planes p (c ∷ codings) (blocks ∷ arrays) found =
-    ap (with_arrays p codings arrays) (blocks-are p c blocks found)
-    ∙ arrays-by-planes p codings arrays (with_its_plane p c.index (plane_by c.component
-    c.quantization blocks) found)
+    grind (arith, common_steps, blocks-are,
+    arrays-by-planes p codings arrays (with_its_plane p c.index (plane_by c.component c.quantization blocks) found))
 arrays-by-planes p _ _ found = refl
 
 -- the blocks at their places, of those of the frame
@@ -215,11 +214,8 @@ unfolding ArePlanes
 plane-set [] planes index c q h at k = tt
 plane-set (d ∷ cs) [] index c q h at k = absurd h
 plane-set (d ∷ cs) (x ∷ planes) zero c q h at k = (subst (λ (y : Component). IsPlaneOf y q) (sym (at)) k, h.1)
-plane-set (d ∷ cs) (x ∷ planes) (suc index) c q h at k = (
-  h.0,
-  plane-set cs planes index c q h.1 at
-      k,
-)
+plane-set (d ∷ cs) (x ∷ planes) (suc index) c q h at k =
+    grind (arith, common_steps, plane-set cs planes index c q h.1 at k)
 
 one-whole : (cs : List Component) (p : Pass) (index : ℕ) (c : Component) (plane : List ℕ) (found :
     Found)
