@@ -1,3 +1,5 @@
+use Rattle.std.proofs.Common.{arith}
+use Rattle.std.proofs.lemmas.Grind.{common_steps}
 use Rattle.std.proofs.Common.{ap, length, map, subst, ◌∙◌, sym, List, ℕ}
 use Rattle.jpeg_decoder.specs.GrowingView.{GrowsFor, growing_in}
 use Rattle.jpeg_decoder.specs.Steps.{coding_in}
@@ -6,9 +8,4 @@ use Rattle.jpeg_decoder.proofs.JointStrips.{room-full}
 use Rattle.jpeg_decoder.proofs.decoded.Decoded.add_grown.Goals as goal
 
 pub add_joint-requires-clause-full : goal.add_joint-requires-clause-full
-add_joint-requires-clause-full c =
-    let cs = c.args.scan.now.components.items in
-    room-full cs c.in-Joint.joint
-    (subst (GrowsFor (map coding_in cs)) c.in-Joint.is c.requires.grown)
-    (ap (λ (planes : GrowingPlanes). map (λ (l : List ℕ). length l) (growing_in planes))
-    (sym c.in-Joint.is) ∙ c.requires.sizes)
+add_joint-requires-clause-full c = grind (arith, common_steps, room-full)

@@ -1,3 +1,4 @@
+use Rattle.std.proofs.lemmas.Grind.{common_steps}
 use Rattle.std.proofs.Common.{is_some, Option, ◌≡◌, ◌∙◌, ◌+◌, ◌<◌, ◌^◌, suc, true, None, Ok, sym, ap, arith, length}
 use Rattle.std.proofs.lemmas.Result.{err_from_is_err_and}
 use Rattle.jpeg_streams.specs.declared.before.Before.TheVariants.{Elsewhere}
@@ -95,21 +96,13 @@ pub returns-then-is_read_for-clause-stays : goal.returns-then-is_read_for-clause
 returns-then-is_read_for-clause-stays g c = c.loop.invariant.stays
 
 pub returns-in_err-step-clause-stays : goal.returns-in_err-step-clause-stays
-returns-in_err-step-clause-stays g c h =
-    stays-on c.loop.self c.read_turn.new.self c.args.self.now (c.loop.invariant.stays h) c.in_err-step.ensures.steps.stays h
+returns-in_err-step-clause-stays g c h = grind (arith, common_steps, stays-on)
 
 pub returns-then-step-clause-stays : goal.returns-then-step-clause-stays
-returns-then-step-clause-stays g c h =
-    stays-on c.loop.self c.read_turn.new.self c.args.self.now (c.loop.invariant.stays h) c.in_ok-step.ensures.steps.stays h
+returns-then-step-clause-stays g c h = grind (arith, common_steps, stays-on)
 
 pub returns-clause-stays : goal.returns-clause-stays
-returns-clause-stays g c h =
-    elim c.loop-test.branch [
-      | else-loop-test w ↦ rw w.self-is (c.loop.invariant.stays h)
-      | then-loop-test+else-is_read_for+in_ok-step+else-step+else-counter-lt18446744073709551615 w ↦ rw w.self-is
-          (stays-on c.loop.self w.read_turn.new.self c.args.self.now (c.loop.invariant.stays h)
-          w.in_ok-step.ensures.steps.stays h)
-    ]
+returns-clause-stays g c h = grind (arith, common_steps, else-loop-test, stays-on)
 
 -- ---- one more turn
 
