@@ -1,6 +1,7 @@
 -- The data of a scan, of what is read of its blocks, and the planes that it decides.
-use Rattle.std.proofs.Common.{◌≡◌, ◌<◌, ℕ, zero, suc, ◌+◌, ◌*◌, true, false, Option, None, Result, Ok, Err}
-use Rattle.std.proofs.Common.{List, [], ◌∷◌, refl, sym, ap, subst, ◌∙◌, length, get_or, set, map, drop, arith}
+use Rattle.std.proofs.Common.{◌≡◌, ◌<◌, ℕ, zero, suc, ◌+◌, ◌*◌, true, false, Option, None, Result}
+use Rattle.std.proofs.Common.{Ok, Err, List, [], ◌∷◌, refl, sym, ap, subst, ◌∙◌, length, get_or}
+use Rattle.std.proofs.Common.{set, map, drop, arith, rules}
 use Rattle.std.proofs.Math.Logic.{inl, inr}
 use Rattle.std.specs.Prelude.{All, OnOk}
 use Rattle.std.specs.List.{AllByRecursion}
@@ -8,10 +9,9 @@ use Rattle.std.proofs.lemmas.List.{length-map}
 use Rattle.jpeg_bits.specs.Stream.{Stream}
 use Rattle.jpeg_bits.specs.Reading.{Outcome, Fault, Answers, ◌>>=◌}
 use Rattle.jpeg_bits.specs.declared.error.Error.{Error}
-use Rattle.jpeg_bits.proofs.Loops.{Names-through, bind_at}
+use Rattle.jpeg_bits.proofs.Loops.{Names-through}
 use Rattle.jpeg_bits.specs.declared.marker.Marker.{Marker}
 use Rattle.jpeg_bits.specs.Passes.{Pass, Via, Block}
-use Rattle.jpeg_bits.specs.BlockView.{to_block}
 use Rattle.jpeg_segments.specs.Frame.{Frame, Component}
 use Rattle.jpeg_decoder.specs.declared.scan.Coded.{Coded}
 use Rattle.jpeg_decoder.specs.declared.decoded.Decoded.{Decoded}
@@ -21,23 +21,20 @@ use Rattle.jpeg_streams.specs.Scans.{Arrays, zero_arrays, arrays_at}
 use Rattle.jpeg_decoder.specs.Scanning.{vias_in, arrays_in, blocks_in, sizes_of, components_in}
 use Rattle.jpeg_decoder.specs.PlanesView.{planes_in}
 use Rattle.jpeg_streams.specs.Sound.{IsPlaneOf, ArePlanes}
-use Rattle.jpeg_decoder.specs.Steps.{blocks_at, coding_in, decided_planes, scan_data}
+use Rattle.jpeg_decoder.specs.Steps.{blocks_at, coding_in, decided_planes, scan_data, with_decoded}
+use Rattle.jpeg_decoder.specs.Steps.{with_its_plane, with_planes, IsCodingOf, AreRising}
 use Rattle.jpeg_streams.specs.Rasters.{plane_by}
-use Rattle.jpeg_streams.specs.ScanSegments.{components_of, blocks_after, arrays_before, once_scanned}
-use Rattle.jpeg_streams.specs.ScanSegments.{Coding}
-use Rattle.jpeg_streams.specs.ScanSegments.{is_progressive, put_arrays, with_arrays, with_blocks, vias_from}
-use Rattle.jpeg_decoder.specs.Steps.{with_decoded, with_its_plane, with_planes, IsCodingOf, AreRising}
+use Rattle.jpeg_streams.specs.ScanSegments.{components_of, blocks_after, arrays_before}
+use Rattle.jpeg_streams.specs.ScanSegments.{once_scanned, Coding, is_progressive, put_arrays}
+use Rattle.jpeg_streams.specs.ScanSegments.{with_arrays, with_blocks, vias_from}
 use Rattle.jpeg_streams.specs.Found.{Found}
 use Rattle.jpeg_decoder.specs.Strips.{planes_by, planes_at}
-use Rattle.jpeg_streams.proofs.ReadTurns.{ok-same}
-use Rattle.jpeg_streams.proofs.Apart.{At, zeros-sized}
+use Rattle.jpeg_streams.proofs.Apart.{At, zeros-sized, get-at}
 use Rattle.jpeg_decoder.proofs.BlocksBefore.{plane_by-length}
 use Rattle.jpeg_decoder.proofs.PlacedCodings.{coded-components}
 use Rattle.jpeg_decoder.proofs.PutLoops.{Held, blocks-are}
-use Rattle.jpeg_streams.proofs.Apart.{get-at}
 use Rattle.jpeg_streams.proofs.ScanArrays.{IsOf, zeros-of}
 use Rattle.std.proofs.lemmas.Grind.{common_steps}
-use Rattle.std.proofs.Common.{rules}
 
 -- ---- the scan's components
 
@@ -74,8 +71,12 @@ pub arrays-by-planes : (p : Pass) (codings : List Coding) (arrays : Arrays) (fou
     → with_arrays p codings arrays found ≡ with_planes p codings (planes_by codings arrays) found
 unfolding with_arrays with_planes planes_by
 arrays-by-planes p (c ∷ codings) (blocks ∷ arrays) found =
-    grind (arith, common_steps, blocks-are,
-    arrays-by-planes p codings arrays (with_its_plane p c.index (plane_by c.component c.quantization blocks) found))
+    grind (
+      arith,
+      common_steps,
+      blocks-are,
+      arrays-by-planes p codings arrays (with_its_plane p c.index (plane_by c.component c.quantization blocks) found),
+    )
 arrays-by-planes p _ _ found = refl
 
 -- the blocks at their places, of those of the frame
@@ -278,11 +279,12 @@ pub read-as : (f : Found) (frame : Frame) (p : Pass) (cs : List Coded) (n : ℕ)
 read-as f frame p cs n arrays bytes e = grind (arith, common_steps, vias-same, coded-components)
 
 -- the places of a scan's components are places of the arrays
-pub coded-within-kept : (frame : Frame) (cs : List Coded) (kept : List Held)
-    → AllByRecursion (IsCodingOf frame) (map coding_in cs) → AreArrays frame.components (arrays_in
-    kept)
-    → All (λ (x : Coded). x.index < length kept) cs
-coded-within-kept frame cs kept of a k d h = at cs of k d h
+pub coded-within-kept : (frame : Frame) (cs : List Coded) (kept : List Held) (n : ℕ) → n ≡ length kept
+    → AllByRecursion (IsCodingOf frame) (map coding_in cs) → AreArrays frame.components (arrays_in kept)
+    → All (λ (x : Coded). x.index < n) cs
+coded-within-kept frame (c ∷ cs) kept n e of a zero d h =
+    let r = long frame.components kept a c.index (coding_in c).component
+    (get-at c.index frame.components (coding_in c).component of.0) in omega arith
   where
     long : (components : List Component) (vs : List Held) → AreArrays components (arrays_in vs)
         → (index : ℕ) (c : Component) → At index components c → index < length vs
@@ -292,13 +294,8 @@ coded-within-kept frame cs kept of a k d h = at cs of k d h
     long (x ∷ components) (v ∷ vs) a (suc index) c at = let r =
         long components vs (other-arrays x components (blocks_in v) (arrays_in vs) a) index c at in
         omega (arith, r)
-
-    at : (cs : List Coded) → AllByRecursion (IsCodingOf frame) (map coding_in cs) → (k : ℕ) (d : Coded) → k < length cs
-        → (get_or cs k d).index < length kept
-    at [] of k d h = absurd (omega arith)
-    at (c ∷ cs) of zero d h = long frame.components kept a c.index (coding_in c).component
-        (get-at c.index frame.components (coding_in c).component of.0)
-    at (c ∷ cs) of (suc k) d h = at cs of.1 k d (omega arith)
+coded-within-kept frame (c ∷ cs) kept n e of a (suc k) d h = coded-within-kept frame cs kept n e of.1 a k d (omega arith)
+coded-within-kept frame [] kept n e of a k d h = absurd (omega arith)
 
 -- places that rise are apart
 pub rising-codings : (cs : List Coded) → AreRising (map coding_in cs) → AreApart (map (λ (x :
