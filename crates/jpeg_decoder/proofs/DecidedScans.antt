@@ -1,5 +1,6 @@
 -- Scans of a sequential frame whose components have planes already: what is made of their blocks
 -- decides nothing.
+use Rattle.std.proofs.Common.{rules}
 use Rattle.std.proofs.Common.{◌≡◌, ℕ, Bool, true, List, [], ◌∷◌, ◌+◌, ◌*◌, ◌<◌, length, get_or, Option, None, Result, Ok, Err}
 use Rattle.std.proofs.Common.{refl, sym, ap, ap₂, ◌∙◌, subst, arith}
 use Rattle.std.proofs.lemmas.Bool.{cases_lt}
@@ -84,14 +85,7 @@ module _ (p : Pass) (vias : List Via) (n : ℕ) (frame : Frame) (codings : List 
 
   alike-scans : AlikeEnds (length codings) (by_rows (no_samples codings)) (by_rows [])
   unfolding planes_by_rows ended
-  alike-scans =
-      let blocks = n * mcu_size (components_of codings) in
-      let rows = rows_of frame (components_of codings) in
-      let start = counted_at_start blocks [] in
-      let t = upcoming fresh bytes in
-      alike-ended (length codings) (strips_from p vias blocks codings rows (no_samples codings) start t)
-      (strips_from p vias blocks codings rows [] start t)
-      (alike-strips p vias blocks codings rows (no_samples codings) start t (length-map codings (λ (c : Coding). [])))
+  alike-scans = search (rules, arith, alike-ended, alike-strips, length-map)
 
   pub again-refused : (fault : Fault) → by_rows [] ≡ Err fault → by_rows (no_samples codings) ≡ Err fault
   unfolding AlikeEnds

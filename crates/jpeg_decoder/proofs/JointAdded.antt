@@ -1,4 +1,5 @@
 -- What is found after a first scan of all components of a frame, whose planes share one buffer.
+use Rattle.std.proofs.Common.{rules}
 use Rattle.std.proofs.Common.{◌≡◌, ℕ, zero, suc, ◌+◌, ◌<◌, ◌≤◌, Bool, true, Option, Some, None}
 use Rattle.std.proofs.Common.{List, [], ◌∷◌, ◌++◌, length, get_or, map, take, drop, replicate}
 use Rattle.std.proofs.Common.{arith, refl, sym, ap, ◌∙◌}
@@ -38,8 +39,7 @@ or-next : (n : ℕ) (planes : List (List ℕ)) (plane : List ℕ) → length pla
 unfolding or_joint
 or-next zero planes plane h = absurd (omega arith)
 or-next (suc n) [] plane h = grind (arith, common_steps, or-nothing)
-or-next (suc n) (x ∷ planes) plane h =
-    ap (λ (l : List (Option (List ℕ))). Some x ∷ l) (or-next n planes plane (omega arith))
+or-next (suc n) (x ∷ planes) plane h = search (rules, arith, or-next n planes plane (omega arith))
 
 -- The planes of these components of a scan are added, as many as they are.
 module _ (p : Pass) (cs : List Coded) (planes : List (List ℕ))

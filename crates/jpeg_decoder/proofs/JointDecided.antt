@@ -1,4 +1,5 @@
 -- Planes that are decided, of which those of like components share one buffer.
+use Rattle.std.proofs.Common.{rules}
 use Rattle.std.proofs.Common.{◌≡◌, ◌∙◌, ◌<◌, ◌≤◌, ℕ, zero, suc, List, [], ◌∷◌, Option, Some, None}
 use Rattle.std.proofs.Common.{ap, arith, drop, get_or, is_some, length, map, refl, replicate, set}
 use Rattle.std.proofs.Common.{true}
@@ -27,8 +28,7 @@ unfolding or_joint
 or-at own [] k h = rw or-nothing (or-none (get_or own k None))
 or-at [] (other ∷ joint) k h = absurd (omega arith)
 or-at (p ∷ own) (other ∷ joint) zero h = grind (arith, common_steps)
-or-at (p ∷ own) (other ∷ joint) (suc k) h =
-    let more = or-at own joint k (omega arith) in grind (arith, common_steps)
+or-at (p ∷ own) (other ∷ joint) (suc k) h = search (rules, arith, or-at own joint k (omega arith))
 
 -- A plane that is put is the one that is decided.
 pub or-set : (own : List (Option (List ℕ))) (joint : List (List ℕ)) (k : ℕ) (plane : List ℕ)
@@ -37,8 +37,7 @@ unfolding or_joint
 or-set own [] k plane = simp or-nothing
 or-set [] (other ∷ joint) k plane = refl
 or-set (p ∷ own) (other ∷ joint) zero plane = grind (arith, common_steps)
-or-set (p ∷ own) (other ∷ joint) (suc k) plane =
-    let more = or-set own joint k plane in grind (arith, common_steps)
+or-set (p ∷ own) (other ∷ joint) (suc k) plane = search (rules, arith, or-set own joint k plane)
 
 -- What comes after a plane that is taken is as it was.
 pub or-after : (own : List (Option (List ℕ))) (joint : List (List ℕ)) (k n : ℕ)

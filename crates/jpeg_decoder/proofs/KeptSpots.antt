@@ -90,6 +90,4 @@ each-row cs vs f a (suc n) h = (h a, each-row cs vs f (a + 1) n h)
 pub rows-spots : (frame : Frame) (cs : List Coded) (vs : List Held) → AllByRecursion (Fits frame) (components_in cs)
     → sizes_of vs ≡ row_sizes cs
     → AllByRecursion (AllByRecursion (IsSpotOf (length cs) (sizes_of vs))) (rows_of frame (components_in cs))
-rows-spots frame cs vs fits sizes = each-row cs vs (mcu_row frame (components_in cs)) 0
-    frame.mcus_high
-    (λ row. row-spots frame cs vs row fits sizes)
+rows-spots frame cs vs fits sizes = search (rules, arith, each-row, row-spots)

@@ -1,4 +1,5 @@
 -- The blocks of a row of MCUs, as they are cleared and as their samples are appended.
+use Rattle.std.proofs.Common.{rules}
 use Rattle.std.proofs.lemmas.Grind.{common_steps}
 use Rattle.std.proofs.Common.{◌≡◌, ℕ, zero, suc, ◌+◌, ◌*◌, ◌<◌, ◌≤◌, List, [], ◌∷◌, ◌++◌, map, length, get_or}
 use Rattle.std.proofs.Common.{set, replicate, ℤ, pos, refl, sym, ap, ◌∙◌, arith, take, append_assoc}
@@ -158,5 +159,4 @@ module _ (cs : List Coded) (old : List Held) (start : List Plane) (sizes : sizes
 
   pub planes-all : (planes : List Plane) (slot : ℕ) → length cs ≤ slot → plane_lists planes
       ≡ patched slot all (plane_lists start) → plane_lists planes ≡ all
-  planes-all planes slot h e = e ∙ patched-all all (plane_lists start) slot all-long (omega
-      (arith, start-long, length-map cs coding_in))
+  planes-all planes slot h e = search (rules, arith, patched-all, all-long, start-long, length-map)

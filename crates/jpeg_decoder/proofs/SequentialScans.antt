@@ -1,4 +1,5 @@
 -- Scans of a sequential frame, by what was read of them row by row of MCUs.
+use Rattle.std.proofs.Common.{rules}
 use Rattle.std.proofs.Common.{◌≡◌, ◌∙◌, ap, sym, List, [], ◌∷◌, ◌<◌, suc, arith, map, ℕ, Ok, Err, None, Option, true, false, length, get_or}
 use Rattle.std.proofs.lemmas.List.{length-map}
 use Rattle.std.specs.Prelude.{is_some, slice_index_or}
@@ -44,8 +45,7 @@ module _ (found : Found) (before : Decoded) (frame : Frame) (scan : Scan) (bytes
 
   pub read-refused : (fault : Fault) → by_rows (no_samples codings) ≡ Err fault
       → scan_data f frame p codings bytes ≡ Err fault
-  read-refused fault h = data-planes-refused f frame p codings bytes fault process (of-frame frame codings ready.of_frame)
-      (at-once ∙ h)
+  read-refused fault h = search (rules, arith, data-planes-refused, of-frame, at-once)
 
   pub again-refused-data : (fault : Fault) → by_rows [] ≡ Err fault → scan_data f frame p codings bytes ≡ Err fault
   again-refused-data fault h = grind (arith, common_steps, read-refused, again-refused)

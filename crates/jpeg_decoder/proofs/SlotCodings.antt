@@ -119,10 +119,7 @@ pub slot-coded : (state : State) (frame : FrameInfo) (header : ScanInfo) (slot i
     → coding_in_slot (said_in state) (frame_in frame) (scan_in header) slot ≡ coded_by state header slot index c
 unfolding component_coding
 slot-coded state frame header slot index c h p l e =
-    let named : get_or header.component_indices.items slot 0 ≡ index = search (rules, arith, get_or_default_zero) in
-    let there : slice_get (map component_in frame.components.items) index ≡ Some (component_in c)
-    = search (rules, arith, component-at) in
-    rw (named, there) refl
+    search (rules, arith, get_or_default_zero, component-at)
 
 -- the tables as the code looks them up
 pub dc-read : (state : State) (header : ScanInfo) (spare : Spare) (slot destination : ℕ) (o : Option Table)
