@@ -1,22 +1,21 @@
 -- A lossless scan as it is read: its tables, its samples and where they are put.
-use Rattle.std.proofs.Common.{rules}
-use Rattle.std.proofs.Common.{◌≡◌, ℕ, zero, suc, ◌+◌, ◌*◌, ◌<◌, ◌≤◌, ◌==◌, Bool, true, false, List, [], ◌∷◌, ◌++◌, All}
-use Rattle.std.proofs.Common.{length, map, drop, get_or, set, Option, Some, None, Result, Ok, Err, refl, sym, ap}
-use Rattle.std.proofs.Common.{◌∙◌, subst, arith}
+use Rattle.std.proofs.Common.{rules, ◌≡◌, ℕ, zero, suc, ◌+◌, ◌*◌, ◌<◌, ◌≤◌, ◌==◌, Bool, false, List}
+use Rattle.std.proofs.Common.{[], ◌∷◌, ◌++◌, All, length, map, drop, get_or, set, Option, Some}
+use Rattle.std.proofs.Common.{None, Result, Ok, Err, refl, sym, ap, ◌∙◌, subst, arith}
 use Rattle.std.specs.Prelude.{IfErr, IfOk, MatchResult, OnOk, slice_get, slice_index_or, slice_set}
 use Rattle.std.proofs.lemmas.Option.{get_or_from_slice_get, slice_get-get_or}
 use Rattle.std.specs.declared.alloc.Global.{Global}
 use Rattle.std.specs.declared.vec.Vec.{Vec}
-use Rattle.std.proofs.lemmas.List.{length-map, map-set}
+use Rattle.std.proofs.lemmas.List.{length-map, map-set, append_assoc, append-nil, drop-set-lt}
+use Rattle.std.proofs.lemmas.List.{drop_all, drop_more}
 use Rattle.std.specs.List.{AllByRecursion, enumerate_from}
-use Rattle.std.proofs.lemmas.List.{append_assoc, append-nil, drop-set-lt, drop_all, drop_more}
 use Rattle.std.proofs.lemmas.List.Elements.{All-from_recursion, recursion_from_All}
 use Rattle.jpeg_bits.specs.Codes.{Table}
 use Rattle.jpeg_bits.specs.Reading.{Answers, Fault, Names, Outcome, ◌>>=◌}
 use Rattle.jpeg_bits.specs.Stream.{Stream}
 use Rattle.jpeg_bits.specs.declared.error.Error.{Error}
 use Rattle.jpeg_bits.specs.declared.marker.Marker.{Marker}
-use Rattle.jpeg_bits.proofs.Loops.{Continues, Continues-err, Names-through, bind_at, bind_err}
+use Rattle.jpeg_bits.proofs.Loops.{Names-through, bind_at, bind_err}
 use Rattle.jpeg_segments.specs.Frame.{Component, Frame, ceiling, most_across, most_down}
 use Rattle.jpeg_segments.specs.FrameView.{component_in}
 use Rattle.jpeg_segments.specs.declared.parser.Component as declared
@@ -27,23 +26,26 @@ use Rattle.jpeg_lossless.specs.Differences.{Part}
 use Rattle.jpeg_lossless.specs.declared.scan.Coding.{Coding}
 use Rattle.jpeg_lossless.specs.Pictures.{ArePlanesOf, lossless_picture}
 use Rattle.jpeg_lossless.specs.Scans.{scan_at}
-use Rattle.jpeg_streams.specs.LosslessScans.{LosslessCoding, lossless_coding, lossless_codings, mcus_across}
-use Rattle.jpeg_streams.specs.LosslessScans.{mcus_down, part_of, parts_of, tables_in, with_samples}
+use Rattle.jpeg_streams.specs.LosslessScans.{LosslessCoding, lossless_coding, lossless_codings}
+use Rattle.jpeg_streams.specs.LosslessScans.{mcus_across, mcus_down, part_of, parts_of, tables_in}
+use Rattle.jpeg_streams.specs.LosslessScans.{with_samples}
 use Rattle.jpeg_decoder.specs.LosslessParts.{mcus_high, mcus_wide, no_component, part_by, parts_at}
 use Rattle.jpeg_segments.specs.Checks.{gathered, needed}
 use Rattle.jpeg_decoder.specs.declared.decoded.Decoded.{Decoded}
 use Rattle.jpeg_streams.specs.Sound.{AreSampled, IsDecodedFrame, IsSound}
 use Rattle.jpeg_decoder.specs.Steps.{IsRefusal, after_all, samples_read, with_decoded}
 use Rattle.jpeg_streams.specs.FoundPictures.{samples_picture}
-use Rattle.jpeg_streams.specs.ScanSegments.{after_samples, arrays_before, scan_samples, once_scanned}
+use Rattle.jpeg_streams.specs.ScanSegments.{after_samples, arrays_before, scan_samples}
+use Rattle.jpeg_streams.specs.ScanSegments.{once_scanned}
 use Rattle.jpeg_streams.specs.Found.{Found}
 use Rattle.jpeg_streams.proofs.ReadTurns.{bind-ok, needed-some, ok-same, then-ok}
-use Rattle.jpeg_streams.proofs.LosslessSizes.{IsMade, across-some, all-at, all-covered, decoded-made, down-some}
+use Rattle.jpeg_streams.proofs.LosslessSizes.{IsMade, across-some, all-at, all-covered}
+use Rattle.jpeg_streams.proofs.LosslessSizes.{decoded-made, down-some}
 use Rattle.jpeg_decoder.specs.PlanesView.{planes_in}
 use Rattle.jpeg_decoder.proofs.PutLoops.{seen-at}
 use Rattle.jpeg_decoder.proofs.ScanData.{before-sequential}
 use Rattle.jpeg_decoder.proofs.ReadLists.{dropped}
-use Rattle.jpeg_decoder.proofs.ScanReads.{HasRead, last-step}
+use Rattle.jpeg_decoder.proofs.ScanReads.{HasRead}
 use Rattle.jpeg_streams.proofs.Soundness.{count-few, decoded-count, decoded-some}
 use Rattle.std.proofs.lemmas.Bool.Decides.{nat_tests}
 use Rattle.jpeg_bits.specs.declared.error.Error.TheVariants.{OutOfMemory}
@@ -239,9 +241,6 @@ has-mcus tables frame indices ds ts a decoded lossless =
 
 -- ---- steps of a scan
 
-pub begun : (whole : List ℕ → Outcome (Found × Option Marker)) (old : Stream) → Continues whole old whole old
-begun whole old = (refl, λ k. (k, refl))
-
 pub samples-lacking : (found : Found) (frame : Frame) (scan : Scan) (bytes : List ℕ) (f : Fault)
     → lossless_codings found.said.huffman.dc frame scan.components scan.dc_destinations ≡ Err f
     → samples_read found frame scan bytes ≡ Err f
@@ -261,47 +260,23 @@ unfolding samples_read
 samples-then found frame scan codings bytes e = then-ok _ _ codings _ e refl
 
 -- The data of a scan are refused.
-pub samples-fail : {X Z : Type 0} (v : X → Found × Option Marker) (view : Z → List (List ℕ) × Option Marker)
-    (found : Found)
-    (frame : Frame) (scan : Scan) (codings : List LosslessCoding) (read : List ℕ
-    → Outcome (List (List ℕ) × Option Marker))
-    (old new : Stream) (e : Error)
-    → lossless_codings found.said.huffman.dc frame scan.components scan.dc_destinations ≡ Ok codings
-    → scan_samples found frame scan codings ≡ read
-    → Answers view read old (Err e) new → Answers v (samples_read found frame scan) old (Err e) new
-samples-fail v view found frame scan codings read old new e c is =
-    Continues-err v view (samples_read found frame scan) (samples_read found frame scan) read old old new e
-    (λ f h. samples-then found frame scan codings old.bytes c
-    ∙ bind_err (after_planes found codings) _ f (ap (λ (g : List ℕ → Outcome (List (List ℕ) × Option Marker)). g
-    old.bytes) is ∙ h))
-    (begun (samples_read found frame scan) old)
+pub samples-fail : (found : Found) (frame : Frame) (scan : Scan) (codings : List LosslessCoding)
+    (o : Outcome (List (List ℕ) × Option Marker)) (old new : Stream) (e : Error)
+    → samples_read found frame scan old.bytes ≡ (o >>= after_planes found codings)
+    → Answers (λ (r : List (List ℕ) × Option Marker). r) (λ bytes. o) old (Err e) new
+    → Answers (λ (m : Option Marker). (found, m)) (samples_read found frame scan) old (Err e) new
+samples-fail found frame scan codings o old new e is refused = grind (arith, common_steps, bind_err)
 
 -- The data are read, and the restart markers after them are passed over.
 pub samples-end : (found next : Found) (frame : Frame) (scan : Scan) (codings : List LosslessCoding)
-    (read : List ℕ → Outcome (List (List ℕ) × Option Marker)) (planes : List (List ℕ)) (met : Option Marker)
+    (o : Outcome (List (List ℕ) × Option Marker)) (planes : List (List ℕ)) (met : Option Marker)
     (old mid new : Stream) (r : Result (Option Marker) Error)
-    → lossless_codings found.said.huffman.dc frame scan.components scan.dc_destinations ≡ Ok codings
-    → scan_samples found frame scan codings ≡ read → next ≡ after_samples found codings planes
-    → HasRead read old (planes, met) mid → Answers (λ (m : Option Marker). m) (after_all met) mid r new
+    → samples_read found frame scan old.bytes ≡ (o >>= after_planes found codings)
+    → next ≡ after_samples found codings planes
+    → HasRead (λ bytes. o) old (planes, met) mid → Answers (λ (m : Option Marker). m) (after_all met) mid r new
     → Answers (λ (m : Option Marker). (next, m)) (samples_read found frame scan) old r new
-samples-end found next frame scan codings read planes met old mid new r c is made has =
-    last-step (λ (m : Option Marker). (next, m)) (λ (m : Option Marker). m) (samples_read found frame scan)
-    (λ bytes. after_planes found codings ((planes, met), bytes)) (after_all met) old mid new r
-    (λ m h. bind_at (λ (m : Option Marker × List ℕ). Ok ((after_samples found codings planes, m.0), m.1)) _ (
-      m,
-      new.bytes,
-    ) h
-    ∙ ap (λ (x : Found). Ok ((x, m), new.bytes)) (sym made))
-    (λ f h. bind_err (λ (m : Option Marker × List ℕ). Ok ((after_samples found codings planes, m.0), m.1)) _ f h) (
-      has.0,
-      λ k.
-          let at = has.1 k in (
-            at.0,
-            samples-then found frame scan codings old.bytes c
-                ∙ bind_at (after_planes found codings) _ ((planes, met), mid.bytes)
-                (ap (λ (g : List ℕ → Outcome (List (List ℕ) × Option Marker)). g old.bytes) is ∙ at.1),
-          ),
-    )
+samples-end found next frame scan codings o planes met old mid new r is made has after =
+    grind (arith, common_steps, bind_at, bind_err)
 
 -- ---- what is found after it
 
@@ -435,6 +410,26 @@ pub coded-by : (found : Found) (frame : Frame) (scan : Scan) (ts : List Table)
     → scan_samples found frame scan a.codings
     ≡ scan_at (way_by k parts) k.high k.restart_interval k.point_transform
 coded-by found frame scan ts a k parts e is = grind (arith, common_steps, mcus-are, parts-are)
+
+-- The scan, by what is read of its samples.
+pub samples-read : (found : Found) (frame : Frame) (scan : Scan) (ts : List Table)
+    (a : AreCodings found.said.huffman.dc frame scan.components scan.dc_destinations ts) (k : Coding) (parts : List Part)
+    (bytes : List ℕ)
+    → k ≡ record {
+      wide = mcus_wide frame scan.components;
+      high = mcus_high frame scan.components;
+      precision = frame.precision;
+      predictor = scan.predictor;
+      point_transform = scan.point_transform;
+      restart_interval = found.said.restart;
+    }
+    → parts ≡ parts_at (length scan.components == 1) frame.components scan.components ts
+    → samples_read found frame scan bytes
+    ≡ (scan_at (way_by k parts) k.high k.restart_interval k.point_transform bytes >>= after_planes found a.codings)
+samples-read found frame scan ts a k parts bytes e is =
+    samples-then found frame scan a.codings bytes a.are
+    ∙ ap (λ (r : List ℕ → Outcome (List (List ℕ) × Option Marker)). r bytes >>= after_planes found a.codings)
+    (coded-by found frame scan ts a k parts e is)
 
 -- What is found after samples are put.
 pub put-made : (base : Found) (old new : Decoded) (samples : List (Option (List ℕ))) → new.kept ≡

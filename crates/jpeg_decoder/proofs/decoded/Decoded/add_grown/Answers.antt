@@ -1,9 +1,5 @@
 use Rattle.std.proofs.Common.{arith}
 use Rattle.std.proofs.lemmas.Grind.{common_steps}
-use Rattle.std.proofs.Common.{ap, length, map, subst, ◌∙◌, sym, List, ℕ}
-use Rattle.jpeg_decoder.specs.GrowingView.{GrowsFor, growing_in}
-use Rattle.jpeg_decoder.specs.Steps.{coding_in}
-use Rattle.jpeg_decoder.specs.declared.strips.GrowingPlanes.{GrowingPlanes}
 use Rattle.jpeg_decoder.proofs.JointStrips.{room-full}
 use Rattle.jpeg_decoder.proofs.decoded.Decoded.add_grown.Goals as goal
 

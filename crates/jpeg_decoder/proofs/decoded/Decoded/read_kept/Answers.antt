@@ -1,13 +1,11 @@
-use Rattle.std.proofs.Common.{◌≡◌, ◌∙◌, ◌*◌, ap, List, map, length, ℕ, Option, refl, Err, arith}
+use Rattle.std.proofs.Common.{◌≡◌, ◌∙◌, ◌*◌, ap, List, map, length, ℕ, Option, refl, arith}
 use Rattle.std.specs.declared.alloc.Global.{Global}
 use Rattle.std.specs.declared.vec.Vec.{Vec}
 use Rattle.std.proofs.lemmas.Result.{err_from_is_err_and}
 use Rattle.std.proofs.lemmas.List.{length-map}
 use Rattle.jpeg_bits.specs.declared.marker.Marker.{Marker}
 use Rattle.jpeg_bits.specs.BlockView.{pass_in}
-use Rattle.jpeg_bits.specs.Reading.{Answers, Outcome}
-use Rattle.jpeg_bits.specs.Stream.{Stream}
-use Rattle.jpeg_bits.specs.declared.error.Error.{Error}
+use Rattle.jpeg_bits.specs.Reading.{Outcome}
 use Rattle.jpeg_decoder.specs.declared.scan.Scan.{Scan}
 use Rattle.std.specs.List.{AllByRecursion}
 use Rattle.jpeg_segments.specs.Frame.{Frame}
@@ -17,10 +15,9 @@ use Rattle.jpeg_streams.specs.InTurn.{AreArrays}
 use Rattle.jpeg_streams.specs.Order.{spots_of, mcu_size}
 use Rattle.jpeg_streams.specs.Scans.{Arrays, arrays_at}
 use Rattle.jpeg_decoder.specs.Seen.{found_in}
-use Rattle.jpeg_decoder.specs.PlanesView.{planes_in}
 use Rattle.jpeg_decoder.specs.Scanning.{arrays_in, components_in, sizes_of, vias_in}
-use Rattle.jpeg_decoder.specs.Steps.{blocks_at, coding_in, scan_data, with_decoded, without_blocks}
-use Rattle.jpeg_decoder.specs.Steps.{AreRising, IsCodingOf}
+use Rattle.jpeg_decoder.specs.Steps.{blocks_at, coding_in, with_decoded, without_blocks, AreRising}
+use Rattle.jpeg_decoder.specs.Steps.{IsCodingOf}
 use Rattle.jpeg_streams.specs.ScanSegments.{put_arrays, arrays_before}
 use Rattle.jpeg_streams.specs.Found.{Found}
 use Rattle.jpeg_decoder.proofs.PlacedCodings.{coded-components, coded-indices}
@@ -29,7 +26,7 @@ use Rattle.jpeg_streams.proofs.ScanArrays.{arrays-sized, kept-sized}
 use Rattle.jpeg_decoder.proofs.TakenBlocks.{put-back}
 use Rattle.jpeg_decoder.proofs.ScanData.{read_at, of-frame, arrays-by-sizes, coded-within-kept}
 use Rattle.jpeg_decoder.proofs.ScanData.{read-as, rising-codings, data-kept, data-kept-refused}
-use Rattle.jpeg_decoder.proofs.ScanData.{arrays-whole, answers-err}
+use Rattle.jpeg_decoder.proofs.ScanData.{arrays-whole}
 use Rattle.jpeg_decoder.proofs.decoded.Decoded.read_kept.Given as given
 use Rattle.jpeg_decoder.proofs.decoded.Decoded.read_kept.Goals.{After-put_blocks, In_ok-arrays}
 use Rattle.jpeg_decoder.proofs.decoded.Decoded.read_kept.Goals as goal
@@ -80,24 +77,18 @@ kept-as : (f : Found) (frame : Frame) (scan : Scan) (arrays : Arrays) (bytes : L
     ≡ blocks_read frame scan arrays bytes
 kept-as f frame scan arrays bytes n is = grind (arith, common_steps, read-as)
 
-kept-refused : (f : Found) (frame : Frame) (scan : Scan) (arrays new_arrays : Arrays) (old new : Stream) (e : Error)
-    → scan.restart_interval ≡ f.said.restart
-    → arrays ≡ blocks_at (map coding_in scan.components.items) (arrays_before f frame)
-    → Answers (λ (m : Option Marker). (new_arrays, m)) (blocks_read frame scan arrays) old (Err e) new
-    → Answers (λ (m : Option Marker). (f, m)) (scan_data f frame (pass_in scan.pass)
-    (map coding_in scan.components.items)) old (Err e) new
-kept-refused f frame scan arrays new_arrays old new e n is read =
-    answers-err (λ (m : Option Marker). (new_arrays, m)) (λ (m : Option Marker). (f, m)) (blocks_read frame scan arrays)
-    (scan_data f frame (pass_in scan.pass) (map coding_in scan.components.items)) old new e
-    (λ fault h. data-kept-refused f frame _ _ old.bytes fault (kept-as f frame scan arrays old.bytes n is ∙ h)) read
-
 pub returns-in_err-met-clause-data : goal.returns-in_err-met-clause-data
 returns-in_err-met-clause-data g c =
-    let e = err_from_is_err_and c.from_residual-in_err-met.result c.from_residual-in_err-met.ensures.1 in
-    rw (e.1, e.2) (kept-refused (with_decoded (found_in c.args.state.now) c.args.self.now) (frame_in c.args.frame.now)
-    c.args.scan.now (arrays_in c.in_ok-arrays.arrays.items) (arrays_in c.read_blocks.new.arrays.items)
-    c.args.source.now c.read_blocks.new.source _ c.requires.ready.restart
-    (taken g (goal.at.returns-in_err-met-clause-data g c).In_ok-arrays).0 c.in_err-met.ensures.scan)
+    let f = with_decoded (found_in c.args.state.now) c.args.self.now in
+    let is = kept-as f (frame_in c.args.frame.now) c.args.scan.now _ c.args.source.now.bytes c.requires.ready.restart
+    (taken g (goal.at.returns-in_err-met-clause-data g c).In_ok-arrays).0 in
+    grind (
+      arith,
+      common_steps,
+      err_from_is_err_and,
+      data-kept-refused f (frame_in c.args.frame.now)
+          (pass_in c.args.scan.now.pass) (map coding_in c.args.scan.now.components.items) c.args.source.now.bytes,
+    )
 
 pub add_arrays-requires-clause-blocks : goal.add_arrays-requires-clause-blocks
 add_arrays-requires-clause-blocks g c =
@@ -147,22 +138,17 @@ held g c =
 pub returns-clause-data : goal.returns-clause-data
 returns-clause-data g c =
     let f = with_decoded (found_in c.args.state.now) c.args.self.now in
-    let frame = frame_in c.args.frame.now in
     let at = goal.at.returns-clause-data g c in
-    let q = c.in_ok-met.ensures.scan in (
-      q.0,
-      λ k.
-          let read = q.1 k in (
-            read.0,
-            data-kept f frame (pass_in c.args.scan.now.pass) (map coding_in c.args.scan.now.components.items)
-                (arrays_in c.read_blocks.new.arrays.items) c.in_ok-met.met c.args.source.now.bytes
-                c.read_blocks.new.source.bytes (record c.keep.new.self { kept = c.take_blocks.new.kept })
-                c.add_arrays.new.self (arrays_in c.put_blocks.new.kept.items) c.requires.process
-                (kept-as f frame c.args.scan.now _ c.args.source.now.bytes c.requires.ready.restart
-                (taken g at.In_ok-arrays).0 ∙ read.1)
-                c.in_ok-add_arrays.ensures.planes c.in_ok-keep.ensures.finished c.in_ok-keep.ensures.planes
-                (ap planes_in c.in_ok-keep.ensures.samples) (held g at.After-put_blocks).0,
-          ),
+    let is = kept-as f (frame_in c.args.frame.now) c.args.scan.now _ c.args.source.now.bytes c.requires.ready.restart
+    (taken g at.In_ok-arrays).0 in
+    let put = (held g at.After-put_blocks).0 in
+    grind (
+      arith,
+      common_steps,
+      data-kept f (frame_in c.args.frame.now) (pass_in c.args.scan.now.pass)
+          (map coding_in c.args.scan.now.components.items) (arrays_in c.read_blocks.new.arrays.items) c.in_ok-met.met
+          c.args.source.now.bytes c.read_blocks.new.source.bytes (record c.keep.new.self { kept = c.take_blocks.new.kept })
+          c.add_arrays.new.self (arrays_in c.put_blocks.new.kept.items) c.requires.process,
     )
 
 pub returns-clause-kept : goal.returns-clause-kept

@@ -1,9 +1,7 @@
-use Rattle.std.proofs.Common.{arith}
+use Rattle.std.proofs.Common.{arith, ◌≡◌, ap, length, map}
 use Rattle.std.proofs.lemmas.Grind.{common_steps}
-use Rattle.std.proofs.Common.{◌≡◌, ◌∙◌, ap, refl, sym, length, List, map}
 use Rattle.std.proofs.lemmas.List.{length-map}
 use Rattle.jpeg_segments.specs.FrameView.{component_in, frame_in}
-use Rattle.jpeg_decoder.specs.declared.scan.Coded.{Coded}
 use Rattle.jpeg_decoder.proofs.JointStrips.{joint-started, none-started}
 use Rattle.jpeg_decoder.proofs.decoded.Decoded.start_planes.Goals.{In_ok-new}
 use Rattle.jpeg_decoder.proofs.decoded.Decoded.start_planes.Goals as goal
