@@ -76,12 +76,6 @@ pub next_unbegun : (p : Pass) (vias : List Via) (n : ℕ) (s : Spot) (old : Coun
     → begun_from n old t ≡ Err f → next_from p vias n s old t ≡ Err f
 next_unbegun p vias n s old t f e = next-is p vias n s old t ∙ ap (read_on (begun_turn p vias s)) e
 
-pub next_read : (p : Pass) (vias : List Via) (s : Spot) (now : Counted) (r : Reached) (t u : Text)
-    → turn_from p vias s now.reached t ≡ Ok (r, u)
-    → begun_turn p vias s now t ≡ Ok (record { reached = r; left = now.left - 1; number = now.number }, u)
-unfolding begun_turn
-next_read p vias s now r t u e = ap (read_on (turn_then now)) e
-
 pub next_refused : (p : Pass) (vias : List Via) (s : Spot) (now : Counted) (t : Text) (f : Fault)
     → turn_from p vias s now.reached t ≡ Err f → begun_turn p vias s now t ≡ Err f
 unfolding begun_turn

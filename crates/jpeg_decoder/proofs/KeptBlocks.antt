@@ -111,19 +111,6 @@ module _ (p : Pass) (cs : List Coded) (slot index : ℕ) (c : Coded) (vs : List 
       (block_from p c.dc.now c.ac.now z run (to_block x) t)
   turn-is t = rw (turn-whole, via-is cs slot c of.slot is, block-kept vs slot index v x inside array within block, ← predictor)
 
-  pub turn-read : (y : List ℤ) (next : ℤ) (more : ℕ) (t u : Text) → block_from p c.dc.now c.ac.now z run (to_block x) t
-      ≡ Ok ((to_block y, next, more), u)
-      → turn_from p (vias_in 0 cs) (spot slot index) old t
-      ≡ Ok (
-        record {
-          arrays = arrays_in (set vs slot (with_item v index y));
-          predictors = set predictors slot next;
-          run = more;
-        },
-        u,
-      )
-  turn-read y next more t u e = rw (turn-is t, e, arrays-set vs slot index v y inside array)
-
   pub turn-refused : (t : Text) (f : Fault) → block_from p c.dc.now c.ac.now z run (to_block x) t ≡ Err f
       → turn_from p (vias_in 0 cs) (spot slot index) old t ≡ Err f
   turn-refused t f e = turn-is t ∙ ap (read_on (put_turn slot slot index old)) e

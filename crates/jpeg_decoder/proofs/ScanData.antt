@@ -11,14 +11,14 @@ use Rattle.jpeg_bits.specs.Reading.{Outcome, Fault, Answers, ◌>>=◌}
 use Rattle.jpeg_bits.specs.declared.error.Error.{Error}
 use Rattle.jpeg_bits.proofs.Loops.{Names-through}
 use Rattle.jpeg_bits.specs.declared.marker.Marker.{Marker}
-use Rattle.jpeg_bits.specs.Passes.{Pass, Via, Block}
+use Rattle.jpeg_bits.specs.Passes.{Pass, Via}
 use Rattle.jpeg_segments.specs.Frame.{Frame, Component}
 use Rattle.jpeg_decoder.specs.declared.scan.Coded.{Coded}
 use Rattle.jpeg_decoder.specs.declared.decoded.Decoded.{Decoded}
 use Rattle.jpeg_streams.specs.InTurn.{AreApart, AreArrays, IsIn}
 use Rattle.jpeg_streams.specs.Order.{spots_of, mcu_size}
 use Rattle.jpeg_streams.specs.Scans.{Arrays, zero_arrays, arrays_at}
-use Rattle.jpeg_decoder.specs.Scanning.{vias_in, arrays_in, blocks_in, sizes_of, components_in}
+use Rattle.jpeg_decoder.specs.Scanning.{vias_in, arrays_in, sizes_of, components_in}
 use Rattle.jpeg_decoder.specs.PlanesView.{planes_in}
 use Rattle.jpeg_streams.specs.Sound.{IsPlaneOf, ArePlanes}
 use Rattle.jpeg_decoder.specs.Steps.{blocks_at, coding_in, decided_planes, scan_data, with_decoded}
@@ -103,15 +103,6 @@ data-is : (f : Found) (frame : Frame) (p : Pass) (codings : List Coding) (bytes 
 unfolding scan_data
 data-is f frame p codings bytes = refl
 
-kept-progressive : (f : Found) (frame : Frame) (codings : List Coding) (arrays : Arrays)
-    → is_progressive frame.process ≡ true
-    → blocks_after f frame codings arrays ≡ put_arrays codings arrays (arrays_before f frame)
-kept-progressive f frame codings arrays e = rw e refl
-
-kept-sequential : (f : Found) (frame : Frame) (codings : List Coding) (arrays : Arrays)
-    → is_progressive frame.process ≡ false → blocks_after f frame codings arrays ≡ []
-kept-sequential f frame codings arrays e = rw e refl
-
 pub before-sequential : (f : Found) (frame : Frame) → is_progressive frame.process ≡ false
     → arrays_before f frame ≡ zero_arrays frame.components
 unfolding arrays_before
@@ -150,7 +141,7 @@ data-kept f frame p codings arrays met bytes rest one two kept e r added fin pl 
     let same = same-found f one kept fin pl sa in
     let after = added (once_scanned f) in
     let away = kept-kept p codings arrays (with_decoded (once_scanned f) one) kept in
-    grind (arith, common_steps, data-is, kept-progressive)
+    grind (arith, common_steps, data-is)
 
 pub data-kept-refused : (f : Found) (frame : Frame) (p : Pass) (codings : List Coding) (bytes :
     List ℕ) (fault : Fault)
@@ -187,7 +178,7 @@ pub data-planes : (f : Found) (frame : Frame) (p : Pass) (codings : List Coding)
 data-planes f frame p codings planes met bytes rest one two e of r added fin pl sa none =
     let same = same-found f one [] fin pl sa in
     let after = added (once_scanned f) in
-    grind (arith, common_steps, data-is, zeros-read, planes-are, kept-sequential, arrays-by-planes)
+    grind (arith, common_steps, data-is, zeros-read, planes-are, arrays-by-planes)
 
 pub data-planes-refused : (f : Found) (frame : Frame) (p : Pass) (codings : List Coding) (bytes : List ℕ)
     (fault : Fault)
@@ -262,14 +253,13 @@ answers-err v view read whole old new e h p = (p.0, (λ k l. Names-through e _ _
 
 -- ---- scans on held blocks
 
-no-arrays : (c : Component) (more : List Component) → AreArrays (c ∷ more) [] → ⊥
+held-long : (components : List Component) (vs : List Held) → AreArrays components (arrays_in vs)
+    → (index : ℕ) (c : Component) → At index components c → index < length vs
 unfolding AreArrays
-no-arrays c more h = h
-
-other-arrays : (c : Component) (more : List Component) (blocks : List Block) (arrays : Arrays)
-    → AreArrays (c ∷ more) (blocks ∷ arrays) → AreArrays more arrays
-unfolding AreArrays
-other-arrays c more blocks arrays h = h.1
+held-long [] vs a index c at = absurd at
+held-long (x ∷ components) [] a index c at = absurd a
+held-long (x ∷ components) (v ∷ vs) a zero c at = omega arith
+held-long (x ∷ components) (v ∷ vs) a (suc index) c at = let r = held-long components vs a.1 index c at in omega arith
 
 -- the blocks are read as the code reads them
 pub read-as : (f : Found) (frame : Frame) (p : Pass) (cs : List Coded) (n : ℕ) (arrays : Arrays) (bytes : List ℕ)
@@ -283,17 +273,8 @@ pub coded-within-kept : (frame : Frame) (cs : List Coded) (kept : List Held) (n 
     → AllByRecursion (IsCodingOf frame) (map coding_in cs) → AreArrays frame.components (arrays_in kept)
     → All (λ (x : Coded). x.index < n) cs
 coded-within-kept frame (c ∷ cs) kept n e of a zero d h =
-    let r = long frame.components kept a c.index (coding_in c).component
+    let r = held-long frame.components kept a c.index (coding_in c).component
     (get-at c.index frame.components (coding_in c).component of.0) in omega arith
-  where
-    long : (components : List Component) (vs : List Held) → AreArrays components (arrays_in vs)
-        → (index : ℕ) (c : Component) → At index components c → index < length vs
-    long [] vs a index c at = absurd at
-    long (x ∷ components) [] a index c at = absurd (no-arrays x components a)
-    long (x ∷ components) (v ∷ vs) a zero c at = omega arith
-    long (x ∷ components) (v ∷ vs) a (suc index) c at = let r =
-        long components vs (other-arrays x components (blocks_in v) (arrays_in vs) a) index c at in
-        omega (arith, r)
 coded-within-kept frame (c ∷ cs) kept n e of a (suc k) d h = coded-within-kept frame cs kept n e of.1 a k d (omega arith)
 coded-within-kept frame [] kept n e of a k d h = absurd (omega arith)
 
@@ -312,17 +293,13 @@ rising-codings (c ∷ d ∷ cs) h = (λ n. below c.index d cs h.0 h.1 n, rising-
 
 -- ---- what is held after a scan
 
-before-kept : (f : Found) (frame : Frame) → is_progressive frame.process ≡ true → f.said.scanned ≡ true
-    → arrays_before f frame ≡ f.kept
-unfolding arrays_before
-before-kept f frame e s = rw (e, s) refl
-
 pub kept-afterwards : {X E : Type 0} (r : Result X E) (f : Found) (frame : Frame) → is_progressive
     frame.process ≡ true
     → f.said.scanned ≡ true
     → OnOk r (AreArrays frame.components f.kept) → OnOk r (AreArrays frame.components
     (arrays_before f frame))
-kept-afterwards r f frame e s h = grind (arith, common_steps, before-kept)
+unfolding arrays_before
+kept-afterwards r f frame e s h = grind (arith, common_steps)
 
 pub none-kept : {X E : Type 0} (r : Result X E) (f : Found) (frame : Frame) → is_progressive
     frame.process ≡ false

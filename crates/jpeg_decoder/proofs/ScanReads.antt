@@ -1,6 +1,6 @@
 -- The steps of a scan that is read, and what they are to a segment of the stream.
 use Rattle.std.proofs.Common.{◌≡◌, ℕ, suc, true, false, List, length, Option, Some, None, Result}
-use Rattle.std.proofs.Common.{Ok, Err, refl, ◌∙◌, ap, arith}
+use Rattle.std.proofs.Common.{Ok, Err, ◌∙◌, ap, arith}
 use Rattle.jpeg_bits.specs.Stream.{Stream}
 use Rattle.jpeg_bits.specs.Reading.{Answers, Fault, Names, NamesFormat, Outcome, ◌>>=◌}
 use Rattle.jpeg_bits.specs.Passes.{Pass}
@@ -236,9 +236,6 @@ segment-refused v s d at old new r e fails same is p =
 
 -- ---- what holds after a scan
 
-some-same : (f g : Frame) → Some f ≡ Some g → f ≡ g
-some-same f g h = cc
-
 none-some : (f : Frame) → None ≡ Some f → ⊥
 none-some f h = cc
 
@@ -247,12 +244,7 @@ pub blocks-sound : (found next : Found) (frame : Frame) → IsSound found → fo
     → next.said.frame ≡ found.said.frame → AreArrays frame.components (arrays_before next frame)
     → (ArePlanes frame.components found.planes → ArePlanes frame.components next.planes)
     → next.samples ≡ found.samples → IsSound next
-blocks-sound found next frame sound e stays kept planes samples = grind (
-  arith,
-  common_steps,
-  some-same,
-  none-some,
-)
+blocks-sound found next frame sound e stays kept planes samples = grind (arith, common_steps, none-some)
 
 -- A scan is a step, which keeps the frame.
 pub scan-steps : (old next : Found) (frame : Frame) (step : Step) → old.said.frame ≡ Some frame → next.said.frame ≡ old.said.frame
