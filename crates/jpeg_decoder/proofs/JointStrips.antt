@@ -171,9 +171,8 @@ strips-even shape _ _ h = tt
 shaped : (frame : Frame) (shape : JointShape) (cs : List Coded) → shape.rows ≡ frame.mcus_high
     → AllByRecursion (λ c. c.factors.vertical * c.scale ≡ shape.lines) frame.components
     → AllByRecursion (λ c. c.blocks_wide * c.scale ≡ shape.stride) frame.components
-    → AllByRecursion (Fits frame) (components_in cs)
-    → AllByRecursion (IsCodingOf frame) (map coding_in cs)
-    → AllByRecursion (IsOfShape shape) (map coding_in cs)
+    → AllByRecursion (Fits frame) (components_in cs) → AllByRecursion (IsCodingOf frame)
+    (map coding_in cs) → AllByRecursion (IsOfShape shape) (map coding_in cs)
 shaped frame shape [] rows lines strides fits of = tt
 shaped frame shape (c ∷ cs) rows lines strides fits of =
     let k = component_in c.component.now in
@@ -199,9 +198,8 @@ module _ (frame : Frame) (cs : List Coded) (seen : List Component) (joint : Join
 
   pub joint-started : shape.rows ≡ frame.mcus_high
       → AllByRecursion (λ c. c.factors.vertical * c.scale ≡ shape.lines) seen
-      → AllByRecursion (Fits frame) (components_in cs)
-      → AllByRecursion (IsCodingOf frame) (map coding_in cs)
-      → IsJointOf (map coding_in cs) joint
+      → AllByRecursion (Fits frame) (components_in cs) → AllByRecursion (IsCodingOf frame)
+      (map coding_in cs) → IsJointOf (map coding_in cs) joint
   joint-started rows lines fits of =
       let row = joint_row_size joint.shape in
       let empty : 0 ≡ 0 / row * row = sym (ap (λ (n : ℕ). n * row) (zero-div row) ∙ omega arith) in
@@ -257,8 +255,7 @@ module _ (codings : List Coding) (arrays : Arrays) (joint : JointPlanes)
 pub room-full : (cs : List Coded) (joint : JointPlanes) → IsJointOf (map coding_in cs) joint
     → map length (joint_planes joint.shape joint.samples.items)
     ≡ map (λ (c : Component). c.blocks_high * c.scale * (c.blocks_wide * c.scale))
-    (components_in cs)
-    → IsFullJoint joint
+    (components_in cs) → IsFullJoint joint
 room-full [] joint is sizes = absurd (let some = is.some in omega (arith, some, is.count))
 room-full (c ∷ cs) joint is sizes =
     let shape = joint.shape in

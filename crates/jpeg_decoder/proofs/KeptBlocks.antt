@@ -43,9 +43,8 @@ arrays-set : (vs : List Held) (slot index : ℕ) (v : Held) (x : List ℤ) → s
     → arrays_in (set vs slot (with_item v index x)) ≡ put_block (spot slot index) (to_block x) (arrays_in vs)
 arrays-set vs slot index v x h e = grind (arith, common_steps, map-set, get_or-map)
 
-block-kept : (vs : List Held) (slot index : ℕ) (v : Held) (x : List ℤ) → slot < length vs → v ≡
-    get_or vs slot v
-    → index < length v.items → x ≡ get_or v.items index x
+block-kept : (vs : List Held) (slot index : ℕ) (v : Held) (x : List ℤ) → slot < length vs → v
+    ≡ get_or vs slot v → index < length v.items → x ≡ get_or v.items index x
     → block_at (arrays_in vs) (spot slot index) ≡ to_block x
 block-kept vs slot index v x h e i f = grind (arith, common_steps, get_or-map)
 

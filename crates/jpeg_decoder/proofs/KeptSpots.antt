@@ -53,8 +53,7 @@ slot-few frame cs q fits t =
     omega arith
 
 pub kept-spots : (frame : Frame) (cs : List Coded) (vs : List Held) → AllByRecursion (Fits frame)
-    (components_in cs)
-    → AreArrays (components_in cs) (arrays_in vs)
+    (components_in cs) → AreArrays (components_in cs) (arrays_in vs)
     → AllByRecursion (IsSpotOf (length cs) (sizes_of vs)) (spots_of frame (components_in cs))
 kept-spots frame cs vs fits arrays = grind (arith, common_steps, all-spots, slot-few, spots-inside)
 

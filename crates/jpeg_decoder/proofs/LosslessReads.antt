@@ -148,10 +148,9 @@ pub mcus-are : (frame : Frame) (codings : List LosslessCoding) (indices : List �
 unfolding AreOf mcus_across mcus_down mcus_wide mcus_high
 mcus-are frame codings indices ts h = grind (arith, common_steps, get_or_from_slice_get)
 
-codings-made : (frame : Frame) (cs : List Component) (codings : List LosslessCoding) (indices :
-    List ℕ) (ts : List Table)
-    → AllByRecursion (IsMade frame) cs → AreOf cs codings indices ts
-    → AllByRecursion (λ k. IsMade frame k.component) codings
+codings-made : (frame : Frame) (cs : List Component) (codings : List LosslessCoding)
+    (indices : List ℕ) (ts : List Table) → AllByRecursion (IsMade frame) cs
+    → AreOf cs codings indices ts → AllByRecursion (λ k. IsMade frame k.component) codings
 unfolding AreOf
 codings-made frame cs [] indices ts made h = tt
 codings-made frame cs (k ∷ codings) (p ∷ indices) (t ∷ ts) made h =
@@ -181,13 +180,12 @@ unfolding mcus_wide mcus_high
 not-alone frame indices e = grind (arith, common_steps)
 
 -- a part more
-pub parts_step : (is_alone : Bool) (cs : List Component) (indices : List ℕ) (ts : List Table) (slot
-    p : ℕ) (t : Table)
-    (c : Component) (front new : List Part) → slot < length indices → slot < length ts
-    → p ≡ get_or indices slot p → get_or ts slot t ≡ t → c ≡ get_or cs p no_component
-    → new ≡ front ++ part_by is_alone c t ∷ []
-    → front ++ parts_at is_alone cs (drop slot indices) (drop slot ts)
-    ≡ new ++ parts_at is_alone cs (drop (slot + 1) indices) (drop (slot + 1) ts)
+pub parts_step : (is_alone : Bool) (cs : List Component) (indices : List ℕ) (ts : List Table)
+    (slot p : ℕ) (t : Table) (c : Component) (front new : List Part) → slot < length indices
+    → slot < length ts → p ≡ get_or indices slot p → get_or ts slot t ≡ t → c
+    ≡ get_or cs p no_component → new ≡ front ++ part_by is_alone c t ∷ [] → front
+    ++ parts_at is_alone cs (drop slot indices) (drop slot ts) ≡ new
+    ++ parts_at is_alone cs (drop (slot + 1) indices) (drop (slot + 1) ts)
 unfolding parts_at
 parts_step is_alone cs indices ts slot p t c front new h k e f g n =
     grind (arith, common_steps, dropped, drop_more, append_assoc)
@@ -196,10 +194,9 @@ no-parts : (is_alone : Bool) (cs : List Component) (ts : List Table) → parts_a
 unfolding parts_at
 no-parts is_alone cs ts = grind (arith, common_steps)
 
-pub parts_none : (is_alone : Bool) (cs : List Component) (indices : List ℕ) (ts : List Table) (slot
-    : ℕ)
-    (front : List Part) → length indices ≤ slot
-    → front ++ parts_at is_alone cs (drop slot indices) (drop slot ts) ≡ front
+pub parts_none : (is_alone : Bool) (cs : List Component) (indices : List ℕ) (ts : List Table)
+    (slot : ℕ) (front : List Part) → length indices ≤ slot → front
+    ++ parts_at is_alone cs (drop slot indices) (drop slot ts) ≡ front
 parts_none is_alone cs indices ts slot front h = grind (
   arith,
   common_steps,
@@ -222,10 +219,9 @@ pub record HasMcus (wide high : ℕ) (parts : List Part) : Type 0 where
   pub some_high : 0 < high
   pub covered : AllByRecursion (IsCovered wide high) parts
 
-pub has-mcus : (tables : List (Option Table)) (frame : Frame) (indices ds : List ℕ) (ts : List
-    Table)
-    → AreCodings tables frame indices ds ts → IsDecodedFrame frame → frame.process ≡ Lossless
-    → HasMcus (mcus_wide frame indices) (mcus_high frame indices)
+pub has-mcus : (tables : List (Option Table)) (frame : Frame) (indices ds : List ℕ)
+    (ts : List Table) → AreCodings tables frame indices ds ts → IsDecodedFrame frame → frame.process
+    ≡ Lossless → HasMcus (mcus_wide frame indices) (mcus_high frame indices)
     (parts_at (length indices == 1) frame.components indices ts)
 has-mcus tables frame indices ds ts a decoded lossless =
     let made = codings-made frame frame.components a.codings indices ts (decoded-made frame decoded
@@ -302,9 +298,8 @@ with-sampled is_alone cs (p ∷ indices) (t ∷ ts) (plane ∷ planes) samples w
 with-sampled is_alone cs _ ts _ samples w h = h
 
 -- The samples of a scan are those of its components.
-pub scan-sampled : (is_alone : Bool) (found : Found) (frame : Frame) (indices : List ℕ) (ts : List
-    Table)
-    (planes : List (List ℕ)) → IsSound found → found.said.frame ≡ Some frame
+pub scan-sampled : (is_alone : Bool) (found : Found) (frame : Frame) (indices : List ℕ)
+    (ts : List Table) (planes : List (List ℕ)) → IsSound found → found.said.frame ≡ Some frame
     → AreWholeSamples (parts_at is_alone frame.components indices ts) planes
     → AreSampled frame.components (with_samples indices planes found.samples)
 scan-sampled is_alone found frame indices ts planes sound e w = grind (
@@ -329,12 +324,11 @@ samples-sound found next frame indices planes sound e lossless whole is = grind 
 -- ---- where samples are put
 
 -- a slot more
-pub put-step : (indices : List ℕ) (i : ℕ) (planes : List (Vec ℕ Global)) (empty plane : Vec ℕ
-    Global)
-    (before : List (Option (Vec ℕ Global))) → i < length indices → length planes ≡ length indices
-    → plane ≡ get_or planes i plane
-    → with_samples (drop (i + 1) indices) (drop (i + 1) (map (λ (v : Vec ℕ Global). v.items) (set
-    planes i empty)))
+pub put-step : (indices : List ℕ) (i : ℕ) (planes : List (Vec ℕ Global))
+    (empty plane : Vec ℕ Global) (before : List (Option (Vec ℕ Global))) → i < length indices
+    → length planes ≡ length indices → plane ≡ get_or planes i plane
+    → with_samples (drop (i + 1) indices)
+    (drop (i + 1) (map (λ (v : Vec ℕ Global). v.items) (set planes i empty)))
     (planes_in (slice_set before (slice_index_or indices i 0) (Some plane)))
     ≡ with_samples (drop i indices) (drop i (map (λ (v : Vec ℕ Global). v.items) planes))
     (planes_in before)
@@ -368,10 +362,9 @@ drop-there (x ∷ samples) (suc index) plane e = search (
 )
 
 -- The planes are those of the components.
-samples-from : (samples : List (Option (List ℕ))) (index : ℕ) (cs : List Component) (planes : List
-    (List ℕ))
-    → AreSampled cs (drop index samples) → gathered (sample_plane samples) (enumerate_from index cs) ≡ Ok planes
-    → ArePlanesOf cs planes
+samples-from : (samples : List (Option (List ℕ))) (index : ℕ) (cs : List Component)
+    (planes : List (List ℕ)) → AreSampled cs (drop index samples) → gathered (sample_plane samples)
+    (enumerate_from index cs) ≡ Ok planes → ArePlanesOf cs planes
 unfolding gathered AreSampled ArePlanesOf
 samples-from samples index [] planes h e = subst (ArePlanesOf []) (ok-same [] planes e) tt
 samples-from samples index (c ∷ cs) planes h e =
@@ -440,9 +433,8 @@ pub put-made : (base : Found) (old new : Decoded) (samples : List (Option (List 
 put-made base old new samples h f p s = grind (arith, common_steps)
 
 -- as many tables as places
-pub codings-count : (tables : List (Option Table)) (frame : Frame) (indices ds : List ℕ) (ts : List
-    Table)
-    → AreCodings tables frame indices ds ts → length ts ≡ length indices
+pub codings-count : (tables : List (Option Table)) (frame : Frame) (indices ds : List ℕ)
+    (ts : List Table) → AreCodings tables frame indices ds ts → length ts ≡ length indices
 codings-count tables frame indices ds ts a = grind (arith, common_steps, length-map)
 
 pub all-below : (n m : ℕ) (indices : List ℕ) → n ≤ m → AllByRecursion (λ index. index < n) indices
@@ -452,8 +444,7 @@ all-below n m (p ∷ indices) most h = grind (arith, common_steps, all-below n m
 
 -- Places of a frame's components are below 4.
 pub four-indices : (frame : Frame) (indices : List ℕ) → IsDecodedFrame frame
-    → All (λ index. index < length frame.components) indices
-    → All (λ index. index < 4) indices
+    → All (λ index. index < length frame.components) indices → All (λ index. index < 4) indices
 four-indices frame indices decoded h =
     All-from_recursion (λ index. index < 4) indices
     (all-below (length frame.components) 4 indices (count-few (length frame.components)

@@ -71,15 +71,13 @@ fits-at : (frame : Frame) (cs : List Coded) → AllByRecursion (λ c. Fits frame
 fits-at frame [] h = tt
 fits-at frame (c ∷ cs) h = (h.0, fits-at frame cs h.1)
 
-indices-at : (n : ℕ) (cs : List Coded) → n ≤ 4
-    → AllByRecursion (λ index. index < n) (map (λ (c : Coding). c.index) (map coding_in cs))
-    → AllByRecursion HasIndex cs
+indices-at : (n : ℕ) (cs : List Coded) → n ≤ 4 → AllByRecursion (λ index. index < n)
+    (map (λ (c : Coding). c.index) (map coding_in cs)) → AllByRecursion HasIndex cs
 indices-at n [] most h = tt
 indices-at n (c ∷ cs) most h = grind (arith, common_steps, indices-at n cs most h.1)
 
-rising-at : (codings : List Coding) (least : ℕ) → IsRising least (map (λ (c : Coding). c.index)
-    codings)
-    → AreRising codings
+rising-at : (codings : List Coding) (least : ℕ)
+    → IsRising least (map (λ (c : Coding). c.index) codings) → AreRising codings
 unfolding IsRising
 rising-at (c ∷ d ∷ more) least h = grind (
   arith,
@@ -92,11 +90,10 @@ rising-at _ least h = tt
 -- ---- a scan
 
 -- A scan with the tables in force for its header is ready to be read.
-pub ready : (found : Found) (frame : Frame) (header : headers.Scan) (scan : Scan) → IsDecodedFrame frame
-    → IsScanOf frame header → scan.restart_interval ≡ found.said.restart
+pub ready : (found : Found) (frame : Frame) (header : headers.Scan) (scan : Scan)
+    → IsDecodedFrame frame → IsScanOf frame header → scan.restart_interval ≡ found.said.restart
     → codings_of found.said frame header ≡ Ok (map coding_in scan.components.items)
-    → length scan.components.items ≡ length header.components
-    → IsReadable frame found scan
+    → length scan.components.items ≡ length header.components → IsReadable frame found scan
 ready found frame header scan decoded legal restart codings count =
     let cs = scan.components.items in
     let indices = codings-indices found.said frame header (map coding_in cs) legal.dc_length legal.ac_length codings in

@@ -109,16 +109,14 @@ module _ (cs : List Coded) (old : List Held) (start : List Plane) (sizes : sizes
   all-long : length all ≡ length (plane_lists start)
   all-long = grind (arith, common_steps, strips-length, arrays-long, start-long)
 
-  pub planes-long : (planes : List Plane) (slot : ℕ) → plane_lists planes ≡ patched slot all
-      (plane_lists start)
-      → length planes ≡ length cs
+  pub planes-long : (planes : List Plane) (slot : ℕ) → plane_lists planes
+      ≡ patched slot all (plane_lists start) → length planes ≡ length cs
   planes-long planes slot e = grind (arith, common_steps, length-map, patched-length, all-long)
 
   pub planes-next : (planes : List Plane) (slot : ℕ) (c : Coded) (v : Held) (p q : Plane)
-      → slot < length cs → c ≡ get_or cs slot c → v ≡ get_or old slot v
-      → plane_lists planes ≡ patched slot all (plane_lists start) → p ≡ get_or planes slot p →
-      q.items
-      ≡ p.items ++ samples_of (down_in c) (coding_in c) (map to_block v.items)
+      → slot < length cs → c ≡ get_or cs slot c → v ≡ get_or old slot v → plane_lists planes
+      ≡ patched slot all (plane_lists start) → p ≡ get_or planes slot p → q.items ≡ p.items
+      ++ samples_of (down_in c) (coding_in c) (map to_block v.items)
       → plane_lists (set planes slot q) ≡ patched (slot + 1) all (plane_lists start)
   planes-next planes slot c v p q h is kept inv at new =
       let inside : slot < length (map coding_in cs) = omega (arith, length-map cs coding_in) in

@@ -190,9 +190,8 @@ data-planes-refused f frame p codings bytes fault e of r =
 
 -- ---- planes of all blocks
 
-plane-at : (cs : List Component) (planes : List (Option (List ℕ))) (index : ℕ) (c : Component) →
-    ArePlanes cs planes
-    → At index cs c → IsPlaneOf c (get_or planes index None)
+plane-at : (cs : List Component) (planes : List (Option (List ℕ))) (index : ℕ) (c : Component)
+    → ArePlanes cs planes → At index cs c → IsPlaneOf c (get_or planes index None)
 unfolding ArePlanes
 plane-at [] planes index c h at = absurd at
 plane-at (d ∷ cs) [] index c h at = absurd h
@@ -209,10 +208,9 @@ plane-set (d ∷ cs) (x ∷ planes) zero c q h at k = (subst (λ (y : Component)
 plane-set (d ∷ cs) (x ∷ planes) (suc index) c q h at k =
     grind (arith, common_steps, plane-set cs planes index c q h.1 at k)
 
-one-whole : (cs : List Component) (p : Pass) (index : ℕ) (c : Component) (plane : List ℕ) (found :
-    Found)
-    → At index cs c
-    → length plane ≡ (c.blocks_high * c.scale) * (c.blocks_wide * c.scale) → ArePlanes cs found.planes
+one-whole : (cs : List Component) (p : Pass) (index : ℕ) (c : Component) (plane : List ℕ)
+    (found : Found) → At index cs c → length plane
+    ≡ (c.blocks_high * c.scale) * (c.blocks_wide * c.scale) → ArePlanes cs found.planes
     → ArePlanes cs (with_its_plane p index plane found).planes
 unfolding with_its_plane decided_planes
 one-whole cs p index c plane found at k h = search (rules, arith, plane-set, plane-at)
@@ -293,11 +291,10 @@ rising-codings (c ∷ d ∷ cs) h = (λ n. below c.index d cs h.0 h.1 n, rising-
 
 -- ---- what is held after a scan
 
-pub kept-afterwards : {X E : Type 0} (r : Result X E) (f : Found) (frame : Frame) → is_progressive
-    frame.process ≡ true
-    → f.said.scanned ≡ true
-    → OnOk r (AreArrays frame.components f.kept) → OnOk r (AreArrays frame.components
-    (arrays_before f frame))
+pub kept-afterwards : {X E : Type 0} (r : Result X E) (f : Found) (frame : Frame)
+    → is_progressive frame.process ≡ true → f.said.scanned ≡ true
+    → OnOk r (AreArrays frame.components f.kept)
+    → OnOk r (AreArrays frame.components (arrays_before f frame))
 unfolding arrays_before
 kept-afterwards r f frame e s h = grind (arith, common_steps)
 

@@ -41,12 +41,11 @@ pub refused : {X Y Z : Type 0} (view : X → Y) (whole rest : List ℕ → Outco
 refused view whole rest old new e o p r n through = grind (arith, common_steps, still_known)
 
 -- the last step of the whole
-pub last-step : {X Y W : Type 0} (view : X → Y) (v : X → W) (whole rest : List ℕ → Outcome Y) (read : List ℕ
-    → Outcome W)
-    (old cur new : Stream) (r : Result X Error)
+pub last-step : {X Y W : Type 0} (view : X → Y) (v : X → W) (whole rest : List ℕ → Outcome Y)
+    (read : List ℕ → Outcome W) (old cur new : Stream) (r : Result X Error)
     → ((x : X) → read cur.bytes ≡ Ok (v x, new.bytes) → rest cur.bytes ≡ Ok (view x, new.bytes))
-    → ((f : Fault) → read cur.bytes ≡ Err f → rest cur.bytes ≡ Err f)
-    → Continues whole old rest cur → Answers v read cur r new → Answers view whole old r new
+    → ((f : Fault) → read cur.bytes ≡ Err f → rest cur.bytes ≡ Err f) → Continues whole old rest cur
+    → Answers v read cur r new → Answers view whole old r new
 last-step view v whole rest read old cur new r ok err p q = grind (arith, common_steps)
 
 -- ---- a scan
@@ -60,8 +59,7 @@ blocks_read found frame scan bytes = do
   Ok ((r.0.0, met.0), met.1)
 
 -- a scan of either
-abbrev pub read_by : CodingProcess → Found → Frame → Scan → List ℕ
-    → Outcome (Found × Option Marker)
+abbrev pub read_by : CodingProcess → Found → Frame → Scan → List ℕ → Outcome (Found × Option Marker)
 read_by DctSequential found frame scan bytes = blocks_read found frame scan bytes
 read_by DctProgressive found frame scan bytes = blocks_read found frame scan bytes
 read_by Lossless found frame scan bytes = samples_read found frame scan bytes
@@ -185,9 +183,8 @@ scan-ends next found met frame scan p codings old cur mid new r framed process h
 abbrev pub scan_turn : Found → (Found × Option Marker) × List ℕ → Outcome Turn
 scan_turn found r = Ok (record { found = r.0.0; before = scan_before found; met = r.0.1; ended = false }, r.1)
 
-through : {A B C : Type 0} (o : Result A Fault) (s : A → Result C Fault) (r : A → Result B Fault) (t : B
-    → Result C Fault)
-    → ((x : A) → s x ≡ (r x >>= t)) → (o >>= s) ≡ ((o >>= r) >>= t)
+through : {A B C : Type 0} (o : Result A Fault) (s : A → Result C Fault) (r : A → Result B Fault)
+    (t : B → Result C Fault) → ((x : A) → s x ≡ (r x >>= t)) → (o >>= s) ≡ ((o >>= r) >>= t)
 through o s r t h = grind (arith, common_steps)
 
 -- the last steps, where a value is made of what is read
@@ -227,9 +224,8 @@ segment-ends s d at next met old new turn e is same p =
     let there = taken-out s d at e is in grind (arith, common_steps, scan-parts, bind_at)
 
 -- A scan that is refused is a segment that is refused.
-pub segment-refused : (v : Step → Turn) (s : State) (d : Decoded)
-    (at : Found) (old new : Stream) (r : Result Step Error) (e : Error) → IsErrAnd r (λ y. y ≡ e)
-    → d ≡ s.decoded → found_in s ≡ at
+pub segment-refused : (v : Step → Turn) (s : State) (d : Decoded) (at : Found) (old new : Stream)
+    (r : Result Step Error) (e : Error) → IsErrAnd r (λ y. y ≡ e) → d ≡ s.decoded → found_in s ≡ at
     → ScanFails (with_decoded (found_in s) d) old e new → Answers v (scan_segment at) old r new
 segment-refused v s d at old new r e fails same is p =
     grind (arith, common_steps, err_from_is_err_and, taken-out, scan-parts, bind_err)

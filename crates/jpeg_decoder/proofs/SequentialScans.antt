@@ -74,9 +74,8 @@ module _ (found : Found) (before : Decoded) (frame : Frame) (scan : Scan) (bytes
 
 -- such a scan changes no plane
 pub again-planes : (p : Pass) (codings : List Coding) (base : Found) (one two : Decoded)
-    → AllByRecursion (IsDecided one.planes) codings
-    → with_decoded base two ≡ with_planes p codings (no_samples codings) (with_decoded base one)
-    → two.planes ≡ one.planes
+    → AllByRecursion (IsDecided one.planes) codings → with_decoded base two
+    ≡ with_planes p codings (no_samples codings) (with_decoded base one) → two.planes ≡ one.planes
 again-planes p codings base one two decided added = grind (arith, common_steps, planes-decided, length-map)
 
 -- the components whose planes were found to be decided

@@ -73,10 +73,9 @@ if-ac : (needs : Bool) (o : Option Table) (t : Table) → IsAc o → table_if ne
 if-ac needs o t h e = grind (arith, common_steps)
 
 pub class-in-force : (said : Said) (scan : Scan) (spare : Spare) (needs : Bool) (destination : ℕ)
-    (t : Table)
-    → IsSpareOf said scan spare → all_ac said.huffman.ac ≡ true
-    → table_if needs spare.no_ac (in_force said.huffman.ac spare.ac.items destination) ≡ Ok t →
-    t.class ≡ classes.AC
+    (t : Table) → IsSpareOf said scan spare → all_ac said.huffman.ac ≡ true
+    → table_if needs spare.no_ac (in_force said.huffman.ac spare.ac.items destination) ≡ Ok t
+    → t.class ≡ classes.AC
 class-in-force said scan spare needs destination t s a e = grind (
   arith,
   common_steps,

@@ -34,9 +34,8 @@ left-elsewhere (c ∷ more) kept index n =
 
 -- A place elsewhere may be set before or after.
 set-after : (codings : List Coding) (kept : Arrays) (index : ℕ) (blocks : List Block)
-    → (IsIn index (indices_of codings) → ⊥)
-    → set (without_blocks codings kept) index blocks ≡ without_blocks codings (set kept index
-    blocks)
+    → (IsIn index (indices_of codings) → ⊥) → set (without_blocks codings kept) index blocks
+    ≡ without_blocks codings (set kept index blocks)
 unfolding without_blocks
 set-after [] kept index blocks n = refl
 set-after (c ∷ more) kept index blocks n =
@@ -112,11 +111,10 @@ taken-more cs i c old now taken v h e apart within is left so_far =
     grind (arith, common_steps, map-append, blocks-of, left-elsewhere, not-before, more-codings)
 
 -- and none of its blocks are left
-pub left-more : (cs : List Coded) (i : ℕ) (c : Coded) (old now : List Held) (empty : Held) → i < length cs
-    → c ≡ get_or cs i c → empty.items ≡ []
-    → arrays_in now ≡ without_blocks (map coding_in (take i cs)) (arrays_in old)
-    → arrays_in (set now c.index empty) ≡ without_blocks (map coding_in (take (i + 1) cs))
-    (arrays_in old)
+pub left-more : (cs : List Coded) (i : ℕ) (c : Coded) (old now : List Held) (empty : Held)
+    → i < length cs → c ≡ get_or cs i c → empty.items ≡ [] → arrays_in now
+    ≡ without_blocks (map coding_in (take i cs)) (arrays_in old) → arrays_in (set now c.index empty)
+    ≡ without_blocks (map coding_in (take (i + 1) cs)) (arrays_in old)
 left-more cs i c old now empty h e none left = grind (arith, common_steps, map-set, more-codings, left-one)
 
 -- before the first, and after the last

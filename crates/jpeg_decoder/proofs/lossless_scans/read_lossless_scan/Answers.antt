@@ -36,11 +36,10 @@ coded : (g : given.Over) (c : After-deref-2 g) → let scan = scan_in c.args.hea
 coded g c = grind (arith, common_steps, codings-by-tables, recursion_from_All)
 
 -- their parts
-made : (g : given.Over) (c : After-deref-3 g) → let indices = (scan_in
-    c.args.header.now).components in
-    map part_in c.deref-3.result.now ≡ parts_at (length indices == 1) (frame_in
-    c.args.frame.now).components indices
-    (map (λ t. t.now) c.in_ok-tables.tables.items)
+made : (g : given.Over) (c : After-deref-3 g)
+    → let indices = (scan_in c.args.header.now).components in map part_in c.deref-3.result.now
+    ≡ parts_at (length indices == 1)
+    (frame_in c.args.frame.now).components indices (map (λ t. t.now) c.in_ok-tables.tables.items)
 made g c = grind (arith, common_steps)
 
 -- their MCUs

@@ -41,12 +41,11 @@ pub take_blocks-requires-clause-apart : goal.take_blocks-requires-clause-apart
 take_blocks-requires-clause-apart g c = grind (arith, common_steps, rising-codings)
 
 -- the blocks that are taken are those of the components
-taken-sized : (frame : Frame) (cs seen : List Coded) (kept taken : List Held) (before : Arrays) →
-    seen ≡ cs
-    → arrays_in kept ≡ before
-    → arrays_in taken ≡ blocks_at (map coding_in seen) (arrays_in kept)
-    → AllByRecursion (IsCodingOf frame) (map coding_in cs) → AreArrays frame.components before
-    → (arrays_in taken ≡ blocks_at (map coding_in cs) before) × AreArrays (components_in cs) (arrays_in taken)
+taken-sized : (frame : Frame) (cs seen : List Coded) (kept taken : List Held) (before : Arrays)
+    → seen ≡ cs → arrays_in kept ≡ before → arrays_in taken ≡ blocks_at (map coding_in seen)
+    (arrays_in kept) → AllByRecursion (IsCodingOf frame) (map coding_in cs)
+    → AreArrays frame.components before → (arrays_in taken ≡ blocks_at (map coding_in cs) before)
+    × AreArrays (components_in cs) (arrays_in taken)
 taken-sized frame cs seen kept taken before d e t of h =
     grind (arith, common_steps, taken, coded-components, arrays-sized, of-frame)
 
