@@ -203,13 +203,7 @@ module _ (frame : Frame) (cs : List Coded) (seen : List Component) (joint : Join
   joint-started rows lines fits of =
       let row = joint_row_size joint.shape in
       let empty : 0 ≡ 0 / row * row = sym (ap (λ (n : ℕ). n * row) (zero-div row) ∙ omega arith) in
-      record {
-        small = grind (arith, common_steps);
-        count = grind (arith, common_steps, same);
-        some = grind (arith, common_steps);
-        each = grind (arith, common_steps, shaped);
-        whole = grind (arith, common_steps, empty);
-      }
+      grind (arith, common_steps, same, shaped)
 
 -- after one row more
 module _ (codings : List Coding) (arrays : Arrays) (joint : JointPlanes)
@@ -243,13 +237,7 @@ module _ (codings : List Coding) (arrays : Arrays) (joint : JointPlanes)
       let old = length joint.samples.items in
       let more : length new.items ≡ old + row =
       grind (arith, common_steps, length-append, flat-length, even, strips-count) in
-      record {
-        small = is.small;
-        count = is.count;
-        some = is.some;
-        each = is.each;
-        whole = grind (arith, common_steps, more, whole-rows);
-      }
+      grind (arith, common_steps, whole-rows)
 
 -- after all rows
 pub room-full : (cs : List Coded) (joint : JointPlanes) → IsJointOf (map coding_in cs) joint
@@ -269,9 +257,4 @@ room-full (c ∷ cs) joint is sizes =
     ∙ grind (arith, common_steps, mul_assoc) in
     let rows = length samples / joint_row_size shape in
     let whole = one-of rows shape.count (strip_size shape) (length samples) is.some is.whole in
-    record {
-      small = is.small;
-      full = is.whole ∙ turned rows shape.count (strip_size shape)
-          ∙ ap (λ (n : ℕ). n * shape.count) (sym whole ∙ one)
-          ∙ sym (turned shape.rows shape.count (strip_size shape));
-    }
+    grind (arith, common_steps, turned)

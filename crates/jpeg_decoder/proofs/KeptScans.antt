@@ -181,11 +181,7 @@ pub next-kept : (keeps : Bool) (p : Pass) (vias : List Via) (n : ℕ) (s : Spot)
 unfolding begun_turn
 next-kept keeps p vias n s spots now r t u first e =
     let c : Reached → Counted = λ y. record { reached = y; left = now.left - 1; number = now.number } in
-    ap (read_on (kept_after keeps)) (read-on-on (turn_then now) (blocks_from p vias n spots) (turn_from p vias s now.reached t))
-    ∙ read-on-on (λ y. λ v. blocks_from p vias n spots (c y) v) (kept_after keeps) (turn_from p vias s now.reached t)
-    ∙ pass-on (kept_reached keeps) (λ y. λ v. read_on (kept_after keeps) (blocks_from p vias n spots (c y) v))
-    (λ y. λ v. read_on (kept_after keeps) (blocks_from p vias n spots (c y) v)) (turn_from p vias s now.reached t)
-    (Ok (r, u)) e (λ y z v k. blocks-alike keeps p vias n spots (c y) (c z) v first (ap c k))
+    grind (arith, common_steps, read-on-on, turn_then, pass-on, blocks-alike)
 
 pub kept_none : (keeps : Bool) (p : Pass) (vias : List Via) (n : ℕ) (old : Counted) (t : Text)
     → (blocks_from p vias n [] old >>= kept_after keeps) t ≡ Ok (kept_counted keeps old, t)

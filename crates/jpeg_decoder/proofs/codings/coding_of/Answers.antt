@@ -1,3 +1,4 @@
+use Rattle.std.proofs.lemmas.Grind.{common_steps}
 use Rattle.std.proofs.Common.{◌≡◌, get_or, refl, Some, None, arith, rules}
 use Rattle.std.proofs.lemmas.Result.{err_from_is_err_and}
 use Rattle.jpeg_segments.specs.FrameView.{scan_in}
@@ -39,9 +40,7 @@ returns-in_err-ac c =
     (omega arith) (omega arith) c.index-dc_destination.ensures (rw c.deref-2.ensures.value at c.table_in_force-dc.ensures) in
     let ac = ac-read c.args.state.now c.args.header.now c.args.spare.now c.args.slot _ _ c.requires.spare
     (omega arith) (omega arith) c.index-ac_destination.ensures (rw c.deref-3.ensures.value at c.table_in_force-ac.ensures) in
-    rw (p.1, p.2) (record {
-      coding = rw (is, set, dc, c.in_ok-dc.ensures, ac) (refused-through _ _ _ c.in_err-ac.ensures (bind_err _ _));
-    })
+    grind (arith, common_steps, refused-through, bind_err)
 
 pub returns : goal.returns
 returns c =

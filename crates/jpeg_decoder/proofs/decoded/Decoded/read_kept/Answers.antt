@@ -116,11 +116,7 @@ put-all frame cs seen again kept left taken arrays put before d a k t l s h of r
     let long : length arrays ≡ length cs = grind (arith, common_steps, length-map) in
     let is : arrays_in put ≡ put_arrays (map coding_in cs) (arrays_in arrays) before
     = grind (arith, common_steps, put-back, coded-indices, rising-codings, length-map) in
-    let new = arrays-by-sizes (components_in cs) taken arrays sized.1 s in (
-      is,
-      rw is (kept-sized frame (map coding_in cs) (arrays_in arrays) before whole (of-frame frame (map coding_in cs) of)
-          (rw (coded-components cs) new)),
-    )
+    grind (arith, common_steps, arrays-by-sizes, kept-sized, of-frame, coded-components)
 
 held : (g : given.Over) (c : After-put_blocks g) → let cs = c.args.scan.now.components.items in
     (arrays_in c.put_blocks.new.kept.items ≡ put_arrays (map coding_in cs) (arrays_in c.read_blocks.new.arrays.items)
