@@ -1,24 +1,24 @@
 -- Scans of a sequential frame whose components have planes already: what is made of their blocks
 -- decides nothing.
-use Rattle.std.proofs.Common.{rules}
-use Rattle.std.proofs.Common.{◌≡◌, ℕ, Bool, true, List, [], ◌∷◌, ◌+◌, ◌*◌, ◌<◌, length, get_or, Option, None, Result, Ok, Err}
-use Rattle.std.proofs.Common.{refl, sym, ap, ap₂, ◌∙◌, subst, arith}
+use Rattle.std.proofs.Common.{rules, ◌≡◌, ℕ, Bool, true, List, [], ◌∷◌, ◌+◌, ◌<◌, length, get_or}
+use Rattle.std.proofs.Common.{Option, None, Result, Ok, Err, refl, sym, ap, ap₂, ◌∙◌, subst, arith}
 use Rattle.std.proofs.lemmas.Bool.{cases_lt}
 use Rattle.std.proofs.lemmas.List.{get_or_default, length-map}
 use Rattle.std.specs.Prelude.{is_some, slice_set, slice_index_or}
 use Rattle.std.specs.List.{AllByRecursion}
 use Rattle.jpeg_bits.specs.Reading.{Outcome, Fault}
-use Rattle.jpeg_bits.specs.Entropy.{Text, upcoming, fresh}
+use Rattle.jpeg_bits.specs.Entropy.{Text}
 use Rattle.jpeg_bits.specs.Readers.{Reads, read_on}
 use Rattle.jpeg_bits.specs.declared.marker.Marker.{Marker}
 use Rattle.jpeg_bits.specs.Passes.{Pass, Via}
 use Rattle.jpeg_segments.specs.Frame.{Frame, Component}
 use Rattle.jpeg_streams.specs.Found.{Found}
-use Rattle.jpeg_streams.specs.InTurn.{Counted, blocks_from, counted_at_start}
-use Rattle.jpeg_streams.specs.McuRows.{on_arrays, rows_of, zero_rows}
-use Rattle.jpeg_streams.specs.Order.{Spot, mcu_size}
+use Rattle.jpeg_streams.specs.InTurn.{Counted, blocks_from}
+use Rattle.jpeg_streams.specs.McuRows.{on_arrays, zero_rows}
+use Rattle.jpeg_streams.specs.Order.{Spot}
 use Rattle.jpeg_streams.specs.ScanSegments.{Coding, components_of}
-use Rattle.jpeg_streams.proofs.McuRows.{AreRows, KeepsCounted, blocks-any, rows-count, rows-kept, zero-rows}
+use Rattle.jpeg_streams.proofs.McuRows.{AreRows, KeepsCounted, blocks-any, rows-count, rows-kept}
+use Rattle.jpeg_streams.proofs.McuRows.{zero-rows}
 use Rattle.jpeg_decoder.specs.Steps.{marks_after, with_its_plane, with_planes}
 use Rattle.jpeg_decoder.specs.Strips.{no_samples, planes_by_rows, strips_from, with_strips}
 use Rattle.jpeg_decoder.proofs.DecidedPlanes.{planes_kept}

@@ -1,6 +1,6 @@
 -- Planes in one room, as it grows by a row of MCUs: each plane has its strip.
 use Rattle.std.proofs.Common.{◌≡◌, ℕ, zero, suc, ◌+◌, ◌-◌, ◌*◌, ◌/◌, ◌%◌, ◌<◌, ◌≤◌, List, [], ◌∷◌}
-use Rattle.std.proofs.Common.{◌++◌, length, map, get_or, arith, refl, sym, subst, ap, ap₂, ◌∙◌}
+use Rattle.std.proofs.Common.{◌++◌, length, map, get_or, arith, refl, sym, ap, ap₂, ◌∙◌}
 use Rattle.std.proofs.Common.{length-append, mul_assoc, mul_comm, add-mul}
 use Rattle.std.proofs.Math.Logic.{⊎_elim}
 use Rattle.std.proofs.Math.Nat.{add-div_right, mul-div_cancel, zero-div}
@@ -16,8 +16,7 @@ use Rattle.std.specs.declared.alloc.Global.{Global}
 use Rattle.std.specs.declared.vec.Vec.{Vec}
 use Rattle.jpeg_segments.specs.Frame.{Component, Frame}
 use Rattle.jpeg_segments.specs.FrameView.{component_in}
-use Rattle.jpeg_pixels.specs.JointPlanes.{IsShapeOf, HasFrameSizes, joint_plane, joint_planes}
-use Rattle.jpeg_pixels.specs.JointPlanes.{joint_row_size}
+use Rattle.jpeg_pixels.specs.JointPlanes.{IsShapeOf, joint_plane, joint_planes, joint_row_size}
 use Rattle.jpeg_pixels.specs.JointPlanes.{strip_size}
 use Rattle.jpeg_pixels.specs.declared.joint_planes.JointPlanes.{JointPlanes}
 use Rattle.jpeg_pixels.specs.declared.joint_planes.JointShape.{JointShape}
@@ -25,8 +24,7 @@ use Rattle.jpeg_lossless.specs.Positions.{AreEven}
 use Rattle.jpeg_streams.specs.InTurn.{Fits}
 use Rattle.jpeg_streams.specs.Scans.{Arrays}
 use Rattle.jpeg_streams.specs.ScanSegments.{Coding}
-use Rattle.jpeg_streams.proofs.Apart.{at-all}
-use Rattle.jpeg_streams.proofs.Apart.{get-at}
+use Rattle.jpeg_streams.proofs.Apart.{at-all, get-at}
 use Rattle.jpeg_decoder.specs.GrowingView.{IsJointOf, IsOfShape}
 use Rattle.jpeg_decoder.specs.PlanesView.{IsFullJoint}
 use Rattle.jpeg_decoder.specs.Scanning.{components_in}

@@ -1,23 +1,22 @@
 -- Strips of which what is kept of the blocks is enough: where a block gives one sample, it is of DC alone.
 use Rattle.std.proofs.lemmas.Grind.{common_steps}
-use Rattle.std.proofs.Common.{◌≡◌, ℕ, suc, ◌+◌, ◌-◌, ◌*◌, ◌/◌, ◌%◌, ◌<◌, ◌++◌, Bool, true, false}
-use Rattle.std.proofs.Common.{List, ◌∷◌, map, length, get_or, drop, Result, Ok, Err, refl, sym, ap}
-use Rattle.std.proofs.Common.{ap₂, ◌∙◌, arith, []}
+use Rattle.std.proofs.Common.{◌≡◌, ℕ, suc, ◌+◌, ◌-◌, ◌<◌, ◌++◌, Bool, true, false, List, ◌∷◌, map}
+use Rattle.std.proofs.Common.{length, get_or, drop, Result, Ok, Err, refl, sym, ap, ap₂, ◌∙◌, arith}
+use Rattle.std.proofs.Common.{[]}
 use Rattle.std.specs.List.{AllByRecursion, All, range_with_len}
 use Rattle.jpeg_bits.specs.Reading.{Fault}
 use Rattle.jpeg_bits.specs.Entropy.{Text}
 use Rattle.jpeg_bits.specs.Readers.{read_on}
 use Rattle.jpeg_bits.specs.Passes.{Block, Pass, Via, zero_block}
 use Rattle.jpeg_bits.specs.Skips.{dc_alone}
-use Rattle.jpeg_bits.specs.Zigzag.{coefficients_in_block_order, values_in_block_order}
-use Rattle.jpeg_bits.specs.Zigzag.{zigzag_indices}
+use Rattle.jpeg_bits.specs.Zigzag.{coefficients_in_block_order, zigzag_indices}
 use Rattle.jpeg_pixels.specs.Planes.{plane_of}
 use Rattle.jpeg_pixels.specs.Samples.{dequantized}
 use Rattle.jpeg_pixels.specs.Scaled.{sample_at, sample_of_1}
 use Rattle.jpeg_streams.specs.InTurn.{Counted, blocks_from}
 use Rattle.jpeg_streams.specs.McuRows.{on_arrays, zero_rows}
 use Rattle.jpeg_streams.specs.Order.{Spot}
-use Rattle.jpeg_streams.specs.Rasters.{in_raster, ordered}
+use Rattle.jpeg_streams.specs.Rasters.{ordered}
 use Rattle.jpeg_streams.specs.Scans.{Arrays}
 use Rattle.jpeg_streams.specs.ScanSegments.{Coding, components_of}
 use Rattle.jpeg_streams.proofs.Apart.{map-same}

@@ -1,7 +1,7 @@
 -- Scans that are ready to be read, by what was found before them.
 use Rattle.std.proofs.lemmas.Grind.{common_steps}
-use Rattle.std.proofs.Common.{◌≡◌, ◌≤◌, ◌<◌, ◌+◌, ℕ, true, List, []}
-use Rattle.std.proofs.Common.{◌∷◌, length, map, Ok, refl, sym, subst, arith}
+use Rattle.std.proofs.Common.{◌≡◌, ◌≤◌, ◌<◌, ◌+◌, ℕ, true, List, [], ◌∷◌, length, map, Ok, sym}
+use Rattle.std.proofs.Common.{subst, arith}
 use Rattle.std.specs.List.{AllByRecursion}
 use Rattle.std.proofs.lemmas.List.Elements.{All-from_recursion, recursion_from_All}
 use Rattle.jpeg_bits.specs.BlockView.{IsPass}
@@ -13,16 +13,14 @@ use Rattle.jpeg_segments.specs.Scales.{component_at, frame_at, is_scale}
 use Rattle.jpeg_segments.specs.ScanHeader as headers
 use Rattle.jpeg_segments.specs.ScanHeader.{IsBandOf, IsRising, IsScanOf}
 use Rattle.jpeg_decoder.specs.declared.scan.Coded.{Coded}
-use Rattle.jpeg_decoder.specs.declared.decoded.Decoded.{Decoded}
 use Rattle.jpeg_decoder.specs.declared.scan.Scan.{Scan}
 use Rattle.jpeg_streams.specs.InTurn.{Fits}
 use Rattle.jpeg_decoder.specs.Scanning.{components_in}
 use Rattle.jpeg_streams.specs.Sound.{IsDecodedFrame}
-use Rattle.jpeg_streams.specs.ScanSegments.{codings_of, component_coding, Coding, tables_of, pass_of}
+use Rattle.jpeg_streams.specs.ScanSegments.{codings_of, Coding, pass_of}
 use Rattle.jpeg_streams.specs.Found.{Found}
 use Rattle.jpeg_decoder.specs.Steps.{AreRising, HasIndex, HasScale, IsCodingOf, IsDct, IsReadable}
 use Rattle.jpeg_decoder.specs.Steps.{coding_in}
-use Rattle.jpeg_decoder.specs.Steps.{with_decoded}
 use Rattle.jpeg_streams.proofs.LosslessSizes.{all-at}
 use Rattle.jpeg_streams.proofs.ReadTurns.{codings-each, codings-indices}
 use Rattle.jpeg_segments.proofs.ScaleLemmas.{sized_frames_have_factors}

@@ -1,12 +1,12 @@
 -- Scans of a sequential frame, by what was read of them row by row of MCUs.
-use Rattle.std.proofs.Common.{rules}
-use Rattle.std.proofs.Common.{◌≡◌, ◌∙◌, ap, sym, List, [], ◌∷◌, ◌<◌, suc, arith, map, ℕ, Ok, Err, None, Option, true, false, length, get_or}
+use Rattle.std.proofs.Common.{rules, ◌≡◌, ◌∙◌, sym, List, [], ◌∷◌, ◌<◌, suc, arith, map, ℕ, Ok, Err}
+use Rattle.std.proofs.Common.{None, Option, true, false, length, get_or}
 use Rattle.std.proofs.lemmas.List.{length-map}
 use Rattle.std.specs.Prelude.{is_some, slice_index_or}
 use Rattle.std.specs.List.{AllByRecursion}
 use Rattle.jpeg_bits.specs.Reading.{Fault, Outcome}
 use Rattle.jpeg_bits.specs.declared.marker.Marker.{Marker}
-use Rattle.jpeg_bits.specs.Passes.{Pass, Via}
+use Rattle.jpeg_bits.specs.Passes.{Pass}
 use Rattle.jpeg_bits.specs.BlockView.{pass_in}
 use Rattle.jpeg_segments.specs.Frame.{Frame}
 use Rattle.jpeg_streams.specs.Found.{Found}

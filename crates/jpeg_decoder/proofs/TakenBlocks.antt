@@ -1,10 +1,11 @@
 -- Blocks that are taken out of those that are held, and put back.
-use Rattle.std.proofs.Common.{◌≡◌, ◌<◌, ℕ, zero, suc, ◌+◌, ℤ, List, [], ◌∷◌, ◌++◌, refl, sym, ap, ◌∙◌, length}
-use Rattle.std.proofs.Common.{get_or, set, map, take, arith}
+use Rattle.std.proofs.Common.{◌≡◌, ◌<◌, ℕ, zero, suc, ◌+◌, ℤ, List, [], ◌∷◌, ◌++◌, refl, sym, ap}
+use Rattle.std.proofs.Common.{◌∙◌, length, get_or, set, map, take, arith}
 use Rattle.std.specs.declared.alloc.Global.{Global}
 use Rattle.std.specs.declared.vec.Vec.{Vec}
 use Rattle.std.proofs.Math.Logic.{inl, inr}
-use Rattle.std.proofs.lemmas.List.{get_or-set_other, map-append, map-set, set-set, set_comm, take_more}
+use Rattle.std.proofs.lemmas.List.{get_or-set_other, map-append, map-set, set-set, set_comm}
+use Rattle.std.proofs.lemmas.List.{take_more}
 use Rattle.jpeg_bits.specs.Passes.{Block}
 use Rattle.jpeg_decoder.specs.declared.scan.Coded.{Coded}
 use Rattle.jpeg_streams.specs.InTurn.{AreApart, IsIn}

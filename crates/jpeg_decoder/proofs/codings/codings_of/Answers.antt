@@ -1,10 +1,8 @@
-use Rattle.std.proofs.Common.{◌≡◌, Err, arith}
+use Rattle.std.proofs.Common.{arith}
 use Rattle.std.proofs.lemmas.Result.{err_from_is_err_and}
 use Rattle.jpeg_bits.specs.Reading.{Fault}
-use Rattle.jpeg_bits.proofs.Loops.{Names-through}
 use Rattle.jpeg_segments.specs.FrameView.{frame_in, scan_in}
 use Rattle.jpeg_decoder.specs.Seen.{said_in}
-use Rattle.jpeg_decoder.specs.Steps.{coding_in_slot}
 use Rattle.jpeg_decoder.proofs.ScanCodings.{codings-more, codings-fail, codings-all}
 use Rattle.jpeg_decoder.proofs.codings.codings_of.Goals as goal
 use Rattle.std.proofs.lemmas.Grind.{common_steps}

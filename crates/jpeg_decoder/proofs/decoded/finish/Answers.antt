@@ -1,5 +1,4 @@
 use Rattle.std.proofs.Common.{arith, ap}
-use Rattle.jpeg_bits.specs.BlockView.{pass_in}
 use Rattle.jpeg_bits.specs.Passes.{Pass}
 use Rattle.jpeg_decoder.proofs.BlocksBefore.{marked-by, unmarked-by}
 use Rattle.jpeg_decoder.proofs.JointAdded.{all-marked}

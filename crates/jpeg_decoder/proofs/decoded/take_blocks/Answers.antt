@@ -1,6 +1,5 @@
-use Rattle.std.proofs.Common.{arith}
+use Rattle.std.proofs.Common.{arith, ◌≡◌, ◌<◌, ◌++◌, ◌∷◌, [], length, get_or, rules}
 use Rattle.std.proofs.lemmas.Grind.{common_steps}
-use Rattle.std.proofs.Common.{◌≡◌, ◌<◌, ◌++◌, ◌∷◌, [], length, get_or, rules}
 use Rattle.jpeg_decoder.proofs.TakenBlocks.{none-taken, taken-more, left-more}
 use Rattle.jpeg_decoder.proofs.decoded.take_blocks.Goals as goal
 

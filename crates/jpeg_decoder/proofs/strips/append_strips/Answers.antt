@@ -1,10 +1,6 @@
 use Rattle.std.proofs.Common.{arith}
 use Rattle.std.proofs.lemmas.Grind.{common_steps}
-use Rattle.std.proofs.Common.{map, subst}
 use Rattle.std.proofs.lemmas.Result.{on_ok_weaker}
-use Rattle.jpeg_decoder.specs.GrowingView.{GrowsFor}
-use Rattle.jpeg_decoder.specs.Scanning.{arrays_in}
-use Rattle.jpeg_decoder.specs.Steps.{coding_in}
 use Rattle.jpeg_decoder.proofs.JointStrips.{room-grown, room-kept}
 use Rattle.jpeg_decoder.proofs.StripSteps.{row-count}
 use Rattle.jpeg_decoder.proofs.strips.append_strips.Goals as goal

@@ -1,4 +1,4 @@
-use Rattle.std.proofs.Common.{arith, rules}
+use Rattle.std.proofs.Common.{arith}
 use Rattle.jpeg_decoder.specs.Strips.{samples_of}
 use Rattle.jpeg_decoder.proofs.RowBuffers.{no-strips, planes-all, planes-long, planes-next}
 use Rattle.jpeg_decoder.proofs.RowBuffers.{row-size}

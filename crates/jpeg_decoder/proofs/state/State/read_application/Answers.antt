@@ -1,9 +1,5 @@
 use Rattle.std.proofs.Common.{arith}
 use Rattle.std.proofs.lemmas.Grind.{common_steps}
-use Rattle.std.proofs.Common.{refl}
-use Rattle.std.specs.Prelude.{option_map}
-use Rattle.jpeg_segments.specs.FrameView.{application_in}
-use Rattle.jpeg_decoder.specs.Seen.{found_in, metadata_in}
 use Rattle.jpeg_streams.proofs.SegmentParts.{application-read}
 use Rattle.jpeg_decoder.proofs.state.State.read_application.Goals as goal
 
