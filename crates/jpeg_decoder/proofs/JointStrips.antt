@@ -256,3 +256,5 @@ room-full (c ∷ cs) joint is sizes =
     let rows = length samples / joint_row_size shape in
     let whole = one-of rows shape.count (strip_size shape) (length samples) is.some is.whole in
     grind (arith, common_steps, turned)
+
+pub ruleset full_rules = (common_steps, room-full)

@@ -101,3 +101,5 @@ long-at [] vs i a h = absurd (omega arith)
 long-at (c ∷ cs) [] i a h = absurd a
 long-at (c ∷ cs) (x ∷ vs) zero a h = omega arith
 long-at (c ∷ cs) (x ∷ vs) (suc i) a h = let r = long-at cs vs i a.1 (omega arith) in omega (arith, r)
+
+pub ruleset put_rules = (common_steps, put-step, none-left)
