@@ -1,14 +1,14 @@
 -- Steps of the loop over the blocks of a scan.
 use Rattle.std.proofs.Common.{◌≡◌, ℕ, ◌+◌, ◌-◌, ◌%◌, ◌<◌, ◌==◌, ◌&&◌, nat_lt, Bool, true, false}
-use Rattle.std.proofs.Common.{List, [], ◌∷◌, Ok, Err, refl, ap, ◌∙◌, arith}
+use Rattle.std.proofs.Common.{List, ◌∷◌, Ok, Err, refl, ap, ◌∙◌, arith, []}
 use Rattle.std.proofs.lemmas.Bool.{lt-ltb, ne_eqb}
 use Rattle.jpeg_bits.specs.Reading.{Fault}
 use Rattle.jpeg_bits.specs.Entropy.{Text}
 use Rattle.jpeg_bits.specs.Readers.{Reads, gives, read_on}
 use Rattle.jpeg_bits.specs.Passes.{Pass, Via}
 use Rattle.jpeg_streams.specs.Order.{Spot}
-use Rattle.jpeg_streams.specs.InTurn.{Reached, turn_from, at_start, restart_from, Counted, begun_from, next_from}
-use Rattle.jpeg_streams.specs.InTurn.{blocks_from}
+use Rattle.jpeg_streams.specs.InTurn.{Reached, turn_from, at_start, restart_from, Counted}
+use Rattle.jpeg_streams.specs.InTurn.{begun_from, next_from, blocks_from}
 use Rattle.std.proofs.lemmas.Grind.{common_steps}
 
 -- ---- between blocks
@@ -17,7 +17,7 @@ pub begun_none : (n : ℕ) (old : Counted) (t : Text) → n ≡ 0 → begun_from
 unfolding begun_from
 begun_none n old t e = rw e refl
 
-abbrev begun_by : ℕ → Counted → Bool → Reads Counted
+abbrev pub begun_by : ℕ → Counted → Bool → Reads Counted
 begun_by n old b t = (elim b as (λ _. Reads Counted) [
   | true ↦ λ u. read_on (λ (x : Unit {0}). gives (record {
     reached = at_start old.reached.arrays;
@@ -27,7 +27,7 @@ begun_by n old b t = (elim b as (λ _. Reads Counted) [
   | false ↦ gives old
 ]) t
 
-begun-is : (n : ℕ) (old : Counted) (t : Text) → begun_from n old t ≡ begun_by n old (nat_lt 0 n && old.left == 0) t
+pub begun-is : (n : ℕ) (old : Counted) (t : Text) → begun_from n old t ≡ begun_by n old (nat_lt 0 n && old.left == 0) t
 unfolding begun_from
 begun-is n old t = refl
 
@@ -56,14 +56,14 @@ pub ruleset begun_rules = (begun_none, begun_within, begun_next, begun_refused)
 
 -- ---- a block
 
-abbrev turn_then : Counted → Reached → Reads Counted
+abbrev pub turn_then : Counted → Reached → Reads Counted
 turn_then now r = gives (record { reached = r; left = now.left - 1; number = now.number })
 
 -- what is left of the next block where its interval has begun
 unfoldable pub begun_turn : Pass → List Via → Spot → Counted → Reads Counted
 begun_turn p vias s now t = read_on (turn_then now) (turn_from p vias s now.reached t)
 
-next-is : (p : Pass) (vias : List Via) (n : ℕ) (s : Spot) (old : Counted) (t : Text)
+pub next-is : (p : Pass) (vias : List Via) (n : ℕ) (s : Spot) (old : Counted) (t : Text)
     → next_from p vias n s old t ≡ read_on (begun_turn p vias s) (begun_from n old t)
 unfolding next_from begun_turn
 next-is p vias n s old t = refl
@@ -75,12 +75,6 @@ next_begun p vias n s old now t u e = next-is p vias n s old t ∙ ap (read_on (
 pub next_unbegun : (p : Pass) (vias : List Via) (n : ℕ) (s : Spot) (old : Counted) (t : Text) (f : Fault)
     → begun_from n old t ≡ Err f → next_from p vias n s old t ≡ Err f
 next_unbegun p vias n s old t f e = next-is p vias n s old t ∙ ap (read_on (begun_turn p vias s)) e
-
-pub next_read : (p : Pass) (vias : List Via) (s : Spot) (now : Counted) (r : Reached) (t u : Text)
-    → turn_from p vias s now.reached t ≡ Ok (r, u)
-    → begun_turn p vias s now t ≡ Ok (record { reached = r; left = now.left - 1; number = now.number }, u)
-unfolding begun_turn
-next_read p vias s now r t u e = ap (read_on (turn_then now)) e
 
 pub next_refused : (p : Pass) (vias : List Via) (s : Spot) (now : Counted) (t : Text) (f : Fault)
     → turn_from p vias s now.reached t ≡ Err f → begun_turn p vias s now t ≡ Err f

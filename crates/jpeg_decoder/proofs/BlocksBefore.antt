@@ -1,6 +1,7 @@
 -- What a scan begins with, what it finishes, and the length of a plane.
-use Rattle.std.proofs.Common.{◌≡◌, ◌≢◌, ◌≤◌, ℕ, zero, suc, ◌-◌, ◌*◌, ℤ, pos, Bool, true, List, ◌∷◌, ◌++◌, refl}
-use Rattle.std.proofs.Common.{ap, ◌∙◌, length, map, take, drop, replicate, arith, ne_eqb, Result, Ok, Err}
+use Rattle.std.proofs.Common.{◌≡◌, ◌≢◌, ◌≤◌, ℕ, zero, suc, ◌-◌, ◌*◌, ℤ, pos, Bool, true, List, ◌∷◌}
+use Rattle.std.proofs.Common.{◌++◌, refl, ap, ◌∙◌, length, map, take, drop, replicate, arith}
+use Rattle.std.proofs.Common.{ne_eqb, Result, Ok, Err}
 use Rattle.std.specs.Prelude.{IfOk}
 use Rattle.std.specs.Array.{AllZipBelow}
 use Rattle.std.specs.List.{each_same}

@@ -1,23 +1,24 @@
 -- Scans of a sequential frame whose components have planes already: what is made of their blocks
 -- decides nothing.
-use Rattle.std.proofs.Common.{◌≡◌, ℕ, Bool, true, List, [], ◌∷◌, ◌+◌, ◌*◌, ◌<◌, length, get_or, Option, None, Result, Ok, Err}
-use Rattle.std.proofs.Common.{refl, sym, ap, ap₂, ◌∙◌, subst, arith}
+use Rattle.std.proofs.Common.{rules, ◌≡◌, ℕ, Bool, true, List, [], ◌∷◌, ◌+◌, ◌<◌, length, get_or}
+use Rattle.std.proofs.Common.{Option, None, Result, Ok, Err, refl, sym, ap, ap₂, ◌∙◌, subst, arith}
 use Rattle.std.proofs.lemmas.Bool.{cases_lt}
 use Rattle.std.proofs.lemmas.List.{get_or_default, length-map}
 use Rattle.std.specs.Prelude.{is_some, slice_set, slice_index_or}
 use Rattle.std.specs.List.{AllByRecursion}
 use Rattle.jpeg_bits.specs.Reading.{Outcome, Fault}
-use Rattle.jpeg_bits.specs.Entropy.{Text, upcoming, fresh}
+use Rattle.jpeg_bits.specs.Entropy.{Text}
 use Rattle.jpeg_bits.specs.Readers.{Reads, read_on}
 use Rattle.jpeg_bits.specs.declared.marker.Marker.{Marker}
 use Rattle.jpeg_bits.specs.Passes.{Pass, Via}
 use Rattle.jpeg_segments.specs.Frame.{Frame, Component}
 use Rattle.jpeg_streams.specs.Found.{Found}
-use Rattle.jpeg_streams.specs.InTurn.{Counted, blocks_from, counted_at_start}
-use Rattle.jpeg_streams.specs.McuRows.{on_arrays, rows_of, zero_rows}
-use Rattle.jpeg_streams.specs.Order.{Spot, mcu_size}
+use Rattle.jpeg_streams.specs.InTurn.{Counted, blocks_from}
+use Rattle.jpeg_streams.specs.McuRows.{on_arrays, zero_rows}
+use Rattle.jpeg_streams.specs.Order.{Spot}
 use Rattle.jpeg_streams.specs.ScanSegments.{Coding, components_of}
-use Rattle.jpeg_streams.proofs.McuRows.{AreRows, KeepsCounted, blocks-any, rows-count, rows-kept, zero-rows}
+use Rattle.jpeg_streams.proofs.McuRows.{AreRows, KeepsCounted, blocks-any, rows-count, rows-kept}
+use Rattle.jpeg_streams.proofs.McuRows.{zero-rows}
 use Rattle.jpeg_decoder.specs.Steps.{marks_after, with_its_plane, with_planes}
 use Rattle.jpeg_decoder.specs.Strips.{no_samples, planes_by_rows, strips_from, with_strips}
 use Rattle.jpeg_decoder.proofs.DecidedPlanes.{planes_kept}
@@ -84,23 +85,11 @@ module _ (p : Pass) (vias : List Via) (n : ℕ) (frame : Frame) (codings : List 
 
   alike-scans : AlikeEnds (length codings) (by_rows (no_samples codings)) (by_rows [])
   unfolding planes_by_rows ended
-  alike-scans =
-      let blocks = n * mcu_size (components_of codings) in
-      let rows = rows_of frame (components_of codings) in
-      let start = counted_at_start blocks [] in
-      let t = upcoming fresh bytes in
-      alike-ended (length codings) (strips_from p vias blocks codings rows (no_samples codings) start t)
-      (strips_from p vias blocks codings rows [] start t)
-      (alike-strips p vias blocks codings rows (no_samples codings) start t (length-map codings (λ (c : Coding). [])))
+  alike-scans = search (rules, arith, alike-ended, alike-strips, length-map)
 
   pub again-refused : (fault : Fault) → by_rows [] ≡ Err fault → by_rows (no_samples codings) ≡ Err fault
   unfolding AlikeEnds
-  again-refused fault h = go (by_rows (no_samples codings)) (by_rows []) alike-scans h
-    where
-      go : (o q : Outcome (Planes × Option Marker)) → AlikeEnds (length codings) o q → q ≡ Err fault → o ≡ Err fault
-      go (Ok r) (Ok q) k h = absurd cc
-      go (Err f) (Err g) k h = ap Err k ∙ h
-      go _ _ k h = absurd k
+  again-refused fault h = grind (arith, common_steps, alike-scans)
 
   -- the planes that would have been made
   pub record ReadAgain (met : Option Marker) (rest : List ℕ) : Type 0 where
@@ -153,12 +142,12 @@ pub planes-decided : (p : Pass) (codings : List Coding) (planes : Planes) (found
 unfolding with_planes finished_after
 planes-decided p [] [] found h e = refl
 planes-decided p (c ∷ codings) (x ∷ planes) found h e =
-    ap (with_planes p codings planes) (its-plane-decided p c.index x found h.0)
-    ∙ planes-decided p codings planes
-    (record found {
-      finished = slice_set found.finished c.index (marks_after p found.finished
-          c.index);
-    }) h.1 (omega arith)
+    grind (
+      arith,
+      common_steps,
+      its-plane-decided,
+      planes-decided p codings planes (record found { finished = slice_set found.finished c.index (marks_after p found.finished c.index) }) h.1 (omega arith),
+    )
 planes-decided p _ _ found h e = absurd (omega arith)
 
 -- ---- a loop over the components

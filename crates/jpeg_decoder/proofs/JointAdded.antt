@@ -1,16 +1,17 @@
 -- What is found after a first scan of all components of a frame, whose planes share one buffer.
-use Rattle.std.proofs.Common.{◌≡◌, ℕ, zero, suc, ◌+◌, ◌<◌, ◌≤◌, ◌&&◌, Bool, true, Option, Some}
+use Rattle.std.proofs.Common.{rules, ◌≡◌, ℕ, zero, suc, ◌+◌, ◌<◌, ◌≤◌, Bool, true, Option, Some}
 use Rattle.std.proofs.Common.{None, List, [], ◌∷◌, ◌++◌, length, get_or, map, take, drop, replicate}
-use Rattle.std.proofs.Common.{arith, refl, sym, ap, ap₂, ◌∙◌}
+use Rattle.std.proofs.Common.{arith, refl, sym, ◌∙◌}
 use Rattle.std.proofs.lemmas.List.{drop_all, drop_more, length-take-le, take_all, take_more}
+use Rattle.std.proofs.lemmas.Grind.{common_steps}
 use Rattle.std.specs.List.{list_all}
 use Rattle.std.specs.Prelude.{slice_index_or, slice_set}
 use Rattle.jpeg_bits.specs.Passes.{Pass, whole_pass}
 use Rattle.jpeg_streams.specs.Found.{Found}
-use Rattle.jpeg_streams.specs.ScanSegments.{Coding, finished_by}
+use Rattle.jpeg_streams.specs.ScanSegments.{finished_by}
 use Rattle.jpeg_decoder.specs.declared.scan.Coded.{Coded}
 use Rattle.jpeg_decoder.specs.PlanesView.{or_joint}
-use Rattle.jpeg_decoder.specs.Steps.{coding_in, is_wanted, marks_after, with_planes}
+use Rattle.jpeg_decoder.specs.Steps.{coding_in, marks_after, with_planes}
 use Rattle.jpeg_decoder.proofs.JointDecided.{or-nothing}
 use Rattle.jpeg_decoder.proofs.DecidedPlanes.{its_plane_set}
 use Rattle.jpeg_decoder.proofs.PutLoops.{none-left, seen-at}
@@ -19,8 +20,7 @@ use Rattle.jpeg_decoder.proofs.PutLoops.{none-left, seen-at}
 pub all-marked : (p : Pass) (marks new : List Bool) → length marks ≡ 64 → new ≡ finished_by p marks
     → p ≡ whole_pass → list_all (λ mark. mark) new ≡ true
 unfolding finished_by
-all-marked p marks new e f is =
-    let none : drop 64 marks ≡ [] = drop_all 64 marks (omega (arith, e)) in rw (f, is, none) refl
+all-marked p marks new e f is = grind (arith, common_steps, drop_all)
 
 -- ---- planes, of which the first ones are there
 
@@ -37,10 +37,8 @@ or-next : (n : ℕ) (planes : List (List ℕ)) (plane : List ℕ) → length pla
     ≡ or_joint (replicate n None) (planes ++ plane ∷ [])
 unfolding or_joint
 or-next zero planes plane h = absurd (omega arith)
-or-next (suc n) [] plane h =
-    ap (λ (l : List (Option (List ℕ))). Some plane ∷ l) (sym (or-nothing (replicate n None)))
-or-next (suc n) (x ∷ planes) plane h =
-    ap (λ (l : List (Option (List ℕ))). Some x ∷ l) (or-next n planes plane (omega arith))
+or-next (suc n) [] plane h = grind (arith, common_steps, or-nothing)
+or-next (suc n) (x ∷ planes) plane h = search (rules, arith, or-next n planes plane (omega arith))
 
 -- The planes of these components of a scan are added, as many as they are.
 module _ (p : Pass) (cs : List Coded) (planes : List (List ℕ))
@@ -59,31 +57,16 @@ module _ (p : Pass) (cs : List Coded) (planes : List (List ℕ))
   joint-step i c found marks few h is index marked all =
       let plane = get_or planes i [] in
       let long : length (take i planes) ≡ i = length-take-le i planes (omega (arith, count)) in
-      let at : c.index ≡ length (take i planes) = index ∙ sym long in
-      let none : slice_index_or (laid i) c.index None ≡ None =
-      ap (λ (k : ℕ). slice_index_or (laid i) k None) at ∙ or-at 4 (take i planes) in
+      let none : slice_index_or (laid i) c.index None ≡ None = rw (index ∙ sym long) (or-at 4 (take i planes)) in
       let next : laid (i + 1) ≡ slice_set (laid i) c.index (Some plane) =
-      ap (or_joint (replicate 4 None)) (take_more planes i [] (omega (arith, count)))
-      ∙ sym (or-next 4 (take i planes) plane (omega arith))
-      ∙ ap (λ (k : ℕ). slice_set (laid i) k (Some plane)) (sym at) in
-      ap (with_planes p (drop (i + 1) (map coding_in cs)) (drop (i + 1) planes))
-      (its_plane_set p c.index plane (record found { planes = laid i })
-      (slice_set found.finished c.index marks) (laid (i + 1))
-      (ap (slice_set found.finished c.index) marked) next
-      (ap₂ (λ (m : List Bool) (o : Option (List ℕ)). is_wanted m o) (sym marked) none
-      ∙ ap (λ (b : Bool). b && true) all))
-      ∙ sym (ap₂ (λ (ks : List Coding) (ps : List (List ℕ)).
-      with_planes p ks ps (record found { planes = laid i }))
-      (seen-at coding_in cs i c h is) (drop_more planes i [] (omega (arith, count))))
+      rw (index ∙ sym long, or-next 4 (take i planes) plane (omega arith), ← take_more planes i [] (omega (arith, count))) in
+      let put = its_plane_set p c.index plane (record found { planes = laid i })
+      (slice_set found.finished c.index marks) (laid (i + 1)) in
+      grind (arith, common_steps, put, seen-at, drop_more)
 
   -- all components
   pub joint-done : (i : ℕ) (found : Found) → i ≡ length cs
       → record found { planes = or_joint (replicate 4 None) planes }
       ≡ with_planes p (drop i (map coding_in cs)) (drop i planes) (record found { planes = laid i })
   unfolding with_planes
-  joint-done i found e =
-      ap (λ (l : List (List ℕ)). record found { planes = or_joint (replicate 4 None) l })
-      (sym (take_all i planes (omega (arith, count, e))))
-      ∙ sym (ap (λ (ks : List Coding).
-      with_planes p ks (drop i planes) (record found { planes = laid i }))
-      (ap (λ (k : ℕ). drop k (map coding_in cs)) e ∙ none-left coding_in cs))
+  joint-done i found e = grind (arith, common_steps, take_all, none-left)

@@ -1,6 +1,6 @@
 -- Planes in one room, as it grows by a row of MCUs: each plane has its strip.
 use Rattle.std.proofs.Common.{◌≡◌, ℕ, zero, suc, ◌+◌, ◌-◌, ◌*◌, ◌/◌, ◌%◌, ◌<◌, ◌≤◌, List, [], ◌∷◌}
-use Rattle.std.proofs.Common.{◌++◌, length, map, get_or, arith, refl, sym, subst, ap, ap₂, ◌∙◌}
+use Rattle.std.proofs.Common.{◌++◌, length, map, get_or, arith, refl, sym, ap, ap₂, ◌∙◌}
 use Rattle.std.proofs.Common.{length-append, mul_assoc, mul_comm, add-mul}
 use Rattle.std.proofs.Math.Logic.{⊎_elim}
 use Rattle.std.proofs.Math.Nat.{add-div_right, mul-div_cancel, zero-div}
@@ -16,8 +16,7 @@ use Rattle.std.specs.declared.alloc.Global.{Global}
 use Rattle.std.specs.declared.vec.Vec.{Vec}
 use Rattle.jpeg_segments.specs.Frame.{Component, Frame}
 use Rattle.jpeg_segments.specs.FrameView.{component_in}
-use Rattle.jpeg_pixels.specs.JointPlanes.{IsShapeOf, HasFrameSizes, joint_plane, joint_planes}
-use Rattle.jpeg_pixels.specs.JointPlanes.{joint_row_size}
+use Rattle.jpeg_pixels.specs.JointPlanes.{IsShapeOf, joint_plane, joint_planes, joint_row_size}
 use Rattle.jpeg_pixels.specs.JointPlanes.{strip_size}
 use Rattle.jpeg_pixels.specs.declared.joint_planes.JointPlanes.{JointPlanes}
 use Rattle.jpeg_pixels.specs.declared.joint_planes.JointShape.{JointShape}
@@ -25,8 +24,7 @@ use Rattle.jpeg_lossless.specs.Positions.{AreEven}
 use Rattle.jpeg_streams.specs.InTurn.{Fits}
 use Rattle.jpeg_streams.specs.Scans.{Arrays}
 use Rattle.jpeg_streams.specs.ScanSegments.{Coding}
-use Rattle.jpeg_streams.proofs.Apart.{at-all}
-use Rattle.jpeg_streams.proofs.Apart.{get-at}
+use Rattle.jpeg_streams.proofs.Apart.{at-all, get-at}
 use Rattle.jpeg_decoder.specs.GrowingView.{IsJointOf, IsOfShape}
 use Rattle.jpeg_decoder.specs.PlanesView.{IsFullJoint}
 use Rattle.jpeg_decoder.specs.Scanning.{components_in}
@@ -40,12 +38,11 @@ use Rattle.jpeg_decoder.proofs.StripSteps.{length-samples}
 -- ---- numbers of samples
 
 turned : (k c s : ℕ) → k * (c * s) ≡ k * s * c
-turned k c s = ap (λ (n : ℕ). k * n) (mul_comm c s) ∙ sym (mul_assoc k s c)
+turned k c s = grind (arith, common_steps, mul_comm, mul_assoc)
 
 -- of k rows of c strips, those of one component
 one-of : (k c s n : ℕ) → 1 ≤ c → n ≡ k * (c * s) → n / c ≡ k * s
-one-of k c s n h e =
-    ap (λ (m : ℕ). m / c) (e ∙ turned k c s) ∙ mul-div_cancel (k * s) (omega arith)
+one-of k c s n h e = grind (arith, common_steps, turned, mul-div_cancel)
 
 next-row : (k r n : ℕ) → n ≡ k * r → n + r ≡ (k + 1) * r
 next-row k r n e = grind (arith, common_steps, add-mul)
@@ -53,9 +50,7 @@ next-row k r n e = grind (arith, common_steps, add-mul)
 -- whole rows, and one row more
 whole-rows : (n r : ℕ) → n ≡ n / r * r → n + r ≡ (n + r) / r * r
 whole-rows n zero e = omega arith
-whole-rows n (suc r) e =
-    next-row (n / suc r) (suc r) n e
-    ∙ ap (λ (m : ℕ). m * suc r) (sym (add-div_right n (omega arith)))
+whole-rows n (suc r) e = grind (arith, common_steps, next-row, add-div_right)
 
 -- ---- a plane
 
@@ -72,9 +67,7 @@ module _ (shape : JointShape) (samples : List ℕ) where
   plane-at : (slot i : ℕ) → i < length samples / shape.count
       → get_or (joint_plane shape samples slot) i 0 ≡ slice_index samples (index_of shape slot i)
   unfolding joint_plane
-  plane-at slot i h =
-      get_or-map-range_with_len (λ (j : ℕ). slice_index samples (index_of shape slot j)) 0
-      (length samples / shape.count) i i 0 h (omega arith)
+  plane-at slot i h = grind (arith, common_steps, get_or-map-range_with_len)
 
   pub planes-long : length (joint_planes shape samples) ≡ shape.count
   unfolding joint_planes
@@ -83,9 +76,7 @@ module _ (shape : JointShape) (samples : List ℕ) where
   planes-at : (slot : ℕ) → slot < shape.count
       → get_or (joint_planes shape samples) slot [] ≡ joint_plane shape samples slot
   unfolding joint_planes
-  planes-at slot h =
-      get_or-map-range_with_len (joint_plane shape samples) 0 shape.count slot slot [] h
-      (omega arith)
+  planes-at slot h = grind (arith, common_steps, get_or-map-range_with_len)
 
 -- planes without samples
 none-from : (shape : JointShape) (from : ℕ) (codings : List Coding)
@@ -98,8 +89,7 @@ none-from shape from (c ∷ codings) =
 none-joint : (shape : JointShape) (codings : List Coding) → shape.count ≡ length codings
     → joint_planes shape [] ≡ no_samples codings
 unfolding joint_planes
-none-joint shape codings e =
-    ap (λ (n : ℕ). map (joint_plane shape []) (range_with_len 0 n)) e ∙ none-from shape 0 codings
+none-joint shape codings e = grind (arith, common_steps, none-from)
 
 -- A plane, and after it its strip of these, which come after k rows.
 module _ (shape : JointShape) (samples : List ℕ) (strips : List (List ℕ)) (k slot : ℕ)
@@ -117,15 +107,11 @@ module _ (shape : JointShape) (samples : List ℕ) (strips : List (List ℕ)) (k
   grown-long : length grown / shape.count ≡ k * size + size
   grown-long =
       one-of (k + 1) shape.count size (length grown) (omega arith)
-      (length-append samples (concat strips)
-      ∙ ap (λ (n : ℕ). length samples + n)
-      (flat-length size strips even ∙ ap (λ (n : ℕ). n * size) count)
-      ∙ next-row k (joint_row_size shape) (length samples) whole)
+      (grind (arith, common_steps, length-append, flat-length, next-row))
       ∙ sym (next-row k size (k * size) refl)
 
   some-size : (s i : ℕ) → i < k * s + s → 0 < s
-  some-size zero i l = absurd (omega arith)
-  some-size (suc s) i l = omega arith
+  some-size s i l = grind (arith, common_steps)
 
   -- before the strip stands what stood there
   kept-at : (i : ℕ) → i < k * size
@@ -141,12 +127,7 @@ module _ (shape : JointShape) (samples : List ℕ) (strips : List (List ℕ)) (k
   strip-at : (j : ℕ) → j < size
       → slice_index grown (index_of shape slot (k * size + j)) ≡ get_or (get_or strips slot []) j 0
   strip-at j lt =
-      ap (λ (n : ℕ). slice_index grown n)
-      (ap₂ (λ (a b : ℕ). a * joint_row_size shape + (slot * size + b)) (div-mul-add k size j lt)
-      (mod-mul-add k size j lt)
-      ∙ ap (λ (n : ℕ). n + (slot * size + j)) (sym whole))
-      ∙ get_or-append-add samples (concat strips) (slot * size + j) 0
-      ∙ at-flat size j strips slot even (omega arith) lt
+      grind (arith, common_steps, div-mul-add, mod-mul-add, get_or-append-add, at-flat, even)
 
   plane-grown : joint_plane shape grown slot
       ≡ joint_plane shape samples slot ++ get_or strips slot []
@@ -188,9 +169,8 @@ strips-even shape _ _ h = tt
 shaped : (frame : Frame) (shape : JointShape) (cs : List Coded) → shape.rows ≡ frame.mcus_high
     → AllByRecursion (λ c. c.factors.vertical * c.scale ≡ shape.lines) frame.components
     → AllByRecursion (λ c. c.blocks_wide * c.scale ≡ shape.stride) frame.components
-    → AllByRecursion (Fits frame) (components_in cs)
-    → AllByRecursion (IsCodingOf frame) (map coding_in cs)
-    → AllByRecursion (IsOfShape shape) (map coding_in cs)
+    → AllByRecursion (Fits frame) (components_in cs) → AllByRecursion (IsCodingOf frame)
+    (map coding_in cs) → AllByRecursion (IsOfShape shape) (map coding_in cs)
 shaped frame shape [] rows lines strides fits of = tt
 shaped frame shape (c ∷ cs) rows lines strides fits of =
     let k = component_in c.component.now in
@@ -212,31 +192,16 @@ module _ (frame : Frame) (cs : List Coded) (seen : List Component) (joint : Join
   same = is.count ∙ sym count ∙ sym (length-map cs coding_in)
 
   pub none-started : joint_planes joint.shape joint.samples.items ≡ no_samples (map coding_in cs)
-  none-started =
-      ap₂ (λ (s : JointShape) (l : List ℕ). joint_planes s l) shape-is none
-      ∙ none-joint shape (map coding_in cs) same
+  none-started = grind (arith, common_steps, none-joint, same)
 
   pub joint-started : shape.rows ≡ frame.mcus_high
       → AllByRecursion (λ c. c.factors.vertical * c.scale ≡ shape.lines) seen
-      → AllByRecursion (Fits frame) (components_in cs)
-      → AllByRecursion (IsCodingOf frame) (map coding_in cs)
-      → IsJointOf (map coding_in cs) joint
+      → AllByRecursion (Fits frame) (components_in cs) → AllByRecursion (IsCodingOf frame)
+      (map coding_in cs) → IsJointOf (map coding_in cs) joint
   joint-started rows lines fits of =
-      let all = subst (λ (l : List Component).
-      AllByRecursion (λ c. c.factors.vertical * c.scale ≡ shape.lines) l
-      × AllByRecursion (λ c. c.blocks_wide * c.scale ≡ shape.stride) l) seen-is
-      (lines, is.alike.strides) in
-      let some = is.some in
       let row = joint_row_size joint.shape in
       let empty : 0 ≡ 0 / row * row = sym (ap (λ (n : ℕ). n * row) (zero-div row) ∙ omega arith) in
-      record {
-        small = subst HasFrameSizes (sym shape-is) is.small;
-        count = ap (λ (s : JointShape). s.count) shape-is ∙ same;
-        some = subst (λ (s : JointShape). 1 ≤ s.count) (sym shape-is) (omega arith);
-        each = subst (λ (s : JointShape). AllByRecursion (IsOfShape s) (map coding_in cs))
-            (sym shape-is) (shaped frame shape cs rows all.0 all.1 fits of);
-        whole = subst (λ (l : List ℕ). length l ≡ length l / row * row) (sym none) empty;
-      }
+      grind (arith, common_steps, same, shaped)
 
 -- after one row more
 module _ (codings : List Coding) (arrays : Arrays) (joint : JointPlanes)
@@ -256,19 +221,12 @@ module _ (codings : List Coding) (arrays : Arrays) (joint : JointPlanes)
   room-grown new e =
       let shape = joint.shape in
       let samples = joint.samples.items in
-      let old = joint_planes shape samples in
       let old-long = planes-long shape samples ∙ is.count in
-      let new-long = planes-long shape new in
-      ext_get_or [] (joint_planes shape new) (with_strips codings arrays old)
-      (new-long ∙ is.count ∙ sym (strips-length codings arrays old kept old-long))
+      ext_get_or [] (joint_planes shape new) (with_strips codings arrays (joint_planes shape samples))
+      (planes-long shape new ∙ is.count ∙ sym (strips-length codings arrays (joint_planes shape samples) kept old-long))
       (λ slot lt.
-      let h : slot < shape.count = omega (arith, lt, new-long) in
-      planes-at shape new slot h
-      ∙ ap (λ (l : List ℕ). joint_plane shape l slot) e
-      ∙ plane-grown shape samples strips (length samples / joint_row_size shape) slot is.whole even
-      strips-count h
-      ∙ ap (λ (l : List ℕ). l ++ get_or strips slot []) (sym (planes-at shape samples slot h))
-      ∙ sym (strips-at codings arrays old slot kept old-long (omega (arith, h, is.count))))
+      let grown = plane-grown shape samples strips (length samples / joint_row_size shape) slot is.whole even strips-count in
+      grind (arith, common_steps, planes-long, planes-at, strips-at, grown))
 
   pub room-kept : (new : Vec ℕ Global) → new.items ≡ joint.samples.items ++ concat strips
       → IsJointOf codings (record joint { samples = new })
@@ -277,37 +235,26 @@ module _ (codings : List Coding) (arrays : Arrays) (joint : JointPlanes)
       let old = length joint.samples.items in
       let more : length new.items ≡ old + row =
       grind (arith, common_steps, length-append, flat-length, even, strips-count) in
-      record {
-        small = is.small;
-        count = is.count;
-        some = is.some;
-        each = is.each;
-        whole = more ∙ whole-rows old row is.whole ∙ ap (λ (n : ℕ). n / row * row) (sym more);
-      }
+      grind (arith, common_steps, whole-rows)
 
 -- after all rows
 pub room-full : (cs : List Coded) (joint : JointPlanes) → IsJointOf (map coding_in cs) joint
     → map length (joint_planes joint.shape joint.samples.items)
     ≡ map (λ (c : Component). c.blocks_high * c.scale * (c.blocks_wide * c.scale))
-    (components_in cs)
-    → IsFullJoint joint
+    (components_in cs) → IsFullJoint joint
 room-full [] joint is sizes = absurd (let some = is.some in omega (arith, some, is.count))
 room-full (c ∷ cs) joint is sizes =
     let shape = joint.shape in
     let samples = joint.samples.items in
     let first = is.each.0 in
     let one : length samples / shape.count ≡ shape.rows * strip_size shape =
-    sym (plane-long shape samples 0)
-    ∙ ap (λ (l : List ℕ). length l) (sym (planes-at shape samples 0 is.some))
-    ∙ sym (get_or-map length (joint_planes shape samples) 0 [] 0
-    (omega (arith, planes-long shape samples, is.some)))
+    sym (get_or-map length (joint_planes shape samples) 0 [] 0
+    (omega (arith, planes-long shape samples, is.some))
+    ∙ grind (arith, common_steps, plane-long, planes-at))
     ∙ ap (λ (l : List ℕ). get_or l 0 0) sizes
     ∙ grind (arith, common_steps, mul_assoc) in
     let rows = length samples / joint_row_size shape in
     let whole = one-of rows shape.count (strip_size shape) (length samples) is.some is.whole in
-    record {
-      small = is.small;
-      full = is.whole ∙ turned rows shape.count (strip_size shape)
-          ∙ ap (λ (n : ℕ). n * shape.count) (sym whole ∙ one)
-          ∙ sym (turned shape.rows shape.count (strip_size shape));
-    }
+    grind (arith, common_steps, turned)
+
+pub ruleset full_rules = (common_steps, room-full)

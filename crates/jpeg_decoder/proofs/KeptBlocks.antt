@@ -1,7 +1,6 @@
 -- Blocks that are held, as they are read and put back.
-use Rattle.std.proofs.Common.{rules}
-use Rattle.std.proofs.Common.{◌≡◌, ℕ, zero, suc, ◌+◌, ◌<◌, List, [], ◌∷◌, length, get_or, set, ℤ, pos, Ok, Err}
-use Rattle.std.proofs.Common.{refl, sym, ap, ◌∙◌, arith, length-set}
+use Rattle.std.proofs.Common.{rules, ◌≡◌, ℕ, zero, suc, ◌+◌, ◌<◌, List, ◌∷◌, length, get_or, set, ℤ}
+use Rattle.std.proofs.Common.{pos, Ok, Err, refl, ap, ◌∙◌, arith, length-set, Bool, Result, []}
 use Rattle.std.specs.declared.alloc.Global.{Global}
 use Rattle.std.specs.declared.vec.Vec.{Vec}
 use Rattle.std.specs.Vec.{with_item}
@@ -11,14 +10,13 @@ use Rattle.jpeg_bits.specs.Entropy.{Text}
 use Rattle.jpeg_bits.specs.Readers.{Reads, gives, read_on}
 use Rattle.jpeg_bits.specs.Passes.{Pass, Via, Block, block_from}
 use Rattle.jpeg_streams.specs.Order.{Spot}
-use Rattle.jpeg_streams.specs.Scans.{Arrays, block_at, put_block, via_at}
+use Rattle.jpeg_streams.specs.Scans.{block_at, put_block, via_at}
 use Rattle.jpeg_streams.specs.InTurn.{Reached, turn_from}
 use Rattle.jpeg_decoder.specs.declared.scan.Coded.{Coded}
 use Rattle.jpeg_bits.specs.BlockView.{to_block}
-use Rattle.std.proofs.Common.{Bool, Result, ap₂}
 use Rattle.jpeg_bits.specs.Skips.{kept, kept_turn}
-use Rattle.jpeg_decoder.specs.Scanning.{IsSpotOf, vias_in, arrays_in, kept_arrays, sizes_of}
-use Rattle.jpeg_decoder.proofs.KeptScans.{kept_reached, kept_read, kept_result, not-read, put-kept, read-parts}
+use Rattle.jpeg_decoder.specs.Scanning.{IsSpotOf, vias_in, arrays_in, sizes_of}
+use Rattle.jpeg_decoder.proofs.KeptScans.{kept_reached, kept_read, put-kept}
 use Rattle.std.proofs.lemmas.Grind.{common_steps}
 
 abbrev pub Held : Type 0
@@ -45,9 +43,8 @@ arrays-set : (vs : List Held) (slot index : ℕ) (v : Held) (x : List ℤ) → s
     → arrays_in (set vs slot (with_item v index x)) ≡ put_block (spot slot index) (to_block x) (arrays_in vs)
 arrays-set vs slot index v x h e = grind (arith, common_steps, map-set, get_or-map)
 
-block-kept : (vs : List Held) (slot index : ℕ) (v : Held) (x : List ℤ) → slot < length vs → v ≡
-    get_or vs slot v
-    → index < length v.items → x ≡ get_or v.items index x
+block-kept : (vs : List Held) (slot index : ℕ) (v : Held) (x : List ℤ) → slot < length vs → v
+    ≡ get_or vs slot v → index < length v.items → x ≡ get_or v.items index x
     → block_at (arrays_in vs) (spot slot index) ≡ to_block x
 block-kept vs slot index v x h e i f = grind (arith, common_steps, get_or-map)
 
@@ -79,6 +76,22 @@ turn-whole : (p : Pass) (vias : List Via) (slot index : ℕ) (old : Reached) (t 
 unfolding turn_from
 turn-whole p vias slot index old t = refl
 
+put-as-kept : (keeps : Bool) (slot index : ℕ) (old : Reached) (b : Block) (next : ℤ) (more : ℕ)
+    (o : Result ((Block × ℤ × ℕ) × Text) Fault) (u : Text)
+    → read_on (kept_turn keeps) o ≡ Ok ((kept keeps b, next, more), u)
+    → read_on (kept_read keeps) (read_on (put_turn slot slot index old) o)
+    ≡ Ok (
+      kept_reached keeps (record {
+        arrays = put_block (spot slot index) b old.arrays;
+        predictors = set old.predictors slot next;
+        run = more;
+      }),
+      u,
+    )
+put-as-kept keeps slot index old b next more (Ok r) u e =
+    let same = put-kept keeps (spot slot index) old.arrays r.0.0 b (grind arith) in grind arith
+put-as-kept keeps slot index old b next more (Err f) u e = cc
+
 module _ (p : Pass) (cs : List Coded) (slot index : ℕ) (c : Coded) (vs : List Held) (v : Held) (x : List ℤ)
     (predictors : List ℤ) (run : ℕ) (z : ℤ)
     (of : IsSpotOf (length cs) (sizes_of vs) (spot slot index)) (is : c ≡ get_or cs slot c)
@@ -95,32 +108,7 @@ module _ (p : Pass) (cs : List Coded) (slot index : ℕ) (c : Coded) (vs : List 
 
   turn-is : (t : Text) → turn_from p (vias_in 0 cs) (spot slot index) old t ≡ read_on (put_turn slot slot index old)
       (block_from p c.dc.now c.ac.now z run (to_block x) t)
-  turn-is t =
-      turn-whole p (vias_in 0 cs) slot index old t
-      ∙ ap (λ (w : Via). read_on (put_turn w.component slot index old)
-      (block_from p w.dc w.ac (get_or predictors w.component (pos 0)) run
-      (block_at (arrays_in vs) (spot slot index)) t)) (via-is cs slot c of.slot is)
-      ∙ ap (λ (b : Block). read_on (put_turn slot slot index old) (block_from p c.dc.now c.ac.now
-      (get_or predictors slot (pos 0)) run b t)) (block-kept vs slot index v x inside array within
-      block)
-      ∙ ap (λ (y : ℤ). read_on (put_turn slot slot index old) (block_from p c.dc.now c.ac.now y run (to_block x) t))
-      (sym predictor)
-
-  pub turn-read : (y : List ℤ) (next : ℤ) (more : ℕ) (t u : Text) → block_from p c.dc.now c.ac.now z run (to_block x) t
-      ≡ Ok ((to_block y, next, more), u)
-      → turn_from p (vias_in 0 cs) (spot slot index) old t
-      ≡ Ok (
-        record {
-          arrays = arrays_in (set vs slot (with_item v index y));
-          predictors = set predictors slot next;
-          run = more;
-        },
-        u,
-      )
-  turn-read y next more t u e =
-      turn-is t ∙ ap (read_on (put_turn slot slot index old)) e
-      ∙ ap (λ (a : Arrays). Ok (record { arrays = a; predictors = set predictors slot next; run = more }, u))
-      (sym (arrays-set vs slot index v y inside array))
+  turn-is t = rw (turn-whole, via-is cs slot c of.slot is, block-kept vs slot index v x inside array within block, ← predictor)
 
   pub turn-refused : (t : Text) (f : Fault) → block_from p c.dc.now c.ac.now z run (to_block x) t ≡ Err f
       → turn_from p (vias_in 0 cs) (spot slot index) old t ≡ Err f
@@ -138,33 +126,5 @@ module _ (p : Pass) (cs : List Coded) (slot index : ℕ) (c : Coded) (vs : List 
         }),
         u,
       )
-  turn-kept keeps y next more t u e =
-      ap (read_on (kept_read keeps)) (turn-is t) ∙ go (block_from p c.dc.now c.ac.now z run (to_block x) t) e
-    where
-      go : (o : Result ((Block × ℤ × ℕ) × Text) Fault)
-          → read_on (kept_turn keeps) o ≡ Ok ((kept keeps (to_block y), next, more), u)
-          → read_on (kept_read keeps) (read_on (put_turn slot slot index old) o)
-          ≡ Ok (
-            kept_reached keeps (record {
-              arrays = arrays_in (set vs slot (with_item v index y));
-              predictors = set predictors slot next;
-              run = more;
-            }),
-            u,
-          )
-      go (Ok r) e =
-          let q = read-parts (kept_result keeps r.0) (kept keeps (to_block y), next, more) r.1 u e in
-          let same : kept_arrays keeps (put_block (spot slot index) r.0.0 (arrays_in vs))
-          ≡ kept_arrays keeps (arrays_in (set vs slot (with_item v index y)))
-          = put-kept keeps (spot slot index) (arrays_in vs) r.0.0 (to_block y) (ap (λ (b : Block × ℤ × ℕ). b.0) q.0)
-          ∙ ap (kept_arrays keeps) (sym (arrays-set vs slot index v y inside array)) in
-          ap (λ (a : Arrays). Ok (record { arrays = a; predictors = set predictors slot r.0.1; run = r.0.2 }, r.1)) same
-          ∙ ap₂ (λ (b : Block × ℤ × ℕ) (w : Text). Ok (
-            record {
-              arrays = kept_arrays keeps (arrays_in (set vs slot (with_item v index y)));
-              predictors = set predictors slot b.1;
-              run = b.2;
-            },
-            w,
-          )) q.0 q.1
-      go (Err f) e = absurd (not-read f ((kept keeps (to_block y), next, more), u) e)
+  turn-kept keeps y next more t u e = rw (turn-is t, arrays-set vs slot index v y inside array)
+      (put-as-kept keeps slot index old (to_block y) next more _ u e)

@@ -1,6 +1,8 @@
 -- Scans of blocks of which what is kept goes on alike.
-use Rattle.std.proofs.Common.{◌≡◌, ℕ, zero, suc, ◌+◌, ◌-◌, ◌%◌, ◌==◌, ◌&&◌, nat_lt, Bool, true, false, List, [], ◌∷◌}
-use Rattle.std.proofs.Common.{map, get_or, set, ℤ, pos, Result, Ok, Err, refl, sym, ap, ap₂, ◌∙◌}
+use Rattle.std.proofs.Common.{◌≡◌, ℕ, ◌-◌, Bool, true, false, List, ◌∷◌, get_or, set, ℤ, pos}
+use Rattle.std.proofs.Common.{Result, Ok, Err, refl, sym, ap, ◌∙◌, arith, []}
+use Rattle.std.proofs.Math.ListN.{get_or-map}
+use Rattle.std.proofs.lemmas.Grind.{common_steps}
 use Rattle.std.proofs.lemmas.List.{map-set}
 use Rattle.jpeg_bits.specs.Reading.{Fault}
 use Rattle.jpeg_bits.specs.Entropy.{Text}
@@ -10,66 +12,34 @@ use Rattle.jpeg_bits.specs.Skips.{dc_alone, kept, kept_turn}
 use Rattle.jpeg_bits.proofs.DcAlone.{blocks-alike as block-alike}
 use Rattle.jpeg_streams.specs.Order.{Spot}
 use Rattle.jpeg_streams.specs.Scans.{Arrays, block_at, put_block, via_at}
-use Rattle.jpeg_streams.specs.InTurn.{Counted, Reached, at_start, begun_from, blocks_from, next_from, restart_from, turn_from}
+use Rattle.jpeg_streams.specs.InTurn.{Counted, Reached, begun_from, blocks_from, next_from}
+use Rattle.jpeg_streams.specs.InTurn.{turn_from}
 use Rattle.jpeg_decoder.specs.Scanning.{kept_after, kept_arrays, kept_counted}
-use Rattle.jpeg_decoder.proofs.BlockSteps.{begun_turn}
+use Rattle.jpeg_decoder.proofs.BlockSteps.{begun-is, begun_by, begun_turn, next-is, turn_then}
 
 -- ---- what is read twice, alike as far as something of it goes
-
-value-of : {A : Type 0} → A → Result (A × Text) Fault → A
-value-of d (Ok r) = r.0
-value-of d (Err f) = d
-
-left-of : {A : Type 0} → Text → Result (A × Text) Fault → Text
-left-of d (Ok r) = r.1
-left-of d (Err f) = d
-
-pub read-parts : {A : Type 0} (a b : A) (t u : Text) → ◌≡◌ {A = Result (A × Text) Fault} (Ok (a, t)) (Ok (b, u))
-    → (a ≡ b) × (t ≡ u)
-unfolding value-of left-of
-read-parts {A} a b t u e = (ap (value-of a) e, ap (left-of t) e)
-
-pub not-read : {A : Type 0} (f : Fault) (x : A × Text) → ◌≡◌ {A = Result (A × Text) Fault} (Err f) (Ok x) → ⊥
-not-read f x e = cc
-
-same-fault : {A : Type 0} (f g : Fault) → ◌≡◌ {A = Result (A × Text) Fault} (Err f) (Err g) → f ≡ g
-same-fault f g e = cc
 
 -- Where K of both is the same, what reads on from both is, if it goes by K.
 pub pass-on : {A B C : Type 0} (K : A → C) (F G : A → Reads B) (o p : Result (A × Text) Fault)
     → read_on (λ a. gives (K a)) o ≡ read_on (λ a. gives (K a)) p
     → ((a b : A) (u : Text) → K a ≡ K b → F a u ≡ G b u) → read_on F o ≡ read_on G p
-pass-on {A} {B} {C} K F G (Ok r) (Ok s) e h =
-    let q = read-parts (K r.0) (K s.0) r.1 s.1 e in
-    h r.0 s.0 r.1 q.0 ∙ ap (G s.0) q.1
-pass-on {A} {B} {C} K F G (Ok r) (Err f) e h = absurd (not-read f (K r.0, r.1) (sym e))
-pass-on {A} {B} {C} K F G (Err f) (Ok r) e h = absurd (not-read f (K r.0, r.1) e)
-pass-on {A} {B} {C} K F G (Err f) (Err g) e h = ap (λ (x : Fault). Err x) (same-fault {A = C} f g e)
+pass-on K F G (Ok r) (Ok s) e h = grind (arith, common_steps, h r.0 s.0 r.1)
+pass-on K F G (Ok r) (Err f) e h = cc
+pass-on K F G (Err f) (Ok r) e h = cc
+pass-on K F G (Err f) (Err g) e h = cc
 
 -- ---- blocks of arrays
-
-pub get_or-mapped : {A B : Type 0} (f : A → B) (xs : List A) (i : ℕ) (d : A) → get_or (map f xs) i (f d) ≡ f (get_or xs i d)
-get_or-mapped f [] i d = refl
-get_or-mapped f (x ∷ xs) zero d = refl
-get_or-mapped f (x ∷ xs) (suc i) d = get_or-mapped f xs i d
 
 pub none-alone : dc_alone zero_block ≡ zero_block
 unfolding zero_block
 none-alone = refl
 
 block-alone : (arrays : Arrays) (s : Spot) → block_at (kept_arrays false arrays) s ≡ dc_alone (block_at arrays s)
-block-alone arrays s =
-    ap₂ (λ (l : List Block) (d : Block). get_or l s.index d) (get_or-mapped (map dc_alone) arrays s.slot [])
-    (sym none-alone)
-    ∙ get_or-mapped dc_alone (get_or arrays s.slot []) s.index zero_block
+block-alone arrays s = grind (arith, common_steps, get_or-map, none-alone)
 
 put-alone : (arrays : Arrays) (s : Spot) (b : Block)
     → kept_arrays false (put_block s b arrays) ≡ put_block s (dc_alone b) (kept_arrays false arrays)
-put-alone arrays s b =
-    map-set (map dc_alone) arrays s.slot (set (get_or arrays s.slot []) s.index b)
-    ∙ ap (λ (l : List Block). set (kept_arrays false arrays) s.slot l)
-    (map-set dc_alone (get_or arrays s.slot []) s.index b
-    ∙ ap (λ (l : List Block). set l s.index (dc_alone b)) (sym (get_or-mapped (map dc_alone) arrays s.slot [])))
+put-alone arrays s b = grind (arith, common_steps, map-set, get_or-map)
 
 -- ---- a block
 
@@ -99,18 +69,7 @@ put-alike : (component : ℕ) (s : Spot) (old : Reached) (arrays : Arrays) (r q 
     → kept_arrays false old.arrays ≡ kept_arrays false arrays → kept_result false r ≡ kept_result false q
     → kept_reached false (put_turn component s old r)
     ≡ kept_reached false (put_turn component s (record old { arrays = arrays }) q)
-put-alike component s old arrays r q e k =
-    let block : dc_alone r.0 ≡ dc_alone q.0 = ap (λ (x : Block × ℤ × ℕ). x.0) k in
-    let same : kept_arrays false (put_block s r.0 old.arrays) ≡ kept_arrays false (put_block s q.0 arrays)
-    = put-alone old.arrays s r.0
-    ∙ ap₂ (λ (b : Block) (l : Arrays). put_block s b l) block e
-    ∙ sym (put-alone arrays s q.0) in
-    ap (λ (l : Arrays). record { arrays = l; predictors = set old.predictors component r.1; run = r.2 }) same
-    ∙ ap (λ (x : Block × ℤ × ℕ). record {
-      arrays = kept_arrays false (put_block s q.0 arrays);
-      predictors = set old.predictors component x.1;
-      run = x.2;
-    }) k
+put-alike component s old arrays r q e k = grind (arith, common_steps, put-alone)
 
 turn-arrays : (p : Pass) (vias : List Via) (s : Spot) (old : Reached) (arrays : Arrays) (t : Text)
     → p.is_first ≡ true → kept_arrays false old.arrays ≡ kept_arrays false arrays
@@ -137,15 +96,14 @@ pub turn-alike : (keeps : Bool) (p : Pass) (vias : List Via) (s : Spot) (a b : R
     → (keeps ≡ false → p.is_first ≡ true) → kept_reached keeps a ≡ kept_reached keeps b
     → read_on (kept_read keeps) (turn_from p vias s a t) ≡ read_on (kept_read keeps) (turn_from p vias s b t)
 turn-alike true p vias s a b t first e = ap (λ (x : Reached). read_on (kept_read true) (turn_from p vias s x t)) e
-turn-alike false p vias s a b t first e =
-    turn-arrays p vias s a b.arrays t (first refl) (ap (λ (x : Reached). x.arrays) e)
-    ∙ ap (λ (x : Reached). read_on (kept_read false) (turn_from p vias s x t))
-    (ap (λ (x : Reached). record x { arrays = b.arrays }) e)
+turn-alike false p vias s a b t first e = grind (arith, common_steps, turn-arrays)
 
 -- ---- the next block
 
-abbrev turn_then : Counted → Reached → Reads Counted
-turn_then now r = gives (record { reached = r; left = now.left - 1; number = now.number })
+pub read-on-on : {A B C : Type 0} (f : A → Reads B) (g : B → Reads C) (o : Result (A × Text) Fault)
+    → read_on g (read_on f o) ≡ read_on (λ a. λ u. read_on g (f a u)) o
+read-on-on f g (Ok r) = refl
+read-on-on f g (Err e) = refl
 
 -- what was begun alike goes on so
 begun-alike : (keeps : Bool) (p : Pass) (vias : List Via) (s : Spot) (a b : Counted) (t : Text)
@@ -153,67 +111,23 @@ begun-alike : (keeps : Bool) (p : Pass) (vias : List Via) (s : Spot) (a b : Coun
     → read_on (kept_after keeps) (begun_turn p vias s a t) ≡ read_on (kept_after keeps) (begun_turn p vias s b t)
 unfolding begun_turn
 begun-alike keeps p vias s a b t first e =
-    go (turn_from p vias s a.reached t) (turn_from p vias s b.reached t)
+    read-on-on (turn_then a) (kept_after keeps) (turn_from p vias s a.reached t)
+    ∙ pass-on (kept_reached keeps) (λ r. λ u. read_on (kept_after keeps) (turn_then a r u))
+    (λ r. λ u. read_on (kept_after keeps) (turn_then b r u)) (turn_from p vias s a.reached t)
+    (turn_from p vias s b.reached t)
     (turn-alike keeps p vias s a.reached b.reached t first (ap (λ (c : Counted). c.reached) e))
-  where
-    then-kept : (c : Counted) (o : Result (Reached × Text) Fault)
-        → read_on (kept_after keeps) (read_on (turn_then c) o)
-        ≡ read_on (turn_then (kept_counted keeps c)) (read_on (kept_read keeps) o)
-    then-kept c (Ok r) = refl
-    then-kept c (Err f) = refl
-
-    go : (o q : Result (Reached × Text) Fault) → read_on (kept_read keeps) o ≡ read_on (kept_read keeps) q
-        → read_on (kept_after keeps) (read_on (turn_then a) o) ≡ read_on (kept_after keeps) (read_on (turn_then b) q)
-    go o q h =
-        then-kept a o ∙ ap₂ (λ (c : Counted) (r : Result (Reached × Text) Fault). read_on (turn_then c) r) e h
-        ∙ sym (then-kept b q)
+    (λ r q u k. grind (arith, common_steps))
+    ∙ sym (read-on-on (turn_then b) (kept_after keeps) (turn_from p vias s b.reached t))
 
 -- an interval begins alike
+kept-begun : (keeps : Bool) (n : ℕ) (c : Counted) (b : Bool) (t : Text)
+    → read_on (kept_after keeps) (begun_by n c b t) ≡ begun_by n (kept_counted keeps c) b t
+kept-begun keeps n c false t = refl
+kept-begun keeps n c true t = grind (arith, common_steps)
+
 start-kept : (keeps : Bool) (n : ℕ) (c : Counted) (t : Text)
     → read_on (kept_after keeps) (begun_from n c t) ≡ begun_from n (kept_counted keeps c) t
-unfolding begun_from
-start-kept keeps n c t = go (nat_lt 0 n && c.left == 0)
-  where
-    restarted : (o : Result (Unit {0} × Text) Fault)
-        → read_on (kept_after keeps) (read_on (λ (u : Unit {0}). gives (record {
-          reached = at_start c.reached.arrays;
-          left = n;
-          number = (c.number + 1) % 8;
-        })) o) ≡ read_on (λ (u : Unit {0}). gives (record {
-          reached = at_start (kept_arrays keeps c.reached.arrays);
-          left = n;
-          number = (c.number + 1) % 8;
-        })) o
-    restarted (Ok u) = refl
-    restarted (Err f) = refl
-
-    go : (b : Bool) → read_on (kept_after keeps) ((elim b as (λ _. Reads Counted) [
-      | true ↦ restart_from c.number >>= (λ u. gives (record {
-        reached = at_start c.reached.arrays;
-        left = n;
-        number = (c.number + 1) % 8;
-      }))
-      | false ↦ gives c
-    ]) t) ≡ (elim b as (λ _. Reads Counted) [
-      | true ↦ restart_from c.number >>= (λ u. gives (record {
-        reached = at_start (kept_arrays keeps c.reached.arrays);
-        left = n;
-        number = (c.number + 1) % 8;
-      }))
-      | false ↦ gives (kept_counted keeps c)
-    ]) t
-    go false = refl
-    go true = restarted (restart_from c.number t)
-
-read-on-on : {A B C : Type 0} (f : A → Reads B) (g : B → Reads C) (o : Result (A × Text) Fault)
-    → read_on g (read_on f o) ≡ read_on (λ a. λ u. read_on g (f a u)) o
-read-on-on f g (Ok r) = refl
-read-on-on f g (Err e) = refl
-
-next-is : (p : Pass) (vias : List Via) (n : ℕ) (s : Spot) (old : Counted) (t : Text)
-    → next_from p vias n s old t ≡ read_on (begun_turn p vias s) (begun_from n old t)
-unfolding next_from begun_turn
-next-is p vias n s old t = refl
+start-kept keeps n c t = grind (arith, common_steps, begun-is, kept-begun)
 
 next-alike : (keeps : Bool) (p : Pass) (vias : List Via) (n : ℕ) (s : Spot) (a b : Counted) (t : Text)
     → (keeps ≡ false → p.is_first ≡ true) → kept_counted keeps a ≡ kept_counted keeps b
@@ -246,13 +160,12 @@ blocks-alike keeps p vias n (s ∷ spots) a b t first e =
 pub put-kept : (keeps : Bool) (s : Spot) (arrays : Arrays) (a b : Block) → kept keeps a ≡ kept keeps b
     → kept_arrays keeps (put_block s a arrays) ≡ kept_arrays keeps (put_block s b arrays)
 put-kept true s arrays a b e = ap (λ (x : Block). put_block s x arrays) e
-put-kept false s arrays a b e =
-    put-alone arrays s a ∙ ap (λ (x : Block). put_block s x (kept_arrays false arrays)) e ∙ sym (put-alone arrays s b)
+put-kept false s arrays a b e = grind (arith, common_steps, put-alone)
 
 -- what is left after the next block
 pub turn-kept-refused : (keeps : Bool) (o : Result ((Block × ℤ × ℕ) × Text) Fault) (f : Fault)
     → read_on (kept_turn keeps) o ≡ Err f → o ≡ Err f
-turn-kept-refused keeps (Ok r) f e = absurd (not-read f (kept_result keeps r.0, r.1) (sym e))
+turn-kept-refused keeps (Ok r) f e = cc
 turn-kept-refused keeps (Err g) f e = e
 
 -- The next block of which the same is kept leaves the same to read.
@@ -266,21 +179,9 @@ pub next-kept : (keeps : Bool) (p : Pass) (vias : List Via) (n : ℕ) (s : Spot)
       number = now.number;
     }) u)
 unfolding begun_turn
-next-kept keeps p vias n s spots now r t u first e = go (turn_from p vias s now.reached t) e
-  where
-    go : (o : Result (Reached × Text) Fault) → read_on (kept_read keeps) o ≡ Ok (kept_reached keeps r, u)
-        → read_on (kept_after keeps) (read_on (blocks_from p vias n spots) (read_on (turn_then now) o))
-        ≡ read_on (kept_after keeps) (blocks_from p vias n spots (record {
-          reached = r;
-          left = now.left - 1;
-          number = now.number;
-        }) u)
-    go (Ok x) e =
-        let q = read-parts (kept_reached keeps x.0) (kept_reached keeps r) x.1 u e in
-        let c : Reached → Counted = λ (y : Reached). record { reached = y; left = now.left - 1; number = now.number } in
-        blocks-alike keeps p vias n spots (c x.0) (c r) x.1 first (ap c q.0)
-        ∙ ap (λ (v : Text). read_on (kept_after keeps) (blocks_from p vias n spots (c r) v)) q.1
-    go (Err f) e = absurd (not-read f (kept_reached keeps r, u) e)
+next-kept keeps p vias n s spots now r t u first e =
+    let c : Reached → Counted = λ y. record { reached = y; left = now.left - 1; number = now.number } in
+    grind (arith, common_steps, read-on-on, turn_then, pass-on, blocks-alike)
 
 pub kept_none : (keeps : Bool) (p : Pass) (vias : List Via) (n : ℕ) (old : Counted) (t : Text)
     → (blocks_from p vias n [] old >>= kept_after keeps) t ≡ Ok (kept_counted keeps old, t)

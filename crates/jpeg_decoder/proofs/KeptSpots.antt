@@ -1,7 +1,6 @@
 -- The blocks of a scan are held: of all components of a scan, or of a row of MCUs.
-use Rattle.std.proofs.Common.{rules}
-use Rattle.std.proofs.Common.{◌≡◌, inl, inr, ℕ, zero, suc, ◌+◌, ◌<◌, List, [], ◌∷◌, map, drop, length, get_or, refl}
-use Rattle.std.proofs.Common.{sym, ap, arith}
+use Rattle.std.proofs.Common.{rules, ◌≡◌, inl, inr, ℕ, zero, suc, ◌+◌, ◌<◌, List, [], ◌∷◌, map}
+use Rattle.std.proofs.Common.{drop, length, get_or, refl, sym, ap, arith}
 use Rattle.std.proofs.lemmas.List.{length-map}
 use Rattle.std.specs.List.{AllByRecursion, range_with_len}
 use Rattle.jpeg_segments.specs.Frame.{Frame, Component}
@@ -54,8 +53,7 @@ slot-few frame cs q fits t =
     omega arith
 
 pub kept-spots : (frame : Frame) (cs : List Coded) (vs : List Held) → AllByRecursion (Fits frame)
-    (components_in cs)
-    → AreArrays (components_in cs) (arrays_in vs)
+    (components_in cs) → AreArrays (components_in cs) (arrays_in vs)
     → AllByRecursion (IsSpotOf (length cs) (sizes_of vs)) (spots_of frame (components_in cs))
 kept-spots frame cs vs fits arrays = grind (arith, common_steps, all-spots, slot-few, spots-inside)
 
@@ -91,6 +89,4 @@ each-row cs vs f a (suc n) h = (h a, each-row cs vs f (a + 1) n h)
 pub rows-spots : (frame : Frame) (cs : List Coded) (vs : List Held) → AllByRecursion (Fits frame) (components_in cs)
     → sizes_of vs ≡ row_sizes cs
     → AllByRecursion (AllByRecursion (IsSpotOf (length cs) (sizes_of vs))) (rows_of frame (components_in cs))
-rows-spots frame cs vs fits sizes = each-row cs vs (mcu_row frame (components_in cs)) 0
-    frame.mcus_high
-    (λ row. row-spots frame cs vs row fits sizes)
+rows-spots frame cs vs fits sizes = search (rules, arith, each-row, row-spots)

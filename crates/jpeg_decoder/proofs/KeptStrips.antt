@@ -1,21 +1,22 @@
 -- Strips of which what is kept of the blocks is enough: where a block gives one sample, it is of DC alone.
-use Rattle.std.proofs.Common.{◌≡◌, ℕ, suc, ◌+◌, ◌-◌, ◌*◌, ◌/◌, ◌%◌, ◌<◌, ◌++◌, Bool, true, false, List, [], ◌∷◌, map}
+use Rattle.std.proofs.lemmas.Grind.{common_steps}
+use Rattle.std.proofs.Common.{◌≡◌, ℕ, suc, ◌+◌, ◌-◌, ◌<◌, ◌++◌, Bool, true, false, List, ◌∷◌, map}
 use Rattle.std.proofs.Common.{length, get_or, drop, Result, Ok, Err, refl, sym, ap, ap₂, ◌∙◌, arith}
+use Rattle.std.proofs.Common.{[]}
 use Rattle.std.specs.List.{AllByRecursion, All, range_with_len}
 use Rattle.jpeg_bits.specs.Reading.{Fault}
 use Rattle.jpeg_bits.specs.Entropy.{Text}
 use Rattle.jpeg_bits.specs.Readers.{read_on}
 use Rattle.jpeg_bits.specs.Passes.{Block, Pass, Via, zero_block}
 use Rattle.jpeg_bits.specs.Skips.{dc_alone}
-use Rattle.jpeg_bits.specs.Zigzag.{coefficients_in_block_order, values_in_block_order}
-use Rattle.jpeg_bits.specs.Zigzag.{zigzag_indices}
+use Rattle.jpeg_bits.specs.Zigzag.{coefficients_in_block_order, zigzag_indices}
 use Rattle.jpeg_pixels.specs.Planes.{plane_of}
 use Rattle.jpeg_pixels.specs.Samples.{dequantized}
 use Rattle.jpeg_pixels.specs.Scaled.{sample_at, sample_of_1}
 use Rattle.jpeg_streams.specs.InTurn.{Counted, blocks_from}
 use Rattle.jpeg_streams.specs.McuRows.{on_arrays, zero_rows}
 use Rattle.jpeg_streams.specs.Order.{Spot}
-use Rattle.jpeg_streams.specs.Rasters.{in_raster, ordered}
+use Rattle.jpeg_streams.specs.Rasters.{ordered}
 use Rattle.jpeg_streams.specs.Scans.{Arrays}
 use Rattle.jpeg_streams.specs.ScanSegments.{Coding, components_of}
 use Rattle.jpeg_streams.proofs.Apart.{map-same}
@@ -23,7 +24,7 @@ use Rattle.jpeg_decoder.specs.declared.scan.Coded.{Coded}
 use Rattle.jpeg_decoder.specs.Scanning.{kept_after, kept_arrays, kept_counted}
 use Rattle.jpeg_decoder.specs.Steps.{coding_in}
 use Rattle.jpeg_decoder.specs.Strips.{samples_of, strips_from, with_strips}
-use Rattle.jpeg_decoder.proofs.KeptScans.{get_or-mapped, not-read, read-parts}
+use Rattle.std.proofs.Math.ListN.{get_or-map}
 use Rattle.jpeg_decoder.proofs.StripSteps.{strips_step}
 
 -- one sample of a block is of DC alone
@@ -34,23 +35,13 @@ one-sample b q x y = refl
 block-alike : (a b : List Block) (i : ℕ) → map dc_alone a ≡ map dc_alone b
     → dc_alone (get_or a i zero_block) ≡ dc_alone (get_or b i zero_block)
 block-alike a b i e =
-    sym (get_or-mapped dc_alone a i zero_block) ∙ ap (λ (l : List Block). get_or l i (dc_alone zero_block)) e
-    ∙ get_or-mapped dc_alone b i zero_block
+    sym (get_or-map dc_alone a i zero_block) ∙ ap (λ (l : List Block). get_or l i (dc_alone zero_block)) e
+    ∙ get_or-map dc_alone b i zero_block
 
 samples-alike : (high : ℕ) (c : Coding) (a b : List Block) → c.component.scale ≡ 1 → map dc_alone a ≡ map dc_alone b
     → samples_of high c a ≡ samples_of high c b
 unfolding samples_of plane_of
-samples-alike high c a b one e =
-    let wide = c.component.blocks_wide in
-    let q = values_in_block_order c.quantization in
-    let at : (x y row column : ℕ) → sample_at 1 (in_raster wide a row column) q x y
-    ≡ sample_at 1 (in_raster wide b row column) q x y
-    = λ x y row column.
-    one-sample (get_or a (row * wide + column) zero_block) q x y
-    ∙ ap (λ (l : Block). sample_at 1 (ordered l) q x y) (block-alike a b (row * wide + column) e)
-    ∙ sym (one-sample (get_or b (row * wide + column) zero_block) q x y) in
-    rw one (map-same _ _ (range_with_len 0 (1 * wide * (1 * high)))
-    (λ i. at (i % (1 * wide) % 1) (i / (1 * wide) % 1) (i / (1 * wide) / 1) (i % (1 * wide) / 1)))
+samples-alike high c a b one e = grind (arith, common_steps, one-sample, block-alike, map-same)
 
 strips-alike : (codings : List Coding) (a b : Arrays) (planes : List (List ℕ))
     → AllByRecursion (λ c. c.component.scale ≡ 1) codings → kept_arrays false a ≡ kept_arrays false b
@@ -74,7 +65,7 @@ kept-strips false codings a b planes all e = strips-alike codings a b planes (al
 
 pub kept-refused : (keeps : Bool) (o : Result (Counted × Text) Fault) (f : Fault)
     → read_on (kept_after keeps) o ≡ Err f → o ≡ Err f
-kept-refused keeps (Ok r) f e = absurd (not-read f (kept_counted keeps r.0, r.1) (sym e))
+kept-refused keeps (Ok r) f e = cc
 kept-refused keeps (Err g) f e = e
 
 -- a row of MCUs of which what is kept was read
@@ -95,15 +86,13 @@ strips_kept keeps p vias n codings f spots k high planes zeros old new t u all h
         ≡ strips_from p vias n codings (map f (range_with_len (k + 1) (high - (k + 1))))
         (with_strips codings new.reached.arrays planes) (on_arrays [] new) u
     go (Ok x) was r =
-        let q = read-parts (kept_counted keeps x.0) (kept_counted keeps new) x.1 u r in
         let rest = strips_from p vias n codings (map f (range_with_len (k + 1) (high - (k + 1)))) in
+        let same : kept_counted keeps x.0 ≡ kept_counted keeps new = grind arith in
+        let strips = kept-strips keeps codings x.0.reached.arrays new.reached.arrays planes all
+        (ap (λ (c : Counted). c.reached.arrays) same) in
         strips_step p vias n codings f spots k high planes zeros old x.0 t x.1 h e is was
-        ∙ ap (λ (l : List (List ℕ)). rest l (on_arrays [] x.0) x.1)
-        (kept-strips keeps codings x.0.reached.arrays new.reached.arrays planes all
-        (ap (λ (c : Counted). c.reached.arrays) q.0))
-        ∙ ap₂ (λ (c : Counted) (v : Text). rest (with_strips codings new.reached.arrays planes) (on_arrays [] c) v)
-        q.0 q.1
-    go (Err fault) was r = absurd (not-read fault (kept_counted keeps new, u) r)
+        ∙ grind arith
+    go (Err fault) was r = absurd (let n : ⊥ = cc in n)
 
 pub one-a-side : (cs : List Coded) → All (λ c. c.component.now.dct_scale ≡ 1) cs
     → AllByRecursion (λ c. c.component.scale ≡ 1) (map coding_in cs)

@@ -1,22 +1,21 @@
 -- A lossless scan as it is read: its tables, its samples and where they are put.
-use Rattle.std.proofs.Common.{rules}
-use Rattle.std.proofs.Common.{◌≡◌, ℕ, zero, suc, ◌+◌, ◌*◌, ◌<◌, ◌≤◌, ◌==◌, Bool, true, false, List, [], ◌∷◌, ◌++◌, All}
-use Rattle.std.proofs.Common.{length, map, drop, get_or, set, Option, Some, None, Result, Ok, Err, refl, sym, ap}
-use Rattle.std.proofs.Common.{◌∙◌, subst, arith}
+use Rattle.std.proofs.Common.{rules, ◌≡◌, ℕ, zero, suc, ◌+◌, ◌*◌, ◌<◌, ◌≤◌, ◌==◌, Bool, false, List}
+use Rattle.std.proofs.Common.{[], ◌∷◌, ◌++◌, All, length, map, drop, get_or, set, Option, Some}
+use Rattle.std.proofs.Common.{None, Result, Ok, Err, refl, sym, ap, ◌∙◌, subst, arith}
 use Rattle.std.specs.Prelude.{IfErr, IfOk, MatchResult, OnOk, slice_get, slice_index_or, slice_set}
 use Rattle.std.proofs.lemmas.Option.{get_or_from_slice_get, slice_get-get_or}
 use Rattle.std.specs.declared.alloc.Global.{Global}
 use Rattle.std.specs.declared.vec.Vec.{Vec}
-use Rattle.std.proofs.lemmas.List.{length-map, map-set}
+use Rattle.std.proofs.lemmas.List.{length-map, map-set, append_assoc, append-nil, drop-set-lt}
+use Rattle.std.proofs.lemmas.List.{drop_all, drop_more}
 use Rattle.std.specs.List.{AllByRecursion, enumerate_from}
-use Rattle.std.proofs.lemmas.List.{append_assoc, append-nil, drop-set-lt, drop_all, drop_more}
 use Rattle.std.proofs.lemmas.List.Elements.{All-from_recursion, recursion_from_All}
 use Rattle.jpeg_bits.specs.Codes.{Table}
 use Rattle.jpeg_bits.specs.Reading.{Answers, Fault, Names, Outcome, ◌>>=◌}
 use Rattle.jpeg_bits.specs.Stream.{Stream}
 use Rattle.jpeg_bits.specs.declared.error.Error.{Error}
 use Rattle.jpeg_bits.specs.declared.marker.Marker.{Marker}
-use Rattle.jpeg_bits.proofs.Loops.{Continues, Continues-err, Names-through, bind_at, bind_err}
+use Rattle.jpeg_bits.proofs.Loops.{Names-through, bind_at, bind_err}
 use Rattle.jpeg_segments.specs.Frame.{Component, Frame, ceiling, most_across, most_down}
 use Rattle.jpeg_segments.specs.FrameView.{component_in}
 use Rattle.jpeg_segments.specs.declared.parser.Component as declared
@@ -27,23 +26,26 @@ use Rattle.jpeg_lossless.specs.Differences.{Part}
 use Rattle.jpeg_lossless.specs.declared.scan.Coding.{Coding}
 use Rattle.jpeg_lossless.specs.Pictures.{ArePlanesOf, lossless_picture}
 use Rattle.jpeg_lossless.specs.Scans.{scan_at}
-use Rattle.jpeg_streams.specs.LosslessScans.{LosslessCoding, lossless_coding, lossless_codings, mcus_across}
-use Rattle.jpeg_streams.specs.LosslessScans.{mcus_down, part_of, parts_of, tables_in, with_samples}
+use Rattle.jpeg_streams.specs.LosslessScans.{LosslessCoding, lossless_coding, lossless_codings}
+use Rattle.jpeg_streams.specs.LosslessScans.{mcus_across, mcus_down, part_of, parts_of, tables_in}
+use Rattle.jpeg_streams.specs.LosslessScans.{with_samples}
 use Rattle.jpeg_decoder.specs.LosslessParts.{mcus_high, mcus_wide, no_component, part_by, parts_at}
 use Rattle.jpeg_segments.specs.Checks.{gathered, needed}
 use Rattle.jpeg_decoder.specs.declared.decoded.Decoded.{Decoded}
 use Rattle.jpeg_streams.specs.Sound.{AreSampled, IsDecodedFrame, IsSound}
 use Rattle.jpeg_decoder.specs.Steps.{IsRefusal, after_all, samples_read, with_decoded}
 use Rattle.jpeg_streams.specs.FoundPictures.{samples_picture}
-use Rattle.jpeg_streams.specs.ScanSegments.{after_samples, arrays_before, scan_samples, once_scanned}
+use Rattle.jpeg_streams.specs.ScanSegments.{after_samples, arrays_before, scan_samples}
+use Rattle.jpeg_streams.specs.ScanSegments.{once_scanned}
 use Rattle.jpeg_streams.specs.Found.{Found}
 use Rattle.jpeg_streams.proofs.ReadTurns.{bind-ok, needed-some, ok-same, then-ok}
-use Rattle.jpeg_streams.proofs.LosslessSizes.{IsMade, across-some, all-at, all-covered, decoded-made, down-some}
+use Rattle.jpeg_streams.proofs.LosslessSizes.{IsMade, across-some, all-at, all-covered}
+use Rattle.jpeg_streams.proofs.LosslessSizes.{decoded-made, down-some}
 use Rattle.jpeg_decoder.specs.PlanesView.{planes_in}
 use Rattle.jpeg_decoder.proofs.PutLoops.{seen-at}
 use Rattle.jpeg_decoder.proofs.ScanData.{before-sequential}
 use Rattle.jpeg_decoder.proofs.ReadLists.{dropped}
-use Rattle.jpeg_decoder.proofs.ScanReads.{HasRead, last-step}
+use Rattle.jpeg_decoder.proofs.ScanReads.{HasRead}
 use Rattle.jpeg_streams.proofs.Soundness.{count-few, decoded-count, decoded-some}
 use Rattle.std.proofs.lemmas.Bool.Decides.{nat_tests}
 use Rattle.jpeg_bits.specs.declared.error.Error.TheVariants.{OutOfMemory}
@@ -146,17 +148,13 @@ pub mcus-are : (frame : Frame) (codings : List LosslessCoding) (indices : List �
 unfolding AreOf mcus_across mcus_down mcus_wide mcus_high
 mcus-are frame codings indices ts h = grind (arith, common_steps, get_or_from_slice_get)
 
-codings-made : (frame : Frame) (cs : List Component) (codings : List LosslessCoding) (indices :
-    List ℕ) (ts : List Table)
-    → AllByRecursion (IsMade frame) cs → AreOf cs codings indices ts
-    → AllByRecursion (λ k. IsMade frame k.component) codings
+codings-made : (frame : Frame) (cs : List Component) (codings : List LosslessCoding)
+    (indices : List ℕ) (ts : List Table) → AllByRecursion (IsMade frame) cs
+    → AreOf cs codings indices ts → AllByRecursion (λ k. IsMade frame k.component) codings
 unfolding AreOf
 codings-made frame cs [] indices ts made h = tt
-codings-made frame cs (k ∷ codings) (p ∷ indices) (t ∷ ts) made h = (
-  all-at (IsMade frame) p cs k.component made h.0.0,
-  codings-made frame cs codings indices ts
-      made h.1,
-)
+codings-made frame cs (k ∷ codings) (p ∷ indices) (t ∷ ts) made h =
+    grind (arith, common_steps, all-at, codings-made frame cs codings indices ts made h.1)
 codings-made frame cs _ _ _ made h = absurd h
 
 -- ---- MCUs by places
@@ -182,13 +180,12 @@ unfolding mcus_wide mcus_high
 not-alone frame indices e = grind (arith, common_steps)
 
 -- a part more
-pub parts_step : (is_alone : Bool) (cs : List Component) (indices : List ℕ) (ts : List Table) (slot
-    p : ℕ) (t : Table)
-    (c : Component) (front new : List Part) → slot < length indices → slot < length ts
-    → p ≡ get_or indices slot p → get_or ts slot t ≡ t → c ≡ get_or cs p no_component
-    → new ≡ front ++ part_by is_alone c t ∷ []
-    → front ++ parts_at is_alone cs (drop slot indices) (drop slot ts)
-    ≡ new ++ parts_at is_alone cs (drop (slot + 1) indices) (drop (slot + 1) ts)
+pub parts_step : (is_alone : Bool) (cs : List Component) (indices : List ℕ) (ts : List Table)
+    (slot p : ℕ) (t : Table) (c : Component) (front new : List Part) → slot < length indices
+    → slot < length ts → p ≡ get_or indices slot p → get_or ts slot t ≡ t → c
+    ≡ get_or cs p no_component → new ≡ front ++ part_by is_alone c t ∷ [] → front
+    ++ parts_at is_alone cs (drop slot indices) (drop slot ts) ≡ new
+    ++ parts_at is_alone cs (drop (slot + 1) indices) (drop (slot + 1) ts)
 unfolding parts_at
 parts_step is_alone cs indices ts slot p t c front new h k e f g n =
     grind (arith, common_steps, dropped, drop_more, append_assoc)
@@ -197,10 +194,9 @@ no-parts : (is_alone : Bool) (cs : List Component) (ts : List Table) → parts_a
 unfolding parts_at
 no-parts is_alone cs ts = grind (arith, common_steps)
 
-pub parts_none : (is_alone : Bool) (cs : List Component) (indices : List ℕ) (ts : List Table) (slot
-    : ℕ)
-    (front : List Part) → length indices ≤ slot
-    → front ++ parts_at is_alone cs (drop slot indices) (drop slot ts) ≡ front
+pub parts_none : (is_alone : Bool) (cs : List Component) (indices : List ℕ) (ts : List Table)
+    (slot : ℕ) (front : List Part) → length indices ≤ slot → front
+    ++ parts_at is_alone cs (drop slot indices) (drop slot ts) ≡ front
 parts_none is_alone cs indices ts slot front h = grind (
   arith,
   common_steps,
@@ -223,10 +219,9 @@ pub record HasMcus (wide high : ℕ) (parts : List Part) : Type 0 where
   pub some_high : 0 < high
   pub covered : AllByRecursion (IsCovered wide high) parts
 
-pub has-mcus : (tables : List (Option Table)) (frame : Frame) (indices ds : List ℕ) (ts : List
-    Table)
-    → AreCodings tables frame indices ds ts → IsDecodedFrame frame → frame.process ≡ Lossless
-    → HasMcus (mcus_wide frame indices) (mcus_high frame indices)
+pub has-mcus : (tables : List (Option Table)) (frame : Frame) (indices ds : List ℕ)
+    (ts : List Table) → AreCodings tables frame indices ds ts → IsDecodedFrame frame → frame.process
+    ≡ Lossless → HasMcus (mcus_wide frame indices) (mcus_high frame indices)
     (parts_at (length indices == 1) frame.components indices ts)
 has-mcus tables frame indices ds ts a decoded lossless =
     let made = codings-made frame frame.components a.codings indices ts (decoded-made frame decoded
@@ -241,9 +236,6 @@ has-mcus tables frame indices ds ts a decoded lossless =
     }
 
 -- ---- steps of a scan
-
-pub begun : (whole : List ℕ → Outcome (Found × Option Marker)) (old : Stream) → Continues whole old whole old
-begun whole old = (refl, λ k. (k, refl))
 
 pub samples-lacking : (found : Found) (frame : Frame) (scan : Scan) (bytes : List ℕ) (f : Fault)
     → lossless_codings found.said.huffman.dc frame scan.components scan.dc_destinations ≡ Err f
@@ -264,47 +256,23 @@ unfolding samples_read
 samples-then found frame scan codings bytes e = then-ok _ _ codings _ e refl
 
 -- The data of a scan are refused.
-pub samples-fail : {X Z : Type 0} (v : X → Found × Option Marker) (view : Z → List (List ℕ) × Option Marker)
-    (found : Found)
-    (frame : Frame) (scan : Scan) (codings : List LosslessCoding) (read : List ℕ
-    → Outcome (List (List ℕ) × Option Marker))
-    (old new : Stream) (e : Error)
-    → lossless_codings found.said.huffman.dc frame scan.components scan.dc_destinations ≡ Ok codings
-    → scan_samples found frame scan codings ≡ read
-    → Answers view read old (Err e) new → Answers v (samples_read found frame scan) old (Err e) new
-samples-fail v view found frame scan codings read old new e c is =
-    Continues-err v view (samples_read found frame scan) (samples_read found frame scan) read old old new e
-    (λ f h. samples-then found frame scan codings old.bytes c
-    ∙ bind_err (after_planes found codings) _ f (ap (λ (g : List ℕ → Outcome (List (List ℕ) × Option Marker)). g
-    old.bytes) is ∙ h))
-    (begun (samples_read found frame scan) old)
+pub samples-fail : (found : Found) (frame : Frame) (scan : Scan) (codings : List LosslessCoding)
+    (o : Outcome (List (List ℕ) × Option Marker)) (old new : Stream) (e : Error)
+    → samples_read found frame scan old.bytes ≡ (o >>= after_planes found codings)
+    → Answers (λ (r : List (List ℕ) × Option Marker). r) (λ bytes. o) old (Err e) new
+    → Answers (λ (m : Option Marker). (found, m)) (samples_read found frame scan) old (Err e) new
+samples-fail found frame scan codings o old new e is refused = grind (arith, common_steps, bind_err)
 
 -- The data are read, and the restart markers after them are passed over.
 pub samples-end : (found next : Found) (frame : Frame) (scan : Scan) (codings : List LosslessCoding)
-    (read : List ℕ → Outcome (List (List ℕ) × Option Marker)) (planes : List (List ℕ)) (met : Option Marker)
+    (o : Outcome (List (List ℕ) × Option Marker)) (planes : List (List ℕ)) (met : Option Marker)
     (old mid new : Stream) (r : Result (Option Marker) Error)
-    → lossless_codings found.said.huffman.dc frame scan.components scan.dc_destinations ≡ Ok codings
-    → scan_samples found frame scan codings ≡ read → next ≡ after_samples found codings planes
-    → HasRead read old (planes, met) mid → Answers (λ (m : Option Marker). m) (after_all met) mid r new
+    → samples_read found frame scan old.bytes ≡ (o >>= after_planes found codings)
+    → next ≡ after_samples found codings planes
+    → HasRead (λ bytes. o) old (planes, met) mid → Answers (λ (m : Option Marker). m) (after_all met) mid r new
     → Answers (λ (m : Option Marker). (next, m)) (samples_read found frame scan) old r new
-samples-end found next frame scan codings read planes met old mid new r c is made has =
-    last-step (λ (m : Option Marker). (next, m)) (λ (m : Option Marker). m) (samples_read found frame scan)
-    (λ bytes. after_planes found codings ((planes, met), bytes)) (after_all met) old mid new r
-    (λ m h. bind_at (λ (m : Option Marker × List ℕ). Ok ((after_samples found codings planes, m.0), m.1)) _ (
-      m,
-      new.bytes,
-    ) h
-    ∙ ap (λ (x : Found). Ok ((x, m), new.bytes)) (sym made))
-    (λ f h. bind_err (λ (m : Option Marker × List ℕ). Ok ((after_samples found codings planes, m.0), m.1)) _ f h) (
-      has.0,
-      λ k.
-          let at = has.1 k in (
-            at.0,
-            samples-then found frame scan codings old.bytes c
-                ∙ bind_at (after_planes found codings) _ ((planes, met), mid.bytes)
-                (ap (λ (g : List ℕ → Outcome (List (List ℕ) × Option Marker)). g old.bytes) is ∙ at.1),
-          ),
-    )
+samples-end found next frame scan codings o planes met old mid new r is made has after =
+    grind (arith, common_steps, bind_at, bind_err)
 
 -- ---- what is found after it
 
@@ -315,11 +283,8 @@ unfolding AreSampled
 set-sampled [] samples index plane e h = tt
 set-sampled (c ∷ cs) [] index plane e h = absurd h
 set-sampled (c ∷ cs) (x ∷ samples) zero plane e h = (e, h.1)
-set-sampled (c ∷ cs) (x ∷ samples) (suc index) plane e h = (
-  h.0,
-  set-sampled cs samples index plane
-      e h.1,
-)
+set-sampled (c ∷ cs) (x ∷ samples) (suc index) plane e h =
+    grind (arith, common_steps, set-sampled cs samples index plane e h.1)
 
 with-sampled : (is_alone : Bool) (cs : List Component) (indices : List ℕ) (ts : List Table) (planes
     : List (List ℕ))
@@ -333,9 +298,8 @@ with-sampled is_alone cs (p ∷ indices) (t ∷ ts) (plane ∷ planes) samples w
 with-sampled is_alone cs _ ts _ samples w h = h
 
 -- The samples of a scan are those of its components.
-pub scan-sampled : (is_alone : Bool) (found : Found) (frame : Frame) (indices : List ℕ) (ts : List
-    Table)
-    (planes : List (List ℕ)) → IsSound found → found.said.frame ≡ Some frame
+pub scan-sampled : (is_alone : Bool) (found : Found) (frame : Frame) (indices : List ℕ)
+    (ts : List Table) (planes : List (List ℕ)) → IsSound found → found.said.frame ≡ Some frame
     → AreWholeSamples (parts_at is_alone frame.components indices ts) planes
     → AreSampled frame.components (with_samples indices planes found.samples)
 scan-sampled is_alone found frame indices ts planes sound e w = grind (
@@ -360,12 +324,11 @@ samples-sound found next frame indices planes sound e lossless whole is = grind 
 -- ---- where samples are put
 
 -- a slot more
-pub put-step : (indices : List ℕ) (i : ℕ) (planes : List (Vec ℕ Global)) (empty plane : Vec ℕ
-    Global)
-    (before : List (Option (Vec ℕ Global))) → i < length indices → length planes ≡ length indices
-    → plane ≡ get_or planes i plane
-    → with_samples (drop (i + 1) indices) (drop (i + 1) (map (λ (v : Vec ℕ Global). v.items) (set
-    planes i empty)))
+pub put-step : (indices : List ℕ) (i : ℕ) (planes : List (Vec ℕ Global))
+    (empty plane : Vec ℕ Global) (before : List (Option (Vec ℕ Global))) → i < length indices
+    → length planes ≡ length indices → plane ≡ get_or planes i plane
+    → with_samples (drop (i + 1) indices)
+    (drop (i + 1) (map (λ (v : Vec ℕ Global). v.items) (set planes i empty)))
     (planes_in (slice_set before (slice_index_or indices i 0) (Some plane)))
     ≡ with_samples (drop i indices) (drop i (map (λ (v : Vec ℕ Global). v.items) planes))
     (planes_in before)
@@ -399,10 +362,9 @@ drop-there (x ∷ samples) (suc index) plane e = search (
 )
 
 -- The planes are those of the components.
-samples-from : (samples : List (Option (List ℕ))) (index : ℕ) (cs : List Component) (planes : List
-    (List ℕ))
-    → AreSampled cs (drop index samples) → gathered (sample_plane samples) (enumerate_from index cs) ≡ Ok planes
-    → ArePlanesOf cs planes
+samples-from : (samples : List (Option (List ℕ))) (index : ℕ) (cs : List Component)
+    (planes : List (List ℕ)) → AreSampled cs (drop index samples) → gathered (sample_plane samples)
+    (enumerate_from index cs) ≡ Ok planes → ArePlanesOf cs planes
 unfolding gathered AreSampled ArePlanesOf
 samples-from samples index [] planes h e = subst (ArePlanesOf []) (ok-same [] planes e) tt
 samples-from samples index (c ∷ cs) planes h e =
@@ -442,6 +404,26 @@ pub coded-by : (found : Found) (frame : Frame) (scan : Scan) (ts : List Table)
     ≡ scan_at (way_by k parts) k.high k.restart_interval k.point_transform
 coded-by found frame scan ts a k parts e is = grind (arith, common_steps, mcus-are, parts-are)
 
+-- The scan, by what is read of its samples.
+pub samples-read : (found : Found) (frame : Frame) (scan : Scan) (ts : List Table)
+    (a : AreCodings found.said.huffman.dc frame scan.components scan.dc_destinations ts) (k : Coding) (parts : List Part)
+    (bytes : List ℕ)
+    → k ≡ record {
+      wide = mcus_wide frame scan.components;
+      high = mcus_high frame scan.components;
+      precision = frame.precision;
+      predictor = scan.predictor;
+      point_transform = scan.point_transform;
+      restart_interval = found.said.restart;
+    }
+    → parts ≡ parts_at (length scan.components == 1) frame.components scan.components ts
+    → samples_read found frame scan bytes
+    ≡ (scan_at (way_by k parts) k.high k.restart_interval k.point_transform bytes >>= after_planes found a.codings)
+samples-read found frame scan ts a k parts bytes e is =
+    samples-then found frame scan a.codings bytes a.are
+    ∙ ap (λ (r : List ℕ → Outcome (List (List ℕ) × Option Marker)). r bytes >>= after_planes found a.codings)
+    (coded-by found frame scan ts a k parts e is)
+
 -- What is found after samples are put.
 pub put-made : (base : Found) (old new : Decoded) (samples : List (Option (List ℕ))) → new.kept ≡
     old.kept
@@ -451,24 +433,18 @@ pub put-made : (base : Found) (old new : Decoded) (samples : List (Option (List 
 put-made base old new samples h f p s = grind (arith, common_steps)
 
 -- as many tables as places
-pub codings-count : (tables : List (Option Table)) (frame : Frame) (indices ds : List ℕ) (ts : List
-    Table)
-    → AreCodings tables frame indices ds ts → length ts ≡ length indices
+pub codings-count : (tables : List (Option Table)) (frame : Frame) (indices ds : List ℕ)
+    (ts : List Table) → AreCodings tables frame indices ds ts → length ts ≡ length indices
 codings-count tables frame indices ds ts a = grind (arith, common_steps, length-map)
 
 pub all-below : (n m : ℕ) (indices : List ℕ) → n ≤ m → AllByRecursion (λ index. index < n) indices
     → AllByRecursion (λ index. index < m) indices
 all-below n m [] most h = tt
-all-below n m (p ∷ indices) most h = let first = h.0 in (
-  omega (arith, first, most),
-  all-below n m
-      indices most h.1,
-)
+all-below n m (p ∷ indices) most h = grind (arith, common_steps, all-below n m indices most h.1)
 
 -- Places of a frame's components are below 4.
 pub four-indices : (frame : Frame) (indices : List ℕ) → IsDecodedFrame frame
-    → All (λ index. index < length frame.components) indices
-    → All (λ index. index < 4) indices
+    → All (λ index. index < length frame.components) indices → All (λ index. index < 4) indices
 four-indices frame indices decoded h =
     All-from_recursion (λ index. index < 4) indices
     (all-below (length frame.components) 4 indices (count-few (length frame.components)

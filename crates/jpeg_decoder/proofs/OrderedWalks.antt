@@ -1,6 +1,7 @@
 -- The blocks of a scan in order are those that are walked.
-use Rattle.std.proofs.Common.{◌≡◌, ℕ, zero, suc, ◌+◌, ◌-◌, ◌*◌, ◌<◌, ◌≤◌, List, [], ◌∷◌, ◌++◌, map, drop, length, refl, sym, ap}
-use Rattle.std.proofs.Common.{ap₂, ◌∙◌, arith, add-mul, mul_assoc, append-nil, append_assoc, get_or}
+use Rattle.std.proofs.Common.{◌≡◌, ℕ, zero, suc, ◌+◌, ◌-◌, ◌*◌, ◌<◌, ◌≤◌, List, [], ◌∷◌, ◌++◌, map}
+use Rattle.std.proofs.Common.{drop, length, refl, sym, ap, ap₂, ◌∙◌, arith, add-mul, mul_assoc}
+use Rattle.std.proofs.Common.{append-nil, append_assoc, get_or}
 use Rattle.std.specs.List.{range_with_len, flat_map}
 use Rattle.std.proofs.lemmas.List.{drop_all}
 use Rattle.jpeg_decoder.proofs.ReadLists.{dropped}
@@ -11,8 +12,8 @@ use Rattle.jpeg_segments.specs.FrameView.{component_in}
 use Rattle.jpeg_decoder.specs.declared.scan.Coded.{Coded}
 use Rattle.jpeg_decoder.specs.declared.spots.Member.{Member}
 use Rattle.jpeg_decoder.specs.Scanning.{components_in}
-use Rattle.jpeg_decoder.specs.Walk.{spot_at, mcu_at, spots_at, raster, positions_of, member_of, line_members, part_members}
-use Rattle.jpeg_decoder.specs.Walk.{members_from, own_member}
+use Rattle.jpeg_decoder.specs.Walk.{spot_at, mcu_at, spots_at, raster, positions_of, member_of}
+use Rattle.jpeg_decoder.specs.Walk.{line_members, part_members, members_from, own_member}
 use Rattle.std.proofs.lemmas.Grind.{common_steps}
 
 line-is : (row column slot : ℕ) (c : Component) (v : ℕ) (hs : List ℕ)

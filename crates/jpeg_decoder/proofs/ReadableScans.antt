@@ -1,7 +1,7 @@
 -- Scans that are ready to be read, by what was found before them.
 use Rattle.std.proofs.lemmas.Grind.{common_steps}
-use Rattle.std.proofs.Common.{◌≡◌, ◌≤◌, ◌<◌, ◌+◌, ℕ, true, List, []}
-use Rattle.std.proofs.Common.{◌∷◌, length, map, Ok, refl, sym, subst, arith}
+use Rattle.std.proofs.Common.{◌≡◌, ◌≤◌, ◌<◌, ◌+◌, ℕ, true, List, [], ◌∷◌, length, map, Ok, sym}
+use Rattle.std.proofs.Common.{subst, arith}
 use Rattle.std.specs.List.{AllByRecursion}
 use Rattle.std.proofs.lemmas.List.Elements.{All-from_recursion, recursion_from_All}
 use Rattle.jpeg_bits.specs.BlockView.{IsPass}
@@ -13,16 +13,14 @@ use Rattle.jpeg_segments.specs.Scales.{component_at, frame_at, is_scale}
 use Rattle.jpeg_segments.specs.ScanHeader as headers
 use Rattle.jpeg_segments.specs.ScanHeader.{IsBandOf, IsRising, IsScanOf}
 use Rattle.jpeg_decoder.specs.declared.scan.Coded.{Coded}
-use Rattle.jpeg_decoder.specs.declared.decoded.Decoded.{Decoded}
 use Rattle.jpeg_decoder.specs.declared.scan.Scan.{Scan}
 use Rattle.jpeg_streams.specs.InTurn.{Fits}
 use Rattle.jpeg_decoder.specs.Scanning.{components_in}
 use Rattle.jpeg_streams.specs.Sound.{IsDecodedFrame}
-use Rattle.jpeg_streams.specs.ScanSegments.{codings_of, component_coding, Coding, tables_of, pass_of}
+use Rattle.jpeg_streams.specs.ScanSegments.{codings_of, Coding, pass_of}
 use Rattle.jpeg_streams.specs.Found.{Found}
 use Rattle.jpeg_decoder.specs.Steps.{AreRising, HasIndex, HasScale, IsCodingOf, IsDct, IsReadable}
 use Rattle.jpeg_decoder.specs.Steps.{coding_in}
-use Rattle.jpeg_decoder.specs.Steps.{with_decoded}
 use Rattle.jpeg_streams.proofs.LosslessSizes.{all-at}
 use Rattle.jpeg_streams.proofs.ReadTurns.{codings-each, codings-indices}
 use Rattle.jpeg_segments.proofs.ScaleLemmas.{sized_frames_have_factors}
@@ -64,27 +62,20 @@ each-at : (Q : Component → Type 0) (frame : Frame) (cs : List Coded)
     → AllByRecursion Q frame.components → AllByRecursion (IsCodingOf frame) (map coding_in cs)
     → AllByRecursion (λ c. Q (component_in c.component.now)) cs
 each-at Q frame [] h are = tt
-each-at Q frame (c ∷ cs) h are =
-    (all-at Q c.index frame.components (component_in c.component.now) h are.0, each-at Q frame cs h are.1)
+each-at Q frame (c ∷ cs) h are = grind (arith, common_steps, all-at, each-at Q frame cs h are.1)
 
 fits-at : (frame : Frame) (cs : List Coded) → AllByRecursion (λ c. Fits frame (component_in c.component.now)) cs
     → AllByRecursion (Fits frame) (components_in cs)
 fits-at frame [] h = tt
 fits-at frame (c ∷ cs) h = (h.0, fits-at frame cs h.1)
 
-indices-at : (n : ℕ) (cs : List Coded) → n ≤ 4
-    → AllByRecursion (λ index. index < n) (map (λ (c : Coding). c.index) (map coding_in cs))
-    → AllByRecursion HasIndex cs
+indices-at : (n : ℕ) (cs : List Coded) → n ≤ 4 → AllByRecursion (λ index. index < n)
+    (map (λ (c : Coding). c.index) (map coding_in cs)) → AllByRecursion HasIndex cs
 indices-at n [] most h = tt
-indices-at n (c ∷ cs) most h = let first = h.0 in (
-  omega (arith, first, most),
-  indices-at n cs most
-      h.1,
-)
+indices-at n (c ∷ cs) most h = grind (arith, common_steps, indices-at n cs most h.1)
 
-rising-at : (codings : List Coding) (least : ℕ) → IsRising least (map (λ (c : Coding). c.index)
-    codings)
-    → AreRising codings
+rising-at : (codings : List Coding) (least : ℕ)
+    → IsRising least (map (λ (c : Coding). c.index) codings) → AreRising codings
 unfolding IsRising
 rising-at (c ∷ d ∷ more) least h = grind (
   arith,
@@ -97,11 +88,10 @@ rising-at _ least h = tt
 -- ---- a scan
 
 -- A scan with the tables in force for its header is ready to be read.
-pub ready : (found : Found) (frame : Frame) (header : headers.Scan) (scan : Scan) → IsDecodedFrame frame
-    → IsScanOf frame header → scan.restart_interval ≡ found.said.restart
+pub ready : (found : Found) (frame : Frame) (header : headers.Scan) (scan : Scan)
+    → IsDecodedFrame frame → IsScanOf frame header → scan.restart_interval ≡ found.said.restart
     → codings_of found.said frame header ≡ Ok (map coding_in scan.components.items)
-    → length scan.components.items ≡ length header.components
-    → IsReadable frame found scan
+    → length scan.components.items ≡ length header.components → IsReadable frame found scan
 ready found frame header scan decoded legal restart codings count =
     let cs = scan.components.items in
     let indices = codings-indices found.said frame header (map coding_in cs) legal.dc_length legal.ac_length codings in

@@ -1,17 +1,15 @@
 -- The blocks of a row of MCUs, as they are cleared and as their samples are appended.
+use Rattle.std.proofs.Common.{rules, ◌≡◌, ℕ, zero, suc, ◌+◌, ◌*◌, ◌<◌, ◌≤◌, List, [], ◌∷◌, ◌++◌}
+use Rattle.std.proofs.Common.{map, length, get_or, set, replicate, pos, refl, sym, ap, ◌∙◌, arith}
+use Rattle.std.proofs.Common.{take, append_assoc, append-nil}
 use Rattle.std.proofs.lemmas.Grind.{common_steps}
-use Rattle.std.proofs.Common.{◌≡◌, ℕ, zero, suc, ◌+◌, ◌*◌, ◌<◌, ◌≤◌, List, [], ◌∷◌, ◌++◌, map, length, get_or}
-use Rattle.std.proofs.Common.{set, replicate, ℤ, pos, refl, sym, ap, ◌∙◌, arith, take, append_assoc}
-use Rattle.std.proofs.Common.{append-nil}
-use Rattle.std.proofs.lemmas.List.{length-map, map-set, length-replicate, get_or-map}
-use Rattle.std.proofs.lemmas.List.{take_all, take_more}
+use Rattle.std.proofs.lemmas.List.{length-map, map-set, length-replicate, get_or-map, take_all}
+use Rattle.std.proofs.lemmas.List.{take_more}
 use Rattle.std.proofs.lemmas.List.Folds.{concat-append}
 use Rattle.std.specs.List.{concat}
 use Rattle.std.specs.declared.alloc.Global.{Global}
 use Rattle.std.specs.declared.vec.Vec.{Vec}
 use Rattle.jpeg_bits.specs.BlockView.{to_block}
-use Rattle.jpeg_bits.specs.Passes.{Block, zero_block}
-use Rattle.jpeg_streams.specs.Scans.{Arrays}
 use Rattle.jpeg_streams.specs.ScanSegments.{Coding}
 use Rattle.jpeg_decoder.specs.Steps.{coding_in}
 use Rattle.jpeg_decoder.specs.Scanning.{arrays_in, blocks_in, sizes_of, down_in, wide_in}
@@ -20,7 +18,8 @@ use Rattle.jpeg_decoder.specs.Strips.{with_strips}
 use Rattle.jpeg_decoder.specs.declared.scan.Coded.{Coded}
 use Rattle.jpeg_decoder.proofs.BlocksBefore.{zero-blocks}
 use Rattle.jpeg_decoder.proofs.KeptBlocks.{Held, sizes-long, size-at}
-use Rattle.jpeg_streams.proofs.InPlace.{patched, patched-next, patched-at, patched-all, patched-length}
+use Rattle.jpeg_streams.proofs.InPlace.{patched, patched-next, patched-at, patched-all}
+use Rattle.jpeg_streams.proofs.InPlace.{patched-length}
 use Rattle.jpeg_decoder.proofs.StripRows.{strip-of, strips-at, strips-length, strips-none}
 use Rattle.jpeg_decoder.proofs.StripRows.{strips_of-length}
 
@@ -41,23 +40,12 @@ pub cleared-next : (old items : List Held) (i : ℕ) (v w : Held) → i < length
     → (sizes_of (set items i w) ≡ sizes_of old) × (arrays_in (set items i w)
     ≡ patched (i + 1) (zeros_of (sizes_of old)) (arrays_in old))
 cleared-next old items i v w h sizes arrays is new =
-    let long : length items ≡ length old = sym (sizes-long items) ∙ ap (λ (l : List ℕ). length l) sizes
-    ∙ sizes-long old in
-    let same : length (zeros_of (sizes_of old))
-    ≡ length (arrays_in old) = length-map (sizes_of old) (λ n. replicate n zero_block) ∙ sizes-long old
-    ∙ sym (length-map old blocks_in) in
-    let size : get_or (sizes_of old) i 0 ≡ length v.items = ap (λ (l : List ℕ). get_or l i 0) (sym sizes)
-    ∙ size-at items i v (omega (arith, sizes-long items)) is in (
-      sizes-put items i v w (ap (λ (l : List (List ℤ)). length l) new
-          ∙ length-replicate (length v.items) (replicate 64 (pos 0))) is ∙ sizes,
-      map-set blocks_in items i w
-          ∙ ap (λ (l : Arrays). set l i (blocks_in w)) arrays
-          ∙ patched-next (zeros_of (sizes_of old)) (arrays_in old) i (blocks_in w) [] same (omega
-          (arith, length-map old blocks_in))
-          (ap (λ (l : List (List ℤ)). map to_block l) new ∙ zero-blocks (length v.items)
-          ∙ sym (get_or-map (λ (n : ℕ). replicate n zero_block) (sizes_of old) i 0 [] (omega (arith, sizes-long old))
-          ∙ ap (λ (n : ℕ). replicate n zero_block) size)),
-    )
+    let size = size-at items i v (omega (arith, sizes-long items)) is in
+    let put = sizes-put items i v w (grind (arith, common_steps, length-replicate)) is in
+    let next = patched-next (zeros_of (sizes_of old)) (arrays_in old) i (blocks_in w) []
+    (grind (arith, common_steps, length-map, sizes-long)) (grind (arith, common_steps, length-map, sizes-long))
+    (grind (arith, common_steps, zero-blocks, get_or-map, sizes-long)) in
+    (put ∙ sizes, grind (arith, common_steps, map-set))
 
 -- ---- samples that are appended
 
@@ -73,8 +61,7 @@ module _ (cs : List Coded) (old : List Held) (sizes : sizes_of old ≡ row_sizes
   strips = strips_of codings (arrays_in old)
 
   old-long : length old ≡ length cs
-  old-long = sym (sizes-long old) ∙ ap (λ (l : List ℕ). length l) sizes
-      ∙ length-map cs (λ (c : Coded). down_in c * wide_in c)
+  old-long = grind (arith, common_steps, sizes-long, length-map)
 
   arrays-long : length (arrays_in old) ≡ length codings
   arrays-long = length-map old blocks_in ∙ old-long ∙ sym (length-map cs coding_in)
@@ -86,23 +73,16 @@ module _ (cs : List Coded) (old : List Held) (sizes : sizes_of old ≡ row_sizes
   pub row-size : (slot : ℕ) (c : Coded) (v : Held) → slot < length cs → c ≡ get_or cs slot c
       → v ≡ get_or old slot v → length v.items ≡ down_in c * wide_in c
   row-size slot c v h is kept =
-      sym (size-at old slot v (omega (arith, sizes-long old, old-long)) kept)
-      ∙ ap (λ (l : List ℕ). get_or l slot 0) sizes
-      ∙ get_or-map (λ (x : Coded). down_in x * wide_in x) cs slot c 0 h
-      ∙ sym (ap (λ (x : Coded). down_in x * wide_in x) is)
+      grind (arith, common_steps, size-at, sizes-long, old-long, get_or-map)
 
   -- and these are its samples
   strip-here : (slot : ℕ) (c : Coded) (v : Held) → slot < length cs → c ≡ get_or cs slot c
       → v ≡ get_or old slot v
       → get_or strips slot [] ≡ samples_of (down_in c) (coding_in c) (map to_block v.items)
   strip-here slot c v h is kept =
-      let blocks : get_or (arrays_in old) slot [] ≡ map to_block v.items =
-      get_or-map blocks_in old slot v [] (omega (arith, old-long)) ∙ sym (ap blocks_in kept) in
-      let coded : coding_in c ≡ get_or codings slot (coding_in c) = ap coding_in is
-      ∙ sym (get_or-map coding_in cs slot c (coding_in c) h) in
-      strip-of codings (arrays_in old) slot (coding_in c) arrays-long
-      (omega (arith, length-map cs coding_in)) coded
-      ∙ ap (λ (l : List Block). samples_of (down_in c) (coding_in c) l) blocks
+      let strip = strip-of codings (arrays_in old) slot (coding_in c) arrays-long
+      (omega (arith, length-map cs coding_in)) in
+      grind (arith, common_steps, get_or-map, old-long)
 
   -- the strips so far, in one room
   pub room-next : (slot : ℕ) (c : Coded) (v : Held) (start samples new : List ℕ) → slot < length cs
@@ -116,9 +96,7 @@ module _ (cs : List Coded) (old : List Held) (sizes : sizes_of old ≡ row_sizes
 
   pub room-all : (slot : ℕ) (start samples : List ℕ) → length cs ≤ slot
       → samples ≡ start ++ concat (take slot strips) → samples ≡ start ++ concat strips
-  room-all slot start samples h inv =
-      inv ∙ ap (λ (l : List (List ℕ)). start ++ concat l)
-      (take_all slot strips (omega (arith, strips-long)))
+  room-all slot start samples h inv = grind (arith, common_steps, take_all, strips-long)
 
 module _ (cs : List Coded) (old : List Held) (start : List Plane) (sizes : sizes_of old
     ≡ row_sizes cs) (long : length start ≡ length cs) where
@@ -129,44 +107,27 @@ module _ (cs : List Coded) (old : List Held) (start : List Plane) (sizes : sizes
   start-long = length-map start (λ (v : Plane). v.items) ∙ long ∙ sym (length-map cs coding_in)
 
   all-long : length all ≡ length (plane_lists start)
-  all-long = strips-length (map coding_in cs) (arrays_in old) (plane_lists start)
-      (arrays-long cs old sizes) start-long ∙ sym start-long
+  all-long = grind (arith, common_steps, strips-length, arrays-long, start-long)
 
-  pub planes-long : (planes : List Plane) (slot : ℕ) → plane_lists planes ≡ patched slot all
-      (plane_lists start)
-      → length planes ≡ length cs
-  planes-long planes slot e =
-      sym (length-map planes (λ (v : Plane). v.items)) ∙ ap (λ (l : List (List ℕ)). length l) e
-      ∙ patched-length all (plane_lists start) slot all-long
-      ∙ length-map start (λ (v : Plane). v.items) ∙ long
+  pub planes-long : (planes : List Plane) (slot : ℕ) → plane_lists planes
+      ≡ patched slot all (plane_lists start) → length planes ≡ length cs
+  planes-long planes slot e = grind (arith, common_steps, length-map, patched-length, all-long)
 
   pub planes-next : (planes : List Plane) (slot : ℕ) (c : Coded) (v : Held) (p q : Plane)
-      → slot < length cs → c ≡ get_or cs slot c → v ≡ get_or old slot v
-      → plane_lists planes ≡ patched slot all (plane_lists start) → p ≡ get_or planes slot p →
-      q.items
-      ≡ p.items ++ samples_of (down_in c) (coding_in c) (map to_block v.items)
+      → slot < length cs → c ≡ get_or cs slot c → v ≡ get_or old slot v → plane_lists planes
+      ≡ patched slot all (plane_lists start) → p ≡ get_or planes slot p → q.items ≡ p.items
+      ++ samples_of (down_in c) (coding_in c) (map to_block v.items)
       → plane_lists (set planes slot q) ≡ patched (slot + 1) all (plane_lists start)
   planes-next planes slot c v p q h is kept inv at new =
-      let view : Plane → List ℕ = λ x. x.items in
-      let pl = planes-long planes slot inv in
-      let before : p.items ≡ get_or (plane_lists start) slot [] =
-      ap view at ∙ sym (get_or-map view planes slot p [] (omega (arith, pl)))
-      ∙ ap (λ (l : List (List ℕ)). get_or l slot []) inv
-      ∙ patched-at all (plane_lists start) slot [] all-long in
-      map-set view planes slot q
-      ∙ ap (λ (l : List (List ℕ)). set l slot q.items) inv
-      ∙ patched-next all (plane_lists start) slot q.items [] all-long (omega (
-        arith,
-        start-long,
-        length-map cs coding_in,
-      ))
-      (new ∙ ap (λ (l : List ℕ). l ++ samples_of (down_in c) (coding_in c) (map to_block v.items)) before
-      ∙ sym (strips-at (map coding_in cs) (arrays_in old) (plane_lists start) slot
-      (arrays-long cs old sizes) start-long (omega (arith, length-map cs coding_in))
-      ∙ ap (λ (l : List ℕ). get_or (plane_lists start) slot [] ++ l)
-      (strip-here cs old sizes slot c v h is kept)))
+      let inside : slot < length (map coding_in cs) = omega (arith, length-map cs coding_in) in
+      let next = patched-next all (plane_lists start) slot q.items [] all-long (omega (arith, start-long)) in
+      let strip = strips-at (map coding_in cs) (arrays_in old) (plane_lists start) slot (arrays-long cs old sizes)
+      start-long inside in
+      let here = strip-here cs old sizes slot c v h is kept in
+      let before = patched-at all (plane_lists start) slot [] all-long in
+      let count = planes-long planes slot inv in
+      grind (arith, common_steps, map-set, get_or-map)
 
   pub planes-all : (planes : List Plane) (slot : ℕ) → length cs ≤ slot → plane_lists planes
       ≡ patched slot all (plane_lists start) → plane_lists planes ≡ all
-  planes-all planes slot h e = e ∙ patched-all all (plane_lists start) slot all-long (omega
-      (arith, start-long, length-map cs coding_in))
+  planes-all planes slot h e = search (rules, arith, patched-all, all-long, start-long, length-map)

@@ -9,7 +9,8 @@ use Rattle.jpeg_segments.specs.Frame.{Frame}
 use Rattle.jpeg_segments.specs.Checks.{gathered}
 use Rattle.jpeg_segments.specs.ScanHeader.{Scan}
 use Rattle.jpeg_decoder.specs.declared.scan.Coded.{Coded}
-use Rattle.jpeg_streams.specs.ScanSegments.{codings_of, component_coding, Coding, tables_of, pass_of}
+use Rattle.jpeg_streams.specs.ScanSegments.{codings_of, component_coding, Coding, tables_of}
+use Rattle.jpeg_streams.specs.ScanSegments.{pass_of}
 use Rattle.jpeg_streams.specs.Found.{Said}
 use Rattle.jpeg_decoder.specs.Steps.{coding_in, coding_in_slot}
 use Rattle.std.proofs.lemmas.Grind.{common_steps}
@@ -48,28 +49,25 @@ one-more said frame scan slot h d a =
     rw (drop_more {X = ℕ × (ℕ × ℕ)} (named scan) slot (0, (0, 0)) all, at) refl
 
 -- a slot more
-pub codings-more : (said : Said) (frame : Frame) (scan : Scan) (slot : ℕ) (xs : List Coded) (c : Coded)
-    → slot < length scan.components → length scan.dc_destinations ≡ length scan.components
-    → length scan.ac_destinations ≡ length scan.components
+pub codings-more : (said : Said) (frame : Frame) (scan : Scan) (slot : ℕ) (xs : List Coded)
+    (c : Coded) → slot < length scan.components → length scan.dc_destinations
+    ≡ length scan.components → length scan.ac_destinations ≡ length scan.components
     → codings_of said frame scan ≡ front (map coding_in xs) (codings_left said frame scan slot)
-    → coding_in_slot said frame scan slot ≡ Ok (coding_in c)
-    → codings_of said frame scan
+    → coding_in_slot said frame scan slot ≡ Ok (coding_in c) → codings_of said frame scan
     ≡ front (map coding_in (xs ++ c ∷ [])) (codings_left said frame scan (slot + 1))
 codings-more said frame scan slot xs c h d a w e = grind (arith, common_steps, one-more, append_assoc, map-append)
 
 -- a slot that is refused
-pub codings-fail : (said : Said) (frame : Frame) (scan : Scan) (slot : ℕ) (xs : List Coded) (f : Fault)
-    → slot < length scan.components → length scan.dc_destinations ≡ length scan.components
-    → length scan.ac_destinations ≡ length scan.components
+pub codings-fail : (said : Said) (frame : Frame) (scan : Scan) (slot : ℕ) (xs : List Coded)
+    (f : Fault) → slot < length scan.components → length scan.dc_destinations
+    ≡ length scan.components → length scan.ac_destinations ≡ length scan.components
     → codings_of said frame scan ≡ front (map coding_in xs) (codings_left said frame scan slot)
-    → coding_in_slot said frame scan slot ≡ Err f
-    → codings_of said frame scan ≡ Err f
+    → coding_in_slot said frame scan slot ≡ Err f → codings_of said frame scan ≡ Err f
 codings-fail said frame scan slot xs f h d a w e = grind (arith, common_steps, one-more)
 
 -- all slots
 pub codings-all : (said : Said) (frame : Frame) (scan : Scan) (slot : ℕ) (xs : List Coded)
-    → length scan.components ≤ slot
-    → codings_of said frame scan ≡ front (map coding_in xs) (codings_left said frame scan slot)
-    → codings_of said frame scan ≡ Ok (map coding_in xs)
+    → length scan.components ≤ slot → codings_of said frame scan ≡ front (map coding_in xs)
+    (codings_left said frame scan slot) → codings_of said frame scan ≡ Ok (map coding_in xs)
 unfolding gathered
 codings-all said frame scan slot xs h w = grind (arith, common_steps, length-zip, drop_all, append-nil)

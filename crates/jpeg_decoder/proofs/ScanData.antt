@@ -1,6 +1,7 @@
 -- The data of a scan, of what is read of its blocks, and the planes that it decides.
-use Rattle.std.proofs.Common.{◌≡◌, ◌<◌, ℕ, zero, suc, ◌+◌, ◌*◌, true, false, Option, None, Result, Ok, Err}
-use Rattle.std.proofs.Common.{List, [], ◌∷◌, refl, sym, ap, subst, ◌∙◌, length, get_or, set, map, drop, arith}
+use Rattle.std.proofs.Common.{◌≡◌, ◌<◌, ℕ, zero, suc, ◌+◌, ◌*◌, true, false, Option, None, Result}
+use Rattle.std.proofs.Common.{Ok, Err, List, [], ◌∷◌, refl, sym, ap, subst, ◌∙◌, length, get_or}
+use Rattle.std.proofs.Common.{set, map, drop, arith, rules}
 use Rattle.std.proofs.Math.Logic.{inl, inr}
 use Rattle.std.specs.Prelude.{All, OnOk}
 use Rattle.std.specs.List.{AllByRecursion}
@@ -10,34 +11,30 @@ use Rattle.jpeg_bits.specs.Reading.{Outcome, Fault, Answers, ◌>>=◌}
 use Rattle.jpeg_bits.specs.declared.error.Error.{Error}
 use Rattle.jpeg_bits.proofs.Loops.{Names-through}
 use Rattle.jpeg_bits.specs.declared.marker.Marker.{Marker}
-use Rattle.jpeg_bits.specs.Passes.{Pass, Via, Block}
-use Rattle.jpeg_bits.specs.BlockView.{to_block}
+use Rattle.jpeg_bits.specs.Passes.{Pass, Via}
 use Rattle.jpeg_segments.specs.Frame.{Frame, Component}
 use Rattle.jpeg_decoder.specs.declared.scan.Coded.{Coded}
 use Rattle.jpeg_decoder.specs.declared.decoded.Decoded.{Decoded}
 use Rattle.jpeg_streams.specs.InTurn.{AreApart, AreArrays, IsIn}
 use Rattle.jpeg_streams.specs.Order.{spots_of, mcu_size}
 use Rattle.jpeg_streams.specs.Scans.{Arrays, zero_arrays, arrays_at}
-use Rattle.jpeg_decoder.specs.Scanning.{vias_in, arrays_in, blocks_in, sizes_of, components_in}
+use Rattle.jpeg_decoder.specs.Scanning.{vias_in, arrays_in, sizes_of, components_in}
 use Rattle.jpeg_decoder.specs.PlanesView.{planes_in}
 use Rattle.jpeg_streams.specs.Sound.{IsPlaneOf, ArePlanes}
-use Rattle.jpeg_decoder.specs.Steps.{blocks_at, coding_in, decided_planes, scan_data}
+use Rattle.jpeg_decoder.specs.Steps.{blocks_at, coding_in, decided_planes, scan_data, with_decoded}
+use Rattle.jpeg_decoder.specs.Steps.{with_its_plane, with_planes, IsCodingOf, AreRising}
 use Rattle.jpeg_streams.specs.Rasters.{plane_by}
-use Rattle.jpeg_streams.specs.ScanSegments.{components_of, blocks_after, arrays_before, once_scanned}
-use Rattle.jpeg_streams.specs.ScanSegments.{Coding}
-use Rattle.jpeg_streams.specs.ScanSegments.{is_progressive, put_arrays, with_arrays, with_blocks, vias_from}
-use Rattle.jpeg_decoder.specs.Steps.{with_decoded, with_its_plane, with_planes, IsCodingOf, AreRising}
+use Rattle.jpeg_streams.specs.ScanSegments.{components_of, blocks_after, arrays_before}
+use Rattle.jpeg_streams.specs.ScanSegments.{once_scanned, Coding, is_progressive, put_arrays}
+use Rattle.jpeg_streams.specs.ScanSegments.{with_arrays, with_blocks, vias_from}
 use Rattle.jpeg_streams.specs.Found.{Found}
 use Rattle.jpeg_decoder.specs.Strips.{planes_by, planes_at}
-use Rattle.jpeg_streams.proofs.ReadTurns.{ok-same}
-use Rattle.jpeg_streams.proofs.Apart.{At, zeros-sized}
+use Rattle.jpeg_streams.proofs.Apart.{At, zeros-sized, get-at}
 use Rattle.jpeg_decoder.proofs.BlocksBefore.{plane_by-length}
 use Rattle.jpeg_decoder.proofs.PlacedCodings.{coded-components}
 use Rattle.jpeg_decoder.proofs.PutLoops.{Held, blocks-are}
-use Rattle.jpeg_streams.proofs.Apart.{get-at}
 use Rattle.jpeg_streams.proofs.ScanArrays.{IsOf, zeros-of}
 use Rattle.std.proofs.lemmas.Grind.{common_steps}
-use Rattle.std.proofs.Common.{rules}
 
 -- ---- the scan's components
 
@@ -58,9 +55,7 @@ arrays-by-sizes [] old new h e = tt
 arrays-by-sizes (c ∷ cs) [] new h e = absurd h
 arrays-by-sizes (c ∷ cs) (o ∷ old) [] h e = grind (arith, common_steps)
 arrays-by-sizes (c ∷ cs) (o ∷ old) (n ∷ new) h e =
-    let a : length n.items ≡ length o.items = ap (λ (l : List ℕ). get_or l 0 0) e in
-    let b : sizes_of new ≡ sizes_of old = ap (λ (l : List ℕ). drop 1 l) e in
-    (length-map n.items to_block ∙ a ∙ sym (length-map o.items to_block) ∙ h.0, arrays-by-sizes cs old new h.1 b)
+    grind (arith, common_steps, length-map, arrays-by-sizes cs old new h.1)
 
 -- ---- what scans give
 
@@ -76,9 +71,12 @@ pub arrays-by-planes : (p : Pass) (codings : List Coding) (arrays : Arrays) (fou
     → with_arrays p codings arrays found ≡ with_planes p codings (planes_by codings arrays) found
 unfolding with_arrays with_planes planes_by
 arrays-by-planes p (c ∷ codings) (blocks ∷ arrays) found =
-    ap (with_arrays p codings arrays) (blocks-are p c blocks found)
-    ∙ arrays-by-planes p codings arrays (with_its_plane p c.index (plane_by c.component
-    c.quantization blocks) found)
+    grind (
+      arith,
+      common_steps,
+      blocks-are,
+      arrays-by-planes p codings arrays (with_its_plane p c.index (plane_by c.component c.quantization blocks) found),
+    )
 arrays-by-planes p _ _ found = refl
 
 -- the blocks at their places, of those of the frame
@@ -105,19 +103,17 @@ data-is : (f : Found) (frame : Frame) (p : Pass) (codings : List Coding) (bytes 
 unfolding scan_data
 data-is f frame p codings bytes = refl
 
-kept-progressive : (f : Found) (frame : Frame) (codings : List Coding) (arrays : Arrays)
-    → is_progressive frame.process ≡ true
-    → blocks_after f frame codings arrays ≡ put_arrays codings arrays (arrays_before f frame)
-kept-progressive f frame codings arrays e = rw e refl
-
-kept-sequential : (f : Found) (frame : Frame) (codings : List Coding) (arrays : Arrays)
-    → is_progressive frame.process ≡ false → blocks_after f frame codings arrays ≡ []
-kept-sequential f frame codings arrays e = rw e refl
-
 pub before-sequential : (f : Found) (frame : Frame) → is_progressive frame.process ≡ false
     → arrays_before f frame ≡ zero_arrays frame.components
 unfolding arrays_before
 before-sequential f frame e = rw e refl
+
+-- what was found, with other blocks
+same-found : (f : Found) (one : Decoded) (kept : Arrays)
+    → one.finished ≡ f.finished → one.planes ≡ f.planes → planes_in one.samples ≡ f.samples
+    → ◌≡◌ {A = Found} (record (with_decoded (once_scanned f) one) { kept = kept })
+    (record (once_scanned f) { kept = kept })
+same-found f one kept fin pl sa = grind (arith, common_steps)
 
 -- A scan of a progressive frame: of what is read and added, and of the blocks that are put back.
 pub data-kept : (f : Found) (frame : Frame) (p : Pass) (codings : List Coding) (arrays : Arrays)
@@ -142,37 +138,10 @@ pub data-kept : (f : Found) (frame : Frame) (p : Pass) (codings : List Coding) (
       rest,
     )
 data-kept f frame p codings arrays met bytes rest one two kept e r added fin pl sa h =
-    data-is f frame p codings bytes
-    ∙ ap (λ (o : Outcome (Arrays × Option Marker)). o >>= after_read f frame p codings) r
-    ∙ ap (λ (x : Found). answer x) same
-  where
-    base : Found
-    base = once_scanned f
-
-    answer : Found → Outcome (Found × Option Marker)
-    answer x = Ok ((x, met), rest)
-
-    same : with_arrays p codings arrays (record (once_scanned f) {
-      kept = blocks_after f frame
-          codings arrays;
-    })
-        ≡ record (once_scanned f) {
-          kept = kept;
-          finished = two.finished;
-          planes = two.planes;
-          samples = planes_in two.samples;
-        }
-    same =
-        ap (λ (x : Arrays). with_arrays p codings arrays (record (once_scanned f) { kept = x }))
-        (kept-progressive f frame codings arrays e ∙ sym h)
-        ∙ (λ i. with_arrays p codings arrays (record (once_scanned f) {
-          kept = kept;
-          finished = sym fin i;
-          planes = sym pl i;
-          samples = sym sa i;
-        }))
-        ∙ sym (kept-kept p codings arrays (with_decoded base one) kept)
-        ∙ sym (ap (λ (x : Found). record x { kept = kept }) (added base))
+    let same = same-found f one kept fin pl sa in
+    let after = added (once_scanned f) in
+    let away = kept-kept p codings arrays (with_decoded (once_scanned f) one) kept in
+    grind (arith, common_steps, data-is)
 
 pub data-kept-refused : (f : Found) (frame : Frame) (p : Pass) (codings : List Coding) (bytes :
     List ℕ) (fault : Fault)
@@ -207,41 +176,9 @@ pub data-planes : (f : Found) (frame : Frame) (p : Pass) (codings : List Coding)
     → arrays_in one.kept.items ≡ []
     → scan_data f frame p codings bytes ≡ Ok ((once_scanned (with_decoded f two), met), rest)
 data-planes f frame p codings planes met bytes rest one two e of r added fin pl sa none =
-    data-is f frame p codings bytes
-    ∙ ap (λ (a : Arrays). read_at f frame p codings a bytes >>= after_read f frame p codings)
-    (zeros-read f frame codings e of)
-    ∙ go (read_at f frame p codings (zero_arrays (components_of codings)) bytes)
-    (sym (planes-are f.said.restart frame p codings (vias_from 0 codings) bytes) ∙ r)
-  where
-    base : Found
-    base = once_scanned f
-
-    made : (arrays : Arrays) → planes_by codings arrays ≡ planes
-        → with_arrays p codings arrays (record (once_scanned f) {
-          kept = blocks_after f frame
-              codings arrays;
-        })
-        ≡ once_scanned (with_decoded f two)
-    made arrays q =
-        ap (λ (x : Arrays). with_arrays p codings arrays (record (once_scanned f) { kept = x }))
-        (kept-sequential f frame codings arrays e ∙ sym none)
-        ∙ (λ i. with_arrays p codings arrays (record (once_scanned f) {
-          kept = arrays_in one.kept.items;
-          finished = sym fin i;
-          planes = sym pl i;
-          samples = sym sa i;
-        }))
-        ∙ arrays-by-planes p codings arrays (with_decoded base one)
-        ∙ ap (λ (ps : List (List ℕ)). with_planes p codings ps (with_decoded base one)) q
-        ∙ sym (added base)
-
-    go : (o : Outcome (Arrays × Option Marker)) → (o >>= planes_after codings) ≡ Ok ((planes, met), rest)
-        → (o >>= after_read f frame p codings) ≡ Ok ((once_scanned (with_decoded f two), met), rest)
-    go (Err fault) h = absurd (cc)
-    go (Ok x) h =
-        let j : ((planes_by codings x.0.0, x.0.1), x.1) ≡ ((planes, met), rest) = ok-same _ _ h in
-        let is = made x.0.0 (ap (λ z. z.0.0) j) in
-        λ i. Ok ((is i, (j i).0.1), (j i).1)
+    let same = same-found f one [] fin pl sa in
+    let after = added (once_scanned f) in
+    grind (arith, common_steps, data-is, zeros-read, planes-are, arrays-by-planes)
 
 pub data-planes-refused : (f : Found) (frame : Frame) (p : Pass) (codings : List Coding) (bytes : List ℕ)
     (fault : Fault)
@@ -249,22 +186,12 @@ pub data-planes-refused : (f : Found) (frame : Frame) (p : Pass) (codings : List
     → planes_at p f.said.restart (vias_from 0 codings) frame codings bytes ≡ Err fault
     → scan_data f frame p codings bytes ≡ Err fault
 data-planes-refused f frame p codings bytes fault e of r =
-    data-is f frame p codings bytes
-    ∙ ap (λ (a : Arrays). read_at f frame p codings a bytes >>= after_read f frame p codings)
-    (zeros-read f frame codings e of)
-    ∙ go (read_at f frame p codings (zero_arrays (components_of codings)) bytes)
-    (sym (planes-are f.said.restart frame p codings (vias_from 0 codings) bytes) ∙ r)
-  where
-    go : (o : Outcome (Arrays × Option Marker)) → (o >>= planes_after codings) ≡ Err fault
-        → (o >>= after_read f frame p codings) ≡ Err fault
-    go (Err g) h = cc
-    go (Ok x) h = absurd (cc)
+    grind (arith, common_steps, data-is, zeros-read, planes-are)
 
 -- ---- planes of all blocks
 
-plane-at : (cs : List Component) (planes : List (Option (List ℕ))) (index : ℕ) (c : Component) →
-    ArePlanes cs planes
-    → At index cs c → IsPlaneOf c (get_or planes index None)
+plane-at : (cs : List Component) (planes : List (Option (List ℕ))) (index : ℕ) (c : Component)
+    → ArePlanes cs planes → At index cs c → IsPlaneOf c (get_or planes index None)
 unfolding ArePlanes
 plane-at [] planes index c h at = absurd at
 plane-at (d ∷ cs) [] index c h at = absurd h
@@ -278,16 +205,12 @@ unfolding ArePlanes
 plane-set [] planes index c q h at k = tt
 plane-set (d ∷ cs) [] index c q h at k = absurd h
 plane-set (d ∷ cs) (x ∷ planes) zero c q h at k = (subst (λ (y : Component). IsPlaneOf y q) (sym (at)) k, h.1)
-plane-set (d ∷ cs) (x ∷ planes) (suc index) c q h at k = (
-  h.0,
-  plane-set cs planes index c q h.1 at
-      k,
-)
+plane-set (d ∷ cs) (x ∷ planes) (suc index) c q h at k =
+    grind (arith, common_steps, plane-set cs planes index c q h.1 at k)
 
-one-whole : (cs : List Component) (p : Pass) (index : ℕ) (c : Component) (plane : List ℕ) (found :
-    Found)
-    → At index cs c
-    → length plane ≡ (c.blocks_high * c.scale) * (c.blocks_wide * c.scale) → ArePlanes cs found.planes
+one-whole : (cs : List Component) (p : Pass) (index : ℕ) (c : Component) (plane : List ℕ)
+    (found : Found) → At index cs c → length plane
+    ≡ (c.blocks_high * c.scale) * (c.blocks_wide * c.scale) → ArePlanes cs found.planes
     → ArePlanes cs (with_its_plane p index plane found).planes
 unfolding with_its_plane decided_planes
 one-whole cs p index c plane found at k h = search (rules, arith, plane-set, plane-at)
@@ -328,14 +251,13 @@ answers-err v view read whole old new e h p = (p.0, (λ k l. Names-through e _ _
 
 -- ---- scans on held blocks
 
-no-arrays : (c : Component) (more : List Component) → AreArrays (c ∷ more) [] → ⊥
+held-long : (components : List Component) (vs : List Held) → AreArrays components (arrays_in vs)
+    → (index : ℕ) (c : Component) → At index components c → index < length vs
 unfolding AreArrays
-no-arrays c more h = h
-
-other-arrays : (c : Component) (more : List Component) (blocks : List Block) (arrays : Arrays)
-    → AreArrays (c ∷ more) (blocks ∷ arrays) → AreArrays more arrays
-unfolding AreArrays
-other-arrays c more blocks arrays h = h.1
+held-long [] vs a index c at = absurd at
+held-long (x ∷ components) [] a index c at = absurd a
+held-long (x ∷ components) (v ∷ vs) a zero c at = omega arith
+held-long (x ∷ components) (v ∷ vs) a (suc index) c at = let r = held-long components vs a.1 index c at in omega arith
 
 -- the blocks are read as the code reads them
 pub read-as : (f : Found) (frame : Frame) (p : Pass) (cs : List Coded) (n : ℕ) (arrays : Arrays) (bytes : List ℕ)
@@ -345,27 +267,14 @@ pub read-as : (f : Found) (frame : Frame) (p : Pass) (cs : List Coded) (n : ℕ)
 read-as f frame p cs n arrays bytes e = grind (arith, common_steps, vias-same, coded-components)
 
 -- the places of a scan's components are places of the arrays
-pub coded-within-kept : (frame : Frame) (cs : List Coded) (kept : List Held)
-    → AllByRecursion (IsCodingOf frame) (map coding_in cs) → AreArrays frame.components (arrays_in
-    kept)
-    → All (λ (x : Coded). x.index < length kept) cs
-coded-within-kept frame cs kept of a k d h = at cs of k d h
-  where
-    long : (components : List Component) (vs : List Held) → AreArrays components (arrays_in vs)
-        → (index : ℕ) (c : Component) → At index components c → index < length vs
-    long [] vs a index c at = absurd at
-    long (x ∷ components) [] a index c at = absurd (no-arrays x components a)
-    long (x ∷ components) (v ∷ vs) a zero c at = omega arith
-    long (x ∷ components) (v ∷ vs) a (suc index) c at = let r =
-        long components vs (other-arrays x components (blocks_in v) (arrays_in vs) a) index c at in
-        omega (arith, r)
-
-    at : (cs : List Coded) → AllByRecursion (IsCodingOf frame) (map coding_in cs) → (k : ℕ) (d : Coded) → k < length cs
-        → (get_or cs k d).index < length kept
-    at [] of k d h = absurd (omega arith)
-    at (c ∷ cs) of zero d h = long frame.components kept a c.index (coding_in c).component
-        (get-at c.index frame.components (coding_in c).component of.0)
-    at (c ∷ cs) of (suc k) d h = at cs of.1 k d (omega arith)
+pub coded-within-kept : (frame : Frame) (cs : List Coded) (kept : List Held) (n : ℕ) → n ≡ length kept
+    → AllByRecursion (IsCodingOf frame) (map coding_in cs) → AreArrays frame.components (arrays_in kept)
+    → All (λ (x : Coded). x.index < n) cs
+coded-within-kept frame (c ∷ cs) kept n e of a zero d h =
+    let r = held-long frame.components kept a c.index (coding_in c).component
+    (get-at c.index frame.components (coding_in c).component of.0) in omega arith
+coded-within-kept frame (c ∷ cs) kept n e of a (suc k) d h = coded-within-kept frame cs kept n e of.1 a k d (omega arith)
+coded-within-kept frame [] kept n e of a k d h = absurd (omega arith)
 
 -- places that rise are apart
 pub rising-codings : (cs : List Coded) → AreRising (map coding_in cs) → AreApart (map (λ (x :
@@ -382,17 +291,12 @@ rising-codings (c ∷ d ∷ cs) h = (λ n. below c.index d cs h.0 h.1 n, rising-
 
 -- ---- what is held after a scan
 
-before-kept : (f : Found) (frame : Frame) → is_progressive frame.process ≡ true → f.said.scanned ≡ true
-    → arrays_before f frame ≡ f.kept
+pub kept-afterwards : {X E : Type 0} (r : Result X E) (f : Found) (frame : Frame)
+    → is_progressive frame.process ≡ true → f.said.scanned ≡ true
+    → OnOk r (AreArrays frame.components f.kept)
+    → OnOk r (AreArrays frame.components (arrays_before f frame))
 unfolding arrays_before
-before-kept f frame e s = rw (e, s) refl
-
-pub kept-afterwards : {X E : Type 0} (r : Result X E) (f : Found) (frame : Frame) → is_progressive
-    frame.process ≡ true
-    → f.said.scanned ≡ true
-    → OnOk r (AreArrays frame.components f.kept) → OnOk r (AreArrays frame.components
-    (arrays_before f frame))
-kept-afterwards r f frame e s h = grind (arith, common_steps, before-kept)
+kept-afterwards r f frame e s h = grind (arith, common_steps)
 
 pub none-kept : {X E : Type 0} (r : Result X E) (f : Found) (frame : Frame) → is_progressive
     frame.process ≡ false

@@ -1,7 +1,6 @@
 -- The steps of a scan that is read, and what they are to a segment of the stream.
-use Rattle.std.proofs.Common.{rules}
-use Rattle.std.proofs.Common.{◌≡◌, ℕ, suc, true, false, List, length, Option, Some, None, Result, Ok, Err, refl}
-use Rattle.std.proofs.Common.{◌∙◌, ap, arith}
+use Rattle.std.proofs.Common.{◌≡◌, ℕ, suc, true, false, List, length, Option, Some, None, Result}
+use Rattle.std.proofs.Common.{Ok, Err, ◌∙◌, ap, arith}
 use Rattle.jpeg_bits.specs.Stream.{Stream}
 use Rattle.jpeg_bits.specs.Reading.{Answers, Fault, Names, NamesFormat, Outcome, ◌>>=◌}
 use Rattle.jpeg_bits.specs.Passes.{Pass}
@@ -10,11 +9,12 @@ use Rattle.jpeg_bits.specs.declared.marker.Marker.{Marker}
 use Rattle.jpeg_bits.proofs.Loops.{Continues, Continues-err, bind_at, bind_err, still_known}
 use Rattle.jpeg_segments.specs.Frame.{Frame}
 use Rattle.jpeg_segments.specs.declared.parser.CodingProcess.{CodingProcess}
-use Rattle.jpeg_segments.specs.declared.parser.CodingProcess.TheVariants.{DctProgressive, DctSequential, Lossless}
+use Rattle.jpeg_segments.specs.declared.parser.CodingProcess.TheVariants.{DctProgressive}
+use Rattle.jpeg_segments.specs.declared.parser.CodingProcess.TheVariants.{DctSequential, Lossless}
 use Rattle.jpeg_segments.specs.ScanHeader.{Scan, sos_at}
 use Rattle.jpeg_streams.specs.Scans.{Arrays}
-use Rattle.jpeg_streams.specs.ScanSegments.{scan_turn as turn_of_scan}
-use Rattle.jpeg_streams.specs.ScanSegments.{arrays_before, blocks_scan, after_restarts, after_scan, codings_of, Coding, scan_by}
+use Rattle.jpeg_streams.specs.ScanSegments.{scan_turn as turn_of_scan, arrays_before, blocks_scan}
+use Rattle.jpeg_streams.specs.ScanSegments.{after_restarts, after_scan, codings_of, Coding, scan_by}
 use Rattle.jpeg_streams.specs.ScanSegments.{lossless_scan, scan_before, scan_arrays, pass_of}
 use Rattle.jpeg_streams.specs.ScanSegments.{scan_segment}
 use Rattle.jpeg_streams.specs.Segments.{Turn}
@@ -30,6 +30,8 @@ use Rattle.jpeg_streams.specs.InTurn.{AreArrays}
 use Rattle.jpeg_segments.specs.Checks.{needed}
 use Rattle.jpeg_streams.specs.Sound.{ArePlanes, IsSound}
 use Rattle.std.proofs.lemmas.Grind.{common_steps}
+use Rattle.std.proofs.lemmas.Result.{err_from_is_err_and}
+use Rattle.std.specs.Prelude.{IsErrAnd}
 
 -- ---- calls on a source
 
@@ -39,12 +41,11 @@ pub refused : {X Y Z : Type 0} (view : X → Y) (whole rest : List ℕ → Outco
 refused view whole rest old new e o p r n through = grind (arith, common_steps, still_known)
 
 -- the last step of the whole
-pub last-step : {X Y W : Type 0} (view : X → Y) (v : X → W) (whole rest : List ℕ → Outcome Y) (read : List ℕ
-    → Outcome W)
-    (old cur new : Stream) (r : Result X Error)
+pub last-step : {X Y W : Type 0} (view : X → Y) (v : X → W) (whole rest : List ℕ → Outcome Y)
+    (read : List ℕ → Outcome W) (old cur new : Stream) (r : Result X Error)
     → ((x : X) → read cur.bytes ≡ Ok (v x, new.bytes) → rest cur.bytes ≡ Ok (view x, new.bytes))
-    → ((f : Fault) → read cur.bytes ≡ Err f → rest cur.bytes ≡ Err f)
-    → Continues whole old rest cur → Answers v read cur r new → Answers view whole old r new
+    → ((f : Fault) → read cur.bytes ≡ Err f → rest cur.bytes ≡ Err f) → Continues whole old rest cur
+    → Answers v read cur r new → Answers view whole old r new
 last-step view v whole rest read old cur new r ok err p q = grind (arith, common_steps)
 
 -- ---- a scan
@@ -58,8 +59,7 @@ blocks_read found frame scan bytes = do
   Ok ((r.0.0, met.0), met.1)
 
 -- a scan of either
-abbrev pub read_by : CodingProcess → Found → Frame → Scan → List ℕ
-    → Outcome (Found × Option Marker)
+abbrev pub read_by : CodingProcess → Found → Frame → Scan → List ℕ → Outcome (Found × Option Marker)
 read_by DctSequential found frame scan bytes = blocks_read found frame scan bytes
 read_by DctProgressive found frame scan bytes = blocks_read found frame scan bytes
 read_by Lossless found frame scan bytes = samples_read found frame scan bytes
@@ -87,10 +87,6 @@ after_header found frame scan bytes =
     codings_of found.said frame scan >>= (λ (codings : List Coding). after_codings found frame (pass_of scan) codings
     bytes)
 
-pub codings-refused : (found : Found) (frame : Frame) (scan : Scan) (bytes : List ℕ) (f : Fault)
-    → codings_of found.said frame scan ≡ Err f → after_header found frame scan bytes ≡ Err f
-codings-refused found frame scan bytes f e = grind (arith, common_steps, bind_err)
-
 codings-read : (found : Found) (frame : Frame) (scan : Scan) (p : Pass) (codings : List Coding) (bytes : List ℕ)
     → codings_of found.said frame scan ≡ Ok codings → p ≡ pass_of scan
     → after_header found frame scan bytes ≡ after_codings found frame p codings bytes
@@ -109,55 +105,76 @@ pub is-dct : (p : CodingProcess) → (p ≡ Lossless → ⊥) → IsDct p
 is-dct p h = grind (arith, common_steps)
 
 -- A scan of blocks has its tables after its header.
-pub header-read : (found : Found) (frame : Frame) (scan : Scan) (old new : Stream)
+header-read : (found : Found) (frame : Frame) (scan : Scan) (old new : Stream)
     → found.said.frame ≡ Some frame → (frame.process ≡ Lossless → ⊥) → HasRead (sos_at frame) old scan new
     → Continues (scan_read found) old (after_header found frame scan) new
 unfolding scan_read blocks_read
 header-read found frame scan old new e process has = grind (arith, common_steps, bind_at)
 
--- A lossless scan has its samples after its header.
-pub samples-begun : (found : Found) (frame : Frame) (scan : Scan) (old new : Stream)
-    → found.said.frame ≡ Some frame → frame.process ≡ Lossless → HasRead (sos_at frame) old scan new
-    → Continues (scan_read found) old (samples_read found frame scan) new
+-- A lossless scan is its samples after its header.
+pub samples-met : (next found : Found) (frame : Frame) (scan : Scan) (old cur new : Stream)
+    (r : Result (Option Marker) Error)
+    → found.said.frame ≡ Some frame → frame.process ≡ Lossless → HasRead (sos_at frame) old scan cur
+    → Answers (λ (m : Option Marker). (next, m)) (samples_read found frame scan) cur r new
+    → Answers (λ (m : Option Marker). (next, m)) (scan_read found) old r new
 unfolding scan_read
-samples-begun found frame scan old new e process has = grind (arith, common_steps, bind_at, by-samples)
+samples-met next found frame scan old cur new r e process has read =
+    grind (arith, common_steps, bind_at, by-samples)
+
+-- A scan is refused.
+abbrev ScanFails : Found → Stream → Error → Stream → Type 0
+ScanFails found old e new = Answers (λ (m : Option Marker). (found, m)) (scan_read found) old (Err e) new
 
 -- A scan without a frame is refused.
-pub frame-refused : {X : Type 0} (view : X → Found × Option Marker) (found : Found) (s : Stream) (e : Error)
-    → found.said.frame ≡ None → NamesFormat e → Answers view (scan_read found) s (Err e) s
+pub frame-refused : (found : Found) (s : Stream) (e : Error)
+    → found.said.frame ≡ None → NamesFormat e → ScanFails found s e s
 unfolding scan_read
-frame-refused view found s e lacking names = grind (arith, common_steps, format-refuses, refused, bind_err)
+frame-refused found s e lacking names = grind (arith, common_steps, format-refuses, refused, bind_err)
 
-pub header-refused : (found : Found) (frame : Frame) (bytes : List ℕ) (f : Fault) → found.said.frame ≡ Some frame
-    → sos_at frame bytes ≡ Err f → scan_read found bytes ≡ Err f
+pub header-refused : {Y : Type 0} (v : Y → Scan) (found : Found) (frame : Frame)
+    (old new : Stream) (e : Error) → found.said.frame ≡ Some frame
+    → Answers v (sos_at frame) old (Err e) new → ScanFails found old e new
 unfolding scan_read
-header-refused found frame bytes f e h = grind (arith, common_steps, bind_at, bind_err)
+header-refused v found frame old new e framed h = grind (arith, common_steps, bind_at, bind_err)
 
-data-begun : (whole : List ℕ → Outcome (Found × Option Marker)) (found : Found) (frame : Frame) (scan : Scan)
-    (p : Pass)
-    (codings : List Coding) (old new : Stream)
-    → codings_of found.said frame scan ≡ Ok codings → p ≡ pass_of scan
-    → Continues whole old (after_header found frame scan) new
-    → Continues whole old (after_codings found frame p codings) new
-data-begun whole found frame scan p codings old new e is begun =
-    (begun.0, λ k. let at = begun.1 k in (at.0, at.1 ∙ codings-read found frame scan p codings new.bytes e is))
+-- Tables that are not in force are refused after the header.
+pub codings-refused : (found : Found) (frame : Frame) (scan : Scan)
+    (old cur : Stream) (e : Error)
+    → found.said.frame ≡ Some frame → (frame.process ≡ Lossless → ⊥) → HasRead (sos_at frame) old scan cur
+    → IsRefusal e → Names e (codings_of found.said frame scan) → ScanFails found old e cur
+codings-refused found frame scan old cur e framed process has r n =
+    refused (λ (m : Option Marker). (found, m)) (scan_read found) (after_header found frame scan) old cur e _
+    (header-read found frame scan old cur framed process has) r n (λ f h. bind_err _ _ f h)
 
 -- A scan of blocks has its data after its header, where tables are in force.
-pub blocks-begun : (base : Found) (d : Decoded) (frame : Frame) (scan : Scan) (p : Pass) (codings : List Coding)
-    (old new : Stream) → base.said.frame ≡ Some frame → (frame.process ≡ Lossless → ⊥)
-    → HasRead (sos_at frame) old scan new → codings_of base.said frame scan ≡ Ok codings → p ≡ pass_of scan
-    → Continues (scan_read (with_decoded base d)) old (after_codings (with_decoded base d) frame p codings) new
-blocks-begun base d frame scan p codings old new e process has in_force is =
-    search (rules, arith, data-begun, header-read)
+blocks-begun : (found : Found) (frame : Frame) (scan : Scan) (p : Pass) (codings : List Coding)
+    (old new : Stream) → found.said.frame ≡ Some frame → (frame.process ≡ Lossless → ⊥)
+    → HasRead (sos_at frame) old scan new → codings_of found.said frame scan ≡ Ok codings → p ≡ pass_of scan
+    → Continues (scan_read found) old (after_codings found frame p codings) new
+blocks-begun found frame scan p codings old new e process has in_force is =
+    let begun = header-read found frame scan old new e process has in
+    (begun.0, λ k. let at = begun.1 k in (at.0, at.1 ∙ codings-read found frame scan p codings new.bytes in_force is))
+
+-- Data that is refused.
+pub data-refused : (next found : Found) (frame : Frame) (scan : Scan) (p : Pass) (codings : List Coding) (old cur new : Stream) (e : Error)
+    → found.said.frame ≡ Some frame → (frame.process ≡ Lossless → ⊥) → HasRead (sos_at frame) old scan cur
+    → codings_of found.said frame scan ≡ Ok codings → p ≡ pass_of scan
+    → Answers (λ (m : Option Marker). (next, m)) (scan_data found frame p codings) cur (Err e) new → ScanFails found old e new
+data-refused next found frame scan p codings old cur new e framed process has in_force is read =
+    Continues-err (λ (m : Option Marker). (found, m)) (λ (m : Option Marker). (next, m)) (scan_read found) (after_codings found frame p codings) (scan_data found frame p codings)
+    old cur new e (λ f h. bind_err after_data _ f h)
+    (blocks-begun found frame scan p codings old cur framed process has in_force is) read
 
 -- The restart markers after the data are passed over, and the scan is read.
-pub scan-ends : (whole rest : List ℕ → Outcome (Found × Option Marker)) (next : Found) (met : Option Marker)
-    (old cur mid new : Stream) (r : Result (Option Marker) Error)
-    → (read : List ℕ → Outcome (Found × Option Marker)) → ((bytes : List ℕ) → rest bytes ≡ (read bytes >>= after_data))
-    → Continues whole old rest cur → HasRead read cur (next, met) mid
+pub scan-ends : (next found : Found) (met : Option Marker) (frame : Frame) (scan : Scan) (p : Pass)
+    (codings : List Coding) (old cur mid new : Stream) (r : Result (Option Marker) Error)
+    → found.said.frame ≡ Some frame → (frame.process ≡ Lossless → ⊥) → HasRead (sos_at frame) old scan cur
+    → codings_of found.said frame scan ≡ Ok codings → p ≡ pass_of scan
+    → HasRead (scan_data found frame p codings) cur (next, met) mid
     → Answers (λ (m : Option Marker). m) (after_all met) mid r new
-    → Answers (λ (m : Option Marker). (next, m)) whole old r new
-scan-ends whole rest next met old cur mid new r read is begun has ends =
+    → Answers (λ (m : Option Marker). (next, m)) (scan_read found) old r new
+scan-ends next found met frame scan p codings old cur mid new r framed process has in_force is read ends =
+    let begun = blocks-begun found frame scan p codings old cur framed process has in_force is in
     grind (arith, common_steps, last-step, bind_at, bind_err)
 
 -- ---- a segment of the stream
@@ -166,9 +183,8 @@ scan-ends whole rest next met old cur mid new r read is begun has ends =
 abbrev pub scan_turn : Found → (Found × Option Marker) × List ℕ → Outcome Turn
 scan_turn found r = Ok (record { found = r.0.0; before = scan_before found; met = r.0.1; ended = false }, r.1)
 
-through : {A B C : Type 0} (o : Result A Fault) (s : A → Result C Fault) (r : A → Result B Fault) (t : B
-    → Result C Fault)
-    → ((x : A) → s x ≡ (r x >>= t)) → (o >>= s) ≡ ((o >>= r) >>= t)
+through : {A B C : Type 0} (o : Result A Fault) (s : A → Result C Fault) (r : A → Result B Fault)
+    (t : B → Result C Fault) → ((x : A) → s x ≡ (r x >>= t)) → (o >>= s) ≡ ((o >>= r) >>= t)
 through o s r t h = grind (arith, common_steps)
 
 -- the last steps, where a value is made of what is read
@@ -183,9 +199,7 @@ data-parts : (found : Found) (frame : Frame) (scan : Scan) (bytes : List ℕ) (c
     Ok (turn_of_scan found (after_scan found frame scan codings read.0.0) met.0, met.1))))
     ≡ (after_codings found frame (pass_of scan) codings bytes >>= scan_turn found)
 unfolding scan_arrays scan_data after_scan after_all
-data-parts found frame scan bytes codings =
-    through-made _ _ after_data _ (scan_turn found) (λ (r : (Arrays × Option Marker) × List ℕ).
-    through (after_restarts (suc (length r.1)) r.0.1 r.1) _ _ (scan_turn found) (λ met. refl))
+data-parts found frame scan bytes codings = grind (arith, common_steps, through-made, through)
 
 process-parts : (p : CodingProcess) (found : Found) (frame : Frame) (scan : Scan) (bytes : List ℕ)
     → scan_by p found frame scan bytes ≡ (read_by p found frame scan bytes >>= scan_turn found)
@@ -198,26 +212,25 @@ unfolding scan_segment scan_read
 scan-parts found bytes = grind (arith, common_steps, through, process-parts)
 
 -- what is found where its planes were taken out of the state
-pub taken-out : (s : State) (old : Found) (d : Decoded) → d ≡ s.decoded → found_in s ≡ old
-    → with_decoded (found_in s) d ≡ old
-taken-out s old d e is = ap (λ (d : Decoded). with_decoded (found_in s) d) e ∙ is
+taken-out : (s : State) (d : Decoded) (at : Found) → d ≡ s.decoded → found_in s ≡ at → with_decoded (found_in s) d ≡ at
+taken-out s d at e is = ap (λ (d : Decoded). with_decoded (found_in s) d) e ∙ is
 
-pub segment-ends : (found at next : Found) (met : Option Marker) (old new : Stream) (turn : Turn) → found ≡ at
-    → turn ≡ record { found = next; before = scan_before found; met = met; ended = false }
-    → Answers (λ (m : Option Marker). (next, m)) (scan_read found) old (Ok met) new
+pub segment-ends : (s : State) (d : Decoded) (at next : Found) (met : Option Marker) (old new : Stream) (turn : Turn)
+    → d ≡ s.decoded → found_in s ≡ at
+    → turn ≡ record { found = next; before = scan_before (found_in s); met = met; ended = false }
+    → Answers (λ (m : Option Marker). (next, m)) (scan_read (with_decoded (found_in s) d)) old (Ok met) new
     → HasRead (scan_segment at) old turn new
-segment-ends found at next met old new turn same is p = grind (arith, common_steps, scan-parts, bind_at)
+segment-ends s d at next met old new turn e is same p =
+    let there = taken-out s d at e is in grind (arith, common_steps, scan-parts, bind_at)
 
 -- A scan that is refused is a segment that is refused.
-pub segment-refused : (v : Step → Turn) (found at : Found) (old new : Stream) (e : Error) → found ≡ at
-    → Answers (λ (m : Option Marker). (found, m)) (scan_read found) old (Err e) new
-    → Answers v (scan_segment at) old (Err e) new
-segment-refused v found at old new e same p = grind (arith, common_steps, Continues-err, scan-parts, bind_err)
+pub segment-refused : (v : Step → Turn) (s : State) (d : Decoded) (at : Found) (old new : Stream)
+    (r : Result Step Error) (e : Error) → IsErrAnd r (λ y. y ≡ e) → d ≡ s.decoded → found_in s ≡ at
+    → ScanFails (with_decoded (found_in s) d) old e new → Answers v (scan_segment at) old r new
+segment-refused v s d at old new r e fails same is p =
+    grind (arith, common_steps, err_from_is_err_and, taken-out, scan-parts, bind_err)
 
 -- ---- what holds after a scan
-
-some-same : (f g : Frame) → Some f ≡ Some g → f ≡ g
-some-same f g h = cc
 
 none-some : (f : Frame) → None ≡ Some f → ⊥
 none-some f h = cc
@@ -227,12 +240,7 @@ pub blocks-sound : (found next : Found) (frame : Frame) → IsSound found → fo
     → next.said.frame ≡ found.said.frame → AreArrays frame.components (arrays_before next frame)
     → (ArePlanes frame.components found.planes → ArePlanes frame.components next.planes)
     → next.samples ≡ found.samples → IsSound next
-blocks-sound found next frame sound e stays kept planes samples = grind (
-  arith,
-  common_steps,
-  some-same,
-  none-some,
-)
+blocks-sound found next frame sound e stays kept planes samples = grind (arith, common_steps, none-some)
 
 -- A scan is a step, which keeps the frame.
 pub scan-steps : (old next : Found) (frame : Frame) (step : Step) → old.said.frame ≡ Some frame → next.said.frame ≡ old.said.frame

@@ -1,11 +1,12 @@
 -- Scans of a sequential frame, by what was read of them row by row of MCUs.
-use Rattle.std.proofs.Common.{◌≡◌, ◌∙◌, ap, sym, List, [], ◌∷◌, ◌<◌, suc, arith, map, ℕ, Ok, Err, None, Option, true, false, length, get_or}
+use Rattle.std.proofs.Common.{rules, ◌≡◌, ◌∙◌, sym, List, [], ◌∷◌, ◌<◌, suc, arith, map, ℕ, Ok, Err}
+use Rattle.std.proofs.Common.{None, Option, true, false, length, get_or}
 use Rattle.std.proofs.lemmas.List.{length-map}
 use Rattle.std.specs.Prelude.{is_some, slice_index_or}
 use Rattle.std.specs.List.{AllByRecursion}
 use Rattle.jpeg_bits.specs.Reading.{Fault, Outcome}
 use Rattle.jpeg_bits.specs.declared.marker.Marker.{Marker}
-use Rattle.jpeg_bits.specs.Passes.{Pass, Via}
+use Rattle.jpeg_bits.specs.Passes.{Pass}
 use Rattle.jpeg_bits.specs.BlockView.{pass_in}
 use Rattle.jpeg_segments.specs.Frame.{Frame}
 use Rattle.jpeg_streams.specs.Found.{Found}
@@ -40,19 +41,14 @@ module _ (found : Found) (before : Decoded) (frame : Frame) (scan : Scan) (bytes
   by_rows start = planes_by_rows p (vias_in 0 cs) scan.restart_interval frame codings start bytes
 
   at-once : planes_at p f.said.restart (vias_from 0 codings) frame codings bytes ≡ by_rows (no_samples codings)
-  at-once =
-      sym (ap (λ (k : ℕ). planes_at p k (vias_from 0 codings) frame codings bytes) ready.restart)
-      ∙ ap (λ (v : List Via). planes_at p scan.restart_interval v frame codings bytes) (vias-same 0 cs)
-      ∙ scan-by-rows frame cs p scan.restart_interval (vias_in 0 cs) bytes ready.some ready.fits
+  at-once = grind (arith, common_steps, vias-same, scan-by-rows)
 
   pub read-refused : (fault : Fault) → by_rows (no_samples codings) ≡ Err fault
       → scan_data f frame p codings bytes ≡ Err fault
-  read-refused fault h = data-planes-refused f frame p codings bytes fault process (of-frame frame codings ready.of_frame)
-      (at-once ∙ h)
+  read-refused fault h = search (rules, arith, data-planes-refused, of-frame, at-once)
 
   pub again-refused-data : (fault : Fault) → by_rows [] ≡ Err fault → scan_data f frame p codings bytes ≡ Err fault
-  again-refused-data fault h = read-refused fault
-      (again-refused p (vias_in 0 cs) scan.restart_interval frame codings bytes fault h)
+  again-refused-data fault h = grind (arith, common_steps, read-refused, again-refused)
 
   module _ (met : Option Marker) (rest : List ℕ) (one two : Decoded) (finished : one.finished ≡ f.finished)
       (planes : one.planes ≡ f.planes) (samples : planes_in one.samples ≡ f.samples)
@@ -78,9 +74,8 @@ module _ (found : Found) (before : Decoded) (frame : Frame) (scan : Scan) (bytes
 
 -- such a scan changes no plane
 pub again-planes : (p : Pass) (codings : List Coding) (base : Found) (one two : Decoded)
-    → AllByRecursion (IsDecided one.planes) codings
-    → with_decoded base two ≡ with_planes p codings (no_samples codings) (with_decoded base one)
-    → two.planes ≡ one.planes
+    → AllByRecursion (IsDecided one.planes) codings → with_decoded base two
+    ≡ with_planes p codings (no_samples codings) (with_decoded base one) → two.planes ≡ one.planes
 again-planes p codings base one two decided added = grind (arith, common_steps, planes-decided, length-map)
 
 -- the components whose planes were found to be decided

@@ -1,11 +1,12 @@
 -- The coding of the component in a slot of a scan, by the tables in force.
-use Rattle.std.proofs.Common.{◌≡◌, ◌<◌, ℕ, zero, suc, List, [], ◌∷◌, Option, Some, None, Result, Ok, Err, Bool}
-use Rattle.std.proofs.Common.{true, refl, ap, ◌∙◌, length, get_or, map, replicate, arith, cond}
+use Rattle.std.proofs.Common.{◌≡◌, ◌<◌, ℕ, zero, suc, List, ◌∷◌, Option, Some, None, Result, Ok}
+use Rattle.std.proofs.Common.{Err, Bool, true, refl, ap, ◌∙◌, length, get_or, map, replicate, arith}
+use Rattle.std.proofs.Common.{cond, rules, []}
 use Rattle.std.specs.Prelude.{◌==◌, nat_lt, option_map, slice_get}
 use Rattle.std.proofs.lemmas.Option.{slice_get-get_or, slice_get-map}
 use Rattle.std.proofs.lemmas.Bool.Decides.{nat_tests}
-use Rattle.jpeg_bits.specs.Passes.{Pass}
 use Rattle.jpeg_bits.specs.Reading.{Fault, Malformed, Names, NamesFormat, ◌>>=◌}
+use Rattle.jpeg_bits.proofs.Loops.{Names-through}
 use Rattle.jpeg_bits.specs.Codes.{Table, is_ac}
 use Rattle.jpeg_bits.specs.DefaultTables.{with_defaults}
 use Rattle.jpeg_bits.specs.declared.codes.HuffmanTableClass.{HuffmanTableClass}
@@ -15,20 +16,20 @@ use Rattle.jpeg_bits.specs.declared.error.Error.{Error}
 use Rattle.jpeg_bits.specs.declared.scan.ScanInfo.{ScanInfo}
 use Rattle.jpeg_segments.specs.declared.parser.Component as declared
 use Rattle.jpeg_segments.specs.declared.parser.FrameInfo.{FrameInfo}
-use Rattle.jpeg_segments.specs.Frame.{Frame, Component}
+use Rattle.jpeg_segments.specs.Frame.{Component}
 use Rattle.jpeg_segments.specs.FrameView.{component_in, frame_in, scan_in}
 use Rattle.jpeg_segments.specs.ScanHeader.{Scan}
-use Rattle.jpeg_segments.specs.HuffmanTables.{Tables, all_ac, is_ac_or_none}
+use Rattle.jpeg_segments.specs.HuffmanTables.{all_ac, is_ac_or_none}
 use Rattle.jpeg_decoder.specs.declared.codings.Spare.{Spare}
 use Rattle.jpeg_decoder.specs.declared.state.State.{State}
 use Rattle.jpeg_streams.specs.Scans.{no_table}
 use Rattle.jpeg_segments.specs.Checks.{needed}
-use Rattle.jpeg_streams.specs.ScanSegments.{component_coding, needed_if, tables_of, pass_of}
+use Rattle.jpeg_streams.specs.ScanSegments.{Coding, component_coding, needed_if, tables_of, pass_of}
 use Rattle.jpeg_streams.specs.Found.{Said}
 use Rattle.jpeg_decoder.specs.Seen.{said_in}
-use Rattle.jpeg_decoder.specs.Steps.{IsRefusal, IsSpareOf, coding_in_slot, in_force, or_spare, table_if}
+use Rattle.jpeg_decoder.specs.Steps.{IsRefusal, IsSpareOf, coding_in_slot, in_force, or_spare}
+use Rattle.jpeg_decoder.specs.Steps.{table_if}
 use Rattle.std.proofs.lemmas.Bool.{and_parts}
-use Rattle.std.proofs.Common.{rules}
 
 -- ---- the tables in force
 
@@ -51,15 +52,6 @@ forced-by : (b : Bool) (l c : Table) (destinations : List ℕ) (tables : List (O
     (cond b (with_defaults l c destinations (replicate 4 None)) []) destination None)
 forced-by b l c destinations tables destination e = grind (arith, common_steps, none-at, or-none)
 
--- The tables in force are those that were read, or else the spare ones.
-pub forced-dc : (said : Said) (scan : Scan) (spare : Spare) (destination : ℕ) → IsSpareOf said
-    scan spare
-    → length said.huffman.dc ≡ 4
-    → get_or (tables_of said scan).dc destination None ≡ in_force said.huffman.dc spare.dc.items
-    destination
-unfolding tables_of
-forced-dc said scan spare destination s e = search (rules, forced-by)
-
 -- ---- the class of an AC table in force
 
 abbrev IsAc : Option Table → Type 0
@@ -81,10 +73,9 @@ if-ac : (needs : Bool) (o : Option Table) (t : Table) → IsAc o → table_if ne
 if-ac needs o t h e = grind (arith, common_steps)
 
 pub class-in-force : (said : Said) (scan : Scan) (spare : Spare) (needs : Bool) (destination : ℕ)
-    (t : Table)
-    → IsSpareOf said scan spare → all_ac said.huffman.ac ≡ true
-    → table_if needs spare.no_ac (in_force said.huffman.ac spare.ac.items destination) ≡ Ok t →
-    t.class ≡ classes.AC
+    (t : Table) → IsSpareOf said scan spare → all_ac said.huffman.ac ≡ true
+    → table_if needs spare.no_ac (in_force said.huffman.ac spare.ac.items destination) ≡ Ok t
+    → t.class ≡ classes.AC
 class-in-force said scan spare needs destination t s a e = grind (
   arith,
   common_steps,
@@ -100,167 +91,58 @@ needed-either : (needs : Bool) (class : HuffmanTableClass) (o : Option Table)
 needed-either needs class o = grind (arith, common_steps)
 
 -- the table that is needed of the component in a slot
-abbrev pub dc_of : Said → Scan → Spare → ℕ → Result Table Fault
-dc_of said scan spare destination = table_if (scan.first == 0) spare.no_dc (in_force
-    said.huffman.dc spare.dc.items destination)
+abbrev pub dc_of : Said → Scan → ℕ → Result Table Fault
+dc_of said scan slot = needed_if ((pass_of scan).ss == 0) classes.DC
+    (get_or (tables_of said scan).dc (get_or scan.dc_destinations slot 0) None)
 
-abbrev pub ac_of : Said → Scan → Spare → ℕ → Result Table Fault
-ac_of said scan spare destination = table_if (nat_lt 1 scan.after) spare.no_ac (in_force
-    said.huffman.ac spare.ac.items destination)
-
-dc-needed : (said : Said) (scan : Scan) (spare : Spare) (destination : ℕ) → IsSpareOf said scan
-    spare
-    → length said.huffman.dc ≡ 4
-    → needed_if ((pass_of scan).ss == 0) classes.DC (get_or (tables_of said scan).dc destination
-    None)
-    ≡ dc_of said scan spare destination
-unfolding pass_of
-dc-needed said scan spare destination s e = grind (arith, common_steps, forced-dc, needed-either)
-
-ac-needed : (said : Said) (scan : Scan) (spare : Spare) (destination : ℕ) → IsSpareOf said scan
-    spare
-    → length said.huffman.ac ≡ 4
-    → needed_if (nat_lt 0 (pass_of scan).se) classes.AC (get_or (tables_of said scan).ac
-    destination None)
-    ≡ ac_of said scan spare destination
-unfolding pass_of tables_of
-ac-needed said scan spare destination s e = grind (
-  arith,
-  common_steps,
-  forced-by,
-  needed-either,
-  nat_tests,
-)
-
--- what is there of the component in a slot, as the header names it
-pub record HasComponent (said : Said) (frame : Frame) (scan : Scan) (spare : Spare) (slot index : ℕ)
-    (c : Component) : Type 0 where
-  pub stands_in : IsSpareOf said scan spare
-  pub is_named : index ≡ get_or scan.components slot 0
-  pub component : slice_get frame.components index ≡ Some c
-
-at-quantization : {said : Said} {frame : Frame} {scan : Scan} {spare : Spare} {slot index :
-    ℕ} {c : Component}
-    (p : Pass) (tables : Tables) (d a : ℕ)
-    → HasComponent said frame scan spare slot index c
-    → component_coding said frame p tables (get_or scan.components slot 0) d a
-    ≡ (needed (get_or said.quantization c.factors.quantization None) >>= (λ q.
-    needed_if (p.ss == 0) classes.DC (get_or tables.dc d None) >>= (λ dc.
-    needed_if (nat_lt 0 p.se) classes.AC (get_or tables.ac a None) >>= (λ ac.
-    Ok (record {
-      index = get_or scan.components slot 0;
-      component = c;
-      quantization = q;
-      dc =
-          dc;
-      ac = ac;
-    })))))
-unfolding component_coding
-at-quantization p tables d a h = let e = h.component in rw (← h.is_named, e) refl
-
--- A quantization table that is unset.
-pub fails-quantization : (said : Said) (frame : Frame) (scan : Scan) (spare : Spare) (slot
-    index : ℕ)
-    (c : Component) → HasComponent said frame scan spare slot index c
-    → get_or said.quantization c.factors.quantization None ≡ None
-    → coding_in_slot said frame scan slot ≡ Err Malformed
-unfolding component_coding
-fails-quantization said frame scan spare slot index c h q = search (rules, at-quantization)
-
--- A DC table that is needed and unset.
-pub fails-dc : (said : Said) (frame : Frame) (scan : Scan) (spare : Spare) (slot index : ℕ)
-    (c : Component)
-    → HasComponent said frame scan spare slot index c
-    → (q : List ℕ) → get_or said.quantization c.factors.quantization None ≡ Some q
-    → length said.huffman.dc ≡ 4 → (f : Fault) → dc_of said scan spare (get_or
-    scan.dc_destinations slot 0) ≡ Err f
-    → coding_in_slot said frame scan slot ≡ Err f
-fails-dc said frame scan spare slot index c h q e m f d =
-    let dc = dc-needed said scan spare (get_or scan.dc_destinations slot 0) h.stands_in m ∙ d in
-    at-quantization (pass_of scan) (tables_of said scan) (get_or scan.dc_destinations slot 0)
-    (get_or scan.ac_destinations slot 0) h ∙ (rw (e, dc) refl)
-
--- An AC table that is needed and unset.
-pub fails-ac : (said : Said) (frame : Frame) (scan : Scan) (spare : Spare) (slot index : ℕ)
-    (c : Component)
-    → HasComponent said frame scan spare slot index c
-    → (q : List ℕ) → get_or said.quantization c.factors.quantization None ≡ Some q
-    → length said.huffman.dc ≡ 4 → length said.huffman.ac ≡ 4 → (dc : Table)
-    → dc_of said scan spare (get_or scan.dc_destinations slot 0) ≡ Ok dc
-    → (f : Fault) → ac_of said scan spare (get_or scan.ac_destinations slot 0) ≡ Err f
-    → coding_in_slot said frame scan slot ≡ Err f
-fails-ac said frame scan spare slot index c h q e m n dc d f a =
-    let one = dc-needed said scan spare (get_or scan.dc_destinations slot 0) h.stands_in m ∙ d in
-    let two = ac-needed said scan spare (get_or scan.ac_destinations slot 0) h.stands_in n ∙ a in
-    at-quantization (pass_of scan) (tables_of said scan) (get_or scan.dc_destinations slot 0)
-    (get_or scan.ac_destinations slot 0) h ∙ (rw (e, one, two) refl)
-
--- All that is needed is there.
-pub gives-coding : (said : Said) (frame : Frame) (scan : Scan) (spare : Spare) (slot index
-    : ℕ) (c : Component)
-    → HasComponent said frame scan spare slot index c
-    → (q : List ℕ) → get_or said.quantization c.factors.quantization None ≡ Some q
-    → length said.huffman.dc ≡ 4 → length said.huffman.ac ≡ 4 → (dc ac : Table)
-    → dc_of said scan spare (get_or scan.dc_destinations slot 0) ≡ Ok dc
-    → ac_of said scan spare (get_or scan.ac_destinations slot 0) ≡ Ok ac
-    → coding_in_slot said frame scan slot
-    ≡ Ok (record { index = index; component = c; quantization = q; dc = dc; ac = ac })
-gives-coding said frame scan spare slot index c h q e m n dc ac d a =
-    let one = dc-needed said scan spare (get_or scan.dc_destinations slot 0) h.stands_in m ∙ d in
-    let two = ac-needed said scan spare (get_or scan.ac_destinations slot 0) h.stands_in n ∙ a in
-    at-quantization (pass_of scan) (tables_of said scan) (get_or scan.dc_destinations slot 0)
-    (get_or scan.ac_destinations slot 0) h ∙ (rw (e, one, two, ← h.is_named) refl)
+abbrev pub ac_of : Said → Scan → ℕ → Result Table Fault
+ac_of said scan slot = needed_if (nat_lt 0 (pass_of scan).se) classes.AC
+    (get_or (tables_of said scan).ac (get_or scan.ac_destinations slot 0) None)
 
 -- the component at a place
 component-at : {A : Type 0} (f : A → Component) (xs : List A) (i : ℕ) (d : A) → i < length xs
     → slice_get (map f xs) i ≡ Some (f (get_or xs i d))
 component-at f xs i d h = slice_get-map f xs i ∙ ap (option_map f) (slice_get-get_or xs i d h)
 
--- what the code reads there
-pub is-there : (state : State) (frame : FrameInfo) (header : ScanInfo) (spare : Spare) (slot
-    index : ℕ)
-    (c : declared.Component)
-    → IsSpareOf (said_in state) (scan_in header) spare → slot < length header.component_indices.items
-    → index ≡ get_or header.component_indices.items slot index → index < length
-    frame.components.items
-    → c ≡ get_or frame.components.items index c
-    → HasComponent (said_in state) (frame_in frame) (scan_in header) spare slot index
-    (component_in c)
-is-there state frame header spare slot index c s h p l e = search (
-  rules,
-  arith,
-  get_or_default_zero,
-  component-at,
-)
+-- what the tables in force give of the component in a slot
+abbrev pub coded_by : State → ScanInfo → ℕ → ℕ → declared.Component → Result Coding Fault
+coded_by state header slot index c = do
+  q ← needed (get_or state.quantization c.quantization_table_index None)
+  dc ← dc_of (said_in state) (scan_in header) slot
+  ac ← ac_of (said_in state) (scan_in header) slot
+  Ok (record { index = index; component = component_in c; quantization = q; dc = dc; ac = ac })
 
--- the table that is needed, of the one that the code looks up
-pub is-dc : (state : State) (header : ScanInfo) (spare : Spare) (slot destination : ℕ) (o : Option
-    Table)
-    (r : Result Table Fault)
-    → slot < length header.dc_table_indices.items → destination ≡ get_or
-    header.dc_table_indices.items slot destination
+pub slot-coded : (state : State) (frame : FrameInfo) (header : ScanInfo) (slot index : ℕ) (c : declared.Component)
+    → slot < length header.component_indices.items → index ≡ get_or header.component_indices.items slot index
+    → index < length frame.components.items → c ≡ get_or frame.components.items index c
+    → coding_in_slot (said_in state) (frame_in frame) (scan_in header) slot ≡ coded_by state header slot index c
+unfolding component_coding
+slot-coded state frame header slot index c h p l e =
+    search (rules, arith, get_or_default_zero, component-at)
+
+-- the tables as the code looks them up
+pub dc-read : (state : State) (header : ScanInfo) (spare : Spare) (slot destination : ℕ) (o : Option Table)
+    → IsSpareOf (said_in state) (scan_in header) spare → length state.dc_tables ≡ 4
+    → slot < length header.dc_table_indices.items → destination ≡ get_or header.dc_table_indices.items slot destination
     → o ≡ in_force state.dc_tables spare.dc.items destination
-    → table_if (header.spectral_selection.start == 0) spare.no_dc o ≡ r
-    → dc_of (said_in state) (scan_in header) spare (get_or header.dc_table_indices.items slot 0) ≡ r
-is-dc state header spare slot destination o r h p e t = grind (
-  arith,
-  common_steps,
-  get_or_default_zero,
-)
+    → dc_of (said_in state) (scan_in header) slot ≡ table_if (header.spectral_selection.start == 0) spare.no_dc o
+unfolding pass_of tables_of
+dc-read state header spare slot destination o s l h p e =
+    grind (arith, common_steps, forced-by, needed-either, get_or_default_zero)
 
-pub is-ac : (state : State) (header : ScanInfo) (spare : Spare) (slot destination : ℕ) (o : Option
-    Table)
-    (r : Result Table Fault)
-    → slot < length header.ac_table_indices.items → destination ≡ get_or
-    header.ac_table_indices.items slot destination
+pub ac-read : (state : State) (header : ScanInfo) (spare : Spare) (slot destination : ℕ) (o : Option Table)
+    → IsSpareOf (said_in state) (scan_in header) spare → length state.ac_tables ≡ 4
+    → slot < length header.ac_table_indices.items → destination ≡ get_or header.ac_table_indices.items slot destination
     → o ≡ in_force state.ac_tables spare.ac.items destination
-    → table_if (nat_lt 1 header.spectral_selection.end) spare.no_ac o ≡ r
-    → ac_of (said_in state) (scan_in header) spare (get_or header.ac_table_indices.items slot 0) ≡ r
-is-ac state header spare slot destination o r h p e t = grind (
-  arith,
-  common_steps,
-  get_or_default_zero,
-)
+    → ac_of (said_in state) (scan_in header) slot ≡ table_if (nat_lt 1 header.spectral_selection.end) spare.no_ac o
+unfolding pass_of tables_of
+ac-read state header spare slot destination o s l h p e =
+    grind (arith, common_steps, forced-by, needed-either, nat_tests, get_or_default_zero)
+
+-- a step that is refused
+pub refused-through : {Y Z : Type 0} (e : Error) (o : Result Y Fault) (whole : Result Z Fault) → IsRefusal e × Names e o
+    → ((f : Fault) → o ≡ Err f → whole ≡ Err f) → IsRefusal e × Names e whole
+refused-through e o whole h k = (h.0, Names-through e o whole k h.1)
 
 -- a broken rule is a refusal
 pub format-refuses : {Y : Type 0} (e : Error) (o : Result Y Fault) → NamesFormat e → o ≡ Err Malformed

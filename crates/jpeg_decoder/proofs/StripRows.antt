@@ -1,9 +1,10 @@
 -- The samples of a component's blocks, row by row of blocks.
-use Rattle.std.proofs.Common.{◌≡◌, ℕ, zero, suc, ◌+◌, ◌*◌, ◌<◌, ◌≤◌, List, [], ◌∷◌, ◌++◌, map, take, drop, length}
-use Rattle.std.proofs.Common.{get_or, slice_index_or, ℤ, refl, sym, ap, ◌∙◌, arith, append-nil, suc-mul}
-use Rattle.std.proofs.Common.{length-take, length-drop, rules}
+use Rattle.std.proofs.Common.{◌≡◌, ℕ, zero, suc, ◌+◌, ◌*◌, ◌<◌, ◌≤◌, List, [], ◌∷◌, ◌++◌, map, take}
+use Rattle.std.proofs.Common.{drop, length, get_or, slice_index_or, ℤ, refl, sym, ap, ◌∙◌, arith}
+use Rattle.std.proofs.Common.{append-nil, suc-mul, length-take, length-drop, rules}
 use Rattle.std.proofs.Math.Nat.{mul-le-mul_right}
-use Rattle.std.proofs.lemmas.List.{drop-drop, ext_get_or, get_or-map, get_or-take, get_or-drop, get_or_default}
+use Rattle.std.proofs.lemmas.List.{drop-drop, ext_get_or, get_or-map, get_or-take, get_or-drop}
+use Rattle.std.proofs.lemmas.List.{get_or_default}
 use Rattle.std.proofs.lemmas.List.FromFn.{length-map-range_with_len, get_or-map-range_with_len}
 use Rattle.std.specs.List.{range_with_len}
 use Rattle.jpeg_bits.specs.BlockView.{to_block}
@@ -102,8 +103,7 @@ pub strip-of : (codings : List Coding) (arrays : Arrays) (slot : ℕ) (c : Codin
     → get_or (strips_of codings arrays) slot []
     ≡ samples_of c.component.factors.vertical c (get_or arrays slot [])
 unfolding strips_of
-strip-of (d ∷ codings) (a ∷ arrays) zero c e h is =
-    ap (λ (x : Coding). samples_of x.component.factors.vertical x a) (sym is)
+strip-of (d ∷ codings) (a ∷ arrays) zero c e h is = grind (arith, common_steps)
 strip-of (d ∷ codings) (a ∷ arrays) (suc slot) c e h is =
     strip-of codings arrays slot c (omega arith) (omega arith) is
 strip-of _ _ slot c e h is = absurd (omega arith)

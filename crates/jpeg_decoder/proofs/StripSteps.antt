@@ -1,6 +1,7 @@
 -- Steps of the loop over the rows of MCUs of a sequential scan.
 use Rattle.std.proofs.Common.{◌≡◌, ℕ, ◌+◌, ◌-◌, ◌*◌, ◌<◌, ◌≤◌, List, [], ◌∷◌, map, drop, length}
-use Rattle.std.proofs.Common.{get_or, Ok, Err, refl, sym, ap, ap₂, ◌∙◌, arith, add-mul, length-append, mul-add, mul_comm}
+use Rattle.std.proofs.Common.{get_or, Ok, Err, refl, ap, ◌∙◌, arith, add-mul, length-append}
+use Rattle.std.proofs.Common.{mul-add, mul_comm, rules}
 use Rattle.std.proofs.lemmas.List.{length-map}
 use Rattle.std.proofs.lemmas.List.FromFn.{length-map-range_with_len}
 use Rattle.jpeg_pixels.specs.Planes.{plane_of}
@@ -15,14 +16,13 @@ use Rattle.jpeg_streams.specs.Order.{Spot}
 use Rattle.jpeg_streams.specs.Scans.{Arrays}
 use Rattle.jpeg_streams.specs.InTurn.{Counted, Fits, blocks_from}
 use Rattle.jpeg_streams.specs.McuRows.{zero_rows, on_arrays}
-use Rattle.jpeg_decoder.specs.Scanning.{components_in, arrays_in, sizes_of, wide_in, down_in}
+use Rattle.jpeg_decoder.specs.Scanning.{components_in, arrays_in, sizes_of, down_in}
 use Rattle.jpeg_decoder.specs.Steps.{coding_in}
 use Rattle.jpeg_streams.specs.ScanSegments.{Coding, components_of}
 use Rattle.jpeg_decoder.specs.Strips.{row_sizes, strip_samples, samples_of, zeros_of, with_strips}
 use Rattle.jpeg_decoder.specs.Strips.{strips_from}
 use Rattle.jpeg_decoder.proofs.KeptBlocks.{Held, sizes-long}
 use Rattle.std.proofs.lemmas.Grind.{common_steps}
-use Rattle.std.proofs.Common.{rules}
 
 -- ---- the rows
 
@@ -109,13 +109,7 @@ lengths-none cs planes e = ap lengths e ∙ go cs
     go : (cs : List Coded) → lengths (map (λ (c : Coding). []) (map coding_in cs))
         ≡ map (λ (c : Coded). strip_samples (0 * down_in c) c) cs
     go [] = refl
-    go (c ∷ cs) =
-        let s = c.component.now.dct_scale in
-        let a = s * wide_in c in
-        let y : 0 * down_in c ≡ 0 = omega arith in
-        let z : s * 0 ≡ 0 = omega arith in
-        let w : a * 0 ≡ 0 = omega arith in
-        ap₂ (λ (n : ℕ) (l : List ℕ). n ∷ l) (sym (ap (λ (n : ℕ). a * (s * n)) y ∙ ap (λ (n : ℕ). a * n) z ∙ w)) (go cs)
+    go (c ∷ cs) = grind (arith, common_steps, go cs)
 
 pub lengths-next : (cs : List Coded) (arrays : Arrays) (planes : List (List ℕ)) (row : ℕ)
     → length arrays ≡ length (map coding_in cs)

@@ -1,10 +1,11 @@
 -- Blocks that are taken out of those that are held, and put back.
-use Rattle.std.proofs.Common.{◌≡◌, ◌<◌, ℕ, zero, suc, ◌+◌, ℤ, List, [], ◌∷◌, ◌++◌, refl, sym, ap, ◌∙◌, length}
-use Rattle.std.proofs.Common.{get_or, set, map, take, arith}
+use Rattle.std.proofs.Common.{◌≡◌, ◌<◌, ℕ, zero, suc, ◌+◌, ℤ, List, [], ◌∷◌, ◌++◌, refl, sym, ap}
+use Rattle.std.proofs.Common.{◌∙◌, length, get_or, set, map, take, arith}
 use Rattle.std.specs.declared.alloc.Global.{Global}
 use Rattle.std.specs.declared.vec.Vec.{Vec}
 use Rattle.std.proofs.Math.Logic.{inl, inr}
-use Rattle.std.proofs.lemmas.List.{get_or-set_other, map-append, map-set, set-set, set_comm, take_more}
+use Rattle.std.proofs.lemmas.List.{get_or-set_other, map-append, map-set, set-set, set_comm}
+use Rattle.std.proofs.lemmas.List.{take_more}
 use Rattle.jpeg_bits.specs.Passes.{Block}
 use Rattle.jpeg_decoder.specs.declared.scan.Coded.{Coded}
 use Rattle.jpeg_streams.specs.InTurn.{AreApart, IsIn}
@@ -34,9 +35,8 @@ left-elsewhere (c ∷ more) kept index n =
 
 -- A place elsewhere may be set before or after.
 set-after : (codings : List Coding) (kept : Arrays) (index : ℕ) (blocks : List Block)
-    → (IsIn index (indices_of codings) → ⊥)
-    → set (without_blocks codings kept) index blocks ≡ without_blocks codings (set kept index
-    blocks)
+    → (IsIn index (indices_of codings) → ⊥) → set (without_blocks codings kept) index blocks
+    ≡ without_blocks codings (set kept index blocks)
 unfolding without_blocks
 set-after [] kept index blocks n = refl
 set-after (c ∷ more) kept index blocks n =
@@ -112,11 +112,10 @@ taken-more cs i c old now taken v h e apart within is left so_far =
     grind (arith, common_steps, map-append, blocks-of, left-elsewhere, not-before, more-codings)
 
 -- and none of its blocks are left
-pub left-more : (cs : List Coded) (i : ℕ) (c : Coded) (old now : List Held) (empty : Held) → i < length cs
-    → c ≡ get_or cs i c → empty.items ≡ []
-    → arrays_in now ≡ without_blocks (map coding_in (take i cs)) (arrays_in old)
-    → arrays_in (set now c.index empty) ≡ without_blocks (map coding_in (take (i + 1) cs))
-    (arrays_in old)
+pub left-more : (cs : List Coded) (i : ℕ) (c : Coded) (old now : List Held) (empty : Held)
+    → i < length cs → c ≡ get_or cs i c → empty.items ≡ [] → arrays_in now
+    ≡ without_blocks (map coding_in (take i cs)) (arrays_in old) → arrays_in (set now c.index empty)
+    ≡ without_blocks (map coding_in (take (i + 1) cs)) (arrays_in old)
 left-more cs i c old now empty h e none left = grind (arith, common_steps, map-set, more-codings, left-one)
 
 -- before the first, and after the last

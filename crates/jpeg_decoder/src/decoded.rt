@@ -158,6 +158,7 @@ fn take_blocks(
 }
 
 /// Puts blocks at the indices of a scan's components in the frame.
+#[tactic(auto, using(crate::proofs::PutLoops::put_rules), unfolding(jpeg_streams::specs::ScanSegments::put_arrays))]
 fn put_blocks(
     alloc: Global,
     codings: &[Coded<'_>],
@@ -371,6 +372,7 @@ impl Decoded {
     }
 
     /// Adds the planes of a scan of a sequential frame.
+    #[tactic(auto, using(crate::proofs::JointStrips::full_rules))]
     fn add_grown(&mut self, scan: &Scan<'_>, planes: GrowingPlanes, alloc: Global)
         requires indices { All HasIndex scan.now.components.items }
         requires grown { GrowsFor (map coding_in scan.now.components.items) planes }

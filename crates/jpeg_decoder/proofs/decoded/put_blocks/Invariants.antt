@@ -10,9 +10,8 @@ invariant-loop-slot l = record {
   arrays : length l.arrays.items ≡ length l.codings;
   length : length l.kept.items ≡ length l.fn.kept.items;
   put : put_arrays (drop l.slot (map coding_in l.codings)) (drop l.slot (arrays_in l.arrays.items))
-      (arrays_in l.kept.items)
-      ≡ put_arrays (map coding_in l.codings) (arrays_in l.fn.arrays.items) (arrays_in
-      l.fn.kept.items);
+      (arrays_in l.kept.items) ≡ put_arrays (map coding_in l.codings) (arrays_in l.fn.arrays.items)
+      (arrays_in l.fn.kept.items);
 }
 
 abbrev pub decreases-loop-slot : goal.decreases-loop-slot

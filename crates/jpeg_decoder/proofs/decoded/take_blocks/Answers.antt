@@ -1,4 +1,5 @@
-use Rattle.std.proofs.Common.{◌≡◌, ◌<◌, ◌++◌, ◌∷◌, [], length, get_or, rules}
+use Rattle.std.proofs.Common.{arith, ◌≡◌, ◌<◌, ◌++◌, ◌∷◌, [], length, get_or, rules}
+use Rattle.std.proofs.lemmas.Grind.{common_steps}
 use Rattle.jpeg_decoder.proofs.TakenBlocks.{none-taken, taken-more, left-more}
 use Rattle.jpeg_decoder.proofs.decoded.take_blocks.Goals as goal
 
@@ -21,10 +22,4 @@ loop-coded-preserved c =
     let at : v ≡ get_or now coded.index v = search rules in
     let within : coded.index < length now = search rules in
     let left = c.loop-coded.invariant.left in
-    record {
-      taken = rw more (taken-more cs i coded old now c.loop-coded.taken.items v (search rules) c.coded-item.is
-          c.requires.apart within at left c.loop-coded.invariant.taken);
-      left = left-more cs i coded old now c.replace-blocks.new.dest (search rules) c.coded-item.is (search rules)
-          left;
-      length = search rules;
-    }
+    grind (arith, common_steps, taken-more, left-more)

@@ -10,8 +10,7 @@ use Rattle.jpeg_decoder.proofs.lossless_scans.mcus_of.Goals as goal
 use Rattle.std.proofs.lemmas.Grind.{common_steps}
 
 -- the component alone
-only : (c : goal.After-size-1)
-    → component_in c.index.result.now
+only : (c : goal.After-size-1) → component_in c.index.result.now
     ≡ get_or (frame_in c.args.frame.now).components (get_or c.args.indices.now 0 0) no_component
 only c = grind (arith, common_steps, component-at, length-map)
 

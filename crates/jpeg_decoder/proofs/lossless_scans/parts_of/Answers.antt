@@ -1,4 +1,5 @@
-use Rattle.std.proofs.Common.{◌≡◌, ◌<◌, ◌∷◌, ◌++◌, ◌∙◌, ◌==◌, [], ap, sym, arith, get_or, length, map, rules}
+use Rattle.std.proofs.Common.{◌≡◌, ◌<◌, ◌∷◌, ◌++◌, ◌∙◌, ◌==◌, [], ap, sym, arith, get_or, length}
+use Rattle.std.proofs.Common.{map, rules}
 use Rattle.std.proofs.Math.ListN as lists
 use Rattle.std.specs.Prelude.{slice_index_or}
 use Rattle.std.proofs.lemmas.List.{length-map, map-append}

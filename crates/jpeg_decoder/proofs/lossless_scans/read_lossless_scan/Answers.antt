@@ -1,35 +1,29 @@
-use Rattle.std.proofs.Common.{true, ◌≡◌, ◌<◌, ◌==◌, ◌∙◌, ℕ, List, ap, length, map, subst, sym}
-use Rattle.std.specs.Prelude.{Option}
+use Rattle.std.proofs.Common.{◌≡◌, ◌<◌, ◌==◌, ◌∙◌, ℕ, List, ap, length, map, sym, arith}
 use Rattle.std.proofs.lemmas.List.{length-map}
 use Rattle.std.proofs.lemmas.List.Elements.{recursion_from_All}
-use Rattle.std.specs.List.{AllByRecursion}
-use Rattle.std.specs.declared.alloc.Global.{Global}
-use Rattle.std.specs.declared.vec.Vec.{Vec}
 use Rattle.jpeg_streams.specs.ScanSegments.{once_scanned}
-use Rattle.jpeg_lossless.specs.Codings.{AreWholeSamples, IsCovered, part_in}
-use Rattle.jpeg_lossless.specs.Differences.{Part}
-use Rattle.jpeg_lossless.specs.declared.scan.Coding.{Coding}
+use Rattle.jpeg_lossless.specs.Codings.{part_in}
 use Rattle.std.proofs.lemmas.Result.{err_from_is_err_and}
-use Rattle.jpeg_bits.specs.declared.marker.Marker.{Marker}
+use Rattle.jpeg_bits.specs.Reading.{Fault}
+use Rattle.jpeg_decoder.proofs.LosslessReads.{samples-read, AreCodings, HasMcus, codings-by-tables}
+use Rattle.jpeg_decoder.proofs.LosslessReads.{codings-count, codings-lacking, four-indices}
+use Rattle.jpeg_decoder.proofs.LosslessReads.{has-mcus, on-ok, parts-count, put-made, samples-end}
+use Rattle.jpeg_decoder.proofs.LosslessReads.{samples-fail, samples-lacking, samples-sound}
+use Rattle.jpeg_decoder.proofs.LosslessReads.{scan-sampled}
 use Rattle.jpeg_segments.specs.FrameView.{frame_in, scan_in}
 use Rattle.jpeg_streams.specs.Found.{Found}
 use Rattle.jpeg_streams.specs.LosslessScans.{with_samples}
 use Rattle.jpeg_decoder.specs.LosslessParts.{mcus_high, mcus_wide, parts_at}
 use Rattle.jpeg_decoder.specs.Seen.{found_in}
-use Rattle.jpeg_decoder.specs.Steps.{samples_read, with_decoded}
-use Rattle.jpeg_decoder.proofs.LosslessReads.{AreCodings, HasMcus, begun, coded-by}
-use Rattle.jpeg_decoder.proofs.LosslessReads.{codings-by-tables, codings-count, codings-lacking}
-use Rattle.jpeg_decoder.proofs.LosslessReads.{four-indices}
-use Rattle.jpeg_decoder.proofs.LosslessReads.{has-mcus, on-ok, parts-count, put-made, samples-end, samples-fail}
-use Rattle.jpeg_decoder.proofs.LosslessReads.{samples-lacking, samples-sound, scan-sampled}
+use Rattle.jpeg_decoder.specs.Steps.{with_decoded}
 use Rattle.jpeg_decoder.proofs.PicturesOfPlanes.{decoded-factors}
-use Rattle.jpeg_decoder.proofs.ScanReads.{refused}
 use Rattle.jpeg_streams.proofs.Soundness.{decoded-precision}
 use Rattle.jpeg_decoder.proofs.lossless_scans.read_lossless_scan.Given as given
-use Rattle.jpeg_decoder.proofs.lossless_scans.read_lossless_scan.Goals.{After-deref-2, After-deref-3, After-put_samples}
+use Rattle.jpeg_decoder.proofs.lossless_scans.read_lossless_scan.Goals.{After-deref-2}
+use Rattle.jpeg_decoder.proofs.lossless_scans.read_lossless_scan.Goals.{After-deref-3}
+use Rattle.jpeg_decoder.proofs.lossless_scans.read_lossless_scan.Goals.{After-put_samples}
 use Rattle.jpeg_decoder.proofs.lossless_scans.read_lossless_scan.Goals as goal
 use Rattle.std.proofs.lemmas.Grind.{common_steps}
-use Rattle.std.proofs.Common.{arith}
 
 -- the components of the scan, with their tables
 coded : (g : given.Over) (c : After-deref-2 g) → let scan = scan_in c.args.header.now in
@@ -39,11 +33,10 @@ coded : (g : given.Over) (c : After-deref-2 g) → let scan = scan_in c.args.hea
 coded g c = grind (arith, common_steps, codings-by-tables, recursion_from_All)
 
 -- their parts
-made : (g : given.Over) (c : After-deref-3 g) → let indices = (scan_in
-    c.args.header.now).components in
-    map part_in c.deref-3.result.now ≡ parts_at (length indices == 1) (frame_in
-    c.args.frame.now).components indices
-    (map (λ t. t.now) c.in_ok-tables.tables.items)
+made : (g : given.Over) (c : After-deref-3 g)
+    → let indices = (scan_in c.args.header.now).components in map part_in c.deref-3.result.now
+    ≡ parts_at (length indices == 1)
+    (frame_in c.args.frame.now).components indices (map (λ t. t.now) c.in_ok-tables.tables.items)
 made g c = grind (arith, common_steps)
 
 -- their MCUs
@@ -68,25 +61,25 @@ placed g c = grind (arith, common_steps, put-made)
 
 pub returns-in_err-tables-clause-reads : goal.returns-in_err-tables-clause-reads
 returns-in_err-tables-clause-reads g c =
-    let p = err_from_is_err_and c.from_residual.result c.from_residual.ensures.1 in
     let found = with_decoded (found_in c.args.state.now) c.args.decoded.now in
     let frame = frame_in c.args.frame.now in
     let header = scan_in c.args.header.now in
-    let indices = recursion_from_All (λ index. index < length frame.components) header.components
+    let within = recursion_from_All (λ index. index < length frame.components) header.components
     c.requires.legal.components in
-    rw (p.1, p.2) (refused {X = Option Marker} (λ m. (found, m)) (samples_read found frame header)
-    (samples_read found frame header) c.args.source.now c.args.source.now _ _
-    (begun (samples_read found frame header) c.args.source.now) c.in_err-tables.ensures.0
-    c.in_err-tables.ensures.1
-    (λ f h. samples-lacking found frame header c.args.source.now.bytes f
-    (codings-lacking found.said.huffman.dc frame header.components header.dc_destinations f indices
-    c.requires.legal.dc_length h)))
+    let lacking = λ (f : Fault). codings-lacking found.said.huffman.dc frame header.components header.dc_destinations f
+    within c.requires.legal.dc_length in
+    grind (
+      arith,
+      common_steps,
+      err_from_is_err_and,
+      lacking,
+      samples-lacking found frame header c.args.source.now.bytes,
+    )
 
 pub parts_of-requires-clause-count : goal.parts_of-requires-clause-count
 parts_of-requires-clause-count g c =
-    ap (λ l. length l) c.deref-2.ensures.value ∙ sym (length-map c.in_ok-tables.tables.items (λ t. t.now))
-    ∙ codings-count _ _ _ _ _ (coded g (goal.at.parts_of-requires-clause-count g c).After-deref-2)
-    ∙ ap length (sym c.deref.ensures.value)
+    let count = codings-count _ _ _ _ _ (coded g (goal.at.parts_of-requires-clause-count g c).After-deref-2) in
+    grind (arith, common_steps, length-map)
 
 pub coding_of-coding-requires-clause-sampling : goal.coding_of-coding-requires-clause-sampling
 coding_of-coding-requires-clause-sampling g c =
@@ -102,13 +95,8 @@ read_scan-requires-clause-high g c =
 
 pub read_scan-requires-clause-covered : goal.read_scan-requires-clause-covered
 read_scan-requires-clause-covered g c =
-    let frame = frame_in c.args.frame.now in
-    let indices = (scan_in c.args.header.now).components in
     let at = goal.at.read_scan-requires-clause-covered g c in
-    subst (λ (k : Coding). AllByRecursion (IsCovered k.wide k.high) (map part_in c.deref-3.result.now))
-    (sym c.coding_of-coding.ensures)
-    (subst (AllByRecursion (IsCovered (mcus_wide frame indices) (mcus_high frame indices)))
-    (sym (made g at.After-deref-3)) (mcus g at.After-deref-2).covered)
+    rw (c.coding_of-coding.ensures, made g at.After-deref-3) (mcus g at.After-deref-2).covered
 
 pub read_scan-requires-clause-precision : goal.read_scan-requires-clause-precision
 read_scan-requires-clause-precision g c =
@@ -119,24 +107,18 @@ read_scan-requires-clause-precision g c =
 pub returns-in_err-planes-clause-reads : goal.returns-in_err-planes-clause-reads
 returns-in_err-planes-clause-reads g c =
     let p = err_from_is_err_and c.from_residual-in_err-planes.result c.from_residual-in_err-planes.ensures.1 in
-    let found = with_decoded (found_in c.args.state.now) c.args.decoded.now in
-    let frame = frame_in c.args.frame.now in
-    let header = scan_in c.args.header.now in
     let at = goal.at.returns-in_err-planes-clause-reads g c in
     let a = coded g at.After-deref-2 in
-    rw (p.1, p.2) (samples-fail {X = Option Marker} (λ m. (found, m))
-    (λ (r : Vec (Vec ℕ Global) Global × Option Marker). (map (λ v. v.items) r.0.items, r.1)) found
-    frame header a.codings _ c.args.source.now c.read_scan.new.source _ a.are
-    (coded-by found frame header _ a _ _ c.coding_of-coding.ensures (made g at.After-deref-3))
-    c.in_err-planes.ensures.reads)
+    rw (p.1, p.2) (samples-fail _ _ _ a.codings _ c.args.source.now c.read_scan.new.source _
+    (samples-read (with_decoded (found_in c.args.state.now) c.args.decoded.now) _ _ _ a _ _ c.args.source.now.bytes
+    c.coding_of-coding.ensures (made g at.After-deref-3)) c.in_err-planes.ensures.reads)
 
 pub put_samples-requires-clause-count : goal.put_samples-requires-clause-count
 put_samples-requires-clause-count g c =
     let at = goal.at.put_samples-requires-clause-count g c in
-    c.in_ok-planes.ensures.count
-    ∙ sym (length-map c.deref-3.result.now part_in) ∙ ap (λ (l : List Part). length l) (made g at.After-deref-3)
-    ∙ parts-count _ _ _ _ (codings-count _ _ _ _ _ (coded g at.After-deref-2))
-    ∙ ap length (sym c.deref-4.ensures.value)
+    let parts = made g at.After-deref-3 in
+    let count = codings-count _ _ _ _ _ (coded g at.After-deref-2) in
+    grind (arith, common_steps, length-map, parts-count)
 
 pub put_samples-requires-clause-indices : goal.put_samples-requires-clause-indices
 put_samples-requires-clause-indices g c =
@@ -147,21 +129,15 @@ put_samples-requires-clause-indices g c =
 pub returns-clause-reads : goal.returns-clause-reads
 returns-clause-reads g c =
     let found = with_decoded (found_in c.args.state.now) c.args.decoded.now in
-    let frame = frame_in c.args.frame.now in
-    let header = scan_in c.args.header.now in
     let at = goal.at.returns-clause-reads g c in
     let a = coded g at.After-deref-2 in
     let planes = map (λ v. v.items) c.in_ok-planes.planes.items in
-    samples-end found (once_scanned (with_decoded (found_in c.args.state.now) c.put_samples.new.self))
-    frame header a.codings _ planes c.in_ok-planes.met
-    c.args.source.now c.read_scan.new.source c.pass_restarts.new.source c.pass_restarts.result a.are
-    (coded-by found frame header _ a _ _ c.coding_of-coding.ensures (made g at.After-deref-3))
-    (placed g at.After-put_samples
-    ∙ ap (λ (l : List ℕ). record (once_scanned found) {
-      samples = with_samples l planes
-          found.samples;
-    }) (sym a.indices_are))
-    c.in_ok-planes.ensures.reads c.pass_restarts.ensures
+    samples-end found (once_scanned (with_decoded (found_in c.args.state.now) c.put_samples.new.self)) _ _ a.codings _
+    planes c.in_ok-planes.met c.args.source.now c.read_scan.new.source c.pass_restarts.new.source c.pass_restarts.result
+    (samples-read found _ _ _ a _ _ c.args.source.now.bytes c.coding_of-coding.ensures (made g at.After-deref-3))
+    (placed g at.After-put_samples ∙ ap (λ (l : List ℕ). record (once_scanned found) {
+      samples = with_samples l planes found.samples;
+    }) (sym a.indices_are)) c.in_ok-planes.ensures.reads c.pass_restarts.ensures
 
 pub returns-clause-sound : goal.returns-clause-sound
 returns-clause-sound g c =
@@ -169,11 +145,8 @@ returns-clause-sound g c =
     let frame = frame_in c.args.frame.now in
     let header = scan_in c.args.header.now in
     let at = goal.at.returns-clause-sound g c in
-    let next = once_scanned (with_decoded (found_in c.args.state.now) c.put_samples.new.self) in
     let planes = map (λ v. v.items) c.in_ok-planes.planes.items in
-    on-ok c.pass_restarts.result (samples-sound found next frame header.components planes c.requires.sound
-    c.requires.frame c.requires.process
-    (scan-sampled (length header.components == 1) found frame header.components _ planes c.requires.sound
-    c.requires.frame (subst (λ (l : List Part). AreWholeSamples l planes) (made g at.After-deref-3)
-    c.in_ok-planes.ensures.whole))
-    (placed g at.After-put_samples))
+    let whole = rw (made g at.After-deref-3) at c.in_ok-planes.ensures.whole in
+    on-ok c.pass_restarts.result (samples-sound found _ frame header.components planes c.requires.sound
+    c.requires.frame c.requires.process (scan-sampled (length header.components == 1) found frame header.components _
+    planes c.requires.sound c.requires.frame whole) (placed g at.After-put_samples))

@@ -1,4 +1,5 @@
-use Rattle.std.proofs.Common.{◌≡◌, ◌∷◌, ◌++◌, [], None, Some, ap, ◌∙◌, get_or, map, rules}
+use Rattle.std.proofs.lemmas.Grind.{common_steps}
+use Rattle.std.proofs.Common.{◌≡◌, None, ap, get_or, map, rules, arith}
 use Rattle.std.specs.Prelude.{slice_index_or}
 use Rattle.std.proofs.lemmas.List.{map-append}
 use Rattle.std.proofs.lemmas.Result.{err_from_is_err_and}
@@ -7,7 +8,6 @@ use Rattle.jpeg_segments.specs.Checks.{needed}
 use Rattle.jpeg_segments.proofs.Gathered.{gathers-all, gathers-err, gathers-more, gathers-none}
 use Rattle.jpeg_decoder.proofs.SlotCodings.{format-refuses}
 use Rattle.jpeg_decoder.proofs.lossless_scans.tables_of.Goals as goal
-use Rattle.std.proofs.Common.{arith}
 
 pub returns-in_err-needed : goal.returns-in_err-needed
 returns-in_err-needed c =
@@ -22,17 +22,7 @@ returns-in_err-needed c =
     (rw (← at) (ap needed unset)) c.loop-slot.invariant))
 
 pub loop-slot-preserved : goal.loop-slot-preserved
-loop-slot-preserved c =
-    let ts = c.args.state.now.dc_tables in
-    let ds = c.args.header.now.dc_table_indices.items in
-    let old = c.loop-slot.tables.items in
-    let table = c.in_ok-needed.field-0 in
-    let at : c.index-destination.result.now ≡ get_or ds c.loop-slot.slot c.index-destination.result.now = search rules in
-    let set : slice_index_or ts c.index-destination.result.now None ≡ Some table.now = search rules in
-    let pushed : c.push.new.self.items ≡ old ++ table ∷ [] = search rules in
-    gathers-more (λ d. needed (slice_index_or ts d None)) ds c.loop-slot.slot c.index-destination.result.now
-    table.now (map (λ t. t.now) old) _ (search rules) (rw (← at) (ap needed set))
-    (ap (map (λ t. t.now)) pushed ∙ map-append (λ t. t.now) old (table ∷ [])) c.loop-slot.invariant
+loop-slot-preserved c = grind (arith, common_steps, gathers-more, map-append)
 
 pub loop-slot-init : goal.loop-slot-init
 loop-slot-init c = search (rules, gathers-none)

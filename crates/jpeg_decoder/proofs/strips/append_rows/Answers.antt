@@ -1,6 +1,6 @@
 use Rattle.std.proofs.Common.{arith, append_assoc}
-use Rattle.jpeg_decoder.proofs.StripRows.{raster-rows, strip-next, rows-fit, none-yet, drop-none, drop-next}
-use Rattle.jpeg_decoder.proofs.StripRows.{rest-long}
+use Rattle.jpeg_decoder.proofs.StripRows.{raster-rows, strip-next, rows-fit, none-yet, drop-none}
+use Rattle.jpeg_decoder.proofs.StripRows.{drop-next, rest-long}
 use Rattle.jpeg_decoder.proofs.strips.append_rows.Goals as goal
 use Rattle.std.proofs.lemmas.Grind.{common_steps}
 

@@ -1,4 +1,4 @@
-use Rattle.std.proofs.Common.{arith, rules}
+use Rattle.std.proofs.Common.{arith}
 use Rattle.jpeg_decoder.specs.Strips.{samples_of}
 use Rattle.jpeg_decoder.proofs.RowBuffers.{no-strips, planes-all, planes-long, planes-next}
 use Rattle.jpeg_decoder.proofs.RowBuffers.{row-size}
@@ -16,8 +16,7 @@ unfolding samples_of
 loop-slot-preserved c = grind (arith, common_steps, planes-next)
 
 pub returns-then-is_empty : goal.returns-then-is_empty
-returns-then-is_empty c =
-    no-strips c.args.codings.now c.args.rows.now c.args.planes.now (search rules)
+returns-then-is_empty c = grind (arith, common_steps, no-strips)
 
 pub returns : goal.returns
 returns c = grind (arith, common_steps, planes-all)

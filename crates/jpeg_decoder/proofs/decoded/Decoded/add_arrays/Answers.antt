@@ -1,9 +1,6 @@
-use Rattle.std.proofs.Common.{◌≡◌, ◌∙◌, ap, arith, rules, length, map, get_or, ◌<◌}
-use Rattle.jpeg_decoder.specs.declared.scan.Coded.{Coded}
-use Rattle.jpeg_bits.specs.BlockView.{to_block, pass_in}
-use Rattle.jpeg_decoder.specs.Scanning.{blocks_in}
-use Rattle.jpeg_decoder.specs.Steps.{coding_in, with_decoded, with_its_plane}
-use Rattle.jpeg_streams.specs.Rasters.{plane_by}
+use Rattle.std.proofs.Common.{◌≡◌, ◌∙◌, arith, rules, length, get_or, ◌<◌}
+use Rattle.jpeg_bits.specs.BlockView.{pass_in}
+use Rattle.jpeg_decoder.specs.Steps.{with_decoded}
 use Rattle.jpeg_decoder.proofs.PutLoops.{arrays-step, none-left, sized-at, long-at}
 use Rattle.jpeg_streams.specs.ScanSegments.{with_arrays}
 use Rattle.jpeg_decoder.proofs.decoded.Decoded.add_arrays.Goals as goal
@@ -31,13 +28,7 @@ loop-slot-preserved c =
           arrays-step p cs l.slot coded c.args.arrays.now.items c.index.result.now (with_decoded base l.self)
           (with_decoded base c.add_blocks.new.self) h
           (long-at cs c.args.arrays.now.items l.slot c.requires.blocks h) (search rules)
-          (c.in_ok-add_blocks.ensures.plane base
-          ∙ (ap (λ bs. with_its_plane p coded.index (plane_by (coding_in coded).component
-          (coding_in coded).quantization
-          (map to_block bs)) (with_decoded base l.self)) c.deref.ensures.value
-          ∙ ap (λ (x : Coded). with_its_plane p x.index (plane_by (coding_in x).component
-          (coding_in x).quantization
-          (blocks_in c.index.result.now)) (with_decoded base l.self)) is))
+          (grind (arith, common_steps, c.in_ok-add_blocks.ensures.plane base))
           ∙ l.invariant.added base;
     }
 

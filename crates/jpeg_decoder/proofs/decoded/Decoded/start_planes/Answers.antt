@@ -1,7 +1,7 @@
-use Rattle.std.proofs.Common.{◌≡◌, ◌∙◌, ap, refl, sym, length, List, map}
+use Rattle.std.proofs.Common.{arith, ◌≡◌, ap, length, map}
+use Rattle.std.proofs.lemmas.Grind.{common_steps}
 use Rattle.std.proofs.lemmas.List.{length-map}
 use Rattle.jpeg_segments.specs.FrameView.{component_in, frame_in}
-use Rattle.jpeg_decoder.specs.declared.scan.Coded.{Coded}
 use Rattle.jpeg_decoder.proofs.JointStrips.{joint-started, none-started}
 use Rattle.jpeg_decoder.proofs.decoded.Decoded.start_planes.Goals.{In_ok-new}
 use Rattle.jpeg_decoder.proofs.decoded.Decoded.start_planes.Goals as goal
@@ -9,10 +9,7 @@ use Rattle.jpeg_decoder.proofs.decoded.Decoded.start_planes.Goals as goal
 -- the scan has all components of the frame
 all-there : (c : In_ok-new) → length c.args.scan.now.components.items
     ≡ length (map component_in c.as_slice-components.result.now)
-all-there c =
-    ap (λ (cs : List Coded). length cs) (sym c.deref.ensures.value)
-    ∙ (c.if-are_in_order.ensures refl).0
-    ∙ sym (length-map c.as_slice-components.result.now component_in)
+all-there c = grind (arith, common_steps, length-map)
 
 pub returns-in-Some-clause-none : goal.returns-in-Some-clause-none
 returns-in-Some-clause-none c =

@@ -1,4 +1,6 @@
-use Rattle.std.proofs.Common.{is_some, Option, ◌≡◌, ◌∙◌, ◌+◌, ◌<◌, ◌^◌, suc, true, None, Ok, sym, ap, arith, length}
+use Rattle.std.proofs.lemmas.Grind.{common_steps}
+use Rattle.std.proofs.Common.{is_some, Option, ◌≡◌, ◌∙◌, ◌+◌, ◌<◌, ◌^◌, suc, true, None, Ok, sym}
+use Rattle.std.proofs.Common.{ap, arith, length}
 use Rattle.std.proofs.lemmas.Result.{err_from_is_err_and}
 use Rattle.jpeg_streams.specs.declared.before.Before.TheVariants.{Elsewhere}
 use Rattle.jpeg_streams.specs.Stream.{told_of, turn_at, segments_at, walk}
@@ -7,7 +9,8 @@ use Rattle.jpeg_decoder.specs.Seen.{found_in}
 use Rattle.jpeg_segments.specs.Frame.{Frame}
 use Rattle.jpeg_decoder.specs.declared.state.State.{State}
 use Rattle.jpeg_decoder.specs.Steps.{turn_of}
-use Rattle.jpeg_streams.proofs.ReadTurns.{Walked, segments-walked, walk-end, walk-refused, walk-stop}
+use Rattle.jpeg_streams.proofs.ReadTurns.{Walked, segments-walked, walk-end, walk-refused}
+use Rattle.jpeg_streams.proofs.ReadTurns.{walk-stop}
 use Rattle.jpeg_streams.proofs.Refusals.{short-step, told-err, never-met}
 use Rattle.jpeg_decoder.proofs.Turns.{not-framed, turn-takes}
 use Rattle.jpeg_decoder.proofs.TurnLoops.{walked-err, walked-on, walked-whole}
@@ -84,33 +87,6 @@ pub returns-then-step-clause-turns : goal.returns-then-step-clause-turns
 unfolding IsOfTurns
 returns-then-step-clause-turns g c k = (_, ap (λ (w : Walked). told_of w.0.said) (sym (ended g c k)))
 
--- ---- the frame
-
-stays-on : (mid new old : State) → (found_in mid).said.frame ≡ (found_in old).said.frame → (is_some (found_in mid).said.frame ≡ true
-    → (found_in new).said.frame ≡ (found_in mid).said.frame) → is_some (found_in old).said.frame ≡ true
-    → (found_in new).said.frame ≡ (found_in old).said.frame
-stays-on mid new old a step h = step (ap (λ (f : Option Frame). is_some f) a ∙ h) ∙ a
-
-pub returns-then-is_read_for-clause-stays : goal.returns-then-is_read_for-clause-stays
-returns-then-is_read_for-clause-stays g c = c.loop.invariant.stays
-
-pub returns-in_err-step-clause-stays : goal.returns-in_err-step-clause-stays
-returns-in_err-step-clause-stays g c h =
-    stays-on c.loop.self c.read_turn.new.self c.args.self.now (c.loop.invariant.stays h) c.in_err-step.ensures.steps.stays h
-
-pub returns-then-step-clause-stays : goal.returns-then-step-clause-stays
-returns-then-step-clause-stays g c h =
-    stays-on c.loop.self c.read_turn.new.self c.args.self.now (c.loop.invariant.stays h) c.in_ok-step.ensures.steps.stays h
-
-pub returns-clause-stays : goal.returns-clause-stays
-returns-clause-stays g c h =
-    elim c.loop-test.branch [
-      | else-loop-test w ↦ rw w.self-is (c.loop.invariant.stays h)
-      | then-loop-test+else-is_read_for+in_ok-step+else-step+else-counter-lt18446744073709551615 w ↦ rw w.self-is
-          (stays-on c.loop.self w.read_turn.new.self c.args.self.now (c.loop.invariant.stays h)
-          w.in_ok-step.ensures.steps.stays h)
-    ]
-
 -- ---- one more turn
 
 pub loop-preserved : goal.loop-preserved
@@ -122,8 +98,7 @@ loop-preserved g c =
           c.loop.invariant.walked (sym c.if-is_read_for.ensures) c.if-step.false c.in_ok-step.ensures.reads;
       short = λ _. short-step c.loop.counter c.loop.met c.loop.source c.args.source.now c.loop.invariant.short
           c.loop.invariant.first c.in_ok-step.ensures.short;
-      stays = λ h. stays-on c.loop.self c.read_turn.new.self c.args.self.now (c.loop.invariant.stays h)
-          c.in_ok-step.ensures.steps.stays h;
+      stays = λ h. grind (arith, common_steps, c.loop.invariant.stays h);
       sound = c.in_ok-step.ensures.steps.sound c.loop.invariant.sound;
       unread = λ h e. c.in_ok-step.ensures.steps.unread (not-framed c.args.header found.said.frame
           (sym c.if-is_read_for.ensures) h) (c.loop.invariant.unread h e);
