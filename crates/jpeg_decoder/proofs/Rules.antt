@@ -1,0 +1,95 @@
+-- Lemmas that the proofs of functions use, by what they are about.
+use Rattle.std.proofs.lemmas.Grind.{common_steps}
+use Rattle.std.proofs.lemmas.List.{get_or-map, length-map, map-set}
+use Rattle.std.proofs.lemmas.List.Folds.{list_all-map}
+use Rattle.jpeg_segments.proofs.ScaleLemmas.{full_size}
+use Rattle.jpeg_streams.proofs.AcceptedSamples.{accepted-picture, accepted-samples}
+use Rattle.jpeg_streams.proofs.Apart.{spots-apart, spots-inside, zeros-sized}
+use Rattle.jpeg_streams.proofs.CountedScans.{frame-scans}
+use Rattle.jpeg_streams.proofs.EncodedSamples.{samples-written}
+use Rattle.jpeg_streams.proofs.FrameFits.{frames-fit, scaled-frames-fit}
+use Rattle.jpeg_streams.proofs.LosslessFrames.{lossless-accepted}
+use Rattle.jpeg_streams.proofs.McuRows.{scans-by-rows}
+use Rattle.jpeg_streams.proofs.PaddingUnseen.{own-predicted, pictures-agree, planes-same}
+use Rattle.jpeg_streams.proofs.PicturedFrames.{header-accepted}
+use Rattle.jpeg_streams.proofs.PlaneStrips.{plane-strips}
+use Rattle.jpeg_streams.proofs.ProfileLemmas.{part_find}
+use Rattle.jpeg_streams.proofs.ScaledCovers.{frames-have-sources}
+use Rattle.jpeg_streams.proofs.ScanArrays.{codings-are-of, sequential-scan, progressive-scan}
+use Rattle.jpeg_streams.proofs.SizedAgain.{found-again}
+use Rattle.jpeg_streams.proofs.SizedStreams.{sized-taken, stream-means_sized}
+use Rattle.jpeg_streams.proofs.WalkedStreams.{front-append}
+use Rattle.jpeg_streams.proofs.WholeImages.{cut-whole}
+use Rattle.jpeg_streams.proofs.WholeScans.{scans-in-turn}
+use Rattle.jpeg_streams.proofs.WorkedColour.{colour-written}
+use Rattle.jpeg_streams.proofs.WorkedGrey.{grey-written}
+use Rattle.jpeg_streams.proofs.WorkedSamples.{padding-written, three-written}
+use Rattle.jpeg_streams.proofs.WrittenParts.{front-closed}
+use Rattle.jpeg_streams.proofs.WrittenPictures.{stream-means, taken-means}
+use Rattle.jpeg_decoder.proofs.HeaderThenRest.{header-lacks, header-means}
+use Rattle.jpeg_decoder.proofs.JointDecided.{or-after, or-at, or-nothing, or-set, or-some, room-at, room-past}
+
+-- the laws of images
+pub ruleset images = (
+  stream-means,
+  stream-means_sized,
+  taken-means,
+  sized-taken,
+  cut-whole,
+  front-append,
+  front-closed,
+  grey-written,
+  colour-written,
+  header-accepted,
+  accepted-picture,
+)
+
+-- the laws of streams and scans
+pub ruleset streams = (
+  header-means,
+  header-lacks,
+  spots-apart,
+  spots-inside,
+  scans-in-turn,
+  frame-scans,
+  zeros-sized,
+  scans-by-rows,
+  frames-fit,
+  scaled-frames-fit,
+  full_size,
+  frames-have-sources,
+  sequential-scan,
+  codings-are-of,
+  progressive-scan,
+  plane-strips,
+  found-again,
+)
+
+-- the laws of lossless streams
+pub ruleset samples = (
+  own-predicted,
+  planes-same,
+  pictures-agree,
+  lossless-accepted,
+  accepted-samples,
+  samples-written,
+  three-written,
+  padding-written,
+)
+
+-- planes that are decided
+pub ruleset planes = (
+  length-map,
+  get_or-map,
+  map-set,
+  or-nothing,
+  or-at,
+  or-set,
+  or-after,
+  or-some,
+  room-at,
+  room-past,
+)
+
+-- parts of a profile
+pub ruleset parts = (part_find, list_all-map)

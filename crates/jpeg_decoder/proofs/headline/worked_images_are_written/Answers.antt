@@ -1,6 +1,0 @@
-use Rattle.jpeg_streams.proofs.WorkedColour.{colour-written}
-use Rattle.jpeg_streams.proofs.WorkedGrey.{grey-written}
-use Rattle.jpeg_decoder.proofs.headline.worked_images_are_written.Goals as goal
-
-pub returns : goal.returns
-returns c = record { grey = grey-written; colour = colour-written }
