@@ -1,6 +1,6 @@
 -- Lemmas that the proofs of functions use, by what they are about.
 use Rattle.std.proofs.lemmas.Grind.{common_steps}
-use Rattle.std.proofs.lemmas.List.{get_or-map, length-map, map-set}
+use Rattle.std.proofs.lemmas.List.{drop-set-lt, get_or-map, length-map, map-set}
 use Rattle.std.proofs.lemmas.List.Folds.{list_all-map}
 use Rattle.jpeg_segments.proofs.ScaleLemmas.{full_size}
 use Rattle.jpeg_streams.proofs.AcceptedSamples.{accepted-picture, accepted-samples}
@@ -13,7 +13,6 @@ use Rattle.jpeg_streams.proofs.McuRows.{scans-by-rows}
 use Rattle.jpeg_streams.proofs.PaddingUnseen.{own-predicted, pictures-agree, planes-same}
 use Rattle.jpeg_streams.proofs.PicturedFrames.{header-accepted}
 use Rattle.jpeg_streams.proofs.PlaneStrips.{plane-strips}
-use Rattle.jpeg_streams.proofs.ProfileLemmas.{part_find}
 use Rattle.jpeg_streams.proofs.ScaledCovers.{frames-have-sources}
 use Rattle.jpeg_streams.proofs.ScanArrays.{codings-are-of, sequential-scan, progressive-scan}
 use Rattle.jpeg_streams.proofs.SizedAgain.{found-again}
@@ -26,6 +25,7 @@ use Rattle.jpeg_streams.proofs.WorkedGrey.{grey-written}
 use Rattle.jpeg_streams.proofs.WorkedSamples.{padding-written, three-written}
 use Rattle.jpeg_streams.proofs.WrittenParts.{front-closed}
 use Rattle.jpeg_streams.proofs.WrittenPictures.{stream-means, taken-means}
+use Rattle.jpeg_decoder.proofs.BlocksBefore.{plane_by-length}
 use Rattle.jpeg_decoder.proofs.HeaderThenRest.{header-lacks, header-means}
 use Rattle.jpeg_decoder.proofs.JointDecided.{or-after, or-at, or-nothing, or-set, or-some, room-at, room-past}
 
@@ -91,5 +91,8 @@ pub ruleset planes = (
   room-past,
 )
 
+-- planes and blocks at the end
+pub ruleset ends = (common_steps, drop-set-lt, map-set, plane_by-length)
+
 -- parts of a profile
-pub ruleset parts = (part_find, list_all-map)
+pub ruleset parts = (list_all-map)

@@ -95,6 +95,7 @@ fn are_kept(state: &State, frame: &FrameInfo) -> bool
 }
 
 /// Takes the blocks of a component out of those that are kept, where blocks are kept.
+#[tactic(auto, using(crate::proofs::Rules::ends))]
 fn take_kept(
     alloc: Global,
     is_kept: bool,
@@ -115,6 +116,7 @@ fn take_kept(
 
 /// Returns the plane of a component at the end of an image: the one that is decided, or else that
 /// of the blocks that are kept, by the quantization table in force.
+#[tactic(auto, using(crate::proofs::Rules::ends))]
 fn plane_at_end(
     alloc: Global,
     state: &State,
