@@ -1,4 +1,5 @@
 -- A call that reads the header of a stream where it is to be read, and then the rest of it.
+use Rattle.std.proofs.Common.{rules}
 use Rattle.std.proofs.Common.{◌≡◌, ◌++◌, ℕ, suc, List, Result, Ok, Err, true, false, refl, sym, ap, ◌∙◌, subst, length, take}
 use Rattle.std.proofs.lemmas.Bool.{false≢true}
 use Rattle.std.proofs.Math.Seq.{take-append_seam}
@@ -59,8 +60,7 @@ pub record HasRead {X : Type 0} (bytes_of : X → List ℕ) (told : Told) (old :
 
 none-read : {X : Type 0} (bytes_of : X → List ℕ) (told : Told) (old : Decoding) (r : Result X Error) (new : Stream)
     → (IsReading old.stage → ⊥) → HasRead bytes_of told old r new
-none-read bytes_of told old r new n =
-    record { reads = λ h. absurd (n h); told_is = λ h. absurd (n h); turns = λ h. absurd (n h) }
+none-read bytes_of told old r new n = search rules
 
 -- What was done before the rest was read: the header, where it was to be read.
 pub record IsBegun (old mid : Decoding) : Type 0 where
@@ -71,8 +71,7 @@ pub record IsBegun (old mid : Decoding) : Type 0 where
 pub begun-seen : (old mid seen : Decoding) → seen ≡ mid
     → (old.stage ≡ Fresh → Answers (λ (u : Unit {0}). mid.found) header_at old.source (Ok tt) mid.source)
     → ((old.stage ≡ Fresh → ⊥) → mid ≡ old) → mid.settings ≡ old.settings → IsBegun old seen
-begun-seen old mid seen e fresh still settings =
-    subst (λ (d : Decoding). IsBegun old d) (sym e) (record { fresh = fresh; still = still; settings = settings })
+begun-seen old mid seen e fresh still settings = search rules
 
 other-stage : HeaderRead ≡ Fresh → ⊥
 other-stage e = let n : ⊥ = cc in n
@@ -106,8 +105,7 @@ pub into : {X : Type 0} (bytes_of : X → List ℕ) (told : Told) (old mid : Dec
     → OnTold mid.source new r (told ≡ told_in_turns (suc (length mid.source.bytes)) false mid.found mid.source.bytes)
     → (mid.source.known ≡ true → IsOfTurns (λ n. told_in_turns n false mid.found mid.source.bytes) told)
     → HasRead bytes_of told old r new
-into bytes_of told old mid new r b reads tells turns =
-    into-at bytes_of told old.stage old mid new r b (record { reads = reads; tells = tells; turns = turns })
+into bytes_of told old mid new r b reads tells turns = search (rules, into-at)
 
 pub into-ok : {X : Type 0} (bytes_of : X → List ℕ) (told : Told) (old mid : Decoding) (pixels : List ℕ)
     (new : Stream) (r : Result (Unit {0}) Error) (x : X) → IsBegun old mid → r ≡ Ok tt → bytes_of x ≡ pixels

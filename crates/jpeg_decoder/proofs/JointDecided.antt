@@ -1,5 +1,5 @@
 -- Planes that are decided, of which those of like components share one buffer.
-use Rattle.std.proofs.Common.{◌≡◌, ◌∙◌, ◌<◌, ◌≤◌, ℕ, zero, suc, List, [], ◌∷◌, Option, Some, None}
+use Rattle.std.proofs.Common.{◌≡◌, ◌∙◌, ◌<◌, ◌≤◌, ℕ, zero, suc, List, [], ◌∷◌, Option, Some, None, rules}
 use Rattle.std.proofs.Common.{ap, arith, drop, get_or, is_some, length, map, refl, replicate, set}
 use Rattle.std.proofs.Common.{true}
 use Rattle.std.proofs.lemmas.List.{drop-set-lt, get_or-map, get_or_past, length-map}
@@ -93,10 +93,7 @@ room-at shape samples slot h =
 -- Past those slots there is none.
 pub room-past : (shape : JointShape) (samples : List ℕ) (slot : ℕ) → shape.count ≤ slot
     → get_or (map Some (joint_planes shape samples)) slot None ≡ None
-room-past shape samples slot h =
-    let planes = joint_planes shape samples in
-    let count = length-map planes (λ (p : List ℕ). Some p) in
-    get_or_past (map Some planes) slot None (omega (arith, joint-count shape samples, count, h))
+room-past shape samples slot h = search (rules, length-map, get_or_past, joint-count)
 
 -- A plane in the room is decided, whether there is one of its own or none.
 pub or-some : {A : Type 0} (o : Option A) (x : A) → true ≡ is_some (option_or o (Some x))

@@ -65,12 +65,7 @@ whole-there (c ∷ cs) (o ∷ planes) (plane ∷ joint) e there p = (
 -- Planes in one room, where there is none of its own.
 joint-there : (joint : List (List ℕ)) → length joint ≤ 4
     → AreThere 0 (or_joint (replicate 4 None) joint) joint
-joint-there joint few k index h i =
-    let at = or-at (replicate 4 None) joint index (omega arith) in
-    let none : get_or {A = Option (List ℕ)} (replicate 4 None) index None ≡ None =
-    get_or-replicate 4 index None None (omega arith) in
-    let other = get_or-map Some joint k [] None h in
-    grind (arith, common_steps)
+joint-there joint few k index h i = grind (arith, common_steps, or-at, get_or-replicate, get_or-map)
 
 module _ (found : Found) (frame : Frame) (width height : ℕ) (joint : JointPlanes)
     (sound : IsSound found) (is : found.said.frame ≡ Some frame)

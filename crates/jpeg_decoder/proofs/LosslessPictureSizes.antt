@@ -1,6 +1,6 @@
 -- The number of bytes of a lossless picture.
 use Rattle.std.proofs.lemmas.Grind.{common_steps}
-use Rattle.std.proofs.Common.{◌≡◌, ℕ, ◌*◌, List, length, sym, ap, ap₂, ◌∙◌, refl, arith}
+use Rattle.std.proofs.Common.{◌≡◌, ℕ, ◌*◌, List, length, sym, ap, ap₂, ◌∙◌, refl, arith, rules}
 use Rattle.std.proofs.Common.{Bool, true, false, Result, Some, mul_assoc}
 use Rattle.std.specs.Prelude.{IfOk, nat_le, if◌then◌else◌}
 use Rattle.std.proofs.Math.Nat.{mul_comm}
@@ -23,15 +23,12 @@ sample-length precision v = grind (arith, common_steps)
 pixel-length : (f : Frame) (sample : ℕ × Component → ℕ → ℕ → ℕ) (y x : ℕ)
     → length (pixel_of f sample y x) ≡ length f.components * bytes_a_sample f.precision
 unfolding pixel_of
-pixel-length f sample y x =
-    each-length _ (bytes_a_sample f.precision) (enumerate_from 0 f.components) (λ c. sample-length f.precision _)
-    ∙ ap (λ n. n * bytes_a_sample f.precision) (length-enumerate_from 0 f.components)
+pixel-length f sample y x = search (rules, each-length, sample-length, length-enumerate_from)
 
 lines-length : (f : Frame) (sample : ℕ × Component → ℕ → ℕ → ℕ)
     → length (picture_by_samples f sample) ≡ f.height * (f.width * (length f.components * bytes_a_sample f.precision))
 unfolding picture_by_samples
-lines-length f sample =
-    made-length _ f.height _ (λ y. made-length _ f.width (pixel_of f sample y) (pixel-length f sample y))
+lines-length f sample = search (rules, made-length, pixel-length)
 
 -- ---- the frame
 

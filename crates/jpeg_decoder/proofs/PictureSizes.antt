@@ -114,7 +114,7 @@ block-bytes f p dct =
     ap (λ k. n * bytes_a_sample k) (precision-8 f p dct) ∙ omega arith in
     ap (λ k. area * k) one ∙ mul_comm area n ∙ sym (mul_assoc n f.output_width f.output_height)
 
-whole-by : (f : Frame) (pixels : List ℕ) → IsDecodedFrame f → (f.process ≡ Lossless → ⊥)
+pub whole-by : (f : Frame) (pixels : List ℕ) → IsDecodedFrame f → (f.process ≡ Lossless → ⊥)
     → length pixels ≡ f.output_height * (length f.components * f.output_width) → IsWhole (Some f) pixels
 whole-by f pixels p dct long = go f.process refl
   where

@@ -133,8 +133,7 @@ IsSampled f = IsShaped f × (f.process ≡ Lossless)
 pub header-said : (said : Said) (number : ℕ) (h : FrameHeader) → Stands said (Header number h)
     → IsLossless (Header number h) → IsSampled (frame_written number h)
 unfolding frame_of
-header-said said number h stands is =
-    (header-shaped number h stands.0.1 stands.1, ap (λ (n : ℕ). (frame_written n h).process) is)
+header-said said number h stands is = search (rules, header-shaped)
 
 scan-found : (samples : Samples) (said : Said) (sent next : List ℕ) (decided : List (Option (List ℕ))) (f : Frame)
     (h : ScanHeader) (bytes : List ℕ) → IsSaid IsSampled said → said.frame ≡ Some f → IsScan f h
