@@ -17,6 +17,7 @@ use Rattle.jpeg_streams.proofs.ScaledCovers.{frames-have-sources}
 use Rattle.jpeg_streams.proofs.ScanArrays.{codings-are-of, sequential-scan, progressive-scan}
 use Rattle.jpeg_streams.proofs.SizedAgain.{found-again}
 use Rattle.jpeg_streams.proofs.SizedStreams.{sized-taken, stream-means_sized}
+use Rattle.jpeg_streams.proofs.Soundness.{nothing-framed, sound-nothing}
 use Rattle.jpeg_streams.proofs.WalkedStreams.{front-append}
 use Rattle.jpeg_streams.proofs.WholeImages.{cut-whole}
 use Rattle.jpeg_streams.proofs.WholeScans.{scans-in-turn}
@@ -93,6 +94,9 @@ pub ruleset planes = (
 
 -- planes and blocks at the end
 pub ruleset ends = (common_steps, drop-set-lt, map-set, plane_by-length)
+
+-- the start of a stream
+pub ruleset starts = (common_steps, sound-nothing, nothing-framed)
 
 -- parts of a profile
 pub ruleset parts = (list_all-map)

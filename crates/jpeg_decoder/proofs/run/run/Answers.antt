@@ -14,9 +14,7 @@ use Rattle.jpeg_decoder.proofs.run.run.Given.{Over}
 use Rattle.jpeg_decoder.proofs.run.run.Goals as goal
 
 pub returns-in_err-decoder-clause-images : goal.returns-in_err-decoder-clause-images
-returns-in_err-decoder-clause-images g c =
-    prints-images (g.R.Read.remaining c.args.reader) _ _ _ (λ bytes tells. search rules) (λ bytes tells. search rules)
-    (λ bytes tells. search rules)
+returns-in_err-decoder-clause-images g c = search (rules, prints-images)
 
 -- ---- the stream was refused
 
