@@ -29,6 +29,16 @@ use Rattle.jpeg_streams.proofs.WrittenPictures.{stream-means, taken-means}
 use Rattle.jpeg_decoder.proofs.BlocksBefore.{plane_by-length}
 use Rattle.jpeg_decoder.proofs.HeaderThenRest.{header-lacks, header-means}
 use Rattle.jpeg_decoder.proofs.JointDecided.{or-after, or-at, or-nothing, or-set, or-some, room-at, room-past}
+use Rattle.std.proofs.lemmas.List.FromFn.{length-enumerate_from}
+use Rattle.std.proofs.lemmas.Result.{err_from_is_err_and}
+use Rattle.jpeg_segments.proofs.Gathered.{gathers-all, gathers-none}
+use Rattle.jpeg_streams.proofs.Refusals.{told-err}
+use Rattle.jpeg_streams.proofs.SizedHeaders.{sized-refused}
+use Rattle.jpeg_streams.proofs.Told.{turns-no_start}
+use Rattle.jpeg_decoder.proofs.LosslessReads.{picture-given, picture-lacks, picture-made}
+use Rattle.jpeg_decoder.proofs.PictureSizes.{block-bytes}
+use Rattle.jpeg_decoder.proofs.PicturesOfPlanes.{several-ready}
+use Rattle.jpeg_decoder.proofs.ScanData.{answers-err}
 
 -- the laws of images
 pub ruleset images = (
@@ -95,8 +105,20 @@ pub ruleset planes = (
 -- planes and blocks at the end
 pub ruleset ends = (common_steps, drop-set-lt, map-set, plane_by-length)
 
+-- results that are gathered
+pub ruleset gathered = (common_steps, gathers-none, gathers-all, length-enumerate_from, length-map)
+
+-- the picture of samples
+pub ruleset pictures = (common_steps, err_from_is_err_and, picture-lacks, picture-made, picture-given)
+
+-- a picture in the memory of a caller
+pub ruleset rooms = (common_steps, several-ready, block-bytes, length-map)
+
+-- the header at a scale
+pub ruleset scaled = (common_steps, err_from_is_err_and, answers-err, sized-refused)
+
 -- the start of a stream
-pub ruleset starts = (common_steps, sound-nothing, nothing-framed)
+pub ruleset starts = (common_steps, err_from_is_err_and, sound-nothing, nothing-framed, told-err, turns-no_start)
 
 -- parts of a profile
 pub ruleset parts = (list_all-map)

@@ -148,6 +148,7 @@ fn plane_at_end(
 
 /// Returns the planes of a frame's components at the end of an image, which are taken. Blocks that
 /// are kept are rendered where no plane is decided, one component after the other, and freed.
+#[tactic(auto, using(crate::proofs::Rules::gathered))]
 fn planes_at_end(
     alloc: Global,
     state: &State,
@@ -217,6 +218,7 @@ fn picture_by(
 
 /// Writes the picture of a frame's planes into memory that has exactly its bytes. After an error
 /// nothing is written.
+#[tactic(auto, using(crate::proofs::Rules::rooms))]
 fn write_by(
     alloc: Global,
     state: &State,
@@ -305,6 +307,7 @@ fn joint_picture(
 
 /// Writes the picture of a frame's planes that are in one buffer into memory that has exactly its
 /// bytes. After an error nothing is written.
+#[tactic(auto, using(crate::proofs::Rules::rooms))]
 fn write_joint(
     alloc: Global,
     state: &State,
@@ -388,6 +391,7 @@ fn write_blocks(
 }
 
 /// Returns the samples of a lossless frame's components, which are taken.
+#[tactic(auto, using(crate::proofs::Rules::gathered))]
 fn samples_at_end(alloc: Global, frame: &FrameInfo, decoded: &mut Decoded) -> Result<Vec<Vec<u16>>>
     requires count { length (frame_in frame.now).components ≤ 4 }
     ensures planes { let expected = gathered
@@ -407,7 +411,7 @@ fn samples_at_end(alloc: Global, frame: &FrameInfo, decoded: &mut Decoded) -> Re
 }
 
 /// Returns the picture of a lossless frame.
-#[tactic(auto, unfolding(jpeg_streams::specs::FoundPictures::samples_picture))]
+#[tactic(auto, unfolding(jpeg_streams::specs::FoundPictures::samples_picture), using(crate::proofs::Rules::pictures))]
 fn samples_picture(
     alloc: Global,
     state: &State,
@@ -525,7 +529,7 @@ fn write_picture(
 }
 
 /// Reads the header of a stream: all through the frame's segment.
-#[tactic(auto, unfolding(jpeg_streams::specs::Stream::header_at, jpeg_streams::specs::Reported::told_by_turns), using(crate::proofs::Rules::starts))]
+#[tactic(auto, unfolding(jpeg_streams::specs::Stream::header_at, jpeg_streams::specs::Reported::told_by_turns, jpeg_streams::specs::Found::nothing_found), using(crate::proofs::Rules::starts))]
 pub fn read_header<R: Read + Drop>(
     alloc: Global,
     source: &mut Source<R>,

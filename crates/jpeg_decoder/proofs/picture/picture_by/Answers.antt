@@ -1,11 +1,10 @@
-use Rattle.std.proofs.Common.{ap, map, refl}
+use Rattle.std.proofs.Common.{ap, map, refl, rules}
 use Rattle.jpeg_segments.specs.FrameView.{component_in, frame_in}
 use Rattle.jpeg_decoder.proofs.PicturesOfPlanes.{picture-first, scale-first, several-given, several-ready, several-seen}
 use Rattle.jpeg_decoder.proofs.picture.picture_by.Goals as goal
 
 pub crop_to-requires : goal.crop_to-requires
-crop_to-requires c = scale-first (frame_in c.args.frame.now) _ _ _ c.requires.frame refl
-    c.as_slice-components.ensures.value c.if-components-eq1.true
+crop_to-requires c = search (rules, scale-first)
 
 pub returns-then-components-eq1 : goal.returns-then-components-eq1
 returns-then-components-eq1 c =

@@ -1,18 +1,16 @@
 use Rattle.std.proofs.lemmas.Grind.{common_steps, drop_more_same}
-use Rattle.std.proofs.Common.{◌≡◌, ◌<◌, ◌∷◌, ◌++◌, ◌∙◌, [], map, rules, arith, refl, sym, ap, length}
+use Rattle.std.proofs.Common.{◌≡◌, ◌∷◌, ◌++◌, ◌∙◌, [], map, rules, arith, refl, sym, ap}
 use Rattle.std.proofs.lemmas.List.{length-map, map-append}
-use Rattle.std.proofs.lemmas.List.FromFn.{length-enumerate_from}
 use Rattle.std.proofs.lemmas.Result.{err_from_is_err_and}
 use Rattle.std.specs.Option.{option_map}
 use Rattle.jpeg_segments.specs.FrameView.{component_in, frame_in}
-use Rattle.jpeg_decoder.specs.Scanning.{arrays_in, blocks_in}
+use Rattle.jpeg_decoder.specs.Scanning.{blocks_in}
 use Rattle.jpeg_decoder.specs.Seen.{found_in}
 use Rattle.jpeg_decoder.specs.Steps.{with_decoded}
 use Rattle.jpeg_decoder.proofs.EndedPlanes.{IsTaken, mapped-or, none-left, reached-kept, taken, taken-blocks, taken-more}
 use Rattle.jpeg_decoder.proofs.EndedPlanes.{taken-plane, taken-refused, taken-scale, taken-whole, whole-all}
 use Rattle.jpeg_decoder.proofs.PicturesOfPlanes.{decoded-few}
 use Rattle.jpeg_lossless.proofs.RowLoops.{mapped-within}
-use Rattle.jpeg_segments.proofs.Gathered.{gathers-all, gathers-none}
 use Rattle.jpeg_decoder.proofs.picture.planes_at_end.Goals.{After-index}
 use Rattle.jpeg_decoder.proofs.picture.planes_at_end.Goals as goal
 
@@ -33,13 +31,7 @@ take_kept-kept-requires c h =
 there : (c : After-index) → IsTaken (with_decoded (found_in c.args.state.now) c.args.decoded.now) (frame_in c.args.frame.now)
     c.loop-index.index (component_in c.index.result.now) (option_map (λ v. v.items) c.in_ok-plane.plane)
     (option_map blocks_in c.take_kept-kept.result)
-there c =
-    taken c.loop-index.decoded.planes (arrays_in c.loop-index.decoded.kept.items) c.are_kept-is_kept.result
-    (mapped-within component_in c.args.frame.now.components.items c.loop-index.index (omega arith))
-    (mapped-or component_in c.args.frame.now.components.items c.loop-index.index c.index.result.now c.index.result.now
-    (component_in c.index.result.now) (omega arith) c.index.ensures)
-    c.loop-index.invariant.decided c.in_ok-plane.ensures.taken c.loop-index.invariant.kept c.are_kept-is_kept.ensures
-    c.take_kept-kept.ensures.taken
+there c = grind (arith, common_steps, taken, mapped-within, mapped-or)
 
 pub plane_at_end-requires : goal.plane_at_end-requires
 plane_at_end-requires c =
@@ -73,16 +65,5 @@ loop-index-preserved c =
       count = search rules;
     }
 
-pub loop-index-init : goal.loop-index-init
-loop-index-init c = search (rules, gathers-none)
-
-pub returns-clause-planes : goal.returns-clause-planes
-returns-clause-planes c =
-    let cs = c.args.frame.now.components.items in
-    let count = length-enumerate_from 0 (map component_in cs) in
-    gathers-all _ _ c.loop-index.index _ (omega (arith, count, length-map cs component_in)) c.loop-index.invariant.given
-
 pub returns-clause-whole : goal.returns-clause-whole
-returns-clause-whole c =
-    whole-all (frame_in c.args.frame.now).components c.loop-index.index _ c.loop-index.invariant.whole
-    (none-left component_in c.args.frame.now.components.items c.loop-index.index (omega arith))
+returns-clause-whole c = search (rules, whole-all, none-left)

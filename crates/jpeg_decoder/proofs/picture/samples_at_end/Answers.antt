@@ -1,7 +1,7 @@
 use Rattle.std.proofs.Common.{◌≡◌, ◌<◌, ◌∷◌, ◌++◌, ◌∙◌, ℕ, List, [], Option, None, Some, Vec, Global, ap, refl, sym}
 use Rattle.std.proofs.Common.{arith, drop, get_or, length, map, rules}
-use Rattle.std.specs.Prelude.{option_map, slice_index_or}
-use Rattle.std.proofs.lemmas.List.{drop-set-lt, length-map, map-append, map-set}
+use Rattle.std.specs.Prelude.{option_map}
+use Rattle.std.proofs.lemmas.List.{drop-set-lt, map-append, map-set}
 use Rattle.std.proofs.lemmas.List.FromFn.{length-enumerate_from}
 use Rattle.std.specs.List.{enumerate_from}
 use Rattle.std.proofs.lemmas.Grind.{common_steps, drop_more_same}
@@ -15,7 +15,7 @@ use Rattle.jpeg_decoder.proofs.EndedPlanes.{mapped-or, same-at}
 use Rattle.jpeg_decoder.proofs.LosslessReads.{sample_plane}
 use Rattle.jpeg_lossless.proofs.RowLoops.{mapped-within}
 use Rattle.jpeg_decoder.specs.LosslessParts.{no_component}
-use Rattle.jpeg_segments.proofs.Gathered.{gathers-all, gathers-err, gathers-more, gathers-none, numbered}
+use Rattle.jpeg_segments.proofs.Gathered.{gathers-err, gathers-more, numbered}
 use Rattle.jpeg_decoder.proofs.SlotCodings.{format-refuses}
 use Rattle.jpeg_decoder.proofs.picture.samples_at_end.Goals as goal
 
@@ -57,12 +57,3 @@ loop-index-preserved c =
           (ap (map (λ v. v.items)) pushed ∙ map-append (λ v. v.items) l.planes.items (plane ∷ [])) l.invariant.given;
       count = search rules;
     }
-
-pub loop-index-init : goal.loop-index-init
-loop-index-init c = search (rules, gathers-none)
-
-pub returns-clause-planes : goal.returns-clause-planes
-returns-clause-planes c =
-    let cs = c.args.frame.now.components.items in
-    let count = length-enumerate_from 0 (map component_in cs) in
-    gathers-all _ _ c.loop-index.index _ (omega (arith, count, length-map cs component_in)) c.loop-index.invariant.given

@@ -1,7 +1,6 @@
 use Rattle.std.proofs.Common.{arith}
-use Rattle.std.proofs.lemmas.Result.{err_from_is_err_and}
 use Rattle.jpeg_segments.specs.FrameView.{frame_in}
-use Rattle.jpeg_decoder.proofs.LosslessReads.{picture-given, picture-lacks, picture-made, samples-whole}
+use Rattle.jpeg_decoder.proofs.LosslessReads.{samples-whole}
 use Rattle.jpeg_decoder.proofs.LosslessPictureSizes.{if-samples_size}
 use Rattle.jpeg_decoder.proofs.PicturesOfPlanes.{decoded-factors, decoded-few}
 use Rattle.jpeg_streams.proofs.LosslessSizes.{all-reach, decoded-made}
@@ -9,12 +8,6 @@ use Rattle.jpeg_decoder.proofs.picture.samples_picture.Goals as goal
 
 pub samples_at_end-requires : goal.samples_at_end-requires
 samples_at_end-requires c = record { count = decoded-few _ (c.requires.sound.frames _ c.requires.frame) }
-
-pub returns-in_err-planes-clause-meant : goal.returns-in_err-planes-clause-meant
-returns-in_err-planes-clause-meant c =
-    let p = err_from_is_err_and c.from_residual.result c.from_residual.ensures.1 in
-    let e = c.in_err-planes.ensures.planes in
-    rw (p.1, p.2) (e.0, picture-lacks _ (frame_in c.args.frame.now) _ e.1)
 
 pub compute_image_lossless-requires : goal.compute_image_lossless-requires
 compute_image_lossless-requires c =
@@ -26,11 +19,6 @@ compute_image_lossless-requires c =
       sampling = decoded-factors frame decoded;
       reaches = all-reach frame frame.components (decoded-made frame decoded c.requires.process);
     }
-
-pub returns-clause-meant : goal.returns-clause-meant
-returns-clause-meant c =
-    picture-given (λ v. v.items) _ _ _ (picture-made _ _ _ c.in_ok-planes.ensures.planes)
-    c.compute_image_lossless.ensures.pixels c.compute_image_lossless.ensures.err
 
 pub returns-clause-size : goal.returns-clause-size
 returns-clause-size c =

@@ -1,8 +1,8 @@
-use Rattle.std.proofs.Common.{◌*◌, ◌∙◌, arith, ap, length, map, refl, sym}
+use Rattle.std.proofs.Common.{◌∙◌, arith, ap, length, map, refl}
 use Rattle.std.proofs.lemmas.List.{length-map}
 use Rattle.jpeg_segments.specs.FrameView.{component_in, frame_in}
-use Rattle.jpeg_decoder.proofs.PictureSizes.{block-bytes, picture-length, whole-by}
-use Rattle.jpeg_decoder.proofs.PicturesOfPlanes.{several-given, several-ready, several-seen}
+use Rattle.jpeg_decoder.proofs.PictureSizes.{picture-length, whole-by}
+use Rattle.jpeg_decoder.proofs.PicturesOfPlanes.{several-given, several-seen}
 use Rattle.jpeg_decoder.proofs.picture.write_by.Goals as goal
 
 pub copy_from_slice-requires : goal.copy_from_slice-requires
@@ -12,23 +12,6 @@ copy_from_slice-requires c =
     (length-map c.args.planes.items (λ p. p.items) ∙ c.requires.count) c.in_ok-picture.ensures in
     let whole = whole-by frame _ c.requires.frame c.requires.process long in
     omega (arith, c.requires.room, whole.0, ap length c.deref.ensures.value)
-
-pub compute_image_rows_into-requires : goal.compute_image_rows_into-requires
-compute_image_rows_into-requires c =
-    let frame = frame_in c.args.frame.now in
-    let same = c.as_slice-components.ensures.value in
-    let r = several-ready frame _ _ _ _ c.requires.frame refl same c.deref-2.ensures.value c.if-components-eq1.false
-    c.requires.count c.requires.planes in
-    record {
-      some = r.0.0;
-      most = r.0.1;
-      planes = r.1.0;
-      factors = r.1.1.0;
-      cover = r.1.1.1;
-      room = c.requires.room ∙ block-bytes frame c.requires.frame c.requires.process
-          ∙ ap (λ n. n * frame.output_width * frame.output_height)
-          (length-map c.args.frame.now.components.items component_in ∙ sym (ap length same));
-    }
 
 pub returns-clause-meant : goal.returns-clause-meant
 returns-clause-meant c =

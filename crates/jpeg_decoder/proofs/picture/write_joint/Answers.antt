@@ -1,20 +1,11 @@
-use Rattle.std.proofs.Common.{◌*◌, ◌∙◌, ap, length, map, refl, sym}
-use Rattle.std.proofs.lemmas.List.{length-map}
+use Rattle.std.proofs.Common.{ap, map, refl}
 use Rattle.jpeg_segments.specs.FrameView.{component_in, frame_in}
 use Rattle.jpeg_decoder.proofs.JointEnds.{not-one}
-use Rattle.jpeg_decoder.proofs.PictureSizes.{block-bytes}
 use Rattle.jpeg_decoder.proofs.PicturesOfPlanes.{decoded-factors, several-given}
 use Rattle.jpeg_decoder.proofs.picture.write_joint.Goals as goal
 
 pub compute_joint_image_into-requires-clause-factors : goal.compute_joint_image_into-requires-clause-factors
 compute_joint_image_into-requires-clause-factors c = rw c.deref.ensures.value (decoded-factors _ c.requires.frame)
-
-pub compute_joint_image_into-requires-clause-room : goal.compute_joint_image_into-requires-clause-room
-compute_joint_image_into-requires-clause-room c =
-    let frame = frame_in c.args.frame.now in
-    c.requires.room ∙ block-bytes frame c.requires.frame c.requires.process
-    ∙ ap (λ n. n * frame.output_width * frame.output_height)
-    (length-map c.args.frame.now.components.items component_in ∙ sym (ap length c.deref.ensures.value))
 
 pub returns-clause-meant : goal.returns-clause-meant
 returns-clause-meant c =

@@ -24,9 +24,7 @@ left g c = record c.args.self.now { source = c.self-2.inside.source; found = fou
 
 refused : (g : given.Over) (c : goal.After-drop_decoded g) → HasRead {X = Vec ℕ Global} (λ v. v.items)
     (told_of (left g c).found.said) c.args.self.now (Err c.in-Err.e) (left g c).source
-refused g c =
-    into-refused _ _ _ _ _ c.in-Err.e c.self-2.view_is c.drop_decoded.ensures.told c.in-Err.ensures.stage
-    c.in-Err.ensures.reads c.in-Err.ensures.told c.in-Err.ensures.turns
+refused g c = search (rules, into-refused)
 
 pub returns-in-Err-clause-reads : goal.returns-in-Err-clause-reads
 returns-in-Err-clause-reads g c = (refused g c).reads
@@ -69,8 +67,7 @@ pub returns-clause-samples : goal.returns-clause-samples
 returns-clause-samples g c = decodes-samples _ _ _ _ (done g c).reads
 
 pub returns-clause-counted : goal.returns-clause-counted
-returns-clause-counted g c =
-    if-counted (found_in c.read_rest-result.new.state) c.read_rest-result.result (search rules)
+returns-clause-counted g c = search (rules, if-counted)
 
 -- what holds between calls
 holds : {X : Type 0} (found : Found) (r : Result X Error) (b : Bool) (p : Progress) → b ≡ is_ok r

@@ -1,7 +1,7 @@
-use Rattle.std.proofs.Common.{◌≡◌, ◌++◌, ◌∙◌, ℕ, List, [], Ok, Err, Result, ap, subst, drop, length, length-take, take, arith}
+use Rattle.std.proofs.Common.{rules}
+use Rattle.std.proofs.Common.{◌≡◌, ◌++◌, ℕ, [], Ok, Err, drop, length, length-take, take}
 use Rattle.std.proofs.lemmas.Result.{err_from_is_err_and}
 use Rattle.jpeg_bits.specs.declared.error.Error.{Error}
-use Rattle.std.specs.Prelude.{OnOk}
 use Rattle.jpeg_streams.specs.Sound.{HasDecodedFrame}
 use Rattle.jpeg_streams.specs.States.{Decoding}
 use Rattle.jpeg_streams.specs.Stream.{told_of}
@@ -20,9 +20,7 @@ left g c = record c.args.self.now { source = c.self-2.inside.source; found = fou
 
 refused : (g : given.Over) (c : goal.After-drop_decoded g)
     → HasRead {X = ℕ} (λ n. []) (told_of (left g c).found.said) c.args.self.now (Err c.in-Err.e) (left g c).source
-refused g c =
-    into-refused _ _ _ _ _ c.in-Err.e c.self-2.view_is c.drop_decoded.ensures.told c.in-Err.ensures.stage
-    c.in-Err.ensures.reads c.in-Err.ensures.told c.in-Err.ensures.turns
+refused g c = search (rules, into-refused)
 
 pub returns-in-Err-clause-reads : goal.returns-in-Err-clause-reads
 returns-in-Err-clause-reads g c room = (refused g c).reads
@@ -85,11 +83,7 @@ front : (g : given.Over) (c : goal.In_ok-written g)
     → (length c.read_rest_into-written.new.pixels ≡ c.in_ok-size.size)
     × (take c.in_ok-size.size (c.read_rest_into-written.new.pixels ++ drop c.in_ok-size.size c.args.pixels.now)
     ≡ c.read_rest_into-written.new.pixels)
-front g c =
-    let taken = length-take c.in_ok-size.size c.args.pixels.now in
-    let long : length c.read_rest_into-written.new.pixels ≡ c.in_ok-size.size =
-    omega (arith, c.read_rest_into-written.auto.pixels, taken, c.in_ok-size.ensures.room) in
-    (long, front-of _ _ _ long)
+front g c = search (rules, length-take, front-of)
 
 done : (g : given.Over) (c : goal.In_ok-written g)
     → HasRead (λ n. take n (c.read_rest_into-written.new.pixels ++ drop c.in_ok-size.size c.args.pixels.now))
@@ -121,15 +115,10 @@ returns-clause-samples g c room =
     (Ok c.in_ok-size.size) (done g c).reads
 
 decoded : (g : given.Over) (c : goal.In_ok-written g) → HasDecodedFrame (found_in c.read_rest_into-written.new.state)
-decoded g c =
-    subst (λ (r : Result (Unit {0}) Error). OnOk r (HasDecodedFrame (found_in c.read_rest_into-written.new.state)))
-    c.in_ok-written.was c.read_rest_into-written.ensures.frames
+decoded g c = search rules
 
 pub returns-clause-size : goal.returns-clause-size
-returns-clause-size g c =
-    whole-if (found_in c.read_rest_into-written.new.state) _ c.in_ok-size.size _ (decoded g c)
-    c.read_rest_into-written.ensures.stays c.in_ok-size.ensures.size
-    (ap (λ (l : List ℕ). length l) (front g c).1 ∙ (front g c).0)
+returns-clause-size g c = search (rules, whole-if, decoded, front)
 
 pub returns-clause-counted : goal.returns-clause-counted
 returns-clause-counted g c = counted (found_in c.read_rest_into-written.new.state) (decoded g c)
