@@ -1,12 +1,10 @@
 -- The planes of a frame's components at the end of an image, one after the other.
-use Rattle.std.proofs.Common.{◌≡◌, ◌<◌, ◌≤◌, ℕ, zero, suc, ◌+◌, ◌*◌, ℤ, Bool, true, List, [], ◌∷◌, ◌++◌}
-use Rattle.std.proofs.Common.{sym, ap, ◌∙◌, subst, length, get_or, set, map, drop, drop_of_length-le, arith, Option}
-use Rattle.std.proofs.Common.{Some, None, Ok, rules}
-use Rattle.std.specs.Prelude.{option_map, slice_index_or}
-use Rattle.std.specs.List.{AllByRecursion}
+use Rattle.std.proofs.Common.{◌≡◌, ◌<◌, ◌≤◌, ℕ, zero, suc, ◌+◌, ◌*◌, ℤ, Bool, true, List, [], ◌∷◌}
+use Rattle.std.proofs.Common.{◌++◌, sym, ap, ◌∙◌, subst, length, get_or, set, map, drop}
+use Rattle.std.proofs.Common.{drop_of_length-le, arith, Option, Some, None, Ok, rules, option_map}
+use Rattle.std.proofs.Common.{slice_index_or, Global, Vec}
+use Rattle.std.specs.List.{AllByRecursion, enumerate_from}
 use Rattle.std.proofs.lemmas.Bool.{eqb-true}
-use Rattle.std.specs.declared.alloc.Global.{Global}
-use Rattle.std.specs.declared.vec.Vec.{Vec}
 use Rattle.std.proofs.lemmas.List.{append_assoc, append-nil, drop_more, get_or-drop, get_or-map}
 use Rattle.std.proofs.lemmas.List.{length-drop, length-map}
 use Rattle.jpeg_bits.specs.Passes.{Block}
@@ -15,7 +13,6 @@ use Rattle.jpeg_bits.specs.Reading.{Names}
 use Rattle.jpeg_bits.specs.declared.error.Error.{Error}
 use Rattle.jpeg_segments.specs.Checks.{gathered}
 use Rattle.jpeg_segments.proofs.Gathered.{Gathers, gathers-more, gathers-refused, numbered}
-use Rattle.std.specs.List.{enumerate_from}
 use Rattle.std.proofs.lemmas.List.FromFn.{length-enumerate_from}
 use Rattle.jpeg_segments.specs.Scales.{component_at, frame_at}
 use Rattle.jpeg_pixels.specs.Pictures.{AreWhole}

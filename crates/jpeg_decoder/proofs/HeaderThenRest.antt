@@ -1,7 +1,6 @@
 -- A stream whose header is read, and then the rest of it.
-use Rattle.std.proofs.Common.{◌≡◌, ◌+◌, ℕ, zero, suc, List, Result, Ok, Err, Bool, true, false, None, rules}
-use Rattle.std.proofs.Common.{refl, sym, subst, ap, ◌∙◌, length, arith}
-use Rattle.std.specs.Prelude.{◌&&◌, is_some}
+use Rattle.std.proofs.Common.{◌≡◌, ◌+◌, ℕ, zero, suc, List, Result, Ok, Err, Bool, true, false}
+use Rattle.std.proofs.Common.{None, rules, refl, sym, subst, ap, ◌∙◌, length, arith, ◌&&◌, is_some}
 use Rattle.jpeg_bits.specs.Reading.{Fault, Outcome, ◌>>=◌}
 use Rattle.jpeg_streams.specs.declared.before.Before.TheVariants.{Elsewhere}
 use Rattle.jpeg_streams.specs.declared.settings.Settings.{Settings}

@@ -1,9 +1,8 @@
 -- The number of bytes of a lossless picture.
 use Rattle.std.proofs.lemmas.Grind.{common_steps}
 use Rattle.std.proofs.Common.{◌≡◌, ℕ, ◌*◌, List, length, sym, ap, ap₂, ◌∙◌, refl, arith, rules}
-use Rattle.std.proofs.Common.{Bool, true, false, Result, Some, mul_assoc}
-use Rattle.std.specs.Prelude.{IfOk, nat_le, if◌then◌else◌}
-use Rattle.std.proofs.Math.Nat.{mul_comm}
+use Rattle.std.proofs.Common.{Bool, true, false, Result, Some, mul_assoc, IfOk, nat_le}
+use Rattle.std.proofs.Common.{if◌then◌else◌, mul_comm}
 use Rattle.std.proofs.lemmas.List.FromFn.{length-enumerate_from}
 use Rattle.std.specs.List.{enumerate_from}
 use Rattle.jpeg_bits.specs.declared.error.Error.{Error}

@@ -110,8 +110,7 @@ samples-meant settings samples bytes rest final meant w r =
 -- A stream that is written for samples means their picture where the limit takes it, and what
 -- follows it is left.
 pub lossless-means : (settings : Settings) (samples : Samples) (bytes rest : List ℕ) (final : Said)
-    → WritesSamples samples bytes final
-    → meaning settings (bytes ++ rest)
+    → WritesSamples samples bytes final → meaning settings (bytes ++ rest)
     ≡ (limited settings final (λ f. Ok (picture_of_samples f samples)) >>= given final rest)
 lossless-means settings samples bytes rest final w =
     samples-meant settings samples bytes rest final _ w (samples-walked settings samples bytes rest final w)

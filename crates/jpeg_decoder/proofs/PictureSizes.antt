@@ -1,8 +1,8 @@
 -- The number of bytes of a picture of a frame that is decoded.
 use Rattle.std.proofs.lemmas.Grind.{common_steps}
-use Rattle.std.proofs.Common.{◌≡◌, ℕ, zero, suc, ◌*◌, ◌/◌, ◌<◌, ◌≤◌, List, [], ◌∷◌, length, sym, ap, ◌∙◌}
-use Rattle.std.proofs.Common.{refl, arith, subst, Result, Ok, Option, Some, true}
-use Rattle.std.specs.Prelude.{MatchResult, IfOk, IfSome, OnOk, min}
+use Rattle.std.proofs.Common.{◌≡◌, ℕ, zero, suc, ◌*◌, ◌/◌, ◌<◌, ◌≤◌, List, [], ◌∷◌, length, sym, ap}
+use Rattle.std.proofs.Common.{◌∙◌, refl, arith, subst, Result, Ok, Option, Some, true, MatchResult}
+use Rattle.std.proofs.Common.{IfOk, IfSome, OnOk, min, mul_assoc, mul_comm, mul-div_cancel}
 use Rattle.jpeg_bits.specs.declared.error.Error.{Error}
 use Rattle.jpeg_decoder.specs.Bytes.{HasBytes, IsCounted, IsWhole}
 use Rattle.jpeg_decoder.specs.Bytes.{bytes_a_sample, picture_size, samples_a_pixel}
@@ -13,8 +13,6 @@ use Rattle.jpeg_streams.specs.Segments.{is_decoded_count, is_decoded_precision}
 use Rattle.std.specs.List.{AllByRecursion}
 use Rattle.std.proofs.lemmas.Bool.{eqb-true}
 use Rattle.std.proofs.lemmas.List.Elements.{recursion_from_All}
-use Rattle.std.proofs.Common.{mul_assoc}
-use Rattle.std.proofs.Math.Nat.{mul_comm, mul-div_cancel}
 use Rattle.jpeg_segments.specs.Frame.{Frame, Component, ceiling}
 use Rattle.jpeg_segments.specs.Scales.{frame_at}
 use Rattle.jpeg_pixels.specs.Pictures.{AreWhole}
@@ -87,9 +85,8 @@ by-info : (f : Frame) (pixels : List ℕ) → IsDecodedFrame f → f.precision �
 by-info f pixels p eight long = grind (arith, common_steps, turned, format-bytes, decoded-count)
 
 -- a byte a sample
-by-frame : (f : Frame) (pixels : List ℕ) → f.precision ≡ 8
-    → length pixels ≡ f.output_height * (length f.components * f.output_width) → length pixels ≡
-    picture_size f
+by-frame : (f : Frame) (pixels : List ℕ) → f.precision ≡ 8 → length pixels
+    ≡ f.output_height * (length f.components * f.output_width) → length pixels ≡ picture_size f
 unfolding picture_size
 by-frame f pixels eight long = grind (arith, common_steps, turned)
 
@@ -128,14 +125,8 @@ whole-by f pixels p dct long = go f.process refl
 pub whole-if : (found : Found) (frame : Option Frame) (n : ℕ) (pixels : List ℕ) → HasDecodedFrame found
     → found.said.frame ≡ frame → IfSome frame (λ f. n ≡ picture_size f) → length pixels ≡ n
     → IsWhole found.said.frame pixels
-whole-if found frame n pixels p same size long = grind (
-  arith,
-  common_steps,
-  by-info,
-  precision-8,
-  block-bytes,
-  mul_comm,
-)
+whole-if found frame n pixels p same size long =
+    grind (arith, common_steps, by-info, precision-8, block-bytes, mul_comm)
 
 pub if-size : {X : Type 0} (items : X → List ℕ) (E : Error → Type 0) (settings : Settings) (m : Metadata) (f : Frame)
     (planes : List (List ℕ)) (result : Result X Error) → IsDecodedFrame f → AreWhole f.components planes

@@ -1,13 +1,9 @@
 -- Elements of lists, and lines in one list.
 use Rattle.std.proofs.lemmas.Grind.{common_steps}
-use Rattle.std.proofs.Common.{arith}
-use Rattle.std.proofs.Common.{◌≡◌, ◌+◌, ◌*◌, ◌<◌, ◌∙◌, ℕ, zero, suc, List, [], ◌∷◌}
-use Rattle.std.proofs.Common.{sym, drop, get_or, length, length-append}
-use Rattle.std.specs.Prelude.{slice_index}
+use Rattle.std.proofs.Common.{arith, ◌≡◌, ◌+◌, ◌*◌, ◌<◌, ◌∙◌, ℕ, zero, suc, List, [], ◌∷◌, sym}
+use Rattle.std.proofs.Common.{drop, get_or, length, length-append, slice_index, add-mul, one-mul}
 use Rattle.std.specs.List.{concat}
-use Rattle.std.proofs.Math.Nat.{add-mul, one-mul}
-use Rattle.std.proofs.lemmas.List.{drop_more}
-use Rattle.std.proofs.lemmas.List.{get_or-append_right, get_or_append_left}
+use Rattle.std.proofs.lemmas.List.{drop_more, get_or-append_right, get_or_append_left}
 use Rattle.jpeg_lossless.specs.Positions.{AreEven, at_position}
 
 -- an element of a list, and what stands after it

@@ -41,66 +41,30 @@ use Rattle.jpeg_decoder.proofs.PicturesOfPlanes.{several-ready}
 use Rattle.jpeg_decoder.proofs.ScanData.{answers-err}
 
 -- the laws of images
-pub ruleset images = (
-  stream-means,
-  stream-means_sized,
-  taken-means,
-  sized-taken,
-  cut-whole,
-  front-append,
-  front-closed,
-  grey-written,
-  colour-written,
-  header-accepted,
-  accepted-picture,
-)
+pub ruleset images = (stream-means, stream-means_sized, taken-means, sized-taken, cut-whole)
+
+pub ruleset written_images = (front-append, front-closed, grey-written, colour-written)
+
+pub ruleset accepted_images = (header-accepted, accepted-picture)
 
 -- the laws of streams and scans
-pub ruleset streams = (
-  header-means,
-  header-lacks,
-  spots-apart,
-  spots-inside,
-  scans-in-turn,
-  frame-scans,
-  zeros-sized,
-  scans-by-rows,
-  frames-fit,
-  scaled-frames-fit,
-  full_size,
-  frames-have-sources,
-  sequential-scan,
-  codings-are-of,
-  progressive-scan,
-  plane-strips,
-  found-again,
-)
+pub ruleset streams = (header-means, header-lacks, found-again, spots-apart, spots-inside)
+
+pub ruleset scans = (scans-in-turn, frame-scans, zeros-sized, scans-by-rows, sequential-scan)
+
+pub ruleset arrays = (codings-are-of, progressive-scan, plane-strips)
+
+pub ruleset frames = (frames-fit, scaled-frames-fit, full_size, frames-have-sources)
 
 -- the laws of lossless streams
-pub ruleset samples = (
-  own-predicted,
-  planes-same,
-  pictures-agree,
-  lossless-accepted,
-  accepted-samples,
-  samples-written,
-  three-written,
-  padding-written,
-)
+pub ruleset samples = (own-predicted, planes-same, pictures-agree, lossless-accepted)
+
+pub ruleset written_samples = (accepted-samples, samples-written, three-written, padding-written)
 
 -- planes that are decided
-pub ruleset planes = (
-  length-map,
-  get_or-map,
-  map-set,
-  or-nothing,
-  or-at,
-  or-set,
-  or-after,
-  or-some,
-  room-at,
-  room-past,
-)
+pub ruleset planes = (length-map, get_or-map, map-set, or-nothing, or-at, or-set, or-after, or-some)
+
+pub ruleset joint_planes = (room-at, room-past)
 
 -- planes and blocks at the end
 pub ruleset ends = (common_steps, drop-set-lt, map-set, plane_by-length)
@@ -109,7 +73,7 @@ pub ruleset ends = (common_steps, drop-set-lt, map-set, plane_by-length)
 pub ruleset gathered = (common_steps, gathers-none, gathers-all, length-enumerate_from, length-map)
 
 -- the picture of samples
-pub ruleset pictures = (common_steps, err_from_is_err_and, picture-lacks, picture-made, picture-given)
+pub ruleset given = (common_steps, err_from_is_err_and, picture-lacks, picture-made, picture-given)
 
 -- a picture in the memory of a caller
 pub ruleset rooms = (common_steps, several-ready, block-bytes, length-map)
@@ -118,7 +82,9 @@ pub ruleset rooms = (common_steps, several-ready, block-bytes, length-map)
 pub ruleset scaled = (common_steps, err_from_is_err_and, answers-err, sized-refused)
 
 -- the start of a stream
-pub ruleset starts = (common_steps, err_from_is_err_and, sound-nothing, nothing-framed, told-err, turns-no_start)
+pub ruleset starts = (common_steps, sound-nothing, nothing-framed)
+
+pub ruleset no_start = (err_from_is_err_and, told-err, turns-no_start)
 
 -- parts of a profile
 pub ruleset parts = (list_all-map)

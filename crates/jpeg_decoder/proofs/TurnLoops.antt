@@ -1,7 +1,6 @@
 -- A loop over the segments of a stream, a turn at a time.
-use Rattle.std.proofs.Common.{rules}
-use Rattle.std.proofs.Common.{◌≡◌, ◌+◌, ◌-◌, ℕ, ◌<◌, suc, Err, Bool, true, false, Option, None, Ok, ap, ◌∙◌, length, arith}
-use Rattle.std.specs.Prelude.{◌&&◌, is_some}
+use Rattle.std.proofs.Common.{rules, ◌≡◌, ◌+◌, ◌-◌, ℕ, ◌<◌, suc, Err, Bool, true, false, Option}
+use Rattle.std.proofs.Common.{None, Ok, ap, ◌∙◌, length, arith, ◌&&◌, is_some}
 use Rattle.jpeg_bits.specs.Reading.{Answers}
 use Rattle.jpeg_bits.specs.Stream.{Stream}
 use Rattle.jpeg_bits.specs.declared.error.Error.{Error}

@@ -1,13 +1,11 @@
 -- Lossless streams that are written give their samples, and keep their size.
 use Rattle.std.proofs.Common.{◌≡◌, ℕ, zero, suc, ◌<◌, true, List, [], ◌∷◌, ◌++◌, length, replicate}
 use Rattle.std.proofs.Common.{set, get_or, Option, Some, None, refl, sym, ap, ◌∙◌, subst, arith}
-use Rattle.std.proofs.Common.{length-set, rules}
+use Rattle.std.proofs.Common.{length-set, rules, get_or-set_same, slice_index_or, slice_set}
 use Rattle.std.proofs.Math.Logic.{⊎_elim}
 use Rattle.std.proofs.lemmas.Bool.Decides.{eqb_tells}
 use Rattle.std.proofs.lemmas.Grind.{common_steps}
-use Rattle.std.proofs.lemmas.List.{get_or-set_same}
 use Rattle.std.proofs.lemmas.List.Elements.{recursion_from_All}
-use Rattle.std.specs.Prelude.{slice_index_or, slice_set}
 use Rattle.std.specs.List.{AllByRecursion, concat, range_with_len}
 use Rattle.jpeg_bits.specs.DefaultTables.{names}
 use Rattle.jpeg_bits.specs.Reading.{Outcome}
@@ -84,9 +82,8 @@ with-there samples (p ∷ indices) decided h =
           (length-set decided p (Some (concat (samples p))))) h.1),
     )
 
-kept-append : (samples : Samples) (decided : List (Option (List ℕ))) (xs ys : List ℕ) → AreKept
-    samples decided xs
-    → AreKept samples decided ys → AreKept samples decided (xs ++ ys)
+kept-append : (samples : Samples) (decided : List (Option (List ℕ))) (xs ys : List ℕ)
+    → AreKept samples decided xs → AreKept samples decided ys → AreKept samples decided (xs ++ ys)
 kept-append samples decided [] ys h g = g
 kept-append samples decided (x ∷ xs) ys h g = (h.0, kept-append samples decided xs ys h.1 g)
 
@@ -97,9 +94,8 @@ all-kept samples indices decided [] h = tt
 all-kept samples indices decided (k ∷ sent) h =
     (with-keeps samples indices decided k h.0, all-kept samples indices decided sent h.1)
 
-blocks-after : (samples : Samples) (indices : List ℕ) (decided : List (Option (List ℕ))) (sent :
-    List ℕ)
-    → AllByRecursion (λ k. k < length decided) indices
+blocks-after : (samples : Samples) (indices : List ℕ) (decided : List (Option (List ℕ)))
+    (sent : List ℕ) → AllByRecursion (λ k. k < length decided) indices
     → AreKept samples decided sent
     → AreKept samples (with_samples indices (planes_for samples indices) decided) (indices ++ sent)
 blocks-after samples indices decided sent h g = search (rules, kept-append, with-there, all-kept)

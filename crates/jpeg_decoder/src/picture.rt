@@ -411,7 +411,7 @@ fn samples_at_end(alloc: Global, frame: &FrameInfo, decoded: &mut Decoded) -> Re
 }
 
 /// Returns the picture of a lossless frame.
-#[tactic(auto, unfolding(jpeg_streams::specs::FoundPictures::samples_picture), using(crate::proofs::Rules::pictures))]
+#[tactic(auto, unfolding(jpeg_streams::specs::FoundPictures::samples_picture), using(crate::proofs::Rules::given))]
 fn samples_picture(
     alloc: Global,
     state: &State,
@@ -529,7 +529,7 @@ fn write_picture(
 }
 
 /// Reads the header of a stream: all through the frame's segment.
-#[tactic(auto, unfolding(jpeg_streams::specs::Stream::header_at, jpeg_streams::specs::Reported::told_by_turns, jpeg_streams::specs::Found::nothing_found), using(crate::proofs::Rules::starts))]
+#[tactic(auto, unfolding(jpeg_streams::specs::Stream::header_at, jpeg_streams::specs::Reported::told_by_turns, jpeg_streams::specs::Found::nothing_found), using(crate::proofs::Rules::starts, crate::proofs::Rules::no_start))]
 pub fn read_header<R: Read + Drop>(
     alloc: Global,
     source: &mut Source<R>,

@@ -1,6 +1,5 @@
-use Rattle.std.proofs.Common.{◌≡◌, ◌∙◌, ◌++◌, ap, sym, subst, rules, append-nil, List, [], ℕ, Option, Some, Result, Ok}
-use Rattle.std.proofs.Common.{Err, string_bytes, option_map}
-use Rattle.std.specs.Prelude.{OnErr, OnOk}
+use Rattle.std.proofs.Common.{◌≡◌, ◌∙◌, ◌++◌, ap, sym, subst, rules, append-nil, List, [], ℕ}
+use Rattle.std.proofs.Common.{Option, Some, Result, Ok, Err, string_bytes, option_map, OnErr, OnOk}
 use Rattle.std.specs.Io.KnownBytes.{Appends}
 use Rattle.std.proofs.lemmas.Result.{err_from_is_err_and}
 use Rattle.jpeg_bits.specs.declared.error.Error.{Error}

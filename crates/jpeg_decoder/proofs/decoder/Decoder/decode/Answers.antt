@@ -1,7 +1,5 @@
-use Rattle.std.proofs.Common.{◌≡◌, ℕ, Bool, Err, Ok, Result, rules, true}
-use Rattle.std.specs.declared.alloc.Global.{Global}
-use Rattle.std.specs.declared.vec.Vec.{Vec}
-use Rattle.std.specs.Prelude.{IfOk, OnOk, if◌then◌else◌, is_ok, is_some}
+use Rattle.std.proofs.Common.{◌≡◌, ℕ, Bool, Err, Ok, Result, rules, true, Global, Vec, IfOk, OnOk}
+use Rattle.std.proofs.Common.{if◌then◌else◌, is_ok, is_some}
 use Rattle.jpeg_bits.specs.declared.error.Error.{Error}
 use Rattle.jpeg_streams.specs.Found.{Found, nothing_found}
 use Rattle.jpeg_streams.specs.Sound.{HasDecodedFrame, IsSound, IsUnread}
