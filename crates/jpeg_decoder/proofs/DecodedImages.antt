@@ -1,7 +1,7 @@
 -- A call that answers the meaning of what its source has left decodes images.
-use Rattle.std.proofs.Common.{◌≡◌, ℕ, List, ◌++◌, true, Result, Ok, Err, is_ok, refl, sym, ap, ◌∙◌}
+use Rattle.std.proofs.Common.{rules, ◌≡◌, ℕ, List, ◌++◌, true, Result, Ok, Err, is_ok, refl, sym}
+use Rattle.std.proofs.Common.{ap, ◌∙◌, IsOk, MatchResult, arith}
 use Rattle.std.proofs.lemmas.Bool.{false≢true}
-use Rattle.std.proofs.Common.{IsOk, MatchResult, arith}
 use Rattle.jpeg_bits.specs.Reading.{Outcome, Fault, Answers, ◌>>=◌}
 use Rattle.jpeg_bits.specs.Stream.{Stream}
 use Rattle.jpeg_bits.specs.declared.error.Error.{Error}
@@ -73,8 +73,5 @@ pub decodes-images : {X : Type 0} (bytes_of : X → List ℕ) (old new : Decodin
     (ahead old.stage old.settings old.found) old.source result new.source)
     → DecodesImages bytes_of old result new
 decodes-images bytes_of old new result answers size array image rest final last range w has known =
-    gives bytes_of (picture_of_array old.settings (at_size size final) array last) rest (at_size size final) new
-    (ahead old.stage old.settings old.found) old.source result
-    (answers (left-reading size (image ++ rest) old.stage old.found old.source.bytes has))
-    (left-means size old.settings (image ++ rest) old.stage old.found old.source.bytes _ has
-    (means-array size old.settings array image rest final last range w)) known
+    let means = means-array size old.settings array image rest final last range w in
+    search (rules, gives, left-reading, left-means)

@@ -5,13 +5,14 @@ use Rattle.std.proofs.Common.{drop_of_length-le, arith, Option, Some, None, Ok, 
 use Rattle.std.proofs.Common.{slice_index_or, Global, Vec}
 use Rattle.std.specs.List.{AllByRecursion, enumerate_from}
 use Rattle.std.proofs.lemmas.Bool.{eqb-true}
-use Rattle.std.proofs.lemmas.List.{append_assoc, append-nil, drop_more, get_or-drop, get_or-map}
+use Rattle.std.proofs.lemmas.List.{append_assoc, append-nil, get_or-drop, get_or-map}
 use Rattle.std.proofs.lemmas.List.{length-drop, length-map}
 use Rattle.jpeg_bits.specs.Passes.{Block}
 use Rattle.jpeg_segments.specs.Frame.{Frame, Component}
 use Rattle.jpeg_bits.specs.Reading.{Names}
 use Rattle.jpeg_bits.specs.declared.error.Error.{Error}
 use Rattle.jpeg_segments.specs.Checks.{gathered}
+use Rattle.jpeg_decoder.proofs.ReadLists.{dropped}
 use Rattle.jpeg_segments.proofs.Gathered.{Gathers, gathers-more, gathers-refused, numbered}
 use Rattle.std.proofs.lemmas.List.FromFn.{length-enumerate_from}
 use Rattle.jpeg_segments.specs.Scales.{component_at, frame_at}
@@ -44,12 +45,6 @@ mapped-or f xs i x d e h is = ap f is ∙ sym (get_or-map f xs i d e h)
 pub none-left : {A B : Type 0} (f : A → B) (xs : List A) (i : ℕ) → length xs ≤ i → drop i (map f xs) ≡ []
 none-left f xs i h = drop_of_length-le (map f xs) (omega (arith, length-map xs f, h))
 
--- ---- in turn
-
-left-at : (cs : List Component) (index : ℕ) (c : Component) → index < length cs → c ≡ get_or cs index c
-    → drop index cs ≡ c ∷ drop (index + 1) cs
-left-at cs index c h e = search (rules, drop_more)
-
 -- ---- all blocks
 
 -- what this many planes make whole, with those after them
@@ -60,26 +55,23 @@ AreWholeWith cs index front =
 pub whole-all : (cs : List Component) (index : ℕ) (front : List (List ℕ)) → AreWholeWith cs index front
     → drop index cs ≡ [] → AreWhole cs front
 unfolding AreWhole
-whole-all cs index front old e =
-    subst (AreWhole cs) (append-nil front) (old [] (subst (λ (left : List Component). AreWhole left []) (sym e) tt))
+whole-all cs index front old e = let h = old [] (rw e tt) in rw append-nil at h
 
--- ---- what is known at a place
+-- ---- what is known at an index
 
 pub plane-at : (cs : List Component) (planes : List (Option (List ℕ))) (i : ℕ) (d : Component) → ArePlanes cs planes
     → i < length cs → IsPlaneOf (get_or cs i d) (get_or planes i None)
 unfolding ArePlanes
-plane-at [] planes i d p h = absurd (omega arith)
-plane-at (c ∷ cs) [] i d p h = absurd p
 plane-at (c ∷ cs) (plane ∷ planes) zero d p h = p.0
 plane-at (c ∷ cs) (plane ∷ planes) (suc i) d p h = plane-at cs planes i d p.1 (omega arith)
+plane-at _ _ i d p h = grind (arith, common_steps)
 
 blocks-at : (cs : List Component) (arrays : Arrays) (i : ℕ) (d : Component) → AreArrays cs arrays → i < length cs
     → length (get_or arrays i []) ≡ (get_or cs i d).blocks_high * (get_or cs i d).blocks_wide
 unfolding AreArrays
-blocks-at [] arrays i d p h = absurd (omega arith)
-blocks-at (c ∷ cs) [] i d p h = absurd p
 blocks-at (c ∷ cs) (blocks ∷ arrays) zero d p h = p.0
 blocks-at (c ∷ cs) (blocks ∷ arrays) (suc i) d p h = blocks-at cs arrays i d p.1 (omega arith)
+blocks-at _ _ i d p h = grind (arith, common_steps)
 
 pub kept-arrays : (found : Found) (frame : Frame) → AreArrays frame.components (arrays_before found frame)
     → is_kept found frame ≡ true → AreArrays frame.components found.kept
@@ -88,9 +80,8 @@ kept-arrays found frame p h = grind (arith, common_steps)
 
 arrays-count : (cs : List Component) (arrays : Arrays) → AreArrays cs arrays → length cs ≤ length arrays
 unfolding AreArrays
-arrays-count [] arrays p = omega arith
-arrays-count (c ∷ cs) [] p = absurd p
 arrays-count (c ∷ cs) (blocks ∷ arrays) p = omega (arith, arrays-count cs arrays p.1)
+arrays-count _ _ p = grind (arith, common_steps)
 
 pub kept-blocks : (found : Found) (frame : Frame) (i : ℕ) (d : Component)
     → AreArrays frame.components (arrays_before found frame) → i < length frame.components
@@ -114,9 +105,9 @@ decoded-scales f p = grind (arith, common_steps, scaled-frame, eqb-true)
 
 pub element : (P : Component → Type 0) (cs : List Component) (i : ℕ) (d : Component) → AllByRecursion P cs
     → i < length cs → P (get_or cs i d)
-element P [] i d p h = absurd (omega arith)
 element P (c ∷ cs) zero d p h = p.0
 element P (c ∷ cs) (suc i) d p h = element P cs i d p.1 (omega arith)
+element P _ i d p h = absurd (omega arith)
 
 -- ---- at an index of what was found
 
@@ -198,5 +189,5 @@ module _ {found : Found} {frame : Frame} {index : ℕ} {c : Component} {plane : 
       → IsPlaneOf c (Some x) → new ≡ front ++ x ∷ [] → AreWholeWith frame.components (index + 1) new
   unfolding AreWhole
   taken-whole front new x old l joined =
-      let at = left-at frame.components index c t.within t.seen in
+      let at = dropped frame.components index c t.within t.seen in
       grind (arith, common_steps, append_assoc)

@@ -1,4 +1,5 @@
 -- Planes that are decided, of which those of like components share one buffer.
+use Rattle.std.proofs.lemmas.Grind.{common_steps}
 use Rattle.std.proofs.Common.{◌≡◌, ◌∙◌, ◌<◌, ◌≤◌, ℕ, zero, suc, List, [], ◌∷◌, Option, Some, None, rules}
 use Rattle.std.proofs.Common.{ap, arith, drop, get_or, is_some, length, map, refl, replicate, set}
 use Rattle.std.proofs.Common.{true}
@@ -12,26 +13,16 @@ use Rattle.jpeg_decoder.specs.PlanesView.{or_joint}
 -- With nothing in a shared buffer there are those of their own.
 pub or-nothing : (own : List (Option (List ℕ))) → or_joint own [] ≡ own
 unfolding or_joint
-or-nothing [] = refl
-or-nothing (Some p ∷ own) = refl
-or-nothing (None ∷ own) = refl
-
--- A value or nothing is that value.
-or-none : {A : Type 0} (o : Option A) → o ≡ option_or o None
-or-none (Some x) = refl
-or-none None = refl
+or-nothing own = grind (arith, common_steps)
 
 -- A plane of its own is the one that is decided, or else the one in the room.
 pub or-at : (own : List (Option (List ℕ))) (joint : List (List ℕ)) (k : ℕ) → k < length own
-    → get_or (or_joint own joint) k None
-    ≡ option_or (get_or own k None) (get_or (map Some joint) k None)
+    → get_or (or_joint own joint) k None ≡ option_or (get_or own k None) (get_or (map Some joint) k None)
 unfolding or_joint
-or-at own [] k h = rw or-nothing (or-none (get_or own k None))
+or-at own [] k h = grind (arith, common_steps, or-nothing)
 or-at [] (other ∷ joint) k h = absurd (omega arith)
-or-at (Some p ∷ own) (other ∷ joint) zero h = refl
-or-at (None ∷ own) (other ∷ joint) zero h = refl
-or-at (Some p ∷ own) (other ∷ joint) (suc k) h = or-at own joint k (omega arith)
-or-at (None ∷ own) (other ∷ joint) (suc k) h = or-at own joint k (omega arith)
+or-at (o ∷ own) (other ∷ joint) zero h = grind (arith, common_steps)
+or-at (o ∷ own) (other ∷ joint) (suc k) h = grind (arith, common_steps, or-at own joint k (omega arith))
 
 -- A plane that is put is the one that is decided.
 pub or-set : (own : List (Option (List ℕ))) (joint : List (List ℕ)) (k : ℕ) (plane : List ℕ)
@@ -39,27 +30,19 @@ pub or-set : (own : List (Option (List ℕ))) (joint : List (List ℕ)) (k : ℕ
 unfolding or_joint
 or-set own [] k plane = simp or-nothing
 or-set [] (other ∷ joint) k plane = refl
-or-set (Some p ∷ own) (other ∷ joint) zero plane = refl
-or-set (None ∷ own) (other ∷ joint) zero plane = refl
-or-set (Some p ∷ own) (other ∷ joint) (suc k) plane =
-    ap (λ (l : List (Option (List ℕ))). Some p ∷ l) (or-set own joint k plane)
-or-set (None ∷ own) (other ∷ joint) (suc k) plane =
-    ap (λ (l : List (Option (List ℕ))). Some other ∷ l) (or-set own joint k plane)
+or-set (o ∷ own) (other ∷ joint) zero plane = grind (arith, common_steps)
+or-set (o ∷ own) (other ∷ joint) (suc k) plane = grind (arith, common_steps, or-set own joint k plane)
 
 -- What comes after a plane that is taken is as it was.
-pub or-after : (own : List (Option (List ℕ))) (joint : List (List ℕ)) (k n : ℕ)
-    (o : Option (List ℕ)) → k < n
-    → drop n (or_joint (set own k o) joint) ≡ drop n (or_joint own joint)
+pub or-after : (own : List (Option (List ℕ))) (joint : List (List ℕ)) (k n : ℕ) (o : Option (List ℕ))
+    → k < n → drop n (or_joint (set own k o) joint) ≡ drop n (or_joint own joint)
 unfolding or_joint
 or-after own [] k n o h = simp or-nothing (drop-set-lt _ _ _ _ h)
 or-after [] (other ∷ joint) k n o h = refl
 or-after (p ∷ own) (other ∷ joint) k zero o h = absurd (omega arith)
-or-after (Some p ∷ own) (other ∷ joint) zero (suc n) (Some q) h = refl
-or-after (Some p ∷ own) (other ∷ joint) zero (suc n) None h = refl
-or-after (None ∷ own) (other ∷ joint) zero (suc n) (Some q) h = refl
-or-after (None ∷ own) (other ∷ joint) zero (suc n) None h = refl
-or-after (Some p ∷ own) (other ∷ joint) (suc k) (suc n) o h = or-after own joint k n o (omega arith)
-or-after (None ∷ own) (other ∷ joint) (suc k) (suc n) o h = or-after own joint k n o (omega arith)
+or-after (p ∷ own) (other ∷ joint) zero (suc n) o h = grind (arith, common_steps)
+or-after (p ∷ own) (other ∷ joint) (suc k) (suc n) o h =
+    grind (arith, common_steps, or-after own joint k n o (omega arith))
 
 -- Where none is decided there is none of its own.
 pub none-own : (own : List (Option (List ℕ))) (joint : List (List ℕ)) (n : ℕ)
@@ -84,18 +67,10 @@ pub room-at : (shape : JointShape) (samples : List ℕ) (slot : ℕ) → slot < 
     ≡ Some (joint_plane shape samples slot)
 unfolding joint_planes
 room-at shape samples slot h =
-    let within : slot < length (joint_planes shape samples) =
-    omega (arith, joint-count shape samples, h) in
-    get_or-map Some (joint_planes shape samples) slot [] None within
-    ∙ ap Some (get_or-map-range_with_len (joint_plane shape samples) 0 shape.count slot slot [] h
-    (omega arith))
+    let at = get_or-map Some (joint_planes shape samples) slot [] None (omega (arith, joint-count shape samples)) in
+    grind (arith, common_steps, get_or-map-range_with_len)
 
 -- Past those slots there is none.
 pub room-past : (shape : JointShape) (samples : List ℕ) (slot : ℕ) → shape.count ≤ slot
     → get_or (map Some (joint_planes shape samples)) slot None ≡ None
 room-past shape samples slot h = search (rules, length-map, get_or_past, joint-count)
-
--- A plane in the room is decided, whether there is one of its own or none.
-pub or-some : {A : Type 0} (o : Option A) (x : A) → true ≡ is_some (option_or o (Some x))
-or-some (Some y) x = refl
-or-some None x = refl

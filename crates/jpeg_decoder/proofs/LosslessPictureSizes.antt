@@ -45,10 +45,7 @@ frame-length : (f : Frame) (planes : List (List ℕ)) → IsDecodedFrame f → f
 unfolding lossless_picture picture_size
 frame-length f planes p e =
     let size = read-size f p e in
-    let n = bytes_a_sample f.precision in
-    let turned : (a b c : ℕ) → b * (a * c) ≡ a * b * c = λ a b c. sym (mul_assoc b a c) ∙ ap (λ k. k * c)
-    (mul_comm b a) in
-    grind (arith, common_steps, lines-length)
+    grind (arith, common_steps, lines-length, mul_comm, mul_assoc)
 
 pub if-samples_size : {X : Type 0} (items : X → List ℕ) (f : Frame) (planes : List (List ℕ)) (result : Result X Error)
     → IsDecodedFrame f → f.process ≡ Lossless
@@ -61,11 +58,4 @@ pub image-room : (f : Frame) → IsDecodedFrame f → f.process ≡ Lossless
 unfolding picture_size
 image-room f p e =
     let size = read-size f p e in
-    let n = length f.components * bytes_a_sample f.precision in
-    ap₂ (λ (a b : ℕ). a * b * n) size.0 size.1
-    ∙ ap (λ k. k * n) (mul_comm f.width f.height) ∙ mul_assoc f.height f.width n
-    ∙ ap (λ k. f.height * (f.width * (length f.components * k))) (same (nat_le f.precision 8))
-  where
-    same : (b : Bool) → ◌≡◌ {A = ℕ} (if b then 1 else 2) (elim b as (λ _. ℕ) [ true ↦ 1 | false ↦ 2 ])
-    same true = refl
-    same false = refl
+    grind (arith, common_steps, mul_comm, mul_assoc)

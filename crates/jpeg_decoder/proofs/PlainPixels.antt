@@ -22,15 +22,8 @@ pixel-plain : (frame : Frame) (samples : Samples) (y x index : ℕ) (cs : List C
     index (length cs)))
 pixel-plain frame samples y x index [] h = refl
 pixel-plain frame samples y x index (c ∷ cs) h =
-    grind (
-      arith,
-      common_steps,
-      through,
-      some-across,
-      some-down,
-      pixel-plain frame samples y x
-          (index + 1) cs h.1,
-    )
+    let rest = pixel-plain frame samples y x (index + 1) cs h.1 in
+    grind (arith, common_steps, through, some-across, some-down)
 
 pub picture-plain : (frame : Frame) (samples : Samples) → HasEqualFactors frame
     → picture_of_samples frame samples ≡ plain_picture frame samples

@@ -16,9 +16,9 @@ dropped xs i x h e = drop_more xs i x h ∙ (λ j. sym e j ∷ drop (i + 1) xs)
 pub even-at : (w : ℕ) (lines : List (List ℕ)) (y : ℕ) → AreEven w lines → y < length lines
     → length (get_or lines y []) ≡ w
 unfolding AreEven
-even-at w [] y even h = absurd (omega arith)
 even-at w (l ∷ lines) zero even h = even.0
 even-at w (l ∷ lines) (suc y) even h = even-at w lines y even.1 (omega arith)
+even-at w _ y even h = absurd (omega arith)
 
 pub flat-length : (w : ℕ) (lines : List (List ℕ)) → AreEven w lines
     → length (concat lines) ≡ length lines * w
@@ -33,11 +33,5 @@ unfolding AreEven
 at-flat w x [] y even h k = absurd (omega arith)
 at-flat w x (l ∷ lines) zero even h k = grind (arith, common_steps, get_or_append_left)
 at-flat w x (l ∷ lines) (suc y) even h k =
-    grind (
-      arith,
-      common_steps,
-      one-mul,
-      add-mul,
-      get_or-append_right,
-      at-flat w x lines y even.1 (omega arith) k,
-    )
+    let rest = at-flat w x lines y even.1 (omega arith) k in
+    grind (arith, common_steps, one-mul, add-mul, get_or-append_right)

@@ -28,7 +28,7 @@ use Rattle.jpeg_streams.proofs.WrittenParts.{front-closed}
 use Rattle.jpeg_streams.proofs.WrittenPictures.{stream-means, taken-means}
 use Rattle.jpeg_decoder.proofs.BlocksBefore.{plane_by-length}
 use Rattle.jpeg_decoder.proofs.HeaderThenRest.{header-lacks, header-means}
-use Rattle.jpeg_decoder.proofs.JointDecided.{or-after, or-at, or-nothing, or-set, or-some, room-at, room-past}
+use Rattle.jpeg_decoder.proofs.JointDecided.{or-after, or-at, or-nothing, or-set, room-at, room-past}
 use Rattle.std.proofs.lemmas.List.FromFn.{length-enumerate_from}
 use Rattle.std.proofs.lemmas.Result.{err_from_is_err_and}
 use Rattle.jpeg_segments.proofs.Gathered.{gathers-all, gathers-none}
@@ -62,7 +62,7 @@ pub ruleset samples = (own-predicted, planes-same, pictures-agree, lossless-acce
 pub ruleset written_samples = (accepted-samples, samples-written, three-written, padding-written)
 
 -- planes that are decided
-pub ruleset planes = (length-map, get_or-map, map-set, or-nothing, or-at, or-set, or-after, or-some)
+pub ruleset planes = (length-map, get_or-map, map-set, or-nothing, or-at, or-set, or-after)
 
 pub ruleset joint_planes = (room-at, room-past)
 

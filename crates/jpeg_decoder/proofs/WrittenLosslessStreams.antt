@@ -56,13 +56,8 @@ with-length : (samples : Samples) (indices : List ℕ) (decided : List (Option (
 unfolding with_samples
 with-length samples [] decided = refl
 with-length samples (p ∷ indices) decided =
-    search (
-      rules,
-      arith,
-      length-set,
-      with-length samples indices (slice_set decided p (Some
-          (concat (samples p)))),
-    )
+    let rest = with-length samples indices (slice_set decided p (Some (concat (samples p)))) in
+    search (rules, arith, length-set)
 
 with-there : (samples : Samples) (indices : List ℕ) (decided : List (Option (List ℕ)))
     → AllByRecursion (λ k. k < length decided) indices
@@ -71,16 +66,9 @@ unfolding with_samples
 with-there samples [] decided h = tt
 with-there samples (p ∷ indices) decided h =
     let next = slice_set decided p (Some (concat (samples p))) in
-    grind (
-      arith,
-      common_steps,
-      with-keeps,
-      get_or-set_same,
-      length-set,
-      with-there samples indices next
-          (subst (λ (n : ℕ). AllByRecursion (λ (k : ℕ). k < n) indices) (sym
-          (length-set decided p (Some (concat (samples p))))) h.1),
-    )
+    let size = length-set decided p (Some (concat (samples p))) in
+    let rest = with-there samples indices next (rw size h.1) in
+    grind (arith, common_steps, with-keeps, get_or-set_same)
 
 kept-append : (samples : Samples) (decided : List (Option (List ℕ))) (xs ys : List ℕ)
     → AreKept samples decided xs → AreKept samples decided ys → AreKept samples decided (xs ++ ys)

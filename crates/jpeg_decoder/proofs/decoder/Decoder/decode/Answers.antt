@@ -9,7 +9,7 @@ use Rattle.jpeg_streams.specs.declared.progress.Progress.{Progress}
 use Rattle.jpeg_streams.specs.declared.progress.Progress.TheVariants.{Failed, Finished, Fresh, HeaderRead}
 use Rattle.jpeg_decoder.specs.Seen.{found_in}
 use Rattle.jpeg_decoder.proofs.DecodedImages.{decodes-images}
-use Rattle.jpeg_decoder.proofs.DecodedInto.{HasRead, begun-seen, into, into-refused}
+use Rattle.jpeg_decoder.proofs.DecodedInto.{HasRead, begun-seen, into-at, into-refused}
 use Rattle.jpeg_decoder.proofs.DecodedSamples.{decodes-samples}
 use Rattle.jpeg_decoder.proofs.PictureSizes.{if-counted}
 use Rattle.jpeg_decoder.proofs.decoder.Decoder.decode.Given as given
@@ -45,9 +45,13 @@ done : (g : given.Over) (c : goal.After-self-1 g)
     → HasRead (λ v. v.items) (told_of (found_in c.read_rest-result.new.state).said) c.args.self.now
     c.read_rest-result.result c.read_rest-result.new.source
 done g c =
-    into _ _ _ _ _ _
+    into-at _ _ c.args.self.now.stage c.args.self.now _ _ _
     (begun-seen _ _ _ c.self-2.view_is c.in_default.ensures.reads c.in_default.ensures.still c.in_default.ensures.settings)
-    c.read_rest-result.ensures.reads c.read_rest-result.ensures.told c.read_rest-result.ensures.turns
+    (record {
+      reads = c.read_rest-result.ensures.reads;
+      tells = c.read_rest-result.ensures.told;
+      turns = c.read_rest-result.ensures.turns;
+    })
 
 pub returns-clause-reads : goal.returns-clause-reads
 returns-clause-reads g c = (done g c).reads

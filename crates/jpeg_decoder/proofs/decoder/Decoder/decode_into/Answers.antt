@@ -48,10 +48,13 @@ unread : (g : given.Over) (c : goal.After-from_residual-in_err-written g) (e : E
     → c.read_rest_into-written.result ≡ Err e → HasRead {X = ℕ} (λ n. []) (told_of (stopped g c).found.said) c.args.self.now
     (Err e) (stopped g c).source
 unread g c e is =
-    into-err _ _ c.args.self.now _ _ _ c.read_rest_into-written.result e
+    into-err _ _ c.args.self.now _ _ _ c.read_rest_into-written.result
     (begun-seen _ _ _ c.self-2.view_is c.in_default.ensures.reads c.in_default.ensures.still c.in_default.ensures.settings)
-    is c.read_rest_into-written.ensures.reads c.read_rest_into-written.ensures.told
-    c.read_rest_into-written.ensures.turns
+    (record {
+      reads = c.read_rest_into-written.ensures.reads;
+      tells = c.read_rest_into-written.ensures.told;
+      turns = c.read_rest_into-written.ensures.turns;
+    }) e is
 
 pub returns-in_err-written-clause-reads : goal.returns-in_err-written-clause-reads
 returns-in_err-written-clause-reads g c room =
@@ -89,10 +92,13 @@ done : (g : given.Over) (c : goal.In_ok-written g)
     (told_of (found_in c.read_rest_into-written.new.state).said) c.args.self.now (Ok c.in_ok-size.size)
     c.read_rest_into-written.new.source
 done g c =
-    into-ok _ _ c.args.self.now _ _ _ c.read_rest_into-written.result c.in_ok-size.size
+    into-ok _ _ c.args.self.now _ _ _ c.read_rest_into-written.result
     (begun-seen _ _ _ c.self-2.view_is c.in_default.ensures.reads c.in_default.ensures.still c.in_default.ensures.settings)
-    c.in_ok-written.was (front g c).1 c.read_rest_into-written.ensures.reads c.read_rest_into-written.ensures.told
-    c.read_rest_into-written.ensures.turns
+    (record {
+      reads = c.read_rest_into-written.ensures.reads;
+      tells = c.read_rest_into-written.ensures.told;
+      turns = c.read_rest_into-written.ensures.turns;
+    }) c.in_ok-size.size c.in_ok-written.was (front g c).1
 
 pub returns-clause-reads : goal.returns-clause-reads
 returns-clause-reads g c room = (done g c).reads
