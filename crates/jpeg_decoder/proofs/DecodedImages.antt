@@ -5,7 +5,7 @@ use Rattle.std.proofs.lemmas.Bool.{false≢true}
 use Rattle.jpeg_bits.specs.Reading.{Outcome, Fault, Answers, ◌>>=◌}
 use Rattle.jpeg_bits.specs.Stream.{Stream}
 use Rattle.jpeg_bits.specs.declared.error.Error.{Error}
-use Rattle.jpeg_streams.specs.ArrayPictures.{meaning_of_array, picture_of_array}
+use Rattle.jpeg_streams.specs.ArrayPictures.{meaning_of_array}
 use Rattle.jpeg_streams.specs.DecodedImages.{AtLeast, DecodesImages, FailsOutside, FullSize}
 use Rattle.jpeg_streams.specs.DecodedImages.{GivesPicture, HasLeft, Size, at_size}
 use Rattle.jpeg_streams.specs.Levels.{Is8Bit, Levels}

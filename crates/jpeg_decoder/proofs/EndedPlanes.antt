@@ -1,8 +1,7 @@
 -- The planes of a frame's components at the end of an image, one after the other.
-use Rattle.std.proofs.Common.{◌≡◌, ◌<◌, ◌≤◌, ℕ, zero, suc, ◌+◌, ◌*◌, ℤ, Bool, true, List, [], ◌∷◌}
-use Rattle.std.proofs.Common.{◌++◌, sym, ap, ◌∙◌, subst, length, get_or, set, map, drop}
-use Rattle.std.proofs.Common.{drop_of_length-le, arith, Option, Some, None, Ok, rules, option_map}
-use Rattle.std.proofs.Common.{slice_index_or, Global, Vec}
+use Rattle.std.proofs.Common.{◌≡◌, ◌<◌, ◌≤◌, ℕ, zero, suc, ◌+◌, ◌*◌, Bool, true, List, [], ◌∷◌}
+use Rattle.std.proofs.Common.{◌++◌, sym, ap, ◌∙◌, length, get_or, map, drop, drop_of_length-le}
+use Rattle.std.proofs.Common.{arith, Option, Some, None, Ok, rules, slice_index_or}
 use Rattle.std.specs.List.{AllByRecursion, enumerate_from}
 use Rattle.std.proofs.lemmas.Bool.{eqb-true}
 use Rattle.std.proofs.lemmas.List.{append_assoc, append-nil, get_or-drop, get_or-map}
@@ -20,7 +19,6 @@ use Rattle.jpeg_pixels.specs.Pictures.{AreWhole}
 use Rattle.jpeg_pixels.specs.Scaled.{IsScale}
 use Rattle.jpeg_streams.specs.EndPlanes.{AreBlocksOf, blocks_if, is_kept, plane_or}
 use Rattle.jpeg_streams.specs.InTurn.{AreArrays}
-use Rattle.jpeg_decoder.specs.Scanning.{arrays_in}
 use Rattle.jpeg_streams.specs.Scans.{Arrays}
 use Rattle.jpeg_streams.specs.Sound.{ArePlanes, IsDecodedFrame, IsPlaneOf, IsSound}
 use Rattle.jpeg_streams.specs.FoundPictures.{plane_at_end}

@@ -1,8 +1,7 @@
 -- Planes that are decided, of which those of like components share one buffer.
 use Rattle.std.proofs.lemmas.Grind.{common_steps}
-use Rattle.std.proofs.Common.{◌≡◌, ◌∙◌, ◌<◌, ◌≤◌, ℕ, zero, suc, List, [], ◌∷◌, Option, Some, None, rules}
-use Rattle.std.proofs.Common.{ap, arith, drop, get_or, is_some, length, map, refl, replicate, set}
-use Rattle.std.proofs.Common.{true}
+use Rattle.std.proofs.Common.{◌≡◌, ◌<◌, ◌≤◌, ℕ, zero, suc, List, [], ◌∷◌, Option, Some, None, rules}
+use Rattle.std.proofs.Common.{arith, drop, get_or, length, map, refl, replicate, set}
 use Rattle.std.proofs.lemmas.List.{drop-set-lt, get_or-map, get_or_past, length-map}
 use Rattle.std.proofs.lemmas.List.FromFn.{get_or-map-range_with_len, length-map-range_with_len}
 use Rattle.std.specs.Option.{option_or}

@@ -1,10 +1,8 @@
 -- The number of bytes of a lossless picture.
 use Rattle.std.proofs.lemmas.Grind.{common_steps}
-use Rattle.std.proofs.Common.{◌≡◌, ℕ, ◌*◌, List, length, sym, ap, ap₂, ◌∙◌, refl, arith, rules}
-use Rattle.std.proofs.Common.{Bool, true, false, Result, Some, mul_assoc, IfOk, nat_le}
-use Rattle.std.proofs.Common.{if◌then◌else◌, mul_comm}
+use Rattle.std.proofs.Common.{◌≡◌, ℕ, ◌*◌, List, length, ap, ◌∙◌, arith, rules, Result, Some}
+use Rattle.std.proofs.Common.{mul_assoc, IfOk, mul_comm}
 use Rattle.std.proofs.lemmas.List.FromFn.{length-enumerate_from}
-use Rattle.std.specs.List.{enumerate_from}
 use Rattle.jpeg_bits.specs.declared.error.Error.{Error}
 use Rattle.jpeg_segments.specs.declared.parser.CodingProcess.TheVariants.{Lossless}
 use Rattle.jpeg_segments.specs.Frame.{Component, Frame, ceiling}

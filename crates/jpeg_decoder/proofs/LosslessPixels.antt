@@ -129,5 +129,4 @@ pub limit-takes : (settings : Settings) (samples : Samples) (rest : List ℕ) (f
     → (limited settings final (λ f. Ok (picture_of_samples f samples)) >>= given final rest)
     ≡ Ok ((told_of final, picture_of_samples frame samples), rest)
 limit-takes settings samples rest final frame within =
-    then-ok _ _ (picture_of_samples frame samples) _
-    (limited-ok settings final frame _ _ within.is_said within.limited refl) refl
+    rw (limited-ok settings final frame _ (picture_of_samples frame samples) within.is_said within.limited refl) refl

@@ -1,11 +1,10 @@
 -- The number of bytes of a picture of a frame that is decoded.
 use Rattle.std.proofs.lemmas.Grind.{common_steps}
-use Rattle.std.proofs.Common.{◌≡◌, ℕ, zero, suc, ◌*◌, ◌/◌, ◌<◌, ◌≤◌, List, [], ◌∷◌, length, sym, ap}
+use Rattle.std.proofs.Common.{◌≡◌, ℕ, ◌*◌, ◌/◌, ◌<◌, ◌≤◌, List, [], ◌∷◌, length, sym, ap}
 use Rattle.std.proofs.Common.{◌∙◌, refl, arith, subst, Result, Ok, Option, Some, true, MatchResult}
 use Rattle.std.proofs.Common.{IfOk, IfSome, OnOk, min, mul_assoc, mul_comm, mul-div_cancel, mul-le-mul_left}
 use Rattle.jpeg_bits.specs.declared.error.Error.{Error}
-use Rattle.jpeg_decoder.specs.Bytes.{HasBytes, IsCounted, IsWhole}
-use Rattle.jpeg_decoder.specs.Bytes.{bytes_a_sample, picture_size, samples_a_pixel}
+use Rattle.jpeg_decoder.specs.Bytes.{IsCounted, IsWhole, picture_size, samples_a_pixel}
 use Rattle.jpeg_segments.specs.declared.parser.CodingProcess.{CodingProcess}
 use Rattle.jpeg_segments.specs.declared.parser.CodingProcess.TheVariants.{Lossless}
 use Rattle.jpeg_streams.specs.Pixels.{bytes_a_pixel, format_of, info_of}

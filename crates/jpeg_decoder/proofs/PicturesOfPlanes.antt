@@ -1,5 +1,5 @@
 -- The picture of a frame's planes: of one component, and of several.
-use Rattle.std.proofs.Common.{◌≡◌, ◌≢◌, ◌<◌, ◌≤◌, ℕ, List, [], ◌∷◌, ◌++◌, ◌∙◌, refl, rules, ap, subst, length, get_or}
+use Rattle.std.proofs.Common.{◌≡◌, ◌≢◌, ◌<◌, ◌≤◌, ℕ, List, [], ◌∷◌, ◌++◌, ◌∙◌, rules, ap, subst, length, get_or}
 use Rattle.std.proofs.Common.{map, arith, Option, Some, Result, Ok, Err, Vec, Global}
 use Rattle.std.specs.Option.{option_to_list}
 use Rattle.std.specs.Prelude.{MatchResult}
@@ -23,7 +23,7 @@ use Rattle.jpeg_decoder.specs.Steps.{IsRefusal, cropped_to}
 use Rattle.jpeg_streams.specs.FoundPictures.{picture_by}
 use Rattle.jpeg_streams.specs.Found.{Metadata}
 use Rattle.jpeg_streams.specs.declared.settings.Settings.{Settings}
-use Rattle.jpeg_decoder.proofs.ImageSizes.{decoded-counts}
+use Rattle.std.proofs.lemmas.Bool.{eqb-true}
 use Rattle.jpeg_decoder.proofs.EndedPlanes.{decoded-scales, element, mapped-or}
 use Rattle.jpeg_lossless.proofs.RowLoops.{mapped-within}
 use Rattle.jpeg_streams.proofs.Soundness.{count-few, decoded-count, decoded-sized, decoded-sources}
@@ -34,9 +34,7 @@ use Rattle.std.proofs.lemmas.Grind.{common_steps}
 -- A frame that is decoded has one component, or three or four.
 pub decoded-several : (f : Frame) → IsDecodedFrame f → length f.components ≢ 1
     → (3 ≤ length f.components) × (length f.components ≤ 4)
-decoded-several f p other =
-    decoded-counts (λ n. n ≢ 1 → (3 ≤ n) × (n ≤ 4)) (length f.components) (decoded-count f p) (λ o. absurd (o refl))
-    (λ _. (omega arith, omega arith)) (λ _. (omega arith, omega arith)) other
+decoded-several f p other = let c = decoded-count f p in grind (arith, common_steps, eqb-true)
 
 pub decoded-few : (f : Frame) → IsDecodedFrame f → length f.components ≤ 4
 decoded-few f p = (count-few (length f.components) (decoded-count f p)).1
@@ -56,9 +54,7 @@ decoded-factors f p = sized_frames_have_factors f (decoded-sized f p)
 pub decoded-cover : (f : Frame) → IsDecodedFrame f → (planes : List (List ℕ)) → AreWhole f.components planes
     → (sources : List Source) → sources_of f.components f.output_width f.output_height ≡ Ok sources
     → AllCover sources planes f.output_width f.output_height
-decoded-cover f p planes whole sources e =
-    let s = decoded-sources f p in
-    grind (arith, common_steps)
+decoded-cover f p planes whole sources e = let s = decoded-sources f p in search rules
 
 -- What the code has of several components makes an image.
 pub several-ready : (f : Frame) (items slice : List declared.Component) (planes given : List (Vec ℕ Global))

@@ -32,8 +32,8 @@ use Rattle.jpeg_decoder.proofs.LosslessReads.{all-below}
 
 -- the samples at these places are those that were written
 abbrev pub AreKept : Samples → List (Option (List ℕ)) → List ℕ → Type 0
-AreKept samples decided sent = AllByRecursion (λ k. slice_index_or decided k None ≡ Some (concat
-    (samples k))) sent
+AreKept samples decided sent =
+    AllByRecursion (λ k. slice_index_or decided k None ≡ Some (concat (samples k))) sent
 
 set-keeps : {A : Type 0} (v : ℕ → A) (xs : List A) (j k : ℕ) (d : A) → get_or xs k d ≡ v k
     → get_or (set xs j (v j)) k d ≡ v k
@@ -42,9 +42,8 @@ set-keeps v (x ∷ xs) (suc j) (suc k) d h = set-keeps (λ n. v (suc n)) xs j k 
 set-keeps v _ _ _ d h = h
 
 with-keeps : (samples : Samples) (indices : List ℕ) (decided : List (Option (List ℕ))) (k : ℕ)
-    → slice_index_or decided k None ≡ Some (concat (samples k))
-    → slice_index_or (with_samples indices (planes_for samples indices) decided) k None ≡ Some
-    (concat (samples k))
+    → slice_index_or decided k None ≡ Some (concat (samples k)) → slice_index_or
+    (with_samples indices (planes_for samples indices) decided) k None ≡ Some (concat (samples k))
 unfolding with_samples
 with-keeps samples [] decided k h = h
 with-keeps samples (p ∷ indices) decided k h =
@@ -82,9 +81,8 @@ all-kept samples indices decided [] h = tt
 all-kept samples indices decided (k ∷ sent) h =
     (with-keeps samples indices decided k h.0, all-kept samples indices decided sent h.1)
 
-blocks-after : (samples : Samples) (indices : List ℕ) (decided : List (Option (List ℕ)))
-    (sent : List ℕ) → AllByRecursion (λ k. k < length decided) indices
-    → AreKept samples decided sent
+blocks-after : (samples : Samples) (indices : List ℕ) (decided : List (Option (List ℕ))) (sent : List ℕ)
+    → AllByRecursion (λ k. k < length decided) indices → AreKept samples decided sent
     → AreKept samples (with_samples indices (planes_for samples indices) decided) (indices ++ sent)
 blocks-after samples indices decided sent h g = search (rules, kept-append, with-there, all-kept)
 
@@ -125,16 +123,15 @@ scan-found : (samples : Samples) (said : Said) (sent next : List ℕ) (decided :
     → FindsScan bring_samples (Holds samples) said next decided h bytes
 scan-found samples said sent next decided f h bytes is framed header x held =
     let frame = is.shaped f framed in
-    let few = frame.0.few in
-    let four = held.four in
     let indices = indices_of h.choices in
+    let few = frame.0.few in
+    let below = all-below (length f.components) (length decided) indices (omega (arith, few, held.four))
+    (indices-below f h header) in
     record {
       brought = with_samples indices (planes_for samples indices) decided;
       held = record {
-        four = with-length samples indices decided ∙ four;
-        kept = subst (AreKept samples (with_samples indices (planes_for samples indices) decided)) x.1
-            (blocks-after samples indices decided sent (all-below (length f.components) (length decided) indices
-            (omega (arith, few, four)) (indices-below f h header)) held.kept);
+        four = with-length samples indices decided ∙ held.four;
+        kept = rw (← x.1) (blocks-after samples indices decided sent below held.kept);
       };
       found = λ fill code m left makes ends. scan-read said decided f h samples bytes left fill code m x.0 framed header
           frame.1 frame.0 is.tables makes ends;
