@@ -33,12 +33,10 @@ use Rattle.std.proofs.lemmas.List.FromFn.{length-enumerate_from}
 use Rattle.std.proofs.lemmas.Result.{err_from_is_err_and}
 use Rattle.jpeg_segments.proofs.Gathered.{gathers-all, gathers-none}
 use Rattle.jpeg_streams.proofs.Refusals.{told-err}
-use Rattle.jpeg_streams.proofs.SizedHeaders.{sized-refused}
 use Rattle.jpeg_streams.proofs.Told.{turns-no_start}
 use Rattle.jpeg_decoder.proofs.LosslessReads.{picture-given, picture-lacks, picture-made}
 use Rattle.jpeg_decoder.proofs.PictureSizes.{block-bytes}
 use Rattle.jpeg_decoder.proofs.PicturesOfPlanes.{several-ready}
-use Rattle.jpeg_decoder.proofs.ScanData.{answers-err}
 
 -- the laws of images
 pub ruleset images = (stream-means, stream-means_sized, taken-means, sized-taken, cut-whole)
@@ -77,9 +75,6 @@ pub ruleset given = (common_steps, err_from_is_err_and, picture-lacks, picture-m
 
 -- a picture in the memory of a caller
 pub ruleset rooms = (common_steps, several-ready, block-bytes, length-map)
-
--- the header at a scale
-pub ruleset scaled = (common_steps, err_from_is_err_and, answers-err, sized-refused)
 
 -- the start of a stream
 pub ruleset starts = (common_steps, sound-nothing, nothing-framed)

@@ -358,7 +358,6 @@ impl<R: Read + Drop> Decoder<R> {
     ///
     /// After `decode` the call changes what `info` returns, and no picture. The errors are those of
     /// `read_info`; a refusal leaves a failed decoder.
-    #[tactic(auto, using(crate::proofs::Rules::scaled))]
     pub fn scale(&mut self, requested_width: u16, requested_height: u16) -> Result<(u16, u16)>
         ensures stage { MovesToHeader self.old.stage self.new.stage result }
         ensures reads { self.old.stage ≡ Fresh → Answers (λ _. self.new.found)

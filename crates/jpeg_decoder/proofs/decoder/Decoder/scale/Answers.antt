@@ -1,10 +1,16 @@
 use Rattle.std.proofs.Common.{◌≡◌, rules}
+use Rattle.std.proofs.lemmas.Result.{err_from_is_err_and}
+use Rattle.jpeg_decoder.proofs.ScanData.{answers-err}
 use Rattle.jpeg_streams.specs.Found.{with_said}
 use Rattle.jpeg_decoder.specs.Seen.{found_in}
 use Rattle.jpeg_streams.specs.Stream.{sized_to}
-use Rattle.jpeg_streams.proofs.SizedHeaders.{sized-answers}
+use Rattle.jpeg_streams.proofs.SizedHeaders.{sized-answers, sized-refused}
 use Rattle.jpeg_decoder.proofs.decoder.Decoder.scale.Goals as goal
 use Rattle.jpeg_decoder.proofs.decoder.Decoder.scale.Goals.{in-Some, in-None}
+
+pub returns-in_err-read_info-clause-reads : goal.returns-in_err-read_info-clause-reads
+returns-in_err-read_info-clause-reads g c =
+    search (rules, err_from_is_err_and, answers-err, sized-refused)
 
 pub returns-clause-reads : goal.returns-clause-reads
 returns-clause-reads g c =
