@@ -1,7 +1,7 @@
 -- For callers that prove contracts of their own: a new decoder knows the bytes that its reader tells, and a picture
 -- has the bytes that its size, format and precision say.
 use Rattle.std.proofs.Common.{◌≡◌, ◌*◌, ◌^◌, ℕ, List, length, Option, Some, true, false, refl}
-use Rattle.std.specs.Prelude.{option_map}
+use Rattle.std.proofs.Common.{option_map, arith}
 use Rattle.std.proofs.lemmas.Bool.{lt-ltb}
 use Rattle.jpeg_bits.specs.Stream.{stream_of}
 use Rattle.jpeg_segments.specs.Frame.{Frame}
@@ -11,7 +11,6 @@ use Rattle.jpeg_streams.specs.declared.images.ImageInfo.{ImageInfo}
 use Rattle.jpeg_decoder.specs.Bytes.{IsCounted, IsWhole, bytes_a_sample, picture_size}
 use Rattle.jpeg_decoder.specs.Bytes.{samples_a_pixel}
 use Rattle.std.proofs.lemmas.Grind.{common_steps}
-use Rattle.std.proofs.Common.{arith}
 
 -- its bytes are known
 pub bytes_are_known : (remaining : Option (List ℕ)) (bytes : List ℕ) → Tells remaining bytes

@@ -1,14 +1,13 @@
 -- A call that answers the meaning of what its source has left decodes images.
-use Rattle.std.proofs.Common.{◌≡◌, ℕ, List, ◌++◌, true, Result, Ok, Err, is_ok, refl, sym, ap, ◌∙◌}
+use Rattle.std.proofs.Common.{rules, ◌≡◌, ℕ, List, ◌++◌, true, Result, Ok, Err, is_ok, refl, sym}
+use Rattle.std.proofs.Common.{ap, ◌∙◌, IsOk, MatchResult, arith}
 use Rattle.std.proofs.lemmas.Bool.{false≢true}
-use Rattle.std.specs.Prelude.{IsOk, MatchResult}
 use Rattle.jpeg_bits.specs.Reading.{Outcome, Fault, Answers, ◌>>=◌}
 use Rattle.jpeg_bits.specs.Stream.{Stream}
 use Rattle.jpeg_bits.specs.declared.error.Error.{Error}
-use Rattle.jpeg_streams.specs.ArrayPictures.{meaning_of_array, picture_of_array}
+use Rattle.jpeg_streams.specs.ArrayPictures.{meaning_of_array}
 use Rattle.jpeg_streams.specs.DecodedImages.{AtLeast, DecodesImages, FailsOutside, FullSize}
-use Rattle.jpeg_streams.specs.DecodedImages.{GivesPicture, HasLeft, Size}
-use Rattle.jpeg_streams.specs.DecodedImages.{at_size}
+use Rattle.jpeg_streams.specs.DecodedImages.{GivesPicture, HasLeft, Size, at_size}
 use Rattle.jpeg_streams.specs.Levels.{Is8Bit, Levels}
 use Rattle.jpeg_streams.specs.declared.progress.Progress.{Progress}
 use Rattle.jpeg_streams.specs.States.{Decoding, IsReading, ahead}
@@ -22,7 +21,6 @@ use Rattle.jpeg_decoder.proofs.HeaderThenRest.{header-means}
 use Rattle.jpeg_streams.proofs.SizedStreams.{stream-means_sized}
 use Rattle.jpeg_streams.proofs.WrittenPictures.{stream-means}
 use Rattle.std.proofs.lemmas.Grind.{common_steps}
-use Rattle.std.proofs.Common.{arith}
 
 -- ---- what is left
 
@@ -62,11 +60,10 @@ gives bytes_of (Ok picture) rest final new read old result answers means known =
 gives bytes_of (Err f) rest final new read old result answers means known =
     grind (arith, common_steps, err-ok)
 
-means-array : (size : Size) (settings : Settings) (array : Coefficients) (image rest : List ℕ) (final : Said)
-    (last : ℕ → Levels)
-    → ((index row column : ℕ) → Is8Bit (array index row column)) → WritesImage array image final
-    last
-    → means_at size settings (image ++ rest) ≡ meaning_of_array settings (at_size size final) array last rest
+means-array : (size : Size) (settings : Settings) (array : Coefficients) (image rest : List ℕ)
+    (final : Said) (last : ℕ → Levels) → ((index row column : ℕ) → Is8Bit (array index row column))
+    → WritesImage array image final last → means_at size settings (image ++ rest)
+    ≡ meaning_of_array settings (at_size size final) array last rest
 means-array FullSize = stream-means
 means-array (AtLeast width height) = stream-means_sized width height
 
@@ -76,8 +73,5 @@ pub decodes-images : {X : Type 0} (bytes_of : X → List ℕ) (old new : Decodin
     (ahead old.stage old.settings old.found) old.source result new.source)
     → DecodesImages bytes_of old result new
 decodes-images bytes_of old new result answers size array image rest final last range w has known =
-    gives bytes_of (picture_of_array old.settings (at_size size final) array last) rest (at_size size final) new
-    (ahead old.stage old.settings old.found) old.source result
-    (answers (left-reading size (image ++ rest) old.stage old.found old.source.bytes has))
-    (left-means size old.settings (image ++ rest) old.stage old.found old.source.bytes _ has
-    (means-array size old.settings array image rest final last range w)) known
+    let means = means-array size old.settings array image rest final last range w in
+    search (rules, gives, left-reading, left-means)

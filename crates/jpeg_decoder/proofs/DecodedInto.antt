@@ -1,4 +1,5 @@
 -- A call that reads the header of a stream where it is to be read, and then the rest of it.
+use Rattle.std.proofs.Common.{rules}
 use Rattle.std.proofs.Common.{◌≡◌, ◌++◌, ℕ, suc, List, Result, Ok, Err, true, false, refl, sym, ap, ◌∙◌, subst, length, take}
 use Rattle.std.proofs.lemmas.Bool.{false≢true}
 use Rattle.std.proofs.Math.Seq.{take-append_seam}
@@ -41,11 +42,11 @@ answers-then view y first next whole old mid new (Err e) means a h = (
 -- ---- where the header is read
 
 -- What a call says that has read the rest of a stream.
-record RestRead {X : Type 0} (bytes_of : X → List ℕ) (told : Told) (mid : Decoding) (r : Result X Error)
+pub record RestRead {X : Type 0} (bytes_of : X → List ℕ) (told : Told) (mid : Decoding) (r : Result X Error)
     (new : Stream) : Type 0 where
-  reads : Answers (λ x. (told, bytes_of x)) (rest_at mid.settings mid.found) mid.source r new
-  tells : OnTold mid.source new r (told ≡ told_in_turns (suc (length mid.source.bytes)) false mid.found mid.source.bytes)
-  turns : mid.source.known ≡ true → IsOfTurns (λ n. told_in_turns n false mid.found mid.source.bytes) told
+  pub reads : Answers (λ x. (told, bytes_of x)) (rest_at mid.settings mid.found) mid.source r new
+  pub tells : OnTold mid.source new r (told ≡ told_in_turns (suc (length mid.source.bytes)) false mid.found mid.source.bytes)
+  pub turns : mid.source.known ≡ true → IsOfTurns (λ n. told_in_turns n false mid.found mid.source.bytes) told
 
 -- What a call says that has read what its source has left.
 pub record HasRead {X : Type 0} (bytes_of : X → List ℕ) (told : Told) (old : Decoding) (r : Result X Error)
@@ -59,8 +60,7 @@ pub record HasRead {X : Type 0} (bytes_of : X → List ℕ) (told : Told) (old :
 
 none-read : {X : Type 0} (bytes_of : X → List ℕ) (told : Told) (old : Decoding) (r : Result X Error) (new : Stream)
     → (IsReading old.stage → ⊥) → HasRead bytes_of told old r new
-none-read bytes_of told old r new n =
-    record { reads = λ h. absurd (n h); told_is = λ h. absurd (n h); turns = λ h. absurd (n h) }
+none-read bytes_of told old r new n = search rules
 
 -- What was done before the rest was read: the header, where it was to be read.
 pub record IsBegun (old mid : Decoding) : Type 0 where
@@ -71,13 +71,12 @@ pub record IsBegun (old mid : Decoding) : Type 0 where
 pub begun-seen : (old mid seen : Decoding) → seen ≡ mid
     → (old.stage ≡ Fresh → Answers (λ (u : Unit {0}). mid.found) header_at old.source (Ok tt) mid.source)
     → ((old.stage ≡ Fresh → ⊥) → mid ≡ old) → mid.settings ≡ old.settings → IsBegun old seen
-begun-seen old mid seen e fresh still settings =
-    subst (λ (d : Decoding). IsBegun old d) (sym e) (record { fresh = fresh; still = still; settings = settings })
+begun-seen old mid seen e fresh still settings = search rules
 
 other-stage : HeaderRead ≡ Fresh → ⊥
 other-stage e = let n : ⊥ = cc in n
 
-into-at : {X : Type 0} (bytes_of : X → List ℕ) (told : Told) (stage : Progress) (old mid : Decoding) (new : Stream)
+pub into-at : {X : Type 0} (bytes_of : X → List ℕ) (told : Told) (stage : Progress) (old mid : Decoding) (new : Stream)
     (r : Result X Error) → IsBegun (record old { stage = stage }) mid → RestRead bytes_of told mid r new
     → HasRead bytes_of told (record old { stage = stage }) r new
 into-at {X} bytes_of told Fresh old mid new r b h =
@@ -100,39 +99,31 @@ into-at bytes_of told HeaderRead old mid new r b h =
     record { reads = λ _. same.reads; told_is = λ _. same.tells; turns = λ _. same.turns }
 into-at bytes_of told _ old mid new r b h = none-read bytes_of told _ r new (λ n. n)
 
-pub into : {X : Type 0} (bytes_of : X → List ℕ) (told : Told) (old mid : Decoding) (new : Stream) (r : Result X Error)
-    → IsBegun old mid
-    → Answers (λ x. (told, bytes_of x)) (rest_at mid.settings mid.found) mid.source r new
-    → OnTold mid.source new r (told ≡ told_in_turns (suc (length mid.source.bytes)) false mid.found mid.source.bytes)
-    → (mid.source.known ≡ true → IsOfTurns (λ n. told_in_turns n false mid.found mid.source.bytes) told)
-    → HasRead bytes_of told old r new
-into bytes_of told old mid new r b reads tells turns =
-    into-at bytes_of told old.stage old mid new r b (record { reads = reads; tells = tells; turns = turns })
+module _ {X : Type 0} (bytes_of : X → List ℕ) (told : Told) (old mid : Decoding) (pixels : List ℕ) (new : Stream)
+    (r : Result (Unit {0}) Error) (begun : IsBegun old mid) (read : RestRead (λ u. pixels) told mid r new) where
+  at : (q : Result (Unit {0}) Error) → r ≡ q → RestRead (λ (u : Unit {0}). pixels) told mid q new
+  at q is = subst (λ (q : Result (Unit {0}) Error). RestRead (λ u. pixels) told mid q new) is read
 
-pub into-ok : {X : Type 0} (bytes_of : X → List ℕ) (told : Told) (old mid : Decoding) (pixels : List ℕ)
-    (new : Stream) (r : Result (Unit {0}) Error) (x : X) → IsBegun old mid → r ≡ Ok tt → bytes_of x ≡ pixels
-    → Answers (λ u. (told, pixels)) (rest_at mid.settings mid.found) mid.source r new
-    → OnTold mid.source new r (told ≡ told_in_turns (suc (length mid.source.bytes)) false mid.found mid.source.bytes)
-    → (mid.source.known ≡ true → IsOfTurns (λ n. told_in_turns n false mid.found mid.source.bytes) told)
-    → HasRead bytes_of told old (Ok x) new
-into-ok bytes_of told old mid pixels new r x b is same answers tells turns =
-    let h = subst (λ (q : Result (Unit {0}) Error). RestRead (λ u. pixels) told mid q new) is
-    (record { reads = answers; tells = tells; turns = turns }) in
-    into bytes_of told old mid new (Ok x) b (
-      h.reads.0,
-      λ k. ((h.reads.1 k).0, (h.reads.1 k).1 ∙ ap (λ (l : List ℕ). Ok ((told, l), new.bytes)) (sym same)),
-    ) h.tells turns
+  pub into-ok : (x : X) → r ≡ Ok tt → bytes_of x ≡ pixels → HasRead bytes_of told old (Ok x) new
+  into-ok x is same =
+      let h = at (Ok tt) is in
+      into-at bytes_of told old.stage old mid new (Ok x) begun (record {
+        reads = (
+          h.reads.0,
+          λ k. ((h.reads.1 k).0, (h.reads.1 k).1 ∙ ap (λ (l : List ℕ). Ok ((told, l), new.bytes)) (sym same)),
+        );
+        tells = h.tells;
+        turns = h.turns;
+      })
 
-pub into-err : {X : Type 0} (bytes_of : X → List ℕ) (told : Told) (old mid : Decoding) (pixels : List ℕ)
-    (new : Stream) (r : Result (Unit {0}) Error) (e : Error) → IsBegun old mid → r ≡ Err e
-    → Answers (λ u. (told, pixels)) (rest_at mid.settings mid.found) mid.source r new
-    → OnTold mid.source new r (told ≡ told_in_turns (suc (length mid.source.bytes)) false mid.found mid.source.bytes)
-    → (mid.source.known ≡ true → IsOfTurns (λ n. told_in_turns n false mid.found mid.source.bytes) told)
-    → HasRead bytes_of told old (Err e) new
-into-err bytes_of told old mid pixels new r e b is answers tells turns =
-    let h = subst (λ (q : Result (Unit {0}) Error). RestRead (λ u. pixels) told mid q new) is
-    (record { reads = answers; tells = tells; turns = turns }) in
-    into bytes_of told old mid new (Err e) b h.reads h.tells turns
+  pub into-err : (e : Error) → r ≡ Err e → HasRead bytes_of told old (Err e) new
+  into-err e is =
+      let h = at (Err e) is in
+      into-at bytes_of told old.stage old mid new (Err e) begun (record {
+        reads = h.reads;
+        tells = h.tells;
+        turns = h.turns;
+      })
 
 -- ---- where the header is refused
 

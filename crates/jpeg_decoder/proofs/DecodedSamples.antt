@@ -1,5 +1,5 @@
 -- A call that answers the meaning of what its source has left decodes samples.
-use Rattle.std.proofs.Common.{◌≡◌, ℕ, List, ◌++◌, Result, Ok}
+use Rattle.std.proofs.Common.{◌≡◌, ℕ, List, ◌++◌, Result, Ok, rules}
 use Rattle.jpeg_bits.specs.Reading.{Answers, ◌>>=◌}
 use Rattle.jpeg_bits.specs.declared.error.Error.{Error}
 use Rattle.jpeg_streams.specs.DecodedImages.{AtLeast, FullSize, Size}
@@ -27,8 +27,4 @@ pub decodes-samples : {X : Type 0} (bytes_of : X → List ℕ) (old new : Decodi
     (ahead old.stage old.settings old.found) old.source result new.source)
     → DecodesSamples bytes_of old result new
 decodes-samples bytes_of old new result answers size samples image rest final w has known =
-    gives bytes_of (limited old.settings final (λ f. Ok (picture_of_samples f samples))) rest final new
-    (ahead old.stage old.settings old.found) old.source result
-    (answers (left-reading size (image ++ rest) old.stage old.found old.source.bytes has))
-    (left-means size old.settings (image ++ rest) old.stage old.found old.source.bytes _ has
-    (means-samples size old.settings samples image rest final w)) known
+    search (rules, gives, left-reading, left-means, means-samples)

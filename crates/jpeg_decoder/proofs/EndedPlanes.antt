@@ -1,43 +1,34 @@
 -- The planes of a frame's components at the end of an image, one after the other.
-use Rattle.std.proofs.Common.{◌≡◌, ◌<◌, ◌≤◌, ℕ, zero, suc, ◌+◌, ◌*◌, ℤ, Bool, true, List, [], ◌∷◌, ◌++◌}
-use Rattle.std.proofs.Common.{sym, ap, ◌∙◌, subst, length, get_or, set, map, drop, drop_of_length-le, arith, Option}
-use Rattle.std.proofs.Common.{Some, None, rules}
-use Rattle.std.specs.Prelude.{option_map, slice_index_or}
-use Rattle.std.specs.List.{AllByRecursion}
+use Rattle.std.proofs.Common.{◌≡◌, ◌<◌, ◌≤◌, ℕ, zero, suc, ◌+◌, ◌*◌, Bool, true, List, [], ◌∷◌}
+use Rattle.std.proofs.Common.{◌++◌, sym, ap, ◌∙◌, length, get_or, map, drop, drop_of_length-le}
+use Rattle.std.proofs.Common.{arith, Option, Some, None, Ok, rules, slice_index_or}
+use Rattle.std.specs.List.{AllByRecursion, enumerate_from}
 use Rattle.std.proofs.lemmas.Bool.{eqb-true}
-use Rattle.std.specs.declared.alloc.Global.{Global}
-use Rattle.std.specs.declared.vec.Vec.{Vec}
-use Rattle.std.proofs.lemmas.List.{append_assoc, append-nil, drop_more, drop-set-lt, get_or-drop, get_or-map}
-use Rattle.std.proofs.lemmas.List.{length-drop, length-map, map-set}
+use Rattle.std.proofs.lemmas.List.{append_assoc, append-nil, get_or-drop, get_or-map}
+use Rattle.std.proofs.lemmas.List.{length-drop, length-map}
 use Rattle.jpeg_bits.specs.Passes.{Block}
 use Rattle.jpeg_segments.specs.Frame.{Frame, Component}
+use Rattle.jpeg_bits.specs.Reading.{Names}
+use Rattle.jpeg_bits.specs.declared.error.Error.{Error}
+use Rattle.jpeg_segments.specs.Checks.{gathered}
+use Rattle.jpeg_decoder.proofs.ReadLists.{dropped}
+use Rattle.jpeg_segments.proofs.Gathered.{Gathers, gathers-more, gathers-refused, numbered}
+use Rattle.std.proofs.lemmas.List.FromFn.{length-enumerate_from}
 use Rattle.jpeg_segments.specs.Scales.{component_at, frame_at}
 use Rattle.jpeg_pixels.specs.Pictures.{AreWhole}
 use Rattle.jpeg_pixels.specs.Scaled.{IsScale}
 use Rattle.jpeg_streams.specs.EndPlanes.{AreBlocksOf, blocks_if, is_kept, plane_or}
 use Rattle.jpeg_streams.specs.InTurn.{AreArrays}
-use Rattle.jpeg_decoder.specs.Scanning.{arrays_in}
 use Rattle.jpeg_streams.specs.Scans.{Arrays}
 use Rattle.jpeg_streams.specs.Sound.{ArePlanes, IsDecodedFrame, IsPlaneOf, IsSound}
-use Rattle.jpeg_streams.proofs.Soundness.{count-few, decoded-count}
 use Rattle.jpeg_streams.specs.FoundPictures.{plane_at_end}
 use Rattle.jpeg_streams.specs.ScanSegments.{arrays_before}
 use Rattle.jpeg_streams.specs.Found.{Found}
 use Rattle.std.proofs.lemmas.Grind.{common_steps}
 
--- ---- what is left after some places
+-- ---- what is left after some indices
 
--- A place that is set leaves what is after it.
-pub rest-kept : (kept : List (Vec (List ℤ) Global)) (index : ℕ) (v : Vec (List ℤ) Global)
-    → drop (index + 1) (arrays_in (set kept index v)) ≡ drop (index + 1) (arrays_in kept)
-rest-kept kept index v = grind (arith, common_steps, map-set, drop-set-lt)
-
-pub planes-kept : (planes : List (Option (Vec ℕ Global))) (index : ℕ) (p : Option (Vec ℕ Global))
-    → drop (index + 1) (map (λ q. option_map (λ v. v.items) q) (set planes index p))
-    ≡ drop (index + 1) (map (λ q. option_map (λ v. v.items) q) planes)
-planes-kept planes index p = grind (arith, common_steps, map-set, drop-set-lt)
-
--- Lists that are the same from a place on are so there, and from the next on.
+-- Lists that are the same from an index on are so there.
 pub same-at : {A : Type 0} (xs ys : List A) (i : ℕ) (d : A) → drop i xs ≡ drop i ys → get_or xs i d ≡ get_or ys i d
 same-at xs ys i d e = grind (arith, common_steps, get_or-drop)
 
@@ -52,57 +43,43 @@ mapped-or f xs i x d e h is = ap f is ∙ sym (get_or-map f xs i d e h)
 pub none-left : {A B : Type 0} (f : A → B) (xs : List A) (i : ℕ) → length xs ≤ i → drop i (map f xs) ≡ []
 none-left f xs i h = drop_of_length-le (map f xs) (omega (arith, length-map xs f, h))
 
--- ---- in turn
-
-left-at : (cs : List Component) (index : ℕ) (c : Component) → index < length cs → c ≡ get_or cs
-    index c
-    → drop index cs ≡ c ∷ drop (index + 1) cs
-left-at cs index c h e = drop_more cs index c h ∙ ap (λ (x : Component). x ∷ drop (index + 1) cs)
-    (sym e)
-
 -- ---- all blocks
 
 -- what this many planes make whole, with those after them
 abbrev pub AreWholeWith : List Component → ℕ → List (List ℕ) → Type 0
-AreWholeWith cs index front = (others : List (List ℕ)) → AreWhole (drop index cs) others → AreWhole
-    cs (front ++ others)
+AreWholeWith cs index front =
+    (others : List (List ℕ)) → AreWhole (drop index cs) others → AreWhole cs (front ++ others)
 
-pub whole-all : (cs : List Component) (index : ℕ) (front : List (List ℕ)) → AreWholeWith cs index
-    front
+pub whole-all : (cs : List Component) (index : ℕ) (front : List (List ℕ)) → AreWholeWith cs index front
     → drop index cs ≡ [] → AreWhole cs front
 unfolding AreWhole
-whole-all cs index front old e =
-    subst (AreWhole cs) (append-nil front) (old [] (subst (λ (left : List Component). AreWhole left []) (sym e) tt))
+whole-all cs index front old e = let h = old [] (rw e tt) in rw append-nil at h
 
--- ---- what is known at a place
+-- ---- what is known at an index
 
 pub plane-at : (cs : List Component) (planes : List (Option (List ℕ))) (i : ℕ) (d : Component) → ArePlanes cs planes
     → i < length cs → IsPlaneOf (get_or cs i d) (get_or planes i None)
 unfolding ArePlanes
-plane-at [] planes i d p h = absurd (omega arith)
-plane-at (c ∷ cs) [] i d p h = absurd p
 plane-at (c ∷ cs) (plane ∷ planes) zero d p h = p.0
 plane-at (c ∷ cs) (plane ∷ planes) (suc i) d p h = plane-at cs planes i d p.1 (omega arith)
+plane-at _ _ i d p h = grind (arith, common_steps)
 
 blocks-at : (cs : List Component) (arrays : Arrays) (i : ℕ) (d : Component) → AreArrays cs arrays → i < length cs
     → length (get_or arrays i []) ≡ (get_or cs i d).blocks_high * (get_or cs i d).blocks_wide
 unfolding AreArrays
-blocks-at [] arrays i d p h = absurd (omega arith)
-blocks-at (c ∷ cs) [] i d p h = absurd p
 blocks-at (c ∷ cs) (blocks ∷ arrays) zero d p h = p.0
 blocks-at (c ∷ cs) (blocks ∷ arrays) (suc i) d p h = blocks-at cs arrays i d p.1 (omega arith)
+blocks-at _ _ i d p h = grind (arith, common_steps)
 
-pub kept-arrays : (found : Found) (frame : Frame) → AreArrays frame.components (arrays_before found
-    frame)
+pub kept-arrays : (found : Found) (frame : Frame) → AreArrays frame.components (arrays_before found frame)
     → is_kept found frame ≡ true → AreArrays frame.components found.kept
 unfolding arrays_before
 kept-arrays found frame p h = grind (arith, common_steps)
 
 arrays-count : (cs : List Component) (arrays : Arrays) → AreArrays cs arrays → length cs ≤ length arrays
 unfolding AreArrays
-arrays-count [] arrays p = omega arith
-arrays-count (c ∷ cs) [] p = absurd p
 arrays-count (c ∷ cs) (blocks ∷ arrays) p = omega (arith, arrays-count cs arrays p.1)
+arrays-count _ _ p = grind (arith, common_steps)
 
 pub kept-blocks : (found : Found) (frame : Frame) (i : ℕ) (d : Component)
     → AreArrays frame.components (arrays_before found frame) → i < length frame.components
@@ -125,96 +102,90 @@ pub decoded-scales : (f : Frame) → IsDecodedFrame f → AllByRecursion (λ c. 
 decoded-scales f p = grind (arith, common_steps, scaled-frame, eqb-true)
 
 pub element : (P : Component → Type 0) (cs : List Component) (i : ℕ) (d : Component) → AllByRecursion P cs
-    → i < length cs
-    → P (get_or cs i d)
-element P [] i d p h = absurd (omega arith)
+    → i < length cs → P (get_or cs i d)
 element P (c ∷ cs) zero d p h = p.0
 element P (c ∷ cs) (suc i) d p h = element P cs i d p.1 (omega arith)
+element P _ i d p h = absurd (omega arith)
 
--- ---- at a place of what was found
-
-pub reached-four : (found : Found) (frame : Frame) (index : ℕ) → IsSound found → found.said.frame ≡ Some
-    frame
-    → index < length frame.components → index < 4
-reached-four found frame index s f h =
-    let few = count-few (length frame.components) (decoded-count frame (s.frames frame f)) in omega (arith, few.1, h)
+-- ---- at an index of what was found
 
 pub reached-kept : (found : Found) (frame : Frame) (index : ℕ) (kept : Arrays) → IsSound found
-    → found.said.frame ≡ Some frame → index < length frame.components → drop index kept ≡ drop index
-    found.kept
+    → found.said.frame ≡ Some frame → index < length frame.components → drop index kept ≡ drop index found.kept
     → is_kept found frame ≡ true → index < length kept
-reached-kept found frame index kept s f h e b = search (
-  rules,
-  arith,
-  arrays-count,
-  kept-arrays,
-  same-within,
-)
-
-pub reached-plane : (found : Found) (frame : Frame) (index : ℕ) (c : Component) (planes : List
-    (Option (List ℕ)))
-    (o : Option (List ℕ)) → IsSound found
-    → found.said.frame ≡ Some frame → index < length frame.components → c ≡ get_or frame.components
-    index c
-    → drop index planes ≡ drop index found.planes → o ≡ get_or planes index None → IsPlaneOf c o
-reached-plane found frame index c planes o s f h e left is =
-    let at = plane-at frame.components found.planes index c (s.planes frame f) h in
-    let same : o ≡ get_or found.planes index None = is ∙ same-at planes found.planes index None
-    left in
-    grind (arith, common_steps)
+reached-kept found frame index kept s f h e b = search (rules, arith, arrays-count, kept-arrays, same-within)
 
 blocks-same : (b : Bool) (kept old : Arrays) (index : ℕ) → drop index kept ≡ drop index old
     → blocks_if b kept index ≡ blocks_if b old index
 blocks-same b kept old index e = grind (arith, common_steps, same-at)
 
-pub reached-blocks : (found : Found) (frame : Frame) (index : ℕ) (c : Component) (kept : Arrays) (b
-    : Bool)
-    (o : Option (List Block)) → IsSound found
-    → found.said.frame ≡ Some frame → index < length frame.components → c ≡ get_or frame.components
-    index c
-    → drop index kept ≡ drop index found.kept → b ≡ is_kept found frame → o ≡ blocks_if b kept index
-    → AreBlocksOf c o
-reached-blocks found frame index c kept b o s f h e left is given =
-    let at = kept-blocks found frame index c (s.kept frame f) h in
-    let same : o ≡ blocks_if (is_kept found frame) found.kept index = grind (
-      arith,
-      common_steps,
-      blocks-same,
-    ) in
-    grind (arith, common_steps)
+-- What is taken for a component of the frame, where its plane and its blocks are left.
+pub record IsTaken (found : Found) (frame : Frame) (index : ℕ) (c : Component) (plane : Option (List ℕ))
+    (blocks : Option (List Block)) : Type 0 where
+  pub within : index < length frame.components
+  pub seen : c ≡ get_or frame.components index c
+  pub plane_is : plane ≡ get_or found.planes index None
+  pub blocks_is : blocks ≡ blocks_if (is_kept found frame) found.kept index
 
--- the plane there, by what is left
-pub reached-end : (found : Found) (frame : Frame) (index : ℕ) (c : Component) (planes : List
-    (Option (List ℕ)))
-    (kept : Arrays) (table : Option (List ℕ)) (plane : Option (List ℕ)) (b : Bool) (blocks : Option
-    (List Block))
-    → table ≡ slice_index_or found.said.quantization c.factors.quantization None
+pub taken : {found : Found} {frame : Frame} {index : ℕ} {c : Component} {plane : Option (List ℕ)}
+    {blocks : Option (List Block)} (planes : List (Option (List ℕ))) (kept : Arrays) (b : Bool)
+    → index < length frame.components → c ≡ get_or frame.components index c
     → drop index planes ≡ drop index found.planes → plane ≡ get_or planes index None
-    → drop index kept ≡ drop index found.kept → b ≡ is_kept found frame → blocks ≡ blocks_if b kept
-    index
-    → plane_at_end found frame (index, c) ≡ plane_or c table plane blocks
-unfolding plane_at_end
-reached-end found frame index c planes kept table plane b blocks t left is kept_left kept_is given =
-    grind (arith, common_steps, same-at, blocks-same)
+    → drop index kept ≡ drop index found.kept → b ≡ is_kept found frame → blocks ≡ blocks_if b kept index
+    → IsTaken found frame index c plane blocks
+taken planes kept b h e left is kept_left kept_is given = record {
+  within = h;
+  seen = e;
+  plane_is = grind (arith, common_steps, same-at);
+  blocks_is = grind (arith, common_steps, blocks-same);
+}
 
-pub reached-scale : (found : Found) (frame : Frame) (index : ℕ) (c : Component) → IsSound found
-    → found.said.frame ≡ Some frame → index < length frame.components → c ≡ get_or frame.components
-    index c
-    → IsScale c.scale
-reached-scale found frame index c s f h e =
-    subst (λ (x : Component). IsScale x.scale) (sym e) (element (λ x. IsScale x.scale)
-    frame.components index c
-    (decoded-scales frame (s.frames frame f)) h)
+module _ {found : Found} {frame : Frame} {index : ℕ} {c : Component} {plane : Option (List ℕ)}
+    {blocks : Option (List Block)} (t : IsTaken found frame index c plane blocks) where
+  pub taken-plane : IsSound found → found.said.frame ≡ Some frame → IsPlaneOf c plane
+  taken-plane s f =
+      let at = plane-at frame.components found.planes index c (s.planes frame f) t.within in
+      grind (arith, common_steps)
 
-pub whole-there : (cs : List Component) (index : ℕ) (c : Component) (front new : List (List ℕ))
-    (plane : List ℕ)
-    → index < length cs → c ≡ get_or cs index c → AreWholeWith cs index front → IsPlaneOf c (Some
-    plane)
-    → new ≡ front ++ plane ∷ [] → AreWholeWith cs (index + 1) new
-unfolding AreWhole
-whole-there cs index c front new plane h e old l joined = grind (
-  arith,
-  common_steps,
-  append_assoc,
-  left-at,
-)
+  pub taken-blocks : IsSound found → found.said.frame ≡ Some frame → AreBlocksOf c blocks
+  taken-blocks s f =
+      let at = kept-blocks found frame index c (s.kept frame f) t.within in
+      grind (arith, common_steps)
+
+  pub taken-scale : IsSound found → found.said.frame ≡ Some frame → IsScale c.scale
+  taken-scale s f =
+      let at = element (λ x. IsScale x.scale) frame.components index c (decoded-scales frame (s.frames frame f)) t.within in
+      grind (arith, common_steps)
+
+  -- its plane, one of those that are gathered
+  taken-end : get_or (enumerate_from 0 frame.components) index (0, c) ≡ (index, c)
+  taken-end = numbered frame.components index c c t.within t.seen
+
+  end : (table : Option (List ℕ)) → table ≡ slice_index_or found.said.quantization c.factors.quantization None
+      → plane_at_end found frame (get_or (enumerate_from 0 frame.components) index (0, c)) ≡ plane_or c table plane blocks
+  unfolding plane_at_end
+  end table e = rw taken-end (grind (arith, common_steps))
+
+  counted : index < length (enumerate_from 0 frame.components)
+  counted = rw (length-enumerate_from 0 frame.components) t.within
+
+  pub taken-more : (table : Option (List ℕ)) (front new : List (List ℕ)) (x : List ℕ)
+      → table ≡ slice_index_or found.said.quantization c.factors.quantization None
+      → plane_or c table plane blocks ≡ Ok x → new ≡ front ++ x ∷ []
+      → Gathers (plane_at_end found frame) (enumerate_from 0 frame.components) index front
+      → Gathers (plane_at_end found frame) (enumerate_from 0 frame.components) (index + 1) new
+  taken-more table front new x q is joins g =
+      gathers-more _ _ index (0, c) x front new counted (end table q ∙ is) joins g
+
+  pub taken-refused : (table : Option (List ℕ)) (front : List (List ℕ)) (e : Error)
+      → table ≡ slice_index_or found.said.quantization c.factors.quantization None
+      → Names e (plane_or c table plane blocks)
+      → Gathers (plane_at_end found frame) (enumerate_from 0 frame.components) index front
+      → Names e (gathered (plane_at_end found frame) (enumerate_from 0 frame.components))
+  taken-refused table front e q n g = gathers-refused _ _ index (0, c) e front counted (rw (end table q) n) g
+
+  pub taken-whole : (front new : List (List ℕ)) (x : List ℕ) → AreWholeWith frame.components index front
+      → IsPlaneOf c (Some x) → new ≡ front ++ x ∷ [] → AreWholeWith frame.components (index + 1) new
+  unfolding AreWhole
+  taken-whole front new x old l joined =
+      let at = dropped frame.components index c t.within t.seen in
+      grind (arith, common_steps, append_assoc)

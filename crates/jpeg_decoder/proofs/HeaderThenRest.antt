@@ -1,7 +1,6 @@
 -- A stream whose header is read, and then the rest of it.
-use Rattle.std.proofs.Common.{◌≡◌, ◌+◌, ℕ, zero, suc, List, Result, Ok, Err, Bool, true, false, None}
-use Rattle.std.proofs.Common.{refl, sym, subst, ap, ◌∙◌, length, arith}
-use Rattle.std.specs.Prelude.{◌&&◌, is_some}
+use Rattle.std.proofs.Common.{◌≡◌, ◌+◌, ℕ, zero, suc, List, Result, Ok, Err, Bool, true, false}
+use Rattle.std.proofs.Common.{None, rules, refl, sym, subst, ap, ◌∙◌, length, arith, ◌&&◌, is_some}
 use Rattle.jpeg_bits.specs.Reading.{Fault, Outcome, ◌>>=◌}
 use Rattle.jpeg_streams.specs.declared.before.Before.TheVariants.{Elsewhere}
 use Rattle.jpeg_streams.specs.declared.settings.Settings.{Settings}
@@ -35,8 +34,7 @@ follows-next n (next, Err fault) whole others e h = e n ∙ h
 walk-begun : (n : ℕ) (header : Bool) (found : Found) (bytes : List ℕ) (t : Turn × List ℕ)
     → (header && is_some found.said.frame) ≡ false → turn_at Elsewhere found None bytes ≡ Ok t → IsElsewhere t
     → walk (suc n) header Elsewhere found None bytes ≡ walk n header Elsewhere t.0.found None t.1
-walk-begun n header found bytes t none is s =
-    walk-on n header Elsewhere found None bytes t.1 t.0 none is s.0 ∙ rw (s.1.0, s.1.1) refl
+walk-begun n header found bytes t none is s = search (rules, walk-on)
 
 FollowsAt : ℕ → Found → List ℕ → Type 0
 FollowsAt n found bytes =

@@ -5,8 +5,6 @@ use Rattle.std.specs.Prelude.{if◌then◌else◌, is_some}
 use Rattle.jpeg_bits.specs.Reading.{Outcome, Fault, ◌>>=◌}
 use Rattle.jpeg_bits.specs.Marker.{next_marker}
 use Rattle.jpeg_bits.specs.declared.marker.Marker.{Marker}
-use Rattle.jpeg_bits.specs.declared.marker.Marker.TheVariants.{SOF, DHT, EOI, SOS, DQT, DRI}
-use Rattle.jpeg_bits.specs.declared.marker.Marker.TheVariants.{APP, COM}
 use Rattle.jpeg_segments.specs.Frame.{Frame}
 use Rattle.jpeg_streams.specs.declared.before.Before.TheVariants.{Elsewhere}
 use Rattle.jpeg_segments.specs.Checks.{needed}
@@ -14,9 +12,7 @@ use Rattle.jpeg_streams.specs.Segments.{Turn}
 use Rattle.jpeg_streams.specs.Found.{Found}
 use Rattle.jpeg_streams.specs.Stream.{end_segment, segment_at, turn_at}
 use Rattle.jpeg_streams.specs.ScanSegments.{scan_segment}
-use Rattle.jpeg_decoder.proofs.Turns.{IsElsewhere, IsOnward, On, on-err, on-needs, on-weaker}
-use Rattle.jpeg_decoder.proofs.Turns.{application-goes, frame-goes, huffman-goes, quantization-goes, restart-goes}
-use Rattle.jpeg_decoder.proofs.Turns.{skipped-goes}
+use Rattle.jpeg_decoder.proofs.Turns.{IsElsewhere, IsOnward, On, on-err, on-needs, on-weaker, onward_rules}
 
 begins-needed : (o : Option Frame) (f : Frame → Outcome Turn) → is_some o ≡ false → On IsElsewhere (needed o >>= f)
 begins-needed o f e = grind (arith, common_steps, on-err)
@@ -38,21 +34,8 @@ end-begins found bytes none = begins-then (is_some found.said.frame) _ _ none
 segment-begins : (m : Marker) (found : Found) (bytes : List ℕ) → is_some found.said.frame ≡ false
     → On IsElsewhere (segment_at m Elsewhere found bytes)
 unfolding segment_at
-segment-begins (SOF number) found bytes none =
-    onward-begins bytes _ (frame-goes (length bytes) number found bytes (omega arith))
-segment-begins DQT found bytes none =
-    onward-begins bytes _ (quantization-goes (length bytes) found bytes (omega arith))
-segment-begins DHT found bytes none =
-    onward-begins bytes _ (huffman-goes (length bytes) found bytes (omega arith))
-segment-begins SOS found bytes none = scan-begins found bytes none
-segment-begins EOI found bytes none = end-begins found bytes none
-segment-begins DRI found bytes none =
-    onward-begins bytes _ (restart-goes (length bytes) found bytes (omega arith))
-segment-begins (APP number) found bytes none =
-    onward-begins bytes _ (application-goes (length bytes) number found bytes (omega arith))
-segment-begins COM found bytes none =
-    onward-begins bytes _ (skipped-goes (length bytes) found bytes (omega arith))
-segment-begins _ found bytes none = on-err IsElsewhere _
+segment-begins m found bytes none =
+    grind (arith, common_steps, onward_rules, onward-begins bytes, scan-begins, end-begins, on-err)
 
 pub turn-begins : (found : Found) (bytes : List ℕ) → is_some found.said.frame ≡ false
     → On IsElsewhere (turn_at Elsewhere found None bytes)

@@ -1,10 +1,9 @@
 -- The number of bytes of a picture.
-use Rattle.std.proofs.Common.{◌≡◌, ℕ, ◌*◌, List, [], ◌∷◌, length, length-append, get_or, map, ap, ◌∙◌}
-use Rattle.std.proofs.Common.{arith, Result, Ok, true}
+use Rattle.std.proofs.Common.{◌≡◌, ℕ, ◌*◌, List, [], ◌∷◌, length, length-append, get_or, map, ap}
+use Rattle.std.proofs.Common.{◌∙◌, arith, Result, Ok, true, mul_comm}
 use Rattle.std.proofs.lemmas.Bool.{eqb-true}
 use Rattle.std.proofs.lemmas.List.{length-map}
 use Rattle.std.proofs.lemmas.List.FromFn.{length-map-range_with_len, length-range_with_len}
-use Rattle.std.proofs.Math.Nat.{mul_comm}
 use Rattle.std.specs.List.{range_with_len, concat}
 use Rattle.jpeg_bits.specs.Reading.{Fault}
 use Rattle.jpeg_bits.specs.declared.color_transform.ColorTransform.{ColorTransform}
@@ -48,22 +47,15 @@ line-length convert width lines long fits =
 abbrev as_bytes : List ℕ → Result (List ℕ) Fault
 as_bytes l = Ok l
 
+ruleset lengths = (gathered-length, made-length, lines_of-length, lines_of-long)
+
 pub image-length : (components : List Component) (planes : List (List ℕ)) (width height : ℕ)
     (transform : ColorTransform) (picture : List ℕ) → length planes ≡ length components
     → image_of components planes width height transform ≡ Ok picture
     → length picture ≡ height * (length components * width)
 unfolding image_of converted_picture picture_line
 image-length components planes width height transform picture counts is =
-    grind (
-      arith,
-      common_steps,
-      gathered-length,
-      made-length,
-      lines_of-length,
-      line-length,
-      lines_of-long,
-      conversion-fits,
-    )
+    grind (arith, common_steps, lengths, line-length, conversion-fits)
 
 pub cropped-length : (stride width height : ℕ) (plane : List ℕ)
     → length (cropped stride width height plane) ≡ width * height

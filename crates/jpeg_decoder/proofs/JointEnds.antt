@@ -11,7 +11,7 @@ use Rattle.std.specs.List.{enumerate_from}
 use Rattle.jpeg_segments.specs.Checks.{gathered}
 use Rattle.jpeg_segments.specs.Frame.{Component, Frame}
 use Rattle.jpeg_streams.proofs.ReadTurns.{then-ok}
-use Rattle.jpeg_streams.proofs.Soundness.{count-few, decoded-count}
+use Rattle.jpeg_decoder.proofs.PicturesOfPlanes.{decoded-few}
 use Rattle.jpeg_streams.specs.Found.{Found}
 use Rattle.jpeg_streams.specs.FoundPictures.{blocks_picture, picture_by, plane_at_end}
 use Rattle.jpeg_streams.specs.Sound.{ArePlanes, IsPlaneOf, IsSound}
@@ -42,35 +42,28 @@ all-there : (found : Found) (frame : Frame) (from : ℕ) (cs : List Component) (
     → gathered (plane_at_end found frame) (enumerate_from from cs) ≡ Ok joint
 unfolding gathered
 all-there found frame from [] [] e there = refl
-all-there found frame from [] (plane ∷ joint) e there = absurd (omega arith)
-all-there found frame from (c ∷ cs) [] e there = absurd (omega arith)
 all-there found frame from (c ∷ cs) (plane ∷ joint) e there =
     let first = plane-there found frame from c plane (there 0 from (omega arith) (omega arith)) in
     then-ok _ _ _ _ first (then-ok _ _ _ _ (all-there found frame (from + 1) cs joint (omega arith)
     (λ k index h i. there (suc k) index (omega arith) (omega arith))) refl)
+all-there found frame from _ _ e there = absurd (omega arith)
 
 -- Planes that are decided are whole.
 whole-there : (cs : List Component) (planes : List (Option (List ℕ))) (joint : List (List ℕ))
     → length joint ≡ length cs → AreThere 0 planes joint → ArePlanes cs planes → AreWhole cs joint
 unfolding ArePlanes AreWhole
 whole-there [] planes joint e there p = tt
-whole-there (c ∷ cs) planes [] e there p = absurd (omega arith)
-whole-there (c ∷ cs) [] (plane ∷ joint) e there p = absurd p
 whole-there (c ∷ cs) (o ∷ planes) (plane ∷ joint) e there p = (
   subst (IsPlaneOf c) (there 0 0 (omega arith) (omega arith)) p.0,
   whole-there cs planes joint (omega arith)
       (λ k index h i. there (suc k) (suc index) (omega arith) (omega arith)) p.1,
 )
+whole-there (c ∷ cs) _ _ e there p = grind (arith, common_steps)
 
 -- Planes in one room, where there is none of its own.
 joint-there : (joint : List (List ℕ)) → length joint ≤ 4
     → AreThere 0 (or_joint (replicate 4 None) joint) joint
-joint-there joint few k index h i =
-    let at = or-at (replicate 4 None) joint index (omega arith) in
-    let none : get_or {A = Option (List ℕ)} (replicate 4 None) index None ≡ None =
-    get_or-replicate 4 index None None (omega arith) in
-    let other = get_or-map Some joint k [] None h in
-    grind (arith, common_steps)
+joint-there joint few k index h i = grind (arith, common_steps, or-at, get_or-replicate, get_or-map)
 
 module _ (found : Found) (frame : Frame) (width height : ℕ) (joint : JointPlanes)
     (sound : IsSound found) (is : found.said.frame ≡ Some frame)
@@ -85,19 +78,15 @@ module _ (found : Found) (frame : Frame) (width height : ℕ) (joint : JointPlan
 
   -- Each of them is decided.
   there : AreThere 0 found.planes planes
-  there =
-      let few = count-few (length frame.components) (decoded-count frame (sound.frames frame is)) in
-      rw decided (joint-there planes (omega (arith, few.1, joint-length)))
+  there = rw decided (joint-there planes (omega (arith, decoded-few frame (sound.frames frame is), joint-length)))
 
   -- The picture is that of the planes in the room.
   pub joint-meant : (settings : Settings)
       → blocks_picture settings found frame
       ≡ picture_by settings found.said.metadata frame frame.components planes
   unfolding blocks_picture
-  joint-meant settings =
-      rw (all-there found frame 0 frame.components planes joint-length there) refl
+  joint-meant settings = rw (all-there found frame 0 frame.components planes joint-length there) refl
 
   -- They are whole.
   pub joint-whole : AreWhole frame.components planes
-  joint-whole =
-      whole-there frame.components found.planes planes joint-length there (sound.planes frame is)
+  joint-whole = whole-there frame.components found.planes planes joint-length there (sound.planes frame is)

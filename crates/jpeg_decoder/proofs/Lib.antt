@@ -28,6 +28,7 @@ pub mod ScanCodings
 pub mod TakenBlocks
 pub mod BlocksBefore
 pub mod PlacedCodings
+mod Rules
 pub mod DecodedImages
 pub mod PutLoops
 pub mod ScanData

@@ -1,11 +1,8 @@
 -- The number of bytes of a lossless picture.
 use Rattle.std.proofs.lemmas.Grind.{common_steps}
-use Rattle.std.proofs.Common.{◌≡◌, ℕ, ◌*◌, List, length, sym, ap, ap₂, ◌∙◌, refl, arith}
-use Rattle.std.proofs.Common.{Bool, true, false, Result, Some, mul_assoc}
-use Rattle.std.specs.Prelude.{IfOk, nat_le, if◌then◌else◌}
-use Rattle.std.proofs.Math.Nat.{mul_comm}
+use Rattle.std.proofs.Common.{◌≡◌, ℕ, ◌*◌, List, length, ap, ◌∙◌, arith, rules, Result, Some}
+use Rattle.std.proofs.Common.{mul_assoc, IfOk, mul_comm}
 use Rattle.std.proofs.lemmas.List.FromFn.{length-enumerate_from}
-use Rattle.std.specs.List.{enumerate_from}
 use Rattle.jpeg_bits.specs.declared.error.Error.{Error}
 use Rattle.jpeg_segments.specs.declared.parser.CodingProcess.TheVariants.{Lossless}
 use Rattle.jpeg_segments.specs.Frame.{Component, Frame, ceiling}
@@ -23,15 +20,12 @@ sample-length precision v = grind (arith, common_steps)
 pixel-length : (f : Frame) (sample : ℕ × Component → ℕ → ℕ → ℕ) (y x : ℕ)
     → length (pixel_of f sample y x) ≡ length f.components * bytes_a_sample f.precision
 unfolding pixel_of
-pixel-length f sample y x =
-    each-length _ (bytes_a_sample f.precision) (enumerate_from 0 f.components) (λ c. sample-length f.precision _)
-    ∙ ap (λ n. n * bytes_a_sample f.precision) (length-enumerate_from 0 f.components)
+pixel-length f sample y x = search (rules, each-length, sample-length, length-enumerate_from)
 
 lines-length : (f : Frame) (sample : ℕ × Component → ℕ → ℕ → ℕ)
     → length (picture_by_samples f sample) ≡ f.height * (f.width * (length f.components * bytes_a_sample f.precision))
 unfolding picture_by_samples
-lines-length f sample =
-    made-length _ f.height _ (λ y. made-length _ f.width (pixel_of f sample y) (pixel-length f sample y))
+lines-length f sample = search (rules, made-length, pixel-length)
 
 -- ---- the frame
 
@@ -49,10 +43,7 @@ frame-length : (f : Frame) (planes : List (List ℕ)) → IsDecodedFrame f → f
 unfolding lossless_picture picture_size
 frame-length f planes p e =
     let size = read-size f p e in
-    let n = bytes_a_sample f.precision in
-    let turned : (a b c : ℕ) → b * (a * c) ≡ a * b * c = λ a b c. sym (mul_assoc b a c) ∙ ap (λ k. k * c)
-    (mul_comm b a) in
-    grind (arith, common_steps, lines-length)
+    grind (arith, common_steps, lines-length, mul_comm, mul_assoc)
 
 pub if-samples_size : {X : Type 0} (items : X → List ℕ) (f : Frame) (planes : List (List ℕ)) (result : Result X Error)
     → IsDecodedFrame f → f.process ≡ Lossless
@@ -65,11 +56,4 @@ pub image-room : (f : Frame) → IsDecodedFrame f → f.process ≡ Lossless
 unfolding picture_size
 image-room f p e =
     let size = read-size f p e in
-    let n = length f.components * bytes_a_sample f.precision in
-    ap₂ (λ (a b : ℕ). a * b * n) size.0 size.1
-    ∙ ap (λ k. k * n) (mul_comm f.width f.height) ∙ mul_assoc f.height f.width n
-    ∙ ap (λ k. f.height * (f.width * (length f.components * k))) (same (nat_le f.precision 8))
-  where
-    same : (b : Bool) → ◌≡◌ {A = ℕ} (if b then 1 else 2) (elim b as (λ _. ℕ) [ true ↦ 1 | false ↦ 2 ])
-    same true = refl
-    same false = refl
+    grind (arith, common_steps, mul_comm, mul_assoc)

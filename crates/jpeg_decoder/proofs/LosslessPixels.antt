@@ -110,8 +110,7 @@ samples-meant settings samples bytes rest final meant w r =
 -- A stream that is written for samples means their picture where the limit takes it, and what
 -- follows it is left.
 pub lossless-means : (settings : Settings) (samples : Samples) (bytes rest : List ℕ) (final : Said)
-    → WritesSamples samples bytes final
-    → meaning settings (bytes ++ rest)
+    → WritesSamples samples bytes final → meaning settings (bytes ++ rest)
     ≡ (limited settings final (λ f. Ok (picture_of_samples f samples)) >>= given final rest)
 lossless-means settings samples bytes rest final w =
     samples-meant settings samples bytes rest final _ w (samples-walked settings samples bytes rest final w)
@@ -130,5 +129,4 @@ pub limit-takes : (settings : Settings) (samples : Samples) (rest : List ℕ) (f
     → (limited settings final (λ f. Ok (picture_of_samples f samples)) >>= given final rest)
     ≡ Ok ((told_of final, picture_of_samples frame samples), rest)
 limit-takes settings samples rest final frame within =
-    then-ok _ _ (picture_of_samples frame samples) _
-    (limited-ok settings final frame _ _ within.is_said within.limited refl) refl
+    rw (limited-ok settings final frame _ (picture_of_samples frame samples) within.is_said within.limited refl) refl

@@ -1,11 +1,10 @@
 -- The number of bytes of a picture of a frame that is decoded.
 use Rattle.std.proofs.lemmas.Grind.{common_steps}
-use Rattle.std.proofs.Common.{◌≡◌, ℕ, zero, suc, ◌*◌, ◌/◌, ◌<◌, ◌≤◌, List, [], ◌∷◌, length, sym, ap, ◌∙◌}
-use Rattle.std.proofs.Common.{refl, arith, subst, Result, Ok, Option, Some, true}
-use Rattle.std.specs.Prelude.{MatchResult, IfOk, IfSome, OnOk, min}
+use Rattle.std.proofs.Common.{◌≡◌, ℕ, ◌*◌, ◌/◌, ◌<◌, ◌≤◌, List, [], ◌∷◌, length, sym, ap}
+use Rattle.std.proofs.Common.{◌∙◌, refl, arith, subst, Result, Ok, Option, Some, true, MatchResult}
+use Rattle.std.proofs.Common.{IfOk, IfSome, OnOk, min, mul_assoc, mul_comm, mul-div_cancel, mul-le-mul_left}
 use Rattle.jpeg_bits.specs.declared.error.Error.{Error}
-use Rattle.jpeg_decoder.specs.Bytes.{HasBytes, IsCounted, IsWhole}
-use Rattle.jpeg_decoder.specs.Bytes.{bytes_a_sample, picture_size, samples_a_pixel}
+use Rattle.jpeg_decoder.specs.Bytes.{IsCounted, IsWhole, picture_size, samples_a_pixel}
 use Rattle.jpeg_segments.specs.declared.parser.CodingProcess.{CodingProcess}
 use Rattle.jpeg_segments.specs.declared.parser.CodingProcess.TheVariants.{Lossless}
 use Rattle.jpeg_streams.specs.Pixels.{bytes_a_pixel, format_of, info_of}
@@ -13,8 +12,6 @@ use Rattle.jpeg_streams.specs.Segments.{is_decoded_count, is_decoded_precision}
 use Rattle.std.specs.List.{AllByRecursion}
 use Rattle.std.proofs.lemmas.Bool.{eqb-true}
 use Rattle.std.proofs.lemmas.List.Elements.{recursion_from_All}
-use Rattle.std.proofs.Common.{mul_assoc}
-use Rattle.std.proofs.Math.Nat.{mul_comm, mul-div_cancel}
 use Rattle.jpeg_segments.specs.Frame.{Frame, Component, ceiling}
 use Rattle.jpeg_segments.specs.Scales.{frame_at}
 use Rattle.jpeg_pixels.specs.Pictures.{AreWhole}
@@ -49,17 +46,13 @@ one-length f c plane p e long =
     let some : 0 < c.scale = scale-made f made 0 c (subst (λ (l : List Component). At 0 l c) (sym e) refl) in
     let wide : c.width ≤ c.scale * ceiling c.width c.scale = ceiling-low c.width c.scale some in
     let high : c.height ≤ c.scale * ceiling c.height c.scale = ceiling-low c.height c.scale some in
-    let wide' : f.output_width ≤ stride = omega (arith, wide, size.0, grow c.scale _ _ fits.own_wide) in
+    let wide' : f.output_width ≤ stride = omega (arith, wide, size.0, mul-le-mul_left c.scale fits.own_wide) in
     let high' : f.output_height ≤ c.blocks_high * c.scale =
-    omega (arith, high, size.1, grow c.scale _ _ fits.own_high, mul_comm c.blocks_high c.scale) in
+    omega (arith, high, size.1, mul-le-mul_left c.scale fits.own_high, mul_comm c.blocks_high c.scale) in
     let long' : length plane ≡ (c.blocks_high * c.scale) * stride =
     long ∙ ap (λ k. (c.blocks_high * c.scale) * k) (mul_comm c.blocks_wide c.scale) in
     cropped-length stride (min f.output_width stride) (min f.output_height (length plane / stride)) plane
     ∙ area f.output_width f.output_height stride (c.blocks_high * c.scale) (length plane) wide' high' long'
-  where
-    grow : (k a b : ℕ) → a ≤ b → k * a ≤ k * b
-    grow zero a b h = omega arith
-    grow (suc k) a b h = let more = grow k a b h in omega (arith, more)
 
 pub picture-length : (settings : Settings) (m : Metadata) (f : Frame) (planes : List (List ℕ)) (picture : List ℕ)
     → IsDecodedFrame f → AreWhole f.components planes → length planes ≡ length f.components
@@ -87,55 +80,36 @@ by-info : (f : Frame) (pixels : List ℕ) → IsDecodedFrame f → f.precision �
 by-info f pixels p eight long = grind (arith, common_steps, turned, format-bytes, decoded-count)
 
 -- a byte a sample
-by-frame : (f : Frame) (pixels : List ℕ) → f.precision ≡ 8
-    → length pixels ≡ f.output_height * (length f.components * f.output_width) → length pixels ≡
-    picture_size f
+by-frame : (f : Frame) (pixels : List ℕ) → f.precision ≡ 8 → length pixels
+    ≡ f.output_height * (length f.components * f.output_width) → length pixels ≡ picture_size f
 unfolding picture_size
 by-frame f pixels eight long = grind (arith, common_steps, turned)
 
-precision-8 : (f : Frame) → IsDecodedFrame f → (f.process ≡ Lossless → ⊥) → f.precision ≡ 8
-precision-8 f p dct = go f.process refl
-  where
-    eight : (x : CodingProcess) → f.process ≡ x → is_decoded_precision x f.precision ≡ true
-    eight x e = ap (λ (x : CodingProcess). is_decoded_precision x f.precision) (sym e) ∙ precision-of f p
+eight : (x : CodingProcess) (n : ℕ) → is_decoded_precision x n ≡ true → (x ≡ Lossless → ⊥) → n ≡ 8
+eight x n e dct = grind (arith, common_steps, eqb-true)
 
-    go : (x : CodingProcess) → f.process ≡ x → f.precision ≡ 8
-    go Lossless e = absurd (dct e)
-    go x e = eqb-true f.precision 8 (eight x e)
+precision-8 : (f : Frame) → IsDecodedFrame f → (f.process ≡ Lossless → ⊥) → f.precision ≡ 8
+precision-8 f p dct = eight f.process f.precision (precision-of f p) dct
 
 -- the bytes of a picture of blocks
 pub block-bytes : (f : Frame) → IsDecodedFrame f → (f.process ≡ Lossless → ⊥)
     → picture_size f ≡ length f.components * f.output_width * f.output_height
 unfolding picture_size
 block-bytes f p dct =
-    let n = length f.components in
-    let area = f.output_width * f.output_height in
-    let one : n * bytes_a_sample f.precision ≡ n =
-    ap (λ k. n * bytes_a_sample k) (precision-8 f p dct) ∙ omega arith in
-    ap (λ k. area * k) one ∙ mul_comm area n ∙ sym (mul_assoc n f.output_width f.output_height)
+    let b = precision-8 f p dct in
+    grind (arith, common_steps, mul_comm, mul_assoc)
 
-whole-by : (f : Frame) (pixels : List ℕ) → IsDecodedFrame f → (f.process ≡ Lossless → ⊥)
+pub whole-by : (f : Frame) (pixels : List ℕ) → IsDecodedFrame f → (f.process ≡ Lossless → ⊥)
     → length pixels ≡ f.output_height * (length f.components * f.output_width) → IsWhole (Some f) pixels
-whole-by f pixels p dct long = go f.process refl
-  where
-    eight : (x : CodingProcess) → f.process ≡ x → is_decoded_precision x f.precision ≡ true
-    eight x e = ap (λ (x : CodingProcess). is_decoded_precision x f.precision) (sym e) ∙ precision-of f p
-
-    go : (x : CodingProcess) → f.process ≡ x → (length pixels ≡ picture_size f) × HasBytes x (info_of f) pixels
-    go Lossless e = absurd (dct e)
-    go x e = let b = eqb-true f.precision 8 (eight x e) in (by-frame f pixels b long, by-info f pixels p b long)
+whole-by f pixels p dct long =
+    let b = precision-8 f p dct in
+    grind (arith, common_steps, by-frame f pixels b long, by-info f pixels p b long)
 
 pub whole-if : (found : Found) (frame : Option Frame) (n : ℕ) (pixels : List ℕ) → HasDecodedFrame found
     → found.said.frame ≡ frame → IfSome frame (λ f. n ≡ picture_size f) → length pixels ≡ n
     → IsWhole found.said.frame pixels
-whole-if found frame n pixels p same size long = grind (
-  arith,
-  common_steps,
-  by-info,
-  precision-8,
-  block-bytes,
-  mul_comm,
-)
+whole-if found frame n pixels p same size long =
+    grind (arith, common_steps, by-info, precision-8, block-bytes, mul_comm)
 
 pub if-size : {X : Type 0} (items : X → List ℕ) (E : Error → Type 0) (settings : Settings) (m : Metadata) (f : Frame)
     (planes : List (List ℕ)) (result : Result X Error) → IsDecodedFrame f → AreWhole f.components planes

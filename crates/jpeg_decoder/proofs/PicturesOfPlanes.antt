@@ -1,7 +1,7 @@
 -- The picture of a frame's planes: of one component, and of several.
-use Rattle.std.proofs.Common.{rules}
-use Rattle.std.proofs.Common.{◌≡◌, ◌≢◌, ◌<◌, ◌≤◌, ℕ, List, [], ◌∷◌, ◌++◌, refl, ap}
-use Rattle.std.proofs.Common.{subst, length, get_or, map, arith, Result, Ok, Err}
+use Rattle.std.proofs.Common.{◌≡◌, ◌≢◌, ◌<◌, ◌≤◌, ℕ, List, [], ◌∷◌, ◌++◌, ◌∙◌, rules, ap, subst, length, get_or}
+use Rattle.std.proofs.Common.{map, arith, Option, Some, Result, Ok, Err, Vec, Global}
+use Rattle.std.specs.Option.{option_to_list}
 use Rattle.std.specs.Prelude.{MatchResult}
 use Rattle.std.specs.List.{AllByRecursion}
 use Rattle.std.proofs.lemmas.List.{length-append, length-map}
@@ -23,10 +23,10 @@ use Rattle.jpeg_decoder.specs.Steps.{IsRefusal, cropped_to}
 use Rattle.jpeg_streams.specs.FoundPictures.{picture_by}
 use Rattle.jpeg_streams.specs.Found.{Metadata}
 use Rattle.jpeg_streams.specs.declared.settings.Settings.{Settings}
-use Rattle.jpeg_decoder.proofs.ImageSizes.{decoded-counts}
+use Rattle.std.proofs.lemmas.Bool.{eqb-true}
 use Rattle.jpeg_decoder.proofs.EndedPlanes.{decoded-scales, element, mapped-or}
 use Rattle.jpeg_lossless.proofs.RowLoops.{mapped-within}
-use Rattle.jpeg_streams.proofs.Soundness.{decoded-count, decoded-sized, decoded-sources}
+use Rattle.jpeg_streams.proofs.Soundness.{count-few, decoded-count, decoded-sized, decoded-sources}
 use Rattle.std.proofs.lemmas.Grind.{common_steps}
 
 -- ---- counts
@@ -34,9 +34,10 @@ use Rattle.std.proofs.lemmas.Grind.{common_steps}
 -- A frame that is decoded has one component, or three or four.
 pub decoded-several : (f : Frame) → IsDecodedFrame f → length f.components ≢ 1
     → (3 ≤ length f.components) × (length f.components ≤ 4)
-decoded-several f p other =
-    decoded-counts (λ n. n ≢ 1 → (3 ≤ n) × (n ≤ 4)) (length f.components) (decoded-count f p) (λ o. absurd (o refl))
-    (λ _. (omega arith, omega arith)) (λ _. (omega arith, omega arith)) other
+decoded-several f p other = let c = decoded-count f p in grind (arith, common_steps, eqb-true)
+
+pub decoded-few : (f : Frame) → IsDecodedFrame f → length f.components ≤ 4
+decoded-few f p = (count-few (length f.components) (decoded-count f p)).1
 
 -- the components that the code has of one
 pub several-seen : (items slice : List declared.Component) (f : Frame) → f.components ≡ map component_in items
@@ -53,9 +54,23 @@ decoded-factors f p = sized_frames_have_factors f (decoded-sized f p)
 pub decoded-cover : (f : Frame) → IsDecodedFrame f → (planes : List (List ℕ)) → AreWhole f.components planes
     → (sources : List Source) → sources_of f.components f.output_width f.output_height ≡ Ok sources
     → AllCover sources planes f.output_width f.output_height
-decoded-cover f p planes whole sources e =
-    let s = decoded-sources f p in
-    grind (arith, common_steps)
+decoded-cover f p planes whole sources e = let s = decoded-sources f p in search rules
+
+-- What the code has of several components makes an image.
+pub several-ready : (f : Frame) (items slice : List declared.Component) (planes given : List (Vec ℕ Global))
+    → IsDecodedFrame f → f.components ≡ map component_in items → slice ≡ items → given ≡ planes → length slice ≢ 1
+    → length planes ≡ length f.components → AreWhole f.components (map (λ v. v.items) planes)
+    → ((3 ≤ length slice) × (length slice ≤ 4)) × ((length given ≡ length slice)
+    × (AllHaveSampling (map component_in slice)
+    × ((sources : List Source) → sources_of (map component_in slice) f.output_width f.output_height ≡ Ok sources
+    → AllCover sources (map (λ v. v.items) given) f.output_width f.output_height)))
+several-ready f items slice planes given p is same g other count whole = (
+  (several-seen items slice f is same p other).1,
+  (
+    rw (same, g) (count ∙ ap length is ∙ length-map items component_in),
+    rw (same, g, ← is) (decoded-factors f p, decoded-cover f p (map (λ v. v.items) planes) whole),
+  ),
+)
 
 -- ---- refusals
 
@@ -102,10 +117,6 @@ pub several-given : {R : Type 0} (view : R → List ℕ) (settings : Settings) (
 unfolding picture_by
 several-given {R = R} view settings m f cs planes given t r p other ec ep et h = search (rules, arith, image-refused)
 
--- the only one that is popped
-pub popped-only : {A : Type 0} (xs front : List A) (x : A) → xs ≡ front ++ x ∷ [] → length xs ≡ 1 → xs ≡ x ∷ []
-popped-only xs front x e h = grind (arith, common_steps, length-append)
-
 -- the first of the components that the code has
 first-is : (items slice : List declared.Component) (d : declared.Component) → slice ≡ items → length slice ≡ 1
     → component_in (get_or slice 0 d) ≡ get_or (map component_in items) 0 (component_in (get_or slice 0 d))
@@ -119,10 +130,13 @@ scale-first f items slice d p is e one =
     grind (arith, common_steps, first-is, element, mapped-within)
 
 pub picture-first : (settings : Settings) (m : Metadata) (f : Frame) (items slice : List declared.Component)
-    (d : declared.Component) (planes : List (List ℕ)) (plane picture : List ℕ) → slice ≡ items → length slice ≡ 1
-    → planes ≡ plane ∷ []
-    → picture ≡ cropped_to (component_in (get_or slice 0 d)) f.output_width f.output_height plane
-    → picture_by settings m f (map component_in items) planes ≡ Ok picture
-picture-first settings m f items slice d planes plane picture e one is made =
-    picture-one settings m f (map component_in items) (component_in (get_or slice 0 d)) planes plane picture
-    (omega (arith, length-map items component_in, ap length e, one)) (first-is items slice d e one) is made
+    (d : declared.Component) (planes front : List (Vec ℕ Global)) (o : Option (Vec ℕ Global)) (plane : Vec ℕ Global)
+    (picture : List ℕ) → slice ≡ items → length slice ≡ 1 → length planes ≡ length (map component_in items)
+    → planes ≡ front ++ option_to_list o → o ≡ Some plane
+    → picture ≡ cropped_to (component_in (get_or slice 0 d)) f.output_width f.output_height plane.items
+    → picture_by settings m f (map component_in items) (map (λ v. v.items) planes) ≡ Ok picture
+picture-first settings m f items slice d planes front o plane picture e one count popped is made =
+    let long : length (map component_in items) ≡ 1 = omega (arith, length-map items component_in, ap length e, one) in
+    let only : planes ≡ plane ∷ [] = grind (arith, common_steps, length-append) in
+    picture-one settings m f _ (component_in (get_or slice 0 d)) _ plane.items picture long (first-is items slice d e one)
+    (ap (map (λ v. v.items)) only) made

@@ -1,5 +1,5 @@
 -- Where all components have the same factors, the picture of samples shows them one by one.
-use Rattle.std.proofs.Common.{◌≡◌, ℕ, ◌+◌, ◌*◌, ◌/◌, ◌<◌, List, [], ◌∷◌, map, length, refl, arith}
+use Rattle.std.proofs.Common.{◌≡◌, ℕ, ◌+◌, ◌*◌, ◌/◌, ◌<◌, List, [], ◌∷◌, map, length, refl, arith, rules}
 use Rattle.std.specs.List.{AllByRecursion, concat, enumerate_from, range_with_len}
 use Rattle.std.proofs.lemmas.Nat.{div-mul-add}
 use Rattle.jpeg_segments.specs.Frame.{Component, Frame, most_across, most_down}
@@ -22,19 +22,10 @@ pixel-plain : (frame : Frame) (samples : Samples) (y x index : ℕ) (cs : List C
     index (length cs)))
 pixel-plain frame samples y x index [] h = refl
 pixel-plain frame samples y x index (c ∷ cs) h =
-    grind (
-      arith,
-      common_steps,
-      through,
-      some-across,
-      some-down,
-      pixel-plain frame samples y x
-          (index + 1) cs h.1,
-    )
+    let rest = pixel-plain frame samples y x (index + 1) cs h.1 in
+    grind (arith, common_steps, through, some-across, some-down)
 
 pub picture-plain : (frame : Frame) (samples : Samples) → HasEqualFactors frame
     → picture_of_samples frame samples ≡ plain_picture frame samples
 unfolding picture_of_samples picture_by_samples pixel_of plain_picture
-picture-plain frame samples h =
-    (λ i. concat (map (λ y. concat (map (λ x. pixel-plain frame samples y x 0 frame.components h i)
-    (range_with_len 0 frame.width))) (range_with_len 0 frame.height)))
+picture-plain frame samples h = search (rules, pixel-plain)

@@ -1,6 +1,6 @@
 -- A loop over the segments of a stream, a turn at a time.
-use Rattle.std.proofs.Common.{◌≡◌, ◌+◌, ◌-◌, ℕ, ◌<◌, suc, Err, Bool, true, false, Option, None, Ok, ap, ◌∙◌, length, arith}
-use Rattle.std.specs.Prelude.{◌&&◌, is_some}
+use Rattle.std.proofs.Common.{rules, ◌≡◌, ◌+◌, ◌-◌, ℕ, ◌<◌, suc, Err, Bool, true, false, Option}
+use Rattle.std.proofs.Common.{None, Ok, ap, ◌∙◌, length, arith, ◌&&◌, is_some}
 use Rattle.jpeg_bits.specs.Reading.{Answers}
 use Rattle.jpeg_bits.specs.Stream.{Stream}
 use Rattle.jpeg_bits.specs.declared.error.Error.{Error}
@@ -51,9 +51,7 @@ walk-left : {header : Bool} {found : Found} {old : Stream} {turns : ℕ} {before
     {met : Option Marker} {cur : Stream} → IsWalked header found old turns before now met cur → old.known ≡ true
     → walk (suc (length old.bytes)) header Elsewhere found None old.bytes
     ≡ walk (suc (length old.bytes - turns)) header before now met cur.bytes
-walk-left {header} {found} {old} {turns} w k =
-    let all : suc (length old.bytes) ≡ turns + suc (length old.bytes - turns) = omega (arith, w.took k) in
-    ap (λ (n : ℕ). walk n header Elsewhere found None old.bytes) all ∙ w.walks k (suc (length old.bytes - turns))
+walk-left {header} {found} {old} {turns} w k = search rules
 
 -- what the walk over all bytes gives
 pub walked-whole : {header : Bool} {found : Found} {old : Stream} {turns : ℕ} {before : Before} {now : Found}

@@ -131,6 +131,9 @@ skipped-goes limit found bytes h =
     on-bind (IsOnward limit) limit (length_at bytes) _ (length-below limit bytes h) (λ n p.
     says-goes limit (skip_at n.0 n.1) _ (skip-below limit n.0 n.1 p))
 
+-- the segments after which the image goes on
+pub ruleset onward_rules = (frame-goes, quantization-goes, huffman-goes, restart-goes, application-goes, skipped-goes)
+
 blocks-go : (limit : ℕ) (found : Found) (frame : Frame) (scan : Scan) (bytes : List ℕ) → length bytes < limit
     → On (Below limit) (blocks_scan found frame scan bytes)
 unfolding blocks_scan scan_arrays
@@ -154,9 +157,8 @@ samples-go limit found frame scan bytes p =
     (λ met r e.
     goes-ok limit _ met.1 r e)))
 
-process-goes : (limit : ℕ) (p : CodingProcess) (found : Found) (frame : Frame) (scan : Scan) (bytes : List ℕ)
-    → length bytes < limit
-    → On (Below limit) (scan_by p found frame scan bytes)
+process-goes : (limit : ℕ) (p : CodingProcess) (found : Found) (frame : Frame) (scan : Scan)
+    (bytes : List ℕ) → length bytes < limit → On (Below limit) (scan_by p found frame scan bytes)
 process-goes limit p found frame scan bytes h = grind (arith, common_steps, samples-go, blocks-go)
 
 scan-goes : (limit : ℕ) (found : Found) (bytes : List ℕ) → length bytes ≤ limit
@@ -171,20 +173,7 @@ segment-goes : (limit : ℕ) (m : Marker) (before : Before) (found : Found) (byt
     → (is_restart_marker (Some m) ≡ true → length bytes < limit) → On (Below limit) (segment_at m before found bytes)
 unfolding segment_at end_segment On
 segment-goes limit m before found bytes h r =
-    grind (
-      arith,
-      common_steps,
-      onward-goes,
-      frame-goes,
-      quantization-goes,
-      huffman-goes,
-      scan-goes,
-      restart-goes,
-      application-goes,
-      skipped-goes,
-      on-onward,
-      on-err,
-    )
+    grind (arith, common_steps, onward_rules, onward-goes, scan-goes, on-onward, on-err)
 
 turn-goes : (before : Before) (found : Found) (met : Option Marker) (bytes : List ℕ) → is_restart_marker met ≡ false
     → On (Below (length bytes)) (turn_at before found met bytes)
@@ -210,10 +199,8 @@ cond-same b x y z h = grind (arith, common_steps)
 
 turn-same : (r : Outcome Turn) (f g : Turn × List ℕ → Walked) (refused : Fault → Walked)
     → ((x : Turn × List ℕ) → r ≡ Ok x → f x ≡ g x)
-    → elim r as (λ _. Walked) [ Err fault ↦ refused fault | Ok t ↦ f t ] ≡ elim r as (λ _. Walked) [
-      | Err fault ↦ refused fault
-      | Ok t ↦ g t
-    ]
+    → elim r as (λ _. Walked) [ Err fault ↦ refused fault | Ok t ↦ f t ]
+    ≡ elim r as (λ _. Walked) [ Err fault ↦ refused fault | Ok t ↦ g t ]
 turn-same r f g refused h = grind (arith, common_steps)
 
 -- more turns than bytes change nothing

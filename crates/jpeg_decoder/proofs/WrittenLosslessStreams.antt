@@ -1,13 +1,11 @@
 -- Lossless streams that are written give their samples, and keep their size.
 use Rattle.std.proofs.Common.{◌≡◌, ℕ, zero, suc, ◌<◌, true, List, [], ◌∷◌, ◌++◌, length, replicate}
 use Rattle.std.proofs.Common.{set, get_or, Option, Some, None, refl, sym, ap, ◌∙◌, subst, arith}
-use Rattle.std.proofs.Common.{length-set, rules}
+use Rattle.std.proofs.Common.{length-set, rules, get_or-set_same, slice_index_or, slice_set}
 use Rattle.std.proofs.Math.Logic.{⊎_elim}
 use Rattle.std.proofs.lemmas.Bool.Decides.{eqb_tells}
 use Rattle.std.proofs.lemmas.Grind.{common_steps}
-use Rattle.std.proofs.lemmas.List.{get_or-set_same}
 use Rattle.std.proofs.lemmas.List.Elements.{recursion_from_All}
-use Rattle.std.specs.Prelude.{slice_index_or, slice_set}
 use Rattle.std.specs.List.{AllByRecursion, concat, range_with_len}
 use Rattle.jpeg_bits.specs.DefaultTables.{names}
 use Rattle.jpeg_bits.specs.Reading.{Outcome}
@@ -34,8 +32,8 @@ use Rattle.jpeg_decoder.proofs.LosslessReads.{all-below}
 
 -- the samples at these places are those that were written
 abbrev pub AreKept : Samples → List (Option (List ℕ)) → List ℕ → Type 0
-AreKept samples decided sent = AllByRecursion (λ k. slice_index_or decided k None ≡ Some (concat
-    (samples k))) sent
+AreKept samples decided sent =
+    AllByRecursion (λ k. slice_index_or decided k None ≡ Some (concat (samples k))) sent
 
 set-keeps : {A : Type 0} (v : ℕ → A) (xs : List A) (j k : ℕ) (d : A) → get_or xs k d ≡ v k
     → get_or (set xs j (v j)) k d ≡ v k
@@ -44,9 +42,8 @@ set-keeps v (x ∷ xs) (suc j) (suc k) d h = set-keeps (λ n. v (suc n)) xs j k 
 set-keeps v _ _ _ d h = h
 
 with-keeps : (samples : Samples) (indices : List ℕ) (decided : List (Option (List ℕ))) (k : ℕ)
-    → slice_index_or decided k None ≡ Some (concat (samples k))
-    → slice_index_or (with_samples indices (planes_for samples indices) decided) k None ≡ Some
-    (concat (samples k))
+    → slice_index_or decided k None ≡ Some (concat (samples k)) → slice_index_or
+    (with_samples indices (planes_for samples indices) decided) k None ≡ Some (concat (samples k))
 unfolding with_samples
 with-keeps samples [] decided k h = h
 with-keeps samples (p ∷ indices) decided k h =
@@ -58,13 +55,8 @@ with-length : (samples : Samples) (indices : List ℕ) (decided : List (Option (
 unfolding with_samples
 with-length samples [] decided = refl
 with-length samples (p ∷ indices) decided =
-    search (
-      rules,
-      arith,
-      length-set,
-      with-length samples indices (slice_set decided p (Some
-          (concat (samples p)))),
-    )
+    let rest = with-length samples indices (slice_set decided p (Some (concat (samples p)))) in
+    search (rules, arith, length-set)
 
 with-there : (samples : Samples) (indices : List ℕ) (decided : List (Option (List ℕ)))
     → AllByRecursion (λ k. k < length decided) indices
@@ -73,20 +65,12 @@ unfolding with_samples
 with-there samples [] decided h = tt
 with-there samples (p ∷ indices) decided h =
     let next = slice_set decided p (Some (concat (samples p))) in
-    grind (
-      arith,
-      common_steps,
-      with-keeps,
-      get_or-set_same,
-      length-set,
-      with-there samples indices next
-          (subst (λ (n : ℕ). AllByRecursion (λ (k : ℕ). k < n) indices) (sym
-          (length-set decided p (Some (concat (samples p))))) h.1),
-    )
+    let size = length-set decided p (Some (concat (samples p))) in
+    let rest = with-there samples indices next (rw size h.1) in
+    grind (arith, common_steps, with-keeps, get_or-set_same)
 
-kept-append : (samples : Samples) (decided : List (Option (List ℕ))) (xs ys : List ℕ) → AreKept
-    samples decided xs
-    → AreKept samples decided ys → AreKept samples decided (xs ++ ys)
+kept-append : (samples : Samples) (decided : List (Option (List ℕ))) (xs ys : List ℕ)
+    → AreKept samples decided xs → AreKept samples decided ys → AreKept samples decided (xs ++ ys)
 kept-append samples decided [] ys h g = g
 kept-append samples decided (x ∷ xs) ys h g = (h.0, kept-append samples decided xs ys h.1 g)
 
@@ -97,10 +81,8 @@ all-kept samples indices decided [] h = tt
 all-kept samples indices decided (k ∷ sent) h =
     (with-keeps samples indices decided k h.0, all-kept samples indices decided sent h.1)
 
-blocks-after : (samples : Samples) (indices : List ℕ) (decided : List (Option (List ℕ))) (sent :
-    List ℕ)
-    → AllByRecursion (λ k. k < length decided) indices
-    → AreKept samples decided sent
+blocks-after : (samples : Samples) (indices : List ℕ) (decided : List (Option (List ℕ))) (sent : List ℕ)
+    → AllByRecursion (λ k. k < length decided) indices → AreKept samples decided sent
     → AreKept samples (with_samples indices (planes_for samples indices) decided) (indices ++ sent)
 blocks-after samples indices decided sent h g = search (rules, kept-append, with-there, all-kept)
 
@@ -133,8 +115,7 @@ IsSampled f = IsShaped f × (f.process ≡ Lossless)
 pub header-said : (said : Said) (number : ℕ) (h : FrameHeader) → Stands said (Header number h)
     → IsLossless (Header number h) → IsSampled (frame_written number h)
 unfolding frame_of
-header-said said number h stands is =
-    (header-shaped number h stands.0.1 stands.1, ap (λ (n : ℕ). (frame_written n h).process) is)
+header-said said number h stands is = search (rules, header-shaped)
 
 scan-found : (samples : Samples) (said : Said) (sent next : List ℕ) (decided : List (Option (List ℕ))) (f : Frame)
     (h : ScanHeader) (bytes : List ℕ) → IsSaid IsSampled said → said.frame ≡ Some f → IsScan f h
@@ -142,16 +123,15 @@ scan-found : (samples : Samples) (said : Said) (sent next : List ℕ) (decided :
     → FindsScan bring_samples (Holds samples) said next decided h bytes
 scan-found samples said sent next decided f h bytes is framed header x held =
     let frame = is.shaped f framed in
-    let few = frame.0.few in
-    let four = held.four in
     let indices = indices_of h.choices in
+    let few = frame.0.few in
+    let below = all-below (length f.components) (length decided) indices (omega (arith, few, held.four))
+    (indices-below f h header) in
     record {
       brought = with_samples indices (planes_for samples indices) decided;
       held = record {
-        four = with-length samples indices decided ∙ four;
-        kept = subst (AreKept samples (with_samples indices (planes_for samples indices) decided)) x.1
-            (blocks-after samples indices decided sent (all-below (length f.components) (length decided) indices
-            (omega (arith, few, four)) (indices-below f h header)) held.kept);
+        four = with-length samples indices decided ∙ held.four;
+        kept = rw (← x.1) (blocks-after samples indices decided sent below held.kept);
       };
       found = λ fill code m left makes ends. scan-read said decided f h samples bytes left fill code m x.0 framed header
           frame.1 frame.0 is.tables makes ends;

@@ -1,5 +1,7 @@
 //! Theorems on lossless streams, each on a function without a body. docs/LOSSLESS.md says them in
 //! plain words.
+#![tactic(auto, using(crate::proofs::Rules::samples, crate::proofs::Rules::written_samples))]
+
 ghost use Rattle.std.specs.Prelude.{◌≡◌, ℕ, ◌*◌, ◌/◌, ◌<◌, List, [], ◌∷◌, ◌++◌, slice_get, Some};
 ghost use Rattle.std.specs.Prelude.{Ok};
 ghost use Rattle.std.specs.List.{AllByRecursion};

@@ -95,6 +95,7 @@ fn are_kept(state: &State, frame: &FrameInfo) -> bool
 }
 
 /// Takes the blocks of a component out of those that are kept, where blocks are kept.
+#[tactic(auto, using(crate::proofs::Rules::ends))]
 fn take_kept(
     alloc: Global,
     is_kept: bool,
@@ -115,6 +116,7 @@ fn take_kept(
 
 /// Returns the plane of a component at the end of an image: the one that is decided, or else that
 /// of the blocks that are kept, by the quantization table in force.
+#[tactic(auto, using(crate::proofs::Rules::ends))]
 fn plane_at_end(
     alloc: Global,
     state: &State,
@@ -146,6 +148,7 @@ fn plane_at_end(
 
 /// Returns the planes of a frame's components at the end of an image, which are taken. Blocks that
 /// are kept are rendered where no plane is decided, one component after the other, and freed.
+#[tactic(auto, using(crate::proofs::Rules::gathered))]
 fn planes_at_end(
     alloc: Global,
     state: &State,
@@ -215,6 +218,7 @@ fn picture_by(
 
 /// Writes the picture of a frame's planes into memory that has exactly its bytes. After an error
 /// nothing is written.
+#[tactic(auto, using(crate::proofs::Rules::rooms))]
 fn write_by(
     alloc: Global,
     state: &State,
@@ -303,6 +307,7 @@ fn joint_picture(
 
 /// Writes the picture of a frame's planes that are in one buffer into memory that has exactly its
 /// bytes. After an error nothing is written.
+#[tactic(auto, using(crate::proofs::Rules::rooms))]
 fn write_joint(
     alloc: Global,
     state: &State,
@@ -386,6 +391,7 @@ fn write_blocks(
 }
 
 /// Returns the samples of a lossless frame's components, which are taken.
+#[tactic(auto, using(crate::proofs::Rules::gathered))]
 fn samples_at_end(alloc: Global, frame: &FrameInfo, decoded: &mut Decoded) -> Result<Vec<Vec<u16>>>
     requires count { length (frame_in frame.now).components ≤ 4 }
     ensures planes { let expected = gathered
@@ -405,7 +411,7 @@ fn samples_at_end(alloc: Global, frame: &FrameInfo, decoded: &mut Decoded) -> Re
 }
 
 /// Returns the picture of a lossless frame.
-#[tactic(auto, unfolding(jpeg_streams::specs::FoundPictures::samples_picture))]
+#[tactic(auto, unfolding(jpeg_streams::specs::FoundPictures::samples_picture), using(crate::proofs::Rules::given))]
 fn samples_picture(
     alloc: Global,
     state: &State,
@@ -523,7 +529,7 @@ fn write_picture(
 }
 
 /// Reads the header of a stream: all through the frame's segment.
-#[tactic(auto, unfolding(jpeg_streams::specs::Stream::header_at, jpeg_streams::specs::Reported::told_by_turns))]
+#[tactic(auto, unfolding(jpeg_streams::specs::Stream::header_at, jpeg_streams::specs::Reported::told_by_turns, jpeg_streams::specs::Found::nothing_found), using(crate::proofs::Rules::starts, crate::proofs::Rules::no_start))]
 pub fn read_header<R: Read + Drop>(
     alloc: Global,
     source: &mut Source<R>,

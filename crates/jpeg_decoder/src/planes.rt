@@ -1,4 +1,6 @@
 //! The planes that are decided, by the components' indices in the frame (T.81, A.1.1).
+#![tactic(auto, using(crate::proofs::Rules::planes, crate::proofs::Rules::joint_planes))]
+
 ghost use Rattle.std.specs.Prelude.{◌≡◌, IfOk, IfSome, map, option_map, replicate, slice_index_or};
 ghost use Rattle.std.specs.Prelude.{None, Some, true};
 ghost use Rattle.jpeg_decoder.specs.PlanesView.{IsFullJoint, joint_in, planes_in};

@@ -40,6 +40,7 @@ fn all_name(chunks: &[IccChunk], count: usize) -> bool
 }
 
 /// Returns whether each part names this number of parts.
+#[tactic(auto, using(crate::proofs::Rules::parts))]
 fn have_count(chunks: &[IccChunk], count: usize) -> bool
     ensures { result ≡ list_all (λ c. c.count == count) (map chunk_in chunks.now) }
 {

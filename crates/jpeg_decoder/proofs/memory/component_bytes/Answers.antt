@@ -12,19 +12,13 @@ use Rattle.jpeg_decoder.proofs.memory.component_bytes.Goals as goal
 pub plane_bytes-planes-requires : goal.plane_bytes-planes-requires
 plane_bytes-planes-requires c =
     let cs = c.args.frame.now.components.items in
-    let r = c.index-component.result.now in
-    let at = mapped-at component_in cs c.loop-i.i r c.index-component.ensures in
-    let count = length-map cs component_in in
-    subst (λ (x : Component). x.scale ≤ 8) at
-    (factors-at (map component_in cs) c.loop-i.i (component_in r) c.requires.sampling
-    (omega (arith, c.loop-i-test.true, c.len-i-end.ensures, count))).scale_most
+    subst (λ (x : Component). x.scale ≤ 8)
+    (mapped-at component_in cs c.loop-i.i c.index-component.result.now c.index-component.ensures)
+    (factors-at (map component_in cs) c.loop-i.i _ c.requires.sampling
+    (omega (arith, c.loop-i-test.true, c.len-i-end.ensures, length-map cs component_in))).scale_most
 
 pub loop-i-preserved : goal.loop-i-preserved
 loop-i-preserved c =
-    let process = c.args.frame.now.coding_process in
     let cs = c.args.frame.now.components.items in
-    let i = c.loop-i.i in
-    let r = c.index-component.result.now in
-    let count = length-map cs component_in in
-    let at = mapped-at component_in cs i r c.index-component.ensures in
-    grind (arith, common_steps, sum_by_more)
+    let at = mapped-at component_in cs c.loop-i.i c.index-component.result.now c.index-component.ensures in
+    grind (arith, common_steps, sum_by_more, length-map cs component_in)

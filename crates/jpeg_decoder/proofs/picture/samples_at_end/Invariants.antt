@@ -9,8 +9,7 @@ use Rattle.jpeg_decoder.proofs.picture.samples_at_end.Given as goal
 abbrev pub invariant-loop-index : goal.invariant-loop-index
 invariant-loop-index l = record {
   left : drop l.index (planes_in l.decoded.samples) ≡ drop l.index (planes_in l.fn.decoded.samples);
-  given : Gathers (sample_plane (planes_in l.fn.decoded.samples))
-      (enumerate_from 0 (frame_in l.fn.frame).components) l.index (map (λ v. v.items)
-      l.planes.items);
+  given : Gathers (sample_plane (planes_in l.fn.decoded.samples)) (enumerate_from 0 (frame_in l.fn.frame).components)
+      l.index (map (λ v. v.items) l.planes.items);
   count : length l.planes.items ≡ l.index;
 }

@@ -1,54 +1,26 @@
-use Rattle.std.proofs.Common.{length, map, arith}
-use Rattle.std.proofs.lemmas.Result.{err_from_is_err_and}
+use Rattle.std.proofs.Common.{arith}
 use Rattle.jpeg_segments.specs.FrameView.{frame_in}
-use Rattle.jpeg_decoder.specs.Seen.{found_in}
-use Rattle.jpeg_decoder.specs.PlanesView.{planes_in}
-use Rattle.jpeg_decoder.specs.Steps.{with_decoded}
-use Rattle.jpeg_decoder.proofs.LosslessReads.{picture-given, picture-lacks, picture-made, samples-whole}
+use Rattle.jpeg_decoder.proofs.LosslessReads.{samples-whole}
 use Rattle.jpeg_decoder.proofs.LosslessPictureSizes.{if-samples_size}
-use Rattle.jpeg_decoder.proofs.PicturesOfPlanes.{decoded-factors}
+use Rattle.jpeg_decoder.proofs.PicturesOfPlanes.{decoded-factors, decoded-few}
 use Rattle.jpeg_streams.proofs.LosslessSizes.{all-reach, decoded-made}
-use Rattle.jpeg_streams.proofs.Soundness.{count-few, decoded-count}
 use Rattle.jpeg_decoder.proofs.picture.samples_picture.Goals as goal
 
 pub samples_at_end-requires : goal.samples_at_end-requires
-samples_at_end-requires c =
-    let frame = frame_in c.args.frame.now in
-    record {
-      count = (count-few (length frame.components)
-          (decoded-count frame (c.requires.sound.frames frame c.requires.frame))).1;
-    }
-
-pub returns-in_err-planes-clause-meant : goal.returns-in_err-planes-clause-meant
-returns-in_err-planes-clause-meant c =
-    let p = err_from_is_err_and c.from_residual.result c.from_residual.ensures.1 in
-    let found = with_decoded (found_in c.args.state.now) c.args.decoded.now in
-    rw (p.1, p.2) (
-      c.in_err-planes.ensures.planes.0,
-      picture-lacks found (frame_in c.args.frame.now) _
-          c.in_err-planes.ensures.planes.1,
-    )
+samples_at_end-requires c = record { count = decoded-few _ (c.requires.sound.frames _ c.requires.frame) }
 
 pub compute_image_lossless-requires : goal.compute_image_lossless-requires
 compute_image_lossless-requires c =
     let frame = frame_in c.args.frame.now in
     let decoded = c.requires.sound.frames frame c.requires.frame in
     record {
-      most = omega (arith, (count-few (length frame.components) (decoded-count frame decoded)).1, c.in_ok-planes.ensures.count);
-      whole = samples-whole (planes_in c.args.decoded.now.samples) frame.components
-          (map (λ v. v.items) c.in_ok-planes.planes.items) (c.requires.sound.samples frame c.requires.frame)
-          c.in_ok-planes.ensures.planes;
+      most = omega (arith, decoded-few frame decoded, c.in_ok-planes.ensures.count);
+      whole = samples-whole _ _ _ (c.requires.sound.samples frame c.requires.frame) c.in_ok-planes.ensures.planes;
       sampling = decoded-factors frame decoded;
       reaches = all-reach frame frame.components (decoded-made frame decoded c.requires.process);
     }
 
-pub returns-clause-meant : goal.returns-clause-meant
-returns-clause-meant c =
-    picture-given (λ v. v.items) _ _ _ (picture-made _ _ _ c.in_ok-planes.ensures.planes)
-    c.compute_image_lossless.ensures.pixels c.compute_image_lossless.ensures.err
-
 pub returns-clause-size : goal.returns-clause-size
 returns-clause-size c =
-    let frame = frame_in c.args.frame.now in
-    if-samples_size (λ v. v.items) _ _ _ (c.requires.sound.frames frame c.requires.frame) c.requires.process
+    if-samples_size (λ v. v.items) _ _ _ (c.requires.sound.frames _ c.requires.frame) c.requires.process
     c.compute_image_lossless.ensures.pixels

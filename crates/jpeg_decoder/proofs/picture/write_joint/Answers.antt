@@ -1,34 +1,15 @@
-use Rattle.std.proofs.Common.{◌≡◌, ◌*◌, ◌∙◌, ap, length, map, refl, sym}
-use Rattle.std.proofs.lemmas.List.{length-map}
-use Rattle.jpeg_pixels.specs.JointPlanes.{joint_planes}
+use Rattle.std.proofs.Common.{ap, map, refl}
 use Rattle.jpeg_segments.specs.FrameView.{component_in, frame_in}
-use Rattle.jpeg_decoder.specs.Seen.{metadata_in}
 use Rattle.jpeg_decoder.proofs.JointEnds.{not-one}
-use Rattle.jpeg_decoder.proofs.PictureSizes.{block-bytes}
 use Rattle.jpeg_decoder.proofs.PicturesOfPlanes.{decoded-factors, several-given}
 use Rattle.jpeg_decoder.proofs.picture.write_joint.Goals as goal
 
-pub compute_joint_image_into-requires-clause-factors
-    : goal.compute_joint_image_into-requires-clause-factors
-compute_joint_image_into-requires-clause-factors c =
-    rw (c.deref.ensures.value) (decoded-factors (frame_in c.args.frame.now) c.requires.frame)
-
-pub compute_joint_image_into-requires-clause-room
-    : goal.compute_joint_image_into-requires-clause-room
-compute_joint_image_into-requires-clause-room c =
-    let frame = frame_in c.args.frame.now in
-    let count : length frame.components ≡ length c.deref.result.now =
-    length-map c.args.frame.now.components.items component_in
-    ∙ sym (ap length c.deref.ensures.value) in
-    c.requires.room ∙ block-bytes frame c.requires.frame c.requires.process
-    ∙ ap (λ n. n * frame.output_width * frame.output_height) count
+pub compute_joint_image_into-requires-clause-factors : goal.compute_joint_image_into-requires-clause-factors
+compute_joint_image_into-requires-clause-factors c = rw c.deref.ensures.value (decoded-factors _ c.requires.frame)
 
 pub returns-clause-meant : goal.returns-clause-meant
 returns-clause-meant c =
-    let frame = frame_in c.args.frame.now in
-    several-given {R = Unit {0}} (λ u. c.compute_joint_image_into.new.picture) c.args.settings
-    (metadata_in c.args.state.now.metadata) frame (map component_in c.deref.result.now)
-    (joint_planes c.args.planes.now.shape c.args.planes.now.samples.items) _ _
+    several-given {R = Unit {0}} (λ u. c.compute_joint_image_into.new.picture) _ _ (frame_in c.args.frame.now) _ _ _ _
     c.compute_joint_image_into.result c.requires.frame (not-one _ _ _ _ c.requires.shape)
     (ap (map component_in) c.deref.ensures.value) refl c.transform_of-transform.ensures
     c.compute_joint_image_into.ensures.picture

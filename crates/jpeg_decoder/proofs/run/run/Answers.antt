@@ -1,6 +1,5 @@
-use Rattle.std.proofs.Common.{◌≡◌, ◌∙◌, ◌++◌, ap, sym, subst, rules, append-nil, List, [], ℕ, Option, Some, Result, Ok}
-use Rattle.std.proofs.Common.{Err, string_bytes, option_map}
-use Rattle.std.specs.Prelude.{OnErr, OnOk}
+use Rattle.std.proofs.Common.{◌≡◌, ◌∙◌, ◌++◌, ap, sym, subst, rules, append-nil, List, [], ℕ}
+use Rattle.std.proofs.Common.{Option, Some, Result, Ok, Err, string_bytes, option_map, OnErr, OnOk}
 use Rattle.std.specs.Io.KnownBytes.{Appends}
 use Rattle.std.proofs.lemmas.Result.{err_from_is_err_and}
 use Rattle.jpeg_bits.specs.declared.error.Error.{Error}
@@ -14,9 +13,7 @@ use Rattle.jpeg_decoder.proofs.run.run.Given.{Over}
 use Rattle.jpeg_decoder.proofs.run.run.Goals as goal
 
 pub returns-in_err-decoder-clause-images : goal.returns-in_err-decoder-clause-images
-returns-in_err-decoder-clause-images g c =
-    prints-images (g.R.Read.remaining c.args.reader) _ _ _ (λ bytes tells. search rules) (λ bytes tells. search rules)
-    (λ bytes tells. search rules)
+returns-in_err-decoder-clause-images g c = search (rules, prints-images)
 
 -- ---- the stream was refused
 

@@ -1,7 +1,6 @@
-use Rattle.std.proofs.Common.{◌≡◌, ◌++◌, ◌∙◌, ℕ, List, [], Ok, Err, Result, ap, subst, drop, length, length-take, take, arith}
+use Rattle.std.proofs.Common.{rules, ◌≡◌, ◌++◌, ℕ, [], Ok, Err, drop, length, length-take, take}
 use Rattle.std.proofs.lemmas.Result.{err_from_is_err_and}
 use Rattle.jpeg_bits.specs.declared.error.Error.{Error}
-use Rattle.std.specs.Prelude.{OnOk}
 use Rattle.jpeg_streams.specs.Sound.{HasDecodedFrame}
 use Rattle.jpeg_streams.specs.States.{Decoding}
 use Rattle.jpeg_streams.specs.Stream.{told_of}
@@ -15,22 +14,12 @@ use Rattle.jpeg_decoder.proofs.decoder.Decoder.decode_into.Goals as goal
 
 -- ---- the header was refused
 
--- the decoder after that
 abbrev left : (g : given.Over) → goal.After-drop_decoded g → Decoding
-left g c = record {
-  source = c.self-2.inside.source;
-  stage = c.read_info.new.self.stage;
-  found = found_in c.drop_decoded.new.state;
-  settings = c.read_info.new.self.settings;
-}
+left g c = record c.args.self.now { source = c.self-2.inside.source; found = found_in c.drop_decoded.new.state }
 
 refused : (g : given.Over) (c : goal.After-drop_decoded g)
-    → HasRead (λ (n : ℕ). []) (told_of (found_in c.drop_decoded.new.state).said) c.args.self.now (Err c.in-Err.e)
-    c.self-2.inside.source
-refused g c =
-    into-refused (λ (n : ℕ). []) _ c.args.self.now c.read_info.new.self _ c.in-Err.e c.self-2.view_is
-    c.drop_decoded.ensures.told c.in-Err.ensures.stage c.in-Err.ensures.reads c.in-Err.ensures.told
-    c.in-Err.ensures.turns
+    → HasRead {X = ℕ} (λ n. []) (told_of (left g c).found.said) c.args.self.now (Err c.in-Err.e) (left g c).source
+refused g c = search (rules, into-refused)
 
 pub returns-in-Err-clause-reads : goal.returns-in-Err-clause-reads
 returns-in-Err-clause-reads g c room = (refused g c).reads
@@ -42,33 +31,30 @@ pub returns-in-Err-clause-turns : goal.returns-in-Err-clause-turns
 returns-in-Err-clause-turns g c room = (refused g c).turns
 
 pub returns-in-Err-clause-images : goal.returns-in-Err-clause-images
-returns-in-Err-clause-images g c room =
-    decodes-images (λ (n : ℕ). []) c.args.self.now (left g c) (Err c.in-Err.e) (refused g c).reads
+returns-in-Err-clause-images g c room = decodes-images (λ (n : ℕ). []) _ (left g c) (Err _) (refused g c).reads
 
 pub returns-in-Err-clause-samples : goal.returns-in-Err-clause-samples
-returns-in-Err-clause-samples g c room =
-    decodes-samples (λ (n : ℕ). []) c.args.self.now (left g c) (Err c.in-Err.e) (refused g c).reads
+returns-in-Err-clause-samples g c room = decodes-samples (λ (n : ℕ). []) _ (left g c) (Err _) (refused g c).reads
 
 -- ---- the rest was refused
 
 abbrev stopped : (g : given.Over) → goal.After-from_residual-in_err-written g → Decoding
-stopped g c = record {
+stopped g c = record c.args.self.now {
   source = c.read_rest_into-written.new.source;
-  stage = c.progress_after-self-inside.result;
   found = found_in c.read_rest_into-written.new.state;
-  settings = c.self-2.inside.settings;
 }
 
 unread : (g : given.Over) (c : goal.After-from_residual-in_err-written g) (e : Error)
-    → c.read_rest_into-written.result ≡ Err e
-    → HasRead (λ (n : ℕ). []) (told_of (found_in c.read_rest_into-written.new.state).said) c.args.self.now (Err e)
-    c.read_rest_into-written.new.source
+    → c.read_rest_into-written.result ≡ Err e → HasRead {X = ℕ} (λ n. []) (told_of (stopped g c).found.said) c.args.self.now
+    (Err e) (stopped g c).source
 unread g c e is =
-    into-err (λ (n : ℕ). []) _ c.args.self.now _ _ _ c.read_rest_into-written.result e
-    (begun-seen c.args.self.now c.read_info.new.self _ c.self-2.view_is c.in_default.ensures.reads
-    c.in_default.ensures.still c.in_default.ensures.settings)
-    is c.read_rest_into-written.ensures.reads c.read_rest_into-written.ensures.told
-    c.read_rest_into-written.ensures.turns
+    into-err _ _ c.args.self.now _ _ _ c.read_rest_into-written.result
+    (begun-seen _ _ _ c.self-2.view_is c.in_default.ensures.reads c.in_default.ensures.still c.in_default.ensures.settings)
+    (record {
+      reads = c.read_rest_into-written.ensures.reads;
+      tells = c.read_rest_into-written.ensures.told;
+      turns = c.read_rest_into-written.ensures.turns;
+    }) e is
 
 pub returns-in_err-written-clause-reads : goal.returns-in_err-written-clause-reads
 returns-in_err-written-clause-reads g c room =
@@ -86,46 +72,33 @@ returns-in_err-written-clause-turns g c room = (unread g c _ c.in_err-written.wa
 pub returns-in_err-written-clause-images : goal.returns-in_err-written-clause-images
 returns-in_err-written-clause-images g c room =
     let p = err_from_is_err_and c.from_residual-in_err-written.result c.from_residual-in_err-written.ensures.1 in
-    rw (p.1, p.2) (decodes-images (λ (n : ℕ). []) c.args.self.now (stopped g c) (Err _) (unread g c _ c.in_err-written.was).reads)
+    rw (p.1, p.2) (decodes-images (λ (n : ℕ). []) _ (stopped g c) (Err _) (unread g c _ c.in_err-written.was).reads)
 
 pub returns-in_err-written-clause-samples : goal.returns-in_err-written-clause-samples
 returns-in_err-written-clause-samples g c room =
     let p = err_from_is_err_and c.from_residual-in_err-written.result c.from_residual-in_err-written.ensures.1 in
-    rw (p.1, p.2) (decodes-samples (λ (n : ℕ). []) c.args.self.now (stopped g c) (Err _) (unread g c _ c.in_err-written.was).reads)
+    rw (p.1, p.2) (decodes-samples (λ (n : ℕ). []) _ (stopped g c) (Err _) (unread g c _ c.in_err-written.was).reads)
 
 -- ---- the picture is given
 
-abbrev ended : (g : given.Over) → goal.In_ok-written g → Decoding
-ended g c = record {
-  source = c.read_rest_into-written.new.source;
-  stage = c.progress_after-self-inside.result;
-  found = found_in c.read_rest_into-written.new.state;
-  settings = c.self-2.inside.settings;
-}
-
 front : (g : given.Over) (c : goal.In_ok-written g)
-    → take c.in_ok-size.size (c.read_rest_into-written.new.pixels ++ drop c.in_ok-size.size c.args.pixels.now)
-    ≡ c.read_rest_into-written.new.pixels
-front g c =
-    front-of c.in_ok-size.size c.read_rest_into-written.new.pixels (drop c.in_ok-size.size c.args.pixels.now)
-    (omega (
-      arith,
-      c.read_rest_into-written.auto.pixels,
-      length-take c.in_ok-size.size c.args.pixels.now,
-      c.in_ok-size.ensures.room,
-    ))
+    → (length c.read_rest_into-written.new.pixels ≡ c.in_ok-size.size)
+    × (take c.in_ok-size.size (c.read_rest_into-written.new.pixels ++ drop c.in_ok-size.size c.args.pixels.now)
+    ≡ c.read_rest_into-written.new.pixels)
+front g c = search (rules, length-take, front-of)
 
 done : (g : given.Over) (c : goal.In_ok-written g)
     → HasRead (λ n. take n (c.read_rest_into-written.new.pixels ++ drop c.in_ok-size.size c.args.pixels.now))
     (told_of (found_in c.read_rest_into-written.new.state).said) c.args.self.now (Ok c.in_ok-size.size)
     c.read_rest_into-written.new.source
 done g c =
-    into-ok (λ n. take n (c.read_rest_into-written.new.pixels ++ drop c.in_ok-size.size c.args.pixels.now)) _
-    c.args.self.now _ _ _ c.read_rest_into-written.result c.in_ok-size.size
-    (begun-seen c.args.self.now c.read_info.new.self _ c.self-2.view_is c.in_default.ensures.reads
-    c.in_default.ensures.still c.in_default.ensures.settings)
-    c.in_ok-written.was (front g c) c.read_rest_into-written.ensures.reads c.read_rest_into-written.ensures.told
-    c.read_rest_into-written.ensures.turns
+    into-ok _ _ c.args.self.now _ _ _ c.read_rest_into-written.result
+    (begun-seen _ _ _ c.self-2.view_is c.in_default.ensures.reads c.in_default.ensures.still c.in_default.ensures.settings)
+    (record {
+      reads = c.read_rest_into-written.ensures.reads;
+      tells = c.read_rest_into-written.ensures.told;
+      turns = c.read_rest_into-written.ensures.turns;
+    }) c.in_ok-size.size c.in_ok-written.was (front g c).1
 
 pub returns-clause-reads : goal.returns-clause-reads
 returns-clause-reads g c room = (done g c).reads
@@ -138,29 +111,19 @@ returns-clause-turns g c room = (done g c).turns
 
 pub returns-clause-images : goal.returns-clause-images
 returns-clause-images g c room =
-    decodes-images (λ n. take n (c.read_rest_into-written.new.pixels ++ drop c.in_ok-size.size c.args.pixels.now))
-    c.args.self.now (ended g c) (Ok c.in_ok-size.size) (done g c).reads
+    decodes-images (λ n. take n (c.read_rest_into-written.new.pixels ++ drop c.in_ok-size.size c.args.pixels.now)) _ _
+    (Ok c.in_ok-size.size) (done g c).reads
 
 pub returns-clause-samples : goal.returns-clause-samples
 returns-clause-samples g c room =
-    decodes-samples (λ n. take n (c.read_rest_into-written.new.pixels ++ drop c.in_ok-size.size c.args.pixels.now))
-    c.args.self.now (ended g c) (Ok c.in_ok-size.size) (done g c).reads
+    decodes-samples (λ n. take n (c.read_rest_into-written.new.pixels ++ drop c.in_ok-size.size c.args.pixels.now)) _ _
+    (Ok c.in_ok-size.size) (done g c).reads
 
 decoded : (g : given.Over) (c : goal.In_ok-written g) → HasDecodedFrame (found_in c.read_rest_into-written.new.state)
-decoded g c =
-    subst (λ (r : Result (Unit {0}) Error). OnOk r (HasDecodedFrame (found_in c.read_rest_into-written.new.state)))
-    c.in_ok-written.was c.read_rest_into-written.ensures.frames
+decoded g c = search rules
 
 pub returns-clause-size : goal.returns-clause-size
-returns-clause-size g c =
-    whole-if (found_in c.read_rest_into-written.new.state) _ c.in_ok-size.size _ (decoded g c)
-    c.read_rest_into-written.ensures.stays c.in_ok-size.ensures.size
-    (ap (λ (l : List ℕ). length l) (front g c) ∙ omega (
-      arith,
-      c.read_rest_into-written.auto.pixels,
-      length-take c.in_ok-size.size c.args.pixels.now,
-      c.in_ok-size.ensures.room,
-    ))
+returns-clause-size g c = search (rules, whole-if, decoded, front)
 
 pub returns-clause-counted : goal.returns-clause-counted
 returns-clause-counted g c = counted (found_in c.read_rest_into-written.new.state) (decoded g c)

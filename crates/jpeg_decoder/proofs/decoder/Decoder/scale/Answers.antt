@@ -1,21 +1,16 @@
-use Rattle.std.proofs.Common.{◌≡◌, rules, ℕ}
+use Rattle.std.proofs.Common.{◌≡◌, rules}
 use Rattle.std.proofs.lemmas.Result.{err_from_is_err_and}
+use Rattle.jpeg_decoder.proofs.ScanData.{answers-err}
 use Rattle.jpeg_streams.specs.Found.{with_said}
 use Rattle.jpeg_decoder.specs.Seen.{found_in}
-use Rattle.jpeg_streams.specs.Stream.{header_at, sized_header_at, sized_to}
-use Rattle.jpeg_decoder.proofs.ScanData.{answers-err}
+use Rattle.jpeg_streams.specs.Stream.{sized_to}
 use Rattle.jpeg_streams.proofs.SizedHeaders.{sized-answers, sized-refused}
 use Rattle.jpeg_decoder.proofs.decoder.Decoder.scale.Goals as goal
 use Rattle.jpeg_decoder.proofs.decoder.Decoder.scale.Goals.{in-Some, in-None}
 
 pub returns-in_err-read_info-clause-reads : goal.returns-in_err-read_info-clause-reads
 returns-in_err-read_info-clause-reads g c =
-    let e = err_from_is_err_and c.from_residual.result c.from_residual.ensures.1 in
-    let w = c.args.requested_width in
-    let h = c.args.requested_height in
-    rw (e.1, e.2) (λ fresh. answers-err (λ (u : Unit {0}). c.read_info.new.self.found)
-    (λ (size : ℕ × ℕ). c.read_info.new.self.found) header_at (sized_header_at w h) c.args.self.now.source
-    c.read_info.new.self.source _ (λ fault k. sized-refused w h _ _ k) (c.in_err-read_info.ensures.reads fresh))
+    search (rules, err_from_is_err_and, answers-err, sized-refused)
 
 pub returns-clause-reads : goal.returns-clause-reads
 returns-clause-reads g c =
