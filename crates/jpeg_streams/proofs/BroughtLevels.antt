@@ -142,9 +142,8 @@ some-none : (a : ℕ) → ◌≡◌ {A = Option ℕ} (Some a) None → ⊥
 some-none a e = cc
 
 pub after-fresh : (p : Pass) (indices : List ℕ) (levels : ℕ → Levels) → p ≡ whole_pass
-    → ((j : ℕ) → (levels j).dc ≡ None → levels j ≡ nothing_sent)
-    → (k : ℕ) → (levels_after p indices levels k).dc ≡ None → levels_after p indices levels k ≡
-    nothing_sent
+    → ((j : ℕ) → (levels j).dc ≡ None → levels j ≡ nothing_sent) → (k : ℕ)
+    → (levels_after p indices levels k).dc ≡ None → levels_after p indices levels k ≡ nothing_sent
 unfolding levels_after
 after-fresh p [] levels e h k n = h k n
 after-fresh p (q ∷ indices) levels e h k n =
@@ -182,9 +181,8 @@ sequential-arrays : (found : Found) (f : Frame) → is_progressive f.process ≡
 unfolding arrays_before
 sequential-arrays found f e = rw (e, arrays_before) refl
 
-pub kept-arrays : (w : Said) (h : Arrays) (fi : List (List Bool)) (pl : List (Option (List ℕ))) (f
-    : Frame)
-    → is_progressive f.process ≡ true → arrays_before (reading w true h fi pl) f ≡ h
+pub kept-arrays : (w : Said) (h : Arrays) (fi : List (List Bool)) (pl : List (Option (List ℕ)))
+    (f : Frame) → is_progressive f.process ≡ true → arrays_before (reading w true h fi pl) f ≡ h
 unfolding arrays_before
 kept-arrays w h fi pl f e = rw (e, arrays_before) refl
 
@@ -198,12 +196,11 @@ record CodingFacts (w : Said) (frame : Frame) (k : Coding) : Type 0 where
   at : At k.index frame.components k.component
   table : slice_index_or w.quantization k.component.factors.quantization None ≡ Some k.quantization
 
-all-done : (w : Said) (f : Frame) (p : Pass) (array : Coefficients) (levels : ℕ → Levels) (codings : List Coding)
-    (arrays : Arrays) → length arrays ≡ length codings → ((k : Coding) (j : ℕ) → At j codings k
-    → HoldsOwn (grid_of k.component) (array k.index) (sent_after p (levels k.index)) (get_or arrays j
-    []))
-    → AllByRecursion (CodingFacts w f) codings → AllByRecursion (λ c. IsLegal p (levels c.index))
-    codings
+all-done : (w : Said) (f : Frame) (p : Pass) (array : Coefficients) (levels : ℕ → Levels)
+    (codings : List Coding) (arrays : Arrays) → length arrays ≡ length codings
+    → ((k : Coding) (j : ℕ) → At j codings k → HoldsOwn (grid_of k.component) (array k.index)
+    (sent_after p (levels k.index)) (get_or arrays j [])) → AllByRecursion (CodingFacts w f) codings
+    → AllByRecursion (λ c. IsLegal p (levels c.index)) codings
     → ((k : ℕ) → length (levels k).acs ≡ 63) → AllDone w f p array levels codings arrays
 all-done w f p array levels [] [] n holds facts legal sized = tt
 all-done w f p array levels (k ∷ codings) (b ∷ arrays) n holds facts legal sized = (
@@ -220,13 +217,12 @@ all-done w f p array levels (k ∷ codings) (b ∷ arrays) n holds facts legal s
 all-done w f p array levels codings arrays n holds facts legal sized = absurd (omega arith)
 
 -- the components of the scan are ready, where their blocks are held
-all-ready : (w : Said) (f : Frame) (p : Pass) (array : Coefficients) (levels : ℕ → Levels) (before : Arrays)
-    (codings : List Coding) → Shaped f
+all-ready : (w : Said) (f : Frame) (p : Pass) (array : Coefficients) (levels : ℕ → Levels)
+    (before : Arrays) (codings : List Coding) → Shaped f
     → ((k : Coding) → CodingFacts w f k → IsLegal p (levels k.index)
     → HoldsOwn (grid_of k.component) (array k.index) (levels k.index) (get_or before k.index []))
-    → AllByRecursion (CodingFacts w f) codings → AllByRecursion (λ c. IsLegal p (levels c.index))
-    codings
-    → ((k : ℕ) → length (levels k).acs ≡ 63)
+    → AllByRecursion (CodingFacts w f) codings → AllByRecursion
+    (λ c. IsLegal p (levels c.index)) codings → ((k : ℕ) → length (levels k).acs ≡ 63)
     → AllByRecursion (SlotReady f p array levels before) codings
 all-ready w f p array levels before [] shape holds facts legal sized = tt
 all-ready w f p array levels before (k ∷ codings) shape holds facts legal sized =

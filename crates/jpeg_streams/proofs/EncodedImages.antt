@@ -185,21 +185,18 @@ map-whole : (f : ℤ → ℤ) (us : List ℤ) → ((u : ℤ) → f u ≡ u) → 
 map-whole f [] h = refl
 map-whole f (u ∷ us) h = ap₂ (λ (x : ℤ) (xs : List ℤ). x ∷ xs) (h u) (map-whole f us h)
 
-spot-flat : (kind : Kind) (h : FrameHeader) (index : ℕ) (c : Factors) (b : Block) (slot : ℕ) →
-    Is8Bit b → slot ≡ 0
-    → Good kind (
+spot-flat : (kind : Kind) (h : FrameHeader) (index : ℕ) (c : Factors) (b : Block) (slot : ℕ)
+    → Is8Bit b → slot ≡ 0 → Good kind (
       via_at (vias_from 0 (coding kind h index c ∷ [])) slot,
-      numbers_at (pass_for
-          kind).al b,
+      numbers_at (pass_for kind).al b,
     )
 unfolding vias_from
 spot-flat kind h index c b slot range e = search (rules, floor-whole, map-whole, toward-whole)
 
-data-written : (kind : Kind) (f : Frame) (h : FrameHeader) (index : ℕ) (c : Factors) (array :
-    Coefficients)
-    → ((k row column : ℕ) → Is8Bit (array k row column))
-    → (data_bytes : List ℕ) × WritesScan f 0 (pass_for kind) (coding kind h index c ∷ []) array
-    data_bytes
+data-written : (kind : Kind) (f : Frame) (h : FrameHeader) (index : ℕ) (c : Factors)
+    (array : Coefficients) → ((k row column : ℕ) → Is8Bit (array k row column))
+    → (data_bytes : List ℕ) × WritesScan f 0 (pass_for kind)
+    (coding kind h index c ∷ []) array data_bytes
 unfolding spots_of mcu_size turns_of
 data-written kind f h index c array range =
     let codings = coding kind h index c ∷ [] in
@@ -414,9 +411,8 @@ Steps number h array =
     → WritesPart array ClosesImage (said number h true) now bytes (said number h true) last
     → (all : List ℕ) × WritesPart array ClosesImage (said number h scanned) levels all (said number h true) last)
 
-whole-after : (p : Pass) (index : ℕ) (levels : ℕ → Levels) → p ≡ whole_pass → levels index ≡
-    nothing_sent
-    → IsComplete (levels_after p (index ∷ []) levels index)
+whole-after : (p : Pass) (index : ℕ) (levels : ℕ → Levels) → p ≡ whole_pass
+    → levels index ≡ nothing_sent → IsComplete (levels_after p (index ∷ []) levels index)
 whole-after p index levels e f = search (rules, after-same, all-same)
 
 dc-after : (p : Pass) (index : ℕ) (levels : ℕ → Levels) → p ≡ dc_pass → levels index ≡ nothing_sent

@@ -24,9 +24,8 @@ all-made P width height h v (x ∷ xs) u = (u.0, all-made P width height h v xs 
 -- ---- frames
 
 header-sources : (number : ℕ) (h : FrameHeader) → AllByRecursion (IsUpsampled h) h.components
-    → (sources : List Source)
-    × (sources_of (frame_written number h).components (frame_written number h).output_width
-    (frame_written number h).output_height ≡ Ok sources)
+    → (sources : List Source) × (sources_of (frame_written number h).components (frame_written
+    number h).output_width (frame_written number h).output_height ≡ Ok sources)
 unfolding frame_of
 header-sources number h p =
     let most_h = greatest (λ f. f.horizontal) h.components in

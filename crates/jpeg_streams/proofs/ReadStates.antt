@@ -125,9 +125,8 @@ pub record CodingDone (w : Said) (frame : Frame) (p : Pass) (array : Coefficient
   pub holds : HoldsOwn (grid_of k.component) (array k.index) (sent_after p (levels k.index)) blocks
 
 plane-yes : (k : Coding) (blocks : List Block) (marks : List Bool) (pl : List (Option (List ℕ)))
-    → list_all (λ mark. mark) marks ≡ true → with_plane k blocks marks pl
-    ≡ set pl k.index (decided (slice_index_or pl k.index None) (plane_by k.component k.quantization
-    blocks))
+    → list_all (λ mark. mark) marks ≡ true → with_plane k blocks marks pl ≡ set pl k.index
+    (decided (slice_index_or pl k.index None) (plane_by k.component k.quantization blocks))
 unfolding with_plane
 plane-yes k blocks marks pl e = rw (e, with_plane) refl
 
@@ -219,11 +218,10 @@ abbrev pub indices_of : List Coding → List ℕ
 indices_of codings = map (λ c. c.index) codings
 
 -- the others are as they were
-pub done-others : (w : Said) (frame : Frame) (p : Pass) (array : Coefficients) (levels : ℕ →
-    Levels) (index : ℕ)
-    (codings : List Coding) (arrays : Arrays)
-    → IsAbsent index (indices_of codings) → AllDone w frame p array levels codings arrays
-    → AllDone w frame p array (levels_of_one p index levels) codings arrays
+pub done-others : (w : Said) (frame : Frame) (p : Pass) (array : Coefficients) (levels : ℕ → Levels)
+    (index : ℕ) (codings : List Coding) (arrays : Arrays) → IsAbsent index (indices_of codings)
+    → AllDone w frame p array levels codings arrays → AllDone w frame p array
+    (levels_of_one p index levels) codings arrays
 done-others w frame p array levels index (k ∷ codings) (b ∷ arrays) apart h =
     search (rules, one-other, done-others w frame p array levels index codings arrays apart.1 h.1)
 done-others w frame p array levels index codings arrays apart h = search rules
@@ -238,11 +236,10 @@ pub record Brought (w : Said) (frame : Frame) (p : Pass) (array : Coefficients) 
   pub marked : Marked w frame array (levels_after p (indices_of codings) levels) finished planes
 
 pub brings : (w : Said) (frame : Frame) (p : Pass) (array : Coefficients) (levels : ℕ → Levels)
-    (codings : List Coding) (arrays : Arrays) (s : Bool) (h : Arrays)
-    (fi : List (List Bool)) (pl : List (Option (List ℕ))) → length frame.components ≤ 4 → IsBand p
-    → AreApart (indices_of codings)
-    → AllDone w frame p array levels codings arrays → Marked w frame array levels fi pl
-    → Brought w frame p array levels codings arrays s h fi pl
+    (codings : List Coding) (arrays : Arrays) (s : Bool) (h : Arrays) (fi : List (List Bool))
+    (pl : List (Option (List ℕ))) → length frame.components ≤ 4 → IsBand p
+    → AreApart (indices_of codings) → AllDone w frame p array levels codings arrays
+    → Marked w frame array levels fi pl → Brought w frame p array levels codings arrays s h fi pl
 unfolding levels_after with_arrays with_blocks
 brings w frame p array levels [] [] s h fi pl few band apart done before = search rules
 brings w frame p array levels (k ∷ codings) (b ∷ arrays) s h fi pl few band apart done before =
@@ -263,12 +260,11 @@ pub record AllKept (frame : Frame) (array : Coefficients) (levels : ℕ → Leve
   pub each : (k : ℕ) (c : Component) → At k frame.components c
       → HoldsOwn (grid_of c) (array k) (levels k) (get_or arrays k [])
 
-pub blocks-after : (w : Said) (frame : Frame) (p : Pass) (array : Coefficients) (levels : ℕ →
-    Levels)
-    (codings : List Coding) (arrays kept : Arrays) → AreApart (indices_of codings)
-    → AllDone w frame p array levels codings arrays → AllKept frame array levels kept
-    → AllKept frame array (levels_after p (indices_of codings) levels) (put_arrays codings arrays
-    kept)
+pub blocks-after : (w : Said) (frame : Frame) (p : Pass) (array : Coefficients)
+    (levels : ℕ → Levels) (codings : List Coding) (arrays kept : Arrays)
+    → AreApart (indices_of codings) → AllDone w frame p array levels codings arrays
+    → AllKept frame array levels kept → AllKept frame array
+    (levels_after p (indices_of codings) levels) (put_arrays codings arrays kept)
 unfolding levels_after put_arrays
 blocks-after w frame p array levels (k ∷ codings) (b ∷ arrays) kept apart done before =
     blocks-after w frame p array (levels_of_one p k.index levels) codings arrays (set kept k.index

@@ -124,11 +124,9 @@ pub stands-met : (fill code : ℕ) (m : Marker) (rest : List ℕ) → marker_of 
 unfolding turn_at
 stands-met fill code m rest h = grind (arith, common_steps, marker-turn)
 
-pub end-turn : (before : Before) (found : Found) (fill : ℕ) (rest : List ℕ) → is_some found.said.frame ≡ true
-    → turn_at before found None (marker fill 217 [] ++ rest) ≡ Ok (
-      record { found = found; before = Elsewhere; met = None; ended = true },
-      rest,
-    )
+pub end-turn : (before : Before) (found : Found) (fill : ℕ) (rest : List ℕ)
+    → is_some found.said.frame ≡ true → turn_at before found None (marker fill 217 [] ++ rest) ≡ Ok
+    (record { found = found; before = Elsewhere; met = None; ended = true }, rest)
 unfolding marker_of segment_at end_segment
 end-turn before found fill rest some = ap (turn_at before found None) (marker-append fill 217 [] rest)
     ∙ marker-turn before found fill 217 EOI rest refl ∙ kept (is_some found.said.frame) _ (Err Malformed) some

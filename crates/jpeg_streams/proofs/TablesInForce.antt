@@ -15,10 +15,9 @@ use Rattle.jpeg_streams.proofs.ReadTurns.{codings-each, needed-some, ok-same}
 use Rattle.jpeg_streams.proofs.SaidTables.{HasTables, IsTableOrNone, table-there}
 use Rattle.jpeg_streams.proofs.WrittenFrameScans.{no-codes}
 
-good-defaults : (one two : Table) (indices : List ℕ) (l : List (Option Table)) → IsTable one →
-    IsTable two
-    → AllByRecursion IsTableOrNone l → AllByRecursion IsTableOrNone (with_defaults one two indices
-    l)
+good-defaults : (one two : Table) (indices : List ℕ) (l : List (Option Table)) → IsTable one
+    → IsTable two → AllByRecursion IsTableOrNone l → AllByRecursion IsTableOrNone
+    (with_defaults one two indices l)
 good-defaults one two indices [] a b h = tt
 good-defaults one two indices l a b h = search rules
 

@@ -65,12 +65,11 @@ plane-same : (scale : ℕ) (table : List ℕ) (wide high : ℕ) (f g : ℕ → �
 unfolding plane_of
 plane-same scale table wide high f g h = grind (arith, common_steps, map-same)
 
-planes-whole : (said : Said) (array : Coefficients) (levels : ℕ → Levels) (index : ℕ) (cs : List
-    Component)
-    → AllByRecursion (λ k. IsComplete (levels k)) (range_with_len index (length cs))
-    → ((k row column : ℕ) → length (array k row column).acs ≡ length (levels k).acs)
-    → gathered (array_plane said (as_sent array levels)) (enumerate_from index cs)
-    ≡ gathered (array_plane said array) (enumerate_from index cs)
+planes-whole : (said : Said) (array : Coefficients) (levels : ℕ → Levels) (index : ℕ)
+    (cs : List Component) → AllByRecursion (λ k. IsComplete (levels k))
+    (range_with_len index (length cs)) → ((k row column : ℕ) → length (array k row column).acs
+    ≡ length (levels k).acs) → gathered (array_plane said (as_sent array levels))
+    (enumerate_from index cs) ≡ gathered (array_plane said array) (enumerate_from index cs)
 unfolding gathered plane_of_blocks
 planes-whole said array levels index [] done h = refl
 planes-whole said array levels index (c ∷ cs) done h =

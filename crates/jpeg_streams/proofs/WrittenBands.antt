@@ -37,18 +37,16 @@ takes-token table al m j r s code own bits x y good coded small token after =
     after
 
 pub after-value : (al : ℕ) (others : List ℤ → Reads Band) (coefficients : List ℤ) (r : ℕ) (u : ℤ)
-    (bits : List Bool)
-    (more : Band)
-    → wrapped (scaled al u) ≡ scaled al u → ReadsJust (others (drop (r + 1) coefficients)) bits more
-    → ReadsJust (after_token al others coefficients (Value r u)) bits (before_more (take r
-    coefficients ++ scaled al u ∷ []) more)
+    (bits : List Bool) (more : Band) → wrapped (scaled al u) ≡ scaled al u
+    → ReadsJust (others (drop (r + 1) coefficients)) bits more
+    → ReadsJust (after_token al others coefficients (Value r u)) bits
+    (before_more (take r coefficients ++ scaled al u ∷ []) more)
 after-value al others coefficients r u bits more fits w = search (rules, takes-map, scaled)
 
-pub after-sixteen : (al : ℕ) (others : List ℤ → Reads Band) (coefficients : List ℤ) (bits : List
-    Bool) (more : Band)
-    → ReadsJust (others (drop 16 coefficients)) bits more
-    → ReadsJust (after_token al others coefficients Sixteen) bits (before_more (take 16
-    coefficients) more)
+pub after-sixteen : (al : ℕ) (others : List ℤ → Reads Band) (coefficients : List ℤ)
+    (bits : List Bool) (more : Band) → ReadsJust (others (drop 16 coefficients)) bits more
+    → ReadsJust (after_token al others coefficients Sixteen) bits
+    (before_more (take 16 coefficients) more)
 after-sixteen al others coefficients bits more w = search (rules, takes-map)
 
 -- ---- bands

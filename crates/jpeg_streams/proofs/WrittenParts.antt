@@ -76,11 +76,9 @@ same-picture settings array a b h =
     limited-same settings a b h.frame_a h.frame_b _ _ h.is_a h.is_b (search rules)
     (search (rules, bind_same, same-planes))
 
-whole-picture : (settings : Settings) (array : Coefficients) (bytes rest : List ℕ) (final : Said) (last : ℕ → Levels)
-    (frame : Frame)
-    → ((index row column : ℕ) → Is8Bit (array index row column)) → WritesImage array bytes final
-    last
-    → final.frame ≡ Some frame → AllComplete frame last
+whole-picture : (settings : Settings) (array : Coefficients) (bytes rest : List ℕ) (final : Said)
+    (last : ℕ → Levels) (frame : Frame) → ((index row column : ℕ) → Is8Bit (array index row column))
+    → WritesImage array bytes final last → final.frame ≡ Some frame → AllComplete frame last
     → picture_meant_by settings (bytes ++ rest) ≡ picture_of_blocks settings final array
 whole-picture settings array bytes rest final last frame range w e done =
     ap (λ o. o >>= (λ m. Ok m.0.1))
@@ -145,11 +143,10 @@ array-picture settings array bytes final last range w = ap (λ o. o >>= (λ m. O
     (search (rules, stream-means))
     ∙ picture-alone (picture_of_array settings final array last) (told_of final) []
 
-pub unseen-padding : (settings : Settings) (a b : Coefficients) (bytes : List ℕ) (final : Said) (last : ℕ → Levels)
-    (frame : Frame)
-    → ((index row column : ℕ) → Is8Bit (a index row column)) → ((index row column : ℕ) → Is8Bit (b
-    index row column))
-    → WritesImage a bytes final last → final.frame ≡ Some frame → AgreeOnOwn frame a b
+pub unseen-padding : (settings : Settings) (a b : Coefficients) (bytes : List ℕ) (final : Said)
+    (last : ℕ → Levels) (frame : Frame) → ((index row column : ℕ) → Is8Bit (a index row column))
+    → ((index row column : ℕ) → Is8Bit (b index row column)) → WritesImage a bytes final last
+    → final.frame ≡ Some frame → AgreeOnOwn frame a b
     → picture_of_array settings final a last ≡ picture_of_array settings final b last
 unseen-padding settings a b bytes final last frame range_a range_b w e agree =
     sym (array-picture settings a bytes final last range_a w)

@@ -287,10 +287,9 @@ pictured settings array final last tail meant r =
     (pictures-same settings array final last r.0)
 
 pub stream-means : (settings : Settings) (array : Coefficients) (bytes rest : List ℕ) (final : Said)
-    (last : ℕ → Levels)
-    → ((index row column : ℕ) → Is8Bit (array index row column)) → WritesImage array bytes final
-    last
-    → meaning settings (bytes ++ rest) ≡ meaning_of_array settings final array last rest
+    (last : ℕ → Levels) → ((index row column : ℕ) → Is8Bit (array index row column))
+    → WritesImage array bytes final last → meaning settings
+    (bytes ++ rest) ≡ meaning_of_array settings final array last rest
 stream-means settings array bytes rest final last range w =
     pictured settings array final last rest _ (image-walked settings array bytes rest final last range w)
 
@@ -345,11 +344,10 @@ taken settings array final last tail meant r takes =
     )
 
 -- A written stream whose picture is taken means that picture.
-pub taken-means : (settings : Settings) (array : Coefficients) (bytes rest : List ℕ) (final : Said) (last : ℕ → Levels)
-    → ((index row column : ℕ) → Is8Bit (array index row column)) → WritesImage array bytes final
-    last
-    → TakesPicture settings final
-    → (picture : List ℕ) × (picture_of_array settings final array last ≡ Ok picture)
+pub taken-means : (settings : Settings) (array : Coefficients) (bytes rest : List ℕ) (final : Said)
+    (last : ℕ → Levels) → ((index row column : ℕ) → Is8Bit (array index row column))
+    → WritesImage array bytes final last → TakesPicture settings final → (picture : List ℕ)
+    × (picture_of_array settings final array last ≡ Ok picture)
     × (meaning settings (bytes ++ rest) ≡ Ok ((told_of final, picture), rest))
 taken-means settings array bytes rest final last range w =
     taken settings array final last rest _ (image-walked settings array bytes rest final last range w)

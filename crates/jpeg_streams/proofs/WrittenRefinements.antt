@@ -183,15 +183,13 @@ pub count-zero : (us : List ℤ) → count_unknown (pos 0 ∷ us) ≡ suc (count
 unfolding count_unknown
 count-zero us = refl
 
-pub count-old : (u : ℤ) (us : List ℤ) → is_old u ≡ true
-    → count_unknown (u ∷ us) ≡ count_unknown us
+pub count-old : (u : ℤ) (us : List ℤ) → is_old u ≡ true → count_unknown (u ∷ us) ≡ count_unknown us
 unfolding count_unknown
 count-old u us o = rw (o, count_unknown) refl
 
 -- the piece of a token ends with the place after those that are neither old nor new
-pub through : (al : ℕ) (front : List ℤ) (u : ℤ) (more : List ℤ) → kept al u ≡ pos 0
-    → NoneNew front → through_zero (count_unknown front) (map (kept al) (front ++ u ∷ more)) ≡ suc
-    (length front)
+pub through : (al : ℕ) (front : List ℤ) (u : ℤ) (more : List ℤ) → kept al u ≡ pos 0 → NoneNew front
+    → through_zero (count_unknown front) (map (kept al) (front ++ u ∷ more)) ≡ suc (length front)
 unfolding NoneNew count_unknown through_zero
 through al [] u more z none = search (rules, kept)
 through al (v ∷ front) u more z none =
@@ -229,12 +227,10 @@ with_last-end x y xs =
     ap (λ (i : ℕ). set (xs ++ y ∷ []) i x) (omega (arith, length-append xs (y ∷ []))) ∙ set-append_seam xs y [] x
 
 -- the places of a piece, with their corrections
-pub takes-front : (al : ℕ) (front : List ℤ) (u : ℤ) (more : List ℤ) → kept al u ≡ pos 0 → NoneNew
-    front
-    → AllByRecursion (InRange al) (front ++ u ∷ more)
+pub takes-front : (al : ℕ) (front : List ℤ) (u : ℤ) (more : List ℤ) → kept al u ≡ pos 0
+    → NoneNew front → AllByRecursion (InRange al) (front ++ u ∷ more)
     → ReadsJust (corrected al (take (suc (length front)) (map (kept al) (front ++ u ∷ more))))
-    (corrections front)
-    (map (scaled al) (front ++ pos 0 ∷ []))
+    (corrections front) (map (scaled al) (front ++ pos 0 ∷ []))
 takes-front al front u more z none range =
     subst (λ (l : List ℤ). ReadsJust (corrected al l) (corrections front) (map (scaled al) (front ++ pos 0 ∷ [])))
     (sym (front-of al front u more z))
@@ -246,8 +242,7 @@ pub map-scaled : (al : ℕ) (front more : List ℤ)
 map-scaled al [] more = refl
 map-scaled al (v ∷ front) more = ap (λ (l : List ℤ). scaled al v ∷ l) (map-scaled al front more)
 
-pub new-scaled : (al : ℕ) (u : ℤ) → unsigned_abs u ≡ 1
-    → new_number al (sign_bit u) ≡ scaled al u
+pub new-scaled : (al : ℕ) (u : ℤ) → unsigned_abs u ≡ 1 → new_number al (sign_bit u) ≡ scaled al u
 new-scaled al u h1 = grind (arith, nat_tests, one-mul)
 
 sign-small : (u : ℤ) → sign_bit u < 2
@@ -327,12 +322,10 @@ refined-token table al m r s z zs code bits x good coded small piece =
     (search (rules, takes-bind, takes-symbol))
 
 -- the same over a list that isn't empty, with room for its length
-pub refined-step : (table : Table) (al n r s : ℕ) (numbers : List ℤ) (code bits : List Bool) (x :
-    Band) → IsGood table
-    → IsCoded table (16 * r + s) code → s ≤ 15 → 0 < length numbers → length numbers ≤ n
-    → ((m : ℕ) → suc m ≡ n → ReadsJust (refined_piece al (refined_ac table al m) numbers r s) bits
-    x)
-    → ReadsJust (refined_ac table al n numbers) (code ++ bits) x
+pub refined-step : (table : Table) (al n r s : ℕ) (numbers : List ℤ) (code bits : List Bool)
+    (x : Band) → IsGood table → IsCoded table (16 * r + s) code → s ≤ 15 → 0 < length numbers
+    → length numbers ≤ n → ((m : ℕ) → suc m ≡ n → ReadsJust (refined_piece al (refined_ac table al
+    m) numbers r s) bits x) → ReadsJust (refined_ac table al n numbers) (code ++ bits) x
 refined-step table al (suc m) r s (z ∷ zs) code bits x good coded small some room piece = search (rules, refined-token)
 refined-step table al n r s numbers code bits x good coded small some room piece = absurd (omega
     arith)
