@@ -1,5 +1,5 @@
 -- The marks of finished places are the levels that are 0.
-use Rattle.std.proofs.Common.{◌≡◌, ◌≤◌, Bool, List, ◌∷◌, map, length, refl, ap, ◌∙◌}
+use Rattle.std.proofs.Common.{rules, ◌≡◌, ◌≤◌, Bool, List, ◌∷◌, map, length, refl, ap, ◌∙◌}
 use Rattle.std.proofs.Common.{length-take, length-drop, arith}
 use lib.ListN.{length-map}
 use Rattle.jpeg_bits.specs.Passes.{Pass}

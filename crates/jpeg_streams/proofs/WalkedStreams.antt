@@ -1,5 +1,5 @@
 -- Written streams of any kind: what stays through one, and that it is read turn by turn.
-use Rattle.std.proofs.Common.{◌≡◌, ◌&&◌, ℕ, zero, suc, ◌<◌, Bool, true, false, List, [], ◌++◌, length, is_some}
+use Rattle.std.proofs.Common.{rules, ◌≡◌, ◌&&◌, ℕ, zero, suc, ◌<◌, Bool, true, false, List, [], ◌++◌, length, is_some}
 use Rattle.std.proofs.Common.{Option, Some, None, Ok, refl, sym, ap, ◌∙◌, subst, arith, length-append}
 use Rattle.jpeg_bits.specs.Marker.{marker_of}
 use Rattle.jpeg_bits.specs.Reading.{Outcome, ◌>>=◌}
