@@ -50,7 +50,7 @@ use Rattle.jpeg_streams.specs.WrittenLossless.{HoldSamples, own_lines, Samples, 
 use Rattle.jpeg_streams.specs.WrittenLossless.{ClosesSamples, IsLossless, SendsSamples}
 use Rattle.jpeg_streams.specs.WrittenStreams.{end, scan, segment, Writes}
 use Rattle.jpeg_streams.proofs.AcceptedSamples.{accepted-samples}
-use Rattle.jpeg_streams.proofs.EncodedBlocks.{category-at_most, packed, interval-packed, table-by}
+use Rattle.jpeg_streams.proofs.EncodedImages.{category-at_most, packed, interval-packed, table-by}
 use Rattle.jpeg_streams.proofs.EncodedImages.{component_in, component-at, in-range, lone_header}
 use Rattle.jpeg_streams.proofs.EncodedImages.{lone-written}
 use Rattle.jpeg_bits.proofs.ReadIntervals.{all-append}

@@ -20,12 +20,12 @@ use Rattle.jpeg_streams.specs.WrittenStreams.{Closes, end, scan, segment, Starts
 use Rattle.jpeg_streams.specs.declared.before.Before.{Before}
 use Rattle.jpeg_streams.specs.declared.before.Before.TheVariants.{Elsewhere}
 use Rattle.jpeg_streams.specs.declared.settings.Settings.{Settings}
-use Rattle.jpeg_streams.proofs.ReadTurns.{Begins, end-turn, IsEnd, marker-longer}
-use Rattle.jpeg_streams.proofs.ReadTurns.{scan-tail, scan-turn, marker-begins, segment-ends, segment-tail, segment-turn}
-use Rattle.jpeg_streams.proofs.ReadTurns.{same-frame, segments-walked, some-none, stands-here, stands-met, StandsAt}
-use Rattle.jpeg_streams.proofs.ReadTurns.{then-ok, walk-end, walk-on, walk-stop}
+use Rattle.jpeg_streams.proofs.ReadTurns.{Begins, end-turn, IsEnd, marker-longer, scan-tail}
+use Rattle.jpeg_streams.proofs.ReadTurns.{scan-turn, marker-begins, segment-ends, segment-tail}
+use Rattle.jpeg_streams.proofs.ReadTurns.{segment-turn, same-frame, segments-walked, some-none}
+use Rattle.jpeg_streams.proofs.ReadTurns.{stands-here, stands-met, StandsAt, then-ok, walk-end}
+use Rattle.jpeg_streams.proofs.ReadTurns.{walk-on, walk-stop, marker_for, segment-marker}
 use Rattle.jpeg_streams.proofs.SaidTables.{HasTables, no-tables, segment-tables}
-use Rattle.jpeg_streams.proofs.WrittenMarkers.{marker_for, segment-marker}
 
 -- EOI
 pub closes : {may_end : Frame → Type 0} (said : Said) (f : Frame) (fill : ℕ) → said.frame ≡ Some f → may_end f
