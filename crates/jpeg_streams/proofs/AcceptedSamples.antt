@@ -54,6 +54,4 @@ accepted-samples h ok =
 pub accepted-picture : (number : ℕ) (h : FrameHeader) → number ≤ 2
     → accepted (frame_written number h) ≡ Ok (frame_written number h) → HasPicture h
 unfolding frame_of
-accepted-picture number h le ok =
-    let precise = accepted-precision (frame_written number h) (frame_written number h) ok in
-    search (rules, accepted-parts, eqb-true)
+accepted-picture number h le ok = search (rules, accepted-precision, accepted-parts, eqb-true)

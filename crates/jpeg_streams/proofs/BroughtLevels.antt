@@ -282,16 +282,7 @@ module _ (w : Said) (frame : Frame) (p : Pass) (array : Coefficients) (levels : 
   index-in = let h = at-within k.index frame.components k.component done.at in omega arith
 
   plane-own : PlaneSo w array next (with_plane k blocks marks pl) k.index k.component
-  plane-own = grind (
-    arith,
-    common_steps,
-    plane-yes,
-    marks-are,
-    get_or-set_same,
-    index-in,
-    was-none,
-    plane-no,
-  )
+  plane-own = search (rules, plane-yes, marks-are, get_or-set_same, index-in, was-none, plane-no)
 
   plane-moved : (j : ℕ) (c : Component) → At j frame.components c → (j ≡ k.index) ⊎ (j ≢ k.index)
       → PlaneSo w array (levels_of_one p k.index levels j) (with_plane k blocks marks pl) j c
@@ -301,14 +292,7 @@ module _ (w : Said) (frame : Frame) (p : Pass) (array : Coefficients) (levels : 
   marks-moved : (j : ℕ) (c : Component) → At j frame.components c → (j ≡ k.index) ⊎ (j ≢ k.index)
       → slice_index_or (set fi k.index marks) j none_finished ≡ marks_of (levels_of_one p k.index
       levels j)
-  marks-moved j c h (inl e) = grind (
-    arith,
-    common_steps,
-    get_or-set_same,
-    index-in,
-    marks-are,
-    one-same,
-  )
+  marks-moved j c h (inl e) = search (rules, get_or-set_same, index-in, marks-are, one-same)
   marks-moved j c h (inr n) = grind (arith, common_steps, get_or-set_other, one-other)
 
   pub marked-one : Marked w frame array (levels_of_one p k.index levels) (set fi k.index marks)

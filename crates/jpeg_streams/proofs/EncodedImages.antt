@@ -628,11 +628,8 @@ have-tables : (number : ℕ) (h : FrameHeader) (front cs : List Factors) → num
     → AllByRecursion (HasTable (said number h true)) (map (component_in h) cs)
 unfolding AreComponents component_of
 have-tables number h front [] le a = tt
-have-tables number h front (c ∷ cs) le a = grind (
-  arith,
-  table-at number h true c.quantization (index-low number c.quantization le a.0.placed),
-  have-tables number h (front ++ c ∷ []) cs le a.1,
-)
+have-tables number h front (c ∷ cs) le a =
+    search (rules, table-at, index-low, have-tables number h (front ++ c ∷ []) cs le a.1)
 
 pub in-range : (P : ℕ → Type 0) (a n : ℕ) → ((j : ℕ) → a ≤ j → j < a + n → P j) → AllByRecursion P (range_with_len a n)
 in-range P a zero all = tt

@@ -41,8 +41,7 @@ module _ {Sent : Type 0} {may : Said → Segment → Type 0}
       → Writes may scans ends said sent bytes final last → said.frame ≡ Some f → final.frame ≡ Some f
   frame-kept said final sent last bytes f (end said' sent' bytes' ended) e = e
   frame-kept said final sent last bytes f
-      (segment said' final' sent' last' fill (Header number h) more stands allowed w) e =
-      some-none f said.frame e stands.0.0
+      (segment said' final' sent' last' fill (Header number h) more stands allowed w) e = cc
   frame-kept said final sent last bytes f (segment said' final' sent' last' fill s more stands allowed w) e =
       frame-kept (said_after said s) final sent last more f w e
   frame-kept said final sent last bytes f (scan said' final' sent' next last' g fill h data_bytes more framed is sends w)
@@ -111,8 +110,7 @@ pub rest-by : (settings : Settings) (found all : Found) (bytes rest : List ℕ)
     → walk (suc (length bytes)) false Elsewhere found None bytes ≡ (all, Ok rest)
     → rest_at settings found bytes ≡ (picture_of settings all >>= (λ picture. Ok ((told_of all.said, picture), rest)))
 unfolding rest_at
-rest-by settings found all bytes rest e =
-    then-ok (segments_at false Elsewhere found None bytes) _ (all, rest) _ (segments-walked _ _ _ _ _ _ e) refl
+rest-by settings found all bytes rest e = search (rules, then-ok, found, segments-walked)
 
 -- what was said, beside what scans have brought
 abbrev pub beside : {Brought : Type 0} → (Brought → Found) → Said → Brought → Found
@@ -251,8 +249,7 @@ module _ {Sent Brought : Type 0} {may : Said → Segment → Type 0}
       × (walk turns true Elsewhere (beside brings said x) None (bytes ++ tail)
       ≡ (beside brings (said_after r.between (Header r.number r.header)) x, Ok (r.left ++ tail)))
   reads-header said final sent last bytes x zero w is e u room = absurd (omega arith)
-  reads-header said final sent last bytes x (suc turns) (end said' sent' bytes' c) is e u room =
-      some-none c.frame said.frame c.is_said e
+  reads-header said final sent last bytes x (suc turns) (end said' sent' bytes' c) is e u room = cc
   reads-header said final sent last bytes x (suc turns)
       (scan said' final' sent' next last' f fill h data_bytes more framed is_scan sends w) is e u room =
       some-none f said.frame framed e

@@ -36,8 +36,7 @@ has_three None = false
 has_three (Some c) = (grid_of c).own_wide == 3
 
 agree : (frame : Frame) → has_three (slice_get frame.components 0) ≡ true → AgreeOnOwn frame sent_array colour_array
-agree frame is zero row (suc (suc (suc column))) c e high wide =
-    absurd (let three : (grid_of c).own_wide ≡ 3 = eqb-true _ _ (rw e at is) in omega arith)
+agree frame is zero row (suc (suc (suc column))) c e high wide = search (rules, eqb-true)
 agree frame is index row column c e high wide = refl
 
 abbrev colour_for : Option (IsWhollyWritten colour_array colour_bytes)

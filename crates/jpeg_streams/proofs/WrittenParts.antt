@@ -62,12 +62,8 @@ same-planes : (a b : Said) (array : Coefficients) (index : ℕ) (cs : List Compo
     → gathered (array_plane a array) (enumerate_from index cs) ≡ gathered (array_plane b array) (enumerate_from index cs)
 unfolding gathered
 same-planes a b array index [] h = refl
-same-planes a b array index (c ∷ cs) h = search (
-  rules,
-  bind_same,
-  same-planes a b array (index +
-      1) cs h.1,
-)
+same-planes a b array index (c ∷ cs) h =
+    search (rules, bind_same, same-planes a b array (index + 1) cs h.1)
 
 pub same-picture : (settings : Settings) (array : Coefficients) (a b : Said) → HaveSamePicture a b
     → picture_of_blocks settings a array ≡ picture_of_blocks settings b array

@@ -192,11 +192,7 @@ plain-said said number h stands = search (rules, all-ranged)
 pub drawn-said : (said : Said) (number : ℕ) (h : FrameHeader) → Stands said (Header number h)
     → MayStandInImage said (Header number h) → IsDrawn (frame_written number h)
 drawn-said said number h stands few =
-    let f = frame_written number h in (
-      all-shaped f (plain-said said number h stands) (frame-lossy number h.precision h.width h.height h.components few)
-          stands.1,
-      accepted-sources f f stands.1,
-    )
+    search (rules, all-shaped, plain-said, frame-lossy, accepted-sources)
 
 module _ (array : Coefficients) (range : (index row column : ℕ) → Is8Bit (array index row column)) where
   framed-now : (said : Said) (levels : ℕ → Levels) (x : Progress) (f : Frame) → Holds array said levels x
@@ -383,9 +379,7 @@ module _ (array : Coefficients) (final : Said) (last : ℕ → Levels) (r : Read
   shape = (r.said.shaped f r.framed).0
 
   framed : Framed final f array last true x.0 x.1 x.2
-  framed =
-      let h = r.held.framed r.ended.0 in
-      subst (λ (g : Frame). Framed final g array last true x.0 x.1 x.2) (same-frame h.0 f final.frame h.1 r.framed) h.2
+  framed = search (rules, same-frame)
 
   plane-end : (k : ℕ) (c : Component) → At k f.components c → PlaneAtEnd found f array (last k) k c
   plane-end k c t = go (is_whole (last k)) refl (is_progressive f.process) refl
@@ -464,8 +458,7 @@ module _ (array : Coefficients) (final : Said) (last : ℕ → Levels) (r : Read
       }
 
   both-planes : BothPlanes 0 f.components
-  both-planes = planes-end 0 f.components
-      (λ j c t. let start : 0 + j ≡ j = omega arith in subst (λ (n : ℕ). At n f.components c) (sym start) t)
+  both-planes = search (rules, planes-end)
 
 -- ---- the picture
 
@@ -505,16 +498,13 @@ pictures-same settings array final last r =
 pub pictured : (settings : Settings) (array : Coefficients) (final : Said) (last : ℕ → Levels) (tail : List ℕ)
     (meant : Outcome (Told × List ℕ)) → ImageMeant settings array final last tail meant
     → meant ≡ meaning_of_array settings final array last tail
-pictured settings array final last tail meant r =
-    r.1 ∙ ap (λ (o : Result (List ℕ) Fault). o >>= (λ (picture : List ℕ). Ok ((told_of final, picture), tail)))
-    (pictures-same settings array final last r.0)
+pictured settings array final last tail meant r = search (rules, pictures-same)
 
 pub stream-means : (settings : Settings) (array : Coefficients) (bytes rest : List ℕ) (final : Said)
     (last : ℕ → Levels) → ((index row column : ℕ) → Is8Bit (array index row column))
     → WritesImage array bytes final last → meaning settings
     (bytes ++ rest) ≡ meaning_of_array settings final array last rest
-stream-means settings array bytes rest final last range w =
-    pictured settings array final last rest _ (image-walked settings array bytes rest final last range w)
+stream-means settings array bytes rest final last range w = search (rules, pictured, image-walked)
 
 -- ---- there is a picture
 
@@ -572,5 +562,4 @@ pub taken-means : (settings : Settings) (array : Coefficients) (bytes rest : Lis
     → WritesImage array bytes final last → TakesPicture settings final → (picture : List ℕ)
     × (picture_of_array settings final array last ≡ Ok picture)
     × (meaning settings (bytes ++ rest) ≡ Ok ((told_of final, picture), rest))
-taken-means settings array bytes rest final last range w =
-    taken settings array final last rest _ (image-walked settings array bytes rest final last range w)
+taken-means settings array bytes rest final last range w = search (rules, taken, image-walked)

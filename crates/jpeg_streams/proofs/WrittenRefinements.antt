@@ -64,13 +64,7 @@ nothing_or_old u h = search (rules, le-leb)
 -- ---- correction bits
 
 pub corrected-stays : (al : ℕ) (z w : ℤ) → z ≡ w → ReadsJust (corrected_by al z 0) [] w
-corrected-stays al z w e = record {
-  read = λ rest numbers n. ap (λ (x : ℤ). Ok (
-    x,
-    text rest
-        numbers n,
-  )) e;
-}
+corrected-stays al z w e = search rules
 
 pub even : (m : ℕ) → (2 * m) % 2 ≡ 0
 even m = omega arith
@@ -327,8 +321,7 @@ pub refined-step : (table : Table) (al n r s : ℕ) (numbers : List ℤ) (code b
     → length numbers ≤ n → ((m : ℕ) → suc m ≡ n → ReadsJust (refined_piece al (refined_ac table al
     m) numbers r s) bits x) → ReadsJust (refined_ac table al n numbers) (code ++ bits) x
 refined-step table al (suc m) r s (z ∷ zs) code bits x good coded small some room piece = search (rules, refined-token)
-refined-step table al n r s numbers code bits x good coded small some room piece = absurd (omega
-    arith)
+refined-step table al n r s numbers code bits x good coded small some room piece = search rules
 
 pub range-after : (P : ℤ → Type 0) (front more : List ℤ) → AllByRecursion P (front ++ more) → AllByRecursion P more
 range-after P [] more h = h
