@@ -7,11 +7,12 @@ use Rattle.std.proofs.Common.{true≢false, length-append}
 use Rattle.std.proofs.lemmas.Grind.{common_steps}
 use Rattle.std.proofs.lemmas.Bool.{eqb-true, eq-eqb, not-true}
 use Rattle.jpeg_bits.proofs.WrittenIntervals.{not-equal}
+use Rattle.jpeg_streams.proofs.CutLevels.{around-band}
 use lib.ListN.{length-map}
 use Rattle.std.specs.List.{AllByRecursion, list_all}
 use Rattle.jpeg_bits.specs.Passes.{Pass, band_of, with_band, before_band, band_size, Block, whole_pass, zero_block}
 use Rattle.jpeg_streams.specs.Levels.{Levels, IsLegal, sent_after, nothing_sent, Is8Bit}
-use Rattle.std.proofs.lemmas.List.{take-map, drop-map, map-append, length-replicate}
+use Rattle.std.proofs.lemmas.List.{take-map, drop-map, get_or-map, map-append, length-replicate}
 use Rattle.jpeg_streams.specs.ScanSegments.{finished_by, with_plane, decided, Coding, put_arrays, with_arrays}
 use Rattle.jpeg_streams.specs.ScanSegments.{with_blocks, arrays_before, pass_of, is_progressive, after_scan}
 use Rattle.jpeg_streams.specs.ScanSegments.{blocks_after, scan_arrays}
@@ -73,11 +74,6 @@ map-replicate (suc n) a = ap (λ (l : List Bool). is_level_0 a ∷ l) (map-repli
 pub map-band : (p : Pass) (ls : List (Option ℕ)) → map is_level_0 (band_of p ls) ≡ band_of p (map is_level_0 ls)
 map-band p ls = search (rules, take-map, drop-map)
 
-pub around : (p : Pass) (cs : List Bool) → with_band p cs (band_of p cs) ≡ cs
-around p cs = (search (rules, drop-drop))
-    ∙ ap (λ (l : List Bool). take (before_band p) cs ++ l) (take-append-drop (band_size p) (drop (before_band p) cs))
-    ∙ take-append-drop (before_band p) cs
-
 not-done : (a : Option ℕ) → is_level_0 a ≡ false → (ls : List (Option ℕ)) → AllByRecursion (λ x. x ≡ a) ls
     → map is_level_0 ls ≡ replicate (length ls) false
 not-done a h [] all = refl
@@ -111,7 +107,7 @@ dc-open p l legal e true k = ap is_level_0 (legal.dc_unsent e k)
 dc-open p l legal e false k = ap is_level_0 (legal.dc_sent e k)
 
 pub finish-legal : (p : Pass) (l : Levels) → IsLegal p l → finish p (at_level_0 l) ≡ at_level_0 (sent_after p l)
-finish-legal p l legal = search (rules, eq-eqb, levels-acs, finish-no, band-open, around, dc-open, eqb-true)
+finish-legal p l legal = search (rules, eq-eqb, levels-acs, finish-no, band-open, around-band, dc-open, eqb-true)
 
 -- ---- the marks of finished places are the levels that are 0
 
@@ -198,11 +194,6 @@ pub one-other : (p : Pass) (index k : ℕ) (levels : ℕ → Levels) → k ≢ i
     levels k ≡ levels k
 one-other p index k levels n = rw (not-equal k index n, levels_of_one) refl
 
-get-map : (f : Option ℕ → Bool) (xs : List (Option ℕ)) (i : ℕ) → i < length xs
-    → get_or (map f xs) i true ≡ f (get_or xs i None)
-get-map f (x ∷ xs) (suc i) h = get-map f xs i (omega arith)
-get-map f xs i h = search rules
-
 -- a legal scan finds something that isn't finished
 pub legal-open : (p : Pass) (l : Levels) → IsLegal p l → IsBand p → length l.acs ≡ 63 → is_whole l ≡ false
 legal-open p l legal band h = go p.ss refl
@@ -226,7 +217,7 @@ legal-open p l legal band h = go p.ss refl
         let within : b < length l.acs = let r = band.rising in let t = band.within in omega arith in
         let count = length-map l.acs is_level_0 in
         list_all_at (λ (mark : Bool). mark) (marks_of l) (suc b) true (omega arith)
-        (get-map is_level_0 l.acs b within ∙ first_open b e p.is_first refl)
+        (get_or-map is_level_0 l.acs b None true within ∙ first_open b e p.is_first refl)
 
 -- ---- one component of a scan
 

@@ -102,9 +102,9 @@ pub same-band : (p : Pass) (cs : List ℤ) (ls : List (Option ℕ)) → length c
 same-band p cs ls h = search (rules, same-take, length-drop)
 
 -- a list is what stands before a band, the band, and what stands after it
-pub around-band : (p : Pass) (cs : List ℤ) → with_band p cs (band_of p cs) ≡ cs
+pub around-band : {A : Type 0} (p : Pass) (cs : List A) → with_band p cs (band_of p cs) ≡ cs
 around-band p cs = (search (rules, drop-drop))
-    ∙ ap (λ (l : List ℤ). take (before_band p) cs ++ l) (take-append-drop (band_size p) (drop (before_band p) cs))
+    ∙ ap (λ l. take (before_band p) cs ++ l) (take-append-drop (band_size p) (drop (before_band p) cs))
     ∙ take-append-drop (before_band p) cs
 
 pub all-same : (a : Option ℕ) (n : ℕ) → AllByRecursion (λ x. x ≡ a) (replicate n a)

@@ -332,17 +332,7 @@ packed bits = last-byte bits (omega arith) (omega arith)
 -- the bytes of these bits
 pub interval-packed : (writes : List Bool → Type 0) (bits : List Bool) → writes bits
     → WritesInterval writes (stuffed (packed bits).bytes)
-interval-packed writes bits w =
-    let b = packed bits in
-    record {
-      bits = bits;
-      filling = b.filling;
-      data_bytes = b.bytes;
-      coded = w;
-      is_short = b.is_short;
-      whole = b.whole;
-      has_bytes = refl;
-    }
+interval-packed writes bits w = search rules
 
 pub interval-written : (p : Pass) (Good : Via × Block → Type 0) → Each p Good → (turns : List (Via × Block))
     → AllByRecursion Good turns → (bytes : List ℕ) × WritesInterval (WritesBlocks p predictors_at_start 0 turns) bytes

@@ -97,10 +97,7 @@ pub segment-said : (may : Said → Segment → Type 0) (P : Frame → Type 0)
     → ((said : Said) (number : ℕ) (h : FrameHeader) → Stands said (Header number h) → may said (Header number h)
     → P (frame_written number h))
     → (said : Said) (s : Segment) → Stands said s → may said s → IsSaid P said → IsSaid P (said_after said s)
-segment-said may P shaped said (Header number h) stands allowed is = record {
-  tables = is.tables;
-  shaped = λ f e. subst P (same-frame (frame_written number h) f _ refl e) (shaped said number h stands allowed);
-}
+segment-said may P shaped said (Header number h) stands allowed is = search rules
 segment-said may P shaped said s stands allowed is =
     record { tables = segment-tables said s stands.0 is.tables; shaped = is.shaped }
 

@@ -96,8 +96,7 @@ band-value table al r (suc t) (suc m) u code more bits run good range nz cat cod
     let k = length more in
     let coefficients = no_numbers (suc (r + k)) in
     let long : length coefficients ≡ suc (r + k) = length-replicate (suc (r + k)) (pos 0) in
-    let front : take r coefficients ≡ no_numbers r = take-replicate r (suc (r + k)) (pos 0) (omega
-    arith) in
+    let front : take r coefficients ≡ no_numbers r = search (rules, take-replicate) in
     let back : drop (r + 1) coefficients ≡ no_numbers k = drop-replicate (r + 1) (suc (r + k)) (pos
     0)
     ∙ ap no_numbers (omega arith) in

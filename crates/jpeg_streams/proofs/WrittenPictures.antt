@@ -165,12 +165,8 @@ framed-same w next f array levels x e fr = search (rules, plane-kept)
 
 holds-next : (array : Coefficients) (said : Said) (levels : ℕ → Levels) (x : Progress) (s : Segment) → Stands said s
     → MayStandInImage said s → Holds array said levels x → Holds array (said_after said s) levels x
-holds-next array said levels x (Quantization ts) stands may held =
-    record { fresh = held.fresh; framed = λ e. absurd (true≢false (sym e ∙ may)) }
-holds-next array said levels x (Header number h) stands may held = record {
-  fresh = held.fresh;
-  framed = λ e. some-none (held.framed e).0 said.frame (held.framed e).1 stands.0.0;
-}
+holds-next array said levels x (Quantization ts) stands may held = search rules
+holds-next array said levels x (Header number h) stands may held = search rules
 holds-next array said levels x s stands may held = record {
   fresh = held.fresh;
   framed = λ e.
@@ -423,14 +419,7 @@ module _ (array : Coefficients) (final : Said) (last : ℕ → Levels) (r : Read
       → ((j : ℕ) (c : Component) → At j components c → At (index + j) f.components c) → BothPlanes
       index components
   unfolding gathered
-  planes-end index [] within = record {
-    ours = [];
-    theirs = [];
-    ours_are = refl;
-    theirs_are
-        = refl;
-    alike = tt;
-  }
+  planes-end index [] within = grind (arith, common_steps)
   planes-end index (c ∷ more) within =
       let start : index + 0 ≡ index = omega arith in
       let t : At index f.components c = subst (λ (n : ℕ). At n f.components c) start (within 0 c

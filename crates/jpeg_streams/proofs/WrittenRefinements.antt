@@ -137,10 +137,6 @@ corrected-zero : (al : ℕ) (z : ℤ) (zs ws : List ℤ) (bits : List Bool) → 
 unfolding corrected each
 corrected-zero al z zs ws bits e k = rw e (takes-map (corrected al zs) (λ (l : List ℤ). pos 0 ∷ l) bits ws k)
 
-pub corrections-zero : (us : List ℤ) → corrections (pos 0 ∷ us) ≡ corrections us
-unfolding corrections
-corrections-zero us = refl
-
 pub corrections-old : (u : ℤ) (us : List ℤ) → is_old u ≡ true
     → corrections (u ∷ us) ≡ bit (unsigned_abs u % 2) ∷ corrections us
 unfolding corrections
