@@ -288,12 +288,7 @@ module _ (w : Said) (frame : Frame) (p : Pass) (array : Coefficients) (levels : 
 
   pub marked-one : Marked w frame array (levels_of_one p k.index levels) (set fi k.index marks)
       (with_plane k blocks marks pl)
-  marked-one = record {
-    fi_count = length-set fi k.index marks ∙ before.fi_count;
-    pl_count = plane-count k blocks marks pl ∙ before.pl_count;
-    marks = λ j c h. marks-moved j c h (eqb_cases j k.index);
-    planes = λ j c h. plane-moved j c h (eqb_cases j k.index);
-  }
+  marked-one = search (rules, length-set, plane-count, blocks, marks-moved, eqb_cases, plane-moved)
 
 -- ---- all components of a scan
 
@@ -600,9 +595,7 @@ module _ (w : Said) (f : Frame) (array : Coefficients) (levels : ℕ → Levels)
   so = rules.so
 
   low : (pass_of s).al ≤ 7
-  low = let k = some-first codings (let n = count in let r = rules.some in omega arith) in
-      (at-all (λ (c : Coding). IsLegal (pass_of s) (levels c.index)) 0 codings k.0 legal.legal
-      k.1).low
+  low = grind (arith, common_steps, some-first, count, at-all, legal)
 
   holds-now : PassSo f s → (k : Coding) → CodingFacts w f k → IsLegal (pass_of s) (levels k.index)
       → HoldsOwn (grid_of k.component) (array k.index) (levels k.index) (get_or (arrays_before now f)
@@ -634,22 +627,18 @@ module _ (w : Said) (f : Frame) (array : Coefficients) (levels : ℕ → Levels)
       (suit-now so) (all-good codings exist) written
 
   done : AllDone w f (pass_of s) array levels codings reads-now.arrays
-  done = all-done w f (pass_of s) array levels codings reads-now.arrays reads-now.count reads-now.holds facts
-      legal.legal framed.sized
+  done = grind (arith, common_steps, all-done, reads-now, facts, legal, framed)
 
   abbrev after_kept : Arrays
   after_kept = blocks_after now f codings reads-now.arrays
 
   brought : Brought w f (pass_of s) array levels codings reads-now.arrays true after_kept fi pl
-  brought = brings w f (pass_of s) array levels codings reads-now.arrays true after_kept fi pl
-      shape.few
-      (band-so f s so) apart done framed.marked
+  brought = search (rules, brings, reads-now, band-so, so, apart, done, framed)
 
   fresh-after : PassSo f s → is_progressive f.process ≡ false → (k : ℕ)
       → (levels_after (pass_of s) (indices_of codings) levels k).dc ≡ None
       → levels_after (pass_of s) (indices_of codings) levels k ≡ nothing_sent
-  fresh-after (sequential e q) g = after-fresh (pass_of s) (indices_of codings) levels q
-      (framed.fresh e)
+  fresh-after (sequential e q) g = grind (arith, common_steps, after-fresh, framed)
   fresh-after (progressive e d a lt le) g = absurd (true≢false (sym e ∙ g))
 
   kept-now : is_progressive f.process ≡ true

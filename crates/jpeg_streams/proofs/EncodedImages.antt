@@ -51,7 +51,10 @@ use Rattle.jpeg_streams.specs.WrittenImages.{ClosesImage, WritesPart}
 use Rattle.jpeg_streams.specs.WrittenScans.{Coefficients, HasTable, IsComplete, IsLegalScan, levels_after, WritesScan}
 use Rattle.jpeg_streams.proofs.CutLevels.{all-same}
 use Rattle.jpeg_streams.specs.WrittenStreams.{end, scan, segment}
+use Rattle.jpeg_streams.proofs.SentBlocks.{InDcRange}
 use Rattle.jpeg_streams.proofs.WalkedStreams.{closes}
+use Rattle.jpeg_streams.proofs.WrittenBlocks.{difference-range, Predicts, predicts-set}
+use Rattle.jpeg_streams.proofs.WrittenFrameScans.{start-predicts}
 use Rattle.jpeg_streams.proofs.WholeImages.{floor-whole, toward-whole}
 use Rattle.jpeg_bits.proofs.ReadIntervals.{all-again, all-append, all-map}
 use Rattle.jpeg_streams.proofs.ReadTurns.{then-ok}
@@ -158,40 +161,26 @@ ac-written p (u ∷ us) f small = let w = band-written (u ∷ us) 0 small in (w.
 
 -- ---- blocks
 
--- each prediction is in range
-abbrev pub Ranged : ℤ → Type 0
-Ranged d = (negsuc 1023 ≤ℤ d) × (d ≤ℤ pos 1023)
-
-abbrev AllRanged : List ℤ → Type 0
-AllRanged ps = (i : ℕ) → Ranged (get_or ps i (pos 0))
-
-set-ranged : (ps : List ℤ) (i : ℕ) (d : ℤ) → Ranged d → AllRanged ps → AllRanged (set ps i d)
-set-ranged [] i d r all j = all j
-set-ranged (p ∷ ps) zero d r all zero = r
-set-ranged (p ∷ ps) zero d r all (suc j) = all (suc j)
-set-ranged (p ∷ ps) (suc i) d r all zero = all zero
-set-ranged (p ∷ ps) (suc i) d r all (suc j) = set-ranged ps i d r (λ k. all (suc k)) j
-
 -- the bits of a block after a prediction, and the next prediction
 pub record BlockBits (p : Pass) (t : Via × Block) (prediction : ℤ) : Type 0 where
   pub dc : List Bool
   pub ac : List Bool
   pub next : ℤ
-  pub ranged : Ranged next
+  pub ranged : InDcRange next
   pub writes_dc : WritesDc p t.0.dc t.1.dc prediction dc next
   pub writes_ac : WritesAc p t.0.ac (band_of p t.1.acs) 0 ac 0
 
 -- each block that is good can be written
 abbrev pub Each : Pass → (Via × Block → Type 0) → Type 0
-Each p Good = (t : Via × Block) → Good t → (prediction : ℤ) → Ranged prediction → BlockBits p t prediction
+Each p Good = (t : Via × Block) → Good t → (prediction : ℤ) → InDcRange prediction → BlockBits p t prediction
 
 blocks-written : (p : Pass) (Good : Via × Block → Type 0) → Each p Good → (ps : List ℤ) (turns : List (Via × Block))
-    → AllRanged ps → AllByRecursion Good turns → (b : List Bool) × WritesBlocks p ps 0 turns b
+    → Predicts ps → AllByRecursion Good turns → (b : List Bool) × WritesBlocks p ps 0 turns b
 blocks-written p Good each ps [] ranged good = ([], done ps)
 blocks-written p Good each ps (t ∷ turns) ranged good =
-    let b = each t good.0 (get_or ps t.0.component (pos 0)) (ranged t.0.component) in
+    let b = each t good.0 (get_or ps t.0.component (pos 0)) (ranged.each t.0.component) in
     let more = blocks-written p Good each (set ps t.0.component b.next) turns
-    (set-ranged ps t.0.component b.next b.ranged ranged) good.1 in
+    (predicts-set ps t.0.component b.next ranged b.ranged) good.1 in
     (_, block ps 0 0 t.0 t.1 turns b.dc b.ac more.0 b.next b.writes_dc b.writes_ac more.1)
 
 -- ---- blocks of each pass
@@ -217,15 +206,14 @@ pub record IsFlat (t : Via × Block) : Type 0 where
   pub ac : t.0.ac ≡ flat_table classes.AC
   pub range : Is8Bit t.1
 
-block-range : (u : Block) → Is8Bit u → Ranged u.dc
-block-range u range = (range.dc_low, range.dc_high)
+block-range : (u : Block) → Is8Bit u → InDcRange u.dc
+block-range u range = record { low = range.dc_low; high = range.dc_high }
 
 dc-bits : (p : Pass) (table : Table) (u : Block) (prediction : ℤ) → p.ss ≡ 0 → p.is_first ≡ true
     → table ≡ flat_table classes.DC → Is8Bit u
-    → Ranged prediction → (b : List Bool) × WritesDc p table u.dc prediction b u.dc
+    → InDcRange prediction → (b : List Bool) × WritesDc p table u.dc prediction b u.dc
 dc-bits p table u prediction s f e range ranged =
-    let d = difference-written classes.DC (u.dc -ℤ prediction)
-    (omega (arith, ints, block-range u range)) in
+    let d = difference-written classes.DC _ (difference-range u.dc prediction (block-range u range) ranged) in
     (d.0, subst (λ (x : Table). WritesDc p x u.dc prediction d.0 u.dc) (sym e) (whole u.dc prediction d.0 s f d.1))
 
 ac-bits : (p : Pass) (table : Table) (us : List ℤ) → p.is_first ≡ true → table ≡ flat_table classes.AC
@@ -259,10 +247,6 @@ each-ac t good prediction ranged =
       writes_dc = other_band u.dc prediction (λ e. absurd (omega arith));
       writes_ac = search rules;
     }
-
-start-ranged : AllRanged (replicate 4 (pos 0))
-start-ranged zero = (record { le = tt }, record { le = tt })
-start-ranged n = search rules
 
 -- ---- bytes
 
@@ -337,7 +321,7 @@ interval-packed writes bits w = search rules
 pub interval-written : (p : Pass) (Good : Via × Block → Type 0) → Each p Good → (turns : List (Via × Block))
     → AllByRecursion Good turns → (bytes : List ℕ) × WritesInterval (WritesBlocks p predictors_at_start 0 turns) bytes
 interval-written p Good each turns good =
-    let w = blocks-written p Good each predictors_at_start turns start-ranged good in (
+    let w = blocks-written p Good each predictors_at_start turns start-predicts good in (
       _,
       interval-packed (WritesBlocks p predictors_at_start 0 turns) w.0 w.1,
     )
@@ -397,24 +381,20 @@ pass_for OfDc = dc_pass
 pass_for OfAc = ac_pass
 
 abbrev from_for : Kind → ℕ
-from_for Whole = 0
-from_for OfDc = 0
 from_for OfAc = 1
+from_for kind = 0
 
 abbrev to_for : Kind → ℕ
-to_for Whole = 63
 to_for OfDc = 0
-to_for OfAc = 63
+to_for kind = 63
 
 abbrev dc_for : Kind → Table
-dc_for Whole = flat_table classes.DC
-dc_for OfDc = flat_table classes.DC
 dc_for OfAc = no_table classes.DC
+dc_for kind = flat_table classes.DC
 
 abbrev ac_for : Kind → Table
-ac_for Whole = flat_table classes.AC
 ac_for OfDc = no_table classes.AC
-ac_for OfAc = flat_table classes.AC
+ac_for kind = flat_table classes.AC
 
 abbrev Good : Kind → Via × Block → Type 0
 Good Whole t = IsFlat t
@@ -424,14 +404,12 @@ Good OfAc t = HasFlatAc t
 -- the frames that it is written in
 abbrev Fits : Kind → ℕ → Type 0
 Fits Whole number = number ≤ 1
-Fits OfDc number = number ≡ 2
-Fits OfAc number = number ≡ 2
+Fits kind number = number ≡ 2
 
 -- what was sent of a component before it
 abbrev before : Kind → Levels
-before Whole = nothing_sent
-before OfDc = nothing_sent
 before OfAc = record { dc = Some 0; acs = replicate 63 None }
+before kind = nothing_sent
 
 each-for : (kind : Kind) → Each (pass_for kind) (Good kind)
 each-for Whole = each-whole
@@ -737,8 +715,7 @@ progressive-steps number h array two p range front more c levels scanned e is s 
     let ac = pass_of (scan_for OfAc number h index c) in
     let mid = levels_after dc (index ∷ []) levels in
     let unsent = s.unsent index (omega arith) in
-    let was : mid index ≡ before OfAc = dc-after dc index levels (pass-is OfDc number h index c
-    two) unsent in (
+    let was : mid index ≡ before OfAc = search (rules, dc-after, dc, pass-is, OfDc, unsent) in (
       levels_after ac (index ∷ []) mid,
       sent-more levels (levels_after ac (index ∷ []) mid) index
           (ac-after ac index mid (pass-is OfAc number h index c two) was)

@@ -306,8 +306,7 @@ data-written h now front more c samples ready e most are =
     let b = packed w.0 in
     let whole = lines-whole wide high rows are_rows in
     let back = all_back Ra start wide lines (lines-low (2 ^ h.precision) wide lines low are.lined) in
-    let n : rows_of_interval wide high now.restart ≡ 0
-    = ap (rows_of_interval wide high) ready.restart ∙ no-restart wide high in (
+    let n : rows_of_interval wide high now.restart ≡ 0 = search rules in (
       stuffed b.bytes,
       record {
         codings = k ∷ [];

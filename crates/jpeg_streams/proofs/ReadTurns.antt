@@ -235,8 +235,7 @@ gathered-each P f [] ys e h = subst (AllByRecursion P) (ok-same [] ys e) tt
 gathered-each P f (x ∷ xs) ys e h =
     let one = bind-ok (f x) _ ys e in
     let more = bind-ok (gathered f xs) _ ys one.2 in
-    subst (AllByRecursion P) (ok-same (one.0 ∷ more.0) ys more.2)
-    (h x one.0 one.1, gathered-each P f xs more.0 more.1 h)
+    search (rules, ok-same, gathered-each P f xs more.0 more.1 h)
 
 -- what each tells
 pub gathered-map : {A B C : Type 0} (g : B → C) (k : A → C) (f : A → Result B Fault) (xs : List A) (ys : List B)
@@ -246,8 +245,7 @@ gathered-map g k f [] ys e h = ap (map g) (sym (ok-same [] ys e))
 gathered-map g k f (x ∷ xs) ys e h =
     let one = bind-ok (f x) _ ys e in
     let more = bind-ok (gathered f xs) _ ys one.2 in
-    ap (map g) (sym (ok-same (one.0 ∷ more.0) ys more.2))
-    ∙ ap₂ (λ (c : _) (l : List _). c ∷ l) (h x one.0 one.1) (gathered-map g k f xs more.0 more.1 h)
+    search (rules, ok-same, gathered-map g k f xs more.0 more.1 h)
 
 -- what holds of each coding of a scan
 pub codings-each : (P : Coding → Type 0) (w : Said) (frame : Frame) (s : Scan) (codings : List Coding)

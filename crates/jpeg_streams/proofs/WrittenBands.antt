@@ -97,9 +97,7 @@ band-value table al r (suc t) (suc m) u code more bits run good range nz cat cod
     let coefficients = no_numbers (suc (r + k)) in
     let long : length coefficients ≡ suc (r + k) = length-replicate (suc (r + k)) (pos 0) in
     let front : take r coefficients ≡ no_numbers r = search (rules, take-replicate) in
-    let back : drop (r + 1) coefficients ≡ no_numbers k = drop-replicate (r + 1) (suc (r + k)) (pos
-    0)
-    ∙ ap no_numbers (omega arith) in
+    let back : drop (r + 1) coefficients ≡ no_numbers k = grind (arith, drop-replicate) in
     let w = subst (λ (l : List ℤ). ReadsJust (first_ac table al m l) bits (map (scaled al) more, run)) (sym back)
     (others m (omega arith)) in
     let given : length (no_numbers r ++ u ∷ more) ≡ suc (r + k) = length-no_numbers r (u ∷ more) ∙ omega arith in
@@ -124,8 +122,7 @@ band-sixteen table al zero code more bits run good coded room others = absurd (o
 band-sixteen table al (suc m) code more bits run good coded room others =
     let k = length more in
     let coefficients = no_numbers (suc (15 + k)) in
-    let front : take 16 coefficients ≡ no_numbers 16 = take-replicate 16 (suc (15 + k)) (pos 0)
-    (omega arith) in
+    let front : take 16 coefficients ≡ no_numbers 16 = search (rules, take-replicate) in
     let back : drop 16 coefficients ≡ no_numbers k = drop-replicate 16 (suc (15 + k)) (pos 0) ∙ ap
     no_numbers (omega arith) in
     let w = subst (λ (l : List ℤ). ReadsJust (first_ac table al m l) bits (map (scaled al) more, run)) (sym back)
@@ -173,7 +170,6 @@ takes-band table al band bits run good range (value r s u code more bits' run' h
     band-value table al r s n u code more bits' run' good rest.0 nz cat coded (omega arith)
     (takes-band table al more bits' run' good rest.1 w)
 takes-band table al band bits run good range (sixteen code more bits' run' coded w) n room =
-    let size = length-no_numbers 16 more in
     band-sixteen table al n code more bits' run' good coded (omega arith)
     (takes-band table al more bits' run' good (all-after (InRange al) 16 more range) w)
 takes-band table al band bits run good range (ended k r e code h f coded) n room =

@@ -56,7 +56,7 @@ takes-difference table d bits good small w =
     (ap (λ (b : List Bool). b ++ bits_for d w.s) w.coded.has_bits ∙ w.has_bits) refl
     (search (rules, takes-bind, nat_le, takes-symbol))
 
-difference-range : (u v : ℤ) → InDcRange u → InDcRange v → unsigned_abs (u -ℤ v) < 2 ^ 11
+pub difference-range : (u v : ℤ) → InDcRange u → InDcRange v → unsigned_abs (u -ℤ v) < 2 ^ 11
 difference-range u v h k = let a = h.low in let b = h.high in let c = k.low in let d = k.high in omega (arith, ints)
 
 pub takes-first_dc : (table : Table) (al : ℕ) (u predictor : ℤ) (bits : List Bool) → IsGood table → InDcRange u
@@ -141,7 +141,7 @@ takes-band_part p table band us run after bits good unsent sent range (again_run
 pub record Predicts (predictors : List ℤ) : Type 0 where
   pub each : (k : ℕ) → InDcRange (get_or predictors k (pos 0))
 
-predicts-set : (predictors : List ℤ) (k : ℕ) (v : ℤ) → Predicts predictors → InDcRange v → Predicts (set predictors k v)
+pub predicts-set : (predictors : List ℤ) (k : ℕ) (v : ℤ) → Predicts predictors → InDcRange v → Predicts (set predictors k v)
 predicts-set predictors k v h r = grind (arith, common_steps)
 
 -- each block suits the pass, and the codes of its tables are read

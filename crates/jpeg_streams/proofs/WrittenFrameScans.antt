@@ -36,7 +36,7 @@ pub use Rattle.jpeg_streams.proofs.Apart.{at-all}
 
 -- ---- the bytes of a scan that was written are read again
 
-start-predicts : Predicts predictors_at_start
+pub start-predicts : Predicts predictors_at_start
 start-predicts = search rules
 
 -- A scan that was written is read as the blocks after the pass.
@@ -253,10 +253,7 @@ module _ (frame : Frame) (restart : ℕ) (p : Pass) (codings : List Coding) (arr
   suits-at (one_component k e) s t =
       let first : At 0 codings k = subst (λ (l : List Coding). At 0 l k) (sym e) refl in
       let fits = (at-all (SlotReady frame p array levels before) 0 codings k ready first).fits in
-      let own : IsOwnSpot (grid_of k.component) s =
-      in-all (IsOwnSpot (grid_of k.component)) (own_spots (grid_of k.component)) s
-      (own-only (grid_of k.component) fits.own_wide)
-      (subst (λ (l : List Coding). IsIn s (spots_of frame (components_of l))) e t) in
+      let own : IsOwnSpot (grid_of k.component) s = search (rules, in-all, own-only, fits) in
       suits-own k s (subst (λ (n : ℕ). At n codings k) (sym own.slot) first) own.own
 
   abbrev f : Spot → Block
@@ -280,8 +277,7 @@ module _ (frame : Frame) (restart : ℕ) (p : Pass) (codings : List Coding) (arr
   after-own k s h own =
       let r = at-all (SlotReady frame p array levels before) s.slot codings k ready h in
       let c = array k.index (s.index / k.component.blocks_wide) (s.index % k.component.blocks_wide) in
-      let here : Is8Bit c = range k.index (s.index / k.component.blocks_wide) (s.index %
-      k.component.blocks_wide) in
+      let here : Is8Bit c = search rules in
       reaches f s spots scanned (inside k s h own)
       (covered frame (components_of codings) k.component s
       (at-map (λ (x : Coding). x.component) s.slot codings k h) r.fits own)

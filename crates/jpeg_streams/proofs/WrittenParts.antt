@@ -105,8 +105,7 @@ also-writes a b said final levels last bytes frame (segment said' final' levels'
     (also-writes a b (said_after said s) final levels last more frame w e agree)
 also-writes a b said final levels last bytes frame
     (scan said' final' levels' next last' f fill h data_bytes more framed is x w) e agree =
-    let same : f ≡ frame =
-    same-frame f frame final.frame (frame-kept (record said { scanned = true }) final next last more f w framed) e in
+    let same : f ≡ frame = search (rules, same-frame, frame-kept) in
     let alike : AgreeOnOwn f a b = subst (λ (x : Frame). AgreeOnOwn x a b) (sym same) agree in
     let Here : Coding → Type 0 = λ k. slice_get f.components k.index ≡ Some k.component in
     let here = codings-each Here said f (scan_written f h) x.codings x.legal.are_in_force

@@ -234,11 +234,7 @@ module _ (array : Coefficients) (range : (index row column : ℕ) → Is8Bit (ar
       }
 
   pub image-read : IsRead MayStandInImage (WritesImageScan array) IsDrawn bring (Holds array)
-  image-read = record {
-    shaped = drawn-said;
-    holds = holds-next array;
-    reads = scan-found;
-  }
+  image-read = search (rules, drawn-said, holds-next, scan-found)
 
 -- ---- the end
 
@@ -279,7 +275,6 @@ unfolding plane_of
 plane-at s table wide high b x y h k =
     let i = y * (s * wide) + x in
     let row : i / (s * wide) ≡ y = div-mul-add y (s * wide) x h in
-    let column : i % (s * wide) ≡ x = mod-mul-add y (s * wide) x h in
     let some : 0 < s * wide = omega arith in
     let e = mul_comm (s * wide) (s * high) in
     let within : i < s * high * (s * wide) = (div-lt_iff_lt-mul some).0 (omega arith) in

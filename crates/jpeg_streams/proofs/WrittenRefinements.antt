@@ -77,7 +77,6 @@ pub corrects-pos : (al m b : ℕ) → b < 2 → (2 * m + b) * 2 ^ al < 2 ^ 15
 corrects-pos al m (suc zero) h fits =
     let p = 2 ^ al in
     let double = times-two_power m al in
-    let all = spread m 1 p in
     let high : m * 2 ^ suc al / 2 ^ al ≡ 2 * m =
     ap (λ (x : ℕ). x / p) (double ∙ sym (mul_assoc 2 m p) ∙ sym (add-zero (2 * m * p)))
     ∙ digits_div (2 * m) (pow_pos al) in
@@ -249,8 +248,7 @@ unfolding refined_piece
 piece-found al r others front u more bits run none count new range w =
     let z = kept-new al u new in
     let rest = map (kept al) (front ++ u ∷ more) in
-    let n : through_zero r rest ≡ suc (length front) = ap (λ (c : ℕ). through_zero c rest) (sym count)
-    ∙ through al front u more z none in
+    let n : through_zero r rest ≡ suc (length front) = grind (arith, through) in
     let result : with_last (new_number al (sign_bit u)) (map (scaled al) (front ++ pos 0 ∷ [])) ++ map
     (scaled al) more ≡ map (scaled al) (front ++ u ∷ more)
     = search (rules, scaled, map-scaled, with_last-end, append_assoc, one-mul, neg_ℤ) in
