@@ -93,8 +93,7 @@ band-open : (p : Pass) (l : Levels) → IsLegal p l → (f : Bool) → p.is_firs
     → band_of p (map is_level_0 l.acs) ≡ replicate (length (band_of p (map is_level_0 l.acs))) false
 band-open p l legal f k =
     let n = length (band_of p l.acs) in
-    let size : n ≡ length (band_of p (map is_level_0 l.acs)) =
-    sym (ap length (sym (map-band p l.acs)) ∙ length-map (band_of p l.acs) is_level_0) in
+    let size = sym (ap length (sym (map-band p l.acs)) ∙ length-map (band_of p l.acs) is_level_0) in
     sym (map-band p l.acs) ∙ open_band f k ∙ ap (λ (j : ℕ). replicate j false) size
   where
     open_band : (f : Bool) → p.is_first ≡ f
@@ -438,8 +437,7 @@ framed-start w f array h fi pl range e g = record {
   kept = λ d. subst (AllKept f array (λ k. nothing_sent)) (sym (search rules))
       (record {
         count = length-map f.components _;
-        each = λ k c t. subst (HoldsOwn (grid_of c) (array k) nothing_sent) (sym (zero-at f.components k c t))
-            (zero-holds (array k) c (range k));
+        each = λ k c t. rw (sym (zero-at f.components k c t)) at (zero-holds (array k) c (range k));
       });
   fresh = λ d k n. refl;
 }
@@ -607,9 +605,7 @@ module _ (w : Said) (f : Frame) (array : Coefficients) (levels : ℕ → Levels)
       subst (λ (a : Arrays). HoldsOwn (grid_of k.component) (array k.index) (levels k.index) (get_or a
       k.index []))
       (sym (sequential-arrays now f e))
-      (subst (λ (x : Levels). HoldsOwn (grid_of k.component) (array k.index) x
-      (get_or (zero_arrays f.components) k.index [])) (sym none)
-      (subst (HoldsOwn (grid_of k.component) (array k.index) nothing_sent)
+      (rw none (subst (HoldsOwn (grid_of k.component) (array k.index) nothing_sent)
       (sym (zero-at f.components k.index k.component fact.at))
       (zero-holds (array k.index) k.component (range k.index))))
   holds-now (progressive e d a lt le) k fact l = (framed.kept e).each k.index k.component fact.at
@@ -644,10 +640,8 @@ module _ (w : Said) (f : Frame) (array : Coefficients) (levels : ℕ → Levels)
   kept-now : is_progressive f.process ≡ true
       → AllKept f array (levels_after (pass_of s) (indices_of codings) levels)
       (arrays_before (reading w true after_kept brought.finished brought.planes) f)
-  kept-now e = subst (AllKept f array (levels_after (pass_of s) (indices_of codings) levels))
-      (sym (kept-arrays w after_kept brought.finished brought.planes f e
-      ∙ blocks-after_is now f codings reads-now.arrays e))
-      (blocks-after w f (pass_of s) array levels codings reads-now.arrays (arrays_before now f)
+  kept-now e = rw (sym (kept-arrays w after_kept brought.finished brought.planes f e ∙ blocks-after_is now f codings reads-now.arrays e)) at
+    (blocks-after w f (pass_of s) array levels codings reads-now.arrays (arrays_before now f)
       apart done
       (framed.kept e))
 

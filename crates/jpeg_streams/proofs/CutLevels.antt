@@ -134,8 +134,7 @@ acs-after p l c same =
     let s = band_size p in
     let count = length (band_of p l.acs) in
     let now = replicate count (Some p.al) in
-    let sizes : length (band_of p c.acs) ≡ length now = same-band p c.acs l.acs same
-    ∙ sym (length-replicate count (Some p.al)) in
+    let sizes = same-band p c.acs l.acs same ∙ sym (length-replicate count (Some p.al)) in
     let band : map (scaled p.al) (band_of p (map (toward_zero p.al) c.acs)) ≡ cut_acs (band_of p c.acs) now
     = ap (map (scaled p.al)) (band-map p (toward_zero p.al) c.acs)
     ∙ map-map (toward_zero p.al) (scaled p.al) (λ x. scaled p.al (toward_zero p.al x)) (λ x. refl) (band_of p c.acs)

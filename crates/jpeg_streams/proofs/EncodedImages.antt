@@ -632,9 +632,8 @@ end-written number h array front levels scanned le are e s is =
     let size : length (frame_written number h).components ≡ length h.components = length-map h.components _ in (
       marker 0 217 [],
       levels,
-      subst (λ (b : Bool). WritesPart array ClosesImage (said number h b) levels (marker 0 217 [])
-          (said number h true) levels) (sym is)
-          (end (said number h true) levels _ (closes (said number h true) (frame_written number h) 0 refl (
+      rw is
+      (end (said number h true) levels _ (closes (said number h true) (frame_written number h) 0 refl (
             refl,
             have-tables number h [] h.components le are,
             λ x. in-range (λ k. IsComplete (levels k)) 0 (length (frame_written number h).components)

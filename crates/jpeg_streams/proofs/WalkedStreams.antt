@@ -71,14 +71,12 @@ module _ {Sent : Type 0} {may : Said → Segment → Type 0}
       subst (λ (l : List ℕ). Writes may scans ends said sent (l ++ more) final last) (sym none) w
   front-append said next final sent reached last front more
       (segment said' next' sent' reached' fill s others stands allowed f) w =
-      subst (λ (l : List ℕ). Writes may scans ends said sent l final last)
-      (sym (segment-tail fill (marker_code s) (with_length (payload_of s)) others more))
+      rw (segment-tail fill (marker_code s) (with_length (payload_of s)) others more)
       (segment said final sent last fill s (others ++ more) stands allowed
       (front-append (said_after said s) next final sent reached last others more f w))
   front-append said next final sent reached last front more
       (scan said' next' sent' between reached' g fill h data_bytes others framed is sends f) w =
-      subst (λ (l : List ℕ). Writes may scans ends said sent l final last)
-      (sym (scan-tail fill 218 (with_length (scan_payload h)) data_bytes others more))
+      rw (scan-tail fill 218 (with_length (scan_payload h)) data_bytes others more)
       (scan said final sent between last g fill h data_bytes (others ++ more) framed is sends
       (front-append (record said { scanned = true }) next final between reached last others more f w))
 

@@ -98,8 +98,7 @@ band-value table al r (suc t) (suc m) u code more bits run good range nz cat cod
     let long : length coefficients ≡ suc (r + k) = length-replicate (suc (r + k)) (pos 0) in
     let front : take r coefficients ≡ no_numbers r = search (rules, take-replicate) in
     let back : drop (r + 1) coefficients ≡ no_numbers k = grind (arith, drop-replicate) in
-    let w = subst (λ (l : List ℤ). ReadsJust (first_ac table al m l) bits (map (scaled al) more, run)) (sym back)
-    (others m (omega arith)) in
+    let w = rw (sym back) at (others m (omega arith)) in
     let given : length (no_numbers r ++ u ∷ more) ≡ suc (r + k) = length-no_numbers r (u ∷ more) ∙ omega arith in
     let numbers : (take r coefficients ++ scaled al u ∷ []) ++ map (scaled al) more
     ≡ map (scaled al) (no_numbers r ++ u ∷ more)
@@ -125,8 +124,7 @@ band-sixteen table al (suc m) code more bits run good coded room others =
     let front : take 16 coefficients ≡ no_numbers 16 = search (rules, take-replicate) in
     let back : drop 16 coefficients ≡ no_numbers k = drop-replicate 16 (suc (15 + k)) (pos 0) ∙ ap
     no_numbers (omega arith) in
-    let w = subst (λ (l : List ℤ). ReadsJust (first_ac table al m l) bits (map (scaled al) more, run)) (sym back)
-    (others m (omega arith)) in
+    let w = rw (sym back) at (others m (omega arith)) in
     let given : length (no_numbers 16 ++ more) ≡ suc (15 + k) = length-no_numbers 16 more ∙ omega arith in
     let numbers : take 16 coefficients ++ map (scaled al) more ≡ map (scaled al) (no_numbers 16 ++
     more)

@@ -120,9 +120,7 @@ pub takes-band_part : (p : Pass) (table : Table) (band us : List ℤ) (run after
 unfolding band_part
 takes-band_part p table band us run after bits good unsent sent range (no_band run') = search (rules, takes-gives)
 takes-band_part p table band us run after bits good unsent sent range (first u more bits' run' f w) =
-    subst (λ (l : List ℤ). ReadsJust (band_part p table l 0) bits' (map (scaled p.al) (u ∷ more), run'))
-    (sym (unsent f))
-    (rw (f, band_part) (takes-band table p.al (u ∷ more) bits' run' good range w
+    rw (unsent f) (rw (f, band_part) (takes-band table p.al (u ∷ more) bits' run' good range w
     (length (no_numbers (suc (length more))))
     (let size = length-replicate (suc (length more)) (pos 0) in omega arith)))
 takes-band_part p table band us run after bits good unsent sent range (first_run n run' f) =
@@ -132,8 +130,7 @@ takes-band_part p table band us run after bits good unsent sent range (first_run
     ∙ ap (map (scaled p.al)) (append-nil (no_numbers (suc n))) in
     search (rules, scaled, takes-as, takes-gives)
 takes-band_part p table band us run after bits good unsent sent range (again u more bits' run' f w) =
-    subst (λ (l : List ℤ). ReadsJust (band_part p table l 0) bits' (map (scaled p.al) (u ∷ more), run')) (sym (sent f))
-    (rw (f, band_part) (takes-refinement table p.al (u ∷ more) bits' run' good range w
+    rw (sent f) (rw (f, band_part) (takes-refinement table p.al (u ∷ more) bits' run' good range w
     (length (map (kept p.al) (u ∷ more))) (le_refl _)))
 takes-band_part p table band us run after bits good unsent sent range (again_run u more run' f none) =
     grind (arith, scaled p.al, takes-corrected p.al (u ∷ more) none range)

@@ -233,8 +233,7 @@ module _ (frame : Frame) (restart : ℕ) (p : Pass) (codings : List Coding) (arr
       let here : Is8Bit c = range k.index (s.index / k.component.blocks_wide) (s.index %
       k.component.blocks_wide) in
       subst (λ (b : Block). Suits p b (u s)) (sym (kept-own k s h own))
-      (subst (λ (b : Block). Suits p (cut (levels k.index) c) (numbers_at p.al b)) (sym (sent-own k s
-      h own))
+      (rw (sent-own k s h own)
       (suits-cut p (levels k.index) c here (here.count ∙ sym r.sized) r.legal))
 
   zeros-at : (l : List Coding) (slot index : ℕ)
@@ -247,8 +246,7 @@ module _ (frame : Frame) (restart : ℕ) (p : Pass) (codings : List Coding) (arr
   unfolding spots_of
   suits-at (none_read e z) s t =
       subst (λ (q : Pass). Suits q (block_at scanned s) (numbers_at q.al (w.sent s))) (sym e)
-      (subst (λ (b : Block). Suits whole_pass b (numbers_at 0 (w.sent s))) (sym (zeros-at codings s.slot s.index z))
-      (suits-zero (w.sent s) (w.in_range s)))
+      (rw (zeros-at codings s.slot s.index z) (suits-zero (w.sent s) (w.in_range s)))
   suits-at (dc_alone e f low) s t = suits-dc p (block_at scanned s) (w.sent s) e f low (w.in_range s)
   suits-at (one_component k e) s t =
       let first : At 0 codings k = subst (λ (l : List Coding). At 0 l k) (sym e) refl in

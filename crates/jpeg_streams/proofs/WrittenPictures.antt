@@ -198,8 +198,7 @@ module _ (array : Coefficients) (range : (index row column : ℕ) → Is8Bit (ar
       go : (b : Bool) → said.scanned ≡ b → Framed said f array levels b x.0 x.1 x.2
       go false g =
           let n = held.fresh g in
-          subst (λ (l : ℕ → Levels). Framed said f array l false x.0 x.1 x.2) (sym n.1)
-          (framed-start said f array x.0 x.1 x.2 range (ap (λ (y : Progress). y.1) n.0)
+          rw n.1 (framed-start said f array x.0 x.1 x.2 range (ap (λ (y : Progress). y.1) n.0)
           (ap (λ (y : Progress). y.2) n.0))
       go true g =
           let h = held.framed g in
@@ -393,8 +392,7 @@ module _ (array : Coefficients) (final : Said) (last : ℕ → Levels) (r : Read
             table = q.0;
             is_table = q.1;
             blocks = get_or x.0 k [];
-            holds = subst (λ (a : Arrays). HoldsOwn (grid_of c) (array k) (last k) (get_or a k []))
-                (kept-arrays final x.0 x.1 x.2 f g) ((framed.kept g).each k c t);
+            holds = rw (kept-arrays final x.0 x.1 x.2 f g) at ((framed.kept g).each k c t);
             is = end-kept found f k c q.0 n g r.ended.0 q.1;
           }
       go false e false g =
@@ -417,8 +415,7 @@ module _ (array : Coefficients) (final : Said) (last : ℕ → Levels) (r : Read
   planes-end index [] within = grind (arith, common_steps)
   planes-end index (c ∷ more) within =
       let start : index + 0 ≡ index = omega arith in
-      let t : At index f.components c = subst (λ (n : ℕ). At n f.components c) start (within 0 c
-      refl) in
+      let t : At index f.components c = grind arith in
       let e = plane-end index c t in
       let others = planes-end (index + 1) more
       (λ j d u. let next : index + suc j ≡ (index + 1) + j = omega arith in
@@ -527,8 +524,7 @@ taken settings array final last tail meant r takes =
     let sources = (r.0.said.shaped f r.0.framed).1 in
     let same : takes.frame ≡ f = same-frame takes.frame f final.frame takes.is_said r.0.framed in
     let b = both-planes array final last r.0 in
-    let limit = subst (λ (g : Frame). length g.components * (g.output_width * g.output_height) ≤ settings.limit) same
-    takes.limit in
+    let limit = rw same at takes.limit in
     let picture = picture-there settings final f f.components b.ours b.theirs sources.0
     (subst (λ (g : Frame). HasTransform settings final g.components) same takes.transform) sources.1 b.alike in
     let is = limited-ok settings final f _ picture.0 r.0.framed limit

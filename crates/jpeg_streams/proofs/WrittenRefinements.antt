@@ -221,9 +221,7 @@ pub takes-front : (al : ℕ) (front : List ℤ) (u : ℤ) (more : List ℤ) → 
     → ReadsJust (corrected al (take (suc (length front)) (map (kept al) (front ++ u ∷ more))))
     (corrections front) (map (scaled al) (front ++ pos 0 ∷ []))
 takes-front al front u more z none range =
-    subst (λ (l : List ℤ). ReadsJust (corrected al l) (corrections front) (map (scaled al) (front ++ pos 0 ∷ [])))
-    (sym (front-of al front u more z))
-    (takes-as _ _ _ _ _ (corrections-end front) refl
+    rw (front-of al front u more z) (takes-as _ _ _ _ _ (corrections-end front) refl
     (takes-corrected al (front ++ pos 0 ∷ []) (none-end front none) (range-end al front (u ∷ more) range)))
 
 pub map-scaled : (al : ℕ) (front more : List ℤ)
@@ -256,9 +254,7 @@ piece-found al r others front u more bits run none count new range w =
     (sym (back-of al front u more)) w in
     let step = λ (k : ℕ). bits_from 1 >>= (λ sign. corrected al (take k rest) >>= (λ f.
     others (drop k rest) >>= (λ m. gives (before_more (with_last (new_number al sign) f) m)))) in
-    subst (λ (k : ℕ). ReadsJust (step k) (bit (sign_bit u) ∷ (corrections front ++ bits))
-    (map (scaled al) (front ++ u ∷ more), run)) (sym n)
-    (takes-as _ _ _ _ _ refl (ap (λ (l : List ℤ). (l, run)) result)
+    rw n (takes-as _ _ _ _ _ refl (ap (λ (l : List ℤ). (l, run)) result)
     (takes-bind (bits_from 1) _ (bit (sign_bit u) ∷ []) (corrections front ++ bits) (sign_bit u) _
     (takes-bit (sign_bit u) (sign-small u))
     (takes-bind (corrected al (take (suc (length front)) rest)) _ (corrections front) bits
