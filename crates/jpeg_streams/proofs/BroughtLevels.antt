@@ -602,9 +602,7 @@ module _ (w : Said) (f : Frame) (array : Coefficients) (levels : ℕ → Levels)
       let none : levels k.index ≡ nothing_sent =
       framed.fresh e k.index (l.dc_unsent (ap (λ (p : Pass). p.ss) q) (ap (λ (p : Pass). p.is_first)
       q)) in
-      subst (λ (a : Arrays). HoldsOwn (grid_of k.component) (array k.index) (levels k.index) (get_or a
-      k.index []))
-      (sym (sequential-arrays now f e))
+      rw (sequential-arrays now f e)
       (rw none (subst (HoldsOwn (grid_of k.component) (array k.index) nothing_sent)
       (sym (zero-at f.components k.index k.component fact.at))
       (zero-holds (array k.index) k.component (range k.index))))

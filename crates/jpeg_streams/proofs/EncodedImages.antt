@@ -627,8 +627,7 @@ end-written : (number : ℕ) (h : FrameHeader) (array : Coefficients) (front : L
     → scanned ≡ true → Sends number h array levels scanned
 unfolding frame_of
 end-written number h array front levels scanned le are e s is =
-    let all : (j : ℕ) → j < length h.components
-    → IsComplete (levels j) = λ j lt. s.sent j (subst (λ (l : List Factors). j < length l) e lt) in
+    let all : (j : ℕ) → j < length h.components → IsComplete (levels j) = grind arith in
     let size : length (frame_written number h).components ≡ length h.components = length-map h.components _ in (
       marker 0 217 [],
       levels,

@@ -230,8 +230,7 @@ module _ (frame : Frame) (restart : ℕ) (p : Pass) (codings : List Coding) (arr
   suits-own k s h own =
       let r = at-all (SlotReady frame p array levels before) s.slot codings k ready h in
       let c = array k.index (s.index / k.component.blocks_wide) (s.index % k.component.blocks_wide) in
-      let here : Is8Bit c = range k.index (s.index / k.component.blocks_wide) (s.index %
-      k.component.blocks_wide) in
+      let here : Is8Bit c = grind arith in
       subst (λ (b : Block). Suits p b (u s)) (sym (kept-own k s h own))
       (rw (sent-own k s h own)
       (suits-cut p (levels k.index) c here (here.count ∙ sym r.sized) r.legal))
@@ -245,8 +244,7 @@ module _ (frame : Frame) (restart : ℕ) (p : Pass) (codings : List Coding) (arr
   suits-at : SpotsSuit p before codings → (s : Spot) → IsIn s spots → Suits p (block_at scanned s) (u s)
   unfolding spots_of
   suits-at (none_read e z) s t =
-      subst (λ (q : Pass). Suits q (block_at scanned s) (numbers_at q.al (w.sent s))) (sym e)
-      (rw (zeros-at codings s.slot s.index z) (suits-zero (w.sent s) (w.in_range s)))
+      rw e (rw (zeros-at codings s.slot s.index z) (suits-zero (w.sent s) (w.in_range s)))
   suits-at (dc_alone e f low) s t = suits-dc p (block_at scanned s) (w.sent s) e f low (w.in_range s)
   suits-at (one_component k e) s t =
       let first : At 0 codings k = subst (λ (l : List Coding). At 0 l k) (sym e) refl in

@@ -250,8 +250,7 @@ piece-found al r others front u more bits run none count new range w =
     let result : with_last (new_number al (sign_bit u)) (map (scaled al) (front ++ pos 0 ∷ [])) ++ map
     (scaled al) more ≡ map (scaled al) (front ++ u ∷ more)
     = search (rules, scaled, map-scaled, with_last-end, append_assoc, one-mul, neg_ℤ) in
-    let back = subst (λ (l : List ℤ). ReadsJust (others l) bits (map (scaled al) more, run))
-    (sym (back-of al front u more)) w in
+    let back = rw (sym (back-of al front u more)) at w in
     let step = λ (k : ℕ). bits_from 1 >>= (λ sign. corrected al (take k rest) >>= (λ f.
     others (drop k rest) >>= (λ m. gives (before_more (with_last (new_number al sign) f) m)))) in
     rw n (takes-as _ _ _ _ _ refl (ap (λ (l : List ℤ). (l, run)) result)
