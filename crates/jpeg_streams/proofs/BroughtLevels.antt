@@ -599,9 +599,7 @@ module _ (w : Said) (f : Frame) (array : Coefficients) (levels : ℕ → Levels)
       → HoldsOwn (grid_of k.component) (array k.index) (levels k.index) (get_or (arrays_before now f)
       k.index [])
   holds-now (sequential e q) k fact l =
-      let none : levels k.index ≡ nothing_sent =
-      framed.fresh e k.index (l.dc_unsent (ap (λ (p : Pass). p.ss) q) (ap (λ (p : Pass). p.is_first)
-      q)) in
+      let none : levels k.index ≡ nothing_sent = grind arith in
       rw (sequential-arrays now f e)
       (rw none (subst (HoldsOwn (grid_of k.component) (array k.index) nothing_sent)
       (sym (zero-at f.components k.index k.component fact.at))

@@ -231,8 +231,7 @@ module _ (frame : Frame) (restart : ℕ) (p : Pass) (codings : List Coding) (arr
       let r = at-all (SlotReady frame p array levels before) s.slot codings k ready h in
       let c = array k.index (s.index / k.component.blocks_wide) (s.index % k.component.blocks_wide) in
       let here : Is8Bit c = grind arith in
-      subst (λ (b : Block). Suits p b (u s)) (sym (kept-own k s h own))
-      (rw (sent-own k s h own)
+      rw (kept-own k s h own) (rw (sent-own k s h own)
       (suits-cut p (levels k.index) c here (here.count ∙ sym r.sized) r.legal))
 
   zeros-at : (l : List Coding) (slot index : ℕ)
