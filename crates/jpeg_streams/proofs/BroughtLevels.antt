@@ -601,8 +601,7 @@ module _ (w : Said) (f : Frame) (array : Coefficients) (levels : ℕ → Levels)
   holds-now (sequential e q) k fact l =
       let none : levels k.index ≡ nothing_sent = grind arith in
       rw (sequential-arrays now f e)
-      (rw none (subst (HoldsOwn (grid_of k.component) (array k.index) nothing_sent)
-      (sym (zero-at f.components k.index k.component fact.at))
+      (rw none (rw (zero-at f.components k.index k.component fact.at)
       (zero-holds (array k.index) k.component (range k.index))))
   holds-now (progressive e d a lt le) k fact l = (framed.kept e).each k.index k.component fact.at
 
