@@ -636,7 +636,7 @@ module _ (w : Said) (f : Frame) (array : Coefficients) (levels : ℕ → Levels)
       → AllKept f array (levels_after (pass_of s) (indices_of codings) levels)
       (arrays_before (reading w true after_kept brought.finished brought.planes) f)
   kept-now e = rw (sym (kept-arrays w after_kept brought.finished brought.planes f e ∙ blocks-after_is now f codings reads-now.arrays e)) at
-    (blocks-after w f (pass_of s) array levels codings reads-now.arrays (arrays_before now f)
+      (blocks-after w f (pass_of s) array levels codings reads-now.arrays (arrays_before now f)
       apart done
       (framed.kept e))
 

@@ -632,7 +632,7 @@ end-written number h array front levels scanned le are e s is =
       marker 0 217 [],
       levels,
       rw is
-      (end (said number h true) levels _ (closes (said number h true) (frame_written number h) 0 refl (
+          (end (said number h true) levels _ (closes (said number h true) (frame_written number h) 0 refl (
             refl,
             have-tables number h [] h.components le are,
             λ x. in-range (λ k. IsComplete (levels k)) 0 (length (frame_written number h).components)

@@ -233,8 +233,7 @@ pub gathered-each : {A B : Type 0} (P : B → Type 0) (f : A → Result B Fault)
 unfolding gathered
 gathered-each P f [] ys e h = subst (AllByRecursion P) (ok-same [] ys e) tt
 gathered-each P f (x ∷ xs) ys e h =
-    let one = bind-ok (f x) _ ys e in
-    let more = bind-ok (gathered f xs) _ ys one.2 in
+    let more = bind-ok (gathered f xs) _ ys (bind-ok (f x) _ ys e).2 in
     search (rules, ok-same, gathered-each P f xs more.0 more.1 h)
 
 -- what each tells
@@ -243,8 +242,7 @@ pub gathered-map : {A B C : Type 0} (g : B → C) (k : A → C) (f : A → Resul
 unfolding gathered
 gathered-map g k f [] ys e h = ap (map g) (sym (ok-same [] ys e))
 gathered-map g k f (x ∷ xs) ys e h =
-    let one = bind-ok (f x) _ ys e in
-    let more = bind-ok (gathered f xs) _ ys one.2 in
+    let more = bind-ok (gathered f xs) _ ys (bind-ok (f x) _ ys e).2 in
     search (rules, ok-same, gathered-map g k f xs more.0 more.1 h)
 
 -- what holds of each coding of a scan

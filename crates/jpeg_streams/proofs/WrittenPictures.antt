@@ -274,9 +274,8 @@ unfolding plane_of
 plane-at s table wide high b x y h k =
     let i = y * (s * wide) + x in
     let row : i / (s * wide) ≡ y = div-mul-add y (s * wide) x h in
-    let some : 0 < s * wide = omega arith in
     let e = mul_comm (s * wide) (s * high) in
-    let within : i < s * high * (s * wide) = (div-lt_iff_lt-mul some).0 (omega arith) in
+    let within : i < s * high * (s * wide) = (div-lt_iff_lt-mul (omega arith)).0 (omega arith) in
     let zero-more : 0 + i ≡ i = omega arith in
     search (rules, get_or-map-range_with_len)
 
