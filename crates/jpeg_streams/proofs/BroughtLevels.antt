@@ -444,19 +444,12 @@ framed-start w f array h fi pl range e g = record {
 
 -- ---- levels
 
-pub after-length : (p : Pass) (indices : List ℕ) (levels : ℕ → Levels) → ((j : ℕ) → length (levels
-    j).acs ≡ 63)
-    → (k : ℕ) → length (levels_after p indices levels k).acs ≡ 63
+pub after-length : (p : Pass) (indices : List ℕ) (levels : ℕ → Levels)
+    → ((j : ℕ) → length (levels j).acs ≡ 63) → (k : ℕ) → length (levels_after p indices levels k).acs ≡ 63
 unfolding levels_after
 after-length p [] levels h k = h k
-after-length p (q ∷ indices) levels h k =
-    after-length p indices (levels_of_one p q levels) (λ j. (search (
-      rules,
-      length-take,
-      length-drop,
-      length-replicate,
-      length-append,
-    ))) k
+after-length p (q ∷ indices) levels h k = after-length p indices (levels_of_one p q levels)
+    (λ j. search (rules, length-take, length-drop, length-replicate, length-append)) k
 
 some-none : (a : ℕ) → ◌≡◌ {A = Option ℕ} (Some a) None → ⊥
 some-none a e = cc

@@ -180,11 +180,9 @@ below-rows : (selection : Predictor) (start n : ℕ) (above : List ℕ) (lines :
     → AreWide n lines → AreRows n (differences_of selection start above lines)
 unfolding differences_of
 below-rows selection start n above [] e h = tt
-below-rows selection start n above (line ∷ lines) e h = grind (
-  arith,
-  below-row selection start above line (subst (λ (k : ℕ). IsAbove k above) (sym h.0) e),
-  below-rows selection start n line lines (inr h.0) h.1,
-)
+below-rows selection start n above (line ∷ lines) e h =
+    let row = below-row selection start above line (rw h.0 e) in
+    grind (arith, row, below-rows selection start n line lines (inr h.0) h.1)
 
 rows-count : (selection : Predictor) (start : ℕ) (above : List ℕ) (lines : List (List ℕ))
     → length (differences_of selection start above lines) ≡ length lines

@@ -73,14 +73,8 @@ planes-whole : (said : Said) (array : Coefficients) (levels : ℕ → Levels) (i
 unfolding gathered plane_of_blocks
 planes-whole said array levels index [] done h = refl
 planes-whole said array levels index (c ∷ cs) done h =
-    search (
-      rules,
-      bind_same,
-      plane-same,
-      cut-whole,
-      planes-whole said array levels (index + 1) cs
-          done.1 h,
-    )
+    let more = planes-whole said array levels (index + 1) cs done.1 h in
+    search (rules, bind_same, plane-same, cut-whole, more)
 
 picture-whole : (settings : Settings) (said : Said) (array : Coefficients) (levels : ℕ → Levels) (frame : Frame)
     → said.frame ≡ Some frame → AllComplete frame levels

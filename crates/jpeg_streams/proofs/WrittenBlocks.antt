@@ -68,27 +68,13 @@ takes-first_dc table al u predictor bits good range before fits w =
     let dc : wrapped (predictor +ℤ (u -ℤ predictor)) ≡ u = ap wrapped sum ∙ (search (rules, int_wrap_fits, ints)) in
     grind (arith, takes-difference table (u -ℤ predictor) bits good (difference-range u predictor range before) w)
 
-neg-sum : (x y z : ℕ) → x ≡ y + z → neg_ℤ (pos x) +ℤ pos y ≡ neg_ℤ (pos z)
-neg-sum x y z e = omega (arith, ints)
-
 or-even : (al b : ℕ) (z w : ℤ) → bit_of al z ≡ 0 → z +ℤ pos (b * 2 ^ al) ≡ w → or_bit al z b ≡ w
 or-even al b z w bit e = rw (eq-eqb (bit_of al z) 0 bit, or_bit) e
 
 pub dc-refined : (al : ℕ) (u : ℤ) → or_bit al (dc_kept al u) (low_bit u) ≡ scaled al u
 dc-refined al (pos n) = search (rules, or-even, even-bit, times-two_power, spread)
-dc-refined al (negsuc n) = grind (
-  arith,
-  common_steps,
-  pow_pos,
-  mul-le-mul,
-  neg_ℤ,
-  even-bit_neg,
-  times-two_power,
-  mul_assoc,
-  add-mul,
-  or-even,
-  neg-sum,
-)
+dc-refined al (negsuc n) =
+    grind (arith, common_steps, pow_pos, even-bit_neg, times-two_power, mul_assoc, add-mul)
 
 -- ---- blocks
 

@@ -87,14 +87,8 @@ pub codings-good : (w : Said) (f : Frame) (s : Scan) (codings : List Coding) →
     → codings_of w f s ≡ Ok codings → AllByRecursion (λ c. IsTable c.dc × IsTable c.ac) codings
 unfolding tables_of
 codings-good w f s codings h e =
-    let good : HasTables (tables_of w s) = search (
-      rules,
-      good-defaults,
-      luminance-dc-codes,
-      chrominance-dc-codes,
-      luminance-ac-codes,
-      chrominance-ac-codes,
-    ) in
+    let good : HasTables (tables_of w s) =
+    search (rules, good-defaults, luminance-dc-codes, chrominance-dc-codes, luminance-ac-codes, chrominance-ac-codes) in
     codings-each (λ c. IsTable c.dc × IsTable c.ac) w f s codings e (λ index d a k is. search (rules, needed-good))
 
 -- ---- the components, each after those before it
