@@ -1,11 +1,11 @@
 -- A lossless frame that is accepted has samples that a writer may emit.
-use Rattle.std.proofs.Common.{rules, arith, ◌≡◌, ◌⊎◌, ℕ, ◌≤◌, List, [], ◌∷◌, map, length, Ok}
+use Rattle.std.proofs.Common.{rules, arith, ◌≡◌, ◌⊎◌, ℕ, ◌≤◌, map, length, Ok}
 use Rattle.std.specs.Prelude.{nat_le}
 use Rattle.std.proofs.lemmas.Bool.{and_parts, eqb-true, leb-true}
 use Rattle.std.specs.List.{AllByRecursion}
 use lib.ListN.{length-map}
 use Rattle.jpeg_bits.proofs.ReadIntervals.{all-mapped}
-use Rattle.jpeg_segments.specs.Frame.{component_of, Factors, frame_of, greatest}
+use Rattle.jpeg_segments.specs.Frame.{component_of, frame_of, greatest}
 use Rattle.jpeg_segments.specs.WrittenSegments.{FrameHeader, frame_written}
 use Rattle.jpeg_streams.specs.AcceptedFrames.{HasPicture, HasSamples, IsUpsampled}
 use Rattle.jpeg_streams.specs.Segments.{accepted}

@@ -1,9 +1,9 @@
 -- A written stream is read as the blocks of its array, cut at the levels that were sent.
 use Rattle.std.proofs.Common.{rules, ◌≡◌, ℕ, zero, suc, Bool, true, false, List, [], ◌∷◌, ◌++◌, map, take, drop}
-use Rattle.std.proofs.Common.{replicate, length, Option, Some, None, refl, sym, ap, ◌∙◌, arith, take-append-drop}
-use Rattle.std.proofs.Common.{drop-drop, ◌==◌, ◌≤◌, length-take, length-drop, ◌≢◌, ◌⊎◌, inl, inr, ◌-◌, ◌<◌, get_or}
-use Rattle.std.proofs.Common.{set, slice_index_or, length-set, get_or-set_same, get_or-set_other, ◌*◌, Ok, subst}
-use Rattle.std.proofs.Common.{true≢false, length-append}
+use Rattle.std.proofs.Common.{replicate, length, Option, Some, None, refl, sym, ap, ◌∙◌, arith, ◌==◌, ◌≤◌}
+use Rattle.std.proofs.Common.{length-take, length-drop, ◌≢◌, ◌⊎◌, inl, inr, ◌-◌, ◌<◌, get_or, set, slice_index_or}
+use Rattle.std.proofs.Common.{length-set, get_or-set_same, get_or-set_other, ◌*◌, Ok, subst, true≢false}
+use Rattle.std.proofs.Common.{length-append}
 use Rattle.std.proofs.lemmas.Grind.{common_steps}
 use Rattle.std.proofs.lemmas.Bool.{eqb-true, eq-eqb, not-true}
 use Rattle.jpeg_bits.proofs.WrittenIntervals.{not-equal}

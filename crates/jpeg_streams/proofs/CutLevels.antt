@@ -1,9 +1,8 @@
 -- A legal scan takes the blocks at its levels to the blocks at the levels after it.
 use Rattle.std.proofs.lemmas.Grind.{common_steps}
-use Rattle.std.proofs.Common.{rules, ◌≡◌, ℕ, suc, ◌+◌, ◌/◌, ◌^◌, ◌≤◌, List, [], ◌∷◌, ◌++◌, map}
-use Rattle.std.proofs.Common.{take, drop, replicate, length, ℤ, pos, negsuc, neg_ℤ, ◌≤ℤ◌, unsigned_abs, Option, Some}
-use Rattle.std.proofs.Common.{None, refl, sym, ap, ap₂, ◌∙◌, arith, pow_mono, length-take, length-drop, drop-drop}
-use Rattle.std.proofs.Common.{take-append-drop}
+use Rattle.std.proofs.Common.{rules, ◌≡◌, ℕ, suc, ◌+◌, ◌/◌, ◌^◌, ◌≤◌, List, [], ◌∷◌, ◌++◌, map, take, drop, replicate}
+use Rattle.std.proofs.Common.{length, ℤ, pos, negsuc, neg_ℤ, ◌≤ℤ◌, unsigned_abs, Option, Some, None, refl, sym, ap}
+use Rattle.std.proofs.Common.{ap₂, ◌∙◌, arith, pow_mono, length-take, length-drop, drop-drop, take-append-drop}
 use Rattle.std.proofs.lemmas.List.{length-replicate, take-map, drop-map}
 use Rattle.std.proofs.Math.Nat.{div-le_self, div-mul-le_self, add-mul, one-mul}
 use lib.Pow.{shr-shr}
@@ -16,8 +15,7 @@ use Rattle.jpeg_bits.specs.Passes.{Pass, Block, band_of, with_band, before_band,
 use Rattle.jpeg_streams.specs.Levels.{floor_at, toward_zero, numbers_at, Levels, cut_by, cut_acs, cut, IsLegal}
 use Rattle.jpeg_streams.specs.Levels.{sent_after, Is8Bit}
 use Rattle.jpeg_streams.specs.WrittenData.{no_numbers}
-use Rattle.jpeg_streams.proofs.SentBlocks.{halved, scaled, kept, InRange, InDcRange, Suits}
-use Rattle.jpeg_streams.proofs.SentBlocks.{after_pass, floor_half}
+use Rattle.jpeg_streams.proofs.SentBlocks.{halved, scaled, kept, InRange, InDcRange, Suits, after_pass, floor_half}
 use Rattle.jpeg_streams.proofs.WrittenBands.{abs-scaled, mag-le}
 use Rattle.jpeg_streams.proofs.WrittenBlocks.{dc-refined}
 

@@ -1,11 +1,10 @@
 -- Every image has a stream: for each component a scan, or in a progressive frame a scan of DC and one of AC.
 use Rattle.std.proofs.Common.{rules, false, replicate, length, get_or, negsuc, unsigned_abs, subst, append_assoc}
-use Rattle.std.proofs.Common.{arith, ◌≡◌, ◌≢◌, ◌⊎◌, inl, inr, zero, suc, ◌==◌, Bool, true, cond, List, ◌++◌, ◌-ℤ◌}
-use Rattle.std.proofs.Common.{◌≤ℤ◌, refl, ℕ, ◌+◌, ◌-◌, ◌*◌, ◌/◌, ◌%◌, ◌^◌, ◌<◌, ◌≤◌, [], ◌∷◌, set, ℤ, pos, sym, ap}
-use Rattle.std.proofs.Common.{ap₂, ◌∙◌, length-append, ◌&&◌, sum, not, map, flat_map, Some, None, Ok, leb-true}
+use Rattle.std.proofs.Common.{arith, ◌≡◌, ◌≢◌, ◌⊎◌, inl, inr, zero, suc, ◌==◌, Bool, true, cond, List, ◌++◌, refl, ℕ}
+use Rattle.std.proofs.Common.{◌+◌, ◌-◌, ◌*◌, ◌/◌, ◌%◌, ◌^◌, ◌<◌, ◌≤◌, [], ◌∷◌, set, ℤ, pos, sym, ap, ap₂, ◌∙◌}
+use Rattle.std.proofs.Common.{length-append, ◌&&◌, sum, not, map, flat_map, Some, None, Ok, leb-true}
 use Rattle.std.proofs.Math.Nat.{pow-le-pow_right}
 use Rattle.std.proofs.lemmas.Bool.{cases_lt, eq-eqb, ne_eqb, lt-ltb, or_parts as or-false}
-use Rattle.std.proofs.lemmas.Int.{ints}
 use Rattle.std.proofs.lemmas.List.{append-nil, length-replicate, replicate-append-replicate, take_all}
 use Rattle.std.proofs.lemmas.List.FromFn.{get_or-range_with_len}
 use Rattle.std.specs.List.{AllByRecursion, range_with_len, prefix_len}

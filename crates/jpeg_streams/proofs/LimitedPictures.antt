@@ -1,5 +1,5 @@
 -- Pictures that are within the limit.
-use Rattle.std.proofs.Common.{rules, ◌≡◌, ◌≤◌, ℕ, ◌*◌, List, length, nat_lt, if◌then◌else◌, Some, None, Result, Ok, Err}
+use Rattle.std.proofs.Common.{◌≡◌, ◌≤◌, ℕ, ◌*◌, List, length, nat_lt, if◌then◌else◌, Some, None, Result, Ok, Err}
 use Rattle.std.proofs.Common.{refl, sym, ap, ap₂, ◌∙◌}
 use Rattle.std.specs.Prelude.{slice_index_or}
 use Rattle.std.proofs.lemmas.Bool.{le-ltb}

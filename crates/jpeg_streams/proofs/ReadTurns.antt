@@ -1,7 +1,7 @@
 -- A turn of a written stream is read.
 use Rattle.std.proofs.Common.{rules, ◌≡◌, Option, Some, ◌≢◌, ◌&&◌, ℕ, zero, suc, ◌<◌, Bool, true, false, List, []}
 use Rattle.std.proofs.Common.{◌∷◌, ◌++◌, map, length, ◌==◌, nat_lt, slice_get, slice_index_or, is_some, None, Result}
-use Rattle.std.proofs.Common.{Ok, Err, refl, sym, ap, ap₂, ◌∙◌, subst, arith, append_assoc, length-append}
+use Rattle.std.proofs.Common.{Ok, Err, refl, sym, ap, ◌∙◌, subst, arith, append_assoc, length-append}
 use Rattle.jpeg_bits.specs.Marker.{marker_of, next_marker}
 use Rattle.jpeg_bits.specs.declared.marker.Marker.{Marker}
 use Rattle.jpeg_bits.specs.declared.marker.Marker.TheVariants.{SOF, DHT, DQT, DRI, APP, COM, EOI, SOS}

@@ -1,5 +1,5 @@
 -- The picture of samples goes by the precision, the size and the sampling factors of a frame.
-use Rattle.std.proofs.Common.{rules, ◌≡◌, ℕ, ◌*◌, ◌/◌, max, List, [], ◌∷◌, map, refl, sym, ap, ap₂, ◌∙◌, ◌+◌}
+use Rattle.std.proofs.Common.{◌≡◌, ℕ, ◌*◌, ◌/◌, max, List, [], ◌∷◌, map, refl, sym, ap, ap₂, ◌∙◌, ◌+◌}
 use Rattle.std.specs.List.{concat, enumerate_from, range_with_len}
 use Rattle.jpeg_segments.specs.Frame.{Component, Factors, Frame, greatest}
 use Rattle.jpeg_lossless.specs.Pictures.{picture_by_samples, pixel_of, sample_bytes}

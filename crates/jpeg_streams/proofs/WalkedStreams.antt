@@ -8,8 +8,8 @@ use Rattle.jpeg_bits.specs.declared.marker.Marker.{Marker}
 use Rattle.jpeg_bits.specs.declared.marker.Marker.TheVariants.{EOI, SOS}
 use Rattle.jpeg_segments.specs.Frame.{Frame}
 use Rattle.jpeg_segments.specs.ScanHeaders.{IsScan, ScanHeader, scan_payload}
-use Rattle.jpeg_segments.specs.WrittenSegments.{frame_written, FrameHeader, Header, marker_code, payload_of}
-use Rattle.jpeg_segments.specs.WrittenSegments.{MayStand, Segment, with_length}
+use Rattle.jpeg_segments.specs.WrittenSegments.{frame_written, FrameHeader, Header, marker_code, payload_of, Segment}
+use Rattle.jpeg_segments.specs.WrittenSegments.{with_length}
 use Rattle.jpeg_streams.specs.Found.{Said, nothing_said, Found, nothing_found}
 use Rattle.jpeg_streams.specs.FoundPictures.{picture_of}
 use Rattle.jpeg_streams.specs.SaidSegments.{said_after, Stands}
@@ -20,11 +20,10 @@ use Rattle.jpeg_streams.specs.WrittenStreams.{Closes, end, scan, segment, Starts
 use Rattle.jpeg_streams.specs.declared.before.Before.{Before}
 use Rattle.jpeg_streams.specs.declared.before.Before.TheVariants.{Elsewhere}
 use Rattle.jpeg_streams.specs.declared.settings.Settings.{Settings}
-use Rattle.jpeg_streams.proofs.ReadTurns.{Begins, end-turn, IsEnd, marker-longer, scan-tail}
-use Rattle.jpeg_streams.proofs.ReadTurns.{scan-turn, marker-begins, segment-ends, segment-tail}
-use Rattle.jpeg_streams.proofs.ReadTurns.{segment-turn, same-frame, segments-walked, some-none}
-use Rattle.jpeg_streams.proofs.ReadTurns.{stands-here, stands-met, StandsAt, then-ok, walk-end}
-use Rattle.jpeg_streams.proofs.ReadTurns.{walk-on, walk-stop, marker_for, segment-marker}
+use Rattle.jpeg_streams.proofs.ReadTurns.{Begins, end-turn, IsEnd, marker-longer, scan-tail, scan-turn, marker-begins}
+use Rattle.jpeg_streams.proofs.ReadTurns.{segment-ends, segment-tail, segment-turn, segments-walked, some-none}
+use Rattle.jpeg_streams.proofs.ReadTurns.{stands-here, stands-met, StandsAt, then-ok, walk-end, walk-on, walk-stop}
+use Rattle.jpeg_streams.proofs.ReadTurns.{marker_for, segment-marker}
 use Rattle.jpeg_streams.proofs.SaidTables.{HasTables, no-tables, segment-tables}
 
 -- EOI

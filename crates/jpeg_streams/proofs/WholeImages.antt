@@ -1,6 +1,6 @@
 -- Where all is sent, the picture is that of the array itself.
-use Rattle.std.proofs.Common.{rules, ◌≡◌, ℕ, suc, ◌+◌, ◌/◌, ◌^◌, false, List, [], ◌∷◌, length, ℤ, pos}
-use Rattle.std.proofs.Common.{negsuc, neg_ℤ, ◌*ℤ◌, Option, Some, refl, sym, ap, subst, arith}
+use Rattle.std.proofs.Common.{rules, ◌≡◌, ℕ, suc, ◌+◌, ◌/◌, ◌^◌, false, List, [], ◌∷◌, length, ℤ, pos, negsuc, neg_ℤ}
+use Rattle.std.proofs.Common.{◌*ℤ◌, Option, Some, refl, ap, subst, arith}
 use Rattle.std.proofs.lemmas.Grind.{common_steps}
 use Rattle.std.proofs.lemmas.Int.{ints}
 use Rattle.std.specs.List.{AllByRecursion, enumerate_from, range_with_len}
@@ -18,8 +18,7 @@ use Rattle.jpeg_streams.specs.Stream.{sized_to}
 use Rattle.jpeg_streams.specs.ScanSegments.{is_progressive}
 use Rattle.jpeg_streams.specs.Found.{nothing_said, Said}
 use Rattle.jpeg_streams.specs.WrittenScans.{Coefficients, IsComplete}
-use Rattle.jpeg_streams.specs.ArrayPictures.{as_sent, picture_of_blocks}
-use Rattle.jpeg_streams.specs.ArrayPictures.{picture_of_array, meaning_of_array}
+use Rattle.jpeg_streams.specs.ArrayPictures.{as_sent, picture_of_blocks, picture_of_array, meaning_of_array}
 use Rattle.jpeg_streams.specs.FoundPictures.{picture_by}
 use Rattle.jpeg_streams.specs.Rasters.{plane_of_blocks}
 use Rattle.jpeg_bits.specs.Reading.{◌>>=◌}

@@ -1,6 +1,6 @@
 -- The streams that are worked by hand are written: their tests compute.
-use Rattle.std.proofs.Common.{rules, ◌≡◌, zero, suc, ◌==◌, Bool, true, false, List, [], ◌∷◌, pos, negsuc, Option, Some, None}
-use Rattle.std.proofs.Common.{refl, arith}
+use Rattle.std.proofs.Common.{rules, ◌≡◌, zero, suc, ◌==◌, Bool, true, false, List, [], ◌∷◌, pos, negsuc, Option}
+use Rattle.std.proofs.Common.{Some, None, refl}
 use Rattle.std.proofs.lemmas.Bool.{eqb-true}
 use Rattle.std.specs.Prelude.{drop, get_or, slice_get}
 use Rattle.jpeg_bits.specs.Passes.{Block}

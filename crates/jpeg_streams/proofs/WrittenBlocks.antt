@@ -1,8 +1,8 @@
 -- The blocks of an interval that were written are read again.
 use Rattle.std.proofs.Common.{rules, ◌≡◌, ℕ, zero, suc, ◌+◌, ◌*◌, ◌^◌, ◌<◌, ◌≤◌, Bool, true, false, List, [], ◌∷◌}
-use Rattle.std.proofs.Common.{◌++◌, map, length, get_or, set, ℤ, pos, negsuc, neg_ℤ, ◌+ℤ◌, ◌-ℤ◌, unsigned_abs, nat_le}
-use Rattle.std.proofs.Common.{refl, sym, ap, ◌∙◌, subst, append_assoc, append-nil, arith, pow_pos, le_refl}
-use Rattle.std.proofs.Common.{slice_index, mul_assoc, if◌then◌else◌}
+use Rattle.std.proofs.Common.{◌++◌, map, length, get_or, set, ℤ, pos, negsuc, ◌+ℤ◌, ◌-ℤ◌, unsigned_abs, nat_le, refl}
+use Rattle.std.proofs.Common.{sym, ap, ◌∙◌, append_assoc, append-nil, arith, pow_pos, le_refl, slice_index, mul_assoc}
+use Rattle.std.proofs.Common.{if◌then◌else◌}
 use Rattle.std.proofs.lemmas.Grind.{common_steps}
 use Rattle.std.proofs.lemmas.Int.{ints, int_wrap_fits}
 use Rattle.std.proofs.lemmas.Bool.{eq-eqb, le-leb, ne_eqb}
@@ -12,7 +12,7 @@ use Rattle.jpeg_bits.specs.Codes.{Table}
 use Rattle.jpeg_bits.specs.Readers.{refused, signed_from, ReadsJust}
 use Rattle.jpeg_bits.proofs.Fast.{no-number}
 use Rattle.std.proofs.lemmas.List.{length-replicate}
-use Rattle.std.proofs.Math.Nat.{add-mul, mul-le-mul}
+use Rattle.std.proofs.Math.Nat.{add-mul}
 use Rattle.jpeg_bits.specs.Bands.{wrapped, first_dc, difference}
 use Rattle.jpeg_bits.specs.Refinement.{bit_of}
 use Rattle.jpeg_bits.specs.Passes.{Pass, Via, Block, band_of, with_band, or_bit, dc_part, band_part, block_from}
@@ -25,8 +25,7 @@ use Rattle.jpeg_streams.specs.WrittenData.WritesAc.{no_band, first, first_run, a
 use Rattle.jpeg_streams.specs.WrittenData.WritesBlocks.{done, block}
 use Rattle.jpeg_bits.proofs.WrittenBits.{takes-gives, takes-bind, takes-bit, takes-map, takes-as}
 use Rattle.jpeg_bits.proofs.Tables.{IsGood, takes-symbol}
-use Rattle.jpeg_streams.proofs.SentBlocks.{scaled, kept, InRange, InDcRange, dc_kept, Suits}
-use Rattle.jpeg_streams.proofs.SentBlocks.{after_pass, reads_of}
+use Rattle.jpeg_streams.proofs.SentBlocks.{scaled, kept, InRange, InDcRange, dc_kept, Suits, after_pass, reads_of}
 use Rattle.jpeg_streams.proofs.SentBlocks.{numbers_of}
 use Rattle.jpeg_lossless.proofs.ReadBack.{takes-signed}
 use Rattle.jpeg_streams.proofs.WrittenBands.{takes-band, map-no_numbers, abs-zero}

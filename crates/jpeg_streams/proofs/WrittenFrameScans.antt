@@ -14,7 +14,7 @@ use Rattle.jpeg_streams.proofs.WrittenBlocks.{IsReady, Predicts, takes-blocks}
 use Rattle.std.proofs.lemmas.Simd.{map-map}
 use Rattle.jpeg_bits.proofs.ReadIntervals.{all-map}
 use Rattle.jpeg_bits.specs.Reading.{Outcome, ◌>>=◌}
-use Rattle.jpeg_streams.specs.Order.{Spot, grid_of, own_spots, spots_of, mcu_size}
+use Rattle.jpeg_streams.specs.Order.{Spot, grid_of, spots_of, mcu_size}
 use Rattle.jpeg_streams.specs.Scans.{Arrays, block_at, put_blocks, via_at, turns_of, arrays_at, put_block, no_table}
 use Rattle.std.proofs.lemmas.Grind.{common_steps}
 use Rattle.std.proofs.Math.Nat.{div-lt_iff_lt-mul}

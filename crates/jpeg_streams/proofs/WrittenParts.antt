@@ -1,7 +1,6 @@
 -- Fronts of streams, and streams that mean one picture.
-use Rattle.std.proofs.Common.{rules, ◌≡◌, ℕ, ◌+◌, true, List, [], ◌∷◌, ◌++◌, Some, None, Result, Ok}
-use Rattle.std.proofs.Common.{Err, refl, sym, ap, ◌∙◌, ◌/◌, ◌%◌}
-use Rattle.std.proofs.Common.{subst, true≢false}
+use Rattle.std.proofs.Common.{rules, ◌≡◌, ℕ, ◌+◌, true, List, [], ◌∷◌, ◌++◌, Some, None, Result, Ok, Err, refl, sym}
+use Rattle.std.proofs.Common.{ap, ◌∙◌, ◌/◌, ◌%◌, subst, true≢false}
 use Rattle.std.specs.List.{AllByRecursion, enumerate_from}
 use Rattle.std.specs.Prelude.{slice_get, slice_index_or}
 use Rattle.jpeg_bits.specs.Reading.{Fault, ◌>>=◌}
@@ -18,8 +17,7 @@ use Rattle.jpeg_streams.specs.Stream.{Told, told_of}
 use Rattle.jpeg_streams.specs.FoundPictures.{picture_by}
 use Rattle.jpeg_streams.specs.WholeImages.{AllComplete}
 use Rattle.jpeg_streams.specs.WrittenImages.{WritesImage, ClosesImage, WritesPart}
-use Rattle.jpeg_streams.specs.WrittenParts.{AgreeOnOwn, HaveSamePicture, picture_meant_by}
-use Rattle.jpeg_streams.specs.WrittenParts.{WritesFront}
+use Rattle.jpeg_streams.specs.WrittenParts.{AgreeOnOwn, HaveSamePicture, picture_meant_by, WritesFront}
 use Rattle.jpeg_streams.specs.WrittenScans.{Coefficients, HasTable}
 use Rattle.jpeg_streams.proofs.Apart.{at-all, get-at}
 use Rattle.jpeg_streams.proofs.ReadTurns.{codings-each, same-frame}

@@ -1,7 +1,7 @@
 -- The picture of a written stream is that of its array, cut at the levels that were sent.
 use Rattle.std.proofs.Common.{rules, ◌≡◌, ℕ, Bool, true, false, List, [], Option, None, Ok, refl, slice_index_or}
 use Rattle.std.proofs.Common.{subst, arith, ◌≢◌, ◌+◌, ◌/◌, ◌%◌, ◌<◌, ◌∷◌, map, length, ◌++◌, replicate, Some, sym, ap}
-use Rattle.std.proofs.Common.{◌∙◌, true≢false, ◌&&◌, Result, get_or, slice_index, is_some, suc, ◌*◌, ◌≤◌, ℤ, ap₂}
+use Rattle.std.proofs.Common.{◌∙◌, true≢false, ◌&&◌, Result, get_or, slice_index, is_some, suc, ◌*◌, ℤ, ap₂}
 use Rattle.std.specs.List.{AllByRecursion, enumerate_from, range_with_len, list_all}
 use Rattle.jpeg_bits.specs.Codes.{Table, IsTable}
 use Rattle.jpeg_bits.specs.declared.codes.HuffmanTableClass.{HuffmanTableClass}
@@ -14,7 +14,7 @@ use Rattle.jpeg_streams.specs.Scans.{no_table, Arrays}
 use Rattle.jpeg_streams.specs.ScanSegments.{Coding, codings_of, needed_if, tables_of, pass_of, arrays_before}
 use Rattle.jpeg_streams.specs.ScanSegments.{is_progressive, scan_turn}
 use Rattle.jpeg_streams.specs.Found.{Said, Found, none_finished, nothing_found, nothing_said, Metadata}
-use Rattle.jpeg_streams.proofs.ReadTurns.{codings-each, needed-some, ok-same, same-frame, scan-by, some-none, then-ok}
+use Rattle.jpeg_streams.proofs.ReadTurns.{codings-each, needed-some, ok-same, same-frame, scan-by, then-ok}
 use Rattle.jpeg_streams.proofs.SaidTables.{HasTables, IsTableOrNone, table-there}
 use Rattle.jpeg_streams.proofs.WrittenFrameScans.{no-codes, HoldsOwn, in-all}
 use Rattle.std.proofs.lemmas.Grind.{common_steps}
