@@ -109,7 +109,6 @@ pub sequential-whole : (array : Coefficients) (bytes : List ℕ) (final : Said) 
 sequential-whole array bytes final last frame w e n =
     let c = (keeps (λ said levels. Unit {0}) nothing_said final (λ k. nothing_sent) last w.after (λ now x s a b p. tt)
     (λ now x next f h data_bytes a b q p. tt) w.written tt).2 in
-    let same = same-frame c.frame frame final.frame c.is_said e in
     search rules
 
 -- ---- at a scale

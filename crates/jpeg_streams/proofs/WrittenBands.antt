@@ -100,8 +100,7 @@ band-value table al r (suc t) (suc m) u code more bits run good range nz cat cod
     let back : drop (r + 1) coefficients ≡ no_numbers k = grind (arith, drop-replicate) in
     let w = rw (sym back) at (others m (omega arith)) in
     let given : length (no_numbers r ++ u ∷ more) ≡ suc (r + k) = length-no_numbers r (u ∷ more) ∙ omega arith in
-    let numbers : (take r coefficients ++ scaled al u ∷ []) ++ map (scaled al) more
-    ≡ map (scaled al) (no_numbers r ++ u ∷ more)
+    let numbers : (take r coefficients ++ scaled al u ∷ []) ++ map (scaled al) more ≡ map (scaled al) (no_numbers r ++ u ∷ more)
     = search (rules, scaled, append_assoc, map-no_numbers) in
     let token = takes-token table al m (r + k) r (suc t) code (bits_for u (suc t)) bits (Value r u) _ good coded
     (category-small al u (suc t) range cat)
