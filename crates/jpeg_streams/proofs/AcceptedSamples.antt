@@ -13,8 +13,6 @@ use Rattle.jpeg_segments.proofs.ScaleLemmas.{factors-back}
 use Rattle.jpeg_streams.proofs.UpsampledFactors.{Upsampled, either, sources-back}
 use Rattle.jpeg_streams.proofs.Soundness.{accepted-facts, accepted-precision}
 
--- ---- frames
-
 abbrev HasCount : ℕ → Type 0
 HasCount n = (n ≡ 1) ⊎ ((n ≡ 3) ⊎ (n ≡ 4))
 

@@ -287,7 +287,7 @@ module _ (w : Said) (frame : Frame) (p : Pass) (array : Coefficients) (levels : 
 
   pub marked-one : Marked w frame array (levels_of_one p k.index levels) (set fi k.index marks)
       (with_plane k blocks marks pl)
-  marked-one = search (rules, length-set, plane-count, blocks, marks-moved, eqb_cases, plane-moved)
+  marked-one = search (rules, length-set, plane-count, marks-moved, eqb_cases, plane-moved)
 
 -- ---- all components of a scan
 
@@ -617,7 +617,7 @@ module _ (w : Said) (f : Frame) (array : Coefficients) (levels : ℕ → Levels)
   after_kept = blocks_after now f codings reads-now.arrays
 
   brought : Brought w f (pass_of s) array levels codings reads-now.arrays true after_kept fi pl
-  brought = search (rules, brings, reads-now, band-so, so, apart, done, framed)
+  brought = search (rules, brings, band-so, apart, done, framed)
 
   fresh-after : PassSo f s → is_progressive f.process ≡ false → (k : ℕ)
       → (levels_after (pass_of s) (indices_of codings) levels k).dc ≡ None

@@ -119,7 +119,7 @@ suits-cut p l c range same legal = record {
       ∙ cut-sent (suc p.al) (band_of p c.acs) (band_of p l.acs) (same-band p c.acs l.acs same) (legal.acs_sent f)
       ∙ sym (search (rules, map-map, scaled, halved-toward))
       ∙ ap (map (kept p.al)) (sym (band-map p (toward_zero p.al) c.acs));
-  range = search (rules, band-map, all-map, unsigned_abs, toward-range, all-take, all-drop);
+  range = search (rules, all-map, toward-range, all-take, all-drop);
   dc_range = floor-range p.al c.dc range.dc_low range.dc_high;
   dc_fits = floor-fits p.al c.dc legal.low range.dc_low range.dc_high;
 }

@@ -712,7 +712,7 @@ progressive-steps number h array two p range front more c levels scanned e is s 
     let ac = pass_of (scan_for OfAc number h index c) in
     let mid = levels_after dc (index ∷ []) levels in
     let unsent = s.unsent index (omega arith) in
-    let was : mid index ≡ before OfAc = search (rules, dc-after, dc, pass-is, OfDc, unsent) in (
+    let was : mid index ≡ before OfAc = search (rules, dc-after, dc, pass-is, unsent) in (
       levels_after ac (index ∷ []) mid,
       sent-more levels (levels_after ac (index ∷ []) mid) index
           (ac-after ac index mid (pass-is OfAc number h index c two) was)

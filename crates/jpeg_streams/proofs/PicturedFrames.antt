@@ -13,10 +13,6 @@ use Rattle.jpeg_streams.proofs.ReadTurns.{then-ok}
 use Rattle.jpeg_segments.proofs.ScaleLemmas.{factors-back}
 use Rattle.jpeg_streams.proofs.UpsampledFactors.{sources-some}
 
--- ---- sources
-
--- ---- frames
-
 header-sources : (number : ℕ) (h : FrameHeader) → AllByRecursion (IsUpsampled h) h.components
     → (sources : List Source) × (sources_of (frame_written number h).components (frame_written
     number h).output_width (frame_written number h).output_height ≡ Ok sources)

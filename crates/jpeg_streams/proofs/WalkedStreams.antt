@@ -183,7 +183,7 @@ module _ {Sent Brought : Type 0} {may : Said → Segment → Type 0}
   rest-begins said final sent last bytes (end said' sent' bytes' c) = subst (λ (l : List ℕ). Begins (l ++ tail))
       (sym c.closed) (marker-begins c.fill 217 EOI [] tail refl (λ turns bytes. refl))
   rest-begins said final sent last bytes (segment said' final' sent' last' fill s more stands allowed w) =
-      search (rules, marker-begins, marker_for, segment-marker, said, stands, segment-ends)
+      search (rules, marker-begins, marker_for, segment-marker, stands, segment-ends)
   rest-begins said final sent last bytes (scan said' final' sent' next last' f fill h data_bytes more framed is sends w) =
       marker-begins fill 218 SOS _ tail refl (λ turns bytes. refl)
 

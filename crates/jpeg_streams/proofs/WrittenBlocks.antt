@@ -53,7 +53,7 @@ takes-difference table d bits good small w =
     (takes-category d w.s w.category) in
     takes-as _ (code_bits table i ++ bits_for d w.s) bits d d
     (ap (λ (b : List Bool). b ++ bits_for d w.s) w.coded.has_bits ∙ w.has_bits) refl
-    (search (rules, takes-bind, nat_le, takes-symbol))
+    (search (rules, takes-bind, takes-symbol))
 
 pub difference-range : (u v : ℤ) → InDcRange u → InDcRange v → unsigned_abs (u -ℤ v) < 2 ^ 11
 difference-range u v h k = let a = h.low in let b = h.high in let c = k.low in let d = k.high in omega (arith, ints)
