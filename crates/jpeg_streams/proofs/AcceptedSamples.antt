@@ -1,10 +1,11 @@
 -- A lossless frame that is accepted has samples that a writer may emit.
-use Rattle.std.proofs.Common.{rules, arith, ◌≡◌, ◌⊎◌, ℕ, ◌≤◌, List, [], ◌∷◌, map, length, Ok}
+use Rattle.std.proofs.Common.{rules, arith, ◌≡◌, ◌⊎◌, ℕ, ◌≤◌, map, length, Ok}
 use Rattle.std.specs.Prelude.{nat_le}
 use Rattle.std.proofs.lemmas.Bool.{and_parts, eqb-true, leb-true}
 use Rattle.std.specs.List.{AllByRecursion}
 use lib.ListN.{length-map}
-use Rattle.jpeg_segments.specs.Frame.{component_of, Factors, frame_of, greatest}
+use Rattle.jpeg_bits.proofs.ReadIntervals.{all-mapped}
+use Rattle.jpeg_segments.specs.Frame.{component_of, frame_of, greatest}
 use Rattle.jpeg_segments.specs.WrittenSegments.{FrameHeader, frame_written}
 use Rattle.jpeg_streams.specs.AcceptedFrames.{HasPicture, HasSamples, IsUpsampled}
 use Rattle.jpeg_streams.specs.Segments.{accepted}
@@ -12,22 +13,12 @@ use Rattle.jpeg_segments.proofs.ScaleLemmas.{factors-back}
 use Rattle.jpeg_streams.proofs.UpsampledFactors.{Upsampled, either, sources-back}
 use Rattle.jpeg_streams.proofs.Soundness.{accepted-facts, accepted-precision}
 
--- ---- factors
-
-all-back : (P : Factors → Type 0) (width height h v : ℕ) (xs : List Factors)
-    → AllByRecursion (λ c. P c.factors) (map (component_of width height h v) xs) → AllByRecursion P xs
-unfolding component_of
-all-back P width height h v [] u = tt
-all-back P width height h v (x ∷ xs) u = (u.0, all-back P width height h v xs u.1)
-
--- ---- frames
-
 abbrev HasCount : ℕ → Type 0
 HasCount n = (n ≡ 1) ⊎ ((n ≡ 3) ⊎ (n ≡ 4))
 
 accepted-parts : (number : ℕ) (h : FrameHeader) → accepted (frame_written number h) ≡ Ok (frame_written number h)
     → HasCount (length h.components) × AllByRecursion (IsUpsampled h) h.components
-unfolding frame_of
+unfolding frame_of component_of
 accepted-parts number h ok =
     let frame = frame_written number h in
     let facts = accepted-facts frame frame ok in
@@ -37,8 +28,8 @@ accepted-parts number h ok =
     let back = factors-back h.width h.height most_h most_v h.components in
     let size : length frame.components ≡ length h.components = length-map h.components _ in (
       (search (rules, either, eqb-true)),
-      all-back (Upsampled most_h most_v h.width h.height) h.width h.height most_h most_v h.components
-          (sources-back most_h most_v h.width h.height cs facts.1.0
+      all-mapped (λ c. Upsampled most_h most_v h.width h.height c.factors) (component_of h.width h.height most_h most_v)
+          h.components (sources-back most_h most_v h.width h.height cs facts.1.0
           (search rules)),
     )
 
@@ -54,6 +45,4 @@ accepted-samples h ok =
 pub accepted-picture : (number : ℕ) (h : FrameHeader) → number ≤ 2
     → accepted (frame_written number h) ≡ Ok (frame_written number h) → HasPicture h
 unfolding frame_of
-accepted-picture number h le ok =
-    let precise = accepted-precision (frame_written number h) (frame_written number h) ok in
-    search (rules, accepted-parts, eqb-true)
+accepted-picture number h le ok = search (rules, accepted-precision, accepted-parts, eqb-true)

@@ -1,40 +1,361 @@
 -- A written stream is read as the blocks of its array, cut at the levels that were sent.
+use Rattle.std.proofs.Common.{rules, ◌≡◌, ℕ, zero, suc, Bool, true, false, List, [], ◌∷◌, ◌++◌, map, take, drop}
+use Rattle.std.proofs.Common.{replicate, length, Option, Some, None, refl, sym, ap, ◌∙◌, arith, ◌==◌, ◌≤◌}
+use Rattle.std.proofs.Common.{length-take, length-drop, ◌≢◌, ◌⊎◌, inl, inr, ◌-◌, ◌<◌, get_or, set, slice_index_or}
+use Rattle.std.proofs.Common.{length-set, get_or-set_same, get_or-set_other, ◌*◌, Ok, subst, true≢false}
+use Rattle.std.proofs.Common.{length-append}
 use Rattle.std.proofs.lemmas.Grind.{common_steps}
-use Rattle.std.proofs.Common.{rules, ◌≡◌, ◌≢◌, ◌⊎◌, inl, inr, ℕ, suc, ◌-◌, ◌*◌, ◌<◌, ◌≤◌, Bool, true, false, List}
-use Rattle.std.proofs.Common.{[], ◌∷◌, ◌++◌, length, replicate, get_or, slice_index_or, Option, Some, None, Ok, refl, sym, ap, ◌∙◌}
-use Rattle.std.proofs.Common.{subst, arith, true≢false, length-append, length-take, length-drop}
 use Rattle.std.proofs.lemmas.Bool.{eqb-true, eq-eqb, not-true}
-use Rattle.std.proofs.lemmas.List.{length-replicate}
+use Rattle.jpeg_bits.proofs.WrittenIntervals.{not-equal}
+use Rattle.jpeg_streams.proofs.CutLevels.{around-band}
 use lib.ListN.{length-map}
-use Rattle.std.specs.List.{AllByRecursion}
+use Rattle.std.specs.List.{AllByRecursion, list_all}
+use Rattle.jpeg_bits.specs.Passes.{Pass, band_of, with_band, before_band, band_size, Block, whole_pass, zero_block}
+use Rattle.jpeg_streams.specs.Levels.{Levels, IsLegal, sent_after, nothing_sent, Is8Bit}
+use Rattle.std.proofs.lemmas.List.{take-map, drop-map, get_or-map, map-append, length-replicate}
+use Rattle.jpeg_streams.specs.ScanSegments.{finished_by, with_plane, decided, Coding, put_arrays, with_arrays}
+use Rattle.jpeg_streams.specs.ScanSegments.{with_blocks, arrays_before, pass_of, is_progressive, after_scan}
+use Rattle.jpeg_streams.specs.ScanSegments.{blocks_after, scan_arrays}
+use Rattle.jpeg_streams.specs.Found.{none_finished, Found, Said}
+use Rattle.std.proofs.lemmas.Bool.Decides.{leb_tells}
+use Rattle.std.proofs.lemmas.List.Folds.{list_all_at}
+use Rattle.jpeg_segments.specs.Frame.{Frame, Component, Factors, IsInRange, frame_of}
+use Rattle.jpeg_streams.specs.Order.{grid_of}
+use Rattle.jpeg_streams.specs.Scans.{Arrays, zero_arrays}
+use Rattle.jpeg_streams.specs.Rasters.{plane_by}
+use Rattle.jpeg_streams.specs.WrittenScans.{Coefficients, levels_of_one, levels_after, IsLegalScan, WritesScan}
+use Rattle.jpeg_streams.proofs.IndicesApart.{IsAbsent, AreApart}
+use Rattle.jpeg_streams.proofs.OwnSpots.{At, at-within, at-get, Fits}
+use Rattle.jpeg_streams.proofs.WrittenFrameScans.{HoldsOwn, HasGood, SlotReady, SpotsSuit, dc_alone, one_component}
+use Rattle.jpeg_streams.proofs.WrittenFrameScans.{ReadsScan, scan-is_read, cut-nothing}
+use Rattle.jpeg_streams.proofs.Apart.{at-one, at-all, get-at}
 use Rattle.jpeg_bits.specs.Codes.{IsTable}
 use Rattle.jpeg_bits.proofs.Tables.{good-table}
 use Rattle.jpeg_bits.specs.declared.marker.Marker.{Marker}
 use Rattle.jpeg_segments.specs.declared.parser.CodingProcess.TheVariants.{Lossless}
-use Rattle.jpeg_segments.specs.Frame.{Frame, Component, Factors, IsInRange, frame_of}
 use Rattle.jpeg_segments.specs.ScanHeader.{Scan, is_progressive_band}
-use Rattle.jpeg_bits.specs.Passes.{Pass, Block, whole_pass, zero_block}
-use Rattle.jpeg_streams.specs.Order.{grid_of}
 use Rattle.jpeg_segments.specs.Scales.{frame_at}
-use Rattle.jpeg_streams.specs.Scans.{Arrays, zero_arrays}
-use Rattle.jpeg_streams.specs.ScanSegments.{arrays_before, Coding, pass_of, is_progressive}
-use Rattle.jpeg_streams.specs.ScanSegments.{after_scan, blocks_after}
-use Rattle.jpeg_streams.specs.ScanSegments.{put_arrays, scan_arrays}
-use Rattle.jpeg_streams.specs.Found.{none_finished, Found, Said}
-use Rattle.jpeg_streams.specs.Levels.{Levels, Is8Bit, IsLegal, sent_after, nothing_sent}
-use Rattle.jpeg_streams.specs.WrittenScans.{Coefficients, levels_of_one, levels_after, IsLegalScan, WritesScan}
-use Rattle.jpeg_streams.proofs.IndicesApart.{AreApart}
-use Rattle.jpeg_bits.specs.Written.{marker}
-use Rattle.jpeg_bits.specs.Written.{IsMarker}
-use Rattle.jpeg_streams.proofs.FinishedMarks.{IsBand, marks-start}
-use Rattle.jpeg_streams.proofs.OwnSpots.{At, at-get, Fits}
-use Rattle.jpeg_streams.proofs.WrittenFrameScans.{HoldsOwn, HasGood, SlotReady, SpotsSuit, dc_alone, one_component}
-use Rattle.jpeg_streams.proofs.WrittenFrameScans.{ReadsScan, scan-is_read, cut-nothing}
-use Rattle.jpeg_streams.proofs.Apart.{at-all, get-at}
-use Rattle.jpeg_streams.proofs.ReadStates.{reading, Marked, AllDone, indices_of, Brought, brings}
-use Rattle.jpeg_streams.proofs.ReadStates.{AllKept, blocks-after}
+use Rattle.jpeg_bits.specs.Written.{marker, IsMarker}
 use Rattle.jpeg_streams.proofs.ReadTurns.{codings-each, codings-indices}
 use Rattle.jpeg_streams.proofs.UpsampledFactors.{either as either-true}
+
+-- ---- finished places
+
+-- The places that scans have finished, of any stream.
+pub record Finished : Type 0 where
+  pub dc : Bool
+  pub acs : List Bool
+
+-- A scan with al = 0 finishes its band.
+abbrev pub finish : Pass → Finished → Finished
+finish p f = elim (p.al == 0) as (λ _. Finished) [
+  | true ↦ record {
+    dc = elim (p.ss == 0) as (λ _. Bool) [ true ↦ true | false ↦ f.dc ];
+    acs = with_band p f.acs (replicate (length (band_of p f.acs)) true);
+  }
+  | false ↦ f
+]
+
+abbrev pub is_level_0 : Option ℕ → Bool
+is_level_0 None = false
+is_level_0 (Some zero) = true
+is_level_0 (Some (suc a)) = false
+
+-- The places at level 0.
+abbrev pub at_level_0 : Levels → Finished
+at_level_0 l = record { dc = is_level_0 l.dc; acs = map is_level_0 l.acs }
+
+-- ---- laws
+
+pub map-replicate : (n : ℕ) (a : Option ℕ) → map is_level_0 (replicate n a) ≡ replicate n (is_level_0 a)
+map-replicate zero a = refl
+map-replicate (suc n) a = ap (λ (l : List Bool). is_level_0 a ∷ l) (map-replicate n a)
+
+pub map-band : (p : Pass) (ls : List (Option ℕ)) → map is_level_0 (band_of p ls) ≡ band_of p (map is_level_0 ls)
+map-band p ls = search (rules, take-map, drop-map)
+
+not-done : (a : Option ℕ) → is_level_0 a ≡ false → (ls : List (Option ℕ)) → AllByRecursion (λ x. x ≡ a) ls
+    → map is_level_0 ls ≡ replicate (length ls) false
+not-done a h [] all = refl
+not-done a h (l ∷ ls) all = search (rules, not-done a h ls all.1)
+
+pub finish-no : (p : Pass) (f : Finished) (a : ℕ) → p.al ≡ suc a → finish p f ≡ f
+finish-no p f a e = rw (not-equal p.al 0 (λ g. absurd (omega arith)), finish) refl
+
+levels-acs : (p : Pass) (l : Levels) → map is_level_0 (sent_after p l).acs
+    ≡ with_band p (map is_level_0 l.acs)
+    (replicate (length (band_of p (map is_level_0 l.acs))) (is_level_0 (Some p.al)))
+levels-acs p l =
+    grind (arith, common_steps, map-band, map-append, take-map, drop-map, map-replicate)
+
+-- the band of a legal scan isn't finished
+band-open : (p : Pass) (l : Levels) → IsLegal p l → (f : Bool) → p.is_first ≡ f
+    → band_of p (map is_level_0 l.acs) ≡ replicate (length (band_of p (map is_level_0 l.acs))) false
+band-open p l legal f k =
+    let n = length (band_of p l.acs) in
+    let size = sym (ap length (sym (map-band p l.acs)) ∙ length-map (band_of p l.acs) is_level_0) in
+    sym (map-band p l.acs) ∙ open_band f k ∙ ap (λ (j : ℕ). replicate j false) size
+  where
+    open_band : (f : Bool) → p.is_first ≡ f
+        → map is_level_0 (band_of p l.acs) ≡ replicate (length (band_of p l.acs)) false
+    open_band true k = not-done None refl (band_of p l.acs) (legal.acs_unsent k)
+    open_band false k = not-done (Some (suc p.al)) refl (band_of p l.acs) (legal.acs_sent k)
+
+pub dc-open : (p : Pass) (l : Levels) → IsLegal p l → p.ss ≡ 0 → (f : Bool) → p.is_first ≡ f → is_level_0 l.dc ≡ false
+dc-open p l legal e true k = ap is_level_0 (legal.dc_unsent e k)
+dc-open p l legal e false k = ap is_level_0 (legal.dc_sent e k)
+
+pub finish-legal : (p : Pass) (l : Levels) → IsLegal p l → finish p (at_level_0 l) ≡ at_level_0 (sent_after p l)
+finish-legal p l legal = search (rules, eq-eqb, levels-acs, finish-no, band-open, around-band, dc-open, eqb-true)
+
+-- ---- the marks of finished places are the levels that are 0
+
+-- the marks of a block at these levels
+abbrev pub marks_of : Levels → List Bool
+marks_of l = is_level_0 l.dc ∷ map is_level_0 l.acs
+
+-- the band of a pass is within the block, and is not empty
+pub record IsBand (p : Pass) : Type 0 where
+  pub rising : p.ss ≤ p.se
+  pub within : p.se ≤ 63
+
+abbrev pub marks_listed : Finished → List Bool
+marks_listed f = f.dc ∷ f.acs
+
+pub finished-listed : (p : Pass) (f : Finished) → IsBand p → length f.acs ≡ 63
+    → finished_by p (marks_listed f) ≡ marks_listed (finish p f)
+unfolding finished_by
+finished-listed p f band h = grind (arith, length-take, length-drop)
+
+pub marks-after : (p : Pass) (l : Levels) → IsLegal p l → IsBand p → length l.acs ≡ 63
+    → finished_by p (marks_of l) ≡ marks_of (sent_after p l)
+marks-after p l legal band h =
+    finished-listed p (at_level_0 l) band (length-map l.acs is_level_0 ∙ h) ∙ ap marks_listed (finish-legal p l legal)
+
+pub marks-start : none_finished ≡ marks_of nothing_sent
+marks-start = refl
+
+-- ---- what a decoder holds after the scans of a written stream
+
+-- what was said, with what scans have brought
+abbrev pub reading : Said → Bool → Arrays → List (List Bool) → List (Option (List ℕ)) → Found
+reading w s h fi pl = record {
+  said = record w { scanned = s };
+  kept = h;
+  finished = fi;
+  planes = pl;
+  samples = replicate 4 None;
+}
+
+abbrev pub is_whole : Levels → Bool
+is_whole l = list_all (λ mark. mark) (marks_of l)
+
+-- the plane of a component is decided, of its own blocks
+pub record HasPlane (w : Said) (array : Coefficients) (l : Levels) (pl : List (Option (List ℕ))) (k : ℕ)
+    (c : Component) : Type 0 where
+  pub table : List ℕ
+  pub is_table : slice_index_or w.quantization c.factors.quantization None ≡ Some table
+  pub blocks : List Block
+  pub holds : HoldsOwn (grid_of c) (array k) l blocks
+  pub plane : slice_index_or pl k None ≡ Some (plane_by c table blocks)
+
+pub record PlaneSo (w : Said) (array : Coefficients) (l : Levels) (pl : List (Option (List ℕ))) (k : ℕ)
+    (c : Component) : Type 0 where
+  pub decided : is_whole l ≡ true → HasPlane w array l pl k c
+  pub undecided : is_whole l ≡ false → slice_index_or pl k None ≡ None
+
+-- the marks and the planes are those of the levels
+pub record Marked (w : Said) (frame : Frame) (array : Coefficients) (levels : ℕ → Levels) (fi : List (List Bool))
+    (pl : List (Option (List ℕ))) : Type 0 where
+  pub fi_count : length fi ≡ 4
+  pub pl_count : length pl ≡ 4
+  pub marks : (k : ℕ) (c : Component) → At k frame.components c
+      → slice_index_or fi k none_finished ≡ marks_of (levels k)
+  pub planes : (k : ℕ) (c : Component) → At k frame.components c → PlaneSo w array (levels k) pl k c
+
+-- ---- numbers and lists
+
+pub eqb_cases : (a b : ℕ) → (a ≡ b) ⊎ (a ≢ b)
+eqb_cases a b = search (rules, leb_tells)
+
+pub first-of_band : {A : Type 0} (Q : A → Type 0) (d : A) (b n : ℕ) (xs : List A)
+    → AllByRecursion Q (take (suc n) (drop b xs)) → b < length xs → Q (get_or xs b d)
+first-of_band Q d (suc b) n (x ∷ xs) h lt = first-of_band Q d b n xs h (omega arith)
+first-of_band Q d b n xs h lt = search rules
+
+-- ---- levels
+
+pub one-same : (p : Pass) (index : ℕ) (levels : ℕ → Levels)
+    → levels_of_one p index levels index ≡ sent_after p (levels index)
+one-same p index levels = rw (eq-eqb index index refl, levels_of_one) refl
+
+pub one-other : (p : Pass) (index k : ℕ) (levels : ℕ → Levels) → k ≢ index → levels_of_one p index
+    levels k ≡ levels k
+one-other p index k levels n = rw (not-equal k index n, levels_of_one) refl
+
+-- a legal scan finds something that isn't finished
+pub legal-open : (p : Pass) (l : Levels) → IsLegal p l → IsBand p → length l.acs ≡ 63 → is_whole l ≡ false
+legal-open p l legal band h = go p.ss refl
+  where
+    first_at : (b : ℕ) → p.ss ≡ suc b → (v : Option ℕ) → is_level_0 v ≡ false
+        → AllByRecursion (λ x. x ≡ v) (band_of p l.acs) → is_level_0 (get_or l.acs b None) ≡ false
+    first_at b e v unfinished all =
+        let n : band_size p ≡ suc (p.se - p.ss) = let r = band.rising in omega arith in
+        let s : before_band p ≡ b = omega arith in
+        let here : AllByRecursion (λ x. x ≡ v) (take (suc (p.se - p.ss)) (drop b l.acs)) = search rules in
+        ap is_level_0 (first-of_band (λ x. x ≡ v) None b (p.se - p.ss) l.acs here
+        (let r = band.rising in let t = band.within in omega arith)) ∙ unfinished
+
+    first_open : (b : ℕ) → p.ss ≡ suc b → (f : Bool) → p.is_first ≡ f → is_level_0 (get_or l.acs b None) ≡ false
+    first_open b e true f = first_at b e None refl (legal.acs_unsent f)
+    first_open b e false f = first_at b e (Some (suc p.al)) refl (legal.acs_sent f)
+
+    go : (n : ℕ) → p.ss ≡ n → is_whole l ≡ false
+    go zero e = search (rules, list_all_at, dc-open)
+    go (suc b) e =
+        let within : b < length l.acs = let r = band.rising in let t = band.within in omega arith in
+        let count = length-map l.acs is_level_0 in
+        list_all_at (λ (mark : Bool). mark) (marks_of l) (suc b) true (omega arith)
+        (get_or-map is_level_0 l.acs b None true within ∙ first_open b e p.is_first refl)
+
+-- ---- one component of a scan
+
+-- a component of the scan, and its blocks after it
+pub record CodingDone (w : Said) (frame : Frame) (p : Pass) (array : Coefficients) (levels : ℕ → Levels) (k : Coding)
+    (blocks : List Block) : Type 0 where
+  pub at : At k.index frame.components k.component
+  pub table : slice_index_or w.quantization k.component.factors.quantization None ≡ Some k.quantization
+  pub legal : IsLegal p (levels k.index)
+  pub sized : length (levels k.index).acs ≡ 63
+  pub holds : HoldsOwn (grid_of k.component) (array k.index) (sent_after p (levels k.index)) blocks
+
+plane-yes : (k : Coding) (blocks : List Block) (marks : List Bool) (pl : List (Option (List ℕ)))
+    → list_all (λ mark. mark) marks ≡ true → with_plane k blocks marks pl ≡ set pl k.index
+    (decided (slice_index_or pl k.index None) (plane_by k.component k.quantization blocks))
+unfolding with_plane
+plane-yes k blocks marks pl e = rw (e, with_plane) refl
+
+plane-no : (k : Coding) (blocks : List Block) (marks : List Bool) (pl : List (Option (List ℕ)))
+    → list_all (λ mark. mark) marks ≡ false → with_plane k blocks marks pl ≡ pl
+unfolding with_plane
+plane-no k blocks marks pl e = rw (e, with_plane) refl
+
+plane-count : (k : Coding) (blocks : List Block) (marks : List Bool) (pl : List (Option (List ℕ)))
+    → length (with_plane k blocks marks pl) ≡ length pl
+plane-count k blocks marks pl = search (rules, plane-yes, length-set, plane-no)
+
+plane-other : (k : Coding) (blocks : List Block) (marks : List Bool) (pl : List (Option (List ℕ)))
+    (j : ℕ) → j ≢ k.index
+    → slice_index_or (with_plane k blocks marks pl) j None ≡ slice_index_or pl j None
+plane-other k blocks marks pl j n = search (rules, plane-yes, get_or-set_other, plane-no)
+
+module _ (w : Said) (frame : Frame) (p : Pass) (array : Coefficients) (levels : ℕ → Levels) (k : Coding)
+    (blocks : List Block) (fi : List (List Bool)) (pl : List (Option (List ℕ)))
+    (few : length frame.components ≤ 4) (band : IsBand p) (done : CodingDone w frame p array levels k blocks)
+    (before : Marked w frame array levels fi pl) where
+  abbrev marks : List Bool
+  marks = finished_by p (slice_index_or fi k.index none_finished)
+
+  abbrev next : Levels
+  next = sent_after p (levels k.index)
+
+  marks-are : marks ≡ marks_of next
+  marks-are = grind (arith, common_steps, marks-after)
+
+  was-open : is_whole (levels k.index) ≡ false
+  was-open = legal-open p (levels k.index) done.legal band done.sized
+
+  was-none : slice_index_or pl k.index None ≡ None
+  was-none = (before.planes k.index k.component done.at).undecided was-open
+
+  index-in : k.index < 4
+  index-in = let h = at-within k.index frame.components k.component done.at in omega arith
+
+  plane-own : PlaneSo w array next (with_plane k blocks marks pl) k.index k.component
+  plane-own = search (rules, plane-yes, marks-are, get_or-set_same, index-in, was-none, plane-no)
+
+  plane-moved : (j : ℕ) (c : Component) → At j frame.components c → (j ≡ k.index) ⊎ (j ≢ k.index)
+      → PlaneSo w array (levels_of_one p k.index levels j) (with_plane k blocks marks pl) j c
+  plane-moved j c h (inl e) = grind (arith, common_steps, at-one, one-same, plane-own)
+  plane-moved j c h (inr n) = grind (arith, common_steps, plane-other, one-other)
+
+  marks-moved : (j : ℕ) (c : Component) → At j frame.components c → (j ≡ k.index) ⊎ (j ≢ k.index)
+      → slice_index_or (set fi k.index marks) j none_finished ≡ marks_of (levels_of_one p k.index
+      levels j)
+  marks-moved j c h (inl e) = search (rules, get_or-set_same, index-in, marks-are, one-same)
+  marks-moved j c h (inr n) = grind (arith, common_steps, get_or-set_other, one-other)
+
+  pub marked-one : Marked w frame array (levels_of_one p k.index levels) (set fi k.index marks)
+      (with_plane k blocks marks pl)
+  marked-one = search (rules, length-set, plane-count, marks-moved, eqb_cases, plane-moved)
+
+-- ---- all components of a scan
+
+abbrev pub AllDone : Said → Frame → Pass → Coefficients → (ℕ → Levels) → List Coding → Arrays → Type 0
+AllDone w frame p array levels [] [] = Unit {0}
+AllDone w frame p array levels [] (b ∷ arrays) = ⊥
+AllDone w frame p array levels (k ∷ codings) [] = ⊥
+AllDone w frame p array levels (k ∷ codings) (b ∷ arrays) = CodingDone w frame p array levels k b
+    × AllDone w frame p array levels codings arrays
+
+abbrev pub indices_of : List Coding → List ℕ
+indices_of codings = map (λ c. c.index) codings
+
+-- the others are as they were
+pub done-others : (w : Said) (frame : Frame) (p : Pass) (array : Coefficients) (levels : ℕ → Levels)
+    (index : ℕ) (codings : List Coding) (arrays : Arrays) → IsAbsent index (indices_of codings)
+    → AllDone w frame p array levels codings arrays → AllDone w frame p array
+    (levels_of_one p index levels) codings arrays
+done-others w frame p array levels index (k ∷ codings) (b ∷ arrays) apart h =
+    search (rules, one-other, done-others w frame p array levels index codings arrays apart.1 h.1)
+done-others w frame p array levels index codings arrays apart h = search rules
+
+-- What scans have brought, after the components of one.
+pub record Brought (w : Said) (frame : Frame) (p : Pass) (array : Coefficients) (levels : ℕ → Levels)
+    (codings : List Coding) (arrays : Arrays) (s : Bool) (h : Arrays)
+    (fi : List (List Bool)) (pl : List (Option (List ℕ))) : Type 0 where
+  pub finished : List (List Bool)
+  pub planes : List (Option (List ℕ))
+  pub is : with_arrays p codings arrays (reading w s h fi pl) ≡ reading w s h finished planes
+  pub marked : Marked w frame array (levels_after p (indices_of codings) levels) finished planes
+
+pub brings : (w : Said) (frame : Frame) (p : Pass) (array : Coefficients) (levels : ℕ → Levels)
+    (codings : List Coding) (arrays : Arrays) (s : Bool) (h : Arrays) (fi : List (List Bool))
+    (pl : List (Option (List ℕ))) → length frame.components ≤ 4 → IsBand p
+    → AreApart (indices_of codings) → AllDone w frame p array levels codings arrays
+    → Marked w frame array levels fi pl → Brought w frame p array levels codings arrays s h fi pl
+unfolding levels_after with_arrays with_blocks
+brings w frame p array levels [] [] s h fi pl few band apart done before = search rules
+brings w frame p array levels (k ∷ codings) (b ∷ arrays) s h fi pl few band apart done before =
+    let marks = finished_by p (slice_index_or fi k.index none_finished) in
+    let more = brings w frame p array (levels_of_one p k.index levels) codings arrays s h (set fi
+    k.index marks)
+    (with_plane k b marks pl) few band apart.1
+    (done-others w frame p array levels k.index codings arrays apart.0 done.1)
+    (marked-one w frame p array levels k b fi pl few band done.0 before) in
+    search rules
+brings w frame p array levels codings arrays s h fi pl few band apart done before = absurd done
+
+-- ---- held between scans
+
+pub record AllKept (frame : Frame) (array : Coefficients) (levels : ℕ → Levels) (arrays : Arrays) :
+    Type 0 where
+  pub count : length arrays ≡ length frame.components
+  pub each : (k : ℕ) (c : Component) → At k frame.components c
+      → HoldsOwn (grid_of c) (array k) (levels k) (get_or arrays k [])
+
+pub blocks-after : (w : Said) (frame : Frame) (p : Pass) (array : Coefficients)
+    (levels : ℕ → Levels) (codings : List Coding) (arrays kept : Arrays)
+    → AreApart (indices_of codings) → AllDone w frame p array levels codings arrays
+    → AllKept frame array levels kept → AllKept frame array
+    (levels_after p (indices_of codings) levels) (put_arrays codings arrays kept)
+unfolding levels_after put_arrays
+blocks-after w frame p array levels (k ∷ codings) (b ∷ arrays) kept apart done before =
+    blocks-after w frame p array (levels_of_one p k.index levels) codings arrays (set kept k.index
+    b) apart.1
+    (done-others w frame p array levels k.index codings arrays apart.0 done.1)
+    (search (rules, length-set, eqb_cases, at-one, at-within, one-same, get_or-set_same, one-other, get_or-set_other))
+blocks-after w frame p array levels codings arrays kept apart n before = search rules
 
 -- ---- what a scan header says
 
@@ -116,35 +437,26 @@ framed-start w f array h fi pl range e g = record {
   kept = λ d. subst (AllKept f array (λ k. nothing_sent)) (sym (search rules))
       (record {
         count = length-map f.components _;
-        each = λ k c t. subst (HoldsOwn (grid_of c) (array k) nothing_sent) (sym (zero-at f.components k c t))
-            (zero-holds (array k) c (range k));
+        each = λ k c t. rw (sym (zero-at f.components k c t)) at (zero-holds (array k) c (range k));
       });
   fresh = λ d k n. refl;
 }
 
 -- ---- levels
 
-pub after-length : (p : Pass) (indices : List ℕ) (levels : ℕ → Levels) → ((j : ℕ) → length (levels
-    j).acs ≡ 63)
-    → (k : ℕ) → length (levels_after p indices levels k).acs ≡ 63
+pub after-length : (p : Pass) (indices : List ℕ) (levels : ℕ → Levels)
+    → ((j : ℕ) → length (levels j).acs ≡ 63) → (k : ℕ) → length (levels_after p indices levels k).acs ≡ 63
 unfolding levels_after
 after-length p [] levels h k = h k
-after-length p (q ∷ indices) levels h k =
-    after-length p indices (levels_of_one p q levels) (λ j. (search (
-      rules,
-      length-take,
-      length-drop,
-      length-replicate,
-      length-append,
-    ))) k
+after-length p (q ∷ indices) levels h k = after-length p indices (levels_of_one p q levels)
+    (λ j. search (rules, length-take, length-drop, length-replicate, length-append)) k
 
 some-none : (a : ℕ) → ◌≡◌ {A = Option ℕ} (Some a) None → ⊥
 some-none a e = cc
 
 pub after-fresh : (p : Pass) (indices : List ℕ) (levels : ℕ → Levels) → p ≡ whole_pass
-    → ((j : ℕ) → (levels j).dc ≡ None → levels j ≡ nothing_sent)
-    → (k : ℕ) → (levels_after p indices levels k).dc ≡ None → levels_after p indices levels k ≡
-    nothing_sent
+    → ((j : ℕ) → (levels j).dc ≡ None → levels j ≡ nothing_sent) → (k : ℕ)
+    → (levels_after p indices levels k).dc ≡ None → levels_after p indices levels k ≡ nothing_sent
 unfolding levels_after
 after-fresh p [] levels e h k n = h k n
 after-fresh p (q ∷ indices) levels e h k n =
@@ -182,9 +494,8 @@ sequential-arrays : (found : Found) (f : Frame) → is_progressive f.process ≡
 unfolding arrays_before
 sequential-arrays found f e = rw (e, arrays_before) refl
 
-pub kept-arrays : (w : Said) (h : Arrays) (fi : List (List Bool)) (pl : List (Option (List ℕ))) (f
-    : Frame)
-    → is_progressive f.process ≡ true → arrays_before (reading w true h fi pl) f ≡ h
+pub kept-arrays : (w : Said) (h : Arrays) (fi : List (List Bool)) (pl : List (Option (List ℕ)))
+    (f : Frame) → is_progressive f.process ≡ true → arrays_before (reading w true h fi pl) f ≡ h
 unfolding arrays_before
 kept-arrays w h fi pl f e = rw (e, arrays_before) refl
 
@@ -198,12 +509,11 @@ record CodingFacts (w : Said) (frame : Frame) (k : Coding) : Type 0 where
   at : At k.index frame.components k.component
   table : slice_index_or w.quantization k.component.factors.quantization None ≡ Some k.quantization
 
-all-done : (w : Said) (f : Frame) (p : Pass) (array : Coefficients) (levels : ℕ → Levels) (codings : List Coding)
-    (arrays : Arrays) → length arrays ≡ length codings → ((k : Coding) (j : ℕ) → At j codings k
-    → HoldsOwn (grid_of k.component) (array k.index) (sent_after p (levels k.index)) (get_or arrays j
-    []))
-    → AllByRecursion (CodingFacts w f) codings → AllByRecursion (λ c. IsLegal p (levels c.index))
-    codings
+all-done : (w : Said) (f : Frame) (p : Pass) (array : Coefficients) (levels : ℕ → Levels)
+    (codings : List Coding) (arrays : Arrays) → length arrays ≡ length codings
+    → ((k : Coding) (j : ℕ) → At j codings k → HoldsOwn (grid_of k.component) (array k.index)
+    (sent_after p (levels k.index)) (get_or arrays j [])) → AllByRecursion (CodingFacts w f) codings
+    → AllByRecursion (λ c. IsLegal p (levels c.index)) codings
     → ((k : ℕ) → length (levels k).acs ≡ 63) → AllDone w f p array levels codings arrays
 all-done w f p array levels [] [] n holds facts legal sized = tt
 all-done w f p array levels (k ∷ codings) (b ∷ arrays) n holds facts legal sized = (
@@ -220,13 +530,12 @@ all-done w f p array levels (k ∷ codings) (b ∷ arrays) n holds facts legal s
 all-done w f p array levels codings arrays n holds facts legal sized = absurd (omega arith)
 
 -- the components of the scan are ready, where their blocks are held
-all-ready : (w : Said) (f : Frame) (p : Pass) (array : Coefficients) (levels : ℕ → Levels) (before : Arrays)
-    (codings : List Coding) → Shaped f
+all-ready : (w : Said) (f : Frame) (p : Pass) (array : Coefficients) (levels : ℕ → Levels)
+    (before : Arrays) (codings : List Coding) → Shaped f
     → ((k : Coding) → CodingFacts w f k → IsLegal p (levels k.index)
     → HoldsOwn (grid_of k.component) (array k.index) (levels k.index) (get_or before k.index []))
-    → AllByRecursion (CodingFacts w f) codings → AllByRecursion (λ c. IsLegal p (levels c.index))
-    codings
-    → ((k : ℕ) → length (levels k).acs ≡ 63)
+    → AllByRecursion (CodingFacts w f) codings → AllByRecursion
+    (λ c. IsLegal p (levels c.index)) codings → ((k : ℕ) → length (levels k).acs ≡ 63)
     → AllByRecursion (SlotReady f p array levels before) codings
 all-ready w f p array levels before [] shape holds facts legal sized = tt
 all-ready w f p array levels before (k ∷ codings) shape holds facts legal sized =
@@ -277,24 +586,15 @@ module _ (w : Said) (f : Frame) (array : Coefficients) (levels : ℕ → Levels)
   so = rules.so
 
   low : (pass_of s).al ≤ 7
-  low = let k = some-first codings (let n = count in let r = rules.some in omega arith) in
-      (at-all (λ (c : Coding). IsLegal (pass_of s) (levels c.index)) 0 codings k.0 legal.legal
-      k.1).low
+  low = grind (arith, common_steps, some-first, count, at-all, legal)
 
   holds-now : PassSo f s → (k : Coding) → CodingFacts w f k → IsLegal (pass_of s) (levels k.index)
       → HoldsOwn (grid_of k.component) (array k.index) (levels k.index) (get_or (arrays_before now f)
       k.index [])
   holds-now (sequential e q) k fact l =
-      let none : levels k.index ≡ nothing_sent =
-      framed.fresh e k.index (l.dc_unsent (ap (λ (p : Pass). p.ss) q) (ap (λ (p : Pass). p.is_first)
-      q)) in
-      subst (λ (a : Arrays). HoldsOwn (grid_of k.component) (array k.index) (levels k.index) (get_or a
-      k.index []))
-      (sym (sequential-arrays now f e))
-      (subst (λ (x : Levels). HoldsOwn (grid_of k.component) (array k.index) x
-      (get_or (zero_arrays f.components) k.index [])) (sym none)
-      (subst (HoldsOwn (grid_of k.component) (array k.index) nothing_sent)
-      (sym (zero-at f.components k.index k.component fact.at))
+      let none : levels k.index ≡ nothing_sent = grind arith in
+      rw (sequential-arrays now f e)
+      (rw none (rw (zero-at f.components k.index k.component fact.at)
       (zero-holds (array k.index) k.component (range k.index))))
   holds-now (progressive e d a lt le) k fact l = (framed.kept e).each k.index k.component fact.at
 
@@ -311,30 +611,24 @@ module _ (w : Said) (f : Frame) (array : Coefficients) (levels : ℕ → Levels)
       (suit-now so) (all-good codings exist) written
 
   done : AllDone w f (pass_of s) array levels codings reads-now.arrays
-  done = all-done w f (pass_of s) array levels codings reads-now.arrays reads-now.count reads-now.holds facts
-      legal.legal framed.sized
+  done = grind (arith, common_steps, all-done, reads-now, facts, legal, framed)
 
   abbrev after_kept : Arrays
   after_kept = blocks_after now f codings reads-now.arrays
 
   brought : Brought w f (pass_of s) array levels codings reads-now.arrays true after_kept fi pl
-  brought = brings w f (pass_of s) array levels codings reads-now.arrays true after_kept fi pl
-      shape.few
-      (band-so f s so) apart done framed.marked
+  brought = search (rules, brings, band-so, apart, done, framed)
 
   fresh-after : PassSo f s → is_progressive f.process ≡ false → (k : ℕ)
       → (levels_after (pass_of s) (indices_of codings) levels k).dc ≡ None
       → levels_after (pass_of s) (indices_of codings) levels k ≡ nothing_sent
-  fresh-after (sequential e q) g = after-fresh (pass_of s) (indices_of codings) levels q
-      (framed.fresh e)
+  fresh-after (sequential e q) g = grind (arith, common_steps, after-fresh, framed)
   fresh-after (progressive e d a lt le) g = absurd (true≢false (sym e ∙ g))
 
   kept-now : is_progressive f.process ≡ true
       → AllKept f array (levels_after (pass_of s) (indices_of codings) levels)
       (arrays_before (reading w true after_kept brought.finished brought.planes) f)
-  kept-now e = subst (AllKept f array (levels_after (pass_of s) (indices_of codings) levels))
-      (sym (kept-arrays w after_kept brought.finished brought.planes f e
-      ∙ blocks-after_is now f codings reads-now.arrays e))
+  kept-now e = rw (sym (kept-arrays w after_kept brought.finished brought.planes f e ∙ blocks-after_is now f codings reads-now.arrays e)) at
       (blocks-after w f (pass_of s) array levels codings reads-now.arrays (arrays_before now f)
       apart done
       (framed.kept e))

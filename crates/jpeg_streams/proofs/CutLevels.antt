@@ -1,9 +1,8 @@
 -- A legal scan takes the blocks at its levels to the blocks at the levels after it.
 use Rattle.std.proofs.lemmas.Grind.{common_steps}
-use Rattle.std.proofs.Common.{rules, ◌≡◌, ℕ, suc, ◌+◌, ◌/◌, ◌^◌, ◌≤◌, List, [], ◌∷◌, ◌++◌, map}
-use Rattle.std.proofs.Common.{take, drop, replicate, length, ℤ, pos, negsuc, neg_ℤ, ◌≤ℤ◌, unsigned_abs, Option, Some}
-use Rattle.std.proofs.Common.{None, refl, sym, ap, ap₂, ◌∙◌, arith, pow_mono, length-take, length-drop, drop-drop}
-use Rattle.std.proofs.Common.{take-append-drop}
+use Rattle.std.proofs.Common.{rules, ◌≡◌, ℕ, suc, ◌+◌, ◌/◌, ◌^◌, ◌≤◌, List, [], ◌∷◌, ◌++◌, map, take, drop, replicate}
+use Rattle.std.proofs.Common.{length, ℤ, pos, negsuc, neg_ℤ, ◌≤ℤ◌, unsigned_abs, Option, Some, None, refl, sym, ap}
+use Rattle.std.proofs.Common.{ap₂, ◌∙◌, arith, pow_mono, length-take, length-drop, drop-drop, take-append-drop}
 use Rattle.std.proofs.lemmas.List.{length-replicate, take-map, drop-map}
 use Rattle.std.proofs.Math.Nat.{div-le_self, div-mul-le_self, add-mul, one-mul}
 use lib.Pow.{shr-shr}
@@ -16,8 +15,7 @@ use Rattle.jpeg_bits.specs.Passes.{Pass, Block, band_of, with_band, before_band,
 use Rattle.jpeg_streams.specs.Levels.{floor_at, toward_zero, numbers_at, Levels, cut_by, cut_acs, cut, IsLegal}
 use Rattle.jpeg_streams.specs.Levels.{sent_after, Is8Bit}
 use Rattle.jpeg_streams.specs.WrittenData.{no_numbers}
-use Rattle.jpeg_streams.proofs.SentBlocks.{halved, scaled, kept, InRange, InDcRange, Suits}
-use Rattle.jpeg_streams.proofs.SentBlocks.{after_pass, floor_half}
+use Rattle.jpeg_streams.proofs.SentBlocks.{halved, scaled, kept, InRange, InDcRange, Suits, after_pass, floor_half}
 use Rattle.jpeg_streams.proofs.WrittenBands.{abs-scaled, mag-le}
 use Rattle.jpeg_streams.proofs.WrittenBlocks.{dc-refined}
 
@@ -102,9 +100,9 @@ pub same-band : (p : Pass) (cs : List ℤ) (ls : List (Option ℕ)) → length c
 same-band p cs ls h = search (rules, same-take, length-drop)
 
 -- a list is what stands before a band, the band, and what stands after it
-pub around-band : (p : Pass) (cs : List ℤ) → with_band p cs (band_of p cs) ≡ cs
+pub around-band : {A : Type 0} (p : Pass) (cs : List A) → with_band p cs (band_of p cs) ≡ cs
 around-band p cs = (search (rules, drop-drop))
-    ∙ ap (λ (l : List ℤ). take (before_band p) cs ++ l) (take-append-drop (band_size p) (drop (before_band p) cs))
+    ∙ ap (λ l. take (before_band p) cs ++ l) (take-append-drop (band_size p) (drop (before_band p) cs))
     ∙ take-append-drop (before_band p) cs
 
 pub all-same : (a : Option ℕ) (n : ℕ) → AllByRecursion (λ x. x ≡ a) (replicate n a)
@@ -121,7 +119,7 @@ suits-cut p l c range same legal = record {
       ∙ cut-sent (suc p.al) (band_of p c.acs) (band_of p l.acs) (same-band p c.acs l.acs same) (legal.acs_sent f)
       ∙ sym (search (rules, map-map, scaled, halved-toward))
       ∙ ap (map (kept p.al)) (sym (band-map p (toward_zero p.al) c.acs));
-  range = search (rules, band-map, all-map, unsigned_abs, toward-range, all-take, all-drop);
+  range = search (rules, all-map, toward-range, all-take, all-drop);
   dc_range = floor-range p.al c.dc range.dc_low range.dc_high;
   dc_fits = floor-fits p.al c.dc legal.low range.dc_low range.dc_high;
 }
@@ -134,8 +132,7 @@ acs-after p l c same =
     let s = band_size p in
     let count = length (band_of p l.acs) in
     let now = replicate count (Some p.al) in
-    let sizes : length (band_of p c.acs) ≡ length now = same-band p c.acs l.acs same
-    ∙ sym (length-replicate count (Some p.al)) in
+    let sizes = same-band p c.acs l.acs same ∙ sym (length-replicate count (Some p.al)) in
     let band : map (scaled p.al) (band_of p (map (toward_zero p.al) c.acs)) ≡ cut_acs (band_of p c.acs) now
     = ap (map (scaled p.al)) (band-map p (toward_zero p.al) c.acs)
     ∙ map-map (toward_zero p.al) (scaled p.al) (λ x. scaled p.al (toward_zero p.al x)) (λ x. refl) (band_of p c.acs)

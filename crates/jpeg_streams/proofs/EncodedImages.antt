@@ -1,52 +1,329 @@
 -- Every image has a stream: for each component a scan, or in a progressive frame a scan of DC and one of AC.
-use Rattle.std.proofs.Math.Logic.{⊎_elim}
-use Rattle.std.proofs.Common.{rules, ◌≡◌, ◌≢◌, ℕ, zero, suc, ◌+◌, ◌/◌, ◌%◌, ◌<◌, ◌≤◌, ◌==◌}
-use Rattle.std.proofs.Common.{not, Bool, true, false, List, [], ◌∷◌, ◌++◌, map, length, replicate, flat_map, ℤ}
-use Rattle.std.proofs.Common.{Some, None, Ok, refl, sym, ap, ap₂, ◌∙◌, subst, append_assoc, length-append, arith}
-use Rattle.std.proofs.Common.{leb-true}
-use Rattle.std.proofs.lemmas.Grind.{common_steps}
+use Rattle.std.proofs.Common.{rules, false, replicate, length, get_or, negsuc, unsigned_abs, subst, append_assoc}
+use Rattle.std.proofs.Common.{arith, ◌≡◌, ◌≢◌, ◌⊎◌, inl, inr, zero, suc, ◌==◌, Bool, true, cond, List, ◌++◌, refl, ℕ}
+use Rattle.std.proofs.Common.{◌+◌, ◌-◌, ◌*◌, ◌/◌, ◌%◌, ◌^◌, ◌<◌, ◌≤◌, [], ◌∷◌, set, ℤ, pos, sym, ap, ap₂, ◌∙◌}
+use Rattle.std.proofs.Common.{length-append, ◌&&◌, sum, not, map, flat_map, Some, None, Ok, leb-true}
+use Rattle.std.proofs.Math.Nat.{pow-le-pow_right}
 use Rattle.std.proofs.lemmas.Bool.{cases_lt, eq-eqb, ne_eqb, lt-ltb, or_parts as or-false}
-use Rattle.std.proofs.lemmas.Bool.Decides.{nat_tests}
-use Rattle.std.proofs.lemmas.List.{append-nil}
-use lib.ListN.{length-map}
-use Rattle.std.specs.List.{AllByRecursion, prefix_len, range_with_len}
-use Rattle.std.specs.Prelude.{slice_index_or}
-use Rattle.std.specs.Prelude.{slice_get}
-use Rattle.jpeg_bits.specs.Passes.{Block, Pass, Via, whole_pass}
+use Rattle.std.proofs.lemmas.List.{append-nil, length-replicate, replicate-append-replicate, take_all}
+use Rattle.std.proofs.lemmas.List.FromFn.{get_or-range_with_len}
+use Rattle.std.specs.List.{AllByRecursion, range_with_len, prefix_len}
+use Rattle.jpeg_bits.specs.Codes.{lengths_from, Table, code_lengths, codes_exist, code_value}
+use Rattle.jpeg_bits.specs.Entropy.{bits_of}
+use Rattle.jpeg_bits.specs.Passes.{band_of, Block, Pass, predictors_at_start, Via, whole_pass}
+use Rattle.jpeg_bits.specs.Written.{code_bits, low_bits, bits_of_bytes, stuffed, IsCategory, IsCoded, WritesInterval}
+use Rattle.jpeg_bits.specs.Written.{marker}
+use Rattle.jpeg_bits.specs.declared.codes.HuffmanTableClass.{HuffmanTableClass}
 use Rattle.jpeg_bits.specs.declared.codes.HuffmanTableClass.TheVariants as classes
+use Rattle.jpeg_streams.specs.Levels.{Is8Bit, Levels, sent_after, nothing_sent, numbers_at}
+use Rattle.jpeg_streams.specs.WrittenData.{no_numbers, WritesAc, WritesBand, WritesBlocks, WritesDc, WritesDifference}
+use Rattle.jpeg_streams.specs.WrittenData.WritesAc.{first, no_band}
+use Rattle.jpeg_streams.specs.WrittenData.WritesBand.{ended, full, sixteen, value}
+use Rattle.jpeg_streams.specs.WrittenData.WritesBlocks.{block, done}
+use Rattle.jpeg_streams.specs.WrittenData.WritesDc.{other_band, whole}
+use Rattle.jpeg_bits.proofs.BufferedBits.{bit_le as at-most-one}
+use Rattle.std.proofs.lemmas.Bool.Decides.{nat_tests}
+use Rattle.std.specs.Prelude.{nat_le, slice_index_or, slice_get}
+use Rattle.jpeg_bits.proofs.Tables.{tested-exist}
+use Rattle.jpeg_segments.specs.HuffmanTables.{DefinedTable, Tables}
+use Rattle.jpeg_segments.specs.WrittenSegments.{IsHuffmanTable, IsComponent, AreComponents, frame_written}
+use Rattle.jpeg_segments.specs.WrittenSegments.{FrameHeader, Header, Huffman, IsFrameHeader, payload_of, Quantization}
+use Rattle.jpeg_segments.specs.WrittenSegments.{IsQuantizationTable, QuantizationTable, with_length}
+use Rattle.std.proofs.Math.Logic.{⊎_elim}
+use Rattle.std.proofs.lemmas.Grind.{common_steps}
+use lib.ListN.{length-map}
 use Rattle.jpeg_segments.specs.Checks.{gathered}
 use Rattle.jpeg_segments.specs.Frame.{Component, component_of, Factors, Frame, frame_of, greatest, is_lossless_number}
 use Rattle.jpeg_segments.specs.Frame.{is_destination, is_taken}
-use Rattle.jpeg_bits.specs.Codes.{Table, codes_exist, code_value, lengths_from}
-use Rattle.jpeg_segments.specs.HuffmanTables.{DefinedTable, Tables}
 use Rattle.jpeg_segments.specs.ScanHeader.{is_band, index_of, Scan, scan_of}
 use Rattle.jpeg_segments.specs.ScanHeaders.{AreChoices, IsScan, scan_payload, scan_written, ScanHeader}
-use Rattle.jpeg_segments.specs.WrittenSegments.{IsComponent, AreComponents, frame_written, FrameHeader, Header, Huffman}
-use Rattle.jpeg_segments.specs.WrittenSegments.{IsFrameHeader, payload_of, Quantization}
-use Rattle.jpeg_segments.specs.WrittenSegments.{IsQuantizationTable, QuantizationTable, with_length}
 use Rattle.jpeg_streams.specs.declared.grids.Grid.{Grid}
-use Rattle.jpeg_streams.specs.Levels.{Is8Bit, Levels, sent_after, nothing_sent, numbers_at}
 use Rattle.jpeg_streams.specs.Order.{grid_of, mcu_size, own_spots, Spot, spots_of}
 use Rattle.jpeg_streams.specs.SaidSegments.{said_after}
 use Rattle.jpeg_streams.specs.Scans.{no_table, via_at, turns_of}
-use Rattle.jpeg_streams.specs.ScanSegments.{vias_from, Coding, codings_of, component_coding}
-use Rattle.jpeg_streams.specs.ScanSegments.{pass_of, tables_of}
+use Rattle.jpeg_streams.specs.ScanSegments.{vias_from, Coding, codings_of, component_coding, pass_of, tables_of}
 use Rattle.jpeg_streams.specs.Segments.{accepted, updated}
 use Rattle.jpeg_streams.specs.Found.{nothing_said, Said}
 use Rattle.jpeg_streams.specs.WorkedImages.{IsWhollyWritten}
-use Rattle.jpeg_bits.specs.Written.{marker}
 use Rattle.jpeg_bits.specs.Written.WritesIntervals.{last as last_interval}
 use Rattle.jpeg_streams.specs.WrittenImages.{ClosesImage, WritesPart}
-use Rattle.jpeg_streams.specs.WrittenScans.{Coefficients, HasTable, IsComplete, IsLegalScan}
-use Rattle.jpeg_streams.specs.WrittenScans.{levels_after, WritesScan}
+use Rattle.jpeg_streams.specs.WrittenScans.{Coefficients, HasTable, IsComplete, IsLegalScan, levels_after, WritesScan}
 use Rattle.jpeg_streams.proofs.CutLevels.{all-same}
 use Rattle.jpeg_streams.specs.WrittenStreams.{end, scan, segment}
-use Rattle.jpeg_streams.proofs.EncodedBlocks.{ac_pass, dc_pass, Each, each-ac, each-dc, each-whole, flat_table}
-use Rattle.jpeg_streams.proofs.EncodedBlocks.{HasFlatAc, HasFlatDc, interval-written, IsFlat, table-by}
+use Rattle.jpeg_streams.proofs.SentBlocks.{InDcRange}
 use Rattle.jpeg_streams.proofs.WalkedStreams.{closes}
+use Rattle.jpeg_streams.proofs.WrittenBlocks.{difference-range, Predicts, predicts-set}
+use Rattle.jpeg_streams.proofs.WrittenFrameScans.{start-predicts}
 use Rattle.jpeg_streams.proofs.WholeImages.{floor-whole, toward-whole}
 use Rattle.jpeg_bits.proofs.ReadIntervals.{all-again, all-append, all-map}
 use Rattle.jpeg_streams.proofs.ReadTurns.{then-ok}
+
+-- ---- tables
+
+abbrev is_table : DefinedTable → Bool
+is_table t =
+    length t.table.counts == 16 && (length t.table.symbols == sum t.table.counts && (nat_le 1 (sum t.table.counts)
+    && (nat_le (sum t.table.counts) 256 && codes_exist (code_lengths t.table.counts))))
+
+pub table-by : (most : ℕ) (t : DefinedTable) → t.destination ≤ most → is_table t ≡ true →
+    IsHuffmanTable most t
+table-by most t h e = search (rules, nat_tests, tested-exist)
+
+abbrev pub flat_counts : List ℕ
+flat_counts = replicate 7 0 ++ 255 ∷ replicate 8 0
+
+-- the symbols 0 to 254, each with a code of 8 bits
+abbrev pub flat_table : HuffmanTableClass → Table
+flat_table class = record { class = class; counts = flat_counts; symbols = range_with_len 0 255 }
+
+flat-coded : (class : HuffmanTableClass) (symbol : ℕ) → symbol < 255
+    → IsCoded (flat_table class) symbol (code_bits (flat_table class) symbol)
+unfolding lengths_from
+flat-coded class symbol h = grind (arith, get_or-range_with_len 0 255 symbol 0 h)
+
+-- ---- categories
+
+-- a value below 2 ^ b has a category of at most b
+pub category-at_most : (d : ℤ) (b : ℕ) → unsigned_abs d < 2 ^ b → (s : ℕ) × (s ≤ b) × IsCategory d s
+category-at_most d zero h = (0, omega arith, record { holds = h; is_least = λ t k. omega arith })
+category-at_most d (suc b) h = search (rules, cases_lt, unsigned_abs, pow-le-pow_right, category-at_most d b)
+
+difference-written : (class : HuffmanTableClass) (d : ℤ) → unsigned_abs d < 2 ^ 11
+    → (bits : List Bool) × WritesDifference (flat_table class) d bits
+difference-written class d h =
+    let c = category-at_most d 11 h in
+    (_, record { s = c.0; code = _; category = c.2; coded = flat-coded class c.0 (omega arith); has_bits = refl })
+
+-- ---- bands
+
+abbrev ac : Table
+ac = flat_table classes.AC
+
+abbrev Small : ℤ → Type 0
+Small u = unsigned_abs u ≤ 1023
+
+Written : List ℤ → Type 0
+Written us = (b : List Bool) × WritesBand ac us b 0
+
+-- sixteen zeros first
+sixteen-first : (z : ℕ) (us : List ℤ) → 16 ≤ z → Written (no_numbers (z - 16) ++ us) → Written (no_numbers z ++ us)
+unfolding Written
+sixteen-first z us far w =
+    let rest : 16 + (z - 16) ≡ z = omega arith in
+    let same : no_numbers 16 ++ (no_numbers (z - 16) ++ us) ≡ no_numbers z ++ us =
+    sym (append_assoc (no_numbers 16) (no_numbers (z - 16)) us)
+    ∙ ap (λ (l : List ℤ). l ++ us) (replicate-append-replicate 16 (z - 16) (pos 0) ∙ ap no_numbers rest) in
+    let code = code_bits ac (16 * 15 + 0) in (
+      code ++ w.0,
+      subst (λ (l : List ℤ). WritesBand ac l (code ++ w.0) 0) same
+          (sixteen code (no_numbers (z - 16) ++ us) w.0 0 (flat-coded classes.AC (16 * 15 + 0) (omega arith)) w.1),
+    )
+
+zeros-step : (z : ℕ) (u : ℤ) (more : List ℤ) → u ≢ pos 0 → Small u → Written more → (z < 16) ⊎ (16 ≤ z)
+    → (16 ≤ z → Written (no_numbers (z - 16) ++ u ∷ more)) → Written (no_numbers z ++ u ∷ more)
+unfolding Written
+zeros-step z u more ne small w (inl less) next = let c = category-at_most u 10 (omega arith) in
+    (_, value z c.0 u _ more w.0 0 (omega arith) ne c.2 (flat-coded classes.AC (16 * z + c.0) (omega arith)) w.1)
+zeros-step z u more ne small w (inr far) next = sixteen-first z (u ∷ more) far (next far)
+
+-- zeros and a value
+zeros-written : (n z : ℕ) (u : ℤ) (more : List ℤ) → z ≤ n → u ≢ pos 0 → Small u → Written more
+    → Written (no_numbers z ++ u ∷ more)
+zeros-written zero z u more le ne small w = search (rules, zeros-step, cases_lt)
+zeros-written (suc n) z u more le ne small w =
+    zeros-step z u more ne small w (cases_lt z 16) (λ far. zeros-written n (z - 16) u more (omega arith) ne small w)
+
+zeros-shift : (z : ℕ) (us : List ℤ) → no_numbers (suc z) ++ us ≡ no_numbers z ++ pos 0 ∷ us
+zeros-shift zero us = refl
+zeros-shift (suc z) us = ap (λ (l : List ℤ). pos 0 ∷ l) (zeros-shift z us)
+
+band-written : (us : List ℤ) (z : ℕ) → AllByRecursion Small us → Written (no_numbers z ++ us)
+unfolding Written
+band-written [] zero small = (_, full)
+band-written [] (suc n) small =
+    let code = code_bits ac (16 * 0 + 0) in (
+      code ++ low_bits 0 0,
+      subst (λ (l : List ℤ). WritesBand ac l (code ++ low_bits 0 0) 0) (sym (append-nil (no_numbers (suc n))))
+          (ended n 0 0 code (omega arith) (omega arith) (flat-coded classes.AC (16 * 0 + 0) (omega arith))),
+    )
+band-written (pos zero ∷ us) z small = subst Written (zeros-shift z us) (band-written us (suc z) small.1)
+band-written (pos (suc n) ∷ us) z small = zeros-written z z (pos (suc n)) us (omega arith)
+    (λ e. absurd (let h : suc n ≡ 0 = ap unsigned_abs e in omega arith)) small.0 (band-written us 0 small.1)
+band-written (negsuc n ∷ us) z small = zeros-written z z (negsuc n) us (omega arith)
+    (λ e. absurd (let h : suc n ≡ 0 = ap unsigned_abs e in omega arith)) small.0 (band-written us 0 small.1)
+
+ac-written : (p : Pass) (us : List ℤ) → p.is_first ≡ true → AllByRecursion Small us
+    → (b : List Bool) × WritesAc p ac us 0 b 0
+unfolding Written
+ac-written p [] f small = ([], no_band 0)
+ac-written p (u ∷ us) f small = let w = band-written (u ∷ us) 0 small in (w.0, first u us w.0 0 f w.1)
+
+-- ---- blocks
+
+-- the bits of a block after a prediction, and the next prediction
+pub record BlockBits (p : Pass) (t : Via × Block) (prediction : ℤ) : Type 0 where
+  pub dc : List Bool
+  pub ac : List Bool
+  pub next : ℤ
+  pub ranged : InDcRange next
+  pub writes_dc : WritesDc p t.0.dc t.1.dc prediction dc next
+  pub writes_ac : WritesAc p t.0.ac (band_of p t.1.acs) 0 ac 0
+
+-- each block that is good can be written
+abbrev pub Each : Pass → (Via × Block → Type 0) → Type 0
+Each p Good = (t : Via × Block) → Good t → (prediction : ℤ) → InDcRange prediction → BlockBits p t prediction
+
+blocks-written : (p : Pass) (Good : Via × Block → Type 0) → Each p Good → (ps : List ℤ) (turns : List (Via × Block))
+    → Predicts ps → AllByRecursion Good turns → (b : List Bool) × WritesBlocks p ps 0 turns b
+blocks-written p Good each ps [] ranged good = ([], done ps)
+blocks-written p Good each ps (t ∷ turns) ranged good =
+    let b = each t good.0 (get_or ps t.0.component (pos 0)) (ranged.each t.0.component) in
+    let more = blocks-written p Good each (set ps t.0.component b.next) turns
+    (predicts-set ps t.0.component b.next ranged b.ranged) good.1 in
+    (_, block ps 0 0 t.0 t.1 turns b.dc b.ac more.0 b.next b.writes_dc b.writes_ac more.1)
+
+-- ---- blocks of each pass
+
+-- the first scans of DC and of AC
+abbrev pub dc_pass : Pass
+dc_pass = record { is_first = true; ss = 0; se = 0; al = 0 }
+
+abbrev pub ac_pass : Pass
+ac_pass = record { is_first = true; ss = 1; se = 63; al = 0 }
+
+-- a block is in range, and coded by the flat tables
+pub record HasFlatDc (t : Via × Block) : Type 0 where
+  pub dc : t.0.dc ≡ flat_table classes.DC
+  pub range : Is8Bit t.1
+
+pub record HasFlatAc (t : Via × Block) : Type 0 where
+  pub ac : t.0.ac ≡ flat_table classes.AC
+  pub range : Is8Bit t.1
+
+pub record IsFlat (t : Via × Block) : Type 0 where
+  pub dc : t.0.dc ≡ flat_table classes.DC
+  pub ac : t.0.ac ≡ flat_table classes.AC
+  pub range : Is8Bit t.1
+
+block-range : (u : Block) → Is8Bit u → InDcRange u.dc
+block-range u range = record { low = range.dc_low; high = range.dc_high }
+
+dc-bits : (p : Pass) (table : Table) (u : Block) (prediction : ℤ) → p.ss ≡ 0 → p.is_first ≡ true
+    → table ≡ flat_table classes.DC → Is8Bit u
+    → InDcRange prediction → (b : List Bool) × WritesDc p table u.dc prediction b u.dc
+dc-bits p table u prediction s f e range ranged =
+    let d = difference-written classes.DC _ (difference-range u.dc prediction (block-range u range) ranged) in
+    (d.0, subst (λ (x : Table). WritesDc p x u.dc prediction d.0 u.dc) (sym e) (whole u.dc prediction d.0 s f d.1))
+
+ac-bits : (p : Pass) (table : Table) (us : List ℤ) → p.is_first ≡ true → table ≡ flat_table classes.AC
+    → AllByRecursion Small us → (b : List Bool) × WritesAc p table us 0 b 0
+ac-bits p table us f e small = grind (arith, ac-written p us f small)
+
+pub each-whole : Each whole_pass IsFlat
+each-whole t good prediction ranged =
+    let u = t.1 in
+    let d = dc-bits whole_pass t.0.dc u prediction refl refl good.dc good.range ranged in
+    let band : band_of whole_pass u.acs ≡ u.acs = let n = good.range.count in take_all 63 u.acs (omega arith) in
+    let a = ac-bits whole_pass t.0.ac u.acs refl good.ac good.range.acs in
+    grind (arith, block-range u good.range)
+
+pub each-dc : Each dc_pass HasFlatDc
+each-dc t good prediction ranged =
+    let u = t.1 in
+    let d = dc-bits dc_pass t.0.dc u prediction refl refl good.dc good.range ranged in
+    record { dc = d.0; ac = []; next = u.dc; ranged = block-range u good.range; writes_dc = d.1; writes_ac = no_band 0 }
+
+pub each-ac : Each ac_pass HasFlatAc
+each-ac t good prediction ranged =
+    let u = t.1 in
+    let band : band_of ac_pass u.acs ≡ u.acs = let n = good.range.count in take_all 63 u.acs (omega arith) in
+    let a = ac-bits ac_pass t.0.ac u.acs refl good.ac good.range.acs in
+    record {
+      dc = [];
+      ac = a.0;
+      next = prediction;
+      ranged = ranged;
+      writes_dc = other_band u.dc prediction (λ e. absurd (omega arith));
+      writes_ac = search rules;
+    }
+
+-- ---- bytes
+
+digit : (a : Bool) (n : ℕ) → n ≡ cond a 1 0 → (n == 1) ≡ a
+digit true n e = eq-eqb n 1 e
+digit false n e = ne_eqb n 1 (λ h. absurd (omega arith))
+
+byte-for : (a b c d e f g h : Bool)
+    → (byte : ℕ) × (bits_of byte ≡ a ∷ b ∷ c ∷ d ∷ e ∷ f ∷ g ∷ h ∷ []) × (byte < 256)
+byte-for a b c d e f g h =
+    let v : Bool → ℕ = λ x. cond x 1 0 in
+    let n = 128 * v a + 64 * v b + 32 * v c + 16 * v d + 8 * v e + 4 * v f + 2 * v g + v h in
+    grind (
+      arith,
+      at-most-one,
+      digit a (n / 128 % 2) (omega (arith, at-most-one)),
+      digit b (n / 64 % 2) (omega (arith, at-most-one)),
+      digit c (n / 32 % 2) (omega (arith, at-most-one)),
+      digit d (n / 16 % 2) (omega (arith, at-most-one)),
+      digit e (n / 8 % 2) (omega (arith, at-most-one)),
+      digit f (n / 4 % 2) (omega (arith, at-most-one)),
+      digit g (n / 2 % 2) (omega (arith, at-most-one)),
+      digit h (n % 2) (omega (arith, at-most-one)),
+    )
+
+byte-of : (bits : List Bool) → length bits ≡ 8 → (byte : ℕ) × (bits_of byte ≡ bits) × (byte < 256)
+byte-of (a ∷ b ∷ c ∷ d ∷ e ∷ f ∷ g ∷ h ∷ []) eight = byte-for a b c d e f g h
+byte-of bits eight = absurd (omega arith)
+
+-- bits are filled up to whole bytes
+pub record IsPacked (bits : List Bool) : Type 0 where
+  pub bytes : List ℕ
+  pub filling : List Bool
+  pub is_short : length filling ≤ 7
+  pub whole : bits_of_bytes bytes ≡ bits ++ filling
+  pub are_bytes : AllByRecursion (λ b. b < 256) bytes
+
+last-byte : (bits : List Bool) → 0 < length bits → length bits ≤ 7 → IsPacked bits
+unfolding bits_of_bytes
+last-byte bits some few =
+    let filling = replicate (8 - length bits) false in
+    let n = length-replicate (8 - length bits) false in
+    let x = byte-of (bits ++ filling) (omega (arith, length-append bits filling)) in
+    record {
+      bytes = x.0 ∷ [];
+      filling = filling;
+      is_short = omega arith;
+      whole = append-nil (bits_of x.0) ∙ x.1;
+      are_bytes = (x.2, tt);
+    }
+
+pub packed : (bits : List Bool) → IsPacked bits
+unfolding bits_of_bytes
+packed [] = record { bytes = []; filling = []; is_short = omega arith; whole = refl; are_bytes = tt }
+packed (a ∷ b ∷ c ∷ d ∷ e ∷ f ∷ g ∷ h ∷ more) =
+    let x = byte-for a b c d e f g h in
+    let r = packed more in
+    record {
+      bytes = x.0 ∷ r.bytes;
+      filling = r.filling;
+      is_short = r.is_short;
+      whole = ap₂ (λ (p q : List Bool). p ++ q) x.1 r.whole;
+      are_bytes = (x.2, r.are_bytes);
+    }
+packed bits = last-byte bits (omega arith) (omega arith)
+
+-- the bytes of these bits
+pub interval-packed : (writes : List Bool → Type 0) (bits : List Bool) → writes bits
+    → WritesInterval writes (stuffed (packed bits).bytes)
+interval-packed writes bits w = search rules
+
+pub interval-written : (p : Pass) (Good : Via × Block → Type 0) → Each p Good → (turns : List (Via × Block))
+    → AllByRecursion Good turns → (bytes : List ℕ) × WritesInterval (WritesBlocks p predictors_at_start 0 turns) bytes
+interval-written p Good each turns good =
+    let w = blocks-written p Good each predictors_at_start turns start-predicts good in (
+      _,
+      interval-packed (WritesBlocks p predictors_at_start 0 turns) w.0 w.1,
+    )
 
 -- ---- what is written
 
@@ -103,24 +380,20 @@ pass_for OfDc = dc_pass
 pass_for OfAc = ac_pass
 
 abbrev from_for : Kind → ℕ
-from_for Whole = 0
-from_for OfDc = 0
 from_for OfAc = 1
+from_for kind = 0
 
 abbrev to_for : Kind → ℕ
-to_for Whole = 63
 to_for OfDc = 0
-to_for OfAc = 63
+to_for kind = 63
 
 abbrev dc_for : Kind → Table
-dc_for Whole = flat_table classes.DC
-dc_for OfDc = flat_table classes.DC
 dc_for OfAc = no_table classes.DC
+dc_for kind = flat_table classes.DC
 
 abbrev ac_for : Kind → Table
-ac_for Whole = flat_table classes.AC
 ac_for OfDc = no_table classes.AC
-ac_for OfAc = flat_table classes.AC
+ac_for kind = flat_table classes.AC
 
 abbrev Good : Kind → Via × Block → Type 0
 Good Whole t = IsFlat t
@@ -130,14 +403,12 @@ Good OfAc t = HasFlatAc t
 -- the frames that it is written in
 abbrev Fits : Kind → ℕ → Type 0
 Fits Whole number = number ≤ 1
-Fits OfDc number = number ≡ 2
-Fits OfAc number = number ≡ 2
+Fits kind number = number ≡ 2
 
 -- what was sent of a component before it
 abbrev before : Kind → Levels
-before Whole = nothing_sent
-before OfDc = nothing_sent
 before OfAc = record { dc = Some 0; acs = replicate 63 None }
+before kind = nothing_sent
 
 each-for : (kind : Kind) → Each (pass_for kind) (Good kind)
 each-for Whole = each-whole
@@ -185,21 +456,18 @@ map-whole : (f : ℤ → ℤ) (us : List ℤ) → ((u : ℤ) → f u ≡ u) → 
 map-whole f [] h = refl
 map-whole f (u ∷ us) h = ap₂ (λ (x : ℤ) (xs : List ℤ). x ∷ xs) (h u) (map-whole f us h)
 
-spot-flat : (kind : Kind) (h : FrameHeader) (index : ℕ) (c : Factors) (b : Block) (slot : ℕ) →
-    Is8Bit b → slot ≡ 0
-    → Good kind (
+spot-flat : (kind : Kind) (h : FrameHeader) (index : ℕ) (c : Factors) (b : Block) (slot : ℕ)
+    → Is8Bit b → slot ≡ 0 → Good kind (
       via_at (vias_from 0 (coding kind h index c ∷ [])) slot,
-      numbers_at (pass_for
-          kind).al b,
+      numbers_at (pass_for kind).al b,
     )
 unfolding vias_from
 spot-flat kind h index c b slot range e = search (rules, floor-whole, map-whole, toward-whole)
 
-data-written : (kind : Kind) (f : Frame) (h : FrameHeader) (index : ℕ) (c : Factors) (array :
-    Coefficients)
-    → ((k row column : ℕ) → Is8Bit (array k row column))
-    → (data_bytes : List ℕ) × WritesScan f 0 (pass_for kind) (coding kind h index c ∷ []) array
-    data_bytes
+data-written : (kind : Kind) (f : Frame) (h : FrameHeader) (index : ℕ) (c : Factors)
+    (array : Coefficients) → ((k row column : ℕ) → Is8Bit (array k row column))
+    → (data_bytes : List ℕ) × WritesScan f 0 (pass_for kind)
+    (coding kind h index c ∷ []) array data_bytes
 unfolding spots_of mcu_size turns_of
 data-written kind f h index c array range =
     let codings = coding kind h index c ∷ [] in
@@ -327,11 +595,8 @@ have-tables : (number : ℕ) (h : FrameHeader) (front cs : List Factors) → num
     → AllByRecursion (HasTable (said number h true)) (map (component_in h) cs)
 unfolding AreComponents component_of
 have-tables number h front [] le a = tt
-have-tables number h front (c ∷ cs) le a = grind (
-  arith,
-  table-at number h true c.quantization (index-low number c.quantization le a.0.placed),
-  have-tables number h (front ++ c ∷ []) cs le a.1,
-)
+have-tables number h front (c ∷ cs) le a =
+    search (rules, table-at, index-low, have-tables number h (front ++ c ∷ []) cs le a.1)
 
 pub in-range : (P : ℕ → Type 0) (a n : ℕ) → ((j : ℕ) → a ≤ j → j < a + n → P j) → AllByRecursion P (range_with_len a n)
 in-range P a zero all = tt
@@ -353,7 +618,7 @@ pub record HasSent (levels : ℕ → Levels) (front : ℕ) : Type 0 where
 
 sent-more : (levels now : ℕ → Levels) (front : ℕ) → IsComplete (now front) → ((j : ℕ) → j ≢ front → now j ≡ levels j)
     → HasSent levels front → HasSent now (front + 1)
-sent-more levels now front done others s = search (rules, cases_lt)
+sent-more levels now front all others s = search (rules, cases_lt)
 
 end-written : (number : ℕ) (h : FrameHeader) (array : Coefficients) (front : List Factors) (levels : ℕ → Levels)
     (scanned : Bool)
@@ -361,13 +626,11 @@ end-written : (number : ℕ) (h : FrameHeader) (array : Coefficients) (front : L
     → scanned ≡ true → Sends number h array levels scanned
 unfolding frame_of
 end-written number h array front levels scanned le are e s is =
-    let all : (j : ℕ) → j < length h.components
-    → IsComplete (levels j) = λ j lt. s.sent j (subst (λ (l : List Factors). j < length l) e lt) in
+    let all : (j : ℕ) → j < length h.components → IsComplete (levels j) = grind arith in
     let size : length (frame_written number h).components ≡ length h.components = length-map h.components _ in (
       marker 0 217 [],
       levels,
-      subst (λ (b : Bool). WritesPart array ClosesImage (said number h b) levels (marker 0 217 [])
-          (said number h true) levels) (sym is)
+      rw is
           (end (said number h true) levels _ (closes (said number h true) (frame_written number h) 0 refl (
             refl,
             have-tables number h [] h.components le are,
@@ -414,9 +677,8 @@ Steps number h array =
     → WritesPart array ClosesImage (said number h true) now bytes (said number h true) last
     → (all : List ℕ) × WritesPart array ClosesImage (said number h scanned) levels all (said number h true) last)
 
-whole-after : (p : Pass) (index : ℕ) (levels : ℕ → Levels) → p ≡ whole_pass → levels index ≡
-    nothing_sent
-    → IsComplete (levels_after p (index ∷ []) levels index)
+whole-after : (p : Pass) (index : ℕ) (levels : ℕ → Levels) → p ≡ whole_pass
+    → levels index ≡ nothing_sent → IsComplete (levels_after p (index ∷ []) levels index)
 whole-after p index levels e f = search (rules, after-same, all-same)
 
 dc-after : (p : Pass) (index : ℕ) (levels : ℕ → Levels) → p ≡ dc_pass → levels index ≡ nothing_sent
@@ -450,8 +712,7 @@ progressive-steps number h array two p range front more c levels scanned e is s 
     let ac = pass_of (scan_for OfAc number h index c) in
     let mid = levels_after dc (index ∷ []) levels in
     let unsent = s.unsent index (omega arith) in
-    let was : mid index ≡ before OfAc = dc-after dc index levels (pass-is OfDc number h index c
-    two) unsent in (
+    let was : mid index ≡ before OfAc = search (rules, dc-after, dc, pass-is, unsent) in (
       levels_after ac (index ∷ []) mid,
       sent-more levels (levels_after ac (index ∷ []) mid) index
           (ac-after ac index mid (pass-is OfAc number h index c two) was)

@@ -15,7 +15,7 @@ use lib.ListN.{length-map}
 use Rattle.std.specs.List.{AllByRecursion, list_all, range_with_len}
 use Rattle.std.specs.Prelude.{flat_map, nat_lt, slice_index_or}
 use Rattle.jpeg_bits.specs.Codes.{code_value, codes_exist, lengths_from, Table}
-use Rattle.jpeg_bits.specs.Written.{code_bits, IsCoded, marker, stuffed}
+use Rattle.jpeg_bits.specs.Written.{code_bits, IsCoded, marker, stuffed, WritesEach}
 use Rattle.jpeg_bits.specs.declared.codes.HuffmanTableClass.TheVariants as classes
 use Rattle.jpeg_bits.specs.declared.scan.Predictor.{Predictor}
 use Rattle.jpeg_bits.specs.declared.scan.Predictor.TheVariants.{Ra}
@@ -33,7 +33,6 @@ use Rattle.jpeg_lossless.specs.Scans.{lines_by_component, rows_of_interval}
 use Rattle.jpeg_lossless.specs.SampleDifferences.{AreLines, AreSamples, differences_below, differences_of}
 use Rattle.jpeg_lossless.specs.SampleDifferences.{first_differences, rest_differences}
 use Rattle.jpeg_lossless.specs.Written.{WritesRows, WritesSampleDifference}
-use Rattle.jpeg_bits.specs.Written.{WritesEach}
 use Rattle.jpeg_bits.specs.Written.WritesEach.{none, one}
 use Rattle.jpeg_bits.specs.Written.WritesIntervals.{last}
 use Rattle.jpeg_lossless.proofs.Inverse.{all_back}
@@ -50,9 +49,8 @@ use Rattle.jpeg_streams.specs.WrittenLossless.{HoldSamples, own_lines, Samples, 
 use Rattle.jpeg_streams.specs.WrittenLossless.{ClosesSamples, IsLossless, SendsSamples}
 use Rattle.jpeg_streams.specs.WrittenStreams.{end, scan, segment, Writes}
 use Rattle.jpeg_streams.proofs.AcceptedSamples.{accepted-samples}
-use Rattle.jpeg_streams.proofs.EncodedBlocks.{category-at_most, packed, interval-packed, table-by}
-use Rattle.jpeg_streams.proofs.EncodedImages.{component_in, component-at, in-range, lone_header}
-use Rattle.jpeg_streams.proofs.EncodedImages.{lone-written}
+use Rattle.jpeg_streams.proofs.EncodedImages.{category-at_most, packed, interval-packed, table-by, component_in}
+use Rattle.jpeg_streams.proofs.EncodedImages.{component-at, in-range, lone_header, lone-written}
 use Rattle.jpeg_bits.proofs.ReadIntervals.{all-append}
 use Rattle.jpeg_streams.proofs.ReadTurns.{then-ok}
 use Rattle.jpeg_streams.proofs.WalkedStreams.{closes}
@@ -180,11 +178,9 @@ below-rows : (selection : Predictor) (start n : ℕ) (above : List ℕ) (lines :
     → AreWide n lines → AreRows n (differences_of selection start above lines)
 unfolding differences_of
 below-rows selection start n above [] e h = tt
-below-rows selection start n above (line ∷ lines) e h = grind (
-  arith,
-  below-row selection start above line (subst (λ (k : ℕ). IsAbove k above) (sym h.0) e),
-  below-rows selection start n line lines (inr h.0) h.1,
-)
+below-rows selection start n above (line ∷ lines) e h =
+    let row = below-row selection start above line (rw h.0 e) in
+    grind (arith, row, below-rows selection start n line lines (inr h.0) h.1)
 
 rows-count : (selection : Predictor) (start : ℕ) (above : List ℕ) (lines : List (List ℕ))
     → length (differences_of selection start above lines) ≡ length lines
@@ -306,8 +302,7 @@ data-written h now front more c samples ready e most are =
     let b = packed w.0 in
     let whole = lines-whole wide high rows are_rows in
     let back = all_back Ra start wide lines (lines-low (2 ^ h.precision) wide lines low are.lined) in
-    let n : rows_of_interval wide high now.restart ≡ 0
-    = ap (rows_of_interval wide high) ready.restart ∙ no-restart wide high in (
+    let n : rows_of_interval wide high now.restart ≡ 0 = search rules in (
       stuffed b.bytes,
       record {
         codings = k ∷ [];

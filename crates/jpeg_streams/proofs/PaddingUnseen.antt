@@ -90,7 +90,6 @@ pixel-agrees : (frame : Frame) (s t : ℕ × Component → ℕ → ℕ → ℕ) 
 pixel-agrees frame s t x y hx hy agree index [] e made = refl
 pixel-agrees frame s t x y hx hy agree index (c ∷ cs) e made =
     let at = made-inside frame c x y made.0 hx hy in
-    let next : index + 1 ≡ suc index = omega arith in
     ap₂ (λ (v : ℕ) (more : List ℕ). sample_bytes frame.precision v ++ more)
     (agree index _ _ c (get-drop index frame.components c cs e) at.0 at.1)
     (pixel-agrees frame s t x y hx hy agree (index + 1) cs (search (rules, drop-next)) made.1)

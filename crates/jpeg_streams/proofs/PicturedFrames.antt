@@ -1,11 +1,11 @@
 -- A frame header that has a picture is accepted.
-use Rattle.std.proofs.Common.{rules, ◌≡◌, ◌⊎◌, ℕ, ◌≤◌, true, false, List, [], ◌∷◌, map, length, Ok}
-use Rattle.std.proofs.Common.{arith}
+use Rattle.std.proofs.Common.{rules, ◌≡◌, ◌⊎◌, ℕ, ◌≤◌, true, false, List, map, length, Ok, arith}
 use Rattle.std.proofs.lemmas.Grind.{common_steps}
 use Rattle.std.proofs.lemmas.Bool.{eq-eqb, or_left}
 use Rattle.std.specs.List.{AllByRecursion}
+use Rattle.jpeg_bits.proofs.ReadIntervals.{all-map}
 use Rattle.jpeg_pixels.specs.Pictures.{Source, sources_of}
-use Rattle.jpeg_segments.specs.Frame.{component_of, Factors, frame_of, greatest}
+use Rattle.jpeg_segments.specs.Frame.{component_of, frame_of, greatest}
 use Rattle.jpeg_segments.specs.WrittenSegments.{FrameHeader, frame_written}
 use Rattle.jpeg_streams.specs.AcceptedFrames.{HasPicture, IsUpsampled}
 use Rattle.jpeg_streams.specs.Segments.{accepted, is_decoded_count, is_arithmetic, is_decoded_precision}
@@ -13,28 +13,16 @@ use Rattle.jpeg_streams.proofs.ReadTurns.{then-ok}
 use Rattle.jpeg_segments.proofs.ScaleLemmas.{factors-back}
 use Rattle.jpeg_streams.proofs.UpsampledFactors.{sources-some}
 
--- ---- sources
-
-all-made : (P : Factors → Type 0) (width height h v : ℕ) (xs : List Factors) → AllByRecursion P xs
-    → AllByRecursion (λ c. P c.factors) (map (component_of width height h v) xs)
-unfolding component_of
-all-made P width height h v [] u = tt
-all-made P width height h v (x ∷ xs) u = (u.0, all-made P width height h v xs u.1)
-
--- ---- frames
-
 header-sources : (number : ℕ) (h : FrameHeader) → AllByRecursion (IsUpsampled h) h.components
-    → (sources : List Source)
-    × (sources_of (frame_written number h).components (frame_written number h).output_width
-    (frame_written number h).output_height ≡ Ok sources)
-unfolding frame_of
+    → (sources : List Source) × (sources_of (frame_written number h).components (frame_written
+    number h).output_width (frame_written number h).output_height ≡ Ok sources)
+unfolding frame_of component_of
 header-sources number h p =
     let most_h = greatest (λ f. f.horizontal) h.components in
     let most_v = greatest (λ f. f.vertical) h.components in
     let cs = map (component_of h.width h.height most_h most_v) h.components in
     let back = factors-back h.width h.height most_h most_v h.components in
-    let s = sources-some most_h most_v h.width h.height cs
-    (search (rules, all-made)) in
+    let s = sources-some most_h most_v h.width h.height cs (all-map (IsUpsampled h) _ _ h.components (λ c u. u) p) in
     grind arith
 
 header-count : (number : ℕ) (h : FrameHeader)

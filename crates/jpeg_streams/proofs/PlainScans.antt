@@ -27,8 +27,7 @@ record IsFull (frame : Frame) (c : Component) : Type 0 where
 
 all-full : (frame : Frame) (cs : List Component) → AllByRecursion (IsMade frame) cs
     → AllByRecursion (λ c. (c.factors.horizontal ≡ most_across frame.components)
-    × (c.factors.vertical ≡ most_down frame.components)) cs
-    → AllByRecursion (IsFull frame) cs
+    × (c.factors.vertical ≡ most_down frame.components)) cs → AllByRecursion (IsFull frame) cs
 all-full frame [] made same = tt
 all-full frame (c ∷ cs) made same =
     search (rules, div-mul-add, some-across, some-down, all-full frame cs made.1 same.1)
@@ -78,13 +77,12 @@ codings-full : (h : FrameHeader) (codings : List LosslessCoding) → IsFrameHead
 codings-full h [] is same all = tt
 codings-full h (k ∷ codings) is same all = search (rules, header-full, codings-full h codings is same all.1)
 
-pub way-together : (h : FrameHeader) (selection : Predictor) (point : ℕ) (codings : List
-    LosslessCoding) → IsFrameHeader 3 h
-    → HasEqualFactors (frame_written 3 h) → most_across (frame_written 3 h).components ≡ 1
-    → most_down (frame_written 3 h).components ≡ 1
+pub way-together : (h : FrameHeader) (selection : Predictor) (point : ℕ)
+    (codings : List LosslessCoding) → IsFrameHeader 3 h → HasEqualFactors (frame_written 3 h)
+    → most_across (frame_written 3 h).components ≡ 1 → most_down (frame_written 3 h).components ≡ 1
     → AllByRecursion (λ k. IsIn k.component (frame_written 3 h).components) codings
-    → (way_of (frame_written 3 h) selection point codings ≡ plain_way (frame_written 3 h) selection point codings)
-    × (mcus_down (frame_written 3 h) codings ≡ (frame_written 3 h).height)
+    → (way_of (frame_written 3 h) selection point codings ≡ plain_way (frame_written 3 h) selection
+    point codings) × (mcus_down (frame_written 3 h) codings ≡ (frame_written 3 h).height)
 unfolding mcus_across mcus_down parts_of
 way-together h selection point [] is same a d all = search (rules, ceiling-one)
 way-together h selection point (k ∷ []) is same a d all = way-alone h selection point k is same all.0

@@ -1,46 +1,59 @@
 -- A turn of a written stream is read.
-use Rattle.std.proofs.Common.{rules, ◌≡◌, ◌≢◌, ◌&&◌, ℕ, zero, suc, ◌<◌, Bool, true, false, List, []}
-use Rattle.std.proofs.Common.{◌∷◌, ◌++◌, map, length, ◌==◌, nat_lt}
-use Rattle.std.proofs.Common.{slice_get, slice_index_or, is_some, Option, Some, None, Result, Ok, Err, refl, sym}
-use Rattle.std.proofs.Common.{ap, ap₂, ◌∙◌, subst, arith, append_assoc, length-append}
+use Rattle.std.proofs.Common.{rules, ◌≡◌, Option, Some, ◌≢◌, ◌&&◌, ℕ, zero, suc, ◌<◌, Bool, true, false, List, []}
+use Rattle.std.proofs.Common.{◌∷◌, ◌++◌, map, length, ◌==◌, nat_lt, slice_get, slice_index_or, is_some, None, Result}
+use Rattle.std.proofs.Common.{Ok, Err, refl, sym, ap, ◌∙◌, subst, arith, append_assoc, length-append}
+use Rattle.jpeg_bits.specs.Marker.{marker_of, next_marker}
+use Rattle.jpeg_bits.specs.declared.marker.Marker.{Marker}
+use Rattle.jpeg_bits.specs.declared.marker.Marker.TheVariants.{SOF, DHT, DQT, DRI, APP, COM, EOI, SOS}
+use Rattle.jpeg_segments.specs.Frame.{Frame}
+use Rattle.jpeg_segments.specs.WrittenSegments.{Segment, Quantization, Huffman, Interval, Application, Comment}
+use Rattle.jpeg_segments.specs.WrittenSegments.{Header, application_parts, marker_code, MayStand, with_length}
+use Rattle.jpeg_segments.specs.WrittenSegments.{payload_of}
+use Rattle.jpeg_segments.proofs.ApplicationParts.{few-numbers, app-read}
+pub use Rattle.jpeg_bits.proofs.WrittenIntervals.{marker-append}
 use Rattle.std.proofs.lemmas.Grind.{common_steps}
 use Rattle.std.proofs.lemmas.Map.Made.{keys_of-zip}
 use Rattle.std.proofs.lemmas.Slice.Zip.{length-zip}
 use Rattle.std.specs.Prelude.{zip}
 use Rattle.std.specs.List.{AllByRecursion}
 use Rattle.jpeg_bits.specs.Reading.{Fault, Malformed, Outcome, ◌>>=◌}
-use Rattle.jpeg_bits.specs.Marker.{marker_of, next_marker}
-use Rattle.jpeg_bits.specs.declared.marker.Marker.{Marker}
-use Rattle.jpeg_bits.specs.declared.marker.Marker.TheVariants.{EOI, SOS}
-use Rattle.jpeg_segments.specs.Frame.{Frame}
 use Rattle.jpeg_segments.specs.ScanHeader.{Scan, sos_at}
 use Rattle.jpeg_segments.specs.HuffmanTables.{Tables}
-use Rattle.jpeg_segments.specs.WrittenSegments.{with_length, Segment, Header}
-use Rattle.jpeg_segments.specs.WrittenSegments.{marker_code, payload_of}
 use Rattle.jpeg_segments.proofs.Fields.{kept, not-refused, read-on, sized-read, skip-read}
 use Rattle.jpeg_segments.proofs.TableSegments.{dqt-read, dht-read}
 use Rattle.jpeg_segments.proofs.OtherSegments.{dri-read}
-use Rattle.jpeg_segments.proofs.ApplicationParts.{app-read}
 use Rattle.jpeg_segments.proofs.HeaderSegments.{sof-read}
 use Rattle.jpeg_streams.specs.declared.before.Before.{Before}
 use Rattle.jpeg_streams.specs.declared.before.Before.TheVariants.{Elsewhere}
 use Rattle.jpeg_bits.specs.Passes.{Pass}
 use Rattle.jpeg_streams.specs.Scans.{Arrays}
 use Rattle.jpeg_segments.specs.Checks.{gathered, needed}
-use Rattle.jpeg_streams.specs.ScanSegments.{component_coding, needed_if, Coding, tables_of, after_restarts, after_scan}
-use Rattle.jpeg_streams.specs.ScanSegments.{scan_arrays, codings_of, scan_segment, blocks_scan}
-use Rattle.jpeg_streams.specs.ScanSegments.{pass_of, scan_turn}
+use Rattle.jpeg_streams.specs.ScanSegments.{component_coding, needed_if, Coding, tables_of, after_restarts}
+use Rattle.jpeg_streams.specs.ScanSegments.{after_scan, scan_arrays, codings_of, scan_segment, blocks_scan, pass_of}
+use Rattle.jpeg_streams.specs.ScanSegments.{scan_turn}
 use Rattle.jpeg_streams.specs.Segments.{onward, Turn, frame_segment}
 use Rattle.jpeg_streams.specs.Found.{Found, Said}
 use Rattle.jpeg_streams.specs.SaidSegments.{Stands, said_after}
 use Rattle.jpeg_streams.specs.Stream.{segment_at, segments_at, end_segment, turn_at, walk}
 use Rattle.jpeg_bits.specs.declared.codes.HuffmanTableClass.TheVariants as classes
 use Rattle.jpeg_segments.specs.declared.parser.CodingProcess.TheVariants.{Lossless}
-use Rattle.jpeg_bits.specs.Written.{marker}
-use Rattle.jpeg_bits.specs.Written.{IsMarker}
+use Rattle.jpeg_bits.specs.Written.{marker, IsMarker}
 pub use Rattle.jpeg_segments.proofs.Codecs.{err-ok, ok-same, bind-ok}
-use Rattle.jpeg_streams.proofs.ReadStates.{reading}
-use Rattle.jpeg_streams.proofs.WrittenMarkers.{marker-append, marker_for, segment-marker}
+
+-- ---- the markers that are written
+
+abbrev pub marker_for : Segment → Marker
+marker_for (Quantization ts) = DQT
+marker_for (Huffman ts) = DHT
+marker_for (Interval n) = DRI
+marker_for (Application d) = APP (application_parts d).0
+marker_for (Comment payload) = COM
+marker_for (Header number h) = SOF number
+
+pub segment-marker : (frame : Option Frame) (s : Segment) → MayStand frame s
+    → marker_of (marker_code s) ≡ Some (marker_for s)
+unfolding marker_of
+segment-marker frame s may = search (rules, few-numbers)
 
 -- ---- the next marker
 
@@ -124,11 +137,9 @@ pub stands-met : (fill code : ℕ) (m : Marker) (rest : List ℕ) → marker_of 
 unfolding turn_at
 stands-met fill code m rest h = grind (arith, common_steps, marker-turn)
 
-pub end-turn : (before : Before) (found : Found) (fill : ℕ) (rest : List ℕ) → is_some found.said.frame ≡ true
-    → turn_at before found None (marker fill 217 [] ++ rest) ≡ Ok (
-      record { found = found; before = Elsewhere; met = None; ended = true },
-      rest,
-    )
+pub end-turn : (before : Before) (found : Found) (fill : ℕ) (rest : List ℕ)
+    → is_some found.said.frame ≡ true → turn_at before found None (marker fill 217 [] ++ rest) ≡ Ok
+    (record { found = found; before = Elsewhere; met = None; ended = true }, rest)
 unfolding marker_of segment_at end_segment
 end-turn before found fill rest some = ap (turn_at before found None) (marker-append fill 217 [] rest)
     ∙ marker-turn before found fill 217 EOI rest refl ∙ kept (is_some found.said.frame) _ (Err Malformed) some
@@ -222,10 +233,8 @@ pub gathered-each : {A B : Type 0} (P : B → Type 0) (f : A → Result B Fault)
 unfolding gathered
 gathered-each P f [] ys e h = subst (AllByRecursion P) (ok-same [] ys e) tt
 gathered-each P f (x ∷ xs) ys e h =
-    let one = bind-ok (f x) _ ys e in
-    let more = bind-ok (gathered f xs) _ ys one.2 in
-    subst (AllByRecursion P) (ok-same (one.0 ∷ more.0) ys more.2)
-    (h x one.0 one.1, gathered-each P f xs more.0 more.1 h)
+    let more = bind-ok (gathered f xs) _ ys (bind-ok (f x) _ ys e).2 in
+    search (rules, ok-same, gathered-each P f xs more.0 more.1 h)
 
 -- what each tells
 pub gathered-map : {A B C : Type 0} (g : B → C) (k : A → C) (f : A → Result B Fault) (xs : List A) (ys : List B)
@@ -233,10 +242,8 @@ pub gathered-map : {A B C : Type 0} (g : B → C) (k : A → C) (f : A → Resul
 unfolding gathered
 gathered-map g k f [] ys e h = ap (map g) (sym (ok-same [] ys e))
 gathered-map g k f (x ∷ xs) ys e h =
-    let one = bind-ok (f x) _ ys e in
-    let more = bind-ok (gathered f xs) _ ys one.2 in
-    ap (map g) (sym (ok-same (one.0 ∷ more.0) ys more.2))
-    ∙ ap₂ (λ (c : _) (l : List _). c ∷ l) (h x one.0 one.1) (gathered-map g k f xs more.0 more.1 h)
+    let more = bind-ok (gathered f xs) _ ys (bind-ok (f x) _ ys e).2 in
+    search (rules, ok-same, gathered-map g k f xs more.0 more.1 h)
 
 -- what holds of each coding of a scan
 pub codings-each : (P : Coding → Type 0) (w : Said) (frame : Frame) (s : Scan) (codings : List Coding)

@@ -46,7 +46,6 @@ pub segment-tables : (found : Said) (s : Segment) → MayStand found.frame s →
 segment-tables found (Huffman ts) may h = search (rules, updated-all, tables-all, no-tables)
 segment-tables found s may h = h
 
-pub table-there : (tables : List (Option Table)) (index : ℕ) (t : Table) → AllByRecursion
-    IsTableOrNone tables
-    → slice_index_or tables index None ≡ Some t → IsTable t
+pub table-there : (tables : List (Option Table)) (index : ℕ) (t : Table)
+    → AllByRecursion IsTableOrNone tables → slice_index_or tables index None ≡ Some t → IsTable t
 table-there tables index t all e = search (rules, get-all)

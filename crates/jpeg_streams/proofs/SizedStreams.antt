@@ -24,10 +24,10 @@ use Rattle.jpeg_streams.proofs.FrameShapes.{Plain, plain-size}
 use Rattle.jpeg_streams.proofs.ScaledSizes.{scaled_component, most_h, most_v, frame-components}
 use Rattle.jpeg_streams.proofs.ScaledScans.{own-same, Alike, Alikes, none, one_more, SameFrame, length-same, at_frame}
 use Rattle.jpeg_streams.proofs.ScaledScans.{scans-alike}
-use Rattle.jpeg_streams.proofs.ReadStreams.{drawn-said, holds-nothing, image-read, IsDrawn, ImageMeant, MayEndImage}
-use Rattle.jpeg_streams.proofs.ReadStreams.{bring, no_progress, plain-said}
+use Rattle.jpeg_streams.proofs.WrittenPictures.{drawn-said, holds-nothing, image-read, IsDrawn}
+use Rattle.jpeg_streams.proofs.WrittenPictures.{ImageMeant, MayEndImage, bring, no_progress}
+use Rattle.jpeg_streams.proofs.WrittenPictures.{plain-said, pictured, taken}
 use Rattle.jpeg_streams.proofs.WalkedStreams.{beside, frame-kept, header-read, reads-on, rest-by}
-use Rattle.jpeg_streams.proofs.WrittenPictures.{pictured, taken}
 use Rattle.jpeg_streams.proofs.ScaledSources.{frame-sources}
 use Rattle.jpeg_streams.proofs.Soundness.{scale-bounds}
 use Rattle.jpeg_segments.proofs.ScaleLemmas.{scale_for_is_scale}

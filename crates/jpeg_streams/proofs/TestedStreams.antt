@@ -396,9 +396,7 @@ end_of_samples said sent fill = do
 pub no-point : (frame : Frame) (h : ScanHeader) (x : Scan) → x ≡ scan_written frame h → IsScan frame h → x.low ≡ 0
     → h.low ≡ 0
 unfolding scan_of
-no-point frame h x made is low =
-    let narrow = is.narrow in
-    let same : x.low ≡ (16 * h.high + h.low) % 16 = ap (λ (x : Scan). x.low) made in omega arith
+no-point frame h x made is low = search rules
 
 unfoldable pub scan_of_samples : (samples : Samples) (said : Said) (sent : List ℕ)
     → ScansBy (SendsSamples samples said sent)

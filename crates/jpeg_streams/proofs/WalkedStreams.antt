@@ -1,5 +1,5 @@
 -- Written streams of any kind: what stays through one, and that it is read turn by turn.
-use Rattle.std.proofs.Common.{◌≡◌, ◌&&◌, ℕ, zero, suc, ◌<◌, Bool, true, false, List, [], ◌++◌, length, is_some}
+use Rattle.std.proofs.Common.{rules, ◌≡◌, ◌&&◌, ℕ, zero, suc, ◌<◌, Bool, true, false, List, [], ◌++◌, length, is_some}
 use Rattle.std.proofs.Common.{Option, Some, None, Ok, refl, sym, ap, ◌∙◌, subst, arith, length-append}
 use Rattle.jpeg_bits.specs.Marker.{marker_of}
 use Rattle.jpeg_bits.specs.Reading.{Outcome, ◌>>=◌}
@@ -8,8 +8,8 @@ use Rattle.jpeg_bits.specs.declared.marker.Marker.{Marker}
 use Rattle.jpeg_bits.specs.declared.marker.Marker.TheVariants.{EOI, SOS}
 use Rattle.jpeg_segments.specs.Frame.{Frame}
 use Rattle.jpeg_segments.specs.ScanHeaders.{IsScan, ScanHeader, scan_payload}
-use Rattle.jpeg_segments.specs.WrittenSegments.{frame_written, FrameHeader, Header, marker_code, payload_of}
-use Rattle.jpeg_segments.specs.WrittenSegments.{MayStand, Segment, with_length}
+use Rattle.jpeg_segments.specs.WrittenSegments.{frame_written, FrameHeader, Header, marker_code, payload_of, Segment}
+use Rattle.jpeg_segments.specs.WrittenSegments.{with_length}
 use Rattle.jpeg_streams.specs.Found.{Said, nothing_said, Found, nothing_found}
 use Rattle.jpeg_streams.specs.FoundPictures.{picture_of}
 use Rattle.jpeg_streams.specs.SaidSegments.{said_after, Stands}
@@ -20,12 +20,11 @@ use Rattle.jpeg_streams.specs.WrittenStreams.{Closes, end, scan, segment, Starts
 use Rattle.jpeg_streams.specs.declared.before.Before.{Before}
 use Rattle.jpeg_streams.specs.declared.before.Before.TheVariants.{Elsewhere}
 use Rattle.jpeg_streams.specs.declared.settings.Settings.{Settings}
-use Rattle.jpeg_streams.proofs.ReadTurns.{Begins, end-turn, IsEnd, marker-longer}
-use Rattle.jpeg_streams.proofs.ReadTurns.{scan-tail, scan-turn, marker-begins, segment-ends, segment-tail, segment-turn}
-use Rattle.jpeg_streams.proofs.ReadTurns.{same-frame, segments-walked, some-none, stands-here, stands-met, StandsAt}
-use Rattle.jpeg_streams.proofs.ReadTurns.{then-ok, walk-end, walk-on, walk-stop}
+use Rattle.jpeg_streams.proofs.ReadTurns.{Begins, end-turn, IsEnd, marker-longer, scan-tail, scan-turn, marker-begins}
+use Rattle.jpeg_streams.proofs.ReadTurns.{segment-ends, segment-tail, segment-turn, segments-walked, some-none}
+use Rattle.jpeg_streams.proofs.ReadTurns.{stands-here, stands-met, StandsAt, then-ok, walk-end, walk-on, walk-stop}
+use Rattle.jpeg_streams.proofs.ReadTurns.{marker_for, segment-marker}
 use Rattle.jpeg_streams.proofs.SaidTables.{HasTables, no-tables, segment-tables}
-use Rattle.jpeg_streams.proofs.WrittenMarkers.{marker_for, segment-marker}
 
 -- EOI
 pub closes : {may_end : Frame → Type 0} (said : Said) (f : Frame) (fill : ℕ) → said.frame ≡ Some f → may_end f
@@ -41,8 +40,7 @@ module _ {Sent : Type 0} {may : Said → Segment → Type 0}
       → Writes may scans ends said sent bytes final last → said.frame ≡ Some f → final.frame ≡ Some f
   frame-kept said final sent last bytes f (end said' sent' bytes' ended) e = e
   frame-kept said final sent last bytes f
-      (segment said' final' sent' last' fill (Header number h) more stands allowed w) e =
-      some-none f said.frame e stands.0.0
+      (segment said' final' sent' last' fill (Header number h) more stands allowed w) e = cc
   frame-kept said final sent last bytes f (segment said' final' sent' last' fill s more stands allowed w) e =
       frame-kept (said_after said s) final sent last more f w e
   frame-kept said final sent last bytes f (scan said' final' sent' next last' g fill h data_bytes more framed is sends w)
@@ -72,14 +70,12 @@ module _ {Sent : Type 0} {may : Said → Segment → Type 0}
       subst (λ (l : List ℕ). Writes may scans ends said sent (l ++ more) final last) (sym none) w
   front-append said next final sent reached last front more
       (segment said' next' sent' reached' fill s others stands allowed f) w =
-      subst (λ (l : List ℕ). Writes may scans ends said sent l final last)
-      (sym (segment-tail fill (marker_code s) (with_length (payload_of s)) others more))
+      rw (segment-tail fill (marker_code s) (with_length (payload_of s)) others more)
       (segment said final sent last fill s (others ++ more) stands allowed
       (front-append (said_after said s) next final sent reached last others more f w))
   front-append said next final sent reached last front more
       (scan said' next' sent' between reached' g fill h data_bytes others framed is sends f) w =
-      subst (λ (l : List ℕ). Writes may scans ends said sent l final last)
-      (sym (scan-tail fill 218 (with_length (scan_payload h)) data_bytes others more))
+      rw (scan-tail fill 218 (with_length (scan_payload h)) data_bytes others more)
       (scan said final sent between last g fill h data_bytes (others ++ more) framed is sends
       (front-append (record said { scanned = true }) next final between reached last others more f w))
 
@@ -98,10 +94,7 @@ pub segment-said : (may : Said → Segment → Type 0) (P : Frame → Type 0)
     → ((said : Said) (number : ℕ) (h : FrameHeader) → Stands said (Header number h) → may said (Header number h)
     → P (frame_written number h))
     → (said : Said) (s : Segment) → Stands said s → may said s → IsSaid P said → IsSaid P (said_after said s)
-segment-said may P shaped said (Header number h) stands allowed is = record {
-  tables = is.tables;
-  shaped = λ f e. subst P (same-frame (frame_written number h) f _ refl e) (shaped said number h stands allowed);
-}
+segment-said may P shaped said (Header number h) stands allowed is = search rules
 segment-said may P shaped said s stands allowed is =
     record { tables = segment-tables said s stands.0 is.tables; shaped = is.shaped }
 
@@ -111,8 +104,7 @@ pub rest-by : (settings : Settings) (found all : Found) (bytes rest : List ℕ)
     → walk (suc (length bytes)) false Elsewhere found None bytes ≡ (all, Ok rest)
     → rest_at settings found bytes ≡ (picture_of settings all >>= (λ picture. Ok ((told_of all.said, picture), rest)))
 unfolding rest_at
-rest-by settings found all bytes rest e =
-    then-ok (segments_at false Elsewhere found None bytes) _ (all, rest) _ (segments-walked _ _ _ _ _ _ e) refl
+rest-by settings found all bytes rest e = search (rules, then-ok, found, segments-walked)
 
 -- what was said, beside what scans have brought
 abbrev pub beside : {Brought : Type 0} → (Brought → Found) → Said → Brought → Found
@@ -191,8 +183,7 @@ module _ {Sent Brought : Type 0} {may : Said → Segment → Type 0}
   rest-begins said final sent last bytes (end said' sent' bytes' c) = subst (λ (l : List ℕ). Begins (l ++ tail))
       (sym c.closed) (marker-begins c.fill 217 EOI [] tail refl (λ turns bytes. refl))
   rest-begins said final sent last bytes (segment said' final' sent' last' fill s more stands allowed w) =
-      marker-begins fill (marker_code s) (marker_for s) (with_length (payload_of s) ++ more) tail
-      (segment-marker said.frame s stands.0) (segment-ends s)
+      search (rules, marker-begins, marker_for, segment-marker, stands, segment-ends)
   rest-begins said final sent last bytes (scan said' final' sent' next last' f fill h data_bytes more framed is sends w) =
       marker-begins fill 218 SOS _ tail refl (λ turns bytes. refl)
 
@@ -251,8 +242,7 @@ module _ {Sent Brought : Type 0} {may : Said → Segment → Type 0}
       × (walk turns true Elsewhere (beside brings said x) None (bytes ++ tail)
       ≡ (beside brings (said_after r.between (Header r.number r.header)) x, Ok (r.left ++ tail)))
   reads-header said final sent last bytes x zero w is e u room = absurd (omega arith)
-  reads-header said final sent last bytes x (suc turns) (end said' sent' bytes' c) is e u room =
-      some-none c.frame said.frame c.is_said e
+  reads-header said final sent last bytes x (suc turns) (end said' sent' bytes' c) is e u room = cc
   reads-header said final sent last bytes x (suc turns)
       (scan said' final' sent' next last' f fill h data_bytes more framed is_scan sends w) is e u room =
       some-none f said.frame framed e

@@ -1,6 +1,6 @@
 -- Where all is sent, the picture is that of the array itself.
-use Rattle.std.proofs.Common.{rules, ◌≡◌, ℕ, suc, ◌+◌, ◌/◌, ◌^◌, false, List, [], ◌∷◌, length, ℤ, pos}
-use Rattle.std.proofs.Common.{negsuc, neg_ℤ, ◌*ℤ◌, Option, Some, refl, sym, ap, subst, arith}
+use Rattle.std.proofs.Common.{rules, ◌≡◌, ℕ, suc, ◌+◌, ◌/◌, ◌^◌, false, List, [], ◌∷◌, length, ℤ, pos, negsuc, neg_ℤ}
+use Rattle.std.proofs.Common.{◌*ℤ◌, Option, Some, refl, ap, subst, arith}
 use Rattle.std.proofs.lemmas.Grind.{common_steps}
 use Rattle.std.proofs.lemmas.Int.{ints}
 use Rattle.std.specs.List.{AllByRecursion, enumerate_from, range_with_len}
@@ -18,8 +18,7 @@ use Rattle.jpeg_streams.specs.Stream.{sized_to}
 use Rattle.jpeg_streams.specs.ScanSegments.{is_progressive}
 use Rattle.jpeg_streams.specs.Found.{nothing_said, Said}
 use Rattle.jpeg_streams.specs.WrittenScans.{Coefficients, IsComplete}
-use Rattle.jpeg_streams.specs.ArrayPictures.{as_sent, picture_of_blocks}
-use Rattle.jpeg_streams.specs.ArrayPictures.{picture_of_array, meaning_of_array}
+use Rattle.jpeg_streams.specs.ArrayPictures.{as_sent, picture_of_blocks, picture_of_array, meaning_of_array}
 use Rattle.jpeg_streams.specs.FoundPictures.{picture_by}
 use Rattle.jpeg_streams.specs.Rasters.{plane_of_blocks}
 use Rattle.jpeg_bits.specs.Reading.{◌>>=◌}
@@ -65,23 +64,16 @@ plane-same : (scale : ℕ) (table : List ℕ) (wide high : ℕ) (f g : ℕ → �
 unfolding plane_of
 plane-same scale table wide high f g h = grind (arith, common_steps, map-same)
 
-planes-whole : (said : Said) (array : Coefficients) (levels : ℕ → Levels) (index : ℕ) (cs : List
-    Component)
-    → AllByRecursion (λ k. IsComplete (levels k)) (range_with_len index (length cs))
-    → ((k row column : ℕ) → length (array k row column).acs ≡ length (levels k).acs)
-    → gathered (array_plane said (as_sent array levels)) (enumerate_from index cs)
-    ≡ gathered (array_plane said array) (enumerate_from index cs)
+planes-whole : (said : Said) (array : Coefficients) (levels : ℕ → Levels) (index : ℕ)
+    (cs : List Component) → AllByRecursion (λ k. IsComplete (levels k))
+    (range_with_len index (length cs)) → ((k row column : ℕ) → length (array k row column).acs
+    ≡ length (levels k).acs) → gathered (array_plane said (as_sent array levels))
+    (enumerate_from index cs) ≡ gathered (array_plane said array) (enumerate_from index cs)
 unfolding gathered plane_of_blocks
 planes-whole said array levels index [] done h = refl
 planes-whole said array levels index (c ∷ cs) done h =
-    search (
-      rules,
-      bind_same,
-      plane-same,
-      cut-whole,
-      planes-whole said array levels (index + 1) cs
-          done.1 h,
-    )
+    let more = planes-whole said array levels (index + 1) cs done.1 h in
+    search (rules, bind_same, plane-same, cut-whole, more)
 
 picture-whole : (settings : Settings) (said : Said) (array : Coefficients) (levels : ℕ → Levels) (frame : Frame)
     → said.frame ≡ Some frame → AllComplete frame levels
@@ -117,9 +109,7 @@ pub sequential-whole : (array : Coefficients) (bytes : List ℕ) (final : Said) 
 sequential-whole array bytes final last frame w e n =
     let c = (keeps (λ said levels. Unit {0}) nothing_said final (λ k. nothing_sent) last w.after (λ now x s a b p. tt)
     (λ now x next f h data_bytes a b q p. tt) w.written tt).2 in
-    let same = same-frame c.frame frame final.frame c.is_said e in
-    subst (λ (f : Frame). AllComplete f last) same
-    (c.ended.2 (subst (λ (f : Frame). is_progressive f.process ≡ false) (sym same) n))
+    search rules
 
 -- ---- at a scale
 

@@ -1,6 +1,6 @@
 -- The streams that are worked by hand are written: their tests compute.
-use Rattle.std.proofs.Common.{◌≡◌, zero, suc, ◌==◌, Bool, true, false, List, [], ◌∷◌, pos, negsuc, Option, Some, None}
-use Rattle.std.proofs.Common.{refl, arith}
+use Rattle.std.proofs.Common.{rules, ◌≡◌, zero, suc, ◌==◌, Bool, true, false, List, [], ◌∷◌, pos, negsuc, Option}
+use Rattle.std.proofs.Common.{Some, None, refl}
 use Rattle.std.proofs.lemmas.Bool.{eqb-true}
 use Rattle.std.specs.Prelude.{drop, get_or, slice_get}
 use Rattle.jpeg_bits.specs.Passes.{Block}
@@ -35,8 +35,7 @@ has_three None = false
 has_three (Some c) = (grid_of c).own_wide == 3
 
 agree : (frame : Frame) → has_three (slice_get frame.components 0) ≡ true → AgreeOnOwn frame sent_array colour_array
-agree frame is zero row (suc (suc (suc column))) c e high wide =
-    absurd (let three : (grid_of c).own_wide ≡ 3 = eqb-true _ _ (rw e at is) in omega arith)
+agree frame is zero row (suc (suc (suc column))) c e high wide = search (rules, eqb-true)
 agree frame is index row column c e high wide = refl
 
 abbrev colour_for : Option (IsWhollyWritten colour_array colour_bytes)

@@ -1,7 +1,6 @@
 -- What a writer took of a text in several writes.
-use Rattle.std.proofs.Common.{rules}
+use Rattle.std.proofs.Common.{rules, arith, ◌≡◌, ℕ, List, ◌++◌, Option, take, drop, append_assoc, take-append-drop}
 use Rattle.std.proofs.lemmas.Grind.{common_steps}
-use Rattle.std.proofs.Common.{arith, ◌≡◌, ℕ, List, ◌++◌, Option, take, drop, append_assoc, take-append-drop}
 use Rattle.std.specs.Io.KnownBytes.{Appends, Keeps}
 use Rattle.jpeg_streams.specs.Output.{TakesBeginning}
 use Rattle.std.proofs.KnownBytes.{Appends-trans, Appends-kept}

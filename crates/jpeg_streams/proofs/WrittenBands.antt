@@ -37,18 +37,16 @@ takes-token table al m j r s code own bits x y good coded small token after =
     after
 
 pub after-value : (al : ℕ) (others : List ℤ → Reads Band) (coefficients : List ℤ) (r : ℕ) (u : ℤ)
-    (bits : List Bool)
-    (more : Band)
-    → wrapped (scaled al u) ≡ scaled al u → ReadsJust (others (drop (r + 1) coefficients)) bits more
-    → ReadsJust (after_token al others coefficients (Value r u)) bits (before_more (take r
-    coefficients ++ scaled al u ∷ []) more)
+    (bits : List Bool) (more : Band) → wrapped (scaled al u) ≡ scaled al u
+    → ReadsJust (others (drop (r + 1) coefficients)) bits more
+    → ReadsJust (after_token al others coefficients (Value r u)) bits
+    (before_more (take r coefficients ++ scaled al u ∷ []) more)
 after-value al others coefficients r u bits more fits w = search (rules, takes-map, scaled)
 
-pub after-sixteen : (al : ℕ) (others : List ℤ → Reads Band) (coefficients : List ℤ) (bits : List
-    Bool) (more : Band)
-    → ReadsJust (others (drop 16 coefficients)) bits more
-    → ReadsJust (after_token al others coefficients Sixteen) bits (before_more (take 16
-    coefficients) more)
+pub after-sixteen : (al : ℕ) (others : List ℤ → Reads Band) (coefficients : List ℤ)
+    (bits : List Bool) (more : Band) → ReadsJust (others (drop 16 coefficients)) bits more
+    → ReadsJust (after_token al others coefficients Sixteen) bits
+    (before_more (take 16 coefficients) more)
 after-sixteen al others coefficients bits more w = search (rules, takes-map)
 
 -- ---- bands
@@ -98,16 +96,11 @@ band-value table al r (suc t) (suc m) u code more bits run good range nz cat cod
     let k = length more in
     let coefficients = no_numbers (suc (r + k)) in
     let long : length coefficients ≡ suc (r + k) = length-replicate (suc (r + k)) (pos 0) in
-    let front : take r coefficients ≡ no_numbers r = take-replicate r (suc (r + k)) (pos 0) (omega
-    arith) in
-    let back : drop (r + 1) coefficients ≡ no_numbers k = drop-replicate (r + 1) (suc (r + k)) (pos
-    0)
-    ∙ ap no_numbers (omega arith) in
-    let w = subst (λ (l : List ℤ). ReadsJust (first_ac table al m l) bits (map (scaled al) more, run)) (sym back)
-    (others m (omega arith)) in
+    let front : take r coefficients ≡ no_numbers r = search (rules, take-replicate) in
+    let back : drop (r + 1) coefficients ≡ no_numbers k = grind (arith, drop-replicate) in
+    let w = rw (sym back) at (others m (omega arith)) in
     let given : length (no_numbers r ++ u ∷ more) ≡ suc (r + k) = length-no_numbers r (u ∷ more) ∙ omega arith in
-    let numbers : (take r coefficients ++ scaled al u ∷ []) ++ map (scaled al) more
-    ≡ map (scaled al) (no_numbers r ++ u ∷ more)
+    let numbers : (take r coefficients ++ scaled al u ∷ []) ++ map (scaled al) more ≡ map (scaled al) (no_numbers r ++ u ∷ more)
     = search (rules, scaled, append_assoc, map-no_numbers) in
     let token = takes-token table al m (r + k) r (suc t) code (bits_for u (suc t)) bits (Value r u) _ good coded
     (category-small al u (suc t) range cat)
@@ -127,12 +120,10 @@ band-sixteen table al zero code more bits run good coded room others = absurd (o
 band-sixteen table al (suc m) code more bits run good coded room others =
     let k = length more in
     let coefficients = no_numbers (suc (15 + k)) in
-    let front : take 16 coefficients ≡ no_numbers 16 = take-replicate 16 (suc (15 + k)) (pos 0)
-    (omega arith) in
+    let front : take 16 coefficients ≡ no_numbers 16 = search (rules, take-replicate) in
     let back : drop 16 coefficients ≡ no_numbers k = drop-replicate 16 (suc (15 + k)) (pos 0) ∙ ap
     no_numbers (omega arith) in
-    let w = subst (λ (l : List ℤ). ReadsJust (first_ac table al m l) bits (map (scaled al) more, run)) (sym back)
-    (others m (omega arith)) in
+    let w = rw (sym back) at (others m (omega arith)) in
     let given : length (no_numbers 16 ++ more) ≡ suc (15 + k) = length-no_numbers 16 more ∙ omega arith in
     let numbers : take 16 coefficients ++ map (scaled al) more ≡ map (scaled al) (no_numbers 16 ++
     more)
@@ -176,7 +167,6 @@ takes-band table al band bits run good range (value r s u code more bits' run' h
     band-value table al r s n u code more bits' run' good rest.0 nz cat coded (omega arith)
     (takes-band table al more bits' run' good rest.1 w)
 takes-band table al band bits run good range (sixteen code more bits' run' coded w) n room =
-    let size = length-no_numbers 16 more in
     band-sixteen table al n code more bits' run' good coded (omega arith)
     (takes-band table al more bits' run' good (all-after (InRange al) 16 more range) w)
 takes-band table al band bits run good range (ended k r e code h f coded) n room =

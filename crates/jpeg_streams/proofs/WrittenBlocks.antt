@@ -1,8 +1,8 @@
 -- The blocks of an interval that were written are read again.
 use Rattle.std.proofs.Common.{rules, ◌≡◌, ℕ, zero, suc, ◌+◌, ◌*◌, ◌^◌, ◌<◌, ◌≤◌, Bool, true, false, List, [], ◌∷◌}
-use Rattle.std.proofs.Common.{◌++◌, map, length, get_or, set, ℤ, pos, negsuc, neg_ℤ, ◌+ℤ◌, ◌-ℤ◌, unsigned_abs, nat_le}
-use Rattle.std.proofs.Common.{refl, sym, ap, ◌∙◌, subst, append_assoc, append-nil, arith, pow_pos, le_refl}
-use Rattle.std.proofs.Common.{slice_index, mul_assoc, if◌then◌else◌}
+use Rattle.std.proofs.Common.{◌++◌, map, length, get_or, set, ℤ, pos, negsuc, ◌+ℤ◌, ◌-ℤ◌, unsigned_abs, nat_le, refl}
+use Rattle.std.proofs.Common.{sym, ap, ◌∙◌, append_assoc, append-nil, arith, pow_pos, le_refl, slice_index, mul_assoc}
+use Rattle.std.proofs.Common.{if◌then◌else◌}
 use Rattle.std.proofs.lemmas.Grind.{common_steps}
 use Rattle.std.proofs.lemmas.Int.{ints, int_wrap_fits}
 use Rattle.std.proofs.lemmas.Bool.{eq-eqb, le-leb, ne_eqb}
@@ -12,7 +12,7 @@ use Rattle.jpeg_bits.specs.Codes.{Table}
 use Rattle.jpeg_bits.specs.Readers.{refused, signed_from, ReadsJust}
 use Rattle.jpeg_bits.proofs.Fast.{no-number}
 use Rattle.std.proofs.lemmas.List.{length-replicate}
-use Rattle.std.proofs.Math.Nat.{add-mul, mul-le-mul}
+use Rattle.std.proofs.Math.Nat.{add-mul}
 use Rattle.jpeg_bits.specs.Bands.{wrapped, first_dc, difference}
 use Rattle.jpeg_bits.specs.Refinement.{bit_of}
 use Rattle.jpeg_bits.specs.Passes.{Pass, Via, Block, band_of, with_band, or_bit, dc_part, band_part, block_from}
@@ -25,8 +25,7 @@ use Rattle.jpeg_streams.specs.WrittenData.WritesAc.{no_band, first, first_run, a
 use Rattle.jpeg_streams.specs.WrittenData.WritesBlocks.{done, block}
 use Rattle.jpeg_bits.proofs.WrittenBits.{takes-gives, takes-bind, takes-bit, takes-map, takes-as}
 use Rattle.jpeg_bits.proofs.Tables.{IsGood, takes-symbol}
-use Rattle.jpeg_streams.proofs.SentBlocks.{scaled, kept, InRange, InDcRange, dc_kept, Suits}
-use Rattle.jpeg_streams.proofs.SentBlocks.{after_pass, reads_of}
+use Rattle.jpeg_streams.proofs.SentBlocks.{scaled, kept, InRange, InDcRange, dc_kept, Suits, after_pass, reads_of}
 use Rattle.jpeg_streams.proofs.SentBlocks.{numbers_of}
 use Rattle.jpeg_lossless.proofs.ReadBack.{takes-signed}
 use Rattle.jpeg_streams.proofs.WrittenBands.{takes-band, map-no_numbers, abs-zero}
@@ -54,9 +53,9 @@ takes-difference table d bits good small w =
     (takes-category d w.s w.category) in
     takes-as _ (code_bits table i ++ bits_for d w.s) bits d d
     (ap (λ (b : List Bool). b ++ bits_for d w.s) w.coded.has_bits ∙ w.has_bits) refl
-    (search (rules, takes-bind, nat_le, takes-symbol))
+    (search (rules, takes-bind, takes-symbol))
 
-difference-range : (u v : ℤ) → InDcRange u → InDcRange v → unsigned_abs (u -ℤ v) < 2 ^ 11
+pub difference-range : (u v : ℤ) → InDcRange u → InDcRange v → unsigned_abs (u -ℤ v) < 2 ^ 11
 difference-range u v h k = let a = h.low in let b = h.high in let c = k.low in let d = k.high in omega (arith, ints)
 
 pub takes-first_dc : (table : Table) (al : ℕ) (u predictor : ℤ) (bits : List Bool) → IsGood table → InDcRange u
@@ -68,27 +67,13 @@ takes-first_dc table al u predictor bits good range before fits w =
     let dc : wrapped (predictor +ℤ (u -ℤ predictor)) ≡ u = ap wrapped sum ∙ (search (rules, int_wrap_fits, ints)) in
     grind (arith, takes-difference table (u -ℤ predictor) bits good (difference-range u predictor range before) w)
 
-neg-sum : (x y z : ℕ) → x ≡ y + z → neg_ℤ (pos x) +ℤ pos y ≡ neg_ℤ (pos z)
-neg-sum x y z e = omega (arith, ints)
-
 or-even : (al b : ℕ) (z w : ℤ) → bit_of al z ≡ 0 → z +ℤ pos (b * 2 ^ al) ≡ w → or_bit al z b ≡ w
 or-even al b z w bit e = rw (eq-eqb (bit_of al z) 0 bit, or_bit) e
 
 pub dc-refined : (al : ℕ) (u : ℤ) → or_bit al (dc_kept al u) (low_bit u) ≡ scaled al u
 dc-refined al (pos n) = search (rules, or-even, even-bit, times-two_power, spread)
-dc-refined al (negsuc n) = grind (
-  arith,
-  common_steps,
-  pow_pos,
-  mul-le-mul,
-  neg_ℤ,
-  even-bit_neg,
-  times-two_power,
-  mul_assoc,
-  add-mul,
-  or-even,
-  neg-sum,
-)
+dc-refined al (negsuc n) =
+    grind (arith, common_steps, pow_pos, even-bit_neg, times-two_power, mul_assoc, add-mul)
 
 -- ---- blocks
 
@@ -120,9 +105,7 @@ pub takes-band_part : (p : Pass) (table : Table) (band us : List ℤ) (run after
 unfolding band_part
 takes-band_part p table band us run after bits good unsent sent range (no_band run') = search (rules, takes-gives)
 takes-band_part p table band us run after bits good unsent sent range (first u more bits' run' f w) =
-    subst (λ (l : List ℤ). ReadsJust (band_part p table l 0) bits' (map (scaled p.al) (u ∷ more), run'))
-    (sym (unsent f))
-    (rw (f, band_part) (takes-band table p.al (u ∷ more) bits' run' good range w
+    rw (unsent f) (rw (f, band_part) (takes-band table p.al (u ∷ more) bits' run' good range w
     (length (no_numbers (suc (length more))))
     (let size = length-replicate (suc (length more)) (pos 0) in omega arith)))
 takes-band_part p table band us run after bits good unsent sent range (first_run n run' f) =
@@ -132,8 +115,7 @@ takes-band_part p table band us run after bits good unsent sent range (first_run
     ∙ ap (map (scaled p.al)) (append-nil (no_numbers (suc n))) in
     search (rules, scaled, takes-as, takes-gives)
 takes-band_part p table band us run after bits good unsent sent range (again u more bits' run' f w) =
-    subst (λ (l : List ℤ). ReadsJust (band_part p table l 0) bits' (map (scaled p.al) (u ∷ more), run')) (sym (sent f))
-    (rw (f, band_part) (takes-refinement table p.al (u ∷ more) bits' run' good range w
+    rw (sent f) (rw (f, band_part) (takes-refinement table p.al (u ∷ more) bits' run' good range w
     (length (map (kept p.al) (u ∷ more))) (le_refl _)))
 takes-band_part p table band us run after bits good unsent sent range (again_run u more run' f none) =
     grind (arith, scaled p.al, takes-corrected p.al (u ∷ more) none range)
@@ -141,7 +123,7 @@ takes-band_part p table band us run after bits good unsent sent range (again_run
 pub record Predicts (predictors : List ℤ) : Type 0 where
   pub each : (k : ℕ) → InDcRange (get_or predictors k (pos 0))
 
-predicts-set : (predictors : List ℤ) (k : ℕ) (v : ℤ) → Predicts predictors → InDcRange v → Predicts (set predictors k v)
+pub predicts-set : (predictors : List ℤ) (k : ℕ) (v : ℤ) → Predicts predictors → InDcRange v → Predicts (set predictors k v)
 predicts-set predictors k v h r = grind (arith, common_steps)
 
 -- each block suits the pass, and the codes of its tables are read

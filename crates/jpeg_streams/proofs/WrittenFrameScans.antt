@@ -1,32 +1,85 @@
 -- A written scan of a frame takes the blocks of its components to the next level.
-use Rattle.std.proofs.Common.{rules, ◌≡◌, inl, inr, ℕ, zero, suc, ◌+◌, ◌*◌, ◌/◌, ◌%◌, ◌<◌, ◌≤◌, List, [], ◌∷◌, ◌++◌}
-use Rattle.std.proofs.Common.{map, length, get_or, Some, Ok, refl, sym, ap, ap₂, ◌∙◌, subst, arith, length-set}
+use Rattle.std.proofs.Common.{rules, ◌≡◌, ℕ, List, ◌++◌, map, Some, Ok, ap, ◌∙◌, Option, inl, inr, zero, suc, ◌+◌}
+use Rattle.std.proofs.Common.{◌*◌, ◌/◌, ◌%◌, ◌<◌, ◌≤◌, [], ◌∷◌, length, get_or, refl, sym, ap₂, subst, arith}
+use Rattle.std.proofs.Common.{length-set}
+use Rattle.std.specs.List.{AllByRecursion}
+use Rattle.jpeg_bits.specs.Intervals.{first_group, intervals, other_groups}
+use Rattle.jpeg_bits.specs.Passes.{Block, Pass, Via, blocks_of, predictors_at_start, whole_pass, zero_block}
+use Rattle.jpeg_bits.specs.Written.{IsMarker, WritesIntervals, marker}
+use Rattle.jpeg_bits.specs.declared.marker.Marker.{Marker}
+use Rattle.jpeg_bits.proofs.WrittenIntervals.{groups-of-map, reads-groups}
+use Rattle.jpeg_streams.specs.WrittenData.{WritesBlocks}
+use Rattle.jpeg_streams.proofs.SentBlocks.{after_pass, numbers_of, reads_of, Suits}
+use Rattle.jpeg_streams.proofs.WrittenBlocks.{IsReady, Predicts, takes-blocks}
+use Rattle.std.proofs.lemmas.Simd.{map-map}
+use Rattle.jpeg_bits.proofs.ReadIntervals.{all-map}
+use Rattle.jpeg_bits.specs.Reading.{Outcome, ◌>>=◌}
+use Rattle.jpeg_streams.specs.Order.{Spot, grid_of, spots_of, mcu_size}
+use Rattle.jpeg_streams.specs.Scans.{Arrays, block_at, put_blocks, via_at, turns_of, arrays_at, put_block, no_table}
 use Rattle.std.proofs.lemmas.Grind.{common_steps}
 use Rattle.std.proofs.Math.Nat.{div-lt_iff_lt-mul}
-use Rattle.std.specs.List.{AllByRecursion}
 use lib.ListN.{length-map}
 use Rattle.jpeg_bits.specs.Codes.{code_lengths, lengths_from}
 use Rattle.jpeg_bits.specs.declared.codes.HuffmanTableClass.{HuffmanTableClass}
-use Rattle.jpeg_bits.specs.declared.marker.Marker.{Marker}
 use Rattle.jpeg_bits.proofs.Tables.{IsGood}
 use Rattle.jpeg_segments.specs.Frame.{Frame}
 use Rattle.jpeg_streams.specs.declared.grids.Grid.{Grid}
-use Rattle.jpeg_bits.specs.Passes.{Pass, Via, Block, whole_pass, zero_block}
-use Rattle.jpeg_streams.specs.Order.{Spot, grid_of, own_spots, spots_of, mcu_size}
-use Rattle.jpeg_streams.specs.Scans.{Arrays, block_at, put_block, put_blocks, via_at, no_table, arrays_at}
 use Rattle.jpeg_streams.specs.ScanSegments.{vias_from, Coding, components_of}
 use Rattle.jpeg_streams.specs.Levels.{Levels, Is8Bit, numbers_at, cut, nothing_sent, IsLegal, sent_after}
-use Rattle.jpeg_bits.specs.Written.{marker}
 use Rattle.jpeg_streams.specs.WrittenScans.{Coefficients, IsOwn, WritesScan}
-use Rattle.jpeg_streams.proofs.SentBlocks.{Suits, after_pass}
-use Rattle.jpeg_bits.specs.Written.{IsMarker}
 use Rattle.jpeg_streams.proofs.CutLevels.{suits-cut, cut-after, all-same, cut-unsent, floor-range, floor-fits}
-use Rattle.jpeg_streams.proofs.WrittenArrays.{IsReadyAt, reads-arrays}
 use Rattle.jpeg_streams.proofs.Put.{reaches}
 use Rattle.jpeg_streams.specs.InTurn.{IsIn, IsInside}
 use Rattle.jpeg_streams.proofs.OwnSpots.{At, at-within, at-get, IsOwnSpot, own-only, Fits, covered}
 use Rattle.jpeg_streams.proofs.Apart.{at-got}
 pub use Rattle.jpeg_streams.proofs.Apart.{at-all}
+
+-- ---- the bytes of a scan that was written are read again
+
+pub start-predicts : Predicts predictors_at_start
+start-predicts = search rules
+
+-- A scan that was written is read as the blocks after the pass.
+pub reads-turns : (p : Pass) (n : ℕ) (turns : List (Via × Block × Block)) (bytes : List ℕ) (fill code : ℕ)
+    (m : Marker) (rest : List ℕ) → AllByRecursion (IsReady p) turns → IsMarker code m
+    → WritesIntervals (WritesBlocks p predictors_at_start 0) 0 (first_group n (numbers_of turns))
+    (other_groups n (numbers_of turns)) bytes
+    → intervals (blocks_of p predictors_at_start 0) 0 (first_group n (reads_of turns))
+    (other_groups n (reads_of turns)) (bytes ++ marker fill code rest)
+    ≡ Ok ((map (λ t. after_pass p t.1 t.2) turns, Some m), rest)
+reads-turns p n turns bytes fill code m rest ready h w =
+    reads-groups (blocks_of p predictors_at_start 0) (WritesBlocks p predictors_at_start 0) (λ t. (t.0, t.1))
+    (λ t. (t.0, t.2)) (map (λ t. after_pass p t.1 t.2)) (IsReady p)
+    (λ ts bits. takes-blocks p ts predictors_at_start 0 bits start-predicts) fill code m rest h n turns bytes ready w
+    ∙ ap (λ l. Ok ((l, Some m), rest)) (groups-of-map (λ t. after_pass p t.1 t.2) n turns)
+
+-- ---- a scan that was written is read at each of its spots
+
+-- a block's way, what is held of it, and its numbers at the level of the pass
+abbrev pub turn_with : List Via → Arrays → (Spot → Block) → Spot → Via × Block × Block
+turn_with vias arrays u s = (via_at vias s.slot, block_at arrays s, u s)
+
+-- the block at a spot is ready for the pass
+pub record IsReadyAt (p : Pass) (vias : List Via) (arrays : Arrays) (u : Spot → Block) (s : Spot) : Type 0 where
+  pub at : IsReady p (turn_with vias arrays u s)
+
+abbrev pub put_back : List Spot → Arrays → (List Block × Option Marker) × List ℕ → Outcome (Arrays × Option Marker)
+put_back spots arrays r = Ok ((put_blocks spots r.0.0 arrays, r.0.1), r.1)
+
+-- A scan that was written is read as the blocks after the pass, put back at their spots.
+pub reads-arrays : (p : Pass) (n : ℕ) (vias : List Via) (spots : List Spot) (arrays : Arrays) (u : Spot → Block)
+    (bytes : List ℕ) (fill code : ℕ) (m : Marker) (rest : List ℕ)
+    → AllByRecursion (IsReadyAt p vias arrays u) spots → IsMarker code m
+    → WritesIntervals (WritesBlocks p predictors_at_start 0) 0 (first_group n (turns_of vias spots u))
+    (other_groups n (turns_of vias spots u)) bytes
+    → arrays_at p n vias spots arrays (bytes ++ marker fill code rest)
+    ≡ Ok ((put_blocks spots (map (λ s. after_pass p (block_at arrays s) (u s)) spots) arrays, Some m), rest)
+unfolding arrays_at turns_of
+reads-arrays p n vias spots arrays u bytes fill code m rest ready h w =
+    ap (λ (o : Outcome (List Block × Option Marker)). o >>= put_back spots arrays)
+    (rw (map-map, map-map) at (reads-turns p n (map (turn_with vias arrays u) spots) bytes fill code m rest
+    (all-map (IsReadyAt p vias arrays u) (IsReady p) (turn_with vias arrays u) spots (λ s is. is.at) ready) h
+    (rw (map-map) w)))
 
 -- ---- blocks of a component
 
@@ -177,11 +230,8 @@ module _ (frame : Frame) (restart : ℕ) (p : Pass) (codings : List Coding) (arr
   suits-own k s h own =
       let r = at-all (SlotReady frame p array levels before) s.slot codings k ready h in
       let c = array k.index (s.index / k.component.blocks_wide) (s.index % k.component.blocks_wide) in
-      let here : Is8Bit c = range k.index (s.index / k.component.blocks_wide) (s.index %
-      k.component.blocks_wide) in
-      subst (λ (b : Block). Suits p b (u s)) (sym (kept-own k s h own))
-      (subst (λ (b : Block). Suits p (cut (levels k.index) c) (numbers_at p.al b)) (sym (sent-own k s
-      h own))
+      let here : Is8Bit c = grind arith in
+      rw (kept-own k s h own) (rw (sent-own k s h own)
       (suits-cut p (levels k.index) c here (here.count ∙ sym r.sized) r.legal))
 
   zeros-at : (l : List Coding) (slot index : ℕ)
@@ -193,17 +243,12 @@ module _ (frame : Frame) (restart : ℕ) (p : Pass) (codings : List Coding) (arr
   suits-at : SpotsSuit p before codings → (s : Spot) → IsIn s spots → Suits p (block_at scanned s) (u s)
   unfolding spots_of
   suits-at (none_read e z) s t =
-      subst (λ (q : Pass). Suits q (block_at scanned s) (numbers_at q.al (w.sent s))) (sym e)
-      (subst (λ (b : Block). Suits whole_pass b (numbers_at 0 (w.sent s))) (sym (zeros-at codings s.slot s.index z))
-      (suits-zero (w.sent s) (w.in_range s)))
+      rw e (rw (zeros-at codings s.slot s.index z) (suits-zero (w.sent s) (w.in_range s)))
   suits-at (dc_alone e f low) s t = suits-dc p (block_at scanned s) (w.sent s) e f low (w.in_range s)
   suits-at (one_component k e) s t =
       let first : At 0 codings k = subst (λ (l : List Coding). At 0 l k) (sym e) refl in
       let fits = (at-all (SlotReady frame p array levels before) 0 codings k ready first).fits in
-      let own : IsOwnSpot (grid_of k.component) s =
-      in-all (IsOwnSpot (grid_of k.component)) (own_spots (grid_of k.component)) s
-      (own-only (grid_of k.component) fits.own_wide)
-      (subst (λ (l : List Coding). IsIn s (spots_of frame (components_of l))) e t) in
+      let own : IsOwnSpot (grid_of k.component) s = search (rules, in-all, own-only, fits) in
       suits-own k s (subst (λ (n : ℕ). At n codings k) (sym own.slot) first) own.own
 
   abbrev f : Spot → Block
@@ -227,8 +272,7 @@ module _ (frame : Frame) (restart : ℕ) (p : Pass) (codings : List Coding) (arr
   after-own k s h own =
       let r = at-all (SlotReady frame p array levels before) s.slot codings k ready h in
       let c = array k.index (s.index / k.component.blocks_wide) (s.index % k.component.blocks_wide) in
-      let here : Is8Bit c = range k.index (s.index / k.component.blocks_wide) (s.index %
-      k.component.blocks_wide) in
+      let here : Is8Bit c = search rules in
       reaches f s spots scanned (inside k s h own)
       (covered frame (components_of codings) k.component s
       (at-map (λ (x : Coding). x.component) s.slot codings k h) r.fits own)

@@ -1,7 +1,6 @@
 -- Fronts of streams, and streams that mean one picture.
-use Rattle.std.proofs.Common.{rules, ◌≡◌, ℕ, ◌+◌, true, List, [], ◌∷◌, ◌++◌, Some, None, Result, Ok}
-use Rattle.std.proofs.Common.{Err, refl, sym, ap, ◌∙◌, ◌/◌, ◌%◌}
-use Rattle.std.proofs.Common.{subst, true≢false}
+use Rattle.std.proofs.Common.{rules, ◌≡◌, ℕ, ◌+◌, true, List, [], ◌∷◌, ◌++◌, Some, None, Result, Ok, Err, refl, sym}
+use Rattle.std.proofs.Common.{ap, ◌∙◌, ◌/◌, ◌%◌, subst, true≢false}
 use Rattle.std.specs.List.{AllByRecursion, enumerate_from}
 use Rattle.std.specs.Prelude.{slice_get, slice_index_or}
 use Rattle.jpeg_bits.specs.Reading.{Fault, ◌>>=◌}
@@ -18,8 +17,7 @@ use Rattle.jpeg_streams.specs.Stream.{Told, told_of}
 use Rattle.jpeg_streams.specs.FoundPictures.{picture_by}
 use Rattle.jpeg_streams.specs.WholeImages.{AllComplete}
 use Rattle.jpeg_streams.specs.WrittenImages.{WritesImage, ClosesImage, WritesPart}
-use Rattle.jpeg_streams.specs.WrittenParts.{AgreeOnOwn, HaveSamePicture, picture_meant_by}
-use Rattle.jpeg_streams.specs.WrittenParts.{WritesFront}
+use Rattle.jpeg_streams.specs.WrittenParts.{AgreeOnOwn, HaveSamePicture, picture_meant_by, WritesFront}
 use Rattle.jpeg_streams.specs.WrittenScans.{Coefficients, HasTable}
 use Rattle.jpeg_streams.proofs.Apart.{at-all, get-at}
 use Rattle.jpeg_streams.proofs.ReadTurns.{codings-each, same-frame}
@@ -62,12 +60,8 @@ same-planes : (a b : Said) (array : Coefficients) (index : ℕ) (cs : List Compo
     → gathered (array_plane a array) (enumerate_from index cs) ≡ gathered (array_plane b array) (enumerate_from index cs)
 unfolding gathered
 same-planes a b array index [] h = refl
-same-planes a b array index (c ∷ cs) h = search (
-  rules,
-  bind_same,
-  same-planes a b array (index +
-      1) cs h.1,
-)
+same-planes a b array index (c ∷ cs) h =
+    search (rules, bind_same, same-planes a b array (index + 1) cs h.1)
 
 pub same-picture : (settings : Settings) (array : Coefficients) (a b : Said) → HaveSamePicture a b
     → picture_of_blocks settings a array ≡ picture_of_blocks settings b array
@@ -76,11 +70,9 @@ same-picture settings array a b h =
     limited-same settings a b h.frame_a h.frame_b _ _ h.is_a h.is_b (search rules)
     (search (rules, bind_same, same-planes))
 
-whole-picture : (settings : Settings) (array : Coefficients) (bytes rest : List ℕ) (final : Said) (last : ℕ → Levels)
-    (frame : Frame)
-    → ((index row column : ℕ) → Is8Bit (array index row column)) → WritesImage array bytes final
-    last
-    → final.frame ≡ Some frame → AllComplete frame last
+whole-picture : (settings : Settings) (array : Coefficients) (bytes rest : List ℕ) (final : Said)
+    (last : ℕ → Levels) (frame : Frame) → ((index row column : ℕ) → Is8Bit (array index row column))
+    → WritesImage array bytes final last → final.frame ≡ Some frame → AllComplete frame last
     → picture_meant_by settings (bytes ++ rest) ≡ picture_of_blocks settings final array
 whole-picture settings array bytes rest final last frame range w e done =
     ap (λ o. o >>= (λ m. Ok m.0.1))
@@ -111,8 +103,7 @@ also-writes a b said final levels last bytes frame (segment said' final' levels'
     (also-writes a b (said_after said s) final levels last more frame w e agree)
 also-writes a b said final levels last bytes frame
     (scan said' final' levels' next last' f fill h data_bytes more framed is x w) e agree =
-    let same : f ≡ frame =
-    same-frame f frame final.frame (frame-kept (record said { scanned = true }) final next last more f w framed) e in
+    let same : f ≡ frame = search (rules, same-frame, frame-kept) in
     let alike : AgreeOnOwn f a b = subst (λ (x : Frame). AgreeOnOwn x a b) (sym same) agree in
     let Here : Coding → Type 0 = λ k. slice_get f.components k.index ≡ Some k.component in
     let here = codings-each Here said f (scan_written f h) x.codings x.legal.are_in_force
@@ -145,11 +136,10 @@ array-picture settings array bytes final last range w = ap (λ o. o >>= (λ m. O
     (search (rules, stream-means))
     ∙ picture-alone (picture_of_array settings final array last) (told_of final) []
 
-pub unseen-padding : (settings : Settings) (a b : Coefficients) (bytes : List ℕ) (final : Said) (last : ℕ → Levels)
-    (frame : Frame)
-    → ((index row column : ℕ) → Is8Bit (a index row column)) → ((index row column : ℕ) → Is8Bit (b
-    index row column))
-    → WritesImage a bytes final last → final.frame ≡ Some frame → AgreeOnOwn frame a b
+pub unseen-padding : (settings : Settings) (a b : Coefficients) (bytes : List ℕ) (final : Said)
+    (last : ℕ → Levels) (frame : Frame) → ((index row column : ℕ) → Is8Bit (a index row column))
+    → ((index row column : ℕ) → Is8Bit (b index row column)) → WritesImage a bytes final last
+    → final.frame ≡ Some frame → AgreeOnOwn frame a b
     → picture_of_array settings final a last ≡ picture_of_array settings final b last
 unseen-padding settings a b bytes final last frame range_a range_b w e agree =
     sym (array-picture settings a bytes final last range_a w)

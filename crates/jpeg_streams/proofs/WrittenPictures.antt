@@ -1,55 +1,259 @@
 -- The picture of a written stream is that of its array, cut at the levels that were sent.
-use Rattle.std.proofs.Common.{rules, ◌≡◌, ◌&&◌, Bool, true, false, List, Some, None, Result, refl, subst, arith}
-use Rattle.std.proofs.Common.{ℕ, length, get_or, slice_index, slice_index_or, is_some, Option}
-use Rattle.std.proofs.Common.{true≢false, suc, ◌+◌, ◌*◌, ◌/◌, ◌%◌, ◌<◌, ◌≤◌, [], ◌∷◌, map, ℤ, ◌≢◌}
-use Rattle.std.proofs.Common.{Ok, sym, ap, ap₂, ◌∙◌, ◌++◌}
+use Rattle.std.proofs.Common.{rules, ◌≡◌, ℕ, Bool, true, false, List, [], Option, None, Ok, refl, slice_index_or}
+use Rattle.std.proofs.Common.{subst, arith, ◌≢◌, ◌+◌, ◌/◌, ◌%◌, ◌<◌, ◌∷◌, map, length, ◌++◌, replicate, Some, sym, ap}
+use Rattle.std.proofs.Common.{◌∙◌, true≢false, ◌&&◌, Result, get_or, slice_index, is_some, suc, ◌*◌, ℤ, ap₂}
+use Rattle.std.specs.List.{AllByRecursion, enumerate_from, range_with_len, list_all}
+use Rattle.jpeg_bits.specs.Codes.{Table, IsTable}
+use Rattle.jpeg_bits.specs.declared.codes.HuffmanTableClass.{HuffmanTableClass}
+use Rattle.jpeg_bits.specs.DefaultTables.{with_defaults}
+use Rattle.jpeg_bits.proofs.DefaultTables.{luminance-dc-codes, chrominance-dc-codes, luminance-ac-codes}
+use Rattle.jpeg_bits.proofs.DefaultTables.{chrominance-ac-codes}
+use Rattle.jpeg_segments.specs.Frame.{Frame, Component, ceiling}
+use Rattle.jpeg_segments.specs.ScanHeader.{Scan, Selector, is_band, scan_of}
+use Rattle.jpeg_streams.specs.Scans.{no_table, Arrays}
+use Rattle.jpeg_streams.specs.ScanSegments.{Coding, codings_of, needed_if, tables_of, pass_of, arrays_before}
+use Rattle.jpeg_streams.specs.ScanSegments.{is_progressive, scan_turn}
+use Rattle.jpeg_streams.specs.Found.{Said, Found, none_finished, nothing_found, nothing_said, Metadata}
+use Rattle.jpeg_streams.proofs.ReadTurns.{codings-each, needed-some, ok-same, same-frame, scan-by, then-ok}
+use Rattle.jpeg_streams.proofs.SaidTables.{HasTables, IsTableOrNone, table-there}
+use Rattle.jpeg_streams.proofs.WrittenFrameScans.{no-codes, HoldsOwn, in-all}
 use Rattle.std.proofs.lemmas.Grind.{common_steps}
+use Rattle.std.proofs.lemmas.Bool.{eqb-true, leb-true, eq-eqb}
+use lib.ListN.{length-map}
+use Rattle.jpeg_segments.specs.declared.parser.CodingProcess.TheVariants.{Lossless}
+use Rattle.jpeg_segments.specs.ScanHeaders.{AreChoices, IsScan, ScanHeader, scan_written}
+use Rattle.jpeg_segments.proofs.Fields.{nibbles-high, nibbles-low}
+use Rattle.jpeg_streams.proofs.IndicesApart.{IsAbsent, AreApart}
+use Rattle.jpeg_streams.proofs.BroughtLevels.{PassSo, ScanFacts, progressive-pass, Framed, framed-start, scan-brings}
+use Rattle.jpeg_streams.proofs.BroughtLevels.{Shaped, PlaneSo, is_level_0, is_whole, Made, kept-arrays}
+use Rattle.jpeg_bits.specs.Reading.{Outcome, Fault, ◌>>=◌}
+use Rattle.jpeg_bits.specs.Written.{marker}
+use Rattle.jpeg_pixels.specs.Pictures.{Source, sources_of, image_of}
+use Rattle.jpeg_segments.specs.WrittenSegments.{frame_written, FrameHeader, Header, Quantization, Segment}
+use Rattle.jpeg_segments.proofs.HeaderSegments.{sos-read}
+use Rattle.jpeg_streams.specs.Levels.{Is8Bit, Levels, nothing_sent, cut}
+use Rattle.jpeg_streams.specs.SaidSegments.{said_after, Stands}
+use Rattle.jpeg_streams.specs.Stream.{meaning, Told, told_of}
+use Rattle.jpeg_streams.specs.WholeImages.{AllComplete}
+use Rattle.jpeg_streams.specs.WrittenImages.{MayStandInImage, WritesImage, WritesImageScan}
+use Rattle.jpeg_streams.specs.WrittenScans.{Coefficients, HasTable, IsComplete}
+use Rattle.jpeg_streams.proofs.FrameShapes.{accepted-sources, all-shaped, frame-lossy, Plain, below-ceiling}
+use Rattle.jpeg_streams.proofs.LosslessFrames.{all-ranged}
+use Rattle.jpeg_streams.proofs.WalkedStreams.{beside, FindsScan, IsMeant, IsRead, IsSaid, ReadTo, stream-read}
+use Rattle.jpeg_streams.specs.declared.settings.Settings.{Settings}
 use Rattle.std.proofs.Math.Nat.{div-lt_iff_lt-mul, mul_comm, div-mul-le_self}
 use Rattle.std.proofs.lemmas.Nat.{div-mul-add, mod-mul-add}
-use Rattle.std.proofs.lemmas.Bool.{eq-eqb}
 use Rattle.std.proofs.lemmas.List.FromFn.{get_or-map-range_with_len, length-map-range_with_len}
-use Rattle.std.specs.List.{AllByRecursion, enumerate_from, range_with_len, list_all}
-use Rattle.jpeg_bits.specs.Reading.{Fault, ◌>>=◌, Outcome}
 use Rattle.jpeg_bits.specs.declared.color_transform.ColorTransform.{ColorTransform}
 use Rattle.jpeg_pixels.specs.Colour.{conversion_of}
 use Rattle.jpeg_pixels.specs.declared.upsampler.ColorConvert.{ColorConvert}
-use Rattle.jpeg_segments.specs.Frame.{Frame, Component, ceiling}
 use Rattle.jpeg_bits.specs.Zigzag.{coefficients_in_block_order, values_in_block_order}
-use Rattle.jpeg_pixels.specs.Pictures.{Source, sources_of, image_of}
 use Rattle.jpeg_streams.proofs.ScaledSizes.{reaches-made, scale-made, one-made}
-use Rattle.jpeg_streams.specs.declared.settings.Settings.{Settings}
 use Rattle.jpeg_bits.specs.Passes.{Block, zero_block, listed}
 use Rattle.jpeg_streams.specs.Order.{grid_of}
-use Rattle.jpeg_streams.specs.Scans.{Arrays}
 use Rattle.jpeg_pixels.specs.Scaled.{sample_at}
 use Rattle.jpeg_pixels.specs.Planes.{plane_sample, plane_of}
 use Rattle.jpeg_segments.specs.Checks.{gathered, needed}
-use Rattle.jpeg_streams.specs.FoundPictures.{plane_at_end, picture_of, picture_by_process, blocks_picture}
-use Rattle.jpeg_streams.specs.FoundPictures.{picture_by, picture_in}
+use Rattle.jpeg_streams.specs.FoundPictures.{plane_at_end, picture_of, picture_by_process, blocks_picture, picture_by}
+use Rattle.jpeg_streams.specs.FoundPictures.{picture_in}
 use Rattle.jpeg_streams.specs.Rasters.{plane_by, plane_of_blocks}
-use Rattle.jpeg_streams.specs.ScanSegments.{is_progressive}
-use Rattle.jpeg_streams.specs.Found.{Found, Metadata, Said}
 use Rattle.jpeg_segments.specs.declared.parser.CodingProcess.{CodingProcess}
-use Rattle.jpeg_segments.specs.declared.parser.CodingProcess.TheVariants.{Lossless}
-use Rattle.jpeg_streams.specs.Stream.{meaning, Told, told_of}
-use Rattle.jpeg_streams.specs.Levels.{Levels, Is8Bit, cut}
-use Rattle.jpeg_streams.proofs.FinishedIndices.{is_level_0}
-use Rattle.jpeg_streams.specs.WrittenScans.{Coefficients, HasTable, IsComplete}
-use Rattle.jpeg_streams.specs.ArrayPictures.{HasTransform, IsTransformOf, TakesPicture}
-use Rattle.jpeg_streams.specs.ArrayPictures.{as_sent, picture_of_blocks}
+use Rattle.jpeg_streams.specs.ArrayPictures.{HasTransform, IsTransformOf, TakesPicture, as_sent, picture_of_blocks}
 use Rattle.jpeg_streams.specs.ArrayPictures.{meaning_of_array, picture_of_array}
-use Rattle.jpeg_streams.specs.WrittenImages.{WritesImage}
 use Rattle.jpeg_streams.proofs.OwnSpots.{At, at-within, Fits, in-below}
-use Rattle.jpeg_streams.proofs.WrittenFrameScans.{HoldsOwn, in-all}
 use Rattle.jpeg_streams.proofs.Apart.{at-all}
-use Rattle.jpeg_streams.proofs.ReadStates.{is_whole}
-use Rattle.jpeg_streams.proofs.BroughtLevels.{Made, Shaped, kept-arrays, Framed}
-use Rattle.jpeg_streams.proofs.ReadTurns.{then-ok, same-frame}
 use Rattle.jpeg_streams.proofs.LimitedPictures.{array_plane, limited-ok, limited-same}
-use Rattle.jpeg_streams.proofs.FrameShapes.{below-ceiling}
-use Rattle.jpeg_streams.proofs.ReadStreams.{bring, image-walked, ImageMeant, Progress, ReadImage}
-use Rattle.jpeg_streams.proofs.WalkedStreams.{beside}
 use Rattle.jpeg_streams.proofs.InsidePictures.{SamePlane, AllAlike, image-same, cropped-same}
+
+-- ---- the tables in force exist
+
+good-defaults : (one two : Table) (indices : List ℕ) (l : List (Option Table)) → IsTable one
+    → IsTable two → AllByRecursion IsTableOrNone l → AllByRecursion IsTableOrNone
+    (with_defaults one two indices l)
+good-defaults one two indices [] a b h = tt
+good-defaults one two indices l a b h = search rules
+
+needed-good : (b : Bool) (class : HuffmanTableClass) (l : List (Option Table)) (i : ℕ) (t : Table)
+    → AllByRecursion IsTableOrNone l → needed_if b class (slice_index_or l i None) ≡ Ok t → IsTable t
+needed-good true class l i t h e = table-there l i t h (needed-some _ t e)
+needed-good false class l i t h e = subst IsTable (ok-same (no_table class) t e) (record {
+  counted = refl;
+  exists = λ i h. absurd
+      (let n = no-codes class in omega arith);
+})
+
+-- The tables of a scan exist.
+pub codings-good : (w : Said) (f : Frame) (s : Scan) (codings : List Coding) → HasTables w.huffman
+    → codings_of w f s ≡ Ok codings → AllByRecursion (λ c. IsTable c.dc × IsTable c.ac) codings
+unfolding tables_of
+codings-good w f s codings h e =
+    let good : HasTables (tables_of w s) =
+    search (rules, good-defaults, luminance-dc-codes, chrominance-dc-codes, luminance-ac-codes, chrominance-ac-codes) in
+    codings-each (λ c. IsTable c.dc × IsTable c.ac) w f s codings e (λ index d a k is. search (rules, needed-good))
+
+-- ---- the components, each after those before it
+
+chosen_indices : List (ℕ × Selector) → List ℕ
+chosen_indices cs = map (λ s. s.component) (map (λ c. c.1) cs)
+
+absent-after : (f : Frame) (n least : ℕ) (cs : List (ℕ × Selector)) → n < least → AreChoices f least cs
+    → IsAbsent n (chosen_indices cs)
+unfolding AreChoices chosen_indices
+absent-after f n least [] h are = tt
+absent-after f n least (c ∷ cs) h are = search (rules, absent-after f n (c.1.component + 1) cs (omega arith) are.1)
+
+all-apart : (f : Frame) (least : ℕ) (cs : List (ℕ × Selector)) → AreChoices f least cs → AreApart (chosen_indices cs)
+unfolding AreChoices chosen_indices
+all-apart f least [] are = tt
+all-apart f least (c ∷ cs) are = search (rules, absent-after, all-apart f (c.1.component + 1) cs are.1)
+
+-- ---- the band
+
+scan-is : (f : Frame) (sel : List Selector) (first last levels : ℕ) → f.process ≢ Lossless
+    → is_band f.process (length sel) first last (levels / 16) (levels % 16) ≡ true
+    → PassSo f (scan_of f sel first last levels)
+unfolding scan_of pass_of
+scan-is f sel first last levels n b = grind (arith, common_steps, eqb-true, progressive-pass, leb-true)
+
+-- What a scan header that is written says.
+pub header-facts : (f : Frame) (h : ScanHeader) → IsScan f h → f.process ≢ Lossless → ScanFacts f (scan_written f h)
+unfolding chosen_indices scan_of
+header-facts f h is n = search (rules, length-map, nibbles-high, nibbles-low, all-apart, scan-is)
+
+-- ---- what scans bring
+
+-- blocks that are kept, finished indices and decided planes
+abbrev pub Progress : Type 0
+Progress = Arrays × List (List Bool) × List (Option (List ℕ))
+
+abbrev pub no_progress : Progress
+no_progress = ([], replicate 4 none_finished, replicate 4 None)
+
+abbrev pub bring : Progress → Found
+bring x =
+    record { said = nothing_said; kept = x.0; finished = x.1; planes = x.2; samples = replicate 4 None }
+
+-- Nothing before the first scan, and then what the levels say.
+pub record Holds (array : Coefficients) (said : Said) (levels : ℕ → Levels) (x : Progress) : Type 0 where
+  pub fresh : said.scanned ≡ false
+      → (x ≡ no_progress) × ◌≡◌ {A = ℕ → Levels} levels (λ k. nothing_sent)
+  pub framed : said.scanned ≡ true
+      → (f : Frame) × (said.frame ≡ Some f) × Framed said f array levels true x.0 x.1 x.2
+
+pub holds-nothing : (array : Coefficients) (said : Said) → said.scanned ≡ false
+    → Holds array said (λ k. nothing_sent) no_progress
+holds-nothing array said e = record { fresh = λ g. (refl, refl); framed = λ g. absurd (true≢false (sym g ∙ e)) }
+
+-- ---- a segment between scans
+
+plane-kept : (w next : Said) (array : Coefficients) (l : Levels) (pl : List (Option (List ℕ))) (k : ℕ)
+    (c : Component) → next.quantization ≡ w.quantization
+    → PlaneSo w array l pl k c → PlaneSo next array l pl k c
+plane-kept w next array l pl k c e p = search rules
+
+framed-same : (w next : Said) (f : Frame) (array : Coefficients) (levels : ℕ → Levels) (x : Progress)
+    → next.quantization ≡ w.quantization → Framed w f array levels true x.0 x.1 x.2
+    → Framed next f array levels true x.0 x.1 x.2
+unfolding arrays_before
+framed-same w next f array levels x e fr = search (rules, plane-kept)
+
+holds-next : (array : Coefficients) (said : Said) (levels : ℕ → Levels) (x : Progress) (s : Segment) → Stands said s
+    → MayStandInImage said s → Holds array said levels x → Holds array (said_after said s) levels x
+holds-next array said levels x (Quantization ts) stands may held = search rules
+holds-next array said levels x (Header number h) stands may held = search rules
+holds-next array said levels x s stands may held = record {
+  fresh = held.fresh;
+  framed = λ e.
+      let h = held.framed e in
+      (h.0, h.1, framed-same said (said_after said s) h.0 array levels x refl h.2);
+}
+
+-- ---- a scan
+
+-- a frame of known shape, whose components have ways to be upsampled
+abbrev pub IsDrawn : Frame → Type 0
+IsDrawn f = Shaped f
+    × ((sources : List Source) × (sources_of f.components f.output_width f.output_height ≡ Ok sources))
+
+pub plain-said : (said : Said) (number : ℕ) (h : FrameHeader) → Stands said (Header number h)
+    → Plain (frame_written number h)
+plain-said said number h stands = search (rules, all-ranged)
+
+pub drawn-said : (said : Said) (number : ℕ) (h : FrameHeader) → Stands said (Header number h)
+    → MayStandInImage said (Header number h) → IsDrawn (frame_written number h)
+drawn-said said number h stands few =
+    search (rules, all-shaped, plain-said, frame-lossy, accepted-sources)
+
+module _ (array : Coefficients) (range : (index row column : ℕ) → Is8Bit (array index row column)) where
+  framed-now : (said : Said) (levels : ℕ → Levels) (x : Progress) (f : Frame) → Holds array said levels x
+      → said.frame ≡ Some f → Framed said f array levels said.scanned x.0 x.1 x.2
+  framed-now said levels x f held e = go said.scanned refl
+    where
+      go : (b : Bool) → said.scanned ≡ b → Framed said f array levels b x.0 x.1 x.2
+      go false g =
+          let n = held.fresh g in
+          rw n.1 (framed-start said f array x.0 x.1 x.2 range (ap (λ (y : Progress). y.1) n.0)
+          (ap (λ (y : Progress). y.2) n.0))
+      go true g =
+          let h = held.framed g in
+          subst (λ (y : Frame). Framed said y array levels true x.0 x.1 x.2) (same-frame h.0 f said.frame h.1 e) h.2
+
+  scan-found : (said : Said) (levels next : ℕ → Levels) (x : Progress) (f : Frame) (h : ScanHeader) (bytes : List ℕ)
+      → IsSaid IsDrawn said → said.frame ≡ Some f → IsScan f h → WritesImageScan array said levels f h bytes next
+      → Holds array said levels x → FindsScan bring (Holds array) said next x h bytes
+  scan-found said levels next x f h bytes is e scan w held =
+      let s = scan_written f h in
+      let shape = (is.shaped f e).0 in
+      let b = scan-brings said f array levels said.scanned x.0 x.1 x.2 s w.codings bytes range shape
+      (framed-now said levels x f held e) (header-facts f h scan shape.lossy)
+      (codings-good said f s w.codings is.tables w.legal.are_in_force) w.legal w.written in
+      record {
+        brought = (b.kept, b.finished, b.planes);
+        held = record {
+          fresh = λ g. absurd (true≢false g);
+          framed = λ g. (
+            f,
+            e,
+            framed-same said _ f array next (b.kept, b.finished, b.planes) refl
+                (subst (λ (l : ℕ → Levels). Framed said f array l true b.kept b.finished b.planes) w.sent b.framed),
+          );
+        };
+        found = λ fill code m left makes ends.
+            scan-by (beside bring said x) f s w.codings b.arrays m _ (bytes ++ marker fill code left) left
+            shape.lossy e (sos-read f h (bytes ++ marker fill code left) scan)
+            w.legal.are_in_force
+            (b.read fill code m left (record { is = makes })) (ends (length left) left)
+            ∙ ap (λ (y : Found). Ok (scan_turn (beside bring said x) y (Some m), left)) b.after;
+      }
+
+  pub image-read : IsRead MayStandInImage (WritesImageScan array) IsDrawn bring (Holds array)
+  image-read = search (rules, drawn-said, holds-next, scan-found)
+
+-- ---- the end
+
+-- where an image may end
+abbrev pub MayEndImage : Said → (ℕ → Levels) → Frame → Type 0
+MayEndImage said levels frame =
+    (said.scanned ≡ true) × AllByRecursion (HasTable said) frame.components
+    × (is_progressive frame.process ≡ false → AllComplete frame levels)
+
+-- ---- the whole
+
+abbrev pub ReadImage : Coefficients → Said → (ℕ → Levels) → Type 0
+ReadImage array final last = ReadTo IsDrawn (Holds array) MayEndImage final last
+
+abbrev pub ImageMeant : Settings → Coefficients → Said → (ℕ → Levels) → List ℕ → Outcome (Told × List ℕ) → Type 0
+ImageMeant settings array final last tail meant =
+    IsMeant IsDrawn bring (Holds array) MayEndImage settings final last tail meant
+
+pub image-walked : (settings : Settings) (array : Coefficients) (bytes tail : List ℕ) (final : Said)
+    (last : ℕ → Levels)
+    → ((index row column : ℕ) → Is8Bit (array index row column)) → WritesImage array bytes final last
+    → ImageMeant settings array final last tail (meaning settings (bytes ++ tail))
+unfolding nothing_found nothing_said
+image-walked settings array bytes tail final last range w =
+    stream-read MayEndImage (image-read array range) tail (λ k. nothing_sent) last bytes final no_progress settings w
+    refl (holds-nothing array nothing_said refl)
 
 -- ---- one plane
 
@@ -64,10 +268,8 @@ unfolding plane_of
 plane-at s table wide high b x y h k =
     let i = y * (s * wide) + x in
     let row : i / (s * wide) ≡ y = div-mul-add y (s * wide) x h in
-    let column : i % (s * wide) ≡ x = mod-mul-add y (s * wide) x h in
-    let some : 0 < s * wide = omega arith in
     let e = mul_comm (s * wide) (s * high) in
-    let within : i < s * high * (s * wide) = (div-lt_iff_lt-mul some).0 (omega arith) in
+    let within : i < s * high * (s * wide) = (div-lt_iff_lt-mul (omega arith)).0 (omega arith) in
     let zero-more : 0 + i ≡ i = omega arith in
     search (rules, get_or-map-range_with_len)
 
@@ -160,9 +362,7 @@ module _ (array : Coefficients) (final : Said) (last : ℕ → Levels) (r : Read
   shape = (r.said.shaped f r.framed).0
 
   framed : Framed final f array last true x.0 x.1 x.2
-  framed =
-      let h = r.held.framed r.ended.0 in
-      subst (λ (g : Frame). Framed final g array last true x.0 x.1 x.2) (same-frame h.0 f final.frame h.1 r.framed) h.2
+  framed = search (rules, same-frame)
 
   plane-end : (k : ℕ) (c : Component) → At k f.components c → PlaneAtEnd found f array (last k) k c
   plane-end k c t = go (is_whole (last k)) refl (is_progressive f.process) refl
@@ -185,8 +385,7 @@ module _ (array : Coefficients) (final : Said) (last : ℕ → Levels) (r : Read
             table = q.0;
             is_table = q.1;
             blocks = get_or x.0 k [];
-            holds = subst (λ (a : Arrays). HoldsOwn (grid_of c) (array k) (last k) (get_or a k []))
-                (kept-arrays final x.0 x.1 x.2 f g) ((framed.kept g).each k c t);
+            holds = rw (kept-arrays final x.0 x.1 x.2 f g) at ((framed.kept g).each k c t);
             is = end-kept found f k c q.0 n g r.ended.0 q.1;
           }
       go false e false g =
@@ -206,18 +405,10 @@ module _ (array : Coefficients) (final : Said) (last : ℕ → Levels) (r : Read
       → ((j : ℕ) (c : Component) → At j components c → At (index + j) f.components c) → BothPlanes
       index components
   unfolding gathered
-  planes-end index [] within = record {
-    ours = [];
-    theirs = [];
-    ours_are = refl;
-    theirs_are
-        = refl;
-    alike = tt;
-  }
+  planes-end index [] within = grind (arith, common_steps)
   planes-end index (c ∷ more) within =
       let start : index + 0 ≡ index = omega arith in
-      let t : At index f.components c = subst (λ (n : ℕ). At n f.components c) start (within 0 c
-      refl) in
+      let t : At index f.components c = grind arith in
       let e = plane-end index c t in
       let others = planes-end (index + 1) more
       (λ j d u. let next : index + suc j ≡ (index + 1) + j = omega arith in
@@ -241,8 +432,7 @@ module _ (array : Coefficients) (final : Said) (last : ℕ → Levels) (r : Read
       }
 
   both-planes : BothPlanes 0 f.components
-  both-planes = planes-end 0 f.components
-      (λ j c t. let start : 0 + j ≡ j = omega arith in subst (λ (n : ℕ). At n f.components c) (sym start) t)
+  both-planes = search (rules, planes-end)
 
 -- ---- the picture
 
@@ -282,17 +472,13 @@ pictures-same settings array final last r =
 pub pictured : (settings : Settings) (array : Coefficients) (final : Said) (last : ℕ → Levels) (tail : List ℕ)
     (meant : Outcome (Told × List ℕ)) → ImageMeant settings array final last tail meant
     → meant ≡ meaning_of_array settings final array last tail
-pictured settings array final last tail meant r =
-    r.1 ∙ ap (λ (o : Result (List ℕ) Fault). o >>= (λ (picture : List ℕ). Ok ((told_of final, picture), tail)))
-    (pictures-same settings array final last r.0)
+pictured settings array final last tail meant r = search (rules, pictures-same)
 
 pub stream-means : (settings : Settings) (array : Coefficients) (bytes rest : List ℕ) (final : Said)
-    (last : ℕ → Levels)
-    → ((index row column : ℕ) → Is8Bit (array index row column)) → WritesImage array bytes final
-    last
-    → meaning settings (bytes ++ rest) ≡ meaning_of_array settings final array last rest
-stream-means settings array bytes rest final last range w =
-    pictured settings array final last rest _ (image-walked settings array bytes rest final last range w)
+    (last : ℕ → Levels) → ((index row column : ℕ) → Is8Bit (array index row column))
+    → WritesImage array bytes final last → meaning settings
+    (bytes ++ rest) ≡ meaning_of_array settings final array last rest
+stream-means settings array bytes rest final last range w = search (rules, pictured, image-walked)
 
 -- ---- there is a picture
 
@@ -331,8 +517,7 @@ taken settings array final last tail meant r takes =
     let sources = (r.0.said.shaped f r.0.framed).1 in
     let same : takes.frame ≡ f = same-frame takes.frame f final.frame takes.is_said r.0.framed in
     let b = both-planes array final last r.0 in
-    let limit = subst (λ (g : Frame). length g.components * (g.output_width * g.output_height) ≤ settings.limit) same
-    takes.limit in
+    let limit = rw same at takes.limit in
     let picture = picture-there settings final f f.components b.ours b.theirs sources.0
     (subst (λ (g : Frame). HasTransform settings final g.components) same takes.transform) sources.1 b.alike in
     let is = limited-ok settings final f _ picture.0 r.0.framed limit
@@ -345,11 +530,9 @@ taken settings array final last tail meant r takes =
     )
 
 -- A written stream whose picture is taken means that picture.
-pub taken-means : (settings : Settings) (array : Coefficients) (bytes rest : List ℕ) (final : Said) (last : ℕ → Levels)
-    → ((index row column : ℕ) → Is8Bit (array index row column)) → WritesImage array bytes final
-    last
-    → TakesPicture settings final
-    → (picture : List ℕ) × (picture_of_array settings final array last ≡ Ok picture)
+pub taken-means : (settings : Settings) (array : Coefficients) (bytes rest : List ℕ) (final : Said)
+    (last : ℕ → Levels) → ((index row column : ℕ) → Is8Bit (array index row column))
+    → WritesImage array bytes final last → TakesPicture settings final → (picture : List ℕ)
+    × (picture_of_array settings final array last ≡ Ok picture)
     × (meaning settings (bytes ++ rest) ≡ Ok ((told_of final, picture), rest))
-taken-means settings array bytes rest final last range w =
-    taken settings array final last rest _ (image-walked settings array bytes rest final last range w)
+taken-means settings array bytes rest final last range w = search (rules, taken, image-walked)

@@ -1,8 +1,8 @@
 -- A refinement that was written is read again.
 use Rattle.std.proofs.Common.{rules, ◌≡◌, ◌≢◌, ◌⊎◌, inl, inr, ℕ, zero, suc, ◌+◌, ◌-◌, ◌*◌, ◌/◌, ◌%◌, ◌^◌, ◌<◌, ◌≤◌}
 use Rattle.std.proofs.Common.{Bool, true, false, List, [], ◌∷◌, ◌++◌, map, length, take, drop, ℤ, pos, negsuc, neg_ℤ}
-use Rattle.std.proofs.Common.{◌*ℤ◌, unsigned_abs, refl, sym, ap, ◌∙◌, subst, append_assoc, arith, eqb, pow-suc, pow_pos}
-use Rattle.std.proofs.Common.{add-zero, mul_assoc, Ok, length-append, set, slice_index}
+use Rattle.std.proofs.Common.{◌*ℤ◌, unsigned_abs, refl, sym, ap, ◌∙◌, subst, append_assoc, arith, eqb, pow-suc}
+use Rattle.std.proofs.Common.{pow_pos, add-zero, mul_assoc, length-append, set, slice_index}
 use Rattle.std.proofs.Math.Seq.{set-append_seam}
 use lib.Arith.{digits_div}
 use Rattle.std.proofs.Math.Nat.{add-mul, zero-mul, one-mul, mul-le-mul}
@@ -11,7 +11,7 @@ use Rattle.std.proofs.lemmas.Bool.Decides.{nat_tests}
 use Rattle.std.specs.List.{AllByRecursion}
 use Rattle.jpeg_bits.specs.Entropy.{bits_from}
 use Rattle.jpeg_bits.specs.Codes.{Table}
-use Rattle.jpeg_bits.specs.Readers.{Reads, each, ◌>>=◌, gives, text, ReadsJust}
+use Rattle.jpeg_bits.specs.Readers.{Reads, each, ◌>>=◌, gives, ReadsJust}
 use Rattle.jpeg_bits.specs.Bands.{Band, before_more}
 use Rattle.jpeg_bits.specs.Refinement.{is_zero, bit_of, corrected_by, corrected, through_zero}
 use Rattle.jpeg_bits.specs.Refinement.{new_number, with_last, refined_piece, refined_ac}
@@ -64,13 +64,7 @@ nothing_or_old u h = search (rules, le-leb)
 -- ---- correction bits
 
 pub corrected-stays : (al : ℕ) (z w : ℤ) → z ≡ w → ReadsJust (corrected_by al z 0) [] w
-corrected-stays al z w e = record {
-  read = λ rest numbers n. ap (λ (x : ℤ). Ok (
-    x,
-    text rest
-        numbers n,
-  )) e;
-}
+corrected-stays al z w e = search rules
 
 pub even : (m : ℕ) → (2 * m) % 2 ≡ 0
 even m = omega arith
@@ -83,7 +77,6 @@ pub corrects-pos : (al m b : ℕ) → b < 2 → (2 * m + b) * 2 ^ al < 2 ^ 15
 corrects-pos al m (suc zero) h fits =
     let p = 2 ^ al in
     let double = times-two_power m al in
-    let all = spread m 1 p in
     let high : m * 2 ^ suc al / 2 ^ al ≡ 2 * m =
     ap (λ (x : ℕ). x / p) (double ∙ sym (mul_assoc 2 m p) ∙ sym (add-zero (2 * m * p)))
     ∙ digits_div (2 * m) (pow_pos al) in
@@ -143,10 +136,6 @@ corrected-zero : (al : ℕ) (z : ℤ) (zs ws : List ℤ) (bits : List Bool) → 
 unfolding corrected each
 corrected-zero al z zs ws bits e k = rw e (takes-map (corrected al zs) (λ (l : List ℤ). pos 0 ∷ l) bits ws k)
 
-pub corrections-zero : (us : List ℤ) → corrections (pos 0 ∷ us) ≡ corrections us
-unfolding corrections
-corrections-zero us = refl
-
 pub corrections-old : (u : ℤ) (us : List ℤ) → is_old u ≡ true
     → corrections (u ∷ us) ≡ bit (unsigned_abs u % 2) ∷ corrections us
 unfolding corrections
@@ -183,15 +172,13 @@ pub count-zero : (us : List ℤ) → count_unknown (pos 0 ∷ us) ≡ suc (count
 unfolding count_unknown
 count-zero us = refl
 
-pub count-old : (u : ℤ) (us : List ℤ) → is_old u ≡ true
-    → count_unknown (u ∷ us) ≡ count_unknown us
+pub count-old : (u : ℤ) (us : List ℤ) → is_old u ≡ true → count_unknown (u ∷ us) ≡ count_unknown us
 unfolding count_unknown
 count-old u us o = rw (o, count_unknown) refl
 
 -- the piece of a token ends with the place after those that are neither old nor new
-pub through : (al : ℕ) (front : List ℤ) (u : ℤ) (more : List ℤ) → kept al u ≡ pos 0
-    → NoneNew front → through_zero (count_unknown front) (map (kept al) (front ++ u ∷ more)) ≡ suc
-    (length front)
+pub through : (al : ℕ) (front : List ℤ) (u : ℤ) (more : List ℤ) → kept al u ≡ pos 0 → NoneNew front
+    → through_zero (count_unknown front) (map (kept al) (front ++ u ∷ more)) ≡ suc (length front)
 unfolding NoneNew count_unknown through_zero
 through al [] u more z none = search (rules, kept)
 through al (v ∷ front) u more z none =
@@ -229,16 +216,12 @@ with_last-end x y xs =
     ap (λ (i : ℕ). set (xs ++ y ∷ []) i x) (omega (arith, length-append xs (y ∷ []))) ∙ set-append_seam xs y [] x
 
 -- the places of a piece, with their corrections
-pub takes-front : (al : ℕ) (front : List ℤ) (u : ℤ) (more : List ℤ) → kept al u ≡ pos 0 → NoneNew
-    front
-    → AllByRecursion (InRange al) (front ++ u ∷ more)
+pub takes-front : (al : ℕ) (front : List ℤ) (u : ℤ) (more : List ℤ) → kept al u ≡ pos 0
+    → NoneNew front → AllByRecursion (InRange al) (front ++ u ∷ more)
     → ReadsJust (corrected al (take (suc (length front)) (map (kept al) (front ++ u ∷ more))))
-    (corrections front)
-    (map (scaled al) (front ++ pos 0 ∷ []))
+    (corrections front) (map (scaled al) (front ++ pos 0 ∷ []))
 takes-front al front u more z none range =
-    subst (λ (l : List ℤ). ReadsJust (corrected al l) (corrections front) (map (scaled al) (front ++ pos 0 ∷ [])))
-    (sym (front-of al front u more z))
-    (takes-as _ _ _ _ _ (corrections-end front) refl
+    rw (front-of al front u more z) (takes-as _ _ _ _ _ (corrections-end front) refl
     (takes-corrected al (front ++ pos 0 ∷ []) (none-end front none) (range-end al front (u ∷ more) range)))
 
 pub map-scaled : (al : ℕ) (front more : List ℤ)
@@ -246,8 +229,7 @@ pub map-scaled : (al : ℕ) (front more : List ℤ)
 map-scaled al [] more = refl
 map-scaled al (v ∷ front) more = ap (λ (l : List ℤ). scaled al v ∷ l) (map-scaled al front more)
 
-pub new-scaled : (al : ℕ) (u : ℤ) → unsigned_abs u ≡ 1
-    → new_number al (sign_bit u) ≡ scaled al u
+pub new-scaled : (al : ℕ) (u : ℤ) → unsigned_abs u ≡ 1 → new_number al (sign_bit u) ≡ scaled al u
 new-scaled al u h1 = grind (arith, nat_tests, one-mul)
 
 sign-small : (u : ℤ) → sign_bit u < 2
@@ -264,18 +246,14 @@ unfolding refined_piece
 piece-found al r others front u more bits run none count new range w =
     let z = kept-new al u new in
     let rest = map (kept al) (front ++ u ∷ more) in
-    let n : through_zero r rest ≡ suc (length front) = ap (λ (c : ℕ). through_zero c rest) (sym count)
-    ∙ through al front u more z none in
+    let n : through_zero r rest ≡ suc (length front) = grind (arith, through) in
     let result : with_last (new_number al (sign_bit u)) (map (scaled al) (front ++ pos 0 ∷ [])) ++ map
     (scaled al) more ≡ map (scaled al) (front ++ u ∷ more)
     = search (rules, scaled, map-scaled, with_last-end, append_assoc, one-mul, neg_ℤ) in
-    let back = subst (λ (l : List ℤ). ReadsJust (others l) bits (map (scaled al) more, run))
-    (sym (back-of al front u more)) w in
+    let back = rw (sym (back-of al front u more)) at w in
     let step = λ (k : ℕ). bits_from 1 >>= (λ sign. corrected al (take k rest) >>= (λ f.
     others (drop k rest) >>= (λ m. gives (before_more (with_last (new_number al sign) f) m)))) in
-    subst (λ (k : ℕ). ReadsJust (step k) (bit (sign_bit u) ∷ (corrections front ++ bits))
-    (map (scaled al) (front ++ u ∷ more), run)) (sym n)
-    (takes-as _ _ _ _ _ refl (ap (λ (l : List ℤ). (l, run)) result)
+    rw n (takes-as _ _ _ _ _ refl (ap (λ (l : List ℤ). (l, run)) result)
     (takes-bind (bits_from 1) _ (bit (sign_bit u) ∷ []) (corrections front ++ bits) (sign_bit u) _
     (takes-bit (sign_bit u) (sign-small u))
     (takes-bind (corrected al (take (suc (length front)) rest)) _ (corrections front) bits
@@ -327,15 +305,12 @@ refined-token table al m r s z zs code bits x good coded small piece =
     (search (rules, takes-bind, takes-symbol))
 
 -- the same over a list that isn't empty, with room for its length
-pub refined-step : (table : Table) (al n r s : ℕ) (numbers : List ℤ) (code bits : List Bool) (x :
-    Band) → IsGood table
-    → IsCoded table (16 * r + s) code → s ≤ 15 → 0 < length numbers → length numbers ≤ n
-    → ((m : ℕ) → suc m ≡ n → ReadsJust (refined_piece al (refined_ac table al m) numbers r s) bits
-    x)
-    → ReadsJust (refined_ac table al n numbers) (code ++ bits) x
+pub refined-step : (table : Table) (al n r s : ℕ) (numbers : List ℤ) (code bits : List Bool)
+    (x : Band) → IsGood table → IsCoded table (16 * r + s) code → s ≤ 15 → 0 < length numbers
+    → length numbers ≤ n → ((m : ℕ) → suc m ≡ n → ReadsJust (refined_piece al (refined_ac table al
+    m) numbers r s) bits x) → ReadsJust (refined_ac table al n numbers) (code ++ bits) x
 refined-step table al (suc m) r s (z ∷ zs) code bits x good coded small some room piece = search (rules, refined-token)
-refined-step table al n r s numbers code bits x good coded small some room piece = absurd (omega
-    arith)
+refined-step table al n r s numbers code bits x good coded small some room piece = search rules
 
 pub range-after : (P : ℤ → Type 0) (front more : List ℤ) → AllByRecursion P (front ++ more) → AllByRecursion P more
 range-after P [] more h = h
