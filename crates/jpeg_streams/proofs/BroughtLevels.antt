@@ -23,11 +23,10 @@ use Rattle.jpeg_streams.specs.ScanSegments.{put_arrays, scan_arrays}
 use Rattle.jpeg_streams.specs.Found.{none_finished, Found, Said}
 use Rattle.jpeg_streams.specs.Levels.{Levels, Is8Bit, IsLegal, sent_after, nothing_sent}
 use Rattle.jpeg_streams.specs.WrittenScans.{Coefficients, levels_of_one, levels_after, IsLegalScan, WritesScan}
-use Rattle.jpeg_streams.proofs.IndicesApart.{AreApart}
+use Rattle.jpeg_streams.proofs.OwnSpots.{AreApart, At, at-get, Fits}
 use Rattle.jpeg_bits.specs.Written.{marker}
 use Rattle.jpeg_bits.specs.Written.{IsMarker}
 use Rattle.jpeg_streams.proofs.FinishedMarks.{IsBand, marks-start}
-use Rattle.jpeg_streams.proofs.OwnSpots.{At, at-get, Fits}
 use Rattle.jpeg_streams.proofs.WrittenFrameScans.{HoldsOwn, HasGood, SlotReady, SpotsSuit, dc_alone, one_component}
 use Rattle.jpeg_streams.proofs.WrittenFrameScans.{ReadsScan, scan-is_read, cut-nothing}
 use Rattle.jpeg_streams.proofs.Apart.{at-all, get-at}

@@ -1,6 +1,7 @@
 -- Lists whose elements are replaced one after the other, and lists that grow element by element.
-use Rattle.std.proofs.Common.{rules, ◌≡◌, ℕ, zero, suc, ◌+◌, ◌<◌, ◌≤◌, List, [], ◌∷◌, ◌++◌, take, drop, length, get_or}
-use Rattle.std.proofs.Common.{set, refl, ap, arith}
+use Rattle.std.proofs.Common.{rules, ◌≡◌, ℕ, zero, suc, ◌+◌, ◌<◌, ◌≤◌, List, [], ◌∷◌, ◌++◌, take}
+use Rattle.std.proofs.Common.{drop, length, get_or, set, refl, ap, arith, ◌*◌}
+use Rattle.std.proofs.Math.Nat.{mul-le-mul_left, mul-le-mul_right}
 
 -- the first elements of one list, and the others of another
 abbrev pub patched : {A : Type 0} → ℕ → List A → List A → List A
@@ -37,3 +38,6 @@ patched-length [] [] (suc i) e = refl
 patched-length (a ∷ new) (b ∷ old) zero e = refl
 patched-length (a ∷ new) (b ∷ old) (suc i) e = ap (λ (n : ℕ). suc n) (patched-length new old i (omega arith))
 patched-length new old i e = absurd (omega arith)
+
+pub small-side : (n s : ℕ) → n ≤ 65535 → s ≤ 8 → n * s ≤ 524280
+small-side n s h i = search (rules, mul-le-mul_left, mul-le-mul_right)

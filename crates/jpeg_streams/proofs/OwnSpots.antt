@@ -1,7 +1,7 @@
 -- The order of a scan reaches each block of its components.
 use Rattle.std.proofs.Math.Logic.{⊎_elim}
-use Rattle.std.proofs.Common.{rules, ◌≡◌, inl, inr, ℕ, zero, suc, ◌+◌, ◌*◌, ◌/◌, ◌%◌, ◌<◌, ◌≤◌, List}
-use Rattle.std.proofs.Common.{[], ◌∷◌, map, length, get_or, refl, sym, ap, ap₂, subst, arith}
+use Rattle.std.proofs.Common.{rules, ◌≡◌, inl, inr, ℕ, zero, suc, ◌+◌, ◌*◌, ◌/◌, ◌%◌, ◌<◌, ◌≤◌}
+use Rattle.std.proofs.Common.{List, [], ◌∷◌, map, length, get_or, refl, sym, ap, ap₂, subst, arith}
 use Rattle.std.proofs.Math.Nat.{div-lt_iff_lt-mul, mod-lt}
 use Rattle.std.proofs.lemmas.Nat.{div-add-mod', div-mul-add, mod-mul-add}
 use Rattle.std.proofs.lemmas.Bool.Decides.{leb_tells, nat_tests}
@@ -9,12 +9,13 @@ use Rattle.std.specs.List.{AllByRecursion, range_with_len, flat_map}
 use Rattle.jpeg_segments.specs.Frame.{Frame, Component}
 use Rattle.jpeg_bits.proofs.ReadIntervals.{all-append}
 use Rattle.jpeg_streams.specs.declared.grids.Grid.{Grid}
-use Rattle.jpeg_streams.specs.Order.{Spot, grid_of, own_spots, part_spots, mcu_spots, all_spots, spots_of}
+use Rattle.jpeg_streams.specs.Order.{Spot, grid_of, own_spots, part_spots, mcu_spots, all_spots}
+use Rattle.jpeg_streams.specs.Order.{spots_of}
 use Rattle.jpeg_streams.specs.WrittenScans.{IsOwn}
 use Rattle.jpeg_streams.specs.InTurn.{IsIn}
 pub use Rattle.jpeg_streams.specs.InTurn.{Fits}
 pub use Rattle.jpeg_streams.proofs.Apart.{At}
-use Rattle.jpeg_streams.proofs.InTurn.{in-back, in-front}
+use Rattle.jpeg_streams.proofs.CountedScans.{in-back, in-front}
 
 -- ---- lists
 
@@ -134,3 +135,13 @@ pub covered : (frame : Frame) (components : List Component) (c : Component) (s :
     → Fits frame c → IsOwn (grid_of c) s.index → IsIn s (spots_of frame components)
 unfolding spots_of
 covered frame components c s h1 h2 h3 = grind (arith, nat_tests, own-covered, all-covered)
+
+-- no place is in the list
+abbrev pub IsAbsent : ℕ → List ℕ → Type 0
+IsAbsent index [] = Unit {0}
+IsAbsent index (q ∷ indices) = ((index ≡ q) → ⊥) × IsAbsent index indices
+
+-- each place once
+abbrev pub AreApart : List ℕ → Type 0
+AreApart [] = Unit {0}
+AreApart (q ∷ indices) = IsAbsent q indices × AreApart indices

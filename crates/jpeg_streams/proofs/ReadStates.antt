@@ -20,10 +20,9 @@ use Rattle.jpeg_streams.specs.Found.{none_finished, Found, Said}
 use Rattle.jpeg_streams.specs.Levels.{Levels, IsLegal, sent_after}
 use Rattle.jpeg_streams.proofs.FinishedIndices.{is_level_0, dc-open}
 use Rattle.jpeg_streams.specs.WrittenScans.{Coefficients, levels_of_one, levels_after}
-use Rattle.jpeg_streams.proofs.IndicesApart.{IsAbsent, AreApart}
+use Rattle.jpeg_streams.proofs.OwnSpots.{IsAbsent, AreApart, At, at-within}
 use Rattle.jpeg_bits.proofs.WrittenIntervals.{not-equal}
 use Rattle.jpeg_streams.proofs.FinishedMarks.{marks_of, IsBand, marks-after}
-use Rattle.jpeg_streams.proofs.OwnSpots.{At, at-within}
 use Rattle.jpeg_streams.proofs.WrittenFrameScans.{HoldsOwn}
 use Rattle.jpeg_streams.proofs.Apart.{at-one}
 

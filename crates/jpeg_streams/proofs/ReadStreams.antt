@@ -20,7 +20,7 @@ use Rattle.jpeg_streams.specs.WrittenImages.{MayStandInImage, WritesImage, Write
 use Rattle.jpeg_streams.specs.WrittenScans.{Coefficients, HasTable}
 use Rattle.jpeg_streams.proofs.BroughtLevels.{Framed, framed-start, scan-brings, Shaped}
 use Rattle.jpeg_streams.proofs.FrameShapes.{accepted-sources, all-shaped, frame-lossy, Plain}
-use Rattle.jpeg_streams.proofs.LosslessFrames.{all-ranged}
+use Rattle.jpeg_streams.proofs.LosslessSizes.{all-ranged}
 use Rattle.jpeg_streams.proofs.ReadStates.{PlaneSo}
 use Rattle.jpeg_streams.proofs.ReadTurns.{same-frame, scan-by, some-none}
 use Rattle.jpeg_streams.proofs.ScanFacts.{header-facts}

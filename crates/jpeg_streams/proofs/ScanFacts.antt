@@ -9,7 +9,7 @@ use Rattle.jpeg_segments.specs.ScanHeader.{Selector, is_band, scan_of}
 use Rattle.jpeg_segments.specs.ScanHeaders.{AreChoices, IsScan, ScanHeader, scan_written}
 use Rattle.jpeg_segments.proofs.Fields.{nibbles-high, nibbles-low}
 use Rattle.jpeg_streams.specs.ScanSegments.{pass_of}
-use Rattle.jpeg_streams.proofs.IndicesApart.{IsAbsent, AreApart}
+use Rattle.jpeg_streams.proofs.OwnSpots.{IsAbsent, AreApart}
 use Rattle.jpeg_streams.proofs.BroughtLevels.{PassSo, ScanFacts, progressive-pass}
 
 -- ---- the components, each after those before it

@@ -22,7 +22,7 @@ use Rattle.jpeg_streams.proofs.SentBlocks.{Suits, after_pass}
 use Rattle.jpeg_bits.specs.Written.{IsMarker}
 use Rattle.jpeg_streams.proofs.CutLevels.{suits-cut, cut-after, all-same, cut-unsent, floor-range, floor-fits}
 use Rattle.jpeg_streams.proofs.WrittenArrays.{IsReadyAt, reads-arrays}
-use Rattle.jpeg_streams.proofs.Put.{reaches}
+use Rattle.jpeg_streams.proofs.CountedScans.{reaches}
 use Rattle.jpeg_streams.specs.InTurn.{IsIn, IsInside}
 use Rattle.jpeg_streams.proofs.OwnSpots.{At, at-within, at-get, IsOwnSpot, own-only, Fits, covered}
 use Rattle.jpeg_streams.proofs.Apart.{at-got}

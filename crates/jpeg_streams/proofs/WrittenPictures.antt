@@ -16,7 +16,7 @@ use Rattle.jpeg_pixels.specs.declared.upsampler.ColorConvert.{ColorConvert}
 use Rattle.jpeg_segments.specs.Frame.{Frame, Component, ceiling}
 use Rattle.jpeg_bits.specs.Zigzag.{coefficients_in_block_order, values_in_block_order}
 use Rattle.jpeg_pixels.specs.Pictures.{Source, sources_of, image_of}
-use Rattle.jpeg_streams.proofs.ScaledSizes.{reaches-made, scale-made, one-made}
+use Rattle.jpeg_streams.proofs.FrameShapes.{reaches-made, scale-made, one-made, below-ceiling}
 use Rattle.jpeg_streams.specs.declared.settings.Settings.{Settings}
 use Rattle.jpeg_bits.specs.Passes.{Block, zero_block, listed}
 use Rattle.jpeg_streams.specs.Order.{grid_of}
@@ -46,10 +46,9 @@ use Rattle.jpeg_streams.proofs.ReadStates.{is_whole}
 use Rattle.jpeg_streams.proofs.BroughtLevels.{Made, Shaped, kept-arrays, Framed}
 use Rattle.jpeg_streams.proofs.ReadTurns.{then-ok, same-frame}
 use Rattle.jpeg_streams.proofs.LimitedPictures.{array_plane, limited-ok, limited-same}
-use Rattle.jpeg_streams.proofs.FrameShapes.{below-ceiling}
 use Rattle.jpeg_streams.proofs.ReadStreams.{bring, image-walked, ImageMeant, Progress, ReadImage}
 use Rattle.jpeg_streams.proofs.WalkedStreams.{beside}
-use Rattle.jpeg_streams.proofs.InsidePictures.{SamePlane, AllAlike, image-same, cropped-same}
+use Rattle.jpeg_streams.proofs.UpsampledFactors.{SamePlane, AllAlike, image-same, cropped-same}
 
 -- ---- one plane
 

@@ -1,4 +1,4 @@
-use Rattle.jpeg_streams.proofs.FrameFits.{frames-fit, scaled-frames-fit}
+use Rattle.jpeg_streams.proofs.FrameShapes.{frames-fit, scaled-frames-fit}
 use Rattle.jpeg_segments.proofs.ScaleLemmas.{full_size}
 use Rattle.jpeg_decoder.proofs.laws.frames_fit_at_each_scale.Goals as goal
 

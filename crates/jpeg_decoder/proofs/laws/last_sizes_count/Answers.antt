@@ -1,4 +1,4 @@
-use Rattle.jpeg_streams.proofs.SizedAgain.{found-again}
+use Rattle.jpeg_streams.proofs.Soundness.{found-again}
 use Rattle.jpeg_decoder.proofs.laws.last_sizes_count.Goals as goal
 
 pub returns : goal.returns

@@ -1,4 +1,4 @@
-use Rattle.jpeg_streams.proofs.ScanArrays.{codings-are-of, sequential-scan, progressive-scan}
+use Rattle.jpeg_streams.proofs.McuRows.{codings-are-of, sequential-scan, progressive-scan}
 use Rattle.jpeg_decoder.proofs.laws.scans_of_frames.Goals as goal
 use Rattle.std.proofs.lemmas.Grind.{common_steps}
 use Rattle.std.proofs.Common.{arith}

@@ -5,8 +5,8 @@ use Rattle.std.proofs.lemmas.Result.{err_from_is_err_and}
 use Rattle.jpeg_streams.specs.Stream.{told_of, start_at}
 use Rattle.jpeg_streams.specs.Reported.{IsOfTurns, told_in_turns}
 use Rattle.jpeg_streams.specs.Found.{Found, nothing_found}
-use Rattle.jpeg_streams.proofs.Refusals.{told-err}
-use Rattle.jpeg_streams.proofs.Told.{told-through, turns-no_start, turns-start, turns-none}
+use Rattle.jpeg_streams.proofs.Refusals.{told-err, told-through, turns-no_start, turns-start}
+use Rattle.jpeg_streams.proofs.Refusals.{turns-none}
 use Rattle.jpeg_decoder.proofs.Turns.{told-start}
 use Rattle.jpeg_decoder.proofs.picture.read_header.Goals as goal
 

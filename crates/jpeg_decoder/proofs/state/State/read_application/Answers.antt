@@ -2,7 +2,7 @@ use Rattle.std.proofs.Common.{refl}
 use Rattle.std.specs.Prelude.{option_map}
 use Rattle.jpeg_segments.specs.FrameView.{application_in}
 use Rattle.jpeg_decoder.specs.Seen.{found_in, metadata_in}
-use Rattle.jpeg_streams.proofs.SegmentParts.{application-read}
+use Rattle.jpeg_streams.proofs.ProfileLemmas.{application-read}
 use Rattle.jpeg_decoder.proofs.state.State.read_application.Goals as goal
 
 pub returns-clause-reads : goal.returns-clause-reads
