@@ -281,10 +281,8 @@ pub sized : (components : List Component) (arrays : Arrays) (j : ℕ) (c : Compo
     → At j components c
     → (j < length arrays) × (length (get_or arrays j []) ≡ c.blocks_high * c.blocks_wide)
 unfolding AreArrays
-sized [] arrays j c h k = absurd k
-sized (d ∷ more) [] j c h k = absurd h
-sized (d ∷ more) (a ∷ arrays) zero c h k = (omega arith, h.0 ∙ ap (λ (x : Component). x.blocks_high * x.blocks_wide) k)
 sized (d ∷ more) (a ∷ arrays) (suc j) c h k = let r = sized more arrays j c h.1 k in (let l = r.0 in omega arith, r.1)
+sized n arrays j c h k = search rules
 
 -- the own spots of a grid are inside an array of lines that are at least as many
 pub own-within : (g : Grid) (high : ℕ) (arrays : Arrays) (q : Spot) → g.own_wide ≤ g.wide → g.own_high ≤ high

@@ -271,13 +271,11 @@ scans-in-turn p n vias spots arrays bytes apart inside =
 
 pub same-on : {A B : Type 0} (f g : A → Reads B) → ((x : A) (t : Text) → f x t ≡ g x t)
     → (o : Result (A × Text) Fault) → read_on f o ≡ read_on g o
-same-on f g h (Ok r) = h r.0 r.1
-same-on f g h (Err e) = refl
+same-on f g h n = search rules
 
 pub on-on : {A B C : Type 0} (f : A → Reads B) (g : B → Reads C) (o : Result (A × Text) Fault)
     → read_on g (read_on f o) ≡ read_on (λ x. λ t. read_on g (f x t)) o
-on-on f g (Ok r) = refl
-on-on f g (Err e) = refl
+on-on f g n = search rules
 
 -- ---- blocks in a row
 
@@ -298,8 +296,7 @@ abbrev pub GoesOn : ℕ → ℕ → ℕ → Type 0
 GoesOn n left blocks = (n ≡ 0) ⊎ (blocks ≤ left)
 
 fewer : (n left more : ℕ) → GoesOn n left (suc more) → GoesOn n (left - 1) more
-fewer n left more (inl e) = inl e
-fewer n left more (inr l) = inr (omega arith)
+fewer n left more k = search rules
 
 begun-same : (n : ℕ) (old : Counted) (t : Text) → (nat_lt 0 n && old.left == 0) ≡ false
     → begun_from n old t ≡ Ok (old, t)
@@ -356,12 +353,10 @@ take-most n zs = omega arith
 
 groups-cons : (fuel n : ℕ) (l : List Spot) → 0 < length l → groups (suc fuel) n l ≡ take n l ∷ groups fuel n (drop n l)
 unfolding groups
-groups-cons fuel n [] h = absurd (omega arith)
-groups-cons fuel n (x ∷ l) h = refl
+groups-cons fuel n k h = search rules
 
 pub some-product : (n size : ℕ) → 0 < n → 0 < size → 0 < n * size
-some-product n (suc size) a b = let p : n * (size + 1) ≡ n * size + n * 1 = mul-add n size 1 in omega arith
-some-product n zero a b = absurd (omega arith)
+some-product n k a b = search rules
 
 -- what stands after an interval: a restart, and the blocks after it
 after-restart : (p : Pass) (vias : List Via) (k : ℕ) (old : Reached) (t : Text)
@@ -418,8 +413,7 @@ intervals-in-blocks p vias n (suc fuel) xs (y ∷ ys) j k arrays bytes same some
         → (o : Result (Reached × Text) Fault)
         → finished (read_on (λ r. λ v. read_on (λ (u : Unit {0}). G r) (restart_from k v)) o)
         ≡ reading.◌>>=◌ (closed o) (next_interval k F)
-    close G F same (Ok r) = after-restart p vias k r.0 r.1 F (G r.0) (λ b. same r.0 b)
-    close G F same (Err e) = refl
+    close n k same l = search rules
 
 first-some : (n : ℕ) (l : List Spot) → 0 < n → first_group n l ≡ take n l
 first-some zero l h = absurd (omega arith)

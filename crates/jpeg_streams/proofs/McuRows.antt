@@ -137,8 +137,7 @@ next-any P kept p vias n s old t h =
   where
     one : (now : Counted) (o : Result (Reached × Text) Fault) → Keeps P o
         → KeepsCounted P (read_on (λ r. gives (after_turn now r)) o)
-    one now (Ok r) k = k
-    one now (Err e) k = tt
+    one now n k = search rules
 
 pub blocks-any : (P : Arrays → Type 0) → IsKept P → (p : Pass) (vias : List Via) (n : ℕ) (spots : List Spot)
     (old : Counted) (t : Text) → P old.reached.arrays
@@ -540,9 +539,8 @@ line-of wide n xs row e f =
   where
     get-map : (row : List Block) (i : ℕ) → i < length row
         → get_or (map ordered row) i [] ≡ ordered (get_or row i zero_block)
-    get-map [] i h = absurd (omega arith)
-    get-map (b ∷ row) zero h = refl
     get-map (b ∷ row) (suc i) h = get-map row i (omega arith)
+    get-map n i h = search rules
 
 -- One more row of blocks.
 pub plane-strips : (s : ℕ) (table : List ℕ) (wide n : ℕ) (xs row : List Block) → length xs ≡ n * wide

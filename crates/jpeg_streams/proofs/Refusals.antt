@@ -17,19 +17,16 @@ use Rattle.jpeg_bits.specs.declared.error.Error.TheVariants as errors
 
 pub short-step : (counter : ℕ) (met : Option Marker) (s first : Stream) → (0 < counter → IsShort first)
     → (counter ≡ 0 → (met ≡ None) × (s ≡ first)) → (met ≡ None → IsShort s) → IsShort first
-short-step zero met s first p q r = let at = q refl in subst IsShort at.1 (r at.0)
-short-step (suc n) met s first p q r = p (omega arith)
+short-step n met s first p q r = search rules
 
 pub short-first : (counter : ℕ) (s first : Stream) → (0 < counter → IsShort first) → (counter ≡ 0 → s ≡ first)
     → IsShort s → IsShort first
-short-first zero s first p q r = subst IsShort (q refl) r
-short-first (suc n) s first p q r = p (omega arith)
+short-first n s first p q r = search rules
 
 -- an error that names a fault of a reading tells what holds at that fault
 pub told-err : {Y : Type 0} (e : Error) (outcome : Result Y Fault) (P : Type 0) → Names e outcome
     → ((f : Fault) → outcome ≡ Err f → P) → IfRefused e P
-told-err (errors.Format text) outcome P n h = h Malformed n
-told-err e outcome P n h = search rules
+told-err e outcome k n h = search rules
 
 -- a refusal that known bytes never meet
 pub never-met : {X Y : Type 0} (view : X → Y) (read : List ℕ → Outcome Y) (old new : Stream) (e : Error) → NamesFormat e
@@ -53,8 +50,7 @@ turns-none header bytes = search rules
 -- what a part of a call left
 pub told-through : {X : Type 0} (old mid new : Stream) (r : Result X Error) (P Q : Type 0)
     → (old.known ≡ true → (mid.known ≡ true) × (P → Q)) → OnTold mid new r P → OnTold old new r Q
-told-through old mid new (Ok x) P Q f h = λ k. let a = f k in a.1 (h a.0)
-told-through old mid new (Err e) P Q f h = search rules
+told-through old mid new n k l f h = search rules
 
 pub output-some : (bytes rest : List ℕ) (found : Told) (pixels : List ℕ)
     → meaning default_settings bytes ≡ Ok ((found, pixels), rest)

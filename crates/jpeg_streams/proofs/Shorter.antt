@@ -46,8 +46,7 @@ below-err A limit fault = tt
 
 pub below-cond : {A : Type 0} (limit : ℕ) (b : Bool) (x y : Outcome A) → LeavesBelow limit x → LeavesBelow limit y
     → LeavesBelow limit (if b then x else y)
-below-cond limit true x y p q = p
-below-cond limit false x y p q = q
+below-cond limit n x y p q = search rules
 
 -- a test that leads to a refusal
 pub below-else : {A : Type 0} (limit : ℕ) (b : Bool) (fault : Fault) (x : Outcome A) → LeavesBelow limit x
@@ -63,8 +62,7 @@ pub below-bind : {A B : Type 0} (limit : ℕ) (first : ℕ) (r : Outcome A) (f :
     → LeavesBelow first r → ((x : A × List ℕ) → length x.1 < first → LeavesBelow limit (f x))
     → LeavesBelow limit (r >>= f)
 unfolding LeavesBelow
-below-bind limit first (Ok x) f p q = q x p
-below-bind limit first (Err fault) f p q = tt
+below-bind limit first n f p q = search rules
 
 -- where the first reading leaves fewer bytes than the same limit
 pub below-on : {A B : Type 0} (limit : ℕ) (r : Outcome A) (f : A × List ℕ → Outcome B) → LeavesBelow limit r
@@ -73,8 +71,7 @@ below-on limit r f p q = below-bind limit limit r f p q
 
 pub byte-below : (limit : ℕ) (bytes : List ℕ) → length bytes ≤ limit → LeavesBelow limit (next_byte bytes)
 unfolding LeavesBelow
-byte-below limit [] h = tt
-byte-below limit (x ∷ rest) h = omega arith
+byte-below limit n h = search rules
 
 pub u16-below : (limit : ℕ) (bytes : List ℕ) → length bytes ≤ limit → LeavesBelow limit (next_u16 bytes)
 unfolding next_u16

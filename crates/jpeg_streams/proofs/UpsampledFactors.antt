@@ -68,8 +68,7 @@ sources-some most_h most_v width height (c ∷ cs) u =
 
 -- one of two tests holds
 pub either : (a b : Bool) → (a || b) ≡ true → (a ≡ true) ⊎ (b ≡ true)
-either true b e = inl refl
-either false b e = inr e
+either n b e = search rules
 
 pub sources-back : (most_h most_v width height : ℕ) (cs : List Component) (sources : List Source)
     → gathered (source_of most_h most_v width height) cs ≡ Ok sources
@@ -91,9 +90,7 @@ upsampled-inside : (rule : UpsampleRule) (w h width height x y : ℕ) (p q : ℕ
     → width ≤ across rule * w → height ≤ down rule * h → x < width → y < height → Agree w h p q
     → upsampled rule p w h x y ≡ upsampled rule q w h x y
 unfolding upsampled
-upsampled-inside (Generic s t) w h width height x y p q a b c d e f k l same =
-    grind (arith, common_steps, mul_comm, div-lt_iff_lt-mul)
-upsampled-inside rule w h width height x y p q a b c d e f k l same = search rules
+upsampled-inside rule w h width height x y p q a b c d e f k l same = grind (arith, common_steps)
 
 -- ---- lines and pictures
 
