@@ -246,9 +246,6 @@ pub placed : (frame : Frame) (components : List Component) (row column : ℕ) (s
     (x : IsOf frame components 0 row column s) → At s.slot components x.component
 placed frame components row column s x = search rules
 
-one-row : (components : List Component) (s : Spot) (k l : ℕ) → TellsRow components k s → TellsRow components l s → k ≡ l
-one-row components s k l a b = search (rules, at-one)
-
 pub all-apart : (frame : Frame) (components : List Component) → AllByRecursion (Fits frame) components
     → AreApart (all_spots frame.mcus_wide frame.mcus_high components)
 unfolding all_spots
@@ -267,7 +264,7 @@ all-apart frame components fits =
     (λ s k l a b. (search (rules, at-one))))
     (λ row s b h. let g = in-flat-back (mcu row) s 0 wide h in let x = of row g.at s g.between g.gives in
     record { component = x.component; here = placed frame components row g.at s x; row_of = x.tells.row_of })
-    (λ s k l a b. one-row components s k l a b)
+    (λ s k l a b. (search (rules, at-one)))
 
 -- The spots of a scan are apart.
 pub spots-apart : (frame : Frame) (components : List Component) → AllByRecursion (Fits frame) components

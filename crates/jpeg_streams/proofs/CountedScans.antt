@@ -2,7 +2,7 @@
 use Rattle.std.proofs.Common.{rules, ◌≡◌, ◌⊎◌, inl, inr, ℕ, zero, suc, ◌+◌, ◌-◌, ◌*◌, ◌%◌, ◌≤◌, ◌<◌}
 use Rattle.std.proofs.Common.{Bool, false, List, [], ◌∷◌, ◌++◌, take, drop, length, Option, Some}
 use Rattle.std.proofs.Common.{Result, Ok, Err, refl, sym, ap, ◌∙◌, append-nil, arith, length-drop}
-use Rattle.std.proofs.Common.{take-append-drop, get_or, subst, map, set, ℤ, pos, ap₂, ◌≢◌}
+use Rattle.std.proofs.Common.{take-append-drop, length-take, get_or, subst, map, set, ℤ, pos, ap₂, ◌≢◌}
 use Rattle.std.proofs.Common.{get_or-set_same, get_or-set_other, length-set}
 use Rattle.std.specs.Prelude.{◌==◌, ◌&&◌, nat_lt, if◌then◌else◌}
 use Rattle.std.specs.List.{AllByRecursion, flat_map}
@@ -295,9 +295,6 @@ counted left number r = record { reached = r; left = left; number = number }
 abbrev pub GoesOn : ℕ → ℕ → ℕ → Type 0
 GoesOn n left blocks = (n ≡ 0) ⊎ (blocks ≤ left)
 
-fewer : (n left more : ℕ) → GoesOn n left (suc more) → GoesOn n (left - 1) more
-fewer n left more k = search rules
-
 begun-same : (n : ℕ) (old : Counted) (t : Text) → (nat_lt 0 n && old.left == 0) ≡ false
     → begun_from n old t ≡ Ok (old, t)
 unfolding begun_from
@@ -314,7 +311,7 @@ blocks-within p vias n (s ∷ spots) left number old t h = (search (rules, begun
     ∙ on-on (λ r. gives (counted (left - 1) number r)) (blocks_from p vias n spots) (turn_from p vias s old t)
     ∙ same-on (λ r. λ u. blocks_from p vias n spots (counted (left - 1) number r) u)
     (λ r. λ u. read_on (λ s. gives (counted (left - suc (length spots)) number s)) (turns_from p vias spots r u))
-    (λ r u. blocks-within p vias n spots (left - 1) number r u (fewer n left (length spots) h)
+    (λ r u. blocks-within p vias n spots (left - 1) number r u (search (rules, arith))
     ∙ ap (λ (k : ℕ). read_on (λ s. gives (counted k number s)) (turns_from p vias spots r u)) (omega arith))
     (turn_from p vias s old t)
     ∙ sym (search (rules, on-on))
@@ -347,14 +344,6 @@ cut-either : (n : ℕ) (zs : List Spot) → (drop n zs ≡ []) ⊎ (length (take
 cut-either (suc n) (z ∷ zs) = search (rules, cut-either n zs)
 cut-either n zs = search rules
 
-take-most : (n : ℕ) (zs : List Spot) → length (take n zs) ≤ n
-take-most (suc n) (z ∷ zs) = let r = take-most n zs in omega arith
-take-most n zs = omega arith
-
-groups-cons : (fuel n : ℕ) (l : List Spot) → 0 < length l → groups (suc fuel) n l ≡ take n l ∷ groups fuel n (drop n l)
-unfolding groups
-groups-cons fuel n k h = search rules
-
 pub some-product : (n size : ℕ) → 0 < n → 0 < size → 0 < n * size
 some-product n k a b = search rules
 
@@ -366,11 +355,6 @@ after-restart : (p : Pass) (vias : List Via) (k : ℕ) (old : Reached) (t : Text
     ≡ reading.◌>>=◌ (reading.◌>>=◌ (marker_from t) (λ m. Ok ((old.arrays, m.0), m.1))) (next_interval k F)
 unfolding restart_from
 after-restart p vias k old t F G same = search rules
-
--- whether a marker is RST with this number
-abbrev is_numbered : ℕ → Option Marker → Bool
-is_numbered i (Some (RST n)) = n == i
-is_numbered i _ = false
 
 pub intervals-in-blocks : (p : Pass) (vias : List Via) (n fuel : ℕ) (xs ys : List Spot) (j k : ℕ)
     (arrays : Arrays) (bytes : List ℕ) → j ≡ k % 8
@@ -395,7 +379,7 @@ intervals-in-blocks p vias n (suc fuel) xs (y ∷ ys) j k arrays bytes same some
     ap (λ (l : List Spot). finished
     (blocks_from p vias n l (counted n ((j + 1) % 8) (at_start a)) (upcoming fresh b))) (sym (take-append-drop n zs))
     ∙ intervals-in-blocks p vias n fuel (take n zs) (drop n zs) ((j + 1) % 8) (suc k) a b
-    (let f : (j + 1) % 8 ≡ suc k % 8 = omega (arith, same) in f) some few-more (take-most n zs) (cut-either n zs) in
+    (let f : (j + 1) % 8 ≡ suc k % 8 = omega (arith, same) in f) some few-more (omega (arith, length-take n zs)) (cut-either n zs) in
     let o = turns_from p vias xs start t in
     ap finished (blocks-append p vias n xs zs (counted n j start) t
     ∙ ap (read_on (blocks_from p vias n zs)) (search (rules, blocks-within))
@@ -405,8 +389,6 @@ intervals-in-blocks p vias n (suc fuel) xs (y ∷ ys) j k arrays bytes same some
     (restart_from k v))
     (search (rules, restarts)) o)
     ∙ (search (rules, close))
-    ∙ ap (λ (l : List (List Spot)). intervals_from p vias k xs l arrays bytes) (sym (groups-cons fuel n zs (omega
-    arith)))
   where
     close : (G : Reached → Reads Counted) (F : Arrays → List ℕ → Outcome (Arrays × Option Marker))
         → ((r : Reached) (b : List ℕ) → finished (G r (upcoming fresh b)) ≡ F r.arrays b)
@@ -414,14 +396,6 @@ intervals-in-blocks p vias n (suc fuel) xs (y ∷ ys) j k arrays bytes same some
         → finished (read_on (λ r. λ v. read_on (λ (u : Unit {0}). G r) (restart_from k v)) o)
         ≡ reading.◌>>=◌ (closed o) (next_interval k F)
     close n k same l = search rules
-
-first-some : (n : ℕ) (l : List Spot) → 0 < n → first_group n l ≡ take n l
-first-some zero l h = absurd (omega arith)
-first-some (suc n) l h = refl
-
-others-some : (n : ℕ) (l : List Spot) → 0 < n → other_groups n l ≡ groups (length l) n (drop n l)
-others-some zero l h = absurd (omega arith)
-others-some (suc n) l h = refl
 
 -- A scan in intervals of n blocks is the scan block by block.
 pub scans-by-blocks : (p : Pass) (vias : List Via) (n : ℕ) (spots : List Spot) (arrays : Arrays) (bytes : List ℕ)
@@ -431,13 +405,10 @@ unfolding scan_from intervals_from
 scans-by-blocks p vias zero spots arrays bytes = sym (one-interval p vias 0 0 spots arrays bytes (inl refl))
 scans-by-blocks p vias (suc n) spots arrays bytes =
     let N = suc n in
-    let some : 0 < suc n = omega arith in
     let few : length (drop N spots) ≤ length spots = let d = length-drop N spots in omega arith in
     cc (
-      first-some N spots some,
-      others-some N spots some,
       intervals-in-blocks p vias N (length spots) (take N spots) (drop N spots) 0 0 arrays bytes (let z : 0 ≡ 0 % 8 =
-          omega arith in z) some few (take-most N spots) (cut-either N spots),
+          omega arith in z) (omega arith) few (omega (arith, length-take N spots)) (cut-either N spots),
       take-append-drop N spots,
     )
 

@@ -25,6 +25,7 @@ use Rattle.std.proofs.Math.Nat.{add-mul, mul_assoc, div-lt_iff_lt-mul}
 use Rattle.jpeg_streams.proofs.Apart.{At, at-all, in-flat-back, mcu-tells, own-within, placed}
 use Rattle.jpeg_streams.proofs.Apart.{map-same, get-at, sized, zeros-sized}
 use Rattle.std.proofs.lemmas.List.{map-append, set-append_left, set-append_right, length-replicate}
+use Rattle.std.proofs.lemmas.List.{replicate-append-replicate, get_or-map}
 use Rattle.std.proofs.lemmas.List.{ext_get_or, get_or-append_right, get_or_append_left, length-map}
 use Rattle.std.proofs.lemmas.List.FromFn.{length-map-range_with_len, get_or-map-range_with_len}
 use Rattle.std.proofs.lemmas.Nat.{div-mul-add}
@@ -94,10 +95,6 @@ wrapped_count front rest c = record { reached = wrapped front rest c.reached; le
 pub record Holds (front rest : Arrays) (spots : List Spot) (arrays : Arrays) : Type 0 where
   pub aligned : Aligned front arrays rest
   pub inside : (s : Spot) → IsIn s spots → IsInside arrays s
-
-fewer-hold : (front rest : Arrays) (spots fewer : List Spot) (arrays : Arrays)
-    → ((s : Spot) → IsIn s fewer → IsIn s spots) → Holds front rest spots arrays → Holds front rest fewer arrays
-fewer-hold front rest spots fewer arrays f h = record { aligned = h.aligned; inside = λ s t. h.inside s (f s t) }
 
 -- What is read in blocks that stand inside others is read in those. The blocks that are held keep what holds of them.
 abbrev pub Keeps : (Arrays → Type 0) → Result (Reached × Text) Fault → Type 0
@@ -203,8 +200,7 @@ blocks-shifted p vias n front rest (s ∷ spots) old t h =
     ∙ on-on wrap next (next_from p vias n s old t)
     ∙ counted-where all (λ r. λ u. next (wrapped_count front rest r) u)
     (λ r. λ u. read_on wrap (blocks_from p vias n spots r u))
-    (λ r u k. blocks-shifted p vias n front rest spots r u (fewer-hold front rest (s ∷ spots) spots r.reached.arrays
-    (λ q q_in. inr q_in) k))
+    (λ r u k. blocks-shifted p vias n front rest spots r u (search rules))
     (next_from p vias n s old t) (next-any all (holds-kept front rest (s ∷ spots)) p vias n s old t h)
     ∙ sym (on-on (blocks_from p vias n spots) wrap (next_from p vias n s old t))
 
@@ -251,16 +247,12 @@ joined-rows r (c ∷ cs) (a ∷ front) (b ∷ arrays) h k =
     search (rules, length-append, add-mul, joined-rows r cs front arrays h.1 k.1)
 joined-rows r cs front arrays h k = search rules
 
-replicate-both : (m n k : ℕ) (b : Block) → k ≡ m + n → replicate k b ≡ replicate m b ++ replicate n b
-replicate-both (suc m) n (suc k) b e = ap (λ l. b ∷ l) (replicate-both m n k b (omega arith))
-replicate-both m n k b e = search rules
-
 -- a row of zeros, and the others
 first-row : (rows r : ℕ) (cs : List Component) (front : Arrays) → AreRows r cs front
     → each_with_more front (zero_rows (suc rows) cs) ≡ around front (zero_rows 1 cs) (zero_rows
     rows cs)
 unfolding AreRows each_with_more zero_rows
-first-row rows r (c ∷ cs) (a ∷ front) h = search (rules, replicate-both, add-mul, first-row rows r cs front h.1)
+first-row rows r (c ∷ cs) (a ∷ front) h = search (rules, replicate-append-replicate, add-mul, first-row rows r cs front h.1)
 first-row rows r cs front h = search rules
 
 -- rows after rows
@@ -503,15 +495,11 @@ one-placed frame c fits =
     ≡ frame.mcus_high = omega arith in y) in
     let a = fits.own_high in let b = fits.high in omega arith))
 
-some-placed : (frame : Frame) (c d : Component) (more : List Component)
-    → spots_of frame (c ∷ d ∷ more) ≡ placed_rows (c ∷ d ∷ more) 0 (rows_of frame (c ∷ d ∷ more))
-unfolding mcu_row spots_of all_spots
-some-placed frame c d more = sym (several-rows frame.mcus_wide (c ∷ d ∷ more) 0 frame.mcus_high)
-
 placed-all : (frame : Frame) (c : Component) (more : List Component) → AllByRecursion (Fits frame) (c ∷ more)
     → spots_of frame (c ∷ more) ≡ placed_rows (c ∷ more) 0 (rows_of frame (c ∷ more))
+unfolding mcu_row spots_of all_spots
 placed-all frame c [] fits = one-placed frame c fits.0
-placed-all frame c (d ∷ more) fits = some-placed frame c d more
+placed-all frame c (d ∷ more) fits = sym (several-rows frame.mcus_wide (c ∷ d ∷ more) 0 frame.mcus_high)
 
 -- A scan that begins with zeros is its rows of MCUs, each read into blocks of its own.
 pub scans-by-rows : (frame : Frame) (c : Component) (more : List Component) (p : Pass) (vias : List Via) (n : ℕ)
@@ -533,14 +521,11 @@ scans-by-rows frame c more p vias n bytes fits =
 line-of : (wide n : ℕ) (xs row : List Block) → length xs ≡ n * wide → length row ≡ wide
     → map (in_raster wide (xs ++ row) n) (range_with_len 0 wide) ≡ map ordered row
 line-of wide n xs row e f =
+    let at : (i : ℕ) → i < length row → get_or (map ordered row) i [] ≡ ordered (get_or row i zero_block)
+    = λ i h. get_or-map ordered row i zero_block [] h in
     ext_get_or [] (map (in_raster wide (xs ++ row) n) (range_with_len 0 wide)) (map ordered row)
     (length-map-range_with_len (in_raster wide (xs ++ row) n) 0 wide ∙ sym (length-map row ordered ∙ f))
-    (search (rules, length-map-range_with_len, get_or-map-range_with_len, get_or-append_right, get-map))
-  where
-    get-map : (row : List Block) (i : ℕ) → i < length row
-        → get_or (map ordered row) i [] ≡ ordered (get_or row i zero_block)
-    get-map (b ∷ row) (suc i) h = get-map row i (omega arith)
-    get-map n i h = search rules
+    (search (rules, length-map-range_with_len, get_or-map-range_with_len, get_or-append_right, at))
 
 -- One more row of blocks.
 pub plane-strips : (s : ℕ) (table : List ℕ) (wide n : ℕ) (xs row : List Block) → length xs ≡ n * wide

@@ -87,15 +87,11 @@ pub times-below : {A : Type 0} (limit n : ℕ) (read : List ℕ → Outcome A) (
 unfolding times
 times-below limit zero read bytes each h = below-ok limit _ bytes h
 times-below limit (suc n) read bytes each h =
-    below-bind limit limit (read bytes) _ (each bytes h) (λ x p.
-    below-bind limit limit (times n read x.1) _ (times-below limit n read x.1 each p) (λ more q. below-ok limit _ more.1
-    q))
+    search (rules, below-on, below-ok, times-below limit n read)
 
 pub skip-below : (limit n : ℕ) (bytes : List ℕ) → length bytes < limit → LeavesBelow limit (skip_at n bytes)
 unfolding skip_at
-skip-below limit n bytes h = below-bind limit limit (times n next_byte bytes) _
-    (times-below limit n next_byte bytes (λ bs p. byte-below limit bs (omega arith)) h)
-    (λ x p. below-ok limit tt x.1 p)
+skip-below limit n bytes h = search (rules, below-on, times-below, byte-below, below-ok)
 
 -- what has to hold, or to be there
 pub below-check : {B : Type 0} (limit : ℕ) (b : Bool) (f : Unit {0} → Outcome B) → LeavesBelow limit (f tt)
@@ -126,57 +122,38 @@ pub ruleset below_steps = (
   times-below,
 )
 
-found-below : (limit : ℕ) (found : Option Marker) (rest : List ℕ) (others : Outcome Marker) → length rest < limit
-    → LeavesBelow limit others → LeavesBelow limit (found_or found rest others)
-found-below limit None rest others p q = q
-found-below limit (Some m) rest others p q = below-ok limit m rest p
-
 pub below-more : {A : Type 0} (a b : ℕ) (r : Outcome A) → a ≤ b → LeavesBelow a r → LeavesBelow b r
 unfolding LeavesBelow
 below-more a b (Ok x) h p = omega arith
 below-more a b (Err fault) h p = tt
 
 pub marker-below : (bytes : List ℕ) → LeavesBelow (length bytes) (next_marker bytes)
-unfolding next_marker
-marker-below (a ∷ b ∷ rest) = grind (arith, common_steps, found-below, below-more, marker-below (b ∷ rest))
-marker-below bytes = below-err Marker _ _
+unfolding next_marker LeavesBelow
+marker-below (a ∷ b ∷ rest) = grind (arith, common_steps, below-more, marker-below (b ∷ rest))
+marker-below bytes = search rules
 
 -- ---- frames
 
-size-below : (limit : ℕ) (bytes : List ℕ) → length bytes < limit → LeavesBelow limit (size_at bytes)
-unfolding size_at
-size-below limit bytes h = search (below_steps) depth 12
-
-factors-below : (limit : ℕ) (lossless : Bool) (front : List Factors) (bytes : List ℕ) → length bytes < limit
-    → LeavesBelow limit (factors_at lossless front bytes)
-unfolding factors_at
-factors-below limit lossless front bytes h = search (below_steps) depth 12
-
 components-below : (limit : ℕ) (lossless : Bool) (n : ℕ) (front : List Factors) (bytes : List ℕ) → length bytes < limit
     → LeavesBelow limit (components_from lossless n front bytes)
-unfolding components_from
+unfolding components_from factors_at
 components-below limit lossless zero front bytes h = below-ok limit front bytes h
 components-below limit lossless (suc n) front bytes h =
-    search (below_steps, factors-below, components-below limit lossless n) depth 12
+    search (below_steps, components-below limit lossless n) depth 14
 
 pub sof-below : (limit number : ℕ) (bytes : List ℕ) → length bytes ≤ limit → LeavesBelow limit (sof_at number bytes)
-unfolding sof_at LeavesBelow
-sof-below limit number bytes h = search (below_steps, size-below, components-below) depth 12
+unfolding sof_at size_at LeavesBelow
+sof-below limit number bytes h = search (below_steps, components-below) depth 14
 
 -- ---- quantization tables
-
-placed-below : (limit left : ℕ) (bytes : List ℕ) → length bytes < limit → LeavesBelow limit
-    (defined_table_at left bytes)
-unfolding defined_table_at value_at
-placed-below limit left bytes h = search (below_steps) depth 12
 
 quantization-below : (limit most left : ℕ) (tables : quantization.QuantizationTables) (bytes : List
     ℕ) → length bytes < limit
     → LeavesBelow limit (quantization.quantization_from most left tables bytes)
-unfolding quantization.quantization_from
+unfolding quantization.quantization_from defined_table_at value_at
 quantization-below limit zero left tables bytes h = search (below_steps) depth 12
 quantization-below limit (suc most) left tables bytes h =
-    search (below_steps, placed-below, quantization-below limit most) depth 12
+    search (below_steps, quantization-below limit most) depth 14
 
 pub dqt-below : (limit : ℕ) (bytes : List ℕ) → length bytes ≤ limit → LeavesBelow limit (dqt_at bytes)
 unfolding dqt_at
@@ -205,31 +182,17 @@ dht-below limit is_baseline bytes h = search (below_steps, huffman-below) depth 
 
 -- ---- scan headers
 
-count-below : (limit : ℕ) (bytes : List ℕ) → length bytes ≤ limit → LeavesBelow limit (count_at bytes)
-unfolding count_at
-count-below limit bytes h = search (below_steps) depth 12
-
-selector-below : (limit : ℕ) (frame : Frame) (least : ℕ) (bytes : List ℕ) → length bytes < limit
-    → LeavesBelow limit (selector_at frame least bytes)
-unfolding selector_at
-selector-below limit frame least bytes h = search (below_steps) depth 12
-
 selectors-below : (limit : ℕ) (frame : Frame) (n : ℕ) (front : List Selector) (least : ℕ) (bytes : List ℕ)
     → length bytes < limit → LeavesBelow limit (selectors_from frame n front least bytes)
-unfolding selectors_from
+unfolding selectors_from selector_at
 selectors-below limit frame zero front least bytes h = below-ok limit front bytes h
 selectors-below limit frame (suc n) front least bytes h =
-    search (below_steps, selector-below, selectors-below limit frame n) depth 12
-
-band-below : (limit : ℕ) (frame : Frame) (selectors : List Selector) (bytes : List ℕ) → length bytes < limit
-    → LeavesBelow limit (band_at frame selectors bytes)
-unfolding band_at
-band-below limit frame selectors bytes h = search (below_steps) depth 12
+    search (below_steps, selectors-below limit frame n) depth 14
 
 pub sos-below : (limit : ℕ) (frame : Frame) (bytes : List ℕ) → length bytes ≤ limit
     → LeavesBelow limit (sos_at frame bytes)
-unfolding sos_at
-sos-below limit frame bytes h = search (below_steps, count-below, selectors-below, band-below) depth 12
+unfolding sos_at count_at band_at
+sos-below limit frame bytes h = search (below_steps, selectors-below) depth 14
 
 -- ---- application data and restart intervals
 

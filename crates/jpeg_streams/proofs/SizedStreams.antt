@@ -232,8 +232,7 @@ codings-alike w f g same p tables [] codings e =
 components-alike : (ks ls : List Coding) → CodingsAlike ks ls → Alikes (components_of ks) (components_of ls)
 components-alike ks ls none = none
 components-alike ks ls (one_more k l ks' ls' h more) =
-    one_more k.component l.component (components_of ks') (components_of ls') h.component
-    (components-alike ks' ls' more)
+    search (rules, one_more, components-alike ks' ls' more)
 
 indices-alike : (ks ls : List Coding) → CodingsAlike ks ls
     → map (λ (c : Coding). c.index) ls ≡ map (λ (c : Coding). c.index) ks
