@@ -206,9 +206,7 @@ module _ (frame : Frame) (row column : ℕ) (lt : column < frame.mcus_wide) wher
       → IsOf frame components base row column s
   unfolding mcu_spots
   mcu-tells [] base s fits h = absurd h
-  mcu-tells (c ∷ more) base s fits h =
-      go (λ t. mcu-tells more (base + 1) s fits.1 t)
-      (in-either s (part_spots row column base c) (mcu_spots row column (base + 1) more) h)
+  mcu-tells (c ∷ more) base s fits h = search (rules, go, in-either, mcu-tells more)
     where
       go : (IsIn s (mcu_spots row column (base + 1) more) → IsOf frame more (base + 1) row column s)
           → IsIn s (part_spots row column base c) ⊎ IsIn s (mcu_spots row column (base + 1) more)

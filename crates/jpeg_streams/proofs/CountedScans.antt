@@ -56,8 +56,7 @@ pub stays : (f : Spot → Block) (q : Spot) (spots : List Spot) (arrays : Arrays
 unfolding put_blocks
 stays f q [] arrays h e = e
 stays f q (r ∷ spots) arrays h e =
-    stays f q spots (put_block r (f r) arrays) (put-inside r q (f r) arrays h)
-    (⊎_elim (λ g. search (rules, put-same)) (λ n. put-other r q (f r) arrays h n ∙ e) (same-spot r q))
+    search (rules, put-inside, put-same, put-other, same-spot, stays f q spots)
 
 -- a place of the list has f of it
 pub reaches : (f : Spot → Block) (q : Spot) (spots : List Spot) (arrays : Arrays) → IsInside arrays q → IsIn q spots
@@ -93,16 +92,14 @@ pub others-kept : (spots : List Spot) (blocks : List Block) (arrays : Arrays) (q
     → (IsIn q spots → ⊥) → block_at (put_blocks spots blocks arrays) q ≡ block_at arrays q
 unfolding put_blocks
 others-kept (s ∷ spots) (b ∷ blocks) arrays q h n =
-    others-kept spots blocks (put_block s b arrays) q (put-inside s q b arrays h) (λ t. n (inr t))
-    ∙ kept-after s q b arrays h (λ e. n (inl e))
+    search (rules, put-inside, kept-after, others-kept spots blocks)
 others-kept spots blocks arrays q h n = refl
 
 pub put-both : (spots more : List Spot) (blocks others : List Block) (arrays : Arrays) → length blocks ≡ length spots
     → put_blocks (spots ++ more) (blocks ++ others) arrays ≡ put_blocks more others (put_blocks spots blocks arrays)
 unfolding put_blocks
 put-both [] more [] others arrays e = refl
-put-both (s ∷ spots) more (b ∷ blocks) others arrays e =
-    put-both spots more blocks others (put_block s b arrays) (omega arith)
+put-both (s ∷ spots) more (b ∷ blocks) others arrays e = search (rules, put-both spots more blocks)
 put-both spots more blocks others arrays e = absurd (omega arith)
 
 pub apart-back : {A : Type 0} (xs ys : List A) → AreApart (xs ++ ys) → AreApart ys
@@ -283,8 +280,7 @@ pub blocks-append : (p : Pass) (vias : List Via) (n : ℕ) (xs ys : List Spot) (
     → blocks_from p vias n (xs ++ ys) old t ≡ read_on (blocks_from p vias n ys) (blocks_from p vias n xs old t)
 unfolding blocks_from
 blocks-append p vias n [] ys old t = refl
-blocks-append p vias n (s ∷ xs) ys old t =
-    search (rules, same-on, on-on, blocks-append p vias n xs ys)
+blocks-append p vias n (s ∷ xs) ys old t = search (rules, same-on, on-on, blocks-append p vias n xs)
 
 -- ---- blocks between restarts
 
@@ -307,14 +303,8 @@ pub blocks-within : (p : Pass) (vias : List Via) (n : ℕ) (spots : List Spot) (
     ≡ read_on (λ r. gives (counted (left - length spots) number r)) (turns_from p vias spots old t)
 unfolding blocks_from next_from turns_from
 blocks-within p vias n [] left number old t h = ap (λ (k : ℕ). gives (counted k number old) t) (omega arith)
-blocks-within p vias n (s ∷ spots) left number old t h = (search (rules, begun-same, le-ltb, ne_eqb, and-false))
-    ∙ on-on (λ r. gives (counted (left - 1) number r)) (blocks_from p vias n spots) (turn_from p vias s old t)
-    ∙ same-on (λ r. λ u. blocks_from p vias n spots (counted (left - 1) number r) u)
-    (λ r. λ u. read_on (λ s. gives (counted (left - suc (length spots)) number s)) (turns_from p vias spots r u))
-    (λ r u. blocks-within p vias n spots (left - 1) number r u (search (rules, arith))
-    ∙ ap (λ (k : ℕ). read_on (λ s. gives (counted k number s)) (turns_from p vias spots r u)) (omega arith))
-    (turn_from p vias s old t)
-    ∙ sym (search (rules, on-on))
+blocks-within p vias n (s ∷ spots) left number old t h =
+    search (rules, begun-same, le-ltb, ne_eqb, and-false, on-on, same-on, blocks-within p vias n spots)
 
 -- where none is left, a restart stands before the next
 restarts : (p : Pass) (vias : List Via) (n number : ℕ) (s : Spot) (spots : List Spot) (old : Reached)
@@ -346,15 +336,6 @@ cut-either n zs = search rules
 
 pub some-product : (n size : ℕ) → 0 < n → 0 < size → 0 < n * size
 some-product n k a b = search rules
-
--- what stands after an interval: a restart, and the blocks after it
-after-restart : (p : Pass) (vias : List Via) (k : ℕ) (old : Reached) (t : Text)
-    (F : Arrays → List ℕ → Outcome (Arrays × Option Marker)) (G : Reads Counted)
-    → ((bytes : List ℕ) → finished (G (upcoming fresh bytes)) ≡ F old.arrays bytes)
-    → finished (read_on (λ (u : Unit {0}). G) (restart_from k t))
-    ≡ reading.◌>>=◌ (reading.◌>>=◌ (marker_from t) (λ m. Ok ((old.arrays, m.0), m.1))) (next_interval k F)
-unfolding restart_from
-after-restart p vias k old t F G same = search rules
 
 pub intervals-in-blocks : (p : Pass) (vias : List Via) (n fuel : ℕ) (xs ys : List Spot) (j k : ℕ)
     (arrays : Arrays) (bytes : List ℕ) → j ≡ k % 8

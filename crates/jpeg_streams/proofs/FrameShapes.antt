@@ -49,12 +49,8 @@ all-fit : (frame : Frame) (scale width height h v : ℕ) (xs : List Factors) →
     → AllByRecursion (Fits frame) (map (component_at scale width height h v) (map (component_of width height h v) xs))
 unfolding component_of component_at
 all-fit frame scale width height h v [] some wide high range across down = tt
-all-fit frame scale width height h v (x ∷ xs) some wide high range across down = grind (
-  arith,
-  common_steps,
-  own-within,
-  all-fit frame scale width height h v xs some wide high range.1 (omega arith) (omega arith),
-)
+all-fit frame scale width height h v (x ∷ xs) some wide high range across down =
+    search (rules, own-within, width, height, wide, high, all-fit frame scale width height h v xs)
 
 -- The components of a frame at a scale fit it.
 pub scaled-frames-fit : (scale number precision width height : ℕ) (xs : List Factors) → 0 < scale
@@ -201,11 +197,7 @@ reaches-all : (s width height mh mv : ℕ) (xs : List Factors) (sources : List S
 unfolding gathered
 reaches-all s width height mh mv [] sources ss w h a b range e = search (rules, ok-same)
 reaches-all s width height mh mv (x ∷ xs) sources ss w h a b range e =
-    let one = bind-ok (source_of mh mv (ceiling (width * s) 8) (ceiling (height * s) 8)
-    (scaled_component s width height mh mv x)) _ sources e in
-    let others = bind-ok (gathered (source_of mh mv (ceiling (width * s) 8) (ceiling (height * s) 8))
-    (map (scaled_component s width height mh mv) xs)) _ sources one.2 in
-    search (rules, ok-same, reaches-one, reaches-all s width height mh mv xs others.0 ss w h a b range.1 others.1)
+    grind (arith, common_steps, bind-ok, width, height, ok-same, reaches-one, reaches-all s width height mh mv xs)
 
 pub factors-scaled : (s width height h v : ℕ) (xs : List Factors)
     → map (λ c. c.factors) (map (scaled_component s width height h v) xs) ≡ xs
@@ -356,14 +348,7 @@ all-cover : (h v width height : ℕ) (cs : List Component) (planes : List (List 
     → AllReach sources width height → AllCover sources planes width height
 unfolding gathered AreWhole AllCover
 all-cover h v width height (c ∷ cs) (plane ∷ planes) sources inside whole e reach =
-    let one = bind-ok (source_of h v width height c) _ sources e in
-    let more = bind-ok (gathered (source_of h v width height) cs) _ sources one.2 in
-    let same = ok-same (one.0 ∷ more.0) sources more.2 in
-    let r = subst (λ (l : List Source). AllReach l width height) (sym same) reach in
-    subst (λ (l : List Source). AllCover l (plane ∷ planes) width height) same (
-      covers h v width height c one.0 plane inside.0 whole.0 one.1 r.0,
-      all-cover h v width height cs planes more.0 inside.1 whole.1 more.1 r.1,
-    )
+    search (rules, bind-ok, width, height, ok-same, AllReach, covers, all-cover h v width height cs planes)
 all-cover h v width height cs planes sources inside whole e reach = search (rules, ok-same)
 
 -- The picture of a frame that is accepted at full size has its sources at each scale, and planes of all blocks cover

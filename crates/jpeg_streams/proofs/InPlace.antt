@@ -9,8 +9,7 @@ patched i new old = take i new ++ drop i old
 
 pub patched-next : {A : Type 0} (new old : List A) (i : ℕ) (x d : A) → length new ≡ length old → i < length old → x
     ≡ get_or new i d → set (patched i new old) i x ≡ patched (i + 1) new old
-patched-next (a ∷ new) (b ∷ old) (suc i) x d e h f =
-    search (rules, patched-next new old i x d (omega arith) (omega arith) f)
+patched-next (a ∷ new) (b ∷ old) (suc i) x d e h f = search (rules, patched-next new old i)
 patched-next new old i x d e h f = search rules
 
 pub patched-all : {A : Type 0} (new old : List A) (i : ℕ) → length new ≡ length old → length old ≤ i

@@ -574,13 +574,8 @@ pub arrays-sized : (frame : Frame) (codings : List Coding) (kept : Arrays) → A
     → AreArrays (components_of codings) (arrays_of codings kept)
 unfolding AreArrays
 arrays-sized frame [] kept h of = tt
-arrays-sized frame (c ∷ codings) kept h of = grind (
-  arith,
-  common_steps,
-  sized,
-  arrays-sized frame
-      codings kept h of.1,
-)
+arrays-sized frame (c ∷ codings) kept h of =
+    grind (arith, common_steps, sized, arrays-sized frame codings)
 
 -- those of zeros are zeros
 pub zeros-of : (frame : Frame) (codings : List Coding) → AllByRecursion (IsOf frame) codings
@@ -603,8 +598,7 @@ pub kept-sized : (frame : Frame) (codings : List Coding) (arrays kept : Arrays) 
     arrays kept)
 unfolding put_arrays AreArrays
 kept-sized frame (c ∷ codings) (a ∷ arrays) kept h of k =
-    kept-sized frame codings arrays (set kept c.index a)
-    (grind (arith, common_steps, set-sized, sized)) of.1 k.1
+    grind (arith, common_steps, set-sized, sized, kept-sized frame codings arrays)
 kept-sized frame codings arrays kept h of k = h
 
 -- ---- scans

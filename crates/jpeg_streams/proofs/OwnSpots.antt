@@ -32,8 +32,7 @@ in-flat f x y (z ∷ ys) (inr t) k = in-back x (f z) (flat_map f ys) (in-flat f 
 
 pub in-range : (k a n : ℕ) → a ≤ k → k < a + n → IsIn k (range_with_len a n)
 in-range k a zero h lt = absurd (omega arith)
-in-range k a (suc n) h lt = ⊎_elim (λ x. inl (omega arith))
-    (λ x. inr (in-range k (a + 1) n (omega arith) (omega arith))) (leb_tells k a)
+in-range k a (suc n) h lt = search (rules, leb_tells, in-range k (a + 1) n)
 
 pub in-below : (k n : ℕ) → k < n → IsIn k (range_with_len 0 n)
 in-below k n h = in-range k 0 n (omega arith) (omega arith)
@@ -47,8 +46,7 @@ all-flat Q f a (suc n) h = search (rules, all-append, all-flat Q f (a + 1) n)
 pub all-line : {B : Type 0} (Q : B → Type 0) (f : ℕ → B) (a n : ℕ) → ((k : ℕ) → a ≤ k → k < a + n → Q (f k))
     → AllByRecursion Q (map f (range_with_len a n))
 all-line Q f a zero h = tt
-all-line Q f a (suc n) h =
-    (h a (omega arith) (omega arith), all-line Q f (a + 1) n (λ k g l. h k (omega arith) (omega arith)))
+all-line Q f a (suc n) h = search (rules, all-line Q f (a + 1) n)
 
 pub at-within : {A : Type 0} (j : ℕ) (xs : List A) (x : A) → At j xs x → j < length xs
 at-within j [] x h = absurd h

@@ -111,11 +111,8 @@ updated-keep xs ys i e = search rules
 -- each table stays of class AC
 pub all_ac-updated : (xs ys : List (Option Table)) → all_ac xs ≡ true → all_ac ys ≡ true → all_ac (updated xs ys) ≡ true
 unfolding updated
-all_ac-updated (x ∷ xs) (None ∷ ys) p q =
-    rw (and_parts (is_ac_or_none x) (all_ac xs) p).0 (all_ac-updated xs ys (and_parts (is_ac_or_none x) (all_ac xs) p).1 q)
-all_ac-updated (x ∷ xs) (Some s ∷ ys) p q =
-    rw (and_parts (is_ac s.class) (all_ac ys) q).0 (all_ac-updated xs ys (and_parts (is_ac_or_none x) (all_ac xs) p).1
-    (and_parts (is_ac s.class) (all_ac ys) q).1)
+all_ac-updated (x ∷ xs) (None ∷ ys) p q = search (rules, and_parts, all_ac-updated xs ys)
+all_ac-updated (x ∷ xs) (Some s ∷ ys) p q = search (rules, and_parts, all_ac-updated xs ys)
 all_ac-updated xs ys p q = search rules
 
 -- a place is moved

@@ -224,8 +224,7 @@ ending-below limit (c ∷ rest) h = search (rules, ending-below limit rest (omeg
 
 text-below : (limit : ℕ) (bytes : List ℕ) → length bytes < limit → EndsBelow limit (text_at bytes).ending
 unfolding text_at
-text-below limit (b ∷ c ∷ rest) h =
-    search (rules, ending-below, text-below limit rest (omega arith), text-below limit (c ∷ rest) (omega arith))
+text-below limit (b ∷ c ∷ rest) h = search (rules, ending-below, text-below limit rest)
 text-below limit bytes h = search rules
 
 after-below : (n : ℕ) (bytes : List ℕ) → length (after_bytes n bytes) ≤ length bytes

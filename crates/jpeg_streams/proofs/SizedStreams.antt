@@ -226,8 +226,7 @@ codings-alike w f g same p tables (x ∷ xs) codings e =
       subst (λ (ks : List Coding). CodingsAlike ks (l.0 ∷ others.0)) (ok-same (one.0 ∷ more.0) codings more.2)
           (one_more one.0 l.0 more.0 others.0 l.2 others.2),
     )
-codings-alike w f g same p tables [] codings e =
-    ([], refl, subst (λ (ks : List Coding). CodingsAlike ks []) (ok-same [] codings e) none)
+codings-alike w f g same p tables [] codings e = search (rules, ok-same, none)
 
 components-alike : (ks ls : List Coding) → CodingsAlike ks ls → Alikes (components_of ks) (components_of ls)
 components-alike ks ls none = none
@@ -430,8 +429,7 @@ pub stream-means_sized : (width height : ℕ) (settings : Settings) (array : Coe
     → sized_meaning width height settings (bytes ++ rest)
     ≡ meaning_of_array settings (sized_to width height final) array last rest
 stream-means_sized width height settings array bytes rest final last range w =
-    pictured settings array (sized_to width height final) last rest _
-    (image-sized width height settings array bytes rest final last range w)
+    search (rules, pictured, image-sized)
 
 -- A written stream whose picture is taken means one at each scale.
 pub sized-taken : (width height : ℕ) (settings : Settings) (array : Coefficients) (bytes rest : List ℕ)
@@ -443,5 +441,4 @@ pub sized-taken : (width height : ℕ) (settings : Settings) (array : Coefficien
     × (sized_meaning width height settings (bytes ++ rest)
     ≡ Ok ((told_of (sized_to width height final), picture), rest))
 sized-taken width height settings array bytes rest final last range w =
-    taken settings array (sized_to width height final) last rest _
-    (image-sized width height settings array bytes rest final last range w)
+    search (rules, taken, image-sized)

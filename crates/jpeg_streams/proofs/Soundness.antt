@@ -85,13 +85,7 @@ decoded-scaled s f e full p = search (rules, scaled_again)
 pub sound_kept : (old new : Found) → IsSound old → new.said.frame ≡ old.said.frame → new.said.scanned ≡ old.said.scanned
     → new.kept ≡ old.kept → new.planes ≡ old.planes → new.samples ≡ old.samples → IsSound new
 unfolding arrays_before
-sound_kept old new p a b c d s = record {
-  frames = λ f e. p.frames f (sym a ∙ e);
-  kept = λ f e. subst (AreArrays f.components) (sym (rw (b, c) refl)) (p.kept f (sym a ∙ e));
-  planes = λ f e. subst (ArePlanes f.components) (sym d) (p.planes f (sym a ∙ e));
-  samples = search rules;
-  unread = λ e. let q = p.unread (sym a ∙ e) in (b ∙ q.0, d ∙ q.1, s ∙ q.2);
-}
+sound_kept old new p a b c d s = search rules
 
 no-planes : (n : ℕ) (cs : List Component) → length cs ≤ n → ArePlanes cs (replicate n None)
 unfolding ArePlanes
@@ -162,9 +156,6 @@ sized-again width height other_width other_height f = search (rules, scaled_agai
 pub found-again : (width height other_width other_height : ℕ) (found : Said)
     → sized_to width height (sized_to other_width other_height found) ≡ sized_to width height found
 found-again width height other_width other_height found = search (rules, sized-again)
-
-abbrev sized_after : ℕ → ℕ → Found × List ℕ → Outcome Found
-sized_after width height header = Ok (with_said (sized_to width height) header.0, header.1)
 
 pub sized-read : (width height : ℕ) (bytes rest : List ℕ) (found new : Found) → header_at bytes ≡ Ok (found, rest)
     → new ≡ with_said (sized_to width height) found → sized_header_at width height bytes ≡ Ok (new, rest)

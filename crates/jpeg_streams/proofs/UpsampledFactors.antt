@@ -169,9 +169,7 @@ image-same components ps qs width height transform covers same = search (rules, 
 pub cropped-same : (stride w h width height : ℕ) (p q : List ℕ) → width ≤ w → height ≤ h → SamePlane stride w h p q
     → cropped stride width height p ≡ cropped stride width height q
 unfolding cropped
-cropped-same stride w h width height p q a b same =
-    map-same (λ i. slice_index p (i / width * stride + i % width))
-    (λ i. slice_index q (i / width * stride + i % width)) 0 (width * height) (λ i low high. go width refl i high)
+cropped-same stride w h width height p q a b same = search (rules, map-same, slice_index, go)
   where
     go : (n : ℕ) → n ≡ width → (i : ℕ) → i < 0 + width * height
         → slice_index p (i / width * stride + i % width) ≡ slice_index q (i / width * stride + i % width)
