@@ -89,17 +89,12 @@ all-reach frame (c ∷ cs) h = (made-reaches frame c h.0, all-reach frame cs h.1
 covered : (size factor most : ℕ) → 0 < most → ceiling (size * factor) most ≤ ceiling size most * factor
 covered size factor most h = grind (arith, mul-le-mul_right, mul_comm, ceiling-least)
 
-pub made-covered : (frame : Frame) (c : Component) → IsMade frame c
-    → (c.width ≤ ceiling frame.width (most_across frame.components) * c.factors.horizontal)
-    × (c.height ≤ ceiling frame.height (most_down frame.components) * c.factors.vertical)
-made-covered frame c is = search (rules, covered, some-across, some-down)
-
 all-among : (frame : Frame) (codings : List LosslessCoding) → AllByRecursion (λ k. IsMade frame k.component) codings
     → AllByRecursion (IsCovered (ceiling frame.width (most_across frame.components))
     (ceiling frame.height (most_down frame.components)))
     (map (λ k. part_of k.component.factors.horizontal k.component.factors.vertical k) codings)
 all-among frame [] h = tt
-all-among frame (k ∷ codings) h = search (rules, made-covered, all-among frame codings h.1)
+all-among frame (k ∷ codings) h = search (rules, covered, some-across, some-down, all-among frame codings h.1)
 
 pub all-covered : (frame : Frame) (codings : List LosslessCoding) → AllByRecursion (λ k. IsMade frame k.component)
     codings

@@ -33,7 +33,7 @@ use Rattle.jpeg_pixels.specs.Planes.{plane_of, strip_of}
 use Rattle.jpeg_streams.specs.Rasters.{ordered, in_raster}
 use Rattle.jpeg_pixels.proofs.PlaneRows.{plane-more, plane-same}
 use Rattle.jpeg_segments.specs.ScanHeader.{Scan}
-use Rattle.jpeg_streams.specs.ScanSegments.{Coding, pass_of, vias_from, codings_of, put_arrays}
+use Rattle.jpeg_streams.specs.ScanSegments.{Coding, components_of, pass_of, vias_from, codings_of, put_arrays}
 use Rattle.jpeg_streams.specs.ScanSegments.{is_progressive, arrays_before, scan_arrays}
 use Rattle.jpeg_streams.specs.Found.{Found}
 use Rattle.jpeg_streams.proofs.BroughtLevels.{zero-at as zeros-at}
@@ -144,9 +144,6 @@ blocks-any P kept p vias n [] old t h = h
 blocks-any P kept p vias n (s ∷ spots) old t h =
     search (rules, counted-on, next-any, blocks-any P kept p vias n spots)
 
-holds-kept : (front rest : Arrays) (spots : List Spot) → IsKept (Holds front rest spots)
-holds-kept front rest spots arrays s b h = search (rules, length-set, put-inside)
-
 -- ---- blocks inside others
 
 begun-shifted : (n : ℕ) (front rest : Arrays) (old : Counted) (t : Text)
@@ -159,11 +156,6 @@ pub counted-where : {A : Type 0} (P : Arrays → Type 0) (f g : Counted → Read
     → ((r : Counted) (t : Text) → P r.reached.arrays → f r t ≡ g r t)
     → (o : Result (Counted × Text) Fault) → KeepsCounted P o → read_on f o ≡ read_on g o
 counted-where P f g h o k = search rules
-
-counts : (front rest : Arrays) (now : Counted) (o : Result (Reached × Text) Fault)
-    → read_on (λ r. gives (after_turn now r)) (read_on (λ r. gives (wrapped front rest r)) o)
-    ≡ read_on (λ r. gives (wrapped_count front rest r)) (read_on (λ r. gives (after_turn now r)) o)
-counts front rest now o = search rules
 
 next-shifted : (p : Pass) (vias : List Via) (n : ℕ) (front rest : Arrays) (s : Spot) (spots : List Spot)
     (old : Counted) (t : Text) → Holds front rest (s ∷ spots) old.reached.arrays
@@ -181,7 +173,7 @@ next-shifted p vias n front rest s spots old t h =
     ∙ on-on wrap far (begun_from n old t)
     ∙ counted-where all (λ now. λ u. far (wrapped_count front rest now) u)
     (λ now. λ u. read_on wrap (near now u))
-    (search (rules, get-around, get-inside, put-shifted, counts))
+    (search (rules, get-around, get-inside, put-shifted))
     (begun_from n old t) (begun-keeps all n old t h)
     ∙ sym (on-on near wrap (begun_from n old t))
 
@@ -201,7 +193,7 @@ blocks-shifted p vias n front rest (s ∷ spots) old t h =
     ∙ counted-where all (λ r. λ u. next (wrapped_count front rest r) u)
     (λ r. λ u. read_on wrap (blocks_from p vias n spots r u))
     (λ r u k. blocks-shifted p vias n front rest spots r u (search rules))
-    (next_from p vias n s old t) (next-any all (holds-kept front rest (s ∷ spots)) p vias n s old t h)
+    (next_from p vias n s old t) (next-any all (λ arrays q b k. search (rules, length-set, put-inside, k.inside)) p vias n s old t h)
     ∙ sym (on-on (blocks_from p vias n spots) wrap (next_from p vias n s old t))
 
 -- ---- rows
@@ -482,23 +474,16 @@ row-inside frame [] row fits = record { inside = λ arrays s sized h. absurd h }
 row-inside frame (c ∷ []) row fits = search (rules, own-inside)
 row-inside frame (c ∷ d ∷ more) row fits = search (rules, several-inside)
 
-one-placed : (frame : Frame) (c : Component) → Fits frame c
-    → spots_of frame (c ∷ []) ≡ placed_rows (c ∷ []) 0 (rows_of frame (c ∷ []))
-unfolding mcu_row spots_of own_spots
-one-placed frame c fits =
-    let vt = c.factors.vertical in
-    let high = (grid_of c).own_high in
-    ap₂ (λ (a n : ℕ). flat_map (line_at c) (range_with_len a n)) (let z : 0 ≡ 0 * vt = omega arith in
-    z) (let z : 0 * vt ≡ 0 = omega arith in let y : high ≡ high - 0 * vt = omega arith in y)
-    ∙ sym (own-rows c 0 frame.mcus_high
-    (let z : (0 + frame.mcus_high) * vt ≡ frame.mcus_high * vt = ap (λ (k : ℕ). k * vt) (let y : 0 + frame.mcus_high
-    ≡ frame.mcus_high = omega arith in y) in
-    let a = fits.own_high in let b = fits.high in omega arith))
-
 placed-all : (frame : Frame) (c : Component) (more : List Component) → AllByRecursion (Fits frame) (c ∷ more)
     → spots_of frame (c ∷ more) ≡ placed_rows (c ∷ more) 0 (rows_of frame (c ∷ more))
-unfolding mcu_row spots_of all_spots
-placed-all frame c [] fits = one-placed frame c fits.0
+unfolding mcu_row spots_of own_spots all_spots
+placed-all frame c [] fits =
+    let a = fits.0.own_high in
+    let b = fits.0.high in
+    let vt = c.factors.vertical in
+    let z : (0 + frame.mcus_high) * vt ≡ frame.mcus_high * vt = search rules in
+    let o : 0 * vt ≡ 0 = omega arith in
+    grind (arith, own-rows c 0 frame.mcus_high (omega arith))
 placed-all frame c (d ∷ more) fits = sym (several-rows frame.mcus_wide (c ∷ d ∷ more) 0 frame.mcus_high)
 
 -- A scan that begins with zeros is its rows of MCUs, each read into blocks of its own.
@@ -555,9 +540,6 @@ codings-are-of found frame scan = go (codings_of found.said frame scan) refl
     go (Err f) e = tt
 
 -- ---- blocks
-
-abbrev pub components_of : List Coding → List Component
-components_of codings = map (λ (c : Coding). c.component) codings
 
 abbrev pub arrays_of : List Coding → Arrays → Arrays
 arrays_of codings kept = map (λ (c : Coding). get_or kept c.index []) codings

@@ -72,9 +72,6 @@ read-sources f q sources e s some most = search (rules, frames-have-sources, rec
 pub decoded-sources : (f : Frame) → IsDecodedFrame f → HasSources f
 decoded-sources f p = search (rules, scale-bounds, accepted-facts, read-sources)
 
-pub decoded-read : (f : Frame) → IsFrame f → accepted f ≡ Ok f → IsDecodedFrame f
-decoded-read f q a = grind (arith, full_frames f q)
-
 pub decoded-scaled : (s : ℕ) (f : Frame) → is_scale s ≡ true → (f.process ≡ Lossless → s ≡ 8) → IsDecodedFrame f
     → IsDecodedFrame (frame_at s f)
 unfolding frame_at
@@ -113,7 +110,8 @@ sound-frame found f p e n s = grind (
 
 pub sound-framed : (found : Found) (f : Frame) → IsSound found → is_some found.said.frame ≡ false → IsFrame f
     → accepted f ≡ Ok f → IsSound (with_said (λ said. record said { frame = Some f }) found)
-sound-framed found f p e q a = search (rules, sound-frame, decoded-read)
+sound-framed found f p e q a =
+    let d : IsDecodedFrame f = grind (arith, full_frames f q) in search (rules, sound-frame)
 
 -- ---- the start of a stream
 
