@@ -257,11 +257,10 @@ all-apart frame components fits =
     (λ s row. TellsRow components row s) 0 frame.mcus_high
     (λ row b. apart-flat (mcu row) (λ s column. TellsColumn components column s) 0 wide
     (search (rules, mcu-apart))
-    (λ column s k h. let x = of row column s k h in
-    record { component = x.component; here = placed frame components row column s x; column_of = x.tells.column_of })
+    (λ column s k h. let x = of row column s k h in search (rules, placed))
     (λ s k l a b. (search (rules, at-one))))
-    (λ row s b h. let g = in-flat-back (mcu row) s 0 wide h in let x = of row g.at s g.between g.gives in
-    record { component = x.component; here = placed frame components row g.at s x; row_of = x.tells.row_of })
+    (λ row s b h. let g = in-flat-back (mcu row) s 0 wide h in
+    let x = of row g.at s g.between g.gives in search (rules, placed))
     (λ s k l a b. (search (rules, at-one)))
 
 -- The spots of a scan are apart.

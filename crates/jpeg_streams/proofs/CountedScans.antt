@@ -1,19 +1,17 @@
 -- A scan is its blocks one after the other, with a restart where no block is left of an interval.
 use Rattle.std.proofs.Common.{rules, ◌≡◌, ◌⊎◌, inl, inr, ℕ, zero, suc, ◌+◌, ◌-◌, ◌*◌, ◌%◌, ◌≤◌, ◌<◌}
-use Rattle.std.proofs.Common.{Bool, false, List, [], ◌∷◌, ◌++◌, take, drop, length, Option, Some}
-use Rattle.std.proofs.Common.{Result, Ok, Err, refl, sym, ap, ◌∙◌, append-nil, arith, length-drop}
-use Rattle.std.proofs.Common.{take-append-drop, length-take, get_or, subst, map, set, ℤ, pos, ap₂, ◌≢◌}
-use Rattle.std.proofs.Common.{get_or-set_same, get_or-set_other, length-set}
+use Rattle.std.proofs.Common.{false, List, [], ◌∷◌, ◌++◌, take, drop, length, Option, Result, Ok}
+use Rattle.std.proofs.Common.{Err, refl, sym, ap, ◌∙◌, append-nil, arith, length-drop}
+use Rattle.std.proofs.Common.{take-append-drop, length-take, get_or, subst, map, set, ℤ, pos, ap₂}
+use Rattle.std.proofs.Common.{◌≢◌, get_or-set_same, get_or-set_other, length-set}
 use Rattle.std.specs.Prelude.{◌==◌, ◌&&◌, nat_lt, if◌then◌else◌}
 use Rattle.std.specs.List.{AllByRecursion, flat_map}
-use Rattle.std.proofs.Math.Nat.{mul-add}
 use Rattle.std.proofs.Math.Bool.{and-false}
 use Rattle.std.proofs.lemmas.Bool.{ne_eqb, le-ltb, lt-ltb}
 use Rattle.jpeg_bits.specs.Reading.{Outcome, Fault, Malformed}
 use Rattle.jpeg_bits.specs.Entropy.{Text, upcoming, fresh, marker_from}
 use Rattle.jpeg_bits.specs.Readers.{Reads, read_on, gives}
 use Rattle.jpeg_bits.specs.declared.marker.Marker.{Marker}
-use Rattle.jpeg_bits.specs.declared.marker.Marker.TheVariants.{RST}
 use Rattle.jpeg_segments.specs.Frame.{Frame, Component}
 use Rattle.jpeg_bits.specs.Passes.{Pass, Via, Block, block_from, blocks_of, predictors_at_start}
 use Rattle.jpeg_bits.specs.Intervals.{groups, first_group, other_groups, interval, intervals}
@@ -29,7 +27,6 @@ use Rattle.jpeg_streams.proofs.Apart.{spots-apart, spots-inside}
 use Rattle.jpeg_bits.proofs.EndLemmas.{ahead-so}
 use Rattle.jpeg_bits.proofs.ReadIntervals.{Holds}
 use Rattle.jpeg_bits.proofs.TakenTexts.{blocks-takes}
-use Rattle.std.proofs.Math.Logic.{⊎_elim}
 use Rattle.std.proofs.lemmas.Bool.Decides.{leb_tells}
 use Rattle.jpeg_bits.proofs.WrittenIntervals.{all-groups, first-map, others-map}
 use Rattle.jpeg_bits.specs.Reading as reading

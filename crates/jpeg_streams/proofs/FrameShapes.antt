@@ -179,13 +179,9 @@ reaches-one : (s width height mh mv : ℕ) (x : Factors) (source : Source) → 0
 reaches-one s width height mh mv x source ss w h a b r e =
     let z = source-rule mh mv (ceiling (width * s) 8) (ceiling (height * s) 8)
     (scaled_component s width height mh mv x) source e in
-    let q = rule-ratios x.horizontal x.vertical mh mv (ceiling (width * s) 8) (ceiling (height * s) 8) z.0 a b z.1 in
-    let hs = r.horizontal_some in
-    let vs = r.vertical_some in
-    let p1 : 1 * 1 ≤ width * x.horizontal = mul-le-mul w hs in
-    let p2 : 1 * 1 ≤ width * x.horizontal * s = mul-le-mul p1 ss in
-    let q1 : 1 * 1 ≤ height * x.vertical = mul-le-mul h vs in
-    let q2 : 1 * 1 ≤ height * x.vertical * s = mul-le-mul q1 ss in
+    let ratios = rule-ratios x.horizontal x.vertical mh mv (ceiling (width * s) 8) (ceiling (height * s) 8) z.0 a b z.1 in
+    let p : 1 * 1 ≤ width * x.horizontal * s = mul-le-mul (mul-le-mul w r.horizontal_some) ss in
+    let q : 1 * 1 ≤ height * x.vertical * s = mul-le-mul (mul-le-mul h r.vertical_some) ss in
     subst (λ (y : Source). Reaches y (ceiling (width * s) 8) (ceiling (height * s) 8)) z.2
     (search (rules, some-ceiling, reach-end))
 

@@ -1,8 +1,8 @@
 -- A scan from zeros is its rows of MCUs, each read into blocks of its own.
-use Rattle.std.proofs.Common.{rules, ◌≡◌, inr, ℕ, zero, suc, ◌+◌, ◌-◌, ◌*◌, ◌/◌, ◌≤◌, ◌<◌, List, []}
-use Rattle.std.proofs.Common.{◌∷◌, ◌++◌, map, length, set, get_or, replicate, Result, Ok, Err, refl}
-use Rattle.std.proofs.Common.{sym, ap, ap₂, ◌∙◌, append_assoc, append-nil, arith, length-set}
-use Rattle.std.proofs.Common.{length-append, ℤ, false}
+use Rattle.std.proofs.Common.{rules, ◌≡◌, ℕ, zero, suc, ◌+◌, ◌-◌, ◌*◌, ◌/◌, ◌≤◌, ◌<◌, List, [], ◌∷◌}
+use Rattle.std.proofs.Common.{◌++◌, map, length, set, get_or, Result, Ok, Err, refl, sym, ap, ap₂}
+use Rattle.std.proofs.Common.{◌∙◌, append_assoc, append-nil, arith, length-set, length-append, ℤ}
+use Rattle.std.proofs.Common.{false}
 use Rattle.std.proofs.lemmas.Grind.{common_steps, flat_map-append}
 use Rattle.std.specs.Prelude.{min, ◌&&◌, if◌then◌else◌}
 use Rattle.std.specs.List.{AllByRecursion, range_with_len, flat_map}
@@ -25,16 +25,16 @@ use Rattle.std.proofs.Math.Nat.{add-mul, mul_assoc, div-lt_iff_lt-mul}
 use Rattle.jpeg_streams.proofs.Apart.{At, at-all, in-flat-back, mcu-tells, own-within, placed}
 use Rattle.jpeg_streams.proofs.Apart.{map-same, get-at, sized, zeros-sized}
 use Rattle.std.proofs.lemmas.List.{map-append, set-append_left, set-append_right, length-replicate}
-use Rattle.std.proofs.lemmas.List.{replicate-append-replicate, get_or-map}
-use Rattle.std.proofs.lemmas.List.{ext_get_or, get_or-append_right, get_or_append_left, length-map}
+use Rattle.std.proofs.lemmas.List.{replicate-append-replicate, get_or-map, ext_get_or}
+use Rattle.std.proofs.lemmas.List.{get_or-append_right, get_or_append_left, length-map}
 use Rattle.std.proofs.lemmas.List.FromFn.{length-map-range_with_len, get_or-map-range_with_len}
 use Rattle.std.proofs.lemmas.Nat.{div-mul-add}
 use Rattle.jpeg_pixels.specs.Planes.{plane_of, strip_of}
 use Rattle.jpeg_streams.specs.Rasters.{ordered, in_raster}
 use Rattle.jpeg_pixels.proofs.PlaneRows.{plane-more, plane-same}
 use Rattle.jpeg_segments.specs.ScanHeader.{Scan}
-use Rattle.jpeg_streams.specs.ScanSegments.{Coding, components_of, pass_of, vias_from, codings_of, put_arrays}
-use Rattle.jpeg_streams.specs.ScanSegments.{is_progressive, arrays_before, scan_arrays}
+use Rattle.jpeg_streams.specs.ScanSegments.{Coding, components_of, pass_of, vias_from, codings_of}
+use Rattle.jpeg_streams.specs.ScanSegments.{put_arrays, is_progressive, arrays_before, scan_arrays}
 use Rattle.jpeg_streams.specs.Found.{Found}
 use Rattle.jpeg_streams.proofs.BroughtLevels.{zero-at as zeros-at}
 use Rattle.jpeg_streams.proofs.ReadTurns.{codings-each}
@@ -341,10 +341,7 @@ rows-in-turn p vias n cs (spots ∷ rows) row front old t fits h =
     let next = blocks_from p vias n others in
     let o = blocks_from p vias n spots start t in
     let holds : Holds front rest spots one = record {
-      aligned = record {
-        before = rows-count row cs front h ∙ sym (rows-count 1 cs one sized);
-        after = rows-count (length rows) cs rest (zero-rows (length rows) cs) ∙ sym (rows-count 1 cs one sized);
-      };
+      aligned = search (rules, rows-count, zero-rows (length rows) cs);
       inside = λ s k. fits.0.inside one s sized k;
     } in
     (search (rules, first-row))

@@ -15,8 +15,8 @@ use Rattle.jpeg_streams.specs.Segments.{with_application, frame_segment, accepte
 use Rattle.jpeg_streams.specs.Segments.{application_segment, updated}
 use Rattle.jpeg_streams.specs.Found.{Found, Metadata, with_said}
 use Rattle.std.proofs.Math.ListN.{set}
-use Rattle.jpeg_bits.specs.Codes.{Table, is_ac}
-use Rattle.jpeg_segments.specs.HuffmanTables.{all_ac, is_ac_or_none}
+use Rattle.jpeg_bits.specs.Codes.{Table}
+use Rattle.jpeg_segments.specs.HuffmanTables.{all_ac}
 use Rattle.std.proofs.lemmas.Bool.{and_parts}
 
 -- the bytes of the first part of this number
@@ -104,15 +104,13 @@ updated-none xs ys h = refl
 pub updated-keep : {A : Type 0} (xs ys : List (Option A)) (i : ℕ) → get_or ys i None ≡ None
     → updated xs (set ys i None) ≡ updated xs ys
 unfolding updated
-updated-keep (x ∷ xs) (None ∷ ys) (suc i) e = ap (λ r. x ∷ r) (updated-keep xs ys i e)
-updated-keep (x ∷ xs) (Some s ∷ ys) (suc i) e = ap (λ r. Some s ∷ r) (updated-keep xs ys i e)
+updated-keep (x ∷ xs) (y ∷ ys) (suc i) e = search (rules, updated-keep xs ys i)
 updated-keep xs ys i e = search rules
 
 -- each table stays of class AC
 pub all_ac-updated : (xs ys : List (Option Table)) → all_ac xs ≡ true → all_ac ys ≡ true → all_ac (updated xs ys) ≡ true
 unfolding updated
-all_ac-updated (x ∷ xs) (None ∷ ys) p q = search (rules, and_parts, all_ac-updated xs ys)
-all_ac-updated (x ∷ xs) (Some s ∷ ys) p q = search (rules, and_parts, all_ac-updated xs ys)
+all_ac-updated (x ∷ xs) (y ∷ ys) p q = search (rules, and_parts, all_ac-updated xs ys)
 all_ac-updated xs ys p q = search rules
 
 -- a place is moved

@@ -1,9 +1,8 @@
 -- Refusals, and the turn that tells that known bytes are few.
-use Rattle.std.proofs.Common.{rules, ◌≡◌, ◌<◌, ℕ, zero, suc, List, Result, Err, true, Option, None}
-use Rattle.std.proofs.Common.{refl, subst, arith, Bool, Ok, ◌++◌, false, option_map, Some, IsSome}
+use Rattle.std.proofs.Common.{rules, ◌≡◌, ◌<◌, ℕ, List, Result, Err, true, Option, None, refl, Bool}
+use Rattle.std.proofs.Common.{Ok, ◌++◌, false, option_map, Some, IsSome}
 use Rattle.jpeg_bits.specs.Stream.{Stream}
-use Rattle.jpeg_bits.specs.Reading.{Outcome, Fault, Malformed, Answers, Names, NamesFormat, IsShort}
-use Rattle.jpeg_bits.specs.Reading.{IsGivenUp}
+use Rattle.jpeg_bits.specs.Reading.{Outcome, Fault, Answers, Names, NamesFormat, IsShort, IsGivenUp}
 use Rattle.jpeg_bits.specs.declared.error.Error.{Error}
 use Rattle.jpeg_bits.specs.declared.marker.Marker.{Marker}
 use Rattle.jpeg_streams.specs.States.{IfRefused, OnTold}

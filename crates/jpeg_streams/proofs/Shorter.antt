@@ -5,8 +5,7 @@ use Rattle.std.proofs.Common.{true, false, Option, Some, None, length, arith}
 use Rattle.std.specs.Prelude.{if◌then◌else◌}
 use Rattle.jpeg_bits.specs.Reading.{Outcome, Fault, ◌>>=◌, next_byte, next_u16, length_at, skip_at}
 use Rattle.jpeg_bits.specs.Reading.{times}
-use Rattle.jpeg_bits.specs.Marker.{next_marker, found_or}
-use Rattle.jpeg_bits.specs.declared.marker.Marker.{Marker}
+use Rattle.jpeg_bits.specs.Marker.{next_marker}
 use Rattle.jpeg_segments.specs.Checks.{check, needed}
 use Rattle.jpeg_segments.specs.Frame.{Frame, Factors, size_at, factors_at, components_from, sof_at}
 use Rattle.jpeg_segments.specs.ScanHeader.{Selector, count_at, selector_at, selectors_from, band_at}

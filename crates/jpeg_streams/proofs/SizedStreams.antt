@@ -20,8 +20,8 @@ use Rattle.jpeg_streams.specs.WrittenScans.{Coefficients, IsOwn, WritesScan, Has
 use Rattle.jpeg_streams.specs.WrittenImages.{WritesImage, ClosesImage, WritesImageScan, WritesPart}
 use Rattle.jpeg_streams.specs.ArrayPictures.{meaning_of_array, picture_of_array, TakesPicture}
 use Rattle.jpeg_streams.proofs.OwnSpots.{At}
-use Rattle.jpeg_streams.proofs.ReadTurns.{bind-ok, coding-is, ok-same, same-frame, some-none, stands-here}
-use Rattle.jpeg_streams.proofs.ReadTurns.{then-ok}
+use Rattle.jpeg_streams.proofs.ReadTurns.{bind-ok, coding-is, ok-same, same-frame, some-none}
+use Rattle.jpeg_streams.proofs.ReadTurns.{stands-here, then-ok}
 use Rattle.jpeg_streams.proofs.BroughtLevels.{Shaped}
 use Rattle.jpeg_streams.proofs.FrameShapes.{Plain, plain-size, below-ceiling, scaled_component}
 use Rattle.jpeg_streams.proofs.FrameShapes.{most_h, most_v, frame-components, frame-sources}

@@ -1,6 +1,6 @@
 -- The state between segments: frames that are decoded, at a scale, and what is kept from turn to turn.
 use Rattle.std.proofs.Common.{zero, suc, rules, ◌≡◌, ◌≤◌, ◌<◌, ℕ, List, [], ◌∷◌, length, replicate}
-use Rattle.std.proofs.Common.{refl, ap, sym, ◌∙◌, subst, arith, true, false, Some, None, Ok, Err}
+use Rattle.std.proofs.Common.{refl, ap, ◌∙◌, arith, true, false, Some, None, Ok, Err}
 use Rattle.std.specs.Prelude.{is_some}
 use Rattle.std.specs.List.{AllByRecursion}
 use Rattle.std.proofs.lemmas.Bool.{and_parts, eqb-true, leb-true}
@@ -13,7 +13,7 @@ use Rattle.jpeg_segments.specs.declared.parser.CodingProcess.TheVariants.{DctSeq
 use Rattle.jpeg_segments.specs.declared.parser.CodingProcess.TheVariants.{DctProgressive, Lossless}
 use Rattle.jpeg_segments.proofs.ScaleLemmas.{full_frames, scaled_again, scale_for_is_scale}
 use Rattle.jpeg_pixels.specs.Pictures.{Source, HasSources, sources_of}
-use Rattle.jpeg_streams.specs.InTurn.{Fits, AreArrays}
+use Rattle.jpeg_streams.specs.InTurn.{Fits}
 use Rattle.jpeg_streams.specs.Stream.{sized_to, header_at, sized_header_at}
 use Rattle.jpeg_streams.specs.Segments.{accepted, is_decoded_count, is_decoded_precision}
 use Rattle.jpeg_streams.specs.Found.{nothing_found, nothing_said, Found, with_said, Said}
@@ -24,7 +24,7 @@ use Rattle.jpeg_streams.proofs.Apart.{zeros-sized}
 use Rattle.jpeg_streams.proofs.FrameShapes.{scaled-frames-fit, frames-have-sources}
 use borrow.Author.Tests.{not-false}
 pub use Rattle.jpeg_streams.proofs.FrameShapes.{accepted-facts, count-few}
-use Rattle.jpeg_bits.specs.Reading.{Outcome, Fault, Answers}
+use Rattle.jpeg_bits.specs.Reading.{Fault, Answers}
 use Rattle.jpeg_bits.specs.Stream.{Stream}
 
 -- ---- frames

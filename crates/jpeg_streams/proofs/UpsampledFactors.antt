@@ -1,7 +1,7 @@
 -- Components whose factors can be upsampled have a way to upsample them, and no others.
-use Rattle.std.proofs.Common.{rules, ◌≡◌, ◌⊎◌, inl, inr, ℕ, ◌%◌, ◌||◌, Bool, true, false, List, []}
-use Rattle.std.proofs.Common.{◌∷◌, Option, Some, None, Ok, refl, sym, if◌then◌else◌, true≢false}
-use Rattle.std.proofs.Common.{zero, suc, ◌+◌, ◌*◌, ◌/◌, ◌<◌, ◌≤◌, map, length, slice_index, ap, ap₂}
+use Rattle.std.proofs.Common.{rules, ◌≡◌, ◌⊎◌, ℕ, ◌%◌, ◌||◌, Bool, true, false, List, [], ◌∷◌}
+use Rattle.std.proofs.Common.{Option, Some, None, Ok, refl, sym, if◌then◌else◌, true≢false, zero}
+use Rattle.std.proofs.Common.{suc, ◌+◌, ◌*◌, ◌/◌, ◌<◌, ◌≤◌, map, length, slice_index, ap, ap₂}
 use Rattle.std.proofs.Common.{arith}
 use Rattle.std.proofs.lemmas.Bool.{eqb-true, eq-eqb, and_from as and-true, or_left}
 use Rattle.std.specs.List.{AllByRecursion, range_with_len, concat}
@@ -9,7 +9,6 @@ use Rattle.jpeg_segments.specs.Checks.{gathered}
 use Rattle.jpeg_segments.specs.Frame.{Component, Factors}
 use Rattle.jpeg_pixels.specs.declared.upsampler.UpsampleRule.{UpsampleRule}
 use Rattle.jpeg_pixels.specs.declared.upsampler.UpsampleRule.TheVariants.{H1V1, H2V1, H1V2, H2V2}
-use Rattle.jpeg_pixels.specs.declared.upsampler.UpsampleRule.TheVariants.{Generic}
 use Rattle.jpeg_pixels.specs.Pictures.{Source, source_of, sources_of, lines_of, picture_line}
 use Rattle.jpeg_pixels.specs.Pictures.{converted_picture, image_of}
 use Rattle.jpeg_pixels.specs.Upsampling.{rule_of, upsampled, across, down}
