@@ -171,10 +171,9 @@ frame-components s number precision width height xs = search (rules, factors-bac
 
 -- ---- all components
 
-reaches-one : (s width height mh mv : ℕ) (x : Factors) (source : Source) → 0 < s → 0 < width → 0 < height
-    → 0 < mh → 0 < mv → IsInRange x
-    → source_of mh mv (ceiling (width * s) 8) (ceiling (height * s) 8) (scaled_component s width height mh mv x)
-    ≡ Ok source
+reaches-one : (s width height mh mv : ℕ) (x : Factors) (source : Source) → 0 < s → 0 < width
+    → 0 < height → 0 < mh → 0 < mv → IsInRange x → source_of mh mv (ceiling (width * s) 8)
+    (ceiling (height * s) 8) (scaled_component s width height mh mv x) ≡ Ok source
     → Reaches source (ceiling (width * s) 8) (ceiling (height * s) 8)
 reaches-one s width height mh mv x source ss w h a b r e =
     let z = source-rule mh mv (ceiling (width * s) 8) (ceiling (height * s) 8)

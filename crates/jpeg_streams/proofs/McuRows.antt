@@ -323,11 +323,10 @@ placed_rows cs row (spots ∷ rows) = placed_row cs row spots ++ placed_rows cs 
 pub record IsRow (cs : List Component) (spots : List Spot) : Type 0 where
   pub inside : (arrays : Arrays) (s : Spot) → AreRows 1 cs arrays → IsIn s spots → IsInside arrays s
 
-pub rows-in-turn : (p : Pass) (vias : List Via) (n : ℕ) (cs : List Component) (rows : List (List Spot)) (row : ℕ)
-    (front : Arrays) (old : Counted) (t : Text)
-    → AllByRecursion (IsRow cs) rows → AreRows row cs front
-    → blocks_from p vias n (placed_rows cs row rows) (on_arrays (each_with_more front (zero_rows
-    (length rows) cs)) old) t
+pub rows-in-turn : (p : Pass) (vias : List Via) (n : ℕ) (cs : List Component)
+    (rows : List (List Spot)) (row : ℕ) (front : Arrays) (old : Counted) (t : Text)
+    → AllByRecursion (IsRow cs) rows → AreRows row cs front → blocks_from p vias n
+    (placed_rows cs row rows) (on_arrays (each_with_more front (zero_rows (length rows) cs)) old) t
     ≡ mcu_rows_from p vias n cs rows front old t
 unfolding blocks_from mcu_rows_from placed_rows
 rows-in-turn p vias n cs [] row front old t fits h = rw (no-rows row cs front h) refl
@@ -547,9 +546,8 @@ fits-of frame [] fits of = tt
 fits-of frame (c ∷ codings) fits of = search (rules, at-all, fits-of frame codings fits of.1)
 
 -- the arrays of a scan's components are of all their blocks
-pub arrays-sized : (frame : Frame) (codings : List Coding) (kept : Arrays) → AreArrays
-    frame.components kept
-    → AllByRecursion (IsOf frame) codings
+pub arrays-sized : (frame : Frame) (codings : List Coding) (kept : Arrays)
+    → AreArrays frame.components kept → AllByRecursion (IsOf frame) codings
     → AreArrays (components_of codings) (arrays_of codings kept)
 unfolding AreArrays
 arrays-sized frame [] kept h of = tt
@@ -570,11 +568,9 @@ set-sized (c ∷ cs) (a ∷ arrays) (suc j) y e h = (h.0, set-sized cs arrays j 
 set-sized cs arrays j y e h = search rules
 
 -- and so do the arrays of a scan's components
-pub kept-sized : (frame : Frame) (codings : List Coding) (arrays kept : Arrays) → AreArrays
-    frame.components kept
-    → AllByRecursion (IsOf frame) codings
-    → AreArrays (components_of codings) arrays → AreArrays frame.components (put_arrays codings
-    arrays kept)
+pub kept-sized : (frame : Frame) (codings : List Coding) (arrays kept : Arrays)
+    → AreArrays frame.components kept → AllByRecursion (IsOf frame) codings → AreArrays
+    (components_of codings) arrays → AreArrays frame.components (put_arrays codings arrays kept)
 unfolding put_arrays AreArrays
 kept-sized frame (c ∷ codings) (a ∷ arrays) kept h of k =
     grind (arith, common_steps, set-sized, sized, kept-sized frame codings arrays)

@@ -88,8 +88,8 @@ application-read number found bytes rest said m e a = rw (e, a) refl
 pub updated-set : {A : Type 0} (xs ys : List (Option A)) (i : ℕ) (t : A) → i < length xs → i < length ys
     → get_or ys i None ≡ Some t → updated (set xs i (Some t)) (set ys i None) ≡ updated xs ys
 unfolding updated
-updated-set (x ∷ xs) (None ∷ ys) (suc i) t p q e = ap (λ r. x ∷ r) (updated-set xs ys i t (omega arith) (omega arith) e)
-updated-set (x ∷ xs) (Some s ∷ ys) (suc i) t p q e = rw (updated-set xs ys i t (omega arith) (omega arith) e) refl
+updated-set (x ∷ xs) (y ∷ ys) (suc i) t p q e =
+    search (rules, updated-set xs ys i t (omega arith) (omega arith) e)
 updated-set xs ys i t p q e = search rules
 
 -- where no table is left, nothing changes

@@ -210,9 +210,8 @@ coding-alike w f g same p tables index d a k e =
     )
 
 codings-alike : (w : Said) (f g : Frame) → SameFrame f g
-    → (p : Pass) (tables : Tables) (xs : List (ℕ × (ℕ × ℕ))) (codings : List Coding)
-    → gathered (λ x. component_coding w f p tables x.0 x.1.0 x.1.1) xs ≡ Ok codings
-    → (others : List Coding)
+    → (p : Pass) (tables : Tables) (xs : List (ℕ × (ℕ × ℕ))) (codings : List Coding) → gathered
+    (λ x. component_coding w f p tables x.0 x.1.0 x.1.1) xs ≡ Ok codings → (others : List Coding)
     × (gathered (λ x. component_coding (at_frame w g) g p tables x.0 x.1.0 x.1.1) xs ≡ Ok others)
     × CodingsAlike codings others
 unfolding gathered
@@ -385,11 +384,10 @@ sized-is width height f n = go f.process refl
 -- ---- the meaning
 
 -- What a written stream is read as at a scale.
-image-sized : (width height : ℕ) (settings : Settings) (array : Coefficients) (bytes tail : List ℕ) (final : Said)
-    (last : ℕ → Levels)
-    → ((index row column : ℕ) → Is8Bit (array index row column)) → WritesImage array bytes final last
-    → ImageMeant settings array (sized_to width height final) last tail
-    (sized_meaning width height settings (bytes ++ tail))
+image-sized : (width height : ℕ) (settings : Settings) (array : Coefficients) (bytes tail : List ℕ)
+    (final : Said) (last : ℕ → Levels) → ((index row column : ℕ) → Is8Bit (array index row column))
+    → WritesImage array bytes final last → ImageMeant settings array
+    (sized_to width height final) last tail (sized_meaning width height settings (bytes ++ tail))
 unfolding sized_meaning nothing_found nothing_said
 image-sized width height settings array bytes tail final last range w =
     let r = header-read MayEndImage (image-read array range) tail (λ k. nothing_sent) last bytes final no_progress w
@@ -422,11 +420,10 @@ image-sized width height settings array bytes tail final last range w =
     )
 
 -- The meaning at a scale is the picture of the array at that scale.
-pub stream-means_sized : (width height : ℕ) (settings : Settings) (array : Coefficients) (bytes rest : List ℕ)
-    (final : Said) (last : ℕ → Levels)
-    → ((index row column : ℕ) → Is8Bit (array index row column)) → WritesImage array bytes final
-    last
-    → sized_meaning width height settings (bytes ++ rest)
+pub stream-means_sized : (width height : ℕ) (settings : Settings)
+    (array : Coefficients) (bytes rest : List ℕ) (final : Said) (last : ℕ → Levels)
+    → ((index row column : ℕ) → Is8Bit (array index row column))
+    → WritesImage array bytes final last → sized_meaning width height settings (bytes ++ rest)
     ≡ meaning_of_array settings (sized_to width height final) array last rest
 stream-means_sized width height settings array bytes rest final last range w =
     search (rules, pictured, image-sized)

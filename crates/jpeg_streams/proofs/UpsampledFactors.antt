@@ -84,10 +84,9 @@ abbrev pub Agree : ℕ → ℕ → (ℕ → ℕ → ℕ) → (ℕ → ℕ → �
 Agree w h p q = (i j : ℕ) → i < w → j < h → p i j ≡ q i j
 
 -- a sample between a component's own is made of those inside
-upsampled-inside : (rule : UpsampleRule) (w h width height x y : ℕ) (p q : ℕ → ℕ → ℕ) → 0 < w → 0 < h
-    → 0 < across rule → 0 < down rule
-    → width ≤ across rule * w → height ≤ down rule * h → x < width → y < height → Agree w h p q
-    → upsampled rule p w h x y ≡ upsampled rule q w h x y
+upsampled-inside : (rule : UpsampleRule) (w h width height x y : ℕ) (p q : ℕ → ℕ → ℕ) → 0 < w
+    → 0 < h → 0 < across rule → 0 < down rule → width ≤ across rule * w → height ≤ down rule * h
+    → x < width → y < height → Agree w h p q → upsampled rule p w h x y ≡ upsampled rule q w h x y
 unfolding upsampled
 upsampled-inside rule w h width height x y p q a b c d e f k l same = grind (arith, common_steps)
 
