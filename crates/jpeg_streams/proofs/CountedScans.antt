@@ -348,7 +348,6 @@ intervals-in-blocks p vias n (suc fuel) xs (y ∷ ys) j k arrays bytes same some
     let zs = y ∷ ys in
     let t = upcoming fresh bytes in
     let start = at_start arrays in
-    let few-more : length (drop n zs) ≤ fuel = let d = length-drop n zs in omega arith in
     let F : Arrays → List ℕ → Outcome (Arrays × Option Marker) =
     λ a b. intervals_from p vias (suc k) (take n zs) (groups fuel n (drop n zs)) a b in
     let rec : (a : Arrays) (b : List ℕ)
@@ -357,7 +356,7 @@ intervals-in-blocks p vias n (suc fuel) xs (y ∷ ys) j k arrays bytes same some
     ap (λ (l : List Spot). finished
     (blocks_from p vias n l (counted n ((j + 1) % 8) (at_start a)) (upcoming fresh b))) (sym (take-append-drop n zs))
     ∙ intervals-in-blocks p vias n fuel (take n zs) (drop n zs) ((j + 1) % 8) (suc k) a b
-    (let f : (j + 1) % 8 ≡ suc k % 8 = omega (arith, same) in f) some few-more (omega (arith, length-take n zs)) (cut-either n zs) in
+    (omega arith) some (omega (arith, length-drop n zs)) (omega (arith, length-take n zs)) (cut-either n zs) in
     let o = turns_from p vias xs start t in
     ap finished (blocks-append p vias n xs zs (counted n j start) t
     ∙ ap (read_on (blocks_from p vias n zs)) (search (rules, blocks-within))
@@ -383,10 +382,9 @@ unfolding scan_from intervals_from
 scans-by-blocks p vias zero spots arrays bytes = sym (one-interval p vias 0 0 spots arrays bytes (inl refl))
 scans-by-blocks p vias (suc n) spots arrays bytes =
     let N = suc n in
-    let few : length (drop N spots) ≤ length spots = let d = length-drop N spots in omega arith in
     cc (
-      intervals-in-blocks p vias N (length spots) (take N spots) (drop N spots) 0 0 arrays bytes (let z : 0 ≡ 0 % 8 =
-          omega arith in z) (omega arith) few (omega (arith, length-take N spots)) (cut-either N spots),
+      intervals-in-blocks p vias N (length spots) (take N spots) (drop N spots) 0 0 arrays bytes refl (omega arith)
+          (omega (arith, length-drop N spots)) (omega (arith, length-take N spots)) (cut-either N spots),
       take-append-drop N spots,
     )
 

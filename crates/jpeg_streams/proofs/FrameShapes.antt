@@ -287,29 +287,23 @@ pub frame-sources : (f : Frame) (s : ℕ) (sources : List Source) → Plain f �
     → sources_of f.components f.output_width f.output_height ≡ Ok sources → (others : List Source)
     × (sources_of (frame_at s f).components (frame_at s f).output_width (frame_at s f).output_height ≡ Ok others)
 frame-sources f s sources o a b e =
-    let m = made-at f s o a in
-    let z = is-sized (frame_at s f) m in
-    let m8 = made-at f 8 o (omega arith) in
-    let z8 = is-sized (frame_at 8 f) m8 in
+    let z = is-sized (frame_at s f) (made-at f s o a) in
+    let z8 = is-sized (frame_at 8 f) (made-at f 8 o (omega arith)) in
     let full = plain-size f o in
-    let at8 : sources_of (map (scaled_component 8 o.width o.height (most_h o.factors) (most_v o.factors)) o.factors)
-    (ceiling (o.width * 8) 8) (ceiling (o.height * 8) 8) ≡ Ok sources
+    let mh = most_h o.factors in
+    let mv = most_v o.factors in
+    let cs = map (scaled_component s o.width o.height mh mv) o.factors in
+    let at8 : sources_of (map (scaled_component 8 o.width o.height mh mv) o.factors) (ceiling (o.width * 8) 8)
+    (ceiling (o.height * 8) 8) ≡ Ok sources
     = search rules in
-    let by8 = subst (λ (l : List Factors). gathered (source_of (most_h l) (most_v l) (ceiling (o.width * 8) 8)
-    (ceiling (o.height * 8) 8))
-    (map (scaled_component 8 o.width o.height (most_h o.factors) (most_v o.factors)) o.factors) ≡ Ok sources)
-    (factors-scaled 8 o.width o.height (most_h o.factors) (most_v o.factors) o.factors) at8 in
-    let others = sources-some (most_h o.factors) (most_v o.factors) (ceiling (o.width * s) 8) (ceiling
-    (o.height * s) 8) (map (scaled_component s o.width o.height (most_h o.factors) (most_v o.factors)) o.factors)
-    (all-kept s o.width o.height (most_h o.factors) (most_v o.factors) (ceiling (o.width * 8) 8) (ceiling
-    (o.height * 8) 8) (ceiling (o.width * s) 8) (ceiling (o.height * s) 8) o.factors
-    (λ k. one-wide o.width s a b k o.some_width) (λ k. one-wide o.height s a b k o.some_height)
-    (sources-back (most_h o.factors) (most_v o.factors) (ceiling (o.width * 8) 8) (ceiling (o.height * 8) 8) (map
-    (scaled_component 8 o.width o.height (most_h o.factors) (most_v o.factors)) o.factors) sources by8)) in
-    let back = subst (λ (l : List Factors). gathered (source_of (most_h l) (most_v l) (ceiling (o.width * s) 8)
-    (ceiling (o.height * s) 8))
-    (map (scaled_component s o.width o.height (most_h o.factors) (most_v o.factors)) o.factors) ≡ Ok others.0)
-    (sym (factors-scaled s o.width o.height (most_h o.factors) (most_v o.factors) o.factors)) others.1 in
+    let by8 : gathered (source_of mh mv (ceiling (o.width * 8) 8) (ceiling (o.height * 8) 8))
+    (map (scaled_component 8 o.width o.height mh mv) o.factors) ≡ Ok sources
+    = search (rules, factors-scaled) in
+    let others = sources-some mh mv (ceiling (o.width * s) 8) (ceiling (o.height * s) 8) cs
+    (all-kept s o.width o.height mh mv _ _ _ _ o.factors (λ k. one-wide o.width s a b k o.some_width)
+    (λ k. one-wide o.height s a b k o.some_height) (sources-back mh mv _ _ _ sources by8)) in
+    let back : sources_of cs (ceiling (o.width * s) 8) (ceiling (o.height * s) 8) ≡ Ok others.0
+    = search (rules, factors-scaled) in
     grind arith
 
 -- ---- one component

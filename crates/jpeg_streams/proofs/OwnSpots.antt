@@ -106,10 +106,8 @@ all-covered frame components c s here fits own =
     let col = s.index % w in
     let y = row / vt in
     let x = col / hz in
-    let row-in : row < frame.mcus_high * vt = search rules in
-    let col-in : col < frame.mcus_wide * hz = search rules in
-    let y-in : y < frame.mcus_high = (div-lt_iff_lt-mul fits.vertical).1 row-in in
-    let x-in : x < frame.mcus_wide = (div-lt_iff_lt-mul fits.horizontal).1 col-in in
+    let y-in : y < frame.mcus_high = (div-lt_iff_lt-mul fits.vertical).1 (search rules) in
+    let x-in : x < frame.mcus_wide = (div-lt_iff_lt-mul fits.horizontal).1 (search rules) in
     let v = row % vt in
     let h = col % hz in
     let at : ℕ → ℕ → Spot = λ b a. record { slot = s.slot; index = (y * vt + b) * w + (x * hz + a) } in

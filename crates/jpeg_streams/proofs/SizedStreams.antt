@@ -58,18 +58,14 @@ same-number a b f g = search (rules, leb_tells)
 -- a component has as many own blocks at each scale
 pub own-same : (n m s : ℕ) → 0 < m → 0 < s → ceiling (ceiling (n * s) (m * 8)) s ≡ ceiling (ceiling n m) 8
 own-same n m s hm hs = same-number (ceiling (ceiling (n * s) (m * 8)) s) (ceiling (ceiling n m) 8)
-    (λ x h.
-    let a = (below-ceiling x (ceiling (n * s) (m * 8)) s hs).0 h in
-    let b : x * s * (m * 8) < n * s = (below-ceiling (x * s) (n * s) (m * 8) (omega arith)).0 a in
-    let c : (x * 8 * m) * s < n * s = let e = same x in omega arith in
-    let d : x * 8 * m < n = lt_of_mul-lt-mul_right s c in
-    (below-ceiling x (ceiling n m) 8 (omega arith)).1 ((below-ceiling (x * 8) n m hm).1 d))
-    (λ x h.
-    let a = (below-ceiling x (ceiling n m) 8 (omega arith)).0 h in
-    let d : x * 8 * m < n = (below-ceiling (x * 8) n m hm).0 a in
+    (λ x h. let e = same x in
+    let a = (below-ceiling (x * s) (n * s) (m * 8) (omega arith)).0 ((below-ceiling x _ s hs).0 h) in
+    let c : (x * 8 * m) * s < n * s = omega arith in
+    (below-ceiling x _ 8 (omega arith)).1 ((below-ceiling (x * 8) n m hm).1 (lt_of_mul-lt-mul_right s c)))
+    (λ x h. let e = same x in
+    let d = (below-ceiling (x * 8) n m hm).0 ((below-ceiling x _ 8 (omega arith)).0 h) in
     let c : (x * 8 * m) * s < n * s = mul-lt-mul_of_pos_right d hs in
-    let b : x * s * (m * 8) < n * s = let e = same x in omega arith in
-    (below-ceiling x (ceiling (n * s) (m * 8)) s hs).1 ((below-ceiling (x * s) (n * s) (m * 8) (omega arith)).1 b))
+    (below-ceiling x _ s hs).1 ((below-ceiling (x * s) (n * s) (m * 8) (omega arith)).1 (omega arith)))
   where
     same : (x : ℕ) → x * s * (m * 8) ≡ (x * 8 * m) * s
     same x = search (rules, mul_assoc, mul_comm)
