@@ -28,9 +28,8 @@ use Rattle.jpeg_decoder.specs.Strips.{planes_by, planes_at, samples_of, with_str
 use Rattle.jpeg_decoder.specs.Strips.{no_samples, planes_by_rows}
 use Rattle.jpeg_streams.proofs.Apart.{zeros-sized}
 use Rattle.jpeg_streams.proofs.CountedScans.{frame-scans, on-on}
-use Rattle.jpeg_streams.proofs.McuRows.{AreRows, blocks-any, rows-kept, counted-where, joined-rows, no-blocks, zero-rows}
-use Rattle.jpeg_streams.proofs.McuRows.{scans-by-rows}
-use Rattle.jpeg_streams.proofs.PlaneStrips.{plane-strips}
+use Rattle.jpeg_streams.proofs.McuRows.{AreRows, blocks-any, rows-kept, counted-where, joined-rows}
+use Rattle.jpeg_streams.proofs.McuRows.{no-blocks, zero-rows, scans-by-rows, plane-strips}
 use Rattle.std.proofs.lemmas.Grind.{common_steps}
 
 -- ---- rows of blocks after rows of blocks

@@ -14,8 +14,7 @@ use Rattle.jpeg_streams.specs.declared.progress.Progress.TheVariants.{Fresh, Hea
 use Rattle.jpeg_streams.specs.States.{IfRefused, IsReading, OnTold}
 use Rattle.jpeg_streams.specs.States.{Decoding, MovesToHeader, ahead, told_ahead, turns_ahead}
 use Rattle.jpeg_streams.specs.Stream.{Told, header_at, rest_at, told_of}
-use Rattle.jpeg_streams.proofs.Refusals.{told-err}
-use Rattle.jpeg_streams.proofs.Told.{told-through}
+use Rattle.jpeg_streams.proofs.Refusals.{told-err, told-through}
 use Rattle.jpeg_decoder.proofs.HeaderThenRest.{header-lacks, header-means, header-told, header-told_lacking}
 use Rattle.jpeg_decoder.proofs.HeaderThenRest.{header-turns, header-turns_lacking}
 use Rattle.jpeg_decoder.proofs.ScanData.{answers-err}

@@ -12,7 +12,7 @@ use Rattle.jpeg_decoder.proofs.Headers.{turn-begins}
 use Rattle.jpeg_decoder.proofs.Turns.{IsElsewhere, on-at, told-start, turns-enough}
 use Rattle.jpeg_streams.proofs.ReadTurns.{Walked, bind-ok, err-ok, ok-same, then-ok, walk-on, walk-refused, walk-stop}
 use Rattle.jpeg_streams.proofs.ReadTurns.{walked_to}
-use Rattle.jpeg_streams.proofs.Told.{turns-no_start, turns-start}
+use Rattle.jpeg_streams.proofs.Refusals.{turns-no_start, turns-start}
 use Rattle.std.proofs.lemmas.Grind.{common_steps}
 
 -- ---- the turns of a header and those of its stream

@@ -19,7 +19,7 @@ use Rattle.jpeg_streams.specs.WrittenLossless.{IsLossless, IsWithinLimit, pictur
 use Rattle.jpeg_streams.specs.WrittenLossless.{WritesSamples}
 use Rattle.jpeg_streams.proofs.Apart.{get-at}
 use Rattle.jpeg_streams.proofs.LimitedPictures.{limited-ok, limited-same}
-use Rattle.jpeg_streams.proofs.LosslessFrames.{IsShaped}
+use Rattle.jpeg_streams.proofs.LosslessSizes.{IsShaped}
 use Rattle.jpeg_streams.proofs.OwnSpots.{at-within, in-below}
 use Rattle.jpeg_streams.proofs.PaddingUnseen.{pictures-by}
 use Rattle.jpeg_streams.proofs.ReadTurns.{same-frame, then-ok}

@@ -23,7 +23,7 @@ use Rattle.jpeg_streams.specs.Sound.{HasDecodedFrame, IsDecodedFrame}
 use Rattle.jpeg_streams.specs.declared.settings.Settings.{Settings}
 use Rattle.jpeg_streams.proofs.BroughtLevels.{Made}
 use Rattle.jpeg_streams.proofs.OwnSpots.{At}
-use Rattle.jpeg_streams.proofs.ScaledSizes.{one-made, scale-made}
+use Rattle.jpeg_streams.proofs.FrameShapes.{one-made, scale-made}
 use Rattle.jpeg_streams.proofs.Soundness.{accepted-precision, decoded-count, decoded-fits, scale-bounds}
 use Rattle.jpeg_decoder.proofs.ImageSizes.{cropped-length, decoded-counts, image-length}
 

@@ -11,7 +11,7 @@ use Rattle.jpeg_streams.specs.Stream.{told_of}
 use Rattle.jpeg_streams.specs.WrittenLossless.{picture_of_samples, Samples, WritesSamples}
 use Rattle.jpeg_streams.specs.WrittenParts.{picture_meant_by}
 use Rattle.jpeg_streams.proofs.LimitedPictures.{limited-same}
-use Rattle.jpeg_streams.proofs.LosslessFrames.{IsShaped}
+use Rattle.jpeg_streams.proofs.LosslessSizes.{IsShaped}
 use Rattle.jpeg_streams.proofs.SamplesAlike.{pictures-alike}
 use Rattle.jpeg_streams.proofs.WrittenParts.{picture-alone}
 use Rattle.jpeg_decoder.proofs.LosslessPixels.{lossless-means, sizes-kept}

@@ -24,12 +24,12 @@ use Rattle.jpeg_streams.specs.Found.{Found, nothing_found}
 use Rattle.jpeg_streams.specs.Stream.{end_segment, segment_at, start_at, told_of, turn_at, walk}
 use Rattle.jpeg_streams.specs.Reported.{told_by_turns, told_in_turns}
 use Rattle.jpeg_decoder.specs.Steps.{is_restart_marker}
-use Rattle.jpeg_streams.proofs.Shorter.{LeavesBelow, below-at, below_steps, length-below, skip-below, marker-below}
-use Rattle.jpeg_streams.proofs.ShorterSegments.{sof-below, dqt-below, dht-below, sos-below, app-below, dri-below}
-use Rattle.jpeg_streams.proofs.ShorterScans.{arrays-below}
-use Rattle.jpeg_streams.proofs.ShorterSamples.{samples-below}
+use Rattle.jpeg_streams.proofs.Shorter.{LeavesBelow, below-at, below_steps, length-below}
+use Rattle.jpeg_streams.proofs.Shorter.{skip-below, marker-below, sof-below, dqt-below, dht-below}
+use Rattle.jpeg_streams.proofs.Shorter.{sos-below, app-below, dri-below, arrays-below}
+use Rattle.jpeg_streams.proofs.Shorter.{samples-below}
 use Rattle.jpeg_streams.proofs.ReadTurns.{Walked}
-use Rattle.jpeg_streams.proofs.Told.{turns-start}
+use Rattle.jpeg_streams.proofs.Refusals.{turns-start}
 use Rattle.jpeg_decoder.proofs.PassedRestarts.{Passes, after-passes}
 use Rattle.std.proofs.lemmas.Grind.{common_steps}
 

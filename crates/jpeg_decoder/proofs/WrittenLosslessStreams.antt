@@ -22,7 +22,7 @@ use Rattle.jpeg_streams.specs.Found.{nothing_found, nothing_said, Said}
 use Rattle.jpeg_streams.specs.Stream.{header_at, rest_at, meaning, sized_meaning, sized_to, Told}
 use Rattle.jpeg_streams.specs.WrittenLossless.{IsLossless, Samples, SendsSamples, WritesSamples}
 use Rattle.jpeg_streams.proofs.ReadTurns.{then-ok}
-use Rattle.jpeg_streams.proofs.LosslessFrames.{IsShaped, header-shaped}
+use Rattle.jpeg_streams.proofs.LosslessSizes.{IsShaped, header-shaped}
 use Rattle.jpeg_streams.proofs.WalkedStreams.{beside, FindsScan, header-read, IsMeant, IsRead, IsSaid, stream-read}
 use Rattle.jpeg_decoder.proofs.HeaderThenRest.{header-means}
 use Rattle.jpeg_decoder.proofs.WrittenSamples.{bring_samples, indices_of, planes_for, scan-read}

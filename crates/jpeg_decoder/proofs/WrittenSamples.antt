@@ -38,8 +38,7 @@ use Rattle.jpeg_streams.specs.ScanSegments.{lossless_scan, scan_segment, scan_tu
 use Rattle.jpeg_streams.specs.Found.{Found, Said, nothing_found}
 use Rattle.jpeg_streams.specs.WrittenLossless.{HoldSamples, Samples, WritesSamplesScan}
 use Rattle.jpeg_streams.proofs.ReadTurns.{IsEnd, bind-ok, needed-some, ok-same, then-ok}
-use Rattle.jpeg_streams.proofs.LosslessFrames.{IsShaped}
-use Rattle.jpeg_streams.proofs.LosslessSizes.{IsMade, all-at, all-covered}
+use Rattle.jpeg_streams.proofs.LosslessSizes.{IsShaped, IsMade, all-at, all-covered}
 use Rattle.jpeg_streams.proofs.SaidTables.{HasTables, table-there}
 use Rattle.std.proofs.lemmas.Grind.{common_steps}
 

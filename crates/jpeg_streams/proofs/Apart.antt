@@ -206,9 +206,7 @@ module _ (frame : Frame) (row column : ℕ) (lt : column < frame.mcus_wide) wher
       → IsOf frame components base row column s
   unfolding mcu_spots
   mcu-tells [] base s fits h = absurd h
-  mcu-tells (c ∷ more) base s fits h =
-      go (λ t. mcu-tells more (base + 1) s fits.1 t)
-      (in-either s (part_spots row column base c) (mcu_spots row column (base + 1) more) h)
+  mcu-tells (c ∷ more) base s fits h = search (rules, go, in-either, mcu-tells more)
     where
       go : (IsIn s (mcu_spots row column (base + 1) more) → IsOf frame more (base + 1) row column s)
           → IsIn s (part_spots row column base c) ⊎ IsIn s (mcu_spots row column (base + 1) more)
@@ -246,9 +244,6 @@ pub placed : (frame : Frame) (components : List Component) (row column : ℕ) (s
     (x : IsOf frame components 0 row column s) → At s.slot components x.component
 placed frame components row column s x = search rules
 
-one-row : (components : List Component) (s : Spot) (k l : ℕ) → TellsRow components k s → TellsRow components l s → k ≡ l
-one-row components s k l a b = search (rules, at-one)
-
 pub all-apart : (frame : Frame) (components : List Component) → AllByRecursion (Fits frame) components
     → AreApart (all_spots frame.mcus_wide frame.mcus_high components)
 unfolding all_spots
@@ -262,12 +257,11 @@ all-apart frame components fits =
     (λ s row. TellsRow components row s) 0 frame.mcus_high
     (λ row b. apart-flat (mcu row) (λ s column. TellsColumn components column s) 0 wide
     (search (rules, mcu-apart))
-    (λ column s k h. let x = of row column s k h in
-    record { component = x.component; here = placed frame components row column s x; column_of = x.tells.column_of })
+    (λ column s k h. let x = of row column s k h in search (rules, placed))
     (λ s k l a b. (search (rules, at-one))))
-    (λ row s b h. let g = in-flat-back (mcu row) s 0 wide h in let x = of row g.at s g.between g.gives in
-    record { component = x.component; here = placed frame components row g.at s x; row_of = x.tells.row_of })
-    (λ s k l a b. one-row components s k l a b)
+    (λ row s b h. let g = in-flat-back (mcu row) s 0 wide h in
+    let x = of row g.at s g.between g.gives in search (rules, placed))
+    (λ s k l a b. (search (rules, at-one)))
 
 -- The spots of a scan are apart.
 pub spots-apart : (frame : Frame) (components : List Component) → AllByRecursion (Fits frame) components
@@ -281,10 +275,8 @@ pub sized : (components : List Component) (arrays : Arrays) (j : ℕ) (c : Compo
     → At j components c
     → (j < length arrays) × (length (get_or arrays j []) ≡ c.blocks_high * c.blocks_wide)
 unfolding AreArrays
-sized [] arrays j c h k = absurd k
-sized (d ∷ more) [] j c h k = absurd h
-sized (d ∷ more) (a ∷ arrays) zero c h k = (omega arith, h.0 ∙ ap (λ (x : Component). x.blocks_high * x.blocks_wide) k)
 sized (d ∷ more) (a ∷ arrays) (suc j) c h k = let r = sized more arrays j c h.1 k in (let l = r.0 in omega arith, r.1)
+sized n arrays j c h k = search rules
 
 -- the own spots of a grid are inside an array of lines that are at least as many
 pub own-within : (g : Grid) (high : ℕ) (arrays : Arrays) (q : Spot) → g.own_wide ≤ g.wide → g.own_high ≤ high

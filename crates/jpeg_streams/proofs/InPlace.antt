@@ -1,6 +1,7 @@
 -- Lists whose elements are replaced one after the other, and lists that grow element by element.
-use Rattle.std.proofs.Common.{rules, ◌≡◌, ℕ, zero, suc, ◌+◌, ◌<◌, ◌≤◌, List, [], ◌∷◌, ◌++◌, take, drop, length, get_or}
-use Rattle.std.proofs.Common.{set, refl, ap, arith}
+use Rattle.std.proofs.Common.{rules, ◌≡◌, ℕ, zero, suc, ◌+◌, ◌<◌, ◌≤◌, List, [], ◌∷◌, ◌++◌, take}
+use Rattle.std.proofs.Common.{drop, length, get_or, set, refl, ap, arith, ◌*◌}
+use Rattle.std.proofs.Math.Nat.{mul-le-mul_left, mul-le-mul_right}
 
 -- the first elements of one list, and the others of another
 abbrev pub patched : {A : Type 0} → ℕ → List A → List A → List A
@@ -8,8 +9,7 @@ patched i new old = take i new ++ drop i old
 
 pub patched-next : {A : Type 0} (new old : List A) (i : ℕ) (x d : A) → length new ≡ length old → i < length old → x
     ≡ get_or new i d → set (patched i new old) i x ≡ patched (i + 1) new old
-patched-next (a ∷ new) (b ∷ old) (suc i) x d e h f =
-    search (rules, patched-next new old i x d (omega arith) (omega arith) f)
+patched-next (a ∷ new) (b ∷ old) (suc i) x d e h f = search (rules, patched-next new old i)
 patched-next new old i x d e h f = search rules
 
 pub patched-all : {A : Type 0} (new old : List A) (i : ℕ) → length new ≡ length old → length old ≤ i
@@ -37,3 +37,6 @@ patched-length [] [] (suc i) e = refl
 patched-length (a ∷ new) (b ∷ old) zero e = refl
 patched-length (a ∷ new) (b ∷ old) (suc i) e = ap (λ (n : ℕ). suc n) (patched-length new old i (omega arith))
 patched-length new old i e = absurd (omega arith)
+
+pub small-side : (n s : ℕ) → n ≤ 65535 → s ≤ 8 → n * s ≤ 524280
+small-side n s h i = search (rules, mul-le-mul_left, mul-le-mul_right)

@@ -1,22 +1,31 @@
 -- The sizes of the components of a lossless frame, and the MCUs of its scans.
-use Rattle.std.proofs.Common.{rules, ◌≡◌, ℕ, ◌*◌, ◌<◌, ◌≤◌, List, [], ◌∷◌, map, slice_get, Some, ap, arith}
+use Rattle.std.proofs.Common.{rules, ◌≡◌, ℕ, ◌*◌, ◌<◌, ◌≤◌, List, [], ◌∷◌, map, slice_get, Some, ap}
+use Rattle.std.proofs.Common.{arith, ◌++◌, length, Ok}
 use Rattle.std.specs.List.{AllByRecursion}
 use Rattle.std.proofs.lemmas.List.Elements.{recursion_from_All}
 use Rattle.std.proofs.Math.Nat.{mul-le-mul_right, mul_comm}
 use Rattle.jpeg_segments.specs.declared.parser.CodingProcess.TheVariants.{Lossless}
-use Rattle.jpeg_segments.specs.Frame.{Component, Factors, Frame, IsInRange, ceiling, component_of, frame_of, greatest}
-use Rattle.jpeg_segments.specs.Frame.{most_across, most_down}
+use Rattle.jpeg_segments.specs.Frame.{Component, Factors, Frame, IsInRange, ceiling, component_of}
+use Rattle.jpeg_segments.specs.Frame.{frame_of, greatest, most_across, most_down}
 use Rattle.jpeg_segments.specs.Scales.{frame_at}
-use Rattle.jpeg_segments.proofs.ScaleLemmas.{full_frames}
+use Rattle.jpeg_segments.proofs.ScaleLemmas.{full_frames, factors-back}
 use Rattle.jpeg_lossless.specs.Codings.{IsCovered}
 use Rattle.jpeg_lossless.specs.Pictures.{Reaches}
-use Rattle.jpeg_streams.specs.LosslessScans.{LosslessCoding, mcus_across, mcus_down, part_of, parts_of}
+use Rattle.jpeg_streams.specs.LosslessScans.{LosslessCoding, mcus_across, mcus_down, part_of}
+use Rattle.jpeg_streams.specs.LosslessScans.{parts_of}
 use Rattle.jpeg_streams.specs.Sound.{IsDecodedFrame}
 use Rattle.jpeg_streams.proofs.Apart.{at-all, get-at}
 use Rattle.jpeg_streams.proofs.FrameShapes.{below-ceiling, ceiling-covers, ceiling-least}
-use Rattle.jpeg_segments.proofs.ScaleLemmas.{factors-back}
+use Rattle.jpeg_streams.proofs.FrameShapes.{accepted-few}
 use Rattle.jpeg_segments.proofs.FrameLemmas.{greatest-some}
 use Rattle.jpeg_streams.proofs.CountedScans.{some-product}
+use Rattle.std.proofs.lemmas.Bool.{le-leb, and_from as both-true}
+use Rattle.std.proofs.lemmas.Bool.Decides.{nat_tests}
+use Rattle.jpeg_segments.specs.WrittenSegments.{AreComponents, FrameHeader, IsFrameHeader}
+use Rattle.jpeg_segments.specs.WrittenSegments.{frame_written}
+use Rattle.jpeg_streams.specs.Segments.{accepted}
+use Rattle.jpeg_streams.specs.AcceptedFrames.{HasSamples}
+use Rattle.jpeg_streams.proofs.PicturedFrames.{accepted-by}
 
 pub all-at : {A : Type 0} (P : A → Type 0) (n : ℕ) (xs : List A) (x : A) → AllByRecursion P xs
     → slice_get xs n ≡ Some x → P x
@@ -80,17 +89,12 @@ all-reach frame (c ∷ cs) h = (made-reaches frame c h.0, all-reach frame cs h.1
 covered : (size factor most : ℕ) → 0 < most → ceiling (size * factor) most ≤ ceiling size most * factor
 covered size factor most h = grind (arith, mul-le-mul_right, mul_comm, ceiling-least)
 
-pub made-covered : (frame : Frame) (c : Component) → IsMade frame c
-    → (c.width ≤ ceiling frame.width (most_across frame.components) * c.factors.horizontal)
-    × (c.height ≤ ceiling frame.height (most_down frame.components) * c.factors.vertical)
-made-covered frame c is = search (rules, covered, some-across, some-down)
-
 all-among : (frame : Frame) (codings : List LosslessCoding) → AllByRecursion (λ k. IsMade frame k.component) codings
     → AllByRecursion (IsCovered (ceiling frame.width (most_across frame.components))
     (ceiling frame.height (most_down frame.components)))
     (map (λ k. part_of k.component.factors.horizontal k.component.factors.vertical k) codings)
 all-among frame [] h = tt
-all-among frame (k ∷ codings) h = search (rules, made-covered, all-among frame codings h.1)
+all-among frame (k ∷ codings) h = search (rules, covered, some-across, some-down, all-among frame codings h.1)
 
 pub all-covered : (frame : Frame) (codings : List LosslessCoding) → AllByRecursion (λ k. IsMade frame k.component)
     codings
@@ -107,3 +111,28 @@ pub down-some : (frame : Frame) (codings : List LosslessCoding) → 0 < frame.he
     → AllByRecursion (λ k. IsMade frame k.component) codings → 0 < mcus_down frame codings
 unfolding mcus_down
 down-some frame codings h all = search (rules, ceiling-some, some-product, some-down)
+
+-- ---- frames
+
+pub lossless-accepted : (h : FrameHeader) → HasSamples 3 h → accepted (frame_written 3 h) ≡ Ok (frame_written 3 h)
+unfolding frame_of
+lossless-accepted h p = search (rules, accepted-by, both-true, le-leb)
+
+-- A frame with lines and columns, whose components have their sizes, and whose picture is as large.
+pub record IsShaped (frame : Frame) : Type 0 where
+  pub across : frame.output_width ≡ frame.width
+  pub down : frame.output_height ≡ frame.height
+  pub wide : 0 < frame.width
+  pub high : 0 < frame.height
+  pub few : length frame.components ≤ 4
+  pub made : AllByRecursion (IsMade frame) frame.components
+
+pub all-ranged : (number : ℕ) (front cs : List Factors) → AreComponents number front cs → AllByRecursion IsInRange cs
+unfolding AreComponents
+all-ranged number front [] h = tt
+all-ranged number front (c ∷ cs) h = search (rules, nat_tests, all-ranged number (front ++ c ∷ []) cs h.1)
+
+pub header-shaped : (number : ℕ) (h : FrameHeader) → IsFrameHeader number h
+    → accepted (frame_written number h) ≡ Ok (frame_written number h) → IsShaped (frame_written number h)
+unfolding frame_of
+header-shaped number h is ok = search (rules, accepted-few, frames-made, all-ranged)

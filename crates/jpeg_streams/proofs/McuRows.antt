@@ -1,28 +1,43 @@
 -- A scan from zeros is its rows of MCUs, each read into blocks of its own.
-use Rattle.std.proofs.Common.{rules, ◌≡◌, inr, ℕ, zero, suc, ◌+◌, ◌-◌, ◌*◌, ◌/◌, ◌≤◌, ◌<◌, List, [], ◌∷◌, ◌++◌, map}
-use Rattle.std.proofs.Common.{length, set, get_or, replicate, Result, Ok, Err, refl, sym, ap, ap₂, ◌∙◌, append_assoc}
-use Rattle.std.proofs.Common.{append-nil, arith, length-set, length-append}
+use Rattle.std.proofs.Common.{rules, ◌≡◌, ℕ, zero, suc, ◌+◌, ◌-◌, ◌*◌, ◌/◌, ◌≤◌, ◌<◌, List, [], ◌∷◌}
+use Rattle.std.proofs.Common.{◌++◌, map, length, set, get_or, Result, Ok, Err, refl, sym, ap, ap₂}
+use Rattle.std.proofs.Common.{◌∙◌, append_assoc, append-nil, arith, length-set, length-append, ℤ}
+use Rattle.std.proofs.Common.{false}
 use Rattle.std.proofs.lemmas.Grind.{common_steps, flat_map-append}
-use Rattle.std.specs.Prelude.{min}
+use Rattle.std.specs.Prelude.{min, ◌&&◌, if◌then◌else◌}
 use Rattle.std.specs.List.{AllByRecursion, range_with_len, flat_map}
 use Rattle.jpeg_bits.specs.Reading.{Fault}
 use Rattle.jpeg_bits.specs.Entropy.{Text, upcoming, fresh}
 use Rattle.jpeg_bits.specs.Readers.{Reads, read_on, gives}
 use Rattle.jpeg_segments.specs.Frame.{Frame, Component}
 use Rattle.jpeg_bits.specs.Passes.{Pass, Via, Block, zero_block}
-use Rattle.jpeg_streams.specs.Order.{Spot, grid_of, own_spots, part_spots, mcu_spots, all_spots, spots_of, mcu_size}
+use Rattle.jpeg_streams.specs.Order.{Spot, grid_of, own_spots, part_spots, mcu_spots, all_spots}
+use Rattle.jpeg_streams.specs.Order.{spots_of, mcu_size}
 use Rattle.jpeg_streams.specs.Scans.{Arrays, zero_arrays, put_block}
-use Rattle.jpeg_streams.specs.InTurn.{Reached, turn_from, Counted, begun_from, next_from, blocks_from, IsIn, IsInside}
-use Rattle.jpeg_streams.specs.InTurn.{Fits, counted_at_start, scan_from}
+use Rattle.jpeg_streams.specs.InTurn.{Reached, turn_from, Counted, begun_from, next_from}
+use Rattle.jpeg_streams.specs.InTurn.{blocks_from, IsIn, IsInside, Fits, counted_at_start}
+use Rattle.jpeg_streams.specs.InTurn.{scan_from, AreArrays}
 use Rattle.jpeg_streams.specs.McuRows.{zero_rows, row_size, own_row, mcu_row, rows_of}
-use Rattle.jpeg_streams.specs.McuRows.{each_with_more, on_arrays, mcu_rows_from}
-use Rattle.jpeg_streams.specs.McuRows.{scan_by_rows}
-use Rattle.jpeg_streams.proofs.Put.{put-inside}
+use Rattle.jpeg_streams.specs.McuRows.{each_with_more, on_arrays, mcu_rows_from, scan_by_rows}
+use Rattle.jpeg_streams.proofs.CountedScans.{put-inside, finished, on-on, blocks-append}
+use Rattle.jpeg_streams.proofs.CountedScans.{some-product, frame-scans}
 use Rattle.std.proofs.Math.Nat.{add-mul, mul_assoc, div-lt_iff_lt-mul}
-use Rattle.jpeg_streams.proofs.Apart.{At, at-all, in-flat-back, mcu-tells, own-within, placed, map-same}
-use Rattle.jpeg_streams.proofs.CountedScans.{finished, on-on, blocks-append, some-product}
+use Rattle.jpeg_streams.proofs.Apart.{At, at-all, in-flat-back, mcu-tells, own-within, placed}
+use Rattle.jpeg_streams.proofs.Apart.{map-same, get-at, sized, zeros-sized}
 use Rattle.std.proofs.lemmas.List.{map-append, set-append_left, set-append_right, length-replicate}
-use Rattle.std.proofs.lemmas.List.FromFn.{length-map-range_with_len}
+use Rattle.std.proofs.lemmas.List.{replicate-append-replicate, get_or-map, ext_get_or}
+use Rattle.std.proofs.lemmas.List.{get_or-append_right, get_or_append_left, length-map}
+use Rattle.std.proofs.lemmas.List.FromFn.{length-map-range_with_len, get_or-map-range_with_len}
+use Rattle.std.proofs.lemmas.Nat.{div-mul-add}
+use Rattle.jpeg_pixels.specs.Planes.{plane_of, strip_of}
+use Rattle.jpeg_streams.specs.Rasters.{ordered, in_raster}
+use Rattle.jpeg_pixels.proofs.PlaneRows.{plane-more, plane-same}
+use Rattle.jpeg_segments.specs.ScanHeader.{Scan}
+use Rattle.jpeg_streams.specs.ScanSegments.{Coding, components_of, pass_of, vias_from, codings_of}
+use Rattle.jpeg_streams.specs.ScanSegments.{put_arrays, is_progressive, arrays_before, scan_arrays}
+use Rattle.jpeg_streams.specs.Found.{Found}
+use Rattle.jpeg_streams.proofs.BroughtLevels.{zero-at as zeros-at}
+use Rattle.jpeg_streams.proofs.ReadTurns.{codings-each}
 
 -- ---- a list inside another
 
@@ -81,10 +96,6 @@ pub record Holds (front rest : Arrays) (spots : List Spot) (arrays : Arrays) : T
   pub aligned : Aligned front arrays rest
   pub inside : (s : Spot) → IsIn s spots → IsInside arrays s
 
-fewer-hold : (front rest : Arrays) (spots fewer : List Spot) (arrays : Arrays)
-    → ((s : Spot) → IsIn s fewer → IsIn s spots) → Holds front rest spots arrays → Holds front rest fewer arrays
-fewer-hold front rest spots fewer arrays f h = record { aligned = h.aligned; inside = λ s t. h.inside s (f s t) }
-
 -- What is read in blocks that stand inside others is read in those. The blocks that are held keep what holds of them.
 abbrev pub Keeps : (Arrays → Type 0) → Result (Reached × Text) Fault → Type 0
 Keeps P (Ok r) = P r.0.arrays
@@ -123,8 +134,7 @@ next-any P kept p vias n s old t h =
   where
     one : (now : Counted) (o : Result (Reached × Text) Fault) → Keeps P o
         → KeepsCounted P (read_on (λ r. gives (after_turn now r)) o)
-    one now (Ok r) k = k
-    one now (Err e) k = tt
+    one now n k = search rules
 
 pub blocks-any : (P : Arrays → Type 0) → IsKept P → (p : Pass) (vias : List Via) (n : ℕ) (spots : List Spot)
     (old : Counted) (t : Text) → P old.reached.arrays
@@ -133,9 +143,6 @@ unfolding blocks_from
 blocks-any P kept p vias n [] old t h = h
 blocks-any P kept p vias n (s ∷ spots) old t h =
     search (rules, counted-on, next-any, blocks-any P kept p vias n spots)
-
-holds-kept : (front rest : Arrays) (spots : List Spot) → IsKept (Holds front rest spots)
-holds-kept front rest spots arrays s b h = search (rules, length-set, put-inside)
 
 -- ---- blocks inside others
 
@@ -149,11 +156,6 @@ pub counted-where : {A : Type 0} (P : Arrays → Type 0) (f g : Counted → Read
     → ((r : Counted) (t : Text) → P r.reached.arrays → f r t ≡ g r t)
     → (o : Result (Counted × Text) Fault) → KeepsCounted P o → read_on f o ≡ read_on g o
 counted-where P f g h o k = search rules
-
-counts : (front rest : Arrays) (now : Counted) (o : Result (Reached × Text) Fault)
-    → read_on (λ r. gives (after_turn now r)) (read_on (λ r. gives (wrapped front rest r)) o)
-    ≡ read_on (λ r. gives (wrapped_count front rest r)) (read_on (λ r. gives (after_turn now r)) o)
-counts front rest now o = search rules
 
 next-shifted : (p : Pass) (vias : List Via) (n : ℕ) (front rest : Arrays) (s : Spot) (spots : List Spot)
     (old : Counted) (t : Text) → Holds front rest (s ∷ spots) old.reached.arrays
@@ -171,7 +173,7 @@ next-shifted p vias n front rest s spots old t h =
     ∙ on-on wrap far (begun_from n old t)
     ∙ counted-where all (λ now. λ u. far (wrapped_count front rest now) u)
     (λ now. λ u. read_on wrap (near now u))
-    (search (rules, get-around, get-inside, put-shifted, counts))
+    (search (rules, get-around, get-inside, put-shifted))
     (begun_from n old t) (begun-keeps all n old t h)
     ∙ sym (on-on near wrap (begun_from n old t))
 
@@ -190,9 +192,8 @@ blocks-shifted p vias n front rest (s ∷ spots) old t h =
     ∙ on-on wrap next (next_from p vias n s old t)
     ∙ counted-where all (λ r. λ u. next (wrapped_count front rest r) u)
     (λ r. λ u. read_on wrap (blocks_from p vias n spots r u))
-    (λ r u k. blocks-shifted p vias n front rest spots r u (fewer-hold front rest (s ∷ spots) spots r.reached.arrays
-    (λ q q_in. inr q_in) k))
-    (next_from p vias n s old t) (next-any all (holds-kept front rest (s ∷ spots)) p vias n s old t h)
+    (λ r u k. blocks-shifted p vias n front rest spots r u (search rules))
+    (next_from p vias n s old t) (next-any all (λ arrays q b k. search (rules, length-set, put-inside, k.inside)) p vias n s old t h)
     ∙ sym (on-on (blocks_from p vias n spots) wrap (next_from p vias n s old t))
 
 -- ---- rows
@@ -238,16 +239,12 @@ joined-rows r (c ∷ cs) (a ∷ front) (b ∷ arrays) h k =
     search (rules, length-append, add-mul, joined-rows r cs front arrays h.1 k.1)
 joined-rows r cs front arrays h k = search rules
 
-replicate-both : (m n k : ℕ) (b : Block) → k ≡ m + n → replicate k b ≡ replicate m b ++ replicate n b
-replicate-both (suc m) n (suc k) b e = ap (λ l. b ∷ l) (replicate-both m n k b (omega arith))
-replicate-both m n k b e = search rules
-
 -- a row of zeros, and the others
 first-row : (rows r : ℕ) (cs : List Component) (front : Arrays) → AreRows r cs front
     → each_with_more front (zero_rows (suc rows) cs) ≡ around front (zero_rows 1 cs) (zero_rows
     rows cs)
 unfolding AreRows each_with_more zero_rows
-first-row rows r (c ∷ cs) (a ∷ front) h = search (rules, replicate-both, add-mul, first-row rows r cs front h.1)
+first-row rows r (c ∷ cs) (a ∷ front) h = search (rules, replicate-append-replicate, add-mul, first-row rows r cs front h.1)
 first-row rows r cs front h = search rules
 
 -- rows after rows
@@ -326,11 +323,10 @@ placed_rows cs row (spots ∷ rows) = placed_row cs row spots ++ placed_rows cs 
 pub record IsRow (cs : List Component) (spots : List Spot) : Type 0 where
   pub inside : (arrays : Arrays) (s : Spot) → AreRows 1 cs arrays → IsIn s spots → IsInside arrays s
 
-pub rows-in-turn : (p : Pass) (vias : List Via) (n : ℕ) (cs : List Component) (rows : List (List Spot)) (row : ℕ)
-    (front : Arrays) (old : Counted) (t : Text)
-    → AllByRecursion (IsRow cs) rows → AreRows row cs front
-    → blocks_from p vias n (placed_rows cs row rows) (on_arrays (each_with_more front (zero_rows
-    (length rows) cs)) old) t
+pub rows-in-turn : (p : Pass) (vias : List Via) (n : ℕ) (cs : List Component)
+    (rows : List (List Spot)) (row : ℕ) (front : Arrays) (old : Counted) (t : Text)
+    → AllByRecursion (IsRow cs) rows → AreRows row cs front → blocks_from p vias n
+    (placed_rows cs row rows) (on_arrays (each_with_more front (zero_rows (length rows) cs)) old) t
     ≡ mcu_rows_from p vias n cs rows front old t
 unfolding blocks_from mcu_rows_from placed_rows
 rows-in-turn p vias n cs [] row front old t fits h = rw (no-rows row cs front h) refl
@@ -344,10 +340,7 @@ rows-in-turn p vias n cs (spots ∷ rows) row front old t fits h =
     let next = blocks_from p vias n others in
     let o = blocks_from p vias n spots start t in
     let holds : Holds front rest spots one = record {
-      aligned = record {
-        before = rows-count row cs front h ∙ sym (rows-count 1 cs one sized);
-        after = rows-count (length rows) cs rest (zero-rows (length rows) cs) ∙ sym (rows-count 1 cs one sized);
-      };
+      aligned = search (rules, rows-count, zero-rows (length rows) cs);
       inside = λ s k. fits.0.inside one s sized k;
     } in
     (search (rules, first-row))
@@ -477,28 +470,17 @@ row-inside frame [] row fits = record { inside = λ arrays s sized h. absurd h }
 row-inside frame (c ∷ []) row fits = search (rules, own-inside)
 row-inside frame (c ∷ d ∷ more) row fits = search (rules, several-inside)
 
-one-placed : (frame : Frame) (c : Component) → Fits frame c
-    → spots_of frame (c ∷ []) ≡ placed_rows (c ∷ []) 0 (rows_of frame (c ∷ []))
-unfolding mcu_row spots_of own_spots
-one-placed frame c fits =
-    let vt = c.factors.vertical in
-    let high = (grid_of c).own_high in
-    ap₂ (λ (a n : ℕ). flat_map (line_at c) (range_with_len a n)) (let z : 0 ≡ 0 * vt = omega arith in
-    z) (let z : 0 * vt ≡ 0 = omega arith in let y : high ≡ high - 0 * vt = omega arith in y)
-    ∙ sym (own-rows c 0 frame.mcus_high
-    (let z : (0 + frame.mcus_high) * vt ≡ frame.mcus_high * vt = ap (λ (k : ℕ). k * vt) (let y : 0 + frame.mcus_high
-    ≡ frame.mcus_high = omega arith in y) in
-    let a = fits.own_high in let b = fits.high in omega arith))
-
-some-placed : (frame : Frame) (c d : Component) (more : List Component)
-    → spots_of frame (c ∷ d ∷ more) ≡ placed_rows (c ∷ d ∷ more) 0 (rows_of frame (c ∷ d ∷ more))
-unfolding mcu_row spots_of all_spots
-some-placed frame c d more = sym (several-rows frame.mcus_wide (c ∷ d ∷ more) 0 frame.mcus_high)
-
 placed-all : (frame : Frame) (c : Component) (more : List Component) → AllByRecursion (Fits frame) (c ∷ more)
     → spots_of frame (c ∷ more) ≡ placed_rows (c ∷ more) 0 (rows_of frame (c ∷ more))
-placed-all frame c [] fits = one-placed frame c fits.0
-placed-all frame c (d ∷ more) fits = some-placed frame c d more
+unfolding mcu_row spots_of own_spots all_spots
+placed-all frame c [] fits =
+    let a = fits.0.own_high in
+    let b = fits.0.high in
+    let vt = c.factors.vertical in
+    let z : (0 + frame.mcus_high) * vt ≡ frame.mcus_high * vt = search rules in
+    let o : 0 * vt ≡ 0 = omega arith in
+    grind (arith, own-rows c 0 frame.mcus_high (omega arith))
+placed-all frame c (d ∷ more) fits = sym (several-rows frame.mcus_wide (c ∷ d ∷ more) 0 frame.mcus_high)
 
 -- A scan that begins with zeros is its rows of MCUs, each read into blocks of its own.
 pub scans-by-rows : (frame : Frame) (c : Component) (more : List Component) (p : Pass) (vias : List Via) (n : ℕ)
@@ -516,3 +498,117 @@ scans-by-rows frame c more p vias n bytes fits =
     ∙ ap finished (rows-in-turn p vias blocks cs (rows_of frame cs) 0 (map (λ c. []) cs) (counted_at_start blocks [])
     t (all-rows cs (mcu_row frame cs) 0 frame.mcus_high (λ row. row-inside frame cs row fits))
     (no-blocks cs))
+
+line-of : (wide n : ℕ) (xs row : List Block) → length xs ≡ n * wide → length row ≡ wide
+    → map (in_raster wide (xs ++ row) n) (range_with_len 0 wide) ≡ map ordered row
+line-of wide n xs row e f =
+    let at : (i : ℕ) → i < length row → get_or (map ordered row) i [] ≡ ordered (get_or row i zero_block)
+    = λ i h. get_or-map ordered row i zero_block [] h in
+    ext_get_or [] (map (in_raster wide (xs ++ row) n) (range_with_len 0 wide)) (map ordered row)
+    (length-map-range_with_len (in_raster wide (xs ++ row) n) 0 wide ∙ sym (length-map row ordered ∙ f))
+    (search (rules, length-map-range_with_len, get_or-map-range_with_len, get_or-append_right, at))
+
+-- One more row of blocks.
+pub plane-strips : (s : ℕ) (table : List ℕ) (wide n : ℕ) (xs row : List Block) → length xs ≡ n * wide
+    → length row ≡ wide → plane_of s table wide (n + 1) (in_raster wide (xs ++ row))
+    ≡ plane_of s table wide n (in_raster wide xs) ++ strip_of s table (map ordered row)
+plane-strips s table wide n xs row e f = plane-more s table wide n (in_raster wide (xs ++ row))
+    ∙ ap₂ (λ (a : List ℕ) (l : List (List ℤ)). a ++ strip_of s table l)
+    (plane-same s table wide n (in_raster wide (xs ++ row)) (in_raster wide xs) (search (rules, div-mul-add, div-lt_iff_lt-mul, get_or_append_left)))
+    (line-of wide n xs row e f)
+
+-- ---- codings
+
+-- a coding is of a component of the frame
+pub record IsOf (frame : Frame) (c : Coding) : Type 0 where
+  pub here : At c.index frame.components c.component
+
+abbrev pub AllOf : Frame → Result (List Coding) Fault → Type 0
+AllOf frame (Ok codings) = AllByRecursion (IsOf frame) codings
+AllOf frame (Err e) = Unit {0}
+
+pub codings-are-of : (found : Found) (frame : Frame) (scan : Scan) → AllOf frame (codings_of found.said frame scan)
+codings-are-of found frame scan = go (codings_of found.said frame scan) refl
+  where
+    go : (r : Result (List Coding) Fault) → codings_of found.said frame scan ≡ r → AllOf frame r
+    go (Ok codings) e = codings-each (IsOf frame) found.said frame scan codings e
+        (λ index d a k is. record { here = get-at k.index frame.components k.component is.component })
+    go (Err f) e = tt
+
+-- ---- blocks
+
+abbrev pub arrays_of : List Coding → Arrays → Arrays
+arrays_of codings kept = map (λ (c : Coding). get_or kept c.index []) codings
+
+pub fits-of : (frame : Frame) (codings : List Coding) → AllByRecursion (Fits frame) frame.components
+    → AllByRecursion (IsOf frame) codings → AllByRecursion (Fits frame) (components_of codings)
+fits-of frame [] fits of = tt
+fits-of frame (c ∷ codings) fits of = search (rules, at-all, fits-of frame codings fits of.1)
+
+-- the arrays of a scan's components are of all their blocks
+pub arrays-sized : (frame : Frame) (codings : List Coding) (kept : Arrays)
+    → AreArrays frame.components kept → AllByRecursion (IsOf frame) codings
+    → AreArrays (components_of codings) (arrays_of codings kept)
+unfolding AreArrays
+arrays-sized frame [] kept h of = tt
+arrays-sized frame (c ∷ codings) kept h of =
+    grind (arith, common_steps, sized, arrays-sized frame codings)
+
+-- those of zeros are zeros
+pub zeros-of : (frame : Frame) (codings : List Coding) → AllByRecursion (IsOf frame) codings
+    → arrays_of codings (zero_arrays frame.components) ≡ zero_arrays (components_of codings)
+unfolding zero_arrays
+zeros-of frame [] of = refl
+zeros-of frame (c ∷ codings) of = search (rules, zeros-at, zeros-of frame codings of.1)
+
+set-sized : (cs : List Component) (arrays : Arrays) (j : ℕ) (y : List Block) → length y ≡ length (get_or arrays j [])
+    → AreArrays cs arrays → AreArrays cs (set arrays j y)
+unfolding AreArrays
+set-sized (c ∷ cs) (a ∷ arrays) (suc j) y e h = (h.0, set-sized cs arrays j y e h.1)
+set-sized cs arrays j y e h = search rules
+
+-- and so do the arrays of a scan's components
+pub kept-sized : (frame : Frame) (codings : List Coding) (arrays kept : Arrays)
+    → AreArrays frame.components kept → AllByRecursion (IsOf frame) codings → AreArrays
+    (components_of codings) arrays → AreArrays frame.components (put_arrays codings arrays kept)
+unfolding put_arrays AreArrays
+kept-sized frame (c ∷ codings) (a ∷ arrays) kept h of k =
+    grind (arith, common_steps, set-sized, sized, kept-sized frame codings arrays)
+kept-sized frame codings arrays kept h of k = h
+
+-- ---- scans
+
+-- A scan of a sequential frame is its rows of MCUs.
+pub sequential-scan : (found : Found) (frame : Frame) (scan : Scan) (c : Coding) (codings : List Coding)
+    (bytes : List ℕ)
+    → is_progressive frame.process ≡ false → AllByRecursion (Fits frame) frame.components
+    → AllByRecursion (IsOf frame) (c ∷ codings) → scan_arrays found frame scan (c ∷ codings) bytes
+    ≡ scan_by_rows (pass_of scan) (vias_from 0 (c ∷ codings)) found.said.restart frame (components_of (c ∷ codings)) bytes
+unfolding scan_arrays arrays_before
+sequential-scan found frame scan c codings bytes process fits of =
+    let all = c ∷ codings in
+    let cs = components_of all in
+    let fit = fits-of frame all fits of in
+    let start : (if is_progressive frame.process && found.said.scanned then found.kept else zero_arrays
+    frame.components)
+    ≡ zero_arrays frame.components
+    = search rules in
+    (grind (arith, zeros-of frame all of))
+    ∙ frame-scans frame cs (pass_of scan) (vias_from 0 all) (found.said.restart * mcu_size cs) (zero_arrays cs) bytes fit
+    (zeros-sized cs)
+    ∙ scans-by-rows frame c.component (components_of codings) (pass_of scan) (vias_from 0 all) found.said.restart bytes fit
+
+-- A scan of a progressive frame is its blocks one after the other, each read on what is held of it.
+pub progressive-scan : (found : Found) (frame : Frame) (scan : Scan) (c : Coding) (codings : List Coding)
+    (bytes : List ℕ)
+    → AreArrays frame.components (arrays_before found frame) → AllByRecursion (Fits frame) frame.components
+    → AllByRecursion (IsOf frame) (c ∷ codings) → scan_arrays found frame scan (c ∷ codings) bytes
+    ≡ scan_from (pass_of scan) (vias_from 0 (c ∷ codings)) (found.said.restart * mcu_size (components_of (c ∷ codings)))
+    (spots_of frame (components_of (c ∷ codings)))
+    (arrays_of (c ∷ codings) (arrays_before found frame)) bytes
+unfolding scan_arrays
+progressive-scan found frame scan c codings bytes kept fits of = rw (
+    frame-scans frame (components_of (c ∷ codings)) (pass_of scan) (vias_from 0 (c ∷ codings)) (found.said.restart *
+    mcu_size (components_of (c ∷ codings))) (arrays_of (c ∷ codings) (arrays_before found frame)) bytes (fits-of frame
+    (c ∷ codings) fits of) (arrays-sized frame (c ∷ codings) (arrays_before found frame) kept of))
+    refl

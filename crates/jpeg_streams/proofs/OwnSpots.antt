@@ -1,7 +1,6 @@
 -- The order of a scan reaches each block of its components.
-use Rattle.std.proofs.Math.Logic.{⊎_elim}
-use Rattle.std.proofs.Common.{rules, ◌≡◌, inl, inr, ℕ, zero, suc, ◌+◌, ◌*◌, ◌/◌, ◌%◌, ◌<◌, ◌≤◌, List}
-use Rattle.std.proofs.Common.{[], ◌∷◌, map, length, get_or, refl, sym, ap, ap₂, subst, arith}
+use Rattle.std.proofs.Common.{rules, ◌≡◌, inl, inr, ℕ, zero, suc, ◌+◌, ◌*◌, ◌/◌, ◌%◌, ◌<◌, ◌≤◌}
+use Rattle.std.proofs.Common.{List, [], ◌∷◌, map, length, get_or, refl, sym, ap, ap₂, subst, arith}
 use Rattle.std.proofs.Math.Nat.{div-lt_iff_lt-mul, mod-lt}
 use Rattle.std.proofs.lemmas.Nat.{div-add-mod', div-mul-add, mod-mul-add}
 use Rattle.std.proofs.lemmas.Bool.Decides.{leb_tells, nat_tests}
@@ -9,12 +8,13 @@ use Rattle.std.specs.List.{AllByRecursion, range_with_len, flat_map}
 use Rattle.jpeg_segments.specs.Frame.{Frame, Component}
 use Rattle.jpeg_bits.proofs.ReadIntervals.{all-append}
 use Rattle.jpeg_streams.specs.declared.grids.Grid.{Grid}
-use Rattle.jpeg_streams.specs.Order.{Spot, grid_of, own_spots, part_spots, mcu_spots, all_spots, spots_of}
+use Rattle.jpeg_streams.specs.Order.{Spot, grid_of, own_spots, part_spots, mcu_spots, all_spots}
+use Rattle.jpeg_streams.specs.Order.{spots_of}
 use Rattle.jpeg_streams.specs.WrittenScans.{IsOwn}
 use Rattle.jpeg_streams.specs.InTurn.{IsIn}
 pub use Rattle.jpeg_streams.specs.InTurn.{Fits}
 pub use Rattle.jpeg_streams.proofs.Apart.{At}
-use Rattle.jpeg_streams.proofs.InTurn.{in-back, in-front}
+use Rattle.jpeg_streams.proofs.CountedScans.{in-back, in-front}
 
 -- ---- lists
 
@@ -31,8 +31,7 @@ in-flat f x y (z ∷ ys) (inr t) k = in-back x (f z) (flat_map f ys) (in-flat f 
 
 pub in-range : (k a n : ℕ) → a ≤ k → k < a + n → IsIn k (range_with_len a n)
 in-range k a zero h lt = absurd (omega arith)
-in-range k a (suc n) h lt = ⊎_elim (λ x. inl (omega arith))
-    (λ x. inr (in-range k (a + 1) n (omega arith) (omega arith))) (leb_tells k a)
+in-range k a (suc n) h lt = search (rules, leb_tells, in-range k (a + 1) n)
 
 pub in-below : (k n : ℕ) → k < n → IsIn k (range_with_len 0 n)
 in-below k n h = in-range k 0 n (omega arith) (omega arith)
@@ -46,8 +45,7 @@ all-flat Q f a (suc n) h = search (rules, all-append, all-flat Q f (a + 1) n)
 pub all-line : {B : Type 0} (Q : B → Type 0) (f : ℕ → B) (a n : ℕ) → ((k : ℕ) → a ≤ k → k < a + n → Q (f k))
     → AllByRecursion Q (map f (range_with_len a n))
 all-line Q f a zero h = tt
-all-line Q f a (suc n) h =
-    (h a (omega arith) (omega arith), all-line Q f (a + 1) n (λ k g l. h k (omega arith) (omega arith)))
+all-line Q f a (suc n) h = search (rules, all-line Q f (a + 1) n)
 
 pub at-within : {A : Type 0} (j : ℕ) (xs : List A) (x : A) → At j xs x → j < length xs
 at-within j [] x h = absurd h
@@ -108,10 +106,8 @@ all-covered frame components c s here fits own =
     let col = s.index % w in
     let y = row / vt in
     let x = col / hz in
-    let row-in : row < frame.mcus_high * vt = search rules in
-    let col-in : col < frame.mcus_wide * hz = search rules in
-    let y-in : y < frame.mcus_high = (div-lt_iff_lt-mul fits.vertical).1 row-in in
-    let x-in : x < frame.mcus_wide = (div-lt_iff_lt-mul fits.horizontal).1 col-in in
+    let y-in : y < frame.mcus_high = (div-lt_iff_lt-mul fits.vertical).1 (search rules) in
+    let x-in : x < frame.mcus_wide = (div-lt_iff_lt-mul fits.horizontal).1 (search rules) in
     let v = row % vt in
     let h = col % hz in
     let at : ℕ → ℕ → Spot = λ b a. record { slot = s.slot; index = (y * vt + b) * w + (x * hz + a) } in
@@ -134,3 +130,13 @@ pub covered : (frame : Frame) (components : List Component) (c : Component) (s :
     → Fits frame c → IsOwn (grid_of c) s.index → IsIn s (spots_of frame components)
 unfolding spots_of
 covered frame components c s h1 h2 h3 = grind (arith, nat_tests, own-covered, all-covered)
+
+-- no place is in the list
+abbrev pub IsAbsent : ℕ → List ℕ → Type 0
+IsAbsent index [] = Unit {0}
+IsAbsent index (q ∷ indices) = ((index ≡ q) → ⊥) × IsAbsent index indices
+
+-- each place once
+abbrev pub AreApart : List ℕ → Type 0
+AreApart [] = Unit {0}
+AreApart (q ∷ indices) = IsAbsent q indices × AreApart indices

@@ -13,9 +13,9 @@ use Rattle.jpeg_lossless.proofs.ImageLoops.{inside}
 use Rattle.jpeg_lossless.proofs.LineSums.{top-narrow}
 use Rattle.jpeg_streams.specs.FrameSamples.{AgreeInside, DifferInPadding}
 use Rattle.jpeg_streams.specs.WrittenLossless.{own_lines, picture_of_samples, Samples}
-use Rattle.jpeg_streams.proofs.InsidePictures.{map-same}
-use Rattle.jpeg_streams.proofs.LosslessFrames.{all-ranged}
-use Rattle.jpeg_streams.proofs.LosslessSizes.{IsMade, all-at, frames-made, made-reaches, some-across, some-down}
+use Rattle.jpeg_streams.proofs.UpsampledFactors.{map-same}
+use Rattle.jpeg_streams.proofs.LosslessSizes.{all-ranged, IsMade, all-at, frames-made, made-reaches}
+use Rattle.jpeg_streams.proofs.LosslessSizes.{some-across, some-down}
 
 -- ---- prediction
 

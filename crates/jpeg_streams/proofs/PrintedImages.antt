@@ -13,7 +13,7 @@ use Rattle.jpeg_streams.specs.Found.{Said}
 use Rattle.jpeg_streams.specs.Stream.{told_of}
 use Rattle.jpeg_streams.specs.WrittenImages.{WritesImage}
 use Rattle.jpeg_streams.specs.WrittenScans.{Coefficients}
-use Rattle.jpeg_streams.proofs.OutputLemmas.{output-some}
+use Rattle.jpeg_streams.proofs.Refusals.{output-some}
 use Rattle.jpeg_streams.proofs.ReadTurns.{then-ok}
 use Rattle.jpeg_streams.proofs.WrittenPictures.{stream-means}
 

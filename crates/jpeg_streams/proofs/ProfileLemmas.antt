@@ -1,13 +1,23 @@
 -- The parts of a profile.
-use Rattle.std.proofs.Common.{rules, ◌≡◌, ◌+◌, ◌<◌, ◌≤◌, ℕ, zero, suc, List, [], ◌∷◌, ◌++◌, Option, Some, None, refl}
-use Rattle.std.proofs.Common.{length, map, append_assoc, arith}
+use Rattle.std.proofs.Common.{rules, ◌≡◌, ◌+◌, ◌<◌, ◌≤◌, ℕ, zero, suc, List, [], ◌∷◌, ◌++◌, Option}
+use Rattle.std.proofs.Common.{Some, None, refl, length, map, append_assoc, arith, Ok, false, true}
+use Rattle.std.proofs.Common.{ap, get_or}
 use Rattle.std.proofs.lemmas.Grind.{common_steps}
-use Rattle.std.proofs.lemmas.List.{append-nil}
-use Rattle.std.specs.Prelude.{◌==◌, filter_map, flat_map, option_map}
+use Rattle.std.proofs.lemmas.List.{append-nil, get_or_default}
+use Rattle.std.specs.Prelude.{◌==◌, filter_map, flat_map, option_map, is_some}
 use Rattle.std.specs.List.{find, range_with_len}
 use Rattle.jpeg_segments.specs.declared.parser.IccChunk.{IccChunk}
-use Rattle.jpeg_segments.specs.Application.{Chunk}
-use Rattle.jpeg_segments.specs.FrameView.{chunk_in}
+use Rattle.jpeg_segments.specs.Application.{Chunk, Application, app_at}
+use Rattle.jpeg_segments.specs.FrameView.{chunk_in, frame_in}
+use Rattle.jpeg_segments.specs.declared.parser.FrameInfo.{FrameInfo}
+use Rattle.jpeg_segments.specs.Frame.{Frame, sof_at}
+use Rattle.jpeg_streams.specs.Segments.{with_application, frame_segment, accepted, onward}
+use Rattle.jpeg_streams.specs.Segments.{application_segment, updated}
+use Rattle.jpeg_streams.specs.Found.{Found, Metadata, with_said}
+use Rattle.std.proofs.Math.ListN.{set}
+use Rattle.jpeg_bits.specs.Codes.{Table}
+use Rattle.jpeg_segments.specs.HuffmanTables.{all_ac}
+use Rattle.std.proofs.lemmas.Bool.{and_parts}
 
 -- the bytes of the first part of this number
 abbrev pub part : ℕ → List Chunk → Option (List ℕ)
@@ -58,3 +68,62 @@ pub joins-missing : (all : List Chunk) (count index : ℕ) → index < count →
     → length (parts_to all count) < count
 joins-missing all count index lt is = missing (λ k. find (λ (c : Chunk). c.number == k) all) (λ (c : Chunk). c.bytes) 1
     count index (index + 1) lt (omega arith) is
+
+pub no-frame : (o : Option FrameInfo) → is_some o ≡ false → is_some (option_map frame_in o) ≡ false
+no-frame None e = refl
+no-frame (Some f) e = absurd (let n : ⊥ = cc in n)
+
+pub frame-read : (number : ℕ) (found : Found) (bytes rest : List ℕ) (frame : Frame) → is_some found.said.frame ≡ false
+    → sof_at number bytes ≡ Ok (frame, rest) → accepted frame ≡ Ok frame
+    → frame_segment number found bytes ≡ Ok (onward (with_said (λ said. record said { frame = Some frame }) found), rest)
+unfolding frame_segment
+frame-read number found bytes rest frame none e a = rw (none, e, a) refl
+
+pub application-read : (number : ℕ) (found : Found) (bytes rest : List ℕ) (said : Option Application) (m : Metadata)
+    → app_at number bytes ≡ Ok (said, rest) → m ≡ with_application found.said.metadata said
+    → application_segment number found bytes ≡ Ok (onward (with_said (λ said. record said { metadata = m }) found), rest)
+application-read number found bytes rest said m e a = rw (e, a) refl
+
+-- a table that is moved to its place
+pub updated-set : {A : Type 0} (xs ys : List (Option A)) (i : ℕ) (t : A) → i < length xs → i < length ys
+    → get_or ys i None ≡ Some t → updated (set xs i (Some t)) (set ys i None) ≡ updated xs ys
+unfolding updated
+updated-set (x ∷ xs) (y ∷ ys) (suc i) t p q e =
+    search (rules, updated-set xs ys i t (omega arith) (omega arith) e)
+updated-set xs ys i t p q e = search rules
+
+-- where no table is left, nothing changes
+pub updated-none : {A : Type 0} (xs ys : List (Option A)) → ((k : ℕ) → k < length xs → get_or ys k None ≡ None)
+    → updated xs ys ≡ xs
+unfolding updated
+updated-none (x ∷ xs) (None ∷ ys) h = ap (λ r. x ∷ r) (updated-none xs ys (λ k lt. h (suc k) (omega arith)))
+updated-none (x ∷ xs) (Some s ∷ ys) h = let e : Some s ≡ None = h 0 (omega arith) in absurd (let n : ⊥ = cc in n)
+updated-none xs ys h = refl
+
+-- no table to move
+pub updated-keep : {A : Type 0} (xs ys : List (Option A)) (i : ℕ) → get_or ys i None ≡ None
+    → updated xs (set ys i None) ≡ updated xs ys
+unfolding updated
+updated-keep (x ∷ xs) (y ∷ ys) (suc i) e = search (rules, updated-keep xs ys i)
+updated-keep xs ys i e = search rules
+
+-- each table stays of class AC
+pub all_ac-updated : (xs ys : List (Option Table)) → all_ac xs ≡ true → all_ac ys ≡ true → all_ac (updated xs ys) ≡ true
+unfolding updated
+all_ac-updated (x ∷ xs) (y ∷ ys) p q = search (rules, and_parts, all_ac-updated xs ys)
+all_ac-updated xs ys p q = search rules
+
+-- a place is moved
+pub moved-some : {A : Type 0} (xs ys xs' ys' : List (Option A)) (i : ℕ) (found d v : Option A) (t : A) → i < length xs
+    → length xs ≡ length ys → found ≡ get_or ys i d → v ≡ None → found ≡ Some t
+    → xs' ≡ set xs i (Some t) → ys' ≡ set ys i v → updated xs' ys' ≡ updated xs ys
+moved-some xs ys xs' ys' i found d v t p l f n s a b = search (rules, updated-set, get_or_default)
+
+pub moved-none : {A : Type 0} (xs ys xs' ys' : List (Option A)) (i : ℕ) (found d v : Option A) → i < length xs
+    → length xs ≡ length ys → found ≡ get_or ys i d → v ≡ None → found ≡ None
+    → xs' ≡ xs → ys' ≡ set ys i v → updated xs' ys' ≡ updated xs ys
+moved-none xs ys xs' ys' i found d v p l f n s a b = search (rules, updated-keep, get_or_default)
+
+pub all_ac-moved : (old moved read new : List (Option Table)) → all_ac old ≡ true → all_ac read ≡ true → moved ≡ read
+    → new ≡ updated old moved → all_ac new ≡ true
+all_ac-moved old moved read new p q m n = rw (n, m) (all_ac-updated old read p q)

@@ -1,7 +1,6 @@
 -- The state between segments: frames that are decoded, at a scale, and what is kept from turn to turn.
-use Rattle.std.proofs.Common.{zero, suc}
-use Rattle.std.proofs.Common.{rules, ◌≡◌, ◌≤◌, ◌<◌, ℕ, List, [], ◌∷◌, length, replicate, refl, ap, sym, ◌∙◌, subst}
-use Rattle.std.proofs.Common.{arith, true, false, Some, None, Ok}
+use Rattle.std.proofs.Common.{zero, suc, rules, ◌≡◌, ◌≤◌, ◌<◌, ℕ, List, [], ◌∷◌, length, replicate}
+use Rattle.std.proofs.Common.{refl, ap, ◌∙◌, arith, true, false, Some, None, Ok, Err}
 use Rattle.std.specs.Prelude.{is_some}
 use Rattle.std.specs.List.{AllByRecursion}
 use Rattle.std.proofs.lemmas.Bool.{and_parts, eqb-true, leb-true}
@@ -10,20 +9,23 @@ use Rattle.std.proofs.lemmas.List.Elements.{recursion_from_All}
 use Rattle.jpeg_segments.specs.Frame.{Frame, Component, Factors, IsFrame, frame_of}
 use Rattle.jpeg_segments.specs.Scales.{IsSizedFrame, frame_at, is_scale, scale_for, sized, sized_by}
 use Rattle.jpeg_segments.specs.declared.parser.CodingProcess.{CodingProcess}
-use Rattle.jpeg_segments.specs.declared.parser.CodingProcess.TheVariants.{DctSequential, DctProgressive, Lossless}
+use Rattle.jpeg_segments.specs.declared.parser.CodingProcess.TheVariants.{DctSequential}
+use Rattle.jpeg_segments.specs.declared.parser.CodingProcess.TheVariants.{DctProgressive, Lossless}
 use Rattle.jpeg_segments.proofs.ScaleLemmas.{full_frames, scaled_again, scale_for_is_scale}
 use Rattle.jpeg_pixels.specs.Pictures.{Source, HasSources, sources_of}
-use Rattle.jpeg_streams.specs.InTurn.{Fits, AreArrays}
-use Rattle.jpeg_streams.specs.Stream.{sized_to}
+use Rattle.jpeg_streams.specs.InTurn.{Fits}
+use Rattle.jpeg_streams.specs.Stream.{sized_to, header_at, sized_header_at}
 use Rattle.jpeg_streams.specs.Segments.{accepted, is_decoded_count, is_decoded_precision}
-use Rattle.jpeg_streams.specs.Found.{nothing_found, nothing_said, Found, with_said}
+use Rattle.jpeg_streams.specs.Found.{nothing_found, nothing_said, Found, with_said, Said}
 use Rattle.jpeg_streams.specs.ScanSegments.{arrays_before}
-use Rattle.jpeg_streams.specs.Sound.{AreSampled, HasDecodedFrame, IsUnread, IsDecodedFrame, ArePlanes, IsSound}
+use Rattle.jpeg_streams.specs.Sound.{AreSampled, HasDecodedFrame, IsUnread, IsDecodedFrame}
+use Rattle.jpeg_streams.specs.Sound.{ArePlanes, IsSound}
 use Rattle.jpeg_streams.proofs.Apart.{zeros-sized}
-use Rattle.jpeg_streams.proofs.FrameFits.{scaled-frames-fit}
-use Rattle.jpeg_streams.proofs.ScaledCovers.{frames-have-sources}
+use Rattle.jpeg_streams.proofs.FrameShapes.{scaled-frames-fit, frames-have-sources}
 use borrow.Author.Tests.{not-false}
 pub use Rattle.jpeg_streams.proofs.FrameShapes.{accepted-facts, count-few}
+use Rattle.jpeg_bits.specs.Reading.{Fault, Answers}
+use Rattle.jpeg_bits.specs.Stream.{Stream}
 
 -- ---- frames
 
@@ -70,9 +72,6 @@ read-sources f q sources e s some most = search (rules, frames-have-sources, rec
 pub decoded-sources : (f : Frame) → IsDecodedFrame f → HasSources f
 decoded-sources f p = search (rules, scale-bounds, accepted-facts, read-sources)
 
-pub decoded-read : (f : Frame) → IsFrame f → accepted f ≡ Ok f → IsDecodedFrame f
-decoded-read f q a = grind (arith, full_frames f q)
-
 pub decoded-scaled : (s : ℕ) (f : Frame) → is_scale s ≡ true → (f.process ≡ Lossless → s ≡ 8) → IsDecodedFrame f
     → IsDecodedFrame (frame_at s f)
 unfolding frame_at
@@ -83,13 +82,7 @@ decoded-scaled s f e full p = search (rules, scaled_again)
 pub sound_kept : (old new : Found) → IsSound old → new.said.frame ≡ old.said.frame → new.said.scanned ≡ old.said.scanned
     → new.kept ≡ old.kept → new.planes ≡ old.planes → new.samples ≡ old.samples → IsSound new
 unfolding arrays_before
-sound_kept old new p a b c d s = record {
-  frames = λ f e. p.frames f (sym a ∙ e);
-  kept = λ f e. subst (AreArrays f.components) (sym (rw (b, c) refl)) (p.kept f (sym a ∙ e));
-  planes = λ f e. subst (ArePlanes f.components) (sym d) (p.planes f (sym a ∙ e));
-  samples = search rules;
-  unread = λ e. let q = p.unread (sym a ∙ e) in (b ∙ q.0, d ∙ q.1, s ∙ q.2);
-}
+sound_kept old new p a b c d s = search rules
 
 no-planes : (n : ℕ) (cs : List Component) → length cs ≤ n → ArePlanes cs (replicate n None)
 unfolding ArePlanes
@@ -117,7 +110,8 @@ sound-frame found f p e n s = grind (
 
 pub sound-framed : (found : Found) (f : Frame) → IsSound found → is_some found.said.frame ≡ false → IsFrame f
     → accepted f ≡ Ok f → IsSound (with_said (λ said. record said { frame = Some f }) found)
-sound-framed found f p e q a = search (rules, sound-frame, decoded-read)
+sound-framed found f p e q a =
+    let d : IsDecodedFrame f = grind (arith, full_frames f q) in search (rules, sound-frame)
 
 -- ---- the start of a stream
 
@@ -151,3 +145,31 @@ pub sound_scaled : (width height : ℕ) (old new : Found) → new ≡ with_said 
 sound_scaled width height old new e p u = search (rules, sound-frame, decoded-asked)
 
 pub ruleset scaled_rules = (decoded-sized, frames_scaled, sound_scaled)
+
+sized-again : (width height other_width other_height : ℕ) (f : Frame)
+    → sized width height (sized other_width other_height f) ≡ sized width height f
+unfolding frame_at
+sized-again width height other_width other_height f = search (rules, scaled_again)
+
+pub found-again : (width height other_width other_height : ℕ) (found : Said)
+    → sized_to width height (sized_to other_width other_height found) ≡ sized_to width height found
+found-again width height other_width other_height found = search (rules, sized-again)
+
+pub sized-read : (width height : ℕ) (bytes rest : List ℕ) (found new : Found) → header_at bytes ≡ Ok (found, rest)
+    → new ≡ with_said (sized_to width height) found → sized_header_at width height bytes ≡ Ok (new, rest)
+unfolding sized_header_at
+sized-read width height bytes rest found new e n = search rules
+
+pub sized-refused : (width height : ℕ) (bytes : List ℕ) (fault : Fault) → header_at bytes ≡ Err fault
+    → sized_header_at width height bytes ≡ Err fault
+unfolding sized_header_at
+sized-refused width height bytes fault e = search rules
+
+-- a header that is read, and then sized
+pub sized-answers : {U : Type 0} (width height : ℕ) (old cur new : Stream) (found sized : Found) (u : U) (size : ℕ × ℕ)
+    → Answers (λ (x : U). found) header_at old (Ok u) cur → new ≡ cur → sized ≡ with_said (sized_to width height) found
+    → Answers (λ (x : ℕ × ℕ). sized) (sized_header_at width height) old (Ok size) new
+sized-answers width height old cur new found sized u size p s e = (
+  ap (λ (x : Stream). x.failed) s ∙ p.0,
+  λ k. let at = p.1 k in (grind (arith, sized-read width height old.bytes cur.bytes found sized at.1 e)),
+)

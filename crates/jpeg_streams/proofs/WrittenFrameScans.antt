@@ -28,7 +28,7 @@ use Rattle.jpeg_streams.specs.ScanSegments.{vias_from, Coding, components_of}
 use Rattle.jpeg_streams.specs.Levels.{Levels, Is8Bit, numbers_at, cut, nothing_sent, IsLegal, sent_after}
 use Rattle.jpeg_streams.specs.WrittenScans.{Coefficients, IsOwn, WritesScan}
 use Rattle.jpeg_streams.proofs.CutLevels.{suits-cut, cut-after, all-same, cut-unsent, floor-range, floor-fits}
-use Rattle.jpeg_streams.proofs.Put.{reaches}
+use Rattle.jpeg_streams.proofs.CountedScans.{reaches}
 use Rattle.jpeg_streams.specs.InTurn.{IsIn, IsInside}
 use Rattle.jpeg_streams.proofs.OwnSpots.{At, at-within, at-get, IsOwnSpot, own-only, Fits, covered}
 use Rattle.jpeg_streams.proofs.Apart.{at-got}

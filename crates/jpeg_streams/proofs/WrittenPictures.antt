@@ -23,7 +23,7 @@ use lib.ListN.{length-map}
 use Rattle.jpeg_segments.specs.declared.parser.CodingProcess.TheVariants.{Lossless}
 use Rattle.jpeg_segments.specs.ScanHeaders.{AreChoices, IsScan, ScanHeader, scan_written}
 use Rattle.jpeg_segments.proofs.Fields.{nibbles-high, nibbles-low}
-use Rattle.jpeg_streams.proofs.IndicesApart.{IsAbsent, AreApart}
+use Rattle.jpeg_streams.proofs.OwnSpots.{IsAbsent, AreApart}
 use Rattle.jpeg_streams.proofs.BroughtLevels.{PassSo, ScanFacts, progressive-pass, Framed, framed-start, scan-brings}
 use Rattle.jpeg_streams.proofs.BroughtLevels.{Shaped, PlaneSo, is_level_0, is_whole, Made, kept-arrays}
 use Rattle.jpeg_bits.specs.Reading.{Outcome, Fault, ◌>>=◌}
@@ -38,7 +38,7 @@ use Rattle.jpeg_streams.specs.WholeImages.{AllComplete}
 use Rattle.jpeg_streams.specs.WrittenImages.{MayStandInImage, WritesImage, WritesImageScan}
 use Rattle.jpeg_streams.specs.WrittenScans.{Coefficients, HasTable, IsComplete}
 use Rattle.jpeg_streams.proofs.FrameShapes.{accepted-sources, all-shaped, frame-lossy, Plain, below-ceiling}
-use Rattle.jpeg_streams.proofs.LosslessFrames.{all-ranged}
+use Rattle.jpeg_streams.proofs.LosslessSizes.{all-ranged}
 use Rattle.jpeg_streams.proofs.WalkedStreams.{beside, FindsScan, IsMeant, IsRead, IsSaid, ReadTo, stream-read}
 use Rattle.jpeg_streams.specs.declared.settings.Settings.{Settings}
 use Rattle.std.proofs.Math.Nat.{div-lt_iff_lt-mul, mul_comm, div-mul-le_self}
@@ -48,7 +48,7 @@ use Rattle.jpeg_bits.specs.declared.color_transform.ColorTransform.{ColorTransfo
 use Rattle.jpeg_pixels.specs.Colour.{conversion_of}
 use Rattle.jpeg_pixels.specs.declared.upsampler.ColorConvert.{ColorConvert}
 use Rattle.jpeg_bits.specs.Zigzag.{coefficients_in_block_order, values_in_block_order}
-use Rattle.jpeg_streams.proofs.ScaledSizes.{reaches-made, scale-made, one-made}
+use Rattle.jpeg_streams.proofs.FrameShapes.{reaches-made, scale-made, one-made}
 use Rattle.jpeg_bits.specs.Passes.{Block, zero_block, listed}
 use Rattle.jpeg_streams.specs.Order.{grid_of}
 use Rattle.jpeg_pixels.specs.Scaled.{sample_at}
@@ -63,7 +63,7 @@ use Rattle.jpeg_streams.specs.ArrayPictures.{meaning_of_array, picture_of_array}
 use Rattle.jpeg_streams.proofs.OwnSpots.{At, at-within, Fits, in-below}
 use Rattle.jpeg_streams.proofs.Apart.{at-all}
 use Rattle.jpeg_streams.proofs.LimitedPictures.{array_plane, limited-ok, limited-same}
-use Rattle.jpeg_streams.proofs.InsidePictures.{SamePlane, AllAlike, image-same, cropped-same}
+use Rattle.jpeg_streams.proofs.UpsampledFactors.{SamePlane, AllAlike, image-same, cropped-same}
 
 -- ---- the tables in force exist
 

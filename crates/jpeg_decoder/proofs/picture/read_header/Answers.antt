@@ -3,7 +3,7 @@ use Rattle.jpeg_streams.specs.Stream.{told_of}
 use Rattle.jpeg_streams.specs.Reported.{IsOfTurns}
 use Rattle.jpeg_streams.specs.Found.{Found, nothing_found}
 use Rattle.jpeg_streams.proofs.Soundness.{nothing-framed}
-use Rattle.jpeg_streams.proofs.Told.{told-through, turns-none}
+use Rattle.jpeg_streams.proofs.Refusals.{told-through, turns-none}
 use Rattle.jpeg_decoder.proofs.Turns.{told-start}
 use Rattle.jpeg_decoder.proofs.picture.read_header.Goals as goal
 

@@ -22,7 +22,7 @@ use Rattle.jpeg_streams.specs.ScanSegments.{put_arrays, arrays_before}
 use Rattle.jpeg_streams.specs.Found.{Found}
 use Rattle.jpeg_decoder.proofs.PlacedCodings.{coded-components, coded-indices}
 use Rattle.jpeg_decoder.proofs.PutLoops.{Held}
-use Rattle.jpeg_streams.proofs.ScanArrays.{arrays-sized, kept-sized}
+use Rattle.jpeg_streams.proofs.McuRows.{arrays-sized, kept-sized}
 use Rattle.jpeg_decoder.proofs.TakenBlocks.{put-back}
 use Rattle.jpeg_decoder.proofs.ScanData.{read_at, of-frame, arrays-by-sizes, coded-within-kept}
 use Rattle.jpeg_decoder.proofs.ScanData.{read-as, rising-codings, data-kept, data-kept-refused}

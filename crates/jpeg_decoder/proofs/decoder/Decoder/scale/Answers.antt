@@ -4,7 +4,7 @@ use Rattle.jpeg_decoder.proofs.ScanData.{answers-err}
 use Rattle.jpeg_streams.specs.Found.{with_said}
 use Rattle.jpeg_decoder.specs.Seen.{found_in}
 use Rattle.jpeg_streams.specs.Stream.{sized_to}
-use Rattle.jpeg_streams.proofs.SizedHeaders.{sized-answers, sized-refused}
+use Rattle.jpeg_streams.proofs.Soundness.{sized-answers, sized-refused}
 use Rattle.jpeg_decoder.proofs.decoder.Decoder.scale.Goals as goal
 use Rattle.jpeg_decoder.proofs.decoder.Decoder.scale.Goals.{in-Some, in-None}
 

@@ -1,7 +1,7 @@
 use Rattle.std.proofs.Common.{sym, refl, rules}
 use Rattle.jpeg_segments.specs.FrameView.{frame_in}
 use Rattle.jpeg_decoder.specs.Seen.{found_in}
-use Rattle.jpeg_streams.proofs.SegmentParts.{no-frame, frame-read}
+use Rattle.jpeg_streams.proofs.ProfileLemmas.{no-frame, frame-read}
 use Rattle.jpeg_streams.proofs.Soundness.{sound-framed}
 use Rattle.jpeg_decoder.proofs.state.State.read_frame.Goals as goal
 

@@ -1,4 +1,4 @@
-use Rattle.jpeg_streams.proofs.Updates.{all_ac-moved}
+use Rattle.jpeg_streams.proofs.ProfileLemmas.{all_ac-moved}
 use Rattle.jpeg_decoder.proofs.state.State.read_huffman.Goals as goal
 
 pub invariant_of-self : goal.invariant_of-self
