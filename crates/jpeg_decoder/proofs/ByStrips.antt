@@ -17,12 +17,10 @@ use Rattle.jpeg_bits.specs.Zigzag.{values_in_block_order}
 use Rattle.jpeg_pixels.proofs.PlaneRows.{plane-none}
 use Rattle.jpeg_streams.specs.Order.{Spot, mcu_size}
 use Rattle.jpeg_streams.specs.Scans.{Arrays, zero_arrays}
-use Rattle.jpeg_streams.specs.Rasters.{in_raster, ordered}
+use Rattle.jpeg_streams.specs.Rasters.{in_raster, ordered, plane_by, plane_of_blocks}
 use Rattle.jpeg_streams.specs.InTurn.{Counted, Fits, blocks_from, counted_at_start}
 use Rattle.jpeg_streams.specs.McuRows.{mcu_row, zero_rows, rows_of, each_with_more, on_arrays}
-use Rattle.jpeg_streams.specs.McuRows.{mcu_rows_from}
-use Rattle.jpeg_streams.specs.McuRows.{scan_by_rows}
-use Rattle.jpeg_streams.specs.Rasters.{plane_by, plane_of_blocks}
+use Rattle.jpeg_streams.specs.McuRows.{mcu_rows_from, scan_by_rows}
 use Rattle.jpeg_streams.specs.ScanSegments.{Coding, components_of}
 use Rattle.jpeg_decoder.specs.Strips.{planes_by, planes_at, samples_of, with_strips, strips_from}
 use Rattle.jpeg_decoder.specs.Strips.{no_samples, planes_by_rows}

@@ -5,22 +5,18 @@ use Rattle.std.proofs.lemmas.List.Folds.{list_all-map}
 use Rattle.jpeg_segments.proofs.ScaleLemmas.{full_size}
 use Rattle.jpeg_streams.proofs.AcceptedSamples.{accepted-picture, accepted-samples}
 use Rattle.jpeg_streams.proofs.Apart.{spots-apart, spots-inside, zeros-sized}
-use Rattle.jpeg_streams.proofs.CountedScans.{frame-scans}
+use Rattle.jpeg_streams.proofs.CountedScans.{frame-scans, scans-in-turn}
 use Rattle.jpeg_streams.proofs.EncodedSamples.{samples-written}
-use Rattle.jpeg_streams.proofs.FrameShapes.{frames-fit, scaled-frames-fit}
+use Rattle.jpeg_streams.proofs.FrameShapes.{frames-fit, scaled-frames-fit, frames-have-sources}
 use Rattle.jpeg_streams.proofs.LosslessSizes.{lossless-accepted}
-use Rattle.jpeg_streams.proofs.McuRows.{scans-by-rows}
+use Rattle.jpeg_streams.proofs.McuRows.{scans-by-rows, plane-strips, codings-are-of}
+use Rattle.jpeg_streams.proofs.McuRows.{sequential-scan, progressive-scan}
 use Rattle.jpeg_streams.proofs.PaddingUnseen.{own-predicted, pictures-agree, planes-same}
 use Rattle.jpeg_streams.proofs.PicturedFrames.{header-accepted}
-use Rattle.jpeg_streams.proofs.McuRows.{plane-strips}
-use Rattle.jpeg_streams.proofs.FrameShapes.{frames-have-sources}
-use Rattle.jpeg_streams.proofs.McuRows.{codings-are-of, sequential-scan, progressive-scan}
-use Rattle.jpeg_streams.proofs.Soundness.{found-again}
+use Rattle.jpeg_streams.proofs.Soundness.{found-again, nothing-framed, sound-nothing}
 use Rattle.jpeg_streams.proofs.SizedStreams.{sized-taken, stream-means_sized}
-use Rattle.jpeg_streams.proofs.Soundness.{nothing-framed, sound-nothing}
 use Rattle.jpeg_streams.proofs.WalkedStreams.{front-append}
 use Rattle.jpeg_streams.proofs.WholeImages.{cut-whole}
-use Rattle.jpeg_streams.proofs.CountedScans.{scans-in-turn}
 use Rattle.jpeg_streams.proofs.WorkedStreams.{colour-written, grey-written, padding-written, three-written}
 use Rattle.jpeg_streams.proofs.WrittenParts.{front-closed}
 use Rattle.jpeg_streams.proofs.WrittenPictures.{stream-means, taken-means}
@@ -30,8 +26,7 @@ use Rattle.jpeg_decoder.proofs.JointDecided.{or-after, or-at, or-nothing, or-set
 use Rattle.std.proofs.lemmas.List.FromFn.{length-enumerate_from}
 use Rattle.std.proofs.lemmas.Result.{err_from_is_err_and}
 use Rattle.jpeg_segments.proofs.Gathered.{gathers-all, gathers-none}
-use Rattle.jpeg_streams.proofs.Refusals.{told-err}
-use Rattle.jpeg_streams.proofs.Refusals.{turns-no_start}
+use Rattle.jpeg_streams.proofs.Refusals.{told-err, turns-no_start}
 use Rattle.jpeg_decoder.proofs.LosslessReads.{picture-given, picture-lacks, picture-made}
 use Rattle.jpeg_decoder.proofs.PictureSizes.{block-bytes}
 use Rattle.jpeg_decoder.proofs.PicturesOfPlanes.{several-ready}

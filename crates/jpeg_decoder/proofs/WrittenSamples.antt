@@ -12,7 +12,7 @@ use Rattle.jpeg_bits.specs.declared.marker.Marker.{Marker}
 use Rattle.jpeg_bits.specs.declared.marker.Marker.TheVariants.{EOI}
 use Rattle.jpeg_bits.specs.declared.scan.Predictor.{Predictor}
 use Rattle.jpeg_segments.specs.Frame.{Component, Frame}
-use Rattle.jpeg_segments.specs.Checks.{gathered}
+use Rattle.jpeg_segments.specs.Checks.{gathered, needed}
 use Rattle.jpeg_segments.specs.ScanHeader.{Selector, predictor_by, predictor_of, scan_of}
 use Rattle.jpeg_segments.specs.ScanHeaders.{IsScan, ScanHeader, scan_payload, scan_written}
 use Rattle.jpeg_segments.specs.WrittenSegments.{with_length}
@@ -33,7 +33,6 @@ use Rattle.jpeg_lossless.proofs.Sizes.{covered-within}
 use Rattle.jpeg_lossless.proofs.WholeScans.{HaveLines}
 use Rattle.jpeg_streams.specs.LosslessScans.{LosslessCoding, lossless_coding, lossless_codings, mcus_across, mcus_down}
 use Rattle.jpeg_streams.specs.LosslessScans.{part_of, parts_of, way_of, with_samples}
-use Rattle.jpeg_segments.specs.Checks.{needed}
 use Rattle.jpeg_streams.specs.ScanSegments.{lossless_scan, scan_segment, scan_turn}
 use Rattle.jpeg_streams.specs.Found.{Found, Said, nothing_found}
 use Rattle.jpeg_streams.specs.WrittenLossless.{HoldSamples, Samples, WritesSamplesScan}

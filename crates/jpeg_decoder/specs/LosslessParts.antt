@@ -1,9 +1,8 @@
 -- What a lossless scan has of its components, by their indices in the frame.
 use Rattle.std.specs.Prelude.{ℕ, Bool, true, false, List, [], ◌∷◌, get_or}
 use Rattle.jpeg_bits.specs.Codes.{Table}
-use Rattle.jpeg_segments.specs.Frame.{Component, Frame, ceiling}
+use Rattle.jpeg_segments.specs.Frame.{Component, Frame, ceiling, most_across, most_down}
 use Rattle.jpeg_lossless.specs.Differences.{Part}
-use Rattle.jpeg_segments.specs.Frame.{most_across, most_down}
 
 -- no component
 abbrev pub no_component : Component

@@ -15,7 +15,7 @@ use Rattle.jpeg_bits.specs.declared.marker.Marker.TheVariants.{RST}
 use Rattle.jpeg_segments.specs.Frame.{AllHaveSampling, Frame, Component}
 use Rattle.jpeg_pixels.specs.Planes.{cropped}
 use Rattle.jpeg_segments.specs.Scales.{is_scale}
-use Rattle.jpeg_streams.specs.Scans.{Arrays, arrays_at}
+use Rattle.jpeg_streams.specs.Scans.{Arrays, arrays_at, no_table}
 use Rattle.jpeg_decoder.specs.Scanning.{arrays_in, components_in}
 use Rattle.jpeg_streams.specs.Order.{spots_of, mcu_size}
 use Rattle.jpeg_decoder.specs.declared.decoded.Decoded.{Decoded}
@@ -30,13 +30,11 @@ use Rattle.jpeg_decoder.specs.declared.state.State.{State}
 use Rattle.jpeg_decoder.specs.declared.state.Step.{Step}
 use Rattle.jpeg_decoder.specs.declared.scan.Coded.{Coded}
 use Rattle.jpeg_decoder.specs.declared.codings.Spare.{Spare}
-use Rattle.jpeg_streams.specs.Scans.{no_table}
 use Rattle.jpeg_bits.specs.declared.codes.HuffmanTableClass.TheVariants as classes
 use Rattle.jpeg_segments.specs.Checks.{needed}
 use Rattle.jpeg_streams.specs.ScanSegments.{component_coding, components_of, Coding, tables_of}
-use Rattle.jpeg_streams.specs.ScanSegments.{pass_of, after_restarts, finished_by}
-use Rattle.jpeg_streams.specs.ScanSegments.{blocks_after, with_arrays, decided, arrays_before}
-use Rattle.jpeg_streams.specs.ScanSegments.{once_scanned}
+use Rattle.jpeg_streams.specs.ScanSegments.{pass_of, after_restarts, finished_by, blocks_after}
+use Rattle.jpeg_streams.specs.ScanSegments.{with_arrays, decided, arrays_before, once_scanned}
 use Rattle.jpeg_streams.specs.ScanSegments.{vias_from, after_samples, scan_samples}
 use Rattle.jpeg_streams.specs.Segments.{Turn}
 use Rattle.jpeg_streams.specs.Found.{Found, none_finished, Said}

@@ -1,7 +1,6 @@
 -- What is read of the bits of an interval alone, and what bits stand for what was read.
-use Rattle.std.specs.Prelude.{◌≡◌, ◌≢◌, ℕ, ℤ, suc, ◌<◌, ◌+◌, ◌-◌, ◌*◌, ◌^◌, ◌++◌, Bool, List, [], Some}
-use Rattle.std.specs.Prelude.{Ok, map, pos, ◌*ℤ◌, ◌≤◌, unsigned_abs, slice_index}
-use Rattle.std.specs.Prelude.{◌-ℤ◌}
+use Rattle.std.specs.Prelude.{◌≡◌, ◌≢◌, ℕ, ℤ, suc, ◌<◌, ◌+◌, ◌-◌, ◌*◌, ◌^◌, ◌++◌, Bool, List, []}
+use Rattle.std.specs.Prelude.{Some, Ok, map, pos, ◌*ℤ◌, ◌≤◌, unsigned_abs, slice_index, ◌-ℤ◌}
 use Rattle.std.specs.Prelude.{filter, true, false, length, ◌+ℤ◌, ◌∷◌, get_or, set, take, drop}
 use Rattle.std.specs.List.{AllByRecursion}
 use Rattle.jpeg_bits.specs.Refinement.{corrected, is_zero, through_zero}
@@ -9,7 +8,8 @@ use Rattle.jpeg_bits.specs.Bands.{difference, token_from, wrapped}
 use Rattle.jpeg_streams.specs.Levels.{cut_by, floor_at, numbers_at, toward_zero}
 use Rattle.jpeg_streams.specs.WrittenData.{WritesBand, WritesDifference, WritesAc, WritesDc}
 use Rattle.jpeg_streams.specs.WrittenData.{no_numbers, WritesBlocks}
-use Rattle.jpeg_bits.specs.Written.{WritesInterval, WritesIntervals}
+use Rattle.jpeg_bits.specs.Written.{WritesInterval, WritesIntervals, low_bits, number_for}
+use Rattle.jpeg_bits.specs.Written.{IsCategory, IsCoded, stuffed, marker, bits_of_bytes}
 use Rattle.jpeg_bits.specs.Passes.{Block, Pass, Via, band_of, block_from, blocks_of, dc_part}
 use Rattle.jpeg_bits.specs.Entropy.{Broken, Found, Text, bits_from, text_at}
 use Rattle.jpeg_bits.specs.Passes.{predictors_at_start}
@@ -17,8 +17,6 @@ use Rattle.jpeg_bits.specs.Marker.{marker_of}
 use Rattle.jpeg_bits.specs.Reading.{End}
 use Rattle.jpeg_bits.specs.Readers.{text}
 use Rattle.jpeg_bits.specs.Codes.{IsTable, Table, symbol_from}
-use Rattle.jpeg_bits.specs.Written.{low_bits, number_for, IsCategory, IsCoded}
-use Rattle.jpeg_bits.specs.Written.{stuffed, marker, bits_of_bytes}
 use Rattle.jpeg_bits.specs.declared.marker.Marker.{Marker}
 use Rattle.jpeg_bits.specs.declared.tokens.Token.{Token}
 use Rattle.jpeg_bits.specs.declared.tokens.Token.TheVariants.{Value, Sixteen, Rest, Overlong}

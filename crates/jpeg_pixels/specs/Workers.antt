@@ -1,8 +1,7 @@
 -- Planes that are made row by row, each row of all coefficients of one row of MCUs (own to the
 -- decoder).
 use Rattle.std.specs.Prelude.{◌≡◌, ◌<◌, ◌≤◌, ℕ, ◌+◌, ◌-◌, ◌*◌, List, [], ◌∷◌, ◌++◌, length, take}
-use Rattle.std.specs.Prelude.{drop, set}
-use Rattle.std.specs.Prelude.{replicate, get_or, option_map, ℤ, Option, Some, None}
+use Rattle.std.specs.Prelude.{drop, set, replicate, get_or, option_map, ℤ, Option, Some, None}
 use Rattle.std.specs.declared.vec.Vec.{Vec}
 use Rattle.std.specs.declared.alloc.Global.{Global}
 use Rattle.jpeg_segments.specs.Frame.{Component}

@@ -4,8 +4,7 @@ use Rattle.std.specs.Prelude.{◌≡◌, ℕ, ◌≤◌, ◌<◌, ◌+◌, true,
 use Rattle.std.specs.Prelude.{flat_map, Some, nat_lt}
 use Rattle.jpeg_segments.specs.Frame.{Frame}
 use Rattle.jpeg_segments.specs.HuffmanTables.{greatest_destination}
-use Rattle.jpeg_segments.specs.ScanHeader.{Scan, Selector, index_of, is_mcu, is_band}
-use Rattle.jpeg_segments.specs.ScanHeader.{scan_of}
+use Rattle.jpeg_segments.specs.ScanHeader.{Scan, Selector, index_of, is_mcu, is_band, scan_of}
 use Rattle.jpeg_segments.specs.WrittenSegments.{nibbles}
 
 -- The components, each by its identifier Csj, with its index in the frame and the destinations Tdj

@@ -24,8 +24,7 @@ use Rattle.jpeg_streams.specs.Order.{grid_of}
 use Rattle.jpeg_streams.specs.Scans.{Arrays, zero_arrays}
 use Rattle.jpeg_streams.specs.Rasters.{plane_by}
 use Rattle.jpeg_streams.specs.WrittenScans.{Coefficients, levels_of_one, levels_after, IsLegalScan, WritesScan}
-use Rattle.jpeg_streams.proofs.OwnSpots.{IsAbsent, AreApart}
-use Rattle.jpeg_streams.proofs.OwnSpots.{At, at-within, at-get, Fits}
+use Rattle.jpeg_streams.proofs.OwnSpots.{IsAbsent, AreApart, At, at-within, at-get, Fits}
 use Rattle.jpeg_streams.proofs.WrittenFrameScans.{HoldsOwn, HasGood, SlotReady, SpotsSuit, dc_alone, one_component}
 use Rattle.jpeg_streams.proofs.WrittenFrameScans.{ReadsScan, scan-is_read, cut-nothing}
 use Rattle.jpeg_streams.proofs.Apart.{at-one, at-all, get-at}

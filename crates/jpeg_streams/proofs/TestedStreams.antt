@@ -2,7 +2,7 @@
 -- scans are made from what is to be written, and compared.
 use Rattle.std.specs.Prelude.{⊤}
 use Rattle.jpeg_bits.specs.Written.{bits_of_bytes, low_bits, number_for, stuffed}
-use Rattle.jpeg_streams.specs.WrittenData.{corrections, count_unknown}
+use Rattle.jpeg_streams.specs.WrittenData.{corrections, count_unknown, WritesBlocks}
 use Rattle.jpeg_streams.proofs.OnLiterals.{samples_on_literals, streams_on_literals}
 use Rattle.std.proofs.Common.{rules, ◌≡◌, ℕ, zero, suc, ◌+◌, ◌-◌, ◌*◌, ◌==◌, ◌&&◌, not, nat_lt, Bool, true, false}
 use Rattle.std.proofs.Common.{List, [], ◌∷◌, ◌++◌, length, drop, map, Option, Some, None, Ok, Err, Result, is_ok}
@@ -38,7 +38,6 @@ use Rattle.jpeg_streams.specs.ScanSegments.{Coding, codings_of, components_of, p
 use Rattle.jpeg_streams.specs.Segments.{accepted, updated, with_application, with_huffman}
 use Rattle.jpeg_streams.specs.WholeImages.{AllComplete}
 use Rattle.jpeg_streams.specs.WorkedImages.{IsWhollyWritten, flat_block, in_column}
-use Rattle.jpeg_streams.specs.WrittenData.{WritesBlocks}
 use Rattle.jpeg_streams.specs.WrittenImages.{ClosesImage, MayStandInImage, WritesImageScan}
 use Rattle.jpeg_streams.specs.WrittenScans.{Coefficients, HasTable, IsComplete, IsLegalScan, WritesScan, levels_after}
 use Rattle.jpeg_streams.specs.WrittenStreams.{Writes, end, scan, segment}

@@ -23,7 +23,7 @@ use lib.ListN.{length-map}
 use Rattle.jpeg_segments.specs.declared.parser.CodingProcess.TheVariants.{Lossless}
 use Rattle.jpeg_segments.specs.ScanHeaders.{AreChoices, IsScan, ScanHeader, scan_written}
 use Rattle.jpeg_segments.proofs.Fields.{nibbles-high, nibbles-low}
-use Rattle.jpeg_streams.proofs.OwnSpots.{IsAbsent, AreApart}
+use Rattle.jpeg_streams.proofs.OwnSpots.{IsAbsent, AreApart, At, at-within, Fits, in-below}
 use Rattle.jpeg_streams.proofs.BroughtLevels.{PassSo, ScanFacts, progressive-pass, Framed, framed-start, scan-brings}
 use Rattle.jpeg_streams.proofs.BroughtLevels.{Shaped, PlaneSo, is_level_0, is_whole, Made, kept-arrays}
 use Rattle.jpeg_bits.specs.Reading.{Outcome, Fault, ◌>>=◌}
@@ -60,7 +60,6 @@ use Rattle.jpeg_streams.specs.Rasters.{plane_by, plane_of_blocks}
 use Rattle.jpeg_segments.specs.declared.parser.CodingProcess.{CodingProcess}
 use Rattle.jpeg_streams.specs.ArrayPictures.{HasTransform, IsTransformOf, TakesPicture, as_sent, picture_of_blocks}
 use Rattle.jpeg_streams.specs.ArrayPictures.{meaning_of_array, picture_of_array}
-use Rattle.jpeg_streams.proofs.OwnSpots.{At, at-within, Fits, in-below}
 use Rattle.jpeg_streams.proofs.Apart.{at-all}
 use Rattle.jpeg_streams.proofs.LimitedPictures.{array_plane, limited-ok, limited-same}
 use Rattle.jpeg_streams.proofs.UpsampledFactors.{SamePlane, AllAlike, image-same, cropped-same}

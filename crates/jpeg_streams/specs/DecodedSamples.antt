@@ -5,8 +5,7 @@ use Rattle.jpeg_streams.specs.DecodedImages.{FailsOutside, GivesPicture, HasLeft
 use Rattle.jpeg_streams.specs.States.{Decoding}
 use Rattle.jpeg_streams.specs.Found.{Said}
 use Rattle.jpeg_streams.specs.FoundPictures.{limited}
-use Rattle.jpeg_streams.specs.WrittenLossless.{picture_of_samples, Samples}
-use Rattle.jpeg_streams.specs.WrittenLossless.{WritesSamples}
+use Rattle.jpeg_streams.specs.WrittenLossless.{picture_of_samples, Samples, WritesSamples}
 
 -- A call on a decoder whose source has a lossless stream that is written for samples: where it
 -- gives pixels, they are the picture of the samples, at full size whatever size was asked for, and

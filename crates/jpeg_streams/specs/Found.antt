@@ -1,8 +1,5 @@
 -- What the segments and scans of a stream have said so far (T.81, B.2).
-use Rattle.std.specs.Prelude.{ℕ}
-use Rattle.std.specs.Prelude.{List, []}
-use Rattle.std.specs.Prelude.{replicate, Bool, false}
-use Rattle.std.specs.Prelude.{Option, None}
+use Rattle.std.specs.Prelude.{ℕ, List, [], replicate, Bool, false, Option, None}
 use Rattle.jpeg_segments.specs.declared.parser.AdobeColorTransform.{AdobeColorTransform}
 use Rattle.jpeg_segments.specs.Frame.{Frame}
 use Rattle.jpeg_segments.specs.HuffmanTables.{Tables, no_tables}

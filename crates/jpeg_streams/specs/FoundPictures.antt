@@ -1,9 +1,6 @@
 -- The picture of what was found, at the end of an image.
-use Rattle.std.specs.Prelude.{ℕ, ◌*◌, ◌/◌, min, ◌&&◌}
-use Rattle.std.specs.Prelude.{nat_lt, List, [], ◌∷◌, length}
-use Rattle.std.specs.Prelude.{get_or, slice_get, slice_index_or}
-use Rattle.std.specs.Prelude.{Some, None, Result, Ok, Err}
-use Rattle.std.specs.Prelude.{if◌then◌else◌}
+use Rattle.std.specs.Prelude.{ℕ, ◌*◌, ◌/◌, min, ◌&&◌, nat_lt, List, [], ◌∷◌, length, get_or}
+use Rattle.std.specs.Prelude.{slice_get, slice_index_or, Some, None, Result, Ok, Err, if◌then◌else◌}
 use Rattle.jpeg_bits.specs.Reading.{Fault, Malformed, ◌>>=◌}
 use Rattle.jpeg_segments.specs.declared.parser.CodingProcess.{CodingProcess}
 use Rattle.jpeg_segments.specs.declared.parser.CodingProcess.TheVariants.{Lossless}

@@ -1,6 +1,5 @@
 -- The blocks of a sequential scan, row by row of MCUs, as they are read into the blocks of a row.
-use Rattle.std.specs.Prelude.{ℕ, ◌-◌, ◌*◌, min, List, [], ◌∷◌, ◌++◌, map, replicate, Option}
-use Rattle.std.specs.Prelude.{Ok}
+use Rattle.std.specs.Prelude.{ℕ, ◌-◌, ◌*◌, min, List, [], ◌∷◌, ◌++◌, map, replicate, Option, Ok}
 use Rattle.std.specs.List.{range_with_len}
 use Rattle.jpeg_bits.specs.Reading as reading
 use Rattle.jpeg_bits.specs.Reading.{Outcome}

@@ -1,10 +1,9 @@
 -- What a scan adds to what was found: its tables, its data, and the planes that it decides (T.81,
 -- B.2.3).
-use Rattle.std.specs.Prelude.{ℕ, zero, suc, ◌+◌, ◌-◌, ◌*◌, ◌==◌, ◌&&◌}
-use Rattle.std.specs.Prelude.{nat_lt, List, [], ◌∷◌, ◌++◌, map, length, take, drop, set}
-use Rattle.std.specs.Prelude.{get_or, replicate, slice_index_or, slice_set, Bool, true, false}
-use Rattle.std.specs.Prelude.{Option, Some, None, Result, Ok, Err, slice_get, zip}
-use Rattle.std.specs.Prelude.{if◌then◌else◌, fold, unwrap_or}
+use Rattle.std.specs.Prelude.{ℕ, zero, suc, ◌+◌, ◌-◌, ◌*◌, ◌==◌, ◌&&◌, nat_lt, List, [], ◌∷◌, ◌++◌}
+use Rattle.std.specs.Prelude.{map, length, take, drop, set, get_or, replicate, slice_index_or}
+use Rattle.std.specs.Prelude.{slice_set, Bool, true, false, Option, Some, None, Result, Ok, Err}
+use Rattle.std.specs.Prelude.{slice_get, zip, if◌then◌else◌, fold, unwrap_or}
 use Rattle.std.specs.List.{list_all}
 use Rattle.jpeg_bits.specs.Reading.{Outcome, Fault, End, ◌>>=◌}
 use Rattle.jpeg_bits.specs.Marker.{next_marker}

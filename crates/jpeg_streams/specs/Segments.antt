@@ -1,12 +1,9 @@
 -- What each segment but a scan adds to what was found (T.81, B.2.2 and B.2.4), and which frames are
 -- decoded.
-use Rattle.std.specs.Prelude.{ℕ, ◌==◌, min, not, ◌&&◌, ◌||◌}
-use Rattle.std.specs.Prelude.{nat_le, List, [], ◌∷◌, ◌++◌, length}
-use Rattle.std.specs.Prelude.{Bool, true, false}
-use Rattle.std.specs.Prelude.{Option, Some, None, option_map, is_some, Result, Ok, Err}
-use Rattle.std.specs.Prelude.{if◌then◌else◌}
-use Rattle.jpeg_bits.specs.Reading.{Outcome, Fault, Lacks, ◌>>=◌}
-use Rattle.jpeg_bits.specs.Reading.{length_at, skip_at}
+use Rattle.std.specs.Prelude.{ℕ, ◌==◌, min, not, ◌&&◌, ◌||◌, nat_le, List, [], ◌∷◌, ◌++◌, length}
+use Rattle.std.specs.Prelude.{Bool, true, false, Option, Some, None, option_map, is_some, Result}
+use Rattle.std.specs.Prelude.{Ok, Err, if◌then◌else◌}
+use Rattle.jpeg_bits.specs.Reading.{Outcome, Fault, Lacks, ◌>>=◌, length_at, skip_at}
 use Rattle.jpeg_bits.specs.declared.marker.Marker.{Marker}
 use Rattle.jpeg_bits.specs.declared.error.UnsupportedFeature.TheVariants as features
 use Rattle.jpeg_segments.specs.declared.parser.CodingProcess.{CodingProcess}

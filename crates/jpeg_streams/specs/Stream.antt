@@ -1,9 +1,6 @@
 -- The segments of a stream in turn, and its meaning (T.81, B.2).
-use Rattle.std.specs.Prelude.{ℕ, zero, suc, ◌==◌, ◌&&◌}
-use Rattle.std.specs.Prelude.{List, length}
-use Rattle.std.specs.Prelude.{Bool, true, false}
-use Rattle.std.specs.Prelude.{Option, None, option_map, is_some, Result, Ok, Err}
-use Rattle.std.specs.Prelude.{if◌then◌else◌}
+use Rattle.std.specs.Prelude.{ℕ, zero, suc, ◌==◌, ◌&&◌, List, length, Bool, true, false, Option}
+use Rattle.std.specs.Prelude.{None, option_map, is_some, Result, Ok, Err, if◌then◌else◌}
 use Rattle.jpeg_bits.specs.Reading.{Fault, Outcome, Malformed, Lacks, End, ◌>>=◌, next_byte}
 use Rattle.jpeg_bits.specs.Reading.{length_at, skip_at}
 use Rattle.jpeg_bits.specs.Marker.{found_or, next_marker}

@@ -1,6 +1,5 @@
 -- Two streams that are worked by hand, and the coefficients that they are written for.
-use Rattle.std.specs.Prelude.{◌≡◌, ℕ, List, [], ◌∷◌, ◌++◌, replicate, ℤ, pos, negsuc, Some}
-use Rattle.std.specs.Prelude.{get_or}
+use Rattle.std.specs.Prelude.{◌≡◌, ℕ, List, [], ◌∷◌, ◌++◌, replicate, ℤ, pos, negsuc, Some, get_or}
 use Rattle.std.specs.List.{concat}
 use Rattle.jpeg_bits.specs.Passes.{Block}
 use Rattle.jpeg_segments.specs.Frame.{Frame}

@@ -6,8 +6,7 @@ use Rattle.std.specs.Prelude.{length, ℤ, pos, negsuc, ◌-ℤ◌, unsigned_abs
 use Rattle.std.specs.List.{AllByRecursion}
 use Rattle.jpeg_bits.specs.Codes.{Table}
 use Rattle.jpeg_bits.specs.Passes.{Pass, Via, Block, band_of}
-use Rattle.jpeg_bits.specs.Written.{number_for, IsCategory, IsCoded}
-use Rattle.jpeg_bits.specs.Written.{bit, low_bits}
+use Rattle.jpeg_bits.specs.Written.{number_for, IsCategory, IsCoded, bit, low_bits}
 
 -- ---- codes and values
 

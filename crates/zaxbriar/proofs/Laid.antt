@@ -8,8 +8,7 @@ use Rattle.std.proofs.Math.ListN.{drop_of_length-le}
 use Rattle.std.specs.Prelude.{min}
 use borrow.Rule.Slice.PartMut.{put_mid}
 use Rattle.zaxbriar.specs.Layouts.{TakesStored, converted_bytes, laid_out, layout_line, over}
-use Rattle.zaxbriar.specs.Layouts.{pixels_of}
-use Rattle.zaxbriar.specs.Layouts.{grey_as_rgb, grey_as_rgba, rgb_as_rgba, rgb_as_bgra}
+use Rattle.zaxbriar.specs.Layouts.{pixels_of, grey_as_rgb, grey_as_rgba, rgb_as_rgba, rgb_as_bgra}
 use Rattle.zaxbriar.specs.declared.layouts.Conversion.{Conversion}
 use Rattle.zaxbriar.specs.declared.layouts.Conversion.TheVariants.{Stored, GreyToRgb, GreyToRgba, RgbToRgba, RgbToBgra}
 

@@ -1,6 +1,5 @@
 -- A header that was read, and then the rest of its stream, are what the stream means by some options.
-use Rattle.std.proofs.Common.{arith}
-use Rattle.std.proofs.Common.{◌≡◌, ℕ, List, Ok}
+use Rattle.std.proofs.Common.{arith, ◌≡◌, ℕ, List, Ok}
 use Rattle.jpeg_streams.specs.DecodedImages.{Size, at_size, HasLeft}
 use Rattle.jpeg_streams.specs.Found.{Found, with_said}
 use Rattle.jpeg_streams.specs.declared.progress.Progress.TheVariants.{HeaderRead}

@@ -10,8 +10,7 @@ use Rattle.jpeg_streams.specs.States.{Decoding}
 use Rattle.jpeg_streams.specs.Stream.{rest_at, told_of}
 use Rattle.jpeg_streams.specs.declared.images.ImageInfo.{ImageInfo}
 use Rattle.zaxbriar.specs.Layouts.{TakesStored, conversion_to, converted_bytes, laid_out}
-use Rattle.zaxbriar.specs.Layouts.{layout_line}
-use Rattle.zaxbriar.specs.Layouts.{size_of_lines}
+use Rattle.zaxbriar.specs.Layouts.{layout_line, size_of_lines}
 use Rattle.zaxbriar.specs.declared.layouts.Conversion.{Conversion}
 use Rattle.zaxbriar.specs.declared.lines.Lines.{Lines}
 use Rattle.zaxbriar.specs.declared.options.Options.{Options}

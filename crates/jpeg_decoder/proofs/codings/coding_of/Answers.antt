@@ -1,11 +1,10 @@
 use Rattle.std.proofs.lemmas.Grind.{common_steps}
 use Rattle.std.proofs.Common.{◌≡◌, ◌==◌, get_or, refl, Option, arith, rules}
 use Rattle.jpeg_bits.specs.Codes.{Table}
-use Rattle.jpeg_segments.specs.FrameView.{frame_in}
+use Rattle.jpeg_segments.specs.FrameView.{frame_in, scan_in}
 use Rattle.jpeg_decoder.specs.Steps.{coding_in_slot, table_if}
 use Rattle.std.specs.Prelude.{nat_lt}
 use Rattle.std.proofs.lemmas.Result.{err_from_is_err_and}
-use Rattle.jpeg_segments.specs.FrameView.{scan_in}
 use Rattle.jpeg_bits.proofs.Loops.{bind_err}
 use Rattle.jpeg_decoder.specs.Seen.{said_in}
 use Rattle.jpeg_decoder.proofs.SlotCodings.{ac-read, class-in-force, dc-read, format-refuses}

@@ -1,5 +1,4 @@
-use Rattle.std.proofs.Common.{arith}
-use Rattle.std.proofs.Common.{◌∙◌, sym}
+use Rattle.std.proofs.Common.{arith, ◌∙◌, sym}
 use Rattle.jpeg_decoder.proofs.Callers.{bytes_are_known, known_bytes_are_told}
 use Rattle.zaxbriar.proofs.Fails.{other-named}
 use Rattle.zaxbriar.proofs.metadata.read_metadata.Goals as goal
