@@ -16,9 +16,7 @@ walk_at al r from end block k t = walk_left al r (zigzag_part from end block) (k
 
 pub at-start : (al r from end : ℕ) (block : List ℤ) (t : Text)
     → walk_at al r from end block from t ≡ piece_from al r (zigzag_part from end block) t
-at-start al r from end block t =
-    let none : from - from ≡ 0 = omega arith in
-    ap (λ (i : ℕ). walk_left al r (zigzag_part from end block) i t) none ∙ walk_all al r (zigzag_part from end block) t
+at-start al r from end block t = let none : from - from ≡ 0 = omega arith in grind (arith, walk_left, walk_all)
 
 pub at-end : (al r from end k : ℕ) (block : List ℤ) (t : Text) → end ≤ 64 → k ≡ end
     → walk_at al r from end block k t ≡ Ok ((end - from, zigzag_part from end block), t)

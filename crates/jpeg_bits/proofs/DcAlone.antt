@@ -26,16 +26,8 @@ use Rattle.jpeg_bits.proofs.WholeBlocks.{refused_after}
 pub Takes-map : {X Y Z : Type 0} (f : Y → Z) (view : X → Y) (read : Reads Y) (a b : Ahead) (old new : Stream)
     (r : Result X Error) → Takes view read a old r b new
     → Takes (λ (x : X). f (view x)) (λ (t : Text). read_on (λ (y : Y). gives (f y)) (read t)) a old r b new
-Takes-map {X} {Y} {Z} f view read a b old new (Ok x) h = (
-  h.0,
-  λ known. let at = h.1 known in (at.0, ap (read_on (λ (y : Y). gives (f y))) at.1),
-)
-Takes-map {X} {Y} {Z} f view read a b old new (Err e) h = (
-  h.0,
-  (λ known still. Names-through _ _ (read_on (λ (y : Y). gives (f y))
-      (read (upcoming a old.bytes))) (λ g is. ap (read_on (λ (y : Y). gives (f y))) is) (h.1 known still)),
-  h.2,
-)
+Takes-map {X} {Y} {Z} f view read a b old new (Ok x) h = grind arith
+Takes-map {X} {Y} {Z} f view read a b old new (Err e) h = grind arith
 
 abbrev zeros_of : List ℤ → List ℤ
 zeros_of xs = map (λ (x : ℤ). pos 0) xs
@@ -48,19 +40,7 @@ same-zeros (x ∷ xs) [] h = absurd (omega arith)
 
 band-zeros : (p : Pass) (acs band : List ℤ) → length band ≡ length (band_of p acs)
     → zeros_of (with_band p acs band) ≡ zeros_of acs
-band-zeros p acs band h =
-    let b = before_band p in
-    let n = band_size p in
-    same-zeros (with_band p acs band) acs (omega (
-      arith,
-      h,
-      length-append (take b acs) (band ++ drop (b + n) acs),
-      length-append band (drop (b + n) acs),
-      length-take b acs,
-      length-drop (b + n) acs,
-      length-take n (drop b acs),
-      length-drop b acs,
-    ))
+band-zeros p acs band h = grind (arith, same-zeros, length-append, length-take, length-drop)
 
 -- the band of a first pass, whose coefficients are not kept
 band-measured : (p : Pass) (ac : Table) (band : List ℤ) (run : ℕ) (t : Text) → p.is_first ≡ true
@@ -115,15 +95,7 @@ module _ (p : Pass) (dc ac : Table) (predictor : ℤ) (run : ℕ) (block : List 
   pub dc-read : (value next : ℤ) (a b : Ahead) (old new : Stream)
       → Takes (λ (u : Unit {0}). (value, next)) (dc_part p dc (to_block block).dc predictor) a old (Ok tt) b new
       → Leaves whole a old (dc_turn p ac run (to_block block).acs (value, next)) b new
-  dc-read value next a b old new h = (
-    h.0,
-    λ known.
-        let at = h.1 known in (
-          at.0,
-          block-alone _ _ _ _ _ _ _ f
-              ∙ ap (read_on (dc_turn p ac run (to_block block).acs)) at.1,
-        ),
-  )
+  dc-read value next a b old new h = grind (arith, block-alone)
 
   pub dc-alone-read : (value next : ℤ) (more : ℕ) (a b d : Ahead) (old cur new : Stream) (refusal : Option Error)
       (done : Bool) → IsPass p → Leaves whole a old (dc_turn p ac run (to_block block).acs (value, next)) b cur

@@ -81,9 +81,7 @@ skip-bytes (suc n) more (b ∷ bytes) =
 
 skip-step : (n left : ℕ) (bytes : List ℕ) → n ≤ left
     → skip_at left bytes ≡ (times n next_byte bytes >>= λ (x : List ℕ × List ℕ). skip_at (left - n) x.1)
-skip-step n left bytes le =
-    let e : left ≡ n + (left - n) = omega arith in
-    ap (λ m. skip_at m bytes) e ∙ skip-bytes n (left - n) bytes
+skip-step n left bytes le = let e : left ≡ n + (left - n) = omega arith in grind (arith, skip-bytes)
 
 pub skip-refused : (n left : ℕ) (bytes : List ℕ) (f : Fault) → n ≤ left → times n next_byte bytes ≡ Err f
     → skip_at left bytes ≡ Err f

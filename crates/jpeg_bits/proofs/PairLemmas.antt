@@ -34,13 +34,7 @@ pub pair-at : (table : Table) (values : List ShortValue) (b j : ℕ) → HoldsWi
     → j ≡ b * 2 ^ (get_or values b (packed None)).2 % 2048
     → pair_by (get_or values b (packed None)) (get_or values j (packed None)) ≡ pair_of table (low_bits 11 b)
 unfolding pair_of
-pair-at table values b j holds size lt few is =
-    let v = get_or values b (packed None) in
-    let next = holds j (omega arith)
-    ∙ ap (value_in table) (bits_after _ _ _ _ _ _ few refl is) in
-    ap (pair_by v) next
-    ∙ ap (λ (v : ShortValue). pair_by v (value_in table (drop v.2 (low_bits 11 b) ++ replicate v.2 false)))
-    (holds b (omega arith))
+pair-at table values b j holds size lt few is = grind (arith, bits_after)
 
 -- ---- what is found
 
@@ -68,11 +62,7 @@ few-in class bits o = grind arith
 pub pair-small : (table : Table) (bits : List Bool) (p : Pair) → p ≡ pair_of table bits →
     IsWithinPassed p
 unfolding pair_of pair_by
-pair-small table bits p is =
-    let v = value_in table bits in
-    let w = value_in table (drop v.2 bits ++ replicate v.2 false) in
-    subst IsWithinPassed (sym is) (small-by _ ((w.2 == 0) || nat_lt 11 (v.2 + w.2)) _ _
-    (few-in table.class bits (symbol_in table (bits ++ replicate 5 false))) (few-both v.2 w.2))
+pair-small table bits p is = grind (arith, small-by, nat_lt, few-in, few-both)
 
 -- what is found: one value, or two
 pub data Seen (table : Table) (bits : List Bool) : Pair → Type 0 where
@@ -126,13 +116,7 @@ module _ (table : Table) (counted : length table.counts ≡ 16) (d : Ahead) (fil
       d.met ≡ Ok tt → r < room
       → e.bits ≡ drop n d.bits → e.met ≡ d.met
       → Takes (λ (t : Token). t) (token_from table room) d mid (Ok (Value r v)) e mid
-  Takes-first room v r n e is enough within bits met = (
-    refl,
-    λ known. (
-      known,
-      wide-taken _ _ _ _ _ _ _ n counted filled is within enough bits met,
-    ),
-  )
+  Takes-first room v r n e is enough within bits met = grind (arith, wide-taken)
 
   -- and the second
   Takes-second : (room n : ℕ) (w : ℤ) (q m : ℕ) (e : Ahead) → n + m ≤ 11

@@ -34,10 +34,7 @@ tried-at counts (suc i) h =
 
 -- one bit less
 pub halved : (bits i : ℕ) → i < 16 → bits / 2 ^ (15 - i) / 2 ≡ bits / 2 ^ (16 - i)
-halved bits i h =
-    let e : 16 - i ≡ 15 - i + 1 = omega arith in
-    let p : 2 ^ (15 - i) * 2 ≡ 2 ^ (15 - i + 1) = omega (arith, pow_more (15 - i)) in
-    div-div-eq-div-mul bits (2 ^ (15 - i)) 2 ∙ ap (λ (d : ℕ). bits / d) (p ∙ ap (λ (k : ℕ). 2 ^ k) (sym e))
+halved bits i h = let e : 16 - i ≡ 15 - i + 1 = omega arith in grind (arith, pow_more, div-div-eq-div-mul)
 
 -- no code of at most i bits begins the bits
 abbrev pub NoneYet : List ℕ → ℕ → ℕ → Type 0
@@ -132,15 +129,7 @@ pub passed-none : (counts : List ℕ) (rows : List Row) (bits : ℕ) → length 
     → bits < 2 ^ 16 → (i : ℕ) → i ≤ 16 → ArePassed rows i bits
     → (value_after counts i ≤ bits / 2 ^ (16 - i)) × NoneYet counts bits i
 passed-none counts rows bits counted holds fits zero h passed = grind arith
-passed-none counts rows bits counted holds fits (suc i) h passed =
-    grind (
-      arith,
-      add-one,
-      above_more,
-      row_missed,
-      passed-none counts rows bits counted holds fits i
-          (omega arith) (λ j lt. passed j (omega arith)),
-    )
+passed-none counts rows bits counted holds fits (suc i) h passed = grind (arith, add-one, above_more, row_missed, passed-none counts rows bits counted holds fits i (omega arith) (λ j lt. passed j (omega arith)))
 
 -- they stay passed for greater bits
 pub still-passed : (rows : List Row) (n bits more : ℕ) → bits ≤ more → ArePassed rows n bits → ArePassed rows n more

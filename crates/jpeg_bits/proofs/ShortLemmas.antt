@@ -194,9 +194,7 @@ zeros-after (x ∷ xs) (suc l) n k h = zeros-after xs l n k (omega arith)
 -- the bits of a value after its code, of the first n
 pub value-bits : (n : ℕ) (bits : List Bool) (l s : ℕ) → l + s ≤ n
     → take s (drop l (next_bits n bits)) ≡ take s (drop l bits ++ replicate s false)
-value-bits n bits l s h =
-    let z = bits ++ replicate n false in
-    let e : n ≡ l + (n - l) = omega arith in grind (arith, common_steps, nat_tests, drop-take, take-take, zeros-after)
+value-bits n bits l s h = let e : n ≡ l + (n - l) = omega arith in grind (arith, drop-take, take-take, zeros-after)
 
 abbrev pub size_of : Table → ℕ × ℕ → ℕ
 size_of table c = get_or table.symbols c.0 0 % 16

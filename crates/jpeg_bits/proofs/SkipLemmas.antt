@@ -232,11 +232,7 @@ module _ (table : Table) (counted : length table.counts ≡ 16) (bits : List Boo
 
 -- none at all
 pub skip-none : (table : Table) (bits : List Bool) → IsSkip table bits no_skip
-skip-none table bits = record {
-  few = omega arith;
-  some = λ e. omega arith;
-  passes = λ room lt most t b. absurd (omega (arith, lt, most));
-}
+skip-none table bits = grind arith
 
 pub twelve_front : (number : ℕ) (bits : List Bool) → low_bits 16 number ≡ next_16 bits
     → low_bits 12 (number / 16) ≡ next_bits 12 bits
@@ -247,9 +243,4 @@ twelve_front number bits e =
 -- what holds of the first places of a list, with one more
 pub set-holds : {A : Type 0} (P : ℕ → A → Type 0) (xs : List A) (i : ℕ) (v d : A) → i < length xs
     → ((k : ℕ) → k < i → P k (get_or xs k d)) → P i v → (k : ℕ) → k < i + 1 → P k (get_or (set xs i v) k d)
-set-holds P xs i v d lt below here k h =
-    elim (cases_lt k i) [
-      | inl l ↦ subst (P k) (sym (get_or-set_other xs i k v d (λ e. omega (arith, l, e)))) (below k l)
-      | inr g ↦ let e : i ≡ k = omega (arith, g, h) in subst (λ (j : ℕ). P j (get_or (set xs i v) j d)) e
-          (subst (P i) (sym (get_or-set_same xs i v d lt)) here)
-    ]
+set-holds P xs i v d lt below here k h = grind (arith, cases_lt, get_or-set_other, get_or-set_same)

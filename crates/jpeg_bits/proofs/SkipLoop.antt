@@ -40,15 +40,11 @@ module _ (table : Table) (room left : ℕ) (a b d e : Ahead) (old cur mid new : 
 
   pub skip-refused : 0 < left → (x : Error) → Takes (λ (k : Token). k) (token_from table left) d mid (Err x) e new
       → Takes (λ (run : ℕ). run) (run_of table room) a old (Err x) e new
-  skip-refused some x h =
-      Leaves-err (λ (run : ℕ). run) (λ (k : Token). k) (run_of table room) _ _ a d e old mid new _
-      (λ t f is. run-token table left t some ∙ ap (read_on (run_after (run_of table) left)) is) text-buffered h
+  skip-refused some x h = grind (arith, run-token, text-buffered)
 
   pub skip-token : 0 < left → (k : Token) → Takes (λ (k : Token). k) (token_from table left) d mid (Ok k) e new
       → Leaves (run_of table room) a old (run_after (run_of table) left k) e new
-  skip-token some k h =
-      Leaves-ok (λ (k : Token). k) (run_of table room) _ _ _ a d _ old mid _ _
-      (λ t u is. run-token table left t some ∙ ap (read_on (run_after (run_of table) left)) is) text-buffered h
+  skip-token some k h = grind (arith, run-token, text-buffered)
 
   pub skip-overlong : 0 < left → Takes (λ (k : Token). k) (token_from table left) d mid (Ok Overlong) e new
       → Takes (λ (run : ℕ). run) (run_of table room) a old (Ok 0) e new
@@ -104,6 +100,4 @@ module _ (table : Table) (room left : ℕ) (a b d e : Ahead) (old cur mid new : 
 pub skip-all : (table : Table) (room left : ℕ) (a b : Ahead) (old new : Stream) → left ≡ 0
     → Leaves (run_of table room) a old (run_of table left) b new
     → Takes (λ (run : ℕ). run) (run_of table room) a old (Ok 0) b new
-skip-all table room left a b old new none p =
-    Leaves-end (λ (run : ℕ). run) (run_of table room) _ a _ old _ _
-    (λ t. ap (λ (k : ℕ). run_of table k t) none ∙ run-none table t) p
+skip-all table room left a b old new none p = grind (arith, run-none)

@@ -136,10 +136,7 @@ module _ (table : Table) (room : ℕ) (t : Text) (used : ℕ) (more : List Bool)
 -- the next bits of a text are seen from those that are buffered
 pub front-text : (n : ℕ) (bits : List Bool) (met : Option DataEnd) (bytes : List ℕ) → n ≤ 16 → IsFilled n bits met
     → next_bits n (upcoming_by bits met bytes).bits ≡ next_bits n bits
-front-text n bits met bytes le filled =
-    let xs = (upcoming_by bits met bytes).bits in
-    same_zeros xs n n 16 (omega arith) (omega arith) ∙ sym (take-take n 16 (xs ++ replicate 16 false) le)
-    ∙ next-buffered n bits met bytes le filled
+front-text n bits met bytes le filled = grind (arith, common_steps, nat_tests, same_zeros, take-take, next-buffered)
 
 -- a value that is seen after the first of the next 11 bits
 pub value-buffered : (table : Table) (room : ℕ) (bits : List Bool) (met : Option DataEnd) (bytes : List ℕ) (used : ℕ)
