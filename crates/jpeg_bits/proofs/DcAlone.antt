@@ -1,7 +1,8 @@
 -- Blocks of a first pass of which DC alone is kept.
-use Rattle.std.proofs.Common.{◌≡◌, ℕ, ℤ, zero, suc, ◌+◌, Bool, true, false, List, [], ◌∷◌, ◌++◌, length}
-use Rattle.std.proofs.Common.{take, drop, map, pos, set, Result, Ok, Err, refl, sym, ap, ap₂, subst, ◌∙◌}
-use Rattle.std.proofs.Common.{arith, length-append, length-take, length-drop, Option}
+use Rattle.std.proofs.Common.{◌≡◌, ℕ, ℤ, zero, suc, ◌+◌, Bool, true, false, List, [], ◌∷◌, ◌++◌}
+use Rattle.std.proofs.Common.{length, take, drop, map, pos, set, Result, Ok, Err, refl, sym, ap}
+use Rattle.std.proofs.Common.{ap₂, subst, ◌∙◌, arith, length-append, length-take, length-drop}
+use Rattle.std.proofs.Common.{Option}
 use Rattle.std.proofs.lemmas.List.{length-map}
 use Rattle.std.proofs.lemmas.Bool.{false≢true}
 use Rattle.jpeg_bits.specs.Reading.{Fault}
@@ -19,7 +20,7 @@ use Rattle.jpeg_bits.specs.declared.error.Error.{Error}
 use Rattle.jpeg_bits.proofs.BandLoop.{Leaves}
 use Rattle.jpeg_bits.proofs.Loops.{Names-through}
 use Rattle.jpeg_bits.proofs.SkipLemmas.{first-measured, measured, of_length}
-use Rattle.jpeg_bits.proofs.ZigzagParts.{band-is, band-length, dc-put}
+use Rattle.jpeg_bits.proofs.ZigzagIndices.{band-is, band-length, dc-put}
 use Rattle.jpeg_bits.proofs.WholeBlocks.{refused_after}
 
 -- what is made of what a call reads

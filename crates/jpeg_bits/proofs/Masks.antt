@@ -1,27 +1,129 @@
 -- The bits of a mask, and the coefficients that they stand for.
-use Rattle.std.proofs.Common.{◌≡◌, ℕ, zero, suc, ◌+◌, ◌-◌, ◌/◌, ◌%◌, ◌^◌, ◌<◌, ◌≤◌, ◌==◌, List, [], ◌∷◌, length, get_or}
-use Rattle.std.proofs.Common.{set, map, replicate, cond, not, false, Bool, nat_eq, if◌then◌else◌, ℤ, pos, refl, sym, ap}
-use Rattle.std.proofs.Common.{◌∙◌, arith, w8, w16, w64, FitsSigned, Ok, shr-shr, take, lit<}
+use Rattle.std.proofs.Math.Pow.{pow_mono}
+use Rattle.std.proofs.lemmas.Bool.{eqb-true, cases_lt, false≢true, lt-ltb, ne_eqb}
+use Rattle.std.proofs.lemmas.Int.{int_wrap_fits, to_z-of_z}
+use Rattle.std.specs.Int.{int_wrap, cast_unsigned, bit_at, bit_not, cast_signed}
+use Rattle.jpeg_bits.specs.Passes.{or_bit}
+use Rattle.std.proofs.Common.{true, false, ◌==◌, ◌+ℤ◌, ◌≡◌, ℕ, suc, ◌+◌, ◌-◌, ◌/◌, ◌%◌, ◌^◌, ◌<◌}
+use Rattle.std.proofs.Common.{◌≤◌, ℤ, pos, negsuc, refl, ap, ◌∙◌, arith, w16, FitsSigned, ◌*◌, Bool}
+use Rattle.std.proofs.Common.{Option, Some, None, Result, Ok, sym, pow_mono, zero, List, [], ◌∷◌}
+use Rattle.std.proofs.Common.{length, get_or, set, map, replicate, cond, not, nat_eq, if◌then◌else◌}
+use Rattle.std.proofs.Common.{w8, w64, shr-shr, take, lit<}
+use Rattle.jpeg_bits.specs.Refinement.{bit_of, is_zero}
+use Rattle.jpeg_bits.specs.Stream.{Stream}
+use Rattle.jpeg_bits.specs.Reading.{Fault, ◌>>=◌, Names, MayFail, Gives}
+use Rattle.jpeg_bits.specs.Refusals.{answer_of}
+use Rattle.jpeg_bits.specs.Entropy.{Text, Ahead, Takes, bits_from, upcoming}
+use Rattle.jpeg_bits.specs.Pieces.{corrected_from, moved_within, distance_of}
+use Rattle.jpeg_bits.specs.declared.error.Error.{Error}
+use Rattle.jpeg_bits.proofs.Loops.{Names-through}
+use Rattle.jpeg_bits.proofs.PieceWalks.{by_bool, walk_at, at-skip, at-stop, at-end, at-value}
 use mir.Val.{Val}
 use denote.Array.{each}
 use denote.Shadow.{shadow}
 use denote.Signed.{SInt}
-use Rattle.std.specs.Int.{bit_at, bit_not, cast_signed, cast_unsigned}
 use Rattle.std.specs.Int.Count.{count_trailing_zeros, trailing_of_zero}
 use Rattle.std.specs.Simd.Lanes.{sel_l, mask_l, zip2, top, Each1}
-use Rattle.std.proofs.lemmas.Bool.{ne_eqb}
-use Rattle.std.proofs.lemmas.Int.{to_z-of_z}
 use Rattle.std.proofs.lemmas.Nat.Bits.{bit_at-zero, bit_at-trailing_zeros, bit_at_not, bit_at-lt}
 use Rattle.std.proofs.lemmas.Simd.{tops_compared, zip2_splat, bitmask_splat, bit_mask_l}
-use Rattle.std.proofs.lemmas.List.{get_or-set_other, set-get_or, take_all, length-map, get_or-map as get_or-map_within}
+use Rattle.std.proofs.lemmas.List.{get_or-set_other, set-get_or, take_all, length-map}
+use Rattle.std.proofs.lemmas.List.{get_or-map as get_or-map_within}
 use Rattle.std.proofs.Math.ListN.{get_or-map}
 use Rattle.jpeg_bits.specs.Zigzag.{zigzag}
 use Rattle.jpeg_bits.specs.ZigzagParts.{zigzag_part}
 use Rattle.jpeg_bits.specs.Masks.{coefficient_at, MarksFrom, marked}
-use Rattle.jpeg_bits.specs.Entropy.{Text, bits_from}
-use Rattle.jpeg_bits.proofs.BlockWalks.{walk_at, at-skip, at-stop, at-end, at-value}
-use Rattle.jpeg_bits.proofs.Corrections.{index-kept}
-use Rattle.jpeg_bits.proofs.ZigzagParts.{part-get, part-set}
+use Rattle.jpeg_bits.proofs.ZigzagIndices.{part-get, part-set}
+
+-- a number to 13, one by one
+pub by_level : (P : ℕ → Type 0) → P 0 → P 1 → P 2 → P 3 → P 4 → P 5 → P 6 → P 7 → P 8 → P 9 → P 10 → P 11 → P 12 → P 13
+    → (al : ℕ) → al ≤ 13 → P al
+by_level P p0 p1 p2 p3 p4 p5 p6 p7 p8 p9 p10 p11 p12 p13 al h = grind arith
+
+negative : (n : ℕ) → n < 32768 → (al : ℕ) → al ≤ 13 → (65535 - n) / 2 ^ al % 2 ≡ 1 - n / 2 ^ al % 2
+negative n f = by_level (λ al. (65535 - n) / 2 ^ al % 2 ≡ 1 - n / 2 ^ al % 2) (omega arith) (omega arith) (omega arith)
+    (omega arith) (omega arith) (omega arith) (omega arith) (omega arith) (omega arith) (omega arith) (omega arith)
+    (omega arith) (omega arith) (omega arith)
+
+pub unsigned_bit : (al : ℕ) (z : ℤ) → al ≤ 13 → FitsSigned w16 z → cast_unsigned w16 z / 2 ^ al % 2 ≡ bit_of al z
+unsigned_bit al (pos n) h f = refl
+unsigned_bit al (negsuc n) h f = let s = f.sfits in let e : 65536 - suc n ≡ 65535 - n =
+    omega arith in ap (λ (k : ℕ). k / 2 ^ al % 2) e ∙ negative n (omega arith) al h
+
+set-below : (n : ℕ) → n < 32768 → (al : ℕ) → al ≤ 13 → n / 2 ^ al % 2 ≡ 0 → n + 2 ^ al < 32768
+set-below n f = by_level (λ al. n / 2 ^ al % 2 ≡ 0 → n + 2 ^ al < 32768) (λ h. omega arith) (λ h. omega arith)
+    (λ h. omega arith) (λ h. omega arith) (λ h. omega arith) (λ h. omega arith) (λ h. omega arith) (λ h. omega arith)
+    (λ h. omega arith) (λ h. omega arith) (λ h. omega arith) (λ h. omega arith) (λ h. omega arith) (λ h. omega arith)
+
+-- ---- a bit that is set
+
+pub or_none : (al : ℕ) (z : ℤ) (b : ℕ) → b ≡ 0 → or_bit al z b ≡ z
+or_none al z b e = grind arith
+
+pub or_kept : (al : ℕ) (z : ℤ) (b : ℕ) → (bit_of al z == 0) ≡ false → or_bit al z b ≡ z
+or_kept al z b e = rw (e, or_bit) refl
+
+after : (n k : ℕ) → n < 32768 → k < 32768 → FitsSigned w16 (negsuc n +ℤ pos k)
+after n k h i = grind (arith, cases_lt)
+
+set-fits : (al : ℕ) (z : ℤ) → al ≤ 13 → FitsSigned w16 z → bit_of al z ≡ 0 → FitsSigned w16 (z +ℤ pos (2 ^ al))
+set-fits al z h f e = grind (arith, set-below, pow_mono, after)
+
+pub or_set : (al : ℕ) (z : ℤ) (b : ℕ) → al ≤ 13 → FitsSigned w16 z → (bit_of al z == 0) ≡ true → b ≡ 1
+    → int_wrap w16 (z +ℤ pos (2 ^ al)) ≡ or_bit al z b
+or_set al z b h f t e = grind (arith, int_wrap_fits, set-fits, eqb-true)
+
+pub ruleset or_rules = (or_set, or_kept)
+
+-- ---- a number that isn't 0, and its correction bit
+
+-- at most the unit of the highest level
+pub small_distance : (b l p : ℕ) → b < 2 → l < 2 → p ≤ 8192 → b * l * p ≤ 8192
+small_distance b l p h k m = grind arith
+
+-- a number that isn't moved
+stays : (z : ℤ) (n : ℕ) → FitsSigned w16 z → n ≡ 0 → moved_within n z ≡ Ok z
+stays z n f e = grind (arith, lt-ltb)
+
+-- a value, and the text after it
+abbrev pub given : {Y : Type 0} → Text → Result Y Fault → Result (Y × Text) Fault
+given {Y} u o = ◌>>=◌ {B = Y × Text} o (λ m. Ok (m, u))
+
+pub index-moved : (al : ℕ) (z : ℤ) (b : ℕ) (t u : Text) → is_zero z ≡ false → FitsSigned w16 z → b
+    < 2
+    → bits_from 1 t ≡ Ok (b, u)
+    → corrected_from al z t ≡ given u (moved_within (distance_of al z b) z)
+unfolding corrected_from
+index-moved al z b t u n f h e = grind (arith, stays, ne_eqb)
+
+fails : {Y : Type 0} (e : Error) (o : Result Y Fault) (a b : Bool) → b ≡ a → Names e o → MayFail e a b
+fails e o a b s n = grind arith
+
+-- A value that is made of one that was taken.
+pub Takes-given : {X Y : Type 0} (whole : Text → Result (Y × Text) Fault) (read : Text → Result (X × Text) Fault)
+    (a d : Ahead) (old new : Stream) (x : X) (outcome : Result Y Fault) (y : Option Y) (refusal : Option Error)
+    → ((t u : Text) → read t ≡ Ok (x, u) → whole t ≡ given u outcome)
+    → Takes (λ x. x) read a old (Ok x) d new → Gives outcome (answer_of y refusal)
+    → Takes (λ y. y) whole a old (answer_of y refusal) d new
+Takes-given {X} {Y} whole read a d old new x outcome (Some y) refusal step p g = (
+  p.0,
+  λ k. let at = p.1 k in (at.0, step _ _ at.1 ∙ ap (given (upcoming d new.bytes)) g),
+)
+Takes-given {X} {Y} whole read a d old new x outcome None refusal step p g = (
+  fails _ outcome _ _ p.0 g,
+  λ k known. let at = p.1 k in
+      Names-through _ _ _ (λ f h. step _ _ at.1 ∙ ap (given (upcoming d new.bytes)) h) g,
+  λ k known. absurd (false≢true (sym known ∙ (p.1 k).0)),
+)
+
+-- a place whose correction bit is 0 stays
+pub index-kept : (al : ℕ) (z : ℤ) (t : Text) → bits_from 1 t ≡ Ok (0, t) → corrected_from al z t ≡
+    Ok (z, t)
+unfolding corrected_from
+index-kept al z t e = by_bool (is_zero z) (λ zero. rw zero refl) (λ some. rw (some, e) refl)
+
+pub ruleset distances = (pow_mono, unsigned_bit, small_distance)
+
+-- ---- the bits of a mask, and the coefficients that they stand for
 
 -- each coefficient fits, by what its type says
 pub block_fits : (xs : List ℤ) (us : List Val) → shadow (each ℤ (SInt w16).own_val xs us) → (k : ℕ)

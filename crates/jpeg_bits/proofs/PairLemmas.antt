@@ -1,15 +1,17 @@
 -- The values that 11 bits begin with, one or two: how their look-up table is filled, and how they are read.
 use Rattle.std.proofs.lemmas.Bool.{false≢true}
 use Rattle.std.proofs.lemmas.Bool.Decides.{nat_tests}
-use Rattle.std.proofs.Common.{◌≡◌, ℕ, ℤ, zero, suc, ◌+◌, ◌-◌, ◌*◌, ◌%◌, ◌^◌, ◌<◌, ◌≤◌, nat_lt, ◌==◌, ◌||◌, Bool, true}
-use Rattle.std.proofs.Common.{false, List, [], ◌∷◌, ◌++◌, length, drop, replicate, get_or, set, pos, ◌*ℤ◌, Option}
-use Rattle.std.proofs.Common.{Some, None, if◌then◌else◌, Ok, refl, sym, ap, ◌∙◌, subst, arith, length-set, is_ok}
+use Rattle.std.proofs.Common.{◌≡◌, ℕ, ℤ, zero, suc, ◌+◌, ◌-◌, ◌*◌, ◌%◌, ◌^◌, ◌<◌, ◌≤◌, nat_lt, ◌==◌}
+use Rattle.std.proofs.Common.{◌||◌, Bool, true, false, List, [], ◌∷◌, ◌++◌, length, drop, replicate}
+use Rattle.std.proofs.Common.{get_or, set, pos, ◌*ℤ◌, Option, Some, None, if◌then◌else◌, Ok, refl}
+use Rattle.std.proofs.Common.{sym, ap, ◌∙◌, subst, arith, length-set, is_ok}
 use Rattle.jpeg_bits.specs.Entropy.{Ahead, Takes, upcoming, IsFilled, has_buffered, same_text}
 use Rattle.jpeg_bits.specs.Stream.{Stream}
 use Rattle.jpeg_bits.specs.Codes.{Table}
-use Rattle.jpeg_bits.specs.ShortCodes.{symbol_in, short_value_by, short_value_of, next_bits, packed, HoldsWideValues}
-use Rattle.jpeg_bits.specs.Pairs.{ShortValue, no_pair, one_value, two_values, pair_by, value_in, pair_of, IsPairOf}
-use Rattle.jpeg_bits.specs.Pairs.{IsWithinPassed}
+use Rattle.jpeg_bits.specs.ShortCodes.{symbol_in, short_value_by, short_value_of, next_bits, packed}
+use Rattle.jpeg_bits.specs.ShortCodes.{HoldsWideValues}
+use Rattle.jpeg_bits.specs.Pairs.{ShortValue, no_pair, one_value, two_values, pair_by, value_in}
+use Rattle.jpeg_bits.specs.Pairs.{pair_of, IsPairOf, IsWithinPassed}
 use Rattle.jpeg_bits.specs.Written.{low_bits}
 use Rattle.jpeg_bits.specs.Bands.{wrapped, token_from}
 use Rattle.jpeg_bits.specs.Passes.{Pass}
@@ -20,7 +22,7 @@ use Rattle.jpeg_bits.specs.declared.codes.HuffmanTableClass.{HuffmanTableClass}
 use Rattle.jpeg_bits.specs.declared.pairs.Pair.{Pair}
 use Rattle.jpeg_bits.specs.declared.tokens.Token.{Token}
 use Rattle.jpeg_bits.specs.declared.tokens.Token.TheVariants.{Value}
-use Rattle.jpeg_bits.proofs.BlockLoop.{IsAtIndex, index-value}
+use Rattle.jpeg_bits.proofs.BlockParts.{IsAtIndex, index-value}
 use Rattle.jpeg_bits.proofs.BufferedBits.{ok_unit}
 use Rattle.jpeg_bits.proofs.ShortLemmas.{fewer-buffered}
 use Rattle.jpeg_bits.proofs.SkipLemmas.{bits_after}

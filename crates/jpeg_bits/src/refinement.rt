@@ -51,7 +51,7 @@ pub(crate) fn unit(al: u8) -> i16
 
 /// Returns whether bit `al` of a number's two's complement isn't set.
 #[inline]
-#[tactic(auto, using(std::proofs::lemmas::Int::wraps, crate::proofs::SetBits::unsigned_bit))]
+#[tactic(auto, using(std::proofs::lemmas::Int::wraps, crate::proofs::Masks::unsigned_bit))]
 pub(crate) fn lacks_bit(value: i16, al: u8) -> bool
     requires { al ≤ 13 }
     ensures { result ≡ (bit_of al value == 0) }
@@ -85,7 +85,7 @@ fn read_run<R: Read + Drop>(
 /// Returns how far a correction bit moves a number that isn't 0: by the unit of the point
 /// transform, where the bit is set and the number's own isn't.
 #[inline(always)]
-#[tactic(auto, using(std::proofs::lemmas::Int::wraps, crate::proofs::Corrections::distances))]
+#[tactic(auto, using(std::proofs::lemmas::Int::wraps, crate::proofs::Masks::distances))]
 fn distance(value: i16, al: u8, bit: u16) -> u16
     requires level { al ≤ 13 }
     requires bit { bit < 2 }

@@ -1,7 +1,7 @@
+use Rattle.jpeg_bits.proofs.refinement.correct_band.Goals as goal
 use Rattle.std.proofs.Common.{◌-◌, arith}
 use Rattle.jpeg_bits.specs.BlockView.{pass_in}
-use Rattle.jpeg_bits.proofs.BlockRefinement.{band-corrected}
-use Rattle.jpeg_bits.proofs.refinement.correct_band.Goals as goal
+use Rattle.jpeg_bits.proofs.RefinedBands.{band-corrected}
 
 pub returns-clause-band : goal.returns-clause-band
 returns-clause-band g c =

@@ -1,7 +1,7 @@
+use Rattle.jpeg_bits.proofs.ahead.BufferedBits.take_buffered_code.Goals as goal
 use Rattle.std.proofs.Common.{rules, arith, ap, ◌∙◌, sym}
 use Rattle.jpeg_bits.specs.Entropy.{Ahead}
-use Rattle.jpeg_bits.proofs.ShortSymbols.{Code-buffered, Code-none, Code-refused}
-use Rattle.jpeg_bits.proofs.ahead.BufferedBits.take_buffered_code.Goals as goal
+use Rattle.jpeg_bits.proofs.ShortLemmas.{Code-buffered, Code-none, Code-refused}
 
 pub returns-in_default-clause-code : goal.returns-in_default-clause-code
 returns-in_default-clause-code c = search (rules, Code-none)
