@@ -105,13 +105,13 @@ bit_le b = grind arith
 pub pow_more : (i : ℕ) → 2 ^ (i + 1) ≡ 2 * 2 ^ i
 pow_more i = rw add-one (omega (arith, pow-suc 2 i))
 
-pub Takes-end : (u : Unit {0}) (a b : Ahead) (old new : Stream) (met : Option DataEnd)
+pub takes_end : (u : Unit {0}) (a b : Ahead) (old new : Stream) (met : Option DataEnd)
     (r : Result (Option Marker) Error) → IsFilled 57 b.bits b.met → b.met ≡ met → Gives
     (marker_at_end met) r
     → Takes (λ (x : Unit {0}). 0) same_text a old (Ok u) b new
     → Answers (λ (m : Option Marker). m) (λ bytes. marker_from (upcoming a bytes)) old r new
-Takes-end u a b old new met (Ok m) h e g p = Takes-marker u a b old new m h (ap marker_at_end e ∙ g) p
-Takes-end u a b old new met (Err e) h is g p =
+takes_end u a b old new met (Ok m) h e g p = Takes-marker u a b old new m h (ap marker_at_end e ∙ g) p
+takes_end u a b old new met (Err e) h is g p =
     Takes-no_marker u a b old new e h (rw is g) (MayFail-same e (marker_at_end b.met) new.failed (rw is g)) p
 
 -- after a marker zeros come without end

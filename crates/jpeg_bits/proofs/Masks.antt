@@ -190,9 +190,9 @@ marked_lanes zs n f =
     ∙ zip2_splat differ (residues zs) 64 0 (length-map zs (cast_unsigned w16) ∙ n))
     ∙ ap (λ (m : ℕ). chosen m (map (λ (x : ℕ). differ x 0) (residues zs))) (sym n) ∙ marked-all zs f
 
-pub marked-small : (zs : List ℤ) → Each1 (λ x. x < 256) (map marked zs)
-marked-small [] = tt
-marked-small (z ∷ zs) = grind (arith, marked-small zs)
+pub marked_small : (zs : List ℤ) → Each1 (λ x. x < 256) (map marked zs)
+marked_small [] = tt
+marked_small (z ∷ zs) = grind (arith, marked_small zs)
 
 abbrev pub one_or : Bool → ℕ
 one_or b = if b then 0 else 1
@@ -200,9 +200,9 @@ one_or b = if b then 0 else 1
 either : (b : Bool) → cond (not b) 1 0 ≡ one_or b
 either b = grind arith
 
-pub bits-of : (values : List ℕ) (k : ℕ) → length values ≡ 64
+pub mask_bits : (values : List ℕ) (k : ℕ) → length values ≡ 64
     → bit_at (mask_l (map (top 7) (compared 255 values)) % 2 ^ 64) k ≡ one_or (get_or values k 0 == 0)
-bits-of values k n =
+mask_bits values k n =
     ap (λ (m : ℕ). bit_at m k) (bitmask_splat w8 differ values 64 0 n (omega arith))
     ∙ bit_mask_l (map (λ (x : ℕ). differ x 0) values) k
     ∙ ap (λ (b : Bool). cond b 1 0) (get_or-map (λ (x : ℕ). differ x 0) values k 0)

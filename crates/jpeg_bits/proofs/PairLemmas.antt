@@ -61,10 +61,10 @@ few-in : (class : HuffmanTableClass) (bits : List Bool) (o : Option (ℕ × ℕ)
 few-in class bits o = grind arith
 
 -- the entry of any bits is small
-pub pair-small : (table : Table) (bits : List Bool) (p : Pair) → p ≡ pair_of table bits →
+pub pair_small : (table : Table) (bits : List Bool) (p : Pair) → p ≡ pair_of table bits →
     IsWithinPassed p
 unfolding pair_of pair_by
-pair-small table bits p is = grind (arith, small-by, nat_lt, few-in, few-both)
+pair_small table bits p is = grind (arith, small-by, nat_lt, few-in, few-both)
 
 -- what is found: one value, or two
 pub data Seen (table : Table) (bits : List Bool) : Pair → Type 0 where

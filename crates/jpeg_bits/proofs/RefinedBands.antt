@@ -437,13 +437,13 @@ whole-in : (p : Pass) (block : List ℤ) (start zeros : ℕ) (t : Text) → IsPa
     >>= λ (w : (ℕ × List ℤ) × Text). Ok (w.0.1, w.1))
 whole-in p block start zeros t is s z = grind (arith, band-length, whole_piece)
 
-pub band-corrected : (p : Pass) (block new : List ℤ) (start zeros : ℕ) (a b : Ahead) (old cur : Stream)
+pub band_is_corrected : (p : Pass) (block new : List ℤ) (start zeros : ℕ) (a b : Ahead) (old cur : Stream)
     (next : Option ℕ) (refusal : Option Error) (done : Bool) → IsPass p → start ≡ band_start p
     → zeros ≡ band_end p - start → done ≡ is_some next
     → Takes (to_piece p start new) (piece_at p block start zeros) a old (answer_of next refusal) b cur
     → Takes (λ (u : Unit {0}). band_in p new) (corrected p.al (band_in p block)) a old
     (outcome_of done refusal) b cur
-band-corrected p block new start zeros a b old cur (Some next) refusal done is s z e q =
+band_is_corrected p block new start zeros a b old cur (Some next) refusal done is s z e q =
     rw e (
       q.0,
       λ known. let at = q.1 known in (
@@ -453,7 +453,7 @@ band-corrected p block new start zeros a b old cur (Some next) refusal done is s
             ∙ ap (λ (k : ℕ). Ok (rest_in p k new, upcoming b cur.bytes)) s,
       ),
     )
-band-corrected p block new start zeros a b old cur None refusal done is s z e q =
+band_is_corrected p block new start zeros a b old cur None refusal done is s z e q =
     rw e (Leaves-err (λ (u : Unit {0}). band_in p new) (to_piece p start new) (corrected p.al
     (band_in p block)) (corrected p.al (band_in p block)) (piece_at p block start zeros) _ a b _ old cur _
     (λ t f h. whole-in p block start zeros t is s z

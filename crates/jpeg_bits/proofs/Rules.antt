@@ -1,4 +1,7 @@
 -- Lemmas that the proofs of functions use, by what they are about.
+use Rattle.jpeg_bits.proofs.WrittenBits.{takes-number}
+use Rattle.jpeg_bits.proofs.Fast.{tokens-same}
+use Rattle.jpeg_bits.proofs.ShortLemmas.{Code-buffered, Code-none}
 use Rattle.std.proofs.Common.{div-le_self, pow_mono}
 use Rattle.std.proofs.lemmas.Grind.{common_steps}
 use Rattle.std.proofs.lemmas.Result.{err_from_is_err_and}
@@ -18,7 +21,7 @@ use Rattle.std.proofs.lemmas.Int.{wraps}
 use Rattle.jpeg_bits.proofs.ShortLemmas.{run-most, run-same, fast-not, fast-refused, fast-taken}
 use Rattle.jpeg_bits.proofs.ShortLemmas.{value_below, value_number}
 use Rattle.jpeg_bits.proofs.Tables.{exist-tested, tested-exist, good-table, takes-symbol}
-use Rattle.jpeg_bits.proofs.EndLemmas.{is-found, only-found, none-found, none-there}
+use Rattle.jpeg_bits.proofs.EndLemmas.{ends-so, is-found, only-found, none-found, none-there}
 use Rattle.jpeg_bits.proofs.DefaultTables.{luminance-dc-codes, chrominance-dc-codes}
 use Rattle.jpeg_bits.proofs.DefaultTables.{luminance-ac-codes, chrominance-ac-codes, untouched}
 use Rattle.jpeg_bits.proofs.DefaultTables.{done}
@@ -82,3 +85,9 @@ pub ruleset values = (wraps, value_below, value_number)
 
 -- what is read of a slice
 pub ruleset taken = (takes-first)
+
+-- the laws of what is written, and of what is looked up
+pub ruleset laws = (ends-so, takes-number, tokens-same)
+
+-- a code of bits that are held
+pub ruleset buffered = (Code-buffered, Code-none)

@@ -312,6 +312,7 @@ impl BufferedBits {
     /// bits are buffered, or the end is reached. A refusal is stored in `refusal`, and none is
     /// returned.
     #[inline(always)]
+    #[tactic(auto, using(crate::proofs::Rules::buffered))]
     pub(crate) fn take_buffered_code(
         &mut self,
         table: &HuffmanTable,

@@ -178,6 +178,7 @@ fn in_zigzag(values: u8x64) -> u8x64
 
 /// Sets the bits of a number at the indices of the values that aren't 0.
 #[inline(always)]
+#[tactic(auto, using(crate::proofs::Masks::mask_bits))]
 fn bits_of(values: u8x64) -> u64
     requires { length values ≡ 64 }
     ensures { (k : ℕ) → bit_at result k ≡ (if slice_index values k == 0 then 0 else 1) }
@@ -187,6 +188,7 @@ fn bits_of(values: u8x64) -> u64
 
 /// Sets the bits of a number at the zigzag indices of the coefficients that aren't 0.
 #[inline(always)]
+#[tactic(auto, using(crate::proofs::Masks::marked_small))]
 fn mask_of(block: [i16; 64]) -> u64
     ensures { MarksFrom result 0 block }
 {
