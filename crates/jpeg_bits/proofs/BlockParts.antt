@@ -168,16 +168,9 @@ pub some_indices : (ss se : ℕ) (block : List ℤ) → ss ≤ se → se ≤ 63 
     → 0 < length (zigzag_part (ss - 1 + 1) (se + 1) block)
 some_indices ss se block order end some = omega (arith, pos-of-ne, part-length)
 
-pub ruleset band_rules = (
-  no_indices,
-  some_indices,
-  band_none,
-  band_run,
-  band_first,
-  band_refined,
-  band_corrected,
-  band_refused,
-)
+pub ruleset band_steps = (band_none, band_run, band_first, band_refined, band_corrected, band_refused)
+
+pub ruleset band_rules = (no_indices, some_indices, band_steps)
 
 -- ---- DC
 

@@ -123,22 +123,9 @@ module _ (p : Pass) (dc ac : Table) (predictor : ℤ) (run : ℕ) (block : List 
       go : (r : Result (Unit {0}) Error)
           → Takes (λ (u : Unit {0}). more) (run_part ac (length (band_of p acs)) run) b cur r d new
           → Takes (λ (u : Unit {0}). (kept false (to_block (set block 0 value)), next, more)) whole a old r d new
-      go (Ok u) q = (
-        q.0 ∙ left.0,
-        λ known.
-            let at = left.1 known in
-            let by = q.1 at.0 in (
-              by.0,
-              at.1 ∙ ap (read_on (λ (k : ℕ). gives (record { dc = value; acs = zeros_of acs }, next, k))) by.1
-                  ∙ ap (λ (x : Block). Ok ((x, next, more), upcoming d new.bytes)) (sym put),
-            ),
-      )
+      go (Ok u) q = grind (arith, put)
       go (Err e) q =
-          refused_after (λ (u : Unit {0}). (kept false (to_block (set block 0 value)), next, more))
-          (λ (u : Unit {0}). more) whole (dc_turn p ac run acs (value, next))
-          (run_part ac (length (band_of p acs)) run) a b d old cur new e
-          (λ t fault is'. ap (read_on (λ (k : ℕ). gives (record { dc = value; acs = zeros_of acs }, next, k)))
-          is') left q
+          grind arith
 
 -- a block of the same DC, and of as many others, is read alike
 pub blocks-alike : (p : Pass) (dc ac : Table) (predictor : ℤ) (run : ℕ) (b c : Block) (t : Text) → p.is_first ≡ true
@@ -154,16 +141,7 @@ blocks-alike p dc ac predictor run b c t f e =
     long xs = grind (arith, length-map)
 
     same-size : zeros_of b.acs ≡ zeros_of c.acs → length (band_of p b.acs) ≡ length (band_of p c.acs)
-    same-size h = omega (
-      arith,
-      ap (λ (l : List ℤ). length l) h,
-      long b.acs,
-      long c.acs,
-      length-take (band_size p) (drop (before_band p) b.acs),
-      length-take (band_size p) (drop (before_band p) c.acs),
-      length-drop (before_band p) b.acs,
-      length-drop (before_band p) c.acs,
-    )
+    same-size h = let e = ap (λ (l : List ℤ). length l) h in grind (arith, long, length-take, length-drop)
 
     go : b.dc ≡ c.dc → zeros_of b.acs ≡ zeros_of c.acs
         → read_on (dc_turn p ac run b.acs) (dc_part p dc b.dc predictor t)

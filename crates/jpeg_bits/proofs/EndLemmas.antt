@@ -34,13 +34,7 @@ add-placed : (bytes rest : List ℕ) (b : ℕ) (t : Text) → ((n : ℕ) → aft
     → IsPlaced rest t → IsPlaced bytes (add_byte b rest t)
 unfolding after_bytes
 add-placed bytes rest b t step h = record {
-  sized = omega (
-    arith,
-    length-append (replicate 8 rest) t.following,
-    length-replicate 8 rest,
-    length-append (bits_of b) t.bits,
-    h.sized,
-  );
+  sized = let s = h.sized in grind (arith, length-append, length-replicate);
   each = λ i lt. elim (cases_lt i 8) [
     | inl low ↦
         let z : i / 8 ≡ 0 = omega arith in

@@ -48,8 +48,7 @@ reads_after a b c n buffer p q = grind arith
 pub bytes-read : (bytes rest : List ℕ) → times (length bytes) next_byte (bytes ++ rest) ≡ Ok (bytes, rest)
 unfolding times
 bytes-read [] rest = refl
-bytes-read (b ∷ bytes) rest = bind_at _ (times (length bytes) next_byte (bytes ++ rest)) (bytes, rest)
-    (bytes-read bytes rest)
+bytes-read (b ∷ bytes) rest = grind (arith, bind_at, bytes-read bytes rest)
 
 bytes-end : (bytes : List ℕ) (n : ℕ) → length bytes < n → times n next_byte bytes ≡ Err End
 unfolding times

@@ -1,4 +1,5 @@
 -- Bands of a refinement: what is left after some places.
+use Rattle.std.proofs.Common.{rules}
 use Rattle.jpeg_bits.specs.Refinement as defined
 use Rattle.std.proofs.Common.{is_ok, ◌≡◌, ℕ, zero, suc, ◌+◌, ◌-◌, ◌<◌, ◌≤◌, List, [], ◌∷◌, ◌++◌}
 use Rattle.std.proofs.Common.{length, take, drop, set, ℤ, Result, Ok, Err, refl, sym, ap, ◌∙◌}
@@ -115,8 +116,7 @@ corrected-length al (z ∷ numbers) t = by_index (corrected_from al z t) (λ t. 
   where
     by_others : (y : ℤ) (o : Result (List ℤ × Text) Fault) → KeepsLength (length numbers) o
         → KeepsLength (length (z ∷ numbers)) (read_on (λ (ys : List ℤ). gives (y ∷ ys)) o)
-    by_others y (Ok x) h = omega (arith, h)
-    by_others y (Err e) h = tt
+    by_others y o h = grind arith
 
     by_index : (f : Result (ℤ × Text) Fault) → ((t : Text) → KeepsLength (length numbers) (corrected al numbers t))
         → KeepsLength (length (z ∷ numbers)) (read_on (λ (y : ℤ) (u : Text).
@@ -168,6 +168,8 @@ with_last-length : (v : ℤ) (xs : List ℤ) → length (with_last v xs) ≡ len
 unfolding with_last
 with_last-length v xs = length-set xs (length xs - 1) v
 
+ruleset fronts = (append_assoc, before-before, take_front, drop_front)
+
 -- what a piece that was read is
 data IsPiece (al r : ℕ) (rest : List ℤ) (t : Text) (n : ℕ) (ys : List ℤ) (u : Text) : Type 0 where
   piece : (front : List ℤ) → corrected al (take (through_zero r rest) rest) t ≡ Ok (front, u)
@@ -205,7 +207,7 @@ module _ (table : Table) (al i n : ℕ) (band nb rest ys : List ℤ) (t u : Text
     where
       by : IsPiece al 15 (drop i band) t n ys u → refined_step table al band i Zeros t ≡ refined_left table al nb
           (i + n) u
-      by (piece front c l m e) = grind (arith, front_length, append_assoc, before-before, take_front, drop_front)
+      by (piece front c l m e) = grind (arith, fronts, front_length)
 
   pub new_step : (r : ℕ) (v : ℤ) → 0 < n → piece_from al r rest t ≡ Ok ((n, ys), u)
       → refined_step table al band i (New r v) t ≡ refined_left table al (set nb (i + n - 1) v) (i + n) u
@@ -216,20 +218,9 @@ module _ (table : Table) (al i n : ℕ) (band nb rest ys : List ℤ) (t u : Text
       by : IsPiece al r (drop i band) t n ys u → refined_step table al band i (New r v) t ≡ refined_left table al
           (set nb (i + n - 1) v) (i + n) u
       by (piece front c l m e) =
-          let more = drop (through_zero r (drop i band)) (drop i band) in
           let j = length_short i band le in
           let k : length (take i band ++ front) ≡ i + n = front_length front ∙ omega arith in
-          grind (
-            arith,
-            append_assoc,
-            set-append_left,
-            set_last,
-            front_length,
-            with_last-length,
-            before-before,
-            take_front,
-            drop_front,
-          )
+          grind (arith, fronts, set-append_left, set_last, front_length, with_last-length)
 
   pub end_step : (run all : ℕ) → length rest ≤ all → piece_from al all rest t ≡ Ok ((n, ys), u)
       → refined_step table al band i (End run) t ≡ Ok ((nb, run), u)
@@ -284,8 +275,7 @@ pub refined-same : (table : Table) (al n : ℕ) (rest : List ℤ) (t : Text)
 unfolding refined_ac_at defined.refined_ac refinement_from
 refined-same table al n [] t = refl
 refined-same table al zero (x ∷ rest) t = refl
-refined-same table al (suc n) (x ∷ rest) t =
-    token-on _ _ _ (x ∷ rest) _ (refined-same table al n)
+refined-same table al (suc n) (x ∷ rest) t = search (rules, token-on, refined-same table al n)
 
 -- ---- bands of a refinement, by the zigzag places of a block in block order
 

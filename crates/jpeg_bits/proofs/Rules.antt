@@ -67,15 +67,11 @@ pub ruleset markers = (is-found, only-found, none-found, none-there)
 pub ruleset rests = (rests_trans, rests_keeps, reads_after, reads_some)
 
 -- the default tables
-pub ruleset defaults = (
-  luminance-dc-codes,
-  chrominance-dc-codes,
-  luminance-ac-codes,
-  chrominance-ac-codes,
-  untouched,
-  done,
-  err_from_is_err_and,
-)
+pub ruleset luminance = (luminance-dc-codes, luminance-ac-codes)
+
+pub ruleset chrominance = (chrominance-dc-codes, chrominance-ac-codes)
+
+pub ruleset defaults = (luminance, chrominance, untouched, done, err_from_is_err_and)
 
 -- a short value
 pub ruleset fast = (wraps, fast-not, fast-refused, fast-taken)

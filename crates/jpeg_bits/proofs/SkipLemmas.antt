@@ -120,12 +120,8 @@ first-measured table al (suc n) (x ∷ rest) t =
         let lt : r < length (x ∷ rest) = within (Value r v) u refl in
         let front = take r (x ∷ rest) ++ wrapped (v *ℤ pos (2 ^ al)) ∷ [] in
         let left = length-drop (r + 1) (x ∷ rest) in
-        let long : length front + length (drop (r + 1) (x ∷ rest)) ≡ length (x ∷ rest) = omega (
-          arith,
-          left,
-          length-append (take r (x ∷ rest)) (wrapped (v *ℤ pos (2 ^ al)) ∷ []),
-          length-take r (x ∷ rest),
-        ) in
+        let long : length front + length (drop (r + 1) (x ∷ rest)) ≡ length (x ∷ rest)
+        = grind (arith, length-append, length-take) in
         measured-after front (length (x ∷ rest)) (length (drop (r + 1) (x ∷ rest)))
         (first_ac table al n (drop (r + 1) (x ∷ rest)) u)
         (run_within table n (length (x ∷ rest) - (r + 1)) u) (subst (λ (l : ℕ).

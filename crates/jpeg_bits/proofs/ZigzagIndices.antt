@@ -70,10 +70,8 @@ length-in_block_order l = length-map zigzag_indices (λ index. get_or l index (p
 pub get_or-in_zigzag : (l : List ℤ) (k : ℕ) (d : ℤ) → k < 64
     → get_or (coefficients_in_zigzag l) k d ≡ get_or l (get_or zigzag k 0) (pos 0)
 unfolding coefficients_in_zigzag
-get_or-in_zigzag l k d h = get_or-map (λ index. get_or l index (pos 0)) zigzag k 0 d (omega (
-  arith,
-  length_zigzag,
-))
+get_or-in_zigzag l k d h =
+    get_or-map (λ index. get_or l index (pos 0)) zigzag k 0 d (omega (arith, length_zigzag))
 
 pub get_or-in_block_order : (l : List ℤ) (k : ℕ) (d : ℤ) → k < 64
     → get_or (coefficients_in_block_order l) k d ≡ get_or l (get_or zigzag_indices k 0) (pos 0)
@@ -103,19 +101,14 @@ in_zigzag-set l k v n h =
         ∙ sym (get_or-in_zigzag l i (pos 0) lt)
         ∙ sym (get_or-set_other (coefficients_in_zigzag l) k i v (pos 0) ne)
 
+ruleset orders = (length-in_block_order, get_or-in_block_order, get_or-in_zigzag, indices_lt, zigzag-indices)
+
 -- the two orders of a block's coefficients
 pub block_order-of-zigzag : (l : List ℤ) → length l ≡ 64
     → coefficients_in_block_order (coefficients_in_zigzag l) ≡ l
 block_order-of-zigzag l n =
     ext_get_or (pos 0) (coefficients_in_block_order (coefficients_in_zigzag l)) l
-    (length-in_block_order (coefficients_in_zigzag l) ∙ sym n) (grind (
-      arith,
-      length-in_block_order,
-      get_or-in_block_order,
-      get_or-in_zigzag,
-      indices_lt,
-      zigzag-indices,
-    ))
+    (length-in_block_order (coefficients_in_zigzag l) ∙ sym n) (grind (arith, orders))
 
 -- DC is first in both orders
 pub with_dc-in_zigzag : (l : List ℤ) → get_or l 0 (pos 0) ∷ drop 1 (coefficients_in_zigzag l)
