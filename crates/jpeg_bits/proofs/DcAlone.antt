@@ -19,7 +19,7 @@ use Rattle.jpeg_bits.specs.Skips.{run_of, run_part, dc_alone, kept, kept_turn}
 use Rattle.jpeg_bits.specs.declared.error.Error.{Error}
 use Rattle.jpeg_bits.proofs.BandLoop.{Leaves}
 use Rattle.jpeg_bits.proofs.Loops.{Names-through}
-use Rattle.jpeg_bits.proofs.SkipLemmas.{first-measured, measured, of_length}
+use Rattle.jpeg_bits.proofs.WideTokens.{first-measured, measured, of_length}
 use Rattle.jpeg_bits.proofs.ZigzagIndices.{band-is, band-length, dc-put}
 use Rattle.jpeg_bits.proofs.WholeBlocks.{refused_after}
 

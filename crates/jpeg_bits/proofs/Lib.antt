@@ -11,7 +11,6 @@ pub mod WrittenIntervals
 pub mod Reservoirs
 pub mod ShortLemmas
 pub mod WideTokens
-pub mod SkipLemmas
 pub mod Tables
 pub mod TakenTexts
 pub mod EndLemmas
@@ -21,7 +20,6 @@ pub mod BandLoop
 pub mod WholeBlocks
 pub mod BandSteps
 pub mod PairLemmas
-mod Masks
 pub mod PieceWalks
 pub mod RefinedBands
 pub mod BlockParts

@@ -25,8 +25,7 @@ use Rattle.jpeg_bits.specs.declared.tokens.Token.TheVariants.{Value}
 use Rattle.jpeg_bits.proofs.BlockParts.{IsAtIndex, index-value}
 use Rattle.jpeg_bits.proofs.BufferedBits.{ok_unit}
 use Rattle.jpeg_bits.proofs.ShortLemmas.{fewer-buffered}
-use Rattle.jpeg_bits.proofs.SkipLemmas.{bits_after}
-use Rattle.jpeg_bits.proofs.WideTokens.{value-buffered, wide-taken}
+use Rattle.jpeg_bits.proofs.WideTokens.{bits_after, value-buffered, wide-taken}
 
 -- ---- the look-up table
 

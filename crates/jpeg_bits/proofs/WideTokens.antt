@@ -1,29 +1,42 @@
 -- The next token: a value within the room that the next 11 bits begin with, or by its code.
 use Rattle.std.proofs.lemmas.Grind.{common_steps}
 use Rattle.std.proofs.lemmas.Bool.Decides.{nat_tests}
-use Rattle.std.proofs.Common.{◌≡◌, ℕ, ℤ, ◌+◌, ◌-◌, ◌/◌, ◌%◌, ◌^◌, ◌<◌, ◌≤◌, Bool, true, false, List, [], ◌++◌}
-use Rattle.std.proofs.Common.{length, take, drop, replicate, get_or, Option, Some, None, Result, Ok, Err, refl}
-use Rattle.std.proofs.Common.{sym, ap, ◌∙◌, arith, is_some, ltb, append_assoc, append-nil, length-drop}
-use Rattle.std.proofs.lemmas.Bool.{lt-ltb, false≢true}
+use Rattle.std.proofs.Common.{◌≡◌, ℕ, ℤ, ◌+◌, ◌-◌, ◌/◌, ◌%◌, ◌^◌, ◌<◌, ◌≤◌, Bool, true, false, List}
+use Rattle.std.proofs.Common.{[], ◌++◌, length, take, drop, replicate, get_or, Option, Some, None}
+use Rattle.std.proofs.Common.{Result, Ok, Err, refl, sym, ap, ◌∙◌, arith, is_some, ltb}
+use Rattle.std.proofs.Common.{append_assoc, append-nil, length-drop, zero, suc, ◌*◌, ◌∷◌, pos, ◌*ℤ◌}
+use Rattle.std.proofs.Common.{is_ok, subst, length-append, length-take, inl, inr, pow_pos, set}
+use Rattle.std.proofs.Common.{get_or-set_other, get_or-set_same}
+use Rattle.std.proofs.lemmas.Bool.{lt-ltb, false≢true, cases_lt}
 use Rattle.std.proofs.lemmas.List.{take-take, take-append-le, drop-append-le, drop-drop}
-use Rattle.jpeg_bits.specs.Entropy.{Text, Ahead, upcoming_by, upcoming, IsFilled, has_buffered, Takes, advance}
-use Rattle.jpeg_bits.specs.Entropy.{has_bits, bits_from, number_of, extended}
+use Rattle.jpeg_bits.specs.Entropy.{Text, Ahead, upcoming_by, upcoming, IsFilled, has_buffered}
+use Rattle.jpeg_bits.specs.Entropy.{Takes, advance, has_bits, bits_from, number_of, extended}
+use Rattle.jpeg_bits.specs.Entropy.{same_text}
 use Rattle.jpeg_bits.specs.Stream.{Stream}
 use Rattle.jpeg_bits.specs.declared.codes.HuffmanTableClass.{HuffmanTableClass}
 use Rattle.jpeg_bits.specs.declared.error.Error.{Error}
 use Rattle.jpeg_bits.specs.Codes.{Table, code_in, code_lengths, next_16, code_by, code_from}
 use Rattle.jpeg_bits.specs.ShortCodes.{named, symbol_in, short_value_by, short_value_of, next_bits}
-use Rattle.jpeg_bits.specs.Readers.{read_on, gives, signed_from}
-use Rattle.jpeg_bits.specs.Bands.{token_at, token_from}
+use Rattle.jpeg_bits.specs.Readers.{read_on, gives, signed_from, Reads}
+use Rattle.jpeg_bits.specs.Bands.{token_at, token_from, Band, IsWithinRoom, before_more, wrapped}
+use Rattle.jpeg_bits.specs.Bands.{after_token, first_ac}
 use Rattle.jpeg_bits.specs.declared.ahead.DataEnd.{DataEnd}
 use Rattle.jpeg_bits.specs.declared.tokens.Token.{Token}
-use Rattle.jpeg_bits.specs.declared.tokens.Token.TheVariants.{Value, Rest}
-use Rattle.jpeg_bits.proofs.BufferedBits.{has_bits-buffered, advance-buffered, filled-less}
+use Rattle.jpeg_bits.specs.declared.tokens.Token.TheVariants.{Value, Rest, Sixteen, Overlong}
+use Rattle.jpeg_bits.proofs.BufferedBits.{has_bits-buffered, advance-buffered, filled-less, ok_unit}
 use Rattle.jpeg_bits.proofs.Fast.{no-bits, both-buffered}
-use Rattle.jpeg_bits.proofs.Reservoirs.{same_zeros}
-use Rattle.jpeg_bits.proofs.ShortLemmas.{IsShort, short_some, size_of, all_short, at_most, short_agree}
-use Rattle.jpeg_bits.proofs.ShortLemmas.{value-bits, length-next_bits, next-buffered}
+use Rattle.jpeg_bits.proofs.Reservoirs.{same_zeros, low_bits-append, low_bits-zeros, low_bits-take}
+use Rattle.jpeg_bits.proofs.Reservoirs.{low_bits-drop, low_bits-high}
+use Rattle.jpeg_bits.proofs.ShortLemmas.{IsShort, short_some, size_of, all_short, at_most}
+use Rattle.jpeg_bits.proofs.ShortLemmas.{short_agree, value-bits, length-next_bits, next-buffered}
 use Rattle.jpeg_bits.proofs.Tables.{all-rising}
+use Rattle.std.proofs.Math.Nat.{div-add-mod'}
+use Rattle.jpeg_bits.specs.Reading.{Fault}
+use Rattle.jpeg_bits.specs.Written.{low_bits}
+use Rattle.jpeg_bits.specs.Skips.{run_after, run_within, run_of, no_skip, IsSkip, PassesOver}
+use Rattle.jpeg_bits.specs.Skips.{after_skip}
+use Rattle.jpeg_bits.proofs.BandLoop.{Leaves}
+use Rattle.jpeg_bits.proofs.BandSteps.{Leaves-buffered}
 
 -- a value within the room
 pub value-within : (room size r s : ℕ) (t : Text) → ltb 0 s ≡ true → ltb r room ≡ true
@@ -37,7 +50,7 @@ unfolding token_at
 none-here room size t = ap (read_on (λ (e : ℕ). gives (Rest (2 ^ 0 - 1 + e)))) (no-bits t)
 
 pub none_left : (room size r s : ℕ) (t : Text) → s ≡ 0 → r ≡ 0 → token_at room size r s t ≡ Ok (Rest 0, t)
-none_left room size r s t none zero = rw (none, zero) (none-here room size t)
+none_left room size r s t none first = rw (none, first) (none-here room size t)
 
 -- Bits are passed in two steps.
 pub advanced : (m n : ℕ) (t : Text) → advance n (advance m t) ≡ advance (m + n) t
@@ -190,3 +203,307 @@ module _ (table : Table) (room : ℕ) (b d : Ahead) where
       → Takes (λ (t : Token). t) (token_from table room) b mid (Err e) d mid
   unfolding token_from
   Token-no-code mid e code = grind arith
+
+-- ---- a band of a first pass that is passed over, token by token or several at once
+
+-- ---- turns
+
+-- what the turns after the next give alike, the turns from there do
+same-after : (f g : ℕ → Reads ℕ) (room : ℕ) → 0 < room → ((k : ℕ) (t : Text) → k < room → f k t ≡ g k t)
+    → (o : Result (Token × Text) Fault) → read_on (run_after f room) o ≡ read_on (run_after g room) o
+same-after f g room some h (Err e) = refl
+same-after f g room some h (Ok (Value r v, u)) = h (room - (r + 1)) u (omega arith)
+same-after f g room some h (Ok (Sixteen, u)) = h (room - 16) u (omega arith)
+same-after f g room some h (Ok (Rest run, u)) = refl
+same-after f g room some h (Ok (Overlong, u)) = refl
+
+-- more turns than there is room for make no difference
+turns-same : (table : Table) (m n room : ℕ) (t : Text) → room ≤ m → room ≤ n
+    → run_within table m room t ≡ run_within table n room t
+unfolding run_within
+turns-same table m n zero t h k = refl
+turns-same table zero n (suc room) t h k = absurd (omega arith)
+turns-same table (suc m) zero (suc room) t h k = absurd (omega arith)
+turns-same table (suc m) (suc n) (suc room) t h k =
+    same-after (run_within table m) (run_within table n) (suc room) (omega arith)
+    (λ l u lt. turns-same table m n l u (omega arith) (omega arith)) (token_from table (suc room) t)
+
+-- a band is passed over token by token
+pub run-token : (table : Table) (room : ℕ) (t : Text) → 0 < room
+    → run_of table room t ≡ read_on (run_after (run_of table) room) (token_from table room t)
+unfolding run_of run_within
+run-token table zero t h = absurd (omega arith)
+run-token table (suc room) t h =
+    same-after (run_within table room) (run_of table) (suc room) h
+    (λ l u lt. turns-same table room l l u (omega arith) (omega arith)) (token_from table (suc room) t)
+
+pub run-none : (table : Table) (t : Text) → run_of table 0 t ≡ Ok (0, t)
+unfolding run_of run_within
+run-none table t = refl
+
+-- ---- a band whose coefficients are read and not kept
+
+-- the zeros of a token that is read are within the room
+within-at : (room size r s : ℕ) (t : Text) (a : Bool) → ltb r room ≡ a → (k : Token) (u : Text)
+    → token_at room size r s t ≡ Ok (k, u) → IsWithinRoom room k
+unfolding token_at
+within-at room size r s t a e k u h = grind (arith, common_steps, nat_tests)
+
+token-within : (table : Table) (room : ℕ) (t : Text) (k : Token) (u : Text) → token_from table room t ≡ Ok (k, u)
+    → IsWithinRoom room k
+unfolding token_from
+token-within table room t k u h = go (code_from table t) h
+  where
+    go : (o : Result ((ℕ × ℕ) × Text) Fault)
+        → read_on (λ (c : ℕ × ℕ). token_at room c.0 (c.1 / 16) (c.1 % 16)) o ≡ Ok (k, u) → IsWithinRoom room k
+    go (Err e) h = absurd (false≢true (ap is_ok h))
+    go (Ok (c, v)) h = within-at _ _ _ _ _ _ refl _ _ h
+
+abbrev pub measured : Band → Reads (ℕ × ℕ)
+measured b = gives (length b.0, b.1)
+
+abbrev pub of_length : ℕ → ℕ → Reads (ℕ × ℕ)
+of_length n run = gives (n, run)
+
+measured-after : (front : List ℤ) (n m : ℕ) (o : Result (Band × Text) Fault) (p : Result (ℕ × Text) Fault)
+    → read_on measured o ≡ read_on (of_length m) p → length front + m ≡ n
+    → read_on measured (read_on (λ more. gives (before_more front more)) o) ≡ read_on (of_length n) p
+measured-after front n m o p h k = grind (arith, common_steps, length-append, false≢true)
+
+-- a band keeps its length, and its run is read without its coefficients
+pub first-measured : (table : Table) (al n : ℕ) (band : List ℤ) (t : Text)
+    → read_on measured (first_ac table al n band t) ≡ read_on (of_length (length band))
+    (run_within table n (length band) t)
+unfolding first_ac run_within
+first-measured table al n [] t = refl
+first-measured table al zero (x ∷ rest) t = refl
+first-measured table al (suc n) (x ∷ rest) t =
+    go (token_from table (length (x ∷ rest)) t) (token-within table (length (x ∷ rest)) t)
+    (λ k u. first-measured table al n (drop k (x ∷ rest)) u)
+  where
+    go : (o : Result (Token × Text) Fault)
+        → ((k : Token) (u : Text) → o ≡ Ok (k, u) → IsWithinRoom (length (x ∷ rest)) k)
+        → ((k : ℕ) (u : Text) → read_on measured (first_ac table al n (drop k (x ∷ rest)) u)
+        ≡ read_on (of_length (length (drop k (x ∷ rest)))) (run_within table n (length (drop k (x ∷ rest))) u))
+        → read_on measured (read_on (after_token al (first_ac table al n) (x ∷ rest)) o)
+        ≡ read_on (of_length (length (x ∷ rest))) (read_on (run_after (run_within table n) (length (x ∷ rest))) o)
+    go (Err e) within more = refl
+    go (Ok (Value r v, u)) within more =
+        let lt : r < length (x ∷ rest) = within (Value r v) u refl in
+        let front = take r (x ∷ rest) ++ wrapped (v *ℤ pos (2 ^ al)) ∷ [] in
+        let left = length-drop (r + 1) (x ∷ rest) in
+        let long : length front + length (drop (r + 1) (x ∷ rest)) ≡ length (x ∷ rest)
+        = grind (arith, length-append, length-take) in
+        measured-after front (length (x ∷ rest)) (length (drop (r + 1) (x ∷ rest)))
+        (first_ac table al n (drop (r + 1) (x ∷ rest)) u)
+        (run_within table n (length (x ∷ rest) - (r + 1)) u) (subst (λ (l : ℕ).
+        read_on measured (first_ac table al n (drop (r + 1) (x ∷ rest)) u)
+        ≡ read_on (of_length (length (drop (r + 1) (x ∷ rest)))) (run_within table n l u)) left (more (r + 1) u)) long
+    go (Ok (Sixteen, u)) within more =
+        let front = take 16 (x ∷ rest) in
+        let left = length-drop 16 (x ∷ rest) in
+        let long : length front + length (drop 16 (x ∷ rest)) ≡ length (x ∷ rest)
+        = omega (arith, left, length-take 16 (x ∷ rest)) in
+        measured-after front (length (x ∷ rest)) (length (drop 16 (x ∷ rest)))
+        (first_ac table al n (drop 16 (x ∷ rest)) u)
+        (run_within table n (length (x ∷ rest) - 16) u) (subst (λ (l : ℕ).
+        read_on measured (first_ac table al n (drop 16 (x ∷ rest)) u)
+        ≡ read_on (of_length (length (drop 16 (x ∷ rest)))) (run_within table n l u)) left (more 16 u)) long
+    go (Ok (Rest run, u)) within more = refl
+    go (Ok (Overlong, u)) within more = refl
+
+-- ---- the tokens that 12 bits begin with
+
+-- Some bits after the first of n, with zeros after them, are the low ones of their number, moved.
+pub bits_after : (n w used k b rest : ℕ) → used ≤ n → n + k ≡ w + used → rest ≡ b * 2 ^ k % 2 ^ w
+    → low_bits w rest ≡ drop used (low_bits n b) ++ replicate k false
+bits_after n w used k b rest h size e =
+    let m = n - used in
+    let x = b * 2 ^ k in
+    let whole : x ≡ x / 2 ^ w * 2 ^ w + x % 2 ^ w = sym (div-add-mod' x (2 ^ w)) in
+    let all : w ≡ m + k = omega arith in
+    let split : n ≡ used + m = omega arith in
+    let none : x ≡ x + 0 = omega arith in
+    let low : low_bits m b ≡ low_bits m (b % 2 ^ m)
+    = ap (low_bits m) (sym (div-add-mod' b (2 ^ m))) ∙ low_bits-high m (b / 2 ^ m) (b % 2 ^ m) in
+    ap (low_bits w) e ∙ sym (ap (low_bits w) whole ∙ low_bits-high w (x / 2 ^ w) (x % 2 ^ w))
+    ∙ ap (low_bits w) none ∙ ap (λ (j : ℕ). low_bits j (x + 0)) all
+    ∙ low_bits-append _ _ _ _ (pow_pos k)
+    ∙ ap (λ (l : List Bool). low_bits m b ++ l) (low_bits-zeros k)
+    ∙ ap (λ (l : List Bool). l ++ replicate k false) (low ∙ sym (low_bits-drop used m b)
+    ∙ ap (λ (j : ℕ). drop used (low_bits j b)) (sym split))
+
+signed-passed : (others : ℕ → Reads ℕ) (room r s : ℕ) (t : Text) → has_bits s t.bits t.ending ≡ Ok tt
+    → read_on (run_after others room) (read_on (λ (v : ℤ). gives (Value r v)) (signed_from s t))
+    ≡ others (room - (r + 1)) (advance s t)
+unfolding signed_from bits_from
+signed-passed others room r s t buffered = rw buffered refl
+
+value-passed : (others : ℕ → Reads ℕ) (room size r s : ℕ) (t : Text) → 0 < s → r < room
+    → has_bits s t.bits t.ending ≡ Ok tt
+    → read_on (run_after others room) (token_at room size r s t) ≡ others (room - (r + 1)) (advance s t)
+value-passed others room size r s t some within buffered =
+    ap (read_on (run_after others room)) (value-within _ _ _ _ _ (lt-ltb 0 s some) (lt-ltb r room within))
+    ∙ signed-passed others room _ _ _ buffered
+
+sixteen-passed : (others : ℕ → Reads ℕ) (room size r s : ℕ) (t : Text) → s ≡ 0 → r ≡ 15
+    → read_on (run_after others room) (token_at room size r s t) ≡ others (room - (r + 1)) (advance s t)
+unfolding token_at
+sixteen-passed others room size r s t none all = rw (none, all) refl
+
+module _ (table : Table) (counted : length table.counts ≡ 16) (bits : List Bool) (long : length bits ≡ 12)
+    (used symbol size : ℕ) (found : symbol_in table (drop used bits ++ replicate (4 + used) false) ≡ Some
+    (symbol, size))
+  where
+    abbrev s : ℕ
+    s = symbol % 16
+
+    abbrev r : ℕ
+    r = symbol / 16
+
+    pub skip-more : (count passed : ℕ) → count ≡ size + s → used + count ≤ 12 → (s ≡ 0 → r ≡ 15)
+        → PassesOver table bits (used, passed, false)
+        → PassesOver table bits (used + count, passed + (r + 1), false)
+    skip-more count passed is le all h room lt most t b =
+        let buffered : has_bits (used + size + s) t.bits t.ending ≡ Ok tt
+        = ap (λ (k : ℕ). has_bits k t.bits t.ending) (omega (arith, is)) ∙ b.1 in
+        let here = both-buffered (used + size) s t.bits t.ending buffered in
+        let room' = room - passed in
+        let u = advance used t in
+        let v = advance size u in
+        let next : has_bits s v.bits v.ending ≡ Ok tt
+        = ap (λ (w : Text). has_bits s w.bits w.ending) (advanced used size t) ∙ buffered-then
+        (used + size) s t buffered in
+        let step : read_on (run_after (run_of table) room') (token_at room' size r s v)
+        ≡ run_of table (room' - (r + 1)) (advance s v) = elim (cases_lt 0 s) [
+          | inl some ↦ value-passed (run_of table) room' size r s v some (omega arith) next
+          | inr none ↦ sixteen-passed (run_of table) room' size r s v (omega arith) (all (omega arith))
+        ] in
+        let left : room' - (r + 1) ≡ room - (passed + (r + 1)) = omega arith in
+        let after : advance s v ≡ advance (used + count) t
+        = ap (advance s) (advanced used size t) ∙ advanced (used + size) s t
+        ∙ ap (λ (k : ℕ). advance k t) (omega (arith, is)) in
+        h room (omega arith) most t (b.0, both-buffered used size t.bits t.ending here)
+        ∙ run-token table room' u (omega arith)
+        ∙ ap (read_on (run_after (run_of table) room')) (token-seen table counted 12 (omega arith) bits long used
+        (replicate (4 + used) false) symbol size found room' t b.0 (omega (arith, is)) here)
+        ∙ step
+        ∙ ap (λ (k : ℕ). run_of table k (advance s v)) left
+        ∙ ap (run_of table (room - (passed + (r + 1)))) after
+
+    pub skip-last : (count passed : ℕ) → count ≡ size + s → used + count ≤ 12 → s ≡ 0 → r ≡ 0
+        → PassesOver table bits (used, passed, false)
+        → PassesOver table bits (used + count, passed, true)
+    skip-last count passed is le none end h room lt most t b =
+        let same : used + size ≡ used + count = omega arith in
+        let here : has_bits (used + size) t.bits t.ending ≡ Ok tt
+        = ap (λ (k : ℕ). has_bits k t.bits t.ending) same ∙ b.1 in
+        let room' = room - passed in
+        let u = advance used t in
+        let v = advance size u in
+        h room lt most t (b.0, both-buffered used size t.bits t.ending here)
+        ∙ run-token table room' u (omega arith)
+        ∙ ap (read_on (run_after (run_of table) room')) (token-seen table counted 12 (omega arith) bits long used
+        (replicate (4 + used) false) symbol size found room' t b.0 (omega (arith, is)) here
+        ∙ none_left room' size r s v none end)
+        ∙ ap (λ (w : Text). Ok (0, w)) (advanced used size t ∙ ap (λ (k : ℕ). advance k t) same)
+
+-- none at all
+pub skip-none : (table : Table) (bits : List Bool) → IsSkip table bits no_skip
+skip-none table bits = grind arith
+
+pub twelve_front : (number : ℕ) (bits : List Bool) → low_bits 16 number ≡ next_16 bits
+    → low_bits 12 (number / 16) ≡ next_bits 12 bits
+twelve_front number bits e =
+    sym (low_bits-take 12 4 number) ∙ ap (take 12) e ∙ take-take 12 16 (bits ++ replicate 16 false) (omega arith)
+    ∙ same_zeros bits 12 16 12 (omega arith) (omega arith)
+
+-- what holds of the first places of a list, with one more
+pub set-holds : {A : Type 0} (P : ℕ → A → Type 0) (xs : List A) (i : ℕ) (v d : A) → i < length xs
+    → ((k : ℕ) → k < i → P k (get_or xs k d)) → P i v → (k : ℕ) → k < i + 1 → P k (get_or (set xs i v) k d)
+set-holds P xs i v d lt below here k h = grind (arith, cases_lt, get_or-set_other, get_or-set_same)
+
+-- ---- steps of the loop that passes over the tokens of a band
+
+after-buffered : (table : Table) (left n passed : ℕ) (last : Bool) (bits : List Bool) (met : Option
+    DataEnd)
+    (bytes : List ℕ) → IsFilled 16 bits met → IsSkip table (next_bits 12 bits) (n, passed, last) → passed < left
+    → left ≤ 63 → is_ok (has_buffered n bits met) ≡ true
+    → run_of table left (upcoming_by bits met bytes)
+    ≡ after_skip table left (n, passed, last) (upcoming_by bits met bytes)
+after-buffered table left n passed last bits met bytes filled skip lt most ok =
+    let few : n ≤ 16 = omega (arith, skip.few) in
+    skip.passes left lt most (upcoming_by bits met bytes) (
+      front-text 12 bits met bytes (omega arith) (filled-less 12 16 bits met (omega arith) filled),
+      has_bits-buffered n bits met bytes (filled-less n 16 bits met few filled) ∙ ok_unit _ ok,
+    )
+
+module _ (table : Table) (room left : ℕ) (a b d e : Ahead) (old cur mid new : Stream)
+    (p : Leaves (run_of table room) a old (run_of table left) b cur)
+    (q : Takes (λ (u : Unit {0}). 0) same_text b cur (Ok tt) d mid) where
+  text-buffered : Leaves (run_of table room) a old (run_of table left) d mid
+  text-buffered = Leaves-buffered (run_of table room) (run_of table left) a b d old cur mid p q
+
+  pub skip-refused : 0 < left → (x : Error) → Takes (λ (k : Token). k) (token_from table left) d mid (Err x) e new
+      → Takes (λ (run : ℕ). run) (run_of table room) a old (Err x) e new
+  skip-refused some x h = grind (arith, run-token, text-buffered)
+
+  pub skip-token : 0 < left → (k : Token) → Takes (λ (k : Token). k) (token_from table left) d mid (Ok k) e new
+      → Leaves (run_of table room) a old (run_after (run_of table) left k) e new
+  skip-token some k h = grind (arith, run-token, text-buffered)
+
+  pub skip-overlong : 0 < left → Takes (λ (k : Token). k) (token_from table left) d mid (Ok Overlong) e new
+      → Takes (λ (run : ℕ). run) (run_of table room) a old (Ok 0) e new
+  skip-overlong some h = skip-token some Overlong h
+
+  -- several tokens at once
+  module _ (n passed count over : ℕ) (last : Bool) (counted : count ≡ n) (is : over ≡ passed)
+      (filled : IsFilled 16 d.bits d.met) (skip : IsSkip table (next_bits 12 d.bits) (n, passed, last))
+      (lt : over < left) (most : left ≤ 63) (ok : true ≡ is_ok (has_buffered count d.bits d.met))
+      (bits : e.bits ≡ drop count d.bits) (met : e.met ≡ d.met) where
+    after-text : (bytes : List ℕ)
+        → run_of table left (upcoming d bytes) ≡ after_skip table left (n, passed, last) (upcoming d bytes)
+    unfolding upcoming
+    after-text bytes =
+        after-buffered table left n passed last d.bits d.met bytes filled skip (omega (arith, lt, is)) most
+        (ap (λ (k : ℕ). is_ok (has_buffered k d.bits d.met)) (sym counted) ∙ sym ok)
+
+    next-text : (bytes : List ℕ) → advance n (upcoming d bytes) ≡ upcoming e bytes
+    unfolding upcoming
+    next-text bytes =
+        advance-buffered n d.bits d.met bytes (filled-less n 16 d.bits d.met (omega (arith, skip.few)) filled)
+        ∙ ap (λ (k : ℕ). upcoming_by (drop k d.bits) d.met bytes) (sym counted)
+        ∙ sym (ap (λ (l : List Bool). upcoming_by l e.met bytes) bits
+        ∙ ap (λ (m : Option DataEnd). upcoming_by (drop count d.bits) m bytes) met)
+
+    pub skip-over : last ≡ false → Leaves (run_of table room) a old (run_of table (left - over)) e mid
+    skip-over on =
+        let buffered = text-buffered in (
+          buffered.0,
+          λ known.
+              let at = buffered.1 known in (
+                at.0,
+                at.1 ∙ after-text mid.bytes
+                    ∙ ap (λ (l : Bool). after_skip table left (n, passed, l) (upcoming d mid.bytes)) on
+                    ∙ ap (run_of table (left - passed)) (next-text mid.bytes)
+                    ∙ ap (λ (k : ℕ). run_of table (left - k) (upcoming e mid.bytes)) (sym is),
+              ),
+        )
+
+    pub skip-to-end : last ≡ true → Takes (λ (run : ℕ). run) (run_of table room) a old (Ok 0) e mid
+    skip-to-end end =
+        let buffered = text-buffered in (
+          buffered.0,
+          λ known.
+              let at = buffered.1 known in (
+                at.0,
+                at.1 ∙ after-text mid.bytes
+                    ∙ ap (λ (l : Bool). after_skip table left (n, passed, l) (upcoming d mid.bytes)) end
+                    ∙ ap (λ (t : Text). Ok (0, t)) (next-text mid.bytes),
+              ),
+        )
+
+pub skip-all : (table : Table) (room left : ℕ) (a b : Ahead) (old new : Stream) → left ≡ 0
+    → Leaves (run_of table room) a old (run_of table left) b new
+    → Takes (λ (run : ℕ). run) (run_of table room) a old (Ok 0) b new
+skip-all table room left a b old new none p = grind (arith, run-none)

@@ -7,7 +7,7 @@ use Rattle.jpeg_bits.specs.Bands.{wrapped}
 use Rattle.jpeg_bits.specs.Passes.{or_bit}
 use Rattle.jpeg_bits.specs.BlockView.{dc_in}
 use Rattle.jpeg_bits.proofs.BlockParts.{dc_first, dc_refined}
-use Rattle.jpeg_bits.proofs.Masks.{or_none}
+use Rattle.jpeg_bits.proofs.PieceWalks.{or_none}
 
 pub returns-then-pass-clause-part : goal.returns-then-pass-clause-part
 returns-then-pass-clause-part g c =

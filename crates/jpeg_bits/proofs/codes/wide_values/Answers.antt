@@ -8,7 +8,7 @@ use Rattle.jpeg_bits.specs.declared.codes.HuffmanTableClass.TheVariants.{AC}
 use Rattle.jpeg_bits.proofs.CodeLemmas.{still-passed}
 use Rattle.jpeg_bits.proofs.ShortLemmas.{set_next, length_set, eleven_padded, within_byte}
 use Rattle.jpeg_bits.proofs.ShortLemmas.{small_packed}
-use Rattle.jpeg_bits.proofs.SkipLemmas.{set-holds}
+use Rattle.jpeg_bits.proofs.WideTokens.{set-holds}
 
 pub code_of-code-requires-clause-passed : goal.code_of-code-requires-clause-passed
 code_of-code-requires-clause-passed c =

@@ -8,8 +8,8 @@ use Rattle.jpeg_bits.specs.Pieces.{piece_from, corrected_from}
 use Rattle.jpeg_bits.specs.BlockView.{pass_in}
 use Rattle.jpeg_bits.specs.ZigzagParts.{band_end, rest_in}
 use Rattle.jpeg_bits.proofs.BandSteps.{Leaves-ok, Leaves-err, Leaves-end}
-use Rattle.jpeg_bits.proofs.PieceWalks.{walk_at, at-value, at-refused}
-use Rattle.jpeg_bits.proofs.Masks.{gap-zeros, at-skips, at-gap, at-last-gap, marks-set, marks-later}
+use Rattle.jpeg_bits.proofs.PieceWalks.{walk_at, at-value, at-refused, gap-zeros, at-skips, at-gap}
+use Rattle.jpeg_bits.proofs.PieceWalks.{at-last-gap, marks-set, marks-later}
 use Rattle.jpeg_bits.proofs.ZigzagIndices.{kept-set}
 
 pub returns-then-left-gap-clause-piece : goal.returns-then-left-gap-clause-piece

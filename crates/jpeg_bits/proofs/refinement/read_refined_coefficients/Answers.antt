@@ -9,7 +9,7 @@ use Rattle.jpeg_bits.specs.ZigzagParts.{band_end, KeepsOthers}
 use Rattle.jpeg_bits.proofs.RefinedBands.{from-start, at-last, token-refused, piece-refused}
 use Rattle.jpeg_bits.proofs.RefinedBands.{zeros-read, new-read, end-read, refined_from, zeros_of}
 use Rattle.jpeg_bits.proofs.BandSteps.{Leaves-end}
-use Rattle.jpeg_bits.proofs.Masks.{marks-later, marks-set}
+use Rattle.jpeg_bits.proofs.PieceWalks.{marks-later, marks-set}
 use Rattle.jpeg_bits.proofs.ZigzagIndices.{kept-same, kept-set, kept-rest}
 
 pub loop-index-init : goal.loop-index-init
