@@ -19,7 +19,6 @@ pub mod Fast
 pub mod BandLoop
 pub mod WholeBlocks
 pub mod BandSteps
-pub mod PairLemmas
 pub mod PieceWalks
 pub mod RefinedBands
 pub mod BlockParts

@@ -9,7 +9,7 @@ use Rattle.std.proofs.lemmas.Result.{err_from_is_err_and}
 use Rattle.std.proofs.lemmas.List.{get_or_default}
 use Rattle.jpeg_bits.proofs.PieceWalks.{at-start, at-end, clear_from, set_after, marks-later}
 use Rattle.jpeg_bits.proofs.PieceWalks.{gap-some}
-use Rattle.jpeg_bits.proofs.CodeLemmas.{length-lengths_from, first_le, index_within, row_found}
+use Rattle.jpeg_bits.proofs.CodeLemmas.{first_le, index_within, row_found}
 use Rattle.jpeg_bits.proofs.CodeLemmas.{row_missed, above_more, none_found}
 use Rattle.jpeg_bits.proofs.Filled.{skip-refused as bytes-refused, skip-goes, skip-none, filled-err}
 use Rattle.jpeg_bits.proofs.Filled.{filled-room, filled-all, rests_trans, rests_keeps, reads_some}
@@ -46,9 +46,6 @@ pub ruleset pieces = (at-start, at-end, kept-same, marks-later, gap-some)
 
 -- a band that is passed over
 pub ruleset runs = (skip-refused, skip-overlong, skip-all)
-
--- codes as they are built
-pub ruleset lengths = (length-lengths_from)
 
 -- the front of a reservoir
 pub ruleset fronts = (front_number, front_below, pow_mono)

@@ -4,7 +4,7 @@ use Rattle.std.proofs.Common.{arith}
 use Rattle.std.proofs.lemmas.Int.{to_z-of_z}
 use Rattle.jpeg_bits.proofs.BlockParts.{index-value, index-sixteen, index-all, index-last}
 use Rattle.jpeg_bits.proofs.BlockParts.{index-refused, index-none}
-use Rattle.jpeg_bits.proofs.PairLemmas.{pair-seen, index-pair}
+use Rattle.jpeg_bits.proofs.WideTokens.{pair-seen, index-pair}
 use Rattle.jpeg_bits.specs.ShortCodes.{next_bits}
 use Rattle.jpeg_bits.proofs.ZigzagIndices.{kept-set}
 

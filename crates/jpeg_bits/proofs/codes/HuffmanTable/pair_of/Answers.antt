@@ -1,8 +1,8 @@
+use Rattle.jpeg_bits.proofs.codes.HuffmanTable.pair_of.Goals as goal
 use Rattle.std.proofs.Common.{◌≡◌, ◌/◌, rules}
 use Rattle.jpeg_bits.specs.Pairs.{pair_of}
 use Rattle.jpeg_bits.specs.Written.{low_bits}
-use Rattle.jpeg_bits.proofs.PairLemmas.{pair_small}
-use Rattle.jpeg_bits.proofs.codes.HuffmanTable.pair_of.Goals as goal
+use Rattle.jpeg_bits.proofs.WideTokens.{pair_small}
 
 pub returns-in-Some-clause-small : goal.returns-in-Some-clause-small
 returns-in-Some-clause-small c =
