@@ -1,27 +1,24 @@
 -- Blocks of a first pass of which DC alone is kept.
-use Rattle.std.proofs.Common.{◌≡◌, ℕ, ℤ, zero, suc, ◌+◌, Bool, true, false, List, [], ◌∷◌, ◌++◌}
-use Rattle.std.proofs.Common.{length, take, drop, map, pos, set, Result, Ok, Err, refl, sym, ap}
-use Rattle.std.proofs.Common.{ap₂, subst, ◌∙◌, arith, length-append, length-take, length-drop}
-use Rattle.std.proofs.Common.{Option}
+use Rattle.std.proofs.Common.{◌≡◌, ℕ, ℤ, zero, suc, Bool, true, false, List, [], ◌∷◌, length, map}
+use Rattle.std.proofs.Common.{pos, set, Result, Ok, Err, refl, sym, ap, ap₂, subst, ◌∙◌, arith}
+use Rattle.std.proofs.Common.{length-append, length-take, length-drop, Option}
 use Rattle.std.proofs.lemmas.List.{length-map}
 use Rattle.std.proofs.lemmas.Bool.{false≢true}
 use Rattle.jpeg_bits.specs.Reading.{Fault}
 use Rattle.jpeg_bits.specs.Stream.{Stream}
-use Rattle.jpeg_bits.specs.Entropy.{Text, Ahead, Takes, upcoming}
+use Rattle.jpeg_bits.specs.Entropy.{Text, Ahead, Takes}
 use Rattle.jpeg_bits.specs.Codes.{Table}
 use Rattle.jpeg_bits.specs.Readers.{Reads, read_on, gives}
 use Rattle.jpeg_bits.specs.Bands.{Band}
-use Rattle.jpeg_bits.specs.Passes.{Pass, Block, band_of, before_band, band_size, with_band, dc_part}
-use Rattle.jpeg_bits.specs.Passes.{band_part, block_from}
+use Rattle.jpeg_bits.specs.Passes.{Pass, Block, band_of, band_size, with_band, dc_part, band_part}
+use Rattle.jpeg_bits.specs.Passes.{block_from}
 use Rattle.jpeg_bits.specs.Refusals.{outcome_of}
 use Rattle.jpeg_bits.specs.BlockView.{to_block, IsPass}
 use Rattle.jpeg_bits.specs.Skips.{run_of, run_part, dc_alone, kept, kept_turn}
 use Rattle.jpeg_bits.specs.declared.error.Error.{Error}
 use Rattle.jpeg_bits.proofs.BandLoop.{Leaves}
-use Rattle.jpeg_bits.proofs.Loops.{Names-through}
 use Rattle.jpeg_bits.proofs.WideTokens.{first-measured, measured, of_length}
 use Rattle.jpeg_bits.proofs.ZigzagIndices.{band-is, band-length, dc-put}
-use Rattle.jpeg_bits.proofs.WholeBlocks.{refused_after}
 
 -- what is made of what a call reads
 pub Takes-map : {X Y Z : Type 0} (f : Y → Z) (view : X → Y) (read : Reads Y) (a b : Ahead) (old new : Stream)

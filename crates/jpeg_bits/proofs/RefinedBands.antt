@@ -1,8 +1,7 @@
 -- Bands of a refinement: what is left after some places.
-use Rattle.std.proofs.Common.{rules}
 use Rattle.jpeg_bits.specs.Refinement as defined
-use Rattle.std.proofs.Common.{is_ok, ◌≡◌, ℕ, zero, suc, ◌+◌, ◌-◌, ◌<◌, ◌≤◌, List, [], ◌∷◌, ◌++◌}
-use Rattle.std.proofs.Common.{length, take, drop, set, ℤ, Result, Ok, Err, refl, sym, ap, ◌∙◌}
+use Rattle.std.proofs.Common.{rules, is_ok, ◌≡◌, ℕ, zero, suc, ◌+◌, ◌-◌, ◌<◌, ◌≤◌, List, [], ◌∷◌}
+use Rattle.std.proofs.Common.{◌++◌, length, take, drop, set, ℤ, Result, Ok, Err, refl, sym, ap, ◌∙◌}
 use Rattle.std.proofs.Common.{arith, append_assoc, length-drop, length-take, length-append}
 use Rattle.std.proofs.Common.{length-set, le_refl, ◌/◌, ◌%◌, get_or, Option, Some, None, is_some}
 use Rattle.std.proofs.Common.{Bool}
