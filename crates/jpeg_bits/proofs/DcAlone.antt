@@ -110,10 +110,6 @@ module _ (p : Pass) (dc ac : Table) (predictor : ℤ) (run : ℕ) (block : List 
       size : length (band_of p acs) ≡ band_size p
       size = ap (λ (l : List ℤ). length l) (sym (band-is p block)) ∙ band-length p block is
 
-      made : Reads (Block × ℤ × ℕ)
-      made t = read_on (λ (more : ℕ). gives (record { dc = value; acs = zeros_of acs }, next, more))
-          (run_part ac (length (band_of p acs)) run t)
-
       put : kept false (to_block (set block 0 value)) ≡ record { dc = value; acs = zeros_of acs }
       put = ap (kept false) (dc-put block value n)
 

@@ -80,8 +80,7 @@ module _ (n : ℕ) (lens : List ℕ) (rising : IsRising 1 16 lens) (x y : List B
           (first_from (begins lens y) (i + 1) k)
           → short_from n lens (cond b (Some i) (first_from (begins lens x) (i + 1) k)) ≡ short_from n lens
           (cond b (Some i) (first_from (begins lens y) (i + 1) k))
-      go true r = refl
-      go false r = r
+      go b r = grind arith
 
   pub short_agree : at_most n (code_in lens x) ≡ at_most n (code_in lens y)
   unfolding code_in
