@@ -170,7 +170,10 @@ before a b rest h n k j lt = grind (arith, marker_at-none)
 
 later : (a b : ℕ) (rest others : List ℕ) (i : ℕ) (m : Marker) → marker_at a b ≡ None
     → IsNextMarker (b ∷ rest) i m others → IsNextMarker (a ∷ b ∷ rest) (suc i) m others
-later a b rest others i m h k = let e : suc i + 1 ≡ suc (i + 1) = omega arith in let f : suc i + 2 ≡ suc (i + 2) = omega arith in grind (arith, before)
+later a b rest others i m h k =
+    let e : suc i + 1 ≡ suc (i + 1) = omega arith in
+    let f : suc i + 2 ≡ suc (i + 2) = omega arith in
+    grind (arith, before)
 
 step : (a b : ℕ) (rest : List ℕ) (x : Option Marker) → marker_at a b ≡ x → Finds (b ∷ rest) (next_marker (b ∷ rest))
     → Finds (a ∷ b ∷ rest) (found_or x rest (next_marker (b ∷ rest)))

@@ -288,7 +288,9 @@ step_at table p block k x t = refined_step table p.al (band_in p block) (k - ban
 
 pub from-start : (table : Table) (p : Pass) (block : List ℤ) (t : Text)
     → refined_at table p block (band_start p) t ≡ refined_band_from table p.al (band_in p block) t
-from-start table p block t = let none : band_start p - band_start p ≡ 0 = omega arith in grind (arith, refined_left, refined_all)
+from-start table p block t =
+    let none : band_start p - band_start p ≡ 0 = omega arith in
+    grind (arith, refined_left, refined_all)
 
 pub at-last : (table : Table) (p : Pass) (block : List ℤ) (k : ℕ) (t : Text) → IsPass p → band_end p ≤ k
     → refined_at table p block k t ≡ Ok ((band_in p block, 0), t)

@@ -57,7 +57,9 @@ same_zeros (x ∷ xs) (suc m) n k h g = ap (λ (l : List Bool). x ∷ l) (same_z
 -- the whole word
 pub whole_word : (word count : ℕ) → count ≤ 64 → HasZerosAfter word count
     → low_bits 64 word ≡ buffered_bits word count ++ replicate (64 - count) false
-whole_word word count h z = let e : 64 ≡ count + (64 - count) = omega arith in grind (arith, low_bits-split, low_bits-zeros)
+whole_word word count h z =
+    let e : 64 ≡ count + (64 - count) = omega arith in
+    grind (arith, low_bits-split, low_bits-zeros)
 
 -- the first n bits, with zeros after them
 pub front_bits : (word count n : ℕ) → count ≤ 64 → n ≤ 64 → HasZerosAfter word count
@@ -177,6 +179,8 @@ byte_shifted count byte h small = shl_exact 8 (56 - count) 64 small (omega arith
 -- the first bits of 16 as a number
 pub prefix_number : (bits l : ℕ) → bits < 2 ^ 16 → l < 16
     → bits / 2 ^ (15 - l) ≡ number_of (take (l + 1) (low_bits 16 bits))
-prefix_number bits l h lt = let e : 16 ≡ l + 1 + (15 - l) = omega arith in grind (arith, low_bits-take, number_of-low_bits, front_small)
+prefix_number bits l h lt =
+    let e : 16 ≡ l + 1 + (15 - l) = omega arith in
+    grind (arith, low_bits-take, number_of-low_bits, front_small)
 
 pub ruleset rests = (word_fits, rest_zeros, rest_buffered)

@@ -31,7 +31,8 @@ pub takes-each : {X A B : Type 0} (read : A → Reads B) (f : X → A) (h : X �
     → ReadsJust (each read (map f xs)) bits (map h xs)
 unfolding each
 takes-each read f h writes P takes [] bits all none = takes-gives []
-takes-each read f h writes P takes _ bits all (one x xs front more w ws) = grind (arith, takes-bind, takes-map, takes-each read f h writes P takes xs more all.1 ws)
+takes-each read f h writes P takes _ bits all (one x xs front more w ws) =
+    grind (arith, takes-bind, takes-map, takes-each read f h writes P takes xs more all.1 ws)
 
 -- ---- texts
 
@@ -202,7 +203,15 @@ module _ {X A B C : Type 0} (read : List A → Reads (List C)) (writes : List B 
       ≡ Ok ((h xs ++ flat_map h more, Some m), rest)
   unfolding intervals
   reads-intervals k xs [] bytes all others (last k' now bytes' w) = search (rules, append-nil, reads-interval)
-  reads-intervals k xs (next ∷ more) bytes all others (another k' fill' now next' more' first after w ws) = search (rules, append_assoc, next-interval, reads-interval, rst-marker, reads-intervals (suc k) next more after others.0 others.1 ws)
+  reads-intervals k xs (next ∷ more) bytes all others (another k' fill' now next' more' first after w ws) =
+      search (
+        rules,
+        append_assoc,
+        next-interval,
+        reads-interval,
+        rst-marker,
+        reads-intervals (suc k) next more after others.0 others.1 ws,
+      )
 
   -- A scan that was written is read, up to the marker after it.
   pub reads-groups : (n : ℕ) (xs : List X) (bytes : List ℕ) → AllByRecursion P xs

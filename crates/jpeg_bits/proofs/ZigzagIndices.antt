@@ -130,7 +130,9 @@ part-length start end block within = grind (arith, length-drop, length-take-le, 
 pub part-get : (start end k : ℕ) (block : List ℤ) (d : ℤ) → start ≤ k → k < end → end ≤ 64
     → get_or (zigzag_part start end block) (k - start) d ≡ get_or block (get_or zigzag k 0) (pos 0)
 unfolding zigzag_part
-part-get start end k block d from before within = let at : start + (k - start) ≡ k = omega arith in grind (arith, get_or-take, get_or-drop, get_or-in_zigzag)
+part-get start end k block d from before within =
+    let at : start + (k - start) ≡ k = omega arith in
+    grind (arith, get_or-take, get_or-drop, get_or-in_zigzag)
 
 -- and as it is written
 pub part-set : (start end k : ℕ) (block : List ℤ) (v : ℤ) → length block ≡ 64 → start ≤ k → k < end → end ≤ 64
@@ -148,7 +150,10 @@ part-set start end k block v n from before within =
 pub part-rest : (start from end : ℕ) (block : List ℤ) → start ≤ from → from ≤ end
     → drop (from - start) (zigzag_part start end block) ≡ zigzag_part from end block
 unfolding zigzag_part
-part-rest start from end block after within = let all : end - start ≡ from - start + (end - from) = omega arith in let at : start + (from - start) ≡ from = omega arith in grind (arith, drop-take, drop-drop)
+part-rest start from end block after within =
+    let all : end - start ≡ from - start + (end - from) = omega arith in
+    let at : start + (from - start) ≡ from = omega arith in
+    grind (arith, drop-take, drop-drop)
 
 pub kept-same : (start end : ℕ) (block : List ℤ) → IsKeptAround start end block block
 kept-same start end block = record { front = refl; back = refl }
@@ -173,7 +178,9 @@ kept-rest start from end old block new after h k =
 part-front : (start from end : ℕ) (block : List ℤ) → start ≤ from → from ≤ end
     → take (from - start) (zigzag_part start end block) ≡ drop start (take from (coefficients_in_zigzag block))
 unfolding zigzag_part
-part-front start from end block after within = let at : start + (from - start) ≡ from = omega arith in grind (arith, take-take, drop-take)
+part-front start from end block after within =
+    let at : start + (from - start) ≡ from = omega arith in
+    grind (arith, take-take, drop-take)
 
 pub part-put : (start from end : ℕ) (block new : List ℤ) → start ≤ from → from ≤ end
     → IsKeptAround from end block new
