@@ -522,12 +522,9 @@ module _ (al from end : ℕ) (block : List ℤ) (within : end ≤ 64) where
       → walk_at al r from end block k t ≡ walk_at al (r - n) from end block (k + n) t
   at-skips zero r k t after inside some zeros = grind (arith, walk_at)
   at-skips (suc n) r k t after inside some zeros =
-      grind (
-        arith,
-        at-skip,
-        walk_at,
-        at-skips n (r - 1) (k + 1) t (omega arith) (omega arith) (omega arith) (λ i later before. zeros i (omega arith) (omega arith)),
-      )
+      let others = at-skips n (r - 1) (k + 1) t (omega arith) (omega arith) (omega arith)
+      (λ i later before. zeros i (omega arith) (omega arith)) in
+      grind (arith, at-skip, walk_at, others)
 
   -- the zero that ends the piece stands in the gap
   pub at-gap : (gap r k : ℕ) (t : Text) → from ≤ k → k + gap ≤ end → r < gap

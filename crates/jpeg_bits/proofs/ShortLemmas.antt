@@ -333,15 +333,7 @@ pub same-run : (counts symbols : List ℕ) (first b v l : ℕ) → length counts
     → short_code counts symbols (low_bits 8 b) ≡ Some (v, l)
 same-run counts symbols first b v l counted few e h =
     let whole : l + (8 - l) ≡ 8 = omega arith in
-    grind (
-      arith,
-      take-append-le,
-      length_low_bits,
-      low_bits-take,
-      same-code,
-      short_agree,
-      all-rising,
-    )
+    grind (arith, take-append-le, length_low_bits, low_bits-take, same-code, short_agree, all-rising)
 
 -- a run of bytes
 pub run-entry : (counts symbols : List ℕ) (first end b : ℕ) (code : Option (ℕ × ℕ)) → length counts ≡ 16

@@ -204,14 +204,8 @@ module _ {X A B C : Type 0} (read : List A → Reads (List C)) (writes : List B 
   unfolding intervals
   reads-intervals k xs [] bytes all others (last k' now bytes' w) = search (rules, append-nil, reads-interval)
   reads-intervals k xs (next ∷ more) bytes all others (another k' fill' now next' more' first after w ws) =
-      search (
-        rules,
-        append_assoc,
-        next-interval,
-        reads-interval,
-        rst-marker,
-        reads-intervals (suc k) next more after others.0 others.1 ws,
-      )
+      let later = reads-intervals (suc k) next more after others.0 others.1 ws in
+      search (rules, append_assoc, next-interval, reads-interval, rst-marker, later)
 
   -- A scan that was written is read, up to the marker after it.
   pub reads-groups : (n : ℕ) (xs : List X) (bytes : List ℕ) → AllByRecursion P xs
