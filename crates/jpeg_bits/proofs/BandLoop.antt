@@ -180,5 +180,4 @@ pub IsAt-none : (table : Table) (al : ℕ) (whole : Reads Band) (a b : Ahead) (o
     → length band ≤ at → IsAt table al whole a old band at b new
     → Takes (λ (run : ℕ). (band, run)) whole a old (Ok 0) b new
 unfolding first_ac
-IsAt-none table al whole a b old new band at end p =
-    let left = rw (take_all at band end, drop_all at band end) at p.2 in grind (arith, append-nil)
+IsAt-none table al whole a b old new band at end p = grind (arith, take_all, drop_all, append-nil)

@@ -1,5 +1,6 @@
 -- Steps of loops over a decoder.
-use Rattle.std.proofs.Common.{◌≡◌, ℕ, ◌<◌, List, Result, Ok, Err, refl, ◌∙◌, arith, ◌++◌, append_assoc, ℤ}
+use Rattle.std.proofs.Common.{◌≡◌, ℕ, ◌<◌, List, Result, Ok, Err, refl, ◌∙◌, arith, ◌++◌}
+use Rattle.std.proofs.Common.{append_assoc, ℤ}
 use Rattle.jpeg_bits.specs.Stream.{Stream}
 use Rattle.jpeg_bits.specs.Reading.{Fault, ◌>>=◌}
 use Rattle.jpeg_bits.specs.Entropy.{Text, Ahead, Takes, bits_from, same_text}
@@ -7,7 +8,7 @@ use Rattle.jpeg_bits.specs.declared.error.Error.{Error}
 use Rattle.jpeg_bits.specs.Bands.{Band}
 use Rattle.jpeg_bits.proofs.BandLoop.{Leaves}
 use Rattle.jpeg_bits.proofs.Fast.{no-bits}
-use Rattle.jpeg_bits.proofs.Texts.{second_ok}
+use Rattle.jpeg_bits.proofs.Loops.{second_ok}
 use Rattle.jpeg_bits.specs.Pieces.{before}
 
 -- one step of the whole

@@ -1,21 +1,25 @@
 -- Taking bits that are held.
-use Rattle.std.proofs.Common.{◌≡◌, ℕ, ◌+◌, ◌-◌, ◌*◌, ◌^◌, ◌≤◌, Bool, true, false, cond, List, [], ◌++◌, length}
-use Rattle.std.proofs.Common.{take, drop, replicate, Option, Some, Result, Ok, Err, sym, ap, ◌∙◌, arith}
-use Rattle.std.proofs.Common.{length-append, length-drop, add-one, pow-suc, is_ok, subst}
+use Rattle.jpeg_bits.specs.declared.ahead.DataEnd.TheVariants as ends
+use Rattle.std.proofs.Common.{◌≡◌, ℕ, ◌+◌, ◌-◌, ◌*◌, ◌^◌, ◌≤◌, Bool, true, false, cond, List, []}
+use Rattle.std.proofs.Common.{◌++◌, length, take, drop, replicate, Option, Some, Result, Ok, Err}
+use Rattle.std.proofs.Common.{sym, ap, ◌∙◌, arith, length-append, length-drop, add-one, pow-suc}
+use Rattle.std.proofs.Common.{is_ok, subst, get_or, None, refl}
 use Rattle.std.proofs.Math.Seq.{drop-nil}
-use Rattle.std.proofs.lemmas.List.{length-replicate, drop-drop, drop-replicate, drop-append-le, take-append-le}
-use Rattle.jpeg_bits.specs.Reading.{Fault, ◌>>=◌, Names, MayFail, Answers, Gives}
-use Rattle.jpeg_bits.specs.Entropy.{Ending, Text, upcoming_by, upcoming, bits_from, has_bits, number_of}
-use Rattle.jpeg_bits.specs.Entropy.{advance, IsFilled, Ahead, Takes, same_text, IsWithin, has_buffered}
-use Rattle.jpeg_bits.specs.Entropy.{ending_of, marker_at_end, marker_from}
+use Rattle.std.proofs.lemmas.List.{length-replicate, drop-drop, drop-replicate, drop-append-le}
+use Rattle.std.proofs.lemmas.List.{take-append-le}
+use Rattle.jpeg_bits.specs.Reading.{Fault, ◌>>=◌, Names, MayFail, Answers, Gives, Malformed}
+use Rattle.jpeg_bits.specs.Reading.{NamesFormat}
+use Rattle.jpeg_bits.specs.Entropy.{Ending, Text, upcoming_by, upcoming, bits_from, has_bits}
+use Rattle.jpeg_bits.specs.Entropy.{number_of, advance, IsFilled, Ahead, Takes, same_text, IsWithin}
+use Rattle.jpeg_bits.specs.Entropy.{has_buffered, ending_of, marker_at_end, marker_from, text_at}
 use Rattle.jpeg_bits.specs.Stream.{Stream}
 use Rattle.jpeg_bits.specs.declared.ahead.DataEnd.{DataEnd}
 use Rattle.std.proofs.lemmas.Bool.{false≢true}
 use Rattle.jpeg_bits.specs.declared.error.Error.{Error}
-use Rattle.jpeg_bits.proofs.Loops.{bind_err, still_known}
-use Rattle.jpeg_bits.proofs.Texts.{same, none_left, second_ok, Takes-marker, Takes-no_marker}
+use Rattle.jpeg_bits.proofs.Loops.{bind_err, still_known, same, none_left, second_ok, Takes-marker}
+use Rattle.jpeg_bits.proofs.Loops.{Takes-no_marker}
 use Rattle.jpeg_bits.specs.declared.marker.Marker.{Marker}
-use Rattle.jpeg_bits.specs.declared.ahead.DataEnd.TheVariants as ends
+use Rattle.jpeg_bits.specs.Codes.{Table, code_in, code_lengths, next_16, code_from}
 
 -- a value and the text after it, where the bits of it can be taken
 abbrev pub if_buffered : {A : Type 0} → A → Text → Result (Unit {0}) Fault → Result (A × Text) Fault
@@ -101,13 +105,13 @@ bit_le b = grind arith
 pub pow_more : (i : ℕ) → 2 ^ (i + 1) ≡ 2 * 2 ^ i
 pow_more i = rw add-one (omega (arith, pow-suc 2 i))
 
-pub Takes-end : (u : Unit {0}) (a b : Ahead) (old new : Stream) (met : Option DataEnd)
+pub takes_end : (u : Unit {0}) (a b : Ahead) (old new : Stream) (met : Option DataEnd)
     (r : Result (Option Marker) Error) → IsFilled 57 b.bits b.met → b.met ≡ met → Gives
     (marker_at_end met) r
     → Takes (λ (x : Unit {0}). 0) same_text a old (Ok u) b new
     → Answers (λ (m : Option Marker). m) (λ bytes. marker_from (upcoming a bytes)) old r new
-Takes-end u a b old new met (Ok m) h e g p = Takes-marker u a b old new m h (ap marker_at_end e ∙ g) p
-Takes-end u a b old new met (Err e) h is g p =
+takes_end u a b old new met (Ok m) h e g p = Takes-marker u a b old new m h (ap marker_at_end e ∙ g) p
+takes_end u a b old new met (Err e) h is g p =
     Takes-no_marker u a b old new e h (rw is g) (MayFail-same e (marker_at_end b.met) new.failed (rw is g)) p
 
 -- after a marker zeros come without end
@@ -125,3 +129,36 @@ pub zero_next : (a b : Ahead) (bytes : List ℕ) → b ≡ a → length b.bits �
     → bits_from 1 (upcoming a bytes) ≡ Ok (0, upcoming a bytes)
 unfolding upcoming
 zero_next a b bytes e none h = subst (λ (a : Ahead). GivesZero a.bits a.met bytes) e (h b.bits bytes none)
+
+-- ---- taking a symbol of bits that are held
+
+pub next_buffered : (bits : List Bool) (met : Option DataEnd) (bytes : List ℕ) → IsFilled 16 bits
+    met
+    → next_16 (upcoming_by bits met bytes).bits ≡ next_16 bits
+next_buffered bits None bytes h =
+    let t = text_at bytes in
+    take-append-le 16 (bits ++ t.bits) (replicate 16 false) (omega (arith, length-append bits t.bits))
+    ∙ take-append-le 16 bits t.bits h ∙ sym (take-append-le 16 bits (replicate 16 false) h)
+next_buffered bits (Some m) bytes h = refl
+
+pub code_from-buffered : (table : Table) (bits : List Bool) (met : Option DataEnd) (bytes : List ℕ)
+    (c : ℕ × ℕ)
+    → IsFilled 16 bits met → c.1 ≤ 16 → code_in (code_lengths table.counts) (next_16 bits) ≡ Some c
+    → code_from table (upcoming_by bits met bytes)
+    ≡ if_buffered (c.1, get_or table.symbols c.0 0) (upcoming_by (drop c.1 bits) met bytes)
+    (has_buffered c.1 bits met)
+unfolding code_from
+code_from-buffered table bits met bytes c h le e =
+    grind (arith, filled-less, next_buffered, has_bits-buffered, advance-buffered)
+
+pub code_from-none : (table : Table) (bits : List Bool) (met : Option DataEnd) (bytes : List ℕ) → IsFilled 16 bits met
+    → code_in (code_lengths table.counts) (next_16 bits) ≡ None → code_from table (upcoming_by bits met bytes)
+    ≡ Err Malformed
+unfolding code_from
+code_from-none table bits met bytes h e = grind (arith, next_buffered)
+
+pub names_format : {Y : Type 0} (e : Error) (o : Result Y Fault) → NamesFormat e → o ≡ Err Malformed → Names e o
+names_format e o n h = grind arith
+
+pub may_fail_format : (e : Error) (a b : Bool) → NamesFormat e → b ≡ a → MayFail e a b
+may_fail_format e a b n h = grind arith

@@ -1,41 +1,31 @@
 -- Blocks of a first pass of which DC alone is kept.
-use Rattle.std.proofs.Common.{◌≡◌, ℕ, ℤ, zero, suc, ◌+◌, Bool, true, false, List, [], ◌∷◌, ◌++◌, length}
-use Rattle.std.proofs.Common.{take, drop, map, pos, set, Result, Ok, Err, refl, sym, ap, ap₂, subst, ◌∙◌}
-use Rattle.std.proofs.Common.{arith, length-append, length-take, length-drop, Option}
+use Rattle.std.proofs.Common.{◌≡◌, ℕ, ℤ, zero, suc, Bool, true, false, List, [], ◌∷◌, length, map}
+use Rattle.std.proofs.Common.{pos, set, Result, Ok, Err, refl, sym, ap, ap₂, subst, ◌∙◌, arith}
+use Rattle.std.proofs.Common.{length-append, length-take, length-drop, Option}
 use Rattle.std.proofs.lemmas.List.{length-map}
 use Rattle.std.proofs.lemmas.Bool.{false≢true}
 use Rattle.jpeg_bits.specs.Reading.{Fault}
 use Rattle.jpeg_bits.specs.Stream.{Stream}
-use Rattle.jpeg_bits.specs.Entropy.{Text, Ahead, Takes, upcoming}
+use Rattle.jpeg_bits.specs.Entropy.{Text, Ahead, Takes}
 use Rattle.jpeg_bits.specs.Codes.{Table}
 use Rattle.jpeg_bits.specs.Readers.{Reads, read_on, gives}
 use Rattle.jpeg_bits.specs.Bands.{Band}
-use Rattle.jpeg_bits.specs.Passes.{Pass, Block, band_of, before_band, band_size, with_band, dc_part}
-use Rattle.jpeg_bits.specs.Passes.{band_part, block_from}
+use Rattle.jpeg_bits.specs.Passes.{Pass, Block, band_of, band_size, with_band, dc_part, band_part}
+use Rattle.jpeg_bits.specs.Passes.{block_from}
 use Rattle.jpeg_bits.specs.Refusals.{outcome_of}
 use Rattle.jpeg_bits.specs.BlockView.{to_block, IsPass}
 use Rattle.jpeg_bits.specs.Skips.{run_of, run_part, dc_alone, kept, kept_turn}
 use Rattle.jpeg_bits.specs.declared.error.Error.{Error}
 use Rattle.jpeg_bits.proofs.BandLoop.{Leaves}
-use Rattle.jpeg_bits.proofs.Loops.{Names-through}
-use Rattle.jpeg_bits.proofs.SkipLemmas.{first-measured, measured, of_length}
-use Rattle.jpeg_bits.proofs.ZigzagParts.{band-is, band-length, dc-put}
-use Rattle.jpeg_bits.proofs.WholeBlocks.{refused_after}
+use Rattle.jpeg_bits.proofs.WideTokens.{first-measured, measured, of_length}
+use Rattle.jpeg_bits.proofs.ZigzagIndices.{band-is, band-length, dc-put}
 
 -- what is made of what a call reads
 pub Takes-map : {X Y Z : Type 0} (f : Y → Z) (view : X → Y) (read : Reads Y) (a b : Ahead) (old new : Stream)
     (r : Result X Error) → Takes view read a old r b new
     → Takes (λ (x : X). f (view x)) (λ (t : Text). read_on (λ (y : Y). gives (f y)) (read t)) a old r b new
-Takes-map {X} {Y} {Z} f view read a b old new (Ok x) h = (
-  h.0,
-  λ known. let at = h.1 known in (at.0, ap (read_on (λ (y : Y). gives (f y))) at.1),
-)
-Takes-map {X} {Y} {Z} f view read a b old new (Err e) h = (
-  h.0,
-  (λ known still. Names-through _ _ (read_on (λ (y : Y). gives (f y))
-      (read (upcoming a old.bytes))) (λ g is. ap (read_on (λ (y : Y). gives (f y))) is) (h.1 known still)),
-  h.2,
-)
+Takes-map {X} {Y} {Z} f view read a b old new (Ok x) h = grind arith
+Takes-map {X} {Y} {Z} f view read a b old new (Err e) h = grind arith
 
 abbrev zeros_of : List ℤ → List ℤ
 zeros_of xs = map (λ (x : ℤ). pos 0) xs
@@ -48,19 +38,7 @@ same-zeros (x ∷ xs) [] h = absurd (omega arith)
 
 band-zeros : (p : Pass) (acs band : List ℤ) → length band ≡ length (band_of p acs)
     → zeros_of (with_band p acs band) ≡ zeros_of acs
-band-zeros p acs band h =
-    let b = before_band p in
-    let n = band_size p in
-    same-zeros (with_band p acs band) acs (omega (
-      arith,
-      h,
-      length-append (take b acs) (band ++ drop (b + n) acs),
-      length-append band (drop (b + n) acs),
-      length-take b acs,
-      length-drop (b + n) acs,
-      length-take n (drop b acs),
-      length-drop b acs,
-    ))
+band-zeros p acs band h = grind (arith, same-zeros, length-append, length-take, length-drop)
 
 -- the band of a first pass, whose coefficients are not kept
 band-measured : (p : Pass) (ac : Table) (band : List ℤ) (run : ℕ) (t : Text) → p.is_first ≡ true
@@ -115,15 +93,7 @@ module _ (p : Pass) (dc ac : Table) (predictor : ℤ) (run : ℕ) (block : List 
   pub dc-read : (value next : ℤ) (a b : Ahead) (old new : Stream)
       → Takes (λ (u : Unit {0}). (value, next)) (dc_part p dc (to_block block).dc predictor) a old (Ok tt) b new
       → Leaves whole a old (dc_turn p ac run (to_block block).acs (value, next)) b new
-  dc-read value next a b old new h = (
-    h.0,
-    λ known.
-        let at = h.1 known in (
-          at.0,
-          block-alone _ _ _ _ _ _ _ f
-              ∙ ap (read_on (dc_turn p ac run (to_block block).acs)) at.1,
-        ),
-  )
+  dc-read value next a b old new h = grind (arith, block-alone)
 
   pub dc-alone-read : (value next : ℤ) (more : ℕ) (a b d : Ahead) (old cur new : Stream) (refusal : Option Error)
       (done : Bool) → IsPass p → Leaves whole a old (dc_turn p ac run (to_block block).acs (value, next)) b cur
@@ -140,32 +110,15 @@ module _ (p : Pass) (dc ac : Table) (predictor : ℤ) (run : ℕ) (block : List 
       size : length (band_of p acs) ≡ band_size p
       size = ap (λ (l : List ℤ). length l) (sym (band-is p block)) ∙ band-length p block is
 
-      made : Reads (Block × ℤ × ℕ)
-      made t = read_on (λ (more : ℕ). gives (record { dc = value; acs = zeros_of acs }, next, more))
-          (run_part ac (length (band_of p acs)) run t)
-
       put : kept false (to_block (set block 0 value)) ≡ record { dc = value; acs = zeros_of acs }
       put = ap (kept false) (dc-put block value n)
 
       go : (r : Result (Unit {0}) Error)
           → Takes (λ (u : Unit {0}). more) (run_part ac (length (band_of p acs)) run) b cur r d new
           → Takes (λ (u : Unit {0}). (kept false (to_block (set block 0 value)), next, more)) whole a old r d new
-      go (Ok u) q = (
-        q.0 ∙ left.0,
-        λ known.
-            let at = left.1 known in
-            let by = q.1 at.0 in (
-              by.0,
-              at.1 ∙ ap (read_on (λ (k : ℕ). gives (record { dc = value; acs = zeros_of acs }, next, k))) by.1
-                  ∙ ap (λ (x : Block). Ok ((x, next, more), upcoming d new.bytes)) (sym put),
-            ),
-      )
+      go (Ok u) q = grind (arith, put)
       go (Err e) q =
-          refused_after (λ (u : Unit {0}). (kept false (to_block (set block 0 value)), next, more))
-          (λ (u : Unit {0}). more) whole (dc_turn p ac run acs (value, next))
-          (run_part ac (length (band_of p acs)) run) a b d old cur new e
-          (λ t fault is'. ap (read_on (λ (k : ℕ). gives (record { dc = value; acs = zeros_of acs }, next, k)))
-          is') left q
+          grind arith
 
 -- a block of the same DC, and of as many others, is read alike
 pub blocks-alike : (p : Pass) (dc ac : Table) (predictor : ℤ) (run : ℕ) (b c : Block) (t : Text) → p.is_first ≡ true
@@ -181,16 +134,7 @@ blocks-alike p dc ac predictor run b c t f e =
     long xs = grind (arith, length-map)
 
     same-size : zeros_of b.acs ≡ zeros_of c.acs → length (band_of p b.acs) ≡ length (band_of p c.acs)
-    same-size h = omega (
-      arith,
-      ap (λ (l : List ℤ). length l) h,
-      long b.acs,
-      long c.acs,
-      length-take (band_size p) (drop (before_band p) b.acs),
-      length-take (band_size p) (drop (before_band p) c.acs),
-      length-drop (before_band p) b.acs,
-      length-drop (before_band p) c.acs,
-    )
+    same-size h = let e = ap (λ (l : List ℤ). length l) h in grind (arith, long, length-take, length-drop)
 
     go : b.dc ≡ c.dc → zeros_of b.acs ≡ zeros_of c.acs
         → read_on (dc_turn p ac run b.acs) (dc_part p dc b.dc predictor t)

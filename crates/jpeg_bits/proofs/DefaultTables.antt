@@ -76,8 +76,7 @@ same-length l r destinations ts = grind arith
 -- tables that nothing was done to
 pub untouched : (l r : Table) (destinations : List ℕ) (ts : List (Option Table))
     → AreBetween ts (with_defaults l r destinations ts) ts
-untouched l r destinations ts = as-it-was (with_defaults l r destinations ts) ts (same-length l r
-    destinations ts)
+untouched l r destinations ts = grind (arith, as-it-was, same-length)
 
 -- tables that were filled
 pub all-done : (whole : List (Option Table)) (ts : List (Option Table)) → length whole ≡ length ts

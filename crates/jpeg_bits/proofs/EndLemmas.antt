@@ -1,17 +1,21 @@
 -- Where reading goes on after an interval, as it is defined and as it is read ahead.
-use Rattle.std.proofs.Common.{◌≡◌, ◌⊎◌, inl, inr, ℕ, zero, suc, ◌+◌, ◌-◌, ◌/◌, ◌<◌, ◌≤◌, Bool, true, false, cond, List}
-use Rattle.std.proofs.Common.{[], ◌∷◌, ◌++◌, length, drop, get_or, replicate, refl, sym, ap, ◌∙◌, arith, eqb}
-use Rattle.std.proofs.Common.{length-append, length-drop, Ok, Option}
-use Rattle.std.proofs.lemmas.List.{length-replicate, drop-drop, drop_more, get_or_append_left, get_or-replicate}
-use Rattle.std.proofs.lemmas.Bool.{le-leb, lt-leb, cases_lt}
-use Rattle.jpeg_bits.specs.Reading.{Outcome, End, ◌>>=◌}
-use Rattle.jpeg_bits.specs.Entropy.{Text, Ending, Broken, bits_of, text_at, add_byte, no_bits, ending_at}
-use Rattle.jpeg_bits.specs.Entropy.{upcoming, fresh, advance, marker_from, marker_by}
+use Rattle.std.proofs.Common.{◌≡◌, ◌⊎◌, inl, inr, ℕ, zero, suc, ◌+◌, ◌-◌, ◌/◌, ◌<◌, ◌≤◌, Bool, true}
+use Rattle.std.proofs.Common.{false, cond, List, [], ◌∷◌, ◌++◌, length, drop, get_or, replicate}
+use Rattle.std.proofs.Common.{refl, sym, ap, ◌∙◌, arith, eqb, length-append, length-drop, Ok}
+use Rattle.std.proofs.Common.{Option, Some, None, Err}
+use Rattle.std.proofs.lemmas.List.{length-replicate, drop-drop, drop_more, get_or_append_left}
+use Rattle.std.proofs.lemmas.List.{get_or-replicate}
+use Rattle.std.proofs.lemmas.Bool.{le-leb, lt-leb, cases_lt, false≢true, eqb-true, eq-eqb}
+use Rattle.jpeg_bits.specs.Reading.{Outcome, End, ◌>>=◌, Fault}
+use Rattle.jpeg_bits.specs.Entropy.{Text, Ending, Broken, bits_of, text_at, add_byte, no_bits}
+use Rattle.jpeg_bits.specs.Entropy.{ending_at, upcoming, fresh, advance, marker_from, marker_by}
 use Rattle.jpeg_bits.specs.Intervals.{after_bytes, met, end_after, interval}
 use Rattle.jpeg_bits.specs.Readers.{Reads}
 use Rattle.jpeg_bits.specs.declared.marker.Marker.{Marker}
 use Rattle.jpeg_bits.proofs.TakenTexts.{Taken, TakesBits}
 use Rattle.jpeg_bits.proofs.TakenTexts.Taken.{gave, failed}
+use Rattle.jpeg_bits.specs.Marker.{marker_of, marker_at, found_or, next_marker}
+use Rattle.jpeg_bits.specs.NextMarker.{IsNoMarker, IsNextMarker, HasNoMarker}
 
 -- Each bit of a text has the place after the byte that has it.
 pub record IsPlaced (bytes : List ℕ) (t : Text) : Type 0 where
@@ -30,13 +34,7 @@ add-placed : (bytes rest : List ℕ) (b : ℕ) (t : Text) → ((n : ℕ) → aft
     → IsPlaced rest t → IsPlaced bytes (add_byte b rest t)
 unfolding after_bytes
 add-placed bytes rest b t step h = record {
-  sized = omega (
-    arith,
-    length-append (replicate 8 rest) t.following,
-    length-replicate 8 rest,
-    length-append (bits_of b) t.bits,
-    h.sized,
-  );
+  sized = let s = h.sized in grind (arith, length-append, length-replicate);
   each = λ i lt. elim (cases_lt i 8) [
     | inl low ↦
         let z : i / 8 ≡ 0 = omega arith in
@@ -147,3 +145,71 @@ ahead-so {A} read bytes h = go (h t.bits t.ending)
         let first = is t.ending t.following (inl refl) in
         let again = is t.ending (drop 56 t.following) (inl refl) in
         grind (arith, first, again, ends-within n t.bits bytes, ends-so n bytes)
+
+-- ---- the next marker is at the least index
+
+-- what a search finds, with what was found
+abbrev pub Finds : List ℕ → Outcome Marker → Type 0
+Finds bytes o = ((i : ℕ) × (m : Marker) × (rest : List ℕ) × (o ≡ Ok (m, rest)) × IsNextMarker bytes i m rest)
+    ⊎ ((o ≡ Err End) × HasNoMarker bytes)
+
+none-short : (bytes : List ℕ) → length bytes ≤ 1 → HasNoMarker bytes
+none-short bytes h j lt = absurd (omega arith)
+
+marker_at-none : (a b : ℕ) → marker_at a b ≡ None → a ≡ 255 → marker_of b ≡ None
+marker_at-none a b h e = ap (λ (x : Bool). cond x (marker_of b) None) (sym (eq-eqb a 255 e)) ∙ h
+
+-- a marker at the first byte
+here : (a b : ℕ) (rest : List ℕ) (m : Marker) → (x : Bool) → eqb a 255 ≡ x → cond x (marker_of b) None ≡ Some m
+    → IsNextMarker (a ∷ b ∷ rest) 0 m rest
+here a b rest m x t e = grind (arith, eqb-true)
+
+before : (a b : ℕ) (rest : List ℕ) → marker_at a b ≡ None → (n : ℕ) → ((j : ℕ) → j < n → IsNoMarker (b ∷ rest) j)
+    → (j : ℕ) → j < suc n → IsNoMarker (a ∷ b ∷ rest) j
+before a b rest h n k j lt = grind (arith, marker_at-none)
+
+later : (a b : ℕ) (rest others : List ℕ) (i : ℕ) (m : Marker) → marker_at a b ≡ None
+    → IsNextMarker (b ∷ rest) i m others → IsNextMarker (a ∷ b ∷ rest) (suc i) m others
+later a b rest others i m h k =
+    let e : suc i + 1 ≡ suc (i + 1) = omega arith in
+    let f : suc i + 2 ≡ suc (i + 2) = omega arith in
+    grind (arith, before)
+
+step : (a b : ℕ) (rest : List ℕ) (x : Option Marker) → marker_at a b ≡ x → Finds (b ∷ rest) (next_marker (b ∷ rest))
+    → Finds (a ∷ b ∷ rest) (found_or x rest (next_marker (b ∷ rest)))
+step a b rest (Some m) e h = inl (0, m, rest, refl, here a b rest m (eqb a 255) refl e)
+step a b rest None e (inl h) = inl (suc h.0, h.1, h.2, h.3, later a b rest h.2 h.0 h.1 e h.4)
+step a b rest None e (inr h) = inr (h.0, λ j lt. before a b rest e j (λ k l. h.1 k (omega arith)) j (omega arith))
+
+pub finds : (bytes : List ℕ) → Finds bytes (next_marker bytes)
+unfolding next_marker
+finds [] = inr (refl, none-short [] (omega arith))
+finds (a ∷ []) = inr (refl, none-short (a ∷ []) (omega arith))
+finds (a ∷ b ∷ rest) = step a b rest (marker_at a b) refl (finds (b ∷ rest))
+
+-- a marker begins at one least index alone
+same-index : (bytes : List ℕ) (i j : ℕ) (m n : Marker) (a b : List ℕ) → IsNextMarker bytes i m a
+    → IsNextMarker bytes j n b → i < j → ⊥
+same-index bytes i j m n a b p q lt = let e = q.least i lt p.first in let d = p.second in cc
+
+only-one : (bytes : List ℕ) (i j : ℕ) (m n : Marker) (a b : List ℕ) → IsNextMarker bytes i m a
+    → IsNextMarker bytes j n b → i ≡ j
+only-one bytes i j m n a b p q = grind (arith, cases_lt, same-index)
+
+marker-same : (bytes : List ℕ) (i j : ℕ) (m n : Marker) (a b : List ℕ) → IsNextMarker bytes i m a
+    → IsNextMarker bytes j n b → i ≡ j → ◌≡◌ {A = Outcome Marker} (Ok (n, b)) (Ok (m, a))
+marker-same bytes i j m n a b p q e = grind arith
+
+pub is-found : (bytes : List ℕ) (i : ℕ) (m : Marker) (rest : List ℕ) → IsNextMarker bytes i m rest
+    → next_marker bytes ≡ Ok (m, rest)
+is-found bytes i m rest p = grind (arith, marker-same, only-one, finds bytes)
+
+pub only-found : (bytes : List ℕ) (m : Marker) (rest : List ℕ) → next_marker bytes ≡ Ok (m, rest)
+    → (i : ℕ) × IsNextMarker bytes i m rest
+only-found bytes m rest e = grind (arith, false≢true, finds bytes)
+
+pub none-found : (bytes : List ℕ) → HasNoMarker bytes → next_marker bytes ≡ Err End
+none-found bytes none = grind (arith, finds bytes)
+
+pub none-there : (bytes : List ℕ) (f : Fault) → next_marker bytes ≡ Err f → HasNoMarker bytes
+none-there bytes f e = grind (arith, false≢true, finds bytes)

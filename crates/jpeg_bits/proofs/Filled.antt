@@ -1,21 +1,54 @@
 -- A buffer that is filled from the front by reads.
-use Rattle.std.proofs.Common.{◌≡◌, ℕ, zero, suc, ◌+◌, ◌-◌, ◌<◌, ◌≤◌, true, List, [], ◌∷◌, ◌++◌, length, take, Ok, Err}
-use Rattle.std.proofs.Common.{refl, sym, ap, ◌∙◌, arith, append_assoc, length-take, length-take-le}
+use Rattle.jpeg_bits.specs.declared.error.Error.TheVariants as errors
+use Rattle.std.proofs.Common.{◌≡◌, ℕ, ◌<◌, ◌≤◌, ◌^◌, Bool, true, false, not, ◌&&◌, List, ◌++◌}
+use Rattle.std.proofs.Common.{length, take, ◌∙◌, Option, Ok, arith, length-append, ltb, zero, suc}
+use Rattle.std.proofs.Common.{◌+◌, ◌-◌, [], ◌∷◌, Err, refl, sym, ap, append_assoc, length-take}
+use Rattle.std.proofs.Common.{length-take-le}
+use Rattle.std.specs.Io.KnownBytes.{Keeps, Consumes, IsAtEnd}
 use Rattle.std.proofs.lemmas.Bool.{false≢true}
+use Rattle.jpeg_bits.specs.Stream.{Stream, stream_of, Rests}
+use Rattle.jpeg_bits.specs.Reading.{ReadsSome, Outcome, Fault, End, Answers, NamesEnd, next_byte}
+use Rattle.jpeg_bits.specs.Reading.{times, ◌>>=◌, skip_at}
 use Rattle.std.proofs.lemmas.List.{append-nil, take-append-le, take_all}
 use Rattle.std.proofs.Math.Seq.{take-append-add}
 use borrow.Rule.Slice.PartMut.{put_mid}
-use Rattle.jpeg_bits.specs.Stream.{Stream}
-use Rattle.jpeg_bits.specs.Reading.{Outcome, Fault, End, Answers, ReadsSome, NamesEnd, next_byte, times, ◌>>=◌, skip_at}
 use Rattle.jpeg_bits.specs.declared.error.Error.{Error}
-use Rattle.jpeg_bits.specs.declared.error.Error.TheVariants as errors
 use Rattle.jpeg_bits.proofs.Loops.{bind_at, bind_err}
+
+pub rests_trans : (a b c : Stream) → Rests a b → Rests b c → Rests a c
+rests_trans a b c p q = (q.0 ∙ p.0, λ k. ((q.1 (p.1 k).0).0, (q.1 (p.1 k).0).1 ∙ (p.1 k).1))
+
+-- both conjuncts of a flag that is true
+pub known_parts : (e f t : Bool) → not e && (not f && t) ≡ true → (e ≡ false) × (f ≡ false) × (t ≡ true)
+known_parts e f t h = grind (arith, false≢true)
+
+pub known_from : (e f t : Bool) → e ≡ false → f ≡ false → t ≡ true → not e && (not f && t) ≡ true
+known_from e f t p q r = rw (p, q) r
+
+-- an interrupted read
+pub rests_keeps : (a b : Option (List ℕ)) (f e : Bool) → Keeps a b → Rests (stream_of a f e) (stream_of b f e)
+rests_keeps a b f e h = grind (arith, known_parts, false≢true)
+
+shorter : (xs ys zs : List ℕ) → xs ≡ ys ++ zs → ltb (length xs) (2 ^ 64) ≡ true → ltb (length zs) (2 ^ 64) ≡ true
+shorter xs ys zs e h = grind (arith, length-append)
+
+-- a read that took some bytes
+pub reads_some : (a b : Option (List ℕ)) (f e : Bool) (n : ℕ) (buffer : List ℕ) → n ≤ length buffer
+    → Consumes a b (take n buffer) → (n ≡ 0 → 0 < length buffer → IsAtEnd b)
+    → ReadsSome (stream_of a f e) (Ok n) buffer (stream_of b f e)
+reads_some a b f e n buffer le h end = grind (arith, known_parts, false≢true, known_from, shorter)
+
+-- after some interrupted reads
+pub reads_after : (a b c : Stream) (n : ℕ) (buffer : List ℕ) → Rests a b → ReadsSome b (Ok n) buffer c
+    → ReadsSome a (Ok n) buffer c
+reads_after a b c n buffer p q = grind arith
+
+-- ---- a buffer that is filled from the front by reads
 
 pub bytes-read : (bytes rest : List ℕ) → times (length bytes) next_byte (bytes ++ rest) ≡ Ok (bytes, rest)
 unfolding times
 bytes-read [] rest = refl
-bytes-read (b ∷ bytes) rest = bind_at _ (times (length bytes) next_byte (bytes ++ rest)) (bytes, rest)
-    (bytes-read bytes rest)
+bytes-read (b ∷ bytes) rest = grind (arith, bind_at, bytes-read bytes rest)
 
 bytes-end : (bytes : List ℕ) (n : ℕ) → length bytes < n → times n next_byte bytes ≡ Err End
 unfolding times
@@ -81,9 +114,7 @@ skip-bytes (suc n) more (b ∷ bytes) =
 
 skip-step : (n left : ℕ) (bytes : List ℕ) → n ≤ left
     → skip_at left bytes ≡ (times n next_byte bytes >>= λ (x : List ℕ × List ℕ). skip_at (left - n) x.1)
-skip-step n left bytes le =
-    let e : left ≡ n + (left - n) = omega arith in
-    ap (λ m. skip_at m bytes) e ∙ skip-bytes n (left - n) bytes
+skip-step n left bytes le = let e : left ≡ n + (left - n) = omega arith in grind (arith, skip-bytes)
 
 pub skip-refused : (n left : ℕ) (bytes : List ℕ) (f : Fault) → n ≤ left → times n next_byte bytes ≡ Err f
     → skip_at left bytes ≡ Err f

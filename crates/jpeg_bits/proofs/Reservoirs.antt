@@ -59,7 +59,7 @@ pub whole_word : (word count : ℕ) → count ≤ 64 → HasZerosAfter word coun
     → low_bits 64 word ≡ buffered_bits word count ++ replicate (64 - count) false
 whole_word word count h z =
     let e : 64 ≡ count + (64 - count) = omega arith in
-    let k = 64 - count in grind (arith, common_steps, nat_tests, low_bits-split, low_bits-zeros)
+    grind (arith, low_bits-split, low_bits-zeros)
 
 -- the first n bits, with zeros after them
 pub front_bits : (word count n : ℕ) → count ≤ 64 → n ≤ 64 → HasZerosAfter word count
@@ -181,7 +181,6 @@ pub prefix_number : (bits l : ℕ) → bits < 2 ^ 16 → l < 16
     → bits / 2 ^ (15 - l) ≡ number_of (take (l + 1) (low_bits 16 bits))
 prefix_number bits l h lt =
     let e : 16 ≡ l + 1 + (15 - l) = omega arith in
-    let p : 2 ^ 16 ≡ 2 ^ (l + 1 + (15 - l)) = ap (λ (k : ℕ). 2 ^ k) e in
-    grind (arith, common_steps, nat_tests, low_bits-take, number_of-low_bits, front_small)
+    grind (arith, low_bits-take, number_of-low_bits, front_small)
 
 pub ruleset rests = (word_fits, rest_zeros, rest_buffered)

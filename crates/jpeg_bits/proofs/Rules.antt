@@ -1,28 +1,30 @@
 -- Lemmas that the proofs of functions use, by what they are about.
+use Rattle.jpeg_bits.proofs.WrittenBits.{takes-number}
+use Rattle.jpeg_bits.proofs.Fast.{tokens-same}
+use Rattle.jpeg_bits.proofs.ShortLemmas.{Code-buffered, Code-none, run-most, run-same, fast-not}
+use Rattle.jpeg_bits.proofs.ShortLemmas.{fast-refused, fast-taken, value_below, value_number}
 use Rattle.std.proofs.Common.{div-le_self, pow_mono}
 use Rattle.std.proofs.lemmas.Grind.{common_steps}
 use Rattle.std.proofs.lemmas.Result.{err_from_is_err_and}
 use Rattle.std.proofs.lemmas.List.{get_or_default}
-use Rattle.jpeg_bits.proofs.BlockWalks.{at-start, at-end}
-use Rattle.jpeg_bits.proofs.CodeLemmas.{length-lengths_from}
+use Rattle.jpeg_bits.proofs.PieceWalks.{at-start, at-end, clear_from, set_after, marks-later}
+use Rattle.jpeg_bits.proofs.PieceWalks.{gap-some}
+use Rattle.jpeg_bits.proofs.CodeLemmas.{first_le, index_within, row_found}
+use Rattle.jpeg_bits.proofs.CodeLemmas.{row_missed, above_more, none_found}
 use Rattle.jpeg_bits.proofs.Filled.{skip-refused as bytes-refused, skip-goes, skip-none, filled-err}
-use Rattle.jpeg_bits.proofs.Filled.{filled-room, filled-all}
-use Rattle.jpeg_bits.proofs.Masks.{clear_from, set_after, marks-later, gap-some}
+use Rattle.jpeg_bits.proofs.Filled.{filled-room, filled-all, rests_trans, rests_keeps, reads_some}
+use Rattle.jpeg_bits.proofs.Filled.{reads_after}
 use Rattle.jpeg_bits.proofs.Reservoirs.{front_number, front_below}
-use Rattle.jpeg_bits.proofs.RowLemmas.{first_le, index_within, row_found, row_missed, above_more, none_found}
-use Rattle.jpeg_bits.proofs.SkipLoop.{skip-refused, skip-overlong, skip-all}
-use Rattle.jpeg_bits.proofs.ZigzagParts.{kept-same}
+use Rattle.jpeg_bits.proofs.WideTokens.{skip-refused, skip-overlong, skip-all}
+use Rattle.jpeg_bits.proofs.ZigzagIndices.{kept-same}
 use Rattle.jpeg_bits.proofs.BufferedBits.{filled-less, filled-long}
 use Rattle.std.proofs.lemmas.Int.{wraps}
-use Rattle.jpeg_bits.proofs.ShortRuns.{run-most, run-same}
 use Rattle.jpeg_bits.proofs.Tables.{exist-tested, tested-exist, good-table, takes-symbol}
-use Rattle.jpeg_bits.proofs.MarkerLemmas.{is-found, only-found, none-found, none-there}
-use Rattle.jpeg_bits.proofs.Sources.{rests_trans, rests_keeps, reads_some, reads_after}
-use Rattle.jpeg_bits.proofs.DefaultTables.{luminance-dc-codes, chrominance-dc-codes, luminance-ac-codes}
-use Rattle.jpeg_bits.proofs.DefaultTables.{chrominance-ac-codes, untouched, done}
-use Rattle.jpeg_bits.proofs.ShortSymbols.{fast-not, fast-refused, fast-taken}
+use Rattle.jpeg_bits.proofs.EndLemmas.{ends-so, is-found, only-found, none-found, none-there}
+use Rattle.jpeg_bits.proofs.DefaultTables.{luminance-dc-codes, chrominance-dc-codes}
+use Rattle.jpeg_bits.proofs.DefaultTables.{luminance-ac-codes, chrominance-ac-codes, untouched}
+use Rattle.jpeg_bits.proofs.DefaultTables.{done}
 use Rattle.jpeg_bits.proofs.TakenBytes.{takes-first}
-use Rattle.jpeg_bits.proofs.ShortLemmas.{value_below, value_number}
 
 -- when enough bits are held
 pub ruleset filled = (filled-less, filled-long)
@@ -45,9 +47,6 @@ pub ruleset pieces = (at-start, at-end, kept-same, marks-later, gap-some)
 -- a band that is passed over
 pub ruleset runs = (skip-refused, skip-overlong, skip-all)
 
--- codes as they are built
-pub ruleset lengths = (length-lengths_from)
-
 -- the front of a reservoir
 pub ruleset fronts = (front_number, front_below, pow_mono)
 
@@ -64,15 +63,11 @@ pub ruleset markers = (is-found, only-found, none-found, none-there)
 pub ruleset rests = (rests_trans, rests_keeps, reads_after, reads_some)
 
 -- the default tables
-pub ruleset defaults = (
-  luminance-dc-codes,
-  chrominance-dc-codes,
-  luminance-ac-codes,
-  chrominance-ac-codes,
-  untouched,
-  done,
-  err_from_is_err_and,
-)
+pub ruleset luminance = (luminance-dc-codes, luminance-ac-codes)
+
+pub ruleset chrominance = (chrominance-dc-codes, chrominance-ac-codes)
+
+pub ruleset defaults = (luminance, chrominance, untouched, done, err_from_is_err_and)
 
 -- a short value
 pub ruleset fast = (wraps, fast-not, fast-refused, fast-taken)
@@ -82,3 +77,9 @@ pub ruleset values = (wraps, value_below, value_number)
 
 -- what is read of a slice
 pub ruleset taken = (takes-first)
+
+-- the laws of what is written, and of what is looked up
+pub ruleset laws = (ends-so, takes-number, tokens-same)
+
+-- a code of bits that are held
+pub ruleset buffered = (Code-buffered, Code-none)

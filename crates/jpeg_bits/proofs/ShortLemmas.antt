@@ -1,33 +1,43 @@
 -- Short codes and values.
 use Rattle.std.proofs.lemmas.Grind.{common_steps}
-use Rattle.std.proofs.Common.{◌≡◌, length-set, set, below_more, get_or-set_other, get_or-set_same, ℕ, ℤ, zero}
-use Rattle.std.proofs.Common.{suc, ◌+◌, ◌-◌, ◌*◌, ◌/◌, ◌%◌, ◌^◌, ◌<◌, ◌≤◌, Bool, true, false, cond, eqb, leb}
-use Rattle.std.proofs.Common.{ltb, ◌&&◌, List, [], ◌∷◌, ◌++◌, length, take, drop, get_or, replicate, Option}
-use Rattle.std.proofs.Common.{Some, None, Ok, refl, sym, ap, ◌∙◌, arith, inl, inr, length-append, length-take}
-use Rattle.std.proofs.Common.{length-drop, IfSome, is_some, pow_pos}
+use Rattle.std.proofs.Common.{◌≡◌, length-set, set, below_more, get_or-set_other, get_or-set_same}
+use Rattle.std.proofs.Common.{ℕ, ℤ, zero, suc, ◌+◌, ◌-◌, ◌*◌, ◌/◌, ◌%◌, ◌^◌, ◌<◌, ◌≤◌, Bool, true}
+use Rattle.std.proofs.Common.{false, cond, eqb, leb, ltb, ◌&&◌, List, [], ◌∷◌, ◌++◌, length, take}
+use Rattle.std.proofs.Common.{drop, get_or, replicate, Option, Some, None, Ok, refl, sym, ap, ◌∙◌}
+use Rattle.std.proofs.Common.{arith, inl, inr, length-append, length-take, length-drop, IfSome}
+use Rattle.std.proofs.Common.{is_some, pow_pos, Result, Err, is_ok}
 use Rattle.std.specs.Option.{option_map}
 use Rattle.std.proofs.Math.Seq.{drop-nil}
-use Rattle.std.proofs.lemmas.List.{take-take, take-append-le, take_all, take-replicate, drop-replicate}
-use Rattle.std.proofs.lemmas.List.{drop-take, drop-drop, length-replicate}
+use Rattle.std.proofs.lemmas.List.{take-take, take-append-le, take_all, take-replicate}
+use Rattle.std.proofs.lemmas.List.{drop-replicate, drop-take, drop-drop, length-replicate}
 use Rattle.std.proofs.lemmas.Bool.{cases_lt, false≢true}
 use Rattle.std.proofs.lemmas.Bool.Decides.{nat_tests}
-use Rattle.jpeg_bits.specs.Reading.{◌>>=◌}
-use Rattle.jpeg_bits.specs.Entropy.{number_of, extended, upcoming_by, has_buffered, IsFilled, text_at}
+use Rattle.jpeg_bits.specs.Reading.{◌>>=◌, Fault, ◌>>=◌ as ◌>>r=◌, Names, NamesFormat}
+use Rattle.jpeg_bits.specs.Entropy.{number_of, extended, upcoming_by, has_buffered, IsFilled}
+use Rattle.jpeg_bits.specs.Entropy.{text_at, Ahead, Takes, upcoming}
 use Rattle.jpeg_bits.specs.Readers.{read_on, signed_from}
 use Rattle.jpeg_bits.specs.Written.{low_bits}
-use Rattle.jpeg_bits.specs.Codes.{Table, code_in, code_lengths, code_value, begins, next_16, is_ac, short_token}
-use Rattle.jpeg_bits.specs.Codes.{after_code, short_code_by, short_code_from, short_value, fast_from}
-use Rattle.jpeg_bits.specs.ShortCodes.{named, symbol_in, short_only, short_code, short_value_by, short_value_of}
-use Rattle.jpeg_bits.specs.ShortCodes.{next_bits, packed}
+use Rattle.jpeg_bits.specs.Codes.{Table, code_in, code_lengths, code_value, begins, next_16, is_ac}
+use Rattle.jpeg_bits.specs.Codes.{short_token, after_code, short_code_by, short_code_from}
+use Rattle.jpeg_bits.specs.Codes.{short_value, fast_from, symbol_from, code_from}
+use Rattle.jpeg_bits.specs.ShortCodes.{named, symbol_in, short_only, short_code, short_value_by}
+use Rattle.jpeg_bits.specs.ShortCodes.{short_value_of, next_bits, packed, IsRun}
 use Rattle.jpeg_bits.specs.declared.codes.HuffmanTableClass.{HuffmanTableClass}
 use Rattle.jpeg_bits.specs.declared.ahead.DataEnd.{DataEnd}
-use Rattle.std.proofs.Math.Nat.{mod-lt}
+use Rattle.std.proofs.Math.Nat.{mod-lt, div-mul-le_self, div-eq_of_lt-le, mul-le-mul_right}
 use Rattle.jpeg_bits.proofs.CodeLemmas.{first_from}
 use Rattle.jpeg_bits.proofs.WrittenBits.{length_low_bits, number_of-low_bits}
-use Rattle.jpeg_bits.proofs.Reservoirs.{low_bits-append, low_bits-zeros, low_bits-take, low_bits-drop}
-use Rattle.jpeg_bits.proofs.Reservoirs.{same_zeros, front_small}
-use Rattle.jpeg_bits.proofs.Tables.{IsRising, ordered, all-rising}
-use Rattle.jpeg_bits.proofs.BufferedBits.{has_bits-buffered, advance-buffered, bits_from-buffered, filled-less}
+use Rattle.jpeg_bits.proofs.Reservoirs.{low_bits-append, low_bits-zeros, low_bits-take}
+use Rattle.jpeg_bits.proofs.Reservoirs.{low_bits-drop, same_zeros, front_small}
+use Rattle.jpeg_bits.proofs.Tables.{IsRising, ordered, all-rising, symbol-code}
+use Rattle.jpeg_bits.proofs.BufferedBits.{has_bits-buffered, advance-buffered, bits_from-buffered}
+use Rattle.jpeg_bits.proofs.BufferedBits.{filled-less, if_buffered, ok_unit, MayFail-same}
+use Rattle.jpeg_bits.proofs.BufferedBits.{code_from-buffered, code_from-none, names_format}
+use Rattle.jpeg_bits.proofs.BufferedBits.{may_fail_format}
+use Rattle.std.proofs.lemmas.Nat.{pow-add}
+use Rattle.jpeg_bits.specs.Stream.{Stream}
+use Rattle.jpeg_bits.specs.declared.error.Error.{Error}
+use Rattle.jpeg_bits.proofs.Loops.{Names-through, bind_err, still_known}
 
 -- ---- which code of at most n bits begins the bits is seen from the first n
 
@@ -70,8 +80,7 @@ module _ (n : ℕ) (lens : List ℕ) (rising : IsRising 1 16 lens) (x y : List B
           (first_from (begins lens y) (i + 1) k)
           → short_from n lens (cond b (Some i) (first_from (begins lens x) (i + 1) k)) ≡ short_from n lens
           (cond b (Some i) (first_from (begins lens y) (i + 1) k))
-      go true r = refl
-      go false r = r
+      go b r = grind arith
 
   pub short_agree : at_most n (code_in lens x) ≡ at_most n (code_in lens y)
   unfolding code_in
@@ -194,9 +203,7 @@ zeros-after (x ∷ xs) (suc l) n k h = zeros-after xs l n k (omega arith)
 -- the bits of a value after its code, of the first n
 pub value-bits : (n : ℕ) (bits : List Bool) (l s : ℕ) → l + s ≤ n
     → take s (drop l (next_bits n bits)) ≡ take s (drop l bits ++ replicate s false)
-value-bits n bits l s h =
-    let z = bits ++ replicate n false in
-    let e : n ≡ l + (n - l) = omega arith in grind (arith, common_steps, nat_tests, drop-take, take-take, zeros-after)
+value-bits n bits l s h = let e : n ≡ l + (n - l) = omega arith in grind (arith, drop-take, take-take, zeros-after)
 
 abbrev pub size_of : Table → ℕ × ℕ → ℕ
 size_of table c = get_or table.symbols c.0 0 % 16
@@ -312,3 +319,133 @@ small_packed o run few = grind arith
 -- bits that fit a byte
 pub within_byte : (o : Option (ℤ × ℕ × ℕ)) → IfSome o (λ t. t.2 ≤ 11) → IfSome o (λ t. t.2 ≤ 255)
 within_byte o h = grind arith
+
+-- ---- bytes that the same short code begins
+
+-- a code of l bits begins all bits that have its first l bits
+same-code : (symbols : List ℕ) (l v : ℕ) (x y : Option (ℕ × ℕ)) → at_most l x ≡ at_most l y
+    → named symbols (short_only x) ≡ Some (v, l) → named symbols (short_only y) ≡ Some (v, l)
+same-code symbols l v x y e h = grind (arith, false≢true, at_most)
+
+-- the same code begins the bytes of a run
+pub same-run : (counts symbols : List ℕ) (first b v l : ℕ) → length counts ≡ 16 → l ≤ 8
+    → b / 2 ^ (8 - l) ≡ first / 2 ^ (8 - l) → short_code counts symbols (low_bits 8 first) ≡ Some (v, l)
+    → short_code counts symbols (low_bits 8 b) ≡ Some (v, l)
+same-run counts symbols first b v l counted few e h =
+    let whole : l + (8 - l) ≡ 8 = omega arith in
+    grind (arith, take-append-le, length_low_bits, low_bits-take, same-code, short_agree, all-rising)
+
+-- a run of bytes
+pub run-entry : (counts symbols : List ℕ) (first end b : ℕ) (code : Option (ℕ × ℕ)) → length counts ≡ 16
+    → first ≤ b → b < end → IfSome code (λ c. c.1 ≤ 8) → IsRun first end code
+    → code ≡ short_code counts symbols (low_bits 8 first) → code ≡ short_code counts symbols (low_bits 8 b)
+run-entry counts symbols first end b code counted from to few run is = grind (arith, same-run)
+
+-- ---- where a run ends
+
+module _ (byte l : ℕ) (small : byte < 256) (few : l ≤ 8) where
+  pub run-most : (byte / 2 ^ (8 - l) + 1) * 2 ^ (8 - l) % 18446744073709551616 ≤ 256
+  run-most =
+      let side = 2 ^ (8 - l) in
+      let whole : l + (8 - l) ≡ 8 = omega arith in
+      let p = sym (pow-add 2 l (8 - l)) ∙ ap (λ (k : ℕ). 2 ^ k) whole in
+      grind (arith, front_small, mul-le-mul_right)
+
+  pub run-same : (code : Option (ℕ × ℕ)) (v : ℕ) → code ≡ Some (v, l)
+      → IsRun byte ((byte / 2 ^ (8 - l) + 1) * 2 ^ (8 - l) % 18446744073709551616) code
+  run-same code v is = rw is (grind (arith, div-mul-le_self, div-eq_of_lt-le))
+
+-- ---- symbols and short values of bits that are held
+
+-- the code of a symbol that is found
+record IsCode (table : Table) (bits : List Bool) (symbol size : ℕ) : Type 0 where
+  code : ℕ × ℕ
+  found : code_in (code_lengths table.counts) bits ≡ Some code
+  symbol_is : symbol ≡ get_or table.symbols code.0 0
+  size_is : code.1 ≡ size
+
+code_of : (table : Table) (bits : List Bool) (symbol size : ℕ) → symbol_in table bits ≡ Some (symbol, size)
+    → IsCode table bits symbol size
+code_of table bits symbol size h = grind (arith, false≢true)
+
+no_code_of : (table : Table) (bits : List Bool) → symbol_in table bits ≡ None → code_in (code_lengths table.counts) bits
+    ≡ None
+no_code_of table bits h = grind (arith, false≢true)
+
+code_from-named : (table : Table) (bits : List Bool) (met : Option DataEnd) (bytes : List ℕ) (symbol size : ℕ)
+    → IsFilled 16 bits met → size ≤ 16 → symbol_in table (next_16 bits) ≡ Some (symbol, size)
+    → code_from table (upcoming_by bits met bytes)
+    ≡ if_buffered (size, symbol) (upcoming_by (drop size bits) met bytes) (has_buffered size bits met)
+code_from-named table bits met bytes symbol size f le e = grind (arith, code_of, code_from-buffered)
+
+pub Code-buffered : (table : Table) (b d : Ahead) (source : Stream) (symbol size : ℕ) → IsFilled 16
+    b.bits b.met
+    → size ≤ 16 → symbol_in table (next_16 b.bits) ≡ Some (symbol, size) → is_ok (has_buffered size
+    b.bits b.met) ≡ true
+    → d.bits ≡ drop size b.bits → d.met ≡ b.met
+    → Takes (λ (c : ℕ × ℕ). c) (code_from table) b source (Ok (size, symbol)) d source
+unfolding upcoming
+Code-buffered table b d source symbol size f le e ok eb em = (
+  refl,
+  λ known. (
+    known,
+    code_from-named _ b.bits b.met source.bytes symbol size f le e
+        ∙ ap (if_buffered (size, symbol) (upcoming_by (drop size b.bits) b.met source.bytes)) (ok_unit _ ok)
+        ∙ sym (ap (λ bs. Ok ((size, symbol), upcoming_by bs d.met source.bytes)) eb
+        ∙ ap (λ m. Ok ((size, symbol), upcoming_by (drop size b.bits) m source.bytes)) em),
+  ),
+)
+
+pub Code-refused : (table : Table) (b : Ahead) (source : Stream) (symbol size : ℕ) (e : Error)
+    → IsFilled 16 b.bits b.met → size ≤ 16 → symbol_in table (next_16 b.bits) ≡ Some (symbol, size)
+    → Names e (has_buffered size b.bits b.met)
+    → Takes (λ (c : ℕ × ℕ). c) (code_from table) b source (Err e) b source
+unfolding upcoming
+Code-refused table b source symbol size e f le h want = (
+  MayFail-same e (has_buffered size b.bits b.met) source.failed want,
+  λ known _. Names-through _ _ _ (λ g x. code_from-named _ b.bits b.met source.bytes symbol size f le h
+      ∙ ap (if_buffered (size, symbol) (upcoming_by (drop size b.bits) b.met source.bytes)) x) want,
+  λ known gone. still_known e _ known gone,
+)
+
+pub Code-none : (table : Table) (b : Ahead) (source : Stream) (e : Error) → IsFilled 16 b.bits b.met
+    → symbol_in table (next_16 b.bits) ≡ None → NamesFormat e
+    → Takes (λ (c : ℕ × ℕ). c) (code_from table) b source (Err e) b source
+unfolding upcoming
+Code-none table b source e f h format =
+    grind (arith, may_fail_format, names_format, code_from-none, no_code_of, still_known)
+
+pub Symbol-of-code : (table : Table) (b d : Ahead) (source : Stream) (c : ℕ × ℕ)
+    → Takes (λ (c : ℕ × ℕ). c) (code_from table) b source (Ok c) d source
+    → Takes (λ (n : ℕ). n) (symbol_from table) b source (Ok c.1) d source
+Symbol-of-code table b d source c code = grind (arith, symbol-code)
+
+pub Symbol-no-code : (table : Table) (b d : Ahead) (source : Stream) (e : Error)
+    → Takes (λ (c : ℕ × ℕ). c) (code_from table) b source (Err e) d source
+    → Takes (λ (n : ℕ). n) (symbol_from table) b source (Err e) d source
+Symbol-no-code table b d source e code = grind (arith, symbol-code)
+
+pub fast-taken : (table : Table) (b d : Ahead) (bytes : List ℕ) (v : ℤ) (r n : ℕ) → length table.counts ≡ 16
+    → IsFilled 8 b.bits b.met → short_value_of 8 table (next_bits 8 b.bits) ≡ Some (v, r, n)
+    → is_ok (has_buffered n b.bits b.met) ≡ true → d.bits ≡ drop n b.bits → d.met ≡ b.met
+    → fast_from table (upcoming b bytes) ≡ Ok (Some (v, r), upcoming d bytes)
+unfolding upcoming
+fast-taken table b d bytes v r n counted f e ok eb em =
+    fast-some _ b.bits b.met bytes f counted v r n e
+    ∙ ap (λ (o : Result (Unit {0}) Fault). o >>r= λ (u : Unit {0}).
+    Ok (Some (v, r), upcoming_by (drop n b.bits) b.met bytes)) (ok_unit _ ok)
+    ∙ sym (ap (λ bs. Ok (Some (v, r), upcoming_by bs d.met bytes)) eb
+    ∙ ap (λ m. Ok (Some (v, r), upcoming_by (drop n b.bits) m bytes)) em)
+
+pub fast-refused : (table : Table) (b : Ahead) (bytes : List ℕ) (v : ℤ) (r n : ℕ) → length table.counts ≡ 16
+    → IsFilled 8 b.bits b.met → short_value_of 8 table (next_bits 8 b.bits) ≡ Some (v, r, n)
+    → (f : Fault) → has_buffered n b.bits b.met ≡ Err f → fast_from table (upcoming b bytes) ≡ Err f
+unfolding upcoming
+fast-refused table b bytes v r n counted h e f x =
+    fast-some table b.bits b.met bytes h counted v r n e ∙ bind_err _ _ f x
+
+pub fast-not : (table : Table) (b : Ahead) (bytes : List ℕ) → length table.counts ≡ 16 → IsFilled 8 b.bits b.met
+    → short_value_of 8 table (next_bits 8 b.bits) ≡ None
+    → fast_from table (upcoming b bytes) ≡ Ok (None, upcoming b bytes)
+unfolding upcoming
+fast-not table b bytes counted h e = fast-none table b.bits b.met bytes h counted e

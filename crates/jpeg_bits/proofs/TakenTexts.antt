@@ -58,8 +58,7 @@ refused-takes A = λ bits e. failed Malformed (λ ps. refl)
 
 pub if-takes : {A : Type 0} (b : Bool) (p q : Reads A) → TakesBits p → TakesBits q
     → TakesBits (if b then p else q)
-if-takes true p q x y = x
-if-takes false p q x y = y
+if-takes b p q x y = grind arith
 
 pub each-takes : {A B : Type 0} (read : A → Reads B) (xs : List A) → ((x : A) → TakesBits (read x))
     → TakesBits (each read xs)
@@ -177,7 +176,6 @@ pub blocks-takes : (p : Pass) (predictors : List ℤ) (run : ℕ) (turns : List 
 unfolding blocks_of
 blocks-takes p predictors run [] = gives-takes _
 blocks-takes p predictors run (t ∷ turns) =
-    bind-takes (block_from p t.0.dc t.0.ac (get_or predictors t.0.component (pos 0)) run t.1) _
-    (block-takes p t.0.dc t.0.ac (get_or predictors t.0.component (pos 0)) run t.1) (λ r.
-    bind-takes (blocks_of p (set predictors t.0.component r.1) r.2 turns) _
-    (blocks-takes p (set predictors t.0.component r.1) r.2 turns) (λ more. gives-takes _))
+    let others : (xs : List ℤ) (run : ℕ) → TakesBits (blocks_of p xs run turns)
+    = λ xs run. blocks-takes p xs run turns in
+    search (rules, bind-takes, block-takes, gives-takes)

@@ -32,9 +32,7 @@ pub takes-each : {X A B : Type 0} (read : A → Reads B) (f : X → A) (h : X �
 unfolding each
 takes-each read f h writes P takes [] bits all none = takes-gives []
 takes-each read f h writes P takes _ bits all (one x xs front more w ws) =
-    takes-bind (read (f x)) _ front more (h x) (h x ∷ map h xs) (takes x front all.0 w)
-    (takes-map (each read (map f xs)) (λ ys. h x ∷ ys) more (map h xs)
-    (takes-each read f h writes P takes xs more all.1 ws))
+    grind (arith, takes-bind, takes-map, takes-each read f h writes P takes xs more all.1 ws)
 
 -- ---- texts
 
@@ -204,16 +202,10 @@ module _ {X A B C : Type 0} (read : List A → Reads (List C)) (writes : List B 
       → intervals read k (map f xs) (map (map f) more) (bytes ++ marker fill code rest)
       ≡ Ok ((h xs ++ flat_map h more, Some m), rest)
   unfolding intervals
-  reads-intervals k xs [] bytes all others (last k' now bytes' w) = rw (append-nil (h xs))
-      (reads-interval (read (map f xs)) (writes (map g xs)) (h xs) (λ bits. takes xs bits all) bytes fill code m rest is
-      w)
+  reads-intervals k xs [] bytes all others (last k' now bytes' w) = search (rules, append-nil, reads-interval)
   reads-intervals k xs (next ∷ more) bytes all others (another k' fill' now next' more' first after w ws) =
-      (search (rules, append_assoc))
-      ∙ next-interval read k (map f xs) (map f next) (map (map f) more) _ (after ++ marker fill code rest) rest _ _
-      (Some m)
-      (reads-interval (read (map f xs)) (writes (map g xs)) (h xs) (λ bits. takes xs bits all) first fill'
-      (0xD0 + k % 8) (markers.RST (k % 8)) _ (rst-marker k) w)
-      (reads-intervals (suc k) next more after others.0 others.1 ws)
+      let later = reads-intervals (suc k) next more after others.0 others.1 ws in
+      search (rules, append_assoc, next-interval, reads-interval, rst-marker, later)
 
   -- A scan that was written is read, up to the marker after it.
   pub reads-groups : (n : ℕ) (xs : List X) (bytes : List ℕ) → AllByRecursion P xs

@@ -312,6 +312,7 @@ impl BufferedBits {
     /// bits are buffered, or the end is reached. A refusal is stored in `refusal`, and none is
     /// returned.
     #[inline(always)]
+    #[tactic(auto, using(crate::proofs::Rules::buffered))]
     pub(crate) fn take_buffered_code(
         &mut self,
         table: &HuffmanTable,
@@ -448,7 +449,7 @@ impl BufferedBits {
     /// Returns the tokens that the buffered bits begin with: how many bits they take, how many
     /// coefficients they stand for, and whether the last is the end of the band.
     #[inline(always)]
-    #[tactic(auto, using(crate::proofs::SkipLemmas::twelve_front))]
+    #[tactic(auto, using(crate::proofs::WideTokens::twelve_front))]
     pub(crate) fn skip_ahead(&self, table: &HuffmanTable) -> (u8, u8, bool)
         ensures { IsSkip table.now (next_bits 12 self.now.bits) result }
     {

@@ -30,6 +30,7 @@ impl Bits {
     ghost use Rattle.jpeg_bits.specs.Written.{low_bits};
     ghost use Rattle.jpeg_bits.specs.Entropy.{bits_of, number_of};
 
+    #[tactic(auto, unfolding(crate::specs::Written::low_bits))]
     pub(crate) fn new() -> Bits
         ensures { result ≡ [] }
     {
@@ -47,6 +48,7 @@ impl Bits {
     }
 
     #[inline(always)]
+    #[tactic(auto, unfolding(crate::specs::Written::low_bits))]
     pub(crate) fn clear(&mut self)
         ensures { self.new ≡ [] }
     {

@@ -100,7 +100,7 @@ impl Carried {
 
 /// Returns a DC coefficient with the bit set, where it isn't.
 #[inline]
-#[tactic(auto, using(std::proofs::lemmas::Int::wraps, crate::proofs::SetBits::or_rules))]
+#[tactic(auto, using(std::proofs::lemmas::Int::wraps, crate::proofs::PieceWalks::or_rules))]
 fn with_bit(value: i16, al: u8) -> i16
     requires { al ≤ 13 }
     ensures { result ≡ or_bit al value 1 }

@@ -19,6 +19,7 @@ ghost use Rattle.jpeg_bits.specs.Bands.{token_from};
 ghost use Rattle.jpeg_bits.specs.Lookups.{looked_up};
 
 /// A number is read of its bits, and nothing else.
+#[tactic(auto, using(crate::proofs::Rules::laws))]
 pub fn numbers_are_read()
     ensures { (n v : ℕ) → v < 2 ^ n → ReadsJust (bits_from n) (low_bits n v) v }
 {}
@@ -44,6 +45,7 @@ pub fn codes_are_unique()
 {}
 
 /// How an interval ends in which k bits were taken.
+#[tactic(auto, using(crate::proofs::Rules::laws))]
 pub fn intervals_end()
     ensures { (k : ℕ) (bytes : List ℕ) → marker_from (advance k (upcoming fresh bytes))
         ≡ end_after k bytes (drop k (text_at bytes).bits) (text_at bytes).ending }
@@ -73,6 +75,7 @@ pub fn next_markers_are_first()
 
 /// A token that is looked up, in a table for AC, is the token that is defined: a code and the bits
 /// after it.
+#[tactic(auto, using(crate::proofs::Rules::laws))]
 pub fn tokens_are_looked_up()
     ensures { (table : Table) (room : ℕ) (t : Text) → table.class ≡ AC →
         token_from table room t ≡ looked_up table room t }

@@ -51,7 +51,7 @@ pub(crate) fn unit(al: u8) -> i16
 
 /// Returns whether bit `al` of a number's two's complement isn't set.
 #[inline]
-#[tactic(auto, using(std::proofs::lemmas::Int::wraps, crate::proofs::SetBits::unsigned_bit))]
+#[tactic(auto, using(std::proofs::lemmas::Int::wraps, crate::proofs::PieceWalks::unsigned_bit))]
 pub(crate) fn lacks_bit(value: i16, al: u8) -> bool
     requires { al ≤ 13 }
     ensures { result ≡ (bit_of al value == 0) }
@@ -85,7 +85,7 @@ fn read_run<R: Read + Drop>(
 /// Returns how far a correction bit moves a number that isn't 0: by the unit of the point
 /// transform, where the bit is set and the number's own isn't.
 #[inline(always)]
-#[tactic(auto, using(std::proofs::lemmas::Int::wraps, crate::proofs::Corrections::distances))]
+#[tactic(auto, using(std::proofs::lemmas::Int::wraps, crate::proofs::PieceWalks::distances))]
 fn distance(value: i16, al: u8, bit: u16) -> u16
     requires level { al ≤ 13 }
     requires bit { bit < 2 }
@@ -145,7 +145,7 @@ fn correct<R: Read + Drop>(
 
 /// Marks the coefficients of a block that aren't 0 by 1, and the others by 0.
 #[inline(always)]
-#[tactic(auto, using(crate::proofs::Masks::marked_lanes, crate::proofs::Masks::block_fits))]
+#[tactic(auto, using(crate::proofs::PieceWalks::marked_lanes, crate::proofs::PieceWalks::block_fits))]
 fn marked(block: [i16; 64]) -> u16x64
     ensures { result ≡ map marked block }
 {
@@ -178,6 +178,7 @@ fn in_zigzag(values: u8x64) -> u8x64
 
 /// Sets the bits of a number at the indices of the values that aren't 0.
 #[inline(always)]
+#[tactic(auto, using(crate::proofs::PieceWalks::mask_bits))]
 fn bits_of(values: u8x64) -> u64
     requires { length values ≡ 64 }
     ensures { (k : ℕ) → bit_at result k ≡ (if slice_index values k == 0 then 0 else 1) }
@@ -187,6 +188,7 @@ fn bits_of(values: u8x64) -> u64
 
 /// Sets the bits of a number at the zigzag indices of the coefficients that aren't 0.
 #[inline(always)]
+#[tactic(auto, using(crate::proofs::PieceWalks::marked_small))]
 fn mask_of(block: [i16; 64]) -> u64
     ensures { MarksFrom result 0 block }
 {

@@ -1,3 +1,4 @@
+use Rattle.jpeg_bits.proofs.blocks.read_dc.Goals as goal
 use Rattle.std.proofs.Common.{◌≡◌, ◌+ℤ◌, ◌*ℤ◌, ◌^◌, ◌<◌, pos, length, set, FitsSigned, sym, ap, ◌∙◌}
 use Rattle.std.proofs.Common.{w16, rules, arith}
 use Rattle.std.proofs.lemmas.Int.{to_z-of_z}
@@ -6,8 +7,7 @@ use Rattle.jpeg_bits.specs.Bands.{wrapped}
 use Rattle.jpeg_bits.specs.Passes.{or_bit}
 use Rattle.jpeg_bits.specs.BlockView.{dc_in}
 use Rattle.jpeg_bits.proofs.BlockParts.{dc_first, dc_refined}
-use Rattle.jpeg_bits.proofs.SetBits.{or_none}
-use Rattle.jpeg_bits.proofs.blocks.read_dc.Goals as goal
+use Rattle.jpeg_bits.proofs.PieceWalks.{or_none}
 
 pub returns-then-pass-clause-part : goal.returns-then-pass-clause-part
 returns-then-pass-clause-part g c =

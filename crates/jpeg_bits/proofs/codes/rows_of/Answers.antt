@@ -1,10 +1,10 @@
+use Rattle.jpeg_bits.proofs.codes.rows_of.Goals as goal
 use Rattle.std.proofs.Common.{◌≡◌, ◌+◌, ◌*◌, ◌^◌, ◌<◌, get_or, length, arith, ap, ℕ}
 use Rattle.jpeg_bits.specs.ShortCodes.{row_at, no_row, value_after}
 use Rattle.jpeg_bits.specs.declared.codes.Row.{Row}
 use Rattle.jpeg_bits.proofs.BufferedBits.{pow_more}
 use Rattle.jpeg_bits.proofs.ShortLemmas.{set_next, length_set}
-use Rattle.jpeg_bits.proofs.RowLemmas.{value-more, index-more, same_row}
-use Rattle.jpeg_bits.proofs.codes.rows_of.Goals as goal
+use Rattle.jpeg_bits.proofs.CodeLemmas.{value-more, index-more, same_row}
 
 pub loop-i-preserved : goal.loop-i-preserved
 loop-i-preserved c =

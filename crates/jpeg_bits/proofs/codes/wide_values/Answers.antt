@@ -1,13 +1,14 @@
-use Rattle.std.proofs.Common.{ℤ, ◌≤◌, ◌≡◌, ◌∙◌, ◌+◌, ◌*◌, ◌%◌, ◌++◌, ℕ, List, Bool, sym, ap, subst, arith, replicate}
-use Rattle.std.proofs.Common.{false, None}
+use Rattle.jpeg_bits.proofs.codes.wide_values.Goals as goal
+use Rattle.std.proofs.Common.{ℤ, ◌≤◌, ◌≡◌, ◌∙◌, ◌+◌, ◌*◌, ◌%◌, ◌++◌, ℕ, List, Bool, sym, ap, subst}
+use Rattle.std.proofs.Common.{arith, replicate, false, None}
 use Rattle.jpeg_bits.specs.Codes.{code_in, code_lengths}
 use Rattle.jpeg_bits.specs.Written.{low_bits}
 use Rattle.jpeg_bits.specs.ShortCodes.{ArePassed, named, packed, short_value_by, short_value_of}
 use Rattle.jpeg_bits.specs.declared.codes.HuffmanTableClass.TheVariants.{AC}
-use Rattle.jpeg_bits.proofs.RowLemmas.{still-passed}
-use Rattle.jpeg_bits.proofs.ShortLemmas.{set_next, length_set, eleven_padded, within_byte, small_packed}
-use Rattle.jpeg_bits.proofs.SkipLemmas.{set-holds}
-use Rattle.jpeg_bits.proofs.codes.wide_values.Goals as goal
+use Rattle.jpeg_bits.proofs.CodeLemmas.{still-passed}
+use Rattle.jpeg_bits.proofs.ShortLemmas.{set_next, length_set, eleven_padded, within_byte}
+use Rattle.jpeg_bits.proofs.ShortLemmas.{small_packed}
+use Rattle.jpeg_bits.proofs.WideTokens.{set-holds}
 
 pub code_of-code-requires-clause-passed : goal.code_of-code-requires-clause-passed
 code_of-code-requires-clause-passed c =

@@ -1,9 +1,9 @@
+use Rattle.jpeg_bits.proofs.pairs.pairs_of.Goals as goal
 use Rattle.std.proofs.Common.{◌∙◌, arith, length-set, ℕ}
 use Rattle.jpeg_bits.specs.Written.{low_bits}
 use Rattle.jpeg_bits.specs.Pairs.{no_pair, pair_of}
-use Rattle.jpeg_bits.proofs.PairLemmas.{pair-at}
+use Rattle.jpeg_bits.proofs.WideTokens.{pair-at}
 use Rattle.jpeg_bits.proofs.ShortLemmas.{set_next}
-use Rattle.jpeg_bits.proofs.pairs.pairs_of.Goals as goal
 
 pub loop-bits-preserved : goal.loop-bits-preserved
 loop-bits-preserved c =

@@ -1,11 +1,10 @@
+use Rattle.jpeg_bits.proofs.refinement.correct.Goals as goal
 use Rattle.std.proofs.Common.{arith, ◌≡◌, w16}
 use Rattle.std.proofs.lemmas.Int.{to_z-of_z}
 use Rattle.std.specs.Int.{cast_signed, cast_unsigned}
 use Rattle.jpeg_bits.specs.Entropy.{bits_from}
 use Rattle.jpeg_bits.specs.Pieces.{corrected_from, moved_within, distance_of}
-use Rattle.jpeg_bits.proofs.Corrections.{index-moved, Takes-given, given}
-use Rattle.jpeg_bits.proofs.PieceWalks.{not_zero}
-use Rattle.jpeg_bits.proofs.refinement.correct.Goals as goal
+use Rattle.jpeg_bits.proofs.PieceWalks.{index-moved, Takes-given, given, not_zero}
 
 pub returns-clause-index : goal.returns-clause-index
 returns-clause-index g c =

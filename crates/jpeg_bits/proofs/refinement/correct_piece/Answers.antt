@@ -1,3 +1,4 @@
+use Rattle.jpeg_bits.proofs.refinement.correct_piece.Goals as goal
 use Rattle.std.proofs.Common.{List, ◌≡◌, ◌-◌, ◌+◌, ◌<◌, ◌≤◌, ℤ, ℕ, pos, get_or, length-set, ◌∙◌, ap}
 use Rattle.std.proofs.Common.{sym, w16, SFits, arith, rules}
 use Rattle.std.proofs.lemmas.Int.{to_z-of_z}
@@ -7,10 +8,9 @@ use Rattle.jpeg_bits.specs.Pieces.{piece_from, corrected_from}
 use Rattle.jpeg_bits.specs.BlockView.{pass_in}
 use Rattle.jpeg_bits.specs.ZigzagParts.{band_end, rest_in}
 use Rattle.jpeg_bits.proofs.BandSteps.{Leaves-ok, Leaves-err, Leaves-end}
-use Rattle.jpeg_bits.proofs.BlockWalks.{walk_at, at-value, at-refused}
-use Rattle.jpeg_bits.proofs.Masks.{gap-zeros, at-skips, at-gap, at-last-gap, marks-set, marks-later}
-use Rattle.jpeg_bits.proofs.ZigzagParts.{kept-set}
-use Rattle.jpeg_bits.proofs.refinement.correct_piece.Goals as goal
+use Rattle.jpeg_bits.proofs.PieceWalks.{walk_at, at-value, at-refused, gap-zeros, at-skips, at-gap}
+use Rattle.jpeg_bits.proofs.PieceWalks.{at-last-gap, marks-set, marks-later}
+use Rattle.jpeg_bits.proofs.ZigzagIndices.{kept-set}
 
 pub returns-then-left-gap-clause-piece : goal.returns-then-left-gap-clause-piece
 returns-then-left-gap-clause-piece g c =

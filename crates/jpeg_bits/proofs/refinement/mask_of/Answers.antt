@@ -1,10 +1,7 @@
+use Rattle.jpeg_bits.proofs.refinement.mask_of.Goals as goal
 use Rattle.std.proofs.Common.{ℕ, ◌==◌, List, get_or, map, ◌∙◌, ap}
 use Rattle.jpeg_bits.specs.Zigzag.{zigzag}
-use Rattle.jpeg_bits.proofs.Masks.{marks, one_or, marked-small}
-use Rattle.jpeg_bits.proofs.refinement.mask_of.Goals as goal
-
-pub narrowed-requires : goal.narrowed-requires
-narrowed-requires c = rw c.marked.ensures (marked-small c.args.block)
+use Rattle.jpeg_bits.proofs.PieceWalks.{marks, one_or}
 
 pub returns : goal.returns
 returns c =

@@ -1,9 +1,9 @@
+use Rattle.jpeg_bits.proofs.refinement.pass_piece.Goals as goal
 use Rattle.std.proofs.Common.{◌+◌, ◌∙◌, arith}
 use Rattle.jpeg_bits.specs.BlockView.{pass_in}
 use Rattle.jpeg_bits.specs.ZigzagParts.{band_end}
-use Rattle.jpeg_bits.proofs.BlockWalks.{at-end}
-use Rattle.jpeg_bits.proofs.Masks.{gap-zeros, gap-values, at-skips, at-keeps, at-gap, marks-later}
-use Rattle.jpeg_bits.proofs.refinement.pass_piece.Goals as goal
+use Rattle.jpeg_bits.proofs.PieceWalks.{at-end, gap-zeros, gap-values, at-skips, at-keeps, at-gap}
+use Rattle.jpeg_bits.proofs.PieceWalks.{marks-later}
 
 pub returns-then-index-end-clause-piece : goal.returns-then-index-end-clause-piece
 returns-then-index-end-clause-piece c block t long marks zeros =

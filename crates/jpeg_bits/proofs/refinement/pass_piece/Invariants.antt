@@ -1,11 +1,11 @@
+use Rattle.jpeg_bits.proofs.refinement.pass_piece.Given as goal
 use Rattle.std.proofs.Common.{◌≡◌, ◌-◌, ◌≤◌, List, ℤ, Ok, length}
 use Rattle.jpeg_bits.specs.Entropy.{Text, bits_from}
 use Rattle.jpeg_bits.specs.Masks.{MarksFrom}
 use Rattle.jpeg_bits.specs.Pieces.{piece_from}
 use Rattle.jpeg_bits.specs.BlockView.{pass_in}
 use Rattle.jpeg_bits.specs.ZigzagParts.{band_end, rest_in}
-use Rattle.jpeg_bits.proofs.BlockWalks.{walk_at}
-use Rattle.jpeg_bits.proofs.refinement.pass_piece.Given as goal
+use Rattle.jpeg_bits.proofs.PieceWalks.{walk_at}
 
 abbrev pub invariant-loop-index : goal.invariant-loop-index
 invariant-loop-index l = record {

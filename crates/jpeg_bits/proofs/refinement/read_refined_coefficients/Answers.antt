@@ -1,16 +1,16 @@
+use Rattle.jpeg_bits.proofs.refinement.read_refined_coefficients.Goals as goal
 use Rattle.jpeg_bits.specs.Bands.{Band}
-use Rattle.std.proofs.Common.{◌≡◌, ◌-◌, ◌<◌, ◌≤◌, length, length-set, ◌∙◌, refl, sym, w16, arith, rules}
+use Rattle.std.proofs.Common.{◌≡◌, ◌-◌, ◌<◌, ◌≤◌, length, length-set, ◌∙◌, refl, sym, w16, arith}
+use Rattle.std.proofs.Common.{rules}
 use Rattle.std.proofs.lemmas.Int.{to_z-of_z}
 use Rattle.std.specs.Int.{cast_signed, cast_unsigned}
 use Rattle.jpeg_bits.specs.BlockView.{pass_in}
 use Rattle.jpeg_bits.specs.ZigzagParts.{band_end, KeepsOthers}
-use Rattle.jpeg_bits.proofs.BlockRefinement.{from-start, at-last, token-refused, piece-refused}
-use Rattle.jpeg_bits.proofs.BlockRefinement.{zeros-read, new-read, end-read, refined_from}
-use Rattle.jpeg_bits.proofs.RefinedBands.{zeros_of}
+use Rattle.jpeg_bits.proofs.RefinedBands.{from-start, at-last, token-refused, piece-refused}
+use Rattle.jpeg_bits.proofs.RefinedBands.{zeros-read, new-read, end-read, refined_from, zeros_of}
 use Rattle.jpeg_bits.proofs.BandSteps.{Leaves-end}
-use Rattle.jpeg_bits.proofs.Masks.{marks-later, marks-set}
-use Rattle.jpeg_bits.proofs.ZigzagParts.{kept-same, kept-set, kept-rest}
-use Rattle.jpeg_bits.proofs.refinement.read_refined_coefficients.Goals as goal
+use Rattle.jpeg_bits.proofs.PieceWalks.{marks-later, marks-set}
+use Rattle.jpeg_bits.proofs.ZigzagIndices.{kept-same, kept-set, kept-rest}
 
 pub loop-index-init : goal.loop-index-init
 loop-index-init g c =

@@ -1,10 +1,12 @@
-use Rattle.std.proofs.Common.{◌+◌, ◌-◌, ◌<◌, ◌≤◌, ◌∙◌, length-set, refl, FitsSigned, w16, rules, arith}
-use Rattle.std.proofs.lemmas.Int.{to_z-of_z}
-use Rattle.jpeg_bits.proofs.BlockLoop.{index-value, index-sixteen, index-all, index-last, index-refused, index-none}
-use Rattle.jpeg_bits.proofs.PairLemmas.{pair-seen, index-pair}
-use Rattle.jpeg_bits.specs.ShortCodes.{next_bits}
-use Rattle.jpeg_bits.proofs.ZigzagParts.{kept-set}
 use Rattle.jpeg_bits.proofs.tokens.read_first_coefficients.Goals as goal
+use Rattle.std.proofs.Common.{◌+◌, ◌-◌, ◌<◌, ◌≤◌, ◌∙◌, length-set, refl, FitsSigned, w16, rules}
+use Rattle.std.proofs.Common.{arith}
+use Rattle.std.proofs.lemmas.Int.{to_z-of_z}
+use Rattle.jpeg_bits.proofs.BlockParts.{index-value, index-sixteen, index-all, index-last}
+use Rattle.jpeg_bits.proofs.BlockParts.{index-refused, index-none}
+use Rattle.jpeg_bits.proofs.WideTokens.{pair-seen, index-pair}
+use Rattle.jpeg_bits.specs.ShortCodes.{next_bits}
+use Rattle.jpeg_bits.proofs.ZigzagIndices.{kept-set}
 
 pub returns-in_default-clause-band : goal.returns-in_default-clause-band
 returns-in_default-clause-band g c =

@@ -1,6 +1,6 @@
-use Rattle.std.proofs.Common.{rules}
-use Rattle.jpeg_bits.proofs.SkipLoop.{skip-over, skip-to-end, skip-token}
 use Rattle.jpeg_bits.proofs.tokens.skip_coefficients.Goals as goal
+use Rattle.std.proofs.Common.{rules}
+use Rattle.jpeg_bits.proofs.WideTokens.{skip-over, skip-to-end, skip-token}
 
 pub returns-then-is_last-clause-run : goal.returns-then-is_last-clause-run
 returns-then-is_last-clause-run g c = search (rules, skip-to-end)

@@ -1,7 +1,7 @@
+use Rattle.jpeg_bits.proofs.ahead.BufferedBits.refill.Goals as goal
 use Rattle.std.proofs.Common.{arith}
 use Rattle.jpeg_bits.specs.Entropy.{Ahead}
-use Rattle.jpeg_bits.proofs.Texts.{none_from, within_byte, Holds-byte, Holds-end, Holds-refused}
-use Rattle.jpeg_bits.proofs.ahead.BufferedBits.refill.Goals as goal
+use Rattle.jpeg_bits.proofs.Loops.{none_from, within_byte, Holds-byte, Holds-end, Holds-refused}
 
 pub loop-buffered-preserved-in-Some-Byte : goal.loop-buffered-preserved-in-Some-Byte
 loop-buffered-preserved-in-Some-Byte g c =

@@ -1,7 +1,7 @@
+use Rattle.jpeg_bits.proofs.ahead.BufferedBits.refill.Given as goal
 use Rattle.std.proofs.Common.{◌+◌, ◌-◌, length}
 use Rattle.jpeg_bits.specs.Entropy.{IsWithin}
-use Rattle.jpeg_bits.proofs.Texts.{Holds, not_met}
-use Rattle.jpeg_bits.proofs.ahead.BufferedBits.refill.Given as goal
+use Rattle.jpeg_bits.proofs.Loops.{Holds, not_met}
 
 abbrev pub invariant-loop-buffered : goal.invariant-loop-buffered
 invariant-loop-buffered g l = record {

@@ -1,10 +1,7 @@
-use Rattle.std.proofs.Common.{rules, arith, ap, ◌∙◌, sym}
-use Rattle.jpeg_bits.specs.Entropy.{Ahead}
-use Rattle.jpeg_bits.proofs.ShortSymbols.{Code-buffered, Code-none, Code-refused}
 use Rattle.jpeg_bits.proofs.ahead.BufferedBits.take_buffered_code.Goals as goal
-
-pub returns-in_default-clause-code : goal.returns-in_default-clause-code
-returns-in_default-clause-code c = search (rules, Code-none)
+use Rattle.std.proofs.Common.{ap, ◌∙◌, sym}
+use Rattle.jpeg_bits.specs.Entropy.{Ahead}
+use Rattle.jpeg_bits.proofs.ShortLemmas.{Code-refused}
 
 pub returns-then-not-has-clause-code : goal.returns-then-not-has-clause-code
 returns-then-not-has-clause-code c =
@@ -12,8 +9,3 @@ returns-then-not-has-clause-code c =
     (c.set_fault.ensures.names c.from-count.result c.args.self.now.bits) (sym c.has.ensures ∙
     c.if-not-has.true)) in
     λ source. Code-refused _ _ _ _ _ _ c.requires c.in-Some.ensures.within (sym c.in-Some.ensures.symbol) n
-
-pub returns-clause-code : goal.returns-clause-code
-returns-clause-code c =
-    let n = rw c.from-count.ensures at c.if-not-has.ensures in
-    grind (arith, Code-buffered)

@@ -1,8 +1,8 @@
+use Rattle.jpeg_bits.proofs.ahead.BufferedBits.take_symbol.Goals as goal
 use Rattle.std.proofs.Common.{arith, Ok}
 use Rattle.jpeg_bits.specs.Codes.{symbol_from}
-use Rattle.jpeg_bits.proofs.Calls.{Takes-ahead}
-use Rattle.jpeg_bits.proofs.ShortSymbols.{Symbol-of-code, Symbol-no-code}
-use Rattle.jpeg_bits.proofs.ahead.BufferedBits.take_symbol.Goals as goal
+use Rattle.jpeg_bits.proofs.Loops.{Takes-ahead}
+use Rattle.jpeg_bits.proofs.ShortLemmas.{Symbol-of-code, Symbol-no-code}
 
 pub returns-in-Some-clause-symbol : goal.returns-in-Some-clause-symbol
 returns-in-Some-clause-symbol g c =

@@ -1,6 +1,6 @@
-use Rattle.std.proofs.Common.{◌<◌, arith}
-use Rattle.jpeg_bits.proofs.RowLemmas.{first_le, index_within, row_found, none_found, passed-none}
 use Rattle.jpeg_bits.proofs.codes.Codes.code_of.Goals as goal
+use Rattle.std.proofs.Common.{◌<◌, arith}
+use Rattle.jpeg_bits.proofs.CodeLemmas.{first_le, index_within, row_found, none_found, passed-none}
 
 pub returns-then-i-eq16-clause-code : goal.returns-then-i-eq16-clause-code
 returns-then-i-eq16-clause-code c =

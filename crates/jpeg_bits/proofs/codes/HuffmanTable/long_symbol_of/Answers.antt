@@ -1,10 +1,10 @@
+use Rattle.jpeg_bits.proofs.codes.HuffmanTable.long_symbol_of.Goals as goal
 use Rattle.std.proofs.Common.{◌∙◌, ◌/◌, ap, arith}
 use Rattle.jpeg_bits.specs.Codes.{Table}
 use Rattle.jpeg_bits.specs.Written.{low_bits}
 use Rattle.jpeg_bits.specs.ShortCodes.{short_code}
-use Rattle.jpeg_bits.proofs.RowLemmas.{rows_passed}
+use Rattle.jpeg_bits.proofs.CodeLemmas.{rows_passed}
 use Rattle.jpeg_bits.proofs.ShortLemmas.{none_short}
-use Rattle.jpeg_bits.proofs.codes.HuffmanTable.long_symbol_of.Goals as goal
 
 pub loop-i-init : goal.loop-i-init
 loop-i-init c =

@@ -1,7 +1,7 @@
+use Rattle.jpeg_bits.proofs.codes.HuffmanTable.long_symbol_of.Given as goal
 use Rattle.std.proofs.Common.{◌≤◌, ◌/◌, ◌^◌, ◌-◌}
 use Rattle.jpeg_bits.specs.ShortCodes.{value_after}
-use Rattle.jpeg_bits.proofs.RowLemmas.{NoneYet}
-use Rattle.jpeg_bits.proofs.codes.HuffmanTable.long_symbol_of.Given as goal
+use Rattle.jpeg_bits.proofs.CodeLemmas.{NoneYet}
 
 abbrev pub invariant-loop-i : goal.invariant-loop-i
 invariant-loop-i l = record {

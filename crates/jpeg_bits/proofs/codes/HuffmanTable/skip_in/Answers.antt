@@ -1,10 +1,11 @@
-use Rattle.std.proofs.Common.{◌≡◌, rules, refl, ◌∙◌, ◌%◌, ◌+◌, ◌++◌, sym, ap, Some, drop, replicate, false}
+use Rattle.jpeg_bits.proofs.codes.HuffmanTable.skip_in.Goals as goal
+use Rattle.std.proofs.Common.{◌≡◌, rules, refl, ◌∙◌, ◌%◌, ◌+◌, ◌++◌, sym, ap, Some, drop, replicate}
+use Rattle.std.proofs.Common.{false}
 use Rattle.std.proofs.lemmas.Bool.{false≢true}
 use Rattle.jpeg_bits.specs.ShortCodes.{symbol_in}
 use Rattle.jpeg_bits.specs.Written.{low_bits}
 use Rattle.jpeg_bits.proofs.WrittenBits.{length_low_bits}
-use Rattle.jpeg_bits.proofs.SkipLemmas.{skip-last, skip-more}
-use Rattle.jpeg_bits.proofs.codes.HuffmanTable.skip_in.Goals as goal
+use Rattle.jpeg_bits.proofs.WideTokens.{skip-last, skip-more}
 
 pub returns-then-run-eq0 : goal.returns-then-run-eq0
 returns-then-run-eq0 c =

@@ -1,8 +1,8 @@
+use Rattle.jpeg_bits.proofs.codes.HuffmanTable.skips.Goals as goal
 use Rattle.std.proofs.Common.{◌∙◌, arith, length-set, ℕ}
 use Rattle.jpeg_bits.specs.Written.{low_bits}
 use Rattle.jpeg_bits.specs.Skips.{IsSkip, Skip, no_skip}
-use Rattle.jpeg_bits.proofs.SkipLemmas.{set-holds}
-use Rattle.jpeg_bits.proofs.codes.HuffmanTable.skips.Goals as goal
+use Rattle.jpeg_bits.proofs.WideTokens.{set-holds}
 
 pub loop-bits-preserved : goal.loop-bits-preserved
 loop-bits-preserved c =
