@@ -64,8 +64,8 @@ plane-joined s table wide n (suc k) xs ys e f =
 -- ---- the planes of some rows of MCUs
 
 grown : ℕ → List Coding → Arrays → List (List ℕ)
-grown rows (c ∷ codings) (blocks ∷ arrays) = samples_of
-    (rows * c.component.factors.vertical) c blocks ∷ grown rows codings arrays
+grown rows (c ∷ codings) (blocks ∷ arrays) =
+    samples_of (rows * c.component.factors.vertical) c blocks ∷ grown rows codings arrays
 grown rows [] arrays = []
 grown rows (c ∷ codings) [] = []
 

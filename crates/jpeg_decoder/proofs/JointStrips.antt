@@ -1,5 +1,5 @@
 -- Planes in one room, as it grows by a row of MCUs: each plane has its strip.
-use Rattle.std.proofs.Common.{◌≡◌, ℕ, zero, suc, ◌+◌, ◌-◌, ◌*◌, ◌/◌, ◌%◌, ◌<◌, ◌≤◌, List, [], ◌∷◌}
+use Rattle.std.proofs.Common.{rules, ◌≡◌, ℕ, zero, suc, ◌+◌, ◌-◌, ◌*◌, ◌/◌, ◌%◌, ◌<◌, ◌≤◌, List, [], ◌∷◌}
 use Rattle.std.proofs.Common.{◌++◌, length, map, get_or, arith, refl, sym, ap, ap₂, ◌∙◌}
 use Rattle.std.proofs.Common.{length-append, mul_assoc, mul_comm, add-mul}
 use Rattle.std.proofs.Math.Logic.{⊎_elim}
@@ -83,8 +83,7 @@ none-from : (shape : JointShape) (from : ℕ) (codings : List Coding)
     → map (joint_plane shape []) (range_with_len from (length codings)) ≡ no_samples codings
 unfolding joint_plane
 none-from shape from [] = refl
-none-from shape from (c ∷ codings) =
-    grind (arith, common_steps, zero-div, none-from shape (from + 1) codings)
+none-from shape from (c ∷ codings) = search (rules, zero-div, none-from shape (from + 1) codings)
 
 none-joint : (shape : JointShape) (codings : List Coding) → shape.count ≡ length codings
     → joint_planes shape [] ≡ no_samples codings
@@ -126,8 +125,7 @@ module _ (shape : JointShape) (samples : List ℕ) (strips : List (List ℕ)) (k
 
   strip-at : (j : ℕ) → j < size
       → slice_index grown (index_of shape slot (k * size + j)) ≡ get_or (get_or strips slot []) j 0
-  strip-at j lt =
-      grind (arith, common_steps, div-mul-add, mod-mul-add, get_or-append-add, at-flat, even)
+  strip-at j lt = search (rules, div-mul-add, mod-mul-add, get_or-append-add, at-flat, even)
 
   plane-grown : joint_plane shape grown slot
       ≡ joint_plane shape samples slot ++ get_or strips slot []
@@ -198,10 +196,7 @@ module _ (frame : Frame) (cs : List Coded) (seen : List Component) (joint : Join
       → AllByRecursion (λ c. c.factors.vertical * c.scale ≡ shape.lines) seen
       → AllByRecursion (Fits frame) (components_in cs) → AllByRecursion (IsCodingOf frame)
       (map coding_in cs) → IsJointOf (map coding_in cs) joint
-  joint-started rows lines fits of =
-      let row = joint_row_size joint.shape in
-      let empty : 0 ≡ 0 / row * row = sym (ap (λ (n : ℕ). n * row) (zero-div row) ∙ omega arith) in
-      grind (arith, common_steps, same, shaped)
+  joint-started rows lines fits of = grind (arith, common_steps, zero-div, same, shaped)
 
 -- after one row more
 module _ (codings : List Coding) (arrays : Arrays) (joint : JointPlanes)
@@ -230,12 +225,7 @@ module _ (codings : List Coding) (arrays : Arrays) (joint : JointPlanes)
 
   pub room-kept : (new : Vec ℕ Global) → new.items ≡ joint.samples.items ++ concat strips
       → IsJointOf codings (record joint { samples = new })
-  room-kept new e =
-      let row = joint_row_size joint.shape in
-      let old = length joint.samples.items in
-      let more : length new.items ≡ old + row =
-      grind (arith, common_steps, length-append, flat-length, even, strips-count) in
-      grind (arith, common_steps, whole-rows)
+  room-kept new e = search (rules, length-append, flat-length, even, strips-count, whole-rows)
 
 -- after all rows
 pub room-full : (cs : List Coded) (joint : JointPlanes) → IsJointOf (map coding_in cs) joint

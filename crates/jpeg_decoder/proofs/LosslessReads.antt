@@ -187,8 +187,7 @@ pub parts_step : (is_alone : Bool) (cs : List Component) (indices : List ℕ) (t
     ++ parts_at is_alone cs (drop slot indices) (drop slot ts) ≡ new
     ++ parts_at is_alone cs (drop (slot + 1) indices) (drop (slot + 1) ts)
 unfolding parts_at
-parts_step is_alone cs indices ts slot p t c front new h k e f g n =
-    grind (arith, common_steps, dropped, drop_more, append_assoc)
+parts_step is_alone cs indices ts slot p t c front new h k e f g n = grind (arith, common_steps)
 
 no-parts : (is_alone : Bool) (cs : List Component) (ts : List Table) → parts_at is_alone cs [] ts ≡ []
 unfolding parts_at
@@ -197,13 +196,7 @@ no-parts is_alone cs ts = grind (arith, common_steps)
 pub parts_none : (is_alone : Bool) (cs : List Component) (indices : List ℕ) (ts : List Table)
     (slot : ℕ) (front : List Part) → length indices ≤ slot → front
     ++ parts_at is_alone cs (drop slot indices) (drop slot ts) ≡ front
-parts_none is_alone cs indices ts slot front h = grind (
-  arith,
-  common_steps,
-  drop_all,
-  no-parts,
-  append-nil,
-)
+parts_none is_alone cs indices ts slot front h = search (rules, drop_all, no-parts, append-nil)
 
 pub parts-count : (is_alone : Bool) (cs : List Component) (indices : List ℕ) (ts : List Table)
     → length ts ≡ length indices → length (parts_at is_alone cs indices ts) ≡ length indices
@@ -229,11 +222,7 @@ has-mcus tables frame indices ds ts a decoded lossless =
     let some = decoded-some frame decoded in
     let mcus = mcus-are frame a.codings indices ts a.of in
     let parts = parts-are frame.components a.codings indices ts a.of in
-    record {
-      some_wide = subst (λ (n : ℕ). 0 < n) mcus.0 (across-some frame a.codings some.0 made);
-      some_high = subst (λ (n : ℕ). 0 < n) mcus.1 (down-some frame a.codings some.1 made);
-      covered = grind (arith, common_steps, all-covered);
-    }
+    search (rules, across-some, down-some, all-covered)
 
 -- ---- steps of a scan
 
@@ -302,11 +291,7 @@ pub scan-sampled : (is_alone : Bool) (found : Found) (frame : Frame) (indices : 
     (ts : List Table) (planes : List (List ℕ)) → IsSound found → found.said.frame ≡ Some frame
     → AreWholeSamples (parts_at is_alone frame.components indices ts) planes
     → AreSampled frame.components (with_samples indices planes found.samples)
-scan-sampled is_alone found frame indices ts planes sound e w = grind (
-  arith,
-  common_steps,
-  with-sampled,
-)
+scan-sampled is_alone found frame indices ts planes sound e w = search (rules, with-sampled)
 
 -- A lossless scan leaves a sound state.
 pub samples-sound : (found next : Found) (frame : Frame) (indices : List ℕ) (planes : List (List ℕ))
@@ -315,11 +300,7 @@ pub samples-sound : (found next : Found) (frame : Frame) (indices : List ℕ) (p
     → next ≡ record (once_scanned found) { samples = with_samples indices planes found.samples } →
     IsSound next
 unfolding arrays_before
-samples-sound found next frame indices planes sound e lossless whole is = grind (
-  arith,
-  common_steps,
-  before-sequential,
-)
+samples-sound found next frame indices planes sound e lossless whole is = search rules
 
 -- ---- where samples are put
 
@@ -354,12 +335,7 @@ drop-there : (samples : List (Option (List ℕ))) (index : ℕ) (plane : List �
     (index + 1) samples
 drop-there [] index plane e = absurd (let n : ⊥ = cc in n)
 drop-there (x ∷ samples) zero plane e = grind (arith, common_steps)
-drop-there (x ∷ samples) (suc index) plane e = search (
-  rules,
-  arith,
-  drop-there samples index plane
-      e,
-)
+drop-there (x ∷ samples) (suc index) plane e = search (rules, drop-there samples index plane e)
 
 -- The planes are those of the components.
 samples-from : (samples : List (Option (List ℕ))) (index : ℕ) (cs : List Component)
@@ -371,11 +347,8 @@ samples-from samples index (c ∷ cs) planes h e =
     let one = bind-ok (needed (slice_index_or samples index None)) _ planes e in
     let more = bind-ok (gathered (sample_plane samples) (enumerate_from (index + 1) cs)) _ planes one.2 in
     let there = needed-some (slice_index_or samples index None) one.0 one.1 in
-    let is : AreSampled (c ∷ cs) (Some one.0 ∷ drop (index + 1) samples) = grind (
-      arith,
-      common_steps,
-      drop-there,
-    ) in
+    let is : AreSampled (c ∷ cs) (Some one.0 ∷ drop (index + 1) samples)
+    = search (rules, drop-there) in
     grind (arith, common_steps, ok-same, samples-from samples (index + 1) cs more.0 is.1 more.1)
 
 pub samples-whole : (samples : List (Option (List ℕ))) (cs : List Component) (planes : List (List ℕ))

@@ -72,8 +72,7 @@ module _ (cs : List Coded) (old : List Held) (sizes : sizes_of old ≡ row_sizes
   -- the next component's blocks are those of a row of MCUs
   pub row-size : (slot : ℕ) (c : Coded) (v : Held) → slot < length cs → c ≡ get_or cs slot c
       → v ≡ get_or old slot v → length v.items ≡ down_in c * wide_in c
-  row-size slot c v h is kept =
-      grind (arith, common_steps, size-at, sizes-long, old-long, get_or-map)
+  row-size slot c v h is kept = search (rules, size-at, sizes-long, old-long, get_or-map)
 
   -- and these are its samples
   strip-here : (slot : ℕ) (c : Coded) (v : Held) → slot < length cs → c ≡ get_or cs slot c

@@ -64,8 +64,7 @@ pub strips_step : (p : Pass) (vias : List Via) (n : ℕ) (codings : List Coding)
     ≡ strips_from p vias n codings (map f (range_with_len (k + 1) (high - (k + 1))))
     (with_strips codings new.reached.arrays planes) (on_arrays [] new) u
 unfolding after strips_from
-strips_step p vias n codings f spots k high planes zeros old new t u h e is r =
-    search (rules, strips-more, after)
+strips_step p vias n codings f spots k high planes zeros old new t u h e is r = search rules
 
 pub strips_refused : (p : Pass) (vias : List Via) (n : ℕ) (codings : List Coding) (f : ℕ → List Spot)
     (spots : List Spot) (k high : ℕ) (planes : List (List ℕ)) (zeros : Arrays) (old : Counted) (t : Text)
@@ -119,7 +118,6 @@ pub lengths-next : (cs : List Coded) (arrays : Arrays) (planes : List (List ℕ)
 unfolding with_strips
 lengths-next [] [] [] row e h = refl
 lengths-next (c ∷ cs) (a ∷ arrays) (p ∷ planes) row e h =
-    let s = c.component.now.dct_scale in
     let head : length p ≡ strip_samples (row * down_in c) c = ap (λ (l : List ℕ). get_or l 0 0) h in
     let tail = ap (λ (l : List ℕ). drop 1 l) h in
     grind (

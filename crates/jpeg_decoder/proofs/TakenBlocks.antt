@@ -1,5 +1,5 @@
 -- Blocks that are taken out of those that are held, and put back.
-use Rattle.std.proofs.Common.{◌≡◌, ◌<◌, ℕ, zero, suc, ◌+◌, ℤ, List, [], ◌∷◌, ◌++◌, refl, sym, ap}
+use Rattle.std.proofs.Common.{rules, ◌≡◌, ◌<◌, ℕ, zero, suc, ◌+◌, ℤ, List, [], ◌∷◌, ◌++◌, refl, sym, ap}
 use Rattle.std.proofs.Common.{◌∙◌, length, get_or, set, map, take, arith}
 use Rattle.std.specs.declared.alloc.Global.{Global}
 use Rattle.std.specs.declared.vec.Vec.{Vec}
@@ -40,13 +40,7 @@ set-after : (codings : List Coding) (kept : Arrays) (index : ℕ) (blocks : List
 unfolding without_blocks
 set-after [] kept index blocks n = refl
 set-after (c ∷ more) kept index blocks n =
-    grind (
-      arith,
-      common_steps,
-      set_comm,
-      set-after more (set kept c.index []) index blocks (λ i. n
-          (inr i)),
-    )
+    search (rules, set_comm, set-after more (set kept c.index []) index blocks (λ i. n (inr i)))
 
 -- The blocks of a scan's components are put in the same places, whether those were emptied before or not.
 pub put-back : (codings : List Coding) (arrays kept : Arrays) → AreApart (indices_of codings)
