@@ -53,7 +53,6 @@ plane-joined s table wide n (suc k) xs ys e f =
     let whole : front ++ row ≡ ys = take-append-drop (k * wide) ys in
     let fl = front-long wide k ys f in
     let rl = back-long wide k ys f in
-    let long : length (xs ++ front) ≡ (n + k) * wide = grind (arith, common_steps, length-append, add-mul) in
     let above = plane_of s table wide n (in_raster wide xs) in
     let middle = plane_of s table wide k (in_raster wide front) in
     let last = strip_of s table (map ordered row) in

@@ -120,8 +120,7 @@ module _ (shape : JointShape) (samples : List ℕ) (strips : List (List ℕ)) (k
       let column = mul-add-lt slot size (i % size) shape.count h (mod_below i size some) in
       let below = mul-add-lt (i / size) (joint_row_size shape) (slot * size + i % size) k
       (div_below i size k some lt) (omega (arith, column, mul_comm shape.count size)) in
-      get_or_append_left samples (concat strips) 0 (index_of shape slot i)
-      (omega (arith, below, whole, mul_comm k (joint_row_size shape)))
+      search (rules, get_or_append_left)
 
   strip-at : (j : ℕ) → j < size
       → slice_index grown (index_of shape slot (k * size + j)) ≡ get_or (get_or strips slot []) j 0
@@ -172,14 +171,8 @@ shaped : (frame : Frame) (shape : JointShape) (cs : List Coded) → shape.rows �
 shaped frame shape [] rows lines strides fits of = tt
 shaped frame shape (c ∷ cs) rows lines strides fits of =
     let k = component_in c.component.now in
-    let at = get-at c.index frame.components k of.0 in (
-      record {
-        lines = at-all _ c.index frame.components k lines at;
-        stride = at-all _ c.index frame.components k strides at;
-        high = fits.0.high ∙ ap (λ (n : ℕ). n * k.factors.vertical) (sym rows);
-      },
-      shaped frame shape cs rows lines strides fits.1 of.1,
-    )
+    let at = get-at c.index frame.components k of.0 in
+    search (rules, at-all, shaped frame shape cs rows lines strides fits.1 of.1)
 
 -- before the first row
 module _ (frame : Frame) (cs : List Coded) (seen : List Component) (joint : JointPlanes)
@@ -236,7 +229,6 @@ room-full [] joint is sizes = absurd (let some = is.some in omega (arith, some, 
 room-full (c ∷ cs) joint is sizes =
     let shape = joint.shape in
     let samples = joint.samples.items in
-    let first = is.each.0 in
     let one : length samples / shape.count ≡ shape.rows * strip_size shape =
     sym (get_or-map length (joint_planes shape samples) 0 [] 0
     (omega (arith, planes-long shape samples, is.some))

@@ -346,7 +346,6 @@ samples-from samples index [] planes h e = subst (ArePlanesOf []) (ok-same [] pl
 samples-from samples index (c ∷ cs) planes h e =
     let one = bind-ok (needed (slice_index_or samples index None)) _ planes e in
     let more = bind-ok (gathered (sample_plane samples) (enumerate_from (index + 1) cs)) _ planes one.2 in
-    let there = needed-some (slice_index_or samples index None) one.0 one.1 in
     let is : AreSampled (c ∷ cs) (Some one.0 ∷ drop (index + 1) samples)
     = search (rules, drop-there) in
     grind (arith, common_steps, ok-same, samples-from samples (index + 1) cs more.0 is.1 more.1)

@@ -90,8 +90,7 @@ module _ (cs : List Coded) (old : List Held) (sizes : sizes_of old ≡ row_sizes
       → new ≡ start ++ concat (take (slot + 1) strips)
   room-next slot c v start samples new h is kept inv more =
       let here = strip-here slot c v h is kept in
-      let next = take_more strips slot [] (omega (arith, strips-long)) in
-      grind (arith, common_steps, here, next, concat-append, append_assoc, append-nil)
+      grind (arith, common_steps, here, concat-append, append_assoc, append-nil)
 
   pub room-all : (slot : ℕ) (start samples : List ℕ) → length cs ≤ slot
       → samples ≡ start ++ concat (take slot strips) → samples ≡ start ++ concat strips

@@ -118,7 +118,6 @@ pub lengths-next : (cs : List Coded) (arrays : Arrays) (planes : List (List ℕ)
 unfolding with_strips
 lengths-next [] [] [] row e h = refl
 lengths-next (c ∷ cs) (a ∷ arrays) (p ∷ planes) row e h =
-    let head : length p ≡ strip_samples (row * down_in c) c = ap (λ (l : List ℕ). get_or l 0 0) h in
     let tail = ap (λ (l : List ℕ). drop 1 l) h in
     grind (
       arith,
