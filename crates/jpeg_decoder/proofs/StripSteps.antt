@@ -119,15 +119,8 @@ unfolding with_strips
 lengths-next [] [] [] row e h = refl
 lengths-next (c ∷ cs) (a ∷ arrays) (p ∷ planes) row e h =
     let tail = ap (λ (l : List ℕ). drop 1 l) h in
-    grind (
-      arith,
-      common_steps,
-      length-append,
-      length-samples,
-      one-row-more,
-      lengths-next cs arrays planes row
-          (omega arith) tail,
-    )
+    let more = lengths-next cs arrays planes row (omega arith) tail in
+    grind (arith, common_steps, length-append, length-samples, one-row-more, more)
 lengths-next [] (a ∷ arrays) planes row e h = absurd (omega arith)
 lengths-next (c ∷ cs) [] planes row e h = absurd (omega arith)
 lengths-next _ _ _ row e h = absurd (let n = ap (λ (l : List ℕ). length l) h in omega arith)

@@ -25,13 +25,8 @@ pub left-elsewhere : (codings : List Coding) (kept : Arrays) (index : ℕ) → (
 unfolding without_blocks
 left-elsewhere [] kept index n = refl
 left-elsewhere (c ∷ more) kept index n =
-    grind (
-      arith,
-      common_steps,
-      get_or-set_other,
-      left-elsewhere more (set kept c.index []) index
-          (λ i. n (inr i)),
-    )
+    let more = left-elsewhere more (set kept c.index []) index (λ i. n (inr i)) in
+    grind (arith, common_steps, get_or-set_other, more)
 
 -- A place elsewhere may be set before or after.
 set-after : (codings : List Coding) (kept : Arrays) (index : ℕ) (blocks : List Block)
@@ -50,13 +45,8 @@ unfolding put_arrays without_blocks
 put-back [] arrays kept apart e = refl
 put-back (c ∷ more) [] kept apart e = absurd (omega arith)
 put-back (c ∷ more) (blocks ∷ arrays) kept apart e =
-    grind (
-      arith,
-      common_steps,
-      set-after,
-      set-set,
-      put-back more arrays (set (set kept c.index []) c.index blocks) apart.1 (omega arith),
-    )
+    let r = put-back more arrays (set (set kept c.index []) c.index blocks) apart.1 (omega arith) in
+    grind (arith, common_steps, set-after, set-set, r)
 
 -- ---- one component more
 
