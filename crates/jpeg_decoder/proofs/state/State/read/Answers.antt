@@ -108,10 +108,7 @@ loop-preserved g c =
 -- a stream of known bytes has fewer segments than turns
 never : (g : Over) (c : goal.After-format_error g) → c.args.source.now.known ≡ true → ⊥
 never g c k =
-    let some : 0 < c.loop.counter = elim c.loop-test.branch [
-      | else-loop-test w ↦ omega arith
-      | then-loop-test+else-is_read_for+in_ok-step+else-step+else-counter-lt18446744073709551615 w ↦ omega arith
-    ] in
+    let some : 0 < c.loop.counter = grind (arith, common_steps) in
     let few : length c.args.source.now.bytes < 2 ^ 64 = c.loop.invariant.short some k in
     let walked = c.loop.invariant.walked in
     elim c.loop-test.branch [
@@ -127,12 +124,7 @@ returns-clause-reads g c =
     never-met {X = Unit {0}} (λ _. found_in c.loop-test.self) (segments_at c.args.header Elsewhere
     (found_in c.args.self.now) None) c.args.source.now c.loop-test.source c.format_error.result
     c.format_error.ensures
-    (elim c.loop-test.branch as (λ _. c.loop-test.source.failed ≡ c.args.source.now.failed) [
-      | else-loop-test w ↦ ap (λ s. s.failed) w.source-is ∙ c.loop.invariant.walked.failed
-      | then-loop-test+else-is_read_for+in_ok-step+else-step+else-counter-lt18446744073709551615 w ↦ ap (λ s. s.failed)
-          w.source-is ∙ w.in_ok-step.ensures.reads.0 ∙ c.loop.invariant.walked.failed
-    ])
-    (never g c)
+    (grind (arith, common_steps)) (never g c)
 
 pub returns-clause-told : goal.returns-clause-told
 returns-clause-told g c k = absurd (never g c k)
