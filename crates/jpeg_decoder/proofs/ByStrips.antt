@@ -1,8 +1,8 @@
 -- The planes of a sequential scan are the strips of its rows of MCUs, one after the other.
-use Rattle.std.proofs.Common.{rules}
-use Rattle.std.proofs.Common.{◌≡◌, ℕ, zero, suc, ◌+◌, ◌*◌, List, [], ◌∷◌, ◌++◌, map, take, drop, length, Option, Result}
-use Rattle.std.proofs.Common.{Ok, Err, refl, sym, ap, ap₂, ◌∙◌, append_assoc, append-nil, arith, add-mul, suc-mul}
-use Rattle.std.proofs.Common.{mul_assoc, length-append, length-take, length-drop, take-append-drop}
+use Rattle.std.proofs.Common.{rules, ◌≡◌, ℕ, zero, suc, ◌+◌, ◌*◌, List, [], ◌∷◌, ◌++◌, map, take}
+use Rattle.std.proofs.Common.{drop, length, Option, Result, Ok, Err, refl, sym, ap, ap₂, ◌∙◌}
+use Rattle.std.proofs.Common.{append_assoc, append-nil, arith, add-mul, suc-mul, mul_assoc}
+use Rattle.std.proofs.Common.{length-take, length-drop, take-append-drop}
 use Rattle.std.proofs.lemmas.List.FromFn.{length-map-range_with_len}
 use Rattle.std.specs.List.{AllByRecursion}
 use Rattle.jpeg_bits.specs.Reading as reading
@@ -17,19 +17,17 @@ use Rattle.jpeg_bits.specs.Zigzag.{values_in_block_order}
 use Rattle.jpeg_pixels.proofs.PlaneRows.{plane-none}
 use Rattle.jpeg_streams.specs.Order.{Spot, mcu_size}
 use Rattle.jpeg_streams.specs.Scans.{Arrays, zero_arrays}
-use Rattle.jpeg_streams.specs.Rasters.{in_raster, ordered}
+use Rattle.jpeg_streams.specs.Rasters.{in_raster, ordered, plane_by, plane_of_blocks}
 use Rattle.jpeg_streams.specs.InTurn.{Counted, Fits, blocks_from, counted_at_start}
 use Rattle.jpeg_streams.specs.McuRows.{mcu_row, zero_rows, rows_of, each_with_more, on_arrays}
-use Rattle.jpeg_streams.specs.McuRows.{mcu_rows_from}
-use Rattle.jpeg_streams.specs.McuRows.{scan_by_rows}
-use Rattle.jpeg_streams.specs.Rasters.{plane_by, plane_of_blocks}
+use Rattle.jpeg_streams.specs.McuRows.{mcu_rows_from, scan_by_rows}
 use Rattle.jpeg_streams.specs.ScanSegments.{Coding, components_of}
 use Rattle.jpeg_decoder.specs.Strips.{planes_by, planes_at, samples_of, with_strips, strips_from}
 use Rattle.jpeg_decoder.specs.Strips.{no_samples, planes_by_rows}
 use Rattle.jpeg_streams.proofs.Apart.{zeros-sized}
 use Rattle.jpeg_streams.proofs.CountedScans.{frame-scans, on-on}
-use Rattle.jpeg_streams.proofs.McuRows.{AreRows, blocks-any, rows-kept, counted-where, joined-rows, no-blocks, zero-rows}
-use Rattle.jpeg_streams.proofs.McuRows.{scans-by-rows}
+use Rattle.jpeg_streams.proofs.McuRows.{AreRows, blocks-any, rows-kept, counted-where, joined-rows}
+use Rattle.jpeg_streams.proofs.McuRows.{no-blocks, zero-rows, scans-by-rows}
 use Rattle.jpeg_streams.proofs.PlaneStrips.{plane-strips}
 use Rattle.std.proofs.lemmas.Grind.{common_steps}
 

@@ -4,7 +4,6 @@ use Rattle.std.proofs.Common.{map, length, get_or, set, replicate, pos, refl, sy
 use Rattle.std.proofs.Common.{take, append_assoc, append-nil}
 use Rattle.std.proofs.lemmas.Grind.{common_steps}
 use Rattle.std.proofs.lemmas.List.{length-map, map-set, length-replicate, get_or-map, take_all}
-use Rattle.std.proofs.lemmas.List.{take_more}
 use Rattle.std.proofs.lemmas.List.Folds.{concat-append}
 use Rattle.std.specs.List.{concat}
 use Rattle.std.specs.declared.alloc.Global.{Global}

@@ -1,6 +1,6 @@
 -- A sequential scan after its rows of MCUs: what was read, and the refusals.
-use Rattle.std.proofs.Common.{rules, ◌≡◌, ℕ, ◌*◌, ◌≤◌, List, [], ◌∷◌, map, length, Option, Result, Ok, Err, sym, ap, ap₂, ◌∙◌}
-use Rattle.std.proofs.Common.{arith}
+use Rattle.std.proofs.Common.{rules, ◌≡◌, ℕ, ◌≤◌, List, [], ◌∷◌, map, length, Option, Result, Ok}
+use Rattle.std.proofs.Common.{Err, arith}
 use Rattle.std.specs.List.{AllByRecursion}
 use Rattle.jpeg_bits.specs.Stream.{Stream}
 use Rattle.jpeg_bits.specs.Reading as reading
@@ -9,15 +9,12 @@ use Rattle.jpeg_bits.specs.Entropy.{Text, Ahead, Takes, upcoming, fresh, marker_
 use Rattle.jpeg_bits.specs.declared.error.Error.{Error}
 use Rattle.jpeg_bits.specs.declared.marker.Marker.{Marker}
 use Rattle.jpeg_bits.specs.Passes.{Pass, Via}
-use Rattle.jpeg_bits.proofs.Loops.{Names-through, MayFail-from}
-use Rattle.jpeg_segments.specs.Frame.{Frame, Component}
+use Rattle.jpeg_segments.specs.Frame.{Frame}
 use Rattle.jpeg_decoder.specs.declared.scan.Coded.{Coded}
 use Rattle.jpeg_streams.specs.InTurn.{Fits, counted_at_start}
-use Rattle.jpeg_streams.specs.McuRows.{rows_of}
-use Rattle.jpeg_streams.specs.Order.{Spot, mcu_size}
 use Rattle.jpeg_decoder.specs.Scanning.{components_in}
 use Rattle.jpeg_decoder.specs.Steps.{coding_in}
-use Rattle.jpeg_streams.specs.ScanSegments.{Coding, components_of}
+use Rattle.jpeg_streams.specs.ScanSegments.{Coding}
 use Rattle.jpeg_decoder.specs.Strips.{no_samples, strips_from, planes_at, planes_by_rows}
 use Rattle.jpeg_decoder.proofs.ByStrips.{planes-by-rows}
 use Rattle.jpeg_decoder.specs.declared.scan_order.ScanOrder.{ScanOrder}

@@ -1,7 +1,7 @@
 -- Steps of the loop over the rows of MCUs of a sequential scan.
-use Rattle.std.proofs.Common.{◌≡◌, ℕ, ◌+◌, ◌-◌, ◌*◌, ◌<◌, ◌≤◌, List, [], ◌∷◌, map, drop, length}
-use Rattle.std.proofs.Common.{get_or, Ok, Err, refl, ap, ◌∙◌, arith, add-mul, length-append}
-use Rattle.std.proofs.Common.{mul-add, mul_comm, rules}
+use Rattle.std.proofs.Common.{◌≡◌, ℕ, ◌+◌, ◌-◌, ◌*◌, ◌<◌, ◌≤◌, List, [], ◌∷◌, map, drop, length, Ok}
+use Rattle.std.proofs.Common.{Err, refl, ap, ◌∙◌, arith, add-mul, length-append, mul-add, mul_comm}
+use Rattle.std.proofs.Common.{rules}
 use Rattle.std.proofs.lemmas.List.{length-map}
 use Rattle.std.proofs.lemmas.List.FromFn.{length-map-range_with_len}
 use Rattle.jpeg_pixels.specs.Planes.{plane_of}

@@ -1,6 +1,6 @@
 use Rattle.std.proofs.lemmas.Grind.{common_steps}
-use Rattle.std.proofs.Common.{rules, ◌≡◌, ◌∙◌, ◌-◌, ◌+◌, ◌*◌, [], ap, ap₂, map, sym, subst, ℕ, List, Option, Result}
-use Rattle.std.proofs.Common.{arith, length, refl}
+use Rattle.std.proofs.Common.{rules, ◌≡◌, ◌∙◌, ◌-◌, ◌+◌, ◌*◌, [], ap, map, sym, subst, ℕ, List}
+use Rattle.std.proofs.Common.{Option, Result, arith, length, refl}
 use Rattle.std.specs.List.{AllByRecursion, range_with_len}
 use Rattle.std.specs.Prelude.{OnOk}
 use Rattle.std.proofs.lemmas.Result.{err_from_is_err_and}
@@ -14,21 +14,20 @@ use Rattle.jpeg_decoder.specs.declared.scan.Coded.{Coded}
 use Rattle.jpeg_streams.specs.Order.{Spot}
 use Rattle.jpeg_streams.specs.InTurn.{blocks_from, counted_at_start}
 use Rattle.jpeg_streams.specs.McuRows.{rows_of, zero_rows}
-use Rattle.jpeg_decoder.specs.Scanning.{IsSpotOf, arrays_in, components_in, counted, down_in, kept_blocks}
-use Rattle.jpeg_decoder.specs.Scanning.{kept_counted, sizes_of, vias_in}
+use Rattle.jpeg_decoder.specs.Scanning.{IsSpotOf, arrays_in, components_in, counted, down_in}
+use Rattle.jpeg_decoder.specs.Scanning.{kept_blocks, kept_counted, sizes_of, vias_in}
 use Rattle.jpeg_decoder.proofs.KeptStrips.{kept-refused, one-a-side, strips_kept}
 use Rattle.jpeg_decoder.specs.Steps.{coding_in}
 use Rattle.jpeg_decoder.specs.GrowingView.{GrowsFor, growing_in}
 use Rattle.jpeg_decoder.specs.Strips.{row_sizes, strip_samples, strips_from, with_strips, zeros_of}
 use Rattle.jpeg_decoder.specs.Walk.{walk_of_row, walks_of_rows}
 use Rattle.jpeg_streams.specs.ScanSegments.{components_of}
-use Rattle.jpeg_decoder.proofs.KeptBlocks.{Held}
 use Rattle.jpeg_decoder.proofs.KeptSpots.{rows-spots}
 use Rattle.jpeg_decoder.proofs.ScanOrders.{rows-walked}
 use Rattle.jpeg_decoder.proofs.StripScans.{rows-refused, scan-ended}
-use Rattle.jpeg_decoder.proofs.StripSteps.{strips_refused, strips_none, whole-rows, first-row, later-rows}
-use Rattle.jpeg_decoder.proofs.StripSteps.{zeros-are, lengths, lengths-all, lengths-none}
-use Rattle.jpeg_decoder.proofs.StripSteps.{lengths-next, row-count}
+use Rattle.jpeg_decoder.proofs.StripSteps.{strips_refused, strips_none, whole-rows, first-row}
+use Rattle.jpeg_decoder.proofs.StripSteps.{later-rows, zeros-are, lengths, lengths-all}
+use Rattle.jpeg_decoder.proofs.StripSteps.{lengths-none, lengths-next, row-count}
 use Rattle.jpeg_decoder.proofs.sequential.read_planes.Goals as goal
 
 pub loop-row-init : goal.loop-row-init

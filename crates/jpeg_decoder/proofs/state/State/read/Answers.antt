@@ -1,13 +1,10 @@
 use Rattle.std.proofs.lemmas.Grind.{common_steps}
-use Rattle.std.proofs.Common.{is_some, Option, ◌≡◌, ◌∙◌, ◌+◌, ◌<◌, ◌^◌, suc, true, None, Ok, sym}
-use Rattle.std.proofs.Common.{ap, arith, length}
+use Rattle.std.proofs.Common.{◌≡◌, ◌∙◌, ◌+◌, ◌<◌, ◌^◌, suc, true, None, Ok, sym, ap, arith, length}
 use Rattle.std.proofs.lemmas.Result.{err_from_is_err_and}
 use Rattle.jpeg_streams.specs.declared.before.Before.TheVariants.{Elsewhere}
 use Rattle.jpeg_streams.specs.Stream.{told_of, turn_at, segments_at, walk}
 use Rattle.jpeg_streams.specs.Reported.{IsOfTurns}
 use Rattle.jpeg_decoder.specs.Seen.{found_in}
-use Rattle.jpeg_segments.specs.Frame.{Frame}
-use Rattle.jpeg_decoder.specs.declared.state.State.{State}
 use Rattle.jpeg_decoder.specs.Steps.{turn_of}
 use Rattle.jpeg_streams.proofs.ReadTurns.{Walked, segments-walked, walk-end, walk-refused}
 use Rattle.jpeg_streams.proofs.ReadTurns.{walk-stop}
