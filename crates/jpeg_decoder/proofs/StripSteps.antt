@@ -22,12 +22,10 @@ use Rattle.jpeg_streams.specs.ScanSegments.{Coding, components_of}
 use Rattle.jpeg_decoder.specs.Strips.{row_sizes, strip_samples, samples_of, zeros_of, with_strips}
 use Rattle.jpeg_decoder.specs.Strips.{strips_from}
 use Rattle.jpeg_decoder.proofs.KeptBlocks.{Held, sizes-long}
+use Rattle.jpeg_decoder.proofs.OrderedWalks.{one-less}
 use Rattle.std.proofs.lemmas.Grind.{common_steps}
 
 -- ---- the rows
-
-one-less : (k high : ℕ) → k < high → range_with_len k (high - k) ≡ k ∷ range_with_len (k + 1) (high - (k + 1))
-one-less k high h = grind (arith, common_steps)
 
 -- all rows, from the first on
 pub whole-rows : (f : ℕ → List Spot) (high : ℕ) → map f (range_with_len 0 high) ≡ map f (range_with_len 0 (high - 0))
