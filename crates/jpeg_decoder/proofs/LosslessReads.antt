@@ -6,7 +6,7 @@ use Rattle.std.specs.Prelude.{IfErr, IfOk, MatchResult, OnOk, slice_get, slice_i
 use Rattle.std.proofs.lemmas.Option.{get_or_from_slice_get, slice_get-get_or}
 use Rattle.std.specs.declared.alloc.Global.{Global}
 use Rattle.std.specs.declared.vec.Vec.{Vec}
-use Rattle.std.proofs.lemmas.List.{length-map, map-set, append-nil, drop-set-lt, drop_all}
+use Rattle.std.proofs.lemmas.List.{get_or-map, length-map, map-set, append-nil, drop-set-lt, drop_all}
 use Rattle.std.proofs.lemmas.List.{drop_more}
 use Rattle.std.specs.List.{AllByRecursion, enumerate_from}
 use Rattle.std.proofs.lemmas.List.Elements.{All-from_recursion, recursion_from_All}
@@ -95,8 +95,6 @@ pub codings-lacking : (tables : List (Option Table)) (frame : Frame) (indices ds
     → tables_in tables ds ≡ Err f → lossless_codings tables frame indices ds ≡ Err f
 unfolding gathered lossless_coding lossless_codings
 codings-lacking tables frame [] [] f within long e = absurd (let n : ⊥ = cc in n)
-codings-lacking tables frame [] (d ∷ ds) f within long e = absurd (omega arith)
-codings-lacking tables frame (p ∷ indices) [] f within long e = absurd (omega arith)
 codings-lacking tables frame (p ∷ indices) (d ∷ ds) f within long e =
     let at = slice_get-get_or frame.components p no_component within.0 in
     go (slice_get frame.components p) (ap needed at) (slice_index_or tables d None) (tables_in tables ds)
@@ -113,6 +111,7 @@ codings-lacking tables frame (p ∷ indices) (d ∷ ds) f within long e =
     go (Some x) h None o r e k = cc
     go (Some x) h (Some table) (Err g) r e k = rw (k e) refl
     go _ h _ _ r e k = absurd (let n : ⊥ = cc in n)
+codings-lacking tables frame _ _ f within long e = absurd (omega arith)
 
 -- ---- the MCUs of a scan
 
@@ -160,9 +159,7 @@ codings-made frame cs _ _ _ made h = absurd h
 pub component-at : (cs : List declared.Component) (index : ℕ) (r : declared.Component) → index <
     length cs
     → r ≡ get_or cs index r → component_in r ≡ get_or (map component_in cs) index no_component
-component-at [] index r h e = absurd (omega arith)
-component-at (c ∷ cs) zero r h e = ap component_in e
-component-at (c ∷ cs) (suc index) r h e = component-at cs index r (omega arith) e
+component-at cs index r h e = grind (arith, common_steps, get_or-map)
 
 -- those of a component alone, and of several
 pub alone : (frame : Frame) (indices : List ℕ) → length indices ≡ 1

@@ -1,7 +1,7 @@
 -- The blocks of a scan in order are those that are walked.
-use Rattle.std.proofs.Common.{◌≡◌, ℕ, zero, suc, ◌+◌, ◌-◌, ◌*◌, ◌<◌, ◌≤◌, List, [], ◌∷◌, ◌++◌, map}
-use Rattle.std.proofs.Common.{drop, length, refl, sym, ap, ap₂, ◌∙◌, arith, add-mul, mul_assoc}
-use Rattle.std.proofs.Common.{append-nil, append_assoc, get_or}
+use Rattle.std.proofs.Common.{◌≡◌, ℕ, ◌+◌, ◌-◌, ◌*◌, ◌<◌, ◌≤◌, List, [], ◌∷◌, ◌++◌, map, drop}
+use Rattle.std.proofs.Common.{length, refl, ap, ap₂, arith, add-mul, mul_assoc, append-nil}
+use Rattle.std.proofs.Common.{append_assoc, get_or}
 use Rattle.std.specs.List.{range_with_len, flat_map}
 use Rattle.std.proofs.lemmas.List.{drop_all}
 use Rattle.jpeg_decoder.proofs.ReadLists.{dropped}

@@ -119,8 +119,6 @@ lengths-next (c ∷ cs) (a ∷ arrays) (p ∷ planes) row e h =
     let tail = ap (λ (l : List ℕ). drop 1 l) h in
     let more = lengths-next cs arrays planes row (omega arith) tail in
     grind (arith, common_steps, length-append, length-samples, one-row-more, more)
-lengths-next [] (a ∷ arrays) planes row e h = absurd (omega arith)
-lengths-next (c ∷ cs) [] planes row e h = absurd (omega arith)
 lengths-next _ _ _ row e h = absurd (let n = ap (λ (l : List ℕ). length l) h in omega arith)
 
 pub row-count : (cs : List Coded) (vs : List Held) → sizes_of vs ≡ row_sizes cs

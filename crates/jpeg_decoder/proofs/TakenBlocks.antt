@@ -4,7 +4,7 @@ use Rattle.std.proofs.Common.{◌∙◌, length, get_or, set, map, take, arith}
 use Rattle.std.specs.declared.alloc.Global.{Global}
 use Rattle.std.specs.declared.vec.Vec.{Vec}
 use Rattle.std.proofs.Math.Logic.{inl, inr}
-use Rattle.std.proofs.lemmas.List.{get_or-set_other, map-append, map-set, set-set, set_comm}
+use Rattle.std.proofs.lemmas.List.{get_or-map, get_or-set_other, map-append, map-set, set-set, set_comm}
 use Rattle.std.proofs.lemmas.List.{take_more}
 use Rattle.jpeg_bits.specs.Passes.{Block}
 use Rattle.jpeg_decoder.specs.declared.scan.Coded.{Coded}
@@ -81,9 +81,7 @@ Held = Vec (List ℤ) Global
 
 blocks-of : (vs : List Held) (i : ℕ) (v : Held) → i < length vs → v ≡ get_or vs i v
     → get_or (arrays_in vs) i [] ≡ blocks_in v
-blocks-of [] i v h e = absurd (omega arith)
-blocks-of (x ∷ vs) zero v h e = ap blocks_in (sym e)
-blocks-of (x ∷ vs) (suc i) v h e = blocks-of vs i v (omega arith) e
+blocks-of vs i v h e = grind (arith, common_steps, get_or-map)
 
 -- one component more is taken
 pub taken-more : (cs : List Coded) (i : ℕ) (c : Coded) (old now taken : List Held) (v : Held) → i < length cs
