@@ -1,8 +1,8 @@
 -- The planes of a sequential scan are the strips of its rows of MCUs, one after the other.
-use Rattle.std.proofs.Common.{rules}
-use Rattle.std.proofs.Common.{◌≡◌, ℕ, zero, suc, ◌+◌, ◌*◌, List, [], ◌∷◌, ◌++◌, map, take, drop, length, Option, Result}
-use Rattle.std.proofs.Common.{Ok, Err, refl, sym, ap, ap₂, ◌∙◌, append_assoc, append-nil, arith, add-mul, suc-mul}
-use Rattle.std.proofs.Common.{mul_assoc, length-append, length-take, length-drop, take-append-drop}
+use Rattle.std.proofs.Common.{rules, ◌≡◌, ℕ, zero, suc, ◌+◌, ◌*◌, List, [], ◌∷◌, ◌++◌, map, take}
+use Rattle.std.proofs.Common.{drop, length, Option, Result, Ok, Err, refl, sym, ap, ap₂, ◌∙◌}
+use Rattle.std.proofs.Common.{append_assoc, append-nil, arith, add-mul, suc-mul, mul_assoc}
+use Rattle.std.proofs.Common.{length-take, length-drop, take-append-drop}
 use Rattle.std.proofs.lemmas.List.FromFn.{length-map-range_with_len}
 use Rattle.std.specs.List.{AllByRecursion}
 use Rattle.jpeg_bits.specs.Reading as reading
@@ -50,7 +50,6 @@ plane-joined s table wide n (suc k) xs ys e f =
     let whole : front ++ row ≡ ys = take-append-drop (k * wide) ys in
     let fl = front-long wide k ys f in
     let rl = back-long wide k ys f in
-    let long : length (xs ++ front) ≡ (n + k) * wide = grind (arith, common_steps, length-append, add-mul) in
     let above = plane_of s table wide n (in_raster wide xs) in
     let middle = plane_of s table wide k (in_raster wide front) in
     let last = strip_of s table (map ordered row) in
@@ -61,8 +60,8 @@ plane-joined s table wide n (suc k) xs ys e f =
 -- ---- the planes of some rows of MCUs
 
 grown : ℕ → List Coding → Arrays → List (List ℕ)
-grown rows (c ∷ codings) (blocks ∷ arrays) = samples_of
-    (rows * c.component.factors.vertical) c blocks ∷ grown rows codings arrays
+grown rows (c ∷ codings) (blocks ∷ arrays) =
+    samples_of (rows * c.component.factors.vertical) c blocks ∷ grown rows codings arrays
 grown rows [] arrays = []
 grown rows (c ∷ codings) [] = []
 

@@ -142,12 +142,7 @@ pub planes-decided : (p : Pass) (codings : List Coding) (planes : Planes) (found
 unfolding with_planes finished_after
 planes-decided p [] [] found h e = refl
 planes-decided p (c ∷ codings) (x ∷ planes) found h e =
-    grind (
-      arith,
-      common_steps,
-      its-plane-decided,
-      planes-decided p codings planes (record found { finished = slice_set found.finished c.index (marks_after p found.finished c.index) }) h.1 (omega arith),
-    )
+    grind (arith, common_steps, its-plane-decided, planes-decided p codings planes)
 planes-decided p _ _ found h e = absurd (omega arith)
 
 -- ---- a loop over the components

@@ -1,5 +1,5 @@
 -- Planes in one room, as it grows by a row of MCUs: each plane has its strip.
-use Rattle.std.proofs.Common.{◌≡◌, ℕ, zero, suc, ◌+◌, ◌-◌, ◌*◌, ◌/◌, ◌%◌, ◌<◌, ◌≤◌, List, [], ◌∷◌}
+use Rattle.std.proofs.Common.{rules, ◌≡◌, ℕ, zero, suc, ◌+◌, ◌-◌, ◌*◌, ◌/◌, ◌%◌, ◌<◌, ◌≤◌, List, [], ◌∷◌}
 use Rattle.std.proofs.Common.{◌++◌, length, map, get_or, arith, refl, sym, ap, ap₂, ◌∙◌}
 use Rattle.std.proofs.Common.{length-append, mul_assoc, mul_comm, add-mul}
 use Rattle.std.proofs.Math.Logic.{⊎_elim}
@@ -83,8 +83,7 @@ none-from : (shape : JointShape) (from : ℕ) (codings : List Coding)
     → map (joint_plane shape []) (range_with_len from (length codings)) ≡ no_samples codings
 unfolding joint_plane
 none-from shape from [] = refl
-none-from shape from (c ∷ codings) =
-    grind (arith, common_steps, zero-div, none-from shape (from + 1) codings)
+none-from shape from (c ∷ codings) = search (rules, zero-div, none-from shape (from + 1) codings)
 
 none-joint : (shape : JointShape) (codings : List Coding) → shape.count ≡ length codings
     → joint_planes shape [] ≡ no_samples codings
@@ -121,13 +120,11 @@ module _ (shape : JointShape) (samples : List ℕ) (strips : List (List ℕ)) (k
       let column = mul-add-lt slot size (i % size) shape.count h (mod_below i size some) in
       let below = mul-add-lt (i / size) (joint_row_size shape) (slot * size + i % size) k
       (div_below i size k some lt) (omega (arith, column, mul_comm shape.count size)) in
-      get_or_append_left samples (concat strips) 0 (index_of shape slot i)
-      (omega (arith, below, whole, mul_comm k (joint_row_size shape)))
+      search (rules, get_or_append_left)
 
   strip-at : (j : ℕ) → j < size
       → slice_index grown (index_of shape slot (k * size + j)) ≡ get_or (get_or strips slot []) j 0
-  strip-at j lt =
-      grind (arith, common_steps, div-mul-add, mod-mul-add, get_or-append-add, at-flat, even)
+  strip-at j lt = search (rules, div-mul-add, mod-mul-add, get_or-append-add, at-flat, even)
 
   plane-grown : joint_plane shape grown slot
       ≡ joint_plane shape samples slot ++ get_or strips slot []
@@ -174,14 +171,8 @@ shaped : (frame : Frame) (shape : JointShape) (cs : List Coded) → shape.rows �
 shaped frame shape [] rows lines strides fits of = tt
 shaped frame shape (c ∷ cs) rows lines strides fits of =
     let k = component_in c.component.now in
-    let at = get-at c.index frame.components k of.0 in (
-      record {
-        lines = at-all _ c.index frame.components k lines at;
-        stride = at-all _ c.index frame.components k strides at;
-        high = fits.0.high ∙ ap (λ (n : ℕ). n * k.factors.vertical) (sym rows);
-      },
-      shaped frame shape cs rows lines strides fits.1 of.1,
-    )
+    let at = get-at c.index frame.components k of.0 in
+    search (rules, at-all, shaped frame shape cs rows lines strides fits.1 of.1)
 
 -- before the first row
 module _ (frame : Frame) (cs : List Coded) (seen : List Component) (joint : JointPlanes)
@@ -198,10 +189,7 @@ module _ (frame : Frame) (cs : List Coded) (seen : List Component) (joint : Join
       → AllByRecursion (λ c. c.factors.vertical * c.scale ≡ shape.lines) seen
       → AllByRecursion (Fits frame) (components_in cs) → AllByRecursion (IsCodingOf frame)
       (map coding_in cs) → IsJointOf (map coding_in cs) joint
-  joint-started rows lines fits of =
-      let row = joint_row_size joint.shape in
-      let empty : 0 ≡ 0 / row * row = sym (ap (λ (n : ℕ). n * row) (zero-div row) ∙ omega arith) in
-      grind (arith, common_steps, same, shaped)
+  joint-started rows lines fits of = grind (arith, common_steps, zero-div, same, shaped)
 
 -- after one row more
 module _ (codings : List Coding) (arrays : Arrays) (joint : JointPlanes)
@@ -230,12 +218,7 @@ module _ (codings : List Coding) (arrays : Arrays) (joint : JointPlanes)
 
   pub room-kept : (new : Vec ℕ Global) → new.items ≡ joint.samples.items ++ concat strips
       → IsJointOf codings (record joint { samples = new })
-  room-kept new e =
-      let row = joint_row_size joint.shape in
-      let old = length joint.samples.items in
-      let more : length new.items ≡ old + row =
-      grind (arith, common_steps, length-append, flat-length, even, strips-count) in
-      grind (arith, common_steps, whole-rows)
+  room-kept new e = search (rules, length-append, flat-length, even, strips-count, whole-rows)
 
 -- after all rows
 pub room-full : (cs : List Coded) (joint : JointPlanes) → IsJointOf (map coding_in cs) joint
@@ -246,7 +229,6 @@ room-full [] joint is sizes = absurd (let some = is.some in omega (arith, some, 
 room-full (c ∷ cs) joint is sizes =
     let shape = joint.shape in
     let samples = joint.samples.items in
-    let first = is.each.0 in
     let one : length samples / shape.count ≡ shape.rows * strip_size shape =
     sym (get_or-map length (joint_planes shape samples) 0 [] 0
     (omega (arith, planes-long shape samples, is.some))

@@ -126,5 +126,4 @@ module _ (p : Pass) (cs : List Coded) (slot index : ℕ) (c : Coded) (vs : List 
         }),
         u,
       )
-  turn-kept keeps y next more t u e = rw (turn-is t, arrays-set vs slot index v y inside array)
-      (put-as-kept keeps slot index old (to_block y) next more _ u e)
+  turn-kept keeps y next more t u e = search (rules, turn-is, arrays-set, inside, put-as-kept)

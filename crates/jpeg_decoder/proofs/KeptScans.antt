@@ -1,5 +1,5 @@
 -- Scans of blocks of which what is kept goes on alike.
-use Rattle.std.proofs.Common.{◌≡◌, ℕ, ◌-◌, Bool, true, false, List, ◌∷◌, get_or, set, ℤ, pos}
+use Rattle.std.proofs.Common.{rules, ◌≡◌, ℕ, ◌-◌, Bool, true, false, List, ◌∷◌, get_or, set, ℤ, pos}
 use Rattle.std.proofs.Common.{Result, Ok, Err, refl, sym, ap, ◌∙◌, arith, []}
 use Rattle.std.proofs.Math.ListN.{get_or-map}
 use Rattle.std.proofs.lemmas.Grind.{common_steps}
@@ -180,8 +180,7 @@ pub next-kept : (keeps : Bool) (p : Pass) (vias : List Via) (n : ℕ) (s : Spot)
     }) u)
 unfolding begun_turn
 next-kept keeps p vias n s spots now r t u first e =
-    let c : Reached → Counted = λ y. record { reached = y; left = now.left - 1; number = now.number } in
-    grind (arith, common_steps, read-on-on, turn_then, pass-on, blocks-alike)
+    search (rules, read-on-on, turn_then, pass-on, blocks-alike)
 
 pub kept_none : (keeps : Bool) (p : Pass) (vias : List Via) (n : ℕ) (old : Counted) (t : Text)
     → (blocks_from p vias n [] old >>= kept_after keeps) t ≡ Ok (kept_counted keeps old, t)

@@ -49,13 +49,12 @@ strips-alike : (codings : List Coding) (a b : Arrays) (planes : List (List ℕ))
 unfolding with_strips
 strips-alike [] a b planes all e = refl
 strips-alike (c ∷ codings) [] [] planes all e = refl
-strips-alike (c ∷ codings) [] (y ∷ b) planes all e = absurd (let n = ap (λ (l : Arrays). length l) e in omega arith)
-strips-alike (c ∷ codings) (x ∷ a) [] planes all e = absurd (let n = ap (λ (l : Arrays). length l) e in omega arith)
 strips-alike (c ∷ codings) (x ∷ a) (y ∷ b) [] all e = refl
 strips-alike (c ∷ codings) (x ∷ a) (y ∷ b) (p ∷ planes) all e =
     ap₂ (λ (l : List ℕ) (m : List (List ℕ)). (p ++ l) ∷ m)
     (samples-alike c.component.factors.vertical c x y all.0 (ap (λ (l : Arrays). get_or l 0 []) e))
     (strips-alike codings a b planes all.1 (ap (λ (l : Arrays). drop 1 l) e))
+strips-alike _ _ _ planes all e = absurd (let n = ap (λ (l : Arrays). length l) e in omega arith)
 
 kept-strips : (keeps : Bool) (codings : List Coding) (a b : Arrays) (planes : List (List ℕ))
     → (keeps ≡ false → AllByRecursion (λ c. c.component.scale ≡ 1) codings)

@@ -6,8 +6,8 @@ use Rattle.std.specs.Prelude.{IfErr, IfOk, MatchResult, OnOk, slice_get, slice_i
 use Rattle.std.proofs.lemmas.Option.{get_or_from_slice_get, slice_get-get_or}
 use Rattle.std.specs.declared.alloc.Global.{Global}
 use Rattle.std.specs.declared.vec.Vec.{Vec}
-use Rattle.std.proofs.lemmas.List.{length-map, map-set, append_assoc, append-nil, drop-set-lt}
-use Rattle.std.proofs.lemmas.List.{drop_all, drop_more}
+use Rattle.std.proofs.lemmas.List.{get_or-map, length-map, map-set, append-nil, drop-set-lt, drop_all}
+use Rattle.std.proofs.lemmas.List.{drop_more}
 use Rattle.std.specs.List.{AllByRecursion, enumerate_from}
 use Rattle.std.proofs.lemmas.List.Elements.{All-from_recursion, recursion_from_All}
 use Rattle.jpeg_bits.specs.Codes.{Table}
@@ -38,13 +38,11 @@ use Rattle.jpeg_streams.specs.FoundPictures.{samples_picture}
 use Rattle.jpeg_streams.specs.ScanSegments.{after_samples, arrays_before, scan_samples}
 use Rattle.jpeg_streams.specs.ScanSegments.{once_scanned}
 use Rattle.jpeg_streams.specs.Found.{Found}
-use Rattle.jpeg_streams.proofs.ReadTurns.{bind-ok, needed-some, ok-same, then-ok}
+use Rattle.jpeg_streams.proofs.ReadTurns.{bind-ok, ok-same, then-ok}
 use Rattle.jpeg_streams.proofs.LosslessSizes.{IsMade, across-some, all-at, all-covered}
 use Rattle.jpeg_streams.proofs.LosslessSizes.{decoded-made, down-some}
 use Rattle.jpeg_decoder.specs.PlanesView.{planes_in}
 use Rattle.jpeg_decoder.proofs.PutLoops.{seen-at}
-use Rattle.jpeg_decoder.proofs.ScanData.{before-sequential}
-use Rattle.jpeg_decoder.proofs.ReadLists.{dropped}
 use Rattle.jpeg_decoder.proofs.ScanReads.{HasRead}
 use Rattle.jpeg_streams.proofs.Soundness.{count-few, decoded-count, decoded-some}
 use Rattle.std.proofs.lemmas.Bool.Decides.{nat_tests}
@@ -97,8 +95,6 @@ pub codings-lacking : (tables : List (Option Table)) (frame : Frame) (indices ds
     → tables_in tables ds ≡ Err f → lossless_codings tables frame indices ds ≡ Err f
 unfolding gathered lossless_coding lossless_codings
 codings-lacking tables frame [] [] f within long e = absurd (let n : ⊥ = cc in n)
-codings-lacking tables frame [] (d ∷ ds) f within long e = absurd (omega arith)
-codings-lacking tables frame (p ∷ indices) [] f within long e = absurd (omega arith)
 codings-lacking tables frame (p ∷ indices) (d ∷ ds) f within long e =
     let at = slice_get-get_or frame.components p no_component within.0 in
     go (slice_get frame.components p) (ap needed at) (slice_index_or tables d None) (tables_in tables ds)
@@ -115,6 +111,7 @@ codings-lacking tables frame (p ∷ indices) (d ∷ ds) f within long e =
     go (Some x) h None o r e k = cc
     go (Some x) h (Some table) (Err g) r e k = rw (k e) refl
     go _ h _ _ r e k = absurd (let n : ⊥ = cc in n)
+codings-lacking tables frame _ _ f within long e = absurd (omega arith)
 
 -- ---- the MCUs of a scan
 
@@ -162,9 +159,7 @@ codings-made frame cs _ _ _ made h = absurd h
 pub component-at : (cs : List declared.Component) (index : ℕ) (r : declared.Component) → index <
     length cs
     → r ≡ get_or cs index r → component_in r ≡ get_or (map component_in cs) index no_component
-component-at [] index r h e = absurd (omega arith)
-component-at (c ∷ cs) zero r h e = ap component_in e
-component-at (c ∷ cs) (suc index) r h e = component-at cs index r (omega arith) e
+component-at cs index r h e = grind (arith, common_steps, get_or-map)
 
 -- those of a component alone, and of several
 pub alone : (frame : Frame) (indices : List ℕ) → length indices ≡ 1
@@ -187,8 +182,7 @@ pub parts_step : (is_alone : Bool) (cs : List Component) (indices : List ℕ) (t
     ++ parts_at is_alone cs (drop slot indices) (drop slot ts) ≡ new
     ++ parts_at is_alone cs (drop (slot + 1) indices) (drop (slot + 1) ts)
 unfolding parts_at
-parts_step is_alone cs indices ts slot p t c front new h k e f g n =
-    grind (arith, common_steps, dropped, drop_more, append_assoc)
+parts_step is_alone cs indices ts slot p t c front new h k e f g n = grind (arith, common_steps)
 
 no-parts : (is_alone : Bool) (cs : List Component) (ts : List Table) → parts_at is_alone cs [] ts ≡ []
 unfolding parts_at
@@ -197,13 +191,7 @@ no-parts is_alone cs ts = grind (arith, common_steps)
 pub parts_none : (is_alone : Bool) (cs : List Component) (indices : List ℕ) (ts : List Table)
     (slot : ℕ) (front : List Part) → length indices ≤ slot → front
     ++ parts_at is_alone cs (drop slot indices) (drop slot ts) ≡ front
-parts_none is_alone cs indices ts slot front h = grind (
-  arith,
-  common_steps,
-  drop_all,
-  no-parts,
-  append-nil,
-)
+parts_none is_alone cs indices ts slot front h = search (rules, drop_all, no-parts, append-nil)
 
 pub parts-count : (is_alone : Bool) (cs : List Component) (indices : List ℕ) (ts : List Table)
     → length ts ≡ length indices → length (parts_at is_alone cs indices ts) ≡ length indices
@@ -229,11 +217,7 @@ has-mcus tables frame indices ds ts a decoded lossless =
     let some = decoded-some frame decoded in
     let mcus = mcus-are frame a.codings indices ts a.of in
     let parts = parts-are frame.components a.codings indices ts a.of in
-    record {
-      some_wide = subst (λ (n : ℕ). 0 < n) mcus.0 (across-some frame a.codings some.0 made);
-      some_high = subst (λ (n : ℕ). 0 < n) mcus.1 (down-some frame a.codings some.1 made);
-      covered = grind (arith, common_steps, all-covered);
-    }
+    search (rules, across-some, down-some, all-covered)
 
 -- ---- steps of a scan
 
@@ -302,11 +286,7 @@ pub scan-sampled : (is_alone : Bool) (found : Found) (frame : Frame) (indices : 
     (ts : List Table) (planes : List (List ℕ)) → IsSound found → found.said.frame ≡ Some frame
     → AreWholeSamples (parts_at is_alone frame.components indices ts) planes
     → AreSampled frame.components (with_samples indices planes found.samples)
-scan-sampled is_alone found frame indices ts planes sound e w = grind (
-  arith,
-  common_steps,
-  with-sampled,
-)
+scan-sampled is_alone found frame indices ts planes sound e w = search (rules, with-sampled)
 
 -- A lossless scan leaves a sound state.
 pub samples-sound : (found next : Found) (frame : Frame) (indices : List ℕ) (planes : List (List ℕ))
@@ -315,11 +295,7 @@ pub samples-sound : (found next : Found) (frame : Frame) (indices : List ℕ) (p
     → next ≡ record (once_scanned found) { samples = with_samples indices planes found.samples } →
     IsSound next
 unfolding arrays_before
-samples-sound found next frame indices planes sound e lossless whole is = grind (
-  arith,
-  common_steps,
-  before-sequential,
-)
+samples-sound found next frame indices planes sound e lossless whole is = search rules
 
 -- ---- where samples are put
 
@@ -354,12 +330,7 @@ drop-there : (samples : List (Option (List ℕ))) (index : ℕ) (plane : List �
     (index + 1) samples
 drop-there [] index plane e = absurd (let n : ⊥ = cc in n)
 drop-there (x ∷ samples) zero plane e = grind (arith, common_steps)
-drop-there (x ∷ samples) (suc index) plane e = search (
-  rules,
-  arith,
-  drop-there samples index plane
-      e,
-)
+drop-there (x ∷ samples) (suc index) plane e = search (rules, drop-there samples index plane e)
 
 -- The planes are those of the components.
 samples-from : (samples : List (Option (List ℕ))) (index : ℕ) (cs : List Component)
@@ -370,12 +341,8 @@ samples-from samples index [] planes h e = subst (ArePlanesOf []) (ok-same [] pl
 samples-from samples index (c ∷ cs) planes h e =
     let one = bind-ok (needed (slice_index_or samples index None)) _ planes e in
     let more = bind-ok (gathered (sample_plane samples) (enumerate_from (index + 1) cs)) _ planes one.2 in
-    let there = needed-some (slice_index_or samples index None) one.0 one.1 in
-    let is : AreSampled (c ∷ cs) (Some one.0 ∷ drop (index + 1) samples) = grind (
-      arith,
-      common_steps,
-      drop-there,
-    ) in
+    let is : AreSampled (c ∷ cs) (Some one.0 ∷ drop (index + 1) samples)
+    = search (rules, drop-there) in
     grind (arith, common_steps, ok-same, samples-from samples (index + 1) cs more.0 is.1 more.1)
 
 pub samples-whole : (samples : List (Option (List ℕ))) (cs : List Component) (planes : List (List ℕ))

@@ -1,7 +1,7 @@
 -- The blocks of a scan in order are those that are walked.
-use Rattle.std.proofs.Common.{◌≡◌, ℕ, zero, suc, ◌+◌, ◌-◌, ◌*◌, ◌<◌, ◌≤◌, List, [], ◌∷◌, ◌++◌, map}
-use Rattle.std.proofs.Common.{drop, length, refl, sym, ap, ap₂, ◌∙◌, arith, add-mul, mul_assoc}
-use Rattle.std.proofs.Common.{append-nil, append_assoc, get_or}
+use Rattle.std.proofs.Common.{◌≡◌, ℕ, ◌+◌, ◌-◌, ◌*◌, ◌<◌, ◌≤◌, List, [], ◌∷◌, ◌++◌, map, drop}
+use Rattle.std.proofs.Common.{length, refl, ap, ap₂, arith, add-mul, mul_assoc, append-nil}
+use Rattle.std.proofs.Common.{append_assoc, get_or}
 use Rattle.std.specs.List.{range_with_len, flat_map}
 use Rattle.std.proofs.lemmas.List.{drop_all}
 use Rattle.jpeg_decoder.proofs.ReadLists.{dropped}
@@ -82,27 +82,16 @@ own_walked g = own-rows g (range_with_len 0 g.own_high)
 
 -- ---- the members, one after the other
 
+pub one-less : (k n : ℕ) → k < n → range_with_len k (n - k) ≡ k ∷ range_with_len (k + 1) (n - (k + 1))
+one-less k n h = grind (arith, common_steps)
+
 pub more_members : (f : ℕ → Member) (xs : List Member) (h n : ℕ) → h < n
     → (xs ++ f h ∷ []) ++ map f (range_with_len (h + 1) (n - (h + 1))) ≡ xs ++ map f (range_with_len h (n - h))
-more_members f xs h n l =
-    append_assoc xs (f h ∷ []) (map f (range_with_len (h + 1) (n - (h + 1))))
-    ∙ ap (λ (ys : List Member). xs ++ ys) (go (n - h) (omega arith))
-  where
-    go : (k : ℕ) → n - h ≡ k → f h ∷ map f (range_with_len (h + 1) (n - (h + 1))) ≡ map f (range_with_len h (n - h))
-    go zero e = absurd (omega arith)
-    go (suc k) e = ap (λ (j : ℕ). f h ∷ map f (range_with_len (h + 1) j)) (let z : n - (h + 1) ≡ k = omega arith in z)
-        ∙ sym (ap (λ (j : ℕ). map f (range_with_len h j)) e)
+more_members f xs h n l = grind (arith, common_steps, append_assoc, one-less)
 
 pub more_lines : (g : ℕ → List Member) (xs : List Member) (v n : ℕ) → v < n
     → (xs ++ g v) ++ flat_map g (range_with_len (v + 1) (n - (v + 1))) ≡ xs ++ flat_map g (range_with_len v (n - v))
-more_lines g xs v n l =
-    append_assoc xs (g v) (flat_map g (range_with_len (v + 1) (n - (v + 1))))
-    ∙ ap (λ (ys : List Member). xs ++ ys) (go (n - v) (omega arith))
-  where
-    go : (k : ℕ) → n - v ≡ k → g v ++ flat_map g (range_with_len (v + 1) (n - (v + 1))) ≡ flat_map g (range_with_len v (n - v))
-    go zero e = absurd (omega arith)
-    go (suc k) e = ap (λ (j : ℕ). g v ++ flat_map g (range_with_len (v + 1) j)) (let z : n - (v + 1) ≡ k = omega arith in z)
-        ∙ sym (ap (λ (j : ℕ). flat_map g (range_with_len v j)) e)
+more_lines g xs v n l = grind (arith, common_steps, append_assoc, one-less)
 
 pub no_members : (f : ℕ → Member) (xs : List Member) (h n : ℕ) → n ≤ h → xs ++ map f (range_with_len h (n - h)) ≡ xs
 no_members f xs h n l = grind (arith, common_steps, append-nil)

@@ -71,28 +71,15 @@ bind-passes : (limit first : ℕ) (r : Outcome Marker) (f : Marker × List ℕ �
 unfolding Passes LeavesBelow
 bind-passes limit first r f p q = grind (arith, common_steps)
 
-ok-passes : (limit : ℕ) (met : Option Marker) (bytes : List ℕ) → length bytes < limit → is_restart_marker met ≡ false
-    → Passes limit (Ok (met, bytes))
-unfolding Passes
-ok-passes limit met bytes h e = (h, e)
-
-none-passes : (limit : ℕ) (fault : Fault) → Passes limit (Err fault)
-unfolding Passes
-none-passes limit fault = tt
-
-as-passes : (limit : ℕ) (r s : Outcome (Option Marker)) → r ≡ s → Passes limit s → Passes limit r
-as-passes limit r s e h = rw e h
-
 restarts-pass : (limit turns : ℕ) (met : Option Marker) (bytes : List ℕ) → length bytes < limit
     → Passes limit (after_restarts turns met bytes)
-unfolding after_restarts
-restarts-pass limit zero met bytes h = none-passes limit _
+unfolding after_restarts Passes
+restarts-pass limit zero met bytes h = tt
 restarts-pass limit (suc turns) met bytes h =
     by_bool (is_restart_marker met)
-    (λ e. as-passes limit _ _ (restarts-more turns met bytes e)
-    (bind-passes limit (length bytes) (next_marker bytes) _ (marker-below bytes) (λ m p. restarts-pass limit turns
-    (Some m.0) m.1 (omega arith))))
-    (λ e. as-passes limit _ _ (restarts-none turns met bytes e) (ok-passes limit met bytes h e))
+    (λ e. rw (restarts-more turns met bytes e) (bind-passes limit (length bytes) (next_marker bytes) _
+    (marker-below bytes) (λ m p. restarts-pass limit turns (Some m.0) m.1 (omega arith))))
+    (λ e. rw (restarts-none turns met bytes e) (h, e))
 
 pub after-passes : (limit : ℕ) (met : Option Marker) (bytes : List ℕ) → length bytes < limit
     → Passes limit (after_restarts (suc (length bytes)) met bytes)

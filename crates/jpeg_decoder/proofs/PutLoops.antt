@@ -51,14 +51,8 @@ pub put-step : (cs : List Coded) (i : ℕ) (d : Coded) (arrays kept : List Held)
     (arrays_in (set kept (get_or cs i d).index blocks))
     ≡ put_arrays (drop i (map coding_in cs)) (drop i (arrays_in arrays)) (arrays_in kept)
 unfolding put_arrays
-put-step cs i d arrays kept empty blocks h e is = grind (
-  arith,
-  common_steps,
-  seen-any,
-  seen-at,
-  map-set,
-  drop-set-lt,
-)
+put-step cs i d arrays kept empty blocks h e is =
+    search (rules, seen-any, seen-at, map-set, drop-set-lt)
 
 -- ---- the planes and the blocks of a slot
 

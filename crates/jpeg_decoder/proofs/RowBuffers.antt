@@ -4,7 +4,6 @@ use Rattle.std.proofs.Common.{map, length, get_or, set, replicate, pos, refl, sy
 use Rattle.std.proofs.Common.{take, append_assoc, append-nil}
 use Rattle.std.proofs.lemmas.Grind.{common_steps}
 use Rattle.std.proofs.lemmas.List.{length-map, map-set, length-replicate, get_or-map, take_all}
-use Rattle.std.proofs.lemmas.List.{take_more}
 use Rattle.std.proofs.lemmas.List.Folds.{concat-append}
 use Rattle.std.specs.List.{concat}
 use Rattle.std.specs.declared.alloc.Global.{Global}
@@ -72,8 +71,7 @@ module _ (cs : List Coded) (old : List Held) (sizes : sizes_of old ≡ row_sizes
   -- the next component's blocks are those of a row of MCUs
   pub row-size : (slot : ℕ) (c : Coded) (v : Held) → slot < length cs → c ≡ get_or cs slot c
       → v ≡ get_or old slot v → length v.items ≡ down_in c * wide_in c
-  row-size slot c v h is kept =
-      grind (arith, common_steps, size-at, sizes-long, old-long, get_or-map)
+  row-size slot c v h is kept = search (rules, size-at, sizes-long, old-long, get_or-map)
 
   -- and these are its samples
   strip-here : (slot : ℕ) (c : Coded) (v : Held) → slot < length cs → c ≡ get_or cs slot c
@@ -91,8 +89,7 @@ module _ (cs : List Coded) (old : List Held) (sizes : sizes_of old ≡ row_sizes
       → new ≡ start ++ concat (take (slot + 1) strips)
   room-next slot c v start samples new h is kept inv more =
       let here = strip-here slot c v h is kept in
-      let next = take_more strips slot [] (omega (arith, strips-long)) in
-      grind (arith, common_steps, here, next, concat-append, append_assoc, append-nil)
+      grind (arith, common_steps, here, concat-append, append_assoc, append-nil)
 
   pub room-all : (slot : ℕ) (start samples : List ℕ) → length cs ≤ slot
       → samples ≡ start ++ concat (take slot strips) → samples ≡ start ++ concat strips

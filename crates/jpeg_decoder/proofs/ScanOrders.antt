@@ -1,6 +1,6 @@
 -- The order of a scan is that of its blocks.
-use Rattle.std.proofs.Common.{◌≡◌, ℕ, zero, suc, ◌+◌, ◌*◌, ◌<◌, List, [], ◌∷◌, ◌++◌, map, length, get_or, refl}
-use Rattle.std.proofs.Common.{subst, ap, ap₂, ◌∙◌, arith, add-mul, rules}
+use Rattle.std.proofs.Common.{◌≡◌, ℕ, zero, suc, ◌+◌, ◌*◌, ◌<◌, List, [], ◌∷◌, map, length, get_or}
+use Rattle.std.proofs.Common.{refl, subst, ap, ap₂, ◌∙◌, arith, add-mul, length-append, rules}
 use Rattle.std.proofs.Math.Nat.{mul_comm}
 use Rattle.std.proofs.lemmas.List.{length-map}
 use Rattle.std.proofs.lemmas.List.FromFn.{length-map-range_with_len}
@@ -24,15 +24,11 @@ use Rattle.std.proofs.lemmas.Grind.{common_steps}
 
 -- ---- the number of members
 
-length-both : (xs ys : List Member) → length (xs ++ ys) ≡ length xs + length ys
-length-both [] ys = omega arith
-length-both (x ∷ xs) ys = let r = length-both xs ys in omega arith
-
 length-lines : (slot : ℕ) (c : Component) (a n : ℕ)
     → length (flat_map (line_members slot c) (range_with_len a n)) ≡ n * c.factors.horizontal
 length-lines slot c a zero = omega arith
 length-lines slot c a (suc n) =
-    grind (arith, common_steps, length-both, length-map-range_with_len, add-mul, length-lines slot c (a + 1) n)
+    grind (arith, common_steps, length-append, length-map-range_with_len, add-mul, length-lines slot c (a + 1) n)
 
 abbrev size_of : List Component → ℕ
 size_of cs = sum_by (λ (c : Component). c.factors.horizontal * c.factors.vertical) cs
@@ -41,7 +37,7 @@ length-members : (slot : ℕ) (cs : List Component) → length (members_from slo
 unfolding members_from
 length-members slot [] = refl
 length-members slot (c ∷ cs) =
-    grind (arith, common_steps, length-both, length-lines, mul_comm, sum_by-cons, length-members (slot + 1) cs)
+    grind (arith, common_steps, length-append, length-lines, mul_comm, sum_by-cons, length-members (slot + 1) cs)
 
 -- ---- several components
 

@@ -1,5 +1,5 @@
 -- The steps of a scan that is read, and what they are to a segment of the stream.
-use Rattle.std.proofs.Common.{◌≡◌, ℕ, suc, true, false, List, length, Option, Some, None, Result}
+use Rattle.std.proofs.Common.{rules, ◌≡◌, ℕ, suc, true, false, List, length, Option, Some, None, Result}
 use Rattle.std.proofs.Common.{Ok, Err, ◌∙◌, ap, arith}
 use Rattle.jpeg_bits.specs.Stream.{Stream}
 use Rattle.jpeg_bits.specs.Reading.{Answers, Fault, Names, NamesFormat, Outcome, ◌>>=◌}
@@ -118,8 +118,7 @@ pub samples-met : (next found : Found) (frame : Frame) (scan : Scan) (old cur ne
     → Answers (λ (m : Option Marker). (next, m)) (samples_read found frame scan) cur r new
     → Answers (λ (m : Option Marker). (next, m)) (scan_read found) old r new
 unfolding scan_read
-samples-met next found frame scan old cur new r e process has read =
-    grind (arith, common_steps, bind_at, by-samples)
+samples-met next found frame scan old cur new r e process has read = search rules
 
 -- A scan is refused.
 abbrev ScanFails : Found → Stream → Error → Stream → Type 0

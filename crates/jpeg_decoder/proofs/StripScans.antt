@@ -1,6 +1,6 @@
 -- A sequential scan after its rows of MCUs: what was read, and the refusals.
-use Rattle.std.proofs.Common.{◌≡◌, ℕ, ◌*◌, ◌≤◌, List, [], ◌∷◌, map, length, Option, Result, Ok, Err, sym, ap, ap₂, ◌∙◌}
-use Rattle.std.proofs.Common.{arith}
+use Rattle.std.proofs.Common.{rules, ◌≡◌, ℕ, ◌≤◌, List, [], ◌∷◌, map, length, Option, Result, Ok}
+use Rattle.std.proofs.Common.{Err, arith}
 use Rattle.std.specs.List.{AllByRecursion}
 use Rattle.jpeg_bits.specs.Stream.{Stream}
 use Rattle.jpeg_bits.specs.Reading as reading
@@ -9,15 +9,12 @@ use Rattle.jpeg_bits.specs.Entropy.{Text, Ahead, Takes, upcoming, fresh, marker_
 use Rattle.jpeg_bits.specs.declared.error.Error.{Error}
 use Rattle.jpeg_bits.specs.declared.marker.Marker.{Marker}
 use Rattle.jpeg_bits.specs.Passes.{Pass, Via}
-use Rattle.jpeg_bits.proofs.Loops.{Names-through, MayFail-from}
-use Rattle.jpeg_segments.specs.Frame.{Frame, Component}
+use Rattle.jpeg_segments.specs.Frame.{Frame}
 use Rattle.jpeg_decoder.specs.declared.scan.Coded.{Coded}
 use Rattle.jpeg_streams.specs.InTurn.{Fits, counted_at_start}
-use Rattle.jpeg_streams.specs.McuRows.{rows_of}
-use Rattle.jpeg_streams.specs.Order.{Spot, mcu_size}
 use Rattle.jpeg_decoder.specs.Scanning.{components_in}
 use Rattle.jpeg_decoder.specs.Steps.{coding_in}
-use Rattle.jpeg_streams.specs.ScanSegments.{Coding, components_of}
+use Rattle.jpeg_streams.specs.ScanSegments.{Coding}
 use Rattle.jpeg_decoder.specs.Strips.{no_samples, strips_from, planes_at, planes_by_rows}
 use Rattle.jpeg_decoder.proofs.ByStrips.{planes-by-rows}
 use Rattle.jpeg_decoder.specs.declared.scan_order.ScanOrder.{ScanOrder}
@@ -49,44 +46,22 @@ module _ (frame : Frame) (cs : List Coded) (p : Pass) (vias : List Via) (n : ℕ
 
   whole-is : (bytes : List ℕ) → by_rows bytes ≡ ended (whole (upcoming fresh bytes))
   unfolding planes_by_rows ended
-  whole-is bytes =
-      let same : components_in cs ≡ components_of codings = sym (coded-components cs) in
-      let walked : walks_of_rows o ≡ rows_of frame (components_of codings)
-      = rows-walked frame (components_in cs) n o is ∙ ap (rows_of frame) same in
-      let count : o.interval ≡ n * mcu_size (components_of codings)
-      = is.interval ∙ ap (λ (l : List Component). n * mcu_size l) same in
-      ap₂ (λ (k : ℕ) (l : List (List Spot)). ended (strips_from p vias k codings l start (counted_at_start k [])
-      (upcoming fresh bytes))) (sym count) (sym walked)
+  whole-is bytes = search (rules, coded-components, rows-walked)
 
   -- a refusal in the rows
   pub rows-refused : {X Y : Type 0} (v : X → Planes) (view : Y → Planes
       × Option Marker) (b : Ahead) (new : Stream) (e : Error)
       → Takes v whole fresh old (Err e) b new → Answers view by_rows old (Err e) new
   unfolding ended
-  rows-refused v view b new e q = (
-    q.0,
-    λ k known. Names-through e _ _ (λ f h. whole-is old.bytes ∙ ap ended h) (q.1 k known),
-    q.2,
-  )
+  rows-refused v view b new e q = search (rules, whole-is)
 
   -- the marker after them
   pub scan-ended : {X : Type 0} (v : X → Planes) (b : Ahead) (cur new : Stream) (u : X) (r : Result (Option Marker) Error)
       → Takes v whole fresh old (Ok u) b cur → Answers (λ (m : Option Marker). m) (λ bytes. marker_from
       (upcoming b bytes)) cur r new → Answers (λ (m : Option Marker). (v u, m)) by_rows old r new
   unfolding ended
-  scan-ended v b cur new u (Err e) q m = (
-    MayFail-from e _ _ _ q.0 m.0,
-    λ k known.
-        let at = q.1 k in
-        Names-through e _ _ (λ f h. whole-is old.bytes ∙ ap ended at.1 ∙ ap (marked (v u)) h) (m.1 at.0 known),
-    λ k. m.2 (q.1 k).0,
-  )
-  scan-ended v b cur new u (Ok met) q m = (
-    m.0 ∙ q.0,
-    λ k.
-        let at = q.1 k in
-        let by = m.1 at.0 in (by.0, whole-is old.bytes ∙ ap ended at.1 ∙ ap (marked (v u)) by.1),
-  )
+  scan-ended v b cur new u (Err e) q m = search (rules, whole-is)
+  scan-ended v b cur new u (Ok met) q m = search (rules, whole-is)
 
 pub scan-by-rows : (frame : Frame) (cs : List Coded) (p : Pass) (n : ℕ) (vias : List Via) (bytes : List ℕ)
     → 1 ≤ length cs → AllByRecursion (Fits frame) (components_in cs)

@@ -1,7 +1,7 @@
 -- Steps of the loop over the rows of MCUs of a sequential scan.
-use Rattle.std.proofs.Common.{◌≡◌, ℕ, ◌+◌, ◌-◌, ◌*◌, ◌<◌, ◌≤◌, List, [], ◌∷◌, map, drop, length}
-use Rattle.std.proofs.Common.{get_or, Ok, Err, refl, ap, ◌∙◌, arith, add-mul, length-append}
-use Rattle.std.proofs.Common.{mul-add, mul_comm, rules}
+use Rattle.std.proofs.Common.{◌≡◌, ℕ, ◌+◌, ◌-◌, ◌*◌, ◌<◌, ◌≤◌, List, [], ◌∷◌, map, drop, length, Ok}
+use Rattle.std.proofs.Common.{Err, refl, ap, ◌∙◌, arith, add-mul, length-append, mul-add, mul_comm}
+use Rattle.std.proofs.Common.{rules}
 use Rattle.std.proofs.lemmas.List.{length-map}
 use Rattle.std.proofs.lemmas.List.FromFn.{length-map-range_with_len}
 use Rattle.jpeg_pixels.specs.Planes.{plane_of}
@@ -22,12 +22,10 @@ use Rattle.jpeg_streams.specs.ScanSegments.{Coding, components_of}
 use Rattle.jpeg_decoder.specs.Strips.{row_sizes, strip_samples, samples_of, zeros_of, with_strips}
 use Rattle.jpeg_decoder.specs.Strips.{strips_from}
 use Rattle.jpeg_decoder.proofs.KeptBlocks.{Held, sizes-long}
+use Rattle.jpeg_decoder.proofs.OrderedWalks.{one-less}
 use Rattle.std.proofs.lemmas.Grind.{common_steps}
 
 -- ---- the rows
-
-one-less : (k high : ℕ) → k < high → range_with_len k (high - k) ≡ k ∷ range_with_len (k + 1) (high - (k + 1))
-one-less k high h = grind (arith, common_steps)
 
 -- all rows, from the first on
 pub whole-rows : (f : ℕ → List Spot) (high : ℕ) → map f (range_with_len 0 high) ≡ map f (range_with_len 0 (high - 0))
@@ -64,8 +62,7 @@ pub strips_step : (p : Pass) (vias : List Via) (n : ℕ) (codings : List Coding)
     ≡ strips_from p vias n codings (map f (range_with_len (k + 1) (high - (k + 1))))
     (with_strips codings new.reached.arrays planes) (on_arrays [] new) u
 unfolding after strips_from
-strips_step p vias n codings f spots k high planes zeros old new t u h e is r =
-    search (rules, strips-more, after)
+strips_step p vias n codings f spots k high planes zeros old new t u h e is r = search rules
 
 pub strips_refused : (p : Pass) (vias : List Via) (n : ℕ) (codings : List Coding) (f : ℕ → List Spot)
     (spots : List Spot) (k high : ℕ) (planes : List (List ℕ)) (zeros : Arrays) (old : Counted) (t : Text)
@@ -119,20 +116,9 @@ pub lengths-next : (cs : List Coded) (arrays : Arrays) (planes : List (List ℕ)
 unfolding with_strips
 lengths-next [] [] [] row e h = refl
 lengths-next (c ∷ cs) (a ∷ arrays) (p ∷ planes) row e h =
-    let s = c.component.now.dct_scale in
-    let head : length p ≡ strip_samples (row * down_in c) c = ap (λ (l : List ℕ). get_or l 0 0) h in
     let tail = ap (λ (l : List ℕ). drop 1 l) h in
-    grind (
-      arith,
-      common_steps,
-      length-append,
-      length-samples,
-      one-row-more,
-      lengths-next cs arrays planes row
-          (omega arith) tail,
-    )
-lengths-next [] (a ∷ arrays) planes row e h = absurd (omega arith)
-lengths-next (c ∷ cs) [] planes row e h = absurd (omega arith)
+    let more = lengths-next cs arrays planes row (omega arith) tail in
+    grind (arith, common_steps, length-append, length-samples, one-row-more, more)
 lengths-next _ _ _ row e h = absurd (let n = ap (λ (l : List ℕ). length l) h in omega arith)
 
 pub row-count : (cs : List Coded) (vs : List Held) → sizes_of vs ≡ row_sizes cs

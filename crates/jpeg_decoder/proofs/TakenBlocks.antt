@@ -1,10 +1,10 @@
 -- Blocks that are taken out of those that are held, and put back.
-use Rattle.std.proofs.Common.{◌≡◌, ◌<◌, ℕ, zero, suc, ◌+◌, ℤ, List, [], ◌∷◌, ◌++◌, refl, sym, ap}
+use Rattle.std.proofs.Common.{rules, ◌≡◌, ◌<◌, ℕ, zero, suc, ◌+◌, ℤ, List, [], ◌∷◌, ◌++◌, refl, sym, ap}
 use Rattle.std.proofs.Common.{◌∙◌, length, get_or, set, map, take, arith}
 use Rattle.std.specs.declared.alloc.Global.{Global}
 use Rattle.std.specs.declared.vec.Vec.{Vec}
 use Rattle.std.proofs.Math.Logic.{inl, inr}
-use Rattle.std.proofs.lemmas.List.{get_or-set_other, map-append, map-set, set-set, set_comm}
+use Rattle.std.proofs.lemmas.List.{get_or-map, get_or-set_other, map-append, map-set, set-set, set_comm}
 use Rattle.std.proofs.lemmas.List.{take_more}
 use Rattle.jpeg_bits.specs.Passes.{Block}
 use Rattle.jpeg_decoder.specs.declared.scan.Coded.{Coded}
@@ -25,13 +25,8 @@ pub left-elsewhere : (codings : List Coding) (kept : Arrays) (index : ℕ) → (
 unfolding without_blocks
 left-elsewhere [] kept index n = refl
 left-elsewhere (c ∷ more) kept index n =
-    grind (
-      arith,
-      common_steps,
-      get_or-set_other,
-      left-elsewhere more (set kept c.index []) index
-          (λ i. n (inr i)),
-    )
+    let more = left-elsewhere more (set kept c.index []) index (λ i. n (inr i)) in
+    grind (arith, common_steps, get_or-set_other, more)
 
 -- A place elsewhere may be set before or after.
 set-after : (codings : List Coding) (kept : Arrays) (index : ℕ) (blocks : List Block)
@@ -40,13 +35,7 @@ set-after : (codings : List Coding) (kept : Arrays) (index : ℕ) (blocks : List
 unfolding without_blocks
 set-after [] kept index blocks n = refl
 set-after (c ∷ more) kept index blocks n =
-    grind (
-      arith,
-      common_steps,
-      set_comm,
-      set-after more (set kept c.index []) index blocks (λ i. n
-          (inr i)),
-    )
+    search (rules, set_comm, set-after more (set kept c.index []) index blocks (λ i. n (inr i)))
 
 -- The blocks of a scan's components are put in the same places, whether those were emptied before or not.
 pub put-back : (codings : List Coding) (arrays kept : Arrays) → AreApart (indices_of codings)
@@ -56,13 +45,8 @@ unfolding put_arrays without_blocks
 put-back [] arrays kept apart e = refl
 put-back (c ∷ more) [] kept apart e = absurd (omega arith)
 put-back (c ∷ more) (blocks ∷ arrays) kept apart e =
-    grind (
-      arith,
-      common_steps,
-      set-after,
-      set-set,
-      put-back more arrays (set (set kept c.index []) c.index blocks) apart.1 (omega arith),
-    )
+    let r = put-back more arrays (set (set kept c.index []) c.index blocks) apart.1 (omega arith) in
+    grind (arith, common_steps, set-after, set-set, r)
 
 -- ---- one component more
 
@@ -97,9 +81,7 @@ Held = Vec (List ℤ) Global
 
 blocks-of : (vs : List Held) (i : ℕ) (v : Held) → i < length vs → v ≡ get_or vs i v
     → get_or (arrays_in vs) i [] ≡ blocks_in v
-blocks-of [] i v h e = absurd (omega arith)
-blocks-of (x ∷ vs) zero v h e = ap blocks_in (sym e)
-blocks-of (x ∷ vs) (suc i) v h e = blocks-of vs i v (omega arith) e
+blocks-of vs i v h e = grind (arith, common_steps, get_or-map)
 
 -- one component more is taken
 pub taken-more : (cs : List Coded) (i : ℕ) (c : Coded) (old now taken : List Held) (v : Held) → i < length cs

@@ -29,8 +29,7 @@ returns-then-not-begin-clause-blocks g c =
     rw c.take_refusal.ensures (refused_after (λ (u : Unit {0}). now) (λ (u : Unit {0}). counted c.begin.new.interval arrays)
     (blocks_from p vias n c.args.spots.now (counted c.args.interval.now (arrays_in c.args.arrays.now.items)) >>= keep)
     (blocks_from p vias n l.spots now >>= keep) (begun_from n now)
-    c.args.interval.now.decoder l.interval.decoder c.begin.new.interval.decoder c.args.source.now l.source
-    c.begin.new.source _
+    c.args.interval.now.decoder _ c.begin.new.interval.decoder c.args.source.now _ c.begin.new.source _
     (λ t f h. ap (read_on keep) (ap (λ (m : List Spot). blocks_from p vias n m now t) c.in-Some.ensures
     ∙ blocks_refused p vias n s c.next.new.self now t f (next_unbegun p vias n s now t f h)))
     l.invariant.blocks (c.if-not-begin.ensures.begun arrays))
@@ -67,8 +66,7 @@ returns-then-not-take_block-clause-blocks g c =
     (blocks_from p vias n c.args.spots.now (counted c.args.interval.now (arrays_in c.args.arrays.now.items)) >>= keep)
     left (kept_from keeps (block_from p coded.dc.now coded.ac.now first i.carried.run
     (to_block c.index_mut-in-Some.result.now)))
-    c.args.interval.now.decoder i.decoder c.take_block.new.decoder c.args.source.now c.begin.new.source
-    c.take_block.new.source _
+    c.args.interval.now.decoder _ c.take_block.new.decoder c.args.source.now _ c.take_block.new.source _
     (λ t f h. ap (λ o. read_on keep (read_on (blocks_from p vias n c.next.new.self) o))
     (next_refused p vias s (counted i (arrays_in vs)) t f
     (turn-refused p cs slot index coded vs c.index_mut.result.now c.index_mut-in-Some.result.now i.carried.predictors

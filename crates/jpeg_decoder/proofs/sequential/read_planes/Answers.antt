@@ -1,6 +1,6 @@
 use Rattle.std.proofs.lemmas.Grind.{common_steps}
-use Rattle.std.proofs.Common.{◌≡◌, ◌∙◌, ◌-◌, ◌+◌, ◌*◌, [], ap, ap₂, map, sym, subst, ℕ, List, Option, Result}
-use Rattle.std.proofs.Common.{arith, length, refl}
+use Rattle.std.proofs.Common.{rules, ◌≡◌, ◌∙◌, ◌-◌, ◌+◌, ◌*◌, [], ap, map, sym, subst, ℕ, List}
+use Rattle.std.proofs.Common.{Option, Result, arith, length, refl}
 use Rattle.std.specs.List.{AllByRecursion, range_with_len}
 use Rattle.std.specs.Prelude.{OnOk}
 use Rattle.std.proofs.lemmas.Result.{err_from_is_err_and}
@@ -14,21 +14,20 @@ use Rattle.jpeg_decoder.specs.declared.scan.Coded.{Coded}
 use Rattle.jpeg_streams.specs.Order.{Spot}
 use Rattle.jpeg_streams.specs.InTurn.{blocks_from, counted_at_start}
 use Rattle.jpeg_streams.specs.McuRows.{rows_of, zero_rows}
-use Rattle.jpeg_decoder.specs.Scanning.{IsSpotOf, arrays_in, components_in, counted, down_in, kept_blocks}
-use Rattle.jpeg_decoder.specs.Scanning.{kept_counted, sizes_of, vias_in}
+use Rattle.jpeg_decoder.specs.Scanning.{IsSpotOf, arrays_in, components_in, counted, down_in}
+use Rattle.jpeg_decoder.specs.Scanning.{kept_blocks, kept_counted, sizes_of, vias_in}
 use Rattle.jpeg_decoder.proofs.KeptStrips.{kept-refused, one-a-side, strips_kept}
 use Rattle.jpeg_decoder.specs.Steps.{coding_in}
 use Rattle.jpeg_decoder.specs.GrowingView.{GrowsFor, growing_in}
 use Rattle.jpeg_decoder.specs.Strips.{row_sizes, strip_samples, strips_from, with_strips, zeros_of}
 use Rattle.jpeg_decoder.specs.Walk.{walk_of_row, walks_of_rows}
 use Rattle.jpeg_streams.specs.ScanSegments.{components_of}
-use Rattle.jpeg_decoder.proofs.KeptBlocks.{Held}
 use Rattle.jpeg_decoder.proofs.KeptSpots.{rows-spots}
 use Rattle.jpeg_decoder.proofs.ScanOrders.{rows-walked}
 use Rattle.jpeg_decoder.proofs.StripScans.{rows-refused, scan-ended}
-use Rattle.jpeg_decoder.proofs.StripSteps.{strips_refused, strips_none, whole-rows, first-row, later-rows}
-use Rattle.jpeg_decoder.proofs.StripSteps.{zeros-are, lengths, lengths-all, lengths-none}
-use Rattle.jpeg_decoder.proofs.StripSteps.{lengths-next, row-count}
+use Rattle.jpeg_decoder.proofs.StripSteps.{strips_refused, strips_none, whole-rows, first-row}
+use Rattle.jpeg_decoder.proofs.StripSteps.{later-rows, zeros-are, lengths, lengths-all}
+use Rattle.jpeg_decoder.proofs.StripSteps.{lengths-none, lengths-next, row-count}
 use Rattle.jpeg_decoder.proofs.sequential.read_planes.Goals as goal
 
 pub loop-row-init : goal.loop-row-init
@@ -57,8 +56,7 @@ read_spots-requires g c =
     let cs = c.args.scan.now.components.items in
     let o = c.in_ok-order.order in
     let l = c.loop-row in
-    let same : row_sizes cs ≡ sizes_of c.clear_rows.new.rows.items
-    = sym l.invariant.sizes ∙ sym c.clear_rows.ensures.sizes in
+    let same : row_sizes cs ≡ sizes_of c.clear_rows.new.rows.items = cc in
     record {
       spots = subst (λ (x : List Spot). AllByRecursion (IsSpotOf (length cs) (sizes_of c.clear_rows.new.rows.items)) x)
           (sym c.row-spots.ensures)
@@ -78,8 +76,7 @@ returns-in_err-read_spots-clause-planes g c =
     let l = c.loop-row in
     let planes = growing_in l.planes in
     let zeros = arrays_in c.clear_rows.new.rows.items in
-    let none : zeros ≡ zero_rows 1 (components_of codings) = c.clear_rows.ensures.zeros ∙ ap zeros_of l.invariant.sizes
-    ∙ zeros-are cs in
+    let none : zeros ≡ zero_rows 1 (components_of codings) = search (rules, zeros-are) in
     rw (e.1, e.2) (rows-refused (frame_in c.args.frame.now) cs p (vias_in 0 cs) c.args.scan.now.restart_interval o
     c.in_ok-order.ensures (growing_in c.args.planes.now) c.args.source.now
     (λ (u : Unit {0}). planes) (λ (m : Option Marker). (planes, m)) c.read_spots.new.interval.decoder
@@ -116,9 +113,7 @@ loop-row-preserved g c =
     let read = c.read_spots.new.arrays.items in
     let sizes : sizes_of read ≡ row_sizes cs = q.sizes ∙ c.clear_rows.ensures.sizes ∙ l.invariant.sizes in
     let made : growing_in c.append_strips.new.planes ≡ with_strips codings (arrays_in read) planes
-    = c.in_ok-append_strips.ensures.strips
-    ∙ ap₂ (λ (x : List Coded) (y : List Held). with_strips (map coding_in x) (arrays_in y) planes)
-    c.deref-in-loop-row.ensures.value c.deref-in-loop-row-2.ensures.value in
+    = search rules in
     record {
       sizes = sizes;
       spots = later-rows (AllByRecursion (IsSpotOf (length cs) (row_sizes cs))) f l.row high

@@ -14,26 +14,18 @@ use Rattle.std.proofs.lemmas.Grind.{common_steps}
 
 pub returns-in_err-reached-clause-data : goal.returns-in_err-reached-clause-data
 returns-in_err-reached-clause-data g c =
-    grind (
-      arith,
-      common_steps,
-      err_from_is_err_and,
-      read-refused
-          (found_in c.args.state.now) c.args.self.now (frame_in c.args.frame.now) c.args.scan.now
-          c.args.source.now.bytes (sym c.if-is_progressive.ensures) c.requires.ready,
-    )
+    let more = read-refused (found_in c.args.state.now) c.args.self.now (frame_in c.args.frame.now)
+    c.args.scan.now c.args.source.now.bytes (sym c.if-is_progressive.ensures) c.requires.ready in
+    grind (arith, common_steps, err_from_is_err_and, more)
 
 pub returns-clause-data : goal.returns-clause-data
 returns-clause-data g c =
-    grind (
-      arith,
-      common_steps,
-      read-data
-          (found_in c.args.state.now) c.args.self.now (frame_in c.args.frame.now) c.args.scan.now
-          c.args.source.now.bytes (sym c.if-is_progressive.ensures) c.requires.ready
-          c.in_ok-reached.reached c.read_planes.new.source.bytes (record c.args.self.now { kept = c.new.result })
-          c.add_grown.new.self refl refl refl (ap (map _) c.new.ensures.items) (growing_in c.read_planes.new.planes),
-    )
+    let more = read-data (found_in c.args.state.now) c.args.self.now (frame_in c.args.frame.now)
+    c.args.scan.now c.args.source.now.bytes (sym c.if-is_progressive.ensures) c.requires.ready
+    c.in_ok-reached.reached c.read_planes.new.source.bytes
+    (record c.args.self.now { kept = c.new.result }) c.add_grown.new.self refl refl refl
+    (ap (map _) c.new.ensures.items) (growing_in c.read_planes.new.planes) in
+    grind (arith, common_steps, more)
 
 pub returns-clause-planes : goal.returns-clause-planes
 returns-clause-planes g c h =

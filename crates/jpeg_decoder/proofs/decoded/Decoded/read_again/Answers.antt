@@ -12,36 +12,27 @@ use Rattle.jpeg_decoder.proofs.decoded.Decoded.read_again.Goals as goal
 
 pub returns-in_err-reached-clause-data : goal.returns-in_err-reached-clause-data
 returns-in_err-reached-clause-data g c =
-    grind (
-      arith,
-      common_steps,
-      err_from_is_err_and,
-      again-refused-data
-          (found_in c.args.state.now) c.args.self.now (frame_in c.args.frame.now) c.args.scan.now
-          c.args.source.now.bytes c.requires.process c.requires.ready,
-    )
+    let more = again-refused-data (found_in c.args.state.now) c.args.self.now
+    (frame_in c.args.frame.now) c.args.scan.now c.args.source.now.bytes c.requires.process
+    c.requires.ready in
+    grind (arith, common_steps, err_from_is_err_and, more)
 
 pub returns-clause-data : goal.returns-clause-data
 returns-clause-data g c =
-    grind (
-      arith,
-      common_steps,
-      again-data
-          (found_in c.args.state.now) c.args.self.now (frame_in c.args.frame.now) c.args.scan.now
-          c.args.source.now.bytes c.requires.process c.requires.ready
-          c.in_ok-reached.reached c.read_planes.new.source.bytes (record c.args.self.now { kept = c.new-2.result })
-          c.add_planes.new.self refl refl refl (ap (map _) c.new-2.ensures.items) (growing_in c.read_planes.new.planes)
-          (are-decided c.args.scan.now.components.items _ c.requires.decided),
-    )
+    let more = again-data (found_in c.args.state.now) c.args.self.now (frame_in c.args.frame.now)
+    c.args.scan.now c.args.source.now.bytes c.requires.process c.requires.ready
+    c.in_ok-reached.reached c.read_planes.new.source.bytes
+    (record c.args.self.now { kept = c.new-2.result }) c.add_planes.new.self refl refl refl
+    (ap (map _) c.new-2.ensures.items) (growing_in c.read_planes.new.planes)
+    (are-decided c.args.scan.now.components.items _ c.requires.decided) in
+    grind (arith, common_steps, more)
 
 pub returns-clause-planes : goal.returns-clause-planes
 returns-clause-planes g c =
     let base = found_in c.args.state.now in
     let added = c.add_planes.ensures.planes base in
-    grind (
-      arith,
-      common_steps,
-      again-planes (pass_in c.args.scan.now.pass) (map coding_in c.args.scan.now.components.items) base
-          (record c.args.self.now { kept = c.new-2.result }) c.add_planes.new.self
-          (are-decided c.args.scan.now.components.items _ c.requires.decided),
-    )
+    let more = again-planes (pass_in c.args.scan.now.pass)
+    (map coding_in c.args.scan.now.components.items) base
+    (record c.args.self.now { kept = c.new-2.result }) c.add_planes.new.self
+    (are-decided c.args.scan.now.components.items _ c.requires.decided) in
+    grind (arith, common_steps, more)

@@ -81,13 +81,9 @@ returns-in_err-met-clause-data g c =
     let f = with_decoded (found_in c.args.state.now) c.args.self.now in
     let is = kept-as f (frame_in c.args.frame.now) c.args.scan.now _ c.args.source.now.bytes c.requires.ready.restart
     (taken g (goal.at.returns-in_err-met-clause-data g c).In_ok-arrays).0 in
-    grind (
-      arith,
-      common_steps,
-      err_from_is_err_and,
-      data-kept-refused f (frame_in c.args.frame.now)
-          (pass_in c.args.scan.now.pass) (map coding_in c.args.scan.now.components.items) c.args.source.now.bytes,
-    )
+    let more = data-kept-refused f (frame_in c.args.frame.now) (pass_in c.args.scan.now.pass)
+    (map coding_in c.args.scan.now.components.items) c.args.source.now.bytes in
+    grind (arith, common_steps, err_from_is_err_and, more)
 
 pub add_arrays-requires-clause-blocks : goal.add_arrays-requires-clause-blocks
 add_arrays-requires-clause-blocks g c =
@@ -137,14 +133,12 @@ returns-clause-data g c =
     let is = kept-as f (frame_in c.args.frame.now) c.args.scan.now _ c.args.source.now.bytes c.requires.ready.restart
     (taken g at.In_ok-arrays).0 in
     let put = (held g at.After-put_blocks).0 in
-    grind (
-      arith,
-      common_steps,
-      data-kept f (frame_in c.args.frame.now) (pass_in c.args.scan.now.pass)
-          (map coding_in c.args.scan.now.components.items) (arrays_in c.read_blocks.new.arrays.items) c.in_ok-met.met
-          c.args.source.now.bytes c.read_blocks.new.source.bytes (record c.keep.new.self { kept = c.take_blocks.new.kept })
-          c.add_arrays.new.self (arrays_in c.put_blocks.new.kept.items) c.requires.process,
-    )
+    let more = data-kept f (frame_in c.args.frame.now) (pass_in c.args.scan.now.pass)
+    (map coding_in c.args.scan.now.components.items) (arrays_in c.read_blocks.new.arrays.items)
+    c.in_ok-met.met c.args.source.now.bytes c.read_blocks.new.source.bytes
+    (record c.keep.new.self { kept = c.take_blocks.new.kept }) c.add_arrays.new.self
+    (arrays_in c.put_blocks.new.kept.items) c.requires.process in
+    grind (arith, common_steps, more)
 
 pub returns-clause-kept : goal.returns-clause-kept
 returns-clause-kept g c = (held g (goal.at.returns-clause-kept g c).After-put_blocks).1

@@ -1,13 +1,10 @@
 use Rattle.std.proofs.lemmas.Grind.{common_steps}
-use Rattle.std.proofs.Common.{is_some, Option, ◌≡◌, ◌∙◌, ◌+◌, ◌<◌, ◌^◌, suc, true, None, Ok, sym}
-use Rattle.std.proofs.Common.{ap, arith, length}
+use Rattle.std.proofs.Common.{◌≡◌, ◌∙◌, ◌+◌, ◌<◌, ◌^◌, suc, true, None, Ok, sym, ap, arith, length}
 use Rattle.std.proofs.lemmas.Result.{err_from_is_err_and}
 use Rattle.jpeg_streams.specs.declared.before.Before.TheVariants.{Elsewhere}
 use Rattle.jpeg_streams.specs.Stream.{told_of, turn_at, segments_at, walk}
 use Rattle.jpeg_streams.specs.Reported.{IsOfTurns}
 use Rattle.jpeg_decoder.specs.Seen.{found_in}
-use Rattle.jpeg_segments.specs.Frame.{Frame}
-use Rattle.jpeg_decoder.specs.declared.state.State.{State}
 use Rattle.jpeg_decoder.specs.Steps.{turn_of}
 use Rattle.jpeg_streams.proofs.ReadTurns.{Walked, segments-walked, walk-end, walk-refused}
 use Rattle.jpeg_streams.proofs.ReadTurns.{walk-stop}
@@ -108,10 +105,7 @@ loop-preserved g c =
 -- a stream of known bytes has fewer segments than turns
 never : (g : Over) (c : goal.After-format_error g) → c.args.source.now.known ≡ true → ⊥
 never g c k =
-    let some : 0 < c.loop.counter = elim c.loop-test.branch [
-      | else-loop-test w ↦ omega arith
-      | then-loop-test+else-is_read_for+in_ok-step+else-step+else-counter-lt18446744073709551615 w ↦ omega arith
-    ] in
+    let some : 0 < c.loop.counter = grind (arith, common_steps) in
     let few : length c.args.source.now.bytes < 2 ^ 64 = c.loop.invariant.short some k in
     let walked = c.loop.invariant.walked in
     elim c.loop-test.branch [
@@ -127,12 +121,7 @@ returns-clause-reads g c =
     never-met {X = Unit {0}} (λ _. found_in c.loop-test.self) (segments_at c.args.header Elsewhere
     (found_in c.args.self.now) None) c.args.source.now c.loop-test.source c.format_error.result
     c.format_error.ensures
-    (elim c.loop-test.branch as (λ _. c.loop-test.source.failed ≡ c.args.source.now.failed) [
-      | else-loop-test w ↦ ap (λ s. s.failed) w.source-is ∙ c.loop.invariant.walked.failed
-      | then-loop-test+else-is_read_for+in_ok-step+else-step+else-counter-lt18446744073709551615 w ↦ ap (λ s. s.failed)
-          w.source-is ∙ w.in_ok-step.ensures.reads.0 ∙ c.loop.invariant.walked.failed
-    ])
-    (never g c)
+    (grind (arith, common_steps)) (never g c)
 
 pub returns-clause-told : goal.returns-clause-told
 returns-clause-told g c k = absurd (never g c k)
