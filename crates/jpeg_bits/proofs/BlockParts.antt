@@ -31,7 +31,7 @@ use Rattle.jpeg_bits.proofs.RefinedBands.{refined-same}
 abbrev pub band_from : Table → Pass → List ℤ → Reads Band
 band_from table p first = first_ac table p.al (length (band_in p first)) (band_in p first)
 
--- the band of a block is written up to a zigzag place
+-- the band of a block is written up to a zigzag index
 abbrev pub IsAtIndex : Table → Pass → List ℤ → Ahead → Stream → List ℤ → ℕ → Ahead → Stream → Type 0
 IsAtIndex table p first a old block at b cur =
     IsAt table p.al (band_from table p first) a old (band_in p block) (at - band_start p) b cur

@@ -1,4 +1,4 @@
--- Taking bits that are held.
+-- Taking bits that are buffered.
 use Rattle.jpeg_bits.specs.declared.ahead.DataEnd.TheVariants as ends
 use Rattle.std.proofs.Common.{◌≡◌, ℕ, ◌+◌, ◌-◌, ◌*◌, ◌^◌, ◌≤◌, Bool, true, false, cond, List, []}
 use Rattle.std.proofs.Common.{◌++◌, length, take, drop, replicate, Option, Some, Result, Ok, Err}
@@ -37,7 +37,7 @@ after n l x ys h =
     ∙ ap (drop 56) (drop-append-le n (replicate l x) ys (omega (arith, length-replicate l x))
     ∙ ap (λ zs. zs ++ ys) (drop-replicate n l x))
 
--- the text after bits that are held
+-- the text after bits that are buffered
 pub advance-buffered : (n : ℕ) (bits : List Bool) (met : Option DataEnd) (bytes : List ℕ) →
     IsFilled n bits met
     → advance n (upcoming_by bits met bytes) ≡ upcoming_by (drop n bits) met bytes
@@ -63,7 +63,7 @@ front-buffered n bits met bytes h = grind (arith, take-append-le, length-append)
 pub ok_unit : (r : Result (Unit {0}) Fault) → is_ok r ≡ true → r ≡ Ok tt
 ok_unit r h = grind (arith, false≢true)
 
--- taking bits that are held
+-- taking bits that are buffered
 pub bits_from-buffered : (n : ℕ) (bits : List Bool) (met : Option DataEnd) (bytes : List ℕ) →
     IsFilled n bits met
     → bits_from n (upcoming_by bits met bytes) ≡ (has_buffered n bits met
@@ -130,7 +130,7 @@ pub zero_next : (a b : Ahead) (bytes : List ℕ) → b ≡ a → length b.bits �
 unfolding upcoming
 zero_next a b bytes e none h = subst (λ (a : Ahead). GivesZero a.bits a.met bytes) e (h b.bits bytes none)
 
--- ---- taking a symbol of bits that are held
+-- ---- taking a symbol of bits that are buffered
 
 pub next_buffered : (bits : List Bool) (met : Option DataEnd) (bytes : List ℕ) → IsFilled 16 bits
     met

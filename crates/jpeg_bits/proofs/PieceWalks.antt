@@ -191,9 +191,9 @@ pub value_refused : (al r : ℕ) (cur : List ℤ) (i : ℕ) (x : ℤ) (t : Text)
     → corrected_from al x t ≡ Err f → walk_left al r cur i t ≡ Err f
 value_refused al r cur i x t f h e p o = grind (arith, walk_value)
 
--- ---- a piece of a refinement, as it is walked over the zigzag places of a block in block order
+-- ---- a piece of a refinement, as it is walked over the zigzag indices of a block in block order
 
--- what the zigzag places from k on give, after those before them
+-- what the zigzag indices from k on give, after those before them
 abbrev pub walk_at : ℕ → ℕ → ℕ → ℕ → List ℤ → ℕ → Text → Walk
 walk_at al r from end block k t = walk_left al r (zigzag_part from end block) (k - from) t
 

@@ -276,13 +276,13 @@ refined-same table al n [] t = refl
 refined-same table al zero (x ∷ rest) t = refl
 refined-same table al (suc n) (x ∷ rest) t = search (rules, token-on, refined-same table al n)
 
--- ---- bands of a refinement, by the zigzag places of a block in block order
+-- ---- bands of a refinement, by the zigzag indices of a block in block order
 
--- what the band from zigzag place k on gives, after what stands before it
+-- what the band from zigzag index k on gives, after what stands before it
 abbrev pub refined_at : Table → Pass → List ℤ → ℕ → Text → Result (Band × Text) Fault
 refined_at table p block k t = refined_left table p.al (band_in p block) (k - band_start p) t
 
--- what a token at zigzag place k makes of the band
+-- what a token at zigzag index k makes of the band
 abbrev pub step_at : Table → Pass → List ℤ → ℕ → Refinement → Text → Result (Band × Text) Fault
 step_at table p block k x t = refined_step table p.al (band_in p block) (k - band_start p) x t
 

@@ -81,5 +81,5 @@ pub ruleset taken = (takes-first)
 -- the laws of what is written, and of what is looked up
 pub ruleset laws = (ends-so, takes-number, tokens-same)
 
--- a code of bits that are held
+-- a code of bits that are buffered
 pub ruleset buffered = (Code-buffered, Code-none)

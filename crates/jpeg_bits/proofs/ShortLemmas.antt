@@ -355,7 +355,7 @@ module _ (byte l : ℕ) (small : byte < 256) (few : l ≤ 8) where
       → IsRun byte ((byte / 2 ^ (8 - l) + 1) * 2 ^ (8 - l) % 18446744073709551616) code
   run-same code v is = rw is (grind (arith, div-mul-le_self, div-eq_of_lt-le))
 
--- ---- symbols and short values of bits that are held
+-- ---- symbols and short values of bits that are buffered
 
 -- the code of a symbol that is found
 record IsCode (table : Table) (bits : List Bool) (symbol size : ℕ) : Type 0 where

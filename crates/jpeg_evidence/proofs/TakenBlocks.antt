@@ -146,7 +146,7 @@ written-run : (p : Pass) (table : Table) (numbers : List ℤ) (run : ℕ) → p.
 written-run p table [] run f some none = absurd (omega arith)
 written-run p table (u ∷ us) run f some none = again_run u us run f none
 
--- a band of numbers that were held at the level above, in their places
+-- a band of numbers that were kept from the level above, at their indices
 old-read : (p : Pass) (table : Table) (zs numbers : List ℤ) (run : ℕ) (y : Band) (own : List Bool)
     → map (scaled p.al) numbers ≡ y.0 → length numbers ≡ length zs → WritesAc p table numbers run own y.1
     → IsRead p table zs run y own

@@ -47,7 +47,7 @@ zero-is x h = grind arith
 sum : (al m b : ℕ) → (2 * m + b) * 2 ^ al ≡ m * 2 ^ suc al + b * 2 ^ al
 sum al m b = omega (arith, times-two_power m al, spread m b (2 ^ al))
 
--- the number of a place after its correction, and the bit of that; it is 0 where what was held is
+-- the number of a place after its correction, and the bit of that; it is 0 where what was kept is
 record IsOne (al : ℕ) (z w : ℤ) (own : List Bool) : Type 0 where
   u : ℤ
   are : scaled al u ≡ w
@@ -116,7 +116,7 @@ one-taken al z bits w t kept e = if-read (is_zero z) _ _ e
     gives-taken (λ (w : ℤ). After (IsNumber 1 b) (IsOne al z w)) (λ own is. rw (← one-bit b own is) r.0)
     (ap (λ (u : Text). Ok (w, u)) r.1)))
 
--- Numbers after their correction bits, at a level, and the bits. They are 0 where what was held is.
+-- Numbers after their correction bits, at a level, and the bits. They are 0 where what was kept is.
 pub record IsCorrected (al : ℕ) (zs ws : List ℤ) (own : List Bool) : Type 0 where
   pub us : List ℤ
   pub are : map (scaled al) us ≡ ws

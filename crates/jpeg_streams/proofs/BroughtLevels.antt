@@ -38,9 +38,9 @@ use Rattle.jpeg_bits.specs.Written.{marker, IsMarker}
 use Rattle.jpeg_streams.proofs.ReadTurns.{codings-each, codings-indices}
 use Rattle.jpeg_streams.proofs.UpsampledFactors.{either as either-true}
 
--- ---- finished places
+-- ---- finished indices
 
--- The places that scans have finished, of any stream.
+-- The indices that scans have finished, of any stream.
 pub record Finished : Type 0 where
   pub dc : Bool
   pub acs : List Bool
@@ -60,7 +60,7 @@ is_level_0 None = false
 is_level_0 (Some zero) = true
 is_level_0 (Some (suc a)) = false
 
--- The places at level 0.
+-- The indices at level 0.
 abbrev pub at_level_0 : Levels → Finished
 at_level_0 l = record { dc = is_level_0 l.dc; acs = map is_level_0 l.acs }
 
@@ -107,7 +107,7 @@ dc-open p l legal e false k = ap is_level_0 (legal.dc_sent e k)
 pub finish-legal : (p : Pass) (l : Levels) → IsLegal p l → finish p (at_level_0 l) ≡ at_level_0 (sent_after p l)
 finish-legal p l legal = search (rules, eq-eqb, levels-acs, finish-no, band-open, around-band, dc-open, eqb-true)
 
--- ---- the marks of finished places are the levels that are 0
+-- ---- the marks of finished indices are the levels that are 0
 
 -- the marks of a block at these levels
 abbrev pub marks_of : Levels → List Bool
@@ -335,7 +335,7 @@ brings w frame p array levels (k ∷ codings) (b ∷ arrays) s h fi pl few band 
     search rules
 brings w frame p array levels codings arrays s h fi pl few band apart done before = absurd done
 
--- ---- held between scans
+-- ---- kept between scans
 
 pub record AllKept (frame : Frame) (array : Coefficients) (levels : ℕ → Levels) (arrays : Arrays) :
     Type 0 where
