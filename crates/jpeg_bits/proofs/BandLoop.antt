@@ -29,7 +29,7 @@ Leaves whole a old rest b new =
     (new.failed ≡ old.failed) × (old.known ≡ true → (new.known ≡ true)
     × (whole (upcoming a old.bytes) ≡ rest (upcoming b new.bytes)))
 
--- a band whose front is written, and what reads the places after it
+-- a band whose front is written, and what reads the coefficients after it
 abbrev pub after_front : List ℤ → Reads Band → Reads Band
 after_front front others = others >>= (λ more. gives (before_more front more))
 
@@ -82,13 +82,13 @@ module _ (table : Table) (al : ℕ) (whole : Reads Band) (a b d : Ahead) (old cu
         → Takes view whole a old (Err e) d new
     Leaves-refused view e q = grind (arith, first_ac-token)
 
--- a band is written up to a place, and what is left is read with some turns
+-- a band is written up to a coefficient, and what is left is read with some turns
 abbrev pub IsAt : Table → ℕ → Reads Band → Ahead → Stream → List ℤ → ℕ → Ahead → Stream → Type 0
 IsAt table al whole a old band at b cur =
     (turns : ℕ) × (length band - at ≤ turns)
     × Leaves whole a old (after_front (take at band) (first_ac table al turns (drop at band))) b cur
 
--- what is left, where some place is left
+-- what is left, where some coefficient is left
 pub record Parts (table : Table) (al : ℕ) (whole : Reads Band) (a : Ahead) (old : Stream) (band : List ℤ) (at : ℕ)
     (b : Ahead) (cur : Stream) : Type 0 where
   pub n : ℕ

@@ -48,7 +48,7 @@ has_bits-same : (n : ℕ) (bits : List Bool) (end : DataEnd) (bytes : List ℕ) 
     ≡ has_bits n bits (ending_of end [])
 has_bits-same n bits end bytes = grind arith
 
--- whether bits can be taken is seen from those that are held
+-- whether bits can be taken is seen from those that are buffered
 pub has_bits-buffered : (n : ℕ) (bits : List Bool) (met : Option DataEnd) (bytes : List ℕ) →
     IsFilled n bits met
     → has_bits n (upcoming_by bits met bytes).bits (upcoming_by bits met bytes).ending ≡
@@ -79,7 +79,7 @@ pub Takes-buffered : (n : ℕ) (u : Unit {0}) (a b c : Ahead) (old new : Stream)
 unfolding upcoming
 Takes-buffered n u a b c old new x h ok ex eb em p = grind (arith, same, second_ok, bits_from-buffered, ok_unit)
 
--- a refusal for want of bits fails no source
+-- a refusal for lack of bits fails no source
 pub Takes-refused : (n : ℕ) (u : Unit {0}) (a b c : Ahead) (old new : Stream) (e : Error) → IsFilled n b.bits b.met
     → Names e (has_buffered n b.bits b.met) → MayFail e new.failed new.failed
     → Takes (λ (x : Unit {0}). 0) same_text a old (Ok u) b new → Takes (λ (x : ℕ). x) (bits_from n) a old (Err e) c new
@@ -90,7 +90,7 @@ Takes-refused n u a b c old new e h want f p =
 pub MayFail-same : {Y : Type 0} (e : Error) (o : Result Y Fault) (b : Bool) → Names e o → MayFail e b b
 MayFail-same e o b n = grind arith
 
--- enough bits are held for fewer
+-- enough bits are buffered for fewer
 pub filled-less : (n m : ℕ) (bits : List Bool) (met : Option DataEnd) → n ≤ m → IsFilled m bits met
     → IsFilled n bits met
 filled-less n m bits met h f = grind arith

@@ -1,4 +1,4 @@
--- The default tables have codes, and how places are filled.
+-- The default tables have codes, and how destinations are filled.
 use Rattle.std.proofs.lemmas.Result.{err_from_is_err_and}
 use Rattle.std.proofs.Common.{rules, ◌≡◌, ◌≤◌, Bool, ℕ, List, [], ◌∷◌, length, get_or, set, true, Option, inl, inr}
 use Rattle.std.proofs.Common.{refl, arith}
@@ -32,7 +32,7 @@ pub chrominance-ac-codes : AreCodes chrominance_ac.counts chrominance_ac.symbols
 unfolding codes_exist code_value lengths_from
 chrominance-ac-codes = search (rules, exists)
 
--- ---- places
+-- ---- destinations
 
 all-same : (ts : List (Option Table)) → AreBetween ts ts ts
 unfolding AreBetween

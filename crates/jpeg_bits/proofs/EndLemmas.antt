@@ -17,7 +17,7 @@ use Rattle.jpeg_bits.proofs.TakenTexts.Taken.{gave, failed}
 use Rattle.jpeg_bits.specs.Marker.{marker_of, marker_at, found_or, next_marker}
 use Rattle.jpeg_bits.specs.NextMarker.{IsNoMarker, IsNextMarker, HasNoMarker}
 
--- Each bit of a text has the place after the byte that has it.
+-- Each bit of a text has the offset after the byte that has it.
 pub record IsPlaced (bytes : List ℕ) (t : Text) : Type 0 where
   pub sized : length t.following ≡ length t.bits
   pub each : (i : ℕ) → i < length t.bits → get_or t.following i [] ≡ after_bytes (suc (i / 8)) bytes

@@ -91,7 +91,7 @@ pub filled-err : (n : ℕ) (old cur new : Stream) (front part : List ℕ) (e : E
     → Answers (λ (u : Unit {0}). front) (times n next_byte) old (Err e) new
 filled-err n old cur new front part e p r = grind arith
 
--- a read is not refused for want of memory
+-- a read is not refused for lack of memory
 pub filled-room : (old cur new : Stream) (front part : List ℕ) (e : Error)
     → HasFilled old front cur → ReadsSome cur (Err e) part new → old.known ≡ true → e ≡ errors.OutOfMemory → ⊥
 filled-room old cur new front part e p r known is = grind arith

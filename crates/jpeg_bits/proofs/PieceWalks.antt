@@ -44,7 +44,7 @@ Walk = Result ((ℕ × List ℤ) × Text) Fault
 abbrev pub one_more : ℤ → Walk → Walk
 one_more z w = w >>= λ w. Ok ((suc w.0.0, z ∷ w.0.1), w.1)
 
--- the piece up to zero number r, place by place
+-- the piece up to zero number r, coefficient by coefficient
 unfoldable pub walk_from : ℕ → ℕ → List ℤ → Text → Walk
 walk_from al r [] t = Ok ((0, []), t)
 walk_from al r (z ∷ numbers) t =
@@ -66,7 +66,7 @@ index_zero : (al : ℕ) (z : ℤ) (t : Text) → is_zero z ≡ true → correcte
 unfolding corrected_from
 index_zero al z t e = rw e refl
 
--- one place of a piece, and then the others
+-- one coefficient of a piece, and then the others
 piece_step : (al n : ℕ) (z : ℤ) (rest : List ℤ) (t : Text) → piece_of al (suc n) (z ∷ rest) t ≡
     (corrected_from al z t
     >>= λ (f : ℤ × Text). one_more f.0 (piece_of al n rest f.1))
@@ -108,7 +108,7 @@ piece_walk al r (z ∷ numbers) t =
 abbrev pub after : ℕ → List ℤ → (ℕ × List ℤ) × Text → Walk
 after i front w = Ok ((i + w.0.0, front ++ w.0.1), w.1)
 
--- what the places from i on give, after those before them
+-- what the coefficients from i on give, after those before them
 unfoldable pub walk_left : ℕ → ℕ → List ℤ → ℕ → Text → Walk
 walk_left al r cur i t = walk_from al r (drop i cur) t >>= λ w. after i (take i cur) w
 
@@ -167,7 +167,7 @@ bind_bind : (o : Result (ℤ × Text) Fault) (f : ℤ × Text → Walk) (i : ℕ
     → ((o >>= f) >>= λ w. after i front w) ≡ (o >>= λ (x : ℤ × Text). (f x >>= λ w. after i front w))
 bind_bind o f i front = grind arith
 
--- a place that isn't zero
+-- a coefficient that isn't zero
 pub walk_value : (al r : ℕ) (cur : List ℤ) (i : ℕ) (t : Text) → i < length cur → (get_or cur i (pos 0) ≡ pos 0 → ⊥)
     → walk_left al r cur i t ≡ (corrected_from al (get_or cur i (pos 0)) t
     >>= λ (f : ℤ × Text). walk_left al r (set cur i f.0) (i + 1) f.1)
@@ -180,7 +180,7 @@ walk_value al r cur i t h e =
     1) cur) f.1)) i (take i cur)
     ∙ bind_same (corrected_from al z t) _ _ (grind (arith, more_left, take_more_set, drop-set-lt))
 
--- a step at a place that isn't zero, which is read as y
+-- a step at a coefficient that isn't zero, which is read as y
 pub value_step : (al r : ℕ) (cur : List ℤ) (i : ℕ) (x y z : ℤ) (t u : Text) → i < length cur
     → (get_or cur i (pos 0) ≡ pos 0 → ⊥) → x ≡ get_or cur i (pos 0) → y ≡ z
     → corrected_from al x t ≡ Ok (z, u) → walk_left al r cur i t ≡ walk_left al r (set cur i y) (i + 1) u
@@ -205,7 +205,7 @@ pub at-end : (al r from end k : ℕ) (block : List ℤ) (t : Text) → end ≤ 6
     → walk_at al r from end block k t ≡ Ok ((end - from, zigzag_part from end block), t)
 at-end al r from end k block t within e = grind (arith, part-length, walk_none)
 
--- at a place k of the piece, which stands at this place of the block
+-- at coefficient k of the piece, which stands at this index of the block
 module _ (al r from end k index : ℕ) (block : List ℤ) (within : end ≤ 64) (after : from ≤ k) (lt :
     k < end)
     (is : index ≡ get_or zigzag k 0) where
@@ -228,7 +228,7 @@ module _ (al r from end k index : ℕ) (block : List ℤ) (within : end ≤ 64) 
       → walk_at al r from end block k t ≡ walk_at al (r - 1) from end block (k + 1) t
   at-skip t is-zero some = grind (arith, walk_skip, inside, same, walk_left, next)
 
-  -- a place that isn't zero, which is read as x and written as y
+  -- a coefficient that isn't zero, which is read as x and written as y
   pub at-value : (x y z : ℤ) (t u : Text) → length block ≡ 64 → (get_or block index (pos 0) ≡ pos 0
       → ⊥)
       → x ≡ get_or block index (pos 0) → y ≡ z → corrected_from al x t ≡ Ok (z, u)
@@ -327,7 +327,7 @@ Takes-given {X} {Y} whole read a d old new x outcome None refusal step p g = (
   λ k known. absurd (false≢true (sym known ∙ (p.1 k).0)),
 )
 
--- a place whose correction bit is 0 stays
+-- a coefficient whose correction bit is 0 stays
 pub index-kept : (al : ℕ) (z : ℤ) (t : Text) → bits_from 1 t ≡ Ok (0, t) → corrected_from al z t ≡
     Ok (z, t)
 unfolding corrected_from
@@ -425,7 +425,7 @@ mask_bits values k n =
 zero-marked : (z : ℤ) → marked z ≡ 0 → z ≡ pos 0
 zero-marked z e = grind arith
 
--- with another place written
+-- with another coefficient written
 pub others-kept : (k n : ℕ) (block : List ℤ) (v : ℤ) → length block ≡ 64 → k < 64 → n < 64 → (n ≡ k → ⊥)
     → coefficient_at n (set block (get_or zigzag k 0) v) ≡ coefficient_at n block
 others-kept k n block v long within inside apart =
@@ -542,3 +542,5 @@ module _ (al from end : ℕ) (block : List ℤ) (within : end ≤ 64) where
   at-last-gap gap r k t after last some zeros =
       at-skips gap r k t after (omega (arith, last)) some zeros
       ∙ at-end al (r - gap) from end (k + gap) block t within last
+
+pub ruleset marks = (marked_lanes, block_fits)

@@ -1,4 +1,4 @@
--- Bands of a refinement: what is left after some places.
+-- Bands of a refinement: what is left after some coefficients.
 use Rattle.jpeg_bits.specs.Refinement as defined
 use Rattle.std.proofs.Common.{rules, is_ok, ◌≡◌, ℕ, zero, suc, ◌+◌, ◌-◌, ◌<◌, ◌≤◌, List, [], ◌∷◌}
 use Rattle.std.proofs.Common.{◌++◌, length, take, drop, set, ℤ, Result, Ok, Err, refl, sym, ap, ◌∙◌}
@@ -42,7 +42,7 @@ through_zero_le r [] = omega arith
 through_zero_le r (z ∷ numbers) =
     grind (arith, by_bool, through_zero_le r numbers, through_zero_le (r - 1) numbers)
 
--- where there are too few zeros the piece is all places
+-- where there are too few zeros the piece is all coefficients
 pub through_all : (r : ℕ) (numbers : List ℤ) → length numbers ≤ r → through_zero r numbers ≡ length
     numbers
 unfolding through_zero
@@ -75,11 +75,11 @@ band-step : (table : Table) (al : ℕ) (rest : List ℤ) (t : Text) → 0 < leng
 unfolding refined_band_from refined_ac_at
 band-step table al rest t h = grind (arith, bind_same, piece-same, length-drop, refined-fuel, le_refl)
 
--- what the places from i on give, after those before them
+-- what the coefficients from i on give, after those before them
 unfoldable pub refined_left : Table → ℕ → List ℤ → ℕ → Text → Result (Band × Text) Fault
 refined_left table al band i t = before (take i band) (refined_band_from table al (drop i band) t)
 
--- what a token at place i makes of the band
+-- what a token at coefficient i makes of the band
 unfoldable pub refined_step : Table → ℕ → List ℤ → ℕ → Refinement → Text → Result (Band × Text) Fault
 refined_step table al band i k t = before (take i band) (refined_piece_at al (refined_band_from
     table al) (drop i band) k t)
@@ -138,7 +138,7 @@ corrected_refused : (al r : ℕ) (rest : List ℤ) (t : Text) (f : Fault) → pi
 unfolding piece_from
 corrected_refused al r rest t f h = grind (arith, false≢true)
 
--- the zeros that a token asks for, in the rest of a band of this many places
+-- the zeros that a token asks for, in the rest of a band of this many coefficients
 abbrev pub zeros_of : ℕ → Refinement → ℕ
 zeros_of all Zeros = 15
 zeros_of all (New r v) = r

@@ -1,6 +1,7 @@
 -- Lemmas that the proofs of functions use, by what they are about.
 use Rattle.jpeg_bits.proofs.WrittenBits.{takes-number}
-use Rattle.jpeg_bits.proofs.Fast.{tokens-same}
+use Rattle.jpeg_bits.proofs.BandSteps.{no_bits_taken}
+use Rattle.jpeg_bits.proofs.Fast.{no_difference, tokens-same}
 use Rattle.jpeg_bits.proofs.ShortLemmas.{Code-buffered, Code-none, run-most, run-same, fast-not}
 use Rattle.jpeg_bits.proofs.ShortLemmas.{fast-refused, fast-taken, value_below, value_number}
 use Rattle.std.proofs.Common.{div-le_self, pow_mono}
@@ -15,7 +16,7 @@ use Rattle.jpeg_bits.proofs.Filled.{skip-refused as bytes-refused, skip-goes, sk
 use Rattle.jpeg_bits.proofs.Filled.{filled-room, filled-all, rests_trans, rests_keeps, reads_some}
 use Rattle.jpeg_bits.proofs.Filled.{reads_after}
 use Rattle.jpeg_bits.proofs.Reservoirs.{front_number, front_below}
-use Rattle.jpeg_bits.proofs.WideTokens.{skip-refused, skip-overlong, skip-all}
+use Rattle.jpeg_bits.proofs.WideTokens.{none_left, skip-refused, skip-overlong, skip-all}
 use Rattle.jpeg_bits.proofs.ZigzagIndices.{kept-same}
 use Rattle.jpeg_bits.proofs.BufferedBits.{filled-less, filled-long}
 use Rattle.std.proofs.lemmas.Int.{wraps}
@@ -26,7 +27,7 @@ use Rattle.jpeg_bits.proofs.DefaultTables.{luminance-ac-codes, chrominance-ac-co
 use Rattle.jpeg_bits.proofs.DefaultTables.{done}
 use Rattle.jpeg_bits.proofs.TakenBytes.{takes-first}
 
--- when enough bits are held
+-- when enough bits are buffered
 pub ruleset filled = (filled-less, filled-long)
 
 -- `read_exact`
@@ -68,6 +69,9 @@ pub ruleset luminance = (luminance-dc-codes, luminance-ac-codes)
 pub ruleset chrominance = (chrominance-dc-codes, chrominance-ac-codes)
 
 pub ruleset defaults = (luminance, chrominance, untouched, done, err_from_is_err_and)
+
+-- no bits after a code
+pub ruleset no_bits = (no_difference, none_left, no_bits_taken)
 
 -- a short value
 pub ruleset fast = (wraps, fast-not, fast-refused, fast-taken)

@@ -103,7 +103,7 @@ value_seen n table x y bits counted same =
 
 -- ---- tables
 
--- a list whose first places hold the values of f, with one more
+-- a list whose first elements are the values of f, with one more
 pub set_next : {A : Type 0} (xs : List A) (i : ℕ) (v d : A) (f : ℕ → A) → i < length xs
     → ((k : ℕ) → k < i → get_or xs k d ≡ f k) → v ≡ f i → (k : ℕ) → k < i + 1 → get_or (set xs i v) k d ≡ f k
 set_next xs i v d f lt below here = grind (arith, below_more, get_or-set_other, get_or-set_same)
@@ -141,7 +141,7 @@ pub short-of-named : (symbols : List ℕ) (o : Option (ℕ × ℕ))
     → short_only (named symbols o) ≡ named symbols (short_only o)
 short-of-named symbols o = grind arith
 
--- a short code that stands at the place of the first 8 bits is that of the bits
+-- a short code that stands at the index that the first 8 bits are is that of the bits
 pub symbol_found : (table : Table) (bits : ℕ) (p : ℕ × ℕ) → length table.counts ≡ 16
     → short_code table.counts table.symbols (low_bits 8 (bits / 256)) ≡ Some p
     → symbol_in table (low_bits 16 bits) ≡ Some p
@@ -155,7 +155,7 @@ none_short counts symbols bits h none c le found = grind (arith, short_of_16, fa
 
 -- ---- values by their first n bits
 
--- the next n bits of a text of which n are held
+-- the next n bits of a text of which n are buffered
 pub next-buffered : (n : ℕ) (bits : List Bool) (met : Option DataEnd) (bytes : List ℕ) → n ≤ 16 →
     IsFilled n bits met
     → take n (next_16 (upcoming_by bits met bytes).bits) ≡ next_bits n bits
@@ -238,7 +238,7 @@ filled-rest m l n bits met h f = grind (arith, length-drop)
 
 module _ (most : ℕ) (table : Table) (bits : List Bool) (met : Option DataEnd) (bytes : List ℕ) (few : most ≤ 16)
     (filled : IsFilled most bits met) where
-  -- what the bits held begin with is seen from the text
+  -- what the buffered bits begin with is seen from the text
   pub value-text : length table.counts ≡ 16 → short_value_of most table (next_bits most bits)
       ≡ short_value_by most table.class (next_bits most bits)
       (symbol_in table (next_16 (upcoming_by bits met bytes).bits))

@@ -429,7 +429,7 @@ twelve_front number bits e =
     sym (low_bits-take 12 4 number) ∙ ap (take 12) e ∙ take-take 12 16 (bits ++ replicate 16 false) (omega arith)
     ∙ same_zeros bits 12 16 12 (omega arith) (omega arith)
 
--- what holds of the first places of a list, with one more
+-- what holds of the first elements of a list, with one more
 pub set-holds : {A : Type 0} (P : ℕ → A → Type 0) (xs : List A) (i : ℕ) (v d : A) → i < length xs
     → ((k : ℕ) → k < i → P k (get_or xs k d)) → P i v → (k : ℕ) → k < i + 1 → P k (get_or (set xs i v) k d)
 set-holds P xs i v d lt below here k h = grind (arith, cases_lt, get_or-set_other, get_or-set_same)
@@ -487,31 +487,36 @@ module _ (table : Table) (room left : ℕ) (a b d e : Ahead) (old cur mid new : 
         ∙ sym (ap (λ (l : List Bool). upcoming_by l e.met bytes) bits
         ∙ ap (λ (m : Option DataEnd). upcoming_by (drop count d.bits) m bytes) met)
 
-    pub skip-over : last ≡ false → Leaves (run_of table room) a old (run_of table (left - over)) e mid
-    skip-over on =
+    skipped : (l : Bool) → last ≡ l → Leaves (run_of table room) a old (after_skip table left (n, passed, l)) d mid
+    skipped l is-last =
         let buffered = text-buffered in (
           buffered.0,
           λ known.
               let at = buffered.1 known in (
                 at.0,
                 at.1 ∙ after-text mid.bytes
-                    ∙ ap (λ (l : Bool). after_skip table left (n, passed, l) (upcoming d mid.bytes)) on
-                    ∙ ap (run_of table (left - passed)) (next-text mid.bytes)
+                    ∙ ap (λ (l : Bool). after_skip table left (n, passed, l) (upcoming d mid.bytes)) is-last,
+              ),
+        )
+
+    pub skip-over : last ≡ false → Leaves (run_of table room) a old (run_of table (left - over)) e mid
+    skip-over on =
+        let s = skipped false on in (
+          s.0,
+          λ known.
+              let at = s.1 known in (
+                at.0,
+                at.1 ∙ ap (run_of table (left - passed)) (next-text mid.bytes)
                     ∙ ap (λ (k : ℕ). run_of table (left - k) (upcoming e mid.bytes)) (sym is),
               ),
         )
 
     pub skip-to-end : last ≡ true → Takes (λ (run : ℕ). run) (run_of table room) a old (Ok 0) e mid
     skip-to-end end =
-        let buffered = text-buffered in (
-          buffered.0,
+        let s = skipped true end in (
+          s.0,
           λ known.
-              let at = buffered.1 known in (
-                at.0,
-                at.1 ∙ after-text mid.bytes
-                    ∙ ap (λ (l : Bool). after_skip table left (n, passed, l) (upcoming d mid.bytes)) end
-                    ∙ ap (λ (t : Text). Ok (0, t)) (next-text mid.bytes),
-              ),
+              let at = s.1 known in (at.0, at.1 ∙ ap (λ (t : Text). Ok (0, t)) (next-text mid.bytes)),
         )
 
 pub skip-all : (table : Table) (room left : ℕ) (a b : Ahead) (old new : Stream) → left ≡ 0

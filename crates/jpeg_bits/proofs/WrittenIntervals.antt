@@ -191,7 +191,7 @@ pub others-all : {A : Type 0} (Q : A → Type 0) (n : ℕ) (xs : List A) → All
 others-all Q zero xs h = tt
 others-all Q (suc n) xs h = groups-all Q (length xs) (suc n) (drop (suc n) xs) (all-drop Q (suc n) xs h)
 
--- What is held of an interval's things, f of each is read, g of each is written, and h gives what is read of them.
+-- Of an interval's things f of each is read, g of each is written, and h gives what is read of them.
 module _ {X A B C : Type 0} (read : List A → Reads (List C)) (writes : List B → List Bool → Type 0) (f : X → A)
     (g : X → B) (h : List X → List C) (P : X → Type 0)
     (takes : (xs : List X) (bits : List Bool) → AllByRecursion P xs → writes (map g xs) bits

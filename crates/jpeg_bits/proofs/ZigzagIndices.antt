@@ -1,4 +1,4 @@
--- The places of the zigzag order.
+-- The indices of the zigzag order.
 use Rattle.std.proofs.Common.{◌≡◌, ℕ, ◌<◌, List, ◌∷◌, length, get_or, map, set, drop, ℤ, pos, refl}
 use Rattle.std.proofs.Common.{sym, ap, ◌∙◌, arith, true, length-set, ◌+◌, ◌-◌, ◌≤◌, ◌++◌, take}
 use Rattle.std.proofs.Common.{length-drop}
@@ -30,11 +30,11 @@ length_indices = refl
 each_below : (xs : List ℕ) (n : ℕ) → list_all (λ x. ltb x n) xs ≡ true → (i : ℕ) → i < length xs → get_or xs i 0 < n
 each_below xs n all i h = grind (arith, false≢true, list_all_at, false_from_ne_true, ltb-true, cases_lt)
 
--- each place in zigzag order is a place of the block
+-- each index in zigzag order is an index of the block
 pub zigzag_lt : (k : ℕ) → k < 64 → get_or zigzag k 0 < 64
 zigzag_lt k h = each_below zigzag 64 refl k h
 
--- and each place of the block one in zigzag order
+-- and each index of the block one in zigzag order
 pub indices_lt : (k : ℕ) → k < 64 → get_or zigzag_indices k 0 < 64
 unfolding zigzag_indices
 indices_lt k h = each_below zigzag_indices 64 refl k h
@@ -66,7 +66,7 @@ pub length-in_block_order : (l : List ℤ) → length (coefficients_in_block_ord
 unfolding coefficients_in_block_order
 length-in_block_order l = length-map zigzag_indices (λ index. get_or l index (pos 0)) ∙ length_indices
 
--- a coefficient is read at its place in the block
+-- a coefficient is read at its index in the block
 pub get_or-in_zigzag : (l : List ℤ) (k : ℕ) (d : ℤ) → k < 64
     → get_or (coefficients_in_zigzag l) k d ≡ get_or l (get_or zigzag k 0) (pos 0)
 unfolding coefficients_in_zigzag
@@ -120,13 +120,13 @@ pub ordered-block : (l : List ℤ) → length l ≡ 64
     → coefficients_in_block_order (get_or l 0 (pos 0) ∷ drop 1 (coefficients_in_zigzag l)) ≡ l
 ordered-block l n = ap coefficients_in_block_order (with_dc-in_zigzag l) ∙ block_order-of-zigzag l n
 
--- ---- parts of a block in block order, by their places in zigzag order
+-- ---- parts of a block in block order, by their indices in zigzag order
 
 pub part-length : (start end : ℕ) (block : List ℤ) → end ≤ 64 → length (zigzag_part start end block) ≡ end - start
 unfolding zigzag_part
 part-length start end block within = grind (arith, length-drop, length-take-le, length-in_zigzag)
 
--- a place of a part, as it is read
+-- an index of a part, as it is read
 pub part-get : (start end k : ℕ) (block : List ℤ) (d : ℤ) → start ≤ k → k < end → end ≤ 64
     → get_or (zigzag_part start end block) (k - start) d ≡ get_or block (get_or zigzag k 0) (pos 0)
 unfolding zigzag_part
@@ -158,7 +158,7 @@ part-rest start from end block after within =
 pub kept-same : (start end : ℕ) (block : List ℤ) → IsKeptAround start end block block
 kept-same start end block = record { front = refl; back = refl }
 
--- a place of a part is written
+-- an index of a part is written
 pub kept-set : (start end k : ℕ) (old block : List ℤ) (v : ℤ) → length block ≡ 64 → start ≤ k → k < end → end ≤ 64
     → IsKeptAround start end old block → IsKeptAround start end old (set block (get_or zigzag k 0) v)
 kept-set start end k old block v n from before within h =

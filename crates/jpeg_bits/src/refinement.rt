@@ -61,7 +61,7 @@ pub(crate) fn lacks_bit(value: i16, al: u8) -> bool
 
 /// Reads how many blocks after this one have no tokens.
 #[inline(always)]
-#[tactic(auto, unfolding(crate::specs::Pieces::run_from), using(crate::proofs::BandSteps::no_bits_taken))]
+#[tactic(auto, unfolding(crate::specs::Pieces::run_from), using(crate::proofs::Rules::no_bits))]
 fn read_run<R: Read + Drop>(
     buffered: &mut BufferedBits,
     source: &mut Source<R>,
@@ -145,7 +145,7 @@ fn correct<R: Read + Drop>(
 
 /// Marks the coefficients of a block that aren't 0 by 1, and the others by 0.
 #[inline(always)]
-#[tactic(auto, using(crate::proofs::PieceWalks::marked_lanes, crate::proofs::PieceWalks::block_fits))]
+#[tactic(auto, using(crate::proofs::PieceWalks::marks))]
 fn marked(block: [i16; 64]) -> u16x64
     ensures { result ≡ map marked block }
 {

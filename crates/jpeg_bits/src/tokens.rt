@@ -33,7 +33,7 @@ pub enum Token {
 
 /// Reads a DC difference. A refusal is stored in `refusal`, and none is returned.
 #[inline(always)]
-#[tactic(auto, using(crate::proofs::Fast::no_difference), unfolding(crate::specs::Bands::difference))]
+#[tactic(auto, using(crate::proofs::Rules::no_bits), unfolding(crate::specs::Bands::difference))]
 pub(crate) fn read_difference<R: Read + Drop>(
     buffered: &mut BufferedBits,
     source: &mut Source<R>,
@@ -81,7 +81,7 @@ pub(crate) fn power_of_two(exponent: u8) -> u16
 /// Returns the token of a code, by its length and its symbol. A refusal is stored in `refusal`, and
 /// none is returned.
 #[inline(always)]
-#[tactic(auto, using(crate::proofs::WideTokens::none_left), unfolding(crate::specs::Bands::token_at))]
+#[tactic(auto, using(crate::proofs::Rules::no_bits), unfolding(crate::specs::Bands::token_at))]
 fn read_token_of<R: Read + Drop>(
     buffered: &mut BufferedBits,
     source: &mut Source<R>,

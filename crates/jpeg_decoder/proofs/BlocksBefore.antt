@@ -52,7 +52,7 @@ unmarked-by p marks level = rw (ne_eqb p.al 0 level) refl
 
 -- ---- the length of a plane
 
--- A plane has a sample for each place of the lines and columns of its blocks.
+-- A plane has a sample for each line and column of its blocks.
 pub plane_by-length : (c : Component) (quantization : List ℕ) (blocks : List Block)
     → length (plane_by c quantization blocks) ≡ (c.blocks_high * c.scale) * (c.blocks_wide * c.scale)
 unfolding plane_by plane_of_blocks plane_of

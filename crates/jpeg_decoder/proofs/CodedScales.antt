@@ -7,7 +7,7 @@ use Rattle.jpeg_segments.specs.declared.parser.Component as declared
 use Rattle.jpeg_segments.specs.FrameView.{component_in}
 use Rattle.jpeg_decoder.specs.Steps.{HasScale}
 
--- what each component of a frame has, the one at a place has
+-- what each component of a frame has, the one at an index has
 pub scale-at : (cs : List declared.Component) (index : ℕ) (c : declared.Component) → index < length
     cs
     → c ≡ get_or cs index c → AllByRecursion HasScale (map component_in cs) → is_scale c.dct_scale

@@ -1,4 +1,4 @@
--- Blocks that are held, as they are read and put back.
+-- Blocks that are kept, as they are read and put back.
 use Rattle.std.proofs.Common.{rules, ◌≡◌, ℕ, zero, suc, ◌+◌, ◌<◌, List, ◌∷◌, length, get_or, set, ℤ}
 use Rattle.std.proofs.Common.{pos, Ok, Err, refl, ap, ◌∙◌, arith, length-set, Bool, Result, []}
 use Rattle.std.specs.declared.alloc.Global.{Global}

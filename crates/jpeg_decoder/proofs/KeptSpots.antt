@@ -1,4 +1,4 @@
--- The blocks of a scan are held: of all components of a scan, or of a row of MCUs.
+-- The blocks of a scan are kept: of all components of a scan, or of a row of MCUs.
 use Rattle.std.proofs.Common.{rules, ◌≡◌, inl, inr, ℕ, zero, suc, ◌+◌, ◌<◌, List, [], ◌∷◌, map}
 use Rattle.std.proofs.Common.{drop, length, get_or, refl, sym, ap, arith}
 use Rattle.std.proofs.lemmas.List.{length-map}

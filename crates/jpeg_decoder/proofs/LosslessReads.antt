@@ -51,7 +51,7 @@ use Rattle.std.proofs.lemmas.Grind.{common_steps}
 
 -- ---- the components of a scan, by its tables
 
--- Components by their places and their tables.
+-- Components by their indices and their tables.
 unfoldable pub AreOf : List Component → List LosslessCoding → List ℕ → List Table → Type 0
 AreOf cs [] [] [] = Unit {0}
 AreOf cs (k ∷ codings) (p ∷ indices) (t ∷ ts) =
@@ -154,7 +154,7 @@ codings-made frame cs (k ∷ codings) (p ∷ indices) (t ∷ ts) made h =
     grind (arith, common_steps, all-at, codings-made frame cs codings indices ts made h.1)
 codings-made frame cs _ _ _ made h = absurd h
 
--- ---- MCUs by places
+-- ---- MCUs by indices
 
 pub component-at : (cs : List declared.Component) (index : ℕ) (r : declared.Component) → index <
     length cs
@@ -354,18 +354,21 @@ samples-whole samples cs planes h e = samples-from samples 0 cs planes h e
 pub on-ok : {X P : Type 0} (r : Result X Error) → P → OnOk r P
 on-ok r p = grind (arith, common_steps)
 
+coding_found : Found → Frame → Scan → Coding
+coding_found found frame scan = record {
+  wide = mcus_wide frame scan.components;
+  high = mcus_high frame scan.components;
+  precision = frame.precision;
+  predictor = scan.predictor;
+  point_transform = scan.point_transform;
+  restart_interval = found.said.restart;
+}
+
 -- The samples of a scan by how it is coded.
 pub coded-by : (found : Found) (frame : Frame) (scan : Scan) (ts : List Table)
     (a : AreCodings found.said.huffman.dc frame scan.components scan.dc_destinations ts) (k : Coding)
     (parts : List Part)
-    → k ≡ record {
-      wide = mcus_wide frame scan.components;
-      high = mcus_high frame scan.components;
-      precision = frame.precision;
-      predictor = scan.predictor;
-      point_transform = scan.point_transform;
-      restart_interval = found.said.restart;
-    }
+    → k ≡ coding_found found frame scan
     → parts ≡ parts_at (length scan.components == 1) frame.components scan.components ts
     → scan_samples found frame scan a.codings
     ≡ scan_at (way_by k parts) k.high k.restart_interval k.point_transform
@@ -375,14 +378,7 @@ coded-by found frame scan ts a k parts e is = grind (arith, common_steps, mcus-a
 pub samples-read : (found : Found) (frame : Frame) (scan : Scan) (ts : List Table)
     (a : AreCodings found.said.huffman.dc frame scan.components scan.dc_destinations ts) (k : Coding) (parts : List Part)
     (bytes : List ℕ)
-    → k ≡ record {
-      wide = mcus_wide frame scan.components;
-      high = mcus_high frame scan.components;
-      precision = frame.precision;
-      predictor = scan.predictor;
-      point_transform = scan.point_transform;
-      restart_interval = found.said.restart;
-    }
+    → k ≡ coding_found found frame scan
     → parts ≡ parts_at (length scan.components == 1) frame.components scan.components ts
     → samples_read found frame scan bytes
     ≡ (scan_at (way_by k parts) k.high k.restart_interval k.point_transform bytes >>= after_planes found a.codings)
@@ -399,7 +395,7 @@ pub put-made : (base : Found) (old new : Decoded) (samples : List (Option (List 
     (record (once_scanned (with_decoded base old)) { samples = samples })
 put-made base old new samples h f p s = grind (arith, common_steps)
 
--- as many tables as places
+-- as many tables as indices
 pub codings-count : (tables : List (Option Table)) (frame : Frame) (indices ds : List ℕ)
     (ts : List Table) → AreCodings tables frame indices ds ts → length ts ≡ length indices
 codings-count tables frame indices ds ts a = grind (arith, common_steps, length-map)

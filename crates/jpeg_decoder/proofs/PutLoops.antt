@@ -39,7 +39,7 @@ pub blocks-are : (p : Pass) (c : Coding) (blocks : List Block) (found : Found)
 unfolding with_blocks with_plane with_its_plane decided_planes
 blocks-are p c blocks found = refl
 
--- ---- held blocks
+-- ---- kept blocks
 
 abbrev pub Held : Type 0
 Held = Vec (List ℤ) Global

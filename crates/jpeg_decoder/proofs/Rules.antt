@@ -1,4 +1,12 @@
--- Lemmas that the proofs of functions use, by what they are about.
+-- Lemmas that the proofs of functions use, and definitions that they unfold, by what they are about.
+use Rattle.std.specs.Prelude.{⊤}
+use Rattle.jpeg_streams.specs.Found.{nothing_found, nothing_said}
+use Rattle.jpeg_streams.specs.FoundPictures.{limited, picture_of, samples_picture}
+use Rattle.jpeg_streams.specs.Rasters.{plane_by, plane_of_blocks}
+use Rattle.jpeg_streams.specs.Reported.{told_by_turns}
+use Rattle.jpeg_streams.specs.ScanSegments.{put_arrays}
+use Rattle.jpeg_streams.specs.Stream.{header_at, segment_at, turn_at}
+use Rattle.jpeg_decoder.specs.Orientation.{entries_in}
 use Rattle.std.proofs.lemmas.Grind.{common_steps}
 use Rattle.std.proofs.lemmas.List.{drop-set-lt, get_or-map, length-map, map-set}
 use Rattle.std.proofs.lemmas.List.Folds.{list_all-map}
@@ -28,24 +36,48 @@ use Rattle.std.proofs.lemmas.Result.{err_from_is_err_and}
 use Rattle.jpeg_segments.proofs.Gathered.{gathers-all, gathers-none}
 use Rattle.jpeg_streams.proofs.Refusals.{told-err, turns-no_start}
 use Rattle.jpeg_decoder.proofs.LosslessReads.{picture-given, picture-lacks, picture-made}
+use Rattle.jpeg_decoder.proofs.Orientations.{cut_directory, cut_exif, few_after, found_directory, four_higher}
+use Rattle.jpeg_decoder.proofs.Orientations.{four_lower, higher_exif, lower_exif, met, none_among, other_directory}
+use Rattle.jpeg_decoder.proofs.Orientations.{other_exif, passed, two_higher, two_lower}
 use Rattle.jpeg_decoder.proofs.PictureSizes.{block-bytes}
+use Rattle.jpeg_decoder.proofs.Ratios.{ratios_refused}
 use Rattle.jpeg_decoder.proofs.PicturesOfPlanes.{several-ready}
 
 -- the laws of images
-pub ruleset images = (stream-means, stream-means_sized, taken-means, sized-taken, cut-whole)
-
-pub ruleset written_images = (front-append, front-closed, grey-written, colour-written)
-
-pub ruleset accepted_images = (header-accepted, accepted-picture)
+pub ruleset images = (
+  stream-means,
+  stream-means_sized,
+  taken-means,
+  sized-taken,
+  cut-whole,
+  front-append,
+  front-closed,
+  grey-written,
+  colour-written,
+  header-accepted,
+  accepted-picture,
+)
 
 -- the laws of streams and scans
-pub ruleset streams = (header-means, header-lacks, found-again, spots-apart, spots-inside)
-
-pub ruleset scans = (scans-in-turn, frame-scans, zeros-sized, scans-by-rows, sequential-scan)
-
-pub ruleset arrays = (codings-are-of, progressive-scan, plane-strips)
-
-pub ruleset frames = (frames-fit, scaled-frames-fit, full_size, frames-have-sources)
+pub ruleset streams = (
+  header-means,
+  header-lacks,
+  found-again,
+  spots-apart,
+  spots-inside,
+  scans-in-turn,
+  frame-scans,
+  zeros-sized,
+  scans-by-rows,
+  sequential-scan,
+  codings-are-of,
+  progressive-scan,
+  plane-strips,
+  frames-fit,
+  scaled-frames-fit,
+  full_size,
+  frames-have-sources,
+)
 
 -- the laws of lossless streams
 pub ruleset samples = (own-predicted, planes-same, pictures-agree, lossless-accepted)
@@ -70,9 +102,62 @@ pub ruleset given = (common_steps, err_from_is_err_and, picture-lacks, picture-m
 pub ruleset rooms = (common_steps, several-ready, block-bytes, length-map)
 
 -- the start of a stream
-pub ruleset starts = (common_steps, sound-nothing, nothing-framed)
+pub ruleset starts = (
+  common_steps,
+  sound-nothing,
+  nothing-framed,
+  err_from_is_err_and,
+  told-err,
+  turns-no_start,
+)
 
-pub ruleset no_start = (err_from_is_err_and, told-err, turns-no_start)
+unfoldable pub headers : ⊤
+unfolding header_at told_by_turns nothing_found
+headers = tt
+
+unfoldable pub nothing : ⊤
+unfolding nothing_found nothing_said
+nothing = tt
+
+unfoldable pub turns : ⊤
+unfolding turn_at segment_at
+turns = tt
+
+-- pictures of what is found
+unfoldable pub sampled : ⊤
+unfolding samples_picture
+sampled = tt
+
+unfoldable pub block_pictures : ⊤
+unfolding picture_of limited
+block_pictures = tt
+
+unfoldable pub block_planes : ⊤
+unfolding plane_by plane_of_blocks
+block_planes = tt
+
+-- blocks of a scan that are put
+unfoldable pub puts : ⊤
+unfolding put_arrays
+puts = tt
+
+-- sampling factors that are refused
+pub ruleset ratios = (err_from_is_err_and, ratios_refused)
+
+-- orientations
+pub ruleset shorts = (two_lower, two_higher)
+
+pub ruleset longs = (four_lower, four_higher)
+
+pub ruleset entries = (none_among, passed, met)
+
+unfoldable pub listed : ⊤
+unfolding entries_in
+listed = tt
+
+pub ruleset directories = (cut_directory, few_after, other_directory, found_directory)
+
+pub ruleset exif = (cut_exif, lower_exif, higher_exif, other_exif)
 
 -- parts of a profile
 pub ruleset parts = (list_all-map)

@@ -79,7 +79,7 @@ arrays-by-planes p (c ∷ codings) (blocks ∷ arrays) found =
     )
 arrays-by-planes p _ _ found = refl
 
--- the blocks at their places, of those of the frame
+-- the blocks at their indices, of those of the frame
 abbrev pub read_at : Found → Frame → Pass → List Coding → Arrays → List ℕ → Outcome (Arrays × Option Marker)
 read_at f frame p codings arrays bytes =
     arrays_at p (f.said.restart * mcu_size (components_of codings)) (vias_from 0 codings)
@@ -249,7 +249,7 @@ pub answers-err : {X Y Z W : Type 0} (v : X → Y) (view : Z → W) (read : List
     → Answers view whole old (Err e) new
 answers-err v view read whole old new e h p = (p.0, (λ k l. Names-through e _ _ h (p.1 k l)), p.2)
 
--- ---- scans on held blocks
+-- ---- scans on kept blocks
 
 held-long : (components : List Component) (vs : List Held) → AreArrays components (arrays_in vs)
     → (index : ℕ) (c : Component) → At index components c → index < length vs
@@ -266,7 +266,7 @@ pub read-as : (f : Found) (frame : Frame) (p : Pass) (cs : List Coded) (n : ℕ)
     (spots_of frame (components_in cs)) arrays bytes
 read-as f frame p cs n arrays bytes e = grind (arith, common_steps, vias-same, coded-components)
 
--- the places of a scan's components are places of the arrays
+-- the indices of a scan's components are indices of the arrays
 pub coded-within-kept : (frame : Frame) (cs : List Coded) (kept : List Held) (n : ℕ) → n ≡ length kept
     → AllByRecursion (IsCodingOf frame) (map coding_in cs) → AreArrays frame.components (arrays_in kept)
     → All (λ (x : Coded). x.index < n) cs
@@ -276,7 +276,7 @@ coded-within-kept frame (c ∷ cs) kept n e of a zero d h =
 coded-within-kept frame (c ∷ cs) kept n e of a (suc k) d h = coded-within-kept frame cs kept n e of.1 a k d (omega arith)
 coded-within-kept frame [] kept n e of a k d h = absurd (omega arith)
 
--- places that rise are apart
+-- indices that rise are apart
 pub rising-codings : (cs : List Coded) → AreRising (map coding_in cs) → AreApart (map (λ (x :
     Coded). x.index) cs)
 rising-codings [] h = tt
@@ -289,7 +289,7 @@ rising-codings (c ∷ d ∷ cs) h = (λ n. below c.index d cs h.0 h.1 n, rising-
     below p d [] lt r (inr n) = n
     below p d (x ∷ cs) lt r (inr n) = below p x cs (let q = r.0 in omega (arith, q)) r.1 n
 
--- ---- what is held after a scan
+-- ---- what is kept after a scan
 
 pub kept-afterwards : {X E : Type 0} (r : Result X E) (f : Found) (frame : Frame)
     → is_progressive frame.process ≡ true → f.said.scanned ≡ true

@@ -99,7 +99,7 @@ abbrev pub ac_of : Said → Scan → ℕ → Result Table Fault
 ac_of said scan slot = needed_if (nat_lt 0 (pass_of scan).se) classes.AC
     (get_or (tables_of said scan).ac (get_or scan.ac_destinations slot 0) None)
 
--- the component at a place
+-- the component at an index
 component-at : {A : Type 0} (f : A → Component) (xs : List A) (i : ℕ) (d : A) → i < length xs
     → slice_get (map f xs) i ≡ Some (f (get_or xs i d))
 component-at f xs i d h = slice_get-map f xs i ∙ ap (option_map f) (slice_get-get_or xs i d h)

@@ -1,4 +1,4 @@
--- Blocks that are taken out of those that are held, and put back.
+-- Blocks that are taken out of those that are kept, and put back.
 use Rattle.std.proofs.Common.{rules, ◌≡◌, ◌<◌, ℕ, zero, suc, ◌+◌, ℤ, List, [], ◌∷◌, ◌++◌, refl, sym, ap}
 use Rattle.std.proofs.Common.{◌∙◌, length, get_or, set, map, take, arith}
 use Rattle.std.specs.declared.alloc.Global.{Global}
@@ -28,7 +28,7 @@ left-elsewhere (c ∷ more) kept index n =
     let more = left-elsewhere more (set kept c.index []) index (λ i. n (inr i)) in
     grind (arith, common_steps, get_or-set_other, more)
 
--- A place elsewhere may be set before or after.
+-- An index elsewhere may be set before or after.
 set-after : (codings : List Coding) (kept : Arrays) (index : ℕ) (blocks : List Block)
     → (IsIn index (indices_of codings) → ⊥) → set (without_blocks codings kept) index blocks
     ≡ without_blocks codings (set kept index blocks)
@@ -37,7 +37,7 @@ set-after [] kept index blocks n = refl
 set-after (c ∷ more) kept index blocks n =
     search (rules, set_comm, set-after more (set kept c.index []) index blocks (λ i. n (inr i)))
 
--- The blocks of a scan's components are put in the same places, whether those were emptied before or not.
+-- The blocks of a scan's components are put at the same indices, whether those were emptied before or not.
 pub put-back : (codings : List Coding) (arrays kept : Arrays) → AreApart (indices_of codings)
     → length arrays ≡ length codings
     → put_arrays codings arrays (without_blocks codings kept) ≡ put_arrays codings arrays kept

@@ -30,7 +30,7 @@ use Rattle.jpeg_decoder.proofs.LosslessReads.{all-below}
 
 -- ---- samples that are decided
 
--- the samples at these places are those that were written
+-- the samples at these indices are those that were written
 abbrev pub AreKept : Samples → List (Option (List ℕ)) → List ℕ → Type 0
 AreKept samples decided sent =
     AllByRecursion (λ k. slice_index_or decided k None ≡ Some (concat (samples k))) sent

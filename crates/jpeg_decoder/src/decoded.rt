@@ -114,7 +114,7 @@ fn zero_frame(
 
 /// Returns the plane of a component's blocks, which stand in raster order, at the component's
 /// scale, by its quantization table in zigzag order.
-#[tactic(auto, unfolding(jpeg_streams::specs::Rasters::plane_by, jpeg_streams::specs::Rasters::plane_of_blocks))]
+#[tactic(auto, unfolding(crate::proofs::Rules::block_planes))]
 pub fn render(
     alloc: Global,
     component: &Component,
@@ -158,7 +158,7 @@ fn take_blocks(
 }
 
 /// Puts blocks at the indices of a scan's components in the frame.
-#[tactic(auto, using(crate::proofs::PutLoops::put_rules), unfolding(jpeg_streams::specs::ScanSegments::put_arrays))]
+#[tactic(auto, using(crate::proofs::PutLoops::put_rules), unfolding(crate::proofs::Rules::puts))]
 fn put_blocks(
     alloc: Global,
     codings: &[Coded<'_>],

@@ -34,7 +34,7 @@ fn is_precision(process: CodingProcess, precision: u8) -> bool
 }
 
 /// Checks that each component has a way to upsample it.
-#[tactic(auto, using(std::proofs::lemmas::Result::err_from_is_err_and, crate::proofs::Ratios::ratios_refused))]
+#[tactic(auto, using(crate::proofs::Rules::ratios))]
 fn check_ratios(alloc: Global, frame: &FrameInfo) -> Result<()>
     requires some { 1 ≤ length frame.now.components.items }
     requires most { length frame.now.components.items ≤ 4 }

@@ -1,6 +1,6 @@
 //! The headline: a stream that is written for coefficients means the picture of those coefficients.
 //! Theorems, each on a function without a body.
-#![tactic(auto, using(crate::proofs::Rules::images, crate::proofs::Rules::written_images, crate::proofs::Rules::accepted_images))]
+#![tactic(auto, using(crate::proofs::Rules::images))]
 
 ghost use Rattle.std.specs.Prelude.{◌≡◌, ℕ, ◌≤◌, [], ◌∷◌, ◌++◌, length, List, Some, Ok, false};
 ghost use Rattle.std.specs.Prelude.{true, option_map};

@@ -1,6 +1,6 @@
 //! Theorems about streams, and about the order and the storage of the blocks of a scan (T.81, A.2).
 //! Each stands on a function without a body.
-#![tactic(auto, using(crate::proofs::Rules::streams, crate::proofs::Rules::scans, crate::proofs::Rules::arrays, crate::proofs::Rules::frames))]
+#![tactic(auto, using(crate::proofs::Rules::streams))]
 
 ghost use Rattle.std.specs.Prelude.{◌≡◌, ◌+◌, ◌*◌, ◌<◌, ◌≤◌, ℕ, List, ◌∷◌, ◌++◌, [], length, map};
 ghost use Rattle.std.specs.Prelude.{get_or, Ok, Err, false};

@@ -12,7 +12,7 @@ const ORIENTATION: u16 = 0x0112;
 const SHORT: u16 = 3;
 
 /// Returns the number of two bytes at an offset, if they are there.
-#[tactic(auto, using(crate::proofs::Orientations::two_lower, crate::proofs::Orientations::two_higher))]
+#[tactic(auto, using(crate::proofs::Rules::shorts))]
 fn short_at(bytes: &[u8], offset: usize, is_little: bool) -> Option<u16>
     ensures { MatchOption result (length bytes.now < offset + 2)
         (λ n. n ≡ number_at is_little offset 2 bytes.now) }
@@ -30,7 +30,7 @@ fn short_at(bytes: &[u8], offset: usize, is_little: bool) -> Option<u16>
 }
 
 /// Returns the number of four bytes at an offset, if they are there.
-#[tactic(auto, using(crate::proofs::Orientations::four_lower, crate::proofs::Orientations::four_higher))]
+#[tactic(auto, using(crate::proofs::Rules::longs))]
 fn long_at(bytes: &[u8], offset: usize, is_little: bool) -> Option<u32>
     ensures { MatchOption result (length bytes.now < offset + 4)
         (λ n. n ≡ number_at is_little offset 4 bytes.now) }
@@ -76,7 +76,7 @@ fn orientation_of_entry(entry: &[u8], is_little: bool) -> Option<u8>
 }
 
 /// Returns the first orientation among this many entries, or those that are there.
-#[tactic(auto, using(crate::proofs::Orientations::none_among, crate::proofs::Orientations::passed, crate::proofs::Orientations::met), unfolding(crate::specs::Orientation::entries_in))]
+#[tactic(auto, using(crate::proofs::Rules::entries), unfolding(crate::proofs::Rules::listed))]
 fn orientation_among(entries: &[u8], count: u16, is_little: bool) -> Option<u8>
     ensures value { result ≡ orientation_among is_little (entries_in count entries.now) }
     ensures range { IfSome result (λ n. (1 ≤ n) × (n ≤ 8)) }
@@ -93,7 +93,7 @@ fn orientation_among(entries: &[u8], count: u16, is_little: bool) -> Option<u8>
 }
 
 /// Returns the orientation of the first directory.
-#[tactic(auto, using(crate::proofs::Orientations::cut_directory, crate::proofs::Orientations::few_after, crate::proofs::Orientations::other_directory, crate::proofs::Orientations::found_directory))]
+#[tactic(auto, using(crate::proofs::Rules::directories))]
 fn orientation_by(exif: &[u8], is_little: bool) -> Option<u8>
     ensures value { result ≡ orientation_among is_little (first_directory is_little exif.now) }
     ensures range { IfSome result (λ n. (1 ≤ n) × (n ≤ 8)) }
@@ -113,7 +113,7 @@ fn orientation_by(exif: &[u8], is_little: bool) -> Option<u8>
 ///
 /// Data begin at their TIFF header, as those of [`Decoder::exif_data`](crate::Decoder::exif_data).
 /// Where they are cut or say no orientation the answer is none.
-#[tactic(auto, using(crate::proofs::Orientations::cut_exif, crate::proofs::Orientations::lower_exif, crate::proofs::Orientations::higher_exif, crate::proofs::Orientations::other_exif))]
+#[tactic(auto, using(crate::proofs::Rules::exif))]
 pub fn orientation_of(exif: &[u8]) -> Option<u8>
     ensures value { result ≡ orientation_in exif.now }
     ensures range { IfSome result (λ n. (1 ≤ n) × (n ≤ 8)) }

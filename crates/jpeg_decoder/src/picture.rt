@@ -411,7 +411,7 @@ fn samples_at_end(alloc: Global, frame: &FrameInfo, decoded: &mut Decoded) -> Re
 }
 
 /// Returns the picture of a lossless frame.
-#[tactic(auto, unfolding(jpeg_streams::specs::FoundPictures::samples_picture), using(crate::proofs::Rules::given))]
+#[tactic(auto, unfolding(crate::proofs::Rules::sampled), using(crate::proofs::Rules::given))]
 fn samples_picture(
     alloc: Global,
     state: &State,
@@ -432,7 +432,7 @@ fn samples_picture(
 
 /// Writes the picture of a lossless frame into memory that has exactly its bytes. After an error
 /// nothing is written.
-#[tactic(auto, unfolding(jpeg_streams::specs::FoundPictures::samples_picture))]
+#[tactic(auto, unfolding(crate::proofs::Rules::sampled))]
 fn write_samples(
     alloc: Global,
     state: &State,
@@ -468,7 +468,7 @@ fn limit_error(alloc: Global, frame: &FrameInfo, limit: usize) -> Error
 
 /// Returns the picture of what was found, which is taken: within the limit, of planes that are
 /// there.
-#[tactic(auto, unfolding(jpeg_streams::specs::FoundPictures::picture_of, jpeg_streams::specs::FoundPictures::limited))]
+#[tactic(auto, unfolding(crate::proofs::Rules::block_pictures))]
 fn picture(
     alloc: Global,
     state: &State,
@@ -498,7 +498,7 @@ fn picture(
 
 /// Writes the picture of what was found, which is taken, into memory that has exactly its bytes:
 /// within the limit, of planes that are there. After an error nothing is written.
-#[tactic(auto, unfolding(jpeg_streams::specs::FoundPictures::picture_of, jpeg_streams::specs::FoundPictures::limited))]
+#[tactic(auto, unfolding(crate::proofs::Rules::block_pictures))]
 fn write_picture(
     alloc: Global,
     state: &State,
@@ -529,7 +529,7 @@ fn write_picture(
 }
 
 /// Reads the header of a stream: all through the frame's segment.
-#[tactic(auto, unfolding(jpeg_streams::specs::Stream::header_at, jpeg_streams::specs::Reported::told_by_turns, jpeg_streams::specs::Found::nothing_found), using(crate::proofs::Rules::starts, crate::proofs::Rules::no_start))]
+#[tactic(auto, unfolding(crate::proofs::Rules::headers), using(crate::proofs::Rules::starts))]
 pub fn read_header<R: Read + Drop>(
     alloc: Global,
     source: &mut Source<R>,

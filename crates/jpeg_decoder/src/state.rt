@@ -84,7 +84,7 @@ impl State {
     ghost use Rattle.jpeg_streams.specs.declared.before.Before.TheVariants.{Elsewhere};
 
     /// Makes the state at the start of a stream.
-    #[tactic(auto, unfolding(jpeg_streams::specs::Found::nothing_found, jpeg_streams::specs::Found::nothing_said))]
+    #[tactic(auto, unfolding(crate::proofs::Rules::nothing))]
     pub fn new(alloc: Global) -> State
         ensures { found_in result ≡ nothing_found }
     {
@@ -274,7 +274,7 @@ impl State {
     }
 
     /// Reads one marker, which may have been reached already, and what stands after it.
-    #[tactic(auto, unfolding(jpeg_streams::specs::Stream::turn_at, jpeg_streams::specs::Stream::segment_at))]
+    #[tactic(auto, unfolding(crate::proofs::Rules::turns))]
     fn read_turn<R: Read + Drop>(
         &mut self,
         alloc: Global,

@@ -174,7 +174,7 @@ pub fn known_scales()
 {}
 
 /// Sizes that are no multiples of 8, at each scale.
-#[tactic(auto, unfolding(jpeg_segments::specs::Frame::component_of, jpeg_segments::specs::Frame::frame_of, jpeg_segments::specs::Scales::component_at, jpeg_segments::specs::Scales::frame_at))]
+#[tactic(auto, unfolding(crate::proofs::OnLiterals::sizes_on_literals))]
 pub fn known_sizes()
     ensures eighth { (frame_at 1 odd_frame).output_width ≡ 3 }
     ensures quarter { (frame_at 2 odd_frame).output_width ≡ 5 }
@@ -226,7 +226,7 @@ pub fn known_rules()
 {}
 
 /// Which colour transform is chosen for components, and how it converts them.
-#[tactic(auto, unfolding(jpeg_streams::specs::ColourChoice::by_identifiers, jpeg_streams::specs::ColourChoice::transform_of, jpeg_pixels::specs::Colour::conversion_of))]
+#[tactic(auto, unfolding(crate::proofs::OnLiterals::choices_on_literals))]
 pub fn known_choices()
     ensures none { transform_of None (0 ∷ 1 ∷ 2 ∷ []) false None ≡ transforms.YCbCr }
     ensures jfif { transform_of None (0 ∷ 1 ∷ 2 ∷ []) true (Some adobe.Unknown) ≡ transforms.YCbCr }
@@ -249,7 +249,7 @@ pub fn known_choices()
 {}
 
 /// Colours of some pixels, by JFIF's equations rounded to the nearest.
-#[tactic(auto, unfolding(jpeg_pixels::specs::Colour::red_of, jpeg_pixels::specs::Colour::green_of, jpeg_pixels::specs::Colour::blue_of, jpeg_pixels::specs::Colour::colour_of))]
+#[tactic(auto, unfolding(crate::proofs::OnLiterals::pixels_on_literals))]
 pub fn known_pixels()
     ensures middle { colour_of converts.YCbCr (128 ∷ 100 ∷ 200 ∷ []) ≡ 229 ∷ 86 ∷ 78 ∷ [] }
     ensures bright { colour_of converts.YCbCr (200 ∷ 60 ∷ 90 ∷ []) ≡ 147 ∷ 251 ∷ 80 ∷ [] }
@@ -260,7 +260,7 @@ pub fn known_pixels()
 
 /// Lossless predictions by each selection, the first one of an interval, a line, and the bytes of a
 /// sample.
-#[tactic(auto, unfolding(jpeg_lossless::specs::Prediction::residue, jpeg_lossless::specs::Prediction::first_line, jpeg_lossless::specs::Prediction::line_rest, jpeg_lossless::specs::Prediction::line_below))]
+#[tactic(auto, unfolding(crate::proofs::OnLiterals::predictions_on_literals))]
 pub fn known_selections()
     ensures left { selected selections.Ra (pos 10) (pos 20) (pos 13) ≡ pos 10 }
     ensures above { selected selections.Rb (pos 10) (pos 20) (pos 13) ≡ pos 20 }

@@ -70,7 +70,7 @@ rest-written table al room run own bytes w = record {
   written = grind (arith, an_end, of-rest, run-small);
 }
 
--- a band of so many places
+-- a band of so many coefficients
 pub record IsLong (table : Table) (al room : ℕ) (y : Band) (own : List Bool) : Type 0 where
   pub band : IsBand table al y.0 y.1 own
   pub long : length y.0 ≡ room
@@ -105,7 +105,7 @@ step table al n room Overlong more y t bytes fits others e = absurd fits
 after-small : (k n : ℕ) (x : Token) → suc k ≤ suc n → room_after (suc k) x ≤ n
 after-small k n x h = grind arith
 
--- The bits that were taken of a band whose tokens fit are written for it, and it has all its places.
+-- The bits that were taken of a band whose tokens fit are written for it, and it has all its coefficients.
 pub long-taken : {table : Table} {al n room : ℕ} {bits : List Bool} {y : Band} {t : Text} → IsTable table
     → HasByteSymbols table → TokensFit table al room bits → room ≤ n
     → first_ac table al n (no_numbers room) (alone bits) ≡ Ok (y, t) → IsCut (IsLong table al room y) bits t

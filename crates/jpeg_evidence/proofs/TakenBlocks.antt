@@ -108,12 +108,12 @@ dc-taken-part p table z predictor bits y t is fits sent e = grind (arith, eqb-tr
 
 -- ---- bands
 
--- the bits of a band for what was read, which has the places of what was there, and the run after it
+-- the bits of a band for what was read, which is as long as what was there, and the run after it
 pub record IsRead (p : Pass) (table : Table) (band : List ℤ) (run : ℕ) (y : Band) (own : List Bool) : Type 0 where
   pub long : length y.0 ≡ length band
   pub written : WritesAc p table (map (toward_zero p.al) y.0) run own y.1
 
--- the tables of a band that has places
+-- the tables of a band that has coefficients
 abbrev pub Tabled : Table → List ℤ → Type 0
 Tabled table band = 0 < length band → IsTable table × HasByteSymbols table
 

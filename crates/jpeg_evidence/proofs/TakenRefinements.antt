@@ -32,9 +32,9 @@ use Rattle.jpeg_evidence.proofs.TakenBits.{if-read, gives-taken, bind-parts, ok-
 use Rattle.jpeg_evidence.proofs.TakenBits.{map-taken, cut-then, After}
 use Rattle.jpeg_evidence.proofs.TakenBands.{run-small}
 
--- ---- a place
+-- ---- a coefficient
 
--- what is held of a place was sent at the level above
+-- what is kept of a coefficient was sent at the level above
 abbrev pub IsKept : ℕ → ℤ → Type 0
 IsKept al z = scaled (suc al) (toward_zero (suc al) z) ≡ z
 
@@ -47,7 +47,7 @@ zero-is x h = grind arith
 sum : (al m b : ℕ) → (2 * m + b) * 2 ^ al ≡ m * 2 ^ suc al + b * 2 ^ al
 sum al m b = omega (arith, times-two_power m al, spread m b (2 ^ al))
 
--- the number of a place after its correction, and the bit of that; it is 0 where what was kept is
+-- the number of a coefficient after its correction, and the bit of that; it is 0 where what was kept is
 record IsOne (al : ℕ) (z w : ℤ) (own : List Bool) : Type 0 where
   u : ℤ
   are : scaled al u ≡ w
@@ -63,7 +63,7 @@ old-one : (al m b : ℕ) (z u w : ℤ) → is_zero z ≡ false → 0 < m → b <
 unfolding corrections
 old-one al m b z u w other some small size are = search (rules, le-leb, unsigned_abs, old-other, corrections-old)
 
--- a place that isn't zero is moved where its bit is set
+-- a coefficient that isn't zero is moved where its bit is set
 moves : (al : ℕ) (z : ℤ) (b : ℕ) (w : ℤ) (s t : Text) → b < 2 → bit_of al z ≡ 0 → corrected_by al z b s ≡ Ok (w, t)
     → (moved (b * 2 ^ al) z ≡ w) × (s ≡ t)
 moves al z zero w s t small even e = grind (arith, zero-mul, ok-parts)
@@ -92,7 +92,7 @@ old-index al (negsuc k) b w s t kept old small e =
     (neg-times (2 * m + b) (2 ^ al) ∙ ap (λ (x : ℕ). neg_ℤ (pos x)) n ∙ q.0) in
     (one, q.1)
 
--- ---- places
+-- ---- coefficients
 
 pub one-bit : (b : ℕ) (own : List Bool) → IsNumber 1 b own → bit b ∷ [] ≡ own
 unfolding low_bits
@@ -142,7 +142,7 @@ one-first al z w zs ws front own o c = record {
   bits = corrections-cons o.u c.us ∙ ap₂ (λ (x y : List Bool). x ++ y) o.bits c.bits;
 }
 
--- The bits that were taken of corrections are the correction bits of the old places.
+-- The bits that were taken of corrections are the correction bits of the old coefficients.
 pub corrected-taken : {al : ℕ} {bits : List Bool} {ws : List ℤ} {t : Text} (zs : List ℤ)
     → AllByRecursion (IsKept al) zs → corrected al zs (alone bits) ≡ Ok (ws, t)
     → IsCut (IsCorrected al zs ws) bits t

@@ -68,3 +68,5 @@ unfolding first_dc
 dc_taken table al predictor bits y t is e =
     map-taken (difference table) (λ (d : ℤ). (wrapped (wrapped (predictor +ℤ d) *ℤ pos (2 ^ al)), wrapped (predictor +ℤ d)))
     (WritesDifference table) (IsDc table al predictor) (λ d. difference_taken is) (grind arith) e
+
+pub ruleset values = (symbol_taken, difference_taken)

@@ -21,7 +21,7 @@ ghost use Rattle.jpeg_evidence.specs.Strict.{TokensFit, alone, numbers_read, oth
 
 /// What is read of bits that nothing follows was written (T.81, C.2 and F.1.2): the bits that were
 /// taken are those of the number, of a code for the symbol, of the value, and of the DC difference.
-#[tactic(auto, using(crate::proofs::TakenBits::symbol_taken, crate::proofs::TakenValues::difference_taken))]
+#[tactic(auto, using(crate::proofs::TakenValues::values))]
 pub fn bits_taken_are_written()
     ensures numbers { (n : ℕ) (bits : List Bool) (v : ℕ) (left : Text)
         → bits_from n (alone bits) ≡ Ok (v, left) → IsCut (IsNumber n v) bits left }

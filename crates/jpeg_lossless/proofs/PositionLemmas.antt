@@ -1,4 +1,4 @@
--- Samples by their places.
+-- Samples by their indices.
 use Rattle.std.proofs.lemmas.Grind.{common_steps}
 use Rattle.std.proofs.Common.{◌≡◌, ℕ, zero, suc, ◌-◌, ◌<◌, ℤ, pos, List, []}
 use Rattle.std.proofs.Common.{◌∷◌, length, slice_index, arith, refl, sym, rules, ◌∙◌}

@@ -14,7 +14,7 @@ use std::io::Read;
 /// of category 16 is 32768 and has no bits; a category above 16 is an error. On an error stores it
 /// in `refusal` and returns none.
 #[inline(always)]
-#[tactic(auto, unfolding(crate::specs::Differences::sample_difference), using(crate::proofs::DifferenceLoops::signed_none))]
+#[tactic(auto, unfolding(crate::proofs::Rules::differences), using(crate::proofs::Rules::no_bits))]
 fn take_difference<R: Read + Drop>(
     alloc: Global,
     decoder: &mut HuffmanDecoder,

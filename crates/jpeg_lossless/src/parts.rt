@@ -23,7 +23,7 @@ pub struct Part<'a> {
 }
 
 /// The table of each sample of an MCU, in order: component by component, line by line.
-#[tactic(auto, using(crate::proofs::RowLoops::tables_none, std::proofs::lemmas::Grind::common_steps))]
+#[tactic(auto, using(crate::proofs::Rules::no_tables))]
 pub(crate) fn mcu_tables<'a>(
     alloc: Global,
     parts: &[Part<'a>],

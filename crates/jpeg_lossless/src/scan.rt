@@ -177,7 +177,7 @@ impl LosslessScan {
 
     /// Reads the intervals of a scan, each of `rows` rows of MCUs and the last of those that are
     /// left, and returns the marker after them, if it was read.
-    #[tactic(auto, using(crate::proofs::PlaneLoops::after_none, crate::proofs::PlaneLoops::interval_last))]
+    #[tactic(auto, using(crate::proofs::Rules::ends))]
     fn read_intervals<R: Read + Drop>(
         &mut self,
         source: &mut Source<R>,
@@ -266,7 +266,7 @@ fn finish_all(planes: &mut [Vec<u16>], parts: &[Part<'_>], point_transform: u8)
 }
 
 /// Reads a scan as `read_scan` does, row by row.
-#[tactic(auto, unfolding(crate::specs::PlanesRead::planes_scan), using(crate::proofs::Sizes::scan_rules))]
+#[tactic(auto, unfolding(crate::proofs::Rules::scans), using(crate::proofs::Sizes::scan_rules))]
 fn read_planes<R: Read + Drop>(
     alloc: Global,
     source: &mut Source<R>,

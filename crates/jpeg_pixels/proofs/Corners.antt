@@ -63,7 +63,7 @@ pub bits_or : {v w : List ℕ} {f g : ℕ → ℕ} → IsBits v f → IsBits w g
     → IsBits (zip2 bit_or v w) (λ j. bit_or (f j) (g j))
 bits_or {v} {w} {f} {g} a b = record { is = zip2_of_maps bit_or f g (range_with_len 0 8) a.is b.is }
 
--- the bits of a coefficient, from this place on
+-- the bits of a coefficient, from this index on
 abbrev pub bits_at : List ℤ → ℕ → ℕ → ℕ
 bits_at coefficients at j = of_z w16 (get_or coefficients (at + j) (pos 0))
 

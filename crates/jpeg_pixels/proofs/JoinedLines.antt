@@ -22,7 +22,7 @@ joined-length n (l ∷ lines) long =
     let others : length (concat lines) ≡ length lines * n = joined-length n lines (AreLong-more n l lines long) in
     length-append l (concat lines) ∙ omega arith
 
--- the entry at a place of a line
+-- the entry at an index of a line
 pub joined-at : (n : ℕ) (lines : List (List ℕ)) (k x : ℕ) → HaveWidth n lines → k < length lines →
     x < n
     → get_or (concat lines) (k * n + x) 0 ≡ get_or (get_or lines k []) x 0
@@ -40,7 +40,7 @@ joined-at n (l ∷ lines) (suc k) x long h lt =
     get_or-append_right l (concat lines) n (suc k * n + x) 0 first (omega arith)
     ∙ ap (λ i. get_or (concat lines) i 0) at ∙ others
 
--- a list that has at each place what lines made of numbers have there
+-- a list that has at each index what lines made of numbers have there
 pub by_pixels : (n width : ℕ) (pixel : ℕ → List ℕ) (out : List ℕ) → 0 < n → ((x : ℕ) → length (pixel x) ≡ n)
     → length out ≡ n * width
     → ((x k : ℕ) → x < width → k < n → get_or out (n * x + k) 0 ≡ get_or (pixel x) k 0)

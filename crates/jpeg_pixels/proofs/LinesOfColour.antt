@@ -1,4 +1,4 @@
--- Lines of colours, by their places, colours by products of 16 bits, and greys.
+-- Lines of colours, by their indices, colours by products of 16 bits, and greys.
 use Rattle.std.proofs.Common.{◌≡◌, ℕ, ◌+◌, ◌-◌, ◌*◌, ◌<◌, List, [], length, get_or, map, take, sym, ap, ◌∙◌, refl}
 use Rattle.std.proofs.Common.{arith, ◌^◌, ℤ, pos, negsuc, ◌+ℤ◌, ◌-ℤ◌, ◌*ℤ◌, Bool, true, ◌==◌, unsigned_abs, rules}
 use Rattle.std.proofs.Common.{◌∷◌}
@@ -33,15 +33,15 @@ line-none width lines long = ap concat (ext_get_or [] lines (map (take width) li
     ∙ take-length (get_or lines k []))))
 
 module _ (width : ℕ) (lines : List (List ℕ)) (out : List ℕ) (long : HaveWidth width lines) where
-  -- the number at a place of the lines in a row
+  -- the number at an index of the lines in a row
   abbrev pub in_lines : ℕ → ℕ
   in_lines i = get_or (concat lines) i 0
 
-  -- at the place of each pixel stands its value
+  -- at the index of each pixel stands its value
   abbrev pub Puts : (ℕ → ℕ) → (ℕ → ℕ) → Type 0
   Puts index value = (x : ℕ) → x < width → get_or out (index x) 0 ≡ value x
 
-  -- a sample of a pixel, by its place in the lines, and what it lacks to 255
+  -- a sample of a pixel, by its index in the lines, and what it lacks to 255
   sample : (k x : ℕ) → x < width → k < length lines → get_or (samples lines x) k 0 ≡ in_lines (k * width + x)
   sample k x lt h = sample-at width lines k x long h lt
 
@@ -71,7 +71,7 @@ module _ (width : ℕ) (lines : List (List ℕ)) (out : List ℕ) (long : HaveWi
       (λ x. length-map (samples lines x) (λ s. 255 - s) ∙ length-map lines (λ (l : List ℕ). get_or l x 0) ∙ four) size
       (λ x k h lt. grind (arith, nat_tests, cyan x h, magenta x h, yellow x h, black x h, inverse k x h))
 
-  -- the colours of a pixel, by the places of its samples
+  -- the colours of a pixel, by the indices of its samples
   abbrev pub red_at : ℕ → ℕ
   red_at x = red_of (in_lines x) (in_lines (2 * width + x))
 

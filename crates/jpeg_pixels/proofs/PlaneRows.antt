@@ -27,7 +27,7 @@ pub length_plane_of : (s : ℕ) (table : List ℕ) (wide high : ℕ) (block_at :
 unfolding plane_of
 length_plane_of s table wide high block_at = length-map-range_with_len _ 0 (area s wide high)
 
--- the number at a place of a plane
+-- the number at an index of a plane
 plane_of_at : (s : ℕ) (table : List ℕ) (wide high : ℕ) (block_at : ℕ → ℕ → List ℤ) (i : ℕ) → i < area s wide high →
     get_or (plane_of s table wide high block_at) i 0 ≡ plane_sample s table block_at (i % (s * wide)) (i / (s * wide))
 unfolding plane_of
@@ -90,7 +90,7 @@ plane-more s table wide high block_at =
 
 pub ruleset planes = (plane-none, plane-more, plane-joined, plane-same)
 
--- a write to all from place a on: the places below a stay
+-- a write to all from index a on: the indices below a stay
 pub put_tail_below : (a k : ℕ) (xs ys : List ℕ) (i : ℕ) → a ≤ length xs → i < a
     → get_or (put_mid a k xs ys) i 0 ≡ get_or xs i 0
 put_tail_below a k xs ys i le lt = search (rules, get_or-take, get_or_append_left, length-take)
@@ -101,11 +101,11 @@ pub put_tail_at : (a k : ℕ) (xs ys : List ℕ) (j : ℕ) → a ≤ length xs �
 put_tail_at a k xs ys j le whole =
     search (rules, append-nil, drop_of_length-le, get_or, get_or-append-add, length-drop, length-take)
 
--- what was lent from place a on
+-- what was lent from index a on
 pub tail_was : (a k : ℕ) (xs : List ℕ) (j : ℕ) → k ≡ length xs - a → get_or (mid_of a k xs) j 0 ≡ get_or xs (a + j) 0
 tail_was a k xs j whole = grind (arith, common_steps, get_or, get_or-drop, length-drop, take-length)
 
--- one more row, written at the front of what begins at its first place
+-- one more row, written at the front of what begins at its first index
 pub WritesBlock-next : (width last y stride : ℕ) (sample_at : ℕ → ℕ → ℕ) (old now new : List ℕ) (k : ℕ) → width ≤ stride
     → y ≤ last → last * stride ≤ length now → k ≡ length now - y * stride
     → ((x : ℕ) → x < width → slice_index new x ≡ sample_at x y)

@@ -1,4 +1,4 @@
--- Rows of samples made wider, place by place, and samples at the ends of a component.
+-- Rows of samples made wider, index by index, and samples at the ends of a component.
 use Rattle.std.proofs.Common.{◌≡◌, ℕ, ◌+◌, ◌-◌, ◌*◌, ◌/◌, ◌%◌, ◌<◌, ◌≤◌, List, length, get_or, set, get_or-set_other}
 use Rattle.std.proofs.Common.{get_or-set_same, length-set, ◌≢◌, arith, ap, subst, cond, min, take, drop, ◌++◌}
 use Rattle.std.proofs.Common.{length-take, rules, ◌∙◌}
@@ -19,7 +19,7 @@ far_even count x e = ap (λ r. cond (r == 0) (x / 2 - 1) (min (x / 2 + 1) (count
 pub far_odd : (count x : ℕ) → x % 2 ≡ 1 → far_index count x ≡ min (x / 2 + 1) (count - 1)
 far_odd count x e = ap (λ r. cond (r == 0) (x / 2 - 1) (min (x / 2 + 1) (count - 1))) e
 
--- the farther place is a place
+-- the farther index is one of the line
 pub far_below : (count x : ℕ) → x / 2 < count → far_index count x < count
 far_below count x h = grind (arith, common_steps, cases_eq, far_even, far_odd)
 
@@ -96,7 +96,7 @@ repeated_within rule h v output used width height stride row room e some_across 
     let last : row / v ≤ height - 1 = omega (arith, line) in
     omega (arith, mul-le-mul_right stride last, short, inside)
 
--- one more sample, at its place among those that are `step` apart
+-- one more sample, at its index among those that are `step` apart
 pub spread_samples : (line xs ys : List ℕ) (step first i : ℕ) → first < step → i * step + first < length xs
     → ys ≡ set xs (i * step + first) (get_or line i 0) →
     ((k : ℕ) → k < i → k * step + first < length xs → get_or xs (k * step + first) 0 ≡ get_or line k 0) →
@@ -104,7 +104,7 @@ pub spread_samples : (line xs ys : List ℕ) (step first i : ℕ) → first < st
 spread_samples line xs ys step first i some inside is before k h long =
     search (rules, cases_eq, get_or, get_or-set_other, get_or-set_same, length-set, mul-le-mul_right)
 
--- the places between
+-- the indices between
 pub spread_others : (xs ys was : List ℕ) (step first i v : ℕ) → first < step → ys ≡ set xs (i * step + first) v →
     ((x : ℕ) → x % step ≢ first → get_or xs x 0 ≡ get_or was x 0) →
     (x : ℕ) → x % step ≢ first → get_or ys x 0 ≡ get_or was x 0
@@ -113,14 +113,14 @@ spread_others xs ys was step first i v some is before x between =
 
 pub ruleset upsampled_rows = (as_h1v1, as_h2v1, as_h1v2, as_h2v2, in_front, length-take)
 
--- the nearer and the farther place at the ends
+-- the nearer and the farther index at the ends
 far_first : (count : ℕ) → far_index count 0 ≡ 0
 far_first count = far_even count 0 (omega arith) ∙ omega arith
 
 far_last : (count : ℕ) → 1 ≤ count → far_index count (2 * count - 1) ≡ count - 1
 far_last count some = far_odd count (2 * count - 1) (omega arith) ∙ omega arith
 
--- of one place
+-- of one index
 far_alone : (x : ℕ) → x < 2 → far_index 1 x ≡ 0
 far_alone x h = grind (arith, common_steps, cases_eq, far_even, far_odd)
 
@@ -142,7 +142,7 @@ pub last_down : (plane : ℕ → ℕ → ℕ) (width height x : ℕ) → 1 ≤ h
 unfolding upsampled
 last_down plane width height x some = grind (arith, common_steps, far_last)
 
--- a sample of H2V2 by the four places that it is blended from
+-- a sample of H2V2 by the four indices that it is blended from
 at_indices : (plane : ℕ → ℕ → ℕ) (width height x row near far upper lower : ℕ) → x / 2 ≡ near →
     far_index width x ≡ far
     → row / 2 ≡ upper → far_index height row ≡ lower → upsampled H2V2 plane width height x row

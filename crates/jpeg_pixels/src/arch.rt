@@ -162,7 +162,7 @@ pub(crate) fn is_in_corner(coefficients: [i16; 64]) -> bool
 // Returns the rows, whose last four are 0, unchanged. The zeros written here are constants, so the
 // compiler drops the products with them, and the code that computes the rows they replace.
 #[inline(always)]
-#[tactic(auto, using(crate::proofs::LaneSums::kept_words), unfolding(crate::specs::Lanes::lanes))]
+#[tactic(auto, using(crate::proofs::Rules::kept), unfolding(crate::specs::Lanes::lanes))]
 fn with_zeros(rows: Rows) -> Rows
     requires { HasZeros rows }
     ensures { result ≡ rows }
@@ -202,7 +202,7 @@ fn flat_row(coefficients: [i16; 64], quantization_table: &[u16; 64]) -> i32x8
     products(coefficients, quantization_table, 0) << 2
 }
 
-#[tactic(auto, using(crate::proofs::LaneSums::kept_words), unfolding(crate::specs::Samples::dequantized))]
+#[tactic(auto, using(crate::proofs::Rules::kept), unfolding(crate::specs::Samples::dequantized))]
 fn dequantized_rows(coefficients: [i16; 64], quantization_table: &[u16; 64]) -> Rows
     ensures { HasNumbers result (dequantized coefficients quantization_table.now) }
 {

@@ -180,7 +180,7 @@ impl JointPicture {
     }
 
     // Copies a line of each strip of a row of MCUs, one after the other.
-    #[tactic(auto, using(crate::proofs::Rules::gathered_rows), unfolding(crate::specs::JointPlanes::strip_lines))]
+    #[tactic(auto, using(crate::proofs::Rules::rows), unfolding(crate::proofs::Rules::strips))]
     fn gather_line(&self, strips: &[u8], line: usize, lines: &mut [u8])
         requires line { line < self.now.shape.lines }
         requires strips { length strips.now ≡ joint_row_size self.now.shape }
@@ -197,7 +197,7 @@ impl JointPicture {
     }
 
     // Copies the first lines of the strips of a row of MCUs, line by line of the picture.
-    #[tactic(auto, using(crate::proofs::Rules::gathered_rows), unfolding(crate::specs::JointPlanes::gathered))]
+    #[tactic(auto, using(crate::proofs::Rules::rows), unfolding(crate::proofs::Rules::gathers))]
     fn gather_row(&self, strips: &[u8], count: usize, lines: &mut [u8])
         requires count { count ≤ self.now.shape.lines }
         requires strips { length strips.now ≡ joint_row_size self.now.shape }
@@ -212,7 +212,7 @@ impl JointPicture {
     }
 
     // Writes the colours of the first lines of a row of MCUs.
-    #[tactic(auto, using(crate::proofs::Rules::gathered_rows), unfolding(crate::specs::JointPlanes::converted))]
+    #[tactic(auto, using(crate::proofs::Rules::rows), unfolding(crate::proofs::Rules::converts))]
     fn convert_row(&self, lines: &[u8], count: usize, output: &mut [u8])
         requires fits { IsFor self.now.shape.count self.now.color_convert }
         requires count { count ≤ self.now.shape.lines }
@@ -248,7 +248,7 @@ impl JointPicture {
 
     // Overwrites the strips with the lines of the picture. Those of a row of MCUs, which are no
     // longer than its strips, are copied to `lines` first.
-    #[tactic(auto, using(crate::proofs::Rules::written), unfolding(crate::specs::JointPlanes::joint_bytes))]
+    #[tactic(auto, using(crate::proofs::Rules::written), unfolding(crate::proofs::Rules::joint))]
     fn write_in_place(&self, height: usize, lines: &mut [u8], room: &mut [u8])
         requires fits { IsFor self.now.shape.count self.now.color_convert }
         requires high { height ≤ self.now.shape.rows * self.now.shape.lines }
@@ -270,7 +270,7 @@ impl JointPicture {
     }
 
     // Writes the lines of the picture to other memory, a row of MCUs at a time through `lines`.
-    #[tactic(auto, using(crate::proofs::Rules::written), unfolding(crate::specs::JointPlanes::joint_bytes))]
+    #[tactic(auto, using(crate::proofs::Rules::written), unfolding(crate::proofs::Rules::joint))]
     fn write(&self, height: usize, samples: &[u8], lines: &mut [u8], picture: &mut [u8])
         requires fits { IsFor self.now.shape.count self.now.color_convert }
         requires high { height ≤ self.now.shape.rows * self.now.shape.lines }

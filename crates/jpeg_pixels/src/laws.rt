@@ -157,7 +157,7 @@ pub fn grey_stays_grey()
 {}
 
 /// The bytes of some pixels and of two lines, computed.
-#[tactic(auto, unfolding(crate::specs::Colour::red_of, crate::specs::Colour::green_of, crate::specs::Colour::blue_of, crate::specs::Colour::colour_of, crate::specs::Colour::line_bytes))]
+#[tactic(auto, unfolding(crate::proofs::Rules::colours))]
 pub fn known_colours()
     ensures ycbcr { colour_of YCbCr (76 ∷ 85 ∷ 255 ∷ []) ≡ 254 ∷ 0 ∷ 0 ∷ [] }
     ensures cmyk { colour_of Cmyk (0 ∷ 10 ∷ 200 ∷ 255 ∷ []) ≡ 255 ∷ 245 ∷ 55 ∷ 0 ∷ [] }

@@ -142,7 +142,7 @@ fn short_products(coefficients: [i16; 64], values: [i16; 64], at: usize) -> i16x
 
 // The dequantized coefficients of a block that is within its limits.
 #[inline(always)]
-#[tactic(auto, using(crate::proofs::LaneSums::kept_halves), unfolding(crate::specs::Samples::dequantized))]
+#[tactic(auto, using(crate::proofs::Rules::kept), unfolding(crate::specs::Samples::dequantized))]
 fn short_inputs(coefficients: [i16; 64], table: &ShortTable) -> Shorts
     ensures { (quantization : List ℕ) → IsShortTable table.now quantization
         → HasShortProducts coefficients quantization
@@ -220,7 +220,7 @@ fn transpose_shorts(rows: Shorts) -> Shorts
 // Returns the rows unchanged, where their last four are 0. The zeros written here are constants, so the
 // compiler drops the products with them.
 #[inline(always)]
-#[tactic(auto, using(crate::proofs::LaneSums::kept_halves), unfolding(crate::specs::Lanes::lanes))]
+#[tactic(auto, using(crate::proofs::Rules::kept), unfolding(crate::specs::Lanes::lanes))]
 fn with_short_zeros(rows: Shorts) -> Shorts
     ensures { HasShortZeros rows → result ≡ rows }
 {

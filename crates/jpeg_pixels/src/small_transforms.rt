@@ -179,7 +179,7 @@ fn sample_of_eighths(sum: i32) -> u8
 /// `8 * v + u`. The sample at `(x, y)` goes to byte `y * output_linestride + x` of the output,
 /// which has room for a line of `output_linestride` bytes and two bytes more. Its other bytes stay
 /// as they are. Sums that are too large for an `i32` wrap.
-#[tactic(auto, using(crate::proofs::Fours::few, crate::proofs::LaneSums::residue_bits, crate::proofs::LaneSums::wrapping), unfolding(crate::specs::Scaled::sample_of_2))]
+#[tactic(auto, using(crate::proofs::Rules::twos), unfolding(crate::specs::Scaled::sample_of_2))]
 pub fn dequantize_and_idct_block_2x2(
     coefficients: &[i16; 64],
     quantization_table: &[u16; 64],

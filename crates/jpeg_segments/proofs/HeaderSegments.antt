@@ -146,7 +146,7 @@ choice frame least = remap (bind _ byte (λ (i : ℕ).
     namely (c.0, (c.1.component, nibbles c.1.dc c.1.ac))
     (grind (arith, common_steps, nat_tests)) (grind (arith, common_steps)) refl)
 
--- n components, the first of which stands at least at this place
+-- n components, the first of which stands at least at this index
 abbrev Choose : Frame → ℕ → ℕ → List (ℕ × Selector) → Type 0
 Choose frame n least cs = (length cs ≡ n) × AreChoices frame least cs
 

@@ -14,3 +14,4 @@ pub mod TableSegments
 pub mod OtherSegments
 pub mod HeaderSegments
 pub mod HeaderRules
+pub mod Rules

@@ -27,7 +27,7 @@ pub selectors_from-more : (frame : frames.Frame) (n : ℕ) (front : List Selecto
 unfolding selectors_from
 selectors_from-more frame n front least bytes h1 = grind (arith, common_steps, nat_tests)
 
--- the first place at which a test passes
+-- the first index at which a test passes
 position_or_len-map : {A B : Type 0} (f : A → B) (test : B → Bool) (xs : List A)
     → position_or_len test (map f xs) ≡ position_or_len (λ x. test (f x)) xs
 position_or_len-map f test [] = refl
@@ -37,7 +37,7 @@ pub position-map : {A B : Type 0} (f : A → B) (test : B → Bool) (xs : List A
     → position test (map f xs) ≡ position (λ x. test (f x)) xs
 position-map f test xs = rw (position_or_len-map f test xs, length-map xs f) refl
 
--- the blocks of the component at a place
+-- the blocks of the component at an index
 pub blocks-at : (xs : List Seen) (i : ℕ) (d : Seen) → i < length xs
     → blocks_by (map component_in xs) i
     ≡ (get_or xs i d).horizontal_sampling_factor * (get_or xs i d).vertical_sampling_factor
@@ -52,7 +52,7 @@ all-of : (P : Selector → Type 0) (Q : ℕ → Type 0) (field : Selector → �
     → (xs : List Selector) → All P xs → All Q (map field xs)
 all-of P Q field f xs h = All-map Q field xs (All-weaker P (λ s. Q (field s)) f xs h)
 
--- a band that a header may name passes the rules by the places that it stands for
+-- a band that a header may name passes the rules by the indices that it stands for
 legal-again : (p : CodingProcess) (count first last high low : ℕ) → is_band p count first last high low ≡ true
     → is_band p count first (after_of p last - 1) high low ≡ true
 legal-again p count first last high low h1 = grind (arith, nat_tests)
@@ -78,7 +78,7 @@ blocks-by frame (x ∷ xs) = search (rules, sum_by-cons, blocks-by frame xs)
 few : (count blocks : ℕ) → (nat_le count 1 || nat_le blocks 10) ≡ true → 2 ≤ count → blocks ≤ 10
 few count blocks e h = grind (arith, common_steps, nat_le, leb-true)
 
--- ---- places that rise
+-- ---- indices that rise
 
 -- Places that rise after those in front, from the least on, make the whole rise.
 abbrev pub RisesTo : List ℕ → ℕ → Type 0
@@ -122,4 +122,4 @@ is-scan frame xs first last levels some most indices rising mcu band below =
       same_point = refl;
     }
 
-pub ruleset place_rules = (blocks-at, position-map)
+pub ruleset position_rules = (blocks-at, position-map)

@@ -292,7 +292,7 @@ fn read_components<R: Read + Drop>(
 }
 
 /// Returns a frame of these components.
-#[tactic(auto, unfolding(crate::specs::Frame::frame_of), using(crate::proofs::FrameLemmas::frame_rules))]
+#[tactic(auto, unfolding(crate::specs::Frame::frame_of), using(crate::proofs::Rules::frames))]
 fn frame_of(
     alloc: Global,
     number: u8,
@@ -326,7 +326,7 @@ fn frame_of(
 }
 
 /// Reads a frame header of the marker `SOF(number)`.
-#[tactic(auto, using(crate::proofs::ScaleLemmas::frames_are_sized, crate::proofs::PartsOfSegments::parts))]
+#[tactic(auto, using(crate::proofs::Rules::sized_frames))]
 fn read_frame<R: Read + Drop>(
     alloc: Global,
     source: &mut Source<R>,

@@ -110,7 +110,7 @@ fn read_defined_table<R: Read + Drop>(
 ///
 /// Errors: `Format` where the length, a precision, a destination or a value of 0 breaks a rule;
 /// `Io` where the bytes end or a read fails; `OutOfMemory`.
-#[tactic(auto, unfolding(crate::specs::Quantization::dqt_at), using(crate::proofs::QuantizationLemmas::table_steps))]
+#[tactic(auto, unfolding(crate::proofs::Rules::tables_read), using(crate::proofs::Rules::tables))]
 pub fn parse_dqt<R: Read + Drop>(
     alloc: Global,
     reader: &mut Source<R>,

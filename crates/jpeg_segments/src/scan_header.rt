@@ -67,7 +67,7 @@ fn position_of(components: &[Component], identifier: u8) -> Option<usize>
 }
 
 /// Returns the index of the component with this identifier.
-#[tactic(auto, using(crate::proofs::ScanLemmas::place_rules))]
+#[tactic(auto, using(crate::proofs::ScanLemmas::position_rules))]
 fn index_of(components: &[Component], identifier: u8) -> Option<usize>
     ensures index { result ≡ index_of (map component_in components.now) identifier }
     ensures within { IfSome result (λ i. i < length components.now) }
@@ -83,7 +83,7 @@ fn block_count(component: &Component) -> u16
 }
 
 /// Returns the number of blocks that the component at an index has in an MCU.
-#[tactic(auto, using(crate::proofs::ScanLemmas::place_rules))]
+#[tactic(auto, using(crate::proofs::ScanLemmas::position_rules))]
 fn blocks_by(components: &[Component], index: usize) -> u16
     requires { index < length components.now }
     ensures { result ≡ blocks_by (map component_in components.now) index }
@@ -493,7 +493,7 @@ fn read_band<R: Read + Drop>(
 /// Errors: `Format` where the header breaks a rule, names a component that the frame does not have,
 /// or names components out of the frame's order; `Io` where the bytes end or a read fails;
 /// `OutOfMemory`.
-#[tactic(auto, using(crate::proofs::ScanLemmas::mcu_of_blocks), unfolding(crate::specs::ScanHeader::sos_at))]
+#[tactic(auto, using(crate::proofs::Rules::mcus), unfolding(crate::specs::ScanHeader::sos_at))]
 pub fn parse_sos<R: Read + Drop>(
     alloc: Global,
     reader: &mut Source<R>,

@@ -84,7 +84,7 @@ apart-line f key a (suc n) tells = (
   apart-line f key (a + 1) n (λ k b. tells k (search rules)),
 )
 
--- x stands at place j
+-- x stands at index j
 abbrev pub At : {A : Type 0} → ℕ → List A → A → Type 0
 At j [] x = ⊥
 At zero (y ∷ ys) x = y ≡ x

@@ -394,7 +394,7 @@ pub record Shaped (f : Frame) : Type 0 where
   pub fits : (k : ℕ) (c : Component) → At k f.components c → Fits f c
   pub lossy : f.process ≢ Lossless
 
--- what is held, finished and decided after some scans
+-- what is kept, finished and decided after some scans
 pub record Framed (w : Said) (f : Frame) (array : Coefficients) (levels : ℕ → Levels) (sc : Bool) (h : Arrays)
     (fi : List (List Bool)) (pl : List (Option (List ℕ))) : Type 0 where
   pub marked : Marked w f array levels fi pl
@@ -528,7 +528,7 @@ all-done w f p array levels (k ∷ codings) (b ∷ arrays) n holds facts legal s
 )
 all-done w f p array levels codings arrays n holds facts legal sized = absurd (omega arith)
 
--- the components of the scan are ready, where their blocks are held
+-- the components of the scan are ready, where their blocks are kept
 all-ready : (w : Said) (f : Frame) (p : Pass) (array : Coefficients) (levels : ℕ → Levels)
     (before : Arrays) (codings : List Coding) → Shaped f
     → ((k : Coding) → CodingFacts w f k → IsLegal p (levels k.index)

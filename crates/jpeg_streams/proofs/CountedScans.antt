@@ -47,7 +47,7 @@ put-other r q b arrays h g = search (rules, get_or-set_other, get_or-set_same)
 pub put-inside : (r q : Spot) (b : Block) (arrays : Arrays) → IsInside arrays q → IsInside (put_block r b arrays) q
 put-inside r q b arrays h = search (rules, same-spot, length-set, get_or-set_same, get_or-set_other)
 
--- a place that has f of it keeps it
+-- an index that has f of it keeps it
 pub stays : (f : Spot → Block) (q : Spot) (spots : List Spot) (arrays : Arrays) → IsInside arrays q
     → block_at arrays q ≡ f q → block_at (put_blocks spots (map f spots) arrays) q ≡ f q
 unfolding put_blocks
@@ -55,7 +55,7 @@ stays f q [] arrays h e = e
 stays f q (r ∷ spots) arrays h e =
     search (rules, put-inside, put-same, put-other, same-spot, stays f q spots)
 
--- a place of the list has f of it
+-- an index of the list has f of it
 pub reaches : (f : Spot → Block) (q : Spot) (spots : List Spot) (arrays : Arrays) → IsInside arrays q → IsIn q spots
     → block_at (put_blocks spots (map f spots) arrays) q ≡ f q
 unfolding put_blocks

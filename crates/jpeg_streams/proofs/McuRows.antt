@@ -96,7 +96,7 @@ pub record Holds (front rest : Arrays) (spots : List Spot) (arrays : Arrays) : T
   pub aligned : Aligned front arrays rest
   pub inside : (s : Spot) → IsIn s spots → IsInside arrays s
 
--- What is read in blocks that stand inside others is read in those. The blocks that are held keep what holds of them.
+-- What is read in blocks that stand inside others is read in those. The blocks that are kept keep what holds of them.
 abbrev pub Keeps : (Arrays → Type 0) → Result (Reached × Text) Fault → Type 0
 Keeps P (Ok r) = P r.0.arrays
 Keeps P (Err e) = Unit {0}
@@ -598,7 +598,7 @@ sequential-scan found frame scan c codings bytes process fits of =
     (zeros-sized cs)
     ∙ scans-by-rows frame c.component (components_of codings) (pass_of scan) (vias_from 0 all) found.said.restart bytes fit
 
--- A scan of a progressive frame is its blocks one after the other, each read on what is held of it.
+-- A scan of a progressive frame is its blocks one after the other, each read on what is kept of it.
 pub progressive-scan : (found : Found) (frame : Frame) (scan : Scan) (c : Coding) (codings : List Coding)
     (bytes : List ℕ)
     → AreArrays frame.components (arrays_before found frame) → AllByRecursion (Fits frame) frame.components

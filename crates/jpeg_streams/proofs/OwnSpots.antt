@@ -131,12 +131,12 @@ pub covered : (frame : Frame) (components : List Component) (c : Component) (s :
 unfolding spots_of
 covered frame components c s h1 h2 h3 = grind (arith, nat_tests, own-covered, all-covered)
 
--- no place is in the list
+-- no index is in the list
 abbrev pub IsAbsent : ℕ → List ℕ → Type 0
 IsAbsent index [] = Unit {0}
 IsAbsent index (q ∷ indices) = ((index ≡ q) → ⊥) × IsAbsent index indices
 
--- each place once
+-- each index once
 abbrev pub AreApart : List ℕ → Type 0
 AreApart [] = Unit {0}
 AreApart (q ∷ indices) = IsAbsent q indices × AreApart indices

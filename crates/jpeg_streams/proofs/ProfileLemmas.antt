@@ -84,7 +84,7 @@ pub application-read : (number : ℕ) (found : Found) (bytes rest : List ℕ) (s
     → application_segment number found bytes ≡ Ok (onward (with_said (λ said. record said { metadata = m }) found), rest)
 application-read number found bytes rest said m e a = rw (e, a) refl
 
--- a table that is moved to its place
+-- a table that is moved to its destination
 pub updated-set : {A : Type 0} (xs ys : List (Option A)) (i : ℕ) (t : A) → i < length xs → i < length ys
     → get_or ys i None ≡ Some t → updated (set xs i (Some t)) (set ys i None) ≡ updated xs ys
 unfolding updated
@@ -113,7 +113,7 @@ unfolding updated
 all_ac-updated (x ∷ xs) (y ∷ ys) p q = search (rules, and_parts, all_ac-updated xs ys)
 all_ac-updated xs ys p q = search rules
 
--- a place is moved
+-- a destination is moved
 pub moved-some : {A : Type 0} (xs ys xs' ys' : List (Option A)) (i : ℕ) (found d v : Option A) (t : A) → i < length xs
     → length xs ≡ length ys → found ≡ get_or ys i d → v ≡ None → found ≡ Some t
     → xs' ≡ set xs i (Some t) → ys' ≡ set ys i v → updated xs' ys' ≡ updated xs ys

@@ -1,4 +1,4 @@
--- What is held of coefficients before a pass and after it, where they are given at the level of the pass.
+-- What is kept of coefficients before a pass and after it, where they are given at the level of the pass.
 use Rattle.std.specs.Prelude.{◌≡◌, ℕ, suc, neg_ℤ, ◌*◌, ◌/◌, ◌^◌, ◌<◌, ◌==◌, true, false, List, length, map, ℤ, pos}
 use Rattle.std.specs.Prelude.{negsuc, ◌*ℤ◌, ◌≤ℤ◌, unsigned_abs}
 use Rattle.std.specs.List.{AllByRecursion}
@@ -14,7 +14,7 @@ halved (negsuc n) = neg_ℤ (pos (suc n / 2))
 abbrev pub scaled : ℕ → ℤ → ℤ
 scaled al u = u *ℤ pos (2 ^ al)
 
--- what is held of a number before its refinement to level al
+-- what is kept of a number before its refinement to level al
 abbrev pub kept : ℕ → ℤ → ℤ
 kept al u = scaled (suc al) (halved u)
 
@@ -27,7 +27,7 @@ pub record InDcRange (u : ℤ) : Type 0 where
   pub low : negsuc 1023 ≤ℤ u
   pub high : u ≤ℤ pos 1023
 
--- what is held of a DC number before its refinement to level al
+-- what is kept of a DC number before its refinement to level al
 abbrev pub floor_half : ℤ → ℤ
 floor_half (pos n) = pos (n / 2)
 floor_half (negsuc n) = negsuc (n / 2)
@@ -35,7 +35,7 @@ floor_half (negsuc n) = negsuc (n / 2)
 abbrev pub dc_kept : ℕ → ℤ → ℤ
 dc_kept al u = scaled (suc al) (floor_half u)
 
--- What is held of a block before the pass, where u has its numbers at the level of the pass.
+-- What is kept of a block before the pass, where u has its numbers at the level of the pass.
 pub record Suits (p : Pass) (old u : Block) : Type 0 where
   pub unsent : p.is_first ≡ true → band_of p old.acs ≡ no_numbers (length (band_of p u.acs))
   pub sent : p.is_first ≡ false → band_of p old.acs ≡ map (kept p.al) (band_of p u.acs)
@@ -53,7 +53,7 @@ after_pass p old u = record {
   acs = with_band p old.acs (map (scaled p.al) (band_of p u.acs));
 }
 
--- a block's path, what is held of it, and its numbers at the level of the pass
+-- a block's path, what is kept of it, and its numbers at the level of the pass
 abbrev pub reads_of : List (Via × Block × Block) → List (Via × Block)
 reads_of turns = map (λ t. (t.0, t.1)) turns
 

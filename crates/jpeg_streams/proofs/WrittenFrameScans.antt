@@ -55,7 +55,7 @@ reads-turns p n turns bytes fill code m rest ready h w =
 
 -- ---- a scan that was written is read at each of its spots
 
--- a block's way, what is held of it, and its numbers at the level of the pass
+-- a block's way, what is kept of it, and its numbers at the level of the pass
 abbrev pub turn_with : List Via → Arrays → (Spot → Block) → Spot → Via × Block × Block
 turn_with vias arrays u s = (via_at vias s.slot, block_at arrays s, u s)
 
@@ -83,7 +83,7 @@ reads-arrays p n vias spots arrays u bytes fill code m rest ready h w =
 
 -- ---- blocks of a component
 
--- the own blocks of an array are held, cut at these levels
+-- the own blocks of an array are kept, cut at these levels
 pub record HoldsOwn (g : Grid) (array : ℕ → ℕ → Block) (l : Levels) (blocks : List Block) : Type 0 where
   pub sized : length blocks ≡ g.high * g.wide
   pub each : (i : ℕ) → IsOwn g i → get_or blocks i zero_block ≡ cut l (array (i / g.wide) (i % g.wide))
@@ -137,7 +137,7 @@ via-good codings slot all = vias-good 0 slot codings _ (record { dc = none-good 
 
 -- ---- a scan
 
--- a component of the scan: its blocks are held, and the scan is legal for it
+-- a component of the scan: its blocks are kept, and the scan is legal for it
 pub record SlotReady (frame : Frame) (p : Pass) (array : Coefficients) (levels : ℕ → Levels) (before : Arrays)
     (k : Coding) : Type 0 where
   pub fits : Fits frame k.component
@@ -214,7 +214,7 @@ module _ (frame : Frame) (restart : ℕ) (p : Pass) (codings : List Coding) (arr
   abbrev scanned : Arrays
   scanned = arrays_of before codings
 
-  -- the block held at an own spot, and the numbers sent for it
+  -- the block kept at an own spot, and the numbers sent for it
   kept-own : (k : Coding) (s : Spot) → At s.slot codings k → IsOwn (grid_of k.component) s.index
       → block_at scanned s ≡ cut (levels k.index)
       (array k.index (s.index / k.component.blocks_wide) (s.index % k.component.blocks_wide))

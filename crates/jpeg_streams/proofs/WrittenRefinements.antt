@@ -24,7 +24,7 @@ use Rattle.jpeg_bits.proofs.Tables.{IsGood, takes-symbol}
 use Rattle.jpeg_streams.proofs.WrittenBands.{scaled-zero}
 use Rattle.jpeg_streams.proofs.SentBlocks.{scaled, kept, InRange}
 
--- ---- what is held
+-- ---- what is kept
 
 pub times-two_power : (m al : ℕ) → m * 2 ^ suc al ≡ 2 * (m * 2 ^ al)
 times-two_power m al = ap (λ (x : ℕ). m * x) (pow-suc 2 al) ∙ omega (arith, mul_assoc m (2 ^ al) 2)
@@ -57,7 +57,7 @@ pub kept-old : (al : ℕ) (u : ℤ) → is_old u ≡ true → is_zero (kept al u
 kept-old al (pos n) h = (not-zero (n / 2 * 2 ^ suc al) (kept-positive al n (old-at (pos n) h))).0
 kept-old al (negsuc n) h = search (rules, neg-times, not-zero, kept-positive, old-at)
 
--- a place that isn't new is nothing or old
+-- a coefficient that isn't new is nothing or old
 pub nothing_or_old : (u : ℤ) → unsigned_abs u ≢ 1 → (u ≡ pos 0) ⊎ (is_old u ≡ true)
 nothing_or_old u h = search (rules, le-leb)
 
@@ -176,7 +176,7 @@ pub count-old : (u : ℤ) (us : List ℤ) → is_old u ≡ true → count_unknow
 unfolding count_unknown
 count-old u us o = rw (o, count_unknown) refl
 
--- the piece of a token ends with the place after those that are neither old nor new
+-- the piece of a token ends with the coefficient after those that are neither old nor new
 pub through : (al : ℕ) (front : List ℤ) (u : ℤ) (more : List ℤ) → kept al u ≡ pos 0 → NoneNew front
     → through_zero (count_unknown front) (map (kept al) (front ++ u ∷ more)) ≡ suc (length front)
 unfolding NoneNew count_unknown through_zero
@@ -215,7 +215,7 @@ unfolding with_last
 with_last-end x y xs =
     ap (λ (i : ℕ). set (xs ++ y ∷ []) i x) (omega (arith, length-append xs (y ∷ []))) ∙ set-append_seam xs y [] x
 
--- the places of a piece, with their corrections
+-- the coefficients of a piece, with their corrections
 pub takes-front : (al : ℕ) (front : List ℤ) (u : ℤ) (more : List ℤ) → kept al u ≡ pos 0
     → NoneNew front → AllByRecursion (InRange al) (front ++ u ∷ more)
     → ReadsJust (corrected al (take (suc (length front)) (map (kept al) (front ++ u ∷ more))))
@@ -316,13 +316,13 @@ pub range-after : (P : ℤ → Type 0) (front more : List ℤ) → AllByRecursio
 range-after P [] more h = h
 range-after P (v ∷ front) more h = range-after P front more h.1
 
--- how many places a band has whose front ends with one more
+-- how many coefficients a band has whose front ends with one more
 pub numbers-of : (al : ℕ) (front : List ℤ) (u : ℤ) (more : List ℤ)
     → length (map (kept al) (front ++ u ∷ more)) ≡ suc (length front + length (map (kept al) more))
 numbers-of al [] u more = omega arith
 numbers-of al (v ∷ front) u more = let e = numbers-of al front u more in omega arith
 
--- A refinement that was written is read as its numbers times 2 ^ al, from what is held before it,
+-- A refinement that was written is read as its numbers times 2 ^ al, from what is kept before it,
 -- and as the run after it.
 pub takes-refinement : (table : Table) (al : ℕ) (band : List ℤ) (bits : List Bool) (run : ℕ) → IsGood table
     → AllByRecursion (InRange al) band

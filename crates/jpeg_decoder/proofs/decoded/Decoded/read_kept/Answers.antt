@@ -97,7 +97,7 @@ put_blocks-requires-clause-indices g c =
     coded-within-kept (frame_in c.args.frame.now) c.deref-2.result.now c.keep.new.self.kept.items _
     (kept ∙ c.in_ok-arrays.ensures.length) (grind (arith, common_steps)) (grind (arith, common_steps))
 
--- the blocks that are held afterwards
+-- the blocks that are kept afterwards
 put-all : (frame : Frame) (cs seen again : List Coded) (kept left taken arrays put : List Held) (before : Arrays)
     → seen ≡ cs → again ≡ cs → arrays_in kept ≡ before
     → arrays_in taken ≡ blocks_at (map coding_in seen) (arrays_in kept)

@@ -1,0 +1,23 @@
+-- Lemmas that the proofs of functions use, and definitions that they unfold, by what they are about.
+use Rattle.std.specs.Prelude.{⊤}
+use Rattle.jpeg_segments.specs.Quantization.{dqt_at}
+use Rattle.jpeg_segments.proofs.FrameLemmas.{frame_rules}
+use Rattle.jpeg_segments.proofs.PartsOfSegments.{parts}
+use Rattle.jpeg_segments.proofs.QuantizationLemmas.{table_steps}
+use Rattle.jpeg_segments.proofs.ScaleLemmas.{frames_are_sized}
+use Rattle.jpeg_segments.proofs.ScanLemmas.{mcu_of_blocks}
+
+-- frames
+pub ruleset frames = (frame_rules)
+
+pub ruleset sized_frames = (frames_are_sized, parts)
+
+-- the MCU of a scan
+pub ruleset mcus = (mcu_of_blocks)
+
+-- quantization tables
+pub ruleset tables = (table_steps)
+
+unfoldable pub tables_read : ⊤
+unfolding dqt_at
+tables_read = tt
