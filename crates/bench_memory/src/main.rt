@@ -22,7 +22,7 @@ struct Request {
     size: Option<Dimensions>,
 }
 
-/// What the arguments ask for, unless they are none that the program takes.
+/// Returns what the arguments ask for, unless they are none that the program takes.
 fn request_of(mut arguments: Args) -> Option<Request> {
     let _program = arguments.next();
     let rounds = arguments.next()?.parse::<u16>().ok()?;
@@ -37,7 +37,7 @@ fn request_of(mut arguments: Args) -> Option<Request> {
     })
 }
 
-/// The pixels of a stream.
+/// Returns the pixels of a stream.
 fn pixels_of(alloc: Global, bytes: &[u8], size: Option<Dimensions>) -> Result<Vec<u8>> {
     let mut decoder = Decoder::new(alloc, SliceReader::new(bytes))?;
     if let Some(size) = size {
@@ -46,7 +46,7 @@ fn pixels_of(alloc: Global, bytes: &[u8], size: Option<Dimensions>) -> Result<Ve
     decoder.decode()
 }
 
-/// A number that tells pictures apart.
+/// Returns a number that tells pictures apart.
 fn mixed(pixels: &[u8]) -> u64 {
     let mut total = 0u64;
     for piece in pixels.chunks(997) {

@@ -14,7 +14,7 @@ use std::time::Instant;
 
 const ROUNDS: u32 = 20;
 
-/// A component of samples in whole blocks, with the same factor across and down.
+/// Returns a component of samples in whole blocks, with the same factor across and down.
 fn component(factor: u8, size: Dimensions, block_size: Dimensions) -> Component
     ensures { component_in result ≡ record {
       factors = record { identifier = 1; horizontal = factor; vertical = factor; quantization = 0 };
@@ -49,7 +49,7 @@ fn plane(alloc: Global, size: usize, seed: u32) -> std::result::Result<Vec<u8>, 
     Ok(samples)
 }
 
-/// The picture of three planes, the second and third of half as many columns and lines.
+/// Returns the picture of three planes, the second and third of half as many columns and lines.
 fn picture(alloc: Global, planes: &[Vec<u8>]) -> Result<Vec<u8>>
     requires { map (λ v. length v.items) planes.now ≡ 2048000 ∷ 512000 ∷ 512000 ∷ [] }
 {
@@ -75,7 +75,7 @@ fn picture(alloc: Global, planes: &[Vec<u8>]) -> Result<Vec<u8>>
     compute_image_rows(alloc, &[luma, cb, cr], planes, size, ColorTransform::YCbCr)
 }
 
-/// A number that tells pictures apart.
+/// Returns a number that tells pictures apart.
 fn mixed(total: u64, picture: &[u8]) -> u64 {
     let mut total = total;
     for piece in picture.chunks(997) {

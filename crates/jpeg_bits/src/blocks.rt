@@ -180,7 +180,7 @@ fn read_band<R: Read + Drop>(
     read_coded_band(buffered, source, coding, run, block, refusal)
 }
 
-/// As `read_band`, where the bits have something of the band.
+/// Reads as `read_band` does, where the bits have something of the band.
 #[inline(never)]
 #[tactic(auto, using(crate::proofs::BlockParts::band_rules))]
 fn read_coded_band<R: Read + Drop>(
@@ -256,7 +256,7 @@ fn skip_band<R: Read + Drop>(
     }
 }
 
-/// As `read_block`. A refusal is stored in `refusal`, and false is returned.
+/// Reads as `read_block` does. A refusal is stored in `refusal`, and false is returned.
 pub fn take_block<R: Read + Drop>(
     decoder: &mut HuffmanDecoder,
     source: &mut Source<R>,

@@ -160,7 +160,7 @@ impl HuffmanDecoder {
         marker_of_end(self.alloc, end)
     }
 
-    /// As `receive_extend`. A refusal is stored in `refusal`, and none is returned.
+    /// Reads as `receive_extend` does. A refusal is stored in `refusal`, and none is returned.
     #[inline(always)]
     pub fn take_signed<R: Read + Drop>(
         &mut self,
@@ -177,8 +177,8 @@ impl HuffmanDecoder {
         self.buffered.take_signed(source, count, refusal)
     }
 
-    /// As `decode`. A refusal is stored in `refusal`, and none is returned: a call in which no
-    /// `Error` stands has none to make room for.
+    /// Reads as `decode` does. A refusal is stored in `refusal`, and none is returned: a call in
+    /// which no `Error` stands has none to make room for.
     #[inline(always)]
     pub fn take_symbol<R: Read + Drop>(
         &mut self,

@@ -39,7 +39,7 @@ pub enum Refinement {
     End(u16),
 }
 
-/// 2 to the point transform.
+/// Returns 2 to the point transform.
 #[inline]
 #[tactic(auto, using(std::proofs::Common::pow_mono, std::proofs::lemmas::Int::to_z_pos))]
 pub(crate) fn unit(al: u8) -> i16
@@ -444,7 +444,8 @@ fn read_refined_coefficients<R: Read + Drop>(
     Some(0)
 }
 
-/// As `read_refined_coefficients`, on a copy of the buffered bits: a local that stays in registers.
+/// Reads as `read_refined_coefficients` does, on a copy of the buffered bits: a local that stays in
+/// registers.
 #[inline(never)]
 pub(crate) fn read_refined_band<R: Read + Drop>(
     buffered: &mut BufferedBits,

@@ -66,7 +66,7 @@ pub(crate) fn wrapped_sum(a: i16, b: i16) -> i16
     a.wrapping_add(b)
 }
 
-/// 2 to an exponent.
+/// Returns 2 to an exponent.
 #[inline]
 #[tactic(auto, using(std::proofs::Common::pow_mono, std::proofs::Common::pow_pos))]
 pub(crate) fn power_of_two(exponent: u8) -> u16
@@ -225,7 +225,8 @@ fn read_first_coefficients<R: Read + Drop>(
     Some(0)
 }
 
-/// As `read_first_coefficients`, on a copy of the buffered bits: a local that stays in registers.
+/// Reads as `read_first_coefficients` does, on a copy of the buffered bits: a local that stays in
+/// registers.
 #[inline(never)]
 pub(crate) fn read_first_band<R: Read + Drop>(
     buffered: &mut BufferedBits,
@@ -296,7 +297,8 @@ fn skip_coefficients<R: Read + Drop>(
     Some(0)
 }
 
-/// As `skip_coefficients`, on a copy of the buffered bits: a local that stays in registers.
+/// Passes over as `skip_coefficients` does, on a copy of the buffered bits: a local that stays in
+/// registers.
 #[inline(never)]
 pub(crate) fn skip_first_band<R: Read + Drop>(
     buffered: &mut BufferedBits,

@@ -176,7 +176,7 @@ fn planes_at_end(
     Ok(planes)
 }
 
-/// A plane of a component cropped to the picture in place, as far as the plane goes.
+/// Crops the plane of a component to the picture in place, as far as the plane goes.
 fn crop_to(plane: &mut Vec<u8>, component: &Component, size: Dimensions)
     requires { IsScale component.now.dct_scale }
     ensures { plane.new.items ≡ cropped_to (component_in component.now) size.width size.height

@@ -25,7 +25,8 @@ use jpeg_streams::before::Before;
 use std::alloc::Global;
 use std::io::Read;
 
-/// Why a DNL segment is refused: after the first scan it would give the height (T.81, B.2.5).
+/// Returns why a DNL segment is refused: after the first scan it would give the height (T.81,
+/// B.2.5).
 #[tactic(auto, unfolding(jpeg_streams::specs::Stream::segment_at))]
 pub fn refused_line_count(alloc: Global, before: Before) -> Error
     ensures { IsRefusal result × ((found : Found) (bytes : List ℕ) →

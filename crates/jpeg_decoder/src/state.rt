@@ -121,7 +121,7 @@ impl State {
         Ok(ONWARD)
     }
 
-    /// Quantization tables (T.81, B.2.4.1).
+    /// Reads quantization tables (T.81, B.2.4.1).
     #[tactic(auto, using(jpeg_streams::proofs::Soundness::sound_kept))]
     fn read_quantization<R: Read + Drop>(
         &mut self,
@@ -137,7 +137,7 @@ impl State {
         Ok(ONWARD)
     }
 
-    /// Huffman tables (T.81, B.2.4.2).
+    /// Reads Huffman tables (T.81, B.2.4.2).
     #[tactic(auto, using(jpeg_streams::proofs::Soundness::sound_kept))]
     fn read_huffman<R: Read + Drop>(
         &mut self,
@@ -170,7 +170,7 @@ impl State {
         Ok(ONWARD)
     }
 
-    /// Data of an application (T.81, B.2.4.6).
+    /// Reads data of an application (T.81, B.2.4.6).
     #[tactic(auto, using(jpeg_streams::proofs::Soundness::sound_kept))]
     fn read_application<R: Read + Drop>(
         &mut self,

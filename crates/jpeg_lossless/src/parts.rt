@@ -22,7 +22,7 @@ pub struct Part<'a> {
     pub height: u16,
 }
 
-/// The table of each sample of an MCU, in order: component by component, line by line.
+/// Returns the table of each sample of an MCU, in order: component by component, line by line.
 #[tactic(auto, using(crate::proofs::Rules::no_tables))]
 pub(crate) fn mcu_tables<'a>(
     alloc: Global,

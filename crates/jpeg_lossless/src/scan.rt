@@ -211,7 +211,7 @@ impl LosslessScan {
     }
 }
 
-/// Whether a marker is the RST with this number modulo 8.
+/// Returns whether a marker is the RST with this number modulo 8.
 fn is_restart(marker: Option<Marker>, number: u16) -> bool
     ensures { result ≡ is_restart number marker }
 {

@@ -112,7 +112,7 @@ pub(crate) fn write_line(
     convert_line(lines, line.width, components.len(), color_convert, output);
 }
 
-/// The picture: its lines from above. The only error is that no memory is left.
+/// Returns the picture: its lines from above. The only error is that no memory is left.
 #[tactic(auto, using(crate::proofs::Rules::above, crate::proofs::Rules::pictures))]
 pub(crate) fn lines_from_above(
     alloc: Global,

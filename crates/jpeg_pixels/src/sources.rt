@@ -101,8 +101,9 @@ fn greatest_vertical(components: &[Component]) -> u8
     most
 }
 
-/// How each component is upsampled for a picture of this size. A component for which there is no
-/// rule is `Unsupported(NonIntegerSubsamplingRatio)`, and a refused allocation is `OutOfMemory`.
+/// Returns how each component is upsampled for a picture of this size. A component for which there
+/// is no rule is `Unsupported(NonIntegerSubsamplingRatio)`, and a refused allocation is
+/// `OutOfMemory`.
 #[tactic(auto, using(crate::proofs::Rules::sources))]
 pub(crate) fn component_sources(
     alloc: Global,

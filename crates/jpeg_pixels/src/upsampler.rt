@@ -118,9 +118,9 @@ impl ColorConvert {
     ghost use Rattle.jpeg_bits.specs.declared.error.Error.TheVariants.{OutOfMemory};
     ghost use Rattle.jpeg_pixels.specs.Colour.{conversion_of};
 
-    /// The conversion of a transform for three or four components. A transform that doesn't fit is
-    /// `Format`, or `OutOfMemory` where there is no room for the text, and one that is not known
-    /// here is `Unsupported(ColorTransform(..))`.
+    /// Returns the conversion of a transform for three or four components. A transform that doesn't
+    /// fit is `Format`, or `OutOfMemory` where there is no room for the text, and one that is not
+    /// known here is `Unsupported(ColorTransform(..))`.
     #[tactic(auto, unfolding(crate::specs::Colour::conversion_of))]
     pub fn choose(
         alloc: Global,
@@ -258,7 +258,7 @@ impl Upsampler {
         Ok(())
     }
 
-    /// All lines of the picture, from above. The only error is that no memory is left.
+    /// Returns all lines of the picture, from above. The only error is that no memory is left.
     pub(crate) fn picture(
         &self,
         component_data: &[Vec<u8>],

@@ -144,8 +144,8 @@ impl ImmediateWorker {
     }
 }
 
-/// The picture of three or four components, of which each has a plane: its lines from above, each
-/// upsampled and converted.
+/// Returns the picture of three or four components, of which each has a plane: its lines from
+/// above, each upsampled and converted.
 ///
 /// A transform that doesn't fit is `Format` or `Unsupported(ColorTransform(..))`, a component for
 /// which there is no rule `Unsupported(NonIntegerSubsamplingRatio)`, and a refused allocation

@@ -23,8 +23,8 @@ fn zigzag_index(index: usize) -> usize
     PLACES[index]
 }
 
-/// The 64 values of a quantization table, given in zigzag order, in block order: that of row `v`
-/// and column `u` is at `8 * v + u` (T.81, A.3.6).
+/// Returns the 64 values of a quantization table, given in zigzag order, in block order: that of
+/// row `v` and column `u` is at `8 * v + u` (T.81, A.3.6).
 #[tactic(auto, using(crate::proofs::Sums::set_next))]
 pub fn values_in_order(values: &[u16; 64]) -> [u16; 64]
     ensures { result ≡ values_in_block_order values.now }

@@ -33,7 +33,7 @@ fn bytes_after(
     Vec::from_slice(alloc, &payload[count..])
 }
 
-/// APP0: a JFIF file, or a frame of an MJPEG stream.
+/// Reads APP0: a JFIF file, or a frame of an MJPEG stream.
 #[tactic(auto, unfolding(crate::specs::Application::application_by))]
 fn application_0(payload: &[u8]) -> Option<AppData>
     ensures { option_map application_in result ≡ application_by 0 payload.now }
@@ -47,7 +47,7 @@ fn application_0(payload: &[u8]) -> Option<AppData>
     }
 }
 
-/// APP1: Exif or XMP data.
+/// Reads APP1: Exif or XMP data.
 #[tactic(auto, unfolding(crate::specs::Application::application_by))]
 fn application_1(alloc: Global, payload: &[u8]) -> Said
     ensures { IfOk result (λ said. option_map application_in said ≡ application_by 1 payload.now) }
@@ -61,7 +61,7 @@ fn application_1(alloc: Global, payload: &[u8]) -> Said
     }
 }
 
-/// APP2: a part of an ICC profile, of at least one byte.
+/// Reads APP2: a part of an ICC profile, of at least one byte.
 #[tactic(auto, unfolding(crate::specs::Application::application_by))]
 fn application_2(alloc: Global, payload: &[u8]) -> Said
     ensures { IfOk result (λ said. option_map application_in said ≡ application_by 2 payload.now) }
@@ -77,7 +77,7 @@ fn application_2(alloc: Global, payload: &[u8]) -> Said
     }
 }
 
-/// APP13: Photoshop's image resources.
+/// Reads APP13: Photoshop's image resources.
 #[tactic(auto, unfolding(crate::specs::Application::application_by))]
 fn application_13(alloc: Global, payload: &[u8]) -> Said
     ensures { IfOk result (λ said. option_map application_in said ≡ application_by 13 payload.now) }

@@ -270,7 +270,7 @@ fn read_factors<R: Read + Drop>(
     read_parameters(alloc, source, lossless, identifier)
 }
 
-/// `count` components.
+/// Reads `count` components.
 fn read_components<R: Read + Drop>(
     alloc: Global,
     source: &mut Source<R>,

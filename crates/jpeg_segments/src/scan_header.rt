@@ -172,7 +172,7 @@ fn read_selector<R: Read + Drop>(
     }
 }
 
-/// `count` components.
+/// Reads `count` components.
 fn read_selectors<R: Read + Drop>(
     alloc: Global,
     source: &mut Source<R>,
@@ -279,7 +279,7 @@ fn band_error(alloc: Global, process: CodingProcess, count: usize, band: Band) -
     })
 }
 
-/// Why a band is not one of a sequential scan (T.81, B.2.3).
+/// Returns why a band is not one of a sequential scan (T.81, B.2.3).
 fn sequential_band_text(alloc: Global, band: Band) -> std::result::Result<String, AllocError> {
     let Band {
         first,
@@ -298,7 +298,7 @@ fn sequential_band_text(alloc: Global, band: Band) -> std::result::Result<String
     }
 }
 
-/// Why a band is not one of a progressive scan of `count` components (T.81, G.1.1.1).
+/// Returns why a band is not one of a progressive scan of `count` components (T.81, G.1.1.1).
 fn progressive_band_text(
     alloc: Global,
     count: usize,
@@ -337,7 +337,7 @@ fn progressive_band_text(
     }
 }
 
-/// Why a band is not one of a lossless scan (T.81, H.1.2).
+/// Returns why a band is not one of a lossless scan (T.81, H.1.2).
 fn lossless_band_text(alloc: Global, band: Band) -> std::result::Result<String, AllocError> {
     let Band {
         first,

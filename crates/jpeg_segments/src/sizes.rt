@@ -13,7 +13,7 @@ use std::alloc::{AllocError, Global};
 /// The number of samples along a side of a block at full size.
 pub const BLOCK_SIDE: usize = 8;
 
-/// `n / d`, rounded up.
+/// Returns `n / d`, rounded up.
 pub fn ceiling(n: u32, d: u32) -> u32
     requires some { 1 ≤ d }
     requires fits { n + (d - 1) < 2 ^ 32 }

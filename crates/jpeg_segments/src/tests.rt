@@ -842,7 +842,7 @@ fn app_of(alloc: Global, number: u8, name: &[u8], data: &[u8]) -> Result<Option<
     parse_app(alloc, &mut Source::new(&bytes[..]), Marker::APP(number))
 }
 
-/// What a segment is, and whether its data is this.
+/// Returns what a segment is, and whether its data is this.
 fn read_as(app: Option<AppData>, data: &[u8]) -> (Seen, bool) {
     match app {
         None => (Seen::Nothing, true),

@@ -31,7 +31,7 @@ pub fn decode_after<R: Read + Drop>(
     decoder.decode()
 }
 
-/// Whether each reading call is refused since the decoder has failed.
+/// Returns whether each reading call is refused since the decoder has failed.
 fn is_failed_throughout<R: Read + Drop>(decoder: &mut Decoder<R>) -> bool {
     is_failed(&decoder.read_info())
         && is_failed(&decoder.scale(1, 1))

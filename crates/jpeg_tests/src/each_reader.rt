@@ -36,9 +36,9 @@ fn append_values(
     Ok(())
 }
 
-/// The data: each value of a byte once, with a zero byte stuffed after FF (T.81, F.1.2.3). Of four
-/// bytes the first is a difference below 0, which the second takes back; the others are the same
-/// with a highest bit of 1.
+/// Returns the data: each value of a byte once, with a zero byte stuffed after FF (T.81, F.1.2.3).
+/// Of four bytes the first is a difference below 0, which the second takes back; the others are the
+/// same with a highest bit of 1.
 fn data(alloc: Global) -> Result<Vec<u8>, Fail> {
     let mut data = Vec::new(alloc);
     for value in 0..64u8 {
@@ -50,7 +50,7 @@ fn data(alloc: Global) -> Result<Vec<u8>, Fail> {
     Ok(data)
 }
 
-/// The picture: blocks of DC `value - 127` and of DC 0 in turn.
+/// Returns the picture: blocks of DC `value - 127` and of DC 0 in turn.
 fn picture(alloc: Global) -> Result<Vec<u8>, Fail> {
     let mut line = Vec::new(alloc);
     for value in 0..64u8 {

@@ -56,7 +56,7 @@ const INFO: ImageInfo = ImageInfo {
     coding_process: CodingProcess::DctSequential,
 };
 
-/// The bytes of the stream through the segment of this name.
+/// Returns the bytes of the stream through the segment of this name.
 fn bytes_through(alloc: Global, last: &str) -> Result<Vec<u8>, Fail> {
     let mut all = Vec::new(alloc);
     for (name, text) in SEGMENTS.iter() {
@@ -112,13 +112,14 @@ impl Stream {
         Ok(())
     }
 
-    /// A reader of the stream, a byte at a time, whose call of this number fails.
+    /// Returns a reader of the stream, a byte at a time, whose call of this number fails.
     fn reader<'a>(&'a self, call: usize, trouble: Trouble, counts: &'a Counts) -> Counted<'a> {
         Counted::new(Reader::new(&self.bytes, 1, call, trouble), counts)
     }
 }
 
-/// Whether a segment's data is reported where its end is among the bytes given, and nothing before.
+/// Returns whether a segment's data is reported where its end is among the bytes given, and nothing
+/// before.
 fn is_reported<T: PartialEq + Drop>(
     reported: Option<T>,
     data: T,

@@ -16,8 +16,8 @@ const OUTPUT: &str = "38 20 38 20 4C38 0A 81*64";
 /// How many bytes a write takes at most, and how many writes the line and the picture then take.
 const WRITES: [(usize, usize); 3] = [(1, 71), (5, 15), (1000, 2)];
 
-/// What `run` returns where the write of this number goes wrong. Asserts that it is the last, and
-/// that a beginning of the output was taken.
+/// Returns what `run` returns where the write of this number goes wrong. Asserts that it is the
+/// last, and that a beginning of the output was taken.
 fn run_into(
     rt: &impl Abort,
     alloc: Global,

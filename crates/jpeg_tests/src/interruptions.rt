@@ -31,7 +31,7 @@ fn many_interruptions_of_each_write_change_nothing(rt: HostRuntime) -> Result<()
     Ok(())
 }
 
-/// What `run` writes of a stream, of which one read and one write are interrupted.
+/// Returns what `run` writes of a stream, of which one read and one write are interrupted.
 fn written_of(alloc: Global, stream: &[u8], call: usize) -> Result<Vec<u8>, Error> {
     let reader = Reader::new(stream, 1, call, Trouble::IsInterrupted);
     let mut written = Vec::new(alloc);
@@ -70,7 +70,7 @@ enum Refusal {
     Other,
 }
 
-/// What an answer was refused for, if it was.
+/// Returns what an answer was refused for, if it was.
 fn refusal_of<T>(answer: &Result<T, Error>) -> Option<Refusal> {
     match answer {
         Ok(_) => None,

@@ -45,9 +45,9 @@ const INFO: ImageInfo = ImageInfo {
     coding_process: CodingProcess::DctSequential,
 };
 
-/// Whether what is reported of a segment fits the bytes given: its data where they go on after it,
-/// and nothing where they end within it. Where they end with it, its data may be what there was no
-/// memory for.
+/// Returns whether what is reported of a segment fits the bytes given: its data where they go on
+/// after it, and nothing where they end within it. Where they end with it, its data may be what
+/// there was no memory for.
 fn fits<T: PartialEq + Drop>(reported: Option<T>, data: T, end: usize, given: usize) -> bool {
     match reported {
         Some(reported) => given >= end && reported == data,
@@ -55,8 +55,8 @@ fn fits<T: PartialEq + Drop>(reported: Option<T>, data: T, end: usize, given: us
     }
 }
 
-/// Whether the profile that is reported fits the bytes given. A call that runs out of memory to put
-/// it together changes nothing, and the next one reports it.
+/// Returns whether the profile that is reported fits the bytes given. A call that runs out of
+/// memory to put it together changes nothing, and the next one reports it.
 fn profile_fits(decoder: &Decoder<Counted<'_>>, given: usize) -> bool {
     match decoder.icc_profile() {
         Err(Error::OutOfMemory) => is_profile(&decoder.icc_profile(), given),
@@ -64,7 +64,7 @@ fn profile_fits(decoder: &Decoder<Counted<'_>>, given: usize) -> bool {
     }
 }
 
-/// Whether an answer is the profile, where it is among the bytes given.
+/// Returns whether an answer is the profile, where it is among the bytes given.
 fn is_profile(answer: &Result<Option<Vec<u8>>, Error>, given: usize) -> bool {
     match answer {
         Ok(profile) => {
@@ -75,7 +75,7 @@ fn is_profile(answer: &Result<Option<Vec<u8>>, Error>, given: usize) -> bool {
     }
 }
 
-/// Whether a decoder reports what was read of the bytes given.
+/// Returns whether a decoder reports what was read of the bytes given.
 fn reports(decoder: &Decoder<Counted<'_>>, given: usize) -> bool {
     fits(decoder.exif_data(), [7].as_slice(), EXIF_END, given)
         && fits(decoder.xmp_data(), b"<".as_slice(), XMP_END, given)
@@ -83,13 +83,13 @@ fn reports(decoder: &Decoder<Counted<'_>>, given: usize) -> bool {
         && profile_fits(decoder, given)
 }
 
-/// Whether a decoder reports all that the stream holds.
+/// Returns whether a decoder reports all that the stream holds.
 fn reports_all(decoder: &Decoder<Counted<'_>>) -> bool {
     reports(decoder, STREAM.len())
 }
 
-/// Whether `decode` returns the picture, or runs out of memory and leaves a failed decoder that
-/// reports what was read.
+/// Returns whether `decode` returns the picture, or runs out of memory and leaves a failed decoder
+/// that reports what was read.
 fn fares(decoder: &mut Decoder<Counted<'_>>, counts: &Counts) -> bool {
     match decoder.decode() {
         Ok(picture) => {
@@ -106,7 +106,7 @@ fn fares(decoder: &mut Decoder<Counted<'_>>, counts: &Counts) -> bool {
     }
 }
 
-/// A reader of the stream.
+/// Returns a reader of the stream.
 fn reader(counts: &Counts) -> Counted<'_> {
     Counted::new(
         Reader::new(&STREAM, 1000, usize::MAX, Trouble::Fails),
@@ -114,7 +114,7 @@ fn reader(counts: &Counts) -> Counted<'_> {
     )
 }
 
-/// Whether a decoder of the stream answers each call, or runs out of memory.
+/// Returns whether a decoder of the stream answers each call, or runs out of memory.
 fn decodes(alloc: Global) -> bool {
     let counts = Counts::new();
     match Decoder::new(alloc, reader(&counts)) {
@@ -136,7 +136,7 @@ fn decodes(alloc: Global) -> bool {
     }
 }
 
-/// Whether a decoder that has read nothing decodes the stream, or runs out of memory.
+/// Returns whether a decoder that has read nothing decodes the stream, or runs out of memory.
 fn decodes_at_once(alloc: Global) -> bool {
     let counts = Counts::new();
     match Decoder::new(alloc, reader(&counts)) {
@@ -254,7 +254,7 @@ fn a_profile_in_254_parts(rt: HostRuntime) -> Result<(), Fail> {
     assert_wants_memory(&rt, rt.alloc(), &named::PROFILE, First::Nothing)
 }
 
-/// Whether an answer is the profile of 254 bytes, from 1 to 254.
+/// Returns whether an answer is the profile of 254 bytes, from 1 to 254.
 fn is_long_profile(answer: &Result<Option<Vec<u8>>, Error>) -> bool {
     match answer {
         Ok(Some(profile)) => {

@@ -75,8 +75,8 @@ fn metadata_after_a_refusal(rt: HostRuntime) -> Result<(), Fail> {
     Ok(())
 }
 
-/// A stream with parts of an ICC profile: numbers from `first` down to `last`, each with one byte,
-/// its number; and one more part.
+/// Returns a stream with parts of an ICC profile: numbers from `first` down to `last`, each with
+/// one byte, its number; and one more part.
 fn with_profile(
     alloc: Global,
     first: u8,
@@ -90,7 +90,7 @@ fn with_profile(
     Ok(stream)
 }
 
-/// The profile that a stream has.
+/// Returns the profile that a stream has.
 fn profile_in(alloc: Global, stream: &[u8]) -> Result<Option<Vec<u8>>, Fail> {
     let mut decoder = Decoder::new(alloc, stream)?;
     decoder.read_info()?;

@@ -29,18 +29,18 @@ impl Stream {
         })
     }
 
-    /// Whether this is the long stream of the profile.
+    /// Returns whether this is the long stream of the profile.
     fn is_long(&self) -> bool {
         self.bytes.len() > 1000
     }
 
-    /// Whether a read is one of the many in the midst of the profile, all of whose parts are alike:
-    /// these fail in a program alone.
+    /// Returns whether a read is one of the many in the midst of the profile, all of whose parts
+    /// are alike: these fail in a program alone.
     fn is_amid_parts(&self, call: usize) -> bool {
         self.is_long() && call >= 60 && call < PROFILE_END - 60
     }
 
-    /// A reader of the stream whose call of this number fails.
+    /// Returns a reader of the stream whose call of this number fails.
     fn reader<'a>(&'a self, call: usize, kind: ErrorKind, counts: &'a Counts) -> Counted<'a> {
         let reader = Reader::new(&self.bytes, 1, call, Trouble::FailsBy(kind));
         Counted::new(reader, counts)
@@ -77,7 +77,7 @@ impl Stream {
     }
 }
 
-/// Whether `run` returns the error of a reader that fails, and writes nothing.
+/// Returns whether `run` returns the error of a reader that fails, and writes nothing.
 fn runs_to_error<R: Read + Drop>(alloc: Global, reader: R, kind: ErrorKind) -> Result<bool, Fail> {
     let mut written = Vec::new(alloc);
     let answer = run(alloc, reader, &mut written);

@@ -133,7 +133,7 @@ const TRANSFORMS: [(ColorTransform, Gives); 9] = [
     ),
 ];
 
-/// Whether the three components give what is wanted by a colour transform that is set.
+/// Returns whether the three components give what is wanted by a colour transform that is set.
 fn gives_by(alloc: Global, transform: ColorTransform, gives: Gives) -> Result<bool, Fail> {
     let stream = named::COLOURS.bytes(alloc)?;
     let reader = Reader::new(&stream, 1000, usize::MAX, Trouble::Fails);

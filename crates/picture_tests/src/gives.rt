@@ -27,7 +27,7 @@ pub enum Gives {
     Io,
 }
 
-/// Whether a call returned the refusal that is wanted.
+/// Returns whether a call returned the refusal that is wanted.
 pub fn is_refusal<T>(answer: &Result<T, Error>, gives: Gives) -> bool {
     match (gives, answer) {
         (Gives::Format, Err(Error::Format(text))) => !text.is_empty(),
@@ -48,7 +48,7 @@ pub fn is_refusal<T>(answer: &Result<T, Error>, gives: Gives) -> bool {
     }
 }
 
-/// The bytes of a line, this many times.
+/// Returns the bytes of a line, this many times.
 fn repeated(alloc: Global, line: &str, times: usize) -> Result<Vec<u8>, Fail> {
     let line = bytes(alloc, &[line])?;
     let mut picture = Vec::new(alloc);
@@ -58,7 +58,7 @@ fn repeated(alloc: Global, line: &str, times: usize) -> Result<Vec<u8>, Fail> {
     Ok(picture)
 }
 
-/// The picture that is wanted, or none where a refusal is.
+/// Returns the picture that is wanted, or none where a refusal is.
 fn picture_of(alloc: Global, gives: Gives) -> Result<Option<Vec<u8>>, Fail> {
     match gives {
         Gives::Lines(line, times) | Gives::Colours(_, line, times) => {
@@ -68,7 +68,7 @@ fn picture_of(alloc: Global, gives: Gives) -> Result<Option<Vec<u8>>, Fail> {
     }
 }
 
-/// What `run` writes before the pixels of the picture that is wanted.
+/// Returns what `run` writes before the pixels of the picture that is wanted.
 fn header_of(alloc: Global, gives: Gives) -> Result<String, Fail> {
     match gives {
         Gives::Lines(line, times) => {
@@ -80,7 +80,8 @@ fn header_of(alloc: Global, gives: Gives) -> Result<String, Fail> {
     }
 }
 
-/// Whether `run` writes the picture that is wanted, or names the refusal and writes nothing.
+/// Returns whether `run` writes the picture that is wanted, or names the refusal and writes
+/// nothing.
 fn runs_as_wanted(alloc: Global, stream: &[u8], gives: Gives) -> Result<bool, Fail> {
     let mut written = Vec::new(alloc);
     let answer = run(alloc, stream, &mut written);
@@ -94,7 +95,8 @@ fn runs_as_wanted(alloc: Global, stream: &[u8], gives: Gives) -> Result<bool, Fa
     }
 }
 
-/// Whether a decoder returns the picture that is wanted, or names the refusal and has failed.
+/// Returns whether a decoder returns the picture that is wanted, or names the refusal and has
+/// failed.
 pub fn decodes_as_wanted(
     alloc: Global,
     decoder: &mut Decoder<Reader<'_>>,

@@ -128,7 +128,7 @@ fn large_pictures_of_other_frames_are_decoded(rt: HostRuntime) -> Result<(), Fai
     Ok(())
 }
 
-/// The stream of one block with one more segment after its start.
+/// Returns the stream of one block with one more segment after its start.
 fn one_block_with(alloc: Global, segment: &str) -> Result<Vec<u8>, Fail> {
     let mut stream = bytes(alloc, &["FFD8", segment])?;
     let one_block = bytes(alloc, &ONE_BLOCK)?;

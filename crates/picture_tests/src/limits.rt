@@ -10,7 +10,8 @@ use test_streams::streams::{ONE_BLOCK, bytes};
 /// A lossless stream of one sample of 16 bits.
 const ONE_SAMPLE: &str = "FFD8 FFC3 000B 10 0001 0001 01 01 11 00 D(00) S(010000) 7F FFD9";
 
-/// How many bytes a stream's picture has under a limit, where it is not refused as `Format`.
+/// Returns how many bytes a stream's picture has under a limit, where it is not refused as
+/// `Format`.
 fn length_under(alloc: Global, stream: &[u8], limit: usize) -> Result<Option<usize>, Fail> {
     let mut decoder = Decoder::new(alloc, stream)?;
     decoder.set_max_decoding_buffer_size(limit);

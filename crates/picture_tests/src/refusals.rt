@@ -89,7 +89,7 @@ const REFUSED_FRAMES: [(&str, UnsupportedFeature); 7] = [
     ),
 ];
 
-/// Whether a call refused a feature by name.
+/// Returns whether a call refused a feature by name.
 fn is_refused<T>(answer: &Result<T, Error>, feature: &UnsupportedFeature) -> bool {
     match answer {
         Err(Error::Unsupported(refused)) => refused == feature,

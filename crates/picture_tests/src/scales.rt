@@ -203,7 +203,7 @@ fn runs_of_zeros_at_a_scale(rt: HostRuntime) -> Result<(), Fail> {
     assert_scaled(&rt, rt.alloc(), &RUNS_OF_ZEROS)
 }
 
-/// Whether a decoder answers a scale by this size, and has it then.
+/// Returns whether a decoder answers a scale by this size, and has it then.
 fn takes_size(decoder: &mut Decoder<&[u8]>, asked: Size, size: Size) -> bool {
     let is_answered = matches!(&decoder.scale(asked.0, asked.1), Ok(answer) if *answer == size);
     match decoder.info() {

@@ -23,7 +23,7 @@ const LONGEST: [(&str, &str, &str); 2] = [
     ),
 ];
 
-/// Whether the samples are those of blocks whose DC goes from 8 down by 15, modulo 2^16.
+/// Returns whether the samples are those of blocks whose DC goes from 8 down by 15, modulo 2^16.
 fn goes_down(samples: &[u8]) -> bool {
     let mut dc: i16 = 8;
     for block in samples.chunks(8) {
@@ -82,7 +82,7 @@ fn longest_columns_and_lines_are_decoded(rt: HostRuntime) -> Result<(), Fail> {
     Ok(())
 }
 
-/// The width and the height that a decoder reports.
+/// Returns the width and the height that a decoder reports.
 fn size_in(decoder: &Decoder<&[u8]>) -> Option<(u16, u16)> {
     decoder.info().map(|info| (info.width, info.height))
 }

@@ -434,7 +434,7 @@ const OTHERS: [(&str, &str); 11] = [
     ),
 ];
 
-/// The text of a refusal.
+/// Returns the text of a refusal.
 fn text_of<T: Drop>(alloc: Global, answer: Result<T, Error>) -> Result<String, Fail> {
     match answer {
         Ok(_) => Err(Fail::from("not refused")),

@@ -75,7 +75,8 @@ fn decode(alloc: Global, stream: &[u8], reading: Reading) -> Result<Answer, Fail
     })
 }
 
-/// Whether a stream gives what a plain stream does for the image, cut at the levels that were sent.
+/// Returns whether a stream gives what a plain stream does for the image, cut at the levels that
+/// were sent.
 fn gives_its_picture(
     alloc: Global,
     image: &Image,
@@ -97,7 +98,7 @@ fn gives_its_picture(
     )
 }
 
-/// A random way to read.
+/// Returns a random way to read.
 fn random_reading(random: &mut Random) -> Reading {
     let width = u16::try_from(random.between(1, 50)).unwrap_or(1);
     let height = u16::try_from(random.between(1, 50)).unwrap_or(1);
@@ -107,8 +108,8 @@ fn random_reading(random: &mut Random) -> Reading {
     }
 }
 
-/// Whether a random stream of an image gives its picture, and that of what was sent where it is
-/// closed early.
+/// Returns whether a random stream of an image gives its picture, and that of what was sent where
+/// it is closed early.
 fn is_alike(alloc: Global, image: &Image, random: &mut Random, way: Way) -> Result<bool, Fail> {
     let is_progressive = way == Way::Progressive;
     let is_closed_early = is_progressive && random.is_one_in(2);

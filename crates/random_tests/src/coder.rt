@@ -214,14 +214,14 @@ impl Coder {
         Ok(())
     }
 
-    /// The magnitude of an AC coefficient at the level of the scan.
+    /// Returns the magnitude of an AC coefficient at the level of the scan.
     fn magnitude(&self, value: i16) -> u16 {
         value
             .unsigned_abs()
             .wrapping_shr(u32::from(self.scan.level))
     }
 
-    /// Whether an AC coefficient was 0 at the level before, and is not now.
+    /// Returns whether an AC coefficient was 0 at the level before, and is not now.
     fn is_new(&self, value: i16) -> bool {
         self.magnitude(value) == 1
     }
@@ -243,7 +243,7 @@ impl Coder {
     }
 }
 
-/// The bits of a number in its category, and how many they are (T.81, F.1.2.1.1).
+/// Returns the bits of a number in its category, and how many they are (T.81, F.1.2.1.1).
 pub fn value_bits(magnitude: u16, is_negative: bool) -> (u16, u8) {
     let count = category(magnitude);
     let ones = 1u16.wrapping_shl(u32::from(count)).wrapping_sub(1);
@@ -255,7 +255,7 @@ pub fn value_bits(magnitude: u16, is_negative: bool) -> (u16, u8) {
     (bits, count)
 }
 
-/// The number of bits of a magnitude.
+/// Returns the number of bits of a magnitude.
 pub fn category(magnitude: u16) -> u8 {
     if magnitude == 0 {
         return 0;

@@ -19,7 +19,7 @@ pub struct Codes {
 }
 
 impl Codes {
-    /// The codes of these symbols, this many of each length.
+    /// Returns the codes of these symbols, this many of each length.
     fn new(alloc: Global, counts: [u8; 16], symbols: Vec<u8>) -> Result<Codes, AllocError> {
         let mut codes = vec![in alloc; Code { bits: 0, length: 0 }; 256]?;
         let mut rest = symbols.iter();
@@ -41,13 +41,13 @@ impl Codes {
         })
     }
 
-    /// A table without codes.
+    /// Returns a table without codes.
     pub fn none(alloc: Global) -> Result<Codes, AllocError> {
         Codes::new(alloc, [0; 16], Vec::new(alloc))
     }
 
-    /// A fixed table: the symbols 0 to 11 by codes of 4 bits, or all by codes of 8 bits and one
-    /// of 9.
+    /// Returns a fixed table: the symbols 0 to 11 by codes of 4 bits, or all by codes of 8 bits and
+    /// one of 9.
     pub fn fixed(alloc: Global, is_dc: bool) -> Result<Codes, AllocError> {
         let mut counts = [0; 16];
         if is_dc {
@@ -59,7 +59,7 @@ impl Codes {
         Codes::new(alloc, counts, all_symbols(alloc, is_dc)?)
     }
 
-    /// Random codes for these symbols, and for others or for none.
+    /// Returns random codes for these symbols, and for others or for none.
     pub fn random(
         alloc: Global,
         random: &mut Random,
@@ -77,19 +77,19 @@ impl Codes {
         Codes::new(alloc, random_counts(random, symbols.len()), symbols)
     }
 
-    /// The code of a symbol.
+    /// Returns the code of a symbol.
     pub fn code(&self, symbol: u8) -> Code {
         let none = Code { bits: 0, length: 0 };
         self.codes.get(usize::from(symbol)).copied().unwrap_or(none)
     }
 
-    /// Whether each of these symbols has a code.
+    /// Returns whether each of these symbols has a code.
     pub fn has_all(&self, symbols: &[u8]) -> bool {
         symbols.iter().all(|symbol| self.code(*symbol).length != 0)
     }
 }
 
-/// The symbols that a table of a class may have: categories up to 11, or all.
+/// Returns the symbols that a table of a class may have: categories up to 11, or all.
 fn all_symbols(alloc: Global, is_dc: bool) -> Result<Vec<u8>, AllocError> {
     let last = if is_dc { 11 } else { 255 };
     let mut symbols = Vec::new(alloc);
@@ -109,8 +109,8 @@ fn shuffle(random: &mut Random, bytes: &mut Vec<u8>) {
     }
 }
 
-/// Random counts of codes of each length for this many symbols, of which none has a code of ones
-/// alone.
+/// Returns random counts of codes of each length for this many symbols, of which none has a code of
+/// ones alone.
 fn random_counts(random: &mut Random, symbols: usize) -> [u8; 16] {
     let mut counts = [0; 16];
     let mut free = 1usize;
@@ -131,8 +131,9 @@ fn random_counts(random: &mut Random, symbols: usize) -> [u8; 16] {
     counts
 }
 
-/// The most codes of a length that leave room for the codes of all other symbols. This many of the
-/// length are free, and each stands for `longest` codes of 16 bits, of which the last stays free.
+/// Returns the most codes of a length that leave room for the codes of all other symbols. This many
+/// of the length are free, and each stands for `longest` codes of 16 bits, of which the last stays
+/// free.
 fn most_codes(free: usize, left: usize, longest: usize) -> usize {
     let room = free
         .saturating_mul(longest)

@@ -24,12 +24,12 @@ pub struct Component {
 }
 
 impl Component {
-    /// The blocks of an MCU of several components.
+    /// Returns the blocks of an MCU of several components.
     pub fn blocks_in_mcu(&self) -> usize {
         self.horizontal.saturating_mul(self.vertical)
     }
 
-    /// The block in a row and a column, or none where the component has none of its own.
+    /// Returns the block in a row and a column, or none where the component has none of its own.
     fn block(&self, row: usize, column: usize) -> Option<&Block> {
         if row >= self.down || column >= self.across {
             return None;
@@ -38,7 +38,7 @@ impl Component {
             .get(row.saturating_mul(self.across).saturating_add(column))
     }
 
-    /// The component with each coefficient cut at its level (T.81, G.1.2).
+    /// Returns the component with each coefficient cut at its level (T.81, G.1.2).
     fn cut(&self, alloc: Global, levels: &[u8]) -> Result<Component, AllocError> {
         let mut blocks = Vec::with_capacity(alloc, self.blocks.len())?;
         for block in self.blocks.iter() {
@@ -72,7 +72,7 @@ pub struct Image {
 }
 
 impl Image {
-    /// An image of this many components, of random size, factors and coefficients.
+    /// Returns an image of this many components, of random size, factors and coefficients.
     pub fn random(alloc: Global, random: &mut Random, count: usize) -> Result<Image, AllocError> {
         let (width, height) = if random.is_one_in(16) {
             (400, 12)
@@ -120,13 +120,13 @@ impl Image {
         Ok(())
     }
 
-    /// The block of a component in a row and a column, or none where the component has none of its
-    /// own.
+    /// Returns the block of a component in a row and a column, or none where the component has none
+    /// of its own.
     pub fn block(&self, component: usize, row: usize, column: usize) -> Option<&Block> {
         self.components.get(component)?.block(row, column)
     }
 
-    /// The rows of MCUs of several components, and the MCUs in a row.
+    /// Returns the rows of MCUs of several components, and the MCUs in a row.
     pub fn mcus(&self) -> (usize, usize) {
         let across = self
             .width
@@ -135,7 +135,7 @@ impl Image {
         (down, across)
     }
 
-    /// The image with each coefficient cut at its level, 64 levels a component.
+    /// Returns the image with each coefficient cut at its level, 64 levels a component.
     pub fn cut(&self, alloc: Global, levels: &[u8]) -> Result<Image, AllocError> {
         let mut components = Vec::new(alloc);
         for (component, own) in self.components.iter().zip(levels.chunks(64)) {
@@ -153,7 +153,7 @@ impl Image {
     }
 }
 
-/// A copy of a segment.
+/// Returns a copy of a segment.
 fn copied(
     alloc: Global,
     segment: &Option<(u8, Vec<u8>)>,
@@ -164,8 +164,8 @@ fn copied(
     }
 }
 
-/// A block with each coefficient cut at its level: DC by an arithmetic shift, AC toward zero, and
-/// 0 in place of what no scan has sent (T.81, G.1.2.1).
+/// Returns a block with each coefficient cut at its level: DC by an arithmetic shift, AC toward
+/// zero, and 0 in place of what no scan has sent (T.81, G.1.2.1).
 fn cut_block(block: &Block, levels: &[u8]) -> Block {
     let mut cut = [0; 64];
     let indices = block.iter().zip(levels).enumerate();
@@ -177,7 +177,7 @@ fn cut_block(block: &Block, levels: &[u8]) -> Block {
     cut
 }
 
-/// A coefficient without its lowest bits.
+/// Returns a coefficient without its lowest bits.
 fn cut_value(value: i16, level: u32, is_dc: bool) -> i16 {
     if is_dc || value >= 0 {
         value.wrapping_shr(level).wrapping_shl(level)
@@ -190,13 +190,13 @@ fn cut_value(value: i16, level: u32, is_dc: bool) -> i16 {
     }
 }
 
-/// The blocks of a component across or down (T.81, A.1.1 and A.2.2).
+/// Returns the blocks of a component across or down (T.81, A.1.1 and A.2.2).
 fn blocks_of(size: usize, factor: usize, greatest: usize) -> usize {
     let samples = size.saturating_mul(factor).div_ceil(greatest.max(1));
     samples.div_ceil(8)
 }
 
-/// A factor that divides the greatest one, or is it.
+/// Returns a factor that divides the greatest one, or is it.
 pub fn random_factor(random: &mut Random, greatest: usize, is_greatest: bool) -> usize {
     let factor = random.between(1, greatest);
     if is_greatest || factor == 0 || greatest % factor != 0 {
@@ -206,7 +206,7 @@ pub fn random_factor(random: &mut Random, greatest: usize, is_greatest: bool) ->
     }
 }
 
-/// The identifier of a component: counted from 0 or 1, or a letter.
+/// Returns the identifier of a component: counted from 0 or 1, or a letter.
 pub fn component_id(ids: usize, number: usize) -> u8 {
     match ids {
         2 => b"RGBK".get(number).copied().unwrap_or(0),
@@ -214,7 +214,7 @@ pub fn component_id(ids: usize, number: usize) -> u8 {
     }
 }
 
-/// Two quantization tables: of ones, or of any values of 8 bits that are not 0.
+/// Returns two quantization tables: of ones, or of any values of 8 bits that are not 0.
 fn random_quantization(random: &mut Random) -> [[u8; 64]; 2] {
     let greatest = random.one_of(&[1, 1, 16, 255]);
     let mut tables = [[1; 64]; 2];
@@ -226,7 +226,7 @@ fn random_quantization(random: &mut Random) -> [[u8; 64]; 2] {
     tables
 }
 
-/// A segment of JFIF or of Adobe that this many components may have, or none.
+/// Returns a segment of JFIF or of Adobe that this many components may have, or none.
 fn random_colours(
     alloc: Global,
     random: &mut Random,
@@ -249,7 +249,7 @@ fn random_colours(
     Ok(Some((0xEE, payload)))
 }
 
-/// Random blocks: the denser, the more coefficients are not 0.
+/// Returns random blocks: the denser, the more coefficients are not 0.
 fn random_blocks(
     alloc: Global,
     random: &mut Random,
@@ -263,7 +263,7 @@ fn random_blocks(
     Ok(blocks)
 }
 
-/// A random block of 8-bit samples: DC from -1024 to 1023, AC from -1023 to 1023.
+/// Returns a random block of 8-bit samples: DC from -1024 to 1023, AC from -1023 to 1023.
 pub fn random_block(random: &mut Random, density: usize) -> Block {
     let mut block = [0; 64];
     let most = match density {
@@ -286,7 +286,7 @@ pub fn random_block(random: &mut Random, density: usize) -> Block {
     block
 }
 
-/// A random DC coefficient.
+/// Returns a random DC coefficient.
 fn random_dc(random: &mut Random) -> i16 {
     if random.is_one_in(30) {
         -1024
@@ -295,7 +295,7 @@ fn random_dc(random: &mut Random) -> i16 {
     }
 }
 
-/// A random number from -1023 to 1023: the smaller its magnitude the more often.
+/// Returns a random number from -1023 to 1023: the smaller its magnitude the more often.
 fn random_value(random: &mut Random) -> i16 {
     let greatest = random.one_of(&[0, 1, 1, 2, 3, 5, 10, 30, 100, 300, 1023]);
     let magnitude = i16::try_from(random.between(0, greatest)).unwrap_or(0);

@@ -31,13 +31,13 @@ struct Grid {
 }
 
 impl Grid {
-    /// The sample in a column of a line, or 0 where there is none.
+    /// Returns the sample in a column of a line, or 0 where there is none.
     fn sample(&self, column: usize, line: usize) -> i32 {
         let index = line.wrapping_mul(self.across).wrapping_add(column);
         i32::from(self.samples.get(index).copied().unwrap_or(0))
     }
 
-    /// What a sample is predicted as. The lines of its interval begin with this one.
+    /// Returns what a sample is predicted as. The lines of its interval begin with this one.
     fn prediction(
         &self,
         selection: u8,
@@ -67,8 +67,8 @@ impl Grid {
     }
 }
 
-/// What a selection makes of the samples to the left, above, and above and to the left (T.81,
-/// Table H.1).
+/// Returns what a selection makes of the samples to the left, above, and above and to the left
+/// (T.81, Table H.1).
 fn selected(selection: u8, a: i32, b: i32, c: i32) -> i32 {
     match selection {
         0 => 0,
@@ -82,7 +82,7 @@ fn selected(selection: u8, a: i32, b: i32, c: i32) -> i32 {
     }
 }
 
-/// What a scan codes, interval by interval.
+/// Returns what a scan codes, interval by interval.
 pub fn tokens(
     alloc: Global,
     random: &mut Random,
@@ -113,7 +113,7 @@ pub fn tokens(
     Ok(tokens)
 }
 
-/// The components of a scan. A component alone has one sample an MCU, and no padding.
+/// Returns the components of a scan. A component alone has one sample an MCU, and no padding.
 fn grids(
     alloc: Global,
     random: &mut Random,
@@ -147,7 +147,7 @@ fn grids(
     Ok(grids)
 }
 
-/// The samples of a component, and random ones around them up to a size.
+/// Returns the samples of a component, and random ones around them up to a size.
 fn padded(
     alloc: Global,
     random: &mut Random,

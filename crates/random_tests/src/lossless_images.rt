@@ -18,12 +18,12 @@ pub struct Plane {
 }
 
 impl Plane {
-    /// The samples of this component in an MCU of several components.
+    /// Returns the samples of this component in an MCU of several components.
     pub fn samples_in_mcu(&self) -> usize {
         self.horizontal.saturating_mul(self.vertical)
     }
 
-    /// The sample in a column of a line, or none where the component has none of its own.
+    /// Returns the sample in a column of a line, or none where the component has none of its own.
     pub fn sample(&self, column: usize, line: usize) -> Option<u16> {
         if column >= self.across || line >= self.down {
             return None;
@@ -47,7 +47,7 @@ pub struct LosslessImage {
 }
 
 impl LosslessImage {
-    /// An image of this many components, of random size, precision, factors and samples.
+    /// Returns an image of this many components, of random size, precision, factors and samples.
     pub fn random(
         alloc: Global,
         random: &mut Random,
@@ -101,8 +101,8 @@ impl LosslessImage {
         Ok(())
     }
 
-    /// Random factors of a component that can be upsampled: they divide the greatest ones. Where
-    /// the image is one pixel wide and the vertical factor is the greatest or half of it, the
+    /// Returns random factors of a component that can be upsampled: they divide the greatest ones.
+    /// Where the image is one pixel wide and the vertical factor is the greatest or half of it, the
     /// horizontal factor may be any other, and likewise the vertical one of one line.
     fn random_factors(
         &self,
@@ -121,15 +121,15 @@ impl LosslessImage {
         (horizontal, vertical)
     }
 
-    /// The rows of MCUs of several components, and the MCUs in a row.
+    /// Returns the rows of MCUs of several components, and the MCUs in a row.
     pub fn mcus(&self) -> (usize, usize) {
         let down = self.height.div_ceil(self.vertical.max(1));
         let across = self.width.div_ceil(self.horizontal.max(1));
         (down, across)
     }
 
-    /// The bytes of the picture: of each pixel the sample that each component's factors name, in
-    /// one byte up to 8 bits, and else in two, the lower first.
+    /// Returns the bytes of the picture: of each pixel the sample that each component's factors
+    /// name, in one byte up to 8 bits, and else in two, the lower first.
     pub fn pixels(&self, alloc: Global) -> Result<Vec<u8>, AllocError> {
         let mut pixels = Vec::new(alloc);
         for y in 0..self.height {
@@ -149,36 +149,36 @@ impl LosslessImage {
     }
 }
 
-/// A random precision from 2 to 16: the usual ones more often.
+/// Returns a random precision from 2 to 16: the usual ones more often.
 fn random_precision(random: &mut Random) -> u8 {
     let any = random.between(2, 16);
     low_byte(random.one_of(&[8, 12, 16, any, any]))
 }
 
-/// A random sample of so many bits.
+/// Returns a random sample of so many bits.
 pub fn random_sample(random: &mut Random, precision: u8) -> u16 {
     let most = usize::from(greatest_sample(precision));
     u16::try_from(random.between(0, most)).unwrap_or(0)
 }
 
-/// The greatest sample of so many bits.
+/// Returns the greatest sample of so many bits.
 fn greatest_sample(precision: u8) -> u16 {
     let count = 1usize.wrapping_shl(u32::from(precision));
     u16::try_from(count.wrapping_sub(1)).unwrap_or(u16::MAX)
 }
 
-/// The samples of a component across or down.
+/// Returns the samples of a component across or down.
 fn samples_of(size: usize, factor: usize, greatest: usize) -> usize {
     size.saturating_mul(factor).div_ceil(greatest.max(1))
 }
 
-/// Whether a factor is the greatest or half of it.
+/// Returns whether a factor is the greatest or half of it.
 fn is_whole_or_half(factor: usize, greatest: usize) -> bool {
     factor == greatest || factor.saturating_mul(2) == greatest
 }
 
-/// Random samples in one of four ways: any, near the one before, the least, the greatest or next to
-/// the middle, and one for all.
+/// Returns random samples in one of four ways: any, near the one before, the least, the greatest or
+/// next to the middle, and one for all.
 fn random_samples(
     alloc: Global,
     random: &mut Random,

@@ -14,7 +14,7 @@ use std::test::Fail;
 /// tests program that `rt test` has built, `out/random_tests_tests TEST`, with a test's full name.
 const IMAGES: u64 = 14;
 
-/// Whether a random stream of an image gives its samples.
+/// Returns whether a random stream of an image gives its samples.
 fn gives_its_samples(
     alloc: Global,
     image: &LosslessImage,

@@ -75,7 +75,7 @@ impl Writer {
         self.stream.put_segment(0xC3, &payload)
     }
 
-    /// The components of the next scan, of those that have a size.
+    /// Returns the components of the next scan, of those that have a size.
     fn next_group(&mut self, sizes: [usize; 4]) -> [bool; 4] {
         let random = &mut self.stream.random;
         let first = random.below(4);
@@ -149,7 +149,8 @@ impl Writer {
     }
 }
 
-/// The rows of MCUs of a scan, and the MCUs in a row: one for each sample of a component alone.
+/// Returns the rows of MCUs of a scan, and the MCUs in a row: one for each sample of a component
+/// alone.
 fn mcus_of(image: &LosslessImage, includes: [bool; 4]) -> (usize, usize) {
     let mut included = image.planes.iter().zip(includes).filter(|plane| plane.1);
     match (included.next(), included.next()) {

@@ -7,7 +7,8 @@ pub struct Random {
 }
 
 impl Random {
-    /// A generator of its own for each seed. Its state is odd, since that of zero would stay.
+    /// Returns a generator of its own for each seed. Its state is odd, since that of zero would
+    /// stay.
     pub fn new(seed: u64) -> Random {
         let mut random = Random {
             state: seed.wrapping_mul(0x9E37_79B9_7F4A_7C15) | 1,
@@ -18,7 +19,7 @@ impl Random {
         random
     }
 
-    /// The next number, of 64 bits.
+    /// Returns the next number, of 64 bits.
     pub fn number(&mut self) -> u64 {
         let first = self.state ^ self.state.wrapping_shl(13);
         let second = first ^ first.wrapping_shr(7);
@@ -26,41 +27,41 @@ impl Random {
         self.state
     }
 
-    /// A number below `count`, and 0 where there is none.
+    /// Returns a number below `count`, and 0 where there is none.
     pub fn below(&mut self, count: usize) -> usize {
         let number = self.number().wrapping_shr(16) as usize;
         if count == 0 { 0 } else { number % count }
     }
 
-    /// A number from `low` to `high`.
+    /// Returns a number from `low` to `high`.
     pub fn between(&mut self, low: usize, high: usize) -> usize {
         let count = high.saturating_sub(low).saturating_add(1);
         low.saturating_add(self.below(count))
     }
 
-    /// True once in this many times.
+    /// Returns true once in this many times.
     pub fn is_one_in(&mut self, count: usize) -> bool {
         self.below(count) == 0
     }
 
-    /// One of these numbers, or 0 where there are none.
+    /// Returns one of these numbers, or 0 where there are none.
     pub fn one_of(&mut self, numbers: &[usize]) -> usize {
         let index = self.below(numbers.len());
         numbers.get(index).copied().unwrap_or(0)
     }
 
-    /// A byte.
+    /// Returns a byte.
     pub fn byte(&mut self) -> u8 {
         low_byte(self.below(256))
     }
 }
 
-/// The lowest 8 bits of a number.
+/// Returns the lowest 8 bits of a number.
 pub fn low_byte(number: usize) -> u8 {
     (number & 255) as u8
 }
 
-/// The lowest 16 bits of a number, higher byte first.
+/// Returns the lowest 16 bits of a number, higher byte first.
 pub fn two_bytes(number: usize) -> [u8; 2] {
     [low_byte(number.wrapping_shr(8)), low_byte(number)]
 }

@@ -12,18 +12,18 @@ pub struct Levels {
 }
 
 impl Levels {
-    /// No coefficient is sent.
+    /// Returns levels at which no coefficient is sent.
     pub fn new(alloc: Global, components: usize) -> Result<Levels, AllocError> {
         let all = vec![in alloc; UNSENT; components.saturating_mul(64)]?;
         Ok(Levels { all })
     }
 
-    /// Whether each bit of each coefficient is sent.
+    /// Returns whether each bit of each coefficient is sent.
     pub fn are_complete(&self) -> bool {
         self.all.iter().all(|level| *level == 0)
     }
 
-    /// The level of a component's coefficient.
+    /// Returns the level of a component's coefficient.
     fn level(&self, component: usize, index: usize) -> u8 {
         let index = component.saturating_mul(64).saturating_add(index);
         self.all.get(index).copied().unwrap_or(0)
@@ -42,7 +42,7 @@ impl Levels {
         }
     }
 
-    /// A scan of all coefficients of some components of which nothing is sent.
+    /// Returns a scan of all coefficients of some components of which nothing is sent.
     pub fn sequential_scan(&self, random: &mut Random, image: &Image, is_plain: bool) -> Scan {
         Scan {
             includes: self.group(random, image, UNSENT, is_plain),
@@ -54,7 +54,7 @@ impl Levels {
         }
     }
 
-    /// A scan of a progressive frame that may follow.
+    /// Returns a scan of a progressive frame that may follow.
     pub fn progressive_scan(&self, random: &mut Random, image: &Image) -> Scan {
         let (component, index) = self.open_index(random, image.components.len());
         let level = self.level(component, index);
@@ -83,7 +83,7 @@ impl Levels {
         }
     }
 
-    /// A component and a coefficient of which some bits are left to send, and may be sent.
+    /// Returns a component and a coefficient of which some bits are left to send, and may be sent.
     fn open_index(&self, random: &mut Random, components: usize) -> (usize, usize) {
         let component = random.below(components);
         let any = random.below(64);
@@ -101,7 +101,8 @@ impl Levels {
         (0, 0)
     }
 
-    /// The end of a band that begins at an index, and whose coefficients are sent at one level.
+    /// Returns the end of a band that begins at an index, and whose coefficients are sent at one
+    /// level.
     fn band_end(&self, random: &mut Random, component: usize, start: usize) -> usize {
         let level = self.level(component, start);
         let mut end = start;
@@ -118,7 +119,7 @@ impl Levels {
         }
     }
 
-    /// Some components whose DC is sent at this level.
+    /// Returns some components whose DC is sent at this level.
     fn group(&self, random: &mut Random, image: &Image, level: u8, is_plain: bool) -> [bool; 4] {
         let mut sizes = [0; 4];
         for (number, (size, component)) in sizes
@@ -139,9 +140,9 @@ impl Levels {
     }
 }
 
-/// Some of the components that have a size, which is what they add to an MCU: one alone, or several
-/// that add at most 10 (T.81, B.2.3). They are sought from a component on, and all but the first
-/// are taken once in `rarity` times; for one alone it is `usize::MAX`.
+/// Returns some of the components that have a size, which is what they add to an MCU: one alone, or
+/// several that add at most 10 (T.81, B.2.3). They are sought from a component on, and all but the
+/// first are taken once in `rarity` times; for one alone it is `usize::MAX`.
 pub fn random_group(
     random: &mut Random,
     sizes: [usize; 4],
@@ -165,7 +166,7 @@ pub fn random_group(
     group
 }
 
-/// A group of one component.
+/// Returns a group of one component.
 fn only(component: usize) -> [bool; 4] {
     let mut group = [false; 4];
     if let Some(index) = group.get_mut(component) {
@@ -174,7 +175,7 @@ fn only(component: usize) -> [bool; 4] {
     group
 }
 
-/// The level of a first scan.
+/// Returns the level of a first scan.
 fn first_level(random: &mut Random) -> u8 {
     low_byte(random.one_of(&[0, 0, 0, 1, 1, 2, 2, 3, 4, 7]))
 }

@@ -19,7 +19,7 @@ pub struct Spots {
 }
 
 impl Spots {
-    /// The blocks of a scan of these components.
+    /// Returns the blocks of a scan of these components.
     pub fn new(alloc: Global, image: &Image, includes: [bool; 4]) -> Result<Spots, AllocError> {
         let mut spots = Spots {
             all: Vec::new(alloc),
@@ -104,7 +104,7 @@ impl Spots {
     }
 }
 
-/// From where to where a part of this size goes.
+/// Returns from where to where a part of this size goes.
 fn part(number: usize, size: usize) -> (usize, usize) {
     let start = number.saturating_mul(size);
     (start, start.saturating_add(size))

@@ -21,7 +21,7 @@ pub struct Stream {
 }
 
 impl Stream {
-    /// A stream that begins with SOI.
+    /// Returns a stream that begins with SOI.
     pub fn new(alloc: Global, seed: u64, is_plain: bool) -> Result<Stream, AllocError> {
         let mut tables = Vec::new(alloc);
         for _ in 0..8 {
@@ -39,7 +39,7 @@ impl Stream {
         })
     }
 
-    /// True once in this many times, and never in a plain stream.
+    /// Returns true once in this many times, and never in a plain stream.
     pub fn chooses(&mut self, count: usize) -> bool {
         !self.is_plain && self.random.is_one_in(count)
     }
@@ -141,7 +141,7 @@ impl Stream {
         Ok(())
     }
 
-    /// The table and the symbol of a token that is a symbol.
+    /// Returns the table and the symbol of a token that is a symbol.
     fn coded(&self, token: Token) -> Option<(usize, u8)> {
         match token {
             Token::Dc(component, symbol) => Some((self.destinations.get(component)?.0, symbol)),

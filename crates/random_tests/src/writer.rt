@@ -109,7 +109,7 @@ impl Writer {
         self.stream.put_segment(code, &payload)
     }
 
-    /// A scan that may follow.
+    /// Returns a scan that may follow.
     fn next_scan(&mut self, image: &Image, levels: &Levels) -> Scan {
         match self.way {
             Way::Progressive => levels.progressive_scan(&mut self.stream.random, image),
@@ -147,7 +147,7 @@ impl Writer {
         Ok(())
     }
 
-    /// What a scan codes of its blocks, and of random blocks in the places of padding.
+    /// Returns what a scan codes of its blocks, and of random blocks in the places of padding.
     fn tokens(
         &mut self,
         image: &Image,
@@ -171,7 +171,7 @@ impl Writer {
         Ok(coder.tokens)
     }
 
-    /// How many destinations there are for the tables of a class.
+    /// Returns how many destinations there are for the tables of a class.
     fn tables_a_class(&self) -> usize {
         match self.way {
             Way::Plain => 1,
@@ -180,7 +180,7 @@ impl Writer {
         }
     }
 
-    /// The symbols that a scan codes by a table. One at least, where it names the table.
+    /// Returns the symbols that a scan codes by a table. One at least, where it names the table.
     fn symbols(&self, table: usize, scan: Scan, tokens: &[Token]) -> Result<Vec<u8>, AllocError> {
         let mut symbols = Vec::new(self.stream.alloc);
         if self.names(table, scan) {
@@ -190,7 +190,7 @@ impl Writer {
         Ok(symbols)
     }
 
-    /// Whether a scan codes a component by a table.
+    /// Returns whether a scan codes a component by a table.
     fn names(&self, table: usize, scan: Scan) -> bool {
         let mut names = false;
         for ((dc, ac), is_included) in self.stream.destinations.iter().zip(scan.includes) {
@@ -224,8 +224,8 @@ impl Writer {
     }
 }
 
-/// The destinations of a component's tables in the header of a scan: 0 for a table that it doesn't
-/// want.
+/// Returns the destinations of a component's tables in the header of a scan: 0 for a table that it
+/// doesn't want.
 fn table_destinations(scan: Scan, dc: usize, ac: usize) -> usize {
     let dc = if scan.start == 0 { dc } else { 0 };
     let ac = if scan.end == 0 { 0 } else { ac };

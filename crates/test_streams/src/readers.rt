@@ -39,7 +39,7 @@ pub enum Trouble {
 const TEXT: &str = "wrong call";
 
 impl Trouble {
-    /// The error of a call that goes wrong.
+    /// Returns the error of a call that goes wrong.
     fn error(self) -> io::Error {
         let kind = match self {
             Trouble::Fails | Trouble::TakesNothing => ErrorKind::Other,
@@ -50,7 +50,7 @@ impl Trouble {
     }
 }
 
-/// Whether an answer is the very error, of this kind, of a call that went wrong.
+/// Returns whether an answer is the very error, of this kind, of a call that went wrong.
 pub fn is_own_error<T>(
     alloc: Global,
     answer: &Result<T, Error>,
@@ -76,7 +76,8 @@ pub struct Reader<'a> {
 }
 
 impl<'a> Reader<'a> {
-    /// A reader of these bytes, at most `piece` a call, whose call of this number goes wrong.
+    /// Returns a reader of these bytes, at most `piece` a call, whose call of this number goes
+    /// wrong.
     pub fn new(rest: &'a [u8], piece: usize, wrong_call: usize, trouble: Trouble) -> Reader<'a> {
         Reader {
             rest,
@@ -113,7 +114,7 @@ pub struct Counts {
 }
 
 impl Counts {
-    /// No call and no byte.
+    /// Returns the counts of no call and no byte.
     pub fn new() -> Counts {
         Counts {
             calls: Cell::new(0),
@@ -170,7 +171,7 @@ impl Read for Ended<'_> {
     }
 }
 
-/// Whether an answer is the error of a reader that was asked for more than it has.
+/// Returns whether an answer is the error of a reader that was asked for more than it has.
 pub fn is_read_after_the_end<T>(alloc: Global, answer: &Result<T, Error>) -> Result<bool, Fail> {
     match answer {
         Err(Error::Io(error)) => {
@@ -193,8 +194,8 @@ pub struct Writer<'a> {
 }
 
 impl<'a> Writer<'a> {
-    /// A writer that appends to `taken`, at most `piece` bytes a call, whose call of this number
-    /// goes wrong.
+    /// Returns a writer that appends to `taken`, at most `piece` bytes a call, whose call of this
+    /// number goes wrong.
     pub fn new(
         taken: &'a mut Vec<u8>,
         piece: usize,
@@ -253,7 +254,7 @@ impl<T: Drop> Interrupted<T> {
         }
     }
 
-    /// Whether the next call is an interruption.
+    /// Returns whether the next call is an interruption.
     fn interrupts(&mut self) -> bool {
         match self.left.checked_sub(1) {
             Some(left) => {

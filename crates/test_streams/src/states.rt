@@ -2,12 +2,12 @@
 
 use jpeg_bits::error::Error;
 
-/// Whether a call was refused after the end of the image.
+/// Returns whether a call was refused after the end of the image.
 pub fn is_finished<T>(answer: &Result<T, Error>) -> bool {
     matches!(answer, Err(Error::Internal("image was already decoded")))
 }
 
-/// Whether a call was refused after a refusal.
+/// Returns whether a call was refused after a refusal.
 pub fn is_failed<T>(answer: &Result<T, Error>) -> bool {
     matches!(answer, Err(Error::Internal("decoder has failed")))
 }

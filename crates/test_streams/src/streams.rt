@@ -29,13 +29,12 @@ pub const REST: &str =
 /// A stream of one block, whose 64 samples are 129.
 pub const ONE_BLOCK: [&str; 8] = ["FFD8", ONES, FRAME, DC_4, AC_0, SCAN, "43", END];
 
-/// The bytes of words. A word is hex digits, which stand as often as a star and a number after them
-/// say, or segments by their letter and their own bytes in brackets:
-/// - `Q(v)`: quantization table 0, 64 times `v`;
-/// - `D(s)`, `A(s)`: DC or AC table 0, whose one code is the bit 0 and stands for `s`;
-/// - `F(m)`: a frame of the marker FF `m`, of 8 by 8 samples of component 1;
-/// - `S(p)`: a scan of component 1 by tables 0, with the three bytes `p` (Ss, Se, Ah and Al);
-/// - `P(n)`: an ICC profile in `n` parts, the last first, each of one byte, which is its number.
+/// Returns the bytes of words. A word is hex digits, which stand as often as a star and a number
+/// after them say, or segments by their letter and their own bytes in brackets: - `Q(v)`:
+/// quantization table 0, 64 times `v`; - `D(s)`, `A(s)`: DC or AC table 0, whose one code is the
+/// bit 0 and stands for `s`; - `F(m)`: a frame of the marker FF `m`, of 8 by 8 samples of component
+/// 1; - `S(p)`: a scan of component 1 by tables 0, with the three bytes `p` (Ss, Se, Ah and Al); -
+/// `P(n)`: an ICC profile in `n` parts, the last first, each of one byte, which is its number.
 pub fn bytes(alloc: Global, pieces: &[&str]) -> Result<Vec<u8>, Fail> {
     let mut all = Vec::new(alloc);
     for piece in pieces {
