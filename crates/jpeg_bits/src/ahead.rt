@@ -434,7 +434,8 @@ impl BufferedBits {
         table.short_value_of(self.bits.front_8())
     }
 
-    /// Returns what `short_value` does, where they are at most 11, and the table for them is filled.
+    /// Returns what `short_value` does, where they are at most 11, and the table for them is
+    /// filled.
     #[inline(always)]
     #[tactic(auto, using(crate::proofs::ShortLemmas::eleven_front))]
     pub(crate) fn wide_value(&self, table: &HuffmanTable) -> Option<(i16, u8, u8)>
