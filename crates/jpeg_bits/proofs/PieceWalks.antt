@@ -338,12 +338,12 @@ pub ruleset distances = (pow_mono, unsigned_bit, small_distance)
 -- ---- the bits of a mask, and the coefficients that they stand for
 
 -- each coefficient fits, by what its type says
-pub block_fits : (xs : List ℤ) (us : List Val) → shadow (each_item ℤ (SInt w16).own_val xs us) → (k : ℕ)
+pub all_fit : (xs : List ℤ) (us : List Val) → shadow (each_item ℤ (SInt w16).own_val xs us) → (k : ℕ)
     → FitsSigned w16 (get_or xs k (pos 0))
-block_fits [] us p k = record { sfits = lit< tt }
-block_fits (x ∷ xs) [] p k = absurd p
-block_fits (x ∷ xs) (u ∷ us) p zero = record { sfits = p.0.1 }
-block_fits (x ∷ xs) (u ∷ us) p (suc k) = block_fits xs us p.1 k
+all_fit [] us p k = record { sfits = lit< tt }
+all_fit (x ∷ xs) [] p k = absurd p
+all_fit (x ∷ xs) (u ∷ us) p zero = record { sfits = p.0.1 }
+all_fit (x ∷ xs) (u ∷ us) p (suc k) = all_fit xs us p.1 k
 
 -- ---- the zeros before the next bit that is set
 
@@ -542,5 +542,3 @@ module _ (al from end : ℕ) (block : List ℤ) (within : end ≤ 64) where
   at-last-gap gap r k t after last some zeros =
       at-skips gap r k t after (omega (arith, last)) some zeros
       ∙ at-end al (r - gap) from end (k + gap) block t within last
-
-pub ruleset marks = (marked_lanes, block_fits)

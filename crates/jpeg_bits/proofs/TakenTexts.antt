@@ -1,7 +1,7 @@
 -- Readers of entropy-coded bits go by the bits of a text and its end alone, and take some first bits.
-use Rattle.std.proofs.Common.{rules, ◌≡◌, ◌⊎◌, inl, ℕ, zero, suc, ◌+◌, Bool, true, false, List, [], ◌∷◌}
+use Rattle.std.proofs.Common.{rules, ◌≡◌, ◌⊎◌, inl, ℕ, zero, suc, ◌+◌, Bool, false, List, [], ◌∷◌}
 use Rattle.std.proofs.Common.{◌++◌, take, drop, replicate, refl, ap, ap₂, ◌∙◌, arith, Ok, Err, Result}
-use Rattle.std.proofs.Common.{Option, Some, None, ℤ, pos, get_or, set, slice_index, if◌then◌else◌}
+use Rattle.std.proofs.Common.{Option, Some, None, ℤ, slice_index, if◌then◌else◌}
 use Rattle.std.proofs.lemmas.List.{drop-drop}
 use Rattle.std.proofs.lemmas.Grind.{common_steps}
 use Rattle.jpeg_bits.specs.Reading.{Fault, End, Malformed}

@@ -145,7 +145,7 @@ fn correct<R: Read + Drop>(
 
 /// Marks the coefficients of a block that aren't 0 by 1, and the others by 0.
 #[inline(always)]
-#[tactic(auto, using(crate::proofs::PieceWalks::marks))]
+#[tactic(auto, using(crate::proofs::PieceWalks::marked_lanes, crate::proofs::PieceWalks::all_fit))]
 fn marked(block: [i16; 64]) -> u16x64
     ensures { result ≡ map marked block }
 {

@@ -354,7 +354,7 @@ samples-whole samples cs planes h e = samples-from samples 0 cs planes h e
 pub on-ok : {X P : Type 0} (r : Result X Error) → P → OnOk r P
 on-ok r p = grind (arith, common_steps)
 
-coding_found : Found → Frame → Scan → Coding
+abbrev pub coding_found : Found → Frame → Scan → Coding
 coding_found found frame scan = record {
   wide = mcus_wide frame scan.components;
   high = mcus_high frame scan.components;

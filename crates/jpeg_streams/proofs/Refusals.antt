@@ -12,7 +12,6 @@ use Rattle.jpeg_streams.specs.Found.{nothing_found, nothing_said}
 use Rattle.jpeg_streams.specs.Pixels.{info_of}
 use Rattle.jpeg_streams.specs.Output.{output_of, header_line_of, default_settings}
 use Rattle.jpeg_streams.specs.Output.{IsOutsideOrMemory, NamesOrOutside}
-use Rattle.jpeg_bits.specs.declared.error.Error.TheVariants as errors
 
 pub short-step : (counter : ℕ) (met : Option Marker) (s first : Stream) → (0 < counter → IsShort first)
     → (counter ≡ 0 → (met ≡ None) × (s ≡ first)) → (met ≡ None → IsShort s) → IsShort first

@@ -7,7 +7,7 @@ use Rattle.jpeg_streams.proofs.OnLiterals.{samples_on_literals, streams_on_liter
 use Rattle.std.proofs.Common.{rules, ◌≡◌, ℕ, zero, suc, ◌+◌, ◌-◌, ◌*◌, ◌==◌, ◌&&◌, not, nat_lt, Bool, true, false}
 use Rattle.std.proofs.Common.{List, [], ◌∷◌, ◌++◌, length, drop, map, Option, Some, None, Ok, Err, Result, is_ok}
 use Rattle.std.proofs.Common.{is_some, option_map, refl, sym, ap, ◌∙◌, subst, arith, ◌%◌, ℤ, pos, negsuc, ap₂, ◌≢◌}
-use Rattle.std.proofs.Common.{◌≤◌, unsigned_abs, true≢false}
+use Rattle.std.proofs.Common.{unsigned_abs, true≢false}
 use Rattle.std.proofs.lemmas.Bool.{and_parts, ltb-true, not-true, eq-eqb, eqb-true, leb-true, ne_eqb}
 use Rattle.std.proofs.lemmas.Bool.Decides.{nat_tests}
 use Rattle.std.proofs.lemmas.Grind.{common_steps}

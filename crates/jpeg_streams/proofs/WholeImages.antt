@@ -26,7 +26,6 @@ use Rattle.jpeg_streams.proofs.BroughtLevels.{after-length}
 use Rattle.jpeg_streams.proofs.LimitedPictures.{array_plane, limited-same}
 use Rattle.jpeg_streams.specs.WrittenImages.{WritesImage}
 use Rattle.jpeg_streams.specs.WholeImages.{whole_meaning, AllComplete}
-use Rattle.jpeg_streams.proofs.ReadTurns.{same-frame}
 use Rattle.jpeg_streams.proofs.WalkedStreams.{keeps}
 use Rattle.jpeg_bits.proofs.BandSteps.{bind_same}
 use Rattle.jpeg_streams.proofs.Apart.{map-same}

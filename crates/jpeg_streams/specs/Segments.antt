@@ -7,8 +7,7 @@ use Rattle.jpeg_bits.specs.Reading.{Outcome, Fault, Lacks, ◌>>=◌, length_at,
 use Rattle.jpeg_bits.specs.declared.marker.Marker.{Marker}
 use Rattle.jpeg_bits.specs.declared.error.UnsupportedFeature.TheVariants as features
 use Rattle.jpeg_segments.specs.declared.parser.CodingProcess.{CodingProcess}
-use Rattle.jpeg_segments.specs.declared.parser.CodingProcess.TheVariants.{DctSequential}
-use Rattle.jpeg_segments.specs.declared.parser.CodingProcess.TheVariants.{DctProgressive, Lossless}
+use Rattle.jpeg_segments.specs.declared.parser.CodingProcess.TheVariants.{Lossless}
 use Rattle.jpeg_segments.specs.declared.parser.EntropyCoding.{EntropyCoding}
 use Rattle.jpeg_segments.specs.declared.parser.EntropyCoding.TheVariants.{Huffman, Arithmetic}
 use Rattle.jpeg_segments.specs.Frame.{Frame, sof_at}

@@ -1,5 +1,5 @@
 use Rattle.std.proofs.lemmas.Grind.{common_steps}
-use Rattle.std.proofs.Common.{◌≡◌, ◌==◌, get_or, refl, Option, arith, rules}
+use Rattle.std.proofs.Common.{◌≡◌, ◌==◌, get_or, Option, arith, rules}
 use Rattle.jpeg_bits.specs.Codes.{Table}
 use Rattle.jpeg_segments.specs.FrameView.{frame_in, scan_in}
 use Rattle.jpeg_decoder.specs.Steps.{coding_in_slot, table_if}
