@@ -8,8 +8,6 @@ pub mod byte_reader;
 pub mod codes;
 pub mod color_transform;
 mod default_tables;
-#[cfg(test)]
-mod default_tables_tests;
 pub mod error;
 pub mod huffman;
 pub mod laws;
@@ -20,7 +18,5 @@ mod refinement;
 pub mod scan;
 pub mod slice_reader;
 pub mod source;
-#[cfg(test)]
-mod tests;
 mod tokens;
 mod zigzag;

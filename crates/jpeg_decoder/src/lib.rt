@@ -33,8 +33,6 @@
 
 mod codings;
 mod color_choice;
-#[cfg(test)]
-mod color_choice_tests;
 mod decoded;
 pub mod decoder;
 mod frames;
@@ -45,8 +43,6 @@ mod lossless_scans;
 pub mod memory;
 mod metadata;
 pub mod orientation;
-#[cfg(test)]
-mod orientation_tests;
 mod picture;
 mod planes;
 mod profile;
@@ -59,8 +55,6 @@ mod scan_segment;
 mod scans;
 mod sequential;
 mod spots;
-#[cfg(test)]
-mod spots_tests;
 mod state;
 mod strips;
 mod tables;

@@ -235,6 +235,11 @@ pub fn known_choices()
         ≡ transforms.YCbCr }
     ensures letters { transform_of None (82 ∷ 71 ∷ 66 ∷ []) true (Some adobe.YCbCr)
         ≡ transforms.RGB }
+    ensures big_gamut_ycc { transform_of None (1 ∷ 34 ∷ 35 ∷ []) true None ≡ transforms.JcsBgYcc }
+    ensures big_gamut_rgb { transform_of None (114 ∷ 103 ∷ 98 ∷ []) true None
+        ≡ transforms.JcsBgRgb }
+    ensures three_ycck { transform_of None (0 ∷ 1 ∷ 2 ∷ []) false (Some adobe.YCCK)
+        ≡ transforms.YCCK }
     ensures set { transform_of (Some transforms.None) (1 ∷ 2 ∷ 3 ∷ []) true None ≡ transforms.None }
     ensures four { transform_of None (1 ∷ 2 ∷ 3 ∷ 4 ∷ []) true None ≡ transforms.CMYK }
     ensures four_unknown { transform_of None (1 ∷ 2 ∷ 3 ∷ 4 ∷ []) false (Some adobe.Unknown)

@@ -9,5 +9,3 @@ mod parts;
 mod picture;
 mod planes;
 pub mod scan;
-#[cfg(test)]
-mod tests;

@@ -6,7 +6,6 @@ pub mod Sums
 pub mod Fours
 pub mod RuleRatios
 pub mod FrameCovers
-pub mod FramesOfFactors
 pub mod ComponentLines
 pub mod GivenRows
 pub mod Growing

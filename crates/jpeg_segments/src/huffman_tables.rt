@@ -155,7 +155,7 @@ fn no_tables(alloc: Global) -> std::result::Result<Vec<Option<HuffmanTable>>, Al
     Ok(vec![in alloc; None, None, None, None]?)
 }
 
-/// Puts one more table to those that were read.
+/// Adds a table to those that were read.
 fn put_table(tables: &mut DefinedTables, placed: DefinedTable)
     requires dc { length tables.old.0.items ≡ 4 }
     requires ac { length tables.old.1.items ≡ 4 }

@@ -9,5 +9,3 @@ pub mod parser;
 mod quantization;
 mod scan_header;
 pub mod sizes;
-#[cfg(test)]
-mod tests;

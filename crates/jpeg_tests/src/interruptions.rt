@@ -7,6 +7,7 @@ use std::io::ErrorKind;
 use std::test::Fail;
 use test_streams::named::STREAMS;
 use test_streams::readers::{Interrupted, Reader, Trouble, Writer};
+use test_streams::states::is_picture;
 use test_streams::streams::{ONE_BLOCK, bytes};
 
 #[test]
@@ -16,7 +17,7 @@ fn many_interruptions_of_each_read_change_nothing(rt: HostRuntime) -> Result<(),
     let mut decoder = Decoder::new(rt.alloc(), Interrupted::new(reader))?;
     decoder.read_info()?;
     assert!(rt; decoder.info().is_some());
-    assert_eq!(rt; decoder.decode()?.as_slice(), [129; 64].as_slice());
+    assert!(rt; is_picture(&decoder.decode(), &[129; 64]));
     Ok(())
 }
 

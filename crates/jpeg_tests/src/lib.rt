@@ -19,6 +19,8 @@ mod metadata;
 #[cfg(test)]
 mod named_reads;
 #[cfg(test)]
+mod orientations;
+#[cfg(test)]
 mod parts;
 #[cfg(test)]
 mod program;

@@ -7,7 +7,7 @@ use std::io::ErrorKind;
 use std::process::Abort;
 use std::test::Fail;
 use test_streams::readers::{Reader, STEPS, Trouble};
-use test_streams::states::is_failed;
+use test_streams::states::{is_failed, is_picture};
 use test_streams::streams::bytes;
 
 /// What a stream gives: its picture, or the name of its refusal.
@@ -104,10 +104,7 @@ pub fn decodes_as_wanted(
 ) -> Result<bool, Fail> {
     let answer = decoder.decode();
     match picture_of(alloc, gives)? {
-        Some(picture) => Ok(match &answer {
-            Ok(samples) => samples.as_slice() == picture.as_slice(),
-            Err(_) => false,
-        }),
+        Some(picture) => Ok(is_picture(&answer, &picture)),
         None => { Ok(is_refusal(&answer, gives) && is_failed(&decoder.decode())) }
     }
 }

@@ -5,6 +5,7 @@ use std::alloc::Global;
 use std::process::Abort;
 use std::test::Fail;
 use test_streams::readers::{Reader, STEPS, Trouble};
+use test_streams::states::is_picture;
 use test_streams::streams::bytes;
 
 /// A size, in columns and lines.
@@ -170,7 +171,7 @@ fn assert_sized(
     assert!(rt; decoder.scale(asked.0, asked.1)? == size, "{name}: size");
     let info: ImageInfo = decoder.info().ok_or("no info")?;
     assert!(rt; (info.width, info.height) == size, "{name}: info");
-    assert!(rt; decoder.decode()?.as_slice() == picture, "{name}");
+    assert!(rt; is_picture(&decoder.decode(), picture), "{name}");
     Ok(())
 }
 
@@ -233,7 +234,7 @@ fn a_finished_decoder_is_scaled(rt: HostRuntime) -> Result<(), Fail> {
     let stream = "FFD8 Q(01) F(C0) D(04) A(00) S(003F00) 43 FFD9";
     let stream = bytes(rt.alloc(), &[stream])?;
     let mut decoder = Decoder::new(rt.alloc(), stream.as_slice())?;
-    assert!(rt; decoder.decode()?.as_slice() == [129; 64].as_slice());
+    assert!(rt; is_picture(&decoder.decode(), &[129; 64]));
     assert!(rt; takes_size(&mut decoder, (2, 2), (2, 2)));
     Ok(())
 }

@@ -58,14 +58,23 @@ fn assert_samples(rt: &impl Abort, name: &str, samples: &[u8]) {
     assert!(rt; goes_down(samples), "{name}");
 }
 
-/// Asserts what a longest picture is, by `decode` and by `run`.
-fn assert_longest(rt: &impl Abort, alloc: Global, longest: (&str, &str, &str)) -> Result<(), Fail> {
-    let (name, text, header) = longest;
-    let stream = bytes(alloc, &[text])?;
-    let mut decoder = Decoder::new(alloc, stream.as_slice())?;
+/// Asserts what `decode` returns of a longest picture.
+fn assert_decoded(rt: &impl Abort, alloc: Global, name: &str, stream: &[u8]) -> Result<(), Fail> {
+    let mut decoder = Decoder::new(alloc, stream)?;
     assert_samples(rt, name, &decoder.decode()?);
+    Ok(())
+}
+
+/// Asserts what `run` writes of a longest picture, after this line.
+fn assert_written(
+    rt: &impl Abort,
+    alloc: Global,
+    name: &str,
+    stream: &[u8],
+    header: &str,
+) -> Result<(), Fail> {
     let mut written = Vec::new(alloc);
-    run(alloc, stream.as_slice(), &mut written)?;
+    run(alloc, stream, &mut written)?;
     let pixels = written
         .as_slice()
         .strip_prefix(header.as_bytes())
@@ -76,8 +85,10 @@ fn assert_longest(rt: &impl Abort, alloc: Global, longest: (&str, &str, &str)) -
 
 #[test]
 fn longest_columns_and_lines_are_decoded(rt: HostRuntime) -> Result<(), Fail> {
-    for longest in LONGEST {
-        assert_longest(&rt, rt.alloc(), longest)?;
+    for (name, text, header) in LONGEST {
+        let stream = bytes(rt.alloc(), &[text])?;
+        assert_decoded(&rt, rt.alloc(), name, &stream)?;
+        assert_written(&rt, rt.alloc(), name, &stream, header)?;
     }
     Ok(())
 }
@@ -96,8 +107,8 @@ fn the_header_of_the_largest_picture_is_read(rt: HostRuntime) -> Result<(), Fail
     let mut decoder = Decoder::new(rt.alloc(), stream.as_slice())?;
     assert!(rt; decoder.read_info().is_ok());
     assert!(rt; size_in(&decoder) == Some((65535, 65535)));
-    assert!(rt; decoder.scale(1, 1)? == (8192, 8192));
+    assert!(rt; matches!(decoder.scale(1, 1), Ok((8192, 8192))));
     assert!(rt; size_in(&decoder) == Some((8192, 8192)));
-    assert!(rt; decoder.scale(u16::MAX, u16::MAX)? == (65535, 65535));
+    assert!(rt; matches!(decoder.scale(u16::MAX, u16::MAX), Ok((65535, 65535))));
     Ok(())
 }

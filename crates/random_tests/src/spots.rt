@@ -104,7 +104,7 @@ impl Spots {
     }
 }
 
-/// Returns from where to where a part of this size goes.
+/// Returns the index of the first of a part of this size, and the index after its last.
 fn part(number: usize, size: usize) -> (usize, usize) {
     let start = number.saturating_mul(size);
     (start, start.saturating_add(size))

@@ -1,6 +1,14 @@
-//! What a decoder that has ended answers to each further call.
+//! What a decoder answers: a picture, and to each further call, once it has ended.
 
 use jpeg_bits::error::Error;
+
+/// Returns whether a call returned these samples.
+pub fn is_picture(answer: &Result<Vec<u8>, Error>, samples: &[u8]) -> bool {
+    match answer {
+        Ok(picture) => picture.as_slice() == samples,
+        Err(_) => false,
+    }
+}
 
 /// Returns whether a call was refused after the end of the image.
 pub fn is_finished<T>(answer: &Result<T, Error>) -> bool {

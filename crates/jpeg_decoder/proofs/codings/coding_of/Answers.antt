@@ -39,6 +39,10 @@ has-ac c = (
       (omega arith) c.index-ac_destination.ensures (rw c.deref-3.ensures.value at c.table_in_force-ac.ensures),
 )
 
+-- two facts as one
+both : {A B : Type 0} → A → B → A × B
+both a b = (a, b)
+
 pub returns-in_err-quantization : goal.returns-in_err-quantization
 returns-in_err-quantization c =
     let p = err_from_is_err_and c.from_residual-in_err-quantization.result c.from_residual-in_err-quantization.ensures.1 in
@@ -49,16 +53,14 @@ pub returns-in_err-dc : goal.returns-in_err-dc
 returns-in_err-dc c =
     let p = err_from_is_err_and c.from_residual-in_err-dc.result c.from_residual-in_err-dc.ensures.1 in
     let at = goal.at.returns-in_err-dc c in
-    let is = coded at.After-table_at-quantization in
-    let dc = (has-dc at.After-table_in_force-dc).1 in
+    let known = both (coded at.After-table_at-quantization) (has-dc at.After-table_in_force-dc).1 in
     grind (arith, common_steps, refused-through, bind_err)
 
 pub returns-in_err-ac : goal.returns-in_err-ac
 returns-in_err-ac c =
     let p = err_from_is_err_and c.from_residual-in_err-ac.result c.from_residual-in_err-ac.ensures.1 in
     let at = goal.at.returns-in_err-ac c in
-    let is = coded at.After-table_at-quantization in
-    let dc = (has-dc at.After-table_in_force-dc).1 in
+    let known = both (coded at.After-table_at-quantization) (has-dc at.After-table_in_force-dc).1 in
     let ac = (has-ac at.After-table_in_force-ac).1 in
     grind (arith, common_steps, refused-through, bind_err)
 

@@ -1,0 +1,5 @@
+//! Tests of `jpeg_lossless`: predictions, and the samples of scans.
+#![tactic(auto)]
+
+#[cfg(test)]
+mod scans;
