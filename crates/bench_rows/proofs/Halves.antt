@@ -3,7 +3,7 @@ use Rattle.std.proofs.Common.{◌≡◌, ℕ, List, [], ◌∷◌, length, map, 
 use Rattle.std.proofs.lemmas.List.Elements.{All-cons, All-nil}
 use Rattle.jpeg_segments.specs.Frame.{Factors, IsInRange, component_of, frame_of}
 use Rattle.jpeg_pixels.specs.Pictures.{HaveRoom}
-use Rattle.jpeg_pixels.proofs.FramesOfFactors.{by_factors, components}
+use Rattle.pixels_tests.proofs.FramesOfFactors.{by_factors, components}
 
 abbrev pub factors : List Factors
 factors = by_factors 2 2 ∷ by_factors 1 1 ∷ by_factors 1 1 ∷ []

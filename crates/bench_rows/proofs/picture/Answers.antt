@@ -1,7 +1,7 @@
 use Rattle.std.proofs.Common.{[], ◌∷◌, map, arith}
 use Rattle.jpeg_segments.specs.Frame.{component_of, frame_of}
 use Rattle.jpeg_segments.specs.FrameView.{component_in}
-use Rattle.jpeg_pixels.proofs.FramesOfFactors.{are-covered, have-factors}
+use Rattle.pixels_tests.proofs.FramesOfFactors.{are-covered, have-factors}
 use Rattle.bench_rows.proofs.Halves.{are-factors, factors, have-room}
 use Rattle.bench_rows.proofs.picture.Goals as goal
 
