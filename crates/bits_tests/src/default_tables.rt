@@ -1,5 +1,5 @@
 //! The default tables (T.81, K.3).
-use crate::steps::{Step, right_steps};
+use crate::steps::{Step, are_right};
 use jpeg_bits::error::Error;
 use jpeg_bits::huffman::{
     HuffmanDecoder, HuffmanTable, HuffmanTableClass, fill_default_mjpeg_tables,
@@ -86,7 +86,7 @@ fn codes_of_more_than_8_bits(rt: HostRuntime) -> Result<(), Fail> {
         Step::Symbol(0xfa),
         Step::Bits(5, 0),
     ];
-    assert_eq!(rt; right_steps(rt.alloc(), &table, &bytes, 7, &steps)?, 5);
+    assert!(rt; are_right(rt.alloc(), &table, &bytes, 7, &steps)?);
     Ok(())
 }
 
@@ -94,7 +94,7 @@ fn codes_of_more_than_8_bits(rt: HostRuntime) -> Result<(), Fail> {
 fn ones_are_no_code(rt: HostRuntime) -> Result<(), Fail> {
     let table = luminance_ac(rt.alloc())?;
     let bytes = [0xff, 0, 0xff, 0, 0xff, 0xd9];
-    let right = right_steps(rt.alloc(), &table, &bytes, 6, &[Step::Symbol(0)]);
+    let right = are_right(rt.alloc(), &table, &bytes, 6, &[Step::Symbol(0)]);
     assert!(rt; matches!(right, Err(Error::Format(_))));
     Ok(())
 }
@@ -112,6 +112,6 @@ fn values_of_at_most_8_bits(rt: HostRuntime) -> Result<(), Fail> {
         Step::Value(None),
         Step::Bits(4, 0b1010),
     ];
-    assert_eq!(rt; right_steps(rt.alloc(), &table, &bytes, 5, &steps)?, 6);
+    assert!(rt; are_right(rt.alloc(), &table, &bytes, 5, &steps)?);
     Ok(())
 }

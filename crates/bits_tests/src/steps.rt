@@ -1,4 +1,4 @@
-//! Steps by which entropy-coded data is read, and how many of them come out right.
+//! Steps by which entropy-coded data is read, and whether they come out right.
 use crate::readers::reader_of;
 use jpeg_bits::error::Error;
 use jpeg_bits::huffman::{HuffmanDecoder, HuffmanTable};
@@ -40,23 +40,21 @@ fn is_right(
     }
 }
 
-/// Returns how many of some steps come out right, one after the other, of bytes that are read `piece`
-/// at a time, by the codes of a table.
-pub fn right_steps(
+/// Returns whether each of some steps comes out right, one after the other, of bytes that are read
+/// `piece` at a time, by the codes of a table.
+pub fn are_right(
     alloc: Global,
     table: &HuffmanTable,
     bytes: &[u8],
     piece: usize,
     steps: &[Step],
-) -> Result<usize, Error> {
+) -> Result<bool, Error> {
     let mut source = Source::new(reader_of(bytes, piece));
     let mut decoder = HuffmanDecoder::new(alloc);
-    let mut right = 0usize;
     for step in steps {
         if !is_right(&mut decoder, &mut source, table, *step)? {
-            break;
+            return Ok(false);
         }
-        right = right.wrapping_add(1);
     }
-    Ok(right)
+    Ok(true)
 }
