@@ -1,8 +1,11 @@
-"""Times whole decodings of a picture of 2000x1500, coded in several ways, beside other programs: of the program, and from memory.
+"""Times whole decodings of a picture of 2000x1500, coded in several ways, beside other programs: of
+the program, and from memory.
 
-decode.py JPEGRAW THUMBNAIL BENCH_MEMORY FOLDER [PEER..]: the programs of this repository, a folder for the files, and programs that read
-a JPEG file named by their argument, `PEER FILE`, and for a scaled picture `PEER --scale WIDTHxHEIGHT FILE`; with `--repeat N` before
-these they decode N times from memory, and print `best TIME ms`. djpeg is one more, with SIMD and without, and from memory tjbench.
+decode.py JPEGRAW THUMBNAIL BENCH_MEMORY FOLDER [PEER..]: the programs of this repository, a folder
+for the files, and programs that read a JPEG file named by their argument, `PEER FILE`, and for a
+scaled picture `PEER --scale WIDTHxHEIGHT FILE`; with `--repeat N` before these they decode N times
+from memory, and print `best TIME ms`. djpeg is one more, with SIMD and without, and from memory
+tjbench.
 """
 
 import os
@@ -26,8 +29,12 @@ CODINGS = {
     "4:4:4, progressive": ["-sample", "1x1", "-progressive"],
     "4:2:0, progressive": ["-sample", "2x2", "-progressive"],
 }
-# A heap that keeps what is given back: else glibc returns the memory of a large picture to the system, and the next decoding's is fresh.
-KEPT = {"GLIBC_TUNABLES": "glibc.malloc.trim_threshold=2000000000:glibc.malloc.mmap_threshold=2000000000"}
+# A heap that keeps what is given back: else glibc returns the memory of a large picture to the
+# system, and the next decoding's is fresh.
+KEPT = {
+    "GLIBC_TUNABLES": "glibc.malloc.trim_threshold=2000000000"
+    ":glibc.malloc.mmap_threshold=2000000000"
+}
 THUMBNAIL_OF = {"1/8 of 4:2:0": "4:2:0", "1/8 of 4:2:0, progressive": "4:2:0, progressive"}
 SMALL = -(-WIDTH // 8), -(-HEIGHT // 8)
 
@@ -53,15 +60,19 @@ class Program:
         return usage.ru_utime + usage.ru_stime if process.returncode == 0 else None
 
     def peak(self, kind, path):
-        """The most memory that it holds for a file, in bytes. A small program starts it, since what starts it counts too."""
+        """The most memory that it holds for a file, in bytes. A small program starts it, since what
+        starts it counts too."""
         with open(path, "rb") as stdin:
             words = ["/usr/bin/time", "-f", "%M", *self.words(kind)]
-            done = subprocess.run(words, stdin=stdin, stdout=subprocess.DEVNULL, stderr=subprocess.PIPE, check=True)
+            done = subprocess.run(
+                words, stdin=stdin, stdout=subprocess.DEVNULL, stderr=subprocess.PIPE, check=True
+            )
         return 1024 * int(done.stderr)
 
 
 class Memory:
-    """A program that decodes from memory: its words for a file, whole or at 1/8, and where it prints its milliseconds."""
+    """A program that decodes from memory: its words for a file, whole or at 1/8, and where it
+    prints its milliseconds."""
 
     def __init__(self, name, whole, small, pattern, to_ms, environment=None):
         self.name, self.whole, self.small, self.to_ms = name, whole, small, to_ms
@@ -70,9 +81,18 @@ class Memory:
 
     def run(self, kind, path, more=None):
         """The milliseconds of the fastest of its decodings, or None where it refuses the file."""
-        words = [path if word == "FILE" else word for word in (self.small if kind in THUMBNAIL_OF else self.whole)]
+        words = [
+            path if word == "FILE" else word
+            for word in (self.small if kind in THUMBNAIL_OF else self.whole)
+        ]
         with open(path, "rb") as stdin:
-            done = subprocess.run(words, stdin=stdin, env=self.environment | (more or {}), capture_output=True, text=True)
+            done = subprocess.run(
+                words,
+                stdin=stdin,
+                env=self.environment | (more or {}),
+                capture_output=True,
+                text=True,
+            )
         found = self.pattern.search(done.stdout + done.stderr) if done.returncode == 0 else None
         return self.to_ms(float(found[1])) if found else None
 
@@ -82,14 +102,37 @@ def memory_programs(bench_memory, peers, decodings=DECODINGS):
     size = "%dx%d" % SMALL
     times = str(decodings)
     ours = [bench_memory, times]
-    yield Memory("ours", ours, [*ours, *map(str, SMALL)], r"(\d+)\n\Z", lambda micros: micros / 1000)
+    yield Memory(
+        "ours", ours, [*ours, *map(str, SMALL)], r"(\d+)\n\Z", lambda micros: micros / 1000
+    )
     for peer in peers:
         words = [peer, "--repeat", times]
-        yield Memory(os.path.basename(peer), [*words, "FILE"], [*words, "--scale", size, "FILE"], r"best ([\d.]+) ms", lambda ms: ms)
-    tjbench = ["tjbench", "FILE", "-nowrite", "-rgb", "-accuratedct", "-benchtime", "0.3", "-warmup", "0.1"]
-    for name, environment in {"libjpeg-turbo": {}, "the same without SIMD": {"JSIMD_FORCENONE": "1"}}.items():
+        yield Memory(
+            os.path.basename(peer),
+            [*words, "FILE"],
+            [*words, "--scale", size, "FILE"],
+            r"best ([\d.]+) ms",
+            lambda ms: ms,
+        )
+    tjbench = [
+        "tjbench",
+        "FILE",
+        "-nowrite",
+        "-rgb",
+        "-accuratedct",
+        "-benchtime",
+        "0.3",
+        "-warmup",
+        "0.1",
+    ]
+    for name, environment in {
+        "libjpeg-turbo": {},
+        "the same without SIMD": {"JSIMD_FORCENONE": "1"},
+    }.items():
         small = [*tjbench, "-scale", "1/8"]
-        yield Memory(name, tjbench, small, r"Frame rate: +([\d.]+) fps", lambda fps: 1000 / fps, environment)
+        yield Memory(
+            name, tjbench, small, r"Frame rate: +([\d.]+) fps", lambda fps: 1000 / fps, environment
+        )
 
 
 def programs(jpegraw, jpeg2pnm, peers):
@@ -105,7 +148,9 @@ def programs(jpegraw, jpeg2pnm, peers):
 
 def thinned(plane, most):
     """Each sample of a plane in a column and on a line that these factors divide."""
-    lines = (plane[start : start + WIDTH : most[0]] for start in range(0, len(plane), most[1] * WIDTH))
+    lines = (
+        plane[start : start + WIDTH : most[0]] for start in range(0, len(plane), most[1] * WIDTH)
+    )
     return b"".join(lines)
 
 
@@ -113,11 +158,18 @@ def files(folder):
     """The path of the file of each kind."""
     picture = photo()
     samples = picture.split(b"\n", 3)[3]
-    texts = {kind: subprocess.run([*QUALITY, *words], input=picture, capture_output=True, check=True).stdout for kind, words in CODINGS.items()}
+    texts = {
+        kind: subprocess.run(
+            [*QUALITY, *words], input=picture, capture_output=True, check=True
+        ).stdout
+        for kind, words in CODINGS.items()
+    }
     texts |= {kind: texts[whole] for kind, whole in THUMBNAIL_OF.items()}
     red, green, blue = (samples[colour::3] for colour in range(3))
     texts["lossless, grey"] = lossless(WIDTH, HEIGHT, [((1, 1), green)])
-    texts["lossless, colour"] = lossless(WIDTH, HEIGHT, [((1, 1), plane) for plane in (red, green, blue)])
+    texts["lossless, colour"] = lossless(
+        WIDTH, HEIGHT, [((1, 1), plane) for plane in (red, green, blue)]
+    )
     for most in (2, 1), (2, 2):
         others = [((1, 1), thinned(plane, most)) for plane in (green, blue)]
         texts["lossless, %dx%d, 1x1, 1x1" % most] = lossless(WIDTH, HEIGHT, [(most, red), *others])
@@ -152,7 +204,13 @@ def load():
 
 
 def time_programs(all_programs, all_files):
-    titles = ["", "file (MB)", "ours (ms)", *(f"to {program.name}" for program in all_programs[1:]), "our peak (MB)"]
+    titles = [
+        "",
+        "file (MB)",
+        "ours (ms)",
+        *(f"to {program.name}" for program in all_programs[1:]),
+        "our peak (MB)",
+    ]
     head(titles)
     for kind, path, size in all_files:
         if all_programs[0].run(kind, path) is None:
@@ -160,7 +218,12 @@ def time_programs(all_programs, all_files):
             continue
         times = best_times(kind, path, all_programs, ROUNDS)
         peak = all_programs[0].peak(kind, path) / 1e6
-        print(line([kind, f"{size / 1e6:.2f}", f"{1000 * times[0]:.1f}", *ratios(times), f"{peak:.1f}"]), flush=True)
+        print(
+            line(
+                [kind, f"{size / 1e6:.2f}", f"{1000 * times[0]:.1f}", *ratios(times), f"{peak:.1f}"]
+            ),
+            flush=True,
+        )
 
 
 def time_memory(all_programs, all_files):

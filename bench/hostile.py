@@ -1,7 +1,9 @@
-"""Measures what files cost that are made to cost much: processor time, the most memory held, and the least stack.
+"""Measures what files cost that are made to cost much: processor time, the most memory held, and
+the least stack.
 
-hostile.py JPEGRAW FOLDER [PEER..]: the program of this repository, a folder for the files, and programs that read a JPEG file named by
-their argument, `PEER FILE`. djpeg is one more. Each file is a few kilobytes to some megabytes; a program has 60 seconds of processor time.
+hostile.py JPEGRAW FOLDER [PEER..]: the program of this repository, a folder for the files, and
+programs that read a JPEG file named by their argument, `PEER FILE`. djpeg is one more. Each file is
+a few kilobytes to some megabytes; a program has 60 seconds of processor time.
 """
 
 import os
@@ -31,7 +33,14 @@ def huffman(selector, symbols):
 def frame(marker, width, height, components=1):
     """A frame of 8 bits, all factors 1."""
     parts = b"".join(bytes([n + 1, 0x11, 0]) for n in range(components))
-    return segment(marker, bytes([8]) + height.to_bytes(2, "big") + width.to_bytes(2, "big") + bytes([components]) + parts)
+    return segment(
+        marker,
+        bytes([8])
+        + height.to_bytes(2, "big")
+        + width.to_bytes(2, "big")
+        + bytes([components])
+        + parts,
+    )
 
 
 def scan(ss, se, levels, data, components=1):
@@ -59,16 +68,26 @@ def files():
     yield "400,000 scans of 8x8", stream(ONE_BLOCK, scan(0, 63, 0, b"\x3f") * 400_000)
     yield "190,000 Huffman tables of one code", stream(huffman(AC, [0]) * 190_000, ONE_BLOCK)
     yield "15,000 Huffman tables of 255 codes", stream(GREATEST * 15_000, ONE_BLOCK)
-    yield "800 Exif segments of 64 kB", stream(segment(0xE1, b"Exif\0\0" + bytes(65527)) * 800, ONE_BLOCK)
+    yield "800 Exif segments of 64 kB", stream(
+        segment(0xE1, b"Exif\0\0" + bytes(65527)) * 800, ONE_BLOCK
+    )
     three = TABLES + frame(BASELINE, 2000, 2000, 3)
-    yield "1,000 whole scans of 2000x2000, three components", stream(three, scan(0, 63, 0, ZEROS, 3) * THOUSAND)
+    yield "1,000 whole scans of 2000x2000, three components", stream(
+        three, scan(0, 63, 0, ZEROS, 3) * THOUSAND
+    )
     blocks = DENSE + frame(PROGRESSIVE, 2000, 2000)
     dense = blocks + scan(1, 63, 1, ZEROS) + huffman(AC, [0])
-    yield "1,000 refinements of dense blocks, 2000x2000", stream(dense, scan(1, 63, 0x10, ZEROS) * THOUSAND)
-    yield "1,000 refinements of DC, 2000x2000", stream(blocks, scan(0, 0, 1, ZEROS), scan(0, 0, 0x10, ZEROS) * THOUSAND)
+    yield "1,000 refinements of dense blocks, 2000x2000", stream(
+        dense, scan(1, 63, 0x10, ZEROS) * THOUSAND
+    )
+    yield "1,000 refinements of DC, 2000x2000", stream(
+        blocks, scan(0, 0, 1, ZEROS), scan(0, 0, 0x10, ZEROS) * THOUSAND
+    )
     empty = TABLES + frame(PROGRESSIVE, 2000, 2000) + scan(1, 63, 0, ZEROS) * THOUSAND
     yield "1,000 scans of zero bands, 2000x2000", stream(empty)
-    yield "63 tokens a block from the zeros after a marker, 4000x4000", stream(DENSE, frame(BASELINE, 4000, 4000), scan(0, 63, 0, ZEROS))
+    yield "63 tokens a block from the zeros after a marker, 4000x4000", stream(
+        DENSE, frame(BASELINE, 4000, 4000), scan(0, 63, 0, ZEROS)
+    )
     cut = TABLES + frame(PROGRESSIVE, 12000, 12000, 3) + scan(0, 0, 0, b"", 3)
     yield "a progressive header of 12000x12000, cut after its scan header", stream(cut)[:-2]
     yield "65535x65535, grey", stream(TABLES, frame(BASELINE, 65535, 65535), scan(0, 63, 0, ZEROS))
@@ -80,8 +99,8 @@ def limits():
 
 
 def cost(words, path):
-    """Seconds of processor time, the most megabytes held, and the status, of a program on a file as standard input. A small program starts
-    it, since the memory of what starts it counts too."""
+    """Seconds of processor time, the most megabytes held, and the status, of a program on a file as
+    standard input. A small program starts it, since the memory of what starts it counts too."""
     words = ["/usr/bin/time", "-q", "-o", f"{path}.cost", "-f", "%U %S %M", *words]
     with open(path, "rb") as stdin:
         quiet = {"stdout": subprocess.DEVNULL, "stderr": subprocess.DEVNULL}
@@ -92,17 +111,22 @@ def cost(words, path):
 
 
 def least_stack(words, path):
-    """The least stack in kilobytes with which a program gives on a file what it gives without a limit."""
+    """The least stack in kilobytes with which a program gives on a file what it gives without a
+    limit."""
+
     def status(kilobytes):
         size = kilobytes * 1024
+
         def limit():
             resource.setrlimit(resource.RLIMIT_STACK, (size, size))
+
         with open(path, "rb") as stdin:
             quiet = {"stdout": subprocess.DEVNULL, "stderr": subprocess.DEVNULL}
             try:
                 return subprocess.run(words, stdin=stdin, preexec_fn=limit, **quiet).returncode
             except (OSError, subprocess.SubprocessError):
                 return None
+
     low, high = LEAST_STACK, 8192
     while high - low > 4:
         middle = (low + high) // 2
@@ -113,7 +137,9 @@ def least_stack(words, path):
 def main():
     jpegraw, folder, peers = sys.argv[1], sys.argv[2], sys.argv[3:]
     others = [(os.path.basename(peer), [peer]) for peer in peers] + [("djpeg", ["djpeg"])]
-    names = ["ours (s)", "ours (MB)"] + [f"{name} ({unit})" for name, _ in others for unit in ("s", "MB")]
+    names = ["ours (s)", "ours (MB)"] + [
+        f"{name} ({unit})" for name, _ in others for unit in ("s", "MB")
+    ]
     print("| | bytes | " + " | ".join(names) + " |")
     print("|---" * (len(names) + 2) + "|")
     path = os.path.join(folder, "file.jpg")
@@ -128,7 +154,9 @@ def main():
         print(f"| {name} | {len(data)} | " + " | ".join(cells) + " |", flush=True)
     with open(path, "wb") as file:
         file.write(stream(ONE_BLOCK))
-    stacks = [f"ours {least_stack([jpegraw], path)}"] + [f"{name} {least_stack([*words, path], path)}" for name, words in others]
+    stacks = [f"ours {least_stack([jpegraw], path)}"] + [
+        f"{name} {least_stack([*words, path], path)}" for name, words in others
+    ]
     print("\nLeast stack (kB): " + ", ".join(stacks))
 
 

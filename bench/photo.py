@@ -1,4 +1,5 @@
-"""A picture for the benchmark: smooth colours, edges and fine grain, as in a photograph, the same in each run."""
+"""A picture for the benchmark: smooth colours, edges and fine grain, as in a photograph, the same
+in each run."""
 
 import math
 import random
@@ -38,7 +39,9 @@ def lines(order):
         line = bytearray(3 * WIDTH)
         for colour in range(3):
             wave, here = across[colour], down[colour][y]
-            line[colour::3] = bytes(min(255, max(0, int(a + here + b))) for a, b in zip(wave, light))
+            line[colour::3] = bytes(
+                min(255, max(0, int(a + here + b))) for a, b in zip(wave, light)
+            )
         yield bytes(line)
 
 

@@ -27,10 +27,18 @@ fn widen(near: &[u8], far: &[u8], output: &mut [u8]) {
     output[2 * near.len() - 1] = ((sum(near.len() - 1) + 2) >> 2) as u8;
 }
 
-fn upsample(plane: &[u8], stride: usize, width: usize, height: usize, row: usize, output: &mut [u8]) {
+fn upsample(
+    plane: &[u8],
+    stride: usize,
+    width: usize,
+    height: usize,
+    row: usize,
+    output: &mut [u8],
+) {
     let near = row / 2;
     let far = if row % 2 == 0 { near.saturating_sub(1) } else { (near + 1).min(height - 1) };
-    widen(&plane[near * stride..near * stride + width], &plane[far * stride..far * stride + width], output);
+    let line = |index: usize| &plane[index * stride..index * stride + width];
+    widen(line(near), line(far), output);
 }
 
 fn clamp(sum: i32) -> u8 {

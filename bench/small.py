@@ -1,7 +1,9 @@
-"""Times decodings of small pictures from memory: what a thumbnail maker or a web service decodes all day, and frames of MJPEG streams.
+"""Times decodings of small pictures from memory: what a thumbnail maker or a web service decodes
+all day, and frames of MJPEG streams.
 
-small.py BENCH_MEMORY FOLDER [PEER..]: the program of this repository, a folder for the files, and programs that decode N times from
-memory by `PEER --repeat N FILE` and print `best TIME ms`. tjbench of libjpeg-turbo is one more.
+small.py BENCH_MEMORY FOLDER [PEER..]: the program of this repository, a folder for the files, and
+programs that decode N times from memory by `PEER --repeat N FILE` and print `best TIME ms`. tjbench
+of libjpeg-turbo is one more.
 """
 
 import os
@@ -12,7 +14,11 @@ from decode import QUALITY, best_times, head, line, load, memory_programs, ratio
 from photo import HEIGHT, WIDTH, photo
 
 SIZES = (16, 16), (64, 64), (200, 150), (512, 384)
-CODINGS = {"grey": ["-grayscale"], "4:2:0": ["-sample", "2x2"], "4:2:0, progressive": ["-sample", "2x2", "-progressive"]}
+CODINGS = {
+    "grey": ["-grayscale"],
+    "4:2:0": ["-sample", "2x2"],
+    "4:2:0, progressive": ["-sample", "2x2", "-progressive"],
+}
 CORNER = 100  # columns and lines of the large picture that are left out
 PIXELS = 4_000_000  # that each program decodes of each file
 ROUNDS = 5
@@ -20,7 +26,9 @@ ROUNDS = 5
 
 def part(pixels, width, height):
     """A part of the large picture, as a PPM file."""
-    lines = [pixels[3 * (y * WIDTH + CORNER) :][: 3 * width] for y in range(CORNER, CORNER + height)]
+    lines = [
+        pixels[3 * (y * WIDTH + CORNER) :][: 3 * width] for y in range(CORNER, CORNER + height)
+    ]
     return b"P6 %d %d 255\n" % (width, height) + b"".join(lines)
 
 
@@ -30,7 +38,12 @@ def time_small(bench_memory, folder, peers):
     for width, height in SIZES:
         all_programs = list(memory_programs(bench_memory, peers, PIXELS // (width * height)))
         for kind, options in CODINGS.items():
-            done = subprocess.run([*QUALITY, *options], input=part(pixels, width, height), capture_output=True, check=True)
+            done = subprocess.run(
+                [*QUALITY, *options],
+                input=part(pixels, width, height),
+                capture_output=True,
+                check=True,
+            )
             path = os.path.join(folder, "small.jpg")
             with open(path, "wb") as file:
                 file.write(done.stdout)
@@ -41,7 +54,13 @@ def time_small(bench_memory, folder, peers):
 def main(bench_memory, folder, *peers):
     os.sched_setaffinity(0, {max(os.sched_getaffinity(0))})
     print(f"the best of {ROUNDS}, load {load()} of {os.cpu_count()} processors")
-    head(["from memory", "ours (ms)", *(f"to {program.name}" for program in list(memory_programs(bench_memory, peers))[1:])])
+    head(
+        [
+            "from memory",
+            "ours (ms)",
+            *(f"to {program.name}" for program in list(memory_programs(bench_memory, peers))[1:]),
+        ]
+    )
     time_small(bench_memory, folder, peers)
     print(f"load {load()}")
 

@@ -1,7 +1,8 @@
-"""reference.py JPEGRAW FILE [ORIENTATION [PRECISION]]: the picture that jpegraw decodes as PPM of 8 bits, as clients show it.
+"""reference.py JPEGRAW FILE [ORIENTATION [PRECISION]]: the picture that jpegraw decodes as PPM of 8
+bits, as clients show it.
 
-Grey is repeated; cyan, magenta, yellow and black, and samples of a PRECISION other than 8 bits, are converted; and the
-picture is turned as the Exif orientation says.
+Grey is repeated; cyan, magenta, yellow and black, and samples of a PRECISION other than 8 bits, are
+converted; and the picture is turned as the Exif orientation says.
 """
 
 import subprocess
@@ -11,7 +12,8 @@ COMPONENTS = {"L8": 1, "L16": 1, "RGB24": 3, "CMYK32": 4}
 
 
 def decoded(jpegraw, name, precision):
-    """The width, the height and for each pixel the list of its samples, on the scale of 0 to 255."""
+    """The width, the height and for each pixel the list of its samples, on the scale of 0 to
+    255."""
     with open(name, "rb") as file:
         output = subprocess.run([jpegraw], stdin=file, capture_output=True, check=True).stdout
     head, _, content = output.partition(b"\n")
@@ -19,7 +21,8 @@ def decoded(jpegraw, name, precision):
     width, height, count = int(width), int(height), COMPONENTS[format]
     size, most = (2 if precision > 8 else 1), (1 << precision) - 1
     samples = [
-        (int.from_bytes(content[i : i + size], "little") * 255 + most // 2) // most for i in range(0, len(content), size)
+        (int.from_bytes(content[i : i + size], "little") * 255 + most // 2) // most
+        for i in range(0, len(content), size)
     ]
     if len(samples) != width * height * count:
         sys.exit("reference.py: samples of another precision")

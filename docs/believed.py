@@ -31,8 +31,9 @@ LAWS = {
 }
 STREAMS = {
     "known_streams": """jpeg_bits Reading Marker Entropy Readers Codes Bands Passes Intervals,
-        jpeg_segments Checks Quantization HuffmanTables Frame ScanHeader, jpeg_pixels Samples Planes,
-        jpeg_streams Order Scans Rasters Found Segments ScanSegments FoundPictures Stream""",
+        jpeg_segments Checks Quantization HuffmanTables Frame ScanHeader,
+        jpeg_pixels Samples Planes, jpeg_streams Order Scans Rasters Found Segments ScanSegments
+        FoundPictures Stream""",
     "known_scans": """jpeg_bits Refinement, jpeg_segments Scales, jpeg_pixels Scaled Upsampling
         Pictures, jpeg_streams Order Scans ColourChoice""",
     "known_images": "jpeg_bits Refinement, jpeg_pixels Upsampling Pictures",
@@ -49,8 +50,10 @@ STREAMS = {
 # What the parts that write, read and picture begin with.
 WRITER = ["jpeg_streams.WrittenImages.WritesImage", "jpeg_streams.WrittenLossless.WritesSamples"]
 READER = ["jpeg_streams.Stream.meaning", "jpeg_streams.Stream.sized_meaning"]
-PICTURE = ["jpeg_streams.ArrayPictures.picture_of_array",
-           "jpeg_streams.WrittenLossless.picture_of_samples"]
+PICTURE = [
+    "jpeg_streams.ArrayPictures.picture_of_array",
+    "jpeg_streams.WrittenLossless.picture_of_samples",
+]
 BEGIN, END = "<!-- docs/believed.py: begin -->", "<!-- docs/believed.py: end -->"
 
 
@@ -89,9 +92,11 @@ class Specs:
         comment = " ".join(re.findall(r"^-- (.*)", text.split("\nuse ")[0], re.M))
         self.says[file] = re.split(r"\.(?: |$)", comment)[0]
         self.scope[file] = imports(text, "use")
-        items = list(re.finditer(r"(?m)^(?:abbrev |unfoldable )?pub (?:record |(data) )?(\S+)", text))
+        items = list(
+            re.finditer(r"(?m)^(?:abbrev |unfoldable )?pub (?:record |(data) )?(\S+)", text)
+        )
         for item, end in zip(items, [i.start() for i in items[1:]] + [len(text)]):
-            body = re.split(r"(?m)^(?:use|infixl) ", without_comments(text[item.start():end]))[0]
+            body = re.split(r"(?m)^(?:use|infixl) ", without_comments(text[item.start() : end]))[0]
             key = (file, item.group(2))
             self.text[key] = body
             self.lines[key] = sum(1 for line in body.splitlines() if line.strip())
@@ -99,7 +104,8 @@ class Specs:
                 self.type_of[file, constructor] = key
 
     def words(self, text, scope, file=None):
-        """What the words of a text may stand for, by the imports and the definitions of its file."""
+        """What the words of a text may stand for, by the imports and the definitions of its
+        file."""
         words = set(re.findall(r"(?<![\w.])[A-Za-z_]\w*(?:\.[\w◌>=]+)*", text))
         words |= {"◌>>=◌"} if "do" in words or ">>=" in text else set()
         for first, _, rest in (word.partition(".") for word in words):
@@ -114,7 +120,9 @@ class Specs:
         """The types of the code that definitions name, by crate."""
         words = {word for key in keys for word in self.words(self.text[key], self.scope[key[0]])}
         modules = {file for file, _ in words if file and file[0] in CRATES and "." in file[1]}
-        return [name.split(".")[-1] for crate in CRATES for of, name in sorted(modules) if of == crate]
+        return [
+            name.split(".")[-1] for crate in CRATES for of, name in sorted(modules) if of == crate
+        ]
 
     def reached(self, seeds):
         seen, left = set(), list(seeds)
@@ -126,7 +134,8 @@ class Specs:
         return seen
 
     def seeds(self, path, functions):
-        """What the contracts of the public functions of a Rust file, and the views of its types, name.
+        """What the contracts of the public functions of a Rust file, and the views of its types,
+        name.
 
         The invariant of a model isn't counted: that it holds of each value is proved, and no clause
         says it.
@@ -158,8 +167,10 @@ class Specs:
 
 def believed(specs):
     """What the clauses of `Decoder`, `run` and `report` reach, and what those of the laws add."""
-    of = {name: specs.seeds("jpeg_decoder/src/" + name, r"\w+")
-          for name in ["decoder", "run", "headline", "lossless_laws"]}
+    of = {
+        name: specs.seeds("jpeg_decoder/src/" + name, r"\w+")
+        for name in ["decoder", "run", "headline", "lossless_laws"]
+    }
     calls = specs.reached(of["decoder"] | of["run"])
     return calls, specs.reached(of["headline"] | of["lossless_laws"]) - calls
 

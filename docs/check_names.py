@@ -2,7 +2,8 @@
 """Checks that what the pages name in backticks is there: fails at a word that no source has.
 
 Sources are the words of all code, without comments and texts, and the paths of all files. Blocks of
-code in a page and bytes in hex are passed over; what is no name of this repository stands in OTHERS.
+code in a page and bytes in hex are passed over; what is no name of this repository stands in
+OTHERS.
 """
 import re
 import subprocess
@@ -15,7 +16,14 @@ OTHERS = """axioms Box ceil clone compute_image_parallel dyn FORMAT Hmax ljpeg L
     non_exhaustive perf plant Pt random_tests_tests rattle_alloc rattle_dealloc rattle_errno
     rattle_realloc realloc ROW TEST tmp try ulimit Upsample Vmax __xpg_strerror_r""".split()
 C_COMMENTS = r'/\*[\s\S]*?\*/|"(?:\\.|[^"\\\n])*"'
-COMMENTS = {".rt": r'//.*|"(?:\\.|[^"\\\n])*"', ".antt": r"--.*", ".py": r"(?m)^\s*#.*", ".edit": "(?!)", ".c": C_COMMENTS, ".h": C_COMMENTS}
+COMMENTS = {
+    ".rt": r'//.*|"(?:\\.|[^"\\\n])*"',
+    ".antt": r"--.*",
+    ".py": r"(?m)^\s*#.*",
+    ".edit": "(?!)",
+    ".c": C_COMMENTS,
+    ".h": C_COMMENTS,
+}
 
 
 def words_of_sources(files):
@@ -24,7 +32,9 @@ def words_of_sources(files):
         words |= set(re.findall(r"\w+", str(file)))
         if file.suffix in COMMENTS or file.suffix == "":
             text = (ROOT / file).read_text("utf8", "ignore")
-            words |= set(re.findall(r"\w+", re.sub(COMMENTS.get(file.suffix, r"(?m)^\s*#.*"), "", text)))
+            words |= set(
+                re.findall(r"\w+", re.sub(COMMENTS.get(file.suffix, r"(?m)^\s*#.*"), "", text))
+            )
     return words
 
 
@@ -39,7 +49,9 @@ def named(page):
 
 
 def main():
-    listed = subprocess.run(["git", "ls-files"], cwd=ROOT, check=True, capture_output=True, text=True)
+    listed = subprocess.run(
+        ["git", "ls-files"], cwd=ROOT, check=True, capture_output=True, text=True
+    )
     files = [Path(line) for line in listed.stdout.splitlines() if (ROOT / line).is_file()]
     words = words_of_sources(files)
     missing = []

@@ -1,5 +1,6 @@
 #!/usr/bin/env python3
-"""An independent, slow model of what `decode` must return, written from T.81 and from what is said of the original crate, not from the code.
+"""An independent, slow model of what `decode` must return, written from T.81 and from what is said
+of the original crate, not from the code.
 
 meaning(bytes, settings) -> ('ok', width, height, format, pixels) or ('err', kind, in_scan)
 kind is 'Format', 'Io' or 'Unsupported(..)'. Where in_scan is true it is left open
@@ -7,8 +8,72 @@ which of several faults is named, so Format and Io are both right.
 """
 import sys
 
-ZIGZAG = [0, 1, 8, 16, 9, 2, 3, 10, 17, 24, 32, 25, 18, 11, 4, 5, 12, 19, 26, 33, 40, 48, 41, 34, 27, 20, 13, 6, 7, 14, 21, 28,
-          35, 42, 49, 56, 57, 50, 43, 36, 29, 22, 15, 23, 30, 37, 44, 51, 58, 59, 52, 45, 38, 31, 39, 46, 53, 60, 61, 54, 47, 55, 62, 63]
+ZIGZAG = [
+    0,
+    1,
+    8,
+    16,
+    9,
+    2,
+    3,
+    10,
+    17,
+    24,
+    32,
+    25,
+    18,
+    11,
+    4,
+    5,
+    12,
+    19,
+    26,
+    33,
+    40,
+    48,
+    41,
+    34,
+    27,
+    20,
+    13,
+    6,
+    7,
+    14,
+    21,
+    28,
+    35,
+    42,
+    49,
+    56,
+    57,
+    50,
+    43,
+    36,
+    29,
+    22,
+    15,
+    23,
+    30,
+    37,
+    44,
+    51,
+    58,
+    59,
+    52,
+    45,
+    38,
+    31,
+    39,
+    46,
+    53,
+    60,
+    61,
+    54,
+    47,
+    55,
+    62,
+    63,
+]
 
 
 class Refused(Exception):
@@ -30,14 +95,17 @@ def hx(s):
 
 
 class Settings:
-    def __init__(self, transform=None, limit=2 ** 64 - 1, scale=None, equal_factors=False):
-        self.transform = transform          # None, or one of the names of ColorTransform
+    def __init__(self, transform=None, limit=2**64 - 1, scale=None, equal_factors=False):
+        self.transform = transform  # None, or one of the names of ColorTransform
         self.limit = limit
-        self.scale = scale                  # None, or (requested_width, requested_height)
-        self.equal_factors = equal_factors  # True: lossless scans ignore factors (the rule before the change)
+        self.scale = scale  # None, or (requested_width, requested_height)
+        self.equal_factors = (
+            equal_factors  # True: lossless scans ignore factors (the rule before the change)
+        )
 
 
 # ---- bytes and codes
+
 
 class Bytes:
     def __init__(self, b):
@@ -57,7 +125,7 @@ class Bytes:
             self.p = len(self.b)
             raise Refused('Io')
         self.p += n
-        return self.b[self.p - n:self.p]
+        return self.b[self.p - n : self.p]
 
     def marker(self):
         """D1"""
@@ -149,7 +217,7 @@ def codes(counts, values):
         lens += [i + 1] * c
     for i, n in enumerate(lens):
         num = sum(2 ** (n - lens[j]) for j in range(i))
-        if num >= 2 ** n:
+        if num >= 2**n:
             return None
         table[n, num] = values[i]
     return table
@@ -170,7 +238,8 @@ def default_tables():
     cat = list(range(12))
     k5 = list(hx('00020103030204030505040400000 17D'.replace(' ', '')))
     k6 = list(hx('0002010204040304070504040001 0277'))
-    v5 = hx("""01 02 03 00 04 11 05 12 21 31 41 06 13 51 61 07
+    v5 = hx(
+        """01 02 03 00 04 11 05 12 21 31 41 06 13 51 61 07
 22 71 14 32 81 91 A1 08 23 42 B1 C1 15 52 D1 F0
 24 33 62 72 82 09 0A 16 17 18 19 1A 25 26 27 28
 29 2A 34 35 36 37 38 39 3A 43 44 45 46 47 48 49
@@ -180,8 +249,10 @@ def default_tables():
 A8 A9 AA B2 B3 B4 B5 B6 B7 B8 B9 BA C2 C3 C4 C5
 C6 C7 C8 C9 CA D2 D3 D4 D5 D6 D7 D8 D9 DA E1 E2
 E3 E4 E5 E6 E7 E8 E9 EA F1 F2 F3 F4 F5 F6 F7 F8
-F9 FA""")
-    v6 = hx("""00 01 02 03 11 04 05 21 31 06 12 41 51 07 61 71
+F9 FA"""
+    )
+    v6 = hx(
+        """00 01 02 03 11 04 05 21 31 06 12 41 51 07 61 71
 13 22 32 81 08 14 42 91 A1 B1 C1 09 23 33 52 F0
 15 62 72 D1 0A 16 24 34 E1 25 F1 17 18 19 1A 26
 27 28 29 2A 35 36 37 38 39 3A 43 44 45 46 47 48
@@ -191,11 +262,13 @@ F9 FA""")
 A6 A7 A8 A9 AA B2 B3 B4 B5 B6 B7 B8 B9 BA C2 C3
 C4 C5 C6 C7 C8 C9 CA D2 D3 D4 D5 D6 D7 D8 D9 DA
 E2 E3 E4 E5 E6 E7 E8 E9 EA F2 F3 F4 F5 F6 F7 F8
-F9 FA""")
+F9 FA"""
+    )
     return [codes(k3, cat), codes(k4, cat)], [codes(k5, v5), codes(k6, v6)]
 
 
 # ---- frame
+
 
 class Component:
     def __init__(self, ident, h, v, tq):
@@ -226,7 +299,10 @@ def rule(c, hmax, vmax, w, g):
 class Frame:
     def sizes(self, s):
         """of each component: (samples wide, high)"""
-        return [(ceil_div(self.w * c.h * s, self.hmax * 8), ceil_div(self.h * c.v * s, self.vmax * 8)) for c in self.comps]
+        return [
+            (ceil_div(self.w * c.h * s, self.hmax * 8), ceil_div(self.h * c.v * s, self.vmax * 8))
+            for c in self.comps
+        ]
 
     def output(self, s):
         return ceil_div(self.w * s, 8), ceil_div(self.h * s, 8)
@@ -331,6 +407,7 @@ def parse_sos(r, f):
 
 # ---- scans
 
+
 def dc_first(t, table, pred, al):
     s, _ = t.symbol(table)
     if s > 11:
@@ -423,7 +500,7 @@ def run_scan(r, mcus, ri, start, unit):
     for j, n in enumerate(parts):
         t = Text(r.b, r.p)
         state = start()
-        for m in mcus[at:at + n]:
+        for m in mcus[at : at + n]:
             unit(t, m, state)
         at += n
         marker, r.p = t.finish()
@@ -444,12 +521,21 @@ def dct_scan(r, f, s, dc, ac, ri, blocks):
     if len(s.comps) == 1:
         i = s.comps[0]
         c = f.comps[i]
-        wide, high = ceil_div(ceil_div(f.w * c.h, f.hmax), 8), ceil_div(ceil_div(f.h * c.v, f.vmax), 8)
+        wide, high = ceil_div(ceil_div(f.w * c.h, f.hmax), 8), ceil_div(
+            ceil_div(f.h * c.v, f.vmax), 8
+        )
         mcus = [[(0, y, x)] for y in range(high) for x in range(wide)]
     else:
-        mcus = [[(j, y * f.comps[i].v + v, x * f.comps[i].h + h) for j, i in enumerate(s.comps)
-                 for v in range(f.comps[i].v) for h in range(f.comps[i].h)]
-                for y in range(f.mcus[1]) for x in range(f.mcus[0])]
+        mcus = [
+            [
+                (j, y * f.comps[i].v + v, x * f.comps[i].h + h)
+                for j, i in enumerate(s.comps)
+                for v in range(f.comps[i].v)
+                for h in range(f.comps[i].h)
+            ]
+            for y in range(f.mcus[1])
+            for x in range(f.mcus[0])
+        ]
 
     def start():
         return {'pred': [0] * len(s.comps), 'run': 0}
@@ -474,7 +560,16 @@ def dct_scan(r, f, s, dc, ac, ri, blocks):
 
 
 def predict(ra, rb, rc, sel):
-    return [0, ra, rb, rc, ra + rb - rc, ra + ((rb - rc) >> 1), rb + ((ra - rc) >> 1), (ra + rb) // 2][sel]
+    return [
+        0,
+        ra,
+        rb,
+        rc,
+        ra + rb - rc,
+        ra + ((rb - rc) >> 1),
+        rb + ((ra - rc) >> 1),
+        (ra + rb) // 2,
+    ][sel]
 
 
 def lossless_scan(r, f, s, dc, ri, settings):
@@ -487,7 +582,10 @@ def lossless_scan(r, f, s, dc, ri, settings):
         grid = {0: (1, 1, cols, rows)}
     else:
         cols, rows = ceil_div(f.w, f.hmax), ceil_div(f.h, f.vmax)
-        grid = {j: (f.comps[i].h, f.comps[i].v, cols * f.comps[i].h, rows * f.comps[i].v) for j, i in enumerate(s.comps)}
+        grid = {
+            j: (f.comps[i].h, f.comps[i].v, cols * f.comps[i].h, rows * f.comps[i].v)
+            for j, i in enumerate(s.comps)
+        }
     if 0 < ri < cols * rows and ri % cols:
         raise fmt(True)
     mcus = [(x, y) for y in range(rows) for x in range(cols)]
@@ -514,7 +612,9 @@ def lossless_scan(r, f, s, dc, ri, settings):
                     elif xx == 0:
                         p = plane[(yy - 1) * wide]
                     else:
-                        p = predict(ra, plane[(yy - 1) * wide + xx], plane[(yy - 1) * wide + xx - 1], s.ss)
+                        p = predict(
+                            ra, plane[(yy - 1) * wide + xx], plane[(yy - 1) * wide + xx - 1], s.ss
+                        )
                     plane[yy * wide + xx] = (p + d) & 0xFFFF
 
     marker = run_scan(r, mcus, ri, start, unit)
@@ -526,14 +626,22 @@ def lossless_scan(r, f, s, dc, ri, settings):
             cw, ch = f.w, f.h
         else:
             cw, ch = ceil_div(f.w * c.h, f.hmax), ceil_div(f.h * c.v, f.vmax)
-        out[i] = (cw, ch, [planes[j][y * wide + x] << s.al & 0xFFFF for y in range(ch) for x in range(cw)])
+        out[i] = (
+            cw,
+            ch,
+            [planes[j][y * wide + x] << s.al & 0xFFFF for y in range(ch) for x in range(cw)],
+        )
     return marker, out
 
 
 # ---- samples and pixels
 
-M_TOP = [[4096, 5683, 5352, 4816, 4096, 3219, 2217, 1131], [4096, 4816, 2217, -1129, -4096, -5681, -5350, -3218],
-         [4096, 3219, -2217, -5681, -4096, 1132, 5350, 4816], [4096, 1131, -5352, -3218, 4096, 4816, -2217, -5680]]
+M_TOP = [
+    [4096, 5683, 5352, 4816, 4096, 3219, 2217, 1131],
+    [4096, 4816, 2217, -1129, -4096, -5681, -5350, -3218],
+    [4096, 3219, -2217, -5681, -4096, 1132, 5350, 4816],
+    [4096, 1131, -5352, -3218, 4096, 4816, -2217, -5680],
+]
 M = M_TOP + [[-v if i % 2 else v for i, v in enumerate(row)] for row in reversed(M_TOP)]
 
 
@@ -554,7 +662,11 @@ def idct8(c, q):
             cols.append([i32(4 * s[0])] * 8)
         else:
             cols.append([i32(sum(M[y][k] * s[k] for k in range(8)) + 512) >> 10 for y in range(8)])
-    return [clamp(i32(sum(M[x][k] * cols[k][y] for k in range(8)) + 16842752) >> 17) for y in range(8) for x in range(8)]
+    return [
+        clamp(i32(sum(M[x][k] * cols[k][y] for k in range(8)) + 16842752) >> 17)
+        for y in range(8)
+        for x in range(8)
+    ]
 
 
 def idct4(c, q):
@@ -562,7 +674,10 @@ def idct4(c, q):
     for x in range(4):
         s = [c[8 * k + x] * q[8 * k + x] for k in range(4)]
         x0, x2 = i32((s[0] + s[2]) << 2), i32((s[0] - s[2]) << 2)
-        t2, t0 = i32(5352 * s[1] + 2217 * s[3] + 512) >> 10, i32(2217 * s[1] - 5350 * s[3] + 512) >> 10
+        t2, t0 = (
+            i32(5352 * s[1] + 2217 * s[3] + 512) >> 10,
+            i32(2217 * s[1] - 5350 * s[3] + 512) >> 10,
+        )
         cols.append([i32(x0 + t2), i32(x2 + t0), i32(x2 - t0), i32(x0 - t2)])
     out = []
     for y in range(4):
@@ -575,7 +690,10 @@ def idct4(c, q):
 
 def idct2(c, q):
     a, b, d, e = (c[i] * q[i] for i in (0, 1, 8, 9))
-    return [clamp(i32(v + 1028) >> 3) for v in (a + d + b + e, a + d - b - e, a - d + b - e, a - d - b + e)]
+    return [
+        clamp(i32(v + 1028) >> 3)
+        for v in (a + d + b + e, a + d - b - e, a - d + b - e, a - d - b + e)
+    ]
 
 
 def idct1(c, q):
@@ -599,6 +717,7 @@ def plane_of(f, i, blocks, q, s):
                 block[ZIGZAG[z]] = v
             cache[at] = IDCT[s](block, q)
         return cache[at][(y % s) * s + x % s]
+
     return p
 
 
@@ -623,6 +742,7 @@ def upsampled(name, p, n, m, ratio, x, r):
 
     def t(i):
         return 3 * p(i, near) + p(i, far)
+
     if n == 1 or x == 0:
         return (t(0) + 2) >> 2
     if x == 2 * n - 1:
@@ -636,7 +756,11 @@ def upsampled(name, p, n, m, ratio, x, r):
 
 def ycc(y, cb, cr):
     yy, u, v = (y << 20) + (1 << 19), cb - 128, cr - 128
-    return clamp((yy + 1470104 * v) >> 20), clamp((yy - 360857 * u - 748830 * v) >> 20), clamp((yy + 1858077 * u) >> 20)
+    return (
+        clamp((yy + 1470104 * v) >> 20),
+        clamp((yy - 360857 * u - 748830 * v) >> 20),
+        clamp((yy + 1858077 * u) >> 20),
+    )
 
 
 def choose(f, st, settings):
@@ -644,7 +768,12 @@ def choose(f, st, settings):
         return settings.transform
     if len(f.comps) == 3:
         ids = tuple(c.id for c in f.comps)
-        known = {(1, 2, 3): 'YCbCr', (1, 34, 35): 'JcsBgYcc', (82, 71, 66): 'RGB', (114, 103, 98): 'JcsBgRgb'}
+        known = {
+            (1, 2, 3): 'YCbCr',
+            (1, 34, 35): 'JcsBgYcc',
+            (82, 71, 66): 'RGB',
+            (114, 103, 98): 'JcsBgRgb',
+        }
         if ids in known:
             return known[ids]
         if st['jfif']:
@@ -723,16 +852,27 @@ def pick_scale(f, want):
 
 # ---- the whole
 
+
 def icc_profile(chunks):
     n = len(chunks)
-    if not 1 <= n <= 254 or any(c[1] != n for c in chunks) or sorted(c[0] for c in chunks) != list(range(1, n + 1)):
+    if (
+        not 1 <= n <= 254
+        or any(c[1] != n for c in chunks)
+        or sorted(c[0] for c in chunks) != list(range(1, n + 1))
+    ):
         return None
     return b''.join(c[2] for c in sorted(chunks))
 
 
 def parse_app(r, n, st):
     left = r.length() - 2
-    if n in (1,) or (n == 0 and left >= 5) or (n == 2 and left > 14) or (n == 13 and left >= 14) or (n == 14 and left >= 12):
+    if (
+        n in (1,)
+        or (n == 0 and left >= 5)
+        or (n == 2 and left > 14)
+        or (n == 13 and left >= 14)
+        or (n == 14 and left >= 12)
+    ):
         head = {0: 5, 1: left, 2: 14, 13: 14, 14: 12}[n]
         data = r.take(head)
         left -= head
@@ -912,7 +1052,13 @@ def decode(r, settings, st, trace):
     if any(i not in planes for i in range(len(f.comps))):
         raise fmt()
     conv = conversion(len(f.comps), choose(f, st, settings)) if len(f.comps) > 1 else None
-    return ('ok', w, h, name, picture(f, [plane_of(f, i, *planes[i], s8) for i in range(len(f.comps))], s8, conv))
+    return (
+        'ok',
+        w,
+        h,
+        name,
+        picture(f, [plane_of(f, i, *planes[i], s8) for i in range(len(f.comps))], s8, conv),
+    )
 
 
 def main():

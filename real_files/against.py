@@ -1,9 +1,10 @@
 """Compares jpegraw with another program of the same output, byte for byte, on files of many kinds.
 
-against.py JPEGRAW JPEG2PNM FRAMES PEER: PEER reads a JPEG stream and writes what jpegraw writes, for example a program of the original
-crate. The pixels of JPEG2PNM at each scale are compared with those of `PEER --scale WIDTHxHEIGHT`, and those of FRAMES, the program
-mjpeg_frames, with those of PEER for each frame. The status is 1 where one of them refuses a file that the other decodes, or where their
-outputs differ.
+against.py JPEGRAW JPEG2PNM FRAMES PEER: PEER reads a JPEG stream and writes what jpegraw writes,
+for example a program of the original crate. The pixels of JPEG2PNM at each scale are compared with
+those of `PEER --scale WIDTHxHEIGHT`, and those of FRAMES, the program mjpeg_frames, with those of
+PEER for each frame. The status is 1 where one of them refuses a file that the other decodes, or
+where their outputs differ.
 """
 
 import subprocess
@@ -22,7 +23,8 @@ def answer_of(words, stream):
 
 
 def scaled_answers(jpeg2pnm, peer, scale, size, stream):
-    """The pixels of both programs for a picture at a scale; a header of the netpbm formats has three lines."""
+    """The pixels of both programs for a picture at a scale; a header of the netpbm formats has
+    three lines."""
     ours, picture = answer_of([jpeg2pnm, "--scale", scale], stream)
     theirs, raw = answer_of([peer, "--scale", "%dx%d" % size], stream)
     return (ours, picture.split(b"\n", 3)[-1]), (theirs, raw.split(b"\n", 1)[-1])
@@ -37,7 +39,9 @@ def scaled(jpeg2pnm, peer):
                 stream = output_of(["cjpeg", "-sample", sampling, *CODINGS[coding]], picture)
                 for scale, name_of_scale in ((1, "1/8"), (2, "1/4"), (4, "1/2"), (8, "1")):
                     size = -(-width * scale // 8), -(-height * scale // 8)
-                    yield f"{name}; {sampling}; {coding}; {scale}/8", *scaled_answers(jpeg2pnm, peer, name_of_scale, size, stream)
+                    yield f"{name}; {sampling}; {coding}; {scale}/8", *scaled_answers(
+                        jpeg2pnm, peer, name_of_scale, size, stream
+                    )
 
 
 def as_one_stream(frames_program, peer):
@@ -66,7 +70,10 @@ def counted(title, answers):
 def main(jpegraw, jpeg2pnm, frames_program, peer):
     differing = 0
     for title, files in [*groups(), ("damaged files", damaged())]:
-        answers = ((name, answer_of([jpegraw], stream), answer_of([peer], stream)) for name, stream in files)
+        answers = (
+            (name, answer_of([jpegraw], stream), answer_of([peer], stream))
+            for name, stream in files
+        )
         differing += counted(title, answers)
     differing += counted("scales", scaled(jpeg2pnm, peer))
     differing += counted("MJPEG frames as one stream", as_one_stream(frames_program, peer))

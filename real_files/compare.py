@@ -1,10 +1,12 @@
 """Compares jpegraw with djpeg of libjpeg-turbo, and with itself on files of the same coefficients.
 
-compare.py JPEGRAW JPEGINFO prints, for grey pictures and for each sampling of colour, the greatest and the mean difference of a sample from what
-`djpeg -dct int` gives, for how many pictures every coding of the same coefficients gives the same output, how many ICC profiles that
-cjpeg put into files JPEGINFO takes out of them again, and how many of exiftool's Exif and XMP data it gives as exiftool does. The status is 1
-where such data aren't the same, where a file is refused, where a size differs, where a sample of one that is not upsampled differs by more than 1 as grey, red, green or blue, or
-where codings of the same coefficients give different outputs.
+compare.py JPEGRAW JPEGINFO prints, for grey pictures and for each sampling of colour, the greatest
+and the mean difference of a sample from what `djpeg -dct int` gives, for how many pictures every
+coding of the same coefficients gives the same output, how many ICC profiles that cjpeg put into
+files JPEGINFO takes out of them again, and how many of exiftool's Exif and XMP data it gives as
+exiftool does. The status is 1 where such data aren't the same, where a file is refused, where a
+size differs, where a sample of one that is not upsampled differs by more than 1 as grey, red, green
+or blue, or where codings of the same coefficients give different outputs.
 """
 
 import operator
@@ -19,7 +21,8 @@ from streams import one_sample_a_component, output_of, same_coefficients, sample
 # A segment has room for 65519 bytes of a profile.
 PROFILE_SIZES = [1, 1000, 65519, 65520, 131038, 1000000]
 
-# The kinds whose samples are those of the transform alone: by it the two programs differ by 1 at most.
+# The kinds whose samples are those of the transform alone: by it the two programs differ by 1 at
+# most.
 TRANSFORM_ALONE = ("grey", "red, green and blue")
 
 
@@ -39,11 +42,13 @@ class Differences:
 
     def __str__(self):
         mean = self.sum / self.samples
-        return f"{self.files} files, {self.equal} equal, greatest difference {self.greatest}, mean {mean:.4f}"
+        counts = f"{self.files} files, {self.equal} equal"
+        return f"{counts}, greatest difference {self.greatest}, mean {mean:.4f}"
 
 
 def picture_of(words, stream):
-    """The width, the height and the samples that a program gives for a stream, or None where it is refused."""
+    """The width, the height and the samples that a program gives for a stream, or None where it is
+    refused."""
     done = subprocess.run(words, input=stream, capture_output=True)
     if done.returncode != 0:
         return None
@@ -85,16 +90,24 @@ def of_the_same_coefficients(jpegraw):
         outputs = {coding: picture_of([jpegraw], stream) for coding, stream in codings.items()}
         pictures += 1
         files += len(outputs)
-        others = [coding for coding, output in outputs.items() if output is None or output != outputs["cjpeg"]]
+        others = [
+            coding
+            for coding, output in outputs.items()
+            if output is None or output != outputs["cjpeg"]
+        ]
         if others:
             faults += 1
             print(f"{name}: other pictures by the codings {others}")
-    print(f"the same coefficients: {pictures} pictures in {files} files, {faults} with different outputs")
+    print(
+        f"the same coefficients: {pictures} pictures in {files} files,"
+        f" {faults} with different outputs"
+    )
     return faults
 
 
 def of_profiles(jpeginfo):
-    """Prints how many profiles are taken out of files as they were put in, and gives how many aren't."""
+    """Prints how many profiles are taken out of files as they were put in, and gives how many
+    aren't."""
     equal = 0
     for size in PROFILE_SIZES:
         profile = random.Random(size).randbytes(size)
@@ -109,25 +122,40 @@ def of_profiles(jpeginfo):
 
 
 def of_metadata(jpeginfo):
-    """Prints how many of exiftool's data are given as exiftool gives them, and gives how many aren't."""
+    """Prints how many of exiftool's data are given as exiftool gives them, and gives how many
+    aren't."""
     equal = total = 0
     for number, words in enumerate(([], ["-progressive"], ["-grayscale"], ["-restart", "1"]), 1):
         with tempfile.NamedTemporaryFile(suffix=".jpg") as file:
             file.write(output_of(["cjpeg", *words], ppm("checks", 17, 9)))
             file.flush()
-            tags = ["-Artist=nobody", "-ExposureTime=1/60", "-GPSLatitude=12.5", "-XMP-dc:Description=" + 300 * number * "x"]
+            tags = [
+                "-Artist=nobody",
+                "-ExposureTime=1/60",
+                "-GPSLatitude=12.5",
+                "-XMP-dc:Description=" + 300 * number * "x",
+            ]
             output_of(["exiftool", "-overwrite_original_in_place", *tags, file.name], b"")
             for word in ("exif", "xmp"):
                 with open(file.name, "rb") as stdin:
-                    ours = subprocess.run([jpeginfo, f"--{word}", "-"], stdin=stdin, capture_output=True).stdout
+                    ours = subprocess.run(
+                        [jpeginfo, f"--{word}", "-"], stdin=stdin, capture_output=True
+                    ).stdout
                 total += 1
-                equal += ours != b"" and ours == output_of(["exiftool", "-b", f"-{word.upper()}", file.name], b"")
+                equal += ours != b"" and ours == output_of(
+                    ["exiftool", "-b", f"-{word.upper()}", file.name], b""
+                )
     print(f"Exif and XMP data: {equal} of {total} are the bytes that exiftool gives")
     return total - equal
 
 
 def main(jpegraw, jpeginfo):
-    faults = against_djpeg(jpegraw) + of_the_same_coefficients(jpegraw) + of_profiles(jpeginfo) + of_metadata(jpeginfo)
+    faults = (
+        against_djpeg(jpegraw)
+        + of_the_same_coefficients(jpegraw)
+        + of_profiles(jpeginfo)
+        + of_metadata(jpeginfo)
+    )
     return 1 if faults else 0
 
 

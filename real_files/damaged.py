@@ -4,7 +4,14 @@ import random
 
 from pictures import ppm
 from segments import joined, segments_of
-from streams import CODINGS, PROGRESSIVE_SCRIPTS, SAMPLINGS, SEQUENTIAL_SCRIPTS, output_of, with_script
+from streams import (
+    CODINGS,
+    PROGRESSIVE_SCRIPTS,
+    SAMPLINGS,
+    SEQUENTIAL_SCRIPTS,
+    output_of,
+    with_script,
+)
 
 SIZES = [(1, 1), (9, 7), (17, 9), (33, 24), (50, 41)]
 COUNT = 4000
@@ -22,7 +29,8 @@ def whole():
             words = ["cjpeg", "-quality", "40", "-sample", sampling]
             for coding in CODINGS.values():
                 yield output_of([*words, *coding], picture)
-            # Not each component alone: README.md says where the original crate reads such a scan otherwise.
+            # Not each component alone: README.md says where the original crate reads such a scan
+            # otherwise.
             yield with_script(words, SEQUENTIAL_SCRIPTS["the last component first"], picture)
             yield with_script(words, PROGRESSIVE_SCRIPTS["spectral selection alone"], picture)
 
@@ -71,7 +79,9 @@ def pixels_of(stream):
     """How many pixels the first frame header speaks of."""
     for place in range(len(stream) - 8):
         if stream[place] == 0xFF and 0xC0 <= stream[place + 1] <= 0xC3:
-            return int.from_bytes(stream[place + 5 : place + 7], "big") * int.from_bytes(stream[place + 7 : place + 9], "big")
+            return int.from_bytes(stream[place + 5 : place + 7], "big") * int.from_bytes(
+                stream[place + 7 : place + 9], "big"
+            )
     return 0
 
 

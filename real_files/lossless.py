@@ -32,7 +32,9 @@ COLOURS = {"bgr24": 3, "bgr0": 4, "bgra": 4}
 
 def element(group, number, kind, value):
     """A DICOM element; values have an even length."""
-    value += (b" " if kind in (b"CS", b"DA", b"TM", b"LO", b"PN", b"SH", b"IS") else b"\0") * (len(value) % 2)
+    value += (b" " if kind in (b"CS", b"DA", b"TM", b"LO", b"PN", b"SH", b"IS") else b"\0") * (
+        len(value) % 2
+    )
     head = group.to_bytes(2, "little") + number.to_bytes(2, "little") + kind
     if kind in (b"OB", b"OW"):
         return head + b"\0\0" + len(value).to_bytes(4, "little") + value
@@ -93,7 +95,9 @@ def of_dcmtk():
                 subprocess.run(command, capture_output=True, check=True)
                 content = packed.read_bytes()
                 start, end = content.index(b"\xff\xd8\xff"), content.rindex(b"\xff\xd9") + 2
-                yield f"{components} of {bits} bits, selection {selection}", content[start:end], samples
+                yield f"{components} of {bits} bits, selection {selection}", content[
+                    start:end
+                ], samples
 
 
 def ffmpeg(words, content):
@@ -104,7 +108,8 @@ def ffmpeg(words, content):
 
 
 def repeated(planes, width, height, covers):
-    """The samples by pixel, luma and both chroma, each sample of chroma for the pixels it covers."""
+    """The samples by pixel, luma and both chroma, each sample of chroma for the pixels it
+    covers."""
     across, down = covers
     chroma_width = -(-width // across)
     for y in range(height):
@@ -116,7 +121,7 @@ def repeated(planes, width, height, covers):
 def luma_and_chroma(raw, width, height, covers):
     """The bytes of a picture by the planes that ffmpeg gives."""
     luma, chroma = width * height, -(-width // covers[0]) * -(-height // covers[1])
-    planes = raw[:luma], raw[luma:luma + chroma], raw[luma + chroma:]
+    planes = raw[:luma], raw[luma : luma + chroma], raw[luma + chroma :]
     return bytes(repeated(planes, width, height, covers))
 
 
@@ -124,7 +129,7 @@ def transformed(raw, size, has_alpha):
     """The samples of 9 bits, in two bytes each, as which ljpeg codes colours: a mean, and how far
     blue and red are from green."""
     for at in range(0, len(raw), size):
-        blue, green, red = raw[at:at + 3]
+        blue, green, red = raw[at : at + 3]
         yield from ((blue + 2 * green + red) >> 2, blue - green + 256, red - green + 256)
         if has_alpha:
             yield raw[at + 3]
@@ -136,7 +141,8 @@ def nine_bits(samples):
 
 
 def of_ljpeg(format, width, height, given):
-    """The files of a picture by each selection: the name of each, its stream, and ffmpeg's bytes."""
+    """The files of a picture by each selection: the name of each, its stream, and ffmpeg's
+    bytes."""
     kind = ["-f", "rawvideo", "-pix_fmt", format]
     for selection in range(1, 4):
         coded = ["-c:v", "ljpeg", "-pix_fmt", format, "-pred", str(selection), "-f", "mjpeg"]
@@ -168,8 +174,8 @@ def of_colours():
 
 
 def compare(jpegraw, title, files, seen=bytes):
-    """Prints how many files give their samples, as they are `seen`, and which don't. Returns whether
-    all do."""
+    """Prints how many files give their samples, as they are `seen`, and which don't. Returns
+    whether all do."""
     equal, failed = 0, []
     for name, stream, samples in files:
         pixels = decoded(jpegraw, stream)
@@ -183,7 +189,9 @@ def compare(jpegraw, title, files, seen=bytes):
 
 
 def main():
-    jpegraw = sys.argv[1] if len(sys.argv) > 1 else Path(__file__).resolve().parent.parent / "jpegraw"
+    jpegraw = (
+        sys.argv[1] if len(sys.argv) > 1 else Path(__file__).resolve().parent.parent / "jpegraw"
+    )
     for program, package in (("dcmcjpeg", "dcmtk"), ("ffmpeg", "ffmpeg")):
         if shutil.which(program) is None:
             sys.exit(f"lossless.py: {program} is missing; Debian's package {package} has it")

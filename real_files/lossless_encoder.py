@@ -1,4 +1,5 @@
-"""Writes lossless JPEG streams (T.81, Annex H) of planes of samples: any precision from 2 to 16 bits, all factors 1."""
+"""Writes lossless JPEG streams (T.81, Annex H) of planes of samples: any precision from 2 to 16
+bits, all factors 1."""
 
 # A code of five bits for each of the 17 categories of a difference: the number of the category.
 CODE_LENGTH, CATEGORIES = 5, 17
@@ -11,7 +12,9 @@ def segment(marker, parameters):
 def frame_header(precision, width, height, count):
     """SOF3: components 1 to `count`, with no quantization tables."""
     components = [value for index in range(1, count + 1) for value in (index, 0x11, 0)]
-    return segment(0xC3, [precision, *height.to_bytes(2, "big"), *width.to_bytes(2, "big"), count, *components])
+    return segment(
+        0xC3, [precision, *height.to_bytes(2, "big"), *width.to_bytes(2, "big"), count, *components]
+    )
 
 
 def table():
@@ -52,7 +55,9 @@ def coded_difference(difference):
     code = format(category, f"0{CODE_LENGTH}b")
     if category in (0, 16):
         return code
-    return code + format(difference if difference > 0 else difference + (1 << category) - 1, f"0{category}b")
+    return code + format(
+        difference if difference > 0 else difference + (1 << category) - 1, f"0{category}b"
+    )
 
 
 def scan_data(planes, selection, precision):
@@ -71,7 +76,11 @@ def scan_data(planes, selection, precision):
 def lossless_stream(planes, precision, selection, interleaved):
     """The stream of planes, each a list of lines, in one scan or in a scan for each."""
     every = range(len(planes))
-    stream = b"\xff\xd8" + frame_header(precision, len(planes[0][0]), len(planes[0]), len(planes)) + table()
+    stream = (
+        b"\xff\xd8"
+        + frame_header(precision, len(planes[0][0]), len(planes[0]), len(planes))
+        + table()
+    )
     for indices in [every] if interleaved else [[index] for index in every]:
         data = scan_data([planes[index] for index in indices], selection, precision)
         stream += scan_header(indices, selection) + data

@@ -1,4 +1,5 @@
-"""Pictures that are drawn: red, green and blue of each pixel, line by line from above, the same in each run."""
+"""Pictures that are drawn: red, green and blue of each pixel, line by line from above, the same in
+each run."""
 
 import random
 
@@ -7,7 +8,10 @@ def gradient(width, height):
     """Each colour rises in a direction of its own."""
     right, down = max(1, width - 1), max(1, height - 1)
     return bytes(
-        value for y in range(height) for x in range(width) for value in (255 * x // right, 255 * y // down, 3 * (x + y) % 256)
+        value
+        for y in range(height)
+        for x in range(width)
+        for value in (255 * x // right, 255 * y // down, 3 * (x + y) % 256)
     )
 
 

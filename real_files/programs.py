@@ -1,15 +1,19 @@
-"""Compares the programs with those of others on photographs, or on files that cjpeg, ImageMagick and exiftool make where none are named.
+"""Compares the programs with those of others on photographs, or on files that cjpeg, ImageMagick
+and exiftool make where none are named.
 
-programs.py CRATES [FILE..]: CRATES is the folder of the crates, in which the programs were built. For each file it compares
-- what `jpeginfo --json` says with `identify` (sizes, components' sampling), `exiftool` (process, precision, orientation) and the bytes of
-  exiftool's Exif, XMP and ICC data with those that `jpeginfo --exif`, `--xmp` and `--icc` write;
-- the sizes of `jpeg2pnm` at each scale with those of `djpeg -scale`, and the samples of the whole picture with djpeg's (the mean difference
-  is printed, for djpeg upsamples in another way);
-- the sizes of `thumbnail` with those of ImageMagick's `-thumbnail`, its samples with the means of the boxes of `jpeg2pnm`'s picture at the least
-  scale that isn't smaller, and the picture with that of `--as-stored` turned by ImageMagick's `-auto-orient`, sample by sample;
-- the frames of `mjpeg_frames` with those of ffmpeg as rawvideo, from plain frames and from AVI files with and without sound, which have to give
-  the same samples, and with those of its numbered files.
-The status is 1 where something differs that has to be the same.
+programs.py CRATES [FILE..]: CRATES is the folder of the crates, in which the programs were built.
+For each file it compares
+- what `jpeginfo --json` says with `identify` (sizes, components' sampling), `exiftool` (process,
+  precision, orientation) and the bytes of exiftool's Exif, XMP and ICC data with those that
+  `jpeginfo --exif`, `--xmp` and `--icc` write;
+- the sizes of `jpeg2pnm` at each scale with those of `djpeg -scale`, and the samples of the whole
+  picture with djpeg's (the mean difference is printed, for djpeg upsamples in another way);
+- the sizes of `thumbnail` with those of ImageMagick's `-thumbnail`, its samples with the means of
+  the boxes of `jpeg2pnm`'s picture at the least scale that isn't smaller, and the picture with that
+  of `--as-stored` turned by ImageMagick's `-auto-orient`, sample by sample;
+- the frames of `mjpeg_frames` with those of ffmpeg as rawvideo, from plain frames and from AVI
+  files with and without sound, which have to give the same samples, and with those of its numbered
+  files. The status is 1 where something differs that has to be the same.
 """
 
 import json
@@ -23,7 +27,12 @@ from streams import output_of
 
 SCALES = {"1/8": 1, "1/4": 2, "1/2": 4, "1": 8}
 SIZES = ("128x128", "50x1000", "1x1", "100x9", "640x480")
-PROCESSES = {"baseline": "Baseline DCT", "extended": "Extended sequential DCT", "progressive": "Progressive DCT", "lossless": "Lossless"}
+PROCESSES = {
+    "baseline": "Baseline DCT",
+    "extended": "Extended sequential DCT",
+    "progressive": "Progressive DCT",
+    "lossless": "Lossless",
+}
 
 
 class Tools:
@@ -45,8 +54,18 @@ def made_files(folder):
         for words in ([], ["-progressive"], ["-restart", "1"], ["-icc", profile]):
             number += 1
             path = folder / f"made-{number}.jpg"
-            path.write_bytes(output_of(["cjpeg", "-quality", "90", "-sample", sampling, *map(str, words)], ppm("gradient", 203, 151)))
-            tags = ["-n", f"-Orientation={1 + number % 8}", "-Artist=nobody", "-XMP-dc:Description=" + 200 * "x"]
+            path.write_bytes(
+                output_of(
+                    ["cjpeg", "-quality", "90", "-sample", sampling, *map(str, words)],
+                    ppm("gradient", 203, 151),
+                )
+            )
+            tags = [
+                "-n",
+                f"-Orientation={1 + number % 8}",
+                "-Artist=nobody",
+                "-XMP-dc:Description=" + 200 * "x",
+            ]
             if number % 3:
                 output_of(["exiftool", "-q", "-overwrite_original", *tags, path], b"")
             yield path
@@ -68,13 +87,22 @@ def size_of(netpbm):
 
 def samples_of(netpbm):
     """The samples of a PGM, PPM or PAM file."""
-    return netpbm.split(b"ENDHDR\n", 1)[1] if netpbm.startswith(b"P7") else netpbm.split(b"\n", 3)[3]
+    return (
+        netpbm.split(b"ENDHDR\n", 1)[1] if netpbm.startswith(b"P7") else netpbm.split(b"\n", 3)[3]
+    )
 
 
 def description_faults(tools, path):
     """What `jpeginfo` says in another way than identify and exiftool."""
     said = json.loads(tools.run("jpeginfo", "--json", path))
-    tags = ["-Orientation", "-EncodingProcess", "-BitsPerSample", "-ColorComponents", "-ImageWidth", "-ImageHeight"]
+    tags = [
+        "-Orientation",
+        "-EncodingProcess",
+        "-BitsPerSample",
+        "-ColorComponents",
+        "-ImageWidth",
+        "-ImageHeight",
+    ]
     theirs = json.loads(output_of(["exiftool", "-j", "-n", *tags, path], b""))[0]
     names = json.loads(output_of(["exiftool", "-j", "-EncodingProcess", path], b""))[0]
     width, height = output_of(["identify", "-format", "%w %h", path], b"").split()
@@ -101,7 +129,9 @@ def data_faults(tools, path):
     faults = []
     for option, tag in (("--exif", "-Exif"), ("--xmp", "-XMP"), ("--icc", "-ICC_Profile")):
         theirs = output_of(["exiftool", "-b", tag, path], b"")
-        done = subprocess.run([tools.crates / "jpeginfo/out/jpeginfo", option, "-", path], capture_output=True)
+        done = subprocess.run(
+            [tools.crates / "jpeginfo/out/jpeginfo", option, "-", path], capture_output=True
+        )
         if done.stdout != theirs or (done.returncode == 0) != bool(theirs):
             faults.append(f"{option}: {len(done.stdout)} bytes, not {len(theirs)}")
     return faults
@@ -127,13 +157,19 @@ def picture_faults(tools, path, means):
 
 def orientation_of(path):
     """The orientation that exiftool reads, or 1."""
-    return json.loads(output_of(["exiftool", "-j", "-n", "-Orientation", path], b""))[0].get("Orientation", 1)
+    return json.loads(output_of(["exiftool", "-j", "-n", "-Orientation", path], b""))[0].get(
+        "Orientation", 1
+    )
 
 
 def turned(netpbm, orientation):
     """A picture turned upright by ImageMagick."""
-    names = "Undefined TopLeft TopRight BottomRight BottomLeft LeftTop RightTop RightBottom LeftBottom".split()
-    return output_of(["convert", "pnm:-", "-orient", names[orientation], "-auto-orient", "-depth", "8", "pnm:-"], netpbm)
+    names = "Undefined TopLeft TopRight BottomRight BottomLeft".split()
+    names += "LeftTop RightTop RightBottom LeftBottom".split()
+    return output_of(
+        ["convert", "pnm:-", "-orient", names[orientation], "-auto-orient", "-depth", "8", "pnm:-"],
+        netpbm,
+    )
 
 
 def boxed(samples, count, own, size):
@@ -153,12 +189,15 @@ def boxed(samples, count, own, size):
 
 
 def thumbnail_faults(tools, path, most):
-    """Whether `thumbnail` gives another size than ImageMagick, other samples than the means of boxes, or turns the picture in another way."""
+    """Whether `thumbnail` gives another size than ImageMagick, other samples than the means of
+    boxes, or turns the picture in another way."""
     ours = tools.run("thumbnail", "--max", most, path)
     stored = tools.run("thumbnail", "--max", most, "--as-stored", path)
     faults = []
     for words, made in ((["-auto-orient"], ours), ([], stored)):
-        theirs = output_of(["convert", path, *words, "-thumbnail", most + ">", "-format", "%w %h", "info:"], b"").split()
+        theirs = output_of(
+            ["convert", path, *words, "-thumbnail", most + ">", "-format", "%w %h", "info:"], b""
+        ).split()
         if size_of(made) != [int(side) for side in theirs]:
             faults.append(f"thumbnail of {size_of(made)}, not {theirs}")
     size = size_of(stored)
@@ -173,7 +212,9 @@ def thumbnail_faults(tools, path, most):
         return faults
     orientation = orientation_of(path)
     if orientation > 4:
-        stored = tools.run("thumbnail", "--max", "x".join(reversed(most.split("x"))), "--as-stored", path)
+        stored = tools.run(
+            "thumbnail", "--max", "x".join(reversed(most.split("x"))), "--as-stored", path
+        )
     upright = turned(stored, orientation)
     if size_of(upright) != size_of(ours) or samples_of(upright) != samples_of(ours):
         faults.append("another picture than ImageMagick's")
@@ -188,17 +229,43 @@ def movie(folder, name, *words):
 
 
 def frame_faults(tools, folder):
-    """Whether the frames of MJPEG streams and AVI files are those of ffmpeg, by number and size, and those of the numbered files, by sample."""
+    """Whether the frames of MJPEG streams and AVI files are those of ffmpeg, by number and size,
+    and those of the numbered files, by sample."""
     sound = ["-f", "lavfi", "-i", "sine=duration=2", "-c:a", "pcm_s16le"]
-    movies = [movie(folder, "plain.mjpeg", "-f", "mjpeg"), movie(folder, "silent.avi"), movie(folder, "sound.avi", *sound)]
+    movies = [
+        movie(folder, "plain.mjpeg", "-f", "mjpeg"),
+        movie(folder, "silent.avi"),
+        movie(folder, "sound.avi", *sound),
+    ]
     faults, first = [], None
     for path in movies:
         raw = tools.run("mjpeg_frames", path)
-        theirs = output_of(["ffmpeg", "-v", "error", "-i", path, "-f", "rawvideo", "-pix_fmt", "rgb24", "-"], b"")
+        theirs = output_of(
+            ["ffmpeg", "-v", "error", "-i", path, "-f", "rawvideo", "-pix_fmt", "rgb24", "-"], b""
+        )
         tools.run("mjpeg_frames", "-o", folder / (path.name + "-%04d.ppm"), path)
-        numbered = b"".join(samples_of(frame.read_bytes()) for frame in sorted(folder.glob(path.name + "-*.ppm")))
-        back = ["ffmpeg", "-v", "error", "-f", "rawvideo", "-pixel_format", "rgb24", "-video_size", "96x64", "-i", "-", "-f", "framemd5", "-"]
-        read = [line for line in output_of(back, raw).decode().splitlines() if not line.startswith("#")]
+        numbered = b"".join(
+            samples_of(frame.read_bytes()) for frame in sorted(folder.glob(path.name + "-*.ppm"))
+        )
+        back = [
+            "ffmpeg",
+            "-v",
+            "error",
+            "-f",
+            "rawvideo",
+            "-pixel_format",
+            "rgb24",
+            "-video_size",
+            "96x64",
+            "-i",
+            "-",
+            "-f",
+            "framemd5",
+            "-",
+        ]
+        read = [
+            line for line in output_of(back, raw).decode().splitlines() if not line.startswith("#")
+        ]
         first = first or raw
         if len(raw) != len(theirs):
             faults.append(f"{path.name}: {len(raw)} bytes of frames, not {len(theirs)}")
@@ -209,7 +276,10 @@ def frame_faults(tools, folder):
         if raw != first:
             faults.append(f"{path.name}: other samples than of the plain frames")
         mean = sum(abs(a - b) for a, b in zip(raw, theirs)) / len(theirs)
-        print(f"{path.name}: {len(raw) // (96 * 64 * 3)} frames, mean difference from ffmpeg's {mean:.3f}")
+        print(
+            f"{path.name}: {len(raw) // (96 * 64 * 3)} frames,"
+            f" mean difference from ffmpeg's {mean:.3f}"
+        )
     return faults
 
 
@@ -224,7 +294,10 @@ def main(crates, *files):
             found += [fault for most in SIZES for fault in thumbnail_faults(tools, path, most)]
             faults += [f"{path.name}: {fault}" for fault in found]
         faults += frame_faults(tools, folder)
-    print(f"programs: {len(paths)} files, greatest mean difference from djpeg {max(means):.3f}, {len(faults)} faults")
+    print(
+        f"programs: {len(paths)} files, greatest mean difference from djpeg {max(means):.3f},"
+        f" {len(faults)} faults"
+    )
     print(*faults, sep="\n", end="\n" if faults else "")
     return 1 if faults else 0
 

@@ -61,8 +61,8 @@ def segments(stream):
     """The segments before the entropy-coded data, by marker code, and those data."""
     found, at = {}, 2
     while True:
-        code, length = stream[at + 1], int.from_bytes(stream[at + 2:at + 4], "big")
-        found.setdefault(code, []).append(stream[at + 4:at + 2 + length])
+        code, length = stream[at + 1], int.from_bytes(stream[at + 2 : at + 4], "big")
+        found.setdefault(code, []).append(stream[at + 4 : at + 2 + length])
         at += 2 + length
         if code == 0xDA:
             return found, stream[at:]
@@ -92,11 +92,11 @@ def differences(data, symbols, number):
     while len(out) < number:
         length, code = 0, 0
         while (length, code) not in symbols:
-            if length == 16 or "|" in text[at:at + 1]:
+            if length == 16 or "|" in text[at : at + 1]:
                 at, length, code = text.index("|", at) + 1, 0, 0
             length, code, at = length + 1, 2 * code + int(text[at]), at + 1
         size = symbols[length, code]
-        value = int(text[at:at + size] or "0", 2) if size < 16 else 1 << 15
+        value = int(text[at : at + size] or "0", 2) if size < 16 else 1 << 15
         at += size if size < 16 else 0
         out.append(value - (1 << size) + 1 if 0 < size < 16 and value < 1 << (size - 1) else value)
     return out
@@ -110,8 +110,15 @@ def by_its_own_rule(stream, bits):
         left = samples[at - 1] if at else half
         above = samples[at - WIDTH] if at >= WIDTH else half
         corner = samples[at - WIDTH - 1] if at > WIDTH else half
-        rules = (left, above, corner, left + above - corner, left + ((above - corner) >> 1),
-                 above + ((left - corner) >> 1), (left + above) >> 1)
+        rules = (
+            left,
+            above,
+            corner,
+            left + above - corner,
+            left + ((above - corner) >> 1),
+            above + ((left - corner) >> 1),
+            (left + above) >> 1,
+        )
         guess = rules[selection - 1] if at % WIDTH else above
         samples.append((guess + change) & 0xFFFF)
     return samples
@@ -124,7 +131,9 @@ def decoded(jpegraw, stream):
 
 
 def main():
-    jpegraw = sys.argv[1] if len(sys.argv) > 1 else Path(__file__).resolve().parent.parent / "jpegraw"
+    jpegraw = (
+        sys.argv[1] if len(sys.argv) > 1 else Path(__file__).resolve().parent.parent / "jpegraw"
+    )
     given, by_rule, failed = 0, 0, []
     with tempfile.TemporaryDirectory() as name:
         folder = Path(name)
@@ -148,8 +157,10 @@ def main():
                         by_rule += 1
                     else:
                         failed.append(f"{bits} bits, selection {selection}, interval {interval}")
-    print(f"{given} files give their samples; {by_rule} hold them by pvrg-jpeg's own rule; "
-          f"{len(failed)} neither")
+    print(
+        f"{given} files give their samples; {by_rule} hold them by pvrg-jpeg's own rule; "
+        f"{len(failed)} neither"
+    )
     for it in failed:
         print(it)
     sys.exit(1 if failed else 0)

@@ -1,10 +1,12 @@
 """Refuses each allocation of the programs in turn.
 
-refused.py CRATES [FILE]: CRATES is the folder of the crates, in which the programs were built; FILE is a photograph, or a picture of 203x151 with
-Exif data, XMP data and an ICC profile that cjpeg and exiftool make where none is named. Each program runs with its first allocation refused, then
-with its second, and so on until none is. Each run has to end with status 1 and a line that says `out of memory`, or with the output of a run
-where nothing is refused; what it wrote before is the beginning of that output. A library of C takes the place of the C library's `malloc` and
-`realloc` in the program alone.
+refused.py CRATES [FILE]: CRATES is the folder of the crates, in which the programs were built; FILE
+is a photograph, or a picture of 203x151 with Exif data, XMP data and an ICC profile that cjpeg and
+exiftool make where none is named. Each program runs with its first allocation refused, then with
+its second, and so on until none is. Each run has to end with status 1 and a line that says `out of
+memory`, or with the output of a run where nothing is refused; what it wrote before is the beginning
+of that output. A library of C takes the place of the C library's `malloc` and `realloc` in the
+program alone.
 """
 
 import os
@@ -50,8 +52,21 @@ def made_file(path):
     """Makes a picture with Exif data, XMP data and an ICC profile."""
     profile = path.with_suffix(".icc")
     profile.write_bytes(bytes(range(256)) * 300)
-    path.write_bytes(output_of(["cjpeg", "-quality", "90", "-icc", str(profile)], ppm("gradient", 203, 151)))
-    output_of(["exiftool", "-q", "-overwrite_original", "-n", "-Orientation=6", "-XMP-dc:Description=text", str(path)], b"")
+    path.write_bytes(
+        output_of(["cjpeg", "-quality", "90", "-icc", str(profile)], ppm("gradient", 203, 151))
+    )
+    output_of(
+        [
+            "exiftool",
+            "-q",
+            "-overwrite_original",
+            "-n",
+            "-Orientation=6",
+            "-XMP-dc:Description=text",
+            str(path),
+        ],
+        b"",
+    )
     return path
 
 
@@ -73,8 +88,15 @@ def runs_of(photo, movie, frames):
 def refused_run(command, stdin, shim, number):
     """What a run gives whose allocation of this number is refused, and whether there was one."""
     told, told_to = os.pipe()
-    settings = {**os.environ, "LD_PRELOAD": str(shim), "REFUSED": str(number), "REFUSED_TO": str(told_to)}
-    done = subprocess.run(command, input=stdin, capture_output=True, env=settings, pass_fds=[told_to], timeout=120)
+    settings = {
+        **os.environ,
+        "LD_PRELOAD": str(shim),
+        "REFUSED": str(number),
+        "REFUSED_TO": str(told_to),
+    }
+    done = subprocess.run(
+        command, input=stdin, capture_output=True, env=settings, pass_fds=[told_to], timeout=120
+    )
     os.close(told_to)
     was_refused = os.read(told, 1) == b"x"
     os.close(told)
@@ -82,16 +104,23 @@ def refused_run(command, stdin, shim, number):
 
 
 def faults_of(command, stdin, shim):
-    """How many runs there are until no allocation is refused, and which of them end otherwise than they have to."""
+    """How many runs there are until no allocation is refused, and which of them end otherwise than
+    they have to."""
     whole = subprocess.run(command, input=stdin, capture_output=True, check=True).stdout
     faults, number, was_refused = [], 0, True
     while was_refused:
         number += 1
         done, was_refused = refused_run(command, stdin, shim, number)
-        says = done.returncode == 1 and b"out of memory" in done.stderr and whole.startswith(done.stdout)
+        says = (
+            done.returncode == 1
+            and b"out of memory" in done.stderr
+            and whole.startswith(done.stdout)
+        )
         gives = done.returncode == 0 and done.stdout == whole and not done.stderr
         if not gives and not (was_refused and says):
-            faults.append(f"{command[0]}, allocation {number}: status {done.returncode}, {done.stderr!r}")
+            faults.append(
+                f"{command[0]}, allocation {number}: status {done.returncode}, {done.stderr!r}"
+            )
     return number - 1, faults
 
 
@@ -101,7 +130,9 @@ def main(crates, *files):
         folder = Path(name)
         (folder / "refuse.c").write_text(SHIM)
         shim = folder / "refuse.so"
-        subprocess.run(["cc", "-O2", "-shared", "-fPIC", "-o", shim, folder / "refuse.c", "-ldl"], check=True)
+        subprocess.run(
+            ["cc", "-O2", "-shared", "-fPIC", "-o", shim, folder / "refuse.c", "-ldl"], check=True
+        )
         photo = Path(files[0]) if files else made_file(folder / "made.jpg")
         movie, frames = folder / "movie.avi", folder / "frames.mjpeg"
         picture = ["-f", "lavfi", "-i", "testsrc=size=96x64:rate=5:duration=1"]
@@ -110,7 +141,10 @@ def main(crates, *files):
         for program, words, stdin in runs_of(photo, movie, frames):
             command = [str(Path(crates) / program / "out" / program), *map(str, words)]
             number, found = faults_of(command, stdin, shim)
-            print(f"{' '.join([program, *map(str, words)]).replace(str(folder) + '/', '')}: {number} allocations, {len(found)} faults")
+            print(
+                f"{' '.join([program, *map(str, words)]).replace(str(folder) + '/', '')}:"
+                f" {number} allocations, {len(found)} faults"
+            )
             total, faults = total + number, faults + found
     print(f"refused: {total} runs, {len(faults)} faults", *faults, sep="\n")
     return 1 if faults else 0

@@ -16,7 +16,8 @@ def end_of_scan(stream, place):
 
 
 def segments_of(stream):
-    """The segments between SOI and EOI, each a marker's code and its bytes; a scan's data stand with its header."""
+    """The segments between SOI and EOI, each a marker's code and its bytes; a scan's data stand
+    with its header."""
     segments = []
     place = 2
     while stream[place : place + 2] != EOI:
@@ -40,13 +41,15 @@ def segment(code, payload):
 
 
 def mjpeg_frame(stream):
-    """The file as a frame of an AVI file has it: without Huffman tables, after a segment that says AVI1."""
+    """The file as a frame of an AVI file has it: without Huffman tables, after a segment that says
+    AVI1."""
     kept = [part for part in segments_of(stream) if part[0] not in (APP0, DHT)]
     return joined([segment(APP0, b"AVI1" + bytes(10)), *kept])
 
 
 def with_adobe(stream, transform):
-    """The file with Adobe's segment of this colour transform, or where it is None with no segment that speaks of colours."""
+    """The file with Adobe's segment of this colour transform, or where it is None with no segment
+    that speaks of colours."""
     kept = [part for part in segments_of(stream) if part[0] not in (APP0, APP14)]
     if transform is None:
         return joined(kept)
@@ -71,8 +74,8 @@ def without_component(stream, name):
 
 
 def of_components(streams):
-    """The file whose components are those of files of one component each, of equal sizes and quantization tables. Their scans
-    follow one another, and no segment speaks of colours."""
+    """The file whose components are those of files of one component each, of equal sizes and
+    quantization tables. Their scans follow one another, and no segment speaks of colours."""
     parts = []
     for code, text in segments_of(streams[0]):
         if code in (SOF0, SOF2):

@@ -1,4 +1,5 @@
-"""JPEG files of many kinds, made by cjpeg, jpegtran and ImageMagick's convert, and by cutting what they make.
+"""JPEG files of many kinds, made by cjpeg, jpegtran and ImageMagick's convert, and by cutting what
+they make.
 
 `groups` gives for each kind its name and its files, each a name and its bytes.
 """
@@ -11,9 +12,23 @@ from segments import mjpeg_frame, prefixes, with_adobe, without_component
 
 SIZES = [(1, 1), (2, 3), (7, 5), (8, 8), (17, 9), (33, 40), (64, 48), (100, 75), (203, 151)]
 FEW_SIZES = [(1, 1), (9, 7), (17, 33), (50, 41), (97, 64)]
-# The sampling factors of the components, as `cjpeg -sample` takes them; it repeats the last for those that are not named.
-SAMPLINGS = ["1x1", "2x1", "1x2", "2x2", "4x1", "1x4", "1x1,2x1", "1x1,1x2", "2x2,1x1,1x2", "2x2,2x1,1x1", "1x1,1x1,2x2"]
-# In these a component has half of the greatest factor of 4. Where it stands alone in a scan the original crate reads too many blocks.
+# The sampling factors of the components, as `cjpeg -sample` takes them; it repeats the last for
+# those that are not named.
+SAMPLINGS = [
+    "1x1",
+    "2x1",
+    "1x2",
+    "2x2",
+    "4x1",
+    "1x4",
+    "1x1,2x1",
+    "1x1,1x2",
+    "2x2,1x1,1x2",
+    "2x2,2x1,1x1",
+    "1x1,1x1,2x2",
+]
+# In these a component has half of the greatest factor of 4. Where it stands alone in a scan the
+# original crate reads too many blocks.
 HALVES_OF_FOUR = ["4x1,2x1,1x1", "1x4,1x2,1x1"]
 FEW_SAMPLINGS = ["1x1", "2x1", "1x2", "2x2"]
 CODINGS = {
@@ -35,13 +50,16 @@ SEQUENTIAL_SCRIPTS = {
     "the last component first": "2;\n0 1;\n",
 }
 PROGRESSIVE_SCRIPTS = {
-    "spectral selection alone": "0 1 2: 0-0, 0, 0;\n0: 1-5, 0, 0;\n2: 1-63, 0, 0;\n1: 1-63, 0, 0;\n0: 6-63, 0, 0;\n",
+    "spectral selection alone": "0 1 2: 0-0, 0, 0;\n0: 1-5, 0, 0;\n"
+    "2: 1-63, 0, 0;\n1: 1-63, 0, 0;\n0: 6-63, 0, 0;\n",
     "three steps of approximation": "".join(
-        f"0 1 2: 0-0, {high}, {low};\n" + "".join(f"{component}: 1-63, {high}, {low};\n" for component in range(3))
+        f"0 1 2: 0-0, {high}, {low};\n"
+        + "".join(f"{component}: 1-63, {high}, {low};\n" for component in range(3))
         for high, low in [(0, 2), (2, 1), (1, 0)]
     ),
     "each component alone": "".join(
-        f"{component}: 0-0, 0, 1;\n{component}: 1-8, 0, 2;\n{component}: 9-63, 0, 2;\n{component}: 1-63, 2, 1;\n"
+        f"{component}: 0-0, 0, 1;\n{component}: 1-8, 0, 2;\n"
+        f"{component}: 9-63, 0, 2;\n{component}: 1-63, 2, 1;\n"
         f"{component}: 0-0, 1, 0;\n{component}: 1-63, 1, 0;\n"
         for component in range(3)
     ),
@@ -80,7 +98,9 @@ def sampled():
     for name, picture in drawn(SIZES):
         for sampling in SAMPLINGS:
             for coding, words in CODINGS.items():
-                yield f"{name}; {sampling}; {coding}", output_of(["cjpeg", "-quality", "80", "-sample", sampling, *words], picture)
+                yield f"{name}; {sampling}; {coding}", output_of(
+                    ["cjpeg", "-quality", "80", "-sample", sampling, *words], picture
+                )
 
 
 def one_sample_a_component():
@@ -88,7 +108,9 @@ def one_sample_a_component():
     for name, picture in drawn(SIZES):
         for colours, colour_words in COLOURS.items():
             for coding, words in CODINGS.items():
-                yield f"{name}; {colours}; {coding}", output_of(["cjpeg", "-quality", "80", *colour_words, *words], picture)
+                yield f"{name}; {colours}; {coding}", output_of(
+                    ["cjpeg", "-quality", "80", *colour_words, *words], picture
+                )
 
 
 def scripted(scripts, restarts):
@@ -119,7 +141,9 @@ def mjpeg_frames():
     """Frames without Huffman tables."""
     for name, picture in drawn(SIZES):
         for sampling in FEW_SAMPLINGS:
-            yield f"{name}; {sampling}", mjpeg_frame(output_of(["cjpeg", "-sample", sampling], picture))
+            yield f"{name}; {sampling}", mjpeg_frame(
+                output_of(["cjpeg", "-sample", sampling], picture)
+            )
         yield f"{name}; grey", mjpeg_frame(output_of(["cjpeg", "-grayscale"], picture))
 
 
@@ -129,18 +153,32 @@ def other_colours():
         for sampling in FEW_SAMPLINGS:
             stream = output_of(["cjpeg", "-sample", sampling], picture)
             for transform in (None, 0, 1, 2):
-                yield f"{name}; {sampling}; Adobe's colours {transform}", with_adobe(stream, transform)
+                yield f"{name}; {sampling}; Adobe's colours {transform}", with_adobe(
+                    stream, transform
+                )
 
 
 def four_components():
-    """Cyan, magenta, yellow and black by ImageMagick, and the same coefficients read as YCCK and with no word on colours."""
+    """Cyan, magenta, yellow and black by ImageMagick, and the same coefficients read as YCCK and
+    with no word on colours."""
     for name, picture in drawn(FEW_SIZES):
         for sampling in FEW_SAMPLINGS:
             for interlace in ("none", "JPEG"):
-                words = ["convert", "ppm:-", "-colorspace", "CMYK", "-quality", "85", "-sampling-factor", sampling]
+                words = [
+                    "convert",
+                    "ppm:-",
+                    "-colorspace",
+                    "CMYK",
+                    "-quality",
+                    "85",
+                    "-sampling-factor",
+                    sampling,
+                ]
                 stream = output_of([*words, "-interlace", interlace, "jpg:-"], picture)
+                coding = f"{name}; {sampling}; interlace {interlace}"
                 for transform in (None, 0, 2):
-                    yield f"{name}; {sampling}; interlace {interlace}; Adobe's colours {transform}", with_adobe(stream, transform)
+                    adobe = f"Adobe's colours {transform}"
+                    yield f"{coding}; {adobe}", with_adobe(stream, transform)
 
 
 def groups():
@@ -159,7 +197,8 @@ def groups():
 
 
 def same_coefficients():
-    """Files of the same coefficients: for each picture a name and its codings, each a name and its bytes."""
+    """Files of the same coefficients: for each picture a name and its codings, each a name and its
+    bytes."""
     for name, picture in drawn(FEW_SIZES):
         for sampling in SAMPLINGS + HALVES_OF_FOUR:
             stream = output_of(["cjpeg", "-quality", "85", "-sample", sampling], picture)

@@ -1,8 +1,10 @@
-"""make_files.py FOLDER EVERY: writes JPEG files of many kinds to FOLDER, and their names to FOLDER/list.
+"""make_files.py FOLDER EVERY: writes JPEG files of many kinds to FOLDER, and their names to
+FOLDER/list.
 
-The files are those of real_files/ (cjpeg, jpegtran and ImageMagick make them), of which each kind gives every EVERYth; the
-same damaged; lossless files of 2 to 16 bits; lossless files of dcmtk; and files with Exif data of each orientation. What a
-missing program would make is left out, with a message.
+The files are those of real_files/ (cjpeg, jpegtran and ImageMagick make them), of which each kind
+gives every EVERYth; the same damaged; lossless files of 2 to 16 bits; lossless files of dcmtk; and
+files with Exif data of each orientation. What a missing program would make is left out, with a
+message.
 """
 
 import random
@@ -42,7 +44,9 @@ def with_orientations():
             data = exif(orientation, order)
             part = segment(APP1, b"Exif\0\0" + data)
             told = orientation if 1 <= orientation <= 8 else 1
-            yield f"{order.decode()}-{orientation}-orientation-{told}", joined([part, *segments_of(stream)]), data
+            yield f"{order.decode()}-{orientation}-orientation-{told}", joined(
+                [part, *segments_of(stream)]
+            ), data
 
 
 def with_profile():
@@ -51,7 +55,8 @@ def with_profile():
     parts = [profile[start : start + 60_000] for start in range(0, len(profile), 60_000)]
     stream = output_of(["cjpeg", "-quality", "80"], ppm("noise", 24, 24))
     segments = [
-        segment(APP2, b"ICC_PROFILE\0%c%c" % (number, len(parts)) + part) for number, part in enumerate(parts, 1)
+        segment(APP2, b"ICC_PROFILE\0%c%c" % (number, len(parts)) + part)
+        for number, part in enumerate(parts, 1)
     ]
     return joined([*segments, *segments_of(stream)]), profile
 
@@ -61,17 +66,27 @@ def lossless():
     chance = random.Random(2)
     for precision in range(2, 17):
         for count in (1, 3, 4):
-            width, height, selection = chance.randint(1, 40), chance.randint(1, 30), chance.randint(1, 7)
+            width, height, selection = (
+                chance.randint(1, 40),
+                chance.randint(1, 30),
+                chance.randint(1, 7),
+            )
             planes = [
-                [[chance.randrange(1 << precision) for _ in range(width)] for _ in range(height)] for _ in range(count)
+                [[chance.randrange(1 << precision) for _ in range(width)] for _ in range(height)]
+                for _ in range(count)
             ]
-            yield f"lossless-{count}-of-{precision}-bits", lossless_stream(planes, precision, selection, True)
+            yield f"lossless-{count}-of-{precision}-bits", lossless_stream(
+                planes, precision, selection, True
+            )
 
 
 def of_dcmtk():
-    """Files of dcmcjpeg, by each selection of a predictor: img2dcm gives it a picture in a DICOM file."""
+    """Files of dcmcjpeg, by each selection of a predictor: img2dcm gives it a picture in a DICOM
+    file."""
     with tempfile.TemporaryDirectory() as folder:
-        bitmap, plain, packed = (Path(folder) / name for name in ("picture.bmp", "plain.dcm", "packed.dcm"))
+        bitmap, plain, packed = (
+            Path(folder) / name for name in ("picture.bmp", "plain.dcm", "packed.dcm")
+        )
         for kind in ("gradient", "noise"):
             bitmap.write_bytes(output_of(["convert", "ppm:-", "bmp3:-"], ppm(kind, 97, 61)))
             subprocess.run(["img2dcm", "-i", "BMP", bitmap, plain], capture_output=True, check=True)
@@ -114,7 +129,10 @@ def main(folder, every):
             write(name, stream, exif=data)
         stream, profile = with_profile()
         write("profile", stream, icc=profile)
-        write("photo", output_of(["cjpeg", "-quality", "88", "-sample", "2x2"], ppm("gradient", 640, 425)))
+        write(
+            "photo",
+            output_of(["cjpeg", "-quality", "88", "-sample", "2x2"], ppm("gradient", 640, 425)),
+        )
     if has("files of dcmtk", "img2dcm", "dcmcjpeg", "convert"):
         for name, stream in of_dcmtk():
             write(name, stream)

@@ -1,4 +1,5 @@
-"""pixels.py JPEGRAW LIST: each file that LIST names, decoded by Pillow with the plugin, has the pixels that jpegraw writes."""
+"""pixels.py JPEGRAW LIST: each file that LIST names, decoded by Pillow with the plugin, has the
+pixels that jpegraw writes."""
 
 import subprocess
 import sys
@@ -47,7 +48,11 @@ def main(jpegraw, names):
             counts["equal"] += 1
         else:
             faults.append(name)
-    print(f"pillow: {len(names)} files: {dict(counts)}; {zaxbriar_pillow.decoded} decoded by zaxbriar,", end=" ")
+    print(
+        f"pillow: {len(names)} files: {dict(counts)};",
+        f"{zaxbriar_pillow.decoded} decoded by zaxbriar,",
+        end=" ",
+    )
     print(f"{zaxbriar_pillow.decoded_in_place} of them in place; {len(faults)} faults")
     print(*faults, sep="\n", end="\n" if faults else "")
     sys.exit(1 if faults else 0)

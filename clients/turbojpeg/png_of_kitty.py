@@ -1,4 +1,5 @@
-"""Takes the PNG files out of what timg writes for the terminal kitty: png_of_kitty.py < OUTPUT > PICTURE."""
+"""Takes the PNG files out of what timg writes for the terminal kitty: png_of_kitty.py < OUTPUT >
+PICTURE."""
 
 import base64
 import re

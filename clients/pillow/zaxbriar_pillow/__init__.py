@@ -16,7 +16,8 @@ decoded_in_place = 0
 
 
 def _options_for(whole, scale):
-    """The options that ask for a picture at 1/scale. The longer side picks it: the shorter may be as long at two scales."""
+    """The options that ask for a picture at 1/scale. The longer side picks it: the shorter may be
+    as long at two scales."""
     if scale <= 1:
         return {}
     width, height = -(-whole.width // scale), -(-whole.height // scale)
@@ -26,7 +27,8 @@ def _options_for(whole, scale):
 
 
 def _memory_of(image, pixel_bytes):
-    """The address of an image's first line and the bytes from a line to the next, where all lines are equally far."""
+    """The address of an image's first line and the bytes from a line to the next, where all lines
+    are equally far."""
     try:
         lines = dict(image.unsafe_ptrs)["image"]
     except (AttributeError, KeyError):  # other versions of Pillow
@@ -34,13 +36,18 @@ def _memory_of(image, pixel_bytes):
     width, height = image.size
     starts = (ctypes.c_uint64 * height).from_address(lines)
     stride = starts[1] - starts[0] if height > 1 else width * pixel_bytes
-    if stride < width * pixel_bytes or bytes(starts) != array("Q", range(starts[0], starts[0] + height * stride, stride)).tobytes():
+    if (
+        stride < width * pixel_bytes
+        or bytes(starts)
+        != array("Q", range(starts[0], starts[0] + height * stride, stride)).tobytes()
+    ):
         return None
     return starts[0], stride
 
 
 class ZaxbriarDecoder(ImageFile.PyDecoder):
-    """Pillow's decoder `jpeg`: its arguments are the raw mode, the mode of the colours in the file, and a scale."""
+    """Pillow's decoder `jpeg`: its arguments are the raw mode, the mode of the colours in the file,
+    and a scale."""
 
     _pulls_fd = True
 
@@ -60,7 +67,8 @@ class ZaxbriarDecoder(ImageFile.PyDecoder):
         return True
 
     def _by_copy(self, stream, mode, options):
-        """Decodes into memory of its own, in the picture's colours, and converts these to the mode."""
+        """Decodes into memory of its own, in the picture's colours, and converts these to the
+        mode."""
         picture, pixels = library.decode(stream, **options)
         if picture.sample_bytes != 1:
             raise OSError(f"samples of {picture.precision} bits")
@@ -85,7 +93,12 @@ class ZaxbriarDecoder(ImageFile.PyDecoder):
                 "RGB": (library.RGBA, 4, (1, 3)),
                 "CMYK": (library.AS_STORED, 4, (4,)),
             }.get(mode, (None, None, ()))
-            is_plain = is_scaled and picture.precision == 8 and picture.components in components and self.im.mode == mode
+            is_plain = (
+                is_scaled
+                and picture.precision == 8
+                and picture.components in components
+                and self.im.mode == mode
+            )
             if not (is_plain and self._in_place(stream, layout, pixel_bytes, options)):
                 self._by_copy(stream, mode, options)
         except library.Error as error:

@@ -2,7 +2,19 @@
 
 import ctypes
 import os
-from ctypes import POINTER, Structure, byref, c_char, c_int, c_size_t, c_uint8, c_uint16, c_uint32, c_uint64, c_void_p
+from ctypes import (
+    POINTER,
+    Structure,
+    byref,
+    c_char,
+    c_int,
+    c_size_t,
+    c_uint8,
+    c_uint16,
+    c_uint32,
+    c_uint64,
+    c_void_p,
+)
 
 OK, MALFORMED, UNSUPPORTED, TRUNCATED, NO_MEMORY, NO_ROOM, BAD_ARGUMENT, NO_DATA = range(8)
 AS_STORED, GREY, RGB, RGBA, BGRA = range(5)
@@ -57,7 +69,14 @@ class Error(OSError):
 
 _library = ctypes.CDLL(os.environ.get("ZAXBRIAR_LIBRARY", "libzaxbriar.so.0"))
 _library.zaxbriar_read_info.argtypes = [c_void_p, c_size_t, POINTER(Options), POINTER(Picture)]
-_library.zaxbriar_decode.argtypes = [c_void_p, c_size_t, POINTER(Options), c_void_p, c_size_t, POINTER(Picture)]
+_library.zaxbriar_decode.argtypes = [
+    c_void_p,
+    c_size_t,
+    POINTER(Options),
+    c_void_p,
+    c_size_t,
+    POINTER(Picture),
+]
 for _call in (_library.zaxbriar_read_info, _library.zaxbriar_decode):
     _call.restype = c_int
 
@@ -73,14 +92,18 @@ def _checked(answer, picture):
 def read_info(stream, **options):
     """Describes the picture of a stream, which is `bytes`, so that nobody changes it."""
     picture = Picture()
-    answer = _library.zaxbriar_read_info(stream, len(stream), byref(Options(**options)), byref(picture))
+    answer = _library.zaxbriar_read_info(
+        stream, len(stream), byref(Options(**options)), byref(picture)
+    )
     return _checked(answer, picture)
 
 
 def decode_at(stream, address, size, **options):
     """Decodes the picture to `size` bytes at an address, which nobody else uses meanwhile."""
     picture = Picture()
-    answer = _library.zaxbriar_decode(stream, len(stream), byref(Options(**options)), address, size, byref(picture))
+    answer = _library.zaxbriar_decode(
+        stream, len(stream), byref(Options(**options)), address, size, byref(picture)
+    )
     return _checked(answer, picture)
 
 
