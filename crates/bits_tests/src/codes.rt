@@ -46,6 +46,20 @@ fn a_code_takes_its_bits(rt: HostRuntime) -> Result<(), Fail> {
     Ok(())
 }
 
+/// A step that comes out wrong is found, whether it is the first or the last.
+#[test]
+fn wrong_steps_are_found(rt: HostRuntime) -> Result<(), Fail> {
+    let table = table_of_codes(rt.alloc())?;
+    let bytes = [0b1110_0101, 0xff, 0xd9];
+    for steps in [
+        [Step::Symbol(5), Step::Bits(4, 5)],
+        [Step::Symbol(6), Step::Bits(4, 4)],
+    ] {
+        assert!(rt; !are_right(rt.alloc(), &table, &bytes, 2, &steps)?);
+    }
+    Ok(())
+}
+
 #[test]
 fn more_bits_than_are_buffered_at_once(rt: HostRuntime) -> Result<(), Fail> {
     let table = table_of_codes(rt.alloc())?;
