@@ -15,7 +15,7 @@ use Rattle.jpeg_streams.specs.Levels.{Levels, IsLegal, sent_after, nothing_sent,
 use Rattle.std.proofs.lemmas.List.{take-map, drop-map, get_or-map, map-append, length-replicate}
 use Rattle.jpeg_streams.specs.ScanSegments.{finished_by, with_plane, decided, Coding, put_arrays, with_arrays}
 use Rattle.jpeg_streams.specs.ScanSegments.{with_blocks, arrays_before, pass_of, is_progressive, after_scan}
-use Rattle.jpeg_streams.specs.ScanSegments.{blocks_after, scan_arrays}
+use Rattle.jpeg_streams.specs.ScanSegments.{blocks_after, codings_of, scan_arrays}
 use Rattle.jpeg_streams.specs.Found.{none_finished, Found, Said}
 use Rattle.std.proofs.lemmas.Bool.Decides.{leb_tells}
 use Rattle.std.proofs.lemmas.List.Folds.{list_all_at}
@@ -35,6 +35,7 @@ use Rattle.jpeg_segments.specs.declared.parser.CodingProcess.TheVariants.{Lossle
 use Rattle.jpeg_segments.specs.ScanHeader.{Scan, is_progressive_band}
 use Rattle.jpeg_segments.specs.Scales.{frame_at}
 use Rattle.jpeg_bits.specs.Written.{marker, IsMarker}
+use Rattle.jpeg_streams.proofs.CodingsInForce.{codings-found}
 use Rattle.jpeg_streams.proofs.ReadTurns.{codings-each, codings-indices}
 use Rattle.jpeg_streams.proofs.UpsampledFactors.{either as either-true}
 
@@ -566,14 +567,17 @@ module _ (w : Said) (f : Frame) (array : Coefficients) (levels : ℕ → Levels)
   abbrev now : Found
   now = reading w sc h fi pl
 
+  found_codings : codings_of w f s ≡ Ok codings
+  found_codings = codings-found w f s codings legal.are_in_force
+
   indices : indices_of codings ≡ s.components
-  indices = codings-indices w f s codings rules.dc_length rules.ac_length legal.are_in_force
+  indices = codings-indices w f s codings rules.dc_length rules.ac_length found_codings
 
   count : length codings ≡ length s.components
   count = sym (length-map codings _) ∙ ap length indices
 
   facts : AllByRecursion (CodingFacts w f) codings
-  facts = codings-each (CodingFacts w f) w f s codings legal.are_in_force (λ index d a k is. record {
+  facts = codings-each (CodingFacts w f) w f s codings found_codings (λ index d a k is. record {
     at = get-at k.index f.components k.component is.component;
     table = is.quantization;
   })

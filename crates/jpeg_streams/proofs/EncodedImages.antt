@@ -56,6 +56,7 @@ use Rattle.jpeg_streams.proofs.WrittenBlocks.{difference-range, Predicts, predic
 use Rattle.jpeg_streams.proofs.WrittenFrameScans.{start-predicts}
 use Rattle.jpeg_streams.proofs.WholeImages.{floor-whole, toward-whole}
 use Rattle.jpeg_bits.proofs.ReadIntervals.{all-again, all-append, all-map}
+use Rattle.jpeg_streams.proofs.CodingsInForce.{found-codings}
 use Rattle.jpeg_streams.proofs.ReadTurns.{then-ok}
 
 -- ---- tables
@@ -569,14 +570,24 @@ codings-are kind number h scanned front more c e le =
     let at = component-at number h front more c e in
     search (rules, then-ok, table-at)
 
+scan-coded : (kind : Kind) (number : ℕ) (h : FrameHeader) (scanned : Bool) (front more : List Factors) (c : Factors)
+    → Fits kind number → h.components ≡ front ++ c ∷ more → c.quantization ≤ 3
+    → codings_of (said number h scanned) (frame_written number h) (scan_for kind number h (length front) c)
+    ≡ Ok (coding kind h (length front) c ∷ [])
+unfolding codings_of scan_of
+scan-coded kind number h scanned front more c fits e low =
+    grind (arith, pass-is kind number h (length front) c fits, codings-are kind number h scanned front more c e low)
+
 scan-legal : (kind : Kind) (number : ℕ) (h : FrameHeader) (scanned : Bool) (front more : List Factors) (c : Factors)
     (levels : ℕ → Levels) → Fits kind number
     → h.components ≡ front ++ c ∷ more → c.quantization ≤ 3 → levels (length front) ≡ before kind
     → IsLegalScan (said number h scanned) (frame_written number h) levels
     (scan_for kind number h (length front) c) (coding kind h (length front) c ∷ [])
-unfolding codings_of scan_of
-scan-legal kind number h scanned front more c levels fits e low was =
-    grind (arith, pass-is kind number h (length front) c fits, codings-are kind number h scanned front more c e low)
+scan-legal kind number h scanned front more c levels fits e low was = record {
+  are_in_force = found-codings (said number h scanned) (frame_written number h) (scan_for kind number h (length front) c)
+      (coding kind h (length front) c ∷ []) (scan-coded kind number h scanned front more c fits e low);
+  legal = grind (arith, pass-is kind number h (length front) c fits);
+}
 
 -- ---- what is sent
 

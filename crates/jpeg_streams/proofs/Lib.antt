@@ -14,6 +14,7 @@ pub mod WrittenBlocks
 pub mod OwnSpots
 pub mod WrittenFrameScans
 pub mod ReadTurns
+pub mod CodingsInForce
 pub mod BroughtLevels
 pub mod FrameShapes
 pub mod WalkedStreams

@@ -21,6 +21,7 @@ use Rattle.jpeg_streams.specs.WrittenImages.{WritesImage, ClosesImage, WritesIma
 use Rattle.jpeg_streams.specs.ArrayPictures.{meaning_of_array, picture_of_array, TakesPicture}
 use Rattle.jpeg_streams.proofs.OwnSpots.{At}
 use Rattle.jpeg_streams.proofs.ReadTurns.{bind-ok, coding-is, ok-same, same-frame, some-none}
+use Rattle.jpeg_streams.proofs.CodingsInForce.{codings-found, found-codings}
 use Rattle.jpeg_streams.proofs.ReadTurns.{stands-here, then-ok}
 use Rattle.jpeg_streams.proofs.BroughtLevels.{Shaped}
 use Rattle.jpeg_streams.proofs.FrameShapes.{Plain, plain-size, below-ceiling, scaled_component}
@@ -289,7 +290,9 @@ unfolding codings_of tables_of
 scan-other array f g w levels next h bytes same x =
     let s = scan_written f h in
     let alike : scan_written g h ≡ s = written-same f g h same in
-    let o = codings-alike w f g same (pass_of s) (tables_of w s) _ x.codings x.legal.are_in_force in
+    let e = codings-found w f s x.codings x.legal.are_in_force in
+    let o = codings-alike w f g same (pass_of s) (tables_of w s) _ x.codings e in
+    let is = found-codings (at_frame w g) g s o.0 o.1 in
     let legal : IsLegalScan (at_frame w g) g levels s o.0 =
     grind (arith, legal-alike (pass_of s) levels x.codings o.0 o.2 x.legal.legal) in
     record {

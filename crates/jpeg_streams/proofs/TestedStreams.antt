@@ -46,6 +46,7 @@ use Rattle.jpeg_streams.proofs.TestedData.{category_for, all_for, equal_for, mos
 use Rattle.std.proofs.lemmas.Int.{ints}
 use Rattle.jpeg_bits.specs.Codes.{Table}
 use Rattle.jpeg_streams.proofs.SaidTables.{get-all}
+use Rattle.jpeg_streams.proofs.CodingsInForce.{found-codings}
 use Rattle.jpeg_streams.proofs.WalkedStreams.{closes}
 use Rattle.jpeg_bits.specs.DefaultTables.{names}
 use Rattle.jpeg_bits.specs.Written.WritesEach.{none, one}
@@ -300,7 +301,7 @@ module _ (array : Coefficients) (range : (index row column : ℕ) → Is8Bit (ar
     let scanned : WritesImageScan array said levels frame h w.0 (after x) = record {
       codings = codings.0;
       legal = subst (λ x. IsLegalScan said frame levels x codings.0) made
-          (record { are_in_force = codings.1; legal = legal });
+          (record { are_in_force = found-codings said frame x codings.0 codings.1; legal = legal });
       written = subst (λ x. WritesScan frame said.restart (pass_of x) codings.0 array w.0) made written;
       sent = ap after (sym made);
     }

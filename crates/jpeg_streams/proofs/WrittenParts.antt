@@ -20,6 +20,7 @@ use Rattle.jpeg_streams.specs.WrittenImages.{WritesImage, ClosesImage, WritesPar
 use Rattle.jpeg_streams.specs.WrittenParts.{AgreeOnOwn, HaveSamePicture, picture_meant_by, WritesFront}
 use Rattle.jpeg_streams.specs.WrittenScans.{Coefficients, HasTable}
 use Rattle.jpeg_streams.proofs.Apart.{at-all, get-at}
+use Rattle.jpeg_streams.proofs.CodingsInForce.{codings-found}
 use Rattle.jpeg_streams.proofs.ReadTurns.{codings-each, same-frame}
 use Rattle.jpeg_streams.proofs.LimitedPictures.{array_plane, limited-same}
 use Rattle.jpeg_streams.specs.WrittenStreams.{end, scan, segment}
@@ -106,7 +107,8 @@ also-writes a b said final levels last bytes frame
     let same : f ≡ frame = search (rules, same-frame, frame-kept) in
     let alike : AgreeOnOwn f a b = subst (λ (x : Frame). AgreeOnOwn x a b) (sym same) agree in
     let Here : Coding → Type 0 = λ k. slice_get f.components k.index ≡ Some k.component in
-    let here = codings-each Here said f (scan_written f h) x.codings x.legal.are_in_force
+    let here = codings-each Here said f (scan_written f h) x.codings
+    (codings-found said f (scan_written f h) x.codings x.legal.are_in_force)
     (λ index d a k is. is.component) in
     scan said final levels next last f fill h data_bytes more framed is
     (record {

@@ -61,6 +61,7 @@ use Rattle.jpeg_segments.specs.declared.parser.CodingProcess.{CodingProcess}
 use Rattle.jpeg_streams.specs.ArrayPictures.{HasTransform, IsTransformOf, TakesPicture, as_sent, picture_of_blocks}
 use Rattle.jpeg_streams.specs.ArrayPictures.{meaning_of_array, picture_of_array}
 use Rattle.jpeg_streams.proofs.Apart.{at-all}
+use Rattle.jpeg_streams.proofs.CodingsInForce.{codings-found}
 use Rattle.jpeg_streams.proofs.LimitedPictures.{array_plane, limited-ok, limited-same}
 use Rattle.jpeg_streams.proofs.UpsampledFactors.{SamePlane, AllAlike, image-same, cropped-same}
 
@@ -203,9 +204,10 @@ module _ (array : Coefficients) (range : (index row column : ℕ) → Is8Bit (ar
   scan-found said levels next x f h bytes is e scan w held =
       let s = scan_written f h in
       let shape = (is.shaped f e).0 in
+      let codings = codings-found said f s w.codings w.legal.are_in_force in
       let b = scan-brings said f array levels said.scanned x.0 x.1 x.2 s w.codings bytes range shape
       (framed-now said levels x f held e) (header-facts f h scan shape.lossy)
-      (codings-good said f s w.codings is.tables w.legal.are_in_force) w.legal w.written in
+      (codings-good said f s w.codings is.tables codings) w.legal w.written in
       record {
         brought = (b.kept, b.finished, b.planes);
         held = record {
@@ -220,7 +222,7 @@ module _ (array : Coefficients) (range : (index row column : ℕ) → Is8Bit (ar
         found = λ fill code m left makes ends.
             scan-by (beside bring said x) f s w.codings b.arrays m _ (bytes ++ marker fill code left) left
             shape.lossy e (sos-read f h (bytes ++ marker fill code left) scan)
-            w.legal.are_in_force
+            codings
             (b.read fill code m left (record { is = makes })) (ends (length left) left)
             ∙ ap (λ (y : Found). Ok (scan_turn (beside bring said x) y (Some m), left)) b.after;
       }

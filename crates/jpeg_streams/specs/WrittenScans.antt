@@ -1,17 +1,21 @@
 -- The scans that a writer sends of the coefficients of an image, and when a scan may be sent
 -- (T.81, A.2, E.1.4 and G.1).
-use Rattle.std.specs.Prelude.{◌≡◌, ℕ, ◌*◌, ◌/◌, ◌%◌, ◌==◌, ◌<◌, true, false, List, [], ◌∷◌}
-use Rattle.std.specs.Prelude.{slice_get, slice_index_or, Some, None, IsSome, Ok}
+use Rattle.std.specs.Prelude.{◌≡◌, ℕ, ◌*◌, ◌/◌, ◌%◌, ◌==◌, ◌<◌, nat_lt, Bool, true, false, List}
+use Rattle.std.specs.Prelude.{[], ◌∷◌, slice_get, slice_index_or, zip, Option, Some, None, IsSome}
 use Rattle.std.specs.List.{AllByRecursion}
+use Rattle.jpeg_bits.specs.Codes.{Table}
 use Rattle.jpeg_bits.specs.Intervals.{first_group, other_groups}
 use Rattle.jpeg_bits.specs.Passes.{Pass, Block, predictors_at_start}
+use Rattle.jpeg_bits.specs.declared.codes.HuffmanTableClass.{HuffmanTableClass}
+use Rattle.jpeg_bits.specs.declared.codes.HuffmanTableClass.TheVariants.{DC, AC}
 use Rattle.jpeg_segments.specs.Frame.{Frame, Component}
+use Rattle.jpeg_segments.specs.HuffmanTables.{Tables}
 use Rattle.jpeg_segments.specs.ScanHeader.{Scan}
 use Rattle.jpeg_streams.specs.declared.grids.Grid.{Grid}
 use Rattle.jpeg_streams.specs.Levels.{Is8Bit, IsLegal, Levels, sent_after, numbers_at}
 use Rattle.jpeg_streams.specs.Order.{Spot, grid_of, mcu_size, spots_of}
-use Rattle.jpeg_streams.specs.Scans.{turns_of}
-use Rattle.jpeg_streams.specs.ScanSegments.{Coding, codings_of, components_of, pass_of, vias_from}
+use Rattle.jpeg_streams.specs.Scans.{no_table, turns_of}
+use Rattle.jpeg_streams.specs.ScanSegments.{Coding, components_of, pass_of, tables_of, vias_from}
 use Rattle.jpeg_streams.specs.Found.{Said}
 use Rattle.jpeg_bits.specs.Written.{WritesIntervals}
 use Rattle.jpeg_streams.specs.WrittenData.{WritesBlocks}
@@ -54,6 +58,35 @@ pub record WritesScan (frame : Frame) (restart : ℕ) (p : Pass) (codings : List
 abbrev pub HasTable : Said → Component → Type 0
 HasTable w c = IsSome (slice_index_or w.quantization c.factors.quantization None)
 
+-- The Huffman table at a destination, where a scan needs one, and else one without codes.
+abbrev pub IsTableAt : Bool → HuffmanTableClass → List (Option Table) → ℕ → Table → Type 0
+IsTableAt true class tables destination table = slice_index_or tables destination None ≡ Some table
+IsTableAt false class tables destination table = no_table class ≡ table
+
+-- A component of a scan, by its index in the frame and the destinations of its Huffman tables for DC
+-- and AC: its quantization table is defined, the one for DC where the scan codes DC, and the one for
+-- AC where it codes AC.
+pub record IsInForce (w : Said) (frame : Frame) (p : Pass) (tables : Tables) (slot : ℕ × (ℕ × ℕ))
+    (k : Coding) : Type 0 where
+  pub index : slot.0 ≡ k.index
+  pub component : slice_get frame.components slot.0 ≡ Some k.component
+  pub quantization :
+      slice_index_or w.quantization k.component.factors.quantization None ≡ Some k.quantization
+  pub dc : IsTableAt (p.ss == 0) DC tables.dc slot.1.0 k.dc
+  pub ac : IsTableAt (nat_lt 0 p.se) AC tables.ac slot.1.1 k.ac
+
+unfoldable pub AreInForce : Said → Frame → Pass → Tables → List (ℕ × (ℕ × ℕ)) → List Coding → Type 0
+AreInForce w frame p tables [] [] = Unit {0}
+AreInForce w frame p tables (slot ∷ slots) (k ∷ codings) =
+    IsInForce w frame p tables slot k × AreInForce w frame p tables slots codings
+AreInForce w frame p tables _ _ = ⊥
+
+-- the components of a scan, with their tables
+abbrev pub HasCodings : Said → Frame → Scan → List Coding → Type 0
+HasCodings w frame scan codings =
+    AreInForce w frame (pass_of scan) (tables_of w scan)
+    (zip scan.components (zip scan.dc_destinations scan.ac_destinations)) codings
+
 -- ---- scripts (G.1.1.1)
 
 -- the levels of each component after a scan of one
@@ -70,7 +103,7 @@ levels_after p (index ∷ indices) levels = levels_after p indices (levels_of_on
 -- allows it.
 pub record IsLegalScan (w : Said) (frame : Frame) (levels : ℕ → Levels) (scan : Scan)
     (codings : List Coding) : Type 0 where
-  pub are_in_force : codings_of w frame scan ≡ Ok codings
+  pub are_in_force : HasCodings w frame scan codings
   pub legal : AllByRecursion (λ c. IsLegal (pass_of scan) (levels c.index)) codings
 
 -- Every bit of each coefficient was sent.
