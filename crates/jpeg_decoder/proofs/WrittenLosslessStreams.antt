@@ -22,6 +22,7 @@ use Rattle.jpeg_streams.specs.Found.{nothing_found, nothing_said, Said}
 use Rattle.jpeg_streams.specs.Stream.{header_at, rest_at, meaning, sized_meaning, sized_to, Told}
 use Rattle.jpeg_streams.specs.WrittenLossless.{IsLossless, Samples, SendsSamples, WritesSamples}
 use Rattle.jpeg_streams.proofs.ReadTurns.{then-ok}
+use Rattle.jpeg_streams.proofs.DecodedHeaders.{decoded-accepted}
 use Rattle.jpeg_streams.proofs.LosslessSizes.{IsShaped, header-shaped}
 use Rattle.jpeg_streams.proofs.WalkedStreams.{beside, FindsScan, header-read, IsMeant, IsRead, IsSaid, stream-read}
 use Rattle.jpeg_decoder.proofs.HeaderThenRest.{header-means}
@@ -115,7 +116,9 @@ IsSampled f = IsShaped f × (f.process ≡ Lossless)
 pub header-said : (said : Said) (number : ℕ) (h : FrameHeader) → Stands said (Header number h)
     → IsLossless (Header number h) → IsSampled (frame_written number h)
 unfolding frame_of
-header-said said number h stands is = search (rules, header-shaped)
+header-said said number h stands is =
+    let ok = decoded-accepted number h stands.1 in
+    search (rules, header-shaped)
 
 scan-found : (samples : Samples) (said : Said) (sent next : List ℕ) (decided : List (Option (List ℕ))) (f : Frame)
     (h : ScanHeader) (bytes : List ℕ) → IsSaid IsSampled said → said.frame ≡ Some f → IsScan f h

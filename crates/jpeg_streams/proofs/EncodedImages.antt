@@ -57,6 +57,7 @@ use Rattle.jpeg_streams.proofs.WrittenFrameScans.{start-predicts}
 use Rattle.jpeg_streams.proofs.WholeImages.{floor-whole, toward-whole}
 use Rattle.jpeg_bits.proofs.ReadIntervals.{all-again, all-append, all-map}
 use Rattle.jpeg_streams.proofs.CodingsInForce.{found-codings}
+use Rattle.jpeg_streams.proofs.DecodedHeaders.{accepted-decoded}
 use Rattle.jpeg_streams.proofs.ReadTurns.{then-ok}
 
 -- ---- tables
@@ -784,7 +785,7 @@ image-written number h array le is ok range =
           written =
               segment nothing_said (said number h true) (λ k. nothing_sent) r.1 0 (Quantization all_ones) _
               (search (rules, one-quantizes)) refl (
-              segment said_1 (said number h true) (λ k. nothing_sent) r.1 0 (Header number h) _ ((refl, is), ok)
+              segment said_1 (said number h true) (λ k. nothing_sent) r.1 0 (Header number h) _ ((refl, is), accepted-decoded number h is.numbered ok)
               (omega arith) (
               segment (said_2 number h) (said number h true) (λ k. nothing_sent) r.1 0 (Huffman flat_tables) _
               ((table-by _ _ (omega arith) refl, (table-by _ _ (omega arith) refl, tt)), tt) tt r.2));

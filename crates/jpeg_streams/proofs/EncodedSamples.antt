@@ -419,7 +419,7 @@ samples-written h samples is ok all =
           written = record {
             after = front_bytes h r.0;
             starts = refl;
-            written = segment nothing_said r.1 [] r.2.0 0 (Header 3 h) _ ((refl, is), ok) refl (
+            written = segment nothing_said r.1 [] r.2.0 0 (Header 3 h) _ ((refl, is), inr p) refl (
                 segment (said_1 h) r.1 [] r.2.0 0 (Huffman even_tables) _ ((table-by _ _ (omega arith) refl, tt), tt) tt
                 r.2.1);
           };

@@ -30,6 +30,7 @@ pub mod WorkedStreams
 pub mod Soundness
 pub mod WrittenParts
 pub mod PicturedFrames
+pub mod DecodedHeaders
 pub mod EncodedImages
 pub mod PrintedImages
 pub mod SaidTables

@@ -8,7 +8,7 @@ use Rattle.jpeg_bits.specs.declared.marker.Marker.TheVariants.{SOF, DHT, DQT, DR
 use Rattle.jpeg_segments.specs.Frame.{Frame}
 use Rattle.jpeg_segments.specs.WrittenSegments.{Segment, Quantization, Huffman, Interval, Application, Comment}
 use Rattle.jpeg_segments.specs.WrittenSegments.{Header, application_parts, marker_code, MayStand, with_length}
-use Rattle.jpeg_segments.specs.WrittenSegments.{payload_of}
+use Rattle.jpeg_segments.specs.WrittenSegments.{frame_written, payload_of}
 use Rattle.jpeg_segments.proofs.ApplicationParts.{few-numbers, app-read}
 pub use Rattle.jpeg_bits.proofs.WrittenIntervals.{marker-append}
 use Rattle.std.proofs.lemmas.Grind.{common_steps}
@@ -31,9 +31,9 @@ use Rattle.jpeg_segments.specs.Checks.{gathered, needed}
 use Rattle.jpeg_streams.specs.ScanSegments.{component_coding, needed_if, Coding, tables_of, after_restarts}
 use Rattle.jpeg_streams.specs.ScanSegments.{after_scan, scan_arrays, codings_of, scan_segment, blocks_scan, pass_of}
 use Rattle.jpeg_streams.specs.ScanSegments.{scan_turn}
-use Rattle.jpeg_streams.specs.Segments.{onward, Turn, frame_segment}
+use Rattle.jpeg_streams.specs.Segments.{accepted, onward, Turn, frame_segment}
 use Rattle.jpeg_streams.specs.Found.{Found, Said}
-use Rattle.jpeg_streams.specs.SaidSegments.{Stands, said_after}
+use Rattle.jpeg_streams.specs.SaidSegments.{said_after}
 use Rattle.jpeg_streams.specs.Stream.{segment_at, segments_at, end_segment, turn_at, walk}
 use Rattle.jpeg_bits.specs.declared.codes.HuffmanTableClass.TheVariants as classes
 use Rattle.jpeg_segments.specs.declared.parser.CodingProcess.TheVariants.{Lossless}
@@ -181,8 +181,14 @@ marker-longer fill code n bytes more h = grind (arith, common_steps, length-appe
 
 -- ---- segments
 
--- A segment that stands is read, whatever was found before it.
-segment-read : (before : Before) (found : Found) (s : Segment) (rest : List ℕ) → Stands found.said s
+-- The segment keeps its rules, and the frame of a header is accepted.
+abbrev pub IsTaken : Said → Segment → Type 0
+IsTaken said (Header number h) = MayStand said.frame (Header number h)
+    × (accepted (frame_written number h) ≡ Ok (frame_written number h))
+IsTaken said s = MayStand said.frame s × Unit {0}
+
+-- A segment that is taken is read, whatever was found before it.
+segment-read : (before : Before) (found : Found) (s : Segment) (rest : List ℕ) → IsTaken found.said s
     → segment_at (marker_for s) before found (with_length (payload_of s) ++ rest)
     ≡ Ok (onward (record found { said = said_after found.said s }), rest)
 unfolding segment_at frame_segment
@@ -191,16 +197,16 @@ segment-read before found (Header number h) rest stands =
 segment-read before found s rest stands =
     search (rules, read-on, dqt-read, dht-read, dri-read, app-read, sized-read, skip-read)
 
--- the turn of a segment that stands
+-- the turn of a segment that is taken
 pub segment-turn : (before : Before) (now : Found) (s : Segment) (met : Option Marker) (all : List ℕ) (fill : ℕ)
-    (more tail : List ℕ) → Stands now.said s
+    (more tail : List ℕ) → MayStand now.said.frame s → IsTaken now.said s
     → StandsAt met all (marker fill (marker_code s) (with_length (payload_of s) ++ more) ++ tail)
     → turn_at before now met all ≡ Ok (onward (record now { said = said_after now.said s }), more ++ tail)
-segment-turn before now s met all fill more tail may at =
+segment-turn before now s met all fill more tail may taken at =
     at.turn before now
     ∙ ap (turn_at before now None) (segment-tail fill (marker_code s) (with_length (payload_of s)) more tail)
     ∙ marker-turn before now fill (marker_code s) (marker_for s) (with_length (payload_of s) ++ (more ++ tail))
-    (segment-marker now.said.frame s may.0) ∙ segment-read before now s (more ++ tail) may
+    (segment-marker now.said.frame s may) ∙ segment-read before now s (more ++ tail) taken
 
 pub some-none : {P : Type 0} (f : Frame) (o : Option Frame) → o ≡ Some f → o ≡ None → P
 some-none f o e g = absurd (let n : ⊥ = cc in n)

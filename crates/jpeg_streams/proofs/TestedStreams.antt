@@ -47,6 +47,7 @@ use Rattle.std.proofs.lemmas.Int.{ints}
 use Rattle.jpeg_bits.specs.Codes.{Table}
 use Rattle.jpeg_streams.proofs.SaidTables.{get-all}
 use Rattle.jpeg_streams.proofs.CodingsInForce.{found-codings}
+use Rattle.jpeg_streams.proofs.DecodedHeaders.{accepted-decoded}
 use Rattle.jpeg_streams.proofs.WalkedStreams.{closes}
 use Rattle.jpeg_bits.specs.DefaultTables.{names}
 use Rattle.jpeg_bits.specs.Written.WritesEach.{none, one}
@@ -126,7 +127,8 @@ segment_for said code bytes all = elim (equal_for 219 code) [
           r ← read_for (sof (code - 192) few) bytes all
           first ← when (not (is_some said.frame))
           taken ← when (is_ok (accepted r.0))
-          let decoded = subst (λ f. accepted f ≡ Ok f) r.2.made (accepted-same r.0 taken)
+          let accepts = subst (λ f. accepted f ≡ Ok f) r.2.made (accepted-same r.0 taken)
+          let decoded = accepted-decoded (code - 192) r.2.value few accepts
           let stands : Stands said (Header (code - 192) r.2.value) = ((none-is _ first, r.2.valid), decoded)
           let after = λ (f : Frame). record said { frame = Some f }
           Some (Header (code - 192) r.2.value, after r.0, r.1, stands, e, ap after (sym r.2.made), r.2.is)

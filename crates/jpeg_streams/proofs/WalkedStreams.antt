@@ -20,6 +20,7 @@ use Rattle.jpeg_streams.specs.WrittenStreams.{Closes, end, scan, segment, Starts
 use Rattle.jpeg_streams.specs.declared.before.Before.{Before}
 use Rattle.jpeg_streams.specs.declared.before.Before.TheVariants.{Elsewhere}
 use Rattle.jpeg_streams.specs.declared.settings.Settings.{Settings}
+use Rattle.jpeg_streams.proofs.DecodedHeaders.{stands-taken}
 use Rattle.jpeg_streams.proofs.ReadTurns.{Begins, end-turn, IsEnd, marker-longer, scan-tail, scan-turn, marker-begins}
 use Rattle.jpeg_streams.proofs.ReadTurns.{segment-ends, segment-tail, segment-turn, segments-walked, some-none}
 use Rattle.jpeg_streams.proofs.ReadTurns.{stands-here, stands-met, StandsAt, then-ok, walk-end, walk-on, walk-stop}
@@ -194,7 +195,7 @@ module _ {Sent Brought : Type 0} {may : Said → Segment → Type 0}
       ≡ walk turns header Elsewhere (beside brings (said_after said s) x) None (more ++ tail)
   segment-next said x s header turns fill before met all more stands goes_on at =
       walk-on turns header before (beside brings said x) met all (more ++ tail) (onward (beside brings (said_after said s) x)) goes_on
-      (segment-turn before (beside brings said x) s met all fill more tail stands at) refl
+      (segment-turn before (beside brings said x) s met all fill more tail stands.0 (stands-taken said s stands) at) refl
 
   pub reads-on : (said final : Said) (sent last : Sent) (bytes : List ℕ) (x : Brought) (turns : ℕ) (before : Before)
       (met : Option Marker) (all : List ℕ) → Rest said sent bytes final last → IsSaid P said → Held said sent x

@@ -62,6 +62,7 @@ use Rattle.jpeg_streams.specs.ArrayPictures.{HasTransform, IsTransformOf, TakesP
 use Rattle.jpeg_streams.specs.ArrayPictures.{meaning_of_array, picture_of_array}
 use Rattle.jpeg_streams.proofs.Apart.{at-all}
 use Rattle.jpeg_streams.proofs.CodingsInForce.{codings-found}
+use Rattle.jpeg_streams.proofs.DecodedHeaders.{decoded-accepted}
 use Rattle.jpeg_streams.proofs.LimitedPictures.{array_plane, limited-ok, limited-same}
 use Rattle.jpeg_streams.proofs.UpsampledFactors.{SamePlane, AllAlike, image-same, cropped-same}
 
@@ -182,6 +183,7 @@ plain-said said number h stands = search (rules, all-ranged)
 pub drawn-said : (said : Said) (number : ℕ) (h : FrameHeader) → Stands said (Header number h)
     → MayStandInImage said (Header number h) → IsDrawn (frame_written number h)
 drawn-said said number h stands few =
+    let ok = decoded-accepted number h stands.1 in
     search (rules, all-shaped, plain-said, frame-lossy, accepted-sources)
 
 module _ (array : Coefficients) (range : (index row column : ℕ) → Is8Bit (array index row column)) where

@@ -18,6 +18,7 @@ pub mod Output
 pub mod Levels
 pub mod WrittenData
 pub mod WrittenScans
+pub mod AcceptedFrames
 pub mod SaidSegments
 pub mod WrittenStreams
 pub mod WrittenImages
@@ -31,7 +32,6 @@ pub mod FrameSamples
 pub mod DecodedSamples
 -- what laws on written streams say beside that
 pub mod WrittenParts
-pub mod AcceptedFrames
 -- what a decoder's state is sure to be
 pub mod Sound
 -- streams worked by hand

@@ -1,15 +1,17 @@
 -- What is known after a segment that was written.
-use Rattle.std.specs.Prelude.{◌≡◌, Ok, Some}
+use Rattle.std.specs.Prelude.{◌⊎◌, ◌≤◌, Some}
 use Rattle.jpeg_segments.specs.WrittenSegments.{Application, Comment, application_parts}
 use Rattle.jpeg_segments.specs.WrittenSegments.{frame_written}
 use Rattle.jpeg_segments.specs.WrittenSegments.{Header, Huffman, huffman_tables, Interval, MayStand}
 use Rattle.jpeg_segments.specs.WrittenSegments.{Quantization, quantization_tables, Segment}
-use Rattle.jpeg_streams.specs.Segments.{accepted, updated, with_application, with_huffman}
+use Rattle.jpeg_streams.specs.AcceptedFrames.{HasPicture, HasSamples}
+use Rattle.jpeg_streams.specs.Segments.{updated, with_application, with_huffman}
 use Rattle.jpeg_streams.specs.Found.{Said}
 
--- A header of a frame that is decoded.
+-- A header of a frame that is decoded: one of SOF0, SOF1 or SOF2 that has a picture, or a lossless
+-- one that has samples.
 abbrev pub IsDecoded : Segment → Type 0
-IsDecoded (Header number h) = accepted (frame_written number h) ≡ Ok (frame_written number h)
+IsDecoded (Header number h) = ((number ≤ 2) × HasPicture h) ⊎ HasSamples number h
 IsDecoded _ = Unit {0}
 
 -- The segment keeps its rules where so much is known.
