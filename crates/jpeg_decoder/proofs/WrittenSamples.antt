@@ -37,6 +37,7 @@ use Rattle.jpeg_streams.specs.ScanSegments.{lossless_scan, scan_segment, scan_tu
 use Rattle.jpeg_streams.specs.Found.{Found, Said, nothing_found}
 use Rattle.jpeg_streams.specs.WrittenLossless.{HoldSamples, Samples, WritesSamplesScan}
 use Rattle.jpeg_streams.proofs.ReadTurns.{IsEnd, bind-ok, needed-some, ok-same, then-ok}
+use Rattle.jpeg_streams.proofs.CodingsInForce.{samples-found}
 use Rattle.jpeg_streams.proofs.LosslessSizes.{IsShaped, IsMade, all-at, all-covered}
 use Rattle.jpeg_streams.proofs.SaidTables.{HasTables, table-there}
 use Rattle.std.proofs.lemmas.Grind.{common_steps}
@@ -181,7 +182,9 @@ data-read said frame h samples bytes rest fill code m w is all makes =
     let way = way_of frame (predictor_by h.first) 0 w.codings in
     let wide = mcus_across frame w.codings in
     let high = mcus_down frame w.codings in
-    let found = codings-found said frame h.choices w.codings is.made all w.coded in
+    let scan = scan_written frame h in
+    let ok = samples-found said.huffman.dc frame scan.components scan.dc_destinations w.codings w.coded in
+    let found = codings-found said frame h.choices w.codings is.made all ok in
     let parts = parts-are w.codings in
     let cover = all-covered frame w.codings found.made in
     let n = rows_of_interval wide high said.restart in
@@ -234,4 +237,6 @@ pub scan-read : (said : Said) (decided : List (Option (List ℕ))) (frame : Fram
 unfolding scan_segment lossless_scan scan_of
 scan-read said decided frame h samples bytes rest fill code m w framed scan lossless is tables makes end =
     let r = data-read said frame h samples bytes rest fill code m w is tables makes in
+    let head = scan_written frame h in
+    let ok = samples-found said.huffman.dc frame head.components head.dc_destinations w.codings w.coded in
     grind (arith, common_steps, then-ok, sos-read, predictor-of, point-of)

@@ -1,7 +1,7 @@
 -- The codings of a scan that a writer has are those that are found, and none else are found.
 use Rattle.std.proofs.Common.{◌≡◌, ℕ, refl, ap, sym, subst, List, [], ◌∷◌, Bool, true, false, Option, Some, None}
 use Rattle.std.proofs.Common.{Ok}
-use Rattle.std.specs.Prelude.{nat_lt, ◌==◌, slice_get, slice_index_or}
+use Rattle.std.specs.Prelude.{nat_lt, ◌==◌, slice_get, slice_index_or, zip}
 use Rattle.jpeg_bits.specs.Codes.{Table}
 use Rattle.jpeg_bits.specs.Passes.{Pass}
 use Rattle.jpeg_bits.specs.declared.codes.HuffmanTableClass.{HuffmanTableClass}
@@ -11,8 +11,10 @@ use Rattle.jpeg_segments.specs.Frame.{Frame}
 use Rattle.jpeg_segments.specs.HuffmanTables.{Tables}
 use Rattle.jpeg_segments.specs.ScanHeader.{Scan}
 use Rattle.jpeg_streams.specs.Found.{Said}
+use Rattle.jpeg_streams.specs.LosslessScans.{LosslessCoding, lossless_coding, lossless_codings}
 use Rattle.jpeg_streams.specs.Scans.{no_table}
 use Rattle.jpeg_streams.specs.ScanSegments.{Coding, codings_of, component_coding, needed_if}
+use Rattle.jpeg_streams.specs.WrittenLossless.{AreSampleCodings, IsSampleCoding}
 use Rattle.jpeg_streams.specs.WrittenScans.{AreInForce, HasCodings, IsInForce, IsTableAt}
 use Rattle.jpeg_streams.proofs.ReadTurns.{bind-ok, coding-is, needed-some, ok-same, then-ok}
 
@@ -85,3 +87,60 @@ pub found-codings : (w : Said) (frame : Frame) (s : Scan) (codings : List Coding
     → codings_of w frame s ≡ Ok codings → HasCodings w frame s codings
 unfolding codings_of
 found-codings w frame s codings e = found-all w frame _ _ _ codings e
+
+-- ---- and of lossless scans
+
+sample-found : (tables : List (Option Table)) (frame : Frame) (slot : ℕ × ℕ) (k : LosslessCoding)
+    → IsSampleCoding tables frame slot k → lossless_coding tables frame slot.0 slot.1 ≡ Ok k
+unfolding lossless_coding
+sample-found tables frame slot k is =
+    then-ok _ _ k.component _ (ap needed is.component)
+    (then-ok _ _ k.table _ (ap needed is.table)
+    (ap (λ (i : ℕ). Ok (record k { index = i })) is.index))
+
+each-found : (tables : List (Option Table)) (frame : Frame) (slots : List (ℕ × ℕ)) (codings : List LosslessCoding)
+    → AreSampleCodings tables frame slots codings
+    → gathered (λ (s : ℕ × ℕ). lossless_coding tables frame s.0 s.1) slots ≡ Ok codings
+unfolding gathered AreSampleCodings
+each-found tables frame [] [] h = refl
+each-found tables frame [] (k ∷ codings) h = absurd h
+each-found tables frame (s ∷ slots) [] h = absurd h
+each-found tables frame (s ∷ slots) (k ∷ codings) h =
+    then-ok _ _ k _ (sample-found tables frame s k h.0)
+    (then-ok _ _ codings _ (each-found tables frame slots codings h.1) refl)
+
+pub samples-found : (tables : List (Option Table)) (frame : Frame) (indices ds : List ℕ)
+    (codings : List LosslessCoding) → AreSampleCodings tables frame (zip indices ds) codings
+    → lossless_codings tables frame indices ds ≡ Ok codings
+unfolding lossless_codings
+samples-found tables frame indices ds codings h = each-found tables frame (zip indices ds) codings h
+
+found-sample : (tables : List (Option Table)) (frame : Frame) (slot : ℕ × ℕ) (k : LosslessCoding)
+    → lossless_coding tables frame slot.0 slot.1 ≡ Ok k → IsSampleCoding tables frame slot k
+unfolding lossless_coding
+found-sample tables frame slot k e =
+    let component = bind-ok (needed (slice_get frame.components slot.0)) _ k e in
+    let table = bind-ok (needed (slice_index_or tables slot.1 None)) _ k component.2 in
+    let made : record { index = slot.0; component = component.0; table = table.0 } ≡ k = ok-same _ k table.2 in
+    subst (IsSampleCoding tables frame slot) made (record {
+      index = refl;
+      component = needed-some _ component.0 component.1;
+      table = needed-some _ table.0 table.1;
+    })
+
+found-each : (tables : List (Option Table)) (frame : Frame) (slots : List (ℕ × ℕ)) (codings : List LosslessCoding)
+    → gathered (λ (s : ℕ × ℕ). lossless_coding tables frame s.0 s.1) slots ≡ Ok codings
+    → AreSampleCodings tables frame slots codings
+unfolding gathered AreSampleCodings
+found-each tables frame [] codings e = subst (AreSampleCodings tables frame []) (ok-same [] codings e) tt
+found-each tables frame (s ∷ slots) codings e =
+    let one = bind-ok (lossless_coding tables frame s.0 s.1) _ codings e in
+    let more = bind-ok (gathered (λ (s : ℕ × ℕ). lossless_coding tables frame s.0 s.1) slots) _ codings one.2 in
+    subst (AreSampleCodings tables frame (s ∷ slots)) (ok-same (one.0 ∷ more.0) codings more.2)
+    (found-sample tables frame s one.0 one.1, found-each tables frame slots more.0 more.1)
+
+pub found-samples : (tables : List (Option Table)) (frame : Frame) (indices ds : List ℕ)
+    (codings : List LosslessCoding) → lossless_codings tables frame indices ds ≡ Ok codings
+    → AreSampleCodings tables frame (zip indices ds) codings
+unfolding lossless_codings
+found-samples tables frame indices ds codings e = found-each tables frame (zip indices ds) codings e

@@ -23,7 +23,7 @@ use Rattle.jpeg_segments.specs.Checks.{gathered}
 use Rattle.jpeg_segments.specs.Frame.{Factors, frame_of}
 use Rattle.jpeg_segments.specs.HuffmanTables.{DefinedTable}
 use Rattle.jpeg_segments.specs.ScanHeader.{scan_of}
-use Rattle.jpeg_segments.specs.ScanHeaders.{scan_payload, ScanHeader}
+use Rattle.jpeg_segments.specs.ScanHeaders.{scan_payload, ScanHeader, scan_written}
 use Rattle.jpeg_segments.specs.WrittenSegments.{AreComponents, frame_written, FrameHeader, factors_bytes, frame_payload}
 use Rattle.jpeg_segments.specs.WrittenSegments.{Header, Huffman, IsFrameHeader, huffman_bytes}
 use Rattle.jpeg_segments.specs.WrittenSegments.{payload_of, with_length, u16_bytes}
@@ -49,6 +49,7 @@ use Rattle.jpeg_streams.specs.WrittenLossless.{HoldSamples, own_lines, Samples, 
 use Rattle.jpeg_streams.specs.WrittenLossless.{ClosesSamples, IsLossless, SendsSamples}
 use Rattle.jpeg_streams.specs.WrittenStreams.{end, scan, segment, Writes}
 use Rattle.jpeg_streams.proofs.AcceptedSamples.{accepted-samples}
+use Rattle.jpeg_streams.proofs.CodingsInForce.{found-samples}
 use Rattle.jpeg_streams.proofs.EncodedImages.{category-at_most, packed, interval-packed, table-by, component_in}
 use Rattle.jpeg_streams.proofs.EncodedImages.{component-at, in-range, lone_header, lone-written}
 use Rattle.jpeg_bits.proofs.ReadIntervals.{all-append}
@@ -306,7 +307,11 @@ data-written h now front more c samples ready e most are =
       stuffed b.bytes,
       record {
         codings = k ∷ [];
-        coded = let is = component-at 3 h front more c e in grind (arith, common_steps, then-ok);
+        coded = let is = component-at 3 h front more c e in
+            let scan = scan_written frame (header_of (length front) c) in
+            let coded : lossless_codings now.huffman.dc frame scan.components scan.dc_destinations ≡ Ok (k ∷ []) =
+            grind (arith, common_steps, then-ok) in
+            found-samples now.huffman.dc frame scan.components scan.dc_destinations (k ∷ []) coded;
         point = refl;
         interval = rw (ready.restart, zero-mod) refl;
         rows = map pairs rows;

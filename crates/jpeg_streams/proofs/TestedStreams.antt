@@ -46,7 +46,7 @@ use Rattle.jpeg_streams.proofs.TestedData.{category_for, all_for, equal_for, mos
 use Rattle.std.proofs.lemmas.Int.{ints}
 use Rattle.jpeg_bits.specs.Codes.{Table}
 use Rattle.jpeg_streams.proofs.SaidTables.{get-all}
-use Rattle.jpeg_streams.proofs.CodingsInForce.{found-codings}
+use Rattle.jpeg_streams.proofs.CodingsInForce.{found-codings, found-samples}
 use Rattle.jpeg_streams.proofs.DecodedHeaders.{accepted-decoded}
 use Rattle.jpeg_streams.proofs.WalkedStreams.{closes}
 use Rattle.jpeg_bits.specs.DefaultTables.{names}
@@ -420,8 +420,10 @@ scan_of_samples samples said sent frame h x made is bytes = do
       (intervals_in [] false bytes).0
   let scanned : WritesSamplesScan said frame h samples i.0 = record {
     codings = codings.0;
-    coded = subst (λ x. lossless_codings said.huffman.dc frame x.components x.dc_destinations ≡ Ok codings.0) made
-        codings.1;
+    coded = let of = λ (x : Scan). lossless_codings said.huffman.dc frame x.components x.dc_destinations in
+        let y = scan_written frame h in
+        found-samples said.huffman.dc frame y.components y.dc_destinations codings.0
+        (subst (λ x. of x ≡ Ok codings.0) made codings.1);
     point = no-point frame h x made is point;
     interval = whole;
     rows = rows.0;

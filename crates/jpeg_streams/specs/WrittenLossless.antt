@@ -1,7 +1,7 @@
 -- Lossless streams as a writer emits them for samples (T.81, B.2.1 and Annex H). Nothing here
 -- reads bytes.
-use Rattle.std.specs.Prelude.{◌≡◌, ℕ, ◌*◌, ◌≤◌, true, List, [], ◌∷◌, ◌++◌, length, map, Ok, Some}
-use Rattle.std.specs.Prelude.{take}
+use Rattle.std.specs.Prelude.{◌≡◌, ℕ, ◌*◌, ◌≤◌, true, List, [], ◌∷◌, ◌++◌, length, map, Option, Some}
+use Rattle.std.specs.Prelude.{None, slice_get, slice_index_or, take, zip}
 use Rattle.std.specs.List.{AllByRecursion, range_with_len}
 use Rattle.jpeg_segments.specs.Frame.{Frame}
 use Rattle.jpeg_segments.specs.ScanHeader.{predictor_by}
@@ -16,8 +16,8 @@ use Rattle.jpeg_bits.specs.Codes.{Table}
 use Rattle.jpeg_bits.specs.DefaultTables.{names}
 use Rattle.jpeg_bits.specs.Intervals.{first_group, other_groups}
 use Rattle.jpeg_bits.specs.Written.{WritesIntervals}
-use Rattle.jpeg_streams.specs.LosslessScans.{LosslessCoding, lossless_codings, mcus_across}
-use Rattle.jpeg_streams.specs.LosslessScans.{mcus_down, way_of}
+use Rattle.jpeg_streams.specs.LosslessScans.{LosslessCoding, mcus_across, mcus_down}
+use Rattle.jpeg_streams.specs.LosslessScans.{way_of}
 use Rattle.jpeg_streams.specs.WrittenStreams.{Closes, Starts, Writes}
 use Rattle.jpeg_streams.specs.Found.{nothing_said, Said}
 
@@ -32,6 +32,21 @@ IsLossless (Header number h) = number ≡ 3
 IsLossless _ = Unit {0}
 
 -- ---- a scan
+
+-- A component of a scan, by its index in the frame and the destination of its table, which is
+-- defined.
+pub record IsSampleCoding (tables : List (Option Table)) (frame : Frame) (slot : ℕ × ℕ)
+    (k : LosslessCoding) : Type 0 where
+  pub index : slot.0 ≡ k.index
+  pub component : slice_get frame.components slot.0 ≡ Some k.component
+  pub table : slice_index_or tables slot.1 None ≡ Some k.table
+
+unfoldable pub AreSampleCodings :
+    List (Option Table) → Frame → List (ℕ × ℕ) → List LosslessCoding → Type 0
+AreSampleCodings tables frame [] [] = Unit {0}
+AreSampleCodings tables frame (slot ∷ slots) (k ∷ codings) =
+    IsSampleCoding tables frame slot k × AreSampleCodings tables frame slots codings
+AreSampleCodings tables frame _ _ = ⊥
 
 -- the lines of a component in the MCUs of a scan, without padding
 abbrev pub own_lines : Part → List (List ℕ) → List (List ℕ)
@@ -53,7 +68,7 @@ pub record WritesSamplesScan (said : Said) (frame : Frame) (h : ScanHeader) (sam
   pub codings : List LosslessCoding
   pub coded :
       let scan = scan_written frame h in
-      lossless_codings said.huffman.dc frame scan.components scan.dc_destinations ≡ Ok codings
+      AreSampleCodings said.huffman.dc frame (zip scan.components scan.dc_destinations) codings
   pub point : h.low ≡ 0
   pub interval :
       is_of_rows (mcus_across frame codings) (mcus_down frame codings) said.restart ≡ true
