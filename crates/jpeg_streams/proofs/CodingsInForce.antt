@@ -79,7 +79,7 @@ found-all w frame p tables [] codings e = subst (AreInForce w frame p tables [])
 found-all w frame p tables (s ∷ slots) codings e =
     let one = bind-ok (component_coding w frame p tables s.0 s.1.0 s.1.1) _ codings e in
     let more = bind-ok (gathered (λ (s : ℕ × (ℕ × ℕ)). component_coding w frame p tables s.0 s.1.0 s.1.1) slots) _
-        codings one.2 in
+    codings one.2 in
     subst (AreInForce w frame p tables (s ∷ slots)) (ok-same (one.0 ∷ more.0) codings more.2)
     (found-coding w frame p tables s one.0 one.1, found-all w frame p tables slots more.0 more.1)
 

@@ -63,9 +63,9 @@ abbrev pub IsTableAt : Bool → HuffmanTableClass → List (Option Table) → �
 IsTableAt true class tables destination table = slice_index_or tables destination None ≡ Some table
 IsTableAt false class tables destination table = no_table class ≡ table
 
--- A component of a scan, by its index in the frame and the destinations of its Huffman tables for DC
--- and AC: its quantization table is defined, the one for DC where the scan codes DC, and the one for
--- AC where it codes AC.
+-- A component of a scan, by its index in the frame and the destinations of its Huffman tables for
+-- DC and AC: its quantization table is defined, the one for DC where the scan codes DC, and the one
+-- for AC where it codes AC.
 pub record IsInForce (w : Said) (frame : Frame) (p : Pass) (tables : Tables) (slot : ℕ × (ℕ × ℕ))
     (k : Coding) : Type 0 where
   pub index : slot.0 ≡ k.index
