@@ -89,17 +89,16 @@ rising-at _ least h = tt
 
 -- A scan with the tables in force for its header is ready to be read.
 pub ready : (found : Found) (frame : Frame) (header : headers.Scan) (scan : Scan)
-    → IsDecodedFrame frame → IsScanOf frame header → scan.restart_interval ≡ found.said.restart
+    → IsDecodedFrame frame → IsScanOf frame header
     → codings_of found.said frame header ≡ Ok (map coding_in scan.components.items)
-    → length scan.components.items ≡ length header.components → IsReadable frame found scan
-ready found frame header scan decoded legal restart codings count =
+    → length scan.components.items ≡ length header.components → IsReadable frame scan
+ready found frame header scan decoded legal codings count =
     let cs = scan.components.items in
     let indices = codings-indices found.said frame header (map coding_in cs) legal.dc_length legal.ac_length codings in
     let are = codings-each (IsCodingOf frame) found.said frame header (map coding_in cs) codings
     (λ index d a k is. is.component) in
     let few = (count-few (length frame.components) (decoded-count frame decoded)).1 in
     record {
-      restart = restart;
       some = subst (λ (n : ℕ). 1 ≤ n) (sym count) legal.some;
       indices =
           All-from_recursion HasIndex cs (indices-at (length frame.components) cs few

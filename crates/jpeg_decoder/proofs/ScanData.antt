@@ -1,5 +1,5 @@
 -- The data of a scan, of what is read of its blocks, and the planes that it decides.
-use Rattle.std.proofs.Common.{◌≡◌, ◌<◌, ℕ, zero, suc, ◌+◌, ◌*◌, true, false, Option, None, Result}
+use Rattle.std.proofs.Common.{◌≡◌, ◌<◌, Bool, ℕ, zero, suc, ◌+◌, ◌*◌, true, false, Option, None, Result}
 use Rattle.std.proofs.Common.{Ok, Err, List, [], ◌∷◌, refl, sym, ap, subst, ◌∙◌, length, get_or}
 use Rattle.std.proofs.Common.{set, map, drop, arith, rules}
 use Rattle.std.proofs.Math.Logic.{inl, inr}
@@ -21,7 +21,8 @@ use Rattle.jpeg_streams.specs.Scans.{Arrays, zero_arrays, arrays_at}
 use Rattle.jpeg_decoder.specs.Scanning.{vias_in, arrays_in, sizes_of, components_in}
 use Rattle.jpeg_decoder.specs.PlanesView.{planes_in}
 use Rattle.jpeg_streams.specs.Sound.{IsPlaneOf, ArePlanes}
-use Rattle.jpeg_decoder.specs.Steps.{blocks_at, coding_in, decided_planes, scan_data, with_decoded}
+use Rattle.jpeg_decoder.specs.Steps.{blocks_at, blocks_before, coding_in, decided_planes, scan_data}
+use Rattle.jpeg_decoder.specs.Steps.{with_decoded}
 use Rattle.jpeg_decoder.specs.Steps.{with_its_plane, with_planes, IsCodingOf, AreRising}
 use Rattle.jpeg_streams.specs.Rasters.{plane_by}
 use Rattle.jpeg_streams.specs.ScanSegments.{components_of, blocks_after, arrays_before}
@@ -291,14 +292,19 @@ rising-codings (c ∷ d ∷ cs) h = (λ n. below c.index d cs h.0 h.1 n, rising-
 
 -- ---- what is kept after a scan
 
-pub kept-afterwards : {X E : Type 0} (r : Result X E) (f : Found) (frame : Frame)
-    → is_progressive frame.process ≡ true → f.said.scanned ≡ true
-    → OnOk r (AreArrays frame.components f.kept)
-    → OnOk r (AreArrays frame.components (arrays_before f frame))
+-- the blocks before a scan, by what was found
+pub before-as : (base : Found) (d : Decoded) (frame : Frame) (scanned : Bool) → base.said.scanned ≡ scanned
+    → arrays_before (with_decoded base d) frame ≡ blocks_before scanned d frame
 unfolding arrays_before
-kept-afterwards r f frame e s h = grind (arith, common_steps)
+before-as base d frame scanned e = rw e refl
 
-pub none-kept : {X E : Type 0} (r : Result X E) (f : Found) (frame : Frame) → is_progressive
+pub kept-afterwards : {X E : Type 0} (r : Result X E) (d : Decoded) (frame : Frame)
+    → is_progressive frame.process ≡ true
+    → OnOk r (AreArrays frame.components (arrays_in d.kept.items))
+    → OnOk r (AreArrays frame.components (blocks_before true d frame))
+kept-afterwards r d frame e h = grind (arith, common_steps)
+
+pub none-kept : {X E : Type 0} (r : Result X E) (d : Decoded) (frame : Frame) → is_progressive
     frame.process ≡ false
-    → OnOk r (AreArrays frame.components (arrays_before f frame))
-none-kept r f frame e = grind (arith, common_steps, before-sequential, zeros-sized)
+    → OnOk r (AreArrays frame.components (blocks_before true d frame))
+none-kept r d frame e = grind (arith, common_steps, zeros-sized)

@@ -24,7 +24,8 @@ use Rattle.jpeg_decoder.proofs.StripScans.{Planes, scan-by-rows}
 use Rattle.std.proofs.lemmas.Grind.{common_steps}
 
 module _ (found : Found) (before : Decoded) (frame : Frame) (scan : Scan) (bytes : List ℕ)
-    (process : is_progressive frame.process ≡ false) (ready : IsReadable frame found scan) where
+    (process : is_progressive frame.process ≡ false) (restart : scan.restart_interval ≡ found.said.restart)
+    (ready : IsReadable frame scan) where
   abbrev f : Found
   f = with_decoded found before
 

@@ -15,7 +15,7 @@ use Rattle.jpeg_bits.specs.declared.marker.Marker.TheVariants.{RST}
 use Rattle.jpeg_segments.specs.Frame.{AllHaveSampling, Frame, Component}
 use Rattle.jpeg_pixels.specs.Planes.{cropped}
 use Rattle.jpeg_segments.specs.Scales.{is_scale}
-use Rattle.jpeg_streams.specs.Scans.{Arrays, arrays_at, no_table}
+use Rattle.jpeg_streams.specs.Scans.{Arrays, arrays_at, no_table, zero_arrays}
 use Rattle.jpeg_decoder.specs.Scanning.{arrays_in, components_in}
 use Rattle.jpeg_streams.specs.Order.{spots_of, mcu_size}
 use Rattle.jpeg_decoder.specs.declared.decoded.Decoded.{Decoded}
@@ -35,7 +35,7 @@ use Rattle.jpeg_segments.specs.Checks.{needed}
 use Rattle.jpeg_streams.specs.ScanSegments.{component_coding, components_of, Coding, tables_of}
 use Rattle.jpeg_streams.specs.ScanSegments.{pass_of, after_restarts, finished_by, blocks_after}
 use Rattle.jpeg_streams.specs.ScanSegments.{with_arrays, decided, arrays_before, once_scanned}
-use Rattle.jpeg_streams.specs.ScanSegments.{vias_from, after_samples, scan_samples}
+use Rattle.jpeg_streams.specs.ScanSegments.{is_progressive, vias_from, after_samples, scan_samples}
 use Rattle.jpeg_streams.specs.Segments.{Turn}
 use Rattle.jpeg_streams.specs.Found.{Found, none_finished, Said}
 use Rattle.jpeg_streams.specs.LosslessScans.{lossless_codings}
@@ -168,6 +168,11 @@ with_planes p _ _ found = found
 abbrev pub blocks_at : List Coding → Arrays → Arrays
 blocks_at codings kept = map (λ c. get_or kept c.index []) codings
 
+-- the blocks before a scan of a frame, by whether another was read before it
+abbrev pub blocks_before : Bool → Decoded → Frame → Arrays
+blocks_before scanned d frame = if is_progressive frame.process && scanned
+    then arrays_in d.kept.items else zero_arrays frame.components
+
 -- the data of a scan: what is found after it, and the marker after it, if it is met
 unfoldable pub scan_data : Found → Frame → Pass → List Coding → List ℕ
     → Outcome (Found × Option Marker)
@@ -199,9 +204,13 @@ AreRising (c ∷ d ∷ more) = (c.index < d.index) × AreRising (d ∷ more)
 abbrev pub IsCodingOf : Frame → Coding → Type 0
 IsCodingOf frame c = slice_get frame.components c.index ≡ Some c.component
 
--- What a scan of a frame needs to be read, by what was found before.
-pub record IsReadable (frame : Frame) (found : Found) (scan : Scan) : Type 0 where
+-- What was found before a scan: whether another was read, and the restart interval in force.
+pub record IsBefore (was : Bool) (scan : Scan) (found : Found) : Type 0 where
+  pub scanned : found.said.scanned ≡ was
   pub restart : scan.restart_interval ≡ found.said.restart
+
+-- What a scan of a frame needs to be read.
+pub record IsReadable (frame : Frame) (scan : Scan) : Type 0 where
   pub some : 1 ≤ length scan.components.items
   pub indices : All HasIndex scan.components.items
   pub fits : AllByRecursion (Fits frame) (components_in scan.components.items)

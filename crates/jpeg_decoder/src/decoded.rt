@@ -22,7 +22,6 @@ use crate::planes::Planes;
 use crate::scan::{Coded, Scan};
 use crate::scans::read_blocks;
 use crate::sequential::read_planes;
-use crate::state::State;
 use crate::strips::{GrowingPlanes, append_rows, empty_planes, plane_size};
 use jpeg_bits::blocks::Pass;
 use jpeg_bits::error::Result;
@@ -189,12 +188,12 @@ impl Decoded {
     ghost use Rattle.jpeg_streams.specs.LosslessScans.{with_samples};
     ghost use Rattle.jpeg_streams.specs.Sound.{ArePlanes};
     ghost use Rattle.jpeg_decoder.specs.Scanning.{arrays_in, components_in};
-    ghost use Rattle.jpeg_decoder.specs.Seen.{found_in};
     ghost use Rattle.jpeg_decoder.specs.PlanesView.{planes_in};
-    ghost use Rattle.jpeg_decoder.specs.Steps.{coding_in, HasIndex, IsReadable, is_wanted};
+    ghost use Rattle.jpeg_decoder.specs.Steps.{blocks_before, coding_in, HasIndex, IsBefore};
+    ghost use Rattle.jpeg_decoder.specs.Steps.{IsReadable, is_wanted};
     ghost use Rattle.jpeg_decoder.specs.Steps.{marks_after, scan_data, with_decoded};
     ghost use Rattle.jpeg_decoder.specs.Steps.{with_its_plane, with_planes};
-    ghost use Rattle.jpeg_streams.specs.ScanSegments.{arrays_before, is_progressive, once_scanned};
+    ghost use Rattle.jpeg_streams.specs.ScanSegments.{is_progressive, once_scanned};
     ghost use Rattle.jpeg_streams.specs.ScanSegments.{with_arrays};
     ghost use Rattle.jpeg_streams.specs.Rasters.{plane_by};
     ghost use Rattle.jpeg_streams.specs.Found.{Found, none_finished};
@@ -418,21 +417,20 @@ impl Decoded {
     }
 
     /// Holds the blocks of a progressive frame's components: before its first scan, zeros.
-    #[tactic(auto, unfolding(jpeg_streams::specs::ScanSegments::arrays_before))]
     fn keep(
         &mut self,
         alloc: Global,
-        state: &State,
+        scanned: bool,
         frame: &FrameInfo,
     ) -> std::result::Result<(), AllocError>
         requires process { is_progressive (frame_in frame.now).process ≡ true }
         ensures kept { OnOk result (arrays_in self.new.kept.items
-            ≡ arrays_before (with_decoded (found_in state.now) self.old) (frame_in frame.now)) }
+            ≡ blocks_before scanned self.old (frame_in frame.now)) }
         ensures finished { self.new.finished ≡ self.old.finished }
         ensures planes { self.new.planes ≡ self.old.planes }
         ensures samples { self.new.samples ≡ self.old.samples }
     {
-        if !state.scanned {
+        if !scanned {
             self.kept = zero_frame(alloc, frame)?;
         }
         Ok(())
@@ -444,18 +442,18 @@ impl Decoded {
         &mut self,
         alloc: Global,
         source: &mut Source<R>,
-        state: &State,
+        scanned: bool,
         frame: &FrameInfo,
         scan: &Scan<'_>,
     ) -> Result<Option<Marker>>
         requires process { is_progressive (frame_in frame.now).process ≡ true }
         requires keeps { scan.now.keeps_ac ≡ true }
-        requires ready { IsReadable (frame_in frame.now) (found_in state.now) scan.now }
+        requires ready { IsReadable (frame_in frame.now) scan.now }
         requires kept { AreArrays (frame_in frame.now).components
-            (arrays_before (with_decoded (found_in state.now) self.old) (frame_in frame.now)) }
-        ensures data { Answers (λ m.
-            (once_scanned (with_decoded (found_in state.now) self.new), m))
-            (scan_data (with_decoded (found_in state.now) self.old) (frame_in frame.now)
+            (blocks_before scanned self.old (frame_in frame.now)) }
+        ensures data { (base : Found) → IsBefore scanned scan.now base
+            → Answers (λ m. (once_scanned (with_decoded base self.new), m))
+            (scan_data (with_decoded base self.old) (frame_in frame.now)
             (pass_in scan.now.pass) (map coding_in scan.now.components.items))
             source.old result source.new }
         ensures kept { OnOk result (AreArrays (frame_in frame.now).components
@@ -464,7 +462,7 @@ impl Decoded {
             → OnOk result (ArePlanes (frame_in frame.now).components self.new.planes) }
         ensures samples { OnOk result (self.new.samples ≡ self.old.samples) }
     {
-        self.keep(alloc, state, frame)?;
+        self.keep(alloc, scanned, frame)?;
         let mut arrays = take_blocks(alloc, &scan.components, &mut self.kept)?;
         let met = read_blocks(alloc, source, scan, &mut arrays, frame)?;
         self.add_arrays(alloc, scan, &arrays)?;
@@ -495,17 +493,17 @@ impl Decoded {
         &mut self,
         alloc: Global,
         source: &mut Source<R>,
-        state: &State,
+        scanned: bool,
         frame: &FrameInfo,
         scan: &Scan<'_>,
     ) -> Result<Option<Marker>>
         requires process { is_progressive (frame_in frame.now).process ≡ false }
-        requires ready { IsReadable (frame_in frame.now) (found_in state.now) scan.now }
+        requires ready { IsReadable (frame_in frame.now) scan.now }
         requires decided { All (λ c. is_some (slice_index_or self.now.planes
             c.index None) ≡ true) scan.now.components.items }
-        ensures data { Answers (λ m.
-            (once_scanned (with_decoded (found_in state.now) self.new), m))
-            (scan_data (with_decoded (found_in state.now) self.old) (frame_in frame.now)
+        ensures data { (base : Found) → IsBefore scanned scan.now base
+            → Answers (λ m. (once_scanned (with_decoded base self.new), m))
+            (scan_data (with_decoded base self.old) (frame_in frame.now)
             (pass_in scan.now.pass) (map coding_in scan.now.components.items))
             source.old result source.new }
         ensures planes { OnOk result (self.new.planes ≡ self.old.planes) }
@@ -529,32 +527,31 @@ impl Decoded {
         &mut self,
         alloc: Global,
         source: &mut Source<R>,
-        state: &State,
+        scanned: bool,
         frame: &FrameInfo,
         scan: &Scan<'_>,
     ) -> Result<Option<Marker>>
         requires keeps { is_progressive (frame_in frame.now).process ≡ true
             → scan.now.keeps_ac ≡ true }
-        requires ready { IsReadable (frame_in frame.now) (found_in state.now) scan.now }
+        requires ready { IsReadable (frame_in frame.now) scan.now }
         requires kept { AreArrays (frame_in frame.now).components
-            (arrays_before (with_decoded (found_in state.now) self.old) (frame_in frame.now)) }
-        ensures data { Answers (λ m.
-            (once_scanned (with_decoded (found_in state.now) self.new), m))
-            (scan_data (with_decoded (found_in state.now) self.old) (frame_in frame.now)
+            (blocks_before scanned self.old (frame_in frame.now)) }
+        ensures data { (base : Found) → IsBefore scanned scan.now base
+            → Answers (λ m. (once_scanned (with_decoded base self.new), m))
+            (scan_data (with_decoded base self.old) (frame_in frame.now)
             (pass_in scan.now.pass) (map coding_in scan.now.components.items))
             source.old result source.new }
         ensures kept { OnOk result (AreArrays (frame_in frame.now).components
-            (arrays_before (once_scanned (with_decoded (found_in state.now) self.new))
-            (frame_in frame.now))) }
+            (blocks_before true self.new (frame_in frame.now))) }
         ensures planes { ArePlanes (frame_in frame.now).components self.old.planes
             → OnOk result (ArePlanes (frame_in frame.now).components self.new.planes) }
         ensures samples { OnOk result (self.new.samples ≡ self.old.samples) }
     {
         if is_progressive(frame.coding_process) {
-            return self.read_kept(alloc, source, state, frame, scan);
+            return self.read_kept(alloc, source, scanned, frame, scan);
         }
         if self.are_decided(&scan.components) {
-            return self.read_again(alloc, source, state, frame, scan);
+            return self.read_again(alloc, source, scanned, frame, scan);
         }
         let mut planes = self.start_planes(alloc, frame, scan)?;
         let reached = read_planes(alloc, source, scan, frame, &mut planes)?;

@@ -69,7 +69,7 @@ pub fn read_scan<R: Read + Drop>(
         keeps_ac: wants_ac(frame.coding_process, pass, &components),
         components,
     };
-    let reached = decoded.read(alloc, source, state, frame, &scan)?;
+    let reached = decoded.read(alloc, source, state.scanned, frame, &scan)?;
     // It borrows from `state`, which changes now.
     drop(scan);
     let met = pass_restarts(alloc, source, reached)?;

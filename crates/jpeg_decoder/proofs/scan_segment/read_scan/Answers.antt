@@ -1,17 +1,19 @@
 use Rattle.std.proofs.Common.{◌≡◌, ◌∙◌, ap, arith, Err, List, Ok, Option, refl, rules, Some, subst}
-use Rattle.std.proofs.Common.{sym, ℕ}
+use Rattle.std.proofs.Common.{sym, true, ℕ}
 use Rattle.std.specs.declared.alloc.Global.{Global}
 use Rattle.std.specs.declared.vec.Vec.{Vec}
 use Rattle.jpeg_streams.specs.ScanSegments.{once_scanned}
 use Rattle.jpeg_segments.specs.FrameView.{frame_in, scan_in}
 use Rattle.jpeg_streams.specs.Found.{Found}
 use Rattle.jpeg_streams.specs.Segments.{Turn}
+use Rattle.jpeg_streams.specs.InTurn.{AreArrays}
 use Rattle.jpeg_streams.specs.Sound.{IsSound}
 use Rattle.jpeg_decoder.specs.declared.decoded.Decoded.{Decoded}
 use Rattle.jpeg_decoder.specs.Seen.{found_in}
 use Rattle.jpeg_decoder.specs.PlanesView.{planes_in}
 use Rattle.jpeg_decoder.specs.Steps.{IsStep, with_decoded}
 use Rattle.jpeg_decoder.proofs.ReadableScans.{decoded-scales, legal-pass, ready, some-after}
+use Rattle.jpeg_decoder.proofs.ScanData.{before-as}
 use Rattle.jpeg_decoder.proofs.ScanReads.{blocks-sound, codings-refused, data-refused}
 use Rattle.jpeg_decoder.proofs.ScanReads.{frame-refused, header-refused, is-dct, samples-met}
 use Rattle.jpeg_decoder.proofs.ScanReads.{scan-ends, scan-steps, segment-ends, segment-refused}
@@ -81,7 +83,18 @@ read-requires-clause-ready g c =
     let framed : now.said.frame ≡ Some frame = search rules in
     ready (with_decoded now c.replace-decoded.new.dest) frame (scan_in c.in_ok-header.header) _
     (c.requires.sound.frames frame (ap (λ (f : Found). f.said.frame) (sym c.widen_tables.ensures) ∙ framed))
-    c.in_ok-header.ensures.scan refl c.in_ok-components.ensures.codings c.in_ok-components.ensures.count
+    c.in_ok-header.ensures.scan c.in_ok-components.ensures.codings c.in_ok-components.ensures.count
+
+pub read-requires-clause-kept : goal.read-requires-clause-kept
+read-requires-clause-kept g c =
+    let old = found_in c.args.state.now in
+    let now = found_in c.widen_tables.new.self in
+    let found = with_decoded now c.replace-decoded.result in
+    let same : found ≡ old = ap (λ (d : Decoded). with_decoded now d) c.replace-decoded.ensures.value ∙ c.widen_tables.ensures in
+    let frame = frame_in c.in_ok-frame.frame.now in
+    let framed : now.said.frame ≡ Some frame = search rules in
+    subst (AreArrays frame.components) (before-as now c.replace-decoded.result frame now.said.scanned refl)
+    ((subst IsSound (sym same) c.requires.sound).kept frame framed)
 
 pub returns-in_err-reached-clause-reads : goal.returns-in_err-reached-clause-reads
 returns-in_err-reached-clause-reads g c =
@@ -90,7 +103,8 @@ returns-in_err-reached-clause-reads g c =
     (data-refused (once_scanned (with_decoded (found_in c.widen_tables.new.self) c.read.new.self)) _
     (frame_in c.in_ok-frame.frame.now) (scan_in c.in_ok-header.header) _ _ _ _ c.read.new.source _ (search rules)
     (search rules) c.in_ok-header.ensures.answers
-    c.in_ok-components.ensures.codings c.pass_of-pass.ensures c.in_err-reached.ensures.data)
+    c.in_ok-components.ensures.codings c.pass_of-pass.ensures
+    (c.in_err-reached.ensures.data (found_in c.widen_tables.new.self) (record { scanned = refl; restart = refl })))
 
 pub returns-in_err-met-2-clause-reads : goal.returns-in_err-met-2-clause-reads
 returns-in_err-met-2-clause-reads g c =
@@ -99,7 +113,8 @@ returns-in_err-met-2-clause-reads g c =
     (scan-ends (once_scanned (with_decoded (found_in c.widen_tables.new.self) c.read.new.self)) _ _
     (frame_in c.in_ok-frame.frame.now) (scan_in c.in_ok-header.header) _ _ _ _ _ c.pass_restarts.new.source
     (Err c.in_err-met-2.field-0.0) (search rules) (search rules) c.in_ok-header.ensures.answers c.in_ok-components.ensures.codings c.pass_of-pass.ensures
-    c.in_ok-reached.ensures.data c.in_err-met-2.ensures)
+    (c.in_ok-reached.ensures.data (found_in c.widen_tables.new.self) (record { scanned = refl; restart = refl }))
+    c.in_err-met-2.ensures)
 
 pub returns-clause-reads : goal.returns-clause-reads
 returns-clause-reads g c =
@@ -108,7 +123,8 @@ returns-clause-reads g c =
     (scan-ends (once_scanned (with_decoded (found_in c.widen_tables.new.self) c.read.new.self)) _ _
     (frame_in c.in_ok-frame.frame.now) (scan_in c.in_ok-header.header) _ _ _ _ _ _
     (Ok c.in_ok-met-2.met) (search rules) (search rules) c.in_ok-header.ensures.answers c.in_ok-components.ensures.codings c.pass_of-pass.ensures
-    c.in_ok-reached.ensures.data c.in_ok-met-2.ensures)
+    (c.in_ok-reached.ensures.data (found_in c.widen_tables.new.self) (record { scanned = refl; restart = refl }))
+    c.in_ok-met-2.ensures)
 
 pub returns-clause-steps : goal.returns-clause-steps
 returns-clause-steps g c =
@@ -125,5 +141,6 @@ returns-clause-steps g c =
     (sym (ap (λ (t : Turn). t.found) c.end_scan-2.ensures))
     (scan-steps old next frame c.end_scan-2.result (sym stays ∙ framed) stays
     (blocks-sound found next frame (subst IsSound (sym same) c.requires.sound) framed refl
-    reads.kept reads.planes
+    (subst (AreArrays frame.components) (sym (before-as (once_scanned now) c.read.new.self frame true refl)) reads.kept)
+    reads.planes
     (ap (λ (s : List (Option (Vec ℕ Global))). planes_in s) reads.samples)))

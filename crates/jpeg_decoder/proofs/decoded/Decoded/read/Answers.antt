@@ -2,9 +2,8 @@ use Rattle.std.proofs.Common.{ap, sym, refl, map, arith}
 use Rattle.std.proofs.lemmas.Result.{err_from_is_err_and}
 use Rattle.jpeg_bits.specs.BlockView.{pass_in}
 use Rattle.jpeg_segments.specs.FrameView.{frame_in}
-use Rattle.jpeg_decoder.specs.Seen.{found_in}
 use Rattle.jpeg_decoder.specs.Steps.{coding_in, with_decoded}
-use Rattle.jpeg_streams.specs.Found.{Found}
+use Rattle.jpeg_streams.specs.Found.{Found, nothing_found}
 use Rattle.jpeg_decoder.specs.GrowingView.{growing_in}
 use Rattle.jpeg_decoder.proofs.PlacedCodings.{coded-components}
 use Rattle.jpeg_decoder.proofs.ScanData.{kept-afterwards, none-kept, of-frame, planes-whole}
@@ -13,15 +12,15 @@ use Rattle.jpeg_decoder.proofs.decoded.Decoded.read.Goals as goal
 use Rattle.std.proofs.lemmas.Grind.{common_steps}
 
 pub returns-in_err-reached-clause-data : goal.returns-in_err-reached-clause-data
-returns-in_err-reached-clause-data g c =
-    let more = read-refused (found_in c.args.state.now) c.args.self.now (frame_in c.args.frame.now)
-    c.args.scan.now c.args.source.now.bytes (sym c.if-is_progressive.ensures) c.requires.ready in
+returns-in_err-reached-clause-data g c base b =
+    let more = read-refused base c.args.self.now (frame_in c.args.frame.now)
+    c.args.scan.now c.args.source.now.bytes (sym c.if-is_progressive.ensures) b.restart c.requires.ready in
     grind (arith, common_steps, err_from_is_err_and, more)
 
 pub returns-clause-data : goal.returns-clause-data
-returns-clause-data g c =
-    let more = read-data (found_in c.args.state.now) c.args.self.now (frame_in c.args.frame.now)
-    c.args.scan.now c.args.source.now.bytes (sym c.if-is_progressive.ensures) c.requires.ready
+returns-clause-data g c base b =
+    let more = read-data base c.args.self.now (frame_in c.args.frame.now)
+    c.args.scan.now c.args.source.now.bytes (sym c.if-is_progressive.ensures) b.restart c.requires.ready
     c.in_ok-reached.reached c.read_planes.new.source.bytes
     (record c.args.self.now { kept = c.new.result }) c.add_grown.new.self refl refl refl
     (ap (map _) c.new.ensures.items) (growing_in c.read_planes.new.planes) in
@@ -29,7 +28,7 @@ returns-clause-data g c =
 
 pub returns-clause-planes : goal.returns-clause-planes
 returns-clause-planes g c h =
-    let base = found_in c.args.state.now in
+    let base = nothing_found in
     let codings = map coding_in c.args.scan.now.components.items in
     rw (ap (λ (x : Found). x.planes) (c.add_grown.ensures.planes base))
     (planes-whole (frame_in c.args.frame.now) (pass_in c.args.scan.now.pass) codings (growing_in c.read_planes.new.planes)

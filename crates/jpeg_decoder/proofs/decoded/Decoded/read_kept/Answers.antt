@@ -1,4 +1,4 @@
-use Rattle.std.proofs.Common.{◌≡◌, ◌∙◌, ◌*◌, ap, List, map, length, ℕ, Option, refl, arith}
+use Rattle.std.proofs.Common.{◌≡◌, ◌∙◌, ◌*◌, ap, List, map, length, ℕ, Option, refl, sym, arith}
 use Rattle.std.specs.declared.alloc.Global.{Global}
 use Rattle.std.specs.declared.vec.Vec.{Vec}
 use Rattle.std.proofs.lemmas.Result.{err_from_is_err_and}
@@ -14,19 +14,18 @@ use Rattle.jpeg_decoder.specs.declared.scan.Coded.{Coded}
 use Rattle.jpeg_streams.specs.InTurn.{AreArrays}
 use Rattle.jpeg_streams.specs.Order.{spots_of, mcu_size}
 use Rattle.jpeg_streams.specs.Scans.{Arrays, arrays_at}
-use Rattle.jpeg_decoder.specs.Seen.{found_in}
 use Rattle.jpeg_decoder.specs.Scanning.{arrays_in, components_in, sizes_of, vias_in}
-use Rattle.jpeg_decoder.specs.Steps.{blocks_at, coding_in, with_decoded, without_blocks, AreRising}
-use Rattle.jpeg_decoder.specs.Steps.{IsCodingOf}
+use Rattle.jpeg_decoder.specs.Steps.{blocks_at, blocks_before, coding_in, with_decoded}
+use Rattle.jpeg_decoder.specs.Steps.{without_blocks, AreRising, IsBefore, IsCodingOf}
 use Rattle.jpeg_streams.specs.ScanSegments.{put_arrays, arrays_before}
-use Rattle.jpeg_streams.specs.Found.{Found}
+use Rattle.jpeg_streams.specs.Found.{Found, nothing_found}
 use Rattle.jpeg_decoder.proofs.PlacedCodings.{coded-components, coded-indices}
 use Rattle.jpeg_decoder.proofs.PutLoops.{Held}
 use Rattle.jpeg_streams.proofs.McuRows.{arrays-sized, kept-sized}
 use Rattle.jpeg_decoder.proofs.TakenBlocks.{put-back}
 use Rattle.jpeg_decoder.proofs.ScanData.{read_at, of-frame, arrays-by-sizes, coded-within-kept}
 use Rattle.jpeg_decoder.proofs.ScanData.{read-as, rising-codings, data-kept, data-kept-refused}
-use Rattle.jpeg_decoder.proofs.ScanData.{arrays-whole}
+use Rattle.jpeg_decoder.proofs.ScanData.{arrays-whole, before-as}
 use Rattle.jpeg_decoder.proofs.decoded.Decoded.read_kept.Given as given
 use Rattle.jpeg_decoder.proofs.decoded.Decoded.read_kept.Goals.{After-put_blocks, In_ok-arrays}
 use Rattle.jpeg_decoder.proofs.decoded.Decoded.read_kept.Goals as goal
@@ -51,13 +50,21 @@ taken-sized frame cs seen kept taken before d e t of h =
 
 taken : (g : given.Over) (c : In_ok-arrays g) → let cs = c.args.scan.now.components.items in
     (arrays_in c.in_ok-arrays.arrays.items ≡ blocks_at (map coding_in cs)
-    (arrays_before (with_decoded (found_in c.args.state.now) c.args.self.now) (frame_in c.args.frame.now)))
+    (blocks_before c.args.scanned c.args.self.now (frame_in c.args.frame.now)))
     × AreArrays (components_in cs) (arrays_in c.in_ok-arrays.arrays.items)
 taken g c =
     taken-sized (frame_in c.args.frame.now) c.args.scan.now.components.items c.deref.result.now
     c.keep.new.self.kept.items c.in_ok-arrays.arrays.items _ c.deref.ensures.value
     c.in_ok-keep.ensures.kept
     c.in_ok-arrays.ensures.taken c.requires.ready.of_frame c.requires.kept
+
+taken-by : (g : given.Over) (c : In_ok-arrays g) (base : Found) → IsBefore c.args.scanned c.args.scan.now base
+    → arrays_in c.in_ok-arrays.arrays.items ≡ blocks_at (map coding_in c.args.scan.now.components.items)
+    (arrays_before (with_decoded base c.args.self.now) (frame_in c.args.frame.now))
+taken-by g c base b =
+    (taken g c).0
+    ∙ sym (ap (blocks_at (map coding_in c.args.scan.now.components.items))
+    (before-as base c.args.self.now (frame_in c.args.frame.now) _ b.scanned))
 
 pub read_blocks-requires-clause-arrays : goal.read_blocks-requires-clause-arrays
 read_blocks-requires-clause-arrays g c = (taken g (goal.at.read_blocks-requires-clause-arrays g c).In_ok-arrays).1
@@ -77,10 +84,10 @@ kept-as : (f : Found) (frame : Frame) (scan : Scan) (arrays : Arrays) (bytes : L
 kept-as f frame scan arrays bytes n is = grind (arith, common_steps, read-as)
 
 pub returns-in_err-met-clause-data : goal.returns-in_err-met-clause-data
-returns-in_err-met-clause-data g c =
-    let f = with_decoded (found_in c.args.state.now) c.args.self.now in
-    let is = kept-as f (frame_in c.args.frame.now) c.args.scan.now _ c.args.source.now.bytes c.requires.ready.restart
-    (taken g (goal.at.returns-in_err-met-clause-data g c).In_ok-arrays).0 in
+returns-in_err-met-clause-data g c base b =
+    let f = with_decoded base c.args.self.now in
+    let is = kept-as f (frame_in c.args.frame.now) c.args.scan.now _ c.args.source.now.bytes b.restart
+    (taken-by g (goal.at.returns-in_err-met-clause-data g c).In_ok-arrays base b) in
     let more = data-kept-refused f (frame_in c.args.frame.now) (pass_in c.args.scan.now.pass)
     (map coding_in c.args.scan.now.components.items) c.args.source.now.bytes in
     grind (arith, common_steps, err_from_is_err_and, more)
@@ -116,7 +123,7 @@ put-all frame cs seen again kept left taken arrays put before d a k t l s h of r
 
 held : (g : given.Over) (c : After-put_blocks g) → let cs = c.args.scan.now.components.items in
     (arrays_in c.put_blocks.new.kept.items ≡ put_arrays (map coding_in cs) (arrays_in c.read_blocks.new.arrays.items)
-    (arrays_before (with_decoded (found_in c.args.state.now) c.args.self.now) (frame_in c.args.frame.now)))
+    (blocks_before c.args.scanned c.args.self.now (frame_in c.args.frame.now)))
     × AreArrays (frame_in c.args.frame.now).components (arrays_in c.put_blocks.new.kept.items)
 held g c =
     put-all (frame_in c.args.frame.now) c.args.scan.now.components.items c.deref.result.now c.deref-2.result.now
@@ -126,13 +133,23 @@ held g c =
     (ap (λ (v : Vec Held Global). arrays_in v.items) c.in_ok-add_arrays.ensures.kept ∙ c.in_ok-arrays.ensures.left)
     c.in_ok-met.ensures.sizes c.put_blocks.ensures c.requires.ready.of_frame c.requires.ready.rising c.requires.kept
 
+held-by : (g : given.Over) (c : After-put_blocks g) (base : Found) → IsBefore c.args.scanned c.args.scan.now base
+    → arrays_in c.put_blocks.new.kept.items ≡ put_arrays (map coding_in c.args.scan.now.components.items)
+    (arrays_in c.read_blocks.new.arrays.items)
+    (arrays_before (with_decoded base c.args.self.now) (frame_in c.args.frame.now))
+held-by g c base b =
+    let cs = map coding_in c.args.scan.now.components.items in
+    (held g c).0
+    ∙ sym (ap (put_arrays cs (arrays_in c.read_blocks.new.arrays.items))
+    (before-as base c.args.self.now (frame_in c.args.frame.now) _ b.scanned))
+
 pub returns-clause-data : goal.returns-clause-data
-returns-clause-data g c =
-    let f = with_decoded (found_in c.args.state.now) c.args.self.now in
+returns-clause-data g c base b =
+    let f = with_decoded base c.args.self.now in
     let at = goal.at.returns-clause-data g c in
-    let is = kept-as f (frame_in c.args.frame.now) c.args.scan.now _ c.args.source.now.bytes c.requires.ready.restart
-    (taken g at.In_ok-arrays).0 in
-    let put = (held g at.After-put_blocks).0 in
+    let is = kept-as f (frame_in c.args.frame.now) c.args.scan.now _ c.args.source.now.bytes b.restart
+    (taken-by g at.In_ok-arrays base b) in
+    let put = held-by g at.After-put_blocks base b in
     let more = data-kept f (frame_in c.args.frame.now) (pass_in c.args.scan.now.pass)
     (map coding_in c.args.scan.now.components.items) (arrays_in c.read_blocks.new.arrays.items)
     c.in_ok-met.met c.args.source.now.bytes c.read_blocks.new.source.bytes
@@ -145,7 +162,7 @@ returns-clause-kept g c = (held g (goal.at.returns-clause-kept g c).After-put_bl
 
 pub returns-clause-planes : goal.returns-clause-planes
 returns-clause-planes g c h =
-    let base = found_in c.args.state.now in
+    let base = nothing_found in
     let one = with_decoded base (record c.keep.new.self { kept = c.take_blocks.new.kept }) in
     let codings = map coding_in c.args.scan.now.components.items in
     rw (ap (λ (x : Found). x.planes) (c.in_ok-add_arrays.ensures.planes base))
