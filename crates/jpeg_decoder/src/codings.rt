@@ -9,13 +9,13 @@ ghost use Rattle.jpeg_bits.specs.declared.codes.HuffmanTableClass.TheVariants.{D
 ghost use Rattle.jpeg_segments.specs.FrameView.{frame_in, scan_in};
 ghost use Rattle.jpeg_segments.specs.ScanHeader.{IsScanOf};
 ghost use Rattle.jpeg_streams.specs.Scans.{no_table};
-ghost use Rattle.jpeg_decoder.specs.Seen.{said_in};
+ghost use Rattle.jpeg_decoder.specs.Seen.{found_in, said_in};
 ghost use Rattle.jpeg_decoder.specs.Steps.{IsRefusal, IsSpareOf, coding_in};
 ghost use Rattle.jpeg_decoder.specs.Steps.{coding_in_slot, default_dc, default_ac, in_force};
 ghost use Rattle.jpeg_decoder.specs.Steps.{HasScale, table_if};
-ghost use Rattle.jpeg_streams.specs.ScanSegments.{codings_of, pass_of, is_progressive};
+ghost use Rattle.jpeg_streams.specs.ScanSegments.{codings_of, pass_of};
 
-use crate::scan::Coded;
+use crate::scan::{Coded, is_progressive};
 use crate::state::State;
 use crate::tables::{Missing, needed, table_at};
 use jpeg_bits::blocks::Pass;
@@ -23,7 +23,7 @@ use jpeg_bits::codes::HuffmanTableClass;
 use jpeg_bits::error::Result;
 use jpeg_bits::huffman::{HuffmanTable, fill_default_mjpeg_tables};
 use jpeg_bits::scan::ScanInfo;
-use jpeg_segments::parser::{CodingProcess, FrameInfo};
+use jpeg_segments::parser::FrameInfo;
 use std::alloc::{AllocError, Global};
 
 /// The tables that stand in where a scan names a destination that is unset: the default ones of
@@ -34,16 +34,6 @@ pub struct Spare {
     ac: Vec<Option<HuffmanTable>>,
     no_dc: HuffmanTable,
     no_ac: HuffmanTable,
-}
-
-/// Returns whether a process is progressive, so that its scans refine what earlier ones gave.
-pub fn is_progressive(process: CodingProcess) -> bool
-    ensures { result ≡ is_progressive process }
-{
-    match process {
-        CodingProcess::DctProgressive => true,
-        CodingProcess::DctSequential | CodingProcess::Lossless => false,
-    }
 }
 
 /// Returns what a scan codes.
@@ -65,7 +55,7 @@ pub fn pass_of(header: &ScanInfo) -> Pass
 const WIDE_PIXELS: u32 = 1 << 14;
 
 /// Returns whether a frame has so many pixels that it pays to fill the look-up tables of AC values.
-pub fn is_large(frame: &FrameInfo) -> bool {
+fn is_large(frame: &FrameInfo) -> bool {
     pixels_of(frame) >= WIDE_PIXELS
 }
 
@@ -131,7 +121,7 @@ fn widen(
 }
 
 /// Fills the look-up tables of AC values, and those besides that pay for a frame.
-pub fn widen_all(
+fn widen_all(
     alloc: Global,
     tables: &mut [Option<HuffmanTable>],
     frame: &FrameInfo,
@@ -145,6 +135,19 @@ pub fn widen_all(
         }
     }
     Ok(())
+}
+
+/// Fills the look-up tables of AC values where the frame has so many samples that it pays.
+pub fn widen_tables(alloc: Global, state: &mut State) -> std::result::Result<(), AllocError>
+    ensures { found_in state.new ≡ found_in state.old }
+{
+    let Some(frame) = &state.frame else {
+        return Ok(());
+    };
+    if !is_large(frame) {
+        return Ok(());
+    }
+    widen_all(alloc, &mut state.ac_tables, frame)
 }
 
 /// Returns the spare tables of a scan; the default ones where a frame of an MJPEG stream was named.

@@ -17,9 +17,8 @@ ghost use Rattle.jpeg_streams.specs.Found.{none_finished};
 ghost use Rattle.jpeg_decoder.specs.Steps.{blocks_at, coding_in, without_blocks, IsInOrder};
 ghost use Rattle.jpeg_bits.specs.Passes.{whole_pass};
 
-use crate::codings::is_progressive;
 use crate::planes::Planes;
-use crate::scan::{Coded, Scan};
+use crate::scan::{Coded, Scan, is_progressive};
 use crate::scans::read_blocks;
 use crate::sequential::read_planes;
 use crate::strips::{GrowingPlanes, append_rows, empty_planes, plane_size};

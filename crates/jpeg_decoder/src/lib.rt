@@ -56,6 +56,7 @@ mod scans;
 mod sequential;
 mod spots;
 mod state;
+mod stream;
 mod strips;
 mod tables;
 pub mod worked;

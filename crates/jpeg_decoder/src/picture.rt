@@ -29,10 +29,11 @@ ghost use Rattle.jpeg_streams.specs.FoundPictures.{plane_at_end, samples_picture
 ghost use Rattle.jpeg_streams.specs.Found.{nothing_found};
 ghost use Rattle.jpeg_decoder.specs.Bytes.{IsWhole, picture_size};
 
-use crate::codings::is_progressive;
 use crate::color_choice::choose_color_transform;
 use crate::decoded::{Decoded, render};
+use crate::scan::is_progressive;
 use crate::state::State;
+use crate::stream::read_segments;
 use crate::tables::{Missing, needed, table_at};
 use jpeg_bits::color_transform::ColorTransform;
 use jpeg_bits::error::{Error, Result, format_error_of};
@@ -546,7 +547,7 @@ pub fn read_header<R: Read + Drop>(
     ensures unread { OnOk result (IsUnread (found_in state.new)) }
 {
     read_start(alloc, source)?;
-    state.read(alloc, source, true)
+    read_segments(alloc, source, state, true)
 }
 
 /// Reads the rest of a stream, after its header, and gives its picture. No blocks or planes are
@@ -576,7 +577,7 @@ pub fn read_rest<R: Read + Drop>(
         × ((found_in state.new).planes ≡ replicate 4 None)
         × ((found_in state.new).samples ≡ replicate 4 None) }
 {
-    let ended = state.read(alloc, source, false);
+    let ended = read_segments(alloc, source, state, false);
     let mut decoded = std::mem::replace(&mut state.decoded, Decoded::new(alloc));
     ended?;
     picture(alloc, state, &mut decoded, settings)
@@ -610,7 +611,7 @@ pub fn read_rest_into<R: Read + Drop>(
         × ((found_in state.new).planes ≡ replicate 4 None)
         × ((found_in state.new).samples ≡ replicate 4 None) }
 {
-    let end = state.read(alloc, source, false);
+    let end = read_segments(alloc, source, state, false);
     let mut decoded = std::mem::replace(&mut state.decoded, Decoded::new(alloc));
     end?;
     write_picture(alloc, state, &mut decoded, settings, pixels)

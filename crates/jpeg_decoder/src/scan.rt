@@ -5,7 +5,6 @@ ghost use Rattle.jpeg_bits.specs.declared.codes.HuffmanTableClass.TheVariants.{A
 ghost use Rattle.jpeg_segments.specs.Scales.{is_scale};
 ghost use Rattle.jpeg_streams.specs.ScanSegments.{is_progressive};
 
-use crate::codings::is_progressive;
 use jpeg_bits::blocks::Pass;
 use jpeg_bits::huffman::HuffmanTable;
 use jpeg_segments::parser::{CodingProcess, Component};
@@ -47,6 +46,16 @@ pub struct Scan<'a> {
     /// Where they aren't, it is a first pass, and a block gives one sample, which is of DC alone.
     pub ghost dc_alone: { keeps_ac ≡ false → (pass.is_first ≡ true)
         × All (λ c. c.component.now.dct_scale ≡ 1) components.items },
+}
+
+/// Returns whether a process is progressive, so that its scans refine what earlier ones gave.
+pub fn is_progressive(process: CodingProcess) -> bool
+    ensures { result ≡ is_progressive process }
+{
+    match process {
+        CodingProcess::DctProgressive => true,
+        CodingProcess::DctSequential | CodingProcess::Lossless => false,
+    }
 }
 
 /// Returns whether the AC coefficients of a scan's blocks are wanted. Those of a sequential frame

@@ -10,7 +10,7 @@ ghost use Rattle.jpeg_streams.specs.Found.{Found};
 ghost use Rattle.jpeg_streams.specs.Stream.{segment_at};
 ghost use Rattle.std.specs.Prelude.{List, ℕ};
 
-use crate::codings::{codings_of, pass_of, spare_tables};
+use crate::codings::{codings_of, pass_of, spare_tables, widen_tables};
 use crate::decoded::Decoded;
 use crate::lossless_scans::read_lossless_scan;
 use crate::restarts::pass_restarts;
@@ -52,7 +52,7 @@ pub fn read_scan<R: Read + Drop>(
         result source.new }
     ensures steps { IsStep (found_in state.old) result (found_in state.new) }
 {
-    state.widen_tables(alloc)?;
+    widen_tables(alloc, state)?;
     let mut decoded = std::mem::replace(&mut state.decoded, Decoded::new(alloc));
     let frame = needed(alloc, state.frame.as_ref(), Missing::Frame(Marker::SOS))?;
     let header = parse_sos(alloc, source, frame)?;

@@ -1,23 +1,19 @@
-//! What the segments of a stream have said so far, and the segments read in turn (T.81, B.2).
-ghost use Rattle.std.specs.Prelude.{◌≡◌, true, None};
-ghost use Rattle.jpeg_bits.specs.Reading.{Answers, IsShort};
+//! What the segments of a stream have said so far, and the segments (T.81, B.2).
+ghost use Rattle.std.specs.Prelude.{◌≡◌, true};
 ghost use Rattle.jpeg_segments.specs.HuffmanTables.{all_ac};
-ghost use Rattle.jpeg_bits.specs.Marker.{found_or, next_marker};
 
-use crate::codings::{is_large, widen_all};
 use crate::decoded::Decoded;
 use crate::frames::check_frame;
 use crate::metadata::Metadata;
-use crate::scan_segment::{read_scan, refused_line_count};
 use crate::tables::update;
 use jpeg_bits::error::{Error, Result, UnsupportedFeature, format_error, format_error_of};
 use jpeg_bits::huffman::HuffmanTable;
-use jpeg_bits::marker::{Marker, read_marker};
+use jpeg_bits::marker::Marker;
 use jpeg_bits::reads::{read_length, skip};
 use jpeg_bits::source::Source;
 use jpeg_segments::parser::{FrameInfo, parse_app, parse_dht, parse_dqt, parse_dri, parse_sof};
 use jpeg_streams::before::Before;
-use std::alloc::{AllocError, Global};
+use std::alloc::Global;
 use std::io::Read;
 
 /// What the segments of a stream have said so far: the frame, the tables in force by their
@@ -65,23 +61,17 @@ const ONWARD: Step = Step {
 };
 
 impl State {
-    ghost use Rattle.std.specs.Prelude.{◌≡◌, ◌&&◌, true, is_some, None, OnOk, IfOk, false, suc};
-    ghost use Rattle.std.specs.Prelude.{length};
-    ghost use Rattle.jpeg_bits.specs.Reading.{Answers, IsShort};
+    ghost use Rattle.std.specs.Prelude.{◌≡◌, false};
+    ghost use Rattle.jpeg_bits.specs.Reading.{Answers};
     ghost use Rattle.jpeg_bits.specs.declared.marker.Marker.TheVariants.{RST};
     ghost use Rattle.jpeg_streams.specs.Segments.{quantization_segment, frame_segment};
     ghost use Rattle.jpeg_streams.specs.Segments.{restart_segment, huffman_segment};
     ghost use Rattle.jpeg_streams.specs.Segments.{skipped_segment, application_segment};
     ghost use Rattle.jpeg_streams.specs.Found.{nothing_found};
     ghost use Rattle.jpeg_streams.specs.ScanSegments.{once_scanned, scan_before};
-    ghost use Rattle.jpeg_streams.specs.Stream.{end_segment, segment_at, turn_at};
-    ghost use Rattle.jpeg_streams.specs.Stream.{segments_at, told_of};
-    ghost use Rattle.jpeg_streams.specs.Reported.{IsOfTurns, told_in_turns};
-    ghost use Rattle.jpeg_streams.specs.States.{OnTold};
-    ghost use Rattle.jpeg_decoder.specs.Seen.{found_in, said_in};
+    ghost use Rattle.jpeg_streams.specs.Stream.{end_segment, segment_at};
+    ghost use Rattle.jpeg_decoder.specs.Seen.{found_in};
     ghost use Rattle.jpeg_decoder.specs.Steps.{IsStep, turn_of, with_decoded};
-    ghost use Rattle.jpeg_streams.specs.Sound.{IsSound, IsUnread};
-    ghost use Rattle.jpeg_streams.specs.declared.before.Before.TheVariants.{Elsewhere};
 
     /// Makes the state at the start of a stream.
     #[tactic(auto, unfolding(crate::proofs::Rules::nothing))]
@@ -102,7 +92,7 @@ impl State {
 
     /// Reads a frame header (T.81, B.2.2).
     #[tactic(auto, unfolding(jpeg_streams::specs::Segments::frame_segment))]
-    fn read_frame<R: Read + Drop>(
+    pub fn read_frame<R: Read + Drop>(
         &mut self,
         alloc: Global,
         source: &mut Source<R>,
@@ -123,7 +113,7 @@ impl State {
 
     /// Reads quantization tables (T.81, B.2.4.1).
     #[tactic(auto, using(jpeg_streams::proofs::Soundness::sound_kept))]
-    fn read_quantization<R: Read + Drop>(
+    pub fn read_quantization<R: Read + Drop>(
         &mut self,
         alloc: Global,
         source: &mut Source<R>,
@@ -139,7 +129,7 @@ impl State {
 
     /// Reads Huffman tables (T.81, B.2.4.2).
     #[tactic(auto, using(jpeg_streams::proofs::Soundness::sound_kept))]
-    fn read_huffman<R: Read + Drop>(
+    pub fn read_huffman<R: Read + Drop>(
         &mut self,
         alloc: Global,
         source: &mut Source<R>,
@@ -157,7 +147,7 @@ impl State {
 
     /// Reads a restart interval (T.81, B.2.4.4).
     #[tactic(auto, using(jpeg_streams::proofs::Soundness::sound_kept))]
-    fn read_restart<R: Read + Drop>(
+    pub fn read_restart<R: Read + Drop>(
         &mut self,
         alloc: Global,
         source: &mut Source<R>,
@@ -172,7 +162,7 @@ impl State {
 
     /// Reads data of an application (T.81, B.2.4.6).
     #[tactic(auto, using(jpeg_streams::proofs::Soundness::sound_kept))]
-    fn read_application<R: Read + Drop>(
+    pub fn read_application<R: Read + Drop>(
         &mut self,
         alloc: Global,
         source: &mut Source<R>,
@@ -188,7 +178,11 @@ impl State {
     }
 
     /// Skips a segment.
-    fn skip_segment<R: Read + Drop>(&self, alloc: Global, source: &mut Source<R>) -> Result<Step>
+    pub fn skip_segment<R: Read + Drop>(
+        &self,
+        alloc: Global,
+        source: &mut Source<R>,
+    ) -> Result<Step>
         ensures reads { Answers (turn_of self.now) (skipped_segment (found_in self.now)) source.old
             result source.new }
         ensures steps { IsStep (found_in self.now) result (found_in self.now) }
@@ -200,7 +194,7 @@ impl State {
 
     /// Ends the image, which needs a frame.
     #[tactic(auto, unfolding(jpeg_streams::specs::Stream::end_segment))]
-    fn end<R: Read + Drop>(&self, alloc: Global, source: &mut Source<R>) -> Result<Step>
+    pub fn end<R: Read + Drop>(&self, alloc: Global, source: &mut Source<R>) -> Result<Step>
         ensures reads { Answers (turn_of self.now) (end_segment (found_in self.now)) source.old
             result source.new }
         ensures steps { IsStep (found_in self.now) result (found_in self.now) }
@@ -213,19 +207,6 @@ impl State {
             met: None,
             ended: true,
         })
-    }
-
-    /// Fills the look-up tables of AC values where the frame has so many samples that it pays.
-    pub fn widen_tables(&mut self, alloc: Global) -> std::result::Result<(), AllocError>
-        ensures { found_in self.new ≡ found_in self.old }
-    {
-        let Some(frame) = &self.frame else {
-            return Ok(());
-        };
-        if !is_large(frame) {
-            return Ok(());
-        }
-        widen_all(alloc, &mut self.ac_tables, frame)
     }
 
     /// Ends a scan with what the scans have decoded, and returns what stands after it: this marker,
@@ -254,7 +235,7 @@ impl State {
 
     /// Ignores a restart marker after a scan, once.
     #[tactic(auto, unfolding(jpeg_streams::specs::Stream::segment_at))]
-    fn stray_restart<R: Read + Drop>(
+    pub fn stray_restart<R: Read + Drop>(
         &self,
         alloc: Global,
         source: &mut Source<R>,
@@ -271,103 +252,5 @@ impl State {
                 "found RST{number} outside a scan, expected the marker of a segment"
             ))),
         }
-    }
-
-    /// Reads one marker, which may have been reached already, and what stands after it.
-    #[tactic(auto, unfolding(crate::proofs::Rules::turns))]
-    fn read_turn<R: Read + Drop>(
-        &mut self,
-        alloc: Global,
-        source: &mut Source<R>,
-        before: Before,
-        met: Option<Marker>,
-    ) -> Result<Step>
-        requires sound { IsSound (found_in self.old) }
-        ensures reads { Answers (turn_of self.new) (turn_at before (found_in self.old) met)
-            source.old result source.new }
-        ensures steps { IsStep (found_in self.old) result (found_in self.new) }
-        ensures short { met ≡ None → IsShort source.old }
-    {
-        let marker = marker_or_next(alloc, source, met)?;
-        match marker {
-            Marker::SOF(number) => self.read_frame(alloc, source, number),
-            Marker::DQT => self.read_quantization(alloc, source),
-            Marker::DHT => self.read_huffman(alloc, source),
-            Marker::SOS => read_scan(alloc, source, self),
-            Marker::EOI => self.end(alloc, source),
-            Marker::DRI => self.read_restart(alloc, source),
-            Marker::APP(number) => self.read_application(alloc, source, number),
-            Marker::COM => self.skip_segment(alloc, source),
-            Marker::RST(number) => self.stray_restart(alloc, source, number, before),
-            Marker::DNL => Err(refused_line_count(alloc, before)),
-            Marker::DAC => Err(Error::Unsupported(UnsupportedFeature::ArithmeticEntropyCoding)),
-            Marker::DHP | Marker::EXP => Err(Error::Unsupported(UnsupportedFeature::Hierarchical)),
-            _ => Err(format_error_of(format!(in alloc;
-                "found {marker}, expected the marker of a segment"
-            ))),
-        }
-    }
-
-    /// Returns whether the frame was read, where the header is wanted alone.
-    fn is_read_for(&self, header: bool) -> bool
-        ensures { result ≡ (header && is_some (said_in self.now).frame) }
-    {
-        header && self.frame.is_some()
-    }
-
-    /// Reads segments and scans up to the end of the image, or, where the header is wanted alone,
-    /// through the frame's segment.
-    pub fn read<R: Read + Drop>(
-        &mut self,
-        alloc: Global,
-        source: &mut Source<R>,
-        header: bool,
-    ) -> Result<()>
-        requires sound { IsSound (found_in self.old) }
-        ensures reads { Answers (λ _. found_in self.new)
-            (segments_at header Elsewhere (found_in self.old) None) source.old result source.new }
-        ensures told { OnTold source.old source.new result (told_of (said_in self.new)
-            ≡ told_in_turns (suc (length source.old.bytes)) header (found_in self.old)
-            source.old.bytes) }
-        ensures turns { source.old.known ≡ true → IsOfTurns
-            (λ n. told_in_turns n header (found_in self.old) source.old.bytes)
-            (told_of (said_in self.new)) }
-        ensures framed { IfOk result (λ _. is_some (said_in self.new).frame ≡ true) }
-        ensures stays { is_some (said_in self.old).frame ≡ true → (said_in self.new).frame
-            ≡ (said_in self.old).frame }
-        ensures sound { IsSound (found_in self.old) → OnOk result (IsSound (found_in self.new)) }
-        ensures unread { header ≡ true → (said_in self.old).frame ≡ None
-            → OnOk result (IsUnread (found_in self.new)) }
-    {
-        let mut before = Before::Elsewhere;
-        let mut met = None;
-        for _ in 0..=u64::MAX {
-            if self.is_read_for(header) {
-                return Ok(());
-            }
-            let step = self.read_turn(alloc, source, before, met)?;
-            if step.ended {
-                return Ok(());
-            }
-            before = step.before;
-            met = step.met;
-        }
-        Err(format_error(alloc, "found 2^64 markers, expected EOI"))
-    }
-}
-
-/// Reads the marker that was reached, or else the next.
-fn marker_or_next<R: Read + Drop>(
-    alloc: Global,
-    source: &mut Source<R>,
-    met: Option<Marker>,
-) -> Result<Marker>
-    ensures answers { Answers (λ m. m) (λ bytes. found_or met bytes (next_marker bytes))
-        source.old result source.new }
-    ensures short { met ≡ None → IsShort source.old }
-{
-    match met {
-        Some(marker) => Ok(marker),
-        None => read_marker(alloc, source),
     }
 }
