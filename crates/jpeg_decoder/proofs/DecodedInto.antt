@@ -1,6 +1,6 @@
 -- A call that reads the header of a stream where it is to be read, and then the rest of it.
 use Rattle.std.proofs.Common.{rules}
-use Rattle.std.proofs.Common.{◌≡◌, ◌++◌, ℕ, suc, List, Result, Ok, Err, true, false, refl, sym, ap, ◌∙◌, subst, length, take}
+use Rattle.std.proofs.Common.{◌≡◌, ◌++◌, [], None, replicate, ℕ, suc, List, Result, Ok, Err, true, false, refl, sym, ap, ◌∙◌, subst, length, take}
 use Rattle.std.proofs.lemmas.Bool.{false≢true}
 use Rattle.std.proofs.Math.Seq.{take-append_seam}
 use Rattle.jpeg_bits.specs.Reading.{Answers, MayFail, Names, Outcome}
@@ -12,9 +12,12 @@ use Rattle.jpeg_streams.specs.Reported.{IsOfTurns, told_in_turns}
 use Rattle.jpeg_streams.specs.declared.progress.Progress.{Progress}
 use Rattle.jpeg_streams.specs.declared.progress.Progress.TheVariants.{Fresh, HeaderRead}
 use Rattle.jpeg_streams.specs.States.{IfRefused, IsReading, OnTold}
-use Rattle.jpeg_streams.specs.States.{Decoding, MovesToHeader, ahead, told_ahead, turns_ahead}
+use Rattle.jpeg_streams.specs.States.{Decoding, MovesToEnd, MovesToHeader, ahead, told_ahead, turns_ahead}
 use Rattle.jpeg_streams.specs.Stream.{Told, header_at, rest_at, told_of}
 use Rattle.jpeg_streams.proofs.Refusals.{told-err, told-through}
+use Rattle.jpeg_decoder.specs.Decodes.{Decodes}
+use Rattle.jpeg_decoder.proofs.DecodedImages.{decodes-images}
+use Rattle.jpeg_decoder.proofs.DecodedSamples.{decodes-samples}
 use Rattle.jpeg_decoder.proofs.HeaderThenRest.{header-lacks, header-means, header-told, header-told_lacking}
 use Rattle.jpeg_decoder.proofs.HeaderThenRest.{header-turns, header-turns_lacking}
 use Rattle.jpeg_decoder.proofs.ScanData.{answers-err}
@@ -163,6 +166,22 @@ into-refused bytes_of told old mid seen e view is moves answers tells turns =
     subst (λ (t : Told). HasRead bytes_of t old (Err e) seen.source) (sym is)
     (subst (λ (d : Decoding). HasRead bytes_of (told_of d.found.said) old (Err e) d.source) (sym view)
     (refused-at bytes_of old.stage old mid e moves answers tells turns))
+
+-- What was read, the state after it, and that nothing is kept: all that a call says that decodes.
+pub decodes : {X : Type 0} (bytes_of : X → List ℕ) (old new : Decoding) (r : Result X Error)
+    → MovesToEnd old.stage new.stage r → HasRead bytes_of (told_of new.found.said) old r new.source
+    → (IsReading old.stage → (new.found.kept ≡ []) × (new.found.planes ≡ replicate 4 None)
+    × (new.found.samples ≡ replicate 4 None))
+    → Decodes bytes_of old r new
+decodes bytes_of old new r stage read emptied = record {
+  stage = stage;
+  reads = read.reads;
+  images = decodes-images bytes_of old new r read.reads;
+  samples = decodes-samples bytes_of old new r read.reads;
+  told = read.told_is;
+  turns = read.turns;
+  emptied = emptied;
+}
 
 -- the front of the caller's memory
 pub front-of : (n : ℕ) (ys more : List ℕ) → length ys ≡ n → take n (ys ++ more) ≡ ys

@@ -2,6 +2,7 @@
 pub mod PlanesView
 pub mod Seen
 pub mod Bytes
+pub mod Decodes
 -- what a call has read that was refused for lack of room
 pub mod HeaderAlone
 -- what a caller sees of the blocks that are kept, and the code's own words

@@ -10,8 +10,7 @@ ghost use Rattle.jpeg_streams.specs.Reported.{IsOfTurns};
 ghost use Rattle.jpeg_streams.specs.States.{Decoding, MovesToHeader, MovesToEnd, IsReading, ahead};
 ghost use Rattle.jpeg_streams.specs.States.{told_ahead, turns_ahead, OnTold, OnToldRefusal};
 ghost use Rattle.jpeg_streams.specs.States.{HasHeader};
-ghost use Rattle.jpeg_streams.specs.DecodedImages.{DecodesImages};
-ghost use Rattle.jpeg_streams.specs.DecodedSamples.{DecodesSamples};
+ghost use Rattle.jpeg_decoder.specs.Decodes.{Decodes};
 ghost use Rattle.jpeg_decoder.specs.Seen.{found_in, said_in};
 ghost use Rattle.jpeg_decoder.specs.Bytes.{HasRoom, IsCounted, IsWhole, decoding_bytes};
 ghost use Rattle.jpeg_decoder.specs.Bytes.{picture_size};
@@ -399,35 +398,8 @@ impl<R: Read + Drop> Decoder<R> {
     /// refusal leaves a failed decoder, which returns what was read, but a finished one stays
     /// finished. No samples are kept after either.
     pub fn decode(&mut self) -> Result<Vec<u8>>
-        // The state table: an Ok finishes the decoder, a refusal fails it.
-        ensures stage { MovesToEnd self.old.stage self.new.stage result }
-
-        // For any bytes, the answer is what they mean by T.81, or the name of their fault.
-        ensures reads { IsReading self.old.stage
-            → Answers (λ v. (told_of self.new.found.said, v.items))
-            (ahead self.old.stage self.old.settings self.old.found) self.old.source result
-            self.new.source }
-
-        // Where the bytes are written for the coefficients of an image, it is their picture.
-        ensures images { DecodesImages (λ v. v.items) self.old result self.new }
-
-        // Where they are written for the samples of a lossless image, it is these samples.
-        ensures samples { DecodesSamples (λ v. v.items) self.old result self.new }
-
-        // A caller is then given what the segments up to the end or the fault have said.
-        ensures told { IsReading self.old.stage → OnTold self.old.source self.new.source result
-            (told_of self.new.found.said ≡ told_ahead false self.old.stage self.old.found
-            self.old.source.bytes) }
-
-        // The same after `OutOfMemory` or a failed read, of some first segments, each whole.
-        ensures turns { IsReading self.old.stage → self.old.source.known ≡ true
-            → IsOfTurns (λ n. turns_ahead n false self.old.stage self.old.found
-            self.old.source.bytes) (told_of self.new.found.said) }
-
-        // No blocks, planes or samples are kept.
-        ensures emptied { IsReading self.old.stage → (self.new.found.kept ≡ [])
-            × (self.new.found.planes ≡ replicate 4 None)
-            × (self.new.found.samples ≡ replicate 4 None) }
+        // The meaning of what the source has left, the state, and what is told: see `Decodes`.
+        ensures decodes { Decodes (λ v. v.items) self.old result self.new }
 
         // The settings stay.
         ensures settings { self.new.settings ≡ self.old.settings }
@@ -473,29 +445,8 @@ impl<R: Read + Drop> Decoder<R> {
     /// `pixels` is as it was.
     pub fn decode_into(&mut self, pixels: &mut [u8]) -> Result<usize>
         // Where there is room for the picture, all is as for `decode`.
-        ensures stage { HasRoom self.new.found.said.frame (length pixels.old)
-            → MovesToEnd self.old.stage self.new.stage result }
-        ensures reads { HasRoom self.new.found.said.frame (length pixels.old)
-            → IsReading self.old.stage
-            → Answers (λ n. (told_of self.new.found.said, take n pixels.new))
-            (ahead self.old.stage self.old.settings self.old.found) self.old.source result
-            self.new.source }
-        ensures images { HasRoom self.new.found.said.frame (length pixels.old)
-            → DecodesImages (λ n. take n pixels.new) self.old result self.new }
-        ensures samples { HasRoom self.new.found.said.frame (length pixels.old)
-            → DecodesSamples (λ n. take n pixels.new) self.old result self.new }
-        ensures told { HasRoom self.new.found.said.frame (length pixels.old)
-            → IsReading self.old.stage → OnTold self.old.source self.new.source result
-            (told_of self.new.found.said ≡ told_ahead false self.old.stage self.old.found
-            self.old.source.bytes) }
-        ensures turns { HasRoom self.new.found.said.frame (length pixels.old)
-            → IsReading self.old.stage → self.old.source.known ≡ true
-            → IsOfTurns (λ n. turns_ahead n false self.old.stage self.old.found
-            self.old.source.bytes) (told_of self.new.found.said) }
-        ensures emptied { HasRoom self.new.found.said.frame (length pixels.old)
-            → IsReading self.old.stage → (self.new.found.kept ≡ [])
-            × (self.new.found.planes ≡ replicate 4 None)
-            × (self.new.found.samples ≡ replicate 4 None) }
+        ensures decodes { HasRoom self.new.found.said.frame (length pixels.old)
+            → Decodes (λ n. take n pixels.new) self.old result self.new }
 
         // Where there is none, it is a refusal, and the decoder is as after `read_info`.
         ensures short { IsReading self.old.stage

@@ -16,7 +16,7 @@ returns-clause-means c few =
     let tells : Tells (Some bytes) bytes = record { told = refl; few = few } in
     let known = bytes_are_known (Some bytes) bytes tells in
     let same = known_bytes_are_told (Some bytes) bytes tells in
-    let reads = rw (c.in_ok-decoder.ensures.ok, c.new.ensures) at c.in_ok-pixels.ensures.reads in
+    let reads = rw (c.in_ok-decoder.ensures.ok, c.new.ensures) at c.in_ok-pixels.ensures.decodes.reads in
     let whole = ((reads tt).1 known).1 in (
       told_of c.decode.new.self.found.said,
       c.decode.new.self.source.bytes,

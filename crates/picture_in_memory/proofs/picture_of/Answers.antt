@@ -30,7 +30,7 @@ pub returns-clause-means : goal.returns-clause-means
 returns-clause-means c few =
     let bytes = c.args.bytes.now in
     let tells : Tells (Some bytes) bytes = record { told = refl; few = few } in
-    let reads = rw (c.in_ok-decoder.ensures.ok, c.new.ensures) at c.decode.ensures.reads in
+    let reads = rw (c.in_ok-decoder.ensures.ok, c.new.ensures) at c.decode.ensures.decodes.reads in
     let known = bytes_are_known (Some bytes) bytes tells in
     let same = known_bytes_are_told (Some bytes) bytes tells in
     let whole : IfOk c.decode.result (λ x. (t : Told) × (rest : List ℕ)
@@ -44,7 +44,7 @@ pub returns-clause-images : goal.returns-clause-images
 returns-clause-images c array image rest final last range w is few =
     let bytes = c.args.bytes.now in
     let tells : Tells (Some bytes) bytes = record { told = refl; few = few } in
-    let images = rw (c.in_ok-decoder.ensures.ok, c.new.ensures) at c.decode.ensures.images in
+    let images = rw (c.in_ok-decoder.ensures.ok, c.new.ensures) at c.decode.ensures.decodes.images in
     let known = bytes_are_known (Some bytes) bytes tells in
     let same = known_bytes_are_told (Some bytes) bytes tells in
     given (λ v. v.items) _ rest final _ c.decode.result

@@ -20,7 +20,7 @@ returns-in_err-decoder-clause-images g c = search (rules, prints-images)
 pub returns-in_err-pixels-clause-refused : goal.returns-in_err-pixels-clause-refused
 returns-in_err-pixels-clause-refused g c bytes tells some =
     let p = err_from_is_err_and c.from_residual-in_err-pixels.result c.from_residual-in_err-pixels.ensures.1 in
-    let reads = rw c.in_ok-decoder.ensures.ok at c.in_err-pixels.ensures.reads in
+    let reads = rw c.in_ok-decoder.ensures.ok at c.in_err-pixels.ensures.decodes.reads in
     let known = bytes_are_known (g.R.Read.remaining c.args.reader) bytes tells in
     let same = known_bytes_are_told (g.R.Read.remaining c.args.reader) bytes tells in
     let here = reads tt in
@@ -30,7 +30,7 @@ returns-in_err-pixels-clause-refused g c bytes tells some =
 pub returns-in_err-pixels-clause-named : goal.returns-in_err-pixels-clause-named
 returns-in_err-pixels-clause-named g c bytes tells =
     let p = err_from_is_err_and c.from_residual-in_err-pixels.result c.from_residual-in_err-pixels.ensures.1 in
-    let reads = rw c.in_ok-decoder.ensures.ok at c.in_err-pixels.ensures.reads in
+    let reads = rw c.in_ok-decoder.ensures.ok at c.in_err-pixels.ensures.decodes.reads in
     let known = bytes_are_known (g.R.Read.remaining c.args.reader) bytes tells in
     let same = known_bytes_are_told (g.R.Read.remaining c.args.reader) bytes tells in
     let here = reads tt in
@@ -53,7 +53,7 @@ returns-in_err-line-clause-images g c =
 printed : (g : Over) (c : goal.After-array_drop-decoder-inside-5 g) (bytes : List ℕ) → Tells (g.R.Read.remaining c.args.reader) bytes
     → output_of bytes ≡ Some (string_bytes c.in_ok-line.line ++ c.in_ok-pixels.pixels.items)
 printed g c bytes tells =
-    let reads = rw c.in_ok-decoder.ensures.ok at c.in_ok-pixels.ensures.reads in
+    let reads = rw c.in_ok-decoder.ensures.ok at c.in_ok-pixels.ensures.decodes.reads in
     let known = bytes_are_known (g.R.Read.remaining c.args.reader) bytes tells in
     let same = known_bytes_are_told (g.R.Read.remaining c.args.reader) bytes tells in
     let here = reads tt in

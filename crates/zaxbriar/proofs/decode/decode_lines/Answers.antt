@@ -14,7 +14,7 @@ returns-then-header-pixels-clause-decodes g c =
     let plain = c.is_as_decoded.ensures c.if-is_as_decoded.true in
     elim c.match-decode_into.branch [
       | in-Ok w ↦ rw w.result-is (decodes-of lines c.args.decoder.now c.decode_into.new.self _ c.args.pixels.now
-          c.decode_into.new.pixels c.requires.read frame (w.in-Ok.ensures.reads room) (w.in-Ok.ensures.images room)
+          c.decode_into.new.pixels c.requires.read frame (w.in-Ok.ensures.decodes room).reads (w.in-Ok.ensures.decodes room).images
           (laid-at_once lines.conversion lines.width lines.stored lines.row_bytes lines.stride lines.height _
           c.args.pixels.now c.decode_into.new.pixels plain.0
           (row-of c.requires.lines.0 c.args.header.info c.args.header.precision lines c.requires.lines.1) plain.1
@@ -36,7 +36,7 @@ returns-then-header-pixels-clause-named g c =
         told_of c.decode_into.new.self.found.said,
         take n c.decode_into.new.pixels,
       )) c.args.decoder.now c.decode_into.new.self _ _ c.requires.read
-          w.refusal_of.ensures (w.in-Err.ensures.reads room) known)
+          w.refusal_of.ensures (w.in-Err.ensures.decodes room).reads known)
     ]
 
 pub put_lines-requires-clause-samples : goal.put_lines-requires-clause-samples
@@ -49,5 +49,5 @@ put_lines-requires-clause-samples g c =
 pub returns-in-Ok-decode-clause-decodes : goal.returns-in-Ok-decode-clause-decodes
 returns-in-Ok-decode-clause-decodes g c =
     decodes-of c.args.lines c.args.decoder.now c.decode.new.self c.in-Ok-decode.samples.items c.args.pixels.now
-    c.put_lines.new.pixels c.requires.read (c.in-Ok-decode.ensures.stays c.requires.read) c.in-Ok-decode.ensures.reads
-    c.in-Ok-decode.ensures.images (rw c.deref.ensures.value at c.put_lines.ensures)
+    c.put_lines.new.pixels c.requires.read (c.in-Ok-decode.ensures.stays c.requires.read) c.in-Ok-decode.ensures.decodes.reads
+    c.in-Ok-decode.ensures.decodes.images (rw c.deref.ensures.value at c.put_lines.ensures)

@@ -8,9 +8,7 @@ use Rattle.jpeg_streams.specs.Stream.{told_of}
 use Rattle.jpeg_streams.specs.declared.progress.Progress.{Progress}
 use Rattle.jpeg_streams.specs.declared.progress.Progress.TheVariants.{Failed, Finished, Fresh, HeaderRead}
 use Rattle.jpeg_decoder.specs.Seen.{found_in}
-use Rattle.jpeg_decoder.proofs.DecodedImages.{decodes-images}
-use Rattle.jpeg_decoder.proofs.DecodedInto.{HasRead, begun-seen, into-at, into-refused}
-use Rattle.jpeg_decoder.proofs.DecodedSamples.{decodes-samples}
+use Rattle.jpeg_decoder.proofs.DecodedInto.{HasRead, begun-seen, decodes, into-at, into-refused}
 use Rattle.jpeg_decoder.proofs.PictureSizes.{if-counted}
 use Rattle.jpeg_decoder.proofs.decoder.Decoder.decode.Given as given
 use Rattle.jpeg_decoder.proofs.decoder.Decoder.decode.Goals as goal
@@ -24,20 +22,9 @@ refused : (g : given.Over) (c : goal.After-drop_decoded g) → HasRead {X = Vec 
     (told_of (left g c).found.said) c.args.self.now (Err c.in-Err.e) (left g c).source
 refused g c = search (rules, into-refused)
 
-pub returns-in-Err-clause-reads : goal.returns-in-Err-clause-reads
-returns-in-Err-clause-reads g c = (refused g c).reads
-
-pub returns-in-Err-clause-told : goal.returns-in-Err-clause-told
-returns-in-Err-clause-told g c = (refused g c).told_is
-
-pub returns-in-Err-clause-turns : goal.returns-in-Err-clause-turns
-returns-in-Err-clause-turns g c = (refused g c).turns
-
-pub returns-in-Err-clause-images : goal.returns-in-Err-clause-images
-returns-in-Err-clause-images g c = decodes-images {X = Vec ℕ Global} (λ v. v.items) _ (left g c) (Err _) (refused g c).reads
-
-pub returns-in-Err-clause-samples : goal.returns-in-Err-clause-samples
-returns-in-Err-clause-samples g c = decodes-samples {X = Vec ℕ Global} (λ v. v.items) _ (left g c) (Err _) (refused g c).reads
+pub returns-in-Err-clause-decodes : goal.returns-in-Err-clause-decodes
+returns-in-Err-clause-decodes g c =
+    decodes {X = Vec ℕ Global} (λ v. v.items) _ _ (Err _) (search rules) (refused g c) (search rules)
 
 -- ---- the rest was read
 
@@ -53,20 +40,8 @@ done g c =
       turns = c.read_rest-result.ensures.turns;
     })
 
-pub returns-clause-reads : goal.returns-clause-reads
-returns-clause-reads g c = (done g c).reads
-
-pub returns-clause-told : goal.returns-clause-told
-returns-clause-told g c = (done g c).told_is
-
-pub returns-clause-turns : goal.returns-clause-turns
-returns-clause-turns g c = (done g c).turns
-
-pub returns-clause-images : goal.returns-clause-images
-returns-clause-images g c = decodes-images _ _ _ _ (done g c).reads
-
-pub returns-clause-samples : goal.returns-clause-samples
-returns-clause-samples g c = decodes-samples _ _ _ _ (done g c).reads
+pub returns-clause-decodes : goal.returns-clause-decodes
+returns-clause-decodes g c = decodes _ _ _ _ (search rules) (done g c) (search rules)
 
 pub returns-clause-counted : goal.returns-clause-counted
 returns-clause-counted g c = search (rules, if-counted)
