@@ -13,7 +13,8 @@ use Rattle.jpeg_streams.specs.ScanSegments.{Coding}
 use Rattle.jpeg_decoder.specs.Steps.{coding_in}
 use Rattle.jpeg_decoder.specs.Scanning.{arrays_in, blocks_in, sizes_of, down_in, wide_in}
 use Rattle.jpeg_decoder.specs.Strips.{plane_lists, row_sizes, zeros_of, samples_of, strips_of}
-use Rattle.jpeg_decoder.specs.Strips.{with_strips}
+use Rattle.jpeg_decoder.specs.Strips.{tables_of, with_strips}
+use Rattle.jpeg_bits.specs.Zigzag.{values_in_block_order}
 use Rattle.jpeg_decoder.specs.declared.scan.Coded.{Coded}
 use Rattle.jpeg_decoder.proofs.BlocksBefore.{zero-blocks}
 use Rattle.jpeg_decoder.proofs.KeptBlocks.{Held, sizes-long, size-at}
@@ -45,6 +46,19 @@ cleared-next old items i v w h sizes arrays is new =
     (grind (arith, common_steps, length-map, sizes-long)) (grind (arith, common_steps, length-map, sizes-long))
     (grind (arith, common_steps, zero-blocks, get_or-map, sizes-long)) in
     (put ∙ sizes, grind (arith, common_steps, map-set))
+
+-- ---- the tables of the components
+
+pub tables-long : (cs : List Coded) (tables : List (List ℕ)) → tables ≡ tables_of cs → length tables ≡ length cs
+tables-long cs tables e = ap (λ (t : List (List ℕ)). length t) e ∙ length-map cs _
+
+pub table-here : (cs : List Coded) (tables : List (List ℕ)) (slot : ℕ) (c : Coded) (t : List ℕ) → tables ≡ tables_of cs
+    → slot < length cs → c ≡ get_or cs slot c → t ≡ get_or tables slot t
+    → t ≡ values_in_block_order c.quantization.now
+table-here cs tables slot c t e h is at =
+    at ∙ ap (λ (l : List (List ℕ)). get_or l slot t) e
+    ∙ get_or-map (λ (d : Coded). values_in_block_order d.quantization.now) cs slot c t h
+    ∙ ap (λ (d : Coded). values_in_block_order d.quantization.now) (sym is)
 
 -- ---- samples that are appended
 

@@ -76,6 +76,10 @@ planes_by_rows p vias n frame codings start bytes =
     (counted_at_start blocks []) (upcoming fresh bytes)) (λ r.
     reading.◌>>=◌ (marker_from r.1) (λ m. Ok ((r.0, m.0), m.1)))
 
+-- the quantization tables of a scan's components, in block order
+abbrev pub tables_of : List Coded → List (List ℕ)
+tables_of cs = map (λ c. values_in_block_order c.quantization.now) cs
+
 -- a plane without samples for each component
 abbrev pub no_samples : List Coding → List (List ℕ)
 no_samples codings = map (λ c. []) codings

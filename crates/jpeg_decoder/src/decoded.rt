@@ -21,7 +21,7 @@ use crate::planes::Planes;
 use crate::scan::{Coded, Scan, is_progressive};
 use crate::scans::read_blocks;
 use crate::sequential::read_planes;
-use crate::strips::{GrowingPlanes, append_rows, empty_planes, plane_size};
+use crate::strips::{GrowingPlanes, append_rows, empty_planes, plane_size, sample_table};
 use jpeg_bits::blocks::Pass;
 use jpeg_bits::error::Result;
 use jpeg_bits::marker::Marker;
@@ -128,7 +128,8 @@ pub fn render(
     let size = component.block_size;
     let samples = plane_size(size.width, size.height, component.dct_scale);
     let mut plane = Vec::with_capacity(alloc, samples)?;
-    append_rows(&mut plane, component, quantization, blocks, size.height)?;
+    let table = sample_table(quantization);
+    append_rows(&mut plane, component, &table, blocks, size.height)?;
     Ok(plane)
 }
 

@@ -12,7 +12,7 @@ ghost use Rattle.jpeg_decoder.specs.GrowingView.{GrowsFor, growing_in, is_joint}
 use crate::scan::Scan;
 use crate::scan_order::ScanOrder;
 use crate::scans::{first_interval, read_spots};
-use crate::strips::{GrowingPlanes, append_strips, clear_rows, row_buffers};
+use crate::strips::{GrowingPlanes, append_strips, clear_rows, row_buffers, sample_tables};
 use jpeg_bits::error::Result;
 use jpeg_bits::marker::Marker;
 use jpeg_bits::source::Source;
@@ -55,6 +55,7 @@ pub fn read_planes<R: Read + Drop>(
     let order = ScanOrder::new(alloc, scan, frame)?;
     let mut interval = first_interval(alloc, order.interval);
     let mut rows = row_buffers(alloc, &scan.components)?;
+    let tables = sample_tables(alloc, &scan.components)?;
     for row in 0..order.rows {
         clear_rows(&mut rows);
         let mut spots = order.row(row);
@@ -66,7 +67,7 @@ pub fn read_planes<R: Read + Drop>(
             order.interval,
             &mut spots,
         )?;
-        append_strips(planes, &scan.components, &rows)?;
+        append_strips(planes, &scan.components, &tables, &rows)?;
     }
     interval.decoder.take_marker(source)
 }

@@ -10,12 +10,12 @@ ghost use Rattle.jpeg_streams.specs.Rasters.{in_raster};
 ghost use Rattle.jpeg_decoder.specs.Scanning.{arrays_in, sizes_of};
 ghost use Rattle.jpeg_decoder.specs.Steps.{coding_in};
 ghost use Rattle.jpeg_decoder.specs.Strips.{no_samples, plane_lists, row_sizes, zeros_of};
-ghost use Rattle.jpeg_decoder.specs.Strips.{strips_of, with_strips};
+ghost use Rattle.jpeg_decoder.specs.Strips.{strips_of, tables_of, with_strips};
 ghost use Rattle.jpeg_decoder.specs.GrowingView.{GrowsFor, growing_in, is_joint};
 
 use crate::scan::Coded;
 use jpeg_pixels::joint_planes::JointPlanes;
-use jpeg_pixels::plane::append_row;
+use jpeg_pixels::plane::{SampleTable, append_strip};
 use jpeg_pixels::zigzag::values_in_order;
 use jpeg_segments::parser::Component;
 use std::alloc::{AllocError, Global};
@@ -84,28 +84,45 @@ pub fn empty_planes(
     Ok(planes)
 }
 
+/// Makes the table by which a component's blocks are transformed, of its quantization table in
+/// zigzag order.
+pub fn sample_table(quantization: &[u16; 64]) -> SampleTable
+    ensures { result ≡ values_in_block_order quantization.now }
+{
+    SampleTable::new(&values_in_order(quantization))
+}
+
+/// Makes the tables of a scan's components.
+pub fn sample_tables(alloc: Global, codings: &[Coded<'_>]) -> Result<Vec<SampleTable>, AllocError>
+    ensures { IfOk result (λ v. v.items ≡ tables_of codings.now) }
+{
+    let mut tables = Vec::with_capacity(alloc, codings.len())?;
+    for coded in codings {
+        tables.push(sample_table(coded.quantization))?;
+    }
+    Ok(tables)
+}
+
 /// Appends the samples of `high` rows of a component's blocks, which stand in raster order, to its
-/// plane, by the component's quantization table in zigzag order.
+/// plane, by the component's quantization table in block order.
 pub fn append_rows(
     plane: &mut Vec<u8>,
     component: &Component,
-    quantization: &[u16; 64],
+    table: &SampleTable,
     blocks: &[[i16; 64]],
     high: u16,
 ) -> Result<(), AllocError>
     requires scale { IsScale component.now.dct_scale }
     requires size { length blocks.now ≡ high * component.now.block_size.width }
     ensures { OnOk result (plane.new.items ≡ plane.old.items
-        ++ plane_of component.now.dct_scale (values_in_block_order quantization.now)
-        component.now.block_size.width high
+        ++ plane_of component.now.dct_scale table.now component.now.block_size.width high
         (in_raster component.now.block_size.width (map to_block blocks.now))) }
 {
-    let table = values_in_order(quantization);
     let wide = usize::from(component.block_size.width);
     let mut rest = blocks;
     for _ in 0..high {
         let (row, others) = rest.split_at(wide);
-        append_row(plane, component.dct_scale, row, &table)?;
+        append_strip(plane, component.dct_scale, row, table)?;
         rest = others;
     }
     Ok(())
@@ -124,9 +141,11 @@ pub enum GrowingPlanes {
 fn append_to_each(
     planes: &mut [Vec<u8>],
     codings: &[Coded<'_>],
+    tables: &[SampleTable],
     rows: &[Vec<[i16; 64]>],
 ) -> Result<(), AllocError>
     requires planes { 0 < length planes.old → length planes.old ≡ length codings.now }
+    requires tables { tables.now ≡ tables_of codings.now }
     requires sizes { sizes_of rows.now ≡ row_sizes codings.now }
     ensures { OnOk result (plane_lists planes.new
         ≡ with_strips (map coding_in codings.now) (arrays_in rows.now) (plane_lists planes.old)) }
@@ -141,7 +160,7 @@ fn append_to_each(
         append_rows(
             &mut planes[slot],
             component,
-            coded.quantization,
+            &tables[slot],
             &rows[slot],
             high,
         )?;
@@ -153,8 +172,10 @@ fn append_to_each(
 fn append_to_room(
     samples: &mut Vec<u8>,
     codings: &[Coded<'_>],
+    tables: &[SampleTable],
     rows: &[Vec<[i16; 64]>],
 ) -> Result<(), AllocError>
+    requires tables { tables.now ≡ tables_of codings.now }
     requires sizes { sizes_of rows.now ≡ row_sizes codings.now }
     ensures { OnOk result (samples.new.items ≡ samples.old.items
         ++ concat (strips_of (map coding_in codings.now) (arrays_in rows.now))) }
@@ -163,7 +184,7 @@ fn append_to_room(
         let coded = &codings[slot];
         let component = coded.component;
         let high = u16::from(component.vertical_sampling_factor);
-        append_rows(samples, component, coded.quantization, &rows[slot], high)?;
+        append_rows(samples, component, &tables[slot], &rows[slot], high)?;
     }
     Ok(())
 }
@@ -173,9 +194,11 @@ fn append_to_room(
 pub fn append_strips(
     planes: &mut GrowingPlanes,
     codings: &[Coded<'_>],
+    tables: &[SampleTable],
     rows: &[Vec<[i16; 64]>],
 ) -> Result<(), AllocError>
     requires planes { GrowsFor (map coding_in codings.now) planes.old }
+    requires tables { tables.now ≡ tables_of codings.now }
     requires sizes { sizes_of rows.now ≡ row_sizes codings.now }
     ensures strips { OnOk result (growing_in planes.new
         ≡ with_strips (map coding_in codings.now) (arrays_in rows.now) (growing_in planes.old)) }
@@ -183,7 +206,7 @@ pub fn append_strips(
     ensures kind { is_joint planes.new ≡ is_joint planes.old }
 {
     match planes {
-        GrowingPlanes::Own(planes) => append_to_each(planes, codings, rows),
-        GrowingPlanes::Joint(joint) => append_to_room(&mut joint.samples, codings, rows),
+        GrowingPlanes::Own(planes) => append_to_each(planes, codings, tables, rows),
+        GrowingPlanes::Joint(joint) => append_to_room(&mut joint.samples, codings, tables, rows),
     }
 }

@@ -5,7 +5,7 @@ ghost use Rattle.jpeg_segments.specs.FrameView.{component_in};
 ghost use Rattle.jpeg_pixels.specs.Scaled.{IsScale};
 ghost use Rattle.jpeg_pixels.specs.Workers.{IsRowOf, grown, plane_at, work_of};
 
-use crate::plane::write_strips;
+use crate::plane::{SampleTable, write_strips};
 use jpeg_bits::error::Result;
 use jpeg_segments::parser::Component;
 use std::alloc::Global;
@@ -81,7 +81,7 @@ impl GrowingPlane {
             blocks,
             self.blocks_wide,
             self.rows,
-            &self.quantization_table,
+            &SampleTable::new(&self.quantization_table),
         );
         self.written = end;
     }

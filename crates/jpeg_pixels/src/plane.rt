@@ -5,11 +5,60 @@ ghost use Rattle.jpeg_pixels.specs.Planes.{plane_of, strip_of, zero_coefficients
 ghost use Rattle.jpeg_pixels.specs.Scaled.{IsScale};
 
 use crate::idct::dequantize_and_idct_block;
-use crate::short_block::{short_table, write_block};
+use crate::short_block::{ShortTable, short_table, write_block};
 use std::alloc::AllocError;
+use std::marker::Model;
 
-// The blocks for which it pays to make a table of limits: it takes as long as some of them.
-const LONG_ROW: usize = 16;
+/// A quantization table in block order, with what the transform of blocks needs of it.
+#[derive(Drop)]
+pub struct SampleTable {
+    values: [u16; 64],
+    short: ShortTable,
+}
+
+impl Model for SampleTable {
+    ghost use Rattle.std.specs.Prelude.{ℕ, List};
+    ghost use Rattle.jpeg_pixels.specs.ShortRows.{IsShortTable};
+
+    ghost Value = { List ℕ };
+
+    ghost view = { λ t. t.values };
+
+    ghost invariant = { λ t. IsShortTable t.short t.values };
+}
+
+impl SampleTable {
+    ghost use Rattle.std.specs.Prelude.{◌≡◌, ◌+◌, ◌-◌, ◌*◌, ◌≤◌, length};
+    ghost use Rattle.jpeg_pixels.specs.Blocks.{WritesBlock};
+    ghost use Rattle.jpeg_pixels.specs.Scaled.{IsScale, sample_at};
+
+    /// Makes the table of a quantization table in block order.
+    pub fn new(quantization_table: &[u16; 64]) -> SampleTable
+        ensures { result ≡ quantization_table.now }
+    {
+        SampleTable {
+            values: *quantization_table,
+            short: short_table(quantization_table),
+        }
+    }
+
+    // Writes the samples of a block.
+    #[inline(always)]
+    #[tactic(auto, unfolding(crate::specs::Scaled::sample_at))]
+    fn write_block(&self, scale: usize, block: &[i16; 64], stride: usize, output: &mut [u8])
+        requires scale { IsScale scale }
+        requires wide { scale ≤ stride }
+        requires room { (scale - 1) * stride + scale ≤ length output.old }
+        ensures { WritesBlock scale scale stride (sample_at scale block.now self.now) output.old
+            output.new }
+    {
+        if scale == 8 {
+            write_block(block, &self.values, &self.short, stride, output);
+        } else {
+            dequantize_and_idct_block(scale, block, &self.values, stride, output);
+        }
+    }
+}
 
 /// Appends the samples of a row of blocks to a plane: `scale` lines of `scale * blocks.len()`
 /// samples.
@@ -29,9 +78,26 @@ pub fn append_row(
         (plane.new.items ≡ plane.old.items ++ strip_of scale quantization_table.now blocks.now) }
     ensures err { OnErr result (plane.new.items ≡ plane.old.items) }
 {
+    append_strip(plane, scale, blocks, &SampleTable::new(quantization_table))
+}
+
+/// Appends the samples of a row of blocks to a plane, as `append_row` does, by a table that was
+/// made for all rows.
+pub fn append_strip(
+    plane: &mut Vec<u8>,
+    scale: usize,
+    blocks: &[[i16; 64]],
+    table: &SampleTable,
+) -> Result<(), AllocError>
+    requires scale { IsScale scale }
+    requires few { length blocks.now ≤ 65536 }
+    ensures ok { OnOk result
+        (plane.new.items ≡ plane.old.items ++ strip_of scale table.now blocks.now) }
+    ensures err { OnErr result (plane.new.items ≡ plane.old.items) }
+{
     let start = plane.len();
     plane.resize(start + scale * scale * blocks.len(), 0)?;
-    write_strip(scale, &mut plane[start..], blocks, quantization_table);
+    write_strip(scale, &mut plane[start..], blocks, table);
     Ok(())
 }
 
@@ -43,14 +109,14 @@ pub(crate) fn write_strips(
     blocks: &[[i16; 64]],
     blocks_wide: usize,
     rows: usize,
-    quantization_table: &[u16; 64],
+    table: &SampleTable,
 )
     requires scale { IsScale scale }
     requires few { blocks_wide ≤ 65535 }
     requires few_rows { rows ≤ 255 }
     requires blocks { length blocks.now ≡ blocks_wide * rows }
     requires room { length strips.old ≡ scale * blocks_wide * (scale * rows) }
-    ensures { strips.new ≡ plane_of scale quantization_table.now blocks_wide rows
+    ensures { strips.new ≡ plane_of scale table.now blocks_wide rows
         (λ row column. slice_index_or blocks.now (row * blocks_wide + column) zero_coefficients) }
 {
     let size = scale * scale * blocks_wide;
@@ -61,50 +127,21 @@ pub(crate) fn write_strips(
             scale,
             &mut strips[start..start + size],
             &blocks[first..first + blocks_wide],
-            quantization_table,
+            table,
         );
     }
 }
 
 // Writes the samples of a row of blocks.
-fn write_strip(scale: usize, strip: &mut [u8], blocks: &[[i16; 64]], quantization_table: &[u16; 64])
+fn write_strip(scale: usize, strip: &mut [u8], blocks: &[[i16; 64]], table: &SampleTable)
     requires scale { IsScale scale }
     requires few { length blocks.now ≤ 65536 }
     requires room { length strip.old ≡ scale * scale * length blocks.now }
-    ensures { strip.new ≡ strip_of scale quantization_table.now blocks.now }
+    ensures { strip.new ≡ strip_of scale table.now blocks.now }
 {
-    if scale == 8 && blocks.len() >= LONG_ROW {
-        write_long_strip(strip, blocks, quantization_table);
-        return;
-    }
     let stride = scale * blocks.len();
     for column in 0..blocks.len() {
-        dequantize_and_idct_block(
-            scale,
-            &blocks[column],
-            quantization_table,
-            stride,
-            &mut strip[scale * column..],
-        );
-    }
-}
-
-// Writes the samples of a row of blocks at full size, by a table that is made for all of them.
-fn write_long_strip(strip: &mut [u8], blocks: &[[i16; 64]], quantization_table: &[u16; 64])
-    requires few { length blocks.now ≤ 65536 }
-    requires room { length strip.old ≡ 64 * length blocks.now }
-    ensures { strip.new ≡ strip_of 8 quantization_table.now blocks.now }
-{
-    let table = short_table(quantization_table);
-    let stride = 8 * blocks.len();
-    for column in 0..blocks.len() {
-        write_block(
-            &blocks[column],
-            quantization_table,
-            &table,
-            stride,
-            &mut strip[8 * column..],
-        );
+        table.write_block(scale, &blocks[column], stride, &mut strip[scale * column..]);
     }
 }
 

@@ -5,5 +5,5 @@ use Rattle.jpeg_pixels.proofs.plane.write_strip.Given as goal
 
 abbrev pub invariant-loop-column : goal.invariant-loop-column
 invariant-loop-column l = HoldsSamples l.scale (l.scale * length l.blocks) (l.scale * l.column)
-    (plane_sample l.scale l.quantization_table (λ row index. slice_index_or l.blocks index
+    (plane_sample l.scale l.table (λ row index. slice_index_or l.blocks index
     zero_coefficients)) l.strip

@@ -15,6 +15,6 @@ loop-row-preserved c =
     let blocks = c.args.blocks.now in
     let room = row_has_room s c.args.blocks_wide c.loop-row.row c.args.rows (length c.loop-row.strips)
     (length c.args.blocks.now) c.loop-row-test.true (omega arith) c.requires.blocks in
-    rows_next s c.args.quantization_table.now blocks c.args.blocks_wide c.loop-row.row _ _ c.loop-row.strips
+    rows_next s c.args.table.now blocks c.args.blocks_wide c.loop-row.row _ _ c.loop-row.strips
     c.write_strip.new.strip
     c.loop-row.invariant (omega (arith, room.0)) (omega arith) (omega arith) room.1 c.write_strip.ensures

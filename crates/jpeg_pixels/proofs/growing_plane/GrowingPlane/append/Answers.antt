@@ -11,7 +11,7 @@ returns c =
     grown_is p c.args.self.now size (p.written + size - p.written) c.deref_mut.result.now c.write_strips.new.strips
     coefficients c.self.view_is
     c.deref_mut.ensures.value (omega arith) room.0 (omega arith) c.self.invariant.written
-    (c.write_strips.ensures
+    (rw c.new.ensures at c.write_strips.ensures
     ∙ row_of_chunks p.scale p.quantization_table p.blocks_wide p.rows
     (length coefficients / 64) coefficients c.as_chunks.result.0.now
     c.as_chunks.ensures.front room.1)
