@@ -12,9 +12,11 @@ from pathlib import Path
 
 ROOT = Path(__file__).resolve().parent.parent
 # Names of other programs, of T.81 and of Rust, and words that a page explains itself.
-OTHERS = """axioms Box ceil clone compute_image_parallel dyn FORMAT Hmax ljpeg LOSSLESS malloc
-    non_exhaustive perf plant Pt random_tests_tests rattle_alloc rattle_dealloc rattle_errno
-    rattle_realloc realloc ROW TEST tmp try ulimit Upsample Vmax __xpg_strerror_r""".split()
+OTHERS = """__xpg_strerror_r Ah Al axioms Box ceil clone coef_bits compute_image_parallel cur_comp_info
+    DCT_scaled_size dyn EOBRUN ERREXIT FORMAT Hmax JBLOCK jpeg_decompress_struct last_dc_val
+    ljpeg LOSSLESS malloc MCU_membership non_exhaustive perf plant Pt random_tests_tests
+    rattle_alloc rattle_dealloc rattle_errno rattle_realloc read_markers realloc ROW Se Ss
+    tbl_no TEST tmp try ulimit unread_marker Upsample Vmax""".split()
 C_COMMENTS = r'/\*[\s\S]*?\*/|"(?:\\.|[^"\\\n])*"'
 COMMENTS = {
     ".rt": r'//.*|"(?:\\.|[^"\\\n])*"',
