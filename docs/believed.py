@@ -25,7 +25,7 @@ CRATES = "jpeg_bits jpeg_segments jpeg_pixels jpeg_lossless jpeg_streams jpeg_de
 LAWS = {
     "jpeg_pixels/src/laws": "laws::",
     "jpeg_lossless/src/laws": "laws::",
-    "jpeg_decoder/src/worked": "",
+    "jpeg_evidence/src/worked": "",
     "jpeg_decoder/src/headline": "headline::",
     "jpeg_decoder/src/lossless_laws": "lossless_laws::",
 }

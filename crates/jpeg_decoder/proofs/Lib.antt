@@ -47,8 +47,7 @@ mod DecodedSamples
 pub mod ImageSizes
 pub mod PictureSizes
 pub mod LosslessPictureSizes
-pub mod OnLiterals
-pub mod LosslessOnLiterals
+mod OnLiterals
 mod Orientations
 pub mod KeptScans
 pub mod KeptStrips

@@ -1,28 +1,7 @@
--- What an answer unfolds to compute definitions on a literal.
+-- What an answer unfolds to compute the definitions of all streams, those of lossless ones among them, on a literal.
 use Rattle.std.specs.Prelude.{⊤}
-use Rattle.jpeg_lossless.specs.Prediction.{first_line, line_below, line_rest, residue}
-use Rattle.jpeg_pixels.specs.Colour.{blue_of, colour_of, conversion_of, green_of, red_of}
-use Rattle.jpeg_segments.specs.Frame.{component_of, frame_of}
-use Rattle.jpeg_segments.specs.Scales.{component_at, frame_at}
-use Rattle.jpeg_streams.specs.ColourChoice.{by_identifiers, transform_of}
-use Rattle.jpeg_streams.proofs.OnLiterals.{streams_on_literals}
+use Rattle.jpeg_streams.proofs.OnLiterals.{samples_on_literals, streams_on_literals}
 
-unfoldable pub jpeg_on_literals : ⊤
-unfolding streams_on_literals
-jpeg_on_literals = tt
-
-unfoldable pub sizes_on_literals : ⊤
-unfolding component_of frame_of component_at frame_at
-sizes_on_literals = tt
-
-unfoldable pub choices_on_literals : ⊤
-unfolding by_identifiers transform_of conversion_of
-choices_on_literals = tt
-
-unfoldable pub pixels_on_literals : ⊤
-unfolding red_of green_of blue_of colour_of
-pixels_on_literals = tt
-
-unfoldable pub predictions_on_literals : ⊤
-unfolding residue first_line line_rest line_below
-predictions_on_literals = tt
+unfoldable pub all_on_literals : ⊤
+unfolding samples_on_literals streams_on_literals
+all_on_literals = tt

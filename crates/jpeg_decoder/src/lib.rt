@@ -59,7 +59,6 @@ mod state;
 mod stream;
 mod strips;
 mod tables;
-pub mod worked;
 
 pub use decoder::{Decoder, ImageInfo, PixelFormat};
 pub use jpeg_bits::byte_reader::ByteReader;

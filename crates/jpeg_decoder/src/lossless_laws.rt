@@ -135,7 +135,7 @@ pub fn worked_samples_are_written()
 {}
 
 /// What the two mean, computed from their bytes as it is checked.
-#[tactic(auto, unfolding(crate::proofs::LosslessOnLiterals::all_on_literals))]
+#[tactic(auto, unfolding(crate::proofs::OnLiterals::all_on_literals))]
 pub fn known_samples()
     ensures plain { picture_meant three_bytes ≡ Ok three_picture }
     ensures padded { picture_meant padded_bytes ≡ Ok padded_picture }

@@ -1,14 +1,34 @@
 -- What a law unfolds to compute its definitions on literals.
 use Rattle.std.specs.Prelude.{⊤}
-use Rattle.jpeg_decoder.proofs.LosslessOnLiterals.{lossless_on_literals}
-use Rattle.jpeg_decoder.proofs.OnLiterals.{jpeg_on_literals}
+use Rattle.jpeg_lossless.specs.Prediction.{first_line, line_below, line_rest, residue}
+use Rattle.jpeg_pixels.specs.Colour.{blue_of, colour_of, conversion_of, green_of, red_of}
 use Rattle.jpeg_pixels.specs.Samples.{basis}
+use Rattle.jpeg_segments.specs.Frame.{component_of, frame_of}
+use Rattle.jpeg_segments.specs.Scales.{component_at, frame_at}
+use Rattle.jpeg_streams.specs.ColourChoice.{by_identifiers, transform_of}
+use Rattle.jpeg_streams.proofs.OnLiterals.{samples_on_literals, streams_on_literals}
 use Rattle.jpeg_evidence.specs.Cosines.{cosine, is_entry, are_entries}
 
 unfoldable pub files_on_literals : ⊤
-unfolding jpeg_on_literals lossless_on_literals
+unfolding streams_on_literals samples_on_literals
 files_on_literals = tt
 
 unfoldable pub matrix_on_literals : ⊤
 unfolding basis cosine is_entry are_entries
 matrix_on_literals = tt
+
+unfoldable pub sizes_on_literals : ⊤
+unfolding component_of frame_of component_at frame_at
+sizes_on_literals = tt
+
+unfoldable pub choices_on_literals : ⊤
+unfolding by_identifiers transform_of conversion_of
+choices_on_literals = tt
+
+unfoldable pub pixels_on_literals : ⊤
+unfolding red_of green_of blue_of colour_of
+pixels_on_literals = tt
+
+unfoldable pub predictions_on_literals : ⊤
+unfolding residue first_line line_rest line_below
+predictions_on_literals = tt

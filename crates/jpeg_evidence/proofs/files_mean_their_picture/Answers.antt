@@ -1,8 +1,8 @@
 -- computed on the bytes of the files
 use Rattle.std.proofs.Common.{refl}
-use Rattle.jpeg_decoder.proofs.OnLiterals.{jpeg_on_literals}
+use Rattle.jpeg_streams.proofs.OnLiterals.{streams_on_literals}
 use Rattle.jpeg_evidence.proofs.files_mean_their_picture.Goals as goal
 
 pub returns : goal.returns
-unfolding jpeg_on_literals
+unfolding streams_on_literals
 returns c = record { sequential = refl; progressive = refl }

@@ -32,7 +32,7 @@ ghost use Rattle.jpeg_streams.specs.WorkedImages.{colour_bytes, colour_picture};
 ghost use Rattle.jpeg_streams.specs.WorkedImages.{grey_bytes, grey_picture};
 
 /// Ten streams of one component, and what they mean.
-#[tactic(auto, unfolding(crate::proofs::OnLiterals::jpeg_on_literals))]
+#[tactic(auto, unfolding(jpeg_streams::proofs::OnLiterals::streams_on_literals))]
 pub fn known_streams()
     // A block of one coefficient, DC 8, is 64 samples of 129.
     ensures flat { picture_meant (stream_with 8 (67 ∷ [])) ≡ Ok (replicate 64 129) }
@@ -70,7 +70,7 @@ pub fn known_streams()
 {}
 
 /// Streams of several components, with restarts, or in several scans, and what they mean.
-#[tactic(auto, unfolding(crate::proofs::OnLiterals::jpeg_on_literals))]
+#[tactic(auto, unfolding(jpeg_streams::proofs::OnLiterals::streams_on_literals))]
 pub fn known_scans()
     // Three components give the same picture in one scan and in one each, in any order.
     ensures at_once { picture_meant three_at_once
@@ -138,14 +138,14 @@ pub fn known_orders()
 {}
 
 /// A height and a width that are no multiples of 8 crop the picture.
-#[tactic(auto, unfolding(crate::proofs::OnLiterals::jpeg_on_literals))]
+#[tactic(auto, unfolding(jpeg_streams::proofs::OnLiterals::streams_on_literals))]
 pub fn known_crops()
     ensures lines { picture_meant (stream_parts 5 8 (67 ∷ []) []) ≡ Ok (replicate 40 129) }
     ensures columns { picture_meant (stream_parts 8 3 (67 ∷ []) []) ≡ Ok (replicate 24 129) }
 {}
 
 /// A frame of an MJPEG stream without its Huffman tables, and what the last Adobe segment says.
-#[tactic(auto, unfolding(crate::proofs::OnLiterals::jpeg_on_literals))]
+#[tactic(auto, unfolding(jpeg_streams::proofs::OnLiterals::streams_on_literals))]
 pub fn known_applications()
     ensures defaults { picture_meant without_tables ≡ Ok (replicate 64 129) }
     ensures last_adobe { (with_application (with_application no_metadata (Some (Adobe adobe.YCbCr)))
@@ -154,7 +154,7 @@ pub fn known_applications()
 
 /// Streams that break one rule: a restart marker before the frame, a DC difference of more than 11
 /// bits, an MCU of more than 10 blocks, a refinement by two levels.
-#[tactic(auto, unfolding(crate::proofs::OnLiterals::jpeg_on_literals))]
+#[tactic(auto, unfolding(jpeg_streams::proofs::OnLiterals::streams_on_literals))]
 pub fn known_refusals()
     ensures stray { picture_meant stray_marker ≡ Err Malformed }
     ensures category { picture_meant category_12 ≡ Err Malformed }

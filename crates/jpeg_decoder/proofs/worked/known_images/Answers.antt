@@ -1,7 +1,0 @@
-use Rattle.std.proofs.Common.{refl}
-use Rattle.jpeg_decoder.proofs.OnLiterals.{jpeg_on_literals}
-use Rattle.jpeg_decoder.proofs.worked.known_images.Goals as goal
-
-pub returns : goal.returns
-unfolding jpeg_on_literals
-returns c = record { grey = refl; colour = refl }
