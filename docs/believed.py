@@ -36,6 +36,7 @@ STREAMS = {
         FoundPictures Stream""",
     "known_scans": """jpeg_bits Refinement, jpeg_segments Scales, jpeg_pixels Scaled Upsampling
         Pictures, jpeg_streams Order Scans ColourChoice""",
+    "known_scaled_pixels": "jpeg_segments Scales, jpeg_pixels Scaled",
     "known_images": "jpeg_bits Refinement, jpeg_pixels Upsampling Pictures",
     "known_orders": "jpeg_streams Order Scans",
     "known_crops": "jpeg_pixels Planes",
@@ -49,7 +50,11 @@ STREAMS = {
 }
 # What the parts that write, read and picture begin with.
 WRITER = ["jpeg_streams.WrittenImages.WritesImage", "jpeg_streams.WrittenLossless.WritesSamples"]
-READER = ["jpeg_streams.Stream.meaning", "jpeg_streams.Stream.sized_meaning"]
+READER = [
+    "jpeg_streams.Stream.meaning",
+    "jpeg_streams.Stream.sized_meaning",
+    "jpeg_streams.Stream.scaled_meaning",
+]
 PICTURE = [
     "jpeg_streams.ArrayPictures.picture_of_array",
     "jpeg_streams.WrittenLossless.picture_of_samples",

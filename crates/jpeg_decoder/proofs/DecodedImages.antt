@@ -5,20 +5,21 @@ use Rattle.std.proofs.lemmas.Bool.{false≢true}
 use Rattle.jpeg_bits.specs.Reading.{Outcome, Fault, Answers, ◌>>=◌}
 use Rattle.jpeg_bits.specs.Stream.{Stream}
 use Rattle.jpeg_bits.specs.declared.error.Error.{Error}
+use Rattle.jpeg_segments.specs.declared.scale.Scale.{Scale}
 use Rattle.jpeg_streams.specs.ArrayPictures.{meaning_of_array}
-use Rattle.jpeg_streams.specs.DecodedImages.{AtLeast, DecodesImages, FailsOutside, FullSize}
+use Rattle.jpeg_streams.specs.DecodedImages.{AtLeast, AtScale, DecodesImages, FailsOutside, FullSize}
 use Rattle.jpeg_streams.specs.DecodedImages.{GivesPicture, HasLeft, Size, at_size}
 use Rattle.jpeg_streams.specs.Levels.{Is8Bit, Levels}
 use Rattle.jpeg_streams.specs.declared.progress.Progress.{Progress}
 use Rattle.jpeg_streams.specs.States.{Decoding, IsReading, ahead}
-use Rattle.jpeg_streams.specs.Stream.{Told, header_at, meaning, rest_at, sized_meaning, told_of}
+use Rattle.jpeg_streams.specs.Stream.{Told, header_at, meaning, rest_at, scaled_meaning, sized_meaning, told_of}
 use Rattle.jpeg_streams.specs.Found.{Found, with_said, Said}
 use Rattle.jpeg_streams.specs.WrittenImages.{WritesImage}
 use Rattle.jpeg_streams.specs.WrittenScans.{Coefficients}
 use Rattle.jpeg_streams.specs.declared.settings.Settings.{Settings}
 use Rattle.jpeg_streams.proofs.ReadTurns.{err-ok, ok-same, then-ok}
 use Rattle.jpeg_decoder.proofs.HeaderThenRest.{header-means}
-use Rattle.jpeg_streams.proofs.SizedStreams.{stream-means_sized}
+use Rattle.jpeg_streams.proofs.SizedStreams.{stream-means_scaled, stream-means_sized}
 use Rattle.jpeg_streams.proofs.WrittenPictures.{stream-means}
 use Rattle.std.proofs.lemmas.Grind.{common_steps}
 
@@ -32,6 +33,7 @@ left-reading size bytes stage found left h = grind (arith, common_steps)
 abbrev pub means_at : Size → Settings → List ℕ → Outcome (Told × List ℕ)
 means_at FullSize settings bytes = meaning settings bytes
 means_at (AtLeast width height) settings bytes = sized_meaning width height settings bytes
+means_at (AtScale scale) settings bytes = scaled_meaning scale settings bytes
 
 sized-begins : (width height : ℕ) (settings : Settings) (found : Found) (bytes rest : List ℕ)
     → header_at bytes ≡ Ok (found, rest)
@@ -39,10 +41,16 @@ sized-begins : (width height : ℕ) (settings : Settings) (found : Found) (bytes
 unfolding sized_meaning
 sized-begins width height settings found bytes rest e = then-ok (header_at bytes) _ (found, rest) _ e refl
 
+scaled-begins : (scale : Scale) (settings : Settings) (found : Found) (bytes rest : List ℕ)
+    → header_at bytes ≡ Ok (found, rest)
+    → scaled_meaning scale settings bytes ≡ rest_at settings (with_said (at_size (AtScale scale)) found) rest
+unfolding scaled_meaning
+scaled-begins scale settings found bytes rest e = then-ok (header_at bytes) _ (found, rest) _ e refl
+
 pub left-means : (size : Size) (settings : Settings) (bytes : List ℕ) (stage : Progress) (found : Found) (left : List ℕ)
     (o : Outcome (Told × List ℕ))
     → HasLeft size bytes stage found left → means_at size settings bytes ≡ o → ahead stage settings found left ≡ o
-left-means size settings bytes stage found left o h e = grind (arith, common_steps, header-means, sized-begins)
+left-means size settings bytes stage found left o h e = grind (arith, common_steps, header-means, scaled-begins, sized-begins)
 
 -- ---- what is given
 
@@ -66,6 +74,7 @@ means-array : (size : Size) (settings : Settings) (array : Coefficients) (image 
     ≡ meaning_of_array settings (at_size size final) array last rest
 means-array FullSize = stream-means
 means-array (AtLeast width height) = stream-means_sized width height
+means-array (AtScale scale) = stream-means_scaled scale
 
 pub decodes-images : {X : Type 0} (bytes_of : X → List ℕ) (old new : Decoding) (result : Result X Error)
     → (IsReading old.stage

@@ -2,7 +2,7 @@
 use Rattle.std.proofs.Common.{◌≡◌, ℕ, List, ◌++◌, Result, Ok, rules}
 use Rattle.jpeg_bits.specs.Reading.{Answers, ◌>>=◌}
 use Rattle.jpeg_bits.specs.declared.error.Error.{Error}
-use Rattle.jpeg_streams.specs.DecodedImages.{AtLeast, FullSize, Size}
+use Rattle.jpeg_streams.specs.DecodedImages.{AtLeast, AtScale, FullSize, Size}
 use Rattle.jpeg_streams.specs.DecodedSamples.{DecodesSamples}
 use Rattle.jpeg_streams.specs.FoundPictures.{limited}
 use Rattle.jpeg_streams.specs.States.{Decoding, IsReading, ahead}
@@ -11,7 +11,7 @@ use Rattle.jpeg_streams.specs.Found.{Said}
 use Rattle.jpeg_streams.specs.WrittenLossless.{picture_of_samples, Samples, WritesSamples}
 use Rattle.jpeg_streams.specs.declared.settings.Settings.{Settings}
 use Rattle.jpeg_decoder.proofs.DecodedImages.{gives, left-means, left-reading, means_at}
-use Rattle.jpeg_decoder.proofs.LosslessPixels.{lossless-means, lossless-sized}
+use Rattle.jpeg_decoder.proofs.LosslessPixels.{lossless-means, lossless-scaled, lossless-sized}
 
 means-samples : (size : Size) (settings : Settings) (samples : Samples) (image rest : List ℕ) (final : Said)
     → WritesSamples samples image final
@@ -20,6 +20,7 @@ means-samples : (size : Size) (settings : Settings) (samples : Samples) (image r
     >>= (λ picture. Ok ((told_of final, picture), rest)))
 means-samples FullSize = lossless-means
 means-samples (AtLeast width height) = lossless-sized width height
+means-samples (AtScale scale) = lossless-scaled scale
 
 pub decodes-samples : {X : Type 0} (bytes_of : X → List ℕ) (old new : Decoding) (result : Result X Error)
     → (IsReading old.stage

@@ -6,6 +6,7 @@ pub mod TurnLoops
 pub mod Headers
 pub mod HeaderThenRest
 pub mod DecodedInto
+mod ScaledHeaders
 pub mod Ratios
 pub mod KeptBlocks
 pub mod Walks

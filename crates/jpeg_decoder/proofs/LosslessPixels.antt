@@ -11,10 +11,11 @@ use Rattle.jpeg_segments.specs.Checks.{gathered}
 use Rattle.jpeg_segments.specs.Frame.{Component, Frame}
 use Rattle.jpeg_segments.specs.declared.parser.CodingProcess.{CodingProcess}
 use Rattle.jpeg_lossless.specs.Pictures.{lossless_picture}
+use Rattle.jpeg_segments.specs.declared.scale.Scale.{Scale}
 use Rattle.jpeg_streams.specs.declared.settings.Settings.{Settings}
 use Rattle.jpeg_streams.specs.Found.{nothing_said, Said}
 use Rattle.jpeg_streams.specs.FoundPictures.{limited, picture_by_process, picture_of, samples_picture}
-use Rattle.jpeg_streams.specs.Stream.{meaning, sized_meaning, Told, told_of}
+use Rattle.jpeg_streams.specs.Stream.{meaning, scaled_meaning, sized_meaning, Told, told_of}
 use Rattle.jpeg_streams.specs.WrittenLossless.{IsLossless, IsWithinLimit, picture_of_samples, Samples}
 use Rattle.jpeg_streams.specs.WrittenLossless.{WritesSamples}
 use Rattle.jpeg_streams.proofs.Apart.{get-at}
@@ -28,7 +29,7 @@ use Rattle.jpeg_streams.proofs.WrittenFrameScans.{in-all}
 use Rattle.jpeg_decoder.proofs.LosslessReads.{sample_plane}
 use Rattle.jpeg_decoder.proofs.ReadLists.{at-flat}
 use Rattle.jpeg_decoder.proofs.WrittenLosslessStreams.{all-in, AreKept, AreMeant, header-said, IsSampled}
-use Rattle.jpeg_decoder.proofs.WrittenLosslessStreams.{samples-walked, sized-walked}
+use Rattle.jpeg_decoder.proofs.WrittenLosslessStreams.{samples-walked, scaled-walked, sized-walked}
 use Rattle.jpeg_decoder.proofs.WrittenSamples.{bring_samples, indices_of, planes_for, scan-sized, SizedAt}
 
 -- ---- sizes
@@ -122,6 +123,14 @@ pub lossless-sized : (width height : ℕ) (settings : Settings) (samples : Sampl
 lossless-sized width height settings samples bytes rest final w =
     samples-meant settings samples bytes rest final _ w
     (sized-walked width height settings samples bytes rest final w)
+
+pub lossless-scaled : (scale : Scale) (settings : Settings) (samples : Samples) (bytes rest : List ℕ)
+    (final : Said) → WritesSamples samples bytes final
+    → scaled_meaning scale settings (bytes ++ rest)
+    ≡ (limited settings final (λ f. Ok (picture_of_samples f samples)) >>= given final rest)
+lossless-scaled scale settings samples bytes rest final w =
+    samples-meant settings samples bytes rest final _ w
+    (scaled-walked scale settings samples bytes rest final w)
 
 -- within the limit
 pub limit-takes : (settings : Settings) (samples : Samples) (rest : List ℕ) (final : Said) (frame : Frame)

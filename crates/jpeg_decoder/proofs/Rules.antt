@@ -21,8 +21,8 @@ use Rattle.jpeg_streams.proofs.McuRows.{scans-by-rows, plane-strips, codings-are
 use Rattle.jpeg_streams.proofs.McuRows.{sequential-scan, progressive-scan}
 use Rattle.jpeg_streams.proofs.PaddingUnseen.{own-predicted, pictures-agree, planes-same}
 use Rattle.jpeg_streams.proofs.PicturedFrames.{header-accepted}
-use Rattle.jpeg_streams.proofs.Soundness.{found-again, nothing-framed, sound-nothing}
-use Rattle.jpeg_streams.proofs.SizedStreams.{sized-taken, stream-means_sized}
+use Rattle.jpeg_streams.proofs.Soundness.{nothing-framed, scaled-again, sized-again, sound-nothing}
+use Rattle.jpeg_streams.proofs.SizedStreams.{scaled-taken, sized-taken, stream-means_scaled, stream-means_sized}
 use Rattle.jpeg_streams.proofs.WalkedStreams.{front-append}
 use Rattle.jpeg_streams.proofs.WholeImages.{cut-whole}
 use Rattle.jpeg_streams.proofs.WorkedStreams.{colour-written, grey-written, padding-written, three-written}
@@ -47,8 +47,10 @@ use Rattle.jpeg_decoder.proofs.PicturesOfPlanes.{several-ready}
 pub ruleset images = (
   stream-means,
   stream-means_sized,
+  stream-means_scaled,
   taken-means,
   sized-taken,
+  scaled-taken,
   cut-whole,
   front-append,
   front-closed,
@@ -62,7 +64,8 @@ pub ruleset images = (
 pub ruleset streams = (
   header-means,
   header-lacks,
-  found-again,
+  sized-again,
+  scaled-again,
   spots-apart,
   spots-inside,
   scans-in-turn,

@@ -8,7 +8,8 @@ use Rattle.std.proofs.lemmas.Grind.{common_steps}
 use Rattle.std.proofs.lemmas.List.Elements.{recursion_from_All}
 use Rattle.std.specs.List.{AllByRecursion, concat, range_with_len}
 use Rattle.jpeg_bits.specs.DefaultTables.{names}
-use Rattle.jpeg_bits.specs.Reading.{Outcome}
+use Rattle.jpeg_bits.specs.Reading.{Outcome, ◌>>=◌}
+use Rattle.jpeg_segments.specs.declared.scale.Scale.{Scale}
 use Rattle.jpeg_segments.specs.declared.parser.CodingProcess.TheVariants.{Lossless}
 use Rattle.jpeg_segments.specs.Frame.{Frame, frame_of}
 use Rattle.jpeg_segments.specs.ScanHeader.{scan_of}
@@ -18,8 +19,9 @@ use Rattle.jpeg_segments.proofs.HeaderRules.{header-rules}
 use Rattle.jpeg_streams.specs.declared.settings.Settings.{Settings}
 use Rattle.jpeg_streams.specs.LosslessScans.{with_samples}
 use Rattle.jpeg_streams.specs.SaidSegments.{said_after, Stands}
-use Rattle.jpeg_streams.specs.Found.{nothing_found, nothing_said, Said}
-use Rattle.jpeg_streams.specs.Stream.{header_at, rest_at, meaning, sized_meaning, sized_to, Told}
+use Rattle.jpeg_streams.specs.Found.{nothing_found, nothing_said, Said, with_said}
+use Rattle.jpeg_streams.specs.Stream.{header_at, rest_at, meaning, scaled_meaning, scaled_to, sized_meaning}
+use Rattle.jpeg_streams.specs.Stream.{sized_to, Told}
 use Rattle.jpeg_streams.specs.WrittenLossless.{IsLossless, Samples, SendsSamples, WritesSamples}
 use Rattle.jpeg_streams.proofs.ReadTurns.{then-ok}
 use Rattle.jpeg_streams.proofs.DecodedHeaders.{decoded-accepted}
@@ -167,16 +169,28 @@ samples-walked settings samples bytes rest final w =
     stream-read MayEndSamples (samples-read samples) rest [] w.sent bytes final (replicate 4 None) settings w.written
     refl (record { four = refl; kept = tt })
 
--- lossless frames keep their size
-keeps-size : (width height : ℕ) (said : Said) (frame : Frame) → said.frame ≡ Some frame
-    → frame.process ≡ Lossless → sized_to width height said ≡ said
-keeps-size width height said frame framed lossless = grind (arith, common_steps)
+-- A change of what was said leaves lossless frames as they are.
+abbrev KeepsLossless : (Said → Said) → Type 0
+KeepsLossless change =
+    (said : Said) (frame : Frame) → said.frame ≡ Some frame → frame.process ≡ Lossless → change said ≡ said
 
-pub sized-walked : (width height : ℕ) (settings : Settings) (samples : Samples) (bytes rest : List ℕ) (final : Said)
+sized-keeps : (width height : ℕ) → KeepsLossless (sized_to width height)
+sized-keeps width height said frame framed lossless = grind (arith, common_steps)
+
+scaled-keeps : (scale : Scale) → KeepsLossless (scaled_to scale)
+scaled-keeps scale said frame framed lossless = grind (arith, common_steps)
+
+-- what a stream means where what its header said is changed
+abbrev changed_meaning : (Said → Said) → Settings → List ℕ → Outcome (Told × List ℕ)
+changed_meaning change settings bytes =
+    header_at bytes >>= (λ header. rest_at settings (with_said change header.0) header.1)
+
+changed-walked : (change : Said → Said) → KeepsLossless change
+    → (settings : Settings) (samples : Samples) (bytes rest : List ℕ) (final : Said)
     → (w : WritesSamples samples bytes final)
-    → AreMeant settings samples final w.sent rest (sized_meaning width height settings (bytes ++ rest))
-unfolding sized_meaning nothing_found nothing_said
-sized-walked width height settings samples bytes rest final w =
+    → AreMeant settings samples final w.sent rest (changed_meaning change settings (bytes ++ rest))
+unfolding nothing_found nothing_said
+changed-walked change keeps settings samples bytes rest final w =
     let r = header-read MayEndSamples (samples-read samples) rest [] w.sent bytes final (replicate 4 None) w.written refl in
     let said = said_after r.0.between (Header r.0.number r.0.header) in
     let header = beside bring_samples said (replicate 4 None) in
@@ -184,6 +198,18 @@ sized-walked width height settings samples bytes rest final w =
     let all = samples-walked settings samples bytes rest final w in (
       all.0,
       then-ok (header_at (bytes ++ rest)) _ (header, left) _ r.1
-          (ap (λ (s : Said). rest_at settings (beside bring_samples s (replicate 4 None)) left) (keeps-size width height said _ refl (r.0.said.shaped _ refl).1)
+          (ap (λ (s : Said). rest_at settings (beside bring_samples s (replicate 4 None)) left) (keeps said _ refl (r.0.said.shaped _ refl).1)
           ∙ sym (header-means settings header (bytes ++ rest) left r.1) ∙ all.1),
     )
+
+pub sized-walked : (width height : ℕ) (settings : Settings) (samples : Samples) (bytes rest : List ℕ) (final : Said)
+    → (w : WritesSamples samples bytes final)
+    → AreMeant settings samples final w.sent rest (sized_meaning width height settings (bytes ++ rest))
+unfolding sized_meaning
+sized-walked width height = changed-walked (sized_to width height) (sized-keeps width height)
+
+pub scaled-walked : (scale : Scale) (settings : Settings) (samples : Samples) (bytes rest : List ℕ) (final : Said)
+    → (w : WritesSamples samples bytes final)
+    → AreMeant settings samples final w.sent rest (scaled_meaning scale settings (bytes ++ rest))
+unfolding scaled_meaning
+scaled-walked scale = changed-walked (scaled_to scale) (scaled-keeps scale)

@@ -14,26 +14,20 @@ pub record Decodes {X : Type 0} (bytes_of : X → List ℕ) (old : Decoding) (re
     (new : Decoding) : Type 0 where
   -- The state table: an Ok finishes the decoder, a refusal fails it.
   pub stage : MovesToEnd old.stage new.stage result
-
   -- For any bytes, the answer is what they mean by T.81, or the name of their fault.
   pub reads : IsReading old.stage → Answers (λ x. (told_of new.found.said, bytes_of x))
       (ahead old.stage old.settings old.found) old.source result new.source
-
   -- Where the bytes are written for the coefficients of an image, it is their picture.
   pub images : DecodesImages bytes_of old result new
-
   -- Where they are written for the samples of a lossless image, it is these samples.
   pub samples : DecodesSamples bytes_of old result new
-
   -- A caller is then given what the segments up to the end or the fault have said.
   pub told : IsReading old.stage → OnTold old.source new.source result
       (told_of new.found.said ≡ told_ahead false old.stage old.found old.source.bytes)
-
   -- The same after `OutOfMemory` or a failed read, of some first segments, each whole.
   pub turns : IsReading old.stage → old.source.known ≡ true
       → IsOfTurns (λ n. turns_ahead n false old.stage old.found old.source.bytes)
       (told_of new.found.said)
-
   -- No blocks, planes or samples are kept.
   pub emptied : IsReading old.stage → (new.found.kept ≡ []) × (new.found.planes ≡ replicate 4 None)
       × (new.found.samples ≡ replicate 4 None)

@@ -1,10 +1,12 @@
 //! The decoder and its states.
 ghost use Rattle.std.specs.Prelude.{◌≡◌, if◌then◌else◌, IfOk, IfErr, MatchResult, OnErr, OnOk};
-ghost use Rattle.std.specs.Prelude.{[], replicate, IfNone, IfSome, None, option_map, is_some, Err, true, false};
+ghost use Rattle.std.specs.Prelude.{[], replicate, IfSome, None, option_map, is_some, Err, true};
+ghost use Rattle.std.specs.Prelude.{false};
 ghost use Rattle.jpeg_bits.specs.Reading.{Answers};
 ghost use Rattle.jpeg_bits.specs.Stream.{stream_of};
 ghost use Rattle.jpeg_bits.specs.declared.error.Error.TheVariants.{OutOfMemory};
-ghost use Rattle.jpeg_streams.specs.Stream.{header_at, sized_header_at, sized_to, told_of};
+ghost use Rattle.jpeg_streams.specs.Stream.{header_at, scaled_header_at, scaled_to, told_of};
+ghost use Rattle.jpeg_streams.specs.Stream.{sized_header_at, sized_to};
 ghost use Rattle.jpeg_streams.specs.Found.{nothing_found, with_said};
 ghost use Rattle.jpeg_streams.specs.Reported.{IsOfTurns};
 ghost use Rattle.jpeg_streams.specs.States.{Decoding, MovesToHeader, MovesToEnd, IsReading, ahead};
@@ -22,7 +24,7 @@ ghost use Rattle.jpeg_streams.specs.Sound.{HasDecodedFrame, IsSound, IsUnread};
 ghost use Rattle.jpeg_streams.specs.declared.progress.Progress.TheVariants.{Failed, Fresh};
 ghost use Rattle.jpeg_streams.specs.declared.progress.Progress.TheVariants.{HeaderRead};
 ghost use Rattle.jpeg_segments.specs.FrameView.{frame_in};
-ghost use Rattle.jpeg_segments.specs.Scales.{IsSizedFrame, sized};
+ghost use Rattle.jpeg_segments.specs.Scales.{IsSizedFrame, is_scale, scale_for, scaled_by};
 ghost use Rattle.jpeg_streams.specs.Output.{default_settings};
 ghost use Rattle.jpeg_streams.specs.Profile.{profile_of};
 ghost use Rattle.std.specs.Option.{option_copied};
@@ -38,7 +40,8 @@ pub use jpeg_bits::scan::MAX_COMPONENTS;
 use jpeg_bits::source::Source;
 use jpeg_pixels::idct::choose_idct_size;
 use jpeg_segments::parser::{CodingProcess, Dimensions, FrameInfo};
-use jpeg_segments::sizes::scale_frame;
+pub use jpeg_segments::scale::Scale;
+use jpeg_segments::sizes::{BLOCK_SIDE, scale_frame};
 pub use jpeg_streams::images::{ImageInfo, PixelFormat};
 use jpeg_streams::progress::Progress;
 use jpeg_streams::settings::Settings;
@@ -75,40 +78,53 @@ fn info_of(frame: &FrameInfo) -> ImageInfo
     }
 }
 
-/// Sizes a frame at the scale whose picture is at least so wide or so high, and returns the size of
-/// its picture. A lossless frame keeps its size.
-fn size_frame(frame: &mut FrameInfo, width: u16, height: u16) -> (u16, u16)
+/// Sizes a frame at a scale, and returns the size of its picture. A lossless frame keeps its size.
+fn size_frame(frame: &mut FrameInfo, scale: usize) -> (u16, u16)
     requires sized { IsSizedFrame (frame_in frame.old) }
-    ensures frame { frame_in frame.new ≡ sized width height (frame_in frame.old) }
+    requires scale { is_scale scale ≡ true }
+    ensures frame { frame_in frame.new
+        ≡ scaled_by (frame_in frame.old).process scale (frame_in frame.old) }
     ensures size { (result.0 ≡ (frame_in frame.new).output_width)
         × (result.1 ≡ (frame_in frame.new).output_height) }
 {
     match frame.coding_process {
-        CodingProcess::DctSequential | CodingProcess::DctProgressive => {
-            let requested = Dimensions { width, height };
-            let scale = choose_idct_size(frame.image_size, requested);
-            scale_frame(frame, scale);
-        }
+        CodingProcess::DctSequential | CodingProcess::DctProgressive => scale_frame(frame, scale),
         CodingProcess::Lossless => {}
     }
     (frame.output_size.width, frame.output_size.height)
 }
 
-/// Sizes the frame that was read, if one was.
+/// Returns the scale whose picture is at least so wide or so high, where a frame was read.
+fn scale_reaching(state: &State, width: u16, height: u16) -> usize
+    ensures scale { IfSome (said_in state.now).frame
+        (λ f. result ≡ scale_for f.width f.height width height) }
+    ensures some { is_scale result ≡ true }
+{
+    match &state.frame {
+        Some(frame) => choose_idct_size(frame.image_size, Dimensions { width, height }),
+        None => BLOCK_SIDE,
+    }
+}
+
+/// Sizes the frame that was read at a scale, if one was.
 #[tactic(auto, using(jpeg_streams::proofs::Soundness::scaled_rules))]
-fn scale_state(state: &mut State, width: u16, height: u16) -> Option<(u16, u16)>
+fn scale_state(state: &mut State, scale: usize) -> Result<(u16, u16)>
     requires frames { HasDecodedFrame (found_in state.old) }
-    ensures found { found_in state.new ≡ with_said (sized_to width height) (found_in state.old) }
-    ensures none { IfNone result ((said_in state.old).frame ≡ None) }
-    ensures size { IfSome result (λ size. IfSome (said_in state.new).frame (λ f. (f.output_width
+    requires scale { is_scale scale ≡ true }
+    ensures found { found_in state.new ≡ with_said (λ said. record said {
+      frame = option_map
+          (λ f. scaled_by f.process scale f) said.frame;
+    }) (found_in state.old) }
+    ensures none { OnErr result ((said_in state.old).frame ≡ None) }
+    ensures size { IfOk result (λ size. IfSome (said_in state.new).frame (λ f. (f.output_width
         ≡ size.0) × (f.output_height ≡ size.1))) }
     ensures frames { HasDecodedFrame (found_in state.new) }
     ensures sound { IsSound (found_in state.old) → IsUnread (found_in state.old)
         → IsSound (found_in state.new) × IsUnread (found_in state.new) }
 {
     match &mut state.frame {
-        Some(frame) => Some(size_frame(frame, width, height)),
-        None => None,
+        Some(frame) => Ok(size_frame(frame, scale)),
+        None => Err(Error::Internal("decoder has no frame")),
     }
 }
 
@@ -378,10 +394,39 @@ impl<R: Read + Drop> Decoder<R> {
         ensures settings { self.new.settings ≡ self.old.settings }
     {
         self.read_info()?;
-        match scale_state(&mut self.state, requested_width, requested_height) {
-            Some(size) => Ok(size),
-            None => Err(Error::Internal("decoder has no frame")),
-        }
+        let scale = scale_reaching(&self.state, requested_width, requested_height);
+        scale_state(&mut self.state, scale)
+    }
+
+    /// Scales the picture to exactly 1/8, 1/4, 1/2 or all of its size, each side rounded up, and
+    /// returns the size of the picture at that scale. Reads the header first where it wasn't read;
+    /// the last call of `set_scale` or `scale` counts. A lossless picture keeps its size.
+    ///
+    /// `scale` chooses by a size, and a picture one pixel wide has its width at 1/8 already. Here the
+    /// scale is the caller's choice.
+    ///
+    /// After `decode` the call changes what `info` returns, and no picture. The errors are those of
+    /// `read_info`; a refusal leaves a failed decoder.
+    pub fn set_scale(&mut self, scale: Scale) -> Result<(u16, u16)>
+        ensures stage { MovesToHeader self.old.stage self.new.stage result }
+        ensures reads { self.old.stage ≡ Fresh → Answers (λ _. self.new.found)
+            (scaled_header_at scale) self.old.source result self.new.source }
+        ensures told { self.old.stage ≡ Fresh → OnToldRefusal self.old.source self.new.source result
+            (told_of self.new.found.said ≡ told_ahead true self.old.stage self.old.found
+            self.old.source.bytes) }
+        ensures turns { self.old.stage ≡ Fresh → self.old.source.known ≡ true
+            → OnErr result (IsOfTurns (λ n. turns_ahead n true self.old.stage self.old.found
+            self.old.source.bytes) (told_of self.new.found.said)) }
+        ensures scaled { (self.old.stage ≡ Fresh → ⊥) → OnOk result (self.new
+            ≡ record self.old { found = with_said (scaled_to scale) self.old.found }) }
+        ensures still { (self.old.stage ≡ Fresh → ⊥) → OnErr result (self.new ≡ self.old) }
+        ensures size { IfOk result (λ size. IfSome self.new.found.said.frame (λ f. (f.output_width
+            ≡ size.0) × (f.output_height ≡ size.1))) }
+        ensures framed { IfOk result (λ _. is_some self.new.found.said.frame ≡ true) }
+        ensures settings { self.new.settings ≡ self.old.settings }
+    {
+        self.read_info()?;
+        scale_state(&mut self.state, scale.block_side())
     }
 
     /// Reads through the end of the image and no byte after it, and returns the picture: its

@@ -7,6 +7,7 @@ ghost use Rattle.std.specs.Prelude.{true, option_map};
 ghost use Rattle.std.specs.List.{AllByRecursion};
 ghost use Rattle.jpeg_bits.specs.Passes.{Block};
 ghost use Rattle.jpeg_segments.specs.Frame.{Frame};
+ghost use Rattle.jpeg_segments.specs.declared.scale.Scale.{Scale};
 ghost use Rattle.jpeg_segments.specs.WrittenSegments.{FrameHeader, IsFrameHeader, frame_written};
 ghost use Rattle.jpeg_streams.specs.Output.{default_settings, header_line_of, output_of};
 ghost use Rattle.jpeg_streams.specs.AcceptedFrames.{HasPicture};
@@ -15,7 +16,8 @@ ghost use Rattle.jpeg_streams.specs.Pixels.{info_of};
 ghost use Rattle.jpeg_streams.specs.ArrayPictures.{meaning_of_array, picture_of_array};
 ghost use Rattle.jpeg_streams.specs.ArrayPictures.{TakesPicture};
 ghost use Rattle.jpeg_streams.specs.Levels.{Is8Bit, Levels, cut, nothing_sent};
-ghost use Rattle.jpeg_streams.specs.Stream.{meaning, sized_meaning, sized_to, told_of};
+ghost use Rattle.jpeg_streams.specs.Stream.{meaning, scaled_meaning, scaled_to, sized_meaning};
+ghost use Rattle.jpeg_streams.specs.Stream.{sized_to, told_of};
 ghost use Rattle.jpeg_streams.specs.ScanSegments.{is_progressive};
 ghost use Rattle.jpeg_streams.specs.Found.{nothing_said, Said};
 ghost use Rattle.jpeg_streams.specs.WholeImages.{AllComplete, whole_meaning};
@@ -38,14 +40,21 @@ pub fn images_are_read()
         meaning settings (bytes ++ rest) ≡ meaning_of_array settings final array last rest }
 {}
 
-/// Read at a scale, it means the picture of those coefficients at that scale.
+/// Read at a scale, it means the picture of those coefficients at that scale: the least that
+/// reaches a size, or one that is named.
 pub fn images_are_read_at_scales()
-    ensures { (width height : ℕ) (settings : Settings) (array : Coefficients)
+    ensures sized { (width height : ℕ) (settings : Settings) (array : Coefficients)
         (bytes rest : List ℕ) (final : Said) (last : ℕ → Levels) →
         ((index row column : ℕ) → Is8Bit (array index row column)) →
         WritesImage array bytes final last →
         sized_meaning width height settings (bytes ++ rest)
         ≡ meaning_of_array settings (sized_to width height final) array last rest }
+    ensures scaled { (scale : Scale) (settings : Settings) (array : Coefficients)
+        (bytes rest : List ℕ) (final : Said) (last : ℕ → Levels) →
+        ((index row column : ℕ) → Is8Bit (array index row column)) →
+        WritesImage array bytes final last →
+        scaled_meaning scale settings (bytes ++ rest)
+        ≡ meaning_of_array settings (scaled_to scale final) array last rest }
 {}
 
 /// Where every bit of each coefficient was sent, it means the picture of the coefficients
@@ -64,6 +73,13 @@ pub fn complete_images_are_whole()
         final.frame ≡ Some frame → AllComplete frame last →
         sized_meaning width height settings (bytes ++ rest)
         ≡ whole_meaning settings (sized_to width height final) array rest }
+    ensures scaled { (scale : Scale) (settings : Settings) (array : Coefficients)
+        (bytes rest : List ℕ) (final : Said) (last : ℕ → Levels) (frame : Frame) →
+        ((index row column : ℕ) → Is8Bit (array index row column)) →
+        WritesImage array bytes final last →
+        final.frame ≡ Some frame → AllComplete frame last →
+        scaled_meaning scale settings (bytes ++ rest)
+        ≡ whole_meaning settings (scaled_to scale final) array rest }
 {}
 
 /// A sequential stream sends every bit of each coefficient.
@@ -94,6 +110,17 @@ pub fn images_have_pictures()
         × (sized_meaning width height settings (bytes ++ rest)
         ≡ Ok (record {
           0 = record { 0 = told_of (sized_to width height final); 1 = picture };
+          1 = rest;
+        })) }
+    ensures scaled { (scale : Scale) (settings : Settings) (array : Coefficients)
+        (bytes rest : List ℕ) (final : Said) (last : ℕ → Levels) →
+        ((index row column : ℕ) → Is8Bit (array index row column)) →
+        WritesImage array bytes final last → TakesPicture settings (scaled_to scale final) →
+        (picture : List ℕ)
+        × (picture_of_array settings (scaled_to scale final) array last ≡ Ok picture)
+        × (scaled_meaning scale settings (bytes ++ rest)
+        ≡ Ok (record {
+          0 = record { 0 = told_of (scaled_to scale final); 1 = picture };
           1 = rest;
         })) }
 {}

@@ -11,6 +11,7 @@ ghost use Rattle.jpeg_bits.specs.Intervals.{first_group, other_groups};
 ghost use Rattle.jpeg_segments.specs.Frame.{Frame, Component, Factors, IsInRange, frame_of};
 ghost use Rattle.jpeg_segments.specs.ScanHeader.{Scan};
 ghost use Rattle.jpeg_segments.specs.Scales.{frame_at};
+ghost use Rattle.jpeg_segments.specs.declared.scale.Scale.{Scale};
 ghost use Rattle.jpeg_pixels.specs.Pictures.{Source, sources_of, HasSources};
 ghost use Rattle.jpeg_pixels.specs.Planes.{plane_of, strip_of};
 ghost use Rattle.jpeg_streams.specs.Order.{all_spots, own_spots, spots_of, mcu_size};
@@ -20,7 +21,8 @@ ghost use Rattle.jpeg_streams.specs.InTurn.{AreApart, AreArrays, Fits, intervals
 ghost use Rattle.jpeg_streams.specs.InTurn.{scan_from};
 ghost use Rattle.jpeg_streams.specs.McuRows.{scan_by_rows};
 ghost use Rattle.jpeg_streams.specs.Rasters.{ordered, in_raster};
-ghost use Rattle.jpeg_streams.specs.Stream.{header_at, rest_at, meaning, sized_to};
+ghost use Rattle.jpeg_streams.specs.Stream.{header_at, meaning, rest_at, scaled_to, sized_to};
+ghost use Rattle.jpeg_streams.specs.DecodedImages.{Size, at_size};
 ghost use Rattle.jpeg_streams.specs.ScanSegments.{Coding, vias_from, codings_of, pass_of};
 ghost use Rattle.jpeg_streams.specs.ScanSegments.{is_progressive, scan_arrays, arrays_before};
 ghost use Rattle.jpeg_streams.specs.Found.{Found, Said};
@@ -148,7 +150,8 @@ pub fn planes_grow_by_strips()
 /// Of two sizes that are asked for the last counts: a frame at a scale, brought to another, is the
 /// frame at that one.
 pub fn last_sizes_count()
-    ensures { (width height other_width other_height : ℕ) (said : Said) →
-        sized_to width height (sized_to other_width other_height said)
-        ≡ sized_to width height said }
+    ensures sized { (width height : ℕ) (other : Size) (said : Said) →
+        sized_to width height (at_size other said) ≡ sized_to width height said }
+    ensures scaled { (scale : Scale) (other : Size) (said : Said) →
+        scaled_to scale (at_size other said) ≡ scaled_to scale said }
 {}

@@ -19,8 +19,9 @@
 //! `read_info` reads the header alone. `info` then gives the size of the picture, and
 //! `decoding_bytes` all that decoding it takes, so that a service can refuse it before any of that
 //! is taken; `set_max_decoding_buffer_size` counts samples, and refuses at the end of the image.
-//! `scale` asks for the picture at 1/8, 1/4, 1/2 or all of its size. [`run::run`] is a whole
-//! program: from a reader to a line of text and the pixels on a writer.
+//! `set_scale` asks for the picture at 1/8, 1/4, 1/2 or all of its size, and `scale` for the least
+//! of these that reaches a size. [`run::run`] is a whole program: from a reader to a line of text
+//! and the pixels on a writer.
 //!
 //! Every call returns, whatever the reader gives, with a value or an [`Error`] that names what was
 //! wrong; after a refusal the frame and the metadata that were read before it are still there. What
@@ -70,4 +71,5 @@ pub use jpeg_lossless::lossless;
 pub use jpeg_pixels::{arch, idct, upsampler, worker};
 pub use jpeg_segments::parser;
 pub use jpeg_segments::parser::CodingProcess;
+pub use jpeg_segments::scale::Scale;
 pub use memory::DecodingBytes;

@@ -6,6 +6,7 @@ ghost use Rattle.std.specs.Prelude.{◌≡◌, ℕ, ◌*◌, ◌/◌, ◌<◌, L
 ghost use Rattle.std.specs.Prelude.{Ok};
 ghost use Rattle.std.specs.List.{AllByRecursion};
 ghost use Rattle.jpeg_bits.specs.declared.scan.Predictor.{Predictor};
+ghost use Rattle.jpeg_segments.specs.declared.scale.Scale.{Scale};
 ghost use Rattle.jpeg_segments.specs.Frame.{Component, Frame, most_across, most_down};
 ghost use Rattle.jpeg_segments.specs.WrittenSegments.{FrameHeader, IsFrameHeader, frame_written};
 ghost use Rattle.jpeg_lossless.specs.Differences.{Part};
@@ -16,7 +17,7 @@ ghost use Rattle.jpeg_streams.specs.InTurn.{IsIn};
 ghost use Rattle.jpeg_streams.specs.LosslessScans.{LosslessCoding, mcus_down, way_of};
 ghost use Rattle.jpeg_streams.specs.AcceptedFrames.{HasSamples};
 ghost use Rattle.jpeg_streams.specs.Segments.{accepted};
-ghost use Rattle.jpeg_streams.specs.Stream.{meaning, sized_meaning, told_of};
+ghost use Rattle.jpeg_streams.specs.Stream.{meaning, scaled_meaning, sized_meaning, told_of};
 ghost use Rattle.jpeg_streams.specs.Found.{Said};
 ghost use Rattle.jpeg_streams.specs.FrameSamples.{AgreeInside, AreSamplesOf, AreWrittenIn};
 ghost use Rattle.jpeg_streams.specs.FrameSamples.{DifferInPadding, ShowAlike};
@@ -40,12 +41,17 @@ pub fn lossless_streams_are_read()
         ≡ Ok ((told_of final, picture_of_samples frame samples), rest) }
 {}
 
-/// It keeps its size, whatever size is asked for.
+/// It keeps its size, whatever size or scale is asked for.
 pub fn lossless_streams_keep_their_size()
-    ensures { (width height : ℕ) (settings : Settings) (samples : Samples) (image rest : List ℕ)
-        (final : Said) (frame : Frame) →
+    ensures sized { (width height : ℕ) (settings : Settings) (samples : Samples)
+        (image rest : List ℕ) (final : Said) (frame : Frame) →
         WritesSamples samples image final → IsWithinLimit settings.limit final frame →
         sized_meaning width height settings (image ++ rest)
+        ≡ Ok ((told_of final, picture_of_samples frame samples), rest) }
+    ensures scaled { (scale : Scale) (settings : Settings) (samples : Samples)
+        (image rest : List ℕ) (final : Said) (frame : Frame) →
+        WritesSamples samples image final → IsWithinLimit settings.limit final frame →
+        scaled_meaning scale settings (image ++ rest)
         ≡ Ok ((told_of final, picture_of_samples frame samples), rest) }
 {}
 

@@ -13,6 +13,7 @@ ghost use Rattle.jpeg_lossless.specs.Prediction.{line_below, selected, start_of}
 ghost use Rattle.jpeg_segments.specs.Application.{Adobe};
 ghost use Rattle.jpeg_segments.specs.Scales.{frame_at, scale_for};
 ghost use Rattle.jpeg_segments.specs.declared.parser.AdobeColorTransform.TheVariants as adobe;
+ghost use Rattle.jpeg_segments.specs.declared.scale.Scale.TheVariants as scales;
 ghost use Rattle.jpeg_pixels.specs.Colour.{colour_of, conversion_of};
 ghost use Rattle.jpeg_pixels.specs.Upsampling.{rule_of};
 ghost use Rattle.jpeg_pixels.specs.declared.upsampler.ColorConvert.TheVariants as converts;
@@ -21,7 +22,8 @@ ghost use Rattle.jpeg_streams.specs.ColourChoice.{transform_of};
 ghost use Rattle.jpeg_streams.specs.Found.{no_metadata};
 ghost use Rattle.jpeg_streams.specs.Levels.{floor_at, toward_zero};
 ghost use Rattle.jpeg_streams.specs.Segments.{updated, with_application};
-ghost use Rattle.jpeg_streams.specs.Worked.{picture_meant, picture_with, picture_sized};
+ghost use Rattle.jpeg_streams.specs.Worked.{picture_meant, picture_with, picture_scaled};
+ghost use Rattle.jpeg_streams.specs.Worked.{one_coefficient, picture_sized};
 ghost use Rattle.jpeg_streams.specs.Worked.{eight_times, scan_text, stream_parts, stream_with};
 ghost use Rattle.jpeg_streams.specs.Worked.{stream_without_height, stream_of_one_coefficient};
 ghost use Rattle.jpeg_streams.specs.Worked.{scanned_twice, with_restart, three_at_once};
@@ -171,6 +173,18 @@ pub fn known_scales()
     ensures whole { scale_for 5472 3648 16384 16384 ≡ 8 }
     ensures either_side { scale_for 500 333 63 42 ≡ 1 }
     ensures least { scale_for 1 1 65535 65535 ≡ 8 }
+{}
+
+/// A picture of one sample at each scale, and by the size that is asked for: it is one sample high
+/// and wide at an eighth, so that `sized` never takes more of it.
+#[tactic(auto, unfolding(jpeg_streams::proofs::OnLiterals::streams_on_literals))]
+pub fn known_scaled_pixels()
+    ensures eighth { picture_scaled scales.Eighth (one_coefficient 1 1) ≡ Ok (128 ∷ []) }
+    ensures quarter { picture_scaled scales.Quarter (one_coefficient 1 1) ≡ Ok (136 ∷ []) }
+    ensures half { picture_scaled scales.Half (one_coefficient 1 1) ≡ Ok (138 ∷ []) }
+    ensures full { picture_scaled scales.Full (one_coefficient 1 1) ≡ Ok (139 ∷ []) }
+    ensures sized { picture_sized 1 1 (one_coefficient 1 1) ≡ Ok (128 ∷ []) }
+    ensures two_by_two { picture_scaled scales.Half (one_coefficient 2 2) ≡ Ok (138 ∷ []) }
 {}
 
 /// Sizes that are no multiples of 8, at each scale.

@@ -5,10 +5,19 @@ use Rattle.std.specs.Prelude.{ℕ, ◌≡◌, ◌*◌, ◌==◌, nat_le, ◌||�
 use Rattle.std.specs.Prelude.{unwrap_or}
 use Rattle.jpeg_segments.specs.declared.parser.CodingProcess.{CodingProcess}
 use Rattle.jpeg_segments.specs.declared.parser.CodingProcess.TheVariants.{Lossless}
+use Rattle.jpeg_segments.specs.declared.scale.Scale.{Scale}
+use Rattle.jpeg_segments.specs.declared.scale.Scale.TheVariants.{Eighth, Quarter, Half, Full}
 use Rattle.jpeg_segments.specs.Frame.{Frame, Component, IsFrame, ceiling, greatest}
 
 abbrev pub is_scale : ℕ → Bool
 is_scale scale = scale == 1 || (scale == 2 || (scale == 4 || scale == 8))
+
+-- the samples along a side of a block at each scale
+abbrev pub block_side : Scale → ℕ
+block_side Eighth = 1
+block_side Quarter = 2
+block_side Half = 4
+block_side Full = 8
 
 -- whether a picture of full size is at a scale as wide or as high as is asked for
 abbrev pub reaches : ℕ → ℕ → ℕ → ℕ → ℕ → Bool
@@ -39,13 +48,18 @@ frame_at scale frame =
       components = map (component_at scale frame.width frame.height h v) frame.components;
     }
 
--- A frame whose picture is to be at least so wide or so high. A lossless frame keeps its size.
-abbrev pub sized_by : CodingProcess → ℕ → ℕ → Frame → Frame
-sized_by Lossless width height frame = frame
-sized_by _ width height frame = frame_at (scale_for frame.width frame.height width height) frame
+-- A frame whose picture is to be at a scale. A lossless frame keeps its size.
+abbrev pub scaled_by : CodingProcess → ℕ → Frame → Frame
+scaled_by Lossless scale frame = frame
+scaled_by _ scale frame = frame_at scale frame
 
+abbrev pub scaled : Scale → Frame → Frame
+scaled scale frame = scaled_by frame.process (block_side scale) frame
+
+-- A frame whose picture is to be at least so wide or so high.
 abbrev pub sized : ℕ → ℕ → Frame → Frame
-sized width height frame = sized_by frame.process width height frame
+sized width height frame =
+    scaled_by frame.process (scale_for frame.width frame.height width height) frame
 
 -- ---- what each frame of a decoder has
 

@@ -7,5 +7,6 @@ mod huffman_tables;
 pub mod laws;
 pub mod parser;
 mod quantization;
+pub mod scale;
 mod scan_header;
 pub mod sizes;

@@ -11,9 +11,12 @@ use Rattle.jpeg_segments.specs.Frame.{Frame, Component, Factors, ceiling}
 use Rattle.jpeg_segments.specs.WrittenSegments.{frame_written, Header, Segment}
 use Rattle.jpeg_streams.specs.declared.before.Before.TheVariants.{Elsewhere}
 use Rattle.jpeg_streams.specs.declared.settings.Settings.{Settings}
-use Rattle.jpeg_segments.specs.Scales.{frame_at, scale_for, sized}
-use Rattle.jpeg_streams.specs.Stream.{header_at, sized_meaning, sized_to, told_of}
-use Rattle.jpeg_streams.specs.Found.{nothing_found, nothing_said, Said}
+use Rattle.jpeg_segments.specs.Scales.{block_side, frame_at, is_scale, scale_for, scaled, scaled_by, sized}
+use Rattle.jpeg_segments.specs.declared.scale.Scale.{Scale}
+use Rattle.jpeg_bits.specs.Reading.{Outcome, ◌>>=◌}
+use Rattle.jpeg_streams.specs.Stream.{Told, header_at, rest_at, scaled_meaning, scaled_to, sized_meaning}
+use Rattle.jpeg_streams.specs.Stream.{sized_to, told_of}
+use Rattle.jpeg_streams.specs.Found.{nothing_found, nothing_said, Said, with_said}
 use Rattle.jpeg_streams.specs.SaidSegments.{said_after, Stands}
 use Rattle.jpeg_streams.specs.Levels.{Levels, Is8Bit, nothing_sent, IsLegal, numbers_at}
 use Rattle.jpeg_streams.specs.WrittenScans.{Coefficients, IsOwn, WritesScan, HasTable, IsLegalScan}
@@ -364,31 +367,52 @@ shaped-at f s o h shape =
     let same = scaled-frame f s o h in
     grind (arith, common_steps, length-same, at-alike)
 
--- the scale that is asked for
-pub sized-is : (width height : ℕ) (f : Frame) → f.process ≢ Lossless
-    → (s : ℕ) × (0 < s) × (sized width height f ≡ frame_at s f) × (s ≤ 8)
-sized-is width height f n = go f.process refl
+-- A change of frames brings each frame of blocks to a scale.
+abbrev pub ScalesBlocks : (Frame → Frame) → Type 0
+ScalesBlocks change =
+    (f : Frame) → f.process ≢ Lossless → (s : ℕ) × (0 < s) × (change f ≡ frame_at s f) × (s ≤ 8)
+
+scaled-is : (scale : ℕ) (f : Frame) → is_scale scale ≡ true → f.process ≢ Lossless
+    → (s : ℕ) × (0 < s) × (scaled_by f.process scale f ≡ frame_at s f) × (s ≤ 8)
+scaled-is scale f e n = go f.process refl
   where
-    least : ℕ
-    least = scale_for f.width f.height width height
+    bounds : (0 < scale) × (scale ≤ 8)
+    bounds = scale-bounds scale e
 
-    bounds : (0 < least) × (least ≤ 8)
-    bounds = scale-bounds least (scale_for_is_scale f.width f.height width height)
-
-    go : (p : CodingProcess) → f.process ≡ p → (s : ℕ) × (0 < s) × (sized width height f ≡ frame_at s f) × (s ≤ 8)
-    go DctSequential e = (least, bounds.0, (rw e refl), bounds.1)
-    go DctProgressive e = (least, bounds.0, (rw e refl), bounds.1)
+    go : (p : CodingProcess) → f.process ≡ p → (s : ℕ) × (0 < s) × (scaled_by f.process scale f ≡ frame_at s f) × (s ≤ 8)
+    go DctSequential e = (scale, bounds.0, (rw e refl), bounds.1)
+    go DctProgressive e = (scale, bounds.0, (rw e refl), bounds.1)
     go Lossless e = absurd (n e)
+
+sized-scales : (width height : ℕ) → ScalesBlocks (sized width height)
+sized-scales width height f n =
+    scaled-is (scale_for f.width f.height width height) f (scale_for_is_scale f.width f.height width height) n
+
+side-is_scale : (scale : Scale) → is_scale (block_side scale) ≡ true
+side-is_scale scale = grind (arith, common_steps)
+
+scaled-scales : (scale : Scale) → ScalesBlocks (scaled scale)
+scaled-scales scale f n = scaled-is (block_side scale) f (side-is_scale scale) n
 
 -- ---- the meaning
 
+-- what was said, with its frame changed
+abbrev changed : (Frame → Frame) → Said → Said
+changed change said = record said { frame = option_map change said.frame }
+
+-- what a stream means whose frame is changed after its header
+abbrev changed_meaning : (Frame → Frame) → Settings → List ℕ → Outcome (Told × List ℕ)
+changed_meaning change settings bytes =
+    header_at bytes >>= (λ header. rest_at settings (with_said (changed change) header.0) header.1)
+
 -- What a written stream is read as at a scale.
-image-sized : (width height : ℕ) (settings : Settings) (array : Coefficients) (bytes tail : List ℕ)
+image-changed : (change : Frame → Frame) → ScalesBlocks change
+    → (settings : Settings) (array : Coefficients) (bytes tail : List ℕ)
     (final : Said) (last : ℕ → Levels) → ((index row column : ℕ) → Is8Bit (array index row column))
     → WritesImage array bytes final last → ImageMeant settings array
-    (sized_to width height final) last tail (sized_meaning width height settings (bytes ++ tail))
-unfolding sized_meaning nothing_found nothing_said
-image-sized width height settings array bytes tail final last range w =
+    (changed change final) last tail (changed_meaning change settings (bytes ++ tail))
+unfolding nothing_found nothing_said
+image-changed change scales settings array bytes tail final last range w =
     let r = header-read MayEndImage (image-read array range) tail (λ k. nothing_sent) last bytes final no_progress w
     refl in
     let h = r.0 in
@@ -396,8 +420,8 @@ image-sized width height settings array bytes tail final last range w =
     let f = frame_written h.number h.header in
     let plain = plain-said h.between h.number h.header h.stands in
     let first = drawn-said h.between h.number h.header h.stands h.allowed in
-    let g = sized width height f in
-    let size = sized-is width height f first.0.lossy in
+    let g = change f in
+    let size = scales f first.0.lossy in
     let same : SameFrame f g = subst (SameFrame f) (sym size.2) (scaled-frame f size.0 plain size.1) in
     let drawn : IsDrawn g = subst IsDrawn (sym size.2) (
       shaped-at f size.0 plain size.1 first.0,
@@ -411,12 +435,26 @@ image-sized width height settings array bytes tail final last range w =
     (scans-alike array f g said final (λ k. nothing_sent) last h.left same refl h.written)
     (record { tables = h.said.tables; shaped = λ x q. subst IsDrawn (same-frame g x _ refl q) drawn })
     (holds-nothing array (at_frame said g) h.unscanned) (stands-here left) (omega arith) in
-    subst (λ (x : Said). ImageMeant settings array x last tail (sized_meaning width height settings (bytes ++ tail)))
-    (ap (λ (o : Option Frame). record final { frame = option_map (sized width height) o }) (sym kept)) (
+    subst (λ (x : Said). ImageMeant settings array x last tail (changed_meaning change settings (bytes ++ tail)))
+    (ap (λ (o : Option Frame). record final { frame = option_map change o }) (sym kept)) (
       e.0,
       then-ok (header_at (bytes ++ tail)) _ (beside bring said no_progress, left) _ r.1
           (rest-by settings (beside bring (at_frame said g) no_progress) _ left tail e.1),
     )
+
+image-sized : (width height : ℕ) (settings : Settings) (array : Coefficients) (bytes tail : List ℕ)
+    (final : Said) (last : ℕ → Levels) → ((index row column : ℕ) → Is8Bit (array index row column))
+    → WritesImage array bytes final last → ImageMeant settings array
+    (sized_to width height final) last tail (sized_meaning width height settings (bytes ++ tail))
+unfolding sized_meaning
+image-sized width height = image-changed (sized width height) (sized-scales width height)
+
+image-scaled : (scale : Scale) (settings : Settings) (array : Coefficients) (bytes tail : List ℕ)
+    (final : Said) (last : ℕ → Levels) → ((index row column : ℕ) → Is8Bit (array index row column))
+    → WritesImage array bytes final last → ImageMeant settings array
+    (scaled_to scale final) last tail (scaled_meaning scale settings (bytes ++ tail))
+unfolding scaled_meaning
+image-scaled scale = image-changed (scaled scale) (scaled-scales scale)
 
 -- The meaning at a scale is the picture of the array at that scale.
 pub stream-means_sized : (width height : ℕ) (settings : Settings)
@@ -438,3 +476,23 @@ pub sized-taken : (width height : ℕ) (settings : Settings) (array : Coefficien
     ≡ Ok ((told_of (sized_to width height final), picture), rest))
 sized-taken width height settings array bytes rest final last range w =
     search (rules, taken, image-sized)
+
+-- The same at a scale that is named.
+pub stream-means_scaled : (scale : Scale) (settings : Settings)
+    (array : Coefficients) (bytes rest : List ℕ) (final : Said) (last : ℕ → Levels)
+    → ((index row column : ℕ) → Is8Bit (array index row column))
+    → WritesImage array bytes final last → scaled_meaning scale settings (bytes ++ rest)
+    ≡ meaning_of_array settings (scaled_to scale final) array last rest
+stream-means_scaled scale settings array bytes rest final last range w =
+    search (rules, pictured, image-scaled)
+
+pub scaled-taken : (scale : Scale) (settings : Settings) (array : Coefficients) (bytes rest : List ℕ)
+    (final : Said) (last : ℕ → Levels)
+    → ((index row column : ℕ) → Is8Bit (array index row column)) → WritesImage array bytes final
+    last
+    → TakesPicture settings (scaled_to scale final)
+    → (picture : List ℕ) × (picture_of_array settings (scaled_to scale final) array last ≡ Ok picture)
+    × (scaled_meaning scale settings (bytes ++ rest)
+    ≡ Ok ((told_of (scaled_to scale final), picture), rest))
+scaled-taken scale settings array bytes rest final last range w =
+    search (rules, taken, image-scaled)

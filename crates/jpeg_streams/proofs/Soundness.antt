@@ -1,20 +1,23 @@
 -- The state between segments: frames that are decoded, at a scale, and what is kept from turn to turn.
 use Rattle.std.proofs.Common.{zero, suc, rules, ◌≡◌, ◌≤◌, ◌<◌, ℕ, List, [], ◌∷◌, length, replicate}
-use Rattle.std.proofs.Common.{refl, ap, ◌∙◌, arith, true, false, Some, None, Ok, Err}
-use Rattle.std.specs.Prelude.{is_some}
+use Rattle.std.proofs.Common.{refl, ap, ◌∙◌, arith, true, false, Option, Some, None, Ok, Err}
+use Rattle.std.specs.Prelude.{IfSome, is_some, option_map}
 use Rattle.std.specs.List.{AllByRecursion}
 use Rattle.std.proofs.lemmas.Bool.{and_parts, eqb-true, leb-true}
 use Rattle.std.proofs.lemmas.List.{length-map}
 use Rattle.std.proofs.lemmas.List.Elements.{recursion_from_All}
+use Rattle.std.proofs.lemmas.Grind.{common_steps}
 use Rattle.jpeg_segments.specs.Frame.{Frame, Component, Factors, IsFrame, frame_of}
-use Rattle.jpeg_segments.specs.Scales.{IsSizedFrame, frame_at, is_scale, scale_for, sized, sized_by}
+use Rattle.jpeg_segments.specs.Scales.{IsSizedFrame, frame_at, is_scale, scale_for, scaled_by, sized}
+use Rattle.jpeg_segments.specs.declared.scale.Scale.{Scale}
 use Rattle.jpeg_segments.specs.declared.parser.CodingProcess.{CodingProcess}
 use Rattle.jpeg_segments.specs.declared.parser.CodingProcess.TheVariants.{DctSequential}
 use Rattle.jpeg_segments.specs.declared.parser.CodingProcess.TheVariants.{DctProgressive, Lossless}
-use Rattle.jpeg_segments.proofs.ScaleLemmas.{full_frames, scaled_again, scale_for_is_scale}
+use Rattle.jpeg_segments.proofs.ScaleLemmas.{full_frames, scaled_again}
 use Rattle.jpeg_pixels.specs.Pictures.{Source, HasSources, sources_of}
 use Rattle.jpeg_streams.specs.InTurn.{Fits}
-use Rattle.jpeg_streams.specs.Stream.{sized_to, header_at, sized_header_at}
+use Rattle.jpeg_streams.specs.DecodedImages.{Size, at_size}
+use Rattle.jpeg_streams.specs.Stream.{header_at, scaled_header_at, scaled_to, sized_header_at, sized_to}
 use Rattle.jpeg_streams.specs.Segments.{accepted, is_decoded_count, is_decoded_precision}
 use Rattle.jpeg_streams.specs.Found.{nothing_found, nothing_said, Found, with_said, Said}
 use Rattle.jpeg_streams.specs.ScanSegments.{arrays_before}
@@ -24,7 +27,7 @@ use Rattle.jpeg_streams.proofs.Apart.{zeros-sized}
 use Rattle.jpeg_streams.proofs.FrameShapes.{scaled-frames-fit, frames-have-sources}
 use borrow.Author.Tests.{not-false}
 pub use Rattle.jpeg_streams.proofs.FrameShapes.{accepted-facts, count-few}
-use Rattle.jpeg_bits.specs.Reading.{Fault, Answers}
+use Rattle.jpeg_bits.specs.Reading.{Fault, Answers, Outcome}
 use Rattle.jpeg_bits.specs.Stream.{Stream}
 
 -- ---- frames
@@ -125,51 +128,87 @@ nothing-framed found e = ap (λ (f : Found). f.said.frame) e
 
 -- ---- frames at a scale
 
-decoded-asked : (width height : ℕ) (f : Frame) → IsDecodedFrame f → IsDecodedFrame (sized width height f)
-decoded-asked width height f p = go f.process refl
-  where
-    at : (f.process ≡ Lossless → ⊥) → IsDecodedFrame (frame_at (scale_for f.width f.height width height) f)
-    at dct = search (rules, decoded-scaled, scale_for_is_scale)
+-- what was said, with its frame at a scale
+abbrev pub said_at : ℕ → Said → Said
+said_at scale said = record said { frame = option_map (λ f. scaled_by f.process scale f) said.frame }
 
-    go : (process : CodingProcess) → f.process ≡ process → IsDecodedFrame (sized_by process width height f)
+decoded-at : (scale : ℕ) (f : Frame) → is_scale scale ≡ true → IsDecodedFrame f
+    → IsDecodedFrame (scaled_by f.process scale f)
+decoded-at scale f s p = go f.process refl
+  where
+    at : (f.process ≡ Lossless → ⊥) → IsDecodedFrame (frame_at scale f)
+    at dct = search (rules, decoded-scaled)
+
+    go : (process : CodingProcess) → f.process ≡ process → IsDecodedFrame (scaled_by process scale f)
     go DctSequential e = at (λ l. cc)
     go DctProgressive e = at (λ l. cc)
     go Lossless e = p
 
-pub frames_scaled : (width height : ℕ) (old new : Found) → new ≡ with_said (sized_to width height) old → HasDecodedFrame old
-    → HasDecodedFrame new
-frames_scaled width height old new e h = search (rules, decoded-asked)
+pub frames_scaled : (scale : ℕ) (old new : Found) → is_scale scale ≡ true → new ≡ with_said (said_at scale) old
+    → HasDecodedFrame old → HasDecodedFrame new
+frames_scaled scale old new s e h = search (rules, decoded-at)
 
-pub sound_scaled : (width height : ℕ) (old new : Found) → new ≡ with_said (sized_to width height) old → IsSound old → IsUnread old
-    → IsSound new
-sound_scaled width height old new e p u = search (rules, sound-frame, decoded-asked)
+pub sound_scaled : (scale : ℕ) (old new : Found) → is_scale scale ≡ true → new ≡ with_said (said_at scale) old
+    → IsSound old → IsUnread old → IsSound new
+sound_scaled scale old new s e p u = search (rules, sound-frame, decoded-at)
 
 pub ruleset scaled_rules = (decoded-sized, frames_scaled, sound_scaled)
 
-sized-again : (width height other_width other_height : ℕ) (f : Frame)
-    → sized width height (sized other_width other_height f) ≡ sized width height f
+-- The frame at the scale that is asked for.
+pub said-sized : (width height scale : ℕ) (said : Said)
+    → IfSome said.frame (λ f. scale ≡ scale_for f.width f.height width height)
+    → said_at scale said ≡ sized_to width height said
+said-sized width height scale said h = go said.frame h
+  where
+    go : (o : Option Frame) → IfSome o (λ f. scale ≡ scale_for f.width f.height width height)
+        → record said { frame = option_map (λ f. scaled_by f.process scale f) o }
+        ≡ record said { frame = option_map (sized width height) o }
+    go None h = refl
+    go (Some f) h = rw h refl
+
+-- ---- sizes that are asked for again
+
+-- Of two sizes the last counts.
+pub sized-again : (width height : ℕ) (size : Size) (said : Said)
+    → sized_to width height (at_size size said) ≡ sized_to width height said
 unfolding frame_at
-sized-again width height other_width other_height f = search (rules, scaled_again)
+sized-again width height size said = grind (arith, common_steps, scaled_again)
 
-pub found-again : (width height other_width other_height : ℕ) (found : Said)
-    → sized_to width height (sized_to other_width other_height found) ≡ sized_to width height found
-found-again width height other_width other_height found = search (rules, sized-again)
+pub scaled-again : (scale : Scale) (size : Size) (said : Said)
+    → scaled_to scale (at_size size said) ≡ scaled_to scale said
+unfolding frame_at
+scaled-again scale size said = grind (arith, common_steps, scaled_again)
 
-pub sized-read : (width height : ℕ) (bytes rest : List ℕ) (found new : Found) → header_at bytes ≡ Ok (found, rest)
-    → new ≡ with_said (sized_to width height) found → sized_header_at width height bytes ≡ Ok (new, rest)
+-- ---- headers at a scale
+
+pub sized-read : (width height : ℕ) (bytes rest : List ℕ) (found : Found) → header_at bytes ≡ Ok (found, rest)
+    → sized_header_at width height bytes ≡ Ok (with_said (sized_to width height) found, rest)
 unfolding sized_header_at
-sized-read width height bytes rest found new e n = search rules
+sized-read width height bytes rest found e = search rules
 
 pub sized-refused : (width height : ℕ) (bytes : List ℕ) (fault : Fault) → header_at bytes ≡ Err fault
     → sized_header_at width height bytes ≡ Err fault
 unfolding sized_header_at
 sized-refused width height bytes fault e = search rules
 
--- a header that is read, and then sized
-pub sized-answers : {U : Type 0} (width height : ℕ) (old cur new : Stream) (found sized : Found) (u : U) (size : ℕ × ℕ)
-    → Answers (λ (x : U). found) header_at old (Ok u) cur → new ≡ cur → sized ≡ with_said (sized_to width height) found
-    → Answers (λ (x : ℕ × ℕ). sized) (sized_header_at width height) old (Ok size) new
-sized-answers width height old cur new found sized u size p s e = (
+pub scaled-read : (scale : Scale) (bytes rest : List ℕ) (found : Found) → header_at bytes ≡ Ok (found, rest)
+    → scaled_header_at scale bytes ≡ Ok (with_said (scaled_to scale) found, rest)
+unfolding scaled_header_at
+scaled-read scale bytes rest found e = search rules
+
+pub scaled-refused : (scale : Scale) (bytes : List ℕ) (fault : Fault) → header_at bytes ≡ Err fault
+    → scaled_header_at scale bytes ≡ Err fault
+unfolding scaled_header_at
+scaled-refused scale bytes fault e = search rules
+
+-- a header that is read, and then changed
+pub changed-answers : {U : Type 0} (change : Said → Said) (read : List ℕ → Outcome Found) (old cur new : Stream)
+    (found changed : Found) (u : U) (size : ℕ × ℕ)
+    → ((bytes rest : List ℕ) (x : Found) → header_at bytes ≡ Ok (x, rest)
+    → read bytes ≡ Ok (with_said change x, rest))
+    → Answers (λ (x : U). found) header_at old (Ok u) cur → new ≡ cur → changed ≡ with_said change found
+    → Answers (λ (x : ℕ × ℕ). changed) read old (Ok size) new
+changed-answers change read old cur new found changed u size reads p s e = (
   ap (λ (x : Stream). x.failed) s ∙ p.0,
-  λ k. let at = p.1 k in (grind (arith, sized-read width height old.bytes cur.bytes found sized at.1 e)),
+  λ k. let at = p.1 k in (grind (arith, reads old.bytes cur.bytes found at.1)),
 )

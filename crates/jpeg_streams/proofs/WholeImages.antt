@@ -13,8 +13,9 @@ use Rattle.jpeg_streams.specs.Levels.{Levels, Is8Bit, cut, cut_acs, floor_at, no
 use lib.ListN.{length-map}
 use Rattle.jpeg_segments.specs.declared.parser.CodingProcess.{CodingProcess}
 use Rattle.jpeg_segments.specs.declared.parser.CodingProcess.TheVariants.{DctSequential}
-use Rattle.jpeg_segments.specs.Scales.{frame_at, sized_by}
-use Rattle.jpeg_streams.specs.Stream.{sized_to}
+use Rattle.jpeg_segments.specs.Scales.{frame_at, scaled_by}
+use Rattle.jpeg_segments.specs.declared.scale.Scale.{Scale}
+use Rattle.jpeg_streams.specs.Stream.{scaled_to, sized_to}
 use Rattle.jpeg_streams.specs.ScanSegments.{is_progressive}
 use Rattle.jpeg_streams.specs.Found.{nothing_said, Said}
 use Rattle.jpeg_streams.specs.WrittenScans.{Coefficients, IsComplete}
@@ -112,11 +113,11 @@ sequential-whole array bytes final last frame w e n =
 
 -- ---- at a scale
 
-sized-count : (width height : ℕ) (p : CodingProcess) (frame : Frame)
-    → length (sized_by p width height frame).components ≡ length frame.components
+scaled-count : (scale : ℕ) (p : CodingProcess) (frame : Frame)
+    → length (scaled_by p scale frame).components ≡ length frame.components
 unfolding frame_at
-sized-count width height DctSequential frame = length-map frame.components _
-sized-count width height p frame = search (rules, length-map)
+scaled-count scale DctSequential frame = length-map frame.components _
+scaled-count scale p frame = search (rules, length-map)
 
 pub sized-whole : (width height : ℕ) (settings : Settings) (array : Coefficients) (bytes tail : List ℕ)
     (final : Said) (last : ℕ → Levels) (frame : Frame) → ((index row column : ℕ) → Is8Bit (array
@@ -125,4 +126,13 @@ pub sized-whole : (width height : ℕ) (settings : Settings) (array : Coefficien
     → meaning_of_array settings (sized_to width height final) array last tail
     ≡ whole_meaning settings (sized_to width height final) array tail
 sized-whole width height settings array bytes tail final last frame range w e done =
-    let levels = levels-sized array bytes final last w in search (rules, levels, sized-count, picture-whole)
+    let levels = levels-sized array bytes final last w in search (rules, levels, scaled-count, picture-whole)
+
+pub scaled-whole : (scale : Scale) (settings : Settings) (array : Coefficients) (bytes tail : List ℕ)
+    (final : Said) (last : ℕ → Levels) (frame : Frame) → ((index row column : ℕ) → Is8Bit (array
+    index row column))
+    → WritesImage array bytes final last → final.frame ≡ Some frame → AllComplete frame last
+    → meaning_of_array settings (scaled_to scale final) array last tail
+    ≡ whole_meaning settings (scaled_to scale final) array tail
+scaled-whole scale settings array bytes tail final last frame range w e done =
+    let levels = levels-sized array bytes final last w in search (rules, levels, scaled-count, picture-whole)

@@ -4,27 +4,31 @@ use Rattle.jpeg_bits.specs.Reading.{Fault, IsGivenUp}
 use Rattle.jpeg_bits.specs.Stream.{Stream}
 use Rattle.jpeg_bits.specs.declared.error.Error.{Error}
 use Rattle.jpeg_bits.specs.declared.error.Error.TheVariants.{OutOfMemory}
+use Rattle.jpeg_segments.specs.declared.scale.Scale.{Scale}
 use Rattle.jpeg_streams.specs.ArrayPictures.{picture_of_array}
 use Rattle.jpeg_streams.specs.Levels.{Is8Bit, Levels}
 use Rattle.jpeg_streams.specs.States.{Decoding}
 use Rattle.jpeg_streams.specs.declared.progress.Progress.{Progress}
 use Rattle.jpeg_streams.specs.declared.progress.Progress.TheVariants.{Fresh, HeaderRead}
-use Rattle.jpeg_streams.specs.Stream.{header_at, sized_to, told_of}
+use Rattle.jpeg_streams.specs.Stream.{header_at, scaled_to, sized_to, told_of}
 use Rattle.jpeg_streams.specs.Found.{Found, Said, with_said}
 use Rattle.jpeg_streams.specs.WrittenImages.{WritesImage}
 use Rattle.jpeg_streams.specs.WrittenScans.{Coefficients}
 
 -- ---- what is left to read
 
--- The size of the picture: full, or by the least scale at which it is this wide or this high.
+-- The size of the picture: full, or by the least scale at which it is this wide or this high, or at
+-- a scale.
 pub data Size : Type 0 where
   FullSize : Size
   AtLeast : ℕ → ℕ → Size
+  AtScale : Scale → Size
 
 -- what was said, where the picture is to have a size
 abbrev pub at_size : Size → Said → Said
 at_size FullSize said = said
 at_size (AtLeast width height) said = sized_to width height said
+at_size (AtScale scale) said = scaled_to scale said
 
 -- A decoder has a stream left: all of it, and then the picture is of full size; or what follows its
 -- header, which was found, and then its frame may be at a scale.

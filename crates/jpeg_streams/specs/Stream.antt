@@ -12,7 +12,8 @@ use Rattle.jpeg_segments.specs.Frame.{Frame}
 use Rattle.jpeg_segments.specs.Application.{app_at, dri_at}
 use Rattle.jpeg_segments.specs.HuffmanTables.{dht_at}
 use Rattle.jpeg_segments.specs.Quantization.{dqt_at}
-use Rattle.jpeg_segments.specs.Scales.{sized}
+use Rattle.jpeg_segments.specs.Scales.{scaled, sized}
+use Rattle.jpeg_segments.specs.declared.scale.Scale.{Scale}
 use Rattle.jpeg_streams.specs.declared.settings.Settings.{Settings}
 use Rattle.jpeg_streams.specs.declared.before.Before.{Before}
 use Rattle.jpeg_streams.specs.declared.before.Before.TheVariants.{FirstScan, Elsewhere}
@@ -128,3 +129,19 @@ unfoldable pub sized_meaning : ℕ → ℕ → Settings → List ℕ → Outcome
 sized_meaning width height settings bytes = do
   header ← header_at bytes
   rest_at settings (with_said (sized_to width height) header.0) header.1
+
+-- what was said, where the picture is to be at a scale
+abbrev pub scaled_to : Scale → Said → Said
+scaled_to scale said = record said { frame = option_map (scaled scale) said.frame }
+
+-- The header of a stream whose picture is to be at a scale.
+unfoldable pub scaled_header_at : Scale → List ℕ → Outcome Found
+scaled_header_at scale bytes = do
+  header ← header_at bytes
+  Ok (with_said (scaled_to scale) header.0, header.1)
+
+-- The meaning of a stream whose picture is to be at a scale.
+unfoldable pub scaled_meaning : Scale → Settings → List ℕ → Outcome (Told × List ℕ)
+scaled_meaning scale settings bytes = do
+  header ← header_at bytes
+  rest_at settings (with_said (scaled_to scale) header.0) header.1

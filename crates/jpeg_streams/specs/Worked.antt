@@ -4,7 +4,8 @@ use Rattle.std.specs.List.{concat}
 use Rattle.jpeg_bits.specs.Reading.{Fault}
 use Rattle.jpeg_segments.specs.Frame.{Factors, Frame, frame_of}
 use Rattle.jpeg_streams.specs.Output.{default_settings}
-use Rattle.jpeg_streams.specs.Stream.{Told, meaning, sized_meaning}
+use Rattle.jpeg_segments.specs.declared.scale.Scale.{Scale}
+use Rattle.jpeg_streams.specs.Stream.{Told, meaning, scaled_meaning, sized_meaning}
 use Rattle.jpeg_streams.specs.declared.settings.Settings.{Settings}
 
 -- ---- what a stream means
@@ -23,6 +24,10 @@ picture_meant bytes = picture_with default_settings bytes
 -- the picture at the least scale that is as wide or as high as this
 abbrev pub picture_sized : ℕ → ℕ → List ℕ → Result (List ℕ) Fault
 picture_sized width height bytes = picture_part (sized_meaning width height default_settings bytes)
+
+-- the picture at a scale
+abbrev pub picture_scaled : Scale → List ℕ → Result (List ℕ) Fault
+picture_scaled scale bytes = picture_part (scaled_meaning scale default_settings bytes)
 
 -- ---- segments
 
@@ -87,12 +92,15 @@ stream_with width data_bytes = stream_parts 8 width data_bytes []
 abbrev pub stream_without_height : ℕ → List ℕ
 stream_without_height byte = stream_parts 0 8 (byte ∷ []) []
 
--- Quantization values of 64, DC of category 0, and two codes for AC: 0 for a value of one bit, 10
--- for the end of the band.
-abbrev pub stream_of_one_coefficient : List ℕ
-stream_of_one_coefficient =
-    image_with (quantization_of 64 ∷ grey_frame 0 8 8 ∷ one_code 0 0 ∷ two_codes 16 1 0
+-- A block of one AC coefficient, cut to this height and width: quantization values of 64, DC of
+-- category 0, and two codes for AC: 0 for a value of one bit, 10 for the end of the band.
+abbrev pub one_coefficient : ℕ → ℕ → List ℕ
+one_coefficient height width =
+    image_with (quantization_of 64 ∷ grey_frame 0 height width ∷ one_code 0 0 ∷ two_codes 16 1 0
     ∷ scan_text 1 0 63 0 (55 ∷ []) ∷ [])
+
+abbrev pub stream_of_one_coefficient : List ℕ
+stream_of_one_coefficient = one_coefficient 8 8
 
 -- two scans of the same component, by different quantization tables
 abbrev pub scanned_twice : List ℕ

@@ -1,6 +1,6 @@
 //! Pictures at a scale, and the sizes that are chosen.
 
-use jpeg_decoder::{Decoder, ImageInfo};
+use jpeg_decoder::{Decoder, ImageInfo, Scale};
 use std::alloc::Global;
 use std::process::Abort;
 use std::test::Fail;
@@ -236,5 +236,24 @@ fn a_finished_decoder_is_scaled(rt: HostRuntime) -> Result<(), Fail> {
     let mut decoder = Decoder::new(rt.alloc(), stream.as_slice())?;
     assert!(rt; is_picture(&decoder.decode(), &[129; 64]));
     assert!(rt; takes_size(&mut decoder, (2, 2), (2, 2)));
+    Ok(())
+}
+
+#[test]
+fn a_pixel_at_named_scales(rt: HostRuntime) -> Result<(), Fail> {
+    let stream = "FFD8 Q(40) FFC0 000B 08 0001 0001 01 01 11 00 D(00)
+        FFC4 0015 10 01 01 00*14 01 00 S(003F00) 37 FFD9";
+    let stream = bytes(rt.alloc(), &[stream])?;
+    for (scale, sample) in [
+        (Scale::Eighth, 0x80),
+        (Scale::Quarter, 0x88),
+        (Scale::Half, 0x8A),
+        (Scale::Full, 0x8B),
+    ] {
+        let mut decoder = Decoder::new(rt.alloc(), stream.as_slice())?;
+        assert!(rt; decoder.scale(9, 9)? == (1, 1));
+        assert!(rt; decoder.set_scale(scale)? == (1, 1));
+        assert!(rt; is_picture(&decoder.decode(), &[sample]));
+    }
     Ok(())
 }

@@ -8,14 +8,14 @@ use Rattle.jpeg_decoder.proofs.decoder.scale_state.Goals as goal
 pub returns-in-Some-clause-frames : goal.returns-in-Some-clause-frames
 returns-in-Some-clause-frames c =
     let old = found_in c.args.state.now in
-    frames_scaled c.args.width c.args.height old (with_said (λ said. record said { frame = Some (frame_in c.size_frame.new.frame) }) old)
-    (search rules) c.requires.frames
+    frames_scaled c.args.scale old (with_said (λ said. record said { frame = Some (frame_in c.size_frame.new.frame) }) old)
+    c.requires.scale (search rules) c.requires.frames
 
 pub returns-in-Some-clause-sound : goal.returns-in-Some-clause-sound
 returns-in-Some-clause-sound c =
     let old = found_in c.args.state.now in
     λ p u. (
-      sound_scaled c.args.width c.args.height old (with_said (λ said. record said { frame = Some (frame_in c.size_frame.new.frame) }) old)
-          (search rules) p u,
+      sound_scaled c.args.scale old (with_said (λ said. record said { frame = Some (frame_in c.size_frame.new.frame) }) old)
+          c.requires.scale (search rules) p u,
       u,
     )
