@@ -1,5 +1,6 @@
 //! The decoder and its states.
 ghost use Rattle.std.specs.Prelude.{◌≡◌, if◌then◌else◌, IfOk, IfErr, MatchResult, OnErr, OnOk};
+ghost use Rattle.std.specs.Prelude.{IsErrAnd};
 ghost use Rattle.std.specs.Prelude.{[], replicate, IfSome, None, option_map, is_some, Err, true};
 ghost use Rattle.std.specs.Prelude.{false};
 ghost use Rattle.jpeg_bits.specs.Reading.{Answers};
@@ -505,7 +506,9 @@ impl<R: Read + Drop> Decoder<R> {
         // The settings stay.
         ensures settings { self.new.settings ≡ self.old.settings }
 
-        // Where no image is left to decode nothing changes.
+        // Where no image is left to decode it is `Internal`, whatever room there is, and nothing
+        // changes.
+        ensures ended { (IsReading self.old.stage → ⊥) → IsErrAnd result IsInternal }
         ensures still { (IsReading self.old.stage → ⊥) → self.new ≡ self.old }
 
         // The frame that `read_info` read stays.
