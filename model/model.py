@@ -309,6 +309,7 @@ class Frame:
 
 
 def parse_sof(r, n):
+    """what a frame header says, also of frames that no decoder here takes"""
     f = Frame()
     f.n = n
     base = n % 4  # 0 baseline/sequential, 1 extended, 2 progressive, 3 lossless
@@ -343,6 +344,14 @@ def parse_sof(r, n):
         if tq > 3 or (f.process == 'lossless' and tq != 0):
             raise fmt()
         f.comps.append(Component(ident, hv >> 4, hv & 15, tq))
+    f.hmax, f.vmax = max(c.h for c in f.comps), max(c.v for c in f.comps)
+    f.mcus = ceil_div(f.w, 8 * f.hmax), ceil_div(f.h, 8 * f.vmax)
+    return f
+
+
+def check_frame(f):
+    """refuses a frame by the feature that is not there"""
+    p, count = f.precision, len(f.comps)
     if f.differential:
         raise unsupported('Hierarchical')
     if f.arithmetic:
@@ -351,11 +360,8 @@ def parse_sof(r, n):
         raise unsupported('SamplePrecision(%d)' % p)
     if count not in (1, 3, 4):
         raise unsupported('ComponentCount(%d)' % count)
-    f.hmax, f.vmax = max(c.h for c in f.comps), max(c.v for c in f.comps)
     if any(rule(c, f.hmax, f.vmax, f.w, f.h) is None for c in f.comps):
         raise unsupported('NonIntegerSubsamplingRatio')
-    f.mcus = ceil_div(f.w, 8 * f.hmax), ceil_div(f.h, 8 * f.vmax)
-    return f
 
 
 class Scan:
@@ -403,6 +409,54 @@ def parse_sos(r, f):
         if s.ss != 0 or s.se != 63 or s.ah or s.al:
             raise fmt()
     return s
+
+
+# ---- tables
+
+
+def parse_dqt(r):
+    """the tables in block order, by their destinations"""
+    left = r.length() - 2
+    new = {}
+    while left:
+        b = r.u8()
+        if b >> 4 > 1 or b & 15 > 3:
+            raise fmt()
+        size = 64 * (1 + (b >> 4))
+        if left < 1 + size:
+            raise fmt()
+        vals = [r.u16() if b >> 4 else r.u8() for _ in range(64)]
+        if 0 in vals:
+            raise fmt()
+        q = [0] * 64
+        for z, v in enumerate(vals):
+            q[ZIGZAG[z]] = v
+        new[b & 15] = q
+        left -= 1 + size
+    return new
+
+
+def parse_dht(r, greatest):
+    """the bytes of class and destination, each with its table"""
+    left = r.length() - 2
+    new = []
+    while left > 17:
+        b = r.u8()
+        if b >> 4 > 1 or b & 15 > greatest:
+            raise fmt()
+        counts = list(r.take(16))
+        n = sum(counts)
+        if not 1 <= n <= 256 or n > left - 17:
+            raise fmt()
+        vals = r.take(n)
+        t = codes(counts, vals)
+        if t is None:
+            raise fmt()
+        new.append((b, t))
+        left -= 17 + n
+    if left:
+        raise fmt()
+    return new
 
 
 # ---- scans
@@ -927,6 +981,7 @@ def decode(r, settings, st, trace):
             if f is not None:
                 raise unsupported('Hierarchical')
             f = parse_sof(r, m - 0xC0)
+            check_frame(f)
             s8 = pick_scale(f, settings.scale)
             if trace is not None:
                 trace['info'] = info(f, s8)
@@ -970,45 +1025,10 @@ def decode(r, settings, st, trace):
                             planes[i] = ([list(b) for b in blocks[i]], qt[f.comps[i].tq])
             scans += 1
         elif m == 0xDB:
-            left = r.length() - 2
-            new = {}
-            while left:
-                b = r.u8()
-                if b >> 4 > 1 or b & 15 > 3:
-                    raise fmt()
-                size = 64 * (1 + (b >> 4))
-                if left < 1 + size:
-                    raise fmt()
-                vals = [r.u16() if b >> 4 else r.u8() for _ in range(64)]
-                if 0 in vals:
-                    raise fmt()
-                q = [0] * 64
-                for z, v in enumerate(vals):
-                    q[ZIGZAG[z]] = v
-                new[b & 15] = q
-                left -= 1 + size
-            for t, q in new.items():
+            for t, q in parse_dqt(r).items():
                 qt[t] = q
         elif m == 0xC4:
-            left = r.length() - 2
-            new = []
-            while left > 17:
-                b = r.u8()
-                if b >> 4 > 1 or b & 15 > (1 if f is not None and f.baseline else 3):
-                    raise fmt()
-                counts = list(r.take(16))
-                n = sum(counts)
-                if not 1 <= n <= 256 or n > left - 17:
-                    raise fmt()
-                vals = r.take(n)
-                t = codes(counts, vals)
-                if t is None:
-                    raise fmt()
-                new.append((b, t))
-                left -= 17 + n
-            if left:
-                raise fmt()
-            for b, t in new:
+            for b, t in parse_dht(r, 1 if f is not None and f.baseline else 3):
                 (ac if b >> 4 else dc)[b & 15] = t
         elif m == 0xCC:
             raise unsupported('ArithmeticEntropyCoding')

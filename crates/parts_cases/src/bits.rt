@@ -1,0 +1,324 @@
+//! Calls of `jpeg_bits`: bytes, markers, codes, values, blocks and errors.
+ghost use Rattle.std.specs.Prelude.{◌≡◌, ◌≤◌, sum, IfOk};
+ghost use Rattle.jpeg_bits.specs.BlockView.{pass_in, IsPass};
+ghost use Rattle.jpeg_bits.specs.declared.codes.HuffmanTableClass.TheVariants.{AC};
+
+use crate::state::{Codes, State};
+use crate::words::{answer_of, byte, bytes, first_word, numbers, refusal, text_of_block};
+use anyhow::{Context, bail};
+use jpeg_bits::blocks::{BlockCoding, Carried, Pass, read_block};
+use jpeg_bits::color_transform::ColorTransform;
+use jpeg_bits::error::{Error, UnsupportedFeature, end_of_bytes, format_error};
+use jpeg_bits::huffman::{HuffmanTable, HuffmanTableClass, fill_default_mjpeg_tables};
+use jpeg_bits::marker::{Marker, read_marker};
+use jpeg_bits::reads::{read_bytes, read_length, read_u8, read_u16_be, skip};
+use jpeg_bits::scan::{Predictor, ScanInfo};
+use jpeg_segments::parser::DefinedTables;
+use std::alloc::{AllocError, Global};
+use std::io;
+use std::io::ErrorKind;
+
+/// Returns the number of a text, which has to be from `least` to `most`.
+fn within(text: &str, least: u8, most: u8) -> anyhow::Result<u8>
+    ensures least { IfOk result (λ n. least ≤ n) }
+    ensures most { IfOk result (λ n. n ≤ most) }
+{
+    let number = text.parse::<u8>()?;
+    if number < least {
+        bail!("expected at least {least}");
+    }
+    if number > most {
+        bail!("expected at most {most}");
+    }
+    Ok(number)
+}
+
+/// Returns the sum of the counts of a table.
+fn total(counts: &[u8; 16]) -> u16
+    ensures { result ≡ sum counts.now }
+{
+    let mut total = 0u16;
+    for i in 0..16 {
+        total += u16::from(counts[i]);
+    }
+    total
+}
+
+/// Returns the table of some codes, of which there have to be as many as symbols.
+pub fn table_of(
+    alloc: Global,
+    codes: &Codes,
+    class: HuffmanTableClass,
+) -> anyhow::Result<Result<HuffmanTable, Error>>
+    ensures { IfOk result (λ answer. IfOk answer (λ table. table.class ≡ class)) }
+{
+    let count = codes.symbols.len();
+    if usize::from(total(&codes.counts)) != count || count == 0 || count > 256 {
+        bail!("expected a symbol for each code, 1 to 256");
+    }
+    let symbols = codes.symbols.as_slice();
+    Ok(HuffmanTable::new(alloc, &codes.counts, symbols, class))
+}
+
+/// Fills the look-up tables of values.
+fn widen(alloc: Global, table: &mut HuffmanTable) -> Result<(), AllocError>
+    ensures { table.new ≡ table.old }
+{
+    table.widen(alloc)?;
+    table.fill_pairs(alloc)?;
+    table.fill_skips(alloc)
+}
+
+/// Returns the class of this name.
+fn class_of(name: &str) -> anyhow::Result<HuffmanTableClass> {
+    match name {
+        "dc" => Ok(HuffmanTableClass::DC),
+        "ac" => Ok(HuffmanTableClass::AC),
+        _ => bail!("expected dc or ac"),
+    }
+}
+
+/// Returns the codes of words `COUNTS: SYMBOLS`.
+fn codes_of(alloc: Global, text: &str) -> anyhow::Result<Codes> {
+    let (counts, symbols) = text.split_once(':').context("expected a colon")?;
+    let counts = bytes(alloc, counts)?;
+    Ok(Codes {
+        counts: <[u8; 16]>::try_from(counts.as_slice())?,
+        symbols: bytes(alloc, symbols)?,
+    })
+}
+
+/// Puts a table at destination 0.
+fn put(tables: &mut [Option<HuffmanTable>], table: HuffmanTable) {
+    if let Some(slot) = tables.first_mut() {
+        *slot = Some(table);
+    }
+}
+
+/// Defines the table of a class at destination 0.
+fn define(state: &mut State<'_>, text: &str) -> anyhow::Result<String> {
+    let (class, text) = first_word(text);
+    let class = class_of(class)?;
+    state.codes = codes_of(state.alloc, text)?;
+    let mut table = match table_of(state.alloc, &state.codes, class)? {
+        Ok(table) => table,
+        Err(error) => return Ok(refusal(state.alloc, &error)?),
+    };
+    if state.is_wide {
+        widen(state.alloc, &mut table)?;
+    }
+    match class {
+        HuffmanTableClass::DC => put(&mut state.tables.0, table),
+        HuffmanTableClass::AC => put(&mut state.tables.1, table),
+    }
+    Ok(String::new(state.alloc))
+}
+
+/// Returns the table of words `CLASS DESTINATION`.
+fn table<'t>(tables: &'t DefinedTables, text: &str) -> anyhow::Result<&'t HuffmanTable> {
+    let (class, destination) = first_word(text);
+    let tables = match class_of(class)? {
+        HuffmanTableClass::DC => &tables.0,
+        HuffmanTableClass::AC => &tables.1,
+    };
+    match tables.get(destination.parse::<usize>()?) {
+        Some(Some(table)) => Ok(table),
+        _ => bail!("there is no such table"),
+    }
+}
+
+/// Returns the destinations of decimal words.
+fn destinations(alloc: Global, text: &str) -> anyhow::Result<Vec<usize>> {
+    let mut all = Vec::new(alloc);
+    for number in numbers(alloc, text)? {
+        all.push(usize::from(number))?;
+    }
+    Ok(all)
+}
+
+/// Returns the class and destination of each table.
+pub fn text_of_tables(alloc: Global, tables: &DefinedTables) -> Result<String, AllocError> {
+    let mut text = String::from_str(alloc, "tables")?;
+    for (destination, table) in tables.0.iter().enumerate() {
+        if table.is_some() {
+            text.push_str(format!(in alloc; " dc {destination}")?.as_str())?;
+        }
+    }
+    for (destination, table) in tables.1.iter().enumerate() {
+        if table.is_some() {
+            text.push_str(format!(in alloc; " ac {destination}")?.as_str())?;
+        }
+    }
+    Ok(text)
+}
+
+/// Fills in the default tables that a scan names by words `DC: AC`.
+fn fill_defaults(state: &mut State<'_>, text: &str) -> anyhow::Result<String> {
+    let alloc = state.alloc;
+    let (dc, ac) = text.split_once(':').context("expected a colon")?;
+    let scan = ScanInfo {
+        component_indices: Vec::new(alloc),
+        dc_table_indices: destinations(alloc, dc)?,
+        ac_table_indices: destinations(alloc, ac)?,
+        spectral_selection: 0..64,
+        predictor_selection: Predictor::NoPrediction,
+        successive_approximation_high: 0,
+        successive_approximation_low: 0,
+        point_transform: 0,
+    };
+    let (dc, ac) = (&mut state.tables.0, &mut state.tables.1);
+    if dc.len() < 2 || ac.len() < 2 {
+        bail!("expected two destinations");
+    }
+    fill_default_mjpeg_tables(alloc, &scan, dc, ac)?;
+    if state.is_wide {
+        for table in ac.iter_mut().flatten() {
+            widen(alloc, table)?;
+        }
+    }
+    Ok(text_of_tables(alloc, &state.tables)?)
+}
+
+/// Returns the pass of words `PASS SS SE AL`.
+fn pass_of(alloc: Global, text: &str) -> anyhow::Result<Pass>
+    ensures { IfOk result (λ pass. IsPass (pass_in pass)) }
+{
+    let (name, text) = first_word(text);
+    let is_first = match name {
+        "first" => true,
+        "refined" => false,
+        _ => bail!("expected first or refined"),
+    };
+    let (ss, text) = first_word(text);
+    let (se, al) = first_word(text);
+    let se = within(se, 0, 63)?;
+    Ok(Pass {
+        is_first,
+        ss: within(ss, 0, se)?,
+        se,
+        al: within(al, 0, 13)?,
+    })
+}
+
+/// Reads a block by the codes of the last table.
+fn block(state: &mut State<'_>, text: &str) -> anyhow::Result<String> {
+    let alloc = state.alloc;
+    let pass = pass_of(alloc, text)?;
+    let mut table = table_of(alloc, &state.codes, HuffmanTableClass::AC)??;
+    if state.is_wide {
+        widen(alloc, &mut table)?;
+    }
+    let coding = BlockCoding {
+        pass,
+        slot: 0,
+        dc_table: &table,
+        ac_table: &table,
+        keeps_ac: true,
+    };
+    let mut carried = Carried::at_start();
+    let (decoder, source) = (&mut state.decoder, &mut state.source);
+    match read_block(decoder, source, &coding, &mut carried, &mut state.block) {
+        Ok(()) => Ok(text_of_block(alloc, &state.block)?),
+        Err(error) => Ok(refusal(alloc, &error)?),
+    }
+}
+
+/// Returns what a marker code says.
+fn code(alloc: Global, text: &str) -> anyhow::Result<String> {
+    Ok(match Marker::from_u8(byte(alloc, text)?) {
+        Some(marker) => {
+            let length = if marker.has_length() { "a" } else { "no" };
+            format!(in alloc; "{marker:?}, {marker}, {length} length")?
+        }
+        None => format!(in alloc; "no marker")?,
+    })
+}
+
+/// Returns the error of a name.
+fn named_error(alloc: Global, name: &str) -> anyhow::Result<Error> {
+    Ok(match name {
+        "DNL" => Error::Unsupported(UnsupportedFeature::DNL),
+        "YCbCr" => Error::Unsupported(UnsupportedFeature::ColorTransform(ColorTransform::YCbCr)),
+        "end" => end_of_bytes(),
+        "io" => Error::from(io::Error::new(ErrorKind::Other, "a call of the test")),
+        "internal" => Error::Internal("decoder has failed"),
+        "memory" => Error::from(AllocError),
+        _ => {
+            let (kind, text) = first_word(name);
+            match kind {
+                "format" => format_error(alloc, text),
+                "precision" => {
+                    let bits = text.parse::<u8>()?;
+                    Error::Unsupported(UnsupportedFeature::SamplePrecision(bits))
+                }
+                _ => bail!("expected a kind of error"),
+            }
+        }
+    })
+}
+
+/// Returns the text of an error.
+fn error(alloc: Global, name: &str) -> anyhow::Result<String> {
+    Ok(format!(in alloc; "{}", named_error(alloc, name)?)?)
+}
+
+/// Reads bytes and markers.
+fn read(state: &mut State<'_>, verb: &str, text: &str) -> anyhow::Result<Option<String>> {
+    let alloc = state.alloc;
+    let source = &mut state.source;
+    Ok(Some(match verb {
+        "u8" => answer_of(alloc, &read_u8(alloc, source))?,
+        "u16" => answer_of(alloc, &read_u16_be(alloc, source))?,
+        "length" => answer_of(alloc, &read_length(alloc, source))?,
+        "skip" => answer_of(alloc, &skip(alloc, source, text.parse::<u16>()?))?,
+        "take" => answer_of(alloc, &read_bytes(alloc, source, text.parse::<u16>()?))?,
+        "marker" => answer_of(alloc, &read_marker(alloc, source))?,
+        "failed" => format!(in alloc; "failed: {}", source.has_failed())?,
+        _ => return Ok(None),
+    }))
+}
+
+/// Reads bits.
+fn take(state: &mut State<'_>, verb: &str, text: &str) -> anyhow::Result<Option<String>> {
+    let alloc = state.alloc;
+    let (source, decoder) = (&mut state.source, &mut state.decoder);
+    Ok(Some(match verb {
+        "bits" => answer_of(alloc, &decoder.get_bits(source, within(text, 1, 16)?))?,
+        "signed" => answer_of(alloc, &decoder.receive_extend(source, within(text, 1, 15)?))?,
+        "symbol" => answer_of(alloc, &decoder.decode(source, table(&state.tables, text)?))?,
+        "value" => answer_of(
+            alloc,
+            &decoder.decode_fast_ac(source, table(&state.tables, text)?),
+        )?,
+        "end" => answer_of(alloc, &decoder.take_marker(source))?,
+        "reset" => {
+            decoder.reset();
+            String::new(alloc)
+        }
+        _ => return Ok(None),
+    }))
+}
+
+/// Returns the answer to a call of `jpeg_bits`, or none to another.
+pub fn answer(state: &mut State<'_>, verb: &str, text: &str) -> anyhow::Result<Option<String>> {
+    if let Some(answer) = read(state, verb, text)? {
+        return Ok(Some(answer));
+    }
+    if let Some(answer) = take(state, verb, text)? {
+        return Ok(Some(answer));
+    }
+    Ok(Some(match verb {
+        "table" => define(state, text)?,
+        "destinations" => {
+            let count = text.parse::<usize>()?;
+            state.tables.0.truncate(count);
+            state.tables.1.truncate(count);
+            String::new(state.alloc)
+        }
+        "defaults" => fill_defaults(state, text)?,
+        "block" => block(state, text)?,
+        "code" => code(state.alloc, text)?,
+        "error" => error(state.alloc, text)?,
+        _ => return Ok(None),
+    }))
+}

@@ -1,0 +1,157 @@
+//! Calls of `jpeg_pixels`: transforms of blocks, and planes of them.
+ghost use Rattle.std.specs.Prelude.{◌≡◌, ◌+◌, ◌-◌, ◌*◌, ◌≤◌, length, true};
+ghost use Rattle.jpeg_pixels.specs.Scaled.{IsScale};
+
+use crate::state::State;
+use crate::words::{change, coefficients, first_word, numbers, text_of_bytes};
+use anyhow::bail;
+use jpeg_pixels::idct::{
+    choose_idct_size, dequantize_and_idct_block, dequantize_and_idct_block_1x1,
+    dequantize_and_idct_block_2x2, dequantize_and_idct_block_4x4, dequantize_and_idct_block_8x8,
+};
+use jpeg_pixels::plane::{append_row, crop};
+use jpeg_pixels::zigzag::values_in_order;
+use jpeg_segments::parser::Dimensions;
+use std::alloc::Global;
+
+/// Returns whether a block may give this many samples a side.
+fn is_scale(scale: usize) -> bool
+    ensures { result ≡ true → IsScale scale }
+{
+    scale == 1 || scale == 2 || scale == 4 || scale == 8
+}
+
+/// Transforms a block by the function for its scale alone.
+fn transform(scale: usize, block: &[i16; 64], values: &[u16; 64], stride: usize, output: &mut [u8])
+    requires scale { IsScale scale }
+    requires wide { scale ≤ stride }
+    requires room { (scale - 1) * stride + scale ≤ length output.old }
+{
+    match scale {
+        8 => dequantize_and_idct_block_8x8(block, values, stride, output),
+        4 => dequantize_and_idct_block_4x4(block, values, stride, output),
+        2 => dequantize_and_idct_block_2x2(block, values, stride, output),
+        _ => dequantize_and_idct_block_1x1(block, values, stride, output),
+    }
+}
+
+/// Transforms a block at a scale into `room` bytes, which were 7, with lines of `stride` bytes.
+fn samples_of(
+    alloc: Global,
+    scale: usize,
+    block: &[i16; 64],
+    values: &[u16; 64],
+    stride: u16,
+    room: u16,
+) -> anyhow::Result<String> {
+    let (stride, room) = (usize::from(stride), usize::from(room));
+    let mut one = vec![in alloc; 7; room]?;
+    let mut other = vec![in alloc; 7; room]?;
+    if !is_scale(scale) || stride < scale || room < (scale - 1) * stride + scale {
+        bail!("expected a scale, and room for its lines");
+    }
+    transform(scale, block, values, stride, &mut one);
+    dequantize_and_idct_block(scale, block, values, stride, &mut other);
+    if one.as_slice() != other.as_slice() {
+        return Ok(format!(in alloc; "WRONG by lanes")?);
+    }
+    Ok(text_of_bytes(alloc, &one)?)
+}
+
+/// Transforms the block with changes, by words `SCALE STRIDE ROOM CHANGES`.
+fn idct(state: &mut State<'_>, text: &str) -> anyhow::Result<String> {
+    let (scale, text) = first_word(text);
+    let (stride, text) = first_word(text);
+    let (room, changes) = first_word(text);
+    let mut block = state.block;
+    change(&mut block, changes)?;
+    samples_of(
+        state.alloc,
+        scale.parse::<usize>()?,
+        &block,
+        &state.values,
+        stride.parse::<u16>()?,
+        room.parse::<u16>()?,
+    )
+}
+
+/// Appends a row of blocks to the plane, by words `SCALE BEFORE AFTER CHANGES`: the block this
+/// often, once with changes, and again this often.
+fn row(state: &mut State<'_>, text: &str) -> anyhow::Result<String> {
+    let (scale, text) = first_word(text);
+    let (before, text) = first_word(text);
+    let (after, changes) = first_word(text);
+    let scale = scale.parse::<usize>()?;
+    let mut changed = state.block;
+    change(&mut changed, changes)?;
+    let mut blocks = Vec::new(state.alloc);
+    for _ in 0..before.parse::<u8>()? {
+        blocks.push(state.block)?;
+    }
+    blocks.push(changed)?;
+    for _ in 0..after.parse::<u8>()? {
+        blocks.push(state.block)?;
+    }
+    if !is_scale(scale) || blocks.len() > 65536 {
+        bail!("expected a scale");
+    }
+    append_row(&mut state.samples, scale, &blocks, &state.values)?;
+    Ok(String::new(state.alloc))
+}
+
+/// Crops the plane, by words `STRIDE WIDTH HEIGHT`.
+fn cropped(state: &mut State<'_>, text: &str) -> anyhow::Result<String> {
+    let numbers = numbers(state.alloc, text)?;
+    let [stride, width, height] = numbers.as_slice() else {
+        bail!("expected three numbers");
+    };
+    let (stride, width, height) = (
+        usize::from(*stride),
+        usize::from(*width),
+        usize::from(*height),
+    );
+    if width > stride || height * stride > state.samples.len() {
+        bail!("expected a part of the plane");
+    }
+    crop(&mut state.samples, stride, width, height);
+    Ok(text_of_bytes(state.alloc, &state.samples)?)
+}
+
+/// Chooses a scale, by words `FULL_WIDTH FULL_HEIGHT WIDTH HEIGHT`.
+fn size(alloc: Global, text: &str) -> anyhow::Result<String> {
+    let numbers = numbers(alloc, text)?;
+    let [full_width, full_height, width, height] = numbers.as_slice() else {
+        bail!("expected four numbers");
+    };
+    let full = Dimensions {
+        width: *full_width,
+        height: *full_height,
+    };
+    let requested = Dimensions {
+        width: *width,
+        height: *height,
+    };
+    Ok(format!(in alloc; "scale {}", choose_idct_size(full, requested))?)
+}
+
+/// Returns the answer to a call about blocks and planes, or none to another.
+pub fn answer(state: &mut State<'_>, verb: &str, text: &str) -> anyhow::Result<Option<String>> {
+    let alloc = state.alloc;
+    Ok(Some(match verb {
+        "coefficients" => {
+            state.block = coefficients(alloc, text)?;
+            String::new(alloc)
+        }
+        "values" => {
+            state.values = <[u16; 64]>::try_from(numbers(alloc, text)?.as_slice())?;
+            String::new(alloc)
+        }
+        "zigzag" => format!(in alloc; "{:?}", values_in_order(&state.values))?,
+        "idct" => idct(state, text)?,
+        "row" => row(state, text)?,
+        "plane" => text_of_bytes(alloc, &state.samples)?,
+        "crop" => cropped(state, text)?,
+        "size" => size(alloc, text)?,
+        _ => return Ok(None),
+    }))
+}

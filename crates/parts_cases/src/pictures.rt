@@ -1,0 +1,285 @@
+//! Calls of `jpeg_pixels`: upsampling, colours, pictures and workers.
+ghost use Rattle.std.specs.Prelude.{◌≡◌, ◌≤◌, ◌<◌, ◌+◌, ◌-◌, ◌*◌, length, map, true, IfSome};
+ghost use Rattle.jpeg_segments.specs.Frame.{AllHaveSampling, IsFrame};
+ghost use Rattle.jpeg_segments.specs.FrameView.{component_in, frame_in};
+ghost use Rattle.jpeg_pixels.specs.Pictures.{HaveRoom};
+ghost use Rattle.jpeg_pixels.specs.PicturesView.{IsFor};
+ghost use Rattle.jpeg_pixels.specs.Upsampling.{across, down};
+
+use crate::segments::marker_of;
+use crate::state::State;
+use crate::words::{answer_of, bytes, first_word, numbers, refusal, text_of_bytes};
+use anyhow::{Context, bail};
+use jpeg_bits::color_transform::ColorTransform;
+use jpeg_bits::error::{Error, Result};
+use jpeg_pixels::arch::color_convert_line_ycbcr;
+use jpeg_pixels::upsampler::{ColorConvert, UpsampleRule, Upsampler};
+use jpeg_pixels::worker::compute_image_rows;
+use jpeg_segments::parser::{Component, FrameInfo, parse_sof};
+use std::alloc::Global;
+
+/// Returns the rule of this name: of `ACROSSxDOWN` the one that repeats samples.
+fn rule_of(name: &str) -> anyhow::Result<UpsampleRule> {
+    Ok(match name {
+        "H1V1" => UpsampleRule::H1V1,
+        "H2V1" => UpsampleRule::H2V1,
+        "H1V2" => UpsampleRule::H1V2,
+        "H2V2" => UpsampleRule::H2V2,
+        _ => {
+            let (across, down) = name.split_once('x').context("expected a rule")?;
+            UpsampleRule::Generic(across.parse::<u8>()?, down.parse::<u8>()?)
+        }
+    })
+}
+
+/// Returns how many samples across and down a rule makes of one.
+fn ratios(rule: UpsampleRule) -> (usize, usize)
+    ensures across { result.0 ≡ across rule }
+    ensures down { result.1 ≡ down rule }
+    ensures few { (result.0 ≤ 255) × (result.1 ≤ 255) }
+{
+    match rule {
+        UpsampleRule::H1V1 => (1, 1),
+        UpsampleRule::H2V1 => (2, 1),
+        UpsampleRule::H1V2 => (1, 2),
+        UpsampleRule::H2V2 => (2, 2),
+        UpsampleRule::Generic(across, down) => (usize::from(across), usize::from(down)),
+    }
+}
+
+/// Makes a row, by words `RULE WIDTH HEIGHT STRIDE ROW OUTPUT_WIDTH ROOM: SAMPLES`, in `ROOM` bytes
+/// that were 7.
+fn upsample(alloc: Global, text: &str) -> anyhow::Result<String> {
+    let (name, text) = first_word(text);
+    let (text, samples) = text.split_once(':').context("expected a colon")?;
+    let rule = rule_of(name)?;
+    let samples = bytes(alloc, samples)?;
+    let numbers = numbers(alloc, text)?;
+    let [width, height, stride, row, output_width, room] = numbers.as_slice() else {
+        bail!("expected six numbers");
+    };
+    let (width, height, stride) = (
+        usize::from(*width),
+        usize::from(*height),
+        usize::from(*stride),
+    );
+    let (row, output_width) = (usize::from(*row), usize::from(*output_width));
+    let mut output = vec![in alloc; 7; usize::from(*room)]?;
+    let (across, down) = ratios(rule);
+    if across < 1 || down < 1 || width < 1 || row >= down * height {
+        bail!("expected a row of the picture");
+    }
+    if output_width > across * width || output_width > output.len() {
+        bail!("expected room for a part of a row");
+    }
+    if (height - 1) * stride + width > samples.len() {
+        bail!("expected the samples of all lines");
+    }
+    rule.upsample_row(
+        &samples,
+        width,
+        height,
+        stride,
+        row,
+        output_width,
+        &mut output,
+    );
+    Ok(text_of_bytes(alloc, &output)?)
+}
+
+/// Converts chunks of a line, by words `ROOM: Y: CB: CR`, into `ROOM` bytes that were 7.
+fn ycbcr(alloc: Global, text: &str) -> anyhow::Result<String> {
+    let (room, text) = text.split_once(':').context("expected a colon")?;
+    let (y, text) = text.split_once(':').context("expected a colon")?;
+    let (cb, cr) = text.split_once(':').context("expected a colon")?;
+    let room = usize::from(room.parse::<u16>()?);
+    let (y, cb, cr) = (bytes(alloc, y)?, bytes(alloc, cb)?, bytes(alloc, cr)?);
+    let mut output = vec![in alloc; 7; room]?;
+    let count = room / 3;
+    if count * 3 != room || count > y.len() || count > cb.len() || count > cr.len() {
+        bail!("expected the samples of whole pixels");
+    }
+    let converted = color_convert_line_ycbcr(&y, &cb, &cr, &mut output);
+    let text = text_of_bytes(alloc, &output)?;
+    Ok(format!(in alloc; "{converted} pixels, {text}")?)
+}
+
+/// Returns the colour transform of this name.
+fn transform_of(name: &str) -> anyhow::Result<ColorTransform> {
+    Ok(match name {
+        "None" => ColorTransform::None,
+        "RGB" => ColorTransform::RGB,
+        "YCbCr" => ColorTransform::YCbCr,
+        "CMYK" => ColorTransform::CMYK,
+        "YCCK" => ColorTransform::YCCK,
+        "Grayscale" => ColorTransform::Grayscale,
+        "JcsBgYcc" => ColorTransform::JcsBgYcc,
+        "JcsBgRgb" => ColorTransform::JcsBgRgb,
+        "Unknown" => ColorTransform::Unknown,
+        _ => bail!("expected a colour transform"),
+    })
+}
+
+/// Chooses a conversion, by words `COUNT TRANSFORM`.
+fn colours(alloc: Global, text: &str) -> anyhow::Result<String> {
+    let (count, name) = first_word(text);
+    let count = count.parse::<usize>()?;
+    let convert = ColorConvert::choose(alloc, count, transform_of(name)?);
+    Ok(answer_of(alloc, &convert)?)
+}
+
+/// Returns the planes of words `PLANE: PLANE ..`.
+fn planes_of(alloc: Global, text: &str) -> anyhow::Result<Vec<Vec<u8>>> {
+    let mut planes = Vec::new(alloc);
+    for plane in text.split(':') {
+        planes.push(bytes(alloc, plane)?)?;
+    }
+    Ok(planes)
+}
+
+/// Returns how many samples at least a plane of a component has, or none where they are too many.
+fn room_of(component: &Component) -> Option<usize>
+    ensures { IfSome result (λ n. n ≡ ((component_in component.now).height - 1)
+        * ((component_in component.now).blocks_wide * (component_in component.now).scale)
+        + (component_in component.now).width) }
+{
+    let stride = usize::from(component.block_size.width).checked_mul(component.dct_scale)?;
+    let lines = usize::from(component.size.height.saturating_sub(1));
+    lines
+        .checked_mul(stride)?
+        .checked_add(usize::from(component.size.width))
+}
+
+/// Returns whether each component has a plane with its samples.
+#[tactic(auto, unfolding(jpeg_pixels::specs::Pictures::HaveRoom))]
+fn have_room(components: &[Component], planes: &[Vec<u8>]) -> bool
+    ensures { result ≡ true
+        → HaveRoom (map component_in components.now) (map (λ v. v.items) planes.now) }
+{
+    match (components, planes) {
+        ([], _) => true,
+        ([component, more @ ..], [plane, rest @ ..]) => match room_of(component) {
+            Some(room) if room <= plane.len() => have_room(more, rest),
+            _ => false,
+        },
+        _ => false,
+    }
+}
+
+/// Returns the picture of a frame's planes.
+fn picture_of(
+    alloc: Global,
+    frame: &FrameInfo,
+    planes: &[Vec<u8>],
+    transform: ColorTransform,
+) -> Result<Vec<u8>>
+    requires made { IsFrame (frame_in frame.now) }
+    requires factors { AllHaveSampling (map component_in frame.now.components.items) }
+    requires some { 3 ≤ length frame.now.components.items }
+    requires most { length frame.now.components.items ≤ 4 }
+    requires planes { length planes.now ≡ length frame.now.components.items }
+    requires room { HaveRoom (map component_in frame.now.components.items)
+        (map (λ v. v.items) planes.now) }
+{
+    compute_image_rows(
+        alloc,
+        &frame.components,
+        planes,
+        frame.image_size,
+        transform,
+    )
+}
+
+/// Makes the picture of a frame that is read, by words `CODE TRANSFORM: PLANE: PLANE ..`.
+fn picture(state: &mut State<'_>, text: &str) -> anyhow::Result<String> {
+    let alloc = state.alloc;
+    let (words, planes) = text.split_once(':').context("expected a colon")?;
+    let (code, name) = first_word(words);
+    let transform = transform_of(name)?;
+    let planes = planes_of(alloc, planes)?;
+    let frame = parse_sof(alloc, &mut state.source, marker_of(alloc, code)?)?;
+    let count = frame.components.len();
+    if count < 3 || count > 4 || count != planes.len() || !have_room(&frame.components, &planes) {
+        bail!("expected the planes of three or four components");
+    }
+    match picture_of(alloc, &frame, &planes, transform) {
+        Ok(picture) => Ok(text_of_bytes(alloc, &picture)?),
+        Err(error) => Ok(refusal(alloc, &error)?),
+    }
+}
+
+/// Returns whether a conversion is one for this many components.
+fn is_for(count: usize, color_convert: ColorConvert) -> bool
+    ensures { result ≡ true → IsFor count color_convert }
+{
+    match color_convert {
+        ColorConvert::None => true,
+        ColorConvert::Rgb | ColorConvert::YCbCr => count == 3,
+        ColorConvert::Cmyk | ColorConvert::Ycck => count == 4,
+    }
+}
+
+/// Returns a line of the picture of a frame's planes, made alone.
+fn line_of(
+    alloc: Global,
+    frame: &FrameInfo,
+    planes: &[Vec<u8>],
+    row: usize,
+    color_convert: ColorConvert,
+) -> Result<Vec<u8>>
+    requires made { IsFrame (frame_in frame.now) }
+    requires factors { AllHaveSampling (map component_in frame.now.components.items) }
+    requires some { 1 ≤ length frame.now.components.items }
+    requires most { length frame.now.components.items ≤ 4 }
+    requires planes { length planes.now ≡ length frame.now.components.items }
+    requires room { HaveRoom (map component_in frame.now.components.items)
+        (map (λ v. v.items) planes.now) }
+    requires row { row < frame.now.image_size.height }
+    requires fits { IsFor (length frame.now.components.items) color_convert }
+{
+    let size = frame.image_size;
+    let width = usize::from(size.width);
+    let upsampler = Upsampler::new(alloc, &frame.components, size.width, size.height)?;
+    let Some(room) = frame.components.len().checked_mul(width) else {
+        return Err(Error::OutOfMemory);
+    };
+    let mut line = vec![in alloc; 0; room]?;
+    upsampler.upsample_and_interleave_row(planes, row, width, &mut line, color_convert)?;
+    Ok(line)
+}
+
+/// Makes a line of the picture of a frame that is read, by words `CODE TRANSFORM ROW: PLANE ..`.
+fn line(state: &mut State<'_>, text: &str) -> anyhow::Result<String> {
+    let alloc = state.alloc;
+    let (words, planes) = text.split_once(':').context("expected a colon")?;
+    let (code, words) = first_word(words);
+    let (name, row) = first_word(words);
+    let row = row.parse::<u16>()?;
+    let planes = planes_of(alloc, planes)?;
+    let frame = parse_sof(alloc, &mut state.source, marker_of(alloc, code)?)?;
+    let count = frame.components.len();
+    let convert = ColorConvert::choose(alloc, count, transform_of(name)?)?;
+    if count < 1 || count > 4 || count != planes.len() || !have_room(&frame.components, &planes) {
+        bail!("expected the planes of one to four components");
+    }
+    if row >= frame.image_size.height || !is_for(count, convert) {
+        bail!("expected a line of the picture");
+    }
+    match line_of(alloc, &frame, &planes, usize::from(row), convert) {
+        Ok(line) => Ok(text_of_bytes(alloc, &line)?),
+        Err(error) => Ok(refusal(alloc, &error)?),
+    }
+}
+
+/// Returns the answer to a call about pictures, or none to another.
+pub fn answer(state: &mut State<'_>, verb: &str, text: &str) -> anyhow::Result<Option<String>> {
+    let alloc = state.alloc;
+    Ok(Some(match verb {
+        "upsample" => upsample(alloc, text)?,
+        "ycbcr" => ycbcr(alloc, text)?,
+        "colours" => colours(alloc, text)?,
+        "picture" => picture(state, text)?,
+        "line" => line(state, text)?,
+        _ => return Ok(None),
+    }))
+}

@@ -1,0 +1,114 @@
+//! Calls of `jpeg_segments`: each segment as its bytes give it.
+ghost use Rattle.std.specs.Prelude.{◌≡◌};
+ghost use Rattle.jpeg_segments.specs.Scales.{is_scale};
+
+use crate::bits::text_of_tables;
+use crate::state::State;
+use crate::words::{answer_of, byte, first_word, refusal};
+use anyhow::{Context, bail};
+use jpeg_bits::error::Error;
+use jpeg_bits::marker::Marker;
+use jpeg_segments::parser::{
+    FrameInfo, parse_app, parse_com, parse_dht, parse_dqt, parse_dri, parse_sof, parse_sos,
+};
+use jpeg_segments::sizes::scale_frame;
+use std::alloc::{AllocError, Global};
+
+/// Returns the marker of a code.
+pub fn marker_of(alloc: Global, text: &str) -> anyhow::Result<Marker> {
+    Ok(Marker::from_u8(byte(alloc, text)?).context("expected a marker code")?)
+}
+
+/// Returns the words for a frame.
+fn text_of_frame(alloc: Global, frame: &FrameInfo) -> Result<String, AllocError> {
+    format!(in alloc;
+        "baseline {}, differential {}, {:?}, {:?}, precision {}, image {:?}, output {:?}, MCUs \
+         {:?}, {:?}",
+        frame.is_baseline,
+        frame.is_differential,
+        frame.coding_process,
+        frame.entropy_coding,
+        frame.precision,
+        frame.image_size,
+        frame.output_size,
+        frame.mcu_size,
+        frame.components
+    )
+}
+
+/// Reads a frame, which is kept.
+fn sof(state: &mut State<'_>, text: &str) -> anyhow::Result<String> {
+    let alloc = state.alloc;
+    match parse_sof(alloc, &mut state.source, marker_of(alloc, text)?) {
+        Ok(frame) => {
+            let text = text_of_frame(alloc, &frame)?;
+            state.frame = Some(frame);
+            Ok(text)
+        }
+        Err(error) => Ok(refusal(alloc, &error)?),
+    }
+}
+
+/// Returns whether a number of samples is one that a side of a block may give.
+fn is_scale(scale: usize) -> bool
+    ensures { result ≡ is_scale scale }
+{
+    scale == 1 || scale == 2 || scale == 4 || scale == 8
+}
+
+/// Reads a frame, and sizes it at a scale and then at another one.
+fn scaled(state: &mut State<'_>, text: &str) -> anyhow::Result<String> {
+    let alloc = state.alloc;
+    let (code, scales) = first_word(text);
+    let (first, second) = first_word(scales);
+    let (first, second) = (first.parse::<usize>()?, second.parse::<usize>()?);
+    if !is_scale(first) || !is_scale(second) {
+        bail!("expected scales of 1, 2, 4 or 8");
+    }
+    let mut frame = parse_sof(alloc, &mut state.source, marker_of(alloc, code)?)?;
+    scale_frame(&mut frame, first);
+    scale_frame(&mut frame, second);
+    Ok(text_of_frame(alloc, &frame)?)
+}
+
+/// Reads the header of a scan of the frame that was read.
+fn sos(state: &mut State<'_>) -> anyhow::Result<String> {
+    let frame = state.frame.as_ref().context("expected a frame")?;
+    let scan = parse_sos(state.alloc, &mut state.source, frame);
+    Ok(answer_of(state.alloc, &scan)?)
+}
+
+/// Reads Huffman tables, which are kept.
+fn dht(state: &mut State<'_>, text: &str) -> anyhow::Result<String> {
+    let is_baseline = match text {
+        "baseline" => Some(true),
+        "other" => Some(false),
+        "none" => None,
+        _ => bail!("expected baseline, other or none"),
+    };
+    let alloc = state.alloc;
+    match parse_dht(alloc, &mut state.source, is_baseline) {
+        Ok(tables) => {
+            state.tables = tables;
+            Ok(text_of_tables(alloc, &state.tables)?)
+        }
+        Err(error) => Ok(refusal(alloc, &error)?),
+    }
+}
+
+/// Returns the answer to a call of `jpeg_segments`, or none to another.
+pub fn answer(state: &mut State<'_>, verb: &str, text: &str) -> anyhow::Result<Option<String>> {
+    let alloc = state.alloc;
+    let source = &mut state.source;
+    Ok(Some(match verb {
+        "sof" => sof(state, text)?,
+        "scaled" => scaled(state, text)?,
+        "sos" => sos(state)?,
+        "dht" => dht(state, text)?,
+        "dqt" => answer_of(alloc, &parse_dqt(alloc, source))?,
+        "dri" => answer_of(alloc, &parse_dri(alloc, source))?,
+        "com" => answer_of(alloc, &parse_com(alloc, source))?,
+        "app" => answer_of(alloc, &parse_app(alloc, source, marker_of(alloc, text)?))?,
+        _ => return Ok(None),
+    }))
+}

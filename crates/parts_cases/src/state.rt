@@ -1,0 +1,68 @@
+//! What the calls of a case work on.
+
+use jpeg_bits::error::Result;
+use jpeg_bits::huffman::{HuffmanDecoder, HuffmanTable};
+use jpeg_bits::source::Source;
+use jpeg_segments::parser::{DefinedTables, FrameInfo};
+use std::alloc::Global;
+use test_streams::readers::Reader;
+
+/// The codes of a table: how many there are of each length, and their symbols.
+#[derive(Drop)]
+pub struct Codes {
+    /// The counts of the lengths 1 to 16.
+    pub counts: [u8; 16],
+    /// The symbols.
+    pub symbols: Vec<u8>,
+}
+
+/// What the calls of a case work on.
+#[derive(Drop)]
+pub struct State<'a> {
+    /// Where memory comes from.
+    pub alloc: Global,
+    /// Whether the look-up tables of values are filled. No answer depends on it.
+    pub is_wide: bool,
+    /// The case's bytes.
+    pub source: Source<Reader<'a>>,
+    /// The bits read ahead of them.
+    pub decoder: HuffmanDecoder,
+    /// The Huffman tables.
+    pub tables: DefinedTables,
+    /// The codes by which blocks and lossless scans are read.
+    pub codes: Codes,
+    /// The frame that was read last.
+    pub frame: Option<FrameInfo>,
+    /// The coefficients of a block, in block order.
+    pub block: [i16; 64],
+    /// The values of a quantization table, in block order.
+    pub values: [u16; 64],
+    /// The samples of a plane.
+    pub samples: Vec<u8>,
+}
+
+/// Returns four destinations without a table.
+fn no_tables(alloc: Global) -> Result<Vec<Option<HuffmanTable>>> {
+    Ok(Vec::from_array(alloc, [None, None, None, None])?)
+}
+
+impl<'a> State<'a> {
+    /// Returns what a case begins with: its bytes, and else nothing.
+    pub fn new(alloc: Global, reader: Reader<'a>, is_wide: bool) -> Result<State<'a>> {
+        Ok(State {
+            alloc,
+            is_wide,
+            source: Source::new(reader),
+            decoder: HuffmanDecoder::new(alloc),
+            tables: (no_tables(alloc)?, no_tables(alloc)?),
+            codes: Codes {
+                counts: [0; 16],
+                symbols: Vec::new(alloc),
+            },
+            frame: None,
+            block: [0; 64],
+            values: [1; 64],
+            samples: Vec::new(alloc),
+        })
+    }
+}

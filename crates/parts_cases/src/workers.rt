@@ -1,0 +1,198 @@
+//! Calls of `jpeg_pixels`: planes that are together, and planes that a worker makes row by row.
+ghost use Rattle.std.specs.Prelude.{◌≡◌, ◌≤◌, ◌∷◌, [], Some, None, length, map, replicate};
+ghost use Rattle.std.specs.Prelude.{◌*◌, IfOk, IfSome};
+ghost use Rattle.jpeg_segments.specs.Frame.{HasSampling};
+ghost use Rattle.jpeg_segments.specs.FrameView.{component_in};
+ghost use Rattle.jpeg_pixels.specs.JointPlanes.{HasFrameSizes, joint_row_size};
+ghost use Rattle.jpeg_pixels.specs.Workers.{work_of};
+
+use crate::words::{bytes, numbers, text_of_bytes};
+use anyhow::{Context, bail};
+use jpeg_bits::error::Error;
+use jpeg_pixels::joint_planes::{JointPlanes, JointShape, joint_shape};
+use jpeg_pixels::worker::{ImmediateWorker, RowData};
+use jpeg_segments::parser::{Component, Dimensions};
+use std::alloc::Global;
+
+/// Returns a component of two by four blocks, each of one sample, with these factors.
+fn component(horizontal: u8, vertical: u8) -> Component
+    ensures { component_in result ≡ record {
+      factors = record {
+        identifier = 1;
+        horizontal = horizontal;
+        vertical = vertical;
+        quantization = 0;
+      };
+      scale = 1;
+      width = 2;
+      height = 4;
+      blocks_wide = 2;
+      blocks_high = 4;
+    } }
+{
+    Component {
+        identifier: 1,
+        horizontal_sampling_factor: horizontal,
+        vertical_sampling_factor: vertical,
+        quantization_table_index: 0,
+        dct_scale: 1,
+        size: Dimensions {
+            width: 2,
+            height: 4,
+        },
+        block_size: Dimensions {
+            width: 2,
+            height: 4,
+        },
+    }
+}
+
+/// Returns the layout of three components with these horizontal factors.
+#[tactic(auto, unfolding(jpeg_segments::specs::Frame::AllHaveSampling))]
+fn shape_of(factors: [u8; 3], size: Dimensions, rows: u16) -> Option<JointShape>
+    ensures { IfSome result HasFrameSizes }
+{
+    let [first, second, third] = factors;
+    let (first, second, third) = (first.clamp(1, 4), second.clamp(1, 4), third.clamp(1, 4));
+    let components = [
+        component(first, 1),
+        component(second, 1),
+        component(third, 1),
+    ];
+    joint_shape(&components, size, rows)
+}
+
+/// Returns the layout of words `FIRST SECOND THIRD WIDTH HEIGHT ROWS`.
+fn shape(alloc: Global, text: &str) -> anyhow::Result<Option<JointShape>>
+    ensures { IfOk result (λ shape. IfSome shape HasFrameSizes) }
+{
+    let numbers = numbers(alloc, text)?;
+    let [first, second, third, width, height, rows] = numbers.as_slice() else {
+        bail!("expected six numbers");
+    };
+    let factors = [
+        u8::try_from(*first)?,
+        u8::try_from(*second)?,
+        u8::try_from(*third)?,
+    ];
+    if factors.iter().any(|factor| *factor < 1 || *factor > 4) {
+        bail!("expected factors of 1 to 4");
+    }
+    let size = Dimensions {
+        width: *width,
+        height: *height,
+    };
+    Ok(shape_of(factors, size, *rows))
+}
+
+/// Returns how many samples the planes of a layout have, or none where there are too many.
+fn room_of(shape: JointShape) -> Option<usize>
+    ensures { IfSome result (λ n. n ≡ shape.rows * joint_row_size shape) }
+{
+    let strip = shape.lines.checked_mul(shape.stride)?;
+    shape.rows.checked_mul(shape.count.checked_mul(strip)?)
+}
+
+/// Takes a plane out of a buffer, by words `SHAPE: SLOT: SAMPLES`.
+fn joint(alloc: Global, text: &str) -> anyhow::Result<String> {
+    let (words, text) = text.split_once(':').context("expected a colon")?;
+    let (slot, samples) = text.split_once(':').context("expected a colon")?;
+    let slot = slot.trim().parse::<usize>()?;
+    let samples = bytes(alloc, samples)?;
+    let Some(shape) = shape(alloc, words)? else {
+        bail!("expected components alike");
+    };
+    let room = room_of(shape).context("expected fewer samples")?;
+    if slot >= shape.count || samples.len() != room {
+        bail!("expected a slot, and the samples of all planes");
+    }
+    let mut joint = JointPlanes::new(alloc, shape)?;
+    joint.samples.extend_from_slice(&samples)?;
+    Ok(text_of_bytes(alloc, &joint.plane(alloc, slot)?)?)
+}
+
+/// Returns a row of four blocks, by the first coefficient of each.
+fn row_of(alloc: Global, firsts: [i16; 4]) -> Result<Vec<i16>, Error>
+    ensures { IfOk result (λ row. length row.items ≡ 256) }
+{
+    let mut row = vec![in alloc; 0i16; 256]?;
+    for index in 0..4 {
+        row[index * 64] = firsts[index];
+    }
+    Ok(row)
+}
+
+/// Returns a worker that makes the plane of a component at index 2, which comes by two rows of
+/// blocks.
+fn started(alloc: Global) -> Result<ImmediateWorker, Error>
+    ensures { IfOk result (λ worker. worker ≡ None ∷ None ∷ Some (work_of (record {
+      factors = record { identifier = 1; horizontal = 1; vertical = 2; quantization = 0 };
+      scale = 1;
+      width = 2;
+      height = 4;
+      blocks_wide = 2;
+      blocks_high = 4;
+    }) (replicate 64 4)) ∷ None ∷ []) }
+{
+    let mut worker = ImmediateWorker::default_in_memory(alloc)?;
+    worker.start(RowData {
+        index: 2,
+        component: component(1, 2),
+        quantization_table: [4; 64],
+    })?;
+    Ok(worker)
+}
+
+/// Makes half of a plane, and asks for three planes.
+fn half(alloc: Global, firsts: [i16; 4]) -> Result<[Vec<u8>; 3], Error> {
+    let mut worker = started(alloc)?;
+    worker.append_row((2, row_of(alloc, firsts)?))?;
+    let other = worker.get_result(1)?;
+    let plane = worker.get_result(2)?;
+    let again = worker.get_result(2)?;
+    Ok([other, plane, again])
+}
+
+/// Makes a whole plane by rows of an iterator.
+fn whole(alloc: Global, firsts: [i16; 4], seconds: [i16; 4]) -> Result<Vec<u8>, Error> {
+    let mut worker = started(alloc)?;
+    let first = row_of(alloc, firsts)?;
+    let second = row_of(alloc, seconds)?;
+    let rows = vec![in alloc; (2, first), (2, second)]?;
+    worker.append_rows(rows.into_iter())?;
+    worker.get_result(2)
+}
+
+/// Returns four coefficients of words.
+fn firsts(alloc: Global, text: &str) -> anyhow::Result<[i16; 4]> {
+    let numbers = numbers(alloc, text)?;
+    let [first, second, third, fourth] = numbers.as_slice() else {
+        bail!("expected four numbers");
+    };
+    Ok([
+        i16::try_from(*first)?,
+        i16::try_from(*second)?,
+        i16::try_from(*third)?,
+        i16::try_from(*fourth)?,
+    ])
+}
+
+/// Makes a plane by a worker, by words `FIRSTS` of one row, or `FIRSTS: FIRSTS` of two.
+fn worker(alloc: Global, text: &str) -> anyhow::Result<String> {
+    if let Some((first, second)) = text.split_once(':') {
+        let plane = whole(alloc, firsts(alloc, first)?, firsts(alloc, second)?)?;
+        return Ok(text_of_bytes(alloc, &plane)?);
+    }
+    let [other, plane, again] = half(alloc, firsts(alloc, text)?)?;
+    Ok(format!(in alloc; "{other:?}, {plane:?}, {again:?}")?)
+}
+
+/// Returns the answer to a call about planes, or none to another.
+pub fn answer(alloc: Global, verb: &str, text: &str) -> anyhow::Result<Option<String>> {
+    Ok(Some(match verb {
+        "shape" => format!(in alloc; "{:?}", shape(alloc, text)?)?,
+        "joint" => joint(alloc, text)?,
+        "worker" => worker(alloc, text)?,
+        _ => return Ok(None),
+    }))
+}
