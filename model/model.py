@@ -985,6 +985,7 @@ def decode(r, settings, st, trace):
             s8 = pick_scale(f, settings.scale)
             if trace is not None:
                 trace['info'] = info(f, s8)
+                trace['frame'], trace['header'] = f, (r.p, dict(st))
         elif m == 0xDA:
             if f is None:
                 raise fmt()

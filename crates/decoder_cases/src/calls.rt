@@ -1,0 +1,91 @@
+//! What a line of a case asks for, and the words for it.
+
+use anyhow::{Context, bail, ensure};
+use jpeg_decoder::ColorTransform;
+use std::str::SplitWhitespace;
+
+/// A call of a decoder.
+#[derive(Clone, Copy)]
+pub enum Call {
+    Transform(ColorTransform),
+    Limit(usize),
+    Header,
+    Scale(u16, u16),
+    Decode,
+    /// `decode`, where a refusal is answered by its whole text.
+    Refusal,
+    /// `decode_into`, with memory of this many bytes.
+    Into(usize),
+    Info,
+    Exif,
+    Xmp,
+    Icc,
+    Orientation,
+}
+
+/// What a line asks for.
+#[derive(Clone, Copy)]
+pub enum Request {
+    Call(Call),
+    /// How many bytes of the stream are still unread.
+    Rest,
+    /// `decode` of each shorter beginning of the stream, by decoders of their own.
+    Cuts,
+}
+
+/// Returns the colour transform of this name.
+fn transform_of(name: &str) -> anyhow::Result<ColorTransform> {
+    Ok(match name {
+        "None" => ColorTransform::None,
+        "Grayscale" => ColorTransform::Grayscale,
+        "RGB" => ColorTransform::RGB,
+        "YCbCr" => ColorTransform::YCbCr,
+        "CMYK" => ColorTransform::CMYK,
+        "YCCK" => ColorTransform::YCCK,
+        "JcsBgYcc" => ColorTransform::JcsBgYcc,
+        "JcsBgRgb" => ColorTransform::JcsBgRgb,
+        "Unknown" => ColorTransform::Unknown,
+        _ => bail!("unknown colour transform {name:?}"),
+    })
+}
+
+/// Returns the next of the words that a call takes.
+fn next_of<'a>(words: &mut SplitWhitespace<'a>) -> anyhow::Result<&'a str> {
+    words.next().context("too few words")
+}
+
+/// Returns the call of a word, which takes some of the words after it.
+fn call_of(word: &str, words: &mut SplitWhitespace<'_>) -> anyhow::Result<Call> {
+    Ok(match word {
+        "transform" => Call::Transform(transform_of(next_of(words)?)?),
+        "limit" => Call::Limit(next_of(words)?.parse::<usize>()?),
+        "header" => Call::Header,
+        "scale" => {
+            let width = next_of(words)?.parse::<u16>()?;
+            Call::Scale(width, next_of(words)?.parse::<u16>()?)
+        }
+        "decode" => Call::Decode,
+        "refusal" => Call::Refusal,
+        "into" => Call::Into(next_of(words)?.parse::<usize>()?),
+        "info" => Call::Info,
+        "exif" => Call::Exif,
+        "xmp" => Call::Xmp,
+        "icc" => Call::Icc,
+        "orientation" => Call::Orientation,
+        _ => bail!("unknown word {word:?}"),
+    })
+}
+
+impl Request {
+    /// Returns the request of a word and all that stands after it on its line.
+    pub fn new(word: &str, rest: &str) -> anyhow::Result<Request> {
+        let mut words = rest.split_whitespace();
+        let request = match word {
+            "rest" => Request::Rest,
+            "cuts" => Request::Cuts,
+            _ => Request::Call(call_of(word, &mut words)?),
+        };
+        ensure!(words.next().is_none(), "too many words after {word:?}");
+        Ok(request)
+    }
+}

@@ -1,0 +1,141 @@
+//! What a stream gives, in pieces of several sizes and by `run`.
+
+use crate::answers::answer;
+use crate::calls::{Call, Request};
+use crate::decoded::size_text;
+use jpeg_decoder::run::{report, run};
+use jpeg_decoder::{Decoder, Error};
+use std::alloc::{AllocError, Global};
+use test_streams::readers::{Counted, Counts, Reader, STEPS, Trouble};
+
+/// Returns a decoder of a stream whose reader gives at most `step` bytes a call, and counts them.
+fn decoder_of<'a>(
+    alloc: Global,
+    stream: &'a [u8],
+    step: usize,
+    counts: &'a Counts,
+) -> Result<Decoder<Counted<'a>>, Error> {
+    let reader = Reader::new(stream, step, usize::MAX, Trouble::Fails);
+    Decoder::new(alloc, Counted::new(reader, counts))
+}
+
+/// Returns the answer to `decode` alone.
+fn decoded_by(alloc: Global, stream: &[u8], step: usize) -> anyhow::Result<String> {
+    let counts = Counts::new();
+    let mut decoder = decoder_of(alloc, stream, step, &counts)?;
+    let answer = answer(alloc, &mut decoder, Call::Decode)?;
+    Ok(answer.unwrap_or(String::new(alloc)))
+}
+
+/// Returns the answers to `decode` of each shorter beginning, each with the length from which on
+/// it is the answer.
+fn cuts_by(alloc: Global, stream: &[u8], step: usize) -> anyhow::Result<String> {
+    let mut text = String::new(alloc);
+    let mut last = String::new(alloc);
+    for length in 0..stream.len() {
+        let answer = decoded_by(alloc, &stream[..length], step)?;
+        if answer.as_str() != last.as_str() {
+            let part = format!(in alloc; "from {length} bytes {answer}")?;
+            push_answer(&mut text, part.as_str())?;
+            last = answer;
+        }
+    }
+    Ok(text)
+}
+
+/// Appends an answer after those before it.
+fn push_answer(text: &mut String, answer: &str) -> Result<(), AllocError> {
+    if !text.is_empty() {
+        text.push_str("; ")?;
+    }
+    text.push_str(answer)?;
+    Ok(())
+}
+
+/// Returns the answers of one decoder, whose reader gives at most `step` bytes a call.
+fn answers_by(
+    alloc: Global,
+    stream: &[u8],
+    requests: &[Request],
+    step: usize,
+) -> anyhow::Result<String> {
+    let counts = Counts::new();
+    let mut decoder = decoder_of(alloc, stream, step, &counts)?;
+    let mut text = String::new(alloc);
+    for request in requests {
+        let answered = match *request {
+            Request::Call(call) => answer(alloc, &mut decoder, call)?,
+            Request::Rest => {
+                let left = stream.len().saturating_sub(counts.given.get());
+                Some(format!(in alloc; "{left}")?)
+            }
+            Request::Cuts => Some(cuts_by(alloc, stream, step)?),
+        };
+        if let Some(answer) = answered {
+            push_answer(&mut text, answer.as_str())?;
+        }
+    }
+    Ok(text)
+}
+
+/// Returns whether `run` wrote a header line and the pixels after it.
+fn is_written(written: &[u8], header: &str, pixels: &[u8]) -> bool {
+    match written.strip_prefix(header.as_bytes()) {
+        Some([b'\n', rest @ ..]) => rest == pixels,
+        _ => false,
+    }
+}
+
+/// Returns whether `run` writes what a decoder returns, and `report` the text of its refusal.
+fn runs_alike(alloc: Global, stream: &[u8]) -> anyhow::Result<bool> {
+    let mut decoder = Decoder::new(alloc, stream)?;
+    let answer = decoder.decode();
+    let mut written = Vec::new(alloc);
+    let outcome = run(alloc, stream, &mut written);
+    let mut line = Vec::new(alloc);
+    let status = report(alloc, &outcome, &mut line);
+    match answer {
+        Ok(picture) => {
+            let header = size_text(alloc, decoder.info())?;
+            let is_same = is_written(&written, header.as_str(), &picture);
+            Ok(is_same && status == 0 && line.is_empty())
+        }
+        Err(error) => {
+            let text = format!(in alloc; "jpegraw: {error}\n")?;
+            let is_same = line.as_slice() == text.as_bytes();
+            Ok(is_same && status == 1 && written.is_empty())
+        }
+    }
+}
+
+/// Returns whether `run` does what a decoder does of which `decode` is asked first, of the stream
+/// or of each shorter beginning.
+fn runs_as_asked(alloc: Global, stream: &[u8], requests: &[Request]) -> anyhow::Result<bool> {
+    match requests.first() {
+        Some(Request::Call(Call::Decode | Call::Refusal)) => runs_alike(alloc, stream),
+        Some(Request::Cuts) => {
+            for length in 0..stream.len() {
+                if !runs_alike(alloc, &stream[..length])? {
+                    return Ok(false);
+                }
+            }
+            Ok(true)
+        }
+        _ => Ok(true),
+    }
+}
+
+/// Returns the answers to requests of a stream, or where they are wrong.
+pub fn answers(alloc: Global, stream: &[u8], requests: &[Request]) -> anyhow::Result<String> {
+    let whole = answers_by(alloc, stream, requests, usize::MAX)?;
+    for step in STEPS {
+        let other = answers_by(alloc, stream, requests, step)?;
+        if other.as_str() != whole.as_str() {
+            return Ok(format!(in alloc; "WRONG in pieces of {step}")?);
+        }
+    }
+    if !runs_as_asked(alloc, stream, requests)? {
+        return Ok(String::from_str(alloc, "WRONG by run")?);
+    }
+    Ok(whole)
+}
