@@ -194,6 +194,13 @@ class Decoder:
         self.settings.scale = int(width), int(height)
         return [self.size().rpartition(' ')[0]]
 
+    def at(self, part):
+        refusal = self.read_header()
+        if refusal:
+            return refusal
+        self.settings.scale = {'1/8': 1, '1/4': 2, '1/2': 4, '1': 8}[part]
+        return [self.size().rpartition(' ')[0]]
+
     def decode(self):
         picture = self.picture()
         return picture if isinstance(picture, list) else [self.size() + self.words(picture)]

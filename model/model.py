@@ -98,7 +98,7 @@ class Settings:
     def __init__(self, transform=None, limit=2**64 - 1, scale=None, equal_factors=False):
         self.transform = transform  # None, or one of the names of ColorTransform
         self.limit = limit
-        self.scale = scale  # None, or (requested_width, requested_height)
+        self.scale = scale  # None, (requested_width, requested_height), or 1, 2, 4 or 8
         self.equal_factors = (
             equal_factors  # True: lossless scans ignore factors (the rule before the change)
         )
@@ -896,8 +896,11 @@ def info(f, s):
 
 
 def pick_scale(f, want):
+    """The scale of a frame for a requested (width, height), or for one of 1, 2, 4 and 8 itself."""
     if want is None or f.process == 'lossless':
         return 8
+    if isinstance(want, int):
+        return want
     for s in (1, 2, 4):
         if ceil_div(f.w * s, 8) >= want[0] or ceil_div(f.h * s, 8) >= want[1]:
             return s

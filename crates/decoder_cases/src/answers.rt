@@ -62,14 +62,9 @@ fn header(alloc: Global, decoder: &mut Decoder<Counted<'_>>) -> Result<String, A
     }
 }
 
-/// Returns the answer to `scale`.
-fn scale(
-    alloc: Global,
-    decoder: &mut Decoder<Counted<'_>>,
-    width: u16,
-    height: u16,
-) -> Result<String, AllocError> {
-    match decoder.scale(width, height) {
+/// Returns the words for the answer to `scale` or `set_scale`.
+fn scaled_text(alloc: Global, answer: Result<(u16, u16), Error>) -> Result<String, AllocError> {
+    match answer {
         Ok((width, height)) => format!(in alloc; "{width} {height}"),
         Err(error) => refusal_text(alloc, &error, false),
     }
@@ -143,7 +138,8 @@ pub fn answer(
             return Ok(None);
         }
         Call::Header => header(alloc, decoder),
-        Call::Scale(width, height) => scale(alloc, decoder, width, height),
+        Call::Scale(width, height) => scaled_text(alloc, decoder.scale(width, height)),
+        Call::At(scale) => scaled_text(alloc, decoder.set_scale(scale)),
         Call::Decode => decode(alloc, decoder, false),
         Call::Refusal => decode(alloc, decoder, true),
         Call::Into(size) => decode_into(alloc, decoder, size),

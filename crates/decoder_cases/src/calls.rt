@@ -1,7 +1,7 @@
 //! What a line of a case asks for, and the words for it.
 
 use anyhow::{Context, bail, ensure};
-use jpeg_decoder::ColorTransform;
+use jpeg_decoder::{ColorTransform, Scale};
 use std::str::SplitWhitespace;
 
 /// A call of a decoder.
@@ -11,6 +11,8 @@ pub enum Call {
     Limit(usize),
     Header,
     Scale(u16, u16),
+    /// `set_scale`.
+    At(Scale),
     Decode,
     /// `decode`, where a refusal is answered by its whole text.
     Refusal,
@@ -49,6 +51,17 @@ fn transform_of(name: &str) -> anyhow::Result<ColorTransform> {
     })
 }
 
+/// Returns the scale that a part of the size is.
+fn scale_of(part: &str) -> anyhow::Result<Scale> {
+    Ok(match part {
+        "1/8" => Scale::Eighth,
+        "1/4" => Scale::Quarter,
+        "1/2" => Scale::Half,
+        "1" => Scale::Full,
+        _ => bail!("unknown scale {part:?}"),
+    })
+}
+
 /// Returns the next of the words that a call takes.
 fn next_of<'a>(words: &mut SplitWhitespace<'a>) -> anyhow::Result<&'a str> {
     words.next().context("too few words")
@@ -64,6 +77,7 @@ fn call_of(word: &str, words: &mut SplitWhitespace<'_>) -> anyhow::Result<Call> 
             let width = next_of(words)?.parse::<u16>()?;
             Call::Scale(width, next_of(words)?.parse::<u16>()?)
         }
+        "at" => Call::At(scale_of(next_of(words)?)?),
         "decode" => Call::Decode,
         "refusal" => Call::Refusal,
         "into" => Call::Into(next_of(words)?.parse::<usize>()?),

@@ -47,11 +47,13 @@ pub fn picture_text(
     format!(in alloc; "{size}{words}")
 }
 
-/// Returns the words for a refusal: the error's text, or of a broken rule its kind alone unless the
-/// whole text is wanted.
+/// Returns the words for a refusal: the error's text, or of a broken rule that is named its kind
+/// alone unless the whole text is wanted.
 pub fn refusal_text(alloc: Global, error: &Error, is_whole: bool) -> Result<String, AllocError> {
     match error {
-        Error::Format(_) if !is_whole => String::from_str(alloc, "refused: invalid JPEG format"),
+        Error::Format(text) if !is_whole && !text.is_empty() => {
+            String::from_str(alloc, "refused: invalid JPEG format")
+        }
         _ => format!(in alloc; "refused: {error}"),
     }
 }

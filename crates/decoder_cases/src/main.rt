@@ -14,6 +14,7 @@
 //!     limit SAMPLES        `set_max_decoding_buffer_size`
 //!     header               `read_info`: `ok`
 //!     scale WIDTH HEIGHT   `scale`: the size of the picture
+//!     at 1/8, 1/4, 1/2, 1  `set_scale`: the size of the picture
 //!     decode               `decode`: the line that `run` writes before the pixels, and the pixels
 //!     refusal              `decode`, where a refusal is answered by its whole text
 //!     into BYTES           `decode_into`, with memory of that many bytes, each 07: how many were
