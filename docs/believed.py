@@ -4,7 +4,8 @@
     docs/believed.py            counts and names by file
     docs/believed.py --table    the generated part of docs/DESIGN.md
     docs/believed.py --shared   that of docs/SHARED.md: what writer, reader and picture share
-    docs/believed.py --check    fails with a diff where a page differs from what this computes
+    docs/believed.py --check    fails with a diff where a page differs from what this computes, or
+                                where what is written rests on what a reader answers
     docs/believed.py --write    writes both parts into the pages
 
 It goes by names: a definition reaches each name of its text that its file defines or imports, a
@@ -58,6 +59,13 @@ READER = [
 PICTURE = [
     "jpeg_streams.ArrayPictures.picture_of_array",
     "jpeg_streams.WrittenLossless.picture_of_samples",
+]
+# What is answered by a definition that reads bytes, or that looks something up and may not find it.
+# What is written rests on none: else a reader that refused more would make streams fewer.
+ANSWERS = {"Outcome", "Reads", "Result", "Fault"}
+APART = [
+    "Nothing that is written rests on a definition that reads bytes, or that looks something up",
+    "and may not find it (none names " + ", ".join(f"`{word}`" for word in sorted(ANSWERS)) + ").",
 ]
 BEGIN, END = "<!-- docs/believed.py: begin -->", "<!-- docs/believed.py: end -->"
 
@@ -224,6 +232,12 @@ def table(specs):
         yield from textwrap.wrap(item, 100, subsequent_indent="  ") if others else []
 
 
+def answering(specs):
+    """The definitions under what is written that answer as a reader does."""
+    words = {key: set(re.findall(r"\w+", specs.text[key])) for key in specs.under(WRITER)}
+    return [".".join((*file, name)) for (file, name), named in words.items() if ANSWERS & named]
+
+
 def shared(specs):
     """The generated part of docs/SHARED.md."""
     reader = specs.under(READER)
@@ -237,7 +251,7 @@ def shared(specs):
         for file, (names, lines) in specs.by_file(both).items():
             listed = ", ".join(f"`{name}`" for name in names)
             yield f"| {file[0]} `{file[1]}` | {specs.says[file]} | {listed} | {lines} |"
-        yield from [""] if what != "The picture" else []
+        yield from ["", *APART, ""] if what != "The picture" else []
 
 
 def listing(specs):
@@ -255,6 +269,8 @@ def main(choice):
         return
     if choice not in ("--check", "--write"):
         sys.exit(__doc__)
+    if answering(specs):
+        sys.exit("what is written rests on what a reader answers: " + ", ".join(answering(specs)))
     for page, part in [("docs/DESIGN.md", table(specs)), ("docs/SHARED.md", shared(specs))]:
         old = (ROOT / page).read_text("utf8")
         new = "\n".join([old.split(BEGIN)[0] + BEGIN, *part, "", END + old.split(END)[1]])

@@ -3,10 +3,11 @@
 #![tactic(auto, using(crate::proofs::Rules::images))]
 
 ghost use Rattle.std.specs.Prelude.{◌≡◌, ℕ, ◌≤◌, [], ◌∷◌, ◌++◌, length, List, Some, Ok, false};
-ghost use Rattle.std.specs.Prelude.{true, option_map};
+ghost use Rattle.std.specs.Prelude.{true, map, option_map};
 ghost use Rattle.std.specs.List.{AllByRecursion};
 ghost use Rattle.jpeg_bits.specs.Passes.{Block};
 ghost use Rattle.jpeg_segments.specs.Frame.{Frame};
+ghost use Rattle.jpeg_segments.specs.ScanHeaders.{ScanHeader, scan_written};
 ghost use Rattle.jpeg_segments.specs.declared.scale.Scale.{Scale};
 ghost use Rattle.jpeg_segments.specs.WrittenSegments.{FrameHeader, IsFrameHeader, frame_written};
 ghost use Rattle.jpeg_streams.specs.Output.{default_settings, header_line_of, output_of};
@@ -18,15 +19,19 @@ ghost use Rattle.jpeg_streams.specs.ArrayPictures.{TakesPicture};
 ghost use Rattle.jpeg_streams.specs.Levels.{Is8Bit, Levels, cut, nothing_sent};
 ghost use Rattle.jpeg_streams.specs.Stream.{meaning, scaled_meaning, scaled_to, sized_meaning};
 ghost use Rattle.jpeg_streams.specs.Stream.{sized_to, told_of};
-ghost use Rattle.jpeg_streams.specs.ScanSegments.{is_progressive};
+ghost use Rattle.jpeg_streams.specs.FrameSamples.{AreBytes};
+ghost use Rattle.jpeg_streams.specs.ScanSegments.{Coding, is_progressive, pass_of};
+ghost use Rattle.jpeg_streams.specs.Scripts.{IsScript, IsWrittenUnder, ScriptedScan, Suffices};
 ghost use Rattle.jpeg_streams.specs.Found.{nothing_said, Said};
 ghost use Rattle.jpeg_streams.specs.WholeImages.{AllComplete, whole_meaning};
 ghost use Rattle.jpeg_streams.specs.WorkedImages.{IsWhollyWritten, grey_array, grey_bytes};
 ghost use Rattle.jpeg_streams.specs.WorkedImages.{colour_array, colour_bytes};
-ghost use Rattle.jpeg_streams.specs.WrittenImages.{ClosesImage, WritesImage, WritesPart};
+ghost use Rattle.jpeg_streams.specs.WrittenImages.{ClosesImage, WritesImage, WritesImageScan};
+ghost use Rattle.jpeg_streams.specs.WrittenImages.{WritesPart};
 ghost use Rattle.jpeg_streams.specs.WrittenParts.{AgreeOnOwn, HaveSamePicture, WritesFront};
 ghost use Rattle.jpeg_streams.specs.WrittenParts.{picture_meant_by};
 ghost use Rattle.jpeg_streams.specs.WrittenScans.{Coefficients, HasTable, IsComplete};
+ghost use Rattle.jpeg_streams.specs.WrittenScans.{IsLegalScan, levels_after};
 ghost use Rattle.jpeg_streams.specs.declared.settings.Settings.{Settings};
 
 /// A stream that is written for the coefficients of 8-bit samples means the picture of those
@@ -211,12 +216,37 @@ pub fn frames_are_accepted()
         accepted (frame_written number h) ≡ Ok (frame_written number h) → HasPicture h }
 {}
 
-/// There is a stream for every image: the coefficients of 8-bit samples in any frame of SOF0, SOF1
-/// or SOF2 that is accepted have one that sends every bit.
+/// There is a stream for every image: the coefficients of 8-bit samples have one that sends every
+/// bit, in each frame of SOF0, SOF1 or SOF2 that has a picture.
 pub fn every_image_has_a_stream()
     ensures { (number : ℕ) (h : FrameHeader) (array : Coefficients) →
-        number ≤ 2 → IsFrameHeader number h →
-        accepted (frame_written number h) ≡ Ok (frame_written number h) →
+        number ≤ 2 → IsFrameHeader number h → HasPicture h →
         ((index row column : ℕ) → Is8Bit (array index row column)) →
         (bytes : List ℕ) × IsWhollyWritten array bytes }
+{}
+
+/// Each script has a stream. Scans of one or several components, of any bands, levels and
+/// destinations of tables, and under any restart intervals, in any order in which each component
+/// allows each of its scans (`IsScript` says so coefficient by coefficient), are those of some
+/// stream, for all coefficients of 8-bit samples and in each frame of SOF0, SOF1 or SOF2 that has a
+/// picture. It is of bytes where the header's parameters fit their fields.
+pub fn every_script_has_a_stream()
+    ensures { (number : ℕ) (h : FrameHeader) (script : List ScriptedScan) (array : Coefficients) →
+        number ≤ 2 → IsFrameHeader number h → HasPicture h →
+        IsScript (frame_written number h) script →
+        ((index row column : ℕ) → Is8Bit (array index row column)) →
+        (bytes : List ℕ) × IsWrittenUnder number h script array bytes }
+{}
+
+/// Each legal scan has data by any tables that suffice, wherever it stands in a stream and under
+/// any restart interval: by tables that have a code for each symbol that 8-bit samples may need.
+pub fn legal_scans_have_data()
+    ensures { (said : Said) (frame : Frame) (levels : ℕ → Levels) (h : ScanHeader)
+        (codings : List Coding) (array : Coefficients) →
+        ((index row column : ℕ) → Is8Bit (array index row column)) →
+        IsLegalScan said frame levels (scan_written frame h) codings →
+        AllByRecursion (Suffices (pass_of (scan_written frame h))) codings →
+        (bytes : List ℕ) × WritesImageScan array said levels frame h bytes
+        (levels_after (pass_of (scan_written frame h)) (map (λ c. c.index) codings) levels)
+        × AreBytes bytes }
 {}

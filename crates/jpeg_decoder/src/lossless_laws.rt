@@ -123,12 +123,12 @@ pub fn lossless_frames_are_accepted()
         accepted (frame_written 3 h) ≡ Ok (frame_written 3 h) → HasSamples 3 h }
 {}
 
-/// There is a stream for every picture of samples: in each lossless frame that is accepted, of 2 to
-/// 16 bits and of any factors, samples of the components' sizes and of that precision have one.
+/// There is a stream for every picture of samples: in each lossless frame that may have samples, of
+/// 2 to 16 bits and of any factors, samples of the components' sizes and of that precision have
+/// one.
 pub fn every_picture_of_samples_has_a_stream()
     ensures { (h : FrameHeader) (samples : Samples) →
-        IsFrameHeader 3 h → accepted (frame_written 3 h) ≡ Ok (frame_written 3 h) →
-        AreSamplesOf (frame_written 3 h) samples →
+        IsFrameHeader 3 h → HasSamples 3 h → AreSamplesOf (frame_written 3 h) samples →
         (bytes : List ℕ) × AreWrittenIn h samples bytes }
 {}
 

@@ -42,7 +42,8 @@ use Rattle.jpeg_streams.specs.Order.{grid_of, mcu_size, own_spots, Spot, spots_o
 use Rattle.jpeg_streams.specs.SaidSegments.{said_after}
 use Rattle.jpeg_streams.specs.Scans.{no_table, via_at, turns_of}
 use Rattle.jpeg_streams.specs.ScanSegments.{vias_from, Coding, codings_of, component_coding, pass_of, tables_of}
-use Rattle.jpeg_streams.specs.Segments.{accepted, updated}
+use Rattle.jpeg_streams.specs.AcceptedFrames.{HasPicture}
+use Rattle.jpeg_streams.specs.Segments.{updated}
 use Rattle.jpeg_streams.specs.Found.{nothing_said, Said}
 use Rattle.jpeg_streams.specs.WorkedImages.{IsWhollyWritten}
 use Rattle.jpeg_bits.specs.Written.WritesIntervals.{last as last_interval}
@@ -57,7 +58,6 @@ use Rattle.jpeg_streams.proofs.WrittenFrameScans.{start-predicts}
 use Rattle.jpeg_streams.proofs.WholeImages.{floor-whole, toward-whole}
 use Rattle.jpeg_bits.proofs.ReadIntervals.{all-again, all-append, all-map}
 use Rattle.jpeg_streams.proofs.CodingsInForce.{found-codings}
-use Rattle.jpeg_streams.proofs.DecodedHeaders.{accepted-decoded}
 use Rattle.jpeg_streams.proofs.ReadTurns.{then-ok}
 
 -- ---- tables
@@ -78,7 +78,7 @@ flat_counts = replicate 7 0 ++ 255 ∷ replicate 8 0
 abbrev pub flat_table : HuffmanTableClass → Table
 flat_table class = record { class = class; counts = flat_counts; symbols = range_with_len 0 255 }
 
-flat-coded : (class : HuffmanTableClass) (symbol : ℕ) → symbol < 255
+pub flat-coded : (class : HuffmanTableClass) (symbol : ℕ) → symbol < 255
     → IsCoded (flat_table class) symbol (code_bits (flat_table class) symbol)
 unfolding lengths_from
 flat-coded class symbol h = grind (arith, get_or-range_with_len 0 255 symbol 0 h)
@@ -135,7 +135,7 @@ zeros-written zero z u more le ne small w = search (rules, zeros-step, cases_lt)
 zeros-written (suc n) z u more le ne small w =
     zeros-step z u more ne small w (cases_lt z 16) (λ far. zeros-written n (z - 16) u more (omega arith) ne small w)
 
-zeros-shift : (z : ℕ) (us : List ℤ) → no_numbers (suc z) ++ us ≡ no_numbers z ++ pos 0 ∷ us
+pub zeros-shift : (z : ℕ) (us : List ℤ) → no_numbers (suc z) ++ us ≡ no_numbers z ++ pos 0 ∷ us
 zeros-shift zero us = refl
 zeros-shift (suc z) us = ap (λ (l : List ℤ). pos 0 ∷ l) (zeros-shift z us)
 
@@ -175,7 +175,7 @@ pub record BlockBits (p : Pass) (t : Via × Block) (prediction : ℤ) : Type 0 w
 abbrev pub Each : Pass → (Via × Block → Type 0) → Type 0
 Each p Good = (t : Via × Block) → Good t → (prediction : ℤ) → InDcRange prediction → BlockBits p t prediction
 
-blocks-written : (p : Pass) (Good : Via × Block → Type 0) → Each p Good → (ps : List ℤ) (turns : List (Via × Block))
+pub blocks-written : (p : Pass) (Good : Via × Block → Type 0) → Each p Good → (ps : List ℤ) (turns : List (Via × Block))
     → Predicts ps → AllByRecursion Good turns → (b : List Bool) × WritesBlocks p ps 0 turns b
 blocks-written p Good each ps [] ranged good = ([], done ps)
 blocks-written p Good each ps (t ∷ turns) ranged good =
@@ -330,7 +330,7 @@ interval-written p Good each turns good =
 -- ---- what is written
 
 -- the block of a spot, if it is of this component
-abbrev own_block : Coding → Coefficients → Spot → Block
+abbrev pub own_block : Coding → Coefficients → Spot → Block
 own_block k array s = array k.index (s.index / k.component.blocks_wide) (s.index % k.component.blocks_wide)
 
 lone-own : (k : Coding) (array : Coefficients) (s : Spot) (c : Coding) → slice_get (k ∷ []) s.slot ≡ Some c
@@ -345,10 +345,10 @@ lone-own k array s c e = ap (λ (x : Coding). own_block x array s) (lone s.slot 
 abbrev table_of_one : ℕ → ℕ → QuantizationTable
 table_of_one index v = record { precision = 0; destination = index; values = replicate 64 v }
 
-one-quantizes : (index v : ℕ) → index ≤ 3 → 0 < v → IsQuantizationTable (table_of_one index v)
+pub one-quantizes : (index v : ℕ) → index ≤ 3 → 0 < v → IsQuantizationTable (table_of_one index v)
 one-quantizes index v h k = search (rules, all-again)
 
-abbrev all_ones : List QuantizationTable
+abbrev pub all_ones : List QuantizationTable
 all_ones = table_of_one 0 1 ∷ table_of_one 1 1 ∷ table_of_one 2 1 ∷ table_of_one 3 1 ∷ []
 
 abbrev flat_tables : List DefinedTable
@@ -441,16 +441,16 @@ header_of kind index c = lone_header (from_for kind) (to_for kind) index c
 
 -- ---- the blocks of a scan
 
-each-map : {A B : Type 0} (P : B → Type 0) (f : A → B) (xs : List A) → ((x : A) → P (f x)) → AllByRecursion P (map f xs)
+pub each-map : {A B : Type 0} (P : B → Type 0) (f : A → B) (xs : List A) → ((x : A) → P (f x)) → AllByRecursion P (map f xs)
 each-map P f [] h = tt
 each-map P f (x ∷ xs) h = (h x, each-map P f xs h)
 
-each-flat : {A B : Type 0} (P : B → Type 0) (f : A → List B) (xs : List A) → ((x : A) → AllByRecursion P (f x))
+pub each-flat : {A B : Type 0} (P : B → Type 0) (f : A → List B) (xs : List A) → ((x : A) → AllByRecursion P (f x))
     → AllByRecursion P (flat_map f xs)
 each-flat P f [] h = tt
 each-flat P f (x ∷ xs) h = all-append P (f x) (flat_map f xs) (h x) (each-flat P f xs h)
 
-own-slots : (g : Grid) → AllByRecursion (λ s. s.slot ≡ 0) (own_spots g)
+pub own-slots : (g : Grid) → AllByRecursion (λ s. s.slot ≡ 0) (own_spots g)
 unfolding own_spots
 own-slots g = search (rules, each-flat, each-map)
 
@@ -550,7 +550,7 @@ table-at : (number : ℕ) (h : FrameHeader) (scanned : Bool) (index : ℕ) → i
 unfolding nothing_said updated
 table-at number h scanned index le = search rules
 
-index-low : (number index : ℕ) → number ≤ 2 → is_destination (is_lossless_number number) index ≡
+pub index-low : (number index : ℕ) → number ≤ 2 → is_destination (is_lossless_number number) index ≡
     true → index ≤ 3
 index-low (suc (suc (suc number))) index le e = absurd (omega arith)
 index-low number index le e = leb-true index 3 e
@@ -765,11 +765,11 @@ front_bytes number h more = marker 0 219 (with_length (payload_of (Quantization 
     flat_tables)) ++ more)))
 
 pub image-written : (number : ℕ) (h : FrameHeader) (array : Coefficients) → number ≤ 2 →
-    IsFrameHeader number h → accepted (frame_written number h) ≡ Ok (frame_written number h)
+    IsFrameHeader number h → HasPicture h
     → ((index row column : ℕ) → Is8Bit (array index row column)) → (bytes : List ℕ) ×
     IsWhollyWritten array bytes
 unfolding nothing_said frame_of codes_exist lengths_from code_value
-image-written number h array le is ok range =
+image-written number h array le is has range =
     let r = scans-written number h array h.components []
     (λ k. nothing_sent) false le (each-steps number h array le is range) is.components refl is.components
     (record { sent = λ j lt. absurd (omega arith); unsent = λ j low. refl }) (search rules) in
@@ -785,7 +785,7 @@ image-written number h array le is ok range =
           written =
               segment nothing_said (said number h true) (λ k. nothing_sent) r.1 0 (Quantization all_ones) _
               (search (rules, one-quantizes)) refl (
-              segment said_1 (said number h true) (λ k. nothing_sent) r.1 0 (Header number h) _ ((refl, is), accepted-decoded number h is.numbered ok)
+              segment said_1 (said number h true) (λ k. nothing_sent) r.1 0 (Header number h) _ ((refl, is), inl (le, has))
               (omega arith) (
               segment (said_2 number h) (said number h true) (λ k. nothing_sent) r.1 0 (Huffman flat_tables) _
               ((table-by _ _ (omega arith) refl, (table-by _ _ (omega arith) refl, tt)), tt) tt r.2));

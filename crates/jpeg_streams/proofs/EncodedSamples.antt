@@ -44,11 +44,10 @@ use Rattle.jpeg_bits.specs.DefaultTables.{names}
 use Rattle.jpeg_streams.specs.LosslessScans.{LosslessCoding, lossless_coding, lossless_codings}
 use Rattle.jpeg_streams.specs.LosslessScans.{mcus_across, mcus_down, parts_of}
 use Rattle.jpeg_streams.specs.SaidSegments.{said_after}
-use Rattle.jpeg_streams.specs.Segments.{updated, accepted}
+use Rattle.jpeg_streams.specs.Segments.{updated}
 use Rattle.jpeg_streams.specs.WrittenLossless.{HoldSamples, own_lines, Samples, WritesSamplesScan}
 use Rattle.jpeg_streams.specs.WrittenLossless.{ClosesSamples, IsLossless, SendsSamples}
 use Rattle.jpeg_streams.specs.WrittenStreams.{end, scan, segment, Writes}
-use Rattle.jpeg_streams.proofs.AcceptedSamples.{accepted-samples}
 use Rattle.jpeg_streams.proofs.CodingsInForce.{found-samples}
 use Rattle.jpeg_streams.proofs.EncodedImages.{category-at_most, packed, interval-packed, table-by, component_in}
 use Rattle.jpeg_streams.proofs.EncodedImages.{component-at, in-range, lone_header, lone-written}
@@ -232,34 +231,34 @@ are-wide bound n (l ∷ lines) h = (h.0.0, are-wide bound n lines h.1)
 
 -- ---- bytes
 
-stuffed-bytes : (bytes : List ℕ) → AreBytes bytes → AreBytes (stuffed bytes)
+pub stuffed-bytes : (bytes : List ℕ) → AreBytes bytes → AreBytes (stuffed bytes)
 unfolding stuffed
 stuffed-bytes [] h = tt
 stuffed-bytes (b ∷ bytes) h = search (rules, stuffed-bytes bytes h.1)
 
-u16-bytes : (n : ℕ) → n < 65536 → AreBytes (u16_bytes n)
+pub u16-bytes : (n : ℕ) → n < 65536 → AreBytes (u16_bytes n)
 u16-bytes n h = (omega arith, (omega arith, tt))
 
 -- a segment of bytes
-sized-bytes : (payload : List ℕ) → length payload + 2 < 65536 → AreBytes payload → AreBytes
+pub sized-bytes : (payload : List ℕ) → length payload + 2 < 65536 → AreBytes payload → AreBytes
     (with_length payload)
 sized-bytes payload h k = all-append (λ b. b < 256) (u16_bytes (length payload + 2)) payload (u16-bytes (length payload + 2) h) k
 
-marked-bytes : (code : ℕ) (bytes : List ℕ) → code < 256 → AreBytes bytes → AreBytes (marker 0 code bytes)
+pub marked-bytes : (code : ℕ) (bytes : List ℕ) → code < 256 → AreBytes bytes → AreBytes (marker 0 code bytes)
 marked-bytes code bytes h k = (omega arith, (h, k))
 
-factors-length : (cs : List Factors) → length (flat_map factors_bytes cs) ≡ 3 * length cs
+pub factors-length : (cs : List Factors) → length (flat_map factors_bytes cs) ≡ 3 * length cs
 factors-length [] = refl
 factors-length (c ∷ cs) = search (rules, length-append, factors-length cs)
 
-components-bytes : (front cs : List Factors) → AreComponents 3 front cs → AllByRecursion (λ c. c.identifier < 256) cs
+pub components-bytes : (front cs : List Factors) → AreComponents 3 front cs → AllByRecursion (λ c. c.identifier < 256) cs
     → AreBytes (flat_map factors_bytes cs)
 unfolding AreComponents
 components-bytes front [] are low = tt
 components-bytes front (c ∷ cs) are low =
     search (rules, eqb-true, all-append, components-bytes (front ++ c ∷ []) cs are.1 low.1)
 
-tested-bytes : (bytes : List ℕ) → list_all (λ b. nat_lt b 256) bytes ≡ true → AreBytes bytes
+pub tested-bytes : (bytes : List ℕ) → list_all (λ b. nat_lt b 256) bytes ≡ true → AreBytes bytes
 tested-bytes [] h = tt
 tested-bytes (b ∷ bytes) h = search (rules, and_parts, ltb-true, tested-bytes bytes)
 
@@ -408,12 +407,10 @@ front_bytes h more =
     marker 0 195 (with_length (payload_of (Header 3 h)) ++ marker 0 196 (with_length (payload_of
     (Huffman even_tables)) ++ more))
 
-pub samples-written : (h : FrameHeader) (samples : Samples) → IsFrameHeader 3 h
-    → accepted (frame_written 3 h) ≡ Ok (frame_written 3 h)
+pub samples-written : (h : FrameHeader) (samples : Samples) → IsFrameHeader 3 h → HasSamples 3 h
     → AreSamplesOf (frame_written 3 h) samples → (bytes : List ℕ) × AreWrittenIn h samples bytes
 unfolding nothing_said frame_of codes_exist lengths_from code_value huffman_bytes frame_payload
-samples-written h samples is ok all =
-    let p = accepted-samples h ok in
+samples-written h samples is p all =
     let r = scans-written h samples h.components [] (said h) [] p all (said-ready h) refl is.components
     (λ j lt. absurd (omega arith)) in (
       255 ∷ 216 ∷ front_bytes h r.0,

@@ -37,6 +37,9 @@ pub mod SaidTables
 pub mod LosslessSizes
 pub mod AcceptedSamples
 pub mod EncodedSamples
+pub mod EncodedData
+pub mod ScriptLevels
+pub mod EncodedScripts
 pub mod PaddingUnseen
 pub mod SamplesAlike
 pub mod PlainScans

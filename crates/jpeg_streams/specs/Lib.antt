@@ -32,6 +32,7 @@ pub mod FrameSamples
 pub mod DecodedSamples
 -- what laws on written streams say beside that
 pub mod WrittenParts
+pub mod Scripts
 -- what a decoder's state is sure to be
 pub mod Sound
 -- streams worked by hand
