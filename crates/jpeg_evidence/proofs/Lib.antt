@@ -13,4 +13,6 @@ pub mod TakenTurns
 pub mod TakenRefinements
 pub mod TakenScans
 pub mod ReadScans
+pub mod Rules
+pub mod HeaderRules
 pub mod OnLiterals

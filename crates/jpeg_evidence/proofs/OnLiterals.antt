@@ -7,6 +7,7 @@ use Rattle.jpeg_segments.specs.Frame.{component_of, frame_of}
 use Rattle.jpeg_segments.specs.Scales.{component_at, frame_at}
 use Rattle.jpeg_streams.specs.ColourChoice.{by_identifiers, transform_of}
 use Rattle.jpeg_streams.proofs.OnLiterals.{samples_on_literals, streams_on_literals}
+use Rattle.jpeg_streams.specs.Profile.{profile_of}
 use Rattle.jpeg_evidence.specs.Cosines.{cosine, is_entry, are_entries}
 
 unfoldable pub files_on_literals : ⊤
@@ -32,3 +33,7 @@ pixels_on_literals = tt
 unfoldable pub predictions_on_literals : ⊤
 unfolding residue first_line line_rest line_below
 predictions_on_literals = tt
+
+unfoldable pub profiles_on_literals : ⊤
+unfolding streams_on_literals profile_of
+profiles_on_literals = tt

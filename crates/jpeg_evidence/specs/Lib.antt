@@ -4,3 +4,5 @@ pub mod Exact
 pub mod Files
 pub mod Headers
 pub mod Strict
+pub mod FoundTables
+pub mod HeaderRules

@@ -1,0 +1,6 @@
+use Rattle.jpeg_streams.proofs.ScriptLevels.{pass-by}
+use Rattle.jpeg_evidence.proofs.HeaderRules.{plain-tables, slots-are}
+use Rattle.jpeg_evidence.proofs.header_rules.scans_code_what_headers_say.Goals as goal
+
+pub returns : goal.returns
+returns c = record { pass = pass-by; slots = slots-are; tables = plain-tables }
