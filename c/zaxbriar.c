@@ -21,7 +21,9 @@ _Static_assert(sizeof(zaxbriar_options) == 48, "options");
 _Static_assert(offsetof(zaxbriar_options, min_width) == 16, "options");
 _Static_assert(offsetof(zaxbriar_options, transform) == 20, "options");
 _Static_assert(offsetof(zaxbriar_options, layout) == 21, "options");
-_Static_assert(offsetof(zaxbriar_options, reserved_words) == 24, "options");
+_Static_assert(offsetof(zaxbriar_options, scale) == 22, "options");
+_Static_assert(offsetof(zaxbriar_options, max_bytes) == 24, "options");
+_Static_assert(offsetof(zaxbriar_options, reserved_words) == 32, "options");
 _Static_assert(sizeof(zaxbriar_picture) == 192, "picture");
 _Static_assert(offsetof(zaxbriar_picture, width) == 32, "picture");
 _Static_assert(offsetof(zaxbriar_picture, pixel_bytes) == 40, "picture");
@@ -83,6 +85,7 @@ const char *zaxbriar_answer_name(int answer) {
     case ZAXBRIAR_NO_ROOM: return "buffer too small";
     case ZAXBRIAR_BAD_ARGUMENT: return "bad argument";
     case ZAXBRIAR_NO_DATA: return "no such metadata";
+    case ZAXBRIAR_TOO_LARGE: return "picture too large";
     default: return "unknown answer";
     }
 }

@@ -50,7 +50,8 @@ enum {
     ZAXBRIAR_NO_MEMORY = 4,    /* out of memory */
     ZAXBRIAR_NO_ROOM = 5,      /* the buffer is too small: picture.size or *length is needed */
     ZAXBRIAR_BAD_ARGUMENT = 6, /* a null pointer, or options that don't exist or don't fit */
-    ZAXBRIAR_NO_DATA = 7       /* the header has no such metadata */
+    ZAXBRIAR_NO_DATA = 7,      /* the header has no such metadata */
+    ZAXBRIAR_TOO_LARGE = 8     /* by its header, the picture is above a limit of the options */
 };
 
 /* How the pixels are arranged. A layout other than AS_STORED is for pictures of grey, or of red,
@@ -80,24 +81,35 @@ enum {
 /* Kinds of metadata. */
 enum { ZAXBRIAR_EXIF = 1, ZAXBRIAR_XMP = 2, ZAXBRIAR_ICC = 3 };
 
-/* How to decode. Set all of it to zero first; a null pointer stands for all zeros. */
+/* How to decode. Set all of it to zero first; a null pointer stands for all zeros. A later version
+ * gives meanings to reserved members, of which zero is always what they mean now, and refuses those
+ * that it doesn't know as ZAXBRIAR_BAD_ARGUMENT; the size of the struct stays.
+ *
+ * The limits are compared with the header, before anything is allocated for the picture and before
+ * any byte after the header is read: a picture above one is ZAXBRIAR_TOO_LARGE. */
 typedef struct zaxbriar_options {
-    uint64_t max_samples;  /* decoding a picture of more samples is MALFORMED; 0: no limit */
-    uint64_t stride;       /* bytes from a line to the next, at most 2^32; 0: no gaps */
-    uint16_t min_width;    /* decode at the least of 1/8, 1/4, 1/2 and 1 of the size at which .. */
-    uint16_t min_height;   /* .. the picture is so wide or so high; 0 and 0: at full size */
-    uint8_t transform;     /* ZAXBRIAR_TRANSFORM_.. */
-    uint8_t layout;        /* ZAXBRIAR_AS_STORED .. */
-    uint16_t reserved;     /* zero */
-    uint64_t reserved_words[3];
+    uint64_t max_samples; /* the limit of width * height * components, at the scale; 0: none */
+    uint64_t stride;      /* bytes from a line to the next, at most 2^32; 0: no gaps */
+    uint16_t min_width;   /* decode at the least of 1/8, 1/4, 1/2 and 1 of the size at which .. */
+    uint16_t min_height;  /* .. the picture is at least that wide or that high; where one of them
+                             is 0 the other alone decides, and where both are, at full size */
+    uint8_t transform;    /* ZAXBRIAR_TRANSFORM_.. */
+    uint8_t layout;       /* ZAXBRIAR_AS_STORED .. */
+    uint8_t scale;        /* decode at exactly 1 / scale of each side, rounded up, whatever the two
+                             minima are: 1, 2, 4 or 8; 0: as they say */
+    uint8_t reserved;     /* zero */
+    uint64_t max_bytes;   /* the limit of picture.decoding_bytes; 0: none */
+    uint64_t reserved_words[2]; /* zero */
 } zaxbriar_options;
 
-/* A picture, as decoding with the options gives it. All zero, but for `text`, where the header was
- * refused. */
+/* A picture, as decoding with the options gives it; also after ZAXBRIAR_NO_ROOM and
+ * ZAXBRIAR_TOO_LARGE. All zero, but for `text`, where the header or the options were refused. */
 typedef struct zaxbriar_picture {
     uint64_t size;           /* the bytes of the picture: stride * (height - 1) + row_bytes */
     uint64_t row_bytes;      /* the bytes of a line without its gap: width * pixel_bytes */
-    uint64_t decoding_bytes; /* the most memory that decoding takes for samples */
+    uint64_t decoding_bytes; /* the most memory that the library takes for samples at a time: what
+                                a call allocates beside `pixels`, but for tables, metadata and a few
+                                lines. A layout other than AS_STORED, or a gap, takes more. */
     uint64_t stream_bytes;   /* after decoding: how many bytes of `jpeg` were read */
     uint32_t width;          /* in pixels, at the scale of the options */
     uint32_t height;

@@ -71,8 +71,7 @@ int main(int argc, char **argv) {
     }
     int done = answer == ZAXBRIAR_OK && write_picture(&picture, pixels);
     if (answer != ZAXBRIAR_OK)
-        fprintf(stderr, "jpeg2pnm: %s: %s: %s\n", argv[1], zaxbriar_answer_name(answer),
-                picture.text);
+        fprintf(stderr, "jpeg2pnm: %s: %s\n", argv[1], picture.text);
     else if (!done) perror("jpeg2pnm");
     free(pixels);
     free(jpeg);

@@ -4,14 +4,15 @@
 
 #include "zaxbriar.h"
 
-static void describe(const char *name, const unsigned char *jpeg, size_t size) {
+/* Writes a line; returns whether the header was read. */
+static int describe(const char *name, const unsigned char *jpeg, size_t size) {
     static const char *const processes[] = {"?", "sequential", "progressive", "lossless"};
     size_t lengths[4] = {0};
     zaxbriar_picture picture;
     int answer = zaxbriar_read_info(jpeg, size, NULL, &picture);
     if (answer != ZAXBRIAR_OK) {
-        printf("%s: %s: %s\n", name, zaxbriar_answer_name(answer), picture.text);
-        return;
+        fprintf(stderr, "%s: %s\n", name, picture.text);
+        return 0;
     }
     for (int kind = ZAXBRIAR_EXIF; kind <= ZAXBRIAR_ICC; kind++)
         if (zaxbriar_metadata(jpeg, size, kind, NULL, 0, &lengths[kind]) == ZAXBRIAR_NO_DATA)
@@ -22,6 +23,7 @@ static void describe(const char *name, const unsigned char *jpeg, size_t size) {
            processes[picture.process & 3], picture.orientation, lengths[ZAXBRIAR_EXIF],
            lengths[ZAXBRIAR_XMP], lengths[ZAXBRIAR_ICC],
            (unsigned long long)picture.decoding_bytes);
+    return 1;
 }
 
 int main(int argc, char **argv) {
@@ -32,9 +34,9 @@ int main(int argc, char **argv) {
         if (file && fseek(file, 0, SEEK_END) == 0 && (size = ftell(file)) >= 0) {
             unsigned char *jpeg = malloc((size_t)size + 1);
             rewind(file);
-            if (jpeg && fread(jpeg, 1, (size_t)size, file) == (size_t)size)
-                describe(argv[i], jpeg, (size_t)size);
-            else failed = 1;
+            if (!jpeg || fread(jpeg, 1, (size_t)size, file) != (size_t)size ||
+                !describe(argv[i], jpeg, (size_t)size))
+                failed = 1;
             free(jpeg);
         } else {
             perror(argv[i]);

@@ -38,33 +38,44 @@ static void sizes(void) {
 
 static void unknown_options(void) {
     size_t length;
-    for (int which = 0; which < 8; which++) {
+    for (int which = 0; which < 7; which++) {
         zaxbriar_options options = {0};
         if (which == 0) options.layout = ZAXBRIAR_BGRA + 1;
         if (which == 1) options.transform = ZAXBRIAR_TRANSFORM_YCCK + 1;
         if (which == 2) options.layout = UINT8_MAX;
         if (which == 3) options.transform = 1;
         if (which == 4) options.reserved = 1;
-        if (which >= 5) options.reserved_words[which - 5] = 1;
+        if (which >= 5) options.reserved_words[which - 5] = UINT64_C(1) << 8 * (which - 5) * 7;
         CHECK(zaxbriar_read_info(jpeg.start, jpeg.size, &options, &picture) ==
               ZAXBRIAR_BAD_ARGUMENT);
         CHECK(picture.text[0] != 0);
         CHECK(zaxbriar_decode(jpeg.start, jpeg.size, &options, NULL, 0, &picture) ==
               ZAXBRIAR_BAD_ARGUMENT);
     }
+    for (int scale = 0; scale <= UINT8_MAX; scale++) {
+        zaxbriar_options scaled = {.scale = (uint8_t)scale};
+        int is_there = scale == 0 || scale == 1 || scale == 2 || scale == 4 || scale == 8;
+        CHECK(zaxbriar_read_info(jpeg.start, jpeg.size, &scaled, &picture) ==
+              (is_there ? ZAXBRIAR_OK : ZAXBRIAR_BAD_ARGUMENT));
+    }
     zaxbriar_options narrow = {.stride = 1};
     CHECK(zaxbriar_read_info(jpeg.start, jpeg.size, &narrow, &picture) == ZAXBRIAR_BAD_ARGUMENT);
     zaxbriar_options wide = {.stride = ((uint64_t)1 << 32) + 1};
     CHECK(zaxbriar_read_info(jpeg.start, jpeg.size, &wide, &picture) == ZAXBRIAR_BAD_ARGUMENT);
+    /* The greatest stride, and one that takes more than 16 bits. */
+    for (wide.stride = (uint64_t)1 << 32; wide.stride >= 70000; wide.stride >>= 15) {
+        CHECK(zaxbriar_read_info(jpeg.start, jpeg.size, &wide, &picture) == ZAXBRIAR_OK);
+        CHECK(picture.size == wide.stride * (picture.height - 1) + picture.row_bytes);
+    }
     CHECK(zaxbriar_metadata(jpeg.start, jpeg.size, 0, NULL, 0, &length) == ZAXBRIAR_BAD_ARGUMENT);
     CHECK(zaxbriar_metadata(jpeg.start, jpeg.size, 4, NULL, 0, &length) == ZAXBRIAR_BAD_ARGUMENT);
     CHECK(zaxbriar_metadata(jpeg.start, jpeg.size, -1, NULL, 0, &length) == ZAXBRIAR_BAD_ARGUMENT);
 }
 
 static void names(void) {
-    for (int answer = ZAXBRIAR_OK; answer <= ZAXBRIAR_NO_DATA; answer++) {
+    for (int answer = ZAXBRIAR_OK; answer <= ZAXBRIAR_TOO_LARGE; answer++) {
         CHECK(zaxbriar_answer_name(answer)[0] != 0);
-        for (int other = ZAXBRIAR_OK; other <= ZAXBRIAR_NO_DATA + 1; other++)
+        for (int other = ZAXBRIAR_OK; other <= ZAXBRIAR_TOO_LARGE + 1; other++)
             CHECK(other == answer ||
                   strcmp(zaxbriar_answer_name(answer), zaxbriar_answer_name(other)) != 0);
     }

@@ -134,12 +134,23 @@ static void in_layout(int layout, const zaxbriar_picture *whole, const unsigned 
 
 static void at_scale(unsigned part, const zaxbriar_picture *whole) {
     unsigned width = (whole->width + part - 1) / part;
-    zaxbriar_options options = {.min_width = (uint16_t)width, .min_height = UINT16_MAX};
+    zaxbriar_options options = {.min_width = (uint16_t)width};
+    zaxbriar_options as_before = {.min_width = (uint16_t)width, .min_height = UINT16_MAX};
     zaxbriar_picture head, picture;
+    CHECK(zaxbriar_read_info(jpeg.start, jpeg.size, &as_before, &picture) == ZAXBRIAR_OK);
     CHECK(zaxbriar_read_info(jpeg.start, jpeg.size, &options, &head) == ZAXBRIAR_OK);
     if (whole->process == ZAXBRIAR_LOSSLESS)
         CHECK(head.width == whole->width && head.height == whole->height);
     else CHECK(head.width == width);
+    CHECK(head.width == picture.width && head.height == picture.height);
+    options = (zaxbriar_options){.min_height = (uint16_t)head.height};
+    CHECK(zaxbriar_read_info(jpeg.start, jpeg.size, &options, &picture) == ZAXBRIAR_OK);
+    CHECK(picture.height == head.height);
+    /* exactly this part, whatever the least sides are */
+    options = (zaxbriar_options){.scale = (uint8_t)part, .min_width = 1, .min_height = UINT16_MAX};
+    CHECK(zaxbriar_read_info(jpeg.start, jpeg.size, &options, &head) == ZAXBRIAR_OK);
+    if (whole->process == ZAXBRIAR_LOSSLESS) width = whole->width, part = 1;
+    CHECK(head.width == width && head.height == (whole->height + part - 1) / part);
     unsigned char *pixels = block(head.size);
     CHECK(zaxbriar_decode(jpeg.start, jpeg.size, &options, pixels, head.size, &picture) ==
           ZAXBRIAR_OK);
@@ -149,17 +160,32 @@ static void at_scale(unsigned part, const zaxbriar_picture *whole) {
     scaled++;
 }
 
+/* A picture above a limit is refused whether what follows its header is whole or cut. */
+static void above(const zaxbriar_options *options, const zaxbriar_picture *whole,
+                  unsigned char *pixels) {
+    zaxbriar_picture picture;
+    memset(pixels, 0xA5, whole->size);
+    CHECK(zaxbriar_read_info(jpeg.start, jpeg.size, options, &picture) == ZAXBRIAR_TOO_LARGE);
+    CHECK(picture.size == whole->size && picture.decoding_bytes == whole->decoding_bytes);
+    for (size_t cut = 0; cut <= 1; cut++) {
+        CHECK(zaxbriar_decode(jpeg.start, whole->stream_bytes - cut, options, pixels, whole->size,
+                              &picture) == ZAXBRIAR_TOO_LARGE);
+        CHECK(picture.size == whole->size && picture.text[0] && is_all(pixels, whole->size, 0xA5));
+    }
+}
+
 static void limited(const zaxbriar_picture *whole) {
     uint64_t samples = (uint64_t)whole->width * whole->height * whole->components;
-    zaxbriar_options options = {.max_samples = samples};
+    zaxbriar_options options = {.max_samples = samples, .max_bytes = whole->decoding_bytes};
     zaxbriar_picture picture;
     unsigned char *pixels = block(whole->size);
     CHECK(zaxbriar_decode(jpeg.start, jpeg.size, &options, pixels, whole->size, &picture) ==
           ZAXBRIAR_OK);
     options.max_samples = samples - 1;
-    if (options.max_samples)
-        CHECK(zaxbriar_decode(jpeg.start, jpeg.size, &options, pixels, whole->size, &picture) ==
-              ZAXBRIAR_MALFORMED);
+    if (options.max_samples) above(&options, whole, pixels);
+    options.max_samples = 0;
+    options.max_bytes--;
+    above(&options, whole, pixels);
     free(pixels);
 }
 

@@ -1,18 +1,22 @@
 /* hostile LIST DAMAGED: decodes each file that LIST names, and so many damaged copies of each, from
  * memory that ends right before a page that can't be read, into memory that ends right before a
  * page that can't be written; and files of less than 3,000 bytes with each allocation refused in
- * turn. A call must free what it has allocated, and change no byte of the pixels unless it
- * succeeds. Linked with --wrap=malloc, --wrap=realloc and --wrap=free. */
+ * turn. A call must free what it has allocated, change no byte of the pixels unless it succeeds,
+ * and take no more memory at a time than `decoding_bytes` says, beside tables, metadata and a few
+ * lines; of a picture above a limit it takes that alone. Linked with --wrap=malloc, --wrap=realloc
+ * and --wrap=free. */
 #define _GNU_SOURCE
+#include <malloc.h>
 #include <sys/mman.h>
 
 #include "common.h"
 
-enum { PAGE = 4096, MOST_PIXELS = 4000000, SMALL_FILE = 3000 };
+enum { PAGE = 4096, MOST_PIXELS = 4000000, SMALL_FILE = 3000, MOST_BESIDE = 1 << 18 };
 
 static int is_counting;
+static size_t live_bytes, peak_bytes, most_beside;
 static long allocations, refused_one, live, most_allocations;
-static long files, refusals, answers[ZAXBRIAR_NO_DATA + 1];
+static long files, refusals, answers[ZAXBRIAR_TOO_LARGE + 1];
 
 void *__real_malloc(size_t size);
 void *__real_realloc(void *start, size_t size);
@@ -21,24 +25,38 @@ void *__wrap_malloc(size_t size);
 void *__wrap_realloc(void *start, size_t size);
 void __wrap_free(void *start);
 
+static void count(const void *start) {
+    live_bytes += malloc_usable_size((void *)start);
+    if (live_bytes > peak_bytes) peak_bytes = live_bytes;
+}
+
 void *__wrap_malloc(size_t size) {
     if (!is_counting) return __real_malloc(size);
     if (++allocations == refused_one) return NULL;
     void *start = __real_malloc(size);
     live += start != NULL;
+    count(start);
     return start;
 }
 
 void *__wrap_realloc(void *start, size_t size) {
     if (!is_counting) return __real_realloc(start, size);
     if (++allocations == refused_one) return NULL;
+    size_t before = malloc_usable_size(start);
     void *moved = __real_realloc(start, size);
     live += !start && moved;
+    if (moved) {
+        live_bytes -= before;
+        count(moved);
+    }
     return moved;
 }
 
 void __wrap_free(void *start) {
-    if (is_counting) live -= start != NULL;
+    if (is_counting) {
+        live -= start != NULL;
+        live_bytes -= malloc_usable_size(start);
+    }
     __real_free(start);
 }
 
@@ -66,6 +84,7 @@ static struct fenced fence(size_t size) {
 
 static void begin(long refused) {
     allocations = live = 0;
+    live_bytes = peak_bytes = 0;
     refused_one = refused;
     is_counting = 1;
 }
@@ -84,6 +103,27 @@ static int decode(const unsigned char *jpeg, size_t size, const zaxbriar_options
     end();
     if (answer) CHECK(is_all(pixels.start, room, 0x5A));
     return answer;
+}
+
+/* What a call took beside the samples that it counts: no more than so much, and the metadata. */
+static void take_beside(size_t samples, size_t size) {
+    size_t beside = peak_bytes > samples ? peak_bytes - samples : 0;
+    if (beside > most_beside) most_beside = beside;
+    CHECK(beside <= MOST_BESIDE + 2 * size);
+}
+
+/* A picture above a limit. */
+static void above_limit(const unsigned char *jpeg, size_t size, zaxbriar_options options,
+                        const zaxbriar_picture *picture) {
+    zaxbriar_picture told;
+    unsigned char none;
+    options.max_bytes = picture->decoding_bytes - 1;
+    begin(0);
+    CHECK(zaxbriar_read_info(jpeg, size, &options, &told) == ZAXBRIAR_TOO_LARGE);
+    CHECK(zaxbriar_decode(jpeg, size, &options, &none, 0, &told) == ZAXBRIAR_TOO_LARGE);
+    end();
+    take_beside(0, size);
+    CHECK(told.decoding_bytes == picture->decoding_bytes && told.size == picture->size);
 }
 
 static void each_allocation(const unsigned char *jpeg, size_t size, const zaxbriar_options *options,
@@ -132,10 +172,12 @@ static void of_stream(const unsigned char *bytes, size_t size, int is_whole) {
     begin(0);
     int answer = zaxbriar_read_info(jpeg.start, size, &options, &picture);
     end();
+    if (answer == ZAXBRIAR_OK) above_limit(jpeg.start, size, options, &picture);
     if (answer == ZAXBRIAR_OK && (uint64_t)picture.width * picture.height <= MOST_PIXELS &&
         picture.size < 100000000) {
         struct fenced pixels = fence(picture.size);
         answer = decode(jpeg.start, size, &options, pixels, picture.size, 0);
+        take_beside(picture.decoding_bytes, size);
         if (allocations > most_allocations) most_allocations = allocations;
         if (size < SMALL_FILE && is_whole && picture.size < 100000)
             each_allocation(jpeg.start, size, &options, pixels, picture.size, answer);
@@ -210,9 +252,10 @@ int main(int argc, char **argv) {
     }
     fclose(list);
     printf("hostile: %ld streams between guard pages:", files);
-    for (int answer = 0; answer <= ZAXBRIAR_NO_DATA; answer++)
+    for (int answer = 0; answer <= ZAXBRIAR_TOO_LARGE; answer++)
         if (answers[answer]) printf(" %s %ld,", zaxbriar_answer_name(answer), answers[answer]);
-    printf(" at most %ld allocations a call; %ld allocations refused; %d faults\n",
-           most_allocations, refusals, faults);
+    printf(" at most %ld allocations a call, of %zu bytes beside the samples; %ld allocations "
+           "refused; %d faults\n",
+           most_allocations, most_beside, refusals, faults);
     return faults != 0;
 }

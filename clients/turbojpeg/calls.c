@@ -66,10 +66,7 @@ static void of_file(const char *name, size_t size) {
         if (i && scaled_width == TJSCALED(width, factors[i - 1]) &&
             scaled_height == TJSCALED(height, factors[i - 1]))
             continue;
-        if (!i) options.min_width = options.min_height = 0;
-        else if (width > height)
-            options.min_width = (uint16_t)scaled_width, options.min_height = UINT16_MAX;
-        else options.min_width = UINT16_MAX, options.min_height = (uint16_t)scaled_height;
+        options.scale = (uint8_t)factors[i].denom;
         if (zaxbriar_read_info_in_colour(jpeg, size, &options, &picture) != ZAXBRIAR_OK)
             fault(name, picture.text);
         unsigned char *wanted = malloc(picture.size);

@@ -90,12 +90,7 @@ static int options_for(const unsigned char *jpeg, size_t size, int width, int he
     memcpy(picture, &whole, sizeof whole);
     if (answer != ZAXBRIAR_OK) return 0;
     for (uint32_t part = 1; part <= 8; part *= 2) {
-        /* The longer side picks the scale: the shorter may be as long at two scales. */
-        uint32_t side =
-            ((whole.width > whole.height ? whole.width : whole.height) + part - 1) / part;
-        options->min_width = whole.width > whole.height ? (uint16_t)side : UINT16_MAX;
-        options->min_height = whole.width > whole.height ? UINT16_MAX : (uint16_t)side;
-        if (part == 1) options->min_width = options->min_height = 0;
+        options->scale = (uint8_t)part;
         if (zaxbriar_read_info_in_colour(jpeg, size, options, picture) != ZAXBRIAR_OK) return 0;
         if ((!width || picture->width <= (uint32_t)width) &&
             (!height || picture->height <= (uint32_t)height))

@@ -15,17 +15,6 @@ decoded = 0
 decoded_in_place = 0
 
 
-def _options_for(whole, scale):
-    """The options that ask for a picture at 1/scale. The longer side picks it: the shorter may be
-    as long at two scales."""
-    if scale <= 1:
-        return {}
-    width, height = -(-whole.width // scale), -(-whole.height // scale)
-    if whole.width > whole.height:
-        return {"min_width": width, "min_height": library.NO_LIMIT_OF_A_SIDE}
-    return {"min_width": library.NO_LIMIT_OF_A_SIDE, "min_height": height}
-
-
 def _memory_of(image, pixel_bytes):
     """The address of an image's first line and the bytes from a line to the next, where all lines
     are equally far."""
@@ -84,8 +73,7 @@ class ZaxbriarDecoder(ImageFile.PyDecoder):
         scale = self.args[2] if len(self.args) > 2 else 1
         stream = self.fd.read()
         try:
-            whole = library.read_info(stream)
-            options = _options_for(whole, scale)
+            options = {"scale": scale}
             picture = library.read_info(stream, **options)
             is_scaled = (picture.width, picture.height) == (self.state.xsize, self.state.ysize)
             layout, pixel_bytes, components = {

@@ -16,10 +16,11 @@ from ctypes import (
     c_void_p,
 )
 
-OK, MALFORMED, UNSUPPORTED, TRUNCATED, NO_MEMORY, NO_ROOM, BAD_ARGUMENT, NO_DATA = range(8)
+OK, MALFORMED, UNSUPPORTED, TRUNCATED, NO_MEMORY, NO_ROOM, BAD_ARGUMENT, NO_DATA, TOO_LARGE = range(
+    9
+)
 AS_STORED, GREY, RGB, RGBA, BGRA = range(5)
 SEQUENTIAL, PROGRESSIVE, LOSSLESS = range(1, 4)
-NO_LIMIT_OF_A_SIDE = 65535
 
 
 class Options(Structure):
@@ -32,8 +33,10 @@ class Options(Structure):
         ("min_height", c_uint16),
         ("transform", c_uint8),
         ("layout", c_uint8),
-        ("reserved", c_uint16),
-        ("reserved_words", c_uint64 * 3),
+        ("scale", c_uint8),
+        ("reserved", c_uint8),
+        ("max_bytes", c_uint64),
+        ("reserved_words", c_uint64 * 2),
     ]
 
 

@@ -1,5 +1,5 @@
 -- A picture that was decoded into its lines.
-use Rattle.std.proofs.Common.{◌≡◌, ◌∙◌, ◌≤◌, ◌*◌, ℕ, List, Ok, Err, Option, Some, None, ap, sym, subst, true, length}
+use Rattle.std.proofs.Common.{◌≡◌, ◌∙◌, ◌≤◌, ◌*◌, ℕ, List, Ok, Err, Option, Some, None, ap, sym, subst, true, length, arith}
 use Rattle.std.specs.Prelude.{option_map}
 use Rattle.jpeg_bits.specs.Reading.{Answers}
 use Rattle.jpeg_bits.specs.declared.error.Error.{Error}
@@ -18,7 +18,9 @@ use Rattle.zaxbriar.proofs.Fails.{stands}
 use Rattle.zaxbriar.proofs.Told.{count-of}
 use Rattle.zaxbriar.specs.Faults.{IsFault, StandsFor}
 use Rattle.zaxbriar.specs.Layouts.{converted_bytes, laid_out, layout_line}
+use Rattle.zaxbriar.specs.Limits.{are_as_decoded}
 use Rattle.zaxbriar.specs.Lines.{Decodes, HasLines}
+use Rattle.zaxbriar.specs.declared.layouts.Conversion.TheVariants.{Stored}
 use Rattle.zaxbriar.specs.declared.answers.Refusal.{Refusal}
 use Rattle.zaxbriar.specs.declared.lines.Lines.{Lines}
 use Rattle.zaxbriar.specs.declared.options.Options.{Options}
@@ -30,6 +32,10 @@ has-room old (Some f) bytes room same e le =
     let whole : option_map decoding_bytes (Some f) ≡ Some bytes = ap (λ (x : Option Frame). option_map decoding_bytes x) same ∙ e in
     let is : decoding_bytes f ≡ bytes = cc in
     subst (λ (b : DecodingBytes). b.picture ≤ room) (sym is) le
+
+pub as-decoded : (lines : Lines) → are_as_decoded lines ≡ true
+    → (lines.conversion ≡ Stored) × (lines.stride ≡ lines.row_bytes)
+as-decoded lines e = grind arith
 
 pub row-of : (o : Options) (info : ImageInfo) (precision : ℕ) (lines : Lines) → HasLines o info precision lines
     → lines.row_bytes ≡ lines.width * converted_bytes lines.conversion lines.stored

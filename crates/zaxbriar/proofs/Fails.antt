@@ -1,6 +1,6 @@
 -- A refusal of the header, or of what follows it, is one of the stream.
 use Rattle.std.proofs.Common.{◌≡◌, ◌<◌, ◌^◌, ℕ, List, Ok, Err, Some, length, Result, Bool, true, arith, refl}
-use Rattle.std.specs.Prelude.{IfErr}
+use Rattle.std.specs.Prelude.{IfErr, IsErrAnd}
 use Rattle.jpeg_bits.specs.Reading.{Answers, Fault, IsGivenUp, Names, Outcome}
 use Rattle.jpeg_bits.specs.Stream.{Stream}
 use Rattle.jpeg_bits.specs.declared.error.Error.{Error}
@@ -9,7 +9,8 @@ use Rattle.jpeg_streams.specs.Found.{Found, with_said}
 use Rattle.jpeg_streams.specs.Stream.{header_at, rest_at}
 use Rattle.jpeg_streams.specs.Output.{Tells}
 use Rattle.jpeg_streams.proofs.ReadTurns.{then-ok}
-use Rattle.zaxbriar.specs.Faults.{IsArgument, IsFault, IsNamed, StandsFor, status_of, fault_code}
+use Rattle.zaxbriar.specs.Faults.{IsArgument, IsFault, IsNamed, IsOfCall, IsOfCallNumber}
+use Rattle.zaxbriar.specs.Faults.{StandsFor, status_of, fault_code}
 use Rattle.zaxbriar.specs.Meanings.{settings_of, size_wanted, meaning_by}
 use Rattle.zaxbriar.specs.declared.answers.Refusal.{Refusal}
 use Rattle.zaxbriar.specs.declared.answers.Refusal.TheVariants as refusals
@@ -30,6 +31,7 @@ pub header-fails : (o : Options) (bytes : List ℕ) (r : Refusal) → IsFault (h
 header-fails o bytes (refusals.Stream e) h = header-names o bytes e h
 header-fails o bytes (refusals.Argument text) h = tt
 header-fails o bytes refusals.NoRoom h = tt
+header-fails o bytes refusals.TooLarge h = tt
 
 pub argument-fails : {Y : Type 0} (outcome : Result Y Fault) (r : Refusal) → IsArgument r → IsFault outcome r
 argument-fails outcome x h = grind arith
@@ -66,3 +68,23 @@ named x read code c h = grind (arith, other-named, refusal-named)
 -- no refusal has the number of an OK
 pub code-fails : (r : Refusal) → fault_code r ≡ 0 → ⊥
 code-fails x e = grind arith
+
+call-number : (r : Refusal) → IsOfCall r → IsOfCallNumber (fault_code r)
+call-number r c = grind arith
+
+pub of-call-number : {X : Type 0} (outcome : Result X Refusal) (code : ℕ) → code ≡ status_of outcome
+    → IsErrAnd outcome IsOfCall → IsOfCallNumber code
+of-call-number outcome code e c = grind (arith, call-number)
+
+argument-number : (r : Refusal) → IsArgument r → fault_code r ≡ 6
+argument-number r a = grind arith
+
+pub of-argument : {X : Type 0} (outcome : Result X Refusal) (code : ℕ) → code ≡ status_of outcome
+    → IsErrAnd outcome IsArgument → code ≡ 6
+of-argument outcome code e a = grind (arith, argument-number)
+
+pub is-too-large : (r : Refusal) → fault_code r ≡ 8 → r ≡ refusals.TooLarge
+is-too-large r e = grind arith
+
+pub has-no-room : (r : Refusal) → fault_code r ≡ 5 → r ≡ refusals.NoRoom
+has-no-room r e = grind arith

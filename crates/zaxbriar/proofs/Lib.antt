@@ -2,4 +2,5 @@ mod Decoded
 mod Fails
 mod Laid
 mod Means
+mod Texts
 mod Told

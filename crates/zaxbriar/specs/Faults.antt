@@ -1,23 +1,44 @@
 -- What a refusal says of the bytes of a stream, and its number.
-use Rattle.std.specs.Prelude.{◌≡◌, ℕ, Bool, Result, Ok, Err}
+use Rattle.std.specs.Prelude.{◌≡◌, ◌⊎◌, ◌++◌, ℕ, Bool, List, Result, Ok, Err, drop}
+use Rattle.std.specs.Prelude.{length, min, replicate, take}
 use Rattle.jpeg_bits.specs.Reading.{Fault, Malformed, Lacks, End, IsGivenUp, Names}
 use Rattle.jpeg_bits.specs.declared.error.Error.{Error}
 use Rattle.jpeg_bits.specs.declared.error.Error.TheVariants as errors
 use Rattle.jpeg_bits.specs.declared.error.UnsupportedFeature.{UnsupportedFeature}
 use Rattle.zaxbriar.specs.declared.answers.Refusal.{Refusal}
 use Rattle.zaxbriar.specs.declared.answers.Refusal.TheVariants.{Stream, Argument, NoRoom}
+use Rattle.zaxbriar.specs.declared.answers.Refusal.TheVariants.{TooLarge}
 
 -- A refusal of a stream names the fault of its bytes.
 abbrev pub IsFault : {Y : Type 0} → Result Y Fault → Refusal → Type 0
 IsFault outcome (Stream e) = Names e outcome
 IsFault outcome (Argument text) = Unit {0}
 IsFault outcome NoRoom = Unit {0}
+IsFault outcome TooLarge = Unit {0}
 
 -- A refusal of the arguments.
 abbrev pub IsArgument : Refusal → Type 0
-IsArgument (Stream e) = ⊥
 IsArgument (Argument text) = Unit {0}
-IsArgument NoRoom = ⊥
+IsArgument _ = ⊥
+
+-- A refusal of a call to a decoder.
+abbrev pub IsOfDecoder : Refusal → Type 0
+IsOfDecoder NoRoom = ⊥
+IsOfDecoder TooLarge = ⊥
+IsOfDecoder _ = Unit {0}
+
+-- A refusal of a picture for its size: it is longer than the buffer, or above a limit.
+abbrev pub IsOwn : Refusal → Type 0
+IsOwn NoRoom = Unit {0}
+IsOwn TooLarge = Unit {0}
+IsOwn _ = ⊥
+
+-- A refusal by the limits, by the arguments, or for lack of memory.
+abbrev pub IsOfCall : Refusal → Type 0
+IsOfCall (Stream e) = e ≡ errors.OutOfMemory
+IsOfCall (Argument text) = Unit {0}
+IsOfCall NoRoom = ⊥
+IsOfCall TooLarge = Unit {0}
 
 -- A refusal stands for an error of a decoder: it is one of the stream only where the reader, a read
 -- of which has failed or not, wasn't given up.
@@ -25,6 +46,7 @@ abbrev pub StandsFor : Error → Bool → Refusal → Type 0
 StandsFor error failed (Stream e) = (e ≡ error) × (IsGivenUp error failed → ⊥)
 StandsFor error failed (Argument text) = Unit {0}
 StandsFor error failed NoRoom = ⊥
+StandsFor error failed TooLarge = ⊥
 
 -- the number of a refusal, and of an outcome
 abbrev pub fault_code : Refusal → ℕ
@@ -35,6 +57,7 @@ fault_code (Stream errors.OutOfMemory) = 4
 fault_code (Stream (errors.Internal text)) = 6
 fault_code (Argument text) = 6
 fault_code NoRoom = 5
+fault_code TooLarge = 8
 
 abbrev pub status_of : {X : Type 0} → Result X Refusal → ℕ
 status_of (Ok x) = 0
@@ -45,3 +68,12 @@ abbrev pub IsNamed : {Y : Type 0} → ℕ → Result Y Fault → Type 0
 IsNamed code read = (code ≡ 1 → read ≡ Err Malformed)
     × (code ≡ 2 → (feature : UnsupportedFeature) × (read ≡ Err (Lacks feature)))
     × (code ≡ 3 → read ≡ Err End)
+
+-- A number is that of a refusal by the limits, for lack of memory, or by the arguments.
+abbrev pub IsOfCallNumber : ℕ → Type 0
+IsOfCallNumber code = (code ≡ 8) ⊎ ((code ≡ 4) ⊎ (code ≡ 6))
+
+-- as much of a text as fits into 111 bytes, and zeros after it, 112 bytes in all
+abbrev pub padded : List ℕ → List ℕ
+padded text =
+    let count = min (length text) 111 in take count text ++ drop count (replicate 112 0)

@@ -1,5 +1,6 @@
 pub mod Faults
 pub mod Layouts
+pub mod Limits
 pub mod Lines
 pub mod Meanings
 pub mod Metadata

@@ -53,6 +53,15 @@ pub record HasLines (o : Options) (info : ImageInfo) (precision : ℕ) (lines : 
   pub wide : lines.row_bytes ≤ lines.stride
   pub narrow : lines.stride ≤ 4294967296
 
+-- Lines fit a picture, as the options ask for them: there is the layout, and a stride, if one is
+-- given, is no shorter than a line and at most 2^32.
+pub record FitLines (o : Options) (info : ImageInfo) (precision : ℕ) : Type 0 where
+  pub conversion : Conversion
+  pub is : conversion_to o.layout info.pixel_format precision ≡ Some conversion
+  pub wide : row_bytes info precision conversion ≤ stride_of o.stride (row_bytes info precision
+      conversion)
+  pub narrow : stride_of o.stride (row_bytes info precision conversion) ≤ 4294967296
+
 -- the number of a coding process
 abbrev pub process_number : CodingProcess → ℕ
 process_number DctSequential = 1

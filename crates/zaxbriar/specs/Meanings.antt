@@ -1,10 +1,12 @@
 -- What a call with some options gives for the bytes of a stream.
 use Rattle.std.specs.Prelude.{◌≡◌, ◌==◌, ◌&&◌, ℕ, List, Option, Some, None, if◌then◌else◌}
-use Rattle.std.specs.Prelude.{option_map, true, Ok, Result}
+use Rattle.std.specs.Prelude.{option_map, replicate, true, false, Ok, Result}
 use Rattle.jpeg_bits.specs.Reading.{Outcome, ◌>>=◌, Fault}
 use Rattle.jpeg_bits.specs.declared.color_transform.ColorTransform.{ColorTransform}
 use Rattle.jpeg_bits.specs.declared.color_transform.ColorTransform.TheVariants as transforms
-use Rattle.jpeg_streams.specs.DecodedImages.{Size, FullSize, AtLeast, at_size}
+use Rattle.jpeg_segments.specs.declared.scale.Scale.{Scale}
+use Rattle.jpeg_segments.specs.declared.scale.Scale.TheVariants.{Eighth, Quarter, Half, Full}
+use Rattle.jpeg_streams.specs.DecodedImages.{Size, FullSize, AtLeast, AtScale, at_size}
 use Rattle.jpeg_streams.specs.Found.{Found, with_said}
 use Rattle.jpeg_streams.specs.States.{Decoding}
 use Rattle.jpeg_streams.specs.declared.progress.Progress.TheVariants.{HeaderRead}
@@ -16,6 +18,7 @@ use Rattle.jpeg_decoder.specs.Bytes.{decoding_bytes}
 use Rattle.jpeg_decoder.specs.Orientation.{orientation_in}
 use Rattle.jpeg_decoder.specs.declared.memory.DecodingBytes.{DecodingBytes}
 use Rattle.zaxbriar.specs.Layouts.{conversion_to}
+use Rattle.zaxbriar.specs.Limits.{bytes_beside, exceeds_limits}
 use Rattle.zaxbriar.specs.Lines.{Arranged, lines_by, described_picture}
 use Rattle.zaxbriar.specs.declared.layouts.Conversion.{Conversion}
 use Rattle.zaxbriar.specs.declared.options.Options.{Options}
@@ -31,14 +34,31 @@ transform_number n = if n == 2 then Some transforms.RGB
 -- the settings of a decoder
 abbrev pub settings_of : Options → Settings
 settings_of o = record {
-  limit = if o.max_samples == 0 then 18446744073709551615 else o.max_samples;
+  limit = 18446744073709551615;
   color_transform = transform_number o.transform;
 }
 
+-- The least length of a side, where one is asked for: no side is as long as 65535 but at full size,
+-- so that the other side decides.
+abbrev pub least_side : ℕ → ℕ
+least_side side = if side == 0 then 65535 else side
+
+-- the scale of a denominator
+abbrev pub scale_by : ℕ → Option Scale
+scale_by n = if n == 1 then Some Full
+    else (if n == 2 then Some Half
+    else (if n == 4 then Some Quarter
+    else (if n == 8 then Some Eighth else None)))
+
+-- the size by a scale, or else by the least lengths of the sides
+abbrev pub size_by : Option Scale → ℕ → ℕ → Size
+size_by (Some scale) width height = AtScale scale
+size_by None width height = if width == 0 && height == 0 then FullSize
+    else AtLeast (least_side width) (least_side height)
+
 -- the size that the picture is to have
 abbrev pub size_wanted : Options → Size
-size_wanted o = if o.min_width == 0 && o.min_height == 0 then FullSize
-    else AtLeast o.min_width o.min_height
+size_wanted o = size_by (scale_by o.scale) o.min_width o.min_height
 
 -- what is told of a stream, its picture, and the bytes after it
 unfoldable pub meaning_by : Options → List ℕ → Outcome (Told × List ℕ)
@@ -80,8 +100,21 @@ pub record Describes (o : Options) (bytes : List ℕ) (picture : Picture) : Type
       ≡ Some decoding
   pub conversion_is : conversion_to o.layout info.pixel_format precision ≡ Some conversion
   pub picture_is : picture ≡ described_picture o.layout info precision
-      (lines_by o.stride info precision conversion) decoding.peak
+      (lines_by o.stride info precision conversion)
+      (bytes_beside (lines_by o.stride info precision conversion) decoding)
       (orientation_by (at_size (size_wanted o) header.said).metadata.exif) 0
+
+-- a picture without what a call says of itself: the bytes that were read, and the text of a refusal
+abbrev pub as_described : Picture → Picture
+as_described picture = record picture { stream_bytes = 0; text = replicate 112 0 }
+
+-- A picture is that of a header, and within the limits.
+abbrev pub IsWithin : Options → List ℕ → Picture → Type 0
+IsWithin o bytes picture = Describes o bytes picture × (exceeds_limits o picture ≡ false)
+
+-- A picture is that of a header, and above a limit.
+abbrev pub IsTooLarge : Options → List ℕ → Picture → Type 0
+IsTooLarge o bytes picture = Describes o bytes picture × (exceeds_limits o picture ≡ true)
 
 -- The picture of a stream is in the caller's memory.
 pub record Shows (o : Options) (bytes old new : List ℕ) (picture : Picture) : Type 0 where

@@ -1,6 +1,6 @@
 -- The metadata that a caller is given.
 use Rattle.std.specs.Prelude.{◌≡◌, ◌==◌, ℕ, suc, List, ◌++◌, drop, length, Option, Some, None, true}
-use Rattle.std.specs.Prelude.{if◌then◌else◌}
+use Rattle.std.specs.Prelude.{◌<◌, if◌then◌else◌}
 use Rattle.jpeg_streams.specs.Found.{Metadata}
 use Rattle.jpeg_streams.specs.Profile.{profile_of}
 use Rattle.jpeg_streams.specs.Reported.{told_by_turns}
@@ -21,4 +21,11 @@ pub record IsCopied (found : Option (List ℕ)) (old new : List ℕ) (count : �
   pub bytes : List ℕ
   pub are : found ≡ Some bytes
   pub buffer : new ≡ bytes ++ drop (length bytes) old
+  pub count_is : count ≡ length bytes
+
+-- Data are longer than so many bytes, and they are counted.
+pub record IsLonger (found : Option (List ℕ)) (room count : ℕ) : Type 0 where
+  pub bytes : List ℕ
+  pub are : found ≡ Some bytes
+  pub longer : room < length bytes
   pub count_is : count ≡ length bytes

@@ -1,6 +1,6 @@
 //! What a call returns, and the text of a refusal.
-ghost use Rattle.std.specs.Prelude.{◌≡◌, IfOk};
-ghost use Rattle.zaxbriar.specs.Faults.{StandsFor, status_of, fault_code};
+ghost use Rattle.std.specs.Prelude.{◌≡◌, IfOk, IfErr, replicate, slice_index};
+ghost use Rattle.zaxbriar.specs.Faults.{IsOwn, StandsFor, status_of, fault_code, padded};
 
 use jpeg_decoder::Decoder;
 use jpeg_decoder::error::Error;
@@ -23,6 +23,8 @@ pub const BAD_ARGUMENT: u32 = 6;
 
 pub const NO_DATA: u32 = 7;
 
+pub const TOO_LARGE: u32 = 8;
+
 /// The bytes of a refusal's text, with the zero that ends it.
 pub const TEXT_BYTES: usize = 112;
 
@@ -32,6 +34,7 @@ pub enum Refusal {
     Stream(Error),
     Argument(&'static str),
     NoRoom,
+    TooLarge,
 }
 
 impl From<Error> for Refusal {
@@ -74,18 +77,25 @@ pub fn code_of(refusal: &Refusal) -> u32
         Refusal::Stream(Error::OutOfMemory) => NO_MEMORY,
         Refusal::Stream(Error::Internal(_)) | Refusal::Argument(_) => BAD_ARGUMENT,
         Refusal::NoRoom => NO_ROOM,
+        Refusal::TooLarge => TOO_LARGE,
     }
 }
 
 /// Copies as much of a text as fits, and fills the rest with zeros, at least one.
-fn put_text(text: &[u8], buffer: &mut [u8; TEXT_BYTES]) {
-    *buffer = [0; TEXT_BYTES];
+fn put_text(text: &[u8], buffer: &mut [u8; TEXT_BYTES])
+    ensures { buffer.new ≡ padded text.now }
+{
+    let mut line = [0; TEXT_BYTES];
     let count = text.len().min(TEXT_BYTES - 1);
-    buffer[..count].copy_from_slice(&text[..count]);
+    line[..count].copy_from_slice(&text[..count]);
+    *buffer = line;
 }
 
 /// Writes the text of a refusal.
-fn put_refusal(alloc: Global, refusal: &Refusal, text: &mut [u8; TEXT_BYTES]) {
+fn put_refusal(alloc: Global, refusal: &Refusal, text: &mut [u8; TEXT_BYTES])
+    ensures ended { slice_index text.new 111 ≡ 0 }
+    ensures said { IsOwn refusal.now → slice_index text.new 0 ≡ 0 → ⊥ }
+{
     match refusal {
         Refusal::Stream(error) => match format!(in alloc; "{error}") {
             Ok(line) => put_text(line.as_bytes(), text),
@@ -93,20 +103,26 @@ fn put_refusal(alloc: Global, refusal: &Refusal, text: &mut [u8; TEXT_BYTES]) {
         },
         Refusal::Argument(reason) => put_text(reason.as_bytes(), text),
         Refusal::NoRoom => put_text(b"the buffer is too small for the picture", text),
+        Refusal::TooLarge => put_text(b"the picture is above a limit of the options", text),
     }
 }
 
-/// Returns the number of an outcome, and writes the text of a refusal.
+/// Returns the number of an outcome, and writes the text of a refusal, or none.
 pub fn answer(
     alloc: Global,
     outcome: std::result::Result<(), Refusal>,
     text: &mut [u8; TEXT_BYTES],
 ) -> u32
     ensures code { result ≡ status_of outcome }
-    ensures text { IfOk outcome (λ _. text.new ≡ text.old) }
+    ensures text { IfOk outcome (λ _. text.new ≡ replicate 112 0) }
+    ensures ended { slice_index text.new 111 ≡ 0 }
+    ensures said { IfErr outcome (λ r. IsOwn r → slice_index text.new 0 ≡ 0 → ⊥) }
 {
     match outcome {
-        Ok(()) => OK,
+        Ok(()) => {
+            *text = [0; TEXT_BYTES];
+            OK
+        }
         Err(refusal) => {
             put_refusal(alloc, &refusal, text);
             code_of(&refusal)

@@ -1,6 +1,6 @@
-//! Descriptions and pictures of streams.
-ghost use Rattle.std.specs.Prelude.{◌≡◌, ◌++◌, ◌≤◌, ℕ, List, Some, length, option_map, true};
-ghost use Rattle.std.specs.Prelude.{IfErr, OnErr, OnOk};
+//! Pictures of streams in the caller's memory.
+ghost use Rattle.std.specs.Prelude.{◌≡◌, ◌++◌, ◌≤◌, ◌<◌, ℕ, List, Some, length, option_map, true};
+ghost use Rattle.std.specs.Prelude.{false, IfErr, IsErrAnd, OnErr, OnOk};
 ghost use Rattle.jpeg_decoder.specs.Bytes.{decoding_bytes};
 ghost use Rattle.jpeg_streams.specs.ArrayPictures.{picture_of_array};
 ghost use Rattle.jpeg_streams.specs.DecodedImages.{at_size};
@@ -9,42 +9,26 @@ ghost use Rattle.jpeg_streams.specs.Levels.{Is8Bit, Levels};
 ghost use Rattle.jpeg_streams.specs.Output.{Tells};
 ghost use Rattle.jpeg_streams.specs.Pixels.{info_of};
 ghost use Rattle.jpeg_streams.specs.declared.progress.Progress.TheVariants.{HeaderRead};
-ghost use Rattle.jpeg_streams.specs.Stream.{header_at, rest_at};
+ghost use Rattle.jpeg_streams.specs.Stream.{rest_at};
 ghost use Rattle.jpeg_streams.specs.WrittenImages.{WritesImage};
 ghost use Rattle.jpeg_streams.specs.WrittenScans.{Coefficients};
-ghost use Rattle.zaxbriar.specs.Faults.{IsFault};
+ghost use Rattle.zaxbriar.specs.Faults.{IsArgument, IsFault, IsOfCall, IsOfDecoder};
 ghost use Rattle.zaxbriar.specs.Layouts.{size_of_lines};
+ghost use Rattle.zaxbriar.specs.Limits.{are_known};
 ghost use Rattle.zaxbriar.specs.Lines.{Decodes, HasLines};
-ghost use Rattle.zaxbriar.specs.Meanings.{Describes, Shows, ShowsSamples};
+ghost use Rattle.zaxbriar.specs.Meanings.{IsTooLarge, IsWithin, Shows, ShowsSamples};
 ghost use Rattle.zaxbriar.specs.Meanings.{meaning_by, settings_of, size_wanted};
+ghost use Rattle.zaxbriar.specs.declared.answers.Refusal.TheVariants.{NoRoom, TooLarge};
 
 use crate::answers::{Refusal, refusal_of};
-use crate::header::{Header, read_header};
-use crate::lines::{Lines, is_as_decoded, lines_of, put_lines};
-use crate::options::Options;
-use crate::picture::{Picture, picture_of};
+use crate::description::describe;
+use crate::header::Header;
+use crate::lines::{Lines, is_as_decoded, put_lines};
+use crate::options::{Options, are_known};
+use crate::picture::Picture;
 use jpeg_decoder::Decoder;
 use std::alloc::Global;
 use std::io::Read;
-
-/// Describes the picture of a stream by its header.
-pub fn read_info_from<R: Read + Drop>(
-    alloc: Global,
-    reader: &mut R,
-    options: &Options,
-    picture: &mut Picture,
-) -> std::result::Result<(), Refusal>
-    ensures describes { (bytes : List ℕ) → Tells (R.remaining reader.old) bytes
-        → OnOk result (Describes options.now bytes picture.new) }
-    ensures named { (bytes : List ℕ) → Tells (R.remaining reader.old) bytes
-        → IfErr result (IsFault (header_at bytes)) }
-{
-    let mut decoder = Decoder::new(alloc, reader)?;
-    let header = read_header(&mut decoder, options)?;
-    let lines = lines_of(header.info, header.precision, options)?;
-    *picture = picture_of(header, lines, options.layout);
-    Ok(())
-}
 
 /// Decodes the picture whose header was read into its lines in the caller's memory.
 fn decode_lines<R: Read + Drop>(
@@ -66,6 +50,7 @@ fn decode_lines<R: Read + Drop>(
         → IfErr result (IsFault (rest_at decoder.old.settings decoder.old.found
         decoder.old.source.bytes)) }
     ensures kept { OnErr result (pixels.new ≡ pixels.old) }
+    ensures own { IfErr result IsOfDecoder }
 {
     // Lines without gaps, in the layout that a decoder gives, need no second picture.
     if is_as_decoded(lines) && header.decoding_bytes.picture <= pixels.len() as u64 {
@@ -103,11 +88,22 @@ pub fn decode_into<R: Read + Drop>(
     ensures named { (bytes : List ℕ) → Tells (R.remaining reader.old) bytes
         → IfErr result (IsFault (meaning_by options.now bytes)) }
     ensures kept { OnErr result (pixels.new ≡ pixels.old) }
+    ensures within { (bytes : List ℕ) → Tells (R.remaining reader.old) bytes
+        → OnOk result (IsWithin options.now bytes picture.new) }
+    ensures room { (bytes : List ℕ) → Tells (R.remaining reader.old) bytes → IfErr result
+        (λ r. r ≡ NoRoom → IsWithin options.now bytes picture.new
+        × (length pixels.old < picture.new.size)) }
+    ensures large { (bytes : List ℕ) → Tells (R.remaining reader.old) bytes → IfErr result
+        (λ r. r ≡ TooLarge → IsTooLarge options.now bytes picture.new) }
+    ensures limited { (bytes : List ℕ) → Tells (R.remaining reader.old) bytes → (size : Picture)
+        → IsTooLarge options.now bytes size → IsErrAnd result IsOfCall }
+    ensures known { are_known options.now ≡ false → IsErrAnd result IsArgument }
 {
+    if !are_known(options) {
+        return Err(Refusal::Argument("an option doesn't exist"));
+    }
     let mut decoder = Decoder::new(alloc, reader)?;
-    let header = read_header(&mut decoder, options)?;
-    let lines = lines_of(header.info, header.precision, options)?;
-    *picture = picture_of(header, lines, options.layout);
+    let (header, lines) = describe(&mut decoder, options, picture)?;
     if picture.size > pixels.len() as u64 {
         return Err(Refusal::NoRoom);
     }

@@ -1,16 +1,16 @@
 //! The header of a stream.
-ghost use Rattle.std.specs.Prelude.{◌≡◌, true, Some, IfOk, IfErr, OnOk, option_map};
+ghost use Rattle.std.specs.Prelude.{◌≡◌, ◌+◌, ◌≤◌, true, Some, IfOk, IfErr, OnOk, option_map};
 ghost use Rattle.jpeg_decoder.specs.Bytes.{decoding_bytes};
 ghost use Rattle.jpeg_streams.specs.Output.{default_settings};
 ghost use Rattle.jpeg_streams.specs.Pixels.{info_of};
 ghost use Rattle.jpeg_streams.specs.declared.progress.Progress.TheVariants.{Fresh};
 ghost use Rattle.jpeg_streams.specs.Stream.{header_at};
-ghost use Rattle.zaxbriar.specs.Faults.{IsFault};
+ghost use Rattle.zaxbriar.specs.Faults.{IsFault, IsOfDecoder};
 ghost use Rattle.std.specs.Option.{option_copied};
 ghost use Rattle.zaxbriar.specs.Meanings.{ReadsHeader, orientation_by};
 
 use crate::answers::{Refusal, refusal_of};
-use crate::options::{Options, apply, apply_size, are_known};
+use crate::options::{Options, apply, apply_size};
 use jpeg_decoder::orientation::orientation_of;
 use jpeg_decoder::{Decoder, DecodingBytes, ImageInfo};
 use std::io::Read;
@@ -51,6 +51,7 @@ pub fn read_header<R: Read + Drop>(
     ensures reads { OnOk result (ReadsHeader options.now decoder.old decoder.new) }
     ensures named { decoder.old.source.known ≡ true
         → IfErr result (IsFault (header_at decoder.old.source.bytes)) }
+    ensures own { IfErr result IsOfDecoder }
     ensures info { IfOk result
         (λ h. option_map info_of decoder.new.found.said.frame ≡ Some h.info) }
     ensures precision { IfOk result (λ h. option_map (λ f. f.precision) decoder.new.found.said.frame
@@ -59,10 +60,9 @@ pub fn read_header<R: Read + Drop>(
         ≡ orientation_by decoder.new.found.said.metadata.exif) }
     ensures bytes { IfOk result (λ h. option_map decoding_bytes decoder.new.found.said.frame
         ≡ Some h.decoding_bytes) }
+    ensures peak { IfOk result (λ h. h.decoding_bytes.coefficients + h.decoding_bytes.planes
+        ≤ h.decoding_bytes.peak) }
 {
-    if !are_known(options) {
-        return Err(Refusal::Argument("an option doesn't exist"));
-    }
     apply(decoder, options);
     if let Err(error) = decoder.read_info() {
         return Err(refusal_of(decoder, error));

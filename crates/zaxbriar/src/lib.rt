@@ -5,7 +5,8 @@
 //! functions that a C program calls: they test the pointers and then call these.
 #![tactic(auto)]
 
-ghost use Rattle.std.specs.Prelude.{◌≡◌, ◌++◌, ◌<◌, ◌^◌, ℕ, List, length, Err, None};
+ghost use Rattle.std.specs.Prelude.{◌≡◌, ◌⊎◌, ◌++◌, ◌<◌, ◌^◌, ℕ, List, length, slice_index, false};
+ghost use Rattle.std.specs.Prelude.{Err, IsOk, None};
 ghost use Rattle.jpeg_bits.specs.Reading.{Malformed, Lacks, End};
 ghost use Rattle.jpeg_bits.specs.declared.error.UnsupportedFeature.{UnsupportedFeature};
 ghost use Rattle.jpeg_streams.specs.ArrayPictures.{picture_of_array};
@@ -15,24 +16,27 @@ ghost use Rattle.jpeg_streams.specs.Levels.{Is8Bit, Levels};
 ghost use Rattle.jpeg_streams.specs.Stream.{header_at};
 ghost use Rattle.jpeg_streams.specs.WrittenImages.{WritesImage};
 ghost use Rattle.jpeg_streams.specs.WrittenScans.{Coefficients};
-ghost use Rattle.zaxbriar.specs.Metadata.{IsCopied, said_of};
-ghost use Rattle.zaxbriar.specs.Meanings.{Describes, Shows, ShowsSamples};
-ghost use Rattle.zaxbriar.specs.Meanings.{meaning_by, settings_of, size_wanted};
+ghost use Rattle.zaxbriar.specs.Faults.{IsOfCallNumber};
+ghost use Rattle.zaxbriar.specs.Limits.{are_known};
+ghost use Rattle.zaxbriar.specs.Metadata.{IsCopied, IsLonger, said_of};
+ghost use Rattle.zaxbriar.specs.Meanings.{IsTooLarge, IsWithin, Shows, ShowsSamples};
+ghost use Rattle.zaxbriar.specs.Meanings.{as_described, meaning_by, settings_of, size_wanted};
 
 mod answers;
 mod decode;
+mod description;
 mod header;
 mod layouts;
+mod limits;
 mod lines;
 mod metadata;
 pub mod options;
 pub mod picture;
 mod reader;
-#[cfg(test)]
-mod tests;
 
-use answers::{NO_MEMORY, answer};
-use decode::{decode_into, read_info_from};
+use answers::{BAD_ARGUMENT, NO_MEMORY, answer};
+use decode::decode_into;
+use description::read_info_from;
 use metadata::read_metadata;
 use options::Options;
 use picture::{NO_PICTURE, Picture};
@@ -47,15 +51,29 @@ pub extern "C" fn zaxbriar_checked_read_info(
     options: &Options,
     picture: &mut Picture,
 ) -> u32
-    // After OK, `picture` describes the picture of the header.
+    // After OK, `picture` describes the picture of the header, which is within the limits.
     ensures describes { result ≡ 0 → length jpeg.now < 2 ^ 64
-        → Describes options.now jpeg.now picture.new }
+        → IsWithin options.now jpeg.now picture.new }
+
+    // TOO_LARGE: `picture` describes it, and it is above a limit. No header of such a picture has
+    // another result, unless memory or the arguments are to blame.
+    ensures large { result ≡ 8 → length jpeg.now < 2 ^ 64
+        → IsTooLarge options.now jpeg.now (as_described picture.new) }
+    ensures limited { length jpeg.now < 2 ^ 64 → (size : Picture)
+        → IsTooLarge options.now jpeg.now size → IsOfCallNumber result }
 
     // MALFORMED, UNSUPPORTED and TRUNCATED name the header's fault.
     ensures malformed { length jpeg.now < 2 ^ 64 → result ≡ 1 → header_at jpeg.now ≡ Err Malformed }
     ensures unsupported { length jpeg.now < 2 ^ 64 → result ≡ 2 → (feature : UnsupportedFeature)
         × (header_at jpeg.now ≡ Err (Lacks feature)) }
     ensures truncated { length jpeg.now < 2 ^ 64 → result ≡ 3 → header_at jpeg.now ≡ Err End }
+
+    // Options that don't exist are refused, whatever the bytes are.
+    ensures known { are_known options.now ≡ false → result ≡ 6 }
+
+    // The text ends by a zero, and says something where the picture is too large.
+    ensures ended { slice_index picture.new.text 111 ≡ 0 }
+    ensures said { result ≡ 8 → slice_index picture.new.text 0 ≡ 0 → ⊥ }
 {
     *picture = NO_PICTURE;
     let outcome = read_info_from(alloc, &mut Bytes::new(jpeg), options, picture);
@@ -95,6 +113,29 @@ pub extern "C" fn zaxbriar_checked_decode(
 
     // After any other result than OK, `pixels` is as it was.
     ensures kept { (result ≡ 0 → ⊥) → pixels.new ≡ pixels.old }
+
+    // After OK and NO_ROOM `picture` is what `zaxbriar_checked_read_info` describes, within the
+    // limits; and after NO_ROOM `pixels` is too short for it.
+    ensures describes { result ≡ 0 → length jpeg.now < 2 ^ 64
+        → IsWithin options.now jpeg.now (as_described picture.new) }
+    ensures room { result ≡ 5 → length jpeg.now < 2 ^ 64
+        → IsWithin options.now jpeg.now (as_described picture.new)
+        × (length pixels.old < picture.new.size) }
+
+    // TOO_LARGE: `picture` describes it, and it is above a limit. This depends on the header alone:
+    // whatever follows the header of such a picture, there is no other result, unless memory or the
+    // arguments are to blame.
+    ensures large { result ≡ 8 → length jpeg.now < 2 ^ 64
+        → IsTooLarge options.now jpeg.now (as_described picture.new) }
+    ensures limited { length jpeg.now < 2 ^ 64 → (size : Picture)
+        → IsTooLarge options.now jpeg.now size → IsOfCallNumber result }
+
+    // Options that don't exist are refused, whatever the bytes are.
+    ensures known { are_known options.now ≡ false → result ≡ 6 }
+
+    // The text ends by a zero, and says something where there is no room for the picture.
+    ensures ended { slice_index picture.new.text 111 ≡ 0 }
+    ensures said { (result ≡ 5) ⊎ (result ≡ 8) → slice_index picture.new.text 0 ≡ 0 → ⊥ }
 {
     *picture = NO_PICTURE;
     let mut reader = Bytes::new(jpeg);
@@ -117,8 +158,16 @@ pub extern "C" fn zaxbriar_checked_metadata(
     ensures copies { result ≡ 0 → length jpeg.now < 2 ^ 64
         → IsCopied (said_of kind jpeg.now) buffer.old buffer.new count.new }
 
-    // NO_DATA: they say nothing of this kind.
-    ensures none { length jpeg.now < 2 ^ 64 → result ≡ 7 → said_of kind jpeg.now ≡ None }
+    // NO_DATA: the header is whole, and its segments say nothing of this kind.
+    ensures none { length jpeg.now < 2 ^ 64 → result ≡ 7
+        → (said_of kind jpeg.now ≡ None) × IsOk (header_at jpeg.now) }
+
+    // NO_ROOM: what they say is longer than `buffer`, and its length is returned.
+    ensures room { length jpeg.now < 2 ^ 64 → result ≡ 5
+        → IsLonger (said_of kind jpeg.now) (length buffer.old) count.new }
+
+    // A kind that doesn't exist is refused, whatever the bytes are.
+    ensures known { (kind ≡ 0) ⊎ (3 < kind) → result ≡ 6 }
 
     // MALFORMED, UNSUPPORTED and TRUNCATED name the header's fault.
     ensures malformed { length jpeg.now < 2 ^ 64 → result ≡ 1 → header_at jpeg.now ≡ Err Malformed }
@@ -130,6 +179,9 @@ pub extern "C" fn zaxbriar_checked_metadata(
     ensures kept { (result ≡ 0 → ⊥) → buffer.new ≡ buffer.old }
 {
     *count = 0;
+    if kind == 0 || kind > 3 {
+        return BAD_ARGUMENT;
+    }
     match read_metadata(alloc, &mut Bytes::new(jpeg), kind, buffer, count) {
         Ok(code) => code,
         Err(_) => NO_MEMORY,

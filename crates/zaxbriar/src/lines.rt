@@ -1,11 +1,11 @@
 //! Where the lines of a picture are in the caller's memory.
-ghost use Rattle.std.specs.Prelude.{◌≡◌, ◌+◌, ◌*◌, ◌<◌, ◌≤◌, ℕ, length, true, IfOk, IfErr};
+ghost use Rattle.std.specs.Prelude.{◌≡◌, ◌+◌, ◌*◌, ◌<◌, ◌≤◌, ℕ, length, IfOk, IfErr};
 ghost use Rattle.jpeg_decoder.specs.Bytes.{bytes_a_sample, samples_a_pixel};
 ghost use Rattle.zaxbriar.specs.Faults.{IsArgument};
 ghost use Rattle.zaxbriar.specs.Layouts.{TakesStored, converted_bytes, laid_out, layout_line};
 ghost use Rattle.zaxbriar.specs.Layouts.{size_of_lines};
-ghost use Rattle.zaxbriar.specs.Lines.{HasLines};
-ghost use Rattle.zaxbriar.specs.declared.layouts.Conversion.TheVariants.{Stored};
+ghost use Rattle.zaxbriar.specs.Limits.{are_as_decoded};
+ghost use Rattle.zaxbriar.specs.Lines.{FitLines, HasLines};
 
 use crate::answers::Refusal;
 use crate::layouts::{Conversion, conversion_of, converted_bytes, put_row};
@@ -57,6 +57,7 @@ pub fn lines_of(
 ) -> std::result::Result<Lines, Refusal>
     ensures lines { IfOk result (HasLines options.now info precision) }
     ensures named { IfErr result IsArgument }
+    ensures misfit { IfErr result (λ _. FitLines options.now info precision → ⊥) }
 {
     let stored = samples_a_pixel(info.pixel_format) * bytes_a_sample(precision);
     let Some(conversion) = conversion_of(options.layout, info.pixel_format, precision) else {
@@ -85,8 +86,7 @@ pub fn lines_of(
 
 /// Returns whether the lines are those that a decoder gives, without gaps.
 pub fn is_as_decoded(lines: Lines) -> bool
-    ensures { result ≡ true
-        → (lines.conversion ≡ Stored) × (lines.stride ≡ lines.row_bytes) }
+    ensures { result ≡ are_as_decoded lines }
 {
     match lines.conversion {
         Conversion::Stored => lines.stride == lines.row_bytes,

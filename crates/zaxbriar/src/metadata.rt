@@ -1,13 +1,13 @@
 //! The metadata of a header.
 ghost use Rattle.std.specs.Prelude.{◌≡◌, ◌<◌, ℕ, suc, List, length, None, true, IfErr, IfOk, OnErr};
-ghost use Rattle.std.specs.Prelude.{OnOk};
+ghost use Rattle.std.specs.Prelude.{IsOk, OnOk};
 ghost use Rattle.std.specs.Option.{option_copied};
 ghost use Rattle.jpeg_streams.specs.Output.{Tells};
 ghost use Rattle.jpeg_streams.specs.Reported.{told_by_turns};
 ghost use Rattle.jpeg_streams.specs.declared.progress.Progress.TheVariants.{Fresh};
 ghost use Rattle.jpeg_streams.specs.Stream.{header_at, told_of};
 ghost use Rattle.zaxbriar.specs.Faults.{IsNamed};
-ghost use Rattle.zaxbriar.specs.Metadata.{IsCopied, metadata_of, said_of};
+ghost use Rattle.zaxbriar.specs.Metadata.{IsCopied, IsLonger, metadata_of, said_of};
 
 use crate::answers::{BAD_ARGUMENT, NO_DATA, NO_ROOM, OK, TRUNCATED, code_of, refusal_of};
 use jpeg_decoder::Decoder;
@@ -21,6 +21,8 @@ fn copy_data(found: Option<&[u8]>, buffer: &mut [u8], count: &mut u64) -> u32
         → IsCopied (option_copied found.entry) buffer.old buffer.new count.new }
     ensures none { result ≡ 7 → option_copied found.entry ≡ None }
     ensures own { result < 4 → result ≡ 0 }
+    ensures room { result ≡ 5
+        → IsLonger (option_copied found.entry) (length buffer.old) count.new }
     ensures kept { (result ≡ 0 → ⊥) → buffer.new ≡ buffer.old }
 {
     match found {
@@ -48,6 +50,9 @@ fn copy_profile<R: Read + Drop>(
         count.new) }
     ensures none { IfOk result (λ code. code ≡ 7
         → metadata_of 3 decoder.now.found.said.metadata ≡ None) }
+    ensures room { IfOk result (λ code. code ≡ 5
+        → IsLonger (metadata_of 3 decoder.now.found.said.metadata) (length buffer.old)
+        count.new) }
     ensures own { IfOk result (λ code. code < 4 → code ≡ 0) }
     ensures kept { IfOk result (λ code. (code ≡ 0 → ⊥) → buffer.new ≡ buffer.old) }
     ensures failed { OnErr result (buffer.new ≡ buffer.old) }
@@ -70,6 +75,9 @@ fn copy_kind<R: Read + Drop>(
         count.new) }
     ensures none { IfOk result (λ code. code ≡ 7
         → metadata_of kind decoder.now.found.said.metadata ≡ None) }
+    ensures room { IfOk result (λ code. code ≡ 5
+        → IsLonger (metadata_of kind decoder.now.found.said.metadata) (length buffer.old)
+        count.new) }
     ensures own { IfOk result (λ code. code < 4 → code ≡ 0) }
     ensures kept { IfOk result (λ code. (code ≡ 0 → ⊥) → buffer.new ≡ buffer.old) }
     ensures failed { OnErr result (buffer.new ≡ buffer.old) }
@@ -90,8 +98,10 @@ fn read_told<R: Read + Drop>(decoder: &mut Decoder<R>) -> std::result::Result<u3
         ≡ told_by_turns (suc (length decoder.old.source.bytes)) true decoder.old.source.bytes) }
     ensures named { decoder.old.source.known ≡ true
         → IfOk result (λ code. IsNamed code (header_at decoder.old.source.bytes)) }
-    ensures fails { IfOk result (λ code. code ≡ 0 → ⊥) }
-    ensures other { IfErr result (λ code. 3 < code × (code ≡ 7 → ⊥)) }
+    ensures whole { decoder.old.source.known ≡ true
+        → IfOk result (λ code. code ≡ 7 → IsOk (header_at decoder.old.source.bytes)) }
+    ensures fails { IfOk result (λ code. (code ≡ 0 → ⊥) × (code ≡ 5 → ⊥)) }
+    ensures other { IfErr result (λ code. 3 < code × (code ≡ 7 → ⊥) × (code ≡ 5 → ⊥)) }
 {
     let Err(error) = decoder.read_info() else {
         return Ok(NO_DATA);
@@ -116,7 +126,11 @@ pub fn read_metadata<R: Read + Drop>(
         → IfOk result (λ code. code ≡ 0
         → IsCopied (said_of kind bytes) buffer.old buffer.new count.new) }
     ensures none { (bytes : List ℕ) → Tells (R.remaining reader.old) bytes
-        → IfOk result (λ code. code ≡ 7 → said_of kind bytes ≡ None) }
+        → IfOk result (λ code. code ≡ 7
+        → (said_of kind bytes ≡ None) × IsOk (header_at bytes)) }
+    ensures room { (bytes : List ℕ) → Tells (R.remaining reader.old) bytes
+        → IfOk result (λ code. code ≡ 5
+        → IsLonger (said_of kind bytes) (length buffer.old) count.new) }
     ensures named { (bytes : List ℕ) → Tells (R.remaining reader.old) bytes
         → IfOk result (λ code. IsNamed code (header_at bytes)) }
     ensures kept { IfOk result (λ code. (code ≡ 0 → ⊥) → buffer.new ≡ buffer.old) }

@@ -4,10 +4,12 @@ ghost use Rattle.jpeg_streams.specs.DecodedImages.{at_size};
 ghost use Rattle.jpeg_streams.specs.Found.{with_said};
 ghost use Rattle.jpeg_streams.specs.Output.{default_settings};
 ghost use Rattle.jpeg_streams.specs.declared.progress.Progress.TheVariants.{HeaderRead};
-ghost use Rattle.zaxbriar.specs.Meanings.{settings_of, size_wanted, transform_number};
+ghost use Rattle.zaxbriar.specs.Limits.{are_known, is_denominator};
+ghost use Rattle.zaxbriar.specs.Meanings.{least_side, scale_by, settings_of, size_wanted};
+ghost use Rattle.zaxbriar.specs.Meanings.{transform_number};
 
 use jpeg_decoder::error::Result;
-use jpeg_decoder::{ColorTransform, Decoder};
+use jpeg_decoder::{ColorTransform, Decoder, Scale};
 use std::io::Read;
 
 /// How a stream is to be decoded: `zaxbriar_options` of the header. All zeros ask for the picture
@@ -15,28 +17,48 @@ use std::io::Read;
 #[repr(C)]
 #[derive(Clone, Copy)]
 pub struct Options {
-    /// How many samples a picture may have that is decoded; 0 for any number.
+    /// The most samples that a picture may have, at its scale; 0 for any number.
     pub max_samples: u64,
     /// The bytes from one line to the next; 0 for no gaps.
     pub stride: u64,
-    /// The picture is decoded at the least of 1/8, 1/4, 1/2 and 1 of its size at which it is so
-    /// wide or so high; at full size if both are 0.
+    /// The picture is decoded at the least of 1/8, 1/4, 1/2 and 1 of its size at which it is at
+    /// least that wide or at least that high. Where one of the two is 0 the other alone decides;
+    /// where both are, the picture has its full size.
     pub min_width: u16,
     pub min_height: u16,
     /// The number of a colour transform in place of the stream's; 0 for the stream's.
     pub transform: u8,
     /// The number of a layout; 0 for the picture as it is stored.
     pub layout: u8,
+    /// The denominator of the scale: 1, 2, 4 or 8 for exactly that part of each side, rounded up,
+    /// whatever the two above are; 0 for what they say.
+    pub scale: u8,
     /// Zero.
-    pub reserved: u16,
-    pub reserved_words: [u64; 3],
+    pub reserved: u8,
+    /// The most bytes that decoding may take beside the caller's memory, as `decoding_bytes` of the
+    /// picture counts them; 0 for any number.
+    pub max_bytes: u64,
+    /// Zero.
+    pub reserved_words: [u64; 2],
+}
+
+/// Returns whether a number is the denominator of a scale, or 0.
+fn is_denominator(number: u8) -> bool
+    ensures { result ≡ is_denominator number }
+{
+    number == 0 || number == 1 || number == 2 || number == 4 || number == 8
 }
 
 /// Returns whether all options exist whatever the picture is.
-pub fn are_known(options: &Options) -> bool {
-    let [first, second, third] = options.reserved_words;
-    let is_room_zero = options.reserved == 0 && first == 0 && second == 0 && third == 0;
-    options.transform != 1 && options.transform <= 5 && is_room_zero
+pub fn are_known(options: &Options) -> bool
+    ensures { result ≡ are_known options.now }
+{
+    options.transform != 1
+        && options.transform <= 5
+        && is_denominator(options.scale)
+        && options.reserved == 0
+        && options.reserved_words[0] == 0
+        && options.reserved_words[1] == 0
 }
 
 /// Returns the colour transform of a number.
@@ -60,9 +82,27 @@ pub fn apply<R: Read + Drop>(decoder: &mut Decoder<R>, options: &Options)
     if let Some(transform) = transform_of(options.transform) {
         decoder.set_color_transform(transform);
     }
-    if options.max_samples != 0 {
-        decoder.set_max_decoding_buffer_size(options.max_samples as usize);
+}
+
+/// Returns the scale of a denominator.
+fn scale_of(denominator: u8) -> Option<Scale>
+    ensures { result ≡ scale_by denominator }
+{
+    match denominator {
+        1 => Some(Scale::Full),
+        2 => Some(Scale::Half),
+        4 => Some(Scale::Quarter),
+        8 => Some(Scale::Eighth),
+        _ => None,
     }
+}
+
+/// Returns the least length of a side for `Decoder::scale`, of one that may be 0: a side is 65,535
+/// samples long at full size alone, so that the other side decides.
+fn least_side(side: u16) -> u16
+    ensures { result ≡ least_side side }
+{
+    if side == 0 { u16::MAX } else { side }
 }
 
 /// Chooses the scale of the picture whose header was read.
@@ -72,8 +112,13 @@ pub fn apply_size<R: Read + Drop>(decoder: &mut Decoder<R>, options: &Options) -
         { found = with_said (at_size (size_wanted options.now)) decoder.old.found }) }
     ensures ok { IsOk result }
 {
-    if options.min_width != 0 || options.min_height != 0 {
-        decoder.scale(options.min_width, options.min_height)?;
+    if let Some(scale) = scale_of(options.scale) {
+        decoder.set_scale(scale)?;
+    } else if options.min_width != 0 || options.min_height != 0 {
+        decoder.scale(
+            least_side(options.min_width),
+            least_side(options.min_height),
+        )?;
     }
     Ok(())
 }

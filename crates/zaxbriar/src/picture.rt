@@ -1,11 +1,12 @@
 //! What a caller is told of a picture.
-ghost use Rattle.std.specs.Prelude.{◌≡◌, ◌≤◌, ◌<◌};
+ghost use Rattle.std.specs.Prelude.{◌≡◌, ◌≤◌, ◌+◌};
+ghost use Rattle.zaxbriar.specs.Limits.{bytes_beside};
 ghost use Rattle.zaxbriar.specs.Lines.{process_number, described_picture};
 
 use crate::answers::TEXT_BYTES;
 use crate::header::Header;
+use crate::limits::bytes_beside;
 use crate::lines::{Lines, bytes_a_sample, samples_a_pixel, size_of_lines};
-use crate::options::Options;
 use jpeg_decoder::CodingProcess;
 
 /// A picture as decoding with some options gives it: `zaxbriar_picture` of the header.
@@ -16,7 +17,7 @@ pub struct Picture {
     pub size: u64,
     /// The bytes of a line without its gap: `width * pixel_bytes`.
     pub row_bytes: u64,
-    /// The most memory that decoding takes for samples.
+    /// The most memory for samples that decoding takes at a time beside the caller's.
     pub decoding_bytes: u64,
     /// After decoding, how many bytes of the stream were read.
     pub stream_bytes: u64,
@@ -77,13 +78,15 @@ fn process_number(process: CodingProcess) -> u8
 pub fn picture_of(header: Header, lines: Lines, layout: u8) -> Picture
     requires row { lines.row_bytes ≤ lines.stride }
     requires stride { lines.stride ≤ 4294967296 }
+    requires peak { header.decoding_bytes.coefficients + header.decoding_bytes.planes
+        ≤ header.decoding_bytes.peak }
     ensures { result ≡ described_picture layout header.info header.precision lines
-        header.decoding_bytes.peak header.orientation 0 }
+        (bytes_beside lines header.decoding_bytes) header.orientation 0 }
 {
     Picture {
         size: size_of_lines(lines),
         row_bytes: lines.row_bytes,
-        decoding_bytes: header.decoding_bytes.peak,
+        decoding_bytes: bytes_beside(lines, header.decoding_bytes),
         stream_bytes: 0,
         width: u32::from(lines.width),
         height: u32::from(lines.height),

@@ -1,6 +1,5 @@
-use Rattle.zaxbriar.proofs.Fails.{named, tells-all}
+use Rattle.zaxbriar.proofs.Fails.{of-call-number, tells-all}
 use Rattle.zaxbriar.proofs.Told.{shown, shown-samples}
-use Rattle.zaxbriar.specs.Meanings.{meaning_by}
 use Rattle.zaxbriar.proofs.zaxbriar_checked_decode.Goals as goal
 
 pub returns-clause-means : goal.returns-clause-means
@@ -16,20 +15,7 @@ returns-clause-images c ok few array image rest final last range w is =
     shown-samples c.decode_into-outcome.result c.args.options.now _ _ _ c.decode_into-outcome.new.picture _
     c.answer.new.text c.answer.result c.answer.ensures.code c.answer.ensures.text images ok
 
-pub returns-clause-malformed : goal.returns-clause-malformed
-returns-clause-malformed c few =
-    (named c.decode_into-outcome.result (meaning_by c.args.options.now c.args.jpeg.now) c.answer.result
-    c.answer.ensures.code ((rw c.new-reader.ensures at c.decode_into-outcome.ensures.named) c.args.jpeg.now
-    (tells-all _ few))).0
-
-pub returns-clause-unsupported : goal.returns-clause-unsupported
-returns-clause-unsupported c few =
-    (named c.decode_into-outcome.result (meaning_by c.args.options.now c.args.jpeg.now) c.answer.result
-    c.answer.ensures.code ((rw c.new-reader.ensures at c.decode_into-outcome.ensures.named) c.args.jpeg.now
-    (tells-all _ few))).1
-
-pub returns-clause-truncated : goal.returns-clause-truncated
-returns-clause-truncated c few =
-    (named c.decode_into-outcome.result (meaning_by c.args.options.now c.args.jpeg.now) c.answer.result
-    c.answer.ensures.code ((rw c.new-reader.ensures at c.decode_into-outcome.ensures.named) c.args.jpeg.now
-    (tells-all _ few))).2
+pub returns-clause-limited : goal.returns-clause-limited
+returns-clause-limited c few size large =
+    of-call-number c.decode_into-outcome.result c.answer.result c.answer.ensures.code
+    ((rw c.new-reader.ensures at c.decode_into-outcome.ensures.limited) c.args.jpeg.now (tells-all _ few) size large)

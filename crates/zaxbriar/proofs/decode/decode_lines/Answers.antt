@@ -1,6 +1,6 @@
-use Rattle.std.proofs.Common.{ℕ, arith, length, take}
+use Rattle.std.proofs.Common.{ℕ, ◌∙◌, arith, length, sym, take}
 use Rattle.jpeg_streams.specs.Stream.{told_of}
-use Rattle.zaxbriar.proofs.Decoded.{decodes-of, has-room, named-rest, row-of, samples-count}
+use Rattle.zaxbriar.proofs.Decoded.{as-decoded, decodes-of, has-room, named-rest, row-of, samples-count}
 use Rattle.zaxbriar.proofs.Laid.{laid-at_once}
 use Rattle.zaxbriar.proofs.decode.decode_lines.Goals as goal
 use Rattle.zaxbriar.proofs.decode.decode_lines.Goals.{in-Ok, in-Err}
@@ -11,7 +11,7 @@ returns-then-header-pixels-clause-decodes g c =
     let frame = c.decode_into.ensures.stays c.requires.read in
     let room = has-room c.args.decoder.now.found.said.frame c.decode_into.new.self.found.said.frame c.args.header.decoding_bytes
     (length c.args.pixels.now) frame c.requires.bytes (omega (arith, c.if-header-pixels.true)) in
-    let plain = c.is_as_decoded.ensures c.if-is_as_decoded.true in
+    let plain = as-decoded lines (sym c.is_as_decoded.ensures ∙ c.if-is_as_decoded.true) in
     elim c.match-decode_into.branch [
       | in-Ok w ↦ rw w.result-is (decodes-of lines c.args.decoder.now c.decode_into.new.self _ c.args.pixels.now
           c.decode_into.new.pixels c.requires.read frame (w.in-Ok.ensures.decodes room).reads (w.in-Ok.ensures.decodes room).images

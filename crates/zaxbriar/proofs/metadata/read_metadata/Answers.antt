@@ -10,10 +10,20 @@ returns-clause-copied g c bytes tells none =
     let same = known_bytes_are_told (g.R.Read.remaining c.args.reader.now) bytes tells in
     let told = (rw c.in_ok-decoder.ensures.ok at c.in-Ok.ensures.told) known in
     elim c.if-code-eq-NO_DATA.branch [
-      | then-code-eq-NO_DATA w ↦ absurd (c.in-Ok.ensures.fails (sym w.result-is ∙ none))
+      | then-code-eq-NO_DATA w ↦ absurd (c.in-Ok.ensures.fails.0 (sym w.result-is ∙ none))
       | else-code-eq-NO_DATA w ↦ grind arith
     ]
 
 pub returns-clause-named : goal.returns-clause-named
 returns-clause-named g c bytes tells =
     grind (arith, bytes_are_known, known_bytes_are_told, then-code-eq-NO_DATA, else-code-eq-NO_DATA, other-named)
+
+pub returns-clause-room : goal.returns-clause-room
+returns-clause-room g c bytes tells longer =
+    let known = bytes_are_known (g.R.Read.remaining c.args.reader.now) bytes tells in
+    let same = known_bytes_are_told (g.R.Read.remaining c.args.reader.now) bytes tells in
+    let told = (rw c.in_ok-decoder.ensures.ok at c.in-Ok.ensures.told) known in
+    elim c.if-code-eq-NO_DATA.branch [
+      | then-code-eq-NO_DATA w ↦ absurd (c.in-Ok.ensures.fails.1 (sym w.result-is ∙ longer))
+      | else-code-eq-NO_DATA w ↦ grind arith
+    ]

@@ -1,0 +1,230 @@
+/* known: streams that were made by hand, whose samples are known, through each call. */
+#include "common.h"
+
+/* A grey stream of 8 by 8 pixels, each 0x81. */
+static const unsigned char grey[] = {
+    0xff, 0xd8, 0xff, 0xdb, 0x00, 0x43, 0x00, 0x01, 0x01, 0x01, 0x01, 0x01, 0x01, 0x01, 0x01, 0x01,
+    0x01, 0x01, 0x01, 0x01, 0x01, 0x01, 0x01, 0x01, 0x01, 0x01, 0x01, 0x01, 0x01, 0x01, 0x01, 0x01,
+    0x01, 0x01, 0x01, 0x01, 0x01, 0x01, 0x01, 0x01, 0x01, 0x01, 0x01, 0x01, 0x01, 0x01, 0x01, 0x01,
+    0x01, 0x01, 0x01, 0x01, 0x01, 0x01, 0x01, 0x01, 0x01, 0x01, 0x01, 0x01, 0x01, 0x01, 0x01, 0x01,
+    0x01, 0x01, 0x01, 0x01, 0x01, 0x01, 0x01, 0xff, 0xc0, 0x00, 0x0b, 0x08, 0x00, 0x08, 0x00, 0x08,
+    0x01, 0x01, 0x11, 0x00, 0xff, 0xc4, 0x00, 0x14, 0x00, 0x01, 0x00, 0x00, 0x00, 0x00, 0x00, 0x00,
+    0x00, 0x00, 0x00, 0x00, 0x00, 0x00, 0x00, 0x00, 0x00, 0x04, 0xff, 0xc4, 0x00, 0x14, 0x10, 0x01,
+    0x00, 0x00, 0x00, 0x00, 0x00, 0x00, 0x00, 0x00, 0x00, 0x00, 0x00, 0x00, 0x00, 0x00, 0x00, 0x00,
+    0xff, 0xda, 0x00, 0x08, 0x01, 0x01, 0x00, 0x00, 0x3f, 0x00, 0x43, 0xff, 0xd9,
+};
+
+/* Where the header of this stream ends: its frame. */
+enum { GREY_HEADER = 84 };
+
+/* A lossless stream of one pixel of three components of 16 bits. The first samples are predicted as
+ * 2^15, and their differences are 0, 1 and -1. Byte 6 is the precision. */
+static const unsigned char deep[] = {
+    0xff, 0xd8, 0xff, 0xc3, 0x00, 0x11, 0x10, 0x00, 0x01, 0x00, 0x01, 0x03, 0x01, 0x11, 0x00, 0x02,
+    0x11, 0x00, 0x03, 0x11, 0x00, 0xff, 0xc4, 0x00, 0x15, 0x00, 0x01, 0x01, 0x00, 0x00, 0x00, 0x00,
+    0x00, 0x00, 0x00, 0x00, 0x00, 0x00, 0x00, 0x00, 0x00, 0x00, 0x00, 0x01, 0xff, 0xda, 0x00, 0x0c,
+    0x03, 0x01, 0x00, 0x02, 0x00, 0x03, 0x00, 0x01, 0x00, 0x00, 0x59, 0xff, 0xd9,
+};
+
+/* An APP1 segment whose Exif data have the orientation 6, the higher byte first, and the same with
+ * the lower byte first. */
+static const unsigned char exif[2][32] = {
+    {0xff, 0xe1, 0x00, 0x1e, 'E',  'x',  'i',  'f',  0x00, 0x00, 'M',
+     'M',  0x00, 0x2a, 0x00, 0x00, 0x00, 0x08, 0x00, 0x01, 0x01, 0x12,
+     0x00, 0x03, 0x00, 0x00, 0x00, 0x01, 0x00, 0x06, 0x00, 0x00},
+    {0xff, 0xe1, 0x00, 0x1e, 'E',  'x',  'i',  'f',  0x00, 0x00, 'I',
+     'I',  0x2a, 0x00, 0x08, 0x00, 0x00, 0x00, 0x01, 0x00, 0x12, 0x01,
+     0x03, 0x00, 0x01, 0x00, 0x00, 0x00, 0x06, 0x00, 0x00, 0x00},
+};
+
+static zaxbriar_picture picture;
+static unsigned char pixels[300];
+
+/* Decodes into memory of 7s. */
+static int decode(const unsigned char *jpeg, size_t size, zaxbriar_options options, size_t room) {
+    memset(pixels, 7, sizeof pixels);
+    return zaxbriar_decode(jpeg, size, &options, pixels, room, &picture);
+}
+
+static void memory(void) {
+    zaxbriar_options none = {0};
+    unsigned char longer[sizeof grey + 1] = {0};
+    CHECK(zaxbriar_read_info(grey, sizeof grey, NULL, &picture) == ZAXBRIAR_OK);
+    CHECK(picture.size == 64 && picture.decoding_bytes == 192);
+    CHECK(decode(grey, sizeof grey, none, 65) == ZAXBRIAR_OK);
+    CHECK(is_all(pixels, 64, 0x81) && pixels[64] == 7);
+    CHECK(picture.stream_bytes == 141);
+    /* A byte after the end of the image isn't read. */
+    memcpy(longer, grey, sizeof grey);
+    CHECK(decode(longer, sizeof longer, none, 65) == ZAXBRIAR_OK && picture.stream_bytes == 141);
+    CHECK(decode(grey, sizeof grey, none, 63) == ZAXBRIAR_NO_ROOM);
+    CHECK(picture.size == 64 && picture.text[0] != 0 && is_all(pixels, 65, 7));
+    CHECK(decode(grey, 140, none, 65) == ZAXBRIAR_TRUNCATED && is_all(pixels, 65, 7));
+}
+
+static void gaps(void) {
+    for (uint8_t layout = ZAXBRIAR_AS_STORED; layout <= ZAXBRIAR_GREY; layout++)
+        for (uint64_t asked = 7; asked <= 9; asked++) {
+            zaxbriar_options options = {.layout = layout, .stride = asked == 7 ? 0 : asked};
+            uint64_t stride = asked == 9 ? 9 : 8;
+            CHECK(decode(grey, sizeof grey, options, 80) == ZAXBRIAR_OK);
+            CHECK(picture.size == stride * 7 + 8);
+            /* the picture is decoded in place only where there are no gaps */
+            CHECK(picture.decoding_bytes == 192);
+            for (uint64_t x = 0; x < 80; x++)
+                CHECK(pixels[x] == (x < picture.size && x % stride < 8 ? 0x81 : 7));
+        }
+}
+
+static void deep_samples(void) {
+    static const unsigned char wanted[] = {0x00, 0x80, 0x01, 0x80, 0xff, 0x7f};
+    zaxbriar_options options = {0};
+    CHECK(decode(deep, sizeof deep, options, 6) == ZAXBRIAR_OK);
+    CHECK(!memcmp(pixels, wanted, 6) && picture.size == 6 && picture.pixel_bytes == 6);
+    CHECK(picture.precision == 16 && picture.sample_bytes == 2 && picture.components == 3);
+    CHECK(picture.process == ZAXBRIAR_LOSSLESS);
+    /* the three planes, of two bytes a sample; and the picture beside them where there is a gap */
+    CHECK(picture.decoding_bytes == 6);
+    options.stride = 7;
+    CHECK(decode(deep, sizeof deep, options, 6) == ZAXBRIAR_OK && picture.decoding_bytes == 12);
+    options.layout = ZAXBRIAR_RGBA; /* 16 bits have no other layout */
+    CHECK(zaxbriar_read_info(deep, sizeof deep, &options, &picture) == ZAXBRIAR_BAD_ARGUMENT);
+}
+
+static void layouts_of_grey(void) {
+    zaxbriar_options options = {.stride = 34, .layout = ZAXBRIAR_BGRA};
+    CHECK(decode(grey, sizeof grey, options, 300) == ZAXBRIAR_OK);
+    CHECK(picture.size == 34 * 7 + 32);
+    CHECK(pixels[4] == 0x81 && pixels[7] == 255 && pixels[32] == 7 && pixels[33] == 7);
+    CHECK(pixels[34] == 0x81 && pixels[269] == 255 && pixels[270] == 7);
+    options = (zaxbriar_options){.layout = ZAXBRIAR_RGB};
+    CHECK(decode(grey, sizeof grey, options, 300) == ZAXBRIAR_OK);
+    CHECK(picture.size == 192 && is_all(pixels, 192, 0x81));
+}
+
+static void layouts_of_colours(void) {
+    static const unsigned char wanted[][5] = {
+        [ZAXBRIAR_RGB] = {0x80, 0x81, 0x7f, 7, 7},
+        [ZAXBRIAR_RGBA] = {0x80, 0x81, 0x7f, 255, 7},
+        [ZAXBRIAR_BGRA] = {0x7f, 0x81, 0x80, 255, 7},
+    };
+    unsigned char stream[sizeof deep];
+    memcpy(stream, deep, sizeof deep);
+    stream[6] = 8; /* samples of 8 bits are predicted as 2^7 */
+    for (uint8_t layout = ZAXBRIAR_RGB; layout <= ZAXBRIAR_BGRA; layout++) {
+        zaxbriar_options options = {.layout = layout};
+        CHECK(decode(stream, sizeof stream, options, 5) == ZAXBRIAR_OK);
+        CHECK(!memcmp(pixels, wanted[layout], 5) && picture.process == ZAXBRIAR_LOSSLESS);
+    }
+}
+
+static void refusals(void) {
+    static const unsigned char arithmetic[] = {0xff, 0xd8, 0xff, 0xcc};
+    static const zaxbriar_options wrong[] = {
+        {.layout = 5}, {.stride = 7}, {.transform = 1}, {.reserved = 1}};
+    for (size_t i = 0; i < sizeof wrong / sizeof *wrong; i++) {
+        CHECK(zaxbriar_read_info(grey, sizeof grey, &wrong[i], &picture) == ZAXBRIAR_BAD_ARGUMENT);
+        CHECK(picture.text[0] != 0);
+    }
+    CHECK(zaxbriar_read_info("GIF89a", 6, NULL, &picture) == ZAXBRIAR_MALFORMED);
+    CHECK(zaxbriar_read_info(arithmetic, sizeof arithmetic, NULL, &picture) ==
+          ZAXBRIAR_UNSUPPORTED);
+    CHECK(picture.width == 0);
+    CHECK(zaxbriar_decode(arithmetic, sizeof arithmetic, NULL, NULL, 0, &picture) ==
+          ZAXBRIAR_UNSUPPORTED);
+}
+
+/* Both limits, at the number that is allowed and one less: of the whole stream, of its header alone
+ * and of a header that rubbish follows. */
+static void limits(void) {
+    unsigned char damaged[sizeof grey] = {0};
+    memcpy(damaged, grey, GREY_HEADER);
+    memcpy(damaged + GREY_HEADER, "\xff\xdb\0\1", 4); /* no length is below 2 */
+    for (int which = 0; which < 2; which++) {
+        uint64_t most = which ? 192 : 64;
+        zaxbriar_options within = {.max_samples = which ? 0 : most, .max_bytes = which ? most : 0};
+        zaxbriar_options above = within;
+        *(which ? &above.max_bytes : &above.max_samples) = most - 1;
+        CHECK(zaxbriar_read_info(grey, sizeof grey, &within, &picture) == ZAXBRIAR_OK);
+        CHECK(decode(grey, sizeof grey, within, 64) == ZAXBRIAR_OK);
+        CHECK(decode(grey, GREY_HEADER, within, 64) == ZAXBRIAR_TRUNCATED);
+        CHECK(decode(damaged, sizeof grey, within, 64) == ZAXBRIAR_MALFORMED);
+        CHECK(zaxbriar_read_info(grey, sizeof grey, &above, &picture) == ZAXBRIAR_TOO_LARGE);
+        CHECK(picture.width == 8 && picture.size == 64 && picture.text[0] != 0);
+        CHECK(decode(grey, sizeof grey, above, 64) == ZAXBRIAR_TOO_LARGE);
+        CHECK(picture.width == 8 && picture.size == 64 && is_all(pixels, 64, 7));
+        CHECK(decode(grey, sizeof grey, above, 0) == ZAXBRIAR_TOO_LARGE);
+        CHECK(decode(grey, GREY_HEADER, above, 64) == ZAXBRIAR_TOO_LARGE);
+        CHECK(decode(damaged, sizeof grey, above, 64) == ZAXBRIAR_TOO_LARGE);
+        CHECK(zaxbriar_decode(grey, GREY_HEADER - 1, &above, pixels, 64, NULL) ==
+              ZAXBRIAR_TRUNCATED);
+    }
+}
+
+static void metadata(void) {
+    for (int i = 0; i < 2; i++) {
+        unsigned char stream[sizeof grey + sizeof exif[i]], buffer[23];
+        size_t count = 0;
+        memcpy(stream, grey, 2);
+        memcpy(stream + 2, exif[i], sizeof exif[i]);
+        memcpy(stream + 2 + sizeof exif[i], grey + 2, sizeof grey - 2);
+        memset(buffer, 7, sizeof buffer);
+        CHECK(zaxbriar_metadata(stream, sizeof stream, ZAXBRIAR_EXIF, buffer, 23, &count) ==
+              ZAXBRIAR_OK);
+        CHECK(count == 22 && !memcmp(buffer, exif[i] + 10, 22) && buffer[22] == 7);
+        CHECK(zaxbriar_metadata(stream, sizeof stream, ZAXBRIAR_EXIF, NULL, 0, &count) ==
+                  ZAXBRIAR_NO_ROOM &&
+              count == 22);
+        CHECK(zaxbriar_metadata(stream, sizeof stream, ZAXBRIAR_ICC, NULL, 0, &count) ==
+              ZAXBRIAR_NO_DATA);
+        /* The header ends too soon, after the Exif data. */
+        CHECK(zaxbriar_metadata(stream, 40, ZAXBRIAR_EXIF, buffer, 23, &count) == ZAXBRIAR_OK &&
+              count == 22);
+        CHECK(zaxbriar_metadata(stream, 40, ZAXBRIAR_XMP, buffer, 23, &count) ==
+              ZAXBRIAR_TRUNCATED);
+        CHECK(zaxbriar_metadata(stream, sizeof stream, 4, NULL, 0, &count) ==
+              ZAXBRIAR_BAD_ARGUMENT);
+        CHECK(zaxbriar_read_info(stream, sizeof stream, NULL, &picture) == ZAXBRIAR_OK &&
+              picture.orientation == 6);
+    }
+}
+
+/* A profile of two parts, together above 64 kB. */
+static void long_profile(void) {
+    enum { PART = 65519, PROFILE = 2 * PART };
+    unsigned char *stream = block(sizeof grey + 2 * (PART + 18)), *at = stream + 2;
+    unsigned char *profile = block(PROFILE);
+    size_t count = 0;
+    memcpy(stream, grey, 2);
+    for (int part = 1; part <= 2; part++) {
+        memcpy(at, "\xff\xe2\xff\xffICC_PROFILE\0", 16);
+        at[16] = (unsigned char)part;
+        at[17] = 2;
+        memset(at + 18, part, PART);
+        at += 18 + PART;
+    }
+    memcpy(at, grey + 2, sizeof grey - 2);
+    size_t size = (size_t)(at - stream) + sizeof grey - 2;
+    CHECK(zaxbriar_metadata(stream, size, ZAXBRIAR_ICC, profile, PROFILE - 1, &count) ==
+              ZAXBRIAR_NO_ROOM &&
+          count == PROFILE);
+    CHECK(zaxbriar_metadata(stream, size, ZAXBRIAR_ICC, profile, PROFILE, &count) == ZAXBRIAR_OK);
+    CHECK(count == PROFILE && is_all(profile, PART, 1) && is_all(profile + PART, PART, 2));
+    free(profile);
+    free(stream);
+}
+
+int main(void) {
+    subject = "a stream made by hand";
+    memory();
+    gaps();
+    deep_samples();
+    layouts_of_grey();
+    layouts_of_colours();
+    refusals();
+    limits();
+    metadata();
+    long_profile();
+    printf("known: streams made by hand; %d faults\n", faults);
+    return faults != 0;
+}

@@ -1,0 +1,42 @@
+-- The limits of some options, and the memory that they are compared with.
+use Rattle.std.specs.Prelude.{◌==◌, ◌&&◌, ◌||◌, ◌+◌, ◌*◌, ℕ, Bool, true, false, not, nat_le, nat_lt}
+use Rattle.std.specs.Prelude.{if◌then◌else◌, slice_index}
+use Rattle.jpeg_decoder.specs.declared.memory.DecodingBytes.{DecodingBytes}
+use Rattle.zaxbriar.specs.declared.layouts.Conversion.{Conversion}
+use Rattle.zaxbriar.specs.declared.layouts.Conversion.TheVariants.{Stored}
+use Rattle.zaxbriar.specs.declared.lines.Lines.{Lines}
+use Rattle.zaxbriar.specs.declared.options.Options.{Options}
+use Rattle.zaxbriar.specs.declared.picture.Picture.{Picture}
+
+-- whether a number is the denominator of a scale, or 0
+abbrev pub is_denominator : ℕ → Bool
+is_denominator n = n == 0 || (n == 1 || (n == 2 || (n == 4 || n == 8)))
+
+-- whether all options exist whatever the picture is: the transform, the scale, and what is reserved
+abbrev pub are_known : Options → Bool
+are_known o = not (o.transform == 1) && (nat_le o.transform 5 && (is_denominator o.scale
+    && (o.reserved == 0
+    && (slice_index o.reserved_words 0 == 0 && slice_index o.reserved_words 1 == 0))))
+
+abbrev pub is_stored : Conversion → Bool
+is_stored Stored = true
+is_stored _ = false
+
+-- whether lines are those that a decoder gives: each pixel as it is stored, without gaps
+abbrev pub are_as_decoded : Lines → Bool
+are_as_decoded lines = is_stored lines.conversion && lines.stride == lines.row_bytes
+
+-- The most memory for samples that decoding takes at a time beside the caller's: such lines are
+-- decoded in place, and others are made of a picture beside them.
+abbrev pub bytes_beside : Lines → DecodingBytes → ℕ
+bytes_beside lines d = if are_as_decoded lines then d.coefficients + d.planes else d.peak
+
+-- whether a count is above a limit, where 0 is none
+abbrev pub is_over : ℕ → ℕ → Bool
+is_over limit count = not (limit == 0) && nat_lt limit count
+
+-- whether a picture is above a limit: by its samples, or by the memory that decoding takes
+abbrev pub exceeds_limits : Options → Picture → Bool
+exceeds_limits o picture =
+    is_over o.max_samples (picture.width * picture.height * picture.components)
+    || is_over o.max_bytes picture.decoding_bytes
