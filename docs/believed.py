@@ -2,7 +2,7 @@
 """Lists the definitions of crates/*/specs that the public clauses rest on: what has to be believed.
 
     docs/believed.py            counts and names by file
-    docs/believed.py --table    the generated part of docs/DESIGN.md
+    docs/believed.py --table    the generated part of docs/REVIEW.md
     docs/believed.py --shared   that of docs/SHARED.md: what writer, reader and picture share
     docs/believed.py --check    fails with a diff where a page differs from what this computes, or
                                 where what is written rests on what a reader answers
@@ -216,7 +216,7 @@ def rows(specs, keys, on):
 
 
 def table(specs):
-    """The generated part of docs/DESIGN.md."""
+    """The generated part of docs/REVIEW.md."""
     calls, laws = believed(specs)
     on = computed_on(specs)
     yield f"The clauses of `Decoder`, `run` and `report` reach {specs.total(calls)}:"
@@ -271,7 +271,7 @@ def main(choice):
         sys.exit(__doc__)
     if answering(specs):
         sys.exit("what is written rests on what a reader answers: " + ", ".join(answering(specs)))
-    for page, part in [("docs/DESIGN.md", table(specs)), ("docs/SHARED.md", shared(specs))]:
+    for page, part in [("docs/REVIEW.md", table(specs)), ("docs/SHARED.md", shared(specs))]:
         old = (ROOT / page).read_text("utf8")
         new = "\n".join([old.split(BEGIN)[0] + BEGIN, *part, "", END + old.split(END)[1]])
         if choice == "--write":
