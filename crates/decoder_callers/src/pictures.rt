@@ -1,0 +1,61 @@
+//! Callers of a decoder that ask for its picture.
+ghost use Rattle.std.specs.Prelude.{◌≡◌, drop, take, IfOk};
+ghost use Rattle.jpeg_bits.specs.Reading.{Answers};
+ghost use Rattle.jpeg_decoder.specs.Bytes.{IsWhole};
+ghost use Rattle.jpeg_streams.specs.DecodedImages.{DecodesImages};
+ghost use Rattle.jpeg_streams.specs.DecodedSamples.{DecodesSamples};
+ghost use Rattle.jpeg_streams.specs.States.{IsReading, MovesToEnd, ahead};
+ghost use Rattle.jpeg_streams.specs.Stream.{told_of};
+
+use crate::decoding::{
+    decode_by_image, decode_by_meaning, decode_by_samples, decode_by_stage, decode_into_by_rest,
+    decode_into_by_size,
+};
+use jpeg_decoder::Decoder;
+use jpeg_decoder::error::Result;
+use std::io::Read;
+
+/// Decodes by the clause `stage`.
+pub fn stage<R: Read + Drop>(decoder: &mut Decoder<R>) -> Result<Vec<u8>>
+    ensures { MovesToEnd decoder.old.stage decoder.new.stage result }
+{
+    decode_by_stage(decoder)
+}
+
+/// Decodes by the clause `reads`.
+pub fn meaning<R: Read + Drop>(decoder: &mut Decoder<R>) -> Result<Vec<u8>>
+    ensures { IsReading decoder.old.stage
+        → Answers (λ v. (told_of decoder.new.found.said, v.items))
+        (ahead decoder.old.stage decoder.old.settings decoder.old.found) decoder.old.source result
+        decoder.new.source }
+{
+    decode_by_meaning(decoder)
+}
+
+/// Decodes by the clause `images`.
+pub fn image<R: Read + Drop>(decoder: &mut Decoder<R>) -> Result<Vec<u8>>
+    ensures { DecodesImages (λ v. v.items) decoder.old result decoder.new }
+{
+    decode_by_image(decoder)
+}
+
+/// Decodes by the clause `samples`.
+pub fn samples<R: Read + Drop>(decoder: &mut Decoder<R>) -> Result<Vec<u8>>
+    ensures { DecodesSamples (λ v. v.items) decoder.old result decoder.new }
+{
+    decode_by_samples(decoder)
+}
+
+/// Decodes into memory by the clause `size`.
+pub fn picture_into<R: Read + Drop>(decoder: &mut Decoder<R>, pixels: &mut [u8]) -> Result<usize>
+    ensures { IfOk result (λ n. IsWhole decoder.new.found.said.frame (take n pixels.new)) }
+{
+    decode_into_by_size(decoder, pixels)
+}
+
+/// Decodes into memory by the clause `rest`.
+pub fn front_of<R: Read + Drop>(decoder: &mut Decoder<R>, pixels: &mut [u8]) -> Result<usize>
+    ensures { IfOk result (λ n. drop n pixels.new ≡ drop n pixels.old) }
+{
+    decode_into_by_rest(decoder, pixels)
+}
