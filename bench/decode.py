@@ -135,10 +135,10 @@ def memory_programs(bench_memory, peers, decodings=DECODINGS):
         )
 
 
-def programs(jpegraw, jpeg2pnm, peers):
+def programs(jpegraw, zaxbriar, peers):
     """All the programs, ours first."""
     size = "%dx%d" % SMALL
-    yield Program("ours", [jpegraw], [jpeg2pnm, "--scale", "1/8"])
+    yield Program("ours", [jpegraw], [zaxbriar, "pnm", "--scale", "1/8"])
     for peer in peers:
         yield Program(os.path.basename(peer), [peer, "FILE"], [peer, "--scale", size, "FILE"])
     djpeg = ["djpeg", "-dct", "int", "-pnm"]
@@ -235,7 +235,7 @@ def time_memory(all_programs, all_files):
                 print(line([words, f"{times[0]:.1f}", *ratios(times)]), flush=True)
 
 
-def main(jpegraw, jpeg2pnm, bench_memory, folder, *peers):
+def main(jpegraw, zaxbriar, bench_memory, folder, *peers):
     # small.py imports this file.
     from small import time_small
 
@@ -243,7 +243,7 @@ def main(jpegraw, jpeg2pnm, bench_memory, folder, *peers):
     os.sched_setaffinity(0, {max(os.sched_getaffinity(0))})
     print(f"{WIDTH}x{HEIGHT}, the best of {ROUNDS}, load {load()} of {os.cpu_count()} processors")
     all_files = list(files(folder))
-    time_programs(list(programs(jpegraw, jpeg2pnm, peers)), all_files)
+    time_programs(list(programs(jpegraw, zaxbriar, peers)), all_files)
     print(f"load {load()}\n")
     time_memory(list(memory_programs(bench_memory, peers)), all_files)
     time_small(bench_memory, folder, peers)

@@ -1,9 +1,9 @@
 """Compares jpegraw with another program of the same output, byte for byte, on files of many kinds.
 
-against.py JPEGRAW JPEG2PNM FRAMES PEER: PEER reads a JPEG stream and writes what jpegraw writes,
-for example a program of the original crate. The pixels of JPEG2PNM at each scale are compared with
-those of `PEER --scale WIDTHxHEIGHT`, and those of FRAMES, the program mjpeg_frames, with those of
-PEER for each frame. The status is 1 where one of them refuses a file that the other decodes, or
+against.py JPEGRAW ZAXBRIAR PEER: PEER reads a JPEG stream and writes what jpegraw writes, for
+example a program of the original crate. The pixels of `ZAXBRIAR pnm` at each scale are compared
+with those of `PEER --scale WIDTHxHEIGHT`, and those of `ZAXBRIAR frames` with those of PEER for
+each frame. The status is 1 where one of them refuses a file that the other decodes, or
 where their outputs differ.
 """
 
@@ -22,15 +22,15 @@ def answer_of(words, stream):
     return done.returncode != 0, done.stdout
 
 
-def scaled_answers(jpeg2pnm, peer, scale, size, stream):
+def scaled_answers(zaxbriar, peer, scale, size, stream):
     """The pixels of both programs for a picture at a scale; a header of the netpbm formats has
     three lines."""
-    ours, picture = answer_of([jpeg2pnm, "--scale", scale], stream)
+    ours, picture = answer_of([zaxbriar, "pnm", "--scale", scale], stream)
     theirs, raw = answer_of([peer, "--scale", "%dx%d" % size], stream)
     return (ours, picture.split(b"\n", 3)[-1]), (theirs, raw.split(b"\n", 1)[-1])
 
 
-def scaled(jpeg2pnm, peer):
+def scaled(zaxbriar, peer):
     """The answers of both programs at each scale."""
     for name, picture in drawn(FEW_SIZES):
         width, height = map(int, picture.split(b"\n", 2)[1].split())
@@ -40,16 +40,18 @@ def scaled(jpeg2pnm, peer):
                 for scale, name_of_scale in ((1, "1/8"), (2, "1/4"), (4, "1/2"), (8, "1")):
                     size = -(-width * scale // 8), -(-height * scale // 8)
                     yield f"{name}; {sampling}; {coding}; {scale}/8", *scaled_answers(
-                        jpeg2pnm, peer, name_of_scale, size, stream
+                        zaxbriar, peer, name_of_scale, size, stream
                     )
 
 
-def as_one_stream(frames_program, peer):
+def as_one_stream(zaxbriar, peer):
     """The answers for all MJPEG frames, one after the other and one by one."""
     frames = [stream for _, stream in mjpeg_frames()]
     theirs = [answer_of([peer], frame)[1].split(b"\n", 1)[1] for frame in frames]
     with tempfile.TemporaryDirectory() as folder:
-        refused, _ = answer_of([frames_program, "-o", f"{folder}/%04d.ppm"], b"".join(frames))
+        refused, _ = answer_of(
+            [zaxbriar, "frames", "-o", f"{folder}/%04d.ppm"], b"".join(frames)
+        )
         ours = [path.read_bytes().split(b"\n", 3)[3] for path in sorted(Path(folder).iterdir())]
     yield "all frames", (refused, ours), (False, theirs)
 
@@ -67,7 +69,7 @@ def counted(title, answers):
     return differing
 
 
-def main(jpegraw, jpeg2pnm, frames_program, peer):
+def main(jpegraw, zaxbriar, peer):
     differing = 0
     for title, files in [*groups(), ("damaged files", damaged())]:
         answers = (
@@ -75,8 +77,8 @@ def main(jpegraw, jpeg2pnm, frames_program, peer):
             for name, stream in files
         )
         differing += counted(title, answers)
-    differing += counted("scales", scaled(jpeg2pnm, peer))
-    differing += counted("MJPEG frames as one stream", as_one_stream(frames_program, peer))
+    differing += counted("scales", scaled(zaxbriar, peer))
+    differing += counted("MJPEG frames as one stream", as_one_stream(zaxbriar, peer))
     return 1 if differing else 0
 
 

@@ -105,7 +105,7 @@ def of_the_same_coefficients(jpegraw):
     return faults
 
 
-def of_profiles(jpeginfo):
+def of_profiles(zaxbriar):
     """Prints how many profiles are taken out of files as they were put in, and gives how many
     aren't."""
     equal = 0
@@ -115,13 +115,13 @@ def of_profiles(jpeginfo):
             file.write(profile)
             file.flush()
             stream = output_of(["cjpeg", "-icc", file.name], ppm("checks", 17, 9))
-        done = subprocess.run([jpeginfo, "--icc", "-"], input=stream, capture_output=True)
+        done = subprocess.run([zaxbriar, "info", "--icc", "-"], input=stream, capture_output=True)
         equal += done.returncode == 0 and done.stdout == profile
     print(f"ICC profiles: {equal} of {len(PROFILE_SIZES)} are the same bytes")
     return len(PROFILE_SIZES) - equal
 
 
-def of_metadata(jpeginfo):
+def of_metadata(zaxbriar):
     """Prints how many of exiftool's data are given as exiftool gives them, and gives how many
     aren't."""
     equal = total = 0
@@ -139,7 +139,7 @@ def of_metadata(jpeginfo):
             for word in ("exif", "xmp"):
                 with open(file.name, "rb") as stdin:
                     ours = subprocess.run(
-                        [jpeginfo, f"--{word}", "-"], stdin=stdin, capture_output=True
+                        [zaxbriar, "info", f"--{word}", "-"], stdin=stdin, capture_output=True
                     ).stdout
                 total += 1
                 equal += ours != b"" and ours == output_of(
@@ -149,12 +149,12 @@ def of_metadata(jpeginfo):
     return total - equal
 
 
-def main(jpegraw, jpeginfo):
+def main(jpegraw, zaxbriar):
     faults = (
         against_djpeg(jpegraw)
         + of_the_same_coefficients(jpegraw)
-        + of_profiles(jpeginfo)
-        + of_metadata(jpeginfo)
+        + of_profiles(zaxbriar)
+        + of_metadata(zaxbriar)
     )
     return 1 if faults else 0
 

@@ -1,7 +1,7 @@
-"""Files of `jpeg2pnm`, read back by netpbm's tools and by ImageMagick: each sample is the one that
-was coded.
+"""Files of `zaxbriar pnm`, read back by netpbm's tools and by ImageMagick: each sample is the one
+that was coded.
 
-netpbm.py [THUMBNAIL]. Lossless streams of each precision from 2 to 16 bits and of 1, 3 and 4
+netpbm.py [ZAXBRIAR]. Lossless streams of each precision from 2 to 16 bits and of 1, 3 and 4
 components come from lossless_encoder.py, DCT streams from cjpeg. At quality 100, and where each
 block has one value, a DCT stream has the samples exactly, since the DC coefficient of a value v is
 8 * (v - 128); so it has them at each scale. The status is 1 where a sample, a size, a greatest
@@ -60,7 +60,7 @@ def enlarged(planes, side, width, height):
 
 
 def lossless_files(chance):
-    """For each file its name, its stream, the arguments of `jpeg2pnm`, its precision and its
+    """For each file its name, its stream, the arguments of `pnm`, its precision and its
     planes."""
     for precision in range(2, 17):
         for count in KINDS:
@@ -121,9 +121,9 @@ def read_by_imagemagick(path, count, most):
     return [(2 * value * most + 65535) // (2 * 65535) for value in wide]
 
 
-def faults_of(jpeg2pnm, path, stream, arguments, precision, planes):
-    """What differs in the file that `jpeg2pnm` writes for a stream."""
-    path.write_bytes(output_of(jpeg2pnm, *arguments, stdin=stream))
+def faults_of(zaxbriar, path, stream, arguments, precision, planes):
+    """What differs in the file that `pnm` writes for a stream."""
+    path.write_bytes(output_of(zaxbriar, "pnm", *arguments, stdin=stream))
     count, most, samples = len(planes), (1 << precision) - 1, pixels_of(planes)
     head = [KINDS[count], len(planes[0][0]), len(planes[0]), count, most, TUPLE_TYPES[count]]
     said, read = read_by_netpbm(path)
@@ -135,7 +135,7 @@ def faults_of(jpeg2pnm, path, stream, arguments, precision, planes):
         yield "ImageMagick reads other samples"
 
 
-def main(jpeg2pnm):
+def main(zaxbriar):
     chance, faulty = random.Random(1), []
     with tempfile.TemporaryDirectory() as folder:
         for title, files in (("lossless", lossless_files(chance)), ("DCT", dct_files(chance))):
@@ -146,7 +146,7 @@ def main(jpeg2pnm):
                 try:
                     faulty += [
                         f"{name}: {fault}"
-                        for fault in faults_of(jpeg2pnm, Path(folder) / "file", *rest)
+                        for fault in faults_of(zaxbriar, Path(folder) / "file", *rest)
                     ]
                 except subprocess.CalledProcessError as error:
                     faulty.append(f"{name}: {error.cmd[0]}: {error.stderr.decode().strip()}")
@@ -161,4 +161,4 @@ if __name__ == "__main__":
         if shutil.which(program) is None:
             sys.exit(f"netpbm.py: {program} is missing; Debian's package {package} has it")
     top = Path(__file__).resolve().parent.parent
-    sys.exit(main(*sys.argv[1:] or [top / "crates/jpeg2pnm/out/jpeg2pnm"]))
+    sys.exit(main(*sys.argv[1:] or [top / "crates/zaxbriar_cli/out/zaxbriar_cli"]))

@@ -1,17 +1,16 @@
-"""Compares the programs with those of others on photographs, or on files that cjpeg, ImageMagick
-and exiftool make where none are named.
+"""Compares the program `zaxbriar` with those of others on photographs, or on files that cjpeg,
+ImageMagick and exiftool make where none are named.
 
-programs.py CRATES [FILE..]: CRATES is the folder of the crates, in which the programs were built.
-For each file it compares
-- what `jpeginfo --json` says with `identify` (sizes, components' sampling), `exiftool` (process,
+programs.py ZAXBRIAR [FILE..]: for each file it compares
+- what `info --json` says with `identify` (sizes, components' sampling), `exiftool` (process,
   precision, orientation) and the bytes of exiftool's Exif, XMP and ICC data with those that
-  `jpeginfo --exif`, `--xmp` and `--icc` write;
-- the sizes of `jpeg2pnm` at each scale with those of `djpeg -scale`, and the samples of the whole
+  `info --exif`, `--xmp` and `--icc` write;
+- the sizes of `pnm` at each scale with those of `djpeg -scale`, and the samples of the whole
   picture with djpeg's (the mean difference is printed, for djpeg upsamples in another way);
 - the sizes of `thumbnail` with those of ImageMagick's `-thumbnail`, its samples with the means of
-  the boxes of `jpeg2pnm`'s picture at the least scale that isn't smaller, and the picture with that
+  the boxes of `pnm`'s picture at the least scale that isn't smaller, and the picture with that
   of `--as-stored` turned by ImageMagick's `-auto-orient`, sample by sample;
-- the frames of `mjpeg_frames` with those of ffmpeg as rawvideo, from plain frames and from AVI
+- the frames of `frames` with those of ffmpeg as rawvideo, from plain frames and from AVI
   files with and without sound, which have to give the same samples, and with those of its numbered
   files. The status is 1 where something differs that has to be the same.
 """
@@ -36,13 +35,13 @@ PROCESSES = {
 
 
 class Tools:
-    """The programs that were built, by name."""
+    """The words of the program that was built."""
 
-    def __init__(self, crates):
-        self.crates = Path(crates)
+    def __init__(self, zaxbriar):
+        self.zaxbriar = str(Path(zaxbriar).resolve())
 
-    def run(self, name, *words, stdin=b""):
-        return output_of([str(self.crates / name / "out" / name), *map(str, words)], stdin)
+    def run(self, *words, stdin=b""):
+        return output_of([self.zaxbriar, *map(str, words)], stdin)
 
 
 def made_files(folder):
@@ -93,8 +92,8 @@ def samples_of(netpbm):
 
 
 def description_faults(tools, path):
-    """What `jpeginfo` says in another way than identify and exiftool."""
-    said = json.loads(tools.run("jpeginfo", "--json", path))
+    """What `info` says in another way than identify and exiftool."""
+    said = json.loads(tools.run("info", "--json", path))
     tags = [
         "-Orientation",
         "-EncodingProcess",
@@ -125,12 +124,12 @@ def description_faults(tools, path):
 
 
 def data_faults(tools, path):
-    """Which of exiftool's Exif, XMP and ICC data `jpeginfo` doesn't write as they are."""
+    """Which of exiftool's Exif, XMP and ICC data `info` doesn't write as they are."""
     faults = []
     for option, tag in (("--exif", "-Exif"), ("--xmp", "-XMP"), ("--icc", "-ICC_Profile")):
         theirs = output_of(["exiftool", "-b", tag, path], b"")
         done = subprocess.run(
-            [tools.crates / "jpeginfo/out/jpeginfo", option, "-", path], capture_output=True
+            [tools.zaxbriar, "info", option, "-", path], capture_output=True
         )
         if done.stdout != theirs or (done.returncode == 0) != bool(theirs):
             faults.append(f"{option}: {len(done.stdout)} bytes, not {len(theirs)}")
@@ -138,10 +137,10 @@ def data_faults(tools, path):
 
 
 def picture_faults(tools, path, means):
-    """Which sizes and samples of `jpeg2pnm` aren't djpeg's."""
+    """Which sizes and samples of `pnm` aren't djpeg's."""
     faults = []
     for scale, eighths in SCALES.items():
-        ours = tools.run("jpeg2pnm", "--scale", scale, path)
+        ours = tools.run("pnm", "--scale", scale, path)
         if ours.startswith(b"P7"):
             continue
         theirs = output_of(["djpeg", "-dct", "int", "-pnm", "-scale", f"{eighths}/8", path], b"")
@@ -202,7 +201,7 @@ def thumbnail_faults(tools, path, most):
             faults.append(f"thumbnail of {size_of(made)}, not {theirs}")
     size = size_of(stored)
     for scale in SCALES:
-        whole = tools.run("jpeg2pnm", "--scale", scale, path)
+        whole = tools.run("pnm", "--scale", scale, path)
         if all(side >= least for side, least in zip(size_of(whole), size)):
             break
     count = {b"P5": 1, b"P6": 3, b"P7": 4}[whole[:2]]
@@ -239,11 +238,11 @@ def frame_faults(tools, folder):
     ]
     faults, first = [], None
     for path in movies:
-        raw = tools.run("mjpeg_frames", path)
+        raw = tools.run("frames", path)
         theirs = output_of(
             ["ffmpeg", "-v", "error", "-i", path, "-f", "rawvideo", "-pix_fmt", "rgb24", "-"], b""
         )
-        tools.run("mjpeg_frames", "-o", folder / (path.name + "-%04d.ppm"), path)
+        tools.run("frames", "-o", folder / (path.name + "-%04d.ppm"), path)
         numbered = b"".join(
             samples_of(frame.read_bytes()) for frame in sorted(folder.glob(path.name + "-*.ppm"))
         )
@@ -283,8 +282,8 @@ def frame_faults(tools, folder):
     return faults
 
 
-def main(crates, *files):
-    tools, faults, means = Tools(crates), [], []
+def main(zaxbriar, *files):
+    tools, faults, means = Tools(zaxbriar), [], []
     with tempfile.TemporaryDirectory() as name:
         folder = Path(name)
         paths = [Path(file) for file in files] or list(made_files(folder))

@@ -71,17 +71,19 @@ def made_file(path):
 
 
 def runs_of(photo, movie, frames):
-    """The runs by name: a program's name, its words, and what stands on its standard input."""
-    yield "jpeg2pnm", [photo], b""
-    yield "jpeg2pnm", ["--scale", "1/4"], photo.read_bytes()
-    yield "thumbnail", ["--max", "100x90", photo], b""
-    yield "thumbnail", ["--max", "1000x1000", "--as-stored", photo], b""
-    yield "jpeginfo", [photo], b""
-    yield "jpeginfo", ["--json", photo], b""
+    """The runs: a program's crate, its words, and what stands on its standard input."""
+    yield "zaxbriar_cli", ["pnm", photo], b""
+    yield "zaxbriar_cli", ["pnm", "--scale", "1/4"], photo.read_bytes()
+    yield "zaxbriar_cli", ["thumbnail", "--max", "100x90", photo], b""
+    yield "zaxbriar_cli", ["thumbnail", "--max", "1000x1000", "--as-stored", photo], b""
+    yield "zaxbriar_cli", ["info", photo], b""
+    yield "zaxbriar_cli", ["info", "--json", photo], b""
+    yield "zaxbriar_cli", ["info", "--json", photo, photo], b""
+    yield "zaxbriar_cli", ["raw", photo], b""
     for option in ("--exif", "--xmp", "--icc"):
-        yield "jpeginfo", [option, "-", photo], b""
-    yield "mjpeg_frames", [frames], b""
-    yield "mjpeg_frames", ["--list", movie], b""
+        yield "zaxbriar_cli", ["info", option, "-", photo], b""
+    yield "zaxbriar_cli", ["frames", frames], b""
+    yield "zaxbriar_cli", ["frames", "--list", movie], b""
     yield "jpegraw", [], photo.read_bytes()
 
 

@@ -1,2 +1,0 @@
-mod SizedPictures
-mod Turned

@@ -1,3 +1,0 @@
-pub mod Netpbm
-pub mod ScaledPictures
-pub mod Sizes

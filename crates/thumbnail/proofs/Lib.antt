@@ -1,2 +1,0 @@
-mod BoxSums
-mod WrittenThumbnails

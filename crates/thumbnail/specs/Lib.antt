@@ -1,3 +1,0 @@
-pub mod Boxes
-pub mod Thumbnails
-pub mod Turns

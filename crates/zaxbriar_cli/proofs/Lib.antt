@@ -1,0 +1,5 @@
+mod BoxSums
+mod Greatest
+mod ScaledStreams
+mod Turned
+mod WrittenThumbnails

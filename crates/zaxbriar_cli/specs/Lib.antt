@@ -1,0 +1,9 @@
+pub mod Boxes
+pub mod Endings
+pub mod Limits
+pub mod Netpbm
+pub mod Samples
+pub mod ScaledPictures
+pub mod Sizes
+pub mod Thumbnails
+pub mod Turns

@@ -1,0 +1,179 @@
+//! Takes Exif, XMP and ICC data out of files, for the word `info`.
+//!
+//! The data are as they stand in the stream: Exif data from their TIFF header on, XMP data as text,
+//! and the ICC profile joined of its parts. Where the header hasn't all of them the stream is read
+//! to its end, since such data may stand anywhere in it; where it is refused, what stands before
+//! the fault is written all the same.
+
+use crate::commands::pictures::check_output;
+use crate::ending::{Failure, Outcome};
+use crate::limits::Limits;
+use crate::metadata::{KINDS, Kind, is_read, write_data};
+use crate::output::Output;
+use crate::pictures::scaled::taken_by;
+use crate::refusal::Refusal;
+use crate::{arguments, files, names};
+use clap::{Arg, ArgMatches, Command};
+use jpeg_decoder::error::Result;
+use jpeg_decoder::{Decoder, Scale};
+use std::alloc::{AllocError, Global};
+use std::io::Read;
+
+/// Returns an option that names the file for data of a kind.
+fn data_option<'a>(
+    alloc: Global,
+    name: &'a str,
+    help: &'a str,
+) -> std::result::Result<Arg<'a>, AllocError> {
+    arguments::value_option(alloc, name, "FILE", help)
+        .conflicts_with("json")?
+        .conflicts_with("output")
+}
+
+/// Adds the options that name files for data.
+pub fn with_options<'a>(
+    alloc: Global,
+    command: Command<'a>,
+) -> std::result::Result<Command<'a>, AllocError> {
+    command
+        .arg(data_option(
+            alloc,
+            "exif",
+            "Write the Exif data to FILE, and nothing else",
+        )?)?
+        .arg(data_option(alloc, "xmp", "Write the XMP data to FILE, and nothing else")?)?
+        .arg(data_option(
+            alloc,
+            "icc",
+            "Write the ICC profile to FILE, and nothing else",
+        )?)
+}
+
+/// Returns whether data are asked for, and not a description.
+pub fn is_asked_for(matches: &ArgMatches<'_>) -> bool {
+    KINDS.iter().any(|kind| matches.contains_id(kind.option()))
+}
+
+/// Returns whether a decoder has read all data that are asked for.
+fn has_all<R: Read + Drop>(decoder: &Decoder<R>, matches: &ArgMatches<'_>) -> Result<bool> {
+    for kind in KINDS {
+        if matches.contains_id(kind.option()) && !is_read(decoder, kind)? {
+            return Ok(false);
+        }
+    }
+    Ok(true)
+}
+
+/// Reads a stream as far as the data that are asked for take it. A picture is decoded at 1/8 of its
+/// size, for nobody asks for it.
+fn read_data<R: Read + Drop>(
+    decoder: &mut Decoder<R>,
+    matches: &ArgMatches<'_>,
+    limits: Limits,
+) -> std::result::Result<(), Refusal> {
+    decoder.read_info()?;
+    if has_all(decoder, matches)? {
+        return Ok(());
+    }
+    let full = decoder.info().unwrap();
+    decoder.set_scale(Scale::Eighth)?;
+    limits.check(full.width, full.height, taken_by(decoder))?;
+    let _pixels = decoder.decode()?;
+    Ok(())
+}
+
+/// Writes the data of a kind that a decoder has read to a file. Where there are none that is said,
+/// or why the stream was refused before them.
+fn write_to<R: Read + Drop>(
+    rt: HostRuntime,
+    input: Option<&str>,
+    decoder: &Decoder<R>,
+    refusal: Option<&Refusal>,
+    kind: Kind,
+    name: Option<&str>,
+) -> Outcome<()> {
+    let mut output = Output::new(rt, name);
+    match (write_data(decoder, kind, &mut output), refusal) {
+        (Ok(true), _) => files::finish(&rt, input, output, Ok(())),
+        (Ok(false), None) => Err(files::report(&rt, input, &kind.absence())),
+        (Ok(false), Some(refusal)) => Err(files::report(&rt, input, refusal)),
+        (Err(error), _) => files::finish(&rt, input, output, Err(Refusal::from(error))),
+    }
+}
+
+/// Writes the data of a kind that a decoder has read to the file that the arguments name.
+fn write_kind<R: Read + Drop>(
+    rt: HostRuntime,
+    matches: &ArgMatches<'_>,
+    input: Option<&str>,
+    decoder: &Decoder<R>,
+    refusal: Option<&Refusal>,
+    kind: Kind,
+) -> Outcome<()> {
+    let Some(name) = arguments::file_of(matches, kind.option()) else {
+        return write_to(rt, input, decoder, refusal, kind, None);
+    };
+    match names::name_for(rt.alloc(), name, input) {
+        Ok(name) => write_to(rt, input, decoder, refusal, kind, Some(name.as_str())),
+        Err(error) => Err(files::report(&rt, input, &Refusal::from(error))),
+    }
+}
+
+/// Writes all data that are asked for of a stream, as far as there are any.
+fn write_all<R: Read + Drop>(
+    rt: HostRuntime,
+    matches: &ArgMatches<'_>,
+    input: Option<&str>,
+    mut decoder: Decoder<R>,
+    limits: Limits,
+) -> Outcome<()> {
+    let refusal = read_data(&mut decoder, matches, limits).err();
+    let mut outcome = Ok(());
+    for kind in KINDS {
+        if matches.contains_id(kind.option())
+            && write_kind(rt, matches, input, &decoder, refusal.as_ref(), kind).is_err()
+        {
+            outcome = Err(Failure::Refused);
+        }
+    }
+    outcome
+}
+
+/// Takes the data that are asked for out of a file.
+fn extract(
+    rt: HostRuntime,
+    matches: &ArgMatches<'_>,
+    input: Option<&str>,
+    limits: Limits,
+) -> Outcome<()> {
+    let reader = match files::open(&rt, input) {
+        Ok(reader) => reader,
+        Err(refusal) => return Err(files::report(&rt, input, &refusal)),
+    };
+    match Decoder::new(rt.alloc(), reader) {
+        Ok(decoder) => write_all(rt, matches, input, decoder, limits),
+        Err(error) => Err(files::report(&rt, input, &error)),
+    }
+}
+
+/// Takes the data that are asked for out of the files that the arguments name, and goes on after
+/// one that is refused.
+pub fn run(rt: HostRuntime, matches: &ArgMatches<'_>) -> Outcome<()> {
+    let limits = arguments::limits_of(&rt, matches)?;
+    let Some(names) = matches.get_strs(arguments::FILE) else {
+        return Ok(());
+    };
+    for kind in KINDS {
+        if matches.contains_id(kind.option()) {
+            let output = arguments::file_of(matches, kind.option());
+            check_output(&rt, names, kind.option(), output)?;
+        }
+    }
+    let mut outcome = Ok(());
+    for name in names {
+        if extract(rt, matches, arguments::named(name), limits).is_err() {
+            outcome = Err(Failure::Refused);
+        }
+    }
+    outcome
+}

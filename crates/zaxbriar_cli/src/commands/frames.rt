@@ -1,0 +1,205 @@
+//! Decodes the frames of an MJPEG stream: JPEG images one after the other, or the chunks of an AVI
+//! file.
+//!
+//! `zaxbriar frames stream.mjpeg -o frame-%04d.ppm` writes each frame as a netpbm file: the number
+//! of the frame, from 1, takes the place of `%04d` in the file's name, with as many digits at
+//! least. Without a `%` in the name, and without `-o`, the frames' pixels are written one after the
+//! other into one file or to standard output: what `ffmpeg` calls rawvideo, of the pixel format
+//! gray, gray16le or rgb24. All frames are then of one size and format. `--list` writes a line
+//! `NUMBER WIDTH HEIGHT FORMAT` for each frame in place of its pixels.
+//!
+//! `decode` reads no byte after the end of an image, so one reader is lent to a decoder for each
+//! frame. The first byte of a frame is read before, since the stream ends where there is none. Of
+//! an AVI file the frames are those of its first stream that has any (chunks such as `00dc`); what
+//! else it has, such as sound and indexes, is skipped. A frame that is refused ends the program;
+//! the frames before it are written.
+
+use crate::ending::Outcome;
+use crate::files::InputReader;
+use crate::frames::{FrameRefusal, Frames};
+use crate::limits::Limits;
+use crate::names::Numbered;
+use crate::output::Output;
+use crate::pictures::netpbm::{Picture, write_picture};
+use crate::refusal::Refusal;
+use crate::{arguments, files};
+use clap::{Arg, ArgAction, ArgMatches, Command};
+use jpeg_decoder::ImageInfo;
+use std::alloc::{AllocError, Global};
+use std::io::Write;
+
+pub const NAME: &str = "frames";
+
+const ABOUT: &str = "Decodes the frames of an MJPEG stream, plain or in an AVI file";
+
+const OUTPUT: &str = "The files to write, as frame-%04d.ppm; or one file of rawvideo; \
+    - or none is rawvideo on standard output";
+
+/// The frames of a file or of standard input.
+type InputFrames = Frames<InputReader>;
+
+/// Returns what the word takes.
+pub fn command<'a>(alloc: Global) -> Result<Command<'a>, AllocError> {
+    let list = Arg::new(alloc, "list")
+        .long("list")
+        .action(ArgAction::SetTrue)
+        .help("Write a line NUMBER WIDTH HEIGHT FORMAT for each frame in place of its pixels");
+    arguments::word(alloc, NAME, ABOUT)?
+        .arg(arguments::file_argument(alloc))?
+        .arg(arguments::output_option(alloc, OUTPUT))?
+        .arg(list)
+}
+
+/// What is asked for: a stream, and what is done with its frames.
+#[derive(Clone, Copy)]
+struct Job<'a> {
+    rt: HostRuntime,
+    input: Option<&'a str>,
+    output: Option<&'a str>,
+    is_list: bool,
+    limits: Limits,
+}
+
+impl<'a> Job<'a> {
+    /// Opens the stream, and returns its frames.
+    fn frames(&self) -> Outcome<InputFrames> {
+        let reader = match files::open(&self.rt, self.input) {
+            Ok(reader) => reader,
+            Err(refusal) => return Err(files::report(&self.rt, self.input, &refusal)),
+        };
+        match Frames::new(reader, self.limits) {
+            Ok(frames) => Ok(frames),
+            Err(refusal) => Err(files::report(&self.rt, self.input, &refusal)),
+        }
+    }
+
+    /// Decodes the next frame, where there is one. A frame that is refused is reported.
+    fn next(&self, frames: &mut InputFrames, number: u64) -> Outcome<Option<Picture>> {
+        match frames.next_frame(self.rt.alloc(), number) {
+            Ok(frame) => Ok(frame),
+            Err(refusal) => Err(files::report(&self.rt, self.input, &refusal)),
+        }
+    }
+
+    /// Writes a frame as a file of its own.
+    fn write_file(&self, name: &str, frame: Picture) -> Outcome<()> {
+        let mut output = Output::new(self.rt, Some(name));
+        let written = write_picture(self.rt.alloc(), frame, &mut output);
+        files::finish(&self.rt, self.input, output, written.map_err(Refusal::from))
+    }
+
+    /// Writes each frame as a file of its own.
+    fn write_files(&self, frames: &mut InputFrames, names: Numbered<'_>) -> Outcome<()> {
+        for number in 1..u64::MAX {
+            let Some(frame) = self.next(frames, number)? else {
+                break;
+            };
+            match names.with_number(self.rt.alloc(), number) {
+                Ok(name) => self.write_file(name.as_str(), frame)?,
+                Err(error) => {
+                    return Err(files::report(&self.rt, self.input, &Refusal::from(error)));
+                }
+            }
+        }
+        Ok(())
+    }
+
+    /// Writes what is asked for of a frame to the one file.
+    fn write_frame(
+        &self,
+        number: u64,
+        frame: &Picture,
+        output: &mut Output<'_>,
+    ) -> Result<(), Refusal> {
+        if self.is_list {
+            write_line(self.rt.alloc(), number, frame.info, output)
+        } else {
+            output.write_all(frame.pixels.as_slice())?;
+            Ok(())
+        }
+    }
+
+    /// Decodes the next frame for the one file, where there is one: without a list it has the size
+    /// and the format of the frames before it.
+    fn next_alike(
+        &self,
+        frames: &mut InputFrames,
+        number: u64,
+        first: Option<ImageInfo>,
+    ) -> Outcome<Option<Picture>> {
+        let next = self.next(frames, number)?;
+        match (&next, first) {
+            (Some(frame), Some(info)) if !self.is_list && frame.info != info => {
+                Err(files::report(&self.rt, self.input, &FrameRefusal::Other(number)))
+            }
+            _ => Ok(next),
+        }
+    }
+
+    /// Writes what is asked for of each frame to one file. The frames before one that is refused
+    /// are kept.
+    fn write_stream(&self, frames: &mut InputFrames) -> Outcome<()> {
+        let mut output = Output::new(self.rt, self.output);
+        let mut first = None;
+        let mut outcome = Ok(());
+        for number in 1..u64::MAX {
+            let frame = match self.next_alike(frames, number, first) {
+                Ok(Some(frame)) => frame,
+                Ok(None) => break,
+                Err(failure) => {
+                    outcome = Err(failure);
+                    break;
+                }
+            };
+            first = Some(frame.info);
+            if let Err(refusal) = self.write_frame(number, &frame, &mut output) {
+                return files::finish(&self.rt, self.input, output, Err(refusal));
+            }
+        }
+        if first.is_some() {
+            files::finish(&self.rt, self.input, output, Ok(()))?;
+        }
+        outcome
+    }
+}
+
+/// Writes the line of a frame.
+fn write_line<W: Write>(
+    alloc: Global,
+    number: u64,
+    info: ImageInfo,
+    writer: &mut W,
+) -> Result<(), Refusal> {
+    let width = info.width;
+    let height = info.height;
+    let format = info.pixel_format;
+    let line = format!(in alloc; "{number} {width} {height} {format:?}\n")?;
+    writer.write_all(line.as_bytes())?;
+    Ok(())
+}
+
+/// Decodes the stream that the arguments name.
+pub fn run(rt: HostRuntime, matches: &ArgMatches<'_>) -> Outcome<()> {
+    let output = arguments::file_of(matches, "output");
+    let job = Job {
+        rt,
+        input: arguments::file_of(matches, arguments::FILE),
+        output,
+        is_list: matches.get_flag("list"),
+        limits: arguments::limits_of(&rt, matches)?,
+    };
+    let names = match output {
+        Some(name) if !job.is_list && name.contains('%') => Numbered::new(name),
+        _ => {
+            let mut frames = job.frames()?;
+            return job.write_stream(&mut frames);
+        }
+    };
+    match names {
+        Some(names) => {
+            let mut frames = job.frames()?;
+            job.write_files(&mut frames, names)
+        }
+        None => Err(arguments::refuse_value(&rt, "output", "one %d or %04d in the name")),
+    }
+}

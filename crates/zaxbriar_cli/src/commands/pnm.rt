@@ -1,0 +1,48 @@
+//! Converts JPEG files to netpbm files: `zaxbriar pnm photo.jpg -o photo.ppm`.
+//!
+//! The picture's format decides the file's: PGM of a grey picture, PPM of red, green and blue, and
+//! PAM of cyan, magenta, yellow and black. `--scale` gives it at 1/8, 1/4 or 1/2 of its size, which
+//! takes less time than the whole picture.
+
+use crate::arguments;
+use crate::commands::pictures;
+use crate::ending::Outcome;
+use crate::pictures::scaled::Request;
+use clap::{Arg, ArgMatches, Command};
+use jpeg_decoder::Scale;
+use std::alloc::{AllocError, Global};
+
+pub const NAME: &str = "pnm";
+
+const ABOUT: &str = "Converts JPEG files to netpbm files: PGM, PPM or, of CMYK, PAM";
+
+const SCALES: [&str; 4] = ["1/8", "1/4", "1/2", "1"];
+
+/// Returns what the word takes.
+pub fn command<'a>(alloc: Global) -> Result<Command<'a>, AllocError> {
+    let scale = Arg::new(alloc, "scale")
+        .long("scale")
+        .value_name("SCALE")
+        .value_parser(SCALES.as_slice())
+        .default_value("1")
+        .help("The part of the picture's width and height");
+    arguments::word(alloc, NAME, ABOUT)?
+        .arg(arguments::files_argument(alloc))?
+        .arg(pictures::output_option(alloc))?
+        .arg(scale)
+}
+
+/// Returns the scale that is asked for.
+fn scale_of(matches: &ArgMatches<'_>) -> Scale {
+    match matches.get_str("scale") {
+        Some("1/8") => Scale::Eighth,
+        Some("1/4") => Scale::Quarter,
+        Some("1/2") => Scale::Half,
+        _ => Scale::Full,
+    }
+}
+
+/// Converts the files that the arguments name.
+pub fn run(rt: HostRuntime, matches: &ArgMatches<'_>) -> Outcome<()> {
+    pictures::write_all(rt, matches, Request::At(scale_of(matches)))
+}

@@ -1,0 +1,32 @@
+//! Decodes a JPEG file to its bytes: `zaxbriar raw photo.jpg -o photo.raw` writes a line `WIDTH
+//! HEIGHT FORMAT` and then the pixels, as `jpegraw` does for standard input.
+
+use crate::ending::Outcome;
+use crate::output::Output;
+use crate::pictures::raw::write_raw;
+use crate::{arguments, files};
+use clap::{ArgMatches, Command};
+use std::alloc::{AllocError, Global};
+
+pub const NAME: &str = "raw";
+
+const ABOUT: &str = "Decodes a JPEG file to a line WIDTH HEIGHT FORMAT, and then its pixels";
+
+/// Returns what the word takes.
+pub fn command<'a>(alloc: Global) -> Result<Command<'a>, AllocError> {
+    arguments::word(alloc, NAME, ABOUT)?
+        .arg(arguments::file_argument(alloc))?
+        .arg(arguments::output_option(alloc, "The file to write; - or none is standard output"))
+}
+
+/// Decodes the file that the arguments name.
+pub fn run(rt: HostRuntime, matches: &ArgMatches<'_>) -> Outcome<()> {
+    let limits = arguments::limits_of(&rt, matches)?;
+    let input = arguments::file_of(matches, arguments::FILE);
+    let mut output = Output::new(rt, arguments::file_of(matches, "output"));
+    let outcome = match files::open(&rt, input) {
+        Ok(reader) => write_raw(rt.alloc(), reader, limits, &mut output),
+        Err(refusal) => Err(refusal),
+    };
+    files::finish(&rt, input, output, outcome)
+}

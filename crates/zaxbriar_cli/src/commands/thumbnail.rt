@@ -1,0 +1,62 @@
+//! Writes small pictures of JPEG files, which the netpbm tools and most viewers read: `zaxbriar
+//! thumbnail --max 640x480 photo.jpg -o thumb.ppm`.
+
+use crate::arguments;
+use crate::commands::pictures;
+use crate::ending::Outcome;
+use crate::pictures::scaled::{Request, Upright};
+use clap::{Arg, ArgAction, ArgMatches, Command};
+use jpeg_decoder::parser::Dimensions;
+use std::alloc::{AllocError, Global};
+
+pub const NAME: &str = "thumbnail";
+
+const ABOUT: &str = "Writes small pictures of JPEG files as PGM, PPM or, of CMYK, PAM";
+
+const MAX: &str =
+    "The size that the picture is to fit within, as 640x480: it keeps its proportions, and is \
+    never enlarged";
+
+/// Returns what the word takes.
+pub fn command<'a>(alloc: Global) -> Result<Command<'a>, AllocError> {
+    let as_stored = Arg::new(alloc, "as-stored")
+        .long("as-stored")
+        .action(ArgAction::SetTrue)
+        .help("Don't turn the picture by the orientation in its Exif data");
+    arguments::word(alloc, NAME, ABOUT)?
+        .arg(arguments::files_argument(alloc))?
+        .arg(pictures::output_option(alloc))?
+        .arg(arguments::value_option(alloc, "max", "WIDTHxHEIGHT", MAX).required(true))?
+        .arg(as_stored)
+}
+
+/// Returns the size that a text `WIDTHxHEIGHT` names.
+fn size_of(text: &str) -> Option<Dimensions> {
+    let (width, height) = text.split_once('x')?;
+    let width = width.parse::<u16>().ok()?;
+    let height = height.parse::<u16>().ok()?;
+    if width == 0 || height == 0 {
+        return None;
+    }
+    Some(Dimensions { width, height })
+}
+
+/// Returns what is asked for, unless the size is none.
+fn request_of(matches: &ArgMatches<'_>) -> Option<Request> {
+    let most = size_of(matches.get_str("max")?)?;
+    let is_as_stored = matches.get_flag("as-stored");
+    let upright = if is_as_stored {
+        Upright::AsStored
+    } else {
+        Upright::Turned
+    };
+    Some(Request::Within(most, upright))
+}
+
+/// Writes the thumbnails of the files that the arguments name.
+pub fn run(rt: HostRuntime, matches: &ArgMatches<'_>) -> Outcome<()> {
+    match request_of(matches) {
+        Some(request) => pictures::write_all(rt, matches, request),
+        None => Err(arguments::refuse_value(&rt, "max", "WIDTHxHEIGHT, of 1 to 65535")),
+    }
+}

@@ -1,0 +1,179 @@
+//! Frames of a stream, one after the other.
+
+use crate::avi::{Video, is_avi, skip_rest};
+use crate::limits::Limits;
+use crate::pictures::netpbm::Picture;
+use crate::pictures::scaled::{decode_picture, taken_by};
+use crate::refusal::Refusal;
+use jpeg_decoder::Decoder;
+use std::alloc::Global;
+use std::io::Read;
+use std::{fmt, io};
+
+/// Why a frame isn't written.
+#[derive(Drop)]
+pub enum FrameRefusal {
+    /// The frame of this number is refused.
+    Frame(u64, Refusal),
+    /// The frame of this number has another size or format than those before it.
+    Other(u64),
+    /// The stream begins as a RIFF file does, and is no AVI file.
+    Riff,
+    /// There is no JPEG frame.
+    NoFrame,
+}
+
+impl fmt::Display for FrameRefusal {
+    fn fmt<W: fmt::Write>(&self, f: &mut fmt::Formatter<W>) -> fmt::Result {
+        match self {
+            FrameRefusal::Frame(number, refusal) => write!(f, "frame {number}: {refusal}"),
+            FrameRefusal::Other(number) => {
+                write!(
+                    f,
+                    "frame {number}: another size or format than the frames before it"
+                )
+            }
+            FrameRefusal::Riff => write!(f, "a RIFF file, but no AVI file"),
+            FrameRefusal::NoFrame => write!(f, "no JPEG frame"),
+        }
+    }
+}
+
+/// The first byte of a JPEG image, that of the marker SOI.
+const START: u8 = 0xff;
+
+/// How the frames stand in a stream.
+#[derive(Clone, Copy)]
+enum Layout {
+    /// One after the other: the byte that was read of the next one.
+    Plain(Option<u8>),
+    /// In the chunks of an AVI file.
+    Avi(Video),
+}
+
+/// The frames that a reader gives.
+#[derive(Drop)]
+pub struct Frames<R> {
+    reader: R,
+    layout: Layout,
+    limits: Limits,
+}
+
+/// Decodes the frame that the reader gives.
+fn decode_frame<R: Read + Drop>(
+    alloc: Global,
+    reader: R,
+    limits: Limits,
+) -> Result<Picture, Refusal> {
+    let mut decoder = Decoder::new(alloc, reader)?;
+    decoder.read_info()?;
+    let info = decoder.info().unwrap();
+    limits.check(info.width, info.height, taken_by(&decoder))?;
+    Ok(decode_picture(&mut decoder)?)
+}
+
+/// Decodes the frame that begins with a byte that was read and goes on in a reader that is lent.
+fn decode_from<R: Read + Drop>(
+    alloc: Global,
+    first: u8,
+    rest: &mut R,
+    limits: Limits,
+) -> Result<Picture, Refusal> {
+    decode_frame(alloc, io::repeat(first).take(1).chain(rest), limits)
+}
+
+/// Decodes the frame that begins with a byte that was read, or with the next one, where there is
+/// one.
+fn next_plain<R: Read + Drop>(
+    alloc: Global,
+    reader: &mut R,
+    read: Option<u8>,
+    limits: Limits,
+) -> Result<Option<Picture>, Refusal> {
+    let mut first = [0u8];
+    match read {
+        Some(byte) => first = [byte],
+        None => {
+            if reader.read(&mut first)? == 0 {
+                return Ok(None);
+            }
+        }
+    }
+    Ok(Some(decode_from(alloc, first[0], reader, limits)?))
+}
+
+/// Decodes the next frame of an AVI file: the first image in its chunk. There is none where the
+/// first frame doesn't begin as a JPEG image does.
+fn next_in_avi<R: Read + Drop>(
+    alloc: Global,
+    reader: &mut R,
+    video: &mut Video,
+    is_first: bool,
+    limits: Limits,
+) -> Result<Option<Picture>, Refusal> {
+    let Some(size) = video.find_frame(reader)? else {
+        return Ok(None);
+    };
+    let mut chunk = reader.by_ref().take(u64::from(size));
+    let mut first = [0u8];
+    chunk.read_exact(&mut first)?;
+    if is_first && first[0] != START {
+        return Ok(None);
+    }
+    let frame = decode_from(alloc, first[0], &mut chunk, limits)?;
+    let left = chunk.limit();
+    skip_rest(reader, size, left)?;
+    Ok(Some(frame))
+}
+
+impl<R: Read + Drop> Frames<R> {
+    /// Returns the frames that a reader gives: of an AVI file, or else one after the other.
+    pub fn new(mut reader: R, limits: Limits) -> Result<Frames<R>, FrameRefusal> {
+        match layout_of(&mut reader) {
+            Ok(Some(layout)) => Ok(Frames {
+                reader,
+                layout,
+                limits,
+            }),
+            Ok(None) => Err(FrameRefusal::Riff),
+            Err(error) => Err(FrameRefusal::Frame(1, Refusal::from(error))),
+        }
+    }
+
+    /// Decodes the next frame, which has this number, where there is one. A stream without any is
+    /// refused.
+    pub fn next_frame(
+        &mut self,
+        alloc: Global,
+        number: u64,
+    ) -> Result<Option<Picture>, FrameRefusal> {
+        let limits = self.limits;
+        let frame = match &mut self.layout {
+            Layout::Plain(read) => next_plain(alloc, &mut self.reader, read.take(), limits),
+            Layout::Avi(video) => {
+                next_in_avi(alloc, &mut self.reader, video, number == 1, limits)
+            }
+        };
+        match frame {
+            Ok(None) if number == 1 => Err(FrameRefusal::NoFrame),
+            Ok(frame) => Ok(frame),
+            Err(refusal) => Err(FrameRefusal::Frame(number, refusal)),
+        }
+    }
+}
+
+/// Returns how the frames of a stream stand, unless it begins as a RIFF file and is no AVI file.
+fn layout_of<R: Read>(reader: &mut R) -> io::Result<Option<Layout>> {
+    let mut first = [0u8];
+    if reader.read(&mut first)? == 0 {
+        return Ok(Some(Layout::Plain(None)));
+    }
+    if first[0] != b'R' {
+        return Ok(Some(Layout::Plain(Some(first[0]))));
+    }
+    Ok(if is_avi(reader)? {
+        Some(Layout::Avi(Video::new()))
+    } else {
+        None
+    })
+}

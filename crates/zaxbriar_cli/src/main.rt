@@ -1,0 +1,31 @@
+//! Decodes JPEG files: `zaxbriar pnm photo.jpg -o photo.ppm`.
+//!
+//! Its words are `pnm` and `thumbnail`, which write pictures as netpbm files, `raw`, which writes
+//! their bytes, `info`, which says what files are and takes metadata out of them, and `frames`,
+//! which decodes MJPEG streams. Each reads the files that are named, or standard input, and writes
+//! to `-o` or standard output. It is silent on success. A refusal is one line on standard error
+//! that names the file, and the status is then 1; it is 2 for wrong arguments.
+#![tactic(auto)]
+
+mod arguments;
+mod avi;
+mod commands;
+mod description;
+mod ending;
+mod files;
+mod formats;
+mod frames;
+mod header;
+mod limits;
+mod metadata;
+mod names;
+mod output;
+mod pictures;
+mod refusal;
+
+use ending::exit_code;
+use std::process::ExitCode;
+
+fn main(rt: HostRuntime) -> ExitCode {
+    exit_code(commands::run(rt))
+}

@@ -1,7 +1,0 @@
-complete -c jpeginfo -s h -l help -d 'Print help'
-complete -c jpeginfo -s V -l version -d 'Print the version'
-complete -c jpeginfo -s o -l output -r -d 'The file to write'
-complete -c jpeginfo -l json -d 'Write JSON'
-complete -c jpeginfo -l exif -r -d 'Write the Exif data to a file'
-complete -c jpeginfo -l xmp -r -d 'Write the XMP data to a file'
-complete -c jpeginfo -l icc -r -d 'Write the ICC profile to a file'

@@ -1,5 +1,0 @@
-complete -c thumbnail -s h -l help -d 'Print help'
-complete -c thumbnail -s V -l version -d 'Print the version'
-complete -c thumbnail -s o -l output -r -d 'The file to write'
-complete -c thumbnail -l max -x -d 'The size to fit within, WIDTHxHEIGHT'
-complete -c thumbnail -l as-stored -d 'Do not turn the picture'

@@ -1,0 +1,30 @@
+# Completes the words, options and files of zaxbriar.
+_zaxbriar() {
+    local word="${COMP_WORDS[COMP_CWORD]}" before="${COMP_WORDS[COMP_CWORD - 1]}"
+    local options='-h --help -o --output --max-pixels --max-memory'
+    local words='pnm thumbnail info raw frames --help --version'
+    if [ "$COMP_CWORD" -eq 1 ]; then
+        mapfile -t COMPREPLY < <(compgen -W "$words" -- "$word")
+        return
+    fi
+    case "${COMP_WORDS[1]}" in
+        pnm) options+=' --scale' ;;
+        thumbnail) options+=' --max --as-stored' ;;
+        info) options+=' --json --exif --xmp --icc' ;;
+        frames) options+=' --list' ;;
+    esac
+    case "$before" in
+        --scale) options='1/8 1/4 1/2 1' ;;
+        --max) options='160x120 320x240 640x480 1280x960' ;;
+        --max-pixels) options='10M 100M' ;;
+        --max-memory) options='100M 1G' ;;
+        *)
+            if [ "${word#-}" = "$word" ]; then
+                mapfile -t COMPREPLY < <(compgen -f -- "$word")
+                return
+            fi
+            ;;
+    esac
+    mapfile -t COMPREPLY < <(compgen -W "$options" -- "$word")
+}
+complete -o filenames -F _zaxbriar zaxbriar
