@@ -1,11 +1,11 @@
 //! Callers of `decode` and `decode_into`, of which each keeps one clause of a long contract: those
 //! in `pictures` and `streams` call these.
-ghost use Rattle.std.specs.Prelude.{◌≡◌, drop, take, IfOk};
+ghost use Rattle.std.specs.Prelude.{◌≡◌, drop, take, IfOk, IsErrAnd};
 ghost use Rattle.jpeg_bits.specs.Reading.{Answers};
 ghost use Rattle.jpeg_decoder.specs.Bytes.{IsWhole};
 ghost use Rattle.jpeg_streams.specs.DecodedImages.{DecodesImages};
 ghost use Rattle.jpeg_streams.specs.DecodedSamples.{DecodesSamples};
-ghost use Rattle.jpeg_streams.specs.States.{IsReading, MovesToEnd, ahead};
+ghost use Rattle.jpeg_streams.specs.States.{IsInternal, IsReading, MovesToEnd, ahead};
 ghost use Rattle.jpeg_streams.specs.Stream.{told_of};
 ghost use Rattle.jpeg_streams.specs.declared.progress.Progress.TheVariants.{HeaderRead};
 
@@ -70,6 +70,16 @@ pub fn decode_into_by_rest<R: Read + Drop>(
     pixels: &mut [u8],
 ) -> Result<usize>
     ensures { IfOk result (λ n. drop n pixels.new ≡ drop n pixels.old) }
+{
+    decoder.decode_into(pixels)
+}
+
+/// Calls `Decoder::decode_into`, and says what it is where no image is left to decode.
+pub fn decode_into_by_end<R: Read + Drop>(
+    decoder: &mut Decoder<R>,
+    pixels: &mut [u8],
+) -> Result<usize>
+    ensures { (IsReading decoder.old.stage → ⊥) → IsErrAnd result IsInternal }
 {
     decoder.decode_into(pixels)
 }

@@ -1,15 +1,15 @@
 //! Callers of a decoder that ask for its picture.
-ghost use Rattle.std.specs.Prelude.{◌≡◌, drop, take, IfOk};
+ghost use Rattle.std.specs.Prelude.{◌≡◌, drop, take, IfOk, IsErrAnd};
 ghost use Rattle.jpeg_bits.specs.Reading.{Answers};
 ghost use Rattle.jpeg_decoder.specs.Bytes.{IsWhole};
 ghost use Rattle.jpeg_streams.specs.DecodedImages.{DecodesImages};
 ghost use Rattle.jpeg_streams.specs.DecodedSamples.{DecodesSamples};
-ghost use Rattle.jpeg_streams.specs.States.{IsReading, MovesToEnd, ahead};
+ghost use Rattle.jpeg_streams.specs.States.{IsInternal, IsReading, MovesToEnd, ahead};
 ghost use Rattle.jpeg_streams.specs.Stream.{told_of};
 
 use crate::decoding::{
-    decode_by_image, decode_by_meaning, decode_by_samples, decode_by_stage, decode_into_by_rest,
-    decode_into_by_size,
+    decode_by_image, decode_by_meaning, decode_by_samples, decode_by_stage, decode_into_by_end,
+    decode_into_by_rest, decode_into_by_size,
 };
 use jpeg_decoder::Decoder;
 use jpeg_decoder::error::Result;
@@ -58,4 +58,14 @@ pub fn front_of<R: Read + Drop>(decoder: &mut Decoder<R>, pixels: &mut [u8]) -> 
     ensures { IfOk result (λ n. drop n pixels.new ≡ drop n pixels.old) }
 {
     decode_into_by_rest(decoder, pixels)
+}
+
+/// Decodes into memory by the clause `ended`.
+pub fn picture_after_the_end<R: Read + Drop>(
+    decoder: &mut Decoder<R>,
+    pixels: &mut [u8],
+) -> Result<usize>
+    ensures { (IsReading decoder.old.stage → ⊥) → IsErrAnd result IsInternal }
+{
+    decode_into_by_end(decoder, pixels)
 }
