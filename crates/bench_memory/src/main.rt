@@ -13,7 +13,7 @@ use std::alloc::Global;
 use std::env;
 use std::env::Args;
 use std::io::Read;
-use std::time::Instant;
+use std::time::{Clock, Instant};
 
 /// What is timed.
 #[derive(Clone, Copy)]
@@ -57,19 +57,43 @@ fn mixed(pixels: &[u8]) -> u64 {
     total
 }
 
+/// Decodes a stream, and returns how many microseconds that takes and a number that tells its
+/// picture apart.
+fn timed(
+    clock: &impl Clock,
+    alloc: Global,
+    bytes: &[u8],
+    size: Option<Dimensions>,
+) -> Result<(u128, u64)> {
+    let start = Instant::now(clock)?;
+    let pixels = pixels_of(alloc, bytes, size)?;
+    let time = start.elapsed(clock)?.as_micros();
+    Ok((time, mixed(&pixels)))
+}
+
+/// Decodes a stream as often as is asked for, and returns the least time and the last number.
+fn least_time(
+    clock: &impl Clock,
+    alloc: Global,
+    bytes: &[u8],
+    request: Request,
+) -> Result<(u128, u64)> {
+    let mut least = u128::MAX;
+    let mut total = 0;
+    for _ in 0..request.rounds {
+        let (time, number) = timed(clock, alloc, bytes, request.size)?;
+        least = least.min(time);
+        total = number;
+    }
+    Ok((least, total))
+}
+
 fn main(rt: HostRuntime) -> anyhow::Result<()> {
     let usage = "usage: bench_memory ROUNDS [WIDTH HEIGHT] < photo.jpg";
     let request = request_of(env::args(&rt)?).context(usage)?;
     let mut bytes = Vec::new(rt.alloc());
     rt.stdin().read_to_end(&mut bytes)?;
-    let mut least = u128::MAX;
-    let mut total = 0;
-    for _ in 0..request.rounds {
-        let start = Instant::now(&rt)?;
-        let pixels = pixels_of(rt.alloc(), &bytes, request.size)?;
-        least = least.min(start.elapsed(&rt)?.as_micros());
-        total = mixed(&pixels);
-    }
+    let (least, total) = least_time(&rt, rt.alloc(), &bytes, request)?;
     println!(rt; "{total}")?;
     eprintln!(rt; "{least}")?;
     Ok(())
