@@ -16,11 +16,6 @@ ghost use Rattle.jpeg_streams.specs.Found.{Said};
 ghost use Rattle.jpeg_streams.specs.WrittenImages.{WritesImage};
 ghost use Rattle.jpeg_streams.specs.WrittenScans.{Coefficients};
 
-#[cfg(test)]
-mod byte_tests;
-#[cfg(test)]
-mod tests;
-
 use jpeg_decoder::error::Result;
 use jpeg_decoder::{Decoder, ImageInfo, SliceReader};
 use std::alloc::Global;

@@ -1,8 +1,8 @@
 //! What the tests of several crates share: streams, and what a decoder reads and writes through.
 //!
-//! `streams` makes the bytes of texts, `named` has streams with their pictures, `readers` has
+//! `streams` writes out the bytes of texts, `named` has streams with their pictures, `readers` has
 //! readers and writers that give or take a few bytes a call, are interrupted or fail, and `states`
-//! tells how a decoder that has ended answers.
+//! finds out what a decoder returned: a picture, or a refusal since it has ended.
 #![tactic(auto)]
 
 pub mod named;

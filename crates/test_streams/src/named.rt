@@ -1,10 +1,5 @@
 //! Streams by name, each with its picture. Their texts are those of `streams`.
 
-use crate::streams::write_bytes;
-use std::alloc::Global;
-use std::io::{Cursor, Write};
-use std::test::Fail;
-
 /// A stream and what is decoded of it.
 #[derive(Clone, Copy)]
 pub struct Named {
@@ -16,35 +11,6 @@ pub struct Named {
     pub header: &'static str,
     /// The text of its picture's bytes.
     pub picture: &'static str,
-}
-
-/// How many bytes the longest of the streams has at most.
-pub const ROOM: usize = 5120;
-
-impl Named {
-    /// Returns the bytes of the stream.
-    pub fn bytes(&self, alloc: Global) -> Result<Vec<u8>, Fail> {
-        let mut all = Vec::new(alloc);
-        write_bytes(&mut all, self.stream)?;
-        Ok(all)
-    }
-
-    /// Returns what `run` writes of the stream.
-    pub fn output(&self, alloc: Global) -> Result<Vec<u8>, Fail> {
-        let mut all = Vec::new(alloc);
-        all.write_all(self.header.as_bytes())?;
-        all.push(b'\n')?;
-        write_bytes(&mut all, self.picture)?;
-        Ok(all)
-    }
-}
-
-/// Returns the bytes of a text, in room that was there before: nothing is allocated.
-pub fn bytes_in<'a>(room: &'a mut [u8; ROOM], text: &str) -> Result<&'a [u8], Fail> {
-    let mut writer = Cursor::new(room.as_mut_slice());
-    write_bytes(&mut writer, text)?;
-    let length = usize::try_from(writer.position())?;
-    Ok(room.get(..length).ok_or("no room")?)
 }
 
 /// One block of 129: the smallest stream of a DCT frame.
@@ -138,18 +104,3 @@ pub const WIDE_FIRST: Named = Named {
     picture: "81817F*8 80817F*8 81817F*8 80817F*8 81817F*8 80817F*8 81817F*8 80817F*8
         81817F*8 80817F*8 81817F*8 80817F*8 81817F*8 80817F*8 81817F*8 80817F*8",
 };
-
-/// All of them.
-pub const STREAMS: [Named; 11] = [
-    SMALLEST_GREY,
-    PROGRESSIVE,
-    WITHOUT_REFINEMENT,
-    WITH_REFINEMENT,
-    ZEROS_AFTER_DATA,
-    LOSSLESS,
-    PROFILE,
-    COLOURS,
-    DEFAULT_TABLES,
-    RESTARTS_AFTER_SCAN,
-    WIDE_FIRST,
-];

@@ -2,11 +2,9 @@
 ghost use Rattle.std.specs.Prelude.{◌≡◌, ℕ, List};
 
 use jpeg_bits::error::Error;
-use std::alloc::Global;
 use std::cell::Cell;
 use std::io;
-use std::io::{ErrorKind, Read, Write};
-use std::test::Fail;
+use std::io::{Cursor, ErrorKind, Read, Write};
 
 /// How many bytes at most a read gives, where a stream is read in pieces. A reader may give any
 /// count, and no answer is to depend on it; 8 bytes fill the reservoir of 64 bits.
@@ -50,19 +48,21 @@ impl Trouble {
     }
 }
 
-/// Returns whether an answer is the very error, of this kind, of a call that went wrong.
-pub fn is_own_error<T>(
-    alloc: Global,
-    answer: &Result<T, Error>,
-    kind: ErrorKind,
-) -> Result<bool, Fail> {
-    match answer {
-        Err(Error::Io(error)) => {
-            let text = format!(in alloc; "{error}")?;
-            Ok(error.kind() == kind && text.as_str() == TEXT)
-        }
-        _ => Ok(false),
+/// Returns whether a refusal is the very error, of this kind, of a call that went wrong.
+pub fn is_own_error(error: &Error, kind: ErrorKind) -> bool {
+    match error {
+        Error::Io(error) => error.kind() == kind && has_text(error, TEXT),
+        _ => false,
     }
+}
+
+/// Returns whether an error is written as this text, of at most 32 bytes. Nothing is allocated.
+fn has_text(error: &io::Error, text: &str) -> bool {
+    let mut room = [0; 32];
+    let mut writer = Cursor::new(room.as_mut_slice());
+    let is_written = write!(writer, "{error}").is_ok();
+    let length = writer.position().min(32) as usize;
+    is_written && &room[..length] == text.as_bytes()
 }
 
 /// A reader of some bytes, a few at a time, of which one call goes wrong.
@@ -132,7 +132,7 @@ pub struct Counted<'a> {
 }
 
 impl<'a> Counted<'a> {
-    /// This reader, whose calls and bytes are added to these counts.
+    /// Returns this reader, whose calls and bytes are added to these counts.
     pub fn new(reader: Reader<'a>, counts: &'a Counts) -> Counted<'a> {
         Counted { reader, counts }
     }
@@ -145,40 +145,6 @@ impl Read for Counted<'_> {
         let count = self.reader.read(buf)?;
         given.set(given.get().wrapping_add(count));
         Ok(count)
-    }
-}
-
-/// The text of the error of a read past the last byte.
-const AFTER_THE_END: &str = "after the end";
-
-/// A reader of some bytes that fails where it is asked for more than are left.
-#[derive(Drop)]
-pub struct Ended<'a> {
-    /// The bytes that are left.
-    pub rest: &'a [u8],
-}
-
-impl Read for Ended<'_> {
-    fn read(&mut self, buf: &mut [u8]) -> io::Result<usize> {
-        let count = buf.len();
-        if count > self.rest.len() {
-            return Err(io::Error::new(ErrorKind::Other, AFTER_THE_END));
-        }
-        let (front, rest) = self.rest.split_at(count);
-        buf.copy_from_slice(front);
-        self.rest = rest;
-        Ok(count)
-    }
-}
-
-/// Returns whether an answer is the error of a reader that was asked for more than it has.
-pub fn is_read_after_the_end<T>(alloc: Global, answer: &Result<T, Error>) -> Result<bool, Fail> {
-    match answer {
-        Err(Error::Io(error)) => {
-            let text = format!(in alloc; "{error}")?;
-            Ok(text.as_str() == AFTER_THE_END)
-        }
-        _ => Ok(false),
     }
 }
 
@@ -235,22 +201,21 @@ impl Write for Writer<'_> {
     }
 }
 
-/// How often a call is interrupted before it is heard.
-const INTERRUPTIONS: u16 = 1000;
-
-/// A reader or a writer of which each call is interrupted many times before it is heard.
+/// A reader or a writer of which each call is interrupted before it is heard.
 #[derive(Drop)]
 pub struct Interrupted<T: Drop> {
     inner: T,
+    interruptions: u16,
     left: u16,
 }
 
 impl<T: Drop> Interrupted<T> {
-    /// This reader or writer, whose first call is interrupted first.
-    pub fn new(inner: T) -> Interrupted<T> {
+    /// Returns this reader or writer, of which each call is interrupted so many times first.
+    pub fn new(inner: T, interruptions: u16) -> Interrupted<T> {
         Interrupted {
             inner,
-            left: INTERRUPTIONS,
+            interruptions,
+            left: interruptions,
         }
     }
 
@@ -262,7 +227,7 @@ impl<T: Drop> Interrupted<T> {
                 true
             }
             None => {
-                self.left = INTERRUPTIONS;
+                self.left = self.interruptions;
                 false
             }
         }

@@ -1,0 +1,111 @@
+//! Calls that run out of memory: each returns `OutOfMemory` and nothing else, and what was read
+//! before is reported. `./memory` at the top of the repository refuses each allocation of these
+//! tests in turn. Nothing here allocates but the calls themselves and a writer, which then returns
+//! an error of its own.
+
+use crate::decoders::{FIRSTS, First, begin, has_failed};
+use crate::streams::{COUNT, Stream, Written, stream_of};
+use jpeg_decoder::run::run;
+use jpeg_decoder::{Decoder, Error};
+use std::alloc::Global;
+use std::io::ErrorKind;
+use test_streams::readers::{Counted, Counts, Reader, Trouble, Writer};
+use test_streams::states::is_finished;
+use test_streams::streams::ROOM;
+
+/// A decoder's stream, and how much of it was read.
+#[derive(Clone, Copy)]
+struct Reading<'a> {
+    stream: &'a Written<'a>,
+    counts: &'a Counts,
+}
+
+impl Reading<'_> {
+    /// Returns whether a decoder reports what was read. A profile for which there is no memory is
+    /// reported by the next call, and the last segment that was read may be what there was no
+    /// memory for.
+    fn is_reported(&self, decoder: &Decoder<Counted<'_>>) -> bool {
+        let given = self.counts.given.get();
+        self.stream.is_reported(decoder, given)
+            || self.stream.is_reported(decoder, given)
+            || self.stream.is_reported(decoder, given.saturating_sub(1))
+    }
+
+    /// Returns whether a decoder that has run out of memory has failed and reports what was read.
+    fn is_failed(&self, decoder: &mut Decoder<Counted<'_>>, error: &Error) -> bool {
+        matches!(error, Error::OutOfMemory)
+            && self.is_reported(decoder)
+            && has_failed(decoder)
+            && self.is_reported(decoder)
+    }
+
+    /// Returns whether a decoder returns the picture, or has failed.
+    fn decodes(&self, decoder: &mut Decoder<Counted<'_>>) -> bool {
+        match decoder.decode() {
+            Ok(pixels) => {
+                pixels.as_slice() == self.stream.picture
+                    && self.is_reported(decoder)
+                    && is_finished(&decoder.decode())
+            }
+            Err(error) => self.is_failed(decoder, &error),
+        }
+    }
+
+    /// Returns whether a decoder does so after a first call.
+    fn decodes_after(&self, decoder: &mut Decoder<Counted<'_>>, first: First) -> bool {
+        match begin(decoder, first) {
+            Ok(()) => self.is_reported(decoder) && self.decodes(decoder),
+            Err(error) => self.is_failed(decoder, &error),
+        }
+    }
+}
+
+/// Returns whether a decoder of a stream returns its picture, or runs out of memory.
+fn decodes(alloc: Global, stream: &Written<'_>, first: First) -> bool {
+    let counts = Counts::new();
+    let reader = Reader::new(stream.bytes, usize::MAX, usize::MAX, Trouble::Fails);
+    let reading = Reading {
+        stream,
+        counts: &counts,
+    };
+    match Decoder::new(alloc, Counted::new(reader, &counts)) {
+        Ok(mut decoder) => reading.decodes_after(&mut decoder, first),
+        Err(error) => matches!(error, Error::OutOfMemory),
+    }
+}
+
+/// Returns whether `run` writes what it is to, or runs out of memory and writes nothing.
+fn runs(alloc: Global, stream: &Written<'_>) -> bool {
+    let mut output = Vec::new(alloc);
+    let mut writer = Writer::new(&mut output, usize::MAX, usize::MAX, Trouble::Fails);
+    match run(alloc, stream.bytes, &mut writer) {
+        Ok(()) => stream.is_output(&output),
+        Err(Error::OutOfMemory) => output.is_empty(),
+        // The writer's own refusal.
+        Err(Error::Io(error)) => error.kind() == ErrorKind::OutOfMemory,
+        Err(_) => false,
+    }
+}
+
+/// Returns whether both hold for a stream, after each first call.
+fn fares(alloc: Global, stream: &Stream) -> bool {
+    match stream.write_out(&mut [0; ROOM], &mut [0; ROOM]) {
+        Ok(stream) => {
+            for first in FIRSTS {
+                if !decodes(alloc, &stream, first) {
+                    return false;
+                }
+            }
+            runs(alloc, &stream)
+        }
+        Err(_) => false,
+    }
+}
+
+#[test]
+fn streams_want_memory(rt: HostRuntime) {
+    for number in 0..COUNT {
+        let stream = stream_of(number);
+        assert!(rt; fares(rt.alloc(), &stream), "{}", stream.named.name);
+    }
+}
