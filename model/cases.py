@@ -87,9 +87,10 @@ def orientation_of(exif):
             at = directory + 2 + 12 * entry
             if at + 12 > len(exif):
                 return None
-            if (number(at, 2), number(at + 2, 2), number(at + 4, 4)) == (0x0112, 3, 1):
-                if 1 <= number(at + 8, 2) <= 8:
-                    return number(at + 8, 2)
+            size = {3: 2, 9: 4}.get(number(at + 2, 2))
+            if size and (number(at, 2), number(at + 4, 4)) == (0x0112, 1):
+                if 1 <= number(at + 8, size) <= 8:
+                    return number(at + 8, size)
     except IndexError:
         pass
     return None

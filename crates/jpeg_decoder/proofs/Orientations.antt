@@ -1,6 +1,8 @@
 -- Numbers of two and four bytes, and the entries of a directory.
 use Rattle.std.proofs.Common.{◌≡◌, ℕ, ◌+◌, ◌*◌, ◌<◌, ◌≤◌, Bool, true, false, List, [], length, take, drop}
 use Rattle.std.proofs.Common.{slice_index, arith, None, Some, length-drop, ap, eq-eqb, ne_eqb, ◌-◌}
+use Rattle.std.proofs.Common.{◌∷◌, option_map}
+use Rattle.std.specs.List.{find}
 use Rattle.std.proofs.lemmas.Bool.{lt-leb, le-leb}
 use Rattle.jpeg_decoder.specs.Orientation.{lower_first, number, number_at, entries_in, first_directory, orientation_in, orientation_among, is_orientation, value_of}
 use Rattle.std.proofs.lemmas.Grind.{common_steps}
@@ -94,8 +96,18 @@ unfolding entries_in
 passed le count bytes room few h = grind (arith, common_steps, le-leb)
 
 -- Or it is one.
+entries-more : (count : ℕ) (bytes : List ℕ) → 12 ≤ length bytes → 0 < count
+    → entries_in count bytes ≡ take 12 bytes ∷ entries_in (count - 1) (drop 12 bytes)
+unfolding entries_in
+entries-more count bytes room few = grind (arith, common_steps, le-leb)
+
+first-found : (value : List ℕ → ℕ) (is_one : List ℕ → Bool) (entry : List ℕ) (others : List (List ℕ))
+    → is_one entry ≡ true → option_map value (find is_one (entry ∷ others)) ≡ Some (value entry)
+first-found value is_one entry others h = grind (arith, common_steps)
+
 pub met : (le : Bool) (count : ℕ) (bytes : List ℕ) → 12 ≤ length bytes → 0 < count
     → is_orientation le (take 12 bytes) ≡ true
     → orientation_among le (entries_in count bytes) ≡ Some (value_of le (take 12 bytes))
-unfolding entries_in
-met le count bytes room few h = grind (arith, common_steps, le-leb)
+met le count bytes room few h =
+    rw (entries-more count bytes room few) (first-found (value_of le) (is_orientation le)
+    (take 12 bytes) (entries_in (count - 1) (drop 12 bytes)) h)

@@ -1,6 +1,6 @@
 -- The orientation that Exif data say. They are a TIFF structure (Exif 2.3, 4.5.2; TIFF 6.0,
 -- sections 2 and 8).
-use Rattle.std.specs.Prelude.{ℕ, zero, suc, ◌+◌, ◌*◌, ◌==◌, ◌&&◌, Bool, true, false, nat_le}
+use Rattle.std.specs.Prelude.{ℕ, zero, suc, ◌+◌, ◌*◌, ◌==◌, ◌&&◌, ◌||◌, Bool, true, false, nat_le}
 use Rattle.std.specs.Prelude.{List, [], ◌∷◌, take, drop, length, reverse, if◌then◌else◌}
 use Rattle.std.specs.Prelude.{Option, None, option_map}
 use Rattle.std.specs.List.{find}
@@ -42,15 +42,23 @@ first_directory little exif =
 
 -- ---- the orientation
 
--- the value of an entry, of two bytes
-abbrev pub value_of : Bool → List ℕ → ℕ
-value_of little entry = number_at little 8 2 entry
+-- How many bytes a number takes by its type: a SHORT (3) two, and a SLONG (9), which some writers
+-- take in its place, four.
+abbrev pub bytes_by : ℕ → ℕ
+bytes_by kind = if kind == 9 then 4 else 2
 
--- An entry is an orientation by its tag, its type (a SHORT, of two bytes) and its count, if its
--- value is one.
+-- the value of an entry of a type
+abbrev pub value_by : Bool → ℕ → List ℕ → ℕ
+value_by little kind entry = number_at little 8 (bytes_by kind) entry
+
+abbrev pub value_of : Bool → List ℕ → ℕ
+value_of little entry = value_by little (number_at little 2 2 entry) entry
+
+-- An entry is an orientation by its tag, its type (a SHORT or a SLONG) and its count, if its value is
+-- one.
 abbrev pub is_orientation_by : ℕ → ℕ → ℕ → ℕ → Bool
-is_orientation_by tag kind count value =
-    tag == 0x0112 && (kind == 3 && (count == 1 && (nat_le 1 value && nat_le value 8)))
+is_orientation_by tag kind count value = tag == 0x0112
+    && ((kind == 3 || kind == 9) && (count == 1 && (nat_le 1 value && nat_le value 8)))
 
 unfoldable pub is_orientation : Bool → List ℕ → Bool
 is_orientation little entry = is_orientation_by (number_at little 0 2 entry)

@@ -3,13 +3,17 @@ ghost use Rattle.std.specs.Prelude.{◌≡◌, ◌<◌, ◌≤◌, ◌+◌, Matc
 ghost use Rattle.std.specs.Prelude.{IfSome, Some, None, length, true};
 ghost use Rattle.jpeg_decoder.specs.Orientation.{entries_in, first_directory, is_orientation};
 ghost use Rattle.jpeg_decoder.specs.Orientation.{is_orientation_by, number_at};
-ghost use Rattle.jpeg_decoder.specs.Orientation.{orientation_among, orientation_in, value_of};
+ghost use Rattle.jpeg_decoder.specs.Orientation.{orientation_among, orientation_in, value_by};
+ghost use Rattle.jpeg_decoder.specs.Orientation.{value_of};
 
 /// The tag of the orientation.
 const ORIENTATION: u16 = 0x0112;
 
 /// The type of values of two bytes.
 const SHORT: u16 = 3;
+
+/// The type of values of four bytes with a sign, which some writers take in place of `SHORT`.
+const SLONG: u16 = 9;
 
 /// Returns the number of two bytes at an offset, if they are there.
 #[tactic(auto, using(crate::proofs::Rules::shorts))]
@@ -48,12 +52,27 @@ fn long_at(bytes: &[u8], offset: usize, is_little: bool) -> Option<u32>
     })
 }
 
+/// Returns the value of an entry of this type.
+fn value_at(entry: &[u8], kind: u16, is_little: bool) -> Option<u32>
+    requires { length entry.now ≡ 12 }
+    ensures { result ≡ Some (value_by is_little kind entry.now) }
+{
+    if kind == SLONG {
+        return long_at(entry, 8, is_little);
+    }
+    match short_at(entry, 8, is_little) {
+        Some(value) => Some(u32::from(value)),
+        None => None,
+    }
+}
+
 /// Returns whether an entry of this tag, type, count and value is an orientation.
-fn is_orientation(tag: u16, kind: u16, count: u32, value: u16) -> bool
+fn is_orientation(tag: u16, kind: u16, count: u32, value: u32) -> bool
     ensures value { result ≡ is_orientation_by tag kind count value }
     ensures range { result ≡ true → (1 ≤ value) × (value ≤ 8) }
 {
-    tag == ORIENTATION && (kind == SHORT && (count == 1 && (1 <= value && value <= 8)))
+    tag == ORIENTATION
+        && ((kind == SHORT || kind == SLONG) && (count == 1 && (1 <= value && value <= 8)))
 }
 
 /// Returns the value of an entry if it is an orientation.
@@ -67,7 +86,7 @@ fn orientation_of_entry(entry: &[u8], is_little: bool) -> Option<u8>
     let tag = short_at(entry, 0, is_little)?;
     let kind = short_at(entry, 2, is_little)?;
     let count = long_at(entry, 4, is_little)?;
-    let value = short_at(entry, 8, is_little)?;
+    let value = value_at(entry, kind, is_little)?;
     if is_orientation(tag, kind, count, value) {
         Some(value as u8)
     } else {
@@ -109,7 +128,8 @@ fn orientation_by(exif: &[u8], is_little: bool) -> Option<u8>
 }
 
 /// Returns the orientation that Exif data say, 1 (upright) to 8: the value of the first entry of
-/// their first directory that has the tag 0x0112 and one number of two bytes from 1 to 8.
+/// their first directory that has the tag 0x0112 and one number of two bytes from 1 to 8, or of four
+/// with a sign, which some files have.
 ///
 /// Data begin at their TIFF header, as those of [`Decoder::exif_data`](crate::Decoder::exif_data).
 /// Where they are cut or say no orientation the answer is none.
