@@ -6,3 +6,4 @@ pub mod Headers
 pub mod Strict
 pub mod FoundTables
 pub mod HeaderRules
+pub mod Extremes

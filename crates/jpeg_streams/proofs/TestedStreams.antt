@@ -12,7 +12,7 @@ use Rattle.std.proofs.lemmas.Bool.{and_parts, ltb-true, not-true, eq-eqb, eqb-tr
 use Rattle.std.proofs.lemmas.Bool.Decides.{nat_tests}
 use Rattle.std.proofs.lemmas.Grind.{common_steps}
 use Rattle.std.specs.List.{list_all, position_or_len, range_with_len, flat_map}
-use Rattle.std.specs.Prelude.{nat_le, slice_get, slice_index, slice_index_or, ◌≤ℤ◌, get_or, ◌/◌, ◌%◌}
+use Rattle.std.specs.Prelude.{nat_le, slice_get, slice_index, slice_index_or, ◌≤◌, ◌≤ℤ◌, get_or, ◌/◌, ◌%◌}
 use Rattle.jpeg_bits.specs.Intervals.{first_group, other_groups, intervals}
 use Rattle.jpeg_bits.specs.Passes.{Block, predictors_at_start, band_of, Pass}
 use Rattle.jpeg_bits.specs.Reading.{Fault, Outcome}
@@ -220,12 +220,31 @@ pub legal-by : (p : Pass) (l : Levels) → is_legal p l ≡ true → IsLegal p l
 legal-by p l e =
     search (rules, and_parts, leb-true, none-is, eq-eqb, at-is, some-is, ne_eqb, all-by)
 
+-- from -1024 to 1023
+abbrev pub is_dc : ℤ → Bool
+is_dc (pos n) = nat_le n 1023
+is_dc (negsuc n) = nat_le n 1023
+
+dc-range : (z : ℤ) → is_dc z ≡ true → (negsuc 1023 ≤ℤ z) × (z ≤ℤ pos 1023)
+dc-range (pos n) e = let h : n ≤ 1023 = leb-true n 1023 e in (omega (arith, ints), omega (arith, ints))
+dc-range (negsuc n) e = let h : n ≤ 1023 = leb-true n 1023 e in (omega (arith, ints), omega (arith, ints))
+
 abbrev pub is_8_bit : Block → Bool
 is_8_bit b =
-    length b.acs == 63 && (nat_le (unsigned_abs b.dc) 1023 && list_all (λ x. nat_le (unsigned_abs x) 1023) b.acs)
+    length b.acs == 63 && (is_dc b.dc && list_all (λ x. nat_le (unsigned_abs x) 1023) b.acs)
 
 pub range-by : (b : Block) → is_8_bit b ≡ true → Is8Bit b
-range-by b e = search (rules, unsigned_abs, nat_tests, ints, all-by, leb-true)
+range-by b e =
+    let sized = and_parts (length b.acs == 63) (is_dc b.dc && list_all (λ x. nat_le (unsigned_abs x) 1023) b.acs) e in
+    let rest = and_parts (is_dc b.dc) (list_all (λ x. nat_le (unsigned_abs x) 1023) b.acs) sized.1 in
+    let dc = dc-range b.dc rest.0 in
+    record {
+      count = eqb-true (length b.acs) 63 sized.0;
+      dc_low = dc.0;
+      dc_high = dc.1;
+      acs = all-by (λ x. nat_le (unsigned_abs x) 1023) (λ x. unsigned_abs x ≤ 1023)
+          (λ x h. leb-true (unsigned_abs x) 1023 h) b.acs rest.1;
+    }
 
 in-list : {A : Type 0} (P : A → Type 0) (test : A → Bool) (d : A) → ((x : A) → test x ≡ true → P x) → test d ≡ true
     → (xs : List A) → list_all test xs ≡ true → (i : ℕ) → P (get_or xs i d)
