@@ -30,6 +30,19 @@ def scaled_answers(zaxbriar, peer, scale, size, stream):
     return (ours, picture.split(b"\n", 3)[-1]), (theirs, raw.split(b"\n", 1)[-1])
 
 
+def size_at(scale, width, height):
+    """The size of a picture at 1, 2, 4 or 8 eighths."""
+    return -(-width * scale // 8), -(-height * scale // 8)
+
+
+def is_less_enough(scale, width, height):
+    """Whether a lesser scale has the size, in one direction: PEER is asked for a size, and takes the
+    least scale that is as wide or as high."""
+    least = size_at(scale // 2, width, height) if scale > 1 else (0, 0)
+    wanted = size_at(scale, width, height)
+    return least[0] >= wanted[0] or least[1] >= wanted[1]
+
+
 def scaled(zaxbriar, peer):
     """The answers of both programs at each scale."""
     for name, picture in drawn(FEW_SIZES):
@@ -38,7 +51,9 @@ def scaled(zaxbriar, peer):
             for coding in ("plain", "progressive"):
                 stream = output_of(["cjpeg", "-sample", sampling, *CODINGS[coding]], picture)
                 for scale, name_of_scale in ((1, "1/8"), (2, "1/4"), (4, "1/2"), (8, "1")):
-                    size = -(-width * scale // 8), -(-height * scale // 8)
+                    size = size_at(scale, width, height)
+                    if is_less_enough(scale, width, height):
+                        continue
                     yield f"{name}; {sampling}; {coding}; {scale}/8", *scaled_answers(
                         zaxbriar, peer, name_of_scale, size, stream
                     )

@@ -78,7 +78,6 @@ def runs_of(photo, movie, frames):
     yield "zaxbriar_cli", ["thumbnail", "--max", "1000x1000", "--as-stored", photo], b""
     yield "zaxbriar_cli", ["info", photo], b""
     yield "zaxbriar_cli", ["info", "--json", photo], b""
-    yield "zaxbriar_cli", ["info", "--json", photo, photo], b""
     yield "zaxbriar_cli", ["raw", photo], b""
     for option in ("--exif", "--xmp", "--icc"):
         yield "zaxbriar_cli", ["info", option, "-", photo], b""
