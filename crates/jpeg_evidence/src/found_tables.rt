@@ -4,18 +4,22 @@
 ghost use Rattle.std.specs.Prelude.{◌≡◌, ◌+◌, ℕ, [], ◌∷◌, List, Ok, Err, Some, None, true, false};
 ghost use Rattle.std.specs.Prelude.{map, replicate, zip, pos, negsuc};
 ghost use Rattle.std.specs.List.{range_with_len};
-ghost use Rattle.jpeg_bits.specs.Bands.{first_dc};
+ghost use Rattle.jpeg_bits.specs.Bands.{after_token, first_dc};
 ghost use Rattle.jpeg_bits.specs.DefaultTables.{chrominance_dc, luminance_ac};
 ghost use Rattle.jpeg_bits.specs.Entropy.{Broken};
 ghost use Rattle.jpeg_bits.specs.Reading.{Malformed, Lacks, End};
-ghost use Rattle.jpeg_bits.specs.Readers.{text};
-ghost use Rattle.jpeg_bits.specs.declared.codes.HuffmanTableClass.TheVariants.{DC};
+ghost use Rattle.jpeg_bits.specs.Marker.{marker_of};
+ghost use Rattle.jpeg_bits.specs.Readers.{gives, text};
+ghost use Rattle.jpeg_bits.specs.Refinement.{refined_ac};
+ghost use Rattle.jpeg_bits.specs.declared.codes.HuffmanTableClass.TheVariants.{AC, DC};
 ghost use Rattle.jpeg_bits.specs.declared.error.UnsupportedFeature.TheVariants as features;
 ghost use Rattle.jpeg_bits.specs.declared.marker.Marker.TheVariants as markers;
+ghost use Rattle.jpeg_bits.specs.declared.tokens.Token.TheVariants as tokens;
 ghost use Rattle.jpeg_segments.specs.Application.{Exif, Xmp};
 ghost use Rattle.jpeg_segments.specs.Frame.{Frame, frame_of, is_count, is_destination};
 ghost use Rattle.jpeg_segments.specs.HuffmanTables.{greatest_destination};
 ghost use Rattle.jpeg_segments.specs.ScanHeader.{Scan, scan_of, is_mcu, is_progressive_band};
+ghost use Rattle.jpeg_segments.specs.ScanHeader.{is_sequential_band};
 ghost use Rattle.jpeg_streams.specs.Found.{Said, no_metadata, nothing_found, with_said};
 ghost use Rattle.jpeg_streams.specs.Pixels.{format_of};
 ghost use Rattle.jpeg_streams.specs.Profile.{profile_of};
@@ -87,6 +91,9 @@ pub fn headers_go_so_far()
     ensures before_a_frame { greatest_destination None ≡ 3 }
     ensures levels { map (λ low. is_progressive_band 1 1 63 (low + 1) low) (range_with_len 0 13)
         ≡ replicate 13 true }
+    // A last coefficient of 0 is read as 63 (own to the decoder).
+    ensures whole { map (λ last. is_sequential_band 0 last 0 0) (0 ∷ 62 ∷ 63 ∷ [])
+        ≡ true ∷ false ∷ true ∷ [] }
 {}
 
 /// What is refused by name, and which markers a scan may be followed by.
@@ -106,6 +113,7 @@ pub fn refusals_are_named()
     ensures stray { segment_at (markers.RST 3) LaterScan nothing_found (1 ∷ [])
         ≡ Ok (onward nothing_found, 1 ∷ []) }
     ensures line_count { segment_at markers.DNL LaterScan nothing_found [] ≡ Err Malformed }
+    ensures reserved { map marker_of (200 ∷ 204 ∷ []) ≡ Some markers.JPG ∷ Some markers.DAC ∷ [] }
 {}
 
 /// What a caller is told: the last Exif and XMP data, and the format.
@@ -128,11 +136,18 @@ pub fn profiles_are_joined()
         ∷ (part_of_profile 0 2 ∷ part_of_profile 1 2 ∷ [])
         ∷ (part_of_profile 1 2 ∷ part_of_profile 2 3 ∷ []) ∷ (part_of_profile 1 2 ∷ []) ∷ [] ∷ [])
         ≡ replicate 5 None }
+    ensures too_many { profile_of (map (λ n. part_of_profile (n + 1) 255) (range_with_len 0 255))
+        ≡ None }
 {}
 
-/// DC is kept modulo 2^16 (own to the decoder).
+/// DC and AC are kept modulo 2^16, and a refinement takes no value above 1 (the first is own to the
+/// decoder).
 #[tactic(auto, unfolding(jpeg_streams::proofs::OnLiterals::streams_on_literals))]
 pub fn numbers_go_round()
-    ensures { first_dc (one_symbol DC 1) 7 (pos 255) (text (false ∷ true ∷ []) [] (Broken End))
+    ensures dc { first_dc (one_symbol DC 1) 7 (pos 255) (text (false ∷ true ∷ []) [] (Broken End))
         ≡ Ok ((negsuc 32767, pos 256), text [] [] (Broken End)) }
+    ensures ac { after_token 7 (λ rest. gives (rest, 0)) (pos 0 ∷ []) (tokens.Value 0 (pos 256))
+        (text [] [] (Broken End)) ≡ Ok ((negsuc 32767 ∷ [], 0), text [] [] (Broken End)) }
+    ensures refined { refined_ac (one_symbol AC 2) 0 1 (pos 0 ∷ [])
+        (text (false ∷ true ∷ []) [] (Broken End)) ≡ Err Malformed }
 {}
