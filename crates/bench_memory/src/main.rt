@@ -71,7 +71,7 @@ fn timed(
     Ok((time, mixed(&pixels)))
 }
 
-/// Decodes a stream as often as is asked for, and returns the least time and the last number.
+/// Decodes a stream the given number of times, and returns the least time and the last number.
 fn least_time(
     clock: &impl Clock,
     alloc: Global,

@@ -32,9 +32,9 @@
 //! each. What isn't there is `none`. A refused call answers `refused: ` and the error's text, of
 //! which a broken rule has the kind alone, `invalid JPEG format`, but for `refusal`.
 //!
-//! The calls of a case are made by seven readers in turn: one that gives all that it is asked for,
-//! and one for each of [`STEPS`](test_streams::readers::STEPS), which gives at most that many bytes
-//! a call. After each `decode` and `refusal` comes one call of `decode` more, which has to be
+//! The calls of a case are made by seven readers in turn: one that gives as much as a read asks
+//! for, and one for each of [`STEPS`](test_streams::readers::STEPS), which gives at most that many
+//! bytes a call. After each `decode` and `refusal` comes one call of `decode` more, which has to be
 //! refused as one after a picture or after a refusal is. Where a case begins with one of these, or
 //! with `cuts`, `run` decodes the stream too, and has to write the same, and `report` the text of
 //! the refusal. Where anything differs the line says `WRONG` and how.

@@ -55,7 +55,7 @@ impl Stream<'_> {
         self.ends(alloc, piece, call, Trouble::TakesNothing)
     }
 
-    /// Returns whether all is written in so many writes.
+    /// Returns whether all is written in this many writes.
     fn takes(&self, alloc: Global, piece: usize, writes: usize) -> bool {
         let mut taken = Vec::new(alloc);
         let mut writer = Writer::new(&mut taken, piece, usize::MAX, Trouble::Fails);
@@ -65,7 +65,7 @@ impl Stream<'_> {
     }
 }
 
-/// Returns whether a stream is written in so many writes, and each of them is the last where it
+/// Returns whether a stream is written in this many writes, and each of them is the last where it
 /// goes wrong.
 fn fares(alloc: Global, stream: &Stream<'_>, piece: usize, writes: usize) -> bool {
     for call in 0..writes {

@@ -10,7 +10,7 @@ use Rattle.jpeg_bits.specs.declared.pairs.Pair.{Pair}
 abbrev pub ShortValue : Type 0
 ShortValue = ℤ × ℕ × ℕ
 
--- no band has room for so many coefficients
+-- no band has room for this many coefficients
 abbrev pub no_pair : Pair
 no_pair = record { first = pos 0; second = pos 0; run = 0; next = 0; passed = 64; bits = 0 }
 

@@ -29,11 +29,11 @@ run_within table zero (suc room) = refused
 run_within table (suc n) (suc room) =
     token_from table (suc room) >>= run_after (run_within table n) (suc room)
 
--- The blocks of the run that follows a band of so many coefficients: a token takes one at least.
+-- The blocks of the run that follows a band of this many coefficients: a token takes one at least.
 unfoldable pub run_of : Table → ℕ → Reads ℕ
 run_of table room = run_within table room room
 
--- those of a block in a run of so many
+-- those of a block in a run of this many
 abbrev pub run_part : Table → ℕ → ℕ → Reads ℕ
 run_part table zero run = gives run
 run_part table (suc room) zero = run_of table (suc room)
@@ -46,7 +46,7 @@ run_part table (suc room) (suc run) = gives run
 abbrev pub Skip : Type 0
 Skip = ℕ × ℕ × Bool
 
--- none: no band has room for so many coefficients and one more
+-- none: no band has room for this many coefficients and one more
 abbrev pub no_skip : Skip
 no_skip = (0, 63, false)
 
@@ -58,8 +58,8 @@ after_skip table room (n, passed, false) t = run_of table (room - passed) (advan
 abbrev pub BeginsText : List Bool → ℕ → Text → Type 0
 BeginsText bits n t = (next_bits 12 t.bits ≡ bits) × (has_bits n t.bits t.ending ≡ Ok tt)
 
--- These 12 bits begin with tokens that take n bits, and stand for so many coefficients: where there
--- is room for one more, the band goes on after them.
+-- These 12 bits begin with tokens that take n bits, and stand for this many coefficients: where
+-- there is room for one more, the band goes on after them.
 abbrev pub PassesOver : Table → List Bool → Skip → Type 0
 PassesOver table bits s = (room : ℕ) → s.1 < room → room ≤ 63 → (t : Text) → BeginsText bits s.0 t
     → run_of table room t ≡ after_skip table room s t

@@ -32,7 +32,7 @@ abbrev pub IsWhole : Option Frame → List ℕ → Type 0
 IsWhole None pixels = Unit {0}
 IsWhole (Some f) pixels = (length pixels ≡ picture_size f) × HasBytes f.process (info_of f) pixels
 
--- so many bytes are enough for the picture of a frame
+-- this many bytes are enough for the picture of a frame
 abbrev pub HasRoom : Option Frame → ℕ → Type 0
 HasRoom None room = Unit {0}
 HasRoom (Some f) room = picture_size f ≤ room

@@ -71,7 +71,7 @@ pub record IsKeptBlock (sizes : List ℕ) (slot index : ℕ) : Type 0 where
   pub has_slot : slot < length sizes
   pub has_index : index < get_or sizes slot 0
 
--- a spot of a scan of so many slots, whose block is kept
+-- a spot of a scan of this many slots, whose block is kept
 pub record IsSpotOf (slots : ℕ) (sizes : List ℕ) (s : Spot) : Type 0 where
   pub slot : s.slot < slots
   pub kept : IsKeptBlock sizes s.slot s.index

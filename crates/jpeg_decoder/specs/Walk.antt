@@ -13,11 +13,11 @@ use Rattle.jpeg_decoder.specs.declared.spots.Spot as taken
 
 -- ---- a raster
 
--- so many positions of a row, from a column on
+-- this many positions of a row, from a column on
 abbrev pub positions_of : ℕ → ℕ → ℕ → List (ℕ × ℕ)
 positions_of row column n = map (λ c. (row, c)) (range_with_len column n)
 
--- so many rows, from a row on
+-- this many rows, from a row on
 abbrev pub row_positions : ℕ → ℕ → ℕ → List (ℕ × ℕ)
 row_positions wide row n = flat_map (λ r. positions_of r 0 wide) (range_with_len row n)
 

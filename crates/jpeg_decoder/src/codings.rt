@@ -54,7 +54,7 @@ pub fn pass_of(header: &ScanInfo) -> Pass
 /// 2,304 entries, and a small picture has fewer tokens.
 const WIDE_PIXELS: u32 = 1 << 14;
 
-/// Returns whether a frame has so many pixels that it pays to fill the look-up tables of AC values.
+/// Returns whether a frame has enough pixels for the look-up tables of AC values to pay.
 fn is_large(frame: &FrameInfo) -> bool {
     pixels_of(frame) >= WIDE_PIXELS
 }
@@ -137,7 +137,7 @@ fn widen_all(
     Ok(())
 }
 
-/// Fills the look-up tables of AC values where the frame has so many samples that it pays.
+/// Fills the look-up tables of AC values where the frame has enough samples for them to pay.
 pub fn widen_tables(alloc: Global, state: &mut State) -> std::result::Result<(), AllocError>
     ensures { found_in state.new ≡ found_in state.old }
 {

@@ -95,7 +95,7 @@ fn size_frame(frame: &mut FrameInfo, scale: usize) -> (u16, u16)
     (frame.output_size.width, frame.output_size.height)
 }
 
-/// Returns the scale whose picture is at least so wide or so high, where a frame was read.
+/// Returns the scale whose picture is at least that wide or that high, where a frame was read.
 fn scale_reaching(state: &State, width: u16, height: u16) -> usize
     ensures scale { IfSome (said_in state.now).frame
         (λ f. result ≡ scale_for f.width f.height width height) }
@@ -129,7 +129,7 @@ fn scale_state(state: &mut State, scale: usize) -> Result<(u16, u16)>
     }
 }
 
-/// Returns how many bytes the picture takes, where so many are enough for it, and else `Internal`.
+/// Returns how many bytes the picture takes, where the memory is that long, and else `Internal`.
 fn size_within(state: &State, room: usize) -> Result<usize>
     requires framed { is_some (said_in state.now).frame ≡ true }
     requires frames { HasDecodedFrame (found_in state.now) }
@@ -368,7 +368,7 @@ impl<R: Read + Drop> Decoder<R> {
     }
 
     /// Scales the picture down to the least of 1/8, 1/4, 1/2 and all of its size at which it is as
-    /// wide or as high as is asked for, and returns the size of the picture at that scale. Reads
+    /// wide or as high as requested, and returns the size of the picture at that scale. Reads
     /// the header first where it wasn't read; the last call counts. A lossless picture keeps its
     /// size.
     ///
@@ -461,7 +461,7 @@ impl<R: Read + Drop> Decoder<R> {
         ensures framed { IfOk result (λ _. is_some self.new.found.said.frame ≡ true) }
 
         // The picture has one sample of each component for each pixel, of one byte or two by the
-        // frame's precision; of blocks, so many bytes as `pixel_bytes` says.
+        // frame's precision; of blocks, as many bytes as `pixel_bytes` says.
         ensures size { IfOk result (λ v. IsWhole self.new.found.said.frame v.items) }
 
         // There are as many samples as the format of `info` says.

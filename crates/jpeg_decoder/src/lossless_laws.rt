@@ -41,7 +41,7 @@ pub fn lossless_streams_are_read()
         ≡ Ok ((told_of final, picture_of_samples frame samples), rest) }
 {}
 
-/// It keeps its size, whatever size or scale is asked for.
+/// It keeps its size, whatever size or scale is requested.
 pub fn lossless_streams_keep_their_size()
     ensures sized { (width height : ℕ) (settings : Settings) (samples : Samples)
         (image rest : List ℕ) (final : Said) (frame : Frame) →

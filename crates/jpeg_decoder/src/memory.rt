@@ -36,7 +36,7 @@ fn area(width: u16, height: u16) -> u64
     u64::from(width) * u64::from(height)
 }
 
-/// Returns how many samples there are along so many blocks, each of `scale` samples a side.
+/// Returns how many samples there are along a row of blocks, each of `scale` samples a side.
 fn along(blocks: u16, scale: usize) -> u64
     requires { scale ≤ 8 }
     ensures product { result ≡ blocks * scale }
@@ -96,7 +96,7 @@ fn component_bytes(frame: &FrameInfo) -> (u64, u64)
     (coefficients, planes)
 }
 
-/// Returns how many bytes a pixel takes, of so many components.
+/// Returns how many bytes a pixel of this many components takes.
 fn pixel_bytes(count: usize, precision: u8) -> u64
     requires { count ≤ 4 }
     ensures product { result ≡ count * bytes_a_sample precision }

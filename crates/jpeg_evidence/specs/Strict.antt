@@ -88,7 +88,7 @@ room_after room Sixteen = room - 16
 room_after room (Rest run) = 0
 room_after room Overlong = 0
 
--- The tokens of a band of so many coefficients fit, one after the other.
+-- The tokens of a band of this many coefficients fit, one after the other.
 pub data TokensFit (table : Table) (al : ℕ) : ℕ → List Bool → Type 0 where
   filled : (bits : List Bool) → TokensFit table al 0 bits
   token : (room : ℕ) (x : Token) (bits more : List Bool)

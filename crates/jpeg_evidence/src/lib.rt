@@ -270,7 +270,7 @@ pub fn samples_are_repeated()
         (range_with_len 0 8) ≡ 1 ∷ 1 ∷ 1 ∷ 1 ∷ 11 ∷ 11 ∷ 11 ∷ 11 ∷ [] }
 {}
 
-/// A scale is large enough where the picture is as wide as is asked for, or as high (own to the
+/// A scale is large enough where the picture is as wide as requested, or as high (own to the
 /// decoder).
 #[tactic(auto, unfolding(jpeg_streams::proofs::OnLiterals::streams_on_literals))]
 pub fn either_side_is_enough()

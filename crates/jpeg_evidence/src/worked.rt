@@ -175,7 +175,7 @@ pub fn known_scales()
     ensures least { scale_for 1 1 65535 65535 ≡ 8 }
 {}
 
-/// A picture of one sample at each scale, and by the size that is asked for: it is one sample high
+/// A picture of one sample at each scale, and by the requested size: it is one sample high
 /// and wide at an eighth, so that `sized` never takes more of it.
 #[tactic(auto, unfolding(jpeg_streams::proofs::OnLiterals::streams_on_literals))]
 pub fn known_scaled_pixels()

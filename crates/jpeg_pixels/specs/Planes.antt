@@ -9,7 +9,7 @@ abbrev pub zero_coefficients : List ℤ
 zero_coefficients = replicate 64 (pos 0)
 
 -- The sample at (x, y) of a component whose block at a row and a column is given, in block order,
--- as its quantization table is, and gives so many samples a side: the sample at (x mod scale, y mod
+-- as its quantization table is, and gives `scale` samples a side: the sample at (x mod scale, y mod
 -- scale) of the block in row y / scale and column x / scale.
 abbrev pub plane_sample : ℕ → List ℕ → (ℕ → ℕ → List ℤ) → ℕ → ℕ → ℕ
 plane_sample scale table block_at x y =

@@ -19,12 +19,12 @@ block_side Quarter = 2
 block_side Half = 4
 block_side Full = 8
 
--- whether a picture of full size is at a scale as wide or as high as is asked for
+-- whether a picture of full size is at a scale as wide or as high as requested
 abbrev pub reaches : ℕ → ℕ → ℕ → ℕ → ℕ → Bool
 reaches scale full_width full_height width height =
     nat_le width (ceiling (full_width * scale) 8) || nat_le height (ceiling (full_height * scale) 8)
 
--- The least of 1, 2 and 4 at which the picture is as wide or as high as is asked for, or else 8.
+-- The least of 1, 2 and 4 at which the picture is as wide or as high as requested, or else 8.
 unfoldable pub scale_for : ℕ → ℕ → ℕ → ℕ → ℕ
 scale_for full_width full_height width height =
     unwrap_or (find (λ scale. reaches scale full_width full_height width height) (1 ∷ 2 ∷ 4 ∷ [])) 8
@@ -56,7 +56,7 @@ scaled_by _ scale frame = frame_at scale frame
 abbrev pub scaled : Scale → Frame → Frame
 scaled scale frame = scaled_by frame.process (block_side scale) frame
 
--- A frame whose picture is to be at least so wide or so high.
+-- A frame whose picture is to be at least that wide or that high.
 abbrev pub sized : ℕ → ℕ → Frame → Frame
 sized width height frame =
     scaled_by frame.process (scale_for frame.width frame.height width height) frame

@@ -2,7 +2,7 @@
 ghost use Rattle.std.specs.Prelude.{◌≡◌, true};
 ghost use Rattle.jpeg_segments.specs.Scales.{block_side, is_scale};
 
-/// A scale of a picture. A block of 8 by 8 coefficients gives so many samples, and a side of `n`
+/// A scale of a picture. A block of 8 by 8 coefficients gives that many samples, and a side of `n`
 /// samples has `n * block_side / 8`, rounded up.
 #[derive(Clone, Copy, Debug, PartialEq, Eq)]
 pub enum Scale {

@@ -61,7 +61,7 @@ turn_at before found met bytes = do
 
 -- Segments in turn from a marker on, up to the end of the image, or where a header is wanted up to
 -- a frame: what is found by then, and the bytes after them; or what is found by the fault that ends
--- them, and this fault. There are at most so many turns.
+-- them, and this fault. There are at most this many turns.
 unfoldable pub walk : ℕ → Bool → Before → Found → Option Marker → List ℕ
     → Found × Result (List ℕ) Fault
 walk zero header before found met bytes = (found, Err End)
@@ -114,17 +114,17 @@ meaning settings bytes = do
   start ← start_at bytes
   rest_at settings nothing_found start.1
 
--- what was said, where the picture is to be at least so wide or so high
+-- what was said, where the picture is to be at least that wide or that high
 abbrev pub sized_to : ℕ → ℕ → Said → Said
 sized_to width height said = record said { frame = option_map (sized width height) said.frame }
 
--- The header of a stream whose picture is to be at least so wide or so high.
+-- The header of a stream whose picture is to be at least that wide or that high.
 unfoldable pub sized_header_at : ℕ → ℕ → List ℕ → Outcome Found
 sized_header_at width height bytes = do
   header ← header_at bytes
   Ok (with_said (sized_to width height) header.0, header.1)
 
--- The meaning of a stream whose picture is to be at least so wide or so high.
+-- The meaning of a stream whose picture is to be at least that wide or that high.
 unfoldable pub sized_meaning : ℕ → ℕ → Settings → List ℕ → Outcome (Told × List ℕ)
 sized_meaning width height settings bytes = do
   header ← header_at bytes

@@ -210,7 +210,7 @@ pub struct Interrupted<T: Drop> {
 }
 
 impl<T: Drop> Interrupted<T> {
-    /// Returns this reader or writer, of which each call is interrupted so many times first.
+    /// Returns this reader or writer, of which each call is interrupted this many times first.
     pub fn new(inner: T, interruptions: u16) -> Interrupted<T> {
         Interrupted {
             inner,
