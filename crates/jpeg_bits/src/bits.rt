@@ -115,11 +115,14 @@ impl Bits {
     }
 }
 
-#[tactic(auto, using(std::proofs::Common::pow_mono))]
+/// Returns 2 to an exponent.
+#[inline]
+#[tactic(auto, using(std::proofs::Common::pow_mono, std::proofs::Common::pow_pos))]
 pub(crate) fn power_of_two(exponent: u8) -> u16
     requires { exponent ≤ 14 }
     ensures value { result ≡ 2 ^ exponent }
     ensures most { result ≤ 16384 }
+    ensures some { 1 ≤ result }
 {
     1 << exponent
 }

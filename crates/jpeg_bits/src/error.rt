@@ -1,11 +1,10 @@
-//! Errors, and the reader whose failures they name.
+//! Errors: why a stream can't be decoded.
 ghost use Rattle.std.specs.Prelude.{◌≡◌, is_some, true};
 ghost use Rattle.jpeg_bits.specs.Refusals.{kept_refusal};
 ghost use Rattle.jpeg_bits.specs.Reading.{NamesFormat, NamesEnd};
 ghost use Rattle.jpeg_bits.specs.declared.error.Error.TheVariants.{Io, OutOfMemory};
 
 use crate::color_transform::ColorTransform;
-pub use crate::source::Source;
 use std::alloc::{AllocError, AllocFailed, Global};
 use std::io;
 use std::io::ErrorKind;

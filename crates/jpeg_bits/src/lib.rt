@@ -13,6 +13,7 @@ pub mod huffman;
 pub mod laws;
 pub mod marker;
 mod pairs;
+mod pass;
 pub mod reads;
 mod refinement;
 pub mod scan;

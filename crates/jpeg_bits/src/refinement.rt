@@ -18,11 +18,11 @@ ghost use Rattle.jpeg_bits.specs.ZigzagParts.{band_end, band_in, rest_in, IsKept
 ghost use Rattle.jpeg_bits.specs.ZigzagParts.{KeepsOthers};
 
 use crate::ahead::BufferedBits;
-use crate::blocks::Pass;
+use crate::bits::power_of_two;
 use crate::error::{Error, format_error_of, set_format_error};
 use crate::huffman::HuffmanTable;
+use crate::pass::Pass;
 use crate::source::Source;
-use crate::tokens::power_of_two;
 use crate::zigzag::index_of;
 use std::alloc::Global;
 use std::io::Read;

@@ -11,9 +11,10 @@ ghost use Rattle.jpeg_bits.specs.Skips.{run_of};
 ghost use Rattle.jpeg_bits.specs.ZigzagParts.{band_in, KeepsOthers};
 
 use crate::ahead::BufferedBits;
-use crate::blocks::Pass;
+use crate::bits::power_of_two;
 use crate::error::{Error, set_category_error};
 use crate::huffman::HuffmanTable;
+use crate::pass::Pass;
 use crate::source::Source;
 use crate::zigzag::index_of;
 use std::io::Read;
@@ -64,18 +65,6 @@ pub(crate) fn wrapped_sum(a: i16, b: i16) -> i16
     ensures { result ≡ wrapped (a +ℤ b) }
 {
     a.wrapping_add(b)
-}
-
-/// Returns 2 to an exponent.
-#[inline]
-#[tactic(auto, using(std::proofs::Common::pow_mono, std::proofs::Common::pow_pos))]
-pub(crate) fn power_of_two(exponent: u8) -> u16
-    requires { exponent ≤ 14 }
-    ensures value { result ≡ 2 ^ exponent }
-    ensures most { result ≤ 16384 }
-    ensures some { 1 ≤ result }
-{
-    1 << exponent
 }
 
 /// Returns the token of a code, by its length and its symbol. A refusal is stored in `refusal`, and

@@ -3,7 +3,7 @@ use Rattle.std.proofs.Common.{◌≡◌, ◌<◌, ℕ, zero, suc, true, List, []
 use Rattle.std.proofs.Common.{map, length, get_or, ap, ◌∙◌, arith}
 use Rattle.jpeg_segments.specs.Scales.{is_scale}
 use Rattle.std.specs.List.{AllByRecursion}
-use Rattle.jpeg_segments.specs.declared.parser.Component as declared
+use Rattle.jpeg_segments.specs.declared.frame.Component as declared
 use Rattle.jpeg_segments.specs.FrameView.{component_in}
 use Rattle.jpeg_decoder.specs.Steps.{HasScale}
 

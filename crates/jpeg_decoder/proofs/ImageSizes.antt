@@ -8,7 +8,7 @@ use Rattle.std.specs.List.{range_with_len, concat}
 use Rattle.jpeg_bits.specs.Reading.{Fault}
 use Rattle.jpeg_bits.specs.declared.color_transform.ColorTransform.{ColorTransform}
 use Rattle.jpeg_segments.specs.Frame.{Component}
-use Rattle.jpeg_pixels.specs.declared.upsampler.ColorConvert.{ColorConvert}
+use Rattle.jpeg_pixels.specs.declared.color_convert.ColorConvert.{ColorConvert}
 use Rattle.jpeg_pixels.specs.Colour.{colour_of, line_bytes}
 use Rattle.jpeg_pixels.specs.Pictures.{picture_line, converted_picture, image_of}
 use Rattle.jpeg_pixels.specs.PicturesView.{IsFor}

@@ -18,9 +18,9 @@ use Rattle.jpeg_bits.specs.declared.marker.Marker.{Marker}
 use Rattle.jpeg_bits.proofs.Loops.{Names-through, bind_at, bind_err}
 use Rattle.jpeg_segments.specs.Frame.{Component, Frame, ceiling, most_across, most_down}
 use Rattle.jpeg_segments.specs.FrameView.{component_in}
-use Rattle.jpeg_segments.specs.declared.parser.Component as declared
+use Rattle.jpeg_segments.specs.declared.frame.Component as declared
 use Rattle.jpeg_segments.specs.ScanHeader.{Scan}
-use Rattle.jpeg_segments.specs.declared.parser.CodingProcess.TheVariants.{Lossless}
+use Rattle.jpeg_segments.specs.declared.frame.CodingProcess.TheVariants.{Lossless}
 use Rattle.jpeg_lossless.specs.Codings.{AreWholeSamples, IsCovered, way_by}
 use Rattle.jpeg_lossless.specs.Differences.{Part}
 use Rattle.jpeg_lossless.specs.declared.scan.Coding.{Coding}

@@ -5,8 +5,8 @@ use Rattle.std.proofs.Common.{◌∙◌, refl, arith, subst, Result, Ok, Option,
 use Rattle.std.proofs.Common.{IfOk, IfSome, OnOk, min, mul_assoc, mul_comm, mul-div_cancel, mul-le-mul_left}
 use Rattle.jpeg_bits.specs.declared.error.Error.{Error}
 use Rattle.jpeg_decoder.specs.Bytes.{IsCounted, IsWhole, picture_size, samples_a_pixel}
-use Rattle.jpeg_segments.specs.declared.parser.CodingProcess.{CodingProcess}
-use Rattle.jpeg_segments.specs.declared.parser.CodingProcess.TheVariants.{Lossless}
+use Rattle.jpeg_segments.specs.declared.frame.CodingProcess.{CodingProcess}
+use Rattle.jpeg_segments.specs.declared.frame.CodingProcess.TheVariants.{Lossless}
 use Rattle.jpeg_streams.specs.Pixels.{bytes_a_pixel, format_of, info_of}
 use Rattle.jpeg_streams.specs.Segments.{is_decoded_count, is_decoded_precision}
 use Rattle.std.specs.List.{AllByRecursion}

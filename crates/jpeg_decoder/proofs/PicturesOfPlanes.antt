@@ -10,10 +10,10 @@ use Rattle.jpeg_bits.specs.declared.color_transform.ColorTransform.{ColorTransfo
 use Rattle.jpeg_bits.specs.declared.error.Error.{Error}
 use Rattle.jpeg_segments.specs.Frame.{Frame, Component, AllHaveSampling}
 use Rattle.jpeg_segments.specs.FrameView.{component_in}
-use Rattle.jpeg_segments.specs.declared.parser.Component as declared
+use Rattle.jpeg_segments.specs.declared.frame.Component as declared
 use Rattle.jpeg_pixels.specs.Scaled.{IsScale}
 use Rattle.jpeg_segments.proofs.ScaleLemmas.{sized_frames_have_factors}
-use Rattle.jpeg_pixels.specs.declared.upsampler.ColorConvert.{ColorConvert}
+use Rattle.jpeg_pixels.specs.declared.color_convert.ColorConvert.{ColorConvert}
 use Rattle.jpeg_pixels.specs.Colour.{conversion_of}
 use Rattle.jpeg_pixels.specs.Pictures.{Source, AllCover, AreWhole, image_of, converted_picture}
 use Rattle.jpeg_pixels.specs.Pictures.{sources_of}

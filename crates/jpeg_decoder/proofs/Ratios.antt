@@ -5,7 +5,7 @@ use Rattle.jpeg_bits.specs.declared.error.Error.{Error}
 use Rattle.jpeg_bits.specs.declared.error.UnsupportedFeature.TheVariants.{NonIntegerSubsamplingRatio}
 use Rattle.jpeg_segments.specs.Checks.{gathered}
 use Rattle.jpeg_segments.specs.Frame.{Component}
-use Rattle.jpeg_pixels.specs.declared.upsampler.UpsampleRule.{UpsampleRule}
+use Rattle.jpeg_pixels.specs.declared.upsample_rows.UpsampleRule.{UpsampleRule}
 use Rattle.jpeg_pixels.specs.Pictures.{Source, source_of, sources_of}
 use Rattle.jpeg_pixels.proofs.SourceLists.{source_with}
 use Rattle.jpeg_decoder.specs.Steps.{IsRefusal}

@@ -8,9 +8,9 @@ use Rattle.jpeg_bits.specs.declared.error.Error.{Error}
 use Rattle.jpeg_bits.specs.declared.marker.Marker.{Marker}
 use Rattle.jpeg_bits.proofs.Loops.{Continues, Continues-err, bind_at, bind_err, still_known}
 use Rattle.jpeg_segments.specs.Frame.{Frame}
-use Rattle.jpeg_segments.specs.declared.parser.CodingProcess.{CodingProcess}
-use Rattle.jpeg_segments.specs.declared.parser.CodingProcess.TheVariants.{DctProgressive}
-use Rattle.jpeg_segments.specs.declared.parser.CodingProcess.TheVariants.{DctSequential, Lossless}
+use Rattle.jpeg_segments.specs.declared.frame.CodingProcess.{CodingProcess}
+use Rattle.jpeg_segments.specs.declared.frame.CodingProcess.TheVariants.{DctProgressive}
+use Rattle.jpeg_segments.specs.declared.frame.CodingProcess.TheVariants.{DctSequential, Lossless}
 use Rattle.jpeg_segments.specs.ScanHeader.{Scan, sos_at}
 use Rattle.jpeg_streams.specs.Scans.{Arrays}
 use Rattle.jpeg_streams.specs.ScanSegments.{scan_turn as turn_of_scan, arrays_before, blocks_scan}

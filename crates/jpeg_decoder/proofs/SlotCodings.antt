@@ -14,8 +14,8 @@ use Rattle.jpeg_bits.specs.declared.codes.HuffmanTableClass.TheVariants as class
 use Rattle.std.proofs.lemmas.Grind.{get_or_default_zero, common_steps}
 use Rattle.jpeg_bits.specs.declared.error.Error.{Error}
 use Rattle.jpeg_bits.specs.declared.scan.ScanInfo.{ScanInfo}
-use Rattle.jpeg_segments.specs.declared.parser.Component as declared
-use Rattle.jpeg_segments.specs.declared.parser.FrameInfo.{FrameInfo}
+use Rattle.jpeg_segments.specs.declared.frame.Component as declared
+use Rattle.jpeg_segments.specs.declared.frame.FrameInfo.{FrameInfo}
 use Rattle.jpeg_segments.specs.Frame.{Component}
 use Rattle.jpeg_segments.specs.FrameView.{component_in, frame_in, scan_in}
 use Rattle.jpeg_segments.specs.ScanHeader.{Scan}

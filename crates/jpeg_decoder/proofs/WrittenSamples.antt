@@ -16,8 +16,8 @@ use Rattle.jpeg_segments.specs.Checks.{gathered, needed}
 use Rattle.jpeg_segments.specs.ScanHeader.{Selector, predictor_by, predictor_of, scan_of}
 use Rattle.jpeg_segments.specs.ScanHeaders.{IsScan, ScanHeader, scan_payload, scan_written}
 use Rattle.jpeg_segments.specs.WrittenSegments.{with_length}
-use Rattle.jpeg_segments.specs.declared.parser.CodingProcess.{CodingProcess}
-use Rattle.jpeg_segments.specs.declared.parser.CodingProcess.TheVariants.{Lossless}
+use Rattle.jpeg_segments.specs.declared.frame.CodingProcess.{CodingProcess}
+use Rattle.jpeg_segments.specs.declared.frame.CodingProcess.TheVariants.{Lossless}
 use Rattle.jpeg_segments.proofs.Fields.{nibbles-low}
 use Rattle.jpeg_segments.proofs.HeaderSegments.{sos-read}
 use Rattle.jpeg_lossless.specs.Codings.{IsCovered}

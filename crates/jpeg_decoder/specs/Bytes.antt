@@ -2,9 +2,9 @@
 use Rattle.std.specs.Prelude.{◌≡◌, ◌≤◌, ℕ, ◌*◌, ◌+◌, ◌==◌, if◌then◌else◌, max, nat_le}
 use Rattle.std.specs.Prelude.{List, length, Option, Some, None, sum_by}
 use Rattle.jpeg_segments.specs.Frame.{Component, Frame}
-use Rattle.jpeg_segments.specs.declared.parser.CodingProcess.{CodingProcess}
-use Rattle.jpeg_segments.specs.declared.parser.CodingProcess.TheVariants.{DctSequential}
-use Rattle.jpeg_segments.specs.declared.parser.CodingProcess.TheVariants.{DctProgressive, Lossless}
+use Rattle.jpeg_segments.specs.declared.frame.CodingProcess.{CodingProcess}
+use Rattle.jpeg_segments.specs.declared.frame.CodingProcess.TheVariants.{DctSequential}
+use Rattle.jpeg_segments.specs.declared.frame.CodingProcess.TheVariants.{DctProgressive, Lossless}
 use Rattle.jpeg_streams.specs.Pixels.{bytes_a_pixel, info_of}
 use Rattle.jpeg_streams.specs.declared.images.ImageInfo.{ImageInfo}
 use Rattle.jpeg_streams.specs.declared.images.PixelFormat.{PixelFormat}

@@ -13,7 +13,7 @@ ghost use Rattle.jpeg_streams.specs.ColourChoice.{identifiers_of, transform_of};
 ghost use Rattle.jpeg_pixels.specs.Pictures.{AreWhole};
 ghost use Rattle.jpeg_pixels.specs.Scaled.{IsScale};
 ghost use Rattle.jpeg_streams.specs.EndPlanes.{AreBlocksOf, blocks_if, is_kept, plane_or};
-ghost use Rattle.jpeg_segments.specs.declared.parser.CodingProcess.TheVariants.{Lossless};
+ghost use Rattle.jpeg_segments.specs.declared.frame.CodingProcess.TheVariants.{Lossless};
 ghost use Rattle.jpeg_segments.specs.Checks.{gathered, needed};
 ghost use Rattle.jpeg_decoder.specs.Scanning.{arrays_in, blocks_in};
 ghost use Rattle.jpeg_decoder.specs.Seen.{found_in, metadata_in, said_in};

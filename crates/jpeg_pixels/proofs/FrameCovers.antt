@@ -8,7 +8,7 @@ use Rattle.jpeg_segments.specs.Frame.{Factors, IsInRange, ceiling, component_of,
 use Rattle.jpeg_segments.proofs.Ceilings.{ceiling-eights}
 use Rattle.jpeg_segments.proofs.Codecs.{bind-ok, ok-same}
 use Rattle.jpeg_segments.proofs.ScaleLemmas.{factors-back}
-use Rattle.jpeg_pixels.specs.declared.upsampler.UpsampleRule.{UpsampleRule}
+use Rattle.jpeg_pixels.specs.declared.upsample_rows.UpsampleRule.{UpsampleRule}
 use Rattle.jpeg_pixels.specs.Upsampling.{across, down, rule_of}
 use Rattle.jpeg_pixels.specs.Pictures.{AllCover, AreWhole, Covers, HaveRoom, Source, source_of, sources_of}
 use Rattle.jpeg_pixels.proofs.SourceLists.{source_with, source-rule}

@@ -23,9 +23,9 @@ use Rattle.jpeg_pixels.specs.JointPlanes.{joint_planes, joint_row_size, strip_li
 use Rattle.jpeg_pixels.specs.Pictures.{Source, image_of, line_of, lines_of, converted_picture, picture_line}
 use Rattle.jpeg_pixels.specs.Pictures.{source_of, sources_of}
 use Rattle.jpeg_pixels.specs.Upsampling.{rule_of, upsampled}
-use Rattle.jpeg_pixels.specs.declared.upsampler.UpsampleRule.TheVariants.{H1V1}
+use Rattle.jpeg_pixels.specs.declared.upsample_rows.UpsampleRule.TheVariants.{H1V1}
 use Rattle.jpeg_pixels.specs.declared.joint_planes.JointShape.{JointShape}
-use Rattle.jpeg_pixels.specs.declared.upsampler.ColorConvert.{ColorConvert}
+use Rattle.jpeg_pixels.specs.declared.color_convert.ColorConvert.{ColorConvert}
 use Rattle.jpeg_pixels.proofs.ComponentLines.{line_by_samples}
 use Rattle.jpeg_pixels.proofs.SourceLists.{source_with}
 use Rattle.jpeg_pixels.proofs.Sums.{range-split}

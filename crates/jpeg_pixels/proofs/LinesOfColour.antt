@@ -16,8 +16,8 @@ use Rattle.std.specs.Int.{int_shr}
 use Rattle.jpeg_bits.proofs.Ranges.{each_passes}
 use Rattle.jpeg_pixels.specs.Samples.{clamped}
 use Rattle.jpeg_pixels.proofs.ZeroCases.{none_of}
-use Rattle.jpeg_pixels.specs.declared.upsampler.ColorConvert.TheVariants.{YCbCr}
-use Rattle.jpeg_pixels.specs.declared.upsampler.ColorConvert.TheVariants as converts
+use Rattle.jpeg_pixels.specs.declared.color_convert.ColorConvert.TheVariants.{YCbCr}
+use Rattle.jpeg_pixels.specs.declared.color_convert.ColorConvert.TheVariants as converts
 
 abbrev samples : List (List ℕ) → ℕ → List ℕ
 samples lines x = map (λ (l : List ℕ). get_or l x 0) lines

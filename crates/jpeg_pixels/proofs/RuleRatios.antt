@@ -8,7 +8,7 @@ use Rattle.std.proofs.Math.Nat.{mul-le-mul_right}
 use Rattle.std.proofs.lemmas.Bool.{eqb-true}
 use Rattle.jpeg_segments.specs.Frame.{ceiling}
 use Rattle.jpeg_segments.proofs.Ceilings.{ceiling-eights, ceiling-low, ceiling-le}
-use Rattle.jpeg_pixels.specs.declared.upsampler.UpsampleRule.{UpsampleRule}
+use Rattle.jpeg_pixels.specs.declared.upsample_rows.UpsampleRule.{UpsampleRule}
 use Rattle.jpeg_pixels.specs.Upsampling.{across, divides, down, rule_of}
 
 -- ---- samples at a scale

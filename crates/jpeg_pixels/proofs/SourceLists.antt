@@ -9,7 +9,7 @@ use Rattle.jpeg_segments.proofs.Codecs.{ok-same}
 use Rattle.jpeg_segments.proofs.FrameLemmas.{greatest-some}
 use Rattle.jpeg_pixels.specs.Pictures.{Source, source_of}
 use Rattle.jpeg_pixels.specs.Upsampling.{rule_of}
-use Rattle.jpeg_pixels.specs.declared.upsampler.UpsampleRule.{UpsampleRule}
+use Rattle.jpeg_pixels.specs.declared.upsample_rows.UpsampleRule.{UpsampleRule}
 
 pub greatest_start : (f : Factors → ℕ) (cs : List Factors) → max 1 (greatest f cs) ≡ greatest f cs
 greatest_start f cs = let h = greatest-some f cs in omega arith

@@ -10,8 +10,8 @@ use Rattle.std.proofs.lemmas.List.{get_or_append_left}
 use Rattle.std.proofs.lemmas.Nat.{mod-mul-add, div-mul-add}
 use Rattle.std.proofs.lemmas.Grind.{div_ceil_times, common_steps}
 use Rattle.jpeg_pixels.specs.Upsampling.{across, down, blended, far_index, upsampled, line_sum}
-use Rattle.jpeg_pixels.specs.declared.upsampler.UpsampleRule.{UpsampleRule}
-use Rattle.jpeg_pixels.specs.declared.upsampler.UpsampleRule.TheVariants.{H1V1, H2V1, H1V2, H2V2, Generic}
+use Rattle.jpeg_pixels.specs.declared.upsample_rows.UpsampleRule.{UpsampleRule}
+use Rattle.jpeg_pixels.specs.declared.upsample_rows.UpsampleRule.TheVariants.{H1V1, H2V1, H1V2, H2V2, Generic}
 
 pub far_even : (count x : ℕ) → x % 2 ≡ 0 → far_index count x ≡ x / 2 - 1
 far_even count x e = ap (λ r. cond (r == 0) (x / 2 - 1) (min (x / 2 + 1) (count - 1))) e

@@ -9,8 +9,8 @@ use Rattle.jpeg_bits.specs.declared.error.UnsupportedFeature.TheVariants as feat
 use Rattle.jpeg_bits.specs.declared.color_transform.ColorTransform.{ColorTransform}
 use Rattle.jpeg_bits.specs.declared.color_transform.ColorTransform.TheVariants as transforms
 use Rattle.jpeg_pixels.specs.Samples.{clamped}
-use Rattle.jpeg_pixels.specs.declared.upsampler.ColorConvert.{ColorConvert}
-use Rattle.jpeg_pixels.specs.declared.upsampler.ColorConvert.TheVariants as converts
+use Rattle.jpeg_pixels.specs.declared.color_convert.ColorConvert.{ColorConvert}
+use Rattle.jpeg_pixels.specs.declared.color_convert.ColorConvert.TheVariants as converts
 
 -- the brightness in fixed point, with half a unit to round
 abbrev pub luma_of : ℕ → ℤ

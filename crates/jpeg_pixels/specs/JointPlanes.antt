@@ -3,10 +3,10 @@ use Rattle.std.specs.Prelude.{◌≡◌, ℕ, ◌+◌, ◌*◌, ◌/◌, ◌%◌
 use Rattle.std.specs.Prelude.{get_or, slice_index}
 use Rattle.std.specs.List.{AllByRecursion, concat, range_with_len}
 use Rattle.jpeg_segments.specs.Frame.{Component}
-use Rattle.jpeg_segments.specs.declared.parser.Component as declared
+use Rattle.jpeg_segments.specs.declared.frame.Component as declared
 use Rattle.jpeg_pixels.specs.Colour.{line_bytes}
 use Rattle.jpeg_pixels.specs.declared.joint_planes.JointShape.{JointShape}
-use Rattle.jpeg_pixels.specs.declared.upsampler.ColorConvert.{ColorConvert}
+use Rattle.jpeg_pixels.specs.declared.color_convert.ColorConvert.{ColorConvert}
 
 -- the samples of a component in a row of MCUs, and those of all components
 abbrev pub strip_size : JointShape → ℕ

@@ -1,9 +1,9 @@
 -- What a caller sees of planes and upsamplers, and what is asked of components.
 use Rattle.std.specs.Prelude.{◌≡◌, ℕ}
 use Rattle.jpeg_pixels.specs.Pictures.{Source}
-use Rattle.jpeg_pixels.specs.declared.upsampler.ComponentSource.{ComponentSource}
-use Rattle.jpeg_pixels.specs.declared.upsampler.ColorConvert.{ColorConvert}
-use Rattle.jpeg_pixels.specs.declared.upsampler.ColorConvert.TheVariants as converts
+use Rattle.jpeg_pixels.specs.declared.sources.ComponentSource.{ComponentSource}
+use Rattle.jpeg_pixels.specs.declared.color_convert.ColorConvert.{ColorConvert}
+use Rattle.jpeg_pixels.specs.declared.color_convert.ColorConvert.TheVariants as converts
 
 abbrev pub source_in : ComponentSource → Source
 source_in c = record { rule = c.rule; width = c.width; height = c.height; stride = c.row_stride }

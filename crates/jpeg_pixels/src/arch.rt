@@ -12,7 +12,7 @@ ghost use Rattle.jpeg_pixels.specs.Blocks.{WritesBlock};
 ghost use Rattle.jpeg_pixels.specs.LaneRows.{lane_at, HasNumbers, HasZeros, IsInCorner, IsTurned};
 
 pub use crate::color_rows::color_convert_line_ycbcr;
-use crate::idct::{COLUMN_BIAS, ROW_BIAS, sample_of};
+use crate::fixed_point::{COLUMN_BIAS, ROW_BIAS, sample_of};
 use std::simd::prelude::*;
 
 // Eight rows of eight lanes.

@@ -1,4 +1,7 @@
 //! A plane that is made row by row, in memory that is allocated at first.
+//!
+//! An `ImmediateWorker` alone has such planes, and is there as `worker` says: a decoder makes its
+//! planes by `plane`.
 ghost use Rattle.std.specs.Prelude.{◌≡◌, ℕ, ◌+◌, ◌≤◌, length, MatchResult};
 ghost use Rattle.jpeg_bits.specs.declared.error.Error.TheVariants.{OutOfMemory};
 ghost use Rattle.jpeg_segments.specs.FrameView.{component_in};

@@ -13,8 +13,8 @@ ghost use Rattle.jpeg_pixels.specs.JointPlanes.{IsLike, IsShapeOf, HasFrameSizes
 ghost use Rattle.jpeg_pixels.specs.JointPlanes.{joint_row_size};
 ghost use Rattle.jpeg_pixels.specs.Pictures.{image_of};
 
+use crate::color_convert::ColorConvert;
 use crate::picture_lines::convert_line;
-use crate::upsampler::ColorConvert;
 use jpeg_bits::color_transform::ColorTransform;
 use jpeg_bits::error::Result;
 use jpeg_segments::parser::{Component, Dimensions};

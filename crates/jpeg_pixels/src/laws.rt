@@ -11,13 +11,13 @@ ghost use Rattle.jpeg_pixels.specs.Samples.{is_flat_column, sample, transformed}
 ghost use Rattle.jpeg_pixels.specs.Scaled.{sample_of_1, sample_of_2, sample_of_4};
 ghost use Rattle.jpeg_pixels.specs.Planes.{plane_of, strip_of};
 ghost use Rattle.jpeg_pixels.specs.Colour.{colour_of, line_bytes};
-ghost use Rattle.jpeg_pixels.specs.declared.upsampler.ColorConvert.TheVariants.{None, Rgb, YCbCr};
-ghost use Rattle.jpeg_pixels.specs.declared.upsampler.ColorConvert.TheVariants.{Cmyk, Ycck};
+ghost use Rattle.jpeg_pixels.specs.declared.color_convert.ColorConvert.TheVariants.{None, Rgb, YCbCr};
+ghost use Rattle.jpeg_pixels.specs.declared.color_convert.ColorConvert.TheVariants.{Cmyk, Ycck};
 ghost use Rattle.jpeg_bits.specs.Zigzag.{zigzag, zigzag_indices};
 ghost use Rattle.jpeg_pixels.specs.Upsampling.{across, down, line_sum, upsampled};
-ghost use Rattle.jpeg_pixels.specs.declared.upsampler.UpsampleRule.{UpsampleRule};
-ghost use Rattle.jpeg_pixels.specs.declared.upsampler.UpsampleRule.TheVariants.{H1V1, H2V1, H1V2};
-ghost use Rattle.jpeg_pixels.specs.declared.upsampler.UpsampleRule.TheVariants.{H2V2, Generic};
+ghost use Rattle.jpeg_pixels.specs.declared.upsample_rows.UpsampleRule.{UpsampleRule};
+ghost use Rattle.jpeg_pixels.specs.declared.upsample_rows.UpsampleRule.TheVariants.{H1V1, H2V1, H1V2};
+ghost use Rattle.jpeg_pixels.specs.declared.upsample_rows.UpsampleRule.TheVariants.{H2V2, Generic};
 
 /// A block whose only coefficient is the first has the same sample everywhere, at each scale: its
 /// eighth and 128, rounded to the nearest, or at one sample a block rounded down.

@@ -2,7 +2,9 @@
 #![tactic(auto)]
 
 pub mod arch;
+mod color_convert;
 mod color_rows;
+mod fixed_point;
 mod growing_plane;
 pub mod idct;
 pub mod joint_planes;

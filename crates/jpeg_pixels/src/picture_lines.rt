@@ -8,8 +8,9 @@ ghost use Rattle.jpeg_pixels.specs.Pictures.{Covers, AllCover};
 ghost use Rattle.jpeg_pixels.specs.Pictures.{line_of, lines_of, picture_line, converted_picture};
 ghost use Rattle.jpeg_pixels.specs.PicturesView.{source_in, IsFor};
 
+use crate::color_convert::ColorConvert;
 use crate::color_rows::{write_cmyk, write_rgb, write_ycbcr, write_ycck};
-use crate::upsampler::{ColorConvert, ComponentSource};
+use crate::sources::ComponentSource;
 use jpeg_segments::parser::Dimensions;
 use std::alloc::{AllocError, Global};
 

@@ -17,7 +17,7 @@ ghost use Rattle.jpeg_pixels.specs.ShortRows.{HasValues, HasShortProducts, short
 ghost use Rattle.jpeg_pixels.specs.ShortRows.{line_value};
 
 use crate::arch::{Rows, copy_lines, is_in_corner, samples_of, sums_of};
-use crate::idct::{COLUMN_BIAS, ROW_BIAS};
+use crate::fixed_point::{COLUMN_BIAS, ROW_BIAS};
 use std::simd::prelude::*;
 
 // Eight rows of eight short lanes.

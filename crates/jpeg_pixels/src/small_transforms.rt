@@ -9,7 +9,7 @@ ghost use Rattle.jpeg_pixels.specs.Scaled.{sample_of_4, sample_of_2, sample_of_1
 ghost use Rattle.jpeg_pixels.specs.SmallBlocks.{four};
 ghost use Rattle.jpeg_pixels.specs.Blocks.{WritesBlock};
 
-use crate::idct::{COLUMN_BIAS, ROW_BIAS, clamp_to_byte, dequantize, sample_of};
+use crate::fixed_point::{COLUMN_BIAS, ROW_BIAS, clamp_to_byte, dequantize, sample_of};
 
 // What is added to each sample, in eighths.
 const CENTRE: i32 = 128 << 3;

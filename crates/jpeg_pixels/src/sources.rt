@@ -9,10 +9,24 @@ ghost use Rattle.jpeg_pixels.specs.Pictures.{source_of, sources_of};
 ghost use Rattle.jpeg_pixels.specs.PicturesView.{source_in};
 ghost use Rattle.jpeg_segments.specs.Frame.{HasSampling, AllHaveSampling};
 
-use crate::upsampler::{ComponentSource, UpsampleRule};
+use crate::upsample_rows::UpsampleRule;
 use jpeg_bits::error::{Error, Result, UnsupportedFeature};
 use jpeg_segments::parser::Component;
 use std::alloc::Global;
+
+/// The samples of a component: how they are upsampled, their size, and the samples that a line of
+/// its plane has.
+#[derive(Clone, Copy, Debug, PartialEq)]
+pub struct ComponentSource {
+    /// How its samples become those of the picture.
+    pub rule: UpsampleRule,
+    /// How many samples a line has.
+    pub width: usize,
+    /// How many lines there are.
+    pub height: usize,
+    /// How many samples after the beginning of a line the next one begins.
+    pub row_stride: usize,
+}
 
 // The rule of a component with factors `h` and `v`, if there is one.
 #[tactic(auto, unfolding(crate::specs::Upsampling::rule_of))]

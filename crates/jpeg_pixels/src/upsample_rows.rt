@@ -1,10 +1,92 @@
-//! Rows of a component made as wide as the picture, one function for each rule.
+//! Rows of a component made as wide as the picture: the rules, and a function for each.
 ghost use Rattle.std.specs.Prelude.{◌≡◌, ℕ, ◌+◌, ◌-◌, ◌*◌, ◌/◌, ◌<◌, ◌≤◌, ◌%◌, ◌≢◌, length};
 ghost use Rattle.std.specs.Prelude.{slice_index};
 ghost use Rattle.jpeg_pixels.specs.Upsampling.{blended, far_index};
 
+/// How the samples of a component become those of the picture: by the factors across (H) and down
+/// (V).
+#[derive(Clone, Copy, Debug, PartialEq)]
+pub enum UpsampleRule {
+    /// The samples are those of the picture.
+    H1V1,
+    /// Twice as many samples across, blended 3 to 1 from the nearer and the farther one.
+    H2V1,
+    /// Twice as many samples down, blended 3 to 1.
+    H1V2,
+    /// Twice as many samples across and down, blended 9 to 3 to 3 to 1.
+    H2V2,
+    /// Each sample is repeated this often across and down.
+    Generic(u8, u8),
+}
+
+impl UpsampleRule {
+    ghost use Rattle.std.specs.Prelude.{◌≡◌, ℕ, ◌+◌, ◌-◌, ◌*◌, ◌<◌, ◌≤◌, length, slice_index};
+    ghost use Rattle.jpeg_pixels.specs.Upsampling.{upsampled, across, down};
+
+    /// Writes the first `output_width` samples of row `row` of the picture to the front of the
+    /// output; its other bytes stay.
+    ///
+    /// The component has `input_height` lines of `input_width` samples, and each line begins
+    /// `row_stride` bytes after the beginning of the one above. The output is at most `across`
+    /// times as wide as that.
+    #[tactic(auto, using(crate::proofs::UpsampledRows::upsampled_rows))]
+    pub fn upsample_row(
+        &self,
+        input: &[u8],
+        input_width: usize,
+        input_height: usize,
+        row_stride: usize,
+        row: usize,
+        output_width: usize,
+        output: &mut [u8],
+    )
+        requires some_across { 1 ≤ across self.now }
+        requires some_down { 1 ≤ down self.now }
+        requires some_width { 1 ≤ input_width }
+        requires wide_enough { output_width ≤ across self.now * input_width }
+        requires row { row < down self.now * input_height }
+        requires input_room { (input_height - 1) * row_stride + input_width ≤ length input.now }
+        requires output_room { output_width ≤ length output.old }
+        ensures samples { (x : ℕ) → x < output_width → slice_index output.new x
+            ≡ upsampled self.now (λ i j. slice_index input.now (j * row_stride + i)) input_width
+            input_height x row }
+        ensures others { (i : ℕ) → output_width ≤ i → slice_index output.new i
+            ≡ slice_index output.old i }
+    {
+        if output_width == 0 {
+            return;
+        }
+        let output = &mut output[..output_width];
+        match *self {
+            UpsampleRule::H1V1 => {
+                let line = line_at(input, output_width, row_stride, row);
+                output.copy_from_slice(line);
+            }
+            UpsampleRule::H2V1 => {
+                let line = line_at(input, input_width, row_stride, row);
+                upsample_row_h2v1(line, output);
+            }
+            UpsampleRule::H1V2 => {
+                let near = line_at(input, output_width, row_stride, row / 2);
+                let far = line_at(input, output_width, row_stride, far_line(input_height, row));
+                upsample_row_h1v2(near, far, output);
+            }
+            UpsampleRule::H2V2 => {
+                let near = line_at(input, input_width, row_stride, row / 2);
+                let far = line_at(input, input_width, row_stride, far_line(input_height, row));
+                upsample_row_h2v2(near, far, output);
+            }
+            UpsampleRule::Generic(across, down) => {
+                let used = output_width.div_ceil(usize::from(across));
+                let line = line_at(input, used, row_stride, row / usize::from(down));
+                repeat_samples(line, usize::from(across), output);
+            }
+        }
+    }
+}
+
 // The line of a plane whose lines are `row_stride` bytes apart.
-pub fn line_at(input: &[u8], input_width: usize, row_stride: usize, line: usize) -> &[u8]
+fn line_at(input: &[u8], input_width: usize, row_stride: usize, line: usize) -> &[u8]
     requires { line * row_stride + input_width ≤ length input.now }
     ensures long { length result.now ≡ input_width }
     ensures samples { (i : ℕ) → i < input_width →
@@ -16,7 +98,7 @@ pub fn line_at(input: &[u8], input_width: usize, row_stride: usize, line: usize)
 
 // Of the two lines next to line `row / 2` the one that `row` is nearer to: at the ends the line
 // itself.
-pub fn far_line(input_height: usize, row: usize) -> usize
+fn far_line(input_height: usize, row: usize) -> usize
     requires some { 1 ≤ input_height }
     ensures { result ≡ far_index input_height row }
 {
@@ -52,7 +134,7 @@ fn blend_sums(near: u16, far: u16) -> u8
 }
 
 // A line made twice as wide, as far as the output goes.
-pub fn upsample_row_h2v1(line: &[u8], output: &mut [u8])
+fn upsample_row_h2v1(line: &[u8], output: &mut [u8])
     requires some { 1 ≤ length output.old }
     requires wide { length output.old ≤ 2 * length line.now }
     ensures { (x : ℕ) → x < length output.old → slice_index output.new x ≡
@@ -72,7 +154,7 @@ pub fn upsample_row_h2v1(line: &[u8], output: &mut [u8])
 }
 
 // The line between two lines.
-pub fn upsample_row_h1v2(near: &[u8], far: &[u8], output: &mut [u8])
+fn upsample_row_h1v2(near: &[u8], far: &[u8], output: &mut [u8])
     requires near_long { length near.now ≡ length output.old }
     requires far_long { length far.now ≡ length output.old }
     ensures { (x : ℕ) → x < length output.old →
@@ -84,7 +166,7 @@ pub fn upsample_row_h1v2(near: &[u8], far: &[u8], output: &mut [u8])
 }
 
 // The line between two lines, made twice as wide, as far as the output goes.
-pub fn upsample_row_h2v2(near: &[u8], far: &[u8], output: &mut [u8])
+fn upsample_row_h2v2(near: &[u8], far: &[u8], output: &mut [u8])
     requires some { 1 ≤ length output.old }
     requires far_long { length far.now ≡ length near.now }
     requires wide { length output.old ≤ 2 * length near.now }
@@ -127,7 +209,7 @@ fn spread(line: &[u8], step: usize, first: usize, output: &mut [u8])
 }
 
 // Each sample of a line this many times; the last one fewer times, where the output ends.
-pub fn repeat_samples(line: &[u8], times: usize, output: &mut [u8])
+fn repeat_samples(line: &[u8], times: usize, output: &mut [u8])
     requires some { 1 ≤ times }
     requires wide { length output.old ≤ times * length line.now }
     requires no_wider { times * length line.now < length output.old + times }

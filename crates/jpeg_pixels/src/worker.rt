@@ -1,12 +1,17 @@
 //! The planes of components, and the picture that is made of them.
+//!
+//! A decoder takes from here the pictures alone, and makes its planes by `plane`, a row of blocks
+//! at a time. `ImmediateWorker` is there for callers that read the scans of a stream themselves:
+//! the parts of the original crate are public here.
 ghost use Rattle.std.specs.Prelude.{◌≡◌, ◌≤◌, ◌*◌, List, map, length, Ok, MatchResult, OnErr};
 ghost use Rattle.jpeg_bits.specs.Reading.{Names};
 ghost use Rattle.jpeg_segments.specs.FrameView.{component_in};
 ghost use Rattle.jpeg_pixels.specs.Pictures.{Source, sources_of, AllCover, image_of};
 ghost use Rattle.jpeg_segments.specs.Frame.{AllHaveSampling};
 
+use crate::color_convert::ColorConvert;
 use crate::growing_plane::GrowingPlane;
-use crate::upsampler::{ColorConvert, Upsampler};
+use crate::upsampler::Upsampler;
 use jpeg_bits::color_transform::ColorTransform;
 use jpeg_bits::error::Result;
 use jpeg_segments::parser::{Component, Dimensions};

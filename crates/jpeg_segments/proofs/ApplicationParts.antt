@@ -14,8 +14,8 @@ use Rattle.jpeg_segments.specs.Application.{icc_name, photoshop_name}
 use Rattle.jpeg_segments.specs.WrittenSegments.{ApplicationData, OfJfif, OfAvi1, OfExif, OfXmp, OfIcc, OfPhotoshop}
 use Rattle.jpeg_segments.specs.WrittenSegments.{OfAdobe, OfOther, application_parts, IsApplicationData, is_known}
 use Rattle.jpeg_segments.specs.WrittenSegments.{transform_byte, with_length}
-use Rattle.jpeg_segments.specs.declared.parser.AdobeColorTransform.{AdobeColorTransform}
-use Rattle.jpeg_segments.specs.declared.parser.AdobeColorTransform.TheVariants as transforms
+use Rattle.jpeg_segments.specs.declared.application.AdobeColorTransform.{AdobeColorTransform}
+use Rattle.jpeg_segments.specs.declared.application.AdobeColorTransform.TheVariants as transforms
 use Rattle.jpeg_segments.proofs.Codecs.{AreBytes}
 use Rattle.jpeg_segments.proofs.OtherSegments.{Names, app, is_adobe, said_by}
 

@@ -7,7 +7,7 @@ use Rattle.std.proofs.lemmas.Bool.Decides.{nat_tests}
 use Rattle.std.proofs.lemmas.List.{take-append-le, take_all, get_or_append_left}
 use Rattle.std.specs.Prelude.{is_some, option_map}
 use Rattle.jpeg_bits.specs.Reading.{Malformed, ◌>>=◌}
-use Rattle.jpeg_segments.specs.declared.parser.AdobeColorTransform.{AdobeColorTransform}
+use Rattle.jpeg_segments.specs.declared.application.AdobeColorTransform.{AdobeColorTransform}
 use Rattle.jpeg_segments.specs.Application.{Application, Adobe, adobe_at, adobe_name, app_at, application_by}
 use Rattle.jpeg_segments.specs.Application.{begins_with, dri_at, passed_over, transform_by}
 use Rattle.jpeg_segments.specs.Checks.{needed}

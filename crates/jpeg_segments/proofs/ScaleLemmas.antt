@@ -7,7 +7,7 @@ use Rattle.std.proofs.lemmas.List.Edits.{map_over_more}
 use Rattle.std.proofs.lemmas.Simd.{map-map}
 use Rattle.std.proofs.lemmas.Bool.{eqb-true}
 use Rattle.std.proofs.lemmas.List.Elements.{All-get_or, All-nil}
-use Rattle.jpeg_segments.specs.declared.parser.Component.{Component as Seen}
+use Rattle.jpeg_segments.specs.declared.frame.Component.{Component as Seen}
 use Rattle.jpeg_segments.specs.Frame.{AllHaveSampling, Component, Factors, Frame, IsFrame, IsInRange, ceiling}
 use Rattle.jpeg_segments.specs.Frame.{component_of, frame_of, greatest}
 use Rattle.jpeg_segments.specs.FrameView.{component_in, factors_in}

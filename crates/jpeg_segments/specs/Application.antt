@@ -6,9 +6,9 @@ use Rattle.std.specs.List.{starts_with}
 use Rattle.jpeg_bits.specs.Reading.{Outcome, Malformed, ◌>>=◌, next_byte, next_u16, length_at}
 use Rattle.jpeg_bits.specs.Reading.{times, skip_at}
 use Rattle.jpeg_segments.specs.Checks.{needed}
-use Rattle.jpeg_segments.specs.declared.parser.AdobeColorTransform.{AdobeColorTransform}
-use Rattle.jpeg_segments.specs.declared.parser.AdobeColorTransform.TheVariants.{Unknown, YCbCr}
-use Rattle.jpeg_segments.specs.declared.parser.AdobeColorTransform.TheVariants.{YCCK}
+use Rattle.jpeg_segments.specs.declared.application.AdobeColorTransform.{AdobeColorTransform}
+use Rattle.jpeg_segments.specs.declared.application.AdobeColorTransform.TheVariants.{Unknown, YCbCr}
+use Rattle.jpeg_segments.specs.declared.application.AdobeColorTransform.TheVariants.{YCCK}
 
 -- a part of an ICC profile: its number, the number of parts, and its bytes
 pub record Chunk : Type 0 where

@@ -6,11 +6,11 @@ use Rattle.std.specs.List.{list_any}
 use Rattle.jpeg_bits.specs.Reading.{Outcome, Malformed, Lacks, ◌>>=◌, next_byte, next_u16}
 use Rattle.jpeg_bits.specs.Reading.{length_at}
 use Rattle.jpeg_bits.specs.declared.error.UnsupportedFeature.TheVariants.{DNL}
-use Rattle.jpeg_segments.specs.declared.parser.CodingProcess.{CodingProcess}
-use Rattle.jpeg_segments.specs.declared.parser.CodingProcess.TheVariants.{DctSequential}
-use Rattle.jpeg_segments.specs.declared.parser.CodingProcess.TheVariants.{DctProgressive, Lossless}
-use Rattle.jpeg_segments.specs.declared.parser.EntropyCoding.{EntropyCoding}
-use Rattle.jpeg_segments.specs.declared.parser.EntropyCoding.TheVariants.{Huffman, Arithmetic}
+use Rattle.jpeg_segments.specs.declared.frame.CodingProcess.{CodingProcess}
+use Rattle.jpeg_segments.specs.declared.frame.CodingProcess.TheVariants.{DctSequential}
+use Rattle.jpeg_segments.specs.declared.frame.CodingProcess.TheVariants.{DctProgressive, Lossless}
+use Rattle.jpeg_segments.specs.declared.frame.EntropyCoding.{EntropyCoding}
+use Rattle.jpeg_segments.specs.declared.frame.EntropyCoding.TheVariants.{Huffman, Arithmetic}
 use Rattle.jpeg_segments.specs.Checks.{check}
 
 -- The parameters of a component (B.2.2): its identifier Ci, its sampling factors Hi and Vi, and the

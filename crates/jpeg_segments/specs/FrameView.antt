@@ -1,11 +1,11 @@
 -- What a caller sees of the results of the parsers.
 use Rattle.std.specs.Prelude.{map}
-use Rattle.jpeg_segments.specs.declared.parser.FrameInfo.{FrameInfo}
-use Rattle.jpeg_segments.specs.declared.parser.Component.{Component}
-use Rattle.jpeg_segments.specs.declared.frame_header.Factors.{Factors}
-use Rattle.jpeg_segments.specs.declared.parser.IccChunk.{IccChunk}
-use Rattle.jpeg_segments.specs.declared.parser.AppData.{AppData}
-use Rattle.jpeg_segments.specs.declared.parser.AppData.TheVariants as seen
+use Rattle.jpeg_segments.specs.declared.frame.FrameInfo.{FrameInfo}
+use Rattle.jpeg_segments.specs.declared.frame.Component.{Component}
+use Rattle.jpeg_segments.specs.declared.frame.Factors.{Factors}
+use Rattle.jpeg_segments.specs.declared.application.IccChunk.{IccChunk}
+use Rattle.jpeg_segments.specs.declared.application.AppData.{AppData}
+use Rattle.jpeg_segments.specs.declared.application.AppData.TheVariants as seen
 use Rattle.jpeg_segments.specs.Application.{Application, Chunk, Adobe, Jfif, Avi1, Icc, Exif, Xmp}
 use Rattle.jpeg_segments.specs.Application.{Psir}
 use Rattle.jpeg_segments.specs.Frame as frames

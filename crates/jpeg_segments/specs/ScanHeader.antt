@@ -6,9 +6,9 @@ use Rattle.jpeg_bits.specs.Reading.{Outcome, ◌>>=◌, next_byte, length_at}
 use Rattle.jpeg_bits.specs.declared.scan.Predictor.{Predictor}
 use Rattle.jpeg_bits.specs.declared.scan.Predictor.TheVariants.{NoPrediction, Ra, Rb, Rc, RaRbRc1}
 use Rattle.jpeg_bits.specs.declared.scan.Predictor.TheVariants.{RaRbRc2, RaRbRc3, RaRb}
-use Rattle.jpeg_segments.specs.declared.parser.CodingProcess.{CodingProcess}
-use Rattle.jpeg_segments.specs.declared.parser.CodingProcess.TheVariants.{DctSequential}
-use Rattle.jpeg_segments.specs.declared.parser.CodingProcess.TheVariants.{DctProgressive, Lossless}
+use Rattle.jpeg_segments.specs.declared.frame.CodingProcess.{CodingProcess}
+use Rattle.jpeg_segments.specs.declared.frame.CodingProcess.TheVariants.{DctSequential}
+use Rattle.jpeg_segments.specs.declared.frame.CodingProcess.TheVariants.{DctProgressive, Lossless}
 use Rattle.jpeg_segments.specs.Frame.{Frame, Component}
 use Rattle.jpeg_segments.specs.Checks.{check, needed}
 use Rattle.jpeg_segments.specs.HuffmanTables.{greatest_destination}

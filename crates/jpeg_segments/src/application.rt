@@ -10,13 +10,53 @@ ghost use Rattle.jpeg_segments.specs.Application.{dri_at, passed_over, transform
 ghost use Rattle.jpeg_segments.specs.Parts.{payload_at};
 ghost use Rattle.jpeg_segments.specs.FrameView.{application_in};
 
-use crate::parser::{AdobeColorTransform, AppData, IccChunk};
 use jpeg_bits::error::{Result, format_error_of};
 use jpeg_bits::marker::Marker;
 use jpeg_bits::reads::{read_bytes, read_length, read_u16_be, skip};
 use jpeg_bits::source::Source;
 use std::alloc::{AllocError, Global};
 use std::io::Read;
+
+/// The colour transform that an Adobe segment names.
+#[derive(Clone, Copy, Debug, PartialEq)]
+pub enum AdobeColorTransform {
+    /// Red, green and blue, or cyan, magenta, yellow and black.
+    Unknown,
+    /// Brightness and two colour differences.
+    YCbCr,
+    /// YCbCr and black.
+    YCCK,
+}
+
+/// A part of an ICC profile.
+#[derive(Debug, Drop)]
+pub struct IccChunk {
+    /// How many parts the profile has.
+    pub num_markers: u8,
+    /// The part's number, from 1.
+    pub seq_no: u8,
+    /// Its bytes of the profile.
+    pub bytes: Vec<u8>,
+}
+
+/// What the segment of an application says.
+#[derive(Debug, Drop)]
+pub enum AppData {
+    /// Adobe's segment, with the transform that it names.
+    Adobe(AdobeColorTransform),
+    /// A JFIF file.
+    Jfif,
+    /// A frame of an MJPEG stream, which may leave out its Huffman tables.
+    Avi1,
+    /// A part of an ICC profile.
+    Icc(IccChunk),
+    /// Exif data, from its TIFF header on.
+    Exif(Vec<u8>),
+    /// XMP data, without its name.
+    Xmp(Vec<u8>),
+    /// Photoshop's image resources.
+    Psir(Vec<u8>),
+}
 
 /// What a payload says, where there is memory to hold it.
 type Said = std::result::Result<Option<AppData>, AllocError>;

@@ -14,7 +14,7 @@ ghost use Rattle.jpeg_segments.specs.Scales.{IsSizedFrame};
 ghost use Rattle.jpeg_segments.specs.FrameView.{component_in, frame_in, factors_of};
 ghost use Rattle.jpeg_segments.specs.Parts.{head_at, parameters_at};
 
-use crate::parser::{CodingProcess, Dimensions, EntropyCoding, FrameInfo};
+use crate::frame::{CodingProcess, Dimensions, EntropyCoding, Factors, FrameInfo};
 use crate::sizes::{components_of, greatest_factors, mcus};
 use jpeg_bits::error::{Error, Result, UnsupportedFeature, format_error, format_error_of};
 use jpeg_bits::marker::Marker;
@@ -30,19 +30,6 @@ struct Head {
     precision: u8,
     size: Dimensions,
     count: u8,
-}
-
-/// What a frame header says of a component (T.81, B.2.2).
-#[derive(Clone, Copy)]
-pub(crate) struct Factors {
-    /// The identifier: Ci.
-    pub identifier: u8,
-    /// The horizontal sampling factor: Hi.
-    pub horizontal: u8,
-    /// The vertical sampling factor: Vi.
-    pub vertical: u8,
-    /// The destination of the quantization table: Tqi.
-    pub quantization: usize,
 }
 
 /// Reads the size of the frame. A height of 0 would be defined by a later DNL segment.

@@ -2,6 +2,7 @@
 #![tactic(auto)]
 
 mod application;
+mod frame;
 mod frame_header;
 mod huffman_tables;
 pub mod laws;

@@ -12,11 +12,12 @@ ghost use Rattle.jpeg_segments.specs.ScanHeader.{selectors_from, sos_at};
 ghost use Rattle.jpeg_segments.specs.Parts.{HasBlocks, destinations_at};
 ghost use Rattle.jpeg_segments.specs.FrameView.{component_in, frame_in, scan_in, selector_of};
 
+use crate::frame::{CodingProcess, Component, FrameInfo};
 use crate::huffman_tables::{expected_destinations, greatest_destination};
-use crate::parser::{CodingProcess, Component, FrameInfo, Predictor, ScanInfo};
 use jpeg_bits::error::{Error, Result, format_error, format_error_of};
 use jpeg_bits::huffman::HuffmanTableClass;
 use jpeg_bits::reads::{read_length, read_u8};
+use jpeg_bits::scan::{Predictor, ScanInfo};
 use jpeg_bits::source::Source;
 use std::alloc::{AllocError, Global};
 use std::io::Read;

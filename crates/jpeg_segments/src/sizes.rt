@@ -6,8 +6,7 @@ ghost use Rattle.jpeg_segments.specs.Frame.{greatest};
 ghost use Rattle.jpeg_segments.specs.FrameView.{component_in, frame_in, factors_in, factors_of};
 ghost use Rattle.jpeg_segments.specs.Scales.{IsSizedFrame, component_at, frame_at, is_scale};
 
-use crate::frame_header::Factors;
-use crate::parser::{Component, Dimensions, FrameInfo};
+use crate::frame::{Component, Dimensions, Factors, FrameInfo};
 use std::alloc::{AllocError, Global};
 
 /// The number of samples along a side of a block at full size.

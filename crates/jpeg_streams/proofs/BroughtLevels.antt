@@ -31,7 +31,7 @@ use Rattle.jpeg_streams.proofs.Apart.{at-one, at-all, get-at}
 use Rattle.jpeg_bits.specs.Codes.{IsTable}
 use Rattle.jpeg_bits.proofs.Tables.{good-table}
 use Rattle.jpeg_bits.specs.declared.marker.Marker.{Marker}
-use Rattle.jpeg_segments.specs.declared.parser.CodingProcess.TheVariants.{Lossless}
+use Rattle.jpeg_segments.specs.declared.frame.CodingProcess.TheVariants.{Lossless}
 use Rattle.jpeg_segments.specs.ScanHeader.{Scan, is_progressive_band}
 use Rattle.jpeg_segments.specs.Scales.{frame_at}
 use Rattle.jpeg_bits.specs.Written.{marker, IsMarker}

@@ -41,8 +41,8 @@ use Rattle.jpeg_segments.specs.ScanHeader.{is_band}
 use Rattle.jpeg_segments.specs.ScanHeaders.{choice_bytes, IsChoice}
 use Rattle.jpeg_segments.specs.WrittenSegments.{factors_bytes, frame_payload, huffman_bytes, nibbles, quantization_bytes}
 use Rattle.jpeg_segments.specs.WrittenSegments.{u16_bytes}
-use Rattle.jpeg_segments.specs.declared.parser.CodingProcess.{CodingProcess}
-use Rattle.jpeg_segments.specs.declared.parser.CodingProcess.TheVariants.{DctProgressive, DctSequential, Lossless}
+use Rattle.jpeg_segments.specs.declared.frame.CodingProcess.{CodingProcess}
+use Rattle.jpeg_segments.specs.declared.frame.CodingProcess.TheVariants.{DctProgressive, DctSequential, Lossless}
 use Rattle.std.proofs.lemmas.Bool.{eqb-true, ltb-true}
 use Rattle.std.proofs.lemmas.Bool.Decides.{nat_tests}
 use Rattle.std.specs.List.{list_all}

@@ -7,7 +7,7 @@ use Rattle.std.proofs.lemmas.Bool.Decides.{leb_tells}
 use Rattle.std.proofs.Math.Nat.{le-div_iff_mul-le, add-mul, one-mul, mul_assoc, mul_comm}
 use Rattle.std.proofs.Math.Nat.{mul-le-mul_right, mul-le-mul}
 use Rattle.std.specs.List.{AllByRecursion}
-use Rattle.jpeg_segments.specs.declared.parser.CodingProcess.TheVariants.{Lossless}
+use Rattle.jpeg_segments.specs.declared.frame.CodingProcess.TheVariants.{Lossless}
 use Rattle.jpeg_segments.specs.Frame.{Frame, Factors, IsInRange, frame_of, ceiling, component_of}
 use Rattle.jpeg_segments.specs.Frame.{greatest, Component}
 use Rattle.jpeg_pixels.specs.Pictures.{Source, sources_of, source_of, AllCover, AreWhole, Covers}

@@ -4,7 +4,7 @@ use Rattle.std.proofs.Common.{arith, ◌++◌, length, Ok}
 use Rattle.std.specs.List.{AllByRecursion}
 use Rattle.std.proofs.lemmas.List.Elements.{recursion_from_All}
 use Rattle.std.proofs.Math.Nat.{mul-le-mul_right, mul_comm}
-use Rattle.jpeg_segments.specs.declared.parser.CodingProcess.TheVariants.{Lossless}
+use Rattle.jpeg_segments.specs.declared.frame.CodingProcess.TheVariants.{Lossless}
 use Rattle.jpeg_segments.specs.Frame.{Component, Factors, Frame, IsInRange, ceiling, component_of}
 use Rattle.jpeg_segments.specs.Frame.{frame_of, greatest, most_across, most_down}
 use Rattle.jpeg_segments.specs.Scales.{frame_at}

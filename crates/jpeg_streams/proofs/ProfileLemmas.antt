@@ -6,10 +6,10 @@ use Rattle.std.proofs.lemmas.Grind.{common_steps}
 use Rattle.std.proofs.lemmas.List.{append-nil, get_or_default}
 use Rattle.std.specs.Prelude.{◌==◌, filter_map, flat_map, option_map, is_some}
 use Rattle.std.specs.List.{find, range_with_len}
-use Rattle.jpeg_segments.specs.declared.parser.IccChunk.{IccChunk}
+use Rattle.jpeg_segments.specs.declared.application.IccChunk.{IccChunk}
 use Rattle.jpeg_segments.specs.Application.{Chunk, Application, app_at}
 use Rattle.jpeg_segments.specs.FrameView.{chunk_in, frame_in}
-use Rattle.jpeg_segments.specs.declared.parser.FrameInfo.{FrameInfo}
+use Rattle.jpeg_segments.specs.declared.frame.FrameInfo.{FrameInfo}
 use Rattle.jpeg_segments.specs.Frame.{Frame, sof_at}
 use Rattle.jpeg_streams.specs.Segments.{with_application, frame_segment, accepted, onward}
 use Rattle.jpeg_streams.specs.Segments.{application_segment, updated}

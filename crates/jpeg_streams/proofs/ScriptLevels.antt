@@ -12,8 +12,8 @@ use Rattle.jpeg_bits.specs.Passes.{band_of, band_size, before_band, Pass}
 use Rattle.jpeg_segments.specs.Frame.{Frame}
 use Rattle.jpeg_segments.specs.ScanHeader.{after_of, is_band, scan_of}
 use Rattle.jpeg_segments.specs.ScanHeaders.{IsScan, scan_written, ScanHeader}
-use Rattle.jpeg_segments.specs.declared.parser.CodingProcess.{CodingProcess}
-use Rattle.jpeg_segments.specs.declared.parser.CodingProcess.TheVariants.{DctProgressive, DctSequential, Lossless}
+use Rattle.jpeg_segments.specs.declared.frame.CodingProcess.{CodingProcess}
+use Rattle.jpeg_segments.specs.declared.frame.CodingProcess.TheVariants.{DctProgressive, DctSequential, Lossless}
 use Rattle.jpeg_segments.proofs.Fields.{nibbles-high, nibbles-low}
 use Rattle.jpeg_streams.specs.Levels.{IsLegal, Levels, nothing_sent, sent_after}
 use Rattle.jpeg_streams.specs.ScanSegments.{pass_of}

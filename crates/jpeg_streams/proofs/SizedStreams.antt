@@ -4,9 +4,9 @@ use Rattle.std.proofs.Common.{rules, ◌≡◌, ◌≢◌, ℕ, zero, suc, ◌<�
 use Rattle.std.proofs.Common.{length, option_map, Option, None, Ok, refl, sym, ap, ◌∙◌, subst}
 use Rattle.std.proofs.Common.{arith, length-append, ◌+◌, ◌*◌, ◌==◌, Bool, true, sum_by, sum}
 use Rattle.std.proofs.Common.{slice_get, slice_index_or, Some, ap₂, mul_assoc, ◌/◌, ◌%◌}
-use Rattle.jpeg_segments.specs.declared.parser.CodingProcess.{CodingProcess}
-use Rattle.jpeg_segments.specs.declared.parser.CodingProcess.TheVariants.{DctSequential}
-use Rattle.jpeg_segments.specs.declared.parser.CodingProcess.TheVariants.{DctProgressive, Lossless}
+use Rattle.jpeg_segments.specs.declared.frame.CodingProcess.{CodingProcess}
+use Rattle.jpeg_segments.specs.declared.frame.CodingProcess.TheVariants.{DctSequential}
+use Rattle.jpeg_segments.specs.declared.frame.CodingProcess.TheVariants.{DctProgressive, Lossless}
 use Rattle.jpeg_segments.specs.Frame.{Frame, Component, Factors, ceiling}
 use Rattle.jpeg_segments.specs.WrittenSegments.{frame_written, Header, Segment}
 use Rattle.jpeg_streams.specs.declared.before.Before.TheVariants.{Elsewhere}

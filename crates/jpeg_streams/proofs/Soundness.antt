@@ -10,9 +10,9 @@ use Rattle.std.proofs.lemmas.Grind.{common_steps}
 use Rattle.jpeg_segments.specs.Frame.{Frame, Component, Factors, IsFrame, frame_of}
 use Rattle.jpeg_segments.specs.Scales.{IsSizedFrame, frame_at, is_scale, scale_for, scaled_by, sized}
 use Rattle.jpeg_segments.specs.declared.scale.Scale.{Scale}
-use Rattle.jpeg_segments.specs.declared.parser.CodingProcess.{CodingProcess}
-use Rattle.jpeg_segments.specs.declared.parser.CodingProcess.TheVariants.{DctSequential}
-use Rattle.jpeg_segments.specs.declared.parser.CodingProcess.TheVariants.{DctProgressive, Lossless}
+use Rattle.jpeg_segments.specs.declared.frame.CodingProcess.{CodingProcess}
+use Rattle.jpeg_segments.specs.declared.frame.CodingProcess.TheVariants.{DctSequential}
+use Rattle.jpeg_segments.specs.declared.frame.CodingProcess.TheVariants.{DctProgressive, Lossless}
 use Rattle.jpeg_segments.proofs.ScaleLemmas.{full_frames, scaled_again}
 use Rattle.jpeg_pixels.specs.Pictures.{Source, HasSources, sources_of}
 use Rattle.jpeg_streams.specs.InTurn.{Fits}

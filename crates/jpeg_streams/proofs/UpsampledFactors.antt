@@ -7,8 +7,8 @@ use Rattle.std.proofs.lemmas.Bool.{eqb-true, eq-eqb, and_from as and-true, or_le
 use Rattle.std.specs.List.{AllByRecursion, range_with_len, concat}
 use Rattle.jpeg_segments.specs.Checks.{gathered}
 use Rattle.jpeg_segments.specs.Frame.{Component, Factors}
-use Rattle.jpeg_pixels.specs.declared.upsampler.UpsampleRule.{UpsampleRule}
-use Rattle.jpeg_pixels.specs.declared.upsampler.UpsampleRule.TheVariants.{H1V1, H2V1, H1V2, H2V2}
+use Rattle.jpeg_pixels.specs.declared.upsample_rows.UpsampleRule.{UpsampleRule}
+use Rattle.jpeg_pixels.specs.declared.upsample_rows.UpsampleRule.TheVariants.{H1V1, H2V1, H1V2, H2V2}
 use Rattle.jpeg_pixels.specs.Pictures.{Source, source_of, sources_of, lines_of, picture_line}
 use Rattle.jpeg_pixels.specs.Pictures.{converted_picture, image_of}
 use Rattle.jpeg_pixels.specs.Upsampling.{rule_of, upsampled, across, down}
@@ -18,7 +18,7 @@ use Rattle.jpeg_streams.proofs.ReadTurns.{bind-ok, err-ok, then-ok, ok-same}
 use Rattle.std.proofs.lemmas.Grind.{common_steps}
 use Rattle.std.proofs.Math.Nat.{div-lt_iff_lt-mul, mod-lt, mul_comm}
 use Rattle.jpeg_bits.specs.declared.color_transform.ColorTransform.{ColorTransform}
-use Rattle.jpeg_pixels.specs.declared.upsampler.ColorConvert.{ColorConvert}
+use Rattle.jpeg_pixels.specs.declared.color_convert.ColorConvert.{ColorConvert}
 use Rattle.jpeg_pixels.specs.Colour.{line_bytes}
 use Rattle.jpeg_pixels.specs.Planes.{cropped}
 

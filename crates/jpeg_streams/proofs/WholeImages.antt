@@ -11,8 +11,8 @@ use Rattle.jpeg_bits.specs.Passes.{Block}
 use Rattle.jpeg_pixels.specs.Planes.{plane_of}
 use Rattle.jpeg_streams.specs.Levels.{Levels, Is8Bit, cut, cut_acs, floor_at, nothing_sent, toward_zero}
 use lib.ListN.{length-map}
-use Rattle.jpeg_segments.specs.declared.parser.CodingProcess.{CodingProcess}
-use Rattle.jpeg_segments.specs.declared.parser.CodingProcess.TheVariants.{DctSequential}
+use Rattle.jpeg_segments.specs.declared.frame.CodingProcess.{CodingProcess}
+use Rattle.jpeg_segments.specs.declared.frame.CodingProcess.TheVariants.{DctSequential}
 use Rattle.jpeg_segments.specs.Scales.{frame_at, scaled_by}
 use Rattle.jpeg_segments.specs.declared.scale.Scale.{Scale}
 use Rattle.jpeg_streams.specs.Stream.{scaled_to, sized_to}

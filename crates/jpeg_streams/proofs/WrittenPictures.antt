@@ -20,7 +20,7 @@ use Rattle.jpeg_streams.proofs.WrittenFrameScans.{no-codes, HoldsOwn, in-all}
 use Rattle.std.proofs.lemmas.Grind.{common_steps}
 use Rattle.std.proofs.lemmas.Bool.{eqb-true, leb-true, eq-eqb}
 use lib.ListN.{length-map}
-use Rattle.jpeg_segments.specs.declared.parser.CodingProcess.TheVariants.{Lossless}
+use Rattle.jpeg_segments.specs.declared.frame.CodingProcess.TheVariants.{Lossless}
 use Rattle.jpeg_segments.specs.ScanHeaders.{AreChoices, IsScan, ScanHeader, scan_written}
 use Rattle.jpeg_segments.proofs.Fields.{nibbles-high, nibbles-low}
 use Rattle.jpeg_streams.proofs.OwnSpots.{IsAbsent, AreApart, At, at-within, Fits, in-below}
@@ -46,7 +46,7 @@ use Rattle.std.proofs.lemmas.Nat.{div-mul-add, mod-mul-add}
 use Rattle.std.proofs.lemmas.List.FromFn.{get_or-map-range_with_len, length-map-range_with_len}
 use Rattle.jpeg_bits.specs.declared.color_transform.ColorTransform.{ColorTransform}
 use Rattle.jpeg_pixels.specs.Colour.{conversion_of}
-use Rattle.jpeg_pixels.specs.declared.upsampler.ColorConvert.{ColorConvert}
+use Rattle.jpeg_pixels.specs.declared.color_convert.ColorConvert.{ColorConvert}
 use Rattle.jpeg_bits.specs.Zigzag.{coefficients_in_block_order, values_in_block_order}
 use Rattle.jpeg_streams.proofs.FrameShapes.{reaches-made, scale-made, one-made}
 use Rattle.jpeg_bits.specs.Passes.{Block, zero_block, listed}
@@ -57,7 +57,7 @@ use Rattle.jpeg_segments.specs.Checks.{gathered, needed}
 use Rattle.jpeg_streams.specs.FoundPictures.{plane_at_end, picture_of, picture_by_process, blocks_picture, picture_by}
 use Rattle.jpeg_streams.specs.FoundPictures.{picture_in}
 use Rattle.jpeg_streams.specs.Rasters.{plane_by, plane_of_blocks}
-use Rattle.jpeg_segments.specs.declared.parser.CodingProcess.{CodingProcess}
+use Rattle.jpeg_segments.specs.declared.frame.CodingProcess.{CodingProcess}
 use Rattle.jpeg_streams.specs.ArrayPictures.{HasTransform, IsTransformOf, TakesPicture, as_sent, picture_of_blocks}
 use Rattle.jpeg_streams.specs.ArrayPictures.{meaning_of_array, picture_of_array}
 use Rattle.jpeg_streams.proofs.Apart.{at-all}

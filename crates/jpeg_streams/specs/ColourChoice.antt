@@ -5,8 +5,8 @@ use Rattle.jpeg_bits.specs.declared.color_transform.ColorTransform.{ColorTransfo
 use Rattle.jpeg_bits.specs.declared.color_transform.ColorTransform.TheVariants.{RGB, YCbCr, CMYK}
 use Rattle.jpeg_bits.specs.declared.color_transform.ColorTransform.TheVariants.{YCCK, JcsBgYcc}
 use Rattle.jpeg_bits.specs.declared.color_transform.ColorTransform.TheVariants.{JcsBgRgb}
-use Rattle.jpeg_segments.specs.declared.parser.AdobeColorTransform.{AdobeColorTransform}
-use Rattle.jpeg_segments.specs.declared.parser.AdobeColorTransform.TheVariants as adobe
+use Rattle.jpeg_segments.specs.declared.application.AdobeColorTransform.{AdobeColorTransform}
+use Rattle.jpeg_segments.specs.declared.application.AdobeColorTransform.TheVariants as adobe
 use Rattle.jpeg_segments.specs.Frame.{Component}
 
 abbrev pub identifiers_of : List Component → List ℕ

@@ -1,6 +1,6 @@
 -- What the segments and scans of a stream have said so far (T.81, B.2).
 use Rattle.std.specs.Prelude.{ℕ, List, [], replicate, Bool, false, Option, None}
-use Rattle.jpeg_segments.specs.declared.parser.AdobeColorTransform.{AdobeColorTransform}
+use Rattle.jpeg_segments.specs.declared.application.AdobeColorTransform.{AdobeColorTransform}
 use Rattle.jpeg_segments.specs.Frame.{Frame}
 use Rattle.jpeg_segments.specs.HuffmanTables.{Tables, no_tables}
 use Rattle.jpeg_segments.specs.Application.{Chunk}

@@ -2,8 +2,8 @@
 use Rattle.std.specs.Prelude.{ℕ, ◌*◌, ◌/◌, min, ◌&&◌, nat_lt, List, [], ◌∷◌, length, get_or}
 use Rattle.std.specs.Prelude.{slice_get, slice_index_or, Some, None, Result, Ok, Err, if◌then◌else◌}
 use Rattle.jpeg_bits.specs.Reading.{Fault, Malformed, ◌>>=◌}
-use Rattle.jpeg_segments.specs.declared.parser.CodingProcess.{CodingProcess}
-use Rattle.jpeg_segments.specs.declared.parser.CodingProcess.TheVariants.{Lossless}
+use Rattle.jpeg_segments.specs.declared.frame.CodingProcess.{CodingProcess}
+use Rattle.jpeg_segments.specs.declared.frame.CodingProcess.TheVariants.{Lossless}
 use Rattle.jpeg_segments.specs.Frame.{Frame, Component}
 use Rattle.jpeg_pixels.specs.Pictures.{image_of}
 use Rattle.jpeg_streams.specs.ColourChoice.{identifiers_of, transform_of}

@@ -9,8 +9,8 @@ use Rattle.jpeg_bits.specs.Written.{IsCoded}
 use Rattle.jpeg_segments.specs.Frame.{Frame}
 use Rattle.jpeg_segments.specs.ScanHeaders.{IsScan, ScanHeader, selectors_in}
 use Rattle.jpeg_segments.specs.WrittenSegments.{frame_written, FrameHeader, Segment}
-use Rattle.jpeg_segments.specs.declared.parser.CodingProcess.{CodingProcess}
-use Rattle.jpeg_segments.specs.declared.parser.CodingProcess.TheVariants.{DctSequential}
+use Rattle.jpeg_segments.specs.declared.frame.CodingProcess.{CodingProcess}
+use Rattle.jpeg_segments.specs.declared.frame.CodingProcess.TheVariants.{DctSequential}
 use Rattle.jpeg_streams.specs.Found.{Said}
 use Rattle.jpeg_streams.specs.FrameSamples.{AreBytes, FitsFields}
 use Rattle.jpeg_streams.specs.Levels.{Levels}

@@ -2,7 +2,7 @@
 -- and its picture rely on.
 use Rattle.std.specs.Prelude.{◌≡◌, ◌*◌, ℕ, true, false, List, [], ◌∷◌, length, replicate, Option}
 use Rattle.std.specs.Prelude.{Some, None, Ok}
-use Rattle.jpeg_segments.specs.declared.parser.CodingProcess.TheVariants.{Lossless}
+use Rattle.jpeg_segments.specs.declared.frame.CodingProcess.TheVariants.{Lossless}
 use Rattle.jpeg_segments.specs.Frame.{Frame, Component, IsFrame}
 use Rattle.jpeg_segments.specs.Scales.{frame_at, is_scale}
 use Rattle.jpeg_streams.specs.InTurn.{AreArrays}

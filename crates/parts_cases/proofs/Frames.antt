@@ -3,7 +3,7 @@ use Rattle.std.proofs.Common.{◌≡◌, ℕ, List, Ok, length, map, subst, sym,
 use Rattle.std.proofs.lemmas.List.{length-map}
 use Rattle.jpeg_segments.specs.Frame.{Frame, IsFrame, frame_of}
 use Rattle.jpeg_segments.specs.FrameView.{component_in, frame_in}
-use Rattle.jpeg_segments.specs.declared.parser.FrameInfo.{FrameInfo}
+use Rattle.jpeg_segments.specs.declared.frame.FrameInfo.{FrameInfo}
 use Rattle.jpeg_pixels.specs.Pictures.{AllCover, HaveRoom, Source, sources_of}
 use Rattle.jpeg_pixels.proofs.FrameCovers.{frames-are-covered}
 use Rattle.jpeg_pixels.proofs.WholePictures.{sources-count}

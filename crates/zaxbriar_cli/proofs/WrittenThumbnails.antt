@@ -1,7 +1,7 @@
 -- The file of the upright picture is what the program writes.
 use Rattle.std.proofs.Common.{◌≡◌, ℕ, List, Option, None, Some, Result, Ok, Err, IsSomeAnd, OnOk, ap, refl, ◌∙◌}
 use Rattle.std.specs.Io.KnownBytes.{Appends}
-use Rattle.jpeg_segments.specs.declared.parser.Dimensions.{Dimensions}
+use Rattle.jpeg_segments.specs.declared.frame.Dimensions.{Dimensions}
 use Rattle.jpeg_streams.specs.declared.images.ImageInfo.{ImageInfo}
 use Rattle.zaxbriar_cli.specs.Boxes.{boxed}
 use Rattle.zaxbriar_cli.specs.ScaledPictures.{Decoded, header_exif, header_info, picture_at_scale}

@@ -3,7 +3,7 @@ use Rattle.std.specs.Prelude.{ℕ, ◌+◌, ◌*◌, ◌/◌, ◌&&◌, ◌==◌
 use Rattle.std.specs.Prelude.{if◌then◌else◌}
 use Rattle.std.specs.Prelude.{List, Option, None, Some, unwrap_or}
 use Rattle.jpeg_decoder.specs.Orientation.{orientation_in}
-use Rattle.jpeg_segments.specs.declared.parser.Dimensions.{Dimensions}
+use Rattle.jpeg_segments.specs.declared.frame.Dimensions.{Dimensions}
 use Rattle.jpeg_streams.specs.declared.images.ImageInfo.{ImageInfo}
 use Rattle.zaxbriar_cli.specs.ScaledPictures.{side_at}
 use Rattle.zaxbriar_cli.specs.declared.pictures.scaled.Request.{Request}

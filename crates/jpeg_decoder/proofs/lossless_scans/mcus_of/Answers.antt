@@ -2,7 +2,7 @@ use Rattle.std.proofs.Common.{◌≡◌, ◌∙◌, ap, ap₂, sym, arith, get_o
 use Rattle.std.proofs.lemmas.List.{length-map}
 use Rattle.jpeg_segments.specs.Frame.{Component, ceiling, greatest, most_down}
 use Rattle.jpeg_segments.specs.FrameView.{component_in, factors_in, frame_in}
-use Rattle.jpeg_segments.specs.declared.parser.Component.{Component as Given}
+use Rattle.jpeg_segments.specs.declared.frame.Component.{Component as Given}
 use Rattle.jpeg_segments.proofs.ScaleLemmas.{factors-seen}
 use Rattle.jpeg_decoder.specs.LosslessParts.{no_component}
 use Rattle.jpeg_decoder.proofs.LosslessReads.{alone, component-at, not-alone}

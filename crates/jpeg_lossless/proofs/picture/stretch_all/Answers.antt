@@ -5,7 +5,7 @@ use Rattle.std.proofs.lemmas.List.{length-map, map-set}
 use Rattle.std.specs.List.{AllByRecursion}
 use Rattle.jpeg_segments.specs.Frame.{AllHaveSampling, Frame}
 use Rattle.jpeg_segments.specs.FrameView.{component_in, frame_in}
-use Rattle.jpeg_segments.specs.declared.parser.Component.{Component}
+use Rattle.jpeg_segments.specs.declared.frame.Component.{Component}
 use Rattle.jpeg_lossless.specs.Pictures.{ArePlanesOf, AreWide, Layer, Reaches, layer_of, layers_of, lines_across}
 use Rattle.jpeg_lossless.proofs.FilledLines.{wide-at, wide-set}
 use Rattle.jpeg_segments.proofs.FrameLemmas.{greatest-some}

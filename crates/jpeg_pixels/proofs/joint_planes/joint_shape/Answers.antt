@@ -6,7 +6,7 @@ use Rattle.std.proofs.lemmas.Nat.{mul-le}
 use Rattle.jpeg_segments.specs.Frame as frames
 use Rattle.jpeg_segments.specs.Frame.{AllHaveSampling, HasSampling}
 use Rattle.jpeg_segments.specs.FrameView.{component_in}
-use Rattle.jpeg_segments.specs.declared.parser.Component.{Component}
+use Rattle.jpeg_segments.specs.declared.frame.Component.{Component}
 use Rattle.jpeg_pixels.specs.JointPlanes.{IsLike}
 use Rattle.jpeg_pixels.proofs.joint_planes.joint_shape.Goals as goal
 

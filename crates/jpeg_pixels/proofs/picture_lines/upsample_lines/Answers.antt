@@ -2,8 +2,8 @@ use Rattle.std.proofs.Common.{◌≡◌, ◌+◌, ◌*◌, ◌<◌, ◌≤◌, [
 use Rattle.std.proofs.Math.Nat.{mul-le-mul_right}
 use Rattle.std.proofs.Math.ListN as lists
 use Rattle.std.proofs.lemmas.List.{get_or-map, length-map}
-use Rattle.jpeg_pixels.specs.declared.upsampler.ComponentSource.{ComponentSource}
-use Rattle.jpeg_pixels.specs.declared.upsampler.UpsampleRule.TheVariants.{H1V1}
+use Rattle.jpeg_pixels.specs.declared.sources.ComponentSource.{ComponentSource}
+use Rattle.jpeg_pixels.specs.declared.upsample_rows.UpsampleRule.TheVariants.{H1V1}
 use Rattle.jpeg_pixels.specs.Pictures.{lines_of}
 use Rattle.jpeg_pixels.specs.PicturesView.{source_in}
 use Rattle.jpeg_pixels.proofs.ComponentLines.{cover-of, line-of, lines-more, lines_of-length}

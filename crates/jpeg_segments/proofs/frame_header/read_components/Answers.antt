@@ -4,7 +4,7 @@ use Rattle.std.proofs.lemmas.List.{map-append}
 use Rattle.std.proofs.lemmas.List.Elements.{All-push}
 use Rattle.std.proofs.lemmas.Result.{err_from_is_err_and}
 use Rattle.jpeg_bits.proofs.Loops.{bind_at, bind_err}
-use Rattle.jpeg_segments.specs.declared.frame_header.Factors.{Factors as Read}
+use Rattle.jpeg_segments.specs.declared.frame.Factors.{Factors as Read}
 use Rattle.jpeg_segments.specs.Frame.{Factors, IsInRange, components_from}
 use Rattle.jpeg_segments.specs.FrameView.{factors_of}
 use Rattle.jpeg_segments.proofs.FrameLemmas.{components_from-more}

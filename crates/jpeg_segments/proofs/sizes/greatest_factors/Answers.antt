@@ -1,6 +1,6 @@
 use Rattle.std.proofs.Common.{rules}
 use Rattle.jpeg_segments.specs.FrameView.{factors_of}
-use Rattle.jpeg_segments.specs.declared.frame_header.Factors.{Factors as Read}
+use Rattle.jpeg_segments.specs.declared.frame.Factors.{Factors as Read}
 use Rattle.jpeg_segments.proofs.FrameLemmas.{greatest-next, greatest-after}
 use Rattle.jpeg_segments.proofs.sizes.greatest_factors.Goals as goal
 

@@ -2,7 +2,7 @@ use Rattle.std.proofs.Common.{ℕ, ◌+◌, ◌*◌, ◌/◌, ◌≤◌, ◌∙�
 use Rattle.std.specs.Int.{div_ceil}
 use Rattle.jpeg_pixels.specs.Upsampling.{across}
 use Rattle.jpeg_pixels.proofs.UpsampledRows.{in_front, as_generic, repeated_within, used_enough}
-use Rattle.jpeg_pixels.proofs.upsampler.UpsampleRule.upsample_row.Goals as goal
+use Rattle.jpeg_pixels.proofs.upsample_rows.UpsampleRule.upsample_row.Goals as goal
 
 pub line_at-line-requires-in-Generic : goal.line_at-line-requires-in-Generic
 line_at-line-requires-in-Generic c =
