@@ -1,7 +1,9 @@
 -- What a caller sees of the parts of a decoder.
 use Rattle.std.specs.Prelude.{ℕ, List, Option, map, option_map}
 use Rattle.jpeg_segments.specs.FrameView.{frame_in, chunk_in}
+use Rattle.jpeg_decoder.specs.declared.decoded.Decoded.{Decoded}
 use Rattle.jpeg_decoder.specs.declared.state.State.{State}
+use Rattle.jpeg_decoder.specs.declared.state.Said as declared_said
 use Rattle.jpeg_decoder.specs.declared.metadata.Metadata as declared
 use Rattle.jpeg_decoder.specs.PlanesView.{planes_in}
 use Rattle.jpeg_decoder.specs.Scanning.{arrays_in}
@@ -23,8 +25,8 @@ metadata_in m = record {
   icc = map chunk_in m.icc.items;
 }
 
-abbrev pub said_in : State → Said
-said_in s = record {
+abbrev pub said_of : declared_said.Said → Said
+said_of s = record {
   frame = option_map frame_in s.frame;
   quantization = s.quantization;
   huffman = record { dc = s.dc_tables; ac = s.ac_tables };
@@ -33,11 +35,18 @@ said_in s = record {
   metadata = metadata_in s.metadata;
 }
 
-abbrev pub found_in : State → Found
-found_in s = record {
-  said = said_in s;
-  kept = arrays_in s.decoded.kept.items;
-  finished = s.decoded.finished;
-  planes = s.decoded.planes;
-  samples = planes_in s.decoded.samples;
+abbrev pub said_in : State → Said
+said_in s = said_of s.said
+
+-- what was said, and what scans have given
+abbrev pub found_of : declared_said.Said → Decoded → Found
+found_of s d = record {
+  said = said_of s;
+  kept = arrays_in d.kept.items;
+  finished = d.finished;
+  planes = d.planes;
+  samples = planes_in d.samples;
 }
+
+abbrev pub found_in : State → Found
+found_in s = found_of s.said s.decoded

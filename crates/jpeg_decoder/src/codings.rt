@@ -9,14 +9,14 @@ ghost use Rattle.jpeg_bits.specs.declared.codes.HuffmanTableClass.TheVariants.{D
 ghost use Rattle.jpeg_segments.specs.FrameView.{frame_in, scan_in};
 ghost use Rattle.jpeg_segments.specs.ScanHeader.{IsScanOf};
 ghost use Rattle.jpeg_streams.specs.Scans.{no_table};
-ghost use Rattle.jpeg_decoder.specs.Seen.{found_in, said_in};
+ghost use Rattle.jpeg_decoder.specs.Seen.{found_in, said_of};
 ghost use Rattle.jpeg_decoder.specs.Steps.{IsRefusal, IsSpareOf, coding_in};
 ghost use Rattle.jpeg_decoder.specs.Steps.{coding_in_slot, default_dc, default_ac, in_force};
 ghost use Rattle.jpeg_decoder.specs.Steps.{HasScale, table_if};
 ghost use Rattle.jpeg_streams.specs.ScanSegments.{codings_of, pass_of};
 
 use crate::scan::{Coded, is_progressive};
-use crate::state::State;
+use crate::state::{Said, State};
 use crate::tables::{Missing, needed, table_at};
 use jpeg_bits::blocks::Pass;
 use jpeg_bits::codes::HuffmanTableClass;
@@ -141,13 +141,14 @@ fn widen_all(
 pub fn widen_tables(alloc: Global, state: &mut State) -> std::result::Result<(), AllocError>
     ensures { found_in state.new ≡ found_in state.old }
 {
-    let Some(frame) = &state.frame else {
+    let said = &mut state.said;
+    let Some(frame) = &said.frame else {
         return Ok(());
     };
     if !is_large(frame) {
         return Ok(());
     }
-    widen_all(alloc, &mut state.ac_tables, frame)
+    widen_all(alloc, &mut said.ac_tables, frame)
 }
 
 /// Returns the spare tables of a scan; the default ones where a frame of an MJPEG stream was named.
@@ -216,7 +217,7 @@ fn needed_table<'a>(
 /// Returns the component in a slot of a scan, and its tables in force.
 fn coding_of<'a>(
     alloc: Global,
-    state: &'a State,
+    said: &'a Said,
     spare: &'a Spare,
     frame: &'a FrameInfo,
     header: &ScanInfo,
@@ -225,13 +226,12 @@ fn coding_of<'a>(
     requires slot { slot < length (scan_in header.now).components }
     requires legal { IsScanOf (frame_in frame.now) (scan_in header.now) }
     requires scales { AllByRecursion HasScale (frame_in frame.now).components }
-    requires spare { IsSpareOf (said_in state.now) (scan_in header.now) spare.now }
-    ensures coding { let said = said_in state.now in
-        let frame = frame_in frame.now in
+    requires spare { IsSpareOf (said_of said.now) (scan_in header.now) spare.now }
+    ensures coding { let frame = frame_in frame.now in
         let scan = scan_in header.now in
         MatchResult result
-        (λ c. coding_in_slot said frame scan slot ≡ Ok (coding_in c))
-        (λ e. IsRefusal e × Names e (coding_in_slot said frame scan slot)) }
+        (λ c. coding_in_slot (said_of said.now) frame scan slot ≡ Ok (coding_in c))
+        (λ e. IsRefusal e × Names e (coding_in_slot (said_of said.now) frame scan slot)) }
 {
     let index = header.component_indices[slot];
     let component = frame.components.get(index);
@@ -239,17 +239,17 @@ fn coding_of<'a>(
     let identifier = component.identifier;
     let destination = component.quantization_table_index;
     let missing = Missing::Table("quantization", destination, identifier);
-    let quantization = table_at(&state.quantization, destination);
+    let quantization = table_at(&said.quantization, destination);
     let quantization = needed(alloc, quantization, missing)?;
     let has_dc = header.spectral_selection.start == 0;
     let dc_destination = header.dc_table_indices[slot];
     let missing = Missing::Table("DC", dc_destination, identifier);
-    let dc = table_in_force(&state.dc_tables, &spare.dc, dc_destination);
+    let dc = table_in_force(&said.dc_tables, &spare.dc, dc_destination);
     let dc = needed_table(alloc, has_dc, dc, &spare.no_dc, missing)?;
     let has_ac = header.spectral_selection.end > 1;
     let ac_destination = header.ac_table_indices[slot];
     let missing = Missing::Table("AC", ac_destination, identifier);
-    let ac = table_in_force(&state.ac_tables, &spare.ac, ac_destination);
+    let ac = table_in_force(&said.ac_tables, &spare.ac, ac_destination);
     let ac = needed_table(alloc, has_ac, ac, &spare.no_ac, missing)?;
     Ok(Coded {
         index,
@@ -265,25 +265,24 @@ fn coding_of<'a>(
 #[tactic(auto, unfolding(jpeg_streams::specs::ScanSegments::codings_of))]
 pub fn codings_of<'a>(
     alloc: Global,
-    state: &'a State,
+    said: &'a Said,
     spare: &'a Spare,
     frame: &'a FrameInfo,
     header: &ScanInfo,
 ) -> Result<Vec<Coded<'a>>>
     requires legal { IsScanOf (frame_in frame.now) (scan_in header.now) }
     requires scales { AllByRecursion HasScale (frame_in frame.now).components }
-    requires spare { IsSpareOf (said_in state.now) (scan_in header.now) spare.now }
-    ensures codings { let said = said_in state.now in
-        let frame = frame_in frame.now in
+    requires spare { IsSpareOf (said_of said.now) (scan_in header.now) spare.now }
+    ensures codings { let frame = frame_in frame.now in
         let scan = scan_in header.now in
         MatchResult result
-        (λ v. codings_of said frame scan ≡ Ok (map coding_in v.items))
-        (λ e. IsRefusal e × Names e (codings_of said frame scan)) }
+        (λ v. codings_of (said_of said.now) frame scan ≡ Ok (map coding_in v.items))
+        (λ e. IsRefusal e × Names e (codings_of (said_of said.now) frame scan)) }
     ensures count { IfOk result (λ v. length v.items ≡ length (scan_in header.now).components) }
 {
     let mut codings = Vec::with_capacity(alloc, header.component_indices.len())?;
     for slot in 0..header.component_indices.len() {
-        codings.push(coding_of(alloc, state, spare, frame, header, slot)?)?;
+        codings.push(coding_of(alloc, said, spare, frame, header, slot)?)?;
     }
     Ok(codings)
 }

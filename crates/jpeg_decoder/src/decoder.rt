@@ -101,7 +101,7 @@ fn scale_reaching(state: &State, width: u16, height: u16) -> usize
         (λ f. result ≡ scale_for f.width f.height width height) }
     ensures some { is_scale result ≡ true }
 {
-    match &state.frame {
+    match &state.said.frame {
         Some(frame) => choose_idct_size(frame.image_size, Dimensions { width, height }),
         None => BLOCK_SIDE,
     }
@@ -123,7 +123,7 @@ fn scale_state(state: &mut State, scale: usize) -> Result<(u16, u16)>
     ensures sound { IsSound (found_in state.old) → IsUnread (found_in state.old)
         → IsSound (found_in state.new) × IsUnread (found_in state.new) }
 {
-    match &mut state.frame {
+    match &mut state.said.frame {
         Some(frame) => Ok(size_frame(frame, scale)),
         None => Err(Error::Internal("decoder has no frame")),
     }
@@ -139,7 +139,7 @@ fn size_within(state: &State, room: usize) -> Result<usize>
     ensures short { OnErr result (HasRoom (said_in state.now).frame room → ⊥) }
     ensures err { IfErr result IsInternal }
 {
-    let Some(frame) = &state.frame else {
+    let Some(frame) = &state.said.frame else {
         return Err(Error::Internal("decoder has no frame"));
     };
     let size = picture_bytes(frame);
@@ -230,7 +230,7 @@ impl<R: Read + Drop> Decoder<R> {
     pub fn info(&self) -> Option<ImageInfo>
         ensures { result ≡ option_map info_of self.now.found.said.frame }
     {
-        self.state.frame.as_ref().map(|frame| info_of(frame))
+        self.state.said.frame.as_ref().map(|frame| info_of(frame))
     }
 
     /// Returns how many bits a sample has, once a frame was accepted, in every state: 8 for
@@ -243,7 +243,7 @@ impl<R: Read + Drop> Decoder<R> {
     pub fn precision(&self) -> Option<u8>
         ensures { result ≡ option_map (λ f. f.precision) self.now.found.said.frame }
     {
-        self.state.frame.as_ref().map(|frame| frame.precision)
+        self.state.said.frame.as_ref().map(|frame| frame.precision)
     }
 
     /// Returns whether a read of the reader has failed, other than by an interruption, in every
@@ -268,7 +268,7 @@ impl<R: Read + Drop> Decoder<R> {
     {
         match self.progress {
             Progress::HeaderRead | Progress::Finished => {
-                let frame = self.state.frame.as_ref()?;
+                let frame = self.state.said.frame.as_ref()?;
                 Some(decoding_bytes(frame))
             }
             Progress::Fresh | Progress::Failed => None,
@@ -312,6 +312,7 @@ impl<R: Read + Drop> Decoder<R> {
         ensures { option_copied result ≡ self.now.found.said.metadata.exif }
     {
         self.state
+            .said
             .metadata
             .exif
             .as_ref()
@@ -323,6 +324,7 @@ impl<R: Read + Drop> Decoder<R> {
         ensures { option_copied result ≡ self.now.found.said.metadata.xmp }
     {
         self.state
+            .said
             .metadata
             .xmp
             .as_ref()
@@ -335,7 +337,7 @@ impl<R: Read + Drop> Decoder<R> {
         ensures { MatchResult result (λ o. option_map (λ v. v.items) o
             ≡ profile_of self.now.found.said.metadata.icc) (λ e. e ≡ OutOfMemory) }
     {
-        profile(self.alloc, self.state.metadata.icc.as_slice())
+        profile(self.alloc, self.state.said.metadata.icc.as_slice())
     }
 
     /// Reads through the frame's segment, so that `info` describes the picture. Once it is

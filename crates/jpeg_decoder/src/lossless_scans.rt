@@ -7,16 +7,16 @@ ghost use Rattle.jpeg_segments.specs.FrameView.{component_in, frame_in, scan_in}
 ghost use Rattle.jpeg_segments.specs.ScanHeader.{IsScanOf};
 ghost use Rattle.jpeg_segments.specs.declared.frame.CodingProcess.TheVariants.{Lossless};
 ghost use Rattle.jpeg_streams.specs.LosslessScans.{tables_in};
-ghost use Rattle.jpeg_decoder.specs.Seen.{found_in, said_in};
+ghost use Rattle.jpeg_decoder.specs.Seen.{found_of, said_of};
 ghost use Rattle.jpeg_streams.specs.ScanSegments.{once_scanned};
 ghost use Rattle.jpeg_streams.specs.Sound.{IsSound};
-ghost use Rattle.jpeg_decoder.specs.Steps.{IsRefusal, samples_read, with_decoded};
+ghost use Rattle.jpeg_decoder.specs.Steps.{IsRefusal, samples_read};
 ghost use Rattle.jpeg_decoder.specs.LosslessParts.{mcus_high, mcus_wide, part_by, parts_at};
 ghost use Rattle.jpeg_lossless.specs.Codings.{part_in};
 
 use crate::decoded::Decoded;
 use crate::restarts::pass_restarts;
-use crate::state::State;
+use crate::state::Said;
 use crate::tables::{Missing, needed, table_at};
 use jpeg_bits::error::Result;
 use jpeg_bits::huffman::HuffmanTable;
@@ -40,11 +40,11 @@ fn identifier_of(frame: &FrameInfo, header: &ScanInfo, slot: usize) -> u8 {
 /// ones.
 fn tables_of<'a>(
     alloc: Global,
-    state: &'a State,
+    said: &'a Said,
     frame: &FrameInfo,
     header: &ScanInfo,
 ) -> Result<Vec<&'a HuffmanTable>>
-    ensures { let expected = tables_in state.now.dc_tables (scan_in header.now).dc_destinations in
+    ensures { let expected = tables_in said.now.dc_tables (scan_in header.now).dc_destinations in
         MatchResult result (λ v. expected ≡ Ok (map (λ t. t.now) v.items))
         (λ e. IsRefusal e × Names e expected) }
 {
@@ -53,7 +53,7 @@ fn tables_of<'a>(
         let destination = header.dc_table_indices[slot];
         let identifier = identifier_of(frame, header, slot);
         let missing = Missing::Table("DC", destination, identifier);
-        let table = table_at(&state.dc_tables, destination);
+        let table = table_at(&said.dc_tables, destination);
         tables.push(needed(alloc, table, missing)?)?;
     }
     Ok(tables)
@@ -151,25 +151,23 @@ fn coding_of(frame: &FrameInfo, header: &ScanInfo, restart_interval: u16) -> Cod
 pub fn read_lossless_scan<R: Read + Drop>(
     alloc: Global,
     source: &mut Source<R>,
-    state: &State,
+    said: &Said,
     frame: &FrameInfo,
     header: &ScanInfo,
     decoded: &mut Decoded,
 ) -> Result<Option<Marker>>
-    requires sound { IsSound (with_decoded (found_in state.now) decoded.old) }
-    requires frame { (said_in state.now).frame ≡ Some (frame_in frame.now) }
+    requires sound { IsSound (found_of said.now decoded.old) }
+    requires frame { (said_of said.now).frame ≡ Some (frame_in frame.now) }
     requires process { (frame_in frame.now).process ≡ Lossless }
     requires legal { IsScanOf (frame_in frame.now) (scan_in header.now) }
-    ensures reads { let found = found_in state.now in
-        Answers (λ m. (once_scanned (with_decoded found decoded.new), m))
-        (samples_read (with_decoded found decoded.old) (frame_in frame.now)
+    ensures reads { Answers (λ m. (once_scanned (found_of said.now decoded.new), m))
+        (samples_read (found_of said.now decoded.old) (frame_in frame.now)
         (scan_in header.now)) source.old result source.new }
-    ensures sound { let found = found_in state.now in
-        OnOk result (IsSound (once_scanned (with_decoded found decoded.new))) }
+    ensures sound { OnOk result (IsSound (once_scanned (found_of said.now decoded.new))) }
 {
-    let tables = tables_of(alloc, state, frame, header)?;
+    let tables = tables_of(alloc, said, frame, header)?;
     let parts = parts_of(alloc, frame, &header.component_indices, &tables)?;
-    let coding = coding_of(frame, header, state.restart_interval);
+    let coding = coding_of(frame, header, said.restart_interval);
     let (mut planes, met) = read_scan(alloc, source, coding, &parts)?;
     decoded.put_samples(alloc, &header.component_indices, &mut planes);
     pass_restarts(alloc, source, met)

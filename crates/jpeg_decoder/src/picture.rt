@@ -92,7 +92,7 @@ fn is_within(limit: usize, count: usize, area: usize) -> bool
 fn are_kept(state: &State, frame: &FrameInfo) -> bool
     ensures { result ≡ is_kept (found_in state.now) (frame_in frame.now) }
 {
-    is_progressive(frame.coding_process) && state.scanned
+    is_progressive(frame.coding_process) && state.said.scanned
 }
 
 /// Takes the blocks of a component out of those that are kept, where blocks are kept.
@@ -128,7 +128,7 @@ fn plane_at_end(
     requires scale { IsScale component.now.dct_scale }
     requires plane { IsPlaneOf (component_in component.now) (option_map (λ v. v.items) plane) }
     requires blocks { AreBlocksOf (component_in component.now) (option_map blocks_in kept) }
-    ensures plane { let table = slice_index_or state.now.quantization
+    ensures plane { let table = slice_index_or state.now.said.quantization
         component.now.quantization_table_index None in
         let expected = plane_or (component_in component.now) table (option_map (λ v. v.items) plane)
         (option_map blocks_in kept) in
@@ -142,7 +142,7 @@ fn plane_at_end(
     let blocks = needed(alloc, kept, Missing::Scan(identifier))?;
     let destination = component.quantization_table_index;
     let missing = Missing::Table("quantization", destination, identifier);
-    let table = table_at(&state.quantization, destination);
+    let table = table_at(&state.said.quantization, destination);
     let table = needed(alloc, table, missing)?;
     Ok(render(alloc, component, table, &blocks)?)
 }
@@ -201,7 +201,7 @@ fn picture_by(
     requires frame { IsDecodedFrame (frame_in frame.now) }
     requires planes { AreWhole (frame_in frame.now).components (map (λ p. p.items) planes.items) }
     requires count { length planes.items ≡ length (frame_in frame.now).components }
-    ensures { let expected = picture_by settings (metadata_in state.now.metadata)
+    ensures { let expected = picture_by settings (metadata_in state.now.said.metadata)
         (frame_in frame.now) (frame_in frame.now).components (map (λ p. p.items) planes.items) in
         MatchResult result (λ v. expected ≡ Ok v.items) (λ e. IsRefusal e × Names e expected) }
 {
@@ -233,7 +233,7 @@ fn write_by(
     requires count { length planes.items ≡ length (frame_in frame.now).components }
     requires process { (frame_in frame.now).process ≡ Lossless → ⊥ }
     requires room { length pixels.old ≡ picture_size (frame_in frame.now) }
-    ensures meant { let expected = picture_by settings (metadata_in state.now.metadata)
+    ensures meant { let expected = picture_by settings (metadata_in state.now.said.metadata)
         (frame_in frame.now) (frame_in frame.now).components (map (λ p. p.items) planes.items) in
         MatchResult result (λ u. expected ≡ Ok pixels.new) (λ e. IsRefusal e × Names e expected) }
     ensures unwritten { OnErr result (pixels.new ≡ pixels.old) }
@@ -268,14 +268,14 @@ fn shape_of(frame: &FrameInfo) -> Option<JointShape>
 /// Returns the colour transform of a frame's picture.
 fn transform_of(state: &State, frame: &FrameInfo, settings: Settings) -> ColorTransform
     ensures { result ≡ transform_of settings.color_transform
-        (identifiers_of (frame_in frame.now).components) state.now.metadata.jfif
-        state.now.metadata.adobe }
+        (identifiers_of (frame_in frame.now).components) state.now.said.metadata.jfif
+        state.now.said.metadata.adobe }
 {
     choose_color_transform(
         settings.color_transform,
         &frame.components,
-        state.metadata.jfif,
-        state.metadata.adobe,
+        state.said.metadata.jfif,
+        state.said.metadata.adobe,
     )
 }
 
@@ -291,7 +291,7 @@ fn joint_picture(
     requires shape { IsShapeOf (frame_in frame.now).components (frame_in frame.now).output_width
         (frame_in frame.now).output_height planes.shape }
     requires full { IsFullJoint planes }
-    ensures { let expected = picture_by settings (metadata_in state.now.metadata)
+    ensures { let expected = picture_by settings (metadata_in state.now.said.metadata)
         (frame_in frame.now) (frame_in frame.now).components
         (joint_planes planes.shape planes.samples.items) in
         MatchResult result (λ v. expected ≡ Ok v.items) (λ e. IsRefusal e × Names e expected) }
@@ -323,7 +323,7 @@ fn write_joint(
     requires full { IsFullJoint planes.now }
     requires process { (frame_in frame.now).process ≡ Lossless → ⊥ }
     requires room { length pixels.old ≡ picture_size (frame_in frame.now) }
-    ensures meant { let expected = picture_by settings (metadata_in state.now.metadata)
+    ensures meant { let expected = picture_by settings (metadata_in state.now.said.metadata)
         (frame_in frame.now) (frame_in frame.now).components
         (joint_planes planes.now.shape planes.now.samples.items) in
         MatchResult result (λ u. expected ≡ Ok pixels.new) (λ e. IsRefusal e × Names e expected) }
@@ -481,7 +481,11 @@ fn picture(
         MatchResult result (λ v. expected ≡ Ok v.items) (λ e. IsRefusal e × Names e expected) }
     ensures size { IfOk result (λ v. IsWhole (said_in state.now).frame v.items) }
 {
-    let frame = needed(alloc, state.frame.as_ref(), Missing::Frame(Marker::EOI))?;
+    let frame = needed(
+        alloc,
+        state.said.frame.as_ref(),
+        Missing::Frame(Marker::EOI),
+    )?;
     if !is_within(
         settings.limit,
         frame.components.len(),
@@ -513,7 +517,11 @@ fn write_picture(
         MatchResult result (λ u. expected ≡ Ok pixels.new) (λ e. IsRefusal e × Names e expected) }
     ensures unwritten { OnErr result (pixels.new ≡ pixels.old) }
 {
-    let frame = needed(alloc, state.frame.as_ref(), Missing::Frame(Marker::EOI))?;
+    let frame = needed(
+        alloc,
+        state.said.frame.as_ref(),
+        Missing::Frame(Marker::EOI),
+    )?;
     if !is_within(
         settings.limit,
         frame.components.len(),

@@ -11,7 +11,6 @@ ghost use Rattle.jpeg_streams.specs.Stream.{segment_at};
 ghost use Rattle.std.specs.Prelude.{List, ℕ};
 
 use crate::codings::{codings_of, pass_of, spare_tables, widen_tables};
-use crate::decoded::Decoded;
 use crate::lossless_scans::read_lossless_scan;
 use crate::restarts::pass_restarts;
 use crate::scan::{Scan, wants_ac};
@@ -41,7 +40,7 @@ pub fn refused_line_count(alloc: Global, before: Before) -> Error
 }
 
 /// Reads a scan, and returns what stands after it: the marker after it and after the restart
-/// markers at its end, if one was reached. An error may drop what scans gave.
+/// markers at its end, if one was reached. An error may leave a part of what the scan gave.
 pub fn read_scan<R: Read + Drop>(
     alloc: Global,
     source: &mut Source<R>,
@@ -53,25 +52,27 @@ pub fn read_scan<R: Read + Drop>(
     ensures steps { IsStep (found_in state.old) result (found_in state.new) }
 {
     widen_tables(alloc, state)?;
-    let mut decoded = std::mem::replace(&mut state.decoded, Decoded::new(alloc));
-    let frame = needed(alloc, state.frame.as_ref(), Missing::Frame(Marker::SOS))?;
+    let said = &state.said;
+    let frame = needed(alloc, said.frame.as_ref(), Missing::Frame(Marker::SOS))?;
     let header = parse_sos(alloc, source, frame)?;
     if frame.coding_process == CodingProcess::Lossless {
-        let met = read_lossless_scan(alloc, source, state, frame, &header, &mut decoded)?;
-        return Ok(state.end_scan(decoded, met));
+        let met = read_lossless_scan(alloc, source, said, frame, &header, &mut state.decoded)?;
+        return Ok(state.end_scan(met));
     }
-    let spare = spare_tables(alloc, &header, frame, state.metadata.avi1)?;
-    let components = codings_of(alloc, state, &spare, frame, &header)?;
+    let spare = spare_tables(alloc, &header, frame, said.metadata.avi1)?;
+    let components = codings_of(alloc, said, &spare, frame, &header)?;
     let pass = pass_of(&header);
     let scan = Scan {
         pass,
-        restart_interval: state.restart_interval,
+        restart_interval: said.restart_interval,
         keeps_ac: wants_ac(frame.coding_process, pass, &components),
         components,
     };
-    let reached = decoded.read(alloc, source, state.scanned, frame, &scan)?;
+    let reached = state
+        .decoded
+        .read(alloc, source, said.scanned, frame, &scan)?;
     // It borrows from `state`, which changes now.
     drop(scan);
     let met = pass_restarts(alloc, source, reached)?;
-    Ok(state.end_scan(decoded, met))
+    Ok(state.end_scan(met))
 }

@@ -17,9 +17,9 @@ use std::alloc::Global;
 use std::io::Read;
 
 /// What the segments of a stream have said so far: the frame, the tables in force by their
-/// destinations, and the planes that are decided, by the components' indices in the frame.
+/// destinations, and metadata.
 #[derive(Drop)]
-pub struct State {
+pub struct Said {
     /// The frame, once its header was accepted.
     pub frame: Option<FrameInfo>,
     /// The quantization tables in force, in zigzag order.
@@ -34,11 +34,18 @@ pub struct State {
     pub scanned: bool,
     /// What the segments of applications have said.
     pub metadata: Metadata,
-    /// What the scans have decoded.
-    pub decoded: Decoded,
 
     // Each AC table is of class AC.
     ghost ac_classes: { all_ac ac_tables ≡ true },
+}
+
+/// What was found in a stream so far.
+#[derive(Drop)]
+pub struct State {
+    /// What its segments have said.
+    pub said: Said,
+    /// What its scans have decoded.
+    pub decoded: Decoded,
 }
 
 /// What stands after a segment: what stands before the next marker, that marker, if it was reached
@@ -71,7 +78,7 @@ impl State {
     ghost use Rattle.jpeg_streams.specs.ScanSegments.{once_scanned, scan_before};
     ghost use Rattle.jpeg_streams.specs.Stream.{end_segment, segment_at};
     ghost use Rattle.jpeg_decoder.specs.Seen.{found_in};
-    ghost use Rattle.jpeg_decoder.specs.Steps.{IsStep, turn_of, with_decoded};
+    ghost use Rattle.jpeg_decoder.specs.Steps.{IsStep, turn_of};
 
     /// Makes the state at the start of a stream.
     #[tactic(auto, unfolding(crate::proofs::Rules::nothing))]
@@ -79,13 +86,15 @@ impl State {
         ensures { found_in result ≡ nothing_found }
     {
         State {
-            frame: None,
-            quantization: [None; 4],
-            dc_tables: [None, None, None, None],
-            ac_tables: [None, None, None, None],
-            restart_interval: 0,
-            scanned: false,
-            metadata: Metadata::new(alloc),
+            said: Said {
+                frame: None,
+                quantization: [None; 4],
+                dc_tables: [None, None, None, None],
+                ac_tables: [None, None, None, None],
+                restart_interval: 0,
+                scanned: false,
+                metadata: Metadata::new(alloc),
+            },
             decoded: Decoded::new(alloc),
         }
     }
@@ -102,12 +111,12 @@ impl State {
             source.old result source.new }
         ensures steps { IsStep (found_in self.old) result (found_in self.new) }
     {
-        if self.frame.is_some() {
+        if self.said.frame.is_some() {
             return Err(Error::Unsupported(UnsupportedFeature::Hierarchical));
         }
         let frame = parse_sof(alloc, source, Marker::SOF(number))?;
         check_frame(alloc, &frame)?;
-        self.frame = Some(frame);
+        self.said.frame = Some(frame);
         Ok(ONWARD)
     }
 
@@ -123,7 +132,7 @@ impl State {
         ensures steps { IsStep (found_in self.old) result (found_in self.new) }
     {
         let mut tables = parse_dqt(alloc, source)?;
-        update(&mut self.quantization, &mut tables);
+        update(&mut self.said.quantization, &mut tables);
         Ok(ONWARD)
     }
 
@@ -138,10 +147,11 @@ impl State {
             result source.new }
         ensures steps { IsStep (found_in self.old) result (found_in self.new) }
     {
-        let is_baseline = self.frame.as_ref().map(|frame| frame.is_baseline);
+        let is_baseline = self.said.frame.as_ref().map(|frame| frame.is_baseline);
         let (mut dc_tables, mut ac_tables) = parse_dht(alloc, source, is_baseline)?;
-        update(&mut self.dc_tables, &mut dc_tables);
-        update(&mut self.ac_tables, &mut ac_tables);
+        let said = &mut self.said;
+        update(&mut said.dc_tables, &mut dc_tables);
+        update(&mut said.ac_tables, &mut ac_tables);
         Ok(ONWARD)
     }
 
@@ -156,7 +166,7 @@ impl State {
             result source.new }
         ensures steps { IsStep (found_in self.old) result (found_in self.new) }
     {
-        self.restart_interval = parse_dri(alloc, source)?;
+        self.said.restart_interval = parse_dri(alloc, source)?;
         Ok(ONWARD)
     }
 
@@ -173,7 +183,7 @@ impl State {
         ensures steps { IsStep (found_in self.old) result (found_in self.new) }
     {
         let said = parse_app(alloc, source, Marker::APP(number))?;
-        self.metadata.add(said)?;
+        self.said.metadata.add(said)?;
         Ok(ONWARD)
     }
 
@@ -199,7 +209,7 @@ impl State {
             result source.new }
         ensures steps { IsStep (found_in self.now) result (found_in self.now) }
     {
-        if self.frame.is_none() {
+        if self.said.frame.is_none() {
             return Err(format_error(alloc, "found EOI, expected a frame header"));
         }
         Ok(Step {
@@ -209,23 +219,21 @@ impl State {
         })
     }
 
-    /// Ends a scan with what the scans have decoded, and returns what stands after it: this marker,
-    /// if one was reached.
-    pub fn end_scan(&mut self, decoded: Decoded, met: Option<Marker>) -> Step
+    /// Marks that a scan was read, and returns what stands after it: this marker, if one was reached.
+    pub fn end_scan(&mut self, met: Option<Marker>) -> Step
         ensures { turn_of self.new result ≡ record {
-          found = once_scanned (with_decoded (found_in self.old) decoded);
+          found = once_scanned (found_in self.old);
           before = scan_before (found_in self.old);
           met = met;
           ended = false;
         } }
     {
-        let before = if self.scanned {
+        let before = if self.said.scanned {
             Before::LaterScan
         } else {
             Before::FirstScan
         };
-        self.decoded = decoded;
-        self.scanned = true;
+        self.said.scanned = true;
         Step {
             before,
             met,

@@ -74,7 +74,7 @@ fn read_turn<R: Read + Drop>(
 fn is_read_for(state: &State, header: bool) -> bool
     ensures { result ≡ (header && is_some (said_in state.now).frame) }
 {
-    header && state.frame.is_some()
+    header && state.said.frame.is_some()
 }
 
 /// Reads segments and scans up to the end of the image, or, where the header is wanted alone,

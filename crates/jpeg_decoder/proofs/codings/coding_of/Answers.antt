@@ -6,7 +6,7 @@ use Rattle.jpeg_decoder.specs.Steps.{coding_in_slot, table_if}
 use Rattle.std.specs.Prelude.{nat_lt}
 use Rattle.std.proofs.lemmas.Result.{err_from_is_err_and}
 use Rattle.jpeg_bits.proofs.Loops.{bind_err}
-use Rattle.jpeg_decoder.specs.Seen.{said_in}
+use Rattle.jpeg_decoder.specs.Seen.{said_of}
 use Rattle.jpeg_decoder.proofs.SlotCodings.{ac-read, class-in-force, dc-read, format-refuses}
 use Rattle.jpeg_decoder.proofs.SlotCodings.{ac_of, coded_by, dc_of, refused-through, slot-coded}
 use Rattle.jpeg_decoder.proofs.CodedScales.{scale-at}
@@ -16,26 +16,26 @@ use Rattle.jpeg_decoder.proofs.codings.coding_of.Goals as goal
 
 -- what the slot is given, of the tables in force
 coded : (c : After-table_at-quantization)
-    → coding_in_slot (said_in c.args.state.now) (frame_in c.args.frame.now) (scan_in c.args.header.now) c.args.slot
-    ≡ coded_by c.args.state.now c.args.header.now c.args.slot c.index-index.result.now c.in_ok-component.component.now
-coded c = slot-coded c.args.state.now c.args.frame.now c.args.header.now c.args.slot c.index-index.result.now
+    → coding_in_slot (said_of c.args.said.now) (frame_in c.args.frame.now) (scan_in c.args.header.now) c.args.slot
+    ≡ coded_by c.args.said.now c.args.header.now c.args.slot c.index-index.result.now c.in_ok-component.component.now
+coded c = slot-coded c.args.said.now c.args.frame.now c.args.header.now c.args.slot c.index-index.result.now
     c.in_ok-component.component.now c.requires.slot c.index-index.ensures (search rules) (search rules)
 
 abbrev has-dc : (c : After-table_in_force-dc) → (o : Option Table)
-    × (dc_of (said_in c.args.state.now) (scan_in c.args.header.now) c.args.slot
+    × (dc_of (said_of c.args.said.now) (scan_in c.args.header.now) c.args.slot
     ≡ table_if (c.args.header.now.spectral_selection.start == 0) c.args.spare.now.no_dc o)
 has-dc c = (
   _,
-  dc-read c.args.state.now c.args.header.now c.args.spare.now c.args.slot _ _ c.requires.spare (omega arith)
+  dc-read c.args.said.now c.args.header.now c.args.spare.now c.args.slot _ _ c.requires.spare (omega arith)
       (omega arith) c.index-dc_destination.ensures (rw c.deref-2.ensures.value at c.table_in_force-dc.ensures),
 )
 
 abbrev has-ac : (c : After-table_in_force-ac) → (o : Option Table)
-    × (ac_of (said_in c.args.state.now) (scan_in c.args.header.now) c.args.slot
+    × (ac_of (said_of c.args.said.now) (scan_in c.args.header.now) c.args.slot
     ≡ table_if (nat_lt 1 c.args.header.now.spectral_selection.end) c.args.spare.now.no_ac o)
 has-ac c = (
   _,
-  ac-read c.args.state.now c.args.header.now c.args.spare.now c.args.slot _ _ c.requires.spare (omega arith)
+  ac-read c.args.said.now c.args.header.now c.args.spare.now c.args.slot _ _ c.requires.spare (omega arith)
       (omega arith) c.index-ac_destination.ensures (rw c.deref-3.ensures.value at c.table_in_force-ac.ensures),
 )
 
@@ -79,8 +79,8 @@ invariant_of-result c =
     let at : component ≡ get_or c.args.frame.now.components.items c.index-index.result.now
     component = search rules in
     record {
-      class = class-in-force (said_in c.args.state.now) (scan_in c.args.header.now) c.args.spare.now _
-          c.index-ac_destination.result.now _ c.requires.spare c.args.state.now.ac_classes forced;
+      class = class-in-force (said_of c.args.said.now) (scan_in c.args.header.now) c.args.spare.now _
+          c.index-ac_destination.result.now _ c.requires.spare c.args.said.now.ac_classes forced;
       scale = scale-at c.args.frame.now.components.items c.index-index.result.now component (search
           rules) at
           c.requires.scales;

@@ -14,7 +14,7 @@ use Rattle.jpeg_segments.specs.FrameView.{frame_in, scan_in}
 use Rattle.jpeg_streams.specs.Found.{Found}
 use Rattle.jpeg_streams.specs.LosslessScans.{with_samples}
 use Rattle.jpeg_decoder.specs.LosslessParts.{mcus_high, mcus_wide, parts_at}
-use Rattle.jpeg_decoder.specs.Seen.{found_in}
+use Rattle.jpeg_decoder.specs.Seen.{found_of, said_of}
 use Rattle.jpeg_decoder.specs.Steps.{with_decoded}
 use Rattle.jpeg_decoder.proofs.PicturesOfPlanes.{decoded-factors}
 use Rattle.jpeg_streams.proofs.Soundness.{decoded-precision}
@@ -27,7 +27,7 @@ use Rattle.std.proofs.lemmas.Grind.{common_steps}
 
 -- the components of the scan, with their tables
 coded : (g : given.Over) (c : After-deref-2 g) → let scan = scan_in c.args.header.now in
-    AreCodings (found_in c.args.state.now).said.huffman.dc (frame_in c.args.frame.now) scan.components
+    AreCodings (said_of c.args.said.now).huffman.dc (frame_in c.args.frame.now) scan.components
     scan.dc_destinations
     (map (λ t. t.now) c.in_ok-tables.tables.items)
 coded g c = grind (arith, common_steps, codings-by-tables, recursion_from_All)
@@ -52,8 +52,8 @@ mcus g c =
 
 -- the planes of their samples
 placed : (g : given.Over) (c : After-put_samples g)
-    → let found = with_decoded (found_in c.args.state.now) c.args.decoded.now in
-    ◌≡◌ {A = Found} (once_scanned (with_decoded (found_in c.args.state.now) c.put_samples.new.self))
+    → let found = found_of c.args.said.now c.args.decoded.now in
+    ◌≡◌ {A = Found} (once_scanned (found_of c.args.said.now c.put_samples.new.self))
     (record (once_scanned found) {
       samples = with_samples (scan_in c.args.header.now).components (map (λ v. v.items) c.in_ok-planes.planes.items) found.samples;
     })
@@ -61,7 +61,7 @@ placed g c = grind (arith, common_steps, put-made)
 
 pub returns-in_err-tables-clause-reads : goal.returns-in_err-tables-clause-reads
 returns-in_err-tables-clause-reads g c =
-    let found = with_decoded (found_in c.args.state.now) c.args.decoded.now in
+    let found = found_of c.args.said.now c.args.decoded.now in
     let frame = frame_in c.args.frame.now in
     let header = scan_in c.args.header.now in
     let within = recursion_from_All (λ index. index < length frame.components) header.components
@@ -110,7 +110,7 @@ returns-in_err-planes-clause-reads g c =
     let at = goal.at.returns-in_err-planes-clause-reads g c in
     let a = coded g at.After-deref-2 in
     rw (p.1, p.2) (samples-fail _ _ _ a.codings _ c.args.source.now c.read_scan.new.source _
-    (samples-read (with_decoded (found_in c.args.state.now) c.args.decoded.now) _ _ _ a _ _ c.args.source.now.bytes
+    (samples-read (found_of c.args.said.now c.args.decoded.now) _ _ _ a _ _ c.args.source.now.bytes
     c.coding_of-coding.ensures (made g at.After-deref-3)) c.in_err-planes.ensures.reads)
 
 pub put_samples-requires-clause-count : goal.put_samples-requires-clause-count
@@ -128,11 +128,11 @@ put_samples-requires-clause-indices g c =
 
 pub returns-clause-reads : goal.returns-clause-reads
 returns-clause-reads g c =
-    let found = with_decoded (found_in c.args.state.now) c.args.decoded.now in
+    let found = found_of c.args.said.now c.args.decoded.now in
     let at = goal.at.returns-clause-reads g c in
     let a = coded g at.After-deref-2 in
     let planes = map (λ v. v.items) c.in_ok-planes.planes.items in
-    samples-end found (once_scanned (with_decoded (found_in c.args.state.now) c.put_samples.new.self)) _ _ a.codings _
+    samples-end found (once_scanned (found_of c.args.said.now c.put_samples.new.self)) _ _ a.codings _
     planes c.in_ok-planes.met c.args.source.now c.read_scan.new.source c.pass_restarts.new.source c.pass_restarts.result
     (samples-read found _ _ _ a _ _ c.args.source.now.bytes c.coding_of-coding.ensures (made g at.After-deref-3))
     (placed g at.After-put_samples ∙ ap (λ (l : List ℕ). record (once_scanned found) {
@@ -141,7 +141,7 @@ returns-clause-reads g c =
 
 pub returns-clause-sound : goal.returns-clause-sound
 returns-clause-sound g c =
-    let found = with_decoded (found_in c.args.state.now) c.args.decoded.now in
+    let found = found_of c.args.said.now c.args.decoded.now in
     let frame = frame_in c.args.frame.now in
     let header = scan_in c.args.header.now in
     let at = goal.at.returns-clause-sound g c in

@@ -22,27 +22,27 @@ use Rattle.jpeg_decoder.proofs.scan_segment.read_scan.Goals as goal
 pub returns-in_err-frame-clause-reads : goal.returns-in_err-frame-clause-reads
 returns-in_err-frame-clause-reads g c =
     segment-refused _ c.widen_tables.new.state _ _ _ _ _ _ c.from_residual-in_err-frame.ensures.1
-    c.replace-decoded.ensures.value c.widen_tables.ensures
+    refl c.widen_tables.ensures
     (frame-refused _ _ _ (search rules) c.in_err-frame.ensures.1)
 
 pub returns-in_err-header-clause-reads : goal.returns-in_err-header-clause-reads
 returns-in_err-header-clause-reads g c =
     segment-refused _ c.widen_tables.new.state _ _ _ _ _ _ c.from_residual-in_err-header.ensures.1
-    c.replace-decoded.ensures.value c.widen_tables.ensures
+    refl c.widen_tables.ensures
     (header-refused scan_in _ (frame_in c.in_ok-frame.frame.now) _ c.parse_sos.new.reader _ (search rules)
     c.in_err-header.ensures.answers)
 
 pub returns-in_err-met-clause-reads : goal.returns-in_err-met-clause-reads
 returns-in_err-met-clause-reads g c =
     segment-refused _ c.widen_tables.new.state _ _ _ _ _ _ c.from_residual-in_err-met.ensures.1
-    c.replace-decoded.ensures.value c.widen_tables.ensures
+    refl c.widen_tables.ensures
     (samples-met (once_scanned (with_decoded (found_in c.widen_tables.new.state) c.read_lossless_scan.new.decoded)) _
     (frame_in c.in_ok-frame.frame.now) _ _ _ c.read_lossless_scan.new.source (Err c.in_err-met.field-0.0)
     (search rules) (search rules) c.in_ok-header.ensures.answers c.in_err-met.ensures.reads)
 
 pub returns-then-eq-clause-reads : goal.returns-then-eq-clause-reads
 returns-then-eq-clause-reads g c =
-    segment-ends c.widen_tables.new.state _ _ _ _ _ _ _ c.replace-decoded.ensures.value c.widen_tables.ensures
+    segment-ends c.widen_tables.new.state _ _ _ _ _ _ _ refl c.widen_tables.ensures
     c.end_scan.ensures (samples-met (once_scanned (with_decoded (found_in c.widen_tables.new.state) c.read_lossless_scan.new.decoded)) _
     (frame_in c.in_ok-frame.frame.now) _ _ _ _ (Ok c.in_ok-met.met) (search rules)
     (search rules) c.in_ok-header.ensures.answers c.in_ok-met.ensures.reads)
@@ -57,7 +57,7 @@ codings_of-requires-clause-scales g c =
 pub returns-in_err-components-clause-reads : goal.returns-in_err-components-clause-reads
 returns-in_err-components-clause-reads g c =
     segment-refused _ c.widen_tables.new.state _ _ _ _ _ _ c.from_residual-in_err-components.ensures.1
-    c.replace-decoded.ensures.value c.widen_tables.ensures
+    refl c.widen_tables.ensures
     (codings-refused _ (frame_in c.in_ok-frame.frame.now)
     (scan_in c.in_ok-header.header) _ _ _ (search rules) (search rules) c.in_ok-header.ensures.answers
     c.in_err-components.ensures.codings.0 c.in_err-components.ensures.codings.1)
@@ -81,7 +81,7 @@ read-requires-clause-ready g c =
     let now = found_in c.widen_tables.new.state in
     let frame = frame_in c.in_ok-frame.frame.now in
     let framed : now.said.frame ≡ Some frame = search rules in
-    ready (with_decoded now c.replace-decoded.new.dest) frame (scan_in c.in_ok-header.header) _
+    ready (with_decoded now c.widen_tables.new.state.decoded) frame (scan_in c.in_ok-header.header) _
     (c.requires.sound.frames frame (ap (λ (f : Found). f.said.frame) (sym c.widen_tables.ensures) ∙ framed))
     c.in_ok-header.ensures.scan c.in_ok-components.ensures.codings c.in_ok-components.ensures.count
 
@@ -89,17 +89,17 @@ pub read-requires-clause-kept : goal.read-requires-clause-kept
 read-requires-clause-kept g c =
     let old = found_in c.args.state.now in
     let now = found_in c.widen_tables.new.state in
-    let found = with_decoded now c.replace-decoded.result in
-    let same : found ≡ old = ap (λ (d : Decoded). with_decoded now d) c.replace-decoded.ensures.value ∙ c.widen_tables.ensures in
+    let found = with_decoded now c.widen_tables.new.state.decoded in
+    let same : found ≡ old = c.widen_tables.ensures in
     let frame = frame_in c.in_ok-frame.frame.now in
     let framed : now.said.frame ≡ Some frame = search rules in
-    subst (AreArrays frame.components) (before-as now c.replace-decoded.result frame now.said.scanned refl)
+    subst (AreArrays frame.components) (before-as now c.widen_tables.new.state.decoded frame now.said.scanned refl)
     ((subst IsSound (sym same) c.requires.sound).kept frame framed)
 
 pub returns-in_err-reached-clause-reads : goal.returns-in_err-reached-clause-reads
 returns-in_err-reached-clause-reads g c =
     segment-refused _ c.widen_tables.new.state _ _ _ _ _ _ c.from_residual-in_err-reached.ensures.1
-    c.replace-decoded.ensures.value c.widen_tables.ensures
+    refl c.widen_tables.ensures
     (data-refused (once_scanned (with_decoded (found_in c.widen_tables.new.state) c.read.new.self)) _
     (frame_in c.in_ok-frame.frame.now) (scan_in c.in_ok-header.header) _ _ _ _ c.read.new.source _ (search rules)
     (search rules) c.in_ok-header.ensures.answers
@@ -109,7 +109,7 @@ returns-in_err-reached-clause-reads g c =
 pub returns-in_err-met-2-clause-reads : goal.returns-in_err-met-2-clause-reads
 returns-in_err-met-2-clause-reads g c =
     segment-refused _ c.widen_tables.new.state _ _ _ _ _ _ c.from_residual-in_err-met-2.ensures.1
-    c.replace-decoded.ensures.value c.widen_tables.ensures
+    refl c.widen_tables.ensures
     (scan-ends (once_scanned (with_decoded (found_in c.widen_tables.new.state) c.read.new.self)) _ _
     (frame_in c.in_ok-frame.frame.now) (scan_in c.in_ok-header.header) _ _ _ _ _ c.pass_restarts.new.source
     (Err c.in_err-met-2.field-0.0) (search rules) (search rules) c.in_ok-header.ensures.answers c.in_ok-components.ensures.codings c.pass_of-pass.ensures
@@ -118,7 +118,7 @@ returns-in_err-met-2-clause-reads g c =
 
 pub returns-clause-reads : goal.returns-clause-reads
 returns-clause-reads g c =
-    segment-ends c.widen_tables.new.state _ _ _ _ _ _ _ c.replace-decoded.ensures.value c.widen_tables.ensures
+    segment-ends c.widen_tables.new.state _ _ _ _ _ _ _ refl c.widen_tables.ensures
     c.end_scan-2.ensures
     (scan-ends (once_scanned (with_decoded (found_in c.widen_tables.new.state) c.read.new.self)) _ _
     (frame_in c.in_ok-frame.frame.now) (scan_in c.in_ok-header.header) _ _ _ _ _ _
@@ -130,8 +130,8 @@ pub returns-clause-steps : goal.returns-clause-steps
 returns-clause-steps g c =
     let old = found_in c.args.state.now in
     let now = found_in c.widen_tables.new.state in
-    let found = with_decoded now c.replace-decoded.result in
-    let same : found ≡ old = ap (λ (d : Decoded). with_decoded now d) c.replace-decoded.ensures.value ∙ c.widen_tables.ensures in
+    let found = with_decoded now c.widen_tables.new.state.decoded in
+    let same : found ≡ old = c.widen_tables.ensures in
     let frame = frame_in c.in_ok-frame.frame.now in
     let framed : now.said.frame ≡ Some frame = search rules in
     let next = once_scanned (with_decoded now c.read.new.self) in

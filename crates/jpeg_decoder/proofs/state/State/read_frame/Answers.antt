@@ -13,7 +13,7 @@ returns-clause-reads g c =
           let at = a.1 k in (
             at.0,
             frame-read c.args.number (found_in c.args.self.now) c.args.source.now.bytes
-                c.parse_sof.new.reader.bytes (frame_in c.in_ok-frame.frame) (no-frame c.args.self.now.frame
+                c.parse_sof.new.reader.bytes (frame_in c.in_ok-frame.frame) (no-frame c.args.self.now.said.frame
                 (sym c.if-is_some.ensures)) at.1 c.in_ok-check_frame.ensures,
           ),
     )
@@ -24,7 +24,7 @@ returns-clause-steps g c = record {
   framed = search rules;
   stays = search rules;
   sound = λ sound. sound-framed (found_in c.args.self.now) (frame_in c.in_ok-frame.frame) sound
-      (no-frame c.args.self.now.frame (sym c.if-is_some.ensures)) c.in_ok-frame.ensures.made
+      (no-frame c.args.self.now.said.frame (sym c.if-is_some.ensures)) c.in_ok-frame.ensures.made
       c.in_ok-check_frame.ensures;
   unread = search rules;
 }
