@@ -58,10 +58,13 @@ enum {
  * green and blue, with 8 bits a sample; for others it is a ZAXBRIAR_BAD_ARGUMENT. */
 enum {
     ZAXBRIAR_AS_STORED = 0, /* each pixel's samples, in the order of the components */
-    ZAXBRIAR_GREY = 1,      /* 1 byte; for grey pictures only */
+    ZAXBRIAR_GREY = 1,      /* 1 byte: the grey sample, or the luma of the colour, which is
+                               (19595 * red + 38470 * green + 7471 * blue + 32768) / 65536 */
     ZAXBRIAR_RGB = 2,       /* 3 bytes; a grey sample is repeated, here and below */
     ZAXBRIAR_RGBA = 3,      /* 4 bytes, of which the last is 255 */
-    ZAXBRIAR_BGRA = 4       /* 4 bytes, of which the last is 255 */
+    ZAXBRIAR_BGRA = 4,      /* 4 bytes, of which the last is 255 */
+    ZAXBRIAR_BGR = 5,       /* 3 bytes */
+    ZAXBRIAR_XRGB = 6       /* 4 bytes, of which the first is 255 */
 };
 
 /* The coding process of a picture. */
@@ -109,7 +112,8 @@ typedef struct zaxbriar_picture {
     uint64_t row_bytes;      /* the bytes of a line without its gap: width * pixel_bytes */
     uint64_t decoding_bytes; /* the most memory that the library takes for samples at a time: what
                                 a call allocates beside `pixels`, but for tables, metadata and a few
-                                lines. A layout other than AS_STORED, or a gap, takes more. */
+                                lines. Where `pixels` can't take the picture as it is stored, this
+                                counts a second picture: see zaxbriar_decode. */
     uint64_t stream_bytes;   /* after decoding: how many bytes of `jpeg` were read */
     uint32_t width;          /* in pixels, at the scale of the options */
     uint32_t height;
@@ -129,9 +133,12 @@ ZAXBRIAR_CALL int zaxbriar_read_info(const void *jpeg, size_t jpeg_size,
                                      const zaxbriar_options *options, zaxbriar_picture *picture);
 
 /* Decodes the picture into `pixels`. The bytes between the lines and after the last one are left
- * unchanged. A buffer that is too small is refused before the picture is decoded. A picture as it
- * is stored and without gaps is decoded in `pixels` itself, and otherwise copied there. `picture`
- * may be null. */
+ * unchanged. A buffer that is too small is refused before the picture is decoded. `picture` may be
+ * null.
+ *
+ * A picture without gaps is decoded in `pixels` itself, and its pixels are rearranged there. In two
+ * cases it is decoded into a second picture, in memory that the call allocates, and copied: where
+ * there are gaps between the lines, and where GREY is asked for of a colour picture. */
 ZAXBRIAR_CALL int zaxbriar_decode(const void *jpeg, size_t jpeg_size,
                                   const zaxbriar_options *options, void *pixels,
                                   size_t pixels_size, zaxbriar_picture *picture);

@@ -40,7 +40,7 @@ static void unknown_options(void) {
     size_t length;
     for (int which = 0; which < 7; which++) {
         zaxbriar_options options = {0};
-        if (which == 0) options.layout = ZAXBRIAR_BGRA + 1;
+        if (which == 0) options.layout = ZAXBRIAR_XRGB + 1;
         if (which == 1) options.transform = ZAXBRIAR_TRANSFORM_YCCK + 1;
         if (which == 2) options.layout = UINT8_MAX;
         if (which == 3) options.transform = 1;

@@ -81,10 +81,15 @@ static int same_pixel(int layout, const zaxbriar_picture *whole, const unsigned 
     unsigned char blue = whole->components == 3 ? stored[2] : red;
     switch (layout) {
     case ZAXBRIAR_AS_STORED: return !memcmp(got, stored, whole->pixel_bytes);
-    case ZAXBRIAR_GREY: return got[0] == red;
+    case ZAXBRIAR_GREY:
+        return got[0] == (whole->components == 1
+                              ? red
+                              : (19595 * red + 38470 * green + 7471 * blue + 32768) >> 16);
     case ZAXBRIAR_RGB: return got[0] == red && got[1] == green && got[2] == blue;
     case ZAXBRIAR_RGBA: return got[0] == red && got[1] == green && got[2] == blue && got[3] == 255;
-    default: return got[2] == red && got[1] == green && got[0] == blue && got[3] == 255;
+    case ZAXBRIAR_BGRA: return got[2] == red && got[1] == green && got[0] == blue && got[3] == 255;
+    case ZAXBRIAR_BGR: return got[2] == red && got[1] == green && got[0] == blue;
+    default: return got[0] == 255 && got[1] == red && got[2] == green && got[3] == blue;
     }
 }
 
@@ -95,8 +100,7 @@ static void in_layout(int layout, const zaxbriar_picture *whole, const unsigned 
                                 .stride = (uint64_t)whole->width * 8 + 13};
     zaxbriar_picture picture, head;
     int is_8_bit = whole->precision == 8 && whole->components != 4;
-    int is_there = layout == ZAXBRIAR_AS_STORED ||
-                   (is_8_bit && (layout != ZAXBRIAR_GREY || whole->components == 1));
+    int is_there = layout == ZAXBRIAR_AS_STORED || is_8_bit;
     int answer = zaxbriar_read_info(jpeg.start, jpeg.size, &options, &head);
     CHECK(answer == (is_there ? ZAXBRIAR_OK : ZAXBRIAR_BAD_ARGUMENT));
     if (answer) return;
@@ -240,7 +244,7 @@ static void of_file(const char *name, const char *jpegraw) {
         CHECK(picture.pixel_bytes == picture.components * picture.sample_bytes);
         CHECK(picture.sample_bytes == (picture.precision > 8 ? 2 : 1));
         of_part(&picture, pixels);
-        for (int layout = ZAXBRIAR_AS_STORED; layout <= ZAXBRIAR_BGRA; layout++)
+        for (int layout = ZAXBRIAR_AS_STORED; layout <= ZAXBRIAR_XRGB; layout++)
             in_layout(layout, &picture, pixels);
         for (unsigned part = 1; part <= 8; part *= 2) at_scale(part, &picture);
         limited(&picture);

@@ -160,10 +160,11 @@ static void each_allocation_of_header(const unsigned char *jpeg, size_t size) {
 }
 
 static void of_stream(const unsigned char *bytes, size_t size, int is_whole) {
-    static const uint8_t layouts[] = {ZAXBRIAR_AS_STORED, ZAXBRIAR_AS_STORED, ZAXBRIAR_BGRA,
-                                      ZAXBRIAR_RGB};
-    zaxbriar_options options = {.layout = layouts[files % 4],
-                                .stride = files % 8 >= 6 ? 70000 * 8 : 0};
+    static const uint8_t layouts[] = {
+        ZAXBRIAR_AS_STORED, ZAXBRIAR_AS_STORED, ZAXBRIAR_BGRA, ZAXBRIAR_RGB,
+        ZAXBRIAR_RGBA,      ZAXBRIAR_GREY,      ZAXBRIAR_BGR,  ZAXBRIAR_XRGB};
+    zaxbriar_options options = {.layout = layouts[files % 8],
+                                .stride = files / 8 % 4 == 3 ? 70000 * 8 : 0};
     zaxbriar_picture picture;
     struct fenced jpeg = fence(size);
     if (size) memcpy(jpeg.start, bytes, size);

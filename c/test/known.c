@@ -104,14 +104,17 @@ static void layouts_of_grey(void) {
 
 static void layouts_of_colours(void) {
     static const unsigned char wanted[][5] = {
+        [ZAXBRIAR_GREY] = {0x80, 7, 7, 7, 7}, /* (19595 * 128 + 38470 * 129 + 7471 * 127) / 65536 */
         [ZAXBRIAR_RGB] = {0x80, 0x81, 0x7f, 7, 7},
         [ZAXBRIAR_RGBA] = {0x80, 0x81, 0x7f, 255, 7},
         [ZAXBRIAR_BGRA] = {0x7f, 0x81, 0x80, 255, 7},
+        [ZAXBRIAR_BGR] = {0x7f, 0x81, 0x80, 7, 7},
+        [ZAXBRIAR_XRGB] = {255, 0x80, 0x81, 0x7f, 7},
     };
     unsigned char stream[sizeof deep];
     memcpy(stream, deep, sizeof deep);
     stream[6] = 8; /* samples of 8 bits are predicted as 2^7 */
-    for (uint8_t layout = ZAXBRIAR_RGB; layout <= ZAXBRIAR_BGRA; layout++) {
+    for (uint8_t layout = ZAXBRIAR_GREY; layout <= ZAXBRIAR_XRGB; layout++) {
         zaxbriar_options options = {.layout = layout};
         CHECK(decode(stream, sizeof stream, options, 5) == ZAXBRIAR_OK);
         CHECK(!memcmp(pixels, wanted[layout], 5) && picture.process == ZAXBRIAR_LOSSLESS);
@@ -121,7 +124,7 @@ static void layouts_of_colours(void) {
 static void refusals(void) {
     static const unsigned char arithmetic[] = {0xff, 0xd8, 0xff, 0xcc};
     static const zaxbriar_options wrong[] = {
-        {.layout = 5}, {.stride = 7}, {.transform = 1}, {.reserved = 1}};
+        {.layout = 7}, {.stride = 7}, {.transform = 1}, {.reserved = 1}};
     for (size_t i = 0; i < sizeof wrong / sizeof *wrong; i++) {
         CHECK(zaxbriar_read_info(grey, sizeof grey, &wrong[i], &picture) == ZAXBRIAR_BAD_ARGUMENT);
         CHECK(picture.text[0] != 0);

@@ -1,5 +1,8 @@
 -- A picture that was decoded into its lines.
-use Rattle.std.proofs.Common.{◌≡◌, ◌∙◌, ◌≤◌, ◌*◌, ℕ, List, Ok, Err, Option, Some, None, ap, sym, subst, true, length, arith}
+use Rattle.std.proofs.Common.{◌≡◌, ◌∙◌, ◌≤◌, ◌==◌, ◌+◌, ◌-◌, ◌*◌, ℕ, zero, suc, List, Ok, Err, Option, Some, None, ap, sym}
+use Rattle.std.proofs.Common.{subst, true, false, length, take, drop, arith}
+use Rattle.std.proofs.Math.Nat.{mul-le-mul_left}
+use Rattle.std.proofs.lemmas.Bool.{ne_eqb}
 use Rattle.std.specs.Prelude.{option_map}
 use Rattle.jpeg_bits.specs.Reading.{Answers}
 use Rattle.jpeg_bits.specs.declared.error.Error.{Error}
@@ -15,12 +18,12 @@ use Rattle.jpeg_decoder.proofs.Callers.{picture_is_counted}
 use Rattle.jpeg_decoder.specs.Bytes.{HasRoom, IsCounted, IsWhole, decoding_bytes}
 use Rattle.jpeg_decoder.specs.declared.memory.DecodingBytes.{DecodingBytes}
 use Rattle.zaxbriar.proofs.Fails.{stands}
+use Rattle.zaxbriar.proofs.Laid.{laid-within, line-length}
 use Rattle.zaxbriar.proofs.Told.{count-of}
 use Rattle.zaxbriar.specs.Faults.{IsFault, StandsFor}
-use Rattle.zaxbriar.specs.Layouts.{converted_bytes, laid_out, layout_line}
-use Rattle.zaxbriar.specs.Limits.{are_as_decoded}
+use Rattle.zaxbriar.specs.Layouts.{TakesStored, converted_bytes, laid_out, layout_line, size_of_lines}
+use Rattle.zaxbriar.specs.Limits.{are_in_place}
 use Rattle.zaxbriar.specs.Lines.{Decodes, HasLines}
-use Rattle.zaxbriar.specs.declared.layouts.Conversion.TheVariants.{Stored}
 use Rattle.zaxbriar.specs.declared.answers.Refusal.{Refusal}
 use Rattle.zaxbriar.specs.declared.lines.Lines.{Lines}
 use Rattle.zaxbriar.specs.declared.options.Options.{Options}
@@ -33,14 +36,63 @@ has-room old (Some f) bytes room same e le =
     let is : decoding_bytes f ≡ bytes = cc in
     subst (λ (b : DecodingBytes). b.picture ≤ room) (sym is) le
 
-pub as-decoded : (lines : Lines) → are_as_decoded lines ≡ true
-    → (lines.conversion ≡ Stored) × (lines.stride ≡ lines.row_bytes)
-as-decoded lines e = grind arith
+pub in-place : (lines : Lines) → are_in_place lines ≡ true → (lines.stored ≤ lines.pixel_bytes) × (lines.stride ≡ lines.row_bytes)
+in-place lines e = grind arith
 
 pub row-of : (o : Options) (info : ImageInfo) (precision : ℕ) (lines : Lines) → HasLines o info precision lines
     → lines.row_bytes ≡ lines.width * converted_bytes lines.conversion lines.stored
 row-of o info precision lines h = ap (λ (l : Lines). l.row_bytes) h.lines_are
     ∙ sym (ap (λ (l : Lines). l.width * converted_bytes l.conversion l.stored) h.lines_are)
+
+pub fits-of : (o : Options) (info : ImageInfo) (precision : ℕ) (lines : Lines) → HasLines o info precision lines
+    → TakesStored lines.conversion lines.stored
+fits-of o info precision lines h =
+    subst (λ (l : Lines). TakesStored l.conversion l.stored) (sym h.lines_are) h.fits
+
+-- ---- lines that are made where their rows are
+
+-- a line is at least as long as its row
+pub wide-of : (o : Options) (info : ImageInfo) (precision : ℕ) (lines : Lines) → HasLines o info precision lines
+    → are_in_place lines ≡ true → lines.width * lines.stored ≤ lines.row_bytes
+wide-of o info precision lines h p =
+    let row : lines.row_bytes ≡ lines.width * lines.pixel_bytes = ap (λ (l : Lines). l.row_bytes) h.lines_are
+    ∙ sym (ap (λ (l : Lines). l.width * l.pixel_bytes) h.lines_are) in
+    subst (λ n. lines.width * lines.stored ≤ n) (sym row) (mul-le-mul_left lines.width (in-place lines p).0)
+
+within-size : (stride row height room : ℕ) → stride ≡ row → size_of_lines stride row height ≤ room
+    → height * row ≤ room
+within-size stride row zero room e le = omega arith
+within-size stride row (suc height) room e le =
+    let some : (suc height == 0) ≡ false = ne_eqb (suc height) 0 (λ z. omega (arith, z)) in
+    let le' : stride * (suc height - 1) + row ≤ room = rw some at le in
+    let at : suc height - 1 ≡ height = omega arith in
+    let all : stride * (suc height - 1) + row ≡ suc height * row = (λ i. e i * at i + row) ∙ omega arith in
+    omega (arith, le', all)
+
+-- the memory has room for all lines
+pub room-of : (lines : Lines) (room : ℕ) → are_in_place lines ≡ true
+    → size_of_lines lines.stride lines.row_bytes lines.height ≤ room → lines.height * lines.row_bytes ≤ room
+room-of lines room p le = within-size lines.stride lines.row_bytes lines.height room (in-place lines p).1 le
+
+-- the lines of a picture that was decoded where they are
+pub widened-of : (o : Options) (info : ImageInfo) (precision n : ℕ) (lines : Lines) (before decoded after : List ℕ)
+    → HasLines o info precision lines → are_in_place lines ≡ true
+    → length decoded ≡ length before → drop n decoded ≡ drop n before
+    → length (take n decoded) ≡ lines.height * (lines.width * lines.stored)
+    → after ≡ laid_out (layout_line lines.conversion lines.stored lines.width) (lines.width * lines.stored)
+    lines.stride lines.height (take (lines.height * (lines.width * lines.stored)) decoded) decoded
+    → after ≡ laid_out (layout_line lines.conversion lines.stored lines.width) (lines.width * lines.stored)
+    lines.stride lines.height (take n decoded) before
+widened-of o info precision n lines before decoded after h p same rest count is =
+    let close : lines.stride ≡ lines.row_bytes = (in-place lines p).1 in
+    let row = row-of o info precision lines h in
+    laid-within (layout_line lines.conversion lines.stored lines.width) (lines.width * lines.stored) lines.stride
+    lines.height n before decoded after
+    (λ s whole. line-length lines.conversion lines.stored lines.width s (fits-of o info precision lines h) whole
+    ∙ sym (close ∙ row))
+    (subst (λ k. lines.width * lines.stored ≤ k) (sym close) (wide-of o info precision lines h p)) same rest count is
+
+-- ---- a picture that was decoded
 
 pub samples-count : (o : Options) (info : ImageInfo) (precision : ℕ) (lines : Lines) (old new : Option Frame)
     (samples : List ℕ) → HasLines o info precision lines → new ≡ old → option_map info_of old ≡ Some info
@@ -56,7 +108,7 @@ pub decodes-of : (lines : Lines) (old new : Decoding) (samples before after : Li
     → (IsReading old.stage → Answers {X = Unit {0}} (λ u. (told_of new.found.said, samples))
     (ahead old.stage old.settings old.found) old.source (Ok tt) new.source)
     → DecodesImages {X = Unit {0}} (λ u. samples) old (Ok tt) new
-    → after ≡ laid_out (layout_line lines.conversion lines.width) (lines.width * lines.stored)
+    → after ≡ laid_out (layout_line lines.conversion lines.stored lines.width) (lines.width * lines.stored)
     lines.stride lines.height samples before
     → Decodes lines old new before after
 decodes-of lines old new samples before after s frame reads images pixels = record {

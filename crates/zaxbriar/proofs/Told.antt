@@ -1,5 +1,5 @@
 -- What a caller is given of a picture that was decoded.
-use Rattle.std.proofs.Common.{arith, rules, ◌≡◌, ◌∙◌, ℕ, ◌*◌, ◌<◌, List, Result, Ok, Some, sym, ap}
+use Rattle.std.proofs.Common.{arith, ◌≡◌, ◌∙◌, ℕ, ◌*◌, ◌<◌, List, Result, Ok, Err, Some, sym, ap}
 use Rattle.std.specs.Prelude.{IfErr, IfOk, OnOk, replicate}
 use Rattle.std.proofs.Math.Nat.{mul_comm, mul_assoc}
 use Rattle.jpeg_bits.specs.Reading.{Fault}
@@ -23,7 +23,7 @@ count-of o info precision count lines h e = grind (arith, mul_comm, mul_assoc)
 pub arranged-of : (o : Options) (info : ImageInfo) (precision : ℕ) (samples old new : List ℕ) (picture : Picture)
     (lines : Lines) (decoding orientation : ℕ)
     → HasLines o info precision lines
-    → new ≡ laid_out (layout_line lines.conversion lines.width) (lines.width * lines.stored)
+    → new ≡ laid_out (layout_line lines.conversion lines.stored lines.width) (lines.width * lines.stored)
     lines.stride lines.height
     samples old
     → picture ≡ described_picture o.layout info precision lines decoding orientation 0
@@ -31,7 +31,8 @@ pub arranged-of : (o : Options) (info : ImageInfo) (precision : ℕ) (samples ol
 arranged-of o info precision samples old new picture lines decoding orientation h e p = record {
   conversion = h.conversion;
   is = h.is;
-  pixels = grind arith;
+  pixels = e ∙ (λ i. laid_out (layout_line (h.lines_are i).conversion (h.lines_are i).stored (h.lines_are i).width)
+      ((h.lines_are i).width * (h.lines_are i).stored) (h.lines_are i).stride (h.lines_are i).height samples old);
   decoding = decoding;
   orientation = orientation;
   picture_is = p ∙ (λ i. described_picture o.layout info precision (h.lines_are i) decoding
@@ -57,14 +58,32 @@ pub shown : {X : Type 0} (outcome : Result X Refusal) (o : Options) (bytes old n
     → result ≡ status_of outcome → IfOk outcome (λ _. text ≡ replicate 112 0)
     → OnOk outcome (Shows o bytes old new picture) → result ≡ 0
     → Shows o bytes old new (record picture { stream_bytes = stream; text = text })
-shown x o bytes old new picture stream text result code ok s z = search (rules, retold, code-fails)
+shown (Ok x) o bytes old new picture stream text result code none s z = record {
+  told = s.told;
+  samples = s.samples;
+  rest = s.rest;
+  info = s.info;
+  precision = s.precision;
+  means = s.means;
+  info_is = s.info_is;
+  precision_is = s.precision_is;
+  arranged = retold o s.info s.precision s.samples old new picture stream text none s.arranged;
+}
+shown (Err r) o bytes old new picture stream text result code none s z = absurd (code-fails r (sym code ∙ z))
 
 pub shown-samples : {X : Type 0} (outcome : Result X Refusal) (o : Options) (image : Result (List ℕ) Fault)
     (old new : List ℕ) (picture : Picture) (stream : ℕ) (text : List ℕ) (result : ℕ)
     → result ≡ status_of outcome → IfOk outcome (λ _. text ≡ replicate 112 0)
     → OnOk outcome (ShowsSamples o image old new picture) → result ≡ 0
     → ShowsSamples o image old new (record picture { stream_bytes = stream; text = text })
-shown-samples x o image old new picture stream text result code ok s z = search (rules, retold, code-fails)
+shown-samples (Ok x) o image old new picture stream text result code none s z = record {
+  samples = s.samples;
+  info = s.info;
+  precision = s.precision;
+  are = s.are;
+  arranged = retold o s.info s.precision s.samples old new picture stream text none s.arranged;
+}
+shown-samples (Err r) o image old new picture stream text result code none s z = absurd (code-fails r (sym code ∙ z))
 
 -- ---- what the exported calls say of a picture
 

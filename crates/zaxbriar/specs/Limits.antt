@@ -1,9 +1,7 @@
 -- The limits of some options, and the memory that they are compared with.
-use Rattle.std.specs.Prelude.{◌==◌, ◌&&◌, ◌||◌, ◌+◌, ◌*◌, ℕ, Bool, true, false, not, nat_le, nat_lt}
+use Rattle.std.specs.Prelude.{◌==◌, ◌&&◌, ◌||◌, ◌+◌, ◌*◌, ℕ, Bool, not, nat_le, nat_lt}
 use Rattle.std.specs.Prelude.{if◌then◌else◌, slice_index}
 use Rattle.jpeg_decoder.specs.declared.memory.DecodingBytes.{DecodingBytes}
-use Rattle.zaxbriar.specs.declared.layouts.Conversion.{Conversion}
-use Rattle.zaxbriar.specs.declared.layouts.Conversion.TheVariants.{Stored}
 use Rattle.zaxbriar.specs.declared.lines.Lines.{Lines}
 use Rattle.zaxbriar.specs.declared.options.Options.{Options}
 use Rattle.zaxbriar.specs.declared.picture.Picture.{Picture}
@@ -18,18 +16,15 @@ are_known o = not (o.transform == 1) && (nat_le o.transform 5 && (is_denominator
     && (o.reserved == 0
     && (slice_index o.reserved_words 0 == 0 && slice_index o.reserved_words 1 == 0))))
 
-abbrev pub is_stored : Conversion → Bool
-is_stored Stored = true
-is_stored _ = false
+-- whether a picture is decoded where its lines are: without gaps, and in a layout whose pixels take
+-- at least the bytes in which they are stored
+abbrev pub are_in_place : Lines → Bool
+are_in_place lines = nat_le lines.stored lines.pixel_bytes && lines.stride == lines.row_bytes
 
--- whether lines are those that a decoder gives: each pixel as it is stored, without gaps
-abbrev pub are_as_decoded : Lines → Bool
-are_as_decoded lines = is_stored lines.conversion && lines.stride == lines.row_bytes
-
--- The most memory for samples that decoding takes at a time beside the caller's: such lines are
--- decoded in place, and others are made of a picture beside them.
+-- The most memory for samples that decoding takes at a time beside the caller's: lines that aren't
+-- decoded in place are made of a picture beside them.
 abbrev pub bytes_beside : Lines → DecodingBytes → ℕ
-bytes_beside lines d = if are_as_decoded lines then d.coefficients + d.planes else d.peak
+bytes_beside lines d = if are_in_place lines then d.coefficients + d.planes else d.peak
 
 -- whether a count is above a limit, where 0 is none
 abbrev pub is_over : ℕ → ℕ → Bool

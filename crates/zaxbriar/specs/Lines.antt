@@ -95,7 +95,7 @@ pub record Arranged (o : Options) (info : ImageInfo) (precision : ℕ) (samples 
     (picture : Picture) : Type 0 where
   pub conversion : Conversion
   pub is : conversion_to o.layout info.pixel_format precision ≡ Some conversion
-  pub pixels : new ≡ laid_out (layout_line conversion info.width)
+  pub pixels : new ≡ laid_out (layout_line conversion (stored_bytes info precision) info.width)
       (info.width * stored_bytes info precision)
       (stride_of o.stride (row_bytes info precision conversion)) info.height samples old
   pub decoding : ℕ
@@ -111,6 +111,5 @@ pub record Decodes (lines : Lines) (old new : Decoding) (before after : List ℕ
   pub reads : Answers {X = Unit {0}} (λ u. (told_of new.found.said, samples))
       (rest_at old.settings old.found) old.source (Ok tt) new.source
   pub images : DecodesImages {X = Unit {0}} (λ u. samples) old (Ok tt) new
-  pub pixels : after ≡ laid_out (layout_line lines.conversion lines.width) (lines.width *
-      lines.stored)
-      lines.stride lines.height samples before
+  pub pixels : after ≡ laid_out (layout_line lines.conversion lines.stored lines.width)
+      (lines.width * lines.stored) lines.stride lines.height samples before

@@ -23,7 +23,8 @@ ghost use Rattle.zaxbriar.specs.declared.answers.Refusal.TheVariants.{NoRoom, To
 use crate::answers::{Refusal, refusal_of};
 use crate::description::describe;
 use crate::header::Header;
-use crate::lines::{Lines, is_as_decoded, put_lines};
+use crate::in_place::{row_for, widen_rows};
+use crate::lines::{Lines, is_in_place, put_lines};
 use crate::options::{Options, are_known};
 use crate::picture::Picture;
 use jpeg_decoder::Decoder;
@@ -32,6 +33,7 @@ use std::io::Read;
 
 /// Decodes the picture whose header was read into its lines in the caller's memory.
 fn decode_lines<R: Read + Drop>(
+    alloc: Global,
     decoder: &mut Decoder<R>,
     header: Header,
     lines: Lines,
@@ -52,10 +54,14 @@ fn decode_lines<R: Read + Drop>(
     ensures kept { OnErr result (pixels.new ≡ pixels.old) }
     ensures own { IfErr result IsOfDecoder }
 {
-    // Lines without gaps, in the layout that a decoder gives, need no second picture.
-    if is_as_decoded(lines) && header.decoding_bytes.picture <= pixels.len() as u64 {
+    if is_in_place(lines) && header.decoding_bytes.picture <= pixels.len() as u64 {
+        // After a refusal the caller's memory is as it was, so all memory is taken before.
+        let mut row = row_for(alloc, lines)?;
         return match decoder.decode_into(pixels) {
-            Ok(_) => Ok(()),
+            Ok(_) => {
+                widen_rows(&mut row, lines, pixels);
+                Ok(())
+            }
             Err(error) => Err(refusal_of(decoder, error)),
         };
     }
@@ -107,6 +113,6 @@ pub fn decode_into<R: Read + Drop>(
     if picture.size > pixels.len() as u64 {
         return Err(Refusal::NoRoom);
     }
-    decode_lines(&mut decoder, header, lines, pixels)?;
+    decode_lines(alloc, &mut decoder, header, lines, pixels)?;
     Ok(())
 }

@@ -3,8 +3,10 @@ ghost use Rattle.std.specs.Prelude.{◌≡◌, ◌*◌, length, IfSome};
 ghost use Rattle.jpeg_decoder.specs.Bytes.{bytes_a_sample, samples_a_pixel};
 ghost use Rattle.jpeg_streams.specs.declared.images.PixelFormat.TheVariants.{L8, RGB24};
 ghost use Rattle.zaxbriar.specs.Layouts.{TakesStored, conversion_to, conversion_of_bytes};
-ghost use Rattle.zaxbriar.specs.Layouts.{converted_bytes, layout_line, pixels_of};
-ghost use Rattle.zaxbriar.specs.Layouts.{grey_as_rgb, grey_as_rgba, rgb_as_rgba, rgb_as_bgra};
+ghost use Rattle.zaxbriar.specs.Layouts.{converted_bytes, is_stored, layout_line, luma};
+ghost use Rattle.zaxbriar.specs.Layouts.{grey_as_rgb, grey_as_rgba, grey_as_xrgb, pixels_of};
+ghost use Rattle.zaxbriar.specs.Layouts.{rgb_as_bgr, rgb_as_bgra, rgb_as_grey, rgb_as_rgba};
+ghost use Rattle.zaxbriar.specs.Layouts.{rgb_as_xrgb};
 
 use jpeg_decoder::PixelFormat;
 
@@ -17,10 +19,18 @@ pub enum Conversion {
     GreyToRgb,
     /// The same, and 255.
     GreyToRgba,
+    /// 255, and then the same.
+    GreyToXrgb,
+    /// The luma of red, green and blue.
+    RgbToGrey,
+    /// Blue, green and red.
+    RgbToBgr,
     /// Red, green and blue, and 255.
     RgbToRgba,
     /// Blue, green and red, and 255.
     RgbToBgra,
+    /// 255, and then red, green and blue.
+    RgbToXrgb,
 }
 
 /// Returns the conversion of grey samples of 8 bits to a layout.
@@ -29,8 +39,9 @@ fn grey_conversion(layout: u8) -> Option<Conversion>
 {
     match layout {
         1 => Some(Conversion::Stored),
-        2 => Some(Conversion::GreyToRgb),
+        2 | 5 => Some(Conversion::GreyToRgb),
         3 | 4 => Some(Conversion::GreyToRgba),
+        6 => Some(Conversion::GreyToXrgb),
         _ => None,
     }
 }
@@ -40,9 +51,12 @@ fn rgb_conversion(layout: u8) -> Option<Conversion>
     ensures { result ≡ conversion_of_bytes layout RGB24 }
 {
     match layout {
+        1 => Some(Conversion::RgbToGrey),
         2 => Some(Conversion::Stored),
         3 => Some(Conversion::RgbToRgba),
         4 => Some(Conversion::RgbToBgra),
+        5 => Some(Conversion::RgbToBgr),
+        6 => Some(Conversion::RgbToXrgb),
         _ => None,
     }
 }
@@ -79,8 +93,20 @@ pub fn converted_bytes(conversion: Conversion, stored: u8) -> u8
 {
     match conversion {
         Conversion::Stored => stored,
-        Conversion::GreyToRgb => 3,
-        Conversion::GreyToRgba | Conversion::RgbToRgba | Conversion::RgbToBgra => 4,
+        Conversion::RgbToGrey => 1,
+        Conversion::GreyToRgb | Conversion::RgbToBgr => 3,
+        Conversion::GreyToRgba | Conversion::GreyToXrgb => 4,
+        Conversion::RgbToRgba | Conversion::RgbToBgra | Conversion::RgbToXrgb => 4,
+    }
+}
+
+/// Returns whether pixels stay as they are stored.
+pub fn is_stored(conversion: Conversion) -> bool
+    ensures { result ≡ is_stored conversion }
+{
+    match conversion {
+        Conversion::Stored => true,
+        _ => false,
     }
 }
 
@@ -105,6 +131,51 @@ fn put_grey_as_rgba(row: &[u8], line: &mut [u8])
         let grey = row[x];
         let start = x * 4;
         line[start..start + 4].copy_from_slice(&[grey, grey, grey, 255]);
+    }
+}
+
+/// Writes 255, and each grey sample as red, green and blue.
+fn put_grey_as_xrgb(row: &[u8], line: &mut [u8])
+    requires room { length line.old ≡ length row.now * 4 }
+    ensures { line.new ≡ pixels_of grey_as_xrgb 1 (length row.now) row.now }
+{
+    for x in 0..row.len() {
+        let grey = row[x];
+        let start = x * 4;
+        line[start..start + 4].copy_from_slice(&[255, grey, grey, grey]);
+    }
+}
+
+/// Returns the luma of a colour, by the weights of ITU-R BT.601.
+fn luma(red: u8, green: u8, blue: u8) -> u8
+    ensures { result ≡ luma red green blue }
+{
+    let sum = 19595 * u32::from(red) + 38470 * u32::from(green) + 7471 * u32::from(blue);
+    ((sum + 32768) / 65536) as u8
+}
+
+/// Writes the luma of each pixel of red, green and blue.
+fn put_rgb_as_grey(row: &[u8], width: usize, line: &mut [u8])
+    requires whole { length row.now ≡ width * 3 }
+    requires room { length line.old ≡ width * 1 }
+    ensures { line.new ≡ pixels_of rgb_as_grey 3 width row.now }
+{
+    for x in 0..width {
+        let from = x * 3;
+        line[x] = luma(row[from], row[from + 1], row[from + 2]);
+    }
+}
+
+/// Writes each pixel of red, green and blue as blue, green and red.
+fn put_rgb_as_bgr(row: &[u8], width: usize, line: &mut [u8])
+    requires whole { length row.now ≡ width * 3 }
+    requires room { length line.old ≡ width * 3 }
+    ensures { line.new ≡ pixels_of rgb_as_bgr 3 width row.now }
+{
+    for x in 0..width {
+        let start = x * 3;
+        let pixel = [row[start + 2], row[start + 1], row[start]];
+        line[start..start + 3].copy_from_slice(&pixel);
     }
 }
 
@@ -136,18 +207,36 @@ fn put_rgb_as_bgra(row: &[u8], width: usize, line: &mut [u8])
     }
 }
 
+/// Writes 255, and each pixel of red, green and blue.
+fn put_rgb_as_xrgb(row: &[u8], width: usize, line: &mut [u8])
+    requires whole { length row.now ≡ width * 3 }
+    requires room { length line.old ≡ width * 4 }
+    ensures { line.new ≡ pixels_of rgb_as_xrgb 3 width row.now }
+{
+    for x in 0..width {
+        let from = x * 3;
+        let start = x * 4;
+        let pixel = [255, row[from], row[from + 1], row[from + 2]];
+        line[start..start + 4].copy_from_slice(&pixel);
+    }
+}
+
 /// Writes a row of samples as a line of a layout. Each pixel has `stored` bytes in the row.
 pub fn put_row(row: &[u8], conversion: Conversion, stored: usize, width: usize, line: &mut [u8])
     requires fits { TakesStored conversion stored }
     requires whole { length row.now ≡ width * stored }
     requires room { length line.old ≡ width * converted_bytes conversion stored }
-    ensures { line.new ≡ layout_line conversion width row.now }
+    ensures { line.new ≡ layout_line conversion stored width row.now }
 {
     match conversion {
         Conversion::Stored => line.copy_from_slice(row),
         Conversion::GreyToRgb => put_grey_as_rgb(row, line),
         Conversion::GreyToRgba => put_grey_as_rgba(row, line),
+        Conversion::GreyToXrgb => put_grey_as_xrgb(row, line),
+        Conversion::RgbToGrey => put_rgb_as_grey(row, width, line),
+        Conversion::RgbToBgr => put_rgb_as_bgr(row, width, line),
         Conversion::RgbToRgba => put_rgb_as_rgba(row, width, line),
         Conversion::RgbToBgra => put_rgb_as_bgra(row, width, line),
+        Conversion::RgbToXrgb => put_rgb_as_xrgb(row, width, line),
     }
 }

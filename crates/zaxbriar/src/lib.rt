@@ -26,6 +26,7 @@ mod answers;
 mod decode;
 mod description;
 mod header;
+mod in_place;
 mod layouts;
 mod limits;
 mod lines;

@@ -3,7 +3,7 @@ ghost use Rattle.std.specs.Prelude.{◌≡◌, ◌+◌, ◌≤◌, ◌*◌, ◌|
 ghost use Rattle.jpeg_decoder.specs.Bytes.{samples_a_pixel};
 ghost use Rattle.zaxbriar.specs.Limits.{bytes_beside, is_over};
 
-use crate::lines::{Lines, is_as_decoded, samples_a_pixel};
+use crate::lines::{Lines, is_in_place, samples_a_pixel};
 use crate::options::Options;
 use jpeg_decoder::{DecodingBytes, ImageInfo};
 
@@ -13,7 +13,7 @@ pub fn bytes_beside(lines: Lines, decoding: DecodingBytes) -> u64
     requires { decoding.coefficients + decoding.planes ≤ decoding.peak }
     ensures { result ≡ bytes_beside lines decoding }
 {
-    if is_as_decoded(lines) {
+    if is_in_place(lines) {
         decoding.coefficients + decoding.planes
     } else {
         decoding.peak

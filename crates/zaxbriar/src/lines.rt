@@ -4,7 +4,7 @@ ghost use Rattle.jpeg_decoder.specs.Bytes.{bytes_a_sample, samples_a_pixel};
 ghost use Rattle.zaxbriar.specs.Faults.{IsArgument};
 ghost use Rattle.zaxbriar.specs.Layouts.{TakesStored, converted_bytes, laid_out, layout_line};
 ghost use Rattle.zaxbriar.specs.Layouts.{size_of_lines};
-ghost use Rattle.zaxbriar.specs.Limits.{are_as_decoded};
+ghost use Rattle.zaxbriar.specs.Limits.{are_in_place};
 ghost use Rattle.zaxbriar.specs.Lines.{FitLines, HasLines};
 
 use crate::answers::Refusal;
@@ -84,14 +84,12 @@ pub fn lines_of(
     })
 }
 
-/// Returns whether the lines are those that a decoder gives, without gaps.
-pub fn is_as_decoded(lines: Lines) -> bool
-    ensures { result ≡ are_as_decoded lines }
+/// Returns whether a picture is decoded where its lines are: without gaps, and in a layout whose
+/// pixels take at least the bytes in which they are stored.
+pub fn is_in_place(lines: Lines) -> bool
+    ensures { result ≡ are_in_place lines }
 {
-    match lines.conversion {
-        Conversion::Stored => lines.stride == lines.row_bytes,
-        _ => false,
-    }
+    lines.stored <= lines.pixel_bytes && lines.stride == lines.row_bytes
 }
 
 /// Returns the bytes from the first of a picture to its last.
@@ -116,7 +114,7 @@ pub fn put_lines(samples: &[u8], lines: Lines, pixels: &mut [u8])
         ≡ lines.width * converted_bytes lines.conversion lines.stored }
     requires wide { lines.row_bytes ≤ lines.stride }
     requires fits { TakesStored lines.conversion lines.stored }
-    ensures { pixels.new ≡ laid_out (layout_line lines.conversion lines.width)
+    ensures { pixels.new ≡ laid_out (layout_line lines.conversion lines.stored lines.width)
         (lines.width * lines.stored) lines.stride lines.height samples.now pixels.old }
 {
     let from_bytes = usize::from(lines.width) * usize::from(lines.stored);

@@ -1,43 +1,6 @@
 use Rattle.std.proofs.Common.{ℕ, ◌∙◌, arith, length, sym, take}
-use Rattle.jpeg_streams.specs.Stream.{told_of}
-use Rattle.zaxbriar.proofs.Decoded.{as-decoded, decodes-of, has-room, named-rest, row-of, samples-count}
-use Rattle.zaxbriar.proofs.Laid.{laid-at_once}
+use Rattle.zaxbriar.proofs.Decoded.{decodes-of, samples-count}
 use Rattle.zaxbriar.proofs.decode.decode_lines.Goals as goal
-use Rattle.zaxbriar.proofs.decode.decode_lines.Goals.{in-Ok, in-Err}
-
-pub returns-then-header-pixels-clause-decodes : goal.returns-then-header-pixels-clause-decodes
-returns-then-header-pixels-clause-decodes g c =
-    let lines = c.args.lines in
-    let frame = c.decode_into.ensures.stays c.requires.read in
-    let room = has-room c.args.decoder.now.found.said.frame c.decode_into.new.self.found.said.frame c.args.header.decoding_bytes
-    (length c.args.pixels.now) frame c.requires.bytes (omega (arith, c.if-header-pixels.true)) in
-    let plain = as-decoded lines (sym c.is_as_decoded.ensures ∙ c.if-is_as_decoded.true) in
-    elim c.match-decode_into.branch [
-      | in-Ok w ↦ rw w.result-is (decodes-of lines c.args.decoder.now c.decode_into.new.self _ c.args.pixels.now
-          c.decode_into.new.pixels c.requires.read frame (w.in-Ok.ensures.decodes room).reads (w.in-Ok.ensures.decodes room).images
-          (laid-at_once lines.conversion lines.width lines.stored lines.row_bytes lines.stride lines.height _
-          c.args.pixels.now c.decode_into.new.pixels plain.0
-          (row-of c.requires.lines.0 c.args.header.info c.args.header.precision lines c.requires.lines.1) plain.1
-          c.decode_into.auto.pixels w.in-Ok.ensures.rest
-          (samples-count c.requires.lines.0 c.args.header.info c.args.header.precision lines
-          c.args.decoder.now.found.said.frame c.decode_into.new.self.found.said.frame _ c.requires.lines.1 frame c.requires.info
-          c.requires.precision w.in-Ok.ensures.size w.in-Ok.ensures.counted)))
-      | in-Err w ↦ rw w.result-is tt
-    ]
-
-pub returns-then-header-pixels-clause-named : goal.returns-then-header-pixels-clause-named
-returns-then-header-pixels-clause-named g c =
-    let frame = c.decode_into.ensures.stays c.requires.read in
-    let room = has-room c.args.decoder.now.found.said.frame c.decode_into.new.self.found.said.frame c.args.header.decoding_bytes
-    (length c.args.pixels.now) frame c.requires.bytes (omega (arith, c.if-header-pixels.true)) in
-    elim c.match-decode_into.branch [
-      | in-Ok w ↦ rw w.result-is (λ known. tt)
-      | in-Err w ↦ rw w.result-is (λ known. named-rest (λ (n : ℕ). (
-        told_of c.decode_into.new.self.found.said,
-        take n c.decode_into.new.pixels,
-      )) c.args.decoder.now c.decode_into.new.self _ _ c.requires.read
-          w.refusal_of.ensures (w.in-Err.ensures.decodes room).reads known)
-    ]
 
 pub put_lines-requires-clause-samples : goal.put_lines-requires-clause-samples
 put_lines-requires-clause-samples g c =

@@ -1,0 +1,145 @@
+/* layouts: lossless pictures of known samples in each layout, whose widths, heights and strides
+ * are all small ones, in memory of exactly the picture's size and of one byte more. */
+#include "common.h"
+
+enum { MOST_WIDTH = 17, MOST_HEIGHT = 5, MOST_SAMPLES = MOST_WIDTH * MOST_HEIGHT * 3 };
+
+static unsigned char samples[MOST_SAMPLES];
+static unsigned width, height, components;
+static long pictures;
+
+/* ---- a stream of the samples */
+
+static unsigned char stream[128 + 4 * MOST_SAMPLES];
+static size_t stream_bytes;
+static unsigned bits, bit_count;
+
+static void put(const void *bytes, size_t count) {
+    memcpy(stream + stream_bytes, bytes, count);
+    stream_bytes += count;
+}
+
+static void put_bits(unsigned value, unsigned count) {
+    bits = bits << count | value;
+    for (bit_count += count; bit_count >= 8; bit_count -= 8) {
+        unsigned char byte = (unsigned char)(bits >> (bit_count - 8));
+        put(&byte, 1);
+        if (byte == 0xff) put("", 1);
+    }
+}
+
+/* The sample to the left, or above where there is none, or half of the range. */
+static int predicted(unsigned x, unsigned y, unsigned component) {
+    size_t at = ((size_t)y * width + x) * components + component;
+    return x ? samples[at - components] : y ? samples[at - width * components] : 128;
+}
+
+static void put_difference(int difference) {
+    unsigned size = 0, value = (unsigned)(difference < 0 ? -difference : difference);
+    while (value >> size) size++;
+    put_bits(size, 4); /* the code of each size */
+    if (size) put_bits(difference < 0 ? (1u << size) - 1 - value : value, size);
+}
+
+static void write_stream(void) {
+    unsigned char part[] = {0, 0x11, 0};
+    unsigned char frame[] = {0xff, 0xd8, 0xff, 0xc3, 0, (unsigned char)(8 + 3 * components), 8,
+                             0, (unsigned char)height, 0, (unsigned char)width,
+                             (unsigned char)components};
+    unsigned char scan[] = {0xff, 0xda, 0, (unsigned char)(6 + 2 * components),
+                            (unsigned char)components};
+    stream_bytes = bits = bit_count = 0;
+    put(frame, sizeof frame);
+    for (part[0] = 1; part[0] <= components; part[0]++) put(part, 3);
+    put("\xff\xc4\0\x1c\0\0\0\0\x09\0\0\0\0\0\0\0\0\0\0\0\0\0\1\2\3\4\5\6\7\x8", 30);
+    put(scan, sizeof scan);
+    for (part[0] = 1; part[0] <= components; part[0]++) put((unsigned char[]){part[0], 0}, 2);
+    put("\1\0", 3);
+    for (unsigned y = 0; y < height; y++)
+        for (unsigned x = 0; x < width; x++)
+            for (unsigned i = 0; i < components; i++)
+                put_difference(samples[((size_t)y * width + x) * components + i] -
+                               predicted(x, y, i));
+    put_bits(0x7f, 7);
+    put("\xff\xd9", 2);
+}
+
+/* ---- the layouts */
+
+/* The bytes of a pixel, of which `size` are written. */
+static unsigned convert(int layout, const unsigned char *stored, unsigned char pixel[4]) {
+    unsigned char red = stored[0], green = stored[components == 3], blue = green;
+    if (components == 3) blue = stored[2];
+    switch (layout) {
+    case ZAXBRIAR_AS_STORED: return memcpy(pixel, stored, components), components;
+    case ZAXBRIAR_GREY:
+        pixel[0] = components == 1
+                       ? red
+                       : (unsigned char)((19595 * red + 38470 * green + 7471 * blue + 32768) >> 16);
+        return 1;
+    case ZAXBRIAR_RGB: return memcpy(pixel, (unsigned char[]){red, green, blue}, 3), 3;
+    case ZAXBRIAR_BGR: return memcpy(pixel, (unsigned char[]){blue, green, red}, 3), 3;
+    case ZAXBRIAR_RGBA: return memcpy(pixel, (unsigned char[]){red, green, blue, 255}, 4), 4;
+    case ZAXBRIAR_BGRA: return memcpy(pixel, (unsigned char[]){blue, green, red, 255}, 4), 4;
+    default: return memcpy(pixel, (unsigned char[]){255, red, green, blue}, 4), 4;
+    }
+}
+
+/* The planes take two bytes a sample; and a picture is beside them unless it is decoded in place.
+ */
+static uint64_t bytes_beside(unsigned pixel_bytes, unsigned gap) {
+    uint64_t count = (uint64_t)width * height * components;
+    return gap || pixel_bytes < components ? 3 * count : 2 * count;
+}
+
+static void in_layout(int layout, unsigned gap, unsigned more) {
+    unsigned char pixel[4];
+    unsigned pixel_bytes = convert(layout, samples, pixel), row_bytes = width * pixel_bytes;
+    unsigned stride = row_bytes + gap;
+    zaxbriar_options options = {.layout = (uint8_t)layout, .stride = gap ? stride : 0};
+    zaxbriar_picture picture;
+    size_t size = (size_t)stride * (height - 1) + row_bytes;
+    unsigned char *wanted = block(size + more), *pixels = block(size + more);
+    for (size_t i = 0; i < size + more; i++) wanted[i] = pixels[i] = (unsigned char)(i * 7 + 3);
+    for (unsigned y = 0; y < height; y++)
+        for (unsigned x = 0; x < width; x++) {
+            convert(layout, samples + ((size_t)y * width + x) * components, pixel);
+            memcpy(wanted + (size_t)y * stride + x * pixel_bytes, pixel, pixel_bytes);
+        }
+    CHECK(zaxbriar_decode(stream, stream_bytes, &options, pixels, size + more, &picture) ==
+          ZAXBRIAR_OK);
+    CHECK(!memcmp(pixels, wanted, size + more));
+    CHECK(picture.size == size && picture.row_bytes == row_bytes && picture.layout == layout);
+    CHECK(picture.pixel_bytes == pixel_bytes);
+    CHECK(picture.decoding_bytes == bytes_beside(pixel_bytes, gap));
+    if (!gap) { /* a stream that ends too soon leaves all as it was */
+        for (size_t i = 0; i < size + more; i++) wanted[i] = pixels[i] = (unsigned char)(i * 5 + 1);
+        CHECK(zaxbriar_decode(stream, stream_bytes - 2, &options, pixels, size + more, &picture) ==
+              ZAXBRIAR_TRUNCATED);
+        CHECK(!memcmp(pixels, wanted, size + more));
+    }
+    free(wanted);
+    free(pixels);
+    pictures++;
+}
+
+int main(void) {
+    static const unsigned gaps[] = {0, 1, 64};
+    uint32_t chance = 1;
+    subject = "a lossless picture";
+    for (components = 1; components <= 3; components += 2)
+        for (width = 1; width <= MOST_WIDTH; width++)
+            for (height = 1; height <= MOST_HEIGHT; height++) {
+                for (size_t i = 0; i < (size_t)width * height * components; i++) {
+                    chance = chance * 1664525 + 1013904223;
+                    samples[i] = (unsigned char)(chance >> 24);
+                }
+                write_stream();
+                for (int layout = ZAXBRIAR_AS_STORED; layout <= ZAXBRIAR_XRGB; layout++)
+                    for (int i = 0; i < 3; i++)
+                        for (unsigned more = 0; more < 2; more++)
+                            in_layout(layout, gaps[i], more);
+            }
+    printf("layouts: %ld pictures; %d faults\n", pictures, faults);
+    return faults != 0;
+}
