@@ -14,7 +14,7 @@ use Rattle.jpeg_segments.proofs.ScaleLemmas.{full_size}
 use Rattle.jpeg_streams.proofs.AcceptedSamples.{accepted-picture, accepted-samples}
 use Rattle.jpeg_streams.proofs.Apart.{spots-apart, spots-inside, zeros-sized}
 use Rattle.jpeg_streams.proofs.CountedScans.{frame-scans, scans-in-turn}
-use Rattle.jpeg_streams.proofs.EncodedSamples.{samples-written}
+use Rattle.jpeg_streams.proofs.EncodedLossless.{lossless-script-written, samples-written}
 use Rattle.jpeg_streams.proofs.FrameShapes.{frames-fit, scaled-frames-fit, frames-have-sources}
 use Rattle.jpeg_streams.proofs.LosslessSizes.{lossless-accepted}
 use Rattle.jpeg_streams.proofs.McuRows.{scans-by-rows, plane-strips, codings-are-of}
@@ -85,7 +85,13 @@ pub ruleset streams = (
 -- the laws of lossless streams
 pub ruleset samples = (own-predicted, planes-same, pictures-agree, lossless-accepted)
 
-pub ruleset written_samples = (accepted-samples, samples-written, three-written, padding-written)
+pub ruleset written_samples = (
+  accepted-samples,
+  samples-written,
+  lossless-script-written,
+  three-written,
+  padding-written,
+)
 
 -- planes that are decided
 pub ruleset planes = (length-map, get_or-map, map-set, or-nothing, or-at, or-set, or-after)

@@ -21,6 +21,8 @@ ghost use Rattle.jpeg_streams.specs.Stream.{meaning, scaled_meaning, sized_meani
 ghost use Rattle.jpeg_streams.specs.Found.{Said};
 ghost use Rattle.jpeg_streams.specs.FrameSamples.{AgreeInside, AreSamplesOf, AreWrittenIn};
 ghost use Rattle.jpeg_streams.specs.FrameSamples.{DifferInPadding, ShowAlike};
+ghost use Rattle.jpeg_streams.specs.LosslessScripts.{AreWrittenUnder, IsLosslessScript};
+ghost use Rattle.jpeg_streams.specs.Scripts.{ScriptedScan};
 ghost use Rattle.jpeg_streams.specs.PlainSamples.{HasEqualFactors, plain_picture, plain_way};
 ghost use Rattle.jpeg_streams.specs.Worked.{picture_meant};
 ghost use Rattle.jpeg_streams.specs.WorkedSamples.{AreWritten, padded_bytes, padded_picture};
@@ -130,6 +132,16 @@ pub fn every_picture_of_samples_has_a_stream()
     ensures { (h : FrameHeader) (samples : Samples) →
         IsFrameHeader 3 h → HasSamples 3 h → AreSamplesOf (frame_written 3 h) samples →
         (bytes : List ℕ) × AreWrittenIn h samples bytes }
+{}
+
+/// Each script has a stream. Scans of one or several components, in the order of the script, by any
+/// selections and destinations of tables and under any restart intervals of whole rows of MCUs, are
+/// the scans of some stream for these samples, where each component is in one of them.
+pub fn every_lossless_script_has_a_stream()
+    ensures { (h : FrameHeader) (script : List ScriptedScan) (samples : Samples) →
+        IsFrameHeader 3 h → HasSamples 3 h → IsLosslessScript (frame_written 3 h) script →
+        AreSamplesOf (frame_written 3 h) samples →
+        (bytes : List ℕ) × AreWrittenUnder h script samples bytes }
 {}
 
 /// The relation holds of two streams that are worked by hand, each of three components in two scans

@@ -128,10 +128,10 @@ with-suffices p index c = record {
 }
 
 -- a component of a scan that the frame has, with destinations of tables
-record IsNamed (frame : Frame) (s : Selector) : Type 0 where
-  component : s.component < length frame.components
-  dc : s.dc ≤ 3
-  ac : s.ac ≤ 3
+pub record IsNamed (frame : Frame) (s : Selector) : Type 0 where
+  pub component : s.component < length frame.components
+  pub dc : s.dc ≤ 3
+  pub ac : s.ac ≤ 3
 
 -- the codings of some components of a scan, which stand in these slots
 record HasCoding (w : Said) (frame : Frame) (p : Pass) (levels : ℕ → Levels) (selectors : List Selector) : Type 0 where
@@ -176,7 +176,7 @@ few-destinations : (b : Bool) (d : ℕ) → d ≤ greatest_destination (Some b) 
 few-destinations true d h = omega arith
 few-destinations false d h = h
 
-choices-named : (frame : Frame) (least : ℕ) (choices : List (ℕ × Selector)) → AreChoices frame least choices
+pub choices-named : (frame : Frame) (least : ℕ) (choices : List (ℕ × Selector)) → AreChoices frame least choices
     → AllByRecursion (IsNamed frame) (map (λ c. c.1) choices)
 unfolding AreChoices
 choices-named frame least [] all = tt
@@ -226,7 +226,7 @@ have-codings w frame h codings e are = rw (plain-tables w frame h e) are
 -- ---- bytes
 
 -- the identifiers of components are bytes
-abbrev AreNamed : List Component → Type 0
+abbrev pub AreNamed : List Component → Type 0
 AreNamed components = AllByRecursion (λ c. c.factors.identifier < 256) components
 
 abbrev blank : Component
@@ -276,7 +276,7 @@ band-small DctProgressive count first last high low e =
 band-small Lossless count first last high low e =
     (grind (arith, nat_tests), grind (arith, nat_tests), grind (arith, nat_tests))
 
-header-bytes : (frame : Frame) (h : ScanHeader) → IsScan frame h → AreNamed frame.components
+pub header-bytes : (frame : Frame) (h : ScanHeader) → IsScan frame h → AreNamed frame.components
     → AreBytes (with_length (scan_payload h))
 unfolding scan_payload
 header-bytes frame h is named =
@@ -417,7 +417,7 @@ said_2 = said_after said_1 (Huffman eight_tables)
 abbrev said_3 : ℕ → FrameHeader → Said
 said_3 number h = said_after said_2 (Header number h)
 
-four-at : {A : Type 0} (x : A) (tables : List (Option A)) (d : ℕ) → tables ≡ Some x ∷ Some x ∷ Some x ∷ Some x ∷ []
+pub four-at : {A : Type 0} (x : A) (tables : List (Option A)) (d : ℕ) → tables ≡ Some x ∷ Some x ∷ Some x ∷ Some x ∷ []
     → d ≤ 3 → slice_index_or tables d None ≡ Some x
 four-at x tables zero e h = rw e refl
 four-at x tables (suc zero) e h = rw e refl
@@ -538,7 +538,7 @@ frame-bytes number h le is has fits =
         few-of n (inr (inl e)) = omega arith
         few-of n (inr (inr e)) = omega arith
 
-named-components : (h : FrameHeader) (cs : List Factors) → AllByRecursion (λ c. c.identifier < 256) cs
+pub named-components : (h : FrameHeader) (cs : List Factors) → AllByRecursion (λ c. c.identifier < 256) cs
     → AreNamed (map (component_in h) cs)
 unfolding component_of
 named-components h [] all = tt

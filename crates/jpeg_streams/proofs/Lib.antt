@@ -38,8 +38,10 @@ pub mod LosslessSizes
 pub mod AcceptedSamples
 pub mod EncodedSamples
 pub mod EncodedData
+pub mod InterleavedRows
 pub mod ScriptLevels
 pub mod EncodedScripts
+pub mod EncodedLossless
 pub mod PaddingUnseen
 pub mod SamplesAlike
 pub mod PlainScans

@@ -33,6 +33,7 @@ pub mod DecodedSamples
 -- what laws on written streams say beside that
 pub mod WrittenParts
 pub mod Scripts
+pub mod LosslessScripts
 -- what a decoder's state is sure to be
 pub mod Sound
 -- streams worked by hand
