@@ -1,9 +1,1 @@
-pub mod Boxes
 pub mod Endings
-pub mod Limits
-pub mod Netpbm
-pub mod Samples
-pub mod ScaledPictures
-pub mod Sizes
-pub mod Thumbnails
-pub mod Turns

@@ -1,11 +1,11 @@
 //! The program's arguments, by the crate `clap`.
 
 use crate::ending::{Failure, Outcome};
-use crate::limits::Limits;
 use clap::error::ErrorKind;
 use clap::{Arg, ArgMatches, Command};
 use std::alloc::{AllocError, Global};
 use std::{env, io};
+use zaxbriar_pictures::limits::Limits;
 
 /// The program's name.
 pub const NAME: &str = "zaxbriar";

@@ -2,7 +2,6 @@
 
 use crate::header::{Data, Density, Header, NamedColours, Unit};
 use crate::output::Output;
-use crate::refusal::Refusal;
 use jpeg_segments::parser::{
     AdobeColorTransform, CodingProcess, Component, EntropyCoding, FrameInfo,
 };
@@ -10,6 +9,7 @@ use json::Writer;
 use std::alloc::{AllocError, Global};
 use std::fmt::Write;
 use std::io;
+use zaxbriar_pictures::refusal::Refusal;
 
 /// Returns the name of a frame's process (T.81, 4.11 and Table B.1).
 fn process_name(frame: &FrameInfo) -> &'static str {

@@ -2,9 +2,7 @@
 
 use crate::arguments::NAME;
 use crate::ending::{Failure, Outcome};
-use crate::formats::FileFormat;
 use crate::output::Output;
-use crate::refusal::Refusal;
 use jpeg_decoder::ByteReader;
 use jpeg_decoder::error::Error;
 use std::fmt::Display;
@@ -12,6 +10,8 @@ use std::fs::File;
 use std::io;
 use std::io::{BufRead, BufReader, ErrorKind, Read};
 use std::rt::Stdin;
+use zaxbriar_pictures::formats::FileFormat;
+use zaxbriar_pictures::refusal::Refusal;
 
 /// The bytes of a file or of standard input.
 #[derive(Drop)]

@@ -1,14 +1,14 @@
 //! Frames of a stream, one after the other.
 
 use crate::avi::{Video, is_avi, skip_rest};
-use crate::limits::Limits;
-use crate::pictures::netpbm::Picture;
-use crate::pictures::scaled::{decode_picture, taken_by};
-use crate::refusal::Refusal;
 use jpeg_decoder::Decoder;
 use std::alloc::Global;
 use std::io::Read;
 use std::{fmt, io};
+use zaxbriar_pictures::limits::Limits;
+use zaxbriar_pictures::netpbm::Picture;
+use zaxbriar_pictures::refusal::Refusal;
+use zaxbriar_pictures::scaled::{decode_picture, taken_by};
 
 /// Why a frame isn't written.
 #[derive(Drop)]

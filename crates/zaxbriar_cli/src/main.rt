@@ -13,15 +13,11 @@ mod commands;
 mod description;
 mod ending;
 mod files;
-mod formats;
 mod frames;
 mod header;
-mod limits;
 mod metadata;
 mod names;
 mod output;
-mod pictures;
-mod refusal;
 
 use ending::exit_code;
 use std::process::ExitCode;

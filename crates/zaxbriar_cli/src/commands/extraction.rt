@@ -7,17 +7,17 @@
 
 use crate::commands::pictures::check_output;
 use crate::ending::{Failure, Outcome};
-use crate::limits::Limits;
 use crate::metadata::{KINDS, Kind, is_read, write_data};
 use crate::output::Output;
-use crate::pictures::scaled::taken_by;
-use crate::refusal::Refusal;
 use crate::{arguments, files, names};
 use clap::{Arg, ArgMatches, Command};
 use jpeg_decoder::error::Result;
 use jpeg_decoder::{Decoder, Scale};
 use std::alloc::{AllocError, Global};
 use std::io::Read;
+use zaxbriar_pictures::limits::Limits;
+use zaxbriar_pictures::refusal::Refusal;
+use zaxbriar_pictures::scaled::taken_by;
 
 /// Returns an option that names the file for data of a kind.
 fn data_option<'a>(

@@ -17,16 +17,16 @@
 use crate::ending::Outcome;
 use crate::files::InputReader;
 use crate::frames::{FrameRefusal, Frames};
-use crate::limits::Limits;
 use crate::names::Numbered;
 use crate::output::Output;
-use crate::pictures::netpbm::{Picture, write_picture};
-use crate::refusal::Refusal;
 use crate::{arguments, files};
 use clap::{Arg, ArgAction, ArgMatches, Command};
 use jpeg_decoder::ImageInfo;
 use std::alloc::{AllocError, Global};
 use std::io::Write;
+use zaxbriar_pictures::limits::Limits;
+use zaxbriar_pictures::netpbm::{Picture, write_picture};
+use zaxbriar_pictures::refusal::Refusal;
 
 pub const NAME: &str = "frames";
 

@@ -8,12 +8,12 @@ use crate::commands::extraction;
 use crate::description::{Form, Subject};
 use crate::ending::{Failure, Outcome};
 use crate::header::{Header, read_header};
-use crate::limits::Limits;
 use crate::output::Output;
-use crate::refusal::Refusal;
 use crate::{arguments, files};
 use clap::{Arg, ArgAction, ArgMatches, Command};
 use std::alloc::{AllocError, Global};
+use zaxbriar_pictures::limits::Limits;
+use zaxbriar_pictures::refusal::Refusal;
 
 pub const NAME: &str = "info";
 

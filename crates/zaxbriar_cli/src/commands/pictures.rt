@@ -1,16 +1,16 @@
 //! Writes the pictures of files that are named, for the words `pnm` and `thumbnail`.
 
 use crate::ending::{Failure, Outcome};
-use crate::limits::Limits;
 use crate::output::Output;
-use crate::pictures::scaled::{Request, write_at};
-use crate::pictures::thumbnails::write_thumbnail;
-use crate::refusal::Refusal;
 use crate::{arguments, files, names};
 use clap::{Arg, ArgMatches};
 use std::alloc::{AllocError, Global};
 use std::collections::BTreeSet;
 use std::io::{Read, Write};
+use zaxbriar_pictures::limits::Limits;
+use zaxbriar_pictures::refusal::Refusal;
+use zaxbriar_pictures::scaled::{Request, write_at};
+use zaxbriar_pictures::thumbnails::write_thumbnail;
 
 const OUTPUT: &str =
     "The file to write; - or none is standard output; of several files DIR/%s.ppm, where %s \

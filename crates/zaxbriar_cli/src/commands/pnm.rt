@@ -7,10 +7,10 @@
 use crate::arguments;
 use crate::commands::pictures;
 use crate::ending::Outcome;
-use crate::pictures::scaled::Request;
 use clap::{Arg, ArgMatches, Command};
 use jpeg_decoder::Scale;
 use std::alloc::{AllocError, Global};
+use zaxbriar_pictures::scaled::Request;
 
 pub const NAME: &str = "pnm";
 

@@ -3,10 +3,10 @@
 
 use crate::ending::Outcome;
 use crate::output::Output;
-use crate::pictures::raw::write_raw;
 use crate::{arguments, files};
 use clap::{ArgMatches, Command};
 use std::alloc::{AllocError, Global};
+use zaxbriar_pictures::raw::write_raw;
 
 pub const NAME: &str = "raw";
 

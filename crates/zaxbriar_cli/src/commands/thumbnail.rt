@@ -4,10 +4,10 @@
 use crate::arguments;
 use crate::commands::pictures;
 use crate::ending::Outcome;
-use crate::pictures::scaled::{Request, Upright};
 use clap::{Arg, ArgAction, ArgMatches, Command};
 use jpeg_decoder::parser::Dimensions;
 use std::alloc::{AllocError, Global};
+use zaxbriar_pictures::scaled::{Request, Upright};
 
 pub const NAME: &str = "thumbnail";
 

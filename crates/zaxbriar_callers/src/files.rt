@@ -1,0 +1,69 @@
+//! Callers that write files.
+ghost use Rattle.std.specs.Prelude.{ℕ, List, IsSomeAnd, OnOk};
+ghost use Rattle.std.specs.Io.KnownBytes.{Appends};
+ghost use Rattle.jpeg_streams.specs.Output.{Tells, output_of};
+ghost use Rattle.zaxbriar_pictures.specs.Netpbm.{file_of};
+ghost use Rattle.zaxbriar_pictures.specs.ScaledPictures.{file_at_scale};
+ghost use Rattle.zaxbriar_pictures.specs.Thumbnails.{WritesThumbnail};
+
+use jpeg_decoder::{Scale, error};
+use std::alloc::Global;
+use std::io::{Read, Write};
+use zaxbriar_pictures::limits::Limits;
+use zaxbriar_pictures::netpbm::{Picture, write_picture};
+use zaxbriar_pictures::raw::write_raw;
+use zaxbriar_pictures::refusal::Refusal;
+use zaxbriar_pictures::scaled::{Request, write_at};
+use zaxbriar_pictures::thumbnails::write_thumbnail;
+
+/// Calls `write_picture`, and says which file an Ok wrote.
+pub fn picture<W: Write>(alloc: Global, picture: Picture, writer: &mut W) -> error::Result<()>
+    ensures { OnOk result (Appends (W.contents writer.old) (W.contents writer.new)
+        (file_of picture.info picture.precision picture.pixels.items)) }
+{
+    write_picture(alloc, picture, writer)
+}
+
+/// Calls `write_at`.
+pub fn picture_at<R: Read + Drop, W: Write>(
+    alloc: Global,
+    reader: R,
+    scale: Scale,
+    limits: Limits,
+    writer: &mut W,
+) -> Result<(), Refusal>
+    ensures { (bytes : List ℕ) → Tells (R.remaining reader) bytes
+        → OnOk result (IsSomeAnd (file_at_scale scale bytes)
+        (Appends (W.contents writer.old) (W.contents writer.new))) }
+{
+    write_at(alloc, reader, scale, limits, writer)
+}
+
+/// Calls `write_thumbnail`.
+pub fn thumbnail<R: Read + Drop, W: Write>(
+    alloc: Global,
+    reader: R,
+    request: Request,
+    limits: Limits,
+    writer: &mut W,
+) -> Result<(), Refusal>
+    ensures { (bytes : List ℕ) → Tells (R.remaining reader) bytes
+        → OnOk result (WritesThumbnail request bytes (W.contents writer.old)
+        (W.contents writer.new)) }
+{
+    write_thumbnail(alloc, reader, request, limits, writer)
+}
+
+/// Calls `write_raw`.
+pub fn pixels<R: Read + Drop, W: Write>(
+    alloc: Global,
+    reader: R,
+    limits: Limits,
+    writer: &mut W,
+) -> Result<(), Refusal>
+    ensures { (bytes : List ℕ) → Tells (R.remaining reader) bytes
+        → OnOk result (IsSomeAnd (output_of bytes) (Appends (W.contents writer.old)
+        (W.contents writer.new))) }
+{
+    write_raw(alloc, reader, limits, writer)
+}

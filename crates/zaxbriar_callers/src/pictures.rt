@@ -1,0 +1,24 @@
+//! Callers that read a picture.
+ghost use Rattle.std.specs.Prelude.{◌≡◌, ℕ, List, Some, IfOk};
+ghost use Rattle.jpeg_streams.specs.Output.{Tells};
+ghost use Rattle.zaxbriar_pictures.specs.ScaledPictures.{decoded, picture_at_scale};
+
+use std::alloc::Global;
+use std::io::Read;
+use zaxbriar_pictures::limits::Limits;
+use zaxbriar_pictures::refusal::Refusal;
+use zaxbriar_pictures::scaled::{Request, ScaledPicture, read_picture};
+
+/// Calls `read_picture`, and says that the picture is the one at its scale.
+pub fn scaled_picture<R: Read + Drop>(
+    alloc: Global,
+    reader: R,
+    request: Request,
+    limits: Limits,
+) -> Result<ScaledPicture, Refusal>
+    ensures { (bytes : List ℕ) → Tells (R.remaining reader) bytes
+        → IfOk result (λ made. picture_at_scale made.scale bytes
+        ≡ Some (decoded made.picture.info made.picture.precision made.picture.pixels.items)) }
+{
+    read_picture(alloc, reader, request, limits)
+}

@@ -1,0 +1,52 @@
+-- The pictures of a stream at its scales, and their files.
+use Rattle.std.specs.Prelude.{ℕ, List, Ok, Err, Option, None, option_map}
+use Rattle.std.specs.Int.{div_ceil}
+use Rattle.jpeg_streams.specs.Output.{default_settings}
+use Rattle.jpeg_streams.specs.Pixels.{info_of}
+use Rattle.jpeg_streams.specs.Stream.{header_at, scaled_meaning}
+use Rattle.jpeg_streams.specs.declared.images.ImageInfo.{ImageInfo}
+use Rattle.zaxbriar_pictures.specs.Netpbm.{file_of}
+use Rattle.jpeg_segments.specs.declared.scale.Scale.{Scale}
+use Rattle.jpeg_segments.specs.declared.scale.Scale.TheVariants.{Eighth, Quarter, Half, Full}
+
+-- a picture: what is said of it, how many bits a sample has, and its pixels
+pub record Decoded : Type 0 where
+  pub info : ImageInfo
+  pub precision : ℕ
+  pub pixels : List ℕ
+
+abbrev pub decoded : ImageInfo → ℕ → List ℕ → Decoded
+decoded info precision pixels = record { info = info; precision = precision; pixels = pixels }
+
+-- what a stream's header says of its picture at full size
+unfoldable pub header_info : List ℕ → Option ImageInfo
+header_info bytes = elim (header_at bytes) [
+  | Ok header ↦ option_map info_of header.0.said.frame
+  | Err fault ↦ None
+]
+
+-- the Exif data up to the end of a stream's header
+unfoldable pub header_exif : List ℕ → Option (List ℕ)
+header_exif bytes = elim (header_at bytes) [
+  | Ok header ↦ header.0.said.metadata.exif
+  | Err fault ↦ None
+]
+
+-- what a side is at a scale, rounded up
+abbrev pub side_at : Scale → ℕ → ℕ
+side_at Eighth side = div_ceil side 8
+side_at Quarter side = div_ceil side 4
+side_at Half side = div_ceil side 2
+side_at Full side = side
+
+-- the picture of a stream at a scale
+unfoldable pub picture_at_scale : Scale → List ℕ → Option Decoded
+picture_at_scale scale bytes = elim (scaled_meaning scale default_settings bytes) [
+  | Ok stream ↦ option_map (λ f. decoded (info_of f) f.precision stream.0.1) stream.0.0.frame
+  | Err fault ↦ None
+]
+
+-- the file of a stream's picture at a scale
+abbrev pub file_at_scale : Scale → List ℕ → Option (List ℕ)
+file_at_scale scale bytes =
+    option_map (λ p. file_of p.info p.precision p.pixels) (picture_at_scale scale bytes)

@@ -1,0 +1,272 @@
+//! Pictures of streams at a scale, as netpbm files.
+ghost use Rattle.std.specs.Prelude.{◌≡◌, ◌*◌, List, ℕ, IfOk, OnOk, Some, IsSomeAnd, option_map};
+ghost use Rattle.std.specs.Prelude.{◌≤◌, true};
+ghost use Rattle.std.specs.Option.{option_copied};
+ghost use Rattle.std.specs.Io.KnownBytes.{Appends};
+ghost use Rattle.jpeg_bits.specs.Reading.{Answers};
+ghost use Rattle.jpeg_streams.specs.Output.{Tells};
+ghost use Rattle.jpeg_streams.specs.Pixels.{info_of};
+ghost use Rattle.jpeg_streams.specs.States.{IsReading, ahead};
+ghost use Rattle.jpeg_streams.specs.Stream.{told_of};
+ghost use Rattle.zaxbriar_pictures.specs.Limits.{is_at_most};
+ghost use Rattle.zaxbriar_pictures.specs.ScaledPictures.{decoded, file_at_scale, header_exif};
+ghost use Rattle.zaxbriar_pictures.specs.ScaledPictures.{header_info, picture_at_scale, side_at};
+ghost use Rattle.zaxbriar_pictures.specs.Sizes.{covers, is_full, least_scale, orientation_for};
+ghost use Rattle.zaxbriar_pictures.specs.Sizes.{scale_of_request, size_for};
+ghost use Rattle.zaxbriar_pictures.specs.declared.scaled.Request.TheVariants.{At};
+
+use crate::limits::Limits;
+use crate::netpbm::{Picture, write_picture};
+use crate::refusal::Refusal;
+use crate::sizes::{as_stored, fitted};
+use crate::turns::bytes_of;
+use jpeg_decoder::orientation::orientation_of;
+use jpeg_decoder::parser::Dimensions;
+use jpeg_decoder::{Decoder, ImageInfo, Scale, error};
+use std::alloc::Global;
+use std::io::{Read, Write};
+
+/// Returns what a side is at a scale, rounded up.
+fn side_at(scale: Scale, side: u16) -> u16
+    ensures { result ≡ side_at scale side }
+{
+    match scale {
+        Scale::Eighth => side.div_ceil(8),
+        Scale::Quarter => side.div_ceil(4),
+        Scale::Half => side.div_ceil(2),
+        Scale::Full => side,
+    }
+}
+
+/// Decodes the picture of a decoder, at the scale that was set.
+pub fn decode_picture<R: Read + Drop>(decoder: &mut Decoder<R>) -> error::Result<Picture>
+    ensures reads { IsReading decoder.old.stage → Answers
+        (λ p. (told_of decoder.new.found.said, p.pixels.items))
+        (ahead decoder.old.stage decoder.old.settings decoder.old.found) decoder.old.source result
+        decoder.new.source }
+    ensures info { IfOk result
+        (λ p. option_map info_of decoder.new.found.said.frame ≡ Some p.info) }
+    ensures precision { IfOk result (λ p. option_map (λ f. f.precision) decoder.new.found.said.frame
+        ≡ Some p.precision) }
+{
+    let pixels = decoder.decode()?;
+    let info = decoder.info().unwrap();
+    let precision = decoder.precision().unwrap();
+    Ok(Picture {
+        info,
+        precision,
+        pixels,
+    })
+}
+
+/// Returns how many bytes decoding the picture of a decoder takes, whose header was read.
+pub fn taken_by<R: Read + Drop>(decoder: &Decoder<R>) -> u64 {
+    match decoder.decoding_bytes() {
+        Some(bytes) => bytes.peak,
+        None => 0,
+    }
+}
+
+/// A request for a stream's picture.
+#[derive(Clone, Copy)]
+pub enum Request {
+    /// The picture at a scale.
+    At(Scale),
+    /// The greatest picture that fits within a size, as it is shown or as it is stored, and isn't
+    /// greater than the whole picture.
+    Within(Dimensions, Upright),
+}
+
+/// Whether a picture is turned by the orientation in its Exif data.
+#[derive(Clone, Copy)]
+pub enum Upright {
+    /// It is.
+    Turned,
+    /// It stays as it is stored.
+    AsStored,
+}
+
+/// A picture at a scale.
+#[derive(Drop)]
+pub struct ScaledPicture {
+    /// The picture.
+    pub picture: Picture,
+    /// Its scale.
+    pub scale: Scale,
+    /// The requested size, which isn't greater than the picture.
+    pub size: Dimensions,
+    /// The orientation that it is to be turned by: 1 where it is none.
+    pub orientation: u8,
+}
+
+impl Request {
+    /// Returns the requested size of a picture whose header was read.
+    #[tactic(auto, unfolding(crate::specs::Sizes::size_for))]
+    fn size(self, full: ImageInfo, orientation: u8) -> Dimensions
+        ensures { result ≡ size_for self full orientation }
+    {
+        match self {
+            Request::At(scale) => Dimensions {
+                width: side_at(scale, full.width),
+                height: side_at(scale, full.height),
+            },
+            Request::Within(most, _) => fitted(full, as_stored(most, orientation)),
+        }
+    }
+
+    /// Returns the scale that such a picture is decoded at.
+    #[tactic(auto, unfolding(crate::specs::Sizes::scale_of_request))]
+    fn scale(self, full: ImageInfo, orientation: u8) -> Scale
+        ensures chosen { result ≡ scale_of_request self full orientation }
+        ensures asked { (scale : _) → self ≡ At scale → result ≡ scale }
+    {
+        match self {
+            Request::At(scale) => scale,
+            Request::Within(most, _) => {
+                least_scale(full, fitted(full, as_stored(most, orientation)))
+            }
+        }
+    }
+
+    /// Returns the orientation by which a picture is to be turned, by the stream's Exif data.
+    #[tactic(auto, unfolding(crate::specs::Sizes::orientation_for))]
+    fn orientation_in(self, exif: Option<&[u8]>) -> u8
+        ensures said { result ≡ orientation_for self (option_copied exif.entry) }
+        ensures range { (1 ≤ result) × (result ≤ 8) }
+    {
+        match self {
+            Request::At(_) | Request::Within(_, Upright::AsStored) => 1,
+            Request::Within(_, Upright::Turned) => match exif {
+                Some(exif) => orientation_of(exif).unwrap_or(1),
+                None => 1,
+            },
+        }
+    }
+}
+
+/// Returns whether a picture at a scale isn't smaller than a size.
+fn covers(scale: Scale, full: ImageInfo, size: Dimensions) -> bool
+    ensures { result ≡ covers scale full size }
+{
+    size.width <= side_at(scale, full.width) && size.height <= side_at(scale, full.height)
+}
+
+/// Returns whether a size is that of the whole picture.
+fn is_full(full: ImageInfo, size: Dimensions) -> bool
+    ensures { result ≡ is_full full size }
+{
+    size.width == full.width && size.height == full.height
+}
+
+/// Returns the least scale at which a picture isn't smaller than a size: all of it, where that is
+/// its size.
+fn least_scale(full: ImageInfo, size: Dimensions) -> Scale
+    ensures { result ≡ least_scale full size }
+{
+    if is_full(full, size) {
+        Scale::Full
+    } else if covers(Scale::Eighth, full, size) {
+        Scale::Eighth
+    } else if covers(Scale::Quarter, full, size) {
+        Scale::Quarter
+    } else if covers(Scale::Half, full, size) {
+        Scale::Half
+    } else {
+        Scale::Full
+    }
+}
+
+/// Returns how many bytes a picture of this size takes, of the format and precision of another.
+fn made_bytes(size: Dimensions, full: ImageInfo, precision: Option<u8>) -> u64 {
+    let pixel = bytes_of(full.pixel_format, precision.unwrap_or(8));
+    u64::from(size.width) * u64::from(size.height) * pixel as u64
+}
+
+/// Refuses the picture of a decoder whose header was read, unless it is within the limits, with the
+/// picture that is made of it.
+fn check_limits<R: Read + Drop>(
+    decoder: &Decoder<R>,
+    request: Request,
+    full: ImageInfo,
+    size: Dimensions,
+    limits: Limits,
+) -> Result<(), Refusal>
+    ensures { IfOk result (λ _. is_at_most limits.pixels (full.width * full.height) ≡ true) }
+{
+    let made = match request {
+        Request::At(_) => 0,
+        Request::Within(_, _) => made_bytes(size, full, decoder.precision()),
+    };
+    limits.check(
+        full.width,
+        full.height,
+        taken_by(decoder).saturating_add(made),
+    )
+}
+
+/// Decodes the stream that the reader gives, at the scale for the request. A picture above the
+/// limits is refused by its header.
+pub fn read_picture<R: Read + Drop>(
+    alloc: Global,
+    reader: R,
+    request: Request,
+    limits: Limits,
+) -> Result<ScaledPicture, Refusal>
+    // The picture is that of the bytes at its scale.
+    ensures picture { (bytes : List ℕ) → Tells (R.remaining reader) bytes
+        → IfOk result (λ made. picture_at_scale made.scale bytes
+        ≡ Some (decoded made.picture.info made.picture.precision made.picture.pixels.items)) }
+
+    // A requested scale is the scale.
+    ensures asked { (scale : _) → request ≡ At scale → IfOk result (λ made. made.scale ≡ scale) }
+
+    // Scale and size are those for the request, by the header and the orientation.
+    ensures chosen { (bytes : List ℕ) → Tells (R.remaining reader) bytes → IfOk result (λ made.
+        IsSomeAnd (header_info bytes) (λ full.
+        (made.scale ≡ scale_of_request request full made.orientation)
+        × (made.size ≡ size_for request full made.orientation))) }
+
+    // The orientation is the one that the header's Exif data say, if the request is to turn by it.
+    ensures said { (bytes : List ℕ) → Tells (R.remaining reader) bytes → IfOk result (λ made.
+        made.orientation ≡ orientation_for request (header_exif bytes)) }
+    ensures orientation { IfOk result (λ made. (1 ≤ made.orientation)
+        × (made.orientation ≤ 8)) }
+
+    // A picture of more pixels than are allowed is refused.
+    ensures limited { (bytes : List ℕ) → Tells (R.remaining reader) bytes → IfOk result (λ _.
+        IsSomeAnd (header_info bytes) (λ full.
+        is_at_most limits.pixels (full.width * full.height) ≡ true)) }
+{
+    let mut decoder = Decoder::new(alloc, reader)?;
+    decoder.read_info()?;
+    let full = decoder.info().unwrap();
+    let orientation = request.orientation_in(decoder.exif_data());
+    let scale = request.scale(full, orientation);
+    let size = request.size(full, orientation);
+    decoder.set_scale(scale)?;
+    check_limits(&decoder, request, full, size, limits)?;
+    let picture = decode_picture(&mut decoder)?;
+    Ok(ScaledPicture {
+        picture,
+        scale,
+        size,
+        orientation,
+    })
+}
+
+/// Decodes the stream that the reader gives, and writes its picture at a scale.
+pub fn write_at<R: Read + Drop, W: Write>(
+    alloc: Global,
+    reader: R,
+    scale: Scale,
+    limits: Limits,
+    writer: &mut W,
+) -> Result<(), Refusal>
+    ensures { (bytes : List ℕ) → Tells (R.remaining reader) bytes
+        → OnOk result (IsSomeAnd (file_at_scale scale bytes)
+        (Appends (W.contents writer.old) (W.contents writer.new))) }
+{
+    let made = read_picture(alloc, reader, Request::At(scale), limits)?;
+    write_picture(alloc, made.picture, writer)?;
+    Ok(())
+}

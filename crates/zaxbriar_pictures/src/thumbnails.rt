@@ -1,0 +1,39 @@
+//! Small pictures of streams, as netpbm files.
+//!
+//! A picture is the greatest of its proportions that fits within a size, and no greater than it is:
+//! it is decoded at the least of 1/8, 1/4, 1/2 and all of its size that isn't smaller, and each
+//! sample is then the mean of those in its box. One that fits is decoded at all of its size. It is
+//! turned upright by the orientation in its Exif data, as it is shown, unless it is to stay as it
+//! is stored.
+ghost use Rattle.std.specs.Prelude.{List, ℕ, OnOk};
+ghost use Rattle.jpeg_streams.specs.Output.{Tells};
+ghost use Rattle.zaxbriar_pictures.specs.Thumbnails.{WritesThumbnail};
+
+use crate::boxes::boxed;
+use crate::limits::Limits;
+use crate::netpbm::write_picture;
+use crate::refusal::Refusal;
+use crate::scaled::{Request, read_picture};
+use crate::turns::upright;
+use std::alloc::Global;
+use std::io::{Read, Write};
+
+/// Decodes the stream that the reader gives, and writes the requested picture. A picture above the
+/// limits is refused by its header.
+pub fn write_thumbnail<R: Read + Drop, W: Write>(
+    alloc: Global,
+    reader: R,
+    request: Request,
+    limits: Limits,
+    writer: &mut W,
+) -> Result<(), Refusal>
+    ensures { (bytes : List ℕ) → Tells (R.remaining reader) bytes
+        → OnOk result (WritesThumbnail request bytes (W.contents writer.old)
+        (W.contents writer.new)) }
+{
+    let made = read_picture(alloc, reader, request, limits)?;
+    let smaller = boxed(alloc, made.picture, made.size)?;
+    let picture = upright(alloc, smaller, made.orientation)?;
+    write_picture(alloc, picture, writer)?;
+    Ok(())
+}
