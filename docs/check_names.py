@@ -25,6 +25,8 @@ COMMENTS = {
     ".edit": "(?!)",
     ".c": C_COMMENTS,
     ".h": C_COMMENTS,
+    ".rs": r'//.*|"(?:\\.|[^"\\\n])*"',
+    ".toml": r"(?m)^\s*#.*",
 }
 
 

@@ -1,0 +1,338 @@
+use crate::color::{ColorTransform, Conversion};
+use crate::error::{Error, Result, UnsupportedFeature};
+use crate::info::{size_of, ImageInfo, Scale};
+use crate::library::{self, Kind, Options, Picture, Refusal};
+use crate::stream::Stream;
+use std::io::{self, Read};
+
+/// How far a decoder has come.
+#[derive(Clone, Copy, PartialEq)]
+enum Stage {
+    Fresh,
+    HeaderRead,
+    Decoded,
+    Failed,
+}
+
+/// What segments say besides the picture.
+#[derive(Default)]
+struct Metadata {
+    exif: Option<Vec<u8>>,
+    xmp: Option<Vec<u8>>,
+    icc: Option<Vec<u8>>,
+}
+
+impl Metadata {
+    fn of(header: &[u8]) -> std::result::Result<Metadata, Refusal> {
+        Ok(Metadata {
+            exif: library::metadata(header, Kind::Exif)?,
+            xmp: library::metadata(header, Kind::Xmp)?,
+            icc: library::metadata(header, Kind::Icc)?,
+        })
+    }
+}
+
+/// A decoder of the JPEG stream that a reader gives.
+///
+/// It asks the reader for single bytes, so give it a [`BufReader`](io::BufReader) over a file. A
+/// reader may be lent (`&mut reader`): after [`decode`](Decoder::decode) it stands right behind the
+/// image.
+///
+/// ```
+/// # let jpeg = &std::fs::read("tests/grey.jpg").unwrap()[..];
+/// use zaxbriar::Decoder;
+///
+/// let two_images = [jpeg, jpeg].concat();
+/// let mut reader = &two_images[..];
+/// let first = Decoder::new(&mut reader).decode()?;
+/// let second = Decoder::new(&mut reader).decode()?;
+/// assert_eq!(first, second);
+/// assert!(reader.is_empty());
+/// # Ok::<(), zaxbriar::Error>(())
+/// ```
+pub struct Decoder<R> {
+    reader: R,
+    stream: Stream,
+    stage: Stage,
+    picture: Option<Picture>,
+    metadata: Metadata,
+    color_transform: Option<ColorTransform>,
+    /// The scale; the rest is as the library has it.
+    options: Options,
+    max_samples: u64,
+    max_bytes: u64,
+}
+
+/// The interface of jpeg-decoder.
+impl<R: Read> Decoder<R> {
+    /// Returns a decoder of what a reader gives. Nothing is read yet.
+    pub fn new(reader: R) -> Decoder<R> {
+        Decoder {
+            reader,
+            stream: Stream::default(),
+            stage: Stage::Fresh,
+            picture: None,
+            metadata: Metadata::default(),
+            color_transform: None,
+            options: Options::default(),
+            max_samples: u64::MAX,
+            max_bytes: u64::MAX,
+        }
+    }
+
+    /// Sets how components become samples, in place of what the stream says.
+    pub fn set_color_transform(&mut self, transform: ColorTransform) {
+        self.color_transform = Some(transform);
+    }
+
+    /// Sets how many samples a picture may have: its width times its height times the number of its
+    /// components, at its scale.
+    ///
+    /// [`decode`](Decoder::decode) refuses a picture of more by its header. It counts samples, of
+    /// which each takes two bytes in a lossless picture above 8 bits; see
+    /// [`set_max_decoding_bytes`](Decoder::set_max_decoding_bytes) for memory.
+    pub fn set_max_decoding_buffer_size(&mut self, max: usize) {
+        self.max_samples = max as u64;
+    }
+
+    /// Returns what the header says of the picture, once it was read.
+    pub fn info(&self) -> Option<ImageInfo> {
+        self.picture.as_ref().map(ImageInfo::of)
+    }
+
+    /// Returns the last Exif data that were read, from their TIFF header on.
+    ///
+    /// Like the next two calls it returns what was read before a failure, too.
+    pub fn exif_data(&self) -> Option<&[u8]> {
+        self.metadata.exif.as_deref()
+    }
+
+    /// Returns the last XMP data that were read.
+    pub fn xmp_data(&self) -> Option<&[u8]> {
+        self.metadata.xmp.as_deref()
+    }
+
+    /// Returns a copy of the ICC profile, if all of its parts were read.
+    pub fn icc_profile(&self) -> Option<Vec<u8>> {
+        self.metadata.icc.clone()
+    }
+
+    /// Reads the header, and nothing behind it, if it wasn't read before.
+    ///
+    /// ```
+    /// # let jpeg = &std::fs::read("tests/grey.jpg").unwrap()[..];
+    /// use zaxbriar::{Decoder, PixelFormat};
+    ///
+    /// let mut decoder = Decoder::new(jpeg);
+    /// decoder.read_info()?;
+    /// let info = decoder.info().unwrap();
+    /// assert_eq!((info.width, info.height, info.pixel_format), (8, 8, PixelFormat::L8));
+    /// # Ok::<(), zaxbriar::Error>(())
+    /// ```
+    pub fn read_info(&mut self) -> Result<()> {
+        match self.stage {
+            Stage::Fresh => {}
+            Stage::HeaderRead | Stage::Decoded => return Ok(()),
+            Stage::Failed => return Err(Error::Internal("decoder has failed".into())),
+        }
+        self.stage = Stage::Failed;
+        let options = self.options;
+        let failure = self.stream.read_header(&mut self.reader);
+        let outcome = self.ask(failure, |bytes| library::read_info(bytes, &options));
+        if self.stream.may_have_metadata(0) {
+            self.metadata = Metadata::of(self.stream.bytes()).map_err(refused)?;
+        }
+        self.picture = Some(outcome?);
+        self.stage = Stage::HeaderRead;
+        Ok(())
+    }
+
+    /// Chooses the least of 1/8, 1/4, 1/2 and 1 of the picture's size at which it is at least that
+    /// wide or at least that high, and returns the size that it has then. Reads the header.
+    ///
+    /// A lossless picture keeps its size.
+    pub fn scale(&mut self, requested_width: u16, requested_height: u16) -> Result<(u16, u16)> {
+        // 0 asks for no more than 1 does; to the library it is a side that does not matter.
+        let mut options = self.options;
+        options.scale = 0;
+        options.min_width = requested_width.max(1);
+        options.min_height = requested_height.max(1);
+        self.resize(options)
+    }
+
+    /// Decodes the picture, and returns its rows from the top. Reads the stream up to the end of
+    /// the image, and nothing behind it.
+    ///
+    /// A row has its pixels from the left, and a pixel the samples of its components, each of which
+    /// takes one byte; or two, the lower one first, in a lossless picture above 8 bits.
+    ///
+    /// Where the picture is above a limit, or can't have the colour transform, nothing behind the
+    /// header is read, and other settings may be tried. After another error the decoder has failed,
+    /// and after a picture a second one is [`Error::Internal`].
+    pub fn decode(&mut self) -> Result<Vec<u8>> {
+        self.read_info()?;
+        let picture = match (self.stage, self.picture) {
+            (Stage::HeaderRead, Some(picture)) => picture,
+            _ => return Err(Error::Internal("image was already decoded".into())),
+        };
+        self.refuse_above_limits(&picture)?;
+        let conversion = Conversion::of(self.color_transform, &picture)?;
+        let mut options = self.options;
+        options.transform = conversion.number();
+        self.stage = Stage::Failed;
+        let mut pixels = library::zeros(picture.size).map_err(refused)?;
+        self.decode_into(&options, &mut pixels)?;
+        conversion.finish(&mut pixels, &picture);
+        self.stage = Stage::Decoded;
+        Ok(pixels)
+    }
+}
+
+/// What jpeg-decoder doesn't have.
+impl<R: Read> Decoder<R> {
+    /// Sets how many bytes decoding may take, as [`decoding_bytes`](Decoder::decoding_bytes) counts
+    /// them. [`decode`](Decoder::decode) refuses a picture that needs more by its header, before it
+    /// takes any.
+    ///
+    /// ```
+    /// # let jpeg = &std::fs::read("tests/grey.jpg").unwrap()[..];
+    /// use zaxbriar::{Decoder, Error};
+    ///
+    /// let mut decoder = Decoder::new(jpeg);
+    /// decoder.set_max_decoding_bytes(100);
+    /// assert!(matches!(decoder.decode(), Err(Error::Format(_))));
+    /// decoder.set_max_decoding_bytes(100_000_000);
+    /// assert!(decoder.decode().is_ok());
+    /// ```
+    pub fn set_max_decoding_bytes(&mut self, max: u64) {
+        self.max_bytes = max;
+    }
+
+    /// Returns the most memory that decoding takes at a time for the picture, its planes and its
+    /// coefficients, once the header was read. Not counted are the bytes of the stream, metadata,
+    /// and tables and lines, at most some 256 kB.
+    pub fn decoding_bytes(&self) -> Option<u64> {
+        self.picture.as_ref().map(bytes_of)
+    }
+
+    /// Chooses exactly that part of the picture's size, rounded up, and returns the size that it
+    /// has then. Reads the header.
+    ///
+    /// A lossless picture keeps its size.
+    ///
+    /// ```
+    /// # let jpeg = &std::fs::read("tests/grey.jpg").unwrap()[..];
+    /// use zaxbriar::{Decoder, Scale};
+    ///
+    /// let mut decoder = Decoder::new(jpeg);
+    /// assert_eq!(decoder.set_scale(Scale::Quarter)?, (2, 2));
+    /// assert_eq!(decoder.decode()?.len(), 4);
+    /// # Ok::<(), zaxbriar::Error>(())
+    /// ```
+    pub fn set_scale(&mut self, scale: Scale) -> Result<(u16, u16)> {
+        let mut options = self.options;
+        options.scale = scale as u8;
+        self.resize(options)
+    }
+
+    /// Returns how many bits a sample has, once the header was read: 8, or 2 to 16 in a lossless
+    /// picture.
+    pub fn precision(&self) -> Option<u8> {
+        self.picture.map(|picture| picture.precision)
+    }
+
+    /// Returns the orientation that Exif data before the frame say, 1 to 8, once the header was
+    /// read; 1 where they say none.
+    pub fn orientation(&self) -> Option<u8> {
+        self.picture.map(|picture| picture.orientation)
+    }
+}
+
+impl<R: Read> Decoder<R> {
+    /// Describes the picture anew, by other options.
+    fn resize(&mut self, options: Options) -> Result<(u16, u16)> {
+        self.read_info()?;
+        let picture = library::read_info(self.stream.header(), &options).map_err(refused)?;
+        self.options = options;
+        self.picture = Some(picture);
+        Ok(size_of(&picture))
+    }
+
+    fn refuse_above_limits(&self, picture: &Picture) -> Result<()> {
+        let (samples, bytes) = (picture.samples(), bytes_of(picture));
+        let text = if samples > self.max_samples {
+            format!(
+                "{samples} samples in the picture, expected at most {}",
+                self.max_samples
+            )
+        } else if bytes > self.max_bytes {
+            format!(
+                "{bytes} bytes for decoding, expected at most {}",
+                self.max_bytes
+            )
+        } else {
+            return Ok(());
+        };
+        Err(Error::Format(text))
+    }
+
+    /// Reads the rest of the image, and decodes it.
+    fn decode_into(&mut self, options: &Options, pixels: &mut [u8]) -> Result<()> {
+        let mut stream_bytes = 0;
+        let failure = self.stream.read_image(&mut self.reader);
+        let outcome = self.ask(failure, |bytes| {
+            let (count, decoded) = library::decode(bytes, options, pixels);
+            stream_bytes = count;
+            decoded
+        });
+        if self.stream.may_have_metadata(self.stream.header().len()) {
+            let header = self.stream.metadata_as_header(stream_bytes);
+            let header = header.map_err(|_| refused(Refusal::NoMemory))?;
+            self.metadata = Metadata::of(&header).map_err(refused)?;
+        }
+        outcome
+    }
+
+    /// Makes a call on the bytes that were read. Where these end too soon, and the reader has more,
+    /// all of it is read and the call is made again.
+    fn ask<T>(
+        &mut self,
+        mut failure: Option<io::Error>,
+        mut call: impl FnMut(&[u8]) -> std::result::Result<T, Refusal>,
+    ) -> Result<T> {
+        let mut outcome = call(self.stream.bytes());
+        if failure.is_none() && matches!(outcome, Err(Refusal::Truncated)) {
+            failure = Some(self.stream.read_rest(&mut self.reader));
+            outcome = call(self.stream.bytes());
+        }
+        outcome.map_err(|refusal| error_of(refusal, failure))
+    }
+}
+
+fn bytes_of(picture: &Picture) -> u64 {
+    picture.size.saturating_add(picture.decoding_bytes)
+}
+
+/// Returns the error for a refusal that is no fault of a reader.
+fn refused(refusal: Refusal) -> Error {
+    error_of(refusal, None)
+}
+
+/// Returns the error for a refusal. Where the stream ends too soon it is the failure of its reader.
+fn error_of(refusal: Refusal, failure: Option<io::Error>) -> Error {
+    match refusal {
+        Refusal::Malformed(text) => {
+            let text = text.strip_prefix("invalid JPEG format: ").unwrap_or(&text);
+            Error::Format(text.to_string())
+        }
+        Refusal::Unsupported(text) => match UnsupportedFeature::named_in(&text) {
+            Some(feature) => Error::Unsupported(feature),
+            None => Error::Format(text),
+        },
+        Refusal::Truncated => {
+            Error::Io(failure.unwrap_or_else(|| io::ErrorKind::UnexpectedEof.into()))
+        }
+        Refusal::NoMemory => Error::Io(io::ErrorKind::OutOfMemory.into()),
+        Refusal::Call(text) => Error::Internal(text.into()),
+    }
+}

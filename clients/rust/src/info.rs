@@ -1,0 +1,96 @@
+//! What a caller is told of a picture, and how it may ask for its size.
+
+use crate::library::Picture;
+
+/// The colours of a pixel, and the bits of a sample.
+#[derive(Clone, Copy, Debug, PartialEq)]
+pub enum PixelFormat {
+    /// Grey, up to 8 bits.
+    L8,
+    /// Grey, 9 to 16 bits in two bytes, the lower one first.
+    L16,
+    /// Red, green and blue.
+    RGB24,
+    /// Cyan, magenta, yellow and black, where 255 is full ink.
+    CMYK32,
+}
+
+impl PixelFormat {
+    /// Returns how many bytes a pixel has: 1, 2, 3 or 4.
+    ///
+    /// A lossless picture of [`RGB24`](PixelFormat::RGB24) or [`CMYK32`](PixelFormat::CMYK32) has
+    /// twice as many where [`Decoder::precision`](crate::Decoder::precision) is above 8.
+    pub fn pixel_bytes(&self) -> usize {
+        match self {
+            PixelFormat::L8 => 1,
+            PixelFormat::L16 => 2,
+            PixelFormat::RGB24 => 3,
+            PixelFormat::CMYK32 => 4,
+        }
+    }
+}
+
+/// How a picture was coded.
+#[derive(Clone, Copy, Debug, PartialEq)]
+pub enum CodingProcess {
+    /// Baseline or extended sequential (T.81, Annex F).
+    DctSequential,
+    /// Progressive (T.81, Annex G).
+    DctProgressive,
+    /// Lossless (T.81, Annex H).
+    Lossless,
+}
+
+/// What a header says of its picture.
+#[derive(Clone, Copy, Debug, PartialEq)]
+pub struct ImageInfo {
+    /// The width in pixels, at the scale that was chosen.
+    pub width: u16,
+    /// The height in pixels, at that scale.
+    pub height: u16,
+    /// What a pixel is.
+    pub pixel_format: PixelFormat,
+    /// How the picture was coded.
+    pub coding_process: CodingProcess,
+}
+
+impl ImageInfo {
+    pub(crate) fn of(picture: &Picture) -> ImageInfo {
+        let (width, height) = size_of(picture);
+        let pixel_format = match (picture.components, picture.precision) {
+            (1, 0..=8) => PixelFormat::L8,
+            (1, _) => PixelFormat::L16,
+            (3, _) => PixelFormat::RGB24,
+            _ => PixelFormat::CMYK32,
+        };
+        let coding_process = match picture.process {
+            1 => CodingProcess::DctSequential,
+            2 => CodingProcess::DctProgressive,
+            _ => CodingProcess::Lossless,
+        };
+        ImageInfo {
+            width,
+            height,
+            pixel_format,
+            coding_process,
+        }
+    }
+}
+
+/// Returns the width and the height of a picture: a JPEG picture has at most 65535 of either.
+pub(crate) fn size_of(picture: &Picture) -> (u16, u16) {
+    (picture.width as u16, picture.height as u16)
+}
+
+/// A part of a picture's size, for [`Decoder::set_scale`](crate::Decoder::set_scale).
+#[derive(Clone, Copy, Debug, PartialEq, Eq)]
+pub enum Scale {
+    /// All of it.
+    Full = 1,
+    /// A half of each side.
+    Half = 2,
+    /// A quarter of each side.
+    Quarter = 4,
+    /// An eighth of each side.
+    Eighth = 8,
+}

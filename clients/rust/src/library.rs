@@ -1,0 +1,215 @@
+//! The calls of `zaxbriar.h`, and all `unsafe` code of this crate.
+#![allow(unsafe_code)]
+
+use std::alloc::{alloc_zeroed, Layout};
+use std::os::raw::{c_int, c_void};
+
+const OK: c_int = 0;
+const MALFORMED: c_int = 1;
+const UNSUPPORTED: c_int = 2;
+const TRUNCATED: c_int = 3;
+const NO_MEMORY: c_int = 4;
+
+/// The bytes of a picture's text.
+const TEXT_BYTES: usize = 112;
+
+/// Kinds of metadata.
+pub enum Kind {
+    Exif = 1,
+    Xmp = 2,
+    Icc = 3,
+}
+
+/// `zaxbriar_options`.
+#[repr(C)]
+#[derive(Clone, Copy, Default)]
+pub struct Options {
+    max_samples: u64,
+    stride: u64,
+    pub min_width: u16,
+    pub min_height: u16,
+    pub transform: u8,
+    layout: u8,
+    pub scale: u8,
+    reserved: u8,
+    max_bytes: u64,
+    reserved_words: [u64; 2],
+}
+
+/// `zaxbriar_picture`.
+#[repr(C)]
+#[derive(Clone, Copy)]
+pub struct Picture {
+    pub size: u64,
+    row_bytes: u64,
+    pub decoding_bytes: u64,
+    pub stream_bytes: u64,
+    pub width: u32,
+    pub height: u32,
+    pixel_bytes: u8,
+    layout: u8,
+    pub components: u8,
+    pub precision: u8,
+    sample_bytes: u8,
+    pub process: u8,
+    pub orientation: u8,
+    reserved: [u8; 33],
+    text: [u8; TEXT_BYTES],
+}
+
+// The library is for 64 bits, and has structs of these sizes.
+const _: () = assert!(std::mem::size_of::<usize>() == 8);
+const _: () = assert!(std::mem::size_of::<Options>() == 48);
+const _: () = assert!(std::mem::size_of::<Picture>() == 192);
+
+impl Picture {
+    const NONE: Picture = Picture {
+        size: 0,
+        row_bytes: 0,
+        decoding_bytes: 0,
+        stream_bytes: 0,
+        width: 0,
+        height: 0,
+        pixel_bytes: 0,
+        layout: 0,
+        components: 0,
+        precision: 0,
+        sample_bytes: 0,
+        process: 0,
+        orientation: 0,
+        reserved: [0; 33],
+        text: [0; TEXT_BYTES],
+    };
+
+    /// Returns how many samples the picture has.
+    pub fn samples(&self) -> u64 {
+        u64::from(self.width) * u64::from(self.height) * u64::from(self.components)
+    }
+}
+
+/// Why a call has no picture. A text is the library's.
+pub enum Refusal {
+    Malformed(String),
+    Unsupported(String),
+    Truncated,
+    NoMemory,
+    /// A fault of this crate's: a call that no stream answers so.
+    Call(String),
+}
+
+/// Returns the refusal that an answer stands for, or none for OK.
+fn refusal_of(answer: c_int, picture: &Picture) -> Option<Refusal> {
+    let text = || {
+        let bytes = picture.text.split(|&byte| byte == 0).next();
+        String::from_utf8_lossy(bytes.unwrap_or_default()).into_owned()
+    };
+    match answer {
+        OK => None,
+        MALFORMED => Some(Refusal::Malformed(text())),
+        UNSUPPORTED => Some(Refusal::Unsupported(text())),
+        TRUNCATED => Some(Refusal::Truncated),
+        NO_MEMORY => Some(Refusal::NoMemory),
+        _ => Some(Refusal::Call(text())),
+    }
+}
+
+extern "C" {
+    fn zaxbriar_read_info(
+        jpeg: *const c_void,
+        jpeg_size: usize,
+        options: *const Options,
+        picture: *mut Picture,
+    ) -> c_int;
+
+    fn zaxbriar_decode(
+        jpeg: *const c_void,
+        jpeg_size: usize,
+        options: *const Options,
+        pixels: *mut c_void,
+        pixels_size: usize,
+        picture: *mut Picture,
+    ) -> c_int;
+
+    fn zaxbriar_metadata(
+        jpeg: *const c_void,
+        jpeg_size: usize,
+        kind: c_int,
+        data: *mut c_void,
+        data_size: usize,
+        length: *mut usize,
+    ) -> c_int;
+}
+
+/// Describes the picture of a stream by its header.
+pub fn read_info(jpeg: &[u8], options: &Options) -> Result<Picture, Refusal> {
+    let mut picture = Picture::NONE;
+    // SAFETY: `jpeg` and `options` are borrowed to be read and `picture` to be written, so that
+    // they are valid, and apart, as long as the call takes; the structs are those of the header.
+    let answer =
+        unsafe { zaxbriar_read_info(jpeg.as_ptr().cast(), jpeg.len(), options, &mut picture) };
+    refusal_of(answer, &picture).map_or(Ok(picture), Err)
+}
+
+/// Decodes a stream into `pixels`, and returns how many bytes of it were read.
+pub fn decode(jpeg: &[u8], options: &Options, pixels: &mut [u8]) -> (u64, Result<(), Refusal>) {
+    let mut picture = Picture::NONE;
+    // SAFETY: as in `read_info`; and `pixels` is borrowed to be written.
+    let answer = unsafe {
+        zaxbriar_decode(
+            jpeg.as_ptr().cast(),
+            jpeg.len(),
+            options,
+            pixels.as_mut_ptr().cast(),
+            pixels.len(),
+            &mut picture,
+        )
+    };
+    (
+        picture.stream_bytes,
+        refusal_of(answer, &picture).map_or(Ok(()), Err),
+    )
+}
+
+/// Returns metadata that the segments before the frame have, if they have any.
+pub fn metadata(jpeg: &[u8], kind: Kind) -> Result<Option<Vec<u8>>, Refusal> {
+    // They aren't longer than the stream.
+    let mut data = zeros(jpeg.len() as u64)?;
+    let mut length = 0;
+    // SAFETY: as in `read_info`; and `data` and `length` are borrowed to be written.
+    let answer = unsafe {
+        zaxbriar_metadata(
+            jpeg.as_ptr().cast(),
+            jpeg.len(),
+            kind as c_int,
+            data.as_mut_ptr().cast(),
+            data.len(),
+            &mut length,
+        )
+    };
+    if answer == NO_MEMORY {
+        return Err(Refusal::NoMemory);
+    }
+    data.truncate(length);
+    data.shrink_to_fit();
+    Ok((answer == OK).then_some(data))
+}
+
+/// Returns that many zeros, on pages that the system has cleared and that are taken when they are
+/// written. Where memory is refused that is an error, and not an abort as in `vec!`.
+pub fn zeros(size: u64) -> Result<Vec<u8>, Refusal> {
+    let size = usize::try_from(size).map_err(|_| Refusal::NoMemory)?;
+    if size == 0 {
+        return Ok(Vec::new());
+    }
+    let layout = Layout::array::<u8>(size).map_err(|_| Refusal::NoMemory)?;
+    // SAFETY: the layout has a size above 0. The block comes of the global allocator with the
+    // layout of `size` bytes, each of which is set, so that it is a vector's.
+    unsafe {
+        let block = alloc_zeroed(layout);
+        if block.is_null() {
+            Err(Refusal::NoMemory)
+        } else {
+            Ok(Vec::from_raw_parts(block, size, size))
+        }
+    }
+}

@@ -1,0 +1,37 @@
+//! Limits are compared with the header, before the rest of the stream is read.
+
+use zaxbriar::{Decoder, Error};
+
+/// The header of a grey picture of 65535x65535, and nothing behind it.
+fn large_header() -> Vec<u8> {
+    let mut jpeg = std::fs::read("tests/grey.jpg").unwrap();
+    jpeg.truncate(84);
+    jpeg[76..80].fill(0xFF);
+    jpeg
+}
+
+#[test]
+fn a_large_picture_is_refused_by_its_header() -> Result<(), Error> {
+    let jpeg = large_header();
+    let mut decoder = Decoder::new(&jpeg[..]);
+    decoder.read_info()?;
+    assert!(decoder.decoding_bytes() > Some(65535 * 65535));
+    decoder.set_max_decoding_bytes(1 << 30);
+    assert!(matches!(decoder.decode(), Err(Error::Format(_))));
+    decoder.set_max_decoding_bytes(u64::MAX);
+    decoder.set_max_decoding_buffer_size(65535 * 65535 - 1);
+    assert!(matches!(decoder.decode(), Err(Error::Format(_))));
+    Ok(())
+}
+
+#[test]
+fn a_scale_makes_a_picture_smaller_and_other_settings_may_be_tried() -> Result<(), Error> {
+    let jpeg = std::fs::read("tests/grey.jpg").unwrap();
+    let mut decoder = Decoder::new(&jpeg[..]);
+    decoder.set_max_decoding_buffer_size(16);
+    assert!(matches!(decoder.decode(), Err(Error::Format(_))));
+    assert_eq!(decoder.scale(3, 3)?, (4, 4));
+    assert_eq!(decoder.decode()?, [0x81; 16]);
+    assert!(matches!(decoder.decode(), Err(Error::Internal(_))));
+    Ok(())
+}
