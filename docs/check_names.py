@@ -27,6 +27,8 @@ COMMENTS = {
     ".h": C_COMMENTS,
     ".rs": r'//.*|"(?:\\.|[^"\\\n])*"',
     ".toml": r"(?m)^\s*#.*",
+    ".mjs": C_COMMENTS,
+    ".ts": C_COMMENTS,
 }
 
 

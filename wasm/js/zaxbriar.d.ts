@@ -1,0 +1,124 @@
+/** A JPEG decoder that is proved correct, as WebAssembly. */
+
+/** Where zaxbriar.wasm is: its URL, a response that has it, its bytes, or the compiled module. */
+export type Source =
+    | string
+    | URL
+    | Response
+    | ArrayBuffer
+    | ArrayBufferView
+    | WebAssembly.Module;
+
+/** The bytes of a stream. They are copied before anything is read. */
+export type Bytes = ArrayBuffer | SharedArrayBuffer | ArrayBufferView;
+
+/**
+ * How the pixels are arranged. `stored` has each pixel's samples in the order of the components.
+ * The others are for pictures of grey, or of red, green and blue, with 8 bits a sample; they are a
+ * BAD_ARGUMENT for other pictures, and where the module doesn't know them.
+ */
+export type Layout = 'stored' | 'grey' | 'rgb' | 'rgba' | 'bgra' | 'bgr' | 'xrgb';
+
+/** How the components are to be understood: as the stream says, or as these. */
+export type ColorTransform = 'stream' | 'rgb' | 'ycbcr' | 'cmyk' | 'ycck';
+
+export interface Options {
+    /** The default is `stored`. */
+    layout?: Layout;
+    /** Decodes at exactly 1 / scale of each side, rounded up: 1, 2, 4 or 8. */
+    scale?: 0 | 1 | 2 | 4 | 8;
+    /**
+     * Decodes at the least of 1/8, 1/4, 1/2 and 1 of the size at which the picture is at least that
+     * wide or that high; 0: that side doesn't matter. `scale` goes before both.
+     */
+    minWidth?: number;
+    minHeight?: number;
+    /** The bytes from a line to the next; 0: no gaps. The gaps are zeros. */
+    stride?: number;
+    colorTransform?: ColorTransform;
+    /** The most pixels that the picture may have, at its scale; 0: any number. */
+    maxPixels?: number;
+    /** The most bytes that decoding may take beside the stream and the picture; 0: any number. */
+    maxBytes?: number;
+}
+
+/** A picture, as decoding with the options gives it. */
+export interface Picture {
+    /** In pixels, at the scale. */
+    width: number;
+    height: number;
+    /** The bytes of the picture. */
+    size: number;
+    /** The bytes of a line, without its gap. */
+    rowBytes: number;
+    /** The most bytes that decoding takes for samples, beside the stream and the picture. */
+    decodingBytes: number;
+    /** How many bytes of the stream were read: after decoding. */
+    streamBytes: number;
+    /** The bytes of a pixel, in this layout. */
+    pixelBytes: number;
+    layout: Layout;
+    /** Of the stream: 1 (grey), 3 (red, green, blue) or 4 (ink: 255 is full). */
+    components: 1 | 3 | 4;
+    /** Of the stream: the bits of a sample, 2 to 16. */
+    precision: number;
+    /** Of the stream: 1 or 2, and then the lower byte first. */
+    sampleBytes: 1 | 2;
+    process: 'sequential' | 'progressive' | 'lossless';
+    /** 1 to 8, as Exif data before the frame say; otherwise 1. The pixels aren't turned. */
+    orientation: number;
+}
+
+/** Why a stream or a call was refused. */
+export class ZaxbriarError extends Error {
+    readonly code:
+        | 'MALFORMED'
+        | 'UNSUPPORTED'
+        | 'TRUNCATED'
+        | 'NO_MEMORY'
+        | 'NO_ROOM'
+        | 'BAD_ARGUMENT'
+        | 'NO_DATA'
+        | 'TOO_LARGE';
+}
+
+/** Compiles the module, for several decoders; by default the one that lies beside zaxbriar.mjs. */
+export function compile(source?: Source | Promise<Source>): Promise<WebAssembly.Module>;
+
+export interface DecoderOptions {
+    /** How many bytes the module's memory may have, of 65,536 each; 0: nearly 4 GiB. */
+    maxMemory?: number;
+}
+
+/** Compiles the module, and returns a decoder. */
+export function load(
+    source?: Source | Promise<Source>,
+    options?: DecoderOptions,
+): Promise<Zaxbriar>;
+
+/**
+ * A decoder. Each call throws a ZaxbriarError where the stream or the call is refused, and a
+ * TypeError or RangeError where an option is none. A call that traps throws the engine's error, and
+ * the next one begins with a new instance of the module.
+ */
+export class Zaxbriar {
+    constructor(module: WebAssembly.Module, options?: DecoderOptions);
+
+    /** Describes the stream's picture, by its header. */
+    readInfo(jpeg: Bytes, options?: Options): Picture;
+
+    /** Decodes the picture. `pixels` is a copy, outside the module's memory. */
+    decode(jpeg: Bytes, options?: Options): { picture: Picture; pixels: Uint8ClampedArray };
+
+    /** Returns Exif data from the TIFF header on, XMP data or an ICC profile; null: none. */
+    metadata(jpeg: Bytes, kind: 'exif' | 'xmp' | 'icc'): Uint8Array | null;
+
+    /** The bytes of the module's memory. It never shrinks. */
+    readonly memoryBytes: number;
+
+    /** Gives the memory back: the next call begins with a new instance. */
+    reset(): void;
+
+    /** The version of the library, as 0.1.0. */
+    readonly version: string;
+}

@@ -1,0 +1,286 @@
+/* The decoder for JavaScript, over zaxbriar.wasm: for browsers, their workers, and Node.
+ *
+ *     import { load } from 'zaxbriar';
+ *     const zaxbriar = await load();
+ *     const { picture, pixels } = zaxbriar.decode(bytes, { layout: 'rgba' });
+ *
+ * Calls are synchronous: where a page is not to wait, make them in a worker. zaxbriar.d.ts has the
+ * types, and what each call does. Nothing in this file is proved: it copies bytes into the module's
+ * memory and out of it. */
+
+/* Names of the numbers of c/zaxbriar.h. The module says which of them it knows, and which fit a
+ * picture: others are BAD_ARGUMENT. */
+const LAYOUTS = { stored: 0, grey: 1, rgb: 2, rgba: 3, bgra: 4, bgr: 5, xrgb: 6 };
+const TRANSFORMS = { stream: 0, rgb: 2, ycbcr: 3, cmyk: 4, ycck: 5 };
+const KINDS = { exif: 1, xmp: 2, icc: 3 };
+const PROCESSES = ['', 'sequential', 'progressive', 'lossless'];
+const OK = 0;
+const NO_MEMORY = 4;
+const NO_ROOM = 5;
+const NO_DATA = 7;
+const TOO_LARGE = 8;
+const CODES = [
+    'OK',
+    'MALFORMED',
+    'UNSUPPORTED',
+    'TRUNCATED',
+    'NO_MEMORY',
+    'NO_ROOM',
+    'BAD_ARGUMENT',
+    'NO_DATA',
+    'TOO_LARGE',
+];
+
+/* The structs zaxbriar_options and zaxbriar_picture of c/zaxbriar.h. */
+const OPTIONS_BYTES = 48;
+const PICTURE_BYTES = 192;
+const TEXT_AT = 80;
+const TEXT_BYTES = 112;
+
+export class ZaxbriarError extends Error {
+    constructor(answer, text) {
+        super(text);
+        this.name = 'ZaxbriarError';
+        this.code = CODES[answer] ?? `ANSWER_${answer}`;
+    }
+}
+
+function numberOf(names, name, what) {
+    if (!Object.hasOwn(names, name)) {
+        throw new TypeError(`${what}: one of ${Object.keys(names).join(', ')}, not ${name}`);
+    }
+    return names[name];
+}
+
+function wholeNumber(value, most, what) {
+    if (!Number.isInteger(value) || value < 0 || value > most) {
+        throw new RangeError(`${what}: a whole number from 0 to ${most}, not ${value}`);
+    }
+    return value;
+}
+
+/* The bytes of a buffer or of any view of one. */
+function bytesOf(source) {
+    if (source instanceof Uint8Array || source instanceof Uint8ClampedArray) return source;
+    if (ArrayBuffer.isView(source)) {
+        return new Uint8Array(source.buffer, source.byteOffset, source.byteLength);
+    }
+    const isShared =
+        typeof SharedArrayBuffer !== 'undefined' && source instanceof SharedArrayBuffer;
+    if (source instanceof ArrayBuffer || isShared) return new Uint8Array(source);
+    throw new TypeError('jpeg: an ArrayBuffer or a view of one');
+}
+
+/* The options as the bytes of zaxbriar_options. */
+function optionsOf(options) {
+    const bytes = new Uint8Array(OPTIONS_BYTES);
+    const view = new DataView(bytes.buffer);
+    const number = (name, most) => wholeNumber(options[name] ?? 0, most, name);
+    view.setBigUint64(8, BigInt(number('stride', 2 ** 32)), true);
+    view.setUint16(16, number('minWidth', 65535), true);
+    view.setUint16(18, number('minHeight', 65535), true);
+    view.setUint8(20, numberOf(TRANSFORMS, options.colorTransform ?? 'stream', 'colorTransform'));
+    view.setUint8(21, numberOf(LAYOUTS, options.layout ?? 'stored', 'layout'));
+    view.setUint8(22, number('scale', 255));
+    view.setBigUint64(24, BigInt(number('maxBytes', Number.MAX_SAFE_INTEGER)), true);
+    return bytes;
+}
+
+async function compileFile(url) {
+    const { readFile } = await import('node:fs/promises');
+    return WebAssembly.compile(await readFile(url));
+}
+
+/* Compiles the module: of a URL, a response, bytes, or one that is compiled already. */
+export async function compile(source = new URL('zaxbriar.wasm', import.meta.url)) {
+    const given = await source;
+    if (given instanceof WebAssembly.Module) return given;
+    if (given instanceof ArrayBuffer || ArrayBuffer.isView(given)) {
+        return WebAssembly.compile(given);
+    }
+    if (String(given.href ?? given).startsWith('file:')) return compileFile(new URL(given));
+    const response = given instanceof Response ? given : await fetch(given);
+    if (!response.ok) throw new Error(`${response.url}: ${response.status}`);
+    // (some servers don't know the type of .wasm, which compileStreaming asks for)
+    return WebAssembly.compile(await response.arrayBuffer());
+}
+
+export async function load(source, options) {
+    return new Zaxbriar(await compile(source), options);
+}
+
+export class Zaxbriar {
+    #module;
+    #maxMemory;
+    #exports;
+    /* Whether the last call into the instance has returned. */
+    #isWhole = false;
+
+    constructor(module, { maxMemory = 0 } = {}) {
+        this.#module = module;
+        this.#maxMemory = wholeNumber(maxMemory, 2 ** 32, 'maxMemory');
+    }
+
+    get memoryBytes() {
+        return this.#isWhole ? this.#exports.memory.buffer.byteLength : 0;
+    }
+
+    reset() {
+        this.#isWhole = false;
+        this.#exports = undefined;
+    }
+
+    /* Calls the module, whose pointers and sizes are BigInt. A call that doesn't return (a trap, or
+     * too deep a stack of the engine's) leaves an instance that is never called again. */
+    #call(name, ...words) {
+        this.#isWhole = false;
+        const result = this.#exports[name](...words);
+        this.#isWhole = true;
+        return result;
+    }
+
+    #start() {
+        if (this.#isWhole) return;
+        this.#exports = new WebAssembly.Instance(this.#module).exports;
+        this.#isWhole = true;
+        if (this.#maxMemory) this.#call('zaxbriar_limit_memory', BigInt(this.#maxMemory));
+    }
+
+    #bytes(at, count) {
+        return new Uint8Array(this.#exports.memory.buffer, at, count);
+    }
+
+    /* Runs `body`, which is given a function that allocates, and frees what that has allocated. */
+    #with(body) {
+        this.#start();
+        const blocks = [];
+        const allocate = (size) => {
+            const at = Number(this.#call('zaxbriar_malloc', BigInt(size)));
+            if (!at) throw new ZaxbriarError(NO_MEMORY, `no memory for ${size} bytes`);
+            blocks.push(at);
+            return at;
+        };
+        try {
+            return body(allocate);
+        } finally {
+            while (blocks.length > 0 && this.#isWhole) {
+                this.#call('zaxbriar_free', BigInt(blocks.pop()));
+            }
+        }
+    }
+
+    #put(allocate, bytes) {
+        const at = allocate(bytes.length);
+        this.#bytes(at, bytes.length).set(bytes);
+        return at;
+    }
+
+    #text(at, most) {
+        const bytes = this.#bytes(at, most).slice();
+        const end = bytes.indexOf(0);
+        return new TextDecoder().decode(end < 0 ? bytes : bytes.subarray(0, end));
+    }
+
+    #picture(at) {
+        const view = new DataView(this.#exports.memory.buffer, at, PICTURE_BYTES);
+        const long = (place) => Number(view.getBigUint64(place, true));
+        const layout = view.getUint8(41);
+        return {
+            width: view.getUint32(32, true),
+            height: view.getUint32(36, true),
+            size: long(0),
+            rowBytes: long(8),
+            decodingBytes: long(16),
+            streamBytes: long(24),
+            pixelBytes: view.getUint8(40),
+            layout: Object.keys(LAYOUTS).find((name) => LAYOUTS[name] === layout),
+            components: view.getUint8(42),
+            precision: view.getUint8(43),
+            sampleBytes: view.getUint8(44),
+            process: PROCESSES[view.getUint8(45)],
+            orientation: view.getUint8(46),
+        };
+    }
+
+    #check(answer, picture) {
+        if (answer !== OK) {
+            throw new ZaxbriarError(answer, this.#text(picture + TEXT_AT, TEXT_BYTES));
+        }
+    }
+
+    /* Reads the header of a stream that lies in the module's memory, and compares maxPixels. */
+    #describe(stream, picture, options) {
+        this.#check(this.#call('zaxbriar_read_info', ...stream, BigInt(picture)), picture);
+        const described = this.#picture(picture);
+        const most = options.maxPixels ?? 0;
+        wholeNumber(most, Number.MAX_SAFE_INTEGER, 'maxPixels');
+        if (most && described.width * described.height > most) {
+            const size = `${described.width} by ${described.height} pixels`;
+            throw new ZaxbriarError(TOO_LARGE, `the picture has ${size}, above ${most}`);
+        }
+        return described;
+    }
+
+    /* Puts a stream and its options into the module's memory, and gives the words of a call. */
+    #stream(allocate, jpeg, options) {
+        const bytes = bytesOf(jpeg);
+        const given = optionsOf(options);
+        const at = this.#put(allocate, bytes);
+        return [at, bytes.length, this.#put(allocate, given)].map(BigInt);
+    }
+
+    readInfo(jpeg, options = {}) {
+        return this.#with((allocate) => {
+            const stream = this.#stream(allocate, jpeg, options);
+            return this.#describe(stream, allocate(PICTURE_BYTES), options);
+        });
+    }
+
+    decode(jpeg, options = {}) {
+        return this.#with((allocate) => {
+            const stream = this.#stream(allocate, jpeg, options);
+            const at = allocate(PICTURE_BYTES);
+            const { size } = this.#describe(stream, at, options);
+            const pixels = allocate(size);
+            // The bytes between lines stay as they are, and blocks are used again.
+            if (options.stride) this.#bytes(pixels, size).fill(0);
+            const words = [pixels, size, at].map(BigInt);
+            this.#check(this.#call('zaxbriar_decode', ...stream, ...words), at);
+            const buffer = this.#bytes(pixels, size).slice().buffer;
+            return { picture: this.#picture(at), pixels: new Uint8ClampedArray(buffer) };
+        });
+    }
+
+    metadata(jpeg, kind) {
+        const number = numberOf(KINDS, kind, 'kind');
+        return this.#with((allocate) => {
+            const bytes = bytesOf(jpeg);
+            const stream = [this.#put(allocate, bytes), bytes.length].map(BigInt);
+            const length = allocate(8);
+            const copy = (...room) => {
+                const words = [...room, length].map(BigInt);
+                return this.#call('zaxbriar_metadata', ...stream, number, ...words);
+            };
+            const found = () =>
+                Number(new DataView(this.#exports.memory.buffer).getBigUint64(length, true));
+            let answer = copy(0, 0);
+            let data = 0;
+            if (answer === NO_ROOM) {
+                data = allocate(found());
+                answer = copy(data, found());
+            }
+            if (answer === NO_DATA) return null;
+            if (answer !== OK) {
+                const name = Number(this.#call('zaxbriar_answer_name', answer));
+                throw new ZaxbriarError(answer, this.#text(name, 32));
+            }
+            return this.#bytes(data, found()).slice();
+        });
+    }
+
+    get version() {
+        this.#start();
+        const version = this.#call('zaxbriar_version');
+        return `${version >> 16}.${(version >> 8) & 255}.${version & 255}`;
+    }
+}

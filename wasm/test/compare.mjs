@@ -1,0 +1,201 @@
+/* node compare.mjs NATIVE FOLDER [FILE..]: the module beside the native library, whose program
+ * NATIVE is of native.c: every stream of crates/decoder_cases, each beginning of those of `cuts`,
+ * the files that are named, and damaged ones of all, with each list of options below. Answers,
+ * descriptions, texts, pixels and metadata have to be the same. FOLDER takes the stream that is
+ * compared. */
+import { spawnSync } from 'node:child_process';
+import { readFileSync, writeFileSync } from 'node:fs';
+import { ZaxbriarError, load } from '../dist/zaxbriar.mjs';
+import { allCases } from './cases.mjs';
+
+const [native, folder, ...files] = process.argv.slice(2);
+const zaxbriar = await load();
+const MOST_SIZE = 2 ** 28;
+const MOST_BYTES = 400000000;
+const LAYOUTS = ['stored', 'grey', 'rgb', 'rgba', 'bgra', 'bgr', 'xrgb'];
+const TRANSFORMS = ['stream', undefined, 'rgb', 'ycbcr', 'cmyk', 'ycck'];
+const PROCESSES = ['', 'sequential', 'progressive', 'lossless'];
+const CODES = ['', 'MALFORMED', 'UNSUPPORTED', 'TRUNCATED', 'NO_MEMORY', 'NO_ROOM', 'BAD_ARGUMENT'];
+CODES.push('NO_DATA', 'TOO_LARGE');
+
+const ALL_OPTIONS = [
+    {},
+    ...LAYOUTS.slice(1).map((layout) => ({ layout })),
+    { scale: 1, layout: 'bgra', stride: 300 },
+    { scale: 2 },
+    { scale: 4, layout: 'rgb' },
+    { scale: 8, layout: 'rgba' },
+    { scale: 3 },
+    { minWidth: 3, minHeight: 5 },
+    { minWidth: 9 },
+    { colorTransform: 'rgb' },
+    { colorTransform: 'ycbcr', layout: 'rgba' },
+    { colorTransform: 'cmyk' },
+    { colorTransform: 'ycck' },
+    { maxBytes: 1000 },
+].map((options) => ({ maxBytes: MOST_BYTES, ...options }));
+
+const lineOf = (options) =>
+    [
+        LAYOUTS.indexOf(options.layout ?? 'stored'),
+        options.scale ?? 0,
+        TRANSFORMS.indexOf(options.colorTransform ?? 'stream'),
+        options.minWidth ?? 0,
+        options.minHeight ?? 0,
+        options.stride ?? 0,
+        options.maxBytes,
+    ].join(' ');
+const INPUT = ALL_OPTIONS.map((options) => `${lineOf(options)}\n`).join('');
+
+/* What the native program wrote, read from its start. */
+class Written {
+    constructor(bytes) {
+        this.bytes = bytes;
+        this.at = 0;
+    }
+
+    take(size) {
+        this.at += size;
+        return this.bytes.subarray(this.at - size, this.at);
+    }
+
+    int() {
+        return this.take(4).readInt32LE();
+    }
+
+    long() {
+        return Number(this.take(8).readBigUInt64LE());
+    }
+
+    /* A description, or the code and the text of a refusal. */
+    description(answer) {
+        const struct = this.take(192);
+        const text = struct.subarray(80);
+        const long = (place) => Number(struct.readBigUInt64LE(place));
+        if (answer) return `${CODES[answer]} ${text.subarray(0, text.indexOf(0))}`;
+        return JSON.stringify({
+            width: struct.readUInt32LE(32),
+            height: struct.readUInt32LE(36),
+            size: long(0),
+            rowBytes: long(8),
+            decodingBytes: long(16),
+            streamBytes: long(24),
+            pixelBytes: struct[40],
+            layout: LAYOUTS[struct[41]],
+            components: struct[42],
+            precision: struct[43],
+            sampleBytes: struct[44],
+            process: PROCESSES[struct[45]],
+            orientation: struct[46],
+        });
+    }
+}
+
+/* What a call gives, or the code and the text of its refusal. */
+function outcome(call) {
+    try {
+        return call();
+    } catch (error) {
+        if (!(error instanceof ZaxbriarError)) throw error;
+        return `${error.code} ${error.message}`;
+    }
+}
+
+const counts = { streams: 0, pictures: 0, refusals: 0, metadata: 0, bytes: 0, different: 0 };
+
+function differs(name, what, mine, theirs) {
+    counts.different++;
+    if (counts.different <= 20) {
+        console.error(`DIFFERENT: ${name}: ${what}: ${mine} | ${theirs}`.slice(0, 400));
+    }
+}
+
+function compareDecoding(name, what, jpeg, options, written) {
+    const answer = written.int();
+    const described = written.description(answer);
+    const pixels = written.take(written.long());
+    const mine = outcome(() => zaxbriar.decode(jpeg, options));
+    const told = typeof mine === 'string' ? mine : JSON.stringify(mine.picture);
+    if (told !== described) {
+        differs(name, what, told, described);
+    } else if (typeof mine === 'string') {
+        counts.refusals++;
+    } else if (!pixels.equals(Buffer.from(mine.pixels.buffer))) {
+        differs(name, what, 'pixels', 'other pixels');
+    } else {
+        counts.pictures++;
+        counts.bytes += pixels.length;
+    }
+}
+
+function compareMetadata(name, kind, jpeg, written) {
+    const answer = written.int();
+    const data = written.take(written.long());
+    const mine = outcome(() => zaxbriar.metadata(jpeg, kind));
+    const told = typeof mine === 'string' ? mine.split(' ')[0] : mine && Buffer.from(mine);
+    const same = Buffer.isBuffer(told)
+        ? answer === 0 && data.equals(told)
+        : CODES[answer] === (told ?? 'NO_DATA');
+    if (same) counts.metadata += data.length > 0;
+    else differs(name, kind, told, CODES[answer]);
+}
+
+function compare(name, jpeg) {
+    const path = `${folder}/stream.jpg`;
+    writeFileSync(path, jpeg);
+    const ran = spawnSync(native, [path], { input: INPUT, maxBuffer: 2 ** 31 });
+    if (ran.status !== 0) throw new Error(`${name}: ${native}: ${ran.status} ${ran.error}`);
+    const written = new Written(ran.stdout);
+    counts.streams++;
+    for (const options of ALL_OPTIONS) {
+        const what = JSON.stringify(options);
+        const described = written.description(written.int());
+        const read = outcome(() => zaxbriar.readInfo(jpeg, options));
+        const told = typeof read === 'string' ? read : JSON.stringify(read);
+        if (told !== described) differs(name, what, told, described);
+        if (!described.startsWith('{')) counts.refusals++;
+        else if (JSON.parse(described).size <= MOST_SIZE) {
+            compareDecoding(name, what, jpeg, options, written);
+        }
+    }
+    for (const kind of ['exif', 'xmp', 'icc']) compareMetadata(name, kind, jpeg, written);
+    if (written.at !== ran.stdout.length) throw new Error(`${name}: more was written`);
+}
+
+let seed = 1;
+const random = (below) => {
+    seed = (Math.imul(seed, 1103515245) + 12345) >>> 0;
+    return Math.floor((seed / 2 ** 32) * below);
+};
+
+/* A stream with up to four bytes of another value. */
+function damaged(jpeg) {
+    const bytes = Buffer.from(jpeg);
+    for (let left = 1 + random(4); left > 0 && bytes.length; left--) {
+        bytes[random(bytes.length)] = random(256);
+    }
+    return bytes;
+}
+
+for (const { file, name, stream, calls } of allCases()) {
+    const label = `${file}, ${name}`;
+    compare(label, stream);
+    if (calls[0]?.[0] === 'cuts') {
+        for (let length = 0; length < stream.length; length++) {
+            compare(`${label}, ${length} bytes`, stream.subarray(0, length));
+        }
+    } else {
+        compare(`${label}, damaged`, damaged(stream));
+    }
+}
+for (const file of files) {
+    const jpeg = readFileSync(file);
+    compare(file, jpeg);
+    for (let index = 0; index < 20; index++) compare(`${file}, damaged`, damaged(jpeg));
+}
+const { streams, pictures, refusals, metadata, bytes, different } = counts;
+console.log(
+    `compared: ${streams} streams by ${ALL_OPTIONS.length} lists of options: ${pictures} pictures` +
+        ` of ${bytes} bytes, ${refusals} refusals, ${metadata} metadata; ${different} different`,
+);
+process.exitCode = different ? 1 : 0;

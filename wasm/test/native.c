@@ -1,0 +1,75 @@
+/* native FILE: what the native library gives for a stream, for compare.mjs.
+ *
+ * Each line of standard input is the numbers of some options: layout, scale, transform, min_width,
+ * min_height, stride, max_bytes. For each the answer and the description by the header are written,
+ * then the answer and the description by decoding, and the pixels after their count. At the end
+ * come the answer, the length and the bytes of each kind of metadata. */
+#include <stdio.h>
+#include <stdlib.h>
+#include <zaxbriar.h>
+
+#define MOST_SIZE ((uint64_t)1 << 28) /* above it a picture isn't decoded, here and there */
+
+static void put(const void *bytes, size_t size) {
+    if (fwrite(bytes, 1, size, stdout) != size) exit(1);
+}
+
+static void put_answer(int answer, const zaxbriar_picture *picture) {
+    put(&answer, sizeof answer);
+    put(picture, sizeof *picture);
+}
+
+static void *allocate(size_t size) {
+    void *block = calloc(size ? size : 1, 1);
+    if (!block) exit(1);
+    return block;
+}
+
+static void put_picture(const void *jpeg, size_t jpeg_size, const zaxbriar_options *options) {
+    zaxbriar_picture picture;
+    int answer = zaxbriar_read_info(jpeg, jpeg_size, options, &picture);
+    put_answer(answer, &picture);
+    if (answer || picture.size > MOST_SIZE) return;
+    uint64_t size = picture.size;
+    unsigned char *pixels = allocate(size);
+    answer = zaxbriar_decode(jpeg, jpeg_size, options, pixels, size, &picture);
+    put_answer(answer, &picture);
+    put(&size, sizeof size);
+    put(pixels, size);
+    free(pixels);
+}
+
+static void put_metadata(const void *jpeg, size_t jpeg_size, int kind) {
+    size_t length = 0;
+    int answer = zaxbriar_metadata(jpeg, jpeg_size, kind, NULL, 0, &length);
+    unsigned char *data = allocate(length);
+    if (answer == ZAXBRIAR_NO_ROOM)
+        answer = zaxbriar_metadata(jpeg, jpeg_size, kind, data, length, &length);
+    put(&answer, sizeof answer);
+    put(&length, sizeof length);
+    put(data, length);
+    free(data);
+}
+
+int main(int count, char **words) {
+    static unsigned char jpeg[1 << 26];
+    FILE *file = count == 2 ? fopen(words[1], "rb") : NULL;
+    if (!file) return 2;
+    size_t size = fread(jpeg, 1, sizeof jpeg, file);
+    unsigned long long n[7];
+    while (scanf("%llu %llu %llu %llu %llu %llu %llu", n, n + 1, n + 2, n + 3, n + 4, n + 5, n + 6)
+           == 7) {
+        zaxbriar_options options = {
+            .layout = (uint8_t)n[0],
+            .scale = (uint8_t)n[1],
+            .transform = (uint8_t)n[2],
+            .min_width = (uint16_t)n[3],
+            .min_height = (uint16_t)n[4],
+            .stride = n[5],
+            .max_bytes = n[6],
+        };
+        put_picture(jpeg, size, &options);
+    }
+    for (int kind = ZAXBRIAR_EXIF; kind <= ZAXBRIAR_ICC; kind++) put_metadata(jpeg, size, kind);
+    return 0;
+}

@@ -1,0 +1,195 @@
+/* node page.mjs FOLDER: the page of dist/web in headless Chromium: files that are chosen, dropped
+ * and pasted, their pixels, faults by name, zoom and the list by keys, names for a screen reader,
+ * the page without a network, and the worker after a trap. FOLDER takes files and page.png. */
+import assert from 'node:assert/strict';
+import { readFileSync, writeFileSync } from 'node:fs';
+import { resolve } from 'node:path';
+import { load } from '../dist/zaxbriar.mjs';
+import { browse, serve } from './browser.mjs';
+import { allCases } from './cases.mjs';
+
+const folder = resolve(process.argv[2]);
+const web = new URL('../dist/web', import.meta.url).pathname;
+const ours = (name) => new URL(`../../programs/files/${name}`, import.meta.url).pathname;
+const cases = allCases();
+
+/* A stream of crates/decoder_cases as a file. */
+function fileOf(file, name) {
+    const { stream } = cases.find((it) => it.file === `${file}.case` && it.name === name);
+    const path = `${folder}/${name}.jpg`;
+    writeFileSync(path, stream);
+    return path;
+}
+
+const PICTURES = [ours('turned.jpg'), ours('picture.jpg')];
+PICTURES.push(fileOf('colours', 'four components'), fileOf('lossless', 'samples of 16 bits'));
+const arithmetic = cases.find(({ answers }) => answers.includes('JPEG feature: Arithmetic'));
+const REFUSED = {
+    [ours('cut.jpg')]: 'TRUNCATED',
+    [ours('large.jpg')]: 'NO_MEMORY',
+    [ours('picture.png')]: 'MALFORMED',
+    [fileOf(arithmetic.file.replace('.case', ''), arithmetic.name)]: 'UNSUPPORTED',
+};
+const nameOf = (path) => path.split('/').at(-1);
+const button = (path) =>
+    `[...document.querySelectorAll('#files button')].find((it) => it.firstChild.data ===` +
+    ` ${JSON.stringify(nameOf(path))})`;
+
+/* Chooses a file of the list, and waits for what it shows. */
+async function show(page, path) {
+    await page.run(`document.body.dataset.state = 'waiting'; ${button(path)}.click()`);
+    await page.until(`['shown', 'refused'].includes(document.body.dataset.state)`);
+    return page.run('document.body.dataset.state');
+}
+
+const factsOf = (page) =>
+    page.run(`Object.fromEntries([...document.querySelectorAll('#facts dt')].map(
+        (it) => [it.textContent, it.nextSibling.textContent]))`);
+
+/* The canvas as rows of pixels. */
+const canvasOf = (page) =>
+    page.run(`(() => {
+        const canvas = document.getElementById('canvas');
+        const { width, height } = canvas;
+        const copy = new OffscreenCanvas(width, height);
+        const context = copy.getContext('2d', { willReadFrequently: true });
+        context.drawImage(canvas, 0, 0);
+        return { width, height, data: [...context.getImageData(0, 0, width, height).data] };
+    })()`);
+
+/* Pictures upright, by the pixels of the module in Node. */
+async function checkPixels(page) {
+    const zaxbriar = await load();
+    for (const path of PICTURES.slice(0, 2)) {
+        assert.equal(await show(page, path), 'shown');
+        const { picture, pixels } = zaxbriar.decode(readFileSync(path), { layout: 'rgba' });
+        const { width, height, data } = await canvasOf(page);
+        const isTurned = picture.orientation === 6;
+        assert.ok(isTurned || picture.orientation === 1);
+        const size = [picture.width, picture.height];
+        assert.deepEqual([width, height], isTurned ? size.reverse() : size);
+        for (let y = 0; y < height; y++) {
+            for (let x = 0; x < width; x++) {
+                // (orientation 6: the left column, from below, is the upper row)
+                const [row, column] = isTurned ? [picture.height - 1 - x, y] : [y, x];
+                const from = 4 * (row * picture.width + column);
+                const to = 4 * (y * width + x);
+                assert.deepEqual(data.slice(to, to + 4), [...pixels.subarray(from, from + 4)]);
+            }
+        }
+    }
+}
+
+async function checkRefusals(page) {
+    for (const [path, fault] of Object.entries(REFUSED)) {
+        assert.equal(await show(page, path), 'refused', path);
+        const text = await page.run(`document.getElementById('error').textContent`);
+        assert.ok(text.startsWith(`${fault}: `), `${path}: ${text}`);
+        assert.equal(await page.run(`${button(path)}.lastChild.textContent`), fault);
+        assert.ok(await page.run(`document.getElementById('shown').hidden`));
+    }
+}
+
+/* Drops and pastes a file that the page builds of these bytes. */
+async function give(page, event, path) {
+    await page.run(`(() => {
+        const data = new DataTransfer();
+        const bytes = new Uint8Array(${JSON.stringify([...readFileSync(path)])});
+        data.items.add(new File([bytes], '${event}.jpg', { type: 'image/jpeg' }));
+        document.body.dataset.state = 'waiting';
+        document.dispatchEvent('${event}' === 'drop'
+            ? new DragEvent('drop', { dataTransfer: data, cancelable: true })
+            : new ClipboardEvent('paste', { clipboardData: data }));
+    })()`);
+    await page.until(`document.body.dataset.state === 'shown'`);
+    assert.equal((await factsOf(page)).File, `${event}.jpg`);
+}
+
+async function checkKeys(page) {
+    const scale = () => page.run(`document.getElementById('scale').textContent`);
+    await show(page, PICTURES[0]);
+    await page.run(`document.getElementById('view').focus()`);
+    for (const [key, wanted] of [
+        ['1', '100 %'],
+        ['+', '200 %'],
+        ['+', '400 %'],
+        ['-', '200 %'],
+        ['0', '100 %'],
+    ]) {
+        await page.press(key);
+        assert.equal(await scale(), wanted);
+    }
+    await page.run(`${button(PICTURES[0])}.focus()`);
+    await page.press('ArrowDown');
+    assert.equal(await page.run('document.activeElement.firstChild.data'), nameOf(PICTURES[1]));
+}
+
+/* All that takes the focus, and the picture, has a name, and some roles are there. */
+async function checkNames(page) {
+    const { nodes } = await page.send('Accessibility.getFullAXTree');
+    const shown = nodes.filter(({ ignored, role }) => !ignored && role);
+    const of = (role) => shown.filter((node) => node.role.value === role);
+    for (const role of ['button', 'image', 'region', 'group', 'navigation', 'heading']) {
+        assert.ok(of(role).length > 0, role);
+        for (const { name } of of(role)) assert.ok(name?.value, `a ${role} without a name`);
+    }
+    assert.ok(of('status').length > 0);
+    return of('button').length;
+}
+
+/* The page, and its decoder, without a network. */
+async function checkOffline(page, url) {
+    await page.until(`navigator.serviceWorker.controller !== null`);
+    const conditions = { latency: 0, downloadThroughput: 0, uploadThroughput: 0 };
+    await page.send('Network.emulateNetworkConditions', { ...conditions, offline: true });
+    await page.open(url);
+    await page.until(`document.body?.dataset.state === 'ready'`);
+    await page.choose('#file', PICTURES);
+    await page.until(`document.querySelectorAll('#files button').length === ${PICTURES.length}`);
+    assert.equal(await show(page, PICTURES[0]), 'shown');
+}
+
+/* A module whose stack is too small, for the first worker alone. */
+async function checkTrap() {
+    const first = Buffer.from([0x7e, 0x01, 0x42, 0x80, 0x80, 0x10, 0x0b]);
+    const smaller = Buffer.from([0x7e, 0x01, 0x42, 0x80, 0xa0, 0x00, 0x0b]);
+    let isSmall = true;
+    const { url, close } = await serve(web, (path, bytes) => {
+        if (path.endsWith('offline.js')) return null;
+        if (path.endsWith('.wasm') && isSmall) bytes.set(smaller, bytes.indexOf(first));
+        return bytes;
+    });
+    const page = await browse(url);
+    await page.until(`document.body.dataset.state === 'ready'`);
+    await page.choose('#file', PICTURES.slice(0, 1));
+    await page.until(`document.body.dataset.state === 'refused'`);
+    const text = await page.run(`document.getElementById('error').textContent`);
+    assert.match(text, /^FAILED: .*unreachable/);
+    isSmall = false;
+    assert.equal(await show(page, PICTURES[0]), 'shown');
+    assert.equal(await page.run('document.body.dataset.workers'), '2');
+    await page.close();
+    close();
+}
+
+const { url, close } = await serve(web);
+const page = await browse(url);
+await page.until(`document.body.dataset.state === 'ready'`);
+const files = [...PICTURES, ...Object.keys(REFUSED)];
+await page.choose('#file', files);
+await page.until(`[...document.querySelectorAll('#files small')].length === ${files.length} &&
+    ![...document.querySelectorAll('#files small')].some((it) => it.textContent === 'waiting')`);
+for (const path of PICTURES) assert.equal(await show(page, path), 'shown', path);
+await checkPixels(page);
+await checkRefusals(page);
+for (const event of ['drop', 'paste']) await give(page, event, PICTURES[0]);
+await checkKeys(page);
+const buttons = await checkNames(page);
+await page.screenshot(`${folder}/page.png`);
+assert.deepEqual(page.logs, []);
+await checkOffline(page, url);
+await page.close();
+close();
+await checkTrap();
+console.log(`page: ${PICTURES.length} pictures, ${Object.keys(REFUSED).length} refusals by name,`);
+console.log(`      drop, paste, keys, ${buttons} buttons with names, offline, the trap's worker`);

@@ -1,0 +1,245 @@
+/* The page: a list of files, of which one is shown. Each is decoded by the worker when it is added,
+ * and again when it is chosen: pictures that aren't shown aren't kept. */
+const at = (id) => document.getElementById(id);
+const tell = (text) => (at('status').textContent = text);
+
+/* The worker and the requests that it hasn't answered. Where a worker fails another takes them. */
+class Decoder {
+    #worker = null;
+    #last = 0;
+    #waiting = new Map();
+
+    #begin() {
+        this.#worker = new Worker(new URL('worker.mjs', import.meta.url), { type: 'module' });
+        const started = Number(document.body.dataset.workers ?? 0) + 1;
+        document.body.dataset.workers = started;
+        this.#worker.onmessage = ({ data }) => {
+            this.#waiting.get(data.id)?.done(data);
+            this.#waiting.delete(data.id);
+            if (data.isBroken) this.#replace();
+        };
+        this.#worker.onerror = (event) => {
+            event.preventDefault();
+            const [id] = this.#waiting.keys();
+            const text = event.message || 'the worker could not be started';
+            this.#waiting.get(id)?.done({ fault: 'FAILED', text });
+            this.#waiting.delete(id);
+            this.#replace();
+        };
+    }
+
+    /* Ends the worker. What it has not answered is asked of a new one. */
+    #replace() {
+        this.#worker.terminate();
+        this.#worker = null;
+        if (this.#waiting.size === 0) return;
+        this.#begin();
+        for (const [id, { file }] of this.#waiting) this.#worker.postMessage({ id, file });
+    }
+
+    decode(file) {
+        if (!this.#worker) this.#begin();
+        const id = ++this.#last;
+        return new Promise((done) => {
+            this.#waiting.set(id, { file, done });
+            this.#worker.postMessage({ id, file });
+        });
+    }
+}
+
+const decoder = new Decoder();
+
+/* Where a picture's axes go in an upright one, by its Exif orientation. */
+const matrixOf = ({ orientation, width, height }) =>
+    ({
+        1: [1, 0, 0, 1, 0, 0],
+        2: [-1, 0, 0, 1, width, 0],
+        3: [-1, 0, 0, -1, width, height],
+        4: [1, 0, 0, -1, 0, height],
+        5: [0, 1, 1, 0, 0, 0],
+        6: [0, 1, -1, 0, height, 0],
+        7: [0, -1, -1, 0, height, width],
+        8: [0, -1, 1, 0, 0, width],
+    })[orientation];
+
+function draw(picture, pixels) {
+    const { width, height, orientation } = picture;
+    const stored = new OffscreenCanvas(width, height);
+    const data = new ImageData(new Uint8ClampedArray(pixels), width, height);
+    stored.getContext('2d').putImageData(data, 0, 0);
+    const canvas = at('canvas');
+    const isTurned = orientation > 4;
+    canvas.width = isTurned ? height : width;
+    canvas.height = isTurned ? width : height;
+    const context = canvas.getContext('2d');
+    context.setTransform(...matrixOf(picture));
+    context.drawImage(stored, 0, 0);
+}
+
+let zoom = 1;
+
+function setZoom(factor) {
+    zoom = Math.min(Math.max(factor, 1 / 64), 32);
+    const canvas = at('canvas');
+    canvas.style.width = `${canvas.width * zoom}px`;
+    canvas.style.height = `${canvas.height * zoom}px`;
+    canvas.classList.toggle('grown', zoom > 1);
+    at('scale').textContent = `${Math.round(zoom * 1000) / 10} %`;
+}
+
+const ZOOMS = {
+    in: () => setZoom(zoom * 2),
+    out: () => setZoom(zoom / 2),
+    whole: () => setZoom(1),
+    fit: () => {
+        const { width, height } = at('canvas');
+        const room = [at('view').clientWidth / width, (innerHeight * 0.75) / height];
+        setZoom(Math.min(1, ...room));
+    },
+};
+const KEYS = { '+': 'in', '=': 'in', '-': 'out', 1: 'whole', 0: 'fit' };
+
+const COLOURS = { 1: 'grey', 3: 'red, green, blue', 4: 'cyan, magenta, yellow, black' };
+const counted = (bytes) => (bytes ? `${bytes.toLocaleString('en')} bytes` : 'none');
+
+function factsOf(file, { picture, metadata, milliseconds }) {
+    const facts = { File: file.name, Length: counted(file.size) };
+    if (picture) {
+        facts.Size = `${picture.width} × ${picture.height} pixels`;
+        facts.Process = picture.process;
+        facts.Colours = COLOURS[picture.components];
+        facts.Samples = `${picture.precision} bits`;
+        facts.Orientation = `${picture.orientation}`;
+    }
+    if (metadata) {
+        facts.Exif = counted(metadata.exif);
+        facts.XMP = counted(metadata.xmp);
+        facts['ICC profile'] = counted(metadata.icc);
+    }
+    if (milliseconds !== undefined) facts['Decoded in'] = `${milliseconds.toFixed(1)} ms`;
+    return facts;
+}
+
+function showFacts(facts) {
+    const lines = Object.entries(facts).flatMap(([name, value]) => {
+        const term = document.createElement('dt');
+        const text = document.createElement('dd');
+        term.textContent = name;
+        text.textContent = value;
+        return [term, text];
+    });
+    at('facts').replaceChildren(...lines);
+}
+
+function showFault(reply) {
+    at('error').hidden = !reply.fault;
+    const name = document.createElement('strong');
+    name.textContent = reply.fault ?? '';
+    at('error').replaceChildren(name, reply.fault ? `: ${reply.text}` : '');
+}
+
+const entries = [];
+let chosen = null;
+
+/* Puts an answer on the page. */
+function show(entry, reply) {
+    if (reply.pixels) {
+        try {
+            draw(reply.picture, reply.pixels);
+        } catch (error) {
+            reply.fault = 'NOT SHOWN';
+            reply.text = `the browser has no canvas of that size (${error.message})`;
+        }
+    }
+    showFault(reply);
+    showFacts(factsOf(entry.file, reply));
+    at('xmp').hidden = !reply.metadata?.text;
+    at('xmp').querySelector('pre').textContent = reply.metadata?.text ?? '';
+    at('shown').hidden = !reply.pixels || Boolean(reply.fault);
+    if (!at('shown').hidden) {
+        const { width, height } = at('canvas');
+        at('canvas').setAttribute('aria-label', `${entry.file.name}, ${width} by ${height} pixels`);
+        ZOOMS.fit();
+    }
+    tell(`${entry.file.name}: ${reply.fault ? `${reply.fault}, ${reply.text}` : 'shown'}`);
+    document.body.dataset.state = reply.fault ? 'refused' : 'shown';
+}
+
+async function decodeEntry(entry) {
+    if (entry === chosen) document.body.dataset.state = 'working';
+    const reply = await decoder.decode(entry.file);
+    const size = reply.picture && `${reply.picture.width} × ${reply.picture.height}`;
+    entry.note.textContent = reply.fault ?? size;
+    entry.button.classList.toggle('refused', Boolean(reply.fault));
+    entry.isDone = true;
+    if (entry === chosen) show(entry, reply);
+}
+
+function choose(entry) {
+    chosen?.button.removeAttribute('aria-current');
+    chosen = entry;
+    entry.button.setAttribute('aria-current', 'true');
+    if (entry.isDone) decodeEntry(entry);
+}
+
+function add(file) {
+    const entry = { file, isDone: false };
+    entry.button = document.createElement('button');
+    entry.button.type = 'button';
+    entry.button.textContent = file.name;
+    entry.note = document.createElement('small');
+    entry.note.textContent = 'waiting';
+    entry.button.append(entry.note);
+    entry.button.onclick = () => choose(entry);
+    const item = document.createElement('li');
+    item.append(entry.button);
+    at('files').append(item);
+    entries.push(entry);
+    return entry;
+}
+
+function open(files) {
+    const added = [...files].map(add);
+    if (added.length === 0) return;
+    at('work').hidden = false;
+    choose(added[0]);
+    added.forEach(decodeEntry);
+}
+
+at('file').onchange = (event) => {
+    open(event.target.files);
+    // (so that the same file can be chosen again)
+    event.target.value = '';
+};
+at('zoom').onclick = (event) => ZOOMS[event.target.dataset.zoom]?.();
+at('view').onkeydown = (event) => {
+    if (event.ctrlKey || event.metaKey || event.altKey || !KEYS[event.key]) return;
+    event.preventDefault();
+    ZOOMS[KEYS[event.key]]();
+};
+at('files').onkeydown = (event) => {
+    const step = { ArrowDown: 1, ArrowUp: -1 }[event.key];
+    const index = entries.findIndex(({ button }) => button === document.activeElement);
+    const next = entries[index + (step ?? 0)];
+    if (!step || index < 0 || !next) return;
+    event.preventDefault();
+    next.button.focus();
+};
+for (const [name, isOver] of [
+    ['dragover', true],
+    ['dragleave', false],
+    ['drop', false],
+]) {
+    document.addEventListener(name, (event) => {
+        event.preventDefault();
+        at('drop').classList.toggle('over', isOver);
+        if (name === 'drop') open(event.dataTransfer.files);
+    });
+}
+document.addEventListener('paste', (event) => open(event.clipboardData.files));
+
+if ('serviceWorker' in navigator) {
+    // (a page that isn't served over HTTPS or from this machine has none)
+    navigator.serviceWorker.register('offline.js').catch(() => {});
+}
+document.body.dataset.state = 'ready';
