@@ -9,7 +9,8 @@ use jpeg_decoder::Decoder;
 use jpeg_decoder::error::Result;
 use std::io::Read;
 
-/// Decodes by the clause `reads` what the decoder's reader has left: a wrong body looks at these bytes.
+/// Decodes by the clause `reads` what the decoder's reader has left: a wrong body looks at these
+/// bytes.
 pub fn meaning_of<R: Read + Drop>(decoder: &mut Decoder<R>, bytes: &[u8]) -> Result<Vec<u8>>
     requires { decoder.old.source.bytes ≡ bytes.now }
     ensures { IsReading decoder.old.stage

@@ -43,7 +43,8 @@ token_at room size r s =
 unfoldable pub token_from : Table → ℕ → Reads Token
 token_from table room = code_from table >>= (λ c. token_at room c.0 (c.1 / 16) (c.1 % 16))
 
--- What a pass over the rest of a band gives: its coefficients, and the blocks of the run that follows.
+-- What a pass over the rest of a band gives: its coefficients, and the blocks of the run that
+-- follows.
 abbrev pub Band : Type 0
 Band = List ℤ × ℕ
 
@@ -51,8 +52,8 @@ abbrev pub before_more : List ℤ → Band → Band
 before_more front more = (front ++ more.0, more.1)
 
 -- The piece of a token of a first pass, where `others` reads what is after it: r coefficients and a
--- value, sixteen coefficients, or the rest, which is kept. A value that is longer than the rest writes
--- nothing.
+-- value, sixteen coefficients, or the rest, which is kept. A value that is longer than the rest
+-- writes nothing.
 abbrev pub after_token : ℕ → (List ℤ → Reads Band) → List ℤ → Token → Reads Band
 after_token al others rest (Value r v) =
     others (drop (r + 1) rest) >>= (λ more.

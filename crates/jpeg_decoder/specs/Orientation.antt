@@ -54,8 +54,8 @@ value_by little kind entry = number_at little 8 (bytes_by kind) entry
 abbrev pub value_of : Bool → List ℕ → ℕ
 value_of little entry = value_by little (number_at little 2 2 entry) entry
 
--- An entry is an orientation by its tag, its type (a SHORT or a SLONG) and its count, if its value is
--- one.
+-- An entry is an orientation by its tag, its type (a SHORT or a SLONG) and its count, if its value
+-- is one.
 abbrev pub is_orientation_by : ℕ → ℕ → ℕ → ℕ → Bool
 is_orientation_by tag kind count value = tag == 0x0112
     && ((kind == 3 || kind == 9) && (count == 1 && (nat_le 1 value && nat_le value 8)))

@@ -74,7 +74,8 @@ after_all met bytes = after_restarts (suc (length bytes)) met bytes
 
 -- ---- the tables of a scan
 
--- the default tables at the destinations that a scan names, where a frame of an MJPEG stream was named
+-- the default tables at the destinations that a scan names, where a frame of an MJPEG stream was
+-- named
 abbrev pub default_dc : Bool → List ℕ → List (Option Table)
 default_dc is_mjpeg named = if is_mjpeg then with_defaults luminance_dc chrominance_dc named
     (replicate 4 None) else []

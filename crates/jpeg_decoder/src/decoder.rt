@@ -405,8 +405,8 @@ impl<R: Read + Drop> Decoder<R> {
     /// returns the size of the picture at that scale. Reads the header first where it wasn't read;
     /// the last call of `set_scale` or `scale` counts. A lossless picture keeps its size.
     ///
-    /// `scale` chooses by a size, and a picture one pixel wide has its width at 1/8 already. Here the
-    /// scale is the caller's choice.
+    /// `scale` chooses by a size, and a picture one pixel wide has its width at 1/8 already. Here
+    /// the scale is the caller's choice.
     ///
     /// After `decode` the call changes what `info` returns, and no picture. The errors are those of
     /// `read_info`; a refusal leaves a failed decoder.

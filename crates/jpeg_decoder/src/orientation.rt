@@ -128,8 +128,8 @@ fn orientation_by(exif: &[u8], is_little: bool) -> Option<u8>
 }
 
 /// Returns the orientation that Exif data say, 1 (upright) to 8: the value of the first entry of
-/// their first directory that has the tag 0x0112 and one number of two bytes from 1 to 8, or of four
-/// with a sign, which some files have.
+/// their first directory that has the tag 0x0112 and one number of two bytes from 1 to 8, or of
+/// four with a sign, which some files have.
 ///
 /// Data begin at their TIFF header, as those of [`Decoder::exif_data`](crate::Decoder::exif_data).
 /// Where they are cut or say no orientation the answer is none.

@@ -219,7 +219,8 @@ impl State {
         })
     }
 
-    /// Marks that a scan was read, and returns what stands after it: this marker, if one was reached.
+    /// Marks that a scan was read, and returns what stands after it: this marker, if one was
+    /// reached.
     pub fn end_scan(&mut self, met: Option<Marker>) -> Step
         ensures { turn_of self.new result ≡ record {
           found = once_scanned (found_in self.old);

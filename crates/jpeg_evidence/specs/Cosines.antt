@@ -37,8 +37,8 @@ unfoldable pub adds : ℕ → ℕ → Bool
 adds i j = nat_lt i j || is_near (2 * unit) (pos 2 *ℤ cosine i *ℤ cosine j)
     (pos unit *ℤ (cosine (i - j) +ℤ cosine (i + j)))
 
--- The entry of the transform's matrix has the sign of cos ((2 row + 1) k pi / 16), and its square is
--- that of 4096 sqrt 2 times the cosine within 19147: so the entry is within 2 of it.
+-- The entry of the transform's matrix has the sign of cos ((2 row + 1) k pi / 16), and its square
+-- is that of 4096 sqrt 2 times the cosine within 19147: so the entry is within 2 of it.
 unfoldable pub is_entry : ℕ → ℕ → Bool
 is_entry row k =
     let c = cosine ((2 * row + 1) * k) in

@@ -28,8 +28,8 @@ unclamped coefficients quantization x y =
 abbrev pub whole : ℕ
 whole = 4 * (unit * unit)
 
--- How far that number is from A.3.3's sample, which is 128 and a quarter of the sum. The digits that
--- the cosines leave out change it by less than 10^-8 of a whole for the blocks of
+-- How far that number is from A.3.3's sample, which is 128 and a quarter of the sum. The digits
+-- that the cosines leave out change it by less than 10^-8 of a whole for the blocks of
 -- `transform_is_near`.
 unfoldable pub distance : List ℤ → List ℕ → ℕ → ℕ → ℕ
 distance coefficients quantization x y =

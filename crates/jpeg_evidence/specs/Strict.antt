@@ -52,8 +52,8 @@ pub record IsData (bytes : List ℕ) (bits : List Bool) (m : Marker) (rest : Lis
   pub has_bits : bits_of_bytes data_bytes ≡ bits
 
 -- What follows the code of run r and size s of a token: nothing, or the bits of its value, or of
--- the number that an end of bands has. A value that is longer than its band is none that is written:
--- this decoder takes its code, and its bits or none of them.
+-- the number that an end of bands has. A value that is longer than its band is none that is
+-- written: this decoder takes its code, and its bits or none of them.
 pub data Follows : ℕ → ℕ → Token → List Bool → Type 0 where
   value : (r s : ℕ) (u : ℤ) (own : List Bool)
       → IsValue (suc s) u own → Follows r (suc s) (Value r u) own
@@ -138,9 +138,9 @@ pub record HasTables (p : Pass) (via : Via) : Type 0 where
   pub ac_is : p.se ≢ 0 → IsTable via.ac
   pub ac_bytes : p.se ≢ 0 → HasByteSymbols via.ac
 
--- A block that these bits begin with fits. In a first pass none of its band was sent before, DC that
--- is read has its number in 16 bits, and the tokens of the band fit it. In a refinement what is kept
--- was sent at the level above, and the pieces of the band fit it.
+-- A block that these bits begin with fits. In a first pass none of its band was sent before, DC
+-- that is read has its number in 16 bits, and the tokens of the band fit it. In a refinement what
+-- is kept was sent at the level above, and the pieces of the band fit it.
 pub record BlockFits (p : Pass) (via : Via) (predictor : ℤ) (run : ℕ) (old : Block) (bits : List Bool)
     : Type 0 where
   pub unsent : p.is_first ≡ true → band_of p old.acs ≡ no_numbers (length (band_of p old.acs))
@@ -169,8 +169,8 @@ pub record IsBlock (p : Pass) (via : Via) (predictor : ℤ) (run : ℕ) (r : Blo
 
 -- ---- the blocks of an interval
 
--- The blocks that these bits begin with fit, one after the other, by the predictors of the components
--- and the run that reaches them. No run goes beyond the last.
+-- The blocks that these bits begin with fit, one after the other, by the predictors of the
+-- components and the run that reaches them. No run goes beyond the last.
 pub data BlocksFit (p : Pass) : List ℤ → ℕ → List (Via × Block) → List Bool → Type 0 where
   finished : (predictors : List ℤ) (bits : List Bool) → BlocksFit p predictors 0 [] bits
   next : (predictors : List ℤ) (run : ℕ) (t : Via × Block) (turns : List (Via × Block)) (bits more : List Bool)
@@ -181,7 +181,8 @@ pub data BlocksFit (p : Pass) : List ℤ → ℕ → List (Via × Block) → Lis
       → BlocksFit p (set predictors t.0.component r.1) r.2 turns more
       → BlocksFit p predictors run (t ∷ turns) bits
 
--- What a writer codes of blocks that were read: each by its path, in numbers at the level of the pass.
+-- What a writer codes of blocks that were read: each by its path, in numbers at the level of the
+-- pass.
 unfoldable pub numbers_read : Pass → List (Via × Block) → List Block → List (Via × Block)
 numbers_read p [] blocks = []
 numbers_read p (t ∷ turns) [] = []
@@ -209,8 +210,8 @@ pub record IsDc (table : Table) (al : ℕ) (predictor : ℤ) (y : ℤ × ℤ) (o
 
 -- ---- the intervals of a scan
 
--- Bytes that begin with intervals that are written, from number k on, up to a marker, and go on with
--- the rest.
+-- Bytes that begin with intervals that are written, from number k on, up to a marker, and go on
+-- with the rest.
 pub record IsIntervals (p : Pass) (k : ℕ) (turns : List (Via × Block)) (more : List (List (Via × Block)))
     (bytes : List ℕ) (m : Marker) (rest : List ℕ) : Type 0 where
   pub front : List ℕ

@@ -9,8 +9,8 @@ pub record Position : Type 0 where
 abbrev pub at : ℕ → ℕ → Position
 at row column = record { row = row; column = column }
 
--- The next position: up and right on a diagonal whose row and column add up to an even number, down and
--- left on another; at the block's edge on to the next diagonal.
+-- The next position: up and right on a diagonal whose row and column add up to an even number, down
+-- and left on another; at the block's edge on to the next diagonal.
 abbrev pub next : Position → Position
 next p =
     if (p.row + p.column) % 2 == 0

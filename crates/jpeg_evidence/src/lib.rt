@@ -136,8 +136,8 @@ pub fn default_tables_are_of_a_file()
     ensures chrominance_rest { file_tables 428 ≡ Ok (chrominance_ac ∷ []) }
 {}
 
-/// What segments of applications say. Adobe's transform is the last of its twelve bytes, the data of
-/// Exif, XMP and Photoshop begin after their names, and a part of an ICC profile has its number
+/// What segments of applications say. Adobe's transform is the last of its twelve bytes, the data
+/// of Exif, XMP and Photoshop begin after their names, and a part of an ICC profile has its number
 /// and then the count of the parts.
 #[tactic(auto, unfolding(jpeg_streams::proofs::OnLiterals::streams_on_literals))]
 pub fn applications_are_read()
@@ -209,8 +209,8 @@ pub fn headers_are_of_tables()
     ensures others { by_identifiers (1 ∷ 2 ∷ 4 ∷ []) ≡ None }
 {}
 
-/// Where numbers end: a refinement stays in 16 bits, and a value that is longer than the rest of its
-/// band is taken where it and its code have at most 8 bits (own to the decoder).
+/// Where numbers end: a refinement stays in 16 bits, and a value that is longer than the rest of
+/// its band is taken where it and its code have at most 8 bits (own to the decoder).
 #[tactic(auto, unfolding(jpeg_streams::proofs::OnLiterals::streams_on_literals))]
 pub fn numbers_end()
     ensures refined { map fits_i16 (pos 32767 ∷ pos 32768 ∷ negsuc 32767 ∷ negsuc 32768 ∷ [])

@@ -1,5 +1,5 @@
--- The differences of samples (T.81, H.1.2.1): each sample less its prediction. A law says that these
--- give the samples back.
+-- The differences of samples (T.81, H.1.2.1): each sample less its prediction. A law says that
+-- these give the samples back.
 use Rattle.std.specs.Prelude.{◌≡◌, ℕ, ◌<◌, List, [], ◌∷◌, length, pos, ℤ, ◌-ℤ◌}
 use Rattle.jpeg_bits.specs.declared.scan.Predictor.{Predictor}
 use Rattle.jpeg_lossless.specs.Prediction.{residue, selected}

@@ -50,7 +50,8 @@ fn coarse_green_sum(cb: u8, cr: u8) -> i32
 }
 
 // Returns the difference of green from the brightness, in units of 1 / 2^20, plus half a unit to
-// round. Its factors are 64 * 5638 + 25 and 64 * 11700 + 30, so that each product is one of 16 bits.
+// round. Its factors are 64 * 5638 + 25 and 64 * 11700 + 30, so that each product is one of 16
+// bits.
 fn green_sum(cb: u8, cr: u8) -> i32
     ensures { result ≡ pos 524288 -ℤ pos 360857 *ℤ centred_of cb -ℤ pos 748830 *ℤ centred_of cr }
 {

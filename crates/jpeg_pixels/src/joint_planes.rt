@@ -78,8 +78,8 @@ fn are_alike(components: &[Component], first: &Component) -> bool
     true
 }
 
-/// Returns the layout of a frame's planes in one buffer, where its three or four components have the
-/// same factors and the samples of a picture of this size, in `rows` rows of MCUs.
+/// Returns the layout of a frame's planes in one buffer, where its three or four components have
+/// the same factors and the samples of a picture of this size, in `rows` rows of MCUs.
 pub fn joint_shape(components: &[Component], size: Dimensions, rows: u16) -> Option<JointShape>
     requires { AllHaveSampling (map component_in components.now) }
     ensures shape { IfSome result

@@ -217,8 +217,8 @@ fn transpose_shorts(rows: Shorts) -> Shorts
     }
 }
 
-// Returns the rows unchanged, where their last four are 0. The zeros written here are constants, so the
-// compiler drops the products with them.
+// Returns the rows unchanged, where their last four are 0. The zeros written here are constants, so
+// the compiler drops the products with them.
 #[inline(always)]
 #[tactic(auto, using(crate::proofs::Rules::kept), unfolding(crate::specs::Lanes::lanes))]
 fn with_short_zeros(rows: Shorts) -> Shorts
@@ -279,8 +279,8 @@ fn short_lines(columns: Shorts) -> Shorts
     transpose_shorts(narrowed_rows(values))
 }
 
-// The lines of a block that is within its limits. Where it is 0 outside its top left corner, half of
-// the rows that each pass takes are 0.
+// The lines of a block that is within its limits. Where it is 0 outside its top left corner, half
+// of the rows that each pass takes are 0.
 fn lines_within(coefficients: [i16; 64], table: &ShortTable) -> Shorts
     ensures { (quantization : List ℕ) → IsShortTable table.now quantization
         → HasShortProducts coefficients quantization

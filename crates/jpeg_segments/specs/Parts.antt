@@ -1,5 +1,5 @@
--- The functions of the code that a segment is read by, each by a definition. What is read of a whole
--- segment is made of these, as proofs/PartsOfSegments says; no public clause speaks of them.
+-- The functions of the code that a segment is read by, each by a definition. What is read of a
+-- whole segment is made of these, as proofs/PartsOfSegments says; no public clause speaks of them.
 use Rattle.std.specs.Prelude.{◌≡◌, ℕ, ◌+◌, ◌*◌, ◌/◌, ◌%◌, List, Bool, Option, Some, Ok, Err, nat_lt}
 use Rattle.std.specs.Prelude.{◌==◌, if◌then◌else◌, sum}
 use Rattle.std.specs.List.{list_any}

@@ -13,10 +13,10 @@ use Rattle.jpeg_segments.specs.Frame.{Frame, Component}
 use Rattle.jpeg_segments.specs.Checks.{check, needed}
 use Rattle.jpeg_segments.specs.HuffmanTables.{greatest_destination}
 
--- A scan: the indices of its components in the frame and the destinations of their DC and AC tables,
--- in the order of the scan; the coefficients that it codes, by their indices in zigzag order, from
--- the first to the one after the last; its predictor; the levels Ah and Al of successive
--- approximation; and its point transform.
+-- A scan: the indices of its components in the frame and the destinations of their DC and AC
+-- tables, in the order of the scan; the coefficients that it codes, by their indices in zigzag
+-- order, from the first to the one after the last; its predictor; the levels Ah and Al of
+-- successive approximation; and its point transform.
 pub record Scan : Type 0 where
   pub components : List ℕ
   pub dc_destinations : List ℕ

@@ -8,9 +8,9 @@ use Rattle.jpeg_segments.specs.ScanHeader.{Scan, Selector, index_of, is_mcu, is_
 use Rattle.jpeg_segments.specs.WrittenSegments.{nibbles}
 
 -- The components, each by its identifier Csj, with its index in the frame and the destinations Tdj
--- and Taj of its DC and AC tables; the first and the last coefficient Ss and Se in zigzag order, and
--- the levels Ah and Al of successive approximation. In a lossless scan Ss is the predictor and Al
--- the point transform.
+-- and Taj of its DC and AC tables; the first and the last coefficient Ss and Se in zigzag order,
+-- and the levels Ah and Al of successive approximation. In a lossless scan Ss is the predictor and
+-- Al the point transform.
 pub record ScanHeader : Type 0 where
   pub choices : List (ℕ × Selector)
   pub first : ℕ

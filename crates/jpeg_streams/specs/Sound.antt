@@ -50,7 +50,8 @@ AreSampled (c ∷ more) [] = ⊥
 AreSampled (c ∷ more) (s ∷ samples) = IsSampled c s × AreSampled more samples
 
 -- Where a frame was read it is one that is decoded, and the blocks that are kept and the planes
--- that are decided are of its components, and so are the samples. Before the frame no scan was read.
+-- that are decided are of its components, and so are the samples. Before the frame no scan was
+-- read.
 pub record IsSound (found : Found) : Type 0 where
   pub frames : (frame : Frame) → found.said.frame ≡ Some frame → IsDecodedFrame frame
   pub kept : (frame : Frame) → found.said.frame ≡ Some frame

@@ -1,6 +1,6 @@
 //! Decodes the JPEG stream on standard input. Writes its picture to standard output: a line `WIDTH
-//! HEIGHT FORMAT`, and then the pixels as they are, line by line from the top. A refusal is one line
-//! on standard error, and the status is then 1.
+//! HEIGHT FORMAT`, and then the pixels as they are, line by line from the top. A refusal is one
+//! line on standard error, and the status is then 1.
 #![tactic(auto)]
 
 use jpeg_decoder::ByteReader;

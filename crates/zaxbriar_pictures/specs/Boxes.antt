@@ -54,8 +54,8 @@ mean_in pixels r area component =
     area.height)
 
 -- the bytes of a sample of this precision, the lower first
-unfoldable pub higher_first_bytes : ℕ → ℕ → List ℕ
-higher_first_bytes precision sample =
+unfoldable pub lower_first_bytes : ℕ → ℕ → List ℕ
+lower_first_bytes precision sample =
     if nat_lt 8 precision then sample % 256 ∷ sample / 256 % 256 ∷ [] else sample % 256 ∷ []
 
 -- the texts of a function at each number below a count, one after the other
@@ -65,7 +65,7 @@ texts_below (suc count) f = texts_below count f ++ f count
 
 -- the bytes of a component, of a pixel, of a line and of the whole of the smaller picture
 unfoldable pub component_bytes : List ℕ → Reduction → Area → ℕ → List ℕ
-component_bytes pixels r area component = higher_first_bytes r.precision (mean_in pixels r area
+component_bytes pixels r area component = lower_first_bytes r.precision (mean_in pixels r area
     component)
 
 unfoldable pub box_pixel : List ℕ → Reduction → ℕ → ℕ → List ℕ

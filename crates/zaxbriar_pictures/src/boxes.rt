@@ -4,7 +4,7 @@ ghost use Rattle.zaxbriar_pictures.specs.Boxes.{area_of, boxed, components_a_pix
 ghost use Rattle.zaxbriar_pictures.specs.Boxes.{is_smaller};
 ghost use Rattle.zaxbriar_pictures.specs.Boxes.{box_line};
 ghost use Rattle.zaxbriar_pictures.specs.Boxes.{box_line_sum, mean_in, box_pixel, reduced_bytes};
-ghost use Rattle.zaxbriar_pictures.specs.Boxes.{higher_first_bytes, sum_over};
+ghost use Rattle.zaxbriar_pictures.specs.Boxes.{lower_first_bytes, sum_over};
 ghost use Rattle.zaxbriar_pictures.specs.Turns.{decoded_in};
 
 use crate::netpbm::Picture;
@@ -116,10 +116,10 @@ fn mean_in(pixels: &[u8], reduction: Reduction, area: Area, component: u8) -> u6
 }
 
 /// Appends the bytes of a sample.
-#[tactic(auto, unfolding(crate::specs::Boxes::higher_first_bytes))]
+#[tactic(auto, unfolding(crate::specs::Boxes::lower_first_bytes))]
 fn push_sample(bytes: &mut Vec<u8>, precision: u8, sample: u64) -> Result<(), AllocError>
     ensures { OnOk result (bytes.new.items
-        ≡ bytes.old.items ++ higher_first_bytes precision sample) }
+        ≡ bytes.old.items ++ lower_first_bytes precision sample) }
 {
     bytes.push((sample % 256) as u8)?;
     if precision > 8 {
