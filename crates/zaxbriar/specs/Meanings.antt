@@ -104,6 +104,26 @@ pub record Describes (o : Options) (bytes : List ℕ) (picture : Picture) : Type
       (bytes_beside (lines_by o.stride info precision conversion) decoding)
       (orientation_by (at_size (size_wanted o) header.said).metadata.exif) 0
 
+-- no picture
+abbrev pub no_picture : Picture
+no_picture = record {
+  size = 0;
+  row_bytes = 0;
+  decoding_bytes = 0;
+  stream_bytes = 0;
+  width = 0;
+  height = 0;
+  pixel_bytes = 0;
+  layout = 0;
+  components = 0;
+  precision = 0;
+  sample_bytes = 0;
+  process = 0;
+  orientation = 0;
+  reserved = replicate 33 0;
+  text = replicate 112 0;
+}
+
 -- a picture without what a call says of itself: the bytes that were read, and the text of a refusal
 abbrev pub as_described : Picture → Picture
 as_described picture = record picture { stream_bytes = 0; text = replicate 112 0 }

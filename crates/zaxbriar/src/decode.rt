@@ -1,6 +1,6 @@
 //! Pictures of streams in the caller's memory.
 ghost use Rattle.std.specs.Prelude.{◌≡◌, ◌++◌, ◌≤◌, ◌<◌, ℕ, List, Some, length, option_map, true};
-ghost use Rattle.std.specs.Prelude.{false, IfErr, IsErrAnd, OnErr, OnOk};
+ghost use Rattle.std.specs.Prelude.{false, Err, IfErr, IsErrAnd, OnErr, OnOk};
 ghost use Rattle.jpeg_decoder.specs.Bytes.{decoding_bytes};
 ghost use Rattle.jpeg_streams.specs.ArrayPictures.{picture_of_array};
 ghost use Rattle.jpeg_streams.specs.DecodedImages.{at_size};
@@ -9,7 +9,8 @@ ghost use Rattle.jpeg_streams.specs.Levels.{Is8Bit, Levels};
 ghost use Rattle.jpeg_streams.specs.Output.{Tells};
 ghost use Rattle.jpeg_streams.specs.Pixels.{info_of};
 ghost use Rattle.jpeg_streams.specs.declared.progress.Progress.TheVariants.{HeaderRead};
-ghost use Rattle.jpeg_streams.specs.Stream.{rest_at};
+ghost use Rattle.jpeg_bits.specs.Reading.{Fault};
+ghost use Rattle.jpeg_streams.specs.Stream.{header_at, rest_at};
 ghost use Rattle.jpeg_streams.specs.WrittenImages.{WritesImage};
 ghost use Rattle.jpeg_streams.specs.WrittenScans.{Coefficients};
 ghost use Rattle.zaxbriar.specs.Faults.{IsArgument, IsFault, IsOfCall, IsOfDecoder};
@@ -104,6 +105,9 @@ pub fn decode_into<R: Read + Drop>(
     ensures limited { (bytes : List ℕ) → Tells (R.remaining reader.old) bytes → (size : Picture)
         → IsTooLarge options.now bytes size → IsErrAnd result IsOfCall }
     ensures known { are_known options.now ≡ false → IsErrAnd result IsArgument }
+    ensures unasked { are_known options.now ≡ false → picture.new ≡ picture.old }
+    ensures undescribed { (bytes : List ℕ) (fault : Fault) → Tells (R.remaining reader.old) bytes
+        → header_at bytes ≡ Err fault → picture.new ≡ picture.old }
 {
     if !are_known(options) {
         return Err(Refusal::Argument("an option doesn't exist"));

@@ -50,6 +50,7 @@ pub fn describe<R: Read + Drop>(
     ensures named { decoder.old.source.known ≡ true
         → IfErr result (IsFault (header_at decoder.old.source.bytes)) }
     ensures other { IfErr result (λ r. r ≡ NoRoom → ⊥) }
+    ensures kept { IfErr result (λ r. (r ≡ TooLarge → ⊥) → picture.new ≡ picture.old) }
 {
     let header = read_header(decoder, options)?;
     let lines = lines_of(header.info, header.precision, options)?;
@@ -76,6 +77,7 @@ pub fn read_info_from<R: Read + Drop>(
     ensures named { (bytes : List ℕ) → Tells (R.remaining reader.old) bytes
         → IfErr result (IsFault (header_at bytes)) }
     ensures known { are_known options.now ≡ false → IsErrAnd result IsArgument }
+    ensures kept { IfErr result (λ r. (r ≡ TooLarge → ⊥) → picture.new ≡ picture.old) }
 {
     if !are_known(options) {
         return Err(Refusal::Argument("an option doesn't exist"));

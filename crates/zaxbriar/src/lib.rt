@@ -7,7 +7,7 @@
 
 ghost use Rattle.std.specs.Prelude.{◌≡◌, ◌⊎◌, ◌++◌, ◌<◌, ◌^◌, ℕ, List, length, slice_index, false};
 ghost use Rattle.std.specs.Prelude.{Err, IsOk, None};
-ghost use Rattle.jpeg_bits.specs.Reading.{Malformed, Lacks, End};
+ghost use Rattle.jpeg_bits.specs.Reading.{Fault, Malformed, Lacks, End};
 ghost use Rattle.jpeg_bits.specs.declared.error.UnsupportedFeature.{UnsupportedFeature};
 ghost use Rattle.jpeg_streams.specs.ArrayPictures.{picture_of_array};
 ghost use Rattle.jpeg_streams.specs.DecodedImages.{at_size};
@@ -20,7 +20,8 @@ ghost use Rattle.zaxbriar.specs.Faults.{IsOfCallNumber};
 ghost use Rattle.zaxbriar.specs.Limits.{are_known};
 ghost use Rattle.zaxbriar.specs.Metadata.{IsCopied, IsLonger, said_of};
 ghost use Rattle.zaxbriar.specs.Meanings.{IsTooLarge, IsWithin, Shows, ShowsSamples};
-ghost use Rattle.zaxbriar.specs.Meanings.{as_described, meaning_by, settings_of, size_wanted};
+ghost use Rattle.zaxbriar.specs.Meanings.{as_described, meaning_by, no_picture, settings_of};
+ghost use Rattle.zaxbriar.specs.Meanings.{size_wanted};
 
 mod answers;
 mod decode;
@@ -34,6 +35,8 @@ mod metadata;
 pub mod options;
 pub mod picture;
 mod reader;
+#[cfg(test)]
+mod stream_bytes;
 
 use answers::{BAD_ARGUMENT, NO_MEMORY, answer};
 use decode::decode_into;
@@ -71,6 +74,9 @@ pub extern "C" fn zaxbriar_checked_read_info(
 
     // Options that don't exist are refused, whatever the bytes are.
     ensures known { are_known options.now ≡ false → result ≡ 6 }
+
+    // `picture` is cleared, but for its text, unless it describes a picture.
+    ensures cleared { (result ≡ 0 → ⊥) → (result ≡ 8 → ⊥) → as_described picture.new ≡ no_picture }
 
     // The text ends by a zero, and says something where the picture is too large.
     ensures ended { slice_index picture.new.text 111 ≡ 0 }
@@ -133,6 +139,12 @@ pub extern "C" fn zaxbriar_checked_decode(
 
     // Options that don't exist are refused, whatever the bytes are.
     ensures known { are_known options.now ≡ false → result ≡ 6 }
+
+    // `picture` is cleared, but for its text and `stream_bytes`, where options don't exist or the
+    // header is refused.
+    ensures unasked { are_known options.now ≡ false → as_described picture.new ≡ no_picture }
+    ensures cleared { length jpeg.now < 2 ^ 64 → (fault : Fault)
+        → header_at jpeg.now ≡ Err fault → as_described picture.new ≡ no_picture }
 
     // The text ends by a zero, and says something where there is no room for the picture.
     ensures ended { slice_index picture.new.text 111 ≡ 0 }
