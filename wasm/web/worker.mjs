@@ -4,7 +4,7 @@ import { ZaxbriarError, load } from './zaxbriar.mjs';
 
 const MAX_MEMORY = 2 ** 30;
 const loaded = load(new URL('zaxbriar.wasm', import.meta.url), { maxMemory: MAX_MEMORY });
-// (each answer waits for it anew, and tells of its fault)
+// (each answer waits for it anew, and names its fault)
 loaded.catch(() => {});
 
 /* The red, green, blue and 255 of a canvas, of a picture as it is stored. */

@@ -35,7 +35,7 @@ impl Metadata {
 /// A decoder of the JPEG stream that a reader gives.
 ///
 /// It asks the reader for single bytes, so give it a [`BufReader`](io::BufReader) over a file. A
-/// reader may be lent (`&mut reader`): after [`decode`](Decoder::decode) it stands right behind the
+/// reader may be lent (`&mut reader`): after [`decode`](Decoder::decode) it stands right after the
 /// image.
 ///
 /// ```
@@ -117,7 +117,7 @@ impl<R: Read> Decoder<R> {
         self.metadata.icc.clone()
     }
 
-    /// Reads the header, and nothing behind it, if it wasn't read before.
+    /// Reads the header, and nothing after it, if it wasn't read before.
     ///
     /// ```
     /// # let jpeg = &std::fs::read("tests/grey.jpg").unwrap()[..];
@@ -161,12 +161,12 @@ impl<R: Read> Decoder<R> {
     }
 
     /// Decodes the picture, and returns its rows from the top. Reads the stream up to the end of
-    /// the image, and nothing behind it.
+    /// the image, and nothing after it.
     ///
     /// A row has its pixels from the left, and a pixel the samples of its components, each of which
     /// takes one byte; or two, the lower one first, in a lossless picture above 8 bits.
     ///
-    /// Where the picture is above a limit, or can't have the colour transform, nothing behind the
+    /// Where the picture is above a limit, or can't have the colour transform, nothing after the
     /// header is read, and other settings may be tried. After another error the decoder has failed,
     /// and after a picture a second one is [`Error::Internal`].
     pub fn decode(&mut self) -> Result<Vec<u8>> {

@@ -16,7 +16,7 @@ pub enum UnsupportedFeature {
     SamplePrecision(u8),
     /// A frame of that many components.
     ComponentCount(u8),
-    /// A height that stands behind the first scan (T.81, B.2.5).
+    /// A height that stands after the first scan (T.81, B.2.5).
     DNL,
     /// Never returned: such pictures are [`NonIntegerSubsamplingRatio`], or decoded.
     ///

@@ -24,7 +24,7 @@
 //! their errors. Two parts of it aren't a matter of types:
 //!
 //! - one module of four `unsafe` blocks, which hands slices to the library and takes zeroed memory;
-//! - a scanner that finds where a header and an image end, so that a lent reader stays right behind
+//! - a scanner that finds where a header and an image end, so that a lent reader stays right after
 //!   them. Pictures and errors don't rest on it: where it has read too little, all is read, and the
 //!   library is asked again.
 //!

@@ -1,7 +1,7 @@
 //! Reads as much of a reader as a decoder needs: for a header up to the end of the frame header,
 //! and for a picture up to the end of the image.
 //!
-//! The library wants its bytes in memory, and a lent reader is to stay right behind the image. So
+//! The library wants its bytes in memory, and a lent reader is to stay right after the image. So
 //! this module finds where segments and scans end (T.81, B.1.1). **It isn't proved.** What a stream
 //! means is the library's to say, whatever is found here: where it lacks bytes that the reader has,
 //! [`Stream::read_rest`] adds all of them, and it is asked again. So a fault here can leave a lent
@@ -43,7 +43,7 @@ pub struct Stream {
     header_end: Option<usize>,
     /// Where the segments APP1 and APP2 are, which may have metadata.
     applications: Vec<Range<usize>>,
-    /// The marker behind the data of the last scan, where nothing was read after it.
+    /// The marker after the data of the last scan, where nothing was read after it.
     end_of_data: Option<u8>,
 }
 
@@ -111,7 +111,7 @@ impl Stream {
         None
     }
 
-    /// Reads the marker at the start, or another one with its segment; behind the header of a scan
+    /// Reads the marker at the start, or another one with its segment; after the header of a scan
     /// also the data, and the marker that ends them.
     fn read_part<R: Read>(&mut self, reader: &mut R) -> Result<(), Stop> {
         if self.bytes.is_empty() {
@@ -146,7 +146,7 @@ impl Stream {
         Ok(())
     }
 
-    /// Reads the data of a scan with its restart markers, up to the marker behind them and with it.
+    /// Reads the data of a scan with its restart markers, up to the marker after them and with it.
     fn read_data<R: Read>(&mut self, reader: &mut R) -> Result<u8, Stop> {
         loop {
             let marker = self.read_marker(reader)?;
@@ -156,7 +156,7 @@ impl Stream {
         }
     }
 
-    /// Reads a segment behind its marker.
+    /// Reads a segment after its marker.
     fn read_segment<R: Read>(&mut self, reader: &mut R) -> Result<(), Stop> {
         let length = u16::from_be_bytes([self.read_byte(reader)?, self.read_byte(reader)?]);
         let rest = length.checked_sub(2).ok_or(Stop::AtEnd)?;

@@ -2,7 +2,7 @@
 
 use zaxbriar::{Decoder, Error};
 
-/// The header of a grey picture of 65535x65535, and nothing behind it.
+/// The header of a grey picture of 65535x65535, and nothing after it.
 fn large_header() -> Vec<u8> {
     let mut jpeg = std::fs::read("tests/grey.jpg").unwrap();
     jpeg.truncate(84);

@@ -202,7 +202,7 @@ fn metadata_before_and_behind_the_frame() -> Result<(), Error> {
     Ok(())
 }
 
-/// A reader of some bytes that fails behind them.
+/// A reader of some bytes that fails after them.
 struct Failing<'a>(&'a [u8]);
 
 impl Read for Failing<'_> {
