@@ -97,11 +97,11 @@ class Memory:
         return self.to_ms(float(found[1])) if found else None
 
 
-def memory_programs(bench_memory, peers, decodings=DECODINGS):
+def memory_programs(bench_decode, peers, decodings=DECODINGS):
     """The programs that decode from memory so many times, ours first."""
     size = "%dx%d" % SMALL
     times = str(decodings)
-    ours = [bench_memory, times]
+    ours = [bench_decode, times]
     yield Memory(
         "ours", ours, [*ours, *map(str, SMALL)], r"(\d+)\n\Z", lambda micros: micros / 1000
     )
@@ -235,7 +235,7 @@ def time_memory(all_programs, all_files):
                 print(line([words, f"{times[0]:.1f}", *ratios(times)]), flush=True)
 
 
-def main(jpegraw, zaxbriar, bench_memory, folder, *peers):
+def main(jpegraw, zaxbriar, bench_decode, folder, *peers):
     # small.py imports this file.
     from small import time_small
 
@@ -245,8 +245,8 @@ def main(jpegraw, zaxbriar, bench_memory, folder, *peers):
     all_files = list(files(folder))
     time_programs(list(programs(jpegraw, zaxbriar, peers)), all_files)
     print(f"load {load()}\n")
-    time_memory(list(memory_programs(bench_memory, peers)), all_files)
-    time_small(bench_memory, folder, peers)
+    time_memory(list(memory_programs(bench_decode, peers)), all_files)
+    time_small(bench_decode, folder, peers)
     print(f"load {load()}")
 
 

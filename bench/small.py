@@ -32,11 +32,11 @@ def part(pixels, width, height):
     return b"P6 %d %d 255\n" % (width, height) + b"".join(lines)
 
 
-def time_small(bench_memory, folder, peers):
+def time_small(bench_decode, folder, peers):
     """Prints a line for each size and coding: our time, and its ratio to each other program's."""
     pixels = photo()[-3 * WIDTH * HEIGHT :]
     for width, height in SIZES:
-        all_programs = list(memory_programs(bench_memory, peers, PIXELS // (width * height)))
+        all_programs = list(memory_programs(bench_decode, peers, PIXELS // (width * height)))
         for kind, options in CODINGS.items():
             done = subprocess.run(
                 [*QUALITY, *options],
@@ -51,17 +51,17 @@ def time_small(bench_memory, folder, peers):
             print(line([f"{width}x{height}, {kind}", f"{best[0]:.3f}", *ratios(best)]), flush=True)
 
 
-def main(bench_memory, folder, *peers):
+def main(bench_decode, folder, *peers):
     os.sched_setaffinity(0, {max(os.sched_getaffinity(0))})
     print(f"the best of {ROUNDS}, load {load()} of {os.cpu_count()} processors")
     head(
         [
             "from memory",
             "ours (ms)",
-            *(f"to {program.name}" for program in list(memory_programs(bench_memory, peers))[1:]),
+            *(f"to {program.name}" for program in list(memory_programs(bench_decode, peers))[1:]),
         ]
     )
-    time_small(bench_memory, folder, peers)
+    time_small(bench_decode, folder, peers)
     print(f"load {load()}")
 
 

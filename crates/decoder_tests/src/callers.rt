@@ -1,7 +1,7 @@
-//! The example of a caller, `picture_in_memory`: it returns the picture of each stream.
+//! The example of a caller, `example_caller`: it returns the picture of each stream.
 
 use crate::streams::{COUNT, Stream, Written, stream_of};
-use picture_in_memory::{described_picture_of, picture_of};
+use example_caller::{described_picture_of, picture_of};
 use std::alloc::Global;
 use test_streams::states::is_picture;
 use test_streams::streams::ROOM;

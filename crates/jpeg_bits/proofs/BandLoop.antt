@@ -13,8 +13,8 @@ use Rattle.jpeg_bits.specs.Codes.{Table}
 use Rattle.jpeg_bits.specs.declared.error.Error.{Error}
 use Rattle.jpeg_bits.specs.Readers.{Reads, ◌>>=◌, gives, read_on}
 use Rattle.jpeg_bits.specs.Bands.{Band, before_more, wrapped, first_ac, token_from, after_token}
-use Rattle.jpeg_bits.specs.declared.tokens.Token.{Token}
-use Rattle.jpeg_bits.specs.declared.tokens.Token.TheVariants.{Value, Sixteen, Rest, Overlong}
+use Rattle.jpeg_bits.specs.declared.blocks.tokens.Token.{Token}
+use Rattle.jpeg_bits.specs.declared.blocks.tokens.Token.TheVariants.{Value, Sixteen, Rest, Overlong}
 
 -- A band's rest is read token by token.
 first_ac-token : (table : Table) (al n : ℕ) (x : ℤ) (rest : List ℤ) (t : Text)

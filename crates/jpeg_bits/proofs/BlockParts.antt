@@ -13,8 +13,8 @@ use Rattle.jpeg_bits.specs.Passes.{block_from}
 use Rattle.jpeg_bits.specs.Zigzag.{zigzag}
 use Rattle.jpeg_bits.specs.BlockView.{IsPass, to_block}
 use Rattle.jpeg_bits.specs.ZigzagParts.{band_start, band_end, band_in, zigzag_part, KeepsOthers}
-use Rattle.jpeg_bits.specs.declared.tokens.Token.{Token}
-use Rattle.jpeg_bits.specs.declared.tokens.Token.TheVariants.{Value, Sixteen}
+use Rattle.jpeg_bits.specs.declared.blocks.tokens.Token.{Token}
+use Rattle.jpeg_bits.specs.declared.blocks.tokens.Token.TheVariants.{Value, Sixteen}
 use Rattle.jpeg_bits.proofs.BandLoop.{IsAt, IsLast, IsAt-value, IsAt-sixteen, IsAt-all, IsAt-last}
 use Rattle.jpeg_bits.proofs.BandLoop.{IsAt-refused, IsAt-none, after_front, Leaves}
 use Rattle.jpeg_bits.proofs.BandSteps.{Leaves-buffered, pos-of-ne}

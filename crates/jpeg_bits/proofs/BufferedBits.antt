@@ -1,5 +1,5 @@
 -- Taking bits that are buffered.
-use Rattle.jpeg_bits.specs.declared.ahead.DataEnd.TheVariants as ends
+use Rattle.jpeg_bits.specs.declared.huffman.ahead.DataEnd.TheVariants as ends
 use Rattle.std.proofs.Common.{◌≡◌, ℕ, ◌+◌, ◌-◌, ◌*◌, ◌^◌, ◌≤◌, Bool, true, false, cond, List, []}
 use Rattle.std.proofs.Common.{◌++◌, length, take, drop, replicate, Option, Some, Result, Ok, Err}
 use Rattle.std.proofs.Common.{sym, ap, ◌∙◌, arith, length-append, length-drop, add-one, pow-suc}
@@ -13,7 +13,7 @@ use Rattle.jpeg_bits.specs.Entropy.{Ending, Text, upcoming_by, upcoming, bits_fr
 use Rattle.jpeg_bits.specs.Entropy.{number_of, advance, IsFilled, Ahead, Takes, same_text, IsWithin}
 use Rattle.jpeg_bits.specs.Entropy.{has_buffered, ending_of, marker_at_end, marker_from, text_at}
 use Rattle.jpeg_bits.specs.Stream.{Stream}
-use Rattle.jpeg_bits.specs.declared.ahead.DataEnd.{DataEnd}
+use Rattle.jpeg_bits.specs.declared.huffman.ahead.DataEnd.{DataEnd}
 use Rattle.std.proofs.lemmas.Bool.{false≢true}
 use Rattle.jpeg_bits.specs.declared.error.Error.{Error}
 use Rattle.jpeg_bits.proofs.Loops.{bind_err, still_known, same, none_left, second_ok, Takes-marker}

@@ -11,8 +11,8 @@ use Rattle.jpeg_bits.proofs.BufferedBits.{if_buffered}
 use Rattle.jpeg_bits.specs.Readers.{Reads, ◌>>=◌, gives, read_on, signed_from}
 use Rattle.jpeg_bits.specs.Bands.{difference, token_at, token_from}
 use Rattle.jpeg_bits.specs.Lookups.{value_token, slow_token, fast_or, looked_up}
-use Rattle.jpeg_bits.specs.declared.tokens.Token.{Token}
-use Rattle.jpeg_bits.specs.declared.tokens.Token.TheVariants.{Rest}
+use Rattle.jpeg_bits.specs.declared.blocks.tokens.Token.{Token}
+use Rattle.jpeg_bits.specs.declared.blocks.tokens.Token.TheVariants.{Rest}
 
 advance-none : (t : Text) → advance 0 t ≡ t
 advance-none t = refl

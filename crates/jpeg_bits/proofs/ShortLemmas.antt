@@ -22,8 +22,8 @@ use Rattle.jpeg_bits.specs.Codes.{short_token, after_code, short_code_by, short_
 use Rattle.jpeg_bits.specs.Codes.{short_value, fast_from, symbol_from, code_from}
 use Rattle.jpeg_bits.specs.ShortCodes.{named, symbol_in, short_only, short_code, short_value_by}
 use Rattle.jpeg_bits.specs.ShortCodes.{short_value_of, next_bits, packed, IsRun}
-use Rattle.jpeg_bits.specs.declared.codes.HuffmanTableClass.{HuffmanTableClass}
-use Rattle.jpeg_bits.specs.declared.ahead.DataEnd.{DataEnd}
+use Rattle.jpeg_bits.specs.declared.huffman.codes.HuffmanTableClass.{HuffmanTableClass}
+use Rattle.jpeg_bits.specs.declared.huffman.ahead.DataEnd.{DataEnd}
 use Rattle.std.proofs.Math.Nat.{mod-lt, div-mul-le_self, div-eq_of_lt-le, mul-le-mul_right}
 use Rattle.jpeg_bits.proofs.CodeLemmas.{first_from}
 use Rattle.jpeg_bits.proofs.WrittenBits.{length_low_bits, number_of-low_bits}

@@ -13,8 +13,8 @@ use Rattle.jpeg_bits.specs.Codes.{symbol_from}
 use Rattle.jpeg_bits.specs.Bands.{Band, after_token, difference, first_ac, first_dc, token_at, token_from}
 use Rattle.jpeg_bits.specs.Refinement.{corrected, corrected_by, refined_ac, refined_piece}
 use Rattle.jpeg_bits.specs.Passes.{Block, Pass, Via, band_part, block_from, blocks_of, dc_part}
-use Rattle.jpeg_bits.specs.declared.tokens.Token.{Token}
-use Rattle.jpeg_bits.specs.declared.tokens.Token.TheVariants.{Value}
+use Rattle.jpeg_bits.specs.declared.blocks.tokens.Token.{Token}
+use Rattle.jpeg_bits.specs.declared.blocks.tokens.Token.TheVariants.{Value}
 
 -- ---- readers
 

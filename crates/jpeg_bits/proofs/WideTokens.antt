@@ -14,7 +14,7 @@ use Rattle.jpeg_bits.specs.Entropy.{Text, Ahead, upcoming_by, upcoming, IsFilled
 use Rattle.jpeg_bits.specs.Entropy.{Takes, advance, has_bits, bits_from, number_of, extended}
 use Rattle.jpeg_bits.specs.Entropy.{same_text}
 use Rattle.jpeg_bits.specs.Stream.{Stream}
-use Rattle.jpeg_bits.specs.declared.codes.HuffmanTableClass.{HuffmanTableClass}
+use Rattle.jpeg_bits.specs.declared.huffman.codes.HuffmanTableClass.{HuffmanTableClass}
 use Rattle.jpeg_bits.specs.declared.error.Error.{Error}
 use Rattle.jpeg_bits.specs.Codes.{Table, code_in, code_lengths, next_16, code_by, code_from}
 use Rattle.jpeg_bits.specs.ShortCodes.{named, symbol_in, short_value_by, short_value_of, next_bits}
@@ -22,9 +22,9 @@ use Rattle.jpeg_bits.specs.ShortCodes.{packed, HoldsWideValues}
 use Rattle.jpeg_bits.specs.Readers.{read_on, gives, signed_from, Reads}
 use Rattle.jpeg_bits.specs.Bands.{token_at, token_from, Band, IsWithinRoom, before_more, wrapped}
 use Rattle.jpeg_bits.specs.Bands.{after_token, first_ac}
-use Rattle.jpeg_bits.specs.declared.ahead.DataEnd.{DataEnd}
-use Rattle.jpeg_bits.specs.declared.tokens.Token.{Token}
-use Rattle.jpeg_bits.specs.declared.tokens.Token.TheVariants.{Value, Rest, Sixteen, Overlong}
+use Rattle.jpeg_bits.specs.declared.huffman.ahead.DataEnd.{DataEnd}
+use Rattle.jpeg_bits.specs.declared.blocks.tokens.Token.{Token}
+use Rattle.jpeg_bits.specs.declared.blocks.tokens.Token.TheVariants.{Value, Rest, Sixteen, Overlong}
 use Rattle.jpeg_bits.proofs.BufferedBits.{has_bits-buffered, advance-buffered, filled-less, ok_unit}
 use Rattle.jpeg_bits.proofs.Fast.{no-bits, both-buffered}
 use Rattle.jpeg_bits.proofs.Reservoirs.{same_zeros, low_bits-append, low_bits-zeros, low_bits-take}
@@ -46,7 +46,7 @@ use Rattle.jpeg_bits.specs.Passes.{Pass}
 use Rattle.jpeg_bits.specs.Zigzag.{zigzag}
 use Rattle.jpeg_bits.specs.BlockView.{IsPass}
 use Rattle.jpeg_bits.specs.ZigzagParts.{band_start, band_end}
-use Rattle.jpeg_bits.specs.declared.pairs.Pair.{Pair}
+use Rattle.jpeg_bits.specs.declared.huffman.pairs.Pair.{Pair}
 use Rattle.jpeg_bits.proofs.BlockParts.{IsAtIndex, index-value}
 
 -- a value within the room

@@ -7,8 +7,8 @@ use Rattle.std.specs.Int.{int_wrap, w16}
 use Rattle.jpeg_bits.specs.Entropy.{bits_from}
 use Rattle.jpeg_bits.specs.Readers.{Reads, ◌>>=◌, gives, refused, signed_from}
 use Rattle.jpeg_bits.specs.Codes.{Table, symbol_from, code_from}
-use Rattle.jpeg_bits.specs.declared.tokens.Token.{Token}
-use Rattle.jpeg_bits.specs.declared.tokens.Token.TheVariants.{Value, Sixteen, Rest, Overlong}
+use Rattle.jpeg_bits.specs.declared.blocks.tokens.Token.{Token}
+use Rattle.jpeg_bits.specs.declared.blocks.tokens.Token.TheVariants.{Value, Sixteen, Rest, Overlong}
 
 -- modulo 2 ^ 16
 abbrev pub wrapped : ℤ → ℤ

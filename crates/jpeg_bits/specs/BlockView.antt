@@ -2,7 +2,7 @@
 use Rattle.std.specs.Prelude.{ℕ, ◌≤◌, List, ℤ, pos, drop, get_or, slice_index_or}
 use Rattle.jpeg_bits.specs.Passes.{Pass, Block}
 use Rattle.jpeg_bits.specs.Zigzag.{coefficients_in_zigzag}
-use Rattle.jpeg_bits.specs.declared.pass.Pass as declared
+use Rattle.jpeg_bits.specs.declared.blocks.pass.Pass as declared
 use Rattle.jpeg_bits.specs.declared.blocks.Carried.{Carried}
 
 abbrev pub pass_in : declared.Pass → Pass

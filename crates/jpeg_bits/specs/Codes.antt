@@ -10,8 +10,8 @@ use Rattle.jpeg_bits.specs.Entropy.{Text, advance, number_of, has_bits}
 use Rattle.jpeg_bits.specs.Readers.{Reads, read_on, gives, signed_from}
 use Rattle.jpeg_bits.specs.declared.error.Error.{Error}
 use Rattle.jpeg_bits.specs.declared.error.Error.TheVariants as errors
-use Rattle.jpeg_bits.specs.declared.codes.HuffmanTableClass.{HuffmanTableClass}
-use Rattle.jpeg_bits.specs.declared.codes.HuffmanTableClass.TheVariants as classes
+use Rattle.jpeg_bits.specs.declared.huffman.codes.HuffmanTableClass.{HuffmanTableClass}
+use Rattle.jpeg_bits.specs.declared.huffman.codes.HuffmanTableClass.TheVariants as classes
 
 -- counts give lengths in rising order, from a first length on
 unfoldable pub lengths_from : ℕ → List ℕ → List ℕ

@@ -9,10 +9,10 @@ use Rattle.jpeg_bits.specs.Marker.{marker_of}
 use Rattle.jpeg_bits.specs.Stream.{Stream}
 use Rattle.jpeg_bits.specs.declared.marker.Marker.{Marker}
 use Rattle.jpeg_bits.specs.declared.error.Error.{Error}
-use Rattle.jpeg_bits.specs.declared.ahead.Piece.{Piece}
-use Rattle.jpeg_bits.specs.declared.ahead.Piece.TheVariants.{Byte, Data}
-use Rattle.jpeg_bits.specs.declared.ahead.DataEnd.{DataEnd}
-use Rattle.jpeg_bits.specs.declared.ahead.DataEnd.TheVariants as ends
+use Rattle.jpeg_bits.specs.declared.huffman.ahead.Piece.{Piece}
+use Rattle.jpeg_bits.specs.declared.huffman.ahead.Piece.TheVariants.{Byte, Data}
+use Rattle.jpeg_bits.specs.declared.huffman.ahead.DataEnd.{DataEnd}
+use Rattle.jpeg_bits.specs.declared.huffman.ahead.DataEnd.TheVariants as ends
 
 -- how a text ends: with a marker, and the bytes after it, or with a fault
 pub data Ending : Type 0 where

@@ -5,8 +5,8 @@ use Rattle.std.specs.Prelude.{Some, None}
 use Rattle.jpeg_bits.specs.Entropy.{bits_from}
 use Rattle.jpeg_bits.specs.Readers.{Reads, ◌>>=◌, gives, signed_from}
 use Rattle.jpeg_bits.specs.Codes.{Table, symbol_from, fast_from}
-use Rattle.jpeg_bits.specs.declared.tokens.Token.{Token}
-use Rattle.jpeg_bits.specs.declared.tokens.Token.TheVariants.{Value, Sixteen, Rest, Overlong}
+use Rattle.jpeg_bits.specs.declared.blocks.tokens.Token.{Token}
+use Rattle.jpeg_bits.specs.declared.blocks.tokens.Token.TheVariants.{Value, Sixteen, Rest, Overlong}
 
 -- a value after r zeros, where r is within the room
 abbrev pub value_token : ℕ → ℕ → ℤ → Token

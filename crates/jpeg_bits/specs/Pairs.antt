@@ -4,7 +4,7 @@ use Rattle.std.specs.Prelude.{replicate, Bool, false, nat_lt, if◌then◌else�
 use Rattle.jpeg_bits.specs.Codes.{Table}
 use Rattle.jpeg_bits.specs.ShortCodes.{packed, short_value_of}
 use Rattle.jpeg_bits.specs.Written.{low_bits}
-use Rattle.jpeg_bits.specs.declared.pairs.Pair.{Pair}
+use Rattle.jpeg_bits.specs.declared.huffman.pairs.Pair.{Pair}
 
 -- a value, the zeros before it, and the bits of both: 0 where there is no value
 abbrev pub ShortValue : Type 0

@@ -8,8 +8,8 @@ use Rattle.jpeg_bits.specs.Bands.{Band}
 use Rattle.jpeg_bits.specs.Refinement.{is_zero, bit_of, corrected, corrected_by, moved, fits_i16}
 use Rattle.jpeg_bits.specs.Refinement.{new_number, through_zero, with_last}
 use Rattle.jpeg_bits.specs.Readers.{Reads, gives, read_on}
-use Rattle.jpeg_bits.specs.declared.refinement.Refinement.{Refinement}
-use Rattle.jpeg_bits.specs.declared.refinement.Refinement.TheVariants.{Zeros, New, End}
+use Rattle.jpeg_bits.specs.declared.blocks.refinement.Refinement.{Refinement}
+use Rattle.jpeg_bits.specs.declared.blocks.refinement.Refinement.TheVariants.{Zeros, New, End}
 
 abbrev pub ReadsBand : Type 0
 ReadsBand = List ℤ → Text → Result (Band × Text) Fault

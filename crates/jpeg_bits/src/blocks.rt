@@ -2,20 +2,25 @@
 ghost use Rattle.std.specs.Prelude.{◌≡◌, ◌≤◌, ◌<◌, set, is_some, true, false};
 ghost use Rattle.jpeg_bits.specs.Refusals.{outcome_of};
 ghost use Rattle.jpeg_bits.specs.Entropy.{Takes};
-ghost use Rattle.jpeg_bits.specs.declared.codes.HuffmanTableClass.TheVariants.{AC};
+ghost use Rattle.jpeg_bits.specs.declared.huffman.codes.HuffmanTableClass.TheVariants.{AC};
 ghost use Rattle.jpeg_bits.specs.Passes.{dc_part, band_part, block_from, or_bit};
 ghost use Rattle.jpeg_bits.specs.BlockView.{to_block, dc_in, pass_in, predictor_at, IsPass};
 ghost use Rattle.jpeg_bits.specs.ZigzagParts.{band_in, KeepsOthers};
 ghost use Rattle.jpeg_bits.specs.Passes.{band_size};
 ghost use Rattle.jpeg_bits.specs.Skips.{kept, kept_from, run_part};
 
-use crate::ahead::BufferedBits;
+mod pass;
+mod refinement;
+mod tokens;
+mod zigzag;
+
+use crate::huffman::ahead::BufferedBits;
 use crate::error::{Error, Result, take_refusal};
 use crate::huffman::{HuffmanDecoder, HuffmanTable};
-pub use crate::pass::Pass;
-use crate::refinement::{correct_band, lacks_bit, read_refined_band, unit};
+pub use crate::blocks::pass::Pass;
+use crate::blocks::refinement::{correct_band, lacks_bit, read_refined_band, unit};
 use crate::source::Source;
-use crate::tokens::{read_difference, read_first_band, shifted, skip_first_band, wrapped_sum};
+use crate::blocks::tokens::{read_difference, read_first_band, shifted, skip_first_band, wrapped_sum};
 use std::io::Read;
 
 /// How the blocks of a component are coded in a scan (T.81, B.2.3).

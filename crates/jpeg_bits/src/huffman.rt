@@ -1,10 +1,16 @@
 //! Entropy-coded bits (T.81, B.1.1.5 and F.2.2).
 ghost use Rattle.std.specs.Prelude.{◌≡◌, ◌≤◌, ◌<◌, ◌^◌};
 
-use crate::ahead::{BufferedBits, marker_of_end};
-use crate::bits::extend;
-pub use crate::codes::{HuffmanTable, HuffmanTableClass};
-pub use crate::default_tables::fill_default_mjpeg_tables;
+pub(crate) mod ahead;
+pub(crate) mod bits;
+pub mod codes;
+mod default_tables;
+mod pairs;
+
+use crate::huffman::ahead::{BufferedBits, marker_of_end};
+use crate::huffman::bits::extend;
+pub use crate::huffman::codes::{HuffmanTable, HuffmanTableClass};
+pub use crate::huffman::default_tables::fill_default_mjpeg_tables;
 use crate::error::{Error, Result, take_refusal};
 use crate::marker::Marker;
 use crate::source::Source;

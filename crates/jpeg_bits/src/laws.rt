@@ -14,7 +14,7 @@ ghost use Rattle.jpeg_bits.specs.Marker.{next_marker};
 ghost use Rattle.jpeg_bits.specs.NextMarker.{IsNextMarker, HasNoMarker};
 ghost use Rattle.jpeg_bits.specs.declared.marker.Marker.{Marker};
 ghost use Rattle.jpeg_bits.specs.Entropy.{Text};
-ghost use Rattle.jpeg_bits.specs.declared.codes.HuffmanTableClass.TheVariants.{AC};
+ghost use Rattle.jpeg_bits.specs.declared.huffman.codes.HuffmanTableClass.TheVariants.{AC};
 ghost use Rattle.jpeg_bits.specs.Bands.{token_from};
 ghost use Rattle.jpeg_bits.specs.Lookups.{looked_up};
 

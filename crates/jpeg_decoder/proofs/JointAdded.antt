@@ -9,7 +9,7 @@ use Rattle.std.specs.Prelude.{slice_index_or, slice_set}
 use Rattle.jpeg_bits.specs.Passes.{Pass, whole_pass}
 use Rattle.jpeg_streams.specs.Found.{Found}
 use Rattle.jpeg_streams.specs.ScanSegments.{finished_by}
-use Rattle.jpeg_decoder.specs.declared.scan.Coded.{Coded}
+use Rattle.jpeg_decoder.specs.declared.scan.coded.Coded.{Coded}
 use Rattle.jpeg_decoder.specs.PlanesView.{or_joint}
 use Rattle.jpeg_decoder.specs.Steps.{coding_in, marks_after, with_planes}
 use Rattle.jpeg_decoder.proofs.JointDecided.{or-nothing}

@@ -30,7 +30,7 @@ use Rattle.jpeg_decoder.specs.PlanesView.{IsFullJoint}
 use Rattle.jpeg_decoder.specs.Scanning.{components_in}
 use Rattle.jpeg_decoder.specs.Steps.{IsCodingOf, coding_in}
 use Rattle.jpeg_decoder.specs.Strips.{no_samples, strips_of, with_strips}
-use Rattle.jpeg_decoder.specs.declared.scan.Coded.{Coded}
+use Rattle.jpeg_decoder.specs.declared.scan.coded.Coded.{Coded}
 use Rattle.jpeg_decoder.proofs.ReadLists.{at-flat, even-at, flat-length}
 use Rattle.jpeg_decoder.proofs.StripRows.{strips-at, strips-length, strips_of-length}
 use Rattle.jpeg_decoder.proofs.StripSteps.{length-samples}

@@ -12,7 +12,7 @@ use Rattle.jpeg_bits.specs.Passes.{Pass, Via, Block, block_from}
 use Rattle.jpeg_streams.specs.Order.{Spot}
 use Rattle.jpeg_streams.specs.Scans.{block_at, put_block, via_at}
 use Rattle.jpeg_streams.specs.InTurn.{Reached, turn_from}
-use Rattle.jpeg_decoder.specs.declared.scan.Coded.{Coded}
+use Rattle.jpeg_decoder.specs.declared.scan.coded.Coded.{Coded}
 use Rattle.jpeg_bits.specs.BlockView.{to_block}
 use Rattle.jpeg_bits.specs.Skips.{kept, kept_turn}
 use Rattle.jpeg_decoder.specs.Scanning.{IsSpotOf, vias_in, arrays_in, sizes_of}

@@ -12,7 +12,7 @@ use Rattle.jpeg_streams.specs.McuRows.{mcu_row, rows_of}
 use Rattle.jpeg_streams.specs.Scans.{zero_arrays, zero_of}
 use Rattle.jpeg_streams.proofs.Apart.{spots-inside, zeros-sized}
 use Rattle.jpeg_streams.proofs.McuRows.{AreRows, row-inside, rows-count}
-use Rattle.jpeg_decoder.specs.declared.scan.Coded.{Coded}
+use Rattle.jpeg_decoder.specs.declared.scan.coded.Coded.{Coded}
 use Rattle.jpeg_decoder.specs.Scanning.{IsSpotOf, arrays_in, blocks_in, sizes_of, components_in}
 use Rattle.jpeg_decoder.specs.Strips.{row_sizes}
 use Rattle.jpeg_decoder.proofs.KeptBlocks.{Held, sizes-long}

@@ -9,8 +9,8 @@ use Rattle.jpeg_segments.specs.Frame.{Component}
 use Rattle.jpeg_streams.specs.declared.grids.Grid.{Grid}
 use Rattle.jpeg_streams.specs.Order.{Spot, part_spot, part_spots, mcu_spots, all_spots, own_spots}
 use Rattle.jpeg_segments.specs.FrameView.{component_in}
-use Rattle.jpeg_decoder.specs.declared.scan.Coded.{Coded}
-use Rattle.jpeg_decoder.specs.declared.spots.Member.{Member}
+use Rattle.jpeg_decoder.specs.declared.scan.coded.Coded.{Coded}
+use Rattle.jpeg_decoder.specs.declared.scan.spots.Member.{Member}
 use Rattle.jpeg_decoder.specs.Scanning.{components_in}
 use Rattle.jpeg_decoder.specs.Walk.{spot_at, mcu_at, spots_at, raster, positions_of, member_of}
 use Rattle.jpeg_decoder.specs.Walk.{line_members, part_members, members_from, own_member}

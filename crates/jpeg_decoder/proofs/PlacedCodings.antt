@@ -2,7 +2,7 @@
 use Rattle.std.proofs.Common.{◌≡◌, ℕ, List, [], ◌∷◌, refl, ap, map}
 use Rattle.jpeg_segments.specs.Frame.{Component}
 use Rattle.jpeg_segments.specs.FrameView.{component_in}
-use Rattle.jpeg_decoder.specs.declared.scan.Coded.{Coded}
+use Rattle.jpeg_decoder.specs.declared.scan.coded.Coded.{Coded}
 use Rattle.jpeg_decoder.specs.Scanning.{components_in}
 use Rattle.jpeg_decoder.specs.Steps.{coding_in}
 use Rattle.jpeg_decoder.proofs.TakenBlocks.{indices_of}

@@ -5,7 +5,7 @@ use Rattle.std.proofs.lemmas.List.{drop-set-lt, drop_more, get_or-map, length-ma
 use Rattle.std.specs.declared.alloc.Global.{Global}
 use Rattle.std.specs.declared.vec.Vec.{Vec}
 use Rattle.jpeg_bits.specs.Passes.{Pass, Block}
-use Rattle.jpeg_decoder.specs.declared.scan.Coded.{Coded}
+use Rattle.jpeg_decoder.specs.declared.scan.coded.Coded.{Coded}
 use Rattle.jpeg_decoder.specs.Scanning.{arrays_in, blocks_in, components_in}
 use Rattle.jpeg_decoder.specs.Steps.{coding_in, with_its_plane, with_planes, decided_planes}
 use Rattle.jpeg_streams.specs.Rasters.{plane_by}

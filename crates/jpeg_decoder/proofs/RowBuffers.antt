@@ -15,7 +15,7 @@ use Rattle.jpeg_decoder.specs.Scanning.{arrays_in, blocks_in, sizes_of, down_in,
 use Rattle.jpeg_decoder.specs.Strips.{plane_lists, row_sizes, zeros_of, samples_of, strips_of}
 use Rattle.jpeg_decoder.specs.Strips.{tables_of, with_strips}
 use Rattle.jpeg_bits.specs.Zigzag.{values_in_block_order}
-use Rattle.jpeg_decoder.specs.declared.scan.Coded.{Coded}
+use Rattle.jpeg_decoder.specs.declared.scan.coded.Coded.{Coded}
 use Rattle.jpeg_decoder.proofs.BlocksBefore.{zero-blocks}
 use Rattle.jpeg_decoder.proofs.KeptBlocks.{Held, sizes-long, size-at}
 use Rattle.jpeg_streams.proofs.InPlace.{patched, patched-next, patched-at, patched-all}

@@ -8,7 +8,7 @@ use Rattle.jpeg_bits.specs.Reading.{Fault, ◌>>=◌}
 use Rattle.jpeg_segments.specs.Frame.{Frame}
 use Rattle.jpeg_segments.specs.Checks.{gathered}
 use Rattle.jpeg_segments.specs.ScanHeader.{Scan}
-use Rattle.jpeg_decoder.specs.declared.scan.Coded.{Coded}
+use Rattle.jpeg_decoder.specs.declared.scan.coded.Coded.{Coded}
 use Rattle.jpeg_streams.specs.ScanSegments.{codings_of, component_coding, Coding, tables_of}
 use Rattle.jpeg_streams.specs.ScanSegments.{pass_of}
 use Rattle.jpeg_streams.specs.Found.{Said}

@@ -13,10 +13,10 @@ use Rattle.jpeg_streams.specs.InTurn.{Fits}
 use Rattle.jpeg_streams.specs.McuRows.{mcu_row, rows_of}
 use Rattle.jpeg_streams.proofs.CountedScans.{some-product}
 use Rattle.jpeg_segments.specs.FrameView.{component_in}
-use Rattle.jpeg_decoder.specs.declared.scan.Coded.{Coded}
-use Rattle.jpeg_decoder.specs.declared.scan_order.ScanOrder.{ScanOrder}
+use Rattle.jpeg_decoder.specs.declared.scan.coded.Coded.{Coded}
+use Rattle.jpeg_decoder.specs.declared.scan.order.ScanOrder.{ScanOrder}
 use Rattle.jpeg_decoder.specs.Scanning.{components_in}
-use Rattle.jpeg_decoder.specs.declared.spots.Member.{Member}
+use Rattle.jpeg_decoder.specs.declared.scan.spots.Member.{Member}
 use Rattle.jpeg_decoder.specs.Walk.{IsOrderOf, walks_of_rows, spots_at, raster, members_from}
 use Rattle.jpeg_decoder.specs.Walk.{line_members, own_member}
 use Rattle.jpeg_decoder.proofs.OrderedWalks.{all_walked, own_walked}

@@ -15,9 +15,9 @@ use Rattle.jpeg_decoder.specs.Scanning.{arrays_in, vias_in}
 use Rattle.jpeg_decoder.specs.PlanesView.{planes_in}
 use Rattle.jpeg_decoder.specs.Steps.{IsReadable, coding_in, scan_data, with_decoded, with_planes}
 use Rattle.jpeg_decoder.specs.Strips.{no_samples, planes_at, planes_by_rows}
-use Rattle.jpeg_decoder.specs.declared.decoded.Decoded.{Decoded}
-use Rattle.jpeg_decoder.specs.declared.scan.Coded.{Coded}
-use Rattle.jpeg_decoder.specs.declared.scan.Scan.{Scan}
+use Rattle.jpeg_decoder.specs.declared.scan.decoded.Decoded.{Decoded}
+use Rattle.jpeg_decoder.specs.declared.scan.coded.Coded.{Coded}
+use Rattle.jpeg_decoder.specs.declared.scan.coded.Scan.{Scan}
 use Rattle.jpeg_decoder.proofs.DecidedScans.{IsDecided, again-read, again-refused, planes-decided}
 use Rattle.jpeg_decoder.proofs.ScanData.{data-planes, data-planes-refused, of-frame, vias-same}
 use Rattle.jpeg_decoder.proofs.StripScans.{Planes, scan-by-rows}

@@ -9,8 +9,8 @@ use Rattle.jpeg_bits.specs.Reading.{Fault, Malformed, Names, NamesFormat, ◌>>=
 use Rattle.jpeg_bits.proofs.Loops.{Names-through}
 use Rattle.jpeg_bits.specs.Codes.{Table, is_ac}
 use Rattle.jpeg_bits.specs.DefaultTables.{with_defaults}
-use Rattle.jpeg_bits.specs.declared.codes.HuffmanTableClass.{HuffmanTableClass}
-use Rattle.jpeg_bits.specs.declared.codes.HuffmanTableClass.TheVariants as classes
+use Rattle.jpeg_bits.specs.declared.huffman.codes.HuffmanTableClass.{HuffmanTableClass}
+use Rattle.jpeg_bits.specs.declared.huffman.codes.HuffmanTableClass.TheVariants as classes
 use Rattle.std.proofs.lemmas.Grind.{get_or_default_zero, common_steps}
 use Rattle.jpeg_bits.specs.declared.error.Error.{Error}
 use Rattle.jpeg_bits.specs.declared.scan.ScanInfo.{ScanInfo}
@@ -20,8 +20,8 @@ use Rattle.jpeg_segments.specs.Frame.{Component}
 use Rattle.jpeg_segments.specs.FrameView.{component_in, frame_in, scan_in}
 use Rattle.jpeg_segments.specs.ScanHeader.{Scan}
 use Rattle.jpeg_segments.specs.HuffmanTables.{all_ac, is_ac_or_none}
-use Rattle.jpeg_decoder.specs.declared.codings.Spare.{Spare}
-use Rattle.jpeg_decoder.specs.declared.state.Said as declared_said
+use Rattle.jpeg_decoder.specs.declared.scan.codings.Spare.{Spare}
+use Rattle.jpeg_decoder.specs.declared.stream.state.Said as declared_said
 use Rattle.jpeg_streams.specs.Scans.{no_table}
 use Rattle.jpeg_segments.specs.Checks.{needed}
 use Rattle.jpeg_streams.specs.ScanSegments.{Coding, component_coding, needed_if, tables_of, pass_of}

@@ -10,14 +10,14 @@ use Rattle.jpeg_bits.specs.declared.error.Error.{Error}
 use Rattle.jpeg_bits.specs.declared.marker.Marker.{Marker}
 use Rattle.jpeg_bits.specs.Passes.{Pass, Via}
 use Rattle.jpeg_segments.specs.Frame.{Frame}
-use Rattle.jpeg_decoder.specs.declared.scan.Coded.{Coded}
+use Rattle.jpeg_decoder.specs.declared.scan.coded.Coded.{Coded}
 use Rattle.jpeg_streams.specs.InTurn.{Fits, counted_at_start}
 use Rattle.jpeg_decoder.specs.Scanning.{components_in}
 use Rattle.jpeg_decoder.specs.Steps.{coding_in}
 use Rattle.jpeg_streams.specs.ScanSegments.{Coding}
 use Rattle.jpeg_decoder.specs.Strips.{no_samples, strips_from, planes_at, planes_by_rows}
 use Rattle.jpeg_decoder.proofs.ByStrips.{planes-by-rows}
-use Rattle.jpeg_decoder.specs.declared.scan_order.ScanOrder.{ScanOrder}
+use Rattle.jpeg_decoder.specs.declared.scan.order.ScanOrder.{ScanOrder}
 use Rattle.jpeg_decoder.specs.Walk.{IsOrderOf, walks_of_rows}
 use Rattle.jpeg_decoder.proofs.ScanOrders.{rows-walked}
 use Rattle.jpeg_decoder.proofs.PlacedCodings.{coded-components}

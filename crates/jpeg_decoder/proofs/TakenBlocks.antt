@@ -7,7 +7,7 @@ use Rattle.std.proofs.Math.Logic.{inl, inr}
 use Rattle.std.proofs.lemmas.List.{get_or-map, get_or-set_other, map-append, map-set, set-set, set_comm}
 use Rattle.std.proofs.lemmas.List.{take_more}
 use Rattle.jpeg_bits.specs.Passes.{Block}
-use Rattle.jpeg_decoder.specs.declared.scan.Coded.{Coded}
+use Rattle.jpeg_decoder.specs.declared.scan.coded.Coded.{Coded}
 use Rattle.jpeg_streams.specs.InTurn.{AreApart, IsIn}
 use Rattle.jpeg_streams.specs.Scans.{Arrays}
 use Rattle.jpeg_decoder.specs.Scanning.{arrays_in, blocks_in}

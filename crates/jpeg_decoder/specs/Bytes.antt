@@ -9,7 +9,7 @@ use Rattle.jpeg_streams.specs.Pixels.{bytes_a_pixel, info_of}
 use Rattle.jpeg_streams.specs.declared.images.ImageInfo.{ImageInfo}
 use Rattle.jpeg_streams.specs.declared.images.PixelFormat.{PixelFormat}
 use Rattle.jpeg_streams.specs.declared.images.PixelFormat.TheVariants.{L16}
-use Rattle.jpeg_decoder.specs.declared.memory.DecodingBytes.{DecodingBytes}
+use Rattle.jpeg_decoder.specs.declared.sizes.DecodingBytes.{DecodingBytes}
 
 -- ---- the picture
 

@@ -6,8 +6,8 @@ use Rattle.jpeg_pixels.specs.declared.joint_planes.JointPlanes.{JointPlanes}
 use Rattle.jpeg_pixels.specs.declared.joint_planes.JointShape.{JointShape}
 use Rattle.jpeg_streams.specs.ScanSegments.{Coding}
 use Rattle.jpeg_decoder.specs.Strips.{plane_lists}
-use Rattle.jpeg_decoder.specs.declared.strips.GrowingPlanes.{GrowingPlanes}
-use Rattle.jpeg_decoder.specs.declared.strips.GrowingPlanes.TheVariants as growing
+use Rattle.jpeg_decoder.specs.declared.scan.strips.GrowingPlanes.{GrowingPlanes}
+use Rattle.jpeg_decoder.specs.declared.scan.strips.GrowingPlanes.TheVariants as growing
 
 abbrev pub growing_in : GrowingPlanes → List (List ℕ)
 growing_in (growing.Own planes) = plane_lists planes.items

@@ -6,7 +6,7 @@ use Rattle.std.specs.declared.alloc.Global.{Global}
 use Rattle.std.specs.declared.vec.Vec.{Vec}
 use Rattle.jpeg_pixels.specs.JointPlanes.{HasFrameSizes, joint_planes, joint_row_size}
 use Rattle.jpeg_pixels.specs.declared.joint_planes.JointPlanes.{JointPlanes}
-use Rattle.jpeg_decoder.specs.declared.planes.Planes.TheInside.{Inside}
+use Rattle.jpeg_decoder.specs.declared.scan.planes.Planes.TheInside.{Inside}
 
 abbrev pub planes_in : List (Option (Vec ℕ Global)) → List (Option (List ℕ))
 planes_in planes = map (λ p. option_map (λ v. v.items) p) planes

@@ -10,9 +10,9 @@ use Rattle.jpeg_streams.specs.InTurn.{Reached, Counted}
 use Rattle.jpeg_streams.specs.McuRows.{on_arrays}
 use Rattle.jpeg_bits.specs.Readers.{Reads, ◌>>=◌, gives}
 use Rattle.jpeg_bits.specs.Skips.{dc_alone}
-use Rattle.jpeg_decoder.specs.declared.scan.Coded.{Coded}
-use Rattle.jpeg_decoder.specs.declared.scans.Interval.{Interval}
-use Rattle.jpeg_decoder.specs.declared.scan.Scan.{Scan}
+use Rattle.jpeg_decoder.specs.declared.scan.coded.Coded.{Coded}
+use Rattle.jpeg_decoder.specs.declared.scan.blocks.Interval.{Interval}
+use Rattle.jpeg_decoder.specs.declared.scan.coded.Scan.{Scan}
 use Rattle.jpeg_streams.specs.Order.{Spot}
 use Rattle.jpeg_bits.specs.BlockView.{to_block, pass_in}
 

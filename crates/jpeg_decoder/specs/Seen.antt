@@ -1,10 +1,10 @@
 -- What a caller sees of the parts of a decoder.
 use Rattle.std.specs.Prelude.{ℕ, List, Option, map, option_map}
 use Rattle.jpeg_segments.specs.FrameView.{frame_in, chunk_in}
-use Rattle.jpeg_decoder.specs.declared.decoded.Decoded.{Decoded}
-use Rattle.jpeg_decoder.specs.declared.state.State.{State}
-use Rattle.jpeg_decoder.specs.declared.state.Said as declared_said
-use Rattle.jpeg_decoder.specs.declared.metadata.Metadata as declared
+use Rattle.jpeg_decoder.specs.declared.scan.decoded.Decoded.{Decoded}
+use Rattle.jpeg_decoder.specs.declared.stream.state.State.{State}
+use Rattle.jpeg_decoder.specs.declared.stream.state.Said as declared_said
+use Rattle.jpeg_decoder.specs.declared.stream.metadata.Metadata as declared
 use Rattle.jpeg_decoder.specs.PlanesView.{planes_in}
 use Rattle.jpeg_decoder.specs.Scanning.{arrays_in}
 use Rattle.jpeg_streams.specs.Found.{Found, Metadata, Said}

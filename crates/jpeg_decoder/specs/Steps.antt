@@ -18,19 +18,19 @@ use Rattle.jpeg_segments.specs.Scales.{is_scale}
 use Rattle.jpeg_streams.specs.Scans.{Arrays, arrays_at, no_table, zero_arrays}
 use Rattle.jpeg_decoder.specs.Scanning.{arrays_in, components_in}
 use Rattle.jpeg_streams.specs.Order.{spots_of, mcu_size}
-use Rattle.jpeg_decoder.specs.declared.decoded.Decoded.{Decoded}
+use Rattle.jpeg_decoder.specs.declared.scan.decoded.Decoded.{Decoded}
 use Rattle.jpeg_bits.specs.BlockView.{pass_in}
 use Rattle.jpeg_bits.specs.Passes.{Pass, whole_pass}
 use Rattle.std.specs.List.{list_all, AllByRecursion}
 use Rattle.jpeg_segments.specs.FrameView.{component_in}
 use Rattle.jpeg_segments.specs.ScanHeader as headers
-use Rattle.jpeg_decoder.specs.declared.scan.Scan.{Scan}
+use Rattle.jpeg_decoder.specs.declared.scan.coded.Scan.{Scan}
 use Rattle.jpeg_streams.specs.InTurn.{Fits}
-use Rattle.jpeg_decoder.specs.declared.state.State.{State}
-use Rattle.jpeg_decoder.specs.declared.state.Step.{Step}
-use Rattle.jpeg_decoder.specs.declared.scan.Coded.{Coded}
-use Rattle.jpeg_decoder.specs.declared.codings.Spare.{Spare}
-use Rattle.jpeg_bits.specs.declared.codes.HuffmanTableClass.TheVariants as classes
+use Rattle.jpeg_decoder.specs.declared.stream.state.State.{State}
+use Rattle.jpeg_decoder.specs.declared.stream.state.Step.{Step}
+use Rattle.jpeg_decoder.specs.declared.scan.coded.Coded.{Coded}
+use Rattle.jpeg_decoder.specs.declared.scan.codings.Spare.{Spare}
+use Rattle.jpeg_bits.specs.declared.huffman.codes.HuffmanTableClass.TheVariants as classes
 use Rattle.jpeg_segments.specs.Checks.{needed}
 use Rattle.jpeg_streams.specs.ScanSegments.{component_coding, components_of, Coding, tables_of}
 use Rattle.jpeg_streams.specs.ScanSegments.{pass_of, after_restarts, finished_by, blocks_after}

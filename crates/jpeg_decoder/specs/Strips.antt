@@ -18,7 +18,7 @@ use Rattle.jpeg_streams.specs.Rasters.{in_raster, plane_by}
 use Rattle.jpeg_streams.specs.InTurn.{Counted, blocks_from, counted_at_start}
 use Rattle.jpeg_streams.specs.McuRows.{zero_rows, rows_of, on_arrays}
 use Rattle.jpeg_streams.specs.ScanSegments.{components_of, Coding}
-use Rattle.jpeg_decoder.specs.declared.scan.Coded.{Coded}
+use Rattle.jpeg_decoder.specs.declared.scan.coded.Coded.{Coded}
 use Rattle.jpeg_decoder.specs.Scanning.{down_in, wide_in}
 
 -- the planes of a scan's components by their blocks

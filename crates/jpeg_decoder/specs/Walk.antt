@@ -7,9 +7,9 @@ use Rattle.jpeg_segments.specs.Frame.{Frame, Component}
 use Rattle.jpeg_streams.specs.Order.{Spot, mcu_size, spots_of}
 use Rattle.jpeg_streams.specs.McuRows.{mcu_row}
 use Rattle.jpeg_streams.specs.declared.grids.Grid.{Grid}
-use Rattle.jpeg_decoder.specs.declared.scan_order.ScanOrder.{ScanOrder}
-use Rattle.jpeg_decoder.specs.declared.spots.Member.{Member}
-use Rattle.jpeg_decoder.specs.declared.spots.Spot as taken
+use Rattle.jpeg_decoder.specs.declared.scan.order.ScanOrder.{ScanOrder}
+use Rattle.jpeg_decoder.specs.declared.scan.spots.Member.{Member}
+use Rattle.jpeg_decoder.specs.declared.scan.spots.Spot as taken
 
 -- ---- a raster
 

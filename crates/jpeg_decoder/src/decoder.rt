@@ -30,11 +30,11 @@ ghost use Rattle.jpeg_streams.specs.Output.{default_settings};
 ghost use Rattle.jpeg_streams.specs.Profile.{profile_of};
 ghost use Rattle.std.specs.Option.{option_copied};
 
-use crate::decoded::Decoded;
-use crate::memory::{DecodingBytes, decoding_bytes, picture_bytes};
-use crate::picture::{read_header, read_rest, read_rest_into};
-use crate::profile::profile;
-use crate::state::State;
+use crate::scan::decoded::Decoded;
+use crate::sizes::{DecodingBytes, decoding_bytes, picture_bytes};
+use crate::picture::whole::{read_header, read_rest, read_rest_into};
+use crate::stream::profile::profile;
+use crate::stream::state::State;
 pub use jpeg_bits::color_transform::ColorTransform;
 use jpeg_bits::error::{Error, Result};
 pub use jpeg_bits::scan::MAX_COMPONENTS;

@@ -27,50 +27,30 @@
 //! wrong; after a refusal the frame and the metadata that were read before it are still there. What
 //! `decode` answers is the meaning of the bytes (clause `reads`), and for a stream that was written
 //! for the coefficients of an image it is their picture, however they were coded (clause `images`);
-//! a lossless stream gives back its samples (clause `samples`). [`headline`] and [`lossless_laws`]
-//! have these theorems as laws of their own. A caller with contracts of its own finds the lemmas
+//! a lossless stream gives back its samples (clause `samples`). [`laws::headline`] and
+//! [`laws::lossless`] have these theorems as laws of their own. A caller with contracts of its own finds the lemmas
 //! that it needs in `proofs/Callers.antt`.
 #![tactic(auto)]
 
-mod codings;
-mod color_choice;
-mod decoded;
 pub mod decoder;
 pub mod error;
-mod frames;
-pub mod headline;
 pub mod laws;
-pub mod lossless_laws;
-mod lossless_scans;
-pub mod memory;
-mod metadata;
 pub mod orientation;
 mod picture;
-mod planes;
-mod profile;
-mod raster;
-mod restarts;
 pub mod run;
 mod scan;
-mod scan_order;
-mod scan_segment;
-mod scans;
-mod sequential;
-mod spots;
-mod state;
+pub mod sizes;
 mod stream;
-mod strips;
-mod tables;
 
 pub use decoder::{Decoder, ImageInfo, PixelFormat};
-pub use jpeg_bits::byte_reader::ByteReader;
+pub use jpeg_bits::source::byte_reader::ByteReader;
 pub use jpeg_bits::color_transform::ColorTransform;
 pub use jpeg_bits::error::{Error, UnsupportedFeature};
-pub use jpeg_bits::slice_reader::SliceReader;
+pub use jpeg_bits::source::slice_reader::SliceReader;
 pub use jpeg_bits::{huffman, marker};
 pub use jpeg_lossless::lossless;
 pub use jpeg_pixels::{arch, idct, upsampler, worker};
 pub use jpeg_segments::parser;
 pub use jpeg_segments::parser::CodingProcess;
 pub use jpeg_segments::scale::Scale;
-pub use memory::DecodingBytes;
+pub use sizes::DecodingBytes;

@@ -9,8 +9,8 @@ use Rattle.jpeg_bits.specs.Codes.{Table, IsTable}
 use Rattle.jpeg_bits.specs.Readers.{gives, ◌>>=◌}
 use Rattle.jpeg_bits.specs.Bands.{Band, before_more, wrapped, token_from, after_token, first_ac}
 use Rattle.jpeg_bits.specs.Written.{IsCoded}
-use Rattle.jpeg_bits.specs.declared.tokens.Token.{Token}
-use Rattle.jpeg_bits.specs.declared.tokens.Token.TheVariants.{Value, Sixteen, Rest, Overlong}
+use Rattle.jpeg_bits.specs.declared.blocks.tokens.Token.{Token}
+use Rattle.jpeg_bits.specs.declared.blocks.tokens.Token.TheVariants.{Value, Sixteen, Rest, Overlong}
 use Rattle.jpeg_streams.specs.WrittenData.{no_numbers}
 use Rattle.jpeg_streams.specs.WrittenData.WritesBand.{full, value as a_value, sixteen as a_sixteen, ended as an_end}
 use Rattle.jpeg_streams.proofs.SentBlocks.{scaled, InRange}

@@ -7,8 +7,8 @@ use Rattle.jpeg_bits.specs.Readers.{signed_from}
 use Rattle.jpeg_bits.specs.Codes.{Table, IsTable, code_from}
 use Rattle.jpeg_bits.specs.Bands.{token_at, token_from}
 use Rattle.jpeg_bits.specs.Written.{IsCoded}
-use Rattle.jpeg_bits.specs.declared.tokens.Token.{Token}
-use Rattle.jpeg_bits.specs.declared.tokens.Token.TheVariants.{Value, Rest, Overlong}
+use Rattle.jpeg_bits.specs.declared.blocks.tokens.Token.{Token}
+use Rattle.jpeg_bits.specs.declared.blocks.tokens.Token.TheVariants.{Value, Rest, Overlong}
 use Rattle.jpeg_evidence.specs.Strict.{alone, IsCut, IsNumber, IsValue, Follows, IsToken}
 use Rattle.jpeg_evidence.specs.Strict.Follows.{value, sixteen, ended, overlong}
 use Rattle.jpeg_evidence.proofs.TakenBits.{number_taken, code-taken, cut-map, gives-taken, map-taken, bind-cut}

@@ -3,8 +3,8 @@ use Rattle.std.specs.Prelude.{ℕ, List, [], ◌∷◌, map, replicate, true, Op
 use Rattle.std.specs.Prelude.{Ok}
 use Rattle.jpeg_bits.specs.Codes.{Table}
 use Rattle.jpeg_bits.specs.Reading.{Fault, ◌>>=◌}
-use Rattle.jpeg_bits.specs.declared.codes.HuffmanTableClass.{HuffmanTableClass}
-use Rattle.jpeg_bits.specs.declared.codes.HuffmanTableClass.TheVariants.{DC, AC}
+use Rattle.jpeg_bits.specs.declared.huffman.codes.HuffmanTableClass.{HuffmanTableClass}
+use Rattle.jpeg_bits.specs.declared.huffman.codes.HuffmanTableClass.TheVariants.{DC, AC}
 use Rattle.jpeg_segments.specs.Application.{Chunk}
 use Rattle.jpeg_segments.specs.Frame.{Factors, Frame, frame_of}
 use Rattle.jpeg_segments.specs.HuffmanTables.{Tables, no_tables}

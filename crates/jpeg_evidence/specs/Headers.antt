@@ -4,7 +4,7 @@ use Rattle.jpeg_bits.specs.Codes.{Table}
 use Rattle.jpeg_bits.specs.Entropy.{Broken, Text}
 use Rattle.jpeg_bits.specs.Reading.{End}
 use Rattle.jpeg_bits.specs.Readers.{text}
-use Rattle.jpeg_bits.specs.declared.codes.HuffmanTableClass.TheVariants.{AC}
+use Rattle.jpeg_bits.specs.declared.huffman.codes.HuffmanTableClass.TheVariants.{AC}
 use Rattle.jpeg_segments.specs.Frame.{Frame, frame_of}
 use Rattle.jpeg_streams.specs.Worked.{factors_by}
 

@@ -18,8 +18,8 @@ use Rattle.jpeg_bits.specs.Reading.{End}
 use Rattle.jpeg_bits.specs.Readers.{text}
 use Rattle.jpeg_bits.specs.Codes.{IsTable, Table, symbol_from}
 use Rattle.jpeg_bits.specs.declared.marker.Marker.{Marker}
-use Rattle.jpeg_bits.specs.declared.tokens.Token.{Token}
-use Rattle.jpeg_bits.specs.declared.tokens.Token.TheVariants.{Value, Sixteen, Rest, Overlong}
+use Rattle.jpeg_bits.specs.declared.blocks.tokens.Token.{Token}
+use Rattle.jpeg_bits.specs.declared.blocks.tokens.Token.TheVariants.{Value, Sixteen, Rest, Overlong}
 
 -- Bits that nothing follows: no marker after which zeros would come without end.
 abbrev pub alone : List Bool → Text

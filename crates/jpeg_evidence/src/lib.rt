@@ -15,7 +15,7 @@ ghost use Rattle.jpeg_bits.specs.Refinement.{fits_i16, refined_ac};
 ghost use Rattle.jpeg_bits.specs.Zigzag.{zigzag};
 ghost use Rattle.jpeg_bits.specs.declared.color_transform.ColorTransform.TheVariants as transforms;
 ghost use Rattle.jpeg_bits.specs.declared.scan.Predictor.TheVariants as selections;
-ghost use Rattle.jpeg_bits.specs.declared.tokens.Token.TheVariants as tokens;
+ghost use Rattle.jpeg_bits.specs.declared.blocks.tokens.Token.TheVariants as tokens;
 ghost use Rattle.jpeg_lossless.specs.Prediction.{line_below};
 ghost use Rattle.jpeg_pixels.specs.Planes.{plane_of};
 ghost use Rattle.jpeg_pixels.specs.Samples.{clamped, dequantized, sample};

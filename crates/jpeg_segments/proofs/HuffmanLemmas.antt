@@ -5,7 +5,7 @@ use Rattle.std.specs.Prelude.{if◌then◌else◌, sum, IfOk, IfErr}
 use Rattle.jpeg_bits.specs.Stream.{Stream}
 use Rattle.jpeg_bits.specs.Reading.{Fault, Malformed, Answers, MayFail, Names, NamesFormat, ◌>>=◌, times, next_byte}
 use Rattle.jpeg_bits.specs.Codes.{Table, HasCodes, RefusesCodes, codes_exist, code_lengths}
-use Rattle.jpeg_bits.specs.declared.codes.HuffmanTableClass.{HuffmanTableClass}
+use Rattle.jpeg_bits.specs.declared.huffman.codes.HuffmanTableClass.{HuffmanTableClass}
 use Rattle.jpeg_bits.specs.declared.error.Error.{Error}
 use Rattle.jpeg_bits.proofs.Loops.{still_known}
 use Rattle.jpeg_bits.proofs.Tables.{exist-tested, tested-exist}

@@ -7,7 +7,7 @@ use Rattle.std.specs.Prelude.{◌&&◌, flat_map, sum}
 use Rattle.std.specs.List.{AllByRecursion, list_all}
 use Rattle.jpeg_bits.specs.Reading.{Malformed}
 use Rattle.jpeg_bits.specs.Codes.{Table, code_lengths, codes_exist}
-use Rattle.jpeg_bits.specs.declared.codes.HuffmanTableClass.{HuffmanTableClass}
+use Rattle.jpeg_bits.specs.declared.huffman.codes.HuffmanTableClass.{HuffmanTableClass}
 use Rattle.jpeg_bits.proofs.Tables.{exist-tested, tested-exist}
 use Rattle.jpeg_segments.specs.Quantization as quantization
 use Rattle.jpeg_segments.specs.Quantization.{value_at, table_size, defined_table_at, dqt_at}

@@ -5,8 +5,8 @@ use Rattle.std.specs.Prelude.{replicate, slice_set, sum}
 use Rattle.std.specs.List.{list_all}
 use Rattle.jpeg_bits.specs.Reading.{Outcome, Malformed, ◌>>=◌, next_byte, length_at, times}
 use Rattle.jpeg_bits.specs.Codes.{Table, code_lengths, codes_exist, is_ac}
-use Rattle.jpeg_bits.specs.declared.codes.HuffmanTableClass.{HuffmanTableClass}
-use Rattle.jpeg_bits.specs.declared.codes.HuffmanTableClass.TheVariants as classes
+use Rattle.jpeg_bits.specs.declared.huffman.codes.HuffmanTableClass.{HuffmanTableClass}
+use Rattle.jpeg_bits.specs.declared.huffman.codes.HuffmanTableClass.TheVariants as classes
 use Rattle.jpeg_segments.specs.Checks.{check}
 
 -- the tables of each class, by their destinations

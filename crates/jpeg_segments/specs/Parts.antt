@@ -5,7 +5,7 @@ use Rattle.std.specs.Prelude.{◌==◌, if◌then◌else◌, sum}
 use Rattle.std.specs.List.{list_any}
 use Rattle.jpeg_bits.specs.Reading.{Outcome, Malformed, ◌>>=◌, next_byte, length_at, times}
 use Rattle.jpeg_bits.specs.Codes.{Table, code_lengths, codes_exist}
-use Rattle.jpeg_bits.specs.declared.codes.HuffmanTableClass.{HuffmanTableClass}
+use Rattle.jpeg_bits.specs.declared.huffman.codes.HuffmanTableClass.{HuffmanTableClass}
 use Rattle.jpeg_segments.specs.declared.scan_header.Selector.{Selector as Read}
 use Rattle.jpeg_segments.specs.Application.{Application, application_by}
 use Rattle.jpeg_segments.specs.Frame.{Factors, Frame, is_count, is_destination, is_factor}

@@ -12,7 +12,7 @@ ghost use Rattle.jpeg_segments.specs.FrameView.{application_in};
 
 use jpeg_bits::error::{Result, format_error_of};
 use jpeg_bits::marker::Marker;
-use jpeg_bits::reads::{read_bytes, read_length, read_u16_be, skip};
+use jpeg_bits::source::reads::{read_bytes, read_length, read_u16_be, skip};
 use jpeg_bits::source::Source;
 use std::alloc::{AllocError, Global};
 use std::io::Read;

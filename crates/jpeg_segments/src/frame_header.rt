@@ -18,7 +18,7 @@ use crate::frame::{CodingProcess, Dimensions, EntropyCoding, Factors, FrameInfo}
 use crate::sizes::{components_of, greatest_factors, mcus};
 use jpeg_bits::error::{Error, Result, UnsupportedFeature, format_error, format_error_of};
 use jpeg_bits::marker::Marker;
-use jpeg_bits::reads::{read_length, read_u8, read_u16_be};
+use jpeg_bits::source::reads::{read_length, read_u8, read_u16_be};
 use jpeg_bits::source::Source;
 use std::alloc::{AllocError, Global};
 use std::io::Read;

@@ -8,7 +8,7 @@ ghost use Rattle.jpeg_segments.specs.Parts.{symbols_at, codes_at};
 
 use jpeg_bits::error::{Error, Result, format_error_of};
 use jpeg_bits::huffman::{HuffmanTable, HuffmanTableClass};
-use jpeg_bits::reads::{read_bytes, read_exact, read_length, read_u8};
+use jpeg_bits::source::reads::{read_bytes, read_exact, read_length, read_u8};
 use jpeg_bits::source::Source;
 use std::alloc::{AllocError, Global};
 use std::io::Read;

@@ -6,7 +6,7 @@ ghost use Rattle.jpeg_segments.specs.Quantization.{value_at, defined_table_at, d
 ghost use Rattle.jpeg_segments.specs.Parts.{table_at};
 
 use jpeg_bits::error::{Error, Result, format_error_of};
-use jpeg_bits::reads::{read_length, read_u8, read_u16_be};
+use jpeg_bits::source::reads::{read_length, read_u8, read_u16_be};
 use jpeg_bits::source::Source;
 use std::alloc::Global;
 use std::io::Read;

@@ -16,7 +16,7 @@ use crate::frame::{CodingProcess, Component, FrameInfo};
 use crate::huffman_tables::{expected_destinations, greatest_destination};
 use jpeg_bits::error::{Error, Result, format_error, format_error_of};
 use jpeg_bits::huffman::HuffmanTableClass;
-use jpeg_bits::reads::{read_length, read_u8};
+use jpeg_bits::source::reads::{read_length, read_u8};
 use jpeg_bits::scan::{Predictor, ScanInfo};
 use jpeg_bits::source::Source;
 use std::alloc::{AllocError, Global};

@@ -13,8 +13,8 @@ use Rattle.jpeg_bits.specs.Entropy.{bits_of}
 use Rattle.jpeg_bits.specs.Passes.{band_of, Block, Pass, predictors_at_start, Via, whole_pass}
 use Rattle.jpeg_bits.specs.Written.{code_bits, low_bits, bits_of_bytes, stuffed, IsCategory, IsCoded, WritesInterval}
 use Rattle.jpeg_bits.specs.Written.{marker}
-use Rattle.jpeg_bits.specs.declared.codes.HuffmanTableClass.{HuffmanTableClass}
-use Rattle.jpeg_bits.specs.declared.codes.HuffmanTableClass.TheVariants as classes
+use Rattle.jpeg_bits.specs.declared.huffman.codes.HuffmanTableClass.{HuffmanTableClass}
+use Rattle.jpeg_bits.specs.declared.huffman.codes.HuffmanTableClass.TheVariants as classes
 use Rattle.jpeg_streams.specs.Levels.{Is8Bit, Levels, sent_after, nothing_sent, numbers_at}
 use Rattle.jpeg_streams.specs.WrittenData.{no_numbers, WritesAc, WritesBand, WritesBlocks, WritesDc, WritesDifference}
 use Rattle.jpeg_streams.specs.WrittenData.WritesAc.{first, no_band}

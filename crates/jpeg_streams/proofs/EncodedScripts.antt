@@ -11,8 +11,8 @@ use lib.ListN.{length-map}
 use Rattle.jpeg_bits.specs.Codes.{code_value, codes_exist, lengths_from, Table}
 use Rattle.jpeg_bits.specs.Passes.{Pass}
 use Rattle.jpeg_bits.specs.Written.{code_bits, IsCoded, marker}
-use Rattle.jpeg_bits.specs.declared.codes.HuffmanTableClass.{HuffmanTableClass}
-use Rattle.jpeg_bits.specs.declared.codes.HuffmanTableClass.TheVariants as classes
+use Rattle.jpeg_bits.specs.declared.huffman.codes.HuffmanTableClass.{HuffmanTableClass}
+use Rattle.jpeg_bits.specs.declared.huffman.codes.HuffmanTableClass.TheVariants as classes
 use Rattle.jpeg_segments.specs.Frame.{Component, component_of, Factors, Frame, frame_of}
 use Rattle.jpeg_segments.specs.HuffmanTables.{DefinedTable, greatest_destination, Tables}
 use Rattle.jpeg_segments.specs.ScanHeader.{scan_of, Selector}

@@ -35,7 +35,7 @@ use Rattle.jpeg_streams.specs.Segments.{accepted, onward, Turn, frame_segment}
 use Rattle.jpeg_streams.specs.Found.{Found, Said}
 use Rattle.jpeg_streams.specs.SaidSegments.{said_after}
 use Rattle.jpeg_streams.specs.Stream.{segment_at, segments_at, end_segment, turn_at, walk}
-use Rattle.jpeg_bits.specs.declared.codes.HuffmanTableClass.TheVariants as classes
+use Rattle.jpeg_bits.specs.declared.huffman.codes.HuffmanTableClass.TheVariants as classes
 use Rattle.jpeg_segments.specs.declared.frame.CodingProcess.TheVariants.{Lossless}
 use Rattle.jpeg_bits.specs.Written.{marker, IsMarker}
 pub use Rattle.jpeg_segments.proofs.Codecs.{err-ok, ok-same, bind-ok}

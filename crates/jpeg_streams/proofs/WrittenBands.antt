@@ -13,8 +13,8 @@ use Rattle.jpeg_bits.specs.Codes.{Table}
 use Rattle.jpeg_bits.specs.Written.{low_bits, IsCategory, IsCoded}
 use Rattle.jpeg_bits.specs.Readers.{Reads, ReadsJust}
 use Rattle.jpeg_bits.specs.Bands.{wrapped, Band, before_more, token_at, token_from, after_token, first_ac}
-use Rattle.jpeg_bits.specs.declared.tokens.Token.{Token}
-use Rattle.jpeg_bits.specs.declared.tokens.Token.TheVariants.{Value, Sixteen, Rest}
+use Rattle.jpeg_bits.specs.declared.blocks.tokens.Token.{Token}
+use Rattle.jpeg_bits.specs.declared.blocks.tokens.Token.TheVariants.{Value, Sixteen, Rest}
 use Rattle.jpeg_streams.specs.WrittenData.{bits_for, no_numbers, WritesBand}
 use Rattle.jpeg_streams.specs.WrittenData.WritesBand.{full, value, sixteen, ended}
 use Rattle.jpeg_bits.proofs.WrittenBits.{takes-gives, takes-bind, takes-number, takes-map, takes-as}

@@ -20,7 +20,7 @@ use Rattle.std.proofs.lemmas.Grind.{common_steps}
 use Rattle.std.proofs.Math.Nat.{div-lt_iff_lt-mul}
 use lib.ListN.{length-map}
 use Rattle.jpeg_bits.specs.Codes.{code_lengths, lengths_from}
-use Rattle.jpeg_bits.specs.declared.codes.HuffmanTableClass.{HuffmanTableClass}
+use Rattle.jpeg_bits.specs.declared.huffman.codes.HuffmanTableClass.{HuffmanTableClass}
 use Rattle.jpeg_bits.proofs.Tables.{IsGood}
 use Rattle.jpeg_segments.specs.Frame.{Frame}
 use Rattle.jpeg_streams.specs.declared.grids.Grid.{Grid}

@@ -4,7 +4,7 @@ use Rattle.std.proofs.Common.{subst, arith, ◌≢◌, ◌+◌, ◌/◌, ◌%◌
 use Rattle.std.proofs.Common.{◌∙◌, true≢false, ◌&&◌, Result, get_or, slice_index, is_some, suc, ◌*◌, ℤ, ap₂}
 use Rattle.std.specs.List.{AllByRecursion, enumerate_from, range_with_len, list_all}
 use Rattle.jpeg_bits.specs.Codes.{Table, IsTable}
-use Rattle.jpeg_bits.specs.declared.codes.HuffmanTableClass.{HuffmanTableClass}
+use Rattle.jpeg_bits.specs.declared.huffman.codes.HuffmanTableClass.{HuffmanTableClass}
 use Rattle.jpeg_bits.specs.DefaultTables.{with_defaults}
 use Rattle.jpeg_bits.proofs.DefaultTables.{luminance-dc-codes, chrominance-dc-codes, luminance-ac-codes}
 use Rattle.jpeg_bits.proofs.DefaultTables.{chrominance-ac-codes}

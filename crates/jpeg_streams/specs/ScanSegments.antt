@@ -10,8 +10,8 @@ use Rattle.jpeg_bits.specs.Marker.{next_marker}
 use Rattle.jpeg_bits.specs.Codes.{Table}
 use Rattle.jpeg_bits.specs.DefaultTables.{luminance_dc, chrominance_dc, luminance_ac}
 use Rattle.jpeg_bits.specs.DefaultTables.{chrominance_ac, with_defaults}
-use Rattle.jpeg_bits.specs.declared.codes.HuffmanTableClass.{HuffmanTableClass}
-use Rattle.jpeg_bits.specs.declared.codes.HuffmanTableClass.TheVariants as classes
+use Rattle.jpeg_bits.specs.declared.huffman.codes.HuffmanTableClass.{HuffmanTableClass}
+use Rattle.jpeg_bits.specs.declared.huffman.codes.HuffmanTableClass.TheVariants as classes
 use Rattle.jpeg_bits.specs.declared.marker.Marker.{Marker}
 use Rattle.jpeg_bits.specs.declared.marker.Marker.TheVariants.{RST}
 use Rattle.jpeg_segments.specs.declared.frame.CodingProcess.{CodingProcess}

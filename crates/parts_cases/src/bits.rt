@@ -1,7 +1,7 @@
 //! Calls of `jpeg_bits`: bytes, markers, codes, values, blocks and errors.
 ghost use Rattle.std.specs.Prelude.{◌≡◌, ◌≤◌, sum, IfOk};
 ghost use Rattle.jpeg_bits.specs.BlockView.{pass_in, IsPass};
-ghost use Rattle.jpeg_bits.specs.declared.codes.HuffmanTableClass.TheVariants.{AC};
+ghost use Rattle.jpeg_bits.specs.declared.huffman.codes.HuffmanTableClass.TheVariants.{AC};
 
 use crate::state::{Codes, State};
 use crate::words::{answer_of, byte, bytes, first_word, numbers, refusal, text_of_block};
@@ -11,7 +11,7 @@ use jpeg_bits::color_transform::ColorTransform;
 use jpeg_bits::error::{Error, UnsupportedFeature, end_of_bytes, format_error};
 use jpeg_bits::huffman::{HuffmanTable, HuffmanTableClass, fill_default_mjpeg_tables};
 use jpeg_bits::marker::{Marker, read_marker};
-use jpeg_bits::reads::{read_bytes, read_length, read_u8, read_u16_be, skip};
+use jpeg_bits::source::reads::{read_bytes, read_length, read_u8, read_u16_be, skip};
 use jpeg_bits::scan::{Predictor, ScanInfo};
 use jpeg_segments::parser::DefinedTables;
 use std::alloc::{AllocError, Global};

@@ -16,7 +16,7 @@ use Rattle.jpeg_streams.specs.Stream.{Told, rest_at, told_of}
 use Rattle.jpeg_streams.specs.declared.images.ImageInfo.{ImageInfo}
 use Rattle.jpeg_decoder.proofs.Callers.{picture_is_counted}
 use Rattle.jpeg_decoder.specs.Bytes.{HasRoom, IsCounted, IsWhole, decoding_bytes}
-use Rattle.jpeg_decoder.specs.declared.memory.DecodingBytes.{DecodingBytes}
+use Rattle.jpeg_decoder.specs.declared.sizes.DecodingBytes.{DecodingBytes}
 use Rattle.zaxbriar.proofs.Fails.{stands}
 use Rattle.zaxbriar.proofs.Laid.{laid-within, line-length}
 use Rattle.zaxbriar.proofs.Told.{count-of}

@@ -16,7 +16,7 @@ use Rattle.jpeg_streams.specs.declared.images.ImageInfo.{ImageInfo}
 use Rattle.jpeg_streams.specs.declared.settings.Settings.{Settings}
 use Rattle.jpeg_decoder.specs.Bytes.{decoding_bytes}
 use Rattle.jpeg_decoder.specs.Orientation.{orientation_in}
-use Rattle.jpeg_decoder.specs.declared.memory.DecodingBytes.{DecodingBytes}
+use Rattle.jpeg_decoder.specs.declared.sizes.DecodingBytes.{DecodingBytes}
 use Rattle.zaxbriar.specs.Layouts.{conversion_to}
 use Rattle.zaxbriar.specs.Limits.{bytes_beside, exceeds_limits}
 use Rattle.zaxbriar.specs.Lines.{Arranged, lines_by, described_picture}

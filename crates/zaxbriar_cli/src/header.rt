@@ -2,7 +2,7 @@
 
 use jpeg_bits::error::{Result, format_error_of};
 use jpeg_bits::marker::{Marker, read_marker};
-use jpeg_bits::reads::{read_bytes, read_length, read_u16_be, skip};
+use jpeg_bits::source::reads::{read_bytes, read_length, read_u16_be, skip};
 use jpeg_bits::source::Source;
 use jpeg_decoder::orientation::orientation_of;
 use jpeg_segments::parser::{

@@ -1,0 +1,642 @@
+//! Huffman tables and their codes (T.81, B.2.4.2 and C.2).
+ghost use Rattle.std.specs.Prelude.{◌≡◌, ℕ, ◌≤◌, ◌<◌, ◌↔◌, IsTrue, IfSome, None, ◌+◌, ◌-◌, ◌/◌, ◌^◌};
+ghost use Rattle.std.specs.Prelude.{drop, length, replicate, sum, slice_index_or, take, IfOk};
+ghost use Rattle.std.specs.Prelude.{◌++◌, true, false};
+ghost use Rattle.jpeg_bits.specs.Entropy.{number_of, extended};
+ghost use Rattle.jpeg_bits.specs.Codes.{code_lengths, code_in, HasCodes};
+ghost use Rattle.jpeg_bits.specs.Reading.{NamesFormat};
+ghost use Rattle.jpeg_bits.specs.ShortCodes.{short_value_by, HoldsCodes, HoldsRows, ArePassed, IsRun};
+ghost use Rattle.jpeg_bits.specs.ShortCodes.{named, no_row, packed, short_only, HoldsWideValues};
+ghost use Rattle.jpeg_bits.specs.Pairs.{AreSmall};
+ghost use Rattle.jpeg_bits.specs.Skips.{HoldsSkips, IsSkip};
+ghost use Rattle.jpeg_bits.specs.Written.{low_bits};
+ghost use Rattle.jpeg_bits.specs.declared.huffman.codes.HuffmanTableClass.TheVariants.{AC};
+
+use crate::huffman::bits::{extend, power_of_two};
+use crate::error::{Error, Result, format_error_of};
+use crate::huffman::pairs::{NO_PAIR, Pair, pairs_of};
+use std::alloc::{AllocError, Global};
+use std::marker::Model;
+
+/// What the symbols of a table are (T.81, B.2.4.2).
+#[derive(Clone, Copy, Debug, PartialEq)]
+pub enum HuffmanTableClass {
+    /// Sizes of DC differences.
+    DC,
+    /// Runs of zeros and sizes of AC coefficients.
+    AC,
+}
+
+/// The codes of some symbols (T.81, C.2): how many codes have each length, and the symbols in the
+/// order of the codes.
+///
+/// For each 8 bits it is looked up which code of at most 8 bits begins them; and in a table of
+/// class AC after `widen`, for each 8 and for each 11 bits, which value and which run they begin
+/// with, and after `fill_pairs`, which two.
+#[derive(Drop)]
+pub struct HuffmanTable {
+    class: HuffmanTableClass,
+    counts: [u8; 16],
+    values: Vec<u8>,
+    rows: [Row; 16],
+    // The look-up tables stand on the heap, since a table is moved; one without codes has none.
+    codes: Vec<Option<(u8, u8)>>,
+    // The last number has two bytes, so that an entry has eight and is found without a product.
+    // Both tables of values are empty until `widen` fills them: a small picture has fewer tokens
+    // than they have entries.
+    tokens: Vec<Option<(i16, u8, u16)>>,
+    // Most values of a first pass have at most 11 bits with their codes, and a table by 12 bits
+    // would leave too little of the first-level cache to the rest. For its sake an entry is packed
+    // into four bytes, half of an `Option`: where it has no bits, there is no value.
+    wide_tokens: Vec<(i16, u8, u8)>,
+    // The tokens that 12 bits begin with, where nothing but DC is wanted of a block: how many bits
+    // they take, how many coefficients they stand for, and whether the last is the end of the
+    // block. Empty until `fill_skips` fills it.
+    skips: Vec<(u8, u8, bool)>,
+    // The values that 11 bits begin with, one or two, which a first pass reads at once. Empty until
+    // `fill_pairs` fills it from those of single values.
+    pairs: Vec<Pair>,
+}
+
+/// The codes of one length: the value after the greatest, the value of the first, and the index of
+/// its symbol.
+#[derive(Clone, Copy)]
+struct Row {
+    end: u32,
+    first: u32,
+    index: usize,
+}
+
+impl Model for HuffmanTable {
+    ghost use Rattle.std.specs.Prelude.{◌≡◌, ◌≤◌, length};
+    ghost use Rattle.jpeg_bits.specs.Codes.{Table, code_lengths};
+    ghost use Rattle.jpeg_bits.specs.ShortCodes.{HoldsRows, HoldsCodes, HoldsValues};
+    ghost use Rattle.jpeg_bits.specs.ShortCodes.{HoldsWideValues};
+    ghost use Rattle.jpeg_bits.specs.Skips.{HoldsSkips};
+    ghost use Rattle.jpeg_bits.specs.Pairs.{AreSmall, HoldsPairs};
+
+    ghost Value = { Table };
+
+    ghost view = { λ t. record { class = t.class; counts = t.counts; symbols = t.values.items } };
+
+    ghost invariant = { λ t. (length t.counts ≡ 16)
+        × (length (code_lengths t.counts) ≡ length t.values.items)
+        × HoldsRows t.counts t.rows
+        × HoldsCodes t.counts t.values.items t.codes.items
+        × HoldsValues (record { class = t.class; counts = t.counts; symbols = t.values.items })
+        t.tokens.items
+        × HoldsWideValues (record { class = t.class; counts = t.counts; symbols = t.values.items })
+        t.wide_tokens.items
+        × AreSmall t.wide_tokens.items
+        × HoldsSkips (record { class = t.class; counts = t.counts; symbols = t.values.items })
+        t.skips.items
+        × HoldsPairs (record { class = t.class; counts = t.counts; symbols = t.values.items })
+        t.pairs.items
+        × (length t.values.items ≤ 256) };
+}
+
+impl HuffmanTable {
+    ghost use Rattle.std.specs.Prelude.{◌≡◌, ◌+◌, ◌≤◌, ◌<◌, [], IfOk, IfErr, IfSome, length};
+    ghost use Rattle.std.specs.Prelude.{replicate, sum, ◌/◌, None, Some};
+    ghost use Rattle.jpeg_bits.specs.Codes.{code_lengths, HasCodes, RefusesCodes};
+    ghost use Rattle.jpeg_bits.specs.ShortCodes.{symbol_in, short_code, short_value_of};
+    ghost use Rattle.jpeg_bits.specs.Written.{low_bits};
+    ghost use Rattle.jpeg_bits.specs.Skips.{HoldsSkips, IsSkip};
+    ghost use Rattle.jpeg_bits.specs.Pairs.{IsPairOf, IsWithinPassed};
+
+    /// Returns the table of `bits[i]` codes of length i + 1 and of their symbols, `values`, 1 to
+    /// 256 of them. The code of all ones is accepted. It is `Format` where some code does not fit
+    /// its length, and `OutOfMemory` where memory runs out.
+    #[tactic(auto, using(crate::proofs::CodeLemmas::lengths_length))]
+    pub fn new(
+        alloc: Global,
+        bits: &[u8; 16],
+        values: &[u8],
+        class: HuffmanTableClass,
+    ) -> Result<HuffmanTable>
+        requires count { sum bits.now ≡ length values.now }
+        requires some { 1 ≤ length values.now }
+        requires most { length values.now ≤ 256 }
+        ensures table { IfOk result (λ t. t ≡ record
+            { class = class; counts = bits.now; symbols = values.now }) }
+        ensures codes { IfOk result (λ t. HasCodes (code_lengths bits.now)) }
+        ensures refused { IfErr result (λ e. RefusesCodes e (code_lengths bits.now)) }
+    {
+        if !has_codes(bits) {
+            return Err(codes_error(alloc, bits));
+        }
+        let rows = rows_of(bits);
+        let codes = Codes {
+            counts: bits,
+            rows: &rows,
+            values,
+        };
+        let short = short_codes(alloc, &codes)?;
+        Ok(HuffmanTable {
+            class,
+            counts: *bits,
+            values: Vec::from_slice(alloc, values)?,
+            rows,
+            codes: short,
+            tokens: Vec::new(alloc),
+            wide_tokens: Vec::new(alloc),
+            skips: Vec::new(alloc),
+            pairs: Vec::new(alloc),
+        })
+    }
+
+    /// Returns a table that has no codes, in place of one that a scan doesn't need: no bits
+    /// begin a code.
+    pub fn without_codes(alloc: Global, class: HuffmanTableClass) -> HuffmanTable
+        ensures { result ≡ record { class = class; counts = replicate 16 0; symbols = [] } }
+    {
+        let counts = [0; 16];
+        HuffmanTable {
+            class,
+            counts,
+            values: Vec::new(alloc),
+            rows: rows_of(&counts),
+            codes: Vec::new(alloc),
+            tokens: Vec::new(alloc),
+            wide_tokens: Vec::new(alloc),
+            skips: Vec::new(alloc),
+            pairs: Vec::new(alloc),
+        }
+    }
+
+    /// Fills the look-up tables of values of a table of class AC, which takes some microseconds: it
+    /// pays for scans of many blocks. Nothing else changes, and a second call does nothing. It is
+    /// `AllocError` where memory runs out.
+    pub fn widen(&mut self, alloc: Global) -> std::result::Result<(), AllocError>
+        ensures { self.new ≡ self.old }
+    {
+        let is_filled = !self.wide_tokens.is_empty();
+        if is_filled || self.class == HuffmanTableClass::DC || self.codes.len() != 256 {
+            return Ok(());
+        }
+        let codes = Codes {
+            counts: &self.counts,
+            rows: &self.rows,
+            values: &self.values,
+        };
+        let tokens = short_values(alloc, &self.codes)?;
+        let wide_tokens = wide_values(alloc, &codes)?;
+        self.tokens = tokens;
+        self.wide_tokens = wide_tokens;
+        Ok(())
+    }
+
+    /// Fills the look-up table of the tokens that some bits begin with, by which the AC
+    /// coefficients are passed over where DC alone is wanted of a block. It takes some tens of
+    /// microseconds: it pays for scans of many blocks. Nothing else changes, and a second call does
+    /// nothing. It is `AllocError` where memory runs out.
+    pub fn fill_skips(&mut self, alloc: Global) -> std::result::Result<(), AllocError>
+        ensures { self.new ≡ self.old }
+    {
+        if self.skips.is_empty() {
+            self.skips = self.skips(alloc)?;
+        }
+        Ok(())
+    }
+
+    /// Fills the look-up table by which two values are read at once, where `widen` has filled those
+    /// of single ones. It takes some microseconds, and 16 KB: it pays for sequential scans of very
+    /// many blocks. Nothing else changes, and a second call does nothing. It is `AllocError` where
+    /// memory runs out.
+    pub fn fill_pairs(&mut self, alloc: Global) -> std::result::Result<(), AllocError>
+        ensures { self.new ≡ self.old }
+    {
+        if self.pairs.is_empty() && self.wide_tokens.len() == 2048 {
+            self.pairs = pairs_of(alloc, &self.wide_tokens)?;
+        }
+        Ok(())
+    }
+
+    /// Returns the tokens that 12 bits begin with, at the index of each.
+    fn skips(&self, alloc: Global) -> std::result::Result<Vec<(u8, u8, bool)>, AllocError>
+        ensures { IfOk result (λ v. HoldsSkips self.now v.items) }
+    {
+        let mut skips = vec![in alloc; (0, 63, false); 4096]?;
+        for bits in 0..4096 {
+            skips[bits] = self.skip_in(bits as u16);
+        }
+        Ok(skips)
+    }
+
+    /// Returns the whole tokens that 12 bits begin with: how many bits they take, how many
+    /// coefficients they stand for, and whether the last is the end of the band. Where there are
+    /// none, the coefficients are more than any band leaves room for.
+    fn skip_in(&self, bits: u16) -> (u8, u8, bool)
+        requires { bits < 4096 }
+        ensures { IsSkip self.now (low_bits 12 bits) result }
+    {
+        let mut used = 0u8;
+        let mut passed = 0u8;
+        for _ in 0..12u8 {
+            let Some((symbol, length)) = self.symbol_of(bits_after(bits, used)) else {
+                break;
+            };
+            let run = symbol / 16;
+            let size = symbol % 16;
+            let count = length + size;
+            if used + count > 12 {
+                break;
+            }
+            if !has_room(run, size) {
+                if run == 0 {
+                    return (used + count, passed, true);
+                }
+                break;
+            }
+            used += count;
+            passed += run + 1;
+        }
+        if passed == 0 {
+            return (0, 63, false);
+        }
+        (used, passed, false)
+    }
+
+    /// Returns the symbol and the length of the code that begins 16 bits.
+    #[inline(always)]
+    pub(crate) fn symbol_of(&self, bits: u16) -> Option<(u8, u8)>
+        ensures symbol { result ≡ symbol_in self.now (low_bits 16 bits) }
+        ensures within { IfSome result (λ c. c.1 ≤ 16) }
+        ensures counted { length self.now.counts ≡ 16 }
+    {
+        match self.codes.get((bits >> 8) as usize) {
+            Some(Some(code)) => Some(*code),
+            _ => self.long_symbol_of(bits),
+        }
+    }
+
+    /// Returns what `symbol_of` does, where no code of at most 8 bits begins the bits.
+    #[inline(never)]
+    #[tactic(auto, using(crate::proofs::Rules::rows))]
+    fn long_symbol_of(&self, bits: u16) -> Option<(u8, u8)>
+        requires { short_code self.now.counts self.now.symbols (low_bits 8 (bits / 256)) ≡ None }
+        ensures symbol { result ≡ symbol_in self.now (low_bits 16 bits) }
+        ensures within { IfSome result (λ c. c.1 ≤ 16) }
+    {
+        for i in 8..16 {
+            let row = self.rows[i];
+            let number = u32::from(bits >> (15 - i));
+            if number < row.end {
+                let index = row.index + (number - row.first) as usize;
+                return Some((self.values[index], (i + 1) as u8));
+            }
+        }
+        None
+    }
+
+    /// Returns the value and the run that 8 bits begin with, and how many bits they take, where
+    /// they are so few.
+    #[inline(always)]
+    pub(crate) fn short_value_of(&self, byte: u8) -> Option<(i16, u8, u16)>
+        ensures value { result ≡ short_value_of 8 self.now (low_bits 8 byte) }
+        ensures within { IfSome result (λ t. t.2 ≤ 8) }
+        ensures counted { length self.now.counts ≡ 16 }
+    {
+        match self.tokens.get(byte as usize) {
+            Some(token) => *token,
+            None => self.computed_value_of(byte),
+        }
+    }
+
+    /// Returns what `short_value_of` does, where the look-up table isn't filled.
+    #[inline(never)]
+    fn computed_value_of(&self, byte: u8) -> Option<(i16, u8, u16)>
+        ensures value { result ≡ short_value_of 8 self.now (low_bits 8 byte) }
+        ensures within { IfSome result (λ t. t.2 ≤ 8) }
+    {
+        if self.class == HuffmanTableClass::DC {
+            return None;
+        }
+        match self.codes.get(byte as usize) {
+            Some(code) => short_value(*code, 8, u16::from(byte)),
+            None => None,
+        }
+    }
+
+    /// Returns the value and the run that the first 11 of 16 bits begin with, and how many bits
+    /// they take, where the table for them is filled and they are so few.
+    #[inline(always)]
+    pub(crate) fn wide_value_of(&self, bits: u16) -> Option<(i16, u8, u8)>
+        ensures value { IfSome result (λ t. short_value_of 11 self.now (low_bits 11 (bits / 32))
+            ≡ Some t) }
+        ensures within { IfSome result (λ t. t.2 ≤ 11) }
+        ensures counted { length self.now.counts ≡ 16 }
+    {
+        match self.wide_tokens.get((bits >> 5) as usize) {
+            Some((value, run, count)) if *count > 0 => Some((*value, *run, *count)),
+            _ => None,
+        }
+    }
+
+    /// Returns the values that the first 11 of 16 bits begin with, where the table for them is
+    /// filled.
+    #[inline(always)]
+    pub(crate) fn pair_of(&self, bits: u16) -> Pair
+        ensures pair { IsPairOf self.now (low_bits 11 (bits / 32)) result }
+        ensures small { IsWithinPassed result }
+        ensures counted { length self.now.counts ≡ 16 }
+    {
+        match self.pairs.get((bits >> 5) as usize) {
+            Some(pair) => *pair,
+            None => NO_PAIR,
+        }
+    }
+
+    /// Returns the tokens that the first 12 of 16 bits begin with, where the table for them is
+    /// filled, as `skip_in` does.
+    #[inline(always)]
+    pub(crate) fn skip_of(&self, bits: u16) -> (u8, u8, bool)
+        ensures { IsSkip self.now (low_bits 12 (bits / 16)) result }
+    {
+        match self.skips.get((bits >> 4) as usize) {
+            Some(skip) => *skip,
+            None => (0, 63, false),
+        }
+    }
+}
+
+/// Returns whether the token of a code stands for coefficients: some zeros and a value, or sixteen
+/// zeros.
+fn has_room(run: u8, size: u8) -> bool
+    ensures some { result ≡ true → size ≡ 0 → run ≡ 15 }
+    ensures none { result ≡ false → size ≡ 0 }
+{
+    size > 0 || run == 15
+}
+
+/// Returns 12 bits without the first `used`, and zeros after them.
+#[tactic(auto, using(crate::proofs::WideTokens::bits_after))]
+fn bits_after(bits: u16, used: u8) -> u16
+    requires bits { bits < 4096 }
+    requires used { used ≤ 12 }
+    ensures { low_bits 16 result ≡ drop used (low_bits 12 bits) ++ replicate (4 + used) false }
+{
+    ((u32::from(bits) << (4 + used)) % 65536) as u16
+}
+
+/// Returns the codes of each length.
+fn rows_of(counts: &[u8; 16]) -> [Row; 16]
+    ensures { HoldsRows counts.now result }
+{
+    let none = Row {
+        end: 0,
+        first: 0,
+        index: 0,
+    };
+    let mut rows = [none; 16];
+    let mut end = 0u32;
+    let mut index = 0usize;
+    for i in 0..16 {
+        let count = u32::from(counts[i]);
+        let first = 2 * end;
+        end = first + count;
+        rows[i] = Row { end, first, index };
+        index += count as usize;
+    }
+    rows
+}
+
+/// Returns whether each code fits its length.
+fn has_codes(counts: &[u8; 16]) -> bool
+    ensures { IsTrue result ↔ HasCodes (code_lengths counts.now) }
+{
+    let mut first = 0u32;
+    let mut room = 1u32;
+    for i in 0..16 {
+        let count = u32::from(counts[i]);
+        first = 2 * first;
+        room = 2 * room;
+        if count > 0 && first + count > room {
+            return false;
+        }
+        first += count;
+    }
+    true
+}
+
+/// Returns the refusal of codes that don't all fit their lengths. It says the first length that
+/// has too many.
+#[cold]
+#[inline(never)]
+fn codes_error(alloc: Global, counts: &[u8; 16]) -> Error
+    ensures { NamesFormat result }
+{
+    let mut length = 0;
+    let mut count = 0u32;
+    let mut room = 1u32;
+    for i in 0..16 {
+        if count <= room {
+            length = i + 1;
+            room = (room - count).saturating_mul(2);
+            count = u32::from(counts[i]);
+        }
+    }
+    format_error_of(format!(in alloc;
+        "{count} Huffman codes of length {length}, expected at most {room}"
+    ))
+}
+
+/// The codes of a table, by which its look-up tables are filled.
+#[derive(Clone, Copy)]
+struct Codes<'a> {
+    counts: &'a [u8; 16],
+    rows: &'a [Row; 16],
+    values: &'a [u8],
+}
+
+/// Returns the first row from `from` on that has a code which begins 16 bits, or 16.
+#[inline(always)]
+fn first_row(rows: &[Row; 16], from: usize, bits: u16) -> usize
+    requires { from ≤ 16 }
+    ensures within { result ≤ 16 }
+    ensures passed { ArePassed rows.now from bits → ArePassed rows.now result bits }
+    ensures found { result < 16 → bits / 2 ^ (15 - result)
+        < (slice_index_or rows.now result no_row).end }
+{
+    for i in from..16 {
+        if u32::from(bits >> (15 - i)) < rows[i].end {
+            return i;
+        }
+    }
+    16
+}
+
+impl Codes<'_> {
+    /// Returns the symbol and the length of the code that begins 16 bits. `row` is one before which
+    /// no code begins them, and becomes the row of the code: it stays so for all greater bits.
+    #[inline(always)]
+    fn code_of(&self, row: &mut usize, bits: u16) -> Option<(u8, u8)>
+        requires counted { length self.now.counts.now ≡ 16 }
+        requires rows { HoldsRows self.now.counts.now self.now.rows.now }
+        requires count { length (code_lengths self.now.counts.now) ≡ length self.now.values.now }
+        requires most { length self.now.values.now ≤ 256 }
+        requires within { row.old ≤ 16 }
+        requires passed { ArePassed self.now.rows.now row.old bits }
+        ensures code { result ≡ named self.now.values.now
+            (code_in (code_lengths self.now.counts.now) (low_bits 16 bits)) }
+        ensures length { IfSome result (λ c. c.1 ≤ 16) }
+        ensures within { row.new ≤ 16 }
+        ensures passed { ArePassed self.now.rows.now row.new bits }
+    {
+        *row = first_row(self.rows, *row, bits);
+        let i = *row;
+        if i == 16 {
+            return None;
+        }
+        let Row { first, index, .. } = self.rows[i];
+        let index = index + (u32::from(bits >> (15 - i)) - first) as usize;
+        Some((self.values[index], (i + 1) as u8))
+    }
+}
+
+/// Returns a code of at most 8 bits, and none for a longer one.
+fn short_only(code: Option<(u8, u8)>) -> Option<(u8, u8)>
+    ensures code { result ≡ short_only code }
+    ensures few { IfSome result (λ c. c.1 ≤ 8) }
+{
+    match code {
+        Some((symbol, length)) if length <= 8 => Some((symbol, length)),
+        _ => None,
+    }
+}
+
+/// Returns the number after the 8 bits that the same code begins, from `byte` on.
+#[tactic(auto, using(crate::proofs::Rules::ends))]
+fn end_of_run(code: Option<(u8, u8)>, byte: usize) -> usize
+    requires byte { byte < 256 }
+    requires few { IfSome code (λ c. c.1 ≤ 8) }
+    ensures more { byte < result }
+    ensures most { result ≤ 256 }
+    ensures run { IsRun byte result code }
+{
+    match code {
+        Some((_, length)) => {
+            let rest = 8 - length;
+            ((byte >> rest) + 1) << rest
+        }
+        None => byte + 1,
+    }
+}
+
+/// Returns the codes of at most 8 bits, by the 8 bits that they begin.
+fn short_codes(
+    alloc: Global,
+    codes: &Codes<'_>,
+) -> std::result::Result<Vec<Option<(u8, u8)>>, AllocError>
+    requires counted { length codes.now.counts.now ≡ 16 }
+    requires rows { HoldsRows codes.now.counts.now codes.now.rows.now }
+    requires count { length (code_lengths codes.now.counts.now) ≡ length codes.now.values.now }
+    requires most { length codes.now.values.now ≤ 256 }
+    ensures codes { IfOk result (λ v. HoldsCodes codes.now.counts.now codes.now.values.now
+        v.items) }
+    ensures length { IfOk result (λ v. length v.items ≡ 256) }
+{
+    let mut short = vec![in alloc; None; 256]?;
+    let mut row = 0;
+    let mut byte = 0;
+    while byte < 256 {
+        let code = short_only(codes.code_of(&mut row, (byte as u16) << 8));
+        let end = end_of_run(code, byte);
+        for at in byte..end {
+            short[at] = code;
+        }
+        byte = end;
+    }
+    Ok(short)
+}
+
+/// Returns the value of `size` bits after the first `length` of `count`.
+#[tactic(auto, using(crate::proofs::Rules::values))]
+fn value_in(count: u8, bits: u16, length: u8, size: u8) -> i16
+    requires some { 1 ≤ size }
+    requires most { length + size ≤ count }
+    requires few { count ≤ 14 }
+    ensures { result ≡ extended (number_of (take size (drop length (low_bits count bits)))) size }
+{
+    let rest = bits % power_of_two(count - length);
+    extend(rest >> (count - length - size), size)
+}
+
+/// Returns the value and the run of a code of class AC that begins `count` bits, and how many bits
+/// they take, where the value is in them too.
+fn short_value(code: Option<(u8, u8)>, count: u8, bits: u16) -> Option<(i16, u8, u16)>
+    requires code { IfSome code (λ c. c.1 ≤ 16) }
+    requires few { count ≤ 14 }
+    ensures value { result ≡ short_value_by count AC (low_bits count bits) code }
+    ensures run { IfSome result (λ t. t.1 ≤ 15) }
+    ensures within { IfSome result (λ t. t.2 ≤ count) }
+{
+    let Some((symbol, length)) = code else {
+        return None;
+    };
+    let size = symbol % 16;
+    if 0 < size && length + size <= count {
+        Some((
+            value_in(count, bits, length, size),
+            symbol / 16,
+            u16::from(length + size),
+        ))
+    } else {
+        None
+    }
+}
+
+/// Returns the values of at most 8 bits with their codes, by the 8 bits that they begin, in a table
+/// of class AC.
+fn short_values(
+    alloc: Global,
+    codes: &[Option<(u8, u8)>],
+) -> std::result::Result<Vec<Option<(i16, u8, u16)>>, AllocError>
+    requires length { length codes.now ≡ 256 }
+    requires few { (b : ℕ) → b < 256 → IfSome (slice_index_or codes.now b None) (λ c. c.1 ≤ 16) }
+    ensures values { IfOk result (λ v. (b : ℕ) → b < 256 → slice_index_or v.items b None
+        ≡ short_value_by 8 AC (low_bits 8 b) (slice_index_or codes.now b None)) }
+    ensures length { IfOk result (λ v. length v.items ≡ 256) }
+{
+    let mut tokens = vec![in alloc; None; 256]?;
+    for byte in 0..256 {
+        tokens[byte] = short_value(codes[byte], 8, byte as u16);
+    }
+    Ok(tokens)
+}
+
+/// Returns a value in four bytes, which has no bits where there is none.
+fn packed(value: Option<(i16, u8, u16)>) -> (i16, u8, u8)
+    requires { IfSome value (λ t. t.2 ≤ 255) }
+    ensures { result ≡ packed value }
+{
+    match value {
+        Some((value, run, count)) => (value, run, count as u8),
+        None => (0, 0, 0),
+    }
+}
+
+/// Returns the values of at most 11 bits with their codes, by the 11 bits that they begin, in a
+/// table of class AC.
+fn wide_values(
+    alloc: Global,
+    codes: &Codes<'_>,
+) -> std::result::Result<Vec<(i16, u8, u8)>, AllocError>
+    requires counted { length codes.now.counts.now ≡ 16 }
+    requires rows { HoldsRows codes.now.counts.now codes.now.rows.now }
+    requires count { length (code_lengths codes.now.counts.now) ≡ length codes.now.values.now }
+    requires most { length codes.now.values.now ≤ 256 }
+    ensures values { IfOk result (λ v. HoldsWideValues (record
+        { class = AC; counts = codes.now.counts.now; symbols = codes.now.values.now }) v.items) }
+    ensures small { IfOk result (λ v. AreSmall v.items) }
+    ensures length { IfOk result (λ v. length v.items ≡ 2048) }
+{
+    let mut tokens = vec![in alloc; (0, 0, 0); 2048]?;
+    let mut row = 0;
+    for index in 0..2048 {
+        let bits = index as u16;
+        let code = codes.code_of(&mut row, bits << 5);
+        tokens[index] = packed(short_value(code, 11, bits));
+    }
+    Ok(tokens)
+}

@@ -1,5 +1,0 @@
-use Rattle.std.proofs.Common.{◌≡◌}
-use Rattle.jpeg_decoder.proofs.codings.widen_all.Given as goal
-
-abbrev pub invariant-loop-destination : goal.invariant-loop-destination
-invariant-loop-destination l = l.tables ≡ l.initial.tables

@@ -1,5 +1,0 @@
-use Rattle.jpeg_streams.proofs.EncodedImages.{image-written}
-use Rattle.jpeg_decoder.proofs.headline.every_image_has_a_stream.Goals as goal
-
-pub returns : goal.returns
-returns c = image-written

@@ -1,5 +1,0 @@
-use Rattle.jpeg_streams.proofs.EncodedScripts.{script-written}
-use Rattle.jpeg_decoder.proofs.headline.every_script_has_a_stream.Goals as goal
-
-pub returns : goal.returns
-returns c = script-written

@@ -1,5 +1,0 @@
-use Rattle.jpeg_streams.proofs.PrintedImages.{image-output}
-use Rattle.jpeg_decoder.proofs.headline.images_are_printed.Goals as goal
-
-pub returns : goal.returns
-returns c = image-output

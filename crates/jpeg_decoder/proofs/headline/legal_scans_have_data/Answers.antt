@@ -1,5 +1,0 @@
-use Rattle.jpeg_streams.proofs.EncodedData.{scan-sent}
-use Rattle.jpeg_decoder.proofs.headline.legal_scans_have_data.Goals as goal
-
-pub returns : goal.returns
-returns c = scan-sent

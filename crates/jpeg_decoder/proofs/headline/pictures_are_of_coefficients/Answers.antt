@@ -1,5 +1,0 @@
-use Rattle.jpeg_streams.proofs.WrittenParts.{one-picture}
-use Rattle.jpeg_decoder.proofs.headline.pictures_are_of_coefficients.Goals as goal
-
-pub returns : goal.returns
-returns c = one-picture

@@ -1,0 +1,5 @@
+use Rattle.jpeg_streams.proofs.WholeImages.{sequential-whole}
+use Rattle.jpeg_decoder.proofs.laws.headline.sequential_images_are_complete.Goals as goal
+
+pub returns : goal.returns
+returns c = sequential-whole

@@ -1,0 +1,5 @@
+use Rattle.jpeg_decoder.proofs.SamplesMeant.{samples-alike}
+use Rattle.jpeg_decoder.proofs.laws.lossless.lossless_pictures_are_of_samples.Goals as goal
+
+pub returns : goal.returns
+returns c = samples-alike

@@ -1,6 +1,0 @@
-use Rattle.jpeg_streams.proofs.PlainScans.{way-alone, way-together}
-use Rattle.jpeg_decoder.proofs.PlainPixels.{picture-plain}
-use Rattle.jpeg_decoder.proofs.lossless_laws.equal_factors_mean_nothing.Goals as goal
-
-pub returns : goal.returns
-returns c = record { pictured = picture-plain; alone = way-alone; together = way-together }

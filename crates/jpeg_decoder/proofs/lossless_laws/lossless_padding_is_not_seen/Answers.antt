@@ -1,5 +1,0 @@
-use Rattle.jpeg_streams.proofs.PaddingUnseen.{taken-inside}
-use Rattle.jpeg_decoder.proofs.lossless_laws.lossless_padding_is_not_seen.Goals as goal
-
-pub returns-clause-taken : goal.returns-clause-taken
-returns-clause-taken c = taken-inside

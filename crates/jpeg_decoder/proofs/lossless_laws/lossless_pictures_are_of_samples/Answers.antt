@@ -1,5 +1,0 @@
-use Rattle.jpeg_decoder.proofs.SamplesMeant.{samples-alike}
-use Rattle.jpeg_decoder.proofs.lossless_laws.lossless_pictures_are_of_samples.Goals as goal
-
-pub returns : goal.returns
-returns c = samples-alike

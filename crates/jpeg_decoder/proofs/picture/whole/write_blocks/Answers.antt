@@ -1,0 +1,13 @@
+use Rattle.jpeg_segments.specs.FrameView.{frame_in}
+use Rattle.jpeg_decoder.proofs.JointEnds.{joint-meant}
+use Rattle.jpeg_decoder.proofs.PicturesOfPlanes.{decoded-factors}
+use Rattle.jpeg_decoder.proofs.picture.whole.write_blocks.Goals as goal
+
+pub shape_of-requires : goal.shape_of-requires
+shape_of-requires c = decoded-factors _ (c.requires.sound.frames _ c.requires.frame)
+
+pub returns-in-Some-clause-meant : goal.returns-in-Some-clause-meant
+returns-in-Some-clause-meant c =
+    let shape = rw c.in-Some.ensures.taken.1 at c.shape_of.ensures in
+    rw (joint-meant _ (frame_in c.args.frame.now) _ _ c.in-Some.planes c.requires.sound c.requires.frame shape
+    c.in-Some.ensures.taken.2 c.args.settings) c.write_joint.ensures.meant

@@ -1,6 +1,0 @@
-use Rattle.std.proofs.Common.{◌∙◌, rules}
-use Rattle.jpeg_decoder.proofs.JointDecided.{none-own}
-use Rattle.jpeg_decoder.proofs.planes.Planes.put_joint.Goals as goal
-
-pub returns : goal.returns
-returns c = rw (none-own _ _ 4 (c.self.view_is ∙ c.requires.none)) (search rules)

@@ -1,0 +1,87 @@
+use Rattle.std.proofs.lemmas.Grind.{common_steps}
+use Rattle.std.proofs.Common.{◌≡◌, ◌==◌, get_or, Option, arith, rules}
+use Rattle.jpeg_bits.specs.Codes.{Table}
+use Rattle.jpeg_segments.specs.FrameView.{frame_in, scan_in}
+use Rattle.jpeg_decoder.specs.Steps.{coding_in_slot, table_if}
+use Rattle.std.specs.Prelude.{nat_lt}
+use Rattle.std.proofs.lemmas.Result.{err_from_is_err_and}
+use Rattle.jpeg_bits.proofs.Loops.{bind_err}
+use Rattle.jpeg_decoder.specs.Seen.{said_of}
+use Rattle.jpeg_decoder.proofs.SlotCodings.{ac-read, class-in-force, dc-read, format-refuses}
+use Rattle.jpeg_decoder.proofs.SlotCodings.{ac_of, coded_by, dc_of, refused-through, slot-coded}
+use Rattle.jpeg_decoder.proofs.CodedScales.{scale-at}
+use Rattle.jpeg_decoder.proofs.scan.codings.coding_of.Goals.{After-table_at-quantization, After-table_in_force-ac}
+use Rattle.jpeg_decoder.proofs.scan.codings.coding_of.Goals.{After-table_in_force-dc}
+use Rattle.jpeg_decoder.proofs.scan.codings.coding_of.Goals as goal
+
+-- what the slot is given, of the tables in force
+coded : (c : After-table_at-quantization)
+    → coding_in_slot (said_of c.args.said.now) (frame_in c.args.frame.now) (scan_in c.args.header.now) c.args.slot
+    ≡ coded_by c.args.said.now c.args.header.now c.args.slot c.index-index.result.now c.in_ok-component.component.now
+coded c = slot-coded c.args.said.now c.args.frame.now c.args.header.now c.args.slot c.index-index.result.now
+    c.in_ok-component.component.now c.requires.slot c.index-index.ensures (search rules) (search rules)
+
+abbrev has-dc : (c : After-table_in_force-dc) → (o : Option Table)
+    × (dc_of (said_of c.args.said.now) (scan_in c.args.header.now) c.args.slot
+    ≡ table_if (c.args.header.now.spectral_selection.start == 0) c.args.spare.now.no_dc o)
+has-dc c = (
+  _,
+  dc-read c.args.said.now c.args.header.now c.args.spare.now c.args.slot _ _ c.requires.spare (omega arith)
+      (omega arith) c.index-dc_destination.ensures (rw c.deref-2.ensures.value at c.table_in_force-dc.ensures),
+)
+
+abbrev has-ac : (c : After-table_in_force-ac) → (o : Option Table)
+    × (ac_of (said_of c.args.said.now) (scan_in c.args.header.now) c.args.slot
+    ≡ table_if (nat_lt 1 c.args.header.now.spectral_selection.end) c.args.spare.now.no_ac o)
+has-ac c = (
+  _,
+  ac-read c.args.said.now c.args.header.now c.args.spare.now c.args.slot _ _ c.requires.spare (omega arith)
+      (omega arith) c.index-ac_destination.ensures (rw c.deref-3.ensures.value at c.table_in_force-ac.ensures),
+)
+
+-- two facts as one
+both : {A B : Type 0} → A → B → A × B
+both a b = (a, b)
+
+pub returns-in_err-quantization : goal.returns-in_err-quantization
+returns-in_err-quantization c =
+    let p = err_from_is_err_and c.from_residual-in_err-quantization.result c.from_residual-in_err-quantization.ensures.1 in
+    let is = coded (goal.at.returns-in_err-quantization c).After-table_at-quantization in
+    grind (arith, common_steps, format-refuses)
+
+pub returns-in_err-dc : goal.returns-in_err-dc
+returns-in_err-dc c =
+    let p = err_from_is_err_and c.from_residual-in_err-dc.result c.from_residual-in_err-dc.ensures.1 in
+    let at = goal.at.returns-in_err-dc c in
+    let known = both (coded at.After-table_at-quantization) (has-dc at.After-table_in_force-dc).1 in
+    grind (arith, common_steps, refused-through, bind_err)
+
+pub returns-in_err-ac : goal.returns-in_err-ac
+returns-in_err-ac c =
+    let p = err_from_is_err_and c.from_residual-in_err-ac.result c.from_residual-in_err-ac.ensures.1 in
+    let at = goal.at.returns-in_err-ac c in
+    let known = both (coded at.After-table_at-quantization) (has-dc at.After-table_in_force-dc).1 in
+    let ac = (has-ac at.After-table_in_force-ac).1 in
+    grind (arith, common_steps, refused-through, bind_err)
+
+pub returns : goal.returns
+returns c =
+    let at = goal.at.returns c in
+    let is = coded at.After-table_at-quantization in
+    let dc = (has-dc at.After-table_in_force-dc).1 in
+    let ac = (has-ac at.After-table_in_force-ac).1 in
+    grind (arith, common_steps)
+
+pub invariant_of-result : goal.invariant_of-result
+invariant_of-result c =
+    let forced = rw c.deref-3.ensures.value at (rw c.table_in_force-ac.ensures at c.in_ok-ac.ensures) in
+    let component = c.in_ok-component.component.now in
+    let at : component ≡ get_or c.args.frame.now.components.items c.index-index.result.now
+    component = search rules in
+    record {
+      class = class-in-force (said_of c.args.said.now) (scan_in c.args.header.now) c.args.spare.now _
+          c.index-ac_destination.result.now _ c.requires.spare c.args.said.now.ac_classes forced;
+      scale = scale-at c.args.frame.now.components.items c.index-index.result.now component (search
+          rules) at
+          c.requires.scales;
+    }

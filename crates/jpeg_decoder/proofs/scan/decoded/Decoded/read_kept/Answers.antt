@@ -1,0 +1,171 @@
+use Rattle.std.proofs.Common.{◌≡◌, ◌∙◌, ◌*◌, ap, List, map, length, ℕ, Option, refl, sym, arith}
+use Rattle.std.specs.declared.alloc.Global.{Global}
+use Rattle.std.specs.declared.vec.Vec.{Vec}
+use Rattle.std.proofs.lemmas.Result.{err_from_is_err_and}
+use Rattle.std.proofs.lemmas.List.{length-map}
+use Rattle.jpeg_bits.specs.declared.marker.Marker.{Marker}
+use Rattle.jpeg_bits.specs.BlockView.{pass_in}
+use Rattle.jpeg_bits.specs.Reading.{Outcome}
+use Rattle.jpeg_decoder.specs.declared.scan.coded.Scan.{Scan}
+use Rattle.std.specs.List.{AllByRecursion}
+use Rattle.jpeg_segments.specs.Frame.{Frame}
+use Rattle.jpeg_segments.specs.FrameView.{frame_in}
+use Rattle.jpeg_decoder.specs.declared.scan.coded.Coded.{Coded}
+use Rattle.jpeg_streams.specs.InTurn.{AreArrays}
+use Rattle.jpeg_streams.specs.Order.{spots_of, mcu_size}
+use Rattle.jpeg_streams.specs.Scans.{Arrays, arrays_at}
+use Rattle.jpeg_decoder.specs.Scanning.{arrays_in, components_in, sizes_of, vias_in}
+use Rattle.jpeg_decoder.specs.Steps.{blocks_at, blocks_before, coding_in, with_decoded}
+use Rattle.jpeg_decoder.specs.Steps.{without_blocks, AreRising, IsBefore, IsCodingOf}
+use Rattle.jpeg_streams.specs.ScanSegments.{put_arrays, arrays_before}
+use Rattle.jpeg_streams.specs.Found.{Found, nothing_found}
+use Rattle.jpeg_decoder.proofs.PlacedCodings.{coded-components, coded-indices}
+use Rattle.jpeg_decoder.proofs.PutLoops.{Held}
+use Rattle.jpeg_streams.proofs.McuRows.{arrays-sized, kept-sized}
+use Rattle.jpeg_decoder.proofs.TakenBlocks.{put-back}
+use Rattle.jpeg_decoder.proofs.ScanData.{read_at, of-frame, arrays-by-sizes, coded-within-kept}
+use Rattle.jpeg_decoder.proofs.ScanData.{read-as, rising-codings, data-kept, data-kept-refused}
+use Rattle.jpeg_decoder.proofs.ScanData.{arrays-whole, before-as}
+use Rattle.jpeg_decoder.proofs.scan.decoded.Decoded.read_kept.Given as given
+use Rattle.jpeg_decoder.proofs.scan.decoded.Decoded.read_kept.Goals.{After-put_blocks, In_ok-arrays}
+use Rattle.jpeg_decoder.proofs.scan.decoded.Decoded.read_kept.Goals as goal
+use Rattle.std.proofs.lemmas.Grind.{common_steps}
+
+pub take_blocks-requires-clause-within : goal.take_blocks-requires-clause-within
+take_blocks-requires-clause-within g c =
+    coded-within-kept (frame_in c.args.frame.now) c.deref.result.now c.keep.new.self.kept.items _ refl
+    (grind (arith, common_steps)) (grind (arith, common_steps))
+
+pub take_blocks-requires-clause-apart : goal.take_blocks-requires-clause-apart
+take_blocks-requires-clause-apart g c = grind (arith, common_steps, rising-codings)
+
+-- the blocks that are taken are those of the components
+taken-sized : (frame : Frame) (cs seen : List Coded) (kept taken : List Held) (before : Arrays)
+    → seen ≡ cs → arrays_in kept ≡ before → arrays_in taken ≡ blocks_at (map coding_in seen)
+    (arrays_in kept) → AllByRecursion (IsCodingOf frame) (map coding_in cs)
+    → AreArrays frame.components before → (arrays_in taken ≡ blocks_at (map coding_in cs) before)
+    × AreArrays (components_in cs) (arrays_in taken)
+taken-sized frame cs seen kept taken before d e t of h =
+    grind (arith, common_steps, taken, coded-components, arrays-sized, of-frame)
+
+taken : (g : given.Over) (c : In_ok-arrays g) → let cs = c.args.scan.now.components.items in
+    (arrays_in c.in_ok-arrays.arrays.items ≡ blocks_at (map coding_in cs)
+    (blocks_before c.args.scanned c.args.self.now (frame_in c.args.frame.now)))
+    × AreArrays (components_in cs) (arrays_in c.in_ok-arrays.arrays.items)
+taken g c =
+    taken-sized (frame_in c.args.frame.now) c.args.scan.now.components.items c.deref.result.now
+    c.keep.new.self.kept.items c.in_ok-arrays.arrays.items _ c.deref.ensures.value
+    c.in_ok-keep.ensures.kept
+    c.in_ok-arrays.ensures.taken c.requires.ready.of_frame c.requires.kept
+
+taken-by : (g : given.Over) (c : In_ok-arrays g) (base : Found) → IsBefore c.args.scanned c.args.scan.now base
+    → arrays_in c.in_ok-arrays.arrays.items ≡ blocks_at (map coding_in c.args.scan.now.components.items)
+    (arrays_before (with_decoded base c.args.self.now) (frame_in c.args.frame.now))
+taken-by g c base b =
+    (taken g c).0
+    ∙ sym (ap (blocks_at (map coding_in c.args.scan.now.components.items))
+    (before-as base c.args.self.now (frame_in c.args.frame.now) _ b.scanned))
+
+pub read_blocks-requires-clause-arrays : goal.read_blocks-requires-clause-arrays
+read_blocks-requires-clause-arrays g c = (taken g (goal.at.read_blocks-requires-clause-arrays g c).In_ok-arrays).1
+
+abbrev blocks_read : Frame → Scan → Arrays → List ℕ → Outcome (Arrays × Option Marker)
+blocks_read frame scan arrays =
+    arrays_at (pass_in scan.pass) (scan.restart_interval * mcu_size (components_in scan.components.items))
+    (vias_in 0 scan.components.items) (spots_of frame (components_in scan.components.items)) arrays
+
+-- what is read of the blocks that are taken
+kept-as : (f : Found) (frame : Frame) (scan : Scan) (arrays : Arrays) (bytes : List ℕ)
+    → scan.restart_interval ≡ f.said.restart
+    → arrays ≡ blocks_at (map coding_in scan.components.items) (arrays_before f frame)
+    → read_at f frame (pass_in scan.pass) (map coding_in scan.components.items)
+    (blocks_at (map coding_in scan.components.items) (arrays_before f frame)) bytes
+    ≡ blocks_read frame scan arrays bytes
+kept-as f frame scan arrays bytes n is = grind (arith, common_steps, read-as)
+
+pub returns-in_err-met-clause-data : goal.returns-in_err-met-clause-data
+returns-in_err-met-clause-data g c base b =
+    let f = with_decoded base c.args.self.now in
+    let is = kept-as f (frame_in c.args.frame.now) c.args.scan.now _ c.args.source.now.bytes b.restart
+    (taken-by g (goal.at.returns-in_err-met-clause-data g c).In_ok-arrays base b) in
+    let more = data-kept-refused f (frame_in c.args.frame.now) (pass_in c.args.scan.now.pass)
+    (map coding_in c.args.scan.now.components.items) c.args.source.now.bytes in
+    grind (arith, common_steps, err_from_is_err_and, more)
+
+pub add_arrays-requires-clause-blocks : goal.add_arrays-requires-clause-blocks
+add_arrays-requires-clause-blocks g c =
+    arrays-by-sizes (components_in c.args.scan.now.components.items) c.in_ok-arrays.arrays.items
+    c.read_blocks.new.arrays.items (taken g (goal.at.add_arrays-requires-clause-blocks g c).In_ok-arrays).1
+    c.in_ok-met.ensures.sizes
+
+pub put_blocks-requires-clause-indices : goal.put_blocks-requires-clause-indices
+put_blocks-requires-clause-indices g c =
+    let kept = ap (λ (v : Vec Held Global). length v.items) c.in_ok-add_arrays.ensures.kept in
+    coded-within-kept (frame_in c.args.frame.now) c.deref-2.result.now c.keep.new.self.kept.items _
+    (kept ∙ c.in_ok-arrays.ensures.length) (grind (arith, common_steps)) (grind (arith, common_steps))
+
+-- the blocks that are kept afterwards
+put-all : (frame : Frame) (cs seen again : List Coded) (kept left taken arrays put : List Held) (before : Arrays)
+    → seen ≡ cs → again ≡ cs → arrays_in kept ≡ before
+    → arrays_in taken ≡ blocks_at (map coding_in seen) (arrays_in kept)
+    → arrays_in left ≡ without_blocks (map coding_in seen) (arrays_in kept) → sizes_of arrays ≡ sizes_of taken
+    → arrays_in put ≡ put_arrays (map coding_in again) (arrays_in arrays) (arrays_in left)
+    → AllByRecursion (IsCodingOf frame) (map coding_in cs) → AreRising (map coding_in cs)
+    → AreArrays frame.components before
+    → (arrays_in put ≡ put_arrays (map coding_in cs) (arrays_in arrays) before)
+    × AreArrays frame.components (arrays_in put)
+put-all frame cs seen again kept left taken arrays put before d a k t l s h of rising whole =
+    let sized = taken-sized frame cs seen kept taken before d k t of whole in
+    let long : length arrays ≡ length cs = grind (arith, common_steps, length-map) in
+    let is : arrays_in put ≡ put_arrays (map coding_in cs) (arrays_in arrays) before
+    = grind (arith, common_steps, put-back, coded-indices, rising-codings, length-map) in
+    grind (arith, common_steps, arrays-by-sizes, kept-sized, of-frame, coded-components)
+
+held : (g : given.Over) (c : After-put_blocks g) → let cs = c.args.scan.now.components.items in
+    (arrays_in c.put_blocks.new.kept.items ≡ put_arrays (map coding_in cs) (arrays_in c.read_blocks.new.arrays.items)
+    (blocks_before c.args.scanned c.args.self.now (frame_in c.args.frame.now)))
+    × AreArrays (frame_in c.args.frame.now).components (arrays_in c.put_blocks.new.kept.items)
+held g c =
+    put-all (frame_in c.args.frame.now) c.args.scan.now.components.items c.deref.result.now c.deref-2.result.now
+    c.keep.new.self.kept.items c.add_arrays.new.self.kept.items c.in_ok-arrays.arrays.items
+    c.read_blocks.new.arrays.items c.put_blocks.new.kept.items _ c.deref.ensures.value c.deref-2.ensures.value
+    c.in_ok-keep.ensures.kept c.in_ok-arrays.ensures.taken
+    (ap (λ (v : Vec Held Global). arrays_in v.items) c.in_ok-add_arrays.ensures.kept ∙ c.in_ok-arrays.ensures.left)
+    c.in_ok-met.ensures.sizes c.put_blocks.ensures c.requires.ready.of_frame c.requires.ready.rising c.requires.kept
+
+held-by : (g : given.Over) (c : After-put_blocks g) (base : Found) → IsBefore c.args.scanned c.args.scan.now base
+    → arrays_in c.put_blocks.new.kept.items ≡ put_arrays (map coding_in c.args.scan.now.components.items)
+    (arrays_in c.read_blocks.new.arrays.items)
+    (arrays_before (with_decoded base c.args.self.now) (frame_in c.args.frame.now))
+held-by g c base b =
+    let cs = map coding_in c.args.scan.now.components.items in
+    (held g c).0
+    ∙ sym (ap (put_arrays cs (arrays_in c.read_blocks.new.arrays.items))
+    (before-as base c.args.self.now (frame_in c.args.frame.now) _ b.scanned))
+
+pub returns-clause-data : goal.returns-clause-data
+returns-clause-data g c base b =
+    let f = with_decoded base c.args.self.now in
+    let at = goal.at.returns-clause-data g c in
+    let is = kept-as f (frame_in c.args.frame.now) c.args.scan.now _ c.args.source.now.bytes b.restart
+    (taken-by g at.In_ok-arrays base b) in
+    let put = held-by g at.After-put_blocks base b in
+    let more = data-kept f (frame_in c.args.frame.now) (pass_in c.args.scan.now.pass)
+    (map coding_in c.args.scan.now.components.items) (arrays_in c.read_blocks.new.arrays.items)
+    c.in_ok-met.met c.args.source.now.bytes c.read_blocks.new.source.bytes
+    (record c.keep.new.self { kept = c.take_blocks.new.kept }) c.add_arrays.new.self
+    (arrays_in c.put_blocks.new.kept.items) c.requires.process in
+    grind (arith, common_steps, more)
+
+pub returns-clause-kept : goal.returns-clause-kept
+returns-clause-kept g c = (held g (goal.at.returns-clause-kept g c).After-put_blocks).1
+
+pub returns-clause-planes : goal.returns-clause-planes
+returns-clause-planes g c h =
+    let base = nothing_found in
+    let one = with_decoded base (record c.keep.new.self { kept = c.take_blocks.new.kept }) in
+    let codings = map coding_in c.args.scan.now.components.items in
+    rw (ap (λ (x : Found). x.planes) (c.in_ok-add_arrays.ensures.planes base))
+    (arrays-whole (frame_in c.args.frame.now) (pass_in c.args.scan.now.pass) codings
+    (arrays_in c.read_blocks.new.arrays.items) one (of-frame _ codings c.requires.ready.of_frame)
+    (grind (arith, common_steps)))

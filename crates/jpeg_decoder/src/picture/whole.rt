@@ -1,0 +1,626 @@
+//! A stream from its start to its picture (T.81, B.2).
+ghost use Rattle.std.specs.Prelude.{◌≡◌, ◌*◌, ◌+◌, ◌<◌, ◌≤◌, ◌&&◌, IfOk, IfSome, MatchResult};
+ghost use Rattle.std.specs.Prelude.{None, OnErr, suc};
+ghost use Rattle.std.specs.Prelude.{OnOk, Ok, Some, drop, false, is_some, length, map, nat_lt, not};
+ghost use Rattle.std.specs.List.{enumerate_from};
+ghost use Rattle.std.specs.Prelude.{option_map, replicate, slice_index_or, true, []};
+ghost use Rattle.jpeg_bits.specs.Reading.{Answers, Names, NamesFormat};
+ghost use Rattle.jpeg_segments.specs.FrameView.{component_in, frame_in};
+ghost use Rattle.jpeg_segments.specs.Frame.{AllHaveSampling};
+ghost use Rattle.jpeg_pixels.specs.JointPlanes.{IsShapeOf, joint_planes};
+ghost use Rattle.jpeg_decoder.specs.PlanesView.{IsFullJoint};
+ghost use Rattle.jpeg_streams.specs.ColourChoice.{identifiers_of, transform_of};
+ghost use Rattle.jpeg_pixels.specs.Pictures.{AreWhole};
+ghost use Rattle.jpeg_pixels.specs.Scaled.{IsScale};
+ghost use Rattle.jpeg_streams.specs.EndPlanes.{AreBlocksOf, blocks_if, is_kept, plane_or};
+ghost use Rattle.jpeg_segments.specs.declared.frame.CodingProcess.TheVariants.{Lossless};
+ghost use Rattle.jpeg_segments.specs.Checks.{gathered, needed};
+ghost use Rattle.jpeg_decoder.specs.Scanning.{arrays_in, blocks_in};
+ghost use Rattle.jpeg_decoder.specs.Seen.{found_in, metadata_in, said_in};
+ghost use Rattle.jpeg_decoder.specs.PlanesView.{planes_in};
+ghost use Rattle.jpeg_streams.specs.Sound.{IsDecodedFrame, IsPlaneOf, IsSound, HasDecodedFrame};
+ghost use Rattle.jpeg_streams.specs.Sound.{IsUnread};
+ghost use Rattle.jpeg_streams.specs.States.{OnTold};
+ghost use Rattle.jpeg_decoder.specs.Steps.{IsRefusal, cropped_to, with_decoded};
+ghost use Rattle.jpeg_streams.specs.Stream.{header_at, rest_at, start_at, told_of};
+ghost use Rattle.jpeg_streams.specs.Reported.{IsOfTurns, told_by_turns, told_in_turns};
+ghost use Rattle.jpeg_streams.specs.FoundPictures.{blocks_picture, picture_of, picture_by};
+ghost use Rattle.jpeg_streams.specs.FoundPictures.{plane_at_end, samples_picture};
+ghost use Rattle.jpeg_streams.specs.Found.{nothing_found};
+ghost use Rattle.jpeg_decoder.specs.Bytes.{IsWhole, picture_size};
+
+use crate::picture::color_choice::choose_color_transform;
+use crate::scan::decoded::{Decoded, render};
+use crate::scan::coded::is_progressive;
+use crate::stream::state::State;
+use crate::stream::turns::read_segments;
+use crate::stream::tables::{Missing, needed, table_at};
+use jpeg_bits::color_transform::ColorTransform;
+use jpeg_bits::error::{Error, Result, format_error_of};
+use jpeg_bits::marker::Marker;
+use jpeg_bits::source::reads::read_u8;
+use jpeg_bits::source::Source;
+use jpeg_lossless::lossless::{compute_image_lossless, compute_image_lossless_into};
+use jpeg_pixels::joint_planes::{
+    JointPlanes, JointShape, compute_joint_image, compute_joint_image_into, joint_shape,
+};
+use jpeg_pixels::plane::crop;
+use jpeg_pixels::worker::{compute_image_rows, compute_image_rows_into};
+use jpeg_segments::parser::{CodingProcess, Component, Dimensions, FrameInfo};
+use jpeg_streams::settings::Settings;
+use std::alloc::Global;
+use std::io::Read;
+
+/// Reads the start of a stream, FF D8.
+#[tactic(auto, unfolding(jpeg_streams::specs::Stream::start_at))]
+fn read_start<R: Read + Drop>(alloc: Global, source: &mut Source<R>) -> Result<()>
+    ensures { Answers (λ u. u) start_at source.old result source.new }
+{
+    let first = read_u8(alloc, source)?;
+    if first != 0xff {
+        return Err(format_error_of(format!(in alloc;
+            "found {first:02X} at the start, expected SOI (FFD8)"
+        )));
+    }
+    let second = read_u8(alloc, source)?;
+    if second != 0xd8 {
+        return Err(format_error_of(format!(in alloc;
+            "found FF{second:02X} at the start, expected SOI (FFD8)"
+        )));
+    }
+    Ok(())
+}
+
+/// Returns the samples of a component of the size of the picture.
+fn area_of(size: Dimensions) -> usize
+    ensures { result ≡ size.width * size.height }
+{
+    usize::from(size.width) * usize::from(size.height)
+}
+
+/// Returns whether this many components of a picture are within a limit.
+fn is_within(limit: usize, count: usize, area: usize) -> bool
+    ensures { result ≡ not (nat_lt limit (count * area)) }
+{
+    match count.checked_mul(area) {
+        Some(size) => size <= limit,
+        None => false,
+    }
+}
+
+/// Returns whether blocks of a frame are kept: it is progressive, and a scan of it was read.
+fn are_kept(state: &State, frame: &FrameInfo) -> bool
+    ensures { result ≡ is_kept (found_in state.now) (frame_in frame.now) }
+{
+    is_progressive(frame.coding_process) && state.said.scanned
+}
+
+/// Takes the blocks of a component out of those that are kept, where blocks are kept.
+#[tactic(auto, using(crate::proofs::Rules::ends))]
+fn take_kept(
+    alloc: Global,
+    is_kept: bool,
+    kept: &mut Vec<Vec<[i16; 64]>>,
+    index: usize,
+) -> Option<Vec<[i16; 64]>>
+    requires { is_kept ≡ true → index < length kept.old.items }
+    ensures taken { option_map blocks_in result ≡ blocks_if is_kept (arrays_in kept.old.items)
+        index }
+    ensures left { drop (index + 1) (arrays_in kept.new.items)
+        ≡ drop (index + 1) (arrays_in kept.old.items) }
+{
+    if !is_kept {
+        return None;
+    }
+    Some(std::mem::replace(&mut kept[index], Vec::new(alloc)))
+}
+
+/// Returns the plane of a component at the end of an image: the one that is decided, or else that
+/// of the blocks that are kept, by the quantization table in force.
+#[tactic(auto, using(crate::proofs::Rules::ends))]
+fn plane_at_end(
+    alloc: Global,
+    state: &State,
+    component: &Component,
+    plane: Option<Vec<u8>>,
+    kept: Option<Vec<[i16; 64]>>,
+) -> Result<Vec<u8>>
+    requires scale { IsScale component.now.dct_scale }
+    requires plane { IsPlaneOf (component_in component.now) (option_map (λ v. v.items) plane) }
+    requires blocks { AreBlocksOf (component_in component.now) (option_map blocks_in kept) }
+    ensures plane { let table = slice_index_or state.now.said.quantization
+        component.now.quantization_table_index None in
+        let expected = plane_or (component_in component.now) table (option_map (λ v. v.items) plane)
+        (option_map blocks_in kept) in
+        MatchResult result (λ v. expected ≡ Ok v.items) (λ e. IsRefusal e × Names e expected) }
+    ensures whole { IfOk result (λ v. IsPlaneOf (component_in component.now) (Some v.items)) }
+{
+    if let Some(plane) = plane {
+        return Ok(plane);
+    }
+    let identifier = component.identifier;
+    let blocks = needed(alloc, kept, Missing::Scan(identifier))?;
+    let destination = component.quantization_table_index;
+    let missing = Missing::Table("quantization", destination, identifier);
+    let table = table_at(&state.said.quantization, destination);
+    let table = needed(alloc, table, missing)?;
+    Ok(render(alloc, component, table, &blocks)?)
+}
+
+/// Returns the planes of a frame's components at the end of an image, which are taken. Blocks that
+/// are kept are rendered where no plane is decided, one component after the other, and freed.
+#[tactic(auto, using(crate::proofs::Rules::gathered))]
+fn planes_at_end(
+    alloc: Global,
+    state: &State,
+    frame: &FrameInfo,
+    decoded: &mut Decoded,
+) -> Result<Vec<Vec<u8>>>
+    requires sound { IsSound (with_decoded (found_in state.now) decoded.old) }
+    requires frame { (said_in state.now).frame ≡ Some (frame_in frame.now) }
+    ensures planes { let expected = gathered (plane_at_end
+        (with_decoded (found_in state.now) decoded.old) (frame_in frame.now))
+        (enumerate_from 0 (frame_in frame.now).components) in
+        MatchResult result (λ v. expected ≡ Ok (map (λ p. p.items) v.items)) (λ e. IsRefusal e
+        × Names e expected) }
+    ensures whole { IfOk result (λ v. AreWhole (frame_in frame.now).components
+        (map (λ p. p.items) v.items)) }
+    ensures count { IfOk result (λ v. length v.items ≡ length (frame_in frame.now).components) }
+{
+    let is_kept = are_kept(state, frame);
+    let mut planes = Vec::with_capacity(alloc, frame.components.len())?;
+    for index in 0..frame.components.len() {
+        let plane = decoded.planes.take(alloc, index)?;
+        let kept = take_kept(alloc, is_kept, &mut decoded.kept, index);
+        planes.push(plane_at_end(alloc, state, &frame.components[index], plane, kept)?)?;
+    }
+    Ok(planes)
+}
+
+/// Crops the plane of a component to the picture in place, as far as the plane goes.
+fn crop_to(plane: &mut Vec<u8>, component: &Component, size: Dimensions)
+    requires { IsScale component.now.dct_scale }
+    ensures { plane.new.items ≡ cropped_to (component_in component.now) size.width size.height
+        plane.old.items }
+{
+    let stride = component.dct_scale * usize::from(component.block_size.width);
+    let lines = plane.len().checked_div(stride).unwrap_or(0);
+    let width = usize::from(size.width).min(stride);
+    let height = usize::from(size.height).min(lines);
+    crop(plane, stride, width, height);
+}
+
+/// Returns the picture of a frame's planes: of one its samples, and of several their colours.
+fn picture_by(
+    alloc: Global,
+    state: &State,
+    frame: &FrameInfo,
+    planes: Vec<Vec<u8>>,
+    settings: Settings,
+) -> Result<Vec<u8>>
+    requires frame { IsDecodedFrame (frame_in frame.now) }
+    requires planes { AreWhole (frame_in frame.now).components (map (λ p. p.items) planes.items) }
+    requires count { length planes.items ≡ length (frame_in frame.now).components }
+    ensures { let expected = picture_by settings (metadata_in state.now.said.metadata)
+        (frame_in frame.now) (frame_in frame.now).components (map (λ p. p.items) planes.items) in
+        MatchResult result (λ v. expected ≡ Ok v.items) (λ e. IsRefusal e × Names e expected) }
+{
+    let components = frame.components.as_slice();
+    if components.len() == 1 {
+        let mut planes = planes;
+        let component = &components[0];
+        let mut plane = needed(alloc, planes.pop(), Missing::Scan(component.identifier))?;
+        crop_to(&mut plane, component, frame.output_size);
+        return Ok(plane);
+    }
+    let transform = transform_of(state, frame, settings);
+    compute_image_rows(alloc, components, &planes, frame.output_size, transform)
+}
+
+/// Writes the picture of a frame's planes into memory that has exactly its bytes. After an error
+/// nothing is written.
+#[tactic(auto, using(crate::proofs::Rules::rooms))]
+fn write_by(
+    alloc: Global,
+    state: &State,
+    frame: &FrameInfo,
+    planes: Vec<Vec<u8>>,
+    settings: Settings,
+    pixels: &mut [u8],
+) -> Result<()>
+    requires frame { IsDecodedFrame (frame_in frame.now) }
+    requires planes { AreWhole (frame_in frame.now).components (map (λ p. p.items) planes.items) }
+    requires count { length planes.items ≡ length (frame_in frame.now).components }
+    requires process { (frame_in frame.now).process ≡ Lossless → ⊥ }
+    requires room { length pixels.old ≡ picture_size (frame_in frame.now) }
+    ensures meant { let expected = picture_by settings (metadata_in state.now.said.metadata)
+        (frame_in frame.now) (frame_in frame.now).components (map (λ p. p.items) planes.items) in
+        MatchResult result (λ u. expected ≡ Ok pixels.new) (λ e. IsRefusal e × Names e expected) }
+    ensures unwritten { OnErr result (pixels.new ≡ pixels.old) }
+{
+    let components = frame.components.as_slice();
+    if components.len() == 1 {
+        let picture = picture_by(alloc, state, frame, planes, settings)?;
+        pixels.copy_from_slice(&picture);
+        return Ok(());
+    }
+    let transform = transform_of(state, frame, settings);
+    compute_image_rows_into(
+        alloc,
+        components,
+        &planes,
+        frame.output_size,
+        transform,
+        pixels,
+    )
+}
+
+/// Returns the layout of a frame's planes in one buffer, where its components are alike.
+fn shape_of(frame: &FrameInfo) -> Option<JointShape>
+    requires { AllHaveSampling (frame_in frame.now).components }
+    ensures { IfSome result (IsShapeOf (frame_in frame.now).components
+        (frame_in frame.now).output_width (frame_in frame.now).output_height) }
+{
+    let rows = frame.mcu_size.height;
+    joint_shape(&frame.components, frame.output_size, rows)
+}
+
+/// Returns the colour transform of a frame's picture.
+fn transform_of(state: &State, frame: &FrameInfo, settings: Settings) -> ColorTransform
+    ensures { result ≡ transform_of settings.color_transform
+        (identifiers_of (frame_in frame.now).components) state.now.said.metadata.jfif
+        state.now.said.metadata.adobe }
+{
+    choose_color_transform(
+        settings.color_transform,
+        &frame.components,
+        state.said.metadata.jfif,
+        state.said.metadata.adobe,
+    )
+}
+
+/// Returns the picture of a frame's planes that are in one buffer.
+fn joint_picture(
+    alloc: Global,
+    state: &State,
+    frame: &FrameInfo,
+    planes: JointPlanes,
+    settings: Settings,
+) -> Result<Vec<u8>>
+    requires frame { IsDecodedFrame (frame_in frame.now) }
+    requires shape { IsShapeOf (frame_in frame.now).components (frame_in frame.now).output_width
+        (frame_in frame.now).output_height planes.shape }
+    requires full { IsFullJoint planes }
+    ensures { let expected = picture_by settings (metadata_in state.now.said.metadata)
+        (frame_in frame.now) (frame_in frame.now).components
+        (joint_planes planes.shape planes.samples.items) in
+        MatchResult result (λ v. expected ≡ Ok v.items) (λ e. IsRefusal e × Names e expected) }
+{
+    let transform = transform_of(state, frame, settings);
+    compute_joint_image(
+        alloc,
+        &frame.components,
+        planes,
+        frame.output_size,
+        transform,
+    )
+}
+
+/// Writes the picture of a frame's planes that are in one buffer into memory that has exactly its
+/// bytes. After an error nothing is written.
+#[tactic(auto, using(crate::proofs::Rules::rooms))]
+fn write_joint(
+    alloc: Global,
+    state: &State,
+    frame: &FrameInfo,
+    planes: &JointPlanes,
+    settings: Settings,
+    pixels: &mut [u8],
+) -> Result<()>
+    requires frame { IsDecodedFrame (frame_in frame.now) }
+    requires shape { IsShapeOf (frame_in frame.now).components (frame_in frame.now).output_width
+        (frame_in frame.now).output_height planes.now.shape }
+    requires full { IsFullJoint planes.now }
+    requires process { (frame_in frame.now).process ≡ Lossless → ⊥ }
+    requires room { length pixels.old ≡ picture_size (frame_in frame.now) }
+    ensures meant { let expected = picture_by settings (metadata_in state.now.said.metadata)
+        (frame_in frame.now) (frame_in frame.now).components
+        (joint_planes planes.now.shape planes.now.samples.items) in
+        MatchResult result (λ u. expected ≡ Ok pixels.new) (λ e. IsRefusal e × Names e expected) }
+    ensures unwritten { OnErr result (pixels.new ≡ pixels.old) }
+{
+    let transform = transform_of(state, frame, settings);
+    compute_joint_image_into(
+        alloc,
+        &frame.components,
+        planes,
+        frame.output_size,
+        transform,
+        pixels,
+    )
+}
+
+/// Returns the picture of a frame of blocks.
+#[tactic(auto, unfolding(jpeg_streams::specs::FoundPictures::blocks_picture))]
+fn blocks_picture(
+    alloc: Global,
+    state: &State,
+    frame: &FrameInfo,
+    decoded: &mut Decoded,
+    settings: Settings,
+) -> Result<Vec<u8>>
+    requires sound { IsSound (with_decoded (found_in state.now) decoded.old) }
+    requires frame { (said_in state.now).frame ≡ Some (frame_in frame.now) }
+    ensures meant { let expected = blocks_picture settings (with_decoded (found_in state.now) decoded.old)
+        (frame_in frame.now) in
+        MatchResult result (λ v. expected ≡ Ok v.items) (λ e. IsRefusal e × Names e expected) }
+    ensures size { ((frame_in frame.now).process ≡ Lossless → ⊥)
+        → IfOk result (λ v. IsWhole (Some (frame_in frame.now)) v.items) }
+{
+    if let Some(planes) = decoded.planes.take_joint(shape_of(frame)) {
+        return joint_picture(alloc, state, frame, planes, settings);
+    }
+    let planes = planes_at_end(alloc, state, frame, decoded)?;
+    picture_by(alloc, state, frame, planes, settings)
+}
+
+/// Writes the picture of a frame of blocks into memory that has exactly its bytes. After an error
+/// nothing is written.
+#[tactic(auto, unfolding(jpeg_streams::specs::FoundPictures::blocks_picture))]
+fn write_blocks(
+    alloc: Global,
+    state: &State,
+    frame: &FrameInfo,
+    decoded: &mut Decoded,
+    settings: Settings,
+    pixels: &mut [u8],
+) -> Result<()>
+    requires sound { IsSound (with_decoded (found_in state.now) decoded.old) }
+    requires frame { (said_in state.now).frame ≡ Some (frame_in frame.now) }
+    requires process { (frame_in frame.now).process ≡ Lossless → ⊥ }
+    requires room { length pixels.old ≡ picture_size (frame_in frame.now) }
+    ensures meant { let expected = blocks_picture settings (with_decoded (found_in state.now) decoded.old)
+        (frame_in frame.now) in
+        MatchResult result (λ u. expected ≡ Ok pixels.new) (λ e. IsRefusal e × Names e expected) }
+    ensures unwritten { OnErr result (pixels.new ≡ pixels.old) }
+{
+    if let Some(planes) = decoded.planes.take_joint(shape_of(frame)) {
+        return write_joint(alloc, state, frame, &planes, settings, pixels);
+    }
+    let planes = planes_at_end(alloc, state, frame, decoded)?;
+    write_by(alloc, state, frame, planes, settings, pixels)
+}
+
+/// Returns the samples of a lossless frame's components, which are taken.
+#[tactic(auto, using(crate::proofs::Rules::gathered))]
+fn samples_at_end(alloc: Global, frame: &FrameInfo, decoded: &mut Decoded) -> Result<Vec<Vec<u16>>>
+    requires count { length (frame_in frame.now).components ≤ 4 }
+    ensures planes { let expected = gathered
+        (λ c. needed (slice_index_or (planes_in decoded.old.samples) c.0 None))
+        (enumerate_from 0 (frame_in frame.now).components) in
+        MatchResult result (λ v. expected ≡ Ok (map (λ p. p.items) v.items)) (λ e. IsRefusal e
+        × Names e expected) }
+    ensures count { IfOk result (λ v. length v.items ≡ length (frame_in frame.now).components) }
+{
+    let mut planes = Vec::with_capacity(alloc, frame.components.len())?;
+    for index in 0..frame.components.len() {
+        let plane = decoded.samples[index].take();
+        let missing = Missing::Scan(frame.components[index].identifier);
+        planes.push(needed(alloc, plane, missing)?)?;
+    }
+    Ok(planes)
+}
+
+/// Returns the picture of a lossless frame.
+#[tactic(auto, unfolding(crate::proofs::Rules::sampled), using(crate::proofs::Rules::given))]
+fn samples_picture(
+    alloc: Global,
+    state: &State,
+    frame: &FrameInfo,
+    decoded: &mut Decoded,
+) -> Result<Vec<u8>>
+    requires sound { IsSound (with_decoded (found_in state.now) decoded.old) }
+    requires frame { (said_in state.now).frame ≡ Some (frame_in frame.now) }
+    requires process { (frame_in frame.now).process ≡ Lossless }
+    ensures meant { let expected =
+        samples_picture (with_decoded (found_in state.now) decoded.old) (frame_in frame.now) in
+        MatchResult result (λ v. expected ≡ Ok v.items) (λ e. IsRefusal e × Names e expected) }
+    ensures size { IfOk result (λ v. IsWhole (Some (frame_in frame.now)) v.items) }
+{
+    let planes = samples_at_end(alloc, frame, decoded)?;
+    compute_image_lossless(alloc, frame, planes)
+}
+
+/// Writes the picture of a lossless frame into memory that has exactly its bytes. After an error
+/// nothing is written.
+#[tactic(auto, unfolding(crate::proofs::Rules::sampled))]
+fn write_samples(
+    alloc: Global,
+    state: &State,
+    frame: &FrameInfo,
+    decoded: &mut Decoded,
+    pixels: &mut [u8],
+) -> Result<()>
+    requires sound { IsSound (with_decoded (found_in state.now) decoded.old) }
+    requires frame { (said_in state.now).frame ≡ Some (frame_in frame.now) }
+    requires process { (frame_in frame.now).process ≡ Lossless }
+    requires room { length pixels.old ≡ picture_size (frame_in frame.now) }
+    ensures meant { let expected =
+        samples_picture (with_decoded (found_in state.now) decoded.old) (frame_in frame.now) in
+        MatchResult result (λ u. expected ≡ Ok pixels.new) (λ e. IsRefusal e × Names e expected) }
+    ensures unwritten { OnErr result (pixels.new ≡ pixels.old) }
+{
+    let planes = samples_at_end(alloc, frame, decoded)?;
+    compute_image_lossless_into(alloc, frame, &planes, pixels)
+}
+
+/// Returns the refusal of a picture that is above the limit.
+#[cold]
+#[inline(never)]
+fn limit_error(alloc: Global, frame: &FrameInfo, limit: usize) -> Error
+    ensures { NamesFormat result }
+{
+    let count = frame
+        .components
+        .len()
+        .saturating_mul(area_of(frame.output_size));
+    format_error_of(format!(in alloc; "{count} samples in the picture, expected at most {limit}"))
+}
+
+/// Returns the picture of what was found, which is taken: within the limit, of planes that are
+/// there.
+#[tactic(auto, unfolding(crate::proofs::Rules::block_pictures))]
+fn picture(
+    alloc: Global,
+    state: &State,
+    decoded: &mut Decoded,
+    settings: Settings,
+) -> Result<Vec<u8>>
+    requires sound { IsSound (with_decoded (found_in state.now) decoded.old) }
+    ensures meant { let expected = picture_of settings (with_decoded (found_in state.now) decoded.old) in
+        MatchResult result (λ v. expected ≡ Ok v.items) (λ e. IsRefusal e × Names e expected) }
+    ensures size { IfOk result (λ v. IsWhole (said_in state.now).frame v.items) }
+{
+    let frame = needed(
+        alloc,
+        state.said.frame.as_ref(),
+        Missing::Frame(Marker::EOI),
+    )?;
+    if !is_within(
+        settings.limit,
+        frame.components.len(),
+        area_of(frame.output_size),
+    ) {
+        return Err(limit_error(alloc, frame, settings.limit));
+    }
+    match frame.coding_process {
+        CodingProcess::DctSequential | CodingProcess::DctProgressive => {
+            blocks_picture(alloc, state, frame, decoded, settings)
+        }
+        CodingProcess::Lossless => samples_picture(alloc, state, frame, decoded),
+    }
+}
+
+/// Writes the picture of what was found, which is taken, into memory that has exactly its bytes:
+/// within the limit, of planes that are there. After an error nothing is written.
+#[tactic(auto, unfolding(crate::proofs::Rules::block_pictures))]
+fn write_picture(
+    alloc: Global,
+    state: &State,
+    decoded: &mut Decoded,
+    settings: Settings,
+    pixels: &mut [u8],
+) -> Result<()>
+    requires sound { IsSound (with_decoded (found_in state.now) decoded.old) }
+    requires room { IfSome (said_in state.now).frame (λ f. length pixels.old ≡ picture_size f) }
+    ensures meant { let expected = picture_of settings (with_decoded (found_in state.now) decoded.old) in
+        MatchResult result (λ u. expected ≡ Ok pixels.new) (λ e. IsRefusal e × Names e expected) }
+    ensures unwritten { OnErr result (pixels.new ≡ pixels.old) }
+{
+    let frame = needed(
+        alloc,
+        state.said.frame.as_ref(),
+        Missing::Frame(Marker::EOI),
+    )?;
+    if !is_within(
+        settings.limit,
+        frame.components.len(),
+        area_of(frame.output_size),
+    ) {
+        return Err(limit_error(alloc, frame, settings.limit));
+    }
+    match frame.coding_process {
+        CodingProcess::DctSequential | CodingProcess::DctProgressive => {
+            write_blocks(alloc, state, frame, decoded, settings, pixels)
+        }
+        CodingProcess::Lossless => write_samples(alloc, state, frame, decoded, pixels),
+    }
+}
+
+/// Reads the header of a stream: all through the frame's segment.
+#[tactic(auto, unfolding(crate::proofs::Rules::headers), using(crate::proofs::Rules::starts))]
+pub fn read_header<R: Read + Drop>(
+    alloc: Global,
+    source: &mut Source<R>,
+    state: &mut State,
+) -> Result<()>
+    requires { found_in state.old ≡ nothing_found }
+    ensures reads { Answers (λ _. found_in state.new) header_at source.old result source.new }
+    ensures told { OnTold source.old source.new result (told_of (said_in state.new)
+        ≡ told_by_turns (suc (length source.old.bytes)) true source.old.bytes) }
+    ensures turns { source.old.known ≡ true → IsOfTurns (λ n. told_by_turns n true source.old.bytes)
+        (told_of (said_in state.new)) }
+    ensures framed { IfOk result (λ _. is_some (said_in state.new).frame ≡ true) }
+    ensures sound { OnOk result (IsSound (found_in state.new)) }
+    ensures unread { OnOk result (IsUnread (found_in state.new)) }
+{
+    read_start(alloc, source)?;
+    read_segments(alloc, source, state, true)
+}
+
+/// Reads the rest of a stream, after its header, and gives its picture. No blocks or planes are
+/// kept.
+#[tactic(auto, unfolding(jpeg_streams::specs::Stream::rest_at))]
+pub fn read_rest<R: Read + Drop>(
+    alloc: Global,
+    source: &mut Source<R>,
+    state: &mut State,
+    settings: Settings,
+) -> Result<Vec<u8>>
+    requires sound { IsSound (found_in state.old) }
+    ensures reads { Answers (λ v. (told_of (said_in state.new), v.items))
+        (rest_at settings (found_in state.old)) source.old result source.new }
+    ensures told { OnTold source.old source.new result (told_of (said_in state.new)
+        ≡ told_in_turns (suc (length source.old.bytes)) false (found_in state.old)
+        source.old.bytes) }
+    ensures turns { source.old.known ≡ true → IsOfTurns
+        (λ n. told_in_turns n false (found_in state.old) source.old.bytes)
+        (told_of (said_in state.new)) }
+    ensures framed { IfOk result (λ _. is_some (said_in state.new).frame ≡ true) }
+    ensures stays { is_some (said_in state.old).frame ≡ true → (said_in state.new).frame
+        ≡ (said_in state.old).frame }
+    ensures frames { OnOk result (HasDecodedFrame (found_in state.new)) }
+    ensures size { IfOk result (λ v. IsWhole (said_in state.new).frame v.items) }
+    ensures emptied { ((found_in state.new).kept ≡ [])
+        × ((found_in state.new).planes ≡ replicate 4 None)
+        × ((found_in state.new).samples ≡ replicate 4 None) }
+{
+    let ended = read_segments(alloc, source, state, false);
+    let mut decoded = std::mem::replace(&mut state.decoded, Decoded::new(alloc));
+    ended?;
+    picture(alloc, state, &mut decoded, settings)
+}
+
+/// Reads the rest of a stream, after its header, and writes its picture into memory that has
+/// exactly its bytes. After an error nothing is written. No blocks or planes are kept.
+#[tactic(auto, unfolding(jpeg_streams::specs::Stream::rest_at))]
+pub fn read_rest_into<R: Read + Drop>(
+    alloc: Global,
+    source: &mut Source<R>,
+    state: &mut State,
+    settings: Settings,
+    pixels: &mut [u8],
+) -> Result<()>
+    requires sound { IsSound (found_in state.old) }
+    requires framed { is_some (said_in state.old).frame ≡ true }
+    requires room { IfSome (said_in state.old).frame (λ f. length pixels.old ≡ picture_size f) }
+    ensures reads { Answers (λ u. (told_of (said_in state.new), pixels.new))
+        (rest_at settings (found_in state.old)) source.old result source.new }
+    ensures told { OnTold source.old source.new result (told_of (said_in state.new)
+        ≡ told_in_turns (suc (length source.old.bytes)) false (found_in state.old)
+        source.old.bytes) }
+    ensures turns { source.old.known ≡ true → IsOfTurns
+        (λ n. told_in_turns n false (found_in state.old) source.old.bytes)
+        (told_of (said_in state.new)) }
+    ensures stays { (said_in state.new).frame ≡ (said_in state.old).frame }
+    ensures frames { OnOk result (HasDecodedFrame (found_in state.new)) }
+    ensures unwritten { OnErr result (pixels.new ≡ pixels.old) }
+    ensures emptied { ((found_in state.new).kept ≡ [])
+        × ((found_in state.new).planes ≡ replicate 4 None)
+        × ((found_in state.new).samples ≡ replicate 4 None) }
+{
+    let end = read_segments(alloc, source, state, false);
+    let mut decoded = std::mem::replace(&mut state.decoded, Decoded::new(alloc));
+    end?;
+    write_picture(alloc, state, &mut decoded, settings, pixels)
+}

@@ -1,0 +1,562 @@
+//! What the scans of a frame have given so far: blocks, and planes (T.81, A.2 and G.1).
+ghost use Rattle.std.specs.Prelude.{◌≡◌, ◌<◌, ◌*◌, [], All, IfOk};
+ghost use Rattle.std.specs.Prelude.{None, OnOk, length, map, replicate, slice_index_or};
+ghost use Rattle.std.specs.Prelude.{slice_set, true};
+ghost use Rattle.std.specs.List.{list_all};
+ghost use Rattle.jpeg_bits.specs.BlockView.{pass_in, to_block, IsPass};
+ghost use Rattle.jpeg_pixels.specs.Scaled.{IsScale};
+ghost use Rattle.jpeg_segments.specs.FrameView.{component_in, frame_in};
+ghost use Rattle.jpeg_bits.specs.Reading.{Answers};
+ghost use Rattle.jpeg_streams.specs.InTurn.{AreApart};
+ghost use Rattle.jpeg_decoder.specs.Scanning.{arrays_in, blocks_in, components_in};
+ghost use Rattle.jpeg_streams.specs.Scans.{zero_arrays, zero_of};
+ghost use Rattle.jpeg_decoder.specs.PlanesView.{planes_in};
+ghost use Rattle.jpeg_streams.specs.Rasters.{plane_by};
+ghost use Rattle.jpeg_streams.specs.ScanSegments.{put_arrays, finished_by};
+ghost use Rattle.jpeg_streams.specs.Found.{none_finished};
+ghost use Rattle.jpeg_decoder.specs.Steps.{blocks_at, coding_in, without_blocks, IsInOrder};
+ghost use Rattle.jpeg_bits.specs.Passes.{whole_pass};
+
+use crate::scan::planes::Planes;
+use crate::scan::coded::{Coded, Scan, is_progressive};
+use crate::scan::blocks::read_blocks;
+use crate::scan::rows::read_planes;
+use crate::scan::strips::{GrowingPlanes, append_rows, empty_planes, plane_size, sample_table};
+use jpeg_bits::blocks::Pass;
+use jpeg_bits::error::Result;
+use jpeg_bits::marker::Marker;
+use jpeg_bits::source::Source;
+use jpeg_pixels::joint_planes::{JointPlanes, joint_shape};
+use jpeg_segments::parser::{Component, FrameInfo};
+use std::alloc::{AllocError, Global};
+use std::io::Read;
+
+/// What the scans so far have given, by the components' indices in the frame.
+#[derive(Drop)]
+pub struct Decoded {
+    /// The blocks that are kept between the scans of a progressive frame, in raster order, their
+    /// coefficients in block order. Empty before its first scan.
+    pub kept: Vec<Vec<[i16; 64]>>,
+    /// Which coefficients of a block are finished, in zigzag order.
+    pub finished: [[bool; 64]; 4],
+    /// The planes that are decided.
+    pub planes: Planes,
+    /// The samples of a lossless frame's components, line by line.
+    pub samples: [Option<Vec<u16>>; 4],
+}
+
+/// Marks the coefficients that a pass finishes: those that it codes at level 0.
+fn finish(pass: Pass, marks: &mut [bool; 64])
+    requires { IsPass (pass_in pass) }
+    ensures marked { marks.new ≡ finished_by (pass_in pass) marks.old }
+    ensures all { pass_in pass ≡ whole_pass → list_all (λ mark. mark) marks.new ≡ true }
+{
+    if pass.al == 0 {
+        let after = usize::from(pass.se) + 1;
+        marks[usize::from(pass.ss)..after].fill(true);
+    }
+}
+
+/// Returns whether a pass finishes all coefficients of a block.
+fn is_whole(pass: Pass) -> bool
+    ensures { result ≡ true → pass_in pass ≡ whole_pass }
+{
+    pass.is_first && pass.ss == 0 && pass.se == 63 && pass.al == 0
+}
+
+/// Returns whether a scan has this many components, those of the frame in their order.
+fn are_in_order(codings: &[Coded<'_>], count: usize) -> bool
+    ensures { result ≡ true → (length codings.now ≡ count) × IsInOrder codings.now }
+{
+    for slot in 0..codings.len() {
+        if codings[slot].index != slot {
+            return false;
+        }
+    }
+    codings.len() == count
+}
+
+/// Returns whether all coefficients are marked.
+fn are_all(marks: &[bool; 64]) -> bool
+    ensures { result ≡ list_all (λ mark. mark) marks.now }
+{
+    marks.iter().all(|mark| *mark)
+}
+
+/// Returns the blocks of a component in which nothing was read yet.
+fn zero_blocks(
+    alloc: Global,
+    component: &Component,
+) -> std::result::Result<Vec<[i16; 64]>, AllocError>
+    ensures { IfOk result (λ v. blocks_in v ≡ zero_of (component_in component.now)) }
+{
+    let count = usize::from(component.block_size.height) * usize::from(component.block_size.width);
+    vec![in alloc; [0; 64]; count]
+}
+
+/// Returns the blocks of all components of a frame in which nothing was read yet.
+#[tactic(auto, using(crate::proofs::BlocksBefore::zeros_all))]
+fn zero_frame(
+    alloc: Global,
+    frame: &FrameInfo,
+) -> std::result::Result<Vec<Vec<[i16; 64]>>, AllocError>
+    ensures { IfOk result
+        (λ v. arrays_in v.items ≡ zero_arrays (frame_in frame.now).components) }
+{
+    let mut arrays = Vec::with_capacity(alloc, frame.components.len())?;
+    for component in &frame.components {
+        arrays.push(zero_blocks(alloc, component)?)?;
+    }
+    Ok(arrays)
+}
+
+/// Returns the plane of a component's blocks, which stand in raster order, at the component's
+/// scale, by its quantization table in zigzag order.
+#[tactic(auto, unfolding(crate::proofs::Rules::block_planes))]
+pub fn render(
+    alloc: Global,
+    component: &Component,
+    quantization: &[u16; 64],
+    blocks: &[[i16; 64]],
+) -> std::result::Result<Vec<u8>, AllocError>
+    requires scale { IsScale component.now.dct_scale }
+    requires blocks { length blocks.now ≡ component.now.block_size.height *
+        component.now.block_size.width }
+    ensures { IfOk result (λ v. v.items
+        ≡ plane_by (component_in component.now) quantization.now (map to_block blocks.now)) }
+{
+    let size = component.block_size;
+    let samples = plane_size(size.width, size.height, component.dct_scale);
+    let mut plane = Vec::with_capacity(alloc, samples)?;
+    let table = sample_table(quantization);
+    append_rows(&mut plane, component, &table, blocks, size.height)?;
+    Ok(plane)
+}
+
+/// Takes the blocks of a scan's components out of those that are kept, and leaves none there.
+fn take_blocks(
+    alloc: Global,
+    codings: &[Coded<'_>],
+    kept: &mut Vec<Vec<[i16; 64]>>,
+) -> std::result::Result<Vec<Vec<[i16; 64]>>, AllocError>
+    requires within { All (λ c. c.index < length kept.old.items) codings.now }
+    requires apart { AreApart (map (λ c. c.index) codings.now) }
+    ensures taken { let codings = map coding_in codings.now in
+        IfOk result (λ v. arrays_in v.items ≡ blocks_at codings (arrays_in kept.old.items)) }
+    ensures left { let codings = map coding_in codings.now in
+        OnOk result
+        (arrays_in kept.new.items ≡ without_blocks codings (arrays_in kept.old.items)) }
+    ensures length { length kept.new.items ≡ length kept.old.items }
+{
+    let mut taken = Vec::with_capacity(alloc, codings.len())?;
+    for coded in codings {
+        let blocks = std::mem::replace(&mut kept[coded.index], Vec::new(alloc));
+        taken.push(blocks)?;
+    }
+    Ok(taken)
+}
+
+/// Puts blocks at the indices of a scan's components in the frame.
+#[tactic(auto, using(crate::proofs::PutLoops::put_rules), unfolding(crate::proofs::Rules::puts))]
+fn put_blocks(
+    alloc: Global,
+    codings: &[Coded<'_>],
+    arrays: &mut Vec<Vec<[i16; 64]>>,
+    kept: &mut Vec<Vec<[i16; 64]>>,
+)
+    requires count { length arrays.old.items ≡ length codings.now }
+    requires indices { All (λ c. c.index < length kept.old.items) codings.now }
+    ensures { arrays_in kept.new.items ≡ put_arrays (map coding_in codings.now)
+        (arrays_in arrays.old.items) (arrays_in kept.old.items) }
+{
+    let mut slot = 0;
+    while slot < codings.len() {
+        kept[codings[slot].index] = std::mem::replace(&mut arrays[slot], Vec::new(alloc));
+        slot += 1;
+    }
+}
+
+impl Decoded {
+    ghost use Rattle.std.specs.Prelude.{◌≡◌, ◌<◌, [], All, IfOk, OnOk, None, Some};
+    ghost use Rattle.std.specs.Prelude.{◌*◌, true, false, length, map, replicate, slice_index_or};
+    ghost use Rattle.std.specs.Prelude.{is_some, slice_set};
+    ghost use Rattle.jpeg_bits.specs.Reading.{Answers};
+    ghost use Rattle.jpeg_bits.specs.BlockView.{pass_in, IsPass, to_block};
+    ghost use Rattle.jpeg_pixels.specs.Scaled.{IsScale};
+    ghost use Rattle.jpeg_segments.specs.FrameView.{component_in, frame_in};
+    ghost use Rattle.jpeg_streams.specs.InTurn.{AreArrays};
+    ghost use Rattle.jpeg_streams.specs.LosslessScans.{with_samples};
+    ghost use Rattle.jpeg_streams.specs.Sound.{ArePlanes};
+    ghost use Rattle.jpeg_decoder.specs.Scanning.{arrays_in, components_in};
+    ghost use Rattle.jpeg_decoder.specs.PlanesView.{planes_in};
+    ghost use Rattle.jpeg_decoder.specs.Steps.{blocks_before, coding_in, HasIndex, IsBefore};
+    ghost use Rattle.jpeg_decoder.specs.Steps.{IsReadable, is_wanted};
+    ghost use Rattle.jpeg_decoder.specs.Steps.{marks_after, scan_data, with_decoded};
+    ghost use Rattle.jpeg_decoder.specs.Steps.{with_its_plane, with_planes};
+    ghost use Rattle.jpeg_streams.specs.ScanSegments.{is_progressive, once_scanned};
+    ghost use Rattle.jpeg_streams.specs.ScanSegments.{with_arrays};
+    ghost use Rattle.jpeg_streams.specs.Rasters.{plane_by};
+    ghost use Rattle.jpeg_streams.specs.Found.{Found, none_finished};
+    ghost use Rattle.jpeg_pixels.specs.JointPlanes.{joint_planes};
+    ghost use Rattle.jpeg_decoder.specs.GrowingView.{GrowsFor, growing_in, is_joint};
+    ghost use Rattle.jpeg_decoder.specs.PlanesView.{IsFullJoint};
+    ghost use Rattle.jpeg_decoder.specs.Steps.{IsCodingOf, IsFirst};
+    ghost use Rattle.jpeg_segments.specs.Frame.{AllHaveSampling};
+    ghost use Rattle.jpeg_streams.specs.InTurn.{Fits};
+    ghost use Rattle.std.specs.List.{AllByRecursion};
+    ghost use Rattle.jpeg_decoder.specs.Strips.{no_samples};
+
+    /// Makes the state in which nothing was read.
+    pub fn new(alloc: Global) -> Decoded
+        ensures kept { arrays_in result.kept.items ≡ [] }
+        ensures finished { result.finished ≡ replicate 4 none_finished }
+        ensures planes { result.planes ≡ replicate 4 None }
+        ensures samples { planes_in result.samples ≡ replicate 4 None }
+    {
+        Decoded {
+            kept: Vec::new(alloc),
+            finished: [[false; 64]; 4],
+            planes: Planes::none(),
+            samples: [None, None, None, None],
+        }
+    }
+
+    /// Puts the samples of a lossless scan at the indices of its components, where they replace
+    /// those of earlier scans.
+    pub fn put_samples(&mut self, alloc: Global, indices: &[usize], planes: &mut Vec<Vec<u16>>)
+        requires count { length planes.old.items ≡ length indices.now }
+        requires indices { All (λ index. index < 4) indices.now }
+        ensures kept { self.new.kept ≡ self.old.kept }
+        ensures finished { self.new.finished ≡ self.old.finished }
+        ensures planes { self.new.planes ≡ self.old.planes }
+        ensures samples { planes_in self.new.samples
+            ≡ with_samples indices.now (map (λ v. v.items) planes.old.items)
+            (planes_in self.old.samples) }
+    {
+        let mut slot = 0;
+        while slot < indices.len() {
+            let plane = std::mem::replace(&mut planes[slot], Vec::new(alloc));
+            self.samples[indices[slot]] = Some(plane);
+            slot += 1;
+        }
+    }
+
+    /// Marks the coefficients of a component that a pass finishes, and returns whether its plane is
+    /// to be decided now: all coefficients are finished, and it has none yet.
+    fn is_wanted(&mut self, pass: Pass, index: usize) -> bool
+        requires pass { IsPass (pass_in pass) }
+        requires index { index < 4 }
+        ensures kept { self.new.kept ≡ self.old.kept }
+        ensures samples { self.new.samples ≡ self.old.samples }
+        ensures planes { self.new.planes ≡ self.old.planes }
+        ensures finished { self.new.finished ≡ slice_set self.old.finished index
+            (marks_after (pass_in pass) self.old.finished index) }
+        ensures wanted { result ≡ is_wanted (marks_after (pass_in pass) self.old.finished index)
+            (slice_index_or self.old.planes index None) }
+    {
+        let marks = &mut self.finished[index];
+        finish(pass, marks);
+        are_all(marks) && !self.planes.has(index)
+    }
+
+    /// Adds the plane of a component after a scan of a sequential frame.
+    #[tactic(auto, using(crate::proofs::DecidedPlanes::plane_rules))]
+    fn add_plane(&mut self, pass: Pass, index: usize, plane: Vec<u8>)
+        requires pass { IsPass (pass_in pass) }
+        requires index { index < 4 }
+        ensures kept { self.new.kept ≡ self.old.kept }
+        ensures samples { self.new.samples ≡ self.old.samples }
+        ensures plane { (base : Found) →
+            with_decoded base self.new ≡ with_its_plane (pass_in pass) index plane.items
+            (with_decoded base self.old) }
+    {
+        if self.is_wanted(pass, index) {
+            self.planes.put(index, plane);
+        }
+    }
+
+    /// Adds the blocks of a component after a scan of a progressive frame.
+    #[tactic(auto, using(crate::proofs::DecidedPlanes::plane_rules))]
+    fn add_blocks(
+        &mut self,
+        alloc: Global,
+        pass: Pass,
+        coded: &Coded<'_>,
+        blocks: &[[i16; 64]],
+    ) -> std::result::Result<(), AllocError>
+        requires pass { IsPass (pass_in pass) }
+        requires index { coded.now.index < 4 }
+        requires blocks { length blocks.now ≡ (component_in coded.now.component.now).blocks_high *
+            (component_in coded.now.component.now).blocks_wide }
+        ensures kept { OnOk result (self.new.kept ≡ self.old.kept) }
+        ensures samples { OnOk result (self.new.samples ≡ self.old.samples) }
+        ensures plane { OnOk result ((base : Found) →
+            with_decoded base self.new
+            ≡ with_its_plane (pass_in pass) coded.now.index
+            (plane_by (component_in coded.now.component.now) coded.now.quantization.now
+            (map to_block blocks.now)) (with_decoded base self.old)) }
+    {
+        if self.is_wanted(pass, coded.index) {
+            let plane = render(alloc, coded.component, coded.quantization, blocks)?;
+            self.planes.put(coded.index, plane);
+        }
+        Ok(())
+    }
+
+    /// Adds the planes of a scan's components.
+    fn add_planes(&mut self, scan: &Scan<'_>, planes: &mut Vec<Vec<u8>>, alloc: Global)
+        requires indices { All HasIndex scan.now.components.items }
+        requires count { length planes.old.items ≡ length scan.now.components.items }
+        ensures kept { self.new.kept ≡ self.old.kept }
+        ensures samples { self.new.samples ≡ self.old.samples }
+        ensures planes { (base : Found) → with_decoded base self.new
+            ≡ with_planes (pass_in scan.now.pass) (map coding_in scan.now.components.items)
+            (map (λ v. v.items) planes.old.items) (with_decoded base self.old) }
+    {
+        let mut slot = 0;
+        while slot < scan.components.len() {
+            let plane = std::mem::replace(&mut planes[slot], Vec::new(alloc));
+            self.add_plane(scan.pass, scan.components[slot].index, plane);
+            slot += 1;
+        }
+    }
+
+    /// Returns planes without samples for a scan of a sequential frame: in one buffer where it is
+    /// the first, has all components of the frame, and they are alike.
+    fn start_planes(
+        &self,
+        alloc: Global,
+        frame: &FrameInfo,
+        scan: &Scan<'_>,
+    ) -> std::result::Result<GrowingPlanes, AllocError>
+        requires fits { AllByRecursion (Fits (frame_in frame.now))
+            (components_in scan.now.components.items) }
+        requires of_frame { AllByRecursion (IsCodingOf (frame_in frame.now))
+            (map coding_in scan.now.components.items) }
+        requires sampling { AllHaveSampling (frame_in frame.now).components }
+        ensures none { IfOk result (λ planes.
+            growing_in planes ≡ no_samples (map coding_in scan.now.components.items)) }
+        ensures growing { IfOk result
+            (GrowsFor (map coding_in scan.now.components.items)) }
+        ensures first { IfOk result
+            (λ planes. is_joint planes ≡ true → IsFirst self.now.planes scan.now) }
+    {
+        let components = frame.components.as_slice();
+        let is_first = self.planes.are_none() && is_whole(scan.pass);
+        if is_first && are_in_order(&scan.components, components.len()) {
+            let rows = frame.mcu_size.height;
+            if let Some(shape) = joint_shape(components, frame.output_size, rows) {
+                return Ok(GrowingPlanes::Joint(JointPlanes::new(alloc, shape)?));
+            }
+        }
+        let planes = empty_planes(alloc, &scan.components, true)?;
+        Ok(GrowingPlanes::Own(planes))
+    }
+
+    /// Adds the planes of a scan of all components of a frame, which are in one buffer.
+    fn add_joint(&mut self, scan: &Scan<'_>, joint: JointPlanes)
+        requires first { IsFirst self.old.planes scan.now }
+        requires full { IsFullJoint joint }
+        requires count { joint.shape.count ≡ length scan.now.components.items }
+        ensures kept { self.new.kept ≡ self.old.kept }
+        ensures samples { self.new.samples ≡ self.old.samples }
+        ensures planes { (base : Found) → with_decoded base self.new
+            ≡ with_planes (pass_in scan.now.pass) (map coding_in scan.now.components.items)
+            (joint_planes joint.shape joint.samples.items) (with_decoded base self.old) }
+    {
+        for coded in &scan.components {
+            finish(scan.pass, &mut self.finished[coded.index]);
+        }
+        self.planes.put_joint(joint);
+    }
+
+    /// Adds the planes of a scan of a sequential frame.
+    #[tactic(auto, using(crate::proofs::JointStrips::full_rules))]
+    fn add_grown(&mut self, scan: &Scan<'_>, planes: GrowingPlanes, alloc: Global)
+        requires indices { All HasIndex scan.now.components.items }
+        requires grown { GrowsFor (map coding_in scan.now.components.items) planes }
+        requires sizes { map length (growing_in planes)
+            ≡ map (λ c. c.blocks_high * c.scale * (c.blocks_wide * c.scale))
+            (components_in scan.now.components.items) }
+        requires first { is_joint planes ≡ true → IsFirst self.old.planes scan.now }
+        ensures kept { self.new.kept ≡ self.old.kept }
+        ensures samples { self.new.samples ≡ self.old.samples }
+        ensures planes { (base : Found) → with_decoded base self.new
+            ≡ with_planes (pass_in scan.now.pass) (map coding_in scan.now.components.items)
+            (growing_in planes) (with_decoded base self.old) }
+    {
+        match planes {
+            GrowingPlanes::Own(mut planes) => self.add_planes(scan, &mut planes, alloc),
+            GrowingPlanes::Joint(joint) => self.add_joint(scan, joint),
+        }
+    }
+
+    /// Adds the blocks of a scan's components.
+    fn add_arrays(
+        &mut self,
+        alloc: Global,
+        scan: &Scan<'_>,
+        arrays: &Vec<Vec<[i16; 64]>>,
+    ) -> std::result::Result<(), AllocError>
+        requires indices { All HasIndex scan.now.components.items }
+        requires blocks { AreArrays (components_in scan.now.components.items)
+            (arrays_in arrays.now.items) }
+        ensures kept { OnOk result (self.new.kept ≡ self.old.kept) }
+        ensures samples { OnOk result (self.new.samples ≡ self.old.samples) }
+        ensures planes { OnOk result ((base : Found) → with_decoded base self.new
+            ≡ with_arrays (pass_in scan.now.pass) (map coding_in scan.now.components.items)
+            (arrays_in arrays.now.items) (with_decoded base self.old)) }
+    {
+        let mut slot = 0;
+        while slot < scan.components.len() {
+            let coded = &scan.components[slot];
+            self.add_blocks(alloc, scan.pass, coded, &arrays[slot])?;
+            slot += 1;
+        }
+        Ok(())
+    }
+
+    /// Holds the blocks of a progressive frame's components: before its first scan, zeros.
+    fn keep(
+        &mut self,
+        alloc: Global,
+        scanned: bool,
+        frame: &FrameInfo,
+    ) -> std::result::Result<(), AllocError>
+        requires process { is_progressive (frame_in frame.now).process ≡ true }
+        ensures kept { OnOk result (arrays_in self.new.kept.items
+            ≡ blocks_before scanned self.old (frame_in frame.now)) }
+        ensures finished { self.new.finished ≡ self.old.finished }
+        ensures planes { self.new.planes ≡ self.old.planes }
+        ensures samples { self.new.samples ≡ self.old.samples }
+    {
+        if !scanned {
+            self.kept = zero_frame(alloc, frame)?;
+        }
+        Ok(())
+    }
+
+    /// Reads a scan of a progressive frame on the blocks that are kept, and returns the marker
+    /// after it, if it was reached.
+    fn read_kept<R: Read + Drop>(
+        &mut self,
+        alloc: Global,
+        source: &mut Source<R>,
+        scanned: bool,
+        frame: &FrameInfo,
+        scan: &Scan<'_>,
+    ) -> Result<Option<Marker>>
+        requires process { is_progressive (frame_in frame.now).process ≡ true }
+        requires keeps { scan.now.keeps_ac ≡ true }
+        requires ready { IsReadable (frame_in frame.now) scan.now }
+        requires kept { AreArrays (frame_in frame.now).components
+            (blocks_before scanned self.old (frame_in frame.now)) }
+        ensures data { (base : Found) → IsBefore scanned scan.now base
+            → Answers (λ m. (once_scanned (with_decoded base self.new), m))
+            (scan_data (with_decoded base self.old) (frame_in frame.now)
+            (pass_in scan.now.pass) (map coding_in scan.now.components.items))
+            source.old result source.new }
+        ensures kept { OnOk result (AreArrays (frame_in frame.now).components
+            (arrays_in self.new.kept.items)) }
+        ensures planes { ArePlanes (frame_in frame.now).components self.old.planes
+            → OnOk result (ArePlanes (frame_in frame.now).components self.new.planes) }
+        ensures samples { OnOk result (self.new.samples ≡ self.old.samples) }
+    {
+        self.keep(alloc, scanned, frame)?;
+        let mut arrays = take_blocks(alloc, &scan.components, &mut self.kept)?;
+        let met = read_blocks(alloc, source, scan, &mut arrays, frame)?;
+        self.add_arrays(alloc, scan, &arrays)?;
+        put_blocks(alloc, &scan.components, &mut arrays, &mut self.kept);
+        Ok(met)
+    }
+
+    /// Returns whether the planes of all components of a scan are decided.
+    fn are_decided(&self, codings: &[Coded<'_>]) -> bool
+        requires indices { All HasIndex codings.now }
+        ensures { result ≡ true → All (λ c. is_some (slice_index_or self.now.planes
+            c.index None) ≡ true) codings.now }
+    {
+        for coded in codings {
+            if !self.planes.has(coded.index) {
+                return false;
+            }
+        }
+        true
+    }
+
+    /// Reads a scan of a sequential frame whose components have planes already, and returns the
+    /// marker after it, if one was reached.
+    ///
+    /// The first scan of a component decides its plane; the blocks of later ones are read, and
+    /// neither transformed nor kept.
+    fn read_again<R: Read + Drop>(
+        &mut self,
+        alloc: Global,
+        source: &mut Source<R>,
+        scanned: bool,
+        frame: &FrameInfo,
+        scan: &Scan<'_>,
+    ) -> Result<Option<Marker>>
+        requires process { is_progressive (frame_in frame.now).process ≡ false }
+        requires ready { IsReadable (frame_in frame.now) scan.now }
+        requires decided { All (λ c. is_some (slice_index_or self.now.planes
+            c.index None) ≡ true) scan.now.components.items }
+        ensures data { (base : Found) → IsBefore scanned scan.now base
+            → Answers (λ m. (once_scanned (with_decoded base self.new), m))
+            (scan_data (with_decoded base self.old) (frame_in frame.now)
+            (pass_in scan.now.pass) (map coding_in scan.now.components.items))
+            source.old result source.new }
+        ensures planes { OnOk result (self.new.planes ≡ self.old.planes) }
+        ensures samples { OnOk result (self.new.samples ≡ self.old.samples) }
+    {
+        let mut none = empty_planes(alloc, &scan.components, false)?;
+        let reached = read_planes(
+            alloc,
+            source,
+            scan,
+            frame,
+            &mut GrowingPlanes::Own(Vec::new(alloc)),
+        )?;
+        self.kept = Vec::new(alloc);
+        self.add_planes(scan, &mut none, alloc);
+        Ok(reached)
+    }
+
+    /// Reads the entropy-coded data of a scan, and returns the marker after it, if it was reached.
+    pub fn read<R: Read + Drop>(
+        &mut self,
+        alloc: Global,
+        source: &mut Source<R>,
+        scanned: bool,
+        frame: &FrameInfo,
+        scan: &Scan<'_>,
+    ) -> Result<Option<Marker>>
+        requires keeps { is_progressive (frame_in frame.now).process ≡ true
+            → scan.now.keeps_ac ≡ true }
+        requires ready { IsReadable (frame_in frame.now) scan.now }
+        requires kept { AreArrays (frame_in frame.now).components
+            (blocks_before scanned self.old (frame_in frame.now)) }
+        ensures data { (base : Found) → IsBefore scanned scan.now base
+            → Answers (λ m. (once_scanned (with_decoded base self.new), m))
+            (scan_data (with_decoded base self.old) (frame_in frame.now)
+            (pass_in scan.now.pass) (map coding_in scan.now.components.items))
+            source.old result source.new }
+        ensures kept { OnOk result (AreArrays (frame_in frame.now).components
+            (blocks_before true self.new (frame_in frame.now))) }
+        ensures planes { ArePlanes (frame_in frame.now).components self.old.planes
+            → OnOk result (ArePlanes (frame_in frame.now).components self.new.planes) }
+        ensures samples { OnOk result (self.new.samples ≡ self.old.samples) }
+    {
+        if is_progressive(frame.coding_process) {
+            return self.read_kept(alloc, source, scanned, frame, scan);
+        }
+        if self.are_decided(&scan.components) {
+            return self.read_again(alloc, source, scanned, frame, scan);
+        }
+        let mut planes = self.start_planes(alloc, frame, scan)?;
+        let reached = read_planes(alloc, source, scan, frame, &mut planes)?;
+        self.kept = Vec::new(alloc);
+        self.add_grown(scan, planes, alloc);
+        Ok(reached)
+    }
+}

@@ -1,0 +1,174 @@
+//! Scans of lossless frames (T.81, B.2.3 and Annex H).
+ghost use Rattle.std.specs.Prelude.{◌≡◌, ◌<◌, ◌==◌, All, IfOk, MatchResult, OnOk, Ok, Some, length};
+ghost use Rattle.std.specs.Prelude.{map, true};
+ghost use Rattle.jpeg_bits.specs.Reading.{Answers, Names};
+ghost use Rattle.jpeg_segments.specs.Frame.{AllHaveSampling};
+ghost use Rattle.jpeg_segments.specs.FrameView.{component_in, frame_in, scan_in};
+ghost use Rattle.jpeg_segments.specs.ScanHeader.{IsScanOf};
+ghost use Rattle.jpeg_segments.specs.declared.frame.CodingProcess.TheVariants.{Lossless};
+ghost use Rattle.jpeg_streams.specs.LosslessScans.{tables_in};
+ghost use Rattle.jpeg_decoder.specs.Seen.{found_of, said_of};
+ghost use Rattle.jpeg_streams.specs.ScanSegments.{once_scanned};
+ghost use Rattle.jpeg_streams.specs.Sound.{IsSound};
+ghost use Rattle.jpeg_decoder.specs.Steps.{IsRefusal, samples_read};
+ghost use Rattle.jpeg_decoder.specs.LosslessParts.{mcus_high, mcus_wide, part_by, parts_at};
+ghost use Rattle.jpeg_lossless.specs.Codings.{part_in};
+
+use crate::scan::decoded::Decoded;
+use crate::scan::restarts::pass_restarts;
+use crate::stream::state::Said;
+use crate::stream::tables::{Missing, needed, table_at};
+use jpeg_bits::error::Result;
+use jpeg_bits::huffman::HuffmanTable;
+use jpeg_bits::marker::Marker;
+use jpeg_bits::scan::ScanInfo;
+use jpeg_bits::source::Source;
+use jpeg_lossless::scan::{Coding, Part, read_scan};
+use jpeg_segments::parser::{Component, FrameInfo};
+use jpeg_segments::sizes::{ceiling, greatest_of};
+use std::alloc::{AllocError, Global};
+use std::io::Read;
+
+/// Returns the identifier of the component in a slot of a scan, or 0 where there is none.
+fn identifier_of(frame: &FrameInfo, header: &ScanInfo, slot: usize) -> u8 {
+    let index = header.component_indices.get(slot).copied();
+    let component = index.and_then(|index| frame.components.get(index));
+    component.map_or(0, |component| component.identifier)
+}
+
+/// Returns the tables in force for the differences of a scan's components. There are no default
+/// ones.
+fn tables_of<'a>(
+    alloc: Global,
+    said: &'a Said,
+    frame: &FrameInfo,
+    header: &ScanInfo,
+) -> Result<Vec<&'a HuffmanTable>>
+    ensures { let expected = tables_in said.now.dc_tables (scan_in header.now).dc_destinations in
+        MatchResult result (λ v. expected ≡ Ok (map (λ t. t.now) v.items))
+        (λ e. IsRefusal e × Names e expected) }
+{
+    let mut tables = Vec::with_capacity(alloc, header.dc_table_indices.len())?;
+    for slot in 0..header.dc_table_indices.len() {
+        let destination = header.dc_table_indices[slot];
+        let identifier = identifier_of(frame, header, slot);
+        let missing = Missing::Table("DC", destination, identifier);
+        let table = table_at(&said.dc_tables, destination);
+        tables.push(needed(alloc, table, missing)?)?;
+    }
+    Ok(tables)
+}
+
+/// Returns what a scan has of a component: one sample an MCU where it is alone in the scan, and
+/// else as many as its factors say (T.81, A.2).
+fn part_of<'a>(component: &Component, is_alone: bool, table: &'a HuffmanTable) -> Part<'a>
+    ensures { part_in result ≡ part_by is_alone (component_in component.now) table.now }
+{
+    Part {
+        table,
+        across: if is_alone {
+            1
+        } else {
+            component.horizontal_sampling_factor
+        },
+        down: if is_alone {
+            1
+        } else {
+            component.vertical_sampling_factor
+        },
+        width: component.size.width,
+        height: component.size.height,
+    }
+}
+
+/// Returns what a scan has of each of its components, which have these tables.
+fn parts_of<'a>(
+    alloc: Global,
+    frame: &FrameInfo,
+    indices: &[usize],
+    tables: &[&'a HuffmanTable],
+) -> std::result::Result<Vec<Part<'a>>, AllocError>
+    requires within { All (λ index. index < length (frame_in frame.now).components) indices.now }
+    requires count { length tables.now ≡ length indices.now }
+    ensures { IfOk result (λ v. map part_in v.items ≡ parts_at (length indices.now == 1)
+        (frame_in frame.now).components indices.now (map (λ t. t.now) tables.now)) }
+{
+    let is_alone = indices.len() == 1;
+    let mut parts = Vec::with_capacity(alloc, indices.len())?;
+    for slot in 0..indices.len() {
+        let component = &frame.components[indices[slot]];
+        parts.push(part_of(component, is_alone, tables[slot]))?;
+    }
+    Ok(parts)
+}
+
+/// Returns how many MCUs a row of a scan has, and how many rows there are: of a component alone,
+/// its samples.
+fn mcus_of(frame: &FrameInfo, indices: &[usize]) -> (u16, u16)
+    requires some { 0 < length indices.now }
+    requires within { All (λ index. index < length (frame_in frame.now).components) indices.now }
+    requires sampling { AllHaveSampling (frame_in frame.now).components }
+    ensures wide { result.0 ≡ mcus_wide (frame_in frame.now) indices.now }
+    ensures high { result.1 ≡ mcus_high (frame_in frame.now) indices.now }
+{
+    if indices.len() == 1 {
+        let size = frame.components[indices[0]].size;
+        return (size.width, size.height);
+    }
+    let (horizontal, vertical) = greatest_of(&frame.components);
+    let wide = ceiling(u32::from(frame.image_size.width), u32::from(horizontal));
+    let high = ceiling(u32::from(frame.image_size.height), u32::from(vertical));
+    (wide as u16, high as u16)
+}
+
+/// Returns how a scan of a frame is coded.
+fn coding_of(frame: &FrameInfo, header: &ScanInfo, restart_interval: u16) -> Coding
+    requires legal { IsScanOf (frame_in frame.now) (scan_in header.now) }
+    requires sampling { AllHaveSampling (frame_in frame.now).components }
+    ensures { result ≡ record {
+      wide = mcus_wide (frame_in frame.now) (scan_in header.now).components;
+      high = mcus_high (frame_in frame.now) (scan_in header.now).components;
+      precision = frame.now.precision;
+      predictor = header.now.predictor_selection;
+      point_transform = header.now.point_transform;
+      restart_interval = restart_interval;
+    } }
+{
+    let (wide, high) = mcus_of(frame, &header.component_indices);
+    Coding {
+        wide,
+        high,
+        precision: frame.precision,
+        predictor: header.predictor_selection,
+        point_transform: header.point_transform,
+        restart_interval,
+    }
+}
+
+/// Reads a scan of a lossless frame by what was said before it, with what the scans before it gave,
+/// and returns the marker after it and after the restart markers at its end, if one was reached.
+/// The samples of the scan replace its components' earlier ones.
+pub fn read_lossless_scan<R: Read + Drop>(
+    alloc: Global,
+    source: &mut Source<R>,
+    said: &Said,
+    frame: &FrameInfo,
+    header: &ScanInfo,
+    decoded: &mut Decoded,
+) -> Result<Option<Marker>>
+    requires sound { IsSound (found_of said.now decoded.old) }
+    requires frame { (said_of said.now).frame ≡ Some (frame_in frame.now) }
+    requires process { (frame_in frame.now).process ≡ Lossless }
+    requires legal { IsScanOf (frame_in frame.now) (scan_in header.now) }
+    ensures reads { Answers (λ m. (once_scanned (found_of said.now decoded.new), m))
+        (samples_read (found_of said.now decoded.old) (frame_in frame.now)
+        (scan_in header.now)) source.old result source.new }
+    ensures sound { OnOk result (IsSound (once_scanned (found_of said.now decoded.new))) }
+{
+    let tables = tables_of(alloc, said, frame, header)?;
+    let parts = parts_of(alloc, frame, &header.component_indices, &tables)?;
+    let coding = coding_of(frame, header, said.restart_interval);
+    let (mut planes, met) = read_scan(alloc, source, coding, &parts)?;
+    decoded.put_samples(alloc, &header.component_indices, &mut planes);
+    pass_restarts(alloc, source, met)
+}

@@ -1,0 +1,73 @@
+//! Sequential scans, whose planes are made row by row of MCUs (T.81, A.2 and F.2).
+ghost use Rattle.std.specs.Prelude.{map, OnOk, length, ◌≡◌, ◌≤◌, ◌*◌};
+ghost use Rattle.std.specs.List.{AllByRecursion};
+ghost use Rattle.jpeg_bits.specs.Reading.{Answers};
+ghost use Rattle.jpeg_segments.specs.FrameView.{frame_in};
+ghost use Rattle.jpeg_streams.specs.InTurn.{Fits};
+ghost use Rattle.jpeg_decoder.specs.Scanning.{scan_pass, scan_vias, scan_components};
+ghost use Rattle.jpeg_decoder.specs.Steps.{coding_in};
+ghost use Rattle.jpeg_decoder.specs.Strips.{no_samples, planes_by_rows};
+ghost use Rattle.jpeg_decoder.specs.GrowingView.{GrowsFor, growing_in, is_joint};
+
+use crate::scan::coded::Scan;
+use crate::scan::order::ScanOrder;
+use crate::scan::blocks::{first_interval, read_spots};
+use crate::scan::strips::{GrowingPlanes, append_strips, clear_rows, row_buffers, sample_tables};
+use jpeg_bits::error::Result;
+use jpeg_bits::marker::Marker;
+use jpeg_bits::source::Source;
+use jpeg_segments::parser::FrameInfo;
+use std::alloc::Global;
+use std::io::Read;
+
+/// Reads a scan of a sequential frame, appends the samples of its blocks to the planes of its
+/// components, and returns the marker after the scan, if one was reached.
+///
+/// The blocks are read from zeros, row by row of MCUs, and those of one row are kept at a time. A
+/// plane has the samples of all blocks of its component, also of those that only fill its last
+/// MCUs. Without planes, the blocks are read and nothing is made of them: so are later scans of
+/// components whose planes are decided.
+/// The errors are those of the source, a refused code or category (T.81, F.2.2), a restart marker
+/// that is missing or out of turn, and out of memory.
+pub fn read_planes<R: Read + Drop>(
+    alloc: Global,
+    source: &mut Source<R>,
+    scan: &Scan<'_>,
+    frame: &FrameInfo,
+    planes: &mut GrowingPlanes,
+) -> Result<Option<Marker>>
+    requires some { 1 ≤ length scan.now.components.items }
+    requires fits { AllByRecursion (Fits (frame_in frame.now)) (scan_components scan.now) }
+    requires planes { GrowsFor (map coding_in scan.now.components.items) planes.old }
+    ensures growing { OnOk result
+        (GrowsFor (map coding_in scan.now.components.items) planes.new) }
+    ensures kind { OnOk result (is_joint planes.new ≡ is_joint planes.old) }
+    ensures sizes { growing_in planes.old ≡ no_samples (map coding_in scan.now.components.items)
+        → OnOk result (map length (growing_in planes.new)
+        ≡ map (λ c. c.blocks_high * c.scale * (c.blocks_wide * c.scale))
+        (scan_components scan.now)) }
+    ensures planes { Answers (λ m. (growing_in planes.new, m))
+        (planes_by_rows (scan_pass scan.now) (scan_vias scan.now) scan.now.restart_interval
+        (frame_in frame.now) (map coding_in scan.now.components.items)
+        (growing_in planes.old))
+        source.old result source.new }
+{
+    let order = ScanOrder::new(alloc, scan, frame)?;
+    let mut interval = first_interval(alloc, order.interval);
+    let mut rows = row_buffers(alloc, &scan.components)?;
+    let tables = sample_tables(alloc, &scan.components)?;
+    for row in 0..order.rows {
+        clear_rows(&mut rows);
+        let mut spots = order.row(row);
+        read_spots(
+            &mut interval,
+            source,
+            scan,
+            &mut rows,
+            order.interval,
+            &mut spots,
+        )?;
+        append_strips(planes, &scan.components, &tables, &rows)?;
+    }
+    interval.decoder.take_marker(source)
+}

@@ -1,0 +1,78 @@
+//! A scan in a stream: its header, the tables in force, its data (T.81, B.2.3), and what may stand
+//! after it.
+ghost use Rattle.jpeg_bits.specs.Reading.{Answers, Names};
+ghost use Rattle.jpeg_decoder.specs.Seen.{found_in};
+ghost use Rattle.jpeg_streams.specs.Sound.{IsSound};
+ghost use Rattle.jpeg_decoder.specs.Steps.{IsRefusal, IsStep, turn_of};
+ghost use Rattle.jpeg_streams.specs.ScanSegments.{scan_segment};
+ghost use Rattle.jpeg_bits.specs.declared.marker.Marker.TheVariants.{DNL};
+ghost use Rattle.jpeg_streams.specs.Found.{Found};
+ghost use Rattle.jpeg_streams.specs.Stream.{segment_at};
+ghost use Rattle.std.specs.Prelude.{List, ℕ};
+
+use crate::scan::codings::{codings_of, pass_of, spare_tables, widen_tables};
+use crate::scan::lossless::read_lossless_scan;
+use crate::scan::restarts::pass_restarts;
+use crate::scan::coded::{Scan, wants_ac};
+use crate::stream::state::{State, Step};
+use crate::stream::tables::{Missing, needed};
+use jpeg_bits::error::{Error, Result, UnsupportedFeature, format_error};
+use jpeg_bits::marker::Marker;
+use jpeg_bits::source::Source;
+use jpeg_segments::parser::{CodingProcess, parse_sos};
+use jpeg_streams::before::Before;
+use std::alloc::Global;
+use std::io::Read;
+
+/// Returns why a DNL segment is refused: after the first scan it would give the height (T.81,
+/// B.2.5).
+#[tactic(auto, unfolding(jpeg_streams::specs::Stream::segment_at))]
+pub fn refused_line_count(alloc: Global, before: Before) -> Error
+    ensures { IsRefusal result × ((found : Found) (bytes : List ℕ) →
+        Names result (segment_at DNL before found bytes)) }
+{
+    match before {
+        Before::FirstScan => Error::Unsupported(UnsupportedFeature::DNL),
+        Before::LaterScan | Before::Elsewhere => {
+            format_error(alloc, "found DNL, expected it only after the first scan")
+        }
+    }
+}
+
+/// Reads a scan, and returns what stands after it: the marker after it and after the restart
+/// markers at its end, if one was reached. An error may leave a part of what the scan gave.
+pub fn read_scan<R: Read + Drop>(
+    alloc: Global,
+    source: &mut Source<R>,
+    state: &mut State,
+) -> Result<Step>
+    requires sound { IsSound (found_in state.old) }
+    ensures reads { Answers (turn_of state.new) (scan_segment (found_in state.old)) source.old
+        result source.new }
+    ensures steps { IsStep (found_in state.old) result (found_in state.new) }
+{
+    widen_tables(alloc, state)?;
+    let said = &state.said;
+    let frame = needed(alloc, said.frame.as_ref(), Missing::Frame(Marker::SOS))?;
+    let header = parse_sos(alloc, source, frame)?;
+    if frame.coding_process == CodingProcess::Lossless {
+        let met = read_lossless_scan(alloc, source, said, frame, &header, &mut state.decoded)?;
+        return Ok(state.end_scan(met));
+    }
+    let spare = spare_tables(alloc, &header, frame, said.metadata.avi1)?;
+    let components = codings_of(alloc, said, &spare, frame, &header)?;
+    let pass = pass_of(&header);
+    let scan = Scan {
+        pass,
+        restart_interval: said.restart_interval,
+        keeps_ac: wants_ac(frame.coding_process, pass, &components),
+        components,
+    };
+    let reached = state
+        .decoded
+        .read(alloc, source, said.scanned, frame, &scan)?;
+    // It borrows from `state`, which changes now.
+    drop(scan);
+    let met = pass_restarts(alloc, source, reached)?;
+    Ok(state.end_scan(met))
+}

@@ -1,0 +1,212 @@
+//! Planes, as they grow by rows of blocks: in a sequential scan row by row of MCUs (T.81, A.2).
+ghost use Rattle.std.specs.Prelude.{map, length, pos, replicate, IfOk, OnOk};
+ghost use Rattle.std.specs.Prelude.{◌≡◌, ◌≤◌, ◌<◌, ◌*◌, ◌++◌};
+ghost use Rattle.std.specs.List.{concat};
+ghost use Rattle.jpeg_bits.specs.BlockView.{to_block};
+ghost use Rattle.jpeg_bits.specs.Zigzag.{values_in_block_order};
+ghost use Rattle.jpeg_pixels.specs.Planes.{plane_of};
+ghost use Rattle.jpeg_pixels.specs.Scaled.{IsScale};
+ghost use Rattle.jpeg_streams.specs.Rasters.{in_raster};
+ghost use Rattle.jpeg_decoder.specs.Scanning.{arrays_in, sizes_of};
+ghost use Rattle.jpeg_decoder.specs.Steps.{coding_in};
+ghost use Rattle.jpeg_decoder.specs.Strips.{no_samples, plane_lists, row_sizes, zeros_of};
+ghost use Rattle.jpeg_decoder.specs.Strips.{strips_of, tables_of, with_strips};
+ghost use Rattle.jpeg_decoder.specs.GrowingView.{GrowsFor, growing_in, is_joint};
+
+use crate::scan::coded::Coded;
+use jpeg_pixels::joint_planes::JointPlanes;
+use jpeg_pixels::plane::{SampleTable, append_strip};
+use jpeg_pixels::zigzag::values_in_order;
+use jpeg_segments::parser::Component;
+use std::alloc::{AllocError, Global};
+
+/// Returns room for the blocks of a row of MCUs: for each component of a scan as many as it has in
+/// one.
+pub fn row_buffers(alloc: Global, codings: &[Coded<'_>]) -> Result<Vec<Vec<[i16; 64]>>, AllocError>
+    ensures { IfOk result (λ v. sizes_of v.items ≡ row_sizes codings.now) }
+{
+    let mut rows = Vec::with_capacity(alloc, codings.len())?;
+    for coded in codings {
+        let component = coded.component;
+        let high = usize::from(component.vertical_sampling_factor);
+        let count = high * usize::from(component.block_size.width);
+        rows.push(vec![in alloc; [0; 64]; count]?)?;
+    }
+    Ok(rows)
+}
+
+/// Makes blocks blocks of zeros.
+fn clear_blocks(blocks: &mut [[i16; 64]])
+    ensures { blocks.new ≡ replicate (length blocks.old) (replicate 64 (pos 0)) }
+{
+    for block in blocks.iter_mut() {
+        *block = [0; 64];
+    }
+}
+
+/// Makes all blocks of a row of MCUs blocks of zeros.
+pub fn clear_rows(rows: &mut Vec<Vec<[i16; 64]>>)
+    ensures sizes { sizes_of rows.new.items ≡ sizes_of rows.old.items }
+    ensures zeros { arrays_in rows.new.items ≡ zeros_of (sizes_of rows.old.items) }
+{
+    for row in rows.iter_mut() {
+        clear_blocks(row);
+    }
+}
+
+/// Returns the number of samples of a plane of some blocks across and down, of `scale` samples a
+/// side.
+pub fn plane_size(wide: u16, high: u16, scale: usize) -> usize
+    requires { scale ≤ 8 }
+{
+    usize::from(wide) * scale * (usize::from(high) * scale)
+}
+
+/// Makes a plane without samples for each component of a scan, with room for all of them if
+/// `has_room`.
+pub fn empty_planes(
+    alloc: Global,
+    codings: &[Coded<'_>],
+    has_room: bool,
+) -> Result<Vec<Vec<u8>>, AllocError>
+    ensures { IfOk result (λ v. plane_lists v.items ≡ no_samples (map coding_in codings.now)) }
+{
+    let mut planes = Vec::with_capacity(alloc, codings.len())?;
+    for coded in codings {
+        let mut plane = Vec::new(alloc);
+        if has_room {
+            let blocks = coded.component.block_size;
+            let size = plane_size(blocks.width, blocks.height, coded.component.dct_scale);
+            plane = Vec::with_capacity(alloc, size)?;
+        }
+        planes.push(plane)?;
+    }
+    Ok(planes)
+}
+
+/// Makes the table by which a component's blocks are transformed, of its quantization table in
+/// zigzag order.
+pub fn sample_table(quantization: &[u16; 64]) -> SampleTable
+    ensures { result ≡ values_in_block_order quantization.now }
+{
+    SampleTable::new(&values_in_order(quantization))
+}
+
+/// Makes the tables of a scan's components.
+pub fn sample_tables(alloc: Global, codings: &[Coded<'_>]) -> Result<Vec<SampleTable>, AllocError>
+    ensures { IfOk result (λ v. v.items ≡ tables_of codings.now) }
+{
+    let mut tables = Vec::with_capacity(alloc, codings.len())?;
+    for coded in codings {
+        tables.push(sample_table(coded.quantization))?;
+    }
+    Ok(tables)
+}
+
+/// Appends the samples of `high` rows of a component's blocks, which stand in raster order, to its
+/// plane, by the component's quantization table in block order.
+pub fn append_rows(
+    plane: &mut Vec<u8>,
+    component: &Component,
+    table: &SampleTable,
+    blocks: &[[i16; 64]],
+    high: u16,
+) -> Result<(), AllocError>
+    requires scale { IsScale component.now.dct_scale }
+    requires size { length blocks.now ≡ high * component.now.block_size.width }
+    ensures { OnOk result (plane.new.items ≡ plane.old.items
+        ++ plane_of component.now.dct_scale table.now component.now.block_size.width high
+        (in_raster component.now.block_size.width (map to_block blocks.now))) }
+{
+    let wide = usize::from(component.block_size.width);
+    let mut rest = blocks;
+    for _ in 0..high {
+        let (row, others) = rest.split_at(wide);
+        append_strip(plane, component.dct_scale, row, table)?;
+        rest = others;
+    }
+    Ok(())
+}
+
+/// Planes that grow by rows of MCUs.
+#[derive(Drop)]
+pub enum GrowingPlanes {
+    /// Each in memory of its own, one a component of the scan, or none at all.
+    Own(Vec<Vec<u8>>),
+    /// Those of like components in one buffer.
+    Joint(JointPlanes),
+}
+
+/// Appends the samples of the blocks of a row of MCUs to planes in memory of their own, if any.
+fn append_to_each(
+    planes: &mut [Vec<u8>],
+    codings: &[Coded<'_>],
+    tables: &[SampleTable],
+    rows: &[Vec<[i16; 64]>],
+) -> Result<(), AllocError>
+    requires planes { 0 < length planes.old → length planes.old ≡ length codings.now }
+    requires tables { tables.now ≡ tables_of codings.now }
+    requires sizes { sizes_of rows.now ≡ row_sizes codings.now }
+    ensures { OnOk result (plane_lists planes.new
+        ≡ with_strips (map coding_in codings.now) (arrays_in rows.now) (plane_lists planes.old)) }
+{
+    if planes.is_empty() {
+        return Ok(());
+    }
+    for slot in 0..codings.len() {
+        let coded = &codings[slot];
+        let component = coded.component;
+        let high = u16::from(component.vertical_sampling_factor);
+        append_rows(
+            &mut planes[slot],
+            component,
+            &tables[slot],
+            &rows[slot],
+            high,
+        )?;
+    }
+    Ok(())
+}
+
+/// Appends the samples of the blocks of a row of MCUs to planes in one buffer.
+fn append_to_room(
+    samples: &mut Vec<u8>,
+    codings: &[Coded<'_>],
+    tables: &[SampleTable],
+    rows: &[Vec<[i16; 64]>],
+) -> Result<(), AllocError>
+    requires tables { tables.now ≡ tables_of codings.now }
+    requires sizes { sizes_of rows.now ≡ row_sizes codings.now }
+    ensures { OnOk result (samples.new.items ≡ samples.old.items
+        ++ concat (strips_of (map coding_in codings.now) (arrays_in rows.now))) }
+{
+    for slot in 0..codings.len() {
+        let coded = &codings[slot];
+        let component = coded.component;
+        let high = u16::from(component.vertical_sampling_factor);
+        append_rows(samples, component, &tables[slot], &rows[slot], high)?;
+    }
+    Ok(())
+}
+
+/// Appends the samples of the blocks of a row of MCUs to the planes of a scan's components, if
+/// there are any.
+pub fn append_strips(
+    planes: &mut GrowingPlanes,
+    codings: &[Coded<'_>],
+    tables: &[SampleTable],
+    rows: &[Vec<[i16; 64]>],
+) -> Result<(), AllocError>
+    requires planes { GrowsFor (map coding_in codings.now) planes.old }
+    requires tables { tables.now ≡ tables_of codings.now }
+    requires sizes { sizes_of rows.now ≡ row_sizes codings.now }
+    ensures strips { OnOk result (growing_in planes.new
+        ≡ with_strips (map coding_in codings.now) (arrays_in rows.now) (growing_in planes.old)) }
+    ensures growing { OnOk result (GrowsFor (map coding_in codings.now) planes.new) }
+    ensures kind { is_joint planes.new ≡ is_joint planes.old }
+{
+    match planes {
+        GrowingPlanes::Own(planes) => append_to_each(planes, codings, tables, rows),
+        GrowingPlanes::Joint(joint) => append_to_room(&mut joint.samples, codings, tables, rows),
+    }
+}

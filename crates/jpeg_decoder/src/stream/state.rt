@@ -1,0 +1,265 @@
+//! What the segments of a stream have said so far, and the segments (T.81, B.2).
+ghost use Rattle.std.specs.Prelude.{◌≡◌, true};
+ghost use Rattle.jpeg_segments.specs.HuffmanTables.{all_ac};
+
+use crate::scan::decoded::Decoded;
+use crate::stream::frames::check_frame;
+use crate::stream::metadata::Metadata;
+use crate::stream::tables::update;
+use jpeg_bits::error::{Error, Result, UnsupportedFeature, format_error, format_error_of};
+use jpeg_bits::huffman::HuffmanTable;
+use jpeg_bits::marker::Marker;
+use jpeg_bits::source::reads::{read_length, skip};
+use jpeg_bits::source::Source;
+use jpeg_segments::parser::{FrameInfo, parse_app, parse_dht, parse_dqt, parse_dri, parse_sof};
+use jpeg_streams::before::Before;
+use std::alloc::Global;
+use std::io::Read;
+
+/// What the segments of a stream have said so far: the frame, the tables in force by their
+/// destinations, and metadata.
+#[derive(Drop)]
+pub struct Said {
+    /// The frame, once its header was accepted.
+    pub frame: Option<FrameInfo>,
+    /// The quantization tables in force, in zigzag order.
+    pub quantization: [Option<[u16; 64]>; 4],
+    /// The tables of DC coefficients in force.
+    pub dc_tables: [Option<HuffmanTable>; 4],
+    /// The tables of AC coefficients in force.
+    pub ac_tables: [Option<HuffmanTable>; 4],
+    /// The restart interval in MCUs; 0 is none.
+    pub restart_interval: u16,
+    /// Whether a scan was read.
+    pub scanned: bool,
+    /// What the segments of applications have said.
+    pub metadata: Metadata,
+
+    // Each AC table is of class AC.
+    ghost ac_classes: { all_ac ac_tables ≡ true },
+}
+
+/// What was found in a stream so far.
+#[derive(Drop)]
+pub struct State {
+    /// What its segments have said.
+    pub said: Said,
+    /// What its scans have decoded.
+    pub decoded: Decoded,
+}
+
+/// What stands after a segment: what stands before the next marker, that marker, if it was reached
+/// already, and whether the image has ended.
+#[derive(Clone, Copy, Debug, PartialEq)]
+pub struct Step {
+    /// What stands before the next marker.
+    pub before: Before,
+    /// The next marker, if it was reached already.
+    pub met: Option<Marker>,
+    /// Whether the image has ended.
+    pub ended: bool,
+}
+
+/// What stands after a segment that ends before the next marker.
+const ONWARD: Step = Step {
+    before: Before::Elsewhere,
+    met: None,
+    ended: false,
+};
+
+impl State {
+    ghost use Rattle.std.specs.Prelude.{◌≡◌, false};
+    ghost use Rattle.jpeg_bits.specs.Reading.{Answers};
+    ghost use Rattle.jpeg_bits.specs.declared.marker.Marker.TheVariants.{RST};
+    ghost use Rattle.jpeg_streams.specs.Segments.{quantization_segment, frame_segment};
+    ghost use Rattle.jpeg_streams.specs.Segments.{restart_segment, huffman_segment};
+    ghost use Rattle.jpeg_streams.specs.Segments.{skipped_segment, application_segment};
+    ghost use Rattle.jpeg_streams.specs.Found.{nothing_found};
+    ghost use Rattle.jpeg_streams.specs.ScanSegments.{once_scanned, scan_before};
+    ghost use Rattle.jpeg_streams.specs.Stream.{end_segment, segment_at};
+    ghost use Rattle.jpeg_decoder.specs.Seen.{found_in};
+    ghost use Rattle.jpeg_decoder.specs.Steps.{IsStep, turn_of};
+
+    /// Makes the state at the start of a stream.
+    #[tactic(auto, unfolding(crate::proofs::Rules::nothing))]
+    pub fn new(alloc: Global) -> State
+        ensures { found_in result ≡ nothing_found }
+    {
+        State {
+            said: Said {
+                frame: None,
+                quantization: [None; 4],
+                dc_tables: [None, None, None, None],
+                ac_tables: [None, None, None, None],
+                restart_interval: 0,
+                scanned: false,
+                metadata: Metadata::new(alloc),
+            },
+            decoded: Decoded::new(alloc),
+        }
+    }
+
+    /// Reads a frame header (T.81, B.2.2).
+    #[tactic(auto, unfolding(jpeg_streams::specs::Segments::frame_segment))]
+    pub fn read_frame<R: Read + Drop>(
+        &mut self,
+        alloc: Global,
+        source: &mut Source<R>,
+        number: u8,
+    ) -> Result<Step>
+        ensures reads { Answers (turn_of self.new) (frame_segment number (found_in self.old))
+            source.old result source.new }
+        ensures steps { IsStep (found_in self.old) result (found_in self.new) }
+    {
+        if self.said.frame.is_some() {
+            return Err(Error::Unsupported(UnsupportedFeature::Hierarchical));
+        }
+        let frame = parse_sof(alloc, source, Marker::SOF(number))?;
+        check_frame(alloc, &frame)?;
+        self.said.frame = Some(frame);
+        Ok(ONWARD)
+    }
+
+    /// Reads quantization tables (T.81, B.2.4.1).
+    #[tactic(auto, using(jpeg_streams::proofs::Soundness::sound_kept))]
+    pub fn read_quantization<R: Read + Drop>(
+        &mut self,
+        alloc: Global,
+        source: &mut Source<R>,
+    ) -> Result<Step>
+        ensures reads { Answers (turn_of self.new) (quantization_segment (found_in self.old))
+            source.old result source.new }
+        ensures steps { IsStep (found_in self.old) result (found_in self.new) }
+    {
+        let mut tables = parse_dqt(alloc, source)?;
+        update(&mut self.said.quantization, &mut tables);
+        Ok(ONWARD)
+    }
+
+    /// Reads Huffman tables (T.81, B.2.4.2).
+    #[tactic(auto, using(jpeg_streams::proofs::Soundness::sound_kept))]
+    pub fn read_huffman<R: Read + Drop>(
+        &mut self,
+        alloc: Global,
+        source: &mut Source<R>,
+    ) -> Result<Step>
+        ensures reads { Answers (turn_of self.new) (huffman_segment (found_in self.old)) source.old
+            result source.new }
+        ensures steps { IsStep (found_in self.old) result (found_in self.new) }
+    {
+        let is_baseline = self.said.frame.as_ref().map(|frame| frame.is_baseline);
+        let (mut dc_tables, mut ac_tables) = parse_dht(alloc, source, is_baseline)?;
+        let said = &mut self.said;
+        update(&mut said.dc_tables, &mut dc_tables);
+        update(&mut said.ac_tables, &mut ac_tables);
+        Ok(ONWARD)
+    }
+
+    /// Reads a restart interval (T.81, B.2.4.4).
+    #[tactic(auto, using(jpeg_streams::proofs::Soundness::sound_kept))]
+    pub fn read_restart_interval<R: Read + Drop>(
+        &mut self,
+        alloc: Global,
+        source: &mut Source<R>,
+    ) -> Result<Step>
+        ensures reads { Answers (turn_of self.new) (restart_segment (found_in self.old)) source.old
+            result source.new }
+        ensures steps { IsStep (found_in self.old) result (found_in self.new) }
+    {
+        self.said.restart_interval = parse_dri(alloc, source)?;
+        Ok(ONWARD)
+    }
+
+    /// Reads data of an application (T.81, B.2.4.6).
+    #[tactic(auto, using(jpeg_streams::proofs::Soundness::sound_kept))]
+    pub fn read_application<R: Read + Drop>(
+        &mut self,
+        alloc: Global,
+        source: &mut Source<R>,
+        number: u8,
+    ) -> Result<Step>
+        ensures reads { Answers (turn_of self.new) (application_segment number (found_in self.old))
+            source.old result source.new }
+        ensures steps { IsStep (found_in self.old) result (found_in self.new) }
+    {
+        let said = parse_app(alloc, source, Marker::APP(number))?;
+        self.said.metadata.add(said)?;
+        Ok(ONWARD)
+    }
+
+    /// Skips a segment.
+    pub fn skip_segment<R: Read + Drop>(
+        &self,
+        alloc: Global,
+        source: &mut Source<R>,
+    ) -> Result<Step>
+        ensures reads { Answers (turn_of self.now) (skipped_segment (found_in self.now)) source.old
+            result source.new }
+        ensures steps { IsStep (found_in self.now) result (found_in self.now) }
+    {
+        let length = read_length(alloc, source)?;
+        skip(alloc, source, length)?;
+        Ok(ONWARD)
+    }
+
+    /// Ends the image, which needs a frame.
+    #[tactic(auto, unfolding(jpeg_streams::specs::Stream::end_segment))]
+    pub fn end<R: Read + Drop>(&self, alloc: Global, source: &mut Source<R>) -> Result<Step>
+        ensures reads { Answers (turn_of self.now) (end_segment (found_in self.now)) source.old
+            result source.new }
+        ensures steps { IsStep (found_in self.now) result (found_in self.now) }
+    {
+        if self.said.frame.is_none() {
+            return Err(format_error(alloc, "found EOI, expected a frame header"));
+        }
+        Ok(Step {
+            before: Before::Elsewhere,
+            met: None,
+            ended: true,
+        })
+    }
+
+    /// Marks that a scan was read, and returns what stands after it: this marker, if one was
+    /// reached.
+    pub fn end_scan(&mut self, met: Option<Marker>) -> Step
+        ensures { turn_of self.new result ≡ record {
+          found = once_scanned (found_in self.old);
+          before = scan_before (found_in self.old);
+          met = met;
+          ended = false;
+        } }
+    {
+        let before = if self.said.scanned {
+            Before::LaterScan
+        } else {
+            Before::FirstScan
+        };
+        self.said.scanned = true;
+        Step {
+            before,
+            met,
+            ended: false,
+        }
+    }
+
+    /// Ignores a restart marker after a scan, once.
+    #[tactic(auto, unfolding(jpeg_streams::specs::Stream::segment_at))]
+    pub fn stray_restart<R: Read + Drop>(
+        &self,
+        alloc: Global,
+        source: &mut Source<R>,
+        number: u8,
+        before: Before,
+    ) -> Result<Step>
+        ensures reads { Answers (turn_of self.now)
+            (segment_at (RST number) before (found_in self.now)) source.old result source.new }
+        ensures steps { IsStep (found_in self.now) result (found_in self.now) }
+    {
+        match before {
+            Before::FirstScan | Before::LaterScan => Ok(ONWARD),
+            Before::Elsewhere => Err(format_error_of(format!(in alloc;
+                "found RST{number} outside a scan, expected the marker of a segment"
+            ))),
+        }
+    }
+}

@@ -1,0 +1,118 @@
+//! A stream, segment by segment, with the scans in their place (T.81, B.2).
+ghost use Rattle.std.specs.Prelude.{◌≡◌, ◌&&◌, true, is_some, None, OnOk, IfOk, suc, length};
+ghost use Rattle.jpeg_bits.specs.Marker.{found_or, next_marker};
+ghost use Rattle.jpeg_bits.specs.Reading.{Answers, IsShort};
+ghost use Rattle.jpeg_streams.specs.declared.before.Before.TheVariants.{Elsewhere};
+ghost use Rattle.jpeg_streams.specs.Reported.{IsOfTurns, told_in_turns};
+ghost use Rattle.jpeg_streams.specs.Sound.{IsSound, IsUnread};
+ghost use Rattle.jpeg_streams.specs.States.{OnTold};
+ghost use Rattle.jpeg_streams.specs.Stream.{segments_at, told_of, turn_at};
+ghost use Rattle.jpeg_decoder.specs.Seen.{found_in, said_in};
+ghost use Rattle.jpeg_decoder.specs.Steps.{IsStep, turn_of};
+
+use crate::scan::segment::{read_scan, refused_line_count};
+use crate::stream::state::{State, Step};
+use jpeg_bits::error::{Error, Result, UnsupportedFeature, format_error, format_error_of};
+use jpeg_bits::marker::{Marker, read_marker};
+use jpeg_bits::source::Source;
+use jpeg_streams::before::Before;
+use std::alloc::Global;
+use std::io::Read;
+
+/// Reads the marker that was reached, or else the next.
+fn marker_or_next<R: Read + Drop>(
+    alloc: Global,
+    source: &mut Source<R>,
+    met: Option<Marker>,
+) -> Result<Marker>
+    ensures answers { Answers (λ m. m) (λ bytes. found_or met bytes (next_marker bytes))
+        source.old result source.new }
+    ensures short { met ≡ None → IsShort source.old }
+{
+    match met {
+        Some(marker) => Ok(marker),
+        None => read_marker(alloc, source),
+    }
+}
+
+/// Reads one marker, which may have been reached already, and what stands after it.
+#[tactic(auto, unfolding(crate::proofs::Rules::turns))]
+fn read_turn<R: Read + Drop>(
+    alloc: Global,
+    source: &mut Source<R>,
+    state: &mut State,
+    before: Before,
+    met: Option<Marker>,
+) -> Result<Step>
+    requires sound { IsSound (found_in state.old) }
+    ensures reads { Answers (turn_of state.new) (turn_at before (found_in state.old) met)
+        source.old result source.new }
+    ensures steps { IsStep (found_in state.old) result (found_in state.new) }
+    ensures short { met ≡ None → IsShort source.old }
+{
+    let marker = marker_or_next(alloc, source, met)?;
+    match marker {
+        Marker::SOF(number) => state.read_frame(alloc, source, number),
+        Marker::DQT => state.read_quantization(alloc, source),
+        Marker::DHT => state.read_huffman(alloc, source),
+        Marker::SOS => read_scan(alloc, source, state),
+        Marker::EOI => state.end(alloc, source),
+        Marker::DRI => state.read_restart_interval(alloc, source),
+        Marker::APP(number) => state.read_application(alloc, source, number),
+        Marker::COM => state.skip_segment(alloc, source),
+        Marker::RST(number) => state.stray_restart(alloc, source, number, before),
+        Marker::DNL => Err(refused_line_count(alloc, before)),
+        Marker::DAC => Err(Error::Unsupported(UnsupportedFeature::ArithmeticEntropyCoding)),
+        Marker::DHP | Marker::EXP => Err(Error::Unsupported(UnsupportedFeature::Hierarchical)),
+        _ => Err(format_error_of(format!(in alloc;
+            "found {marker}, expected the marker of a segment"
+        ))),
+    }
+}
+
+/// Returns whether the frame was read, where the header is wanted alone.
+fn is_read_for(state: &State, header: bool) -> bool
+    ensures { result ≡ (header && is_some (said_in state.now).frame) }
+{
+    header && state.said.frame.is_some()
+}
+
+/// Reads segments and scans up to the end of the image, or, where the header is wanted alone,
+/// through the frame's segment.
+pub fn read_segments<R: Read + Drop>(
+    alloc: Global,
+    source: &mut Source<R>,
+    state: &mut State,
+    header: bool,
+) -> Result<()>
+    requires sound { IsSound (found_in state.old) }
+    ensures reads { Answers (λ _. found_in state.new)
+        (segments_at header Elsewhere (found_in state.old) None) source.old result source.new }
+    ensures told { OnTold source.old source.new result (told_of (said_in state.new)
+        ≡ told_in_turns (suc (length source.old.bytes)) header (found_in state.old)
+        source.old.bytes) }
+    ensures turns { source.old.known ≡ true → IsOfTurns
+        (λ n. told_in_turns n header (found_in state.old) source.old.bytes)
+        (told_of (said_in state.new)) }
+    ensures framed { IfOk result (λ _. is_some (said_in state.new).frame ≡ true) }
+    ensures stays { is_some (said_in state.old).frame ≡ true → (said_in state.new).frame
+        ≡ (said_in state.old).frame }
+    ensures sound { IsSound (found_in state.old) → OnOk result (IsSound (found_in state.new)) }
+    ensures unread { header ≡ true → (said_in state.old).frame ≡ None
+        → OnOk result (IsUnread (found_in state.new)) }
+{
+    let mut before = Before::Elsewhere;
+    let mut met = None;
+    for _ in 0..=u64::MAX {
+        if is_read_for(state, header) {
+            return Ok(());
+        }
+        let step = read_turn(alloc, source, state, before, met)?;
+        if step.ended {
+            return Ok(());
+        }
+        before = step.before;
+        met = step.met;
+    }
+    Err(format_error(alloc, "found 2^64 markers, expected EOI"))
+}
