@@ -1,16 +1,16 @@
 #!/usr/bin/env python3
-"""Lists the definitions of crates/*/specs that the public clauses rest on: what has to be believed.
+"""Lists the definitions in crates/*/specs that the public clauses rest on: what has to be believed.
 
     docs/believed.py            counts and names by file
     docs/believed.py --table    the generated part of docs/REVIEW.md
     docs/believed.py --shared   that of docs/SHARED.md: what writer, reader and picture share
-    docs/believed.py --check    fails with a diff where a page differs from what this computes, or
-                                where what is written rests on what a reader answers
+    docs/believed.py --check    fails with a diff if a page differs from what this computes, or if
+                                what is written rests on what a reader answers
     docs/believed.py --write    writes both parts into the pages
 
-It goes by names: a definition reaches each name of its text that its file defines or imports, a
-constructor its type, and `do` the `>>=` of its file. A variable that is spelled like a definition
-in scope counts as that. Lines are counted without comments, imports and blank ones.
+It follows names: a definition reaches each name in its text that its file defines or imports, a
+constructor its type, and `do` the `>>=` of its file. A variable spelled like a definition in scope
+counts as that definition. Comments, imports and blank lines are not counted.
 """
 import difflib
 import re
@@ -27,8 +27,8 @@ LAWS = {
     "jpeg_pixels/src/laws": "laws::",
     "jpeg_lossless/src/laws": "laws::",
     "jpeg_evidence/src/worked": "",
-    "jpeg_decoder/src/headline": "headline::",
-    "jpeg_decoder/src/lossless_laws": "lossless_laws::",
+    "jpeg_decoder/src/laws/headline": "laws::headline::",
+    "jpeg_decoder/src/laws/lossless": "laws::lossless::",
 }
 STREAMS = {
     "known_streams": """jpeg_bits Reading Marker Entropy Readers Codes Bands Passes Intervals,
@@ -43,12 +43,14 @@ STREAMS = {
     "known_crops": "jpeg_pixels Planes",
     "known_applications": "jpeg_bits DefaultTables, jpeg_segments Application",
     "laws::known_interleaved_scans": "jpeg_lossless Prediction Differences Scans",
-    "headline::worked_images_are_written": """jpeg_bits Written, jpeg_segments WrittenSegments
+    "laws::headline::worked_images_are_written": """jpeg_bits Written, jpeg_segments WrittenSegments
         ScanHeaders, jpeg_streams Levels WrittenData WrittenScans SaidSegments WrittenStreams
         WrittenImages""",
-    "lossless_laws::worked_samples_are_written": """jpeg_lossless Written, jpeg_streams
+    "laws::lossless::worked_samples_are_written": """jpeg_lossless Written, jpeg_streams
         LosslessScans WrittenLossless""",
 }
+# The modules of jpeg_decoder that state the theorems.
+THEOREMS = ["laws/headline", "laws/lossless"]
 # What the parts that write, read and picture begin with.
 WRITER = ["jpeg_streams.WrittenImages.WritesImage", "jpeg_streams.WrittenLossless.WritesSamples"]
 READER = [
@@ -77,7 +79,7 @@ def without_comments(text):
 def imports(text, keyword):
     """For each name that a file imports of specs/, the file it is of and its name there."""
     scope = {}
-    path = r" Rattle\.(\w+)\.specs\.(\w+|declared\.\w+\.\w+)(?:\.TheVariants)?"
+    path = r" Rattle\.(\w+)\.specs\.(\w+|declared(?:\.[a-z]\w*)+\.[A-Z]\w*)(?:\.TheVariants)?"
     form = r"(?m)^\s*" + keyword + path + r"(?:\.\{([^}]*)\}| as (\w+))"
     for crate, module, names, alias in re.findall(form, without_comments(text)):
         for entry in filter(None, map(str.strip, names.split(","))):
@@ -182,10 +184,10 @@ def believed(specs):
     """What the clauses of `Decoder`, `run` and `report` reach, and what those of the laws add."""
     of = {
         name: specs.seeds("jpeg_decoder/src/" + name, r"\w+")
-        for name in ["decoder", "run", "headline", "lossless_laws"]
+        for name in ["decoder", "run", *THEOREMS]
     }
     calls = specs.reached(of["decoder"] | of["run"])
-    return calls, specs.reached(of["headline"] | of["lossless_laws"]) - calls
+    return calls, specs.reached(set().union(*(of[name] for name in THEOREMS))) - calls
 
 
 def computed_on(specs):
@@ -207,7 +209,7 @@ def computed_on(specs):
 
 def rows(specs, keys, on):
     """A table of some definitions by file, and of the laws that compute them."""
-    yield "| Of `specs/` | What it says | Definitions | Lines | Computed by |"
+    yield "| File of `specs/` | What it says | Definitions | Lines | Computed by |"
     yield "|---|---|---|---|---|"
     for file, (names, lines) in specs.by_file(keys).items():
         count = f"{len(names)} of {sum(of == file for of, _ in specs.text)}"
@@ -223,7 +225,7 @@ def table(specs):
     yield from ["", *rows(specs, calls, on), ""]
     types = ", ".join(f"`{name}`" for name in specs.types(calls))
     yield from [*textwrap.wrap(f"They name these types of the code: {types}.", 100), ""]
-    yield f"The laws in `headline` and `lossless_laws` reach {specs.total(laws)} more:"
+    yield f"`laws::headline` and `laws::lossless` reach {specs.total(laws)} more:"
     yield from ["", *rows(specs, laws, {}), "", "Neither reaches the other files:", ""]
     files = {file for file, _ in calls | laws}
     for crate in CRATES:
@@ -247,7 +249,7 @@ def shared(specs):
         yield f"{what} (" + ", ".join(f"`{name.split('.')[2]}`" for name in names) + ") rests on"
         yield f"{specs.total(under)}."
         yield from [f"Of these {specs.total(both)} are under `meaning` too:", ""]
-        yield from ["| Of `specs/` | What it says | Shared | Lines |", "|---|---|---|---|"]
+        yield from ["| File of `specs/` | What it says | Shared | Lines |", "|---|---|---|---|"]
         for file, (names, lines) in specs.by_file(both).items():
             listed = ", ".join(f"`{name}`" for name in names)
             yield f"| {file[0]} `{file[1]}` | {specs.says[file]} | {listed} | {lines} |"
@@ -255,7 +257,8 @@ def shared(specs):
 
 
 def listing(specs):
-    for what, keys in zip(["Decoder, run, report", "headline, lossless_laws"], believed(specs)):
+    parts = ["Decoder, run, report", "laws::headline, laws::lossless"]
+    for what, keys in zip(parts, believed(specs)):
         yield f"{what}: {specs.total(keys)}"
         for (crate, module), (names, lines) in specs.by_file(keys).items():
             yield f"  {crate} {module} {lines}: {' '.join(names)}"

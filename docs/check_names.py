@@ -1,9 +1,9 @@
 #!/usr/bin/env python3
-"""Checks that what the pages name in backticks is there: fails at a word that no source has.
+"""Checks that everything the pages name in backticks exists: fails for a word that no source has.
 
-Sources are the words of all code, without comments and texts, and the paths of all files. Blocks of
-code in a page and bytes in hex are passed over; what is no name of this repository stands in
-OTHERS.
+Sources are the words of all code, without comments and string literals, and the paths of all files.
+Code blocks in a page and bytes in hex are skipped; OTHERS lists what isn't a name of this
+repository.
 """
 import re
 import subprocess
@@ -12,11 +12,13 @@ from pathlib import Path
 
 ROOT = Path(__file__).resolve().parent.parent
 # Names of other programs, of T.81 and of Rust, and words that a page explains itself.
-OTHERS = """doc give_up HEX WORD WRONG __xpg_strerror_r Ah Al axioms Box ceil clone coef_bits compute_image_parallel cur_comp_info
-    DCT_scaled_size dyn EOBRUN ERREXIT FORMAT Hmax JBLOCK jpeg_decompress_struct last_dc_val
-    ljpeg LOSSLESS malloc MCU_membership non_exhaustive perf plant Pt random_tests_tests
-    rattle_alloc rattle_dealloc rattle_errno rattle_realloc read_markers realloc ROW Se Ss
-    tbl_no TEST tmp try ulimit unread_marker Upsample Vmax""".split()
+OTHERS = """
+    doc give_up HEX WORD WRONG __xpg_strerror_r Ah Al axioms Box ceil clone coef_bits
+    compute_image_parallel cur_comp_info DCT_scaled_size dyn EOBRUN ERREXIT FORMAT Hmax JBLOCK
+    jpeg_decompress_struct last_dc_val ljpeg LOSSLESS malloc MCU_membership non_exhaustive perf
+    plant Pt random_tests_tests rattle_alloc rattle_dealloc rattle_errno rattle_realloc read_markers
+    realloc ROW Se Ss tbl_no TEST tmp try ulimit unread_marker Upsample Vmax
+""".split()
 C_COMMENTS = r'/\*[\s\S]*?\*/|"(?:\\.|[^"\\\n])*"'
 COMMENTS = {
     ".rt": r'//.*|"(?:\\.|[^"\\\n])*"',

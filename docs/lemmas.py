@@ -1,13 +1,13 @@
 #!/usr/bin/env python3
-"""Makes docs/LEMMAS.md: the files of lemmas of each crate, what each is about, and what others take.
+"""Makes docs/LEMMAS.md: the lemma files of each crate, what each is about, and what others import.
 
     docs/lemmas.py            prints the page
-    docs/lemmas.py --check    fails with a diff where the page differs from what this prints
+    docs/lemmas.py --check    fails with a diff if the page differs from what this prints
     docs/lemmas.py --write    writes the page
 
-A file of lemmas is one of crates/*/proofs but those that answer the goals of one function, which
-stand in a folder of the function's name. What it is about is its first comment. A name is listed
-where another file imports it from there, or a tactic of a function names it.
+A lemma file is any in crates/*/proofs except those that answer the goals of one function, which are
+in a folder with the function's name. Its first comment says what it is about. A name is listed if
+another file imports it from there, or if a function's tactic names it.
 """
 import difflib
 import re
@@ -20,12 +20,12 @@ PAGE = ROOT / "docs/LEMMAS.md"
 INTRODUCTION = """\
 # Lemmas
 
-The files of lemmas by crate, what each is about, and the names that other files take from it:
-where to look before a lemma is stated. `rt lemma WORD..` in a crate's folder finds lemmas by words
-of the goal, those of the kit's library too. `docs/lemmas.py --write` makes this page, and `./test`
-checks it. Answers to the goals of one function stand in proofs/MODULE/FUNCTION and are not listed;
-a file that is listed without names is taken by functions' answers as a whole or by its own crate's
-rule sets alone.
+The lemma files of each crate, what each is about, and the names that other files import from it:
+look here before you state a lemma. `rt lemma WORD..` in a crate's folder finds lemmas by words of
+the goal, including those of the kit's library. `docs/lemmas.py --write` generates this page, and
+`./test` checks it. Answers to the goals of a single function are in proofs/MODULE/FUNCTION and are
+not listed; a file that is listed without names is used as a whole by functions' answers, or only by
+its own crate's rule sets.
 """
 # What the prover makes or asks for in the folder of a function.
 ANSWERS = {"Answers.antt", "Goals.antt", "Given.antt", "Invariants.antt"}

@@ -1,4 +1,4 @@
-# Completes the words, options and files of zaxbriar.
+# Completes the commands, options and files of zaxbriar.
 _zaxbriar() {
     local word="${COMP_WORDS[COMP_CWORD]}" before="${COMP_WORDS[COMP_CWORD - 1]}"
     local options='-h --help -o --output --max-pixels --max-memory'

@@ -1,4 +1,4 @@
-# Completes the words, options and files of zaxbriar.
+# Completes the commands, options and files of zaxbriar.
 set -l words pnm thumbnail info raw frames
 set -l first "not __fish_seen_subcommand_from $words"
 set -l later "__fish_seen_subcommand_from $words"
@@ -10,13 +10,13 @@ complete -c zaxbriar -s h -l help -d 'Print help'
 complete -c zaxbriar -n $first -s V -l version -d 'Print the version'
 complete -c zaxbriar -n $first -f -a pnm -d 'Convert files to netpbm files'
 complete -c zaxbriar -n $first -f -a thumbnail -d 'Write pictures that fit within a size'
-complete -c zaxbriar -n $first -f -a info -d 'Say what files are'
+complete -c zaxbriar -n $first -f -a info -d 'Describe files'
 complete -c zaxbriar -n $first -f -a raw -d 'Write the bytes of a picture'
 complete -c zaxbriar -n $first -f -a frames -d 'Decode the frames of an MJPEG stream'
 complete -c zaxbriar -n $later -s o -l output -r -d 'The file to write'
-complete -c zaxbriar -n $later -l max-pixels -x -d 'Refuse a picture of more pixels'
-complete -c zaxbriar -n $later -l max-memory -x -d 'Refuse a picture that takes more bytes'
-complete -c zaxbriar -n $pnm -l scale -x -a '1/8 1/4 1/2 1' -d 'The part of the width and height'
+complete -c zaxbriar -n $later -l max-pixels -x -d 'Refuse pictures with more pixels'
+complete -c zaxbriar -n $later -l max-memory -x -d 'Refuse pictures that need more bytes'
+complete -c zaxbriar -n $pnm -l scale -x -a '1/8 1/4 1/2 1' -d 'The scale of the width and height'
 complete -c zaxbriar -n $thumbnail -l max -x -d 'The size to fit within, WIDTHxHEIGHT'
 complete -c zaxbriar -n $thumbnail -l as-stored -d 'Do not turn the picture'
 complete -c zaxbriar -n $info -l json -d 'Write JSON'

@@ -1,23 +1,23 @@
 #compdef zaxbriar
-# Completes the words, options and files of zaxbriar.
+# Completes the commands, options and files of zaxbriar.
 local -a common own
 common=(
     '(-h --help)'{-h,--help}'[print help]'
-    '--max-pixels[refuse a picture of more pixels]:number:(10M 100M)'
-    '--max-memory[refuse a picture that takes more bytes]:bytes:(100M 1G)'
+    '--max-pixels[refuse pictures with more pixels]:number:(10M 100M)'
+    '--max-memory[refuse pictures that need more bytes]:bytes:(100M 1G)'
     '(-o --output)'{-o,--output}'[the file to write]:file:_files'
 )
 if ((CURRENT == 2)); then
     _values word \
         'pnm[convert files to netpbm files]' \
         'thumbnail[write pictures that fit within a size]' \
-        'info[say what files are]' \
+        'info[describe files]' \
         'raw[write the bytes of a picture]' \
         'frames[decode the frames of an MJPEG stream]'
     return
 fi
 case "${words[2]}" in
-    pnm) own=('--scale[the part of the width and height]:scale:(1/8 1/4 1/2 1)') ;;
+    pnm) own=('--scale[the scale of the width and height]:scale:(1/8 1/4 1/2 1)') ;;
     thumbnail)
         own=(
             '--max[the size to fit within]:WIDTHxHEIGHT:(160x120 320x240 640x480 1280x960)'
