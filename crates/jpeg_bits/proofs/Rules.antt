@@ -2,8 +2,9 @@
 use Rattle.jpeg_bits.proofs.WrittenBits.{takes-number}
 use Rattle.jpeg_bits.proofs.BandSteps.{no_bits_taken}
 use Rattle.jpeg_bits.proofs.Fast.{no_difference, tokens-same}
-use Rattle.jpeg_bits.proofs.ShortLemmas.{Code-buffered, Code-none, run-most, run-same, fast-not}
-use Rattle.jpeg_bits.proofs.ShortLemmas.{fast-refused, fast-taken, value_below, value_number}
+use Rattle.jpeg_bits.proofs.ShortLemmas.{Code-buffered, Code-none, run-most, run-same, run-byte}
+use Rattle.jpeg_bits.proofs.ShortLemmas.{fast-not, fast-refused, fast-taken, value_below}
+use Rattle.jpeg_bits.proofs.ShortLemmas.{value_number}
 use Rattle.std.proofs.Common.{div-le_self, pow_mono}
 use Rattle.std.proofs.lemmas.Grind.{common_steps}
 use Rattle.std.proofs.lemmas.Result.{err_from_is_err_and}
@@ -52,7 +53,7 @@ pub ruleset runs = (skip-refused, skip-overlong, skip-all)
 pub ruleset fronts = (front_number, front_below, pow_mono)
 
 -- a run of codes
-pub ruleset ends = (run-most, run-same)
+pub ruleset ends = (run-most, run-same, run-byte)
 
 -- the laws of codes
 pub ruleset codes = (exist-tested, tested-exist, good-table, takes-symbol)

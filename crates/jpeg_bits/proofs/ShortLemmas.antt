@@ -5,7 +5,8 @@ use Rattle.std.proofs.Common.{ℕ, ℤ, zero, suc, ◌+◌, ◌-◌, ◌*◌, �
 use Rattle.std.proofs.Common.{false, cond, eqb, leb, ltb, ◌&&◌, List, [], ◌∷◌, ◌++◌, length, take}
 use Rattle.std.proofs.Common.{drop, get_or, replicate, Option, Some, None, Ok, refl, sym, ap, ◌∙◌}
 use Rattle.std.proofs.Common.{arith, inl, inr, length-append, length-take, length-drop, IfSome}
-use Rattle.std.proofs.Common.{is_some, pow_pos, Result, Err, is_ok}
+use Rattle.std.proofs.Common.{is_some, pow_pos, Result, Err, is_ok, subst, ◌⊎◌, nat_lt, nat_le}
+use Rattle.std.proofs.Common.{if◌then◌else◌}
 use Rattle.std.specs.Option.{option_map}
 use Rattle.std.proofs.Math.Seq.{drop-nil}
 use Rattle.std.proofs.lemmas.List.{take-take, take-append-le, take_all, take-replicate}
@@ -22,6 +23,7 @@ use Rattle.jpeg_bits.specs.Codes.{short_token, after_code, short_code_by, short_
 use Rattle.jpeg_bits.specs.Codes.{short_value, fast_from, symbol_from, code_from}
 use Rattle.jpeg_bits.specs.ShortCodes.{named, symbol_in, short_only, short_code, short_value_by}
 use Rattle.jpeg_bits.specs.ShortCodes.{short_value_of, next_bits, packed, IsRun}
+use Rattle.jpeg_bits.specs.ShortCodes.{rest_of_code, rest_of_value}
 use Rattle.jpeg_bits.specs.declared.huffman.codes.HuffmanTableClass.{HuffmanTableClass}
 use Rattle.jpeg_bits.specs.declared.huffman.ahead.DataEnd.{DataEnd}
 use Rattle.std.proofs.Math.Nat.{mod-lt, div-mul-le_self, div-eq_of_lt-le, mul-le-mul_right}
@@ -337,23 +339,149 @@ same-run counts symbols first b v l counted few e h =
 
 -- a run of bytes
 pub run-entry : (counts symbols : List ℕ) (first end b : ℕ) (code : Option (ℕ × ℕ)) → length counts ≡ 16
-    → first ≤ b → b < end → IfSome code (λ c. c.1 ≤ 8) → IsRun first end code
+    → first ≤ b → b < end → IfSome code (λ c. c.1 ≤ 8) → IsRun (rest_of_code 8 code) first end
     → code ≡ short_code counts symbols (low_bits 8 first) → code ≡ short_code counts symbols (low_bits 8 b)
-run-entry counts symbols first end b code counted from to few run is = grind (arith, same-run)
+run-entry counts symbols first end b None counted from to few run is =
+    let whole : b / 2 ^ 0 ≡ first / 2 ^ 0 = run b from to in
+    let same : b ≡ first = omega (arith, whole) in
+    is ∙ ap (λ (k : ℕ). short_code counts symbols (low_bits 8 k)) (sym same)
+run-entry counts symbols first end b (Some (v, l)) counted from to few run is =
+    sym (same-run counts symbols first b v l counted few (run b from to) (sym is))
+
+-- ---- numbers of n bits that the same value begins
+
+-- the first bits of numbers that differ in their last alone
+same-front : (n k first b : ℕ) → k ≤ n → b / 2 ^ k ≡ first / 2 ^ k
+    → take (n - k) (low_bits n first) ≡ take (n - k) (low_bits n b)
+same-front n k first b le e =
+    let m = n - k in
+    let whole : n ≡ m + k = omega arith in
+    ap (λ (j : ℕ). take m (low_bits j first)) whole ∙ low_bits-take m k first ∙ ap (low_bits m) (sym e)
+    ∙ sym (ap (λ (j : ℕ). take m (low_bits j b)) whole ∙ low_bits-take m k b)
+
+-- and fewer of them
+fewer-front : (m n : ℕ) (x y : List Bool) → m ≤ n → take n x ≡ take n y → take m x ≡ take m y
+fewer-front m n x y le e = sym (take-take m n x le) ∙ ap (take m) e ∙ take-take m n y le
+
+-- a value by its code and its bits
+abbrev value_by : ℕ → HuffmanTableClass → ℕ × ℕ → List Bool → Option (ℤ × ℕ × ℕ)
+value_by n class c bits =
+    if is_ac class && (nat_lt 0 (c.0 % 16) && nat_le (c.1 + c.0 % 16) n)
+    then Some (extended (number_of bits) (c.0 % 16), c.0 / 16, c.1 + c.0 % 16) else None
+
+-- a code and its value begin all bits that have their first bits
+same-value : (n : ℕ) (class : HuffmanTableClass) (x y : List Bool) (c : ℕ × ℕ)
+    → take (c.1 + c.0 % 16) x ≡ take (c.1 + c.0 % 16) y
+    → short_value_by n class x (Some c) ≡ short_value_by n class y (Some c)
+same-value n class x y c e =
+    ap (value_by n class c) (sym (drop-take c.1 (c.0 % 16) x) ∙ ap (drop c.1) e ∙ drop-take c.1 (c.0 % 16) y)
+
+-- a code whose value isn't within the bits
+value-beyond : (n : ℕ) (class : HuffmanTableClass) (x : List Bool) (c : ℕ × ℕ) → n < c.1 + c.0 % 16
+    → short_value_by n class x (Some c) ≡ None
+value-beyond n class x c over = grind (arith, nat_tests, false≢true)
+
+found-again : (c : ℕ × ℕ) (o : Option (ℕ × ℕ)) → at_most c.1 (Some c) ≡ at_most c.1 o → o ≡ Some c
+found-again c o h = grind (arith, nat_tests, false≢true)
+
+module _ (n : ℕ) (table : Table) (first b : ℕ) (most : n ≤ 16) (counted : length table.counts ≡ 16) where
+  abbrev padded : ℕ → List Bool
+  padded k = low_bits n k ++ replicate (16 - n) false
+
+  abbrev code_at : ℕ → Option (ℕ × ℕ)
+  code_at k = code_in (code_lengths table.counts) (padded k)
+
+  padded-front : (m k : ℕ) → m ≤ n → take m (padded k) ≡ take m (low_bits n k)
+  padded-front m k le = take-append-le m (low_bits n k) (replicate (16 - n) false) (omega (arith, length_low_bits n k))
+
+  same-padded : (m : ℕ) → m ≤ n → take m (low_bits n first) ≡ take m (low_bits n b)
+      → take m (padded first) ≡ take m (padded b)
+  same-padded m le e = padded-front m first le ∙ e ∙ sym (padded-front m b le)
+
+  same-at : (c : ℕ × ℕ) → c.1 ≤ n → take c.1 (low_bits n first) ≡ take c.1 (low_bits n b) → code_at first ≡ Some c
+      → code_at b ≡ Some c
+  same-at c le e is =
+      let agree = short_agree c.1 (code_lengths table.counts) (all-rising table.counts counted) (padded first)
+      (padded b) (same-padded c.1 le e) in
+      found-again c (code_at b) (ap (at_most c.1) (sym is) ∙ agree)
+
+  run-by : (o : Option (ℕ × ℕ)) → code_at first ≡ o → b / 2 ^ rest_of_value n (named table.symbols o)
+      ≡ first / 2 ^ rest_of_value n (named table.symbols o)
+      → short_value_by n table.class (low_bits n first) (named table.symbols o)
+      ≡ short_value_by n table.class (low_bits n b) (named table.symbols (code_at b))
+  run-by None is same =
+      let whole : b ≡ first = omega (arith, same) in
+      ap (λ (p : Option (ℕ × ℕ)). short_value_by n table.class (low_bits n first) (named table.symbols p)) (sym is)
+      ∙ ap (λ (k : ℕ). short_value_by n table.class (low_bits n k) (named table.symbols (code_at k))) (sym whole)
+  run-by (Some c) is same =
+      let s = size_of table c in
+      let symbol = get_or table.symbols c.0 0 in
+      elim (cases_lt n (c.1 + s)) [
+        | inl over ↦
+            let rest : n - c.1 ≡ rest_of_value n (Some (symbol, c.1)) = grind (arith, nat_tests) in
+            let e = subst (λ (k : ℕ). b / 2 ^ k ≡ first / 2 ^ k) (sym rest) same in
+            value-beyond n table.class (low_bits n first) (symbol, c.1) over
+            ∙ beyond over e (cases_lt n c.1)
+        | inr within ↦
+            let k = n - (c.1 + s) in
+            let rest : k ≡ rest_of_value n (Some (symbol, c.1)) = grind (arith, nat_tests) in
+            let e = subst (λ (j : ℕ). b / 2 ^ j ≡ first / 2 ^ j) (sym rest) same in
+            let all : n - k ≡ c.1 + s = omega arith in
+            let front = subst (λ (m : ℕ). take m (low_bits n first) ≡ take m (low_bits n b)) all
+            (same-front n k first b (omega arith) e) in
+            let found = same-at c (omega arith) (fewer-front c.1 (c.1 + s) (low_bits n first) (low_bits n b)
+            (omega arith) front) is in
+            same-value n table.class (low_bits n first) (low_bits n b) (symbol, c.1) front
+            ∙ ap (λ (p : Option (ℕ × ℕ)). short_value_by n table.class (low_bits n b) (named table.symbols p))
+            (sym found)
+      ]
+    where
+      beyond : n < c.1 + size_of table c → b / 2 ^ (n - c.1) ≡ first / 2 ^ (n - c.1) → (n < c.1) ⊎ (c.1 ≤ n)
+          → None ≡ short_value_by n table.class (low_bits n b) (named table.symbols (code_at b))
+      beyond over e (inl long) =
+          let none : n - c.1 ≡ 0 = omega arith in
+          let whole : b / 2 ^ 0 ≡ first / 2 ^ 0 = rw none at e in
+          let same : first ≡ b = omega (arith, whole) in
+          sym (value-beyond n table.class (low_bits n b) (get_or table.symbols c.0 0, c.1) over)
+          ∙ ap (λ (p : Option (ℕ × ℕ)). short_value_by n table.class (low_bits n b) (named table.symbols p))
+          (sym is ∙ ap code_at same)
+      beyond over e (inr le) =
+          let all : n - (n - c.1) ≡ c.1 = omega arith in
+          let front = subst (λ (m : ℕ). take m (low_bits n first) ≡ take m (low_bits n b)) all
+          (same-front n (n - c.1) first b (omega arith) e) in
+          sym (value-beyond n table.class (low_bits n b) (get_or table.symbols c.0 0, c.1) over)
+          ∙ ap (λ (p : Option (ℕ × ℕ)). short_value_by n table.class (low_bits n b) (named table.symbols p))
+          (sym (same-at c le front is))
+
+  -- the same value begins the numbers of a run
+  pub value-run : (end : ℕ) → first ≤ b → b < end
+      → IsRun (rest_of_value n (symbol_in table (low_bits n first ++ replicate (16 - n) false))) first end
+      → short_value_of n table (low_bits n first) ≡ short_value_of n table (low_bits n b)
+  value-run end from to run = run-by (code_at first) refl (run b from to)
 
 -- ---- where a run ends
 
-module _ (byte l : ℕ) (small : byte < 256) (few : l ≤ 8) where
-  pub run-most : (byte / 2 ^ (8 - l) + 1) * 2 ^ (8 - l) % 18446744073709551616 ≤ 256
-  run-most =
-      let side = 2 ^ (8 - l) in
-      let whole : l + (8 - l) ≡ 8 = omega arith in
-      let p = sym (pow-add 2 l (8 - l)) ∙ ap (λ (k : ℕ). 2 ^ k) whole in
-      grind (arith, front_small, mul-le-mul_right)
+module _ (first rest : ℕ) where
+  run-within : (n : ℕ) → rest ≤ n → first < 2 ^ n
+      → (first / 2 ^ rest + 1) * 2 ^ rest % 18446744073709551616 ≤ 2 ^ n
+  run-within n le fits =
+      let whole : n - rest + rest ≡ n = omega arith in
+      let size : 2 ^ (n - rest) * 2 ^ rest ≡ 2 ^ n
+      = sym (pow-add 2 (n - rest) rest) ∙ ap (λ (k : ℕ). 2 ^ k) whole in
+      let below : first / 2 ^ rest < 2 ^ (n - rest)
+      = front_small first (n - rest) rest (subst (λ (k : ℕ). first < 2 ^ k) (sym whole) fits) in
+      let times : (first / 2 ^ rest + 1) * 2 ^ rest ≤ 2 ^ (n - rest) * 2 ^ rest
+      = mul-le-mul_right (2 ^ rest) (omega (arith, below)) in
+      omega (arith, times, size)
 
-  pub run-same : (code : Option (ℕ × ℕ)) (v : ℕ) → code ≡ Some (v, l)
-      → IsRun byte ((byte / 2 ^ (8 - l) + 1) * 2 ^ (8 - l) % 18446744073709551616) code
-  run-same code v is = rw is (grind (arith, div-mul-le_self, div-eq_of_lt-le))
+  pub run-most : first < 2048 → rest ≤ 11 → (first / 2 ^ rest + 1) * 2 ^ rest % 18446744073709551616 ≤ 2048
+  run-most fits le = run-within 11 le fits
+
+  pub run-byte : first < 256 → rest ≤ 8 → (first / 2 ^ rest + 1) * 2 ^ rest % 18446744073709551616 ≤ 256
+  run-byte fits le = run-within 8 le fits
+
+  pub run-same : IsRun rest first ((first / 2 ^ rest + 1) * 2 ^ rest % 18446744073709551616)
+  run-same b from to = grind (arith, div-mul-le_self, div-eq_of_lt-le)
 
 -- ---- symbols and short values of bits that are buffered
 

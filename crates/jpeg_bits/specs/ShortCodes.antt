@@ -95,7 +95,17 @@ HoldsRows counts rows = (i : ℕ) → i < 16 → slice_index_or rows i no_row �
 abbrev pub ArePassed : List Row → ℕ → ℕ → Type 0
 ArePassed rows n bits = (i : ℕ) → i < n → (slice_index_or rows i no_row).end ≤ bits / 2 ^ (15 - i)
 
--- The same code begins these numbers of 8 bits, from the first to before the last.
-abbrev pub IsRun : ℕ → ℕ → Option (ℕ × ℕ) → Type 0
-IsRun first end None = end ≡ first + 1
-IsRun first end (Some c) = (b : ℕ) → first ≤ b → b < end → b / 2 ^ (8 - c.1) ≡ first / 2 ^ (8 - c.1)
+-- These numbers, from the first to before the end, differ in their last k bits alone.
+abbrev pub IsRun : ℕ → ℕ → ℕ → Type 0
+IsRun k first end = (b : ℕ) → first ≤ b → b < end → b / 2 ^ k ≡ first / 2 ^ k
+
+-- how many of n bits are after the code of at most n bits that begins them
+abbrev pub rest_of_code : ℕ → Option (ℕ × ℕ) → ℕ
+rest_of_code n None = 0
+rest_of_code n (Some c) = n - c.1
+
+-- how many of n bits are after the value that they begin with, or after its code where it has more
+abbrev pub rest_of_value : ℕ → Option (ℕ × ℕ) → ℕ
+rest_of_value n None = 0
+rest_of_value n (Some c) =
+    if nat_le (c.1 + c.0 % 16) n then n - (c.1 + c.0 % 16) else n - c.1

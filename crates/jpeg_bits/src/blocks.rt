@@ -14,13 +14,15 @@ mod refinement;
 mod tokens;
 mod zigzag;
 
-use crate::huffman::ahead::BufferedBits;
-use crate::error::{Error, Result, take_refusal};
-use crate::huffman::{HuffmanDecoder, HuffmanTable};
 pub use crate::blocks::pass::Pass;
 use crate::blocks::refinement::{correct_band, lacks_bit, read_refined_band, unit};
+use crate::blocks::tokens::{
+    read_difference, read_first_band, shifted, skip_first_band, wrapped_sum,
+};
+use crate::error::{Error, Result, take_refusal};
+use crate::huffman::ahead::BufferedBits;
+use crate::huffman::{HuffmanDecoder, HuffmanTable};
 use crate::source::Source;
-use crate::blocks::tokens::{read_difference, read_first_band, shifted, skip_first_band, wrapped_sum};
 use std::io::Read;
 
 /// How the blocks of a component are coded in a scan (T.81, B.2.3).

@@ -7,11 +7,11 @@ pub mod codes;
 mod default_tables;
 mod pairs;
 
+use crate::error::{Error, Result, take_refusal};
 use crate::huffman::ahead::{BufferedBits, marker_of_end};
 use crate::huffman::bits::extend;
 pub use crate::huffman::codes::{HuffmanTable, HuffmanTableClass};
 pub use crate::huffman::default_tables::fill_default_mjpeg_tables;
-use crate::error::{Error, Result, take_refusal};
 use crate::marker::Marker;
 use crate::source::Source;
 use std::alloc::Global;

@@ -17,13 +17,13 @@ ghost use Rattle.jpeg_bits.specs.BlockView.{pass_in, IsPass};
 ghost use Rattle.jpeg_bits.specs.ZigzagParts.{band_end, band_in, rest_in, IsKeptAround};
 ghost use Rattle.jpeg_bits.specs.ZigzagParts.{KeepsOthers};
 
-use crate::huffman::ahead::BufferedBits;
-use crate::huffman::bits::power_of_two;
+use crate::blocks::pass::Pass;
+use crate::blocks::zigzag::index_of;
 use crate::error::{Error, format_error_of, set_format_error};
 use crate::huffman::HuffmanTable;
-use crate::blocks::pass::Pass;
+use crate::huffman::ahead::BufferedBits;
+use crate::huffman::bits::power_of_two;
 use crate::source::Source;
-use crate::blocks::zigzag::index_of;
 use std::alloc::Global;
 use std::io::Read;
 use std::simd::prelude::*;

@@ -10,13 +10,13 @@ ghost use Rattle.jpeg_bits.specs.BlockView.{pass_in, IsPass};
 ghost use Rattle.jpeg_bits.specs.Skips.{run_of};
 ghost use Rattle.jpeg_bits.specs.ZigzagParts.{band_in, KeepsOthers};
 
-use crate::huffman::ahead::BufferedBits;
-use crate::huffman::bits::power_of_two;
+use crate::blocks::pass::Pass;
+use crate::blocks::zigzag::index_of;
 use crate::error::{Error, set_category_error};
 use crate::huffman::HuffmanTable;
-use crate::blocks::pass::Pass;
+use crate::huffman::ahead::BufferedBits;
+use crate::huffman::bits::power_of_two;
 use crate::source::Source;
-use crate::blocks::zigzag::index_of;
 use std::io::Read;
 
 /// What a token of a first pass stands for.

@@ -8,11 +8,11 @@ ghost use Rattle.jpeg_bits.specs.Entropy.{bits_from, upcoming_by};
 ghost use Rattle.std.specs.Prelude.{ℕ, ◌<◌, Bool, List, length, is_ok};
 ghost use Rattle.jpeg_bits.specs.Reading.{Names};
 
+use crate::error::{Error, Result, end_of_bytes, format_error, set_format_error};
 use crate::huffman::bits::{Bits, extend};
 use crate::huffman::codes::HuffmanTable;
-use crate::error::{Error, Result, end_of_bytes, format_error, set_format_error};
-use crate::marker::Marker;
 use crate::huffman::pairs::Pair;
+use crate::marker::Marker;
 use crate::source::Source;
 use std::alloc::Global;
 use std::io::Read;

@@ -7,13 +7,14 @@ ghost use Rattle.jpeg_bits.specs.Codes.{code_lengths, code_in, HasCodes};
 ghost use Rattle.jpeg_bits.specs.Reading.{NamesFormat};
 ghost use Rattle.jpeg_bits.specs.ShortCodes.{short_value_by, HoldsCodes, HoldsRows, ArePassed, IsRun};
 ghost use Rattle.jpeg_bits.specs.ShortCodes.{named, no_row, packed, short_only, HoldsWideValues};
+ghost use Rattle.jpeg_bits.specs.ShortCodes.{rest_of_code, rest_of_value};
 ghost use Rattle.jpeg_bits.specs.Pairs.{AreSmall};
 ghost use Rattle.jpeg_bits.specs.Skips.{HoldsSkips, IsSkip};
 ghost use Rattle.jpeg_bits.specs.Written.{low_bits};
 ghost use Rattle.jpeg_bits.specs.declared.huffman.codes.HuffmanTableClass.TheVariants.{AC};
 
-use crate::huffman::bits::{extend, power_of_two};
 use crate::error::{Error, Result, format_error_of};
+use crate::huffman::bits::{extend, power_of_two};
 use crate::huffman::pairs::{NO_PAIR, Pair, pairs_of};
 use std::alloc::{AllocError, Global};
 use std::marker::Model;
@@ -505,22 +506,46 @@ fn short_only(code: Option<(u8, u8)>) -> Option<(u8, u8)>
     }
 }
 
-/// Returns the number after the 8 bits that the same code begins, from `byte` on.
-#[tactic(auto, using(crate::proofs::Rules::ends))]
-fn end_of_run(code: Option<(u8, u8)>, byte: usize) -> usize
-    requires byte { byte < 256 }
-    requires few { IfSome code (λ c. c.1 ≤ 8) }
-    ensures more { byte < result }
-    ensures most { result ≤ 256 }
-    ensures run { IsRun byte result code }
+/// Returns how many of 8 bits are after the code that begins them. Where none does, it is 0.
+fn rest_of_code(code: Option<(u8, u8)>) -> u8
+    requires { IfSome code (λ c. c.1 ≤ 8) }
+    ensures rest { result ≡ rest_of_code 8 code }
+    ensures most { result ≤ 8 }
 {
     match code {
-        Some((_, length)) => {
-            let rest = 8 - length;
-            ((byte >> rest) + 1) << rest
-        }
-        None => byte + 1,
+        Some((_, length)) => 8 - length,
+        None => 0,
     }
+}
+
+/// Returns how many of 11 bits are after the value that they begin with, or after its code where
+/// they don't have all of it. Where no code begins them, it is 0.
+fn rest_of_value(code: Option<(u8, u8)>) -> u8
+    requires { IfSome code (λ c. c.1 ≤ 16) }
+    ensures rest { result ≡ rest_of_value 11 code }
+    ensures most { result ≤ 11 }
+{
+    let Some((symbol, length)) = code else {
+        return 0;
+    };
+    let used = length + symbol % 16;
+    if used <= 11 {
+        return 11 - used;
+    }
+    11u8.saturating_sub(length)
+}
+
+/// Returns the number after those that differ from `first` in their last `rest` bits alone.
+#[tactic(auto, using(crate::proofs::Rules::ends))]
+fn end_of_run(first: usize, rest: u8) -> usize
+    requires first { first < 2048 }
+    requires rest { rest ≤ 11 }
+    ensures more { first < result }
+    ensures most { result ≤ 2048 }
+    ensures byte { first < 256 → rest ≤ 8 → result ≤ 256 }
+    ensures run { IsRun rest first result }
+{
+    ((first >> rest) + 1) << rest
 }
 
 /// Returns the codes of at most 8 bits, by the 8 bits that they begin.
@@ -541,7 +566,7 @@ fn short_codes(
     let mut byte = 0;
     while byte < 256 {
         let code = short_only(codes.code_of(&mut row, (byte as u16) << 8));
-        let end = end_of_run(code, byte);
+        let end = end_of_run(byte, rest_of_code(code));
         for at in byte..end {
             short[at] = code;
         }
@@ -633,10 +658,16 @@ fn wide_values(
 {
     let mut tokens = vec![in alloc; (0, 0, 0); 2048]?;
     let mut row = 0;
-    for index in 0..2048 {
+    let mut index = 0;
+    while index < 2048 {
         let bits = index as u16;
         let code = codes.code_of(&mut row, bits << 5);
-        tokens[index] = packed(short_value(code, 11, bits));
+        let token = packed(short_value(code, 11, bits));
+        let end = end_of_run(index, rest_of_value(code));
+        for at in index..end {
+            tokens[at] = token;
+        }
+        index = end;
     }
     Ok(tokens)
 }

@@ -5,8 +5,8 @@ ghost use Rattle.jpeg_bits.specs.DefaultTables.{chrominance_ac, chrominance_dc, 
 ghost use Rattle.jpeg_bits.specs.DefaultTables.{with_defaults};
 ghost use Rattle.jpeg_bits.specs.declared.error.Error.TheVariants.{OutOfMemory};
 
-use crate::huffman::codes::{HuffmanTable, HuffmanTableClass};
 use crate::error::Result;
+use crate::huffman::codes::{HuffmanTable, HuffmanTableClass};
 use crate::scan::ScanInfo;
 use std::alloc::Global;
 

@@ -22,14 +22,16 @@ loop-at-preserved c =
     let entry = c.short_only-code.ensures.code ∙ ap short_only (c.code_of.ensures.code
     ∙ ap (λ (l : List Bool). named t.values.now (code_in lens l)) padded)
     ∙ short-of-named t.values.now (code_in lens (low_bits 8 byte ++ replicate 8 false)) in
+    let run = rw c.rest_of_code.ensures.rest at c.end_of_run-end.ensures.run in
+    let most = c.end_of_run-end.ensures.byte c.loop-byte-test.true c.rest_of_code.ensures.most in
     let same = run-entry t.counts.now t.values.now byte c.end_of_run-end.result b c.short_only-code.result
     c.requires.counted (omega (arith, c.loop-at.auto.at)) (omega (arith, c.loop-at-test.true))
-    c.short_only-code.ensures.few c.end_of_run-end.ensures.run entry in
+    c.short_only-code.ensures.few run entry in
     record {
       whole = length_set c.loop-at.short.items b c.short_only-code.result 256 i.whole;
       filled = set_next c.loop-at.short.items b c.short_only-code.result None
           (λ (k : ℕ). short_code t.counts.now t.values.now (low_bits 8 k))
-          (omega (arith, i.whole, c.loop-at-test.true, c.end_of_run-end.ensures.most)) i.filled same;
+          (omega (arith, i.whole, c.loop-at-test.true, most)) i.filled same;
     }
 
 pub loop-byte-preserved : goal.loop-byte-preserved
