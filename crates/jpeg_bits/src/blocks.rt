@@ -1,4 +1,8 @@
 //! A block of a scan, of any pass.
+//!
+//! `take_block` reads the DC coefficient and then the band. A first pass goes token by token
+//! (`tokens`), and passes over a band of which nothing is kept; a refinement goes from one nonzero
+//! coefficient to the next (`refinement`).
 ghost use Rattle.std.specs.Prelude.{◌≡◌, ◌≤◌, ◌<◌, set, is_some, true, false};
 ghost use Rattle.jpeg_bits.specs.Refusals.{outcome_of};
 ghost use Rattle.jpeg_bits.specs.Entropy.{Takes};
@@ -36,8 +40,8 @@ pub struct BlockCoding<'a> {
     pub dc_table: &'a HuffmanTable,
     /// The table of the AC coefficients.
     pub ac_table: &'a HuffmanTable,
-    /// Whether the AC coefficients are kept. Where they aren't, those of a block that begins with
-    /// DC are passed over, and stay as they are.
+    /// Whether the AC coefficients are kept. If they aren't, those of a block that begins with DC
+    /// are passed over, and stay as they are.
     pub keeps_ac: bool,
     pub ghost first: { keeps_ac ≡ false → pass.is_first ≡ true },
     pub ghost legal: { IsPass (pass_in pass) },
@@ -58,7 +62,7 @@ impl Carried {
     ghost use Rattle.std.specs.Prelude.{◌≡◌};
     ghost use Rattle.jpeg_bits.specs.Passes.{predictors_at_start};
 
-    /// Gives what the first block of an interval starts with: no prediction and no run.
+    /// Returns what the first block of an interval starts with: no prediction and no run.
     pub fn at_start() -> Carried
         ensures { result ≡ record { predictors = predictors_at_start; run = 0 } }
     {
@@ -69,7 +73,7 @@ impl Carried {
     }
 }
 
-/// Returns a DC coefficient with the bit set, where it isn't.
+/// Returns a DC coefficient with bit `al` set.
 #[inline]
 #[tactic(auto, using(std::proofs::lemmas::Int::wraps, crate::proofs::PieceWalks::or_rules))]
 fn with_bit(value: i16, al: u8) -> i16
@@ -151,7 +155,7 @@ fn read_band<R: Read + Drop>(
     read_coded_band(buffered, source, coding, run, block, refusal)
 }
 
-/// Reads as `read_band` does, where the bits have something of the band.
+/// Like `read_band`, for a pass that has a band.
 #[inline(never)]
 #[tactic(auto, using(crate::proofs::BlockParts::band_rules))]
 fn read_coded_band<R: Read + Drop>(
@@ -227,7 +231,7 @@ fn skip_band<R: Read + Drop>(
     }
 }
 
-/// Reads as `read_block` does. A refusal is stored in `refusal`, and false is returned.
+/// Like `read_block`, but stores a refusal in `refusal` and returns false.
 pub fn take_block<R: Read + Drop>(
     decoder: &mut HuffmanDecoder,
     source: &mut Source<R>,
@@ -264,9 +268,9 @@ pub fn take_block<R: Read + Drop>(
     read_band(buffered, source, coding, &mut carried.run, block, refusal)
 }
 
-/// Reads what a pass codes of a block, in block order, over its coefficients so far (T.81, F.2.2
-/// and G.2), or of its AC coefficients none, where they aren't kept. It is `Format` where the bits
-/// begin no code or a coefficient does not fit; the other errors are those of
+/// Reads what a pass codes of a block, in block order, on top of the coefficients that it has so
+/// far (T.81, F.2.2 and G.2). Its AC coefficients are passed over if they aren't kept. The error is
+/// `Format` if the bits begin no code or a coefficient doesn't fit; the others are those of
 /// `HuffmanDecoder::get_bits`.
 pub fn read_block<R: Read + Drop>(
     decoder: &mut HuffmanDecoder,

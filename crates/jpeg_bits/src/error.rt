@@ -9,24 +9,24 @@ use std::alloc::{AllocError, AllocFailed, Global};
 use std::io;
 use std::io::ErrorKind;
 
-/// A feature of JPEG that is refused by name. A number is what the stream asks for.
+/// A feature of JPEG that is refused by name. A number is what the stream requires.
 #[derive(Clone, Debug, PartialEq, Eq, Hash, Drop)]
 pub enum UnsupportedFeature {
     /// Hierarchical coding (T.81, Annex J), also a second frame or a differential one.
     Hierarchical,
     /// Arithmetic coding (T.81, Annex D).
     ArithmeticEntropyCoding,
-    /// A precision of this number of bits a sample.
+    /// A precision of this many bits per sample.
     SamplePrecision(u8),
-    /// A frame of this number of components: 0, 2 or more than 4; 255 also stands for more.
+    /// A frame of this many components: 0, 2 or more than 4; 255 also stands for more.
     ComponentCount(u8),
     /// A number of lines after the first scan (T.81, B.2.5).
     DNL,
-    /// Not answered: kept for callers of the original crate.
+    /// Never returned: kept for callers of the original crate.
     SubsamplingRatio,
     /// Sampling factors that don't divide the greatest ones.
     NonIntegerSubsamplingRatio,
-    /// A colour transform that is not known here.
+    /// A colour transform that is not supported.
     ColorTransform(ColorTransform),
 }
 
@@ -36,7 +36,7 @@ pub enum Error {
     /// The stream breaks a rule, which the text says.
     #[error("invalid JPEG format: {0}")]
     Format(String),
-    /// The stream asks for a feature that is not there.
+    /// The stream needs a feature that is not supported.
     #[error("unsupported JPEG feature: {0:?}")]
     Unsupported(UnsupportedFeature),
     /// A read failed, or the bytes end too soon.
@@ -50,7 +50,7 @@ pub enum Error {
     OutOfMemory,
 }
 
-/// What a call answers: a value, or why there is none.
+/// What a call returns: a value, or why there is none.
 pub type Result<T> = std::result::Result<T, Error>;
 
 impl From<io::Error> for Error {
@@ -77,8 +77,8 @@ impl<T: Drop> From<AllocFailed<T>> for Error {
     }
 }
 
-/// Returns the refusal of a broken rule by a text that says what was found and what was expected: a
-/// `Format`, or `OutOfMemory` where there is no memory for the text.
+/// Returns the refusal of a broken rule, with a text that says what was found and what was
+/// expected: a `Format`, or `OutOfMemory` if there is no memory for the text.
 #[cold]
 #[inline(never)]
 pub fn format_error(alloc: Global, text: &str) -> Error
@@ -87,8 +87,8 @@ pub fn format_error(alloc: Global, text: &str) -> Error
     format_error_of(String::from_str(alloc, text))
 }
 
-/// Returns the refusal of a broken rule by a text that was made for it: a `Format`, or
-/// `OutOfMemory` where there was no memory for the text.
+/// Returns the refusal of a broken rule, with a text that was made for it: a `Format`, or
+/// `OutOfMemory` if there was no memory for the text.
 #[cold]
 #[inline(never)]
 pub fn format_error_of(text: std::result::Result<String, AllocError>) -> Error
@@ -100,7 +100,7 @@ pub fn format_error_of(text: std::result::Result<String, AllocError>) -> Error
     }
 }
 
-/// Stores `format_error` in `refusal`: a call in which no `Error` stands has none to make room for.
+/// Stores `format_error` in `refusal`: a call without an `Error` local needs no space for one.
 #[cold]
 #[inline(never)]
 pub fn set_format_error(alloc: Global, text: &str, refusal: &mut Option<Error>)
@@ -110,7 +110,7 @@ pub fn set_format_error(alloc: Global, text: &str, refusal: &mut Option<Error>)
     *refusal = Some(format_error(alloc, text));
 }
 
-/// Holds the refusal of a difference whose magnitude category is above the greatest.
+/// Stores the refusal of a difference whose magnitude category is above the greatest.
 #[cold]
 #[inline(never)]
 pub fn set_category_error(alloc: Global, category: u8, greatest: u8, refusal: &mut Option<Error>)
@@ -122,7 +122,7 @@ pub fn set_category_error(alloc: Global, category: u8, greatest: u8, refusal: &m
     )));
 }
 
-/// Returns the refusal where the bytes end: an `Io` of the kind `UnexpectedEof`.
+/// Returns the refusal of bytes that end too soon: an `Io` of the kind `UnexpectedEof`.
 #[cold]
 #[inline(never)]
 pub fn end_of_bytes() -> Error
@@ -131,7 +131,7 @@ pub fn end_of_bytes() -> Error
     Error::Io(io::Error::new(ErrorKind::UnexpectedEof, "the file ends too soon"))
 }
 
-/// Returns the refusal that a call has stored, taken out of its variable.
+/// Takes the refusal that a call has stored out of its variable, and returns it.
 #[cold]
 #[inline(never)]
 pub fn take_refusal(refusal: &mut Option<Error>) -> Error

@@ -19,9 +19,9 @@ use std::io::Read;
 use std::marker::Model;
 
 /// A reader of entropy-coded bits (T.81, F.2.2): those read ahead of a source, at most 64, and the
-/// end that was reached. Stuffed zeros are taken out (B.1.1.5). After a marker, zeros come without
-/// end. A fault in the data is refused only where a bit after it is taken, and a read that fails at
-/// once, by the call that reads.
+/// end that was reached. Stuffing is removed (B.1.1.5). After a marker, endless zeros follow. A
+/// fault in the data is reported only when a bit after it is taken; a failed read at once, by the
+/// call that reads.
 #[derive(Debug, Drop)]
 pub struct HuffmanDecoder {
     alloc: Global,
@@ -56,7 +56,7 @@ impl HuffmanDecoder {
         }
     }
 
-    /// Returns a copy with no refusal in it, so that a hot loop works on a local of its own, which
+    /// Returns a copy without a refusal, so that a hot loop works on a local of its own, which
     /// stays in registers.
     #[inline(always)]
     pub fn copied(&self) -> HuffmanDecoder
@@ -69,17 +69,17 @@ impl HuffmanDecoder {
         }
     }
 
-    /// Forgets the bits read ahead, as at a restart (T.81, E.2.4). A marker that was reached
-    /// is kept.
+    /// Forgets the bits read ahead, as at a restart (T.81, E.2.4). A marker that was reached is
+    /// kept.
     pub fn reset(&mut self)
         ensures { self.new ≡ record self.old { bits = [] } }
     {
         self.buffered.clear();
     }
 
-    /// Reads the next `count` bits, from 1 to 16, as a number, the highest first. After a marker
-    /// they are zeros. It is `Format` where FF 00 stands for a marker before them, and `Io` where
-    /// the bytes end before them or a read fails.
+    /// Reads the next `count` bits, from 1 to 16, as a number, the highest bit first. After a
+    /// marker they are zeros. The error is `Format` if FF 00 stands in place of a marker before
+    /// them, and `Io` if the bytes end before them or a read fails.
     #[inline(always)]
     pub fn get_bits<R: Read + Drop>(&mut self, source: &mut Source<R>, count: u8) -> Result<u16>
         requires some { 1 ≤ count }
@@ -94,8 +94,8 @@ impl HuffmanDecoder {
         }
     }
 
-    /// Reads the next `count` bits, from 1 to 15, as a signed number (T.81, F.2.2.1): those below
-    /// half their range stand for the negative ones. Errors are those of `get_bits`.
+    /// Reads the next `count` bits, from 1 to 15, as a signed number (T.81, F.2.2.1): values below
+    /// half of the range stand for negative numbers. The errors are those of `get_bits`.
     #[inline(always)]
     #[tactic(auto, unfolding(crate::specs::Readers::signed_from))]
     pub fn receive_extend<R: Read + Drop>(
@@ -112,8 +112,9 @@ impl HuffmanDecoder {
         Ok(extend(value, count))
     }
 
-    /// Reads the symbol whose code begins the bits (T.81, F.2.2.3), whose bits are taken. It is
-    /// `Format` where no code of the table begins them; the other errors are those of `get_bits`.
+    /// Reads the symbol whose code begins the bits (T.81, F.2.2.3), and takes the bits of that
+    /// code. The error is `Format` if no code of the table begins them; the others are those of
+    /// `get_bits`.
     #[inline(always)]
     pub fn decode<R: Read + Drop>(
         &mut self,
@@ -129,9 +130,9 @@ impl HuffmanDecoder {
         }
     }
 
-    /// Reads the value and the run of zeros before it, where a code of a table of class AC and
-    /// the value after it take at most 8 bits together (T.81, F.2.2.2), all of which are taken.
-    /// Otherwise none, and no bit is taken. Errors are those of `get_bits`.
+    /// Reads the value and the run of zeros before it, if a code of a table of class AC and the
+    /// value after it take at most 8 bits together (T.81, F.2.2.2), all of which are taken.
+    /// Otherwise returns none and takes no bit. The errors are those of `get_bits`.
     #[inline(always)]
     pub fn decode_fast_ac<R: Read + Drop>(
         &mut self,
@@ -150,10 +151,10 @@ impl HuffmanDecoder {
         }
     }
 
-    /// Reads the marker after the bits taken, where at most 56 bits stand before it; no bit is
-    /// buffered any more, and the source goes on after it. Otherwise none, and the source goes on
-    /// after the byte of the 57th bit. It is `Format` where FF 00 stands for the marker, and `Io`
-    /// where the bytes end first or a read fails.
+    /// Reads the marker after the bits taken, if at most 56 bits stand before it: no bit is
+    /// buffered any more, and the source continues after the marker. Otherwise returns none, and
+    /// the source continues after the byte of the 57th bit. The error is `Format` if FF 00 stands
+    /// in place of the marker, and `Io` if the bytes end first or a read fails.
     pub fn take_marker<R: Read + Drop>(&mut self, source: &mut Source<R>) -> Result<Option<Marker>>
         ensures answers { Answers (λ m. m) (λ bytes. marker_from (upcoming self.old bytes))
             source.old result source.new }
@@ -166,7 +167,7 @@ impl HuffmanDecoder {
         marker_of_end(self.alloc, end)
     }
 
-    /// Reads as `receive_extend` does. A refusal is stored in `refusal`, and none is returned.
+    /// Like `receive_extend`, but stores a refusal in `refusal` and returns none.
     #[inline(always)]
     pub fn take_signed<R: Read + Drop>(
         &mut self,
@@ -183,8 +184,8 @@ impl HuffmanDecoder {
         self.buffered.take_signed(source, count, refusal)
     }
 
-    /// Reads as `decode` does. A refusal is stored in `refusal`, and none is returned: a call in
-    /// which no `Error` stands has none to make room for.
+    /// Like `decode`, but stores a refusal in `refusal` and returns none: a call without an `Error`
+    /// local needs no space for one.
     #[inline(always)]
     pub fn take_symbol<R: Read + Drop>(
         &mut self,

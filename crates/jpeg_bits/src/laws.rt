@@ -44,14 +44,14 @@ pub fn codes_are_unique()
         code_in (code_lengths counts) bits ≡ Some (i, slice_index (code_lengths counts) i) }
 {}
 
-/// How an interval ends in which k bits were taken.
+/// An interval in which k bits were taken ends as `end_after` says.
 #[tactic(auto, using(crate::proofs::Rules::laws))]
 pub fn intervals_end()
     ensures { (k : ℕ) (bytes : List ℕ) → marker_from (advance k (upcoming fresh bytes))
         ≡ end_after k bytes (drop k (text_at bytes).bits) (text_at bytes).ending }
 {}
 
-/// Returns whether the codes of a table exist can be computed.
+/// Whether the codes of a table exist can be computed.
 #[tactic(auto, using(crate::proofs::Rules::codes))]
 pub fn codes_exist_or_not()
     ensures exist { (lengths : List ℕ) → HasCodes lengths → codes_exist lengths ≡ true }

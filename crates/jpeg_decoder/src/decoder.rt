@@ -30,9 +30,9 @@ ghost use Rattle.jpeg_streams.specs.Output.{default_settings};
 ghost use Rattle.jpeg_streams.specs.Profile.{profile_of};
 ghost use Rattle.std.specs.Option.{option_copied};
 
+use crate::picture::whole::{read_header, read_rest, read_rest_into};
 use crate::scan::decoded::Decoded;
 use crate::sizes::{DecodingBytes, decoding_bytes, picture_bytes};
-use crate::picture::whole::{read_header, read_rest, read_rest_into};
 use crate::stream::profile::profile;
 use crate::stream::state::State;
 pub use jpeg_bits::color_transform::ColorTransform;
@@ -67,7 +67,7 @@ fn format_of(count: usize, precision: u8) -> PixelFormat
     }
 }
 
-/// Returns what a caller is given of a frame.
+/// Returns what a caller is told about a frame.
 fn info_of(frame: &FrameInfo) -> ImageInfo
     ensures { result ≡ info_of (frame_in frame.now) }
 {
@@ -95,7 +95,8 @@ fn size_frame(frame: &mut FrameInfo, scale: usize) -> (u16, u16)
     (frame.output_size.width, frame.output_size.height)
 }
 
-/// Returns the scale whose picture is at least that wide or that high, where a frame was read.
+/// Returns the least scale at which the picture is at least that wide or that high, if a frame was
+/// read.
 fn scale_reaching(state: &State, width: u16, height: u16) -> usize
     ensures scale { IfSome (said_in state.now).frame
         (λ f. result ≡ scale_for f.width f.height width height) }
@@ -107,7 +108,7 @@ fn scale_reaching(state: &State, width: u16, height: u16) -> usize
     }
 }
 
-/// Sizes the frame that was read at a scale, if one was.
+/// Sizes the frame at a scale, if one was read.
 #[tactic(auto, using(jpeg_streams::proofs::Soundness::scaled_rules))]
 fn scale_state(state: &mut State, scale: usize) -> Result<(u16, u16)>
     requires frames { HasDecodedFrame (found_in state.old) }
@@ -129,7 +130,7 @@ fn scale_state(state: &mut State, scale: usize) -> Result<(u16, u16)>
     }
 }
 
-/// Returns how many bytes the picture takes, where the memory is that long, and else `Internal`.
+/// Returns how many bytes the picture takes if the memory is large enough, otherwise `Internal`.
 fn size_within(state: &State, room: usize) -> Result<usize>
     requires framed { is_some (said_in state.now).frame ≡ true }
     requires frames { HasDecodedFrame (found_in state.now) }
@@ -149,7 +150,7 @@ fn size_within(state: &State, room: usize) -> Result<usize>
     Ok(size as usize)
 }
 
-/// Drops what scans have given.
+/// Drops what the scans have given.
 fn drop_decoded(state: &mut State, alloc: Global)
     ensures told { told_of (said_in state.new) ≡ told_of (said_in state.old) }
     ensures emptied { ((found_in state.new).kept ≡ [])
@@ -159,7 +160,7 @@ fn drop_decoded(state: &mut State, alloc: Global)
     state.decoded = Decoded::new(alloc);
 }
 
-/// Returns how far a decoder has come after a call: a refusal fails it.
+/// Returns how far a decoder has come after a call: after an error it has failed.
 fn progress_after(is_ok: bool, progress: Progress) -> Progress
     ensures { result ≡ (if is_ok then progress else Failed) }
 {
@@ -203,8 +204,8 @@ impl<R: Read + Drop> Model for Decoder<R> {
 }
 
 impl<R: Read + Drop> Decoder<R> {
-    /// Makes a decoder of the stream that the reader gives. The only error is `OutOfMemory`; the
-    /// reader is then dropped.
+    /// Makes a decoder for the stream that the reader gives. The only error is `OutOfMemory`, in
+    /// which case the reader is dropped.
     pub fn new(alloc: Global, reader: R) -> Result<Decoder<R>>
         ensures ok { IfOk result (λ d. d ≡ record {
           source = stream_of (R.remaining reader) false false;
@@ -226,41 +227,41 @@ impl<R: Read + Drop> Decoder<R> {
         })
     }
 
-    /// Returns the size and the format of the picture, once a frame was accepted, in every state.
+    /// Returns the size and the format of the picture once a frame has been accepted, in every
+    /// state.
     pub fn info(&self) -> Option<ImageInfo>
         ensures { result ≡ option_map info_of self.now.found.said.frame }
     {
         self.state.said.frame.as_ref().map(|frame| info_of(frame))
     }
 
-    /// Returns how many bits a sample has, once a frame was accepted, in every state: 8 for
+    /// Returns how many bits a sample has once a frame has been accepted, in every state: 8 for
     /// baseline, extended and progressive frames, and 2 to 16 for lossless ones (T.81, B.2.2).
     ///
     /// A sample is at most `2^precision - 1`. It takes one byte of a picture up to 8 bits, and two
     /// bytes above, the lower byte first, so that a picture has `width * height * components`
-    /// samples of that many bytes each. `PixelFormat::pixel_bytes` knows nothing of it for three or
-    /// four components.
+    /// samples of that many bytes each. `PixelFormat::pixel_bytes` doesn't reflect this for three
+    /// or four components.
     pub fn precision(&self) -> Option<u8>
         ensures { result ≡ option_map (λ f. f.precision) self.now.found.said.frame }
     {
         self.state.said.frame.as_ref().map(|frame| frame.precision)
     }
 
-    /// Returns whether a read of the reader has failed, other than by an interruption, in every
-    /// state. The end of the bytes is no failure.
+    /// Returns whether a read has failed, other than by being interrupted, in every state. The end
+    /// of the bytes is not a failure.
     pub fn has_read_failed(&self) -> bool
         ensures { result ≡ self.now.source.failed }
     {
         self.source.has_failed()
     }
 
-    /// Returns how many bytes decoding takes, once the header was read: between `read_info` or
-    /// `scale` and `decode`, and after a picture. `None` before the header was read, and on a
-    /// decoder that has failed.
+    /// Returns how many bytes decoding takes, once the header has been read: between `read_info` or
+    /// `scale` and `decode`, and after a picture. Returns `None` before that, and after a failure.
     ///
-    /// The numbers follow `scale`. A service that asks for them after `read_info` can refuse a
-    /// picture before any of this memory is taken. [`DecodingBytes`] says what is counted and what
-    /// isn't.
+    /// The numbers depend on the scale. A service that checks them after `read_info` can refuse a
+    /// picture before any of this memory is allocated. [`DecodingBytes`] says what is counted and
+    /// what isn't.
     pub fn decoding_bytes(&self) -> Option<DecodingBytes>
         ensures header { HasHeader self.now.stage
             → result ≡ option_map decoding_bytes self.now.found.said.frame }
@@ -275,13 +276,13 @@ impl<R: Read + Drop> Decoder<R> {
         }
     }
 
-    /// Sets the colour transform of a picture of several components, in place of the one that its
-    /// segments say. A picture of one component and a lossless one are given as they are.
+    /// Sets the colour transform of pictures of several components, overriding the one that the
+    /// segments give. Pictures of one component and lossless pictures are not affected.
     ///
     /// `RGB` and `YCbCr` fit three components, `CMYK` and `YCCK` four, and `None` both: each line
-    /// of the picture then has its samples component after component, `width` samples of each.
-    /// Where a transform doesn't fit, and for `Grayscale` and `Unknown`, `decode` is `Format`, and
-    /// for `JcsBgYcc` and `JcsBgRgb` it is `Unsupported`.
+    /// of the picture then has its samples component after component, `width` samples of each. If a
+    /// transform doesn't fit, or is `Grayscale` or `Unknown`, `decode` returns `Format`; for
+    /// `JcsBgYcc` and `JcsBgRgb` it returns `Unsupported`.
     pub fn set_color_transform(&mut self, transform: ColorTransform)
         ensures { self.new ≡ record self.old {
           settings = record self.old.settings
@@ -291,13 +292,13 @@ impl<R: Read + Drop> Decoder<R> {
         self.settings.color_transform = Some(transform);
     }
 
-    /// Sets how many samples a picture may have: `components * width * height`, by the size that
-    /// `info` returns. A picture of more is refused by `decode` as `Format`.
+    /// Sets how many samples a picture may have: `components * width * height`, with the size that
+    /// `info` returns. `decode` refuses a larger picture as `Format`.
     ///
-    /// It counts samples, and not bytes: a lossless picture above 8 bits has two bytes for each. As
-    /// in the original crate it is compared after the end of the image, where the blocks and planes
-    /// are already in memory, so it bounds the picture alone. What bounds memory before anything is
-    /// taken is `read_info`, and then `info` or `decoding_bytes`.
+    /// It counts samples, not bytes: a lossless picture above 8 bits has two bytes for each. As in
+    /// the original crate, it is checked after the end of the image, when blocks and planes are
+    /// already in memory, so it bounds only the picture. To bound memory before anything is
+    /// allocated, call `read_info`, and then `info` or `decoding_bytes`.
     pub fn set_max_decoding_buffer_size(&mut self, max: usize)
         ensures { self.new ≡ record self.old {
           settings = record self.old.settings
@@ -307,7 +308,7 @@ impl<R: Read + Drop> Decoder<R> {
         self.settings.limit = max;
     }
 
-    /// Returns the last Exif data that was read. It does so in every state.
+    /// Returns the last Exif data read so far, in every state.
     pub fn exif_data(&self) -> Option<&[u8]>
         ensures { option_copied result ≡ self.now.found.said.metadata.exif }
     {
@@ -319,7 +320,7 @@ impl<R: Read + Drop> Decoder<R> {
             .map(|bytes| bytes.as_slice())
     }
 
-    /// Returns the last XMP data that was read. It does so in every state.
+    /// Returns the last XMP data read so far, in every state.
     pub fn xmp_data(&self) -> Option<&[u8]>
         ensures { option_copied result ≡ self.now.found.said.metadata.xmp }
     {
@@ -331,8 +332,8 @@ impl<R: Read + Drop> Decoder<R> {
             .map(|bytes| bytes.as_slice())
     }
 
-    /// Returns the ICC profile that was read (ICC.1, Annex B.4), where all its parts were. The only
-    /// error is `OutOfMemory`.
+    /// Returns the ICC profile (ICC.1, Annex B.4), if all its parts were read. The only error is
+    /// `OutOfMemory`.
     pub fn icc_profile(&self) -> Result<Option<Vec<u8>>>
         ensures { MatchResult result (λ o. option_map (λ v. v.items) o
             ≡ profile_of self.now.found.said.metadata.icc) (λ e. e ≡ OutOfMemory) }
@@ -340,12 +341,12 @@ impl<R: Read + Drop> Decoder<R> {
         profile(self.alloc, self.state.said.metadata.icc.as_slice())
     }
 
-    /// Reads through the frame's segment, so that `info` describes the picture. Once it is
-    /// read, nothing more is read.
+    /// Reads through the frame header, so that `info` describes the picture. If it has been read
+    /// already, reads nothing.
     ///
-    /// Errors: `Format` where a rule is broken, `Unsupported` by the name of a feature, `Io` where
-    /// the bytes end or a read fails, and `OutOfMemory`; `Internal` where the decoder has failed,
-    /// and nowhere else. A refusal leaves a failed decoder, which returns what was read.
+    /// Errors: `Format` if a rule is broken, `Unsupported` with the name of a feature, `Io` if the
+    /// bytes end or a read fails, `OutOfMemory`, and `Internal` only if the decoder has failed.
+    /// After an error the decoder has failed, and still returns what was read.
     pub fn read_info(&mut self) -> Result<()>
         ensures stage { MovesToHeader self.old.stage self.new.stage result }
         ensures reads { self.old.stage ≡ Fresh → Answers (λ _. self.new.found) header_at
@@ -369,13 +370,12 @@ impl<R: Read + Drop> Decoder<R> {
         result
     }
 
-    /// Scales the picture down to the least of 1/8, 1/4, 1/2 and all of its size at which it is as
-    /// wide or as high as requested, and returns the size of the picture at that scale. Reads
-    /// the header first where it wasn't read; the last call counts. A lossless picture keeps its
-    /// size.
+    /// Scales the picture down to the least of 1/8, 1/4, 1/2 and full size at which it is at least
+    /// as wide or as high as requested, and returns the size of the picture at that scale. Reads
+    /// the header first if necessary; the last call counts. A lossless picture keeps its size.
     ///
-    /// After `decode` the call changes what `info` returns, and no picture. The errors are those of
-    /// `read_info`; a refusal leaves a failed decoder.
+    /// After `decode`, the call changes what `info` returns, but no picture. The errors are those
+    /// of `read_info`, after which the decoder has failed.
     pub fn scale(&mut self, requested_width: u16, requested_height: u16) -> Result<(u16, u16)>
         ensures stage { MovesToHeader self.old.stage self.new.stage result }
         ensures reads { self.old.stage ≡ Fresh → Answers (λ _. self.new.found)
@@ -401,15 +401,15 @@ impl<R: Read + Drop> Decoder<R> {
         scale_state(&mut self.state, scale)
     }
 
-    /// Scales the picture to exactly 1/8, 1/4, 1/2 or all of its size, each side rounded up, and
-    /// returns the size of the picture at that scale. Reads the header first where it wasn't read;
-    /// the last call of `set_scale` or `scale` counts. A lossless picture keeps its size.
+    /// Scales the picture to exactly 1/8, 1/4, 1/2 or full size, each side rounded up, and returns
+    /// the size of the picture at that scale. Reads the header first if necessary; the last call of
+    /// `set_scale` or `scale` counts. A lossless picture keeps its size.
     ///
-    /// `scale` chooses by a size, and a picture one pixel wide has its width at 1/8 already. Here
-    /// the scale is the caller's choice.
+    /// `scale` chooses from a size, and a picture one pixel wide already has its width at 1/8; here
+    /// the caller chooses.
     ///
-    /// After `decode` the call changes what `info` returns, and no picture. The errors are those of
-    /// `read_info`; a refusal leaves a failed decoder.
+    /// After `decode`, the call changes what `info` returns, but no picture. The errors are those
+    /// of `read_info`, after which the decoder has failed.
     pub fn set_scale(&mut self, scale: Scale) -> Result<(u16, u16)>
         ensures stage { MovesToHeader self.old.stage self.new.stage result }
         ensures reads { self.old.stage ≡ Fresh → Answers (λ _. self.new.found)
@@ -435,16 +435,16 @@ impl<R: Read + Drop> Decoder<R> {
     /// Reads through the end of the image and no byte after it, and returns the picture: its
     /// samples line by line from the top, and in each line pixel by pixel, one of each component. A
     /// sample takes one byte, or two in a lossless picture above 8 bits, the lower byte first;
-    /// [`PixelFormat`] has the details, and `precision` the bits.
+    /// [`PixelFormat`] has the details, and `precision` returns the number of bits.
     ///
-    /// Where the stream is one that a writer emits for the coefficients of an image, that is their
-    /// picture; and where it is a lossless one for samples, it is these samples.
+    /// If the stream is one that a writer emits for the coefficients of an image, the result is
+    /// their picture; if it is a lossless stream for samples, it is those samples.
     ///
-    /// Errors: `Format` where a rule is broken or the picture is above the limit, `Unsupported` by
-    /// the name of a feature, `Io` where the bytes end or a read fails, and `OutOfMemory`;
-    /// `Internal` where the decoder has failed or has decoded its image, and nowhere else. A
-    /// refusal leaves a failed decoder, which returns what was read, but a finished one stays
-    /// finished. No samples are kept after either.
+    /// Errors: `Format` if a rule is broken or the picture is above the limit, `Unsupported` with
+    /// the name of a feature, `Io` if the bytes end or a read fails, `OutOfMemory`, and `Internal`
+    /// only if the decoder has failed or has already decoded its image. After an error the decoder
+    /// has failed, and still returns what was read, unless it has decoded its image: then it stays
+    /// as it is. In every case no samples are kept.
     pub fn decode(&mut self) -> Result<Vec<u8>>
         // The meaning of what the source has left, the state, and what is told: see `Decodes`.
         ensures decodes { Decodes (λ v. v.items) self.old result self.new }
@@ -483,14 +483,14 @@ impl<R: Read + Drop> Decoder<R> {
         result
     }
 
-    /// Does as `decode` does, but writes the picture to the front of memory that the caller has, so
-    /// that no second picture is in memory, and returns how many bytes it has. What follows them
-    /// stays as it was. Reads the header first where it wasn't read.
+    /// Like `decode`, but writes the picture to the start of the caller's memory, so that no second
+    /// picture is needed, and returns its size in bytes. The rest is unchanged. Reads the header
+    /// first if necessary.
     ///
-    /// Errors: those of `decode`, and `Internal` where `pixels` is shorter than the picture, whose
-    /// bytes are `DecodingBytes::picture`. Nothing of the scans is read then, and the decoder is as
-    /// after `read_info`, so that the call can be made again with more room. After every error
-    /// `pixels` is as it was.
+    /// Errors: those of `decode`, and `Internal` if `pixels` is shorter than the picture, whose
+    /// size is `DecodingBytes::picture`. In that case nothing of the scans is read, and the decoder
+    /// is as after `read_info`, so the call can be repeated with more room. After any error
+    /// `pixels` is unchanged.
     pub fn decode_into(&mut self, pixels: &mut [u8]) -> Result<usize>
         // Where there is room for the picture, all is as for `decode`.
         ensures decodes { HasRoom self.new.found.said.frame (length pixels.old)

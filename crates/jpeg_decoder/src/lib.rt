@@ -8,7 +8,7 @@
 //!     let mut decoder = Decoder::new(alloc, reader)?;
 //!     let pixels = decoder.decode()?;     // a Vec<u8>, line by line from the top
 //!     let info = decoder.info();          // width, height, pixel format and coding process
-//!     let bits = decoder.precision();     // bits a sample: one byte up to 8, and two above
+//!     let bits = decoder.precision();     // bits per sample: one byte up to 8, two above
 //!     let exif = decoder.exif_data();     // also xmp_data and icc_profile
 //!
 //! The bytes of a picture are its samples, line by line from the top and pixel by pixel, one of
@@ -16,20 +16,20 @@
 //! lossless picture of three or four components above 8 bits has two, the lower byte first, beside
 //! `RGB24` or `CMYK32`.
 //!
-//! `read_info` reads the header alone. `info` then gives the size of the picture, and
-//! `decoding_bytes` all that decoding it takes, so that a service can refuse it before any of that
-//! is taken; `set_max_decoding_buffer_size` counts samples, and refuses at the end of the image.
-//! `set_scale` asks for the picture at 1/8, 1/4, 1/2 or all of its size, and `scale` for the least
-//! of these that reaches a size. [`run::run`] is a whole program: from a reader to a line of text
-//! and the pixels on a writer.
+//! `read_info` reads only the header. `info` then gives the size of the picture, and
+//! `decoding_bytes` all the memory that decoding it takes, so that a service can refuse it before
+//! any of that is allocated; `set_max_decoding_buffer_size` counts samples, and refuses at the end
+//! of the image. `set_scale` requests the picture at 1/8, 1/4, 1/2 or full size, and `scale` at the
+//! least of these that reaches a size. [`run::run`] is a whole program: from a reader to a line of
+//! text and the pixels on a writer.
 //!
-//! Every call returns, whatever the reader gives, with a value or an [`Error`] that names what was
-//! wrong; after a refusal the frame and the metadata that were read before it are still there. What
-//! `decode` answers is the meaning of the bytes (clause `reads`), and for a stream that was written
+//! Every call returns, whatever the reader gives, with a value or an [`Error`] that says what was
+//! wrong; after an error the frame and the metadata that were read before it are still there. What
+//! `decode` returns is the meaning of the bytes (clause `reads`), and for a stream that was written
 //! for the coefficients of an image it is their picture, however they were coded (clause `images`);
 //! a lossless stream gives back its samples (clause `samples`). [`laws::headline`] and
-//! [`laws::lossless`] have these theorems as laws of their own. A caller with contracts of its own finds the lemmas
-//! that it needs in `proofs/Callers.antt`.
+//! [`laws::lossless`] have these theorems as laws of their own. A caller with contracts of its own
+//! finds the lemmas that it needs in `proofs/Callers.antt`.
 #![tactic(auto)]
 
 pub mod decoder;
@@ -43,9 +43,9 @@ pub mod sizes;
 mod stream;
 
 pub use decoder::{Decoder, ImageInfo, PixelFormat};
-pub use jpeg_bits::source::byte_reader::ByteReader;
 pub use jpeg_bits::color_transform::ColorTransform;
 pub use jpeg_bits::error::{Error, UnsupportedFeature};
+pub use jpeg_bits::source::byte_reader::ByteReader;
 pub use jpeg_bits::source::slice_reader::SliceReader;
 pub use jpeg_bits::{huffman, marker};
 pub use jpeg_lossless::lossless;

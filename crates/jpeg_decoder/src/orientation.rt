@@ -1,4 +1,4 @@
-//! The orientation that Exif data say (Exif 2.3, 4.6.4; TIFF 6.0, sections 2 and 8).
+//! The orientation given by Exif data (Exif 2.3, 4.6.4; TIFF 6.0, sections 2 and 8).
 ghost use Rattle.std.specs.Prelude.{◌≡◌, ◌<◌, ◌≤◌, ◌+◌, MatchOption, if◌then◌else◌};
 ghost use Rattle.std.specs.Prelude.{IfSome, Some, None, length, true};
 ghost use Rattle.jpeg_decoder.specs.Orientation.{entries_in, first_directory, is_orientation};
@@ -12,7 +12,7 @@ const ORIENTATION: u16 = 0x0112;
 /// The type of values of two bytes.
 const SHORT: u16 = 3;
 
-/// The type of values of four bytes with a sign, which some writers take in place of `SHORT`.
+/// The type of values of four bytes with a sign, which some writers use in place of `SHORT`.
 const SLONG: u16 = 9;
 
 /// Returns the number of two bytes at an offset, if they are there.
@@ -127,12 +127,13 @@ fn orientation_by(exif: &[u8], is_little: bool) -> Option<u8>
     orientation_among(entries, count, is_little)
 }
 
-/// Returns the orientation that Exif data say, 1 (upright) to 8: the value of the first entry of
+/// Returns the orientation given by Exif data, 1 (upright) to 8: the value of the first entry of
 /// their first directory that has the tag 0x0112 and one number of two bytes from 1 to 8, or of
-/// four with a sign, which some files have.
+/// four with a sign, which some files use.
 ///
-/// Data begin at their TIFF header, as those of [`Decoder::exif_data`](crate::Decoder::exif_data).
-/// Where they are cut or say no orientation the answer is none.
+/// The data begin at their TIFF header, as those of
+/// [`Decoder::exif_data`](crate::Decoder::exif_data). If they are truncated or give no orientation,
+/// returns none.
 #[tactic(auto, using(crate::proofs::Rules::exif))]
 pub fn orientation_of(exif: &[u8]) -> Option<u8>
     ensures value { result ≡ orientation_in exif.now }

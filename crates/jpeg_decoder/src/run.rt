@@ -15,8 +15,8 @@ use std::alloc::{AllocError, Global};
 use std::io;
 use std::io::{ErrorKind, Read, Write};
 
-/// Writes all of the bytes, again after each interruption. A write of 0 bytes is refused as
-/// `WriteZero`, and interruptions without end by a `Format` with no text.
+/// Writes all of the bytes, repeating interrupted writes. A write of 0 bytes is refused as
+/// `WriteZero`, and endless interruptions as a `Format` without a text.
 fn write_fully<W: Write>(alloc: Global, writer: &mut W, bytes: &[u8]) -> Result<()>
     ensures ok { OnOk result (Appends (W.contents writer.old) (W.contents writer.new) bytes.now) }
     ensures err { OnErr result (TakesBeginning (W.contents writer.old) (W.contents writer.new)
@@ -68,7 +68,7 @@ fn info_line(alloc: Global, info: ImageInfo) -> std::result::Result<String, Allo
     format!(in alloc; "{width} {height} {format}\n")
 }
 
-/// Returns the header line, where there is a frame.
+/// Returns the header line, if there is a frame.
 fn header_line(alloc: Global, info: Option<ImageInfo>) -> std::result::Result<String, AllocError>
     ensures { IfOk result (λ line. string_bytes line ≡ header_line_of info) }
 {
@@ -91,8 +91,8 @@ fn write_both<W: Write>(alloc: Global, writer: &mut W, first: &[u8], second: &[u
 }
 
 /// Decodes the stream that the reader gives, and writes the header line `WIDTH HEIGHT FORMAT` with
-/// a line feed and then the pixels, line by line from the top. All is decoded before anything is
-/// written.
+/// a line feed and then the pixels, line by line from the top. Everything is decoded before
+/// anything is written.
 pub fn run<R: Read + Drop, W: Write>(alloc: Global, reader: R, writer: &mut W) -> Result<()>
     // A stream that is written for the coefficients of an image is printed as their picture.
     ensures images { PrintsImages (R.remaining reader) (W.contents writer.old) result
@@ -134,8 +134,8 @@ pub fn run<R: Read + Drop, W: Write>(alloc: Global, reader: R, writer: &mut W) -
     write_both(alloc, writer, line.as_bytes(), pixels.as_slice())
 }
 
-/// Reports a refusal in one line, and returns the program's status: 0 for `Ok`, of which nothing is
-/// written, and 1 for a refusal, also where the line can't be written.
+/// Reports a refusal in one line, and returns the program's status: 0 for `Ok`, for which nothing
+/// is written, and 1 for a refusal, even if the line can't be written.
 pub fn report<W: Write>(_alloc: Global, outcome: &Result<()>, writer: &mut W) -> u8
     ensures ok { OnOk outcome.now ((result ≡ 0) × Keeps (W.contents writer.old)
         (W.contents writer.new)) }

@@ -1,4 +1,4 @@
-//! The memory that decoding takes, by a frame's header.
+//! The memory that decoding takes, judging by the frame header.
 ghost use Rattle.std.specs.Prelude.{◌≡◌, ◌<◌, ◌≤◌, ◌*◌, ◌^◌, length, sum_by};
 ghost use Rattle.jpeg_segments.specs.Frame.{AllHaveSampling};
 ghost use Rattle.jpeg_segments.specs.FrameView.{component_in, frame_in};
@@ -7,23 +7,25 @@ ghost use Rattle.jpeg_decoder.specs.Bytes.{decoding_bytes, picture_size, plane_b
 
 use jpeg_segments::parser::{CodingProcess, Component, FrameInfo};
 
-/// How many bytes decoding a picture takes, by its frame's header at the scale that was chosen.
+/// How many bytes decoding a picture takes, judging by its frame header, at the scale that was
+/// chosen.
 ///
-/// Counted are the three that grow with the picture. Not counted are metadata and tables, what the
-/// reader buffers, the few lines that are converted at a time, and what the allocator adds. A scan
-/// of a component whose plane is decided already has a plane of its own while it is read.
+/// These three grow with the picture. Metadata, tables, the reader's buffer, the few lines
+/// converted at a time and the allocator's overhead are not counted; nor are the planes that a
+/// sequential scan has for all of its components while it is read, if only some of them have planes
+/// already.
 #[derive(Clone, Copy, Debug, PartialEq)]
 pub struct DecodingBytes {
     /// The coefficients that are buffered, two bytes each: those of a row of MCUs for a sequential
     /// frame, of all blocks for a progressive one, and none for a lossless one.
     pub coefficients: u64,
-    /// The planes of all components: a byte a sample of all blocks at the scale, or two bytes a
+    /// The planes of all components: a byte per sample of all blocks at the scale, or two bytes per
     /// sample for a lossless frame.
     pub planes: u64,
     /// The picture that `decode` returns.
     pub picture: u64,
-    /// The most that is taken at a time: coefficients and planes while scans are read, and planes
-    /// and picture at the end. The plane of a frame of one component, unless it is a lossless one,
+    /// The most that is in use at a time: coefficients and planes while scans are read, and planes
+    /// and picture at the end. The plane of a frame of one component, unless it is lossless,
     /// becomes the picture itself.
     pub peak: u64,
 }
@@ -45,7 +47,7 @@ fn along(blocks: u16, scale: usize) -> u64
     u64::from(blocks) * scale as u64
 }
 
-/// Returns how many bytes the coefficients take that are buffered of a component.
+/// Returns how many bytes the buffered coefficients of a component take.
 fn coefficient_bytes(component: &Component, process: CodingProcess) -> u64
     ensures bytes { result ≡ coefficient_bytes process (component_in component.now) }
     ensures most { result < 2 ^ 39 }
@@ -138,7 +140,7 @@ fn beside_planes(frame: &FrameInfo, picture: u64) -> u64
     }
 }
 
-/// Returns how many bytes decoding takes, by the frame's header.
+/// Returns how many bytes decoding takes, judging by the frame header.
 pub(crate) fn decoding_bytes(frame: &FrameInfo) -> DecodingBytes
     requires few { length (frame_in frame.now).components ≤ 4 }
     requires sampling { AllHaveSampling (frame_in frame.now).components }

@@ -70,7 +70,7 @@ rest-written table al room run own bytes w = record {
   written = grind (arith, an_end, of-rest, run-small);
 }
 
--- a band of so many coefficients
+-- a band of this many coefficients
 pub record IsLong (table : Table) (al room : ℕ) (y : Band) (own : List Bool) : Type 0 where
   pub band : IsBand table al y.0 y.1 own
   pub long : length y.0 ≡ room

@@ -119,7 +119,7 @@ map-taken p f P Q taken told e =
     let m = map-parts p f e in
     rw m.2 at (cut-map (told m.0) (taken m.0 m.1))
 
--- the first n bits, of at least so many
+-- the first n bits, of at least this many
 cut-front : (P : List Bool → Type 0) (n : ℕ) (bits : List Bool) (t : Text) → advance n (alone bits) ≡ t
     → P (take n bits) → IsCut P bits t
 cut-front P n bits t e h = grind (arith, drop-nil, take-append-drop)

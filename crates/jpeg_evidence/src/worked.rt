@@ -164,7 +164,7 @@ pub fn known_refusals()
     ensures levels { picture_meant by_two_levels ≡ Err Malformed }
 {}
 
-/// The scales for some sizes that are asked for.
+/// The scales for some requested sizes.
 #[tactic(auto, unfolding(jpeg_segments::specs::Scales::scale_for))]
 pub fn known_scales()
     ensures eighth { scale_for 5472 3648 684 456 ≡ 1 }

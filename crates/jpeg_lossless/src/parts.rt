@@ -6,8 +6,8 @@ ghost use Rattle.jpeg_lossless.specs.Differences.{mcu_tables};
 use jpeg_bits::huffman::HuffmanTable;
 use std::alloc::{AllocError, Global};
 
-/// What a scan has of a component. An MCU has `down` lines of `across` samples of it, where several
-/// components are interleaved, and else one sample. The samples beyond its size are padding.
+/// What a scan has of a component. An MCU has `down` lines of `across` samples of it if several
+/// components are interleaved, otherwise one sample. The samples beyond its size are padding.
 #[derive(Drop)]
 pub struct Part<'a> {
     /// The table of its differences.

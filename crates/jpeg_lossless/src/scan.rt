@@ -45,8 +45,8 @@ pub struct Coding {
     pub restart_interval: u16,
 }
 
-/// Returns how many rows of MCUs a restart interval has: all without restarts, or where it has the
-/// whole scan. It is none where an interval would end inside a row.
+/// Returns how many rows of MCUs a restart interval has: all without restarts, or if it has the
+/// whole scan. Returns none if an interval would end inside a row.
 fn rows_of_interval(coding: Coding) -> Option<u16>
     requires wide { 0 < coding.wide }
     requires high { 0 < coding.high }
@@ -265,7 +265,7 @@ fn finish_all(planes: &mut [Vec<u16>], parts: &[Part<'_>], point_transform: u8)
     }
 }
 
-/// Reads a scan as `read_scan` does, row by row.
+/// Like `read_scan`, row by row.
 #[tactic(auto, unfolding(crate::proofs::Rules::scans), using(crate::proofs::Sizes::scan_rules))]
 fn read_planes<R: Read + Drop>(
     alloc: Global,
@@ -309,14 +309,13 @@ fn read_planes<R: Read + Drop>(
     Ok((scan.planes, marker))
 }
 
-/// Reads the entropy-coded data of a lossless scan, of which the parts are its components. Returns
-/// a plane for each part, and the marker after the data, if it was read. A plane has the
-/// component's own samples, line by line, which are shifted by the point transform.
+/// Reads the entropy-coded data of a lossless scan, whose components are the parts. Returns a plane
+/// for each part, and the marker after the data, if it was read. A plane has the component's own
+/// samples, line by line, shifted by the point transform.
 ///
-/// It is `Format` where a restart interval ends inside a row, bits are no code of their table, a
-/// category is above 16, FF 00 stands where a marker is expected, or an interval does not end with
-/// the restart marker that is due. It is `Io` where the bytes end or a read fails, and
-/// `OutOfMemory` where no memory is left.
+/// Errors: `Format` if a restart interval ends inside a row, bits are no code of their table, a
+/// category is above 16, FF 00 stands in place of a marker, or an interval doesn't end with the
+/// restart marker that is due; `Io` if the bytes end or a read fails; `OutOfMemory`.
 #[tactic(auto, using(crate::proofs::Sizes::scan_rules))]
 pub fn read_scan<R: Read + Drop>(
     alloc: Global,

@@ -1,5 +1,4 @@
-//! The inverse transform of a block over lanes, and the colours of a line in chunks of eight
-//! pixels.
+//! The inverse transform of a block in lanes, and the colours of a line in chunks of eight pixels.
 ghost use Rattle.std.specs.Prelude.{◌≡◌, ℕ, ◌+◌, ◌*◌, ◌<◌, ◌≤◌, pos, neg_ℤ, ◌+ℤ◌, ◌-ℤ◌, ◌*ℤ◌};
 ghost use Rattle.std.specs.Prelude.{length, slice_index_or, [], ◌∷◌, map, ⊤, slice_index};
 ghost use Rattle.std.specs.Prelude.{if◌then◌else◌, ◌%◌, ◌/◌, ◌==◌, IsTrue, ◌↔◌};
@@ -15,7 +14,7 @@ pub use crate::color_rows::color_convert_line_ycbcr;
 use crate::fixed_point::{COLUMN_BIAS, ROW_BIAS, sample_of};
 use std::simd::prelude::*;
 
-// Eight rows of eight lanes.
+/// Eight rows of eight lanes.
 #[derive(Clone, Copy)]
 pub(crate) struct Rows {
     pub(crate) r0: i32x8,
@@ -28,7 +27,7 @@ pub(crate) struct Rows {
     pub(crate) r7: i32x8,
 }
 
-// What the even numbers give, in each lane.
+/// Returns what the even numbers give, in each lane.
 fn kernel_x(s: Rows, x_scale: i32) -> (i32x8, i32x8, i32x8, i32x8)
     ensures x0 { result.0 ≡ lanes (λ j. int_wrap w32
         (pos 4096 *ℤ lane s.r0 j +ℤ pos 5352 *ℤ lane s.r2 j +ℤ pos 4096 *ℤ lane s.r4 j +ℤ pos 2217
@@ -57,7 +56,7 @@ fn kernel_x(s: Rows, x_scale: i32) -> (i32x8, i32x8, i32x8, i32x8)
     )
 }
 
-// What the odd numbers give, in each lane.
+/// Returns what the odd numbers give, in each lane.
 fn kernel_t(s: Rows) -> (i32x8, i32x8, i32x8, i32x8)
     ensures t0 { result.0 ≡ lanes (λ j. int_wrap w32
         (pos 1131 *ℤ lane s.r1 j -ℤ pos 3218 *ℤ lane s.r3 j +ℤ pos 4816 *ℤ lane s.r5 j -ℤ pos 5680
@@ -87,7 +86,7 @@ fn kernel_t(s: Rows) -> (i32x8, i32x8, i32x8, i32x8)
     )
 }
 
-// The transform of each lane's eight numbers, modulo 2^32.
+/// Returns the transform of each lane's eight numbers, modulo 2^32.
 fn kernel(s: Rows, x_scale: i32) -> Rows
     ensures { HasNumbers result
         (λ index j. int_wrap w32 (transformed (λ k. lane_at s k j) index +ℤ x_scale)) }
@@ -143,7 +142,7 @@ fn products(coefficients: [i16; 64], quantization_table: &[u16; 64], at: usize) 
     c * q
 }
 
-// Whether every coefficient outside the top left 4x4 corner is 0.
+/// Returns whether every coefficient outside the top left 4x4 corner is 0.
 pub(crate) fn is_in_corner(coefficients: [i16; 64]) -> bool
     ensures { IsTrue result ↔ IsInCorner coefficients }
 {
@@ -159,8 +158,8 @@ pub(crate) fn is_in_corner(coefficients: [i16; 64]) -> bool
     (lower | right).simd_eq(i16x8::splat(0)).all()
 }
 
-// Returns the rows, whose last four are 0, unchanged. The zeros written here are constants, so the
-// compiler drops the products with them, and the code that computes the rows they replace.
+/// Returns the rows, whose last four are 0, unchanged. The zeros written here are constants, so the
+/// compiler drops the products with them, and the code that computes the rows they replace.
 #[inline(always)]
 #[tactic(auto, using(crate::proofs::Rules::kept), unfolding(crate::specs::Lanes::lanes))]
 fn with_zeros(rows: Rows) -> Rows
@@ -180,7 +179,7 @@ fn with_zeros(rows: Rows) -> Rows
     }
 }
 
-// Is 0 in the lanes of the columns that have nothing below the first row.
+/// Returns 0 in the lanes of the columns that have nothing below the first row.
 fn below_first_row(coefficients: [i16; 64]) -> i32x8
     ensures { (j : ℕ) → j < 8 → lane_is_zero result j ≡ is_flat_column coefficients j }
 {
@@ -194,7 +193,7 @@ fn below_first_row(coefficients: [i16; 64]) -> i32x8
     any.cast::<i32>()
 }
 
-// The values of the flat columns.
+/// Returns the values of the flat columns.
 fn flat_row(coefficients: [i16; 64], quantization_table: &[u16; 64]) -> i32x8
     ensures { result ≡ lanes (λ j. int_wrap w32 (pos 4 *ℤ dequantized coefficients
         quantization_table.now 0 j)) }
@@ -218,7 +217,7 @@ fn dequantized_rows(coefficients: [i16; 64], quantization_table: &[u16; 64]) -> 
     }
 }
 
-// The columns of a block whose dequantized coefficients are given.
+/// Returns the columns of a block whose dequantized coefficients are given.
 fn transform_columns(coefficients: [i16; 64], quantization_table: &[u16; 64], inputs: Rows) -> Rows
     requires { HasNumbers inputs (dequantized coefficients quantization_table.now) }
     ensures { HasNumbers result (column_value coefficients quantization_table.now) }
@@ -239,7 +238,7 @@ fn transform_columns(coefficients: [i16; 64], quantization_table: &[u16; 64], in
     }
 }
 
-// The sums of the samples, before the last shift, of columns whose values are in rows.
+/// Returns the sums of the samples, before the last shift, of columns whose values are in rows.
 fn transform_rows(turned: Rows) -> Rows
     ensures { HasNumbers result
         (λ y x. int_wrap w32 (transformed (λ k. lane_at turned k y) x +ℤ pos 16842752)) }
@@ -247,7 +246,7 @@ fn transform_rows(turned: Rows) -> Rows
     transpose(kernel(turned, ROW_BIAS))
 }
 
-// The sums of the samples, by rows, before the last shift.
+/// Returns the sums of the samples, by rows, before the last shift.
 fn transform_whole(coefficients: [i16; 64], quantization_table: &[u16; 64]) -> Rows
     ensures { HasNumbers result (λ y x. int_wrap w32
         (transformed (column_value coefficients quantization_table.now y) x +ℤ pos 16842752)) }
@@ -257,8 +256,8 @@ fn transform_whole(coefficients: [i16; 64], quantization_table: &[u16; 64]) -> R
     transform_rows(transpose(columns))
 }
 
-// The same sums, for a block that is 0 outside its top left corner: half of the rows that each pass
-// takes are 0.
+/// Returns the same sums, for a block that is 0 outside its top left corner: half of the rows that
+/// each pass takes are 0.
 fn transform_corner(coefficients: [i16; 64], quantization_table: &[u16; 64]) -> Rows
     requires { IsInCorner coefficients }
     ensures { HasNumbers result (λ y x. int_wrap w32
@@ -269,7 +268,7 @@ fn transform_corner(coefficients: [i16; 64], quantization_table: &[u16; 64]) -> 
     transform_rows(with_zeros(transpose(columns)))
 }
 
-// The same sums, by the shorter way where the block allows it.
+/// Returns the same sums, by the shorter way if the block allows it.
 fn transform(coefficients: [i16; 64], quantization_table: &[u16; 64]) -> Rows
     ensures { HasNumbers result (λ y x. int_wrap w32
         (transformed (column_value coefficients quantization_table.now y) x +ℤ pos 16842752)) }
@@ -281,7 +280,7 @@ fn transform(coefficients: [i16; 64], quantization_table: &[u16; 64]) -> Rows
     }
 }
 
-// The sums of the samples, before the last shift.
+/// Returns the sums of the samples, before the last shift.
 #[tactic(auto, using(crate::proofs::ShortLanes::rows))]
 pub(crate) fn sums_of(coefficients: [i16; 64], quantization_table: &[u16; 64]) -> [[i32; 8]; 8]
     ensures { (y x : ℕ) → y < 8 → x < 8 → slice_index_or (slice_index_or result y []) x (pos 0)
@@ -301,7 +300,7 @@ pub(crate) fn sums_of(coefficients: [i16; 64], quantization_table: &[u16; 64]) -
     ]
 }
 
-// Writes the samples of a row to the front of the bytes.
+/// Writes the samples of a row to the front of the bytes.
 fn write_samples(sums: &[i32; 8], output: &mut [u8])
     requires { 8 ≤ length output.old }
     ensures inside { (x : ℕ) → x < 8 → slice_index output.new x
@@ -313,8 +312,8 @@ fn write_samples(sums: &[i32; 8], output: &mut [u8])
     }
 }
 
-// The samples of a block, line by line. They are in an array of their own, which is known to be
-// apart from the sums: so their clamps are vectorised.
+/// Returns the samples of a block, line by line. They are in an array of their own, which is known
+/// to be apart from the sums, so that their clamps are vectorised.
 pub(crate) fn samples_of(sums: &[[i32; 8]; 8]) -> [u8; 64]
     ensures { (x y : ℕ) → x < 8 → y < 8 → slice_index result (y * 8 + x)
         ≡ clamped (int_shr (slice_index_or (slice_index_or sums.now y []) x (pos 0)) 17) }
@@ -326,7 +325,7 @@ pub(crate) fn samples_of(sums: &[[i32; 8]; 8]) -> [u8; 64]
     samples
 }
 
-// Copies eight samples to the front of the bytes.
+/// Copies eight samples to the front of the bytes.
 fn copy_line(line: &[u8], output: &mut [u8])
     requires line { length line.now ≡ 8 }
     requires room { 8 ≤ length output.old }
@@ -336,7 +335,7 @@ fn copy_line(line: &[u8], output: &mut [u8])
     output[..8].copy_from_slice(line);
 }
 
-// Copies the samples of a block, line by line.
+/// Copies the samples of a block, line by line.
 pub(crate) fn copy_lines(samples: &[u8; 64], output_linestride: usize, output: &mut [u8])
     requires wide { 8 ≤ output_linestride }
     requires room { 7 * output_linestride + 8 ≤ length output.old }
@@ -352,8 +351,8 @@ pub(crate) fn copy_lines(samples: &[u8; 64], output_linestride: usize, output: &
     }
 }
 
-/// Dequantizes a block of 8x8 coefficients and transforms it to 8x8 samples, as
-/// `idct::dequantize_and_idct_block_8x8` does: eight columns side by side, and then eight rows.
+/// Dequantizes a block of 8x8 coefficients and transforms it to 8x8 samples, like
+/// `idct::dequantize_and_idct_block_8x8`: eight columns side by side, and then eight rows.
 #[tactic(auto, unfolding(crate::specs::Samples::sample))]
 pub fn dequantize_and_idct_block_8x8(
     coefficients: &[i16; 64],

@@ -1,4 +1,4 @@
-//! Which colour transform a picture gets (JFIF, and Adobe's transforms).
+//! The colour transform of a picture (JFIF, and Adobe's transforms).
 ghost use Rattle.std.specs.Prelude.{◌≡◌};
 ghost use Rattle.jpeg_bits.specs.Reading.{NamesFormat};
 
@@ -27,9 +27,9 @@ impl ColorConvert {
     ghost use Rattle.jpeg_bits.specs.declared.error.Error.TheVariants.{OutOfMemory};
     ghost use Rattle.jpeg_pixels.specs.Colour.{conversion_of};
 
-    /// Returns the conversion of a transform for three or four components. A transform that doesn't
-    /// fit is `Format`, or `OutOfMemory` where there is no room for the text, and one that is not
-    /// known here is `Unsupported(ColorTransform(..))`.
+    /// Returns the conversion of a transform for three or four components. Errors: `Format` if the
+    /// transform doesn't fit, or `OutOfMemory` if there is no room for the text;
+    /// `Unsupported(ColorTransform(..))` if it is not known here.
     #[tactic(auto, unfolding(crate::specs::Colour::conversion_of))]
     pub fn choose(
         alloc: Global,

@@ -5,21 +5,21 @@ ghost use Rattle.std.specs.Int.{int_shr};
 ghost use Rattle.jpeg_pixels.specs.Samples.{clamped};
 ghost use Rattle.jpeg_pixels.specs.Colour.{centred_of, red_of, green_of, blue_of};
 
-// Returns a colour difference: its sample less 128.
+/// Returns a colour difference: its sample less 128.
 fn centred(c: u8) -> i16
     ensures { result ≡ centred_of c }
 {
     i16::from(c) - 128
 }
 
-// Returns the upper half of a product.
+/// Returns the upper half of a product.
 fn upper_half(value: i16, factor: i16) -> i16
     ensures { result ≡ int_shr (value *ℤ factor) 16 }
 {
     ((i32::from(value) * i32::from(factor)) >> 16) as i16
 }
 
-// Returns half of a number, rounded up.
+/// Returns half of a number, rounded up.
 fn rounded(value: i16) -> i16
     requires { value ≤ℤ pos 32766 }
     ensures { result ≡ int_shr (value +ℤ pos 1) 1 }
@@ -27,7 +27,7 @@ fn rounded(value: i16) -> i16
     (value + 1) >> 1
 }
 
-// Returns the sum of a brightness and the difference of a colour from it, as a byte.
+/// Returns the sum of a brightness and the difference of a colour from it, as a byte.
 fn added(y: u8, difference: i16) -> u8
     requires { unsigned_abs difference ≤ 1000 }
     ensures { result ≡ clamped (pos y +ℤ difference) }
@@ -42,16 +42,16 @@ fn red(y: u8, cr: u8) -> u8
     added(y, rounded(upper_half(8 * centred(cr), 22971)))
 }
 
-// Returns the part of `green_sum` that comes from the multiples of 64 in its factors.
+/// Returns the part of `green_sum` that comes from the multiples of 64 in its factors.
 fn coarse_green_sum(cb: u8, cr: u8) -> i32
     ensures { result ≡ pos 0 -ℤ pos 360832 *ℤ centred_of cb -ℤ pos 748800 *ℤ centred_of cr }
 {
     i32::from(64 * centred(cb)) * -5638 + i32::from(64 * centred(cr)) * -11700
 }
 
-// Returns the difference of green from the brightness, in units of 1 / 2^20, plus half a unit to
-// round. Its factors are 64 * 5638 + 25 and 64 * 11700 + 30, so that each product is one of 16
-// bits.
+/// Returns the difference of green from the brightness, in units of 1 / 2^20, plus half a unit to
+/// round. Its factors are 64 * 5638 + 25 and 64 * 11700 + 30, so that each product is one of 16
+/// bits.
 fn green_sum(cb: u8, cr: u8) -> i32
     ensures { result ≡ pos 524288 -ℤ pos 360857 *ℤ centred_of cb -ℤ pos 748830 *ℤ centred_of cr }
 {
@@ -73,7 +73,7 @@ fn blue(y: u8, cb: u8) -> u8
     added(y, rounded(upper_half(8 * centred(cb), 29033)))
 }
 
-// Writes the red of some pixels from index `start` on, by their brightness and third component.
+/// Writes the red of some pixels from index `start` on, from their brightness and third component.
 fn red_row(y: &[u8], cr: &[u8], start: usize, count: usize, row: &mut [u8; 64])
     requires most { count ≤ 64 }
     requires y_room { start + count ≤ length y.now }
@@ -112,7 +112,7 @@ fn blue_row(y: &[u8], cb: &[u8], start: usize, count: usize, row: &mut [u8; 64])
     }
 }
 
-// Writes 255 minus each sample from index `start` on.
+/// Writes 255 minus each sample from index `start` on.
 fn inverted_row(lines: &[u8], start: usize, count: usize, row: &mut [u8; 64])
     requires most { count ≤ 64 }
     requires room { start + count ≤ length lines.now }
@@ -124,7 +124,7 @@ fn inverted_row(lines: &[u8], start: usize, count: usize, row: &mut [u8; 64])
     }
 }
 
-// Writes the pixels from `start` on, of three rows.
+/// Writes the pixels from `start` on, of three rows.
 fn interleave_three(
     first: &[u8],
     second: &[u8],
@@ -163,7 +163,7 @@ struct FourRows<'a> {
     fourth: &'a [u8],
 }
 
-// Writes the pixels from `start` on, of four rows.
+/// Writes the pixels from `start` on, of four rows.
 fn interleave_four(rows: &FourRows<'_>, count: usize, output: &mut [u8], start: usize)
     requires first { count ≤ length rows.now.first.now }
     requires second { count ≤ length rows.now.second.now }
@@ -188,7 +188,7 @@ fn interleave_four(rows: &FourRows<'_>, count: usize, output: &mut [u8], start: 
     }
 }
 
-// Red, green and blue of some pixels from `start` on, by rows of 64.
+/// Writes red, green and blue of some pixels from `start` on, by rows of 64.
 #[inline(always)]
 fn write_ycbcr_rows(y: &[u8], cb: &[u8], cr: &[u8], start: usize, count: usize, output: &mut [u8])
     requires most { count ≤ 64 }
@@ -216,8 +216,8 @@ fn write_ycbcr_rows(y: &[u8], cb: &[u8], cr: &[u8], start: usize, count: usize, 
     interleave_three(&red, &green, &blue, count, output, start);
 }
 
-// The same. Most pieces have 64 pixels: where the compiler knows their number, it unrolls the loops
-// over the rows, and keeps these in registers.
+/// Like `write_ycbcr_rows`. Most pieces have 64 pixels: where the compiler knows their number, it
+/// unrolls the loops over the rows, and keeps these in registers.
 #[inline(never)]
 fn write_ycbcr_piece(y: &[u8], cb: &[u8], cr: &[u8], start: usize, count: usize, output: &mut [u8])
     requires most { count ≤ 64 }
@@ -243,9 +243,9 @@ fn write_ycbcr_piece(y: &[u8], cb: &[u8], cr: &[u8], start: usize, count: usize,
     }
 }
 
-/// Writes red, green and blue of pixels by their brightness and two colour differences, in chunks
+/// Writes red, green and blue of pixels from their brightness and two colour differences, in chunks
 /// of eight: of the pixels for which the output has room, those that make whole chunks. Returns
-/// their number. The output's other bytes stay.
+/// their number. The output's other bytes stay as they are.
 pub fn color_convert_line_ycbcr(y: &[u8], cb: &[u8], cr: &[u8], output: &mut [u8]) -> usize
     requires whole { 3 * (length output.old / 3) ≡ length output.old }
     requires y_long { length output.old ≤ 3 * length y.now }
@@ -270,7 +270,7 @@ pub fn color_convert_line_ycbcr(y: &[u8], cb: &[u8], cr: &[u8], output: &mut [u8
     count
 }
 
-// Red, green, blue and the inverse of the fourth component of some pixels from `start` on.
+/// Writes red, green, blue and the inverse of the fourth component of some pixels from `start` on.
 #[inline(never)]
 fn write_ycck_piece(lines: &[u8], width: usize, start: usize, count: usize, output: &mut [u8])
     requires most { count ≤ 64 }
@@ -309,7 +309,7 @@ fn write_ycck_piece(lines: &[u8], width: usize, start: usize, count: usize, outp
     interleave_four(&rows, count, output, start);
 }
 
-// The inverse of each component of some pixels from `start` on.
+/// Writes the inverse of each component of some pixels from `start` on.
 #[inline(never)]
 fn write_cmyk_piece(lines: &[u8], width: usize, start: usize, count: usize, output: &mut [u8])
     requires most { count ≤ 64 }

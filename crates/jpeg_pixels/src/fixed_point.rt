@@ -3,10 +3,10 @@ ghost use Rattle.std.specs.Prelude.{◌≡◌, pos, ◌*ℤ◌};
 ghost use Rattle.std.specs.Int.{int_shr};
 ghost use Rattle.jpeg_pixels.specs.Samples.{clamped};
 
-// Half of the divisor 2^10, to round.
+/// Half of the divisor 2^10, to round.
 pub(crate) const COLUMN_BIAS: i32 = 512;
 
-// Half of the divisor 2^17, and 128 to be added to each sample.
+/// Half of the divisor 2^17, and 128 to be added to each sample.
 pub(crate) const ROW_BIAS: i32 = 65536 + (128 << 17);
 
 pub(crate) fn clamp_to_byte(x: i32) -> u8
@@ -15,7 +15,7 @@ pub(crate) fn clamp_to_byte(x: i32) -> u8
     x.clamp(0, 255) as u8
 }
 
-// The sample of a sum in fixed point.
+/// Returns the sample of a sum in fixed point.
 pub(crate) fn sample_of(sum: i32) -> u8
     ensures { result ≡ clamped (int_shr sum 17) }
 {

@@ -1,7 +1,5 @@
-//! A plane that is made row by row, in memory that is allocated at first.
-//!
-//! An `ImmediateWorker` alone has such planes, and is there as `worker` says: a decoder makes its
-//! planes by `plane`.
+//! A plane that grows row by row, in memory allocated in advance. Only `ImmediateWorker` has such
+//! planes; a decoder makes its planes with `plane`.
 ghost use Rattle.std.specs.Prelude.{◌≡◌, ℕ, ◌+◌, ◌≤◌, length, MatchResult};
 ghost use Rattle.jpeg_bits.specs.declared.error.Error.TheVariants.{OutOfMemory};
 ghost use Rattle.jpeg_segments.specs.FrameView.{component_in};
@@ -14,7 +12,7 @@ use jpeg_segments::parser::Component;
 use std::alloc::Global;
 use std::marker::Model;
 
-// The first `written` samples have come, and the others are 0.
+/// A plane of which the first `written` samples have come; the others are 0.
 #[derive(Drop)]
 pub(crate) struct GrowingPlane {
     scale: usize,
@@ -45,7 +43,7 @@ impl GrowingPlane {
     ghost use Rattle.jpeg_pixels.specs.Scaled.{IsScale};
     ghost use Rattle.jpeg_pixels.specs.Workers.{IsRowOf, grown, plane_at, work_of};
 
-    // The only error is that no memory is left.
+    /// Makes a plane in which no row has come. The only error is `OutOfMemory`.
     pub(crate) fn new(
         alloc: Global,
         component: &Component,

@@ -32,7 +32,7 @@ impl SampleTable {
     ghost use Rattle.jpeg_pixels.specs.Blocks.{WritesBlock};
     ghost use Rattle.jpeg_pixels.specs.Scaled.{IsScale, sample_at};
 
-    /// Makes the table of a quantization table in block order.
+    /// Makes the table from a quantization table in block order.
     pub fn new(quantization_table: &[u16; 64]) -> SampleTable
         ensures { result ≡ quantization_table.now }
     {
@@ -42,7 +42,7 @@ impl SampleTable {
         }
     }
 
-    // Writes the samples of a block.
+    /// Writes the samples of a block.
     #[inline(always)]
     #[tactic(auto, unfolding(crate::specs::Scaled::sample_at))]
     fn write_block(&self, scale: usize, block: &[i16; 64], stride: usize, output: &mut [u8])
@@ -63,8 +63,8 @@ impl SampleTable {
 /// Appends the samples of a row of blocks to a plane: `scale` lines of `scale * blocks.len()`
 /// samples.
 ///
-/// A block gives `scale` samples a side: 1, 2, 4 or 8. The blocks and the quantization table are
-/// in block order: row `v` and column `u` at `8 * v + u`. The only error is that no memory is left
+/// A block gives `scale` samples per side: 1, 2, 4 or 8. The blocks and the quantization table are
+/// in block order: row `v` and column `u` at `8 * v + u`. The only error is that there is no memory
 /// to grow the plane, which then stays as it was.
 pub fn append_row(
     plane: &mut Vec<u8>,
@@ -81,8 +81,8 @@ pub fn append_row(
     append_strip(plane, scale, blocks, &SampleTable::new(quantization_table))
 }
 
-/// Appends the samples of a row of blocks to a plane, as `append_row` does, by a table that was
-/// made for all rows.
+/// Appends the samples of a row of blocks to a plane, like `append_row`, with a table that was made
+/// for all rows.
 pub fn append_strip(
     plane: &mut Vec<u8>,
     scale: usize,
@@ -101,7 +101,7 @@ pub fn append_strip(
     Ok(())
 }
 
-// Writes the samples of some rows of blocks, one after the other.
+/// Writes the samples of some rows of blocks, one after the other.
 #[tactic(auto, using(crate::proofs::PlaneRows::planes))]
 pub(crate) fn write_strips(
     scale: usize,
@@ -132,7 +132,7 @@ pub(crate) fn write_strips(
     }
 }
 
-// Writes the samples of a row of blocks.
+/// Writes the samples of a row of blocks.
 fn write_strip(scale: usize, strip: &mut [u8], blocks: &[[i16; 64]], table: &SampleTable)
     requires scale { IsScale scale }
     requires few { length blocks.now ≤ 65536 }
@@ -158,7 +158,7 @@ pub fn crop(plane: &mut Vec<u8>, stride: usize, width: usize, height: usize)
     plane.truncate(width * height);
 }
 
-// Moves the first `width` samples of each line to the front, line after line.
+/// Moves the first `width` samples of each line to the front, line after line.
 fn close_lines(lines: &mut [u8], stride: usize, width: usize, height: usize)
     requires width { width ≤ stride }
     requires room { height * stride ≤ length lines.old }

@@ -1,8 +1,8 @@
 //! The inverse transform of a block in lanes of 16 bits.
 //!
-//! Where no dequantized coefficient is above 1095, what the columns give fits 16 bits, and both
-//! passes are exact by products of pairs. So it is in the blocks of photographs, whose samples have
-//! 8 bits.
+//! If no dequantized coefficient is above 1095, what the columns give fits 16 bits, and both passes
+//! are exact by products of pairs. This is so in the blocks of photographs, whose samples have 8
+//! bits.
 ghost use Rattle.std.specs.Prelude.{◌≡◌, ℕ, List, ◌+◌, ◌*◌, ◌<◌, ◌≤◌, pos, ◌+ℤ◌, ◌*ℤ◌, ◌≤ℤ◌};
 ghost use Rattle.std.specs.Prelude.{length, slice_index_or, slice_index, IsTrue, unsigned_abs, ℤ};
 ghost use Rattle.std.specs.Prelude.{FitsSigned, []};
@@ -20,7 +20,7 @@ use crate::arch::{Rows, copy_lines, is_in_corner, samples_of, sums_of};
 use crate::fixed_point::{COLUMN_BIAS, ROW_BIAS};
 use std::simd::prelude::*;
 
-// Eight rows of eight short lanes.
+/// Eight rows of eight short lanes.
 #[derive(Clone, Copy)]
 struct Shorts {
     r0: i16x8,
@@ -33,7 +33,7 @@ struct Shorts {
     r7: i16x8,
 }
 
-// Two products added, in each lane: the processor's product of pairs.
+/// Returns two products added, in each lane: the processor's product of pairs.
 #[inline(always)]
 fn pair(a: i16x8, b: i16x8, first: i32, second: i32) -> i32x8
     ensures { result ≡ lanes (λ j. int_wrap w32 (lane a j *ℤ first +ℤ lane b j *ℤ second)) }
@@ -41,8 +41,8 @@ fn pair(a: i16x8, b: i16x8, first: i32, second: i32) -> i32x8
     a.cast::<i32>() * i32x8::splat(first) + b.cast::<i32>() * i32x8::splat(second)
 }
 
-// The transform of each lane's eight numbers, modulo 2^32, by products of pairs. Each pair is used
-// twice, so that the compiler doesn't add its products in another order.
+/// Returns the transform of each lane's eight numbers, modulo 2^32, by products of pairs. Each pair
+/// is used twice, so that the compiler doesn't add its products in another order.
 #[inline(always)]
 fn short_kernel(s: Shorts, x_scale: i32) -> Rows
     ensures { HasNumbers result
@@ -77,8 +77,8 @@ fn short_kernel(s: Shorts, x_scale: i32) -> Rows
     }
 }
 
-// A quantization table for the blocks of a strip: its values up to 1095, and the greatest
-// magnitudes of coefficients whose products with them are at most 1095.
+/// A quantization table for the blocks of a strip: its values up to 1095, and the greatest
+/// magnitudes of coefficients whose products with them are at most 1095.
 #[derive(Clone, Copy)]
 pub(crate) struct ShortTable {
     values: [i16; 64],
@@ -98,7 +98,7 @@ pub(crate) fn short_table(quantization_table: &[u16; 64]) -> ShortTable
     ShortTable { values, limits }
 }
 
-// Returns how far eight coefficients are within their limits: less than 0 where one isn't.
+/// Returns how far eight coefficients are within their limits: less than 0 if one isn't.
 #[inline(always)]
 fn slack(coefficients: [i16; 64], limits: [i16; 64], at: usize) -> i16x8
     requires { at + 8 ≤ 64 }
@@ -111,7 +111,7 @@ fn slack(coefficients: [i16; 64], limits: [i16; 64], at: usize) -> i16x8
     (limit - c).simd_min(limit + c)
 }
 
-// Whether every coefficient is within its limit.
+/// Returns whether every coefficient is within its limit.
 #[inline(always)]
 fn is_within(coefficients: [i16; 64], table: &ShortTable) -> bool
     ensures { (quantization : List ℕ) → IsShortTable table.now quantization → IsTrue result
@@ -140,7 +140,7 @@ fn short_products(coefficients: [i16; 64], values: [i16; 64], at: usize) -> i16x
     i16x8::from_slice(&coefficients[at..]) * i16x8::from_slice(&values[at..])
 }
 
-// The dequantized coefficients of a block that is within its limits.
+/// Returns the dequantized coefficients of a block that is within its limits.
 #[inline(always)]
 #[tactic(auto, using(crate::proofs::Rules::kept), unfolding(crate::specs::Samples::dequantized))]
 fn short_inputs(coefficients: [i16; 64], table: &ShortTable) -> Shorts
@@ -161,7 +161,7 @@ fn short_inputs(coefficients: [i16; 64], table: &ShortTable) -> Shorts
     }
 }
 
-// Returns the same numbers in lanes of 16 bits, which they fit.
+/// Returns the same numbers in lanes of 16 bits, which they fit.
 #[inline(always)]
 fn narrowed(row: i32x8) -> i16x8
     ensures { ((j : ℕ) → j < 8 → FitsSigned w16 (lane row j)) → result ≡ row }
@@ -188,7 +188,7 @@ fn narrowed_rows(rows: Rows) -> Shorts
     }
 }
 
-// Exchanges rows and columns.
+/// Exchanges rows and columns.
 #[inline(always)]
 fn transpose_shorts(rows: Shorts) -> Shorts
     ensures { (f : ℕ → ℕ → ℤ) → HasShorts rows f → HasShorts result (λ k j. f j k) }
@@ -217,8 +217,8 @@ fn transpose_shorts(rows: Shorts) -> Shorts
     }
 }
 
-// Returns the rows unchanged, where their last four are 0. The zeros written here are constants, so
-// the compiler drops the products with them.
+/// Returns the rows unchanged, if their last four are 0. The zeros written here are constants, so
+/// the compiler drops the products with them.
 #[inline(always)]
 #[tactic(auto, using(crate::proofs::Rules::kept), unfolding(crate::specs::Lanes::lanes))]
 fn with_short_zeros(rows: Shorts) -> Shorts
@@ -237,7 +237,7 @@ fn with_short_zeros(rows: Shorts) -> Shorts
     }
 }
 
-// The columns of a block that is within its limits, turned so that each is a row.
+/// Returns the columns of a block that is within its limits, turned so that each is a row.
 #[inline(always)]
 fn short_columns(inputs: Shorts) -> Shorts
     ensures { (coefficients : List ℤ) (quantization : List ℕ) → HasShortProducts coefficients
@@ -259,7 +259,7 @@ fn short_columns(inputs: Shorts) -> Shorts
     transpose_shorts(narrowed_rows(values))
 }
 
-// The lines of a block, before they are clamped, of its columns.
+/// Returns the lines of a block, before they are clamped, from its columns.
 #[inline(always)]
 fn short_lines(columns: Shorts) -> Shorts
     ensures { (f : ℕ → ℕ → ℤ) → HasShorts columns (λ column row. f row column)
@@ -279,8 +279,8 @@ fn short_lines(columns: Shorts) -> Shorts
     transpose_shorts(narrowed_rows(values))
 }
 
-// The lines of a block that is within its limits. Where it is 0 outside its top left corner, half
-// of the rows that each pass takes are 0.
+/// Returns the lines of a block that is within its limits. If it is 0 outside its top left corner,
+/// half of the rows that each pass takes are 0.
 fn lines_within(coefficients: [i16; 64], table: &ShortTable) -> Shorts
     ensures { (quantization : List ℕ) → IsShortTable table.now quantization
         → HasShortProducts coefficients quantization
@@ -295,7 +295,7 @@ fn lines_within(coefficients: [i16; 64], table: &ShortTable) -> Shorts
     }
 }
 
-// The samples of the lines.
+/// Returns the samples of the lines.
 #[inline(always)]
 #[tactic(auto, using(crate::proofs::ShortLanes::rows))]
 fn short_samples(lines: Shorts) -> [u8; 64]
@@ -314,7 +314,7 @@ fn short_samples(lines: Shorts) -> [u8; 64]
     ])
 }
 
-// The samples of the lines, line by line.
+/// Returns the samples of the lines, line by line.
 #[inline(always)]
 fn clamp_lines(lines: &[[i16; 8]; 8]) -> [u8; 64]
     ensures { (x y : ℕ) → x < 8 → y < 8 → slice_index result (y * 8 + x)
@@ -327,7 +327,7 @@ fn clamp_lines(lines: &[[i16; 8]; 8]) -> [u8; 64]
     samples
 }
 
-// Writes the samples of a line to the front of the bytes.
+/// Writes the samples of a line to the front of the bytes.
 #[inline(always)]
 fn clamp_line(line: &[i16; 8], output: &mut [u8])
     requires { 8 ≤ length output.old }
@@ -347,7 +347,7 @@ fn clamp_short(value: i16) -> u8
     value.clamp(0, 255) as u8
 }
 
-// The samples of a block, in lanes of 16 bits where it is within its limits.
+/// Returns the samples of a block, in lanes of 16 bits if it is within its limits.
 #[tactic(auto, unfolding(crate::specs::Samples::sample, crate::specs::ShortRows::line_value))]
 fn samples_of_block(
     coefficients: [i16; 64],
@@ -365,7 +365,7 @@ fn samples_of_block(
     }
 }
 
-// Writes the samples of a block, as `idct::dequantize_and_idct_block_8x8` does.
+/// Writes the samples of a block, like `idct::dequantize_and_idct_block_8x8`.
 pub(crate) fn write_block(
     coefficients: &[i16; 64],
     quantization_table: &[u16; 64],

@@ -1,4 +1,4 @@
-//! The transforms of a block to 4x4, 2x2 and 1x1 samples, of its first coefficients alone.
+//! The transforms of a block to 4x4, 2x2 and 1x1 samples, of only its first coefficients.
 ghost use Rattle.std.specs.Prelude.{◌≡◌, ℕ, ◌+◌, ◌*◌, ◌<◌, ◌≤◌, [], ◌∷◌, pos, ◌+ℤ◌, ◌-ℤ◌, ◌*ℤ◌};
 ghost use Rattle.std.specs.Prelude.{length, slice_index, slice_index_or};
 ghost use Rattle.std.specs.Int.{w32, int_wrap, int_shr};
@@ -11,13 +11,13 @@ ghost use Rattle.jpeg_pixels.specs.Blocks.{WritesBlock};
 
 use crate::fixed_point::{COLUMN_BIAS, ROW_BIAS, clamp_to_byte, dequantize, sample_of};
 
-// What is added to each sample, in eighths.
+/// What is added to each sample, in eighths.
 const CENTRE: i32 = 128 << 3;
 
-// The same, with half of the divisor 2^3 to round.
+/// The same, with half of the divisor 2^3 to round.
 const ROUNDED_CENTRE: i32 = CENTRE + 4;
 
-// The coefficient of a row and a column, times its quantization value.
+/// Returns the coefficient of a row and a column, times its quantization value.
 #[tactic(auto, unfolding(crate::specs::Samples::dequantized))]
 fn product(
     coefficients: &[i16; 64],
@@ -33,7 +33,7 @@ fn product(
     dequantize(coefficients[index], quantization_table[index])
 }
 
-// What the odd ones of four numbers give for the outer two values, and for the inner two.
+/// Returns what the odd ones of four numbers give for the outer two values, and for the inner two.
 fn odd_sums(s1: i32, s3: i32) -> (i32, i32)
     ensures outer { result.0 ≡ int_wrap w32 (pos 5352 *ℤ s1 +ℤ pos 2217 *ℤ s3) }
     ensures inner { result.1 ≡ int_wrap w32 (pos 2217 *ℤ s1 -ℤ pos 5350 *ℤ s3) }
@@ -45,7 +45,7 @@ fn odd_sums(s1: i32, s3: i32) -> (i32, i32)
     )
 }
 
-// A sum in 1024ths, rounded.
+/// Returns a sum in 1024ths, rounded.
 #[tactic(auto, using(crate::proofs::LaneSums::shifted_back, crate::proofs::LaneSums::wrapped_more))]
 fn rounded(sum: i32) -> i32
     ensures { result ≡ int_shr (int_wrap w32 (sum +ℤ pos 512)) 10 }
@@ -53,7 +53,7 @@ fn rounded(sum: i32) -> i32
     sum.wrapping_add(COLUMN_BIAS) >> 10
 }
 
-// A sum of whole numbers in fixed point, with the bias of a row.
+/// Returns a sum of whole numbers in fixed point, with the bias of a row.
 #[tactic(auto, using(crate::proofs::LaneSums::wrapped_flat))]
 fn biased(sum: i32) -> i32
     ensures { result ≡ int_wrap w32 (pos 4096 *ℤ sum +ℤ pos 16842752) }
@@ -61,7 +61,8 @@ fn biased(sum: i32) -> i32
     (sum << 12).wrapping_add(ROW_BIAS)
 }
 
-// Four values by what the even and the odd numbers give for the outer and the inner ones.
+/// Returns four values from what the even and the odd numbers give for the outer and the inner
+/// ones.
 #[tactic(auto, using(crate::proofs::LaneSums::residue_bits, crate::proofs::LaneSums::wrapping))]
 fn join(outer_even: i32, inner_even: i32, outer_odd: i32, inner_odd: i32) -> [i32; 4]
     ensures { result ≡ int_wrap w32 (outer_even +ℤ outer_odd)
@@ -77,7 +78,7 @@ fn join(outer_even: i32, inner_even: i32, outer_odd: i32, inner_odd: i32) -> [i3
     ]
 }
 
-// What four numbers of a column become.
+/// Returns what four numbers of a column become.
 fn column_values(s0: i32, s1: i32, s2: i32, s3: i32) -> [i32; 4]
     ensures { (row : ℕ) → row < 4 →
         slice_index_or result row (pos 0) ≡ column_by (four s0 s1 s2 s3) row }
@@ -109,7 +110,7 @@ fn transform_column(
     )
 }
 
-// The sums of the samples of a row, before the last shift.
+/// Returns the sums of the samples of a row, before the last shift.
 fn row_sums(s0: i32, s1: i32, s2: i32, s3: i32) -> [i32; 4]
     ensures { (x : ℕ) → x < 4 → slice_index_or result x (pos 0)
         ≡ int_wrap w32 (even_and_odd x (pos 4096 *ℤ even_part (four s0 s1 s2 s3) x +ℤ pos 16842752)
@@ -124,7 +125,7 @@ fn row_sums(s0: i32, s1: i32, s2: i32, s3: i32) -> [i32; 4]
     )
 }
 
-// Writes the samples of a row to the front of the bytes.
+/// Writes the samples of a row to the front of the bytes.
 fn write_row(sums: &[i32; 4], output: &mut [u8])
     requires { 4 ≤ length output.old }
     ensures inside { (x : ℕ) → x < 4 →
@@ -164,7 +165,7 @@ pub fn dequantize_and_idct_block_4x4(
     }
 }
 
-// The sample of a sum in eighths.
+/// Returns the sample of a sum in eighths.
 #[tactic(auto, using(crate::proofs::LaneSums::shifted_back, crate::proofs::LaneSums::wrapped_more))]
 fn sample_of_eighths(sum: i32) -> u8
     ensures { result ≡ clamped (int_shr (int_wrap w32 (sum +ℤ pos 1028)) 3) }

@@ -28,7 +28,7 @@ pub struct ComponentSource {
     pub row_stride: usize,
 }
 
-// The rule of a component with factors `h` and `v`, if there is one.
+/// Returns the rule of a component with factors `h` and `v`, if there is one.
 #[tactic(auto, unfolding(crate::specs::Upsampling::rule_of))]
 fn choose_rule(
     h: u8,
@@ -63,7 +63,7 @@ fn choose_rule(
     }
 }
 
-// How one component is upsampled.
+/// Returns how one component is upsampled.
 #[tactic(auto, unfolding(crate::specs::Pictures::source_of))]
 fn component_source(
     component: &Component,
@@ -91,7 +91,7 @@ fn component_source(
     }
 }
 
-// The greatest horizontal factor of the components.
+/// Returns the greatest horizontal factor of the components.
 #[tactic(auto, using(crate::proofs::SourceLists::greatest_start))]
 fn greatest_horizontal(components: &[Component]) -> u8
     ensures { result ≡ most_across (map component_in components.now) }
@@ -103,7 +103,7 @@ fn greatest_horizontal(components: &[Component]) -> u8
     most
 }
 
-// The greatest vertical factor of the components.
+/// Returns the greatest vertical factor of the components.
 #[tactic(auto, using(crate::proofs::SourceLists::greatest_start))]
 fn greatest_vertical(components: &[Component]) -> u8
     ensures { result ≡ most_down (map component_in components.now) }
@@ -115,9 +115,8 @@ fn greatest_vertical(components: &[Component]) -> u8
     most
 }
 
-/// Returns how each component is upsampled for a picture of this size. A component for which there
-/// is no rule is `Unsupported(NonIntegerSubsamplingRatio)`, and a refused allocation is
-/// `OutOfMemory`.
+/// Returns how each component is upsampled for a picture of this size. Errors:
+/// `Unsupported(NonIntegerSubsamplingRatio)` for a component that has no rule, and `OutOfMemory`.
 #[tactic(auto, using(crate::proofs::Rules::sources))]
 pub(crate) fn component_sources(
     alloc: Global,

@@ -24,7 +24,7 @@ impl UpsampleRule {
     ghost use Rattle.jpeg_pixels.specs.Upsampling.{upsampled, across, down};
 
     /// Writes the first `output_width` samples of row `row` of the picture to the front of the
-    /// output; its other bytes stay.
+    /// output; its other bytes stay as they are.
     ///
     /// The component has `input_height` lines of `input_width` samples, and each line begins
     /// `row_stride` bytes after the beginning of the one above. The output is at most `across`
@@ -85,7 +85,7 @@ impl UpsampleRule {
     }
 }
 
-// The line of a plane whose lines are `row_stride` bytes apart.
+/// Returns the line of a plane whose lines are `row_stride` bytes apart.
 fn line_at(input: &[u8], input_width: usize, row_stride: usize, line: usize) -> &[u8]
     requires { line * row_stride + input_width ≤ length input.now }
     ensures long { length result.now ≡ input_width }
@@ -96,8 +96,8 @@ fn line_at(input: &[u8], input_width: usize, row_stride: usize, line: usize) -> 
     &input[start..start + input_width]
 }
 
-// Of the two lines next to line `row / 2` the one that `row` is nearer to: at the ends the line
-// itself.
+/// Returns, of the two lines next to line `row / 2`, the one that `row` is nearer to: at the ends
+/// the line itself.
 fn far_line(input_height: usize, row: usize) -> usize
     requires some { 1 ≤ input_height }
     ensures { result ≡ far_index input_height row }
@@ -109,7 +109,7 @@ fn far_line(input_height: usize, row: usize) -> usize
     }
 }
 
-// Three parts of one number and one of another.
+/// Returns three parts of one number and one of another.
 fn line_sum(near: u8, far: u8) -> u16
     ensures value { result ≡ 3 * near + far }
     ensures range { result ≤ 1020 }
@@ -117,14 +117,14 @@ fn line_sum(near: u8, far: u8) -> u16
     3 * u16::from(near) + u16::from(far)
 }
 
-// Three parts of one sample and one of another, rounded.
+/// Returns three parts of one sample and one of another, rounded.
 fn blend(near: u8, far: u8) -> u8
     ensures { result ≡ blended near far }
 {
     ((line_sum(near, far) + 2) >> 2) as u8
 }
 
-// Three parts of one sum of two lines and one of another, rounded.
+/// Returns three parts of one sum of two lines and one of another, rounded.
 fn blend_sums(near: u16, far: u16) -> u8
     requires near { near ≤ 1020 }
     requires far { far ≤ 1020 }
@@ -133,7 +133,7 @@ fn blend_sums(near: u16, far: u16) -> u8
     ((3 * near + far + 8) >> 4) as u8
 }
 
-// A line made twice as wide, as far as the output goes.
+/// Writes a line made twice as wide, as far as the output goes.
 fn upsample_row_h2v1(line: &[u8], output: &mut [u8])
     requires some { 1 ≤ length output.old }
     requires wide { length output.old ≤ 2 * length line.now }
@@ -153,7 +153,7 @@ fn upsample_row_h2v1(line: &[u8], output: &mut [u8])
     }
 }
 
-// The line between two lines.
+/// Writes the line between two lines.
 fn upsample_row_h1v2(near: &[u8], far: &[u8], output: &mut [u8])
     requires near_long { length near.now ≡ length output.old }
     requires far_long { length far.now ≡ length output.old }
@@ -165,7 +165,7 @@ fn upsample_row_h1v2(near: &[u8], far: &[u8], output: &mut [u8])
     }
 }
 
-// The line between two lines, made twice as wide, as far as the output goes.
+/// Writes the line between two lines, made twice as wide, as far as the output goes.
 fn upsample_row_h2v2(near: &[u8], far: &[u8], output: &mut [u8])
     requires some { 1 ≤ length output.old }
     requires far_long { length far.now ≡ length near.now }
@@ -190,7 +190,7 @@ fn upsample_row_h2v2(near: &[u8], far: &[u8], output: &mut [u8])
     }
 }
 
-// Writes the samples of a line at every `step`th index from `first` on, as far as the output goes.
+/// Writes the samples of a line at every `step`th index from `first` on, as far as the output goes.
 fn spread(line: &[u8], step: usize, first: usize, output: &mut [u8])
     requires first { first < step }
     requires wide { length output.old ≤ step * length line.now }
@@ -208,7 +208,7 @@ fn spread(line: &[u8], step: usize, first: usize, output: &mut [u8])
     }
 }
 
-// Each sample of a line this many times; the last one fewer times, where the output ends.
+/// Writes each sample of a line this many times; the last one fewer times, if the output ends.
 fn repeat_samples(line: &[u8], times: usize, output: &mut [u8])
     requires some { 1 ≤ times }
     requires wide { length output.old ≤ times * length line.now }

@@ -2,7 +2,7 @@
 ghost use Rattle.std.specs.Prelude.{◌≡◌, ◌<◌, slice_index};
 ghost use Rattle.jpeg_bits.specs.Zigzag.{zigzag_indices, values_in_block_order};
 
-// The index in zigzag order of each index in the block.
+/// The index in zigzag order of each index in the block.
 const PLACES: [usize; 64] = [
     0, 1, 5, 6, 14, 15, 27, 28, //
     2, 4, 7, 13, 16, 26, 29, 42, //

@@ -169,7 +169,7 @@ at-scale-have-factors s f most p = grind (arith, common_steps, scaled-have-facto
 pub sized_frames_have_factors : (f : Frame) → IsSizedFrame f → AllHaveSampling f.components
 sized_frames_have_factors f p = search (rules, at-scale-have-factors, scale-most, frames-have-factors)
 
--- ---- the scale that is asked for
+-- ---- the requested scale
 
 pub scale_for_is_scale : (full_width full_height width height : ℕ)
     → is_scale (scale_for full_width full_height width height) ≡ true

@@ -12,8 +12,8 @@ ghost use Rattle.jpeg_segments.specs.FrameView.{application_in};
 
 use jpeg_bits::error::{Result, format_error_of};
 use jpeg_bits::marker::Marker;
-use jpeg_bits::source::reads::{read_bytes, read_length, read_u16_be, skip};
 use jpeg_bits::source::Source;
+use jpeg_bits::source::reads::{read_bytes, read_length, read_u16_be, skip};
 use std::alloc::{AllocError, Global};
 use std::io::Read;
 
@@ -58,7 +58,7 @@ pub enum AppData {
     Psir(Vec<u8>),
 }
 
-/// What a payload says, where there is memory to hold it.
+/// What a payload says, if there is memory to hold it.
 type Said = std::result::Result<Option<AppData>, AllocError>;
 
 /// Returns the bytes after the first `count`.
@@ -182,8 +182,8 @@ fn transform_by(number: u8) -> Option<AdobeColorTransform>
     }
 }
 
-/// Reads the payload after the marker `APP(14)`, where it has `left` bytes and at least twelve:
-/// an Adobe segment, whose twelfth byte is the transform, or none.
+/// Reads the payload after the marker `APP(14)`, if it has `left` bytes and at least twelve: an
+/// Adobe segment, whose twelfth byte is the transform, or none.
 #[tactic(auto, unfolding(crate::specs::Application::adobe_at))]
 fn read_adobe<R: Read + Drop>(
     alloc: Global,
@@ -224,8 +224,8 @@ fn read_application_14<R: Read + Drop>(
     }
 }
 
-/// Reads the payload after the marker `APP(number)`, of `left` bytes. It is kept only where it
-/// may say something.
+/// Reads the payload after the marker `APP(number)`, of `left` bytes. It is kept only if it may say
+/// something.
 #[tactic(auto, using(crate::proofs::ApplicationLemmas::payload_passed))]
 fn read_payload<R: Read + Drop>(
     alloc: Global,
@@ -274,13 +274,13 @@ fn read_application<R: Read + Drop>(
     }
 }
 
-/// Reads a segment after the marker `APP(number)` (T.81, B.2.4.6), and returns what it says, where
+/// Reads a segment after the marker `APP(number)` (T.81, B.2.4.6), and returns what it says, if
 /// that is known: APP0 of JFIF or AVI1, APP1 of Exif or XMP, APP2 of an ICC profile, APP13 of
 /// Photoshop, and APP14 of Adobe. The data is what follows the name, and in an ICC profile the
 /// part's number and the count of the parts.
 ///
-/// Errors: `Format` for another marker, where the length is below 2, and where an Adobe segment
-/// names a transform above 2; `Io` where the bytes end or a read fails; `OutOfMemory`.
+/// Errors: `Format` for another marker, if the length is below 2, and if an Adobe segment names a
+/// transform above 2; `Io` if the bytes end or a read fails; `OutOfMemory`.
 pub fn parse_app<R: Read + Drop>(
     alloc: Global,
     reader: &mut Source<R>,
@@ -299,8 +299,7 @@ pub fn parse_app<R: Read + Drop>(
 
 /// Reads a comment (T.81, B.2.4.5): its bytes, which are the rest of its segment.
 ///
-/// Errors: `Format` where the length is below 2; `Io` where the bytes end or a read fails;
-/// `OutOfMemory`.
+/// Errors: `Format` if the length is below 2; `Io` if the bytes end or a read fails; `OutOfMemory`.
 #[tactic(auto, unfolding(crate::specs::Application::com_at))]
 pub fn parse_com<R: Read + Drop>(alloc: Global, reader: &mut Source<R>) -> Result<Vec<u8>>
     ensures { Answers (λ v. v.items) com_at reader.old result reader.new }
@@ -311,8 +310,7 @@ pub fn parse_com<R: Read + Drop>(alloc: Global, reader: &mut Source<R>) -> Resul
 
 /// Reads a restart interval, in MCUs (T.81, B.2.4.4). 0 means none.
 ///
-/// Errors: `Format` where the length is not 4; `Io` where the bytes end or a read fails;
-/// `OutOfMemory`.
+/// Errors: `Format` if the length is not 4; `Io` if the bytes end or a read fails; `OutOfMemory`.
 #[tactic(auto, unfolding(crate::specs::Application::dri_at))]
 pub fn parse_dri<R: Read + Drop>(alloc: Global, reader: &mut Source<R>) -> Result<u16>
     ensures answers { Answers (λ n. n) dri_at reader.old result reader.new }

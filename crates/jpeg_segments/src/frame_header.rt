@@ -18,8 +18,8 @@ use crate::frame::{CodingProcess, Dimensions, EntropyCoding, Factors, FrameInfo}
 use crate::sizes::{components_of, greatest_factors, mcus};
 use jpeg_bits::error::{Error, Result, UnsupportedFeature, format_error, format_error_of};
 use jpeg_bits::marker::Marker;
-use jpeg_bits::source::reads::{read_length, read_u8, read_u16_be};
 use jpeg_bits::source::Source;
+use jpeg_bits::source::reads::{read_length, read_u8, read_u16_be};
 use std::alloc::{AllocError, Global};
 use std::io::Read;
 
@@ -331,10 +331,10 @@ fn read_frame<R: Read + Drop>(
 
 /// Reads a frame header after the marker `SOF(number)` (T.81, B.2.2): the process, the precision in
 /// bits, the size in samples, and the components with their sizes in samples and in blocks. The
-/// number says the process (Table B.1), and the parser takes each.
+/// number gives the process (Table B.1), and the parser accepts each.
 ///
-/// Errors: `Format` for another marker, and where the header breaks a rule; `Unsupported(DNL)`
-/// where the height is 0; `Io` where the bytes end or a read fails; `OutOfMemory`.
+/// Errors: `Format` for another marker, and if the header breaks a rule; `Unsupported(DNL)` if the
+/// height is 0; `Io` if the bytes end or a read fails; `OutOfMemory`.
 pub fn parse_sof<R: Read + Drop>(
     alloc: Global,
     reader: &mut Source<R>,

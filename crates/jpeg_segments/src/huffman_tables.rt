@@ -8,8 +8,8 @@ ghost use Rattle.jpeg_segments.specs.Parts.{symbols_at, codes_at};
 
 use jpeg_bits::error::{Error, Result, format_error_of};
 use jpeg_bits::huffman::{HuffmanTable, HuffmanTableClass};
-use jpeg_bits::source::reads::{read_bytes, read_exact, read_length, read_u8};
 use jpeg_bits::source::Source;
+use jpeg_bits::source::reads::{read_bytes, read_exact, read_length, read_u8};
 use std::alloc::{AllocError, Global};
 use std::io::Read;
 
@@ -66,8 +66,8 @@ fn count_error(alloc: Global, class: HuffmanTableClass, destination: u8, count: 
     ))
 }
 
-/// Reads the next table of this class for this destination, where `left` bytes are left of the
-/// segment: how many bytes it takes with the byte of its class, and the table.
+/// Reads the next table of this class for this destination, with `left` bytes left in the segment:
+/// how many bytes it takes with the byte of its class, and the table.
 #[tactic(auto, unfolding(crate::specs::Parts::codes_at))]
 fn read_codes<R: Read + Drop>(
     alloc: Global,
@@ -107,7 +107,7 @@ struct DefinedTable {
     table: HuffmanTable,
 }
 
-/// Reads the next table, where `left` bytes are left of the segment.
+/// Reads the next table, with `left` bytes left in the segment.
 #[tactic(auto, using(crate::proofs::PartsOfSegments::parts))]
 fn read_defined_table<R: Read + Drop>(
     alloc: Global,
@@ -201,12 +201,12 @@ pub(crate) fn expected_destinations(greatest: u8) -> &'static str {
 }
 
 /// Reads the tables of a segment (T.81, B.2.4.2): two lists of four destinations, for DC and for
-/// AC. `is_baseline` is of the frame, where one was read: in a baseline frame a destination is 0 or
-/// 1, else 0 to 3.
+/// AC. `is_baseline` is that of the frame, if one was read: in a baseline frame a destination is 0
+/// or 1, otherwise 0 to 3.
 ///
-/// Errors: `Format` where the length, a class, a destination, the number of codes or their lengths
-/// break a rule, or where 1 to 17 bytes are left after the last table; `Io` where the bytes end or
-/// a read fails; `OutOfMemory`.
+/// Errors: `Format` if the length, a class, a destination, the number of codes or their lengths
+/// break a rule, or if 1 to 17 bytes are left after the last table; `Io` if the bytes end or a read
+/// fails; `OutOfMemory`.
 #[tactic(auto, unfolding(crate::specs::HuffmanTables::dht_at))]
 pub fn parse_dht<R: Read + Drop>(
     alloc: Global,

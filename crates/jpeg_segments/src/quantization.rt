@@ -6,8 +6,8 @@ ghost use Rattle.jpeg_segments.specs.Quantization.{value_at, defined_table_at, d
 ghost use Rattle.jpeg_segments.specs.Parts.{table_at};
 
 use jpeg_bits::error::{Error, Result, format_error_of};
-use jpeg_bits::source::reads::{read_length, read_u8, read_u16_be};
 use jpeg_bits::source::Source;
+use jpeg_bits::source::reads::{read_length, read_u8, read_u16_be};
 use std::alloc::Global;
 use std::io::Read;
 
@@ -70,7 +70,8 @@ fn read_table<R: Read + Drop>(
     Ok(values)
 }
 
-/// Reads the next table where `left` bytes are left: its size and destination, and the table.
+/// Reads the next table, with `left` bytes left in the segment: its size and destination, and the
+/// table.
 #[tactic(auto, using(crate::proofs::PartsOfSegments::parts))]
 fn read_defined_table<R: Read + Drop>(
     alloc: Global,
@@ -108,8 +109,8 @@ fn read_defined_table<R: Read + Drop>(
 /// Reads the quantization tables of a segment (T.81, B.2.4.1), each in zigzag order, by their
 /// destinations 0 to 3. Of two tables for one destination the later stays.
 ///
-/// Errors: `Format` where the length, a precision, a destination or a value of 0 breaks a rule;
-/// `Io` where the bytes end or a read fails; `OutOfMemory`.
+/// Errors: `Format` if the length, a precision, a destination or a value of 0 breaks a rule; `Io`
+/// if the bytes end or a read fails; `OutOfMemory`.
 #[tactic(auto, unfolding(crate::proofs::Rules::tables_read), using(crate::proofs::Rules::tables))]
 pub fn parse_dqt<R: Read + Drop>(
     alloc: Global,

@@ -6,13 +6,13 @@ ghost use Rattle.jpeg_segments.specs.Scales.{block_side, is_scale};
 /// samples has `n * block_side / 8`, rounded up.
 #[derive(Clone, Copy, Debug, PartialEq, Eq)]
 pub enum Scale {
-    /// One sample a block: an eighth of each side.
+    /// One sample per block: an eighth of each side.
     Eighth,
-    /// 2 by 2 samples a block: a quarter of each side.
+    /// 2 by 2 samples per block: a quarter of each side.
     Quarter,
-    /// 4 by 4 samples a block: half of each side.
+    /// 4 by 4 samples per block: half of each side.
     Half,
-    /// 8 by 8 samples a block: full size.
+    /// 8 by 8 samples per block: full size.
     Full,
 }
 

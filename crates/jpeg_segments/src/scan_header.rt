@@ -16,9 +16,9 @@ use crate::frame::{CodingProcess, Component, FrameInfo};
 use crate::huffman_tables::{expected_destinations, greatest_destination};
 use jpeg_bits::error::{Error, Result, format_error, format_error_of};
 use jpeg_bits::huffman::HuffmanTableClass;
-use jpeg_bits::source::reads::{read_length, read_u8};
 use jpeg_bits::scan::{Predictor, ScanInfo};
 use jpeg_bits::source::Source;
+use jpeg_bits::source::reads::{read_length, read_u8};
 use std::alloc::{AllocError, Global};
 use std::io::Read;
 
@@ -32,7 +32,7 @@ struct Selector {
     blocks: u16,
 }
 
-/// Reads the number of components of the scan, where the length is the one that they need.
+/// Reads the number of components of the scan, if the length is the one that they need.
 #[tactic(auto, unfolding(crate::specs::ScanHeader::count_at))]
 fn read_count<R: Read + Drop>(alloc: Global, source: &mut Source<R>) -> Result<u8>
     ensures answers { Answers (λ n. n) count_at source.old result source.new }
@@ -491,9 +491,8 @@ fn read_band<R: Read + Drop>(
 /// zigzag order, the predictor, the levels and the point transform. In a sequential scan all 64
 /// coefficients are coded, and a last coefficient of 0 is read as 63.
 ///
-/// Errors: `Format` where the header breaks a rule, names a component that the frame does not have,
-/// or names components out of the frame's order; `Io` where the bytes end or a read fails;
-/// `OutOfMemory`.
+/// Errors: `Format` if the header breaks a rule, names a component that the frame does not have, or
+/// names components out of the frame's order; `Io` if the bytes end or a read fails; `OutOfMemory`.
 #[tactic(auto, using(crate::proofs::Rules::mcus), unfolding(crate::specs::ScanHeader::sos_at))]
 pub fn parse_sos<R: Read + Drop>(
     alloc: Global,

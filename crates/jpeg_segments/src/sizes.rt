@@ -21,9 +21,9 @@ pub fn ceiling(n: u32, d: u32) -> u32
     (n + (d - 1)) / d
 }
 
-/// Returns the number of samples along a side of a component at a scale, where the frame has `side`
+/// Returns the number of samples along a side of a component at a scale, if the frame has `side`
 /// samples along it, the component has this sampling factor and the greatest of the frame is `most`
-/// (T.81, A.1.1). At a scale a block gives `scale` samples a side in place of 8.
+/// (T.81, A.1.1). At a scale a block gives `scale` samples per side in place of 8.
 fn samples(side: u16, factor: u8, most: u8, scale: usize) -> u16
     requires some { 1 ≤ most }
     requires within { factor ≤ most }
@@ -36,7 +36,7 @@ fn samples(side: u16, factor: u8, most: u8, scale: usize) -> u16
     ceiling(scaled, u32::from(most) * BLOCK_SIDE as u32) as u16
 }
 
-/// Returns the number of MCUs along a side of the frame (T.81, A.2), by its number of samples and
+/// Returns the number of MCUs along a side of the frame (T.81, A.2), from its number of samples and
 /// the greatest sampling factor.
 pub(crate) fn mcus(side: u16, most: u8) -> u16
     requires some { 1 ≤ most }
@@ -47,7 +47,7 @@ pub(crate) fn mcus(side: u16, most: u8) -> u16
     ceiling(u32::from(side), BLOCK_SIDE as u32 * u32::from(most)) as u16
 }
 
-/// Returns a component of a frame of this size, where these are the greatest factors.
+/// Returns a component of a frame of this size, with these greatest factors.
 #[tactic(auto, unfolding(crate::specs::Frame::component_of))]
 fn component_of(
     size: Dimensions,

@@ -284,7 +284,7 @@ blocks-append p vias n (s ∷ xs) ys old t = search (rules, same-on, on-on, bloc
 abbrev pub counted : ℕ → ℕ → Reached → Counted
 counted left number r = record { reached = r; left = left; number = number }
 
--- no restart stands before the next of so many blocks
+-- no restart stands before the next of this many blocks
 abbrev pub GoesOn : ℕ → ℕ → ℕ → Type 0
 GoesOn n left blocks = (n ≡ 0) ⊎ (blocks ≤ left)
 

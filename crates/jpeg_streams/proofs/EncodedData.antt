@@ -112,7 +112,7 @@ band-written table (negsuc n ∷ us) z codes small = zeros-written table z z (ne
 Refined : Table → List ℤ → Type 0
 Refined table us = (b : List Bool) × WritesRefinement table us b 0
 
--- coefficients of which none is new, and so many are not old
+-- coefficients of which none is new, and this many are not old
 record IsFront (front : List ℤ) (n : ℕ) : Type 0 where
   none : NoneNew front
   counted : count_unknown front ≡ n

@@ -154,7 +154,7 @@ sound_scaled scale old new s e p u = search (rules, sound-frame, decoded-at)
 
 pub ruleset scaled_rules = (decoded-sized, frames_scaled, sound_scaled)
 
--- The frame at the scale that is asked for.
+-- The frame at the requested scale.
 pub said-sized : (width height scale : ℕ) (said : Said)
     → IfSome said.frame (λ f. scale ≡ scale_for f.width f.height width height)
     → said_at scale said ≡ sized_to width height said
@@ -166,7 +166,7 @@ said-sized width height scale said h = go said.frame h
     go None h = refl
     go (Some f) h = rw h refl
 
--- ---- sizes that are asked for again
+-- ---- sizes that are requested again
 
 -- Of two sizes the last counts.
 pub sized-again : (width height : ℕ) (size : Size) (said : Said)

@@ -112,7 +112,7 @@ dc_by p true true same is table u predictor = do
 
 -- ---- bands
 
--- the end of a band, for a run of so many blocks more
+-- the end of a band, for a run of this many more blocks
 abbrev end_for : (table : Table) (run : ℕ)
     → Option ((r : ℕ) × (e : ℕ) × (code : List Bool) × (r ≤ 14) × (e < 2 ^ r) × IsCoded table (16 * r + 0) code)
 end_for table run = do

@@ -8,7 +8,7 @@ use Rattle.jpeg_streams.specs.FoundPictures.{limited}
 use Rattle.jpeg_streams.specs.WrittenLossless.{picture_of_samples, Samples, WritesSamples}
 
 -- A call on a decoder whose source has a lossless stream that is written for samples: where it
--- gives pixels, they are the picture of the samples, at full size whatever size was asked for, and
+-- gives pixels, they are the picture of the samples, at full size whatever size was requested, and
 -- what follows the image is left. Where the limit takes that picture, an error is that memory is
 -- out, or the reader's own.
 abbrev pub DecodesSamples :

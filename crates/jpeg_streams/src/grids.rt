@@ -20,8 +20,7 @@ pub struct Grid {
     pub high: u16,
 }
 
-/// Returns the blocks that a side of some samples takes, where a block gives `scale` samples a
-/// side.
+/// Returns how many blocks a side of some samples takes, if a block gives `scale` samples per side.
 fn blocks_of(samples: u16, scale: usize) -> u16
     requires some { 1 ≤ scale }
     requires most { scale ≤ 8 }
@@ -30,7 +29,7 @@ fn blocks_of(samples: u16, scale: usize) -> u16
     ((usize::from(samples) + (scale - 1)) / scale) as u16
 }
 
-/// Returns the blocks of a component, at the scale that it has.
+/// Returns the blocks of a component, at its scale.
 pub fn grid_of(component: &Component) -> Grid
     requires some { 1 ≤ component.now.dct_scale }
     requires most { component.now.dct_scale ≤ 8 }

@@ -1,20 +1,20 @@
-//! What a frame header says of its picture.
+//! What a frame header says about its picture.
 
 use jpeg_segments::parser::CodingProcess;
 
-/// How the bytes of a picture stand for its pixels.
+/// How the bytes of a picture represent its pixels.
 ///
 /// A picture is stored line by line from the top, and each line pixel by pixel from the left, with
 /// nothing between them; a pixel has one sample of each component, in the order of the frame
-/// header. A sample takes one byte where the frame's precision is at most 8 bits, and two bytes
-/// above, the lower byte first. Only lossless pictures have other precisions than 8.
+/// header. A sample takes one byte if the frame's precision is at most 8 bits, and two bytes above,
+/// the lower byte first. Only lossless pictures have precisions other than 8.
 ///
-/// The format says how many samples a pixel has. It says how many bytes they take only for one
-/// component: a lossless picture of three or four components above 8 bits has two bytes a sample
-/// and the format `RGB24` or `CMYK32`. `Decoder::precision` says it for every picture.
+/// The format says how many samples a pixel has. It gives their size in bytes only for one
+/// component: a lossless picture of three or four components above 8 bits has two bytes per sample
+/// and the format `RGB24` or `CMYK32`. `Decoder::precision` gives it for every picture.
 ///
-/// Under `ColorTransform::None` each line of a picture of several components, unless it is a
-/// lossless one, has its samples component after component, `width` samples of each.
+/// With `ColorTransform::None` each line of a picture of several components, unless it is lossless,
+/// has its samples component after component, `width` samples of each.
 #[derive(Clone, Copy, Debug, PartialEq)]
 pub enum PixelFormat {
     /// One sample of at most 8 bits, in one byte.
@@ -35,7 +35,7 @@ impl PixelFormat {
 
     /// Returns how many bytes a pixel takes: 1, 2, 3 or 4.
     ///
-    /// It doesn't hold of lossless pictures of three or four components above 8 bits, whose pixels
+    /// Doesn't hold for lossless pictures of three or four components above 8 bits, whose pixels
     /// take 6 or 8 bytes: `Decoder::precision` says which these are.
     pub fn pixel_bytes(&self) -> usize
         ensures { result ≡ bytes_a_pixel self.now }
@@ -49,14 +49,14 @@ impl PixelFormat {
     }
 }
 
-/// What a frame header says of the picture. `Decoder::precision` has the bits of a sample.
+/// What a frame header says about the picture. `Decoder::precision` returns the bits of a sample.
 #[derive(Clone, Copy, Debug, PartialEq)]
 pub struct ImageInfo {
     /// The width of the picture in pixels, at the scale that was chosen.
     pub width: u16,
     /// The height of the picture in pixels, at the scale that was chosen.
     pub height: u16,
-    /// How the bytes of the picture stand for its pixels.
+    /// How the bytes of the picture represent its pixels.
     pub pixel_format: PixelFormat,
     /// The process of the frame.
     pub coding_process: CodingProcess,

@@ -1,4 +1,4 @@
-//! The program's arguments, by the crate `clap`.
+//! The program's arguments, parsed with the crate `clap`.
 
 use crate::ending::{Failure, Outcome};
 use clap::error::ErrorKind;
@@ -16,10 +16,11 @@ pub const VERSION: &str = "0.1.0";
 /// The name of the argument of the files that are read, of which `-` is standard input.
 pub const FILE: &str = "FILE";
 
-const MAX_PIXELS: &str = "Refuse a picture of more pixels, by its header; k, M and G are thousands";
+const MAX_PIXELS: &str =
+    "Refuse pictures with more pixels, judging by the header; suffixes k, M and G";
 
 const MAX_MEMORY: &str =
-    "Refuse a picture that takes more bytes, by its header; k, M and G are thousands";
+    "Refuse pictures that need more bytes, judging by the header; suffixes k, M and G";
 
 /// Returns a word's command, with the options that limit a picture.
 pub fn word<'a>(alloc: Global, name: &'a str, about: &'a str) -> Result<Command<'a>, AllocError> {
@@ -34,7 +35,7 @@ pub fn file_argument<'a>(alloc: Global) -> Arg<'a> {
     Arg::new(alloc, FILE)
         .default_value("-")
         .hide_default_value(true)
-        .help("The file to read; - or none is standard input")
+        .help("The file to read; standard input by default, or for -")
 }
 
 /// Returns the argument of the files that are read.
@@ -43,7 +44,7 @@ pub fn files_argument<'a>(alloc: Global) -> Arg<'a> {
         .num_args(1..)
         .default_value("-")
         .hide_default_value(true)
-        .help("The files to read; - or none is standard input")
+        .help("The files to read; standard input by default, or for -")
 }
 
 /// Returns an option `--NAME VALUE`.
@@ -59,7 +60,7 @@ pub fn output_option<'a>(alloc: Global, help: &'a str) -> Arg<'a> {
     value_option(alloc, "output", "FILE", help).short('o')
 }
 
-/// Returns the words that the program was called with. Where there are none that are text, says so.
+/// Returns the words that the program was called with. If one is not text, says so.
 pub fn words(rt: &HostRuntime) -> Outcome<Vec<String>> {
     let words = match env::args(rt) {
         Ok(words) => words.collect(rt.alloc()).map_err(io::Error::from),
@@ -78,7 +79,7 @@ pub fn words(rt: &HostRuntime) -> Outcome<Vec<String>> {
     }
 }
 
-/// Prints why there are no matches, or the help or version that was asked for.
+/// Prints why there are no matches, or the requested help or version.
 fn print_outcome(rt: &HostRuntime, error: &clap::Error) -> Outcome<()> {
     let is_printed = error.print(rt).is_ok();
     match error.kind() {
@@ -90,8 +91,8 @@ fn print_outcome(rt: &HostRuntime, error: &clap::Error) -> Outcome<()> {
     }
 }
 
-/// Parses the words by a command. There are no matches where help or the version was asked for, and
-/// was printed; wrong words are reported.
+/// Parses the words by a command. Returns no matches if help or the version was requested, and was
+/// printed; wrong words are reported.
 pub fn parse<'a>(
     rt: &HostRuntime,
     command: Result<Command<'a>, AllocError>,
@@ -110,12 +111,12 @@ pub fn parse<'a>(
     }
 }
 
-/// Returns the file that a text names: none where it is `-`.
+/// Returns the file that a text names: none if it is `-`.
 pub fn named(text: &str) -> Option<&str> {
     if text == "-" { None } else { Some(text) }
 }
 
-/// Returns the file that an option or argument names: none where it isn't there, or is `-`.
+/// Returns the file that an option or argument names: none if it isn't there, or is `-`.
 pub fn file_of<'a>(matches: &ArgMatches<'a>, id: &str) -> Option<&'a str> {
     match matches.get_str(id) {
         Some("-") => None,
@@ -130,7 +131,7 @@ pub fn refuse_value(rt: &HostRuntime, option: &str, expected: &str) -> Failure {
 }
 
 /// Returns the number that a text is, in digits with `k`, `M` or `G` after them for thousands,
-/// millions and thousands of millions.
+/// millions and billions.
 fn number_in(text: &str) -> Option<u64> {
     let (digits, unit) = if let Some(digits) = text.strip_suffix('k') {
         (digits, 1_000)
@@ -144,7 +145,7 @@ fn number_in(text: &str) -> Option<u64> {
     digits.parse::<u64>().ok()?.checked_mul(unit)
 }
 
-/// Returns the number that an option gives, where it is there.
+/// Returns the number that an option gives, if it is there.
 fn limit_of(rt: &HostRuntime, matches: &ArgMatches<'_>, id: &str) -> Outcome<Option<u64>> {
     let Some(text) = matches.get_str(id) else {
         return Ok(None);
@@ -155,7 +156,7 @@ fn limit_of(rt: &HostRuntime, matches: &ArgMatches<'_>, id: &str) -> Outcome<Opt
     }
 }
 
-/// Returns the limits of a picture that the options give.
+/// Returns the limits of a picture that the options set.
 pub fn limits_of(rt: &HostRuntime, matches: &ArgMatches<'_>) -> Outcome<Limits> {
     Ok(Limits {
         pixels: limit_of(rt, matches, "max-pixels")?,

@@ -1,5 +1,6 @@
 //! The chunks of an AVI file, which is a RIFF file: each is named by four characters, and has its
-//! size in four bytes, the lowest first, and then as many bytes, and one more where these are odd.
+//! size in four bytes, the lowest first, and then that many bytes, and one more if their number is
+//! odd.
 //!
 //! Lists are chunks whose bytes are a name and chunks again. Frames are the chunks `00dc` and
 //! `00db` of the list `movi`, where 00 is the number of the stream.
@@ -40,7 +41,7 @@ const BITMAP: u32 = 0x6462;
 /// How many bytes the name of a list takes.
 const NAME_BYTES: u32 = 4;
 
-/// Returns whether the reader gives an AVI file, whose first byte was read.
+/// Returns whether the reader gives an AVI file, whose first byte has been read.
 pub fn is_avi<R: Read>(reader: &mut R) -> Result<bool> {
     let mut rest = [0u8; 11];
     reader.read_exact(&mut rest)?;
@@ -54,7 +55,7 @@ fn read_four<R: Read>(reader: &mut R) -> Result<[u8; 4]> {
     Ok(bytes)
 }
 
-/// Reads the name and the size of the next chunk, where the bytes go on.
+/// Reads the name and the size of the next chunk, or returns none if the bytes end.
 fn read_chunk<R: Read>(reader: &mut R) -> Result<Option<Chunk>> {
     let mut first = [0u8];
     if reader.read(&mut first)? == 0 {
@@ -67,13 +68,13 @@ fn read_chunk<R: Read>(reader: &mut R) -> Result<Option<Chunk>> {
     Ok(Some(Chunk { name, size }))
 }
 
-/// Reads so many bytes, or as many as there are.
+/// Reads this many bytes, or as many as are left.
 fn skip<R: Read>(reader: &mut R, count: u64) -> Result<()> {
     io::copy(&mut reader.take(count), &mut io::sink())?;
     Ok(())
 }
 
-/// Returns how many bytes a chunk of this size takes.
+/// Returns how many bytes a chunk of this size takes, with its padding.
 fn padded(size: u32) -> u64 {
     u64::from(size) + u64::from(size % 2)
 }
@@ -101,7 +102,7 @@ impl Video {
     }
 
     /// Returns whether a chunk is a frame of the video. One without bytes stands for the frame
-    /// before it, and is none.
+    /// before it, and is not a frame.
     fn has_frame(&mut self, chunk: Chunk) -> bool {
         if chunk.size == 0 || !matches!(chunk.name % 65536, FRAME | BITMAP) {
             return false;
@@ -135,7 +136,8 @@ impl Video {
     }
 }
 
-/// Reads what is left of a frame's chunk of this size, of which so many bytes were not read.
+/// Skips the rest of a frame's chunk of this size, of which this many bytes are left, and its
+/// padding.
 pub fn skip_rest<R: Read>(reader: &mut R, size: u32, left: u64) -> Result<()> {
     skip(reader, left.saturating_add(u64::from(size % 2)))
 }

@@ -30,7 +30,7 @@ fn command<'a>(alloc: Global) -> Result<Command<'a>, AllocError> {
         .subcommand(frames::command(alloc)?)
 }
 
-/// Does what the program's arguments ask for.
+/// Does what the program's arguments request.
 pub fn run(rt: HostRuntime) -> Outcome<()> {
     let words = arguments::words(&rt)?;
     let Some(matches) = arguments::parse(&rt, command(rt.alloc()), words.as_slice())? else {

@@ -34,8 +34,8 @@ fn coding_name(coding: EntropyCoding) -> &'static str {
     }
 }
 
-/// Returns the name of the format in which a picture of this frame is decoded, as `PixelFormat`
-/// has it.
+/// Returns the name of the format in which a picture of this frame is decoded, like that of
+/// `PixelFormat`.
 fn format_name(frame: &FrameInfo) -> &'static str {
     match frame.components.len() {
         1 if frame.precision <= 8 => "L8",
@@ -104,7 +104,7 @@ fn put_line_of(line: &mut String, text: &str) -> Result<(), AllocError> {
     Ok(())
 }
 
-/// Appends the components: number of each, and its sampling factors across and down.
+/// Appends the components: the number of each, and its sampling factors across and down.
 fn put_components(text: &mut String, components: &[Component]) -> Result<(), AllocError> {
     write!(text, "components:")?;
     for component in components {
@@ -146,7 +146,7 @@ fn put_comment(
     writeln!(text, "")
 }
 
-/// Appends a line on the size of some data, in bytes.
+/// Appends a line about the size of some data, in bytes.
 fn put_size(text: &mut String, key: &str, size: Option<usize>) -> Result<(), AllocError> {
     match size {
         Some(size) => writeln!(text, "{key}: {size}"),
@@ -154,7 +154,7 @@ fn put_size(text: &mut String, key: &str, size: Option<usize>) -> Result<(), All
     }
 }
 
-/// Appends the lines on the data beside the picture.
+/// Appends the lines about the data beside the picture.
 fn put_data(text: &mut String, data: Data) -> Result<(), AllocError> {
     put_size(text, "icc-bytes", data.icc)?;
     put_size(text, "exif-bytes", data.exif)?;
@@ -191,7 +191,7 @@ fn text(writer: &mut Writer, key: &str, value: &str) -> Result<(), AllocError> {
     writer.string(value)
 }
 
-/// Writes a member with a number, or null where there is none.
+/// Writes a member with a number, or null if there is none.
 fn number_or_null(writer: &mut Writer, key: &str, value: Option<usize>) -> Result<(), AllocError> {
     match value {
         Some(value) => number(writer, key, value),
@@ -372,7 +372,7 @@ impl Form {
         Ok(())
     }
 
-    /// Writes what is said of a file. Lines say nothing of one that was refused, nor does the
+    /// Writes what is said about a file. Lines say nothing about one that was refused, nor does the
     /// object of one file.
     pub fn write(
         self,

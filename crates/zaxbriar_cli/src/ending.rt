@@ -5,7 +5,7 @@ ghost use Rattle.zaxbriar_cli.specs.Endings.{status_of};
 
 use std::process::ExitCode;
 
-/// Why the program ends with another status than 0.
+/// Why the program ends with a status other than 0.
 #[derive(Clone, Copy)]
 pub enum Failure {
     /// A file was refused, or can't be read or written.
@@ -14,7 +14,7 @@ pub enum Failure {
     WrongUse,
 }
 
-/// What was done, or how the program ends where it wasn't, which was reported.
+/// What was done, or how the program ends if it wasn't, which was reported.
 pub type Outcome<T> = Result<T, Failure>;
 
 /// Returns the status that the program ends with: 0 for Ok, 1 after a refusal, and 2 for wrong

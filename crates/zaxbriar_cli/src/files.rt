@@ -34,8 +34,8 @@ impl Read for Input {
 /// The reader that the program gives to a decoder.
 pub type InputReader = ByteReader<Input>;
 
-/// Opens the file of this name, or standard input where there is none. A file that begins as one of
-/// another format does is refused by that format's name.
+/// Opens the file of this name, or standard input if there is none. A file that begins like one of
+/// another format is refused by that format's name.
 pub fn open(rt: &HostRuntime, name: Option<&str>) -> Result<InputReader, Refusal> {
     let input = match name {
         Some(name) => Input::File(File::open(rt, name)?),
@@ -56,16 +56,16 @@ fn is_broken_pipe(refusal: &Refusal) -> bool {
     }
 }
 
-/// Reports in one line on standard error what is wrong with a file, or with standard input where
-/// none is named.
+/// Reports in one line on standard error what is wrong with a file, or with standard input if none
+/// is named.
 pub fn report<D: Display>(rt: &HostRuntime, name: Option<&str>, reason: &D) -> Failure {
     let name = name.unwrap_or("standard input");
     let _ = eprintln!(rt; "{NAME}: {name}: {reason}");
     Failure::Refused
 }
 
-/// Reports a refusal in one line: it names the file that couldn't be written, or else the one that
-/// was read. A pipe that nobody reads is no news.
+/// Reports a refusal in one line: it names the file that couldn't be written, otherwise the one
+/// that was read. A pipe that nobody reads is not reported.
 fn report_refusal(
     rt: &HostRuntime,
     input: Option<&str>,
@@ -85,8 +85,8 @@ fn report_refusal(
     )
 }
 
-/// Ends an output whose file was read: after an Ok what was written of it is put in place, and
-/// after a refusal, which is reported, it is removed.
+/// Ends an output whose file was read: after an Ok, what was written is put in place; after a
+/// refusal, which is reported, it is removed.
 pub fn finish(
     rt: &HostRuntime,
     input: Option<&str>,

@@ -17,7 +17,7 @@ pub enum FrameRefusal {
     Frame(u64, Refusal),
     /// The frame of this number has another size or format than those before it.
     Other(u64),
-    /// The stream begins as a RIFF file does, and is no AVI file.
+    /// The stream begins like a RIFF file, but is not an AVI file.
     Riff,
     /// There is no JPEG frame.
     NoFrame,
@@ -72,7 +72,7 @@ fn decode_frame<R: Read + Drop>(
     Ok(decode_picture(&mut decoder)?)
 }
 
-/// Decodes the frame that begins with a byte that was read and goes on in a reader that is lent.
+/// Decodes the frame that begins with a byte that was read and continues in a reader that is lent.
 fn decode_from<R: Read + Drop>(
     alloc: Global,
     first: u8,
@@ -82,8 +82,7 @@ fn decode_from<R: Read + Drop>(
     decode_frame(alloc, io::repeat(first).take(1).chain(rest), limits)
 }
 
-/// Decodes the frame that begins with a byte that was read, or with the next one, where there is
-/// one.
+/// Decodes the frame that begins with a byte that was read, or with the next one, if there is one.
 fn next_plain<R: Read + Drop>(
     alloc: Global,
     reader: &mut R,
@@ -102,8 +101,8 @@ fn next_plain<R: Read + Drop>(
     Ok(Some(decode_from(alloc, first[0], reader, limits)?))
 }
 
-/// Decodes the next frame of an AVI file: the first image in its chunk. There is none where the
-/// first frame doesn't begin as a JPEG image does.
+/// Decodes the next frame of an AVI file: the first image in its chunk. Returns none if the first
+/// frame doesn't begin like a JPEG image.
 fn next_in_avi<R: Read + Drop>(
     alloc: Global,
     reader: &mut R,
@@ -140,7 +139,7 @@ impl<R: Read + Drop> Frames<R> {
         }
     }
 
-    /// Decodes the next frame, which has this number, where there is one. A stream without any is
+    /// Decodes the next frame, which has this number, if there is one. A stream without any is
     /// refused.
     pub fn next_frame(
         &mut self,
@@ -162,7 +161,8 @@ impl<R: Read + Drop> Frames<R> {
     }
 }
 
-/// Returns how the frames of a stream stand, unless it begins as a RIFF file and is no AVI file.
+/// Returns how the frames of a stream stand, unless it begins like a RIFF file but is not an AVI
+/// file.
 fn layout_of<R: Read>(reader: &mut R) -> io::Result<Option<Layout>> {
     let mut first = [0u8];
     if reader.read(&mut first)? == 0 {

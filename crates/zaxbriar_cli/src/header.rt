@@ -2,8 +2,8 @@
 
 use jpeg_bits::error::{Result, format_error_of};
 use jpeg_bits::marker::{Marker, read_marker};
-use jpeg_bits::source::reads::{read_bytes, read_length, read_u16_be, skip};
 use jpeg_bits::source::Source;
+use jpeg_bits::source::reads::{read_bytes, read_length, read_u16_be, skip};
 use jpeg_decoder::orientation::orientation_of;
 use jpeg_segments::parser::{
     AdobeColorTransform, AppData, FrameInfo, parse_app, parse_com, parse_dri, parse_sof,
@@ -36,13 +36,13 @@ pub enum Unit {
     Centimetre,
 }
 
-/// What the segments of a stream say up to its first scan. Of data that stand there twice it is the
-/// last, and of comments the first.
+/// What the segments of a stream say up to its first scan. If data occur more than once, the last
+/// counts, and of comments the first.
 #[derive(Drop)]
 pub struct Header {
     /// The frame header.
     pub frame: FrameInfo,
-    /// How many MCUs a restart interval has: 0 where there are no restarts.
+    /// How many MCUs a restart interval has: 0 if there are no restarts.
     pub restart_interval: u16,
     /// The colours that a segment names.
     pub colours: NamedColours,
@@ -54,7 +54,7 @@ pub struct Header {
     pub data: Data,
 }
 
-/// What the segments say on colours.
+/// What the segments say about colours.
 #[derive(Clone, Copy)]
 pub struct NamedColours {
     /// Whether there is a JFIF segment.
@@ -70,7 +70,7 @@ pub struct Data {
     pub icc: Option<usize>,
     /// Of Exif data.
     pub exif: Option<usize>,
-    /// The orientation that the Exif data name.
+    /// The orientation that the Exif data give.
     pub orientation: Option<u8>,
     /// Of XMP data.
     pub xmp: Option<usize>,
@@ -170,7 +170,7 @@ impl Found {
         Ok(())
     }
 
-    /// Reads the segment APP0, which has the density beside what `parse_app` says of it.
+    /// Reads the segment APP0, which has the density in addition to what `parse_app` says of it.
     fn read_application_0<R: Read + Drop>(
         &mut self,
         alloc: Global,
@@ -250,7 +250,7 @@ fn read_start<R: Read + Drop>(alloc: Global, source: &mut Source<R>) -> Result<(
     Ok(())
 }
 
-/// Reads the segments of a stream up to its first scan, or up to its end where it has none.
+/// Reads the segments of a stream up to its first scan, or up to its end if it has none.
 pub fn read_header<R: Read + Drop>(alloc: Global, reader: R) -> Result<Header> {
     let mut source = Source::new(reader);
     read_start(alloc, &mut source)?;

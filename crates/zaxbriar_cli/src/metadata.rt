@@ -11,7 +11,7 @@ pub enum Kind {
     Exif,
     /// XMP data, as text.
     Xmp,
-    /// An ICC profile, joined of its parts.
+    /// An ICC profile, joined from its parts.
     Icc,
 }
 
@@ -19,7 +19,7 @@ pub enum Kind {
 pub const KINDS: [Kind; 3] = [Kind::Exif, Kind::Xmp, Kind::Icc];
 
 impl Kind {
-    /// Returns the name of the option that asks for it.
+    /// Returns the name of the option that requests it.
     pub fn option(self) -> &'static str {
         match self {
             Kind::Exif => "exif",
@@ -28,7 +28,7 @@ impl Kind {
         }
     }
 
-    /// Returns what is said of a file that has none.
+    /// Returns what is said about a file that has none.
     pub fn absence(self) -> &'static str {
         match self {
             Kind::Exif => "no Exif data",

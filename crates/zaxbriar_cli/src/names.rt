@@ -3,7 +3,7 @@
 use std::alloc::{AllocError, Global};
 use std::path::Path;
 
-/// The most digits that a name may ask for.
+/// The most digits that a name may request.
 const MOST_DIGITS: usize = 20;
 
 /// A file name with a place for a number, such as `frame-%04d.ppm`.
@@ -15,8 +15,8 @@ pub struct Numbered<'a> {
 }
 
 impl<'a> Numbered<'a> {
-    /// Returns the name that a text is: the one place of the number is `%d`, or `%04d` for four
-    /// digits at least.
+    /// Returns the name that a text is: the one place of the number is `%d`, or `%04d` for at least
+    /// four digits.
     pub fn new(text: &'a str) -> Option<Numbered<'a>> {
         let (before, rest) = text.split_once('%')?;
         let (digits, after) = rest.split_once('d')?;

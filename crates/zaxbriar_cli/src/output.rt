@@ -1,9 +1,9 @@
 //! The files that the program writes.
 //!
-//! A file is written under another name in its folder, and takes its own when it is whole: a
+//! A file is written under another name in its folder, and takes its own when it is complete: a
 //! failure leaves the file that was there as it was, and an input may be an output too, since it
-//! was read before. What is no regular file, such as a pipe or `/dev/stdout`, is written as it
-//! stands.
+//! was read before. What is not a regular file, such as a pipe or `/dev/stdout`, is written
+//! directly.
 
 use std::fs::{File, Metadata, OpenOptions};
 use std::io::{ErrorKind, Write};
@@ -105,7 +105,7 @@ fn remove(rt: &HostRuntime, opened: &Opened) {
 impl<'a> Output<'a> {
     ghost use Rattle.std.specs.Io.{WritesAtMost};
 
-    /// Returns the file of this name, or standard output where there is none.
+    /// Returns the file of this name, or standard output if there is none.
     pub fn new(rt: HostRuntime, name: Option<&'a str>) -> Output<'a> {
         Output {
             rt,
@@ -125,7 +125,7 @@ impl<'a> Output<'a> {
         self.has_failed
     }
 
-    /// Writes some of the bytes, into the file that is opened where it wasn't.
+    /// Writes some of the bytes, into the file, which is opened if it wasn't.
     fn write_some(&mut self, buf: &[u8]) -> io::Result<usize>
         ensures { WritesAtMost result buf.now }
     {
@@ -141,7 +141,7 @@ impl<'a> Output<'a> {
         }
     }
 
-    /// Gives the file its name, and makes it where nothing was written.
+    /// Gives the file its name, and makes it if nothing was written.
     fn place(&mut self) -> io::Result<()> {
         let Some(name) = self.name else {
             return Ok(());
@@ -160,7 +160,7 @@ impl<'a> Output<'a> {
         placed
     }
 
-    /// Puts what was written in its place. A file of which nothing was written is empty then.
+    /// Puts what was written in its place. If nothing was written, the file is empty.
     pub fn keep(&mut self) -> io::Result<()> {
         let placed = self.place();
         self.has_failed = placed.is_err();

@@ -83,7 +83,7 @@ fn read_run<R: Read + Drop>(
 }
 
 /// Returns how far a correction bit moves a number that isn't 0: by the unit of the point
-/// transform, where the bit is set and the number's own isn't.
+/// transform, if the bit is set and the number's own isn't.
 #[inline(always)]
 #[tactic(auto, using(std::proofs::lemmas::Int::wraps, crate::proofs::PieceWalks::distances))]
 fn distance(value: i16, al: u8, bit: u16) -> u16
@@ -228,7 +228,7 @@ struct BandPiece {
     zeros: usize,
 }
 
-/// Gives the index after a piece of the band of a block with this mask, where all correction bits
+/// Returns the index after a piece of the band of a block with this mask, if all correction bits
 /// are 0: the block stays as it is.
 #[cold]
 #[inline(never)]
@@ -264,7 +264,7 @@ fn pass_piece(piece: BandPiece, mask: u64) -> usize
 }
 
 /// Corrects a piece of the band of a block with this mask, going from one coefficient that isn't 0
-/// to the next. Gives the index after it.
+/// to the next, and returns the index after it.
 #[inline(always)]
 #[tactic(auto, using(crate::proofs::Rules::pieces))]
 fn correct_piece<R: Read + Drop>(
@@ -367,7 +367,7 @@ fn read_refinement<R: Read + Drop>(
     }
 }
 
-/// Holds the refusal of a magnitude category that no token of a refinement has (T.81, G.1.2.3).
+/// Stores the refusal of a magnitude category that no token of a refinement has (T.81, G.1.2.3).
 #[cold]
 #[inline(never)]
 fn set_refined_category_error(alloc: Global, category: u8, refusal: &mut Option<Error>)
@@ -444,7 +444,7 @@ fn read_refined_coefficients<R: Read + Drop>(
     Some(0)
 }
 
-/// Reads as `read_refined_coefficients` does, on a copy of the buffered bits: a local that stays in
+/// Like `read_refined_coefficients`, on a copy of the buffered bits: a local that stays in
 /// registers.
 #[inline(never)]
 pub(crate) fn read_refined_band<R: Read + Drop>(

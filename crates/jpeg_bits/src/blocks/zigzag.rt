@@ -2,7 +2,7 @@
 ghost use Rattle.std.specs.Prelude.{◌≡◌, ◌<◌, slice_index};
 ghost use Rattle.jpeg_bits.specs.Zigzag.{zigzag};
 
-// The index in the block, `8 * row + column`, of each index in zigzag order (T.81, A.3.6).
+/// The index in the block, `8 * row + column`, of each index in zigzag order (T.81, A.3.6).
 const PLACES: [u8; 64] = [
     0, 1, 8, 16, 9, 2, 3, 10, //
     17, 24, 32, 25, 18, 11, 4, 5, //

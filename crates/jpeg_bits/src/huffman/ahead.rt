@@ -105,7 +105,7 @@ fn read_after_ff<R: Read + Drop>(alloc: Global, source: &mut Source<R>) -> Resul
     Err(format_error(alloc, "found 2^64 fill bytes, expected a marker"))
 }
 
-/// Reads the next byte, or none where the bytes end.
+/// Reads the next byte, or returns none if the bytes end.
 fn read_or_end<R: Read + Drop>(alloc: Global, source: &mut Source<R>) -> Result<Option<u8>>
     ensures answers { Answers (λ b. b) byte_or_end source.old result source.new }
     ensures short { IsShort source.old }
@@ -136,7 +136,8 @@ impl Model for BufferedBits {
 
 impl BufferedBits {
     ghost use Rattle.std.specs.Prelude.{◌≡◌, ◌≤◌, ◌<◌, ◌^◌, ◌++◌, ℕ, [], None, IfSome, true, false};
-    ghost use Rattle.std.specs.Prelude.{Some, Ok, List, is_ok, is_some, length, take, drop, replicate};
+    ghost use Rattle.std.specs.Prelude.{Some, Ok, List, is_ok, is_some, length, take, drop};
+    ghost use Rattle.std.specs.Prelude.{replicate};
     ghost use Rattle.jpeg_bits.specs.Stream.{Stream};
     ghost use Rattle.jpeg_bits.specs.Codes.{next_16, code_from, symbol_from, fast_from};
     ghost use Rattle.jpeg_bits.specs.ShortCodes.{symbol_in, short_value_of, next_bits};
@@ -176,8 +177,8 @@ impl BufferedBits {
         }
     }
 
-    /// Sees that `count` bits are buffered, or that the end is reached. A refusal is stored in
-    /// `refusal`, and false is returned.
+    /// Makes sure that `count` bits are buffered, or that the end is reached. A refusal is stored
+    /// in `refusal`, and false is returned.
     #[inline(always)]
     #[tactic(auto, using(crate::proofs::Rules::filled))]
     pub(crate) fn fill<R: Read + Drop>(
@@ -241,7 +242,7 @@ impl BufferedBits {
         count <= self.bits.len() || is_padded(self.end)
     }
 
-    /// Returns whether a marker was reached and no bit is buffered: zeros come then without end.
+    /// Returns whether a marker was reached and no bit is buffered: endless zeros follow then.
     #[inline(always)]
     #[tactic(auto, using(crate::proofs::BufferedBits::zero_next))]
     pub(crate) fn is_past_marker(&self) -> bool
@@ -308,9 +309,8 @@ impl BufferedBits {
         self.bits.len()
     }
 
-    /// Reads the length and the symbol of the code that begins the bits (T.81, F.2.2.3), where 16
-    /// bits are buffered, or the end is reached. A refusal is stored in `refusal`, and none is
-    /// returned.
+    /// Reads the length and the symbol of the code that begins the bits (T.81, F.2.2.3), if 16 bits
+    /// are buffered or the end is reached. A refusal is stored in `refusal`, and none is returned.
     #[inline(always)]
     #[tactic(auto, using(crate::proofs::Rules::buffered))]
     pub(crate) fn take_buffered_code(
@@ -359,9 +359,9 @@ impl BufferedBits {
         }
     }
 
-    /// Reads the value and the run of zeros before it, where a code of a table of class AC and
-    /// the value after it take at most 8 bits together (T.81, F.2.2.2), or none within. A refusal
-    /// is stored in `refusal`, and none is returned.
+    /// Reads the value and the run of zeros before it, if a code of a table of class AC and the
+    /// value after it take at most 8 bits together (T.81, F.2.2.2), or else returns `Some(None)`. A
+    /// refusal is stored in `refusal`, and none is returned.
     #[inline(always)]
     #[tactic(auto, using(crate::proofs::Rules::fast))]
     pub(crate) fn take_short_value<R: Read + Drop>(
@@ -389,7 +389,7 @@ impl BufferedBits {
         Some(Some((value, run)))
     }
 
-    /// Returns the first `count` of the buffered bits, with zeros after them.
+    /// Takes the first `count` of the buffered bits, with zeros after them.
     #[inline(always)]
     pub(crate) fn take(&mut self, count: usize) -> u16
         requires some { 1 ≤ count }
@@ -424,7 +424,7 @@ impl BufferedBits {
     }
 
     /// Returns the value and the run that the buffered bits begin with, and how many bits they
-    /// take, where they are at most 8.
+    /// take, if they are at most 8.
     #[inline(always)]
     pub(crate) fn short_value(&self, table: &HuffmanTable) -> Option<(i16, u8, u16)>
         ensures value { result ≡ short_value_of 8 table.now (next_bits 8 self.now.bits) }
@@ -434,8 +434,7 @@ impl BufferedBits {
         table.short_value_of(self.bits.front_8())
     }
 
-    /// Returns what `short_value` does, where they are at most 11, and the table for them is
-    /// filled.
+    /// Like `short_value`, if they are at most 11 and the table for them is filled.
     #[inline(always)]
     #[tactic(auto, using(crate::proofs::ShortLemmas::eleven_front))]
     pub(crate) fn wide_value(&self, table: &HuffmanTable) -> Option<(i16, u8, u8)>
@@ -457,8 +456,8 @@ impl BufferedBits {
         table.skip_of(self.bits.front_16())
     }
 
-    /// Returns the values that the buffered bits begin with, one or two, where the table for them
-    /// is filled.
+    /// Returns the values that the buffered bits begin with, one or two, if the table for them is
+    /// filled.
     #[inline(always)]
     #[tactic(auto, using(crate::proofs::ShortLemmas::eleven_front))]
     pub(crate) fn next_pair(&self, table: &HuffmanTable) -> Pair
@@ -524,7 +523,7 @@ fn set_fault(alloc: Global, end: Option<DataEnd>, refusal: &mut Option<Error>)
     });
 }
 
-/// Holds the refusal of bits that are no code.
+/// Stores the refusal of bits that are no code.
 #[cold]
 #[inline(never)]
 fn set_no_code(alloc: Global, refusal: &mut Option<Error>)

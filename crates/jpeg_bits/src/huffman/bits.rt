@@ -103,7 +103,7 @@ impl Bits {
         (self.word >> 56) as u8
     }
 
-    /// Drops the first `count` bits, or all where fewer are buffered.
+    /// Drops the first `count` bits, or all if fewer are buffered.
     #[inline(always)]
     #[tactic(auto, using(crate::proofs::Reservoirs::rests))]
     pub(crate) fn skip(&mut self, count: usize)

@@ -92,7 +92,7 @@ fn fill(
     Ok(())
 }
 
-/// Fills destinations 0 and 1, where they are named and unset, with the tables of luminance and of
+/// Fills destinations 0 and 1, if they are named and unset, with the tables of luminance and of
 /// chrominance.
 #[tactic(auto, using(crate::proofs::DefaultTables::refusals))]
 fn fill_both(

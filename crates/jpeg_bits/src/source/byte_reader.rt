@@ -2,8 +2,8 @@
 
 use std::io::{BufRead, BufReader, Read, Result};
 
-/// A buffered reader for a decoder. Entropy-coded data are read byte by byte: a read of one byte
-/// takes it out of the buffer, where one is there, without a call.
+/// A buffered reader for a decoder. Entropy-coded data is read byte by byte: a read of one byte
+/// takes it from the buffer without a call, if the buffer has one.
 #[derive(Drop)]
 pub struct ByteReader<R: Read + Drop> {
     inner: BufReader<R>,
@@ -12,7 +12,7 @@ pub struct ByteReader<R: Read + Drop> {
 impl<R: Read + Drop> ByteReader<R> {
     ghost use Rattle.std.specs.Prelude.{◌≡◌};
 
-    /// Returns a reader that goes on where `inner` stands.
+    /// Returns a reader that continues from where `inner` is.
     pub fn new(inner: BufReader<R>) -> ByteReader<R>
         ensures { result ≡ record { inner = inner } }
     {

@@ -9,7 +9,7 @@ use crate::source::Source;
 use std::alloc::Global;
 use std::io::Read;
 
-/// Reads the next byte. It is `Io` where the bytes end or a read fails.
+/// Reads the next byte. The error is `Io` if the bytes end or a read fails.
 pub fn read_u8<R: Read + Drop>(alloc: Global, source: &mut Source<R>) -> Result<u8>
     ensures answers { Answers (λ b. b) next_byte source.old result source.new }
     ensures room { source.old.known ≡ true → result ≡ Err OutOfMemory
@@ -24,7 +24,7 @@ pub fn read_u8<R: Read + Drop>(alloc: Global, source: &mut Source<R>) -> Result<
     Ok(buffer[0])
 }
 
-/// Reads the next two bytes as a number, the higher first (T.81, B.1.1.1). Errors are those of
+/// Reads the next two bytes as a number, the higher first (T.81, B.1.1.1). The errors are those of
 /// `read_u8`.
 #[tactic(auto, unfolding(crate::specs::Reading::next_u16))]
 pub fn read_u16_be<R: Read + Drop>(alloc: Global, source: &mut Source<R>) -> Result<u16>
@@ -37,8 +37,9 @@ pub fn read_u16_be<R: Read + Drop>(alloc: Global, source: &mut Source<R>) -> Res
     Ok(256 * u16::from(high) + u16::from(low))
 }
 
-/// Reads a length field of two bytes, which counts itself (T.81, B.1.1.4): how many bytes follow
-/// it. It is `Format` where the field is below 2; the other errors are those of `read_u8`.
+/// Reads a length field of two bytes, which counts itself (T.81, B.1.1.4), and returns how many
+/// bytes follow it. The error is `Format` if the field is below 2; the others are those of
+/// `read_u8`.
 #[tactic(auto, unfolding(crate::specs::Reading::length_at))]
 pub fn read_length<R: Read + Drop>(alloc: Global, source: &mut Source<R>) -> Result<u16>
     ensures answers { Answers (λ n. n) length_at source.old result source.new }
@@ -54,8 +55,8 @@ pub fn read_length<R: Read + Drop>(alloc: Global, source: &mut Source<R>) -> Res
     Ok(length - 2)
 }
 
-/// Fills the buffer with the next bytes, in as many reads as the reader takes for it. Errors are
-/// those of `read_u8`; what the buffer holds is then unspecified.
+/// Fills the buffer with the next bytes, in as many reads as the reader needs for it. The errors
+/// are those of `read_u8`; the content of the buffer is then unspecified.
 #[tactic(auto, using(crate::proofs::Rules::exact))]
 pub fn read_exact<R: Read + Drop>(
     alloc: Global,
@@ -79,8 +80,8 @@ pub fn read_exact<R: Read + Drop>(
     Ok(())
 }
 
-/// Reads the next `count` bytes. It is `OutOfMemory` where there is no room for them; the other
-/// errors are those of `read_u8`.
+/// Reads the next `count` bytes. The error is `OutOfMemory` if there is no room for them; the
+/// others are those of `read_u8`.
 pub fn read_bytes<R: Read + Drop>(
     alloc: Global,
     source: &mut Source<R>,
@@ -94,7 +95,8 @@ pub fn read_bytes<R: Read + Drop>(
     Ok(bytes)
 }
 
-/// Skips `count` bytes, as many at once as the buffer has room for. Errors are those of `read_u8`.
+/// Skips `count` bytes, as many at once as the buffer has room for. The errors are those of
+/// `read_u8`.
 #[tactic(auto, using(crate::proofs::Rules::passed))]
 fn skip_by<R: Read + Drop>(
     alloc: Global,
@@ -116,7 +118,7 @@ fn skip_by<R: Read + Drop>(
     Ok(())
 }
 
-/// Skips `count` bytes. Errors are those of `read_u8`.
+/// Skips `count` bytes. The errors are those of `read_u8`.
 pub fn skip<R: Read + Drop>(alloc: Global, source: &mut Source<R>, count: u16) -> Result<()>
     ensures answers { Answers (λ u. u) (skip_at count) source.old result source.new }
     ensures room { source.old.known ≡ true → result ≡ Err OutOfMemory

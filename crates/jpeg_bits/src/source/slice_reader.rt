@@ -2,8 +2,8 @@
 
 use std::io::{Read, Result};
 
-/// Bytes in memory, for a decoder. Entropy-coded data are read byte by byte: a read of one byte
-/// takes it off the slice without a call, which a slice's own `read` makes for each.
+/// Bytes in memory, for a decoder. Entropy-coded data is read byte by byte: a read of one byte
+/// takes it off the slice without the call that the slice's own `read` makes for each.
 #[derive(Drop)]
 pub struct SliceReader<'a> {
     bytes: &'a [u8],

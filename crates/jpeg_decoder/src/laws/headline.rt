@@ -1,5 +1,5 @@
-//! The headline: a stream that is written for coefficients means the picture of those coefficients.
-//! Theorems, each on a function without a body.
+//! The main theorem: a stream that is written for coefficients means the picture of those
+//! coefficients. Theorems, each on a function without a body.
 #![tactic(auto, using(crate::proofs::Rules::images))]
 
 ghost use Rattle.std.specs.Prelude.{◌≡◌, ℕ, ◌≤◌, [], ◌∷◌, ◌++◌, length, List, Some, Ok, false};
@@ -62,8 +62,8 @@ pub fn images_are_read_at_scales()
         ≡ meaning_of_array settings (scaled_to scale final) array last rest }
 {}
 
-/// Where every bit of each coefficient was sent, it means the picture of the coefficients
-/// themselves, at every scale.
+/// If every bit of each coefficient was sent, it means the picture of the coefficients themselves,
+/// at every scale.
 pub fn complete_images_are_whole()
     ensures whole { (settings : Settings) (array : Coefficients) (bytes rest : List ℕ)
         (final : Said) (last : ℕ → Levels) (frame : Frame) →
@@ -96,7 +96,7 @@ pub fn sequential_images_are_complete()
         AllComplete frame last }
 {}
 
-/// Where the settings take the picture, there is one, and the stream means it, at full size and at
+/// If the settings accept the picture, there is one, and the stream means it, at full size and at
 /// every scale.
 pub fn images_have_pictures()
     ensures plain { (settings : Settings) (array : Coefficients) (bytes rest : List ℕ)
@@ -130,7 +130,7 @@ pub fn images_have_pictures()
         })) }
 {}
 
-/// Where the default settings take the picture, the program prints it after its size and format.
+/// If the default settings accept the picture, the program prints it after its size and format.
 pub fn images_are_printed()
     ensures { (array : Coefficients) (image rest picture : List ℕ) (final : Said)
         (last : ℕ → Levels) →
@@ -148,8 +148,8 @@ pub fn complete_blocks_are_whole()
 {}
 
 /// Streams that send every bit of the same coefficients mean the same picture, whatever their
-/// processes, Huffman tables, restart intervals and scripts, where their headers give the picture
-/// the same size, components, quantization tables and choice of colours.
+/// processes, Huffman tables, restart intervals and scripts, if their headers give the picture the
+/// same size, components, quantization tables and choice of colours.
 pub fn pictures_are_of_coefficients()
     ensures { (settings : Settings) (array : Coefficients) (first second rest others : List ℕ)
         (a b : Said) (last_a last_b : ℕ → Levels) →
@@ -199,16 +199,16 @@ pub fn progressive_images_may_end_early()
         ≡ meaning_of_array settings said array levels rest }
 {}
 
-/// The relation holds of two streams that are worked by hand: a progressive one of three blocks,
-/// with DC and AC each in a first scan and a refinement and with runs of blocks; and a sequential
-/// one of three components, with padding and a restart.
+/// The relation holds for two streams worked by hand: a progressive one of three blocks, with DC
+/// and AC each in a first scan and a refinement and with runs of blocks; and a sequential one of
+/// three components, with padding and a restart.
 pub fn worked_images_are_written()
     ensures grey { IsWhollyWritten grey_array grey_bytes }
     ensures colour { IsWhollyWritten colour_array colour_bytes }
 {}
 
-/// A frame of SOF0, SOF1 or SOF2 is accepted where it has 8 bits and one, three or four components
-/// that can be upsampled, and nowhere else.
+/// A frame of SOF0, SOF1 or SOF2 is accepted if and only if it has 8 bits and one, three or four
+/// components that can be upsampled.
 pub fn frames_are_accepted()
     ensures written { (number : ℕ) (h : FrameHeader) → number ≤ 2 → HasPicture h →
         accepted (frame_written number h) ≡ Ok (frame_written number h) }
@@ -229,7 +229,7 @@ pub fn every_image_has_a_stream()
 /// destinations of tables, and under any restart intervals, in any order in which each component
 /// allows each of its scans (`IsScript` says so coefficient by coefficient), are those of some
 /// stream, for all coefficients of 8-bit samples and in each frame of SOF0, SOF1 or SOF2 that has a
-/// picture. It is of bytes where the header's parameters fit their fields.
+/// picture. It consists of bytes if the header's parameters fit their fields.
 pub fn every_script_has_a_stream()
     ensures { (number : ℕ) (h : FrameHeader) (script : List ScriptedScan) (array : Coefficients) →
         number ≤ 2 → IsFrameHeader number h → HasPicture h →
@@ -238,8 +238,8 @@ pub fn every_script_has_a_stream()
         (bytes : List ℕ) × IsWrittenUnder number h script array bytes }
 {}
 
-/// Each legal scan has data by any tables that suffice, wherever it stands in a stream and under
-/// any restart interval: by tables that have a code for each symbol that 8-bit samples may need.
+/// Each legal scan has data with any tables that suffice, wherever it stands in a stream and under
+/// any restart interval: with tables that have a code for each symbol that 8-bit samples may need.
 pub fn legal_scans_have_data()
     ensures { (said : Said) (frame : Frame) (levels : ℕ → Levels) (h : ScanHeader)
         (codings : List Coding) (array : Coefficients) →

@@ -1,4 +1,4 @@
-//! Theorems on lossless streams, each on a function without a body. docs/LOSSLESS.md says them in
+//! Theorems on lossless streams, each on a function without a body. docs/LOSSLESS.md states them in
 //! plain words.
 #![tactic(auto, using(crate::proofs::Rules::samples, crate::proofs::Rules::written_samples))]
 
@@ -58,7 +58,7 @@ pub fn lossless_streams_keep_their_size()
 {}
 
 /// Lossless streams that are written for the same samples mean the same picture, whatever their
-/// padding, scripts, selections, Huffman tables, restart intervals and other segments, where their
+/// padding, scripts, selections, Huffman tables, restart intervals and other segments, if their
 /// headers give the same precision, size and sampling factors.
 pub fn lossless_pictures_are_of_samples()
     ensures { (settings : Settings) (samples : Samples) (first second rest others : List ℕ)
@@ -94,8 +94,8 @@ pub fn lossless_padding_is_not_seen()
         picture_of_samples (frame_written 3 h) a ≡ picture_of_samples (frame_written 3 h) b }
 {}
 
-/// Where all components have the same factors, the picture has their samples pixel by pixel, and a
-/// component alone in a scan has a sample of each pixel. Where all factors are 1, an MCU of several
+/// If all components have the same factors, the picture has their samples pixel by pixel, and a
+/// component alone in a scan has a sample of each pixel. If all factors are 1, an MCU of several
 /// components is a pixel.
 pub fn equal_factors_mean_nothing()
     ensures pictured { (frame : Frame) (samples : Samples) → HasEqualFactors frame →
@@ -117,7 +117,7 @@ pub fn equal_factors_mean_nothing()
         × (mcus_down (frame_written 3 h) codings ≡ (frame_written 3 h).height) }
 {}
 
-/// A lossless frame is accepted where samples may be written in it, and nowhere else.
+/// A lossless frame is accepted if and only if samples may be written in it.
 pub fn lossless_frames_are_accepted()
     ensures written { (h : FrameHeader) → IsFrameHeader 3 h → HasSamples 3 h →
         accepted (frame_written 3 h) ≡ Ok (frame_written 3 h) }
@@ -136,7 +136,7 @@ pub fn every_picture_of_samples_has_a_stream()
 
 /// Each script has a stream. Scans of one or several components, in the order of the script, by any
 /// selections and destinations of tables and under any restart intervals of whole rows of MCUs, are
-/// the scans of some stream for these samples, where each component is in one of them.
+/// the scans of some stream for these samples, if each component is in one of them.
 pub fn every_lossless_script_has_a_stream()
     ensures { (h : FrameHeader) (script : List ScriptedScan) (samples : Samples) →
         IsFrameHeader 3 h → HasSamples 3 h → IsLosslessScript (frame_written 3 h) script →
@@ -144,8 +144,8 @@ pub fn every_lossless_script_has_a_stream()
         (bytes : List ℕ) × AreWrittenUnder h script samples bytes }
 {}
 
-/// The relation holds of two streams that are worked by hand, each of three components in two scans
-/// with restarts, one of them interleaved: one with factors of 1 and a fill byte, and one where the
+/// The relation holds for two streams worked by hand, each of three components in two scans with
+/// restarts, one of them interleaved: one with factors of 1 and a fill byte, and one in which the
 /// first component has factors of 2, and a column and a line of padding.
 pub fn worked_samples_are_written()
     ensures plain { AreWritten three_samples three_bytes }

@@ -68,8 +68,8 @@ pub fn walks_are_in_order()
         spots_at (own_member grid ∷ []) (raster grid.own_wide grid.own_high) ≡ own_spots grid }
 {}
 
-/// A scan decodes its blocks one after the other; where no block is left of a restart interval of
-/// n, a restart comes before the next.
+/// A scan decodes its blocks one after the other; when no block is left of a restart interval of n,
+/// a restart comes before the next.
 pub fn scans_go_by_blocks()
     ensures { (frame : Frame) (components : List Component) (p : Pass) (vias : List Via) (n : ℕ)
         (arrays : Arrays) (bytes : List ℕ) →
@@ -147,8 +147,8 @@ pub fn planes_grow_by_strips()
         ++ strip_of scale table (map ordered row) }
 {}
 
-/// Of two sizes that are asked for the last counts: a frame at a scale, brought to another, is the
-/// frame at that one.
+/// Of two requested sizes the last counts: a frame at a scale, brought to another, is the frame at
+/// that one.
 pub fn last_sizes_count()
     ensures sized { (width height : ℕ) (other : Size) (said : Said) →
         sized_to width height (at_size other said) ≡ sized_to width height said }

@@ -33,7 +33,7 @@ pub struct Coded<'a> {
 pub struct Scan<'a> {
     /// What it codes.
     pub pass: Pass,
-    /// The number of MCUs of a restart interval; 0 is no intervals.
+    /// The number of MCUs of a restart interval; 0 for none.
     pub restart_interval: u16,
     /// Its components, in the scan header's order.
     pub components: Vec<Coded<'a>>,
@@ -59,7 +59,7 @@ pub fn is_progressive(process: CodingProcess) -> bool
 }
 
 /// Returns whether the AC coefficients of a scan's blocks are wanted. Those of a sequential frame
-/// aren't where each block gives one sample.
+/// are not if each block gives one sample.
 pub fn wants_ac(process: CodingProcess, pass: Pass, components: &[Coded<'_>]) -> bool
     ensures dc_alone { result ≡ false → (pass.is_first ≡ true)
         × All (λ c. c.component.now.dct_scale ≡ 1) components.now }

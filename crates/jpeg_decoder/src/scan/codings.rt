@@ -19,15 +19,15 @@ use crate::scan::coded::{Coded, is_progressive};
 use crate::stream::state::{Said, State};
 use crate::stream::tables::{Missing, needed, table_at};
 use jpeg_bits::blocks::Pass;
-use jpeg_bits::huffman::codes::HuffmanTableClass;
 use jpeg_bits::error::Result;
+use jpeg_bits::huffman::codes::HuffmanTableClass;
 use jpeg_bits::huffman::{HuffmanTable, fill_default_mjpeg_tables};
 use jpeg_bits::scan::ScanInfo;
 use jpeg_segments::parser::FrameInfo;
 use std::alloc::{AllocError, Global};
 
-/// The tables that stand in where a scan names a destination that is unset: the default ones of
-/// MJPEG frames by their destinations, and tables without codes where the scan needs none.
+/// The tables that stand in if a scan names a destination that is unset: the default ones of MJPEG
+/// frames by their destinations, and tables without codes if the scan needs none.
 #[derive(Drop)]
 pub struct Spare {
     dc: Vec<Option<HuffmanTable>>,
@@ -50,8 +50,8 @@ pub fn pass_of(header: &ScanInfo) -> Pass
     }
 }
 
-/// The number of pixels from which on it pays to fill the look-up tables of AC values: they have
-/// 2,304 entries, and a small picture has fewer tokens.
+/// The number of pixels from which it pays to fill the look-up tables of AC values: they have 2,304
+/// entries, and a small picture has fewer tokens.
 const WIDE_PIXELS: u32 = 1 << 14;
 
 /// Returns whether a frame has enough pixels for the look-up tables of AC values to pay.
@@ -59,7 +59,7 @@ fn is_large(frame: &FrameInfo) -> bool {
     pixels_of(frame) >= WIDE_PIXELS
 }
 
-/// The number of pixels from which on it pays to look two AC values up at once.
+/// The number of pixels from which it pays to look up two AC values at once.
 const PAIR_PIXELS: u32 = 1 << 17;
 
 /// Which look-up tables of AC values are filled for a frame.
@@ -90,8 +90,8 @@ fn is_eighth(frame: &FrameInfo) -> bool {
 }
 
 /// Returns which look-up tables of AC values it pays to fill for a frame. The scans of a
-/// progressive one read few tokens each, and of a sequential one whose blocks give one sample each
-/// no AC coefficient is wanted.
+/// progressive one read few tokens each, and a sequential one whose blocks give one sample each
+/// needs no AC coefficient.
 fn look_ups_for(frame: &FrameInfo) -> LookUps {
     if is_progressive(frame.coding_process) {
         LookUps::Values
@@ -137,7 +137,7 @@ fn widen_all(
     Ok(())
 }
 
-/// Fills the look-up tables of AC values where the frame has enough samples for them to pay.
+/// Fills the look-up tables of AC values if the frame has enough samples for them to pay.
 pub fn widen_tables(alloc: Global, state: &mut State) -> std::result::Result<(), AllocError>
     ensures { found_in state.new ≡ found_in state.old }
 {
@@ -151,15 +151,17 @@ pub fn widen_tables(alloc: Global, state: &mut State) -> std::result::Result<(),
     widen_all(alloc, &mut said.ac_tables, frame)
 }
 
-/// Returns the spare tables of a scan; the default ones where a frame of an MJPEG stream was named.
+/// Returns the spare tables of a scan; the default ones if a frame of an MJPEG stream was named.
 pub fn spare_tables(
     alloc: Global,
     header: &ScanInfo,
     frame: &FrameInfo,
     is_mjpeg: bool,
 ) -> Result<Spare>
-    ensures dc { IfOk result (λ s. s.dc.items ≡ default_dc is_mjpeg (scan_in header.now).dc_destinations) }
-    ensures ac { IfOk result (λ s. s.ac.items ≡ default_ac is_mjpeg (scan_in header.now).ac_destinations) }
+    ensures dc { IfOk result
+        (λ s. s.dc.items ≡ default_dc is_mjpeg (scan_in header.now).dc_destinations) }
+    ensures ac { IfOk result
+        (λ s. s.ac.items ≡ default_ac is_mjpeg (scan_in header.now).ac_destinations) }
     ensures no_dc { IfOk result (λ s. s.no_dc ≡ no_table DC) }
     ensures no_ac { IfOk result (λ s. s.no_ac ≡ no_table AC) }
     ensures err { IfErr result (λ e. e ≡ OutOfMemory) }
@@ -181,7 +183,7 @@ pub fn spare_tables(
     Ok(spare)
 }
 
-/// Returns the table in force at a destination: the one that was read, or else the spare one.
+/// Returns the table in force at a destination: the one that was read, otherwise the spare one.
 fn table_in_force<'a>(
     tables: &'a [Option<HuffmanTable>],
     spare: &'a [Option<HuffmanTable>],
@@ -195,7 +197,7 @@ fn table_in_force<'a>(
     }
 }
 
-/// Returns the table of a component where the scan needs one, and else the one without codes.
+/// Returns the table of a component if the scan needs one, otherwise the one without codes.
 fn needed_table<'a>(
     alloc: Global,
     is_needed: bool,
@@ -260,8 +262,8 @@ fn coding_of<'a>(
     })
 }
 
-/// Returns the components of a scan, and their tables in force. The errors are `Format` where a
-/// table that the scan needs is unset, and `OutOfMemory`.
+/// Returns the components of a scan, and their tables in force. The errors are `Format` if a table
+/// that the scan needs is unset, and `OutOfMemory`.
 #[tactic(auto, unfolding(jpeg_streams::specs::ScanSegments::codings_of))]
 pub fn codings_of<'a>(
     alloc: Global,

@@ -29,7 +29,7 @@ use jpeg_segments::sizes::{ceiling, greatest_of};
 use std::alloc::{AllocError, Global};
 use std::io::Read;
 
-/// Returns the identifier of the component in a slot of a scan, or 0 where there is none.
+/// Returns the identifier of the component in a slot of a scan, or 0 if there is none.
 fn identifier_of(frame: &FrameInfo, header: &ScanInfo, slot: usize) -> u8 {
     let index = header.component_indices.get(slot).copied();
     let component = index.and_then(|index| frame.components.get(index));
@@ -59,8 +59,8 @@ fn tables_of<'a>(
     Ok(tables)
 }
 
-/// Returns what a scan has of a component: one sample an MCU where it is alone in the scan, and
-/// else as many as its factors say (T.81, A.2).
+/// Returns what a scan has of a component: one sample per MCU if it is alone in the scan, otherwise
+/// as many as its factors say (T.81, A.2).
 fn part_of<'a>(component: &Component, is_alone: bool, table: &'a HuffmanTable) -> Part<'a>
     ensures { part_in result ≡ part_by is_alone (component_in component.now) table.now }
 {
@@ -102,7 +102,7 @@ fn parts_of<'a>(
     Ok(parts)
 }
 
-/// Returns how many MCUs a row of a scan has, and how many rows there are: of a component alone,
+/// Returns how many MCUs a row of a scan has, and how many rows there are: for a component alone,
 /// its samples.
 fn mcus_of(frame: &FrameInfo, indices: &[usize]) -> (u16, u16)
     requires some { 0 < length indices.now }

@@ -11,8 +11,8 @@ use jpeg_segments::parser::{Component, FrameInfo};
 use jpeg_streams::grids::grid_of;
 use std::alloc::{AllocError, Global};
 
-/// The order in which a scan codes its blocks: MCU by MCU. Where a component is alone, each of its
-/// own blocks is an MCU.
+/// The order in which a scan codes its blocks: MCU by MCU. If a component is alone, each of its own
+/// blocks is an MCU.
 #[derive(Drop)]
 pub struct ScanOrder {
     // the blocks of an MCU, and how many MCUs there are across and down
@@ -23,7 +23,7 @@ pub struct ScanOrder {
     lines: u8,
     /// The number of rows of the frame's MCUs.
     pub rows: u16,
-    /// The number of blocks of a restart interval; 0 is no intervals.
+    /// The number of blocks of a restart interval; 0 for none.
     pub interval: u64,
 }
 

@@ -9,7 +9,7 @@ use jpeg_pixels::joint_planes::{JointPlanes, JointShape};
 use std::alloc::{AllocError, Global};
 use std::marker::Model;
 
-/// The planes of at most four components: each in memory of its own, or, of like components that
+/// The planes of at most four components: each in memory of its own, or, for like components that
 /// one scan had all of, together in one buffer.
 #[derive(Drop)]
 pub struct Planes {
@@ -95,7 +95,7 @@ impl Planes {
         self.own[index] = Some(plane);
     }
 
-    /// Puts the planes of like components, where none is decided.
+    /// Puts the planes of like components, if none is decided.
     pub fn put_joint(&mut self, joint: JointPlanes)
         requires none { self.old ≡ replicate 4 None }
         requires full { IsFullJoint joint }
@@ -105,7 +105,7 @@ impl Planes {
         self.joint = Some(joint);
     }
 
-    /// Takes the planes of like components, where all planes are in one buffer with this layout.
+    /// Takes the planes of like components, if all planes are in one buffer with this layout.
     pub fn take_joint(&mut self, shape: Option<JointShape>) -> Option<JointPlanes>
         ensures taken { IfSome result (λ joint. IsFullJoint joint × (shape ≡ Some joint.shape)
             × (self.old
@@ -120,7 +120,7 @@ impl Planes {
         }
     }
 
-    /// Takes the plane of a component, if it is decided; out of a shared buffer it is copied. The
+    /// Takes the plane of a component, if it is decided; a plane in a shared buffer is copied. The
     /// only error is a refused allocation.
     pub fn take(
         &mut self,

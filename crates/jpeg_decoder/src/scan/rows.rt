@@ -9,9 +9,9 @@ ghost use Rattle.jpeg_decoder.specs.Steps.{coding_in};
 ghost use Rattle.jpeg_decoder.specs.Strips.{no_samples, planes_by_rows};
 ghost use Rattle.jpeg_decoder.specs.GrowingView.{GrowsFor, growing_in, is_joint};
 
+use crate::scan::blocks::{first_interval, read_spots};
 use crate::scan::coded::Scan;
 use crate::scan::order::ScanOrder;
-use crate::scan::blocks::{first_interval, read_spots};
 use crate::scan::strips::{GrowingPlanes, append_strips, clear_rows, row_buffers, sample_tables};
 use jpeg_bits::error::Result;
 use jpeg_bits::marker::Marker;
@@ -24,11 +24,12 @@ use std::io::Read;
 /// components, and returns the marker after the scan, if one was reached.
 ///
 /// The blocks are read from zeros, row by row of MCUs, and those of one row are kept at a time. A
-/// plane has the samples of all blocks of its component, also of those that only fill its last
-/// MCUs. Without planes, the blocks are read and nothing is made of them: so are later scans of
+/// plane has the samples of all blocks of its component, including those that only fill its last
+/// MCUs. Without planes, the blocks are read and nothing is made of them, as in later scans of
 /// components whose planes are decided.
+///
 /// The errors are those of the source, a refused code or category (T.81, F.2.2), a restart marker
-/// that is missing or out of turn, and out of memory.
+/// that is missing or out of turn, and `OutOfMemory`.
 pub fn read_planes<R: Read + Drop>(
     alloc: Global,
     source: &mut Source<R>,

@@ -10,10 +10,10 @@ ghost use Rattle.jpeg_streams.specs.Found.{Found};
 ghost use Rattle.jpeg_streams.specs.Stream.{segment_at};
 ghost use Rattle.std.specs.Prelude.{List, ℕ};
 
+use crate::scan::coded::{Scan, wants_ac};
 use crate::scan::codings::{codings_of, pass_of, spare_tables, widen_tables};
 use crate::scan::lossless::read_lossless_scan;
 use crate::scan::restarts::pass_restarts;
-use crate::scan::coded::{Scan, wants_ac};
 use crate::stream::state::{State, Step};
 use crate::stream::tables::{Missing, needed};
 use jpeg_bits::error::{Error, Result, UnsupportedFeature, format_error};

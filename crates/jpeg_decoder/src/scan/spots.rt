@@ -21,9 +21,9 @@ pub struct Member {
     pub slot: u8,
     /// Its index in the first MCU.
     pub first: u32,
-    /// How far on its index is in the MCU to the right.
+    /// How much greater its index is in the MCU to the right.
     pub across: u8,
-    /// How far on its index is in the MCU below.
+    /// How much greater its index is in the MCU below.
     pub down: u32,
 }
 
@@ -83,7 +83,7 @@ impl<'a> Spots<'a> {
         }
     }
 
-    /// Takes the next block.
+    /// Takes the next block. Not an `Iterator`, so that the contract can say which comes next.
     #[tactic(auto, using(crate::proofs::Walks::spots_rules))]
     #[inline]
     pub fn next(&mut self) -> Option<Spot>

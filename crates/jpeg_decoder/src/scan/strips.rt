@@ -20,7 +20,7 @@ use jpeg_pixels::zigzag::values_in_order;
 use jpeg_segments::parser::Component;
 use std::alloc::{AllocError, Global};
 
-/// Returns room for the blocks of a row of MCUs: for each component of a scan as many as it has in
+/// Returns room for the blocks of a row of MCUs: for each component of a scan, as many as it has in
 /// one.
 pub fn row_buffers(alloc: Global, codings: &[Coded<'_>]) -> Result<Vec<Vec<[i16; 64]>>, AllocError>
     ensures { IfOk result (λ v. sizes_of v.items ≡ row_sizes codings.now) }
@@ -35,7 +35,7 @@ pub fn row_buffers(alloc: Global, codings: &[Coded<'_>]) -> Result<Vec<Vec<[i16;
     Ok(rows)
 }
 
-/// Makes blocks blocks of zeros.
+/// Clears blocks.
 fn clear_blocks(blocks: &mut [[i16; 64]])
     ensures { blocks.new ≡ replicate (length blocks.old) (replicate 64 (pos 0)) }
 {
@@ -44,7 +44,7 @@ fn clear_blocks(blocks: &mut [[i16; 64]])
     }
 }
 
-/// Makes all blocks of a row of MCUs blocks of zeros.
+/// Clears all blocks of a row of MCUs.
 pub fn clear_rows(rows: &mut Vec<Vec<[i16; 64]>>)
     ensures sizes { sizes_of rows.new.items ≡ sizes_of rows.old.items }
     ensures zeros { arrays_in rows.new.items ≡ zeros_of (sizes_of rows.old.items) }
@@ -84,7 +84,7 @@ pub fn empty_planes(
     Ok(planes)
 }
 
-/// Makes the table by which a component's blocks are transformed, of its quantization table in
+/// Makes the table by which a component's blocks are transformed, from its quantization table in
 /// zigzag order.
 pub fn sample_table(quantization: &[u16; 64]) -> SampleTable
     ensures { result ≡ values_in_block_order quantization.now }

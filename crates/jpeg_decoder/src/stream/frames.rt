@@ -22,8 +22,8 @@ fn is_arithmetic(coding: EntropyCoding) -> bool
     }
 }
 
-/// Returns whether frames of a process are decoded at a precision: 8 bits, or in a lossless frame 2
-/// to 16.
+/// Returns whether frames of a process are decoded at a precision: 8 bits, or 2 to 16 in a lossless
+/// frame.
 fn is_precision(process: CodingProcess, precision: u8) -> bool
     ensures { result ≡ is_decoded_precision process precision }
 {
@@ -33,7 +33,7 @@ fn is_precision(process: CodingProcess, precision: u8) -> bool
     }
 }
 
-/// Checks that each component has a way to upsample it.
+/// Checks that each component can be upsampled.
 #[tactic(auto, using(crate::proofs::Rules::ratios))]
 fn check_ratios(alloc: Global, frame: &FrameInfo) -> Result<()>
     requires some { 1 ≤ length frame.now.components.items }
@@ -50,7 +50,7 @@ fn check_ratios(alloc: Global, frame: &FrameInfo) -> Result<()>
     Ok(())
 }
 
-/// Checks that a frame is one that is decoded.
+/// Checks that a frame can be decoded.
 #[tactic(auto, unfolding(jpeg_streams::specs::Segments::accepted))]
 pub fn check_frame(alloc: Global, frame: &FrameInfo) -> Result<()>
     requires { AllHaveSampling (map component_in frame.now.components.items) }

@@ -47,7 +47,7 @@ impl Metadata {
         }
     }
 
-    /// Adds what the segment of an application says. Where memory runs out nothing changes.
+    /// Adds what the segment of an application says. If memory runs out, nothing changes.
     pub fn add(&mut self, said: Option<AppData>) -> Result<()>
         ensures { MatchResult result (λ _. metadata_in self.new
             ≡ with_application (metadata_in self.old) (option_map application_in said)) (λ e. (e

@@ -47,7 +47,7 @@ fn have_count(chunks: &[IccChunk], count: usize) -> bool
     all_name(chunks, count)
 }
 
-/// Returns the bytes of this many parts, which are numbered from 1, in turn.
+/// Returns the bytes of this many parts, numbered from 1, in turn.
 fn joined(alloc: Global, chunks: &[IccChunk], count: usize) -> Result<Option<Vec<u8>>>
     ensures { let parts = filter_map (λ k. find (λ c. c.number == k) (map chunk_in chunks.now))
         (range_with_len 1 count) in
@@ -65,8 +65,8 @@ fn joined(alloc: Global, chunks: &[IccChunk], count: usize) -> Result<Option<Vec
     Ok(Some(bytes))
 }
 
-/// Returns the profile: there where 1 to 254 parts are, each names their number, and they are
-/// numbered 1, 2 and so on, in any order. The only error is out of memory.
+/// Returns the profile, if there are 1 to 254 parts, each names their number, and they are numbered
+/// 1, 2 and so on, in any order. The only error is `OutOfMemory`.
 #[tactic(auto, unfolding(jpeg_streams::specs::Profile::profile_of))]
 pub fn profile(alloc: Global, chunks: &[IccChunk]) -> Result<Option<Vec<u8>>>
     ensures { MatchResult result (λ o. option_map (λ v. v.items) o

@@ -9,8 +9,8 @@ use crate::stream::tables::update;
 use jpeg_bits::error::{Error, Result, UnsupportedFeature, format_error, format_error_of};
 use jpeg_bits::huffman::HuffmanTable;
 use jpeg_bits::marker::Marker;
-use jpeg_bits::source::reads::{read_length, skip};
 use jpeg_bits::source::Source;
+use jpeg_bits::source::reads::{read_length, skip};
 use jpeg_segments::parser::{FrameInfo, parse_app, parse_dht, parse_dqt, parse_dri, parse_sof};
 use jpeg_streams::before::Before;
 use std::alloc::Global;
@@ -28,7 +28,7 @@ pub struct Said {
     pub dc_tables: [Option<HuffmanTable>; 4],
     /// The tables of AC coefficients in force.
     pub ac_tables: [Option<HuffmanTable>; 4],
-    /// The restart interval in MCUs; 0 is none.
+    /// The restart interval in MCUs; 0 for none.
     pub restart_interval: u16,
     /// Whether a scan was read.
     pub scanned: bool,
@@ -39,7 +39,7 @@ pub struct Said {
     ghost ac_classes: { all_ac ac_tables ≡ true },
 }
 
-/// What was found in a stream so far.
+/// What has been found in a stream so far.
 #[derive(Drop)]
 pub struct State {
     /// What its segments have said.

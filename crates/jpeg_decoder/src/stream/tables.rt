@@ -67,7 +67,7 @@ impl fmt::Display for Missing {
     }
 }
 
-/// Returns something that has to be there; else the refusal says that it is missing.
+/// Returns something that has to be there; otherwise the refusal says that it is missing.
 pub fn needed<T: Drop>(alloc: Global, option: Option<T>, missing: Missing) -> Result<T>
     ensures { MatchResult result (λ x. option ≡ Some x) (λ e. (option ≡ None) × NamesFormat e) }
 {

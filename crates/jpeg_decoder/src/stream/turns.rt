@@ -19,7 +19,7 @@ use jpeg_streams::before::Before;
 use std::alloc::Global;
 use std::io::Read;
 
-/// Reads the marker that was reached, or else the next.
+/// Returns the marker that was reached, or reads the next one.
 fn marker_or_next<R: Read + Drop>(
     alloc: Global,
     source: &mut Source<R>,
@@ -70,15 +70,15 @@ fn read_turn<R: Read + Drop>(
     }
 }
 
-/// Returns whether the frame was read, where the header is wanted alone.
+/// Returns whether only the header is wanted, and the frame was read.
 fn is_read_for(state: &State, header: bool) -> bool
     ensures { result ≡ (header && is_some (said_in state.now).frame) }
 {
     header && state.said.frame.is_some()
 }
 
-/// Reads segments and scans up to the end of the image, or, where the header is wanted alone,
-/// through the frame's segment.
+/// Reads segments and scans up to the end of the image, or, if only the header is wanted, through
+/// the frame header.
 pub fn read_segments<R: Read + Drop>(
     alloc: Global,
     source: &mut Source<R>,

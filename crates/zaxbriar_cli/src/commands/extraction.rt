@@ -1,9 +1,9 @@
 //! Takes Exif, XMP and ICC data out of files, for the word `info`.
 //!
 //! The data are as they stand in the stream: Exif data from their TIFF header on, XMP data as text,
-//! and the ICC profile joined of its parts. Where the header hasn't all of them the stream is read
-//! to its end, since such data may stand anywhere in it; where it is refused, what stands before
-//! the fault is written all the same.
+//! and the ICC profile joined from its parts. If the header hasn't all of them, the stream is read
+//! to its end, since such data may stand anywhere in it; if it is refused, what stands before the
+//! fault is written all the same.
 
 use crate::commands::pictures::check_output;
 use crate::ending::{Failure, Outcome};
@@ -49,12 +49,12 @@ pub fn with_options<'a>(
         )?)
 }
 
-/// Returns whether data are asked for, and not a description.
+/// Returns whether data are requested, and not a description.
 pub fn is_asked_for(matches: &ArgMatches<'_>) -> bool {
     KINDS.iter().any(|kind| matches.contains_id(kind.option()))
 }
 
-/// Returns whether a decoder has read all data that are asked for.
+/// Returns whether a decoder has read all requested data.
 fn has_all<R: Read + Drop>(decoder: &Decoder<R>, matches: &ArgMatches<'_>) -> Result<bool> {
     for kind in KINDS {
         if matches.contains_id(kind.option()) && !is_read(decoder, kind)? {
@@ -64,8 +64,8 @@ fn has_all<R: Read + Drop>(decoder: &Decoder<R>, matches: &ArgMatches<'_>) -> Re
     Ok(true)
 }
 
-/// Reads a stream as far as the data that are asked for take it. A picture is decoded at 1/8 of its
-/// size, for nobody asks for it.
+/// Reads a stream as far as the requested data need it. A picture is decoded at 1/8 of its size,
+/// since it isn't requested.
 fn read_data<R: Read + Drop>(
     decoder: &mut Decoder<R>,
     matches: &ArgMatches<'_>,
@@ -82,8 +82,8 @@ fn read_data<R: Read + Drop>(
     Ok(())
 }
 
-/// Writes the data of a kind that a decoder has read to a file. Where there are none that is said,
-/// or why the stream was refused before them.
+/// Writes the data of a kind that a decoder has read to a file. If there are none, says so, or why
+/// the stream was refused before them.
 fn write_to<R: Read + Drop>(
     rt: HostRuntime,
     input: Option<&str>,
@@ -119,7 +119,7 @@ fn write_kind<R: Read + Drop>(
     }
 }
 
-/// Writes all data that are asked for of a stream, as far as there are any.
+/// Writes all requested data of a stream, as far as there are any.
 fn write_all<R: Read + Drop>(
     rt: HostRuntime,
     matches: &ArgMatches<'_>,
@@ -139,7 +139,7 @@ fn write_all<R: Read + Drop>(
     outcome
 }
 
-/// Takes the data that are asked for out of a file.
+/// Takes the requested data out of a file.
 fn extract(
     rt: HostRuntime,
     matches: &ArgMatches<'_>,
@@ -156,8 +156,8 @@ fn extract(
     }
 }
 
-/// Takes the data that are asked for out of the files that the arguments name, and goes on after
-/// one that is refused.
+/// Takes the requested data out of the files that the arguments name, and continues after one that
+/// is refused.
 pub fn run(rt: HostRuntime, matches: &ArgMatches<'_>) -> Outcome<()> {
     let limits = arguments::limits_of(&rt, matches)?;
     let Some(names) = matches.get_strs(arguments::FILE) else {

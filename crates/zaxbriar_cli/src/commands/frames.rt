@@ -2,17 +2,17 @@
 //! file.
 //!
 //! `zaxbriar frames stream.mjpeg -o frame-%04d.ppm` writes each frame as a netpbm file: the number
-//! of the frame, from 1, takes the place of `%04d` in the file's name, with as many digits at
-//! least. Without a `%` in the name, and without `-o`, the frames' pixels are written one after the
-//! other into one file or to standard output: what `ffmpeg` calls rawvideo, of the pixel format
+//! of the frame, from 1, takes the place of `%04d` in the file's name, with at least as many
+//! digits. Without a `%` in the name, and without `-o`, the frames' pixels are written one after
+//! the other into one file or to standard output: what `ffmpeg` calls rawvideo, of the pixel format
 //! gray, gray16le or rgb24. All frames are then of one size and format. `--list` writes a line
 //! `NUMBER WIDTH HEIGHT FORMAT` for each frame in place of its pixels.
 //!
 //! `decode` reads no byte after the end of an image, so one reader is lent to a decoder for each
-//! frame. The first byte of a frame is read before, since the stream ends where there is none. Of
-//! an AVI file the frames are those of its first stream that has any (chunks such as `00dc`); what
-//! else it has, such as sound and indexes, is skipped. A frame that is refused ends the program;
-//! the frames before it are written.
+//! frame. The first byte of a frame is read before, since the stream ends if there is none. The
+//! frames of an AVI file are those of its first stream that has any (chunks such as `00dc`);
+//! anything else in it, such as sound and indexes, is skipped. A frame that is refused ends the
+//! program; the frames before it are written.
 
 use crate::ending::Outcome;
 use crate::files::InputReader;
@@ -32,8 +32,8 @@ pub const NAME: &str = "frames";
 
 const ABOUT: &str = "Decodes the frames of an MJPEG stream, plain or in an AVI file";
 
-const OUTPUT: &str = "The files to write, as frame-%04d.ppm; or one file of rawvideo; \
-    - or none is rawvideo on standard output";
+const OUTPUT: &str = "The files to write, such as frame-%04d.ppm; or one file of rawvideo; \
+    rawvideo on standard output by default, or for -";
 
 /// The frames of a file or of standard input.
 type InputFrames = Frames<InputReader>;
@@ -43,14 +43,14 @@ pub fn command<'a>(alloc: Global) -> Result<Command<'a>, AllocError> {
     let list = Arg::new(alloc, "list")
         .long("list")
         .action(ArgAction::SetTrue)
-        .help("Write a line NUMBER WIDTH HEIGHT FORMAT for each frame in place of its pixels");
+        .help("Write a line NUMBER WIDTH HEIGHT FORMAT for each frame instead of its pixels");
     arguments::word(alloc, NAME, ABOUT)?
         .arg(arguments::file_argument(alloc))?
         .arg(arguments::output_option(alloc, OUTPUT))?
         .arg(list)
 }
 
-/// What is asked for: a stream, and what is done with its frames.
+/// What is requested: a stream, and what is done with its frames.
 #[derive(Clone, Copy)]
 struct Job<'a> {
     rt: HostRuntime,
@@ -73,7 +73,7 @@ impl<'a> Job<'a> {
         }
     }
 
-    /// Decodes the next frame, where there is one. A frame that is refused is reported.
+    /// Decodes the next frame, if there is one. A frame that is refused is reported.
     fn next(&self, frames: &mut InputFrames, number: u64) -> Outcome<Option<Picture>> {
         match frames.next_frame(self.rt.alloc(), number) {
             Ok(frame) => Ok(frame),
@@ -104,7 +104,7 @@ impl<'a> Job<'a> {
         Ok(())
     }
 
-    /// Writes what is asked for of a frame to the one file.
+    /// Writes what is requested of a frame to the one file.
     fn write_frame(
         &self,
         number: u64,
@@ -119,8 +119,8 @@ impl<'a> Job<'a> {
         }
     }
 
-    /// Decodes the next frame for the one file, where there is one: without a list it has the size
-    /// and the format of the frames before it.
+    /// Decodes the next frame for the one file, if there is one: without a list it has the size and
+    /// the format of the frames before it.
     fn next_alike(
         &self,
         frames: &mut InputFrames,
@@ -136,7 +136,7 @@ impl<'a> Job<'a> {
         }
     }
 
-    /// Writes what is asked for of each frame to one file. The frames before one that is refused
+    /// Writes what is requested of each frame to one file. The frames before one that is refused
     /// are kept.
     fn write_stream(&self, frames: &mut InputFrames) -> Outcome<()> {
         let mut output = Output::new(self.rt, self.output);

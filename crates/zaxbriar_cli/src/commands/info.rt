@@ -1,6 +1,6 @@
 //! Says what JPEG files are: `zaxbriar info photo.jpg` reads the segments of each file up to its
-//! first scan and writes lines `key: value`, or JSON with `--json`: an object of one file, and an
-//! array of objects of several.
+//! first scan and writes lines `key: value`, or JSON with `--json`: an object for one file, and an
+//! array of objects for several.
 //!
 //! `--exif FILE`, `--xmp FILE` and `--icc FILE` write data of that kind in place of a description.
 
@@ -24,12 +24,12 @@ pub fn command<'a>(alloc: Global) -> Result<Command<'a>, AllocError> {
     let json = Arg::new(alloc, "json")
         .long("json")
         .action(ArgAction::SetTrue)
-        .help("Write JSON in place of lines: an object, or an array of several");
+        .help("Write JSON instead of lines: an object, or an array for several files");
     let command = arguments::word(alloc, NAME, ABOUT)?
         .arg(arguments::files_argument(alloc))?
         .arg(arguments::output_option(
             alloc,
-            "The file for the description; - or none is standard output",
+            "The file for the description; standard output by default, or for -",
         ))?
         .arg(json)?;
     extraction::with_options(alloc, command)
@@ -68,7 +68,7 @@ fn describe(
     Ok(are_all)
 }
 
-/// Does what the arguments ask for.
+/// Does what the arguments request.
 pub fn run(rt: HostRuntime, matches: &ArgMatches<'_>) -> Outcome<()> {
     if extraction::is_asked_for(matches) {
         return extraction::run(rt, matches);

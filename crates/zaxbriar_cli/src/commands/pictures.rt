@@ -1,4 +1,4 @@
-//! Writes the pictures of files that are named, for the words `pnm` and `thumbnail`.
+//! Writes the pictures of the given files, for the words `pnm` and `thumbnail`.
 
 use crate::ending::{Failure, Outcome};
 use crate::output::Output;
@@ -13,8 +13,8 @@ use zaxbriar_pictures::scaled::{Request, write_at};
 use zaxbriar_pictures::thumbnails::write_thumbnail;
 
 const OUTPUT: &str =
-    "The file to write; - or none is standard output; of several files DIR/%s.ppm, where %s \
-    stands for each file's name without its extension";
+    "The file to write; standard output by default, or for -; for several files DIR/%s.ppm, where \
+    %s stands for each file's name without its extension";
 
 /// Returns the option `-o` of a word that may write several files.
 pub fn output_option<'a>(alloc: Global) -> Arg<'a> {
@@ -56,7 +56,7 @@ pub fn check_output(
     }
 }
 
-/// Writes the picture that is asked for of the stream that the reader gives.
+/// Writes the requested picture of the stream that the reader gives.
 fn write_one<R: Read + Drop, W: Write>(
     alloc: Global,
     reader: R,
@@ -70,7 +70,7 @@ fn write_one<R: Read + Drop, W: Write>(
     }
 }
 
-/// Writes the picture that is asked for of a file.
+/// Writes the requested picture of a file.
 fn write_of(
     rt: HostRuntime,
     input: Option<&str>,
@@ -86,7 +86,7 @@ fn write_of(
     files::finish(&rt, input, output, outcome)
 }
 
-/// Writes the picture that is asked for of a file to the output of its name.
+/// Writes the requested picture of a file to the output of its name.
 fn write_named(
     rt: HostRuntime,
     input: Option<&str>,
@@ -103,8 +103,8 @@ fn write_named(
     }
 }
 
-/// Writes the pictures that are asked for of the files that the arguments name, and goes on after
-/// one that is refused.
+/// Writes the requested pictures of the files that the arguments name, and continues after one that
+/// is refused.
 pub fn write_all(rt: HostRuntime, matches: &ArgMatches<'_>, request: Request) -> Outcome<()> {
     let limits = arguments::limits_of(&rt, matches)?;
     let Some(names) = matches.get_strs(arguments::FILE) else {

@@ -1,8 +1,8 @@
 //! Converts JPEG files to netpbm files: `zaxbriar pnm photo.jpg -o photo.ppm`.
 //!
 //! The picture's format decides the file's: PGM of a grey picture, PPM of red, green and blue, and
-//! PAM of cyan, magenta, yellow and black. `--scale` gives it at 1/8, 1/4 or 1/2 of its size, which
-//! takes less time than the whole picture.
+//! PAM of cyan, magenta, yellow and black. `--scale` writes it at 1/8, 1/4 or 1/2 of its size,
+//! which takes less time than the whole picture.
 
 use crate::arguments;
 use crate::commands::pictures;
@@ -32,7 +32,7 @@ pub fn command<'a>(alloc: Global) -> Result<Command<'a>, AllocError> {
         .arg(scale)
 }
 
-/// Returns the scale that is asked for.
+/// Returns the requested scale.
 fn scale_of(matches: &ArgMatches<'_>) -> Scale {
     match matches.get_str("scale") {
         Some("1/8") => Scale::Eighth,

@@ -1,5 +1,5 @@
-//! Decodes a JPEG file to its bytes: `zaxbriar raw photo.jpg -o photo.raw` writes a line `WIDTH
-//! HEIGHT FORMAT` and then the pixels, as `jpegraw` does for standard input.
+//! Decodes a JPEG file to its bytes: `zaxbriar raw photo.jpg -o photo.raw` writes a line
+//! `WIDTH HEIGHT FORMAT` and then the pixels, like `jpegraw` for standard input.
 
 use crate::ending::Outcome;
 use crate::output::Output;
@@ -16,7 +16,10 @@ const ABOUT: &str = "Decodes a JPEG file to a line WIDTH HEIGHT FORMAT, and then
 pub fn command<'a>(alloc: Global) -> Result<Command<'a>, AllocError> {
     arguments::word(alloc, NAME, ABOUT)?
         .arg(arguments::file_argument(alloc))?
-        .arg(arguments::output_option(alloc, "The file to write; - or none is standard output"))
+        .arg(arguments::output_option(
+            alloc,
+            "The file to write; standard output by default, or for -",
+        ))
 }
 
 /// Decodes the file that the arguments name.

@@ -14,7 +14,7 @@ pub const NAME: &str = "thumbnail";
 const ABOUT: &str = "Writes small pictures of JPEG files as PGM, PPM or, of CMYK, PAM";
 
 const MAX: &str =
-    "The size that the picture is to fit within, as 640x480: it keeps its proportions, and is \
+    "The size that the picture is to fit within, such as 640x480: it keeps its proportions, and is \
     never enlarged";
 
 /// Returns what the word takes.
@@ -41,7 +41,7 @@ fn size_of(text: &str) -> Option<Dimensions> {
     Some(Dimensions { width, height })
 }
 
-/// Returns what is asked for, unless the size is none.
+/// Returns the request, if its size is valid.
 fn request_of(matches: &ArgMatches<'_>) -> Option<Request> {
     let most = size_of(matches.get_str("max")?)?;
     let is_as_stored = matches.get_flag("as-stored");
