@@ -1,14 +1,11 @@
 -- Lines of one length, one after the other, and as they are written.
 use Rattle.std.proofs.Common.{◌≡◌, ℕ, zero, suc, ◌+◌, ◌-◌, ◌*◌, ◌<◌, ◌/◌, ◌%◌, List, [], ◌∷◌, ◌++◌, length, get_or}
-use Rattle.std.proofs.Common.{map, sym, ap, ◌∙◌, arith, length-append, rules, ◌≤◌, take}
-use Rattle.std.proofs.lemmas.List.{ext_get_or, get_or-append_right, get_or_append_left, get_or-map, take_all}
+use Rattle.std.proofs.Common.{map, sym, ap, ◌∙◌, arith, length-append, rules, take}
+use Rattle.std.proofs.lemmas.List.{ext_get_or, get_or-append_right, get_or_append_left, get_or-map}
 use Rattle.std.proofs.lemmas.List.FromFn.{length-map-range_with_len, get_or-map-range_with_len}
-use Rattle.std.proofs.Math.Nat.{mul_comm, div-lt_iff_lt-mul, mod-lt, div-add-mod, add-mul}
+use Rattle.std.proofs.Math.Nat.{mul_comm, div-lt_iff_lt-mul, mod-lt, div-add-mod}
 use Rattle.std.specs.List.{range_with_len, concat}
 use Rattle.jpeg_pixels.specs.JointPlanes.{HaveWidth}
-use Rattle.std.proofs.lemmas.Slice.{take-put_mid}
-use borrow.Rule.Slice.PartMut.{put_mid}
-use Rattle.std.proofs.lemmas.Grind.{common_steps}
 
 pub AreLong-more : (n : ℕ) (l : List ℕ) (lines : List (List ℕ)) → HaveWidth n (l ∷ lines) →
     HaveWidth n lines
@@ -74,20 +71,3 @@ sample-at n lines k x long h lt = search (rules, get_or, get_or-map, joined-at)
 
 pub no-lines : (line : ℕ) (out : List ℕ) → take (0 * line) out ≡ []
 no-lines line out = let e : 0 * line ≡ 0 = omega arith in ap (λ (n : ℕ). take n out) e
-
--- a line is within the picture
-pub line-fits : (count width height w h row long : ℕ) → w ≡ width → h ≡ height → row < h
-    → long ≡ count * width * height → row * (count * w) + count * w ≤ long
-line-fits count width height w h row long e f lt is = grind (arith, common_steps, add-mul, mul_comm)
-
--- one line more
-pub lines-before : (row line k : ℕ) (now new front front' : List ℕ) {made : List ℕ} → row * line ≤ length now
-    → length new ≡ line → take (row * line) now ≡ front → new ≡ made → front' ≡ front ++ made
-    → take ((row + 1) * line) (put_mid (row * line) k now new) ≡ front'
-lines-before row line k now new front front' room long before is more = search (rules, take-put_mid)
-
--- all lines
-pub all-lines : (count width height w h row : ℕ) (now : List ℕ) (made : ℕ → ℕ → List ℕ) → w ≡ width → h ≡ height
-    → row ≡ h → length now ≡ count * width * height → take (row * (count * w)) now ≡ made w row
-    → now ≡ made width height
-all-lines count width height w h row now made e f end long is = search (rules, mul_comm, take_all)

@@ -187,7 +187,7 @@ pub strips-inside : (shape : JointShape) (row first size long whole : ℕ)
 strips-inside shape row first size long whole e f lt g is = search (rules, row_fits)
 
 -- and the samples have all of them
-strips-long : (shape : JointShape) (samples : List ℕ) (row : ℕ) → row < shape.rows
+pub strips-long : (shape : JointShape) (samples : List ℕ) (row : ℕ) → row < shape.rows
     → length samples ≡ shape.rows * joint_row_size shape
     → length (strips_at shape samples row) ≡ joint_row_size shape
 strips-long shape samples row lt full =
@@ -274,14 +274,6 @@ lines-end shape width height row start count size long whole wide first some is 
     let most : (start + count) * size ≤ ((row + 1) * shape.lines) * (shape.count * shape.stride) =
     mul-le-mul within wider in
     (omega (arith, add-mul, mul_assoc), omega (arith, mul-le-mul_right (joint_row_size shape) lt))
-
--- and they are in a picture of this height
-pub lines-fit : (height row lines start count size line long whole : ℕ)
-    → start ≡ min height (row * lines) → count ≡ min lines (height - row * lines) → size ≡ line
-    → long ≡ whole → whole ≡ height * line → start * size + count * size ≤ long
-lines-fit height row lines start count size line long whole first some is e full =
-    let within : start + count ≤ height = omega arith in
-    rw (e, full, ← is) (omega (arith, add-mul start count size, mul-le-mul_right size within))
 
 -- ---- sources of components alike
 

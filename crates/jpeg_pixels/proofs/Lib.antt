@@ -11,6 +11,7 @@ pub mod GivenRows
 pub mod Growing
 pub mod JoinedLines
 pub mod JointPictures
+pub mod PictureLines
 pub mod LinesOfColour
 pub mod PlaneRows
 pub mod SourceLists

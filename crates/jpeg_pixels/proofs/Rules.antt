@@ -11,7 +11,7 @@ use Rattle.std.proofs.lemmas.List.Elements.{All-more, All-same}
 use Rattle.std.proofs.lemmas.Result.{err_from_is_err_and}
 use Rattle.jpeg_pixels.proofs.ComponentLines.{cover-lower, lines_of-length, lines_of-long}
 use Rattle.jpeg_pixels.proofs.Fours.{few}
-use Rattle.jpeg_pixels.proofs.JoinedLines.{all-lines, line-fits, lines-before, no-lines}
+use Rattle.jpeg_pixels.proofs.JoinedLines.{no-lines}
 use Rattle.jpeg_pixels.proofs.JointPictures.{all-written, strips-inside, part-fits}
 use Rattle.jpeg_pixels.proofs.LaneSums.{kept_halves, kept_words, residue_bits, wrapping}
 use Rattle.jpeg_pixels.proofs.WholePictures.{conversion-fits, image-no_conversion, image-no_sources, picture-more}
@@ -28,8 +28,6 @@ pub ruleset refusals = (image-no_conversion, image-no_sources)
 
 -- lines of a picture
 pub ruleset line = (length-map, lines_of-length, lines_of-long, take-length)
-
-pub ruleset lines = (common_steps, all-lines, line-fits, lines-before, no-lines)
 
 pub ruleset pictures = (cover-lower, picture-more, picture-none)
 

@@ -2,7 +2,6 @@
 use Rattle.std.proofs.lemmas.Grind.{common_steps}
 use Rattle.std.proofs.Common.{◌≡◌, ℕ, ◌+◌, ◌==◌, List, [], ◌∷◌, ◌++◌, length, map, ap, ◌∙◌, refl, arith, take}
 use Rattle.std.proofs.Common.{length-drop, ◌-◌, Vec, Global, MatchResult, Result, Ok, Err, if◌then◌else◌, rules}
-use Rattle.std.specs.Prelude.{IfErr, OnOk}
 use Rattle.std.proofs.lemmas.List.{append-nil, take-append-drop}
 use Rattle.std.proofs.Math.ListN.{drop_of_length-le}
 use Rattle.std.proofs.Math.Seq.{take-append_seam}
@@ -92,18 +91,6 @@ pub image-answer : (components : List Component) (planes : List (List ℕ)) (wid
     → MatchResult result (λ v. image_of components planes width height transform ≡ Ok v.items)
     (λ e. Names e (image_of components planes width height transform))
 image-answer components planes width height transform convert sources w h result h1 h2 h3 h4 h5 =
-    grind (arith, nat_tests, image-is)
-
--- the same where it is written into memory
-pub image-written : (components : List Component) (planes : List (List ℕ)) (width height : ℕ)
-    (transform : ColorTransform) (convert : ColorConvert) (sources : List Source) (pixels : List ℕ)
-    (result : Result (Unit {0}) Error)
-    → conversion_of (length components) transform ≡ Ok convert → sources_of components width height ≡ Ok sources
-    → OnOk result (pixels ≡ converted_picture convert sources planes width height)
-    → IfErr result (λ e. e ≡ OutOfMemory)
-    → MatchResult result (λ u. image_of components planes width height transform ≡ Ok pixels)
-    (λ e. Names e (image_of components planes width height transform))
-image-written components planes width height transform convert sources pixels result h1 h2 h3 h4 =
     grind (arith, nat_tests, image-is)
 
 pub sources-count : (components : List Component) (width height : ℕ) (sources : List Source)

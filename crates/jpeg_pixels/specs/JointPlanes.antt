@@ -46,11 +46,15 @@ abbrev pub strips_at : JointShape → List ℕ → ℕ → List ℕ
 strips_at shape samples row = take (joint_row_size shape) (drop (row * joint_row_size shape)
     samples)
 
+-- a line of the picture
+abbrev pub joint_line : ColorConvert → JointShape → ℕ → List ℕ → ℕ → List ℕ
+joint_line convert shape width samples row = line_bytes convert width (strip_lines shape width
+    (strips_at shape samples (row / shape.lines)) (row % shape.lines))
+
 -- the first lines of the picture
 unfoldable pub joint_bytes : ColorConvert → JointShape → ℕ → List ℕ → ℕ → List ℕ
 joint_bytes convert shape width samples height =
-    concat (map (λ row. line_bytes convert width (strip_lines shape width
-    (strips_at shape samples (row / shape.lines)) (row % shape.lines))) (range_with_len 0 height))
+    concat (map (joint_line convert shape width samples) (range_with_len 0 height))
 
 -- Each line has this many samples.
 pub record HaveWidth (width : ℕ) (lines : List (List ℕ)) : Type 0 where

@@ -15,3 +15,5 @@ pub mod Workers
 pub mod GrowingView
 pub mod ShortRows
 pub mod JointPlanes
+pub mod Lines
+pub mod LinesView

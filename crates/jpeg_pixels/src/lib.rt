@@ -9,6 +9,7 @@ mod growing_plane;
 pub mod idct;
 pub mod joint_planes;
 pub mod laws;
+pub mod lines;
 mod picture_lines;
 pub mod plane;
 mod short_block;

@@ -11,7 +11,6 @@ ghost use Rattle.jpeg_pixels.specs.PicturesView.{source_in, IsFor};
 use crate::color_convert::ColorConvert;
 use crate::color_rows::{write_cmyk, write_rgb, write_ycbcr, write_ycck};
 use crate::sources::ComponentSource;
-use jpeg_segments::parser::Dimensions;
 use std::alloc::{AllocError, Global};
 
 /// A line of a picture, and the planes that it is made of.
@@ -151,35 +150,4 @@ pub(crate) fn lines_from_above(
         );
     }
     Ok(picture)
-}
-
-/// Writes the picture: its lines from above. The lines of the components are put into the buffer
-/// `lines`.
-#[tactic(auto, using(crate::proofs::Rules::lines, crate::proofs::Rules::pictures))]
-pub(crate) fn write_lines(
-    components: &[ComponentSource],
-    planes: &[Vec<u8>],
-    size: Dimensions,
-    color_convert: ColorConvert,
-    lines: &mut [u8],
-    picture: &mut [u8],
-)
-    requires most { length components.now ≤ 4 }
-    requires planes { length planes.now ≡ length components.now }
-    requires cover { AllCover (map source_in components.now)
-        (map (λ v. v.items) planes.now) size.width size.height }
-    requires fits { IsFor (length components.now) color_convert }
-    requires lines_room { length lines.old ≡ length components.now * size.width }
-    requires room { length picture.old ≡ length components.now * size.width * size.height }
-    ensures { picture.new ≡ converted_picture color_convert (map source_in components.now)
-        (map (λ v. v.items) planes.now) size.width size.height }
-{
-    let width = usize::from(size.width);
-    let line_size = components.len() * width;
-    for row in 0..usize::from(size.height) {
-        let start = row * line_size;
-        let output = &mut picture[start..start + line_size];
-        let line = Line { planes, row, width };
-        write_line(components, &line, lines, output, color_convert);
-    }
 }

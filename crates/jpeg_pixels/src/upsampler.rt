@@ -1,12 +1,12 @@
 //! Samples between samples, and colours: lines of components become lines of the picture.
 
 pub use crate::color_convert::ColorConvert;
-use crate::picture_lines::{Line, lines_from_above, write_line, write_lines};
+use crate::picture_lines::{Line, lines_from_above, write_line};
 pub use crate::sources::ComponentSource;
 use crate::sources::component_sources;
 pub use crate::upsample_rows::UpsampleRule;
 use jpeg_bits::error::Result;
-use jpeg_segments::parser::{Component, Dimensions};
+use jpeg_segments::parser::Component;
 use std::alloc::Global;
 use std::marker::Model;
 
@@ -28,7 +28,7 @@ impl Model for Upsampler {
 }
 
 impl Upsampler {
-    ghost use Rattle.std.specs.Prelude.{◌≡◌, ◌+◌, ◌*◌, ◌≤◌, map, length, OnErr, OnOk, IfErr};
+    ghost use Rattle.std.specs.Prelude.{◌≡◌, ◌+◌, ◌*◌, ◌≤◌, map, length, OnOk, IfErr};
     ghost use Rattle.std.specs.Prelude.{MatchResult};
     ghost use Rattle.jpeg_bits.specs.Reading.{Gives};
     ghost use Rattle.jpeg_bits.specs.declared.error.Error.TheVariants.{OutOfMemory};
@@ -93,6 +93,26 @@ impl Upsampler {
         Ok(())
     }
 
+    /// Writes a line of the picture. The lines of the components are put into the buffer `lines`.
+    pub(crate) fn write_line(
+        &self,
+        line: &Line<'_>,
+        lines: &mut [u8],
+        output: &mut [u8],
+        color_convert: ColorConvert,
+    )
+        requires planes { length line.now.planes.now ≡ length self.now }
+        requires cover { AllCover self.now (map (λ v. v.items) line.now.planes.now) line.now.width
+            (line.now.row + 1) }
+        requires fits { IsFor (length self.now) color_convert }
+        requires lines_room { length lines.old ≡ length self.now * line.now.width }
+        requires room { length output.old ≡ length self.now * line.now.width }
+        ensures { output.new ≡ picture_line color_convert self.now
+            (map (λ v. v.items) line.now.planes.now) line.now.width line.now.row }
+    {
+        write_line(&self.components, line, lines, output, color_convert);
+    }
+
     /// Returns all lines of the picture, from above. The only error is that no memory is left.
     pub(crate) fn picture(
         &self,
@@ -122,40 +142,5 @@ impl Upsampler {
             color_convert,
         )?;
         Ok(picture)
-    }
-
-    /// Writes all lines of the picture, from above, into memory that has exactly its bytes. The
-    /// only error is that no memory is left; nothing is written then.
-    pub(crate) fn write_picture(
-        &self,
-        component_data: &[Vec<u8>],
-        size: Dimensions,
-        color_convert: ColorConvert,
-        picture: &mut [u8],
-    ) -> Result<()>
-        requires most { length self.now ≤ 4 }
-        requires planes { length component_data.now ≡ length self.now }
-        requires cover { AllCover self.now (map (λ v. v.items) component_data.now) size.width
-            size.height }
-        requires fits { IsFor (length self.now) color_convert }
-        requires room { length picture.old ≡ length self.now * size.width * size.height }
-        ensures picture { OnOk result (picture.new ≡ converted_picture color_convert self.now
-            (map (λ v. v.items) component_data.now) size.width size.height) }
-        ensures unwritten { OnErr result (picture.new ≡ picture.old) }
-        ensures err { IfErr result (λ e. e ≡ OutOfMemory) }
-    {
-        let components = self.components.as_slice();
-        let line_size = components.len() * usize::from(size.width);
-        let mut lines = vec![in self.alloc; 0; line_size]?;
-        let lines = lines.as_mut_slice();
-        write_lines(
-            components,
-            component_data,
-            size,
-            color_convert,
-            lines,
-            picture,
-        );
-        Ok(())
     }
 }

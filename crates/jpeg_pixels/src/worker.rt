@@ -3,7 +3,7 @@
 //! A decoder takes from here the pictures alone, and makes its planes by `plane`, a row of blocks
 //! at a time. `ImmediateWorker` is there for callers that read the scans of a stream themselves:
 //! the parts of the original crate are public here.
-ghost use Rattle.std.specs.Prelude.{◌≡◌, ◌≤◌, ◌*◌, List, map, length, Ok, MatchResult, OnErr};
+ghost use Rattle.std.specs.Prelude.{◌≡◌, ◌≤◌, List, map, length, Ok, MatchResult};
 ghost use Rattle.jpeg_bits.specs.Reading.{Names};
 ghost use Rattle.jpeg_segments.specs.FrameView.{component_in};
 ghost use Rattle.jpeg_pixels.specs.Pictures.{Source, sources_of, AllCover, image_of};
@@ -183,38 +183,4 @@ pub fn compute_image_rows(
     let width = usize::from(output_size.width);
     let height = usize::from(output_size.height);
     upsampler.picture(planes, width, height, color_convert)
-}
-
-/// Writes the picture of three or four components into memory that has exactly its bytes: the one
-/// that `compute_image_rows` returns, with its errors, after which nothing is written.
-#[tactic(auto, using(crate::proofs::Rules::images, crate::proofs::Rules::refusals))]
-pub fn compute_image_rows_into(
-    alloc: Global,
-    components: &[Component],
-    planes: &[Vec<u8>],
-    output_size: Dimensions,
-    color_transform: ColorTransform,
-    picture: &mut [u8],
-) -> Result<()>
-    requires some { 3 ≤ length components.now }
-    requires most { length components.now ≤ 4 }
-    requires planes { length planes.now ≡ length components.now }
-    requires factors { AllHaveSampling (map component_in components.now) }
-    requires cover { (sources : List Source) →
-        sources_of (map component_in components.now) output_size.width output_size.height
-        ≡ Ok sources
-        → AllCover sources (map (λ v. v.items) planes.now) output_size.width output_size.height }
-    requires room { length picture.old
-        ≡ length components.now * output_size.width * output_size.height }
-    ensures picture { MatchResult result
-        (λ u. image_of (map component_in components.now)
-        (map (λ v. v.items) planes.now) output_size.width output_size.height color_transform
-        ≡ Ok picture.new)
-        (λ e. Names e (image_of (map component_in components.now)
-        (map (λ v. v.items) planes.now) output_size.width output_size.height color_transform)) }
-    ensures unwritten { OnErr result (picture.new ≡ picture.old) }
-{
-    let color_convert = ColorConvert::choose(alloc, components.len(), color_transform)?;
-    let upsampler = Upsampler::new(alloc, components, output_size.width, output_size.height)?;
-    upsampler.write_picture(planes, output_size, color_convert, picture)
 }
