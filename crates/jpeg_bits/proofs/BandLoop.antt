@@ -170,6 +170,18 @@ module _ (table : Table) (al : ℕ) (whole : Reads Band) (a b d : Ahead) (old cu
       (token-of (Ok k) q) in
       rw whole-band at s
 
+  -- the end of the band, wherever it is said that it is
+  pub IsAt-end : (to : ℕ) → length band ≤ to → Gives-here (Ok (Rest 0)) → IsAt table al whole a old band to d new
+  unfolding first_ac
+  IsAt-end to all q =
+      let last = IsAt-last (Rest 0) 0 refl q in
+      let rest : (t : Text) → Ok ((band, 0), t) ≡ after_front (take to band) (first_ac table al 0 (drop to band)) t
+      = λ t. rw (take_all to band all, drop_all to band all, append-nil band) refl in (
+        0,
+        omega (arith, all),
+        (last.0, λ known. ((last.1 known).0, (last.1 known).1 ∙ rest (upcoming d new.bytes))),
+      )
+
   pub IsAt-refused : {X : Type 0} (view : X → Band) (e : Error) → Gives-here (Err e)
       → Takes view whole a old (Err e) d new
   IsAt-refused view e q =

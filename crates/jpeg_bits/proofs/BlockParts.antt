@@ -14,9 +14,9 @@ use Rattle.jpeg_bits.specs.Zigzag.{zigzag}
 use Rattle.jpeg_bits.specs.BlockView.{IsPass, to_block}
 use Rattle.jpeg_bits.specs.ZigzagParts.{band_start, band_end, band_in, zigzag_part, KeepsOthers}
 use Rattle.jpeg_bits.specs.declared.blocks.tokens.Token.{Token}
-use Rattle.jpeg_bits.specs.declared.blocks.tokens.Token.TheVariants.{Value, Sixteen}
+use Rattle.jpeg_bits.specs.declared.blocks.tokens.Token.TheVariants.{Value, Sixteen, Rest}
 use Rattle.jpeg_bits.proofs.BandLoop.{IsAt, IsLast, IsAt-value, IsAt-sixteen, IsAt-all, IsAt-last}
-use Rattle.jpeg_bits.proofs.BandLoop.{IsAt-refused, IsAt-none, after_front, Leaves}
+use Rattle.jpeg_bits.proofs.BandLoop.{IsAt-refused, IsAt-none, IsAt-end, after_front, Leaves}
 use Rattle.jpeg_bits.proofs.BandSteps.{Leaves-buffered, pos-of-ne}
 use Rattle.jpeg_bits.proofs.ZigzagIndices.{band-length, part-set, part-length, band-is, dc-put}
 use Rattle.jpeg_bits.proofs.ZigzagIndices.{band-put}
@@ -98,6 +98,14 @@ module _ (table : Table) (p : Pass) (first : List ℤ) (a b m d : Ahead) (old cu
       → Takes (λ (run : ℕ). (band_in p block, run)) (band_from table p first) a old (Ok run) d new
   index-last k run q last =
       IsAt-last _ p.al (band_from table p first) a _ _ old _ _ _ _ within here _ _ last (token (Ok k) q)
+
+  -- the end of the band, wherever it is said that it is
+  pub index-end : (to : ℕ) → end ≤ to → Gives (Ok (Rest 0)) → IsAtIndex table p first a old block to d new
+  index-end to all q =
+      let long = band-length p block in
+      let order = is.order in
+      IsAt-end _ p.al (band_from table p first) a _ _ old _ _ _ _ within here (to - band_start p)
+      (omega arith) (token (Ok (Rest 0)) q)
 
   pub index-refused : (x : Error) → Gives (Err x) → Takes (λ (run : ℕ). (band_in p block, run))
       (band_from table p first) a old (Err x) d new

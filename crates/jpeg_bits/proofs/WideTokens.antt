@@ -41,7 +41,7 @@ use Rattle.jpeg_bits.specs.Skips.{after_skip}
 use Rattle.jpeg_bits.proofs.BandLoop.{Leaves}
 use Rattle.jpeg_bits.proofs.BandSteps.{Leaves-buffered}
 use Rattle.jpeg_bits.specs.Pairs.{ShortValue, no_pair, one_value, two_values, pair_by, value_in}
-use Rattle.jpeg_bits.specs.Pairs.{pair_of, IsPairOf, IsWithinPassed}
+use Rattle.jpeg_bits.specs.Pairs.{pair_of, IsWithinPassed}
 use Rattle.jpeg_bits.specs.Passes.{Pass}
 use Rattle.jpeg_bits.specs.Zigzag.{zigzag}
 use Rattle.jpeg_bits.specs.BlockView.{IsPass}
@@ -547,11 +547,11 @@ few-both : (n m : ℕ) → ((m == 0) || nat_lt 11 (n + m)) ≡ false → n + m �
 few-both n m h = grind (arith, nat_tests)
 
 -- each entry is small
-small-by : (a b : Bool) (v w : ShortValue) → v.2 ≤ 11 → (b ≡ false → v.2 + w.2 ≤ 11) →
-    IsWithinPassed (by-tests a b v w)
-small-by true b v w few both = record { first = omega arith; second = omega arith; few = omega arith }
-small-by false true v w few both = record { first = omega arith; second = omega arith; few = few }
-small-by false false v w few both = record { first = omega arith; second = omega arith; few = both refl }
+small-by : (a b : Bool) (v w : ShortValue) → v.2 ≤ 11 → (b ≡ false → v.2 + w.2 ≤ 11)
+    → (by-tests a b v w).passed ≤ 64 → IsWithinPassed (by-tests a b v w)
+small-by true b v w few both most = record { first = omega arith; second = omega arith; few = omega arith }
+small-by false true v w few both most = record { first = omega arith; second = omega arith; few = few }
+small-by false false v w few both most = record { first = omega arith; second = omega arith; few = both refl }
 
 -- a value takes at most 11 bits
 few-in : (class : HuffmanTableClass) (bits : List Bool) (o : Option (ℕ × ℕ))
@@ -559,10 +559,10 @@ few-in : (class : HuffmanTableClass) (bits : List Bool) (o : Option (ℕ × ℕ)
 few-in class bits o = grind arith
 
 -- the entry of any bits is small
-pub pair_small : (table : Table) (bits : List Bool) (p : Pair) → p ≡ pair_of table bits →
-    IsWithinPassed p
+pub pair_small : (table : Table) (bits : List Bool) (p : Pair) → p ≡ pair_of table bits → p.passed ≤ 64
+    → IsWithinPassed p
 unfolding pair_of pair_by
-pair_small table bits p is = grind (arith, small-by, nat_lt, few-in, few-both)
+pair_small table bits p is most = grind (arith, small-by, nat_lt, few-in, few-both)
 
 -- what is found: one value, or two
 pub data Seen (table : Table) (bits : List Bool) : Pair → Type 0 where
@@ -587,10 +587,9 @@ module _ (table : Table) (bits : List Bool) where
   entry_by o = pair_by (packed o) (value_in table (drop (packed o).2 bits ++ replicate (packed o).2 false))
 
   -- an entry that has values is what is found
-  pub pair-seen : (p : Pair) → IsPairOf table bits p → p.passed < 64 → Seen table bits p
+  pub pair-seen : (p : Pair) → p ≡ pair_of table bits → p.passed < 64 → Seen table bits p
   unfolding pair_of pair_by
-  pair-seen p h some =
-      let is = h some in
+  pair-seen p is some =
       subst (Seen table bits) (sym is)
       (go (short_value_of 11 table bits) refl (subst (λ (p : Pair). p.passed < 64) is some))
     where

@@ -1,8 +1,8 @@
 //! The planes of components, and the picture that is made of them.
 //!
-//! A decoder takes from here the pictures alone, and makes its planes by `plane`, a row of blocks
-//! at a time. `ImmediateWorker` is there for callers that read the scans of a stream themselves:
-//! the parts of the original crate are public here.
+//! A decoder makes its planes by `plane`, a row of blocks at a time, and its pictures by `lines`.
+//! What is here is for callers that read the scans of a stream themselves: the parts of the
+//! original crate are public.
 ghost use Rattle.std.specs.Prelude.{◌≡◌, ◌≤◌, List, map, length, Ok, MatchResult};
 ghost use Rattle.jpeg_bits.specs.Reading.{Names};
 ghost use Rattle.jpeg_segments.specs.FrameView.{component_in};

@@ -190,11 +190,14 @@ fn read_first_coefficients<R: Read + Drop>(
         let pair = buffered.next_pair(table);
         let count = usize::from(pair.bits);
         let passed = usize::from(pair.passed);
-        if passed <= end - at && buffered.has(count) {
+        if passed % 128 <= end - at && buffered.has(count) {
+            buffered.skip(count);
+            if passed == 129 {
+                return Some(0);
+            }
             block[index_of(at + usize::from(pair.run))] = shifted(pair.first, pass.al);
             block[index_of(at + usize::from(pair.next))] = shifted(pair.second, pass.al);
             at += passed;
-            buffered.skip(count);
         } else {
             let Some(token) = read_token(buffered, source, table, end - at, refusal) else {
                 return None;

@@ -456,8 +456,8 @@ impl BufferedBits {
         table.skip_of(self.bits.front_16())
     }
 
-    /// Returns the values that the buffered bits begin with, one or two, if the table for them is
-    /// filled.
+    /// Returns the values that the buffered bits begin with, one or two, and the end of the block
+    /// after them, if the table for them is filled.
     #[inline(always)]
     #[tactic(auto, using(crate::proofs::ShortLemmas::eleven_front))]
     pub(crate) fn next_pair(&self, table: &HuffmanTable) -> Pair

@@ -54,8 +54,8 @@ pub struct HuffmanTable {
     // they take, how many coefficients they stand for, and whether the last is the end of the
     // block. Empty until `fill_skips` fills it.
     skips: Vec<(u8, u8, bool)>,
-    // The values that 11 bits begin with, one or two, which a first pass reads at once. Empty until
-    // `fill_pairs` fills it from those of single values.
+    // The values that 11 bits begin with, one or two, and the end of the block after them, which a
+    // first pass reads at once. Empty until `fill_pairs` fills it from those of single values.
     pairs: Vec<Pair>,
 }
 
@@ -200,15 +200,15 @@ impl HuffmanTable {
         Ok(())
     }
 
-    /// Fills the look-up table by which two values are read at once, where `widen` has filled those
-    /// of single ones. It takes some microseconds, and 16 KB: it pays for sequential scans of very
-    /// many blocks. Nothing else changes, and a second call does nothing. It is `AllocError` where
-    /// memory runs out.
+    /// Fills the look-up table by which two values and the end of a block are read at once, where
+    /// `widen` has filled those of single ones. It takes some microseconds, and 16 KB: it pays for
+    /// sequential scans of very many blocks. Nothing else changes, and a second call does nothing.
+    /// It is `AllocError` where memory runs out.
     pub fn fill_pairs(&mut self, alloc: Global) -> std::result::Result<(), AllocError>
         ensures { self.new ≡ self.old }
     {
-        if self.pairs.is_empty() && self.wide_tokens.len() == 2048 {
-            self.pairs = pairs_of(alloc, &self.wide_tokens)?;
+        if self.pairs.is_empty() && self.codes.len() == 256 && self.wide_tokens.len() == 2048 {
+            self.pairs = pairs_of(alloc, &self.codes, &self.wide_tokens)?;
         }
         Ok(())
     }
@@ -334,8 +334,8 @@ impl HuffmanTable {
         }
     }
 
-    /// Returns the values that the first 11 of 16 bits begin with, where the table for them is
-    /// filled.
+    /// Returns the values that the first 11 of 16 bits begin with, and the end of the block after
+    /// them, where the table for them is filled.
     #[inline(always)]
     pub(crate) fn pair_of(&self, bits: u16) -> Pair
         ensures pair { IsPairOf self.now (low_bits 11 (bits / 32)) result }

@@ -1,12 +1,14 @@
-//! Values of a first pass that are read two at once (T.81, F.2.2.2).
-ghost use Rattle.std.specs.Prelude.{◌≡◌, ◌≤◌, IfOk, length};
+//! Values of a first pass that are read two at once, and the end of a block with them (T.81,
+//! F.2.2.2).
+ghost use Rattle.std.specs.Prelude.{◌≡◌, ◌+◌, ◌≤◌, IfOk, length};
 ghost use Rattle.jpeg_bits.specs.Codes.{Table};
-ghost use Rattle.jpeg_bits.specs.ShortCodes.{HoldsWideValues};
-ghost use Rattle.jpeg_bits.specs.Pairs.{AreSmall, HoldsPairs, pair_by};
+ghost use Rattle.jpeg_bits.specs.ShortCodes.{HoldsCodes, HoldsWideValues};
+ghost use Rattle.jpeg_bits.specs.Pairs.{AreSmall, HoldsPairs, ended, pair_by, with_end};
 
 use std::alloc::{AllocError, Global};
 
-/// The values that some bits begin with: one or two.
+/// The values that some bits begin with, one or two, and whether the end of the block follows; or
+/// the end alone.
 #[derive(Clone, Copy, Debug, PartialEq)]
 pub(crate) struct Pair {
     /// The first value.
@@ -17,8 +19,10 @@ pub(crate) struct Pair {
     pub(crate) run: u8,
     /// How many coefficients stand before the second value.
     pub(crate) next: u8,
-    /// How many coefficients there are, the zeros among them. Where there is no value, they are
-    /// more than any band leaves room for.
+    /// How many coefficients there are, the zeros among them, and 129 more where the end of the
+    /// block follows: it is coded where there is one coefficient more at least, and 128 are more
+    /// than any band has. Where there is no value and no end, they are more than any band leaves
+    /// room for.
     pub(crate) passed: u8,
     /// How many bits they take.
     pub(crate) bits: u8,
@@ -42,7 +46,9 @@ fn pair_of(value: (i16, u8, u8), after: (i16, u8, u8)) -> Pair
     requires more { after.1 ≤ 15 }
     requires few { value.2 ≤ 11 }
     requires few_after { after.2 ≤ 11 }
-    ensures { result ≡ pair_by value after }
+    ensures pair { result ≡ pair_by value after }
+    ensures small { result.passed ≤ 64 }
+    ensures most { result.bits ≤ 11 }
 {
     let (first, run, bits) = value;
     let (second, zeros, more) = after;
@@ -69,21 +75,67 @@ fn pair_of(value: (i16, u8, u8), after: (i16, u8, u8)) -> Pair
     }
 }
 
-/// Returns the values that 11 bits begin with, one or two, at the index of each, by a table of one.
+/// Returns a pair with the end of the block after it, whose code has `size` bits; the end alone
+/// where the pair has no value.
+#[tactic(auto, unfolding(crate::specs::Pairs::with_end))]
+fn with_end(pair: Pair, size: u8) -> Pair
+    requires small { pair.passed ≤ 64 }
+    requires few { pair.bits + size ≤ 11 }
+    ensures { result ≡ with_end pair size }
+{
+    if pair.bits == 0 {
+        return Pair {
+            first: 0,
+            second: 0,
+            run: 0,
+            next: 0,
+            passed: 129,
+            bits: size,
+        };
+    }
+    Pair {
+        passed: 129 + pair.passed,
+        bits: pair.bits + size,
+        ..pair
+    }
+}
+
+/// Returns a pair with the end of the block after it, where the next code is that of the end, and
+/// is within 11 bits.
+#[tactic(auto, unfolding(crate::specs::Pairs::ended))]
+fn ended(pair: Pair, next: Option<(u8, u8)>) -> Pair
+    requires small { pair.passed ≤ 64 }
+    requires few { pair.bits ≤ 11 }
+    ensures { result ≡ ended pair next }
+{
+    match next {
+        Some((symbol, size)) if symbol == 0 && size <= 11 - pair.bits => with_end(pair, size),
+        _ => pair,
+    }
+}
+
+/// Returns the values that 11 bits begin with, one or two, and the end of the block after them, at
+/// the index of each. They are found by a table of one value, and by the codes that 8 bits begin
+/// with.
 pub(crate) fn pairs_of(
     alloc: Global,
+    codes: &[Option<(u8, u8)>],
     values: &[(i16, u8, u8)],
 ) -> std::result::Result<Vec<Pair>, AllocError>
+    requires codes { length codes.now ≡ 256 }
     requires length { length values.now ≡ 2048 }
     requires small { AreSmall values.now }
-    ensures { (table : Table) → HoldsWideValues table values.now
+    ensures { (table : Table) → length table.counts ≡ 16
+        → HoldsCodes table.counts table.symbols codes.now → HoldsWideValues table values.now
         → IfOk result (λ v. HoldsPairs table v.items) }
 {
     let mut pairs = vec![in alloc; NO_PAIR; 2048]?;
     for bits in 0..2048 {
         let value = values[bits];
         let after = values[(bits << value.2) % 2048];
-        pairs[bits] = pair_of(value, after);
+        let pair = pair_of(value, after);
+        let rest = (bits << pair.bits) % 2048;
+        pairs[bits] = ended(pair, codes[rest / 8]);
     }
     Ok(pairs)
 }

@@ -36,7 +36,8 @@ impl Model for UpsampledLines {
 }
 
 impl UpsampledLines {
-    ghost use Rattle.std.specs.Prelude.{◌≡◌, ◌<◌, ◌≤◌, [], MatchResult, length, map, slice_index_or};
+    ghost use Rattle.std.specs.Prelude.{◌≡◌, ◌<◌, ◌≤◌, [], MatchResult, length, map};
+    ghost use Rattle.std.specs.Prelude.{slice_index_or};
     ghost use Rattle.std.specs.List.{concat};
     ghost use Rattle.jpeg_bits.specs.declared.error.Error.TheVariants.{OutOfMemory};
     ghost use Rattle.jpeg_pixels.specs.Lines.{upsampled_lines};

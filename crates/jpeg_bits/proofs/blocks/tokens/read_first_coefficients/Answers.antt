@@ -1,10 +1,10 @@
 use Rattle.jpeg_bits.proofs.blocks.tokens.read_first_coefficients.Goals as goal
-use Rattle.std.proofs.Common.{◌+◌, ◌-◌, ◌<◌, ◌≤◌, ◌∙◌, length-set, refl, FitsSigned, w16, rules}
-use Rattle.std.proofs.Common.{arith}
+use Rattle.std.proofs.Common.{◌≡◌, ◌+◌, ◌-◌, ◌%◌, ◌<◌, ◌≤◌, ◌∙◌, length-set, refl, sym, FitsSigned, w16}
+use Rattle.std.proofs.Common.{rules, arith}
 use Rattle.std.proofs.lemmas.Int.{to_z-of_z}
 use Rattle.jpeg_bits.proofs.BlockParts.{index-value, index-sixteen, index-all, index-last}
 use Rattle.jpeg_bits.proofs.BlockParts.{index-refused, index-none}
-use Rattle.jpeg_bits.proofs.WideTokens.{pair-seen, index-pair}
+use Rattle.jpeg_bits.proofs.PairEntries.{pair-found, index-entry, index-alone}
 use Rattle.jpeg_bits.specs.ShortCodes.{next_bits}
 use Rattle.jpeg_bits.proofs.ZigzagIndices.{kept-set}
 
@@ -29,7 +29,6 @@ loop-at-preserved-in-Value g c =
     rw (c.from-at.ensures, back, index) record {
       len = length-set _ _ _ ∙ l.invariant.len;
       from = omega arith;
-      within = omega arith;
       text = index-value _ _ _ _ _ _ _ c.args.source.now l.source c.fill.new.source c.read_token.new.source _ _ _
           c.requires.pass c.band_end-end.ensures l.invariant.from c.loop-at-test.true l.invariant.text
           c.if-not-fill.ensures.holds _ _ _ _ l.invariant.len room is c.in-Some.ensures.token c.in-Value.is;
@@ -44,7 +43,6 @@ loop-at-preserved-then-end-at-gt16 g c =
     record {
       len = c.loop-at.invariant.len;
       from = omega arith;
-      within = omega arith;
       text = index-sixteen _ _ _ _ _ _ _ _ c.loop-at.source c.fill.new.source _ _ _ _
           c.requires.pass c.band_end-end.ensures c.loop-at.invariant.from c.loop-at-test.true c.loop-at.invariant.text
           c.if-not-fill.ensures.holds _ c.in-Some.ensures.token c.in-Sixteen.is;
@@ -59,7 +57,6 @@ loop-at-preserved g c =
     record {
       len = c.loop-at.invariant.len;
       from = omega arith;
-      within = omega arith;
       text = index-all _ _ _ _ _ _ _ c.args.source.now c.loop-at.source c.fill.new.source c.read_token.new.source _ _ _
           c.requires.pass c.band_end-end.ensures c.loop-at.invariant.from c.loop-at-test.true c.loop-at.invariant.text
           c.if-not-fill.ensures.holds (omega arith) _ c.in-Some.ensures.token c.in-Sixteen.is;
@@ -98,7 +95,8 @@ loop-at-preserved-then-has g c =
     let is = c.from-passed.ensures in
     let run = c.next_pair-pair.ensures.small.first in
     let next = c.next_pair-pair.ensures.small.second in
-    let seen = pair-seen c.args.table.now (next_bits 11 d.bits) pair c.next_pair-pair.ensures.pair (omega arith) in
+    let some : pair.passed ≡ 129 → ⊥ = λ e. c.if-passed-eq129.false (is ∙ e) in
+    let found = pair-found c.args.table.now (next_bits 11 d.bits) pair c.next_pair-pair.ensures.pair (omega arith) in
     let back = to_z-of_z w16 c.shifted.result (record { sfits = c.shifted.type_inv }) in
     let back' = to_z-of_z w16 c.shifted-then-has.result (record { sfits = c.shifted-then-has.type_inv }) in
     let fit : FitsSigned w16 pair.first = search rules in
@@ -110,16 +108,31 @@ loop-at-preserved-then-has g c =
     let enough = rw c.from-count.ensures at c.if-has.ensures in
     let taken = rw c.from-count.ensures at c.skip.ensures.bits in
     let filled = c.if-not-fill.ensures.full refl in
-    let room : l.at + pair.passed ≤ c.band_end-end.result = omega arith in
+    let room : l.at + pair.passed % 128 ≤ c.band_end-end.result = omega arith in
     rw (is, back, back', index, index') record {
       len = length-set _ _ _ ∙ length-set _ _ _ ∙ l.invariant.len;
       from = omega arith;
-      within = omega arith;
-      text = index-pair c.args.table.now c.next_pair-pair.ensures.counted d filled c.fill.new.source _ _ _ _
+      text = index-entry c.args.table.now c.next_pair-pair.ensures.counted d filled c.fill.new.source _ _ _ _
           c.args.source.now l.source _ _ _ c.requires.pass end from l.invariant.len l.invariant.text
-          c.if-not-fill.ensures.holds pair seen room enough c.skip.new.self taken c.skip.ensures.met _ _ value value';
+          c.if-not-fill.ensures.holds pair found some room enough c.skip.new.self taken c.skip.ensures.met _ _ value value';
       others = kept-set _ _ (l.at + pair.next) _ _ _
           (length-set _ _ _ ∙ l.invariant.len) (omega arith) (omega arith) (omega arith)
           (kept-set _ _ (l.at + pair.run) _ _ _ l.invariant.len (omega arith) (omega arith) (omega arith)
           l.invariant.others);
     }
+
+pub returns-then-passed-eq129-clause-band : goal.returns-then-passed-eq129-clause-band
+returns-then-passed-eq129-clause-band g c =
+    let l = c.loop-at in
+    let d = c.fill.new.self in
+    let pair = c.next_pair-pair.result in
+    let end = c.band_end-end.ensures in
+    let from = l.invariant.from in
+    let alone = sym c.from-passed.ensures ∙ c.if-passed-eq129.true in
+    let found = pair-found c.args.table.now (next_bits 11 d.bits) pair c.next_pair-pair.ensures.pair (omega arith) in
+    let enough = rw c.from-count.ensures at c.if-has.ensures in
+    let taken = rw c.from-count.ensures at c.skip.ensures.bits in
+    let filled = c.if-not-fill.ensures.full refl in
+    index-alone c.args.table.now c.next_pair-pair.ensures.counted d filled c.fill.new.source _ _ _ _
+    c.args.source.now l.source _ _ _ c.requires.pass end from l.invariant.len l.invariant.text
+    c.if-not-fill.ensures.holds pair found alone c.loop-at-test.true enough c.skip.new.self taken c.skip.ensures.met
