@@ -10,7 +10,7 @@ use borrow.Rule.Slice.PartMut.{put_mid}
 use Rattle.jpeg_lossless.specs.Pictures.{AreWide, Layer, lines_across}
 
 -- a part written after the first a elements
-take-put : (a n k : ℕ) (xs ys : List ℕ) → a ≤ length xs → length ys ≡ n
+pub take-put : (a n k : ℕ) (xs ys : List ℕ) → a ≤ length xs → length ys ≡ n
     → take (a + n) (put_mid a k xs ys) ≡ take a xs ++ ys
 take-put a n k xs ys le e = grind (arith, common_steps, length-take, take-append-add, take-append_seam)
 

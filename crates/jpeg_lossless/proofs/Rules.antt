@@ -5,7 +5,6 @@ use Rattle.jpeg_lossless.specs.Differences.{sample_difference}
 use Rattle.jpeg_lossless.specs.PlanesRead.{planes_scan}
 use Rattle.jpeg_lossless.specs.Prediction.{line_rest}
 use Rattle.jpeg_lossless.proofs.DifferenceLoops.{signed_none}
-use Rattle.jpeg_lossless.proofs.ImageLoops.{most_seen, picture_plain}
 use Rattle.jpeg_lossless.proofs.LineLoops.{below_steps}
 use Rattle.jpeg_lossless.proofs.PlaneLoops.{after_none, interval_last}
 use Rattle.jpeg_lossless.proofs.RowLoops.{tables_none}
@@ -34,6 +33,3 @@ pub ruleset ends = (after_none, interval_last)
 unfoldable pub scans : ⊤
 unfolding planes_scan
 scans = tt
-
--- pictures of planes that are all of full size
-pub ruleset plain = (picture_plain, most_seen)

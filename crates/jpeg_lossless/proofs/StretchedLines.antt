@@ -1,20 +1,19 @@
 -- Steps of the loops over the lines of a picture in which components have factors of their own.
-use Rattle.jpeg_lossless.proofs.FilledLines.{pieces, across-wide}
 use Rattle.std.proofs.Common.{◌≡◌, ℕ, zero, suc, ◌+◌, ◌*◌, ◌/◌, ◌<◌, ◌≤◌, List, [], ◌∷◌, ◌++◌}
 use Rattle.std.proofs.Common.{length, take, drop, map, set, slice_index, slice_index_or, arith, refl, ap, ap₂, sym}
-use Rattle.std.proofs.Common.{◌∙◌, append_assoc, length-drop, length-take, rules}
+use Rattle.std.proofs.Common.{◌∙◌, append_assoc, length-drop, rules, subst}
 use Rattle.std.proofs.Math.Nat.{add-mul, one-mul}
-use Rattle.std.proofs.lemmas.List.{get_or-drop, get_or-take, take_more, take_more_set}
+use Rattle.std.proofs.lemmas.List.{get_or-drop, get_or-take, length-take-le, take_more, take_more_set}
 use Rattle.std.proofs.lemmas.List.FromFn.{get_or-map-range_with_len, length-map-range_with_len}
 use Rattle.std.proofs.lemmas.List.FromFn.{map-range_with_len_more}
 use Rattle.std.proofs.lemmas.Nat.{div-mul-add}
-use Rattle.std.specs.List.{range_with_len}
-use Rattle.jpeg_segments.specs.Frame.{Component, Frame, greatest, most_across, most_down}
-use Rattle.jpeg_segments.proofs.FrameLemmas.{greatest-some}
-use Rattle.jpeg_lossless.specs.Pictures.{AreLong, Layer, bytes_at, layer_of, sample_line, line_from}
+use Rattle.std.specs.List.{AllByRecursion, range_with_len}
+use Rattle.jpeg_lossless.specs.Pictures.{AreLong, Layer, bytes_at, sample_line, line_from}
 use Rattle.jpeg_lossless.specs.Pictures.{lines_across, layer_sample, sample_pixel}
-use Rattle.jpeg_lossless.proofs.ImageLoops.{picture_steps, layers_none, IsPixelOf, at-most, inside, line-grown}
-use Rattle.jpeg_lossless.proofs.ImageLoops.{line-more, line-none, through, within}
+use Rattle.jpeg_lossless.specs.Samplings.{HasLine, layer_in, layers_in}
+use Rattle.jpeg_lossless.specs.declared.stretching.Sampling.{Sampling}
+use Rattle.jpeg_lossless.proofs.ImageLoops.{layers_none, at-most, inside, line-grown}
+use Rattle.jpeg_lossless.proofs.ImageLoops.{line-more, line-none, through}
 use Rattle.std.proofs.lemmas.Grind.{common_steps}
 
 -- ---- a line of a component
@@ -70,71 +69,64 @@ next_column factor most x column rest next left h is e f = search (rules, next-p
 
 -- ---- the lines of all components
 
--- a line of a plane is that of its component
-row-at : (own row width y : ℕ) (plane : List ℕ) (k : ℕ) → k < own
-    → slice_index (take own (drop (row * own) plane)) k ≡ slice_index plane (row * own + k)
-row-at own row width y plane k h = simp (get_or-drop, get_or-take)
+-- a sample of a line of a plane
+row-at : (own from : ℕ) (plane : List ℕ) (k : ℕ) → k < own
+    → slice_index (take own (drop from plane)) k ≡ slice_index plane (from + k)
+row-at own from plane k h = simp (get_or-drop, get_or-take)
 
-pub own_line : (frame : Frame) (c : Component) (plane : List ℕ) (y n : ℕ) → IsPixelOf frame c plane
-    → n ≤ frame.width
-    → stretched (take c.width (drop (y * c.factors.vertical / most_down frame.components * c.width) plane))
-    c.factors.horizontal (most_across frame.components) n
-    ≡ map (λ x. layer_sample (most_across frame.components) (most_down frame.components) (layer_of c plane) x y)
-    (range_with_len 0 n)
-own_line frame c plane y zero is h = refl
-own_line frame c plane y (suc n) is h =
-    let row = y * c.factors.vertical / most_down frame.components in
-    let a = most_across frame.components in
-    let own = take c.width (drop (row * c.width) plane) in
-    let f : ℕ → ℕ = λ x. layer_sample a (most_down frame.components) (layer_of c plane) x y in
+-- where line y of a picture finds its samples of a component
+abbrev pub own_from : Sampling → ℕ → Layer → ℕ
+own_from picture y l = y * l.vertical / picture.vertical * l.width
+
+own_line : (picture : Sampling) (y : ℕ) (l : Layer) (n : ℕ) → HasLine picture y l → n ≤ picture.width
+    → stretched (take l.width (drop (own_from picture y l) l.samples)) l.horizontal picture.horizontal n
+    ≡ map (λ x. layer_sample picture.horizontal picture.vertical l x y) (range_with_len 0 n)
+own_line picture y l zero is h = refl
+own_line picture y l (suc n) is h =
+    let a = picture.horizontal in
+    let own = take l.width (drop (own_from picture y l) l.samples) in
+    let f : ℕ → ℕ = λ x. layer_sample a picture.vertical l x y in
     let s : suc n ≡ n + 1 = omega arith in
-    let column = inside n frame.width c.factors.horizontal a c.width (omega arith) is.sampling.horizontal_some
-    (greatest-some (λ f. f.horizontal) (map (λ c. c.factors) frame.components)) is.reaches.across in
-    ap (stretched own c.factors.horizontal a) s
-    ∙ stretched-more own c.factors.horizontal a n
-    ∙ ap₂ (λ (l : List ℕ) (k : ℕ). l ++ k ∷ []) (own_line frame c plane y n is (omega arith))
-    (row-at c.width row frame.width y plane (n * c.factors.horizontal / a) column)
+    let some : 0 < a = omega (arith, is.some, is.most) in
+    let column = inside n picture.width l.horizontal a l.width (omega arith) is.some some is.across in
+    ap (stretched own l.horizontal a) s
+    ∙ stretched-more own l.horizontal a n
+    ∙ ap₂ (λ (l : List ℕ) (k : ℕ). l ++ k ∷ []) (own_line picture y l n is (omega arith))
+    (row-at l.width (own_from picture y l) l.samples (n * l.horizontal / a) column)
     ∙ sym (map-range_with_len_more f 0 n n (omega arith))
     ∙ ap (λ (k : ℕ). map f (range_with_len 0 k)) (sym s)
 
--- the line ends inside its plane
-pub line_inside : (frame : Frame) (c : Component) (plane slice : List ℕ) (y v : ℕ) → v ≡ most_down frame.components
-    → slice ≡ plane → IsPixelOf frame c plane → y < frame.height
-    → y * c.factors.vertical / v * c.width + c.width ≤ length slice
-line_inside frame c plane slice y v e f is h =
-    let row = inside y frame.height c.factors.vertical (most_down frame.components) c.height h
-    is.sampling.vertical_some (greatest-some (λ f. f.vertical) (map (λ c. c.factors) frame.components)) is.reaches.down in
-    let same : y * c.factors.vertical / v * c.width ≡ y * c.factors.vertical / most_down frame.components * c.width
-    = search rules in
-    search (rules, within)
-
-pub line_reaches : (frame : Frame) (c : Component) (plane slice own : List ℕ) (y h v width : ℕ)
-    → h ≡ most_across frame.components → v ≡ most_down frame.components → width ≡ frame.width → slice ≡ plane
-    → own ≡ take c.width (drop (y * c.factors.vertical / v * c.width) slice) → IsPixelOf frame c plane
-    → y < frame.height → width * c.factors.horizontal ≤ length own * h
-line_reaches frame c plane slice own y h v width e f g s o is k = search (rules, length-drop, length-take, line_inside)
+-- what is taken of a plane reaches to the end of the line
+pub line_reaches : (picture : Sampling) (y : ℕ) (l : Layer) (own : List ℕ) (width : ℕ) → HasLine picture y l
+    → own ≡ take l.width (drop (own_from picture y l) l.samples) → width ≡ picture.width
+    → width * l.horizontal ≤ length own * picture.horizontal
+line_reaches picture y l own width is e w =
+    let long : length own ≡ l.width
+    = ap length e ∙ length-take-le l.width (drop (own_from picture y l) l.samples)
+    (omega (arith, is.inside, length-drop (own_from picture y l) l.samples)) in
+    rw (long, w) is.across
 
 -- the samples of a line that is put out
-pub own_samples : (frame : Frame) (c : Component) (plane slice own line : List ℕ) (y h v width : ℕ)
-    → h ≡ most_across frame.components → v ≡ most_down frame.components → width ≡ frame.width → slice ≡ plane
-    → own ≡ take c.width (drop (y * c.factors.vertical / v * c.width) slice)
-    → line ≡ stretched own c.factors.horizontal h width → IsPixelOf frame c plane
-    → line ≡ map (λ x. layer_sample h v (layer_of c plane) x y) (range_with_len 0 frame.width)
-own_samples frame c plane slice own line y h v width e f g s o l is =
-    let part : ℕ → List ℕ → List ℕ = λ b p. take c.width (drop (y * c.factors.vertical / b * c.width) p) in
-    l
-    ∙ ap (λ (p : List ℕ). stretched p c.factors.horizontal h width) (o ∙ ap₂ part f s)
-    ∙ ap₂ (λ (a n : ℕ). stretched (part (most_down frame.components) plane) c.factors.horizontal a n) e g
-    ∙ own_line frame c plane y frame.width is (omega arith)
-    ∙ sym (ap₂ (λ (a b : ℕ). map (λ x. layer_sample a b (layer_of c plane) x y) (range_with_len 0
-    frame.width)) e f)
+pub own_samples : (picture : Sampling) (y : ℕ) (l : Layer) (own line : List ℕ) (width : ℕ)
+    → HasLine picture y l → own ≡ take l.width (drop (own_from picture y l) l.samples)
+    → width ≡ picture.width → line ≡ stretched own l.horizontal picture.horizontal width
+    → line ≡ map (λ x. layer_sample picture.horizontal picture.vertical l x y) (range_with_len 0 picture.width)
+own_samples picture y l own line width is e w made =
+    made
+    ∙ ap₂ (λ (p : List ℕ) (n : ℕ). stretched p l.horizontal picture.horizontal n) e w
+    ∙ own_line picture y l picture.width is (omega arith)
 
--- no factor is above the greatest
-pub factor_most : (cs : List Component) (i : ℕ) (c : Component) → i < length cs → slice_index_or cs i c ≡ c
-    → c.factors.horizontal ≤ greatest (λ f. f.horizontal) (map (λ c. c.factors) cs)
-factor_most [] i c h e = absurd (omega arith)
-factor_most (d ∷ cs) zero c h e = omega (arith, ap (λ (x : Component). x.factors.horizontal) e)
-factor_most (d ∷ cs) (suc i) c h e = omega (arith, factor_most cs i c (omega arith) e)
+-- the layer of one component
+pub layer-at : (P : Layer → Type 0) (samplings : List Sampling) (planes : List (List ℕ)) (i : ℕ) (s : Sampling)
+    (plane : List ℕ) → AllByRecursion P (layers_in samplings planes) → i < length samplings → i < length planes
+    → slice_index_or samplings i s ≡ s → slice_index_or planes i plane ≡ plane → P (layer_in s plane)
+unfolding layers_in
+layer-at P [] planes i s plane all h k e f = absurd (omega arith)
+layer-at P (d ∷ samplings) [] i s plane all h k e f = absurd (omega arith)
+layer-at P (d ∷ samplings) (p ∷ planes) zero s plane all h k e f =
+    subst (λ (c : Sampling). P (layer_in c plane)) e (subst (λ (l : List ℕ). P (layer_in d l)) f all.0)
+layer-at P (d ∷ samplings) (p ∷ planes) (suc i) s plane all h k e f =
+    layer-at P samplings planes i s plane all.1 (omega arith) (omega arith) e f
 
 pub lines_more : (h v width y : ℕ) (l : Layer) (layers : List Layer)
     → lines_across h v width (l ∷ layers) y
@@ -181,7 +173,5 @@ line_of_lines precision h v width y (suc n) layers k =
     (ap (bytes_at precision lines) (from-none n) ∙ pixel-of precision h v width y n layers (omega arith))
     ∙ sym (line-grown precision h v n layers y)
     ∙ ap (λ (m : ℕ). sample_line precision h v m layers y) (sym s)
-
-pub ruleset sampled_lines = (pieces, across-wide, picture_steps, from-none, lines_long, line_of_lines)
 
 pub ruleset no_lines = (layers_none, lines_none, common_steps)

@@ -7,5 +7,7 @@ mod lines;
 pub mod lossless;
 mod parts;
 mod picture;
+mod pixels;
 mod planes;
 pub mod scan;
+mod stretching;

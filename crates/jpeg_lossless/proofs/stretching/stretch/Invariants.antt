@@ -1,6 +1,6 @@
 use Rattle.std.proofs.Common.{◌≡◌, take}
 use Rattle.jpeg_lossless.proofs.StretchedLines.{IsColumn, stretched}
-use Rattle.jpeg_lossless.proofs.picture.stretch.Given as goal
+use Rattle.jpeg_lossless.proofs.stretching.stretch.Given as goal
 
 abbrev pub invariant-loop-x : goal.invariant-loop-x
 invariant-loop-x l = record {

@@ -1,8 +1,8 @@
 use Rattle.std.proofs.Common.{rules, ◌∙◌, arith, length, take}
 use Rattle.std.proofs.lemmas.List.{take_more_set}
 use Rattle.jpeg_lossless.proofs.StretchedLines.{copied_whole, next_column, same_column, stretched_step}
-use Rattle.jpeg_lossless.proofs.picture.stretch.Goals.{then-rest-from, else-rest-from}
-use Rattle.jpeg_lossless.proofs.picture.stretch.Goals as goal
+use Rattle.jpeg_lossless.proofs.stretching.stretch.Goals.{then-rest-from, else-rest-from}
+use Rattle.jpeg_lossless.proofs.stretching.stretch.Goals as goal
 
 pub returns-then-factor-most : goal.returns-then-factor-most
 returns-then-factor-most c =

@@ -1,6 +1,6 @@
 use Rattle.std.proofs.Common.{◌≡◌, length, map}
 use Rattle.jpeg_lossless.specs.Pictures.{AreWide}
-use Rattle.jpeg_lossless.proofs.picture.zero_lines.Given as goal
+use Rattle.jpeg_lossless.proofs.stretching.zero_lines.Given as goal
 
 abbrev pub invariant-loop : goal.invariant-loop
 invariant-loop l = record {

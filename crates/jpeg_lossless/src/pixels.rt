@@ -1,0 +1,72 @@
+//! The bytes of the pixels of a lossless picture.
+ghost use Rattle.std.specs.Prelude.{◌≡◌, ◌≤◌, ◌<◌, ◌+◌, ◌*◌, ◌^◌, map, length};
+ghost use Rattle.jpeg_lossless.specs.Pictures.{sample_bytes, sample_size};
+ghost use Rattle.jpeg_lossless.specs.Pictures.{AreLong, bytes_at, line_from};
+
+/// Returns how many bytes a sample takes: one up to precision 8, else two.
+#[inline(always)]
+fn sample_size(precision: u8) -> usize
+    ensures size { result ≡ sample_size precision }
+    ensures most { result ≤ 2 }
+{
+    if precision <= 8 { 1 } else { 2 }
+}
+
+/// Writes the bytes of a sample: one up to precision 8, else two, the lower first.
+#[inline(always)]
+fn write_sample(sample: u16, precision: u8, bytes: &mut [u8])
+    requires { length bytes.old ≡ sample_size precision }
+    ensures { bytes.new ≡ sample_bytes precision sample }
+{
+    bytes[0] = (sample % 256) as u8;
+    if precision > 8 {
+        bytes[1] = (sample / 256) as u8;
+    }
+}
+
+/// Writes the bytes of the pixel whose samples are at index `at`: those of each component in turn.
+#[inline(always)]
+#[tactic(auto, using(crate::proofs::FilledLines::pieces, crate::proofs::ImageLoops::pixel_steps))]
+fn write_pixel(planes: &[Vec<u16>], at: usize, precision: u8, pixel: &mut [u8])
+    requires long { AreLong (at + 1) (map (λ v. v.items) planes.now) }
+    requires room { length pixel.old ≡ length planes.now * sample_size precision }
+    ensures { pixel.new ≡ bytes_at precision (map (λ v. v.items) planes.now) at }
+{
+    let size = sample_size(precision);
+    for i in 0..planes.len() {
+        let plane = planes[i].as_slice();
+        let start = i * size;
+        write_sample(plane[at], precision, &mut pixel[start..start + size]);
+    }
+}
+
+/// Writes the bytes of a line of `width` pixels, the samples of which begin at `from`.
+#[tactic(auto, using(crate::proofs::FilledLines::pieces, crate::proofs::ImageLoops::line_steps))]
+pub(crate) fn write_pixels(
+    planes: &[Vec<u16>],
+    from: usize,
+    width: usize,
+    precision: u8,
+    line: &mut [u8],
+)
+    requires most { length planes.now ≤ 4 }
+    requires fits { from + width < 2 ^ 64 }
+    requires long { AreLong (from + width) (map (λ v. v.items) planes.now) }
+    requires room { length line.old ≡ width * (length planes.now * sample_size precision) }
+    ensures { line.new ≡ line_from precision (map (λ v. v.items) planes.now) from width }
+{
+    let size = planes.len() * sample_size(precision);
+    for x in 0..width {
+        let start = x * size;
+        write_pixel(planes, from + x, precision, &mut line[start..start + size]);
+    }
+}
+
+/// Returns how many bytes a line of a picture of `count` components has.
+pub(crate) fn size_of_line(count: usize, width: u16, precision: u8) -> usize
+    requires { count ≤ 4 }
+    ensures size { result ≡ width * (count * sample_size precision) }
+    ensures most { result < 2 ^ 19 }
+{
+    usize::from(width) * (count * sample_size(precision))
+}
