@@ -11,13 +11,13 @@ import resource
 import subprocess
 import sys
 
+from lossless import segment
+from markdown import head, line
+
 SECONDS = 60
-LEAST_STACK = 8  # kB, the first that is tried
-
-
-def segment(marker, payload):
-    """A segment by the second byte of its marker."""
-    return bytes([0xFF, marker]) + (len(payload) + 2).to_bytes(2, "big") + payload
+ADDRESSES = 8 << 30  # bytes
+LEAST_STACK, MOST_STACK = 8, 8192  # kB, between which the least is looked for
+QUIET = {"stdout": subprocess.DEVNULL, "stderr": subprocess.DEVNULL}
 
 
 def ones():
@@ -95,7 +95,7 @@ def files():
 
 def limits():
     resource.setrlimit(resource.RLIMIT_CPU, (SECONDS, SECONDS))
-    resource.setrlimit(resource.RLIMIT_AS, (8 << 30, 8 << 30))
+    resource.setrlimit(resource.RLIMIT_AS, (ADDRESSES, ADDRESSES))
 
 
 def cost(words, path):
@@ -103,61 +103,67 @@ def cost(words, path):
     standard input. A small program starts it, since the memory of what starts it counts too."""
     words = ["/usr/bin/time", "-q", "-o", f"{path}.cost", "-f", "%U %S %M", *words]
     with open(path, "rb") as stdin:
-        quiet = {"stdout": subprocess.DEVNULL, "stderr": subprocess.DEVNULL}
-        status = subprocess.run(words, stdin=stdin, preexec_fn=limits, **quiet).returncode
+        status = subprocess.run(words, stdin=stdin, preexec_fn=limits, **QUIET).returncode
     with open(f"{path}.cost", encoding="ascii") as figures:
         user, system, kilobytes = figures.read().split()
     return float(user) + float(system), int(kilobytes) / 1024, status
 
 
+def decodes_within(words, path, kilobytes):
+    """Whether a program decodes a file with a stack of this size."""
+    size = kilobytes * 1024
+
+    def limit():
+        resource.setrlimit(resource.RLIMIT_STACK, (size, size))
+
+    with open(path, "rb") as stdin:
+        try:
+            return subprocess.run(words, stdin=stdin, preexec_fn=limit, **QUIET).returncode == 0
+        except (OSError, subprocess.SubprocessError):
+            return False
+
+
 def least_stack(words, path):
-    """The least stack in kilobytes with which a program gives on a file what it gives without a
-    limit."""
-
-    def status(kilobytes):
-        size = kilobytes * 1024
-
-        def limit():
-            resource.setrlimit(resource.RLIMIT_STACK, (size, size))
-
-        with open(path, "rb") as stdin:
-            quiet = {"stdout": subprocess.DEVNULL, "stderr": subprocess.DEVNULL}
-            try:
-                return subprocess.run(words, stdin=stdin, preexec_fn=limit, **quiet).returncode
-            except (OSError, subprocess.SubprocessError):
-                return None
-
-    low, high = LEAST_STACK, 8192
+    """The least stack in kilobytes with which a program decodes a file."""
+    low, high = LEAST_STACK, MOST_STACK
     while high - low > 4:
         middle = (low + high) // 2
-        low, high = (low, middle) if status(middle) == 0 else (middle, high)
+        low, high = (low, middle) if decodes_within(words, path, middle) else (middle, high)
     return high
 
 
-def main():
-    jpegraw, folder, peers = sys.argv[1], sys.argv[2], sys.argv[3:]
-    others = [(os.path.basename(peer), [peer]) for peer in peers] + [("djpeg", ["djpeg"])]
-    names = ["ours (s)", "ours (MB)"] + [
-        f"{name} ({unit})" for name, _ in others for unit in ("s", "MB")
-    ]
-    print("| | bytes | " + " | ".join(names) + " |")
-    print("|---" * (len(names) + 2) + "|")
-    path = os.path.join(folder, "file.jpg")
+def cells(program_cost):
+    """The two cells of a program: its seconds, and the megabytes that it holds."""
+    seconds, megabytes, status = program_cost
+    mark = "" if status == 0 else " refused" if status < 128 else " killed"
+    return [f"{seconds:.2f}{mark}", f"{megabytes:.0f}"]
+
+
+def print_costs(programs, path):
+    """Prints a line for each file: what each program takes for it."""
+    titles = [f"{name} ({unit})" for name in programs for unit in ("s", "MB")]
+    print(head(["", "bytes", *titles]))
     for name, data in files():
         with open(path, "wb") as file:
             file.write(data)
-        cells = []
-        for words in [[jpegraw]] + [[*words, path] for _, words in others]:
-            seconds, megabytes, status = cost(words, path)
-            mark = "" if status == 0 else " refused" if status < 128 else " killed"
-            cells += [f"{seconds:.2f}{mark}", f"{megabytes:.0f}"]
-        print(f"| {name} | {len(data)} | " + " | ".join(cells) + " |", flush=True)
+        figures = [cell for words in programs.values() for cell in cells(cost(words, path))]
+        print(line([name, str(len(data)), *figures]), flush=True)
+
+
+def print_stacks(programs, path):
+    """Prints the least stack with which each program decodes a picture of one block."""
     with open(path, "wb") as file:
         file.write(stream(ONE_BLOCK))
-    stacks = [f"ours {least_stack([jpegraw], path)}"] + [
-        f"{name} {least_stack([*words, path], path)}" for name, words in others
-    ]
+    stacks = (f"{name} {least_stack(words, path)}" for name, words in programs.items())
     print("\nLeast stack (kB): " + ", ".join(stacks))
 
 
-main()
+def main(jpegraw, folder, *peers):
+    path = os.path.join(folder, "file.jpg")
+    programs = {"ours": [jpegraw]}
+    programs |= {os.path.basename(peer): [peer, path] for peer in [*peers, "djpeg"]}
+    print_costs(programs, path)
+    print_stacks(programs, path)
+
+
+main(*sys.argv[1:])

@@ -1,14 +1,10 @@
 """Lossless JPEG files (T.81, H): 8 bits a sample, each predicted by its left neighbour, one scan of
-all components.
-
-A component is given by its sampling factors and its samples, line by line. In a frame of the
-greatest factors Hmax and Vmax it has ceil(width * H / Hmax) samples a line, and ceil(height * V /
-Vmax) lines (A.1.1).
-"""
+all components, which all have the picture's size."""
 
 # The code lengths of the categories 0 to 11 (T.81, Table K.3).
 COUNTS = bytes([0, 1, 5, 1, 1, 1, 1, 1, 1, 0, 0, 0, 0, 0, 0, 0])
 CATEGORIES = bytes(range(12))
+FIRST_PREDICTION = 128
 
 
 def codes():
@@ -33,46 +29,21 @@ def differences_in_bits():
     return made
 
 
-def line_differences(line, above):
-    """The differences of a component's line; its first sample is predicted by the one above it."""
-    return [
-        line[0] - (above[0] if above else 128),
-        *(here - left for left, here in zip(line, line[1:])),
-    ]
+def differences(plane, width):
+    """The differences of a plane's samples; the first of a line is predicted by the one above."""
+    above = FIRST_PREDICTION
+    for start in range(0, len(plane), width):
+        line = plane[start : start + width]
+        yield line[0] - above
+        yield from (here - left for left, here in zip(line, line[1:]))
+        above = line[0]
 
 
-class Component:
-    """A component as it is coded: its lines, as long and as many as whole MCUs have (A.2.4)."""
-
-    def __init__(self, samples, width, factors, mcus_across):
-        self.across, self.down = factors
-        padding = mcus_across * self.across - width
-        self.lines = [[*samples[start : start + width]] for start in range(0, len(samples), width)]
-        self.lines = [line + line[-1:] * padding for line in self.lines]
-
-    def line(self, number):
-        """A line; below the last one it is repeated."""
-        return self.lines[min(number, len(self.lines) - 1)]
-
-    def differences(self, row):
-        """The differences of a row of MCUs: for each place in an MCU a list of those that stand
-        there."""
-        for number in range(row * self.down, (row + 1) * self.down):
-            line = line_differences(
-                self.line(number), self.line(number - 1) if number > 0 else None
-            )
-            yield from (line[place :: self.across] for place in range(self.across))
-
-
-def entropy_coded(rows, components):
-    """The entropy-coded bytes of this many rows of MCUs."""
-    bits, text = differences_in_bits(), []
-    for row in range(rows):
-        places = [
-            differences for component in components for differences in component.differences(row)
-        ]
-        text += [bits[difference] for mcu in zip(*places) for difference in mcu]
-    text = "".join(text)
+def entropy_coded(width, planes):
+    """The bytes of the scan: at each pixel a difference of each plane."""
+    bits = differences_in_bits()
+    pixels = zip(*(differences(plane, width) for plane in planes))
+    text = "".join(bits[difference] for pixel in pixels for difference in pixel)
     text += "1" * (-len(text) % 8)
     return int(text, 2).to_bytes(len(text) // 8, "big").replace(b"\xff", b"\xff\x00")
 
@@ -81,27 +52,12 @@ def segment(code, payload):
     return b"\xff%c" % code + (len(payload) + 2).to_bytes(2, "big") + payload
 
 
-def ceiling(number, divisor):
-    return -(-number // divisor)
-
-
 def lossless(width, height, planes):
-    """A file of components, each its factors, as (2, 1), and its samples."""
-    most_across, most_down = (max(sizes) for sizes in zip(*(factors for factors, _ in planes)))
-    across, down = ceiling(width, most_across), ceiling(height, most_down)
-    components = [
-        Component(samples, ceiling(width * factors[0], most_across), factors, across)
-        for factors, samples in planes
-    ]
+    """A file of components, each by its samples, line by line."""
+    numbers = range(1, len(planes) + 1)
     frame = b"\x08" + height.to_bytes(2, "big") + width.to_bytes(2, "big") + bytes([len(planes)])
-    frame += b"".join(
-        bytes([number, it.across << 4 | it.down, 0]) for number, it in enumerate(components, 1)
-    )
-    scan = (
-        bytes([len(planes)])
-        + b"".join(bytes([number, 0]) for number in range(1, len(planes) + 1))
-        + b"\1\0\0"
-    )
+    frame += b"".join(bytes([number, 0x11, 0]) for number in numbers)
     table = b"\0" + COUNTS + CATEGORIES
+    scan = bytes([len(planes)]) + b"".join(bytes([number, 0]) for number in numbers) + b"\1\0\0"
     headers = segment(0xC3, frame) + segment(0xC4, table) + segment(0xDA, scan)
-    return b"\xff\xd8" + headers + entropy_coded(down, components) + b"\xff\xd9"
+    return b"\xff\xd8" + headers + entropy_coded(width, planes) + b"\xff\xd9"

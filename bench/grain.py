@@ -1,5 +1,4 @@
-"""A picture for the benchmark: smooth colours, edges and fine grain, as in a photograph, the same
-in each run."""
+"""A drawn picture with smooth colours, edges and fine grain, the same in each run."""
 
 import math
 import random
@@ -45,6 +44,6 @@ def lines(order):
         yield bytes(line)
 
 
-def photo():
-    """The picture as a PPM file."""
-    return b"P6\n%d %d\n255\n" % (WIDTH, HEIGHT) + b"".join(lines(random.Random(1)))
+def pixels():
+    """Red, green and blue of each pixel, line by line."""
+    return b"".join(lines(random.Random(1)))
