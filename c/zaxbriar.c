@@ -28,6 +28,9 @@ _Static_assert(sizeof(zaxbriar_picture) == 192, "picture");
 _Static_assert(offsetof(zaxbriar_picture, width) == 32, "picture");
 _Static_assert(offsetof(zaxbriar_picture, pixel_bytes) == 40, "picture");
 _Static_assert(offsetof(zaxbriar_picture, orientation) == 46, "picture");
+_Static_assert(offsetof(zaxbriar_picture, format) == 47, "picture");
+_Static_assert(offsetof(zaxbriar_picture, feature) == 48, "picture");
+_Static_assert(offsetof(zaxbriar_picture, feature_argument) == 49, "picture");
 _Static_assert(offsetof(zaxbriar_picture, text) == 80, "picture");
 
 static const zaxbriar_options no_options;
@@ -39,38 +42,40 @@ static int is_slice(const void *start, size_t size) {
     return size <= PTRDIFF_MAX && (start != NULL || size == 0);
 }
 
-static int bad_argument(zaxbriar_picture *picture, const char *text) {
+static zaxbriar_result bad_argument(zaxbriar_picture *picture, const char *text) {
     memset(picture, 0, sizeof *picture);
     strcpy(picture->text, text);
     return ZAXBRIAR_BAD_ARGUMENT;
 }
 
-int zaxbriar_read_info(const void *jpeg, size_t jpeg_size, const zaxbriar_options *options,
-                       zaxbriar_picture *picture) {
+zaxbriar_result zaxbriar_read_info(const void *jpeg, size_t jpeg_size,
+                                   const zaxbriar_options *options, zaxbriar_picture *picture) {
     if (!picture) return ZAXBRIAR_BAD_ARGUMENT;
     if (!is_slice(jpeg, jpeg_size)) return bad_argument(picture, "jpeg is a null pointer");
-    return (int)zaxbriar_checked_read_info(jpeg ? jpeg : &nothing, jpeg_size,
-                                           options ? options : &no_options, picture);
+    return (zaxbriar_result)zaxbriar_checked_read_info(
+        jpeg ? jpeg : &nothing, jpeg_size, options ? options : &no_options, picture);
 }
 
-int zaxbriar_decode(const void *jpeg, size_t jpeg_size, const zaxbriar_options *options,
-                    void *pixels, size_t pixels_size, zaxbriar_picture *picture) {
+zaxbriar_result zaxbriar_decode(const void *jpeg, size_t jpeg_size,
+                                const zaxbriar_options *options, void *pixels, size_t pixels_size,
+                                zaxbriar_picture *picture) {
     zaxbriar_picture unused;
     if (!picture) picture = &unused;
     if (!is_slice(jpeg, jpeg_size)) return bad_argument(picture, "jpeg is a null pointer");
     if (!is_slice(pixels, pixels_size)) return bad_argument(picture, "pixels is a null pointer");
-    return (int)zaxbriar_checked_decode(jpeg ? jpeg : &nothing, jpeg_size,
-                                        options ? options : &no_options, pixels ? pixels : &nothing,
-                                        pixels_size, picture);
+    return (zaxbriar_result)zaxbriar_checked_decode(
+        jpeg ? jpeg : &nothing, jpeg_size, options ? options : &no_options,
+        pixels ? pixels : &nothing, pixels_size, picture);
 }
 
-int zaxbriar_metadata(const void *jpeg, size_t jpeg_size, int kind, void *data, size_t data_size,
-                      size_t *length) {
+zaxbriar_result zaxbriar_metadata(const void *jpeg, size_t jpeg_size, int kind, void *data,
+                                  size_t data_size, size_t *length) {
     uint64_t found = 0;
-    int answer = ZAXBRIAR_BAD_ARGUMENT;
+    zaxbriar_result answer = ZAXBRIAR_BAD_ARGUMENT;
     if (is_slice(jpeg, jpeg_size) && is_slice(data, data_size))
-        answer = (int)zaxbriar_checked_metadata(jpeg ? jpeg : &nothing, jpeg_size, (uint32_t)kind,
-                                                data ? data : &nothing, data_size, &found);
+        answer = (zaxbriar_result)zaxbriar_checked_metadata(
+            jpeg ? jpeg : &nothing, jpeg_size, (uint32_t)kind, data ? data : &nothing, data_size,
+            &found);
     if (length) *length = (size_t)found;
     return answer;
 }
@@ -90,4 +95,4 @@ const char *zaxbriar_answer_name(int answer) {
     }
 }
 
-uint32_t zaxbriar_version(void) { return 0x000100; }
+uint32_t zaxbriar_version(void) { return ZAXBRIAR_VERSION; }

@@ -43,7 +43,7 @@ static void unknown_options(void) {
         if (which == 0) options.layout = ZAXBRIAR_XRGB + 1;
         if (which == 1) options.transform = ZAXBRIAR_TRANSFORM_YCCK + 1;
         if (which == 2) options.layout = UINT8_MAX;
-        if (which == 3) options.transform = 1;
+        if (which == 3) options.layout = ZAXBRIAR_RGB, options.transform = ZAXBRIAR_TRANSFORM_NONE;
         if (which == 4) options.reserved = 1;
         if (which >= 5) options.reserved_words[which - 5] = UINT64_C(1) << 8 * (which - 5) * 7;
         CHECK(zaxbriar_read_info(jpeg.start, jpeg.size, &options, &picture) ==
@@ -80,7 +80,11 @@ static void names(void) {
                   strcmp(zaxbriar_answer_name(answer), zaxbriar_answer_name(other)) != 0);
     }
     CHECK(strcmp(zaxbriar_answer_name(-1), zaxbriar_answer_name(1000)) == 0);
-    CHECK(zaxbriar_version() == 0x000100);
+    CHECK(zaxbriar_version() == ZAXBRIAR_VERSION);
+    char version[12];
+    snprintf(version, sizeof version, "%d.%d.%d", ZAXBRIAR_VERSION >> 16,
+             ZAXBRIAR_VERSION >> 8 & 0xff, ZAXBRIAR_VERSION & 0xff);
+    CHECK(strcmp(version, ZAXBRIAR_VERSION_TEXT) == 0);
 }
 
 int main(int argc, char **argv) {

@@ -14,10 +14,11 @@ static struct bytes jpeg;
 static long decoded, refused, compared, arranged, scaled;
 
 static const char *format(const zaxbriar_picture *picture) {
-    switch (picture->components) {
-    case 1: return picture->sample_bytes == 1 ? "L8" : "L16";
-    case 3: return "RGB24";
-    case 4: return "CMYK32";
+    switch (picture->format) {
+    case ZAXBRIAR_FORMAT_GREY8: return "L8";
+    case ZAXBRIAR_FORMAT_GREY16: return "L16";
+    case ZAXBRIAR_FORMAT_RGB: return "RGB24";
+    case ZAXBRIAR_FORMAT_CMYK: return "CMYK32";
     default: return "?";
     }
 }

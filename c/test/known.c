@@ -41,7 +41,8 @@ static zaxbriar_picture picture;
 static unsigned char pixels[300];
 
 /* Decodes into memory of 7s. */
-static int decode(const unsigned char *jpeg, size_t size, zaxbriar_options options, size_t room) {
+static zaxbriar_result decode(const unsigned char *jpeg, size_t size, zaxbriar_options options,
+                              size_t room) {
     memset(pixels, 7, sizeof pixels);
     return zaxbriar_decode(jpeg, size, &options, pixels, room, &picture);
 }
@@ -51,6 +52,7 @@ static void memory(void) {
     unsigned char longer[sizeof grey + 1] = {0};
     CHECK(zaxbriar_read_info(grey, sizeof grey, NULL, &picture) == ZAXBRIAR_OK);
     CHECK(picture.size == 64 && picture.decoding_bytes == 192);
+    CHECK(picture.process == ZAXBRIAR_SEQUENTIAL && picture.format == ZAXBRIAR_FORMAT_GREY8);
     CHECK(decode(grey, sizeof grey, none, 65) == ZAXBRIAR_OK);
     CHECK(is_all(pixels, 64, 0x81) && pixels[64] == 7);
     CHECK(picture.stream_bytes == 141);
@@ -82,7 +84,7 @@ static void deep_samples(void) {
     CHECK(decode(deep, sizeof deep, options, 6) == ZAXBRIAR_OK);
     CHECK(!memcmp(pixels, wanted, 6) && picture.size == 6 && picture.pixel_bytes == 6);
     CHECK(picture.precision == 16 && picture.sample_bytes == 2 && picture.components == 3);
-    CHECK(picture.process == ZAXBRIAR_LOSSLESS);
+    CHECK(picture.process == ZAXBRIAR_LOSSLESS && picture.format == ZAXBRIAR_FORMAT_RGB);
     /* the three planes, of two bytes a sample; and the picture beside them where there is a gap */
     CHECK(picture.decoding_bytes == 6);
     options.stride = 7;
@@ -123,18 +125,73 @@ static void layouts_of_colours(void) {
 
 static void refusals(void) {
     static const unsigned char arithmetic[] = {0xff, 0xd8, 0xff, 0xcc};
-    static const zaxbriar_options wrong[] = {
-        {.layout = 7}, {.stride = 7}, {.transform = 1}, {.reserved = 1}};
+    static const zaxbriar_options wrong[] = {{.layout = 7},
+                                             {.stride = 7},
+                                             {.transform = 6},
+                                             {.transform = 1, .layout = ZAXBRIAR_GREY},
+                                             {.reserved = 1}};
     for (size_t i = 0; i < sizeof wrong / sizeof *wrong; i++) {
         CHECK(zaxbriar_read_info(grey, sizeof grey, &wrong[i], &picture) == ZAXBRIAR_BAD_ARGUMENT);
-        CHECK(picture.text[0] != 0);
+        CHECK(picture.text[0] != 0 && picture.feature == ZAXBRIAR_NO_FEATURE);
     }
     CHECK(zaxbriar_read_info("GIF89a", 6, NULL, &picture) == ZAXBRIAR_MALFORMED);
     CHECK(zaxbriar_read_info(arithmetic, sizeof arithmetic, NULL, &picture) ==
           ZAXBRIAR_UNSUPPORTED);
-    CHECK(picture.width == 0);
+    CHECK(picture.width == 0 && picture.format == ZAXBRIAR_NO_FORMAT);
+    CHECK(picture.feature == ZAXBRIAR_FEATURE_ARITHMETIC && picture.feature_argument == 0);
     CHECK(zaxbriar_decode(arithmetic, sizeof arithmetic, NULL, NULL, 0, &picture) ==
           ZAXBRIAR_UNSUPPORTED);
+    CHECK(picture.feature == ZAXBRIAR_FEATURE_ARITHMETIC && picture.feature_argument == 0);
+}
+
+/* Features that are refused with a number, and after a header that is described. */
+static void features(void) {
+    static const unsigned char lines[] = {0xff, 0xdc, 0x00, 0x04, 0x00, 0x08};
+    zaxbriar_options none = {0};
+    unsigned char stream[sizeof grey + sizeof lines];
+    memcpy(stream, grey, sizeof grey);
+    stream[75] = 12; /* the bits of a sample */
+    CHECK(zaxbriar_read_info(stream, sizeof grey, NULL, &picture) == ZAXBRIAR_UNSUPPORTED);
+    CHECK(picture.feature == ZAXBRIAR_FEATURE_PRECISION && picture.feature_argument == 12);
+    CHECK(picture.width == 0 && picture.format == ZAXBRIAR_NO_FORMAT);
+    memcpy(stream, grey, sizeof grey);
+    memcpy(stream + sizeof grey - 2, lines, sizeof lines);
+    CHECK(zaxbriar_read_info(stream, sizeof stream, NULL, &picture) == ZAXBRIAR_OK);
+    CHECK(picture.feature == ZAXBRIAR_NO_FEATURE && picture.format == ZAXBRIAR_FORMAT_GREY8);
+    CHECK(decode(stream, sizeof stream, none, 64) == ZAXBRIAR_UNSUPPORTED);
+    CHECK(picture.feature == ZAXBRIAR_FEATURE_DNL && picture.feature_argument == 0);
+    CHECK(picture.width == 8 && picture.format == ZAXBRIAR_FORMAT_GREY8 && is_all(pixels, 65, 7));
+}
+
+/* A stream of three components like `grey`, of samples 0x81, 0x7f and 0x82: with the transform NONE
+ * each line has them one after the other, and with RGB pixel by pixel. */
+static void without_conversion(void) {
+    static const unsigned char frame[] = {
+        0xff, 0xc0, 0x00, 0x11, 0x08, 0x00, 0x08, 0x00, 0x08, 0x03,
+        0x01, 0x11, 0x00, 0x02, 0x11, 0x00, 0x03, 0x11, 0x00,
+    };
+    static const unsigned char scan[] = {
+        0xff, 0xda, 0x00, 0x0c, 0x03, 0x01, 0x00, 0x02, 0x00, 0x03,
+        0x00, 0x00, 0x3f, 0x00, 0x40, 0xe7, 0xbf, 0xff, 0xd9,
+    };
+    static const unsigned char samples[] = {0x81, 0x7f, 0x82};
+    enum { BEFORE = 71, TABLES = 44 };
+    unsigned char stream[BEFORE + sizeof frame + TABLES + sizeof scan];
+    memcpy(stream, grey, BEFORE);
+    memcpy(stream + BEFORE, frame, sizeof frame);
+    memcpy(stream + BEFORE + sizeof frame, grey + GREY_HEADER, TABLES);
+    memcpy(stream + BEFORE + sizeof frame + TABLES, scan, sizeof scan);
+    zaxbriar_options options = {.transform = ZAXBRIAR_TRANSFORM_NONE};
+    CHECK(decode(stream, sizeof stream, options, 192) == ZAXBRIAR_OK);
+    CHECK(picture.format == ZAXBRIAR_FORMAT_RGB && picture.row_bytes == 24);
+    for (int i = 0; i < 192; i++) CHECK(pixels[i] == samples[i % 24 / 8]);
+    options.transform = ZAXBRIAR_TRANSFORM_RGB;
+    CHECK(decode(stream, sizeof stream, options, 192) == ZAXBRIAR_OK);
+    for (int i = 0; i < 192; i++) CHECK(pixels[i] == samples[i % 3]);
+    options.transform = ZAXBRIAR_TRANSFORM_CMYK;
+    CHECK(decode(stream, sizeof stream, options, 192) == ZAXBRIAR_MALFORMED);
+    options.transform = ZAXBRIAR_TRANSFORM_NONE; /* grey pictures aren't affected */
+    CHECK(decode(grey, sizeof grey, options, 64) == ZAXBRIAR_OK && is_all(pixels, 64, 0x81));
 }
 
 /* Both limits, at the number that is allowed and one less: of the whole stream, of its header alone
@@ -225,6 +282,8 @@ int main(void) {
     layouts_of_grey();
     layouts_of_colours();
     refusals();
+    features();
+    without_conversion();
     limits();
     metadata();
     long_profile();

@@ -1,16 +1,18 @@
 -- What a caller is given of a picture that was decoded.
-use Rattle.std.proofs.Common.{arith, ◌≡◌, ◌∙◌, ℕ, ◌*◌, ◌<◌, List, Result, Ok, Err, Some, sym, ap}
+use Rattle.std.proofs.Common.{arith, ◌≡◌, ◌∙◌, ℕ, ◌*◌, ◌<◌, List, Result, Ok, Err, sym, ap, subst}
 use Rattle.std.specs.Prelude.{IfErr, IfOk, OnOk, replicate}
 use Rattle.std.proofs.Math.Nat.{mul_comm, mul_assoc}
 use Rattle.jpeg_bits.specs.Reading.{Fault}
 use Rattle.jpeg_streams.specs.declared.images.ImageInfo.{ImageInfo}
 use Rattle.zaxbriar.specs.Faults.{status_of}
+use Rattle.zaxbriar.specs.Features.{feature_told, numbered}
 use Rattle.zaxbriar.specs.Layouts.{laid_out, layout_line}
 use Rattle.zaxbriar.specs.Lines.{Arranged, HasLines, described_picture, stored_bytes}
 use Rattle.zaxbriar.specs.Meanings.{Describes, IsTooLarge, IsWithin, Shows, ShowsSamples, as_described}
 use Rattle.zaxbriar.proofs.Fails.{code-fails, has-no-room, is-too-large}
 use Rattle.zaxbriar.specs.declared.answers.Refusal.TheVariants.{NoRoom, TooLarge}
 use Rattle.zaxbriar.specs.declared.answers.Refusal.{Refusal}
+use Rattle.zaxbriar.specs.declared.features.Feature.{Feature}
 use Rattle.zaxbriar.specs.declared.lines.Lines.{Lines}
 use Rattle.zaxbriar.specs.declared.options.Options.{Options}
 use Rattle.zaxbriar.specs.declared.picture.Picture.{Picture}
@@ -40,25 +42,35 @@ arranged-of o info precision samples old new picture lines decoding orientation 
       (ap (λ (q : Picture). q.stream_bytes) (sym p) i));
 }
 
+-- a picture with what a call says of itself: the bytes that were read, a feature and a text
+abbrev pub ending : Picture → ℕ → Feature → List ℕ → Picture
+ending picture stream feature text = record picture {
+  stream_bytes = stream;
+  feature = feature.number;
+  feature_argument = feature.argument;
+  text = text;
+}
+
 -- the same picture, with the bytes of its stream
 retold : (o : Options) (info : ImageInfo) (precision : ℕ) (samples old new : List ℕ) (picture : Picture)
-    (stream : ℕ) (text : List ℕ) → text ≡ replicate 112 0 → Arranged o info precision samples old new picture
-    → Arranged o info precision samples old new (record picture { stream_bytes = stream; text = text })
-retold o info precision samples old new picture stream text t a = record {
+    (stream : ℕ) (feature : Feature) (text : List ℕ) → feature ≡ numbered 0 0 → text ≡ replicate 112 0
+    → Arranged o info precision samples old new picture
+    → Arranged o info precision samples old new (ending picture stream feature text)
+retold o info precision samples old new picture stream feature text none t a = record {
   conversion = a.conversion;
   is = a.is;
   pixels = a.pixels;
   decoding = a.decoding;
   orientation = a.orientation;
-  picture_is = λ i. record (a.picture_is i) { stream_bytes = stream; text = t i };
+  picture_is = λ i. ending (a.picture_is i) stream (none i) (t i);
 }
 
 pub shown : {X : Type 0} (outcome : Result X Refusal) (o : Options) (bytes old new : List ℕ) (picture : Picture)
-    (stream : ℕ) (text : List ℕ) (result : ℕ)
-    → result ≡ status_of outcome → IfOk outcome (λ _. text ≡ replicate 112 0)
+    (stream : ℕ) (feature : Feature) (text : List ℕ) (result : ℕ)
+    → result ≡ status_of outcome → feature ≡ feature_told outcome → IfOk outcome (λ _. text ≡ replicate 112 0)
     → OnOk outcome (Shows o bytes old new picture) → result ≡ 0
-    → Shows o bytes old new (record picture { stream_bytes = stream; text = text })
-shown (Ok x) o bytes old new picture stream text result code none s z = record {
+    → Shows o bytes old new (ending picture stream feature text)
+shown (Ok x) o bytes old new picture stream feature text result code lacks none s z = record {
   told = s.told;
   samples = s.samples;
   rest = s.rest;
@@ -67,23 +79,23 @@ shown (Ok x) o bytes old new picture stream text result code none s z = record {
   means = s.means;
   info_is = s.info_is;
   precision_is = s.precision_is;
-  arranged = retold o s.info s.precision s.samples old new picture stream text none s.arranged;
+  arranged = retold o s.info s.precision s.samples old new picture stream feature text lacks none s.arranged;
 }
-shown (Err r) o bytes old new picture stream text result code none s z = absurd (code-fails r (sym code ∙ z))
+shown (Err r) o bytes old new picture stream feature text result code lacks none s z = absurd (code-fails r (sym code ∙ z))
 
 pub shown-samples : {X : Type 0} (outcome : Result X Refusal) (o : Options) (image : Result (List ℕ) Fault)
-    (old new : List ℕ) (picture : Picture) (stream : ℕ) (text : List ℕ) (result : ℕ)
-    → result ≡ status_of outcome → IfOk outcome (λ _. text ≡ replicate 112 0)
+    (old new : List ℕ) (picture : Picture) (stream : ℕ) (feature : Feature) (text : List ℕ) (result : ℕ)
+    → result ≡ status_of outcome → feature ≡ feature_told outcome → IfOk outcome (λ _. text ≡ replicate 112 0)
     → OnOk outcome (ShowsSamples o image old new picture) → result ≡ 0
-    → ShowsSamples o image old new (record picture { stream_bytes = stream; text = text })
-shown-samples (Ok x) o image old new picture stream text result code none s z = record {
+    → ShowsSamples o image old new (ending picture stream feature text)
+shown-samples (Ok x) o image old new picture stream feature text result code lacks none s z = record {
   samples = s.samples;
   info = s.info;
   precision = s.precision;
   are = s.are;
-  arranged = retold o s.info s.precision s.samples old new picture stream text none s.arranged;
+  arranged = retold o s.info s.precision s.samples old new picture stream feature text lacks none s.arranged;
 }
-shown-samples (Err r) o image old new picture stream text result code none s z = absurd (code-fails r (sym code ∙ z))
+shown-samples (Err r) o image old new picture stream feature text result code lacks none s z = absurd (code-fails r (sym code ∙ z))
 
 -- ---- what the exported calls say of a picture
 
@@ -91,12 +103,21 @@ shown-samples (Err r) o image old new picture stream text result code none s z =
 as-told : (o : Options) (bytes : List ℕ) (picture : Picture) → Describes o bytes picture → as_described picture ≡ picture
 as-told o bytes picture d = ap (λ (p : Picture). as_described p) d.picture_is ∙ sym d.picture_is
 
+same : (o : Options) (bytes : List ℕ) (picture : Picture) (feature : Feature) (text : List ℕ)
+    → feature ≡ numbered 0 0 → text ≡ replicate 112 0 → Describes o bytes picture
+    → record picture { feature = feature.number; feature_argument = feature.argument; text = text } ≡ picture
+same o bytes picture feature text none t d =
+    (λ i. record (d.picture_is i) { feature = (none i).number; feature_argument = (none i).argument; text = t i })
+    ∙ sym d.picture_is
+
 pub described : {X : Type 0} (outcome : Result X Refusal) (o : Options) (bytes : List ℕ) (picture : Picture)
-    (text : List ℕ) (result : ℕ)
-    → result ≡ status_of outcome → IfOk outcome (λ _. text ≡ replicate 112 0)
+    (feature : Feature) (text : List ℕ) (result : ℕ)
+    → result ≡ status_of outcome → feature ≡ feature_told outcome → IfOk outcome (λ _. text ≡ replicate 112 0)
     → OnOk outcome (IsWithin o bytes picture) → result ≡ 0
-    → IsWithin o bytes (record picture { text = text })
-described x o bytes picture text result code ok d z = grind (arith, code-fails, as-told)
+    → IsWithin o bytes (record picture { feature = feature.number; feature_argument = feature.argument; text = text })
+described (Ok x) o bytes picture feature text result code lacks none d z =
+    subst (λ (p : Picture). IsWithin o bytes p) (sym (same o bytes picture feature text lacks none d.0)) d
+described (Err r) o bytes picture feature text result code lacks none d z = absurd (code-fails r (sym code ∙ z))
 
 pub within : {X : Type 0} (outcome : Result X Refusal) (o : Options) (bytes : List ℕ) (picture : Picture) (result : ℕ)
     → result ≡ status_of outcome → OnOk outcome (IsWithin o bytes picture) → result ≡ 0

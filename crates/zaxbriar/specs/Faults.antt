@@ -7,11 +7,12 @@ use Rattle.jpeg_bits.specs.declared.error.Error.TheVariants as errors
 use Rattle.jpeg_bits.specs.declared.error.UnsupportedFeature.{UnsupportedFeature}
 use Rattle.zaxbriar.specs.declared.answers.Refusal.{Refusal}
 use Rattle.zaxbriar.specs.declared.answers.Refusal.TheVariants.{Stream, Argument, NoRoom}
-use Rattle.zaxbriar.specs.declared.answers.Refusal.TheVariants.{TooLarge}
+use Rattle.zaxbriar.specs.declared.answers.Refusal.TheVariants.{Reader, TooLarge}
 
 -- A refusal of a stream names the fault of its bytes.
 abbrev pub IsFault : {Y : Type 0} → Result Y Fault → Refusal → Type 0
 IsFault outcome (Stream e) = Names e outcome
+IsFault outcome Reader = Unit {0}
 IsFault outcome (Argument text) = Unit {0}
 IsFault outcome NoRoom = Unit {0}
 IsFault outcome TooLarge = Unit {0}
@@ -21,11 +22,11 @@ abbrev pub IsArgument : Refusal → Type 0
 IsArgument (Argument text) = Unit {0}
 IsArgument _ = ⊥
 
--- A refusal of a call to a decoder.
+-- A refusal of a call to a decoder: of the stream, or because of the reader.
 abbrev pub IsOfDecoder : Refusal → Type 0
-IsOfDecoder NoRoom = ⊥
-IsOfDecoder TooLarge = ⊥
-IsOfDecoder _ = Unit {0}
+IsOfDecoder (Stream e) = Unit {0}
+IsOfDecoder Reader = Unit {0}
+IsOfDecoder _ = ⊥
 
 -- A refusal of a picture for its size: it is longer than the buffer, or above a limit.
 abbrev pub IsOwn : Refusal → Type 0
@@ -33,28 +34,31 @@ IsOwn NoRoom = Unit {0}
 IsOwn TooLarge = Unit {0}
 IsOwn _ = ⊥
 
--- A refusal by the limits, by the arguments, or for lack of memory.
+-- A refusal by the limits, by the arguments, because of the reader, or for lack of memory.
 abbrev pub IsOfCall : Refusal → Type 0
 IsOfCall (Stream e) = e ≡ errors.OutOfMemory
+IsOfCall Reader = Unit {0}
 IsOfCall (Argument text) = Unit {0}
 IsOfCall NoRoom = ⊥
 IsOfCall TooLarge = Unit {0}
 
--- A refusal stands for an error of a decoder: it is one of the stream only where the reader, a read
--- of which has failed or not, wasn't given up.
+-- A refusal stands for an error of a decoder: it is one because of the reader where this, a read of
+-- which has failed or not, was given up, and otherwise that error.
 abbrev pub StandsFor : Error → Bool → Refusal → Type 0
 StandsFor error failed (Stream e) = (e ≡ error) × (IsGivenUp error failed → ⊥)
-StandsFor error failed (Argument text) = Unit {0}
-StandsFor error failed NoRoom = ⊥
-StandsFor error failed TooLarge = ⊥
+StandsFor error failed Reader = IsGivenUp error failed
+StandsFor error failed _ = ⊥
 
--- the number of a refusal, and of an outcome
+-- The number of a refusal, and of an outcome. A reader over memory is never given up, so that no
+-- caller is told of one: its number is that of the only other refusal that the bytes and the
+-- arguments have no part in.
 abbrev pub fault_code : Refusal → ℕ
 fault_code (Stream (errors.Format text)) = 1
 fault_code (Stream (errors.Unsupported feature)) = 2
 fault_code (Stream (errors.Io e)) = 3
 fault_code (Stream errors.OutOfMemory) = 4
 fault_code (Stream (errors.Internal text)) = 6
+fault_code Reader = 4
 fault_code (Argument text) = 6
 fault_code NoRoom = 5
 fault_code TooLarge = 8

@@ -1,4 +1,5 @@
 pub mod Faults
+pub mod Features
 pub mod Layouts
 pub mod Limits
 pub mod Lines

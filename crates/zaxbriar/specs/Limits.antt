@@ -10,10 +10,11 @@ use Rattle.zaxbriar.specs.declared.picture.Picture.{Picture}
 abbrev pub is_denominator : ℕ → Bool
 is_denominator n = n == 0 || (n == 1 || (n == 2 || (n == 4 || n == 8)))
 
--- whether all options exist whatever the picture is: the transform, the scale, and what is reserved
+-- whether all options exist whatever the picture is: the transform, of which 1, none, goes with
+-- layout 0 alone, the scale, and what is reserved
 abbrev pub are_known : Options → Bool
-are_known o = not (o.transform == 1) && (nat_le o.transform 5 && (is_denominator o.scale
-    && (o.reserved == 0
+are_known o = (not (o.transform == 1) || o.layout == 0) && (nat_le o.transform 5
+    && (is_denominator o.scale && (o.reserved == 0
     && (slice_index o.reserved_words 0 == 0 && slice_index o.reserved_words 1 == 0))))
 
 -- whether a picture is decoded where its lines are: without gaps, and in a layout whose pixels take

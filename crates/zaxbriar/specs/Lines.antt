@@ -9,6 +9,8 @@ use Rattle.jpeg_streams.specs.DecodedImages.{DecodesImages}
 use Rattle.jpeg_streams.specs.States.{Decoding}
 use Rattle.jpeg_streams.specs.Stream.{rest_at, told_of}
 use Rattle.jpeg_streams.specs.declared.images.ImageInfo.{ImageInfo}
+use Rattle.jpeg_streams.specs.declared.images.PixelFormat.{PixelFormat}
+use Rattle.jpeg_streams.specs.declared.images.PixelFormat.TheVariants.{L8, L16, RGB24, CMYK32}
 use Rattle.zaxbriar.specs.Layouts.{TakesStored, conversion_to, converted_bytes, laid_out}
 use Rattle.zaxbriar.specs.Layouts.{layout_line, size_of_lines}
 use Rattle.zaxbriar.specs.declared.layouts.Conversion.{Conversion}
@@ -68,6 +70,13 @@ process_number DctSequential = 1
 process_number DctProgressive = 2
 process_number Lossless = 3
 
+-- the number of a format
+abbrev pub format_number : PixelFormat → ℕ
+format_number L8 = 1
+format_number L16 = 2
+format_number RGB24 = 3
+format_number CMYK32 = 4
+
 -- what a caller is told of a picture: these lines, the memory that decoding takes, the orientation,
 -- and the bytes of the stream
 abbrev pub described_picture : ℕ → ImageInfo → ℕ → Lines → ℕ → ℕ → ℕ → Picture
@@ -85,7 +94,10 @@ described_picture layout info precision lines decoding orientation stream = reco
   sample_bytes = bytes_a_sample precision;
   process = process_number info.coding_process;
   orientation = orientation;
-  reserved = replicate 33 0;
+  format = format_number info.pixel_format;
+  feature = 0;
+  feature_argument = 0;
+  reserved = replicate 30 0;
   text = replicate 112 0;
 }
 

@@ -1,6 +1,6 @@
 -- What a call with some options gives for the bytes of a stream.
 use Rattle.std.specs.Prelude.{◌≡◌, ◌==◌, ◌&&◌, ℕ, List, Option, Some, None, if◌then◌else◌}
-use Rattle.std.specs.Prelude.{option_map, replicate, true, false, Ok, Result}
+use Rattle.std.specs.Prelude.{option_map, replicate, true, false, Ok, Result, ◌⊎◌}
 use Rattle.jpeg_bits.specs.Reading.{Outcome, ◌>>=◌, Fault}
 use Rattle.jpeg_bits.specs.declared.color_transform.ColorTransform.{ColorTransform}
 use Rattle.jpeg_bits.specs.declared.color_transform.ColorTransform.TheVariants as transforms
@@ -18,18 +18,19 @@ use Rattle.jpeg_decoder.specs.Bytes.{decoding_bytes}
 use Rattle.jpeg_decoder.specs.Orientation.{orientation_in}
 use Rattle.jpeg_decoder.specs.declared.sizes.DecodingBytes.{DecodingBytes}
 use Rattle.zaxbriar.specs.Layouts.{conversion_to}
-use Rattle.zaxbriar.specs.Limits.{bytes_beside, exceeds_limits}
-use Rattle.zaxbriar.specs.Lines.{Arranged, lines_by, described_picture}
+use Rattle.zaxbriar.specs.Limits.{are_known, bytes_beside, exceeds_limits}
+use Rattle.zaxbriar.specs.Lines.{Arranged, FitLines, lines_by, described_picture}
 use Rattle.zaxbriar.specs.declared.layouts.Conversion.{Conversion}
 use Rattle.zaxbriar.specs.declared.options.Options.{Options}
 use Rattle.zaxbriar.specs.declared.picture.Picture.{Picture}
 
 -- the colour transform of a number
 abbrev pub transform_number : ℕ → Option ColorTransform
-transform_number n = if n == 2 then Some transforms.RGB
+transform_number n = if n == 1 then Some transforms.None
+    else (if n == 2 then Some transforms.RGB
     else (if n == 3 then Some transforms.YCbCr
     else (if n == 4 then Some transforms.CMYK
-    else (if n == 5 then Some transforms.YCCK else None)))
+    else (if n == 5 then Some transforms.YCCK else None))))
 
 -- the settings of a decoder
 abbrev pub settings_of : Options → Settings
@@ -104,6 +105,23 @@ pub record Describes (o : Options) (bytes : List ℕ) (picture : Picture) : Type
       (bytes_beside (lines_by o.stride info precision conversion) decoding)
       (orientation_by (at_size (size_wanted o) header.said).metadata.exif) 0
 
+-- The lines that the options ask for don't fit the picture of a header.
+pub record IsMisfit (o : Options) (bytes : List ℕ) : Type 0 where
+  pub header : Found
+  pub rest : List ℕ
+  pub info : ImageInfo
+  pub precision : ℕ
+  pub reads : header_at bytes ≡ Ok (header, rest)
+  pub info_is : option_map info_of (at_size (size_wanted o) header.said).frame ≡ Some info
+  pub precision_is : option_map (λ f. f.precision) (at_size (size_wanted o) header.said).frame
+      ≡ Some precision
+  pub misfit : FitLines o info precision → ⊥
+
+-- Options are wrong for a stream: they don't exist, or their lines don't fit the picture of its
+-- header.
+abbrev pub AreWrong : Options → List ℕ → Type 0
+AreWrong o bytes = (are_known o ≡ false) ⊎ IsMisfit o bytes
+
 -- no picture
 abbrev pub no_picture : Picture
 no_picture = record {
@@ -120,13 +138,22 @@ no_picture = record {
   sample_bytes = 0;
   process = 0;
   orientation = 0;
-  reserved = replicate 33 0;
+  format = 0;
+  feature = 0;
+  feature_argument = 0;
+  reserved = replicate 30 0;
   text = replicate 112 0;
 }
 
--- a picture without what a call says of itself: the bytes that were read, and the text of a refusal
+-- a picture without what a call says of itself: the bytes that were read, the feature that the
+-- stream lacks here, and the text of a refusal
 abbrev pub as_described : Picture → Picture
-as_described picture = record picture { stream_bytes = 0; text = replicate 112 0 }
+as_described picture = record picture {
+  stream_bytes = 0;
+  feature = 0;
+  feature_argument = 0;
+  text = replicate 112 0;
+}
 
 -- A picture is that of a header, and within the limits.
 abbrev pub IsWithin : Options → List ℕ → Picture → Type 0

@@ -32,6 +32,8 @@ pub const TEXT_BYTES: usize = 112;
 #[derive(Drop)]
 pub enum Refusal {
     Stream(Error),
+    /// A read failed, or was interrupted without end. It never happens over bytes in memory.
+    Reader,
     Argument(&'static str),
     NoRoom,
     TooLarge,
@@ -59,8 +61,7 @@ pub fn refusal_of<R: Read + Drop>(decoder: &Decoder<R>, error: Error) -> Refusal
         Error::Unsupported(_) | Error::Internal(_) | Error::OutOfMemory => false,
     };
     if is_of_reader {
-        // This never happens over bytes in memory.
-        Refusal::Argument("the bytes can't be read")
+        Refusal::Reader
     } else {
         Refusal::Stream(error)
     }
@@ -74,7 +75,7 @@ pub fn code_of(refusal: &Refusal) -> u32
         Refusal::Stream(Error::Format(_)) => MALFORMED,
         Refusal::Stream(Error::Unsupported(_)) => UNSUPPORTED,
         Refusal::Stream(Error::Io(_)) => TRUNCATED,
-        Refusal::Stream(Error::OutOfMemory) => NO_MEMORY,
+        Refusal::Stream(Error::OutOfMemory) | Refusal::Reader => NO_MEMORY,
         Refusal::Stream(Error::Internal(_)) | Refusal::Argument(_) => BAD_ARGUMENT,
         Refusal::NoRoom => NO_ROOM,
         Refusal::TooLarge => TOO_LARGE,
@@ -101,6 +102,7 @@ fn put_refusal(alloc: Global, refusal: &Refusal, text: &mut [u8; TEXT_BYTES])
             Ok(line) => put_text(line.as_bytes(), text),
             Err(_) => put_text(b"out of memory", text),
         },
+        Refusal::Reader => put_text(b"the bytes can't be read", text),
         Refusal::Argument(reason) => put_text(reason.as_bytes(), text),
         Refusal::NoRoom => put_text(b"the buffer is too small for the picture", text),
         Refusal::TooLarge => put_text(b"the picture is above a limit of the options", text),

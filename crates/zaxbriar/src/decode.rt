@@ -17,7 +17,7 @@ ghost use Rattle.zaxbriar.specs.Faults.{IsArgument, IsFault, IsOfCall, IsOfDecod
 ghost use Rattle.zaxbriar.specs.Layouts.{size_of_lines};
 ghost use Rattle.zaxbriar.specs.Limits.{are_known};
 ghost use Rattle.zaxbriar.specs.Lines.{Decodes, HasLines};
-ghost use Rattle.zaxbriar.specs.Meanings.{IsTooLarge, IsWithin, Shows, ShowsSamples};
+ghost use Rattle.zaxbriar.specs.Meanings.{AreWrong, IsTooLarge, IsWithin, Shows, ShowsSamples};
 ghost use Rattle.zaxbriar.specs.Meanings.{meaning_by, settings_of, size_wanted};
 ghost use Rattle.zaxbriar.specs.declared.answers.Refusal.TheVariants.{NoRoom, TooLarge};
 
@@ -105,6 +105,8 @@ pub fn decode_into<R: Read + Drop>(
     ensures limited { (bytes : List ℕ) → Tells (R.remaining reader.old) bytes → (size : Picture)
         → IsTooLarge options.now bytes size → IsErrAnd result IsOfCall }
     ensures known { are_known options.now ≡ false → IsErrAnd result IsArgument }
+    ensures wrong { (bytes : List ℕ) → Tells (R.remaining reader.old) bytes → IfErr result
+        (λ r. IsArgument r → AreWrong options.now bytes) }
     ensures unasked { are_known options.now ≡ false → picture.new ≡ picture.old }
     ensures undescribed { (bytes : List ℕ) (fault : Fault) → Tells (R.remaining reader.old) bytes
         → header_at bytes ≡ Err fault → picture.new ≡ picture.old }

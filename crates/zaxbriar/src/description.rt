@@ -9,7 +9,7 @@ ghost use Rattle.jpeg_streams.specs.Stream.{header_at};
 ghost use Rattle.zaxbriar.specs.Faults.{IsArgument, IsFault, IsOfCall};
 ghost use Rattle.zaxbriar.specs.Limits.{are_known, bytes_beside};
 ghost use Rattle.zaxbriar.specs.Lines.{HasLines, described_picture};
-ghost use Rattle.zaxbriar.specs.Meanings.{IsTooLarge, IsWithin, ReadsHeader};
+ghost use Rattle.zaxbriar.specs.Meanings.{AreWrong, IsMisfit, IsTooLarge, IsWithin, ReadsHeader};
 ghost use Rattle.zaxbriar.specs.declared.answers.Refusal.TheVariants.{NoRoom, TooLarge};
 
 use crate::answers::Refusal;
@@ -49,6 +49,8 @@ pub fn describe<R: Read + Drop>(
         → IsTooLarge options.now decoder.old.source.bytes size → IsErrAnd result IsOfCall }
     ensures named { decoder.old.source.known ≡ true
         → IfErr result (IsFault (header_at decoder.old.source.bytes)) }
+    ensures misfit { decoder.old.source.known ≡ true → IfErr result
+        (λ r. IsArgument r → IsMisfit options.now decoder.old.source.bytes) }
     ensures other { IfErr result (λ r. r ≡ NoRoom → ⊥) }
     ensures kept { IfErr result (λ r. (r ≡ TooLarge → ⊥) → picture.new ≡ picture.old) }
 {
@@ -77,6 +79,8 @@ pub fn read_info_from<R: Read + Drop>(
     ensures named { (bytes : List ℕ) → Tells (R.remaining reader.old) bytes
         → IfErr result (IsFault (header_at bytes)) }
     ensures known { are_known options.now ≡ false → IsErrAnd result IsArgument }
+    ensures wrong { (bytes : List ℕ) → Tells (R.remaining reader.old) bytes → IfErr result
+        (λ r. IsArgument r → AreWrong options.now bytes) }
     ensures kept { IfErr result (λ r. (r ≡ TooLarge → ⊥) → picture.new ≡ picture.old) }
 {
     if !are_known(options) {

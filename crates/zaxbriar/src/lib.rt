@@ -17,15 +17,17 @@ ghost use Rattle.jpeg_streams.specs.Stream.{header_at};
 ghost use Rattle.jpeg_streams.specs.WrittenImages.{WritesImage};
 ghost use Rattle.jpeg_streams.specs.WrittenScans.{Coefficients};
 ghost use Rattle.zaxbriar.specs.Faults.{IsOfCallNumber};
+ghost use Rattle.zaxbriar.specs.Features.{LacksFeature, NamesFeature, numbered};
 ghost use Rattle.zaxbriar.specs.Limits.{are_known};
 ghost use Rattle.zaxbriar.specs.Metadata.{IsCopied, IsLonger, said_of};
-ghost use Rattle.zaxbriar.specs.Meanings.{IsTooLarge, IsWithin, Shows, ShowsSamples};
+ghost use Rattle.zaxbriar.specs.Meanings.{AreWrong, IsTooLarge, IsWithin, Shows, ShowsSamples};
 ghost use Rattle.zaxbriar.specs.Meanings.{as_described, meaning_by, no_picture, settings_of};
 ghost use Rattle.zaxbriar.specs.Meanings.{size_wanted};
 
 mod answers;
 mod decode;
 mod description;
+mod features;
 mod header;
 mod in_place;
 mod layouts;
@@ -41,6 +43,7 @@ mod stream_bytes;
 use answers::{BAD_ARGUMENT, NO_MEMORY, answer};
 use decode::decode_into;
 use description::read_info_from;
+use features::feature_told;
 use metadata::read_metadata;
 use options::Options;
 use picture::{NO_PICTURE, Picture};
@@ -66,16 +69,20 @@ pub extern "C" fn zaxbriar_checked_read_info(
     ensures limited { length jpeg.now < 2 ^ 64 → (size : Picture)
         → IsTooLarge options.now jpeg.now size → IsOfCallNumber result }
 
-    // MALFORMED, UNSUPPORTED and TRUNCATED name the header's fault.
+    // MALFORMED, UNSUPPORTED and TRUNCATED name the header's fault. After UNSUPPORTED `picture`
+    // names the feature, and after any other result none.
     ensures malformed { length jpeg.now < 2 ^ 64 → result ≡ 1 → header_at jpeg.now ≡ Err Malformed }
-    ensures unsupported { length jpeg.now < 2 ^ 64 → result ≡ 2 → (feature : UnsupportedFeature)
-        × (header_at jpeg.now ≡ Err (Lacks feature)) }
+    ensures unsupported { length jpeg.now < 2 ^ 64 → result ≡ 2
+        → LacksFeature (header_at jpeg.now) picture.new }
     ensures truncated { length jpeg.now < 2 ^ 64 → result ≡ 3 → header_at jpeg.now ≡ Err End }
+    ensures unnamed { (result ≡ 2 → ⊥) → NamesFeature picture.new (numbered 0 0) }
 
-    // Options that don't exist are refused, whatever the bytes are.
+    // Options that don't exist are BAD_ARGUMENT, whatever the bytes are. Nothing else is but lines
+    // that don't fit the picture of the header.
     ensures known { are_known options.now ≡ false → result ≡ 6 }
+    ensures wrong { length jpeg.now < 2 ^ 64 → result ≡ 6 → AreWrong options.now jpeg.now }
 
-    // `picture` is cleared, but for its text, unless it describes a picture.
+    // `picture` is cleared, but for its text and the feature, unless it describes a picture.
     ensures cleared { (result ≡ 0 → ⊥) → (result ≡ 8 → ⊥) → as_described picture.new ≡ no_picture }
 
     // The text ends by a zero, and says something where the picture is too large.
@@ -84,6 +91,9 @@ pub extern "C" fn zaxbriar_checked_read_info(
 {
     *picture = NO_PICTURE;
     let outcome = read_info_from(alloc, &mut Bytes::new(jpeg), options, picture);
+    let feature = feature_told(&outcome);
+    picture.feature = feature.number;
+    picture.feature_argument = feature.argument;
     answer(alloc, outcome, &mut picture.text)
 }
 
@@ -110,13 +120,15 @@ pub extern "C" fn zaxbriar_checked_decode(
         ShowsSamples options.now (picture_of_array (settings_of options.now)
         (at_size (size_wanted options.now) final) array last) pixels.old pixels.new picture.new }
 
-    // MALFORMED, UNSUPPORTED and TRUNCATED name the stream's fault.
+    // MALFORMED, UNSUPPORTED and TRUNCATED name the stream's fault. After UNSUPPORTED `picture`
+    // names the feature, and after any other result none.
     ensures malformed { length jpeg.now < 2 ^ 64 → result ≡ 1
         → meaning_by options.now jpeg.now ≡ Err Malformed }
-    ensures unsupported { length jpeg.now < 2 ^ 64 → result ≡ 2 → (feature : UnsupportedFeature)
-        × (meaning_by options.now jpeg.now ≡ Err (Lacks feature)) }
+    ensures unsupported { length jpeg.now < 2 ^ 64 → result ≡ 2
+        → LacksFeature (meaning_by options.now jpeg.now) picture.new }
     ensures truncated { length jpeg.now < 2 ^ 64 → result ≡ 3
         → meaning_by options.now jpeg.now ≡ Err End }
+    ensures unnamed { (result ≡ 2 → ⊥) → NamesFeature picture.new (numbered 0 0) }
 
     // After any other result than OK, `pixels` is as it was.
     ensures kept { (result ≡ 0 → ⊥) → pixels.new ≡ pixels.old }
@@ -137,11 +149,13 @@ pub extern "C" fn zaxbriar_checked_decode(
     ensures limited { length jpeg.now < 2 ^ 64 → (size : Picture)
         → IsTooLarge options.now jpeg.now size → IsOfCallNumber result }
 
-    // Options that don't exist are refused, whatever the bytes are.
+    // Options that don't exist are BAD_ARGUMENT, whatever the bytes are. Nothing else is but lines
+    // that don't fit the picture of the header.
     ensures known { are_known options.now ≡ false → result ≡ 6 }
+    ensures wrong { length jpeg.now < 2 ^ 64 → result ≡ 6 → AreWrong options.now jpeg.now }
 
-    // `picture` is cleared, but for its text and `stream_bytes`, where options don't exist or the
-    // header is refused.
+    // `picture` is cleared, but for its text, the feature and `stream_bytes`, where options don't
+    // exist or the header is refused.
     ensures unasked { are_known options.now ≡ false → as_described picture.new ≡ no_picture }
     ensures cleared { length jpeg.now < 2 ^ 64 → (fault : Fault)
         → header_at jpeg.now ≡ Err fault → as_described picture.new ≡ no_picture }
@@ -154,6 +168,9 @@ pub extern "C" fn zaxbriar_checked_decode(
     let mut reader = Bytes::new(jpeg);
     let outcome = decode_into(alloc, &mut reader, options, pixels, picture);
     picture.stream_bytes = jpeg.len().saturating_sub(reader.left()) as u64;
+    let feature = feature_told(&outcome);
+    picture.feature = feature.number;
+    picture.feature_argument = feature.argument;
     answer(alloc, outcome, &mut picture.text)
 }
 
@@ -179,8 +196,9 @@ pub extern "C" fn zaxbriar_checked_metadata(
     ensures room { length jpeg.now < 2 ^ 64 → result ≡ 5
         → IsLonger (said_of kind jpeg.now) (length buffer.old) count.new }
 
-    // A kind that doesn't exist is refused, whatever the bytes are.
+    // A kind that doesn't exist is refused, whatever the bytes are, and no other is.
     ensures known { (kind ≡ 0) ⊎ (3 < kind) → result ≡ 6 }
+    ensures wrong { result ≡ 6 → (kind ≡ 0) ⊎ (3 < kind) }
 
     // MALFORMED, UNSUPPORTED and TRUNCATED name the header's fault.
     ensures malformed { length jpeg.now < 2 ^ 64 → result ≡ 1 → header_at jpeg.now ≡ Err Malformed }

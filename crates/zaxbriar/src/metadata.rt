@@ -21,6 +21,7 @@ fn copy_data(found: Option<&[u8]>, buffer: &mut [u8], count: &mut u64) -> u32
         → IsCopied (option_copied found.entry) buffer.old buffer.new count.new }
     ensures none { result ≡ 7 → option_copied found.entry ≡ None }
     ensures own { result < 4 → result ≡ 0 }
+    ensures known { result ≡ 6 → ⊥ }
     ensures room { result ≡ 5
         → IsLonger (option_copied found.entry) (length buffer.old) count.new }
     ensures kept { (result ≡ 0 → ⊥) → buffer.new ≡ buffer.old }
@@ -54,6 +55,7 @@ fn copy_profile<R: Read + Drop>(
         → IsLonger (metadata_of 3 decoder.now.found.said.metadata) (length buffer.old)
         count.new) }
     ensures own { IfOk result (λ code. code < 4 → code ≡ 0) }
+    ensures known { IfOk result (λ code. code ≡ 6 → ⊥) }
     ensures kept { IfOk result (λ code. (code ≡ 0 → ⊥) → buffer.new ≡ buffer.old) }
     ensures failed { OnErr result (buffer.new ≡ buffer.old) }
 {
@@ -79,6 +81,7 @@ fn copy_kind<R: Read + Drop>(
         → IsLonger (metadata_of kind decoder.now.found.said.metadata) (length buffer.old)
         count.new) }
     ensures own { IfOk result (λ code. code < 4 → code ≡ 0) }
+    ensures known { IfOk result (λ code. 0 < kind → kind < 4 → code ≡ 6 → ⊥) }
     ensures kept { IfOk result (λ code. (code ≡ 0 → ⊥) → buffer.new ≡ buffer.old) }
     ensures failed { OnErr result (buffer.new ≡ buffer.old) }
 {
@@ -100,8 +103,8 @@ fn read_told<R: Read + Drop>(decoder: &mut Decoder<R>) -> std::result::Result<u3
         → IfOk result (λ code. IsNamed code (header_at decoder.old.source.bytes)) }
     ensures whole { decoder.old.source.known ≡ true
         → IfOk result (λ code. code ≡ 7 → IsOk (header_at decoder.old.source.bytes)) }
-    ensures fails { IfOk result (λ code. (code ≡ 0 → ⊥) × (code ≡ 5 → ⊥)) }
-    ensures other { IfErr result (λ code. 3 < code × (code ≡ 7 → ⊥) × (code ≡ 5 → ⊥)) }
+    ensures fails { IfOk result (λ code. (code ≡ 0 → ⊥) × (code ≡ 5 → ⊥) × (code ≡ 6 → ⊥)) }
+    ensures other { IfErr result (λ code. code ≡ 4) }
 {
     let Err(error) = decoder.read_info() else {
         return Ok(NO_DATA);
@@ -133,6 +136,7 @@ pub fn read_metadata<R: Read + Drop>(
         → IsLonger (said_of kind bytes) (length buffer.old) count.new) }
     ensures named { (bytes : List ℕ) → Tells (R.remaining reader.old) bytes
         → IfOk result (λ code. IsNamed code (header_at bytes)) }
+    ensures known { IfOk result (λ code. 0 < kind → kind < 4 → code ≡ 6 → ⊥) }
     ensures kept { IfOk result (λ code. (code ≡ 0 → ⊥) → buffer.new ≡ buffer.old) }
     ensures failed { OnErr result (buffer.new ≡ buffer.old) }
 {

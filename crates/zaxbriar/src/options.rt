@@ -26,7 +26,9 @@ pub struct Options {
     /// where both are, the picture has its full size.
     pub min_width: u16,
     pub min_height: u16,
-    /// The number of a colour transform in place of the stream's; 0 for the stream's.
+    /// The number of a colour transform in place of the stream's; 0 for the stream's. Without a
+    /// conversion, which is 1, a line has its samples component after component, so that no other
+    /// layout than 0 goes with it.
     pub transform: u8,
     /// The number of a layout; 0 for the picture as it is stored.
     pub layout: u8,
@@ -53,7 +55,7 @@ fn is_denominator(number: u8) -> bool
 pub fn are_known(options: &Options) -> bool
     ensures { result ≡ are_known options.now }
 {
-    options.transform != 1
+    (options.transform != 1 || options.layout == 0)
         && options.transform <= 5
         && is_denominator(options.scale)
         && options.reserved == 0
@@ -66,6 +68,7 @@ fn transform_of(number: u8) -> Option<ColorTransform>
     ensures { result ≡ transform_number number }
 {
     match number {
+        1 => Some(ColorTransform::None),
         2 => Some(ColorTransform::RGB),
         3 => Some(ColorTransform::YCbCr),
         4 => Some(ColorTransform::CMYK),

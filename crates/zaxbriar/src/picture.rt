@@ -1,13 +1,13 @@
 //! What a caller is told of a picture.
 ghost use Rattle.std.specs.Prelude.{◌≡◌, ◌≤◌, ◌+◌};
 ghost use Rattle.zaxbriar.specs.Limits.{bytes_beside};
-ghost use Rattle.zaxbriar.specs.Lines.{process_number, described_picture};
+ghost use Rattle.zaxbriar.specs.Lines.{described_picture, format_number, process_number};
 
 use crate::answers::TEXT_BYTES;
 use crate::header::Header;
 use crate::limits::bytes_beside;
 use crate::lines::{Lines, bytes_a_sample, samples_a_pixel, size_of_lines};
-use jpeg_decoder::CodingProcess;
+use jpeg_decoder::{CodingProcess, PixelFormat};
 
 /// A picture as decoding with some options gives it: `zaxbriar_picture` of the header.
 #[repr(C)]
@@ -38,8 +38,13 @@ pub struct Picture {
     pub process: u8,
     /// The orientation by the Exif data, 1 to 8.
     pub orientation: u8,
+    /// The number of the format.
+    pub format: u8,
+    /// After a refusal for a feature, the number of it, and what the stream asks for.
+    pub feature: u8,
+    pub feature_argument: u8,
     /// Zero.
-    pub reserved: [u8; 33],
+    pub reserved: [u8; 30],
     /// Why a call failed, ended by a zero; all zeros after a success.
     pub text: [u8; TEXT_BYTES],
 }
@@ -59,7 +64,10 @@ pub const NO_PICTURE: Picture = Picture {
     sample_bytes: 0,
     process: 0,
     orientation: 0,
-    reserved: [0; 33],
+    format: 0,
+    feature: 0,
+    feature_argument: 0,
+    reserved: [0; 30],
     text: [0; TEXT_BYTES],
 };
 
@@ -71,6 +79,18 @@ fn process_number(process: CodingProcess) -> u8
         CodingProcess::DctSequential => 1,
         CodingProcess::DctProgressive => 2,
         CodingProcess::Lossless => 3,
+    }
+}
+
+/// Returns the number of a format.
+fn format_number(format: PixelFormat) -> u8
+    ensures { result ≡ format_number format }
+{
+    match format {
+        PixelFormat::L8 => 1,
+        PixelFormat::L16 => 2,
+        PixelFormat::RGB24 => 3,
+        PixelFormat::CMYK32 => 4,
     }
 }
 
@@ -97,7 +117,10 @@ pub fn picture_of(header: Header, lines: Lines, layout: u8) -> Picture
         sample_bytes: bytes_a_sample(header.precision),
         process: process_number(header.info.coding_process),
         orientation: header.orientation,
-        reserved: [0; 33],
+        format: format_number(header.info.pixel_format),
+        feature: 0,
+        feature_argument: 0,
+        reserved: [0; 30],
         text: [0; TEXT_BYTES],
     }
 }
