@@ -27,7 +27,7 @@ use Rattle.jpeg_bits.proofs.BufferedBits.{has_bits-buffered, advance-buffered, f
 use Rattle.jpeg_bits.proofs.ShortLemmas.{length-next_bits, fewer-buffered, eleven_padded}
 use Rattle.jpeg_bits.proofs.ShortLemmas.{symbol_found}
 use Rattle.jpeg_bits.proofs.BlockParts.{IsAtIndex, band_from, index-end, index-last}
-use Rattle.jpeg_bits.proofs.WideTokens.{Seen, One, Two, pair-seen, pair_small, index-pair, token-seen, none_left}
+use Rattle.jpeg_bits.proofs.WideTokens.{Seen, pair-seen, pair_small, index-pair, token-seen, none_left}
 use Rattle.jpeg_bits.proofs.WideTokens.{advanced, front-text, bits_after}
 
 -- each entry is small
@@ -48,7 +48,6 @@ pub data Found (table : Table) (bits : List Bool) : Pair → Type 0 where
   Plain : (p : Pair) → p.passed < 64 → Seen table bits p → Found table bits p
   Then : (p : Pair) (size : ℕ) → p.passed < 64 → Seen table bits p → EndsAfter table bits p.bits size
       → Found table bits (after_values p size)
-  Last : (size : ℕ) → EndsAfter table bits 0 size → Found table bits (end_alone size)
 
 pub pair-found : (table : Table) (bits : List Bool) (p : Pair) → IsPairOf table bits p → p.passed % 128 < 64
     → Found table bits p
@@ -59,7 +58,14 @@ pair-found table bits p (Values most) h =
 pair-found table bits p (Ended size most e) h =
     let less : (pair_of table bits).passed < 64 = omega (arith, h, most) in
     Then (pair_of table bits) size less (pair-seen table bits (pair_of table bits) refl less) e
-pair-found table bits p (Alone size e) h = Last size e
+pair-found table bits p (Alone size e) h = absurd (omega (arith, h))
+
+pub end-found : (table : Table) (bits : List Bool) (p : Pair) → IsPairOf table bits p → p.passed ≡ 127
+    → EndsAfter table bits 0 p.bits
+end-found table bits p Nothing h = absurd (omega (arith, h))
+end-found table bits p (Values most) h = absurd (omega (arith, h, most))
+end-found table bits p (Ended size most e) h = absurd (omega (arith, h))
+end-found table bits p (Alone size e) h = e
 
 -- ---- how the end of a block is read
 
@@ -106,16 +112,16 @@ module _ (table : Table) (counted : length table.counts ≡ 16) (d : Ahead) (fil
       (before : IsAtIndex table p first a old block at b cur)
       (buffered : Takes (λ (u : Unit {0}). 0) same_text b cur (Ok tt) d mid) where
     -- The values of an entry are written, and its bits are taken.
-    pub index-entry : (pair : Pair) → Found table (next_bits 11 d.bits) pair → (pair.passed ≡ 129 → ⊥)
+    pub index-entry : (pair : Pair) → Found table (next_bits 11 d.bits) pair
         → at + pair.passed % 128 ≤ end → true ≡ is_ok (has_buffered pair.bits d.bits d.met) → (e : Ahead)
         → e.bits ≡ drop pair.bits d.bits → e.met ≡ d.met
         → (x y : ℤ) → x ≡ wrapped (pair.first *ℤ pos (2 ^ p.al)) → y ≡ wrapped (pair.second *ℤ pos (2 ^ p.al))
         → IsAtIndex table p first a old (set (set block (get_or zigzag (at + pair.run) 0) x)
         (get_or zigzag (at + pair.next) 0) y) (at + pair.passed) e mid
-    index-entry pair (Plain _ less seen) some room ok e bits met x y value other =
+    index-entry pair (Plain _ less seen) room ok e bits met x y value other =
         index-pair table counted d filled mid p first a b old cur block at end pass last from long before buffered
         pair seen (omega (arith, room, less)) ok e bits met x y value other
-    index-entry _ (Then q size less seen is) some room ok e bits met x y value other =
+    index-entry _ (Then q size less seen is) room ok e bits met x y value other =
         let enough = ok_unit _ (sym ok) in
         let c : Ahead = record { bits = drop q.bits d.bits; met = d.met } in
         let at' = at + q.passed in
@@ -127,24 +133,16 @@ module _ (table : Table) (counted : length table.counts ≡ 16) (d : Ahead) (fil
         (get_or zigzag (at + q.next) 0) y) at' end pass last (omega arith) left here
         (refl, λ known. (known, refl)) (at + (129 + q.passed)) (omega (arith, last, pass.end))
         (Takes-end (end - at') q.bits size e is enough bits met)
-    index-entry _ (Last size is) some room ok e bits met x y value other = absurd (some refl)
 
     -- the end alone
-    pub index-alone : (pair : Pair) → Found table (next_bits 11 d.bits) pair → pair.passed ≡ 129 → at < end
-        → true ≡ is_ok (has_buffered pair.bits d.bits d.met) → (e : Ahead)
-        → e.bits ≡ drop pair.bits d.bits → e.met ≡ d.met
+    pub index-alone : (n : ℕ) → EndsAfter table (next_bits 11 d.bits) 0 n → at < end
+        → true ≡ is_ok (has_buffered n d.bits d.met) → (e : Ahead) → e.bits ≡ drop n d.bits → e.met ≡ d.met
         → Takes (λ (run : ℕ). (band_in p block, run)) (band_from table p first) a old (Ok 0) e mid
-    index-alone pair (Plain _ less seen) is lt ok e bits met = absurd (omega (arith, is, less))
-    index-alone _ (Then q size less seen h) is lt ok e bits met = absurd (some-passed q seen (omega (arith, is)))
-      where
-        some-passed : (q : Pair) → Seen table (next_bits 11 d.bits) q → q.passed ≡ 0 → ⊥
-        some-passed _ (One v r n h) none = omega (arith, none)
-        some-passed _ (Two v r n w q m few h k) none = omega (arith, none)
-    index-alone _ (Last size is) h lt ok e bits met =
-        let more : size ≡ 0 + size = omega arith in
+    index-alone n is lt ok e bits met =
+        let more : n ≡ 0 + n = omega arith in
         let enough = subst (λ (k : ℕ). has_buffered k d.bits d.met ≡ Ok tt) more (ok_unit _ (sym ok)) in
         index-last table p first a b d e old cur mid mid block at end pass last from lt before buffered (Rest 0) 0
-        (Takes-end (end - at) 0 size e is enough (bits ∙ ap (λ (k : ℕ). drop k d.bits) more) met) refl
+        (Takes-end (end - at) 0 n e is enough (bits ∙ ap (λ (k : ℕ). drop k d.bits) more) met) refl
 
 -- ---- how the table is filled
 

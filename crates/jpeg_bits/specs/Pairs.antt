@@ -57,10 +57,10 @@ pair_of table bits =
 abbrev pub after_values : Pair → ℕ → Pair
 after_values p size = record p { passed = 129 + p.passed; bits = p.bits + size }
 
--- the end of the block alone
+-- The end of the block alone, which is told by a number of coefficients that no band has.
 abbrev pub end_alone : ℕ → Pair
 end_alone size =
-    record { first = pos 0; second = pos 0; run = 0; next = 0; passed = 129; bits = size }
+    record { first = pos 0; second = pos 0; run = 0; next = 0; passed = 127; bits = size }
 
 -- the end of the block after a pair
 unfoldable pub with_end : Pair → ℕ → Pair

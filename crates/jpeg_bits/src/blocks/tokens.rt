@@ -191,13 +191,13 @@ fn read_first_coefficients<R: Read + Drop>(
         let count = usize::from(pair.bits);
         let passed = usize::from(pair.passed);
         if passed % 128 <= end - at && buffered.has(count) {
-            buffered.skip(count);
-            if passed == 129 {
-                return Some(0);
-            }
             block[index_of(at + usize::from(pair.run))] = shifted(pair.first, pass.al);
             block[index_of(at + usize::from(pair.next))] = shifted(pair.second, pass.al);
             at += passed;
+            buffered.skip(count);
+        } else if passed == 127 && buffered.has(count) {
+            buffered.skip(count);
+            return Some(0);
         } else {
             let Some(token) = read_token(buffered, source, table, end - at, refusal) else {
                 return None;

@@ -21,8 +21,8 @@ pub(crate) struct Pair {
     pub(crate) next: u8,
     /// How many coefficients there are, the zeros among them, and 129 more where the end of the
     /// block follows: it is coded where there is one coefficient more at least, and 128 are more
-    /// than any band has. Where there is no value and no end, they are more than any band leaves
-    /// room for.
+    /// than any band has. Where there is no value it is 127 for the end, and 64 for no end: more
+    /// than any band has, modulo 128 too.
     pub(crate) passed: u8,
     /// How many bits they take.
     pub(crate) bits: u8,
@@ -89,7 +89,7 @@ fn with_end(pair: Pair, size: u8) -> Pair
             second: 0,
             run: 0,
             next: 0,
-            passed: 129,
+            passed: 127,
             bits: size,
         };
     }

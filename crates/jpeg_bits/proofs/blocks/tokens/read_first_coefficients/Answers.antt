@@ -1,10 +1,10 @@
 use Rattle.jpeg_bits.proofs.blocks.tokens.read_first_coefficients.Goals as goal
-use Rattle.std.proofs.Common.{◌≡◌, ◌+◌, ◌-◌, ◌%◌, ◌<◌, ◌≤◌, ◌∙◌, length-set, refl, sym, FitsSigned, w16}
+use Rattle.std.proofs.Common.{◌+◌, ◌-◌, ◌%◌, ◌<◌, ◌≤◌, ◌∙◌, length-set, refl, sym, FitsSigned, w16}
 use Rattle.std.proofs.Common.{rules, arith}
 use Rattle.std.proofs.lemmas.Int.{to_z-of_z}
 use Rattle.jpeg_bits.proofs.BlockParts.{index-value, index-sixteen, index-all, index-last}
 use Rattle.jpeg_bits.proofs.BlockParts.{index-refused, index-none}
-use Rattle.jpeg_bits.proofs.PairEntries.{pair-found, index-entry, index-alone}
+use Rattle.jpeg_bits.proofs.PairEntries.{pair-found, end-found, index-entry, index-alone}
 use Rattle.jpeg_bits.specs.ShortCodes.{next_bits}
 use Rattle.jpeg_bits.proofs.ZigzagIndices.{kept-set}
 
@@ -95,7 +95,6 @@ loop-at-preserved-then-has g c =
     let is = c.from-passed.ensures in
     let run = c.next_pair-pair.ensures.small.first in
     let next = c.next_pair-pair.ensures.small.second in
-    let some : pair.passed ≡ 129 → ⊥ = λ e. c.if-passed-eq129.false (is ∙ e) in
     let found = pair-found c.args.table.now (next_bits 11 d.bits) pair c.next_pair-pair.ensures.pair (omega arith) in
     let back = to_z-of_z w16 c.shifted.result (record { sfits = c.shifted.type_inv }) in
     let back' = to_z-of_z w16 c.shifted-then-has.result (record { sfits = c.shifted-then-has.type_inv }) in
@@ -114,25 +113,26 @@ loop-at-preserved-then-has g c =
       from = omega arith;
       text = index-entry c.args.table.now c.next_pair-pair.ensures.counted d filled c.fill.new.source _ _ _ _
           c.args.source.now l.source _ _ _ c.requires.pass end from l.invariant.len l.invariant.text
-          c.if-not-fill.ensures.holds pair found some room enough c.skip.new.self taken c.skip.ensures.met _ _ value value';
+          c.if-not-fill.ensures.holds pair found room enough c.skip.new.self taken c.skip.ensures.met _ _ value value';
       others = kept-set _ _ (l.at + pair.next) _ _ _
           (length-set _ _ _ ∙ l.invariant.len) (omega arith) (omega arith) (omega arith)
           (kept-set _ _ (l.at + pair.run) _ _ _ l.invariant.len (omega arith) (omega arith) (omega arith)
           l.invariant.others);
     }
 
-pub returns-then-passed-eq129-clause-band : goal.returns-then-passed-eq129-clause-band
-returns-then-passed-eq129-clause-band g c =
+pub returns-then-has-2-clause-band : goal.returns-then-has-2-clause-band
+returns-then-has-2-clause-band g c =
     let l = c.loop-at in
     let d = c.fill.new.self in
     let pair = c.next_pair-pair.result in
     let end = c.band_end-end.ensures in
     let from = l.invariant.from in
-    let alone = sym c.from-passed.ensures ∙ c.if-passed-eq129.true in
-    let found = pair-found c.args.table.now (next_bits 11 d.bits) pair c.next_pair-pair.ensures.pair (omega arith) in
-    let enough = rw c.from-count.ensures at c.if-has.ensures in
-    let taken = rw c.from-count.ensures at c.skip.ensures.bits in
+    let alone = sym c.from-passed.ensures ∙ c.if-passed-eq127.true in
+    let found = end-found c.args.table.now (next_bits 11 d.bits) pair c.next_pair-pair.ensures.pair alone in
+    let enough = rw c.from-count.ensures at c.if-has-2.ensures in
+    let taken = rw c.from-count.ensures at c.skip-then-has-2.ensures.bits in
     let filled = c.if-not-fill.ensures.full refl in
     index-alone c.args.table.now c.next_pair-pair.ensures.counted d filled c.fill.new.source _ _ _ _
     c.args.source.now l.source _ _ _ c.requires.pass end from l.invariant.len l.invariant.text
-    c.if-not-fill.ensures.holds pair found alone c.loop-at-test.true enough c.skip.new.self taken c.skip.ensures.met
+    c.if-not-fill.ensures.holds pair.bits found c.loop-at-test.true enough c.skip-then-has-2.new.self taken
+    c.skip-then-has-2.ensures.met
