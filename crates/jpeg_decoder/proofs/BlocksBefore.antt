@@ -1,12 +1,7 @@
 -- What a scan begins with, what it finishes, and the length of a plane.
-use Rattle.std.proofs.Common.{◌≡◌, ◌≢◌, ◌≤◌, ℕ, zero, suc, ◌-◌, ◌*◌, ℤ, pos, Bool, true, List, ◌∷◌}
+use Rattle.std.proofs.Common.{◌≡◌, ◌≢◌, ◌≤◌, ℕ, zero, suc, ◌-◌, ◌*◌, pos, Bool, true, List, ◌∷◌}
 use Rattle.std.proofs.Common.{◌++◌, refl, ap, ◌∙◌, length, map, take, drop, replicate, arith}
-use Rattle.std.proofs.Common.{ne_eqb, Result, Ok, Err}
-use Rattle.std.specs.Prelude.{IfOk}
-use Rattle.std.specs.Array.{AllZipBelow}
-use Rattle.std.specs.List.{each_same}
-use Rattle.std.specs.declared.alloc.Global.{Global}
-use Rattle.std.specs.declared.vec.Vec.{Vec}
+use Rattle.std.proofs.Common.{ne_eqb}
 use Rattle.std.proofs.lemmas.List.{drop-drop, take_all}
 use Rattle.std.proofs.lemmas.List.FromFn.{length-map-range_with_len}
 use Rattle.jpeg_bits.specs.BlockView.{to_block}
@@ -14,7 +9,6 @@ use Rattle.jpeg_bits.specs.Passes.{Block, Pass, zero_block}
 use Rattle.jpeg_bits.specs.Zigzag.{coefficients_in_zigzag}
 use Rattle.jpeg_segments.specs.Frame.{Component}
 use Rattle.jpeg_pixels.specs.Planes.{plane_of}
-use Rattle.jpeg_decoder.specs.Scanning.{blocks_in}
 use Rattle.jpeg_streams.specs.Scans.{zero_of, zero_arrays}
 use Rattle.jpeg_streams.specs.Rasters.{plane_by, plane_of_blocks}
 use Rattle.jpeg_streams.specs.ScanSegments.{finished_by}
@@ -26,17 +20,6 @@ pub zero-blocks : (n : ℕ) → map to_block (replicate n (replicate 64 (pos 0))
 unfolding zero_block coefficients_in_zigzag
 zero-blocks zero = refl
 zero-blocks (suc n) = ap (λ (l : List Block). zero_block ∷ l) (zero-blocks n)
-
--- the blocks of a component, as many as they are
-pub zeros-made : {E : Type 0} (r : Result (Vec (List ℤ) Global) E) (c : Component) (n : ℕ)
-    → n ≡ c.blocks_high * c.blocks_wide
-    → IfOk r (λ v. ((y : List ℤ) → AllZipBelow (λ x y. y ≡ x) (replicate 64 (pos 0)) y 64 → y ≡ replicate 64 (pos 0))
-    → v.items ≡ replicate n (replicate 64 (pos 0)))
-    → IfOk r (λ v. blocks_in v ≡ zero_of c)
-zeros-made (Err e) c n h f = tt
-zeros-made (Ok v) c n h f =
-    ap (map to_block) (f (λ y z. each_same (replicate 64 (pos 0)) y z.whole)) ∙ zero-blocks n
-    ∙ ap (λ (k : ℕ). replicate k zero_block) h
 
 -- ---- the marks of a pass
 

@@ -1,52 +1,67 @@
 -- Blocks that are kept, as they are read and put back.
 use Rattle.std.proofs.Common.{rules, ◌≡◌, ℕ, zero, suc, ◌+◌, ◌<◌, List, ◌∷◌, length, get_or, set, ℤ}
-use Rattle.std.proofs.Common.{pos, Ok, Err, refl, ap, ◌∙◌, arith, length-set, Bool, Result, []}
-use Rattle.std.specs.declared.alloc.Global.{Global}
-use Rattle.std.specs.declared.vec.Vec.{Vec}
-use Rattle.std.specs.Vec.{with_item}
-use Rattle.std.proofs.lemmas.List.{get_or-map, map-set}
+use Rattle.std.proofs.Common.{pos, Ok, Err, refl, sym, ap, ◌∙◌, subst, arith, Bool, Result, []}
+use Rattle.std.proofs.lemmas.List.{get_or-map, length-set, map-set}
 use Rattle.jpeg_bits.specs.Reading.{Fault}
-use Rattle.jpeg_bits.specs.Entropy.{Text}
+use Rattle.jpeg_bits.specs.Entropy.{Ahead, Text}
+use Rattle.jpeg_bits.specs.Stream.{Stream}
+use Rattle.jpeg_bits.proofs.BandLoop.{Leaves}
 use Rattle.jpeg_bits.specs.Readers.{Reads, gives, read_on}
-use Rattle.jpeg_bits.specs.Passes.{Pass, Via, Block, block_from}
+use Rattle.jpeg_bits.specs.Passes.{Pass, Via, Block, block_from, zero_block}
 use Rattle.jpeg_streams.specs.Order.{Spot}
-use Rattle.jpeg_streams.specs.Scans.{block_at, put_block, via_at}
-use Rattle.jpeg_streams.specs.InTurn.{Reached, turn_from}
+use Rattle.jpeg_streams.specs.Scans.{Arrays, block_at, put_block, via_at}
+use Rattle.jpeg_streams.specs.InTurn.{Counted, Reached, blocks_from, turn_from}
+use Rattle.jpeg_decoder.specs.declared.scan.blocks.Interval.{Interval}
 use Rattle.jpeg_decoder.specs.declared.scan.coded.Coded.{Coded}
 use Rattle.jpeg_bits.specs.BlockView.{to_block}
 use Rattle.jpeg_bits.specs.Skips.{kept, kept_turn}
-use Rattle.jpeg_decoder.specs.Scanning.{IsSpotOf, vias_in, arrays_in, sizes_of}
+use Rattle.jpeg_decoder.specs.Scanning.{IsSpotOf, IsStored, vias_in, arrays_in, blocks_in, sizes_of}
+use Rattle.jpeg_decoder.specs.Scanning.{counted, kept_blocks}
+use Rattle.jpeg_decoder.proofs.BlockArrays.{Held, block-set, block-there, seen-count, sizes-long, sizes-put}
+use Rattle.jpeg_decoder.proofs.BlockArrays.{with_block}
 use Rattle.jpeg_decoder.proofs.KeptScans.{kept_reached, kept_read, put-kept}
 use Rattle.std.proofs.lemmas.Grind.{common_steps}
-
-abbrev pub Held : Type 0
-Held = Vec (List ℤ) Global
 
 abbrev pub spot : ℕ → ℕ → Spot
 spot slot index = record { slot = slot; index = index }
 
 pub sizes-set : (vs : List Held) (slot index : ℕ) (v : Held) (x : List ℤ) → v ≡ get_or vs slot v
-    → sizes_of (set vs slot (with_item v index x)) ≡ sizes_of vs
-sizes-set [] slot index v x e = refl
-sizes-set (w ∷ vs) zero index v x e = grind (arith, common_steps, length-set)
-sizes-set (w ∷ vs) (suc slot) index v x e = ap (λ (l : List ℕ). length w.items ∷ l) (sizes-set vs slot index v x e)
+    → sizes_of (set vs slot (with_block v index x)) ≡ sizes_of vs
+sizes-set vs slot index v x e =
+    let count = length-set v.blocks.items index x in
+    sizes-put vs slot v (with_block v index x)
+    (omega (arith, seen-count (with_block v index x), seen-count v, count)) e
 
-pub sizes-long : (vs : List Held) → length (sizes_of vs) ≡ length vs
-sizes-long [] = refl
-sizes-long (v ∷ vs) = ap (λ (n : ℕ). suc n) (sizes-long vs)
-
-pub size-at : (vs : List Held) (slot : ℕ) (v : Held) → slot < length (sizes_of vs) → v ≡ get_or vs slot v
-    → get_or (sizes_of vs) slot 0 ≡ length v.items
-size-at vs slot v h e = grind (arith, common_steps, get_or-map, sizes-long)
+array-there : (vs : List Held) (slot : ℕ) (v : Held) → slot < length vs → v ≡ get_or vs slot v
+    → get_or (arrays_in vs) slot [] ≡ blocks_in v
+array-there vs slot v h e = get_or-map blocks_in vs slot v [] h ∙ ap blocks_in (sym e)
 
 arrays-set : (vs : List Held) (slot index : ℕ) (v : Held) (x : List ℤ) → slot < length vs → v ≡ get_or vs slot v
-    → arrays_in (set vs slot (with_item v index x)) ≡ put_block (spot slot index) (to_block x) (arrays_in vs)
-arrays-set vs slot index v x h e = grind (arith, common_steps, map-set, get_or-map)
+    → index < length v.blocks.items
+    → arrays_in (set vs slot (with_block v index x)) ≡ put_block (spot slot index) (to_block x) (arrays_in vs)
+arrays-set vs slot index v x h e i =
+    map-set blocks_in vs slot (with_block v index x)
+    ∙ ap (λ (l : List Block). set (arrays_in vs) slot l)
+    (block-set v index x i ∙ ap (λ (l : List Block). set l index (to_block x)) (sym (array-there vs slot v h e)))
 
 block-kept : (vs : List Held) (slot index : ℕ) (v : Held) (x : List ℤ) → slot < length vs → v
-    ≡ get_or vs slot v → index < length v.items → x ≡ get_or v.items index x
+    ≡ get_or vs slot v → index < length v.blocks.items → x ≡ get_or v.blocks.items index x
     → block_at (arrays_in vs) (spot slot index) ≡ to_block x
-block-kept vs slot index v x h e i f = grind (arith, common_steps, get_or-map)
+block-kept vs slot index v x h e i f =
+    ap (λ (l : List Block). get_or l index zero_block) (array-there vs slot v h e) ∙ block-there v index x i f
+
+pub stored-there : (vs : List Held) (slot index : ℕ) (v : Held) → v ≡ get_or vs slot v → IsStored vs slot index
+    → index < length v.blocks.items
+stored-there vs slot index v e h = subst (λ (a : Held). index < length a.blocks.items) (sym e) (h v)
+
+-- The same blocks leave the same to read.
+pub reached-alike : (keeps : Bool) (p : Pass) (vias : List Via) (n : ℕ) (spots : List Spot) (i : Interval)
+    (old new : Arrays) (start : Ahead) (source now : Stream) (whole : Reads Counted) → new ≡ old
+    → Leaves whole start source (kept_blocks keeps (blocks_from p vias n spots (counted i old))) i.decoder now
+    → Leaves whole start source (kept_blocks keeps (blocks_from p vias n spots (counted i new))) i.decoder now
+reached-alike keeps p vias n spots i old new start source now whole e h =
+    subst (λ (a : Arrays). Leaves whole start source (kept_blocks keeps (blocks_from p vias n spots
+    (counted i a))) i.decoder now) (sym e) h
 
 abbrev pub via_of : ℕ → Coded → Via
 via_of slot c = record { component = slot; dc = c.dc.now; ac = c.ac.now }
@@ -95,13 +110,10 @@ put-as-kept keeps slot index old b next more (Err f) u e = cc
 module _ (p : Pass) (cs : List Coded) (slot index : ℕ) (c : Coded) (vs : List Held) (v : Held) (x : List ℤ)
     (predictors : List ℤ) (run : ℕ) (z : ℤ)
     (of : IsSpotOf (length cs) (sizes_of vs) (spot slot index)) (is : c ≡ get_or cs slot c)
-    (array : v ≡ get_or vs slot v) (block : x ≡ get_or v.items index x)
+    (array : v ≡ get_or vs slot v) (within : index < length v.blocks.items) (block : x ≡ get_or v.blocks.items index x)
     (predictor : z ≡ get_or predictors slot (pos 0)) where
   inside : slot < length vs
   inside = omega (arith, of.kept.has_slot, sizes-long vs)
-
-  within : index < length v.items
-  within = omega (arith, of.kept.has_index, size-at vs slot v of.kept.has_slot array)
 
   abbrev old : Reached
   old = record { arrays = arrays_in vs; predictors = predictors; run = run }
@@ -120,10 +132,10 @@ module _ (p : Pass) (cs : List Coded) (slot index : ℕ) (c : Coded) (vs : List 
       → read_on (kept_read keeps) (turn_from p (vias_in 0 cs) (spot slot index) old t)
       ≡ Ok (
         kept_reached keeps (record {
-          arrays = arrays_in (set vs slot (with_item v index y));
+          arrays = arrays_in (set vs slot (with_block v index y));
           predictors = set predictors slot next;
           run = more;
         }),
         u,
       )
-  turn-kept keeps y next more t u e = search (rules, turn-is, arrays-set, inside, put-as-kept)
+  turn-kept keeps y next more t u e = search (rules, turn-is, arrays-set, inside, within, put-as-kept)

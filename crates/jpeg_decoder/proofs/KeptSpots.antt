@@ -1,11 +1,10 @@
 -- The blocks of a scan are kept: of all components of a scan, or of a row of MCUs.
 use Rattle.std.proofs.Common.{rules, ◌≡◌, inl, inr, ℕ, zero, suc, ◌+◌, ◌<◌, List, [], ◌∷◌, map}
-use Rattle.std.proofs.Common.{drop, length, get_or, refl, sym, ap, arith}
+use Rattle.std.proofs.Common.{drop, length, get_or, refl, ap, arith}
 use Rattle.std.proofs.lemmas.List.{length-map}
 use Rattle.std.specs.List.{AllByRecursion, range_with_len}
 use Rattle.jpeg_segments.specs.Frame.{Frame, Component}
 use Rattle.jpeg_segments.specs.FrameView.{component_in}
-use Rattle.jpeg_bits.specs.BlockView.{to_block}
 use Rattle.jpeg_streams.specs.Order.{Spot, spots_of}
 use Rattle.jpeg_streams.specs.InTurn.{IsIn, IsInside, Fits, AreArrays}
 use Rattle.jpeg_streams.specs.McuRows.{mcu_row, rows_of}
@@ -15,13 +14,13 @@ use Rattle.jpeg_streams.proofs.McuRows.{AreRows, row-inside, rows-count}
 use Rattle.jpeg_decoder.specs.declared.scan.coded.Coded.{Coded}
 use Rattle.jpeg_decoder.specs.Scanning.{IsSpotOf, arrays_in, blocks_in, sizes_of, components_in}
 use Rattle.jpeg_decoder.specs.Strips.{row_sizes}
-use Rattle.jpeg_decoder.proofs.KeptBlocks.{Held, sizes-long}
+use Rattle.jpeg_decoder.proofs.BlockArrays.{Held, sizes-long}
 use Rattle.std.proofs.lemmas.Grind.{common_steps}
 
 kept-long : (vs : List Held) (slot : ℕ) → slot < length vs
     → get_or (sizes_of vs) slot 0 ≡ length (get_or (arrays_in vs) slot [])
 kept-long [] slot h = absurd (omega arith)
-kept-long (v ∷ vs) zero h = sym (length-map v.items to_block)
+kept-long (v ∷ vs) zero h = refl
 kept-long (v ∷ vs) (suc slot) h = kept-long vs slot (omega arith)
 
 arrays-long : (vs : List Held) → length (arrays_in vs) ≡ length vs

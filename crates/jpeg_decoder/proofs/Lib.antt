@@ -8,6 +8,7 @@ pub mod HeaderThenRest
 pub mod DecodedInto
 mod ScaledHeaders
 pub mod Ratios
+pub mod BlockArrays
 pub mod KeptBlocks
 pub mod Walks
 pub mod OrderedWalks

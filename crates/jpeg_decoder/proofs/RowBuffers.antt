@@ -1,23 +1,24 @@
 -- The blocks of a row of MCUs, as they are cleared and as their samples are appended.
-use Rattle.std.proofs.Common.{rules, ◌≡◌, ℕ, zero, suc, ◌+◌, ◌*◌, ◌<◌, ◌≤◌, List, [], ◌∷◌, ◌++◌}
-use Rattle.std.proofs.Common.{map, length, get_or, set, replicate, pos, refl, sym, ap, ◌∙◌, arith}
+use Rattle.std.proofs.Common.{rules, ◌≡◌, ℕ, ◌+◌, ◌*◌, ◌<◌, ◌≤◌, List, [], ◌++◌}
+use Rattle.std.proofs.Common.{map, length, get_or, set, replicate, pos, sym, ap, ◌∙◌, arith}
 use Rattle.std.proofs.Common.{take, append_assoc, append-nil}
 use Rattle.std.proofs.lemmas.Grind.{common_steps}
 use Rattle.std.proofs.lemmas.List.{length-map, map-set, length-replicate, get_or-map, take_all}
 use Rattle.std.proofs.lemmas.List.Folds.{concat-append}
 use Rattle.std.specs.List.{concat}
+use Rattle.std.specs.Prelude.{All}
 use Rattle.std.specs.declared.alloc.Global.{Global}
 use Rattle.std.specs.declared.vec.Vec.{Vec}
 use Rattle.jpeg_bits.specs.BlockView.{to_block}
 use Rattle.jpeg_streams.specs.ScanSegments.{Coding}
 use Rattle.jpeg_decoder.specs.Steps.{coding_in}
-use Rattle.jpeg_decoder.specs.Scanning.{arrays_in, blocks_in, sizes_of, down_in, wide_in}
+use Rattle.jpeg_decoder.specs.Scanning.{arrays_in, blocks_in, sizes_of, down_in, wide_in, IsFull}
+use Rattle.jpeg_bits.specs.Passes.{Block, zero_block}
 use Rattle.jpeg_decoder.specs.Strips.{plane_lists, row_sizes, zeros_of, samples_of, strips_of}
 use Rattle.jpeg_decoder.specs.Strips.{tables_of, with_strips}
 use Rattle.jpeg_bits.specs.Zigzag.{values_in_block_order}
 use Rattle.jpeg_decoder.specs.declared.scan.coded.Coded.{Coded}
-use Rattle.jpeg_decoder.proofs.BlocksBefore.{zero-blocks}
-use Rattle.jpeg_decoder.proofs.KeptBlocks.{Held, sizes-long, size-at}
+use Rattle.jpeg_decoder.proofs.BlockArrays.{Held, cleared, full-count, full-there, sizes-long, sizes-put, size-at}
 use Rattle.jpeg_streams.proofs.InPlace.{patched, patched-next, patched-at, patched-all}
 use Rattle.jpeg_streams.proofs.InPlace.{patched-length}
 use Rattle.jpeg_decoder.proofs.StripRows.{strip-of, strips-at, strips-length, strips-none}
@@ -26,25 +27,21 @@ use Rattle.jpeg_decoder.proofs.StripRows.{strips_of-length}
 abbrev pub Plane : Type 0
 Plane = Vec ℕ Global
 
-pub sizes-put : (vs : List Held) (slot : ℕ) (v w : Held) → length w.items ≡ length v.items → v ≡ get_or vs slot v
-    → sizes_of (set vs slot w) ≡ sizes_of vs
-sizes-put [] slot v w l e = refl
-sizes-put (u ∷ vs) zero v w l e = ap (λ (n : ℕ). n ∷ sizes_of vs) (l ∙ ap (λ (x : Held). length x.items) e)
-sizes-put (u ∷ vs) (suc slot) v w l e = ap (λ (m : List ℕ). length u.items ∷ m) (sizes-put vs slot v w l e)
-
 -- ---- rows that are cleared
 
 pub cleared-next : (old items : List Held) (i : ℕ) (v w : Held) → i < length items → sizes_of items ≡ sizes_of old
-    → arrays_in items ≡ patched i (zeros_of (sizes_of old)) (arrays_in old) → v ≡ get_or items i v → w.items
-    ≡ replicate (length v.items) (replicate 64 (pos 0))
+    → arrays_in items ≡ patched i (zeros_of (sizes_of old)) (arrays_in old) → v ≡ get_or items i v → w.count ≡ v.count
+    → w.blocks.items ≡ replicate (length v.blocks.items) (replicate 64 (pos 0))
     → (sizes_of (set items i w) ≡ sizes_of old) × (arrays_in (set items i w)
     ≡ patched (i + 1) (zeros_of (sizes_of old)) (arrays_in old))
-cleared-next old items i v w h sizes arrays is new =
+cleared-next old items i v w h sizes arrays is count new =
     let size = size-at items i v (omega (arith, sizes-long items)) is in
-    let put = sizes-put items i v w (grind (arith, common_steps, length-replicate)) is in
+    let zeros = cleared v w count new in
+    let put = sizes-put items i v w
+    (ap (λ (l : List Block). length l) zeros ∙ length-replicate (length (blocks_in v)) zero_block) is in
     let next = patched-next (zeros_of (sizes_of old)) (arrays_in old) i (blocks_in w) []
     (grind (arith, common_steps, length-map, sizes-long)) (grind (arith, common_steps, length-map, sizes-long))
-    (grind (arith, common_steps, zero-blocks, get_or-map, sizes-long)) in
+    (grind (arith, common_steps, zeros, get_or-map, sizes-long)) in
     (put ∙ sizes, grind (arith, common_steps, map-set))
 
 -- ---- the tables of the components
@@ -82,15 +79,18 @@ module _ (cs : List Coded) (old : List Held) (sizes : sizes_of old ≡ row_sizes
   strips-long : length strips ≡ length cs
   strips-long = strips_of-length codings (arrays_in old) arrays-long ∙ length-map cs coding_in
 
+  pub row-full : (slot : ℕ) (v : Held) → All IsFull old → slot < length cs → v ≡ get_or old slot v → IsFull v
+  row-full slot v full h is = full-there old slot v full (omega (arith, h, old-long)) is
+
   -- the next component's blocks are those of a row of MCUs
   pub row-size : (slot : ℕ) (c : Coded) (v : Held) → slot < length cs → c ≡ get_or cs slot c
-      → v ≡ get_or old slot v → length v.items ≡ down_in c * wide_in c
-  row-size slot c v h is kept = search (rules, size-at, sizes-long, old-long, get_or-map)
+      → v ≡ get_or old slot v → IsFull v → length v.blocks.items ≡ down_in c * wide_in c
+  row-size slot c v h is kept full = full-count v full ∙ search (rules, size-at, sizes-long, old-long, get_or-map)
 
   -- and these are its samples
   strip-here : (slot : ℕ) (c : Coded) (v : Held) → slot < length cs → c ≡ get_or cs slot c
       → v ≡ get_or old slot v
-      → get_or strips slot [] ≡ samples_of (down_in c) (coding_in c) (map to_block v.items)
+      → get_or strips slot [] ≡ samples_of (down_in c) (coding_in c) (blocks_in v)
   strip-here slot c v h is kept =
       let strip = strip-of codings (arrays_in old) slot (coding_in c) arrays-long
       (omega (arith, length-map cs coding_in)) in
@@ -99,9 +99,9 @@ module _ (cs : List Coded) (old : List Held) (sizes : sizes_of old ≡ row_sizes
   -- the strips so far, in one room
   pub room-next : (slot : ℕ) (c : Coded) (v : Held) (start samples new : List ℕ) → slot < length cs
       → c ≡ get_or cs slot c → v ≡ get_or old slot v → samples ≡ start ++ concat (take slot strips)
-      → new ≡ samples ++ samples_of (down_in c) (coding_in c) (map to_block v.items)
+      → new ≡ samples ++ samples_of (down_in c) (coding_in c) (map to_block v.blocks.items) → IsFull v
       → new ≡ start ++ concat (take (slot + 1) strips)
-  room-next slot c v start samples new h is kept inv more =
+  room-next slot c v start samples new h is kept inv more full =
       let here = strip-here slot c v h is kept in
       grind (arith, common_steps, here, concat-append, append_assoc, append-nil)
 
@@ -127,9 +127,9 @@ module _ (cs : List Coded) (old : List Held) (start : List Plane) (sizes : sizes
   pub planes-next : (planes : List Plane) (slot : ℕ) (c : Coded) (v : Held) (p q : Plane)
       → slot < length cs → c ≡ get_or cs slot c → v ≡ get_or old slot v → plane_lists planes
       ≡ patched slot all (plane_lists start) → p ≡ get_or planes slot p → q.items ≡ p.items
-      ++ samples_of (down_in c) (coding_in c) (map to_block v.items)
+      ++ samples_of (down_in c) (coding_in c) (map to_block v.blocks.items) → IsFull v
       → plane_lists (set planes slot q) ≡ patched (slot + 1) all (plane_lists start)
-  planes-next planes slot c v p q h is kept inv at new =
+  planes-next planes slot c v p q h is kept inv at new full =
       let inside : slot < length (map coding_in cs) = omega (arith, length-map cs coding_in) in
       let next = patched-next all (plane_lists start) slot q.items [] all-long (omega (arith, start-long)) in
       let strip = strips-at (map coding_in cs) (arrays_in old) (plane_lists start) slot (arrays-long cs old sizes)

@@ -33,7 +33,8 @@ use Rattle.jpeg_decoder.specs.Strips.{planes_by, planes_at}
 use Rattle.jpeg_streams.proofs.Apart.{At, zeros-sized, get-at}
 use Rattle.jpeg_decoder.proofs.BlocksBefore.{plane_by-length}
 use Rattle.jpeg_decoder.proofs.PlacedCodings.{coded-components}
-use Rattle.jpeg_decoder.proofs.PutLoops.{Held, blocks-are}
+use Rattle.jpeg_decoder.proofs.BlockArrays.{Held}
+use Rattle.jpeg_decoder.proofs.PutLoops.{blocks-are}
 use Rattle.jpeg_streams.proofs.McuRows.{IsOf, zeros-of}
 use Rattle.std.proofs.lemmas.Grind.{common_steps}
 

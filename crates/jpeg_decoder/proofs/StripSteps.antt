@@ -21,7 +21,7 @@ use Rattle.jpeg_decoder.specs.Steps.{coding_in}
 use Rattle.jpeg_streams.specs.ScanSegments.{Coding, components_of}
 use Rattle.jpeg_decoder.specs.Strips.{row_sizes, strip_samples, samples_of, zeros_of, with_strips}
 use Rattle.jpeg_decoder.specs.Strips.{strips_from}
-use Rattle.jpeg_decoder.proofs.KeptBlocks.{Held, sizes-long}
+use Rattle.jpeg_decoder.proofs.BlockArrays.{Held, sizes-long}
 use Rattle.jpeg_decoder.proofs.OrderedWalks.{one-less}
 use Rattle.std.proofs.lemmas.Grind.{common_steps}
 

@@ -1,8 +1,6 @@
 -- Blocks that are taken out of those that are kept, and put back.
-use Rattle.std.proofs.Common.{rules, ◌≡◌, ◌<◌, ℕ, zero, suc, ◌+◌, ℤ, List, [], ◌∷◌, ◌++◌, refl, sym, ap}
+use Rattle.std.proofs.Common.{rules, ◌≡◌, ◌<◌, ℕ, zero, suc, ◌+◌, List, [], ◌∷◌, ◌++◌, refl, sym, ap}
 use Rattle.std.proofs.Common.{◌∙◌, length, get_or, set, map, take, arith}
-use Rattle.std.specs.declared.alloc.Global.{Global}
-use Rattle.std.specs.declared.vec.Vec.{Vec}
 use Rattle.std.proofs.Math.Logic.{inl, inr}
 use Rattle.std.proofs.lemmas.List.{get_or-map, get_or-set_other, map-append, map-set, set-set, set_comm}
 use Rattle.std.proofs.lemmas.List.{take_more}
@@ -12,6 +10,7 @@ use Rattle.jpeg_streams.specs.InTurn.{AreApart, IsIn}
 use Rattle.jpeg_streams.specs.Scans.{Arrays}
 use Rattle.jpeg_decoder.specs.Scanning.{arrays_in, blocks_in}
 use Rattle.jpeg_decoder.specs.Steps.{blocks_at, coding_in, without_blocks}
+use Rattle.jpeg_decoder.proofs.BlockArrays.{Held}
 use Rattle.jpeg_streams.specs.ScanSegments.{put_arrays, Coding}
 use Rattle.std.proofs.lemmas.Grind.{common_steps}
 
@@ -76,9 +75,6 @@ not-before (x ∷ cs) (suc i) c h e apart (inl same) = apart.0 (is-in cs i c x.i
     is-in (x ∷ cs) (suc i) c p h e same = inr (is-in cs i c p (omega arith) e same)
 not-before (x ∷ cs) (suc i) c h e apart (inr n) = not-before cs i c (omega arith) e apart.1 n
 
-abbrev Held : Type 0
-Held = Vec (List ℤ) Global
-
 blocks-of : (vs : List Held) (i : ℕ) (v : Held) → i < length vs → v ≡ get_or vs i v
     → get_or (arrays_in vs) i [] ≡ blocks_in v
 blocks-of vs i v h e = grind (arith, common_steps, get_or-map)
@@ -95,7 +91,7 @@ taken-more cs i c old now taken v h e apart within is left so_far =
 
 -- and none of its blocks are left
 pub left-more : (cs : List Coded) (i : ℕ) (c : Coded) (old now : List Held) (empty : Held)
-    → i < length cs → c ≡ get_or cs i c → empty.items ≡ [] → arrays_in now
+    → i < length cs → c ≡ get_or cs i c → blocks_in empty ≡ [] → arrays_in now
     ≡ without_blocks (map coding_in (take i cs)) (arrays_in old) → arrays_in (set now c.index empty)
     ≡ without_blocks (map coding_in (take (i + 1) cs)) (arrays_in old)
 left-more cs i c old now empty h e none left = grind (arith, common_steps, map-set, more-codings, left-one)

@@ -1,15 +1,15 @@
 -- What a caller sees of a scan, of what is kept of it, and of the state of an interval.
-use Rattle.std.specs.Prelude.{ℕ, ◌<◌, ◌+◌, List, [], ◌∷◌, map, length, get_or, ℤ, Bool, true, false}
-use Rattle.std.specs.declared.alloc.Global.{Global}
-use Rattle.std.specs.declared.vec.Vec.{Vec}
+use Rattle.std.specs.Prelude.{◌≡◌, ◌<◌, ℕ, ◌+◌, ◌-◌, List, [], ◌∷◌, ◌++◌, map, length, get_or}
+use Rattle.std.specs.Prelude.{replicate, Bool, true, false}
 use Rattle.jpeg_segments.specs.Frame.{Component}
 use Rattle.jpeg_segments.specs.FrameView.{component_in}
-use Rattle.jpeg_bits.specs.Passes.{Pass, Via, Block}
+use Rattle.jpeg_bits.specs.Passes.{Pass, Via, Block, zero_block}
 use Rattle.jpeg_streams.specs.Scans.{Arrays}
 use Rattle.jpeg_streams.specs.InTurn.{Reached, Counted}
 use Rattle.jpeg_streams.specs.McuRows.{on_arrays}
 use Rattle.jpeg_bits.specs.Readers.{Reads, ◌>>=◌, gives}
 use Rattle.jpeg_bits.specs.Skips.{dc_alone}
+use Rattle.jpeg_decoder.specs.declared.scan.block_array.BlockArray.{BlockArray}
 use Rattle.jpeg_decoder.specs.declared.scan.coded.Coded.{Coded}
 use Rattle.jpeg_decoder.specs.declared.scan.blocks.Interval.{Interval}
 use Rattle.jpeg_decoder.specs.declared.scan.coded.Scan.{Scan}
@@ -35,15 +35,26 @@ scan_vias s = vias_in 0 s.components.items
 abbrev pub scan_components : Scan → List Component
 scan_components s = components_in s.components.items
 
-abbrev pub blocks_in : Vec (List ℤ) Global → List Block
-blocks_in v = map to_block v.items
+-- the blocks of a component: those that are stored, and zeros
+unfoldable pub blocks_in : BlockArray → List Block
+blocks_in a = map to_block a.blocks.items
+    ++ replicate (a.count - length a.blocks.items) zero_block
 
-abbrev pub arrays_in : List (Vec (List ℤ) Global) → Arrays
-arrays_in vs = map blocks_in vs
+abbrev pub arrays_in : List BlockArray → Arrays
+arrays_in arrays = map blocks_in arrays
 
 -- how many blocks each array has
-abbrev pub sizes_of : List (Vec (List ℤ) Global) → List ℕ
-sizes_of vs = map (λ v. length v.items) vs
+abbrev pub sizes_of : List BlockArray → List ℕ
+sizes_of arrays = map (λ a. length (blocks_in a)) arrays
+
+-- all blocks are stored
+abbrev pub IsFull : BlockArray → Type 0
+IsFull a = blocks_in a ≡ map to_block a.blocks.items
+
+-- the block of a slot and an index is stored
+abbrev pub IsStored : List BlockArray → ℕ → ℕ → Type 0
+IsStored arrays slot index =
+    (a : BlockArray) → index < length (get_or arrays slot a).blocks.items
 
 abbrev pub reached : Interval → Arrays → Reached
 reached i arrays =

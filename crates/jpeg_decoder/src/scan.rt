@@ -1,5 +1,6 @@
 //! A scan: its tables, the order of its blocks, and what it brings (T.81, B.2.3 and A.2).
 
+pub mod block_array;
 pub mod blocks;
 pub mod coded;
 pub mod codings;

@@ -30,6 +30,7 @@ ghost use Rattle.jpeg_streams.specs.Found.{nothing_found};
 ghost use Rattle.jpeg_decoder.specs.Bytes.{IsWhole, picture_size};
 
 use crate::picture::color_choice::choose_color_transform;
+use crate::scan::block_array::BlockArray;
 use crate::scan::decoded::{Decoded, render};
 use crate::scan::coded::is_progressive;
 use crate::stream::state::State;
@@ -100,9 +101,9 @@ fn are_kept(state: &State, frame: &FrameInfo) -> bool
 fn take_kept(
     alloc: Global,
     is_kept: bool,
-    kept: &mut Vec<Vec<[i16; 64]>>,
+    kept: &mut Vec<BlockArray>,
     index: usize,
-) -> Option<Vec<[i16; 64]>>
+) -> Option<BlockArray>
     requires { is_kept ≡ true → index < length kept.old.items }
     ensures taken { option_map blocks_in result ≡ blocks_if is_kept (arrays_in kept.old.items)
         index }
@@ -112,7 +113,7 @@ fn take_kept(
     if !is_kept {
         return None;
     }
-    Some(std::mem::replace(&mut kept[index], Vec::new(alloc)))
+    Some(std::mem::replace(&mut kept[index], BlockArray::none(alloc)))
 }
 
 /// Returns the plane of a component at the end of an image: the one that is decided, or else that
@@ -123,7 +124,7 @@ fn plane_at_end(
     state: &State,
     component: &Component,
     plane: Option<Vec<u8>>,
-    kept: Option<Vec<[i16; 64]>>,
+    kept: Option<BlockArray>,
 ) -> Result<Vec<u8>>
     requires scale { IsScale component.now.dct_scale }
     requires plane { IsPlaneOf (component_in component.now) (option_map (λ v. v.items) plane) }
@@ -139,12 +140,13 @@ fn plane_at_end(
         return Ok(plane);
     }
     let identifier = component.identifier;
-    let blocks = needed(alloc, kept, Missing::Scan(identifier))?;
+    let mut array = needed(alloc, kept, Missing::Scan(identifier))?;
     let destination = component.quantization_table_index;
     let missing = Missing::Table("quantization", destination, identifier);
     let table = table_at(&state.said.quantization, destination);
     let table = needed(alloc, table, missing)?;
-    Ok(render(alloc, component, table, &blocks)?)
+    array.fill()?;
+    Ok(render(alloc, component, table, &array.blocks)?)
 }
 
 /// Returns the planes of a frame's components at the end of an image, which are taken. Blocks that

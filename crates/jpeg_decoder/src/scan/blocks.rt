@@ -1,5 +1,5 @@
 //! The blocks of a scan in order, in every pass (T.81, A.2).
-ghost use Rattle.std.specs.Prelude.{None, is_some, true, false, length};
+ghost use Rattle.std.specs.Prelude.{None, OnOk, is_some, true, false, length};
 ghost use Rattle.std.specs.Prelude.{◌≡◌, ◌≤◌, ◌<◌, ◌*◌};
 ghost use Rattle.std.specs.List.{AllByRecursion};
 ghost use Rattle.jpeg_bits.specs.Refusals.{outcome_of};
@@ -11,22 +11,23 @@ ghost use Rattle.jpeg_streams.specs.InTurn.{begun_from, blocks_from};
 ghost use Rattle.jpeg_streams.specs.InTurn.{scan_from, Fits, AreArrays};
 ghost use Rattle.jpeg_streams.specs.Order.{spots_of, mcu_size};
 ghost use Rattle.jpeg_streams.specs.Scans.{Arrays, arrays_at};
-ghost use Rattle.jpeg_decoder.specs.Scanning.{IsSpotOf};
+ghost use Rattle.jpeg_decoder.specs.Scanning.{IsKeptBlock, IsSpotOf, IsStored};
 ghost use Rattle.jpeg_decoder.specs.Scanning.{scan_pass, scan_vias, scan_components};
 ghost use Rattle.jpeg_decoder.specs.Scanning.{arrays_in, sizes_of, reached, counted};
 ghost use Rattle.jpeg_decoder.specs.Scanning.{kept_blocks, kept_counted};
 
-use crate::scan::restarts::read_restart;
+use crate::scan::block_array::BlockArray;
 use crate::scan::coded::Scan;
 use crate::scan::order::ScanOrder;
-use crate::scan::spots::Spots;
+use crate::scan::restarts::read_restart;
+use crate::scan::spots::{Spot, Spots};
 use jpeg_bits::blocks::{BlockCoding, Carried, take_block};
 use jpeg_bits::error::{Error, Result, take_refusal};
 use jpeg_bits::huffman::HuffmanDecoder;
 use jpeg_bits::marker::Marker;
 use jpeg_bits::source::Source;
 use jpeg_segments::parser::FrameInfo;
-use std::alloc::Global;
+use std::alloc::{AllocError, Global};
 use std::io::Read;
 
 /// The state between two blocks of a scan: of the entropy decoder and what a block leaves for those
@@ -91,6 +92,17 @@ fn begin<R: Read + Drop>(interval: &mut Interval, source: &mut Source<R>, n: u64
     true
 }
 
+/// Stores the block at a spot.
+#[inline]
+fn reach(arrays: &mut Vec<BlockArray>, spot: Spot) -> std::result::Result<(), AllocError>
+    requires { IsKeptBlock (sizes_of arrays.old.items) spot.slot spot.index }
+    ensures arrays { arrays_in arrays.new.items ≡ arrays_in arrays.old.items }
+    ensures sizes { sizes_of arrays.new.items ≡ sizes_of arrays.old.items }
+    ensures stored { OnOk result (IsStored arrays.new.items spot.slot spot.index) }
+{
+    arrays[spot.slot].reach(spot.index)
+}
+
 /// Reads the blocks at some spots, in restart intervals of `n` blocks, or in one where `n` is 0.
 /// Where the scan doesn't keep AC coefficients, those of the arrays mean nothing after it.
 #[tactic(auto, using(crate::proofs::KeptScans::kept_rules))]
@@ -98,7 +110,7 @@ pub fn read_spots<R: Read + Drop>(
     interval: &mut Interval,
     source: &mut Source<R>,
     scan: &Scan<'_>,
-    arrays: &mut Vec<Vec<[i16; 64]>>,
+    arrays: &mut Vec<BlockArray>,
     n: u64,
     spots: &mut Spots<'_>,
 ) -> Result<()>
@@ -112,6 +124,7 @@ pub fn read_spots<R: Read + Drop>(
         interval.old.decoder source.old result interval.new.decoder source.new }
 {
     while let Some(spot) = spots.next() {
+        reach(arrays, spot)?;
         if !begin(interval, source, n) {
             return Err(take_refusal(&mut interval.refusal));
         }
@@ -128,7 +141,7 @@ pub fn read_spots<R: Read + Drop>(
             source,
             &coding,
             &mut interval.carried,
-            &mut arrays[spot.slot][spot.index],
+            &mut arrays[spot.slot].blocks[spot.index],
             &mut interval.refusal,
         ) {
             return Err(take_refusal(&mut interval.refusal));
@@ -145,7 +158,7 @@ fn read_intervals<R: Read + Drop>(
     alloc: Global,
     source: &mut Source<R>,
     scan: &Scan<'_>,
-    arrays: &mut Vec<Vec<[i16; 64]>>,
+    arrays: &mut Vec<BlockArray>,
     n: u64,
     spots: &mut Spots<'_>,
 ) -> Result<Option<Marker>>
@@ -172,7 +185,7 @@ pub fn read_blocks<R: Read + Drop>(
     alloc: Global,
     source: &mut Source<R>,
     scan: &Scan<'_>,
-    arrays: &mut Vec<Vec<[i16; 64]>>,
+    arrays: &mut Vec<BlockArray>,
     frame: &FrameInfo,
 ) -> Result<Option<Marker>>
     requires keeps { scan.now.keeps_ac ≡ true }

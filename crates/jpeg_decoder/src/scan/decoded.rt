@@ -17,9 +17,10 @@ ghost use Rattle.jpeg_streams.specs.Found.{none_finished};
 ghost use Rattle.jpeg_decoder.specs.Steps.{blocks_at, coding_in, without_blocks, IsInOrder};
 ghost use Rattle.jpeg_bits.specs.Passes.{whole_pass};
 
-use crate::scan::planes::Planes;
-use crate::scan::coded::{Coded, Scan, is_progressive};
+use crate::scan::block_array::{BlockArray, fill_all};
 use crate::scan::blocks::read_blocks;
+use crate::scan::coded::{Coded, Scan, is_progressive};
+use crate::scan::planes::Planes;
 use crate::scan::rows::read_planes;
 use crate::scan::strips::{GrowingPlanes, append_rows, empty_planes, plane_size, sample_table};
 use jpeg_bits::blocks::Pass;
@@ -34,9 +35,9 @@ use std::io::Read;
 /// What the scans so far have given, by the components' indices in the frame.
 #[derive(Drop)]
 pub struct Decoded {
-    /// The blocks that are kept between the scans of a progressive frame, in raster order, their
-    /// coefficients in block order. Empty before its first scan.
-    pub kept: Vec<Vec<[i16; 64]>>,
+    /// The blocks that are kept between the scans of a progressive frame. Empty before its first
+    /// scan.
+    pub kept: Vec<BlockArray>,
     /// Which coefficients of a block are finished, in zigzag order.
     pub finished: [[bool; 64]; 4],
     /// The planes that are decided.
@@ -84,22 +85,16 @@ fn are_all(marks: &[bool; 64]) -> bool
 }
 
 /// Returns the blocks of a component in which nothing was read yet.
-fn zero_blocks(
-    alloc: Global,
-    component: &Component,
-) -> std::result::Result<Vec<[i16; 64]>, AllocError>
+fn zero_blocks(alloc: Global, component: &Component) -> std::result::Result<BlockArray, AllocError>
     ensures { IfOk result (λ v. blocks_in v ≡ zero_of (component_in component.now)) }
 {
     let count = usize::from(component.block_size.height) * usize::from(component.block_size.width);
-    vec![in alloc; [0; 64]; count]
+    BlockArray::zeros(alloc, count)
 }
 
 /// Returns the blocks of all components of a frame in which nothing was read yet.
 #[tactic(auto, using(crate::proofs::BlocksBefore::zeros_all))]
-fn zero_frame(
-    alloc: Global,
-    frame: &FrameInfo,
-) -> std::result::Result<Vec<Vec<[i16; 64]>>, AllocError>
+fn zero_frame(alloc: Global, frame: &FrameInfo) -> std::result::Result<Vec<BlockArray>, AllocError>
     ensures { IfOk result
         (λ v. arrays_in v.items ≡ zero_arrays (frame_in frame.now).components) }
 {
@@ -137,8 +132,8 @@ pub fn render(
 fn take_blocks(
     alloc: Global,
     codings: &[Coded<'_>],
-    kept: &mut Vec<Vec<[i16; 64]>>,
-) -> std::result::Result<Vec<Vec<[i16; 64]>>, AllocError>
+    kept: &mut Vec<BlockArray>,
+) -> std::result::Result<Vec<BlockArray>, AllocError>
     requires within { All (λ c. c.index < length kept.old.items) codings.now }
     requires apart { AreApart (map (λ c. c.index) codings.now) }
     ensures taken { let codings = map coding_in codings.now in
@@ -150,7 +145,7 @@ fn take_blocks(
 {
     let mut taken = Vec::with_capacity(alloc, codings.len())?;
     for coded in codings {
-        let blocks = std::mem::replace(&mut kept[coded.index], Vec::new(alloc));
+        let blocks = std::mem::replace(&mut kept[coded.index], BlockArray::none(alloc));
         taken.push(blocks)?;
     }
     Ok(taken)
@@ -161,8 +156,8 @@ fn take_blocks(
 fn put_blocks(
     alloc: Global,
     codings: &[Coded<'_>],
-    arrays: &mut Vec<Vec<[i16; 64]>>,
-    kept: &mut Vec<Vec<[i16; 64]>>,
+    arrays: &mut Vec<BlockArray>,
+    kept: &mut Vec<BlockArray>,
 )
     requires count { length arrays.old.items ≡ length codings.now }
     requires indices { All (λ c. c.index < length kept.old.items) codings.now }
@@ -171,7 +166,7 @@ fn put_blocks(
 {
     let mut slot = 0;
     while slot < codings.len() {
-        kept[codings[slot].index] = std::mem::replace(&mut arrays[slot], Vec::new(alloc));
+        kept[codings[slot].index] = std::mem::replace(&mut arrays[slot], BlockArray::none(alloc));
         slot += 1;
     }
 }
@@ -187,7 +182,7 @@ impl Decoded {
     ghost use Rattle.jpeg_streams.specs.InTurn.{AreArrays};
     ghost use Rattle.jpeg_streams.specs.LosslessScans.{with_samples};
     ghost use Rattle.jpeg_streams.specs.Sound.{ArePlanes};
-    ghost use Rattle.jpeg_decoder.specs.Scanning.{arrays_in, components_in};
+    ghost use Rattle.jpeg_decoder.specs.Scanning.{arrays_in, components_in, IsFull};
     ghost use Rattle.jpeg_decoder.specs.PlanesView.{planes_in};
     ghost use Rattle.jpeg_decoder.specs.Steps.{blocks_before, coding_in, HasIndex, IsBefore};
     ghost use Rattle.jpeg_decoder.specs.Steps.{IsReadable, is_wanted};
@@ -396,11 +391,12 @@ impl Decoded {
         &mut self,
         alloc: Global,
         scan: &Scan<'_>,
-        arrays: &Vec<Vec<[i16; 64]>>,
+        arrays: &Vec<BlockArray>,
     ) -> std::result::Result<(), AllocError>
         requires indices { All HasIndex scan.now.components.items }
         requires blocks { AreArrays (components_in scan.now.components.items)
             (arrays_in arrays.now.items) }
+        requires full { All IsFull arrays.now.items }
         ensures kept { OnOk result (self.new.kept ≡ self.old.kept) }
         ensures samples { OnOk result (self.new.samples ≡ self.old.samples) }
         ensures planes { OnOk result ((base : Found) → with_decoded base self.new
@@ -410,7 +406,7 @@ impl Decoded {
         let mut slot = 0;
         while slot < scan.components.len() {
             let coded = &scan.components[slot];
-            self.add_blocks(alloc, scan.pass, coded, &arrays[slot])?;
+            self.add_blocks(alloc, scan.pass, coded, &arrays[slot].blocks)?;
             slot += 1;
         }
         Ok(())
@@ -465,6 +461,7 @@ impl Decoded {
         self.keep(alloc, scanned, frame)?;
         let mut arrays = take_blocks(alloc, &scan.components, &mut self.kept)?;
         let met = read_blocks(alloc, source, scan, &mut arrays, frame)?;
+        fill_all(&mut arrays)?;
         self.add_arrays(alloc, scan, &arrays)?;
         put_blocks(alloc, &scan.components, &mut arrays, &mut self.kept);
         Ok(met)

@@ -9,6 +9,7 @@ ghost use Rattle.jpeg_decoder.specs.Steps.{coding_in};
 ghost use Rattle.jpeg_decoder.specs.Strips.{no_samples, planes_by_rows};
 ghost use Rattle.jpeg_decoder.specs.GrowingView.{GrowsFor, growing_in, is_joint};
 
+use crate::scan::block_array::fill_all;
 use crate::scan::blocks::{first_interval, read_spots};
 use crate::scan::coded::Scan;
 use crate::scan::order::ScanOrder;
@@ -68,6 +69,7 @@ pub fn read_planes<R: Read + Drop>(
             order.interval,
             &mut spots,
         )?;
+        fill_all(&mut rows)?;
         append_strips(planes, &scan.components, &tables, &rows)?;
     }
     interval.decoder.take_marker(source)

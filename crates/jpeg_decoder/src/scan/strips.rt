@@ -1,5 +1,5 @@
 //! Planes, as they grow by rows of blocks: in a sequential scan row by row of MCUs (T.81, A.2).
-ghost use Rattle.std.specs.Prelude.{map, length, pos, replicate, IfOk, OnOk};
+ghost use Rattle.std.specs.Prelude.{map, length, pos, replicate, All, IfOk, OnOk};
 ghost use Rattle.std.specs.Prelude.{◌≡◌, ◌≤◌, ◌<◌, ◌*◌, ◌++◌};
 ghost use Rattle.std.specs.List.{concat};
 ghost use Rattle.jpeg_bits.specs.BlockView.{to_block};
@@ -7,12 +7,13 @@ ghost use Rattle.jpeg_bits.specs.Zigzag.{values_in_block_order};
 ghost use Rattle.jpeg_pixels.specs.Planes.{plane_of};
 ghost use Rattle.jpeg_pixels.specs.Scaled.{IsScale};
 ghost use Rattle.jpeg_streams.specs.Rasters.{in_raster};
-ghost use Rattle.jpeg_decoder.specs.Scanning.{arrays_in, sizes_of};
+ghost use Rattle.jpeg_decoder.specs.Scanning.{arrays_in, sizes_of, IsFull};
 ghost use Rattle.jpeg_decoder.specs.Steps.{coding_in};
 ghost use Rattle.jpeg_decoder.specs.Strips.{no_samples, plane_lists, row_sizes, zeros_of};
 ghost use Rattle.jpeg_decoder.specs.Strips.{strips_of, tables_of, with_strips};
 ghost use Rattle.jpeg_decoder.specs.GrowingView.{GrowsFor, growing_in, is_joint};
 
+use crate::scan::block_array::BlockArray;
 use crate::scan::coded::Coded;
 use jpeg_pixels::joint_planes::JointPlanes;
 use jpeg_pixels::plane::{SampleTable, append_strip};
@@ -20,9 +21,9 @@ use jpeg_pixels::zigzag::values_in_order;
 use jpeg_segments::parser::Component;
 use std::alloc::{AllocError, Global};
 
-/// Returns room for the blocks of a row of MCUs: for each component of a scan, as many as it has in
-/// one.
-pub fn row_buffers(alloc: Global, codings: &[Coded<'_>]) -> Result<Vec<Vec<[i16; 64]>>, AllocError>
+/// Returns room for the blocks of a row of MCUs: for each component of a scan, as many as it has
+/// in one.
+pub fn row_buffers(alloc: Global, codings: &[Coded<'_>]) -> Result<Vec<BlockArray>, AllocError>
     ensures { IfOk result (λ v. sizes_of v.items ≡ row_sizes codings.now) }
 {
     let mut rows = Vec::with_capacity(alloc, codings.len())?;
@@ -30,7 +31,7 @@ pub fn row_buffers(alloc: Global, codings: &[Coded<'_>]) -> Result<Vec<Vec<[i16;
         let component = coded.component;
         let high = usize::from(component.vertical_sampling_factor);
         let count = high * usize::from(component.block_size.width);
-        rows.push(vec![in alloc; [0; 64]; count]?)?;
+        rows.push(BlockArray::zeros(alloc, count)?)?;
     }
     Ok(rows)
 }
@@ -45,12 +46,12 @@ fn clear_blocks(blocks: &mut [[i16; 64]])
 }
 
 /// Clears all blocks of a row of MCUs.
-pub fn clear_rows(rows: &mut Vec<Vec<[i16; 64]>>)
+pub fn clear_rows(rows: &mut Vec<BlockArray>)
     ensures sizes { sizes_of rows.new.items ≡ sizes_of rows.old.items }
     ensures zeros { arrays_in rows.new.items ≡ zeros_of (sizes_of rows.old.items) }
 {
     for row in rows.iter_mut() {
-        clear_blocks(row);
+        clear_blocks(&mut row.blocks);
     }
 }
 
@@ -142,11 +143,12 @@ fn append_to_each(
     planes: &mut [Vec<u8>],
     codings: &[Coded<'_>],
     tables: &[SampleTable],
-    rows: &[Vec<[i16; 64]>],
+    rows: &[BlockArray],
 ) -> Result<(), AllocError>
     requires planes { 0 < length planes.old → length planes.old ≡ length codings.now }
     requires tables { tables.now ≡ tables_of codings.now }
     requires sizes { sizes_of rows.now ≡ row_sizes codings.now }
+    requires full { All IsFull rows.now }
     ensures { OnOk result (plane_lists planes.new
         ≡ with_strips (map coding_in codings.now) (arrays_in rows.now) (plane_lists planes.old)) }
 {
@@ -161,7 +163,7 @@ fn append_to_each(
             &mut planes[slot],
             component,
             &tables[slot],
-            &rows[slot],
+            &rows[slot].blocks,
             high,
         )?;
     }
@@ -173,10 +175,11 @@ fn append_to_room(
     samples: &mut Vec<u8>,
     codings: &[Coded<'_>],
     tables: &[SampleTable],
-    rows: &[Vec<[i16; 64]>],
+    rows: &[BlockArray],
 ) -> Result<(), AllocError>
     requires tables { tables.now ≡ tables_of codings.now }
     requires sizes { sizes_of rows.now ≡ row_sizes codings.now }
+    requires full { All IsFull rows.now }
     ensures { OnOk result (samples.new.items ≡ samples.old.items
         ++ concat (strips_of (map coding_in codings.now) (arrays_in rows.now))) }
 {
@@ -184,7 +187,7 @@ fn append_to_room(
         let coded = &codings[slot];
         let component = coded.component;
         let high = u16::from(component.vertical_sampling_factor);
-        append_rows(samples, component, &tables[slot], &rows[slot], high)?;
+        append_rows(samples, component, &tables[slot], &rows[slot].blocks, high)?;
     }
     Ok(())
 }
@@ -195,11 +198,12 @@ pub fn append_strips(
     planes: &mut GrowingPlanes,
     codings: &[Coded<'_>],
     tables: &[SampleTable],
-    rows: &[Vec<[i16; 64]>],
+    rows: &[BlockArray],
 ) -> Result<(), AllocError>
     requires planes { GrowsFor (map coding_in codings.now) planes.old }
     requires tables { tables.now ≡ tables_of codings.now }
     requires sizes { sizes_of rows.now ≡ row_sizes codings.now }
+    requires full { All IsFull rows.now }
     ensures strips { OnOk result (growing_in planes.new
         ≡ with_strips (map coding_in codings.now) (arrays_in rows.now) (growing_in planes.old)) }
     ensures growing { OnOk result (GrowsFor (map coding_in codings.now) planes.new) }

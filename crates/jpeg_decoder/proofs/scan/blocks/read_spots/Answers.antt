@@ -12,7 +12,7 @@ use Rattle.jpeg_decoder.specs.Scanning.{IsSpotOf, arrays_in, counted, kept_after
 use Rattle.jpeg_bits.specs.Skips.{kept, kept_from}
 use Rattle.jpeg_decoder.proofs.KeptScans.{next-kept, turn-kept-refused}
 use Rattle.jpeg_decoder.proofs.BlockSteps.{begun_turn, blocks_begun, blocks_refused, next_refused, next_unbegun}
-use Rattle.jpeg_decoder.proofs.KeptBlocks.{sizes-set, spot, turn-kept, turn-refused}
+use Rattle.jpeg_decoder.proofs.KeptBlocks.{reached-alike, sizes-set, spot, stored-there, turn-kept, turn-refused}
 use Rattle.jpeg_decoder.proofs.scan.blocks.read_spots.Goals as goal
 use Rattle.std.proofs.lemmas.Grind.{common_steps}
 
@@ -23,7 +23,12 @@ returns-then-not-begin-clause-blocks g c =
     let n = c.args.n in
     let l = c.loop-spot in
     let s = spot c.in-Some.spot.slot c.in-Some.spot.index in
-    let arrays = arrays_in l.arrays.items in
+    let vs = c.reach.new.arrays.items in
+    let inv = reached-alike c.args.scan.now.keeps_ac p vias n l.spots l.interval (arrays_in l.arrays.items)
+    (arrays_in vs) c.args.interval.now.decoder c.args.source.now l.source
+    (blocks_from p vias n c.args.spots.now (counted c.args.interval.now (arrays_in c.args.arrays.now.items))
+    >>= kept_after c.args.scan.now.keeps_ac) c.in_ok-reach.ensures.arrays l.invariant.blocks in
+    let arrays = arrays_in vs in
     let now = counted l.interval arrays in
     let keep = kept_after c.args.scan.now.keeps_ac in
     rw c.take_refusal.ensures (refused_after (λ (u : Unit {0}). now) (λ (u : Unit {0}). counted c.begin.new.interval arrays)
@@ -32,7 +37,7 @@ returns-then-not-begin-clause-blocks g c =
     c.args.interval.now.decoder _ c.begin.new.interval.decoder c.args.source.now _ c.begin.new.source _
     (λ t f h. ap (read_on keep) (ap (λ (m : List Spot). blocks_from p vias n m now t) c.in-Some.ensures
     ∙ blocks_refused p vias n s c.next.new.self now t f (next_unbegun p vias n s now t f h)))
-    l.invariant.blocks (c.if-not-begin.ensures.begun arrays))
+    inv (c.if-not-begin.ensures.begun arrays))
 
 pub returns-then-not-take_block-clause-sizes : goal.returns-then-not-take_block-clause-sizes
 returns-then-not-take_block-clause-sizes g c = grind (arith, common_steps, sizes-set)
@@ -48,7 +53,11 @@ returns-then-not-take_block-clause-blocks g c =
     let slot = c.in-Some.spot.slot in
     let index = c.in-Some.spot.index in
     let s = spot slot index in
-    let vs = l.arrays.items in
+    let vs = c.reach.new.arrays.items in
+    let inv = reached-alike c.args.scan.now.keeps_ac p vias n l.spots l.interval (arrays_in l.arrays.items)
+    (arrays_in vs) c.args.interval.now.decoder c.args.source.now l.source
+    (blocks_from p vias n c.args.spots.now (counted c.args.interval.now (arrays_in c.args.arrays.now.items))
+    >>= kept_after c.args.scan.now.keeps_ac) c.in_ok-reach.ensures.arrays l.invariant.blocks in
     let now = counted l.interval (arrays_in vs) in
     let first = get_or i.carried.predictors slot (pos 0) in
     let coded = c.index-coded.result.now in
@@ -71,10 +80,11 @@ returns-then-not-take_block-clause-blocks g c =
     (next_refused p vias s (counted i (arrays_in vs)) t f
     (turn-refused p cs slot index coded vs c.index_mut.result.now c.index_mut-in-Some.result.now i.carried.predictors
     i.carried.run first of.0 c.index-coded.ensures c.index_mut.ensures.value
+    (stored-there vs slot index c.index_mut.result.now c.index_mut.ensures.value c.in_ok-reach.ensures.stored)
     c.index_mut-in-Some.ensures.value refl t f (turn-kept-refused keeps _ f h)))) (
-      q.0 ∙ l.invariant.blocks.0,
+      q.0 ∙ inv.0,
       λ k.
-          let at = l.invariant.blocks.1 k in
+          let at = inv.1 k in
           let by = q.1 at.0 in (
             by.0,
             at.1 ∙ ap (read_on keep)
@@ -95,7 +105,11 @@ loop-spot-preserved g c =
     let slot = c.in-Some.spot.slot in
     let index = c.in-Some.spot.index in
     let s = spot slot index in
-    let vs = l.arrays.items in
+    let vs = c.reach.new.arrays.items in
+    let inv = reached-alike c.args.scan.now.keeps_ac p vias n l.spots l.interval (arrays_in l.arrays.items)
+    (arrays_in vs) c.args.interval.now.decoder c.args.source.now l.source
+    (blocks_from p vias n c.args.spots.now (counted c.args.interval.now (arrays_in c.args.arrays.now.items))
+    >>= kept_after c.args.scan.now.keeps_ac) c.in_ok-reach.ensures.arrays l.invariant.blocks in
     let now = counted l.interval (arrays_in vs) in
     let first = get_or i.carried.predictors slot (pos 0) in
     let coded = c.index-coded.result.now in
@@ -106,12 +120,12 @@ loop-spot-preserved g c =
     let r = c.if-not-take_block.ensures.block in
     let sizes = sizes-set vs slot index c.index_mut.result.now c.take_block.new.block c.index_mut.ensures.value in
     record {
-      sizes = sizes ∙ l.invariant.sizes;
+      sizes = sizes ∙ c.in_ok-reach.ensures.sizes ∙ l.invariant.sizes;
       spots = search rules;
       blocks = rw (c.if-not-take_block.ensures.others, c.saturating_sub-interval.ensures) (
-        r.0 ∙ q.0 ∙ l.invariant.blocks.0,
+        r.0 ∙ q.0 ∙ inv.0,
         λ k.
-            let at = l.invariant.blocks.1 k in
+            let at = inv.1 k in
             let by = q.1 at.0 in
             let more = r.1 by.0 in (
               more.0,
@@ -122,6 +136,7 @@ loop-spot-preserved g c =
                   (λ none. (c.args.scan.now.dc_alone none).0)
                   (turn-kept p cs slot index coded vs c.index_mut.result.now c.index_mut-in-Some.result.now i.carried.predictors
                   i.carried.run first of.0 c.index-coded.ensures c.index_mut.ensures.value
+                  (stored-there vs slot index c.index_mut.result.now c.index_mut.ensures.value c.in_ok-reach.ensures.stored)
                   c.index_mut-in-Some.ensures.value refl keeps c.take_block.new.block
                   (predictor_at slot c.take_block.new.carried) c.take_block.new.carried.run _ _ more.1),
             ),

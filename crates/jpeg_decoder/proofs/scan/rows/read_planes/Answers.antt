@@ -112,10 +112,11 @@ loop-row-preserved g c =
     let q = c.in_ok-read_spots.ensures in
     let read = c.read_spots.new.arrays.items in
     let sizes : sizes_of read ≡ row_sizes cs = q.sizes ∙ c.clear_rows.ensures.sizes ∙ l.invariant.sizes in
+    let whole = c.in_ok-fill_all.ensures in
     let made : growing_in c.append_strips.new.planes ≡ with_strips codings (arrays_in read) planes
     = search rules in
     record {
-      sizes = sizes;
+      sizes = whole.sizes ∙ sizes;
       spots = later-rows (AllByRecursion (IsSpotOf (length cs) (row_sizes cs))) f l.row high
           c.loop-row-test.true l.invariant.spots;
       growing = subst (λ (x : List Coded). GrowsFor (map coding_in x) c.append_strips.new.planes)

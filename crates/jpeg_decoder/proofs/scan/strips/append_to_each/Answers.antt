@@ -1,7 +1,7 @@
 use Rattle.std.proofs.Common.{arith, rules}
 use Rattle.jpeg_decoder.specs.Strips.{samples_of}
 use Rattle.jpeg_decoder.proofs.RowBuffers.{no-strips, planes-all, planes-long, planes-next}
-use Rattle.jpeg_decoder.proofs.RowBuffers.{row-size, table-here, tables-long}
+use Rattle.jpeg_decoder.proofs.RowBuffers.{row-full, row-size, table-here, tables-long}
 use Rattle.jpeg_decoder.proofs.scan.strips.append_to_each.Goals as goal
 use Rattle.std.proofs.lemmas.Grind.{common_steps}
 
@@ -17,7 +17,10 @@ offset_bounds-tables-slot c =
     search rules
 
 pub append_rows-requires-clause-size : goal.append_rows-requires-clause-size
-append_rows-requires-clause-size c = grind (arith, common_steps, row-size)
+append_rows-requires-clause-size c =
+    let full = row-full c.args.codings.now c.args.rows.now c.requires.sizes c.loop-slot.slot c.index-rows-slot.result
+    c.requires.full (search rules) (search rules) in
+    grind (arith, common_steps, row-size)
 
 pub loop-slot-preserved : goal.loop-slot-preserved
 unfolding samples_of
@@ -28,6 +31,8 @@ loop-slot-preserved c =
     c.loop-slot.slot c.index-codings-slot.result c.index-rows-slot.result c.index-planes-slot.result
     c.append_rows.new.plane (search rules) (search rules) (search rules) c.loop-slot.invariant (search rules)
     (rw (← table) (search rules))
+    (row-full c.args.codings.now c.args.rows.now c.requires.sizes c.loop-slot.slot c.index-rows-slot.result
+    c.requires.full (search rules) (search rules))
 
 pub returns-then-is_empty : goal.returns-then-is_empty
 returns-then-is_empty c = grind (arith, common_steps, no-strips)

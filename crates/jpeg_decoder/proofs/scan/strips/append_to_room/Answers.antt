@@ -1,6 +1,6 @@
 use Rattle.std.proofs.Common.{arith, rules}
 use Rattle.jpeg_decoder.specs.Strips.{samples_of}
-use Rattle.jpeg_decoder.proofs.RowBuffers.{room-all, room-next, row-size, table-here, tables-long}
+use Rattle.jpeg_decoder.proofs.RowBuffers.{room-all, room-next, row-full, row-size, table-here, tables-long}
 use Rattle.jpeg_decoder.proofs.scan.strips.append_to_room.Goals as goal
 use Rattle.std.proofs.lemmas.Grind.{common_steps}
 
@@ -13,7 +13,10 @@ offset_bounds-tables-slot c =
     search rules
 
 pub append_rows-requires-clause-size : goal.append_rows-requires-clause-size
-append_rows-requires-clause-size c = grind (arith, common_steps, row-size)
+append_rows-requires-clause-size c =
+    let full = row-full c.args.codings.now c.args.rows.now c.requires.sizes c.loop-slot.slot c.index-rows-slot.result
+    c.requires.full (search rules) (search rules) in
+    grind (arith, common_steps, row-size)
 
 pub loop-slot-preserved : goal.loop-slot-preserved
 unfolding samples_of
@@ -24,6 +27,8 @@ loop-slot-preserved c =
     room-next c.args.codings.now c.args.rows.now c.requires.sizes l.slot c.index-codings-slot.result
     c.index-rows-slot.result c.args.samples.now.items l.samples.items _ (search rules)
     (search rules) (search rules) l.invariant (rw (← table) (search rules))
+    (row-full c.args.codings.now c.args.rows.now c.requires.sizes l.slot c.index-rows-slot.result
+    c.requires.full (search rules) (search rules))
 
 pub returns : goal.returns
 returns c =
