@@ -13,6 +13,7 @@
 
 pub mod decoding;
 pub mod headers;
+pub mod lines;
 pub mod pictures;
 pub mod runs;
 pub mod settings;

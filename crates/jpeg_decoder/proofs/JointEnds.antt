@@ -1,10 +1,9 @@
 -- The picture of planes that lie in one room, at the end of an image.
 use Rattle.std.proofs.lemmas.Grind.{common_steps}
 use Rattle.std.proofs.Common.{◌≡◌, ◌≢◌, ◌∙◌, ◌<◌, ◌≤◌, ◌+◌, ℕ, suc, List, [], ◌∷◌, Option, Some}
-use Rattle.std.proofs.Common.{None, Ok, arith, get_or, length, refl, replicate, subst}
+use Rattle.std.proofs.Common.{None, Ok, arith, get_or, length, refl, replicate}
 use Rattle.std.proofs.lemmas.List.{get_or-map, get_or-replicate}
 use Rattle.jpeg_pixels.specs.JointPlanes.{IsShapeOf, joint_planes}
-use Rattle.jpeg_pixels.specs.Pictures.{AreWhole}
 use Rattle.jpeg_pixels.specs.declared.joint_planes.JointPlanes.{JointPlanes}
 use Rattle.jpeg_pixels.specs.declared.joint_planes.JointShape.{JointShape}
 use Rattle.std.specs.List.{enumerate_from}
@@ -14,7 +13,7 @@ use Rattle.jpeg_streams.proofs.ReadTurns.{then-ok}
 use Rattle.jpeg_decoder.proofs.PicturesOfPlanes.{decoded-few}
 use Rattle.jpeg_streams.specs.Found.{Found}
 use Rattle.jpeg_streams.specs.FoundPictures.{blocks_picture, picture_by, plane_at_end}
-use Rattle.jpeg_streams.specs.Sound.{ArePlanes, IsPlaneOf, IsSound}
+use Rattle.jpeg_streams.specs.Sound.{IsSound}
 use Rattle.jpeg_streams.specs.declared.settings.Settings.{Settings}
 use Rattle.jpeg_decoder.specs.PlanesView.{or_joint}
 use Rattle.jpeg_decoder.proofs.JointDecided.{joint-count, or-at}
@@ -48,18 +47,6 @@ all-there found frame from (c ∷ cs) (plane ∷ joint) e there =
     (λ k index h i. there (suc k) index (omega arith) (omega arith))) refl)
 all-there found frame from _ _ e there = absurd (omega arith)
 
--- Planes that are decided are whole.
-whole-there : (cs : List Component) (planes : List (Option (List ℕ))) (joint : List (List ℕ))
-    → length joint ≡ length cs → AreThere 0 planes joint → ArePlanes cs planes → AreWhole cs joint
-unfolding ArePlanes AreWhole
-whole-there [] planes joint e there p = tt
-whole-there (c ∷ cs) (o ∷ planes) (plane ∷ joint) e there p = (
-  subst (IsPlaneOf c) (there 0 0 (omega arith) (omega arith)) p.0,
-  whole-there cs planes joint (omega arith)
-      (λ k index h i. there (suc k) (suc index) (omega arith) (omega arith)) p.1,
-)
-whole-there (c ∷ cs) _ _ e there p = grind (arith, common_steps)
-
 -- Planes in one room, where there is none of its own.
 joint-there : (joint : List (List ℕ)) → length joint ≤ 4
     → AreThere 0 (or_joint (replicate 4 None) joint) joint
@@ -73,7 +60,7 @@ module _ (found : Found) (frame : Frame) (width height : ℕ) (joint : JointPlan
   planes = joint_planes joint.shape joint.samples.items
 
   -- They are as many as the components.
-  pub joint-length : length planes ≡ length frame.components
+  joint-length : length planes ≡ length frame.components
   joint-length = joint-count joint.shape joint.samples.items ∙ shape.count
 
   -- Each of them is decided.
@@ -86,7 +73,3 @@ module _ (found : Found) (frame : Frame) (width height : ℕ) (joint : JointPlan
       ≡ picture_by settings found.said.metadata frame frame.components planes
   unfolding blocks_picture
   joint-meant settings = rw (all-there found frame 0 frame.components planes joint-length there) refl
-
-  -- They are whole.
-  pub joint-whole : AreWhole frame.components planes
-  joint-whole = whole-there frame.components found.planes planes joint-length there (sound.planes frame is)

@@ -5,7 +5,7 @@ pub mod Turns
 pub mod TurnLoops
 pub mod Headers
 pub mod HeaderThenRest
-pub mod DecodedInto
+pub mod DecodedLines
 mod ScaledHeaders
 pub mod Ratios
 pub mod BlockArrays
@@ -46,9 +46,8 @@ mod LosslessPixels
 mod PlainPixels
 mod SamplesMeant
 mod DecodedSamples
-pub mod ImageSizes
+pub mod LinesTogether
 pub mod PictureSizes
-pub mod LosslessPictureSizes
 mod OnLiterals
 mod Orientations
 pub mod KeptScans

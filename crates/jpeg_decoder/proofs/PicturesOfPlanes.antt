@@ -1,6 +1,6 @@
 -- The picture of a frame's planes: of one component, and of several.
 use Rattle.std.proofs.Common.{◌≡◌, ◌≢◌, ◌<◌, ◌≤◌, ℕ, List, [], ◌∷◌, ◌++◌, ◌∙◌, rules, ap, subst, length, get_or}
-use Rattle.std.proofs.Common.{map, arith, Option, Some, Result, Ok, Err, Vec, Global}
+use Rattle.std.proofs.Common.{map, arith, Option, Some, Result, Ok, Err, Vec, Global, ◌*◌, ◌/◌, min, refl, sym}
 use Rattle.std.specs.Option.{option_to_list}
 use Rattle.std.specs.Prelude.{MatchResult}
 use Rattle.std.specs.List.{AllByRecursion}
@@ -10,6 +10,7 @@ use Rattle.jpeg_bits.specs.declared.color_transform.ColorTransform.{ColorTransfo
 use Rattle.jpeg_bits.specs.declared.error.Error.{Error}
 use Rattle.jpeg_segments.specs.Frame.{Frame, Component, AllHaveSampling}
 use Rattle.jpeg_segments.specs.FrameView.{component_in}
+use Rattle.jpeg_segments.specs.declared.frame.CodingProcess.TheVariants.{Lossless}
 use Rattle.jpeg_segments.specs.declared.frame.Component as declared
 use Rattle.jpeg_pixels.specs.Scaled.{IsScale}
 use Rattle.jpeg_segments.proofs.ScaleLemmas.{sized_frames_have_factors}
@@ -19,12 +20,14 @@ use Rattle.jpeg_pixels.specs.Pictures.{Source, AllCover, AreWhole, image_of, con
 use Rattle.jpeg_pixels.specs.Pictures.{sources_of}
 use Rattle.jpeg_streams.specs.ColourChoice.{identifiers_of, transform_of}
 use Rattle.jpeg_streams.specs.Sound.{IsDecodedFrame}
+use Rattle.jpeg_decoder.specs.Bytes.{AreLinesOf, HaveBytes}
 use Rattle.jpeg_decoder.specs.Steps.{IsRefusal, cropped_to}
 use Rattle.jpeg_streams.specs.FoundPictures.{picture_by}
 use Rattle.jpeg_streams.specs.Found.{Metadata}
 use Rattle.jpeg_streams.specs.declared.settings.Settings.{Settings}
 use Rattle.std.proofs.lemmas.Bool.{eqb-true}
 use Rattle.jpeg_decoder.proofs.EndedPlanes.{decoded-scales, element, mapped-or}
+use Rattle.jpeg_decoder.proofs.PictureSizes.{one-lines}
 use Rattle.jpeg_lossless.proofs.RowLoops.{mapped-within}
 use Rattle.jpeg_streams.proofs.Soundness.{count-few, decoded-count, decoded-sized, decoded-sources}
 use Rattle.std.proofs.lemmas.Grind.{common_steps}
@@ -140,3 +143,30 @@ picture-first settings m f items slice d planes front o plane picture e one coun
     let only : planes ≡ plane ∷ [] = grind (arith, common_steps, length-append) in
     picture-one settings m f _ (component_in (get_or slice 0 d)) _ plane.items picture long (first-is items slice d e one)
     (ap (map (λ v. v.items)) only) made
+
+-- the only component
+one-component : (slice : List declared.Component) (d : declared.Component) → length slice ≡ 1
+    → map component_in slice ≡ component_in (get_or slice 0 d) ∷ []
+one-component [] d one = absurd (omega arith)
+one-component (c ∷ []) d one = refl
+one-component (c ∷ e ∷ more) d one = absurd (omega arith)
+
+pub lines-first : (f : Frame) (items slice : List declared.Component) (d : declared.Component)
+    (planes front : List (Vec ℕ Global)) (o : Option (Vec ℕ Global)) (plane : Vec ℕ Global) (lines : List (List ℕ))
+    → IsDecodedFrame f → (f.process ≡ Lossless → ⊥) → f.components ≡ map component_in items → slice ≡ items
+    → length slice ≡ 1 → length planes ≡ length f.components → planes ≡ front ++ option_to_list o → o ≡ Some plane
+    → AreWhole f.components (map (λ v. v.items) planes)
+    → length lines ≡ min f.output_height (length plane.items / ((component_in (get_or slice 0 d)).scale
+    * (component_in (get_or slice 0 d)).blocks_wide))
+    → HaveBytes (min f.output_width ((component_in (get_or slice 0 d)).scale
+    * (component_in (get_or slice 0 d)).blocks_wide)) lines
+    → AreLinesOf (Some f) lines
+unfolding AreWhole
+lines-first f items slice d planes front o plane lines p dct is e one count popped taken whole rows columns =
+    let c = component_in (get_or slice 0 d) in
+    let alone : f.components ≡ c ∷ [] = is ∙ (ap (map component_in) (sym e) ∙ one-component slice d one) in
+    let long : length planes ≡ 1 = omega (arith, count, ap length alone) in
+    let only : planes ≡ plane ∷ [] = grind (arith, common_steps, length-append) in
+    let size : AreWhole (c ∷ []) (plane.items ∷ []) =
+    rw alone at (subst (λ (l : List (Vec ℕ Global)). AreWhole f.components (map (λ v. v.items) l)) only whole) in
+    one-lines f c plane.items lines p dct alone size.0 rows columns

@@ -39,9 +39,7 @@ use Rattle.jpeg_decoder.proofs.LosslessReads.{picture-given, picture-lacks, pict
 use Rattle.jpeg_decoder.proofs.Orientations.{cut_directory, cut_exif, few_after, found_directory, four_higher}
 use Rattle.jpeg_decoder.proofs.Orientations.{four_lower, higher_exif, lower_exif, met, none_among, other_directory}
 use Rattle.jpeg_decoder.proofs.Orientations.{other_exif, passed, two_higher, two_lower}
-use Rattle.jpeg_decoder.proofs.PictureSizes.{block-bytes}
 use Rattle.jpeg_decoder.proofs.Ratios.{ratios_refused}
-use Rattle.jpeg_decoder.proofs.PicturesOfPlanes.{several-ready}
 
 -- the laws of images
 pub ruleset images = (
@@ -107,8 +105,8 @@ pub ruleset gathered = (common_steps, gathers-none, gathers-all, length-enumerat
 -- the picture of samples
 pub ruleset given = (common_steps, err_from_is_err_and, picture-lacks, picture-made, picture-given)
 
--- a picture in the memory of a caller
-pub ruleset rooms = (common_steps, several-ready, block-bytes, length-map)
+-- refusals that are passed on
+pub ruleset refused = (common_steps, err_from_is_err_and)
 
 -- the start of a stream
 pub ruleset starts = (
@@ -137,9 +135,9 @@ unfoldable pub sampled : ⊤
 unfolding samples_picture
 sampled = tt
 
-unfoldable pub block_pictures : ⊤
+unfoldable pub pictures : ⊤
 unfolding picture_of limited
-block_pictures = tt
+pictures = tt
 
 unfoldable pub block_planes : ⊤
 unfolding plane_by plane_of_blocks

@@ -1,6 +1,7 @@
 -- How many bytes a picture has, and how many are taken while it is decoded.
 use Rattle.std.specs.Prelude.{◌≡◌, ◌≤◌, ℕ, ◌*◌, ◌+◌, ◌==◌, if◌then◌else◌, max, nat_le}
 use Rattle.std.specs.Prelude.{List, length, Option, Some, None, sum_by}
+use Rattle.std.specs.List.{AllByRecursion}
 use Rattle.jpeg_segments.specs.Frame.{Component, Frame}
 use Rattle.jpeg_segments.specs.declared.frame.CodingProcess.{CodingProcess}
 use Rattle.jpeg_segments.specs.declared.frame.CodingProcess.TheVariants.{DctSequential}
@@ -31,6 +32,19 @@ HasBytes _ info pixels = length pixels ≡ info.width * info.height * bytes_a_pi
 abbrev pub IsWhole : Option Frame → List ℕ → Type 0
 IsWhole None pixels = Unit {0}
 IsWhole (Some f) pixels = (length pixels ≡ picture_size f) × HasBytes f.process (info_of f) pixels
+
+-- the bytes of a line of a picture: for each of its pixels those of a sample of each component
+unfoldable pub line_bytes : Frame → ℕ
+line_bytes f = f.output_width * (length f.components * bytes_a_sample f.precision)
+
+-- each line has this many bytes
+abbrev pub HaveBytes : ℕ → List (List ℕ) → Type 0
+HaveBytes bytes lines = AllByRecursion (λ line. length line ≡ bytes) lines
+
+-- The lines of a picture are as many and as long as its frame says.
+abbrev pub AreLinesOf : Option Frame → List (List ℕ) → Type 0
+AreLinesOf None lines = Unit {0}
+AreLinesOf (Some f) lines = (length lines ≡ f.output_height) × HaveBytes (line_bytes f) lines
 
 -- this many bytes are enough for the picture of a frame
 abbrev pub HasRoom : Option Frame → ℕ → Type 0

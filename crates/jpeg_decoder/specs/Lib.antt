@@ -2,6 +2,7 @@
 pub mod PlanesView
 pub mod Seen
 pub mod Bytes
+pub mod LinesView
 pub mod Decodes
 -- what a call has read that was refused for lack of room
 pub mod HeaderAlone

@@ -15,8 +15,9 @@ ghost use Rattle.jpeg_streams.specs.States.{told_ahead, turns_ahead, OnTold, OnT
 ghost use Rattle.jpeg_streams.specs.States.{HasHeader};
 ghost use Rattle.jpeg_decoder.specs.Decodes.{Decodes};
 ghost use Rattle.jpeg_decoder.specs.Seen.{found_in, said_in};
-ghost use Rattle.jpeg_decoder.specs.Bytes.{HasRoom, IsCounted, IsWhole, decoding_bytes};
-ghost use Rattle.jpeg_decoder.specs.Bytes.{picture_size};
+ghost use Rattle.std.specs.List.{concat};
+ghost use Rattle.jpeg_decoder.specs.Bytes.{AreLinesOf, HasRoom, IsCounted, IsWhole};
+ghost use Rattle.jpeg_decoder.specs.Bytes.{decoding_bytes, picture_size};
 ghost use Rattle.jpeg_decoder.specs.HeaderAlone.{ReadsHeaderAlone};
 ghost use Rattle.jpeg_streams.specs.States.{IsInternal};
 ghost use Rattle.std.specs.Prelude.{◌≤◌, drop, length, take};
@@ -30,7 +31,8 @@ ghost use Rattle.jpeg_streams.specs.Output.{default_settings};
 ghost use Rattle.jpeg_streams.specs.Profile.{profile_of};
 ghost use Rattle.std.specs.Option.{option_copied};
 
-use crate::picture::whole::{read_header, read_rest, read_rest_into};
+use crate::picture::lines::Lines;
+use crate::picture::whole::{read_header, read_rest};
 use crate::scan::decoded::Decoded;
 use crate::sizes::{DecodingBytes, decoding_bytes, picture_bytes};
 use crate::stream::profile::profile;
@@ -432,6 +434,75 @@ impl<R: Read + Drop> Decoder<R> {
         scale_state(&mut self.state, scale.block_side())
     }
 
+    /// Reads the header where it wasn't read. Where no image is left to decode it is `Internal`,
+    /// and nothing changes. After a refusal of the header nothing is kept that scans gave.
+    fn begin(&mut self) -> Result<()>
+        ensures stage { IsReading self.old.stage
+            → MovesToHeader self.old.stage self.new.stage result }
+        ensures ended { (IsReading self.old.stage → ⊥) → IsErrAnd result IsInternal }
+        ensures begun { OnOk result (IsReading self.old.stage × (self.new.stage ≡ HeaderRead)) }
+        ensures reads { self.old.stage ≡ Fresh → Answers (λ _. self.new.found) header_at
+            self.old.source result self.new.source }
+        ensures told { self.old.stage ≡ Fresh → OnTold self.old.source self.new.source result
+            (told_of self.new.found.said ≡ told_ahead true self.old.stage self.old.found
+            self.old.source.bytes) }
+        ensures turns { self.old.stage ≡ Fresh → self.old.source.known ≡ true
+            → IsOfTurns (λ n. turns_ahead n true self.old.stage self.old.found
+            self.old.source.bytes) (told_of self.new.found.said) }
+        ensures settings { self.new.settings ≡ self.old.settings }
+        ensures still { (self.old.stage ≡ Fresh → ⊥) → self.new ≡ self.old }
+        ensures emptied { self.old.stage ≡ Fresh → OnErr result ((self.new.found.kept ≡ [])
+            × (self.new.found.planes ≡ replicate 4 None)
+            × (self.new.found.samples ≡ replicate 4 None)) }
+    {
+        match self.progress {
+            Progress::Fresh | Progress::HeaderRead => {}
+            Progress::Finished => return Err(Error::Internal("image was already decoded")),
+            Progress::Failed => return Err(Error::Internal("decoder has failed")),
+        }
+        if let Err(e) = self.read_info() {
+            drop_decoded(&mut self.state, self.alloc);
+            return Err(e);
+        }
+        Ok(())
+    }
+
+    /// Reads through the end of the image, as `decode` does, and returns its lines, which the
+    /// caller writes where it wants: no picture is in memory beside the planes that the scans gave.
+    ///
+    /// The errors are those of `decode`, and so is the decoder after each.
+    pub fn decode_lines(&mut self) -> Result<Lines>
+        // The meaning of what the source has left, the state, and what is told: see `Decodes`.
+        ensures decodes { Decodes (λ l. concat l) self.old result self.new }
+
+        // The settings stay.
+        ensures settings { self.new.settings ≡ self.old.settings }
+
+        // Where no image is left to decode nothing changes.
+        ensures still { (IsReading self.old.stage → ⊥) → self.new ≡ self.old }
+
+        // The frame that `read_info` read stays.
+        ensures stays { self.old.stage ≡ HeaderRead
+            → self.new.found.said.frame ≡ self.old.found.said.frame }
+
+        // After an Ok there is a frame, so that `info` answers.
+        ensures framed { IfOk result (λ _. is_some self.new.found.said.frame ≡ true) }
+
+        // There are as many lines as `info` says, each of as many bytes as the frame says.
+        ensures lines { IfOk result (λ l. AreLinesOf self.new.found.said.frame l) }
+
+        // Together they are a picture as `decode` returns it.
+        ensures size { IfOk result (λ l. IsWhole self.new.found.said.frame (concat l)) }
+
+        // There are as many samples as the format of `info` says.
+        ensures counted { IfOk result (λ _. IsCounted self.new.found.said.frame) }
+    {
+        self.begin()?;
+        let result = read_rest(self.alloc, &mut self.source, &mut self.state, self.settings);
+        self.progress = progress_after(result.is_ok(), Progress::Finished);
+        result
+    }
+
     /// Reads through the end of the image and no byte after it, and returns the picture: its
     /// samples line by line from the top, and in each line pixel by pixel, one of each component. A
     /// sample takes one byte, or two in a lossless picture above 8 bits, the lower byte first;
@@ -469,18 +540,14 @@ impl<R: Read + Drop> Decoder<R> {
         // There are as many samples as the format of `info` says.
         ensures counted { IfOk result (λ _. IsCounted self.new.found.said.frame) }
     {
-        let header = match self.progress {
-            Progress::Fresh | Progress::HeaderRead => self.read_info(),
-            Progress::Finished => return Err(Error::Internal("image was already decoded")),
-            Progress::Failed => return Err(Error::Internal("decoder has failed")),
-        };
-        if let Err(e) = header {
-            drop_decoded(&mut self.state, self.alloc);
-            return Err(e);
+        let lines = self.decode_lines()?;
+        match lines.into_picture(self.alloc) {
+            Ok(picture) => Ok(picture),
+            Err(error) => {
+                self.progress = Progress::Failed;
+                Err(error)
+            }
         }
-        let result = read_rest(self.alloc, &mut self.source, &mut self.state, self.settings);
-        self.progress = progress_after(result.is_ok(), Progress::Finished);
-        result
     }
 
     /// Like `decode`, but writes the picture to the start of the caller's memory, so that no second
@@ -526,25 +593,10 @@ impl<R: Read + Drop> Decoder<R> {
         // There are as many samples as the format of `info` says.
         ensures counted { IfOk result (λ _. IsCounted self.new.found.said.frame) }
     {
-        match self.progress {
-            Progress::Fresh | Progress::HeaderRead => {}
-            Progress::Finished => return Err(Error::Internal("image was already decoded")),
-            Progress::Failed => return Err(Error::Internal("decoder has failed")),
-        }
-        if let Err(e) = self.read_info() {
-            drop_decoded(&mut self.state, self.alloc);
-            return Err(e);
-        }
+        self.begin()?;
         let size = size_within(&self.state, pixels.len())?;
-        let written = read_rest_into(
-            self.alloc,
-            &mut self.source,
-            &mut self.state,
-            self.settings,
-            &mut pixels[..size],
-        );
-        self.progress = progress_after(written.is_ok(), Progress::Finished);
-        written?;
+        let mut lines = self.decode_lines()?;
+        lines.write_all(&mut pixels[..size]);
         Ok(size)
     }
 }

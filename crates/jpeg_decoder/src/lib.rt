@@ -16,6 +16,9 @@
 //! lossless picture of three or four components above 8 bits has two, the lower byte first, beside
 //! `RGB24` or `CMYK32`.
 //!
+//! `decode_into` writes the picture into the caller's memory, and `decode_lines` returns its
+//! [`Lines`], each of which can be written anywhere, with no picture in memory besides the planes.
+//!
 //! `read_info` reads only the header. `info` then gives the size of the picture, and
 //! `decoding_bytes` all the memory that decoding it takes, so that a service can refuse it before
 //! any of that is allocated; `set_max_decoding_buffer_size` counts samples, and refuses at the end
@@ -53,4 +56,5 @@ pub use jpeg_pixels::{arch, idct, upsampler, worker};
 pub use jpeg_segments::parser;
 pub use jpeg_segments::parser::CodingProcess;
 pub use jpeg_segments::scale::Scale;
+pub use picture::lines::Lines;
 pub use sizes::DecodingBytes;

@@ -1,4 +1,5 @@
 //! The picture of what a stream has brought.
 
 pub mod color_choice;
+pub mod lines;
 pub mod whole;

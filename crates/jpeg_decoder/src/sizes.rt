@@ -3,7 +3,7 @@ ghost use Rattle.std.specs.Prelude.{◌≡◌, ◌<◌, ◌≤◌, ◌*◌, ◌^
 ghost use Rattle.jpeg_segments.specs.Frame.{AllHaveSampling};
 ghost use Rattle.jpeg_segments.specs.FrameView.{component_in, frame_in};
 ghost use Rattle.jpeg_decoder.specs.Bytes.{beside_planes, bytes_a_sample, coefficient_bytes};
-ghost use Rattle.jpeg_decoder.specs.Bytes.{decoding_bytes, picture_size, plane_bytes};
+ghost use Rattle.jpeg_decoder.specs.Bytes.{decoding_bytes, line_bytes, picture_size, plane_bytes};
 
 use jpeg_segments::parser::{CodingProcess, Component, FrameInfo};
 
@@ -120,6 +120,16 @@ pub(crate) fn picture_bytes(frame: &FrameInfo) -> u64
 {
     let size = frame.output_size;
     area(size.width, size.height) * pixel_bytes(frame.components.len(), frame.precision)
+}
+
+/// Returns how many bytes a line of the picture takes.
+#[tactic(auto, unfolding(crate::specs::Bytes::line_bytes))]
+pub(crate) fn line_bytes(frame: &FrameInfo) -> usize
+    requires { length (frame_in frame.now).components ≤ 4 }
+    ensures { result ≡ line_bytes (frame_in frame.now) }
+{
+    let pixel = pixel_bytes(frame.components.len(), frame.precision);
+    usize::from(frame.output_size.width) * pixel as usize
 }
 
 /// Returns how many bytes a picture takes beside the planes that it is made of.

@@ -1,8 +1,8 @@
 //! A stream from its start to its picture (T.81, B.2).
-ghost use Rattle.std.specs.Prelude.{◌≡◌, ◌*◌, ◌+◌, ◌<◌, ◌≤◌, ◌&&◌, IfOk, IfSome, MatchResult};
-ghost use Rattle.std.specs.Prelude.{None, OnErr, suc};
+ghost use Rattle.std.specs.Prelude.{◌≡◌, ◌*◌, ◌/◌, ◌+◌, ◌<◌, ◌≤◌, ◌&&◌, IfOk, IfSome};
+ghost use Rattle.std.specs.Prelude.{MatchResult, None, min, suc};
 ghost use Rattle.std.specs.Prelude.{OnOk, Ok, Some, drop, false, is_some, length, map, nat_lt, not};
-ghost use Rattle.std.specs.List.{enumerate_from};
+ghost use Rattle.std.specs.List.{concat, enumerate_from};
 ghost use Rattle.std.specs.Prelude.{option_map, replicate, slice_index_or, true, []};
 ghost use Rattle.jpeg_bits.specs.Reading.{Answers, Names, NamesFormat};
 ghost use Rattle.jpeg_segments.specs.FrameView.{component_in, frame_in};
@@ -27,26 +27,25 @@ ghost use Rattle.jpeg_streams.specs.Reported.{IsOfTurns, told_by_turns, told_in_
 ghost use Rattle.jpeg_streams.specs.FoundPictures.{blocks_picture, picture_of, picture_by};
 ghost use Rattle.jpeg_streams.specs.FoundPictures.{plane_at_end, samples_picture};
 ghost use Rattle.jpeg_streams.specs.Found.{nothing_found};
-ghost use Rattle.jpeg_decoder.specs.Bytes.{IsWhole, picture_size};
+ghost use Rattle.jpeg_decoder.specs.Bytes.{AreLinesOf, HaveBytes, IsWhole};
 
 use crate::picture::color_choice::choose_color_transform;
+use crate::picture::lines::Lines;
 use crate::scan::block_array::BlockArray;
-use crate::scan::decoded::{Decoded, render};
 use crate::scan::coded::is_progressive;
+use crate::scan::decoded::{Decoded, render};
+use crate::sizes::line_bytes;
 use crate::stream::state::State;
-use crate::stream::turns::read_segments;
 use crate::stream::tables::{Missing, needed, table_at};
+use crate::stream::turns::read_segments;
 use jpeg_bits::color_transform::ColorTransform;
 use jpeg_bits::error::{Error, Result, format_error_of};
 use jpeg_bits::marker::Marker;
-use jpeg_bits::source::reads::read_u8;
 use jpeg_bits::source::Source;
-use jpeg_lossless::lossless::{compute_image_lossless, compute_image_lossless_into};
-use jpeg_pixels::joint_planes::{
-    JointPlanes, JointShape, compute_joint_image, compute_joint_image_into, joint_shape,
-};
-use jpeg_pixels::plane::crop;
-use jpeg_pixels::worker::{compute_image_rows, compute_image_rows_into};
+use jpeg_bits::source::reads::read_u8;
+use jpeg_lossless::lossless::{SampleLines, sample_lines};
+use jpeg_pixels::joint_planes::{JointPlanes, JointShape, joint_shape};
+use jpeg_pixels::lines::{PictureLines, cropped_lines, joint_lines, plane_lines};
 use jpeg_segments::parser::{CodingProcess, Component, Dimensions, FrameInfo};
 use jpeg_streams::settings::Settings;
 use std::alloc::Global;
@@ -179,82 +178,50 @@ fn planes_at_end(
     Ok(planes)
 }
 
-/// Crops the plane of a component to the picture in place, as far as the plane goes.
-fn crop_to(plane: &mut Vec<u8>, component: &Component, size: Dimensions)
+/// Returns the lines of a component's plane, cropped to the picture as far as the plane goes.
+fn lines_within(plane: Vec<u8>, component: &Component, size: Dimensions) -> PictureLines
     requires { IsScale component.now.dct_scale }
-    ensures { plane.new.items ≡ cropped_to (component_in component.now) size.width size.height
-        plane.old.items }
+    ensures cropped { concat result ≡ cropped_to (component_in component.now) size.width
+        size.height plane.items }
+    ensures height { let c = component_in component.now in
+        length result ≡ min size.height (length plane.items / (c.scale * c.blocks_wide)) }
+    ensures width { let c = component_in component.now in
+        HaveBytes (min size.width (c.scale * c.blocks_wide)) result }
 {
     let stride = component.dct_scale * usize::from(component.block_size.width);
     let lines = plane.len().checked_div(stride).unwrap_or(0);
     let width = usize::from(size.width).min(stride);
     let height = usize::from(size.height).min(lines);
-    crop(plane, stride, width, height);
+    cropped_lines(plane, stride, width, height)
 }
 
-/// Returns the picture of a frame's planes: of one its samples, and of several their colours.
+/// Returns the lines of the picture of a frame's planes: of one its samples, and of several their
+/// colours.
 fn picture_by(
     alloc: Global,
     state: &State,
     frame: &FrameInfo,
     planes: Vec<Vec<u8>>,
     settings: Settings,
-) -> Result<Vec<u8>>
+) -> Result<PictureLines>
     requires frame { IsDecodedFrame (frame_in frame.now) }
     requires planes { AreWhole (frame_in frame.now).components (map (λ p. p.items) planes.items) }
     requires count { length planes.items ≡ length (frame_in frame.now).components }
-    ensures { let expected = picture_by settings (metadata_in state.now.said.metadata)
+    requires process { (frame_in frame.now).process ≡ Lossless → ⊥ }
+    ensures meant { let expected = picture_by settings (metadata_in state.now.said.metadata)
         (frame_in frame.now) (frame_in frame.now).components (map (λ p. p.items) planes.items) in
-        MatchResult result (λ v. expected ≡ Ok v.items) (λ e. IsRefusal e × Names e expected) }
+        MatchResult result (λ l. expected ≡ Ok (concat l)) (λ e. IsRefusal e × Names e expected) }
+    ensures lines { IfOk result (λ l. AreLinesOf (Some (frame_in frame.now)) l) }
 {
     let components = frame.components.as_slice();
     if components.len() == 1 {
         let mut planes = planes;
         let component = &components[0];
-        let mut plane = needed(alloc, planes.pop(), Missing::Scan(component.identifier))?;
-        crop_to(&mut plane, component, frame.output_size);
-        return Ok(plane);
+        let plane = needed(alloc, planes.pop(), Missing::Scan(component.identifier))?;
+        return Ok(lines_within(plane, component, frame.output_size));
     }
     let transform = transform_of(state, frame, settings);
-    compute_image_rows(alloc, components, &planes, frame.output_size, transform)
-}
-
-/// Writes the picture of a frame's planes into memory that has exactly its bytes. After an error
-/// nothing is written.
-#[tactic(auto, using(crate::proofs::Rules::rooms))]
-fn write_by(
-    alloc: Global,
-    state: &State,
-    frame: &FrameInfo,
-    planes: Vec<Vec<u8>>,
-    settings: Settings,
-    pixels: &mut [u8],
-) -> Result<()>
-    requires frame { IsDecodedFrame (frame_in frame.now) }
-    requires planes { AreWhole (frame_in frame.now).components (map (λ p. p.items) planes.items) }
-    requires count { length planes.items ≡ length (frame_in frame.now).components }
-    requires process { (frame_in frame.now).process ≡ Lossless → ⊥ }
-    requires room { length pixels.old ≡ picture_size (frame_in frame.now) }
-    ensures meant { let expected = picture_by settings (metadata_in state.now.said.metadata)
-        (frame_in frame.now) (frame_in frame.now).components (map (λ p. p.items) planes.items) in
-        MatchResult result (λ u. expected ≡ Ok pixels.new) (λ e. IsRefusal e × Names e expected) }
-    ensures unwritten { OnErr result (pixels.new ≡ pixels.old) }
-{
-    let components = frame.components.as_slice();
-    if components.len() == 1 {
-        let picture = picture_by(alloc, state, frame, planes, settings)?;
-        pixels.copy_from_slice(&picture);
-        return Ok(());
-    }
-    let transform = transform_of(state, frame, settings);
-    compute_image_rows_into(
-        alloc,
-        components,
-        &planes,
-        frame.output_size,
-        transform,
-        pixels,
-    )
+    plane_lines(alloc, components, planes, frame.output_size, transform)
 }
 
 /// Returns the layout of a frame's planes in one buffer, where its components are alike.
@@ -281,68 +248,36 @@ fn transform_of(state: &State, frame: &FrameInfo, settings: Settings) -> ColorTr
     )
 }
 
-/// Returns the picture of a frame's planes that are in one buffer.
+/// Returns the lines of the picture of a frame's planes that are in one buffer.
 fn joint_picture(
     alloc: Global,
     state: &State,
     frame: &FrameInfo,
     planes: JointPlanes,
     settings: Settings,
-) -> Result<Vec<u8>>
+) -> Result<PictureLines>
     requires frame { IsDecodedFrame (frame_in frame.now) }
     requires shape { IsShapeOf (frame_in frame.now).components (frame_in frame.now).output_width
         (frame_in frame.now).output_height planes.shape }
     requires full { IsFullJoint planes }
-    ensures { let expected = picture_by settings (metadata_in state.now.said.metadata)
-        (frame_in frame.now) (frame_in frame.now).components
-        (joint_planes planes.shape planes.samples.items) in
-        MatchResult result (λ v. expected ≡ Ok v.items) (λ e. IsRefusal e × Names e expected) }
-{
-    let transform = transform_of(state, frame, settings);
-    compute_joint_image(
-        alloc,
-        &frame.components,
-        planes,
-        frame.output_size,
-        transform,
-    )
-}
-
-/// Writes the picture of a frame's planes that are in one buffer into memory that has exactly its
-/// bytes. After an error nothing is written.
-#[tactic(auto, using(crate::proofs::Rules::rooms))]
-fn write_joint(
-    alloc: Global,
-    state: &State,
-    frame: &FrameInfo,
-    planes: &JointPlanes,
-    settings: Settings,
-    pixels: &mut [u8],
-) -> Result<()>
-    requires frame { IsDecodedFrame (frame_in frame.now) }
-    requires shape { IsShapeOf (frame_in frame.now).components (frame_in frame.now).output_width
-        (frame_in frame.now).output_height planes.now.shape }
-    requires full { IsFullJoint planes.now }
     requires process { (frame_in frame.now).process ≡ Lossless → ⊥ }
-    requires room { length pixels.old ≡ picture_size (frame_in frame.now) }
     ensures meant { let expected = picture_by settings (metadata_in state.now.said.metadata)
         (frame_in frame.now) (frame_in frame.now).components
-        (joint_planes planes.now.shape planes.now.samples.items) in
-        MatchResult result (λ u. expected ≡ Ok pixels.new) (λ e. IsRefusal e × Names e expected) }
-    ensures unwritten { OnErr result (pixels.new ≡ pixels.old) }
+        (joint_planes planes.shape planes.samples.items) in
+        MatchResult result (λ l. expected ≡ Ok (concat l)) (λ e. IsRefusal e × Names e expected) }
+    ensures lines { IfOk result (λ l. AreLinesOf (Some (frame_in frame.now)) l) }
 {
     let transform = transform_of(state, frame, settings);
-    compute_joint_image_into(
+    joint_lines(
         alloc,
         &frame.components,
         planes,
         frame.output_size,
         transform,
-        pixels,
     )
 }
 
-/// Returns the picture of a frame of blocks.
+/// Returns the lines of the picture of a frame of blocks.
 #[tactic(auto, unfolding(jpeg_streams::specs::FoundPictures::blocks_picture))]
 fn blocks_picture(
     alloc: Global,
@@ -350,47 +285,20 @@ fn blocks_picture(
     frame: &FrameInfo,
     decoded: &mut Decoded,
     settings: Settings,
-) -> Result<Vec<u8>>
+) -> Result<PictureLines>
     requires sound { IsSound (with_decoded (found_in state.now) decoded.old) }
     requires frame { (said_in state.now).frame ≡ Some (frame_in frame.now) }
-    ensures meant { let expected = blocks_picture settings (with_decoded (found_in state.now) decoded.old)
-        (frame_in frame.now) in
-        MatchResult result (λ v. expected ≡ Ok v.items) (λ e. IsRefusal e × Names e expected) }
-    ensures size { ((frame_in frame.now).process ≡ Lossless → ⊥)
-        → IfOk result (λ v. IsWhole (Some (frame_in frame.now)) v.items) }
+    requires process { (frame_in frame.now).process ≡ Lossless → ⊥ }
+    ensures meant { let expected = blocks_picture settings
+        (with_decoded (found_in state.now) decoded.old) (frame_in frame.now) in
+        MatchResult result (λ l. expected ≡ Ok (concat l)) (λ e. IsRefusal e × Names e expected) }
+    ensures lines { IfOk result (λ l. AreLinesOf (Some (frame_in frame.now)) l) }
 {
     if let Some(planes) = decoded.planes.take_joint(shape_of(frame)) {
         return joint_picture(alloc, state, frame, planes, settings);
     }
     let planes = planes_at_end(alloc, state, frame, decoded)?;
     picture_by(alloc, state, frame, planes, settings)
-}
-
-/// Writes the picture of a frame of blocks into memory that has exactly its bytes. After an error
-/// nothing is written.
-#[tactic(auto, unfolding(jpeg_streams::specs::FoundPictures::blocks_picture))]
-fn write_blocks(
-    alloc: Global,
-    state: &State,
-    frame: &FrameInfo,
-    decoded: &mut Decoded,
-    settings: Settings,
-    pixels: &mut [u8],
-) -> Result<()>
-    requires sound { IsSound (with_decoded (found_in state.now) decoded.old) }
-    requires frame { (said_in state.now).frame ≡ Some (frame_in frame.now) }
-    requires process { (frame_in frame.now).process ≡ Lossless → ⊥ }
-    requires room { length pixels.old ≡ picture_size (frame_in frame.now) }
-    ensures meant { let expected = blocks_picture settings (with_decoded (found_in state.now) decoded.old)
-        (frame_in frame.now) in
-        MatchResult result (λ u. expected ≡ Ok pixels.new) (λ e. IsRefusal e × Names e expected) }
-    ensures unwritten { OnErr result (pixels.new ≡ pixels.old) }
-{
-    if let Some(planes) = decoded.planes.take_joint(shape_of(frame)) {
-        return write_joint(alloc, state, frame, &planes, settings, pixels);
-    }
-    let planes = planes_at_end(alloc, state, frame, decoded)?;
-    write_by(alloc, state, frame, planes, settings, pixels)
 }
 
 /// Returns the samples of a lossless frame's components, which are taken.
@@ -413,47 +321,24 @@ fn samples_at_end(alloc: Global, frame: &FrameInfo, decoded: &mut Decoded) -> Re
     Ok(planes)
 }
 
-/// Returns the picture of a lossless frame.
+/// Returns the lines of the picture of a lossless frame.
 #[tactic(auto, unfolding(crate::proofs::Rules::sampled), using(crate::proofs::Rules::given))]
 fn samples_picture(
     alloc: Global,
     state: &State,
     frame: &FrameInfo,
     decoded: &mut Decoded,
-) -> Result<Vec<u8>>
+) -> Result<SampleLines>
     requires sound { IsSound (with_decoded (found_in state.now) decoded.old) }
     requires frame { (said_in state.now).frame ≡ Some (frame_in frame.now) }
     requires process { (frame_in frame.now).process ≡ Lossless }
     ensures meant { let expected =
         samples_picture (with_decoded (found_in state.now) decoded.old) (frame_in frame.now) in
-        MatchResult result (λ v. expected ≡ Ok v.items) (λ e. IsRefusal e × Names e expected) }
-    ensures size { IfOk result (λ v. IsWhole (Some (frame_in frame.now)) v.items) }
+        MatchResult result (λ l. expected ≡ Ok (concat l)) (λ e. IsRefusal e × Names e expected) }
+    ensures lines { IfOk result (λ l. AreLinesOf (Some (frame_in frame.now)) l) }
 {
     let planes = samples_at_end(alloc, frame, decoded)?;
-    compute_image_lossless(alloc, frame, planes)
-}
-
-/// Writes the picture of a lossless frame into memory that has exactly its bytes. After an error
-/// nothing is written.
-#[tactic(auto, unfolding(crate::proofs::Rules::sampled))]
-fn write_samples(
-    alloc: Global,
-    state: &State,
-    frame: &FrameInfo,
-    decoded: &mut Decoded,
-    pixels: &mut [u8],
-) -> Result<()>
-    requires sound { IsSound (with_decoded (found_in state.now) decoded.old) }
-    requires frame { (said_in state.now).frame ≡ Some (frame_in frame.now) }
-    requires process { (frame_in frame.now).process ≡ Lossless }
-    requires room { length pixels.old ≡ picture_size (frame_in frame.now) }
-    ensures meant { let expected =
-        samples_picture (with_decoded (found_in state.now) decoded.old) (frame_in frame.now) in
-        MatchResult result (λ u. expected ≡ Ok pixels.new) (λ e. IsRefusal e × Names e expected) }
-    ensures unwritten { OnErr result (pixels.new ≡ pixels.old) }
-{
-    let planes = samples_at_end(alloc, frame, decoded)?;
-    compute_image_lossless_into(alloc, frame, &planes, pixels)
+    sample_lines(alloc, frame, planes)
 }
 
 /// Returns the refusal of a picture that is above the limit.
@@ -469,19 +354,15 @@ fn limit_error(alloc: Global, frame: &FrameInfo, limit: usize) -> Error
     format_error_of(format!(in alloc; "{count} samples in the picture, expected at most {limit}"))
 }
 
-/// Returns the picture of what was found, which is taken: within the limit, of planes that are
-/// there.
-#[tactic(auto, unfolding(crate::proofs::Rules::block_pictures))]
-fn picture(
-    alloc: Global,
-    state: &State,
-    decoded: &mut Decoded,
-    settings: Settings,
-) -> Result<Vec<u8>>
+/// Returns the lines of the picture of what was found, which is taken: within the limit, of planes
+/// that are there.
+#[tactic(auto, unfolding(crate::proofs::Rules::pictures), using(crate::proofs::Rules::refused))]
+fn picture(alloc: Global, state: &State, decoded: &mut Decoded, settings: Settings) -> Result<Lines>
     requires sound { IsSound (with_decoded (found_in state.now) decoded.old) }
-    ensures meant { let expected = picture_of settings (with_decoded (found_in state.now) decoded.old) in
-        MatchResult result (λ v. expected ≡ Ok v.items) (λ e. IsRefusal e × Names e expected) }
-    ensures size { IfOk result (λ v. IsWhole (said_in state.now).frame v.items) }
+    ensures meant { let expected = picture_of settings
+        (with_decoded (found_in state.now) decoded.old) in
+        MatchResult result (λ l. expected ≡ Ok (concat l)) (λ e. IsRefusal e × Names e expected) }
+    ensures lines { IfOk result (λ l. AreLinesOf (said_in state.now).frame l) }
 {
     let frame = needed(
         alloc,
@@ -495,47 +376,16 @@ fn picture(
     ) {
         return Err(limit_error(alloc, frame, settings.limit));
     }
+    let line_bytes = line_bytes(frame);
     match frame.coding_process {
         CodingProcess::DctSequential | CodingProcess::DctProgressive => {
-            blocks_picture(alloc, state, frame, decoded, settings)
+            let lines = blocks_picture(alloc, state, frame, decoded, settings)?;
+            Ok(Lines::of_planes(lines, line_bytes))
         }
-        CodingProcess::Lossless => samples_picture(alloc, state, frame, decoded),
-    }
-}
-
-/// Writes the picture of what was found, which is taken, into memory that has exactly its bytes:
-/// within the limit, of planes that are there. After an error nothing is written.
-#[tactic(auto, unfolding(crate::proofs::Rules::block_pictures))]
-fn write_picture(
-    alloc: Global,
-    state: &State,
-    decoded: &mut Decoded,
-    settings: Settings,
-    pixels: &mut [u8],
-) -> Result<()>
-    requires sound { IsSound (with_decoded (found_in state.now) decoded.old) }
-    requires room { IfSome (said_in state.now).frame (λ f. length pixels.old ≡ picture_size f) }
-    ensures meant { let expected = picture_of settings (with_decoded (found_in state.now) decoded.old) in
-        MatchResult result (λ u. expected ≡ Ok pixels.new) (λ e. IsRefusal e × Names e expected) }
-    ensures unwritten { OnErr result (pixels.new ≡ pixels.old) }
-{
-    let frame = needed(
-        alloc,
-        state.said.frame.as_ref(),
-        Missing::Frame(Marker::EOI),
-    )?;
-    if !is_within(
-        settings.limit,
-        frame.components.len(),
-        area_of(frame.output_size),
-    ) {
-        return Err(limit_error(alloc, frame, settings.limit));
-    }
-    match frame.coding_process {
-        CodingProcess::DctSequential | CodingProcess::DctProgressive => {
-            write_blocks(alloc, state, frame, decoded, settings, pixels)
+        CodingProcess::Lossless => {
+            let lines = samples_picture(alloc, state, frame, decoded)?;
+            Ok(Lines::of_samples(lines, line_bytes))
         }
-        CodingProcess::Lossless => write_samples(alloc, state, frame, decoded, pixels),
     }
 }
 
@@ -560,17 +410,17 @@ pub fn read_header<R: Read + Drop>(
     read_segments(alloc, source, state, true)
 }
 
-/// Reads the rest of a stream, after its header, and gives its picture. No blocks or planes are
-/// kept.
+/// Reads the rest of a stream, after its header, and gives the lines of its picture. No blocks or
+/// planes are kept.
 #[tactic(auto, unfolding(jpeg_streams::specs::Stream::rest_at))]
 pub fn read_rest<R: Read + Drop>(
     alloc: Global,
     source: &mut Source<R>,
     state: &mut State,
     settings: Settings,
-) -> Result<Vec<u8>>
+) -> Result<Lines>
     requires sound { IsSound (found_in state.old) }
-    ensures reads { Answers (λ v. (told_of (said_in state.new), v.items))
+    ensures reads { Answers (λ l. (told_of (said_in state.new), concat l))
         (rest_at settings (found_in state.old)) source.old result source.new }
     ensures told { OnTold source.old source.new result (told_of (said_in state.new)
         ≡ told_in_turns (suc (length source.old.bytes)) false (found_in state.old)
@@ -582,7 +432,8 @@ pub fn read_rest<R: Read + Drop>(
     ensures stays { is_some (said_in state.old).frame ≡ true → (said_in state.new).frame
         ≡ (said_in state.old).frame }
     ensures frames { OnOk result (HasDecodedFrame (found_in state.new)) }
-    ensures size { IfOk result (λ v. IsWhole (said_in state.new).frame v.items) }
+    ensures lines { IfOk result (λ l. AreLinesOf (said_in state.new).frame l) }
+    ensures size { IfOk result (λ l. IsWhole (said_in state.new).frame (concat l)) }
     ensures emptied { ((found_in state.new).kept ≡ [])
         × ((found_in state.new).planes ≡ replicate 4 None)
         × ((found_in state.new).samples ≡ replicate 4 None) }
@@ -591,38 +442,4 @@ pub fn read_rest<R: Read + Drop>(
     let mut decoded = std::mem::replace(&mut state.decoded, Decoded::new(alloc));
     ended?;
     picture(alloc, state, &mut decoded, settings)
-}
-
-/// Reads the rest of a stream, after its header, and writes its picture into memory that has
-/// exactly its bytes. After an error nothing is written. No blocks or planes are kept.
-#[tactic(auto, unfolding(jpeg_streams::specs::Stream::rest_at))]
-pub fn read_rest_into<R: Read + Drop>(
-    alloc: Global,
-    source: &mut Source<R>,
-    state: &mut State,
-    settings: Settings,
-    pixels: &mut [u8],
-) -> Result<()>
-    requires sound { IsSound (found_in state.old) }
-    requires framed { is_some (said_in state.old).frame ≡ true }
-    requires room { IfSome (said_in state.old).frame (λ f. length pixels.old ≡ picture_size f) }
-    ensures reads { Answers (λ u. (told_of (said_in state.new), pixels.new))
-        (rest_at settings (found_in state.old)) source.old result source.new }
-    ensures told { OnTold source.old source.new result (told_of (said_in state.new)
-        ≡ told_in_turns (suc (length source.old.bytes)) false (found_in state.old)
-        source.old.bytes) }
-    ensures turns { source.old.known ≡ true → IsOfTurns
-        (λ n. told_in_turns n false (found_in state.old) source.old.bytes)
-        (told_of (said_in state.new)) }
-    ensures stays { (said_in state.new).frame ≡ (said_in state.old).frame }
-    ensures frames { OnOk result (HasDecodedFrame (found_in state.new)) }
-    ensures unwritten { OnErr result (pixels.new ≡ pixels.old) }
-    ensures emptied { ((found_in state.new).kept ≡ [])
-        × ((found_in state.new).planes ≡ replicate 4 None)
-        × ((found_in state.new).samples ≡ replicate 4 None) }
-{
-    let end = read_segments(alloc, source, state, false);
-    let mut decoded = std::mem::replace(&mut state.decoded, Decoded::new(alloc));
-    end?;
-    write_picture(alloc, state, &mut decoded, settings, pixels)
 }

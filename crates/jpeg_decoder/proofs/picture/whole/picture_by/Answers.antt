@@ -1,27 +1,39 @@
 use Rattle.std.proofs.Common.{ap, map, refl, rules}
+use Rattle.std.specs.List.{concat}
 use Rattle.jpeg_segments.specs.FrameView.{component_in, frame_in}
-use Rattle.jpeg_decoder.proofs.PicturesOfPlanes.{picture-first, scale-first, several-given, several-ready, several-seen}
+use Rattle.jpeg_decoder.proofs.PictureSizes.{if-block_lines}
+use Rattle.jpeg_decoder.proofs.PicturesOfPlanes.{lines-first, picture-first, scale-first, several-given, several-ready}
+use Rattle.jpeg_decoder.proofs.PicturesOfPlanes.{several-seen}
 use Rattle.jpeg_decoder.proofs.picture.whole.picture_by.Goals as goal
 
-pub crop_to-requires : goal.crop_to-requires
-crop_to-requires c = search (rules, scale-first)
+pub lines_within-requires : goal.lines_within-requires
+lines_within-requires c = search (rules, scale-first)
 
-pub returns-then-components-eq1 : goal.returns-then-components-eq1
-returns-then-components-eq1 c =
+pub returns-then-components-eq1-clause-meant : goal.returns-then-components-eq1-clause-meant
+returns-then-components-eq1-clause-meant c =
     picture-first _ _ (frame_in c.args.frame.now) _ _ _ _ _ _ _ _ c.as_slice-components.ensures.value
-    c.if-components-eq1.true c.requires.count c.pop.ensures.items c.in_ok-plane.ensures c.crop_to.ensures
+    c.if-components-eq1.true c.requires.count c.pop.ensures.items c.in_ok-plane.ensures c.lines_within.ensures.cropped
 
-pub compute_image_rows-requires : goal.compute_image_rows-requires
-compute_image_rows-requires c =
+pub returns-then-components-eq1-clause-lines : goal.returns-then-components-eq1-clause-lines
+returns-then-components-eq1-clause-lines c =
+    lines-first (frame_in c.args.frame.now) _ _ _ _ _ _ _ _ c.requires.frame c.requires.process refl
+    c.as_slice-components.ensures.value c.if-components-eq1.true c.requires.count c.pop.ensures.items
+    c.in_ok-plane.ensures c.requires.planes c.lines_within.ensures.height c.lines_within.ensures.width
+
+pub plane_lines-requires : goal.plane_lines-requires
+plane_lines-requires c =
     let r = several-ready (frame_in c.args.frame.now) _ _ _ _ c.requires.frame refl
-    c.as_slice-components.ensures.value c.deref.ensures.value c.if-components-eq1.false c.requires.count
-    c.requires.planes in
+    c.as_slice-components.ensures.value refl c.if-components-eq1.false c.requires.count c.requires.planes in
     record { some = r.0.0; most = r.0.1; planes = r.1.0; factors = r.1.1.0; cover = r.1.1.1 }
 
-pub returns : goal.returns
-returns c =
+pub returns-clause-meant : goal.returns-clause-meant
+returns-clause-meant c =
     let same = c.as_slice-components.ensures.value in
     let other = several-seen _ _ (frame_in c.args.frame.now) refl same c.requires.frame c.if-components-eq1.false in
-    several-given (λ v. v.items) _ _ (frame_in c.args.frame.now) _ _ _ _ c.compute_image_rows.result c.requires.frame
-    other.0 (ap (map component_in) same) (ap (map (λ v. v.items)) c.deref.ensures.value)
-    c.transform_of-transform.ensures c.compute_image_rows.ensures
+    several-given concat _ _ (frame_in c.args.frame.now) _ _ _ _ c.plane_lines.result c.requires.frame
+    other.0 (ap (map component_in) same) refl c.transform_of-transform.ensures c.plane_lines.ensures.picture
+
+pub returns-clause-lines : goal.returns-clause-lines
+returns-clause-lines c =
+    if-block_lines (frame_in c.args.frame.now) _ c.plane_lines.result c.requires.frame c.requires.process
+    (ap (map component_in) c.as_slice-components.ensures.value) c.plane_lines.ensures.lines

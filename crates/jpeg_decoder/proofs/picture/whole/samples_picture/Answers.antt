@@ -1,7 +1,7 @@
 use Rattle.std.proofs.Common.{arith}
 use Rattle.jpeg_segments.specs.FrameView.{frame_in}
 use Rattle.jpeg_decoder.proofs.LosslessReads.{samples-whole}
-use Rattle.jpeg_decoder.proofs.LosslessPictureSizes.{if-samples_size}
+use Rattle.jpeg_decoder.proofs.PictureSizes.{if-sample_lines}
 use Rattle.jpeg_decoder.proofs.PicturesOfPlanes.{decoded-factors, decoded-few}
 use Rattle.jpeg_streams.proofs.LosslessSizes.{all-reach, decoded-made}
 use Rattle.jpeg_decoder.proofs.picture.whole.samples_picture.Goals as goal
@@ -9,8 +9,8 @@ use Rattle.jpeg_decoder.proofs.picture.whole.samples_picture.Goals as goal
 pub samples_at_end-requires : goal.samples_at_end-requires
 samples_at_end-requires c = record { count = decoded-few _ (c.requires.sound.frames _ c.requires.frame) }
 
-pub compute_image_lossless-requires : goal.compute_image_lossless-requires
-compute_image_lossless-requires c =
+pub sample_lines-requires : goal.sample_lines-requires
+sample_lines-requires c =
     let frame = frame_in c.args.frame.now in
     let decoded = c.requires.sound.frames frame c.requires.frame in
     record {
@@ -20,7 +20,7 @@ compute_image_lossless-requires c =
       reaches = all-reach frame frame.components (decoded-made frame decoded c.requires.process);
     }
 
-pub returns-clause-size : goal.returns-clause-size
-returns-clause-size c =
-    if-samples_size (λ v. v.items) _ _ _ (c.requires.sound.frames _ c.requires.frame) c.requires.process
-    c.compute_image_lossless.ensures.pixels
+pub returns-clause-lines : goal.returns-clause-lines
+returns-clause-lines c =
+    if-sample_lines _ _ c.sample_lines.result (c.requires.sound.frames _ c.requires.frame) c.requires.process
+    c.in_ok-planes.ensures.count c.sample_lines.ensures.lines

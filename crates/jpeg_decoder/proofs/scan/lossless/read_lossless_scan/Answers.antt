@@ -15,7 +15,6 @@ use Rattle.jpeg_streams.specs.Found.{Found}
 use Rattle.jpeg_streams.specs.LosslessScans.{with_samples}
 use Rattle.jpeg_decoder.specs.LosslessParts.{mcus_high, mcus_wide, parts_at}
 use Rattle.jpeg_decoder.specs.Seen.{found_of, said_of}
-use Rattle.jpeg_decoder.specs.Steps.{with_decoded}
 use Rattle.jpeg_decoder.proofs.PicturesOfPlanes.{decoded-factors}
 use Rattle.jpeg_streams.proofs.Soundness.{decoded-precision}
 use Rattle.jpeg_decoder.proofs.scan.lossless.read_lossless_scan.Given as given

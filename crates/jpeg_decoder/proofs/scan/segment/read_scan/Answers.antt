@@ -8,7 +8,6 @@ use Rattle.jpeg_streams.specs.Found.{Found}
 use Rattle.jpeg_streams.specs.Segments.{Turn}
 use Rattle.jpeg_streams.specs.InTurn.{AreArrays}
 use Rattle.jpeg_streams.specs.Sound.{IsSound}
-use Rattle.jpeg_decoder.specs.declared.scan.decoded.Decoded.{Decoded}
 use Rattle.jpeg_decoder.specs.Seen.{found_in}
 use Rattle.jpeg_decoder.specs.PlanesView.{planes_in}
 use Rattle.jpeg_decoder.specs.Steps.{IsStep, with_decoded}
