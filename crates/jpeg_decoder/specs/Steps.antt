@@ -3,8 +3,8 @@
 use Rattle.std.specs.Prelude.{◌≡◌, ◌<◌, ◌≤◌, All, ℕ, suc, ◌&&◌, not, is_some, slice_set, ◌*◌}
 use Rattle.std.specs.Prelude.{◌/◌, min, List, [], ◌∷◌, map, set, length, replicate, get_or, Bool}
 use Rattle.std.specs.Prelude.{true, false, Option, slice_get, slice_index_or, Some, None, Result}
-use Rattle.std.specs.Prelude.{Ok, if◌then◌else◌, IfOk, OnErr, OnOk}
-use Rattle.jpeg_bits.specs.Reading.{Outcome, Fault, ◌>>=◌}
+use Rattle.std.specs.Prelude.{Ok, if◌then◌else◌, IfOk, MatchResult, OnErr, OnOk}
+use Rattle.jpeg_bits.specs.Reading.{Names, Outcome, Fault, ◌>>=◌}
 use Rattle.jpeg_bits.specs.Codes.{Table}
 use Rattle.jpeg_bits.specs.DefaultTables.{luminance_dc, chrominance_dc, luminance_ac}
 use Rattle.jpeg_bits.specs.DefaultTables.{chrominance_ac, with_defaults}
@@ -267,3 +267,8 @@ IsRefusal (errors.Unsupported feature) = Unit {0}
 IsRefusal (errors.Io e) = ⊥
 IsRefusal (errors.Internal text) = ⊥
 IsRefusal errors.OutOfMemory = Unit {0}
+
+-- A call returns what is expected, seen by a view, or names the fault that is expected.
+abbrev pub Returns : {V X : Type 0} → Result V Fault → (X → V) → Result X Error → Type 0
+Returns expected view result = MatchResult result (λ x. expected ≡ Ok (view x))
+    (λ e. IsRefusal e × Names e expected)

@@ -1,6 +1,6 @@
 //! A stream from its start to its picture (T.81, B.2).
 ghost use Rattle.std.specs.Prelude.{◌≡◌, ◌*◌, ◌/◌, ◌+◌, ◌<◌, ◌≤◌, ◌&&◌, IfOk, IfSome};
-ghost use Rattle.std.specs.Prelude.{MatchResult, None, min, suc};
+ghost use Rattle.std.specs.Prelude.{None, min, suc};
 ghost use Rattle.std.specs.Prelude.{OnOk, Ok, Some, drop, false, is_some, length, map, nat_lt, not};
 ghost use Rattle.std.specs.List.{concat, enumerate_from};
 ghost use Rattle.std.specs.Prelude.{option_map, replicate, slice_index_or, true, []};
@@ -21,7 +21,7 @@ ghost use Rattle.jpeg_decoder.specs.PlanesView.{planes_in};
 ghost use Rattle.jpeg_streams.specs.Sound.{IsDecodedFrame, IsPlaneOf, IsSound, HasDecodedFrame};
 ghost use Rattle.jpeg_streams.specs.Sound.{IsUnread};
 ghost use Rattle.jpeg_streams.specs.States.{OnTold};
-ghost use Rattle.jpeg_decoder.specs.Steps.{IsRefusal, cropped_to, with_decoded};
+ghost use Rattle.jpeg_decoder.specs.Steps.{Returns, cropped_to, with_decoded};
 ghost use Rattle.jpeg_streams.specs.Stream.{header_at, rest_at, start_at, told_of};
 ghost use Rattle.jpeg_streams.specs.Reported.{IsOfTurns, told_by_turns, told_in_turns};
 ghost use Rattle.jpeg_streams.specs.FoundPictures.{blocks_picture, picture_of, picture_by};
@@ -132,7 +132,7 @@ fn plane_at_end(
         component.now.quantization_table_index None in
         let expected = plane_or (component_in component.now) table (option_map (λ v. v.items) plane)
         (option_map blocks_in kept) in
-        MatchResult result (λ v. expected ≡ Ok v.items) (λ e. IsRefusal e × Names e expected) }
+        Returns expected (λ v. v.items) result }
     ensures whole { IfOk result (λ v. IsPlaneOf (component_in component.now) (Some v.items)) }
 {
     if let Some(plane) = plane {
@@ -162,8 +162,7 @@ fn planes_at_end(
     ensures planes { let expected = gathered (plane_at_end
         (with_decoded (found_in state.now) decoded.old) (frame_in frame.now))
         (enumerate_from 0 (frame_in frame.now).components) in
-        MatchResult result (λ v. expected ≡ Ok (map (λ p. p.items) v.items)) (λ e. IsRefusal e
-        × Names e expected) }
+        Returns expected (λ v. map (λ p. p.items) v.items) result }
     ensures whole { IfOk result (λ v. AreWhole (frame_in frame.now).components
         (map (λ p. p.items) v.items)) }
     ensures count { IfOk result (λ v. length v.items ≡ length (frame_in frame.now).components) }
@@ -210,7 +209,7 @@ fn picture_by(
     requires process { (frame_in frame.now).process ≡ Lossless → ⊥ }
     ensures meant { let expected = picture_by settings (metadata_in state.now.said.metadata)
         (frame_in frame.now) (frame_in frame.now).components (map (λ p. p.items) planes.items) in
-        MatchResult result (λ l. expected ≡ Ok (concat l)) (λ e. IsRefusal e × Names e expected) }
+        Returns expected (λ l. concat l) result }
     ensures lines { IfOk result (λ l. AreLinesOf (Some (frame_in frame.now)) l) }
 {
     let components = frame.components.as_slice();
@@ -264,7 +263,7 @@ fn joint_picture(
     ensures meant { let expected = picture_by settings (metadata_in state.now.said.metadata)
         (frame_in frame.now) (frame_in frame.now).components
         (joint_planes planes.shape planes.samples.items) in
-        MatchResult result (λ l. expected ≡ Ok (concat l)) (λ e. IsRefusal e × Names e expected) }
+        Returns expected (λ l. concat l) result }
     ensures lines { IfOk result (λ l. AreLinesOf (Some (frame_in frame.now)) l) }
 {
     let transform = transform_of(state, frame, settings);
@@ -291,7 +290,7 @@ fn blocks_picture(
     requires process { (frame_in frame.now).process ≡ Lossless → ⊥ }
     ensures meant { let expected = blocks_picture settings
         (with_decoded (found_in state.now) decoded.old) (frame_in frame.now) in
-        MatchResult result (λ l. expected ≡ Ok (concat l)) (λ e. IsRefusal e × Names e expected) }
+        Returns expected (λ l. concat l) result }
     ensures lines { IfOk result (λ l. AreLinesOf (Some (frame_in frame.now)) l) }
 {
     if let Some(planes) = decoded.planes.take_joint(shape_of(frame)) {
@@ -308,8 +307,7 @@ fn samples_at_end(alloc: Global, frame: &FrameInfo, decoded: &mut Decoded) -> Re
     ensures planes { let expected = gathered
         (λ c. needed (slice_index_or (planes_in decoded.old.samples) c.0 None))
         (enumerate_from 0 (frame_in frame.now).components) in
-        MatchResult result (λ v. expected ≡ Ok (map (λ p. p.items) v.items)) (λ e. IsRefusal e
-        × Names e expected) }
+        Returns expected (λ v. map (λ p. p.items) v.items) result }
     ensures count { IfOk result (λ v. length v.items ≡ length (frame_in frame.now).components) }
 {
     let mut planes = Vec::with_capacity(alloc, frame.components.len())?;
@@ -334,7 +332,7 @@ fn samples_picture(
     requires process { (frame_in frame.now).process ≡ Lossless }
     ensures meant { let expected =
         samples_picture (with_decoded (found_in state.now) decoded.old) (frame_in frame.now) in
-        MatchResult result (λ l. expected ≡ Ok (concat l)) (λ e. IsRefusal e × Names e expected) }
+        Returns expected (λ l. concat l) result }
     ensures lines { IfOk result (λ l. AreLinesOf (Some (frame_in frame.now)) l) }
 {
     let planes = samples_at_end(alloc, frame, decoded)?;
@@ -361,7 +359,7 @@ fn picture(alloc: Global, state: &State, decoded: &mut Decoded, settings: Settin
     requires sound { IsSound (with_decoded (found_in state.now) decoded.old) }
     ensures meant { let expected = picture_of settings
         (with_decoded (found_in state.now) decoded.old) in
-        MatchResult result (λ l. expected ≡ Ok (concat l)) (λ e. IsRefusal e × Names e expected) }
+        Returns expected (λ l. concat l) result }
     ensures lines { IfOk result (λ l. AreLinesOf (said_in state.now).frame l) }
 {
     let frame = needed(

@@ -1,5 +1,5 @@
 //! The components of a scan, and the tables that they are coded by (T.81, B.2.3).
-ghost use Rattle.std.specs.Prelude.{◌≡◌, ◌<◌, ◌≤◌, Ok, IfOk, IfErr, MatchResult, length, map};
+ghost use Rattle.std.specs.Prelude.{◌≡◌, ◌<◌, ◌≤◌, Ok, IfOk, IfErr, length, map};
 ghost use Rattle.std.specs.List.{AllByRecursion};
 ghost use Rattle.std.specs.Option.{option_copied};
 ghost use Rattle.jpeg_bits.specs.Reading.{Names};
@@ -10,7 +10,7 @@ ghost use Rattle.jpeg_segments.specs.FrameView.{frame_in, scan_in};
 ghost use Rattle.jpeg_segments.specs.ScanHeader.{IsScanOf};
 ghost use Rattle.jpeg_streams.specs.Scans.{no_table};
 ghost use Rattle.jpeg_decoder.specs.Seen.{found_in, said_of};
-ghost use Rattle.jpeg_decoder.specs.Steps.{IsRefusal, IsSpareOf, coding_in};
+ghost use Rattle.jpeg_decoder.specs.Steps.{Returns, IsSpareOf, coding_in};
 ghost use Rattle.jpeg_decoder.specs.Steps.{coding_in_slot, default_dc, default_ac, in_force};
 ghost use Rattle.jpeg_decoder.specs.Steps.{HasScale, table_if};
 ghost use Rattle.jpeg_streams.specs.ScanSegments.{codings_of, pass_of};
@@ -205,9 +205,7 @@ fn needed_table<'a>(
     none: &'a HuffmanTable,
     missing: Missing,
 ) -> Result<&'a HuffmanTable>
-    ensures { MatchResult result
-        (λ t. table_if is_needed none.now (option_copied table.entry) ≡ Ok t.now)
-        (λ e. IsRefusal e × Names e (table_if is_needed none.now (option_copied table.entry))) }
+    ensures { Returns (table_if is_needed none.now (option_copied table.entry)) (λ t. t.now) result }
 {
     if is_needed {
         needed(alloc, table, missing)
@@ -231,9 +229,7 @@ fn coding_of<'a>(
     requires spare { IsSpareOf (said_of said.now) (scan_in header.now) spare.now }
     ensures coding { let frame = frame_in frame.now in
         let scan = scan_in header.now in
-        MatchResult result
-        (λ c. coding_in_slot (said_of said.now) frame scan slot ≡ Ok (coding_in c))
-        (λ e. IsRefusal e × Names e (coding_in_slot (said_of said.now) frame scan slot)) }
+        Returns (coding_in_slot (said_of said.now) frame scan slot) (λ c. coding_in c) result }
 {
     let index = header.component_indices[slot];
     let component = frame.components.get(index);
@@ -277,9 +273,7 @@ pub fn codings_of<'a>(
     requires spare { IsSpareOf (said_of said.now) (scan_in header.now) spare.now }
     ensures codings { let frame = frame_in frame.now in
         let scan = scan_in header.now in
-        MatchResult result
-        (λ v. codings_of (said_of said.now) frame scan ≡ Ok (map coding_in v.items))
-        (λ e. IsRefusal e × Names e (codings_of (said_of said.now) frame scan)) }
+        Returns (codings_of (said_of said.now) frame scan) (λ v. map coding_in v.items) result }
     ensures count { IfOk result (λ v. length v.items ≡ length (scan_in header.now).components) }
 {
     let mut codings = Vec::with_capacity(alloc, header.component_indices.len())?;

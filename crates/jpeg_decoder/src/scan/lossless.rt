@@ -1,5 +1,5 @@
 //! Scans of lossless frames (T.81, B.2.3 and Annex H).
-ghost use Rattle.std.specs.Prelude.{◌≡◌, ◌<◌, ◌==◌, All, IfOk, MatchResult, OnOk, Ok, Some, length};
+ghost use Rattle.std.specs.Prelude.{◌≡◌, ◌<◌, ◌==◌, All, IfOk, OnOk, Ok, Some, length};
 ghost use Rattle.std.specs.Prelude.{map, true};
 ghost use Rattle.jpeg_bits.specs.Reading.{Answers, Names};
 ghost use Rattle.jpeg_segments.specs.Frame.{AllHaveSampling};
@@ -10,7 +10,7 @@ ghost use Rattle.jpeg_streams.specs.LosslessScans.{tables_in};
 ghost use Rattle.jpeg_decoder.specs.Seen.{found_of, said_of};
 ghost use Rattle.jpeg_streams.specs.ScanSegments.{once_scanned};
 ghost use Rattle.jpeg_streams.specs.Sound.{IsSound};
-ghost use Rattle.jpeg_decoder.specs.Steps.{IsRefusal, samples_read};
+ghost use Rattle.jpeg_decoder.specs.Steps.{Returns, samples_read};
 ghost use Rattle.jpeg_decoder.specs.LosslessParts.{mcus_high, mcus_wide, part_by, parts_at};
 ghost use Rattle.jpeg_lossless.specs.Codings.{part_in};
 
@@ -45,8 +45,7 @@ fn tables_of<'a>(
     header: &ScanInfo,
 ) -> Result<Vec<&'a HuffmanTable>>
     ensures { let expected = tables_in said.now.dc_tables (scan_in header.now).dc_destinations in
-        MatchResult result (λ v. expected ≡ Ok (map (λ t. t.now) v.items))
-        (λ e. IsRefusal e × Names e expected) }
+        Returns expected (λ v. map (λ t. t.now) v.items) result }
 {
     let mut tables = Vec::with_capacity(alloc, header.dc_table_indices.len())?;
     for slot in 0..header.dc_table_indices.len() {
