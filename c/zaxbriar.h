@@ -149,9 +149,8 @@ typedef struct zaxbriar_picture {
     uint64_t size;           /* the bytes of the picture: stride * (height - 1) + row_bytes */
     uint64_t row_bytes;      /* the bytes of a line without its gap: width * pixel_bytes */
     uint64_t decoding_bytes; /* the most memory that the library takes for samples at a time: what
-                                a call allocates beside `pixels`, but for tables, metadata and a few
-                                lines. Where `pixels` can't take the picture as it is stored, this
-                                counts a second picture: see zaxbriar_decode. */
+                                a call allocates besides `pixels`, except for tables, metadata and
+                                a few lines */
     uint64_t stream_bytes;   /* after decoding: how many bytes of `jpeg` were read */
     uint32_t width;          /* in pixels, at the scale of the options */
     uint32_t height;
@@ -178,9 +177,7 @@ ZAXBRIAR_CALL zaxbriar_result zaxbriar_read_info(const void *jpeg, size_t jpeg_s
  * unchanged. A buffer that is too small is refused before the picture is decoded. `picture` may be
  * null.
  *
- * A picture without gaps is decoded in `pixels` itself, and its pixels are rearranged there. In two
- * cases it is decoded into a second picture, in memory that the call allocates, and copied: where
- * there are gaps between the lines, and where GREY is asked for of a colour picture. */
+ * In every layout the lines are written directly into `pixels`; there is no second picture. */
 ZAXBRIAR_CALL zaxbriar_result zaxbriar_decode(const void *jpeg, size_t jpeg_size,
                                               const zaxbriar_options *options, void *pixels,
                                               size_t pixels_size, zaxbriar_picture *picture);

@@ -150,7 +150,8 @@ static void features(void) {
     zaxbriar_options none = {0};
     unsigned char stream[sizeof grey + sizeof lines];
     memcpy(stream, grey, sizeof grey);
-    stream[75] = 12; /* the bits of a sample */
+    stream[72] = 0xc1; /* extended, since a baseline frame has 8 bits */
+    stream[75] = 12;
     CHECK(zaxbriar_read_info(stream, sizeof grey, NULL, &picture) == ZAXBRIAR_UNSUPPORTED);
     CHECK(picture.feature == ZAXBRIAR_FEATURE_PRECISION && picture.feature_argument == 12);
     CHECK(picture.width == 0 && picture.format == ZAXBRIAR_NO_FORMAT);

@@ -15,29 +15,16 @@ use Rattle.jpeg_streams.specs.declared.progress.Progress.TheVariants.{HeaderRead
 use Rattle.jpeg_streams.specs.Stream.{Told, rest_at, told_of}
 use Rattle.jpeg_streams.specs.declared.images.ImageInfo.{ImageInfo}
 use Rattle.jpeg_decoder.proofs.Callers.{picture_is_counted}
-use Rattle.jpeg_decoder.specs.Bytes.{HasRoom, IsCounted, IsWhole, decoding_bytes}
+use Rattle.jpeg_decoder.specs.Bytes.{AreLinesOf, HaveBytes, IsCounted, bytes_a_sample, line_bytes, samples_a_pixel}
 use Rattle.jpeg_decoder.specs.declared.sizes.DecodingBytes.{DecodingBytes}
 use Rattle.zaxbriar.proofs.Fails.{stands}
-use Rattle.zaxbriar.proofs.Laid.{laid-within, line-length}
 use Rattle.zaxbriar.proofs.Told.{count-of}
 use Rattle.zaxbriar.specs.Faults.{IsFault, StandsFor}
 use Rattle.zaxbriar.specs.Layouts.{TakesStored, converted_bytes, laid_out, layout_line, size_of_lines}
-use Rattle.zaxbriar.specs.Limits.{are_in_place}
 use Rattle.zaxbriar.specs.Lines.{Decodes, HasLines}
 use Rattle.zaxbriar.specs.declared.answers.Refusal.{Refusal}
 use Rattle.zaxbriar.specs.declared.lines.Lines.{Lines}
 use Rattle.zaxbriar.specs.declared.options.Options.{Options}
-
-pub has-room : (old new : Option Frame) (bytes : DecodingBytes) (room : ℕ) → new ≡ old
-    → option_map decoding_bytes old ≡ Some bytes → bytes.picture ≤ room → HasRoom new room
-has-room old None bytes room same e le = tt
-has-room old (Some f) bytes room same e le =
-    let whole : option_map decoding_bytes (Some f) ≡ Some bytes = ap (λ (x : Option Frame). option_map decoding_bytes x) same ∙ e in
-    let is : decoding_bytes f ≡ bytes = cc in
-    subst (λ (b : DecodingBytes). b.picture ≤ room) (sym is) le
-
-pub in-place : (lines : Lines) → are_in_place lines ≡ true → (lines.stored ≤ lines.pixel_bytes) × (lines.stride ≡ lines.row_bytes)
-in-place lines e = grind arith
 
 pub row-of : (o : Options) (info : ImageInfo) (precision : ℕ) (lines : Lines) → HasLines o info precision lines
     → lines.row_bytes ≡ lines.width * converted_bytes lines.conversion lines.stored
@@ -49,59 +36,30 @@ pub fits-of : (o : Options) (info : ImageInfo) (precision : ℕ) (lines : Lines)
 fits-of o info precision lines h =
     subst (λ (l : Lines). TakesStored l.conversion l.stored) (sym h.lines_are) h.fits
 
--- ---- lines that are made where their rows are
-
--- a line is at least as long as its row
-pub wide-of : (o : Options) (info : ImageInfo) (precision : ℕ) (lines : Lines) → HasLines o info precision lines
-    → are_in_place lines ≡ true → lines.width * lines.stored ≤ lines.row_bytes
-wide-of o info precision lines h p =
-    let row : lines.row_bytes ≡ lines.width * lines.pixel_bytes = ap (λ (l : Lines). l.row_bytes) h.lines_are
-    ∙ sym (ap (λ (l : Lines). l.width * l.pixel_bytes) h.lines_are) in
-    subst (λ n. lines.width * lines.stored ≤ n) (sym row) (mul-le-mul_left lines.width (in-place lines p).0)
-
-within-size : (stride row height room : ℕ) → stride ≡ row → size_of_lines stride row height ≤ room
-    → height * row ≤ room
-within-size stride row zero room e le = omega arith
-within-size stride row (suc height) room e le =
-    let some : (suc height == 0) ≡ false = ne_eqb (suc height) 0 (λ z. omega (arith, z)) in
-    let le' : stride * (suc height - 1) + row ≤ room = rw some at le in
-    let at : suc height - 1 ≡ height = omega arith in
-    let all : stride * (suc height - 1) + row ≡ suc height * row = (λ i. e i * at i + row) ∙ omega arith in
-    omega (arith, le', all)
-
--- the memory has room for all lines
-pub room-of : (lines : Lines) (room : ℕ) → are_in_place lines ≡ true
-    → size_of_lines lines.stride lines.row_bytes lines.height ≤ room → lines.height * lines.row_bytes ≤ room
-room-of lines room p le = within-size lines.stride lines.row_bytes lines.height room (in-place lines p).1 le
-
--- the lines of a picture that was decoded where they are
-pub widened-of : (o : Options) (info : ImageInfo) (precision n : ℕ) (lines : Lines) (before decoded after : List ℕ)
-    → HasLines o info precision lines → are_in_place lines ≡ true
-    → length decoded ≡ length before → drop n decoded ≡ drop n before
-    → length (take n decoded) ≡ lines.height * (lines.width * lines.stored)
-    → after ≡ laid_out (layout_line lines.conversion lines.stored lines.width) (lines.width * lines.stored)
-    lines.stride lines.height (take (lines.height * (lines.width * lines.stored)) decoded) decoded
-    → after ≡ laid_out (layout_line lines.conversion lines.stored lines.width) (lines.width * lines.stored)
-    lines.stride lines.height (take n decoded) before
-widened-of o info precision n lines before decoded after h p same rest count is =
-    let close : lines.stride ≡ lines.row_bytes = (in-place lines p).1 in
-    let row = row-of o info precision lines h in
-    laid-within (layout_line lines.conversion lines.stored lines.width) (lines.width * lines.stored) lines.stride
-    lines.height n before decoded after
-    (λ s whole. line-length lines.conversion lines.stored lines.width s (fits-of o info precision lines h) whole
-    ∙ sym (close ∙ row))
-    (subst (λ k. lines.width * lines.stored ≤ k) (sym close) (wide-of o info precision lines h p)) same rest count is
-
 -- ---- a picture that was decoded
 
-pub samples-count : (o : Options) (info : ImageInfo) (precision : ℕ) (lines : Lines) (old new : Option Frame)
-    (samples : List ℕ) → HasLines o info precision lines → new ≡ old → option_map info_of old ≡ Some info
-    → option_map (λ f. f.precision) old ≡ Some precision → IsWhole new samples → IsCounted new
-    → length samples ≡ lines.height * (lines.width * lines.stored)
-samples-count o info precision lines old new samples h same i p whole counted =
-    count-of o info precision (length samples) lines h (picture_is_counted new info precision samples whole counted
-    (ap (λ (f : Option Frame). option_map info_of f) same ∙ i)
-    (ap (λ (f : Option Frame). option_map (λ f. f.precision) f) same ∙ p))
+-- each line of a picture has as many bytes as its pixels are stored in
+pub lines-stored : (o : Options) (info : ImageInfo) (precision : ℕ) (lines : Lines) (old new : Option Frame)
+    (picture : List (List ℕ)) → HasLines o info precision lines → new ≡ old → option_map info_of old ≡ Some info
+    → option_map (λ f. f.precision) old ≡ Some precision → IsCounted new → AreLinesOf new picture
+    → HaveBytes (lines.width * lines.stored) picture
+unfolding line_bytes
+lines-stored o info precision lines old None picture h same i p counted are =
+    let whole : option_map info_of None ≡ Some info = ap (λ (f : Option Frame). option_map info_of f) same ∙ i in
+    absurd (cc)
+lines-stored o info precision lines old (Some f) picture h same i p counted are =
+    let whole : option_map info_of (Some f) ≡ Some info = ap (λ (f : Option Frame). option_map info_of f) same ∙ i in
+    let whole' : option_map (λ f. f.precision) (Some f) ≡ Some precision =
+    ap (λ (f : Option Frame). option_map (λ f. f.precision) f) same ∙ p in
+    let is : info_of f ≡ info = cc in
+    let is' : f.precision ≡ precision = cc in
+    let width : f.output_width ≡ lines.width = ap (λ (x : ImageInfo). x.width) is
+    ∙ sym (ap (λ (l : Lines). l.width) h.lines_are) in
+    let samples : length f.components ≡ samples_a_pixel info.pixel_format = counted
+    ∙ ap (λ (x : ImageInfo). samples_a_pixel x.pixel_format) is in
+    let stored : length f.components * bytes_a_sample f.precision ≡ lines.stored =
+    (λ i. samples i * bytes_a_sample (is' i)) ∙ sym (ap (λ (l : Lines). l.stored) h.lines_are) in
+    subst (λ n. HaveBytes n picture) (λ i. width i * stored i) are.1
 
 pub decodes-of : (lines : Lines) (old new : Decoding) (samples before after : List ℕ) → old.stage ≡ HeaderRead
     → new.found.said.frame ≡ old.found.said.frame

@@ -7,7 +7,8 @@ use Rattle.std.proofs.lemmas.List.{append-nil, drop-append-le, drop-drop, drop-t
 use Rattle.std.proofs.lemmas.List.{take-append-drop, take-append-le, take_min}
 use Rattle.std.proofs.Math.ListN.{drop_of_length-le}
 use Rattle.std.proofs.Math.Nat.{mul-le-mul, mul-le-mul_left, mul-le-mul_right}
-use Rattle.std.specs.Prelude.{min, slice_set}
+use Rattle.std.specs.List.{AllByRecursion, concat}
+use Rattle.std.specs.Prelude.{min, slice_index_or, slice_set}
 use borrow.Rule.Slice.PartMut.{put_mid}
 use Rattle.zaxbriar.specs.Layouts.{TakesStored, converted_bytes, laid_out, layout_line, over}
 use Rattle.zaxbriar.specs.Layouts.{pixel_of, pixels_of, grey_as_rgb, grey_as_rgba, grey_as_xrgb}
@@ -213,190 +214,19 @@ line-length RgbToRgba stored width row fits e = pixels-length rgb_as_rgba stored
 line-length RgbToBgra stored width row fits e = pixels-length rgb_as_bgra stored 4 width row (λ p. refl)
 line-length RgbToXrgb stored width row fits e = pixels-length rgb_as_xrgb stored 4 width row (λ p. refl)
 
--- ---- lines without gaps
+-- ---- lines that are put together
 
--- They are one after the other, as pixels are in a line, and nothing of the old bytes is left but
--- what follows them.
-pub laid-close : (line : List ℕ → List ℕ) (row stride height : ℕ) (samples old : List ℕ)
-    → ((p : List ℕ) → length p ≡ row → length (line p) ≡ stride) → height * row ≤ length samples
-    → laid_out line row stride height samples old ≡ pixels_of line row height samples ++ drop (height * stride) old
-unfolding laid_out pixels_of
-laid-close line row stride zero samples old each few =
-    let none : 0 ≡ 0 * stride = omega arith in
-    ap (λ n. drop n old) none
-laid-close line row stride (suc height) samples old each few =
-    let whole : length (take row samples) ≡ row = omega (arith, length-take {A = ℕ}) in
-    let count : length (line (take row samples)) ≡ stride = each (take row samples) whole in
-    let few' : height * row ≤ length (drop row samples) = omega (arith, length-drop {A = ℕ}) in
-    let no_more : drop (length (line (take row samples))) (take stride old) ≡ [] =
-    drop_of_length-le (take stride old) (omega (arith, count, length-take {A = ℕ})) in
-    let at : stride + height * stride ≡ suc height * stride = omega arith in
-    (λ i. (line (take row samples) ++ no_more i) ++ laid-close line row stride height (drop row samples) (drop stride old) each few' i)
-    ∙ (λ i. append-nil (line (take row samples)) i ++ (pixels_of line row height (drop row samples)
-    ++ drop-drop (height * stride) stride old i))
-    ∙ sym (append_assoc (line (take row samples)) (pixels_of line row height (drop row samples)) (drop (stride + height * stride) old))
-    ∙ ap (λ n. (line (take row samples) ++ pixels_of line row height (drop row samples)) ++ drop n old) at
-
--- lines without gaps of a picture as it is stored are its samples
-pub laid-stored : (conversion : Conversion) (stored width stride height : ℕ) (old : List ℕ) → conversion ≡ Stored
-    → stride ≡ width * converted_bytes conversion stored → height * stride ≤ length old
-    → old ≡ laid_out (layout_line conversion stored width) (width * stored) stride height
-    (take (height * (width * stored)) old) old
-laid-stored conversion stored width stride height old s e room =
-    let at : stride ≡ width * stored = e ∙ ap (λ (x : Conversion). width * converted_bytes x stored) s in
-    let room' : height * (width * stored) ≤ length old = rw at at room in
-    let count : length (take (height * (width * stored)) old) ≡ height * (width * stored) =
-    omega (arith, room', length-take {A = ℕ}) in
-    sym (take-append-drop (height * (width * stored)) old)
-    ∙ ap (λ (l : List ℕ). l ++ drop (height * (width * stored)) old)
-    (sym (pixels-same (layout_line Stored stored width) (width * stored) height (take (height * (width * stored)) old)
-    (λ p whole. sym (stored-line stored width p whole)) count))
-    ∙ sym (laid-close (layout_line Stored stored width) (width * stored) (width * stored) height
-    (take (height * (width * stored)) old) old
-    (λ p whole. ap (λ (l : List ℕ). length l) (sym (stored-line stored width p whole)) ∙ whole) (omega (arith, count)))
-    ∙ (λ i. laid_out (layout_line (sym s i) stored width) (width * stored) (sym at i) height
-    (take (height * (width * stored)) old) old)
-
--- The lines from one on are written, and the rows before it are as they were.
-pub record Widened (line : List ℕ → List ℕ) (row stride height y : ℕ) (old new : List ℕ) : Type 0 where
-  pub size : length new ≡ length old
-  pub first : take (y * row) new ≡ take (y * row) (take (height * row) old)
-  pub last : (done : ℕ) → y + done ≡ height → drop (y * stride) new
-      ≡ pixels_of line row done (drop (y * row) (take (height * row) old)) ++ drop (height * stride) old
-
-widened-nothing : (line : List ℕ → List ℕ) (row height done : ℕ) (samples rest : List ℕ) → height + done ≡ height
-    → rest ≡ pixels_of line row done samples ++ rest
-unfolding pixels_of
-widened-nothing line row height zero samples rest e = refl
-widened-nothing line row height (suc done) samples rest e = absurd (omega (arith, e))
-
-pub widened-none : (line : List ℕ → List ℕ) (row stride height : ℕ) (old : List ℕ)
-    → Widened line row stride height height old old
-widened-none line row stride height old = record {
-  size = refl;
-  first = sym (take-take (height * row) (height * row) old (omega arith));
-  last = λ done e. widened-nothing line row height done (drop (height * row) (take (height * row) old))
-      (drop (height * stride) old) e;
-}
-
--- a row that is read, and its line written
-widened-row : (row y : ℕ) (samples now : List ℕ) → take ((y + 1) * row) now ≡ take ((y + 1) * row) samples
-    → take row (drop (y * row) now) ≡ take row (drop (y * row) samples)
-widened-row row y samples now same =
-    let at : y * row + row ≡ (y + 1) * row = omega arith in
-    sym (drop-take (y * row) row now)
-    ∙ ap (λ n. drop (y * row) (take n now)) at
-    ∙ ap (λ (l : List ℕ). drop (y * row) l) same
-    ∙ ap (λ n. drop (y * row) (take n samples)) (sym at)
-    ∙ drop-take (y * row) row samples
-
-widened-last : (line : List ℕ → List ℕ) (row stride height y done : ℕ) (samples rest now piece : List ℕ)
-    → (y + 1) * stride ≤ length now → length piece ≡ stride → y < height
-    → piece ≡ line (take row (drop (y * row) samples))
-    → ((more : ℕ) → y + 1 + more ≡ height
-    → drop ((y + 1) * stride) now ≡ pixels_of line row more (drop ((y + 1) * row) samples) ++ rest)
-    → y + done ≡ height
-    → drop (y * stride) (put_mid (y * stride) stride now piece)
-    ≡ pixels_of line row done (drop (y * row) samples) ++ rest
-unfolding pixels_of
-widened-last line row stride height y zero samples rest now piece room size low is last e = absurd (omega (arith, low, e))
-widened-last line row stride height y (suc done) samples rest now piece room size low is last e =
-    let front : length (take (y * stride) now) ≡ y * stride = omega (arith, room, length-take {A = ℕ}) in
-    let at : y * stride + stride ≡ (y + 1) * stride = omega arith in
-    let at' : y * row + row ≡ (y + 1) * row = omega arith in
-    let e' : y + 1 + done ≡ height = omega (arith, e) in
-    ap (λ n. drop n (put_mid (y * stride) stride now piece)) (sym front)
-    ∙ drop-append_seam (take (y * stride) now) (piece ++ drop stride (drop (y * stride) now))
-    ∙ (λ i. is i ++ (drop-drop stride (y * stride) now ∙ ap (λ n. drop n now) at ∙ last done e') i)
-    ∙ sym (append_assoc (line (take row (drop (y * row) samples))) (pixels_of line row done (drop ((y + 1) * row) samples)) rest)
-    ∙ ap (λ (l : List ℕ). (line (take row (drop (y * row) samples)) ++ pixels_of line row done l) ++ rest)
-    (sym (drop-drop row (y * row) samples ∙ ap (λ n. drop n samples) at'))
-
-put-length : (a k : ℕ) (now piece : List ℕ) → a + k ≤ length now → length piece ≡ k
-    → length (put_mid a k now piece) ≡ length now
-put-length a k now piece room e =
-    length-append (take a now) (piece ++ drop k (drop a now))
-    ∙ ap (λ n. length (take a now) + n) (length-append piece (drop k (drop a now)))
-    ∙ omega (arith, room, e, length-take {A = ℕ}, length-drop {A = ℕ})
-
-pub widened-more : (line : List ℕ → List ℕ) (row stride height y next k : ℕ) (old now piece : List ℕ)
-    → row ≤ stride → height * stride ≤ length old → next ≡ y + 1 → next ≤ height → length piece ≡ stride
-    → k ≡ stride → piece ≡ line (take row (drop (y * row) now))
-    → Widened line row stride height next old now
-    → Widened line row stride height y old (put_mid (y * stride) k now piece)
-widened-more line row stride height y next k old now piece le room e low size e' is before' =
-    let before : Widened line row stride height (y + 1) old now =
-    subst (λ n. Widened line row stride height n old now) e before' in
-    let samples : List ℕ = take (height * row) old in
-    let low' : y + 1 ≤ height = omega (arith, e, low) in
-    let all : (y + 1) * stride ≤ height * stride = mul-le-mul_right stride low' in
-    let room' : (y + 1) * stride ≤ length now = omega (arith, all, room, before.size) in
-    let room'' : y * stride + k ≤ length now = omega (arith, room', e') in
-    let size' : length piece ≡ k = size ∙ sym e' in
-    let narrow : y * row ≤ y * stride = mul-le-mul_left y le in
-    let front : y * row ≤ length (take (y * stride) now) = omega (arith, narrow, room', length-take {A = ℕ}) in
-    let less : y * row ≤ (y + 1) * row = omega arith in
-    let is' : piece ≡ line (take row (drop (y * row) samples)) = is
-    ∙ ap (λ (l : List ℕ). line l) (widened-row row y samples now before.first) in
-    record {
-      size = put-length (y * stride) k now piece room'' size' ∙ before.size;
-      first = take-append-le (y * row) (take (y * stride) now) (piece ++ drop k (drop (y * stride) now)) front
-          ∙ take-take (y * row) (y * stride) now narrow
-          ∙ sym (take-take (y * row) ((y + 1) * row) now less)
-          ∙ ap (λ (l : List ℕ). take (y * row) l) before.first
-          ∙ take-take (y * row) ((y + 1) * row) samples less;
-      last = λ done sum. ap (λ n. drop (y * stride) (put_mid (y * stride) n now piece)) e'
-          ∙ widened-last line row stride height y done samples (drop (height * stride) old) now piece room' size
-          (omega (arith, low')) is' before.last sum;
-    }
-
--- All lines were written.
-pub widened-all : (line : List ℕ → List ℕ) (row stride height gap : ℕ) (old new : List ℕ)
-    → ((p : List ℕ) → length p ≡ row → length (line p) ≡ stride) → row ≤ stride → height * stride ≤ length old
-    → gap ≡ stride → Widened line row stride height 0 old new
-    → new ≡ laid_out line row gap height (take (height * row) old) old
-widened-all line row stride height gap old new each le room e w =
-    let none : 0 ≡ 0 * stride = omega arith in
-    let none' : 0 * row ≡ 0 = omega arith in
-    let narrow : height * row ≤ height * stride = mul-le-mul_left height le in
-    let count : height * row ≤ length (take (height * row) old) = omega (arith, narrow, room, length-take {A = ℕ}) in
-    ap (λ n. drop n new) none ∙ w.last height (omega arith)
-    ∙ ap (λ n. pixels_of line row height (drop n (take (height * row) old)) ++ drop (height * stride) old) none'
-    ∙ sym (laid-close line row stride height (take (height * row) old) old each count)
-    ∙ ap (λ n. laid_out line row n height (take (height * row) old) old) (sym e)
-
--- a row or a line of a picture is within it
-pub within : (y height bytes most room : ℕ) → 0 < y → y ≤ height → bytes ≤ most → height * most ≤ room
-    → (y - 1) * bytes + bytes ≤ room
-within y height bytes most room some low le all =
-    let last : (y - 1) * bytes + bytes ≡ (y - 1 + 1) * bytes = omega arith in
-    let at : y - 1 + 1 ≤ height = omega (arith, some, low) in
-    let most' : (y - 1 + 1) * bytes ≤ height * most = mul-le-mul at le in
-    omega (arith, last, most', all)
-
--- ---- a picture that is written at once
-
--- Lines without gaps of rows that were written at the beginning of the same memory, to which they
--- are as they would be to the memory as it was before.
-pub laid-within : (line : List ℕ → List ℕ) (row stride height n : ℕ) (old new all : List ℕ)
-    → ((p : List ℕ) → length p ≡ row → length (line p) ≡ stride) → row ≤ stride
-    → length new ≡ length old → drop n new ≡ drop n old → length (take n new) ≡ height * row
-    → all ≡ laid_out line row stride height (take (height * row) new) new
-    → all ≡ laid_out line row stride height (take n new) old
-laid-within line row stride height n old new all each le same rest count is =
-    let count' : min n (length new) ≡ height * row = sym (length-take n new) ∙ count in
-    let count'' : min n (length old) ≡ height * row = ap (λ k. min n k) (sym same) ∙ count' in
-    let samples : take (height * row) new ≡ take n new = ap (λ k. take k new) (sym count') ∙ take_min n new in
-    let rest' : drop (height * row) new ≡ drop (height * row) old = ap (λ k. drop k new) (sym count')
-    ∙ drop_min n new ∙ rest ∙ sym (drop_min n old) ∙ ap (λ k. drop k old) count'' in
-    let narrow : height * row ≤ height * stride = mul-le-mul_left height le in
-    let at : height * row + (height * stride - height * row) ≡ height * stride = omega (arith, narrow) in
-    let far : drop (height * stride) new ≡ drop (height * stride) old = ap (λ k. drop k new) (sym at)
-    ∙ sym (drop-drop (height * stride - height * row) (height * row) new)
-    ∙ ap (λ (l : List ℕ). drop (height * stride - height * row) l) rest'
-    ∙ drop-drop (height * stride - height * row) (height * row) old ∙ ap (λ k. drop k old) at in
-    let few : height * row ≤ length (take n new) = omega (arith, count) in
-    is ∙ ap (λ (l : List ℕ). laid_out line row stride height l new) samples
-    ∙ laid-close line row stride height (take n new) new each few
-    ∙ ap (λ (l : List ℕ). pixels_of line row height (take n new) ++ l) far
-    ∙ sym (laid-close line row stride height (take n new) old each few)
+-- a line of many, each of so many samples
+pub line-of-all : (n y : ℕ) (lines : List (List ℕ)) → AllByRecursion (λ line. length line ≡ n) lines
+    → y < length lines → take n (drop (y * n) (concat lines)) ≡ slice_index_or lines y []
+line-of-all n y [] all low = absurd (omega (arith, low))
+line-of-all n zero (line ∷ lines) all low =
+    let none : 0 * n ≡ 0 = omega arith in
+    ap (λ k. take n (drop k (line ++ concat lines))) none
+    ∙ ap (λ k. take k (line ++ concat lines)) (sym all.0)
+    ∙ take-append_seam line (concat lines)
+line-of-all n (suc y) (line ∷ lines) all low =
+    let at : suc y * n ≡ length line + y * n = omega (arith, all.0) in
+    ap (λ k. take n (drop k (line ++ concat lines))) at
+    ∙ ap (λ (l : List ℕ). take n l) (drop-append-add line (concat lines) (y * n))
+    ∙ line-of-all n y lines all.1 (omega (arith, low))

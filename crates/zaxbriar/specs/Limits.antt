@@ -17,15 +17,10 @@ are_known o = (not (o.transform == 1) || o.layout == 0) && (nat_le o.transform 5
     && (is_denominator o.scale && (o.reserved == 0
     && (slice_index o.reserved_words 0 == 0 && slice_index o.reserved_words 1 == 0))))
 
--- whether a picture is decoded where its lines are: without gaps, and in a layout whose pixels take
--- at least the bytes in which they are stored
-abbrev pub are_in_place : Lines → Bool
-are_in_place lines = nat_le lines.stored lines.pixel_bytes && lines.stride == lines.row_bytes
-
--- The most memory for samples that decoding takes at a time beside the caller's: lines that aren't
--- decoded in place are made of a picture beside them.
-abbrev pub bytes_beside : Lines → DecodingBytes → ℕ
-bytes_beside lines d = if are_in_place lines then d.coefficients + d.planes else d.peak
+-- The most memory for samples that decoding takes at a time beside the caller's: blocks and planes,
+-- from which the lines are written.
+abbrev pub bytes_beside : DecodingBytes → ℕ
+bytes_beside d = d.coefficients + d.planes
 
 -- whether a count is above a limit, where 0 is none
 abbrev pub is_over : ℕ → ℕ → Bool

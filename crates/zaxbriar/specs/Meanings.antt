@@ -102,7 +102,7 @@ pub record Describes (o : Options) (bytes : List ℕ) (picture : Picture) : Type
   pub conversion_is : conversion_to o.layout info.pixel_format precision ≡ Some conversion
   pub picture_is : picture ≡ described_picture o.layout info precision
       (lines_by o.stride info precision conversion)
-      (bytes_beside (lines_by o.stride info precision conversion) decoding)
+      (bytes_beside decoding)
       (orientation_by (at_size (size_wanted o) header.said).metadata.exif) 0
 
 -- The lines that the options ask for don't fit the picture of a header.

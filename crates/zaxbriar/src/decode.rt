@@ -24,8 +24,7 @@ ghost use Rattle.zaxbriar.specs.declared.answers.Refusal.TheVariants.{NoRoom, To
 use crate::answers::{Refusal, refusal_of};
 use crate::description::describe;
 use crate::header::Header;
-use crate::in_place::{row_for, widen_rows};
-use crate::lines::{Lines, is_in_place, put_lines};
+use crate::lines::{Lines, put_lines, stored_line};
 use crate::options::{Options, are_known};
 use crate::picture::Picture;
 use jpeg_decoder::Decoder;
@@ -55,20 +54,11 @@ fn decode_lines<R: Read + Drop>(
     ensures kept { OnErr result (pixels.new ≡ pixels.old) }
     ensures own { IfErr result IsOfDecoder }
 {
-    if is_in_place(lines) && header.decoding_bytes.picture <= pixels.len() as u64 {
-        // After a refusal the caller's memory is as it was, so all memory is taken before.
-        let mut row = row_for(alloc, lines)?;
-        return match decoder.decode_into(pixels) {
-            Ok(_) => {
-                widen_rows(&mut row, lines, pixels);
-                Ok(())
-            }
-            Err(error) => Err(refusal_of(decoder, error)),
-        };
-    }
-    match decoder.decode() {
-        Ok(samples) => {
-            put_lines(&samples, lines, pixels);
+    // After a refusal the caller's memory is as it was, so all memory is taken before.
+    let mut row = stored_line(alloc, lines)?;
+    match decoder.decode_lines() {
+        Ok(mut picture) => {
+            put_lines(&mut picture, lines, &mut row, pixels);
             Ok(())
         }
         Err(error) => Err(refusal_of(decoder, error)),

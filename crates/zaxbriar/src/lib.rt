@@ -29,7 +29,6 @@ mod decode;
 mod description;
 mod features;
 mod header;
-mod in_place;
 mod layouts;
 mod limits;
 mod lines;

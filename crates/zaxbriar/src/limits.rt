@@ -3,21 +3,17 @@ ghost use Rattle.std.specs.Prelude.{◌≡◌, ◌+◌, ◌≤◌, ◌*◌, ◌|
 ghost use Rattle.jpeg_decoder.specs.Bytes.{samples_a_pixel};
 ghost use Rattle.zaxbriar.specs.Limits.{bytes_beside, is_over};
 
-use crate::lines::{Lines, is_in_place, samples_a_pixel};
+use crate::lines::samples_a_pixel;
 use crate::options::Options;
 use jpeg_decoder::{DecodingBytes, ImageInfo};
 
-/// Returns the most memory for samples that decoding takes at a time beside the caller's: a picture
-/// that is decoded in place takes none there.
-pub fn bytes_beside(lines: Lines, decoding: DecodingBytes) -> u64
+/// Returns the most memory for samples that decoding takes at a time beside the caller's: blocks and
+/// planes. The lines of the picture are written from the planes.
+pub fn bytes_beside(decoding: DecodingBytes) -> u64
     requires { decoding.coefficients + decoding.planes ≤ decoding.peak }
-    ensures { result ≡ bytes_beside lines decoding }
+    ensures { result ≡ bytes_beside decoding }
 {
-    if is_in_place(lines) {
-        decoding.coefficients + decoding.planes
-    } else {
-        decoding.peak
-    }
+    decoding.coefficients + decoding.planes
 }
 
 /// Returns whether a count is above a limit, where 0 is none.

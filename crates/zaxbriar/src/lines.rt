@@ -1,16 +1,20 @@
 //! Where the lines of a picture are in the caller's memory.
-ghost use Rattle.std.specs.Prelude.{◌≡◌, ◌+◌, ◌*◌, ◌<◌, ◌≤◌, ℕ, length, IfOk, IfErr};
+ghost use Rattle.std.specs.Prelude.{◌≡◌, ◌+◌, ◌*◌, ◌<◌, ◌≤◌, ℕ, [], false, length, IfOk, IfErr};
+ghost use Rattle.std.specs.Prelude.{slice_index_or};
+ghost use Rattle.std.specs.List.{AllByRecursion, concat};
+ghost use Rattle.jpeg_bits.specs.declared.error.Error.TheVariants.{OutOfMemory};
 ghost use Rattle.jpeg_decoder.specs.Bytes.{bytes_a_sample, samples_a_pixel};
 ghost use Rattle.zaxbriar.specs.Faults.{IsArgument};
 ghost use Rattle.zaxbriar.specs.Layouts.{TakesStored, converted_bytes, laid_out, layout_line};
-ghost use Rattle.zaxbriar.specs.Layouts.{size_of_lines};
-ghost use Rattle.zaxbriar.specs.Limits.{are_in_place};
+ghost use Rattle.zaxbriar.specs.Layouts.{is_stored, size_of_lines};
 ghost use Rattle.zaxbriar.specs.Lines.{FitLines, HasLines};
 
 use crate::answers::Refusal;
-use crate::layouts::{Conversion, conversion_of, converted_bytes, put_row};
+use crate::layouts::{Conversion, conversion_of, converted_bytes, is_stored, put_row};
 use crate::options::Options;
-use jpeg_decoder::{ImageInfo, PixelFormat};
+use jpeg_decoder::error::Result;
+use jpeg_decoder::{ImageInfo, Lines as Decoded, PixelFormat};
+use std::alloc::Global;
 
 /// The lines of a picture in the caller's memory.
 #[derive(Clone, Copy)]
@@ -84,14 +88,6 @@ pub fn lines_of(
     })
 }
 
-/// Returns whether a picture is decoded where its lines are: without gaps, and in a layout whose
-/// pixels take at least the bytes in which they are stored.
-pub fn is_in_place(lines: Lines) -> bool
-    ensures { result ≡ are_in_place lines }
-{
-    lines.stored <= lines.pixel_bytes && lines.stride == lines.row_bytes
-}
-
 /// Returns the bytes from the first of a picture to its last.
 pub fn size_of_lines(lines: Lines) -> u64
     requires row { lines.row_bytes ≤ lines.stride }
@@ -105,32 +101,73 @@ pub fn size_of_lines(lines: Lines) -> u64
     }
 }
 
-/// Writes the lines of a picture, and leaves the gaps between them.
-pub fn put_lines(samples: &[u8], lines: Lines, pixels: &mut [u8])
-    requires samples { length samples.now ≡ lines.height * (lines.width * lines.stored) }
+/// Returns memory for a line as it is stored, or none where lines stay as they are stored.
+pub fn stored_line(alloc: Global, lines: Lines) -> Result<Vec<u8>>
+    ensures row { IfOk result (λ row. is_stored lines.conversion ≡ false
+        → length row.items ≡ lines.width * lines.stored) }
+    ensures fails { IfErr result (λ e. e ≡ OutOfMemory) }
+{
+    if is_stored(lines.conversion) {
+        return Ok(Vec::new(alloc));
+    }
+    let stored_bytes = usize::from(lines.width) * usize::from(lines.stored);
+    Ok(vec![in alloc; 0; stored_bytes]?)
+}
+
+/// Writes line `y` of a decoded picture in its layout, through `row` unless it stays as it is
+/// stored.
+fn put_line(picture: &mut Decoded, lines: Lines, y: usize, row: &mut [u8], line: &mut [u8])
+    requires y { y < length picture.old }
+    requires stored { length (slice_index_or picture.old y []) ≡ lines.width * lines.stored }
+    requires row { is_stored lines.conversion ≡ false
+        → length row.old ≡ lines.width * lines.stored }
+    requires line { length line.old
+        ≡ lines.width * converted_bytes lines.conversion lines.stored }
+    requires fits { TakesStored lines.conversion lines.stored }
+    ensures line { line.new ≡ layout_line lines.conversion lines.stored lines.width
+        (slice_index_or picture.old y []) }
+    ensures same { picture.new ≡ picture.old }
+{
+    if is_stored(lines.conversion) {
+        picture.write_line(y, line);
+        return;
+    }
+    picture.write_line(y, row);
+    put_row(
+        row,
+        lines.conversion,
+        usize::from(lines.stored),
+        usize::from(lines.width),
+        line,
+    );
+}
+
+/// Writes the lines of a decoded picture, and leaves the gaps between them. `row` has room for a
+/// line as it is stored, unless lines stay as they are.
+pub fn put_lines(picture: &mut Decoded, lines: Lines, row: &mut [u8], pixels: &mut [u8])
+    requires count { length picture.old ≡ lines.height }
+    requires stored { AllByRecursion (λ line. length line ≡ lines.width * lines.stored) picture.old }
+    requires row { is_stored lines.conversion ≡ false
+        → length row.old ≡ lines.width * lines.stored }
     requires room { (y : ℕ) → y < lines.height
         → y * lines.stride + lines.row_bytes ≤ length pixels.old }
-    requires row { lines.row_bytes
+    requires line { lines.row_bytes
         ≡ lines.width * converted_bytes lines.conversion lines.stored }
     requires wide { lines.row_bytes ≤ lines.stride }
     requires fits { TakesStored lines.conversion lines.stored }
     ensures { pixels.new ≡ laid_out (layout_line lines.conversion lines.stored lines.width)
-        (lines.width * lines.stored) lines.stride lines.height samples.now pixels.old }
+        (lines.width * lines.stored) lines.stride lines.height (concat picture.old) pixels.old }
 {
-    let from_bytes = usize::from(lines.width) * usize::from(lines.stored);
     let row_bytes = lines.row_bytes as usize;
     let stride = lines.stride as usize;
     for y in 0..usize::from(lines.height) {
-        let from = y * from_bytes;
-        let row = &samples[from..from + from_bytes];
         let start = y * stride;
-        let line = &mut pixels[start..start + row_bytes];
-        put_row(
+        put_line(
+            picture,
+            lines,
+            y,
             row,
-            lines.conversion,
-            usize::from(lines.stored),
-            usize::from(lines.width),
-            line,
+            &mut pixels[start..start + row_bytes],
         );
     }
 }

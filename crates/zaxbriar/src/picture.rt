@@ -101,12 +101,12 @@ pub fn picture_of(header: Header, lines: Lines, layout: u8) -> Picture
     requires peak { header.decoding_bytes.coefficients + header.decoding_bytes.planes
         ≤ header.decoding_bytes.peak }
     ensures { result ≡ described_picture layout header.info header.precision lines
-        (bytes_beside lines header.decoding_bytes) header.orientation 0 }
+        (bytes_beside header.decoding_bytes) header.orientation 0 }
 {
     Picture {
         size: size_of_lines(lines),
         row_bytes: lines.row_bytes,
-        decoding_bytes: bytes_beside(lines, header.decoding_bytes),
+        decoding_bytes: bytes_beside(header.decoding_bytes),
         stream_bytes: 0,
         width: u32::from(lines.width),
         height: u32::from(lines.height),

@@ -32,7 +32,7 @@ returns-clause-means g c bytes tells =
       info_is = ap (λ f. option_map info_of f) decodes.frame ∙ c.in_ok-header.ensures.info;
       precision_is = ap (λ f. option_map (λ f. f.precision) f) decodes.frame ∙ c.in_ok-header.ensures.precision;
       arranged = arranged-of c.args.options.now header.info header.precision decodes.samples c.args.pixels.now
-          c.decode_lines.new.pixels c.describe.new.picture c.in_ok-header.lines (bytes_beside c.in_ok-header.lines header.decoding_bytes)
+          c.decode_lines.new.pixels c.describe.new.picture c.in_ok-header.lines (bytes_beside header.decoding_bytes)
           header.orientation c.in_ok-header.ensures.lines decodes.pixels c.in_ok-header.ensures.told;
     }
 
@@ -55,7 +55,7 @@ returns-clause-images g c bytes tells array image rest final last range w is =
       are = (images (size_wanted c.args.options.now) array image rest final last range w left
           facts.0).pixels;
       arranged = arranged-of c.args.options.now header.info header.precision decodes.samples c.args.pixels.now
-          c.decode_lines.new.pixels c.describe.new.picture c.in_ok-header.lines (bytes_beside c.in_ok-header.lines header.decoding_bytes)
+          c.decode_lines.new.pixels c.describe.new.picture c.in_ok-header.lines (bytes_beside header.decoding_bytes)
           header.orientation c.in_ok-header.ensures.lines decodes.pixels c.in_ok-header.ensures.told;
     }
 
