@@ -4,12 +4,12 @@
  *     const zaxbriar = await load();
  *     const { picture, pixels } = zaxbriar.decode(bytes, { layout: 'rgba' });
  *
- * Calls are synchronous: where a page is not to wait, make them in a worker. zaxbriar.d.ts has the
+ * Calls are synchronous: where a page is not to wait, make them in a worker. zaxbriar.d.mts has the
  * types, and what each call does. Nothing in this file is proved: it copies bytes into the module's
  * memory and out of it. */
 
-/* Names of the numbers of c/zaxbriar.h. The module says which of them it knows, and which fit a
- * picture: others are BAD_ARGUMENT. */
+/* Names of the numbers of c/zaxbriar.h. The module says which of them fit a picture: others are
+ * BAD_ARGUMENT. */
 const LAYOUTS = { stored: 0, grey: 1, rgb: 2, rgba: 3, bgra: 4, bgr: 5, xrgb: 6 };
 const TRANSFORMS = { stream: 0, rgb: 2, ycbcr: 3, cmyk: 4, ycck: 5 };
 const KINDS = { exif: 1, xmp: 2, icc: 3 };

@@ -63,9 +63,15 @@ const laidOut = (order) =>
         const place = order[index % order.length];
         return place === 3 ? 255 : pixels[3 * Math.floor(index / order.length) + place];
     });
-assert.deepEqual(zaxbriar.decode(jpeg, { layout: 'rgb' }).pixels, pixels);
-assert.deepEqual(zaxbriar.decode(jpeg, { layout: 'rgba' }).pixels, laidOut([0, 1, 2, 3]));
-assert.deepEqual(zaxbriar.decode(jpeg, { layout: 'bgra' }).pixels, laidOut([2, 1, 0, 3]));
+for (const [layout, order] of Object.entries({
+    rgb: [0, 1, 2],
+    rgba: [0, 1, 2, 3],
+    bgra: [2, 1, 0, 3],
+    bgr: [2, 1, 0],
+    xrgb: [3, 0, 1, 2],
+})) {
+    assert.deepEqual(zaxbriar.decode(jpeg, { layout }).pixels, laidOut(order));
+}
 
 // Gaps are zeros, also in memory that was used before.
 const stride = picture.rowBytes + 5;

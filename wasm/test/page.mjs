@@ -1,14 +1,19 @@
-/* node page.mjs FOLDER: the page of dist/web in headless Chromium: files that are chosen, dropped
- * and pasted, their pixels, faults by name, zoom and the list by keys, names for a screen reader,
- * the page without a network, and the worker after a trap. FOLDER takes files and page.png. */
+/* node page.mjs BROWSER FOLDER: the page of dist/web in headless chromium or firefox: files that
+ * are chosen, dropped and pasted, their pixels, faults by name, zoom and the list by keys, names
+ * for a screen reader, the page without a network, and the worker after a trap. FOLDER takes files
+ * and BROWSER.png. */
 import assert from 'node:assert/strict';
 import { readFileSync, writeFileSync } from 'node:fs';
 import { resolve } from 'node:path';
 import { load } from '../dist/zaxbriar.mjs';
-import { browse, serve } from './browser.mjs';
 import { allCases } from './cases.mjs';
+import { Chromium } from './chromium.mjs';
+import { Firefox } from './firefox.mjs';
+import { serve } from './serve.mjs';
 
-const folder = resolve(process.argv[2]);
+const browser = process.argv[2];
+const Page = { chromium: Chromium, firefox: Firefox }[browser];
+const folder = resolve(process.argv[3]);
 const web = new URL('../dist/web', import.meta.url).pathname;
 const ours = (name) => new URL(`../../programs/files/${name}`, import.meta.url).pathname;
 const cases = allCases();
@@ -93,13 +98,16 @@ async function checkRefusals(page) {
 /* Drops and pastes a file that the page builds of these bytes. */
 async function give(page, event, path) {
     await page.run(`(() => {
-        const data = new DataTransfer();
         const bytes = new Uint8Array(${JSON.stringify([...readFileSync(path)])});
-        data.items.add(new File([bytes], '${event}.jpg', { type: 'image/jpeg' }));
-        document.body.dataset.state = 'waiting';
-        document.dispatchEvent('${event}' === 'drop'
+        const file = new File([bytes], '${event}.jpg', { type: 'image/jpeg' });
+        const data = new DataTransfer();
+        const event = '${event}' === 'drop'
             ? new DragEvent('drop', { dataTransfer: data, cancelable: true })
-            : new ClipboardEvent('paste', { clipboardData: data }));
+            : new ClipboardEvent('paste', { clipboardData: data });
+        // (a paste has data of its own in Firefox)
+        (event.dataTransfer ?? event.clipboardData).items.add(file);
+        document.body.dataset.state = 'waiting';
+        document.dispatchEvent(event);
     })()`);
     await page.until(`document.body.dataset.state === 'shown'`);
     assert.equal((await factsOf(page)).File, `${event}.jpg`);
@@ -124,24 +132,42 @@ async function checkKeys(page) {
     assert.equal(await page.run('document.activeElement.firstChild.data'), nameOf(PICTURES[1]));
 }
 
-/* All that takes the focus, and the picture, has a name, and some roles are there. */
-async function checkNames(page) {
-    const { nodes } = await page.send('Accessibility.getFullAXTree');
-    const shown = nodes.filter(({ ignored, role }) => !ignored && role);
-    const of = (role) => shown.filter((node) => node.role.value === role);
-    for (const role of ['button', 'image', 'region', 'group', 'navigation', 'heading']) {
-        assert.ok(of(role).length > 0, role);
-        for (const { name } of of(role)) assert.ok(name?.value, `a ${role} without a name`);
+/* The tabulator reaches all that has a use by keys, from the first on, and nothing else. */
+async function checkTabulator(page) {
+    const seen = `[...document.querySelectorAll('input, button, summary, [tabindex="0"]')]
+        .filter((it) => it.checkVisibility())`;
+    const stops = await page.run(`${seen}.length`);
+    await page.run(`${seen}[0].focus()`);
+    for (let stop = 0; stop < stops; stop++) {
+        await page.run(`document.activeElement.classList.add('reached')`);
+        await page.press('Tab');
     }
-    assert.ok(of('status').length > 0);
-    return of('button').length;
+    assert.equal(await page.run(`document.querySelector('main :focus')`), null);
+    assert.ok(await page.run(`${seen}.every((it) => it.classList.contains('reached'))`));
+    return stops;
 }
 
-/* The page, and its decoder, without a network. */
+/* All that takes the focus, and the picture, has a name, and some roles are there. */
+async function checkNames(page) {
+    for (const role of ['button', 'image', 'region', 'group', 'navigation', 'heading']) {
+        assert.notEqual(await page.count(role), 0, role);
+        assert.equal(await page.count(role, ''), 0, `a ${role} without a name`);
+    }
+    assert.notEqual(await page.count('status'), 0);
+    return page.count('button');
+}
+
+/* The console is empty, and one that is heard. */
+async function checkConsole(page) {
+    await page.run(`console.error('the last')`);
+    for (let round = 0; round < 100 && page.logs.length === 0; round++) {
+        await new Promise((done) => setTimeout(done, 50));
+    }
+    assert.match(page.logs[0] ?? 'nothing', /the last/);
+}
+
+/* The page, and its decoder, after its server has closed. */
 async function checkOffline(page, url) {
-    await page.until(`navigator.serviceWorker.controller !== null`);
-    const conditions = { latency: 0, downloadThroughput: 0, uploadThroughput: 0 };
-    await page.send('Network.emulateNetworkConditions', { ...conditions, offline: true });
     await page.open(url);
     await page.until(`document.body?.dataset.state === 'ready'`);
     await page.choose('#file', PICTURES);
@@ -159,7 +185,7 @@ async function checkTrap() {
         if (path.endsWith('.wasm') && isSmall) bytes.set(smaller, bytes.indexOf(first));
         return bytes;
     });
-    const page = await browse(url);
+    const page = await Page.browse(url);
     await page.until(`document.body.dataset.state === 'ready'`);
     await page.choose('#file', PICTURES.slice(0, 1));
     await page.until(`document.body.dataset.state === 'refused'`);
@@ -173,7 +199,7 @@ async function checkTrap() {
 }
 
 const { url, close } = await serve(web);
-const page = await browse(url);
+const page = await Page.browse(url);
 await page.until(`document.body.dataset.state === 'ready'`);
 const files = [...PICTURES, ...Object.keys(REFUSED)];
 await page.choose('#file', files);
@@ -184,12 +210,16 @@ await checkPixels(page);
 await checkRefusals(page);
 for (const event of ['drop', 'paste']) await give(page, event, PICTURES[0]);
 await checkKeys(page);
+const stops = await checkTabulator(page);
 const buttons = await checkNames(page);
-await page.screenshot(`${folder}/page.png`);
-assert.deepEqual(page.logs, []);
+await page.screenshot(`${folder}/${browser}.png`);
+await checkConsole(page);
+await page.until(`navigator.serviceWorker.controller !== null`);
+close();
 await checkOffline(page, url);
 await page.close();
-close();
 await checkTrap();
-console.log(`page: ${PICTURES.length} pictures, ${Object.keys(REFUSED).length} refusals by name,`);
-console.log(`      drop, paste, keys, ${buttons} buttons with names, offline, the trap's worker`);
+const refusals = Object.keys(REFUSED).length;
+console.log(`page in ${browser}: ${PICTURES.length} pictures, ${refusals} refusals by name,`);
+console.log(`      drop, paste, zoom, ${stops} stops of the tabulator, ${buttons} buttons with names,`);
+console.log(`      an empty console, no network, the worker after a trap`);

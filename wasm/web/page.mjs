@@ -79,10 +79,11 @@ function draw(picture, pixels) {
 let zoom = 1;
 
 function setZoom(factor) {
-    zoom = Math.min(Math.max(factor, 1 / 64), 32);
+    // (1 / 256 of 65,535 columns fits; a side is seen where it has a pixel)
+    zoom = Math.min(Math.max(factor, 1 / 256), 32);
     const canvas = at('canvas');
-    canvas.style.width = `${canvas.width * zoom}px`;
-    canvas.style.height = `${canvas.height * zoom}px`;
+    canvas.style.width = `${Math.max(canvas.width * zoom, 1)}px`;
+    canvas.style.height = `${Math.max(canvas.height * zoom, 1)}px`;
     canvas.classList.toggle('grown', zoom > 1);
     at('scale').textContent = `${Math.round(zoom * 1000) / 10} %`;
 }
@@ -102,6 +103,10 @@ const KEYS = { '+': 'in', '=': 'in', '-': 'out', 1: 'whole', 0: 'fit' };
 const COLOURS = { 1: 'grey', 3: 'red, green, blue', 4: 'cyan, magenta, yellow, black' };
 const counted = (bytes) => (bytes ? `${bytes.toLocaleString('en')} bytes` : 'none');
 
+/* A time by the browser's clock, which may be a millisecond off at each end. */
+const timeOf = (milliseconds) =>
+    milliseconds < 1 ? 'less than 2 ms' : `${Math.round(milliseconds)} ms`;
+
 function factsOf(file, { picture, metadata, milliseconds }) {
     const facts = { File: file.name, Length: counted(file.size) };
     if (picture) {
@@ -116,7 +121,7 @@ function factsOf(file, { picture, metadata, milliseconds }) {
         facts.XMP = counted(metadata.xmp);
         facts['ICC profile'] = counted(metadata.icc);
     }
-    if (milliseconds !== undefined) facts['Decoded in'] = `${milliseconds.toFixed(1)} ms`;
+    if (milliseconds !== undefined) facts['Decoded in'] = timeOf(milliseconds);
     return facts;
 }
 

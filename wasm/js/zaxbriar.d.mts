@@ -15,7 +15,7 @@ export type Bytes = ArrayBuffer | SharedArrayBuffer | ArrayBufferView;
 /**
  * How the pixels are arranged. `stored` has each pixel's samples in the order of the components.
  * The others are for pictures of grey, or of red, green and blue, with 8 bits a sample; they are a
- * BAD_ARGUMENT for other pictures, and where the module doesn't know them.
+ * BAD_ARGUMENT for other pictures.
  */
 export type Layout = 'stored' | 'grey' | 'rgb' | 'rgba' | 'bgra' | 'bgr' | 'xrgb';
 
@@ -69,6 +69,13 @@ export interface Picture {
     orientation: number;
 }
 
+/**
+ * What a decoder returns has a buffer of its own, which no other thread has, as ImageData and Blob
+ * ask of theirs. TypeScript distinguishes that since 5.7, where it is what `slice` returns.
+ */
+export type Pixels = ReturnType<Uint8ClampedArray['slice']>;
+export type Data = ReturnType<Uint8Array['slice']>;
+
 /** Why a stream or a call was refused. */
 export class ZaxbriarError extends Error {
     readonly code:
@@ -108,10 +115,10 @@ export class Zaxbriar {
     readInfo(jpeg: Bytes, options?: Options): Picture;
 
     /** Decodes the picture. `pixels` is a copy, outside the module's memory. */
-    decode(jpeg: Bytes, options?: Options): { picture: Picture; pixels: Uint8ClampedArray };
+    decode(jpeg: Bytes, options?: Options): { picture: Picture; pixels: Pixels };
 
     /** Returns Exif data from the TIFF header on, XMP data or an ICC profile; null: none. */
-    metadata(jpeg: Bytes, kind: 'exif' | 'xmp' | 'icc'): Uint8Array | null;
+    metadata(jpeg: Bytes, kind: 'exif' | 'xmp' | 'icc'): Data | null;
 
     /** The bytes of the module's memory. It never shrinks. */
     readonly memoryBytes: number;

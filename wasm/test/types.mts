@@ -1,0 +1,59 @@
+// What compiles by zaxbriar.d.mts, and what doesn't.
+import { Zaxbriar, ZaxbriarError, compile, load } from '../dist/zaxbriar.mjs';
+import type { Bytes, Layout, Options, Picture, Source } from '../dist/zaxbriar.mjs';
+
+// Sources, and the bytes of streams.
+const sources: Source[] = ['zaxbriar.wasm', new URL('file:///zaxbriar.wasm'), new Uint8Array(8)];
+const zaxbriar: Zaxbriar = await load(sources[0], { maxMemory: 1 << 30 });
+const fetched: Promise<Zaxbriar> = load(fetch('zaxbriar.wasm'));
+const module: WebAssembly.Module = await compile();
+const other = new Zaxbriar(module);
+const buffer = new ArrayBuffer(0);
+const streams: Bytes[] = [buffer, new SharedArrayBuffer(0), new DataView(buffer)];
+// (TypeScript's WebAssembly.Module has no members, so that a number would compile too)
+// @ts-expect-error
+load(null);
+// @ts-expect-error
+load(module, { maxMemory: '1 GB' });
+
+// Pictures and their pixels, for a canvas or a file.
+const options: Options = { layout: 'rgba', scale: 2, colorTransform: 'rgb', maxPixels: 1e6 };
+const { picture, pixels } = zaxbriar.decode(streams[0], options);
+const data = new ImageData(pixels, picture.width, picture.height);
+const samples: Uint8ClampedArray = pixels;
+const layout: Layout = picture.layout;
+const described: Picture = zaxbriar.readInfo(streams[1], { minWidth: 100, minHeight: 0 });
+const ink: boolean = described.components === 4 && described.sampleBytes === 2;
+// @ts-expect-error
+zaxbriar.decode('text');
+// @ts-expect-error
+zaxbriar.decode(streams[2], { layout: 'rbg' });
+// @ts-expect-error
+zaxbriar.decode(streams[2], { scale: 3 });
+// @ts-expect-error
+zaxbriar.readInfo(streams[2], { maxPixel: 1 });
+// @ts-expect-error
+if (picture.process === 'hierarchical') throw new Error();
+
+// Metadata, which may not be there.
+const profile = other.metadata(streams[0], 'icc');
+const file = new Blob(profile ? [profile] : []);
+// @ts-expect-error
+const length: number = other.metadata(streams[0], 'xmp').length;
+// @ts-expect-error
+other.metadata(streams[0], 'iptc');
+
+// Faults.
+try {
+    zaxbriar.reset();
+} catch (error) {
+    if (error instanceof ZaxbriarError && error.code === 'TOO_LARGE') throw error;
+    // @ts-expect-error
+    if (error instanceof ZaxbriarError && error.code === 'TOO_BIG') throw error;
+    // @ts-expect-error
+    if (error instanceof ZaxbriarError) error.code = 'MALFORMED';
+}
+// @ts-expect-error
+zaxbriar.memoryBytes = 0;
+const version: string = zaxbriar.version;
+export { data, described, fetched, file, ink, layout, length, profile, samples, version };
