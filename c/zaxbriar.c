@@ -31,6 +31,7 @@ _Static_assert(offsetof(zaxbriar_picture, orientation) == 46, "picture");
 _Static_assert(offsetof(zaxbriar_picture, format) == 47, "picture");
 _Static_assert(offsetof(zaxbriar_picture, feature) == 48, "picture");
 _Static_assert(offsetof(zaxbriar_picture, feature_argument) == 49, "picture");
+_Static_assert(offsetof(zaxbriar_picture, sampling) == 50, "picture");
 _Static_assert(offsetof(zaxbriar_picture, text) == 80, "picture");
 
 static const zaxbriar_options no_options;

@@ -163,8 +163,11 @@ typedef struct zaxbriar_picture {
     uint8_t orientation;     /* 1 to 8, as Exif data before the frame say; otherwise 1 */
     uint8_t format;          /* of the stream: zaxbriar_format */
     uint8_t feature;         /* after ZAXBRIAR_UNSUPPORTED: zaxbriar_feature; otherwise 0 */
-    uint8_t feature_argument; /* the number N of the feature, or 0 */
-    uint8_t reserved[30];    /* zero */
+    uint8_t feature_argument; /* a number of the feature, or 0 */
+    uint8_t sampling[4];     /* of the stream: the sampling factors of each component, as a frame
+                                header has them: 1 to 4 across in the higher four bits, and 1 to 4
+                                down in the lower; 0 where there is no such component */
+    uint8_t reserved[26];    /* zero */
     char text[112];          /* why the call failed, for people, ended by a zero; "" after OK */
 } zaxbriar_picture;
 

@@ -53,6 +53,7 @@ static void memory(void) {
     CHECK(zaxbriar_read_info(grey, sizeof grey, NULL, &picture) == ZAXBRIAR_OK);
     CHECK(picture.size == 64 && picture.decoding_bytes == 192);
     CHECK(picture.process == ZAXBRIAR_SEQUENTIAL && picture.format == ZAXBRIAR_FORMAT_GREY8);
+    CHECK(!memcmp(picture.sampling, "\x11\0\0", 4));
     CHECK(decode(grey, sizeof grey, none, 65) == ZAXBRIAR_OK);
     CHECK(is_all(pixels, 64, 0x81) && pixels[64] == 7);
     CHECK(picture.stream_bytes == 141);
@@ -185,6 +186,7 @@ static void without_conversion(void) {
     zaxbriar_options options = {.transform = ZAXBRIAR_TRANSFORM_NONE};
     CHECK(decode(stream, sizeof stream, options, 192) == ZAXBRIAR_OK);
     CHECK(picture.format == ZAXBRIAR_FORMAT_RGB && picture.row_bytes == 24);
+    CHECK(!memcmp(picture.sampling, "\x11\x11\x11", 4));
     for (int i = 0; i < 192; i++) CHECK(pixels[i] == samples[i % 24 / 8]);
     options.transform = ZAXBRIAR_TRANSFORM_RGB;
     CHECK(decode(stream, sizeof stream, options, 192) == ZAXBRIAR_OK);

@@ -1,6 +1,6 @@
 //! The decoder and its states.
 ghost use Rattle.std.specs.Prelude.{◌≡◌, if◌then◌else◌, IfOk, IfErr, MatchResult, OnErr, OnOk};
-ghost use Rattle.std.specs.Prelude.{IsErrAnd};
+ghost use Rattle.std.specs.Prelude.{IsErrAnd, map};
 ghost use Rattle.std.specs.Prelude.{[], replicate, IfSome, None, option_map, is_some, Err, true};
 ghost use Rattle.std.specs.Prelude.{false};
 ghost use Rattle.jpeg_bits.specs.Reading.{Answers};
@@ -25,7 +25,7 @@ ghost use Rattle.jpeg_streams.specs.Pixels.{format_of, info_of};
 ghost use Rattle.jpeg_streams.specs.Sound.{HasDecodedFrame, IsSound, IsUnread};
 ghost use Rattle.jpeg_streams.specs.declared.progress.Progress.TheVariants.{Failed, Fresh};
 ghost use Rattle.jpeg_streams.specs.declared.progress.Progress.TheVariants.{HeaderRead};
-ghost use Rattle.jpeg_segments.specs.FrameView.{frame_in};
+ghost use Rattle.jpeg_segments.specs.FrameView.{component_in, frame_in};
 ghost use Rattle.jpeg_segments.specs.Scales.{IsSizedFrame, is_scale, scale_for, scaled_by};
 ghost use Rattle.jpeg_streams.specs.Output.{default_settings};
 ghost use Rattle.jpeg_streams.specs.Profile.{profile_of};
@@ -42,7 +42,7 @@ use jpeg_bits::error::{Error, Result};
 pub use jpeg_bits::scan::MAX_COMPONENTS;
 use jpeg_bits::source::Source;
 use jpeg_pixels::idct::choose_idct_size;
-use jpeg_segments::parser::{CodingProcess, Dimensions, FrameInfo};
+use jpeg_segments::parser::{CodingProcess, Component, Dimensions, FrameInfo};
 pub use jpeg_segments::scale::Scale;
 use jpeg_segments::sizes::{BLOCK_SIDE, scale_frame};
 pub use jpeg_streams::images::{ImageInfo, PixelFormat};
@@ -598,5 +598,19 @@ impl<R: Read + Drop> Decoder<R> {
         let mut lines = self.decode_lines()?;
         lines.write_all(&mut pixels[..size]);
         Ok(size)
+    }
+
+    /// Returns the components of the frame in the order of its header, with their identifiers and
+    /// sampling factors, and their sizes at the scale that was chosen, once a frame was accepted,
+    /// in every state.
+    pub fn components(&self) -> Option<&[Component]>
+        ensures { option_map (λ components. map component_in components.now) result
+            ≡ option_map (λ f. f.components) self.now.found.said.frame }
+    {
+        self.state
+            .said
+            .frame
+            .as_ref()
+            .map(|frame| frame.components.as_slice())
     }
 }

@@ -1,8 +1,6 @@
 -- A picture that was decoded into its lines.
-use Rattle.std.proofs.Common.{◌≡◌, ◌∙◌, ◌≤◌, ◌==◌, ◌+◌, ◌-◌, ◌*◌, ℕ, zero, suc, List, Ok, Err, Option, Some, None, ap, sym}
-use Rattle.std.proofs.Common.{subst, true, false, length, take, drop, arith}
-use Rattle.std.proofs.Math.Nat.{mul-le-mul_left}
-use Rattle.std.proofs.lemmas.Bool.{ne_eqb}
+use Rattle.std.proofs.Common.{◌≡◌, ◌∙◌, ◌*◌, ℕ, List, Ok, Err, Option, Some, None, ap, sym}
+use Rattle.std.proofs.Common.{subst, true, length}
 use Rattle.std.specs.Prelude.{option_map}
 use Rattle.jpeg_bits.specs.Reading.{Answers}
 use Rattle.jpeg_bits.specs.declared.error.Error.{Error}
@@ -14,13 +12,10 @@ use Rattle.jpeg_streams.specs.declared.progress.Progress.{Progress}
 use Rattle.jpeg_streams.specs.declared.progress.Progress.TheVariants.{HeaderRead}
 use Rattle.jpeg_streams.specs.Stream.{Told, rest_at, told_of}
 use Rattle.jpeg_streams.specs.declared.images.ImageInfo.{ImageInfo}
-use Rattle.jpeg_decoder.proofs.Callers.{picture_is_counted}
 use Rattle.jpeg_decoder.specs.Bytes.{AreLinesOf, HaveBytes, IsCounted, bytes_a_sample, line_bytes, samples_a_pixel}
-use Rattle.jpeg_decoder.specs.declared.sizes.DecodingBytes.{DecodingBytes}
 use Rattle.zaxbriar.proofs.Fails.{stands}
-use Rattle.zaxbriar.proofs.Told.{count-of}
 use Rattle.zaxbriar.specs.Faults.{IsFault, StandsFor}
-use Rattle.zaxbriar.specs.Layouts.{TakesStored, converted_bytes, laid_out, layout_line, size_of_lines}
+use Rattle.zaxbriar.specs.Layouts.{TakesStored, converted_bytes, laid_out, layout_line}
 use Rattle.zaxbriar.specs.Lines.{Decodes, HasLines}
 use Rattle.zaxbriar.specs.declared.answers.Refusal.{Refusal}
 use Rattle.zaxbriar.specs.declared.lines.Lines.{Lines}

@@ -1,17 +1,15 @@
 -- Pixels and lines that are written one after the other.
-use Rattle.std.proofs.Common.{◌≡◌, ◌∙◌, ℕ, zero, suc, ◌+◌, ◌-◌, ◌*◌, ◌<◌, ◌≤◌, List, [], ◌∷◌, ◌++◌, length}
-use Rattle.std.proofs.Common.{take, drop, slice_index, refl, sym, ap, arith, append_assoc, length-append, length-drop, subst}
+use Rattle.std.proofs.Common.{◌≡◌, ◌∙◌, ℕ, zero, suc, ◌+◌, ◌*◌, ◌<◌, ◌≤◌, List, [], ◌∷◌, ◌++◌, length}
+use Rattle.std.proofs.Common.{take, drop, slice_index, refl, sym, ap, arith, append_assoc, length-append, length-drop}
 use Rattle.std.proofs.Common.{length-take}
-use Rattle.std.proofs.Math.Seq.{take-append_seam, drop-append_seam, take-append-add, drop-append-add, take-take}
-use Rattle.std.proofs.lemmas.List.{append-nil, drop-append-le, drop-drop, drop-take, drop_min, get_or-drop, get_or-take}
-use Rattle.std.proofs.lemmas.List.{take-append-drop, take-append-le, take_min}
-use Rattle.std.proofs.Math.ListN.{drop_of_length-le}
-use Rattle.std.proofs.Math.Nat.{mul-le-mul, mul-le-mul_left, mul-le-mul_right}
+use Rattle.std.proofs.Math.Seq.{take-append_seam, drop-append_seam, take-append-add, drop-append-add}
+use Rattle.std.proofs.lemmas.List.{append-nil, drop-append-le, drop-drop, get_or-drop, get_or-take}
+use Rattle.std.proofs.lemmas.List.{take-append-drop}
 use Rattle.std.specs.List.{AllByRecursion, concat}
-use Rattle.std.specs.Prelude.{min, slice_index_or, slice_set}
+use Rattle.std.specs.Prelude.{slice_index_or, slice_set}
 use borrow.Rule.Slice.PartMut.{put_mid}
 use Rattle.zaxbriar.specs.Layouts.{TakesStored, converted_bytes, laid_out, layout_line, over}
-use Rattle.zaxbriar.specs.Layouts.{pixel_of, pixels_of, grey_as_rgb, grey_as_rgba, grey_as_xrgb}
+use Rattle.zaxbriar.specs.Layouts.{pixels_of, grey_as_rgb, grey_as_rgba, grey_as_xrgb}
 use Rattle.zaxbriar.specs.Layouts.{rgb_as_grey, rgb_as_bgr, rgb_as_rgba, rgb_as_bgra, rgb_as_xrgb}
 use Rattle.zaxbriar.specs.declared.layouts.Conversion.{Conversion}
 use Rattle.zaxbriar.specs.declared.layouts.Conversion.TheVariants.{Stored, GreyToRgb, GreyToRgba, GreyToXrgb}

@@ -23,22 +23,23 @@ pub count-of : (o : Options) (info : ImageInfo) (precision count : ℕ) (lines :
 count-of o info precision count lines h e = grind (arith, mul_comm, mul_assoc)
 
 pub arranged-of : (o : Options) (info : ImageInfo) (precision : ℕ) (samples old new : List ℕ) (picture : Picture)
-    (lines : Lines) (decoding orientation : ℕ)
+    (lines : Lines) (decoding orientation : ℕ) (sampling : List ℕ)
     → HasLines o info precision lines
     → new ≡ laid_out (layout_line lines.conversion lines.stored lines.width) (lines.width * lines.stored)
     lines.stride lines.height
     samples old
-    → picture ≡ described_picture o.layout info precision lines decoding orientation 0
+    → picture ≡ described_picture o.layout info precision lines decoding orientation sampling 0
     → Arranged o info precision samples old new picture
-arranged-of o info precision samples old new picture lines decoding orientation h e p = record {
+arranged-of o info precision samples old new picture lines decoding orientation sampling h e p = record {
   conversion = h.conversion;
   is = h.is;
   pixels = e ∙ (λ i. laid_out (layout_line (h.lines_are i).conversion (h.lines_are i).stored (h.lines_are i).width)
       ((h.lines_are i).width * (h.lines_are i).stored) (h.lines_are i).stride (h.lines_are i).height samples old);
   decoding = decoding;
   orientation = orientation;
+  sampling = sampling;
   picture_is = p ∙ (λ i. described_picture o.layout info precision (h.lines_are i) decoding
-      orientation
+      orientation sampling
       (ap (λ (q : Picture). q.stream_bytes) (sym p) i));
 }
 
@@ -62,6 +63,7 @@ retold o info precision samples old new picture stream feature text none t a = r
   pixels = a.pixels;
   decoding = a.decoding;
   orientation = a.orientation;
+  sampling = a.sampling;
   picture_is = λ i. ending (a.picture_is i) stream (none i) (t i);
 }
 

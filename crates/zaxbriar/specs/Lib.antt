@@ -5,3 +5,4 @@ pub mod Limits
 pub mod Lines
 pub mod Meanings
 pub mod Metadata
+pub mod Sampling

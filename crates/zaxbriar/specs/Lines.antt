@@ -78,9 +78,9 @@ format_number RGB24 = 3
 format_number CMYK32 = 4
 
 -- what a caller is told of a picture: these lines, the memory that decoding takes, the orientation,
--- and the bytes of the stream
-abbrev pub described_picture : ℕ → ImageInfo → ℕ → Lines → ℕ → ℕ → ℕ → Picture
-described_picture layout info precision lines decoding orientation stream = record {
+-- the sampling factors, and the bytes of the stream
+abbrev pub described_picture : ℕ → ImageInfo → ℕ → Lines → ℕ → ℕ → List ℕ → ℕ → Picture
+described_picture layout info precision lines decoding orientation sampling stream = record {
   size = size_of_lines lines.stride lines.row_bytes lines.height;
   row_bytes = lines.row_bytes;
   decoding_bytes = decoding;
@@ -97,7 +97,8 @@ described_picture layout info precision lines decoding orientation stream = reco
   format = format_number info.pixel_format;
   feature = 0;
   feature_argument = 0;
-  reserved = replicate 30 0;
+  sampling = sampling;
+  reserved = replicate 26 0;
   text = replicate 112 0;
 }
 
@@ -112,8 +113,10 @@ pub record Arranged (o : Options) (info : ImageInfo) (precision : ℕ) (samples 
       (stride_of o.stride (row_bytes info precision conversion)) info.height samples old
   pub decoding : ℕ
   pub orientation : ℕ
+  pub sampling : List ℕ
   pub picture_is : picture ≡ described_picture o.layout info precision
-      (lines_by o.stride info precision conversion) decoding orientation picture.stream_bytes
+      (lines_by o.stride info precision conversion) decoding orientation sampling
+      picture.stream_bytes
 
 -- A decoder whose header was read has decoded its picture, and the lines of it are in the caller's
 -- memory.

@@ -20,6 +20,7 @@ use Rattle.jpeg_decoder.specs.declared.sizes.DecodingBytes.{DecodingBytes}
 use Rattle.zaxbriar.specs.Layouts.{conversion_to}
 use Rattle.zaxbriar.specs.Limits.{are_known, bytes_beside, exceeds_limits}
 use Rattle.zaxbriar.specs.Lines.{Arranged, FitLines, lines_by, described_picture}
+use Rattle.zaxbriar.specs.Sampling.{sampling_of}
 use Rattle.zaxbriar.specs.declared.layouts.Conversion.{Conversion}
 use Rattle.zaxbriar.specs.declared.options.Options.{Options}
 use Rattle.zaxbriar.specs.declared.picture.Picture.{Picture}
@@ -93,6 +94,7 @@ pub record Describes (o : Options) (bytes : List ℕ) (picture : Picture) : Type
   pub precision : ℕ
   pub decoding : DecodingBytes
   pub conversion : Conversion
+  pub sampling : List ℕ
   pub reads : header_at bytes ≡ Ok (header, rest)
   pub info_is : option_map info_of (at_size (size_wanted o) header.said).frame ≡ Some info
   pub precision_is : option_map (λ f. f.precision) (at_size (size_wanted o) header.said).frame
@@ -100,10 +102,12 @@ pub record Describes (o : Options) (bytes : List ℕ) (picture : Picture) : Type
   pub decoding_is : option_map decoding_bytes (at_size (size_wanted o) header.said).frame
       ≡ Some decoding
   pub conversion_is : conversion_to o.layout info.pixel_format precision ≡ Some conversion
+  pub sampling_is : option_map (λ f. sampling_of f.components)
+      (at_size (size_wanted o) header.said).frame ≡ Some sampling
   pub picture_is : picture ≡ described_picture o.layout info precision
       (lines_by o.stride info precision conversion)
       (bytes_beside decoding)
-      (orientation_by (at_size (size_wanted o) header.said).metadata.exif) 0
+      (orientation_by (at_size (size_wanted o) header.said).metadata.exif) sampling 0
 
 -- The lines that the options ask for don't fit the picture of a header.
 pub record IsMisfit (o : Options) (bytes : List ℕ) : Type 0 where
@@ -141,7 +145,8 @@ no_picture = record {
   format = 0;
   feature = 0;
   feature_argument = 0;
-  reserved = replicate 30 0;
+  sampling = replicate 4 0;
+  reserved = replicate 26 0;
   text = replicate 112 0;
 }
 

@@ -40,7 +40,7 @@ pub fn describe<R: Read + Drop>(
         ≡ Some a.0.decoding_bytes) }
     ensures lines { IfOk result (λ a. HasLines options.now a.0.info a.0.precision a.1) }
     ensures told { IfOk result (λ a. picture.new ≡ described_picture options.now.layout a.0.info
-        a.0.precision a.1 (bytes_beside a.0.decoding_bytes) a.0.orientation 0) }
+        a.0.precision a.1 (bytes_beside a.0.decoding_bytes) a.0.orientation a.0.sampling 0) }
     ensures within { decoder.old.source.known ≡ true
         → OnOk result (IsWithin options.now decoder.old.source.bytes picture.new) }
     ensures large { decoder.old.source.known ≡ true → IfErr result

@@ -8,9 +8,11 @@ ghost use Rattle.jpeg_streams.specs.Stream.{header_at};
 ghost use Rattle.zaxbriar.specs.Faults.{IsFault, IsOfDecoder};
 ghost use Rattle.std.specs.Option.{option_copied};
 ghost use Rattle.zaxbriar.specs.Meanings.{ReadsHeader, orientation_by};
+ghost use Rattle.zaxbriar.specs.Sampling.{sampling_of};
 
 use crate::answers::{Refusal, refusal_of};
 use crate::options::{Options, apply, apply_size};
+use crate::sampling::sampling_of;
 use jpeg_decoder::orientation::orientation_of;
 use jpeg_decoder::{Decoder, DecodingBytes, ImageInfo};
 use std::io::Read;
@@ -26,6 +28,8 @@ pub struct Header {
     pub decoding_bytes: DecodingBytes,
     /// The orientation by the Exif data.
     pub orientation: u8,
+    /// The sampling factors of the components.
+    pub sampling: [u8; 4],
 }
 
 /// Returns the orientation that Exif data say, and 1, upright, where they say none.
@@ -58,6 +62,8 @@ pub fn read_header<R: Read + Drop>(
         ≡ Some h.precision) }
     ensures oriented { IfOk result (λ h. h.orientation
         ≡ orientation_by decoder.new.found.said.metadata.exif) }
+    ensures sampling { IfOk result (λ h. option_map (λ f. sampling_of f.components)
+        decoder.new.found.said.frame ≡ Some h.sampling) }
     ensures bytes { IfOk result (λ h. option_map decoding_bytes decoder.new.found.said.frame
         ≡ Some h.decoding_bytes) }
     ensures peak { IfOk result (λ h. h.decoding_bytes.coefficients + h.decoding_bytes.planes
@@ -68,18 +74,21 @@ pub fn read_header<R: Read + Drop>(
         return Err(refusal_of(decoder, error));
     }
     apply_size(decoder, options)?;
-    let (Some(info), Some(precision), Some(decoding_bytes)) = (
+    let (Some(info), Some(precision), Some(components), Some(decoding_bytes)) = (
         decoder.info(),
         decoder.precision(),
+        decoder.components(),
         decoder.decoding_bytes(),
     ) else {
         // There is a frame.
         return Err(Refusal::Argument("no frame"));
     };
+    let sampling = sampling_of(components);
     Ok(Header {
         info,
         precision,
         decoding_bytes,
         orientation: orientation_in(decoder.exif_data()),
+        sampling,
     })
 }

@@ -36,6 +36,7 @@ mod metadata;
 pub mod options;
 pub mod picture;
 mod reader;
+mod sampling;
 #[cfg(test)]
 mod stream_bytes;
 

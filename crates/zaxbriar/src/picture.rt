@@ -43,8 +43,11 @@ pub struct Picture {
     /// After a refusal for a feature, the number of it, and what the stream asks for.
     pub feature: u8,
     pub feature_argument: u8,
+    /// The sampling factors of the components in the stream, in four bits each, and 0 for those
+    /// that it doesn't have.
+    pub sampling: [u8; 4],
     /// Zero.
-    pub reserved: [u8; 30],
+    pub reserved: [u8; 26],
     /// Why a call failed, ended by a zero; all zeros after a success.
     pub text: [u8; TEXT_BYTES],
 }
@@ -67,7 +70,8 @@ pub const NO_PICTURE: Picture = Picture {
     format: 0,
     feature: 0,
     feature_argument: 0,
-    reserved: [0; 30],
+    sampling: [0; 4],
+    reserved: [0; 26],
     text: [0; TEXT_BYTES],
 };
 
@@ -101,8 +105,9 @@ pub fn picture_of(header: Header, lines: Lines, layout: u8) -> Picture
     requires peak { header.decoding_bytes.coefficients + header.decoding_bytes.planes
         ≤ header.decoding_bytes.peak }
     ensures { result ≡ described_picture layout header.info header.precision lines
-        (bytes_beside header.decoding_bytes) header.orientation 0 }
+        (bytes_beside header.decoding_bytes) header.orientation header.sampling 0 }
 {
+    let sampling = header.sampling;
     Picture {
         size: size_of_lines(lines),
         row_bytes: lines.row_bytes,
@@ -120,7 +125,8 @@ pub fn picture_of(header: Header, lines: Lines, layout: u8) -> Picture
         format: format_number(header.info.pixel_format),
         feature: 0,
         feature_argument: 0,
-        reserved: [0; 30],
+        sampling,
+        reserved: [0; 26],
         text: [0; TEXT_BYTES],
     }
 }

@@ -33,7 +33,7 @@ returns-clause-means g c bytes tells =
       precision_is = ap (λ f. option_map (λ f. f.precision) f) decodes.frame ∙ c.in_ok-header.ensures.precision;
       arranged = arranged-of c.args.options.now header.info header.precision decodes.samples c.args.pixels.now
           c.decode_lines.new.pixels c.describe.new.picture c.in_ok-header.lines (bytes_beside header.decoding_bytes)
-          header.orientation c.in_ok-header.ensures.lines decodes.pixels c.in_ok-header.ensures.told;
+          header.orientation header.sampling c.in_ok-header.ensures.lines decodes.pixels c.in_ok-header.ensures.told;
     }
 
 pub returns-clause-images : goal.returns-clause-images
@@ -56,7 +56,7 @@ returns-clause-images g c bytes tells array image rest final last range w is =
           facts.0).pixels;
       arranged = arranged-of c.args.options.now header.info header.precision decodes.samples c.args.pixels.now
           c.decode_lines.new.pixels c.describe.new.picture c.in_ok-header.lines (bytes_beside header.decoding_bytes)
-          header.orientation c.in_ok-header.ensures.lines decodes.pixels c.in_ok-header.ensures.told;
+          header.orientation header.sampling c.in_ok-header.ensures.lines decodes.pixels c.in_ok-header.ensures.told;
     }
 
 pub returns-in_err-header-clause-named : goal.returns-in_err-header-clause-named

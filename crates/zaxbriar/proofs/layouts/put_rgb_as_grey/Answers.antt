@@ -1,4 +1,4 @@
-use Rattle.std.proofs.Common.{refl, ◌∙◌, ◌∷◌, [], ◌+◌, ◌*◌, ap, arith, slice_index}
+use Rattle.std.proofs.Common.{refl, ◌∙◌, ◌∷◌, [], ◌*◌, ap, arith}
 use Rattle.zaxbriar.specs.Layouts.{luma, pixels_of, rgb_as_grey}
 use Rattle.zaxbriar.proofs.Laid.{blue-of, byte-put, green-of, red-of}
 use Rattle.zaxbriar.proofs.layouts.put_rgb_as_grey.Goals as goal
