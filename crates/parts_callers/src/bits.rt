@@ -13,13 +13,13 @@ ghost use Rattle.jpeg_bits.specs.declared.error.Error.TheVariants.{Io};
 ghost use Rattle.jpeg_bits.specs.Skips.{kept, kept_from};
 
 use jpeg_bits::blocks::{BlockCoding, Carried, read_block};
-use jpeg_bits::source::byte_reader::ByteReader;
 use jpeg_bits::error::{Error, Result};
 use jpeg_bits::huffman::{HuffmanDecoder, HuffmanTable, HuffmanTableClass};
 use jpeg_bits::marker::Marker;
+use jpeg_bits::source::Source;
+use jpeg_bits::source::byte_reader::ByteReader;
 use jpeg_bits::source::reads::read_u8;
 use jpeg_bits::source::slice_reader::SliceReader;
-use jpeg_bits::source::Source;
 use std::alloc::Global;
 use std::io;
 use std::io::{BufReader, Read};
