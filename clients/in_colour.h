@@ -1,6 +1,6 @@
-/* Any picture as 8-bit red, green and blue, for clients that know nothing else. The library
- * rearranges grey and colour pictures of 8 bits; here the others are converted: more or fewer bits
- * a sample, and cyan, magenta, yellow and black. */
+/* Any picture as 8-bit red, green and blue, for clients that know nothing else. The library decodes
+ * grey and colour pictures of 8 bits directly into every layout; here the others are converted:
+ * more or fewer bits per sample, and cyan, magenta, yellow and black. */
 #ifndef IN_COLOUR_H
 #define IN_COLOUR_H
 
@@ -28,23 +28,32 @@ static inline void in_colour_pixel(const zaxbriar_picture *stored, const uint8_t
     }
 }
 
-/* Whether the library has the picture in layouts of 8-bit colours itself. */
+/* Writes the bytes of a pixel in a layout of colours. */
+static inline void in_colour_put(int layout, const uint8_t rgb[3], uint8_t *pixel) {
+    int is_bgr = layout == ZAXBRIAR_BGR || layout == ZAXBRIAR_BGRA;
+    if (layout == ZAXBRIAR_XRGB) *pixel++ = 255;
+    for (int i = 0; i < 3; i++) pixel[i] = rgb[is_bgr ? 2 - i : i];
+    if (layout == ZAXBRIAR_RGBA || layout == ZAXBRIAR_BGRA) pixel[3] = 255;
+}
+
+/* Whether the library itself has the picture in layouts of 8-bit colours. */
 static inline int in_colour_is_there(const zaxbriar_picture *picture) {
-    return picture->sample_bytes == 1 && picture->precision == 8 && picture->components != 4;
+    return picture->precision == 8 && picture->format != ZAXBRIAR_FORMAT_CMYK;
 }
 
 /* As zaxbriar_read_info, for zaxbriar_decode_in_colour. */
-static inline int zaxbriar_read_info_in_colour(const void *jpeg, size_t jpeg_size,
-                                               const zaxbriar_options *options,
-                                               zaxbriar_picture *picture) {
+static inline zaxbriar_result zaxbriar_read_info_in_colour(const void *jpeg, size_t jpeg_size,
+                                                           const zaxbriar_options *options,
+                                                           zaxbriar_picture *picture) {
     zaxbriar_options as_stored = *options;
     as_stored.layout = ZAXBRIAR_AS_STORED;
     as_stored.stride = 0;
-    int answer = zaxbriar_read_info(jpeg, jpeg_size, &as_stored, picture);
+    zaxbriar_result answer = zaxbriar_read_info(jpeg, jpeg_size, &as_stored, picture);
     if (answer != ZAXBRIAR_OK) return answer;
     if (in_colour_is_there(picture)) return zaxbriar_read_info(jpeg, jpeg_size, options, picture);
     picture->layout = options->layout;
-    picture->pixel_bytes = options->layout == ZAXBRIAR_RGB ? 3 : 4;
+    picture->pixel_bytes =
+        options->layout == ZAXBRIAR_RGB || options->layout == ZAXBRIAR_BGR ? 3 : 4;
     picture->row_bytes = (uint64_t)picture->width * picture->pixel_bytes;
     uint64_t stride = options->stride ? options->stride : picture->row_bytes;
     if (stride < picture->row_bytes) return ZAXBRIAR_BAD_ARGUMENT;
@@ -52,13 +61,14 @@ static inline int zaxbriar_read_info_in_colour(const void *jpeg, size_t jpeg_siz
     return ZAXBRIAR_OK;
 }
 
-/* Decodes any picture to RGB, RGBA or BGRA. */
-static inline int zaxbriar_decode_in_colour(const void *jpeg, size_t jpeg_size,
-                                            const zaxbriar_options *options, uint8_t *pixels,
-                                            size_t pixels_size, zaxbriar_picture *picture) {
+/* Decodes any picture to RGB, BGR, RGBA, BGRA or XRGB. */
+static inline zaxbriar_result zaxbriar_decode_in_colour(const void *jpeg, size_t jpeg_size,
+                                                        const zaxbriar_options *options,
+                                                        uint8_t *pixels, size_t pixels_size,
+                                                        zaxbriar_picture *picture) {
     zaxbriar_options as_stored = *options;
     zaxbriar_picture stored;
-    int answer = zaxbriar_read_info_in_colour(jpeg, jpeg_size, options, picture);
+    zaxbriar_result answer = zaxbriar_read_info_in_colour(jpeg, jpeg_size, options, picture);
     if (answer != ZAXBRIAR_OK) return answer;
     if (in_colour_is_there(picture))
         return zaxbriar_decode(jpeg, jpeg_size, options, pixels, pixels_size, picture);
@@ -74,13 +84,12 @@ static inline int zaxbriar_decode_in_colour(const void *jpeg, size_t jpeg_size,
         uint64_t stride = options->stride ? options->stride : picture->row_bytes;
         for (uint32_t y = 0; y < picture->height; y++)
             for (uint32_t x = 0; x < picture->width; x++) {
-                uint8_t rgb[3], *pixel = pixels + y * stride + (uint64_t)x * picture->pixel_bytes;
+                uint8_t rgb[3];
                 in_colour_pixel(&stored,
                                 samples + y * stored.row_bytes + (uint64_t)x * stored.pixel_bytes,
                                 rgb);
-                for (int i = 0; i < 3; i++)
-                    pixel[options->layout == ZAXBRIAR_BGRA ? 2 - i : i] = rgb[i];
-                if (picture->pixel_bytes == 4) pixel[3] = 255;
+                in_colour_put(options->layout, rgb,
+                              pixels + y * stride + (uint64_t)x * picture->pixel_bytes);
             }
         picture->stream_bytes = stored.stream_bytes;
     }

@@ -1,6 +1,6 @@
-/* jpeg2pnm FILE [WIDTH HEIGHT] > PICTURE: the picture as PGM, PPM, or PAM where it is cyan,
- * magenta, yellow and black; where a size is given, at the least of 1/8, 1/4, 1/2 and 1 of its size
- * that is so wide or so high. */
+/* jpeg2pnm FILE [WIDTH HEIGHT] > PICTURE: writes the picture as PGM (grey), PPM (red, green and
+ * blue) or PAM (cyan, magenta, yellow and black). If a size is given, at the least of 1/8, 1/4, 1/2
+ * and 1 at which the picture is at least that wide or that high. */
 #include <stdio.h>
 #include <stdlib.h>
 
@@ -28,7 +28,7 @@ static unsigned char *read_file(const char *name, size_t *size) {
     return bytes;
 }
 
-/* Writes the picture; netpbm's formats have the higher byte of a sample first. */
+/* Writes the picture. In netpbm's formats the higher byte of a sample is first. */
 static int write_picture(const zaxbriar_picture *picture, unsigned char *pixels) {
     unsigned most = (1u << picture->precision) - 1;
     if (picture->components == 4)

@@ -1,10 +1,10 @@
-/* jpeginfo FILE..: what the header of each file says, and how long its metadata are. */
+/* jpeginfo FILE..: says what the header of each file contains, and how long its metadata are. */
 #include <stdio.h>
 #include <stdlib.h>
 
 #include "zaxbriar.h"
 
-/* Writes a line; returns whether the header was read. */
+/* Writes a line about a file. Returns whether its header could be read. */
 static int describe(const char *name, const unsigned char *jpeg, size_t size) {
     static const char *const processes[] = {"?", "sequential", "progressive", "lossless"};
     size_t lengths[4] = {0};
@@ -17,9 +17,11 @@ static int describe(const char *name, const unsigned char *jpeg, size_t size) {
     for (int kind = ZAXBRIAR_EXIF; kind <= ZAXBRIAR_ICC; kind++)
         if (zaxbriar_metadata(jpeg, size, kind, NULL, 0, &lengths[kind]) == ZAXBRIAR_NO_DATA)
             lengths[kind] = 0;
-    printf("%s: %u x %u, %u components of %u bits, %s, orientation %u, exif %zu, xmp %zu, icc %zu "
-           "bytes; decoding takes %llu bytes\n",
-           name, picture.width, picture.height, picture.components, picture.precision,
+    printf("%s: %u x %u, %u components of %u bits, sampling", name, picture.width, picture.height,
+           picture.components, picture.precision);
+    for (int i = 0; i < picture.components; i++)
+        printf(" %ux%u", picture.sampling[i] >> 4, picture.sampling[i] & 15);
+    printf(", %s, orientation %u, exif %zu, xmp %zu, icc %zu bytes; decoding takes %llu bytes\n",
            processes[picture.process & 3], picture.orientation, lengths[ZAXBRIAR_EXIF],
            lengths[ZAXBRIAR_XMP], lengths[ZAXBRIAR_ICC],
            (unsigned long long)picture.decoding_bytes);

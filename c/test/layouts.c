@@ -85,13 +85,6 @@ static unsigned convert(int layout, const unsigned char *stored, unsigned char p
     }
 }
 
-/* The planes take two bytes a sample; and a picture is beside them unless it is decoded in place.
- */
-static uint64_t bytes_beside(unsigned pixel_bytes, unsigned gap) {
-    uint64_t count = (uint64_t)width * height * components;
-    return gap || pixel_bytes < components ? 3 * count : 2 * count;
-}
-
 static void in_layout(int layout, unsigned gap, unsigned more) {
     unsigned char pixel[4];
     unsigned pixel_bytes = convert(layout, samples, pixel), row_bytes = width * pixel_bytes;
@@ -111,7 +104,8 @@ static void in_layout(int layout, unsigned gap, unsigned more) {
     CHECK(!memcmp(pixels, wanted, size + more));
     CHECK(picture.size == size && picture.row_bytes == row_bytes && picture.layout == layout);
     CHECK(picture.pixel_bytes == pixel_bytes);
-    CHECK(picture.decoding_bytes == bytes_beside(pixel_bytes, gap));
+    /* The planes, of two bytes a sample: no layout or gap needs a picture beside them. */
+    CHECK(picture.decoding_bytes == (uint64_t)width * height * components * 2);
     if (!gap) { /* a stream that ends too soon leaves all as it was */
         for (size_t i = 0; i < size + more; i++) wanted[i] = pixels[i] = (unsigned char)(i * 5 + 1);
         CHECK(zaxbriar_decode(stream, stream_bytes - 2, &options, pixels, size + more, &picture) ==

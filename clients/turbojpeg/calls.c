@@ -1,5 +1,6 @@
-/* calls LIST: for each file that LIST names, the picture in every format of RGB, with a pitch, from
- * the bottom and at each scale has the pixels that jpeg2pnm's way gives: the library's own RGB. */
+/* calls LIST: for each file that LIST names, the picture in every format of RGB, with a pitch and
+ * without, from the top and from the bottom, and at each scale has the pixels of the library's own
+ * RGB, and the bytes between the lines are unchanged. */
 #include <stdio.h>
 #include <turbojpeg.h>
 
@@ -30,7 +31,9 @@ static void in_format(tjhandle handle, const char *name, size_t size, int which,
         if (!pixels || tjDecompress2(handle, jpeg, size, pixels, width, which % 2 ? pitch : 0,
                                      height, formats[which].format, flags))
             fault(name, tjGetErrorStr2(handle));
-        for (int y = 0; pixels && y < height; y++)
+        for (int y = 0; pixels && y < height; y++) {
+            for (int i = width * formats[which].bytes; i < pitch; i++)
+                if (pixels[(size_t)y * (size_t)pitch + (size_t)i]) fault(name, "a gap is written");
             for (int x = 0; x < width; x++) {
                 const unsigned char *from =
                     wanted + (size_t)(flags ? height - 1 - y : y) * wanted_row + 3 * (size_t)x;
@@ -44,6 +47,7 @@ static void in_format(tjhandle handle, const char *name, size_t size, int which,
                     y = height;
                 }
             }
+        }
         free(pixels);
         pictures++;
     }

@@ -42,6 +42,20 @@ int tjGetErrorCode(tjhandle handle) {
     return TJERR_FATAL;
 }
 
+/* The name of the sampling: how many samples of the first component there are, across and down, for
+ * each of the next two. TurboJPEG 2 has no name for some; they are called 4:4:4. */
+static int sampling_of(const zaxbriar_picture *picture) {
+    const uint8_t *factors = picture->sampling;
+    if (picture->components == 1) return TJSAMP_GRAY;
+    if (factors[1] != factors[2] || (picture->components == 4 && factors[3] != factors[0]))
+        return TJSAMP_444;
+    for (int name = 0; name < TJ_NUMSAMP; name++)
+        if (tjMCUWidth[name] / 8 * (factors[1] >> 4) == factors[0] >> 4 &&
+            tjMCUHeight[name] / 8 * (factors[1] & 15) == (factors[0] & 15))
+            return name;
+    return TJSAMP_444;
+}
+
 int tjDecompressHeader3(tjhandle handle, const unsigned char *jpeg, unsigned long size, int *width,
                         int *height, int *sampling, int *colours) {
     zaxbriar_picture picture;
@@ -51,35 +65,25 @@ int tjDecompressHeader3(tjhandle handle, const unsigned char *jpeg, unsigned lon
         return fail(handle, picture.text);
     *width = (int)picture.width;
     *height = (int)picture.height;
-    /* The library doesn't say how colours are sampled, nor whether they are converted. */
-    *sampling = picture.components == 1 ? TJSAMP_GRAY : TJSAMP_444;
+    *sampling = sampling_of(&picture);
+    /* (the library doesn't say whether colours are converted) */
     *colours = picture.components == 1   ? TJCS_GRAY
                : picture.components == 3 ? TJCS_YCbCr
                                          : TJCS_CMYK;
     return 0;
 }
 
-/* Where red, green and blue are in a pixel of a format, and the byte that is neither, or -1. */
-struct offsets {
-    int bytes, red, green, blue, other;
+/* The library's layout of a pixel format. XBGR and ABGR have the bytes of a pixel in the opposite
+ * order. */
+static const struct {
+    uint8_t layout, is_reversed;
+} formats[] = {
+    [TJPF_RGB] = {ZAXBRIAR_RGB, 0},   [TJPF_BGR] = {ZAXBRIAR_BGR, 0},
+    [TJPF_RGBX] = {ZAXBRIAR_RGBA, 0}, [TJPF_RGBA] = {ZAXBRIAR_RGBA, 0},
+    [TJPF_BGRX] = {ZAXBRIAR_BGRA, 0}, [TJPF_BGRA] = {ZAXBRIAR_BGRA, 0},
+    [TJPF_XRGB] = {ZAXBRIAR_XRGB, 0}, [TJPF_ARGB] = {ZAXBRIAR_XRGB, 0},
+    [TJPF_XBGR] = {ZAXBRIAR_RGBA, 1}, [TJPF_ABGR] = {ZAXBRIAR_RGBA, 1},
 };
-
-static const struct offsets formats[] = {
-    [TJPF_RGB] = {3, 0, 1, 2, -1}, [TJPF_BGR] = {3, 2, 1, 0, -1}, [TJPF_RGBX] = {4, 0, 1, 2, 3},
-    [TJPF_BGRX] = {4, 2, 1, 0, 3}, [TJPF_XBGR] = {4, 3, 2, 1, 0}, [TJPF_XRGB] = {4, 1, 2, 3, 0},
-    [TJPF_RGBA] = {4, 0, 1, 2, 3}, [TJPF_BGRA] = {4, 2, 1, 0, 3}, [TJPF_ABGR] = {4, 3, 2, 1, 0},
-    [TJPF_ARGB] = {4, 1, 2, 3, 0},
-};
-
-static int layout_of(int format) {
-    switch (format) {
-    case TJPF_RGBX:
-    case TJPF_RGBA: return ZAXBRIAR_RGBA;
-    case TJPF_BGRX:
-    case TJPF_BGRA: return ZAXBRIAR_BGRA;
-    default: return ZAXBRIAR_RGB;
-    }
-}
 
 /* The options under which the picture has the greatest of its sizes that fits into width x height;
  * 0 is any. */
@@ -100,34 +104,27 @@ static int options_for(const unsigned char *jpeg, size_t size, int width, int he
     return 0;
 }
 
-/* The picture in RGB, line by line into another order of the colours, from the bottom where that is
- * asked for. */
-static int decode_and_place(struct handle *handle, const unsigned char *jpeg, size_t size,
-                            zaxbriar_options *options, zaxbriar_picture *picture,
-                            unsigned char *pixels, size_t pitch, int format, int flags) {
-    struct offsets to = formats[format];
-    uint8_t *colours = malloc(picture->size ? picture->size : 1);
-    if (!colours) return fail(handle, "out of memory");
-    if (zaxbriar_decode_in_colour(jpeg, size, options, colours, picture->size, picture) !=
-        ZAXBRIAR_OK) {
-        free(colours);
-        return fail(handle, picture->text);
-    }
-    for (uint32_t y = 0; y < picture->height; y++) {
-        const uint8_t *from = colours + y * picture->row_bytes;
-        unsigned char *row =
-            pixels + pitch * (flags & TJFLAG_BOTTOMUP ? picture->height - 1 - y : y);
-        for (uint32_t x = 0; x < picture->width;
-             x++, row += to.bytes, from += picture->pixel_bytes) {
-            int is_bgra = options->layout == ZAXBRIAR_BGRA;
-            row[to.red] = from[is_bgra ? 2 : 0];
-            row[to.green] = from[1];
-            row[to.blue] = from[is_bgra ? 0 : 2];
-            if (to.other >= 0) row[to.other] = 255;
+static void swap(unsigned char *a, unsigned char *b) {
+    unsigned char kept = *a;
+    *a = *b;
+    *b = kept;
+}
+
+/* Reverses the bytes of each pixel. */
+static void reverse_pixels(const zaxbriar_picture *picture, unsigned char *pixels, size_t pitch) {
+    for (size_t y = 0; y < picture->height; y++)
+        for (size_t x = 0; x < picture->width; x++) {
+            unsigned char *pixel = pixels + y * pitch + 4 * x;
+            swap(pixel, pixel + 3);
+            swap(pixel + 1, pixel + 2);
         }
-    }
-    free(colours);
-    return 0;
+}
+
+/* Exchanges the first line and the last, the second and the last but one, and so on. */
+static void reverse_lines(const zaxbriar_picture *picture, unsigned char *pixels, size_t pitch) {
+    for (size_t y = 0; y < picture->height / 2; y++)
+        for (size_t i = 0; i < picture->row_bytes; i++)
+            swap(pixels + y * pitch + i, pixels + (picture->height - 1 - y) * pitch + i);
 }
 
 int tjDecompress2(tjhandle handle, const unsigned char *jpeg, unsigned long size,
@@ -136,23 +133,17 @@ int tjDecompress2(tjhandle handle, const unsigned char *jpeg, unsigned long size
     zaxbriar_picture picture;
     if (!handle || !pixels || width < 0 || height < 0 || pitch < 0)
         return fail(handle, "a bad argument");
-    if (format < 0 || (size_t)format >= sizeof formats / sizeof *formats || !formats[format].bytes)
+    if (format < 0 || (size_t)format >= sizeof formats / sizeof *formats || !formats[format].layout)
         return fail(handle, "a pixel format that isn't supported");
-    options.layout = (uint8_t)layout_of(format);
+    options.layout = formats[format].layout;
     if (!options_for(jpeg, size, width, height, &options, &picture))
         return fail(handle, picture.text);
-    if (!pitch) pitch = (int)picture.width * formats[format].bytes;
-    if ((uint64_t)pitch < (uint64_t)picture.width * formats[format].bytes)
-        return fail(handle, "a line is longer than the pitch");
-    int is_direct =
-        !(flags & TJFLAG_BOTTOMUP) && (format == TJPF_RGB || options.layout != ZAXBRIAR_RGB);
-    if (!is_direct)
-        return decode_and_place(handle, jpeg, size, &options, &picture, pixels, (size_t)pitch,
-                                format, flags);
-    options.stride = (uint64_t)pitch;
-    size_t room =
-        (size_t)pitch * (picture.height - 1) + (size_t)picture.width * formats[format].bytes;
+    options.stride = pitch ? (uint64_t)pitch : picture.row_bytes;
+    if (options.stride < picture.row_bytes) return fail(handle, "a line is longer than the pitch");
+    size_t room = options.stride * (picture.height - 1) + picture.row_bytes;
     if (zaxbriar_decode_in_colour(jpeg, size, &options, pixels, room, &picture) != ZAXBRIAR_OK)
         return fail(handle, picture.text);
+    if (formats[format].is_reversed) reverse_pixels(&picture, pixels, options.stride);
+    if (flags & TJFLAG_BOTTOMUP) reverse_lines(&picture, pixels, options.stride);
     return 0;
 }

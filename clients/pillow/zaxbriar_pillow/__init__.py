@@ -14,6 +14,14 @@ from . import library
 decoded = 0
 decoded_in_place = 0
 
+# For each mode of Pillow's: the formats that the library decodes to it, its layout in the memory of
+# an image with the bytes of a pixel, and its layout without padding.
+_MODES = {
+    "L": ((library.FORMAT_GREY8, library.FORMAT_RGB), library.GREY, 1, library.GREY),
+    "RGB": ((library.FORMAT_GREY8, library.FORMAT_RGB), library.RGBA, 4, library.RGB),
+    "CMYK": ((library.FORMAT_CMYK,), library.AS_STORED, 4, library.AS_STORED),
+}
+
 
 def _memory_of(image, pixel_bytes):
     """The address of an image's first line and the bytes from a line to the next, where all lines
@@ -55,9 +63,9 @@ class ZaxbriarDecoder(ImageFile.PyDecoder):
         decoded_in_place += 1
         return True
 
-    def _by_copy(self, stream, mode, options):
-        """Decodes into memory of its own, in the picture's colours, and converts these to the
-        mode."""
+    def _converted(self, stream, mode, options):
+        """Decodes into memory of its own, as the picture is stored, and converts it to the mode and
+        the size."""
         picture, pixels = library.decode(stream, **options)
         if picture.sample_bytes != 1:
             raise OSError(f"samples of {picture.precision} bits")
@@ -76,19 +84,18 @@ class ZaxbriarDecoder(ImageFile.PyDecoder):
             options = {"scale": scale}
             picture = library.read_info(stream, **options)
             is_scaled = (picture.width, picture.height) == (self.state.xsize, self.state.ysize)
-            layout, pixel_bytes, components = {
-                "L": (library.GREY, 1, (1,)),
-                "RGB": (library.RGBA, 4, (1, 3)),
-                "CMYK": (library.AS_STORED, 4, (4,)),
-            }.get(mode, (None, None, ()))
+            formats, layout, pixel_bytes, packed = _MODES.get(mode, ((), None, None, None))
             is_plain = (
                 is_scaled
                 and picture.precision == 8
-                and picture.components in components
+                and picture.format in formats
                 and self.im.mode == mode
             )
-            if not (is_plain and self._in_place(stream, layout, pixel_bytes, options)):
-                self._by_copy(stream, mode, options)
+            if not is_plain:
+                self._converted(stream, mode, options)
+            elif not self._in_place(stream, layout, pixel_bytes, options):
+                _, pixels = library.decode(stream, layout=packed, **options)
+                self.set_as_raw(bytes(pixels), mode)
         except library.Error as error:
             if ImageFile.LOAD_TRUNCATED_IMAGES:
                 return -1, -2  # the image stays blank

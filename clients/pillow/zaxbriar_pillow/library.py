@@ -21,8 +21,8 @@ NAME = "libzaxbriar.so.0"
 OK, MALFORMED, UNSUPPORTED, TRUNCATED, NO_MEMORY, NO_ROOM, BAD_ARGUMENT, NO_DATA, TOO_LARGE = range(
     9
 )
-AS_STORED, GREY, RGB, RGBA, BGRA = range(5)
-SEQUENTIAL, PROGRESSIVE, LOSSLESS = range(1, 4)
+AS_STORED, GREY, RGB, RGBA, BGRA, BGR, XRGB = range(7)
+FORMAT_GREY8, FORMAT_GREY16, FORMAT_RGB, FORMAT_CMYK = range(1, 5)
 
 
 class Options(Structure):
@@ -59,7 +59,11 @@ class Picture(Structure):
         ("sample_bytes", c_uint8),
         ("process", c_uint8),
         ("orientation", c_uint8),
-        ("reserved", c_uint8 * 33),
+        ("format", c_uint8),
+        ("feature", c_uint8),
+        ("feature_argument", c_uint8),
+        ("sampling", c_uint8 * 4),
+        ("reserved", c_uint8 * 26),
         ("text", c_char * 112),
     ]
 

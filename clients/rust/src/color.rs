@@ -29,81 +29,35 @@ pub enum ColorTransform {
     JcsBgRgb,
 }
 
-// Transforms by the library's numbers.
+/// The number of what the stream says, in place of a transform.
 const OF_STREAM: u8 = 0;
-const RGB: u8 = 2;
-const YCBCR: u8 = 3;
-const CMYK: u8 = 4;
-const YCCK: u8 = 5;
 
-/// A transform as this crate makes it from one that the library has.
-pub enum Conversion {
-    /// By the library alone, by this number.
-    Of(u8),
-    /// Samples that the library has made by this number, which are taken apart, and inverted again
-    /// where it inverts them.
-    Planar { number: u8, is_inverted: bool },
-}
-
-impl Conversion {
-    /// Returns what a transform asks for. Errors: `Unsupported`, and `Format` for one that doesn't
-    /// fit the picture; but `RGB` to `YCCK` are refused by the library.
-    pub fn of(transform: Option<ColorTransform>, picture: &Picture) -> Result<Conversion> {
-        let components = picture.components;
-        let is_lossless = picture.process == 3;
-        let transform = match transform {
-            Some(transform) if components > 1 && !is_lossless => transform,
-            _ => return Ok(Conversion::Of(OF_STREAM)),
-        };
-        match transform {
-            ColorTransform::RGB => Ok(Conversion::Of(RGB)),
-            ColorTransform::YCbCr => Ok(Conversion::Of(YCBCR)),
-            ColorTransform::CMYK => Ok(Conversion::Of(CMYK)),
-            ColorTransform::YCCK => Ok(Conversion::Of(YCCK)),
-            ColorTransform::None if components == 3 => Ok(Conversion::Planar {
-                number: RGB,
-                is_inverted: false,
-            }),
-            ColorTransform::None => Ok(Conversion::Planar {
-                number: CMYK,
-                is_inverted: true,
-            }),
-            ColorTransform::Unknown | ColorTransform::Grayscale => {
-                let fitting = match components {
-                    3 => "None, RGB or YCbCr",
-                    _ => "None, CMYK or YCCK",
-                };
-                Err(Error::Format(format!(
-                    "color transform {transform:?} with {components} components, expected {fitting}"
-                )))
-            }
-            ColorTransform::JcsBgYcc | ColorTransform::JcsBgRgb => Err(Error::Unsupported(
-                UnsupportedFeature::ColorTransform(transform),
-            )),
+/// Returns the library's number of a transform for a picture. Errors: `Unsupported`, and `Format`
+/// for one that fits no picture of several components; the library itself refuses `RGB` to `YCCK`
+/// if they don't fit this one.
+pub(crate) fn transform_number(transform: Option<ColorTransform>, picture: &Picture) -> Result<u8> {
+    let transform = match transform {
+        Some(transform) if picture.components > 1 && !picture.is_lossless() => transform,
+        _ => return Ok(OF_STREAM),
+    };
+    match transform {
+        ColorTransform::None => Ok(1),
+        ColorTransform::RGB => Ok(2),
+        ColorTransform::YCbCr => Ok(3),
+        ColorTransform::CMYK => Ok(4),
+        ColorTransform::YCCK => Ok(5),
+        ColorTransform::Unknown | ColorTransform::Grayscale => {
+            let components = picture.components;
+            let fitting = match components {
+                3 => "None, RGB or YCbCr",
+                _ => "None, CMYK or YCCK",
+            };
+            Err(Error::Format(format!(
+                "color transform {transform:?} with {components} components, expected {fitting}"
+            )))
         }
-    }
-
-    /// Returns the library's transform.
-    pub fn number(&self) -> u8 {
-        match self {
-            Conversion::Of(number) | Conversion::Planar { number, .. } => *number,
-        }
-    }
-
-    /// Makes the samples of the library those that were asked for.
-    pub fn finish(&self, pixels: &mut [u8], picture: &Picture) {
-        if let Conversion::Planar { is_inverted, .. } = *self {
-            let components = usize::from(picture.components);
-            let mask = if is_inverted { 0xFF } else { 0 };
-            let mut line = Vec::new();
-            for row in pixels.chunks_exact_mut(picture.width as usize * components) {
-                line.clear();
-                line.extend_from_slice(row);
-                let planes = (0..components).flat_map(|c| line.iter().skip(c).step_by(components));
-                for (sample, stored) in row.iter_mut().zip(planes) {
-                    *sample = stored ^ mask;
-                }
-            }
-        }
+        ColorTransform::JcsBgYcc | ColorTransform::JcsBgRgb => Err(Error::Unsupported(
+            UnsupportedFeature::ColorTransform(transform),
+        )),
     }
 }

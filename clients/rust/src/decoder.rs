@@ -1,4 +1,4 @@
-use crate::color::{ColorTransform, Conversion};
+use crate::color::{transform_number, ColorTransform};
 use crate::error::{Error, Result, UnsupportedFeature};
 use crate::info::{size_of, ImageInfo, Scale};
 use crate::library::{self, Kind, Options, Picture, Refusal};
@@ -176,13 +176,11 @@ impl<R: Read> Decoder<R> {
             _ => return Err(Error::Internal("image was already decoded".into())),
         };
         self.refuse_above_limits(&picture)?;
-        let conversion = Conversion::of(self.color_transform, &picture)?;
         let mut options = self.options;
-        options.transform = conversion.number();
+        options.transform = transform_number(self.color_transform, &picture)?;
         self.stage = Stage::Failed;
         let mut pixels = library::zeros(picture.size).map_err(refused)?;
         self.decode_into(&options, &mut pixels)?;
-        conversion.finish(&mut pixels, &picture);
         self.stage = Stage::Decoded;
         Ok(pixels)
     }
@@ -325,10 +323,12 @@ fn error_of(refusal: Refusal, failure: Option<io::Error>) -> Error {
             let text = text.strip_prefix("invalid JPEG format: ").unwrap_or(&text);
             Error::Format(text.to_string())
         }
-        Refusal::Unsupported(text) => match UnsupportedFeature::named_in(&text) {
-            Some(feature) => Error::Unsupported(feature),
-            None => Error::Format(text),
-        },
+        Refusal::Unsupported {
+            feature,
+            argument,
+            text,
+        } => UnsupportedFeature::numbered(feature, argument)
+            .map_or(Error::Format(text), Error::Unsupported),
         Refusal::Truncated => {
             Error::Io(failure.unwrap_or_else(|| io::ErrorKind::UnexpectedEof.into()))
         }

@@ -29,20 +29,20 @@ pub enum UnsupportedFeature {
 }
 
 impl UnsupportedFeature {
-    /// Returns the feature that a refusal of the library names: its texts end in the names here.
-    pub(crate) fn named_in(text: &str) -> Option<UnsupportedFeature> {
-        let name = text.rsplit(' ').next()?;
-        let number = |kind: &str| name.strip_prefix(kind)?.strip_suffix(')')?.parse().ok();
-        match name {
-            "Hierarchical" => Some(Self::Hierarchical),
-            "ArithmeticEntropyCoding" => Some(Self::ArithmeticEntropyCoding),
-            "DNL" => Some(Self::DNL),
-            "NonIntegerSubsamplingRatio" => Some(Self::NonIntegerSubsamplingRatio),
-            "ColorTransform(JcsBgYcc)" => Some(Self::ColorTransform(ColorTransform::JcsBgYcc)),
-            "ColorTransform(JcsBgRgb)" => Some(Self::ColorTransform(ColorTransform::JcsBgRgb)),
-            _ => number("SamplePrecision(")
-                .map(Self::SamplePrecision)
-                .or_else(|| number("ComponentCount(").map(Self::ComponentCount)),
+    /// Returns the feature of a number of the library's, and of what a stream asks for of it; none
+    /// for a number that this crate doesn't know.
+    pub(crate) fn numbered(number: u8, argument: u8) -> Option<UnsupportedFeature> {
+        match (number, argument) {
+            (1, _) => Some(Self::Hierarchical),
+            (2, _) => Some(Self::ArithmeticEntropyCoding),
+            (3, bits) => Some(Self::SamplePrecision(bits)),
+            (4, count) => Some(Self::ComponentCount(count)),
+            (5, _) => Some(Self::DNL),
+            (6, _) => Some(Self::SubsamplingRatio),
+            (7, _) => Some(Self::NonIntegerSubsamplingRatio),
+            (8, 6) => Some(Self::ColorTransform(ColorTransform::JcsBgYcc)),
+            (8, 7) => Some(Self::ColorTransform(ColorTransform::JcsBgRgb)),
+            _ => None,
         }
     }
 }
@@ -87,38 +87,5 @@ impl StdError for Error {
 impl From<io::Error> for Error {
     fn from(error: io::Error) -> Error {
         Error::Io(error)
-    }
-}
-
-#[cfg(test)]
-mod tests {
-    use super::UnsupportedFeature;
-    use crate::ColorTransform;
-
-    #[test]
-    fn features_by_their_names() {
-        let named = [
-            UnsupportedFeature::Hierarchical,
-            UnsupportedFeature::ArithmeticEntropyCoding,
-            UnsupportedFeature::SamplePrecision(12),
-            UnsupportedFeature::ComponentCount(2),
-            UnsupportedFeature::DNL,
-            UnsupportedFeature::NonIntegerSubsamplingRatio,
-            UnsupportedFeature::ColorTransform(ColorTransform::JcsBgYcc),
-            UnsupportedFeature::ColorTransform(ColorTransform::JcsBgRgb),
-        ];
-        for feature in named {
-            let text = format!("unsupported JPEG feature: {feature:?}");
-            assert_eq!(UnsupportedFeature::named_in(&text), Some(feature));
-        }
-        for text in [
-            "",
-            "DNL ",
-            "SamplePrecision(12",
-            "ComponentCount(x)",
-            "ComponentCount(256)",
-        ] {
-            assert_eq!(UnsupportedFeature::named_in(text), None);
-        }
     }
 }

@@ -57,10 +57,10 @@ pub struct ImageInfo {
 impl ImageInfo {
     pub(crate) fn of(picture: &Picture) -> ImageInfo {
         let (width, height) = size_of(picture);
-        let pixel_format = match (picture.components, picture.precision) {
-            (1, 0..=8) => PixelFormat::L8,
-            (1, _) => PixelFormat::L16,
-            (3, _) => PixelFormat::RGB24,
+        let pixel_format = match picture.format {
+            1 => PixelFormat::L8,
+            2 => PixelFormat::L16,
+            3 => PixelFormat::RGB24,
             _ => PixelFormat::CMYK32,
         };
         let coding_process = match picture.process {

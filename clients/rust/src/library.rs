@@ -10,6 +10,9 @@ const UNSUPPORTED: c_int = 2;
 const TRUNCATED: c_int = 3;
 const NO_MEMORY: c_int = 4;
 
+/// A picture's coding process.
+const LOSSLESS: u8 = 3;
+
 /// The bytes of a picture's text.
 const TEXT_BYTES: usize = 112;
 
@@ -53,7 +56,11 @@ pub struct Picture {
     sample_bytes: u8,
     pub process: u8,
     pub orientation: u8,
-    reserved: [u8; 33],
+    pub format: u8,
+    feature: u8,
+    feature_argument: u8,
+    sampling: [u8; 4],
+    reserved: [u8; 26],
     text: [u8; TEXT_BYTES],
 }
 
@@ -77,7 +84,11 @@ impl Picture {
         sample_bytes: 0,
         process: 0,
         orientation: 0,
-        reserved: [0; 33],
+        format: 0,
+        feature: 0,
+        feature_argument: 0,
+        sampling: [0; 4],
+        reserved: [0; 26],
         text: [0; TEXT_BYTES],
     };
 
@@ -85,12 +96,22 @@ impl Picture {
     pub fn samples(&self) -> u64 {
         u64::from(self.width) * u64::from(self.height) * u64::from(self.components)
     }
+
+    /// Returns whether the picture's process is lossless.
+    pub fn is_lossless(&self) -> bool {
+        self.process == LOSSLESS
+    }
 }
 
 /// Why a call has no picture. A text is the library's.
 pub enum Refusal {
     Malformed(String),
-    Unsupported(String),
+    /// By the numbers of the feature, and of what the stream asks for of it.
+    Unsupported {
+        feature: u8,
+        argument: u8,
+        text: String,
+    },
     Truncated,
     NoMemory,
     /// A fault of this crate's: a call that no stream answers so.
@@ -106,7 +127,11 @@ fn refusal_of(answer: c_int, picture: &Picture) -> Option<Refusal> {
     match answer {
         OK => None,
         MALFORMED => Some(Refusal::Malformed(text())),
-        UNSUPPORTED => Some(Refusal::Unsupported(text())),
+        UNSUPPORTED => Some(Refusal::Unsupported {
+            feature: picture.feature,
+            argument: picture.feature_argument,
+            text: text(),
+        }),
         TRUNCATED => Some(Refusal::Truncated),
         NO_MEMORY => Some(Refusal::NoMemory),
         _ => Some(Refusal::Call(text())),
