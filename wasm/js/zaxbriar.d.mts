@@ -19,8 +19,29 @@ export type Bytes = ArrayBuffer | SharedArrayBuffer | ArrayBufferView;
  */
 export type Layout = 'stored' | 'grey' | 'rgb' | 'rgba' | 'bgra' | 'bgr' | 'xrgb';
 
-/** How the components are to be understood: as the stream says, or as these. */
-export type ColorTransform = 'stream' | 'rgb' | 'ycbcr' | 'cmyk' | 'ycck';
+/**
+ * How the components are to be understood: as the stream says, or as these. `rgb` and `ycbcr` are
+ * for pictures of three components, `cmyk` and `ycck` for those of four; decoding others is
+ * MALFORMED. Grey and lossless pictures aren't affected.
+ *
+ * `none` gives the samples of several components without a conversion, component after component: a
+ * line has the `width` samples of the first, then those of the second, and so on. With it the
+ * layout is `stored`; another is a BAD_ARGUMENT.
+ */
+export type ColorTransform = 'stream' | 'none' | 'rgb' | 'ycbcr' | 'cmyk' | 'ycck';
+
+/**
+ * The components of a picture as it is stored, and the bits of a sample: `grey8` is one of at most
+ * 8 bits, `grey16` one of 9 to 16; `rgb` is three and `cmyk` four, of as many bits as `precision`
+ * says.
+ */
+export type Format = 'grey8' | 'grey16' | 'rgb' | 'cmyk';
+
+/** The sampling factors of a component, 1 to 4, as the frame header has them. */
+export interface Sampling {
+    horizontal: number;
+    vertical: number;
+}
 
 export interface Options {
     /** The default is `stored`. */
@@ -67,6 +88,10 @@ export interface Picture {
     process: 'sequential' | 'progressive' | 'lossless';
     /** 1 to 8, as Exif data before the frame say; otherwise 1. The pixels aren't turned. */
     orientation: number;
+    /** Of the stream. */
+    format: Format;
+    /** Of the stream: one for each component. */
+    sampling: Sampling[];
 }
 
 /**
@@ -75,6 +100,27 @@ export interface Picture {
  */
 export type Pixels = ReturnType<Uint8ClampedArray['slice']>;
 export type Data = ReturnType<Uint8Array['slice']>;
+
+/**
+ * What a stream asks for that isn't supported:
+ * - `hierarchical`: hierarchical coding, or a second frame;
+ * - `arithmetic`: arithmetic coding;
+ * - `precision`: samples of so many bits;
+ * - `components`: so many components;
+ * - `dnl`: a number of lines after the first scan;
+ * - `subsampling`: kept, no stream is refused for it;
+ * - `factors`: sampling factors that don't divide the greatest ones;
+ * - `transform`: libjpeg's big gamut.
+ */
+export type Feature =
+    | 'hierarchical'
+    | 'arithmetic'
+    | 'precision'
+    | 'components'
+    | 'dnl'
+    | 'subsampling'
+    | 'factors'
+    | 'transform';
 
 /** Why a stream or a call was refused. */
 export class ZaxbriarError extends Error {
@@ -87,6 +133,13 @@ export class ZaxbriarError extends Error {
         | 'BAD_ARGUMENT'
         | 'NO_DATA'
         | 'TOO_LARGE';
+    /** Where the code is UNSUPPORTED. */
+    readonly feature?: Feature;
+    /**
+     * Of `precision` the bits of a sample; of `components` how many there are, where 255 also
+     * stands for more; of `transform` 6 for YCC, and 7 for RGB. Other features have none.
+     */
+    readonly featureArgument?: number;
 }
 
 /** Compiles the module, for several decoders; by default the one that lies beside zaxbriar.mjs. */

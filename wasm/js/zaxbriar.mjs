@@ -11,10 +11,25 @@
 /* Names of the numbers of c/zaxbriar.h. The module says which of them fit a picture: others are
  * BAD_ARGUMENT. */
 const LAYOUTS = { stored: 0, grey: 1, rgb: 2, rgba: 3, bgra: 4, bgr: 5, xrgb: 6 };
-const TRANSFORMS = { stream: 0, rgb: 2, ycbcr: 3, cmyk: 4, ycck: 5 };
+const TRANSFORMS = { stream: 0, none: 1, rgb: 2, ycbcr: 3, cmyk: 4, ycck: 5 };
 const KINDS = { exif: 1, xmp: 2, icc: 3 };
 const PROCESSES = ['', 'sequential', 'progressive', 'lossless'];
+const FORMATS = ['', 'grey8', 'grey16', 'rgb', 'cmyk'];
+const FEATURES = [
+    '',
+    'hierarchical',
+    'arithmetic',
+    'precision',
+    'components',
+    'dnl',
+    'subsampling',
+    'factors',
+    'transform',
+];
+/* The features that come with a number. */
+const NUMBERED = ['precision', 'components', 'transform'];
 const OK = 0;
+const TRUNCATED = 3;
 const NO_MEMORY = 4;
 const NO_ROOM = 5;
 const NO_DATA = 7;
@@ -34,14 +49,18 @@ const CODES = [
 /* The structs zaxbriar_options and zaxbriar_picture of c/zaxbriar.h. */
 const OPTIONS_BYTES = 48;
 const PICTURE_BYTES = 192;
+const FEATURE_AT = 48;
+const SAMPLING_AT = 50;
 const TEXT_AT = 80;
 const TEXT_BYTES = 112;
 
 export class ZaxbriarError extends Error {
-    constructor(answer, text) {
+    constructor(answer, text, [feature, argument] = [0, 0]) {
         super(text);
         this.name = 'ZaxbriarError';
         this.code = CODES[answer] ?? `ANSWER_${answer}`;
+        if (feature) this.feature = FEATURES[feature] ?? `FEATURE_${feature}`;
+        if (NUMBERED.includes(this.feature)) this.featureArgument = argument;
     }
 }
 
@@ -85,6 +104,9 @@ function optionsOf(options) {
     view.setBigUint64(24, BigInt(number('maxBytes', Number.MAX_SAFE_INTEGER)), true);
     return bytes;
 }
+
+/* The sampling factors that a byte of a frame header has. */
+const factorsOf = (byte) => ({ horizontal: byte >> 4, vertical: byte & 15 });
 
 async function compileFile(url) {
     const { readFile } = await import('node:fs/promises');
@@ -185,6 +207,7 @@ export class Zaxbriar {
         const view = new DataView(this.#exports.memory.buffer, at, PICTURE_BYTES);
         const long = (place) => Number(view.getBigUint64(place, true));
         const layout = view.getUint8(41);
+        const components = view.getUint8(42);
         return {
             width: view.getUint32(32, true),
             height: view.getUint32(36, true),
@@ -194,23 +217,30 @@ export class Zaxbriar {
             streamBytes: long(24),
             pixelBytes: view.getUint8(40),
             layout: Object.keys(LAYOUTS).find((name) => LAYOUTS[name] === layout),
-            components: view.getUint8(42),
+            components,
             precision: view.getUint8(43),
             sampleBytes: view.getUint8(44),
             process: PROCESSES[view.getUint8(45)],
             orientation: view.getUint8(46),
+            format: FORMATS[view.getUint8(47)],
+            sampling: Array.from(this.#bytes(at + SAMPLING_AT, components), factorsOf),
         };
     }
 
     #check(answer, picture) {
-        if (answer !== OK) {
-            throw new ZaxbriarError(answer, this.#text(picture + TEXT_AT, TEXT_BYTES));
-        }
+        if (answer === OK) return;
+        const text = this.#text(picture + TEXT_AT, TEXT_BYTES);
+        throw new ZaxbriarError(answer, text, this.#bytes(picture + FEATURE_AT, 2));
     }
 
-    /* Reads the header of a stream that lies in the module's memory, and compares maxPixels. */
-    #describe(stream, picture, options) {
+    /* Reads the header of a stream that lies in the module's memory. */
+    #readHeader(stream, picture) {
         this.#check(this.#call('zaxbriar_read_info', ...stream, BigInt(picture)), picture);
+    }
+
+    /* The same, and compares maxPixels. */
+    #describe(stream, picture, options) {
+        this.#readHeader(stream, picture);
         const described = this.#picture(picture);
         const most = options.maxPixels ?? 0;
         wholeNumber(most, Number.MAX_SAFE_INTEGER, 'maxPixels');
@@ -270,6 +300,10 @@ export class Zaxbriar {
                 answer = copy(data, found());
             }
             if (answer === NO_DATA) return null;
+            // (a fault of the stream is one of its header, which the other calls name)
+            if (answer !== OK && answer <= TRUNCATED) {
+                this.#readHeader([...stream, 0n], allocate(PICTURE_BYTES));
+            }
             if (answer !== OK) {
                 const name = Number(this.#call('zaxbriar_answer_name', answer));
                 throw new ZaxbriarError(answer, this.#text(name, 32));

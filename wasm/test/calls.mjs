@@ -1,5 +1,6 @@
-/* node calls.mjs FILE: the calls of zaxbriar.mjs: what load takes, what options do and which are
- * refused, errors, limits, memory, and a worker. FILE is a picture in colour. */
+/* node calls.mjs FILE: the calls of zaxbriar.mjs: what load takes, what a frame header says, what
+ * options do and which are refused, errors and features, limits, memory, and a worker. FILE is a
+ * baseline picture of three components without subsampling, with Exif data alone. */
 import assert from 'node:assert/strict';
 import { readFileSync } from 'node:fs';
 import { Worker } from 'node:worker_threads';
@@ -10,6 +11,11 @@ const jpeg = readFileSync(path);
 const url = new URL('../dist/zaxbriar.wasm', import.meta.url);
 const wasm = readFileSync(url);
 const code = (code) => (error) => error instanceof ZaxbriarError && error.code === code;
+const unsupported = (feature, argument) => (error) =>
+    code('UNSUPPORTED')(error) &&
+    error.feature === feature &&
+    error.featureArgument === argument &&
+    'featureArgument' in error === (argument !== undefined);
 
 const zaxbriar = await load();
 const { picture, pixels } = zaxbriar.decode(jpeg);
@@ -55,6 +61,68 @@ assert.equal(picture.rowBytes, picture.width * picture.pixelBytes);
 assert.equal(picture.layout, 'stored');
 assert.equal(picture.streamBytes, jpeg.length);
 assert.deepEqual({ ...zaxbriar.readInfo(jpeg), streamBytes: jpeg.length }, picture);
+
+// What the frame header says, also of streams with other bytes there.
+const frame = jpeg.indexOf(Buffer.from([0xff, 0xc0]));
+/* The stream with other bytes of its frame header, by their places from its marker on. */
+const withFrame = (bytes) => {
+    const changed = Buffer.from(jpeg);
+    for (const [place, byte] of Object.entries(bytes)) changed[frame + Number(place)] = byte;
+    return changed;
+};
+const factors = (byte) => ({ horizontal: byte >> 4, vertical: byte & 15 });
+assert.equal(picture.format, 'rgb');
+assert.deepEqual(picture.sampling, [0x11, 0x11, 0x11].map(factors));
+for (let horizontal = 1; horizontal <= 4; horizontal++) {
+    for (let vertical = 1; vertical <= 4; vertical++) {
+        const changed = withFrame({ 11: 16 * horizontal + vertical });
+        const [first, ...others] = zaxbriar.readInfo(changed).sampling;
+        assert.deepEqual(first, { horizontal, vertical });
+        assert.deepEqual(others, [0x11, 0x11].map(factors));
+    }
+}
+// (a lossless frame of one component is shorter by six bytes)
+for (const [precision, format] of Object.entries({ 2: 'grey8', 8: 'grey8', 9: 'grey16' })) {
+    const grey = withFrame({ 1: 0xc3, 3: 11, 4: precision, 9: 1, 11: 0x23 });
+    const described = zaxbriar.readInfo(grey);
+    assert.equal(described.format, format);
+    assert.deepEqual(described.sampling, [factors(0x23)]);
+}
+
+// Features that aren't supported, some with a number.
+for (const [stream, feature, argument] of [
+    [withFrame({ 1: 0xc5 }), 'hierarchical'],
+    [withFrame({ 1: 0xc9 }), 'arithmetic'],
+    [withFrame({ 1: 0xc1, 4: 12 }), 'precision', 12],
+    [withFrame({ 3: 14, 9: 2 }), 'components', 2],
+    [withFrame({ 11: 0x31, 14: 0x21, 17: 0x21 }), 'factors'],
+]) {
+    for (const call of ['readInfo', 'decode']) {
+        assert.throws(() => zaxbriar[call](stream), unsupported(feature, argument), feature);
+    }
+}
+const lines = Buffer.from([0xff, 0xdc, 0, 4, 0, picture.height]);
+const withLines = Buffer.concat([jpeg.subarray(0, -2), lines]);
+assert.throws(() => zaxbriar.decode(withLines), unsupported('dnl'));
+// (metadata that isn't there, by what ends the header)
+const arithmetic = withFrame({ 1: 0xc9 });
+assert.throws(() => zaxbriar.metadata(arithmetic, 'icc'), unsupported('arithmetic'));
+assert.ok(zaxbriar.metadata(arithmetic, 'exif').length > 0);
+
+// Without a conversion, each line has its components one after the other.
+const unconverted = zaxbriar.decode(jpeg, { colorTransform: 'none' });
+const interleaved = zaxbriar.decode(jpeg, { colorTransform: 'rgb' }).pixels;
+assert.deepEqual(unconverted.picture, picture);
+unconverted.pixels.forEach((sample, index) => {
+    const { width, rowBytes } = picture;
+    const [row, place] = [Math.floor(index / rowBytes), index % rowBytes];
+    const [component, column] = [Math.floor(place / width), place % width];
+    assert.equal(sample, interleaved[row * rowBytes + 3 * column + component]);
+});
+for (const layout of ['rgb', 'grey']) {
+    const options = { colorTransform: 'none', layout };
+    assert.throws(() => zaxbriar.decode(jpeg, options), code('BAD_ARGUMENT'));
+}
 
 // Layouts, from the stored picture.
 const count = picture.width * picture.height;
@@ -109,6 +177,7 @@ assert.throws(() => zaxbriar.decode(jpeg, { scale: 3 }), code('BAD_ARGUMENT'));
 assert.throws(() => zaxbriar.decode(jpeg, { stride: 1 }), code('BAD_ARGUMENT'));
 
 // Refusals and limits.
+assert.throws(() => zaxbriar.decode(new Uint8Array(9)), (error) => !('feature' in error));
 assert.throws(() => zaxbriar.decode(new Uint8Array(9)), code('MALFORMED'));
 assert.throws(() => zaxbriar.decode(jpeg.subarray(0, jpeg.length - 9)), code('TRUNCATED'));
 assert.throws(() => zaxbriar.decode(new Uint8Array(0)), code('TRUNCATED'));

@@ -13,8 +13,12 @@ const zaxbriar = await load();
 const MOST_SIZE = 2 ** 28;
 const MOST_BYTES = 400000000;
 const LAYOUTS = ['stored', 'grey', 'rgb', 'rgba', 'bgra', 'bgr', 'xrgb'];
-const TRANSFORMS = ['stream', undefined, 'rgb', 'ycbcr', 'cmyk', 'ycck'];
+const TRANSFORMS = ['stream', 'none', 'rgb', 'ycbcr', 'cmyk', 'ycck'];
 const PROCESSES = ['', 'sequential', 'progressive', 'lossless'];
+const FORMATS = ['', 'grey8', 'grey16', 'rgb', 'cmyk'];
+const FEATURES = ['', 'hierarchical', 'arithmetic', 'precision', 'components', 'dnl'];
+FEATURES.push('subsampling', 'factors', 'transform');
+const NUMBERED = [3, 4, 8];
 const CODES = ['', 'MALFORMED', 'UNSUPPORTED', 'TRUNCATED', 'NO_MEMORY', 'NO_ROOM', 'BAD_ARGUMENT'];
 CODES.push('NO_DATA', 'TOO_LARGE');
 
@@ -28,6 +32,9 @@ const ALL_OPTIONS = [
     { scale: 3 },
     { minWidth: 3, minHeight: 5 },
     { minWidth: 9 },
+    { colorTransform: 'none' },
+    { colorTransform: 'none', scale: 2, stride: 300 },
+    { colorTransform: 'none', layout: 'rgb' },
     { colorTransform: 'rgb' },
     { colorTransform: 'ycbcr', layout: 'rgba' },
     { colorTransform: 'cmyk' },
@@ -67,12 +74,11 @@ class Written {
         return Number(this.take(8).readBigUInt64LE());
     }
 
-    /* A description, or the code and the text of a refusal. */
+    /* A description, or a refusal. */
     description(answer) {
         const struct = this.take(192);
-        const text = struct.subarray(80);
+        if (answer) return refusalOf(answer, struct);
         const long = (place) => Number(struct.readBigUInt64LE(place));
-        if (answer) return `${CODES[answer]} ${text.subarray(0, text.indexOf(0))}`;
         return JSON.stringify({
             width: struct.readUInt32LE(32),
             height: struct.readUInt32LE(36),
@@ -87,17 +93,38 @@ class Written {
             sampleBytes: struct[44],
             process: PROCESSES[struct[45]],
             orientation: struct[46],
+            format: FORMATS[struct[47]],
+            sampling: [...struct.subarray(50, 50 + struct[42])].map((byte) => ({
+                horizontal: byte >> 4,
+                vertical: byte % 16,
+            })),
         });
     }
 }
 
-/* What a call gives, or the code and the text of its refusal. */
+/* A refusal as a text: its code, the feature and its number where there are, and its text. */
+const words = (code, feature, argument, text) =>
+    [code, feature, argument, text].filter((word) => word !== undefined).join(' ');
+
+/* The refusal of an answer and its struct. */
+function refusalOf(answer, struct) {
+    const [feature, argument] = struct.subarray(48);
+    const text = struct.subarray(80);
+    return words(
+        CODES[answer],
+        feature ? FEATURES[feature] : undefined,
+        NUMBERED.includes(feature) ? argument : undefined,
+        text.subarray(0, text.indexOf(0)),
+    );
+}
+
+/* What a call gives, or its refusal. */
 function outcome(call) {
     try {
         return call();
     } catch (error) {
         if (!(error instanceof ZaxbriarError)) throw error;
-        return `${error.code} ${error.message}`;
+        return words(error.code, error.feature, error.featureArgument, error.message);
     }
 }
 
@@ -128,15 +155,16 @@ function compareDecoding(name, what, jpeg, options, written) {
     }
 }
 
-function compareMetadata(name, kind, jpeg, written) {
+/* Metadata, of which a refusal is that of the header, `read`. */
+function compareMetadata(name, kind, { jpeg, read }, written) {
     const answer = written.int();
     const data = written.take(written.long());
     const mine = outcome(() => zaxbriar.metadata(jpeg, kind));
-    const told = typeof mine === 'string' ? mine.split(' ')[0] : mine && Buffer.from(mine);
-    const same = Buffer.isBuffer(told)
+    const told = typeof mine === 'string' ? mine : mine && Buffer.from(mine);
+    const isSame = Buffer.isBuffer(told)
         ? answer === 0 && data.equals(told)
-        : CODES[answer] === (told ?? 'NO_DATA');
-    if (same) counts.metadata += data.length > 0;
+        : CODES[answer] === (told?.split(' ')[0] ?? 'NO_DATA') && (told === null || told === read);
+    if (isSame) counts.metadata += data.length > 0;
     else differs(name, kind, told, CODES[answer]);
 }
 
@@ -158,7 +186,8 @@ function compare(name, jpeg) {
             compareDecoding(name, what, jpeg, options, written);
         }
     }
-    for (const kind of ['exif', 'xmp', 'icc']) compareMetadata(name, kind, jpeg, written);
+    const read = outcome(() => zaxbriar.readInfo(jpeg));
+    for (const kind of ['exif', 'xmp', 'icc']) compareMetadata(name, kind, { jpeg, read }, written);
     if (written.at !== ran.stdout.length) throw new Error(`${name}: more was written`);
 }
 

@@ -1,7 +1,7 @@
 /* node page.mjs BROWSER FOLDER: the page of dist/web in headless chromium or firefox: files that
- * are chosen, dropped and pasted, their pixels, faults by name, zoom and the list by keys, names
- * for a screen reader, the page without a network, and the worker after a trap. FOLDER takes files
- * and BROWSER.png. */
+ * are chosen, dropped and pasted, their pixels and sampling factors, faults by name, zoom and the
+ * list by keys, names for a screen reader, the page without a network, and the worker after a trap.
+ * FOLDER takes files and BROWSER.png. */
 import assert from 'node:assert/strict';
 import { readFileSync, writeFileSync } from 'node:fs';
 import { resolve } from 'node:path';
@@ -26,8 +26,28 @@ function fileOf(file, name) {
     return path;
 }
 
-const PICTURES = [ours('turned.jpg'), ours('picture.jpg')];
-PICTURES.push(fileOf('colours', 'four components'), fileOf('lossless', 'samples of 16 bits'));
+/* A picture of one pixel, whose first component has 2×2 blocks: by its header 4×1 of them. */
+function oneRow() {
+    const stream = readFileSync(ours('1x1-cropped.jpg'));
+    stream[stream.indexOf(Buffer.from([0xff, 0xc0])) + 11] = 0x41;
+    const path = `${folder}/one row.jpg`;
+    writeFileSync(path, stream);
+    return path;
+}
+
+/* The pictures, with what the page says of their sampling factors. */
+const SAMPLINGS = {
+    [ours('turned.jpg')]: '4:4:4',
+    [ours('picture.jpg')]: '4:2:0',
+    [fileOf('colours', 'four components')]: '1×1, 1×1, 1×1, 1×1',
+    [fileOf('lossless', 'samples of 16 bits')]: '1×1',
+    [fileOf('colours', 'a first component twice as wide, in one scan')]: '4:2:2',
+    [fileOf('lossless', 'two samples one above the other, with a restart')]: '4:4:0',
+    [fileOf('colours', 'a component of half the greatest width, alone in its scan')]:
+        '4×1, 2×1, 4×1',
+    [oneRow()]: '4:1:1',
+};
+const PICTURES = Object.keys(SAMPLINGS);
 const arithmetic = cases.find(({ answers }) => answers.includes('JPEG feature: Arithmetic'));
 const REFUSED = {
     [ours('cut.jpg')]: 'TRUNCATED',
@@ -205,7 +225,10 @@ const files = [...PICTURES, ...Object.keys(REFUSED)];
 await page.choose('#file', files);
 await page.until(`[...document.querySelectorAll('#files small')].length === ${files.length} &&
     ![...document.querySelectorAll('#files small')].some((it) => it.textContent === 'waiting')`);
-for (const path of PICTURES) assert.equal(await show(page, path), 'shown', path);
+for (const [path, sampling] of Object.entries(SAMPLINGS)) {
+    assert.equal(await show(page, path), 'shown', path);
+    assert.equal((await factsOf(page)).Sampling, sampling, path);
+}
 await checkPixels(page);
 await checkRefusals(page);
 for (const event of ['drop', 'paste']) await give(page, event, PICTURES[0]);
@@ -220,6 +243,7 @@ await checkOffline(page, url);
 await page.close();
 await checkTrap();
 const refusals = Object.keys(REFUSED).length;
-console.log(`page in ${browser}: ${PICTURES.length} pictures, ${refusals} refusals by name,`);
-console.log(`      drop, paste, zoom, ${stops} stops of the tabulator, ${buttons} buttons with names,`);
-console.log(`      an empty console, no network, the worker after a trap`);
+console.log(`page in ${browser}: ${PICTURES.length} pictures with their sampling,`);
+console.log(`      ${refusals} refusals by name, drop, paste, zoom, ${stops} stops of the tabulator,`);
+console.log(`      ${buttons} buttons with names, an empty console, no network, the worker after`);
+console.log('      a trap');

@@ -1,5 +1,6 @@
 /* node suite.mjs: the streams of crates/decoder_cases by the module, whose answers have to be those
- * of the suite: pictures, refusals with their texts, sizes at scales, metadata, bytes left unread.
+ * of the suite: pictures, refusals with their texts and features, sizes at scales, metadata, bytes
+ * left unread.
  *
  * Not asked is what the calls of JavaScript don't have: the original crate's limit, decoding into a
  * caller's memory, the transforms that c/zaxbriar.h has no number for, and all that stands after
@@ -8,15 +9,23 @@ import { ZaxbriarError, load } from '../dist/zaxbriar.mjs';
 import { allCases, bytesOf } from './cases.mjs';
 
 const zaxbriar = await load();
-const FORMATS = { 1: 'L8', 2: 'L16', 3: 'RGB24', 4: 'CMYK32' };
-const TRANSFORMS = { RGB: 'rgb', YCbCr: 'ycbcr', CMYK: 'cmyk', YCCK: 'ycck' };
+const FORMATS = { grey8: 'L8', grey16: 'L16', rgb: 'RGB24', cmyk: 'CMYK32' };
+const TRANSFORMS = { None: 'none', RGB: 'rgb', YCbCr: 'ycbcr', CMYK: 'cmyk', YCCK: 'ycck' };
+const FEATURES = {
+    Hierarchical: 'hierarchical',
+    ArithmeticEntropyCoding: 'arithmetic',
+    SamplePrecision: 'precision',
+    ComponentCount: 'components',
+    DNL: 'dnl',
+    NonIntegerSubsamplingRatio: 'factors',
+    ColorTransform: 'transform',
+};
+const GAMUTS = { JcsBgYcc: 6, JcsBgRgb: 7 };
 const PROCESSES = {
     sequential: 'DctSequential',
     progressive: 'DctProgressive',
     lossless: 'Lossless',
 };
-const formatOf = ({ components, pixelBytes }) =>
-    FORMATS[components === 1 ? pixelBytes : components];
 const sizeOf = ({ width, height }) => `${width} ${height}`;
 
 /* What a call gives, or the text of its refusal. */
@@ -25,7 +34,7 @@ function outcome(call) {
         return { value: call() };
     } catch (error) {
         if (!(error instanceof ZaxbriarError)) throw error;
-        return { refused: error.message, code: error.code };
+        return { refused: error.message, error };
     }
 }
 
@@ -35,19 +44,27 @@ const KINDS = [
     ['TRUNCATED', 'refused: the file ends too soon'],
 ];
 
+/* Whether an error has the feature that an answer names, and its number; or neither. */
+function isOfFeature({ feature, featureArgument }, answer) {
+    const [, name, word] = /JPEG feature: (\w+)(?:\((\w+)\))?$/.exec(answer) ?? [];
+    const number = word && (GAMUTS[word] ?? Number(word));
+    return feature === FEATURES[name] && featureArgument === number;
+}
+
 /* Whether a refusal is of the kind of an answer, and has its words, of which 111 bytes are kept. */
-function isRefusal({ refused, code }, answer, isWhole) {
+function isRefusal({ refused, error }, answer, isWhole) {
     const [kind] = KINDS.find(([, text]) => answer.startsWith(text)) ?? [];
     const text = answer.slice('refused: '.length);
     const kept = Buffer.from(text).subarray(0, 111).toString();
-    return code === kind && (isWhole ? refused === kept : refused.startsWith(kept));
+    const isText = isWhole ? refused === kept : refused.startsWith(kept);
+    return error.code === kind && isText && isOfFeature(error, answer);
 }
 
 function isPicture({ picture, pixels }, answer) {
     const [width, height, format, ...words] = answer.split(' ');
     return (
         sizeOf(picture) === `${width} ${height}` &&
-        formatOf(picture) === format &&
+        FORMATS[picture.format] === format &&
         bytesOf(words.join(' ')).equals(Buffer.from(pixels.buffer))
     );
 }
@@ -115,7 +132,8 @@ function* answered({ stream, calls, answers: line }) {
         } else if (call === 'info') {
             const picture = zaxbriar.readInfo(stream, options);
             const bytes = answer.split(' bytes ')[1].split(' ');
-            const found = `${sizeOf(picture)} ${formatOf(picture)} ${PROCESSES[picture.process]}`;
+            const format = FORMATS[picture.format];
+            const found = `${sizeOf(picture)} ${format} ${PROCESSES[picture.process]}`;
             const isSame =
                 answer.startsWith(`${found}, precision ${picture.precision},`) &&
                 picture.size === Number(bytes[2]);

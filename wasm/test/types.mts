@@ -1,6 +1,7 @@
 // What compiles by zaxbriar.d.mts, and what doesn't.
 import { Zaxbriar, ZaxbriarError, compile, load } from '../dist/zaxbriar.mjs';
-import type { Bytes, Layout, Options, Picture, Source } from '../dist/zaxbriar.mjs';
+import type { Bytes, Feature, Format, Layout, Options } from '../dist/zaxbriar.mjs';
+import type { Picture, Sampling, Source } from '../dist/zaxbriar.mjs';
 
 // Sources, and the bytes of streams.
 const sources: Source[] = ['zaxbriar.wasm', new URL('file:///zaxbriar.wasm'), new Uint8Array(8)];
@@ -24,6 +25,10 @@ const samples: Uint8ClampedArray = pixels;
 const layout: Layout = picture.layout;
 const described: Picture = zaxbriar.readInfo(streams[1], { minWidth: 100, minHeight: 0 });
 const ink: boolean = described.components === 4 && described.sampleBytes === 2;
+const planes = zaxbriar.decode(streams[1], { colorTransform: 'none' });
+const format: Format = described.format;
+const factors: Sampling[] = described.sampling;
+const columns: number = Math.max(...factors.map((it) => it.horizontal * it.vertical));
 // @ts-expect-error
 zaxbriar.decode('text');
 // @ts-expect-error
@@ -33,7 +38,13 @@ zaxbriar.decode(streams[2], { scale: 3 });
 // @ts-expect-error
 zaxbriar.readInfo(streams[2], { maxPixel: 1 });
 // @ts-expect-error
+zaxbriar.decode(streams[2], { colorTransform: 'grey' });
+// @ts-expect-error
 if (picture.process === 'hierarchical') throw new Error();
+// @ts-expect-error
+if (picture.format === 'rgb24') throw new Error();
+// @ts-expect-error
+if (picture.sampling === '4:2:0') throw new Error();
 
 // Metadata, which may not be there.
 const profile = other.metadata(streams[0], 'icc');
@@ -44,16 +55,25 @@ const length: number = other.metadata(streams[0], 'xmp').length;
 other.metadata(streams[0], 'iptc');
 
 // Faults.
+let feature: Feature | undefined;
+let bits: number | undefined;
 try {
     zaxbriar.reset();
 } catch (error) {
-    if (error instanceof ZaxbriarError && error.code === 'TOO_LARGE') throw error;
+    if (!(error instanceof ZaxbriarError) || error.code === 'TOO_LARGE') throw error;
+    feature = error.feature;
+    bits = error.feature === 'precision' ? error.featureArgument : 8;
     // @ts-expect-error
-    if (error instanceof ZaxbriarError && error.code === 'TOO_BIG') throw error;
+    if (error.code === 'TOO_BIG') throw error;
     // @ts-expect-error
-    if (error instanceof ZaxbriarError) error.code = 'MALFORMED';
+    error.code = 'MALFORMED';
+    // @ts-expect-error
+    if (error.feature === 'Arithmetic') throw error;
+    // @ts-expect-error
+    const argument: number = error.featureArgument;
 }
 // @ts-expect-error
 zaxbriar.memoryBytes = 0;
 const version: string = zaxbriar.version;
-export { data, described, fetched, file, ink, layout, length, profile, samples, version };
+export { bits, columns, data, described, feature, fetched, file, format, ink, layout, length };
+export { planes, profile, samples, version };

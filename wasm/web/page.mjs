@@ -101,11 +101,29 @@ const ZOOMS = {
 const KEYS = { '+': 'in', '=': 'in', '-': 'out', 1: 'whole', 0: 'fit' };
 
 const COLOURS = { 1: 'grey', 3: 'red, green, blue', 4: 'cyan, magenta, yellow, black' };
+
+/* What the first of three components names by its factors, where the others have 1×1. */
+const SAMPLINGS = {
+    '1×1': '4:4:4',
+    '2×1': '4:2:2',
+    '2×2': '4:2:0',
+    '1×2': '4:4:0',
+    '4×1': '4:1:1',
+};
+
 const counted = (bytes) => (bytes ? `${bytes.toLocaleString('en')} bytes` : 'none');
 
 /* A time by the browser's clock, which may be a millisecond off at each end. */
 const timeOf = (milliseconds) =>
     milliseconds < 1 ? 'less than 2 ms' : `${Math.round(milliseconds)} ms`;
+
+/* The name of the sampling factors, or else the factors. */
+function samplingOf({ sampling }) {
+    const factors = sampling.map(({ horizontal, vertical }) => `${horizontal}×${vertical}`);
+    const [first, ...others] = factors;
+    const isNamed = others.length === 2 && others.every((it) => it === '1×1');
+    return (isNamed && SAMPLINGS[first]) || factors.join(', ');
+}
 
 function factsOf(file, { picture, metadata, milliseconds }) {
     const facts = { File: file.name, Length: counted(file.size) };
@@ -114,6 +132,7 @@ function factsOf(file, { picture, metadata, milliseconds }) {
         facts.Process = picture.process;
         facts.Colours = COLOURS[picture.components];
         facts.Samples = `${picture.precision} bits`;
+        facts.Sampling = samplingOf(picture);
         facts.Orientation = `${picture.orientation}`;
     }
     if (metadata) {
