@@ -1,5 +1,6 @@
 pub mod Rules
 pub mod LaneSums
+pub mod LongDivision
 pub mod ShortLanes
 pub mod Corners
 pub mod Sums

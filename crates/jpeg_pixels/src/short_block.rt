@@ -5,7 +5,7 @@
 //! bits.
 ghost use Rattle.std.specs.Prelude.{◌≡◌, ℕ, List, ◌+◌, ◌*◌, ◌<◌, ◌≤◌, pos, ◌+ℤ◌, ◌*ℤ◌, ◌≤ℤ◌};
 ghost use Rattle.std.specs.Prelude.{length, slice_index_or, slice_index, IsTrue, unsigned_abs, ℤ};
-ghost use Rattle.std.specs.Prelude.{FitsSigned, []};
+ghost use Rattle.std.specs.Prelude.{FitsSigned, [], ◌/◌, max};
 ghost use Rattle.std.specs.Int.{w16, w32, int_wrap, int_shr};
 ghost use Rattle.jpeg_pixels.specs.Samples.{transformed, clamped, dequantized};
 ghost use Rattle.jpeg_pixels.specs.Samples.{column_value, sample};
@@ -85,6 +85,26 @@ pub(crate) struct ShortTable {
     limits: [i16; 64],
 }
 
+/// Returns how many times a number goes into 1095, and 1095 for 0. It divides bit by bit: a
+/// compiler does these steps for several numbers at once, unlike divisions.
+#[inline(always)]
+fn limit_of(value: u16) -> u16
+    ensures { result ≡ 1095 / max value 1 }
+{
+    let divisor = value.max(1);
+    let mut limit = 0u16;
+    let mut rest = 0u16;
+    for step in 0..11u16 {
+        limit = 2 * limit;
+        rest = 2 * rest + (1095 >> (10 - step)) % 2;
+        if rest >= divisor {
+            limit += 1;
+            rest -= divisor;
+        }
+    }
+    limit
+}
+
 pub(crate) fn short_table(quantization_table: &[u16; 64]) -> ShortTable
     ensures { IsShortTable result quantization_table.now }
 {
@@ -93,7 +113,7 @@ pub(crate) fn short_table(quantization_table: &[u16; 64]) -> ShortTable
     for k in 0..64 {
         let value = quantization_table[k];
         values[k] = value.min(1095) as i16;
-        limits[k] = (1095 / value.max(1)) as i16;
+        limits[k] = limit_of(value) as i16;
     }
     ShortTable { values, limits }
 }
