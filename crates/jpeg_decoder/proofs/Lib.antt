@@ -33,6 +33,7 @@ pub mod PlacedCodings
 mod Rules
 pub mod DecodedImages
 pub mod PutLoops
+pub mod ReplacedTables
 pub mod ScanData
 pub mod SequentialScans
 pub mod EndedPlanes

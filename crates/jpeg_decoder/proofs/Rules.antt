@@ -22,6 +22,7 @@ use Rattle.jpeg_streams.proofs.McuRows.{sequential-scan, progressive-scan}
 use Rattle.jpeg_streams.proofs.PaddingUnseen.{own-predicted, pictures-agree, planes-same}
 use Rattle.jpeg_streams.proofs.PicturedFrames.{header-accepted}
 use Rattle.jpeg_streams.proofs.Soundness.{nothing-framed, scaled-again, sized-again, sound-nothing}
+use Rattle.jpeg_streams.proofs.Soundness.{sound_kept}
 use Rattle.jpeg_streams.proofs.SizedStreams.{scaled-taken, sized-taken, stream-means_scaled, stream-means_sized}
 use Rattle.jpeg_streams.proofs.WalkedStreams.{front-append}
 use Rattle.jpeg_streams.proofs.WholeImages.{cut-whole}
@@ -40,6 +41,10 @@ use Rattle.jpeg_decoder.proofs.Orientations.{cut_directory, cut_exif, few_after,
 use Rattle.jpeg_decoder.proofs.Orientations.{four_lower, higher_exif, lower_exif, met, none_among, other_directory}
 use Rattle.jpeg_decoder.proofs.Orientations.{other_exif, passed, two_higher, two_lower}
 use Rattle.jpeg_decoder.proofs.Ratios.{ratios_refused}
+use Rattle.jpeg_decoder.proofs.ReplacedTables.{dht-onto}
+
+-- the tables in force after a segment
+pub ruleset replaced = (sound_kept, dht-onto)
 
 -- the laws of images
 pub ruleset images = (

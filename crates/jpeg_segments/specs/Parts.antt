@@ -10,7 +10,7 @@ use Rattle.jpeg_segments.specs.declared.scan_header.Selector.{Selector as Read}
 use Rattle.jpeg_segments.specs.Application.{Application, application_by}
 use Rattle.jpeg_segments.specs.Frame.{Factors, Frame, is_count, is_destination, is_factor}
 use Rattle.jpeg_segments.specs.Frame.{is_precision, size_at}
-use Rattle.jpeg_segments.specs.HuffmanTables.{greatest_destination}
+use Rattle.jpeg_segments.specs.HuffmanTables.{Tables, greatest_destination, tables_from}
 use Rattle.jpeg_segments.specs.Quantization.{value_at}
 use Rattle.jpeg_segments.specs.ScanHeader.{Selector, blocks_by}
 
@@ -96,6 +96,12 @@ codes_at left class bytes = do
       else (
       if nat_lt left (17 + sum counts.0) then Err Malformed
       else symbols_at class counts.0 counts.1))
+
+-- the tables of a segment, each in place of the one that was in its destination
+unfoldable pub dht_onto : Option Bool → Tables → List ℕ → Outcome Tables
+dht_onto is_baseline tables bytes = do
+  left ← length_at bytes
+  tables_from left.0 (greatest_destination is_baseline) left.0 tables left.1
 
 -- 64 elements, none of which is 0
 unfoldable pub table_at : Bool → List ℕ → Outcome (List ℕ)

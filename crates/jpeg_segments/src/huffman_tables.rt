@@ -4,7 +4,7 @@ ghost use Rattle.jpeg_bits.specs.Codes.{is_ac};
 ghost use Rattle.jpeg_bits.specs.Reading.{Answers, NamesFormat, times, next_byte};
 ghost use Rattle.jpeg_segments.specs.HuffmanTables.{all_ac, defined_codes_at, dht_at};
 ghost use Rattle.jpeg_segments.specs.HuffmanTables.{greatest_destination, with_table};
-ghost use Rattle.jpeg_segments.specs.Parts.{symbols_at, codes_at};
+ghost use Rattle.jpeg_segments.specs.Parts.{symbols_at, codes_at, dht_onto};
 
 use jpeg_bits::error::{Error, Result, format_error_of};
 use jpeg_bits::huffman::{HuffmanTable, HuffmanTableClass};
@@ -155,18 +155,18 @@ fn no_tables(alloc: Global) -> std::result::Result<Vec<Option<HuffmanTable>>, Al
     Ok(vec![in alloc; None, None, None, None]?)
 }
 
-/// Adds a table to those that were read.
-fn put_table(tables: &mut DefinedTables, placed: DefinedTable)
-    requires dc { length tables.old.0.items ≡ 4 }
-    requires ac { length tables.old.1.items ≡ 4 }
+/// Puts a table that was read in its destination of its class.
+fn put_table(dc: &mut [Option<HuffmanTable>], ac: &mut [Option<HuffmanTable>], placed: DefinedTable)
+    requires dc { length dc.old ≡ 4 }
+    requires ac { length ac.old ≡ 4 }
     requires destination { placed.destination ≤ 3 }
     requires class { placed.table.class ≡ placed.class }
-    ensures tables { record { dc = tables.new.0.items; ac = tables.new.1.items }
-        ≡ with_table (record { dc = tables.old.0.items; ac = tables.old.1.items })
+    ensures tables { record { dc = dc.new; ac = ac.new }
+        ≡ with_table (record { dc = dc.old; ac = ac.old })
         (record { destination = placed.destination; table = placed.table }) }
-    ensures dc { length tables.new.0.items ≡ 4 }
-    ensures ac { length tables.new.1.items ≡ 4 }
-    ensures classes { all_ac tables.old.1.items ≡ true → all_ac tables.new.1.items ≡ true }
+    ensures dc { length dc.new ≡ 4 }
+    ensures ac { length ac.new ≡ 4 }
+    ensures classes { all_ac ac.old ≡ true → all_ac ac.new ≡ true }
 {
     let DefinedTable {
         class,
@@ -175,8 +175,8 @@ fn put_table(tables: &mut DefinedTables, placed: DefinedTable)
         ..
     } = placed;
     match class {
-        HuffmanTableClass::DC => tables.0[destination] = Some(table),
-        HuffmanTableClass::AC => tables.1[destination] = Some(table),
+        HuffmanTableClass::DC => dc[destination] = Some(table),
+        HuffmanTableClass::AC => ac[destination] = Some(table),
     }
 }
 
@@ -200,6 +200,40 @@ pub(crate) fn expected_destinations(greatest: u8) -> &'static str {
     }
 }
 
+/// Reads the tables of a segment as `parse_dht` does, and puts each in its destination among those
+/// in force: four of each class. The errors are those of `parse_dht`; some tables may then have
+/// been replaced.
+#[tactic(auto, unfolding(crate::specs::Parts::dht_onto))]
+pub fn read_huffman_tables<R: Read + Drop>(
+    alloc: Global,
+    reader: &mut Source<R>,
+    is_baseline: Option<bool>,
+    dc: &mut [Option<HuffmanTable>],
+    ac: &mut [Option<HuffmanTable>],
+) -> Result<()>
+    requires dc { length dc.old ≡ 4 }
+    requires ac { length ac.old ≡ 4 }
+    ensures tables { Answers (λ _. record { dc = dc.new; ac = ac.new })
+        (dht_onto is_baseline (record { dc = dc.old; ac = ac.old })) reader.old result reader.new }
+    ensures dc { length dc.new ≡ 4 }
+    ensures ac { length ac.new ≡ 4 }
+    ensures classes { all_ac ac.old ≡ true → all_ac ac.new ≡ true }
+{
+    let mut left = read_length(alloc, reader)?;
+    let greatest = greatest_destination(is_baseline);
+    while left > 17 {
+        let placed = read_defined_table(alloc, reader, greatest, left)?;
+        left -= placed.size;
+        put_table(dc, ac, placed);
+    }
+    if left > 0 {
+        return Err(format_error_of(format!(in alloc;
+            "{left} bytes left in DHT after the last Huffman table, expected 0"
+        )));
+    }
+    Ok(())
+}
+
 /// Reads the tables of a segment (T.81, B.2.4.2): two lists of four destinations, for DC and for
 /// AC. `is_baseline` is that of the frame, if one was read: in a baseline frame a destination is 0
 /// or 1, otherwise 0 to 3.
@@ -207,7 +241,7 @@ pub(crate) fn expected_destinations(greatest: u8) -> &'static str {
 /// Errors: `Format` if the length, a class, a destination, the number of codes or their lengths
 /// break a rule, or if 1 to 17 bytes are left after the last table; `Io` if the bytes end or a read
 /// fails; `OutOfMemory`.
-#[tactic(auto, unfolding(crate::specs::HuffmanTables::dht_at))]
+#[tactic(auto, unfolding(crate::specs::HuffmanTables::dht_at, crate::specs::Parts::dht_onto))]
 pub fn parse_dht<R: Read + Drop>(
     alloc: Global,
     reader: &mut Source<R>,
@@ -218,18 +252,8 @@ pub fn parse_dht<R: Read + Drop>(
     ensures destinations { IfOk result (λ t. (length t.0.items ≡ 4) × (length t.1.items ≡ 4)) }
     ensures classes { IfOk result (λ t. all_ac t.1.items ≡ true) }
 {
-    let mut left = read_length(alloc, reader)?;
-    let greatest = greatest_destination(is_baseline);
-    let mut tables = (no_tables(alloc)?, no_tables(alloc)?);
-    while left > 17 {
-        let placed = read_defined_table(alloc, reader, greatest, left)?;
-        left -= placed.size;
-        put_table(&mut tables, placed);
-    }
-    if left > 0 {
-        return Err(format_error_of(format!(in alloc;
-            "{left} bytes left in DHT after the last Huffman table, expected 0"
-        )));
-    }
-    Ok(tables)
+    let mut dc = no_tables(alloc)?;
+    let mut ac = no_tables(alloc)?;
+    read_huffman_tables(alloc, reader, is_baseline, &mut dc, &mut ac)?;
+    Ok((dc, ac))
 }

@@ -5,7 +5,7 @@ pub use crate::application::{
 };
 pub use crate::frame::{CodingProcess, Component, Dimensions, EntropyCoding, FrameInfo};
 pub use crate::frame_header::parse_sof;
-pub use crate::huffman_tables::{DefinedTables, parse_dht};
+pub use crate::huffman_tables::{DefinedTables, parse_dht, read_huffman_tables};
 pub use crate::quantization::parse_dqt;
 pub use crate::scan_header::parse_sos;
 pub use jpeg_bits::scan::{Predictor, ScanInfo};

@@ -1,29 +1,53 @@
 //! Quantization tables.
 ghost use Rattle.std.specs.Prelude.{◌≡◌, ◌≤◌, ◌<◌, IfOk, true, Err};
 ghost use Rattle.jpeg_bits.specs.Reading.{Answers, Malformed, NamesFormat, times};
+ghost use Rattle.jpeg_bits.specs.Reading.{next_byte, next_u16};
 ghost use Rattle.jpeg_bits.specs.declared.error.Error.TheVariants.{OutOfMemory};
 ghost use Rattle.jpeg_segments.specs.Quantization.{value_at, defined_table_at, dqt_at};
 ghost use Rattle.jpeg_segments.specs.Parts.{table_at};
 
 use jpeg_bits::error::{Error, Result, format_error_of};
 use jpeg_bits::source::Source;
-use jpeg_bits::source::reads::{read_length, read_u8, read_u16_be};
+use jpeg_bits::source::reads::{read_exact, read_length, read_u8, read_u16_be};
 use std::alloc::Global;
 use std::io::Read;
 
-#[tactic(auto, unfolding(crate::specs::Quantization::value_at))]
-fn read_value<R: Read + Drop>(alloc: Global, source: &mut Source<R>, is_wide: bool) -> Result<u16>
-    ensures answers { Answers (λ v. v) (value_at is_wide) source.old result source.new }
+/// Reads values of 16 bits.
+fn read_wide_values<R: Read + Drop>(alloc: Global, source: &mut Source<R>) -> Result<[u16; 64]>
+    ensures answers { Answers (λ v. v) (times 64 next_u16) source.old result source.new }
     ensures room { source.old.known ≡ true → result ≡ Err OutOfMemory
-        → value_at is_wide source.old.bytes ≡ Err Malformed }
+        → times 64 next_u16 source.old.bytes ≡ Err Malformed }
 {
-    if is_wide {
-        read_u16_be(alloc, source)
-    } else {
-        Ok(u16::from(read_u8(alloc, source)?))
+    let mut values = [0u16; 64];
+    for i in 0..64 {
+        values[i] = read_u16_be(alloc, source)?;
     }
+    Ok(values)
 }
 
+/// Returns the bytes as numbers of 16 bits.
+fn widened(bytes: &[u8; 64]) -> [u16; 64]
+    ensures { result ≡ bytes.now }
+{
+    let mut values = [0u16; 64];
+    for i in 0..64 {
+        values[i] = u16::from(bytes[i]);
+    }
+    values
+}
+
+/// Reads values of 8 bits, all at once.
+fn read_byte_values<R: Read + Drop>(alloc: Global, source: &mut Source<R>) -> Result<[u16; 64]>
+    ensures answers { Answers (λ v. v) (times 64 next_byte) source.old result source.new }
+    ensures room { source.old.known ≡ true → result ≡ Err OutOfMemory
+        → times 64 next_byte source.old.bytes ≡ Err Malformed }
+{
+    let mut bytes = [0u8; 64];
+    read_exact(alloc, source, &mut bytes)?;
+    Ok(widened(&bytes))
+}
+
+#[tactic(auto, unfolding(crate::proofs::Rules::widths), using(crate::proofs::Rules::values))]
 fn read_values<R: Read + Drop>(
     alloc: Global,
     source: &mut Source<R>,
@@ -33,11 +57,11 @@ fn read_values<R: Read + Drop>(
     ensures room { source.old.known ≡ true → result ≡ Err OutOfMemory
         → times 64 (value_at is_wide) source.old.bytes ≡ Err Malformed }
 {
-    let mut values = [0u16; 64];
-    for i in 0..64 {
-        values[i] = read_value(alloc, source, is_wide)?;
+    if is_wide {
+        read_wide_values(alloc, source)
+    } else {
+        read_byte_values(alloc, source)
     }
-    Ok(values)
 }
 
 /// Returns the refusal of a table for this destination that has a 0.

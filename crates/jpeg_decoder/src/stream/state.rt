@@ -11,7 +11,9 @@ use jpeg_bits::huffman::HuffmanTable;
 use jpeg_bits::marker::Marker;
 use jpeg_bits::source::Source;
 use jpeg_bits::source::reads::{read_length, skip};
-use jpeg_segments::parser::{FrameInfo, parse_app, parse_dht, parse_dqt, parse_dri, parse_sof};
+use jpeg_segments::parser::{
+    FrameInfo, parse_app, parse_dqt, parse_dri, parse_sof, read_huffman_tables,
+};
 use jpeg_streams::before::Before;
 use std::alloc::Global;
 use std::io::Read;
@@ -137,7 +139,7 @@ impl State {
     }
 
     /// Reads Huffman tables (T.81, B.2.4.2).
-    #[tactic(auto, using(jpeg_streams::proofs::Soundness::sound_kept))]
+    #[tactic(auto, using(crate::proofs::Rules::replaced))]
     pub fn read_huffman<R: Read + Drop>(
         &mut self,
         alloc: Global,
@@ -148,10 +150,14 @@ impl State {
         ensures steps { IsStep (found_in self.old) result (found_in self.new) }
     {
         let is_baseline = self.said.frame.as_ref().map(|frame| frame.is_baseline);
-        let (mut dc_tables, mut ac_tables) = parse_dht(alloc, source, is_baseline)?;
         let said = &mut self.said;
-        update(&mut said.dc_tables, &mut dc_tables);
-        update(&mut said.ac_tables, &mut ac_tables);
+        read_huffman_tables(
+            alloc,
+            source,
+            is_baseline,
+            &mut said.dc_tables,
+            &mut said.ac_tables,
+        )?;
         Ok(ONWARD)
     }
 

@@ -6,5 +6,5 @@ use Rattle.jpeg_segments.proofs.huffman_tables.put_table.Goals as goal
 
 pub returns-in-AC-clause-classes : goal.returns-in-AC-clause-classes
 returns-in-AC-clause-classes c = and_set (λ (xs : List (Option Table)). all_ac xs) is_ac_or_none refl (λ x xs. refl)
-    c.args.tables.now.1.items c.args.placed.destination (Some c.args.placed.table)
+    c.args.ac.now c.args.placed.destination (Some c.args.placed.table)
     (ap is_ac (c.requires.class ∙ c.in-AC.is))

@@ -1,15 +1,12 @@
-use Rattle.std.proofs.Common.{◌-◌, ◌∙◌, sym, arith, Vec, Global, Option, rules}
+use Rattle.std.proofs.Common.{◌-◌, ◌∙◌, sym, arith, rules}
 use Rattle.std.proofs.lemmas.Result.{err_from_is_err_and}
-use Rattle.jpeg_segments.specs.HuffmanTables.{Tables, DefinedTable, dht_at, defined_codes_at, tables_from}
+use Rattle.jpeg_segments.specs.HuffmanTables.{Tables, DefinedTable, defined_codes_at, tables_from}
+use Rattle.jpeg_segments.specs.Parts.{dht_onto}
 use Rattle.jpeg_segments.specs.declared.huffman_tables.DefinedTable.{DefinedTable as Read}
-use Rattle.jpeg_bits.specs.Codes.{Table}
 use Rattle.jpeg_bits.proofs.Loops.{Continues-ok, bind_at, bind_err}
 use Rattle.jpeg_segments.proofs.HuffmanLemmas.{tables_from-more, tables_from-rest}
-use Rattle.jpeg_segments.proofs.huffman_tables.parse_dht.Goals as goal
+use Rattle.jpeg_segments.proofs.huffman_tables.read_huffman_tables.Goals as goal
 use Rattle.std.proofs.lemmas.Grind.{common_steps}
-
-abbrev view_of : Vec (Option Table) Global × Vec (Option Table) Global → Tables
-view_of t = record { dc = t.0.items; ac = t.1.items }
 
 abbrev placed_of : Read → DefinedTable
 placed_of t = record { destination = t.destination; table = t.table }
@@ -20,7 +17,7 @@ loop-left-preserved g c =
     let placed = c.in_ok-placed in
     let turns = l.invariant.rest.0 in
     let greatest = c.greatest_destination-greatest.result in
-    let tables = view_of l.tables in
+    let tables : Tables = record { dc = l.dc; ac = l.ac } in
     record {
       dc = search rules;
       ac = search rules;
@@ -28,9 +25,11 @@ loop-left-preserved g c =
       rest = (
         turns - 1,
         omega (arith, l.invariant.rest.1, placed.ensures.size.0, placed.ensures.size.1),
-        Continues-ok placed_of (dht_at c.args.is_baseline) (tables_from turns greatest l.left tables)
-            (tables_from (turns - 1) greatest (l.left - placed.placed.size) (view_of
-            c.put_table.new.tables))
+        Continues-ok placed_of (dht_onto c.args.is_baseline (record { dc = c.args.dc.now; ac = c.args.ac.now })) (tables_from turns greatest l.left tables)
+            (tables_from (turns - 1) greatest (l.left - placed.placed.size) (record {
+              dc = c.put_table.new.dc;
+              ac = c.put_table.new.ac;
+            }))
             (defined_codes_at greatest l.left) c.args.reader.now l.reader
             c.read_defined_table.new.source
             placed.placed
