@@ -7,7 +7,7 @@ use Rattle.std.specs.Int.{div_ceil}
 use Rattle.std.proofs.lemmas.Bool.{cases_eq}
 use Rattle.std.proofs.Math.Nat.{mul_comm, mul-le-mul_right, div-lt_iff_lt-mul}
 use Rattle.std.proofs.lemmas.List.{get_or_append_left}
-use Rattle.std.proofs.lemmas.Nat.{mod-mul-add, div-mul-add}
+use Rattle.std.proofs.lemmas.Nat.{div-mul-add}
 use Rattle.std.proofs.lemmas.Grind.{div_ceil_times, common_steps}
 use Rattle.jpeg_pixels.specs.Upsampling.{across, down, blended, far_index, upsampled, line_sum}
 use Rattle.jpeg_pixels.specs.declared.upsample_rows.UpsampleRule.{UpsampleRule}
@@ -96,20 +96,22 @@ repeated_within rule h v output used width height stride row room e some_across 
     let last : row / v ≤ height - 1 = omega (arith, line) in
     omega (arith, mul-le-mul_right stride last, short, inside)
 
--- one more sample, at its index among those that are `step` apart
-pub spread_samples : (line xs ys : List ℕ) (step first i : ℕ) → first < step → i * step + first < length xs
-    → ys ≡ set xs (i * step + first) (get_or line i 0) →
-    ((k : ℕ) → k < i → k * step + first < length xs → get_or xs (k * step + first) 0 ≡ get_or line k 0) →
-    (k : ℕ) → k < i + 1 → k * step + first < length ys → get_or ys (k * step + first) 0 ≡ get_or line k 0
-spread_samples line xs ys step first i some inside is before k h long =
-    search (rules, cases_eq, get_or, get_or-set_other, get_or-set_same, length-set, mul-le-mul_right)
+-- one more sample of a run
+pub run_sample : (line xs : List ℕ) (times i k : ℕ) → k < times → i * times + k < length xs →
+    ((x : ℕ) → x < i * times + k → get_or xs x 0 ≡ get_or line (x / times) 0) →
+    (x : ℕ) → x < i * times + (k + 1)
+    → get_or (set xs (i * times + k) (get_or line i 0)) x 0 ≡ get_or line (x / times) 0
+run_sample line xs times i k some inside before x h = search (rules, cases_eq, get_or, get_or-set_other, get_or-set_same, div-mul-add)
 
--- the indices between
-pub spread_others : (xs ys was : List ℕ) (step first i v : ℕ) → first < step → ys ≡ set xs (i * step + first) v →
-    ((x : ℕ) → x % step ≢ first → get_or xs x 0 ≡ get_or was x 0) →
-    (x : ℕ) → x % step ≢ first → get_or ys x 0 ≡ get_or was x 0
-spread_others xs ys was step first i v some is before x between =
-    grind (arith, common_steps, get_or, get_or-set_other, mod-mul-add)
+-- one more sample of the last run
+pub run_end : (line xs : List ℕ) (times size i : ℕ) → 1 ≤ times → size / times * times ≤ i → i < size → i < length xs →
+    ((x : ℕ) → x < i → get_or xs x 0 ≡ get_or line (x / times) 0) →
+    (x : ℕ) → x < i + 1 → get_or (set xs i (get_or line (size / times) 0)) x 0 ≡ get_or line (x / times) 0
+run_end line xs times size i some above below inside before x h =
+    let same : size / times * times + (i - size / times * times) ≡ i = omega (arith, above) in
+    subst (λ n. get_or (set xs n (get_or line (size / times) 0)) x 0 ≡ get_or line (x / times) 0) same
+    (run_sample line xs times (size / times) (i - size / times * times) (grind (arith, common_steps))
+    (rw same inside) (λ k l. before k (omega (arith, same, l))) x (omega (arith, same, h)))
 
 pub ruleset upsampled_rows = (as_h1v1, as_h2v1, as_h1v2, as_h2v2, in_front, length-take)
 

@@ -1,5 +1,5 @@
 //! Rows of a component made as wide as the picture: the rules, and a function for each.
-ghost use Rattle.std.specs.Prelude.{◌≡◌, ℕ, ◌+◌, ◌-◌, ◌*◌, ◌/◌, ◌<◌, ◌≤◌, ◌%◌, ◌≢◌, length};
+ghost use Rattle.std.specs.Prelude.{◌≡◌, ℕ, ◌+◌, ◌-◌, ◌*◌, ◌/◌, ◌<◌, ◌≤◌, length};
 ghost use Rattle.std.specs.Prelude.{slice_index};
 ghost use Rattle.jpeg_pixels.specs.Upsampling.{blended, far_index};
 
@@ -190,38 +190,38 @@ fn upsample_row_h2v2(near: &[u8], far: &[u8], output: &mut [u8])
     }
 }
 
-/// Writes the samples of a line at every `step`th index from `first` on, as far as the output goes.
-fn spread(line: &[u8], step: usize, first: usize, output: &mut [u8])
-    requires first { first < step }
-    requires wide { length output.old ≤ step * length line.now }
-    requires no_wider { step * length line.now < length output.old + step }
-    ensures samples { (i : ℕ) → i * step + first < length output.old →
-        slice_index output.new (i * step + first) ≡ slice_index line.now i }
-    ensures others { (x : ℕ) → x % step ≢ first → slice_index output.new x
-        ≡ slice_index output.old x }
-{
-    for i in 0..line.len() {
-        let x = i * step + first;
-        if x < output.len() {
-            output[x] = line[i];
-        }
-    }
-}
-
 /// Writes each sample of a line this many times; the last one fewer times, if the output ends.
-fn repeat_samples(line: &[u8], times: usize, output: &mut [u8])
+#[inline(always)]
+fn write_runs(line: &[u8], times: usize, output: &mut [u8])
     requires some { 1 ≤ times }
     requires wide { length output.old ≤ times * length line.now }
-    requires no_wider { times * length line.now < length output.old + times }
     ensures { (x : ℕ) → x < length output.old →
         slice_index output.new x ≡ slice_index line.now (x / times) }
 {
-    if times == 1 {
-        output.copy_from_slice(line);
-        return;
+    let whole = output.len() / times;
+    for i in 0..whole {
+        for k in 0..times {
+            output[i * times + k] = line[i];
+        }
     }
-    // A pass for each index: runs as short as these would cost more one by one.
-    for first in 0..times {
-        spread(line, times, first, output);
+    for x in whole * times..output.len() {
+        output[x] = line[whole];
+    }
+}
+
+/// Like `write_runs`. Where the compiler knows how long the runs are, it writes many of them at
+/// once.
+fn repeat_samples(line: &[u8], times: usize, output: &mut [u8])
+    requires some { 1 ≤ times }
+    requires wide { length output.old ≤ times * length line.now }
+    ensures { (x : ℕ) → x < length output.old →
+        slice_index output.new x ≡ slice_index line.now (x / times) }
+{
+    match times {
+        1 => write_runs(line, 1, output),
+        2 => write_runs(line, 2, output),
+        3 => write_runs(line, 3, output),
+        4 => write_runs(line, 4, output),
+        _ => write_runs(line, times, output),
     }
 }
