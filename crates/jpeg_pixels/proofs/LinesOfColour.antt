@@ -1,6 +1,6 @@
 -- Lines of colours, by their indices, colours by products of 16 bits, and greys.
 use Rattle.std.proofs.Common.{◌≡◌, ℕ, ◌+◌, ◌-◌, ◌*◌, ◌<◌, List, [], length, get_or, map, take, sym, ap, ◌∙◌, refl}
-use Rattle.std.proofs.Common.{arith, ◌^◌, ℤ, pos, negsuc, ◌+ℤ◌, ◌-ℤ◌, ◌*ℤ◌, Bool, true, ◌==◌, unsigned_abs, rules}
+use Rattle.std.proofs.Common.{arith, ◌^◌, ◌/◌, ℤ, pos, negsuc, ◌+ℤ◌, ◌-ℤ◌, ◌*ℤ◌, Bool, true, ◌==◌, unsigned_abs, rules}
 use Rattle.std.proofs.Common.{◌∷◌}
 use Rattle.std.proofs.lemmas.List.{ext_get_or, length-map, get_or-map}
 use Rattle.std.proofs.Math.Seq.{take-length}
@@ -152,17 +152,25 @@ pub blue_by_short : (y cb : ℕ) → cb < 256
 unfolding blue_of
 blue_by_short y cb h = ap clamped (by_short 1858077 29033 refl y cb h)
 
--- green, by the sum that the code shifts
-pub green_by_sum : (y cb cr : ℕ) → green_of y cb cr ≡ clamped (pos y +ℤ int_shr
+-- green, by the sum that is shifted
+green_by_sum : (y cb cr : ℕ) → green_of y cb cr ≡ clamped (pos y +ℤ int_shr
     (pos 524288 -ℤ pos 360857 *ℤ centred_of cb -ℤ pos 748830 *ℤ centred_of cr) 20)
 unfolding green_of
 green_by_sum y cb cr = grind (arith, ints, common_steps, shifted)
 
+-- green, by a sum that isn't negative
+pub green_by_parts : (y cb cr : ℕ) → cb < 256 → cr < 256 → green_of y cb cr ≡ clamped (pos y +ℤ
+    (pos ((360857 * (255 - cb) + 748830 * (255 - cr) + 103223) / 1048576) -ℤ pos 134))
+green_by_parts y cb cr hb hr =
+    let n = 360857 * (255 - cb) + 748830 * (255 - cr) + 103223 in
+    let z = pos 524288 -ℤ pos 360857 *ℤ centred_of cb -ℤ pos 748830 *ℤ centred_of cr in
+    let above : int_shr (pos n) 20 ≡ pos 134 +ℤ int_shr z 20 = shifted 134 z (pos n) (omega (arith, ints)) in
+    let same : int_shr z 20 ≡ pos (n / 1048576) -ℤ pos 134 = grind (arith, ints, above) in
+    green_by_sum y cb cr ∙ ap (λ v. clamped (pos y +ℤ v)) same
+
 pub ruleset reds = (red_by_short, to_z-of_z)
 
 pub ruleset blues = (blue_by_short, to_z-of_z)
-
-pub ruleset greens = (green_by_sum, to_z-of_z)
 
 pub grey : (y : ℕ) → y < 256 → colour_of YCbCr (y ∷ 128 ∷ 128 ∷ []) ≡ y ∷ y ∷ y ∷ []
 unfolding colour_of red_of green_of blue_of

@@ -42,28 +42,25 @@ fn red(y: u8, cr: u8) -> u8
     added(y, rounded(upper_half(8 * centred(cr), 22971)))
 }
 
-/// Returns the part of `green_sum` that comes from the multiples of 64 in its factors.
-fn coarse_green_sum(cb: u8, cr: u8) -> i32
-    ensures { result ≡ pos 0 -ℤ pos 360832 *ℤ centred_of cb -ℤ pos 748800 *ℤ centred_of cr }
+/// Returns the difference of green from the brightness. In units of 1 / 2^20 its factors are
+/// 44 * 2^13 + 6 * 2^6 + 25 and 91 * 2^13 + 52 * 2^6 + 30, so that each sum has at most 16 bits;
+/// and each begins with a constant that keeps it from being negative, by 134 in all.
+fn green_difference(cb: u8, cr: u8) -> i16
+    ensures { result ≡ pos ((360857 * (255 - cb) + 748830 * (255 - cr) + 103223) / 1048576)
+        -ℤ pos 134 }
 {
-    i32::from(64 * centred(cb)) * -5638 + i32::from(64 * centred(cr)) * -11700
+    let cb = u16::from(cb);
+    let cr = u16::from(cr);
+    let fine = (14080 - 25 * cb - 30 * cr) >> 6;
+    let middle = (14866 - 6 * cb - 52 * cr + fine) >> 7;
+    ((34437 - 44 * cb - 91 * cr + middle) >> 7) as i16 - 134
 }
 
-/// Returns the difference of green from the brightness, in units of 1 / 2^20, plus half a unit to
-/// round. Its factors are 64 * 5638 + 25 and 64 * 11700 + 30, so that each product is one of 16
-/// bits.
-fn green_sum(cb: u8, cr: u8) -> i32
-    ensures { result ≡ pos 524288 -ℤ pos 360857 *ℤ centred_of cb -ℤ pos 748830 *ℤ centred_of cr }
-{
-    let fine = i32::from(centred(cb)) * -25 + i32::from(centred(cr)) * -30;
-    coarse_green_sum(cb, cr) + (fine + (1 << 19))
-}
-
-#[tactic(auto, using(crate::proofs::LinesOfColour::greens))]
+#[tactic(auto, using(crate::proofs::LinesOfColour::green_by_parts))]
 fn green(y: u8, cb: u8, cr: u8) -> u8
     ensures { result ≡ green_of y cb cr }
 {
-    added(y, (green_sum(cb, cr) >> 20) as i16)
+    added(y, green_difference(cb, cr))
 }
 
 #[tactic(auto, using(crate::proofs::LinesOfColour::blues))]
