@@ -112,7 +112,7 @@ pub(crate) fn write_line(
     convert_line(lines, line.width, components.len(), color_convert, output);
 }
 
-/// Returns the picture: its lines from above. The only error is that no memory is left.
+/// Returns the picture: its lines from above. The error is out of memory.
 #[tactic(auto, using(crate::proofs::Rules::above, crate::proofs::Rules::pictures))]
 pub(crate) fn lines_from_above(
     alloc: Global,
@@ -135,19 +135,19 @@ pub(crate) fn lines_from_above(
 {
     let line_size = components.len() * width;
     let mut lines = vec![in alloc; 0; line_size]?;
+    // Lines are made here, and not in the picture, which would have to be cleared for them.
+    let mut output = vec![in alloc; 0; line_size]?;
     let mut picture = Vec::with_capacity(alloc, line_size * height)?;
     for row in 0..height {
-        let start = picture.len();
-        picture.resize(start + line_size, 0)?;
-        let output = &mut picture[start..];
         let line = Line { planes, row, width };
         write_line(
             components,
             &line,
             lines.as_mut_slice(),
-            output,
+            output.as_mut_slice(),
             color_convert,
         );
+        picture.extend_from_slice(&output)?;
     }
     Ok(picture)
 }

@@ -10,4 +10,5 @@ invariant-loop-row l = record {
       l.width l.row;
   long : length l.picture.items ≡ l.row * (length l.components * l.width);
   buffer : length l.lines.items ≡ length l.components * l.width;
+  line : length l.output.items ≡ length l.components * l.width;
 }
