@@ -113,7 +113,7 @@ impl Upsampler {
         write_line(&self.components, line, lines, output, color_convert);
     }
 
-    /// Returns all lines of the picture, from above. The only error is that no memory is left.
+    /// Returns all lines of the picture, from above. The only error is `OutOfMemory`.
     pub(crate) fn picture(
         &self,
         component_data: &[Vec<u8>],

@@ -70,7 +70,7 @@ impl ImmediateWorker {
     /// Starts the plane of a component at an index that has none, and allocates all of it: each
     /// sample is 0 until its row comes.
     ///
-    /// The only error is that no memory is left; nothing has changed then.
+    /// The only error is `OutOfMemory`; nothing has changed then.
     pub fn start(&mut self, row_data: RowData) -> Result<()>
         requires index { row_data.index < 4 }
         requires none_kept { get_or self.old row_data.index None ≡ None }

@@ -190,8 +190,7 @@ impl JointLines {
     ghost use Rattle.jpeg_pixels.specs.Lines.{joint_lines};
     ghost use Rattle.jpeg_pixels.specs.PicturesView.{IsFor};
 
-    /// Takes planes that reach to the edges of a picture. The only error is that no memory is left
-    /// for a line of each strip.
+    /// Takes planes that reach to the edges of a picture. The only error is `OutOfMemory`.
     pub(crate) fn new(
         alloc: Global,
         planes: JointPlanes,
@@ -243,8 +242,8 @@ impl JointLines {
         picture.write_line(strips, row % picture.shape.lines, &mut self.buffer, line);
     }
 
-    /// Returns all lines, one after the other, in the memory of the planes. The only error is that
-    /// no memory is left for the lines of a row of MCUs.
+    /// Returns all lines, one after the other, in the memory of the planes. The only error is
+    /// `OutOfMemory`.
     pub(crate) fn into_picture(self, alloc: Global) -> Result<Vec<u8>>
         ensures { MatchResult result (λ v. v.items ≡ concat self) (λ e. e ≡ OutOfMemory) }
     {

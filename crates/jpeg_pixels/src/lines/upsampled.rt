@@ -44,8 +44,7 @@ impl UpsampledLines {
     ghost use Rattle.jpeg_pixels.specs.Pictures.{AllCover};
     ghost use Rattle.jpeg_pixels.specs.PicturesView.{IsFor};
 
-    /// Takes the planes of an upsampler's components. The only error is that no memory is left for
-    /// a line of each component.
+    /// Takes the planes of an upsampler's components. The only error is `OutOfMemory`.
     pub(crate) fn new(
         alloc: Global,
         upsampler: Upsampler,
@@ -99,7 +98,7 @@ impl UpsampledLines {
             .write_line(&made_of, &mut self.buffer, line, convert);
     }
 
-    /// Returns all lines, one after the other. The only error is that no memory is left.
+    /// Returns all lines, one after the other. The only error is `OutOfMemory`.
     pub(crate) fn into_picture(self, alloc: Global) -> Result<Vec<u8>>
         ensures { MatchResult result (λ v. v.items ≡ concat self) (λ e. e ≡ OutOfMemory) }
     {
