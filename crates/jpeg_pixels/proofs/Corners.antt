@@ -70,7 +70,10 @@ bits_at coefficients at j = of_z w16 (get_or coefficients (at + j) (pos 0))
 pub bits_of_halves : (coefficients : List ℤ) (at : ℕ) → length coefficients ≡ 64 → at + 8 ≤ 64
     → IsBits (map (of_z w16) (chunk 0 8 (mid_of at (64 - at) coefficients)))
     (bits_at coefficients at)
-bits_of_halves coefficients at e h = grind (arith, common_steps, of_z, loaded, map-map)
+bits_of_halves coefficients at e h = record {
+  is = ap (map (of_z w16)) (loaded 8 coefficients at (pos 0) e h)
+      ∙ map-map (of_z w16) (λ j. get_or coefficients (at + j) (pos 0)) (range_with_len 0 8);
+}
 
 -- the bits of the seven rows below the first
 abbrev pub bits_below : List ℤ → ℕ → ℕ

@@ -1,7 +1,7 @@
 -- Planes at a scale by their rows of blocks, which are written block by block, and lines that are moved together.
 use Rattle.std.proofs.Common.{◌≡◌, ℕ, zero, suc, ◌+◌, ◌*◌, ◌<◌, ◌/◌, ◌%◌, ℤ, List, [], ◌++◌, length, get_or, map, sym}
 use Rattle.std.proofs.Common.{ap, ◌∙◌, arith, rules, ◌-◌, ◌≤◌, slice_index, slice_index_or, take, drop, length-take}
-use Rattle.std.proofs.Common.{length-drop}
+use Rattle.std.proofs.Common.{length-drop, length-append, refl, subst}
 use Rattle.std.proofs.lemmas.List.FromFn.{fill_by_all, length-map-range_with_len, get_or-map-range_with_len}
 use Rattle.std.proofs.Math.Nat.{mul_comm, mul-add, div-lt_iff_lt-mul, mod-lt, mul-add-div, mul-add-mod_self_left}
 use Rattle.std.proofs.Math.Nat.{mod-eq_of_lt, mul-le-mul_right, div-add-mod, mul-le-mul_left}
@@ -142,6 +142,26 @@ WritesBlock-next width last y stride sample_at old now new k wide low enough who
 
     by_row : {P : Type 0} (r : ℕ) → r < y + 1 → (r < y → P) → (r ≡ y → P) → P
     by_row r hr f g = ⊎_elim f (λ le. g (omega arith)) (cases_lt r y)
+
+put_mid_long : (a : ℕ) (xs ys : List ℕ) → a ≤ length xs → length ys ≡ length xs - a
+    → length (put_mid a (length xs - a) xs ys) ≡ length xs
+put_mid_long a xs ys low long = grind (arith, common_steps, length-take, length-drop, length-append)
+
+-- one more row of eight, where the bytes before it are eight rows long
+pub WritesBlock-line : (y stride a : ℕ) (sample_at : ℕ → ℕ → ℕ) (old now new : List ℕ) → a ≡ y * stride → y < 8
+    → 8 ≤ stride → 7 * stride + 8 ≤ length old → length new ≡ length now - a
+    → ((x : ℕ) → x < 8 → slice_index new x ≡ sample_at x y)
+    → ((i : ℕ) → 8 ≤ i → slice_index new i ≡ slice_index (mid_of a (length now - a) now) i)
+    → WritesBlock 8 y stride sample_at old now × (length now ≡ length old)
+    → WritesBlock 8 (y + 1) stride sample_at old (put_mid a (length now - a) now new)
+    × (length (put_mid a (length now - a) now new) ≡ length old)
+WritesBlock-line y stride a sample_at old now new e few wide room long written kept before =
+    let low : a ≤ length now = omega (arith, e, few, room, before.1, mul-le-mul_right stride few) in
+    let block = subst (λ (m : ℕ). ((i : ℕ) → 8 ≤ i → slice_index new i ≡ slice_index (mid_of m (length now - m) now) i)
+    → WritesBlock 8 (y + 1) stride sample_at old (put_mid m (length now - m) now new)) (sym e)
+    (λ kept'. WritesBlock-next 8 7 y stride sample_at old now new (length now - y * stride) wide (omega (arith, few))
+    (omega (arith, room, before.1)) refl written kept' before.0) kept in
+    (block, put_mid_long a now new low long ∙ before.1)
 
 -- the first columns of samples of some lines
 pub record HoldsSamples (lines stride columns : ℕ) (at : ℕ → ℕ → ℕ) (strip : List ℕ) : Type 0 where

@@ -1,20 +1,13 @@
--- Eight rows of eight short lanes, and what lets a block be transformed in them.
+-- Eight rows of eight short lanes, pairs of them, and what lets a block be transformed in them.
 use Rattle.std.specs.Prelude.{◌≡◌, ℕ, ◌<◌, ◌≤◌, ◌/◌, ◌+ℤ◌, List, [], ◌∷◌, ℤ, pos, negsuc}
-use Rattle.std.specs.Prelude.{slice_index, slice_index_or, min, max, unsigned_abs}
+use Rattle.std.specs.Prelude.{slice_index, slice_index_or, min, max, unsigned_abs, map}
+use Rattle.std.specs.List.{range_with_len}
 use Rattle.std.specs.Int.{w32, int_wrap, int_shr}
+use Rattle.jpeg_pixels.specs.declared.short_block.Pairs.{Pairs}
 use Rattle.jpeg_pixels.specs.declared.short_block.ShortTable.{ShortTable}
 use Rattle.jpeg_pixels.specs.declared.short_block.Shorts.{Shorts}
-use Rattle.jpeg_pixels.specs.Lanes.{lane, lanes}
+use Rattle.jpeg_pixels.specs.Lanes.{lanes}
 use Rattle.jpeg_pixels.specs.Samples.{transformed}
-
--- what stands in this lane of each row, from above
-abbrev pub short_column_of : Shorts → ℕ → List ℤ
-short_column_of rows k = lane rows.r0 k ∷ lane rows.r1 k ∷ lane rows.r2 k ∷ lane rows.r3 k ∷ lane rows.r4
-    k ∷ lane rows.r5 k ∷ lane rows.r6 k ∷ lane rows.r7 k ∷ []
-
--- what stands in this lane of this row
-abbrev pub short_lane_at : Shorts → ℕ → ℕ → ℤ
-short_lane_at rows k j = slice_index_or (short_column_of rows j) k (pos 0)
 
 -- in lane j of row k stands f k j
 pub record HasShorts (rows : Shorts) (f : ℕ → ℕ → ℤ) : Type 0 where
@@ -27,12 +20,31 @@ pub record HasShorts (rows : Shorts) (f : ℕ → ℕ → ℤ) : Type 0 where
   pub r6 : rows.r6 ≡ lanes (f 6)
   pub r7 : rows.r7 ≡ lanes (f 7)
 
--- the last four rows are 0
-pub record HasShortZeros (rows : Shorts) : Type 0 where
-  pub r4 : rows.r4 ≡ lanes (λ _. pos 0)
-  pub r5 : rows.r5 ≡ lanes (λ _. pos 0)
-  pub r6 : rows.r6 ≡ lanes (λ _. pos 0)
-  pub r7 : rows.r7 ≡ lanes (λ _. pos 0)
+-- a vector of sixteen lanes, by what stands in each
+abbrev pub sixteen : (ℕ → ℤ) → List ℤ
+sixteen f = map f (range_with_len 0 16)
+
+-- eight of each of two functions, by turns
+abbrev pub paired : (ℕ → ℤ) → (ℕ → ℤ) → List ℤ
+paired f g = f 0 ∷ g 0 ∷ f 1 ∷ g 1 ∷ f 2 ∷ g 2 ∷ f 3 ∷ g 3 ∷ f 4 ∷ g 4 ∷ f 5 ∷ g 5 ∷ f 6 ∷ g 6 ∷ f 7 ∷ g 7 ∷ []
+
+-- in the pairs of each j stand f k j and f (k + 4) j
+pub record HasPairs (pairs : Pairs) (f : ℕ → ℕ → ℤ) : Type 0 where
+  pub p04 : pairs.p04 ≡ paired (f 0) (f 4)
+  pub p15 : pairs.p15 ≡ paired (f 1) (f 5)
+  pub p26 : pairs.p26 ≡ paired (f 2) (f 6)
+  pub p37 : pairs.p37 ≡ paired (f 3) (f 7)
+
+-- four of each of two functions, and then the next four of each
+abbrev pub halves : {A : Type 0} → (ℕ → A) → (ℕ → A) → List A
+halves f g = f 0 ∷ f 1 ∷ f 2 ∷ f 3 ∷ g 0 ∷ g 1 ∷ g 2 ∷ g 3 ∷ f 4 ∷ f 5 ∷ f 6 ∷ f 7 ∷ g 4 ∷ g 5 ∷ g 6 ∷ g 7 ∷ []
+
+-- eight fours: of each j, what the first four rows have there
+abbrev pub fours : (ℕ → ℕ → ℕ) → List ℕ
+fours f =
+    f 0 0 ∷ f 1 0 ∷ f 2 0 ∷ f 3 0 ∷ f 0 1 ∷ f 1 1 ∷ f 2 1 ∷ f 3 1 ∷ f 0 2 ∷ f 1 2 ∷ f 2 2 ∷ f 3 2 ∷ f 0 3 ∷ f 1 3
+    ∷ f 2 3 ∷ f 3 3 ∷ f 0 4 ∷ f 1 4 ∷ f 2 4 ∷ f 3 4 ∷ f 0 5 ∷ f 1 5 ∷ f 2 5 ∷ f 3 5 ∷ f 0 6 ∷ f 1 6 ∷ f 2 6 ∷ f 3 6
+    ∷ f 0 7 ∷ f 1 7 ∷ f 2 7 ∷ f 3 7 ∷ []
 
 -- a number that may be a limit of coefficients
 abbrev pub IsLimit : ℤ → Type 0

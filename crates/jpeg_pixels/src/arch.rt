@@ -143,7 +143,7 @@ fn products(coefficients: [i16; 64], quantization_table: &[u16; 64], at: usize) 
 }
 
 /// Returns whether every coefficient outside the top left 4x4 corner is 0.
-pub(crate) fn is_in_corner(coefficients: [i16; 64]) -> bool
+fn is_in_corner(coefficients: [i16; 64]) -> bool
     ensures { IsTrue result ↔ IsInCorner coefficients }
 {
     let upper = i16x8::from_slice(&coefficients[..])
@@ -282,7 +282,7 @@ fn transform(coefficients: [i16; 64], quantization_table: &[u16; 64]) -> Rows
 
 /// Returns the sums of the samples, before the last shift.
 #[tactic(auto, using(crate::proofs::ShortLanes::rows))]
-pub(crate) fn sums_of(coefficients: [i16; 64], quantization_table: &[u16; 64]) -> [[i32; 8]; 8]
+fn sums_of(coefficients: [i16; 64], quantization_table: &[u16; 64]) -> [[i32; 8]; 8]
     ensures { (y x : ℕ) → y < 8 → x < 8 → slice_index_or (slice_index_or result y []) x (pos 0)
         ≡ int_wrap w32 (transformed (column_value coefficients quantization_table.now y) x +ℤ pos
         16842752) }
@@ -314,7 +314,7 @@ fn write_samples(sums: &[i32; 8], output: &mut [u8])
 
 /// Returns the samples of a block, line by line. They are in an array of their own, which is known
 /// to be apart from the sums, so that their clamps are vectorised.
-pub(crate) fn samples_of(sums: &[[i32; 8]; 8]) -> [u8; 64]
+fn samples_of(sums: &[[i32; 8]; 8]) -> [u8; 64]
     ensures { (x y : ℕ) → x < 8 → y < 8 → slice_index result (y * 8 + x)
         ≡ clamped (int_shr (slice_index_or (slice_index_or sums.now y []) x (pos 0)) 17) }
 {
@@ -336,7 +336,7 @@ fn copy_line(line: &[u8], output: &mut [u8])
 }
 
 /// Copies the samples of a block, line by line.
-pub(crate) fn copy_lines(samples: &[u8; 64], output_linestride: usize, output: &mut [u8])
+fn copy_lines(samples: &[u8; 64], output_linestride: usize, output: &mut [u8])
     requires wide { 8 ≤ output_linestride }
     requires room { 7 * output_linestride + 8 ≤ length output.old }
     ensures { WritesBlock 8 8 output_linestride (λ x y. slice_index samples.now (y * 8 + x))
@@ -353,6 +353,7 @@ pub(crate) fn copy_lines(samples: &[u8; 64], output_linestride: usize, output: &
 
 /// Dequantizes a block of 8x8 coefficients and transforms it to 8x8 samples, like
 /// `idct::dequantize_and_idct_block_8x8`: eight columns side by side, and then eight rows.
+#[inline(never)]
 #[tactic(auto, unfolding(crate::specs::Samples::sample))]
 pub fn dequantize_and_idct_block_8x8(
     coefficients: &[i16; 64],
