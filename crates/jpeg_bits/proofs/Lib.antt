@@ -23,5 +23,6 @@ pub mod BandSteps
 pub mod PieceWalks
 pub mod RefinedBands
 pub mod BlockParts
+pub mod BlockLines
 pub mod DcAlone
 pub mod ZigzagIndices

@@ -27,3 +27,4 @@ pub mod Lookups
 pub mod Pieces
 pub mod Masks
 pub mod ZigzagParts
+pub mod BlockLines

@@ -13,6 +13,7 @@ ghost use Rattle.jpeg_bits.specs.ZigzagParts.{band_in, KeepsOthers};
 ghost use Rattle.jpeg_bits.specs.Passes.{band_size};
 ghost use Rattle.jpeg_bits.specs.Skips.{kept, kept_from, run_part};
 
+pub mod bands;
 mod pass;
 mod refinement;
 mod tokens;

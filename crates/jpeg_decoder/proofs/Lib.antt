@@ -14,6 +14,8 @@ pub mod Walks
 pub mod OrderedWalks
 pub mod ScanOrders
 pub mod BlockSteps
+pub mod LinesOfBlocks
+pub mod PartTurns
 pub mod KeptSpots
 pub mod StripRows
 pub mod RowBuffers

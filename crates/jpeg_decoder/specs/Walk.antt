@@ -85,6 +85,13 @@ members_from slot (c ∷ more) = part_members slot c ++ members_from (slot + 1) 
 abbrev pub own_member : Grid → Member
 own_member g = record { slot = 0; first = 0; across = 1; down = g.wide }
 
+-- the blocks of a component that is alone, from an index on, and those of some lines, from one on
+abbrev pub line_spots : ℕ → ℕ → List Spot
+line_spots first n = map (λ k. record { slot = 0; index = k }) (range_with_len first n)
+
+abbrev pub rows_spots : Grid → ℕ → ℕ → List Spot
+rows_spots g row n = flat_map (λ r. line_spots (r * g.wide) g.own_wide) (range_with_len row n)
+
 -- ---- the order of a scan
 
 -- the blocks of all its MCUs, and of those in a row of the frame's MCUs

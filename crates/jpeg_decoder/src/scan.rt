@@ -5,6 +5,7 @@ pub mod blocks;
 pub mod coded;
 pub mod codings;
 pub mod decoded;
+pub mod kept;
 pub mod lossless;
 pub mod order;
 pub mod planes;

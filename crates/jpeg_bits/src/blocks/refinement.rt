@@ -381,7 +381,7 @@ fn set_refined_category_error(alloc: Global, category: u8, refusal: &mut Option<
 
 /// Reads the band of a block in a refinement, and how many blocks after this one have no tokens.
 #[inline(always)]
-fn read_refined_coefficients<R: Read + Drop>(
+pub(crate) fn read_refined_coefficients<R: Read + Drop>(
     buffered: &mut BufferedBits,
     source: &mut Source<R>,
     table: &HuffmanTable,

@@ -164,7 +164,7 @@ pub(crate) fn shifted(value: i16, point: u8) -> i16
 /// Reads the band of a block in a first pass, and the blocks of the run that follows. A refusal
 /// is stored in `refusal`, and none is returned.
 #[inline(always)]
-fn read_first_coefficients<R: Read + Drop>(
+pub(crate) fn read_first_coefficients<R: Read + Drop>(
     buffered: &mut BufferedBits,
     source: &mut Source<R>,
     table: &HuffmanTable,

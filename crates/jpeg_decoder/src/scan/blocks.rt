@@ -1,32 +1,25 @@
 //! The blocks of a scan in order, in every pass (T.81, A.2).
 ghost use Rattle.std.specs.Prelude.{None, OnOk, is_some, true, false, length};
-ghost use Rattle.std.specs.Prelude.{◌≡◌, ◌≤◌, ◌<◌, ◌*◌};
+ghost use Rattle.std.specs.Prelude.{◌≡◌, ◌<◌};
 ghost use Rattle.std.specs.List.{AllByRecursion};
 ghost use Rattle.jpeg_bits.specs.Refusals.{outcome_of};
-ghost use Rattle.jpeg_bits.specs.Reading.{Answers};
 ghost use Rattle.jpeg_bits.specs.Entropy.{Takes, fresh};
 ghost use Rattle.jpeg_bits.specs.Passes.{predictors_at_start};
-ghost use Rattle.jpeg_segments.specs.FrameView.{frame_in};
 ghost use Rattle.jpeg_streams.specs.InTurn.{begun_from, blocks_from};
-ghost use Rattle.jpeg_streams.specs.InTurn.{scan_from, Fits, AreArrays};
-ghost use Rattle.jpeg_streams.specs.Order.{spots_of, mcu_size};
-ghost use Rattle.jpeg_streams.specs.Scans.{Arrays, arrays_at};
+ghost use Rattle.jpeg_streams.specs.Scans.{Arrays};
 ghost use Rattle.jpeg_decoder.specs.Scanning.{IsKeptBlock, IsSpotOf, IsStored};
-ghost use Rattle.jpeg_decoder.specs.Scanning.{scan_pass, scan_vias, scan_components};
+ghost use Rattle.jpeg_decoder.specs.Scanning.{scan_pass, scan_vias};
 ghost use Rattle.jpeg_decoder.specs.Scanning.{arrays_in, sizes_of, reached, counted};
 ghost use Rattle.jpeg_decoder.specs.Scanning.{kept_blocks, kept_counted};
 
 use crate::scan::block_array::BlockArray;
 use crate::scan::coded::Scan;
-use crate::scan::order::ScanOrder;
 use crate::scan::restarts::read_restart;
 use crate::scan::spots::{Spot, Spots};
 use jpeg_bits::blocks::{BlockCoding, Carried, take_block};
 use jpeg_bits::error::{Error, Result, take_refusal};
 use jpeg_bits::huffman::HuffmanDecoder;
-use jpeg_bits::marker::Marker;
 use jpeg_bits::source::Source;
-use jpeg_segments::parser::FrameInfo;
 use std::alloc::{AllocError, Global};
 use std::io::Read;
 
@@ -38,10 +31,13 @@ pub struct Interval {
     alloc: Global,
     /// The entropy decoder.
     pub decoder: HuffmanDecoder,
-    carried: Carried,
-    left: u64,
+    /// What the last block has left for the next ones.
+    pub carried: Carried,
+    /// The number of blocks that are left of the restart interval.
+    pub left: u64,
     number: u8,
-    refusal: Option<Error>,
+    /// A refusal.
+    pub refusal: Option<Error>,
 }
 
 /// Makes the state at the start of a scan, where a restart interval has `left` blocks; 0 is no
@@ -66,13 +62,17 @@ pub fn first_interval(alloc: Global, left: u64) -> Interval
     }
 }
 
-/// Begins the next restart interval, of `n` blocks, where no block is left of this one.
+/// Begins the next restart interval, of `n` blocks, where no block is left of this one. A refusal is
+/// stored in the interval's, and false is returned.
 #[tactic(auto, using(crate::proofs::BlockSteps::begun_rules))]
-fn begin<R: Read + Drop>(interval: &mut Interval, source: &mut Source<R>, n: u64) -> bool
+pub fn begin<R: Read + Drop>(interval: &mut Interval, source: &mut Source<R>, n: u64) -> bool
     ensures begun { (arrays : Arrays) → Takes (λ _. counted interval.new arrays)
         (begun_from n (counted interval.old arrays))
         interval.old.decoder source.old (outcome_of result interval.new.refusal)
         interval.new.decoder source.new }
+    ensures some { result ≡ true → 0 < n → 0 < interval.new.left }
+    ensures four { result ≡ true → length interval.old.carried.predictors ≡ 4
+        → length interval.new.carried.predictors ≡ 4 }
     ensures refused { result ≡ false → is_some interval.new.refusal ≡ true }
 {
     if n == 0 {
@@ -149,58 +149,4 @@ pub fn read_spots<R: Read + Drop>(
         interval.left = interval.left.saturating_sub(1);
     }
     Ok(())
-}
-
-/// Reads the blocks at some spots, in restart intervals of `n` blocks, or in one where `n` is 0,
-/// and returns the marker after them, if it was reached.
-#[tactic(auto, unfolding(jpeg_streams::specs::InTurn::scan_from))]
-fn read_intervals<R: Read + Drop>(
-    alloc: Global,
-    source: &mut Source<R>,
-    scan: &Scan<'_>,
-    arrays: &mut Vec<BlockArray>,
-    n: u64,
-    spots: &mut Spots<'_>,
-) -> Result<Option<Marker>>
-    requires keeps { scan.now.keeps_ac ≡ true }
-    requires spots { AllByRecursion (IsSpotOf (length scan.now.components.items)
-        (sizes_of arrays.now.items)) spots.old }
-    ensures sizes { sizes_of arrays.new.items ≡ sizes_of arrays.old.items }
-    ensures scan { Answers (λ m. (arrays_in arrays.new.items, m))
-        (scan_from (scan_pass scan.now) (scan_vias scan.now) n spots.old
-        (arrays_in arrays.old.items))
-        source.old result source.new }
-{
-    let mut interval = first_interval(alloc, n);
-    read_spots(&mut interval, source, scan, arrays, n, spots)?;
-    interval.decoder.take_marker(source)
-}
-
-/// Reads a scan of a frame on the blocks that are kept of its components, and returns the marker
-/// after it, if it was reached.
-///
-/// The errors are those of the source, a refused code or category (T.81, F.2.2), a restart marker
-/// that is missing or out of turn, and out of memory.
-pub fn read_blocks<R: Read + Drop>(
-    alloc: Global,
-    source: &mut Source<R>,
-    scan: &Scan<'_>,
-    arrays: &mut Vec<BlockArray>,
-    frame: &FrameInfo,
-) -> Result<Option<Marker>>
-    requires keeps { scan.now.keeps_ac ≡ true }
-    requires some { 1 ≤ length scan.now.components.items }
-    requires fits { AllByRecursion (Fits (frame_in frame.now)) (scan_components scan.now) }
-    requires arrays { AreArrays (scan_components scan.now) (arrays_in arrays.now.items) }
-    ensures sizes { sizes_of arrays.new.items ≡ sizes_of arrays.old.items }
-    ensures scan { Answers (λ m. (arrays_in arrays.new.items, m))
-        (arrays_at (scan_pass scan.now)
-        (scan.now.restart_interval * mcu_size (scan_components scan.now))
-        (scan_vias scan.now) (spots_of (frame_in frame.now) (scan_components scan.now))
-        (arrays_in arrays.old.items))
-        source.old result source.new }
-{
-    let order = ScanOrder::new(alloc, scan, frame)?;
-    let mut spots = order.spots();
-    read_intervals(alloc, source, scan, arrays, order.interval, &mut spots)
 }

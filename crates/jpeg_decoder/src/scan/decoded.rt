@@ -18,8 +18,8 @@ ghost use Rattle.jpeg_decoder.specs.Steps.{blocks_at, coding_in, without_blocks,
 ghost use Rattle.jpeg_bits.specs.Passes.{whole_pass};
 
 use crate::scan::block_array::{BlockArray, fill_all};
-use crate::scan::blocks::read_blocks;
 use crate::scan::coded::{Coded, Scan, is_progressive};
+use crate::scan::kept::read_blocks;
 use crate::scan::planes::Planes;
 use crate::scan::rows::read_planes;
 use crate::scan::strips::{GrowingPlanes, append_rows, empty_planes, plane_size, sample_table};
