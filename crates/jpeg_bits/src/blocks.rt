@@ -22,7 +22,8 @@ mod zigzag;
 pub use crate::blocks::pass::Pass;
 use crate::blocks::refinement::{correct_band, lacks_bit, read_refined_band, unit};
 use crate::blocks::tokens::{
-    read_difference, read_first_band, shifted, skip_first_band, wrapped_sum,
+    read_difference, read_first_band, read_first_coefficients, shifted, skip_first_band,
+    wrapped_sum,
 };
 use crate::error::{Error, Result, take_refusal};
 use crate::huffman::ahead::BufferedBits;
@@ -89,7 +90,7 @@ fn with_bit(value: i16, al: u8) -> i16
 
 /// Reads the DC coefficient of a block, in a pass that begins with it. A refusal is stored in
 /// `refusal`, and false is returned.
-#[inline]
+#[inline(always)]
 #[tactic(auto, using(crate::proofs::BlockParts::dc_rules))]
 fn read_dc<R: Read + Drop>(
     buffered: &mut BufferedBits,
@@ -267,6 +268,76 @@ pub fn take_block<R: Read + Drop>(
         return skip_band(buffered, source, coding, &mut carried.run, refusal);
     }
     read_band(buffered, source, coding, &mut carried.run, block, refusal)
+}
+
+/// Reads the band of a block as `read_band` does, in a first pass that has one.
+#[inline(always)]
+#[tactic(auto, using(crate::proofs::BlockParts::band_rules))]
+fn read_inlined_band<R: Read + Drop>(
+    buffered: &mut BufferedBits,
+    source: &mut Source<R>,
+    coding: &BlockCoding<'_>,
+    run: &mut u16,
+    block: &mut [i16; 64],
+    refusal: &mut Option<Error>,
+) -> bool
+    requires first { coding.now.pass.is_first ≡ true }
+    requires some { 0 < coding.now.pass.se }
+    ensures band { Takes (λ _. (band_in (pass_in coding.now.pass) block.new, run.new))
+        (band_part (pass_in coding.now.pass) coding.now.ac_table.now
+        (band_in (pass_in coding.now.pass) block.old) run.old)
+        buffered.old source.old (outcome_of result refusal.new) buffered.new source.new }
+    ensures others { KeepsOthers (pass_in coding.now.pass) block.old block.new }
+    ensures refused { result ≡ false → is_some refusal.new ≡ true }
+{
+    if *run > 0 {
+        *run -= 1;
+        return true;
+    }
+    let table = coding.ac_table;
+    match read_first_coefficients(buffered, source, table, coding.pass, block, refusal) {
+        Some(blocks) => {
+            *run = blocks;
+            true
+        }
+        None => false,
+    }
+}
+
+/// Reads a block as `take_block` does, in a first pass that begins with DC and has a band. Where
+/// the pass is constant, so are its limits, and the bits of a local decoder stay in registers from
+/// block to block.
+#[inline(always)]
+pub fn take_inlined_block<R: Read + Drop>(
+    decoder: &mut HuffmanDecoder,
+    source: &mut Source<R>,
+    coding: &BlockCoding<'_>,
+    carried: &mut Carried,
+    block: &mut [i16; 64],
+    refusal: &mut Option<Error>,
+) -> bool
+    requires first { coding.now.pass.is_first ≡ true }
+    requires dc { coding.now.pass.ss ≡ 0 }
+    requires some { 0 < coding.now.pass.se }
+    ensures block { Takes (λ _. (
+      kept coding.now.keeps_ac (to_block block.new),
+      predictor_at coding.now.slot carried.new,
+      carried.new.run,
+    ))
+        (kept_from coding.now.keeps_ac
+        (block_from (pass_in coding.now.pass) coding.now.dc_table.now coding.now.ac_table.now
+        (predictor_at coding.now.slot carried.old) carried.old.run (to_block block.old)))
+        decoder.old source.old (outcome_of result refusal.new) decoder.new source.new }
+    ensures others { carried.new.predictors ≡ set carried.old.predictors coding.now.slot
+        (predictor_at coding.now.slot carried.new) }
+    ensures refused { result ≡ false → is_some refusal.new ≡ true }
+{
+    let buffered = &mut decoder.buffered;
+    let predictor = &mut carried.predictors[coding.slot];
+    if !read_dc(buffered, source, coding, predictor, block, refusal) {
+        return false;
+    }
+    read_inlined_band(buffered, source, coding, &mut carried.run, block, refusal)
 }
 
 /// Reads what a pass codes of a block, in block order, on top of the coefficients that it has so

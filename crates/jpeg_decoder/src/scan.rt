@@ -7,6 +7,7 @@ pub mod codings;
 pub mod decoded;
 pub mod kept;
 pub mod lossless;
+pub mod mcus;
 pub mod order;
 pub mod planes;
 pub mod raster;

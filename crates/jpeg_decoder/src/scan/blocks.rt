@@ -31,12 +31,12 @@ pub struct Interval {
     alloc: Global,
     /// The entropy decoder.
     pub decoder: HuffmanDecoder,
-    /// What the last block has left for the next ones.
+    /// What a block leaves for those after it.
     pub carried: Carried,
     /// The number of blocks that are left of the restart interval.
     pub left: u64,
     number: u8,
-    /// A refusal.
+    /// Why a block or a restart marker was refused.
     pub refusal: Option<Error>,
 }
 
@@ -64,6 +64,7 @@ pub fn first_interval(alloc: Global, left: u64) -> Interval
 
 /// Begins the next restart interval, of `n` blocks, where no block is left of this one. A refusal is
 /// stored in the interval's, and false is returned.
+#[inline]
 #[tactic(auto, using(crate::proofs::BlockSteps::begun_rules))]
 pub fn begin<R: Read + Drop>(interval: &mut Interval, source: &mut Source<R>, n: u64) -> bool
     ensures begun { (arrays : Arrays) → Takes (λ _. counted interval.new arrays)
@@ -94,7 +95,7 @@ pub fn begin<R: Read + Drop>(interval: &mut Interval, source: &mut Source<R>, n:
 
 /// Stores the block at a spot.
 #[inline]
-fn reach(arrays: &mut Vec<BlockArray>, spot: Spot) -> std::result::Result<(), AllocError>
+pub fn reach(arrays: &mut Vec<BlockArray>, spot: Spot) -> std::result::Result<(), AllocError>
     requires { IsKeptBlock (sizes_of arrays.old.items) spot.slot spot.index }
     ensures arrays { arrays_in arrays.new.items ≡ arrays_in arrays.old.items }
     ensures sizes { sizes_of arrays.new.items ≡ sizes_of arrays.old.items }

@@ -10,8 +10,9 @@ ghost use Rattle.jpeg_decoder.specs.Strips.{no_samples, planes_by_rows};
 ghost use Rattle.jpeg_decoder.specs.GrowingView.{GrowsFor, growing_in, is_joint};
 
 use crate::scan::block_array::fill_all;
-use crate::scan::blocks::{first_interval, read_spots};
+use crate::scan::blocks::first_interval;
 use crate::scan::coded::Scan;
+use crate::scan::mcus::read_mcus;
 use crate::scan::order::ScanOrder;
 use crate::scan::strips::{GrowingPlanes, append_strips, clear_rows, row_buffers, sample_tables};
 use jpeg_bits::error::Result;
@@ -61,7 +62,7 @@ pub fn read_planes<R: Read + Drop>(
     for row in 0..order.rows {
         clear_rows(&mut rows);
         let mut spots = order.row(row);
-        read_spots(
+        read_mcus(
             &mut interval,
             source,
             scan,

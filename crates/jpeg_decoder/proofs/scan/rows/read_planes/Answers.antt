@@ -51,8 +51,8 @@ loop-row-init g c =
       strips = grind (arith, common_steps, whole-rows);
     }
 
-pub read_spots-requires : goal.read_spots-requires
-read_spots-requires g c =
+pub read_mcus-requires : goal.read_mcus-requires
+read_mcus-requires g c =
     let cs = c.args.scan.now.components.items in
     let o = c.in_ok-order.order in
     let l = c.loop-row in
@@ -65,9 +65,9 @@ read_spots-requires g c =
           o.rows c.loop-row-test.true l.invariant.spots));
     }
 
-pub returns-in_err-read_spots-clause-planes : goal.returns-in_err-read_spots-clause-planes
-returns-in_err-read_spots-clause-planes g c =
-    let e = err_from_is_err_and c.from_residual-in_err-read_spots.result c.from_residual-in_err-read_spots.ensures.1 in
+pub returns-in_err-read_mcus-clause-planes : goal.returns-in_err-read_mcus-clause-planes
+returns-in_err-read_mcus-clause-planes g c =
+    let e = err_from_is_err_and c.from_residual-in_err-read_mcus.result c.from_residual-in_err-read_mcus.ensures.1 in
     let cs = c.args.scan.now.components.items in
     let o = c.in_ok-order.order in
     let p = pass_in c.args.scan.now.pass in
@@ -79,21 +79,21 @@ returns-in_err-read_spots-clause-planes g c =
     let none : zeros ≡ zero_rows 1 (components_of codings) = search (rules, zeros-are) in
     rw (e.1, e.2) (rows-refused (frame_in c.args.frame.now) cs p (vias_in 0 cs) c.args.scan.now.restart_interval o
     c.in_ok-order.ensures (growing_in c.args.planes.now) c.args.source.now
-    (λ (u : Unit {0}). planes) (λ (m : Option Marker). (planes, m)) c.read_spots.new.interval.decoder
-    c.read_spots.new.source _
+    (λ (u : Unit {0}). planes) (λ (m : Option Marker). (planes, m)) c.read_mcus.new.interval.decoder
+    c.read_mcus.new.source _
     (refused_after (λ (u : Unit {0}). planes) (λ (u : Unit {0}). kept_counted c.args.scan.now.keeps_ac
-    (counted c.read_spots.new.interval (arrays_in c.read_spots.new.arrays.items)))
+    (counted c.read_mcus.new.interval (arrays_in c.read_mcus.new.arrays.items)))
     (strips_from p (vias_in 0 cs) o.interval codings (walks_of_rows o)
     (growing_in c.args.planes.now) (counted_at_start o.interval []))
     (strips_from p (vias_in 0 cs) o.interval codings (map f (range_with_len l.row (o.rows - l.row))) planes
     (counted l.interval []))
     (kept_blocks c.args.scan.now.keeps_ac
     (blocks_from p (vias_in 0 cs) o.interval c.row-spots.result (counted l.interval zeros)))
-    fresh l.interval.decoder c.read_spots.new.interval.decoder c.args.source.now l.source c.read_spots.new.source _
+    fresh l.interval.decoder c.read_mcus.new.interval.decoder c.args.source.now l.source c.read_mcus.new.source _
     (λ t fault h. strips_refused p (vias_in 0 cs) o.interval codings f c.row-spots.result l.row o.rows planes zeros
     (counted l.interval []) t fault c.loop-row-test.true none c.row-spots.ensures
     (kept-refused c.args.scan.now.keeps_ac _ fault h))
-    l.invariant.strips c.in_err-read_spots.ensures.blocks))
+    l.invariant.strips c.in_err-read_mcus.ensures.blocks))
 
 pub loop-row-preserved : goal.loop-row-preserved
 loop-row-preserved g c =
@@ -109,8 +109,8 @@ loop-row-preserved g c =
     let zeros = arrays_in c.clear_rows.new.rows.items in
     let none : zeros ≡ zero_rows 1 (components_of codings) = c.clear_rows.ensures.zeros
     ∙ ap zeros_of l.invariant.sizes ∙ zeros-are cs in
-    let q = c.in_ok-read_spots.ensures in
-    let read = c.read_spots.new.arrays.items in
+    let q = c.in_ok-read_mcus.ensures in
+    let read = c.read_mcus.new.arrays.items in
     let sizes : sizes_of read ≡ row_sizes cs = q.sizes ∙ c.clear_rows.ensures.sizes ∙ l.invariant.sizes in
     let whole = c.in_ok-fill_all.ensures in
     let made : growing_in c.append_strips.new.planes ≡ with_strips codings (arrays_in read) planes
@@ -132,14 +132,14 @@ loop-row-preserved g c =
               by.0,
               at.1
                   ∙ strips_kept c.args.scan.now.keeps_ac p (vias_in 0 cs) n codings f c.row-spots.result l.row high planes
-                  zeros (counted l.interval []) (counted c.read_spots.new.interval (arrays_in read))
+                  zeros (counted l.interval []) (counted c.read_mcus.new.interval (arrays_in read))
                   (upcoming l.interval.decoder l.source.bytes)
-                  (upcoming c.read_spots.new.interval.decoder c.read_spots.new.source.bytes)
+                  (upcoming c.read_mcus.new.interval.decoder c.read_mcus.new.source.bytes)
                   (λ alone. one-a-side cs (c.args.scan.now.dc_alone alone).1) c.loop-row-test.true
                   none c.row-spots.ensures by.1
                   ∙ ap (λ (x : List (List ℕ)). strips_from p (vias_in 0 cs) n codings (map f (range_with_len
-                  (l.row + 1) (high - (l.row + 1)))) x (counted c.read_spots.new.interval [])
-                  (upcoming c.read_spots.new.interval.decoder c.read_spots.new.source.bytes)) (sym made),
+                  (l.row + 1) (high - (l.row + 1)))) x (counted c.read_mcus.new.interval [])
+                  (upcoming c.read_mcus.new.interval.decoder c.read_mcus.new.source.bytes)) (sym made),
             ),
       );
     }

@@ -1,0 +1,156 @@
+//! The blocks of a sequential scan, each of which is coded at once (T.81, F.2.2).
+ghost use Rattle.std.specs.Prelude.{is_some, true, false, length, ◌≡◌};
+ghost use Rattle.std.specs.List.{AllByRecursion};
+ghost use Rattle.jpeg_bits.specs.BlockView.{pass_in};
+ghost use Rattle.jpeg_bits.specs.Refusals.{outcome_of};
+ghost use Rattle.jpeg_bits.specs.Entropy.{Takes};
+ghost use Rattle.jpeg_bits.specs.Passes.{whole_pass};
+ghost use Rattle.jpeg_streams.specs.InTurn.{begun_from, blocks_from};
+ghost use Rattle.jpeg_streams.specs.Scans.{Arrays};
+ghost use Rattle.jpeg_decoder.specs.Scanning.{IsSpotOf};
+ghost use Rattle.jpeg_decoder.specs.Scanning.{scan_pass, scan_vias};
+ghost use Rattle.jpeg_decoder.specs.Scanning.{arrays_in, sizes_of, counted};
+ghost use Rattle.jpeg_decoder.specs.Scanning.{kept_blocks, kept_counted};
+
+use crate::scan::block_array::BlockArray;
+use crate::scan::blocks::{Interval, begin, reach, read_spots};
+use crate::scan::coded::Scan;
+use crate::scan::spots::Spots;
+use jpeg_bits::blocks::{BlockCoding, Carried, Pass, take_inlined_block};
+use jpeg_bits::error::{Result, take_refusal};
+use jpeg_bits::huffman::HuffmanDecoder;
+use jpeg_bits::source::Source;
+use std::io::Read;
+
+/// The pass of a sequential scan. Where it is constant, so are the limits of a band, and nothing is
+/// shifted.
+const WHOLE: Pass = Pass {
+    is_first: true,
+    ss: 0,
+    se: 63,
+    al: 0,
+};
+
+/// Returns whether a pass codes all of a block at once.
+fn is_whole(pass: Pass) -> bool
+    ensures { result ≡ true → pass_in pass ≡ whole_pass }
+{
+    pass.is_first && pass.ss == 0 && pass.se == 63 && pass.al == 0
+}
+
+/// Begins the next restart interval as `begin` does, where the blocks are read by locals in place
+/// of what `interval` has. A refusal is stored in `interval`, and false is returned.
+#[inline(always)]
+#[tactic(auto, using(crate::proofs::BlockSteps::begun_rules))]
+fn begin_by<R: Read + Drop>(
+    decoder: &mut HuffmanDecoder,
+    carried: &mut Carried,
+    left: &mut u64,
+    interval: &mut Interval,
+    source: &mut Source<R>,
+    n: u64,
+) -> bool
+    ensures begun { (arrays : Arrays)
+        → Takes
+        (λ _. counted (record interval.new { carried = carried.new; left = left.new }) arrays)
+        (begun_from n
+        (counted (record interval.old { carried = carried.old; left = left.old }) arrays))
+        decoder.old source.old (outcome_of result interval.new.refusal)
+        decoder.new source.new }
+    ensures refused { result ≡ false → is_some interval.new.refusal ≡ true }
+{
+    if n == 0 || *left > 0 {
+        return true;
+    }
+    // The address of a local goes to no call, so that it can stay in registers.
+    interval.decoder = decoder.copied();
+    interval.carried = *carried;
+    interval.left = *left;
+    let has_begun = begin(interval, source, n);
+    *decoder = interval.decoder.copied();
+    *carried = interval.carried;
+    *left = interval.left;
+    has_begun
+}
+
+/// Reads the blocks at some spots as `read_spots` does, each of them whole, by locals: the bits
+/// stay in registers from block to block.
+#[inline(never)]
+#[tactic(auto, using(crate::proofs::KeptScans::kept_rules))]
+fn read_whole<R: Read + Drop>(
+    interval: &mut Interval,
+    source: &mut Source<R>,
+    scan: &Scan<'_>,
+    arrays: &mut Vec<BlockArray>,
+    n: u64,
+    spots: &mut Spots<'_>,
+) -> Result<()>
+    requires whole { scan_pass scan.now ≡ whole_pass }
+    requires spots { AllByRecursion (IsSpotOf (length scan.now.components.items)
+        (sizes_of arrays.now.items)) spots.old }
+    ensures sizes { sizes_of arrays.new.items ≡ sizes_of arrays.old.items }
+    ensures blocks { Takes (λ _. kept_counted scan.now.keeps_ac
+        (counted interval.new (arrays_in arrays.new.items)))
+        (kept_blocks scan.now.keeps_ac (blocks_from (scan_pass scan.now) (scan_vias scan.now) n
+        spots.old (counted interval.old (arrays_in arrays.old.items))))
+        interval.old.decoder source.old result interval.new.decoder source.new }
+{
+    let mut decoder = interval.decoder.copied();
+    let mut carried = interval.carried;
+    let mut left = interval.left;
+    while let Some(spot) = spots.next() {
+        reach(arrays, spot)?;
+        if !begin_by(&mut decoder, &mut carried, &mut left, interval, source, n) {
+            return Err(take_refusal(&mut interval.refusal));
+        }
+        let coded = &scan.components[spot.slot];
+        let coding = BlockCoding {
+            pass: WHOLE,
+            slot: spot.slot,
+            dc_table: coded.dc,
+            ac_table: coded.ac,
+            keeps_ac: scan.keeps_ac,
+        };
+        if !take_inlined_block(
+            &mut decoder,
+            source,
+            &coding,
+            &mut carried,
+            &mut arrays[spot.slot].blocks[spot.index],
+            &mut interval.refusal,
+        ) {
+            return Err(take_refusal(&mut interval.refusal));
+        }
+        left = left.saturating_sub(1);
+    }
+    interval.decoder = decoder;
+    interval.carried = carried;
+    interval.left = left;
+    Ok(())
+}
+
+/// Reads the blocks at some spots of a sequential scan, in restart intervals of `n` blocks, or in
+/// one where `n` is 0. Where the scan doesn't keep AC coefficients, those of the arrays mean
+/// nothing after it.
+pub fn read_mcus<R: Read + Drop>(
+    interval: &mut Interval,
+    source: &mut Source<R>,
+    scan: &Scan<'_>,
+    arrays: &mut Vec<BlockArray>,
+    n: u64,
+    spots: &mut Spots<'_>,
+) -> Result<()>
+    requires spots { AllByRecursion (IsSpotOf (length scan.now.components.items)
+        (sizes_of arrays.now.items)) spots.old }
+    ensures sizes { sizes_of arrays.new.items ≡ sizes_of arrays.old.items }
+    ensures blocks { Takes (λ _. kept_counted scan.now.keeps_ac
+        (counted interval.new (arrays_in arrays.new.items)))
+        (kept_blocks scan.now.keeps_ac (blocks_from (scan_pass scan.now) (scan_vias scan.now) n
+        spots.old (counted interval.old (arrays_in arrays.old.items))))
+        interval.old.decoder source.old result interval.new.decoder source.new }
+{
+    if scan.keeps_ac && is_whole(scan.pass) {
+        return read_whole(interval, source, scan, arrays, n, spots);
+    }
+    read_spots(interval, source, scan, arrays, n, spots)
+}
