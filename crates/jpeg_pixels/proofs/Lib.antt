@@ -5,6 +5,7 @@ pub mod ShortLanes
 pub mod Corners
 pub mod Sums
 pub mod Fours
+pub mod HalfLanes
 pub mod RuleRatios
 pub mod FrameCovers
 pub mod ComponentLines

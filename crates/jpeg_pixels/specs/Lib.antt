@@ -14,6 +14,7 @@ pub mod PicturesView
 pub mod Workers
 pub mod GrowingView
 pub mod ShortRows
+pub mod HalfRows
 pub mod JointPlanes
 pub mod Lines
 pub mod LinesView

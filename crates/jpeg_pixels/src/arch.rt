@@ -132,7 +132,7 @@ fn transpose(rows: Rows) -> Rows
     }
 }
 
-fn products(coefficients: [i16; 64], quantization_table: &[u16; 64], at: usize) -> i32x8
+pub(crate) fn products(coefficients: [i16; 64], quantization_table: &[u16; 64], at: usize) -> i32x8
     requires { at + 8 ≤ 64 }
     ensures { result ≡ lanes (λ j. slice_index_or coefficients (at + j) (pos 0) *ℤ pos
         (slice_index quantization_table.now (at + j))) }

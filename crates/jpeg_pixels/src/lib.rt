@@ -6,6 +6,7 @@ mod color_convert;
 mod color_rows;
 mod fixed_point;
 mod growing_plane;
+mod half_block;
 pub mod idct;
 pub mod joint_planes;
 pub mod laws;
