@@ -64,7 +64,7 @@ pub fn first_interval(alloc: Global, left: u64) -> Interval
 
 /// Begins the next restart interval, of `n` blocks, where no block is left of this one. A refusal is
 /// stored in the interval's, and false is returned.
-#[inline]
+#[inline(always)]
 #[tactic(auto, using(crate::proofs::BlockSteps::begun_rules))]
 pub fn begin<R: Read + Drop>(interval: &mut Interval, source: &mut Source<R>, n: u64) -> bool
     ensures begun { (arrays : Arrays) → Takes (λ _. counted interval.new arrays)
