@@ -1,45 +1,46 @@
 -- Coefficients have data in each legal scan, by any tables that suffice.
-use Rattle.std.proofs.Common.{rules, false, replicate, length, get_or, negsuc, unsigned_abs, subst, append_assoc}
-use Rattle.std.proofs.Common.{arith, ◌≡◌, ◌≢◌, ◌⊎◌, inl, inr, zero, suc, ◌==◌, Bool, true, List, ◌++◌, refl, ℕ}
-use Rattle.std.proofs.Common.{◌+◌, ◌-◌, ◌*◌, ◌/◌, ◌%◌, ◌^◌, ◌<◌, ◌≤◌, [], ◌∷◌, set, ℤ, pos, sym, ap, ap₂, ◌∙◌}
-use Rattle.std.proofs.Common.{length-append, not, map, flat_map, Option, Some, None, take, drop, neg_ℤ, filter}
+use Rattle.std.proofs.Common.{[], ap, append_assoc, ap₂, arith, Bool, drop, false, filter, flat_map, get_or, inl, inr}
+use Rattle.std.proofs.Common.{length, length-append, List, map, neg_ℤ, negsuc, None, not, Option, pos, refl, rules}
+use Rattle.std.proofs.Common.{set, Some, subst, suc, sym, take, true, unsigned_abs, zero, ℕ, ℤ, ◌%◌, ◌*◌, ◌++◌, ◌+◌}
+use Rattle.std.proofs.Common.{◌-◌, ◌/◌, ◌<◌, ◌^◌, ◌∙◌, ◌∷◌, ◌≡◌, ◌≢◌, ◌≤◌, ◌⊎◌}
 use Rattle.std.proofs.Math.Nat.{div-le_self}
 use Rattle.std.proofs.lemmas.Bool.{cases_lt}
 use Rattle.std.proofs.lemmas.List.{append-nil, replicate-append-replicate}
 use Rattle.std.proofs.lemmas.List.Elements.{filter-append}
 use Rattle.std.specs.List.{AllByRecursion, range_with_len}
-use Rattle.std.specs.Prelude.{slice_get, nat_le}
+use Rattle.std.specs.Prelude.{nat_le, slice_get}
 use lib.ListN.{length-map}
-use Rattle.jpeg_bits.specs.Codes.{Table}
-use Rattle.jpeg_bits.specs.Intervals.{first_group, groups, other_groups}
-use Rattle.jpeg_bits.specs.Passes.{band_of, before_band, band_size, Block, Pass, predictors_at_start, Via}
-use Rattle.jpeg_bits.specs.Written.{bit, low_bits, IsCategory, IsCoded, stuffed, WritesInterval, WritesIntervals, marker}
-use Rattle.jpeg_bits.specs.Written.WritesIntervals.{another, last as last_interval}
 use Rattle.jpeg_bits.proofs.ReadIntervals.{all-append, all-drop, all-map, all-take}
+use Rattle.jpeg_bits.proofs.WrittenIntervals.{first-all, others-all}
+use Rattle.jpeg_bits.specs.Codes.{Table}
+use Rattle.jpeg_bits.specs.Intervals.{first_group, other_groups}
+use Rattle.jpeg_bits.specs.Passes.{band_of, band_size, before_band, Block, Pass, predictors_at_start, Via}
+use Rattle.jpeg_bits.specs.Written.{IsCategory, low_bits, WritesIntervals}
 use Rattle.jpeg_segments.specs.Frame.{Component, Frame}
-use Rattle.jpeg_segments.specs.ScanHeaders.{ScanHeader, scan_written}
-use Rattle.jpeg_streams.specs.FrameSamples.{AreBytes}
+use Rattle.jpeg_segments.specs.ScanHeaders.{scan_written, ScanHeader}
 use Rattle.jpeg_streams.specs.Found.{Said}
-use Rattle.jpeg_streams.specs.Levels.{floor_at, Is8Bit, Levels, numbers_at, toward_zero}
-use Rattle.jpeg_streams.specs.Order.{all_spots, grid_of, mcu_size, mcu_spots, own_spots, part_spot, part_spots, Spot, spots_of}
-use Rattle.jpeg_streams.specs.Scans.{turns_of, via_at}
+use Rattle.jpeg_streams.specs.FrameSamples.{AreBytes}
+use Rattle.jpeg_streams.specs.Levels.{Is8Bit, Levels, numbers_at, toward_zero}
+use Rattle.jpeg_streams.specs.Order.{all_spots, grid_of, mcu_size, mcu_spots, own_spots, part_spot, part_spots, Spot}
+use Rattle.jpeg_streams.specs.Order.{spots_of}
 use Rattle.jpeg_streams.specs.ScanSegments.{Coding, components_of, pass_of, vias_from}
+use Rattle.jpeg_streams.specs.Scans.{turns_of, via_at}
 use Rattle.jpeg_streams.specs.Scripts.{greatest_category, HasAcCodes, HasDcCodes, Suffices}
-use Rattle.jpeg_streams.specs.WrittenData.{corrections, count_unknown, no_numbers, NoneNew, sign_bit}
-use Rattle.jpeg_streams.specs.WrittenData.{WritesAc, WritesBand, WritesBlocks, WritesDc, WritesDifference, WritesRefinement}
+use Rattle.jpeg_streams.specs.WrittenData.{corrections, count_unknown, no_numbers, NoneNew, WritesAc, WritesBand}
+use Rattle.jpeg_streams.specs.WrittenData.{WritesBlocks, WritesDc, WritesDifference, WritesRefinement}
 use Rattle.jpeg_streams.specs.WrittenData.WritesAc.{again, first, no_band}
 use Rattle.jpeg_streams.specs.WrittenData.WritesBand.{ended, full, sixteen, value}
+use Rattle.jpeg_streams.specs.WrittenData.WritesBlocks.{block, done}
 use Rattle.jpeg_streams.specs.WrittenData.WritesDc.{one_bit, other_band, whole}
 use Rattle.jpeg_streams.specs.WrittenData.WritesRefinement.{found, none_left, passed, refined}
 use Rattle.jpeg_streams.specs.WrittenImages.{WritesImageScan}
 use Rattle.jpeg_streams.specs.WrittenScans.{Coefficients, IsLegalScan, levels_after, WritesScan}
+use Rattle.jpeg_streams.specs.declared.grids.Grid.{Grid}
 use Rattle.jpeg_streams.proofs.BroughtLevels.{eqb_cases}
 use Rattle.jpeg_streams.proofs.CutLevels.{floor-range}
-use Rattle.jpeg_streams.proofs.EncodedImages.{BlockBits, blocks-written, category-at_most, Each, each-flat, each-map}
-use Rattle.jpeg_streams.proofs.EncodedImages.{interval-packed, own-slots, own_block, packed, zeros-shift}
-use Rattle.jpeg_streams.proofs.EncodedSamples.{marked-bytes, stuffed-bytes}
+use Rattle.jpeg_streams.proofs.EncodedParts.{all-weaker, CanWrite, category-at_most, intervals-packed}
 use Rattle.jpeg_streams.proofs.SentBlocks.{InDcRange}
-use Rattle.jpeg_streams.proofs.WrittenBlocks.{difference-range}
+use Rattle.jpeg_streams.proofs.WrittenBlocks.{difference-range, Predicts, predicts-set}
 use Rattle.jpeg_streams.proofs.WrittenFrameScans.{start-predicts}
 
 abbrev Small : ℤ → Type 0
@@ -87,6 +88,10 @@ zeros-written table zero z u more codes le ne small w =
     zeros-step table z u more codes ne small w (cases_lt z 16) (λ far. absurd (omega arith))
 zeros-written table (suc n) z u more codes le ne small w = zeros-step table z u more codes ne small w
     (cases_lt z 16) (λ far. zeros-written table n (z - 16) u more codes (omega arith) ne small w)
+
+zeros-shift : (z : ℕ) (us : List ℤ) → no_numbers (suc z) ++ us ≡ no_numbers z ++ pos 0 ∷ us
+zeros-shift zero us = refl
+zeros-shift (suc z) us = ap (λ (l : List ℤ). pos 0 ∷ l) (zeros-shift z us)
 
 band-written : (table : Table) (us : List ℤ) (z : ℕ) → HasAcCodes 10 table → AllByRecursion Small us
     → Written table (no_numbers z ++ us)
@@ -200,6 +205,15 @@ refinement-written table (negsuc (suc k) ∷ us) front n codes is le =
 
 -- ---- blocks
 
+-- the bits of a block after a prediction, and the next prediction
+record BlockBits (p : Pass) (t : Via × Block) (prediction : ℤ) : Type 0 where
+  dc : List Bool
+  ac : List Bool
+  next : ℤ
+  ranged : InDcRange next
+  writes_dc : WritesDc p t.0.dc t.1.dc prediction dc next
+  writes_ac : WritesAc p t.0.ac (band_of p t.1.acs) 0 ac 0
+
 -- A block's numbers at the level of a pass are in range, and its tables suffice.
 record CanSend (p : Pass) (t : Via × Block) : Type 0 where
   dc : p.ss ≡ 0 → p.is_first ≡ true → HasDcCodes t.0.dc
@@ -264,8 +278,8 @@ band-some p us ne (inr h) =
     let e : band_size p ≡ 0 = omega arith in
     absurd (ne (ap (λ (n : ℕ). take n (drop (before_band p) us)) e))
 
-each-sent : (p : Pass) → Each p (CanSend p)
-each-sent p t good prediction ranged =
+each-sent : (p : Pass) (t : Via × Block) (prediction : ℤ) → CanSend p t → InDcRange prediction → BlockBits p t prediction
+each-sent p t prediction good ranged =
     let d = dc-at p t.0.dc t.1.dc prediction p.is_first refl (eqb_cases p.ss 0) good.dc good.dc_range ranged in
     let band = all-take Small (band_size p) (drop (before_band p) t.1.acs)
     (all-drop Small (before_band p) t.1.acs good.acs) in
@@ -273,57 +287,42 @@ each-sent p t good prediction ranged =
     (λ ne. good.ac (band-some p t.1.acs ne (cases_lt 0 p.se))) band in
     record { dc = d.bits; ac = a.0; next = d.next; ranged = d.ranged; writes_dc = d.writes; writes_ac = a.1 }
 
--- ---- intervals
+blocks-sent : (p : Pass) (ps : List ℤ) (turns : List (Via × Block)) → Predicts ps → AllByRecursion (CanSend p) turns
+    → (b : List Bool) × WritesBlocks p ps 0 turns b
+blocks-sent p ps [] ranged good = ([], done ps)
+blocks-sent p ps (t ∷ turns) ranged good =
+    let b = each-sent p t (get_or ps t.0.component (pos 0)) good.0 (ranged.each t.0.component) in
+    let more = blocks-sent p (set ps t.0.component b.next) turns (predicts-set ps t.0.component b.next ranged b.ranged)
+    good.1 in
+    (_, block ps 0 0 t.0 t.1 turns b.dc b.ac more.0 b.next b.writes_dc b.writes_ac more.1)
 
-IsSent : Pass → List (Via × Block) → Type 0
-IsSent p turns = (bytes : List ℕ) × WritesInterval (WritesBlocks p predictors_at_start 0 turns) bytes × AreBytes bytes
-
-interval-sent : (p : Pass) (turns : List (Via × Block)) → AllByRecursion (CanSend p) turns → IsSent p turns
-unfolding IsSent
-interval-sent p turns good =
-    let w = blocks-written p (CanSend p) (each-sent p) predictors_at_start turns start-predicts good in
-    let b = packed w.0 in (
-      stuffed b.bytes,
-      interval-packed (WritesBlocks p predictors_at_start 0 turns) w.0 w.1,
-      stuffed-bytes b.bytes b.are_bytes,
-    )
-
-AreSent : Pass → ℕ → List (Via × Block) → List (List (Via × Block)) → Type 0
-AreSent p k one more =
-    (bytes : List ℕ) × WritesIntervals (WritesBlocks p predictors_at_start 0) k one more bytes × AreBytes bytes
-
-intervals-sent : (p : Pass) (k : ℕ) (one : List (Via × Block)) (more : List (List (Via × Block)))
-    → AllByRecursion (CanSend p) one → AllByRecursion (λ turns. AllByRecursion (CanSend p) turns) more
-    → AreSent p k one more
-unfolding IsSent AreSent
-intervals-sent p k one [] good all =
-    let w = interval-sent p one good in (w.0, last_interval k one w.0 w.1, w.2)
-intervals-sent p k one (next ∷ more) good all =
-    let w = interval-sent p one good in
-    let r = intervals-sent p (suc k) next more all.0 all.1 in (
-      w.0 ++ marker 0 (0xD0 + k % 8) r.0,
-      another k 0 one next more w.0 r.0 w.1 r.1,
-      all-append (λ b. b < 256) w.0 (marker 0 (0xD0 + k % 8) r.0) w.2
-          (marked-bytes (0xD0 + k % 8) r.0 (omega arith) r.2),
-    )
-
-groups-all : {A : Type 0} (Q : A → Type 0) (turns n : ℕ) (xs : List A) → AllByRecursion Q xs
-    → AllByRecursion (λ ys. AllByRecursion Q ys) (groups turns n xs)
-unfolding groups
-groups-all Q turns n [] h = tt
-groups-all Q zero n (x ∷ xs) h = tt
-groups-all Q (suc turns) n (x ∷ xs) h =
-    (all-take Q n (x ∷ xs) h, groups-all Q turns n (drop n (x ∷ xs)) (all-drop Q n (x ∷ xs) h))
-
-grouped-sent : (p : Pass) (n : ℕ) (turns : List (Via × Block)) → AllByRecursion (CanSend p) turns
-    → AreSent p 0 (first_group n turns) (other_groups n turns)
-grouped-sent p zero turns good = intervals-sent p 0 turns [] good tt
-grouped-sent p (suc n) turns good =
-    intervals-sent p 0 (take (suc n) turns) (groups (length turns) (suc n) (drop (suc n) turns))
-    (all-take (CanSend p) (suc n) turns good)
-    (groups-all (CanSend p) (length turns) (suc n) (drop (suc n) turns) (all-drop (CanSend p) (suc n) turns good))
+-- the intervals of a scan
+intervals-sent : (p : Pass) (n : ℕ) (turns : List (Via × Block)) → AllByRecursion (CanSend p) turns
+    → (bytes : List ℕ)
+    × WritesIntervals (WritesBlocks p predictors_at_start 0) 0 (first_group n turns) (other_groups n turns) bytes
+    × AreBytes bytes
+intervals-sent p n turns good =
+    let sent : (ts : List (Via × Block)) → AllByRecursion (CanSend p) ts → CanWrite (WritesBlocks p predictors_at_start 0) ts =
+    λ ts all. blocks-sent p predictors_at_start ts start-predicts all in
+    intervals-packed (WritesBlocks p predictors_at_start 0) 0 (first_group n turns) (other_groups n turns)
+    (sent (first_group n turns) (first-all (CanSend p) n turns good))
+    (all-weaker (AllByRecursion (CanSend p)) (CanWrite (WritesBlocks p predictors_at_start 0)) (other_groups n turns) sent
+    (others-all (CanSend p) n turns good))
 
 -- ---- the blocks of a scan
+
+each-map : {A B : Type 0} (P : B → Type 0) (f : A → B) (xs : List A) → ((x : A) → P (f x)) → AllByRecursion P (map f xs)
+each-map P f [] h = tt
+each-map P f (x ∷ xs) h = (h x, each-map P f xs h)
+
+each-flat : {A B : Type 0} (P : B → Type 0) (f : A → List B) (xs : List A) → ((x : A) → AllByRecursion P (f x))
+    → AllByRecursion P (flat_map f xs)
+each-flat P f [] h = tt
+each-flat P f (x ∷ xs) h = all-append P (f x) (flat_map f xs) (h x) (each-flat P f xs h)
+
+own-slots : (g : Grid) → AllByRecursion (λ s. s.slot ≡ 0) (own_spots g)
+unfolding own_spots
+own-slots g = search (rules, each-flat, each-map)
 
 -- the slots of a scan's spots are those of its components
 part-slots : (row column slot n : ℕ) (c : Component) → slot < n
@@ -351,10 +350,6 @@ all-slots wide high n cs h =
     (λ row. each-flat (λ s. s.slot < n) (λ column. mcu_spots row column 0 cs) (range_with_len 0 wide)
     (λ column. mcu-slots row column 0 n cs (omega arith)))
 
-all-weaker : {A : Type 0} (P Q : A → Type 0) (xs : List A) → ((x : A) → P x → Q x) → AllByRecursion P xs → AllByRecursion Q xs
-all-weaker P Q [] f h = tt
-all-weaker P Q (x ∷ xs) f h = (f x h.0, all-weaker P Q xs f h.1)
-
 scan-slots : (frame : Frame) (cs : List Component) → AllByRecursion (λ s. s.slot < length cs) (spots_of frame cs)
 unfolding spots_of
 scan-slots frame [] = tt
@@ -375,6 +370,10 @@ via-suffices p k slot [] other all h = absurd (omega arith)
 via-suffices p k zero (c ∷ codings) other all h = record { dc = all.0.dc; ac = all.0.ac }
 via-suffices p k (suc slot) (c ∷ codings) other all h =
     via-suffices p (k + 1) slot codings other all.1 (omega arith)
+
+-- the block of a spot, if it is of this component
+abbrev own_block : Coding → Coefficients → Spot → Block
+own_block k array s = array k.index (s.index / k.component.blocks_wide) (s.index % k.component.blocks_wide)
 
 -- The block that is sent at a spot: that of the array, also where it is padding.
 abbrev block_for : Option Coding → Coefficients → Spot → Block
@@ -402,7 +401,7 @@ can-send p v b is range = record {
 pub scan-data : (frame : Frame) (restart : ℕ) (p : Pass) (codings : List Coding) (array : Coefficients)
     → ((index row column : ℕ) → Is8Bit (array index row column)) → AllByRecursion (Suffices p) codings
     → (bytes : List ℕ) × WritesScan frame restart p codings array bytes × AreBytes bytes
-unfolding turns_of AreSent
+unfolding turns_of
 scan-data frame restart p codings array range all =
     let spots = spots_of frame (components_of codings) in
     let sent : Spot → Block = λ s. block_for (slice_get codings s.slot) array s in
@@ -414,7 +413,7 @@ scan-data frame restart p codings array range all =
     (λ s h. can-send p (via_at (vias_from 0 codings) s.slot) (sent s)
     (via-suffices p 0 s.slot codings _ all (omega arith)) (in_range s))
     (scan-slots frame (components_of codings)) in
-    let w = grouped-sent p (restart * mcu_size (components_of codings)) turns good in (
+    let w = intervals-sent p (restart * mcu_size (components_of codings)) turns good in (
       w.0,
       record {
         sent = sent;

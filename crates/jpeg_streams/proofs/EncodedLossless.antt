@@ -1,7 +1,7 @@
 -- Each script of a lossless stream has a stream: tables for each destination, and then its scans, each after its restart interval.
-use Rattle.std.proofs.Common.{rules, ◌≡◌, inr, ℕ, zero, suc, ◌+◌, ◌-◌, ◌*◌, ◌^◌, ◌<◌, ◌≤◌, ◌%◌, Bool, true}
-use Rattle.std.proofs.Common.{false, List, [], ◌∷◌, ◌++◌, length, map, take, replicate, refl, sym, ap, ap₂, ◌∙◌, arith}
-use Rattle.std.proofs.Common.{append_assoc, subst, length-append, Some, None}
+use Rattle.std.proofs.Common.{[], ap, append_assoc, ap₂, arith, Bool, false, inr, length, length-append, List, map}
+use Rattle.std.proofs.Common.{None, refl, replicate, rules, Some, subst, suc, sym, take, true, zero, ℕ, ◌*◌, ◌++◌}
+use Rattle.std.proofs.Common.{◌+◌, ◌-◌, ◌<◌, ◌^◌, ◌∙◌, ◌∷◌, ◌≡◌, ◌≤◌}
 use Rattle.std.proofs.Math.Logic.{⊎_elim}
 use Rattle.std.proofs.Math.Nat.{zero-mod}
 use Rattle.std.proofs.Math.Pow.{pow_mono}
@@ -9,20 +9,20 @@ use Rattle.std.proofs.lemmas.Bool.{cases_lt, eq-eqb}
 use Rattle.std.proofs.lemmas.List.{length-map, length-replicate, take_at}
 use Rattle.std.proofs.lemmas.List.Folds.{list_any-append}
 use Rattle.std.specs.List.{AllByRecursion, flat_map}
-use Rattle.std.specs.Prelude.{◌||◌, ◌==◌, slice_get, slice_index_or, zip}
+use Rattle.std.specs.Prelude.{slice_get, slice_index_or, zip, ◌==◌, ◌||◌}
+use Rattle.jpeg_bits.proofs.ReadIntervals.{all-again, all-append, all-map}
+use Rattle.jpeg_bits.proofs.WrittenIntervals.{all-groups, first-all, first-map, others-all, others-map}
 use Rattle.jpeg_bits.specs.Codes.{code_value, codes_exist, lengths_from, Table}
 use Rattle.jpeg_bits.specs.DefaultTables.{names}
 use Rattle.jpeg_bits.specs.Intervals.{first_group, other_groups}
-use Rattle.jpeg_bits.specs.Written.{marker, stuffed, WritesIntervals}
-use Rattle.jpeg_bits.specs.Written.WritesIntervals.{another, last}
-use Rattle.jpeg_bits.proofs.ReadIntervals.{all-again, all-append}
-use Rattle.jpeg_bits.proofs.WrittenIntervals.{all-groups, first-all, first-map, others-all, others-map}
+use Rattle.jpeg_bits.specs.Written.{marker, WritesIntervals}
 use Rattle.jpeg_segments.specs.Frame.{Component, Factors, Frame, frame_of}
 use Rattle.jpeg_segments.specs.HuffmanTables.{DefinedTable}
 use Rattle.jpeg_segments.specs.ScanHeader.{predictor_by, scan_of, Selector}
-use Rattle.jpeg_segments.specs.ScanHeaders.{IsScan, scan_payload, scan_written, ScanHeader, selectors_in}
-use Rattle.jpeg_segments.specs.WrittenSegments.{AreComponents, frame_payload, frame_written, FrameHeader, Header, Huffman, huffman_bytes}
-use Rattle.jpeg_segments.specs.WrittenSegments.{Interval, IsFrameHeader, IsHuffmanTable, payload_of, u16_bytes, with_length}
+use Rattle.jpeg_segments.specs.ScanHeaders.{IsScan, scan_written, ScanHeader, selectors_in}
+use Rattle.jpeg_segments.specs.WrittenSegments.{AreComponents, frame_payload, frame_written, FrameHeader, Header}
+use Rattle.jpeg_segments.specs.WrittenSegments.{Huffman, huffman_bytes, Interval, IsFrameHeader, IsHuffmanTable}
+use Rattle.jpeg_segments.specs.WrittenSegments.{payload_of, with_length}
 use Rattle.jpeg_lossless.specs.Codings.{IsCovered}
 use Rattle.jpeg_lossless.specs.Differences.{mcu_tables, Part, row_tables}
 use Rattle.jpeg_lossless.specs.Scans.{is_of_rows, lines_by_component, rows_of_interval, samples_an_mcu, Way}
@@ -35,17 +35,20 @@ use Rattle.jpeg_streams.specs.LosslessScripts.{AreWrittenUnder, IsLosslessScan, 
 use Rattle.jpeg_streams.specs.SaidSegments.{said_after}
 use Rattle.jpeg_streams.specs.Scripts.{indices_in, scans_in, ScriptedScan}
 use Rattle.jpeg_streams.specs.Segments.{updated}
-use Rattle.jpeg_streams.specs.WrittenLossless.{AreSampleCodings, ClosesSamples, HoldSamples, IsLossless, own_lines, Samples}
-use Rattle.jpeg_streams.specs.WrittenLossless.{SendsSamples, WritesSamplesScan}
+use Rattle.jpeg_streams.specs.WrittenLossless.{AreSampleCodings, ClosesSamples, HoldSamples, IsLossless, own_lines}
+use Rattle.jpeg_streams.specs.WrittenLossless.{Samples, SendsSamples, WritesSamplesScan}
 use Rattle.jpeg_streams.specs.WrittenStreams.{end, scan, segment, Writes}
-use Rattle.jpeg_streams.proofs.EncodedImages.{in-range, interval-packed, lone-written, lone_header, packed, table-by}
+use Rattle.jpeg_streams.proofs.EncodedParts.{all-weaker, CanWrite, in-range, intervals-packed, lone-written}
+use Rattle.jpeg_streams.proofs.EncodedParts.{lone_header, marked-bytes, segment-bytes, sized-bytes, table-by}
+use Rattle.jpeg_streams.proofs.EncodedParts.{tested-bytes, u16-bytes}
 use Rattle.jpeg_streams.proofs.EncodedSamples.{AreResidues, AreRows, components-bytes, even_table, factors-length}
-use Rattle.jpeg_streams.proofs.EncodedSamples.{marked-bytes, pairs, rows-written, sized-bytes, stuffed-bytes, tested-bytes}
-use Rattle.jpeg_streams.proofs.EncodedSamples.{u16-bytes, values-of}
-use Rattle.jpeg_streams.proofs.EncodedScripts.{AreNamed, choices-named, four-at, header-bytes, IsNamed, named-components}
-use Rattle.jpeg_streams.proofs.InterleavedRows.{AllFit, AreSame, bands-fit, bands-length, bands-same, bands_of, by-length}
-use Rattle.jpeg_streams.proofs.InterleavedRows.{by_groups, column, first-again, Fit, GiveAll, interval_for, intervals-give}
-use Rattle.jpeg_streams.proofs.InterleavedRows.{intervals-whole, later, Lines, others-again, Parted, rows-length, suc-mul}
+use Rattle.jpeg_streams.proofs.EncodedSamples.{pairs, rows-written, values-of}
+use Rattle.jpeg_streams.proofs.EncodedScripts.{AreNamed, choices-named, four-at, IsNamed, named-components}
+use Rattle.jpeg_streams.proofs.EncodedScripts.{scan-bytes, scan_segments}
+use Rattle.jpeg_streams.proofs.InterleavedRows.{AllFit, AreSame, bands-fit, bands-length, bands-same, bands_of}
+use Rattle.jpeg_streams.proofs.InterleavedRows.{by-length, by_groups, column, first-again, Fit, GiveAll, interval_for}
+use Rattle.jpeg_streams.proofs.InterleavedRows.{intervals-give, intervals-whole, later, Lines, others-again, Parted}
+use Rattle.jpeg_streams.proofs.InterleavedRows.{rows-length, suc-mul}
 use Rattle.jpeg_streams.proofs.LosslessSizes.{all-at, all-covered, IsMade}
 use Rattle.jpeg_streams.proofs.PaddingUnseen.{header-made}
 use Rattle.jpeg_streams.proofs.WalkedStreams.{closes}
@@ -206,34 +209,14 @@ all-even n tables (row ∷ rows) h e rs =
 
 -- ---- data
 
-intervals-written : (n k : ℕ) (one : Lines) (more : List Lines) → AreRows n one
-    → AllByRecursion (λ rows. AreRows n rows) more
-    → (bytes : List ℕ) × WritesIntervals WritesRows k (map pairs one) (map (map pairs) more) bytes × AreBytes bytes
-intervals-written n k one [] h all =
-    let w = rows-written n one h in
-    let b = packed w.0 in (
-      stuffed b.bytes,
-      last k (map pairs one) (stuffed b.bytes) (interval-packed (WritesRows (map pairs one)) w.0 w.1),
-      stuffed-bytes b.bytes b.are_bytes,
-    )
-intervals-written n k one (next ∷ more) h all =
-    let w = rows-written n one h in
-    let b = packed w.0 in
-    let r = intervals-written n (suc k) next more all.0 all.1 in (
-      stuffed b.bytes ++ marker 0 (0xD0 + k % 8) r.0,
-      another k 0 (map pairs one) (map pairs next) (map (map pairs) more) (stuffed b.bytes) r.0
-          (interval-packed (WritesRows (map pairs one)) w.0 w.1) r.1,
-      all-append (λ b. b < 256) (stuffed b.bytes) (marker 0 (0xD0 + k % 8) r.0) (stuffed-bytes b.bytes b.are_bytes)
-          (marked-bytes (0xD0 + k % 8) r.0 (omega arith) r.2),
-    )
-
 rows-in_bytes : (size n : ℕ) (rows : Lines) → AreRows size rows
     → (bytes : List ℕ) × WritesIntervals WritesRows 0 (first_group n (map pairs rows)) (other_groups n (map pairs rows)) bytes
     × AreBytes bytes
 rows-in_bytes size n rows h =
-    let w = intervals-written size 0 (first_group n rows) (other_groups n rows)
-    (first-all (λ rs. (length rs ≡ size) × AreResidues rs) n rows h)
-    (others-all (λ rs. (length rs ≡ size) × AreResidues rs) n rows h) in
+    let w = intervals-packed WritesRows 0 (map pairs (first_group n rows)) (map (map pairs) (other_groups n rows))
+    (rows-written size (first_group n rows) (first-all (λ rs. (length rs ≡ size) × AreResidues rs) n rows h))
+    (all-map (AreRows size) (CanWrite WritesRows) (map pairs) (other_groups n rows) (rows-written size)
+    (others-all (λ rs. (length rs ≡ size) × AreResidues rs) n rows h)) in
     (w.0, rw (← first-map pairs n rows, ← others-map pairs n rows) w.1, w.2)
 
 -- The rows of differences of a scan, which give its components their samples.
@@ -352,14 +335,9 @@ codings-for now frame (s ∷ selectors) ready named =
 
 -- ---- the parts of codings
 
-low-line : (bound : ℕ) (line : List ℕ) → bound ≤ 65536 → AllByRecursion (λ x. x < bound) line → AreResidues line
-low-line bound [] le h = tt
-low-line bound (x ∷ line) le h = let low = h.0 in (omega arith, low-line bound line le h.1)
-
 low-rows : (bound n : ℕ) (lines : Lines) → bound ≤ 65536 → AllByRecursion (IsLineOf n bound) lines → AreRows n lines
-low-rows bound n [] le h = tt
-low-rows bound n (line ∷ lines) le h =
-    ((h.0.0, low-line bound line le h.0.1), low-rows bound n lines le h.1)
+low-rows bound n lines le = all-weaker (IsLineOf n bound) (λ rs. (length rs ≡ n) × AreResidues rs) lines
+    (λ line h. (h.0, all-weaker (λ x. x < bound) (λ r. r < 65536) line (λ x lt. omega arith) h.1))
 
 part-is : (frame : Frame) (wide high across down : ℕ) (samples : Samples) (k : LosslessCoding)
     → 2 ^ frame.precision ≤ 65536 → AreSamplesOf frame samples → IsEven frame k
@@ -487,8 +465,7 @@ script-sent frame samples (s ∷ script) now sent good ready all whole =
     (ready-onward frame now s.restart true ready) all.1
     (λ index h. anywhere-onward sent s script index (whole index h)) in
     record {
-      bytes = marker 0 221 (with_length (payload_of (Interval s.restart))
-          ++ marker 0 218 (with_length (scan_payload s.header) ++ (d.0 ++ rest.bytes)));
+      bytes = scan_segments s d.0 rest.bytes;
       final = rest.final;
       last_sent = rest.last_sent;
       written = segment now rest.final sent rest.last_sent 0 (Interval s.restart) _ (tt, tt) tt
@@ -497,15 +474,7 @@ script-sent frame samples (s ∷ script) now sent good ready all whole =
       framed = rest.framed;
       scripted = ap (λ (l : List ScriptedScan). s ∷ l) rest.scripted;
       are_bytes = λ named.
-          let sent_bytes = all-append (λ b. b < 256) d.0 rest.bytes d.2 (rest.are_bytes named) in
-          let scan_bytes = marked-bytes 218 (with_length (scan_payload s.header) ++ (d.0 ++ rest.bytes)) (omega arith)
-          (all-append (λ b. b < 256) (with_length (scan_payload s.header)) (d.0 ++ rest.bytes)
-          (header-bytes frame s.header all.0.is_scan named) sent_bytes) in
-          marked-bytes 221 (with_length (payload_of (Interval s.restart))
-          ++ marker 0 218 (with_length (scan_payload s.header) ++ (d.0 ++ rest.bytes))) (omega arith)
-          (all-append (λ b. b < 256) (with_length (payload_of (Interval s.restart)))
-          (marker 0 218 (with_length (scan_payload s.header) ++ (d.0 ++ rest.bytes)))
-          (sized-bytes (u16_bytes s.restart) (omega arith) (u16-bytes s.restart all.0.fits)) scan_bytes);
+          scan-bytes frame s d.0 rest.bytes all.0.is_scan all.0.fits named d.2 (rest.are_bytes named);
     }
 
 -- ---- the stream
@@ -582,14 +551,11 @@ lossless-script-written h script samples is p scripted are =
         framed = r.framed;
         scripted = r.scripted;
         are_bytes = λ fits.
-            let from_tables = with_length (payload_of (Huffman four_tables)) ++ r.bytes in
-            let tables : AreBytes (marker 0 196 from_tables) = marked-bytes 196 from_tables (omega arith)
-            (all-append (λ b. b < 256) (with_length (payload_of (Huffman four_tables))) r.bytes four-bytes
-            (r.are_bytes (named-frame h fits))) in
-            let all : AreBytes (front_bytes h r.bytes) =
-            marked-bytes 195 (with_length (payload_of (Header 3 h)) ++ marker 0 196 from_tables) (omega arith)
-            (all-append (λ b. b < 256) (with_length (payload_of (Header 3 h))) (marker 0 196 from_tables)
-            (frame-bytes h is p fits) tables) in
+            let from_tables = marker 0 196 (with_length (payload_of (Huffman four_tables)) ++ r.bytes) in
+            let tables : AreBytes from_tables = segment-bytes 196 (with_length (payload_of (Huffman four_tables)))
+            r.bytes (omega arith) four-bytes (r.are_bytes (named-frame h fits)) in
+            let all : AreBytes (front_bytes h r.bytes) = segment-bytes 195 (with_length (payload_of (Header 3 h)))
+            from_tables (omega arith) (frame-bytes h is p fits) tables in
             (omega arith, (omega arith, all));
       },
     )

@@ -1,31 +1,30 @@
 -- Differences of samples are written by one table, and segments are bytes.
+use Rattle.std.proofs.Common.{[], ap, arith, Bool, inl, inr, length, length-append, List, map, negsuc, pos, refl}
+use Rattle.std.proofs.Common.{replicate, rules, suc, sym, unsigned_abs, ℕ, ℤ, ◌*◌, ◌++◌, ◌-◌, ◌<◌, ◌^◌, ◌∷◌, ◌≡◌}
+use Rattle.std.proofs.Common.{◌≤ℤ◌, ◌⊎◌}
 use Rattle.std.proofs.Math.Logic.{⊎_elim}
-use Rattle.std.proofs.Common.{rules, length, replicate, negsuc, unsigned_abs, length-append}
-use Rattle.std.proofs.Common.{◌≡◌, ◌⊎◌, inl, ℕ, Bool, true, List, ◌++◌, ◌≤ℤ◌, refl, arith}
-use Rattle.std.proofs.Common.{inr, suc, ◌+◌, ◌-◌, ◌*◌, ◌^◌, ◌<◌, ◌≤◌, [], ◌∷◌, map, ℤ, pos, sym, ap}
-use Rattle.std.proofs.lemmas.Bool.{and_parts, cases_lt, eqb-true, ltb-true}
+use Rattle.std.proofs.lemmas.Bool.{cases_lt, eqb-true}
 use Rattle.std.proofs.lemmas.Int.{ints}
 use Rattle.std.proofs.lemmas.List.{map-id}
-use Rattle.std.proofs.lemmas.Simd.{map-map}
 use Rattle.std.proofs.lemmas.List.FromFn.{get_or-range_with_len}
-use Rattle.std.specs.List.{AllByRecursion, list_all, range_with_len}
-use Rattle.std.specs.Prelude.{flat_map, nat_lt}
+use Rattle.std.proofs.lemmas.Simd.{map-map}
+use Rattle.std.specs.List.{AllByRecursion, range_with_len}
+use Rattle.std.specs.Prelude.{flat_map}
+use Rattle.jpeg_bits.proofs.ReadIntervals.{all-append}
 use Rattle.jpeg_bits.specs.Codes.{lengths_from, Table}
-use Rattle.jpeg_bits.specs.Written.{code_bits, IsCoded, marker, stuffed, WritesEach}
-use Rattle.jpeg_bits.specs.declared.huffman.codes.HuffmanTableClass.TheVariants as classes
+use Rattle.jpeg_bits.specs.Written.{code_bits, IsCoded, WritesEach}
+use Rattle.jpeg_bits.specs.Written.WritesEach.{none, one}
 use Rattle.jpeg_bits.specs.declared.scan.Predictor.{Predictor}
 use Rattle.jpeg_segments.specs.Frame.{Factors}
 use Rattle.jpeg_segments.specs.WrittenSegments.{AreComponents, factors_bytes}
-use Rattle.jpeg_segments.specs.WrittenSegments.{with_length, u16_bytes}
-use Rattle.jpeg_lossless.specs.Prediction.{residue}
-use Rattle.jpeg_lossless.specs.SampleDifferences.{differences_below, differences_of}
-use Rattle.jpeg_lossless.specs.SampleDifferences.{first_differences, rest_differences}
-use Rattle.jpeg_lossless.specs.Written.{WritesRows, WritesSampleDifference}
-use Rattle.jpeg_bits.specs.Written.WritesEach.{none, one}
 use Rattle.jpeg_lossless.proofs.Residues.{residue_low, residue_neg, residue_small}
+use Rattle.jpeg_lossless.specs.Prediction.{residue}
+use Rattle.jpeg_lossless.specs.SampleDifferences.{differences_below, differences_of, first_differences}
+use Rattle.jpeg_lossless.specs.SampleDifferences.{rest_differences}
+use Rattle.jpeg_lossless.specs.Written.{WritesRows, WritesSampleDifference}
 use Rattle.jpeg_streams.specs.FrameSamples.{AreBytes}
-use Rattle.jpeg_streams.proofs.EncodedImages.{category-at_most}
-use Rattle.jpeg_bits.proofs.ReadIntervals.{all-append}
+use Rattle.jpeg_streams.proofs.EncodedParts.{category-at_most}
+use Rattle.jpeg_bits.specs.declared.huffman.codes.HuffmanTableClass.TheVariants as classes
 
 -- ---- the table
 
@@ -150,22 +149,6 @@ rows-count selection start above (line ∷ lines) = ap suc (rows-count selection
 
 -- ---- bytes
 
-pub stuffed-bytes : (bytes : List ℕ) → AreBytes bytes → AreBytes (stuffed bytes)
-unfolding stuffed
-stuffed-bytes [] h = tt
-stuffed-bytes (b ∷ bytes) h = search (rules, stuffed-bytes bytes h.1)
-
-pub u16-bytes : (n : ℕ) → n < 65536 → AreBytes (u16_bytes n)
-u16-bytes n h = (omega arith, (omega arith, tt))
-
--- a segment of bytes
-pub sized-bytes : (payload : List ℕ) → length payload + 2 < 65536 → AreBytes payload → AreBytes
-    (with_length payload)
-sized-bytes payload h k = all-append (λ b. b < 256) (u16_bytes (length payload + 2)) payload (u16-bytes (length payload + 2) h) k
-
-pub marked-bytes : (code : ℕ) (bytes : List ℕ) → code < 256 → AreBytes bytes → AreBytes (marker 0 code bytes)
-marked-bytes code bytes h k = (omega arith, (h, k))
-
 pub factors-length : (cs : List Factors) → length (flat_map factors_bytes cs) ≡ 3 * length cs
 factors-length [] = refl
 factors-length (c ∷ cs) = search (rules, length-append, factors-length cs)
@@ -176,7 +159,3 @@ unfolding AreComponents
 components-bytes front [] are low = tt
 components-bytes front (c ∷ cs) are low =
     search (rules, eqb-true, all-append, components-bytes (front ++ c ∷ []) cs are.1 low.1)
-
-pub tested-bytes : (bytes : List ℕ) → list_all (λ b. nat_lt b 256) bytes ≡ true → AreBytes bytes
-tested-bytes [] h = tt
-tested-bytes (b ∷ bytes) h = search (rules, and_parts, ltb-true, tested-bytes bytes)

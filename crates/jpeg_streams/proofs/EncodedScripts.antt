@@ -1,58 +1,54 @@
 -- Each script has a stream: tables for each destination, and then its scans, each after its restart interval.
-use Rattle.std.proofs.Common.{rules, false, replicate, length, get_or, subst, append_assoc, arith, ◌≡◌, ◌≢◌, ◌⊎◌}
-use Rattle.std.proofs.Common.{inl, inr, zero, suc, ◌==◌, Bool, true, List, ◌++◌, refl, ℕ, ◌+◌, ◌*◌, ◌<◌, ◌≤◌, [], ◌∷◌}
-use Rattle.std.proofs.Common.{sym, ap, ap₂, ◌∙◌, length-append, map, Option, Some, None}
-use Rattle.std.proofs.lemmas.Bool.{eq-eqb, lt-ltb}
-use Rattle.std.proofs.lemmas.List.Quantifiers.{position-Some}
+use Rattle.std.proofs.Common.{[], ap, arith, Bool, false, get_or, inl, inr, leb-true, length, length-append, List}
+use Rattle.std.proofs.Common.{map, None, Option, refl, replicate, rules, Some, subst, suc, sym, true, zero, ℕ, ◌*◌}
+use Rattle.std.proofs.Common.{◌++◌, ◌+◌, ◌<◌, ◌==◌, ◌∷◌, ◌≡◌, ◌≤◌, ◌⊎◌}
+use Rattle.std.proofs.lemmas.Bool.{eq-eqb, eqb-true, lt-ltb, ltb-true}
+use Rattle.std.proofs.lemmas.Bool.Decides.{nat_tests}
 use Rattle.std.proofs.lemmas.Grind.{common_steps}
-use Rattle.std.specs.List.{AllByRecursion, range_with_len}
-use Rattle.std.specs.Prelude.{nat_lt, slice_get, slice_index_or, zip}
-use lib.ListN.{length-map}
+use Rattle.std.proofs.lemmas.List.Quantifiers.{position-Some}
+use Rattle.std.specs.List.{AllByRecursion}
+use Rattle.std.specs.Prelude.{flat_map, nat_lt, slice_get, slice_index_or, zip}
+use Rattle.jpeg_bits.proofs.ReadIntervals.{all-again, all-append}
 use Rattle.jpeg_bits.specs.Codes.{code_value, codes_exist, lengths_from, Table}
 use Rattle.jpeg_bits.specs.Passes.{Pass}
-use Rattle.jpeg_bits.specs.Written.{code_bits, IsCoded, marker}
+use Rattle.jpeg_bits.specs.Written.{marker}
 use Rattle.jpeg_bits.specs.declared.huffman.codes.HuffmanTableClass.{HuffmanTableClass}
-use Rattle.jpeg_bits.specs.declared.huffman.codes.HuffmanTableClass.TheVariants as classes
-use Rattle.jpeg_segments.specs.Frame.{Component, component_of, Factors, Frame, frame_of}
-use Rattle.jpeg_segments.specs.HuffmanTables.{DefinedTable, greatest_destination, Tables}
-use Rattle.jpeg_segments.specs.ScanHeader.{scan_of, Selector}
-use Rattle.jpeg_segments.specs.ScanHeaders.{AreChoices, IsScan, scan_payload, scan_written, ScanHeader, selectors_in}
-use Rattle.jpeg_segments.specs.WrittenSegments.{AreComponents, frame_written, FrameHeader, Header, Huffman, Interval}
-use Rattle.jpeg_segments.specs.WrittenSegments.{IsFrameHeader, IsHuffmanTable, payload_of, Quantization, with_length}
+use Rattle.jpeg_segments.specs.Frame.{Component, component_of, Factors, Frame, frame_of, is_destination, is_factor}
+use Rattle.jpeg_segments.specs.Frame.{is_lossless_number}
+use Rattle.jpeg_segments.specs.HuffmanTables.{DefinedTable, greatest_destination}
+use Rattle.jpeg_segments.specs.ScanHeader.{is_band, scan_of, Selector}
+use Rattle.jpeg_segments.specs.ScanHeaders.{AreChoices, choice_bytes, IsChoice, IsScan, scan_payload, scan_written}
+use Rattle.jpeg_segments.specs.ScanHeaders.{ScanHeader, selectors_in}
+use Rattle.jpeg_segments.specs.WrittenSegments.{AreComponents, factors_bytes, frame_payload, frame_written}
+use Rattle.jpeg_segments.specs.WrittenSegments.{FrameHeader, Header, Huffman, huffman_bytes, Interval, IsFrameHeader}
+use Rattle.jpeg_segments.specs.WrittenSegments.{IsHuffmanTable, IsQuantizationTable, nibbles, payload_of}
+use Rattle.jpeg_segments.specs.WrittenSegments.{Quantization, quantization_bytes, QuantizationTable, u16_bytes}
+use Rattle.jpeg_segments.specs.WrittenSegments.{with_length}
+use Rattle.jpeg_segments.specs.declared.frame.CodingProcess.{CodingProcess}
+use Rattle.jpeg_segments.specs.declared.frame.CodingProcess.TheVariants.{DctProgressive, DctSequential, Lossless}
 use Rattle.jpeg_streams.specs.AcceptedFrames.{HasPicture}
 use Rattle.jpeg_streams.specs.Found.{nothing_said, Said}
+use Rattle.jpeg_streams.specs.FrameSamples.{AreBytes, FitsFields}
 use Rattle.jpeg_streams.specs.Levels.{Is8Bit, IsLegal, Levels, nothing_sent}
 use Rattle.jpeg_streams.specs.SaidSegments.{said_after}
-use Rattle.jpeg_streams.specs.Scans.{no_table}
 use Rattle.jpeg_streams.specs.ScanSegments.{Coding, is_progressive, pass_of, tables_of}
-use Rattle.jpeg_streams.specs.Scripts.{AreLegal, AreLevelsOf, greatest_category, HasAcCodes, HasDcCodes, indices_in}
-use Rattle.jpeg_streams.specs.Scripts.{IsAllSent, IsLegalHere, IsScript, IsWrittenUnder, none_sent, scans_in}
-use Rattle.jpeg_streams.specs.Scripts.{ScriptedScan, sent_after_scan, sent_by, SentLevels, Suffices}
+use Rattle.jpeg_streams.specs.Scans.{no_table}
+use Rattle.jpeg_streams.specs.Scripts.{AreLegal, greatest_category, HasAcCodes, HasDcCodes, indices_in, IsAllSent}
+use Rattle.jpeg_streams.specs.Scripts.{IsLegalHere, IsScript, IsWrittenUnder, none_sent, scans_in, ScriptedScan}
+use Rattle.jpeg_streams.specs.Scripts.{sent_after_scan, sent_by, SentLevels, Suffices}
 use Rattle.jpeg_streams.specs.Segments.{updated}
 use Rattle.jpeg_streams.specs.WholeImages.{AllComplete}
 use Rattle.jpeg_streams.specs.WrittenImages.{ClosesImage, WritesImageScan, WritesPart}
-use Rattle.jpeg_streams.specs.WrittenScans.{AreInForce, Coefficients, HasCodings, HasTable, IsComplete, IsInForce, IsTableAt}
+use Rattle.jpeg_streams.specs.WrittenScans.{AreInForce, Coefficients, HasCodings, HasTable, IsComplete, IsTableAt}
 use Rattle.jpeg_streams.specs.WrittenScans.{levels_after}
 use Rattle.jpeg_streams.specs.WrittenStreams.{end, scan, segment}
-use Rattle.jpeg_streams.specs.FrameSamples.{AreBytes, FitsFields}
-use Rattle.jpeg_bits.proofs.ReadIntervals.{all-append}
-use Rattle.jpeg_segments.specs.Frame.{is_factor}
-use Rattle.jpeg_segments.specs.ScanHeader.{is_band}
-use Rattle.jpeg_segments.specs.ScanHeaders.{choice_bytes, IsChoice}
-use Rattle.jpeg_segments.specs.WrittenSegments.{factors_bytes, frame_payload, huffman_bytes, nibbles, quantization_bytes}
-use Rattle.jpeg_segments.specs.WrittenSegments.{u16_bytes}
-use Rattle.jpeg_segments.specs.declared.frame.CodingProcess.{CodingProcess}
-use Rattle.jpeg_segments.specs.declared.frame.CodingProcess.TheVariants.{DctProgressive, DctSequential, Lossless}
-use Rattle.std.proofs.lemmas.Bool.{eqb-true, ltb-true}
-use Rattle.std.proofs.lemmas.Bool.Decides.{nat_tests}
-use Rattle.std.specs.List.{list_all}
-use Rattle.std.specs.Prelude.{flat_map}
-use Rattle.jpeg_streams.proofs.EncodedSamples.{factors-length, marked-bytes, sized-bytes, tested-bytes, u16-bytes}
 use Rattle.jpeg_streams.proofs.EncodedData.{scan-sent}
-use Rattle.jpeg_streams.proofs.EncodedImages.{all_ones, component_in, flat-coded, flat_table, in-range, index-low}
-use Rattle.jpeg_streams.proofs.EncodedImages.{one-quantizes, table-by}
+use Rattle.jpeg_streams.proofs.EncodedParts.{component_in, flat-coded, flat_table, in-range, marked-bytes}
+use Rattle.jpeg_streams.proofs.EncodedParts.{segment-bytes, sized-bytes, table-by, tested-bytes, u16-bytes}
+use Rattle.jpeg_streams.proofs.EncodedSamples.{factors-length}
 use Rattle.jpeg_streams.proofs.ScriptLevels.{all-legal, AreAllLevels, complete-by, none-at_first, scan-after}
 use Rattle.jpeg_streams.proofs.WalkedStreams.{closes}
+use Rattle.jpeg_bits.specs.declared.huffman.codes.HuffmanTableClass.TheVariants as classes
 
 abbrev pass_in : Frame → ScanHeader → Pass
 pass_in frame h = pass_of (scan_written frame h)
@@ -83,6 +79,16 @@ table-there : (b : Bool) (class : HuffmanTableClass) (tables : List (Option Tabl
     → slice_index_or tables d None ≡ Some (flat_table class) → IsTableAt b class tables d (table_if b class)
 table-there true class tables d e = e
 table-there false class tables d e = refl
+
+-- a quantization table of one value
+abbrev table_of_one : ℕ → ℕ → QuantizationTable
+table_of_one index v = record { precision = 0; destination = index; values = replicate 64 v }
+
+one-quantizes : (index v : ℕ) → index ≤ 3 → 0 < v → IsQuantizationTable (table_of_one index v)
+one-quantizes index v h k = search (rules, all-again)
+
+abbrev all_ones : List QuantizationTable
+all_ones = table_of_one 0 1 ∷ table_of_one 1 1 ∷ table_of_one 2 1 ∷ table_of_one 3 1 ∷ []
 
 -- What is said has tables for each destination that a scan of the frame may name.
 record IsReady (frame : Frame) (w : Said) : Type 0 where
@@ -188,6 +194,11 @@ choices-named frame least (c ∷ choices) all = (
   },
   choices-named frame (c.1.component + 1) choices all.1,
 )
+
+index-low : (number index : ℕ) → number ≤ 2 → is_destination (is_lossless_number number) index ≡
+    true → index ≤ 3
+index-low (suc (suc (suc number))) index le e = absurd (omega arith)
+index-low number index le e = leb-true index 3 e
 
 components-low : (number : ℕ) (h : FrameHeader) (front cs : List Factors) → number ≤ 2 → AreComponents number front cs
     → AreLow (map (component_in h) cs)
@@ -296,6 +307,20 @@ header-bytes frame h is named =
 
 -- ---- the scans
 
+-- a scan after its restart interval, and what stands after it
+abbrev pub scan_segments : ScriptedScan → List ℕ → List ℕ → List ℕ
+scan_segments s sent more = marker 0 221 (with_length (payload_of (Interval s.restart))
+    ++ marker 0 218 (with_length (scan_payload s.header) ++ (sent ++ more)))
+
+pub scan-bytes : (frame : Frame) (s : ScriptedScan) (sent more : List ℕ) → IsScan frame s.header → s.restart < 65536
+    → AreNamed frame.components → AreBytes sent → AreBytes more → AreBytes (scan_segments s sent more)
+scan-bytes frame s sent more is fits named h k =
+    segment-bytes 221 (with_length (payload_of (Interval s.restart)))
+    (marker 0 218 (with_length (scan_payload s.header) ++ (sent ++ more))) (omega arith)
+    (sized-bytes (u16_bytes s.restart) (omega arith) (u16-bytes s.restart fits))
+    (segment-bytes 218 (with_length (scan_payload s.header)) (sent ++ more) (omega arith)
+    (header-bytes frame s.header is named) (all-append (λ b. b < 256) sent more h k))
+
 -- the segments and scans after some, whose scans are these
 record Sends (frame : Frame) (script : List ScriptedScan) (array : Coefficients) (w : Said) (sent : SentLevels)
     (levels : ℕ → Levels) : Type 0 where
@@ -327,7 +352,7 @@ ready-interval frame w n ready = record {
   ac = ready.ac;
 }
 
-all-complete : (frame : Frame) (sent : SentLevels) (levels : ℕ → Levels) → AreAllLevels sent levels
+pub all-complete : (frame : Frame) (sent : SentLevels) (levels : ℕ → Levels) → AreAllLevels sent levels
     → IsAllSent frame sent → AllComplete frame levels
 all-complete frame sent levels are all = in-range (λ k. IsComplete (levels k)) 0 (length frame.components)
     (λ j low lt. complete-by (sent j) (levels j) (are j) (λ k h. all j k (omega arith) h))
@@ -372,8 +397,7 @@ script-sent frame array (s ∷ more) w sent levels range ready low is are legal 
     (sent_after_scan frame.process s.header sent) after range (ready-onward frame w s.restart ready) low
     (λ e. refl) (scan-after frame s.header sent levels legal.0.is_scan.narrow are) legal.1 whole in
     record {
-      bytes = marker 0 221 (with_length (payload_of (Interval s.restart))
-          ++ marker 0 218 (with_length (scan_payload s.header) ++ (d.0 ++ rest.bytes)));
+      bytes = scan_segments s d.0 rest.bytes;
       final = rest.final;
       last = rest.last;
       written = segment w rest.final levels rest.last 0 (Interval s.restart) _ (tt, tt) tt
@@ -383,15 +407,7 @@ script-sent frame array (s ∷ more) w sent levels range ready low is are legal 
       scripted = ap (λ (l : List ScriptedScan). s ∷ l) rest.scripted;
       are_last = rest.are_last;
       are_bytes = λ named.
-          let sent_bytes = all-append (λ b. b < 256) d.0 rest.bytes d.2 (rest.are_bytes named) in
-          let scan_bytes = marked-bytes 218 (with_length (scan_payload s.header) ++ (d.0 ++ rest.bytes)) (omega arith)
-          (all-append (λ b. b < 256) (with_length (scan_payload s.header)) (d.0 ++ rest.bytes)
-          (header-bytes frame s.header legal.0.is_scan named) sent_bytes) in
-          marked-bytes 221 (with_length (payload_of (Interval s.restart))
-          ++ marker 0 218 (with_length (scan_payload s.header) ++ (d.0 ++ rest.bytes))) (omega arith)
-          (all-append (λ b. b < 256) (with_length (payload_of (Interval s.restart)))
-          (marker 0 218 (with_length (scan_payload s.header) ++ (d.0 ++ rest.bytes)))
-          (sized-bytes (u16_bytes s.restart) (omega arith) (u16-bytes s.restart legal.0.fits)) scan_bytes);
+          scan-bytes frame s d.0 rest.bytes legal.0.is_scan legal.0.fits named d.2 (rest.are_bytes named);
     }
 
 -- ---- the stream
@@ -435,32 +451,15 @@ said-ready number header = record {
   ac = λ d h. four-at (flat_table classes.AC) (said_3 number header).huffman.ac d refl h;
 }
 
+-- what each of them has
+each-table : (Q : DefinedTable → Type 0) → ((d : ℕ) → d ≤ 3 → AllByRecursion Q (both_at d)) → AllByRecursion Q eight_tables
+each-table Q h = all-append Q (both_at 0) (both_at 1 ++ (both_at 2 ++ both_at 3)) (h 0 (omega arith))
+    (all-append Q (both_at 1) (both_at 2 ++ both_at 3) (h 1 (omega arith))
+    (all-append Q (both_at 2) (both_at 3) (h 2 (omega arith)) (h 3 (omega arith))))
+
 eight-stand : AllByRecursion (IsHuffmanTable 3) eight_tables
 unfolding codes_exist lengths_from code_value
-eight-stand = (
-  table-by 3 (dc_at 0) (omega arith) refl,
-  (
-    table-by 3 (ac_at 0) (omega arith) refl,
-    (
-      table-by 3
-          (dc_at 1) (omega arith) refl,
-      (
-        table-by 3 (ac_at 1) (omega arith) refl,
-        (
-          table-by 3 (dc_at 2) (omega
-              arith) refl,
-          (
-            table-by 3 (ac_at 2) (omega arith) refl,
-            (
-              table-by 3 (dc_at 3) (omega arith) refl,
-              (table-by 3 (ac_at 3) (omega arith) refl, tt),
-            ),
-          ),
-        ),
-      ),
-    ),
-  ),
-)
+eight-stand = each-table (IsHuffmanTable 3) (λ d h. (table-by 3 (dc_at d) h refl, (table-by 3 (ac_at d) h refl, tt)))
 
 abbrev front_bytes : ℕ → FrameHeader → List ℕ → List ℕ
 front_bytes number h more = marker 0 219 (with_length (payload_of (Quantization all_ones))
@@ -477,29 +476,17 @@ flat-bytes : (ts : List DefinedTable) → AllByRecursion (λ t. AreBytes (huffma
 flat-bytes [] h = tt
 flat-bytes (t ∷ ts) h = all-append (λ b. b < 256) (huffman_bytes t) (flat_map huffman_bytes ts) h.0 (flat-bytes ts h.1)
 
-table-bytes : (t : DefinedTable) → list_all (λ b. nat_lt b 256) (huffman_bytes t) ≡ true → AreBytes (huffman_bytes t)
-table-bytes t e = tested-bytes (huffman_bytes t) e
-
 eight-bytes : AreBytes (with_length (payload_of (Huffman eight_tables)))
 unfolding huffman_bytes
 eight-bytes = sized-bytes (flat_map huffman_bytes eight_tables)
     (ltb-true (length (flat_map huffman_bytes eight_tables) + 2) 65536 refl)
-    (flat-bytes eight_tables (
-      table-bytes (dc_at 0) refl,
-      (
-        table-bytes (ac_at 0) refl,
-        (
-          table-bytes (dc_at 1) refl,
-          (
-            table-bytes (ac_at 1) refl,
-            (
-              table-bytes (dc_at 2) refl,
-              (table-bytes (ac_at 2) refl, (table-bytes (dc_at 3) refl, (table-bytes (ac_at 3) refl, tt))),
-            ),
-          ),
-        ),
-      ),
-    ))
+    (flat-bytes eight_tables (each-table (λ t. AreBytes (huffman_bytes t)) both-bytes))
+  where
+    both-bytes : (d : ℕ) → d ≤ 3 → AllByRecursion (λ t. AreBytes (huffman_bytes t)) (both_at d)
+    both-bytes d h = (
+      (omega arith, tested-bytes ((flat_table classes.DC).counts ++ (flat_table classes.DC).symbols) refl),
+      ((omega arith, tested-bytes ((flat_table classes.AC).counts ++ (flat_table classes.AC).symbols) refl), tt),
+    )
 
 factor-small : (n : ℕ) → is_factor n ≡ true → n ≤ 4
 factor-small n e = grind (arith, nat_tests)
@@ -573,18 +560,15 @@ script-written number h script array le is has scripted range =
         scripted = r.scripted;
         sent = r.are_last;
         are_bytes = λ fits.
-            let named = r.are_bytes (named-components h h.components fits.identified) in
-            let header = marked-bytes (192 + number) (with_length (payload_of (Header number h)) ++ r.bytes) (omega arith)
-            (all-append (λ b. b < 256) (with_length (payload_of (Header number h))) r.bytes
-            (frame-bytes number h le is has fits) named) in
             let from_frame = marker 0 (192 + number) (with_length (payload_of (Header number h)) ++ r.bytes) in
-            let from_tables = with_length (payload_of (Huffman eight_tables)) ++ from_frame in
-            let tables : AreBytes (marker 0 196 from_tables) = marked-bytes 196 from_tables (omega arith)
-            (all-append (λ b. b < 256) (with_length (payload_of (Huffman eight_tables))) from_frame eight-bytes header) in
-            let from_first = with_length (payload_of (Quantization all_ones)) ++ marker 0 196 from_tables in
-            let all : AreBytes (marker 0 219 from_first) = marked-bytes 219 from_first (omega arith)
-            (all-append (λ b. b < 256) (with_length (payload_of (Quantization all_ones))) (marker 0 196 from_tables)
-            ones-bytes tables) in
+            let from_tables = marker 0 196 (with_length (payload_of (Huffman eight_tables)) ++ from_frame) in
+            let header : AreBytes from_frame = segment-bytes (192 + number) (with_length (payload_of (Header number h)))
+            r.bytes (omega arith) (frame-bytes number h le is has fits)
+            (r.are_bytes (named-components h h.components fits.identified)) in
+            let tables : AreBytes from_tables = segment-bytes 196 (with_length (payload_of (Huffman eight_tables)))
+            from_frame (omega arith) eight-bytes header in
+            let all : AreBytes (front_bytes number h r.bytes) =
+            segment-bytes 219 (with_length (payload_of (Quantization all_ones))) from_tables (omega arith) ones-bytes tables in
             (omega arith, (omega arith, all));
       },
     )

@@ -31,6 +31,7 @@ pub mod Soundness
 pub mod WrittenParts
 pub mod PicturedFrames
 pub mod DecodedHeaders
+pub mod EncodedParts
 pub mod EncodedImages
 pub mod PrintedImages
 pub mod SaidTables

@@ -130,23 +130,23 @@ legal-by process count h sent l band allows are = record {
 
 -- ---- levels after a scan
 
-abbrev in_band : CodingProcess → ScanHeader → ℕ → Bool
+abbrev pub in_band : CodingProcess → ScanHeader → ℕ → Bool
 in_band process h k = nat_le h.first k && nat_le k (last_in process h)
 
 -- of one component
-abbrev after_one : CodingProcess → ScanHeader → (ℕ → Option ℕ) → ℕ → Option ℕ
+abbrev pub after_one : CodingProcess → ScanHeader → (ℕ → Option ℕ) → ℕ → Option ℕ
 after_one process h sent k = if in_band process h k then Some h.low else sent k
 
-is-in : (process : CodingProcess) (h : ScanHeader) (sent : ℕ → Option ℕ) (k : ℕ) → h.first ≤ k → k ≤ last_in process h
+pub is-in : (process : CodingProcess) (h : ScanHeader) (sent : ℕ → Option ℕ) (k : ℕ) → h.first ≤ k → k ≤ last_in process h
     → after_one process h sent k ≡ Some h.low
 is-in process h sent k a b = rw (le-leb h.first k a, le-leb k (last_in process h) b) refl
 
-below : (process : CodingProcess) (h : ScanHeader) (sent : ℕ → Option ℕ) (k : ℕ) → k < h.first
+pub below : (process : CodingProcess) (h : ScanHeader) (sent : ℕ → Option ℕ) (k : ℕ) → k < h.first
     → after_one process h sent k ≡ sent k
 below process h sent k a =
     let e : nat_le h.first k ≡ false = search (rules, leb_tells) in rw e refl
 
-above : (process : CodingProcess) (h : ScanHeader) (sent : ℕ → Option ℕ) (k : ℕ) → last_in process h < k
+pub above : (process : CodingProcess) (h : ScanHeader) (sent : ℕ → Option ℕ) (k : ℕ) → last_in process h < k
     → after_one process h sent k ≡ sent k
 above process h sent k a = go (nat_le h.first k) refl
   where
@@ -202,11 +202,11 @@ either-in false false true x y = refl
 either-in false false false x y = refl
 
 -- after a scan of these components
-abbrev after_some : CodingProcess → ScanHeader → List ℕ → SentLevels → SentLevels
+abbrev pub after_some : CodingProcess → ScanHeader → List ℕ → SentLevels → SentLevels
 after_some process h indices sent index k =
     if list_any (λ i. index == i) indices && in_band process h k then Some h.low else sent index k
 
-some-one : (process : CodingProcess) (h : ScanHeader) (i j k : ℕ) (sent : SentLevels) (b : Bool) → (j == i) ≡ b
+pub some-one : (process : CodingProcess) (h : ScanHeader) (i j k : ℕ) (sent : SentLevels) (b : Bool) → (j == i) ≡ b
     → after_some process h (i ∷ []) sent j k ≡ (if b then after_one process h (sent j) k else sent j k)
 some-one process h i j k sent true e = rw e refl
 some-one process h i j k sent false e = rw e refl
